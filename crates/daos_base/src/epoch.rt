@@ -1,0 +1,26 @@
+// Epochs: the moments at which transactions take effect.
+ghost use Rattle.std.specs.Prelude.{◌≡◌, ◌/◌, ◌%◌};
+
+/// The number of a target, from 0.
+pub type TargetId = u8;
+
+/// A moment: `ticks * 256 + issuer`. Epochs are ordered as numbers, so no two targets issue the
+/// same one.
+#[derive(Clone, Copy, Debug, PartialEq, Eq, PartialOrd, Ord)]
+pub struct Epoch(pub u64);
+
+impl Epoch {
+    /// The ticks of the issuing target's clock.
+    pub fn ticks(self) -> u64
+        ensures { result ≡ self.0 / 256 }
+    {
+        self.0 / 256
+    }
+
+    /// The target that issued it.
+    pub fn issuer(self) -> TargetId
+        ensures { result ≡ self.0 % 256 }
+    {
+        (self.0 % 256) as u8
+    }
+}

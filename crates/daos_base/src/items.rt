@@ -1,0 +1,96 @@
+// The lists that public types hold: a contract sees each as the list of its values.
+ghost use Rattle.std.specs.Prelude.{◌≡◌, ◌==◌, [], ◌∷◌, ◌++◌, length, OnOk, OnErr, IfOk};
+
+use std::alloc::{AllocError, AllocFailed, Global};
+use std::marker::Model;
+
+/// Want of memory, the one answer that no clause bounds.
+pub type Memory = AllocError;
+
+/// A list of values. It is made from a vector and gives it back.
+#[derive(Clone, Debug, Drop)]
+pub struct Items<T> {
+    vec: Vec<T>,
+}
+
+impl<T> Model for Items<T> {
+    ghost use Rattle.std.specs.Prelude.{List};
+
+    ghost Value = { List T };
+
+    ghost view = { λ a. a.vec.items };
+}
+
+impl<T> Items<T> {
+    /// The empty list, which takes no memory.
+    pub fn new(alloc: Global) -> Self
+        ensures { result ≡ [] }
+    {
+        Items {
+            vec: Vec::new(alloc),
+        }
+    }
+
+    /// The list of a vector's values.
+    pub fn from_vec(vec: Vec<T>) -> Self
+        ensures { result ≡ vec.items }
+    {
+        Items { vec }
+    }
+
+    /// The vector that holds the values.
+    pub fn into_vec(self) -> Vec<T>
+        ensures { result.items ≡ self }
+    {
+        let Items { vec } = self;
+        vec
+    }
+
+    /// The values, in order.
+    pub fn as_slice(&self) -> &[T]
+        ensures { result.now ≡ self.now }
+    {
+        self.vec.as_slice()
+    }
+
+    /// How many values there are.
+    pub fn len(&self) -> usize
+        ensures { result ≡ length self.now }
+    {
+        self.vec.len()
+    }
+
+    /// Whether there is none.
+    pub fn is_empty(&self) -> bool
+        ensures { result ≡ (length self.now == 0) }
+    {
+        self.vec.is_empty()
+    }
+
+    /// Adds a value at the end. Where memory is wanting the list stays as it was.
+    pub fn push(&mut self, value: T) -> Result<(), AllocFailed<T>>
+        ensures ok { OnOk result (self.new ≡ self.old ++ value ∷ []) }
+        ensures err { OnErr result (self.new ≡ self.old) }
+    {
+        self.vec.push(value)
+    }
+}
+
+/// A list of bytes.
+pub type Vec8 = Items<u8>;
+
+impl Vec8 {
+    /// The same bytes again.
+    pub fn copy(&self) -> Result<Vec8, Memory>
+        ensures { IfOk result (λ bytes. bytes ≡ self.now) }
+    {
+        self.clone()
+    }
+}
+
+/// A list of the bytes of a slice.
+pub fn bytes_of(alloc: Global, bytes: &[u8]) -> Result<Vec8, Memory>
+    ensures { IfOk result (λ copied. copied ≡ bytes.now) }
+{
+    Ok(Items::from_vec(bytes.to_vec(alloc)?))
+}

@@ -1,0 +1,15 @@
+// The plain types that every crate of the store shares: names, paths, operations, scripts, reports.
+#![tactic(auto)]
+
+pub mod answer;
+pub mod epoch;
+pub mod fault;
+pub mod id;
+pub mod items;
+pub mod job;
+pub mod key;
+pub mod operation;
+pub mod outcome;
+pub mod path;
+pub mod report;
+pub mod script;

@@ -1,0 +1,97 @@
+// What a transaction reads, asks and writes.
+ghost use Rattle.std.specs.Prelude.{◌≡◌, IfOk};
+
+use crate::items::{Items, Memory, Vec8};
+use crate::path::Path;
+
+/// A change. A path ends at the level of its change: an akey for `Single`, `Extent` (its first
+/// index and its bytes) and `PunchAkey`, a dkey for `PunchDkey`, an object for `PunchObject`.
+/// Values and extents have 1 to 1,024 bytes, and an extent ends at 2^32 - 1 at most.
+#[derive(Clone, Debug, Drop)]
+pub enum Write {
+    Single(Path, Vec8),
+    Extent(Path, u32, Vec8),
+    PunchObject(Path),
+    PunchDkey(Path),
+    PunchAkey(Path),
+}
+
+impl Write {
+    /// The same write again.
+    pub fn copy(&self) -> Result<Write, Memory>
+        ensures { IfOk result (λ write. write ≡ self.now) }
+    {
+        match self {
+            Write::Single(path, bytes) => Ok(Write::Single(path.copy()?, bytes.copy()?)),
+            Write::Extent(path, low, bytes) => {
+                Ok(Write::Extent(path.copy()?, *low, bytes.copy()?))
+            }
+            Write::PunchObject(path) => Ok(Write::PunchObject(path.copy()?)),
+            Write::PunchDkey(path) => Ok(Write::PunchDkey(path.copy()?)),
+            Write::PunchAkey(path) => Ok(Write::PunchAkey(path.copy()?)),
+        }
+    }
+}
+
+/// A question. A path ends at the level of its question: an akey for `Single` and `Extent` (its
+/// first index and its length, 1 to 1,024), a dkey for `Akeys`, an object for `Dkeys`, any level
+/// for `Exists`.
+#[derive(Clone, Debug, Drop)]
+pub enum Read {
+    Single(Path),
+    Extent(Path, u32, u32),
+    Dkeys(Path),
+    Akeys(Path),
+    Exists(Path),
+}
+
+impl Read {
+    /// The same read again.
+    pub fn copy(&self) -> Result<Read, Memory>
+        ensures { IfOk result (λ read. read ≡ self.now) }
+    {
+        match self {
+            Read::Single(path) => Ok(Read::Single(path.copy()?)),
+            Read::Extent(path, low, len) => Ok(Read::Extent(path.copy()?, *low, *len)),
+            Read::Dkeys(path) => Ok(Read::Dkeys(path.copy()?)),
+            Read::Akeys(path) => Ok(Read::Akeys(path.copy()?)),
+            Read::Exists(path) => Ok(Read::Exists(path.copy()?)),
+        }
+    }
+}
+
+/// What is asked of the state before an operation: nothing, that its path has a cell, or that it
+/// has none.
+#[derive(Clone, Copy, Debug, PartialEq, Eq, PartialOrd, Ord)]
+pub enum Cond {
+    Free,
+    Must,
+    MustNot,
+}
+
+/// What an operation does.
+#[derive(Clone, Debug, Drop)]
+pub enum Act {
+    Fetch(Read),
+    Change(Write),
+}
+
+/// An operation of a transaction.
+#[derive(Clone, Debug, Drop)]
+pub struct Op {
+    pub act: Act,
+    pub cond: Cond,
+}
+
+/// The operations of a transaction, numbered from 0; 1 to 64 of them.
+pub type Ops = Items<Op>;
+
+/// A write with its number in the transaction, below 64.
+#[derive(Clone, Debug, Drop)]
+pub struct MinorWrite {
+    pub minor: u8,
+    pub write: Write,
+}
+
+/// Writes of a transaction, with rising numbers.
+pub type MinorWrites = Items<MinorWrite>;

@@ -1,0 +1,93 @@
+// A script: what it declares, and the commands of each client.
+use crate::epoch::{Epoch, TargetId};
+use crate::id::{ContId, ObjId};
+use crate::items::Items;
+use crate::key::Key;
+use crate::operation::Ops;
+
+/// A container and its name.
+#[derive(Clone, Debug, Drop)]
+pub struct ContDecl {
+    pub name: Key,
+    pub id: ContId,
+}
+
+/// An object, its name and its container.
+#[derive(Clone, Debug, Drop)]
+pub struct ObjDecl {
+    pub name: Key,
+    pub cont: ContId,
+    pub id: ObjId,
+}
+
+/// A snapshot that an earlier run created, and the name that the script gives it.
+#[derive(Clone, Debug, Drop)]
+pub struct OldDecl {
+    pub name: Key,
+    pub cont: ContId,
+    pub epoch: Epoch,
+}
+
+/// A write of a target's region that is to fail, counted from the target's opening.
+#[derive(Clone, Copy, Debug, PartialEq, Eq, PartialOrd, Ord)]
+pub struct StopDecl {
+    pub target: TargetId,
+    pub write: u32,
+}
+
+pub type Conts = Items<ContDecl>;
+
+pub type Objs = Items<ObjDecl>;
+
+pub type Olds = Items<OldDecl>;
+
+pub type Stops = Items<StopDecl>;
+
+/// For each operation the turns that its client does nothing before it, and last those between
+/// the last operation and the end.
+pub type Skips = Items<u64>;
+
+/// What a client does next. Commands are numbered from 0 in each client's list; `Tell` and `Skip`
+/// have no number.
+#[derive(Clone, Debug, Drop)]
+pub enum Command {
+    /// Runs a transaction, or, where it names a snapshot, reads as of that.
+    Run {
+        ops: Ops,
+        skips: Skips,
+        snapshot: Option<Key>,
+    },
+    /// Makes a snapshot of a container.
+    Snap {
+        name: Key,
+        cont: ContId,
+    },
+    /// Drops the versions of a container that no later read sees.
+    Aggregate {
+        cont: ContId,
+    },
+    /// Tells another client the greatest epoch heard of.
+    Tell {
+        client: u16,
+    },
+    /// Does nothing for some turns.
+    Skip {
+        turns: u32,
+    },
+}
+
+/// What a client does, in order.
+pub type Commands = Items<Command>;
+
+pub type ClientLists = Items<Commands>;
+
+/// A script: for how many targets it was read, its declarations, and the commands of each client.
+#[derive(Clone, Debug, Drop)]
+pub struct Script {
+    pub targets: u8,
+    pub conts: Conts,
+    pub objs: Objs,
+    pub olds: Olds,
+    pub stops: Stops,
+    pub clients: ClientLists,
+}
