@@ -1,0 +1,30 @@
+-- What a write makes of a map: an update sets its cells, a punch removes every cell under its path, and all other cells stay.
+use Rattle.std.specs.Prelude.{ℕ, ◌+◌, List, [], ◌∷◌, ◌++◌, if◌then◌else◌}
+use Rattle.daos_base.specs.Paths.{leads_to}
+use Rattle.daos_base.specs.declared.path.Path.{Path}
+use Rattle.daos_base.specs.declared.operation.Write.{Write}
+use Rattle.daos_base.specs.declared.operation.Write.TheVariants.{Single, Extent, PunchObject, PunchDkey, PunchAkey}
+use Rattle.daos_model.specs.declared.cell.CellValue.{CellValue}
+use Rattle.daos_model.specs.Cells.{single_cell, index_cell}
+
+-- one cell for each byte, from an index on
+abbrev pub extent_cells : Path → ℕ → List ℕ → List CellValue
+extent_cells p i [] = []
+extent_cells p i (b ∷ bytes) = record { cell = index_cell p i; bytes = b ∷ [] } ∷ extent_cells p (i + 1) bytes
+
+-- a map without the cells under a path
+abbrev pub without : Path → List CellValue → List CellValue
+without p [] = []
+without p (v ∷ m) = if leads_to p v.cell.path then without p m else v ∷ without p m
+
+abbrev pub effect : Write → List CellValue → List CellValue
+effect (Single p bytes) m = record { cell = single_cell p; bytes = bytes } ∷ m
+effect (Extent p low bytes) m = extent_cells p low bytes ++ m
+effect (PunchObject p) m = without p m
+effect (PunchDkey p) m = without p m
+effect (PunchAkey p) m = without p m
+
+-- what writes make of a map, one after another
+abbrev pub effects : List Write → List CellValue → List CellValue
+effects [] m = m
+effects (w ∷ ws) m = effects ws (effect w m)

@@ -1,0 +1,9 @@
+pub mod Cells
+pub mod Effect
+pub mod Answers
+pub mod AsOf
+pub mod Transactions
+pub mod TookEffect
+pub mod ReadsLegal
+pub mod OutcomesLegal
+pub mod Headline

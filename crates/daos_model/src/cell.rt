@@ -1,0 +1,47 @@
+// Cells, the smallest things that hold bytes.
+ghost use Rattle.std.specs.Prelude.{◌≡◌};
+ghost use Rattle.daos_model.specs.Cells.{index_cell, same_cell, single_cell};
+
+use daos_base::items::Vec8;
+use daos_base::path::Path;
+
+/// A cell: the single value of an akey, or one index of its array. Its path ends at the akey.
+#[derive(Clone, Debug, Drop)]
+pub struct Cell {
+    pub path: Path,
+    pub index: Option<u32>,
+}
+
+/// A cell and what it holds: the bytes of a single value, or the one byte of an index.
+#[derive(Clone, Debug, Drop)]
+pub struct CellValue {
+    pub cell: Cell,
+    pub bytes: Vec8,
+}
+
+impl Cell {
+    /// The cell of an akey's single value.
+    pub fn single(path: Path) -> Cell
+        ensures { result ≡ single_cell path }
+    {
+        Cell { path, index: None }
+    }
+
+    /// The cell of an index of an akey's array.
+    pub fn index(path: Path, index: u32) -> Cell
+        ensures { result ≡ index_cell path index }
+    {
+        Cell {
+            path,
+            index: Some(index),
+        }
+    }
+
+    /// Whether two cells are the same.
+    #[tactic(auto, unfolding(crate::specs::Cells::same_cell))]
+    pub fn same(&self, other: &Cell) -> bool
+        ensures { result ≡ same_cell self.now other.now }
+    {
+        self.path.same(&other.path) && self.index == other.index
+    }
+}

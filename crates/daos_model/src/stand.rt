@@ -1,0 +1,28 @@
+// What regions stand for, and the transactions that changed it.
+use crate::map::Map;
+use daos_base::epoch::Epoch;
+use daos_base::id::ContId;
+use daos_base::items::Items;
+use daos_base::operation::Write;
+
+/// A created snapshot of a container: what the container's cells held below the epoch.
+#[derive(Debug, Drop)]
+pub struct SnapMap {
+    pub cont: ContId,
+    pub epoch: Epoch,
+    pub map: Map,
+}
+
+/// What regions stand for: the map now, and that of each created snapshot.
+#[derive(Debug, Drop)]
+pub struct Stand {
+    pub now: Map,
+    pub snaps: Items<SnapMap>,
+}
+
+/// A transaction that took effect: its epoch, and its writes in their order.
+#[derive(Clone, Debug, Drop)]
+pub struct Taken {
+    pub epoch: Epoch,
+    pub writes: Items<Write>,
+}
