@@ -1,0 +1,8 @@
+-- What sinks in memory show.
+use Rattle.std.specs.Prelude.{ℕ, List}
+
+-- a sink that never fails: the bytes that it holds, how many it can hold, and how often it took nothing
+pub record SureSinkState : Type 0 where
+  pub held : List ℕ
+  pub room : ℕ
+  pub stalls : ℕ

@@ -1,0 +1,26 @@
+// The outside of the store: the traits that it asks for, and objects in memory that meet them.
+#![tactic(auto)]
+
+mod bounded;
+pub mod clock;
+pub mod count_clock;
+pub mod gate;
+pub mod rack;
+pub mod region;
+mod remaining;
+pub mod sink;
+pub mod source;
+pub mod sure_sink;
+pub mod sure_source;
+
+use std::alloc::AllocError;
+
+/// A call of the outside failed.
+#[derive(Clone, Copy, Debug, PartialEq, Eq)]
+pub struct Failed;
+
+/// The number of a target, from 0.
+pub type TargetId = u8;
+
+/// Want of memory.
+pub type Memory = AllocError;
