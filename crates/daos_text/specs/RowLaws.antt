@@ -1,17 +1,17 @@
 -- Texts are cut into the lines and words that they are made of.
-use Rattle.std.proofs.Common.{◌≡◌, ◌≢◌, ◌⊎◌, inl, inr, ℕ, suc, ◌+◌, ◌≤◌, ◌<◌, ◌^◌, Bool, true, false, cond, eqb, leb, ◌&&◌, not, List, [], ◌∷◌, ◌++◌, length, map, All, refl, sym, ap, subst, ◌∙◌, arith, append_assoc}
-use Rattle.std.specs.List.{list_all, join_with_byte, slice_split, onto_first, AllByRecursion}
+use Rattle.std.proofs.Common.{◌≡◌, ◌≢◌, ◌⊎◌, inl, inr, ℕ, ◌<◌, ◌^◌, Bool, true, false, cond, eqb, leb, not, List, [], ◌∷◌, ◌++◌, length, map, refl, sym, ap, subst, ◌∙◌, arith}
+use Rattle.std.specs.List.{list_all, join_with_byte, onto_first, AllByRecursion}
 use Rattle.std.specs.Str.{all_ascii_digits}
 use Rattle.std.specs.Fmt.{decimal}
 use Rattle.std.proofs.lemmas.Bool.{and_parts, and_from}
 use Rattle.std.proofs.lemmas.Bool.Decides.{nat_tests}
 use Rattle.std.proofs.lemmas.Fmt.{digits_decimal}
-use Rattle.std.proofs.lemmas.List.{append-nil, same_from_push}
+use Rattle.std.proofs.lemmas.List.{same_from_push}
 use Rattle.std.proofs.lemmas.List.Elements.{All-from_recursion}
 use Rattle.std.proofs.lemmas.List.Splits.{slice_split_at, slice_split_none, join_with_byte-slice_split}
 use Rattle.std.proofs.lemmas.Str.Parse.{numerals_by_value, tells_all_ascii_digits}
 use Rattle.daos_text.specs.Parts.{parts_of, without_empty_end, ended_parts}
-use Rattle.daos_text.specs.Rows.{Words, row_line, line_words, lines_text, rows_text, is_line_byte, is_word_byte, IsLine, IsWord, IsRow, IsUnended, HasLines, RowsAreTexts}
+use Rattle.daos_text.specs.Rows.{Words, row_line, line_words, lines_text, rows_text, is_line_byte, is_word_byte, IsLine, IsWord, IsRow, HasLines, RowsAreTexts}
 
 -- ---- bytes of words and lines
 

@@ -1,6 +1,6 @@
 -- A step for each item of a list, of which each may fail.
 use Rattle.std.specs.Prelude.{◌≡◌, ℕ, ◌+◌, ◌<◌, ◌≤◌, List, [], ◌∷◌, length, map, drop, Result, Ok, Err, refl}
-use Rattle.std.proofs.Common.{ap, sym, ◌∙◌, get_or, add-one, drop-cons}
+use Rattle.std.proofs.Common.{ap, ◌∙◌, get_or, add-one, drop-cons}
 use Rattle.std.proofs.lemmas.List.{drop_all}
 use Rattle.daos_text.specs.Results.{◌>>=◌}
 

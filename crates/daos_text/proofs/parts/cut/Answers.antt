@@ -1,4 +1,4 @@
-use Rattle.std.proofs.Common.{◌≡◌, ◌+◌, ◌-◌, take, drop, length, arith, sym, ap, ◌∷◌, ◌∙◌, refl}
+use Rattle.std.proofs.Common.{◌≡◌, ◌+◌, ◌-◌, take, drop, length, arith}
 use Rattle.std.proofs.lemmas.List.{length-drop, take_all}
 use Rattle.daos_text.proofs.Cuts.{parts_of-marked, parts_of-unmarked}
 use Rattle.daos_text.proofs.parts.cut.Goals as goal
