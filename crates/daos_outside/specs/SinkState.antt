@@ -6,3 +6,12 @@ pub record SureSinkState : Type 0 where
   pub held : List ℕ
   pub room : ℕ
   pub stalls : ℕ
+
+-- the same of a sink whose calls fail by their numbers, and these numbers, how many calls there were, and how many of them failed
+pub record SinkState : Type 0 where
+  pub held : List ℕ
+  pub room : ℕ
+  pub stalls : ℕ
+  pub fails : List ℕ
+  pub calls : ℕ
+  pub faults : ℕ

@@ -1,15 +1,21 @@
 // The outside of the store: the traits that it asks for, and objects in memory that meet them.
 #![tactic(auto)]
 
+pub mod adapters;
 mod bounded;
 pub mod clock;
 pub mod count_clock;
+mod fault_plan;
 pub mod gate;
+pub mod mem_sink;
+pub mod mem_source;
 pub mod rack;
 pub mod region;
 mod remaining;
 pub mod sink;
 pub mod source;
+pub mod sure_rack;
+pub mod sure_region;
 pub mod sure_sink;
 pub mod sure_source;
 

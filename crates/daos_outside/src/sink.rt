@@ -1,11 +1,13 @@
 // Where bytes go.
-ghost use Rattle.std.specs.Prelude.{◌≡◌, ℕ, List};
+ghost use Rattle.std.specs.Prelude.{◌≡◌, ℕ, ◌≤◌, List, OnOk, IsErrOf};
 ghost use Rattle.std.specs.declared.option.Option.{Option};
 ghost use Rattle.std.specs.Io.{WritesAtMost};
-ghost use Rattle.std.specs.Io.KnownBytes.{WriteAppends};
-ghost use Rattle.daos_outside.specs.Causes.{HasCause, CountsStalls};
+ghost use Rattle.std.specs.Io.KnownBytes.{WriteAppends, Appends};
+ghost use Rattle.daos_outside.specs.Causes.{HasCause, CountsStalls, Rose};
+ghost use Rattle.daos_outside.specs.Transfers.{AppendsPrefix};
 
 use crate::Failed;
+use thiserror::Error;
 
 /// Where bytes go. It counts its faults.
 pub trait Sink {
@@ -32,4 +34,42 @@ pub trait Sink {
     /// How often it has failed, up to 2^64 - 1.
     fn faults(&self) -> u64
         ensures { result ≡ count self.now };
+}
+
+/// Why not all of some bytes were written.
+#[derive(Clone, Copy, Debug, PartialEq, Eq, Error)]
+pub enum WriteNo {
+    /// A write failed.
+    #[error("write fault")]
+    Fault,
+    /// The sink took nothing of bytes that were there.
+    #[error("nothing was taken")]
+    Nothing,
+}
+
+/// Writes all of the bytes.
+///
+/// # Errors
+///
+/// `Fault` only where the sink's count of faults rose in this call, and `Nothing` only where it took
+/// nothing of bytes that were there. The sink then holds a part of the bytes, from the front.
+pub fn write_all<K: Sink>(sink: &mut K, bytes: &[u8]) -> Result<(), WriteNo>
+    ensures whole { OnOk result (Appends (K.held sink.old) (K.held sink.new) bytes.now) }
+    ensures prefix { AppendsPrefix (K.held sink.old) (K.held sink.new) bytes.now }
+    ensures fault { IsErrOf result WriteNo.Fault → Rose (K.count sink.old) (K.count sink.new) }
+    ensures later { K.count sink.old ≤ K.count sink.new }
+    ensures nothing { IsErrOf result WriteNo.Nothing → Rose (K.stalls sink.old) (K.stalls sink.new) }
+    ensures later_stalls { K.stalls sink.old ≤ K.stalls sink.new }
+    ensures no_stall { OnOk result (K.stalls sink.new ≡ K.stalls sink.old) }
+    ensures fault_is_no_stall { IsErrOf result WriteNo.Fault → K.stalls sink.new ≡ K.stalls sink.old }
+{
+    let mut done = 0;
+    while done < bytes.len() {
+        match sink.write(&bytes[done..]) {
+            Ok(0) => return Err(WriteNo::Nothing),
+            Ok(count) => done += count,
+            Err(Failed) => return Err(WriteNo::Fault),
+        }
+    }
+    Ok(())
 }

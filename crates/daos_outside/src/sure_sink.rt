@@ -1,8 +1,8 @@
 // A sink in memory that never fails.
-ghost use Rattle.std.specs.Prelude.{◌≡◌, ◌-◌, [], ◌++◌, length, min, take, IfOk, Some, Ok};
+ghost use Rattle.std.specs.Prelude.{◌≡◌, ◌<◌, ◌-◌, [], ◌++◌, length, min, take, IfOk, Some, Ok};
 ghost use Rattle.std.specs.Io.{WritesAtMost};
 ghost use Rattle.std.specs.Io.KnownBytes.{WriteAppends};
-ghost use Rattle.daos_outside.specs.Causes.{CountsStalls};
+ghost use Rattle.daos_outside.specs.Causes.{CountsStalls, one_more};
 
 use crate::bounded::Bounded;
 use crate::sink::Sink;
@@ -58,6 +58,7 @@ impl Sink for SureSink {
         ensures count { result ≡ Ok (min (length bytes.now) (self.old.room - length self.old.held)) }
         ensures held { IfOk result (λ n. self.new.held ≡ self.old.held ++ take n bytes.now) }
         ensures room { self.new.room ≡ self.old.room }
+        ensures once { IfOk result (λ n. n ≡ 0 → 0 < length bytes.now → self.new.stalls ≡ one_more self.old.stalls) }
     {
         let count = self.kept.append(bytes);
         if count == 0 && !bytes.is_empty() {

@@ -1,0 +1,108 @@
+// A region in memory that never fails.
+ghost use Rattle.std.specs.Prelude.{◌≡◌, ◌+◌, ◌≤◌, ◌++◌, length, take, drop, slice_range, replicate, IfOk, IsOk, false, refl};
+ghost use Rattle.daos_outside.specs.Causes.{HasEitherCause};
+
+use crate::region::Region;
+use crate::{Failed, Memory};
+use std::alloc::Global;
+use std::marker::Model;
+
+/// A region in memory that never fails. Clauses see it as the list of its bytes.
+#[derive(Drop)]
+pub struct SureRegion {
+    bytes: Vec<u8>,
+}
+
+impl Model for SureRegion {
+    ghost use Rattle.std.specs.Prelude.{List, ℕ};
+
+    ghost Value = { List ℕ };
+
+    ghost view = { λ r. r.bytes.items };
+}
+
+impl SureRegion {
+    /// A region of `size` bytes, all 0.
+    pub fn new(alloc: Global, size: u64) -> Result<SureRegion, Memory>
+        ensures { IfOk result (λ r. r ≡ replicate size 0) }
+    {
+        Ok(SureRegion {
+            bytes: vec![in alloc; 0u8; size as usize]?,
+        })
+    }
+}
+
+// Writes some bytes over those from a place on.
+fn put(all: &mut [u8], at: usize, bytes: &[u8])
+    requires { at + length bytes.now ≤ length all.old }
+    ensures { all.new ≡ take at all.old ++ bytes.now ++ drop (at + length bytes.now) all.old }
+{
+    let end = at + bytes.len();
+    all[at..end].copy_from_slice(bytes);
+}
+
+impl Region for SureRegion {
+    ghost extent = { λ r. length r };
+
+    ghost count = { λ _. 0 };
+
+    ghost burns = { λ _. 0 };
+
+    ghost can_burn = { false };
+
+    ghost unburnt = { λ _ _. refl };
+
+    fn size(&self) -> u64 {
+        self.bytes.len() as u64
+    }
+
+    fn read(&mut self, at: u64, buf: &mut [u8]) -> Result<(), Failed>
+        requires { at + length buf.old ≤ length self.old }
+        ensures extent { length self.new ≡ length self.old }
+        ensures cause { HasEitherCause 0 0 0 0 result }
+        ensures sure { IsOk result }
+        ensures bytes { buf.new ≡ slice_range self.old at (at + length buf.old) }
+        ensures kept { self.new ≡ self.old }
+    {
+        let rest = &self.bytes[at as usize..];
+        buf.copy_from_slice(&rest[..buf.len()]);
+        Ok(())
+    }
+
+    fn write(&mut self, at: u64, bytes: &[u8]) -> Result<(), Failed>
+        requires { at + length bytes.now ≤ length self.old }
+        ensures extent { length self.new ≡ length self.old }
+        ensures cause { HasEitherCause 0 0 0 0 result }
+        ensures sure { IsOk result }
+        ensures bytes { self.new ≡ take at self.old ++ bytes.now ++ drop (at + length bytes.now) self.old }
+    {
+        put(&mut self.bytes, at as usize, bytes);
+        Ok(())
+    }
+
+    fn flush(&mut self) -> Result<(), Failed>
+        ensures extent { length self.new ≡ length self.old }
+        ensures cause { HasEitherCause 0 0 0 0 result }
+        ensures sure { IsOk result }
+        ensures kept { self.new ≡ self.old }
+    {
+        Ok(())
+    }
+
+    fn reopen(&mut self) -> Result<(), Failed>
+        ensures extent { length self.new ≡ length self.old }
+        ensures cause { HasEitherCause 0 0 0 0 result }
+        ensures sure { IsOk result }
+        ensures kept { self.new ≡ self.old }
+    {
+        Ok(())
+    }
+
+    fn burnt(&self) -> u64 {
+        0
+    }
+
+    fn faults(&self) -> u64 {
+        0
+    }
+}
