@@ -1,0 +1,6 @@
+pub mod Lists
+pub mod Commands
+pub mod Answers
+pub mod Epochs
+pub mod AsOfEpochs
+pub mod SoFar

@@ -1,0 +1,169 @@
+-- What holds after the first commands of a run.
+use Rattle.std.proofs.Common.{◌≡◌, ℕ, zero, suc, ◌+◌, ◌*◌, ◌/◌, ◌%◌, ◌^◌, ◌<◌, ◌≤◌, max, min, List, [], ◌∷◌, ◌++◌, length, length-append, map, Option, Some, None, sym, ap, subst, ◌∙◌, append_assoc, append-nil, refl, arith}
+use Rattle.std.specs.Prelude.{All}
+use Rattle.std.specs.List.{AllByRecursion}
+use Rattle.std.specs.List.Sorted.{IsStrictlyIncreasing}
+use Rattle.std.proofs.lemmas.List.Elements.{All-from_recursion}
+use Rattle.std.proofs.lemmas.List.{map-append}
+use Rattle.daos_base.specs.declared.answer.Answer.{Answer}
+use Rattle.daos_base.specs.declared.epoch.Epoch.{Epoch}
+use Rattle.daos_base.specs.declared.operation.Op.{Op}
+use Rattle.daos_base.specs.declared.outcome.Outcome.{Outcome}
+use Rattle.daos_base.specs.declared.outcome.Outcome.TheVariants.{Committed}
+use Rattle.daos_base.specs.declared.report.Attempt.{Attempt}
+use Rattle.daos_base.specs.declared.report.Line.{Line}
+use Rattle.daos_base.specs.declared.report.Line.TheVariants as line
+use Rattle.daos_base.specs.declared.script.Script.{Script}
+use Rattle.daos_model.specs.declared.cell.CellValue.{CellValue}
+use Rattle.daos_model.specs.declared.stand.Taken.{Taken}
+use Rattle.daos_model.specs.AsOf.{as_of, empty_stand, run_all}
+use Rattle.daos_model.specs.Effect.{effects}
+use Rattle.daos_model.specs.OutcomesLegal.{EachAt, IsOnlyAttempt, IsOnlyAttemptLine, IsIssuedByZero, epochs_of, line_epoch, lone_commands, option_epoch}
+use Rattle.daos_model.specs.ReadsLegal.{AttemptReadsLegal, IsRightAnswer, LineReadsLegal}
+use Rattle.daos_model.specs.TookEffect.{taken_at, taken_by, took}
+use Rattle.daos_model.specs.Transactions.{attempt_ops, read_numbers, writes_of}
+use Rattle.daos_run.specs.Issue.{AreIssued, issued_ticks, ticks_after, tracker_after}
+use Rattle.daos_run.specs.Told.{all_told}
+use Rattle.daos_run.proofs.Lists.{EachAt-nil, EachAt-push, recursion-append, recursion-map, Rises, Rises-push}
+use Rattle.daos_run.proofs.Answers.{all_told-numbers, all_told-right}
+use Rattle.daos_run.proofs.AsOfEpochs.{as_of-all, as_of-later, epoch_number}
+use Rattle.daos_run.proofs.Epochs.{AreIssued-push, ticks_after-push, tracker_after-push, issued-rises, issued-bound, ticks-of_epoch}
+
+-- the first n commands ran: their lines, the map that they left, and the ticks and the tracker after them
+pub record SoFar (s : Script) (n ticks tracker : ℕ) (lines : List Line) (now : List CellValue) : Type 0 where
+  pub count : length lines ≡ n
+  pub low : ticks ≤ 2 ^ 55 + n
+  pub heard : tracker / 256 ≤ ticks
+  pub ticks_are : ticks_after 0 (epochs_of lines) ≡ ticks
+  pub tracker_is : tracker_after 255 (epochs_of lines) ≡ tracker
+  pub attempts : EachAt (IsOnlyAttemptLine s) lines
+  pub issued : AreIssued 0 255 (epochs_of lines)
+  pub rising : Rises (epochs_of lines)
+  pub upto : AllByRecursion (λ e. e ≤ ticks * 256) (epochs_of lines)
+  pub above : AllByRecursion IsIssuedByZero (epochs_of lines)
+  pub taken : map epoch_number (took s lines) ≡ epochs_of lines
+  pub reads : AllByRecursion (LineReadsLegal s empty_stand (took s lines)) lines
+  pub state : now ≡ run_all (took s lines) []
+
+pub nothing_yet : (s : Script) → SoFar s 0 0 255 [] []
+unfolding took
+nothing_yet s = record {
+  count = refl; low = omega arith; heard = omega arith; ticks_are = refl; tracker_is = refl; attempts = EachAt-nil _; issued = tt;
+  rising = tt; upto = tt; above = tt; taken = refl; reads = tt; state = refl
+}
+
+-- ---- one line more
+
+epochs_of-append : (xs : List Line) (y : Line) → epochs_of (xs ++ y ∷ []) ≡ epochs_of xs ++ line_epoch y
+epochs_of-append [] y = append-nil (line_epoch y)
+epochs_of-append (x ∷ xs) y = ap (λ es. line_epoch x ++ es) (epochs_of-append xs y) ∙ sym (append_assoc (line_epoch x) (epochs_of xs) (line_epoch y))
+
+took-push : (s : Script) (xs : List Line) (y : Line) → took s (xs ++ y ∷ []) ≡ took s xs ++ taken_by s y
+unfolding took
+took-push s [] y = append-nil (taken_by s y)
+took-push s (x ∷ xs) y = ap (λ ts. taken_by s x ++ ts) (took-push s xs y) ∙ sym (append_assoc (taken_by s x) (took s xs) (taken_by s y))
+
+run_all-push : (ts : List Taken) (t : Taken) (m : List CellValue) → run_all (ts ++ t ∷ []) m ≡ effects t.writes (run_all ts m)
+run_all-push [] t m = refl
+run_all-push (u ∷ ts) t m = run_all-push ts t (effects u.writes m)
+
+-- the attempt that a command made: its clauses, over the operations of its command
+pub record IsAttemptAt (s : Script) (n : ℕ) (e : Epoch) (ops : List Op) (before : List CellValue) (a : Attempt) : Type 0 where
+  pub id : a.id ≡ record { client = 0; command = n; attempt = 0 }
+  pub epoch : a.epoch ≡ Some e
+  pub conds : a.conds ≡ []
+  pub gots : a.gots ≡ all_told 0 ops before
+  pub outcome : a.outcome ≡ Committed
+  pub ops_are : attempt_ops s (record { client = 0; command = n; attempt = 0 }) ≡ ops
+
+module _ (s : Script) (n : ℕ) (e : Epoch) (ops : List Op) (before : List CellValue) (a : Attempt) (made : IsAttemptAt s n e ops before a) where
+  ops-of_attempt : attempt_ops s a.id ≡ ops
+  ops-of_attempt = ap (attempt_ops s) made.id ∙ made.ops_are
+
+  pub taken-of_attempt : taken_by s (line.Try a) ≡ record { epoch = e; writes = writes_of ops } ∷ []
+  taken-of_attempt =
+      ap (λ o. taken_at o a.outcome (writes_of (attempt_ops s a.id))) made.epoch
+      ∙ ap (λ o. taken_at (Some e) o (writes_of (attempt_ops s a.id))) made.outcome
+      ∙ ap (λ o. record { epoch = e; writes = writes_of o } ∷ []) ops-of_attempt
+
+  pub epoch-of_attempt : line_epoch (line.Try a) ≡ e.0 ∷ []
+  epoch-of_attempt = ap option_epoch made.epoch
+
+  pub only-of_attempt : IsOnlyAttempt s n a
+  only-of_attempt = record {
+    id = made.id;
+    committed = made.outcome;
+    issued = (e, made.epoch);
+    answered = ap (map (λ (got : ℕ × Answer). got.0)) made.gots ∙ all_told-numbers 0 ops before ∙ ap (read_numbers 0) (sym ops-of_attempt);
+    unconditional = made.conds
+  }
+
+  pub reads-of_attempt : (T : List Taken) → as_of empty_stand T e.0 ≡ before → AttemptReadsLegal s empty_stand T a
+  reads-of_attempt T is f at =
+      let same : e ≡ f = some_is e f (sym made.epoch ∙ at) in
+      let right : All (IsRightAnswer ops before) (all_told 0 ops before) = All-from_recursion (IsRightAnswer ops before) (all_told 0 ops before) (all_told-right ops before) in
+      let P : List Op → List CellValue → List (ℕ × Answer) → Type 0 = λ o m g. All (IsRightAnswer o m) g in
+      subst (λ x. P (attempt_ops s a.id) (as_of empty_stand T x.0) a.gots) same
+      (subst (λ m. P (attempt_ops s a.id) m a.gots) (sym is)
+      (subst (λ o. P o before a.gots) (sym ops-of_attempt)
+      (subst (λ g. P ops before g) (sym made.gots) right)))
+    where
+      some_is : (x y : Epoch) → Some x ≡ Some y → x ≡ y
+      some_is x y p = cc
+
+-- a later transaction leaves the reads of a line legal
+line-later : (s : Script) (T : List Taken) (t : Taken) (l : Line) → AllByRecursion (λ x. x ≤ t.epoch.0) (line_epoch l) → LineReadsLegal s empty_stand T l → LineReadsLegal s empty_stand (T ++ t ∷ []) l
+line-later s T t (line.Try a) low legal = λ e at.
+    let le : e.0 ≤ t.epoch.0 = (subst (λ o. AllByRecursion (λ x. x ≤ t.epoch.0) (option_epoch o)) at low).0 in
+    subst (λ m. All (IsRightAnswer (attempt_ops s a.id) m) a.gots) (sym (as_of-later empty_stand T t e.0 le)) (legal e at)
+line-later s T t (line.Stop number target) low legal = tt
+line-later s T t (line.Restart number target incarnation floor) low legal = tt
+line-later s T t (line.Freeze target cont epoch) low legal = tt
+line-later s T t (line.Snapshot name cont epoch) low legal = tt
+line-later s T t (line.Aggregate number target cont upto) low legal = tt
+line-later s T t (line.Down target) low legal = tt
+
+recursion-left : {X : Type 0} (P : X → Type 0) (xs ys : List X) → AllByRecursion P (xs ++ ys) → AllByRecursion P xs × AllByRecursion P ys
+recursion-left P [] ys all = (tt, all)
+recursion-left P (x ∷ xs) ys all = let r = recursion-left P xs ys all.1 in ((all.0, r.0), r.1)
+
+lines-later : (s : Script) (T : List Taken) (t : Taken) (ls : List Line) → AllByRecursion (λ x. x ≤ t.epoch.0) (epochs_of ls) → AllByRecursion (LineReadsLegal s empty_stand T) ls → AllByRecursion (LineReadsLegal s empty_stand (T ++ t ∷ [])) ls
+lines-later s T t [] low legal = tt
+lines-later s T t (l ∷ ls) low legal =
+    let r = recursion-left (λ x. x ≤ t.epoch.0) (line_epoch l) (epochs_of ls) low in
+    (line-later s T t l r.0 legal.0, lines-later s T t ls r.1 legal.1)
+
+-- one command more ran
+pub one_more : (s : Script) (n ticks tracker reading later : ℕ) (lines : List Line) (now after : List CellValue) (ops : List Op) (a : Attempt)
+    → SoFar s n ticks tracker lines now → later ≡ issued_ticks ticks reading tracker
+    → IsAttemptAt s n (record { 0 = later * 256 }) ops now a → after ≡ effects (writes_of ops) now
+    → SoFar s (n + 1) later (later * 256) (lines ++ line.Try a ∷ []) after
+one_more s n ticks tracker reading later lines now after ops a h is made effect =
+    let rises : ticks < later = rw is (issued-rises ticks reading tracker) in
+    let low : later ≤ 2 ^ 55 + (n + 1) = rw is (issued-bound ticks reading tracker n h.low h.heard) in
+    let higher : ticks * 256 < later * 256 = omega arith in
+    let epochs : epochs_of (lines ++ line.Try a ∷ []) ≡ epochs_of lines ++ later * 256 ∷ [] = epochs_of-append lines (line.Try a) ∙ ap (λ es. epochs_of lines ++ es) (epoch-of_attempt s n (record { 0 = later * 256 }) ops now a made) in
+    let taken : took s (lines ++ line.Try a ∷ []) ≡ took s lines ++ record { epoch = record { 0 = later * 256 }; writes = writes_of ops } ∷ [] = took-push s lines (line.Try a) ∙ ap (λ ts. took s lines ++ ts) (taken-of_attempt s n (record { 0 = later * 256 }) ops now a made) in
+    let earlier : AllByRecursion (λ x. x ≤ later * 256) (epochs_of lines) = recursion-map (λ x. x ≤ ticks * 256) (λ x. x ≤ later * 256) (epochs_of lines) (λ x le. omega arith) h.upto in
+    let t : Taken = record { epoch = record { 0 = later * 256 }; writes = writes_of ops } in
+    let T = took s lines in
+    let rising' : Rises (map epoch_number T) = subst Rises (sym h.taken) h.rising in
+    let upto' : AllByRecursion (λ x. x ≤ ticks * 256) (map epoch_number T) = subst (AllByRecursion (λ x. x ≤ ticks * 256)) (sym h.taken) h.upto in
+    let as_of-now : as_of empty_stand (T ++ t ∷ []) (later * 256) ≡ now = as_of-later empty_stand T t (later * 256) (omega arith) ∙ as_of-all empty_stand T (ticks * 256) (later * 256) rising' upto' higher ∙ sym h.state in
+    record {
+      count = length-append lines (line.Try a ∷ []) ∙ ap (λ k. k + 1) h.count;
+      low = low;
+      heard = omega (arith, ticks-of_epoch later);
+      ticks_are = ap (ticks_after 0) epochs ∙ ticks_after-push 0 (epochs_of lines) (later * 256) ∙ ticks-of_epoch later;
+      tracker_is = ap (tracker_after 255) epochs ∙ tracker_after-push 255 (epochs_of lines) (later * 256);
+      attempts = EachAt-push (IsOnlyAttemptLine s) lines (line.Try a) h.attempts (subst (λ k. IsOnlyAttempt s k a) (sym h.count) (only-of_attempt s n (record { 0 = later * 256 }) ops now a made));
+      issued = subst (AreIssued 0 255) (sym epochs) (AreIssued-push 0 255 (epochs_of lines) reading (later * 256) h.issued (ap (λ k. k * 256) is ∙ ap (λ k. issued_ticks k reading tracker * 256) (sym h.ticks_are) ∙ ap (λ k. issued_ticks (ticks_after 0 (epochs_of lines)) reading k * 256) (sym h.tracker_is)));
+      rising = subst Rises (sym epochs) (Rises-push (epochs_of lines) (ticks * 256) (later * 256) h.rising h.upto higher);
+      upto = subst (AllByRecursion (λ e. e ≤ later * 256)) (sym epochs) (recursion-append (λ e. e ≤ later * 256) (epochs_of lines) (later * 256 ∷ []) earlier (omega arith, tt));
+      above = subst (AllByRecursion IsIssuedByZero) (sym epochs) (recursion-append IsIssuedByZero (epochs_of lines) (later * 256 ∷ []) h.above ((omega arith, omega arith), tt));
+      taken = ap (map epoch_number) taken ∙ map-append epoch_number T (t ∷ []) ∙ ap (λ es. es ++ later * 256 ∷ []) h.taken ∙ sym epochs;
+      reads = subst (λ ts. AllByRecursion (LineReadsLegal s empty_stand ts) (lines ++ line.Try a ∷ [])) (sym taken)
+        (recursion-append (LineReadsLegal s empty_stand (T ++ t ∷ [])) lines (line.Try a ∷ []) (lines-later s T t lines earlier h.reads)
+        (reads-of_attempt s n (record { 0 = later * 256 }) ops now a made (T ++ t ∷ []) as_of-now, tt));
+      state = effect ∙ ap (effects (writes_of ops)) h.state ∙ sym (run_all-push T t []) ∙ ap (λ ts. run_all ts []) (sym taken)
+    }

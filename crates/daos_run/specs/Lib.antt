@@ -1,0 +1,3 @@
+pub mod Issue
+pub mod Told
+pub mod Runs

@@ -1,0 +1,19 @@
+-- The lines of a run of one client on one target.
+use Rattle.std.specs.Prelude.{ℕ, ◌≡◌, List, length, All}
+use Rattle.std.specs.List.Sorted.{IsStrictlyIncreasing}
+use Rattle.daos_base.specs.declared.report.Line.{Line}
+use Rattle.daos_base.specs.declared.script.Script.{Script}
+use Rattle.daos_model.specs.AsOf.{empty_stand}
+use Rattle.daos_model.specs.OutcomesLegal.{EachAt, IsOnlyAttemptLine, IsIssuedByZero, epochs_of, lone_commands}
+use Rattle.daos_model.specs.ReadsLegal.{LineReadsLegal}
+use Rattle.daos_model.specs.TookEffect.{took}
+use Rattle.daos_run.specs.Issue.{AreIssued}
+
+-- what the headline says of them
+pub record IsRunOf (s : Script) (lines : List Line) : Type 0 where
+  pub reads : All (LineReadsLegal s empty_stand (took s lines)) lines
+  pub count : length lines ≡ length (lone_commands s)
+  pub attempts : EachAt (IsOnlyAttemptLine s) lines
+  pub rising : IsStrictlyIncreasing (epochs_of lines)
+  pub above : All IsIssuedByZero (epochs_of lines)
+  pub issued : AreIssued 0 255 (epochs_of lines)
