@@ -1,0 +1,8 @@
+// All that the program does: from words, a source and a sink to a status.
+#![tactic(auto)]
+
+pub mod daos;
+pub mod status;
+pub mod words;
+
+pub use daos_run::run::run_script;
