@@ -17,6 +17,13 @@ index_cell p i = record { path = p; index = Some i }
 unfoldable pub same_cell : Cell → Cell → Bool
 same_cell c d = same_path c.path d.path && option_eq nat_eq c.index d.index
 
+abbrev pub held_bytes : CellValue → List ℕ
+held_bytes v = v.bytes
+
+-- a value is of a cell
+abbrev pub is_of : Cell → CellValue → Bool
+is_of c v = same_cell v.cell c
+
 -- what a map holds at a cell: of two values of one cell the first counts
 abbrev pub value_at : List CellValue → Cell → Option (List ℕ)
 value_at [] c = None

@@ -1,5 +1,5 @@
 -- What a write makes of a map: an update sets its cells, a punch removes every cell under its path, and all other cells stay.
-use Rattle.std.specs.Prelude.{ℕ, ◌+◌, List, [], ◌∷◌, ◌++◌, if◌then◌else◌}
+use Rattle.std.specs.Prelude.{ℕ, ◌+◌, ◌^◌, ◌<◌, Bool, not, List, [], ◌∷◌, ◌++◌, length, if◌then◌else◌}
 use Rattle.daos_base.specs.Paths.{leads_to}
 use Rattle.daos_base.specs.declared.path.Path.{Path}
 use Rattle.daos_base.specs.declared.operation.Write.{Write}
@@ -7,10 +7,18 @@ use Rattle.daos_base.specs.declared.operation.Write.TheVariants.{Single, Extent,
 use Rattle.daos_model.specs.declared.cell.CellValue.{CellValue}
 use Rattle.daos_model.specs.Cells.{single_cell, index_cell}
 
+-- an index of an array with its byte
+abbrev pub index_value : Path → ℕ → ℕ → CellValue
+index_value p i b = record { cell = index_cell p i; bytes = b ∷ [] }
+
 -- one cell for each byte, from an index on
 abbrev pub extent_cells : Path → ℕ → List ℕ → List CellValue
 extent_cells p i [] = []
-extent_cells p i (b ∷ bytes) = record { cell = index_cell p i; bytes = b ∷ [] } ∷ extent_cells p (i + 1) bytes
+extent_cells p i (b ∷ bytes) = index_value p i b ∷ extent_cells p (i + 1) bytes
+
+-- a cell doesn't stand under a path
+abbrev pub is_outside : Path → CellValue → Bool
+is_outside p v = not (leads_to p v.cell.path)
 
 -- a map without the cells under a path
 abbrev pub without : Path → List CellValue → List CellValue
@@ -23,6 +31,14 @@ effect (Extent p low bytes) m = extent_cells p low bytes ++ m
 effect (PunchObject p) m = without p m
 effect (PunchDkey p) m = without p m
 effect (PunchAkey p) m = without p m
+
+-- an extent ends within an array, whose indexes end at 2^32 - 1
+abbrev pub EndsInArray : Write → Type 0
+EndsInArray (Single p bytes) = Unit {0}
+EndsInArray (Extent p low bytes) = low + length bytes < 2 ^ 32
+EndsInArray (PunchObject p) = Unit {0}
+EndsInArray (PunchDkey p) = Unit {0}
+EndsInArray (PunchAkey p) = Unit {0}
 
 -- what writes make of a map, one after another
 abbrev pub effects : List Write → List CellValue → List CellValue

@@ -1,6 +1,8 @@
 // What writes, reads and transactions mean, and slow functions that compute it.
 #![tactic(auto)]
 
+pub mod answers;
 pub mod cell;
+pub mod effect;
 pub mod map;
 pub mod stand;

@@ -1,0 +1,40 @@
+// What a read is answered on a map.
+ghost use Rattle.std.specs.Prelude.{◌≡◌, IfOk};
+ghost use Rattle.std.specs.Option.{option_copied};
+ghost use Rattle.daos_model.specs.Answers.{IsOfValues, answer, value_answer, yes_or_no};
+
+use crate::cell::Cell;
+use crate::map::Map;
+use daos_base::answer::Answer;
+use daos_base::items::{Memory, Vec8};
+use daos_base::operation::Read;
+use std::alloc::Global;
+
+// The answer to whether there is something.
+fn yes_or_no(there: bool) -> Answer
+    ensures { result ≡ yes_or_no there }
+{
+    if there { Answer::Yes } else { Answer::No }
+}
+
+// The answer that bytes, or none, make.
+fn value_answer(bytes: Option<&Vec8>) -> Result<Answer, Memory>
+    ensures { IfOk result (λ a. a ≡ value_answer (option_copied bytes.entry)) }
+{
+    match bytes {
+        Some(bytes) => Ok(Answer::Bytes(bytes.copy()?)),
+        None => Ok(Answer::Absent),
+    }
+}
+
+/// What a read is answered on a map.
+pub fn answer_of(_alloc: Global, map: &Map, read: &Read) -> Result<Answer, Memory>
+    requires { IsOfValues read.now }
+    ensures { IfOk result (λ a. a ≡ answer read.now map.now) }
+{
+    match read {
+        Read::Single(path) => value_answer(map.get(&Cell::single(path.copy()?))),
+        Read::Exists(path) => Ok(yes_or_no(map.has_cell_below(path))),
+        _ => unreachable!(),
+    }
+}
