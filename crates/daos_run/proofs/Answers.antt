@@ -1,5 +1,5 @@
 -- The answers that an attempt tells are those of its reads, each once and in order.
-use Rattle.std.proofs.Common.{◌≡◌, ℕ, zero, suc, ◌+◌, List, [], ◌∷◌, ◌++◌, map, Option, Some, None, sym, ap, ◌∙◌, refl, arith}
+use Rattle.std.proofs.Common.{◌≡◌, ℕ, suc, ◌+◌, List, [], ◌∷◌, ◌++◌, map, Some, ap, ◌∙◌, refl, arith}
 use Rattle.std.specs.Prelude.{slice_get}
 use Rattle.std.specs.List.{AllByRecursion}
 use Rattle.std.proofs.lemmas.List.{map-append}
@@ -9,7 +9,7 @@ use Rattle.daos_base.specs.declared.operation.Act.TheVariants.{Fetch, Change}
 use Rattle.daos_base.specs.declared.operation.Op.{Op}
 use Rattle.daos_model.specs.declared.cell.CellValue.{CellValue}
 use Rattle.daos_model.specs.ReadsLegal.{IsRightAnswer}
-use Rattle.daos_model.specs.Transactions.{number_of_read, read_at, read_numbers, read_of_op}
+use Rattle.daos_model.specs.Transactions.{number_of_read, read_numbers, read_of_op}
 use Rattle.daos_run.specs.Told.{all_told, told}
 use Rattle.daos_run.proofs.Lists.{recursion-append}
 

@@ -1,15 +1,19 @@
 -- The commands of a client that only puts and gets are those with attempts.
-use Rattle.std.proofs.Common.{◌≡◌, ℕ, zero, suc, ◌<◌, ◌≤◌, List, [], ◌∷◌, length, get_or, Option, Some, None, sym, ap, subst, ◌∙◌, refl, arith}
+use Rattle.std.proofs.Common.{◌≡◌, ℕ, ◌<◌, ◌≤◌, List, [], ◌∷◌, length, get_or, Some, sym, ap, subst, ◌∙◌, refl, arith}
 use Rattle.std.specs.Prelude.{slice_get, All}
 use Rattle.std.specs.List.{AllByRecursion}
-use Rattle.std.proofs.lemmas.List.Elements.{recursion_from_All}
+use Rattle.std.proofs.lemmas.List.Elements.{All-from_recursion, recursion_from_All}
 use Rattle.std.proofs.lemmas.Option.{slice_get-get_or}
-use Rattle.daos_base.specs.declared.operation.Op.{Op}
 use Rattle.daos_base.specs.declared.script.Command.{Command}
 use Rattle.daos_base.specs.declared.script.Command.TheVariants.{Run, Snap, Aggregate, Tell, Skip}
 use Rattle.daos_base.specs.declared.script.ObjDecl.{ObjDecl}
 use Rattle.daos_base.specs.declared.script.Script.{Script}
-use Rattle.daos_base.specs.Scripts.{IsInForm, IsPutOrGet}
+use Rattle.daos_base.specs.Scripts.{IsInForm, IsPutOrGet, IsSingleAct}
+use Rattle.daos_base.specs.declared.operation.Act.{Act}
+use Rattle.daos_base.specs.declared.operation.Act.TheVariants.{Fetch, Change}
+use Rattle.daos_base.specs.declared.operation.Read.TheVariants as read
+use Rattle.daos_base.specs.declared.operation.Write.TheVariants as write
+use Rattle.daos_run.specs.Acts.{AllCanBeDone, CanBeDone}
 use Rattle.daos_model.specs.Transactions.{attempt_ops, command_of, numbered, numbered_at, ops_of, ops_or_none}
 use Rattle.daos_model.specs.OutcomesLegal.{first_list, lone_commands}
 
@@ -57,3 +61,27 @@ pub attempt_ops-is : (n : ℕ) (s : Script) (k : ℕ) (c : Command) → IsInForm
 unfolding command_of
 attempt_ops-is n s k c form lt e =
     ap ops_or_none (first_numbered s.clients k ∙ ap (λ cs. slice_get cs k) (lone-is n s form) ∙ slice_get-get_or (first_list s.clients) k c lt ∙ ap (λ x. Some x) (sym e))
+
+single_act : (objs : List ObjDecl) (act : Act) → IsSingleAct objs act → CanBeDone act
+single_act objs (Fetch (read.Single p)) h = tt
+single_act objs (Fetch (read.Extent p low len)) h = absurd h
+single_act objs (Fetch (read.Dkeys p)) h = absurd h
+single_act objs (Fetch (read.Akeys p)) h = absurd h
+single_act objs (Fetch (read.Exists p)) h = tt
+single_act objs (Change (write.Single p bytes)) h = tt
+single_act objs (Change (write.Extent p low bytes)) h = absurd h
+single_act objs (Change (write.PunchObject p)) h = tt
+single_act objs (Change (write.PunchDkey p)) h = tt
+single_act objs (Change (write.PunchAkey p)) h = tt
+
+can_be_done : (objs : List ObjDecl) (c : Command) → IsPutOrGet objs c → AllCanBeDone (ops_of c)
+can_be_done objs (Run ops skips snapshot) p =
+    let lone : AllCanBeDone (p.0.0 ∷ []) = All-from_recursion (λ op. CanBeDone op.act) (p.0.0 ∷ []) (single_act objs p.0.0.act p.0.3, tt) in
+    subst AllCanBeDone (sym p.0.1) lone
+can_be_done objs (Snap name cont) p = absurd p
+can_be_done objs (Aggregate cont) p = absurd p
+can_be_done objs (Tell client) p = absurd p
+can_be_done objs (Skip turns) p = absurd p
+
+pub can_be_done_at : (n : ℕ) (s : Script) (k : ℕ) (c : Command) → IsInForm n s → k < length (first_list s.clients) → c ≡ get_or (first_list s.clients) k c → AllCanBeDone (ops_of c)
+can_be_done_at n s k c form lt e = can_be_done s.objs c (subst (λ x. IsPutOrGet s.objs x) (sym e) (first_puts n s form k c lt))

@@ -4,3 +4,4 @@ pub mod Answers
 pub mod Epochs
 pub mod AsOfEpochs
 pub mod SoFar
+pub mod Steps

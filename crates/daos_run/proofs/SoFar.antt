@@ -1,14 +1,12 @@
 -- What holds after the first commands of a run.
-use Rattle.std.proofs.Common.{◌≡◌, ℕ, zero, suc, ◌+◌, ◌*◌, ◌/◌, ◌%◌, ◌^◌, ◌<◌, ◌≤◌, max, min, List, [], ◌∷◌, ◌++◌, length, length-append, map, Option, Some, None, sym, ap, subst, ◌∙◌, append_assoc, append-nil, refl, arith}
+use Rattle.std.proofs.Common.{◌≡◌, ℕ, ◌+◌, ◌*◌, ◌/◌, ◌^◌, ◌<◌, ◌≤◌, List, [], ◌∷◌, ◌++◌, length, length-append, map, Some, sym, ap, subst, ◌∙◌, append_assoc, append-nil, refl, arith}
 use Rattle.std.specs.Prelude.{All}
 use Rattle.std.specs.List.{AllByRecursion}
-use Rattle.std.specs.List.Sorted.{IsStrictlyIncreasing}
 use Rattle.std.proofs.lemmas.List.Elements.{All-from_recursion}
 use Rattle.std.proofs.lemmas.List.{map-append}
 use Rattle.daos_base.specs.declared.answer.Answer.{Answer}
 use Rattle.daos_base.specs.declared.epoch.Epoch.{Epoch}
 use Rattle.daos_base.specs.declared.operation.Op.{Op}
-use Rattle.daos_base.specs.declared.outcome.Outcome.{Outcome}
 use Rattle.daos_base.specs.declared.outcome.Outcome.TheVariants.{Committed}
 use Rattle.daos_base.specs.declared.report.Attempt.{Attempt}
 use Rattle.daos_base.specs.declared.report.Line.{Line}
@@ -18,13 +16,16 @@ use Rattle.daos_model.specs.declared.cell.CellValue.{CellValue}
 use Rattle.daos_model.specs.declared.stand.Taken.{Taken}
 use Rattle.daos_model.specs.AsOf.{as_of, empty_stand, run_all}
 use Rattle.daos_model.specs.Effect.{effects}
-use Rattle.daos_model.specs.OutcomesLegal.{EachAt, IsOnlyAttempt, IsOnlyAttemptLine, IsIssuedByZero, epochs_of, line_epoch, lone_commands, option_epoch}
+use Rattle.daos_model.specs.OutcomesLegal.{EachAt, first_list, IsOnlyAttempt, IsOnlyAttemptLine, IsIssuedByZero, epochs_of, line_epoch, option_epoch}
 use Rattle.daos_model.specs.ReadsLegal.{AttemptReadsLegal, IsRightAnswer, LineReadsLegal}
 use Rattle.daos_model.specs.TookEffect.{taken_at, taken_by, took}
 use Rattle.daos_model.specs.Transactions.{attempt_ops, read_numbers, writes_of}
 use Rattle.daos_run.specs.Issue.{AreIssued, issued_ticks, ticks_after, tracker_after}
 use Rattle.daos_run.specs.Told.{all_told}
-use Rattle.daos_run.proofs.Lists.{EachAt-nil, EachAt-push, recursion-append, recursion-map, Rises, Rises-push}
+use Rattle.daos_base.specs.Scripts.{IsInForm}
+use Rattle.daos_run.specs.Runs.{IsRunOf}
+use Rattle.daos_run.proofs.Commands.{lone-is}
+use Rattle.daos_run.proofs.Lists.{EachAt-nil, EachAt-push, increasing-from_Rises, recursion-append, recursion-map, Rises, Rises-push}
 use Rattle.daos_run.proofs.Answers.{all_told-numbers, all_told-right}
 use Rattle.daos_run.proofs.AsOfEpochs.{as_of-all, as_of-later, epoch_number}
 use Rattle.daos_run.proofs.Epochs.{AreIssued-push, ticks_after-push, tracker_after-push, issued-rises, issued-bound, ticks-of_epoch}
@@ -48,8 +49,19 @@ pub record SoFar (s : Script) (n ticks tracker : ℕ) (lines : List Line) (now :
 pub nothing_yet : (s : Script) → SoFar s 0 0 255 [] []
 unfolding took
 nothing_yet s = record {
-  count = refl; low = omega arith; heard = omega arith; ticks_are = refl; tracker_is = refl; attempts = EachAt-nil _; issued = tt;
-  rising = tt; upto = tt; above = tt; taken = refl; reads = tt; state = refl
+  count = refl;
+  low = omega arith;
+  heard = omega arith;
+  ticks_are = refl;
+  tracker_is = refl;
+  attempts = EachAt-nil _;
+  issued = tt;
+  rising = tt;
+  upto = tt;
+  above = tt;
+  taken = refl;
+  reads = tt;
+  state = refl;
 }
 
 -- ---- one line more
@@ -95,7 +107,7 @@ module _ (s : Script) (n : ℕ) (e : Epoch) (ops : List Op) (before : List CellV
     committed = made.outcome;
     issued = (e, made.epoch);
     answered = ap (map (λ (got : ℕ × Answer). got.0)) made.gots ∙ all_told-numbers 0 ops before ∙ ap (read_numbers 0) (sym ops-of_attempt);
-    unconditional = made.conds
+    unconditional = made.conds;
   }
 
   pub reads-of_attempt : (T : List Taken) → as_of empty_stand T e.0 ≡ before → AttemptReadsLegal s empty_stand T a
@@ -163,7 +175,18 @@ one_more s n ticks tracker reading later lines now after ops a h is made effect 
       above = subst (AllByRecursion IsIssuedByZero) (sym epochs) (recursion-append IsIssuedByZero (epochs_of lines) (later * 256 ∷ []) h.above ((omega arith, omega arith), tt));
       taken = ap (map epoch_number) taken ∙ map-append epoch_number T (t ∷ []) ∙ ap (λ es. es ++ later * 256 ∷ []) h.taken ∙ sym epochs;
       reads = subst (λ ts. AllByRecursion (LineReadsLegal s empty_stand ts) (lines ++ line.Try a ∷ [])) (sym taken)
-        (recursion-append (LineReadsLegal s empty_stand (T ++ t ∷ [])) lines (line.Try a ∷ []) (lines-later s T t lines earlier h.reads)
-        (reads-of_attempt s n (record { 0 = later * 256 }) ops now a made (T ++ t ∷ []) as_of-now, tt));
-      state = effect ∙ ap (effects (writes_of ops)) h.state ∙ sym (run_all-push T t []) ∙ ap (λ ts. run_all ts []) (sym taken)
+          (recursion-append (LineReadsLegal s empty_stand (T ++ t ∷ [])) lines (line.Try a ∷ []) (lines-later s T t lines earlier h.reads)
+          (reads-of_attempt s n (record { 0 = later * 256 }) ops now a made (T ++ t ∷ []) as_of-now, tt));
+      state = effect ∙ ap (effects (writes_of ops)) h.state ∙ sym (run_all-push T t []) ∙ ap (λ ts. run_all ts []) (sym taken);
     }
+
+-- all commands ran
+pub all_ran : (s : Script) (n ticks tracker : ℕ) (lines : List Line) (now : List CellValue) → IsInForm 1 s → length (first_list s.clients) ≡ n → SoFar s n ticks tracker lines now → IsRunOf s lines
+all_ran s n ticks tracker lines now form all h = record {
+  reads = All-from_recursion (LineReadsLegal s empty_stand (took s lines)) lines h.reads;
+  count = h.count ∙ sym all ∙ sym (ap length (lone-is 1 s form));
+  attempts = h.attempts;
+  rising = increasing-from_Rises (epochs_of lines) h.rising;
+  above = All-from_recursion IsIssuedByZero (epochs_of lines) h.above;
+  issued = h.issued;
+}

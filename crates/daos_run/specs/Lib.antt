@@ -1,3 +1,4 @@
 pub mod Issue
 pub mod Told
 pub mod Runs
+pub mod Acts

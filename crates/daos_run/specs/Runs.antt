@@ -1,5 +1,5 @@
 -- The lines of a run of one client on one target.
-use Rattle.std.specs.Prelude.{ℕ, ◌≡◌, List, length, All}
+use Rattle.std.specs.Prelude.{◌≡◌, List, length, All}
 use Rattle.std.specs.List.Sorted.{IsStrictlyIncreasing}
 use Rattle.daos_base.specs.declared.report.Line.{Line}
 use Rattle.daos_base.specs.declared.script.Script.{Script}

@@ -13,5 +13,7 @@ pub fn next_ticks(ticks: u64, reading: u64, tracker: Epoch) -> u64
     requires ticks { ticks < 2 ^ 56 - 1 }
     ensures exact { result ≡ issued_ticks ticks reading tracker.0 }
 {
-    (ticks + 1).max(reading.min(READING_MAX)).max(tracker.ticks() + 1)
+    (ticks + 1)
+        .max(reading.min(READING_MAX))
+        .max(tracker.ticks() + 1)
 }

@@ -22,7 +22,9 @@ pub enum Part {
 pub enum RunStop {
     /// The rack, or the region of this target while it was opened, failed.
     #[error("target {target}: rack fault")]
-    RackFault { target: TargetId },
+    RackFault {
+        target: TargetId,
+    },
     /// The region of this target holds a byte, at this place, that none of ours does.
     #[error("target {target}: byte {byte} at {at} is foreign")]
     Foreign {
