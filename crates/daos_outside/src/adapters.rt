@@ -1,8 +1,8 @@
 // Readers and writers of std as sources and sinks.
-ghost use Rattle.std.specs.Prelude.{◌≡◌, ◌<◌, length, OnOk, OnErr, IfOk};
+ghost use Rattle.std.specs.Prelude.{◌≡◌, OnOk, OnErr};
 ghost use Rattle.std.specs.Io.{ReadsAtMost, WritesAtMost};
 ghost use Rattle.std.specs.Io.KnownBytes.{ReadConsumes, WriteAppends};
-ghost use Rattle.daos_outside.specs.Causes.{HasCause, CountsStalls, one_more};
+ghost use Rattle.daos_outside.specs.Causes.{HasCause, CountsStalls, StallsOnce, one_more};
 ghost use Rattle.daos_outside.specs.Adapters.{reader_of, reading_faults, writer_of, writing_faults, writing_stalls};
 
 use crate::Failed;
@@ -43,7 +43,8 @@ impl<R: Read + Drop> Source for Reading<R> {
 
     fn read(&mut self, buf: &mut [u8]) -> Result<usize, Failed>
         ensures bound { ReadsAtMost result buf.new }
-        ensures bytes { ReadConsumes (R.remaining (reader_of self.old)) (R.remaining (reader_of self.new)) result buf.new }
+        ensures bytes { ReadConsumes (R.remaining (reader_of self.old))
+            (R.remaining (reader_of self.new)) result buf.new }
         ensures cause { HasCause (reading_faults self.old) (reading_faults self.new) result }
         ensures fault { OnErr result (reading_faults self.new ≡ one_more (reading_faults self.old)) }
         ensures no_fault { OnOk result (reading_faults self.new ≡ reading_faults self.old) }
@@ -107,12 +108,15 @@ impl<W: Write + Drop> Sink for Writing<W> {
 
     fn write(&mut self, bytes: &[u8]) -> Result<usize, Failed>
         ensures bound { WritesAtMost result bytes.now }
-        ensures bytes { WriteAppends (W.contents (writer_of self.old)) (W.contents (writer_of self.new)) result bytes.now }
+        ensures bytes { WriteAppends (W.contents (writer_of self.old))
+            (W.contents (writer_of self.new)) result bytes.now }
         ensures cause { HasCause (writing_faults self.old) (writing_faults self.new) result }
-        ensures stall { CountsStalls (writing_stalls self.old) (writing_stalls self.new) result bytes.now }
+        ensures stall { CountsStalls (writing_stalls self.old) (writing_stalls self.new)
+            result bytes.now }
         ensures fault { OnErr result (writing_faults self.new ≡ one_more (writing_faults self.old)) }
         ensures no_fault { OnOk result (writing_faults self.new ≡ writing_faults self.old) }
-        ensures once { IfOk result (λ n. n ≡ 0 → 0 < length bytes.now → writing_stalls self.new ≡ one_more (writing_stalls self.old)) }
+        ensures once { StallsOnce (writing_stalls self.old) (writing_stalls self.new)
+            result bytes.now }
     {
         match self.inner.write(bytes) {
             Ok(count) => {
