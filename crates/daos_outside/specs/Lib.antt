@@ -4,3 +4,4 @@ pub mod SourceState
 pub mod SinkState
 pub mod RackState
 pub mod Transfers
+pub mod Adapters

@@ -7,7 +7,8 @@ pub record SureSinkState : Type 0 where
   pub room : ℕ
   pub stalls : ℕ
 
--- the same of a sink whose calls fail by their numbers, and these numbers, how many calls there were, and how many of them failed
+-- the same of a sink whose calls fail by their numbers, these numbers, how many calls there were, and
+-- how many failed
 pub record SinkState : Type 0 where
   pub held : List ℕ
   pub room : ℕ

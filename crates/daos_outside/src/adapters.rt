@@ -1,5 +1,9 @@
 // Readers and writers of std as sources and sinks.
-ghost use Rattle.std.specs.Prelude.{◌≡◌};
+ghost use Rattle.std.specs.Prelude.{◌≡◌, OnOk, OnErr};
+ghost use Rattle.std.specs.Io.{ReadsAtMost, WritesAtMost};
+ghost use Rattle.std.specs.Io.KnownBytes.{ReadConsumes, WriteAppends};
+ghost use Rattle.daos_outside.specs.Causes.{HasCause, CountsStalls, StallsOnce, one_more};
+ghost use Rattle.daos_outside.specs.Adapters.{reader_of, reading_faults, writer_of, writing_faults, writing_stalls};
 
 use crate::Failed;
 use crate::sink::Sink;
@@ -9,7 +13,7 @@ use std::io::{Read, Write};
 /// A reader as a source, at the trusted edge: each error of the reader is a fault, and of the bytes
 /// that are left it tells what the reader tells.
 #[derive(Drop)]
-pub struct Reading<R: Read + Drop> {
+pub struct Reading<R> {
     inner: R,
     faults: u64,
 }
@@ -17,15 +21,15 @@ pub struct Reading<R: Read + Drop> {
 impl<R: Read + Drop> Reading<R> {
     /// A source of what `inner` reads, without a fault so far.
     pub fn new(inner: R) -> Reading<R>
-        ensures left { ⟦<Reading<R> as Source>⟧.left result ≡ R.remaining inner }
-        ensures count { ⟦<Reading<R> as Source>⟧.count result ≡ 0 }
+        ensures reader { reader_of result ≡ inner }
+        ensures faults { reading_faults result ≡ 0 }
     {
         Reading { inner, faults: 0 }
     }
 
     /// The reader.
     pub fn into_inner(self) -> R
-        ensures { R.remaining result ≡ ⟦<Reading<R> as Source>⟧.left self }
+        ensures { result ≡ reader_of self }
     {
         let Reading { inner, faults: _ } = self;
         inner
@@ -33,11 +37,18 @@ impl<R: Read + Drop> Reading<R> {
 }
 
 impl<R: Read + Drop> Source for Reading<R> {
-    ghost left = { λ s. R.remaining s.inner };
+    ghost left = { λ s. R.remaining (reader_of s) };
 
-    ghost count = { λ s. s.faults };
+    ghost count = { reading_faults };
 
-    fn read(&mut self, buf: &mut [u8]) -> Result<usize, Failed> {
+    fn read(&mut self, buf: &mut [u8]) -> Result<usize, Failed>
+        ensures bound { ReadsAtMost result buf.new }
+        ensures bytes { ReadConsumes (R.remaining (reader_of self.old))
+            (R.remaining (reader_of self.new)) result buf.new }
+        ensures cause { HasCause (reading_faults self.old) (reading_faults self.new) result }
+        ensures fault { OnErr result (reading_faults self.new ≡ one_more (reading_faults self.old)) }
+        ensures no_fault { OnOk result (reading_faults self.new ≡ reading_faults self.old) }
+    {
         match self.inner.read(buf) {
             Ok(count) => Ok(count),
             Err(_) => {
@@ -55,7 +66,7 @@ impl<R: Read + Drop> Source for Reading<R> {
 /// A writer as a sink, at the trusted edge: each error of the writer is a fault, each 0 for bytes
 /// that are there a stall, and of the bytes that it holds it tells what the writer tells.
 #[derive(Drop)]
-pub struct Writing<W: Write + Drop> {
+pub struct Writing<W> {
     inner: W,
     faults: u64,
     stalls: u64,
@@ -64,9 +75,9 @@ pub struct Writing<W: Write + Drop> {
 impl<W: Write + Drop> Writing<W> {
     /// A sink that writes to `inner`, without a fault or a stall so far.
     pub fn new(inner: W) -> Writing<W>
-        ensures held { ⟦<Writing<W> as Sink>⟧.held result ≡ W.contents inner }
-        ensures count { ⟦<Writing<W> as Sink>⟧.count result ≡ 0 }
-        ensures stalls { ⟦<Writing<W> as Sink>⟧.stalls result ≡ 0 }
+        ensures writer { writer_of result ≡ inner }
+        ensures faults { writing_faults result ≡ 0 }
+        ensures stalls { writing_stalls result ≡ 0 }
     {
         Writing {
             inner,
@@ -77,7 +88,7 @@ impl<W: Write + Drop> Writing<W> {
 
     /// The writer, which may hold bytes back until it is flushed.
     pub fn into_inner(self) -> W
-        ensures { W.contents result ≡ ⟦<Writing<W> as Sink>⟧.held self }
+        ensures { result ≡ writer_of self }
     {
         let Writing {
             inner,
@@ -89,13 +100,24 @@ impl<W: Write + Drop> Writing<W> {
 }
 
 impl<W: Write + Drop> Sink for Writing<W> {
-    ghost held = { λ s. W.contents s.inner };
+    ghost held = { λ s. W.contents (writer_of s) };
 
-    ghost count = { λ s. s.faults };
+    ghost count = { writing_faults };
 
-    ghost stalls = { λ s. s.stalls };
+    ghost stalls = { writing_stalls };
 
-    fn write(&mut self, bytes: &[u8]) -> Result<usize, Failed> {
+    fn write(&mut self, bytes: &[u8]) -> Result<usize, Failed>
+        ensures bound { WritesAtMost result bytes.now }
+        ensures bytes { WriteAppends (W.contents (writer_of self.old))
+            (W.contents (writer_of self.new)) result bytes.now }
+        ensures cause { HasCause (writing_faults self.old) (writing_faults self.new) result }
+        ensures stall { CountsStalls (writing_stalls self.old) (writing_stalls self.new)
+            result bytes.now }
+        ensures fault { OnErr result (writing_faults self.new ≡ one_more (writing_faults self.old)) }
+        ensures no_fault { OnOk result (writing_faults self.new ≡ writing_faults self.old) }
+        ensures once { StallsOnce (writing_stalls self.old) (writing_stalls self.new)
+            result bytes.now }
+    {
         match self.inner.write(bytes) {
             Ok(count) => {
                 if count == 0 && !bytes.is_empty() {

@@ -30,6 +30,14 @@ impl CountClock {
     }
 }
 
+impl Default for CountClock {
+    ghost is_default = { λ c. c ≡ 0 };
+
+    fn default() -> CountClock {
+        CountClock::new()
+    }
+}
+
 impl Clock for CountClock {
     ghost next = { λ c. Some c };
 

@@ -47,7 +47,8 @@ impl FaultPlan {
         ensures list { self.new.fails ≡ self.old.fails }
         ensures calls { self.new.calls ≡ one_more self.old.calls }
         ensures later { self.old.faults ≤ self.new.faults }
-        ensures faults { self.new.faults ≡ (if result then one_more self.old.faults else self.old.faults) }
+        ensures faults { self.new.faults ≡
+            (if result then one_more self.old.faults else self.old.faults) }
     {
         self.calls = self.calls.saturating_add(1);
         let fails = is_among(&self.fails, self.calls);

@@ -1,8 +1,8 @@
 // A sink in memory whose calls fail by their numbers.
-ghost use Rattle.std.specs.Prelude.{◌≡◌, ◌<◌, ◌-◌, ◌↔◌, [], ◌++◌, length, min, take, IfOk, OnOk, OnErr, IsErr, Contains, Some, Ok};
+ghost use Rattle.std.specs.Prelude.{◌≡◌, ◌-◌, ◌↔◌, [], ◌++◌, length, min, take, IfOk, OnOk, OnErr, IsErr, Contains, Some, Ok};
 ghost use Rattle.std.specs.Io.{WritesAtMost};
 ghost use Rattle.std.specs.Io.KnownBytes.{WriteAppends};
-ghost use Rattle.daos_outside.specs.Causes.{HasCause, CountsStalls, one_more};
+ghost use Rattle.daos_outside.specs.Causes.{HasCause, CountsStalls, StallsOnce, one_more};
 
 use crate::bounded::Bounded;
 use crate::fault_plan::FaultPlan;
@@ -25,13 +25,27 @@ impl Model for MemSink {
 
     ghost Value = { SinkState };
 
-    ghost view = { λ s. record { held = s.kept.0; room = s.kept.1; stalls = s.stalls; fails = s.plan.fails; calls = s.plan.calls; faults = s.plan.faults } };
+    ghost view = { λ s. record {
+      held = s.kept.0;
+      room = s.kept.1;
+      stalls = s.stalls;
+      fails = s.plan.fails;
+      calls = s.plan.calls;
+      faults = s.plan.faults;
+    } };
 }
 
 impl MemSink {
     /// An empty sink with room for `room` bytes.
     pub fn new(alloc: Global, room: u64, fails: &[u32]) -> Result<MemSink, Memory>
-        ensures { IfOk result (λ s. s ≡ record { held = []; room = room; stalls = 0; fails = fails.now; calls = 0; faults = 0 }) }
+        ensures { IfOk result (λ s. s ≡ record {
+          held = [];
+          room = room;
+          stalls = 0;
+          fails = fails.now;
+          calls = 0;
+          faults = 0;
+        }) }
     {
         Ok(MemSink {
             kept: Bounded::new(alloc, room)?,
@@ -70,10 +84,11 @@ impl Sink for MemSink {
 
         // What the others take: as much as there is room for.
         ensures no_fault { OnOk result (self.new.faults ≡ self.old.faults) }
-        ensures count { IfOk result (λ n. n ≡ min (length bytes.now) (self.old.room - length self.old.held)) }
+        ensures count { IfOk result (λ n. n ≡
+            min (length bytes.now) (self.old.room - length self.old.held)) }
         ensures held { IfOk result (λ n. self.new.held ≡ self.old.held ++ take n bytes.now) }
         ensures room { self.new.room ≡ self.old.room }
-        ensures once { IfOk result (λ n. n ≡ 0 → 0 < length bytes.now → self.new.stalls ≡ one_more self.old.stalls) }
+        ensures once { StallsOnce self.old.stalls self.new.stalls result bytes.now }
     {
         if self.plan.next_call_fails() {
             return Err(Failed);

@@ -23,13 +23,23 @@ impl Model for MemSource {
 
     ghost Value = { SourceState };
 
-    ghost view = { λ s. record { left = s.rest; fails = s.plan.fails; calls = s.plan.calls; faults = s.plan.faults } };
+    ghost view = { λ s. record {
+      left = s.rest;
+      fails = s.plan.fails;
+      calls = s.plan.calls;
+      faults = s.plan.faults;
+    } };
 }
 
 impl MemSource {
     /// A source of these bytes.
     pub fn new(alloc: Global, bytes: &[u8], fails: &[u32]) -> Result<MemSource, Memory>
-        ensures { IfOk result (λ s. s ≡ record { left = bytes.now; fails = fails.now; calls = 0; faults = 0 }) }
+        ensures { IfOk result (λ s. s ≡ record {
+          left = bytes.now;
+          fails = fails.now;
+          calls = 0;
+          faults = 0;
+        }) }
     {
         Ok(MemSource {
             rest: Remaining::new(alloc, bytes)?,

@@ -30,7 +30,8 @@ pub trait Region {
     fn read(&mut self, at: u64, buf: &mut [u8]) -> Result<(), Failed>
         requires { at + length buf.old ≤ extent self.old }
         ensures extent { extent self.new ≡ extent self.old }
-        ensures cause { HasEitherCause (count self.old) (count self.new) (burns self.old) (burns self.new) result };
+        ensures cause { HasEitherCause (count self.old) (count self.new)
+            (burns self.old) (burns self.new) result };
 
     /// Writes all of the bytes from `at` on. They are sure to last only after a flush.
     ///
@@ -40,7 +41,8 @@ pub trait Region {
     fn write(&mut self, at: u64, bytes: &[u8]) -> Result<(), Failed>
         requires { at + length bytes.now ≤ extent self.old }
         ensures extent { extent self.new ≡ extent self.old }
-        ensures cause { HasEitherCause (count self.old) (count self.new) (burns self.old) (burns self.new) result };
+        ensures cause { HasEitherCause (count self.old) (count self.new)
+            (burns self.old) (burns self.new) result };
 
     /// Makes all that was written last.
     ///
@@ -49,7 +51,8 @@ pub trait Region {
     /// `Failed` comes only where a count rose in this call.
     fn flush(&mut self) -> Result<(), Failed>
         ensures extent { extent self.new ≡ extent self.old }
-        ensures cause { HasEitherCause (count self.old) (count self.new) (burns self.old) (burns self.new) result };
+        ensures cause { HasEitherCause (count self.old) (count self.new)
+            (burns self.old) (burns self.new) result };
 
     /// Opens it anew, as after a crash.
     ///
@@ -58,7 +61,8 @@ pub trait Region {
     /// `Failed` comes only where a count rose in this call.
     fn reopen(&mut self) -> Result<(), Failed>
         ensures extent { extent self.new ≡ extent self.old }
-        ensures cause { HasEitherCause (count self.old) (count self.new) (burns self.old) (burns self.new) result };
+        ensures cause { HasEitherCause (count self.old) (count self.new)
+            (burns self.old) (burns self.new) result };
 
     /// How often a fuse has failed it, up to 2^64 - 1.
     fn burnt(&self) -> u64

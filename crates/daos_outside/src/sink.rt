@@ -58,10 +58,12 @@ pub fn write_all<K: Sink>(sink: &mut K, bytes: &[u8]) -> Result<(), WriteNo>
     ensures prefix { AppendsPrefix (K.held sink.old) (K.held sink.new) bytes.now }
     ensures fault { IsErrOf result WriteNo.Fault → Rose (K.count sink.old) (K.count sink.new) }
     ensures later { K.count sink.old ≤ K.count sink.new }
-    ensures nothing { IsErrOf result WriteNo.Nothing → Rose (K.stalls sink.old) (K.stalls sink.new) }
+    ensures nothing { IsErrOf result WriteNo.Nothing →
+        Rose (K.stalls sink.old) (K.stalls sink.new) }
     ensures later_stalls { K.stalls sink.old ≤ K.stalls sink.new }
     ensures no_stall { OnOk result (K.stalls sink.new ≡ K.stalls sink.old) }
-    ensures fault_is_no_stall { IsErrOf result WriteNo.Fault → K.stalls sink.new ≡ K.stalls sink.old }
+    ensures fault_is_no_stall { IsErrOf result WriteNo.Fault →
+        K.stalls sink.new ≡ K.stalls sink.old }
 {
     let mut done = 0;
     while done < bytes.len() {

@@ -75,7 +75,8 @@ pub fn read_all<S: Source>(alloc: Global, source: &mut S, limit: usize) -> Resul
     ensures whole { IfOk result (λ v. Consumes (S.left source.old) (S.left source.new) v.items) }
     ensures end { OnOk result (IsAtEnd (S.left source.new)) }
     ensures within { IfOk result (λ v. vec_len v ≤ limit) }
-    ensures too_long { IsErrOf result ReadNo.TooLong → ConsumesSome (S.left source.old) (S.left source.new) (limit + 1) }
+    ensures too_long { IsErrOf result ReadNo.TooLong →
+        ConsumesSome (S.left source.old) (S.left source.new) (limit + 1) }
     ensures fault { IsErrOf result ReadNo.Fault → Rose (S.count source.old) (S.count source.new) }
     ensures later { S.count source.old ≤ S.count source.new }
     ensures consumed { ConsumesAtMost (S.left source.old) (S.left source.new) (limit + 1) }

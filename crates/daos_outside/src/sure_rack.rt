@@ -30,7 +30,8 @@ impl Model for SureRack {
 impl SureRack {
     /// A rack of `targets` regions of `size` bytes, all 0 and at home.
     pub fn new(alloc: Global, targets: u8, size: u64) -> Result<SureRack, Memory>
-        ensures { IfOk result (λ r. r ≡ record { regions = replicate targets (Some (replicate size 0)); faults = 0 }) }
+        ensures { IfOk result (λ r. r ≡
+            record { regions = replicate targets (Some (replicate size 0)); faults = 0 }) }
     {
         let mut regions = Vec::new(alloc);
         for _target in 0..targets {
@@ -52,9 +53,11 @@ impl Rack for SureRack {
     fn region(&mut self, t: TargetId, _size: u64) -> Result<SureRegion, Failed>
         ensures cause { HasCause self.old.faults self.new.faults result }
         ensures sure { IfSome (region_at_home self.old t) (λ r. result ≡ Ok r) }
-        ensures handed_out { IfSome (region_at_home self.old t) (λ _. self.new ≡ record self.old { regions = slice_set self.old.regions t None }) }
+        ensures handed_out { IfSome (region_at_home self.old t) (λ _. self.new ≡
+            record self.old { regions = slice_set self.old.regions t None }) }
         ensures bad_use { IfNone (region_at_home self.old t) (IsErr result) }
-        ensures refused { IfNone (region_at_home self.old t) (self.new ≡ record self.old { faults = one_more self.old.faults }) }
+        ensures refused { IfNone (region_at_home self.old t) (self.new ≡
+            record self.old { faults = one_more self.old.faults }) }
     {
         let at = t as usize;
         if at < self.regions.len() {
@@ -74,7 +77,8 @@ impl Rack for SureRack {
     }
 
     fn take_back(&mut self, t: TargetId, region: SureRegion)
-        ensures { self.new ≡ record self.old { regions = slice_set self.old.regions t (Some region) } }
+        ensures { self.new ≡
+            record self.old { regions = slice_set self.old.regions t (Some region) } }
     {
         let at = t as usize;
         if at < self.regions.len() {

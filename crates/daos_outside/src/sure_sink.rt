@@ -1,8 +1,8 @@
 // A sink in memory that never fails.
-ghost use Rattle.std.specs.Prelude.{◌≡◌, ◌<◌, ◌-◌, [], ◌++◌, length, min, take, IfOk, Some, Ok};
+ghost use Rattle.std.specs.Prelude.{◌≡◌, ◌-◌, [], ◌++◌, length, min, take, IfOk, Some, Ok};
 ghost use Rattle.std.specs.Io.{WritesAtMost};
 ghost use Rattle.std.specs.Io.KnownBytes.{WriteAppends};
-ghost use Rattle.daos_outside.specs.Causes.{CountsStalls, one_more};
+ghost use Rattle.daos_outside.specs.Causes.{CountsStalls, StallsOnce};
 
 use crate::bounded::Bounded;
 use crate::sink::Sink;
@@ -55,10 +55,11 @@ impl Sink for SureSink {
         ensures bound { WritesAtMost result bytes.now }
         ensures bytes { WriteAppends (Some self.old.held) (Some self.new.held) result bytes.now }
         ensures stall { CountsStalls self.old.stalls self.new.stalls result bytes.now }
-        ensures count { result ≡ Ok (min (length bytes.now) (self.old.room - length self.old.held)) }
+        ensures count { result ≡
+            Ok (min (length bytes.now) (self.old.room - length self.old.held)) }
         ensures held { IfOk result (λ n. self.new.held ≡ self.old.held ++ take n bytes.now) }
         ensures room { self.new.room ≡ self.old.room }
-        ensures once { IfOk result (λ n. n ≡ 0 → 0 < length bytes.now → self.new.stalls ≡ one_more self.old.stalls) }
+        ensures once { StallsOnce self.old.stalls self.new.stalls result bytes.now }
     {
         let count = self.kept.append(bytes);
         if count == 0 && !bytes.is_empty() {
