@@ -12,7 +12,7 @@ use daos_base::report::Attempt;
 use daos_base::script::Script;
 
 // Adds the row of how an attempt ended.
-#[tactic(auto, using(crate::proofs::Spaces::line_spaced, crate::proofs::Spaces::spaced_append))]
+#[tactic(auto, using(crate::proofs::Joins::joins))]
 fn push_try(out: &mut Vec<u8>, script: &Script, attempt: &Attempt) -> Result<(), Memory>
     ensures { OnOk result (out.new.items ≡ out.old.items ++ rows_text (try_row script.now attempt.now ∷ [])) }
 {
@@ -48,7 +48,7 @@ fn push_cond(out: &mut Vec<u8>, cond: (u8, bool)) -> Result<(), Memory>
 }
 
 // Adds the row of an answer.
-#[tactic(auto, using(crate::proofs::Spaces::line_spaced, crate::proofs::Spaces::spaced_append))]
+#[tactic(auto, using(crate::proofs::Joins::joins))]
 fn push_got(out: &mut Vec<u8>, got: &(u8, Answer)) -> Result<(), Memory>
     ensures { OnOk result (out.new.items ≡ out.old.items ++ rows_text (got_row got.now ∷ [])) }
 {
@@ -60,7 +60,11 @@ fn push_got(out: &mut Vec<u8>, got: &(u8, Answer)) -> Result<(), Memory>
 }
 
 // Adds the rows of the first conditions, of operations up to this one, and returns the others.
-fn push_conds_until<'a>(out: &mut Vec<u8>, op: u8, conds: &'a [(u8, bool)]) -> Result<&'a [(u8, bool)], Memory>
+fn push_conds_until<'a>(
+    out: &mut Vec<u8>,
+    op: u8,
+    conds: &'a [(u8, bool)],
+) -> Result<&'a [(u8, bool)], Memory>
     ensures rows { OnOk result (out.new.items ≡ out.old.items ++ rows_text (map cond_row (conds_until op conds.now))) }
     ensures rest { IfOk result (λ rest. rest.now ≡ conds_after op conds.now) }
 {
@@ -86,8 +90,12 @@ fn push_conds(out: &mut Vec<u8>, conds: &[(u8, bool)]) -> Result<(), Memory>
 }
 
 // Adds the rows of conditions and answers, in order of operations.
-#[tactic(auto, using(crate::proofs::Spaces::rows_append))]
-fn push_details(out: &mut Vec<u8>, conds: &[(u8, bool)], gots: &[(u8, Answer)]) -> Result<(), Memory>
+#[tactic(auto, using(crate::proofs::Joins::joins))]
+fn push_details(
+    out: &mut Vec<u8>,
+    conds: &[(u8, bool)],
+    gots: &[(u8, Answer)],
+) -> Result<(), Memory>
     ensures { OnOk result (out.new.items ≡ out.old.items ++ rows_text (detail_rows conds.now gots.now)) }
 {
     let mut rest = conds;

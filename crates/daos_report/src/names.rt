@@ -35,7 +35,12 @@ fn push_obj(out: &mut Vec<u8>, decls: &[ObjDecl], cont: ContId, obj: ObjId) -> R
 }
 
 // Adds a slash and the name of an object, if there is one.
-fn push_obj_part(out: &mut Vec<u8>, decls: &[ObjDecl], cont: ContId, obj: Option<ObjId>) -> Result<(), Memory>
+fn push_obj_part(
+    out: &mut Vec<u8>,
+    decls: &[ObjDecl],
+    cont: ContId,
+    obj: Option<ObjId>,
+) -> Result<(), Memory>
     ensures { OnOk result (out.new.items ≡ out.old.items ++ obj_part decls.now cont obj) }
 {
     if let Some(obj) = obj {

@@ -13,7 +13,13 @@ use daos_base::path::Path;
 use daos_base::script::Script;
 
 // Adds another attempt's access.
-fn push_access(out: &mut Vec<u8>, script: &Script, by: AttemptId, epoch: Epoch, path: &Path) -> Result<(), Memory>
+fn push_access(
+    out: &mut Vec<u8>,
+    script: &Script,
+    by: AttemptId,
+    epoch: Epoch,
+    path: &Path,
+) -> Result<(), Memory>
     ensures { OnOk result (out.new.items ≡ out.old.items ++ spaced (access_words script.now by epoch path.now)) }
 {
     push_attempt_id(out, by)?;
@@ -46,6 +52,7 @@ fn push_floor(out: &mut Vec<u8>, why: FloorWhy) -> Result<(), Memory>
 }
 
 // Adds why an attempt was told to restart.
+#[tactic(auto, using(crate::proofs::Joins::joins))]
 fn push_cause(out: &mut Vec<u8>, script: &Script, cause: &Cause) -> Result<(), Memory>
     ensures { OnOk result (out.new.items ≡ out.old.items ++ spaced (cause_words script.now cause.now)) }
 {

@@ -15,11 +15,11 @@ use daos_base::script::Script;
 use std::alloc::Global;
 
 // Adds the number of targets.
+#[tactic(auto, using(crate::proofs::Joins::joins))]
 fn push_head(out: &mut Vec<u8>, targets: u8) -> Result<(), Memory>
     ensures { OnOk result (out.new.items ≡ out.old.items ++ rows_text (head_row targets ∷ [])) }
 {
-    out.extend_from_slice(b"daos 1")?;
-    push_word(out, b"targets")?;
+    out.extend_from_slice(b"daos 1 targets")?;
     push_number(out, u64::from(targets))?;
     out.push(b'\n')?;
     Ok(())
@@ -37,7 +37,12 @@ fn push_end(out: &mut Vec<u8>, down: Option<TargetId>) -> Result<(), Memory>
 }
 
 // Adds the name of a container and an epoch, and ends the row.
-fn push_cont_epoch(out: &mut Vec<u8>, script: &Script, cont: ContId, epoch: Epoch) -> Result<(), Memory>
+fn push_cont_epoch(
+    out: &mut Vec<u8>,
+    script: &Script,
+    cont: ContId,
+    epoch: Epoch,
+) -> Result<(), Memory>
     ensures { OnOk result (out.new.items ≡ out.old.items ++ 32 ∷ cont_word script.now.conts cont ++ 32 ∷ decimal epoch.0 ++ 10 ∷ []) }
 {
     out.push(b' ')?;
@@ -107,7 +112,7 @@ fn push_line(out: &mut Vec<u8>, script: &Script, line: &Line) -> Result<(), Memo
 }
 
 // Adds lines.
-#[tactic(auto, using(crate::proofs::Spaces::rows_append))]
+#[tactic(auto, using(crate::proofs::Joins::joins))]
 fn push_lines(out: &mut Vec<u8>, script: &Script, lines: &[Line]) -> Result<(), Memory>
     ensures { OnOk result (out.new.items ≡ out.old.items ++ rows_text (flat_map (line_rows script.now) lines.now)) }
 {
@@ -119,7 +124,7 @@ fn push_lines(out: &mut Vec<u8>, script: &Script, lines: &[Line]) -> Result<(), 
 
 /// The text of a report: a row for each line and for what follows it, each ended by byte 10.
 /// Containers, objects and paths have the names of their first declarations in the script.
-#[tactic(auto, using(crate::proofs::Spaces::rows_append), unfolding(crate::specs::Reports::report_text, crate::specs::Reports::report_rows))]
+#[tactic(auto, using(crate::proofs::Joins::joins), unfolding(crate::specs::Reports::report_text, crate::specs::Reports::report_rows))]
 pub fn report_text(alloc: Global, report: &Report, script: &Script) -> Result<Vec<u8>, Memory>
     ensures { IfOk result (λ text. text.items ≡ report_text script.now report.now) }
 {
