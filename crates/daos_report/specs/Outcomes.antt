@@ -1,0 +1,43 @@
+-- How an attempt ended, in words.
+use Rattle.std.specs.Prelude.{ℕ, List, [], ◌∷◌, ◌++◌, Some, codes}
+use Rattle.std.specs.Fmt.{decimal}
+use Rattle.daos_base.specs.declared.epoch.Epoch.{Epoch}
+use Rattle.daos_base.specs.declared.id.AttemptId.{AttemptId}
+use Rattle.daos_base.specs.declared.path.Path.{Path}
+use Rattle.daos_base.specs.declared.outcome.Cause.{Cause}
+use Rattle.daos_base.specs.declared.outcome.Cause.TheVariants as cause
+use Rattle.daos_base.specs.declared.outcome.FloorWhy.{FloorWhy}
+use Rattle.daos_base.specs.declared.outcome.FloorWhy.TheVariants as floor
+use Rattle.daos_base.specs.declared.outcome.Outcome.{Outcome}
+use Rattle.daos_base.specs.declared.outcome.Outcome.TheVariants as outcome
+use Rattle.daos_base.specs.declared.script.Script.{Script}
+use Rattle.daos_text.specs.Rows.{Words}
+use Rattle.daos_report.specs.Names.{path_word}
+use Rattle.daos_report.specs.Words.{attempt_words}
+
+-- another attempt's access: the attempt, its epoch and the path
+abbrev pub access_words : Script → AttemptId → Epoch → Path → Words
+access_words s by epoch path = attempt_words by ++ decimal epoch.0 ∷ path_word s path ∷ []
+
+-- what set a floor
+abbrev pub floor_words : FloorWhy → Words
+floor_words floor.Opening = codes "opening" ∷ []
+floor_words (floor.Restart number) = codes "restart" ∷ decimal number ∷ []
+floor_words (floor.Snapshot epoch) = codes "snapshot" ∷ decimal epoch.0 ∷ []
+floor_words (floor.Aggregate number) = codes "aggregate" ∷ decimal number ∷ []
+
+-- why an attempt was told to restart
+abbrev pub cause_words : Script → Cause → Words
+cause_words s (cause.ReadLater by epoch path) = codes "readlater" ∷ access_words s by epoch path
+cause_words s (cause.WriteLater by epoch path) = codes "writelater" ∷ access_words s by epoch path
+cause_words s (cause.Unresolved by) = codes "unresolved" ∷ attempt_words by
+cause_words s (cause.Floor target epoch why) = codes "floor" ∷ decimal target ∷ decimal epoch.0 ∷ floor_words why
+
+abbrev pub outcome_words : Script → Outcome → Words
+outcome_words s outcome.Committed = codes "committed" ∷ []
+outcome_words s (outcome.CondFailed op) = codes "condfailed" ∷ decimal op ∷ []
+outcome_words s (outcome.Restart why) = codes "restart" ∷ cause_words s why
+outcome_words s (outcome.NoSpace target need free) = codes "nospace" ∷ decimal target ∷ decimal need ∷ decimal free ∷ []
+outcome_words s outcome.EpochsSpent = codes "spent" ∷ []
+outcome_words s outcome.NoSnapshot = codes "nosnap" ∷ []
+outcome_words s (outcome.Unknown target) = codes "unknown" ∷ decimal target ∷ []

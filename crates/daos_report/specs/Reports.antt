@@ -1,0 +1,78 @@
+-- The rows of a report, and its text.
+use Rattle.std.specs.Prelude.{ℕ, Bool, true, false, List, [], ◌∷◌, ◌++◌, map, flat_map, Option, Some, None, nat_le, codes, if◌then◌else◌}
+use Rattle.std.specs.Fmt.{decimal}
+use Rattle.daos_base.specs.declared.answer.Answer.{Answer}
+use Rattle.daos_base.specs.declared.report.Attempt.{Attempt}
+use Rattle.daos_base.specs.declared.report.Line.{Line}
+use Rattle.daos_base.specs.declared.report.Line.TheVariants as line
+use Rattle.daos_base.specs.declared.report.Report.{Report}
+use Rattle.daos_base.specs.declared.script.Script.{Script}
+use Rattle.daos_text.specs.Rows.{Words, rows_text}
+use Rattle.daos_report.specs.Answers.{answer_words}
+use Rattle.daos_report.specs.Names.{cont_word}
+use Rattle.daos_report.specs.Outcomes.{outcome_words}
+use Rattle.daos_report.specs.Words.{attempt_words, epoch_word}
+
+-- ---- the rows of an attempt
+
+-- how an attempt ended
+abbrev pub try_row : Script → Attempt → Words
+try_row s a = codes "try" ∷ attempt_words a.id ++ epoch_word a.epoch ∷ outcome_words s a.outcome
+
+abbrev pub yes_word : Bool → List ℕ
+yes_word true = codes "yes"
+yes_word false = codes "no"
+
+-- whether the path of an operation had a cell
+abbrev pub cond_row : ℕ × Bool → Words
+cond_row cond = codes "cond" ∷ decimal cond.0 ∷ yes_word cond.1 ∷ []
+
+-- what the read of an operation was answered
+abbrev pub got_row : ℕ × Answer → Words
+got_row got = codes "got" ∷ decimal got.0 ∷ answer_words got.1
+
+-- the first conditions, of operations up to this one
+abbrev pub conds_until : ℕ → List (ℕ × Bool) → List (ℕ × Bool)
+conds_until op [] = []
+conds_until op (cond ∷ conds) = if nat_le cond.0 op then cond ∷ conds_until op conds else []
+
+-- the conditions behind those
+abbrev pub conds_after : ℕ → List (ℕ × Bool) → List (ℕ × Bool)
+conds_after op [] = []
+conds_after op (cond ∷ conds) = if nat_le cond.0 op then conds_after op conds else cond ∷ conds
+
+-- conditions and answers in order of operations, a condition before the answer of the same operation
+abbrev pub detail_rows : List (ℕ × Bool) → List (ℕ × Answer) → List Words
+detail_rows conds [] = map cond_row conds
+detail_rows conds (got ∷ gots) = map cond_row (conds_until got.0 conds) ++ got_row got ∷ detail_rows (conds_after got.0 conds) gots
+
+abbrev pub attempt_rows : Script → Attempt → List Words
+attempt_rows s a = try_row s a ∷ detail_rows a.conds a.gots
+
+-- ---- the rows of a report
+
+abbrev pub line_rows : Script → Line → List Words
+line_rows s (line.Try attempt) = attempt_rows s attempt
+line_rows s (line.Stop number target) = (codes "stop" ∷ decimal number ∷ decimal target ∷ []) ∷ []
+line_rows s (line.Restart number target incarnation floor) = (codes "restart" ∷ decimal number ∷ decimal target ∷ decimal incarnation ∷ decimal floor.0 ∷ []) ∷ []
+line_rows s (line.Freeze target cont epoch) = (codes "freeze" ∷ decimal target ∷ cont_word s.conts cont ∷ decimal epoch.0 ∷ []) ∷ []
+line_rows s (line.Snapshot name cont epoch) = (codes "snapshot" ∷ name ∷ cont_word s.conts cont ∷ decimal epoch.0 ∷ []) ∷ []
+line_rows s (line.Aggregate number target cont upto) = (codes "aggregate" ∷ decimal number ∷ decimal target ∷ cont_word s.conts cont ∷ decimal upto.0 ∷ []) ∷ []
+line_rows s (line.Down target) = (codes "down" ∷ decimal target ∷ []) ∷ []
+
+-- the number of targets
+abbrev pub head_row : ℕ → Words
+head_row targets = codes "daos" ∷ codes "1" ∷ codes "targets" ∷ decimal targets ∷ []
+
+-- whether a target is down
+abbrev pub end_row : Option ℕ → Words
+end_row None = codes "end" ∷ codes "0" ∷ []
+end_row (Some target) = codes "end" ∷ codes "8" ∷ []
+
+-- the number of targets, then each line, then the end
+unfoldable pub report_rows : Script → Report → List Words
+report_rows s q = head_row q.targets ∷ flat_map (line_rows s) q.lines ++ end_row q.down ∷ []
+
+-- the text of a report, in which a script's names stand for containers and objects
+unfoldable pub report_text : Script → Report → List ℕ
+report_text s q = rows_text (report_rows s q)

@@ -1,0 +1,10 @@
+// The text of a report: a row for each line, its words apart by single spaces.
+#![tactic(auto)]
+
+mod answers;
+mod attempts;
+mod names;
+mod outcomes;
+pub mod text;
+mod values;
+mod words;
