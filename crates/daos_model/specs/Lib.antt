@@ -7,3 +7,4 @@ pub mod TookEffect
 pub mod ReadsLegal
 pub mod OutcomesLegal
 pub mod Headline
+pub mod Laws

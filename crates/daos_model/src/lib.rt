@@ -4,5 +4,6 @@
 pub mod answers;
 pub mod cell;
 pub mod effect;
+pub mod laws;
 pub mod map;
 pub mod stand;
