@@ -1,16 +1,15 @@
 -- What holds of every list of transactions: runs and their proofs stand on it.
-use Rattle.std.specs.Prelude.{ℕ, suc, ◌+◌, ◌≡◌, ◌≤◌, ◌<◌, ◌++◌, Bool, true, false, nat_lt, nat_le, List, [], ◌∷◌, length, slice_index, map, All, if◌then◌else◌, refl}
+use Rattle.std.specs.Prelude.{ℕ, suc, ◌+◌, ◌≡◌, ◌≤◌, ◌<◌, ◌++◌, true, false, nat_lt, nat_le, List, [], ◌∷◌, slice_index, All, if◌then◌else◌, refl}
 use Rattle.std.specs.List.Sorted.{IsStrictlyIncreasing}
-use Rattle.std.proofs.Common.{subst, sym, ◌∙◌, ap, append_assoc, append-nil, arith}
+use Rattle.std.proofs.Common.{subst, sym, ◌∙◌, ap, append_assoc, arith}
 use Rattle.std.proofs.lemmas.Bool.Decides.{nat_tests}
-use Rattle.daos_base.specs.declared.operation.Write.{Write}
 use Rattle.daos_base.specs.declared.report.Line.{Line}
 use Rattle.daos_base.specs.declared.script.Script.{Script}
 use Rattle.daos_model.specs.declared.cell.CellValue.{CellValue}
 use Rattle.daos_model.specs.declared.stand.Stand.{Stand}
 use Rattle.daos_model.specs.declared.stand.Taken.{Taken}
-use Rattle.daos_model.specs.AsOf.{as_of, below, in_order, put_in, run_all, taken_epoch, taken_epochs}
-use Rattle.daos_model.specs.Effect.{effect, effects}
+use Rattle.daos_model.specs.AsOf.{as_of, below, in_order, put_in, run_all, taken_epochs}
+use Rattle.daos_model.specs.Effect.{effects}
 use Rattle.daos_model.specs.TookEffect.{took, taken_by}
 
 -- a transaction at or above an epoch changes nothing as of it, in whatever order the others stand

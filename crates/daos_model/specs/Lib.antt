@@ -8,3 +8,4 @@ pub mod ReadsLegal
 pub mod OutcomesLegal
 pub mod Headline
 pub mod Laws
+pub mod Turns

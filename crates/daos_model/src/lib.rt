@@ -2,6 +2,7 @@
 #![tactic(auto)]
 
 pub mod answers;
+pub mod as_of;
 pub mod cell;
 pub mod effect;
 pub mod laws;
