@@ -1,2 +1,3 @@
 pub mod Punched
 pub mod Lookups
+pub mod TurnSteps

@@ -1,10 +1,11 @@
 -- What a write makes of a map: an update sets its cells, a punch removes every cell under its path, and all other cells stay.
-use Rattle.std.specs.Prelude.{ℕ, ◌+◌, ◌^◌, ◌<◌, Bool, not, List, [], ◌∷◌, ◌++◌, length, if◌then◌else◌}
+use Rattle.std.specs.Prelude.{ℕ, ◌+◌, ◌^◌, ◌<◌, Bool, not, List, [], ◌∷◌, ◌++◌, length, All, if◌then◌else◌}
 use Rattle.daos_base.specs.Paths.{leads_to}
 use Rattle.daos_base.specs.declared.path.Path.{Path}
 use Rattle.daos_base.specs.declared.operation.Write.{Write}
 use Rattle.daos_base.specs.declared.operation.Write.TheVariants.{Single, Extent, PunchObject, PunchDkey, PunchAkey}
 use Rattle.daos_model.specs.declared.cell.CellValue.{CellValue}
+use Rattle.daos_model.specs.declared.stand.Taken.{Taken}
 use Rattle.daos_model.specs.Cells.{single_cell, index_cell}
 
 -- an index of an array with its byte
@@ -39,6 +40,14 @@ EndsInArray (Extent p low bytes) = low + length bytes < 2 ^ 32
 EndsInArray (PunchObject p) = Unit {0}
 EndsInArray (PunchDkey p) = Unit {0}
 EndsInArray (PunchAkey p) = Unit {0}
+
+-- of each write of a transaction
+abbrev pub WritesEndInArrays : Taken → Type 0
+WritesEndInArrays t = All EndsInArray t.writes
+
+-- of each write of each transaction
+abbrev pub AllEndInArrays : List Taken → Type 0
+AllEndInArrays T = All WritesEndInArrays T
 
 -- what writes make of a map, one after another
 abbrev pub effects : List Write → List CellValue → List CellValue

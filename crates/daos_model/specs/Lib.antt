@@ -7,3 +7,5 @@ pub mod TookEffect
 pub mod ReadsLegal
 pub mod OutcomesLegal
 pub mod Headline
+pub mod Laws
+pub mod Turns

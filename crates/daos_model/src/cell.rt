@@ -1,8 +1,8 @@
 // Cells, the smallest things that hold bytes.
-ghost use Rattle.std.specs.Prelude.{◌≡◌};
+ghost use Rattle.std.specs.Prelude.{◌≡◌, IfOk};
 ghost use Rattle.daos_model.specs.Cells.{index_cell, same_cell, single_cell};
 
-use daos_base::items::Vec8;
+use daos_base::items::{Memory, Vec8};
 use daos_base::path::Path;
 
 /// A cell: the single value of an akey, or one index of its array. Its path ends at the akey.
@@ -19,7 +19,29 @@ pub struct CellValue {
     pub bytes: Vec8,
 }
 
+impl CellValue {
+    /// The same cell and bytes again.
+    pub fn copy(&self) -> Result<CellValue, Memory>
+        ensures { IfOk result (λ value. value ≡ self.now) }
+    {
+        Ok(CellValue {
+            cell: self.cell.copy()?,
+            bytes: self.bytes.copy()?,
+        })
+    }
+}
+
 impl Cell {
+    /// The same cell again.
+    pub fn copy(&self) -> Result<Cell, Memory>
+        ensures { IfOk result (λ cell. cell ≡ self.now) }
+    {
+        Ok(Cell {
+            path: self.path.copy()?,
+            index: self.index,
+        })
+    }
+
     /// The cell of an akey's single value.
     pub fn single(path: Path) -> Cell
         ensures { result ≡ single_cell path }

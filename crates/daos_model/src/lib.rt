@@ -2,7 +2,9 @@
 #![tactic(auto)]
 
 pub mod answers;
+pub mod as_of;
 pub mod cell;
 pub mod effect;
+pub mod laws;
 pub mod map;
 pub mod stand;

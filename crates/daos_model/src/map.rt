@@ -1,5 +1,5 @@
 // A map from cells to bytes.
-ghost use Rattle.std.specs.Prelude.{◌≡◌, [], ◌∷◌, ◌++◌, filter, find, reverse, OnOk, OnErr};
+ghost use Rattle.std.specs.Prelude.{◌≡◌, [], ◌∷◌, ◌++◌, filter, find, reverse, IfOk, OnOk, OnErr};
 ghost use Rattle.std.specs.List.{list_any};
 ghost use Rattle.std.specs.Option.{option_copied, option_map};
 ghost use Rattle.daos_model.specs.Answers.{has_cell_below, is_under};
@@ -36,6 +36,15 @@ impl Map {
         Map {
             newest_last: Vec::new(alloc),
         }
+    }
+
+    /// The same map again.
+    pub fn copy(&self, alloc: Global) -> Result<Map, Memory>
+        ensures { IfOk result (λ map. map ≡ self.now) }
+    {
+        Ok(Map {
+            newest_last: copy_values(alloc, self.newest_last.as_slice())?,
+        })
     }
 
     /// The cells with their bytes, of which the last of a cell counts.
@@ -88,6 +97,17 @@ impl Map {
     {
         keep_outside(&mut self.newest_last, path);
     }
+}
+
+// The same values again.
+fn copy_values(alloc: Global, values: &[CellValue]) -> Result<Vec<CellValue>, Memory>
+    ensures { IfOk result (λ copied. copied.items ≡ values.now) }
+{
+    let mut copied = Vec::new(alloc);
+    for value in values {
+        copied.push(value.copy()?)?;
+    }
+    Ok(copied)
 }
 
 // The last value of a cell.
