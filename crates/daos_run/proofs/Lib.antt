@@ -2,6 +2,5 @@ pub mod Lists
 pub mod Commands
 pub mod Answers
 pub mod Epochs
-pub mod AsOfEpochs
 pub mod SoFar
 pub mod Steps

@@ -2,6 +2,7 @@
 use Rattle.std.proofs.Common.{◌≡◌, ℕ, ◌+◌, ◌*◌, ◌/◌, ◌^◌, ◌<◌, ◌≤◌, List, [], ◌∷◌, ◌++◌, length, length-append, map, Some, sym, ap, subst, ◌∙◌, append_assoc, append-nil, refl, arith}
 use Rattle.std.specs.Prelude.{All}
 use Rattle.std.specs.List.{AllByRecursion}
+use Rattle.std.specs.List.Sorted.{IsStrictlyIncreasing}
 use Rattle.std.proofs.lemmas.List.Elements.{All-from_recursion}
 use Rattle.std.proofs.lemmas.List.{map-append}
 use Rattle.daos_base.specs.declared.answer.Answer.{Answer}
@@ -14,7 +15,8 @@ use Rattle.daos_base.specs.declared.report.Line.TheVariants as line
 use Rattle.daos_base.specs.declared.script.Script.{Script}
 use Rattle.daos_model.specs.declared.cell.CellValue.{CellValue}
 use Rattle.daos_model.specs.declared.stand.Taken.{Taken}
-use Rattle.daos_model.specs.AsOf.{as_of, empty_stand, run_all}
+use Rattle.daos_model.specs.AsOf.{as_of, empty_stand, run_all, taken_epoch, taken_epochs}
+use Rattle.daos_model.specs.Laws.{as_of-later, as_of-rising, run_all-append, took-append}
 use Rattle.daos_model.specs.Effect.{effects}
 use Rattle.daos_model.specs.OutcomesLegal.{EachAt, first_list, IsOnlyAttempt, IsOnlyAttemptLine, IsIssuedByZero, epochs_of, line_epoch, option_epoch}
 use Rattle.daos_model.specs.ReadsLegal.{AttemptReadsLegal, IsRightAnswer, LineReadsLegal}
@@ -27,7 +29,6 @@ use Rattle.daos_run.specs.Runs.{IsRunOf}
 use Rattle.daos_run.proofs.Commands.{lone-is}
 use Rattle.daos_run.proofs.Lists.{EachAt-nil, EachAt-push, increasing-from_Rises, recursion-append, recursion-map, Rises, Rises-push}
 use Rattle.daos_run.proofs.Answers.{all_told-numbers, all_told-right}
-use Rattle.daos_run.proofs.AsOfEpochs.{as_of-all, as_of-later, epoch_number}
 use Rattle.daos_run.proofs.Epochs.{AreIssued-push, ticks_after-push, tracker_after-push, issued-rises, issued-bound, ticks-of_epoch}
 
 -- the first n commands ran: their lines, the map that they left, and the ticks and the tracker after them
@@ -42,7 +43,7 @@ pub record SoFar (s : Script) (n ticks tracker : ℕ) (lines : List Line) (now :
   pub rising : Rises (epochs_of lines)
   pub upto : AllByRecursion (λ e. e ≤ ticks * 256) (epochs_of lines)
   pub above : AllByRecursion IsIssuedByZero (epochs_of lines)
-  pub taken : map epoch_number (took s lines) ≡ epochs_of lines
+  pub taken : taken_epochs (took s lines) ≡ epochs_of lines
   pub reads : AllByRecursion (LineReadsLegal s empty_stand (took s lines)) lines
   pub state : now ≡ run_all (took s lines) []
 
@@ -70,14 +71,9 @@ epochs_of-append : (xs : List Line) (y : Line) → epochs_of (xs ++ y ∷ []) �
 epochs_of-append [] y = append-nil (line_epoch y)
 epochs_of-append (x ∷ xs) y = ap (λ es. line_epoch x ++ es) (epochs_of-append xs y) ∙ sym (append_assoc (line_epoch x) (epochs_of xs) (line_epoch y))
 
-took-push : (s : Script) (xs : List Line) (y : Line) → took s (xs ++ y ∷ []) ≡ took s xs ++ taken_by s y
+took-lone : (s : Script) (l : Line) → took s (l ∷ []) ≡ taken_by s l
 unfolding took
-took-push s [] y = append-nil (taken_by s y)
-took-push s (x ∷ xs) y = ap (λ ts. taken_by s x ++ ts) (took-push s xs y) ∙ sym (append_assoc (taken_by s x) (took s xs) (taken_by s y))
-
-run_all-push : (ts : List Taken) (t : Taken) (m : List CellValue) → run_all (ts ++ t ∷ []) m ≡ effects t.writes (run_all ts m)
-run_all-push [] t m = refl
-run_all-push (u ∷ ts) t m = run_all-push ts t (effects u.writes m)
+took-lone s l = append-nil (taken_by s l)
 
 -- the attempt that a command made: its clauses, over the operations of its command
 pub record IsAttemptAt (s : Script) (n : ℕ) (e : Epoch) (ops : List Op) (before : List CellValue) (a : Attempt) : Type 0 where
@@ -155,13 +151,13 @@ one_more s n ticks tracker reading later lines now after ops a h is made effect 
     let low : later ≤ 2 ^ 55 + (n + 1) = rw is (issued-bound ticks reading tracker n h.low h.heard) in
     let higher : ticks * 256 < later * 256 = omega arith in
     let epochs : epochs_of (lines ++ line.Try a ∷ []) ≡ epochs_of lines ++ later * 256 ∷ [] = epochs_of-append lines (line.Try a) ∙ ap (λ es. epochs_of lines ++ es) (epoch-of_attempt s n (record { 0 = later * 256 }) ops now a made) in
-    let taken : took s (lines ++ line.Try a ∷ []) ≡ took s lines ++ record { epoch = record { 0 = later * 256 }; writes = writes_of ops } ∷ [] = took-push s lines (line.Try a) ∙ ap (λ ts. took s lines ++ ts) (taken-of_attempt s n (record { 0 = later * 256 }) ops now a made) in
+    let taken : took s (lines ++ line.Try a ∷ []) ≡ took s lines ++ record { epoch = record { 0 = later * 256 }; writes = writes_of ops } ∷ [] = took-append s lines (line.Try a ∷ []) ∙ ap (λ ts. took s lines ++ ts) (took-lone s (line.Try a)) ∙ ap (λ ts. took s lines ++ ts) (taken-of_attempt s n (record { 0 = later * 256 }) ops now a made) in
     let earlier : AllByRecursion (λ x. x ≤ later * 256) (epochs_of lines) = recursion-map (λ x. x ≤ ticks * 256) (λ x. x ≤ later * 256) (epochs_of lines) (λ x le. omega arith) h.upto in
     let t : Taken = record { epoch = record { 0 = later * 256 }; writes = writes_of ops } in
     let T = took s lines in
-    let rising' : Rises (map epoch_number T) = subst Rises (sym h.taken) h.rising in
-    let upto' : AllByRecursion (λ x. x ≤ ticks * 256) (map epoch_number T) = subst (AllByRecursion (λ x. x ≤ ticks * 256)) (sym h.taken) h.upto in
-    let as_of-now : as_of empty_stand (T ++ t ∷ []) (later * 256) ≡ now = as_of-later empty_stand T t (later * 256) (omega arith) ∙ as_of-all empty_stand T (ticks * 256) (later * 256) rising' upto' higher ∙ sym h.state in
+    let lower : All (λ x. x < later * 256) (epochs_of lines) = All-from_recursion (λ x. x < later * 256) (epochs_of lines) (recursion-map (λ x. x ≤ ticks * 256) (λ x. x < later * 256) (epochs_of lines) (λ x le. omega arith) h.upto) in
+    let in_turn : as_of empty_stand T (later * 256) ≡ run_all T [] = as_of-rising empty_stand T (later * 256) (subst IsStrictlyIncreasing (sym h.taken) (increasing-from_Rises (epochs_of lines) h.rising)) (subst (All (λ x. x < later * 256)) (sym h.taken) lower) in
+    let as_of-now : as_of empty_stand (T ++ t ∷ []) (later * 256) ≡ now = as_of-later empty_stand T t (later * 256) (omega arith) ∙ in_turn ∙ sym h.state in
     record {
       count = length-append lines (line.Try a ∷ []) ∙ ap (λ k. k + 1) h.count;
       low = low;
@@ -173,11 +169,11 @@ one_more s n ticks tracker reading later lines now after ops a h is made effect 
       rising = subst Rises (sym epochs) (Rises-push (epochs_of lines) (ticks * 256) (later * 256) h.rising h.upto higher);
       upto = subst (AllByRecursion (λ e. e ≤ later * 256)) (sym epochs) (recursion-append (λ e. e ≤ later * 256) (epochs_of lines) (later * 256 ∷ []) earlier (omega arith, tt));
       above = subst (AllByRecursion IsIssuedByZero) (sym epochs) (recursion-append IsIssuedByZero (epochs_of lines) (later * 256 ∷ []) h.above ((omega arith, omega arith), tt));
-      taken = ap (map epoch_number) taken ∙ map-append epoch_number T (t ∷ []) ∙ ap (λ es. es ++ later * 256 ∷ []) h.taken ∙ sym epochs;
+      taken = ap taken_epochs taken ∙ map-append taken_epoch T (t ∷ []) ∙ ap (λ es. es ++ later * 256 ∷ []) h.taken ∙ sym epochs;
       reads = subst (λ ts. AllByRecursion (LineReadsLegal s empty_stand ts) (lines ++ line.Try a ∷ [])) (sym taken)
           (recursion-append (LineReadsLegal s empty_stand (T ++ t ∷ [])) lines (line.Try a ∷ []) (lines-later s T t lines earlier h.reads)
           (reads-of_attempt s n (record { 0 = later * 256 }) ops now a made (T ++ t ∷ []) as_of-now, tt));
-      state = effect ∙ ap (effects (writes_of ops)) h.state ∙ sym (run_all-push T t []) ∙ ap (λ ts. run_all ts []) (sym taken);
+      state = effect ∙ ap (effects (writes_of ops)) h.state ∙ sym (run_all-append T (t ∷ []) []) ∙ ap (λ ts. run_all ts []) (sym taken);
     }
 
 -- all commands ran
