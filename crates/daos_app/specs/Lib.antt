@@ -1,3 +1,3 @@
 pub mod Statuses
 pub mod Words
-pub mod Daos
+pub mod Answers

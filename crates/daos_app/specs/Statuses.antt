@@ -1,6 +1,8 @@
 -- What is told of a status.
 use Rattle.std.specs.Prelude.{ℕ, ◌++◌, List, [], codes}
 use Rattle.std.specs.Fmt.{decimal}
+use Rattle.daos_base.specs.declared.fault.ScriptFault.{ScriptFault}
+use Rattle.daos_base.specs.declared.fault.WordFault.{WordFault}
 use Rattle.daos_base.specs.declared.fault.Why.{Why}
 use Rattle.daos_base.specs.declared.fault.Why.TheVariants as why
 use Rattle.daos_base.specs.declared.fault.WordKind.{WordKind}
@@ -47,20 +49,38 @@ part_text part.Bytes = codes "bytes"
 part_text part.Targets = codes "targets"
 part_text part.Containers = codes "containers"
 
+-- what is told of each status with parts
+abbrev pub words_text : WordFault → List ℕ
+words_text fault = codes "daos: word " ++ decimal fault.place ++ codes ": " ++ kind_text fault.kind
+
+abbrev pub script_text : ScriptFault → List ℕ
+script_text fault = codes "daos: script line " ++ decimal fault.line ++ codes ": " ++ why_text fault.why
+
+abbrev pub rack_text : ℕ → List ℕ
+rack_text target = codes "daos: target " ++ decimal target ++ codes ": rack fault"
+
+abbrev pub foreign_text : ℕ → ℕ → ℕ → List ℕ
+foreign_text target at byte = codes "daos: target " ++ decimal target ++ codes ": byte " ++ decimal byte ++ codes " at " ++ decimal at ++ codes " is foreign"
+
+abbrev pub down_text : ℕ → List ℕ
+down_text target = codes "daos: target " ++ decimal target ++ codes " is down"
+
+abbrev pub shape_text : ℕ → Part → ℕ → ℕ → List ℕ
+shape_text target what found asked =
+    codes "daos: target " ++ decimal target ++ codes ": made for " ++ decimal found ++ codes " " ++ part_text what ++ codes ", asked for " ++ decimal asked
+
 -- the text of a status, without a line end; none where all went well
 abbrev pub status_text : Status → List ℕ
 status_text status.Done = []
-status_text (status.Words fault) = codes "daos: word " ++ decimal fault.place ++ codes ": " ++ kind_text fault.kind
-status_text (status.Script fault) = codes "daos: script line " ++ decimal fault.line ++ codes ": " ++ why_text fault.why
+status_text (status.Words fault) = words_text fault
+status_text (status.Script fault) = script_text fault
 status_text status.ReadFault = codes "daos: read fault"
 status_text status.WriteFault = codes "daos: write fault"
-status_text (status.RackFault target) = codes "daos: target " ++ decimal target ++ codes ": rack fault"
-status_text (status.Foreign target at byte) =
-    codes "daos: target " ++ decimal target ++ codes ": byte " ++ decimal byte ++ codes " at " ++ decimal at ++ codes " is foreign"
+status_text (status.RackFault target) = rack_text target
+status_text (status.Foreign target at byte) = foreign_text target at byte
 status_text status.Memory = codes "daos: out of memory"
-status_text (status.Down target) = codes "daos: target " ++ decimal target ++ codes " is down"
-status_text (status.Shape target what found asked) =
-    codes "daos: target " ++ decimal target ++ codes ": made for " ++ decimal found ++ codes " " ++ part_text what ++ codes ", asked for " ++ decimal asked
+status_text (status.Down target) = down_text target
+status_text (status.Shape target what found asked) = shape_text target what found asked
 
 -- the number with which the program ends
 abbrev pub status_number : Status → ℕ

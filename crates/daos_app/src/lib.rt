@@ -2,6 +2,8 @@
 #![tactic(auto)]
 
 pub mod daos;
+pub mod input;
+pub mod output;
 pub mod status;
 pub mod words;
 

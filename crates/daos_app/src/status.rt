@@ -1,6 +1,6 @@
 // How the program ends, and what it tells of that.
 ghost use Rattle.std.specs.Prelude.{◌≡◌, IfOk, string_bytes};
-ghost use Rattle.daos_app.specs.Statuses.{kind_text, part_text, status_number, status_text, why_text};
+ghost use Rattle.daos_app.specs.Statuses.{down_text, foreign_text, kind_text, part_text, rack_text, script_text, shape_text, status_number, status_text, why_text, words_text};
 
 use daos_base::epoch::TargetId;
 use daos_base::fault::{ScriptFault, Why, WordFault, WordKind};
@@ -114,37 +114,77 @@ fn part_text(part: Part) -> &'static str
     }
 }
 
+// What is told of a word with a fault.
+fn words_text(alloc: Global, fault: WordFault) -> Result<String, Memory>
+    ensures { IfOk result (λ text. string_bytes text ≡ words_text fault) }
+{
+    let (place, kind) = (fault.place, kind_text(fault.kind));
+    format!(in alloc; "daos: word {place}: {kind}")
+}
+
+// What is told of a line with a fault.
+fn script_text(alloc: Global, fault: ScriptFault) -> Result<String, Memory>
+    ensures { IfOk result (λ text. string_bytes text ≡ script_text fault) }
+{
+    let (line, why) = (fault.line, why_text(alloc, fault.why)?);
+    format!(in alloc; "daos: script line {line}: {why}")
+}
+
+// What is told of a target whose region couldn't be had.
+fn rack_text(alloc: Global, target: TargetId) -> Result<String, Memory>
+    ensures { IfOk result (λ text. string_bytes text ≡ rack_text target) }
+{
+    format!(in alloc; "daos: target {target}: rack fault")
+}
+
+// What is told of a foreign byte.
+fn foreign_text(alloc: Global, target: TargetId, at: u64, byte: u8) -> Result<String, Memory>
+    ensures { IfOk result (λ text. string_bytes text ≡ foreign_text target at byte) }
+{
+    format!(in alloc; "daos: target {target}: byte {byte} at {at} is foreign")
+}
+
+// What is told of a target that is down.
+fn down_text(alloc: Global, target: TargetId) -> Result<String, Memory>
+    ensures { IfOk result (λ text. string_bytes text ≡ down_text target) }
+{
+    format!(in alloc; "daos: target {target} is down")
+}
+
+// What is told of a region of another shape.
+fn shape_text(
+    alloc: Global,
+    target: TargetId,
+    what: Part,
+    found: u64,
+    asked: u64,
+) -> Result<String, Memory>
+    ensures { IfOk result (λ text. string_bytes text ≡ shape_text target what found asked) }
+{
+    let what = part_text(what);
+    format!(in alloc; "daos: target {target}: made for {found} {what}, asked for {asked}")
+}
+
 /// What is told of a status, without a line end: nothing where the run ended and no target is
 /// down.
 pub fn status_text(alloc: Global, status: &Status) -> Result<String, Memory>
     ensures { IfOk result (λ text. string_bytes text ≡ status_text status.now) }
 {
-    match *status {
+    match status {
         Status::Done => Ok(String::new(alloc)),
-        Status::Words(fault) => {
-            let (place, kind) = (fault.place, kind_text(fault.kind));
-            format!(in alloc; "daos: word {place}: {kind}")
-        }
-        Status::Script(fault) => {
-            let (line, why) = (fault.line, why_text(alloc, fault.why)?);
-            format!(in alloc; "daos: script line {line}: {why}")
-        }
+        Status::Words(fault) => words_text(alloc, *fault),
+        Status::Script(fault) => script_text(alloc, *fault),
         Status::ReadFault => String::from_str(alloc, "daos: read fault"),
         Status::WriteFault => String::from_str(alloc, "daos: write fault"),
-        Status::RackFault { target } => format!(in alloc; "daos: target {target}: rack fault"),
-        Status::Foreign { target, at, byte } => {
-            format!(in alloc; "daos: target {target}: byte {byte} at {at} is foreign")
-        }
+        Status::RackFault { target } => rack_text(alloc, *target),
+        Status::Foreign { target, at, byte } => foreign_text(alloc, *target, *at, *byte),
         Status::Memory => String::from_str(alloc, "daos: out of memory"),
-        Status::Down { target } => format!(in alloc; "daos: target {target} is down"),
+        Status::Down { target } => down_text(alloc, *target),
         Status::Shape {
             target,
             what,
             found,
             asked,
-        } => {
-            let what = part_text(what);
-            format!(in alloc; "daos: target {target}: made for {found} {what}, asked for {asked}")
-        }
+        } => shape_text(alloc, *target, *what, *found, *asked),
     }
 }

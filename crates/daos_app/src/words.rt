@@ -1,8 +1,15 @@
 // Reads the words of the command line.
-ghost use Rattle.std.specs.Prelude.{◌≡◌, map, MatchOption, string_bytes};
+ghost use Rattle.std.specs.Prelude.{◌≡◌, ◌↔◌, IsTrue, map, MatchOption, string_bytes};
 ghost use Rattle.daos_app.specs.Words.{AreRunWords, lone_job};
 
 use daos_base::job::Job;
+
+// Whether a word is this text.
+fn is_word(word: &String, text: &str) -> bool
+    ensures { IsTrue result ↔ (string_bytes word.now ≡ text.now) }
+{
+    word.as_str() == text
+}
 
 /// The job of the words `run --targets 1`, the only ones that the program takes so far.
 pub fn job_of(words: &[String]) -> Option<Job>
@@ -11,7 +18,7 @@ pub fn job_of(words: &[String]) -> Option<Job>
     let [job, option, value] = words else {
         return None;
     };
-    if job.as_str() != "run" || option.as_str() != "--targets" || value.as_str() != "1" {
+    if !is_word(job, "run") || !is_word(option, "--targets") || !is_word(value, "1") {
         return None;
     }
     Some(Job {

@@ -1,0 +1,76 @@
+-- What the program's answers stand for.
+use Rattle.std.specs.Prelude.{ℕ, ◌≡◌, List, length, Option, ◌⊎◌}
+use Rattle.std.specs.Io.KnownBytes.{Consumes, IsAtEnd}
+use Rattle.daos_base.specs.declared.fault.ScriptFault.{ScriptFault}
+use Rattle.daos_base.specs.declared.fault.Why.TheVariants as why
+use Rattle.daos_base.specs.declared.fault.WordFault.{WordFault}
+use Rattle.daos_base.specs.declared.fault.WordKind.TheVariants as kind
+use Rattle.daos_base.specs.declared.report.Report.{Report}
+use Rattle.daos_base.specs.declared.script.Script.{Script}
+use Rattle.daos_model.specs.AsOf.{empty_stand}
+use Rattle.daos_model.specs.Headline.{Headline}
+use Rattle.daos_model.specs.OutcomesLegal.{epochs_of}
+use Rattle.daos_report.specs.Report.{report_text}
+use Rattle.daos_run.specs.Issue.{AreIssued}
+use Rattle.daos_script.specs.Grammar.{IsScriptText}
+use Rattle.daos_app.specs.declared.status.Status.{Status}
+use Rattle.daos_app.specs.declared.status.Status.TheVariants as status
+
+-- the bytes read, to the source's end, are a text of the script
+pub record IsRead (left left_now : Option (List ℕ)) (script : Script) : Type 0 where
+  pub bytes : List ℕ
+  pub consumed : Consumes left left_now bytes
+  pub at_end : IsAtEnd left_now
+  pub grammar : IsScriptText 1 bytes script
+
+-- the bytes read are more than 16 MiB, or are all that there were and no text of a script
+pub record IsRefused (left left_now : Option (List ℕ)) : Type 0 where
+  pub bytes : List ℕ
+  pub consumed : Consumes left left_now bytes
+  pub no_script : (length bytes ≡ 16777217) ⊎ (IsAtEnd left_now × ((script : Script) → IsScriptText 1 bytes script → ⊥))
+
+-- the report of a run of the script, by the headline, whose epochs were issued one after another; and its text
+pub record IsReported (script : Script) (text : List ℕ) : Type 0 where
+  pub report : Report
+  pub headline : Headline script empty_stand report
+  pub issued : AreIssued 0 255 (epochs_of report.lines)
+  pub told : text ≡ report_text script report
+
+-- what a run tells of the bytes that were read: the text of one report of a run of their script
+pub record IsRun (left left_now : Option (List ℕ)) (text : List ℕ) : Type 0 where
+  pub script : Script
+  pub read : IsRead left left_now script
+  pub reported : IsReported script text
+
+-- the answers to words and scripts that the program doesn't run yet
+abbrev pub words_not_yet : Status
+words_not_yet = status.Words (record { place = 0; kind = kind.NotYet })
+
+abbrev pub script_not_yet : Status
+script_not_yet = status.Script (record { line = 0; why = why.NotYet })
+
+-- the answers that the program gives so far
+abbrev pub IsAnswerYet : Status → Type 0
+IsAnswerYet status.Done = Unit {0}
+IsAnswerYet (status.Words fault) = status.Words fault ≡ words_not_yet
+IsAnswerYet (status.Script fault) = status.Script fault ≡ script_not_yet
+IsAnswerYet status.ReadFault = Unit {0}
+IsAnswerYet status.WriteFault = Unit {0}
+IsAnswerYet (status.RackFault target) = ⊥
+IsAnswerYet (status.Foreign target at byte) = ⊥
+IsAnswerYet status.Memory = Unit {0}
+IsAnswerYet (status.Down target) = ⊥
+IsAnswerYet (status.Shape target what found asked) = ⊥
+
+-- the answers before a run: no region was asked for
+abbrev pub IsUnrun : Status → Type 0
+IsUnrun status.Done = ⊥
+IsUnrun (status.Words fault) = Unit {0}
+IsUnrun (status.Script fault) = Unit {0}
+IsUnrun status.ReadFault = Unit {0}
+IsUnrun status.WriteFault = ⊥
+IsUnrun (status.RackFault target) = ⊥
+IsUnrun (status.Foreign target at byte) = ⊥
+IsUnrun status.Memory = ⊥
+IsUnrun (status.Down target) = ⊥
+IsUnrun (status.Shape target what found asked) = ⊥

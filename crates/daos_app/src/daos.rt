@@ -1,0 +1,84 @@
+// The top call.
+ghost use Rattle.std.specs.Prelude.{◌≡◌, ◌≢◌, ◌≤◌, ◌↔◌, ◌⊎◌, ℕ, List, map, string_bytes};
+ghost use Rattle.std.specs.Io.KnownBytes.{Appends};
+ghost use Rattle.daos_outside.specs.Causes.{Rose};
+ghost use Rattle.daos_outside.specs.Transfers.{AppendsPrefix};
+ghost use Rattle.daos_app.specs.Answers.{IsAnswerYet, IsRefused, IsRun, IsUnrun, script_not_yet, words_not_yet};
+ghost use Rattle.daos_app.specs.Words.{AreRunWords};
+
+use crate::input::{InputNo, read_input};
+use crate::output::{run_text, write_text};
+use crate::status::Status;
+use crate::words::job_of;
+use daos_base::fault::{ScriptFault, Why, WordFault, WordKind};
+use daos_outside::gate::Gate;
+use daos_outside::rack::Rack;
+use daos_outside::sink::Sink;
+use daos_outside::source::Source;
+use std::alloc::Global;
+use std::sync::Wait;
+use std::thread::Threads;
+
+const WORDS_NOT_YET: Status = Status::Words(WordFault {
+    place: 0,
+    kind: WordKind::NotYet,
+});
+
+const SCRIPT_NOT_YET: Status = Status::Script(ScriptFault {
+    line: 0,
+    why: Why::NotYet,
+});
+
+/// Does all that the program does: reads the words, then the script from the source, runs it, and
+/// writes its report to the sink.
+///
+/// Of two refusals that both hold the words' comes first, then a fault of the source, then the
+/// script's, then a fault of the sink. Want of memory may come at any place.
+pub fn run_daos<R: Threads + Wait + Sync, S: Source, K: Sink, B: Rack, G: Gate + Sync>(
+    rt: &R,
+    alloc: Global,
+    words: &[String],
+    source: &mut S,
+    sink: &mut K,
+    rack: &mut B,
+    gate: &G,
+) -> Status
+    // The answers that come so far; words are refused exactly where they aren't `run --targets 1`.
+    ensures answers { IsAnswerYet result }
+    ensures words { (result ≡ words_not_yet) ↔ (AreRunWords (map string_bytes words.now) → ⊥) }
+
+    // A script is refused exactly where the bytes read are none of the grammar.
+    ensures script { result ≡ script_not_yet → IsRefused (S.left source.old) (S.left source.new) }
+
+    // Faults come only where the outside shows them.
+    ensures read { result ≡ Status.ReadFault → Rose (S.count source.old) (S.count source.new) }
+    ensures write { result ≡ Status.WriteFault → Rose (K.count sink.old) (K.count sink.new) ⊎ Rose (K.stalls sink.old) (K.stalls sink.new) }
+
+    // At the end the sink holds what it held and then the text of one report, that of a run of the
+    // script that was read, and nothing else; after a fault of the sink, a part of it from the front.
+    ensures done { result ≡ Status.Done → ((text : List ℕ) × IsRun (S.left source.old) (S.left source.new) text × Appends (K.held sink.old) (K.held sink.new) text) }
+    ensures prefix { result ≡ Status.WriteFault → ((text : List ℕ) × IsRun (S.left source.old) (S.left source.new) text × AppendsPrefix (K.held sink.old) (K.held sink.new) text) }
+
+    // What a refusal leaves as it was.
+    ensures unread { result ≡ words_not_yet → source.new ≡ source.old }
+    ensures unwritten { result ≢ Status.Done → result ≢ Status.WriteFault → sink.new ≡ sink.old }
+    ensures unasked { IsUnrun result → rack.new ≡ rack.old }
+
+    // Counts never fall.
+    ensures source_later { S.count source.old ≤ S.count source.new }
+    ensures sink_later { K.count sink.old ≤ K.count sink.new }
+{
+    let Some(job) = job_of(words) else {
+        return WORDS_NOT_YET;
+    };
+    let script = match read_input(alloc, source) {
+        Ok(script) => script,
+        Err(InputNo::Fault) => return Status::ReadFault,
+        Err(InputNo::Refused) => return SCRIPT_NOT_YET,
+        Err(InputNo::Memory) => return Status::Memory,
+    };
+    match run_text(rt, alloc, &job, &script, rack, gate) {
+        Ok(text) => write_text(sink, &text),
+        Err(_) => Status::Memory,
+    }
+}
