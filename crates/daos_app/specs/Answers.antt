@@ -10,7 +10,7 @@ use Rattle.daos_base.specs.declared.script.Script.{Script}
 use Rattle.daos_model.specs.AsOf.{empty_stand}
 use Rattle.daos_model.specs.Headline.{Headline}
 use Rattle.daos_model.specs.OutcomesLegal.{epochs_of}
-use Rattle.daos_report.specs.Report.{report_text}
+use Rattle.daos_report.specs.Reports.{report_text}
 use Rattle.daos_run.specs.Issue.{AreIssued}
 use Rattle.daos_script.specs.Grammar.{IsScriptText}
 use Rattle.daos_app.specs.declared.status.Status.{Status}

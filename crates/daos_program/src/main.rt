@@ -1,0 +1,56 @@
+// The store as a program: a script on standard input, its report on standard output.
+#![tactic(auto)]
+
+use daos_app::daos::run_daos;
+use daos_app::status::{Status, status_text};
+use daos_outside::adapters::{Reading, Writing};
+use daos_outside::gate::FreeGate;
+use daos_outside::sink::Sink;
+use daos_outside::source::Source;
+use daos_outside::sure_rack::SureRack;
+use std::alloc::Global;
+use std::env;
+use std::process::ExitCode;
+use std::sync::Wait;
+use std::thread::Threads;
+
+// The size of a region, of which the run asks for none so far.
+const REGION_SIZE: u64 = 4096;
+
+// Runs the program over a source and a sink.
+fn run<R: Threads + Wait + Sync, S: Source, K: Sink>(
+    rt: &R,
+    alloc: Global,
+    words: &[String],
+    source: &mut S,
+    sink: &mut K,
+) -> Status {
+    match SureRack::new(alloc, 1, REGION_SIZE) {
+        Ok(mut rack) => run_daos(rt, alloc, words, source, sink, &mut rack, &FreeGate),
+        Err(_) => Status::Memory,
+    }
+}
+
+// Runs the program over the standard streams.
+fn run_std(rt: &HostRuntime) -> Status {
+    let alloc = rt.alloc();
+    let Ok(args) = env::args(rt) else {
+        return Status::Memory;
+    };
+    let Ok(words) = args.skip(1).collect::<Vec<String>>(alloc) else {
+        return Status::Memory;
+    };
+    let mut source = Reading::new(rt.stdin().lock());
+    let mut sink = Writing::new(rt.stdout().lock());
+    run(rt, alloc, &words, &mut source, &mut sink)
+}
+
+fn main(rt: HostRuntime) -> ExitCode {
+    let status = run_std(&rt);
+    if let Ok(text) = status_text(rt.alloc(), &status) {
+        if !text.is_empty() {
+            let _ = eprintln!(rt; "{text}");
+        }
+    }
+    ExitCode::from(status.number())
+}
