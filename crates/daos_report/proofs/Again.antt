@@ -107,7 +107,6 @@ value_again bytes = go (list_all is_printable bytes) refl
     go true e = rw e refl
     go false e = rw e (hex_again bytes)
 
-
 piece_from_value : (bytes : List ℕ) → piece_of (value_word bytes) ≡ Some (piece.Bytes bytes)
 unfolding value_word
 piece_from_value bytes = go (list_all is_printable bytes) refl
@@ -287,16 +286,18 @@ module _ (s : Script) (done : List Line) (a : Attempt) where
       let whole : (cs ++ until) ++ after ≡ cs ++ ds = append_assoc cs until after ∙ ap (λ x. cs ++ x) (until_and_after h.0 ds) in
       let rest = details_read (cs ++ until) (gs ++ h ∷ []) after hs (conds_after_kept IsCond h.0 ds p) q.1 in
       then_rows s (so_far cs gs) (so_far (cs ++ until) gs) (so_far (cs ++ ds) (gs ++ h ∷ hs)) (map cond_row until) (got_row h ∷ detail_rows after hs)
-        (conds_read cs until gs (conds_until_kept IsCond h.0 ds p))
-        (rw (got_read (cs ++ until) gs h q.0)
-          (rest ∙ ap (λ x. Some (so_far x ((gs ++ h ∷ []) ++ hs))) whole ∙ ap (λ x. Some (so_far (cs ++ ds) x)) (append_assoc gs (h ∷ []) hs)))
+      (conds_read cs until gs (conds_until_kept IsCond h.0 ds p))
+      (rw (got_read (cs ++ until) gs h q.0)
+      (rest ∙ ap (λ x. Some (so_far x ((gs ++ h ∷ []) ++ hs))) whole ∙ ap (λ x. Some (so_far (cs ++ ds) x)) (append_assoc gs (h ∷ []) hs)))
 
 -- one line's rows
 pub line_again : (s : Script) (r : Read) (l : Line) → IsLineOf s l → (t : Read) × (read_rows s r (line_rows s l) ≡ Some t) × (lines_of t ≡ lines_of r ++ l ∷ [])
 unfolding read_rows with_row line_of
-line_again s r (line.Try a) h =
-    (so_far s (lines_of r) a a.conds a.gots,
-      rw (attempt_again s a h) (details_read s (lines_of r) a [] [] a.conds a.gots (recursion_from_All IsCond a.conds h.conds) (recursion_from_All IsGot a.gots h.gots)), refl)
+line_again s r (line.Try a) h = (
+  so_far s (lines_of r) a a.conds a.gots,
+  rw (attempt_again s a h) (details_read s (lines_of r) a [] [] a.conds a.gots (recursion_from_All IsCond a.conds h.conds) (recursion_from_All IsGot a.gots h.gots)),
+  refl,
+)
 line_again s r (line.Stop number target) h = (with_line r (line.Stop number target), rw (stop_again number target h.0 h.1) refl, append-nil _)
 line_again s r (line.Restart number target incarnation floor) h =
     (with_line r (line.Restart number target incarnation floor), rw (restart_again number target incarnation floor h) refl, append-nil _)

@@ -47,6 +47,7 @@ key_bytes bs h = empty (eqb (length bs) 0) h
     long : (t : Bool) → cond t (Some TooLong) (option_map (λ place. BadByte place) (first_bad_byte bs)) ≡ None → list_all is_key_byte bs ≡ true
     long true e = absurd cc
     long false e = all_pass bs (not_found (ltb (prefix_len passes bs) (length bs)) (prefix_len passes bs) (none_bad (first_bad_byte bs) e))
+
     empty : (t : Bool) → cond t (Some Empty) (cond (ltb 64 (length bs)) (Some TooLong) (option_map (λ place. BadByte place) (first_bad_byte bs))) ≡ None → list_all is_key_byte bs ≡ true
     empty true e = absurd cc
     empty false e = long (ltb 64 (length bs)) e

@@ -69,8 +69,10 @@ cont_found (d ∷ ds) cont distinct h = go (eqb d.id.0 cont.0) refl h (cont_foun
   where
     first : same_key d.name d.name ≡ true → d.id ≡ cont → cond (same_key d.name d.name) (Some d.id) (cont_of ds d.name) ≡ Some cont
     first same is = rw same (ap (λ c. Some c) is)
+
     later : same_key d.name (cont_word ds cont) ≡ false → cont_of ds (cont_word ds cont) ≡ Some cont → cond (same_key d.name (cont_word ds cont)) (Some d.id) (cont_of ds (cont_word ds cont)) ≡ Some cont
     later same is = rw same is
+
     go : (b : Bool) → eqb d.id.0 cont.0 ≡ b → (d.id ≡ cont) ⊎ Holds (λ d. d.id ≡ cont) ds → (Holds (λ d. d.id ≡ cont) ds → cont_of ds (cont_word ds cont) ≡ Some cont)
         → cond (same_key d.name (cond b d.name (cont_word ds cont))) (Some d.id) (cont_of ds (cond b d.name (cont_word ds cont))) ≡ Some cont
     go true e h ih = first (same_self d.name) (same_cont d.id cont e)
@@ -120,7 +122,7 @@ same_number n = grind (arith, nat_tests)
 is_decl-self : (d : ObjDecl) → is_decl d.cont d.id d ≡ true
 is_decl-self d =
     and_from (eqb d.cont.0 d.cont.0) (same_object d.id d.id) (same_number d.cont.0)
-      (and_from (eqb (class_number d.id.class) (class_number d.id.class)) (eqb d.id.number d.id.number) (same_number (class_number d.id.class)) (same_number d.id.number))
+    (and_from (eqb (class_number d.id.class) (class_number d.id.class)) (eqb d.id.number d.id.number) (same_number (class_number d.id.class)) (same_number d.id.number))
 
 not_declared : (cont : ContId) (obj : ObjId) (d : ObjDecl) → Declares cont obj d → is_decl cont obj d ≡ false → ⊥
 not_declared cont obj d is e =
@@ -147,8 +149,10 @@ obj_found (d ∷ ds) cont obj distinct h = go (is_decl cont obj d) refl h (obj_f
   where
     first : same_key d.name d.name ≡ true → d.id ≡ obj → IsFound (cond (same_key d.name d.name) (Some d) (decl_of ds d.name)) obj
     first same is = (d, rw same refl, is)
+
     later : same_key d.name (obj_word ds cont obj) ≡ false → IsFound (decl_of ds (obj_word ds cont obj)) obj → IsFound (cond (same_key d.name (obj_word ds cont obj)) (Some d) (decl_of ds (obj_word ds cont obj))) obj
     later same is = (is.0, rw same is.1, is.2)
+
     go : (b : Bool) → is_decl cont obj d ≡ b → Declares cont obj d ⊎ Holds (Declares cont obj) ds → (Holds (Declares cont obj) ds → IsFound (decl_of ds (obj_word ds cont obj)) obj)
         → IsFound (cond (same_key d.name (cond b d.name (obj_word ds cont obj))) (Some d) (decl_of ds (cond b d.name (obj_word ds cont obj)))) obj
     go true e h ih = first (same_self d.name) (same_obj d.id obj (and_parts (eqb d.cont.0 cont.0) (same_object d.id obj) e).1)
@@ -210,22 +214,22 @@ parts_again s cont (Some obj) None None h b =
     let o = obj_word s.objs cont obj in
     let found = found_obj s cont obj h.names b in
     ap (path_of_names s) (next_part (cont_word s.conts cont) (o ++ []) (keys_of_conts s h.names cont)
-      ∙ ap (λ t. cont_word s.conts cont ∷ t) (ap (parts_of 47) (append-nil o) ∙ last_part o (keys_of_objs s h.names cont obj)))
+    ∙ ap (λ t. cont_word s.conts cont ∷ t) (ap (parts_of 47) (append-nil o) ∙ last_part o (keys_of_objs s h.names cont obj)))
     ∙ names_again s cont (o ∷ []) (path_at cont (Some obj) None None) h (rw found.1 (ap (λ i. Some (path_at cont (Some i) None None)) found.2))
 parts_again s cont (Some obj) None (Some akey) h b = absurd b
 parts_again s cont (Some obj) (Some dkey) None h b =
     let o = obj_word s.objs cont obj in
     let found = found_obj s cont obj h.names b.0 in
     ap (path_of_names s) (next_part (cont_word s.conts cont) (o ++ 47 ∷ (dkey ++ [])) (keys_of_conts s h.names cont)
-      ∙ ap (λ t. cont_word s.conts cont ∷ t) (next_part o (dkey ++ []) (keys_of_objs s h.names cont obj)
-      ∙ ap (λ t. o ∷ t) (ap (parts_of 47) (append-nil dkey) ∙ last_part dkey (key_unslashed dkey b.1))))
+    ∙ ap (λ t. cont_word s.conts cont ∷ t) (next_part o (dkey ++ []) (keys_of_objs s h.names cont obj)
+    ∙ ap (λ t. o ∷ t) (ap (parts_of 47) (append-nil dkey) ∙ last_part dkey (key_unslashed dkey b.1))))
     ∙ names_again s cont (o ∷ dkey ∷ []) (path_at cont (Some obj) (Some dkey) None) h (rw found.1 (ap (λ i. Some (path_at cont (Some i) (Some dkey) None)) found.2))
 parts_again s cont (Some obj) (Some dkey) (Some akey) h b =
     let o = obj_word s.objs cont obj in
     let found = found_obj s cont obj h.names b.0 in
     ap (path_of_names s) (next_part (cont_word s.conts cont) (o ++ 47 ∷ (dkey ++ 47 ∷ akey)) (keys_of_conts s h.names cont)
-      ∙ ap (λ t. cont_word s.conts cont ∷ t) (next_part o (dkey ++ 47 ∷ akey) (keys_of_objs s h.names cont obj)
-      ∙ ap (λ t. o ∷ t) (next_part dkey akey (key_unslashed dkey b.1) ∙ ap (λ t. dkey ∷ t) (last_part akey (key_unslashed akey b.2)))))
+    ∙ ap (λ t. cont_word s.conts cont ∷ t) (next_part o (dkey ++ 47 ∷ akey) (keys_of_objs s h.names cont obj)
+    ∙ ap (λ t. o ∷ t) (next_part dkey akey (key_unslashed dkey b.1) ∙ ap (λ t. dkey ∷ t) (last_part akey (key_unslashed akey b.2)))))
     ∙ names_again s cont (o ∷ dkey ∷ akey ∷ []) (path_at cont (Some obj) (Some dkey) (Some akey)) h (rw found.1 (ap (λ i. Some (path_at cont (Some i) (Some dkey) (Some akey))) found.2))
 
 parts_joined : (a b c d : List ℕ) → a ++ b ++ c ++ d ≡ a ++ (b ++ (c ++ d))
