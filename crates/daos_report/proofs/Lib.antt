@@ -1,1 +1,7 @@
+pub mod Again
+pub mod Inner
 pub mod Joins
+pub mod Keys
+pub mod Law
+pub mod NamesAgain
+pub mod Reading

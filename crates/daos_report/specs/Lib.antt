@@ -4,3 +4,4 @@ pub mod Outcomes
 pub mod Reports
 pub mod Values
 pub mod Words
+pub mod Forms

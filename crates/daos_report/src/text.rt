@@ -1,6 +1,7 @@
 // The text of a report.
 ghost use Rattle.std.specs.Prelude.{◌≡◌, ◌++◌, ◌∷◌, [], OnOk, IfOk, flat_map, decimal};
 ghost use Rattle.daos_text.specs.Rows.{rows_text};
+ghost use Rattle.daos_report.specs.Forms.{TextsDetermineReports};
 ghost use Rattle.daos_report.specs.Names.{cont_word};
 ghost use Rattle.daos_report.specs.Reports.{end_row, head_row, line_rows, report_text};
 
@@ -134,3 +135,9 @@ pub fn report_text(alloc: Global, report: &Report, script: &Script) -> Result<Ve
     push_end(&mut out, report.down)?;
     Ok(out)
 }
+
+/// The text of a report determines it: two reports with one text are the same, where their numbers
+/// are as large as their types hold and the script names their containers and objects.
+pub fn texts_determine_reports()
+    ensures { TextsDetermineReports }
+{}

@@ -1,0 +1,149 @@
+-- The text of a report determines it.
+use Rattle.std.proofs.Common.{◌≡◌, ℕ, ◌^◌, ◌<◌, Bool, List, [], ◌∷◌, ◌++◌, map, flat_map, All, Option, Some, None, refl, sym, ap, subst, ◌∙◌, arith}
+use Rattle.std.specs.Fmt.{decimal}
+use Rattle.std.specs.List.{AllByRecursion}
+use Rattle.std.proofs.lemmas.List.{same_from_push}
+use Rattle.std.proofs.lemmas.List.Elements.{All-from_recursion, recursion_from_All}
+use Rattle.daos_base.specs.declared.answer.Answer.{Answer}
+use Rattle.daos_base.specs.declared.answer.Answer.TheVariants as answer
+use Rattle.daos_base.specs.declared.epoch.Epoch.{Epoch}
+use Rattle.daos_base.specs.declared.outcome.Outcome.{Outcome}
+use Rattle.daos_base.specs.declared.outcome.Outcome.TheVariants as outcome
+use Rattle.daos_base.specs.declared.report.Attempt.{Attempt}
+use Rattle.daos_base.specs.declared.report.Line.{Line}
+use Rattle.daos_base.specs.declared.report.Line.TheVariants as line
+use Rattle.daos_base.specs.declared.report.Report.{Report}
+use Rattle.daos_base.specs.declared.script.Script.{Script}
+use Rattle.daos_text.specs.Number.{number_in}
+use Rattle.daos_text.specs.Parts.{parts_of}
+use Rattle.daos_text.specs.RowLaws.{rows_are_texts}
+use Rattle.daos_text.specs.Rows.{Words, IsRow, row_line, line_words, rows_text}
+use Rattle.daos_report.specs.Forms.{IsEpoch, IsEpochOrNone, IsAnswer, IsGot, IsCond, IsOutcomeOf, IsAttemptOf, IsLineOf, IsReportOf, least_down, IsSeenOrAbsent, IsSeenGot, IsIssued, IsCommitted, IsCommittedLine, HasOnlyCommits, TextsDetermineReports}
+use Rattle.daos_report.specs.Reports.{head_row, end_row, line_rows, report_rows, report_text}
+use Rattle.daos_report.proofs.Again.{u8_again, lines_again}
+use Rattle.daos_report.proofs.Inner.{report_inner}
+use Rattle.daos_report.proofs.Reading.{Read, lines_of, read_rows, nothing_read}
+
+-- ---- the rows of a text
+
+words_of_lines : (rows : List Words) → AllByRecursion IsRow rows → map line_words (map row_line rows) ≡ rows
+words_of_lines [] h = refl
+words_of_lines (row ∷ rows) h = ap (λ t. t ∷ map line_words (map row_line rows)) (rows_are_texts.words_of_row row h.0) ∙ ap (λ t. row ∷ t) (words_of_lines rows h.1)
+
+same_rows : (rows more : List Words) → AllByRecursion IsRow rows → AllByRecursion IsRow more → rows_text rows ≡ rows_text more → rows ≡ more
+same_rows rows more p q e =
+    let parts : map row_line rows ++ [] ∷ [] ≡ map row_line more ++ [] ∷ [] = sym (rows_are_texts.lines_of_rows rows p) ∙ ap (parts_of 10) e ∙ rows_are_texts.lines_of_rows more q in
+    sym (words_of_lines rows p) ∙ ap (map line_words) ((same_from_push (map row_line rows) (map row_line more) [] [] parts).0) ∙ words_of_lines more q
+
+-- ---- what the rows tell
+
+abbrev found : {A : Type 0} → A → Option A
+found x = Some x
+
+found_same : {A : Type 0} (x y : A) → found x ≡ found y → x ≡ y
+found_same x y e = cc
+
+same_lines : (s : Script) (ls ms : List Line) → AllByRecursion (IsLineOf s) ls → AllByRecursion (IsLineOf s) ms → flat_map (line_rows s) ls ≡ flat_map (line_rows s) ms → ls ≡ ms
+same_lines s ls ms p q e =
+    let a = lines_again s nothing_read ls p in
+    let b = lines_again s nothing_read ms q in
+    sym a.2 ∙ ap lines_of (found_same a.0 b.0 (sym a.1 ∙ ap (read_rows s nothing_read) e ∙ b.1)) ∙ b.2
+
+same_number : (m n : ℕ) → m < 2 ^ 8 → n < 2 ^ 8 → decimal m ≡ decimal n → m ≡ n
+same_number m n p q e = found_same m n (sym (u8_again m p) ∙ ap (number_in 0 255) e ∙ u8_again n q)
+
+-- the last word of a row of four
+abbrev fourth : Words → List ℕ
+fourth [] = []
+fourth (a ∷ []) = []
+fourth (a ∷ b ∷ []) = []
+fourth (a ∷ b ∷ c ∷ []) = []
+fourth (a ∷ b ∷ c ∷ d ∷ words) = d
+
+abbrev first_row : List Words → Words
+first_row [] = []
+first_row (row ∷ rows) = row
+
+abbrev later_rows : List Words → List Words
+later_rows [] = []
+later_rows (row ∷ rows) = rows
+
+abbrev report : ℕ → List Line → Option ℕ → Report
+report targets lines down = record { targets = targets; lines = lines; down = down }
+
+same_reports : (q r : Report) → q.targets ≡ r.targets → q.lines ≡ r.lines → q.down ≡ r.down → q ≡ r
+same_reports q r t l d = ap (λ n. report n q.lines q.down) t ∙ ap (λ ls. report r.targets ls q.down) l ∙ ap (report r.targets r.lines) d
+
+from_rows : (s : Script) (q r : Report) → IsReportOf s q → IsReportOf s r → report_rows s q ≡ report_rows s r → q ≡ r
+unfolding report_rows
+from_rows s q r p h e =
+    let targets = same_number q.targets r.targets p.targets h.targets (ap (λ rows. fourth (first_row rows)) e) in
+    let rest : flat_map (line_rows s) q.lines ++ end_row q.down ∷ [] ≡ flat_map (line_rows s) r.lines ++ end_row r.down ∷ [] = ap later_rows e in
+    let rows = same_from_push (flat_map (line_rows s) q.lines) (flat_map (line_rows s) r.lines) (end_row q.down) (end_row r.down) rest in
+    let lines = same_lines s q.lines r.lines (recursion_from_All (IsLineOf s) q.lines p.lines) (recursion_from_All (IsLineOf s) r.lines h.lines) rows.0 in
+    same_reports q r targets lines (p.down ∙ ap least_down lines ∙ sym h.down)
+
+all_reports : (s : Script) (q r : Report) → IsReportOf s q → IsReportOf s r → report_text s q ≡ report_text s r → q ≡ r
+unfolding report_text
+all_reports s q r p h e = from_rows s q r p h (same_rows (report_rows s q) (report_rows s r) (report_inner s q p) (report_inner s r h) e)
+
+-- ---- reports of attempts alone
+
+seen_answer : (a : Answer) → IsSeenOrAbsent a → IsAnswer a
+seen_answer (answer.Bytes bytes) h = tt
+seen_answer (answer.Parts pieces) h = absurd h
+seen_answer (answer.Names keys) h = absurd h
+seen_answer answer.Yes h = absurd h
+seen_answer answer.No h = absurd h
+seen_answer answer.Absent h = tt
+
+seen_gots : (gs : List (ℕ × Answer)) → AllByRecursion IsSeenGot gs → AllByRecursion IsGot gs
+seen_gots [] h = tt
+seen_gots (g ∷ gs) h = (record { op = h.0.op; answer = seen_answer g.1 h.0.answer }, seen_gots gs h.1)
+
+issued : (epoch : Option Epoch) → IsIssued epoch → IsEpochOrNone epoch
+issued None h = absurd h
+issued (Some epoch) h = h
+
+committed : (s : Script) (a : Attempt) → IsCommitted a → IsAttemptOf s a
+committed s a h = record {
+  id = h.id;
+  epoch = issued a.epoch h.epoch;
+  conds = subst (λ cs. All IsCond cs) (sym h.conds) (All-from_recursion IsCond [] tt);
+  gots = All-from_recursion IsGot a.gots (seen_gots a.gots (recursion_from_All IsSeenGot a.gots h.gots));
+  outcome = subst (λ o. IsOutcomeOf s o) (sym h.outcome) tt;
+}
+
+committed_line : (s : Script) (l : Line) → IsCommittedLine l → IsLineOf s l
+committed_line s (line.Try a) h = committed s a h
+committed_line s (line.Stop number target) h = absurd h
+committed_line s (line.Restart number target incarnation floor) h = absurd h
+committed_line s (line.Freeze target cont epoch) h = absurd h
+committed_line s (line.Snapshot name cont epoch) h = absurd h
+committed_line s (line.Aggregate number target cont upto) h = absurd h
+committed_line s (line.Down target) h = absurd h
+
+committed_lines : (s : Script) (ls : List Line) → AllByRecursion IsCommittedLine ls → AllByRecursion (IsLineOf s) ls
+committed_lines s [] h = tt
+committed_lines s (l ∷ ls) h = (committed_line s l h.0, committed_lines s ls h.1)
+
+none_down : (ls : List Line) → AllByRecursion IsCommittedLine ls → least_down ls ≡ None
+none_down [] h = refl
+none_down (line.Try a ∷ ls) h = none_down ls h.1
+none_down (line.Stop number target ∷ ls) h = absurd h.0
+none_down (line.Restart number target incarnation floor ∷ ls) h = absurd h.0
+none_down (line.Freeze target cont epoch ∷ ls) h = absurd h.0
+none_down (line.Snapshot name cont epoch ∷ ls) h = absurd h.0
+none_down (line.Aggregate number target cont upto ∷ ls) h = absurd h.0
+none_down (line.Down target ∷ ls) h = absurd h.0
+
+only_commits : (s : Script) (q : Report) → HasOnlyCommits q → IsReportOf s q
+only_commits s q h =
+    let each = recursion_from_All IsCommittedLine q.lines h.lines in
+    record { targets = h.targets; lines = All-from_recursion (IsLineOf s) q.lines (committed_lines s q.lines each); down = h.down ∙ sym (none_down q.lines each) }
+
+pub texts_determine_reports : TextsDetermineReports
+texts_determine_reports = record {
+  commits = λ s q r p h e. all_reports s q r (only_commits s q p) (only_commits s r h) e;
+  all = all_reports;
+}
