@@ -6,7 +6,8 @@ ghost use Rattle.daos_app.specs.Answers.{IsRead, IsRefused};
 
 use daos_base::script::Script;
 use daos_outside::source::{ReadNo, Source, read_all};
-use daos_script::script::{ScriptNo, read_script};
+use daos_script::fault::ScriptNo;
+use daos_script::script::read_script;
 use std::alloc::Global;
 use thiserror::Error;
 

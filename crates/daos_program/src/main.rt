@@ -10,6 +10,7 @@ use daos_outside::source::Source;
 use daos_outside::sure_rack::SureRack;
 use std::alloc::Global;
 use std::env;
+use std::env::Args;
 use std::process::ExitCode;
 use std::sync::Wait;
 use std::thread::Threads;
@@ -17,37 +18,32 @@ use std::thread::Threads;
 // The size of a region, of which the run asks for none so far.
 const REGION_SIZE: u64 = 4096;
 
-// Runs the program over a source and a sink.
+// Runs the program over a source and a sink, with the words after the program's name.
 fn run<R: Threads + Wait + Sync, S: Source, K: Sink>(
     rt: &R,
     alloc: Global,
-    words: &[String],
+    args: Args,
     source: &mut S,
     sink: &mut K,
 ) -> Status {
+    let Ok(words) = args.skip(1).collect::<Vec<String>>(alloc) else {
+        return Status::Memory;
+    };
     match SureRack::new(alloc, 1, REGION_SIZE) {
-        Ok(mut rack) => run_daos(rt, alloc, words, source, sink, &mut rack, &FreeGate),
+        Ok(mut rack) => run_daos(rt, alloc, &words, source, sink, &mut rack, &FreeGate),
         Err(_) => Status::Memory,
     }
 }
 
-// Runs the program over the standard streams.
-fn run_std(rt: &HostRuntime) -> Status {
+fn main(rt: HostRuntime) -> ExitCode {
     let alloc = rt.alloc();
-    let Ok(args) = env::args(rt) else {
-        return Status::Memory;
-    };
-    let Ok(words) = args.skip(1).collect::<Vec<String>>(alloc) else {
-        return Status::Memory;
-    };
     let mut source = Reading::new(rt.stdin().lock());
     let mut sink = Writing::new(rt.stdout().lock());
-    run(rt, alloc, &words, &mut source, &mut sink)
-}
-
-fn main(rt: HostRuntime) -> ExitCode {
-    let status = run_std(&rt);
-    if let Ok(text) = status_text(rt.alloc(), &status) {
+    let status = match env::args(&rt) {
+        Ok(args) => run(&rt, alloc, args, &mut source, &mut sink),
+        Err(_) => Status::Memory,
+    };
+    if let Ok(text) = status_text(alloc, &status) {
         if !text.is_empty() {
             let _ = eprintln!(rt; "{text}");
         }
