@@ -5,6 +5,8 @@ mod answers;
 mod attempts;
 mod names;
 mod outcomes;
+#[cfg(test)]
+mod tests;
 pub mod text;
 mod values;
 mod words;
