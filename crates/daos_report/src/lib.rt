@@ -3,6 +3,7 @@
 
 mod answers;
 mod attempts;
+mod lines;
 mod names;
 mod outcomes;
 #[cfg(test)]
