@@ -1,8 +1,7 @@
 -- The words and rows of a report are read again as what they tell.
-use Rattle.std.proofs.Common.{◌≡◌, ℕ, ◌+◌, ◌*◌, ◌/◌, ◌%◌, ◌^◌, ◌≤◌, ◌<◌, Bool, true, false, cond, leb, ltb, eqb, ◌&&◌, List, [], ◌∷◌, ◌++◌, map, flat_map, All, Option, Some, None, refl, sym, ap, subst, ◌∙◌, arith, append_assoc, codes, rules}
+use Rattle.std.proofs.Common.{◌≡◌, ℕ, ◌+◌, ◌*◌, ◌/◌, ◌%◌, ◌^◌, ◌≤◌, ◌<◌, Bool, true, false, cond, leb, ltb, List, [], ◌∷◌, ◌++◌, map, flat_map, Option, Some, None, refl, sym, ap, subst, ◌∙◌, arith, append_assoc, codes}
 use Rattle.std.specs.List.{list_all, AllByRecursion}
 use Rattle.std.specs.Fmt.{decimal}
-use Rattle.std.specs.Option.{option_map, option_to_list}
 use Rattle.std.specs.Str.{bytes_eq}
 use Rattle.std.proofs.lemmas.Bool.Decides.{nat_tests}
 use Rattle.std.proofs.lemmas.List.{append-nil}
@@ -31,13 +30,13 @@ use Rattle.daos_text.specs.Number.{number_in}
 use Rattle.daos_text.specs.NumberLaws.{numbers_are_decimals}
 use Rattle.daos_text.specs.Rows.{Words}
 use Rattle.daos_report.specs.Answers.{answer_words, piece_word}
-use Rattle.daos_report.specs.Forms.{IsEpoch, IsEpochOrNone, IsAttemptId, IsCond, IsFloorWhy, IsPiece, IsAnswer, IsGot, IsContOf, IsPathOf, IsAccessOf, IsFloorOf, IsCauseOf, IsNoSpace, IsOutcomeOf, IsAttemptOf, IsRestart, IsFreezeOf, IsSnapshotOf, IsAggregateOf, IsLineOf}
+use Rattle.daos_report.specs.Forms.{IsEpoch, IsEpochOrNone, IsAttemptId, IsCond, IsFloorWhy, IsPiece, IsAnswer, IsGot, IsAccessOf, IsCauseOf, IsOutcomeOf, IsAttemptOf, IsRestart, IsFreezeOf, IsSnapshotOf, IsAggregateOf, IsLineOf}
 use Rattle.daos_report.specs.Names.{cont_word, path_word}
 use Rattle.daos_report.specs.Outcomes.{access_words, cause_words, floor_words, outcome_words}
 use Rattle.daos_report.specs.Reports.{cond_row, conds_after, conds_until, detail_rows, got_row, line_rows, try_row, yes_word}
 use Rattle.daos_report.specs.Values.{is_printable, hex_byte, hex_digit, value_word}
 use Rattle.daos_report.specs.Words.{attempt_words, epoch_word}
-use Rattle.daos_report.proofs.Reading.{◌>>=◌, one, ends, each, u8, u16, u32, u64, epoch_of, epoch_or_none_of, attempt_id_at, hex_value, hex_bytes, value_of, piece_of, answer_of, cont_of, path_of, floor_of, access_of, cause_of, outcome_of, attempt_of, yes_of, cond_of, got_of, stop_of, restart_of, freeze_of, snapshot_of, aggregate_of, down_of, line_of, Read, lines_of, with_line, with_row, read_rows}
+use Rattle.daos_report.proofs.Reading.{◌>>=◌, each, epoch_of, epoch_or_none_of, attempt_id_at, hex_value, hex_bytes, value_of, piece_of, answer_of, floor_of, access_of, cause_of, outcome_of, attempt_of, yes_of, cond_of, got_of, stop_of, restart_of, freeze_of, snapshot_of, aggregate_of, down_of, line_of, Read, lines_of, with_line, with_row, read_rows}
 use Rattle.daos_report.proofs.NamesAgain.{cont_again, path_again}
 
 -- ---- numbers, epochs, attempts

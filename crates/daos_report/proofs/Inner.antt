@@ -1,5 +1,5 @@
 -- The rows of a report are rows: no space and no line end stands in a word.
-use Rattle.std.proofs.Common.{◌≡◌, ℕ, ◌+◌, ◌/◌, ◌%◌, ◌^◌, ◌≤◌, ◌<◌, Bool, true, false, cond, leb, ltb, eqb, ◌&&◌, List, [], ◌∷◌, ◌++◌, map, flat_map, All, Option, Some, None, refl, sym, ap, subst, ◌∙◌, arith, codes}
+use Rattle.std.proofs.Common.{◌≡◌, ℕ, ◌+◌, ◌/◌, ◌%◌, ◌^◌, ◌<◌, Bool, true, false, cond, leb, ltb, eqb, ◌&&◌, List, [], ◌∷◌, ◌++◌, map, flat_map, Option, Some, None, refl, arith}
 use Rattle.std.specs.List.{list_all, AllByRecursion}
 use Rattle.std.specs.Fmt.{decimal}
 use Rattle.std.proofs.lemmas.Bool.{and_parts, and_from}
@@ -29,13 +29,13 @@ use Rattle.daos_base.specs.declared.script.ObjDecl.{ObjDecl}
 use Rattle.daos_base.specs.declared.script.Script.{Script}
 use Rattle.daos_base.specs.Keys.{IsKey}
 use Rattle.daos_base.specs.Paths.{same_object}
-use Rattle.daos_text.specs.Rows.{Words, IsWord, IsRow}
+use Rattle.daos_text.specs.Rows.{IsWord, IsRow}
 use Rattle.daos_text.specs.RowLaws.{IsWord-append, IsWord-decimal, IsWord-from_high}
 use Rattle.daos_report.specs.Answers.{answer_words, piece_word}
-use Rattle.daos_report.specs.Forms.{IsEpoch, IsEpochOrNone, IsAttemptId, IsCond, IsFloorWhy, IsPiece, IsAnswer, IsGot, HasNames, IsContOf, IsBelowOf, IsPathOf, IsAccessOf, IsCauseOf, IsOutcomeOf, IsAttemptOf, IsLineOf, IsReportOf}
+use Rattle.daos_report.specs.Forms.{IsEpochOrNone, IsAttemptId, IsCond, IsFloorWhy, IsPiece, IsAnswer, IsGot, HasNames, IsContOf, IsBelowOf, IsPathOf, IsAccessOf, IsCauseOf, IsOutcomeOf, IsAttemptOf, IsLineOf, IsReportOf}
 use Rattle.daos_report.specs.Names.{cont_word, obj_word, obj_part, key_part, path_word}
 use Rattle.daos_report.specs.Outcomes.{access_words, cause_words, floor_words, outcome_words}
-use Rattle.daos_report.specs.Reports.{cond_row, conds_after, conds_until, detail_rows, end_row, got_row, head_row, line_rows, report_rows, try_row, yes_word}
+use Rattle.daos_report.specs.Reports.{cond_row, conds_after, conds_until, detail_rows, end_row, got_row, line_rows, report_rows, try_row, yes_word}
 use Rattle.daos_report.specs.Values.{is_printable, hex_byte, hex_digit, value_word}
 use Rattle.daos_report.specs.Words.{attempt_words, epoch_word}
 use Rattle.daos_report.proofs.Again.{conds_until_kept, conds_after_kept}

@@ -1,12 +1,11 @@
 -- The bytes of a key are no mark.
-use Rattle.std.proofs.Common.{◌≡◌, ℕ, suc, ◌+◌, ◌≤◌, ◌<◌, Bool, true, false, cond, leb, ltb, eqb, ◌&&◌, ◌||◌, not, List, [], ◌∷◌, ◌++◌, length, Option, Some, None, refl, sym, ap, subst, ◌∙◌, arith}
-use Rattle.std.specs.List.{list_all, prefix_len, position, AllByRecursion}
+use Rattle.std.proofs.Common.{◌≡◌, ℕ, suc, ◌+◌, Bool, true, false, cond, leb, ltb, eqb, ◌&&◌, not, List, [], ◌∷◌, length, Option, Some, None, refl, arith}
+use Rattle.std.specs.List.{list_all, prefix_len, AllByRecursion}
 use Rattle.std.specs.Option.{option_map}
 use Rattle.std.proofs.lemmas.Bool.{and_parts, and_from}
 use Rattle.std.proofs.lemmas.Bool.Decides.{nat_tests}
-use Rattle.daos_base.specs.declared.key.KeyNo.{KeyNo}
 use Rattle.daos_base.specs.declared.key.KeyNo.TheVariants.{Empty, TooLong, BadByte}
-use Rattle.daos_base.specs.Keys.{IsKey, is_key_byte, first_bad_byte, key_fault}
+use Rattle.daos_base.specs.Keys.{IsKey, is_key_byte, first_bad_byte}
 use Rattle.daos_text.specs.Rows.{IsWord}
 use Rattle.daos_text.specs.RowLaws.{IsWord-from_high}
 

@@ -1,5 +1,5 @@
 -- The text of a report determines it.
-use Rattle.std.proofs.Common.{◌≡◌, ℕ, ◌^◌, ◌<◌, Bool, List, [], ◌∷◌, ◌++◌, map, flat_map, All, Option, Some, None, refl, sym, ap, subst, ◌∙◌, arith}
+use Rattle.std.proofs.Common.{◌≡◌, ℕ, ◌^◌, ◌<◌, List, [], ◌∷◌, ◌++◌, map, flat_map, All, Option, Some, None, refl, sym, ap, subst, ◌∙◌}
 use Rattle.std.specs.Fmt.{decimal}
 use Rattle.std.specs.List.{AllByRecursion}
 use Rattle.std.proofs.lemmas.List.{same_from_push}
@@ -7,8 +7,6 @@ use Rattle.std.proofs.lemmas.List.Elements.{All-from_recursion, recursion_from_A
 use Rattle.daos_base.specs.declared.answer.Answer.{Answer}
 use Rattle.daos_base.specs.declared.answer.Answer.TheVariants as answer
 use Rattle.daos_base.specs.declared.epoch.Epoch.{Epoch}
-use Rattle.daos_base.specs.declared.outcome.Outcome.{Outcome}
-use Rattle.daos_base.specs.declared.outcome.Outcome.TheVariants as outcome
 use Rattle.daos_base.specs.declared.report.Attempt.{Attempt}
 use Rattle.daos_base.specs.declared.report.Line.{Line}
 use Rattle.daos_base.specs.declared.report.Line.TheVariants as line
@@ -18,11 +16,11 @@ use Rattle.daos_text.specs.Number.{number_in}
 use Rattle.daos_text.specs.Parts.{parts_of}
 use Rattle.daos_text.specs.RowLaws.{rows_are_texts}
 use Rattle.daos_text.specs.Rows.{Words, IsRow, row_line, line_words, rows_text}
-use Rattle.daos_report.specs.Forms.{IsEpoch, IsEpochOrNone, IsAnswer, IsGot, IsCond, IsOutcomeOf, IsAttemptOf, IsLineOf, IsReportOf, least_down, IsSeenOrAbsent, IsSeenGot, IsIssued, IsCommitted, IsCommittedLine, HasOnlyCommits, TextsDetermineReports}
-use Rattle.daos_report.specs.Reports.{head_row, end_row, line_rows, report_rows, report_text}
+use Rattle.daos_report.specs.Forms.{IsEpochOrNone, IsAnswer, IsGot, IsCond, IsOutcomeOf, IsAttemptOf, IsLineOf, IsReportOf, least_down, IsPrintableOrAbsent, IsPrintableGot, IsIssued, IsCommitted, IsCommittedLine, HasOnlyCommits, TextsDetermineReports}
+use Rattle.daos_report.specs.Reports.{end_row, line_rows, report_rows, report_text}
 use Rattle.daos_report.proofs.Again.{u8_again, lines_again}
 use Rattle.daos_report.proofs.Inner.{report_inner}
-use Rattle.daos_report.proofs.Reading.{Read, lines_of, read_rows, nothing_read}
+use Rattle.daos_report.proofs.Reading.{lines_of, read_rows, nothing_read}
 
 -- ---- the rows of a text
 
@@ -89,17 +87,17 @@ all_reports s q r p h e = from_rows s q r p h (same_rows (report_rows s q) (repo
 
 -- ---- reports of attempts alone
 
-seen_answer : (a : Answer) → IsSeenOrAbsent a → IsAnswer a
-seen_answer (answer.Bytes bytes) h = tt
-seen_answer (answer.Parts pieces) h = absurd h
-seen_answer (answer.Names keys) h = absurd h
-seen_answer answer.Yes h = absurd h
-seen_answer answer.No h = absurd h
-seen_answer answer.Absent h = tt
+printable_answer : (a : Answer) → IsPrintableOrAbsent a → IsAnswer a
+printable_answer (answer.Bytes bytes) h = tt
+printable_answer (answer.Parts pieces) h = absurd h
+printable_answer (answer.Names keys) h = absurd h
+printable_answer answer.Yes h = absurd h
+printable_answer answer.No h = absurd h
+printable_answer answer.Absent h = tt
 
-seen_gots : (gs : List (ℕ × Answer)) → AllByRecursion IsSeenGot gs → AllByRecursion IsGot gs
-seen_gots [] h = tt
-seen_gots (g ∷ gs) h = (record { op = h.0.op; answer = seen_answer g.1 h.0.answer }, seen_gots gs h.1)
+printable_gots : (gs : List (ℕ × Answer)) → AllByRecursion IsPrintableGot gs → AllByRecursion IsGot gs
+printable_gots [] h = tt
+printable_gots (g ∷ gs) h = (record { op = h.0.op; answer = printable_answer g.1 h.0.answer }, printable_gots gs h.1)
 
 issued : (epoch : Option Epoch) → IsIssued epoch → IsEpochOrNone epoch
 issued None h = absurd h
@@ -110,7 +108,7 @@ committed s a h = record {
   id = h.id;
   epoch = issued a.epoch h.epoch;
   conds = subst (λ cs. All IsCond cs) (sym h.conds) (All-from_recursion IsCond [] tt);
-  gots = All-from_recursion IsGot a.gots (seen_gots a.gots (recursion_from_All IsSeenGot a.gots h.gots));
+  gots = All-from_recursion IsGot a.gots (printable_gots a.gots (recursion_from_All IsPrintableGot a.gots h.gots));
   outcome = subst (λ o. IsOutcomeOf s o) (sym h.outcome) tt;
 }
 

@@ -1,7 +1,6 @@
 -- Names and paths are read again as what they name.
-use Rattle.std.proofs.Common.{◌≡◌, ℕ, zero, suc, ◌≤◌, ◌<◌, Bool, true, false, cond, eqb, ◌&&◌, ◌⊎◌, inl, inr, List, [], ◌∷◌, ◌++◌, length, get_or, map, Any, All, Option, Some, None, refl, sym, ap, subst, ◌∙◌, arith, append_assoc}
-use Rattle.std.specs.List.{IsDistinct, AllByRecursion, slice_split}
-use Rattle.std.specs.Cmp.Lexicographic.{pointwise}
+use Rattle.std.proofs.Common.{◌≡◌, ℕ, zero, suc, Bool, true, false, cond, eqb, ◌&&◌, ◌⊎◌, inl, inr, List, [], ◌∷◌, ◌++◌, map, Any, Option, Some, None, refl, sym, ap, subst, ◌∙◌, arith, append_assoc}
+use Rattle.std.specs.List.{IsDistinct, AllByRecursion}
 use Rattle.std.proofs.lemmas.Bool.{and_parts, and_from, eqb-true}
 use Rattle.std.proofs.lemmas.Bool.Decides.{nat_tests}
 use Rattle.std.proofs.lemmas.List.{append-nil}
@@ -24,7 +23,7 @@ use Rattle.daos_text.specs.Parts.{parts_of}
 use Rattle.daos_report.specs.Forms.{HasNames, IsContOf, IsObjOf, IsBelowOf, IsPathOf}
 use Rattle.daos_report.specs.Names.{cont_word, obj_word, obj_part, key_part, path_word}
 use Rattle.daos_report.proofs.Keys.{key_unslashed}
-use Rattle.daos_report.proofs.Reading.{◌>>=◌, cont_of, decl_of, path_in, path_of_names, path_of}
+use Rattle.daos_report.proofs.Reading.{cont_of, decl_of, path_in, path_of_names, path_of}
 
 -- some element of a list has a property
 abbrev Holds : {A : Type 0} → (A → Type 0) → List A → Type 0

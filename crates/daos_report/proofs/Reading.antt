@@ -1,5 +1,5 @@
 -- How the rows of a report are read: a word at a time, a row at a time.
-use Rattle.std.specs.Prelude.{ℕ, ◌+◌, ◌-◌, ◌*◌, Bool, true, false, ◌&&◌, ◌==◌, nat_lt, List, [], ◌∷◌, ◌++◌, Option, Some, None, codes, if◌then◌else◌}
+use Rattle.std.specs.Prelude.{ℕ, ◌+◌, ◌-◌, ◌*◌, Bool, true, false, ◌==◌, nat_lt, List, [], ◌∷◌, ◌++◌, Option, Some, None, codes, if◌then◌else◌}
 use Rattle.std.specs.Option.{option_map, option_to_list}
 use Rattle.std.specs.Str.{bytes_eq}
 use Rattle.daos_base.specs.declared.answer.Answer.{Answer}
@@ -9,7 +9,6 @@ use Rattle.daos_base.specs.declared.answer.Piece.TheVariants as piece
 use Rattle.daos_base.specs.declared.epoch.Epoch.{Epoch}
 use Rattle.daos_base.specs.declared.id.AttemptId.{AttemptId}
 use Rattle.daos_base.specs.declared.id.ContId.{ContId}
-use Rattle.daos_base.specs.declared.id.ObjId.{ObjId}
 use Rattle.daos_base.specs.declared.outcome.Cause.{Cause}
 use Rattle.daos_base.specs.declared.outcome.Cause.TheVariants as cause
 use Rattle.daos_base.specs.declared.outcome.FloorWhy.{FloorWhy}

@@ -194,18 +194,18 @@ pub record IsReportOf (s : Script) (q : Report) : Type 0 where
 
 -- ---- reports of attempts alone
 
--- a value of 1 to 1,024 bytes that are all seen, or none
-abbrev pub IsSeenOrAbsent : Answer → Type 0
-IsSeenOrAbsent (answer.Bytes bytes) = (1 ≤ length bytes) × (length bytes ≤ 1024) × (list_all is_printable bytes ≡ true)
-IsSeenOrAbsent (answer.Parts pieces) = ⊥
-IsSeenOrAbsent (answer.Names keys) = ⊥
-IsSeenOrAbsent answer.Yes = ⊥
-IsSeenOrAbsent answer.No = ⊥
-IsSeenOrAbsent answer.Absent = Unit {0}
+-- a value of 1 to 1,024 printable bytes, or none
+abbrev pub IsPrintableOrAbsent : Answer → Type 0
+IsPrintableOrAbsent (answer.Bytes bytes) = (1 ≤ length bytes) × (length bytes ≤ 1024) × (list_all is_printable bytes ≡ true)
+IsPrintableOrAbsent (answer.Parts pieces) = ⊥
+IsPrintableOrAbsent (answer.Names keys) = ⊥
+IsPrintableOrAbsent answer.Yes = ⊥
+IsPrintableOrAbsent answer.No = ⊥
+IsPrintableOrAbsent answer.Absent = Unit {0}
 
-pub record IsSeenGot (got : ℕ × Answer) : Type 0 where
+pub record IsPrintableGot (got : ℕ × Answer) : Type 0 where
   pub op : got.0 < 2 ^ 8
-  pub answer : IsSeenOrAbsent got.1
+  pub answer : IsPrintableOrAbsent got.1
 
 abbrev pub IsIssued : Option Epoch → Type 0
 IsIssued None = ⊥
@@ -216,7 +216,7 @@ pub record IsCommitted (a : Attempt) : Type 0 where
   pub id : IsAttemptId a.id
   pub epoch : IsIssued a.epoch
   pub conds : a.conds ≡ []
-  pub gots : All IsSeenGot a.gots
+  pub gots : All IsPrintableGot a.gots
   pub outcome : a.outcome ≡ outcome.Committed
 
 abbrev pub IsCommittedLine : Line → Type 0

@@ -2,6 +2,8 @@
 use Rattle.std.specs.Prelude.{ℕ, Bool, true, false, List, [], ◌∷◌, ◌++◌, map, flat_map, Option, Some, None, nat_le, codes, if◌then◌else◌}
 use Rattle.std.specs.Fmt.{decimal}
 use Rattle.daos_base.specs.declared.answer.Answer.{Answer}
+use Rattle.daos_base.specs.declared.epoch.Epoch.{Epoch}
+use Rattle.daos_base.specs.declared.id.ContId.{ContId}
 use Rattle.daos_base.specs.declared.report.Attempt.{Attempt}
 use Rattle.daos_base.specs.declared.report.Line.{Line}
 use Rattle.daos_base.specs.declared.report.Line.TheVariants as line
@@ -51,14 +53,39 @@ attempt_rows s a = try_row s a ∷ detail_rows a.conds a.gots
 
 -- ---- the rows of a report
 
+-- the stop of this number, of a target
+abbrev pub stop_row : ℕ → ℕ → Words
+stop_row number target = codes "stop" ∷ decimal number ∷ decimal target ∷ []
+
+-- the restart of this number, of a target: its incarnation and its floor
+abbrev pub restart_row : ℕ → ℕ → ℕ → Epoch → Words
+restart_row number target incarnation floor = codes "restart" ∷ decimal number ∷ decimal target ∷ decimal incarnation ∷ decimal floor.0 ∷ []
+
+-- a target froze a container at an epoch
+abbrev pub freeze_row : Script → ℕ → ContId → Epoch → Words
+freeze_row s target cont epoch = codes "freeze" ∷ decimal target ∷ cont_word s.conts cont ∷ decimal epoch.0 ∷ []
+
+-- a snapshot of a container was created, with its name and its epoch
+abbrev pub snapshot_row : Script → List ℕ → ContId → Epoch → Words
+snapshot_row s name cont epoch = codes "snapshot" ∷ name ∷ cont_word s.conts cont ∷ decimal epoch.0 ∷ []
+
+-- the aggregation of this number, of a container on a target, up to an epoch
+abbrev pub aggregate_row : Script → ℕ → ℕ → ContId → Epoch → Words
+aggregate_row s number target cont upto = codes "aggregate" ∷ decimal number ∷ decimal target ∷ cont_word s.conts cont ∷ decimal upto.0 ∷ []
+
+-- a target was given up
+abbrev pub down_row : ℕ → Words
+down_row target = codes "down" ∷ decimal target ∷ []
+
+-- an attempt has a row for each condition and answer behind its own, any other line has one row
 abbrev pub line_rows : Script → Line → List Words
 line_rows s (line.Try attempt) = attempt_rows s attempt
-line_rows s (line.Stop number target) = (codes "stop" ∷ decimal number ∷ decimal target ∷ []) ∷ []
-line_rows s (line.Restart number target incarnation floor) = (codes "restart" ∷ decimal number ∷ decimal target ∷ decimal incarnation ∷ decimal floor.0 ∷ []) ∷ []
-line_rows s (line.Freeze target cont epoch) = (codes "freeze" ∷ decimal target ∷ cont_word s.conts cont ∷ decimal epoch.0 ∷ []) ∷ []
-line_rows s (line.Snapshot name cont epoch) = (codes "snapshot" ∷ name ∷ cont_word s.conts cont ∷ decimal epoch.0 ∷ []) ∷ []
-line_rows s (line.Aggregate number target cont upto) = (codes "aggregate" ∷ decimal number ∷ decimal target ∷ cont_word s.conts cont ∷ decimal upto.0 ∷ []) ∷ []
-line_rows s (line.Down target) = (codes "down" ∷ decimal target ∷ []) ∷ []
+line_rows s (line.Stop number target) = stop_row number target ∷ []
+line_rows s (line.Restart number target incarnation floor) = restart_row number target incarnation floor ∷ []
+line_rows s (line.Freeze target cont epoch) = freeze_row s target cont epoch ∷ []
+line_rows s (line.Snapshot name cont epoch) = snapshot_row s name cont epoch ∷ []
+line_rows s (line.Aggregate number target cont upto) = aggregate_row s number target cont upto ∷ []
+line_rows s (line.Down target) = down_row target ∷ []
 
 -- the number of targets
 abbrev pub head_row : ℕ → Words

@@ -3,8 +3,11 @@
 
 mod answers;
 mod attempts;
+mod lines;
 mod names;
 mod outcomes;
+#[cfg(test)]
+mod tests;
 pub mod text;
 mod values;
 mod words;

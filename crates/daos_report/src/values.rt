@@ -5,7 +5,7 @@ ghost use Rattle.daos_report.specs.Values.{hex_byte, hex_digit, is_printable, va
 
 use daos_base::items::Memory;
 
-// Whether all bytes are seen.
+// Whether all bytes are printable and no space.
 fn is_printable(bytes: &[u8]) -> bool
     ensures { result ≡ list_all is_printable bytes.now }
 {
