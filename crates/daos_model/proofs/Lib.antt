@@ -1,3 +1,4 @@
 pub mod Punched
 pub mod Lookups
 pub mod TurnSteps
+pub mod NameOrder

@@ -7,4 +7,5 @@ pub mod cell;
 pub mod effect;
 pub mod laws;
 pub mod map;
+mod names;
 pub mod stand;
