@@ -2,3 +2,4 @@ pub mod Punched
 pub mod Lookups
 pub mod TurnSteps
 pub mod NameOrder
+pub mod PieceSteps

@@ -96,11 +96,3 @@ answer (read.Extent p low len) m = Parts (pieces p low len m)
 answer (read.Dkeys p) m = Names (in_byte_order (dkeys_below p m))
 answer (read.Akeys p) m = Names (in_byte_order (akeys_below p m))
 answer (read.Exists p) m = yes_or_no (has_cell_below p m)
-
--- a read of a single value, or of whether there is a cell
-abbrev pub IsOfValues : Read → Type 0
-IsOfValues (read.Single p) = Unit {0}
-IsOfValues (read.Extent p low len) = ⊥
-IsOfValues (read.Dkeys p) = ⊥
-IsOfValues (read.Akeys p) = ⊥
-IsOfValues (read.Exists p) = Unit {0}

@@ -9,3 +9,4 @@ pub mod OutcomesLegal
 pub mod Headline
 pub mod Laws
 pub mod Turns
+pub mod Pieces

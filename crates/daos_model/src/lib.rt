@@ -8,4 +8,5 @@ pub mod effect;
 pub mod laws;
 pub mod map;
 mod names;
+mod pieces;
 pub mod stand;
