@@ -10,3 +10,4 @@ pub mod Headline
 pub mod Laws
 pub mod Turns
 pub mod Pieces
+pub mod Sameness
