@@ -1,3 +1,5 @@
 pub mod Punched
 pub mod Lookups
 pub mod TurnSteps
+pub mod NameOrder
+pub mod PieceSteps

@@ -1,5 +1,6 @@
 -- Looking up cells: the first value of a cell is the first that passes the test.
-use Rattle.std.proofs.Common.{◌≡◌, true, false, List, [], ◌∷◌, Some, find, refl, ap, ◌||◌, if◌then◌else◌}
+use Rattle.std.proofs.Common.{◌≡◌, ℕ, ◌+◌, ◌<◌, ◌++◌, length, get_or, take, reverse, sym, ◌∙◌, true, false, List, [], ◌∷◌, Some, find, refl, ap, ◌||◌, if◌then◌else◌}
+use Rattle.std.proofs.lemmas.List.{reverse-append, take_more}
 use Rattle.std.specs.List.{list_any}
 use Rattle.std.specs.Option.{option_map}
 use Rattle.daos_base.specs.declared.path.Path.{Path}
@@ -20,3 +21,8 @@ pub has_cell_below-any : (p : Path) (m : List CellValue) → has_cell_below p m 
 unfolding has_cell_below
 has_cell_below-any p [] = refl
 has_cell_below-any p (v ∷ m) = ap (λ b. is_under p v || b) (has_cell_below-any p m)
+
+-- one cell more
+pub newest_more : (m : List CellValue) (i : ℕ) (v : CellValue) → i < length m → v ≡ get_or m i v → reverse (take (i + 1) m) ≡ v ∷ reverse (take i m)
+newest_more m i v lt is =
+    ap reverse (take_more m i v lt ∙ ap (λ x. take i m ++ x ∷ []) (sym is)) ∙ reverse-append (take i m) (v ∷ [])

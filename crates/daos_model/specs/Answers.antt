@@ -55,13 +55,19 @@ abbrev pub option_before : Option (List ℕ) → List (List ℕ) → List (List 
 option_before None ks = ks
 option_before (Some k) ks = k ∷ ks
 
+abbrev pub dkey_under : Path → CellValue → Option (List ℕ)
+dkey_under p v = if leads_to p v.cell.path then v.cell.path.dkey else None
+
+abbrev pub akey_under : Path → CellValue → Option (List ℕ)
+akey_under p v = if leads_to p v.cell.path then v.cell.path.akey else None
+
 unfoldable pub dkeys_below : Path → List CellValue → List (List ℕ)
 dkeys_below p [] = []
-dkeys_below p (v ∷ m) = if leads_to p v.cell.path then option_before v.cell.path.dkey (dkeys_below p m) else dkeys_below p m
+dkeys_below p (v ∷ m) = option_before (dkey_under p v) (dkeys_below p m)
 
 unfoldable pub akeys_below : Path → List CellValue → List (List ℕ)
 akeys_below p [] = []
-akeys_below p (v ∷ m) = if leads_to p v.cell.path then option_before v.cell.path.akey (akeys_below p m) else akeys_below p m
+akeys_below p (v ∷ m) = option_before (akey_under p v) (akeys_below p m)
 
 -- one name is before another in byte order
 abbrev pub is_before : List ℕ → List ℕ → Bool
@@ -74,6 +80,11 @@ abbrev pub name_among : List ℕ → List (List ℕ) → List (List ℕ)
 name_among k [] = k ∷ []
 name_among k (n ∷ ns) = if is_before k n then k ∷ n ∷ ns else if is_before n k then n ∷ name_among k ns else n ∷ ns
 
+-- a name, if there is one, among names in byte order
+abbrev pub option_among : Option (List ℕ) → List (List ℕ) → List (List ℕ)
+option_among None ns = ns
+option_among (Some k) ns = name_among k ns
+
 unfoldable pub in_byte_order : List (List ℕ) → List (List ℕ)
 in_byte_order [] = []
 in_byte_order (k ∷ ks) = name_among k (in_byte_order ks)
@@ -85,11 +96,3 @@ answer (read.Extent p low len) m = Parts (pieces p low len m)
 answer (read.Dkeys p) m = Names (in_byte_order (dkeys_below p m))
 answer (read.Akeys p) m = Names (in_byte_order (akeys_below p m))
 answer (read.Exists p) m = yes_or_no (has_cell_below p m)
-
--- a read of a single value, or of whether there is a cell
-abbrev pub IsOfValues : Read → Type 0
-IsOfValues (read.Single p) = Unit {0}
-IsOfValues (read.Extent p low len) = ⊥
-IsOfValues (read.Dkeys p) = ⊥
-IsOfValues (read.Akeys p) = ⊥
-IsOfValues (read.Exists p) = Unit {0}

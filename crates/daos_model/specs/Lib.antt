@@ -9,3 +9,5 @@ pub mod OutcomesLegal
 pub mod Headline
 pub mod Laws
 pub mod Turns
+pub mod Pieces
+pub mod Sameness

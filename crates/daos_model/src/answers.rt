@@ -1,12 +1,14 @@
 // What a read is answered on a map.
 ghost use Rattle.std.specs.Prelude.{◌≡◌, IfOk};
 ghost use Rattle.std.specs.Option.{option_copied};
-ghost use Rattle.daos_model.specs.Answers.{IsOfValues, answer, value_answer, yes_or_no};
+ghost use Rattle.daos_model.specs.Answers.{answer, value_answer, yes_or_no};
 
 use crate::cell::Cell;
 use crate::map::Map;
+use crate::names::{akeys_below, dkeys_below};
+use crate::pieces::pieces;
 use daos_base::answer::Answer;
-use daos_base::items::{Memory, Vec8};
+use daos_base::items::{Items, Memory, Vec8};
 use daos_base::operation::Read;
 use std::alloc::Global;
 
@@ -27,14 +29,25 @@ fn value_answer(bytes: Option<&Vec8>) -> Result<Answer, Memory>
     }
 }
 
-/// What a read is answered on a map.
-pub fn answer_of(_alloc: Global, map: &Map, read: &Read) -> Result<Answer, Memory>
-    requires { IsOfValues read.now }
+/// What a read is answered on a map: the bytes of a single value, the pieces of an array, the names
+/// that have a cell, or whether there is a cell.
+pub fn answer_of(alloc: Global, map: &Map, read: &Read) -> Result<Answer, Memory>
     ensures { IfOk result (λ a. a ≡ answer read.now map.now) }
 {
     match read {
         Read::Single(path) => value_answer(map.get(&Cell::single(path.copy()?))),
+        Read::Extent(path, low, len) => {
+            let pieces = pieces(alloc, map.newest_last(), path, *low, *len)?;
+            Ok(Answer::Parts(Items::from_vec(pieces)))
+        }
+        Read::Dkeys(path) => {
+            let names = dkeys_below(alloc, map.newest_last(), path)?;
+            Ok(Answer::Names(Items::from_vec(names)))
+        }
+        Read::Akeys(path) => {
+            let names = akeys_below(alloc, map.newest_last(), path)?;
+            Ok(Answer::Names(Items::from_vec(names)))
+        }
         Read::Exists(path) => Ok(yes_or_no(map.has_cell_below(path))),
-        _ => unreachable!(),
     }
 }

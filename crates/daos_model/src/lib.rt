@@ -7,4 +7,6 @@ pub mod cell;
 pub mod effect;
 pub mod laws;
 pub mod map;
+mod names;
+mod pieces;
 pub mod stand;
