@@ -11,7 +11,6 @@ use Rattle.daos_base.specs.declared.script.Script.{Script}
 use Rattle.daos_base.specs.Scripts.{IsInForm, IsPutOrGet, IsSingleAct}
 use Rattle.daos_base.specs.declared.operation.Act.{Act}
 use Rattle.daos_base.specs.declared.operation.Act.TheVariants.{Fetch, Change}
-use Rattle.daos_base.specs.declared.operation.Read.TheVariants as read
 use Rattle.daos_base.specs.declared.operation.Write.TheVariants as write
 use Rattle.daos_run.specs.Acts.{AllCanBeDone, CanBeDone}
 use Rattle.daos_model.specs.Transactions.{attempt_ops, command_of, numbered, numbered_at, ops_of, ops_or_none}
@@ -63,11 +62,7 @@ attempt_ops-is n s k c form lt e =
     ap ops_or_none (first_numbered s.clients k ∙ ap (λ cs. slice_get cs k) (lone-is n s form) ∙ slice_get-get_or (first_list s.clients) k c lt ∙ ap (λ x. Some x) (sym e))
 
 single_act : (objs : List ObjDecl) (act : Act) → IsSingleAct objs act → CanBeDone act
-single_act objs (Fetch (read.Single p)) h = tt
-single_act objs (Fetch (read.Extent p low len)) h = absurd h
-single_act objs (Fetch (read.Dkeys p)) h = absurd h
-single_act objs (Fetch (read.Akeys p)) h = absurd h
-single_act objs (Fetch (read.Exists p)) h = tt
+single_act objs (Fetch r) h = tt
 single_act objs (Change (write.Single p bytes)) h = tt
 single_act objs (Change (write.Extent p low bytes)) h = absurd h
 single_act objs (Change (write.PunchObject p)) h = tt

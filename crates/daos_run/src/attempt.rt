@@ -19,7 +19,6 @@ use std::alloc::Global;
 
 // Tells the answer of an act, where it is a read.
 fn tell(alloc: Global, gots: &mut Gots, number: u8, act: &Act, map: &Map) -> Result<(), Memory>
-    requires { CanBeDone act.now }
     ensures { OnOk result (gots.new ≡ gots.old ++ told number act.now map.now) }
 {
     match act {
@@ -31,8 +30,7 @@ fn tell(alloc: Global, gots: &mut Gots, number: u8, act: &Act, map: &Map) -> Res
 
 // Tells the answers of the reads among operations.
 fn tell_all(alloc: Global, map: &Map, ops: &[Op]) -> Result<Gots, Memory>
-    requires few { length ops.now ≤ 64 }
-    requires can { AllCanBeDone ops.now }
+    requires { length ops.now ≤ 64 }
     ensures { IfOk result (λ gots. gots ≡ all_told 0 ops.now map.now) }
 {
     let mut gots = Items::new(alloc);
