@@ -1,5 +1,5 @@
 -- What a line adds to the script so far, or why it may not stand there.
-use Rattle.std.specs.Prelude.{◌≡◌, ℕ, Bool, nat_le, is_some, List, [], ◌∷◌, ◌++◌, length, Option, Some, None, Result, Ok, Err, if◌then◌else◌}
+use Rattle.std.specs.Prelude.{ℕ, is_some, List, [], ◌∷◌, ◌++◌, length, Option, Some, None, Result, Ok, Err, if◌then◌else◌}
 use Rattle.daos_base.specs.declared.fault.Why.{Why}
 use Rattle.daos_base.specs.declared.fault.Why.TheVariants.{BadBlock, TooMany, NotYet}
 use Rattle.daos_base.specs.declared.operation.Op.{Op}
@@ -12,7 +12,7 @@ use Rattle.daos_script_words.specs.declared.decls.Decls.{Decls}
 use Rattle.daos_script_words.specs.declared.lines.Line.{Line}
 use Rattle.daos_script_words.specs.declared.lines.Line.TheVariants as line
 use Rattle.daos_script.specs.declared.reading.Reading.{Reading}
-use Rattle.daos_script_words.specs.Lookups.{cont_named, obj_named}
+use Rattle.daos_script_words.specs.Decls.{limited, with_cont, with_obj}
 use Rattle.daos_script_words.specs.Reads.{Read}
 
 -- declarations stand before the first client

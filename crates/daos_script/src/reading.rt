@@ -6,13 +6,13 @@ ghost use Rattle.daos_script.specs.Puts.{add_line, lone, put_client, put_cont, p
 ghost use Rattle.daos_script.specs.Readings.{script_so_far};
 ghost use Rattle.daos_script_words.specs.Reads.{Gives};
 
-use daos_script_words::decls::Decls;
-use daos_script_words::fault::LineNo;
-use daos_script_words::lines::Line;
 use daos_base::fault::Why;
 use daos_base::items::Items;
 use daos_base::operation::Op;
 use daos_base::script::{Command, Commands, ContDecl, ObjDecl, Script};
+use daos_script_words::decls::Decls;
+use daos_script_words::fault::LineNo;
+use daos_script_words::lines::Line;
 use std::alloc::{AllocError, Global};
 
 /// The most numbered commands that a script has.

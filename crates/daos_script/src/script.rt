@@ -6,11 +6,11 @@ ghost use Rattle.daos_script_words.specs.Reads.{Gives};
 ghost use Rattle.daos_script.specs.Located.{GivesAt, no_at};
 
 use crate::fault::ScriptNo;
-use daos_script_words::fault::LineNo;
-use daos_script_words::lines::line_at;
 use crate::reading::Reading;
 use daos_base::fault::{ScriptFault, Why};
 use daos_base::script::Script;
+use daos_script_words::fault::LineNo;
+use daos_script_words::lines::line_at;
 use daos_text::parts::Parts;
 use std::alloc::Global;
 
