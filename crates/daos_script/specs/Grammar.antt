@@ -36,7 +36,12 @@ abbrev pub is_printable : ℕ → Bool
 is_printable byte = nat_le 33 byte && nat_le byte 126
 
 abbrev pub IsPrintable : List ℕ → Type 0
-IsPrintable word = list_all is_printable word ≡ true
+IsPrintable bytes = list_all is_printable bytes ≡ true
+
+-- a word of a line: some printable bytes
+pub record IsPrintedWord (word : List ℕ) : Type 0 where
+  pub some : 0 < length word
+  pub printable : IsPrintable word
 
 -- a value: 1 to 1,024 printable bytes
 pub record IsValue (value : List ℕ) : Type 0 where
@@ -48,20 +53,20 @@ pub record IsValue (value : List ℕ) : Type 0 where
 pub record SpellsContainer (name : List ℕ) (id : ContId) (line : List ℕ) : Type 0 where
   pub uuid : List ℕ
   pub name_is : IsKey name
-  pub uuid_printed : IsPrintable uuid
+  pub uuid_is : IsPrintedWord uuid
   pub uuid_read : uuid_of uuid ≡ Some id
   pub line_is : line ≡ row_line (codes "cont" ∷ name ∷ uuid ∷ [])
 
 -- obj NAME CONTAINER S1 NUMBER
 pub record SpellsObject (name cont : List ℕ) (number : ℕ) (line : List ℕ) : Type 0 where
   pub name_is : IsKey name
-  pub cont_is : IsKey cont
+  pub cont_is : IsPrintedWord cont
   pub number_is : number < 2 ^ 64
   pub line_is : line ≡ row_line (codes "obj" ∷ name ∷ cont ∷ codes "S1" ∷ decimal number ∷ [])
 
 -- put OBJECT DKEY AKEY =VALUE
 pub record SpellsPut (obj dkey akey value : List ℕ) (line : List ℕ) : Type 0 where
-  pub obj_is : IsKey obj
+  pub obj_is : IsPrintedWord obj
   pub dkey_is : IsKey dkey
   pub akey_is : IsKey akey
   pub value_is : IsValue value
@@ -69,7 +74,7 @@ pub record SpellsPut (obj dkey akey value : List ℕ) (line : List ℕ) : Type 0
 
 -- get OBJECT DKEY AKEY
 pub record SpellsGet (obj dkey akey : List ℕ) (line : List ℕ) : Type 0 where
-  pub obj_is : IsKey obj
+  pub obj_is : IsPrintedWord obj
   pub dkey_is : IsKey dkey
   pub akey_is : IsKey akey
   pub line_is : line ≡ row_line (codes "get" ∷ obj ∷ dkey ∷ akey ∷ [])
