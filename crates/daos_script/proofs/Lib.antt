@@ -1,0 +1,9 @@
+pub mod Binds
+pub mod Forms
+pub mod LineGives
+pub mod LineReads
+pub mod LineTakes
+pub mod Loop
+pub mod Prints
+pub mod Texts
+pub mod WordReads

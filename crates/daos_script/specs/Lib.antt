@@ -1,0 +1,4 @@
+pub mod Grammar
+pub mod Located
+pub mod Puts
+pub mod Readings

@@ -1,0 +1,6 @@
+// Reads the script of a run: what it declares, and the commands of its clients.
+#![tactic(auto)]
+
+pub mod fault;
+pub mod reading;
+pub mod script;

@@ -1,0 +1,5 @@
+pub mod Decls
+pub mod Lines
+pub mod Lookups
+pub mod Reads
+pub mod Words

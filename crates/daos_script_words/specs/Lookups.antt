@@ -1,0 +1,33 @@
+-- What names of containers and objects stand for.
+use Rattle.std.specs.Prelude.{ℕ, Bool, ◌&&◌, ◌==◌, List, [], ◌∷◌, map, Option, Some, None}
+use Rattle.std.specs.List.{list_any}
+use Rattle.daos_base.specs.declared.id.ContId.{ContId}
+use Rattle.daos_base.specs.declared.id.ObjId.{ObjId}
+use Rattle.daos_base.specs.declared.script.ContDecl.{ContDecl}
+use Rattle.daos_base.specs.declared.script.ObjDecl.{ObjDecl}
+use Rattle.daos_base.specs.Paths.{same_object}
+use Rattle.daos_names.specs.Names.{named}
+
+-- the name of a container, and what it stands for
+abbrev pub name_of_cont : ContDecl → List ℕ × ContId
+name_of_cont d = (d.name, d.id)
+
+-- the name of an object, and what it stands for
+abbrev pub name_of_obj : ObjDecl → List ℕ × (ContId × ObjId)
+name_of_obj d = (d.name, (d.cont, d.id))
+
+-- the container of a name
+unfoldable pub cont_named : List ContDecl → List ℕ → Option ContId
+cont_named conts name = named (map name_of_cont conts) name
+
+-- the object of a name, with its container
+unfoldable pub obj_named : List ObjDecl → List ℕ → Option (ContId × ObjId)
+obj_named objs name = named (map name_of_obj objs) name
+
+-- whether a container of this identity is declared
+unfoldable pub has_cont : List ContDecl → ContId → Bool
+has_cont conts id = list_any (λ d. d.id.0 == id.0) conts
+
+-- whether this object of this container is declared
+unfoldable pub has_obj : List ObjDecl → ContId → ObjId → Bool
+has_obj objs cont id = list_any (λ d. (d.cont.0 == cont.0) && same_object d.id id) objs

@@ -1,0 +1,240 @@
+// What is declared so far.
+ghost use Rattle.std.specs.Prelude.{◌≡◌, [], ◌∷◌, ◌++◌, IfOk, None, length};
+ghost use Rattle.daos_script_words.specs.Lookups.{cont_named, has_cont, has_obj, obj_named};
+ghost use Rattle.daos_script_words.specs.Decls.{with_cont, with_obj};
+ghost use Rattle.daos_script_words.specs.Reads.{Gives};
+
+use crate::fault::LineNo;
+use daos_base::fault::Why;
+use daos_base::id::{ContId, ObjId};
+use daos_base::items::Items;
+use daos_base::script::{ContDecl, Conts, ObjDecl, Objs};
+use daos_names::Names;
+use std::alloc::{AllocError, Global};
+use std::marker::Model;
+
+/// The most containers that a script declares.
+pub const CONTS_MAX: u32 = 256;
+
+/// The most objects that a script declares.
+pub const OBJS_MAX: u32 = 4096;
+
+/// The containers, each found by its name.
+#[derive(Drop)]
+pub struct ContDecls {
+    decls: Conts,
+    names: Names<ContId>,
+}
+
+impl Model for ContDecls {
+    ghost use Rattle.std.specs.Prelude.{◌≡◌, List, map};
+    ghost use Rattle.daos_base.specs.declared.script.ContDecl.{ContDecl};
+    ghost use Rattle.daos_script_words.specs.Lookups.{name_of_cont};
+
+    ghost Value = { List ContDecl };
+
+    ghost view = { λ a. a.decls };
+
+    ghost invariant = { λ a. a.names ≡ map name_of_cont a.decls };
+}
+
+// Whether a container of this identity is declared.
+#[tactic(auto, unfolding(crate::specs::Lookups::has_cont))]
+fn has_cont(decls: &[ContDecl], id: ContId) -> bool
+    ensures { result ≡ has_cont decls.now id }
+{
+    decls.iter().any(|decl| decl.id.0 == id.0)
+}
+
+impl ContDecls {
+    pub fn new(alloc: Global) -> Self
+        ensures { result ≡ [] }
+    {
+        ContDecls {
+            decls: Items::new(alloc),
+            names: Names::new(alloc),
+        }
+    }
+
+    /// The container of a name.
+    #[tactic(auto, unfolding(crate::specs::Lookups::cont_named))]
+    pub fn find(&self, name: &[u8]) -> Option<ContId>
+        ensures { result ≡ cont_named self.now name.now }
+    {
+        self.names.find(name)
+    }
+
+    /// Whether a container of this identity is declared.
+    pub fn has(&self, id: ContId) -> bool
+        ensures { result ≡ has_cont self.now id }
+    {
+        has_cont(self.decls.as_slice(), id)
+    }
+
+    /// Adds a container of a new name.
+    #[tactic(auto, unfolding(crate::specs::Lookups::cont_named))]
+    pub fn add(self, alloc: Global, decl: ContDecl) -> Result<Self, AllocError>
+        requires { cont_named self decl.name ≡ None }
+        ensures { IfOk result (λ decls. decls ≡ self ++ decl ∷ []) }
+    {
+        let ContDecls {
+            mut decls,
+            mut names,
+        } = self;
+        names.declare(alloc, decl.name.bytes(), decl.id)?;
+        decls.push(decl)?;
+        Ok(ContDecls { decls, names })
+    }
+
+    /// How many there are.
+    pub fn count(&self) -> usize
+        ensures { result ≡ length self.now }
+    {
+        self.decls.len()
+    }
+
+    pub fn into_items(self) -> Conts
+        ensures { result ≡ self }
+    {
+        let ContDecls {
+            decls,
+            names: _names,
+        } = self;
+        decls
+    }
+}
+
+/// The objects, each found by its name.
+#[derive(Drop)]
+pub struct ObjDecls {
+    decls: Objs,
+    names: Names<(ContId, ObjId)>,
+}
+
+impl Model for ObjDecls {
+    ghost use Rattle.std.specs.Prelude.{◌≡◌, List, map};
+    ghost use Rattle.daos_base.specs.declared.script.ObjDecl.{ObjDecl};
+    ghost use Rattle.daos_script_words.specs.Lookups.{name_of_obj};
+
+    ghost Value = { List ObjDecl };
+
+    ghost view = { λ a. a.decls };
+
+    ghost invariant = { λ a. a.names ≡ map name_of_obj a.decls };
+}
+
+// Whether this object of this container is declared.
+#[tactic(auto, unfolding(crate::specs::Lookups::has_obj))]
+fn has_obj(decls: &[ObjDecl], cont: ContId, id: ObjId) -> bool
+    ensures { result ≡ has_obj decls.now cont id }
+{
+    decls
+        .iter()
+        .any(|decl| decl.cont.0 == cont.0 && decl.id.same(id))
+}
+
+impl ObjDecls {
+    pub fn new(alloc: Global) -> Self
+        ensures { result ≡ [] }
+    {
+        ObjDecls {
+            decls: Items::new(alloc),
+            names: Names::new(alloc),
+        }
+    }
+
+    /// The object of a name, with its container.
+    #[tactic(auto, unfolding(crate::specs::Lookups::obj_named))]
+    pub fn find(&self, name: &[u8]) -> Option<(ContId, ObjId)>
+        ensures { result ≡ obj_named self.now name.now }
+    {
+        self.names.find(name)
+    }
+
+    /// Whether this object of this container is declared.
+    pub fn has(&self, cont: ContId, id: ObjId) -> bool
+        ensures { result ≡ has_obj self.now cont id }
+    {
+        has_obj(self.decls.as_slice(), cont, id)
+    }
+
+    /// Adds an object of a new name.
+    #[tactic(auto, unfolding(crate::specs::Lookups::obj_named))]
+    pub fn add(self, alloc: Global, decl: ObjDecl) -> Result<Self, AllocError>
+        requires { obj_named self decl.name ≡ None }
+        ensures { IfOk result (λ decls. decls ≡ self ++ decl ∷ []) }
+    {
+        let ObjDecls {
+            mut decls,
+            mut names,
+        } = self;
+        names.declare(alloc, decl.name.bytes(), (decl.cont, decl.id))?;
+        decls.push(decl)?;
+        Ok(ObjDecls { decls, names })
+    }
+
+    /// How many there are.
+    pub fn count(&self) -> usize
+        ensures { result ≡ length self.now }
+    {
+        self.decls.len()
+    }
+
+    pub fn into_items(self) -> Objs
+        ensures { result ≡ self }
+    {
+        let ObjDecls {
+            decls,
+            names: _names,
+        } = self;
+        decls
+    }
+}
+
+/// What is declared so far, in a script for so many targets. Each line is read by it.
+#[derive(Drop)]
+pub struct Decls {
+    pub targets: u8,
+    pub conts: ContDecls,
+    pub objs: ObjDecls,
+}
+
+impl Decls {
+    pub fn new(alloc: Global, targets: u8) -> Decls
+        ensures { result ≡ record { targets = targets; conts = []; objs = [] } }
+    {
+        Decls {
+            targets,
+            conts: ContDecls::new(alloc),
+            objs: ObjDecls::new(alloc),
+        }
+    }
+
+    /// One more container, of a new name.
+    #[tactic(auto, unfolding(crate::specs::Decls::with_cont))]
+    pub fn with_cont(self, alloc: Global, decl: ContDecl) -> Result<Decls, LineNo>
+        requires { cont_named self.conts decl.name ≡ None }
+        ensures { Gives (λ decls. decls) result (with_cont self decl) }
+    {
+        if self.conts.count() >= CONTS_MAX as usize {
+            return Err(LineNo::Fault(Why::TooMany(CONTS_MAX)));
+        }
+        let mut decls = self;
+        decls.conts = decls.conts.add(alloc, decl)?;
+        Ok(decls)
+    }
+
+    /// One more object, of a new name.
+    #[tactic(auto, unfolding(crate::specs::Decls::with_obj))]
+    pub fn with_obj(self, alloc: Global, decl: ObjDecl) -> Result<Decls, LineNo>
+        requires { obj_named self.objs decl.name ≡ None }
+        ensures { Gives (λ decls. decls) result (with_obj self decl) }
+    {
+        if self.objs.count() >= OBJS_MAX as usize {
+            return Err(LineNo::Fault(Why::TooMany(OBJS_MAX)));
+        }
+        let mut decls = self;
+        decls.objs = decls.objs.add(alloc, decl)?;
+        Ok(decls)
+    }
+}

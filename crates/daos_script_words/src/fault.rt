@@ -1,0 +1,29 @@
+// Why a line says nothing.
+ghost use Rattle.std.specs.Prelude.{◌≡◌};
+ghost use Rattle.daos_script_words.specs.declared.fault.LineNo.TheVariants.{Memory as NoMemory};
+
+use daos_base::fault::Why;
+use std::alloc::{AllocError, AllocFailed};
+
+/// Why a line says nothing.
+#[derive(Debug, Drop)]
+pub enum LineNo {
+    Fault(Why),
+    Memory,
+}
+
+impl From<AllocError> for LineNo {
+    ghost from_gives = { λ _ e. e ≡ NoMemory };
+
+    fn from(_error: AllocError) -> LineNo {
+        LineNo::Memory
+    }
+}
+
+impl<T: Drop> From<AllocFailed<T>> for LineNo {
+    ghost from_gives = { λ _ e. e ≡ NoMemory };
+
+    fn from(_error: AllocFailed<T>) -> LineNo {
+        LineNo::Memory
+    }
+}
