@@ -125,7 +125,7 @@ empty_form n = record {
     objs = omega arith;
     obj_names = tt;
     obj_ids = tt;
-    obj_conts = all_none _ [] refl
+    obj_conts = all_none _ [] refl;
   };
   run_yet = record {
     classes = all_none _ [] refl;
@@ -133,8 +133,8 @@ empty_form n = record {
     stops = refl;
     clients = omega arith;
     few = all_none _ [] refl;
-    commands = all_none _ [] refl
-  }
+    commands = all_none _ [] refl;
+  };
 }
 
 form_cont : (n : ℕ) (name : List ℕ) (id : ContId) (s t : Script) → IsInForm n s → DeclaresContainer name id s t → IsInForm n t
@@ -150,7 +150,7 @@ form_cont n name id s t f d =
         objs = g.objs;
         obj_names = g.obj_names;
         obj_ids = g.obj_ids;
-        obj_conts = λ k o lt. any_more (λ c. c.id ≡ (get_or s.objs k o).cont) s.conts (decl ∷ []) (g.obj_conts k o lt)
+        obj_conts = λ k o lt. any_more (λ c. c.id ≡ (get_or s.objs k o).cont) s.conts (decl ∷ []) (g.obj_conts k o lt);
       };
       run_yet = record {
         classes = f.run_yet.classes;
@@ -158,8 +158,8 @@ form_cont n name id s t f d =
         stops = f.run_yet.stops;
         clients = f.run_yet.clients;
         few = f.run_yet.few;
-        commands = f.run_yet.commands
-      }
+        commands = f.run_yet.commands;
+      };
     })
 
 form_obj : (n : ℕ) (name cont : List ℕ) (number : ℕ) (s t : Script) → IsInForm n s → DeclaresObject name cont number s t → IsInForm n t
@@ -175,7 +175,7 @@ form_obj n name cont number s t f d =
         objs = omega (arith, length-append s.objs (decl ∷ []), d.room);
         obj_names = pushed obj_name s.objs decl (λ ns. IsDistinct same_key ns) (IsDistinct-push same_key (map obj_name s.objs) name g.obj_names (obj_is_new s.objs name d.new_name));
         obj_ids = IsDistinct-push same_declared s.objs decl g.obj_ids (object_is_new s.objs name d.id decl.id d.new_object);
-        obj_conts = All-push (λ o. Any (λ c. c.id ≡ o.cont) s.conts) s.objs decl g.obj_conts (cont_is_known s.conts cont d.id d.known)
+        obj_conts = All-push (λ o. Any (λ c. c.id ≡ o.cont) s.conts) s.objs decl g.obj_conts (cont_is_known s.conts cont d.id d.known);
       };
       run_yet = record {
         classes = All-push (λ o. o.id.class ≡ S1) s.objs decl f.run_yet.classes refl;
@@ -183,8 +183,8 @@ form_obj n name cont number s t f d =
         stops = f.run_yet.stops;
         clients = f.run_yet.clients;
         few = f.run_yet.few;
-        commands = all_none (λ list. All (λ c. IsPutOrGet (s.objs ++ decl ∷ []) c) list) s.clients d.before_client
-      }
+        commands = all_none (λ list. All (λ c. IsPutOrGet (s.objs ++ decl ∷ []) c) list) s.clients d.before_client;
+      };
     })
 
 form_client : (n : ℕ) (s t : Script) → IsInForm n s → BeginsClient s t → IsInForm n t
@@ -198,7 +198,7 @@ form_client n s t f d =
         objs = f.declared.objs;
         obj_names = f.declared.obj_names;
         obj_ids = f.declared.obj_ids;
-        obj_conts = f.declared.obj_conts
+        obj_conts = f.declared.obj_conts;
       };
       run_yet = record {
         classes = f.run_yet.classes;
@@ -206,8 +206,8 @@ form_client n s t f d =
         stops = f.run_yet.stops;
         clients = omega arith;
         few = All-from_recursion (λ list. length list ≤ 100000) ([] ∷ []) (omega arith, tt);
-        commands = All-from_recursion (λ list. All (λ c. IsPutOrGet s.objs c) list) ([] ∷ []) (all_none (λ c. IsPutOrGet s.objs c) [] refl, tt)
-      }
+        commands = All-from_recursion (λ list. All (λ c. IsPutOrGet s.objs c) list) ([] ∷ []) (all_none (λ c. IsPutOrGet s.objs c) [] refl, tt);
+      };
     })
 
 form_command : (n : ℕ) (obj : List ℕ) (act : ContId × ObjId → Act) (s t : Script) → IsInForm n s → (d : Commands obj act s t) → IsSingleAct s.objs (act d.id) → IsInForm n t
@@ -224,7 +224,7 @@ form_command n obj act s t f d single =
         objs = f.declared.objs;
         obj_names = f.declared.obj_names;
         obj_ids = f.declared.obj_ids;
-        obj_conts = f.declared.obj_conts
+        obj_conts = f.declared.obj_conts;
       };
       run_yet = record {
         classes = f.run_yet.classes;
@@ -233,8 +233,8 @@ form_command n obj act s t f d single =
         clients = omega arith;
         few = All-from_recursion (λ list. length list ≤ 100000) ((d.list ++ command ∷ []) ∷ []) (more, tt);
         commands = All-from_recursion (λ list. All (λ c. IsPutOrGet s.objs c) list) ((d.list ++ command ∷ []) ∷ [])
-          (All-push (λ c. IsPutOrGet s.objs c) d.list command before ((record { act = act d.id; cond = Free }, refl, refl, single), refl, refl), tt)
-      }
+            (All-push (λ c. IsPutOrGet s.objs c) d.list command before ((record { act = act d.id; cond = Free }, refl, refl, single), refl, refl), tt);
+      };
     })
 
 akey_of : (objs : List ObjDecl) (obj dkey akey : List ℕ) (id : ContId × ObjId) → obj_named objs obj ≡ Some id → IsAkeyOf objs (akey_path id dkey akey)

@@ -127,53 +127,58 @@ module _ (r : Reading) (text : List ℕ) where
   unfolding verb_word
   gives_cont name id s c d =
       let said = cont_said r.decls name c.uuid id c.name_is c.uuid_is.some c.uuid_read d.new_name d.new_id in
-      let decl : ContDecl = record { name = name; id = id } in
-      (record { decls = record r.decls { conts = r.decls.conts ++ decl ∷ [] }; client = r.client },
+      let decl : ContDecl = record { name = name; id = id } in (
+        record { decls = record r.decls { conts = r.decls.conts ++ decl ∷ [] }; client = r.client },
         reads_line verb.Cont (name ∷ c.uuid ∷ []) (line.Cont decl) c.line_is (refl, ((IsPrintedWord-key name c.name_is).printable, (c.uuid_is.printable, tt))) said
-          ∙ put_cont_gives r decl (no_client r.client d.before_client) d.room,
-        sym d.declared)
+            ∙ put_cont_gives r decl (no_client r.client d.before_client) d.room,
+        sym d.declared,
+      )
 
   gives_obj : (name cont : List ℕ) (number : ℕ) (s : Script) → SpellsObject name cont number text → DeclaresObject name cont number (script_so_far r) s → (t : Reading) × (read_line r text ≡ Ok t) × (script_so_far t ≡ s)
   unfolding verb_word
   gives_obj name cont number s c d =
       let said = obj_said r.decls name cont d.id number c.name_is c.cont_is.some c.number_is d.new_name d.known d.new_object in
-      let decl : ObjDecl = record { name = name; cont = d.id; id = record { class = S1; number = number } } in
-      (record { decls = record r.decls { objs = r.decls.objs ++ decl ∷ [] }; client = r.client },
+      let decl : ObjDecl = record { name = name; cont = d.id; id = record { class = S1; number = number } } in (
+        record { decls = record r.decls { objs = r.decls.objs ++ decl ∷ [] }; client = r.client },
         reads_line verb.Obj (name ∷ cont ∷ codes "S1" ∷ decimal number ∷ []) (line.Obj decl) c.line_is
             (refl, ((IsPrintedWord-key name c.name_is).printable, (c.cont_is.printable, (refl, (IsPrintable-decimal number c.number_is, tt))))) said
-          ∙ put_obj_gives r decl (no_client r.client d.before_client) d.room,
-        sym d.declared)
+            ∙ put_obj_gives r decl (no_client r.client d.before_client) d.room,
+        sym d.declared,
+      )
 
   gives_client : (s : Script) → text ≡ codes "client" → BeginsClient (script_so_far r) s → (t : Reading) × (read_line r text ≡ Ok t) × (script_so_far t ≡ s)
   unfolding verb_word
-  gives_client s e d =
-      (record { decls = r.decls; client = Some [] },
-        reads_line verb.Client [] line.Client e (refl, tt) refl ∙ put_client_gives r (no_client r.client d.first),
-        sym d.begun)
+  gives_client s e d = (
+    record { decls = r.decls; client = Some [] },
+    reads_line verb.Client [] line.Client e (refl, tt) refl ∙ put_client_gives r (no_client r.client d.first),
+    sym d.begun,
+  )
 
   gives_put : (obj dkey akey value : List ℕ) (s : Script) → SpellsPut obj dkey akey value text → Commands obj (λ id. Change (write.Single (akey_path id dkey akey) value)) (script_so_far r) s
       → (t : Reading) × (read_line r text ≡ Ok t) × (script_so_far t ≡ s)
   unfolding verb_word
   gives_put obj dkey akey value s c d =
       let said = put_said r.decls obj dkey akey value d.id c.obj_is.some d.known c.dkey_is c.akey_is c.value_is.some c.value_is.few in
-      let act : Act = Change (write.Single (akey_path d.id dkey akey) value) in
-      (record { decls = r.decls; client = Some (d.list ++ lone_act act ∷ []) },
+      let act : Act = Change (write.Single (akey_path d.id dkey akey) value) in (
+        record { decls = r.decls; client = Some (d.list ++ lone_act act ∷ []) },
         reads_line verb.Put (obj ∷ dkey ∷ akey ∷ (61 ∷ value) ∷ []) (free act) c.line_is
             (refl, (c.obj_is.printable, ((IsPrintedWord-key dkey c.dkey_is).printable, ((IsPrintedWord-key akey c.akey_is).printable, (c.value_is.printable, tt))))) said
-          ∙ put_op_gives r (record { act = act; cond = Free }) d.list (one_client r.client d.list d.in_client) d.room,
-        sym d.commanded)
+            ∙ put_op_gives r (record { act = act; cond = Free }) d.list (one_client r.client d.list d.in_client) d.room,
+        sym d.commanded,
+      )
 
   gives_get : (obj dkey akey : List ℕ) (s : Script) → SpellsGet obj dkey akey text → Commands obj (λ id. Fetch (read.Single (akey_path id dkey akey))) (script_so_far r) s
       → (t : Reading) × (read_line r text ≡ Ok t) × (script_so_far t ≡ s)
   unfolding verb_word
   gives_get obj dkey akey s c d =
       let said = get_said r.decls obj dkey akey d.id c.obj_is.some d.known c.dkey_is c.akey_is in
-      let act : Act = Fetch (read.Single (akey_path d.id dkey akey)) in
-      (record { decls = r.decls; client = Some (d.list ++ lone_act act ∷ []) },
+      let act : Act = Fetch (read.Single (akey_path d.id dkey akey)) in (
+        record { decls = r.decls; client = Some (d.list ++ lone_act act ∷ []) },
         reads_line verb.Get (obj ∷ dkey ∷ akey ∷ []) (free act) c.line_is
             (refl, (c.obj_is.printable, ((IsPrintedWord-key dkey c.dkey_is).printable, ((IsPrintedWord-key akey c.akey_is).printable, tt)))) said
-          ∙ put_op_gives r (record { act = act; cond = Free }) d.list (one_client r.client d.list d.in_client) d.room,
-        sym d.commanded)
+            ∙ put_op_gives r (record { act = act; cond = Free }) d.list (one_client r.client d.list d.in_client) d.room,
+        sym d.commanded,
+      )
 
   pub line_gives : (statement : Statement) (s : Script) → IsSpelled statement text → Extends statement (script_so_far r) s → (t : Reading) × (read_line r text ≡ Ok t) × (script_so_far t ≡ s)
   line_gives (Container name id) s c d = gives_cont name id s c d
@@ -188,11 +193,11 @@ spelled_is_shown (Container name id) text c =
     ap (λ t. list_all is_shown t) c.line_is ∙ shown-row_line (codes "cont" ∷ name ∷ c.uuid ∷ []) (refl, ((IsPrintedWord-key name c.name_is).printable, (c.uuid_is.printable, tt)))
 spelled_is_shown (Object name cont number) text c =
     ap (λ t. list_all is_shown t) c.line_is ∙ shown-row_line (codes "obj" ∷ name ∷ cont ∷ codes "S1" ∷ decimal number ∷ [])
-      (refl, ((IsPrintedWord-key name c.name_is).printable, (c.cont_is.printable, (refl, (IsPrintable-decimal number c.number_is, tt)))))
+    (refl, ((IsPrintedWord-key name c.name_is).printable, (c.cont_is.printable, (refl, (IsPrintable-decimal number c.number_is, tt)))))
 spelled_is_shown Client text c = ap (λ t. list_all is_shown t) c
 spelled_is_shown (Put obj dkey akey value) text c =
     ap (λ t. list_all is_shown t) c.line_is ∙ shown-row_line (codes "put" ∷ obj ∷ dkey ∷ akey ∷ (61 ∷ value) ∷ [])
-      (refl, (c.obj_is.printable, ((IsPrintedWord-key dkey c.dkey_is).printable, ((IsPrintedWord-key akey c.akey_is).printable, (c.value_is.printable, tt)))))
+    (refl, (c.obj_is.printable, ((IsPrintedWord-key dkey c.dkey_is).printable, ((IsPrintedWord-key akey c.akey_is).printable, (c.value_is.printable, tt)))))
 spelled_is_shown (Get obj dkey akey) text c =
     ap (λ t. list_all is_shown t) c.line_is ∙ shown-row_line (codes "get" ∷ obj ∷ dkey ∷ akey ∷ [])
-      (refl, (c.obj_is.printable, ((IsPrintedWord-key dkey c.dkey_is).printable, ((IsPrintedWord-key akey c.akey_is).printable, tt))))
+    (refl, (c.obj_is.printable, ((IsPrintedWord-key dkey c.dkey_is).printable, ((IsPrintedWord-key akey c.akey_is).printable, tt))))

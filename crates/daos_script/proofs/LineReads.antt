@@ -68,9 +68,9 @@ verb_of_takes : (w : List ℕ) (x : Verb) → verb_of w ≡ Some x → w ≡ ver
 unfolding verb_word
 verb_of_takes w x e =
     word_of_first w verb.Cont x (first_of_word w verb.Obj (first_of_word w verb.Client (first_of_word w verb.Put (first_of_word w verb.Get None))))
-      (word_of_first w verb.Obj x (first_of_word w verb.Client (first_of_word w verb.Put (first_of_word w verb.Get None)))
-        (word_of_first w verb.Client x (first_of_word w verb.Put (first_of_word w verb.Get None))
-          (word_of_first w verb.Put x (first_of_word w verb.Get None) (word_of_first w verb.Get x None (λ e. absurd cc))))) e
+    (word_of_first w verb.Obj x (first_of_word w verb.Client (first_of_word w verb.Put (first_of_word w verb.Get None)))
+    (word_of_first w verb.Client x (first_of_word w verb.Put (first_of_word w verb.Get None))
+    (word_of_first w verb.Put x (first_of_word w verb.Get None) (word_of_first w verb.Get x None (λ e. absurd cc))))) e
 
 pub verb_takes : (ws : Words) (x : Verb × Words) → verb_at ws ≡ Ok x → ws ≡ verb_word x.0 ∷ x.1
 unfolding verb_at
@@ -114,7 +114,7 @@ cont_line_takes decls ws x e =
       uuid_read = u.3;
       new_name = n.2;
       new_id = g.0;
-      said = sym (ap (λ (p : Line × Words). p.0) same)
+      said = sym (ap (λ (p : Line × Words). p.0) same);
     }
 
 pub record ReadsObj (decls : Decls) (ws : Words) (x : Line × Words) : Type 0 where
@@ -135,7 +135,7 @@ pub record ReadsObj (decls : Decls) (ws : Words) (x : Line × Words) : Type 0 wh
 abbrev obj_said : Decls → List ℕ → ContId → Class → ℕ × Words → Taken Line
 obj_said decls name cont class number =
     cond (has_obj decls.objs cont (record { class = class; number = number.0 })) (Err BadName)
-      (Ok (line.Obj (record { name = name; cont = cont; id = record { class = class; number = number.0 } }), number.1))
+    (Ok (line.Obj (record { name = name; cont = cont; id = record { class = class; number = number.0 } }), number.1))
 
 pub obj_line_takes : (decls : Decls) (ws : Words) (x : Line × Words) → obj_line decls ws ≡ Ok x → ReadsObj decls ws x
 unfolding obj_line
@@ -164,7 +164,7 @@ obj_line_takes decls ws x e =
       new_name = n.2;
       known = k.3;
       new_object = g.0;
-      said = sym (ap (λ (p : Line × Words). p.0) same)
+      said = sym (ap (λ (p : Line × Words). p.0) same);
     }
 
 pub record ReadsCell (decls : Decls) (ws : Words) (x : Path × Words) : Type 0 where
@@ -200,7 +200,7 @@ cell_takes decls ws x e =
       dkey_is = d.1;
       akey_is = k.1;
       known = o.3;
-      path = sym (ap (λ (p : Path × Words). p.0) same)
+      path = sym (ap (λ (p : Path × Words). p.0) same);
     }
 
 -- an operation without a condition
@@ -244,7 +244,7 @@ put_line_takes decls ws x e =
       some_value = v.1;
       few_value = v.2;
       known = c.known;
-      said = sym (ap (λ (p : Line × Words). p.0) same) ∙ ap (λ path. free (Change (write.Single path b.0.0))) c.path
+      said = sym (ap (λ (p : Line × Words). p.0) same) ∙ ap (λ path. free (Change (write.Single path b.0.0))) c.path;
     }
 
 pub record ReadsGet (decls : Decls) (ws : Words) (x : Line × Words) : Type 0 where
@@ -276,5 +276,5 @@ get_line_takes decls ws x e =
       dkey_is = c.dkey_is;
       akey_is = c.akey_is;
       known = c.known;
-      said = sym (ap (λ (p : Line × Words). p.0) same) ∙ ap (λ path. free (Fetch (read.Single path))) c.path
+      said = sym (ap (λ (p : Line × Words). p.0) same) ∙ ap (λ path. free (Fetch (read.Single path))) c.path;
     }

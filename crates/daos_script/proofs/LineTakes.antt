@@ -46,9 +46,9 @@ limited_takes most count x y e =
     let g = unless_ok (leb most count) (TooMany most) (Ok x) y e in
     let lt : count < most = below most count g.0 in
     (lt, ok_is x y g.1)
-    where
-      below : (m n : ℕ) → leb m n ≡ false → n < m
-      below m n e = grind (arith, nat_tests)
+  where
+    below : (m n : ℕ) → leb m n ≡ false → n < m
+    below m n e = grind (arith, nat_tests)
 
 put_cont_takes : (r : Reading) (d : ContDecl) (t : Reading) → put_cont r d ≡ Ok t
     → (r.client ≡ None) × (length r.decls.conts < 256) × (record { decls = record r.decls { conts = r.decls.conts ++ d ∷ [] }; client = r.client } ≡ t)
@@ -90,7 +90,6 @@ put_op_takes r op t e =
 
 -- ---- each line
 
-
 module _ (r t : Reading) (text : List ℕ) (ws : Words) (x : Line × Words) where
   -- a line of a first word and these words
   text_of : (word : List ℕ) (words : Words) → text ≡ row_line (word ∷ ws) → ws ≡ words → text ≡ row_line (word ∷ words)
@@ -103,16 +102,17 @@ module _ (r t : Reading) (text : List ℕ) (ws : Words) (x : Line × Words) wher
   takes_cont e p c last a =
       let words = c.words ∙ ap (λ rest. c.name ∷ c.uuid ∷ rest) last in
       let put : put_cont r (record { name = c.name; id = c.id }) ≡ Ok t = subst (λ l. add_line r l ≡ Ok t) c.said a in
-      let g = put_cont_takes r (record { name = c.name; id = c.id }) t put in
-      (Container c.name c.id,
+      let g = put_cont_takes r (record { name = c.name; id = c.id }) t put in (
+        Container c.name c.id,
         record {
           uuid = c.uuid;
           name_is = c.name_is;
           uuid_is = record { some = c.some; printable = (printed (c.name ∷ c.uuid ∷ []) p words).1.0 };
           uuid_read = c.uuid_read;
-          line_is = text_of (codes "cont") (c.name ∷ c.uuid ∷ []) e words
+          line_is = text_of (codes "cont") (c.name ∷ c.uuid ∷ []) e words;
         },
-        record { before_client = ap client_lists g.0; room = g.1; new_name = c.new_name; new_id = c.new_id; declared = sym (ap script_so_far g.2) })
+        record { before_client = ap client_lists g.0; room = g.1; new_name = c.new_name; new_id = c.new_id; declared = sym (ap script_so_far g.2) },
+      )
 
   takes_obj : text ≡ row_line (codes "obj" ∷ ws) → AllByRecursion IsPrintable ws → ReadsObj r.decls ws x → x.1 ≡ [] → add_line r x.0 ≡ Ok t → (statement : Statement) × IsSpelled statement text × Extends statement (script_so_far r) (script_so_far t)
   takes_obj e p c last a =
@@ -120,15 +120,16 @@ module _ (r t : Reading) (text : List ℕ) (ws : Words) (x : Line × Words) wher
       let words : ws ≡ list = c.words ∙ ap (λ rest. c.name ∷ c.cont ∷ codes "S1" ∷ decimal c.number ∷ rest) last in
       let decl : ObjDecl = record { name = c.name; cont = c.id; id = record { class = S1; number = c.number } } in
       let put : put_obj r decl ≡ Ok t = subst (λ l. add_line r l ≡ Ok t) c.said a in
-      let g = put_obj_takes r decl t put in
-      (Object c.name c.cont c.number,
+      let g = put_obj_takes r decl t put in (
+        Object c.name c.cont c.number,
         record {
           name_is = c.name_is;
           cont_is = record { some = c.some; printable = (printed list p words).1.0 };
           number_is = c.number_is;
-          line_is = text_of (codes "obj") list e words
+          line_is = text_of (codes "obj") list e words;
         },
-        record { id = c.id; before_client = ap client_lists g.0; room = g.1; new_name = c.new_name; known = c.known; new_object = c.new_object; declared = sym (ap script_so_far g.2) })
+        record { id = c.id; before_client = ap client_lists g.0; room = g.1; new_name = c.new_name; known = c.known; new_object = c.new_object; declared = sym (ap script_so_far g.2) },
+      )
 
   takes_client : text ≡ row_line (codes "client" ∷ ws) → ws ≡ [] → add_line r line.Client ≡ Ok t → (statement : Statement) × IsSpelled statement text × Extends statement (script_so_far r) (script_so_far t)
   takes_client e last a =
@@ -142,16 +143,17 @@ module _ (r t : Reading) (text : List ℕ) (ws : Words) (x : Line × Words) wher
       let act : Act = Change (write.Single (akey_path c.id c.dkey c.akey) c.value) in
       let put : put_op r (record { act = act; cond = Free }) ≡ Ok t = subst (λ l. add_line r l ≡ Ok t) c.said a in
       let g = put_op_takes r (record { act = act; cond = Free }) t put in
-      let print = printed list p words in
-      (Put c.obj c.dkey c.akey c.value,
+      let print = printed list p words in (
+        Put c.obj c.dkey c.akey c.value,
         record {
           obj_is = record { some = c.some; printable = print.0 };
           dkey_is = c.dkey_is;
           akey_is = c.akey_is;
           value_is = record { some = c.some_value; few = c.few_value; printable = print.1.1.1.0 };
-          line_is = text_of (codes "put") list e words
+          line_is = text_of (codes "put") list e words;
         },
-        record { list = g.0; id = c.id; in_client = ap client_lists g.1; room = g.2; known = c.known; commanded = sym (ap script_so_far g.3) })
+        record { list = g.0; id = c.id; in_client = ap client_lists g.1; room = g.2; known = c.known; commanded = sym (ap script_so_far g.3) },
+      )
 
   takes_get : text ≡ row_line (codes "get" ∷ ws) → AllByRecursion IsPrintable ws → ReadsGet r.decls ws x → x.1 ≡ [] → add_line r x.0 ≡ Ok t → (statement : Statement) × IsSpelled statement text × Extends statement (script_so_far r) (script_so_far t)
   takes_get e p c last a =
@@ -159,15 +161,16 @@ module _ (r t : Reading) (text : List ℕ) (ws : Words) (x : Line × Words) wher
       let words : ws ≡ list = c.words ∙ ap (λ rest. c.obj ∷ c.dkey ∷ c.akey ∷ rest) last in
       let act : Act = Fetch (read.Single (akey_path c.id c.dkey c.akey)) in
       let put : put_op r (record { act = act; cond = Free }) ≡ Ok t = subst (λ l. add_line r l ≡ Ok t) c.said a in
-      let g = put_op_takes r (record { act = act; cond = Free }) t put in
-      (Get c.obj c.dkey c.akey,
+      let g = put_op_takes r (record { act = act; cond = Free }) t put in (
+        Get c.obj c.dkey c.akey,
         record {
           obj_is = record { some = c.some; printable = (printed list p words).0 };
           dkey_is = c.dkey_is;
           akey_is = c.akey_is;
-          line_is = text_of (codes "get") list e words
+          line_is = text_of (codes "get") list e words;
         },
-        record { list = g.0; id = c.id; in_client = ap client_lists g.1; room = g.2; known = c.known; commanded = sym (ap script_so_far g.3) })
+        record { list = g.0; id = c.id; in_client = ap client_lists g.1; room = g.2; known = c.known; commanded = sym (ap script_so_far g.3) },
+      )
 
 takes_by : (v : Verb) (r t : Reading) (text : List ℕ) (ws : Words) (x : Line × Words) → text ≡ row_line (verb_word v ∷ ws) → AllByRecursion IsPrintable ws → line_by r.decls v ws ≡ Ok x → x.1 ≡ [] → add_line r x.0 ≡ Ok t
     → (statement : Statement) × IsSpelled statement text × Extends statement (script_so_far r) (script_so_far t)

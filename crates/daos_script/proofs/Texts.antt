@@ -92,7 +92,7 @@ script_takes targets bytes s e =
       short = at_most 16777216 (length bytes) g.0;
       has_lines = HasLines-ended_parts bytes;
       are_spelled = c.are_spelled;
-      make = subst (λ t. Make c.statements (empty_script targets) t) (same_result (script_so_far a.0) s a.2) c.make
+      make = subst (λ t. Make c.statements (empty_script targets) t) (same_result (script_so_far a.0) s a.2) c.make;
     }
 
 pub script_gives : (targets : ℕ) (bytes : List ℕ) (s : Script) → IsScriptText targets bytes s → script_of targets bytes ≡ Ok s
@@ -100,10 +100,17 @@ script_gives targets bytes s h =
     let lines : ended_parts 10 bytes ≡ h.lines = ended_parts-from_lines bytes h.lines (spelled_are_lines h.statements h.lines h.are_spelled) h.has_lines in
     let a = steps_gives h.statements h.lines 1 (nothing_read targets) s h.are_spelled h.make in
     script_of-short targets bytes h.short
-      ∙ ap (λ ls. steps with_line 1 (nothing_read targets) ls >>= λ r. Ok (script_so_far r)) lines
-      ∙ ap (λ o. o >>= λ r. Ok (script_so_far r)) a.1
-      ∙ ap (λ s. Ok s) a.2
+    ∙ ap (λ ls. steps with_line 1 (nothing_read targets) ls >>= λ r. Ok (script_so_far r)) lines
+    ∙ ap (λ o. o >>= λ r. Ok (script_so_far r)) a.1
+    ∙ ap (λ s. Ok s) a.2
 
 -- a text is one script's alone
 pub one_script : (targets : ℕ) (bytes : List ℕ) (s t : Script) → IsScriptText targets bytes s → IsScriptText targets bytes t → s ≡ t
 one_script targets bytes s t h k = same_result s t (sym (script_gives targets bytes s h) ∙ script_gives targets bytes t k)
+
+went_wrong : (fault : ScriptFault) (s : Script) (r : Result Script ScriptFault) → r ≡ Err fault → r ≡ Ok s → ⊥
+went_wrong fault s r e h = cc
+
+-- a text with a fault is no script's
+pub no_script : (targets : ℕ) (bytes : List ℕ) (fault : ScriptFault) → script_of targets bytes ≡ Err fault → (s : Script) → IsScriptText targets bytes s → ⊥
+no_script targets bytes fault e s h = went_wrong fault s (script_of targets bytes) e (script_gives targets bytes s h)

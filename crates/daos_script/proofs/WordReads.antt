@@ -187,10 +187,11 @@ new_takes find ws x e =
     let named = ok_is a.0.0 b.0 n.1 in
     let g = unless_ok (is_some (find b.0)) BadName (Ok (b.0, a.0.1)) x b.2 in
     let same = ok_is (b.0, a.0.1) x g.1 in
-    let key : key_fault b.0 ≡ None = subst (λ w. key_fault w ≡ None) named (is_none_of (key_fault a.0.0) n.0) in
-    ((word_takes ws a.0 a.1).0 ∙ ap (λ w. w ∷ a.0.1) named ∙ ap (λ (p : List ℕ × Words). p.0 ∷ p.1) same,
+    let key : key_fault b.0 ≡ None = subst (λ w. key_fault w ≡ None) named (is_none_of (key_fault a.0.0) n.0) in (
+      (word_takes ws a.0 a.1).0 ∙ ap (λ w. w ∷ a.0.1) named ∙ ap (λ (p : List ℕ × Words). p.0 ∷ p.1) same,
       subst (λ (p : List ℕ × Words). key_fault p.0 ≡ None) same key,
-      subst (λ (p : List ℕ × Words). find p.0 ≡ None) same (none_of (find b.0) g.0))
+      subst (λ (p : List ℕ × Words). find p.0 ≡ None) same (none_of (find b.0) g.0),
+    )
 
 new_gives : {A : Type 0} (find : List ℕ → Option A) (w : List ℕ) (ws : Words) → IsKey w → find w ≡ None
     → new_at find (w ∷ ws) ≡ Ok (w, ws)

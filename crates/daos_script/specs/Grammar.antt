@@ -162,3 +162,7 @@ pub record IsScriptText (targets : ℕ) (bytes : List ℕ) (s : Script) : Type 0
   pub has_lines : HasLines bytes lines
   pub are_spelled : AreSpelled statements lines
   pub make : Make statements (empty_script targets) s
+
+-- a text stands for one script alone
+abbrev pub TextsStandForOne : Type 0
+TextsStandForOne = (targets : ℕ) (bytes : List ℕ) (s t : Script) → IsScriptText targets bytes s → IsScriptText targets bytes t → s ≡ t

@@ -2,3 +2,4 @@ pub mod Grammar
 pub mod Located
 pub mod Puts
 pub mod Readings
+pub mod Refusal

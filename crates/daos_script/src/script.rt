@@ -1,8 +1,11 @@
 // Reads a script.
-ghost use Rattle.std.specs.Prelude.{◌≡◌, ◌≤◌, length, MatchResult};
+ghost use Rattle.std.specs.Prelude.{◌≡◌, IfErr, IfOk, MatchResult};
 ghost use Rattle.std.specs.List.{list_all};
 ghost use Rattle.daos_script.specs.Readings.{is_shown, read_line, script_of, with_line};
+ghost use Rattle.daos_base.specs.Scripts.{IsInForm};
 ghost use Rattle.daos_script_words.specs.Reads.{Gives};
+ghost use Rattle.daos_script.specs.Grammar.{IsScriptText, TextsStandForOne};
+ghost use Rattle.daos_script.specs.Refusal.{IsRefused};
 ghost use Rattle.daos_script.specs.Located.{GivesAt, no_at};
 
 use crate::fault::ScriptNo;
@@ -77,3 +80,25 @@ fn script_of(alloc: Global, bytes: &[u8], targets: u8) -> Result<Script, ScriptN
     }
     Ok(reading.into_script(alloc)?)
 }
+
+/// Reads a script for so many targets. A text that isn't in the grammar is refused; which line is
+/// at fault, and why, isn't told yet.
+pub fn read_script(alloc: Global, bytes: &[u8], targets: u8) -> Result<Script, ScriptNo>
+    ensures spelled { IfOk result (IsScriptText targets bytes.now) }
+    ensures form { IfOk result (IsInForm targets) }
+    ensures refused { IfErr result (IsRefused targets bytes.now) }
+{
+    match script_of(alloc, bytes, targets) {
+        Ok(script) => Ok(script),
+        Err(ScriptNo::Memory) => Err(ScriptNo::Memory),
+        Err(ScriptNo::Fault(_)) => Err(ScriptNo::Fault(ScriptFault {
+            line: 0,
+            why: Why::NotYet,
+        })),
+    }
+}
+
+/// A text stands for one script alone.
+pub fn texts_stand_for_one()
+    ensures { TextsStandForOne }
+{}
