@@ -1,9 +1,7 @@
 -- What the program's answers stand for.
 use Rattle.std.specs.Prelude.{ℕ, ◌≡◌, List, length, Option, ◌⊎◌}
 use Rattle.std.specs.Io.KnownBytes.{Consumes, IsAtEnd}
-use Rattle.daos_base.specs.declared.fault.ScriptFault.{ScriptFault}
 use Rattle.daos_base.specs.declared.fault.Why.TheVariants as why
-use Rattle.daos_base.specs.declared.fault.WordFault.{WordFault}
 use Rattle.daos_base.specs.declared.fault.WordKind.TheVariants as kind
 use Rattle.daos_base.specs.declared.report.Report.{Report}
 use Rattle.daos_base.specs.declared.script.Script.{Script}

@@ -1,4 +1,4 @@
-use Rattle.std.proofs.Common.{string_bytes, append_assoc, ◌∙◌, sym, ap}
+use Rattle.std.proofs.Common.{string_bytes, append_assoc}
 use Rattle.daos_app.proofs.Texts.{retold}
 use Rattle.daos_app.proofs.status.foreign_text.Goals as goal
 
