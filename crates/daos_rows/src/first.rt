@@ -56,9 +56,7 @@ fn run<R: Threads + Wait + Sync, S: Source, K: Sink>(
         owned.push(String::from_str(alloc, word)?)?;
     }
     let mut rack = SureRack::new(alloc, 1, 4096)?;
-    Ok(run_daos(
-        rt, alloc, &owned, source, sink, &mut rack, &FreeGate,
-    ))
+    Ok(run_daos(rt, alloc, &owned, source, sink, &mut rack, &FreeGate))
 }
 
 #[test]
