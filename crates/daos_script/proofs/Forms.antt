@@ -1,16 +1,14 @@
 -- A script that a text is read as is in form.
-use Rattle.std.proofs.Common.{◌≡◌, ◌≤◌, ◌<◌, ℕ, ◌+◌, Bool, true, false, cond, eqb, ◌&&◌, ◌||◌, List, [], ◌∷◌, ◌++◌, length, map, get_or, Option, Some, None, refl, sym, ap, subst, ◌∙◌, arith, All, Any, nat_eq, add-one, add-zero}
-use Rattle.std.specs.Cmp.Lexicographic.{pointwise}
+use Rattle.std.proofs.Common.{◌≡◌, ◌≤◌, ℕ, ◌+◌, Bool, true, false, cond, eqb, ◌&&◌, List, [], ◌∷◌, ◌++◌, length, map, get_or, Some, None, refl, sym, ap, subst, ◌∙◌, arith, All, Any, nat_eq, add-one}
 use Rattle.std.specs.List.{list_any, AllByRecursion, IsDistinct}
 use Rattle.std.specs.Str.{bytes_eq}
 use Rattle.std.proofs.lemmas.Bool.{or_parts}
 use Rattle.std.proofs.lemmas.List.{get_or_append_left, length-append, map-append}
 use Rattle.std.proofs.lemmas.List.Elements.{All-push, All-from_recursion}
-use Rattle.std.proofs.lemmas.List.Quantifiers.{Any-push}
 use Rattle.std.proofs.lemmas.Slice.Eq.{bytes_eq-Decides}
 use Rattle.daos_base.specs.Keys.{same_key}
 use Rattle.daos_base.specs.Paths.{same_object}
-use Rattle.daos_base.specs.Scripts.{cont_name, cont_number, obj_name, same_declared, IsAkeyOf, IsSingleAct, IsPutOrGet, AreDeclared, IsRunYet, IsInForm}
+use Rattle.daos_base.specs.Scripts.{cont_name, cont_number, obj_name, same_declared, IsAkeyOf, IsSingleAct, IsPutOrGet, IsInForm}
 use Rattle.daos_base.specs.declared.id.Class.TheVariants.{S1}
 use Rattle.daos_base.specs.declared.id.ContId.{ContId}
 use Rattle.daos_base.specs.declared.id.ObjId.{ObjId}
