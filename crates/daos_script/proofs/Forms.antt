@@ -23,7 +23,7 @@ use Rattle.daos_base.specs.declared.script.ObjDecl.{ObjDecl}
 use Rattle.daos_base.specs.declared.script.Script.{Script}
 use Rattle.daos_names.specs.Names.{named}
 use Rattle.daos_script_words.specs.Lookups.{name_of_cont, name_of_obj, cont_named, obj_named, has_cont, has_obj}
-use Rattle.daos_script.specs.Grammar.{Statement, Container, Object, Client, Put, Get, IsSpelled, AreSpelled, Extends, DeclaresContainer, DeclaresObject, BeginsClient, Commands, Make, empty_script, akey_path, lone_act, IsScriptText}
+use Rattle.daos_script.specs.Grammar.{Statement, Container, Object, Client, Put, Get, IsSpelled, AreSpelled, Extends, DeclaresContainer, DeclaresObject, BeginsClient, AddsCommand, Make, empty_script, akey_path, lone_act, IsScriptText}
 
 -- ---- lists
 
@@ -208,7 +208,7 @@ form_client n s t f d =
       };
     })
 
-form_command : (n : ℕ) (obj : List ℕ) (act : ContId × ObjId → Act) (s t : Script) → IsInForm n s → (d : Commands obj act s t) → IsSingleAct s.objs (act d.id) → IsInForm n t
+form_command : (n : ℕ) (obj : List ℕ) (act : ContId × ObjId → Act) (s t : Script) → IsInForm n s → (d : AddsCommand obj act s t) → IsSingleAct s.objs (act d.id) → IsInForm n t
 form_command n obj act s t f d single =
     let command : Command = lone_act (act d.id) in
     let before : All (λ c. IsPutOrGet s.objs c) d.list = subst (λ lists. All (λ list. All (λ c. IsPutOrGet s.objs c) list) lists) d.in_client f.run_yet.commands 0 [] (omega arith) in

@@ -29,7 +29,7 @@ use Rattle.daos_script_words.specs.Lines.{verb_at, cont_line, obj_line, cell_at,
 use Rattle.daos_script_words.specs.Lookups.{cont_named, obj_named, has_cont, has_obj}
 use Rattle.daos_script_words.specs.Words.{uuid_of}
 use Rattle.daos_script.specs.declared.reading.Reading.{Reading}
-use Rattle.daos_script.specs.Grammar.{Statement, Container, Object, Client, Put, Get, IsPrintable, IsSpelled, SpellsContainer, SpellsObject, SpellsPut, SpellsGet, Extends, DeclaresContainer, DeclaresObject, BeginsClient, Commands, akey_path, lone_act}
+use Rattle.daos_script.specs.Grammar.{Statement, Container, Object, Client, Put, Get, IsPrintable, IsSpelled, SpellsContainer, SpellsObject, SpellsPut, SpellsGet, Extends, DeclaresContainer, DeclaresObject, BeginsClient, AddsCommand, akey_path, lone_act}
 use Rattle.daos_script.specs.Puts.{put_cont, put_obj, put_client, put_op, lone, add_line}
 use Rattle.daos_script.specs.Readings.{is_shown, read_line, client_lists, script_so_far}
 use Rattle.daos_script.proofs.Prints.{IsPrintable-decimal, IsPrintedWord-key, shown-row_line, parts_of-row_line}
@@ -151,7 +151,7 @@ module _ (r : Reading) (text : List ℕ) where
     sym d.begun,
   )
 
-  gives_put : (obj dkey akey value : List ℕ) (s : Script) → SpellsPut obj dkey akey value text → Commands obj (λ id. Change (write.Single (akey_path id dkey akey) value)) (script_so_far r) s
+  gives_put : (obj dkey akey value : List ℕ) (s : Script) → SpellsPut obj dkey akey value text → AddsCommand obj (λ id. Change (write.Single (akey_path id dkey akey) value)) (script_so_far r) s
       → (t : Reading) × (read_line r text ≡ Ok t) × (script_so_far t ≡ s)
   unfolding verb_word
   gives_put obj dkey akey value s c d =
@@ -164,7 +164,7 @@ module _ (r : Reading) (text : List ℕ) where
         sym d.commanded,
       )
 
-  gives_get : (obj dkey akey : List ℕ) (s : Script) → SpellsGet obj dkey akey text → Commands obj (λ id. Fetch (read.Single (akey_path id dkey akey))) (script_so_far r) s
+  gives_get : (obj dkey akey : List ℕ) (s : Script) → SpellsGet obj dkey akey text → AddsCommand obj (λ id. Fetch (read.Single (akey_path id dkey akey))) (script_so_far r) s
       → (t : Reading) × (read_line r text ≡ Ok t) × (script_so_far t ≡ s)
   unfolding verb_word
   gives_get obj dkey akey s c d =

@@ -4,7 +4,7 @@ ghost use Rattle.std.specs.List.{list_all};
 ghost use Rattle.daos_script.specs.Readings.{is_shown, read_line, script_of, with_line};
 ghost use Rattle.daos_base.specs.Scripts.{IsInForm};
 ghost use Rattle.daos_script_words.specs.Reads.{Gives};
-ghost use Rattle.daos_script.specs.Grammar.{IsScriptText, TextsStandForOne};
+ghost use Rattle.daos_script.specs.Grammar.{IsScriptText, TextsAreUnambiguous};
 ghost use Rattle.daos_script.specs.Refusal.{IsRefused};
 ghost use Rattle.daos_script.specs.Located.{GivesAt, no_at};
 
@@ -99,8 +99,8 @@ pub fn read_script(alloc: Global, bytes: &[u8], targets: u8) -> Result<Script, S
 }
 
 /// A text stands for one script alone.
-pub fn texts_stand_for_one()
-    ensures { TextsStandForOne }
+pub fn texts_are_unambiguous()
+    ensures { TextsAreUnambiguous }
 {}
 
 #[cfg(test)]
