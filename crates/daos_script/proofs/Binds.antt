@@ -1,5 +1,5 @@
 -- Steps that did not fail.
-use Rattle.std.proofs.Common.{◌≡◌, ℕ, Bool, true, false, cond, Option, Some, None, Result, Ok, Err, refl, is_some, is_none}
+use Rattle.std.proofs.Common.{◌≡◌, Bool, true, false, cond, Option, Some, None, Result, Ok, Err, refl, is_some, is_none}
 use Rattle.daos_base.specs.declared.fault.Why.{Why}
 use Rattle.daos_text.specs.Results.{◌>>=◌}
 use Rattle.daos_script_words.specs.Reads.{Read, or_fault}

@@ -1,16 +1,14 @@
 -- A script that a text is read as is in form.
-use Rattle.std.proofs.Common.{◌≡◌, ◌≤◌, ◌<◌, ℕ, ◌+◌, Bool, true, false, cond, eqb, ◌&&◌, ◌||◌, List, [], ◌∷◌, ◌++◌, length, map, get_or, Option, Some, None, refl, sym, ap, subst, ◌∙◌, arith, All, Any, nat_eq, add-one, add-zero}
-use Rattle.std.specs.Cmp.Lexicographic.{pointwise}
+use Rattle.std.proofs.Common.{◌≡◌, ◌≤◌, ℕ, ◌+◌, Bool, true, false, cond, eqb, ◌&&◌, List, [], ◌∷◌, ◌++◌, length, map, get_or, Some, None, refl, sym, ap, subst, ◌∙◌, arith, All, Any, nat_eq, add-one}
 use Rattle.std.specs.List.{list_any, AllByRecursion, IsDistinct}
 use Rattle.std.specs.Str.{bytes_eq}
 use Rattle.std.proofs.lemmas.Bool.{or_parts}
 use Rattle.std.proofs.lemmas.List.{get_or_append_left, length-append, map-append}
 use Rattle.std.proofs.lemmas.List.Elements.{All-push, All-from_recursion}
-use Rattle.std.proofs.lemmas.List.Quantifiers.{Any-push}
 use Rattle.std.proofs.lemmas.Slice.Eq.{bytes_eq-Decides}
 use Rattle.daos_base.specs.Keys.{same_key}
 use Rattle.daos_base.specs.Paths.{same_object}
-use Rattle.daos_base.specs.Scripts.{cont_name, cont_number, obj_name, same_declared, IsAkeyOf, IsSingleAct, IsPutOrGet, AreDeclared, IsRunYet, IsInForm}
+use Rattle.daos_base.specs.Scripts.{cont_name, cont_number, obj_name, same_declared, IsAkeyOf, IsSingleAct, IsPutOrGet, IsInForm}
 use Rattle.daos_base.specs.declared.id.Class.TheVariants.{S1}
 use Rattle.daos_base.specs.declared.id.ContId.{ContId}
 use Rattle.daos_base.specs.declared.id.ObjId.{ObjId}
@@ -25,7 +23,7 @@ use Rattle.daos_base.specs.declared.script.ObjDecl.{ObjDecl}
 use Rattle.daos_base.specs.declared.script.Script.{Script}
 use Rattle.daos_names.specs.Names.{named}
 use Rattle.daos_script_words.specs.Lookups.{name_of_cont, name_of_obj, cont_named, obj_named, has_cont, has_obj}
-use Rattle.daos_script.specs.Grammar.{Statement, Container, Object, Client, Put, Get, IsSpelled, AreSpelled, Extends, DeclaresContainer, DeclaresObject, BeginsClient, Commands, Make, empty_script, akey_path, lone_act, IsScriptText}
+use Rattle.daos_script.specs.Grammar.{Statement, Container, Object, Client, Put, Get, IsSpelled, AreSpelled, Extends, DeclaresContainer, DeclaresObject, BeginsClient, AddsCommand, Make, empty_script, akey_path, lone_act, IsScriptText}
 
 -- ---- lists
 
@@ -210,7 +208,7 @@ form_client n s t f d =
       };
     })
 
-form_command : (n : ℕ) (obj : List ℕ) (act : ContId × ObjId → Act) (s t : Script) → IsInForm n s → (d : Commands obj act s t) → IsSingleAct s.objs (act d.id) → IsInForm n t
+form_command : (n : ℕ) (obj : List ℕ) (act : ContId × ObjId → Act) (s t : Script) → IsInForm n s → (d : AddsCommand obj act s t) → IsSingleAct s.objs (act d.id) → IsInForm n t
 form_command n obj act s t f d single =
     let command : Command = lone_act (act d.id) in
     let before : All (λ c. IsPutOrGet s.objs c) d.list = subst (λ lists. All (λ list. All (λ c. IsPutOrGet s.objs c) list) lists) d.in_client f.run_yet.commands 0 [] (omega arith) in

@@ -1,5 +1,5 @@
 -- A line that spells a statement is read, and extends the script as the statement does.
-use Rattle.std.proofs.Common.{◌≡◌, ◌≤◌, ◌<◌, ◌^◌, ℕ, zero, suc, ◌+◌, Bool, true, false, cond, eqb, leb, ltb, ◌&&◌, List, [], ◌∷◌, ◌++◌, length, codes, Option, Some, None, Result, Ok, Err, refl, sym, ap, subst, ◌∙◌, arith, is_some, is_none}
+use Rattle.std.proofs.Common.{◌≡◌, ◌≤◌, ◌<◌, ◌^◌, ℕ, true, false, leb, List, [], ◌∷◌, ◌++◌, length, codes, Option, Some, None, Ok, refl, sym, ap, ◌∙◌, arith}
 use Rattle.std.specs.List.{list_all, AllByRecursion}
 use Rattle.std.specs.Fmt.{decimal}
 use Rattle.std.proofs.lemmas.Bool.Decides.{nat_tests}
@@ -13,13 +13,11 @@ use Rattle.daos_base.specs.declared.operation.Cond.TheVariants.{Free}
 use Rattle.daos_base.specs.declared.operation.Op.{Op}
 use Rattle.daos_base.specs.declared.operation.Read.TheVariants as read
 use Rattle.daos_base.specs.declared.operation.Write.TheVariants as write
-use Rattle.daos_base.specs.declared.path.Path.{Path}
 use Rattle.daos_base.specs.declared.script.Command.{Command}
 use Rattle.daos_base.specs.declared.script.ContDecl.{ContDecl}
 use Rattle.daos_base.specs.declared.script.ObjDecl.{ObjDecl}
 use Rattle.daos_base.specs.declared.script.Script.{Script}
 use Rattle.daos_text.specs.Parts.{parts_of}
-use Rattle.daos_text.specs.Results.{◌>>=◌}
 use Rattle.daos_text.specs.Rows.{Words, row_line}
 use Rattle.daos_script_words.specs.declared.decls.Decls.{Decls}
 use Rattle.daos_script_words.specs.declared.lines.Line.{Line}
@@ -27,13 +25,12 @@ use Rattle.daos_script_words.specs.declared.lines.Line.TheVariants as line
 use Rattle.daos_script_words.specs.declared.lines.Verb.{Verb}
 use Rattle.daos_script_words.specs.declared.lines.Verb.TheVariants as verb
 use Rattle.daos_script_words.specs.Decls.{limited, with_cont, with_obj}
-use Rattle.daos_script_words.specs.Lines.{verb_of, verb_at, cont_line, obj_line, cell_at, put_line, get_line, line_by, line_at}
+use Rattle.daos_script_words.specs.Lines.{verb_at, cont_line, obj_line, cell_at, put_line, get_line, line_by, line_at}
 use Rattle.daos_script_words.specs.Lookups.{cont_named, obj_named, has_cont, has_obj}
-use Rattle.daos_script_words.specs.Reads.{Read, Taken}
-use Rattle.daos_script_words.specs.Words.{uuid_of, nothing_at}
+use Rattle.daos_script_words.specs.Words.{uuid_of}
 use Rattle.daos_script.specs.declared.reading.Reading.{Reading}
-use Rattle.daos_script.specs.Grammar.{Statement, Container, Object, Client, Put, Get, IsPrintable, IsPrintedWord, IsValue, IsSpelled, SpellsContainer, SpellsObject, SpellsPut, SpellsGet, Extends, DeclaresContainer, DeclaresObject, BeginsClient, Commands, akey_path, lone_act}
-use Rattle.daos_script.specs.Puts.{put_cont, put_obj, put_client, put_op, present, lone, add_line}
+use Rattle.daos_script.specs.Grammar.{Statement, Container, Object, Client, Put, Get, IsPrintable, IsSpelled, SpellsContainer, SpellsObject, SpellsPut, SpellsGet, Extends, DeclaresContainer, DeclaresObject, BeginsClient, AddsCommand, akey_path, lone_act}
+use Rattle.daos_script.specs.Puts.{put_cont, put_obj, put_client, put_op, lone, add_line}
 use Rattle.daos_script.specs.Readings.{is_shown, read_line, client_lists, script_so_far}
 use Rattle.daos_script.proofs.Prints.{IsPrintable-decimal, IsPrintedWord-key, shown-row_line, parts_of-row_line}
 use Rattle.daos_script.proofs.LineReads.{verb_word, free}
@@ -154,7 +151,7 @@ module _ (r : Reading) (text : List ℕ) where
     sym d.begun,
   )
 
-  gives_put : (obj dkey akey value : List ℕ) (s : Script) → SpellsPut obj dkey akey value text → Commands obj (λ id. Change (write.Single (akey_path id dkey akey) value)) (script_so_far r) s
+  gives_put : (obj dkey akey value : List ℕ) (s : Script) → SpellsPut obj dkey akey value text → AddsCommand obj (λ id. Change (write.Single (akey_path id dkey akey) value)) (script_so_far r) s
       → (t : Reading) × (read_line r text ≡ Ok t) × (script_so_far t ≡ s)
   unfolding verb_word
   gives_put obj dkey akey value s c d =
@@ -167,7 +164,7 @@ module _ (r : Reading) (text : List ℕ) where
         sym d.commanded,
       )
 
-  gives_get : (obj dkey akey : List ℕ) (s : Script) → SpellsGet obj dkey akey text → Commands obj (λ id. Fetch (read.Single (akey_path id dkey akey))) (script_so_far r) s
+  gives_get : (obj dkey akey : List ℕ) (s : Script) → SpellsGet obj dkey akey text → AddsCommand obj (λ id. Fetch (read.Single (akey_path id dkey akey))) (script_so_far r) s
       → (t : Reading) × (read_line r text ≡ Ok t) × (script_so_far t ≡ s)
   unfolding verb_word
   gives_get obj dkey akey s c d =

@@ -1,12 +1,9 @@
 -- The words of each line that is read, and what it says.
-use Rattle.std.proofs.Common.{◌≡◌, ◌≤◌, ◌<◌, ◌^◌, ℕ, zero, suc, ◌+◌, Bool, true, false, cond, eqb, leb, ltb, ◌&&◌, List, [], ◌∷◌, ◌++◌, length, codes, Option, Some, None, Result, Ok, Err, refl, sym, ap, subst, ◌∙◌, arith, is_some, is_none}
-use Rattle.std.specs.List.{list_all, AllByRecursion}
+use Rattle.std.proofs.Common.{◌≡◌, ◌≤◌, ◌<◌, ◌^◌, ℕ, Bool, true, false, cond, List, [], ◌∷◌, length, codes, Option, Some, None, Ok, Err, refl, sym, ap, subst, ◌∙◌}
 use Rattle.std.specs.Fmt.{decimal}
 use Rattle.std.specs.Str.{bytes_eq}
-use Rattle.std.proofs.lemmas.Bool.Decides.{nat_tests}
 use Rattle.daos_base.specs.Keys.{IsKey}
-use Rattle.daos_base.specs.declared.fault.Why.{Why}
-use Rattle.daos_base.specs.declared.fault.Why.TheVariants.{UnknownWord, NotAscii, BadName, BadBlock, TooMany, NotYet}
+use Rattle.daos_base.specs.declared.fault.Why.TheVariants.{UnknownWord, BadName}
 use Rattle.daos_base.specs.declared.id.Class.{Class}
 use Rattle.daos_base.specs.declared.id.Class.TheVariants.{S1}
 use Rattle.daos_base.specs.declared.id.ContId.{ContId}
@@ -14,35 +11,23 @@ use Rattle.daos_base.specs.declared.id.ObjId.{ObjId}
 use Rattle.daos_base.specs.declared.operation.Act.{Act}
 use Rattle.daos_base.specs.declared.operation.Act.TheVariants.{Fetch, Change}
 use Rattle.daos_base.specs.declared.operation.Cond.TheVariants.{Free}
-use Rattle.daos_base.specs.declared.operation.Op.{Op}
 use Rattle.daos_base.specs.declared.operation.Read.TheVariants as read
 use Rattle.daos_base.specs.declared.operation.Write.TheVariants as write
 use Rattle.daos_base.specs.declared.path.Path.{Path}
-use Rattle.daos_base.specs.declared.script.Command.{Command}
-use Rattle.daos_base.specs.declared.script.ContDecl.{ContDecl}
-use Rattle.daos_base.specs.declared.script.ObjDecl.{ObjDecl}
-use Rattle.daos_base.specs.declared.script.Script.{Script}
-use Rattle.daos_text.specs.Parts.{parts_of}
 use Rattle.daos_text.specs.Results.{◌>>=◌}
-use Rattle.daos_text.specs.Rows.{Words, row_line}
-use Rattle.daos_text.specs.RowLaws.{row_line-line_words}
+use Rattle.daos_text.specs.Rows.{Words}
 use Rattle.daos_script_words.specs.declared.decls.Decls.{Decls}
 use Rattle.daos_script_words.specs.declared.lines.Line.{Line}
 use Rattle.daos_script_words.specs.declared.lines.Line.TheVariants as line
 use Rattle.daos_script_words.specs.declared.lines.Verb.{Verb}
 use Rattle.daos_script_words.specs.declared.lines.Verb.TheVariants as verb
-use Rattle.daos_script_words.specs.Decls.{limited, with_cont, with_obj}
-use Rattle.daos_script_words.specs.Lines.{verb_of, verb_at, cont_line, obj_line, cell_at, put_line, get_line, line_by, line_at}
+use Rattle.daos_script_words.specs.Lines.{verb_of, verb_at, cont_line, obj_line, cell_at, put_line, get_line}
 use Rattle.daos_script_words.specs.Lookups.{cont_named, obj_named, has_cont, has_obj}
-use Rattle.daos_script_words.specs.Reads.{Read, Taken, or_fault}
-use Rattle.daos_script_words.specs.Words.{nothing_at, key_at, number_at, uuid_of, uuid_at, value_at, class_at, cont_at, obj_at, new_cont_at, new_obj_at}
-use Rattle.daos_script.specs.declared.reading.Reading.{Reading}
-use Rattle.daos_script.specs.Grammar.{Statement, Container, Object, Client, Put, Get, IsPrintable, IsPrintedWord, IsValue, IsSpelled, Extends, akey_path, lone_act}
-use Rattle.daos_script.specs.Puts.{put_cont, put_obj, put_client, put_op, present, lone, add_line}
-use Rattle.daos_script.specs.Readings.{is_shown, read_line, client_lists, script_so_far}
-use Rattle.daos_script.proofs.Binds.{bind_ok, ok_is, unless_ok, where_ok, or_fault_ok, none_of, is_none_of}
-use Rattle.daos_script.proofs.Prints.{printable-parts_of}
-use Rattle.daos_script.proofs.WordReads.{same_bytes, nothing_takes, key_takes, number_takes, uuid_takes, value_takes, class_takes, cont_takes, obj_takes, new_cont_takes, new_obj_takes}
+use Rattle.daos_script_words.specs.Reads.{Taken, or_fault}
+use Rattle.daos_script_words.specs.Words.{key_at, number_at, uuid_of, uuid_at, value_at, class_at, cont_at, obj_at, new_cont_at, new_obj_at}
+use Rattle.daos_script.specs.Grammar.{akey_path}
+use Rattle.daos_script.proofs.Binds.{bind_ok, ok_is, unless_ok, or_fault_ok}
+use Rattle.daos_script.proofs.WordReads.{same_bytes, key_takes, number_takes, uuid_takes, value_takes, class_takes, cont_takes, obj_takes, new_cont_takes, new_obj_takes}
 
 -- ---- the first word
 

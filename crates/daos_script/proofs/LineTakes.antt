@@ -1,12 +1,10 @@
 -- A line that is read spells a statement, and extends the script as the statement does.
-use Rattle.std.proofs.Common.{◌≡◌, ◌≤◌, ◌<◌, ◌^◌, ℕ, zero, suc, ◌+◌, Bool, true, false, cond, eqb, leb, ltb, ◌&&◌, List, [], ◌∷◌, ◌++◌, length, codes, Option, Some, None, Result, Ok, Err, refl, sym, ap, subst, ◌∙◌, arith, is_some, is_none}
+use Rattle.std.proofs.Common.{◌≡◌, ◌<◌, ℕ, false, leb, List, [], ◌∷◌, ◌++◌, length, codes, Option, Some, None, Ok, sym, ap, subst, ◌∙◌, arith, is_some}
 use Rattle.std.specs.List.{list_all, AllByRecursion}
 use Rattle.std.specs.Fmt.{decimal}
 use Rattle.std.proofs.lemmas.Bool.Decides.{nat_tests}
 use Rattle.daos_base.specs.declared.fault.Why.TheVariants.{NotAscii, BadBlock, TooMany, NotYet}
 use Rattle.daos_base.specs.declared.id.Class.TheVariants.{S1}
-use Rattle.daos_base.specs.declared.id.ContId.{ContId}
-use Rattle.daos_base.specs.declared.id.ObjId.{ObjId}
 use Rattle.daos_base.specs.declared.operation.Act.{Act}
 use Rattle.daos_base.specs.declared.operation.Act.TheVariants.{Fetch, Change}
 use Rattle.daos_base.specs.declared.operation.Cond.TheVariants.{Free}
@@ -16,27 +14,24 @@ use Rattle.daos_base.specs.declared.operation.Write.TheVariants as write
 use Rattle.daos_base.specs.declared.script.Command.{Command}
 use Rattle.daos_base.specs.declared.script.ContDecl.{ContDecl}
 use Rattle.daos_base.specs.declared.script.ObjDecl.{ObjDecl}
-use Rattle.daos_base.specs.declared.script.Script.{Script}
 use Rattle.daos_text.specs.Parts.{parts_of}
 use Rattle.daos_text.specs.Results.{◌>>=◌}
 use Rattle.daos_text.specs.Rows.{Words, row_line}
 use Rattle.daos_text.specs.RowLaws.{row_line-line_words}
-use Rattle.daos_script_words.specs.declared.decls.Decls.{Decls}
 use Rattle.daos_script_words.specs.declared.lines.Line.{Line}
 use Rattle.daos_script_words.specs.declared.lines.Line.TheVariants as line
 use Rattle.daos_script_words.specs.declared.lines.Verb.{Verb}
 use Rattle.daos_script_words.specs.declared.lines.Verb.TheVariants as verb
 use Rattle.daos_script_words.specs.Decls.{limited, with_cont, with_obj}
-use Rattle.daos_script_words.specs.Lines.{verb_at, cont_line, obj_line, put_line, get_line, line_by, line_at}
-use Rattle.daos_script_words.specs.Reads.{Read, Taken}
+use Rattle.daos_script_words.specs.Lines.{verb_at, line_by, line_at}
 use Rattle.daos_script_words.specs.Words.{nothing_at}
 use Rattle.daos_script.specs.declared.reading.Reading.{Reading}
-use Rattle.daos_script.specs.Grammar.{Statement, Container, Object, Client, Put, Get, IsPrintable, IsPrintedWord, IsValue, IsSpelled, Extends, akey_path, lone_act}
+use Rattle.daos_script.specs.Grammar.{Statement, Container, Object, Client, Put, Get, IsPrintable, IsSpelled, Extends, akey_path}
 use Rattle.daos_script.specs.Puts.{put_cont, put_obj, put_client, put_op, present, lone, add_line}
 use Rattle.daos_script.specs.Readings.{is_shown, read_line, client_lists, script_so_far}
 use Rattle.daos_script.proofs.Binds.{bind_ok, ok_is, unless_ok, where_ok, none_of}
 use Rattle.daos_script.proofs.Prints.{printable-parts_of}
-use Rattle.daos_script.proofs.LineReads.{verb_word, verb_takes, ReadsCont, cont_line_takes, ReadsObj, obj_line_takes, free, ReadsPut, put_line_takes, ReadsGet, get_line_takes}
+use Rattle.daos_script.proofs.LineReads.{verb_word, verb_takes, ReadsCont, cont_line_takes, ReadsObj, obj_line_takes, ReadsPut, put_line_takes, ReadsGet, get_line_takes}
 use Rattle.daos_script.proofs.WordReads.{nothing_takes}
 
 -- ---- what is added to a reading

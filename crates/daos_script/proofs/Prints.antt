@@ -1,5 +1,5 @@
 -- Words of printable bytes, and the lines that they make.
-use Rattle.std.proofs.Common.{◌≡◌, ℕ, suc, ◌+◌, ◌≤◌, ◌<◌, ◌^◌, Bool, true, false, cond, eqb, leb, ltb, ◌&&◌, ◌||◌, not, List, [], ◌∷◌, ◌++◌, length, codes, Option, Some, None, refl, sym, ap, ◌∙◌, arith, inl, inr, ◌⊎◌}
+use Rattle.std.proofs.Common.{◌≡◌, ℕ, ◌≤◌, ◌<◌, ◌^◌, Bool, true, false, cond, eqb, leb, ltb, not, List, [], ◌∷◌, ◌++◌, length, Option, Some, None, refl, arith}
 use Rattle.std.specs.List.{list_all, position_or_len, onto_first, AllByRecursion}
 use Rattle.std.specs.Option.{option_map}
 use Rattle.std.specs.Str.{all_ascii_digits}
@@ -8,19 +8,16 @@ use Rattle.std.proofs.lemmas.Bool.{and_parts, and_from}
 use Rattle.std.proofs.lemmas.Bool.Decides.{nat_tests}
 use Rattle.std.proofs.lemmas.Fmt.{digits_decimal, decimal_nonempty}
 use Rattle.std.proofs.lemmas.Str.Parse.{numerals_by_value, tells_all_ascii_digits}
-use Rattle.daos_base.specs.Keys.{is_key_byte, key_fault, IsKey, first_bad_byte}
+use Rattle.daos_base.specs.Keys.{is_key_byte, IsKey, first_bad_byte}
 use Rattle.daos_base.specs.declared.key.KeyNo.{KeyNo}
 use Rattle.daos_base.specs.declared.key.KeyNo.TheVariants.{Empty, TooLong, BadByte}
 use Rattle.daos_text.specs.Parts.{parts_of}
-use Rattle.daos_text.specs.Rows.{Words, IsLine, IsWord, IsRow, is_line_byte, row_line, line_words}
+use Rattle.daos_text.specs.Rows.{Words, IsLine, IsWord, is_line_byte, row_line}
 use Rattle.daos_text.specs.RowLaws.{IsWord-from_high, line_words-row_line}
-use Rattle.daos_script.specs.Grammar.{is_printable, IsPrintable, IsPrintedWord, IsValue}
+use Rattle.daos_script.specs.Grammar.{is_printable, IsPrintable, IsPrintedWord}
 use Rattle.daos_script.specs.Readings.{is_shown}
 
 -- ---- bytes
-
-printable_parts : (b : ℕ) → is_printable b ≡ true → (33 ≤ b) × (b ≤ 126)
-printable_parts b e = (grind (arith, nat_tests), grind (arith, nat_tests))
 
 printable_is_high : (b : ℕ) → is_printable b ≡ true → leb 33 b ≡ true
 printable_is_high b e = grind (arith, nat_tests)

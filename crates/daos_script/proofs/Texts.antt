@@ -1,13 +1,13 @@
 -- A text is read exactly where it is a script's, and as that script.
-use Rattle.std.proofs.Common.{◌≡◌, ◌≤◌, ◌<◌, ℕ, ◌+◌, Bool, true, false, cond, ltb, List, [], ◌∷◌, length, Option, Some, None, Result, Ok, Err, refl, sym, ap, subst, ◌∙◌, arith}
-use Rattle.std.specs.List.{list_all, AllByRecursion}
+use Rattle.std.proofs.Common.{◌≡◌, ◌≤◌, ℕ, ◌+◌, Bool, true, false, cond, ltb, List, [], ◌∷◌, length, Result, Ok, Err, refl, sym, ap, subst, ◌∙◌, arith}
+use Rattle.std.specs.List.{AllByRecursion}
 use Rattle.std.proofs.lemmas.Bool.Decides.{nat_tests}
 use Rattle.daos_base.specs.declared.fault.ScriptFault.{ScriptFault}
 use Rattle.daos_base.specs.declared.fault.Why.TheVariants.{TooLong}
 use Rattle.daos_base.specs.declared.script.Script.{Script}
 use Rattle.daos_text.specs.Parts.{ended_parts}
 use Rattle.daos_text.specs.Results.{◌>>=◌}
-use Rattle.daos_text.specs.Rows.{IsLine, HasLines}
+use Rattle.daos_text.specs.Rows.{IsLine}
 use Rattle.daos_text.specs.RowLaws.{HasLines-ended_parts, ended_parts-from_lines}
 use Rattle.daos_text.specs.Steps.{steps}
 use Rattle.daos_script_words.specs.Reads.{Read}

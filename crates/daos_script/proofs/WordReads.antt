@@ -1,12 +1,11 @@
 -- Each reader of a word takes what it is spelled as, and nothing else.
-use Rattle.std.proofs.Common.{◌≡◌, ◌≤◌, ◌<◌, ◌^◌, ℕ, zero, suc, ◌+◌, Bool, true, false, cond, eqb, ltb, List, [], ◌∷◌, ◌++◌, length, codes, Option, Some, None, Result, Ok, Err, refl, sym, ap, subst, ◌∙◌, arith, is_some, is_none}
+use Rattle.std.proofs.Common.{◌≡◌, ◌≤◌, ◌<◌, ◌^◌, ℕ, true, false, cond, eqb, ltb, List, [], ◌∷◌, length, codes, Option, Some, None, Ok, Err, refl, sym, ap, subst, ◌∙◌, arith, is_some, is_none}
 use Rattle.std.proofs.lemmas.Bool.Decides.{nat_tests}
 use Rattle.std.proofs.lemmas.Slice.Eq.{bytes_eq-Decides}
 use Rattle.std.specs.Fmt.{decimal}
 use Rattle.std.specs.Str.{bytes_eq}
 use Rattle.daos_base.specs.Keys.{IsKey, key_fault}
-use Rattle.daos_base.specs.declared.fault.Why.{Why}
-use Rattle.daos_base.specs.declared.fault.Why.TheVariants.{MissingWord, ExtraWord, BadNumber, BadKey, BadHex, BadUuid, BadName, TooLong, NotYet}
+use Rattle.daos_base.specs.declared.fault.Why.TheVariants.{MissingWord, BadNumber, BadKey, BadHex, BadUuid, BadName, TooLong, NotYet}
 use Rattle.daos_base.specs.declared.id.Class.{Class}
 use Rattle.daos_base.specs.declared.id.Class.TheVariants.{S1}
 use Rattle.daos_base.specs.declared.id.ContId.{ContId}
@@ -17,9 +16,8 @@ use Rattle.daos_text.specs.Results.{◌>>=◌}
 use Rattle.daos_text.specs.Rows.{Words}
 use Rattle.daos_script_words.specs.declared.decls.Decls.{Decls}
 use Rattle.daos_script_words.specs.Lookups.{cont_named, obj_named}
-use Rattle.daos_script_words.specs.Reads.{Read, Taken, or_fault}
+use Rattle.daos_script_words.specs.Reads.{Taken, or_fault}
 use Rattle.daos_script_words.specs.Words.{word_at, nothing_at, key_at, number_at, uuid_of, uuid_at, plain_value, value_of, value_at, class_at, cont_at, obj_at, name_of, new_cont_at, new_obj_at}
-use Rattle.daos_script.specs.Grammar.{IsPrintedWord, IsValue}
 use Rattle.daos_script.proofs.Binds.{bind_ok, ok_is, unless_ok, where_ok, or_fault_ok, none_of, is_none_of}
 use Rattle.daos_script.proofs.Prints.{some-decimal, IsPrintedWord-key}
 

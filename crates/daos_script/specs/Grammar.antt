@@ -1,5 +1,5 @@
 -- The grammar of scripts: what a statement is, how it is spelled, and what it makes of a script.
-use Rattle.std.specs.Prelude.{◌≡◌, ℕ, ◌+◌, ◌^◌, ◌<◌, ◌≤◌, Bool, true, false, ◌&&◌, nat_le, List, [], ◌∷◌, ◌++◌, length, codes, Some, None}
+use Rattle.std.specs.Prelude.{◌≡◌, ℕ, ◌^◌, ◌<◌, ◌≤◌, Bool, true, false, ◌&&◌, nat_le, List, [], ◌∷◌, ◌++◌, length, codes, Some, None}
 use Rattle.std.specs.List.{list_all}
 use Rattle.std.specs.Fmt.{decimal}
 use Rattle.daos_base.specs.Keys.{IsKey}
@@ -14,8 +14,6 @@ use Rattle.daos_base.specs.declared.operation.Write.TheVariants as write
 use Rattle.daos_base.specs.declared.path.Path.{Path}
 use Rattle.daos_base.specs.declared.script.Command.{Command}
 use Rattle.daos_base.specs.declared.script.Command.TheVariants as command
-use Rattle.daos_base.specs.declared.script.ContDecl.{ContDecl}
-use Rattle.daos_base.specs.declared.script.ObjDecl.{ObjDecl}
 use Rattle.daos_base.specs.declared.script.Script.{Script}
 use Rattle.daos_text.specs.Rows.{row_line, HasLines}
 use Rattle.daos_script_words.specs.Lookups.{cont_named, obj_named, has_cont, has_obj}
@@ -128,7 +126,7 @@ abbrev pub lone_act : Act → Command
 lone_act act = command.Run (record { act = act; cond = Free } ∷ []) (0 ∷ 0 ∷ []) None
 
 -- one more command of the client, an operation on a declared object
-pub record Commands (obj : List ℕ) (act : ContId × ObjId → Act) (s t : Script) : Type 0 where
+pub record AddsCommand (obj : List ℕ) (act : ContId × ObjId → Act) (s t : Script) : Type 0 where
   pub list : List Command
   pub id : ContId × ObjId
   pub in_client : s.clients ≡ list ∷ []
@@ -140,8 +138,8 @@ abbrev pub Extends : Statement → Script → Script → Type 0
 Extends (Container name id) s t = DeclaresContainer name id s t
 Extends (Object name cont number) s t = DeclaresObject name cont number s t
 Extends Client s t = BeginsClient s t
-Extends (Put obj dkey akey value) s t = Commands obj (λ id. Change (write.Single (akey_path id dkey akey) value)) s t
-Extends (Get obj dkey akey) s t = Commands obj (λ id. Fetch (read.Single (akey_path id dkey akey))) s t
+Extends (Put obj dkey akey value) s t = AddsCommand obj (λ id. Change (write.Single (akey_path id dkey akey) value)) s t
+Extends (Get obj dkey akey) s t = AddsCommand obj (λ id. Fetch (read.Single (akey_path id dkey akey))) s t
 
 -- statements, one after the other, make t of s
 abbrev pub Make : List Statement → Script → Script → Type 0
@@ -164,5 +162,5 @@ pub record IsScriptText (targets : ℕ) (bytes : List ℕ) (s : Script) : Type 0
   pub make : Make statements (empty_script targets) s
 
 -- a text stands for one script alone
-abbrev pub TextsStandForOne : Type 0
-TextsStandForOne = (targets : ℕ) (bytes : List ℕ) (s t : Script) → IsScriptText targets bytes s → IsScriptText targets bytes t → s ≡ t
+abbrev pub TextsAreUnambiguous : Type 0
+TextsAreUnambiguous = (targets : ℕ) (bytes : List ℕ) (s t : Script) → IsScriptText targets bytes s → IsScriptText targets bytes t → s ≡ t

@@ -1,14 +1,12 @@
 -- What a line adds to the script so far, or why it may not stand there.
-use Rattle.std.specs.Prelude.{ℕ, is_some, List, [], ◌∷◌, ◌++◌, length, Option, Some, None, Result, Ok, Err, if◌then◌else◌}
-use Rattle.daos_base.specs.declared.fault.Why.{Why}
-use Rattle.daos_base.specs.declared.fault.Why.TheVariants.{BadBlock, TooMany, NotYet}
+use Rattle.std.specs.Prelude.{is_some, List, [], ◌∷◌, ◌++◌, length, Option, Some, None, Ok, Err, if◌then◌else◌}
+use Rattle.daos_base.specs.declared.fault.Why.TheVariants.{BadBlock, NotYet}
 use Rattle.daos_base.specs.declared.operation.Op.{Op}
 use Rattle.daos_base.specs.declared.script.Command.{Command}
 use Rattle.daos_base.specs.declared.script.Command.TheVariants as command
 use Rattle.daos_base.specs.declared.script.ContDecl.{ContDecl}
 use Rattle.daos_base.specs.declared.script.ObjDecl.{ObjDecl}
 use Rattle.daos_text.specs.Results.{◌>>=◌}
-use Rattle.daos_script_words.specs.declared.decls.Decls.{Decls}
 use Rattle.daos_script_words.specs.declared.lines.Line.{Line}
 use Rattle.daos_script_words.specs.declared.lines.Line.TheVariants as line
 use Rattle.daos_script.specs.declared.reading.Reading.{Reading}

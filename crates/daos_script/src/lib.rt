@@ -2,5 +2,5 @@
 #![tactic(auto)]
 
 pub mod fault;
-pub mod reading;
+mod reading;
 pub mod script;

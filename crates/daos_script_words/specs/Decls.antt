@@ -1,5 +1,5 @@
 -- What is declared, with one more container or object.
-use Rattle.std.specs.Prelude.{ℕ, nat_le, List, [], ◌∷◌, ◌++◌, length, Ok, Err, if◌then◌else◌}
+use Rattle.std.specs.Prelude.{ℕ, nat_le, [], ◌∷◌, ◌++◌, length, Ok, Err, if◌then◌else◌}
 use Rattle.daos_base.specs.declared.fault.Why.TheVariants.{TooMany}
 use Rattle.daos_base.specs.declared.script.ContDecl.{ContDecl}
 use Rattle.daos_base.specs.declared.script.ObjDecl.{ObjDecl}

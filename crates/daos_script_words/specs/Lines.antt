@@ -1,7 +1,6 @@
 -- What a line says, by what is declared before it.
-use Rattle.std.specs.Prelude.{◌≡◌, ℕ, List, [], ◌∷◌, codes, Option, Some, None, Result, Ok, Err, if◌then◌else◌}
+use Rattle.std.specs.Prelude.{◌≡◌, ℕ, List, [], ◌∷◌, codes, Option, Some, None, Ok, Err, if◌then◌else◌}
 use Rattle.std.specs.Str.{bytes_eq}
-use Rattle.daos_base.specs.declared.fault.Why.{Why}
 use Rattle.daos_base.specs.declared.fault.Why.TheVariants.{MissingWord, UnknownWord, BadName}
 use Rattle.daos_base.specs.declared.operation.Act.TheVariants.{Fetch, Change}
 use Rattle.daos_base.specs.declared.operation.Cond.TheVariants.{Free}

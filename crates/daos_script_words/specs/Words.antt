@@ -1,10 +1,9 @@
 -- The words of a line, read from the left.
-use Rattle.std.specs.Prelude.{ℕ, Bool, ◌==◌, nat_lt, is_none, is_some, List, [], ◌∷◌, length, codes, Option, Some, None, Result, Ok, Err, if◌then◌else◌}
+use Rattle.std.specs.Prelude.{ℕ, ◌==◌, nat_lt, is_none, is_some, List, [], ◌∷◌, length, codes, Option, Some, None, Ok, Err, if◌then◌else◌}
 use Rattle.std.specs.Str.{bytes_eq, is_utf8}
 use Rattle.std.specs.Int.{w128, from_be_bytes}
 use Rattle.uuid.specs.Text.{parsed}
 use Rattle.daos_base.specs.Keys.{key_fault}
-use Rattle.daos_base.specs.declared.fault.Why.{Why}
 use Rattle.daos_base.specs.declared.fault.Why.TheVariants.{MissingWord, ExtraWord, BadNumber, BadKey, BadHex, BadUuid, BadName, TooLong, NotYet}
 use Rattle.daos_base.specs.declared.id.Class.{Class}
 use Rattle.daos_base.specs.declared.id.Class.TheVariants.{S1}

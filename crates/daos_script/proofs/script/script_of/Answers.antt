@@ -1,6 +1,5 @@
-use Rattle.std.proofs.Common.{◌≡◌, ◌≤◌, ◌∙◌, sym, ap, arith, length, ◌+◌, Ok}
+use Rattle.std.proofs.Common.{◌≤◌, ◌∙◌, sym, ap, arith, length, Ok}
 use Rattle.std.proofs.lemmas.Result.{err_from_is_err_and}
-use Rattle.daos_text.specs.Parts.{ended_parts}
 use Rattle.daos_text.specs.Steps.{steps, steps-cons_ok}
 use Rattle.daos_script.specs.Readings.{with_line}
 use Rattle.daos_script.proofs.Loop.{fault_of, end_of, few_lines}

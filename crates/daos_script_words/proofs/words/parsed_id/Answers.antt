@@ -1,6 +1,6 @@
-use Rattle.std.proofs.Common.{◌≡◌, ◌∙◌, List, ℕ, sym, ap, cond, Bool, true, false, refl, None, Some, Option}
+use Rattle.std.proofs.Common.{◌≡◌, List, ℕ, refl, None, Some, Option}
 use Rattle.uuid.specs.Text.{parsed}
-use Rattle.daos_script_words.specs.Words.{parsed_id, id_of}
+use Rattle.daos_script_words.specs.Words.{id_of}
 use Rattle.daos_script_words.proofs.words.parsed_id.Goals as goal
 
 nothing : (o : Option (List ℕ)) → ((u : List ℕ) × (o ≡ Some u) → ⊥) → None ≡ id_of o

@@ -1,7 +1,7 @@
-use Rattle.std.proofs.Common.{◌≡◌, ◌∙◌, List, ℕ, sym, ap, cond, Bool, true, false, refl, None, Some, Option}
+use Rattle.std.proofs.Common.{◌≡◌, ◌∙◌, List, ℕ, sym, ap, cond, Bool, true, false, refl, None}
 use Rattle.std.proofs.lemmas.Str.{is_utf8-from_IsUtf8, IsUtf8-from_is_utf8}
 use Rattle.std.specs.Str.{is_utf8, IsUtf8}
-use Rattle.daos_script_words.specs.Words.{uuid_of, parsed_id}
+use Rattle.daos_script_words.specs.Words.{parsed_id}
 use Rattle.daos_script_words.proofs.words.uuid_of.Goals as goal
 
 no_text : (w : List ℕ) → (IsUtf8 w → ⊥) → is_utf8 w ≡ false
