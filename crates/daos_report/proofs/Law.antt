@@ -20,6 +20,7 @@ use Rattle.daos_report.specs.Forms.{IsEpochOrNone, IsAnswer, IsGot, IsCond, IsOu
 use Rattle.daos_report.specs.Reports.{end_row, line_rows, report_rows, report_text}
 use Rattle.daos_report.proofs.Again.{u8_again, lines_again}
 use Rattle.daos_report.proofs.Inner.{report_inner}
+use Rattle.daos_report.proofs.Prefix.{no_prefix}
 use Rattle.daos_report.proofs.Reading.{lines_of, read_rows, nothing_read}
 
 -- ---- the rows of a text
@@ -144,4 +145,5 @@ pub texts_determine_reports : TextsDetermineReports
 texts_determine_reports = record {
   commits = λ s q r p h e. all_reports s q r (only_commits s q p) (only_commits s r h) e;
   all = all_reports;
+  no_prefix = no_prefix;
 }

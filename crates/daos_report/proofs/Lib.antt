@@ -4,4 +4,5 @@ pub mod Joins
 pub mod Keys
 pub mod Law
 pub mod NamesAgain
+pub mod Prefix
 pub mod Reading

@@ -1,5 +1,5 @@
 -- Which reports a text determines.
-use Rattle.std.specs.Prelude.{◌≡◌, ℕ, ◌^◌, ◌<◌, ◌≤◌, Bool, true, nat_lt, List, [], ◌∷◌, length, map, All, Any, Option, Some, None, if◌then◌else◌}
+use Rattle.std.specs.Prelude.{◌≡◌, ℕ, ◌^◌, ◌<◌, ◌≤◌, Bool, true, nat_lt, List, [], ◌∷◌, ◌++◌, length, map, All, Any, Option, Some, None, if◌then◌else◌}
 use Rattle.std.specs.List.{IsDistinct, list_all}
 use Rattle.daos_base.specs.declared.answer.Answer.{Answer}
 use Rattle.daos_base.specs.declared.answer.Answer.TheVariants as answer
@@ -234,7 +234,8 @@ pub record HasOnlyCommits (q : Report) : Type 0 where
   pub lines : All IsCommittedLine q.lines
   pub down : q.down ≡ None
 
--- the text of a report determines it
+-- the text of a report determines it, and no text goes on from another's
 pub record TextsDetermineReports : Type 0 where
   pub commits : (s : Script) (q r : Report) → HasOnlyCommits q → HasOnlyCommits r → report_text s q ≡ report_text s r → q ≡ r
   pub all : (s : Script) (q r : Report) → IsReportOf s q → IsReportOf s r → report_text s q ≡ report_text s r → q ≡ r
+  pub no_prefix : (s t : Script) (q r : Report) (rest : List ℕ) → IsReportOf s q → IsReportOf t r → report_text t r ≡ report_text s q ++ rest → rest ≡ []

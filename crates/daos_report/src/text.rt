@@ -58,7 +58,7 @@ pub fn report_text(alloc: Global, report: &Report, script: &Script) -> Result<Ve
     Ok(out)
 }
 
-/// The text of a report determines it: two reports with one text are the same, where their numbers
+/// The text of a report determines it, and no text goes on from another's, where the numbers in reports
 /// are as large as their types hold and the script names their containers and objects.
 pub fn texts_determine_reports()
     ensures { TextsDetermineReports }
