@@ -1,3 +1,5 @@
+pub mod Hash
 pub mod Keys
 pub mod Paths
 pub mod Scripts
+pub mod formers

@@ -1,7 +1,7 @@
 // What a transaction reads, asks and writes.
 ghost use Rattle.std.specs.Prelude.{◌≡◌, IfOk};
 
-use crate::items::{Items, Memory, Vec8};
+use crate::items::{Items, Memory, TryCopy, Vec8};
 use crate::path::Path;
 
 /// A change. A path ends at the level of its change: an akey for `Single`, `Extent` (its first
@@ -76,11 +76,32 @@ pub enum Act {
     Change(Write),
 }
 
+impl Act {
+    /// The same act again.
+    pub fn copy(&self) -> Result<Act, Memory>
+        ensures { IfOk result (λ act. act ≡ self.now) }
+    {
+        match self {
+            Act::Fetch(read) => Ok(Act::Fetch(read.copy()?)),
+            Act::Change(write) => Ok(Act::Change(write.copy()?)),
+        }
+    }
+}
+
 /// An operation of a transaction.
 #[derive(Clone, Debug, Drop)]
 pub struct Op {
     pub act: Act,
     pub cond: Cond,
+}
+
+impl TryCopy for Op {
+    fn copy(&self) -> Result<Op, Memory> {
+        Ok(Op {
+            act: self.act.copy()?,
+            cond: self.cond,
+        })
+    }
 }
 
 /// The operations of a transaction, numbered from 0; 1 to 64 of them.
@@ -91,6 +112,15 @@ pub type Ops = Items<Op>;
 pub struct MinorWrite {
     pub minor: u8,
     pub write: Write,
+}
+
+impl TryCopy for MinorWrite {
+    fn copy(&self) -> Result<MinorWrite, Memory> {
+        Ok(MinorWrite {
+            minor: self.minor,
+            write: self.write.copy()?,
+        })
+    }
 }
 
 /// Writes of a transaction, with rising numbers.
