@@ -1,5 +1,6 @@
 // What a transaction reads, asks and writes.
 ghost use Rattle.std.specs.Prelude.{◌≡◌, IfOk};
+ghost use Rattle.daos_base.specs.Operations.{act_path, read_path, write_path};
 
 use crate::items::{Items, Memory, TryCopy, Vec8};
 use crate::path::Path;
@@ -17,6 +18,19 @@ pub enum Write {
 }
 
 impl Write {
+    /// Where it writes.
+    pub fn path(&self) -> &Path
+        ensures { result.now ≡ write_path self.now }
+    {
+        match self {
+            Write::Single(path, _)
+            | Write::Extent(path, _, _)
+            | Write::PunchObject(path)
+            | Write::PunchDkey(path)
+            | Write::PunchAkey(path) => path,
+        }
+    }
+
     /// The same write again.
     pub fn copy(&self) -> Result<Write, Memory>
         ensures { IfOk result (λ write. write ≡ self.now) }
@@ -46,6 +60,19 @@ pub enum Read {
 }
 
 impl Read {
+    /// Where it reads.
+    pub fn path(&self) -> &Path
+        ensures { result.now ≡ read_path self.now }
+    {
+        match self {
+            Read::Single(path)
+            | Read::Extent(path, _, _)
+            | Read::Dkeys(path)
+            | Read::Akeys(path)
+            | Read::Exists(path) => path,
+        }
+    }
+
     /// The same read again.
     pub fn copy(&self) -> Result<Read, Memory>
         ensures { IfOk result (λ read. read ≡ self.now) }
@@ -77,6 +104,16 @@ pub enum Act {
 }
 
 impl Act {
+    /// Where it reads or writes.
+    pub fn path(&self) -> &Path
+        ensures { result.now ≡ act_path self.now }
+    {
+        match self {
+            Act::Fetch(read) => read.path(),
+            Act::Change(write) => write.path(),
+        }
+    }
+
     /// The same act again.
     pub fn copy(&self) -> Result<Act, Memory>
         ensures { IfOk result (λ act. act ≡ self.now) }
