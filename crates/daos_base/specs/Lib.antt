@@ -1,3 +1,10 @@
+pub mod Epochs
+pub mod Hash
 pub mod Keys
+pub mod Operations
+pub mod PathLaws
 pub mod Paths
+pub mod Placement
+pub mod PlacementLaws
 pub mod Scripts
+pub mod formers

@@ -1,12 +1,15 @@
 -- When paths are the same, lead to one another, or overlap.
-use Rattle.std.specs.Prelude.{ℕ, Bool, ◌&&◌, ◌||◌, ◌==◌, is_none, is_some, if◌then◌else◌}
+use Rattle.std.specs.Prelude.{ℕ, Bool, ◌&&◌, ◌||◌, ◌==◌, ◌%◌, nat_le, is_none, is_some, if◌then◌else◌, List, [], ◌∷◌, ◌++◌, Option, Some, None}
+use Rattle.std.specs.Int.{to_be_bytes, w64, w128}
 use Rattle.std.specs.Option.{option_eq}
 use Rattle.daos_base.specs.declared.id.Class.{Class}
 use Rattle.daos_base.specs.declared.id.Class.TheVariants.{S1, S2, S4, SX, RP2G1, RP2GX, RP3G1, RP3GX}
+use Rattle.daos_base.specs.declared.id.ContId.{ContId}
 use Rattle.daos_base.specs.declared.id.ObjId.{ObjId}
 use Rattle.daos_base.specs.declared.path.Path.{Path}
 use Rattle.daos_base.specs.declared.path.Level.{Level}
 use Rattle.daos_base.specs.declared.path.Level.TheVariants.{Cont, Obj, Dkey, Akey}
+use Rattle.daos_base.specs.Hash.{fnv1a}
 use Rattle.daos_base.specs.Keys.{same_key}
 
 -- the number that stands for a class
@@ -42,3 +45,55 @@ leads_to p q =
 -- one is a prefix of the other
 unfoldable pub overlaps : Path → Path → Bool
 overlaps p q = leads_to p q || leads_to q p
+
+-- how far a level is from the container
+abbrev pub depth : Level → ℕ
+depth Cont = 0
+depth Obj = 1
+depth Dkey = 2
+depth Akey = 3
+
+-- the level of the shorter of two paths
+abbrev pub shorter_level : Path → Path → Level
+shorter_level p q = if nat_le (depth (level_of p)) (depth (level_of q)) then level_of p else level_of q
+
+-- a path as far as a level
+abbrev pub cut_at : Level → Path → Path
+cut_at Cont p = record { cont = p.cont; obj = None; dkey = None; akey = None }
+cut_at Obj p = record { cont = p.cont; obj = p.obj; dkey = None; akey = None }
+cut_at Dkey p = record { cont = p.cont; obj = p.obj; dkey = p.dkey; akey = None }
+cut_at Akey p = p
+
+-- the sixteen bytes of a container's identity, the highest first
+unfoldable pub cont_bytes : ContId → List ℕ
+cont_bytes c = to_be_bytes w128 c.0
+
+-- the eight bytes of an object's number, the highest first
+unfoldable pub number_bytes : ℕ → List ℕ
+number_bytes n = to_be_bytes w64 n
+
+-- the class number and the object number, if there is an object
+abbrev pub object_bytes : Option ObjId → List ℕ
+object_bytes None = []
+object_bytes (Some o) = class_number o.class ∷ number_bytes o.number
+
+abbrev pub dkey_bytes : Option (List ℕ) → List ℕ
+dkey_bytes None = []
+dkey_bytes (Some k) = k
+
+-- a zero byte sets the akey off from the dkey
+abbrev pub akey_bytes : Option (List ℕ) → List ℕ
+akey_bytes None = []
+akey_bytes (Some k) = 0 ∷ k
+
+-- the bytes of a path: the container's identity, the object, the dkey and the akey, as far as the path goes
+abbrev pub path_bytes : Path → List ℕ
+path_bytes p = cont_bytes p.cont ++ object_bytes p.obj ++ dkey_bytes p.dkey ++ akey_bytes p.akey
+
+-- which of the 4,096 slots that all paths share
+unfoldable pub slot : Path → ℕ
+slot p = fnv1a (path_bytes p) % 4096
+
+-- paths that overlap, or that share a slot once each is cut to the level of the shorter one
+unfoldable pub near : Path → Path → Bool
+near p q = overlaps p q || (slot (cut_at (shorter_level p q) p) == slot (cut_at (shorter_level p q) q))

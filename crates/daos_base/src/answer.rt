@@ -1,5 +1,7 @@
 // What reads are answered.
-use crate::items::{Items, Vec8};
+ghost use Rattle.std.specs.Prelude.{◌≡◌, IfOk};
+
+use crate::items::{Items, Memory, TryCopy, Vec8};
 use crate::key::Key;
 
 /// A run of an array: its bytes, or a hole of so many indexes.
@@ -7,6 +9,15 @@ use crate::key::Key;
 pub enum Piece {
     Bytes(Vec8),
     Hole(u32),
+}
+
+impl TryCopy for Piece {
+    fn copy(&self) -> Result<Piece, Memory> {
+        match self {
+            Piece::Bytes(bytes) => Ok(Piece::Bytes(bytes.copy()?)),
+            Piece::Hole(len) => Ok(Piece::Hole(*len)),
+        }
+    }
 }
 
 /// Neighbouring runs of an array.
@@ -25,4 +36,20 @@ pub enum Answer {
     Yes,
     No,
     Absent,
+}
+
+impl Answer {
+    /// The same answer again.
+    pub fn copy(&self) -> Result<Answer, Memory>
+        ensures { IfOk result (λ answer. answer ≡ self.now) }
+    {
+        match self {
+            Answer::Bytes(bytes) => Ok(Answer::Bytes(bytes.copy()?)),
+            Answer::Parts(pieces) => Ok(Answer::Parts(pieces.copy()?)),
+            Answer::Names(keys) => Ok(Answer::Names(keys.copy()?)),
+            Answer::Yes => Ok(Answer::Yes),
+            Answer::No => Ok(Answer::No),
+            Answer::Absent => Ok(Answer::Absent),
+        }
+    }
 }

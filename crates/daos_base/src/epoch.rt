@@ -1,8 +1,13 @@
 // Epochs: the moments at which transactions take effect.
 ghost use Rattle.std.specs.Prelude.{◌≡◌, ◌/◌, ◌%◌};
 
+use crate::items::Items;
+
 /// The number of a target, from 0.
 pub type TargetId = u8;
+
+/// Numbers of targets, in an order that the call that gives them names.
+pub type Targets = Items<TargetId>;
 
 /// A moment: `ticks * 256 + issuer`. Epochs are ordered as numbers, so no two targets issue the
 /// same one.

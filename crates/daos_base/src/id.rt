@@ -2,6 +2,8 @@
 ghost use Rattle.std.specs.Prelude.{◌≡◌};
 ghost use Rattle.daos_base.specs.Paths.{class_number, same_object};
 
+use crate::items::{Memory, TryCopy};
+
 /// A container, by its UUID as a number.
 #[derive(Clone, Copy, Debug, PartialEq, Eq, PartialOrd, Ord)]
 pub struct ContId(pub u128);
@@ -13,6 +15,18 @@ pub struct AttemptId {
     pub client: u16,
     pub command: u32,
     pub attempt: u8,
+}
+
+impl TryCopy for AttemptId {
+    fn copy(&self) -> Result<AttemptId, Memory> {
+        Ok(*self)
+    }
+}
+
+impl TryCopy for (AttemptId, bool) {
+    fn copy(&self) -> Result<(AttemptId, bool), Memory> {
+        Ok(*self)
+    }
 }
 
 /// How an object is spread over targets: S classes keep one replica in 1, 2, 4 or all groups; RP

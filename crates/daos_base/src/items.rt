@@ -76,17 +76,49 @@ impl<T> Items<T> {
     }
 }
 
-/// A list of bytes.
-pub type Vec8 = Items<u8>;
+/// A value that can be made again where there is memory for it.
+pub trait TryCopy: Sized {
+    /// The same value again.
+    fn copy(&self) -> Result<Self, Memory>
+        ensures { IfOk result (λ value. value ≡ self.now) };
+}
 
-impl Vec8 {
-    /// The same bytes again.
-    pub fn copy(&self) -> Result<Vec8, Memory>
-        ensures { IfOk result (λ bytes. bytes ≡ self.now) }
-    {
-        self.clone()
+impl TryCopy for u8 {
+    fn copy(&self) -> Result<u8, Memory> {
+        Ok(*self)
     }
 }
+
+impl TryCopy for u64 {
+    fn copy(&self) -> Result<u64, Memory> {
+        Ok(*self)
+    }
+}
+
+impl<T: TryCopy> TryCopy for Option<T> {
+    fn copy(&self) -> Result<Option<T>, Memory> {
+        match self {
+            None => Ok(None),
+            Some(value) => Ok(Some(value.copy()?)),
+        }
+    }
+}
+
+impl<T: TryCopy + Drop> Items<T> {
+    /// The same values again, in the same order.
+    pub fn copy(&self) -> Result<Items<T>, Memory>
+        ensures { IfOk result (λ values. values ≡ self.now) }
+    {
+        let mut vec = Vec::with_capacity(*self.vec.allocator(), self.vec.len())?;
+        for value in &self.vec {
+            vec.push(value.copy()?)?;
+        }
+        Ok(Items { vec })
+    }
+}
+
+/// A list of bytes.
+pub type Vec8 = Items<u8>;
 
 /// A list of the bytes of a slice.
 pub fn bytes_of(alloc: Global, bytes: &[u8]) -> Result<Vec8, Memory>

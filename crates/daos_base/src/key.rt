@@ -4,7 +4,7 @@ ghost use Rattle.std.specs.Cmp.Lexicographic.{pointwise};
 ghost use Rattle.daos_base.specs.Keys.{first_bad_byte, is_key_byte, key_fault, same_key};
 ghost use Rattle.daos_base.specs.declared.key.KeyNo.TheVariants.{Memory as NoMemory};
 
-use crate::items::{Memory, Vec8, bytes_of};
+use crate::items::{Memory, TryCopy, Vec8, bytes_of};
 use std::alloc::{AllocError, Global};
 use std::marker::Model;
 use thiserror::Error;
@@ -106,6 +106,12 @@ impl Key {
         ensures { result ≡ same_key self.now other.now }
     {
         self.bytes() == other.bytes()
+    }
+}
+
+impl TryCopy for Key {
+    fn copy(&self) -> Result<Key, Memory> {
+        Key::copy(self)
     }
 }
 

@@ -1,7 +1,8 @@
 // What a transaction reads, asks and writes.
 ghost use Rattle.std.specs.Prelude.{◌≡◌, IfOk};
+ghost use Rattle.daos_base.specs.Operations.{act_path, read_path, write_path};
 
-use crate::items::{Items, Memory, Vec8};
+use crate::items::{Items, Memory, TryCopy, Vec8};
 use crate::path::Path;
 
 /// A change. A path ends at the level of its change: an akey for `Single`, `Extent` (its first
@@ -17,6 +18,19 @@ pub enum Write {
 }
 
 impl Write {
+    /// Where it writes.
+    pub fn path(&self) -> &Path
+        ensures { result.now ≡ write_path self.now }
+    {
+        match self {
+            Write::Single(path, _)
+            | Write::Extent(path, _, _)
+            | Write::PunchObject(path)
+            | Write::PunchDkey(path)
+            | Write::PunchAkey(path) => path,
+        }
+    }
+
     /// The same write again.
     pub fn copy(&self) -> Result<Write, Memory>
         ensures { IfOk result (λ write. write ≡ self.now) }
@@ -46,6 +60,19 @@ pub enum Read {
 }
 
 impl Read {
+    /// Where it reads.
+    pub fn path(&self) -> &Path
+        ensures { result.now ≡ read_path self.now }
+    {
+        match self {
+            Read::Single(path)
+            | Read::Extent(path, _, _)
+            | Read::Dkeys(path)
+            | Read::Akeys(path)
+            | Read::Exists(path) => path,
+        }
+    }
+
     /// The same read again.
     pub fn copy(&self) -> Result<Read, Memory>
         ensures { IfOk result (λ read. read ≡ self.now) }
@@ -76,11 +103,42 @@ pub enum Act {
     Change(Write),
 }
 
+impl Act {
+    /// Where it reads or writes.
+    pub fn path(&self) -> &Path
+        ensures { result.now ≡ act_path self.now }
+    {
+        match self {
+            Act::Fetch(read) => read.path(),
+            Act::Change(write) => write.path(),
+        }
+    }
+
+    /// The same act again.
+    pub fn copy(&self) -> Result<Act, Memory>
+        ensures { IfOk result (λ act. act ≡ self.now) }
+    {
+        match self {
+            Act::Fetch(read) => Ok(Act::Fetch(read.copy()?)),
+            Act::Change(write) => Ok(Act::Change(write.copy()?)),
+        }
+    }
+}
+
 /// An operation of a transaction.
 #[derive(Clone, Debug, Drop)]
 pub struct Op {
     pub act: Act,
     pub cond: Cond,
+}
+
+impl TryCopy for Op {
+    fn copy(&self) -> Result<Op, Memory> {
+        Ok(Op {
+            act: self.act.copy()?,
+            cond: self.cond,
+        })
+    }
 }
 
 /// The operations of a transaction, numbered from 0; 1 to 64 of them.
@@ -91,6 +149,15 @@ pub type Ops = Items<Op>;
 pub struct MinorWrite {
     pub minor: u8,
     pub write: Write,
+}
+
+impl TryCopy for MinorWrite {
+    fn copy(&self) -> Result<MinorWrite, Memory> {
+        Ok(MinorWrite {
+            minor: self.minor,
+            write: self.write.copy()?,
+        })
+    }
 }
 
 /// Writes of a transaction, with rising numbers.

@@ -1,6 +1,9 @@
 // How attempts end, and what a restart shows.
+ghost use Rattle.std.specs.Prelude.{◌≡◌, IfOk};
+
 use crate::epoch::{Epoch, TargetId};
 use crate::id::AttemptId;
+use crate::items::{Memory, TryCopy};
 use crate::path::Path;
 
 /// What set a floor, the epoch at or below which no write is taken: it stands from before this
@@ -41,6 +44,32 @@ pub enum Cause {
     },
 }
 
+impl Cause {
+    /// The same cause again.
+    pub fn copy(&self) -> Result<Cause, Memory>
+        ensures { IfOk result (λ cause. cause ≡ self.now) }
+    {
+        match self {
+            Cause::ReadLater { by, epoch, path } => Ok(Cause::ReadLater {
+                by: *by,
+                epoch: *epoch,
+                path: path.copy()?,
+            }),
+            Cause::WriteLater { by, epoch, path } => Ok(Cause::WriteLater {
+                by: *by,
+                epoch: *epoch,
+                path: path.copy()?,
+            }),
+            Cause::Unresolved { by } => Ok(Cause::Unresolved { by: *by }),
+            Cause::Floor { target, epoch, why } => Ok(Cause::Floor {
+                target: *target,
+                epoch: *epoch,
+                why: *why,
+            }),
+        }
+    }
+}
+
 /// How an attempt ended.
 #[derive(Clone, Debug, Drop)]
 pub enum Outcome {
@@ -66,4 +95,31 @@ pub enum Outcome {
     Unknown {
         target: TargetId,
     },
+}
+
+impl Outcome {
+    /// The same outcome again.
+    pub fn copy(&self) -> Result<Outcome, Memory>
+        ensures { IfOk result (λ outcome. outcome ≡ self.now) }
+    {
+        match self {
+            Outcome::Committed => Ok(Outcome::Committed),
+            Outcome::CondFailed { op } => Ok(Outcome::CondFailed { op: *op }),
+            Outcome::Restart(cause) => Ok(Outcome::Restart(cause.copy()?)),
+            Outcome::NoSpace { target, need, free } => Ok(Outcome::NoSpace {
+                target: *target,
+                need: *need,
+                free: *free,
+            }),
+            Outcome::EpochsSpent => Ok(Outcome::EpochsSpent),
+            Outcome::NoSnapshot => Ok(Outcome::NoSnapshot),
+            Outcome::Unknown { target } => Ok(Outcome::Unknown { target: *target }),
+        }
+    }
+}
+
+impl TryCopy for Outcome {
+    fn copy(&self) -> Result<Outcome, Memory> {
+        Outcome::copy(self)
+    }
 }

@@ -2,7 +2,7 @@
 ghost use Rattle.std.specs.Prelude.{◌≡◌, IfOk};
 ghost use Rattle.std.specs.Option.{option_eq};
 ghost use Rattle.daos_base.specs.Keys.{same_key};
-ghost use Rattle.daos_base.specs.Paths.{leads_to, level_of, overlaps, same_object, same_path};
+ghost use Rattle.daos_base.specs.Paths.{depth, leads_to, level_of, overlaps, same_object, same_path};
 
 use crate::id::{ContId, ObjId};
 use crate::items::Memory;
@@ -25,6 +25,20 @@ pub struct Path {
     pub obj: Option<ObjId>,
     pub dkey: Option<Key>,
     pub akey: Option<Key>,
+}
+
+impl Level {
+    /// How far the level is from the container, from 0 to 3.
+    pub fn depth(self) -> u8
+        ensures { result ≡ depth self }
+    {
+        match self {
+            Level::Cont => 0,
+            Level::Obj => 1,
+            Level::Dkey => 2,
+            Level::Akey => 3,
+        }
+    }
 }
 
 // Whether two objects, or none, are the same.

@@ -1,7 +1,7 @@
 // A script: what it declares, and the commands of each client.
 use crate::epoch::{Epoch, TargetId};
 use crate::id::{ContId, ObjId};
-use crate::items::Items;
+use crate::items::{Items, Memory, TryCopy};
 use crate::key::Key;
 use crate::operation::Ops;
 
@@ -74,6 +74,29 @@ pub enum Command {
     Skip {
         turns: u32,
     },
+}
+
+impl TryCopy for Command {
+    fn copy(&self) -> Result<Command, Memory> {
+        match self {
+            Command::Run {
+                ops,
+                skips,
+                snapshot,
+            } => Ok(Command::Run {
+                ops: ops.copy()?,
+                skips: skips.copy()?,
+                snapshot: snapshot.copy()?,
+            }),
+            Command::Snap { name, cont } => Ok(Command::Snap {
+                name: name.copy()?,
+                cont: *cont,
+            }),
+            Command::Aggregate { cont } => Ok(Command::Aggregate { cont: *cont }),
+            Command::Tell { client } => Ok(Command::Tell { client: *client }),
+            Command::Skip { turns } => Ok(Command::Skip { turns: *turns }),
+        }
+    }
 }
 
 /// What a client does, in order.
