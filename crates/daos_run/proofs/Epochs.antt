@@ -1,6 +1,7 @@
 -- Epochs that target 0 issues one after another.
 use Rattle.std.proofs.Common.{◌≡◌, ℕ, ◌+◌, ◌*◌, ◌/◌, ◌^◌, ◌<◌, ◌≤◌, List, [], ◌∷◌, ◌++◌, refl, arith}
-use Rattle.daos_run.specs.Issue.{AreIssued, issued_ticks, ticks_after, tracker_after}
+use Rattle.daos_base.specs.Epochs.{issued_ticks}
+use Rattle.daos_run.specs.Issue.{AreIssued, ticks_after, tracker_after}
 
 pub AreIssued-push : (ticks tracker : ℕ) (es : List ℕ) (reading e : ℕ) → AreIssued ticks tracker es → e ≡ issued_ticks (ticks_after ticks es) reading (tracker_after tracker es) * 256 → AreIssued ticks tracker (es ++ e ∷ [])
 AreIssued-push ticks tracker [] reading e issued here = ((reading, here), tt)

@@ -22,7 +22,8 @@ use Rattle.daos_model.specs.OutcomesLegal.{EachAt, first_list, IsOnlyAttempt, Is
 use Rattle.daos_model.specs.ReadsLegal.{AttemptReadsLegal, IsRightAnswer, LineReadsLegal}
 use Rattle.daos_model.specs.TookEffect.{taken_at, taken_by, took}
 use Rattle.daos_model.specs.Transactions.{attempt_ops, read_numbers, writes_of}
-use Rattle.daos_run.specs.Issue.{AreIssued, issued_ticks, ticks_after, tracker_after}
+use Rattle.daos_base.specs.Epochs.{issued_ticks}
+use Rattle.daos_run.specs.Issue.{AreIssued, ticks_after, tracker_after}
 use Rattle.daos_run.specs.Told.{all_told}
 use Rattle.daos_base.specs.Scripts.{IsInForm}
 use Rattle.daos_run.specs.Runs.{IsRunOf}

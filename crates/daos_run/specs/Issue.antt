@@ -1,9 +1,6 @@
 -- How epochs are issued.
-use Rattle.std.specs.Prelude.{ℕ, ◌≡◌, ◌+◌, ◌*◌, ◌/◌, ◌^◌, max, min, List, [], ◌∷◌}
-
--- above the ticks so far and above those of the tracker, and at least the clock's reading, which counts up to 2^55
-abbrev pub issued_ticks : ℕ → ℕ → ℕ → ℕ
-issued_ticks ticks reading tracker = max (max (ticks + 1) (min reading (2 ^ 55))) (tracker / 256 + 1)
+use Rattle.std.specs.Prelude.{ℕ, ◌≡◌, ◌*◌, ◌/◌, List, [], ◌∷◌}
+use Rattle.daos_base.specs.Epochs.{issued_ticks}
 
 -- the ticks after epochs were issued
 abbrev pub ticks_after : ℕ → List ℕ → ℕ

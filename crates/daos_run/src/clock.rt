@@ -1,6 +1,6 @@
 // The ticks at which epochs are issued.
 ghost use Rattle.std.specs.Prelude.{◌≡◌, ◌-◌, ◌<◌, ◌^◌};
-ghost use Rattle.daos_run.specs.Issue.{issued_ticks};
+ghost use Rattle.daos_base.specs.Epochs.{issued_ticks};
 
 use daos_base::epoch::Epoch;
 
