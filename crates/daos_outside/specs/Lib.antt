@@ -1,4 +1,6 @@
 pub mod Causes
+pub mod Images
+pub mod ImageLaws
 pub mod Calls
 pub mod SourceState
 pub mod SinkState

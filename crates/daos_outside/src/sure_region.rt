@@ -1,6 +1,7 @@
 // A region in memory that never fails.
-ghost use Rattle.std.specs.Prelude.{◌≡◌, ◌+◌, ◌≤◌, ◌++◌, length, take, drop, slice_range, replicate, IfOk, IsOk, false, refl};
+ghost use Rattle.std.specs.Prelude.{◌≡◌, ◌+◌, ◌≤◌, ◌++◌, [], ◌∷◌, length, take, drop, slice_range, replicate, IfOk, IsOk, true, false, refl};
 ghost use Rattle.daos_outside.specs.Causes.{HasEitherCause};
+ghost use Rattle.daos_outside.specs.Images.{over, bytes_at, image_of, Tears};
 
 use crate::region::Region;
 use crate::{Failed, Memory};
@@ -50,6 +51,24 @@ impl Region for SureRegion {
 
     ghost can_burn = { false };
 
+    ghost tells = { true };
+
+    ghost image = { λ r. image_of r };
+
+    ghost may_leave = { λ r c. c ≡ image_of r };
+
+    ghost moment = { λ _. 0 };
+
+    ghost left_since = { λ r _ c. c ≡ image_of r };
+
+    ghost broken = { λ _. false };
+
+    ghost did = { λ _ _ _. Unit {0} };
+
+    ghost counts_now = { λ _ _ _ _ _ now. now };
+
+    ghost only_now = { λ _ _ _ left. left };
+
     ghost unburnt = { λ _ _. refl };
 
     fn size(&self) -> u64 {
@@ -62,6 +81,7 @@ impl Region for SureRegion {
         ensures cause { HasEitherCause 0 0 0 0 result }
         ensures sure { IsOk result }
         ensures bytes { buf.new ≡ slice_range self.old at (at + length buf.old) }
+        ensures told { buf.new ≡ bytes_at (image_of self.old) at (length buf.old) }
         ensures kept { self.new ≡ self.old }
     {
         let rest = &self.bytes[at as usize..];
@@ -75,6 +95,8 @@ impl Region for SureRegion {
         ensures cause { HasEitherCause 0 0 0 0 result }
         ensures sure { IsOk result }
         ensures bytes { self.new ≡ take at self.old ++ bytes.now ++ drop (at + length bytes.now) self.old }
+        ensures told { image_of self.new ≡ over (record { place = at; bytes = bytes.now }) (image_of self.old) }
+        ensures crash { Tears (record { place = at; bytes = bytes.now } ∷ []) (λ c. c ≡ image_of self.old) (λ c. c ≡ image_of self.new) }
     {
         put(&mut self.bytes, at as usize, bytes);
         Ok(())
