@@ -8,6 +8,7 @@ use Rattle.daos_base.specs.declared.script.Script.{Script}
 use Rattle.daos_model.specs.AsOf.{empty_stand}
 use Rattle.daos_model.specs.Headline.{Headline}
 use Rattle.daos_model.specs.OutcomesLegal.{epochs_of}
+use Rattle.daos_report.specs.Forms.{IsReportOf}
 use Rattle.daos_report.specs.Reports.{report_text}
 use Rattle.daos_run.specs.Issue.{AreIssued}
 use Rattle.daos_script.specs.Grammar.{IsScriptText}
@@ -27,9 +28,11 @@ pub record IsRefused (left left_now : Option (List ℕ)) : Type 0 where
   pub consumed : Consumes left left_now bytes
   pub no_script : (length bytes ≡ 16777217) ⊎ (IsAtEnd left_now × ((script : Script) → IsScriptText 1 bytes script → ⊥))
 
--- the report of a run of the script, by the headline, whose epochs were issued one after another; and its text
+-- the text of a report of a run of the script: by the headline, with epochs that were issued one after another,
+-- and in the form in which a text determines its report
 pub record IsReported (script : Script) (text : List ℕ) : Type 0 where
   pub report : Report
+  pub form : IsReportOf script report
   pub headline : Headline script empty_stand report
   pub issued : AreIssued 0 255 (epochs_of report.lines)
   pub told : text ≡ report_text script report
@@ -48,27 +51,27 @@ abbrev pub script_not_yet : Status
 script_not_yet = status.Script (record { line = 0; why = why.NotYet })
 
 -- the answers that the program gives so far
-abbrev pub IsAnswerYet : Status → Type 0
-IsAnswerYet status.Done = Unit {0}
-IsAnswerYet (status.Words fault) = status.Words fault ≡ words_not_yet
-IsAnswerYet (status.Script fault) = status.Script fault ≡ script_not_yet
-IsAnswerYet status.ReadFault = Unit {0}
-IsAnswerYet status.WriteFault = Unit {0}
-IsAnswerYet (status.RackFault target) = ⊥
-IsAnswerYet (status.Foreign target at byte) = ⊥
-IsAnswerYet status.Memory = Unit {0}
-IsAnswerYet (status.Down target) = ⊥
-IsAnswerYet (status.Shape target what found asked) = ⊥
+abbrev pub IsAnswerSoFar : Status → Type 0
+IsAnswerSoFar status.Done = Unit {0}
+IsAnswerSoFar (status.Words fault) = status.Words fault ≡ words_not_yet
+IsAnswerSoFar (status.Script fault) = status.Script fault ≡ script_not_yet
+IsAnswerSoFar status.ReadFault = Unit {0}
+IsAnswerSoFar status.WriteFault = Unit {0}
+IsAnswerSoFar (status.RackFault target) = ⊥
+IsAnswerSoFar (status.Foreign target at byte) = ⊥
+IsAnswerSoFar status.Memory = Unit {0}
+IsAnswerSoFar (status.Down target) = ⊥
+IsAnswerSoFar (status.Shape target what found asked) = ⊥
 
 -- the answers before a run: no region was asked for
-abbrev pub IsUnrun : Status → Type 0
-IsUnrun status.Done = ⊥
-IsUnrun (status.Words fault) = Unit {0}
-IsUnrun (status.Script fault) = Unit {0}
-IsUnrun status.ReadFault = Unit {0}
-IsUnrun status.WriteFault = ⊥
-IsUnrun (status.RackFault target) = ⊥
-IsUnrun (status.Foreign target at byte) = ⊥
-IsUnrun status.Memory = ⊥
-IsUnrun (status.Down target) = ⊥
-IsUnrun (status.Shape target what found asked) = ⊥
+abbrev pub IsBeforeRun : Status → Type 0
+IsBeforeRun status.Done = ⊥
+IsBeforeRun (status.Words fault) = Unit {0}
+IsBeforeRun (status.Script fault) = Unit {0}
+IsBeforeRun status.ReadFault = Unit {0}
+IsBeforeRun status.WriteFault = ⊥
+IsBeforeRun (status.RackFault target) = ⊥
+IsBeforeRun (status.Foreign target at byte) = ⊥
+IsBeforeRun status.Memory = ⊥
+IsBeforeRun (status.Down target) = ⊥
+IsBeforeRun (status.Shape target what found asked) = ⊥

@@ -3,7 +3,7 @@ ghost use Rattle.std.specs.Prelude.{◌≡◌, ◌≢◌, ◌≤◌, ◌↔◌, 
 ghost use Rattle.std.specs.Io.KnownBytes.{Appends};
 ghost use Rattle.daos_outside.specs.Causes.{Rose};
 ghost use Rattle.daos_outside.specs.Transfers.{AppendsPrefix};
-ghost use Rattle.daos_app.specs.Answers.{IsAnswerYet, IsRefused, IsRun, IsUnrun, script_not_yet, words_not_yet};
+ghost use Rattle.daos_app.specs.Answers.{IsAnswerSoFar, IsRefused, IsRun, IsBeforeRun, script_not_yet, words_not_yet};
 ghost use Rattle.daos_app.specs.Words.{AreRunWords};
 
 use crate::input::{InputNo, read_input};
@@ -44,7 +44,7 @@ pub fn run_daos<R: Threads + Wait + Sync, S: Source, K: Sink, B: Rack, G: Gate +
     gate: &G,
 ) -> Status
     // The answers that come so far; words are refused exactly where they aren't `run --targets 1`.
-    ensures answers { IsAnswerYet result }
+    ensures answers { IsAnswerSoFar result }
     ensures words { (result ≡ words_not_yet) ↔ (AreRunWords (map string_bytes words.now) → ⊥) }
 
     // A script is refused exactly where the bytes read are none of the grammar.
@@ -62,11 +62,13 @@ pub fn run_daos<R: Threads + Wait + Sync, S: Source, K: Sink, B: Rack, G: Gate +
     // What a refusal leaves as it was.
     ensures unread { result ≡ words_not_yet → source.new ≡ source.old }
     ensures unwritten { result ≢ Status.Done → result ≢ Status.WriteFault → sink.new ≡ sink.old }
-    ensures unasked { IsUnrun result → rack.new ≡ rack.old }
+    ensures unasked { IsBeforeRun result → rack.new ≡ rack.old }
 
     // Counts never fall.
     ensures source_later { S.count source.old ≤ S.count source.new }
     ensures sink_later { K.count sink.old ≤ K.count sink.new }
+    ensures sink_stalls_later { K.stalls sink.old ≤ K.stalls sink.new }
+    ensures rack { B.count rack.new ≡ B.count rack.old }
 {
     let Some(job) = job_of(words) else {
         return WORDS_NOT_YET;

@@ -11,8 +11,8 @@ use daos_script::script::read_script;
 use std::alloc::Global;
 use thiserror::Error;
 
-/// The most bytes of a script: 16 MiB.
-pub const SCRIPT_MAX: usize = 16 * 1024 * 1024;
+// The most bytes of a script: 16 MiB.
+const SCRIPT_MAX: usize = 16 * 1024 * 1024;
 
 /// Why no script was read.
 #[derive(Clone, Copy, Debug, PartialEq, Eq, Error)]

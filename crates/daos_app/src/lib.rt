@@ -2,9 +2,9 @@
 #![tactic(auto)]
 
 pub mod daos;
-pub mod input;
-pub mod output;
+mod input;
+mod output;
 pub mod status;
-pub mod words;
+mod words;
 
 pub use daos_run::run::run_script;

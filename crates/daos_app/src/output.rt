@@ -37,6 +37,7 @@ pub fn run_text<R: Threads + Wait + Sync, B: Rack, G: Gate + Sync>(
     requires script { IsInForm 1 script.now }
     ensures reported { IfOk result (λ text. IsReported script.now text.items) }
     ensures refusals { IsOkUnless result RunStop.Memory }
+    ensures rack { B.count rack.new ≡ B.count rack.old }
 {
     let report = run_script(rt, alloc, job, script, rack, gate)?;
     Ok(report_text(alloc, &report, script)?)

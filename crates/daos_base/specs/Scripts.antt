@@ -85,7 +85,7 @@ pub record AreDeclared (s : Script) : Type 0 where
   pub obj_conts : All (λ o. Any (λ c. c.id ≡ o.cont) s.conts) s.objs
 
 -- a script of at most one client, which puts and gets single values of objects of class S1
-pub record IsRunYet (s : Script) : Type 0 where
+pub record IsRunSoFar (s : Script) : Type 0 where
   pub classes : All (λ o. o.id.class ≡ S1) s.objs
   pub olds : s.olds ≡ []
   pub stops : s.stops ≡ []
@@ -97,4 +97,4 @@ pub record IsRunYet (s : Script) : Type 0 where
 pub record IsInForm (targets : ℕ) (s : Script) : Type 0 where
   pub read_for : s.targets ≡ targets
   pub declared : AreDeclared s
-  pub run_yet : IsRunYet s
+  pub run_so_far : IsRunSoFar s

@@ -1,5 +1,5 @@
 -- Every answer that a report tells is what the transactions that took effect give.
-use Rattle.std.specs.Prelude.{ℕ, ◌≡◌, List, Some, All}
+use Rattle.std.specs.Prelude.{ℕ, ◌≡◌, List, [], Option, Some, None, All}
 use Rattle.daos_base.specs.declared.answer.Answer.{Answer}
 use Rattle.daos_base.specs.declared.epoch.Epoch.{Epoch}
 use Rattle.daos_base.specs.declared.operation.Op.{Op}
@@ -21,9 +21,14 @@ use Rattle.daos_model.specs.TookEffect.{took}
 abbrev pub IsRightAnswer : List Op → List CellValue → ℕ × Answer → Type 0
 IsRightAnswer ops m got = (r : Read) × (read_at ops got.0 ≡ Some r) × (got.1 ≡ answer r m)
 
+-- each answer is right on the map as of the epoch; without an epoch there is none
+abbrev pub AnswersLegal : List Op → Stand → List Taken → Option Epoch → List (ℕ × Answer) → Type 0
+AnswersLegal ops opening T None gots = gots ≡ []
+AnswersLegal ops opening T (Some e) gots = All (IsRightAnswer ops (as_of opening T e.0)) gots
+
 -- each answer of an attempt is right on the map as of the attempt's epoch, whatever its outcome
 abbrev pub AttemptReadsLegal : Script → Stand → List Taken → Attempt → Type 0
-AttemptReadsLegal s opening T a = (e : Epoch) → a.epoch ≡ Some e → All (IsRightAnswer (attempt_ops s a.id) (as_of opening T e.0)) a.gots
+AttemptReadsLegal s opening T a = AnswersLegal (attempt_ops s a.id) opening T a.epoch a.gots
 
 abbrev pub LineReadsLegal : Script → Stand → List Taken → Line → Type 0
 LineReadsLegal s opening T (line.Try a) = AttemptReadsLegal s opening T a

@@ -76,6 +76,8 @@ impl Rack for SureRack {
         CountClock::new()
     }
 
+    /// A region of a target that isn't there is let go, and one that is at home is replaced: both
+    /// are bad use, and no run does either.
     fn take_back(&mut self, t: TargetId, region: SureRegion)
         ensures { self.new ≡
             record self.old { regions = slice_set self.old.regions t (Some region) } }

@@ -137,7 +137,7 @@ answer_again answer.Absent h = refl
 
 floor_again : (why : FloorWhy) → IsFloorWhy why → floor_of (floor_words why) ≡ Some why
 unfolding floor_of
-floor_again floor.Opening h = refl
+floor_again floor.Opening h = absurd h
 floor_again (floor.Restart number) lt = rw (u32_again number lt) refl
 floor_again (floor.Snapshot epoch) lt = rw (u64_again epoch.0 lt) refl
 floor_again (floor.Aggregate number) lt = rw (u32_again number lt) refl

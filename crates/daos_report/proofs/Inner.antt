@@ -168,7 +168,7 @@ path_inner s path h =
 -- ---- outcomes
 
 floor_inner : (why : FloorWhy) → IsFloorWhy why → AllByRecursion IsWord (floor_words why)
-floor_inner floor.Opening h = (refl, tt)
+floor_inner floor.Opening h = absurd h
 floor_inner (floor.Restart number) lt = (refl, (u32_inner number lt, tt))
 floor_inner (floor.Snapshot epoch) lt = (refl, (IsWord-decimal epoch.0 lt, tt))
 floor_inner (floor.Aggregate number) lt = (refl, (u32_inner number lt, tt))

@@ -86,64 +86,8 @@ all_reports : (s : Script) (q r : Report) → IsReportOf s q → IsReportOf s r 
 unfolding report_text
 all_reports s q r p h e = from_rows s q r p h (same_rows (report_rows s q) (report_rows s r) (report_inner s q p) (report_inner s r h) e)
 
--- ---- reports of attempts alone
-
-printable_answer : (a : Answer) → IsPrintableOrAbsent a → IsAnswer a
-printable_answer (answer.Bytes bytes) h = tt
-printable_answer (answer.Parts pieces) h = absurd h
-printable_answer (answer.Names keys) h = absurd h
-printable_answer answer.Yes h = absurd h
-printable_answer answer.No h = absurd h
-printable_answer answer.Absent h = tt
-
-printable_gots : (gs : List (ℕ × Answer)) → AllByRecursion IsPrintableGot gs → AllByRecursion IsGot gs
-printable_gots [] h = tt
-printable_gots (g ∷ gs) h = (record { op = h.0.op; answer = printable_answer g.1 h.0.answer }, printable_gots gs h.1)
-
-issued : (epoch : Option Epoch) → IsIssued epoch → IsEpochOrNone epoch
-issued None h = absurd h
-issued (Some epoch) h = h
-
-committed : (s : Script) (a : Attempt) → IsCommitted a → IsAttemptOf s a
-committed s a h = record {
-  id = h.id;
-  epoch = issued a.epoch h.epoch;
-  conds = subst (λ cs. All IsCond cs) (sym h.conds) (All-from_recursion IsCond [] tt);
-  gots = All-from_recursion IsGot a.gots (printable_gots a.gots (recursion_from_All IsPrintableGot a.gots h.gots));
-  outcome = subst (λ o. IsOutcomeOf s o) (sym h.outcome) tt;
-}
-
-committed_line : (s : Script) (l : Line) → IsCommittedLine l → IsLineOf s l
-committed_line s (line.Try a) h = committed s a h
-committed_line s (line.Stop number target) h = absurd h
-committed_line s (line.Restart number target incarnation floor) h = absurd h
-committed_line s (line.Freeze target cont epoch) h = absurd h
-committed_line s (line.Snapshot name cont epoch) h = absurd h
-committed_line s (line.Aggregate number target cont upto) h = absurd h
-committed_line s (line.Down target) h = absurd h
-
-committed_lines : (s : Script) (ls : List Line) → AllByRecursion IsCommittedLine ls → AllByRecursion (IsLineOf s) ls
-committed_lines s [] h = tt
-committed_lines s (l ∷ ls) h = (committed_line s l h.0, committed_lines s ls h.1)
-
-none_down : (ls : List Line) → AllByRecursion IsCommittedLine ls → least_down ls ≡ None
-none_down [] h = refl
-none_down (line.Try a ∷ ls) h = none_down ls h.1
-none_down (line.Stop number target ∷ ls) h = absurd h.0
-none_down (line.Restart number target incarnation floor ∷ ls) h = absurd h.0
-none_down (line.Freeze target cont epoch ∷ ls) h = absurd h.0
-none_down (line.Snapshot name cont epoch ∷ ls) h = absurd h.0
-none_down (line.Aggregate number target cont upto ∷ ls) h = absurd h.0
-none_down (line.Down target ∷ ls) h = absurd h.0
-
-only_commits : (s : Script) (q : Report) → HasOnlyCommits q → IsReportOf s q
-only_commits s q h =
-    let each = recursion_from_All IsCommittedLine q.lines h.lines in
-    record { targets = h.targets; lines = All-from_recursion (IsLineOf s) q.lines (committed_lines s q.lines each); down = h.down ∙ sym (none_down q.lines each) }
-
 pub texts_determine_reports : TextsDetermineReports
 texts_determine_reports = record {
-  commits = λ s q r p h e. all_reports s q r (only_commits s q p) (only_commits s r h) e;
   all = all_reports;
   no_prefix = no_prefix;
 }

@@ -146,8 +146,7 @@ path_of s word = path_of_names s (parts_of 47 word)
 unfoldable pub floor_of : Words → Option FloorWhy
 floor_of [] = None
 floor_of (word ∷ words) =
-    if bytes_eq word (codes "opening") then ends floor.Opening words
-    else if bytes_eq word (codes "restart") then (one u32 words >>= λ number. ends (floor.Restart number.0) number.1)
+    if bytes_eq word (codes "restart") then (one u32 words >>= λ number. ends (floor.Restart number.0) number.1)
     else if bytes_eq word (codes "snapshot") then (one epoch_of words >>= λ epoch. ends (floor.Snapshot epoch.0) epoch.1)
     else if bytes_eq word (codes "aggregate") then (one u32 words >>= λ number. ends (floor.Aggregate number.0) number.1)
     else None

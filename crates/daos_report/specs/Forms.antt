@@ -44,7 +44,7 @@ abbrev pub IsCond : ℕ × Bool → Type 0
 IsCond cond = cond.0 < 2 ^ 8
 
 abbrev pub IsFloorWhy : FloorWhy → Type 0
-IsFloorWhy floor.Opening = Unit {0}
+IsFloorWhy floor.Opening = ⊥
 IsFloorWhy (floor.Restart number) = number < 2 ^ 32
 IsFloorWhy (floor.Snapshot epoch) = IsEpoch epoch
 IsFloorWhy (floor.Aggregate number) = number < 2 ^ 32
@@ -192,50 +192,7 @@ pub record IsReportOf (s : Script) (q : Report) : Type 0 where
   pub lines : All (IsLineOf s) q.lines
   pub down : q.down ≡ least_down q.lines
 
--- ---- reports of attempts alone
-
--- a value of 1 to 1,024 printable bytes, or none
-abbrev pub IsPrintableOrAbsent : Answer → Type 0
-IsPrintableOrAbsent (answer.Bytes bytes) = (1 ≤ length bytes) × (length bytes ≤ 1024) × (list_all is_printable bytes ≡ true)
-IsPrintableOrAbsent (answer.Parts pieces) = ⊥
-IsPrintableOrAbsent (answer.Names keys) = ⊥
-IsPrintableOrAbsent answer.Yes = ⊥
-IsPrintableOrAbsent answer.No = ⊥
-IsPrintableOrAbsent answer.Absent = Unit {0}
-
-pub record IsPrintableGot (got : ℕ × Answer) : Type 0 where
-  pub op : got.0 < 2 ^ 8
-  pub answer : IsPrintableOrAbsent got.1
-
-abbrev pub IsIssued : Option Epoch → Type 0
-IsIssued None = ⊥
-IsIssued (Some epoch) = IsEpoch epoch
-
--- an attempt that took effect at an epoch and asked for no condition
-pub record IsCommitted (a : Attempt) : Type 0 where
-  pub id : IsAttemptId a.id
-  pub epoch : IsIssued a.epoch
-  pub conds : a.conds ≡ []
-  pub gots : All IsPrintableGot a.gots
-  pub outcome : a.outcome ≡ outcome.Committed
-
-abbrev pub IsCommittedLine : Line → Type 0
-IsCommittedLine (line.Try attempt) = IsCommitted attempt
-IsCommittedLine (line.Stop number target) = ⊥
-IsCommittedLine (line.Restart number target incarnation floor) = ⊥
-IsCommittedLine (line.Freeze target cont epoch) = ⊥
-IsCommittedLine (line.Snapshot name cont epoch) = ⊥
-IsCommittedLine (line.Aggregate number target cont upto) = ⊥
-IsCommittedLine (line.Down target) = ⊥
-
--- a report of attempts that took effect, and of nothing else
-pub record HasOnlyCommits (q : Report) : Type 0 where
-  pub targets : q.targets < 2 ^ 8
-  pub lines : All IsCommittedLine q.lines
-  pub down : q.down ≡ None
-
 -- the text of a report determines it, and no text goes on from another's
 pub record TextsDetermineReports : Type 0 where
-  pub commits : (s : Script) (q r : Report) → HasOnlyCommits q → HasOnlyCommits r → report_text s q ≡ report_text s r → q ≡ r
   pub all : (s : Script) (q r : Report) → IsReportOf s q → IsReportOf s r → report_text s q ≡ report_text s r → q ≡ r
   pub no_prefix : (s t : Script) (q r : Report) (rest : List ℕ) → IsReportOf s q → IsReportOf t r → report_text t r ≡ report_text s q ++ rest → rest ≡ []

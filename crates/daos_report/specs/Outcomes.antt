@@ -19,7 +19,7 @@ use Rattle.daos_report.specs.Words.{attempt_words}
 abbrev pub access_words : Script → AttemptId → Epoch → Path → Words
 access_words s by epoch path = attempt_words by ++ decimal epoch.0 ∷ path_word s path ∷ []
 
--- what set a floor
+-- what set a floor; one from before the run stands in no cause
 abbrev pub floor_words : FloorWhy → Words
 floor_words floor.Opening = codes "opening" ∷ []
 floor_words (floor.Restart number) = codes "restart" ∷ decimal number ∷ []

@@ -126,7 +126,7 @@ fn a_put_and_a_get(rt: HostRuntime) -> Result<(), Fail> {
 }
 
 #[test]
-fn outcomes_and_causes(rt: HostRuntime) -> Result<(), Fail> {
+fn causes(rt: HostRuntime) -> Result<(), Fail> {
     let alloc = rt.alloc();
     let first = attempt(0, 0, 0);
     let at = Some(Epoch(256));
@@ -162,6 +162,24 @@ fn outcomes_and_causes(rt: HostRuntime) -> Result<(), Fail> {
     for cause in causes {
         lines.push(ended(alloc, first, at, Outcome::Restart(cause)))?;
     }
+    let wanted = b"daos 1 targets 1\n\
+        try 0 0 0 256 restart readlater 1 0 0 512 c/o/d/a\n\
+        try 0 0 0 256 restart writelater 1 0 0 512 c/q\n\
+        try 0 0 0 256 restart unresolved 0 0 0\n\
+        try 0 0 0 256 restart floor 0 16777471 restart 0\n\
+        try 0 0 0 256 restart floor 0 512 aggregate 0\n\
+        try 0 0 0 256 restart floor 0 512 snapshot 512\n\
+        end 0\n";
+    assert_eq!(rt; text(alloc, lines, None)?.as_slice(), wanted.as_slice());
+    Ok(())
+}
+
+#[test]
+fn other_outcomes(rt: HostRuntime) -> Result<(), Fail> {
+    let alloc = rt.alloc();
+    let first = attempt(0, 0, 0);
+    let at = Some(Epoch(256));
+    let mut lines = Items::new(alloc);
     let outcomes = [
         Outcome::CondFailed { op: 0 },
         Outcome::NoSpace {
@@ -177,12 +195,6 @@ fn outcomes_and_causes(rt: HostRuntime) -> Result<(), Fail> {
     lines.push(ended(alloc, first, None, Outcome::EpochsSpent))?;
     lines.push(ended(alloc, first, None, Outcome::Unknown { target: 0 }))?;
     let wanted = b"daos 1 targets 1\n\
-        try 0 0 0 256 restart readlater 1 0 0 512 c/o/d/a\n\
-        try 0 0 0 256 restart writelater 1 0 0 512 c/q\n\
-        try 0 0 0 256 restart unresolved 0 0 0\n\
-        try 0 0 0 256 restart floor 0 16777471 restart 0\n\
-        try 0 0 0 256 restart floor 0 512 aggregate 0\n\
-        try 0 0 0 256 restart floor 0 512 snapshot 512\n\
         try 0 0 0 256 condfailed 0\n\
         try 0 0 0 256 nospace 0 15 14\n\
         try 0 0 0 256 nosnap\n\

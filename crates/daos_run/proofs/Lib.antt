@@ -1,5 +1,4 @@
 pub mod Lists
-pub mod Commands
 pub mod Answers
 pub mod Epochs
 pub mod SoFar

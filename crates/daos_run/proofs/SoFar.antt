@@ -1,5 +1,5 @@
 -- What holds after the first commands of a run.
-use Rattle.std.proofs.Common.{◌≡◌, ℕ, ◌+◌, ◌*◌, ◌/◌, ◌^◌, ◌<◌, ◌≤◌, List, [], ◌∷◌, ◌++◌, length, length-append, map, Some, sym, ap, subst, ◌∙◌, append_assoc, append-nil, refl, arith}
+use Rattle.std.proofs.Common.{◌≡◌, ℕ, ◌+◌, ◌*◌, ◌/◌, ◌^◌, ◌<◌, ◌≤◌, List, [], ◌∷◌, ◌++◌, length, length-append, map, Option, Some, None, sym, ap, subst, ◌∙◌, append_assoc, append-nil, refl, arith}
 use Rattle.std.specs.Prelude.{All}
 use Rattle.std.specs.List.{AllByRecursion}
 use Rattle.std.specs.List.Sorted.{IsStrictlyIncreasing}
@@ -19,7 +19,7 @@ use Rattle.daos_model.specs.AsOf.{as_of, empty_stand, run_all, taken_epoch, take
 use Rattle.daos_model.specs.Laws.{as_of-later, as_of-rising, run_all-append, took-append}
 use Rattle.daos_model.specs.Effect.{effects}
 use Rattle.daos_model.specs.OutcomesLegal.{EachAt, first_list, IsOnlyAttempt, IsOnlyAttemptLine, IsIssuedByZero, epochs_of, line_epoch, option_epoch}
-use Rattle.daos_model.specs.ReadsLegal.{AttemptReadsLegal, IsRightAnswer, LineReadsLegal}
+use Rattle.daos_model.specs.ReadsLegal.{AnswersLegal, AttemptReadsLegal, IsRightAnswer, LineReadsLegal}
 use Rattle.daos_model.specs.TookEffect.{taken_at, taken_by, took}
 use Rattle.daos_model.specs.Transactions.{attempt_ops, read_numbers, writes_of}
 use Rattle.daos_base.specs.Epochs.{issued_ticks}
@@ -27,7 +27,7 @@ use Rattle.daos_run.specs.Issue.{AreIssued, ticks_after, tracker_after}
 use Rattle.daos_run.specs.Told.{all_told}
 use Rattle.daos_base.specs.Scripts.{IsInForm}
 use Rattle.daos_run.specs.Runs.{IsRunOf}
-use Rattle.daos_run.proofs.Commands.{lone-is}
+use Rattle.daos_run.specs.CommandLaws.{lone-is}
 use Rattle.daos_run.proofs.Lists.{EachAt-nil, EachAt-push, increasing-from_Rises, recursion-append, recursion-map, Rises, Rises-push}
 use Rattle.daos_run.proofs.Answers.{all_told-numbers, all_told-right}
 use Rattle.daos_run.proofs.Epochs.{AreIssued-push, ticks_after-push, tracker_after-push, issued-rises, issued-bound, ticks-of_epoch}
@@ -108,23 +108,22 @@ module _ (s : Script) (n : ℕ) (e : Epoch) (ops : List Op) (before : List CellV
   }
 
   pub reads-of_attempt : (T : List Taken) → as_of empty_stand T e.0 ≡ before → AttemptReadsLegal s empty_stand T a
-  reads-of_attempt T is f at =
-      let same : e ≡ f = some_is e f (sym made.epoch ∙ at) in
+  reads-of_attempt T is =
       let right : All (IsRightAnswer ops before) (all_told 0 ops before) = All-from_recursion (IsRightAnswer ops before) (all_told 0 ops before) (all_told-right ops before) in
       let P : List Op → List CellValue → List (ℕ × Answer) → Type 0 = λ o m g. All (IsRightAnswer o m) g in
-      subst (λ x. P (attempt_ops s a.id) (as_of empty_stand T x.0) a.gots) same
+      subst (λ x. AnswersLegal (attempt_ops s a.id) empty_stand T x a.gots) (sym made.epoch)
       (subst (λ m. P (attempt_ops s a.id) m a.gots) (sym is)
       (subst (λ o. P o before a.gots) (sym ops-of_attempt)
       (subst (λ g. P ops before g) (sym made.gots) right)))
-    where
-      some_is : (x y : Epoch) → Some x ≡ Some y → x ≡ y
-      some_is x y p = cc
 
--- a later transaction leaves the reads of a line legal
+-- a later transaction leaves answers legal
+answers-later : (ops : List Op) (T : List Taken) (t : Taken) (epoch : Option Epoch) (gots : List (ℕ × Answer)) → AllByRecursion (λ x. x ≤ t.epoch.0) (option_epoch epoch) → AnswersLegal ops empty_stand T epoch gots → AnswersLegal ops empty_stand (T ++ t ∷ []) epoch gots
+answers-later ops T t None gots low legal = legal
+answers-later ops T t (Some e) gots low legal = subst (λ m. All (IsRightAnswer ops m) gots) (sym (as_of-later empty_stand T t e.0 low.0)) legal
+
+-- and so the reads of a line
 line-later : (s : Script) (T : List Taken) (t : Taken) (l : Line) → AllByRecursion (λ x. x ≤ t.epoch.0) (line_epoch l) → LineReadsLegal s empty_stand T l → LineReadsLegal s empty_stand (T ++ t ∷ []) l
-line-later s T t (line.Try a) low legal = λ e at.
-    let le : e.0 ≤ t.epoch.0 = (subst (λ o. AllByRecursion (λ x. x ≤ t.epoch.0) (option_epoch o)) at low).0 in
-    subst (λ m. All (IsRightAnswer (attempt_ops s a.id) m) a.gots) (sym (as_of-later empty_stand T t e.0 le)) (legal e at)
+line-later s T t (line.Try a) low legal = answers-later (attempt_ops s a.id) T t a.epoch a.gots low legal
 line-later s T t (line.Stop number target) low legal = tt
 line-later s T t (line.Restart number target incarnation floor) low legal = tt
 line-later s T t (line.Freeze target cont epoch) low legal = tt

@@ -2,3 +2,5 @@ pub mod Issue
 pub mod Told
 pub mod Runs
 pub mod Acts
+pub mod CommandLaws
+pub mod IssueLaws

@@ -91,6 +91,7 @@ pub fn run_script<R: Threads + Wait + Sync, B: Rack, G: Gate + Sync>(
     ensures headline { IfOk result (λ report. Headline script.now empty_stand report) }
     ensures issued { IfOk result (λ report. AreIssued 0 255 (epochs_of report.lines)) }
     ensures refusals { IsOkUnless result RunStop.Memory }
+    ensures rack { B.count rack.new ≡ B.count rack.old }
 {
     let mut clock = rack.clock(0);
     let lines = run_commands(alloc, script, &mut clock, gate)?;

@@ -125,7 +125,7 @@ empty_form n = record {
     obj_ids = tt;
     obj_conts = all_none _ [] refl;
   };
-  run_yet = record {
+  run_so_far = record {
     classes = all_none _ [] refl;
     olds = refl;
     stops = refl;
@@ -150,13 +150,13 @@ form_cont n name id s t f d =
         obj_ids = g.obj_ids;
         obj_conts = λ k o lt. any_more (λ c. c.id ≡ (get_or s.objs k o).cont) s.conts (decl ∷ []) (g.obj_conts k o lt);
       };
-      run_yet = record {
-        classes = f.run_yet.classes;
-        olds = f.run_yet.olds;
-        stops = f.run_yet.stops;
-        clients = f.run_yet.clients;
-        few = f.run_yet.few;
-        commands = f.run_yet.commands;
+      run_so_far = record {
+        classes = f.run_so_far.classes;
+        olds = f.run_so_far.olds;
+        stops = f.run_so_far.stops;
+        clients = f.run_so_far.clients;
+        few = f.run_so_far.few;
+        commands = f.run_so_far.commands;
       };
     })
 
@@ -175,12 +175,12 @@ form_obj n name cont number s t f d =
         obj_ids = IsDistinct-push same_declared s.objs decl g.obj_ids (object_is_new s.objs name d.id decl.id d.new_object);
         obj_conts = All-push (λ o. Any (λ c. c.id ≡ o.cont) s.conts) s.objs decl g.obj_conts (cont_is_known s.conts cont d.id d.known);
       };
-      run_yet = record {
-        classes = All-push (λ o. o.id.class ≡ S1) s.objs decl f.run_yet.classes refl;
-        olds = f.run_yet.olds;
-        stops = f.run_yet.stops;
-        clients = f.run_yet.clients;
-        few = f.run_yet.few;
+      run_so_far = record {
+        classes = All-push (λ o. o.id.class ≡ S1) s.objs decl f.run_so_far.classes refl;
+        olds = f.run_so_far.olds;
+        stops = f.run_so_far.stops;
+        clients = f.run_so_far.clients;
+        few = f.run_so_far.few;
         commands = all_none (λ list. All (λ c. IsPutOrGet (s.objs ++ decl ∷ []) c) list) s.clients d.before_client;
       };
     })
@@ -198,10 +198,10 @@ form_client n s t f d =
         obj_ids = f.declared.obj_ids;
         obj_conts = f.declared.obj_conts;
       };
-      run_yet = record {
-        classes = f.run_yet.classes;
-        olds = f.run_yet.olds;
-        stops = f.run_yet.stops;
+      run_so_far = record {
+        classes = f.run_so_far.classes;
+        olds = f.run_so_far.olds;
+        stops = f.run_so_far.stops;
         clients = omega arith;
         few = All-from_recursion (λ list. length list ≤ 100000) ([] ∷ []) (omega arith, tt);
         commands = All-from_recursion (λ list. All (λ c. IsPutOrGet s.objs c) list) ([] ∷ []) (all_none (λ c. IsPutOrGet s.objs c) [] refl, tt);
@@ -211,7 +211,7 @@ form_client n s t f d =
 form_command : (n : ℕ) (obj : List ℕ) (act : ContId × ObjId → Act) (s t : Script) → IsInForm n s → (d : AddsCommand obj act s t) → IsSingleAct s.objs (act d.id) → IsInForm n t
 form_command n obj act s t f d single =
     let command : Command = lone_act (act d.id) in
-    let before : All (λ c. IsPutOrGet s.objs c) d.list = subst (λ lists. All (λ list. All (λ c. IsPutOrGet s.objs c) list) lists) d.in_client f.run_yet.commands 0 [] (omega arith) in
+    let before : All (λ c. IsPutOrGet s.objs c) d.list = subst (λ lists. All (λ list. All (λ c. IsPutOrGet s.objs c) list) lists) d.in_client f.run_so_far.commands 0 [] (omega arith) in
     let more : length (d.list ++ command ∷ []) ≤ 100000 = omega (arith, length-append d.list (command ∷ []), d.room) in
     subst (λ t. IsInForm n t) (sym d.commanded) (record {
       read_for = f.read_for;
@@ -224,10 +224,10 @@ form_command n obj act s t f d single =
         obj_ids = f.declared.obj_ids;
         obj_conts = f.declared.obj_conts;
       };
-      run_yet = record {
-        classes = f.run_yet.classes;
-        olds = f.run_yet.olds;
-        stops = f.run_yet.stops;
+      run_so_far = record {
+        classes = f.run_so_far.classes;
+        olds = f.run_so_far.olds;
+        stops = f.run_so_far.stops;
         clients = omega arith;
         few = All-from_recursion (λ list. length list ≤ 100000) ((d.list ++ command ∷ []) ∷ []) (more, tt);
         commands = All-from_recursion (λ list. All (λ c. IsPutOrGet s.objs c) list) ((d.list ++ command ∷ []) ∷ [])

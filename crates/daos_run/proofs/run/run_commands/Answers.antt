@@ -1,5 +1,5 @@
 use Rattle.std.proofs.Common.{◌≡◌, ◌∙◌, length, sym, arith}
-use Rattle.daos_run.proofs.Commands.{can_be_done_at, attempt_ops-is}
+use Rattle.daos_run.specs.CommandLaws.{can_be_done_at, attempt_ops-is}
 use Rattle.daos_run.proofs.SoFar.{nothing_yet, one_more, all_ran}
 use Rattle.daos_run.proofs.run.run_commands.Goals as goal
 

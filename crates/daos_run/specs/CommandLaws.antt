@@ -32,14 +32,14 @@ none_of : (objs : List ObjDecl) → All (λ c. IsPutOrGet objs c) []
 none_of objs k d lt = absurd (omega arith)
 
 -- the commands of the one client put and get
-first_puts : (n : ℕ) (s : Script) → IsInForm n s → All (λ c. IsPutOrGet s.objs c) (first_list s.clients)
-first_puts n s form = in_first (λ list. All (λ c. IsPutOrGet s.objs c) list) s.clients (none_of s.objs) form.run_yet.commands
+pub first_puts : (n : ℕ) (s : Script) → IsInForm n s → All (λ c. IsPutOrGet s.objs c) (first_list s.clients)
+first_puts n s form = in_first (λ list. All (λ c. IsPutOrGet s.objs c) list) s.clients (none_of s.objs) form.run_so_far.commands
 
 pub lone-is : (n : ℕ) (s : Script) → IsInForm n s → lone_commands s ≡ first_list s.clients
 lone-is n s form = all_numbered s.objs (first_list s.clients) (recursion_from_All (λ c. IsPutOrGet s.objs c) (first_list s.clients) (first_puts n s form))
 
 pub few_commands : (n : ℕ) (s : Script) → IsInForm n s → length (first_list s.clients) ≤ 100000
-few_commands n s form = in_first (λ list. length list ≤ 100000) s.clients (omega arith) form.run_yet.few
+few_commands n s form = in_first (λ list. length list ≤ 100000) s.clients (omega arith) form.run_so_far.few
 
 few_ops : (objs : List ObjDecl) (c : Command) → IsPutOrGet objs c → length (ops_of c) ≤ 64
 few_ops objs (Run ops skips snapshot) p = let e : length ops ≡ 1 = ap length p.0.1 in omega arith
@@ -80,3 +80,18 @@ can_be_done objs (Skip turns) p = absurd p
 
 pub can_be_done_at : (n : ℕ) (s : Script) (k : ℕ) (c : Command) → IsInForm n s → k < length (first_list s.clients) → c ≡ get_or (first_list s.clients) k c → AllCanBeDone (ops_of c)
 can_be_done_at n s k c form lt e = can_be_done s.objs c (subst (λ x. IsPutOrGet s.objs x) (sym e) (first_puts n s form k c lt))
+
+-- the command of a number below their count, which puts or gets, has the operations of its attempt
+pub record IsCommandAt (s : Script) (k : ℕ) (c : Command) : Type 0 where
+  pub puts_or_gets : IsPutOrGet s.objs c
+  pub ops : attempt_ops s (record { client = 0; command = k; attempt = 0 }) ≡ ops_of c
+
+pub command_at : (n : ℕ) (s : Script) (k : ℕ) (d : Command) → IsInForm n s → k < length (first_list s.clients) → IsCommandAt s k (get_or (first_list s.clients) k d)
+command_at n s k d form lt =
+    let c = get_or (first_list s.clients) k d in
+    record { puts_or_gets = first_puts n s form k d lt; ops = attempt_ops-is n s k c form lt (get_or-again (first_list s.clients) k d lt) }
+  where
+    get_or-again : (xs : List Command) (k : ℕ) (d : Command) → k < length xs → get_or xs k d ≡ get_or xs k (get_or xs k d)
+    get_or-again [] k d lt = absurd (omega arith)
+    get_or-again (x ∷ xs) zero d lt = refl
+    get_or-again (x ∷ xs) (suc k) d lt = get_or-again xs k d (omega arith)
