@@ -69,16 +69,16 @@ unfolding same_path
 same_path-Decides p q =
     Decides-like (same_path p q)
     (λ same.
-        ap (λ c. path_of c p.obj p.dkey p.akey) same.0.0.0
-        ∙ ap (λ o. path_of q.cont.0 o p.dkey p.akey) same.0.0.1
-        ∙ ap (λ d. path_of q.cont.0 q.obj d p.akey) same.0.1
-        ∙ ap (path_of q.cont.0 q.obj q.dkey) same.1)
+    ap (λ c. path_of c p.obj p.dkey p.akey) same.0.0.0
+    ∙ ap (λ o. path_of q.cont.0 o p.dkey p.akey) same.0.0.1
+    ∙ ap (λ d. path_of q.cont.0 q.obj d p.akey) same.0.1
+    ∙ ap (path_of q.cont.0 q.obj q.dkey) same.1)
     (λ same. (((ap (λ r. r.cont.0) same, ap (λ r. r.obj) same), ap (λ r. r.dkey) same), ap (λ r. r.akey) same))
     (Decides-and _ _
-        (Decides-and _ _
-            (Decides-and _ _ (Decides-eqb p.cont.0 q.cont.0) (option_eq-Decides same_object same_object-Decides p.obj q.obj))
-            (option_eq-Decides same_key same_key-Decides p.dkey q.dkey))
-        (option_eq-Decides same_key same_key-Decides p.akey q.akey))
+    (Decides-and _ _
+    (Decides-and _ _ (Decides-eqb p.cont.0 q.cont.0) (option_eq-Decides same_object same_object-Decides p.obj q.obj))
+    (option_eq-Decides same_key same_key-Decides p.dkey q.dkey))
+    (option_eq-Decides same_key same_key-Decides p.akey q.akey))
 
 abbrev cell_of : Path → Option ℕ → Cell
 cell_of p i = record { path = p; index = i }

@@ -10,3 +10,5 @@ pub mod map;
 mod names;
 mod pieces;
 pub mod stand;
+#[cfg(test)]
+mod tests;

@@ -54,8 +54,8 @@ impl Map {
         self.newest_last.as_slice()
     }
 
-    /// The allocator that gives the map its memory.
-    pub fn allocator(&self) -> Global {
+    // The allocator that gives the map its memory.
+    pub(crate) fn allocator(&self) -> Global {
         *self.newest_last.allocator()
     }
 
