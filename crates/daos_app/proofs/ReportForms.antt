@@ -1,19 +1,16 @@
 -- The report of a run is one that its text determines.
-use Rattle.std.proofs.Common.{◌≡◌, ℕ, zero, suc, ◌+◌, ◌^◌, ◌<◌, ◌≤◌, List, [], ◌∷◌, ◌++◌, length, length-append, get_or, map, Option, Some, None, sym, ap, subst, ◌∙◌, refl, arith}
-use Rattle.std.specs.Prelude.{slice_get, All}
+use Rattle.std.proofs.Common.{◌≡◌, ℕ, zero, suc, ◌^◌, ◌<◌, ◌≤◌, List, [], ◌∷◌, ◌++◌, length, length-append, get_or, Option, Some, None, sym, ap, subst, ◌∙◌, refl, arith}
+use Rattle.std.specs.Prelude.{All}
 use Rattle.std.specs.List.{AllByRecursion}
 use Rattle.std.proofs.lemmas.List.Elements.{All-from_recursion, recursion_from_All}
 use Rattle.std.proofs.lemmas.Option.{slice_get-get_or}
 use Rattle.daos_base.specs.declared.answer.Answer.{Answer}
 use Rattle.daos_base.specs.declared.epoch.Epoch.{Epoch}
-use Rattle.daos_base.specs.declared.id.AttemptId.{AttemptId}
 use Rattle.daos_base.specs.declared.operation.Act.{Act}
 use Rattle.daos_base.specs.declared.operation.Act.TheVariants.{Fetch, Change}
 use Rattle.daos_base.specs.declared.operation.Op.{Op}
 use Rattle.daos_base.specs.declared.operation.Read.{Read}
 use Rattle.daos_base.specs.declared.operation.Read.TheVariants as read
-use Rattle.daos_base.specs.declared.outcome.Outcome.{Outcome}
-use Rattle.daos_base.specs.declared.outcome.Outcome.TheVariants.{Committed}
 use Rattle.daos_base.specs.declared.report.Attempt.{Attempt}
 use Rattle.daos_base.specs.declared.report.Line.{Line}
 use Rattle.daos_base.specs.declared.report.Line.TheVariants as line
@@ -28,10 +25,10 @@ use Rattle.daos_model.specs.declared.stand.Taken.{Taken}
 use Rattle.daos_model.specs.Answers.{answer, value_answer}
 use Rattle.daos_model.specs.AsOf.{as_of, empty_stand}
 use Rattle.daos_model.specs.Headline.{Headline}
-use Rattle.daos_model.specs.OutcomesLegal.{EachAt, IsOnlyAttempt, IsOnlyAttemptLine, epochs_of, first_list, line_epoch, lone_commands, option_epoch}
+use Rattle.daos_model.specs.OutcomesLegal.{IsOnlyAttempt, IsOnlyAttemptLine, epochs_of, first_list, line_epoch, option_epoch}
 use Rattle.daos_model.specs.ReadsLegal.{AnswersLegal, IsRightAnswer, LineReadsLegal}
 use Rattle.daos_model.specs.TookEffect.{took}
-use Rattle.daos_model.specs.Transactions.{attempt_ops, ops_of, read_at, read_of, read_of_op}
+use Rattle.daos_model.specs.Transactions.{attempt_ops, ops_of, read_at, read_of}
 use Rattle.daos_report.specs.Forms.{IsAnswer, IsAttemptId, IsAttemptOf, IsCond, IsEpochOrNone, IsGot, IsLineOf, IsOutcomeOf, IsReportOf, least_down}
 use Rattle.daos_run.specs.CommandLaws.{IsCommandAt, command_at, few_commands, lone-is}
 use Rattle.daos_run.specs.Issue.{AreIssued}

@@ -1,22 +1,17 @@
 -- The text of a report determines it.
-use Rattle.std.proofs.Common.{◌≡◌, ℕ, ◌^◌, ◌<◌, List, [], ◌∷◌, ◌++◌, map, flat_map, All, Option, Some, None, refl, sym, ap, subst, ◌∙◌}
+use Rattle.std.proofs.Common.{◌≡◌, ℕ, ◌^◌, ◌<◌, List, [], ◌∷◌, ◌++◌, map, flat_map, Option, Some, refl, sym, ap, ◌∙◌}
 use Rattle.std.specs.Fmt.{decimal}
 use Rattle.std.specs.List.{AllByRecursion}
 use Rattle.std.proofs.lemmas.List.{same_from_push}
-use Rattle.std.proofs.lemmas.List.Elements.{All-from_recursion, recursion_from_All}
-use Rattle.daos_base.specs.declared.answer.Answer.{Answer}
-use Rattle.daos_base.specs.declared.answer.Answer.TheVariants as answer
-use Rattle.daos_base.specs.declared.epoch.Epoch.{Epoch}
-use Rattle.daos_base.specs.declared.report.Attempt.{Attempt}
+use Rattle.std.proofs.lemmas.List.Elements.{recursion_from_All}
 use Rattle.daos_base.specs.declared.report.Line.{Line}
-use Rattle.daos_base.specs.declared.report.Line.TheVariants as line
 use Rattle.daos_base.specs.declared.report.Report.{Report}
 use Rattle.daos_base.specs.declared.script.Script.{Script}
 use Rattle.daos_text.specs.Number.{number_in}
 use Rattle.daos_text.specs.Parts.{parts_of}
 use Rattle.daos_text.specs.RowLaws.{rows_are_texts}
 use Rattle.daos_text.specs.Rows.{Words, IsRow, row_line, line_words, rows_text}
-use Rattle.daos_report.specs.Forms.{IsEpochOrNone, IsAnswer, IsGot, IsCond, IsOutcomeOf, IsAttemptOf, IsLineOf, IsReportOf, least_down, IsPrintableOrAbsent, IsPrintableGot, IsIssued, IsCommitted, IsCommittedLine, HasOnlyCommits, TextsDetermineReports}
+use Rattle.daos_report.specs.Forms.{IsLineOf, IsReportOf, least_down, TextsDetermineReports}
 use Rattle.daos_report.specs.Reports.{end_row, line_rows, report_rows, report_text}
 use Rattle.daos_report.proofs.Again.{u8_again, lines_again}
 use Rattle.daos_report.proofs.Inner.{report_inner}

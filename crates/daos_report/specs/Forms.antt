@@ -1,6 +1,6 @@
 -- Which reports a text determines.
-use Rattle.std.specs.Prelude.{◌≡◌, ℕ, ◌^◌, ◌<◌, ◌≤◌, Bool, true, nat_lt, List, [], ◌∷◌, ◌++◌, length, map, All, Any, Option, Some, None, if◌then◌else◌}
-use Rattle.std.specs.List.{IsDistinct, list_all}
+use Rattle.std.specs.Prelude.{◌≡◌, ℕ, ◌^◌, ◌<◌, Bool, nat_lt, List, [], ◌∷◌, ◌++◌, map, All, Any, Option, Some, None, if◌then◌else◌}
+use Rattle.std.specs.List.{IsDistinct}
 use Rattle.daos_base.specs.declared.answer.Answer.{Answer}
 use Rattle.daos_base.specs.declared.answer.Answer.TheVariants as answer
 use Rattle.daos_base.specs.declared.answer.Piece.{Piece}
@@ -24,7 +24,6 @@ use Rattle.daos_base.specs.declared.script.Script.{Script}
 use Rattle.daos_base.specs.Keys.{IsKey, same_key}
 use Rattle.daos_base.specs.Scripts.{cont_name, obj_name}
 use Rattle.daos_report.specs.Reports.{report_text}
-use Rattle.daos_report.specs.Values.{is_printable}
 
 -- ---- numbers as large as their types hold
 

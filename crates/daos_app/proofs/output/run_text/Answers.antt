@@ -1,0 +1,13 @@
+use Rattle.daos_app.proofs.ReportForms.{report_form}
+use Rattle.daos_app.proofs.output.run_text.Goals as goal
+
+pub returns-clause-reported : goal.returns-clause-reported
+returns-clause-reported g c =
+    let ran = c.in_ok-report.ensures in
+    record {
+      report = c.in_ok-report.report;
+      form = report_form c.args.script.now c.in_ok-report.report c.requires.script ran.headline ran.issued;
+      headline = ran.headline;
+      issued = ran.issued;
+      told = c.in_ok-report_text.ensures
+    }
