@@ -4,7 +4,6 @@ ghost use Rattle.daos_model.specs.Effect.{AllEndInArrays, EndsInArray, WritesEnd
 
 use crate::answers::answer_of;
 use crate::as_of::as_of;
-use crate::effect::apply_write;
 use crate::map::Map;
 use crate::stand::{Stand, Taken};
 use daos_base::answer::{Answer, Piece};
@@ -17,30 +16,25 @@ use daos_base::path::Path;
 use std::alloc::Global;
 use std::test::Fail;
 
-// An object of a container.
-fn object(number: u64) -> Path {
+fn object() -> Path {
     Path {
         cont: ContId(1),
         obj: Some(ObjId {
             class: Class::S1,
-            number,
+            number: 0,
         }),
         dkey: None,
         akey: None,
     }
 }
 
-// The dkey `d` of an object.
-fn dkey(alloc: Global, number: u64) -> Result<Path, Fail> {
-    let mut path = object(number);
-    path.dkey = Some(Key::new(alloc, b"d")?);
-    Ok(path)
-}
-
-// An akey under the dkey `d` of an object.
-fn akey(alloc: Global, number: u64, name: &[u8]) -> Result<Path, Fail> {
-    let mut path = dkey(alloc, number)?;
-    path.akey = Some(Key::new(alloc, name)?);
+// An akey under the dkey `d` of the object.
+fn akey(alloc: Global, name: &[u8]) -> Result<Path, Fail> {
+    let dkey = Key::new(alloc, b"d")?;
+    let akey = Key::new(alloc, name)?;
+    let mut path = object();
+    path.dkey = Some(dkey);
+    path.akey = Some(akey);
     Ok(path)
 }
 
@@ -95,10 +89,24 @@ fn told(alloc: Global, map: &Map, read: &Read) -> Result<String, Fail> {
     Ok(text)
 }
 
-fn value(alloc: Global, bytes: &[u8]) -> Result<Write, Fail>
+fn get(alloc: Global) -> Result<Read, Fail> {
+    Ok(Read::Single(akey(alloc, b"a")?))
+}
+
+fn read(alloc: Global) -> Result<Read, Fail> {
+    Ok(Read::Extent(akey(alloc, b"a")?, 0, 5))
+}
+
+fn put(alloc: Global, bytes: &[u8]) -> Result<Write, Fail>
     ensures { IfOk result EndsInArray }
 {
-    Ok(Write::Single(akey(alloc, 0, b"a")?, bytes_of(alloc, bytes)?))
+    Ok(Write::Single(akey(alloc, b"a")?, bytes_of(alloc, bytes)?))
+}
+
+fn punch(alloc: Global) -> Result<Write, Fail>
+    ensures { IfOk result EndsInArray }
+{
+    Ok(Write::PunchAkey(akey(alloc, b"a")?))
 }
 
 // Two bytes from a low index on.
@@ -106,88 +114,7 @@ fn pair(alloc: Global, low: u8, bytes: [u8; 2]) -> Result<Write, Fail>
     ensures { IfOk result EndsInArray }
 {
     let bytes = bytes_of(alloc, &bytes)?;
-    Ok(Write::Extent(akey(alloc, 0, b"a")?, u32::from(low), bytes))
-}
-
-fn punch(alloc: Global) -> Result<Write, Fail>
-    ensures { IfOk result EndsInArray }
-{
-    Ok(Write::PunchDkey(dkey(alloc, 0)?))
-}
-
-// The map after a write.
-fn after(mut map: Map, write: Write) -> Result<Map, Fail>
-    requires { EndsInArray write }
-{
-    apply_write(&mut map, &write)?;
-    Ok(map)
-}
-
-fn put_once(alloc: Global) -> Result<Map, Fail> {
-    after(Map::new(alloc), value(alloc, b"hello")?)
-}
-
-fn put_twice(alloc: Global) -> Result<Map, Fail> {
-    after(put_once(alloc)?, value(alloc, b"two")?)
-}
-
-fn punched(alloc: Global) -> Result<Map, Fail> {
-    after(put_twice(alloc)?, punch(alloc)?)
-}
-
-fn written(alloc: Global) -> Result<Map, Fail> {
-    after(Map::new(alloc), pair(alloc, 1, *b"xy")?)
-}
-
-fn get(alloc: Global, name: &[u8]) -> Result<Read, Fail> {
-    Ok(Read::Single(akey(alloc, 0, name)?))
-}
-
-fn read(alloc: Global, len: u32) -> Result<Read, Fail> {
-    Ok(Read::Extent(akey(alloc, 0, b"a")?, 0, len))
-}
-
-fn answer(alloc: Global, case: u8) -> Result<String, Fail> {
-    match case {
-        0 => told(alloc, &put_once(alloc)?, &get(alloc, b"a")?),
-        1 => told(alloc, &put_twice(alloc)?, &get(alloc, b"a")?),
-        2 => told(alloc, &punched(alloc)?, &Read::Exists(object(0))),
-        3 => told(alloc, &written(alloc)?, &read(alloc, 4)?),
-        4 => told(alloc, &written(alloc)?, &get(alloc, b"b")?),
-        5 => told(alloc, &written(alloc)?, &Read::Dkeys(object(1))),
-        6 => told(alloc, &written(alloc)?, &Read::Dkeys(object(0))),
-        _ => told(alloc, &written(alloc)?, &Read::Akeys(dkey(alloc, 0)?)),
-    }
-}
-
-#[test]
-fn answers_what_was_written(rt: HostRuntime) -> Result<(), Fail> {
-    for (case, want) in [
-        (0, "value =hello"),
-        (1, "value =two"),
-        (2, "no"),
-        (3, "parts ~1 =xy ~1"),
-        (4, "absent"),
-        (5, "names"),
-        (6, "names d"),
-        (7, "names a"),
-    ] {
-        let text = answer(rt.alloc(), case)?;
-        assert_eq!(rt; text.as_str(), want);
-    }
-    Ok(())
-}
-
-// Two transactions of one write, the later one first.
-fn took(alloc: Global, late: (u64, Write), early: (u64, Write)) -> Result<Vec<Taken>, Fail>
-    requires late { EndsInArray late.1 }
-    requires early { EndsInArray early.1 }
-    ensures { IfOk result (λ took. AllEndInArrays took.items) }
-{
-    let mut took = Vec::new(alloc);
-    took.push(taken(alloc, late.0, late.1)?)?;
-    took.push(taken(alloc, early.0, early.1)?)?;
-    Ok(took)
+    Ok(Write::Extent(akey(alloc, b"a")?, u32::from(low), bytes))
 }
 
 // A transaction of one write.
@@ -203,52 +130,88 @@ fn taken(alloc: Global, epoch: u64, write: Write) -> Result<Taken, Fail>
     })
 }
 
-fn map_as_of(alloc: Global, took: &[Taken], epoch: u64) -> Result<Map, Fail>
+fn with_taken(mut took: Vec<Taken>, taken: Taken) -> Result<Vec<Taken>, Fail>
+    requires took { AllEndInArrays took.items }
+    requires taken { WritesEndInArrays taken }
+    ensures { IfOk result (λ all. AllEndInArrays all.items) }
+{
+    took.push(taken)?;
+    Ok(took)
+}
+
+// The later transaction stands first.
+fn values(alloc: Global) -> Result<Vec<Taken>, Fail>
+    ensures { IfOk result (λ took. AllEndInArrays took.items) }
+{
+    let late = with_taken(Vec::new(alloc), taken(alloc, 1024, punch(alloc)?)?)?;
+    with_taken(late, taken(alloc, 256, put(alloc, b"one")?)?)
+}
+
+fn arrays(alloc: Global) -> Result<Vec<Taken>, Fail>
+    ensures { IfOk result (λ took. AllEndInArrays took.items) }
+{
+    let late = with_taken(Vec::new(alloc), taken(alloc, 512, pair(alloc, 2, *b"pq")?)?)?;
+    with_taken(late, taken(alloc, 256, pair(alloc, 1, *b"xy")?)?)
+}
+
+fn told_as_of(alloc: Global, took: &[Taken], epoch: u64, read: &Read) -> Result<String, Fail>
     requires { AllEndInArrays took.now }
 {
     let opening = Stand {
         now: Map::new(alloc),
         snaps: Items::new(alloc),
     };
-    Ok(as_of(alloc, &opening, took, Epoch(epoch))?)
+    let map = as_of(alloc, &opening, took, Epoch(epoch))?;
+    told(alloc, &map, read)
 }
 
 fn value_as_of(alloc: Global, epoch: u64) -> Result<String, Fail> {
-    let took = took(alloc, (1024, punch(alloc)?), (256, value(alloc, b"one")?))?;
-    told(
-        alloc,
-        &map_as_of(alloc, took.as_slice(), epoch)?,
-        &get(alloc, b"a")?,
-    )
+    let took = values(alloc)?;
+    told_as_of(alloc, took.as_slice(), epoch, &get(alloc)?)
 }
 
 fn array_as_of(alloc: Global, epoch: u64) -> Result<String, Fail> {
-    let took = took(
-        alloc,
-        (512, pair(alloc, 2, *b"pq")?),
-        (256, pair(alloc, 1, *b"xy")?),
-    )?;
-    told(
-        alloc,
-        &map_as_of(alloc, took.as_slice(), epoch)?,
-        &read(alloc, 5)?,
-    )
+    let took = arrays(alloc)?;
+    told_as_of(alloc, took.as_slice(), epoch, &read(alloc)?)
+}
+
+fn names_as_of(alloc: Global, epoch: u64) -> Result<String, Fail> {
+    let took = values(alloc)?;
+    told_as_of(alloc, took.as_slice(), epoch, &Read::Dkeys(object()))
 }
 
 #[test]
-fn answers_as_of_epochs(rt: HostRuntime) -> Result<(), Fail> {
-    for (epoch, value, array) in [
-        (100, "absent", "parts ~5"),
-        (256, "absent", "parts ~5"),
-        (300, "value =one", "parts ~1 =xy ~2"),
-        (600, "value =one", "parts ~1 =xpq ~1"),
-        (1024, "value =one", "parts ~1 =xpq ~1"),
-        (1536, "absent", "parts ~1 =xpq ~1"),
+fn answers_values_as_of_epochs(rt: HostRuntime) -> Result<(), Fail> {
+    for (epoch, want) in [
+        (256, "absent"),
+        (512, "value =one"),
+        (1024, "value =one"),
+        (1536, "absent"),
     ] {
         let text = value_as_of(rt.alloc(), epoch)?;
-        assert_eq!(rt; text.as_str(), value);
+        assert_eq!(rt; text.as_str(), want);
+    }
+    Ok(())
+}
+
+#[test]
+fn answers_arrays_as_of_epochs(rt: HostRuntime) -> Result<(), Fail> {
+    for (epoch, want) in [
+        (100, "parts ~5"),
+        (300, "parts ~1 =xy ~2"),
+        (600, "parts ~1 =xpq ~1"),
+    ] {
         let text = array_as_of(rt.alloc(), epoch)?;
-        assert_eq!(rt; text.as_str(), array);
+        assert_eq!(rt; text.as_str(), want);
+    }
+    Ok(())
+}
+
+#[test]
+fn answers_names_as_of_epochs(rt: HostRuntime) -> Result<(), Fail> {
+    for (epoch, want) in [(256, "names"), (1024, "names d"), (1025, "names")] {
+        let text = names_as_of(rt.alloc(), epoch)?;
+        assert_eq!(rt; text.as_str(), want);
     }
     Ok(())
 }
