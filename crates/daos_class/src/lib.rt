@@ -1,0 +1,7 @@
+// Classes: their words, whether they fit the targets, and where they place objects.
+#![tactic(auto)]
+
+pub mod class;
+pub mod place;
+
+pub use daos_base::hash::fnv1a;
