@@ -87,7 +87,7 @@ attempt_form s T k c a small at only low legal =
       epoch = epoch_form a.epoch low;
       conds = subst (All IsCond) (sym only.unconditional) (All-from_recursion IsCond [] tt);
       gots = legal_form s T a.epoch c a.gots at.puts_or_gets (subst (λ os. AnswersLegal os empty_stand T a.epoch a.gots) ops legal);
-      outcome = subst (IsOutcomeOf s) (sym only.committed) tt
+      outcome = subst (IsOutcomeOf s) (sym only.committed) tt;
     }
 
 line_form : (s : Script) (T : List Taken) (k : ℕ) (c : Command) (l : Line) → k < 2 ^ 32 → IsCommandAt s k c → IsOnlyAttemptLine s k l → AllByRecursion (λ e. e < 2 ^ 64) (line_epoch l) → LineReadsLegal s empty_stand T l → IsLineOf s l
@@ -168,5 +168,5 @@ report_form s q form h issued =
     record {
       targets = omega (arith, h.outcomes.targets, form.read_for);
       lines = λ k d lt. line_form s (took s q.lines) k (get_or (first_list s.clients) k none) (get_or q.lines k d) (omega arith) (command_at 1 s k none form (omega arith)) (at k d lt) (lows k d lt) (h.reads k d lt);
-      down = h.outcomes.up ∙ sym (none_down q.lines (recursion_from_All IsTry q.lines (λ k d lt. is_try s k (get_or q.lines k d) (at k d lt))))
+      down = h.outcomes.up ∙ sym (none_down q.lines (recursion_from_All IsTry q.lines (λ k d lt. is_try s k (get_or q.lines k d) (at k d lt))));
     }

@@ -22,7 +22,9 @@ pub enum Status {
     /// The sink failed, or took nothing of bytes that were there.
     WriteFault,
     /// The rack failed, or the region of this target while it was opened.
-    RackFault { target: TargetId },
+    RackFault {
+        target: TargetId,
+    },
     /// The region of this target holds a byte, at this place, that none of ours does.
     Foreign {
         target: TargetId,
@@ -32,7 +34,9 @@ pub enum Status {
     /// There was no memory.
     Memory,
     /// The run ended and was reported, and this target, the least such one, is down.
-    Down { target: TargetId },
+    Down {
+        target: TargetId,
+    },
     /// The region of this target was made for another shape.
     Shape {
         target: TargetId,

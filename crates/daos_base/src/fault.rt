@@ -3,18 +3,31 @@
 /// What is wrong with a line of a script.
 #[derive(Clone, Copy, Debug, PartialEq, Eq, PartialOrd, Ord)]
 pub enum Why {
+    /// A byte other than 32 to 126.
     NotAscii,
+    /// A first word, or one after `must`, `mustnot` or `at`, that isn't one allowed there.
     UnknownWord,
+    /// A word is missing or empty.
     MissingWord,
+    /// A further word stands after the last one.
     ExtraWord,
+    /// Not a number, or out of its range.
     BadNumber,
+    /// A dkey or akey that isn't a key.
     BadKey,
+    /// A value of no spelling.
     BadHex,
+    /// A text that is no UUID.
     BadUuid,
+    /// A name badly spelled, unknown or declared twice, or a thing declared twice.
     BadName,
+    /// No class, or one that doesn't fit the targets.
     BadClass,
+    /// A line that may not stand there.
     BadBlock,
+    /// One more than there may be.
     TooMany(u32),
+    /// More bytes than there may be.
     TooLong(u32),
     /// Nothing: the program doesn't run such a script yet.
     NotYet,
@@ -30,15 +43,25 @@ pub struct ScriptFault {
 /// What is wrong with a word of the command line.
 #[derive(Clone, Copy, Debug, PartialEq, Eq, PartialOrd, Ord)]
 pub enum WordKind {
+    /// Neither `run` nor `load`.
     BadJob,
+    /// No count from 1 to 10,000 after `load`.
     BadCount,
+    /// A further word after the job.
     ExtraWord,
+    /// A word that begins with `-` and is no option.
     UnknownOption,
+    /// An option that stood before.
     Twice,
+    /// `--threads` and `--order` together.
     Clash,
+    /// An option without its value.
     NoValue,
+    /// A value that isn't a number in the option's range.
     BadValue,
+    /// No job at all.
     NoJob,
+    /// `load` without its count.
     NoCount,
     /// Nothing: the program doesn't run such a job yet.
     NotYet,

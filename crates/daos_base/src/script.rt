@@ -35,12 +35,16 @@ pub struct StopDecl {
     pub write: u32,
 }
 
+/// The containers that a script declares, in order; at most 256.
 pub type Conts = Items<ContDecl>;
 
+/// The objects that a script declares, in order; at most 4,096.
 pub type Objs = Items<ObjDecl>;
 
+/// The snapshots of earlier runs that a script names; at most 256.
 pub type Olds = Items<OldDecl>;
 
+/// The writes that are to fail; at most 64.
 pub type Stops = Items<StopDecl>;
 
 /// For each operation the turns that its client does nothing before it, and last those between
@@ -102,6 +106,7 @@ impl TryCopy for Command {
 /// What a client does, in order.
 pub type Commands = Items<Command>;
 
+/// What each client does, in order of the clients' numbers; at most 64.
 pub type ClientLists = Items<Commands>;
 
 /// A script: for how many targets it was read, its declarations, and the commands of each client.

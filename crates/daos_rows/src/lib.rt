@@ -2,6 +2,10 @@
 #![tactic(auto)]
 
 #[cfg(test)]
+mod clocks;
+#[cfg(test)]
 mod first;
+#[cfg(test)]
+mod planned;
 #[cfg(test)]
 mod slow;

@@ -9,8 +9,10 @@ use thiserror::Error;
 /// Why there is no script: its first fault, or want of memory.
 #[derive(Debug, Drop, Error)]
 pub enum ScriptNo {
+    /// The first faulty line, and why.
     #[error("fault at line {}", .0.line)]
     Fault(ScriptFault),
+    /// There was no memory.
     #[error("out of memory")]
     Memory,
 }

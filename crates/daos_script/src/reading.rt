@@ -42,6 +42,7 @@ fn lone(alloc: Global, op: Op) -> Result<Command, AllocError>
 }
 
 impl Reading {
+    /// Nothing read yet, of a script for so many targets.
     pub fn new(alloc: Global, targets: u8) -> Reading
         ensures { result ≡ record { decls = record { targets = targets; conts = []; objs = [] }; client = None } }
     {

@@ -47,6 +47,7 @@ fn has_cont(decls: &[ContDecl], id: ContId) -> bool
 }
 
 impl ContDecls {
+    /// None yet. This takes no memory.
     pub fn new(alloc: Global) -> Self
         ensures { result ≡ [] }
     {
@@ -93,6 +94,7 @@ impl ContDecls {
         self.decls.len()
     }
 
+    /// The declarations, in their order.
     pub fn into_items(self) -> Conts
         ensures { result ≡ self }
     {
@@ -134,6 +136,7 @@ fn has_obj(decls: &[ObjDecl], cont: ContId, id: ObjId) -> bool
 }
 
 impl ObjDecls {
+    /// None yet. This takes no memory.
     pub fn new(alloc: Global) -> Self
         ensures { result ≡ [] }
     {
@@ -180,6 +183,7 @@ impl ObjDecls {
         self.decls.len()
     }
 
+    /// The declarations, in their order.
     pub fn into_items(self) -> Objs
         ensures { result ≡ self }
     {
@@ -200,6 +204,7 @@ pub struct Decls {
 }
 
 impl Decls {
+    /// Nothing declared yet, for so many targets. This takes no memory.
     pub fn new(alloc: Global, targets: u8) -> Decls
         ensures { result ≡ record { targets = targets; conts = []; objs = [] } }
     {

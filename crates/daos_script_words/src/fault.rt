@@ -8,7 +8,9 @@ use std::alloc::{AllocError, AllocFailed};
 /// Why a line says nothing.
 #[derive(Debug, Drop)]
 pub enum LineNo {
+    /// What is wrong with the line.
     Fault(Why),
+    /// There was no memory.
     Memory,
 }
 

@@ -30,12 +30,17 @@ pub enum Verb {
 /// What a line says.
 #[derive(Debug, Drop)]
 pub enum Line {
+    /// A container is declared.
     Cont(ContDecl),
+    /// An object is declared.
     Obj(ObjDecl),
+    /// The next client's list begins.
     Client,
+    /// The client does an operation.
     Do(Op),
 }
 
+// The verb that a word is.
 fn verb_of(word: &[u8]) -> Option<Verb>
     ensures { result ≡ verb_of word.now }
 {

@@ -8,5 +8,5 @@ returns-in-Err-Fault-read_script-clause-refused g c = λ refused.
     record {
       bytes = bytes;
       consumed = c.in-Ok.ensures.whole;
-      no_script = inr (c.in-Ok.ensures.end, text.no_script)
+      no_script = inr (c.in-Ok.ensures.end, text.no_script);
     }

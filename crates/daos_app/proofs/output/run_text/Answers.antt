@@ -9,5 +9,5 @@ returns-clause-reported g c =
       form = report_form c.args.script.now c.in_ok-report.report c.requires.script ran.headline ran.issued;
       headline = ran.headline;
       issued = ran.issued;
-      told = c.in_ok-report_text.ensures
+      told = c.in_ok-report_text.ensures;
     }
