@@ -1,0 +1,5 @@
+pub mod Rolling
+pub mod Reading
+pub mod Settling
+pub mod Moments
+pub mod Phases

@@ -1,0 +1,4 @@
+pub mod Layout
+pub mod Log
+pub mod Settled
+pub mod Spans
