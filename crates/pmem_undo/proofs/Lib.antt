@@ -3,3 +3,4 @@ pub mod Reading
 pub mod Settling
 pub mod Moments
 pub mod Phases
+pub mod Filling

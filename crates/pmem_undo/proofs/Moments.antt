@@ -3,7 +3,7 @@ use Rattle.std.proofs.Common.{◌≡◌, ℕ, zero, suc, ◌+◌, ◌≤◌, ◌
 use Rattle.std.proofs.lemmas.List.{take_more, map-append}
 use Rattle.daos_outside.specs.Images.{Image, Range, Call, lies_in, lies_in_some, over, all_over, Torn, Only, NoMore, Tears, Elapses, LeavesOnly, Runs}
 use Rattle.daos_outside.specs.Images.Call.{Read, Write, Flush}
-use Rattle.pmem_undo.specs.Settled.{writes, reads}
+use Rattle.pmem_undo.specs.Settled.{writes, reads, OnlyLooks}
 
 pub leaves_none : (t : ℕ) (s : ℕ → Image → Type 0) (P : Image → Type 0) → LeavesOnly t t s s P
 leaves_none t s P = record { later = omega arith; each = λ u c le h. inl h }
@@ -93,3 +93,20 @@ runs_then did (x ∷ calls) more a b c run rest = (run.0, (run.1.0, runs_then di
 pub writes-push : (rs : List Range) (r : Range) → writes (rs ++ r ∷ []) ≡ writes rs ++ Write r ∷ []
 writes-push [] r = refl
 writes-push (q ∷ rs) r = ap (λ (cs : List Call). Write q ∷ cs) (writes-push rs r)
+
+pub reads-push : (n : ℕ) → reads (n + 1) ≡ reads n ++ Read ∷ []
+reads-push zero = refl
+reads-push (suc n) =
+    let e : suc n + 1 ≡ suc (n + 1) = omega arith in
+    ap reads e ∙ ap (λ (cs : List Call). Read ∷ cs) (reads-push n)
+
+-- a run of reads, and one more
+pub looks_none : (f : Image) (may : Image → Type 0) (t : ℕ) (s : ℕ → Image → Type 0) → OnlyLooks f f may may t t s s
+looks_none f may t s = record { image = refl; crash = λ c h. h; time = leaves_none t s may }
+
+pub looks_then : (f g h : Image) (m n o : Image → Type 0) (t0 t1 t2 : ℕ) (s0 s1 s2 : ℕ → Image → Type 0) → OnlyLooks f g m n t0 t1 s0 s1 → OnlyLooks g h n o t1 t2 s1 s2 → OnlyLooks f h m o t0 t2 s0 s2
+looks_then f g h m n o t0 t1 t2 s0 s1 s2 a b = record {
+  image = b.image ∙ a.image;
+  crash = λ c now. a.crash c (b.crash c now);
+  time = leaves_then t0 t1 t2 s0 s1 s2 m a.time (leaves_weaker t1 t2 s1 s2 n m b.time a.crash);
+}

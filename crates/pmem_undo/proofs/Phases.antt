@@ -11,7 +11,7 @@ use Rattle.pmem_undo.specs.Spans.{range_of, ranges_of}
 use Rattle.pmem_undo.proofs.Moments.{Sofar, sofar_start, sofar_write, sofar_flush, leaves_weaker, tears_front}
 use Rattle.pmem_undo.proofs.Settling.{at_body, at_gate, at_ranges, at_close}
 
-take_one_more : {A : Type 0} (xs : List A) (k : ℕ) (d : A) → k < length xs → take (k + 1) xs ≡ take k xs ++ get_or xs k d ∷ []
+pub take_one_more : {A : Type 0} (xs : List A) (k : ℕ) (d : A) → k < length xs → take (k + 1) xs ≡ take k xs ++ get_or xs k d ∷ []
 take_one_more xs k d h = rw add-one (take-suc xs k d h)
 
 -- one span more

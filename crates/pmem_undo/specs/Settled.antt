@@ -1,5 +1,5 @@
 -- What attaching makes of an image, and what a crash leaves of a commit.
-use Rattle.std.specs.Prelude.{◌≡◌, ◌≢◌, ◌⊎◌, ℕ, Bool, true, cond, ◌==◌, List, [], ◌∷◌, ◌++◌, Option, Some, None, IsSome, ◌^◌, ◌<◌, ◌≤◌, length}
+use Rattle.std.specs.Prelude.{◌≡◌, ◌≢◌, ◌⊎◌, ℕ, zero, suc, Bool, true, cond, ◌==◌, List, [], ◌∷◌, ◌++◌, Option, Some, None, IsSome, ◌^◌, ◌<◌, ◌≤◌, length}
 use Rattle.daos_outside.specs.Images.{Image, Range, over, all_over, Only, NoMore, LeavesOnly, Call}
 use Rattle.daos_outside.specs.Images.Call.{Read, Write, Flush}
 use Rattle.pmem_undo.specs.Layout.{gate, gate_byte, log_place, most_ranges, most_bytes, is_content, SameContent, AreContent, total_bytes}
@@ -65,10 +65,10 @@ abbrev pub commit_calls : List ℕ → List Range → List Call
 commit_calls body ranges =
     Write (body_range body) ∷ Flush ∷ Write (gate_byte 1) ∷ Flush ∷ (writes ranges ++ Flush ∷ Write (gate_byte 0) ∷ Flush ∷ [])
 
--- some reads
-abbrev pub reads : List Range → List Call
-reads [] = []
-reads (r ∷ rs) = Read ∷ reads rs
+-- so many reads
+abbrev pub reads : ℕ → List Call
+reads zero = []
+reads (suc n) = Read ∷ reads n
 
 -- What a run of reads leaves: the image, and no more that a crash may leave.
 pub record OnlyLooks (f g : Image) (may_leave may_leave_now : Image → Type 0) (before now : ℕ) (past since : ℕ → Image → Type 0) : Type 0 where

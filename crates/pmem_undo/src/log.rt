@@ -1,11 +1,11 @@
 // The log body is made of the old bytes.
-ghost use Rattle.std.specs.Prelude.{◌≡◌, ℕ, ◌+◌, ◌*◌, ◌^◌, ◌<◌, ◌≤◌, ◌++◌, length, take, map, All, IfOk, OnOk, IsTrue};
+ghost use Rattle.std.specs.Prelude.{◌≡◌, ℕ, ◌+◌, ◌*◌, ◌^◌, ◌<◌, ◌≤◌, ◌++◌, length, take, All, IfOk, OnOk, IsTrue};
 ghost use Rattle.daos_outside.specs.Causes.{HasEitherCause};
 ghost use Rattle.daos_outside.specs.Images.{bytes_at, Runs};
 ghost use Rattle.daos_outside.specs.Images.Call.{Read};
 ghost use Rattle.pmem_undo.specs.Log.{number_bytes, range_bytes, log_bytes};
 ghost use Rattle.pmem_undo.specs.Settled.{OnlyLooks, reads};
-ghost use Rattle.pmem_undo.specs.Spans.{IsSpan, spans_length, old_spans};
+ghost use Rattle.pmem_undo.specs.Spans.{spans_length, old_span, old_spans};
 
 use crate::span::Span;
 use byteorder::{BigEndian, ByteOrder};
@@ -97,7 +97,7 @@ pub(crate) fn put_log<R: Region>(
         (R.moment region.old) (R.moment region.new) (R.left_since region.old) (R.left_since region.new) }
     ensures end { IfOk result (λ end. end ≡ 8 + 8 * length spans.now + total) }
     ensures bytes { IfOk result (λ end. IsTrue R.tells → take end body.new ≡ log_bytes (old_spans (R.image region.old) spans.now)) }
-    ensures calls { OnOk result (Runs R.did (reads (old_spans (R.image region.old) spans.now)) region.old region.new) }
+    ensures calls { OnOk result (Runs R.did (reads (length spans.now)) region.old region.new) }
 {
     put_number(body, 0, spans.len() as u32);
     put_number(body, 4, (8 * spans.len() + total) as u32);
