@@ -4,3 +4,8 @@ pub mod Settling
 pub mod Moments
 pub mod Phases
 pub mod Filling
+pub mod Parsing
+pub mod Attaching
+pub mod Restoring
+pub mod Committing
+pub mod Showing

@@ -7,14 +7,14 @@ use Rattle.std.proofs.lemmas.List.{length-append, length-map}
 use Rattle.daos_outside.specs.Images.{Image, Range, lies_in, lies_in_some, over, all_over, bytes_at, Torn}
 use Rattle.daos_outside.specs.ImageLaws.{over_outside, over_inside, length-bytes_at}
 use Rattle.pmem_undo.specs.Layout.{gate, gate_byte, log_place, log_end, most_ranges, most_bytes, is_content, IsContent, AreContent, SameContent, total_bytes}
-use Rattle.pmem_undo.specs.Log.{log_in, log_bytes, ranges_bytes, range_bytes, number_bytes, old_range, old_ranges}
-use Rattle.pmem_undo.specs.Settled.{rolled, rolled_back, settled, IsAttachable, StandsFor, IsBeforeOrAfter, IsPrepared, body_range, log_opened}
+use Rattle.pmem_undo.specs.Log.{log_in, log_bytes, ranges_bytes, range_bytes, number_bytes, old_range, old_ranges, logged}
+use Rattle.pmem_undo.specs.Settled.{rolled, settled, IsAttachable, StandsFor, IsBeforeOrAfter, IsPrepared, body_range, log_opened}
 use Rattle.pmem_undo.proofs.Rolling.{over_at, all_over_at, all_over_outside, rolled_outside, rolled_at, rolled_old}
 use Rattle.pmem_undo.proofs.Reading.{log_read, IsLogged, AreLogged, length-number}
 
 pub settled_closed : (size : ℕ) (c : Image) (i : ℕ) → c gate ≡ 0 → settled size c i ≡ c i
 unfolding settled
-settled_closed size c i shut = ap (λ (g : ℕ). cond (eqb g 0) c (over (gate_byte 0) (rolled_back (log_in size c) c)) i) shut
+settled_closed size c i shut = ap (λ (g : ℕ). cond (eqb g 0) c (over (gate_byte 0) (rolled (logged (log_in size c)) c)) i) shut
 
 in_gate : (b i : ℕ) → i ≢ gate → lies_in i (gate_byte b) ≡ false
 in_gate b i ne = grind (arith, nat_tests)
@@ -23,20 +23,20 @@ pub gate_at : (b : ℕ) (f : Image) → over (gate_byte b) f gate ≡ b
 unfolding over
 gate_at b f = refl
 
-content_off_gate : (i : ℕ) → is_content i ≡ true → i ≢ gate
+pub content_off_gate : (i : ℕ) → is_content i ≡ true → i ≢ gate
 content_off_gate i content = grind (arith, nat_tests)
 
 pub off_gate : (b : ℕ) (f : Image) (i : ℕ) → is_content i ≡ true → over (gate_byte b) f i ≡ f i
 off_gate b f i content = over_outside (gate_byte b) f i (in_gate b i (content_off_gate i content))
 
-only_gate : (b i : ℕ) → i ≢ gate → lies_in_some i (gate_byte b ∷ []) ≡ false
+pub only_gate : (b i : ℕ) → i ≢ gate → lies_in_some i (gate_byte b ∷ []) ≡ false
 only_gate b i ne = ap (λ (x : Bool). cond x true false) (in_gate b i ne)
 
 pub settled_open : (size : ℕ) (c : Image) (rs : List Range) (i : ℕ) → c gate ≢ 0 → log_in size c ≡ Some rs → is_content i ≡ true → settled size c i ≡ rolled rs c i
 unfolding settled
 settled_open size c rs i ajar log content =
-    ap (λ (b : Bool). cond b c (over (gate_byte 0) (rolled_back (log_in size c) c)) i) (ne_eqb (c gate) 0 ajar)
-    ∙ (ap (λ (l : Option (List Range)). over (gate_byte 0) (rolled_back l c) i) log ∙ off_gate 0 (rolled rs c) i content)
+    ap (λ (b : Bool). cond b c (over (gate_byte 0) (rolled (logged (log_in size c)) c)) i) (ne_eqb (c gate) 0 ajar)
+    ∙ (ap (λ (l : Option (List Range)). over (gate_byte 0) (rolled (logged l) c) i) log ∙ off_gate 0 (rolled rs c) i content)
 
 pub stands_closed : (size : ℕ) (f c : Image) → c gate ≡ 0 → SameContent c f → StandsFor size f c
 stands_closed size f c shut same = record {

@@ -2,3 +2,4 @@ pub mod Layout
 pub mod Log
 pub mod Settled
 pub mod Spans
+pub mod Undo

@@ -3,22 +3,17 @@ use Rattle.std.specs.Prelude.{◌≡◌, ◌≢◌, ◌⊎◌, ℕ, zero, suc, B
 use Rattle.daos_outside.specs.Images.{Image, Range, over, all_over, Only, NoMore, LeavesOnly, Call}
 use Rattle.daos_outside.specs.Images.Call.{Read, Write, Flush}
 use Rattle.pmem_undo.specs.Layout.{gate, gate_byte, log_place, most_ranges, most_bytes, is_content, SameContent, AreContent, total_bytes}
-use Rattle.pmem_undo.specs.Log.{log_in, log_bytes, old_ranges}
+use Rattle.pmem_undo.specs.Log.{log_in, log_bytes, old_ranges, logged}
 
 -- an image with the ranges of a log written back, the last of them first
 abbrev pub rolled : List Range → Image → Image
 rolled [] f = f
 rolled (r ∷ rs) f = over r (rolled rs f)
 
--- the same with the log that was read; where it is not well formed, none
-abbrev pub rolled_back : Option (List Range) → Image → Image
-rolled_back None f = f
-rolled_back (Some rs) f = rolled rs f
-
 -- the image that attaching leaves in a region of that size: where the gate is open the old bytes are
--- written back, and the gate is closed
+-- written back, none where the log is not well formed, and the gate is closed
 unfoldable pub settled : ℕ → Image → Image
-settled size f = cond (f gate == 0) f (over (gate_byte 0) (rolled_back (log_in size f) f))
+settled size f = cond (f gate == 0) f (over (gate_byte 0) (rolled (logged (log_in size f)) f))
 
 -- where its gate is open, the log of an image is well formed
 abbrev pub IsAttachable : ℕ → Image → Type 0

@@ -3,10 +3,11 @@ ghost use Rattle.std.specs.Prelude.{◌≡◌, ℕ, ◌+◌, ◌^◌, ◌<◌, �
 ghost use Rattle.daos_outside.specs.Causes.{HasEitherCause};
 ghost use Rattle.daos_outside.specs.Images.{Image, Range, over, all_over, Only, Tears, Torn, LeavesOnly, Runs};
 ghost use Rattle.daos_outside.specs.Images.Call.{Write, Flush};
-ghost use Rattle.pmem_undo.specs.Layout.{gate_byte};
-ghost use Rattle.pmem_undo.specs.Settled.{StandsFor, IsBeforeOrAfter, IsPrepared, body_range, log_opened, writes};
-ghost use Rattle.pmem_undo.specs.Spans.{IsSpan, ranges_of};
+ghost use Rattle.pmem_undo.specs.Layout.{gate_byte, SameContent};
+ghost use Rattle.pmem_undo.specs.Settled.{StandsFor, IsBeforeOrAfter, IsAtRest, IsPrepared, body_range, log_opened, reads, writes, commit_calls};
+ghost use Rattle.pmem_undo.specs.Spans.{IsSpan, ranges_of, spans_length};
 
+use crate::log::put_log;
 use crate::span::Span;
 use crate::{GATE, LOG};
 use daos_outside::Failed;
@@ -64,4 +65,32 @@ fn close_log<R: Region>(region: &mut R, spans: &[Span], buffer: &[u8]) -> Result
     region.flush()?;
     region.write(GATE, &[0])?;
     region.flush()
+}
+
+/// Commits the ranges of these spans of a buffer, by a log that is made in `body`.
+pub(crate) fn commit_ranges<R: Region>(
+    region: &mut R,
+    spans: &[Span],
+    staged: &[u8],
+    body: &mut [u8],
+) -> Result<(), Failed>
+    requires big { 307200 ≤ R.extent region.old }
+    requires small { R.extent region.old < 2 ^ 32 }
+    requires spans { All (IsSpan (R.extent region.old) (length staged.now)) spans.now }
+    requires few { length spans.now ≤ 1024 }
+    requires total { length staged.now ≡ spans_length spans.now }
+    requires short { length staged.now ≤ 256000 }
+    requires body { 264200 ≤ length body.old }
+    requires rest { IsTrue R.tells → IsAtRest (R.image region.old) (R.may_leave region.old) }
+    ensures extent { R.extent region.new ≡ R.extent region.old }
+    ensures cause { HasEitherCause (R.count region.old) (R.count region.new) (R.burns region.old) (R.burns region.new) result }
+    ensures committed { OnOk result (IsTrue R.tells → SameContent (R.image region.new) (all_over (ranges_of staged.now spans.now) (R.image region.old))) }
+    ensures rest { OnOk result (IsTrue R.tells → IsAtRest (R.image region.new) (R.may_leave region.new)) }
+    ensures any_moment { IsTrue R.tells → LeavesOnly (R.moment region.old) (R.moment region.new) (R.left_since region.old) (R.left_since region.new)
+        (IsBeforeOrAfter (R.extent region.old) (R.image region.old) (ranges_of staged.now spans.now)) }
+    ensures calls { OnOk result ((bytes : List ℕ) × Runs R.did (reads (length spans.now) ++ commit_calls bytes (ranges_of staged.now spans.now)) region.old region.new) }
+{
+    let end = put_log(region, spans, staged.len(), body)?;
+    open_log(region, &body[..end])?;
+    close_log(region, spans, staged)
 }
