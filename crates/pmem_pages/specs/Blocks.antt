@@ -1,5 +1,5 @@
 -- The blocks of a region: the bytes of each block that is taken, and none of one that is free.
-use Rattle.std.specs.Prelude.{◌≡◌, ◌⊎◌, ℕ, ◌+◌, ◌≤◌, Bool, true, cond, ◌==◌, List, Option, Some, None, Result, OnOk, OnErr}
+use Rattle.std.specs.Prelude.{◌≡◌, ◌⊎◌, ℕ, ◌≤◌, Bool, true, cond, ◌==◌, List, Option, Some, Result, OnOk, OnErr}
 use Rattle.daos_outside.specs.Causes.{Rose}
 
 abbrev pub Blocks : Type 0

@@ -1,21 +1,21 @@
 -- What a crash may leave at each write of attaching settles to the same content.
-use Rattle.std.proofs.Common.{◌≡◌, ◌≢◌, ℕ, zero, suc, ◌+◌, ◌-◌, ◌≤◌, ◌<◌, ◌⊎◌, Bool, true, false, cond, eqb, List, [], ◌∷◌, ◌++◌, length, take, drop, map, reverse, get_or, Option, Some, None, refl, sym, ap, ◌∙◌, subst, arith, inl, inr}
+use Rattle.std.proofs.Common.{◌≡◌, ◌≢◌, ℕ, ◌+◌, ◌-◌, ◌≤◌, ◌<◌, Bool, true, false, cond, eqb, List, [], ◌∷◌, length, take, drop, Option, Some, None, refl, sym, ap, ◌∙◌, subst, arith, inl, inr}
 use Rattle.std.specs.Prelude.{IsSome, All}
 use mathlib.Core.Path.{fun_ext}
 use Rattle.std.proofs.lemmas.Bool.{ne_eqb}
-use Rattle.std.proofs.lemmas.Bool.Decides.{nat_tests, eqb_tells}
+use Rattle.std.proofs.lemmas.Bool.Decides.{eqb_tells}
 use Rattle.std.proofs.lemmas.List.{length-take-le, length-drop}
 use Rattle.std.proofs.lemmas.List.Elements.{All-head, All-tail}
-use Rattle.daos_outside.specs.Images.{Image, Range, lies_in, lies_in_some, over, all_over, Torn, Only, NoMore, Tears, Elapses, LeavesOnly}
+use Rattle.daos_outside.specs.Images.{Image, Range, lies_in_some, over, Torn, Only}
 use Rattle.pmem_undo.specs.declared.span.Span.{Span}
-use Rattle.pmem_undo.specs.Layout.{gate, gate_byte, log_place, log_end, is_content, IsContent, AreContent, SameContent}
+use Rattle.pmem_undo.specs.Layout.{gate, gate_byte, log_place, log_end, is_content, IsContent, AreContent}
 use Rattle.pmem_undo.specs.Log.{log_in, logged}
 use Rattle.pmem_undo.specs.Settled.{rolled, settled, IsAttachable, StandsFor, OnlyLooks}
 use Rattle.pmem_undo.specs.Spans.{range_of, ranges_of, IsSpan}
 use Rattle.pmem_undo.proofs.Rolling.{rolled_outside, rolled_at}
 use Rattle.pmem_undo.proofs.Reading.{same_log}
-use Rattle.pmem_undo.proofs.Settling.{settled_closed, settled_open, stands_closed, stands_open, gate_at, off_gate, only_gate, content_off_gate, ranges_off, log_is_no_content, gate_is_no_content}
-use Rattle.pmem_undo.proofs.Moments.{Sofar, sofar_start, sofar_write, sofar_flush, leaves_weaker}
+use Rattle.pmem_undo.proofs.Settling.{stands_closed, stands_open, gate_at, off_gate, only_gate, content_off_gate, ranges_off, log_is_no_content, gate_is_no_content}
+use Rattle.pmem_undo.proofs.Moments.{Sofar, leaves_weaker}
 
 -- an image that may be attached stands for what attaching makes of it
 pub stands_itself : (size : ℕ) (f : Image) → IsAttachable size f → StandsFor size (settled size f) f

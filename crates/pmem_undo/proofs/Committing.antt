@@ -1,14 +1,13 @@
 -- A commit is prepared by its log.
-use Rattle.std.proofs.Common.{◌≡◌, ℕ, ◌+◌, ◌≤◌, ◌<◌, ◌^◌, List, [], ◌∷◌, length, map, refl, sym, ap, ◌∙◌, subst, arith, ◌⊎◌, inl, inr}
+use Rattle.std.proofs.Common.{◌≡◌, ℕ, ◌≤◌, ◌<◌, ◌^◌, List, [], ◌∷◌, length, refl, sym, ap, ◌∙◌, subst, arith, inl}
 use Rattle.std.specs.Prelude.{All}
-use mathlib.Core.Path.{fun_ext}
 use Rattle.std.proofs.lemmas.List.{length-map}
 use Rattle.std.proofs.lemmas.List.Elements.{All-head, All-tail}
-use Rattle.daos_outside.specs.Images.{Image, Range, bytes_at, Only, LeavesOnly, all_over}
+use Rattle.daos_outside.specs.Images.{Image, Range, bytes_at, LeavesOnly}
 use Rattle.pmem_undo.specs.declared.span.Span.{Span}
-use Rattle.pmem_undo.specs.Layout.{gate, AreContent, total_bytes}
+use Rattle.pmem_undo.specs.Layout.{gate, total_bytes}
 use Rattle.pmem_undo.specs.Log.{old_range, old_ranges, log_bytes}
-use Rattle.pmem_undo.specs.Settled.{IsPrepared, IsAtRest, StandsFor, IsBeforeOrAfter, OnlyLooks}
+use Rattle.pmem_undo.specs.Settled.{IsPrepared, IsAtRest, StandsFor, IsBeforeOrAfter}
 use Rattle.pmem_undo.specs.Spans.{IsSpan, range_of, ranges_of, old_span, old_spans, spans_length}
 use Rattle.pmem_undo.proofs.Attaching.{length-span, spans_content}
 use Rattle.pmem_undo.proofs.Moments.{leaves_weaker, leaves_then}

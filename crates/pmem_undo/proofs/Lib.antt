@@ -9,3 +9,4 @@ pub mod Attaching
 pub mod Restoring
 pub mod Committing
 pub mod Showing
+pub mod Undoing

@@ -1,14 +1,14 @@
 -- The two halves of a commit, call by call.
-use Rattle.std.proofs.Common.{◌≡◌, ℕ, zero, suc, add-one, ◌≤◌, ◌+◌, List, [], ◌∷◌, ◌++◌, take, length, map, refl, sym, ap, ◌∙◌, subst, arith, inl, Result, Ok, Err, OnOk}
+use Rattle.std.proofs.Common.{◌≡◌, ℕ, add-one, ◌+◌, List, [], ◌∷◌, ◌++◌, take, length, map, sym, ap, ◌∙◌, subst, inl, Result, Ok, Err, OnOk}
 use Rattle.std.proofs.lemmas.List.{map-append, take-map}
 use Rattle.std.proofs.Math.Seq.{take-suc}
 use Rattle.std.proofs.Common.{get_or, ◌<◌}
-use Rattle.daos_outside.specs.Images.{Image, Range, over, all_over, Torn, Only, NoMore, Tears, Elapses, LeavesOnly}
+use Rattle.daos_outside.specs.Images.{Image, Range, over, all_over, Torn, Only, Tears, Elapses, LeavesOnly}
 use Rattle.pmem_undo.specs.declared.span.Span.{Span}
 use Rattle.pmem_undo.specs.Layout.{gate_byte}
 use Rattle.pmem_undo.specs.Settled.{StandsFor, IsBeforeOrAfter, IsPrepared, body_range, log_opened}
 use Rattle.pmem_undo.specs.Spans.{range_of, ranges_of}
-use Rattle.pmem_undo.proofs.Moments.{Sofar, sofar_start, sofar_write, sofar_flush, leaves_weaker, tears_front}
+use Rattle.pmem_undo.proofs.Moments.{Sofar, sofar_start, sofar_write, leaves_weaker, tears_front}
 use Rattle.pmem_undo.proofs.Settling.{at_body, at_gate, at_ranges, at_close}
 
 pub take_one_more : {A : Type 0} (xs : List A) (k : ℕ) (d : A) → k < length xs → take (k + 1) xs ≡ take k xs ++ get_or xs k d ∷ []

@@ -1,14 +1,13 @@
 -- A log body that was written is read again.
-use Rattle.std.proofs.Common.{◌≡◌, ℕ, zero, suc, ◌+◌, ◌-◌, ◌*◌, ◌^◌, ◌≤◌, ◌<◌, ◌⊎◌, Bool, true, false, cond, ◌&&◌, ◌||◌, leb, ltb, List, [], ◌∷◌, ◌++◌, length, take, drop, map, get_or, Option, Some, None, option_map, refl, sym, ap, ◌∙◌, arith, inl, inr, append_assoc, append-nil, subst}
-use Rattle.std.specs.Prelude.{nat_le, nat_lt, All}
+use Rattle.std.proofs.Common.{◌≡◌, ℕ, suc, ◌+◌, ◌-◌, ◌*◌, ◌^◌, ◌≤◌, ◌<◌, true, false, cond, ◌&&◌, leb, List, [], ◌∷◌, ◌++◌, length, take, drop, get_or, Some, None, refl, sym, ap, ◌∙◌, arith, inl, inr, append_assoc, append-nil, subst}
 use Rattle.std.proofs.lemmas.Bool.{cases_lt}
 use Rattle.std.proofs.lemmas.Bool.Decides.{nat_tests}
 use Rattle.std.proofs.lemmas.List.{length-append, take-append-le}
 use Rattle.std.proofs.Math.Seq.{drop-append_seam, take-length}
-use Rattle.byteorder.specs.Numbers.{big_number-reads_back, length-bytes_high_first, big_from-append}
+use Rattle.byteorder.specs.Numbers.{big_number-reads_back, length-bytes_high_first}
 use Rattle.daos_outside.specs.Images.{Image, Range, bytes_at}
 use Rattle.daos_outside.specs.ImageLaws.{part_at, same_bytes_at}
-use Rattle.pmem_undo.specs.Layout.{IsContent, are_content, log_place, log_end, most_ranges, most_bytes, gate}
+use Rattle.pmem_undo.specs.Layout.{IsContent, are_content, log_place, log_end, most_ranges, most_bytes}
 use Rattle.pmem_undo.specs.Log.{number_bytes, number_in, range_bytes, ranges_bytes, log_bytes, ranges_in, logged_count, logged_length, log_in}
 
 pub length-number : (n : ℕ) → length (number_bytes n) ≡ 4

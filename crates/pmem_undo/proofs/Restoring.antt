@@ -1,7 +1,7 @@
 -- Ranges written one after another, the last of them first.
-use Rattle.std.proofs.Common.{◌≡◌, ℕ, zero, suc, ◌+◌, ◌-◌, ◌≤◌, ◌<◌, Bool, true, false, cond, List, [], ◌∷◌, ◌++◌, length, drop, get_or, map, refl, sym, ap, ◌∙◌, subst, arith}
+use Rattle.std.proofs.Common.{◌≡◌, ℕ, zero, suc, ◌-◌, ◌≤◌, ◌<◌, Bool, true, false, cond, List, [], ◌∷◌, length, drop, get_or, map, refl, ap, ◌∙◌, arith}
 use Rattle.std.proofs.Math.Seq.{drop-cons}
-use Rattle.daos_outside.specs.Images.{Image, Range, lies_in, lies_in_some, Torn, Tears, Only, NoMore, Elapses, LeavesOnly}
+use Rattle.daos_outside.specs.Images.{Image, Range, lies_in, lies_in_some, Torn, Tears, Only, Elapses, LeavesOnly}
 use Rattle.pmem_undo.specs.declared.span.Span.{Span}
 use Rattle.pmem_undo.specs.Spans.{range_of, ranges_of}
 use Rattle.pmem_undo.specs.Settled.{settled, StandsFor, rolled, IsAttachable}
@@ -20,12 +20,17 @@ ranges_before buffer spans left some within =
 pub tears_before : (r : Range) (rs : List Range) (a b c : Image → Type 0) → Tears rs a b → Tears (r ∷ []) b c → Tears (r ∷ rs) a c
 tears_before r rs a b c s t z now =
     let w = t z now in
-    let v = s w.0 w.1.0 in
-    (v.0, (v.1.0, λ i out.
-        elim (lies_in i r) as (λ q. lies_in i r ≡ q → cond q true (lies_in_some i rs) ≡ false → z i ≡ v.0 i) [
-          | true ↦ λ e off. absurd (cc)
-          | false ↦ λ e off. w.1.1 i (ap (λ (q : Bool). cond q true false) e) ∙ v.1.1 i off
-        ] refl out))
+    let v = s w.0 w.1.0 in (
+      v.0,
+      (
+        v.1.0,
+        λ i out.
+            elim (lies_in i r) as (λ q. lies_in i r ≡ q → cond q true (lies_in_some i rs) ≡ false → z i ≡ v.0 i) [
+              | true ↦ λ e off. absurd (cc)
+              | false ↦ λ e off. w.1.1 i (ap (λ (q : Bool). cond q true false) e) ∙ v.1.1 i off
+            ] refl out,
+      ),
+    )
 
 lies-behind : (i k : ℕ) (buffer : List ℕ) (spans : List Span) → lies_in_some i (ranges_of buffer spans) ≡ false → lies_in_some i (ranges_of buffer (drop k spans)) ≡ false
 lies-behind i zero buffer spans h = h

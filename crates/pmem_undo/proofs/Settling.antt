@@ -1,16 +1,16 @@
 -- What a crash may leave at each write of a commit has the content before it, or that after it.
-use Rattle.std.proofs.Common.{◌≡◌, ◌≢◌, ℕ, zero, suc, ◌+◌, ◌-◌, ◌*◌, ◌^◌, ◌≤◌, ◌<◌, ◌⊎◌, Bool, true, false, cond, eqb, List, [], ◌∷◌, ◌++◌, length, map, get_or, Option, Some, None, refl, sym, ap, ◌∙◌, subst, arith, inl, inr}
+use Rattle.std.proofs.Common.{◌≡◌, ◌≢◌, ℕ, ◌+◌, ◌-◌, ◌*◌, ◌^◌, ◌≤◌, ◌<◌, Bool, true, false, cond, eqb, List, [], ◌∷◌, ◌++◌, length, get_or, Option, Some, refl, sym, ap, ◌∙◌, subst, arith, inl, inr}
 use Rattle.std.specs.Prelude.{IsSome}
 use Rattle.std.proofs.lemmas.Bool.{ne_eqb}
 use Rattle.std.proofs.lemmas.Bool.Decides.{nat_tests, eqb_tells}
 use Rattle.std.proofs.lemmas.List.{length-append, length-map}
-use Rattle.daos_outside.specs.Images.{Image, Range, lies_in, lies_in_some, over, all_over, bytes_at, Torn}
+use Rattle.daos_outside.specs.Images.{Image, Range, lies_in, lies_in_some, over, all_over, Torn}
 use Rattle.daos_outside.specs.ImageLaws.{over_outside, over_inside, length-bytes_at}
-use Rattle.pmem_undo.specs.Layout.{gate, gate_byte, log_place, log_end, most_ranges, most_bytes, is_content, IsContent, AreContent, SameContent, total_bytes}
+use Rattle.pmem_undo.specs.Layout.{gate, gate_byte, log_place, log_end, is_content, IsContent, AreContent, SameContent, total_bytes}
 use Rattle.pmem_undo.specs.Log.{log_in, log_bytes, ranges_bytes, range_bytes, number_bytes, old_range, old_ranges, logged}
-use Rattle.pmem_undo.specs.Settled.{rolled, settled, IsAttachable, StandsFor, IsBeforeOrAfter, IsPrepared, body_range, log_opened}
-use Rattle.pmem_undo.proofs.Rolling.{over_at, all_over_at, all_over_outside, rolled_outside, rolled_at, rolled_old}
-use Rattle.pmem_undo.proofs.Reading.{log_read, IsLogged, AreLogged, length-number}
+use Rattle.pmem_undo.specs.Settled.{rolled, settled, StandsFor, IsBeforeOrAfter, IsPrepared, body_range, log_opened}
+use Rattle.pmem_undo.proofs.Rolling.{all_over_at, all_over_outside, rolled_old}
+use Rattle.pmem_undo.proofs.Reading.{log_read, AreLogged, length-number}
 
 pub settled_closed : (size : ℕ) (c : Image) (i : ℕ) → c gate ≡ 0 → settled size c i ≡ c i
 unfolding settled

@@ -3,3 +3,4 @@ pub mod Log
 pub mod Settled
 pub mod Spans
 pub mod Undo
+pub mod Opening

@@ -1,8 +1,8 @@
 -- What attaching makes of an image, and what a crash leaves of a commit.
-use Rattle.std.specs.Prelude.{◌≡◌, ◌≢◌, ◌⊎◌, ℕ, zero, suc, Bool, true, cond, ◌==◌, List, [], ◌∷◌, ◌++◌, Option, Some, None, IsSome, ◌^◌, ◌<◌, ◌≤◌, length}
+use Rattle.std.specs.Prelude.{◌≡◌, ◌≢◌, ◌⊎◌, ℕ, zero, suc, cond, ◌==◌, List, [], ◌∷◌, ◌++◌, IsSome, ◌^◌, ◌<◌, ◌≤◌, length}
 use Rattle.daos_outside.specs.Images.{Image, Range, over, all_over, Only, NoMore, LeavesOnly, Call}
 use Rattle.daos_outside.specs.Images.Call.{Read, Write, Flush}
-use Rattle.pmem_undo.specs.Layout.{gate, gate_byte, log_place, most_ranges, most_bytes, is_content, SameContent, AreContent, total_bytes}
+use Rattle.pmem_undo.specs.Layout.{gate, gate_byte, log_place, most_ranges, most_bytes, SameContent, AreContent, total_bytes}
 use Rattle.pmem_undo.specs.Log.{log_in, log_bytes, old_ranges, logged}
 
 -- an image with the ranges of a log written back, the last of them first

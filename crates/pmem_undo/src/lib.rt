@@ -4,6 +4,7 @@
 mod buffers;
 mod commit;
 mod log;
+pub mod opening;
 mod restore;
 mod show;
 mod span;

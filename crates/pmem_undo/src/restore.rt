@@ -110,11 +110,7 @@ fn read_number<R: Region>(region: &mut R, place: u64) -> Result<u32, Failed>
 }
 
 /// Reads the log of a region: the spans of a body, none where the log isn't well formed.
-fn read_log<R: Region>(
-    region: &mut R,
-    spans: &mut Vec<Span>,
-    body: &mut [u8],
-) -> Result<(), Failed>
+fn read_log<R: Region>(region: &mut R, spans: &mut Vec<Span>, body: &mut [u8]) -> Result<(), Failed>
     requires place { 307200 ≤ R.extent region.old }
     requires room { 264192 ≤ length body.old }
     requires spans { 1024 ≤ vec_capacity spans.old }
@@ -195,11 +191,7 @@ fn gate_byte<R: Region>(region: &mut R) -> Result<u8, Failed>
 }
 
 // Reads the log, writes the old bytes back, and closes the gate.
-fn undo<R: Region>(
-    region: &mut R,
-    spans: &mut Vec<Span>,
-    body: &mut [u8],
-) -> Result<(), Failed>
+fn undo<R: Region>(region: &mut R, spans: &mut Vec<Span>, body: &mut [u8]) -> Result<(), Failed>
     requires place { 307200 ≤ R.extent region.old }
     requires room { 264192 ≤ length body.old }
     requires spans { 1024 ≤ vec_capacity spans.old }

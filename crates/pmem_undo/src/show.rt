@@ -39,6 +39,11 @@ pub(crate) fn show(spans: &[Span], buffer: &[u8], size: u64, at: u64, buf: &mut 
         buf.new ≡ bytes_at (all_over (ranges_of buffer.now spans.now) f) at (length buf.old) }
 {
     for span in spans {
-        lay(buf, at, span.place, &buffer[span.start..span.start + span.length]);
+        lay(
+            buf,
+            at,
+            span.place,
+            &buffer[span.start..span.start + span.length],
+        );
     }
 }

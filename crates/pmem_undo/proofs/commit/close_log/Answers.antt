@@ -1,5 +1,5 @@
-use Rattle.std.proofs.Common.{◌∙◌, ap, refl, List, ◌∷◌, [], ◌++◌}
-use Rattle.daos_outside.specs.Images.{Image, Runs, Call}
+use Rattle.std.proofs.Common.{◌∙◌, ap, refl, ◌∷◌, []}
+use Rattle.daos_outside.specs.Images.{Image}
 use Rattle.daos_outside.specs.Images.Call.{Write, Flush}
 use Rattle.pmem_undo.specs.Layout.{gate_byte}
 use Rattle.pmem_undo.specs.Settled.{IsBeforeOrAfter, writes}
@@ -36,5 +36,5 @@ returns-clause-any_moment g c t size f body p is =
 pub returns-clause-calls : goal.returns-clause-calls
 returns-clause-calls g c =
     OnOk-map c.flush-2.result _ _ c.flush-2.ensures.call (λ last.
-        runs_then g.R.Region.did (writes (ranges_of c.args.buffer.now c.args.spans.now)) (Flush ∷ Write (gate_byte 0) ∷ Flush ∷ []) _ _ _ c.in_ok-write_ranges.ensures.calls
-        (_, (c.in_ok-flush.ensures.call, (_, (c.in_ok-write.ensures.call, (_, (last, refl)))))))
+    runs_then g.R.Region.did (writes (ranges_of c.args.buffer.now c.args.spans.now)) (Flush ∷ Write (gate_byte 0) ∷ Flush ∷ []) _ _ _ c.in_ok-write_ranges.ensures.calls
+    (_, (c.in_ok-flush.ensures.call, (_, (c.in_ok-write.ensures.call, (_, (last, refl)))))))

@@ -1,8 +1,8 @@
-use Rattle.std.proofs.Common.{◌≡◌, ◌+◌, ◌∙◌, ◌∷◌, [], ◌++◌, List, ℕ, ap, refl, sym, subst, arith, take, length}
-use Rattle.daos_outside.specs.Images.{Image, over, all_over, Runs, LeavesOnly}
+use Rattle.std.proofs.Common.{◌∙◌, ◌∷◌, [], ◌++◌, ap, sym, subst, arith, take, length}
+use Rattle.daos_outside.specs.Images.{Image, over, all_over}
 use Rattle.daos_outside.specs.Images.Call.{Write, Flush}
 use Rattle.pmem_undo.specs.Layout.{gate, gate_byte}
-use Rattle.pmem_undo.specs.Settled.{IsPrepared, IsBeforeOrAfter, StandsFor, body_range, log_opened, reads, writes}
+use Rattle.pmem_undo.specs.Settled.{IsPrepared, body_range, log_opened, reads, writes}
 use Rattle.pmem_undo.specs.Spans.{ranges_of}
 use Rattle.pmem_undo.proofs.Committing.{prepared, two_parts, three_parts, opens_same}
 use Rattle.pmem_undo.proofs.Moments.{runs_then}
@@ -41,10 +41,10 @@ returns-clause-committed g c =
     let news = ranges_of c.args.staged.now c.args.spans.now in
     let body = take c.in_ok-end.end c.put_log.new.body in
     OnOk-map c.close_log.result _ _ c.close_log.ensures.image (λ image t i content.
-        let rest = c.requires.rest t in
-        let same = (c.put_log.ensures.looks t).image in
-        let p = prepared size f c.args.staged.now c.args.spans.now body c.requires.small rest.closed c.requires.spans c.requires.few (omega arith) (c.in_ok-end.ensures.bytes t) in
-        ap (λ (b : Image). b i) (image t ∙ ap (λ (b : Image). over (gate_byte 0) (all_over news b)) (c.in_ok-open_log.ensures.image t ∙ ap (log_opened body) same)) ∙ after_close size f news body p i content)
+    let rest = c.requires.rest t in
+    let same = (c.put_log.ensures.looks t).image in
+    let p = prepared size f c.args.staged.now c.args.spans.now body c.requires.small rest.closed c.requires.spans c.requires.few (omega arith) (c.in_ok-end.ensures.bytes t) in
+    ap (λ (b : Image). b i) (image t ∙ ap (λ (b : Image). over (gate_byte 0) (all_over news b)) (c.in_ok-open_log.ensures.image t ∙ ap (log_opened body) same)) ∙ after_close size f news body p i content)
 
 pub returns-clause-rest : goal.returns-clause-rest
 returns-clause-rest g c =
@@ -57,6 +57,8 @@ pub returns-clause-calls : goal.returns-clause-calls
 returns-clause-calls g c =
     let body = take c.in_ok-end.end c.put_log.new.body in
     let news = ranges_of c.args.staged.now c.args.spans.now in
-    OnOk-map c.close_log.result _ _ c.close_log.ensures.calls (λ last.
-        (body, runs_then g.R.Region.did (reads (length c.args.spans.now)) _ _ _ _ c.in_ok-end.ensures.calls
-            (runs_then g.R.Region.did (Write (body_range body) ∷ Flush ∷ Write (gate_byte 1) ∷ Flush ∷ []) (writes news ++ Flush ∷ Write (gate_byte 0) ∷ Flush ∷ []) _ _ _ c.in_ok-open_log.ensures.calls last)))
+    OnOk-map c.close_log.result _ _ c.close_log.ensures.calls (λ last. (
+      body,
+      runs_then g.R.Region.did (reads (length c.args.spans.now)) _ _ _ _ c.in_ok-end.ensures.calls
+          (runs_then g.R.Region.did (Write (body_range body) ∷ Flush ∷ Write (gate_byte 1) ∷ Flush ∷ []) (writes news ++ Flush ∷ Write (gate_byte 0) ∷ Flush ∷ []) _ _ _ c.in_ok-open_log.ensures.calls last),
+    ))

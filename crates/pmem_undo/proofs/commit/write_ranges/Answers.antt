@@ -1,10 +1,9 @@
-use Rattle.std.proofs.Common.{◌≡◌, ◌≤◌, ◌<◌, ◌+◌, ◌∙◌, ◌∷◌, [], ◌++◌, List, ℕ, length, take, get_or, refl, sym, ap, subst, arith}
-use Rattle.daos_outside.specs.Images.{Image, Range, Call, all_over, over, Tears, Runs}
+use Rattle.std.proofs.Common.{◌+◌, ◌∙◌, List, take, get_or, sym, ap, subst, arith}
+use Rattle.daos_outside.specs.Images.{Range, Call, all_over, over, Tears, Runs}
 use Rattle.daos_outside.specs.Images.Call.{Write}
-use Rattle.pmem_undo.specs.declared.span.Span.{Span}
 use Rattle.pmem_undo.specs.Settled.{writes}
 use Rattle.pmem_undo.specs.Spans.{range_of, ranges_of}
-use Rattle.pmem_undo.proofs.Moments.{leaves_none, leaves_more, tears_more, all_over-push, runs_more, writes-push}
+use Rattle.pmem_undo.proofs.Moments.{leaves_more, tears_more, all_over-push, runs_more, writes-push}
 use Rattle.pmem_undo.proofs.Phases.{ranges_more, spans_front}
 use Rattle.pmem_undo.proofs.commit.write_ranges.Goals as goal
 
@@ -34,5 +33,5 @@ loop-span-preserved g c =
       crash = λ t. subst (λ (rs : List Range). Tears rs (g.R.Region.may_leave c.args.region.now) (g.R.Region.may_leave c.write.new.self)) (sym m) (tears_more (ranges_of buffer (take k spans)) r _ _ _ (c.loop-span.invariant.crash t) (c.write.ensures.crash t));
       time = λ t. leaves_more _ _ _ _ _ _ _ _ (c.loop-span.invariant.time t) (c.write.ensures.time t) (spans_front buffer spans (k + 1) _ _ (subst (λ (rs : List Range). Tears rs (g.R.Region.may_leave c.args.region.now) (g.R.Region.may_leave c.write.new.self)) (sym m) (tears_more (ranges_of buffer (take k spans)) r _ _ _ (c.loop-span.invariant.crash t) (c.write.ensures.crash t))));
       calls = subst (λ (cs : List Call). Runs g.R.Region.did cs c.args.region.now c.write.new.self) (sym (writes-push (ranges_of buffer (take k spans)) r) ∙ ap writes (sym m))
-        (runs_more g.R.Region.did (writes (ranges_of buffer (take k spans))) (Write r) _ _ _ c.loop-span.invariant.calls c.in_ok-write.ensures.call);
+          (runs_more g.R.Region.did (writes (ranges_of buffer (take k spans))) (Write r) _ _ _ c.loop-span.invariant.calls c.in_ok-write.ensures.call);
     }

@@ -1,4 +1,4 @@
-use Rattle.std.proofs.Common.{◌≡◌, ◌≤◌, ◌<◌, ◌+◌, ◌*◌, ◌++◌, ◌∷◌, [], ◌∙◌, List, ℕ, length, take, get_or, refl, sym, ap, subst, arith}
+use Rattle.std.proofs.Common.{◌≡◌, ◌+◌, ◌*◌, ◌++◌, ◌∙◌, List, ℕ, length, take, sym, ap, subst, arith}
 use Rattle.std.proofs.Math.Seq.{take-length}
 use Rattle.daos_outside.specs.Images.{Runs, Call}
 use Rattle.daos_outside.specs.Images.Call.{Read}
@@ -31,9 +31,9 @@ loop-span-preserved g c =
       burns = omega arith;
       looks = λ t. looks_then _ _ _ _ _ _ _ _ _ _ _ _ (c.loop-span.invariant.looks t) (c.put_range.ensures.looks t);
       bytes = λ t.
-        let here = c.in_ok-at.ensures.bytes t in
-        let same = (c.loop-span.invariant.looks t).image in
-        body_more f spans k head (take c.loop-span.at c.loop-span.body) _ (omega arith) (c.loop-span.invariant.bytes t) (rw same at here);
+          let here = c.in_ok-at.ensures.bytes t in
+          let same = (c.loop-span.invariant.looks t).image in
+          body_more f spans k head (take c.loop-span.at c.loop-span.body) _ (omega arith) (c.loop-span.invariant.bytes t) (rw same at here);
       calls = subst (λ (cs : List Call). Runs g.R.Region.did cs c.args.region.now c.put_range.new.region) (sym (reads-push k)) (runs_more g.R.Region.did (reads k) Read _ _ _ c.loop-span.invariant.calls c.in_ok-at.ensures.call);
     }
 

@@ -1,4 +1,4 @@
-use Rattle.std.proofs.Common.{◌≡◌, ◌+◌, ◌++◌, ◌∙◌, List, ℕ, take, ap, arith}
+use Rattle.std.proofs.Common.{◌≡◌, ◌+◌, ◌++◌, ◌∙◌, ℕ, take, ap, arith}
 use Rattle.pmem_undo.specs.Log.{number_bytes}
 use Rattle.pmem_undo.proofs.Filling.{range_put}
 use Rattle.pmem_undo.proofs.log.put_range.Goals as goal

@@ -1,4 +1,4 @@
-use Rattle.std.proofs.Common.{◌≡◌, ◌∙◌, sym, arith}
+use Rattle.std.proofs.Common.{◌∙◌, sym, arith}
 use Rattle.pmem_undo.proofs.Parsing.{next_read, none_short, none_long, none_off}
 use Rattle.pmem_undo.proofs.restore.next_span.Goals as goal
 

@@ -1,11 +1,11 @@
-use Rattle.std.proofs.Common.{◌≡◌, ◌≤◌, ◌<◌, ◌+◌, ◌-◌, ◌∙◌, ◌∷◌, [], ◌++◌, ℕ, List, length, drop, refl, sym, ap, subst, arith, Some, None}
+use Rattle.std.proofs.Common.{◌≡◌, ◌<◌, ◌+◌, ◌-◌, ◌∙◌, ◌∷◌, [], ◌++◌, ℕ, List, length, drop, sym, ap, subst, arith, None}
 use Rattle.std.specs.Prelude.{All}
 use Rattle.std.proofs.lemmas.Bool.Decides.{nat_tests}
 use Rattle.std.proofs.lemmas.Grind.{common_steps}
 use Rattle.std.proofs.lemmas.List.Elements.{All-push}
 use Rattle.pmem_undo.specs.declared.span.Span.{Span}
-use Rattle.pmem_undo.specs.Log.{ranges_in, cons_range, behind}
-use Rattle.pmem_undo.specs.Spans.{IsSpan, range_of, ranges_of}
+use Rattle.pmem_undo.specs.Log.{ranges_in, behind}
+use Rattle.pmem_undo.specs.Spans.{IsSpan, ranges_of}
 use Rattle.pmem_undo.proofs.Parsing.{ranges-push, behind_none, behind_all, end_read, end_left}
 use Rattle.pmem_undo.proofs.restore.parse.Goals as goal
 
@@ -34,9 +34,9 @@ loop-range-preserved c =
       room = grind (arith, common_steps);
       room_left = grind (arith, common_steps);
       told = λ left e.
-        ap (λ (z : List Span). behind (ranges_of bytes z) (ranges_in c.args.size left (drop end bytes))) pushed
-        ∙ (ranges-push bytes spans span (ranges_in c.args.size left (drop end bytes))
-        ∙ (ap (behind (ranges_of bytes spans)) (sym (c.in-Some.ensures.told left)) ∙ c.loop-range.invariant.told (left + 1) (omega arith)));
+          ap (λ (z : List Span). behind (ranges_of bytes z) (ranges_in c.args.size left (drop end bytes))) pushed
+          ∙ (ranges-push bytes spans span (ranges_in c.args.size left (drop end bytes))
+          ∙ (ap (behind (ranges_of bytes spans)) (sym (c.in-Some.ensures.told left)) ∙ c.loop-range.invariant.told (left + 1) (omega arith)));
     }
 
 pub returns-clause-told : goal.returns-clause-told

@@ -1,10 +1,9 @@
-use Rattle.std.proofs.Common.{◌≡◌, ◌+◌, ◌∙◌, ◌++◌, ℕ, List, length, take, drop, refl, sym, ap, subst, arith, rules, Some, None, Option, false, true}
+use Rattle.std.proofs.Common.{◌≡◌, ◌+◌, ◌∙◌, ◌++◌, ℕ, length, take, drop, sym, ap, arith, rules, Some, None, false, true}
 use Rattle.std.proofs.lemmas.Bool.Decides.{nat_tests}
 use Rattle.std.proofs.lemmas.List.{length-take-le}
-use Rattle.daos_outside.specs.Images.{Image, Range, bytes_at}
-use Rattle.pmem_undo.specs.declared.span.Span.{Span}
+use Rattle.daos_outside.specs.Images.{Image, bytes_at}
 use Rattle.pmem_undo.specs.Layout.{log_place}
-use Rattle.pmem_undo.specs.Log.{number_in, log_in, logged, is_log_size}
+use Rattle.pmem_undo.specs.Log.{log_in, logged, is_log_size}
 use Rattle.pmem_undo.specs.Spans.{ranges_of}
 use Rattle.pmem_undo.proofs.Parsing.{log_none, log_some, ranges_front}
 use Rattle.pmem_undo.proofs.restore.read_log.Goals as goal

@@ -1,7 +1,7 @@
 use Rattle.std.proofs.Common.{◌∙◌, sym, ap}
 use Rattle.daos_outside.specs.Images.{Image, over}
 use Rattle.pmem_undo.specs.Layout.{gate_byte}
-use Rattle.pmem_undo.specs.Settled.{StandsFor, settled, rolled}
+use Rattle.pmem_undo.specs.Settled.{StandsFor, settled}
 use Rattle.pmem_undo.specs.Spans.{ranges_of}
 use Rattle.pmem_undo.proofs.Attaching.{spans_content, makes}
 use Rattle.pmem_undo.proofs.Moments.{sofar_flush}
@@ -46,4 +46,4 @@ returns-clause-image g c =
     let f = g.R.Region.image c.args.region.now in
     let content = spans_content size c.args.body.now c.args.spans.now c.requires.spans in
     OnOk-map c.flush-2.result _ _ c.flush-2.ensures.lasting (λ _ t.
-        c.flush-2.ensures.image t ∙ (c.in_ok-write.ensures.image t ∙ (ap (over (gate_byte 0)) (c.flush.ensures.image t ∙ c.in_ok-write_back.ensures.image t) ∙ sym (makes size f (ranges_of c.args.body.now c.args.spans.now) (c.requires.log t) (c.requires.ajar t) (c.requires.told t) content))))
+    c.flush-2.ensures.image t ∙ (c.in_ok-write.ensures.image t ∙ (ap (over (gate_byte 0)) (c.flush.ensures.image t ∙ c.in_ok-write_back.ensures.image t) ∙ sym (makes size f (ranges_of c.args.body.now c.args.spans.now) (c.requires.log t) (c.requires.ajar t) (c.requires.told t) content))))

@@ -1,4 +1,4 @@
-use Rattle.std.proofs.Common.{◌≡◌, ◌-◌, refl, arith, take, drop, ap, ℕ}
+use Rattle.std.proofs.Common.{◌≡◌, ◌-◌, arith, take, drop, ap, ℕ}
 use Rattle.std.proofs.lemmas.Bool.Decides.{nat_tests}
 use Rattle.pmem_undo.proofs.Showing.{laid_none, laid_part}
 use Rattle.pmem_undo.proofs.show.lay.Goals as goal

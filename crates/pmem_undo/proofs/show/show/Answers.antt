@@ -1,4 +1,4 @@
-use Rattle.std.proofs.Common.{◌≡◌, ◌+◌, ◌∙◌, List, ℕ, take, length, get_or, ap, sym, arith}
+use Rattle.std.proofs.Common.{◌≡◌, ◌∙◌, List, ℕ, take, length, get_or, ap, sym, arith}
 use Rattle.daos_outside.specs.Images.{Image, Range, over, all_over, bytes_at}
 use Rattle.pmem_undo.specs.Spans.{range_of, ranges_of}
 use Rattle.pmem_undo.proofs.Moments.{all_over-push}
