@@ -1,0 +1,4 @@
+pub mod Periods
+pub mod PeriodLaws
+pub mod MemState
+pub mod MemLaws
