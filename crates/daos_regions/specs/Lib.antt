@@ -2,3 +2,4 @@ pub mod Periods
 pub mod PeriodLaws
 pub mod MemState
 pub mod MemLaws
+pub mod FusedState

@@ -2,7 +2,7 @@
 #![tactic(auto)]
 
 mod disk;
-// pub mod fused;
+pub mod fused;
 pub mod keep;
 pub mod mem_region;
 mod piece;
