@@ -1,8 +1,8 @@
 -- The bytes of a disk stand for its writes.
-use Rattle.std.proofs.Common.{◌≡◌, ℕ, zero, suc, ◌+◌, ◌≤◌, ◌<◌, List, [], ◌∷◌, ◌++◌, length, replicate, map, get_or, refl, sym, ap, ◌∙◌, subst, arith}
+use Rattle.std.proofs.Common.{◌≡◌, ℕ, zero, suc, ◌+◌, ◌≤◌, ◌<◌, List, [], ◌∷◌, ◌++◌, length, replicate, get_or, refl, sym, ap, ◌∙◌, subst, arith}
 use mathlib.Core.Path.{fun_ext}
 use Rattle.std.proofs.lemmas.List.{map-append}
-use Rattle.daos_outside.specs.Images.{Image, Range, over, all_over, image_of}
+use Rattle.daos_outside.specs.Images.{Range, over, all_over, image_of}
 use Rattle.daos_regions.specs.declared.piece.Piece.{Piece}
 use Rattle.daos_regions.specs.declared.piece.Stretch.{Stretch}
 use Rattle.daos_regions.specs.declared.keep.Keep.{Keep}
@@ -50,7 +50,7 @@ periods-push past s = map-append period_of past (s ∷ [])
 pub holds_crash : (bytes base bytes' base' : List ℕ) (past past' : List Stretch) (s : Stretch) (unflushed : List Piece) → HoldsDisk bytes base (periods_of past) (ranges_of s.writes.items) → image_of base' ≡ all_over (kept_from s.keep 0 (ranges_of s.writes.items)) (image_of base) → bytes' ≡ base' → past' ≡ past ++ s ∷ [] → unflushed ≡ [] → HoldsDisk bytes' base' (periods_of past') (ranges_of unflushed)
 holds_crash bytes base bytes' base' past past' s unflushed h is same more none =
     let lasts : image_of base' ≡ all_ended (periods_of past') zeros =
-        is ∙ (ap (all_over (kept_from s.keep 0 (ranges_of s.writes.items))) h.lasting ∙ (sym (all_ended-push (periods_of past) (period_of s) zeros) ∙ ap (λ (z : List Period). all_ended z zeros) (sym (ap periods_of more ∙ periods-push past s)))) in
+    is ∙ (ap (all_over (kept_from s.keep 0 (ranges_of s.writes.items))) h.lasting ∙ (sym (all_ended-push (periods_of past) (period_of s) zeros) ∙ ap (λ (z : List Period). all_ended z zeros) (sym (ap periods_of more ∙ periods-push past s)))) in
     subst (λ (z : List Piece). HoldsDisk bytes' base' (periods_of past') (ranges_of z)) (sym none) (record {
       now = ap image_of same ∙ lasts;
       lasting = lasts;
@@ -64,7 +64,7 @@ holds_flush bytes base base' past past' s unflushed h all is long more none =
     let rs = ranges_of s.writes.items in
     let kept : kept_from s.keep 0 rs ≡ rs = ap (λ (k : Keep). kept_from k 0 rs) all ∙ all_kept 0 rs in
     let end : all_over rs (all_ended (periods_of past) zeros) ≡ all_ended (periods_of past') zeros =
-        ap (λ (z : List Range). all_over z (all_ended (periods_of past) zeros)) (sym kept) ∙ (sym (all_ended-push (periods_of past) (period_of s) zeros) ∙ ap (λ (z : List Period). all_ended z zeros) (sym (ap periods_of more ∙ periods-push past s))) in
+    ap (λ (z : List Range). all_over z (all_ended (periods_of past) zeros)) (sym kept) ∙ (sym (all_ended-push (periods_of past) (period_of s) zeros) ∙ ap (λ (z : List Period). all_ended z zeros) (sym (ap periods_of more ∙ periods-push past s))) in
     subst (λ (z : List Piece). HoldsDisk bytes base' (periods_of past') (ranges_of z)) (sym none) (record {
       now = h.now ∙ end;
       lasting = is ∙ (ap (λ (z : List Range). all_over z (image_of base)) kept ∙ (ap (all_over rs) h.lasting ∙ end));

@@ -1,5 +1,5 @@
 -- What a region in memory shows.
-use Rattle.std.specs.Prelude.{ℕ, Bool}
+use Rattle.std.specs.Prelude.{Bool}
 use Rattle.daos_outside.specs.Calls.{Calls}
 use Rattle.daos_regions.specs.declared.keep.Keep.{Keep}
 use Rattle.daos_regions.specs.Periods.{DiskState}

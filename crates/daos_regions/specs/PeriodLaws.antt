@@ -1,10 +1,10 @@
 -- What a disk in memory may have left, as it goes on.
-use Rattle.std.specs.Prelude.{◌≡◌, ◌⊎◌, ℕ, zero, suc, ◌+◌, ◌≤◌, ◌<◌, Bool, true, false, cond, List, [], ◌∷◌, ◌++◌, length, refl}
-use Rattle.std.proofs.Common.{sym, ap, ◌∙◌, subst, arith, inl, inr}
+use Rattle.std.specs.Prelude.{◌≡◌, ◌⊎◌, ℕ, zero, suc, ◌+◌, ◌≤◌, Bool, true, false, cond, List, [], ◌∷◌, ◌++◌, length, refl}
+use Rattle.std.proofs.Common.{ap, ◌∙◌, arith, inl, inr}
 use Rattle.daos_outside.specs.Images.{Image, Range, lies_in, lies_in_some, over, all_over, Torn, Tears, Elapses, NoMore}
-use Rattle.daos_outside.specs.ImageLaws.{torn_by_write, over_outside}
+use Rattle.daos_outside.specs.ImageLaws.{over_outside}
 use Rattle.daos_regions.specs.declared.keep.Keep.{Keep}
-use Rattle.daos_regions.specs.declared.keep.Keep.TheVariants.{All, None, Second}
+use Rattle.daos_regions.specs.declared.keep.Keep.TheVariants.{All}
 use Rattle.daos_regions.specs.Periods.{Period, DiskState, is_kept, kept_from, ended, all_ended, zeros, kept, read_now, MayLeave, MayHaveLeft, LeftSince, Remembers, AllFit}
 
 none_left : (periods : List Period) (f c : Image) → MayHaveLeft (length periods) periods f c → ⊥
@@ -59,14 +59,18 @@ lies-more i (x ∷ xs) r h off =
 -- a write more tears its range
 torn_more : (rs : List Range) (r : Range) (f c : Image) → Torn (rs ++ r ∷ []) f c → (d : Image) × (Torn rs f d × Torn (r ∷ []) d c)
 torn_more rs r f c torn =
-    let d : Image = λ i. cond (lies_in_some i rs) (c i) (f i) in
-    (d, (λ i out. ap (λ (b : Bool). cond b (c i) (f i)) out,
-    λ i out.
-        let off : lies_in i r ≡ false = elim (lies_in i r) as (λ b. cond b true false ≡ false → b ≡ false) [ true ↦ λ e. e | false ↦ λ e. refl ] out in
-        elim (lies_in_some i rs) as (λ b. lies_in_some i rs ≡ b → c i ≡ cond b (c i) (f i)) [
-          | true ↦ λ e. refl
-          | false ↦ λ e. torn i (lies-more i rs r e off)
-        ] refl))
+    let d : Image = λ i. cond (lies_in_some i rs) (c i) (f i) in (
+      d,
+      (
+        λ i out. ap (λ (b : Bool). cond b (c i) (f i)) out,
+        λ i out.
+            let off : lies_in i r ≡ false = elim (lies_in i r) as (λ b. cond b true false ≡ false → b ≡ false) [ true ↦ λ e. e | false ↦ λ e. refl ] out in
+            elim (lies_in_some i rs) as (λ b. lies_in_some i rs ≡ b → c i ≡ cond b (c i) (f i)) [
+              | true ↦ λ e. refl
+              | false ↦ λ e. torn i (lies-more i rs r e off)
+            ] refl,
+      ),
+    )
 
 torn_fewer : (rs : List Range) (r : Range) (f c : Image) → Torn rs f c → Torn (rs ++ r ∷ []) f c
 torn_fewer rs r f c torn i out = torn i (lies-parts i rs r out).0

@@ -1,6 +1,9 @@
 // A region with a fuse.
-ghost use Rattle.std.specs.Prelude.{◌≡◌, ◌||◌, ◌==◌, ◌-◌, ◌≤◌, true, false};
+ghost use Rattle.std.specs.Prelude.{◌≡◌, ◌||◌, ◌==◌, ◌+◌, ◌-◌, ◌≤◌, [], ◌∷◌, length, true, false, OnOk, IsTrue};
 ghost use Rattle.daos_outside.specs.Causes.{HasEitherCause, one_more};
+ghost use Rattle.daos_outside.specs.Images.{over, bytes_at, Only, NoMore, Tears, Elapses, StaysBroken, Mends};
+ghost use Rattle.daos_outside.specs.Images.Call.{Read, Write, Flush};
+ghost use Rattle.daos_regions.specs.FusedState.{Fuses};
 
 use daos_outside::Failed;
 use daos_outside::region::Region;
@@ -113,7 +116,20 @@ impl<R: Region> Region for Fused<R> {
         self.region.size()
     }
 
-    fn read(&mut self, at: u64, buf: &mut [u8]) -> Result<(), Failed> {
+    fn read(&mut self, at: u64, buf: &mut [u8]) -> Result<(), Failed>
+        requires { at + length buf.old ≤ R.extent self.old.region }
+        ensures extent { R.extent self.new.region ≡ R.extent self.old.region }
+        ensures cause { HasEitherCause (R.count self.old.region) (R.count self.new.region) self.old.burnt self.new.burnt result }
+        ensures bytes { OnOk result (IsTrue R.tells → buf.new ≡ bytes_at (R.image self.old.region) at (length buf.old)) }
+        ensures image { IsTrue R.tells → R.image self.new.region ≡ R.image self.old.region }
+        ensures crash { IsTrue R.tells → NoMore (λ c. R.may_leave self.old.region c) (λ c. R.may_leave self.new.region c) }
+        ensures time { IsTrue R.tells → Elapses (R.moment self.old.region) (R.moment self.new.region)
+            (λ t c. R.left_since self.old.region t c) (λ t c. R.left_since self.new.region t c) (λ c. R.may_leave self.new.region c) }
+        ensures broken { IsTrue R.tells → StaysBroken (self.old.blown || R.broken self.old.region) (self.new.blown || R.broken self.new.region) result }
+        ensures call { OnOk result (R.did self.old.region Read self.new.region) }
+        ensures fuse { Fuses self.old.blown self.old self.new result }
+        ensures left { self.new.left ≡ self.old.left }
+    {
         if self.blown {
             burn(&mut self.burnt);
             return Err(Failed);
@@ -121,7 +137,21 @@ impl<R: Region> Region for Fused<R> {
         self.region.read(at, buf)
     }
 
-    fn write(&mut self, at: u64, bytes: &[u8]) -> Result<(), Failed> {
+    fn write(&mut self, at: u64, bytes: &[u8]) -> Result<(), Failed>
+        requires { at + length bytes.now ≤ R.extent self.old.region }
+        ensures extent { R.extent self.new.region ≡ R.extent self.old.region }
+        ensures cause { HasEitherCause (R.count self.old.region) (R.count self.new.region) self.old.burnt self.new.burnt result }
+        ensures image { OnOk result (IsTrue R.tells → R.image self.new.region ≡
+            over (record { place = at; bytes = bytes.now }) (R.image self.old.region)) }
+        ensures crash { IsTrue R.tells → Tears (record { place = at; bytes = bytes.now } ∷ [])
+            (λ c. R.may_leave self.old.region c) (λ c. R.may_leave self.new.region c) }
+        ensures time { IsTrue R.tells → Elapses (R.moment self.old.region) (R.moment self.new.region)
+            (λ t c. R.left_since self.old.region t c) (λ t c. R.left_since self.new.region t c) (λ c. R.may_leave self.new.region c) }
+        ensures broken { IsTrue R.tells → StaysBroken (self.old.blown || R.broken self.old.region) (self.new.blown || R.broken self.new.region) result }
+        ensures call { OnOk result (R.did self.old.region (Write (record { place = at; bytes = bytes.now })) self.new.region) }
+        ensures fuse { Fuses (self.old.blown || self.old.left == 1) self.old self.new result }
+        ensures left { self.old.blown ≡ false → self.new.left ≡ self.old.left - 1 }
+    {
         if self.blown {
             burn(&mut self.burnt);
             return Err(Failed);
@@ -134,7 +164,19 @@ impl<R: Region> Region for Fused<R> {
         self.region.write(at, bytes)
     }
 
-    fn flush(&mut self) -> Result<(), Failed> {
+    fn flush(&mut self) -> Result<(), Failed>
+        ensures extent { R.extent self.new.region ≡ R.extent self.old.region }
+        ensures cause { HasEitherCause (R.count self.old.region) (R.count self.new.region) self.old.burnt self.new.burnt result }
+        ensures lasting { OnOk result (IsTrue R.tells → Only (R.image self.new.region) (λ c. R.may_leave self.new.region c)) }
+        ensures image { IsTrue R.tells → R.image self.new.region ≡ R.image self.old.region }
+        ensures crash { IsTrue R.tells → NoMore (λ c. R.may_leave self.old.region c) (λ c. R.may_leave self.new.region c) }
+        ensures time { IsTrue R.tells → Elapses (R.moment self.old.region) (R.moment self.new.region)
+            (λ t c. R.left_since self.old.region t c) (λ t c. R.left_since self.new.region t c) (λ c. R.may_leave self.new.region c) }
+        ensures broken { IsTrue R.tells → StaysBroken (self.old.blown || R.broken self.old.region) (self.new.blown || R.broken self.new.region) result }
+        ensures call { OnOk result (R.did self.old.region Flush self.new.region) }
+        ensures fuse { Fuses self.old.blown self.old self.new result }
+        ensures left { self.new.left ≡ self.old.left }
+    {
         if self.blown {
             burn(&mut self.burnt);
             return Err(Failed);
@@ -142,7 +184,18 @@ impl<R: Region> Region for Fused<R> {
         self.region.flush()
     }
 
-    fn reopen(&mut self) -> Result<(), Failed> {
+    fn reopen(&mut self) -> Result<(), Failed>
+        ensures extent { R.extent self.new.region ≡ R.extent self.old.region }
+        ensures cause { HasEitherCause (R.count self.old.region) (R.count self.new.region) self.old.burnt self.new.burnt result }
+        ensures lasting { OnOk result (IsTrue R.tells → Only (R.image self.new.region) (λ c. R.may_leave self.new.region c)) }
+        ensures image { OnOk result (IsTrue R.tells → R.may_leave self.old.region (R.image self.new.region)) }
+        ensures crash { IsTrue R.tells → NoMore (λ c. R.may_leave self.old.region c) (λ c. R.may_leave self.new.region c) }
+        ensures time { IsTrue R.tells → Elapses (R.moment self.old.region) (R.moment self.new.region)
+            (λ t c. R.left_since self.old.region t c) (λ t c. R.left_since self.new.region t c) (λ c. R.may_leave self.new.region c) }
+        ensures broken { IsTrue R.tells → Mends (self.new.blown || R.broken self.new.region) result }
+        ensures fuse { self.new.burnt ≡ self.old.burnt }
+        ensures left { self.new.left ≡ self.old.left }
+    {
         self.region.reopen()?;
         self.blown = false;
         Ok(())

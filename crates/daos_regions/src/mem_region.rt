@@ -219,13 +219,7 @@ impl Region for MemRegion {
         ensures keep { self.new.keep ≡ self.old.keep }
         ensures counts { CountsCall self.old.broken self.new.broken self.old.calls self.new.calls result }
     {
-        write_disk(
-            &mut self.disk,
-            &mut self.plan,
-            &mut self.broken,
-            at,
-            bytes,
-        )
+        write_disk(&mut self.disk, &mut self.plan, &mut self.broken, at, bytes)
     }
 
     fn flush(&mut self) -> Result<(), Failed>
@@ -255,12 +249,7 @@ impl Region for MemRegion {
         ensures keep { self.new.keep ≡ self.old.keep }
         ensures counts { CountsOpening self.new.broken self.old.calls self.new.calls result }
     {
-        open_disk(
-            &mut self.disk,
-            &mut self.plan,
-            &mut self.broken,
-            self.keep,
-        )
+        open_disk(&mut self.disk, &mut self.plan, &mut self.broken, self.keep)
     }
 
     fn burnt(&self) -> u64 {

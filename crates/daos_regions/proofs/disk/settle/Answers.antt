@@ -1,4 +1,4 @@
-use Rattle.std.proofs.Common.{◌≡◌, arith, ap, length, ℕ, List}
+use Rattle.std.proofs.Common.{arith, ap, length, ℕ, List}
 use Rattle.daos_regions.proofs.Holding.{fit_at}
 use Rattle.daos_regions.proofs.disk.settle.Goals as goal
 

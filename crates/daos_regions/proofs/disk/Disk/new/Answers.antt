@@ -1,4 +1,4 @@
-use Rattle.std.proofs.Common.{◌≡◌, subst, sym, List, [], ◌∙◌, ap}
+use Rattle.std.proofs.Common.{subst, sym, List, []}
 use Rattle.daos_regions.specs.declared.piece.Piece.{Piece}
 use Rattle.daos_regions.specs.declared.piece.Stretch.{Stretch}
 use Rattle.daos_regions.specs.Periods.{HoldsDisk, periods_of, ranges_of}

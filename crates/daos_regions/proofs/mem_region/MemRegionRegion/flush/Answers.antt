@@ -1,10 +1,9 @@
 use Rattle.std.proofs.Common.{ap, subst, ◌≡◌}
-use Rattle.std.specs.Prelude.{OnOk}
 use Rattle.daos_outside.specs.Images.{NoMore}
 use Rattle.daos_regions.specs.declared.keep.Keep.TheVariants.{All}
 use Rattle.daos_regions.specs.MemState.{MemState}
 use Rattle.daos_regions.specs.Periods.{DiskState, MayLeave, read_now}
-use Rattle.daos_regions.specs.MemLaws.{end_goes, end_no_more, end_image, flush_image, Goes}
+use Rattle.daos_regions.specs.MemLaws.{end_goes, end_no_more, flush_image, Goes}
 use Rattle.daos_regions.proofs.mem_region.MemRegionRegion.flush.Goals as goal
 
 pub returns-clause-image : goal.returns-clause-image

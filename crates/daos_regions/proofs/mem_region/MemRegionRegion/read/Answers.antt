@@ -1,4 +1,4 @@
-use Rattle.std.proofs.Common.{ap, sym, ◌≡◌, ◌∙◌}
+use Rattle.std.proofs.Common.{ap}
 use Rattle.daos_regions.specs.MemState.{MemState}
 use Rattle.daos_regions.specs.MemLaws.{stays_same, same_leaves}
 use Rattle.daos_regions.proofs.mem_region.MemRegionRegion.read.Goals as goal
