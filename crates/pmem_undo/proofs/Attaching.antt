@@ -105,3 +105,10 @@ span_content size buffer span is = subst (λ (n : ℕ). IsContent size span.plac
 pub spans_content : (size : ℕ) (buffer : List ℕ) (spans : List Span) → All (IsSpan size (length buffer)) spans → AreContent size (ranges_of buffer spans)
 spans_content size buffer [] all = tt
 spans_content size buffer (s ∷ spans) all = (span_content size buffer s (All-head (IsSpan size (length buffer)) s spans all), spans_content size buffer spans (All-tail (IsSpan size (length buffer)) s spans all))
+
+-- the same of an equal image
+pub attachable_same : (size size' : ℕ) (f g : Image) → IsAttachable size f → size' ≡ size → g ≡ f → IsAttachable size' g
+attachable_same size size' f g ok e same = subst (λ (n : ℕ). IsAttachable n g) (sym e) (subst (λ (h : Image). IsAttachable size h) (sym same) ok)
+
+pub stands_from : (size size' : ℕ) (f g c : Image) → size' ≡ size → g ≡ f → StandsFor size' (settled size' g) c → StandsFor size (settled size f) c
+stands_from size size' f g c e same stands = subst (λ (n : ℕ). StandsFor n (settled n f) c) e (subst (λ (h : Image). StandsFor size' (settled size' h) c) same stands)

@@ -109,3 +109,8 @@ looks_then f g h m n o t0 t1 t2 s0 s1 s2 a b = record {
   crash = λ c now. a.crash c (b.crash c now);
   time = leaves_then t0 t1 t2 s0 s1 s2 m a.time (leaves_weaker t1 t2 s1 s2 n m b.time a.crash);
 }
+
+-- what a crash may leave at the end of a call is allowed too
+pub leaves_now : (t0 t1 : ℕ) (s0 s1 : ℕ → Image → Type 0) (m0 m1 P : Image → Type 0) → LeavesOnly t0 t1 s0 s1 P → ((c : Image) → m1 c → s1 t0 c) → ((c : Image) → s0 t0 c → m0 c) → ((c : Image) → m0 c → P c) → (c : Image) → m1 c → P c
+leaves_now t0 t1 s0 s1 m0 m1 P l counts only first c here =
+    elim (l.each t0 c (omega arith) (counts c here)) [ inl past ↦ first c (only c past) | inr ok ↦ ok ]

@@ -8,15 +8,15 @@ use Rattle.std.proofs.Math.Seq.{drop-append_seam, take-length}
 use Rattle.daos_outside.specs.Images.{Image, Range, NoMore}
 use Rattle.pmem_undo.specs.declared.span.Span.{Span}
 use Rattle.pmem_undo.specs.Layout.{gate, IsContent, most_ranges, most_bytes}
-use Rattle.pmem_undo.specs.Settled.{IsAtRest}
+use Rattle.pmem_undo.specs.Settled.{IsAtRest, IsAttachable, IsBeforeOrAfter}
 use Rattle.pmem_undo.specs.Spans.{IsSpan, range_of, ranges_of, spans_length}
 use Rattle.pmem_undo.specs.Undo.{IsUndo, HasBuffers, IsTooMuch}
 use Rattle.pmem_undo.proofs.Attaching.{spans_content}
 use Rattle.pmem_undo.proofs.Committing.{total_is}
 use Rattle.pmem_undo.proofs.Parsing.{ranges_front}
 
-pub is_undo : (size : ℕ) (tells : Bool) (image : Image) (may : Image → Type 0) (staged : List ℕ) (spans : List Span) (spans_room bytes_room body : ℕ) (stopped : Bool) → HasBuffers size spans spans_room (length staged) bytes_room body → (IsTrue tells → stopped ≡ false → IsAtRest image may) → IsUndo size tells image may (ranges_of staged spans) stopped
-is_undo size tells image may staged spans spans_room bytes_room body stopped b rest =
+pub is_undo : (size : ℕ) (tells : Bool) (image : Image) (may : Image → Type 0) (staged : List ℕ) (spans : List Span) (spans_room bytes_room body : ℕ) (stopped : Bool) → HasBuffers size spans spans_room (length staged) bytes_room body → (IsTrue tells → stopped ≡ false → IsAtRest image may) → (IsTrue tells → (c : Image) → may c → IsAttachable size c) → IsUndo size tells image may (ranges_of staged spans) stopped
+is_undo size tells image may staged spans spans_room bytes_room body stopped b rest attachable =
     let n = length-map spans (range_of staged) in
     let t = total_is staged size spans b.sound in
     let few = b.few in
@@ -29,7 +29,19 @@ is_undo size tells image may staged spans spans_room bytes_room body stopped b r
       few = omega arith;
       short = omega arith;
       rest = rest;
+      attachable = attachable;
     }
+
+-- at rest, whatever a crash may leave may be attached to
+pub rest_attachable : (size : ℕ) (f : Image) (may : Image → Type 0) → IsAtRest f may → (c : Image) → may c → IsAttachable size c
+rest_attachable size f may rest c here ajar = absurd (ajar (rest.only c here gate ∙ rest.closed))
+
+pub either_attachable : (size : ℕ) (f : Image) (news : List Range) (c : Image) → IsBeforeOrAfter size f news c → IsAttachable size c
+either_attachable size f news c (inl before) = before.attachable
+either_attachable size f news c (inr after) = after.attachable
+
+pub attachable_at : (size size' : ℕ) (may : Image → Type 0) → size ≡ size' → ((c : Image) → may c → IsAttachable size c) → (c : Image) → may c → IsAttachable size' c
+attachable_at size size' may e all = subst (λ (n : ℕ). (c : Image) → may c → IsAttachable n c) e all
 
 length-push : (spans : List Span) (s : Span) → spans_length (spans ++ s ∷ []) ≡ spans_length spans + s.length
 length-push [] s = omega arith

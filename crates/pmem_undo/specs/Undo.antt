@@ -3,7 +3,7 @@ use Rattle.std.specs.Prelude.{◌≡◌, ◌⊎◌, ℕ, ◌+◌, ◌^◌, ◌<�
 use Rattle.daos_outside.specs.Images.{Image, Range}
 use Rattle.pmem_undo.specs.declared.span.Span.{Span}
 use Rattle.pmem_undo.specs.Layout.{AreContent, most_ranges, most_bytes, total_bytes}
-use Rattle.pmem_undo.specs.Settled.{IsAtRest}
+use Rattle.pmem_undo.specs.Settled.{IsAtRest, IsAttachable}
 use Rattle.pmem_undo.specs.Spans.{IsSpan, spans_length}
 
 -- the region, the ranges that are staged, the first of them first, and whether it stopped
@@ -12,8 +12,9 @@ pub record UndoState (R : Type 0) : Type 0 where
   pub staged : List Range
   pub stopped : Bool
 
--- What holds of every undo region. What is staged is content and fits one commit. Unless it stopped,
--- the gate is closed and a crash leaves what is read.
+-- What holds of every undo region. What is staged is content and fits one commit. Every image that a
+-- crash may leave may be attached to. Unless it stopped, the gate is closed and a crash leaves what is
+-- read.
 pub record IsUndo (size : ℕ) (tells : Bool) (image : Image) (may_leave : Image → Type 0) (staged : List Range) (stopped : Bool) : Type 0 where
   pub big : 323584 ≤ size
   pub small : size < 2 ^ 32
@@ -21,6 +22,7 @@ pub record IsUndo (size : ℕ) (tells : Bool) (image : Image) (may_leave : Image
   pub few : length staged ≤ most_ranges
   pub short : total_bytes staged ≤ most_bytes
   pub rest : IsTrue tells → stopped ≡ false → IsAtRest image may_leave
+  pub attachable : IsTrue tells → (c : Image) → may_leave c → IsAttachable size c
 
 -- one range more would be too many, or its bytes
 abbrev pub IsTooMuch : List Range → ℕ → Type 0

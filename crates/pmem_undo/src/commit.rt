@@ -88,6 +88,8 @@ pub(crate) fn commit_ranges<R: Region>(
     ensures rest { OnOk result (IsTrue R.tells → IsAtRest (R.image region.new) (R.may_leave region.new)) }
     ensures any_moment { IsTrue R.tells → LeavesOnly (R.moment region.old) (R.moment region.new) (R.left_since region.old) (R.left_since region.new)
         (IsBeforeOrAfter (R.extent region.old) (R.image region.old) (ranges_of staged.now spans.now)) }
+    ensures left { IsTrue R.tells → (c : Image) → R.may_leave region.new c →
+        IsBeforeOrAfter (R.extent region.old) (R.image region.old) (ranges_of staged.now spans.now) c }
     ensures calls { OnOk result ((bytes : List ℕ) × Runs R.did (reads (length spans.now) ++ commit_calls bytes (ranges_of staged.now spans.now)) region.old region.new) }
 {
     let end = put_log(region, spans, staged.len(), body)?;

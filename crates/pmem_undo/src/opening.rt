@@ -1,7 +1,7 @@
 // An undo region is begun, or attached to a region that has one.
 ghost use Rattle.std.specs.Prelude.{◌≡◌, ◌^◌, ◌<◌, ◌≤◌, IfOk, IfErr, OnOk, IsTrue};
 ghost use Rattle.daos_outside.specs.Causes.{HasEitherCause};
-ghost use Rattle.daos_outside.specs.Images.{over, Only, LeavesOnly};
+ghost use Rattle.daos_outside.specs.Images.{Image, over, Only, LeavesOnly};
 ghost use Rattle.pmem_undo.specs.Layout.{gate_byte};
 ghost use Rattle.pmem_undo.specs.Settled.{settled, IsAttachable, IsAtRest, StandsFor};
 ghost use Rattle.pmem_undo.specs.Undo.{IsUndo};
@@ -87,6 +87,8 @@ impl<R: Region> UndoRegion<R> {
         ensures given_back { IfErr result (λ e. IsGivenBack R.extent R.count R.burns region e.region e.cause) }
         ensures any_moment_err { IfErr result (λ e. IsTrue R.tells → LeavesOnly (R.moment region) (R.moment e.region) (R.left_since region) (R.left_since e.region)
             (StandsFor (R.extent region) (settled (R.extent region) (R.image region)))) }
+        ensures left_err { IfErr result (λ e. IsTrue R.tells → (c : Image) → R.may_leave e.region c →
+            StandsFor (R.extent region) (settled (R.extent region) (R.image region)) c) }
     {
         let mut region = region;
         let mut buffers = match take_buffers(alloc) {

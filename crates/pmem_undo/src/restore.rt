@@ -227,6 +227,8 @@ pub(crate) fn restore<R: Region>(
     ensures rest { OnOk result (IsTrue R.tells → IsAtRest (R.image region.new) (R.may_leave region.new)) }
     ensures any_moment { IsTrue R.tells → LeavesOnly (R.moment region.old) (R.moment region.new) (R.left_since region.old) (R.left_since region.new)
         (StandsFor (R.extent region.old) (settled (R.extent region.old) (R.image region.old))) }
+    ensures left { IsTrue R.tells → (c : Image) → R.may_leave region.new c →
+        StandsFor (R.extent region.old) (settled (R.extent region.old) (R.image region.old)) c }
     ensures room_left { 1024 ≤ vec_capacity spans.new }
 {
     let byte = gate_byte(region)?;

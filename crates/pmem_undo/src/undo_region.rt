@@ -1,9 +1,9 @@
 // A region with an undo log.
 ghost use Rattle.std.specs.Prelude.{◌≡◌, ◌↔◌, ℕ, ◌+◌, ◌^◌, ◌<◌, ◌≤◌, [], ◌∷◌, ◌++◌, List, length, false, true, IfOk, IfErr, OnOk, OnErr, IsErr, IsTrue, vec_capacity};
-ghost use Rattle.daos_outside.specs.Images.{all_over, bytes_at, LeavesOnly, Runs};
+ghost use Rattle.daos_outside.specs.Images.{Image, all_over, bytes_at, LeavesOnly, Runs};
 ghost use Rattle.pmem_pages.specs.Blocks.{Stops};
 ghost use Rattle.pmem_undo.specs.Layout.{IsContent, SameContent};
-ghost use Rattle.pmem_undo.specs.Settled.{IsBeforeOrAfter, OnlyLooks, reads, commit_calls};
+ghost use Rattle.pmem_undo.specs.Settled.{IsAttachable, IsBeforeOrAfter, OnlyLooks, reads, commit_calls};
 ghost use Rattle.pmem_undo.specs.Undo.{IsUndo, IsTooMuch};
 
 use crate::commit::commit_ranges;
@@ -28,7 +28,8 @@ impl<R: Region> Model for UndoRegion<R> {
     ghost use Rattle.std.specs.Prelude.{◌≡◌, length, vec_len, vec_capacity, IsTrue, false};
     ghost use Rattle.pmem_undo.specs.Undo.{UndoState, HasBuffers};
     ghost use Rattle.pmem_undo.specs.Spans.{ranges_of};
-    ghost use Rattle.pmem_undo.specs.Settled.{IsAtRest};
+    ghost use Rattle.pmem_undo.specs.Settled.{IsAtRest, IsAttachable};
+    ghost use Rattle.daos_outside.specs.Images.{Image};
 
     ghost Value = { UndoState R };
 
@@ -40,7 +41,8 @@ impl<R: Region> Model for UndoRegion<R> {
 
     ghost invariant = { λ u.
         HasBuffers (R.extent u.region) u.spans.items (vec_capacity u.spans) (length u.staged.items) (vec_capacity u.staged) (length u.body.items)
-        × (IsTrue R.tells → u.stopped ≡ false → IsAtRest (R.image u.region) (R.may_leave u.region)) };
+        × (IsTrue R.tells → u.stopped ≡ false → IsAtRest (R.image u.region) (R.may_leave u.region))
+        × (IsTrue R.tells → (c : Image) → R.may_leave u.region c → IsAttachable (R.extent u.region) c) };
 }
 
 // Whether beside so many ranges and bytes one range more may be staged.
@@ -111,6 +113,8 @@ impl<R: Region> UndoRegion<R> {
         ensures committed { OnOk result (IsTrue R.tells → SameContent (R.image self.new.region) (all_over self.old.staged (R.image self.old.region))) }
         ensures any_moment { IsTrue R.tells → LeavesOnly (R.moment self.old.region) (R.moment self.new.region) (R.left_since self.old.region) (R.left_since self.new.region)
             (IsBeforeOrAfter (R.extent self.old.region) (R.image self.old.region) self.old.staged) }
+        ensures left { IsTrue R.tells → self.old.stopped ≡ false → (c : Image) → R.may_leave self.new.region c →
+            IsBeforeOrAfter (R.extent self.old.region) (R.image self.old.region) self.old.staged c }
         ensures calls { OnOk result ((body : List ℕ) × Runs R.did (reads (length self.old.staged) ++ commit_calls body self.old.staged) self.old.region self.new.region) }
         ensures staged { OnOk result (self.new.staged ≡ []) }
         ensures kept { OnErr result (self.new.staged ≡ self.old.staged) }
@@ -174,7 +178,8 @@ impl<R: Region> UndoRegion<R> {
 
     /// Takes it apart.
     pub fn into_region(self) -> R
-        ensures { result ≡ self.region }
+        ensures region { result ≡ self.region }
+        ensures attachable { IsTrue R.tells → (c : Image) → R.may_leave self.region c → IsAttachable (R.extent self.region) c }
     {
         let UndoRegion {
             region,

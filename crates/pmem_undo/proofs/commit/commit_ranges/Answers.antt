@@ -1,11 +1,11 @@
-use Rattle.std.proofs.Common.{◌∙◌, ◌∷◌, [], ◌++◌, ap, sym, subst, arith, take, length}
+use Rattle.std.proofs.Common.{inl, ◌∙◌, ◌∷◌, [], ◌++◌, ap, sym, subst, arith, take, length}
 use Rattle.daos_outside.specs.Images.{Image, over, all_over}
 use Rattle.daos_outside.specs.Images.Call.{Write, Flush}
 use Rattle.pmem_undo.specs.Layout.{gate, gate_byte}
 use Rattle.pmem_undo.specs.Settled.{IsPrepared, body_range, log_opened, reads, writes}
 use Rattle.pmem_undo.specs.Spans.{ranges_of}
-use Rattle.pmem_undo.proofs.Committing.{prepared, two_parts, three_parts, opens_same}
-use Rattle.pmem_undo.proofs.Moments.{runs_then}
+use Rattle.pmem_undo.proofs.Committing.{at_first, prepared, two_parts, three_parts, opens_same}
+use Rattle.pmem_undo.proofs.Moments.{leaves_now, runs_then}
 use Rattle.pmem_undo.proofs.Phases.{OnOk-map, OnOk-both}
 use Rattle.pmem_undo.proofs.Settling.{after_close, gate_at}
 use Rattle.pmem_undo.proofs.commit.commit_ranges.Goals as goal
@@ -62,3 +62,21 @@ returns-clause-calls g c =
       runs_then g.R.Region.did (reads (length c.args.spans.now)) _ _ _ _ c.in_ok-end.ensures.calls
           (runs_then g.R.Region.did (Write (body_range body) ∷ Flush ∷ Write (gate_byte 1) ∷ Flush ∷ []) (writes news ++ Flush ∷ Write (gate_byte 0) ∷ Flush ∷ []) _ _ _ c.in_ok-open_log.ensures.calls last),
     ))
+
+pub returns-in_err-end-clause-left : goal.returns-in_err-end-clause-left
+returns-in_err-end-clause-left g c t z here =
+    inl (at_first (g.R.Region.extent c.args.region.now) (g.R.Region.image c.args.region.now) (g.R.Region.may_leave c.args.region.now) (c.requires.rest t) z ((c.put_log.ensures.looks t).crash z here))
+
+pub returns-in_err-open_log-clause-left : goal.returns-in_err-open_log-clause-left
+returns-in_err-open_log-clause-left g c t z here =
+    let l = returns-in_err-open_log-clause-any_moment g c t in
+    leaves_now _ _ _ _ (g.R.Region.may_leave c.args.region.now) (g.R.Region.may_leave c.open_log.new.region) _ l
+    (λ y h. g.met.R.Region.counts_now c.open_log.new.region (g.R.Region.moment c.args.region.now) y t l.later h) (λ y h. g.met.R.Region.only_now c.args.region.now y t h)
+    (λ y h. inl (at_first _ _ _ (c.requires.rest t) y h)) z here
+
+pub returns-clause-left : goal.returns-clause-left
+returns-clause-left g c t z here =
+    let l = returns-clause-any_moment g c t in
+    leaves_now _ _ _ _ (g.R.Region.may_leave c.args.region.now) (g.R.Region.may_leave c.close_log.new.region) _ l
+    (λ y h. g.met.R.Region.counts_now c.close_log.new.region (g.R.Region.moment c.args.region.now) y t l.later h) (λ y h. g.met.R.Region.only_now c.args.region.now y t h)
+    (λ y h. inl (at_first _ _ _ (c.requires.rest t) y h)) z here

@@ -18,12 +18,12 @@ returns-then-not-is_room-clause-refused g c =
 pub returns-then-not-is_room-clause-holds : goal.returns-then-not-is_room-clause-holds
 returns-then-not-is_room-clause-holds g c =
     subst (λ u. IsUndo (g.R.Region.extent u.region) g.R.Region.tells (g.R.Region.image u.region) (g.R.Region.may_leave u.region) u.staged u.stopped) c.self.view_is
-    (is_undo _ _ _ _ _ _ _ _ _ _ c.self.invariant.0 c.self.invariant.1)
+    (is_undo _ _ _ _ _ _ _ _ _ _ c.self.invariant.0 c.self.invariant.1 c.self.invariant.2)
 
 pub invariant_of-self : goal.invariant_of-self
 invariant_of-self g c =
     let room = c.is_room.ensures.0 c.if-not-is_room.false in
-    (buffers_pushed _ c.self.inside.spans.items _ _ c.self.inside.staged.items _ c.args.bytes.now _ _ c.args.at _ _ c.self.invariant.0 (subst (λ u. IsContent (g.R.Region.extent u.region) c.args.at (length c.args.bytes.now)) (sym c.self.view_is) c.requires) (omega (arith, room.0)) (omega (arith, room.1)) c.push_range.ensures.spans_room c.push_range.ensures.bytes_room c.push_range.ensures.spans c.push_range.ensures.staged, c.self.invariant.1)
+    (buffers_pushed _ c.self.inside.spans.items _ _ c.self.inside.staged.items _ c.args.bytes.now _ _ c.args.at _ _ c.self.invariant.0 (subst (λ u. IsContent (g.R.Region.extent u.region) c.args.at (length c.args.bytes.now)) (sym c.self.view_is) c.requires) (omega (arith, room.0)) (omega (arith, room.1)) c.push_range.ensures.spans_room c.push_range.ensures.bytes_room c.push_range.ensures.spans c.push_range.ensures.staged, c.self.invariant.1, c.self.invariant.2)
 
 pub returns-clause-staged : goal.returns-clause-staged
 returns-clause-staged g c =
@@ -44,4 +44,4 @@ returns-clause-refused g c =
 
 pub returns-clause-holds : goal.returns-clause-holds
 returns-clause-holds g c =
-    is_undo _ _ _ _ c.push_range.new.staged.items c.push_range.new.spans.items _ _ _ c.self.inside.stopped (invariant_of-self g c).0 c.self.invariant.1
+    is_undo _ _ _ _ c.push_range.new.staged.items c.push_range.new.spans.items _ _ _ c.self.inside.stopped (invariant_of-self g c).0 c.self.invariant.1 c.self.invariant.2
