@@ -12,6 +12,7 @@ use std::marker::Model;
 /// A region with a fuse: the write of a chosen number fails and isn't made, and every call after it
 /// fails until the region is opened anew. The calls that the fuse makes fail are counted apart from the
 /// faults, which are those of the region below.
+#[derive(Drop)]
 pub struct Fused<R: Region> {
     region: R,
     left: u32,

@@ -23,6 +23,7 @@ pub enum UndoCause {
 }
 
 /// The region that was handed in, and why it isn't opened.
+#[derive(Drop)]
 pub struct UndoNo<R> {
     pub region: R,
     pub cause: UndoCause,

@@ -16,6 +16,7 @@ use pmem_pages::refusal::{Stopped, TooMuch};
 use std::marker::Model;
 
 /// A region whose ranges are changed by commits, each of them whole or not at all.
+#[derive(Drop)]
 pub struct UndoRegion<R: Region> {
     pub(crate) region: R,
     pub(crate) spans: Vec<Span>,
