@@ -121,6 +121,6 @@ part_at f at bytes known m n fits =
     let size : length (take n (drop m bytes)) ≡ n = length-take-le n (drop m bytes) (omega arith) in
     ext_get_or 0 (bytes_at f (at + m) n) (take n (drop m bytes)) (length-bytes_at f (at + m) n ∙ sym size)
     (λ k below.
-        let below : k < n = omega (arith, length-bytes_at f (at + m) n) in
-        let place : (at + m) + k ≡ at + (m + k) = omega arith in
-        get_or-bytes_at f (at + m) n k below ∙ (ap f place ∙ (known (m + k) (omega arith) ∙ (sym (get_or-drop m bytes k 0) ∙ sym (get_or-take n (drop m bytes) k 0 below)))))
+    let below : k < n = omega (arith, length-bytes_at f (at + m) n) in
+    let place : (at + m) + k ≡ at + (m + k) = omega arith in
+    get_or-bytes_at f (at + m) n k below ∙ (ap f place ∙ (known (m + k) (omega arith) ∙ (sym (get_or-drop m bytes k 0) ∙ sym (get_or-take n (drop m bytes) k 0 below)))))

@@ -1,5 +1,5 @@
 -- The blocks of a region: the bytes of each block that is taken, and none of one that is free.
-use Rattle.std.specs.Prelude.{◌≡◌, ◌⊎◌, ℕ, ◌≤◌, Bool, true, cond, ◌==◌, List, Option, Some, Result, OnOk, OnErr}
+use Rattle.std.specs.Prelude.{◌≡◌, ◌⊎◌, ℕ, ◌+◌, ◌≤◌, Bool, true, cond, ◌==◌, List, Option, Some, Result, OnOk, OnErr, IsErr}
 use Rattle.daos_outside.specs.Causes.{Rose}
 
 abbrev pub Blocks : Type 0
@@ -20,6 +20,13 @@ pub record Budget : Type 0 where
   pub ranges : ℕ
   pub bytes : ℕ
 
+-- at most so many ranges and bytes were staged, and none given back
+pub record IsSpent (ranges bytes : ℕ) (before now : Budget) : Type 0 where
+  pub ranges_most : before.ranges ≤ now.ranges + ranges
+  pub ranges_least : now.ranges ≤ before.ranges
+  pub bytes_most : before.bytes ≤ now.bytes + bytes
+  pub bytes_least : now.bytes ≤ before.bytes
+
 -- An answer that stops comes only where it had stopped before, or a count rose. After it, every call
 -- that may stop does.
 pub record Stops {T E : Type 0} (was is : Bool) (faults_before faults_now burns_before burns_now : ℕ) (result : Result T E) : Type 0 where
@@ -27,5 +34,6 @@ pub record Stops {T E : Type 0} (was is : Bool) (faults_before faults_now burns_
   pub later_burns : burns_before ≤ burns_now
   pub cause : OnErr result ((was ≡ true) ⊎ (Rose faults_before faults_now ⊎ Rose burns_before burns_now))
   pub stopped : OnErr result (is ≡ true)
+  pub again : was ≡ true → IsErr result
   pub once : was ≡ true → is ≡ true
   pub went_on : OnOk result (was ≡ is)
