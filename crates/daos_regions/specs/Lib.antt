@@ -3,3 +3,4 @@ pub mod PeriodLaws
 pub mod MemState
 pub mod MemLaws
 pub mod FusedState
+pub mod MemRackState

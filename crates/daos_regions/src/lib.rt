@@ -4,5 +4,6 @@
 mod disk;
 pub mod fused;
 pub mod keep;
+pub mod mem_rack;
 pub mod mem_region;
 mod piece;
