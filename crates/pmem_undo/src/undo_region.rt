@@ -120,6 +120,7 @@ impl<R: Region> UndoRegion<R> {
         ensures staged { OnOk result (self.new.staged ≡ []) }
         ensures kept { OnErr result (self.new.staged ≡ self.old.staged) }
         ensures extent { R.extent self.new.region ≡ R.extent self.old.region }
+        ensures untouched { self.old.stopped ≡ true → self.new ≡ self.old }
         ensures stops { Stops self.old.stopped self.new.stopped (R.count self.old.region) (R.count self.new.region)
             (R.burns self.old.region) (R.burns self.new.region) result }
         ensures holds { IsUndo (R.extent self.new.region) R.tells (R.image self.new.region) (R.may_leave self.new.region) self.new.staged self.new.stopped }
@@ -153,6 +154,7 @@ impl<R: Region> UndoRegion<R> {
             (R.moment self.old.region) (R.moment self.new.region) (R.left_since self.old.region) (R.left_since self.new.region) }
         ensures staged { self.new.staged ≡ self.old.staged }
         ensures extent { R.extent self.new.region ≡ R.extent self.old.region }
+        ensures untouched { self.old.stopped ≡ true → self.new ≡ self.old }
         ensures stops { Stops self.old.stopped self.new.stopped (R.count self.old.region) (R.count self.new.region)
             (R.burns self.old.region) (R.burns self.new.region) result }
         ensures holds { IsUndo (R.extent self.new.region) R.tells (R.image self.new.region) (R.may_leave self.new.region) self.new.staged self.new.stopped }
