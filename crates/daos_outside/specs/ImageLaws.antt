@@ -3,7 +3,7 @@ use Rattle.std.specs.Prelude.{◌≡◌, ℕ, zero, suc, ◌+◌, ◌-◌, ◌�
 use Rattle.std.proofs.Common.{get_or, sym, ap, ◌∙◌, arith, inl, inr}
 use Rattle.std.proofs.lemmas.Bool.{cases_lt}
 use Rattle.std.proofs.lemmas.Bool.Decides.{nat_tests}
-use Rattle.std.proofs.lemmas.List.{length-take-le, get_or-take, get_or_append_left, get_or-append_right, get_or-drop, length-append}
+use Rattle.std.proofs.lemmas.List.{length-take-le, get_or-take, get_or_append_left, get_or-append_right, get_or-drop, length-append, length-drop, ext_get_or}
 use Rattle.std.proofs.Math.Seq.{drop-cons}
 use mathlib.Core.Path.{fun_ext}
 use Rattle.daos_outside.specs.Images.{Image, Range, lies_in, over, bytes_at, image_of, Torn, Tears}
@@ -87,3 +87,40 @@ torn_by_write r f i outside =
 -- where writes are made at once, a crash leaves what is written
 pub tears_at_once : (r : Range) (f g : Image) → g ≡ over r f → Tears (r ∷ []) (λ c. c ≡ f) (λ c. c ≡ g)
 tears_at_once r f g is c now = (f, (refl, λ i outside. ap (λ (h : Image). h i) (now ∙ is) ∙ torn_by_write r f i outside))
+
+pub length-bytes_at : (f : Image) (at n : ℕ) → length (bytes_at f at n) ≡ n
+unfolding bytes_at
+length-bytes_at f at zero = refl
+length-bytes_at f at (suc n) = ap suc (length-bytes_at f (at + 1) n)
+
+pub get_or-bytes_at : (f : Image) (at n k : ℕ) → k < n → get_or (bytes_at f at n) k 0 ≡ f (at + k)
+unfolding bytes_at
+get_or-bytes_at f at zero k below = absurd (omega arith)
+get_or-bytes_at f at (suc n) zero below = let e : at ≡ at + 0 = omega arith in ap f e
+get_or-bytes_at f at (suc n) (suc k) below = let e : (at + 1) + k ≡ at + suc k = omega arith in get_or-bytes_at f (at + 1) n k (omega arith) ∙ ap f e
+
+-- the bytes at some places depend on these places alone
+pub same_bytes_at : (f g : Image) (at n : ℕ) → ((i : ℕ) → at ≤ i → i < at + n → g i ≡ f i) → bytes_at g at n ≡ bytes_at f at n
+unfolding bytes_at
+same_bytes_at f g at zero same = refl
+same_bytes_at f g at (suc n) same =
+    let head : g at ≡ f at = same at (omega arith) (omega arith) in
+    let tail = same_bytes_at f g (at + 1) n (λ i low high. same i (omega arith) (omega arith)) in
+    cc
+
+-- bytes that are known by their places
+pub known_bytes_at : (f : Image) (at : ℕ) (bytes : List ℕ) → ((k : ℕ) → k < length bytes → f (at + k) ≡ get_or bytes k 0) → bytes_at f at (length bytes) ≡ bytes
+known_bytes_at f at bytes known =
+    ext_get_or 0 (bytes_at f at (length bytes)) bytes (length-bytes_at f at (length bytes))
+    (λ k below. let below : k < length bytes = omega (arith, length-bytes_at f at (length bytes)) in get_or-bytes_at f at (length bytes) k below ∙ known k below)
+
+-- a part of bytes that are known by their places
+pub part_at : (f : Image) (at : ℕ) (bytes : List ℕ) → ((k : ℕ) → k < length bytes → f (at + k) ≡ get_or bytes k 0) → (m n : ℕ) → m + n ≤ length bytes → bytes_at f (at + m) n ≡ take n (drop m bytes)
+part_at f at bytes known m n fits =
+    let long = length-drop m bytes in
+    let size : length (take n (drop m bytes)) ≡ n = length-take-le n (drop m bytes) (omega arith) in
+    ext_get_or 0 (bytes_at f (at + m) n) (take n (drop m bytes)) (length-bytes_at f (at + m) n ∙ sym size)
+    (λ k below.
+    let below : k < n = omega (arith, length-bytes_at f (at + m) n) in
+    let place : (at + m) + k ≡ at + (m + k) = omega arith in
+    get_or-bytes_at f (at + m) n k below ∙ (ap f place ∙ (known (m + k) (omega arith) ∙ (sym (get_or-drop m bytes k 0) ∙ sym (get_or-take n (drop m bytes) k 0 below)))))

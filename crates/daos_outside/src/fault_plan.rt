@@ -58,6 +58,14 @@ impl FaultPlan {
         fails
     }
 
+    /// Counts a failure that isn't planned.
+    pub fn add_fault(&mut self)
+        ensures counted { self.new ≡ record self.old { faults = one_more self.old.faults } }
+        ensures later { self.old.faults ≤ self.new.faults }
+    {
+        self.faults = self.faults.saturating_add(1);
+    }
+
     /// How many calls failed.
     pub fn faults(&self) -> u64
         ensures { result ≡ self.now.faults }

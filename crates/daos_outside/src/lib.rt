@@ -5,7 +5,7 @@ pub mod adapters;
 mod bounded;
 pub mod clock;
 pub mod count_clock;
-mod fault_plan;
+pub mod fault_plan;
 pub mod gate;
 pub mod mem_sink;
 pub mod mem_source;

@@ -1,0 +1,5 @@
+// Rows over the layers of a region.
+#![tactic(auto)]
+
+#[cfg(test)]
+mod tests;

@@ -1,0 +1,12 @@
+pub mod Rolling
+pub mod Reading
+pub mod Settling
+pub mod Moments
+pub mod Phases
+pub mod Filling
+pub mod Parsing
+pub mod Attaching
+pub mod Restoring
+pub mod Committing
+pub mod Showing
+pub mod Undoing

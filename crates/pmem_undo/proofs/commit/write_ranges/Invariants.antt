@@ -1,0 +1,17 @@
+use Rattle.std.proofs.Common.{◌≡◌, ◌≤◌, take}
+use Rattle.std.specs.Prelude.{IsTrue}
+use Rattle.daos_outside.specs.Images.{Image, all_over, Torn, Tears, LeavesOnly, Runs}
+use Rattle.pmem_undo.specs.Settled.{writes}
+use Rattle.pmem_undo.specs.Spans.{ranges_of}
+use Rattle.pmem_undo.proofs.commit.write_ranges.Given as goal
+
+abbrev pub invariant-loop-span : goal.invariant-loop-span
+invariant-loop-span g l = record {
+  extent : g.R.Region.extent l.region ≡ g.R.Region.extent l.initial.region;
+  faults : g.R.Region.count l.initial.region ≤ g.R.Region.count l.region;
+  burns : g.R.Region.burns l.initial.region ≤ g.R.Region.burns l.region;
+  image : IsTrue g.R.Region.tells → g.R.Region.image l.region ≡ all_over (ranges_of l.buffer (take l.span-index l.spans)) (g.R.Region.image l.initial.region);
+  crash : IsTrue g.R.Region.tells → Tears (ranges_of l.buffer (take l.span-index l.spans)) (g.R.Region.may_leave l.initial.region) (g.R.Region.may_leave l.region);
+  time : IsTrue g.R.Region.tells → LeavesOnly (g.R.Region.moment l.initial.region) (g.R.Region.moment l.region) (g.R.Region.left_since l.initial.region) (g.R.Region.left_since l.region) (λ c. (d : Image) × (g.R.Region.may_leave l.initial.region d × Torn (ranges_of l.buffer l.spans) d c));
+  calls : Runs g.R.Region.did (writes (ranges_of l.buffer (take l.span-index l.spans))) l.initial.region l.region;
+}

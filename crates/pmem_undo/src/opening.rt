@@ -1,0 +1,131 @@
+// An undo region is begun, or attached to a region that has one.
+ghost use Rattle.std.specs.Prelude.{◌≡◌, ◌^◌, ◌<◌, ◌≤◌, IfOk, IfErr, OnOk, IsTrue};
+ghost use Rattle.daos_outside.specs.Causes.{HasEitherCause};
+ghost use Rattle.daos_outside.specs.Images.{Image, over, Only, LeavesOnly};
+ghost use Rattle.pmem_undo.specs.Layout.{gate_byte};
+ghost use Rattle.pmem_undo.specs.Settled.{settled, IsAttachable, IsAtRest, StandsFor};
+ghost use Rattle.pmem_undo.specs.Undo.{IsUndo};
+ghost use Rattle.pmem_undo.specs.Opening.{IsBegun, IsGivenBack};
+
+use crate::GATE;
+use crate::buffers::take_buffers;
+use crate::restore::restore;
+use crate::undo_region::UndoRegion;
+use daos_outside::Failed;
+use daos_outside::region::Region;
+use std::alloc::Global;
+
+/// Why no undo region was opened.
+#[derive(Clone, Copy, Debug, PartialEq, Eq)]
+pub enum UndoCause {
+    Stopped,
+    Memory,
+}
+
+/// The region that was handed in, and why it isn't opened.
+#[derive(Drop)]
+pub struct UndoNo<R> {
+    pub region: R,
+    pub cause: UndoCause,
+}
+
+impl<R: Region> UndoRegion<R> {
+    /// Begins an undo region: the gate is closed, whatever it was, and all other bytes stay.
+    ///
+    /// # Errors
+    ///
+    /// `Stopped` comes only where a count of the region rose in this call.
+    pub fn format(alloc: Global, region: R) -> Result<Self, UndoNo<R>>
+        requires big { 323584 ≤ R.extent region }
+        requires small { R.extent region < 2 ^ 32 }
+        ensures begun { IfOk result (λ u. IsBegun R.extent R.count R.burns region u) }
+        ensures holds { IfOk result (λ u. IsUndo (R.extent u.region) R.tells (R.image u.region) (R.may_leave u.region) u.staged u.stopped) }
+        ensures image { IfOk result (λ u. IsTrue R.tells → R.image u.region ≡ over (gate_byte 0) (R.image region)) }
+        ensures given_back { IfErr result (λ e. IsGivenBack R.extent R.count R.burns region e.region e.cause) }
+    {
+        let mut region = region;
+        let buffers = match take_buffers(alloc) {
+            Ok(buffers) => buffers,
+            Err(_) => {
+                return Err(UndoNo {
+                    region,
+                    cause: UndoCause::Memory,
+                });
+            }
+        };
+        if close_gate(&mut region).is_err() {
+            return Err(UndoNo {
+                region,
+                cause: UndoCause::Stopped,
+            });
+        }
+        Ok(UndoRegion {
+            region,
+            spans: buffers.spans,
+            staged: buffers.staged,
+            body: buffers.body,
+            stopped: false,
+        })
+    }
+
+    /// Attaches to a region. Where its gate is open it has the bytes from before the commit that was
+    /// cut, which are written back, the last range first. A crash at any moment of the call leaves an
+    /// image that stands for the same content.
+    ///
+    /// # Errors
+    ///
+    /// `Stopped` comes only where a count of the region rose in this call.
+    pub fn attach(alloc: Global, region: R) -> Result<Self, UndoNo<R>>
+        requires big { 323584 ≤ R.extent region }
+        requires small { R.extent region < 2 ^ 32 }
+        requires only { IsTrue R.tells → Only (R.image region) (R.may_leave region) }
+        requires log { IsTrue R.tells → IsAttachable (R.extent region) (R.image region) }
+        ensures begun { IfOk result (λ u. IsBegun R.extent R.count R.burns region u) }
+        ensures holds { IfOk result (λ u. IsUndo (R.extent u.region) R.tells (R.image u.region) (R.may_leave u.region) u.staged u.stopped) }
+        ensures image { IfOk result (λ u. IsTrue R.tells → R.image u.region ≡ settled (R.extent region) (R.image region)) }
+        ensures any_moment { IfOk result (λ u. IsTrue R.tells → LeavesOnly (R.moment region) (R.moment u.region) (R.left_since region) (R.left_since u.region)
+            (StandsFor (R.extent region) (settled (R.extent region) (R.image region)))) }
+        ensures given_back { IfErr result (λ e. IsGivenBack R.extent R.count R.burns region e.region e.cause) }
+        ensures any_moment_err { IfErr result (λ e. IsTrue R.tells → LeavesOnly (R.moment region) (R.moment e.region) (R.left_since region) (R.left_since e.region)
+            (StandsFor (R.extent region) (settled (R.extent region) (R.image region)))) }
+        ensures left_err { IfErr result (λ e. IsTrue R.tells → (c : Image) → R.may_leave e.region c →
+            StandsFor (R.extent region) (settled (R.extent region) (R.image region)) c) }
+    {
+        let mut region = region;
+        let mut buffers = match take_buffers(alloc) {
+            Ok(buffers) => buffers,
+            Err(_) => {
+                return Err(UndoNo {
+                    region,
+                    cause: UndoCause::Memory,
+                });
+            }
+        };
+        if restore(&mut region, &mut buffers.spans, &mut buffers.body).is_err() {
+            return Err(UndoNo {
+                region,
+                cause: UndoCause::Stopped,
+            });
+        }
+        buffers.spans.clear();
+        Ok(UndoRegion {
+            region,
+            spans: buffers.spans,
+            staged: buffers.staged,
+            body: buffers.body,
+            stopped: false,
+        })
+    }
+}
+
+// Closes the gate.
+fn close_gate<R: Region>(region: &mut R) -> Result<(), Failed>
+    requires { 32769 ≤ R.extent region.old }
+    ensures extent { R.extent region.new ≡ R.extent region.old }
+    ensures cause { HasEitherCause (R.count region.old) (R.count region.new) (R.burns region.old) (R.burns region.new) result }
+    ensures image { OnOk result (IsTrue R.tells → R.image region.new ≡ over (gate_byte 0) (R.image region.old)) }
+    ensures rest { OnOk result (IsTrue R.tells → IsAtRest (R.image region.new) (R.may_leave region.new)) }
+{
+    region.write(GATE, &[0])?;
+    region.flush()
+}
