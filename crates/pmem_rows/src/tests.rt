@@ -1,7 +1,10 @@
-// Commits that are cut at each of their writes, over a region in memory with a fuse.
+// Regions in memory, and commits that are cut at each of their writes.
+use daos_outside::Failed;
+use daos_outside::rack::Rack;
 use daos_outside::region::Region;
 use daos_regions::fused::Fused;
 use daos_regions::keep::Keep;
+use daos_regions::mem_rack::MemRack;
 use daos_regions::mem_region::MemRegion;
 use pmem_undo::undo_region::UndoRegion;
 use std::alloc::Global;
@@ -82,5 +85,63 @@ fn a_cut_commit_leaves_the_old_bytes_or_the_new(rt: HostRuntime) -> Result<(), F
     for (fails, keep, fuse, (done, bytes)) in rows {
         assert_eq!(rt; row(rt.alloc(), fails, keep, fuse), Some((done, *bytes)));
     }
+    Ok(())
+}
+
+// Two writes, a flush, and two writes more, and what an opening leaves of them.
+fn opened(alloc: Global, keep: Keep) -> Option<[u8; 4]> {
+    let mut region = match MemRegion::new(alloc, 4, &[], keep) {
+        Ok(region) => region,
+        Err(_) => return None,
+    };
+    region.write(0, b"a").ok()?;
+    region.write(1, b"b").ok()?;
+    region.flush().ok()?;
+    region.write(2, b"c").ok()?;
+    region.write(3, b"d").ok()?;
+    region.reopen().ok()?;
+    let mut bytes = [0; 4];
+    region.read(0, &mut bytes).ok()?;
+    Some(bytes)
+}
+
+#[test]
+fn an_opening_keeps_what_was_flushed(rt: HostRuntime) -> Result<(), Fail> {
+    for (keep, bytes) in [
+        (Keep::All, b"abcd"),
+        (Keep::None, b"ab\0\0"),
+        (Keep::Second, b"ab\0d"),
+    ] {
+        assert_eq!(rt; opened(rt.alloc(), keep), Some(*bytes));
+    }
+    Ok(())
+}
+
+#[test]
+fn after_a_failure_all_fails_until_an_opening(rt: HostRuntime) -> Result<(), Fail> {
+    let mut region = MemRegion::new(rt.alloc(), 4, &[2], Keep::All)?;
+    assert_eq!(rt; region.write(0, b"a"), Ok(()));
+    assert_eq!(rt; region.flush(), Err(Failed));
+    assert_eq!(rt; region.write(1, b"b"), Err(Failed));
+    assert_eq!(rt; region.faults(), 2);
+    assert_eq!(rt; region.reopen(), Ok(()));
+    assert_eq!(rt; region.write(1, b"b"), Ok(()));
+    assert_eq!(rt; region.faults(), 2);
+    Ok(())
+}
+
+#[test]
+fn a_rack_fails_by_its_list(rt: HostRuntime) -> Result<(), Fail> {
+    let mut rack = MemRack::new(rt.alloc(), 2, 4, &[2])?;
+    let mut region = rack.region(0, 4)?;
+    region.write(0, b"a")?;
+    rack.take_back(0, region);
+    assert!(rt; rack.region(1, 4).is_err());
+    assert_eq!(rt; rack.faults(), 1);
+    let mut region = rack.region(0, 4)?;
+    assert_eq!(rt; region.size(), 4);
+    let mut byte = [0];
+    region.read(0, &mut byte)?;
+    assert_eq!(rt; byte, *b"a");
     Ok(())
 }
