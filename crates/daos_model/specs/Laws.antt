@@ -1,8 +1,9 @@
 -- What holds of every list of transactions: runs and their proofs stand on it.
-use Rattle.std.specs.Prelude.{ℕ, suc, ◌+◌, ◌≡◌, ◌≤◌, ◌<◌, ◌++◌, true, false, nat_lt, nat_le, List, [], ◌∷◌, slice_index, All, if◌then◌else◌, refl}
+use Rattle.std.specs.Prelude.{ℕ, suc, Bool, ◌+◌, ◌≡◌, ◌≤◌, ◌<◌, ◌++◌, true, false, nat_lt, nat_le, List, [], ◌∷◌, slice_index, All, if◌then◌else◌, refl}
 use Rattle.std.specs.List.Sorted.{IsStrictlyIncreasing}
 use Rattle.std.proofs.Common.{subst, sym, ◌∙◌, ap, append_assoc, arith}
 use Rattle.std.proofs.lemmas.Bool.Decides.{nat_tests}
+use Rattle.daos_base.specs.declared.id.AttemptId.{AttemptId}
 use Rattle.daos_base.specs.declared.report.Line.{Line}
 use Rattle.daos_base.specs.declared.script.Script.{Script}
 use Rattle.daos_model.specs.declared.cell.CellValue.{CellValue}
@@ -23,7 +24,8 @@ RisingRunInOrder =
 
 -- what took effect by lines is what took effect by those before, then by those after
 abbrev pub TookInParts : Type 0
-TookInParts = (s : Script) (before after : List Line) → took s (before ++ after) ≡ took s before ++ took s after
+TookInParts =
+    (s : Script) (resolved : AttemptId → Bool) (before after : List Line) → took s resolved (before ++ after) ≡ took s resolved before ++ took s resolved after
 
 -- running transactions is running those before, then those after
 abbrev pub RunInParts : Type 0
@@ -31,9 +33,10 @@ RunInParts = (before after : List Taken) (m : List CellValue) → run_all (befor
 
 pub took-append : TookInParts
 unfolding took
-took-append s [] after = refl
-took-append s (l ∷ before) after =
-    ap (λ ts. taken_by s l ++ ts) (took-append s before after) ∙ sym (append_assoc (taken_by s l) (took s before) (took s after))
+took-append s resolved [] after = refl
+took-append s resolved (l ∷ before) after =
+    ap (λ ts. taken_by s resolved l ++ ts) (took-append s resolved before after)
+    ∙ sym (append_assoc (taken_by s resolved l) (took s resolved before) (took s resolved after))
 
 pub run_all-append : RunInParts
 run_all-append [] after m = refl

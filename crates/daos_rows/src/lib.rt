@@ -4,6 +4,8 @@
 #[cfg(test)]
 mod clocks;
 #[cfg(test)]
+mod copies;
+#[cfg(test)]
 mod first;
 #[cfg(test)]
 mod planned;
