@@ -24,15 +24,13 @@ use Rattle.daos_model.specs.declared.cell.CellValue.{CellValue}
 use Rattle.daos_model.specs.declared.stand.Taken.{Taken}
 use Rattle.daos_model.specs.Answers.{answer, value_answer}
 use Rattle.daos_model.specs.AsOf.{as_of, empty_stand}
-use Rattle.daos_model.specs.Headline.{Headline}
-use Rattle.daos_model.specs.OutcomesLegal.{IsOnlyAttempt, IsOnlyAttemptLine, epochs_of, first_list, line_epoch, option_epoch}
-use Rattle.daos_model.specs.ReadsLegal.{AnswersLegal, IsRightAnswer, LineReadsLegal}
-use Rattle.daos_model.specs.TookEffect.{took}
+use Rattle.daos_model.specs.ReadsLegal.{IsRightAnswer}
 use Rattle.daos_model.specs.Transactions.{attempt_ops, ops_of, read_at, read_of}
 use Rattle.daos_report.specs.Forms.{IsAnswer, IsAttemptId, IsAttemptOf, IsCond, IsEpochOrNone, IsGot, IsLineOf, IsOutcomeOf, IsReportOf, least_down}
 use Rattle.daos_run.specs.CommandLaws.{IsCommandAt, command_at, few_commands, lone-is}
-use Rattle.daos_run.specs.Issue.{AreIssued}
 use Rattle.daos_run.specs.IssueLaws.{AreIssued-low}
+use Rattle.daos_run.specs.Lone.{AreRight, IsLineAnswered, IsOnlyAttempt, IsOnlyAttemptLine, committed, epochs_of, first_list, line_epoch, option_epoch}
+use Rattle.daos_run.specs.Runs.{IsRunOf}
 
 -- ---- answers
 
@@ -68,7 +66,7 @@ gots_form objs (Aggregate cont) m gots h right = absurd h
 gots_form objs (Tell client) m gots h right = absurd h
 gots_form objs (Skip turns) m gots h right = absurd h
 
-legal_form : (s : Script) (T : List Taken) (epoch : Option Epoch) (c : Command) (gots : List (ℕ × Answer)) → IsPutOrGet s.objs c → AnswersLegal (ops_of c) empty_stand T epoch gots → All IsGot gots
+legal_form : (s : Script) (T : List Taken) (epoch : Option Epoch) (c : Command) (gots : List (ℕ × Answer)) → IsPutOrGet s.objs c → AreRight (ops_of c) empty_stand T epoch gots → All IsGot gots
 legal_form s T None c gots h none = subst (All IsGot) (sym none) (All-from_recursion IsGot [] tt)
 legal_form s T (Some e) c gots h right = gots_form s.objs c (as_of empty_stand T e.0) gots h right
 
@@ -78,7 +76,7 @@ epoch_form : (epoch : Option Epoch) → AllByRecursion (λ e. e < 2 ^ 64) (optio
 epoch_form None low = tt
 epoch_form (Some e) low = low.0
 
-attempt_form : (s : Script) (T : List Taken) (k : ℕ) (c : Command) (a : Attempt) → k < 2 ^ 32 → IsCommandAt s k c → IsOnlyAttempt s k a → AllByRecursion (λ e. e < 2 ^ 64) (option_epoch a.epoch) → AnswersLegal (attempt_ops s a.id) empty_stand T a.epoch a.gots → IsAttemptOf s a
+attempt_form : (s : Script) (T : List Taken) (k : ℕ) (c : Command) (a : Attempt) → k < 2 ^ 32 → IsCommandAt s k c → IsOnlyAttempt s k a → AllByRecursion (λ e. e < 2 ^ 64) (option_epoch a.epoch) → AreRight (attempt_ops s a.id) empty_stand T a.epoch a.gots → IsAttemptOf s a
 attempt_form s T k c a small at only low legal =
     let ops : attempt_ops s a.id ≡ ops_of c = ap (attempt_ops s) only.id ∙ at.ops in
     let id : IsAttemptId (record { client = 0; command = k; attempt = 0 }) = record { client = omega arith; command = small; attempt = omega arith } in
@@ -86,11 +84,11 @@ attempt_form s T k c a small at only low legal =
       id = subst IsAttemptId (sym only.id) id;
       epoch = epoch_form a.epoch low;
       conds = subst (All IsCond) (sym only.unconditional) (All-from_recursion IsCond [] tt);
-      gots = legal_form s T a.epoch c a.gots at.puts_or_gets (subst (λ os. AnswersLegal os empty_stand T a.epoch a.gots) ops legal);
+      gots = legal_form s T a.epoch c a.gots at.puts_or_gets (subst (λ os. AreRight os empty_stand T a.epoch a.gots) ops legal);
       outcome = subst (IsOutcomeOf s) (sym only.committed) tt;
     }
 
-line_form : (s : Script) (T : List Taken) (k : ℕ) (c : Command) (l : Line) → k < 2 ^ 32 → IsCommandAt s k c → IsOnlyAttemptLine s k l → AllByRecursion (λ e. e < 2 ^ 64) (line_epoch l) → LineReadsLegal s empty_stand T l → IsLineOf s l
+line_form : (s : Script) (T : List Taken) (k : ℕ) (c : Command) (l : Line) → k < 2 ^ 32 → IsCommandAt s k c → IsOnlyAttemptLine s k l → AllByRecursion (λ e. e < 2 ^ 64) (line_epoch l) → IsLineAnswered s empty_stand T l → IsLineOf s l
 line_form s T k c (line.Try a) small at only low legal = attempt_form s T k c a small at only low legal
 line_form s T k c (line.Stop number target) small at only low legal = absurd only
 line_form s T k c (line.Restart number target incarnation floor) small at only low legal = absurd only
@@ -156,17 +154,17 @@ none_down (line.Down target ∷ ls) tries = absurd tries.0
 
 -- ---- the report
 
-pub report_form : (s : Script) (q : Report) → IsInForm 1 s → Headline s empty_stand q → AreIssued 0 255 (epochs_of q.lines) → IsReportOf s q
-report_form s q form h issued =
-    let each = h.outcomes.attempts in
+pub report_form : (s : Script) (q : Report) → IsInForm 1 s → q.targets ≡ s.targets → q.down ≡ None → IsRunOf s q.lines → IsReportOf s q
+report_form s q form targets up run =
+    let each = run.attempts in
     let at = λ (k : ℕ) (d : Line) (lt : k < length q.lines). each k (get_or q.lines k d) (slice_get-get_or q.lines k d lt) in
-    let count : length q.lines ≡ length (first_list s.clients) = h.outcomes.count ∙ ap length (lone-is 1 s form) in
+    let count : length q.lines ≡ length (first_list s.clients) = run.count ∙ ap length (lone-is 1 s form) in
     let few = few_commands 1 s form in
-    let low = low_lines q.lines (AreIssued-low 0 0 255 (epochs_of q.lines) (omega arith) (omega arith) (omega (arith, few_epochs q.lines)) issued) in
+    let low = low_lines q.lines (AreIssued-low 0 0 255 (epochs_of q.lines) (omega arith) (omega arith) (omega (arith, few_epochs q.lines)) run.issued) in
     let lows = All-from_recursion (λ l. AllByRecursion (λ e. e < 2 ^ 64) (line_epoch l)) q.lines low in
     let none : Command = Skip 0 in
     record {
-      targets = omega (arith, h.outcomes.targets, form.read_for);
-      lines = λ k d lt. line_form s (took s q.lines) k (get_or (first_list s.clients) k none) (get_or q.lines k d) (omega arith) (command_at 1 s k none form (omega arith)) (at k d lt) (lows k d lt) (h.reads k d lt);
-      down = h.outcomes.up ∙ sym (none_down q.lines (recursion_from_All IsTry q.lines (λ k d lt. is_try s k (get_or q.lines k d) (at k d lt))));
+      targets = omega (arith, targets, form.read_for);
+      lines = λ k d lt. line_form s (committed s q.lines) k (get_or (first_list s.clients) k none) (get_or q.lines k d) (omega arith) (command_at 1 s k none form (omega arith)) (at k d lt) (lows k d lt) (run.reads k d lt);
+      down = up ∙ sym (none_down q.lines (recursion_from_All IsTry q.lines (λ k d lt. is_try s k (get_or q.lines k d) (at k d lt))));
     }

@@ -3,14 +3,15 @@ use Rattle.std.specs.Prelude.{ℕ, ◌≡◌, List, length, Option, ◌⊎◌}
 use Rattle.std.specs.Io.KnownBytes.{Consumes, IsAtEnd}
 use Rattle.daos_base.specs.declared.fault.Why.TheVariants as why
 use Rattle.daos_base.specs.declared.fault.WordKind.TheVariants as kind
+use Rattle.daos_base.specs.declared.job.Job.{Job}
 use Rattle.daos_base.specs.declared.report.Report.{Report}
 use Rattle.daos_base.specs.declared.script.Script.{Script}
-use Rattle.daos_model.specs.AsOf.{empty_stand}
 use Rattle.daos_model.specs.Headline.{Headline}
-use Rattle.daos_model.specs.OutcomesLegal.{epochs_of}
+use Rattle.daos_model.specs.Opening.{fresh, undisturbed}
 use Rattle.daos_report.specs.Forms.{IsReportOf}
 use Rattle.daos_report.specs.Reports.{report_text}
-use Rattle.daos_run.specs.Issue.{AreIssued}
+use Rattle.daos_run.specs.Lone.{no_one}
+use Rattle.daos_run.specs.Runs.{IsRunOf}
 use Rattle.daos_script.specs.Grammar.{IsScriptText}
 use Rattle.daos_app.specs.declared.status.Status.{Status}
 use Rattle.daos_app.specs.declared.status.Status.TheVariants as status
@@ -28,20 +29,20 @@ pub record IsRefused (left left_now : Option (List ℕ)) : Type 0 where
   pub consumed : Consumes left left_now bytes
   pub no_script : (length bytes ≡ 16777217) ⊎ (IsAtEnd left_now × ((script : Script) → IsScriptText 1 bytes script → ⊥))
 
--- the text of a report of a run of the script: by the headline, with epochs that were issued one after another,
--- and in the form in which a text determines its report
-pub record IsReported (script : Script) (text : List ℕ) : Type 0 where
+-- the text of a report of a run of the script, over regions of zeros that nothing disturbs: by the headline, each command with one
+-- committed attempt, and in the form in which a text determines its report
+pub record IsReported (job : Job) (script : Script) (text : List ℕ) : Type 0 where
   pub report : Report
   pub form : IsReportOf script report
-  pub headline : Headline script empty_stand report
-  pub issued : AreIssued 0 255 (epochs_of report.lines)
+  pub headline : Headline (fresh script job) undisturbed no_one report
+  pub lone : IsRunOf script report.lines
   pub told : text ≡ report_text script report
 
 -- what a run tells of the bytes that were read: the text of one report of a run of their script
-pub record IsRun (left left_now : Option (List ℕ)) (text : List ℕ) : Type 0 where
+pub record IsRun (job : Job) (left left_now : Option (List ℕ)) (text : List ℕ) : Type 0 where
   pub script : Script
   pub read : IsRead left left_now script
-  pub reported : IsReported script text
+  pub reported : IsReported job script text
 
 -- the answers to words and scripts that the program doesn't run yet
 abbrev pub words_not_yet : Status

@@ -4,7 +4,7 @@ ghost use Rattle.std.specs.Io.KnownBytes.{Appends};
 ghost use Rattle.daos_outside.specs.Causes.{Rose};
 ghost use Rattle.daos_outside.specs.Transfers.{AppendsPrefix};
 ghost use Rattle.daos_app.specs.Answers.{IsAnswerSoFar, IsRefused, IsRun, IsBeforeRun, script_not_yet, words_not_yet};
-ghost use Rattle.daos_app.specs.Words.{AreRunWords};
+ghost use Rattle.daos_app.specs.Words.{AreRunWords, lone_job};
 
 use crate::input::{InputNo, read_input};
 use crate::output::{run_text, write_text};
@@ -56,8 +56,8 @@ pub fn run_daos<R: Threads + Wait + Sync, S: Source, K: Sink, B: Rack, G: Gate +
 
     // At the end the sink holds what it held and then the text of one report, that of a run of the
     // script that was read, and nothing else; after a fault of the sink, a part of it from the front.
-    ensures done { result ≡ Status.Done → ((text : List ℕ) × IsRun (S.left source.old) (S.left source.new) text × Appends (K.held sink.old) (K.held sink.new) text) }
-    ensures prefix { result ≡ Status.WriteFault → ((text : List ℕ) × IsRun (S.left source.old) (S.left source.new) text × AppendsPrefix (K.held sink.old) (K.held sink.new) text) }
+    ensures done { result ≡ Status.Done → ((text : List ℕ) × IsRun lone_job (S.left source.old) (S.left source.new) text × Appends (K.held sink.old) (K.held sink.new) text) }
+    ensures prefix { result ≡ Status.WriteFault → ((text : List ℕ) × IsRun lone_job (S.left source.old) (S.left source.new) text × AppendsPrefix (K.held sink.old) (K.held sink.new) text) }
 
     // What a refusal leaves as it was.
     ensures unread { result ≡ words_not_yet → source.new ≡ source.old }

@@ -35,7 +35,7 @@ pub fn run_text<R: Threads + Wait + Sync, B: Rack, G: Gate + Sync>(
 ) -> Result<Vec<u8>, RunStop>
     requires targets { job.now.targets ≡ 1 }
     requires script { IsInForm 1 script.now }
-    ensures reported { IfOk result (λ text. IsReported script.now text.items) }
+    ensures reported { IfOk result (λ text. IsReported job.now script.now text.items) }
     ensures refusals { IsOkUnless result RunStop.Memory }
     ensures rack { B.count rack.new ≡ B.count rack.old }
 {

@@ -1,5 +1,6 @@
 -- The attempts that a report tells of, and when they stand before one another.
 use Rattle.std.specs.Prelude.{ℕ, ◌≡◌, ◌==◌, Bool, true, false, ◌||◌, ◌&&◌, not, List, [], ◌∷◌, ◌++◌, Option, Some, None, filter, slice_get, is_some, if◌then◌else◌}
+use Rattle.std.specs.List.{list_any}
 use Rattle.daos_base.specs.declared.epoch.Epoch.{Epoch}
 use Rattle.daos_base.specs.declared.id.AttemptId.{AttemptId}
 use Rattle.daos_base.specs.declared.outcome.Cause.{Cause}
@@ -40,24 +41,10 @@ tries_of c lines = filter (is_of_client c) (tries lines)
 abbrev pub EachTry : (List Line → Attempt → Type 0) → List Line → Type 0
 EachTry P lines = (before : List Line) (a : Attempt) (after : List Line) → lines ≡ before ++ line.Try a ∷ after → P before a
 
--- a line that tells of an attempt of a client
-abbrev pub tells_of : ℕ → Line → Bool
-tells_of c (line.Try a) = a.id.client == c
-tells_of c (line.Stop number target) = false
-tells_of c (line.Restart number target incarnation floor) = false
-tells_of c (line.Freeze target cont epoch) = false
-tells_of c (line.Snapshot name cont epoch) = false
-tells_of c (line.Aggregate number target cont upto) = false
-tells_of c (line.Down target) = false
-
-abbrev pub any_tells_of : ℕ → List Line → Bool
-any_tells_of c [] = false
-any_tells_of c (l ∷ ls) = tells_of c l || any_tells_of c ls
-
 -- lines up to the last one that tells of an attempt of the client; none where there is no such line
 unfoldable pub up_to_last_of : ℕ → List Line → List Line
 up_to_last_of c [] = []
-up_to_last_of c (l ∷ ls) = if any_tells_of c (l ∷ ls) then l ∷ up_to_last_of c ls else []
+up_to_last_of c (l ∷ ls) = if list_any (is_of_client c) (tries (l ∷ ls)) then l ∷ up_to_last_of c ls else []
 
 -- the epoch, if there is one, as a list
 abbrev pub epoch_or_none : Option Epoch → List ℕ
@@ -117,7 +104,7 @@ is_unknown outcome.EpochsSpent = false
 is_unknown outcome.NoSnapshot = false
 is_unknown (outcome.Unknown target) = true
 
--- whether what became of an attempt may be known to nobody when it ends
+-- an attempt whose client may not have heard its epoch, or what became of it
 abbrev pub is_unsure : Attempt → Bool
 is_unsure a = is_unknown a.outcome || is_lost a.id a.outcome
 

@@ -1,5 +1,5 @@
 -- What an attempt that didn't take effect shows: a later access, a floor, an unresolved transaction, or what else was wanting.
-use Rattle.std.specs.Prelude.{ℕ, ◌+◌, ◌-◌, ◌*◌, ◌^◌, ◌≡◌, ◌≤◌, ◌<◌, ◌⊎◌, ◌==◌, ◌||◌, ◌&&◌, Bool, true, false, not, max, List, [], ◌∷◌, ◌++◌, Option, Some, None, Any, All, filter, find, length, map, if◌then◌else◌}
+use Rattle.std.specs.Prelude.{ℕ, ◌+◌, ◌*◌, ◌^◌, ◌≡◌, ◌≤◌, ◌<◌, ◌⊎◌, ◌==◌, ◌||◌, ◌&&◌, Bool, true, false, not, max, List, [], ◌∷◌, ◌++◌, Option, Some, None, Any, Contains, find, is_some, length, map, if◌then◌else◌}
 use Rattle.std.specs.List.{list_any}
 use Rattle.daos_base.specs.declared.epoch.Epoch.{Epoch}
 use Rattle.daos_base.specs.declared.id.AttemptId.{AttemptId}
@@ -25,9 +25,10 @@ use Rattle.daos_base.specs.Operations.{write_path}
 use Rattle.daos_base.specs.Paths.{near, overlaps}
 use Rattle.daos_base.specs.Placement.{path_members, writes_leader}
 use Rattle.daos_model.specs.Accesses.{access_paths, attempt_targets, is_asked, minor_writes, op_path}
-use Rattle.daos_model.specs.Attempts.{EachTry, has_own_epoch, is_lost, is_unknown, same_attempt, tries, tries_of, up_to_last_of}
+use Rattle.daos_model.specs.Attempts.{EachTry, has_own_epoch, is_lost, is_unknown, same_attempt, tries, up_to_last_of}
 use Rattle.daos_model.specs.Blocks.{blocks}
 use Rattle.daos_model.specs.Opening.{Given}
+use Rattle.daos_model.specs.Stops.{restart_numbers}
 use Rattle.daos_model.specs.Transactions.{attempt_ops, command_of}
 
 -- paths near which an attempt writes
@@ -71,24 +72,15 @@ pub record IsLaterWrite (s : Script) (epsilon : ℕ) (attempts : List Attempt) (
   pub writes : Any (λ w. write_path w.write ≡ path) (minor_writes 0 (attempt_ops s by))
   pub near : Any (λ p. near p path ≡ true) (access_paths (attempt_ops s a.id))
 
-abbrev pub is_stop_of : ℕ → Line → Bool
-is_stop_of t (line.Try a) = false
-is_stop_of t (line.Stop number target) = target == t
-is_stop_of t (line.Restart number target incarnation floor) = false
-is_stop_of t (line.Freeze target cont epoch) = false
-is_stop_of t (line.Snapshot name cont epoch) = false
-is_stop_of t (line.Aggregate number target cont upto) = false
-is_stop_of t (line.Down target) = false
+-- a line tells that a target stopped
+abbrev pub IsStopAt : ℕ → Line → Type 0
+IsStopAt t l = (n : ℕ) × (l ≡ line.Stop n t)
 
--- a stop of one of some targets stands among lines
-abbrev pub IsStopAmong : List ℕ → List Line → Type 0
-IsStopAmong ts lines = Any (λ t. list_any (is_stop_of t) lines ≡ true) ts
-
--- among the lines before an attempt's, a stop stands after those up to the last line of a client in some lines
-pub record IsStopSince (client : ℕ) (ts : List ℕ) (lines : List Line) (before : List Line) : Type 0 where
+-- lines go on from some that stand first, and one of these targets stops in what follows
+pub record StopsAfter (ts : List ℕ) (first : List Line) (lines : List Line) : Type 0 where
   pub since : List Line
-  pub rest : before ≡ up_to_last_of client lines ++ since
-  pub stop : IsStopAmong ts since
+  pub rest : lines ≡ first ++ since
+  pub stop : Any (λ t. Any (IsStopAt t) since) ts
 
 -- the leader of an attempt's writes
 abbrev pub leader_of_attempt : Script → AttemptId → ℕ
@@ -103,7 +95,7 @@ WasAnswered x client before = Any (λ b. b.id ≡ x) (tries (up_to_last_of clien
 pub data IsOpen (s : Script) (lines : List Line) (before : List Line) (a : Attempt) (b : Attempt) : Type 0 where
   NotAnswered : (WasAnswered b.id a.id.client before → ⊥) → IsOpen s lines before a b
   IsUnknown : is_unknown b.outcome ≡ true → IsOpen s lines before a b
-  LeaderStopped : (before_b : List Line) (after_b : List Line) → lines ≡ before_b ++ line.Try b ∷ after_b → IsStopSince b.id.client (leader_of_attempt s b.id ∷ []) before_b before → IsOpen s lines before a b
+  LeaderStopped : (before_b : List Line) (after_b : List Line) → lines ≡ before_b ++ line.Try b ∷ after_b → StopsAfter (leader_of_attempt s b.id ∷ []) (up_to_last_of b.id.client before_b) before → IsOpen s lines before a b
 
 -- another attempt that is unresolved: one below this one's epoch with a write that overlaps an access of it
 pub record IsUnresolved (s : Script) (lines : List Line) (before : List Line) (a : Attempt) (b : Attempt) : Type 0 where
@@ -117,7 +109,7 @@ pub record IsUnresolved (s : Script) (lines : List Line) (before : List Line) (a
 
 -- the attempt itself is unresolved: a target of it stopped since its client's last line
 abbrev pub IsLostAtStop : Script → List Line → Attempt → Type 0
-IsLostAtStop s before a = IsStopSince a.id.client (attempt_targets s a.id) before before
+IsLostAtStop s before a = StopsAfter (attempt_targets s a.id) (up_to_last_of a.id.client before) before
 
 -- a line that shows a floor of a target, and why it is there
 abbrev pub ShowsFloor : ℕ → Epoch → ContId → FloorWhy → Line → Type 0
@@ -142,8 +134,10 @@ pub record IsFloor (s : Script) (lines : List Line) (a : Attempt) (t : ℕ) (flo
   pub own : Epoch
   pub issued : a.epoch ≡ Some own
   pub reached : own.0 ≤ floor.0
-  pub target : Any (λ u. u ≡ t) (attempt_targets s a.id)
-  pub shown : Any (λ cont. Any (ShowsFloor t floor cont reason) lines) (containers_or_none (command_of s a.id))
+  pub target : Contains (attempt_targets s a.id) t
+  pub cont : ContId
+  pub accessed : Contains (containers_or_none (command_of s a.id)) cont
+  pub shown : Any (ShowsFloor t floor cont reason) lines
 
 -- an unresolved transaction: the attempt itself, or another one
 abbrev pub ShowsUnresolved : Script → List Line → List Line → Attempt → AttemptId → Bool → Type 0
@@ -187,6 +181,7 @@ blocks_of_others s t x (a ∷ attempts) =
 
 -- a target lacks blocks for an attempt's writes there: those that the opening left and the others can't have taken are too few
 pub record LacksBlocks (g : Given) (lines : List Line) (a : Attempt) (t : ℕ) (need : ℕ) (free : ℕ) : Type 0 where
+  pub issued : is_some a.epoch ≡ true
   pub wanting : free < need
   pub need_is : need ≡ blocks_at g.script t a.id
   pub accounted : g.opening.free t ≤ free + blocks_of_others g.script t a.id (tries lines)
@@ -205,32 +200,25 @@ other_snaps s x [] = 0
 other_snaps s x (a ∷ attempts) = (if is_snap (command_of s a.id) && not (same_attempt a.id x) then 1 else 0) + other_snaps s x attempts
 
 -- no place is left for a snapshot: those of the opening and those that others make may fill all 256
-pub record LacksPlace (g : Given) (lines : List Line) (a : Attempt) (need : ℕ) (free : ℕ) : Type 0 where
+pub record LacksPlace (g : Given) (lines : List Line) (a : Attempt) (t : ℕ) (need : ℕ) (free : ℕ) : Type 0 where
+  pub issued : is_some a.epoch ≡ true
+  pub target : Contains (attempt_targets g.script a.id) t
   pub need_is : need ≡ 1
   pub free_is : free ≡ 0
   pub full : 256 ≤ length g.opening.stand.snaps + other_snaps g.script a.id (tries lines)
 
 abbrev pub LacksSpace : Bool → Given → List Line → Attempt → ℕ → ℕ → ℕ → Type 0
-LacksSpace true g lines a t need free = LacksPlace g lines a need free
+LacksSpace true g lines a t need free = LacksPlace g lines a t need free
 LacksSpace false g lines a t need free = LacksBlocks g lines a t need free
-
-abbrev pub is_opening : Line → Bool
-is_opening (line.Try a) = false
-is_opening (line.Stop number target) = false
-is_opening (line.Restart number target incarnation floor) = true
-is_opening (line.Freeze target cont epoch) = false
-is_opening (line.Snapshot name cont epoch) = false
-is_opening (line.Aggregate number target cont upto) = false
-is_opening (line.Down target) = false
 
 -- the ticks may be spent: those of the opening, a lease for each restart and one for each attempt pass the last
 abbrev pub AreSpent : Given → List Line → Type 0
-AreSpent g lines = last_ticks < max (2 ^ 55) g.opening.lease + 65536 * length (filter is_opening lines) + length (tries lines)
+AreSpent g lines = last_ticks < max (2 ^ 55) g.opening.lease + 65536 * length (restart_numbers lines) + length (tries lines)
 
 -- a target of the attempt was given up before the attempt ended
 pub record IsGone (s : Script) (before : List Line) (a : Attempt) (t : ℕ) : Type 0 where
-  pub target : Any (λ u. u ≡ t) (attempt_targets s a.id)
-  pub down : Any (λ l. l ≡ line.Down t) before
+  pub target : Contains (attempt_targets s a.id) t
+  pub down : Contains before (line.Down t)
 
 -- what an outcome shows
 abbrev pub ShowsWhy : Given → List Line → List Line → Attempt → Outcome → Type 0

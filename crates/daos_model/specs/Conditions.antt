@@ -1,5 +1,5 @@
 -- How an attempt's answers and conditions go with its outcome.
-use Rattle.std.specs.Prelude.{ℕ, ◌+◌, ◌≡◌, Bool, true, false, not, List, [], ◌∷◌, ◌++◌, Option, Some, None, slice_get, map, take, All, if◌then◌else◌}
+use Rattle.std.specs.Prelude.{ℕ, ◌+◌, ◌≡◌, Bool, true, false, not, List, [], ◌∷◌, ◌++◌, Option, Some, None, slice_get, map, take, All, is_some, if◌then◌else◌}
 use Rattle.daos_base.specs.declared.operation.Cond.{Cond}
 use Rattle.daos_base.specs.declared.operation.Cond.TheVariants.{Free, Must, MustNot}
 use Rattle.daos_base.specs.declared.operation.Op.{Op}
@@ -29,11 +29,16 @@ op_holds_where there (Some op) = holds_where there op.cond
 abbrev pub Holds : List Op → ℕ × Bool → Type 0
 Holds ops told = op_holds_where told.1 (slice_get ops told.0) ≡ true
 
--- every condition and every read was told of, in order, and every condition holds
+-- no condition that was told of is false
+abbrev pub AllHold : List Op → Attempt → Type 0
+AllHold ops a = All (Holds ops) a.conds
+
+-- an epoch was issued; every condition and every read was told of, in order, and every condition holds
 pub record IsWhole (ops : List Op) (a : Attempt) : Type 0 where
+  pub issued : is_some a.epoch ≡ true
   pub asked : map (λ told. told.0) a.conds ≡ condition_numbers 0 ops
   pub answered : map (λ got. got.0) a.gots ≡ read_numbers 0 ops
-  pub hold : All (Holds ops) a.conds
+  pub hold : AllHold ops a
 
 -- the conditions up to this operation were told of, in order; its own is false, and all before it hold
 pub record FailsAt (ops : List Op) (op : ℕ) (a : Attempt) : Type 0 where
@@ -47,11 +52,11 @@ pub record FailsAt (ops : List Op) (op : ℕ) (a : Attempt) : Type 0 where
 abbrev pub EndsRight : List Op → Attempt → Outcome → Type 0
 EndsRight ops a outcome.Committed = IsWhole ops a
 EndsRight ops a (outcome.CondFailed op) = FailsAt ops op a
-EndsRight ops a (outcome.Restart cause) = All (Holds ops) a.conds
-EndsRight ops a (outcome.NoSpace target need free) = All (Holds ops) a.conds
-EndsRight ops a outcome.EpochsSpent = All (Holds ops) a.conds
-EndsRight ops a outcome.NoSnapshot = All (Holds ops) a.conds
-EndsRight ops a (outcome.Unknown target) = All (Holds ops) a.conds
+EndsRight ops a (outcome.Restart cause) = AllHold ops a
+EndsRight ops a (outcome.NoSpace target need free) = AllHold ops a
+EndsRight ops a outcome.EpochsSpent = AllHold ops a
+EndsRight ops a outcome.NoSnapshot = AllHold ops a
+EndsRight ops a (outcome.Unknown target) = AllHold ops a
 
 -- a committed attempt has all its answers, and its conditions hold; one that failed by a condition shows it; no other shows a
 -- condition that is false

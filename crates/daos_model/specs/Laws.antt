@@ -4,6 +4,7 @@ use Rattle.std.specs.List.Sorted.{IsStrictlyIncreasing}
 use Rattle.std.proofs.Common.{subst, sym, ◌∙◌, ap, append_assoc, arith}
 use Rattle.std.proofs.lemmas.Bool.Decides.{nat_tests}
 use Rattle.daos_base.specs.declared.id.AttemptId.{AttemptId}
+use Rattle.daos_base.specs.declared.report.Attempt.{Attempt}
 use Rattle.daos_base.specs.declared.report.Line.{Line}
 use Rattle.daos_base.specs.declared.script.Script.{Script}
 use Rattle.daos_model.specs.declared.cell.CellValue.{CellValue}
@@ -11,7 +12,8 @@ use Rattle.daos_model.specs.declared.stand.Stand.{Stand}
 use Rattle.daos_model.specs.declared.stand.Taken.{Taken}
 use Rattle.daos_model.specs.AsOf.{as_of, below, in_order, put_in, run_all, taken_epochs}
 use Rattle.daos_model.specs.Effect.{effects}
-use Rattle.daos_model.specs.TookEffect.{took, taken_by}
+use Rattle.daos_model.specs.Attempts.{tried, tries}
+use Rattle.daos_model.specs.TookEffect.{all_taken, took, taken_by}
 
 -- a transaction at or above an epoch changes nothing as of it, in whatever order the others stand
 abbrev pub LaterChangesNothing : Type 0
@@ -31,12 +33,21 @@ TookInParts =
 abbrev pub RunInParts : Type 0
 RunInParts = (before after : List Taken) (m : List CellValue) → run_all (before ++ after) m ≡ run_all after (run_all before m)
 
+-- attempts by lines are those by the lines before, then those by the lines after
+pub tries-append : (before after : List Line) → tries (before ++ after) ≡ tries before ++ tries after
+unfolding tries
+tries-append [] after = refl
+tries-append (l ∷ before) after = ap (λ ts. tried l ++ ts) (tries-append before after) ∙ sym (append_assoc (tried l) (tries before) (tries after))
+
+all_taken-append : (s : Script) (resolved : AttemptId → Bool) (before after : List Attempt) → all_taken s resolved (before ++ after) ≡ all_taken s resolved before ++ all_taken s resolved after
+all_taken-append s resolved [] after = refl
+all_taken-append s resolved (a ∷ before) after =
+    ap (λ ts. taken_by s resolved a ++ ts) (all_taken-append s resolved before after)
+    ∙ sym (append_assoc (taken_by s resolved a) (all_taken s resolved before) (all_taken s resolved after))
+
 pub took-append : TookInParts
 unfolding took
-took-append s resolved [] after = refl
-took-append s resolved (l ∷ before) after =
-    ap (λ ts. taken_by s resolved l ++ ts) (took-append s resolved before after)
-    ∙ sym (append_assoc (taken_by s resolved l) (took s resolved before) (took s resolved after))
+took-append s resolved before after = ap (all_taken s resolved) (tries-append before after) ∙ all_taken-append s resolved (tries before) (tries after)
 
 pub run_all-append : RunInParts
 run_all-append [] after m = refl

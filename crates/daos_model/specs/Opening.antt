@@ -1,5 +1,5 @@
 -- What a run begins with.
-use Rattle.std.specs.Prelude.{ℕ, ◌==◌, Bool, ◌&&◌, List, [], ◌∷◌, Option, Some, None, if◌then◌else◌}
+use Rattle.std.specs.Prelude.{ℕ, ◌-◌, ◌*◌, ◌==◌, Bool, true, false, ◌&&◌, List, [], ◌∷◌, Option, Some, None, if◌then◌else◌}
 use Rattle.daos_base.specs.declared.id.ContId.{ContId}
 use Rattle.daos_base.specs.declared.job.Job.{Job}
 use Rattle.daos_base.specs.declared.script.Script.{Script}
@@ -7,6 +7,7 @@ use Rattle.daos_base.specs.Epochs.{restart_floor}
 use Rattle.daos_model.specs.declared.cell.CellValue.{CellValue}
 use Rattle.daos_model.specs.declared.stand.SnapMap.{SnapMap}
 use Rattle.daos_model.specs.declared.stand.Stand.{Stand}
+use Rattle.daos_model.specs.AsOf.{empty_stand}
 
 -- what the regions stand for when a run begins, the greatest of their leases, and how many blocks are free on each target
 pub record Opening : Type 0 where
@@ -24,13 +25,26 @@ pub record Given : Type 0 where
   pub job : Job
   pub opening : Opening
 
--- what the outside did to the targets' regions in a run: how often it failed each, where that can be told, and whether
--- a target read foreign bytes when it opened again
+-- regions of zeros, each of so many MiB: they stand for nothing, and all blocks but those of the layout's own are free
+abbrev pub fresh_opening : ℕ → Opening
+fresh_opening size = record { stand = empty_stand; lease = 0; free = λ t. size * 4096 - 1264 }
+
+-- a run over regions of zeros
+abbrev pub fresh : Script → Job → Given
+fresh s j = record { script = s; job = j; opening = fresh_opening j.size_mib }
+
+-- what the outside did to the targets' regions in a run: how often it failed each (none where that count stands at its end),
+-- whether a target read foreign bytes when it opened again, and whether the region kept what was written
 pub record Outside : Type 0 where
   pub rises : ℕ → Option ℕ
   pub foreign : ℕ → Bool
+  pub keeps : ℕ → Bool
 
 -- the map that is kept of a created snapshot, if there is one
 abbrev pub kept_map : ContId → ℕ → List SnapMap → Option (List CellValue)
 kept_map c e [] = None
 kept_map c e (k ∷ ks) = if (k.cont.0 == c.0) && (k.epoch.0 == e) then Some k.map else kept_map c e ks
+
+-- the outside failed no region
+abbrev pub undisturbed : Outside
+undisturbed = record { rises = λ t. Some 0; foreign = λ t. false; keeps = λ t. true }

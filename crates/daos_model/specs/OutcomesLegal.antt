@@ -1,4 +1,5 @@
--- Which attempts a report has, under which epochs, how they end, and which lines stand beside them.
+-- Which attempts a report has, under which epochs, how they end, and which lines tell of snapshots, aggregations, stops and
+-- restarts.
 use Rattle.std.specs.Prelude.{◌≡◌, All}
 use Rattle.daos_base.specs.declared.report.Report.{Report}
 use Rattle.daos_model.specs.Attempts.{tries}
@@ -15,4 +16,4 @@ pub record OutcomesLegal (g : Given) (o : Outside) (q : Report) : Type 0 where
   pub rising : AllRise g.script q.lines
   pub conditions : All (ConditionsLegal g.script) (tries q.lines)
   pub snapshots : SnapshotsLegal g.script g.opening.stand q.lines
-  pub stops : StopsLegal g.script o q
+  pub stops : StopsLegal g.script g.job.threads o q

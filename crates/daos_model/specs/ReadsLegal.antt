@@ -1,5 +1,5 @@
 -- Every answer that a report tells is what the transactions that took effect give.
-use Rattle.std.specs.Prelude.{ℕ, ◌≡◌, ◌==◌, Bool, List, [], ◌∷◌, Option, Some, None, All, find, slice_get}
+use Rattle.std.specs.Prelude.{ℕ, ◌≡◌, Bool, true, List, [], ◌∷◌, Option, Some, None, All, find, slice_get}
 use Rattle.daos_base.specs.declared.answer.Answer.{Answer}
 use Rattle.daos_base.specs.declared.epoch.Epoch.{Epoch}
 use Rattle.daos_base.specs.declared.operation.Op.{Op}
@@ -13,7 +13,7 @@ use Rattle.daos_base.specs.Keys.{same_key}
 use Rattle.daos_model.specs.declared.cell.CellValue.{CellValue}
 use Rattle.daos_model.specs.declared.stand.Taken.{Taken}
 use Rattle.daos_model.specs.declared.stand.Stand.{Stand}
-use Rattle.daos_model.specs.Accesses.{op_path}
+use Rattle.daos_model.specs.Accesses.{is_condition, op_path}
 use Rattle.daos_model.specs.Answers.{answer, has_cell_below}
 use Rattle.daos_model.specs.AsOf.{as_of}
 use Rattle.daos_model.specs.Attempts.{snapshot_of, tries}
@@ -24,9 +24,9 @@ use Rattle.daos_model.specs.Transactions.{attempt_ops, read_at}
 abbrev pub IsRightAnswer : List Op → List CellValue → ℕ × Answer → Type 0
 IsRightAnswer ops m got = (r : Read) × (read_at ops got.0 ≡ Some r) × (got.1 ≡ answer r m)
 
--- the condition of the operation of this number was told whether a cell stands under the operation's path
+-- the operation of this number has a condition, and this tells whether a cell stands under its path
 abbrev pub IsRightCondition : List Op → List CellValue → ℕ × Bool → Type 0
-IsRightCondition ops m told = (op : Op) × (slice_get ops told.0 ≡ Some op) × (told.1 ≡ has_cell_below (op_path op) m)
+IsRightCondition ops m told = (op : Op) × (slice_get ops told.0 ≡ Some op) × (is_condition op.cond ≡ true) × (told.1 ≡ has_cell_below (op_path op) m)
 
 -- what an attempt was told is right on a map; where there is no map it was told nothing
 abbrev pub IsToldRight : List Op → Option (List CellValue) → Attempt → Type 0

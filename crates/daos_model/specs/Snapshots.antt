@@ -1,5 +1,5 @@
 -- How snapshots and aggregations go with the lines that tell of them.
-use Rattle.std.specs.Prelude.{ℕ, ◌≡◌, ◌≤◌, ◌↔◌, Bool, true, List, [], ◌∷◌, Option, Some, None, Any, All, find, is_some}
+use Rattle.std.specs.Prelude.{ℕ, ◌≡◌, ◌≤◌, ◌↔◌, Bool, true, List, [], ◌∷◌, Option, Some, None, Any, Contains, All, find, is_some}
 use Rattle.daos_base.specs.declared.epoch.Epoch.{Epoch}
 use Rattle.daos_base.specs.declared.id.ContId.{ContId}
 use Rattle.daos_base.specs.declared.outcome.Outcome.TheVariants as outcome
@@ -17,13 +17,13 @@ use Rattle.daos_model.specs.ReadsLegal.{is_named}
 use Rattle.daos_model.specs.Transactions.{command_of}
 
 -- an attempt makes the snapshot of this name of a container, at this epoch
-pub record Snaps (s : Script) (name : List ℕ) (cont : ContId) (epoch : Epoch) (a : Attempt) : Type 0 where
+pub record MakesSnapshot (s : Script) (name : List ℕ) (cont : ContId) (epoch : Epoch) (a : Attempt) : Type 0 where
   pub command : command_of s a.id ≡ Some (Snap name cont)
   pub issued : a.epoch ≡ Some epoch
 
 -- an attempt makes a snapshot of a container, at this epoch
-abbrev pub SnapsAt : Script → ContId → Epoch → Attempt → Type 0
-SnapsAt s cont epoch a = (name : List ℕ) × Snaps s name cont epoch a
+abbrev pub MakesSnapshotAt : Script → ContId → Epoch → Attempt → Type 0
+MakesSnapshotAt s cont epoch a = (name : List ℕ) × MakesSnapshot s name cont epoch a
 
 -- an attempt aggregates a container, up to this epoch or further
 pub record Aggregates (s : Script) (cont : ContId) (upto : Epoch) (a : Attempt) : Type 0 where
@@ -37,20 +37,20 @@ abbrev pub ComesFrom : Script → List Attempt → Line → Type 0
 ComesFrom s attempts (line.Try a) = Unit {0}
 ComesFrom s attempts (line.Stop number target) = Unit {0}
 ComesFrom s attempts (line.Restart number target incarnation floor) = Unit {0}
-ComesFrom s attempts (line.Freeze target cont epoch) = Any (SnapsAt s cont epoch) attempts
-ComesFrom s attempts (line.Snapshot name cont epoch) = Any (Snaps s name cont epoch) attempts
+ComesFrom s attempts (line.Freeze target cont epoch) = Any (MakesSnapshotAt s cont epoch) attempts
+ComesFrom s attempts (line.Snapshot name cont epoch) = Any (MakesSnapshot s name cont epoch) attempts
 ComesFrom s attempts (line.Aggregate number target cont upto) = Any (Aggregates s cont upto) attempts
 ComesFrom s attempts (line.Down target) = Unit {0}
 
 -- a committed snapshot has its line before it
 abbrev pub HasSnapshotLine : Script → List Line → Attempt → Type 0
 HasSnapshotLine s before a =
-    (name : List ℕ) (cont : ContId) (epoch : Epoch) → Snaps s name cont epoch a → a.outcome ≡ outcome.Committed → Any (λ l. l ≡ line.Snapshot name cont epoch) before
+    (name : List ℕ) (cont : ContId) (epoch : Epoch) → MakesSnapshot s name cont epoch a → a.outcome ≡ outcome.Committed → Contains before (line.Snapshot name cont epoch)
 
 -- an attempt made the snapshot of this name, at this epoch
 pub record Made (s : Script) (name : List ℕ) (epoch : Epoch) (a : Attempt) : Type 0 where
   pub cont : ContId
-  pub snaps : Snaps s name cont epoch a
+  pub snaps : MakesSnapshot s name cont epoch a
   pub committed : a.outcome ≡ outcome.Committed
 
 -- a name stands for a snapshot that was created at this epoch: one that an earlier run created and the regions keep, or one that

@@ -1,5 +1,6 @@
 -- How stops, restarts and the giving up of targets go with one another.
-use Rattle.std.specs.Prelude.{ℕ, ◌+◌, ◌≡◌, ◌≤◌, ◌==◌, Bool, true, false, List, [], ◌∷◌, ◌++◌, Option, Some, None, Any, All, length, filter, min, if◌then◌else◌, ◌⊎◌}
+use Rattle.std.specs.Prelude.{ℕ, ◌+◌, ◌≡◌, ◌≤◌, ◌<◌, nat_eq, ◌==◌, Bool, true, false, List, [], ◌∷◌, ◌++◌, Option, Some, None, Contains, All, length, filter, min, if◌then◌else◌, ◌⊎◌}
+use Rattle.std.specs.List.{IsDistinct}
 use Rattle.std.specs.List.Sorted.{IsNonDecreasing, IsStrictlyIncreasing}
 use Rattle.daos_base.specs.declared.report.Line.{Line}
 use Rattle.daos_base.specs.declared.report.Line.TheVariants as line
@@ -8,18 +9,34 @@ use Rattle.daos_base.specs.declared.script.Script.{Script}
 use Rattle.daos_base.specs.declared.script.StopDecl.{StopDecl}
 use Rattle.daos_model.specs.Opening.{Outside}
 
--- the lines of a target, in their order
-abbrev pub is_at : ℕ → Line → Bool
-is_at t (line.Try a) = false
-is_at t (line.Stop number target) = target == t
-is_at t (line.Restart number target incarnation floor) = target == t
-is_at t (line.Freeze target cont epoch) = target == t
-is_at t (line.Snapshot name cont epoch) = false
-is_at t (line.Aggregate number target cont upto) = target == t
-is_at t (line.Down target) = target == t
+-- the target that a line tells of
+abbrev pub target_of : Line → Option ℕ
+target_of (line.Try a) = None
+target_of (line.Stop number target) = Some target
+target_of (line.Restart number target incarnation floor) = Some target
+target_of (line.Freeze target cont epoch) = Some target
+target_of (line.Snapshot name cont epoch) = None
+target_of (line.Aggregate number target cont upto) = Some target
+target_of (line.Down target) = Some target
 
+abbrev pub is_number : ℕ → Option ℕ → Bool
+is_number n None = false
+is_number n (Some m) = m == n
+
+abbrev pub is_at : ℕ → Line → Bool
+is_at t l = is_number t (target_of l)
+
+-- the lines of a target, in their order
 abbrev pub lines_at : ℕ → List Line → List Line
 lines_at t lines = filter (is_at t) lines
+
+abbrev pub IsBelowSome : ℕ → Option ℕ → Type 0
+IsBelowSome n None = Unit {0}
+IsBelowSome n (Some m) = m < n
+
+-- a line tells of one of so many targets, or of none
+abbrev pub HasTarget : ℕ → Line → Type 0
+HasTarget targets l = IsBelowSome targets (target_of l)
 
 -- whether a target runs, is stopped, or is given up
 pub data Standing : Type 0 where
@@ -64,6 +81,34 @@ stopped_number (line.Down target) = []
 abbrev pub stop_numbers : List Line → List ℕ
 stop_numbers [] = []
 stop_numbers (l ∷ ls) = stopped_number l ++ stop_numbers ls
+
+abbrev pub restarted_number : Line → List ℕ
+restarted_number (line.Try a) = []
+restarted_number (line.Stop number target) = []
+restarted_number (line.Restart number target incarnation floor) = number ∷ []
+restarted_number (line.Freeze target cont epoch) = []
+restarted_number (line.Snapshot name cont epoch) = []
+restarted_number (line.Aggregate number target cont upto) = []
+restarted_number (line.Down target) = []
+
+-- the numbers of the restarts
+abbrev pub restart_numbers : List Line → List ℕ
+restart_numbers [] = []
+restart_numbers (l ∷ ls) = restarted_number l ++ restart_numbers ls
+
+abbrev pub aggregated_number : Line → List ℕ
+aggregated_number (line.Try a) = []
+aggregated_number (line.Stop number target) = []
+aggregated_number (line.Restart number target incarnation floor) = []
+aggregated_number (line.Freeze target cont epoch) = []
+aggregated_number (line.Snapshot name cont epoch) = []
+aggregated_number (line.Aggregate number target cont upto) = number ∷ []
+aggregated_number (line.Down target) = []
+
+-- the numbers of the aggregations
+abbrev pub aggregate_numbers : List Line → List ℕ
+aggregate_numbers [] = []
+aggregate_numbers (l ∷ ls) = aggregated_number l ++ aggregate_numbers ls
 
 abbrev pub opened_incarnation : Line → List ℕ
 opened_incarnation (line.Try a) = []
@@ -123,10 +168,11 @@ abbrev pub AtMostWith : ℕ → ℕ → Option ℕ → Type 0
 AtMostWith n m None = Unit {0}
 AtMostWith n m (Some k) = n ≤ m + k
 
--- a target is given up where the outside failed it nine times or more, or where it read foreign bytes
-abbrev pub IsGivenUpBy : Option ℕ → Bool → Type 0
-IsGivenUpBy None foreign = Unit {0}
-IsGivenUpBy (Some k) foreign = (9 ≤ k) ⊎ (foreign ≡ true)
+-- a target is given up where the outside failed it nine times or more, or where it read foreign bytes of a region that didn't keep
+-- what was written
+abbrev pub IsGivenUpBy : Option ℕ → Bool → Bool → Type 0
+IsGivenUpBy None foreign keeps = Unit {0}
+IsGivenUpBy (Some k) foreign keeps = (9 ≤ k) ⊎ ((foreign ≡ true) × (keeps ≡ false))
 
 -- of one target: no line comes at a wrong time, and it ends running or given up; incarnations rise, floors don't fall; stops and
 -- giving up have their causes
@@ -135,14 +181,22 @@ pub record StopsLegalAt (s : Script) (o : Outside) (lines : List Line) (t : ℕ)
   pub rising : IsStrictlyIncreasing (incarnations (lines_at t lines))
   pub kept : IsNonDecreasing (floors (lines_at t lines))
   pub caused : AtMostWith (length (stop_numbers (lines_at t lines))) (length (filter (is_stop_at t) s.stops)) (o.rises t)
-  pub down : Any (λ d. d ≡ t) (down_targets lines) → IsGivenUpBy (o.rises t) (o.foreign t)
+  pub down : Contains (down_targets lines) t → IsGivenUpBy (o.rises t) (o.foreign t) (o.keeps t)
 
 -- the numbers from n on, one after another
 abbrev pub AreCounted : ℕ → List ℕ → Type 0
 AreCounted n [] = Unit {0}
 AreCounted n (m ∷ ms) = (m ≡ n) × AreCounted (n + 1) ms
 
-pub record StopsLegal (s : Script) (o : Outside) (q : Report) : Type 0 where
-  pub counted : AreCounted 0 (stop_numbers q.lines)
+-- restarts and aggregations have numbers of their own; where turns are taken in a stated order these are counted by the lines
+pub record AreNumbered (threads : Bool) (numbers : List ℕ) : Type 0 where
+  pub distinct : IsDistinct nat_eq numbers
+  pub counted : threads ≡ false → AreCounted 0 numbers
+
+pub record StopsLegal (s : Script) (threads : Bool) (o : Outside) (q : Report) : Type 0 where
+  pub bounded : All (HasTarget s.targets) q.lines
+  pub stops : AreCounted 0 (stop_numbers q.lines)
+  pub restarts : AreNumbered threads (restart_numbers q.lines)
+  pub aggregations : AreNumbered threads (aggregate_numbers q.lines)
   pub targets : (t : ℕ) → StopsLegalAt s o q.lines t
   pub down : q.down ≡ least (down_targets q.lines)

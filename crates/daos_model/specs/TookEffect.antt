@@ -7,9 +7,9 @@ use Rattle.daos_base.specs.declared.outcome.Outcome.{Outcome}
 use Rattle.daos_base.specs.declared.outcome.Outcome.TheVariants as outcome
 use Rattle.daos_base.specs.declared.report.Attempt.{Attempt}
 use Rattle.daos_base.specs.declared.report.Line.{Line}
-use Rattle.daos_base.specs.declared.report.Line.TheVariants as line
 use Rattle.daos_base.specs.declared.script.Script.{Script}
 use Rattle.daos_model.specs.declared.stand.Taken.{Taken}
+use Rattle.daos_model.specs.Attempts.{tries}
 use Rattle.daos_model.specs.Transactions.{attempt_ops, writes_of}
 
 -- whether an attempt took effect: one that is reported committed did, one that is reported unknown where it is found resolved
@@ -22,25 +22,21 @@ took_effect resolved outcome.EpochsSpent = false
 took_effect resolved outcome.NoSnapshot = false
 took_effect resolved (outcome.Unknown target) = resolved
 
--- writes at an epoch
+-- a transaction of writes at an epoch; without a write there is none
 abbrev pub taken_at : Option Epoch → List Write → List Taken
 taken_at None ws = []
-taken_at (Some e) ws = record { epoch = e; writes = ws } ∷ []
+taken_at (Some e) [] = []
+taken_at (Some e) (w ∷ ws) = record { epoch = e; writes = w ∷ ws } ∷ []
 
 -- the writes of an attempt that took effect, at its epoch
-abbrev pub taken_of : Script → (AttemptId → Bool) → Attempt → List Taken
-taken_of s resolved a = if took_effect (resolved a.id) a.outcome then taken_at a.epoch (writes_of (attempt_ops s a.id)) else []
+abbrev pub taken_by : Script → (AttemptId → Bool) → Attempt → List Taken
+taken_by s resolved a = if took_effect (resolved a.id) a.outcome then taken_at a.epoch (writes_of (attempt_ops s a.id)) else []
 
-abbrev pub taken_by : Script → (AttemptId → Bool) → Line → List Taken
-taken_by s resolved (line.Try a) = taken_of s resolved a
-taken_by s resolved (line.Stop number target) = []
-taken_by s resolved (line.Restart number target incarnation floor) = []
-taken_by s resolved (line.Freeze target cont epoch) = []
-taken_by s resolved (line.Snapshot name cont epoch) = []
-taken_by s resolved (line.Aggregate number target cont upto) = []
-taken_by s resolved (line.Down target) = []
+-- the transactions of attempts that took effect, in the order of the attempts
+abbrev pub all_taken : Script → (AttemptId → Bool) → List Attempt → List Taken
+all_taken s resolved [] = []
+all_taken s resolved (a ∷ attempts) = taken_by s resolved a ++ all_taken s resolved attempts
 
--- the transactions that took effect, in the order of the lines, where it is known which attempts the regions hold resolved
+-- the transactions that took effect by the lines of a report, where it is known which attempts the regions hold resolved
 unfoldable pub took : Script → (AttemptId → Bool) → List Line → List Taken
-took s resolved [] = []
-took s resolved (l ∷ ls) = taken_by s resolved l ++ took s resolved ls
+took s resolved lines = all_taken s resolved (tries lines)

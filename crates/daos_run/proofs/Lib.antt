@@ -3,3 +3,4 @@ pub mod Answers
 pub mod Epochs
 pub mod SoFar
 pub mod Steps
+mod Whole

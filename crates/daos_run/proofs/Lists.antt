@@ -2,7 +2,7 @@
 use Rattle.std.proofs.Common.{◌≡◌, ℕ, zero, suc, ◌<◌, ◌≤◌, List, [], ◌∷◌, ◌++◌, length, subst, add-one, arith}
 use Rattle.std.specs.List.{AllByRecursion}
 use Rattle.std.specs.List.Sorted.{IsStrictlyIncreasing}
-use Rattle.daos_model.specs.OutcomesLegal.{EachAt}
+use Rattle.daos_run.specs.Lone.{EachAt}
 
 pub EachAt-nil : {X : Type 0} (P : ℕ → X → Type 0) → EachAt P []
 EachAt-nil P k x e = let no : ⊥ = cc in absurd no

@@ -14,7 +14,7 @@ use Rattle.daos_base.specs.declared.operation.Act.TheVariants.{Fetch, Change}
 use Rattle.daos_base.specs.declared.operation.Write.TheVariants as write
 use Rattle.daos_run.specs.Acts.{AllCanBeDone, CanBeDone}
 use Rattle.daos_model.specs.Transactions.{attempt_ops, command_of, numbered, numbered_at, ops_of, ops_or_none}
-use Rattle.daos_model.specs.OutcomesLegal.{first_list, lone_commands}
+use Rattle.daos_run.specs.Lone.{first_list, lone_commands}
 
 all_numbered : (objs : List ObjDecl) (list : List Command) → AllByRecursion (λ c. IsPutOrGet objs c) list → numbered list ≡ list
 all_numbered objs [] all = refl
@@ -55,11 +55,15 @@ first_numbered : (lists : List (List Command)) (k : ℕ) → numbered_at k (slic
 first_numbered [] k = refl
 first_numbered (list ∷ lists) k = refl
 
+-- the command of an attempt
+pub command_of-is : (n : ℕ) (s : Script) (k : ℕ) (c : Command) → IsInForm n s → k < length (first_list s.clients) → c ≡ get_or (first_list s.clients) k c → command_of s (record { client = 0; command = k; attempt = 0 }) ≡ Some c
+unfolding command_of
+command_of-is n s k c form lt e =
+    first_numbered s.clients k ∙ ap (λ cs. slice_get cs k) (lone-is n s form) ∙ slice_get-get_or (first_list s.clients) k c lt ∙ ap (λ x. Some x) (sym e)
+
 -- the operations of an attempt are those of its command
 pub attempt_ops-is : (n : ℕ) (s : Script) (k : ℕ) (c : Command) → IsInForm n s → k < length (first_list s.clients) → c ≡ get_or (first_list s.clients) k c → attempt_ops s (record { client = 0; command = k; attempt = 0 }) ≡ ops_of c
-unfolding command_of
-attempt_ops-is n s k c form lt e =
-    ap ops_or_none (first_numbered s.clients k ∙ ap (λ cs. slice_get cs k) (lone-is n s form) ∙ slice_get-get_or (first_list s.clients) k c lt ∙ ap (λ x. Some x) (sym e))
+attempt_ops-is n s k c form lt e = ap ops_or_none (command_of-is n s k c form lt e)
 
 single_act : (objs : List ObjDecl) (act : Act) → IsSingleAct objs act → CanBeDone act
 single_act objs (Fetch r) h = tt
@@ -84,12 +88,14 @@ can_be_done_at n s k c form lt e = can_be_done s.objs c (subst (λ x. IsPutOrGet
 -- the command of a number below their count, which puts or gets, has the operations of its attempt
 pub record IsCommandAt (s : Script) (k : ℕ) (c : Command) : Type 0 where
   pub puts_or_gets : IsPutOrGet s.objs c
+  pub command : command_of s (record { client = 0; command = k; attempt = 0 }) ≡ Some c
   pub ops : attempt_ops s (record { client = 0; command = k; attempt = 0 }) ≡ ops_of c
 
 pub command_at : (n : ℕ) (s : Script) (k : ℕ) (d : Command) → IsInForm n s → k < length (first_list s.clients) → IsCommandAt s k (get_or (first_list s.clients) k d)
 command_at n s k d form lt =
     let c = get_or (first_list s.clients) k d in
-    record { puts_or_gets = first_puts n s form k d lt; ops = attempt_ops-is n s k c form lt (get_or-again (first_list s.clients) k d lt) }
+    let again = get_or-again (first_list s.clients) k d lt in
+    record { puts_or_gets = first_puts n s form k d lt; command = command_of-is n s k c form lt again; ops = attempt_ops-is n s k c form lt again }
   where
     get_or-again : (xs : List Command) (k : ℕ) (d : Command) → k < length xs → get_or xs k d ≡ get_or xs k (get_or xs k d)
     get_or-again [] k d lt = absurd (omega arith)

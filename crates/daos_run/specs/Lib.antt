@@ -1,3 +1,4 @@
+pub mod Lone
 pub mod Issue
 pub mod Told
 pub mod Runs

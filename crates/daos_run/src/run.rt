@@ -1,11 +1,10 @@
 // Runs the commands of a script's client, and reports them.
-ghost use Rattle.std.specs.Prelude.{◌≡◌, length, IfOk, IsOkUnless, slice_get};
+ghost use Rattle.std.specs.Prelude.{◌≡◌, length, None, IfOk, IsOkUnless, slice_get};
 ghost use Rattle.daos_base.specs.Scripts.{IsInForm};
-ghost use Rattle.daos_model.specs.AsOf.{empty_stand};
 ghost use Rattle.daos_model.specs.Headline.{Headline};
-ghost use Rattle.daos_model.specs.OutcomesLegal.{epochs_of, first_list};
+ghost use Rattle.daos_model.specs.Opening.{fresh, undisturbed};
 ghost use Rattle.daos_model.specs.Transactions.{ops_of};
-ghost use Rattle.daos_run.specs.Issue.{AreIssued};
+ghost use Rattle.daos_run.specs.Lone.{first_list, no_one};
 ghost use Rattle.daos_run.specs.Runs.{IsRunOf};
 
 use crate::attempt::run_attempt;
@@ -88,8 +87,9 @@ pub fn run_script<R: Threads + Wait + Sync, B: Rack, G: Gate + Sync>(
 ) -> Result<Report, RunStop>
     requires targets { job.now.targets ≡ 1 }
     requires script { IsInForm job.now.targets script.now }
-    ensures headline { IfOk result (λ report. Headline script.now empty_stand report) }
-    ensures issued { IfOk result (λ report. AreIssued 0 255 (epochs_of report.lines)) }
+    ensures headline { IfOk result (λ report. Headline (fresh script.now job.now) undisturbed no_one report) }
+    ensures lone { IfOk result (λ report. IsRunOf script.now report.lines) }
+    ensures down { IfOk result (λ report. report.down ≡ None) }
     ensures refusals { IsOkUnless result RunStop.Memory }
     ensures rack { B.count rack.new ≡ B.count rack.old }
 {
