@@ -3,3 +3,5 @@ pub mod Lookups
 pub mod TurnSteps
 pub mod NameOrder
 pub mod PieceSteps
+pub mod Tests
+pub mod InForm

@@ -11,3 +11,10 @@ pub mod Laws
 pub mod Turns
 pub mod Pieces
 pub mod Sameness
+pub mod Forms
+pub mod Ordered
+pub mod Durables
+pub mod Versions
+pub mod Prunes
+pub mod Changes
+pub mod Blocks
