@@ -18,3 +18,4 @@ pub mod Versions
 pub mod Prunes
 pub mod Changes
 pub mod Blocks
+pub mod Kinds
