@@ -10,7 +10,7 @@ use Rattle.daos_base.specs.declared.path.Path.{Path}
 use Rattle.daos_model.specs.Blocks.{sum_of_blocks, write_blocks}
 use Rattle.daos_model.specs.Effect.{EndsInArray}
 use Rattle.daos_model.specs.Forms.{ends_at_akey, is_length, is_write_in_form}
-use Rattle.daos_model.proofs.Tests.{and_left, and_right}
+use Rattle.daos_model.specs.BoolLaws.{and_left, and_right}
 
 length_within : (n : ℕ) → is_length n ≡ true → n ≤ 1024
 length_within n h = let e : nat_le n 1024 ≡ true = and_right (nat_le 1 n) (nat_le n 1024) h in grind (arith, nat_tests)

@@ -19,3 +19,6 @@ pub mod Prunes
 pub mod Changes
 pub mod Blocks
 pub mod Kinds
+pub mod BoolLaws
+pub mod OrderLaws
+pub mod FormLaws
