@@ -3,3 +3,4 @@ pub mod Lookups
 pub mod TurnSteps
 pub mod NameOrder
 pub mod PieceSteps
+pub mod InForm

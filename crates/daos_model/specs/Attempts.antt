@@ -13,6 +13,7 @@ use Rattle.daos_base.specs.declared.report.Line.TheVariants as line
 use Rattle.daos_base.specs.declared.script.Command.{Command}
 use Rattle.daos_base.specs.declared.script.Command.TheVariants.{Run, Snap, Aggregate, Tell, Skip}
 use Rattle.daos_base.specs.declared.script.Script.{Script}
+use Rattle.daos_model.specs.Durables.{same_attempt}
 use Rattle.daos_model.specs.Transactions.{command_of}
 
 -- the attempt that a line tells of
@@ -75,9 +76,6 @@ has_own_epoch s a = not (is_some (snapshot_of s a.id))
 unfoldable pub own_epochs : Script → List Attempt → List ℕ
 own_epochs s [] = []
 own_epochs s (a ∷ tries) = (if has_own_epoch s a then epoch_or_none a.epoch else []) ++ own_epochs s tries
-
-abbrev pub same_attempt : AttemptId → AttemptId → Bool
-same_attempt x y = (x.client == y.client) && (x.command == y.command) && (x.attempt == y.attempt)
 
 abbrev pub is_unresolved_by : AttemptId → Cause → Bool
 is_unresolved_by x (cause.ReadLater by epoch path) = false

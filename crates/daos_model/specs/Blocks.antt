@@ -1,11 +1,11 @@
--- How many blocks a transaction's writes may take on a target.
-use Rattle.std.specs.Prelude.{ℕ, ◌+◌, List, [], ◌∷◌, length, map, sum}
+-- How many blocks of a region writes take at most.
+use Rattle.std.specs.Prelude.{ℕ, ◌+◌, List, [], ◌∷◌, length}
 use Rattle.std.specs.Int.{div_ceil}
 use Rattle.daos_base.specs.declared.operation.MinorWrite.{MinorWrite}
 use Rattle.daos_base.specs.declared.operation.Write.{Write}
 use Rattle.daos_base.specs.declared.operation.Write.TheVariants.{Single, Extent, PunchObject, PunchDkey, PunchAkey}
 
--- an update takes eight blocks and those of its bytes, 248 a block; a punch takes five
+-- an update takes 8 blocks, and one for each 248 bytes begun; a punch takes 5
 abbrev pub write_blocks : Write → ℕ
 write_blocks (Single p bytes) = 8 + div_ceil (length bytes) 248
 write_blocks (Extent p low bytes) = 8 + div_ceil (length bytes) 248
@@ -13,10 +13,10 @@ write_blocks (PunchObject p) = 5
 write_blocks (PunchDkey p) = 5
 write_blocks (PunchAkey p) = 5
 
-abbrev pub all_blocks : List MinorWrite → ℕ
-all_blocks [] = 0
-all_blocks (w ∷ ws) = write_blocks w.write + all_blocks ws
+abbrev pub sum_of_blocks : List MinorWrite → ℕ
+sum_of_blocks [] = 0
+sum_of_blocks (w ∷ ws) = write_blocks w.write + sum_of_blocks ws
 
--- the blocks of a transaction: two of its own, and those of each write
+-- an entry takes 2 blocks, and its writes theirs
 unfoldable pub blocks : List MinorWrite → ℕ
-blocks ws = 2 + all_blocks ws
+blocks ws = 2 + sum_of_blocks ws

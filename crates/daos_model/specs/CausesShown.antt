@@ -25,8 +25,9 @@ use Rattle.daos_base.specs.Operations.{write_path}
 use Rattle.daos_base.specs.Paths.{near, overlaps}
 use Rattle.daos_base.specs.Placement.{path_members, writes_leader}
 use Rattle.daos_model.specs.Accesses.{access_paths, attempt_targets, is_asked, minor_writes, op_path}
-use Rattle.daos_model.specs.Attempts.{EachTry, has_own_epoch, is_lost, is_unknown, same_attempt, tries, up_to_last_of}
+use Rattle.daos_model.specs.Attempts.{EachTry, has_own_epoch, is_lost, is_unknown, tries, up_to_last_of}
 use Rattle.daos_model.specs.Blocks.{blocks}
+use Rattle.daos_model.specs.Durables.{same_attempt}
 use Rattle.daos_model.specs.Opening.{Given}
 use Rattle.daos_model.specs.Stops.{restart_numbers}
 use Rattle.daos_model.specs.Transactions.{attempt_ops, command_of}

@@ -3,7 +3,9 @@
 
 pub mod answers;
 pub mod as_of;
+pub mod blocks;
 pub mod cell;
+pub mod durable;
 pub mod effect;
 pub mod laws;
 pub mod map;

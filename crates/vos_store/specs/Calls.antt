@@ -1,0 +1,103 @@
+-- What every call of a store says: when it answers Stopped, what then stands, and what stays.
+use Rattle.std.specs.Prelude.{◌≡◌, ℕ, ◌+◌, ◌≤◌, ◌⊎◌, Bool, true, false, filter, length, Option, Some, Result, OnOk, OnErr, is_some, is_err, List}
+use Rattle.std.specs.Option.{option_map}
+use Rattle.daos_base.specs.declared.epoch.Epoch.{Epoch}
+use Rattle.daos_base.specs.declared.id.ContId.{ContId}
+use Rattle.daos_base.specs.declared.outcome.FloorWhy.{FloorWhy}
+use Rattle.daos_model.specs.declared.durable.Durable.{Durable}
+use Rattle.daos_model.specs.declared.durable.Version.{Version}
+use Rattle.daos_model.specs.Changes.{is_in_range, marked, reopened, with_versions}
+use Rattle.daos_model.specs.Prunes.{Partly, is_going}
+use Rattle.daos_outside.specs.Causes.{Rose}
+use Rattle.vos_store.specs.declared.refusal.ReopenNo.{ReopenNo}
+use Rattle.vos_store.specs.Refusals.{refuses, reopen_stop, says}
+
+-- What a store says of itself, whether or not it tells what it keeps: whether it is stopped, how often the outside and
+-- a fuse failed it, whether a fuse is set, its free blocks, the number of targets that it was made for, and the floor
+-- of its last opening with the reason.
+pub record State : Type 0 where
+  pub stopped : Bool
+  pub faults : ℕ
+  pub burns : ℕ
+  pub fused : Bool
+  pub free : ℕ
+  pub targets : ℕ
+  pub opening : Epoch × FloorWhy
+
+-- the outside failed it, or a fuse did
+abbrev pub Ailed : State → State → Type 0
+Ailed h k = Rose h.faults k.faults ⊎ Rose h.burns k.burns
+
+-- no fuse fired and none was set or taken away; or one was set, which fired and is gone
+abbrev pub Fires : State → State → Type 0
+Fires h k = ((k.burns ≡ h.burns) × (k.fused ≡ h.fused)) ⊎ ((h.fused ≡ true) × (k.fused ≡ false))
+
+-- A call that may answer Stopped: it does so where the store was stopped, and else only where a count rose; and then
+-- the store is stopped. How it was made and opened stays. It costs so many free blocks at most, and a call that is
+-- refused costs and gives none.
+pub record Turns {T E : Type 0} (cost : ℕ) (stop : E → Bool) (result : Result T E) (h k : State) : Type 0 where
+  pub faults : h.faults ≤ k.faults
+  pub burns : h.burns ≤ k.burns
+  pub fuse : Fires h k
+  pub stops : k.stopped ≡ says stop result
+  pub always : h.stopped ≡ true → says stop result ≡ true
+  pub cause : h.stopped ≡ false → says stop result ≡ true → Ailed h k
+  pub targets : k.targets ≡ h.targets
+  pub opening : k.opening ≡ h.opening
+  pub free : h.free ≤ k.free + cost
+  pub refused : refuses stop result ≡ true → k.free ≡ h.free
+
+-- An opening: the store runs after Ok alone. It answers Stopped only where a count rose in it.
+pub record Opens (result : Result (Unit {0}) ReopenNo) (h k : State) : Type 0 where
+  pub faults : h.faults ≤ k.faults
+  pub burns : h.burns ≤ k.burns
+  pub fuse : Fires h k
+  pub stops : k.stopped ≡ is_err result
+  pub cause : says reopen_stop result ≡ true → Ailed h k
+  pub targets : k.targets ≡ h.targets
+  pub free : h.free ≤ k.free
+
+-- What stands after a call that makes a change of what is kept, or none where it refuses. An opening after it finds what
+-- one before it would have found, or, unless the store was stopped before, what the change makes.
+pub record Makes {T E : Type 0} (was_stopped : Bool) (stop : E → Bool) (change : Durable → Durable) (result : Result T E) (old new : Option Durable) (may may' : Durable → Type 0) : Type 0 where
+  pub told : is_some new ≡ is_some old
+  pub done : OnOk result (new ≡ option_map change old)
+  pub refused : refuses stop result ≡ true → new ≡ old
+  pub left : (x : Durable) → may' x → may x ⊎ ((was_stopped ≡ false) × (Some x ≡ option_map change old))
+
+-- The same of a change that may be cut between its steps.
+pub record MakesPartly {T E : Type 0} (was_stopped : Bool) (stop : E → Bool) (change : Durable → Durable) (Cut : Durable → Durable → Type 0) (result : Result T E) (old new : Option Durable) (may may' : Durable → Type 0) : Type 0 where
+  pub told : is_some new ≡ is_some old
+  pub done : OnOk result (new ≡ option_map change old)
+  pub refused : refuses stop result ≡ true → new ≡ old
+  pub left : (x d : Durable) → may' x → old ≡ Some d → may x ⊎ ((was_stopped ≡ false) × Cut d x)
+
+-- What stands after a call that changes nothing.
+pub record Looks (stopped : Bool) (old new : Option Durable) (may may' : Durable → Type 0) : Type 0 where
+  pub told : is_some new ≡ is_some old
+  pub same : stopped ≡ false → new ≡ old
+  pub left : (x : Durable) → may' x → may x
+
+-- What stands after an opening: one of what it may have found, with the incarnation raised; where it is refused, the
+-- next one finds what this one may have found, with the incarnation raised or not.
+pub record Finds (result : Result (Unit {0}) ReopenNo) (old new : Option Durable) (may may' : Durable → Type 0) : Type 0 where
+  pub told : is_some new ≡ is_some old
+  pub found : OnOk result ((d : Durable) → new ≡ Some d → (x : Durable) × may x × (d ≡ reopened x))
+  pub left : (x : Durable) → may' x → may x ⊎ ((y : Durable) × may y × (x ≡ reopened y))
+
+-- The result is the one that what is kept asks for, unless it is a refusal that may always come, as Stopped. Where what
+-- is kept isn't told, it may be any.
+abbrev pub Answers : {T E : Type 0} → (E → Bool) → Result T E → (Durable → Result T E) → Option Durable → Type 0
+Answers free result asked kept = (d : Durable) → kept ≡ Some d → says free result ≡ false → result ≡ asked d
+
+-- A prune that is cut has raised the aggregated-to epoch and the floor, and some, all or none of its versions are gone.
+abbrev pub CutPrune : ContId → Epoch → ℕ → Durable → Durable → Type 0
+CutPrune c upto n d x = (vs : List Version) × Partly d.versions (is_going c upto d) vs × (x ≡ with_versions vs (marked c upto n d))
+
+-- A discard that is cut leaves some, all or none of its versions.
+abbrev pub CutDiscard : ContId → Epoch → Epoch → Durable → Durable → Type 0
+CutDiscard c lo hi d x = (vs : List Version) × Partly d.versions (is_in_range c lo hi) vs × (x ≡ with_versions vs d)
+
+-- how many versions a prune removes
+abbrev pub going_count : ContId → Epoch → Durable → ℕ
+going_count c upto d = length (filter (is_going c upto d) d.versions)

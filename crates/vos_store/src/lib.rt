@@ -1,0 +1,5 @@
+// The trait of a target's store: what everything above the regions uses.
+#![tactic(auto)]
+
+pub mod refusal;
+pub mod store;
