@@ -7,4 +7,3 @@ pub mod Paths
 pub mod Placement
 pub mod PlacementLaws
 pub mod Scripts
-pub mod formers

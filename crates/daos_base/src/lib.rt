@@ -1,9 +1,7 @@
 // The plain types that every crate of the store shares: names, paths, operations, scripts, reports.
 #![tactic(auto)]
 
-pub mod actor;
 pub mod answer;
-pub mod boxed;
 pub mod entry;
 pub mod epoch;
 pub mod fault;
@@ -12,7 +10,6 @@ pub mod id;
 pub mod items;
 pub mod job;
 pub mod key;
-pub mod message;
 pub mod operation;
 pub mod outcome;
 pub mod path;

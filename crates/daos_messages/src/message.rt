@@ -2,15 +2,15 @@
 ghost use Rattle.std.specs.Prelude.{◌≡◌, IfOk};
 
 use crate::actor::ActorId;
-use crate::answer::Answer;
 use crate::boxed::Boxed;
-use crate::entry::{Entry, EntryState, Verdict};
-use crate::epoch::{Epoch, TargetId};
-use crate::id::{AttemptId, ContId};
-use crate::items::{Items, Memory, TryCopy};
-use crate::key::Key;
-use crate::operation::{MinorWrites, Read};
-use crate::outcome::Outcome;
+use daos_base::answer::Answer;
+use daos_base::entry::{Entry, EntryState, Verdict};
+use daos_base::epoch::{Epoch, TargetId};
+use daos_base::id::{AttemptId, ContId};
+use daos_base::items::{Items, Memory, TryCopy};
+use daos_base::key::Key;
+use daos_base::operation::{MinorWrites, Read};
+use daos_base::outcome::Outcome;
 
 /// What a read got: its answer, or how its attempt ended instead.
 #[derive(Debug, Drop)]
