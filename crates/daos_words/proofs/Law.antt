@@ -1,0 +1,125 @@
+-- The laws of words.
+use Rattle.std.proofs.Common.{◌≡◌, ◌≢◌, ℕ, ◌+◌, ◌<◌, true, List, [], ◌∷◌, ◌++◌, length, Option, Some, None, Result, Ok, Err, refl, ap, ◌∙◌, subst, arith}
+use Rattle.std.specs.Prelude.{unwrap_or, IfSome}
+use Rattle.daos_base.specs.declared.fault.WordFault.{WordFault}
+use Rattle.daos_base.specs.declared.fault.WordKind.{WordKind}
+use Rattle.daos_base.specs.declared.fault.WordKind.TheVariants.{NoValue, NoJob, NoCount}
+use Rattle.daos_base.specs.declared.job.Job.{Job}
+use Rattle.daos_text.specs.Results.{◌>>=◌}
+use Rattle.daos_text.specs.Steps.{steps}
+use Rattle.daos_words.specs.declared.given.Given.{Given}
+use Rattle.daos_words.specs.declared.given.JobWord.{JobWord}
+use Rattle.daos_words.specs.declared.given.JobWord.TheVariants.{Run, Load}
+use Rattle.daos_words.specs.declared.given.Setting.{Setting}
+use Rattle.daos_words.specs.Laws.{IsWithin, IsInForm, WordsLaw}
+use Rattle.daos_words.specs.Words.{fault, with_word, job_with, loaded, job_after, ended_after, ended, nothing_given, job_of}
+use Rattle.daos_words.proofs.Sound.{IsSound, word_adds}
+
+abbrev Asked : Type 0
+Asked = Result Job WordFault
+
+pub nothing_sound : IsSound nothing_given
+nothing_sound = record { in_count = tt; in_targets = tt; in_size = tt; in_attempts = tt; in_epsilon = tt; apart = λ e. absurd cc; waits = tt }
+
+steps_sound : (at : ℕ) (g t : Given) (ws : List (List ℕ)) → IsSound g → steps with_word at g ws ≡ Ok t → IsSound t
+unfolding steps
+steps_sound at g t [] h e = let same : g ≡ t = cc in subst IsSound same h
+steps_sound at g t (w ∷ ws) h e = go (with_word at g w) refl e (λ u k f. steps_sound (at + 1) u t ws k f)
+  where
+    go : (x : Result Given WordFault) → with_word at g w ≡ x → (x >>= λ u. steps with_word (at + 1) u ws) ≡ Ok t
+        → ((u : Given) → IsSound u → steps with_word (at + 1) u ws ≡ Ok t → IsSound t) → IsSound t
+    go (Err f) r e ih = absurd cc
+    go (Ok u) r e ih = ih u (word_adds at g w u h r).sound e
+
+-- a value that is given lies in its range, and so does a default
+in_range : (lo hi d : ℕ) (o : Option ℕ) → IfSome o (IsWithin lo hi) → IsWithin lo hi d → IsWithin lo hi (unwrap_or o d)
+in_range lo hi d None h k = k
+in_range lo hi d (Some n) h k = h
+
+no_order : (g : Given) → IsSound g → g.threads ≡ true → unwrap_or g.order 0 ≡ 0
+no_order g h e = ap (λ (o : Option ℕ). unwrap_or o 0) (h.apart e)
+
+job_in_form : (load : Option ℕ) (g : Given) → IsSound g → IfSome load (IsWithin 1 10000) → IsInForm (job_with load g)
+job_in_form load g h k = record {
+  load = k;
+  targets = in_range 1 64 4 g.targets h.in_targets (omega arith, omega arith);
+  size = in_range 2 32 4 g.size h.in_size (omega arith, omega arith);
+  attempts = in_range 1 100 8 g.attempts h.in_attempts (omega arith, omega arith);
+  epsilon = (in_range 0 1000000 0 g.epsilon h.in_epsilon (omega arith, omega arith)).1;
+  apart = no_order g h;
+}
+
+same_job : (i j : Job) (x : Asked) → x ≡ Ok i → x ≡ Ok j → i ≡ j
+same_job i j x e f = cc
+
+asked : (i j : Job) → IsInForm i → let x : Asked = Ok i in x ≡ Ok j → IsInForm j
+asked i j h e = subst IsInForm (same_job i j (Ok i) refl e) h
+
+ended_in_form : (at : ℕ) (g : Given) (j : Job) → IsSound g → ended at g ≡ Ok j → IsInForm j
+unfolding ended
+ended_in_form at g j h e = go g.awaits e
+  where
+    with_load : (x : Option ℕ) → IfSome x (IsWithin 1 10000) → loaded at g x ≡ Ok j → IsInForm j
+    with_load None k e = absurd cc
+    with_load (Some n) k e = asked (job_with (Some n) g) j (job_in_form (Some n) g h k) e
+
+    after : (x : Option JobWord) → job_after at g x ≡ Ok j → IsInForm j
+    after None e = absurd cc
+    after (Some Run) e = asked (job_with None g) j (job_in_form None g h tt) e
+    after (Some Load) e = with_load g.count h.in_count e
+
+    go : (x : Option (ℕ × Setting)) → ended_after at g x ≡ Ok j → IsInForm j
+    go None e = after g.job e
+    go (Some p) e = absurd cc
+
+form : (ws : List (List ℕ)) (j : Job) → job_of ws ≡ Ok j → IsInForm j
+unfolding job_of
+form ws j e = go (steps with_word 0 nothing_given ws) refl e
+  where
+    go : (x : Result Given WordFault) → steps with_word 0 nothing_given ws ≡ x → (x >>= λ g. ended (length ws) g) ≡ Ok j → IsInForm j
+    go (Err f) r e = absurd cc
+    go (Ok g) r e = ended_in_form (length ws) g j (steps_sound 0 nothing_given g ws nothing_sound r) e
+
+-- ---- faults
+
+-- a fault at the end stands behind the last word, or is a value that is missing
+fault_is : (at : ℕ) (kind : WordKind) (f : WordFault) → let x : Asked = fault at kind in x ≡ Err f → (f.place ≡ at) × (f.kind ≡ kind)
+fault_is at kind f e = let same : f ≡ record { place = at; kind = kind } = cc in (ap (λ (g : WordFault). g.place) same, ap (λ (g : WordFault). g.kind) same)
+
+ended_fault : (at : ℕ) (g : Given) (f : WordFault) → ended at g ≡ Err f → f.place < at → f.kind ≢ NoValue → ⊥
+unfolding ended
+ended_fault at g f e lt ne = go g.awaits e
+  where
+    with_load : (x : Option ℕ) → loaded at g x ≡ Err f → ⊥
+    with_load None e = let at_end = (fault_is at NoCount f e).0 in omega (arith, at_end)
+    with_load (Some n) e = cc
+
+    after : (x : Option JobWord) → job_after at g x ≡ Err f → ⊥
+    after None e = let at_end = (fault_is at NoJob f e).0 in omega (arith, at_end)
+    after (Some Run) e = cc
+    after (Some Load) e = with_load g.count e
+
+    go : (x : Option (ℕ × Setting)) → ended_after at g x ≡ Err f → ⊥
+    go None e = after g.job e
+    go (Some p) e = ne (fault_is p.0 NoValue f e).1
+
+steps_stay : (at : ℕ) (g : Given) (ws more : List (List ℕ)) (f : WordFault) → steps with_word at g ws ≡ Err f → steps with_word at g (ws ++ more) ≡ Err f
+unfolding steps
+steps_stay at g [] more f e = absurd cc
+steps_stay at g (w ∷ ws) more f e = go (with_word at g w) e (λ u. steps_stay (at + 1) u ws more f)
+  where
+    go : (x : Result Given WordFault) → (x >>= λ u. steps with_word (at + 1) u ws) ≡ Err f → ((u : Given) → steps with_word (at + 1) u ws ≡ Err f → steps with_word (at + 1) u (ws ++ more) ≡ Err f)
+        → (x >>= λ u. steps with_word (at + 1) u (ws ++ more)) ≡ Err f
+    go (Err k) e ih = let same : k ≡ f = cc in ap (λ z. Err z) same
+    go (Ok u) e ih = ih u e
+
+stays : (ws more : List (List ℕ)) (f : WordFault) → job_of ws ≡ Err f → f.place < length ws → f.kind ≢ NoValue → job_of (ws ++ more) ≡ Err f
+unfolding job_of
+stays ws more f e lt ne = go (steps with_word 0 nothing_given ws) refl e
+  where
+    go : (x : Result Given WordFault) → steps with_word 0 nothing_given ws ≡ x → (x >>= λ g. ended (length ws) g) ≡ Err f → (steps with_word 0 nothing_given (ws ++ more) >>= λ g. ended (length (ws ++ more)) g) ≡ Err f
+    go (Ok g) r e = absurd (ended_fault (length ws) g f e lt ne)
+    go (Err k) r e = let same : k ≡ f = cc in rw (steps_stay 0 nothing_given ws more f (r ∙ ap (λ z. Err z) same)) refl
+
+pub words_law : WordsLaw
+words_law = record { form = form; stays = stays }

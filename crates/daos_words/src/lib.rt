@@ -1,0 +1,6 @@
+// Reads the words of the command line.
+#![tactic(auto)]
+
+pub mod fault;
+mod given;
+pub mod words;
