@@ -1,0 +1,11 @@
+// Balanced trees of byte keys, whose nodes are blocks of any pages.
+#![tactic(auto)]
+
+mod find;
+mod read;
+pub mod tree;
+
+pub use pmem_node::node::{Pair, TreeKey, Value};
+
+/// No tree is higher: a higher one that is balanced has more nodes than there are block numbers.
+pub(crate) const HIGHEST: u8 = 66;
