@@ -1,2 +1,5 @@
 pub mod Going
 pub mod Finding
+pub mod Joins
+pub mod Turning
+pub mod TurningLeft

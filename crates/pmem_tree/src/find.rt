@@ -6,7 +6,7 @@ ghost use Rattle.pmem_tree.specs.Calls.{Goes, OfTree, HasTree};
 ghost use Rattle.pmem_tree.specs.Find.{SomeBelow, OfBelow, value_of, pair_of, StepsAtMost};
 
 use crate::HIGHEST;
-use crate::read::read_at;
+use crate::read::{pair_in, read_at};
 use crate::tree::Tree;
 use pmem_node::codec::compare;
 use pmem_node::node::{Node, Pair, TreeKey, Value};
@@ -43,17 +43,6 @@ fn find<P: Pages, L: Ledger>(
         Ordering::Less => find(pages, kind, node.left, depth - 1, key, steps),
         Ordering::Equal => Ok(Some(node.value)),
         Ordering::Greater => find(pages, kind, node.right, depth - 1, key, steps),
-    }
-}
-
-// The pair of a node.
-fn pair_in(node: &Node) -> Pair
-    ensures key { result.key ≡ node.now.key }
-    ensures value { result.value ≡ node.now.value }
-{
-    Pair {
-        key: node.key,
-        value: node.value,
     }
 }
 

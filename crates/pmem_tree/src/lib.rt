@@ -2,8 +2,10 @@
 #![tactic(auto)]
 
 mod find;
+mod join;
 mod read;
 pub mod tree;
+mod write;
 
 pub use pmem_node::node::{Pair, TreeKey, Value};
 
