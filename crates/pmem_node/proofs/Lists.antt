@@ -10,11 +10,8 @@ use Rattle.pmem_owner.proofs.Counts.{times_none, times_one, times_own, times_oth
 use Rattle.pmem_node.specs.declared.node.TreeKey.{TreeKey}
 use Rattle.pmem_node.specs.declared.node.Value.{Value}
 use Rattle.pmem_node.specs.Node.{key_cmp, key_text}
+use Rattle.pmem_node.specs.Owned.{blocks-append}
 use Rattle.pmem_node.specs.Shape.{Entry, blocks_of, count, AllBelow, AllAbove, Rises, chosen, entry_at, first_above, last_under, or_this, inserted, removed, valued}
-
-pub blocks-append : (xs ys : List Entry) → blocks_of (xs ++ ys) ≡ blocks_of xs ++ blocks_of ys
-blocks-append [] ys = refl
-blocks-append (x ∷ xs) ys = ap (λ (z : List ℕ). x.block ∷ z) (blocks-append xs ys)
 
 pub count-append : (q : ℕ) (xs ys : List Entry) → count q (xs ++ ys) ≡ count q xs + count q ys
 unfolding count

@@ -6,30 +6,19 @@ use Rattle.pmem_pages.specs.Blocks.{Blocks, put, IsTaken}
 use Rattle.pmem_node.specs.declared.node.Node.{Node}
 use Rattle.pmem_node.specs.Node.{node_bytes, node_of, IsNode, IsKey, IsValue}
 use Rattle.pmem_node.specs.Shape.{Entry, Shape, Leaf, Fork, root_of, height, entries, count, node_at, IsEntry, NodeStands, Stands}
+use Rattle.pmem_node.specs.Owned.{tree_taken, tree_frame}
 use Rattle.pmem_node.proofs.Lists.{count-append, count_one, count_none, count_own, count_other, count_parts}
 use Rattle.pmem_node.proofs.Nodes.{node_again}
 
 -- a frame: what the nodes' blocks hold is all that counts
 pub stands_on : (m n : Blocks) (kind : ℕ) (t : Shape) → ((q : ℕ) → 0 < count q (entries t) → n q ≡ m q) → Stands m kind t → Stands n kind t
-stands_on m n kind Leaf f s = tt
-stands_on m n kind (Fork l e r) f s =
-    let here : 0 < count e.block (entries l ++ e ∷ entries r) = omega (arith, count_parts e.block (entries l) e (entries r), count_own e) in
-    ( record { entry = s.0.entry; block = f e.block here ∙ s.0.block },
-      stands_on m n kind l (λ q h. f q (omega (arith, count_parts q (entries l) e (entries r)))) s.1,
-      stands_on m n kind r (λ q h. f q (omega (arith, count_parts q (entries l) e (entries r)))) s.2 )
+unfolding count
+stands_on m n kind t f s = tree_frame m n kind t f s
 
 -- the blocks of a tree are taken
 pub taken_in : (m : Blocks) (kind : ℕ) (t : Shape) (q : ℕ) → Stands m kind t → 0 < count q (entries t) → IsTaken m q
-taken_in m kind Leaf q s h = absurd (omega (arith, count_none q))
-taken_in m kind (Fork l e r) q s h =
-    elim (eqb_tells q e.block) [
-      | inl a ↦ record { bytes = _; holds = ap m a.1 ∙ s.0.block }
-      | inr b ↦
-        elim (cases_lt 0 (count q (entries l))) [
-          | inl in_left ↦ taken_in m kind l q s.1 in_left
-          | inr none ↦ taken_in m kind r q s.2 (omega (arith, count_parts q (entries l) e (entries r), count_other q e b.1))
-        ]
-    ]
+unfolding count
+taken_in m kind t q s h = tree_taken m kind t s q h
 
 pub node_fits : (m : Blocks) (kind : ℕ) (l : Shape) (e : Entry) (r : Shape) → NodeStands m kind l e r → root_of l < 2 ^ 32 → root_of r < 2 ^ 32 → IsNode kind (node_at l e r)
 node_fits m kind l e r s a b = record { left = a; right = b; key = s.entry.key; value = s.entry.value }

@@ -1,2 +1,3 @@
 pub mod Node
 pub mod Shape
+pub mod Owned

@@ -2,6 +2,7 @@
 #![tactic(auto)]
 
 mod find;
+mod grow;
 mod join;
 mod read;
 pub mod tree;

@@ -110,8 +110,7 @@ pub(crate) fn open_node<P: Pages, L: Ledger>(
 
 /// The pair of a node.
 pub(crate) fn pair_in(node: &Node) -> Pair
-    ensures key { result.key ≡ node.now.key }
-    ensures value { result.value ≡ node.now.value }
+    ensures { result ≡ record { key = node.now.key; value = node.now.value } }
 {
     Pair {
         key: node.key,
