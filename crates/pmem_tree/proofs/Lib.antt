@@ -6,3 +6,4 @@ pub mod TurningLeft
 pub mod Growing
 pub mod GrowingRight
 pub mod Inserting
+pub mod Inserted

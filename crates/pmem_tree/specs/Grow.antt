@@ -2,12 +2,15 @@
 use Rattle.std.specs.Prelude.{◌≡◌, ◌≢◌, ◌⊎◌, ◌≤◌, ◌<◌, ◌+◌, ◌*◌, ◌^◌, ℕ, length, List, ◌∷◌, Option, None}
 use Rattle.pmem_pages.specs.Blocks.{Blocks, Budget, IsTaken, IsSpent}
 use Rattle.pmem_pages.specs.declared.refusal.PageNo.{PageNo}
+use Rattle.pmem_pages.specs.declared.refusal.PageNo.TheVariants.{NoBlock, TooMuch}
 use Rattle.pmem_owner.specs.Owners.{Changed}
 use Rattle.pmem_node.specs.declared.node.TreeKey.{TreeKey}
 use Rattle.pmem_node.specs.declared.node.Value.{Value}
 use Rattle.pmem_node.specs.Shape.{Entry, Shape, root_of, height, entries, count, IsEntry, Stands, Balanced, Rises, IsTree, Keeps, entry_at, inserted, removed, valued}
 use Rattle.pmem_node.specs.Owned.{tree_owner}
 use Rattle.pmem_tree.specs.declared.read.Sub.{Sub}
+use Rattle.pmem_tree.specs.declared.tree.TreeNo.{TreeNo}
+use Rattle.pmem_tree.specs.declared.tree.TreeNo.TheVariants.{NoBlock as no_block, TooMuch as too_much}
 use Rattle.pmem_tree.specs.Join.{IsSub, Leans}
 
 -- at most so many ranges for each binary digit of the number of pairs and so many besides, each of at most
@@ -65,3 +68,8 @@ pub record GrowsCheaply (t : Shape) (s : Sub) (before now : Budget) : Type 0 whe
 
 abbrev pub OfGrowing : Blocks → ℕ → ℕ → ℕ → Entry → (Shape → Type 0) → Type 0
 OfGrowing m kind at depth x P = (t : Shape) → CanGrow m kind at depth x t → P t
+
+-- why no block was taken, as trees say it
+abbrev pub tree_no : PageNo → TreeNo
+tree_no NoBlock = no_block
+tree_no TooMuch = too_much

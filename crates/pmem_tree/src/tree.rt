@@ -1,5 +1,5 @@
 // A tree, and why a call of it was refused.
-use pmem_pages::refusal::{Stopped, TooMuch};
+use pmem_pages::refusal::{PageNo, Stopped, TooMuch};
 
 /// A tree of one kind: the block of its root, or 0 where it is empty. The kinds are 1 to 7, and say how
 /// long a value is.
@@ -36,5 +36,19 @@ impl From<TooMuch> for TreeNo {
 
     fn from(_: TooMuch) -> Self {
         TreeNo::TooMuch
+    }
+}
+
+impl From<PageNo> for TreeNo {
+    ghost use Rattle.std.specs.Prelude.{◌≡◌};
+    ghost use Rattle.pmem_tree.specs.Grow.{tree_no};
+
+    ghost from_gives = { λ no e. e ≡ tree_no no };
+
+    fn from(no: PageNo) -> Self {
+        match no {
+            PageNo::NoBlock => TreeNo::NoBlock,
+            PageNo::TooMuch => TreeNo::TooMuch,
+        }
     }
 }
