@@ -1,0 +1,5 @@
+pub mod Filling
+pub mod Nodes
+pub mod Lists
+pub mod Shapes
+pub mod Heights

@@ -1,0 +1,4 @@
+pub mod Calls
+pub mod Find
+pub mod Join
+pub mod Grow

@@ -1,0 +1,14 @@
+// Balanced trees of byte keys, whose nodes are blocks of any pages.
+#![tactic(auto)]
+
+mod find;
+mod grow;
+mod join;
+mod read;
+pub mod tree;
+mod write;
+
+pub use pmem_node::node::{Pair, TreeKey, Value};
+
+/// No tree is higher: a higher one that is balanced has more nodes than there are block numbers.
+pub(crate) const HIGHEST: u8 = 66;
