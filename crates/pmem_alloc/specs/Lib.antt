@@ -1,0 +1,4 @@
+pub mod Sets
+pub mod Map
+pub mod Blocks
+pub mod Pages
