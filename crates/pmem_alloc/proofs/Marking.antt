@@ -5,16 +5,8 @@ use Rattle.std.specs.Int.{bit_at}
 use Rattle.std.proofs.lemmas.Bool.Decides.{nat_tests, eqb_tells}
 use Rattle.pmem_alloc.specs.Sets.{Set, set_to, IsLeast, count_below}
 use Rattle.pmem_alloc.specs.Map.{is_free, free_in, HoldsMap}
+use Rattle.pmem_alloc.specs.Laws.{free_in_within}
 use Rattle.pmem_alloc.proofs.Counting.{set_here, set_other, count_out, count_in, count_most}
-
--- what is free is a block
-pub free_within : (end byte b : ℕ) → is_free end byte b ≡ true → (1264 ≤ b) × (b < end)
-unfolding is_free
-free_within end byte b is = (grind (arith, nat_tests), grind (arith, nat_tests))
-
-pub free_in_within : (end : ℕ) (bytes : List ℕ) (b : ℕ) → free_in end bytes b ≡ true → (1264 ≤ b) × (b < end)
-unfolding free_in
-free_in_within end bytes b is = free_within end (get_or bytes (b / 8) 0) b is
 
 -- of a block the bit decides
 free_by_bit : (end byte b bit : ℕ) → 1264 ≤ b → b < end → bit_at byte (b % 8) ≡ bit → is_free end byte b ≡ eqb bit 0

@@ -8,7 +8,7 @@ use Rattle.pmem_alloc.specs.Map.{free_of, blocks_of, map_place, map_end}
 use Rattle.pmem_alloc.specs.Blocks.{BlocksState, free_now, free_count, StagesMap}
 use Rattle.pmem_alloc.specs.Pages.{shown, left}
 use Rattle.pmem_alloc.proofs.Counting.{count_in, count_out}
-use Rattle.pmem_alloc.proofs.Marking.{free_in_within}
+use Rattle.pmem_alloc.specs.Laws.{free_in_within}
 use Rattle.pmem_alloc.proofs.Staging.{all_over-push, total-push}
 use Rattle.pmem_alloc.proofs.Paging.{block_staged, block_taken_now, block_given, block_free}
 

@@ -3,7 +3,7 @@ use Rattle.std.proofs.Common.{◌≡◌, ℕ, ◌+◌, false, List, [], ◌∷�
 use Rattle.pmem_alloc.specs.Sets.{Set, set_to, without, count_below, IsLeast, AreLeast}
 use Rattle.pmem_alloc.specs.Map.{free_in}
 use Rattle.pmem_alloc.proofs.Counting.{count_out}
-use Rattle.pmem_alloc.proofs.Marking.{free_in_within}
+use Rattle.pmem_alloc.specs.Laws.{free_in_within}
 
 pub without-push : (bs : List ℕ) (b : ℕ) (s : Set) → without (bs ++ b ∷ []) s ≡ set_to (without bs s) b false
 without-push [] b s = refl

@@ -2,3 +2,4 @@ pub mod Sets
 pub mod Map
 pub mod Blocks
 pub mod Pages
+pub mod Laws

@@ -1,7 +1,8 @@
 use Rattle.std.proofs.Common.{arith, ap, sym, subst, ◌∙◌, false}
 use Rattle.pmem_alloc.specs.Sets.{IsLeast, set_to}
 use Rattle.pmem_alloc.specs.Map.{MapState, free_of}
-use Rattle.pmem_alloc.proofs.Marking.{least_within, taken_holds, marked, free_in_within}
+use Rattle.pmem_alloc.specs.Laws.{free_in_within}
+use Rattle.pmem_alloc.proofs.Marking.{least_within, taken_holds, marked}
 use Rattle.pmem_alloc.proofs.free_map.FreeMap.take.Goals as goal
 
 pub bounds-self-inside-at : goal.bounds-self-inside-at

@@ -6,7 +6,7 @@ use Rattle.pmem_alloc.specs.Sets.{IsLeast, set_to}
 use Rattle.pmem_alloc.specs.Map.{free_of}
 use Rattle.pmem_alloc.specs.Blocks.{BlocksState, StagesMap, free_count}
 use Rattle.pmem_alloc.specs.Pages.{shown}
-use Rattle.pmem_alloc.proofs.Marking.{free_in_within}
+use Rattle.pmem_alloc.specs.Laws.{free_in_within}
 use Rattle.pmem_alloc.proofs.Shown.{least_shown, taken_shown, taken_count}
 use Rattle.pmem_alloc.proofs.pages.BlocksPages.take_block.Goals as goal
 
