@@ -1,6 +1,6 @@
 -- What an undo region holds follows from its buffers.
-use Rattle.std.proofs.Common.{◌≡◌, ℕ, ◌+◌, ◌-◌, ◌≤◌, ◌<◌, ◌^◌, Bool, false, List, [], ◌∷◌, ◌++◌, length, take, drop, refl, sym, ap, ◌∙◌, subst, arith, inl, inr}
-use Rattle.std.specs.Prelude.{All, IsTrue}
+use Rattle.std.proofs.Common.{◌≡◌, ℕ, ◌+◌, ◌-◌, ◌≤◌, ◌<◌, ◌^◌, Bool, true, false, List, [], ◌∷◌, ◌++◌, length, take, drop, refl, sym, ap, ◌∙◌, subst, arith, inl, inr}
+use Rattle.std.specs.Prelude.{All, IsTrue, MatchBool}
 use Rattle.std.proofs.lemmas.Bool.{cases_lt}
 use Rattle.std.proofs.lemmas.List.{length-map, map-append, length-append}
 use Rattle.std.proofs.lemmas.List.Elements.{All-push}
@@ -10,7 +10,7 @@ use Rattle.pmem_undo.specs.declared.span.Span.{Span}
 use Rattle.pmem_undo.specs.Layout.{gate, IsContent, most_ranges, most_bytes}
 use Rattle.pmem_undo.specs.Settled.{IsAtRest, IsAttachable, IsBeforeOrAfter}
 use Rattle.pmem_undo.specs.Spans.{IsSpan, range_of, ranges_of, spans_length}
-use Rattle.pmem_undo.specs.Undo.{IsUndo, HasBuffers, IsTooMuch}
+use Rattle.pmem_undo.specs.Undo.{IsUndo, HasBuffers, IsTooMuch, HasRoom}
 use Rattle.pmem_undo.proofs.Attaching.{spans_content}
 use Rattle.pmem_undo.proofs.Committing.{total_is}
 use Rattle.pmem_undo.proofs.Parsing.{ranges_front}
@@ -116,6 +116,18 @@ too_much size staged spans spans_room bytes_room body n b full =
 pub not_too_much : (size : ℕ) (staged : List ℕ) (spans : List Span) (spans_room bytes_room body n : ℕ) → HasBuffers size spans spans_room (length staged) bytes_room body → length spans + 1 ≤ 1024 → length staged + n ≤ 256000 → IsTooMuch (ranges_of staged spans) n → ⊥
 not_too_much size staged spans spans_room bytes_room body n b few short (inl many) = let l = length-map spans (range_of staged) in absurd (omega arith)
 not_too_much size staged spans spans_room bytes_room body n b few short (inr long) = let t = total_is staged size spans b.sound in let total = b.total in absurd (omega arith)
+
+-- what there is room for, by the buffers
+pub has_room : (size : ℕ) (staged : List ℕ) (spans : List Span) (spans_room bytes_room body n : ℕ) → HasBuffers size spans spans_room (length staged) bytes_room body → length spans + 1 ≤ 1024 → length staged + n ≤ 256000 → HasRoom (ranges_of staged spans) n
+has_room size staged spans spans_room bytes_room body n b few short =
+    let l = length-map spans (range_of staged) in
+    let t = total_is staged size spans b.sound in
+    let total = b.total in
+    (omega arith, omega arith)
+
+pub room_told : (size : ℕ) (staged : List ℕ) (spans : List Span) (spans_room bytes_room body n : ℕ) (told : Bool) → HasBuffers size spans spans_room (length staged) bytes_room body → (told ≡ true → (length spans + 1 ≤ 1024) × (length staged + n ≤ 256000)) × ((length spans + 1 ≤ 1024) × (length staged + n ≤ 256000) → told ≡ true) → MatchBool told (HasRoom (ranges_of staged spans) n) (IsTooMuch (ranges_of staged spans) n)
+room_told size staged spans spans_room bytes_room body n true b tells = let room = tells.0 refl in has_room size staged spans spans_room bytes_room body n b room.0 room.1
+room_told size staged spans spans_room bytes_room body n false b tells = too_much size staged spans spans_room bytes_room body n b (λ room. let no = tells.1 room in absurd (cc))
 
 -- reads leave a region at rest
 pub rest_looks : (f g : Image) (m n : Image → Type 0) → IsAtRest f m → g ≡ f → NoMore m n → IsAtRest g n

@@ -28,6 +28,10 @@ pub record IsUndo (size : ℕ) (tells : Bool) (image : Image) (may_leave : Image
 abbrev pub IsTooMuch : List Range → ℕ → Type 0
 IsTooMuch staged n = (most_ranges < length staged + 1) ⊎ (most_bytes < total_bytes staged + n)
 
+-- there is room for one range more of so many bytes
+abbrev pub HasRoom : List Range → ℕ → Type 0
+HasRoom staged n = (length staged + 1 ≤ most_ranges) × (total_bytes staged + n ≤ most_bytes)
+
 -- what the buffers of an undo region hold
 pub record HasBuffers (size : ℕ) (spans : List Span) (spans_room staged staged_room body : ℕ) : Type 0 where
   pub big : 323584 ≤ size

@@ -1,10 +1,10 @@
 // A region with an undo log.
-ghost use Rattle.std.specs.Prelude.{◌≡◌, ◌↔◌, ℕ, ◌+◌, ◌^◌, ◌<◌, ◌≤◌, [], ◌∷◌, ◌++◌, List, length, false, true, IfOk, IfErr, OnOk, OnErr, IsErr, IsTrue, vec_capacity};
+ghost use Rattle.std.specs.Prelude.{◌≡◌, ◌↔◌, ℕ, ◌+◌, ◌^◌, ◌<◌, ◌≤◌, [], ◌∷◌, ◌++◌, List, length, false, true, IfOk, IfErr, OnOk, OnErr, IsErr, IsTrue, MatchBool, vec_capacity};
 ghost use Rattle.daos_outside.specs.Images.{Image, all_over, bytes_at, LeavesOnly, Runs};
 ghost use Rattle.pmem_pages.specs.Blocks.{Stops};
 ghost use Rattle.pmem_undo.specs.Layout.{IsContent, SameContent};
 ghost use Rattle.pmem_undo.specs.Settled.{IsAttachable, IsBeforeOrAfter, OnlyLooks, reads, commit_calls};
-ghost use Rattle.pmem_undo.specs.Undo.{IsUndo, IsTooMuch};
+ghost use Rattle.pmem_undo.specs.Undo.{IsUndo, IsTooMuch, HasRoom};
 
 use crate::commit::commit_ranges;
 use crate::show::show;
@@ -81,6 +81,13 @@ impl<R: Region> UndoRegion<R> {
         ensures holds { IsUndo (R.extent self.now.region) R.tells (R.image self.now.region) (R.may_leave self.now.region) self.now.staged self.now.stopped }
     {
         self.region.size()
+    }
+
+    /// Whether one range more of so many bytes may be staged.
+    pub fn has_room(&self, bytes: usize) -> bool
+        ensures { MatchBool result (HasRoom self.now.staged bytes) (IsTooMuch self.now.staged bytes) }
+    {
+        is_room(self.spans.len(), self.staged.len(), bytes)
     }
 
     /// Stages bytes for the next commit, from a place of the region on.

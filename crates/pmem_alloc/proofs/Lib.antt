@@ -1,0 +1,7 @@
+pub mod Counting
+pub mod Marking
+pub mod Staging
+pub mod Holding
+pub mod Taking
+pub mod Paging
+pub mod Shown

@@ -1,0 +1,65 @@
+-- What the calls of an allocator do to the blocks that are shown, and to what is left to stage.
+use Rattle.std.proofs.Common.{◌≡◌, ◌⊎◌, ℕ, ◌+◌, ◌*◌, ◌≤◌, ◌<◌, true, false, List, [], ◌∷◌, ◌++◌, length, Some, None, sym, ap, ◌∙◌, subst, arith, length-append}
+use Rattle.daos_outside.specs.Images.{Image, Range, over, all_over, bytes_at}
+use Rattle.pmem_pages.specs.Blocks.{put, IsSpent}
+use Rattle.pmem_undo.specs.Layout.{total_bytes}
+use Rattle.pmem_alloc.specs.Sets.{Set, set_to, IsLeast, count_below}
+use Rattle.pmem_alloc.specs.Map.{free_of, blocks_of, map_place, map_end}
+use Rattle.pmem_alloc.specs.Blocks.{BlocksState, free_now, free_count, StagesMap}
+use Rattle.pmem_alloc.specs.Pages.{shown, left}
+use Rattle.pmem_alloc.proofs.Counting.{count_in, count_out}
+use Rattle.pmem_alloc.specs.Laws.{free_in_within}
+use Rattle.pmem_alloc.proofs.Staging.{all_over-push, total-push}
+use Rattle.pmem_alloc.proofs.Paging.{block_staged, block_taken_now, block_given, block_free}
+
+-- a block was given back
+pub given_shown : {R : Type 0} (image : R → Image) (old new : BlocksState R) (b : ℕ) → free_now new ≡ set_to (free_now old) b true → new.map.end ≡ old.map.end → new.undo.region ≡ old.undo.region → StagesMap 1 old.undo.staged new.undo.staged → shown image new ≡ put (shown image old) b None
+given_shown image old new b given end same staged =
+    let f = all_over old.undo.staged (image old.undo.region) in
+    let f' = all_over new.undo.staged (image new.undo.region) in
+    let apart = λ (i : ℕ) (out : (i < map_place) ⊎ (map_end ≤ i)). ap (λ r. all_over new.undo.staged (image r) i) same ∙ staged.elsewhere (image old.undo.region) i out in
+    ap (λ (n : ℕ). blocks_of n (free_of new.map) f') end ∙ block_given old.map.end (free_of old.map) (free_of new.map) f f' b given apart
+
+pub given_count : {R : Type 0} (old new : BlocksState R) (b : ℕ) → free_now new ≡ set_to (free_now old) b true → new.map.end ≡ old.map.end → b < old.map.end → free_now old b ≡ false → free_count new ≡ free_count old + 1
+given_count old new b given end low taken =
+    ap (λ (n : ℕ). count_below (free_of new.map) n) end ∙ (ap (λ (s : Set). count_below s old.map.end) given ∙ count_in (free_of old.map) b old.map.end low taken)
+
+-- a free block was taken
+pub taken_shown : {R : Type 0} (image : R → Image) (old new : BlocksState R) (b : ℕ) → IsLeast (free_now old) b → free_now new ≡ set_to (free_now old) b false → new.map.end ≡ old.map.end → new.undo.region ≡ old.undo.region → StagesMap 1 old.undo.staged new.undo.staged → (bytes : List ℕ) × (shown image new ≡ put (shown image old) b (Some bytes))
+taken_shown image old new b least taken end same staged =
+    let f = all_over old.undo.staged (image old.undo.region) in
+    let f' = all_over new.undo.staged (image new.undo.region) in
+    let within = free_in_within old.map.end old.map.bytes b least.is_in in
+    let apart = λ (i : ℕ) (out : (i < map_place) ⊎ (map_end ≤ i)). ap (λ r. all_over new.undo.staged (image r) i) same ∙ staged.elsewhere (image old.undo.region) i out in
+    (bytes_at f' (256 * b) 256, ap (λ (n : ℕ). blocks_of n (free_of new.map) f') end ∙ block_taken_now old.map.end (free_of old.map) (free_of new.map) f f' b taken apart within.0 within.1)
+
+pub taken_count : {R : Type 0} (old new : BlocksState R) (b : ℕ) → IsLeast (free_now old) b → free_now new ≡ set_to (free_now old) b false → new.map.end ≡ old.map.end → free_count new + 1 ≡ free_count old
+taken_count old new b least taken end =
+    let within = free_in_within old.map.end old.map.bytes b least.is_in in
+    ap (λ (n : ℕ). count_below (free_of new.map) n + 1) end ∙ (ap (λ (s : Set). count_below s old.map.end + 1) taken ∙ count_out (free_of old.map) b old.map.end within.1 least.is_in)
+
+pub least_shown : {R : Type 0} (image : R → Image) (old : BlocksState R) (b : ℕ) → IsLeast (free_now old) b → shown image old b ≡ None
+least_shown image old b least = block_free old.map.end (free_of old.map) (all_over old.undo.staged (image old.undo.region)) b least.is_in
+
+-- the bytes of a block were staged
+abbrev pub with_range : {R : Type 0} → BlocksState R → ℕ → List ℕ → BlocksState R
+with_range b place bytes = record { undo = record { region = b.undo.region; staged = b.undo.staged ++ record { place = place; bytes = bytes } ∷ []; stopped = b.undo.stopped }; map = b.map; lasting = b.lasting; last = b.last }
+
+pub staged_shown : {R : Type 0} (image : R → Image) (old new : BlocksState R) (b place : ℕ) (bytes : List ℕ) → new ≡ with_range old place bytes → place ≡ 256 * b → length bytes ≡ 256 → 1264 ≤ b → b < old.map.end → free_now old b ≡ false → shown image new ≡ put (shown image old) b (Some bytes)
+staged_shown {R = R} image old new b place bytes is at long low high taken =
+    let f = all_over old.undo.staged (image old.undo.region) in
+    let r : Range = record { place = place; bytes = bytes } in
+    ap (λ (s : BlocksState R). shown image s) is
+    ∙ (ap (blocks_of old.map.end (free_of old.map)) (all_over-push old.undo.staged r (image old.undo.region))
+    ∙ (ap (λ (n : ℕ). blocks_of old.map.end (free_of old.map) (over (record { place = n; bytes = bytes }) f)) at
+    ∙ block_staged old.map.end (free_of old.map) f b bytes long low high taken))
+
+pub staged_spent : {R : Type 0} (old new : BlocksState R) (place : ℕ) (bytes : List ℕ) → new ≡ with_range old place bytes → length bytes ≡ 256 → IsSpent 1 256 (left old) (left new)
+staged_spent {R = R} old new place bytes is long =
+    let r : Range = record { place = place; bytes = bytes } in
+    let ranges : length new.undo.staged ≡ length old.undo.staged + 1 = ap (λ (s : BlocksState R). length s.undo.staged) is ∙ length-append old.undo.staged (r ∷ []) in
+    let total : total_bytes new.undo.staged ≡ total_bytes old.undo.staged + length bytes = ap (λ (s : BlocksState R). total_bytes s.undo.staged) is ∙ total-push old.undo.staged r in
+    record { ranges_most = omega arith; ranges_least = omega arith; bytes_most = omega arith; bytes_least = omega arith }
+
+pub kept_spent : {R : Type 0} (ranges bytes : ℕ) (old new : BlocksState R) → new ≡ old → IsSpent ranges bytes (left old) (left new)
+kept_spent {R = R} ranges bytes old new is = subst (λ (s : BlocksState R). IsSpent ranges bytes (left old) (left s)) (sym is) (record { ranges_most = omega arith; ranges_least = omega arith; bytes_most = omega arith; bytes_least = omega arith })

@@ -1,0 +1,5 @@
+pub mod Sets
+pub mod Map
+pub mod Blocks
+pub mod Pages
+pub mod Laws
