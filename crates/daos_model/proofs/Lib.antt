@@ -4,3 +4,4 @@ pub mod TurnSteps
 pub mod NameOrder
 pub mod PieceSteps
 pub mod InForm
+pub mod Sights

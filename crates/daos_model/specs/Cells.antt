@@ -28,3 +28,7 @@ is_of c v = same_cell v.cell c
 abbrev pub value_at : List CellValue → Cell → Option (List ℕ)
 value_at [] c = None
 value_at (v ∷ m) c = if same_cell v.cell c then Some v.bytes else value_at m c
+
+-- the cell of an akey's single value, or of an index of its array
+abbrev pub cell_at : Path → Option ℕ → Cell
+cell_at p i = record { path = p; index = i }

@@ -1,5 +1,5 @@
 -- Which versions a prune removes, and what a prune or a discard leaves where it is cut.
-use Rattle.std.specs.Prelude.{ℕ, ◌+◌, Bool, true, false, ◌≡◌, ◌&&◌, ◌||◌, ◌==◌, not, nat_le, filter, List, [], ◌∷◌, if◌then◌else◌}
+use Rattle.std.specs.Prelude.{ℕ, ◌+◌, Bool, true, false, ◌≡◌, ◌&&◌, ◌||◌, ◌==◌, ◌-◌, not, nat_le, nat_lt, filter, List, [], ◌∷◌, Option, Some, None, if◌then◌else◌}
 use Rattle.std.specs.List.{list_any}
 use Rattle.daos_base.specs.declared.epoch.Epoch.{Epoch}
 use Rattle.daos_base.specs.declared.id.ContId.{ContId}
@@ -34,6 +34,11 @@ values_of (PunchObject p) = []
 values_of (PunchDkey p) = []
 values_of (PunchAkey p) = []
 
+-- an index lies in an extent
+abbrev pub is_index_in : ℕ → ℕ → Option ℕ → Bool
+is_index_in low len None = false
+is_index_in low len (Some i) = nat_le low i && nat_lt (i - low) len
+
 -- a write says what a cell holds: it sets it, or removes it
 unfoldable pub touches : Cell → Write → Bool
 touches c w = if is_punch w then leads_to (write_path w) c.path else list_any (is_of c) (values_of w)
@@ -57,32 +62,32 @@ unfoldable pub shows_in : List Version → Version → ContId → Epoch → Snap
 shows_in vs v c upto x = (x.cont.0 == c.0) && nat_le x.epoch.0 upto.0 && shows_at vs v x.epoch.0
 
 -- one of the sights shows the update: the epoch after that of the prune, or such a snapshot
-unfoldable pub is_in_sight : ContId → Epoch → Durable → Version → Bool
-is_in_sight c upto d v = shows_at d.versions v (upto.0 + 1) || list_any (shows_in d.versions v c upto) d.snaps
+unfoldable pub is_in_sight : ContId → Epoch → List Version → List Snap → Version → Bool
+is_in_sight c upto vs snaps v = shows_at vs v (upto.0 + 1) || list_any (shows_in vs v c upto) snaps
 
 -- a version may go: it is done, of the container, and at or below the epoch
 unfoldable pub is_old : ContId → Epoch → Version → Bool
 is_old c upto v = v.done && ((version_path v).cont.0 == c.0) && nat_le v.epoch.0 upto.0
 
 -- an update that no sight shows
-unfoldable pub is_unseen : ContId → Epoch → Durable → Version → Bool
-is_unseen c upto d v = is_old c upto v && not (is_punch v.write) && not (is_in_sight c upto d v)
+unfoldable pub is_unseen : ContId → Epoch → List Version → List Snap → Version → Bool
+is_unseen c upto vs snaps v = is_old c upto v && not (is_punch v.write) && not (is_in_sight c upto vs snaps v)
 
 -- an update that stays, under the path of a punch and no later than it
-unfoldable pub is_needing : ContId → Epoch → Durable → Version → Version → Bool
-is_needing c upto d p u =
-    not (is_punch u.write) && not (is_before (version_key p) (version_key u)) && leads_to (version_path p) (version_path u) && not (is_unseen c upto d u)
+unfoldable pub is_needing : ContId → Epoch → List Version → List Snap → Version → Version → Bool
+is_needing c upto vs snaps p u =
+    not (is_punch u.write) && not (is_before (version_key p) (version_key u)) && leads_to (version_path p) (version_path u) && not (is_unseen c upto vs snaps u)
 
 -- a punch that hides no update that stays
-unfoldable pub is_idle : ContId → Epoch → Durable → Version → Bool
-is_idle c upto d p = is_old c upto p && is_punch p.write && not (list_any (is_needing c upto d p) d.versions)
+unfoldable pub is_idle : ContId → Epoch → List Version → List Snap → Version → Bool
+is_idle c upto vs snaps p = is_old c upto p && is_punch p.write && not (list_any (is_needing c upto vs snaps p) vs)
 
 -- the versions that a prune of a container up to an epoch removes
-unfoldable pub is_going : ContId → Epoch → Durable → Version → Bool
-is_going c upto d v = is_unseen c upto d v || is_idle c upto d v
+unfoldable pub is_going : ContId → Epoch → List Version → List Snap → Version → Bool
+is_going c upto vs snaps v = is_unseen c upto vs snaps v || is_idle c upto vs snaps v
 
 abbrev pub is_staying : ContId → Epoch → Durable → Version → Bool
-is_staying c upto d v = not (is_going c upto d v)
+is_staying c upto d v = not (is_going c upto d.versions d.snaps v)
 
 -- A cut leaves some, all or none of the versions that go. No punch of them is gone while an older update of them under
 -- its path still stands.

@@ -11,6 +11,7 @@ pub mod laws;
 pub mod map;
 mod names;
 mod pieces;
+pub mod prunes;
 pub mod stand;
 #[cfg(test)]
 mod tests;

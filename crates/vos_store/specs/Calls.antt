@@ -92,7 +92,7 @@ Answers free result asked kept = (d : Durable) → kept ≡ Some d → says free
 
 -- A prune that is cut has raised the aggregated-to epoch and the floor, and some, all or none of its versions are gone.
 abbrev pub CutPrune : ContId → Epoch → ℕ → Durable → Durable → Type 0
-CutPrune c upto n d x = (vs : List Version) × Partly d.versions (is_going c upto d) vs × (x ≡ with_versions vs (marked c upto n d))
+CutPrune c upto n d x = (vs : List Version) × Partly d.versions (is_going c upto d.versions d.snaps) vs × (x ≡ with_versions vs (marked c upto n d))
 
 -- A discard that is cut leaves some, all or none of its versions.
 abbrev pub CutDiscard : ContId → Epoch → Epoch → Durable → Durable → Type 0
@@ -100,4 +100,4 @@ CutDiscard c lo hi d x = (vs : List Version) × Partly d.versions (is_in_range c
 
 -- how many versions a prune removes
 abbrev pub going_count : ContId → Epoch → Durable → ℕ
-going_count c upto d = length (filter (is_going c upto d) d.versions)
+going_count c upto d = length (filter (is_going c upto d.versions d.snaps) d.versions)

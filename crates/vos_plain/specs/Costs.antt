@@ -1,0 +1,16 @@
+-- The blocks that a store over lists counts as taken.
+use Rattle.std.specs.Prelude.{ℕ, ◌+◌, ◌-◌, ◌*◌, List, [], ◌∷◌, length}
+use Rattle.daos_base.specs.declared.entry.Entry.{Entry}
+use Rattle.daos_model.specs.declared.durable.Version.{Version}
+use Rattle.daos_model.specs.Blocks.{write_blocks}
+
+abbrev pub version_blocks : Version → ℕ
+version_blocks v = write_blocks v.write
+
+abbrev pub versions_blocks : List Version → ℕ
+versions_blocks [] = 0
+versions_blocks (v ∷ vs) = version_blocks v + versions_blocks vs
+
+-- an entry takes 2, and each version what its write may take
+abbrev pub taken_blocks : List Version → List Entry → ℕ
+taken_blocks vs es = versions_blocks vs + 2 * length es

@@ -1,0 +1,4 @@
+pub mod Keys
+pub mod Costs
+pub mod Contents
+pub mod Steps

@@ -1,0 +1,142 @@
+// The changes of what a store over lists keeps.
+use crate::contents::Contents;
+use crate::keyed::put_in;
+use crate::rows::{put_all, settle_all, versions_of};
+use crate::sweeps::{remove_entry, remove_pending, remove_range, remove_snap, sweep};
+use crate::tables::{commit, confirm, create, has_row, has_snap, mark, new_row, raise};
+use daos_base::entry::{Entry, Settle};
+use daos_base::epoch::Epoch;
+use daos_base::id::{AttemptId, ContId};
+use daos_base::items::Memory;
+use daos_base::operation::MinorWrite;
+use daos_base::outcome::FloorWhy;
+use daos_base::snapshot::Snap;
+use daos_model::durable::Version;
+use daos_model::prunes::Plan;
+
+impl Contents {
+    ghost use Rattle.std.specs.Prelude.{◌≡◌, ◌+◌, ◌*◌, ◌^◌, ◌<◌, ◌≤◌, true, false, None, IfOk, OnOk, length, vec_len, vec_capacity};
+    ghost use Rattle.std.specs.List.{list_all};
+    ghost use Rattle.daos_base.specs.declared.outcome.FloorWhy.{FloorWhy};
+    ghost use Rattle.daos_model.specs.Changes.{created, discarded, frozen, leased, pruned, reopened, settled, thawed};
+    ghost use Rattle.daos_model.specs.Durables.{entry_of, is_frozen, is_version_in_form};
+    ghost use Rattle.daos_model.specs.Versions.{versions_of};
+    ghost use Rattle.vos_plain.specs.Contents.{contents_of, free_of};
+    ghost use Rattle.vos_plain.specs.Costs.{versions_blocks};
+    ghost use Rattle.vos_plain.specs.Steps.{IsWithin, with_entry};
+
+    /// Takes the memory for an entry and its writes, and gives what they are kept as.
+    pub fn ready(&mut self, entry: &Entry, writes: &[MinorWrite]) -> Result<Vec<Version>, Memory>
+        ensures same { contents_of self.new ≡ contents_of self.old }
+        ensures free { free_of self.new ≡ free_of self.old }
+        ensures versions { IfOk result (λ rows. rows.items ≡ versions_of entry.now writes.now) }
+        ensures rows { IfOk result (λ rows. vec_len self.new.rows + vec_len rows ≤ vec_capacity self.new.rows) }
+        ensures marks { IfOk result (λ rows. vec_len self.new.rows + vec_len rows ≤ vec_capacity self.new.marks) }
+        ensures entries { OnOk result (vec_len self.new.entries < vec_capacity self.new.entries) }
+    {
+        let rows = versions_of(self.alloc, entry, writes)?;
+        self.rows.reserve(rows.len())?;
+        self.marks.clear();
+        self.marks.reserve(self.rows.len() + rows.len())?;
+        self.entries.reserve(1)?;
+        Ok(rows)
+    }
+
+    /// Adds an entry and its versions.
+    pub fn prepare(&mut self, entry: Entry, rows: Vec<Version>)
+        requires absent { entry_of (contents_of self.old) entry.attempt ≡ None }
+        requires form { list_all is_version_in_form rows.items ≡ true }
+        requires rows { vec_len self.old.rows + vec_len rows ≤ vec_capacity self.old.rows }
+        requires marks { vec_len self.old.rows + vec_len rows ≤ vec_capacity self.old.marks }
+        requires entries { vec_len self.old.entries < vec_capacity self.old.entries }
+        requires free { versions_blocks rows.items + 2 ≤ free_of self.old }
+        ensures kept { contents_of self.new ≡ with_entry rows.items entry (contents_of self.old) }
+        ensures free { free_of self.new + versions_blocks rows.items + 2 ≡ free_of self.old }
+    {
+        put_all(&mut self.rows, rows);
+        put_in(&mut self.entries, entry);
+    }
+
+    /// A step of an attempt.
+    pub fn settle(&mut self, attempt: AttemptId, step: Settle)
+        requires { IsWithin step }
+        ensures kept { contents_of self.new ≡ settled attempt step (contents_of self.old) }
+        ensures free { free_of self.old ≤ free_of self.new }
+    {
+        match step {
+            Settle::Commit => {
+                settle_all(&mut self.rows, attempt);
+                commit(&mut self.entries, attempt);
+            }
+            Settle::Abort => {
+                remove_pending(&mut self.rows, attempt);
+                remove_entry(&mut self.entries, attempt);
+            }
+            Settle::Confirm(member) => confirm(&mut self.entries, attempt, member),
+            Settle::Forget => remove_entry(&mut self.entries, attempt),
+        }
+    }
+
+    /// Sets the lease.
+    #[tactic(auto, unfolding(daos_model::specs::Changes::leased))]
+    pub fn extend(&mut self, ticks: u64)
+        requires { ticks < 2 ^ 56 }
+        ensures kept { contents_of self.new ≡ leased ticks (contents_of self.old) }
+        ensures free { free_of self.new ≡ free_of self.old }
+    {
+        self.lease = ticks;
+    }
+
+    /// Freezes a snapshot, for which there is a place.
+    pub fn freeze(&mut self, cont: ContId, s: Epoch)
+        requires { is_frozen (contents_of self.old) cont s ≡ false → length self.old.snaps.items < 256 }
+        ensures kept { contents_of self.new ≡ frozen cont s (contents_of self.old) }
+        ensures free { free_of self.new ≡ free_of self.old }
+    {
+        raise(&mut self.conts, cont, s, FloorWhy::Snapshot(s));
+        if !has_snap(&self.snaps, cont, s) {
+            put_in(
+                &mut self.snaps,
+                Snap {
+                    cont,
+                    epoch: s,
+                    created: false,
+                },
+            );
+        }
+    }
+
+    /// Notes that a snapshot is created.
+    pub fn create(&mut self, cont: ContId, s: Epoch)
+        ensures kept { contents_of self.new ≡ created cont s (contents_of self.old) }
+        ensures free { free_of self.new ≡ free_of self.old }
+    {
+        create(&mut self.snaps, cont, s);
+    }
+
+    /// Drops a snapshot.
+    pub fn thaw(&mut self, cont: ContId, s: Epoch)
+        ensures kept { contents_of self.new ≡ thawed cont s (contents_of self.old) }
+        ensures free { free_of self.new ≡ free_of self.old }
+    {
+        remove_snap(&mut self.snaps, cont, s);
+    }
+
+    /// Removes the versions of a container in a range.
+    pub fn discard(&mut self, cont: ContId, lo: Epoch, hi: Epoch)
+        ensures kept { contents_of self.new ≡ discarded cont lo hi (contents_of self.old) }
+        ensures free { free_of self.old ≤ free_of self.new }
+    {
+        remove_range(&mut self.rows, cont, lo, hi);
+    }
+
+    /// Opens them again.
+    #[tactic(auto, unfolding(daos_model::specs::Changes::reopened))]
+    pub fn open(&mut self)
+        requires { (contents_of self.old).incarnation + 1 < 2 ^ 64 }
+        ensures kept { contents_of self.new ≡ reopened (contents_of self.old) }
+        ensures free { free_of self.new ≡ free_of self.old }
+    {
+        self.incarnation += 1;
+    }
+}

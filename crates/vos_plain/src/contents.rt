@@ -1,0 +1,28 @@
+// What a store over lists keeps, and each change of it, without stops.
+ghost use Rattle.std.specs.Prelude.{◌≡◌, ◌+◌, ◌<◌, ◌≤◌, vec_len, vec_capacity};
+ghost use Rattle.daos_model.specs.Durables.{IsInForm};
+ghost use Rattle.vos_plain.specs.Costs.{taken_blocks};
+
+use daos_base::entry::Entry;
+use daos_base::snapshot::Snap;
+use daos_model::durable::{ContRow, Version};
+use std::alloc::Global;
+
+/// What a store over lists keeps: its parts in order, marks for the versions that a prune removes,
+/// with room for all of them, and places for 256 snapshots. Its capacity is in blocks.
+#[derive(Drop)]
+pub struct Contents {
+    pub alloc: Global,
+    pub rows: Vec<Version>,
+    pub marks: Vec<bool>,
+    pub entries: Vec<Entry>,
+    pub conts: Vec<ContRow>,
+    pub snaps: Vec<Snap>,
+    pub lease: u64,
+    pub incarnation: u64,
+    pub capacity: u32,
+    ghost formed: { IsInForm (record { versions = rows.items; entries = entries.items; conts = conts.items; snaps = snaps.items; lease = lease; incarnation = incarnation }) },
+    ghost marked: { vec_len rows ≤ vec_capacity marks },
+    ghost places: { 256 ≤ vec_capacity snaps },
+    ghost room: { taken_blocks rows.items entries.items ≤ capacity },
+}

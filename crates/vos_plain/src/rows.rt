@@ -1,0 +1,180 @@
+// Versions in a row: what they are kept as, found and read.
+ghost use Rattle.std.specs.Prelude.{◌≡◌, ◌+◌, ◌≤◌, true, find, map, IfOk, vec_len, vec_capacity};
+ghost use Rattle.std.specs.List.{list_all};
+ghost use Rattle.std.specs.Option.{option_copied};
+ghost use Rattle.daos_model.specs.Changes.{is_in_range};
+ghost use Rattle.daos_model.specs.Durables.{is_version_in_form, version_key};
+ghost use Rattle.daos_model.specs.Ordered.{puts};
+ghost use Rattle.daos_model.specs.Versions.{blocks_read, done_by, first_between, first_blocking, is_between, is_pending, map_below, sees, version_of, versions_of};
+ghost use Rattle.vos_store.specs.Answers.{is_open_in};
+ghost use Rattle.vos_plain.specs.Costs.{version_blocks, versions_blocks};
+
+use crate::keyed::put_in;
+use daos_base::entry::Entry;
+use daos_base::epoch::Epoch;
+use daos_base::id::{AttemptId, ContId};
+use daos_base::items::{Memory, TryCopy};
+use daos_base::operation::MinorWrite;
+use daos_base::path::Path;
+use daos_model::blocks::write_blocks;
+use daos_model::durable::{Version, is_same_attempt};
+use daos_model::effect::apply_write;
+use daos_model::map::Map;
+use std::alloc::Global;
+
+// What a write of an entry is kept as.
+fn version_of(entry: &Entry, write: &MinorWrite) -> Result<Version, Memory>
+    ensures { IfOk result (λ version. version ≡ version_of entry.now write.now) }
+{
+    Ok(Version {
+        epoch: entry.epoch,
+        minor: write.minor,
+        by: entry.attempt,
+        done: false,
+        write: write.write.copy()?,
+    })
+}
+
+/// What the writes of an entry are kept as.
+pub fn versions_of(
+    alloc: Global,
+    entry: &Entry,
+    writes: &[MinorWrite],
+) -> Result<Vec<Version>, Memory>
+    ensures { IfOk result (λ rows. rows.items ≡ versions_of entry.now writes.now) }
+{
+    let mut rows = Vec::new(alloc);
+    for write in writes {
+        rows.push(version_of(entry, write)?)?;
+    }
+    Ok(rows)
+}
+
+/// Puts versions among rows in order, for which there is room.
+pub fn put_all(rows: &mut Vec<Version>, mut new: Vec<Version>)
+    requires { vec_len rows.old + vec_len new ≤ vec_capacity rows.old }
+    ensures items { rows.new.items ≡ puts version_key new.items rows.old.items }
+    ensures len { vec_len rows.new ≡ vec_len rows.old + vec_len new }
+{
+    while let Some(row) = new.pop() {
+        put_in(rows, row);
+    }
+}
+
+// Whether a version is done and below an epoch.
+#[tactic(auto, unfolding(daos_model::specs::Versions::sees))]
+pub fn is_seen(row: &Version, below: u128) -> bool
+    ensures { result ≡ sees below row.now }
+{
+    row.done && u128::from(row.epoch.0) < below
+}
+
+#[tactic(auto, unfolding(daos_model::specs::Versions::is_pending))]
+pub fn is_pending(row: &Version, attempt: AttemptId) -> bool
+    ensures { result ≡ is_pending attempt row.now }
+{
+    is_same_attempt(row.by, attempt) && !row.done
+}
+
+#[tactic(auto, unfolding(daos_model::specs::Changes::is_in_range))]
+pub fn is_in_range(row: &Version, cont: ContId, lo: Epoch, hi: Epoch) -> bool
+    ensures { result ≡ is_in_range cont lo hi row.now }
+{
+    row.write.path().cont.0 == cont.0 && lo.0 <= row.epoch.0 && row.epoch.0 <= hi.0
+}
+
+#[tactic(auto, unfolding(daos_model::specs::Versions::blocks_read))]
+fn blocks_read(row: &Version, path: &Path, below: Epoch) -> bool
+    ensures { result ≡ blocks_read path.now below.0 row.now }
+{
+    !row.done && row.epoch.0 < below.0 && path.overlaps(row.write.path())
+}
+
+#[tactic(auto, unfolding(daos_model::specs::Versions::is_between))]
+fn is_between(row: &Version, path: &Path, above: Epoch, upto: Epoch) -> bool
+    ensures { result ≡ is_between path.now above.0 upto.0 row.now }
+{
+    above.0 < row.epoch.0 && row.epoch.0 <= upto.0 && path.overlaps(row.write.path())
+}
+
+#[tactic(auto, unfolding(vos_store::specs::Answers::is_open_in))]
+fn is_open_in(row: &Version, cont: ContId, lo: Epoch, hi: Epoch) -> bool
+    ensures { result ≡ is_open_in cont lo hi row.now }
+{
+    is_in_range(row, cont, lo, hi) && !row.done
+}
+
+/// The first version that keeps a read below an epoch from its answer.
+#[tactic(auto, unfolding(daos_model::specs::Versions::first_blocking))]
+pub fn first_blocking<'a>(rows: &'a [Version], path: &Path, below: Epoch) -> Option<&'a Version>
+    ensures { option_copied result ≡ first_blocking path.now below.0 rows.now }
+{
+    rows.iter().find(|row| blocks_read(row, path, below))
+}
+
+/// The first version on a path, above one epoch and up to another.
+#[tactic(auto, unfolding(daos_model::specs::Versions::first_between))]
+pub fn first_between<'a>(
+    rows: &'a [Version],
+    path: &Path,
+    above: Epoch,
+    upto: Epoch,
+) -> Option<&'a Version>
+    ensures { option_copied result ≡ first_between path.now above.0 upto.0 rows.now }
+{
+    rows.iter().find(|row| is_between(row, path, above, upto))
+}
+
+/// The first version of a container in a range of epochs that isn't settled.
+pub fn first_open_in(rows: &[Version], cont: ContId, lo: Epoch, hi: Epoch) -> Option<&Version>
+    ensures { option_copied result ≡ find (is_open_in cont lo hi) rows.now }
+{
+    rows.iter().find(|row| is_open_in(row, cont, lo, hi))
+}
+
+/// The map below an epoch.
+#[tactic(auto, unfolding(daos_model::specs::Versions::map_below))]
+pub fn map_below(alloc: Global, rows: &[Version], below: Epoch) -> Result<Map, Memory>
+    requires { list_all is_version_in_form rows.now ≡ true }
+    ensures { IfOk result (λ map. map ≡ map_below rows.now below.0) }
+{
+    let mut map = Map::new(alloc);
+    for row in rows {
+        if is_seen(row, u128::from(below.0)) {
+            apply_write(&mut map, &row.write)?;
+        }
+    }
+    Ok(map)
+}
+
+#[tactic(auto, unfolding(daos_model::specs::Versions::done_by))]
+fn settle_among(rows: &mut [Version], attempt: AttemptId)
+    ensures { rows.new ≡ map (done_by attempt) rows.old }
+{
+    for row in rows.iter_mut() {
+        if is_same_attempt(row.by, attempt) {
+            row.done = true;
+        }
+    }
+}
+
+/// Makes the versions of an attempt done.
+pub fn settle_all(rows: &mut Vec<Version>, attempt: AttemptId)
+    ensures items { rows.new.items ≡ map (done_by attempt) rows.old.items }
+    ensures len { vec_len rows.new ≡ vec_len rows.old }
+{
+    settle_among(rows, attempt)
+}
+
+/// The blocks that versions take.
+pub fn blocks_of(rows: &[Version], limit: u32) -> u32
+    requires form { list_all is_version_in_form rows.now ≡ true }
+    requires few { versions_blocks rows.now ≤ limit }
+    ensures { result ≡ versions_blocks rows.now }
+{
+    let mut sum = 0;
+    for row in rows {
+        sum += write_blocks(&row.write);
+    }
+    sum
+}
