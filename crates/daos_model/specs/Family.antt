@@ -4,7 +4,6 @@ use Rattle.std.specs.List.{list_any}
 use Rattle.daos_base.specs.declared.entry.Entry.{Entry}
 use Rattle.daos_base.specs.declared.epoch.Epoch.{Epoch}
 use Rattle.daos_base.specs.declared.id.AttemptId.{AttemptId}
-use Rattle.daos_base.specs.declared.id.ContId.{ContId}
 use Rattle.daos_base.specs.declared.snapshot.Snap.{Snap}
 use Rattle.daos_base.specs.Epochs.{restart_floor}
 use Rattle.daos_base.specs.Placement.{path_leader, path_members}
@@ -17,17 +16,9 @@ use Rattle.daos_model.specs.declared.stand.Stand.{Stand}
 use Rattle.daos_model.specs.Cells.{value_at}
 use Rattle.daos_model.specs.Durables.{entry_of}
 use Rattle.daos_model.specs.Effect.{effects}
-use Rattle.daos_model.specs.Versions.{writes_in}
+use Rattle.daos_model.specs.Versions.{version_path, writes_in}
 
 -- ---- resolved attempts
-
-abbrev pub is_committed : Option Entry → Bool
-is_committed None = false
-is_committed (Some e) = e.committed
-
--- a target holds an attempt committed
-abbrev pub holds_committed : AttemptId → Durable → Bool
-holds_committed x d = is_committed (entry_of d x)
 
 -- a target holds an attempt
 abbrev pub holds : AttemptId → Durable → Bool
@@ -42,10 +33,14 @@ abbrev pub all_hold_from : ℕ → Entry → List Durable → Bool
 all_hold_from t e [] = true
 all_hold_from t e (d ∷ ds) = (holds e.attempt d || not (is_in_field e.members t || e.leader == t)) && all_hold_from (t + 1) e ds
 
+-- an entry names targets of the family alone
+abbrev pub is_within : List Durable → Entry → Bool
+is_within F e = nat_lt e.leader (length F) && nat_lt e.members (2 ^ length F)
+
 -- an entry is resolved: it is committed, or its leader and all its members hold the attempt
 abbrev pub is_resolved_entry : List Durable → Option Entry → Bool
 is_resolved_entry F None = false
-is_resolved_entry F (Some e) = e.committed || all_hold_from 0 e F
+is_resolved_entry F (Some e) = e.committed || (is_within F e && all_hold_from 0 e F)
 
 -- an attempt is resolved where some target holds it committed, or its leader and all its members hold it prepared
 unfoldable pub resolved : List Durable → AttemptId → Bool
@@ -57,9 +52,9 @@ resolved F x = list_any (λ d. is_resolved_entry F (entry_of d x)) F
 abbrev pub counts : List Durable → Version → Bool
 counts F v = v.done || resolved F v.by
 
--- and for a snapshot, where it lies below the snapshot's epoch too
-abbrev pub counts_below : List Durable → ℕ → Version → Bool
-counts_below F e v = counts F v && nat_lt v.epoch.0 e
+-- and for a snapshot, where it is of the snapshot's container and lies below its epoch too
+abbrev pub counts_at : List Durable → Snap → Version → Bool
+counts_at F s v = counts F v && ((version_path v).cont.0 == s.cont.0) && nat_lt v.epoch.0 s.epoch.0
 
 -- the map that those of a target's versions make that count, in order of epochs and numbers
 abbrev pub map_where : (Version → Bool) → Durable → List CellValue
@@ -80,13 +75,6 @@ family_map p F = joined (length F) 0 p F
 
 -- ---- what a family stands for
 
-abbrev pub is_in_cont : ContId → CellValue → Bool
-is_in_cont c v = v.cell.path.cont.0 == c.0
-
--- a map's cells in a container
-abbrev pub part_of : ContId → List CellValue → List CellValue
-part_of c m = filter (is_in_cont c) m
-
 abbrev pub is_created : Snap → Bool
 is_created s = s.created
 
@@ -95,9 +83,9 @@ abbrev pub created_snaps : List Durable → List Snap
 created_snaps [] = []
 created_snaps (d ∷ ds) = filter is_created d.snaps
 
--- the map of a snapshot
+-- the map of a snapshot: that of its container, of the versions below its epoch
 abbrev pub snap_map : List Durable → Snap → SnapMap
-snap_map F s = record { cont = s.cont; epoch = s.epoch; map = part_of s.cont (family_map (counts_below F s.epoch.0) F) }
+snap_map F s = record { cont = s.cont; epoch = s.epoch; map = family_map (counts_at F s) F }
 
 -- what a family stands for: its map now, and that of each created snapshot
 unfoldable pub stand : List Durable → Stand
@@ -114,7 +102,7 @@ AgreeOn F p =
 -- the members of each group agree, now and at each created snapshot
 pub record Agree (F : List Durable) : Type 0 where
   pub now : AgreeOn F (counts F)
-  pub snaps : All (λ s. AgreeOn F (counts_below F s.epoch.0)) (created_snaps F)
+  pub snaps : All (λ s. AgreeOn F (counts_at F s)) (created_snaps F)
 
 -- ---- leases
 

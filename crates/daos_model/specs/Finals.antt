@@ -1,5 +1,7 @@
 -- What the regions stand for in the end.
-use Rattle.std.specs.Prelude.{ℕ, ◌≡◌, ◌^◌, ◌⊎◌, Bool, true, List, Option, Some, None, All, Any, is_some}
+use Rattle.std.specs.Prelude.{ℕ, ◌≡◌, ◌^◌, ◌⊎◌, ◌==◌, filter, Bool, true, List, Option, Some, None, All, Any, is_some}
+use Rattle.daos_base.specs.declared.epoch.Epoch.{Epoch}
+use Rattle.daos_base.specs.declared.id.ContId.{ContId}
 use Rattle.daos_base.specs.declared.outcome.Outcome.TheVariants as outcome
 use Rattle.daos_base.specs.declared.report.Attempt.{Attempt}
 use Rattle.daos_base.specs.declared.report.Report.{Report}
@@ -13,9 +15,9 @@ use Rattle.daos_model.specs.declared.stand.Taken.{Taken}
 use Rattle.daos_model.specs.AsOf.{as_of}
 use Rattle.daos_model.specs.Attempts.{is_unsure, tries}
 use Rattle.daos_model.specs.Cells.{value_at}
-use Rattle.daos_model.specs.Family.{Agree, part_of, resolved, stand}
+use Rattle.daos_model.specs.Family.{Agree, greatest_lease, resolved, stand}
 use Rattle.daos_model.specs.Headline.{Headline}
-use Rattle.daos_model.specs.Opening.{Given, Outside, kept_map}
+use Rattle.daos_model.specs.Opening.{Given, Opening, Outside, kept_map}
 use Rattle.daos_model.specs.Snapshots.{MakesSnapshotAt}
 use Rattle.daos_model.specs.TookEffect.{took}
 
@@ -26,6 +28,13 @@ SameMap m n = (c : Cell) → value_at m c ≡ value_at n c
 abbrev pub IsSameAs : List CellValue → Option (List CellValue) → Type 0
 IsSameAs m None = ⊥
 IsSameAs m (Some n) = SameMap m n
+
+abbrev pub is_in_cont : ContId → CellValue → Bool
+is_in_cont c v = v.cell.path.cont.0 == c.0
+
+-- a map's cells in a container
+abbrev pub part_of : ContId → List CellValue → List CellValue
+part_of c m = filter (is_in_cont c) m
 
 -- a snapshot is kept among others, with the same map
 abbrev pub IsKeptIn : List SnapMap → SnapMap → Type 0
@@ -42,7 +51,8 @@ pub record IsNewSnapshot (s : Script) (opening : Stand) (T : List Taken) (attemp
 
 -- a committed snapshot is kept
 abbrev pub IsKept : Script → List SnapMap → Attempt → Type 0
-IsKept s kept a = (k : SnapMap) → MakesSnapshotAt s k.cont k.epoch a → a.outcome ≡ outcome.Committed → is_some (kept_map k.cont k.epoch.0 kept) ≡ true
+IsKept s kept a =
+    (cont : ContId) (epoch : Epoch) → MakesSnapshotAt s cont epoch a → a.outcome ≡ outcome.Committed → is_some (kept_map cont epoch.0 kept) ≡ true
 
 -- the snapshots in the end are those of the opening, and new ones
 pub record SnapsInTheEnd (s : Script) (opening : Stand) (T : List Taken) (attempts : List Attempt) (kept : List SnapMap) : Type 0 where
@@ -55,6 +65,10 @@ pub record StandInTheEnd (g : Given) (F : List Durable) (q : Report) : Type 0 wh
   pub now : SameMap (stand F).now (as_of g.opening.stand (took g.script (resolved F) q.lines) (2 ^ 64))
   pub snaps : SnapsInTheEnd g.script g.opening.stand (took g.script (resolved F) q.lines) (tries q.lines) (stand F).snaps
   pub agree : Agree F
+
+-- what a run begins with over targets of these durable states, with so many blocks free on each
+abbrev pub opening_of : List Durable → (ℕ → ℕ) → Opening
+opening_of B free = record { stand = stand B; lease = greatest_lease B; free = free }
 
 -- the headline, for the durable states that the regions have in the end
 pub record HeadlineOver (g : Given) (o : Outside) (F : List Durable) (q : Report) : Type 0 where

@@ -1,0 +1,7 @@
+// Read timestamps of a target, and the checks of its reads and writes that stand on them.
+#![tactic(auto)]
+
+pub mod checks;
+pub mod stamps;
+#[cfg(test)]
+mod tests;
