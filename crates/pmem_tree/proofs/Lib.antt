@@ -7,3 +7,7 @@ pub mod Growing
 pub mod GrowingRight
 pub mod Inserting
 pub mod Inserted
+pub mod Shrinking
+pub mod Removing
+pub mod Removed
+pub mod Putting

@@ -4,7 +4,9 @@
 mod find;
 mod grow;
 mod join;
+mod put;
 mod read;
+mod shrink;
 pub mod tree;
 mod write;
 
