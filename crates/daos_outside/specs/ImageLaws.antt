@@ -6,7 +6,7 @@ use Rattle.std.proofs.lemmas.Bool.Decides.{nat_tests}
 use Rattle.std.proofs.lemmas.List.{length-take-le, get_or-take, get_or_append_left, get_or-append_right, get_or-drop, length-append, length-drop, ext_get_or}
 use Rattle.std.proofs.Math.Seq.{drop-cons}
 use mathlib.Core.Path.{fun_ext}
-use Rattle.daos_outside.specs.Images.{Image, Range, lies_in, over, bytes_at, image_of, Torn, Tears}
+use Rattle.daos_outside.specs.Images.{Image, Range, lies_in, over, all_over, bytes_at, image_of, Torn, Tears}
 
 -- outside a range that is written over it an image stays
 pub over_outside : (r : Range) (f : Image) (i : ℕ) → lies_in i r ≡ false → over r f i ≡ f i
@@ -124,3 +124,8 @@ part_at f at bytes known m n fits =
     let below : k < n = omega (arith, length-bytes_at f (at + m) n) in
     let place : (at + m) + k ≡ at + (m + k) = omega arith in
     get_or-bytes_at f (at + m) n k below ∙ (ap f place ∙ (known (m + k) (omega arith) ∙ (sym (get_or-drop m bytes k 0) ∙ sym (get_or-take n (drop m bytes) k 0 below)))))
+
+-- one range more is written over an image last
+pub all_over-push : (rs : List Range) (r : Range) (f : Image) → all_over (rs ++ r ∷ []) f ≡ over r (all_over rs f)
+all_over-push [] r f = refl
+all_over-push (q ∷ rs) r f = all_over-push rs r (over q f)

@@ -7,3 +7,4 @@ pub mod SinkState
 pub mod RackState
 pub mod Transfers
 pub mod Adapters
+pub mod Racks

@@ -1,7 +1,7 @@
 // A rack in memory whose regions never fail.
 ghost use Rattle.std.specs.Prelude.{◌≡◌, IfOk, IfSome, IfNone, IsErr, Ok, Some, None, replicate, slice_set, refl};
 ghost use Rattle.daos_outside.specs.Causes.{HasCause, one_more};
-ghost use Rattle.daos_outside.specs.RackState.{region_at_home};
+ghost use Rattle.daos_outside.specs.RackState.{region_at_home, image_at_home, size_at_home, is_out_of_home};
 
 use crate::count_clock::CountClock;
 use crate::rack::Rack;
@@ -48,6 +48,16 @@ impl Rack for SureRack {
 
     ghost count = { λ r. r.faults };
 
+    ghost is_out = { λ r t. is_out_of_home r t };
+
+    ghost next_image = { λ r t. image_at_home r t };
+
+    ghost next_leaves = { λ r t c. c ≡ image_at_home r t };
+
+    ghost next_faults = { λ _ _. 0 };
+
+    ghost next_size = { λ r t. size_at_home r t };
+
     ghost cannot_burn = { refl };
 
     fn region(&mut self, t: TargetId, _size: u64) -> Result<SureRegion, Failed>
@@ -55,6 +65,7 @@ impl Rack for SureRack {
         ensures sure { IfSome (region_at_home self.old t) (λ r. result ≡ Ok r) }
         ensures handed_out { IfSome (region_at_home self.old t) (λ _. self.new ≡
             record self.old { regions = slice_set self.old.regions t None }) }
+        ensures found { IfOk result (λ r. region_at_home self.old t ≡ Some r) }
         ensures bad_use { IfNone (region_at_home self.old t) (IsErr result) }
         ensures refused { IfNone (region_at_home self.old t) (self.new ≡
             record self.old { faults = one_more self.old.faults }) }

@@ -3,12 +3,13 @@ use Rattle.std.proofs.Common.{◌≡◌, ℕ, zero, suc, ◌+◌, ◌≤◌, ◌
 use mathlib.Core.Path.{fun_ext}
 use Rattle.std.proofs.lemmas.List.{map-append}
 use Rattle.daos_outside.specs.Images.{Range, over, all_over, image_of}
+use Rattle.daos_outside.specs.ImageLaws.{all_over-push}
 use Rattle.daos_regions.specs.declared.piece.Piece.{Piece}
 use Rattle.daos_regions.specs.declared.piece.Stretch.{Stretch}
 use Rattle.daos_regions.specs.declared.keep.Keep.{Keep}
 use Rattle.daos_regions.specs.declared.keep.Keep.TheVariants.{All}
 use Rattle.daos_regions.specs.Periods.{Period, range_of, ranges_of, period_of, periods_of, kept_from, all_ended, zeros, AllFit, HoldsDisk}
-use Rattle.daos_regions.specs.PeriodLaws.{all_over-push, all_ended-push, all_kept, fit-push}
+use Rattle.daos_regions.specs.PeriodLaws.{all_ended-push, all_kept, fit-push}
 
 zero_at : (n i : ℕ) → get_or (replicate n (let z : ℕ = 0 in z)) i 0 ≡ 0
 zero_at zero i = refl

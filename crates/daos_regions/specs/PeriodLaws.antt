@@ -2,7 +2,7 @@
 use Rattle.std.specs.Prelude.{◌≡◌, ◌⊎◌, ℕ, zero, suc, ◌+◌, ◌≤◌, Bool, true, false, cond, List, [], ◌∷◌, ◌++◌, length, refl}
 use Rattle.std.proofs.Common.{ap, ◌∙◌, arith, inl, inr}
 use Rattle.daos_outside.specs.Images.{Image, Range, lies_in, lies_in_some, over, all_over, Torn, Tears, Elapses, NoMore}
-use Rattle.daos_outside.specs.ImageLaws.{over_outside}
+use Rattle.daos_outside.specs.ImageLaws.{all_over-push, over_outside}
 use Rattle.daos_regions.specs.declared.keep.Keep.{Keep}
 use Rattle.daos_regions.specs.declared.keep.Keep.TheVariants.{All}
 use Rattle.daos_regions.specs.Periods.{Period, DiskState, is_kept, kept_from, ended, all_ended, zeros, kept, read_now, MayLeave, MayHaveLeft, LeftSince, Remembers, AllFit}
@@ -74,10 +74,6 @@ torn_more rs r f c torn =
 
 torn_fewer : (rs : List Range) (r : Range) (f c : Image) → Torn rs f c → Torn (rs ++ r ∷ []) f c
 torn_fewer rs r f c torn i out = torn i (lies-parts i rs r out).0
-
-pub all_over-push : (rs : List Range) (r : Range) (f : Image) → all_over (rs ++ r ∷ []) f ≡ over r (all_over rs f)
-all_over-push [] r f = refl
-all_over-push (q ∷ rs) r f = all_over-push rs r (over q f)
 
 -- a disk with one write more
 abbrev pub written : DiskState → Range → DiskState

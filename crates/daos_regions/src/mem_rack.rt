@@ -1,7 +1,9 @@
 // A rack in memory whose calls fail by their numbers.
-ghost use Rattle.std.specs.Prelude.{◌≡◌, IfOk, IfSome, IfNone, OnOk, OnErr, IsErr, IsTrue, Contains, Ok, Some, None, [], replicate, slice_set, refl, false};
+ghost use Rattle.std.specs.Prelude.{◌≡◌, IfOk, IfSome, IfNone, OnOk, OnErr, IsErr, IsTrue, Contains, Ok, Some, None, [], replicate, slice_set, refl, true, false};
 ghost use Rattle.daos_outside.specs.Causes.{HasCause, one_more};
-ghost use Rattle.daos_regions.specs.MemRackState.{region_at_home};
+ghost use Rattle.daos_regions.specs.MemRackState.{region_at_home, kept_region, opened_image, is_out_of_home, HoldsBack, KeepsOthers, TakesBack};
+ghost use Rattle.daos_outside.specs.Images.{NoMore};
+ghost use Rattle.daos_regions.specs.Periods.{MayLeave};
 ghost use Rattle.daos_regions.specs.PeriodLaws.{after_end};
 ghost use Rattle.daos_regions.specs.declared.keep.Keep.TheVariants.{All};
 
@@ -84,6 +86,16 @@ impl Rack for MemRack {
 
     ghost count = { λ r. r.calls.faults };
 
+    ghost is_out = { λ r t. is_out_of_home r.regions t };
+
+    ghost next_image = { λ r t. opened_image (kept_region r.regions t) };
+
+    ghost next_leaves = { λ r t c. MayLeave (kept_region r.regions t).disk c };
+
+    ghost next_faults = { λ r t. (kept_region r.regions t).calls.faults };
+
+    ghost next_size = { λ r t. (kept_region r.regions t).disk.size };
+
     ghost cannot_burn = { refl };
 
     fn region(&mut self, t: TargetId, _size: u64) -> Result<MemRegion, Failed>
@@ -94,6 +106,10 @@ impl Rack for MemRack {
         ensures opened { IfOk result (λ r. IfSome (region_at_home self.old.regions t) (λ m. r.disk ≡ after_end m.disk m.keep)) }
         ensures away { IfNone (region_at_home self.old.regions t) (IsErr result) }
         ensures handed_out { OnOk result (self.new.regions ≡ slice_set self.old.regions t None) }
+        ensures crash { IfOk result (λ r. NoMore (MayLeave (kept_region self.old.regions t).disk) (MayLeave r.disk)) }
+        ensures faults { IfOk result (λ r. r.calls.faults ≡ (kept_region self.old.regions t).calls.faults) }
+        ensures held_back { OnErr result (HoldsBack self.old.regions self.new.regions t) }
+        ensures others { KeepsOthers self.old.regions self.new.regions t }
     {
         if self.plan.next_call_fails() {
             return Err(Failed);
@@ -123,7 +139,8 @@ impl Rack for MemRack {
     }
 
     fn take_back(&mut self, t: TargetId, region: MemRegion)
-        ensures { self.new ≡ record self.old { regions = slice_set self.old.regions t (Some region) } }
+        ensures put { self.new ≡ record self.old { regions = slice_set self.old.regions t (Some region) } }
+        ensures back { is_out_of_home self.old.regions t ≡ true → TakesBack region self.new.regions t }
     {
         put_in(&mut self.regions, t as usize, region);
     }

@@ -1,5 +1,6 @@
 // A rack whose clock gives readings that are planned.
-ghost use Rattle.std.specs.Prelude.{None, refl};
+ghost use Rattle.std.specs.Prelude.{◌≡◌, None, refl};
+ghost use Rattle.daos_outside.specs.RackState.{image_at_home, size_at_home, is_out_of_home};
 
 use daos_outside::clock::Clock;
 use daos_outside::rack::Rack;
@@ -40,6 +41,16 @@ impl Rack for PlannedRack {
     type Clock = PlannedClock;
 
     ghost count = { λ r. r.inner.faults };
+
+    ghost is_out = { λ r t. is_out_of_home r.inner t };
+
+    ghost next_image = { λ r t. image_at_home r.inner t };
+
+    ghost next_leaves = { λ r t c. c ≡ image_at_home r.inner t };
+
+    ghost next_faults = { λ _ _. 0 };
+
+    ghost next_size = { λ r t. size_at_home r.inner t };
 
     ghost cannot_burn = { refl };
 

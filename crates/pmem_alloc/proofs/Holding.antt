@@ -3,11 +3,10 @@ use Rattle.std.proofs.Common.{◌≡◌, ℕ, ◌+◌, ◌≤◌, ◌<◌, Bool,
 use Rattle.std.specs.Prelude.{IsTrue, Result, Ok, Err, OnOk, OnErr, is_err}
 use Rattle.std.proofs.lemmas.Bool.Decides.{nat_tests}
 use Rattle.daos_outside.specs.Images.{Image, Range, lies_in, all_over, bytes_at}
-use Rattle.daos_outside.specs.ImageLaws.{over_outside, get_or-bytes_at}
+use Rattle.daos_outside.specs.ImageLaws.{all_over-push, over_outside, get_or-bytes_at}
 use Rattle.pmem_undo.specs.Layout.{SameContent, is_content}
 use Rattle.pmem_alloc.specs.Map.{map_place, map_length, blocks_end, StandsIn}
 use Rattle.pmem_alloc.specs.Blocks.{HoldsBlocks, IsOutsideMap}
-use Rattle.pmem_alloc.proofs.Staging.{all_over-push}
 
 -- bytes staged outside the map
 pub holds_staged : (size : ℕ) (tells : Bool) (image : Image) (staged : List Range) (stopped : Bool) (map lasting : List ℕ) (end end' many place : ℕ) (bytes : List ℕ) → HoldsBlocks size tells image staged stopped map lasting end end' many → IsOutsideMap place (length bytes) → HoldsBlocks size tells image (staged ++ record { place = place; bytes = bytes } ∷ []) stopped map lasting end end' many

@@ -3,13 +3,14 @@ use Rattle.std.proofs.Common.{◌≡◌, ◌⊎◌, ℕ, ◌+◌, ◌*◌, ◌�
 use Rattle.daos_outside.specs.Images.{Image, Range, over, all_over, bytes_at}
 use Rattle.pmem_pages.specs.Blocks.{put, IsSpent}
 use Rattle.pmem_undo.specs.Layout.{total_bytes}
+use Rattle.daos_outside.specs.ImageLaws.{all_over-push}
 use Rattle.pmem_alloc.specs.Sets.{Set, set_to, IsLeast, count_below}
 use Rattle.pmem_alloc.specs.Map.{free_of, blocks_of, map_place, map_end}
 use Rattle.pmem_alloc.specs.Blocks.{BlocksState, free_now, free_count, StagesMap}
 use Rattle.pmem_alloc.specs.Pages.{shown, left}
 use Rattle.pmem_alloc.proofs.Counting.{count_in, count_out}
 use Rattle.pmem_alloc.specs.Laws.{free_in_within}
-use Rattle.pmem_alloc.proofs.Staging.{all_over-push, total-push}
+use Rattle.pmem_alloc.proofs.Staging.{total-push}
 use Rattle.pmem_alloc.proofs.Paging.{block_staged, block_taken_now, block_given, block_free}
 
 -- a block was given back

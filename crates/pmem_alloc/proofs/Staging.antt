@@ -4,15 +4,11 @@ use mathlib.Core.Path.{fun_ext}
 use Rattle.std.proofs.lemmas.Bool.{cases_lt}
 use Rattle.std.proofs.lemmas.Bool.Decides.{nat_tests, eqb_tells}
 use Rattle.daos_outside.specs.Images.{Image, Range, lies_in, over, all_over}
-use Rattle.daos_outside.specs.ImageLaws.{over_outside, over_inside}
+use Rattle.daos_outside.specs.ImageLaws.{all_over-push, over_outside, over_inside}
 use Rattle.pmem_undo.specs.Layout.{total_bytes}
 use Rattle.pmem_alloc.specs.Map.{map_place, map_length, map_byte, StandsIn, MapState, free_blocks, free_in, blocks_end, is_free}
 use Rattle.pmem_alloc.specs.Blocks.{StagesMap, IsBlocks, HoldsBlocks}
 use Rattle.pmem_alloc.proofs.Marking.{not_free_outside}
-
-pub all_over-push : (rs : List Range) (r : Range) (f : Image) → all_over (rs ++ r ∷ []) f ≡ over r (all_over rs f)
-all_over-push [] r f = refl
-all_over-push (q ∷ rs) r f = all_over-push rs r (over q f)
 
 pub total-push : (rs : List Range) (r : Range) → total_bytes (rs ++ r ∷ []) ≡ total_bytes rs + length r.bytes
 total-push [] r = omega arith

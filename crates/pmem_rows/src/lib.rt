@@ -4,4 +4,6 @@
 #[cfg(test)]
 mod block_rows;
 #[cfg(test)]
+mod file_rows;
+#[cfg(test)]
 mod tests;

@@ -11,13 +11,13 @@ use std::alloc::Global;
 use std::test::Fail;
 
 // The least size of a region with an undo log.
-const SIZE: u64 = 323584;
+pub(crate) const SIZE: u64 = 323584;
 
 // A place of content.
 const PLACE: u64 = 4096;
 
 // Stages three bytes and commits them. None where there was no room, and else whether it went well.
-fn commit<R: Region>(undo: &mut UndoRegion<R>, bytes: &[u8; 3]) -> Option<bool> {
+pub(crate) fn commit<R: Region>(undo: &mut UndoRegion<R>, bytes: &[u8; 3]) -> Option<bool> {
     if undo.size() != SIZE || undo.stage(PLACE, bytes).is_err() {
         return None;
     }
@@ -25,7 +25,7 @@ fn commit<R: Region>(undo: &mut UndoRegion<R>, bytes: &[u8; 3]) -> Option<bool> 
 }
 
 // The three bytes that stand there after the region was opened anew and attached to.
-fn bytes_after<R: Region + Drop>(alloc: Global, undo: UndoRegion<R>) -> Option<[u8; 3]> {
+pub(crate) fn bytes_after<R: Region + Drop>(alloc: Global, undo: UndoRegion<R>) -> Option<[u8; 3]> {
     let mut region = undo.into_region();
     if region.size() != SIZE || region.reopen().is_err() {
         return None;

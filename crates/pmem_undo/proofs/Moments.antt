@@ -48,11 +48,6 @@ sofar_flush t0 t t2 s0 s s2 may may2 P r less e =
     let ok = λ (c : Image) (h : may2 c). r.now c (less c h) in
     record { leaves = leaves_more t0 t t2 s0 s s2 P may2 r.leaves e ok; now = ok }
 
--- one range more
-pub all_over-push : (rs : List Range) (r : Range) (f : Image) → all_over (rs ++ r ∷ []) f ≡ over r (all_over rs f)
-all_over-push [] r f = refl
-all_over-push (q ∷ rs) r f = all_over-push rs r (over q f)
-
 lies-parts : (i : ℕ) (xs ys : List Range) → lies_in_some i (xs ++ ys) ≡ false → (lies_in_some i xs ≡ false) × (lies_in_some i ys ≡ false)
 lies-parts i [] ys h = (refl, h)
 lies-parts i (x ∷ xs) ys h =
