@@ -1,10 +1,9 @@
 -- Rows below an attempt, one more in order.
-use Rattle.std.proofs.Common.{◌≡◌, ℕ, ◌+◌, ◌*◌, ◌<◌, ◌≤◌, Bool, true, false, cond, leb, List, [], ◌∷◌, ◌++◌, map, refl, sym, ap, ◌∙◌, append_assoc, append-nil, arith}
+use Rattle.std.proofs.Common.{◌≡◌, ℕ, ◌+◌, ◌*◌, ◌<◌, ◌≤◌, Bool, true, false, cond, leb, List, [], ◌∷◌, ◌++◌, map, refl, sym, ap, ◌∙◌, append_assoc, arith}
 use Rattle.std.specs.List.{AllByRecursion}
 use Rattle.std.proofs.lemmas.Bool.Decides.{nat_tests}
 use Rattle.std.proofs.lemmas.List.{map-append}
 use Rattle.daos_base.specs.declared.answer.Answer.{Answer}
-use Rattle.daos_text.specs.Rows.{Words}
 use Rattle.daos_report.specs.Reports.{cond_row, got_row, conds_until, conds_after, detail_rows}
 
 abbrev pub Below : ℕ → ℕ × Bool → Type 0

@@ -1,5 +1,5 @@
 -- What is read is spelled as the text says.
-use Rattle.std.proofs.Common.{◌≡◌, ℕ, suc, ◌+◌, ◌*◌, ◌<◌, ◌≤◌, Bool, true, false, cond, ◌&&◌, leb, eqb, List, [], ◌∷◌, ◌++◌, length, map, flat_map, Option, Some, None, Result, Ok, Err, refl, sym, ap, ◌∙◌, subst, append_assoc, append-nil, arith}
+use Rattle.std.proofs.Common.{◌≡◌, ℕ, ◌+◌, ◌*◌, ◌≤◌, Bool, true, false, cond, ◌&&◌, leb, eqb, List, [], ◌∷◌, ◌++◌, length, flat_map, Option, Some, None, Result, Ok, Err, refl, sym, ap, ◌∙◌, subst, append_assoc, append-nil, arith}
 use Rattle.std.specs.Str.{bytes_eq}
 use Rattle.std.specs.List.{AllByRecursion}
 use Rattle.std.proofs.lemmas.Bool.Decides.{nat_tests}
@@ -25,7 +25,7 @@ use Rattle.daos_report_reader.specs.declared.rows.Told.{Told}
 use Rattle.daos_report_reader.specs.declared.rows.Told.TheVariants.{Try, Cond, Got, Other}
 use Rattle.daos_report_reader.specs.Marks.{Marks, ops_of, table_of}
 use Rattle.daos_report_reader.specs.Reads.{◌>>=◌}
-use Rattle.daos_report_reader.specs.Reading.{asked, reads, cond_added, got_added, with_cond, with_got, lines_of, some_open, with_try, stop_after, down_after, with_line, reopened, with_cond_last, with_got_last, put, nothing_read, at_head, report_read, at_end, row_of, inside, next_of, bad_at, or_bad_line, step, finished, report_of}
+use Rattle.daos_report_reader.specs.Reading.{asked, reads, cond_added, got_added, with_cond, with_got, lines_of, some_open, with_try, stop_after, down_after, with_line, reopened, with_cond_last, with_got_last, put, nothing_read, at_head, report_read, at_end, row_of, next_of, bad_at, or_bad_line, step, finished, report_of}
 use Rattle.daos_report_reader.specs.Rows.{told_of}
 use Rattle.daos_report_reader.specs.Told.{told_text, spelled, is_bare, outcome_fits_in, attempt_fits, answer_fits, line_fits}
 use Rattle.daos_report_reader.proofs.Order.{Below, GotBelow, details-cond, details-got, all-below, all-push}

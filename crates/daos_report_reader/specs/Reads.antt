@@ -1,5 +1,5 @@
 -- What a reader of words gives: a value, or nothing where the words say none.
-use Rattle.std.specs.Prelude.{◌≡◌, List, ℕ, Result, Ok, Err, Option, Some, None}
+use Rattle.std.specs.Prelude.{◌≡◌, ℕ, Result, Ok, Err, Option, Some, None}
 use Rattle.daos_text.specs.Rows.{Words}
 use Rattle.daos_report_reader.specs.declared.fault.ReportNo.{ReportNo}
 use Rattle.daos_report_reader.specs.declared.fault.ReportNo.TheVariants as report

@@ -1,6 +1,6 @@
 use Rattle.std.proofs.Common.{◌≡◌, ◌++◌, drop, map}
 use Rattle.std.specs.List.{filter_map}
-use Rattle.daos_report_reader.specs.Marks.{marks_of, table_of}
+use Rattle.daos_report_reader.specs.Marks.{marks_of}
 use Rattle.daos_report_reader.proofs.marks.table_of.Given as goal
 
 abbrev pub invariant-loop-commands : goal.invariant-loop-commands
