@@ -11,9 +11,9 @@ use daos_base::items::Memory;
 use daos_base::report::Attempt;
 use daos_base::script::Script;
 
-// Adds the row of how an attempt ended.
+/// Adds the row of how an attempt ended.
 #[tactic(auto, using(crate::proofs::Joins::joins))]
-fn push_try(out: &mut Vec<u8>, script: &Script, attempt: &Attempt) -> Result<(), Memory>
+pub fn push_try(out: &mut Vec<u8>, script: &Script, attempt: &Attempt) -> Result<(), Memory>
     ensures { OnOk result (out.new.items ≡ out.old.items ++ rows_text (try_row script.now attempt.now ∷ [])) }
 {
     out.extend_from_slice(b"try")?;
@@ -36,8 +36,8 @@ fn push_yes(out: &mut Vec<u8>, holds: bool) -> Result<(), Memory>
     Ok(())
 }
 
-// Adds the row of a condition.
-fn push_cond(out: &mut Vec<u8>, cond: (u8, bool)) -> Result<(), Memory>
+/// Adds the row of a condition.
+pub fn push_cond(out: &mut Vec<u8>, cond: (u8, bool)) -> Result<(), Memory>
     ensures { OnOk result (out.new.items ≡ out.old.items ++ rows_text (cond_row cond ∷ [])) }
 {
     out.extend_from_slice(b"cond")?;
@@ -47,9 +47,9 @@ fn push_cond(out: &mut Vec<u8>, cond: (u8, bool)) -> Result<(), Memory>
     Ok(())
 }
 
-// Adds the row of an answer.
+/// Adds the row of an answer.
 #[tactic(auto, using(crate::proofs::Joins::joins))]
-fn push_got(out: &mut Vec<u8>, got: &(u8, Answer)) -> Result<(), Memory>
+pub fn push_got(out: &mut Vec<u8>, got: &(u8, Answer)) -> Result<(), Memory>
     ensures { OnOk result (out.new.items ≡ out.old.items ++ rows_text (got_row got.now ∷ [])) }
 {
     out.extend_from_slice(b"got")?;

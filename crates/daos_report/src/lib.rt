@@ -2,8 +2,8 @@
 #![tactic(auto)]
 
 mod answers;
-mod attempts;
-mod lines;
+pub mod attempts;
+pub mod lines;
 mod names;
 mod outcomes;
 #[cfg(test)]

@@ -1,0 +1,4 @@
+pub mod Hex
+pub mod Loop
+pub mod Order
+pub mod Sound

@@ -1,0 +1,213 @@
+// Reads a report.
+ghost use Rattle.std.specs.Prelude.{◌≡◌, ◌+◌, ◌^◌, ◌<◌, ◌++◌, ◌∷◌, [], IfOk, length};
+ghost use Rattle.daos_text.specs.Rows.{row_line};
+ghost use Rattle.daos_report.specs.Reports.{end_row, head_row};
+ghost use Rattle.daos_report_reader.specs.Law.{ReadsTexts};
+ghost use Rattle.daos_report_reader.specs.Reads.{Reads, ReadsAt};
+ghost use Rattle.daos_report_reader.specs.Reading.{at_end, at_head, bad_at, finished, inside, next_of, report_of, row_of, step};
+
+use crate::fault::{ReportNo, RowNo};
+use crate::marks::{Marks, table_of};
+use crate::reading::Reading;
+use crate::rows::told_of;
+use crate::told::spelled;
+use daos_base::epoch::TargetId;
+use daos_base::items::{Items, Memory};
+use daos_base::report::Report;
+use daos_base::script::Script;
+use daos_text::parts::Parts;
+use itoa::Buffer;
+use std::alloc::Global;
+
+/// Where in a report a line stands.
+#[derive(Debug, Drop)]
+pub enum Stage {
+    /// At the first line.
+    Start,
+    /// Behind it.
+    Inside(Reading),
+    /// Behind the last line, whose end was not seen yet.
+    Ended(Report),
+    /// Behind the end of the last line.
+    Whole(Report),
+}
+
+fn head_line(alloc: Global, targets: u8) -> Result<Vec<u8>, Memory>
+    ensures { IfOk result (λ line. line.items ≡ row_line (head_row targets)) }
+{
+    let mut buffer = Buffer::new();
+    let mut line = Vec::new(alloc);
+    line.extend_from_slice(b"daos 1 targets ")?;
+    line.extend_from_slice(buffer.format(targets).as_bytes())?;
+    Ok(line)
+}
+
+fn end_line(down: Option<TargetId>) -> &'static [u8]
+    ensures { result.now ≡ row_line (end_row down) }
+{
+    match down {
+        Some(_) => b"end 8",
+        None => b"end 0",
+    }
+}
+
+// The first line.
+#[tactic(auto, unfolding(crate::specs::Reading::at_head))]
+fn at_head(alloc: Global, script: &Script, line: &[u8]) -> Result<Stage, RowNo>
+    ensures { Reads (λ s. s) result (at_head script.now line.now) }
+{
+    let head = head_line(alloc, script.targets)?;
+    if head.as_slice() == line {
+        Ok(Stage::Inside(Reading {
+            lines: Items::new(alloc),
+            last: None,
+            next_stop: Some(0),
+            down: None,
+        }))
+    } else {
+        Err(RowNo::Bad)
+    }
+}
+
+// The last line.
+#[tactic(auto, unfolding(crate::specs::Reading::at_end))]
+fn at_end(script: &Script, reading: Reading) -> Result<Stage, RowNo>
+    ensures { Reads (λ s. s) result (at_end script.now reading) }
+{
+    let down = reading.down;
+    let lines = reading.into_lines()?;
+    Ok(Stage::Ended(Report {
+        targets: script.targets,
+        lines,
+        down,
+    }))
+}
+
+// A line between them.
+#[tactic(auto, unfolding(crate::specs::Reading::row_of))]
+fn row_of(
+    alloc: Global,
+    script: &Script,
+    table: &[Items<Marks>],
+    reading: Reading,
+    line: &[u8],
+) -> Result<Stage, RowNo>
+    ensures { Reads (λ s. s) result (row_of script.now table.now reading line.now) }
+{
+    let mut words = Parts::new(b' ', line);
+    let told = told_of(alloc, script, &mut words)?;
+    let told = spelled(alloc, script, line, told)?;
+    let reading = reading.put(script, table, told)?;
+    Ok(Stage::Inside(reading))
+}
+
+fn inside(
+    alloc: Global,
+    script: &Script,
+    table: &[Items<Marks>],
+    reading: Reading,
+    line: &[u8],
+) -> Result<Stage, RowNo>
+    ensures { Reads (λ s. s) result (inside script.now table.now reading line.now) }
+{
+    if line == end_line(reading.down) {
+        at_end(script, reading)
+    } else {
+        row_of(alloc, script, table, reading, line)
+    }
+}
+
+// One line more.
+fn next_of(
+    alloc: Global,
+    script: &Script,
+    table: &[Items<Marks>],
+    stage: Stage,
+    line: &[u8],
+) -> Result<Stage, RowNo>
+    ensures { Reads (λ s. s) result (next_of script.now table.now stage line.now) }
+{
+    match stage {
+        Stage::Start => at_head(alloc, script, line),
+        Stage::Inside(reading) => inside(alloc, script, table, reading, line),
+        Stage::Ended(report) => {
+            if line.is_empty() {
+                Ok(Stage::Whole(report))
+            } else {
+                Err(RowNo::Bad)
+            }
+        }
+        Stage::Whole(_) => Err(RowNo::Bad),
+    }
+}
+
+// The line that is bad where the one of this number can't be read.
+fn bad_at(at: u32, stage: &Stage) -> u32
+    ensures { result ≡ bad_at at stage.now }
+{
+    match stage {
+        Stage::Start => at,
+        Stage::Inside(_) => at,
+        Stage::Ended(_) => at,
+        Stage::Whole(_) => at.saturating_sub(1),
+    }
+}
+
+// One line more, which has this number.
+#[tactic(auto, unfolding(crate::specs::Reading::step))]
+fn step(
+    alloc: Global,
+    script: &Script,
+    table: &[Items<Marks>],
+    at: u32,
+    stage: Stage,
+    line: &[u8],
+) -> Result<Stage, ReportNo>
+    ensures { ReadsAt (λ s. s) result (step script.now table.now at stage line.now) }
+{
+    let bad = bad_at(at, &stage);
+    match next_of(alloc, script, table, stage, line) {
+        Ok(stage) => Ok(stage),
+        Err(RowNo::Bad) => Err(ReportNo::BadLine(bad)),
+        Err(RowNo::Memory) => Err(ReportNo::Memory),
+    }
+}
+
+// The report, where all was read with the line of this number.
+fn finished(at: u32, stage: Stage) -> Result<Report, ReportNo>
+    ensures { ReadsAt (λ q. q) result (finished at stage) }
+{
+    match stage {
+        Stage::Whole(report) => Ok(report),
+        Stage::Start => Err(ReportNo::BadLine(at)),
+        Stage::Inside(_) => Err(ReportNo::BadLine(at)),
+        Stage::Ended(_) => Err(ReportNo::BadLine(at)),
+    }
+}
+
+/// The report of a text for a script.
+///
+/// # Errors
+///
+/// `BadLine` with the first line, counted from 1, that is none of the format: for a text whose end
+/// is missing the line behind the last, and for one that goes on behind its end the line there.
+pub fn read_report(alloc: Global, bytes: &[u8], script: &Script) -> Result<Report, ReportNo>
+    requires { length bytes.now + 1 < 2 ^ 32 }
+    ensures { ReadsAt (λ q. q) result (report_of script.now bytes.now) }
+{
+    let table = table_of(alloc, script)?;
+    let marks = table.as_slice();
+    let mut lines = Parts::new(b'\n', bytes);
+    let mut stage = Stage::Start;
+    let mut at: u32 = 0;
+    while let Some(line) = lines.take_part() {
+        at += 1;
+        stage = step(alloc, script, marks, at, stage, line)?;
+    }
+    finished(at, stage)
+}
+
+/// A report is read of its own text alone.
+pub fn reads_texts()
+    ensures { ReadsTexts }
+{}
