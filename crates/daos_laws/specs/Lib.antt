@@ -1,0 +1,4 @@
+pub mod Members
+pub mod RisingLaws
+pub mod NameLaws
+pub mod ReadLaws

@@ -1,0 +1,4 @@
+// Laws of the model: what holds of all reads, maps, versions and transactions.
+#![tactic(auto)]
+
+pub mod reads;
