@@ -5,3 +5,5 @@ pub mod ReadLaws
 pub mod WriteLaws
 pub mod Dated
 pub mod VersionLaws
+pub mod Groups
+pub mod JoinLaws

@@ -106,11 +106,11 @@ names_below name p [] = []
 names_below name p (v ∷ m) = option_before (name_if name p v.cell) (names_below name p m)
 
 -- a name is that of a cell under the path
-record Named (name : Path → Option (List ℕ)) (p : Path) (m : List CellValue) (k : List ℕ) : Type 0 where
-  cell : Cell
-  under : leads_to p cell.path ≡ true
-  is : name cell.path ≡ Some k
-  held : Held m cell
+pub record Named (name : Path → Option (List ℕ)) (p : Path) (m : List CellValue) (k : List ℕ) : Type 0 where
+  pub cell : Cell
+  pub under : leads_to p cell.path ≡ true
+  pub is : name cell.path ≡ Some k
+  pub held : Held m cell
 
 named-more : (name : Path → Option (List ℕ)) (p : Path) (v : CellValue) (m : List CellValue) (k : List ℕ) → Named name p m k → Named name p (v ∷ m) k
 named-more name p v m k h = record { cell = h.cell; under = h.under; is = h.is; held = held-more v m h.cell h.held }
@@ -149,10 +149,10 @@ names_below-same : (name : Path → Option (List ℕ)) (p : Path) (m n : List Ce
 names_below-same name p m n same =
     names-same (names_below name p m) (names_below name p n) (names_below-kept name p m n same) (names_below-kept name p n m (λ c at. sym (same c at)))
 
-abbrev dkey_name : Path → Option (List ℕ)
+abbrev pub dkey_name : Path → Option (List ℕ)
 dkey_name p = p.dkey
 
-abbrev akey_name : Path → Option (List ℕ)
+abbrev pub akey_name : Path → Option (List ℕ)
 akey_name p = p.akey
 
 dkeys-names : (p : Path) (m : List CellValue) → dkeys_below p m ≡ names_below dkey_name p m
@@ -164,6 +164,13 @@ akeys-names : (p : Path) (m : List CellValue) → akeys_below p m ≡ names_belo
 unfolding akeys_below
 akeys-names p [] = refl
 akeys-names p (v ∷ m) = ap (option_before (akey_under p v)) (akeys-names p m)
+
+-- a dkey is among those of a path exactly where a cell under the path has it
+pub has-dkeys : (p : Path) (m : List CellValue) (k : List ℕ) → Has k (dkeys_below p m) → Named dkey_name p m k
+has-dkeys p m k h = has-named dkey_name p m k (subst (Has k) (dkeys-names p m) h)
+
+pub dkeys-has : (p : Path) (m : List CellValue) (k : List ℕ) (c : Cell) → leads_to p c.path ≡ true → c.path.dkey ≡ Some k → Held m c → Has k (dkeys_below p m)
+dkeys-has p m k c at is h = subst (Has k) (sym (dkeys-names p m)) (named-has dkey_name p m k c at is h)
 
 -- ---- pieces
 

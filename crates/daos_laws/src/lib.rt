@@ -1,5 +1,6 @@
 // Laws of the model: what holds of all reads, maps, versions and transactions.
 #![tactic(auto)]
 
+pub mod groups;
 pub mod reads;
 pub mod versions;
