@@ -7,3 +7,5 @@ pub mod Dated
 pub mod VersionLaws
 pub mod Groups
 pub mod JoinLaws
+pub mod Decided
+pub mod DecidedLaws

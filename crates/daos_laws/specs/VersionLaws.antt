@@ -57,10 +57,10 @@ module _ {T : Type 0} (key : T → List ℕ) where
       later z (inr j) = h x z (inl refl) j
 
   -- the first of a list differs from the others, and these from one another
-  pairs-head : (R : T → T → Type 0) (x : T) (xs : List T) (y : T) → AllPairs R (x ∷ xs) → Has y xs → R x y
+  pub pairs-head : (R : T → T → Type 0) (x : T) (xs : List T) (y : T) → AllPairs R (x ∷ xs) → Has y xs → R x y
   pairs-head R x xs y all i = let at = contains-from_has xs y i in subst (R x) at.2 (all zero (suc at.0) y (omega arith) (omega (arith, at.1)))
 
-  pairs-tail : (R : T → T → Type 0) (x : T) (xs : List T) → AllPairs R (x ∷ xs) → AllPairs R xs
+  pub pairs-tail : (R : T → T → Type 0) (x : T) (xs : List T) → AllPairs R (x ∷ xs) → AllPairs R xs
   pairs-tail R x xs all i j d lt short = all (suc i) (suc j) d (omega arith) (omega arith)
 
   -- in order, and no two of one key
