@@ -60,6 +60,7 @@ has-from_put {T = T} key v (u ∷ us) x h = by (has-from_put key v us x) (is_bef
     deeper : Has x (v ∷ us) → Has x (v ∷ u ∷ us)
     deeper (inl same) = inl same
     deeper (inr i) = inr (inr i)
+
     by : (Has x (put key v us) → Has x (v ∷ us)) → (b : Bool) → Has x (if b then u ∷ put key v us else v ∷ u ∷ us) → Has x (v ∷ u ∷ us)
     by rest false h = h
     by rest true (inl same) = inr (inl same)
@@ -147,7 +148,7 @@ has-from_dated (d ∷ ds) x h = at (has-from_dated ds x) (has-cases (dated_by d)
 pub epoch-dated : (d : Decided) (x : Dated) → Has x (dated_by d) → x.epoch ≡ d.epoch.0
 epoch-dated d x h = let w = has-from_map (dated_at d.epoch) d.writes x h in ap (λ y. y.epoch) (sym w.2)
 
-before-epochs : (x y : Dated) → x.epoch < y.epoch → is_before (dated_key x) (dated_key y) ≡ true
+pub before-epochs : (x y : Dated) → x.epoch < y.epoch → is_before (dated_key x) (dated_key y) ≡ true
 before-epochs x y lt = let e : nat_lt x.epoch y.epoch ≡ true = grind (arith, nat_tests) in or_first (nat_lt x.epoch y.epoch) _ e
   where
     or_first : (a b : Bool) → a ≡ true → (a || b) ≡ true
@@ -163,6 +164,7 @@ before-minors e v w lt =
     or_first : (a b : Bool) → a ≡ true → (a || b) ≡ true
     or_first true b e = refl
     or_first false b e = absurd (let n : ⊥ = cc in n)
+
     or_second : (a b : Bool) → b ≡ true → (a || b) ≡ true
     or_second true b e = refl
     or_second false b e = e

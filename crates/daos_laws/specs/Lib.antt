@@ -9,3 +9,5 @@ pub mod Groups
 pub mod JoinLaws
 pub mod Decided
 pub mod DecidedLaws
+pub mod Matches
+pub mod MatchLaws

@@ -134,7 +134,7 @@ rearranged-same vs us e f g moved =
     (λ v i. has-from_contains us v (Contains-permutation vs us v moved (contains-from_has vs v i)))
     (λ v i. has-from_contains vs v (All-contains (Contains vs) us v (All-permutation (Contains vs) vs us moved (All-contains_itself vs)) (contains-from_has us v i))))
 
-filter-put : {T : Type 0} (key : T → List ℕ) (t : T → Bool) (v : T) (us : List T) → t v ≡ false → filter t (put key v us) ≡ filter t us
+pub filter-put : {T : Type 0} (key : T → List ℕ) (t : T → Bool) (v : T) (us : List T) → t v ≡ false → filter t (put key v us) ≡ filter t us
 filter-put key t v [] e = ap (λ b. if b then v ∷ [] else []) e
 filter-put key t v (u ∷ us) e =
     elim (is_before (key u) (key v)) as (λ b. filter t (if b then u ∷ put key v us else v ∷ u ∷ us) ≡ filter t (u ∷ us)) [

@@ -2,5 +2,6 @@
 #![tactic(auto)]
 
 pub mod groups;
+pub mod matches;
 pub mod reads;
 pub mod versions;
