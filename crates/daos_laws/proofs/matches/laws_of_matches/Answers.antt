@@ -1,0 +1,15 @@
+use Rattle.daos_laws.specs.MatchLaws.{aborts-keep, commits-keep, decisions-below, decisions-keep, marks-rise, matches-give, prepares-keep, same-below, same-keep}
+use Rattle.daos_laws.proofs.matches.laws_of_matches.Goals as goal
+
+pub returns : goal.returns
+returns c = record {
+  give = matches-give;
+  rise = marks-rise;
+  decide = decisions-keep;
+  below = decisions-below;
+  same = same-keep;
+  same_below = same-below;
+  commit = commits-keep;
+  abort = aborts-keep;
+  prepare = prepares-keep;
+}

@@ -1,0 +1,13 @@
+pub mod Members
+pub mod RisingLaws
+pub mod NameLaws
+pub mod ReadLaws
+pub mod WriteLaws
+pub mod Dated
+pub mod VersionLaws
+pub mod Groups
+pub mod JoinLaws
+pub mod Decided
+pub mod DecidedLaws
+pub mod Matches
+pub mod MatchLaws

@@ -1,0 +1,7 @@
+// Laws of the model: what holds of all reads, maps, versions and transactions.
+#![tactic(auto)]
+
+pub mod groups;
+pub mod matches;
+pub mod reads;
+pub mod versions;
