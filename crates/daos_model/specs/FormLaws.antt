@@ -30,7 +30,7 @@ use Rattle.daos_model.specs.Versions.{done_by, is_not_pending, version_of, versi
 -- ---- tests of every element
 
 module _ {T : Type 0} (t : T → Bool) where
-  all-put : (key : T → List ℕ) (v : T) (us : List T) → t v ≡ true → list_all t us ≡ true → list_all t (put key v us) ≡ true
+  pub all-put : (key : T → List ℕ) (v : T) (us : List T) → t v ≡ true → list_all t us ≡ true → list_all t (put key v us) ≡ true
   all-put key v [] e h = both (t v) true e refl
   all-put key v (u ∷ us) e h =
       elim (is_before (key u) (key v)) as (λ b. list_all t (if b then u ∷ put key v us else v ∷ u ∷ us) ≡ true) [
@@ -51,7 +51,7 @@ module _ {T : Type 0} (t : T → Bool) where
   all-map f same [] = refl
   all-map f same (u ∷ us) = ap (λ b. b && list_all t (map f us)) (same u) ∙ ap (λ b. t u && b) (all-map f same us)
 
-length-put : {T : Type 0} (key : T → List ℕ) (v : T) (us : List T) → length (put key v us) ≡ length us + 1
+pub length-put : {T : Type 0} (key : T → List ℕ) (v : T) (us : List T) → length (put key v us) ≡ length us + 1
 length-put key v [] = omega arith
 length-put key v (u ∷ us) =
     elim (is_before (key u) (key v)) as (λ b. length (if b then u ∷ put key v us else v ∷ u ∷ us) ≡ length (u ∷ us) + 1) [
@@ -59,11 +59,11 @@ length-put key v (u ∷ us) =
       | false ↦ omega arith
     ]
 
-length-map : {T : Type 0} (f : T → T) (us : List T) → length (map f us) ≡ length us
+pub length-map : {T U : Type 0} (f : T → U) (us : List T) → length (map f us) ≡ length us
 length-map f [] = refl
 length-map f (u ∷ us) = omega (arith, length-map f us)
 
-length-filter : {T : Type 0} (t : T → Bool) (us : List T) → length (filter t us) ≤ length us
+pub length-filter : {T : Type 0} (t : T → Bool) (us : List T) → length (filter t us) ≤ length us
 length-filter t [] = omega arith
 length-filter t (u ∷ us) =
     elim (t u) as (λ b. length (if b then u ∷ filter t us else filter t us) ≤ length (u ∷ us)) [
@@ -84,7 +84,7 @@ same_attempt-key a b e =
     (both (a.client == b.client) (a.command == b.command) (grind (arith, nat_tests)) (grind (arith, nat_tests))) (grind (arith, nat_tests))
 
 -- where an attempt has no entry, no entry has its key
-absent_keys : (a : AttemptId) (es : List Entry) → find (is_entry_of a) es ≡ None → All (λ e. entry_key e ≢ attempt_key a) es
+pub absent_keys : (a : AttemptId) (es : List Entry) → find (is_entry_of a) es ≡ None → All (λ e. entry_key e ≢ attempt_key a) es
 absent_keys a [] h = λ k e lt same. absurd (omega arith)
 absent_keys a (e ∷ es) h =
     elim (is_entry_of a e) as (λ b. is_entry_of a e ≡ b → (if b then Some e else find (is_entry_of a) es) ≡ None → All (λ e. entry_key e ≢ attempt_key a) (e ∷ es)) [
@@ -202,7 +202,7 @@ reopened-in_form d k = record {
     }
 
 -- a container that isn't there has no row of its key
-absent_rows : (c : ContId) (rows : List ContRow) → list_any (is_row_of c) rows ≡ false → All (λ r. cont_key r ≢ cont_key (new_row c)) rows
+pub absent_rows : (c : ContId) (rows : List ContRow) → list_any (is_row_of c) rows ≡ false → All (λ r. cont_key r ≢ cont_key (new_row c)) rows
 absent_rows c [] h = λ k r lt same. absurd (omega arith)
 absent_rows c (r ∷ rows) h =
     elim (is_row_of c r) as (λ b. is_row_of c r ≡ b → (b || list_any (is_row_of c) rows) ≡ false → All (λ r. cont_key r ≢ cont_key (new_row c)) (r ∷ rows)) [
@@ -210,7 +210,7 @@ absent_rows c (r ∷ rows) h =
       | false ↦ λ is no. All-cons (λ q. cont_key q ≢ cont_key (new_row c)) r rows (λ k. let e : r.cont.0 ≡ c.0 = cc in let n : ⊥ = grind (arith, nat_tests) in n) (absent_rows c rows no)
     ] refl h
 
-with_cont-rising : (c : ContId) (rows : List ContRow) → is_rising cont_key rows ≡ true → is_rising cont_key (with_cont c rows) ≡ true
+pub with_cont-rising : (c : ContId) (rows : List ContRow) → is_rising cont_key rows ≡ true → is_rising cont_key (with_cont c rows) ≡ true
 with_cont-rising c rows h = by (list_any (is_row_of c) rows) refl
   where
     by : (b : Bool) → list_any (is_row_of c) rows ≡ b → is_rising cont_key (if b then rows else put cont_key (new_row c) rows) ≡ true

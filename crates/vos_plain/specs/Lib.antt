@@ -1,4 +1,5 @@
-pub mod Keys
+pub mod Sweeps
 pub mod Costs
 pub mod Contents
 pub mod Steps
+pub mod Trips

@@ -2,10 +2,10 @@
 use crate::contents::Contents;
 use crate::keyed::put_in;
 use crate::rows::{put_all, settle_all, versions_of};
-use crate::sweeps::{remove_entry, remove_pending, remove_range, remove_snap, sweep};
-use crate::tables::{commit, confirm, create, has_row, has_snap, mark, new_row, raise};
+use crate::sweeps::{remove_entry, remove_pending, remove_range, remove_snap, mark_going, sweep};
+use crate::tables::{commit, confirm, create, has_snap, mark, raise};
 use daos_base::entry::{Entry, Settle};
-use daos_base::epoch::Epoch;
+use daos_base::epoch::{Epoch, TargetId};
 use daos_base::id::{AttemptId, ContId};
 use daos_base::items::Memory;
 use daos_base::operation::MinorWrite;
@@ -17,10 +17,11 @@ use daos_model::prunes::Plan;
 impl Contents {
     ghost use Rattle.std.specs.Prelude.{◌≡◌, ◌+◌, ◌*◌, ◌^◌, ◌<◌, ◌≤◌, true, false, None, IfOk, OnOk, length, vec_len, vec_capacity};
     ghost use Rattle.std.specs.List.{list_all};
-    ghost use Rattle.daos_base.specs.declared.outcome.FloorWhy.{FloorWhy};
+    ghost use Rattle.daos_base.specs.declared.entry.Settle.{Settle};
     ghost use Rattle.daos_model.specs.Changes.{created, discarded, frozen, leased, pruned, reopened, settled, thawed};
     ghost use Rattle.daos_model.specs.Durables.{entry_of, is_frozen, is_version_in_form};
     ghost use Rattle.daos_model.specs.Versions.{versions_of};
+    ghost use Rattle.vos_store.specs.Calls.{going_count};
     ghost use Rattle.vos_plain.specs.Contents.{contents_of, free_of};
     ghost use Rattle.vos_plain.specs.Costs.{versions_blocks};
     ghost use Rattle.vos_plain.specs.Steps.{IsWithin, with_entry};
@@ -57,6 +58,41 @@ impl Contents {
         put_in(&mut self.entries, entry);
     }
 
+    // Makes an attempt's versions done and its entry committed.
+    fn commit(&mut self, attempt: AttemptId)
+        ensures kept { contents_of self.new ≡ settled attempt Settle.Commit (contents_of self.old) }
+        ensures free { free_of self.new ≡ free_of self.old }
+    {
+        settle_all(&mut self.rows, attempt);
+        commit(&mut self.entries, attempt);
+    }
+
+    // Removes an attempt's unsettled versions and its entry.
+    fn abort(&mut self, attempt: AttemptId)
+        ensures kept { contents_of self.new ≡ settled attempt Settle.Abort (contents_of self.old) }
+        ensures free { free_of self.old ≤ free_of self.new }
+    {
+        remove_pending(&mut self.rows, attempt);
+        remove_entry(&mut self.entries, attempt);
+    }
+
+    // Adds a confirmed member.
+    fn confirm(&mut self, attempt: AttemptId, member: TargetId)
+        requires { member < 64 }
+        ensures kept { contents_of self.new ≡ settled attempt (Settle.Confirm member) (contents_of self.old) }
+        ensures free { free_of self.new ≡ free_of self.old }
+    {
+        confirm(&mut self.entries, attempt, member);
+    }
+
+    // Removes an attempt's entry.
+    fn forget(&mut self, attempt: AttemptId)
+        ensures kept { contents_of self.new ≡ settled attempt Settle.Forget (contents_of self.old) }
+        ensures free { free_of self.old ≤ free_of self.new }
+    {
+        remove_entry(&mut self.entries, attempt);
+    }
+
     /// A step of an attempt.
     pub fn settle(&mut self, attempt: AttemptId, step: Settle)
         requires { IsWithin step }
@@ -64,16 +100,10 @@ impl Contents {
         ensures free { free_of self.old ≤ free_of self.new }
     {
         match step {
-            Settle::Commit => {
-                settle_all(&mut self.rows, attempt);
-                commit(&mut self.entries, attempt);
-            }
-            Settle::Abort => {
-                remove_pending(&mut self.rows, attempt);
-                remove_entry(&mut self.entries, attempt);
-            }
-            Settle::Confirm(member) => confirm(&mut self.entries, attempt, member),
-            Settle::Forget => remove_entry(&mut self.entries, attempt),
+            Settle::Commit => self.commit(attempt),
+            Settle::Abort => self.abort(attempt),
+            Settle::Confirm(member) => self.confirm(attempt, member),
+            Settle::Forget => self.forget(attempt),
         }
     }
 
@@ -120,6 +150,22 @@ impl Contents {
         ensures free { free_of self.new ≡ free_of self.old }
     {
         remove_snap(&mut self.snaps, cont, s);
+    }
+
+    /// Aggregates a container up to an epoch.
+    pub fn prune(&mut self, cont: ContId, upto: Epoch, number: u32)
+        ensures kept { contents_of self.new ≡ pruned cont upto number (contents_of self.old) }
+        ensures free { free_of self.old + going_count cont upto (contents_of self.old) ≤ free_of self.new }
+    {
+        mark(&mut self.conts, cont, upto, number);
+        let plan = Plan {
+            versions: &self.rows,
+            snaps: &self.snaps,
+            cont,
+            upto,
+        };
+        mark_going(&mut self.marks, &plan);
+        sweep(&mut self.rows, &self.marks);
     }
 
     /// Removes the versions of a container in a range.

@@ -5,7 +5,7 @@ ghost use Rattle.std.specs.Option.{option_copied};
 ghost use Rattle.daos_model.specs.Changes.{is_in_range};
 ghost use Rattle.daos_model.specs.Durables.{is_version_in_form, version_key};
 ghost use Rattle.daos_model.specs.Ordered.{puts};
-ghost use Rattle.daos_model.specs.Versions.{blocks_read, done_by, first_between, first_blocking, is_between, is_pending, map_below, sees, version_of, versions_of};
+ghost use Rattle.daos_model.specs.Versions.{blocks_read, done_by, first_between, first_blocking, is_between, is_pending, map_below, version_of, versions_of};
 ghost use Rattle.vos_store.specs.Answers.{is_open_in};
 ghost use Rattle.vos_plain.specs.Costs.{version_blocks, versions_blocks};
 
@@ -20,6 +20,7 @@ use daos_model::blocks::write_blocks;
 use daos_model::durable::{Version, is_same_attempt};
 use daos_model::effect::apply_write;
 use daos_model::map::Map;
+use daos_model::prunes::is_seen;
 use std::alloc::Global;
 
 // What a write of an entry is kept as.
@@ -59,14 +60,6 @@ pub fn put_all(rows: &mut Vec<Version>, mut new: Vec<Version>)
     while let Some(row) = new.pop() {
         put_in(rows, row);
     }
-}
-
-// Whether a version is done and below an epoch.
-#[tactic(auto, unfolding(daos_model::specs::Versions::sees))]
-pub fn is_seen(row: &Version, below: u128) -> bool
-    ensures { result ≡ sees below row.now }
-{
-    row.done && u128::from(row.epoch.0) < below
 }
 
 #[tactic(auto, unfolding(daos_model::specs::Versions::is_pending))]
