@@ -13,9 +13,9 @@ use Rattle.daos_model.specs.declared.durable.ContRow.{ContRow}
 use Rattle.daos_model.specs.declared.durable.Durable.{Durable}
 use Rattle.daos_model.specs.declared.durable.Version.{Version}
 use Rattle.daos_model.specs.Answers.{is_before}
-use Rattle.daos_model.specs.Changes.{committed_at, confirmed_at, created, created_at, discarded, frozen, is_other, is_other_snap, is_out_of_range, marked, marked_at, new_snap, pruned, raised_at, settled, thawed, with_versions}
+use Rattle.daos_model.specs.Changes.{committed_at, confirmed_at, created, created_at, discarded, enlisted, frozen, is_other, is_other_snap, is_out_of_range, marked, marked_at, new_snap, pruned, raised_at, settled, thawed, with_conts, with_versions}
 use Rattle.daos_model.specs.Durables.{IsInForm, entry_key, entry_of, is_frozen, is_snap_at, is_version_in_form, snap_key, version_key}
-use Rattle.daos_model.specs.FormLaws.{absent_keys, all-put, length-filter, length-map, length-put}
+use Rattle.daos_model.specs.FormLaws.{absent_keys, all-put, enlisted-in_form, length-filter, length-map, length-put}
 use Rattle.daos_model.specs.OrderLaws.{in_order-puts, rising-put}
 use Rattle.daos_model.specs.Ordered.{put, puts}
 use Rattle.daos_model.specs.Prunes.{is_going, is_staying}
@@ -191,3 +191,8 @@ freed c upto d ws e =
 pub not_frozen : (c : ContId) (s : Epoch) (d : Durable) → list_any (is_snap_at c s) d.snaps ≡ false → is_frozen d c s ≡ false
 unfolding is_frozen
 not_frozen c s d e = e
+
+pub enlisted_is : (cs : List ContId) (d : Durable) (rows : List ContRow) → rows ≡ with_conts cs d.conts → length rows ≤ 256 → IsInForm d → IsInForm (record d { conts = rows })
+unfolding enlisted
+enlisted_is cs d rows e few k =
+    subst (λ x. IsInForm (record d { conts = x })) (sym e) (enlisted-in_form cs d (subst (λ x. length x ≤ 256) e few) k)

@@ -3,3 +3,5 @@ pub mod Costs
 pub mod Contents
 pub mod Steps
 pub mod Trips
+pub mod Plain
+pub mod Laws

@@ -1,9 +1,9 @@
 // The changes of what a store over lists keeps.
 use crate::contents::Contents;
 use crate::keyed::put_in;
-use crate::rows::{put_all, settle_all, versions_of};
-use crate::sweeps::{remove_entry, remove_pending, remove_range, remove_snap, mark_going, sweep};
-use crate::tables::{commit, confirm, create, has_snap, mark, raise};
+use crate::rows::{put_all, settle_all, versions_in_form};
+use crate::sweeps::{mark_going, remove_entry, remove_pending, remove_range, remove_snap, sweep};
+use crate::tables::{commit, confirm, create, has_snap, mark, raise, with_conts};
 use daos_base::entry::{Entry, Settle};
 use daos_base::epoch::{Epoch, TargetId};
 use daos_base::id::{AttemptId, ContId};
@@ -13,29 +13,82 @@ use daos_base::outcome::FloorWhy;
 use daos_base::snapshot::Snap;
 use daos_model::durable::Version;
 use daos_model::prunes::Plan;
+use std::alloc::Global;
+use vos_store::refusal::EnlistNo;
 
 impl Contents {
-    ghost use Rattle.std.specs.Prelude.{◌≡◌, ◌+◌, ◌*◌, ◌^◌, ◌<◌, ◌≤◌, true, false, None, IfOk, OnOk, length, vec_len, vec_capacity};
+    ghost use Rattle.std.specs.Prelude.{◌≡◌, ◌+◌, ◌*◌, ◌^◌, ◌<◌, ◌≤◌, true, false, None, IfOk, IsErr, OnOk, length, vec_len, vec_capacity};
     ghost use Rattle.std.specs.List.{list_all};
     ghost use Rattle.daos_base.specs.declared.entry.Settle.{Settle};
-    ghost use Rattle.daos_model.specs.Changes.{created, discarded, frozen, leased, pruned, reopened, settled, thawed};
-    ghost use Rattle.daos_model.specs.Durables.{entry_of, is_frozen, is_version_in_form};
+    ghost use Rattle.daos_model.specs.Changes.{created, discarded, enlisted, frozen, leased, pruned, reopened, settled, thawed};
+    ghost use Rattle.daos_model.specs.Durables.{empty_durable, entry_of, is_frozen, is_version_in_form};
+    ghost use Rattle.daos_model.specs.Blocks.{blocks};
+    ghost use Rattle.daos_model.specs.Forms.{AreWritesInForm};
     ghost use Rattle.daos_model.specs.Versions.{versions_of};
+    ghost use Rattle.vos_store.specs.Answers.{enlists};
     ghost use Rattle.vos_store.specs.Calls.{going_count};
+    ghost use Rattle.vos_store.specs.Refusals.{enlist_open, enlist_stop, says};
     ghost use Rattle.vos_plain.specs.Contents.{contents_of, free_of};
     ghost use Rattle.vos_plain.specs.Costs.{versions_blocks};
     ghost use Rattle.vos_plain.specs.Steps.{IsWithin, with_entry};
 
+    /// Empty contents of so many blocks.
+    pub fn new(alloc: Global, capacity: u32) -> Result<Contents, Memory>
+        ensures kept { IfOk result (λ c. contents_of c ≡ empty_durable 1) }
+        ensures free { IfOk result (λ c. free_of c ≡ capacity) }
+    {
+        Ok(Contents {
+            alloc,
+            rows: Vec::new(alloc),
+            marks: Vec::new(alloc),
+            entries: Vec::new(alloc),
+            conts: Vec::new(alloc),
+            snaps: Vec::with_capacity(alloc, 256)?,
+            lease: 0,
+            incarnation: 1,
+            capacity,
+        })
+    }
+
+    /// Adds the containers that aren't there.
+    ///
+    /// # Errors
+    ///
+    /// `TooMany` exactly where the containers together are more than 256.
+    #[tactic(auto, unfolding(daos_model::specs::Changes::enlisted, vos_store::specs::Answers::enlists))]
+    pub fn enlist(&mut self, conts: &[ContId]) -> Result<(), EnlistNo>
+        ensures answer { says enlist_open result ≡ false → result ≡ enlists conts.now (contents_of self.old) }
+        ensures runs { says enlist_stop result ≡ false }
+        ensures kept { OnOk result (contents_of self.new ≡ enlisted conts.now (contents_of self.old)) }
+        ensures refused { IsErr result → contents_of self.new ≡ contents_of self.old }
+        ensures free { free_of self.new ≡ free_of self.old }
+    {
+        let Ok(rows) = with_conts(self.alloc, &self.conts, conts) else {
+            return Err(EnlistNo::Memory);
+        };
+        if rows.len() > 256 {
+            return Err(match u32::try_from(rows.len()) {
+                Ok(together) => EnlistNo::TooMany { together },
+                Err(_) => EnlistNo::Memory,
+            });
+        }
+        self.conts = rows;
+        Ok(())
+    }
+
     /// Takes the memory for an entry and its writes, and gives what they are kept as.
     pub fn ready(&mut self, entry: &Entry, writes: &[MinorWrite]) -> Result<Vec<Version>, Memory>
+        requires { AreWritesInForm writes.now }
         ensures same { contents_of self.new ≡ contents_of self.old }
         ensures free { free_of self.new ≡ free_of self.old }
         ensures versions { IfOk result (λ rows. rows.items ≡ versions_of entry.now writes.now) }
+        ensures form { IfOk result (λ rows. list_all is_version_in_form rows.items ≡ true) }
+        ensures blocks { IfOk result (λ rows. versions_blocks rows.items + 2 ≡ blocks writes.now) }
         ensures rows { IfOk result (λ rows. vec_len self.new.rows + vec_len rows ≤ vec_capacity self.new.rows) }
         ensures marks { IfOk result (λ rows. vec_len self.new.rows + vec_len rows ≤ vec_capacity self.new.marks) }
         ensures entries { OnOk result (vec_len self.new.entries < vec_capacity self.new.entries) }
     {
-        let rows = versions_of(self.alloc, entry, writes)?;
+        let rows = versions_in_form(self.alloc, entry, writes)?;
         self.rows.reserve(rows.len())?;
         self.marks.clear();
         self.marks.reserve(self.rows.len() + rows.len())?;

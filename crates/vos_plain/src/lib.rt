@@ -1,9 +1,11 @@
 // A store over lists in memory, which stops at the changes that it is told to.
 #![tactic(auto)]
 
+mod answers;
 mod changes;
 mod contents;
 mod keyed;
+pub mod plain;
 mod rows;
 mod sweeps;
 mod tables;

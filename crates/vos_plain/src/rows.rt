@@ -2,8 +2,10 @@
 ghost use Rattle.std.specs.Prelude.{◌≡◌, ◌+◌, ◌≤◌, true, find, map, IfOk, vec_len, vec_capacity};
 ghost use Rattle.std.specs.List.{list_all};
 ghost use Rattle.std.specs.Option.{option_copied};
+ghost use Rattle.daos_model.specs.Blocks.{blocks};
 ghost use Rattle.daos_model.specs.Changes.{is_in_range};
 ghost use Rattle.daos_model.specs.Durables.{is_version_in_form, version_key};
+ghost use Rattle.daos_model.specs.Forms.{AreWritesInForm};
 ghost use Rattle.daos_model.specs.Ordered.{puts};
 ghost use Rattle.daos_model.specs.Versions.{blocks_read, done_by, first_between, first_blocking, is_between, is_pending, map_below, version_of, versions_of};
 ghost use Rattle.vos_store.specs.Answers.{is_open_in};
@@ -36,12 +38,8 @@ fn version_of(entry: &Entry, write: &MinorWrite) -> Result<Version, Memory>
     })
 }
 
-/// What the writes of an entry are kept as.
-pub fn versions_of(
-    alloc: Global,
-    entry: &Entry,
-    writes: &[MinorWrite],
-) -> Result<Vec<Version>, Memory>
+// What the writes of an entry are kept as.
+fn versions_of(alloc: Global, entry: &Entry, writes: &[MinorWrite]) -> Result<Vec<Version>, Memory>
     ensures { IfOk result (λ rows. rows.items ≡ versions_of entry.now writes.now) }
 {
     let mut rows = Vec::new(alloc);
@@ -49,6 +47,20 @@ pub fn versions_of(
         rows.push(version_of(entry, write)?)?;
     }
     Ok(rows)
+}
+
+/// What the writes of an entry, which are in form, are kept as.
+pub fn versions_in_form(
+    alloc: Global,
+    entry: &Entry,
+    writes: &[MinorWrite],
+) -> Result<Vec<Version>, Memory>
+    requires { AreWritesInForm writes.now }
+    ensures versions { IfOk result (λ rows. rows.items ≡ versions_of entry.now writes.now) }
+    ensures form { IfOk result (λ rows. list_all is_version_in_form rows.items ≡ true) }
+    ensures blocks { IfOk result (λ rows. versions_blocks rows.items + 2 ≡ blocks writes.now) }
+{
+    versions_of(alloc, entry, writes)
 }
 
 /// Puts versions among rows in order, for which there is room.

@@ -14,7 +14,7 @@ invariant_of-self-clause-formed c =
     (settled-in_form c.args.attempt (Confirm c.args.member) (contents_of c.args.self.now) c.args.self.now.formed)
 
 pub invariant_of-self-clause-room : goal.invariant_of-self-clause-room
-invariant_of-self-clause-room c = 
+invariant_of-self-clause-room c =
     let same : length c.confirm.new.rows.items ≡ length c.args.self.now.entries.items = same_entries c.args.self.now.entries.items c.confirm.new.rows.items (confirmed_at c.args.attempt c.args.member) c.confirm.ensures in
     omega (arith, c.args.self.now.room, same)
 
@@ -22,6 +22,6 @@ pub returns-clause-kept : goal.returns-clause-kept
 returns-clause-kept c = confirmed_is c.args.attempt c.args.member (contents_of c.args.self.now) c.confirm.new.rows.items c.confirm.ensures
 
 pub returns-clause-free : goal.returns-clause-free
-returns-clause-free c = 
+returns-clause-free c =
     let same : length c.confirm.new.rows.items ≡ length c.args.self.now.entries.items = same_entries c.args.self.now.entries.items c.confirm.new.rows.items (confirmed_at c.args.attempt c.args.member) c.confirm.ensures in
     omega (arith, same)

@@ -13,7 +13,7 @@ invariant_of-self-clause-formed c =
     (discarded-in_form c.args.cont c.args.lo c.args.hi (contents_of c.args.self.now) c.args.self.now.formed)
 
 pub invariant_of-self-clause-room : goal.invariant_of-self-clause-room
-invariant_of-self-clause-room c = 
+invariant_of-self-clause-room c =
     let few : versions_blocks c.remove_range.new.rows.items ≤ versions_blocks c.args.self.now.rows.items = fewer c.args.self.now.rows.items c.remove_range.new.rows.items (is_out_of_range c.args.cont c.args.lo c.args.hi) c.remove_range.ensures.items in
     omega (arith, c.args.self.now.room, few)
 
@@ -21,6 +21,6 @@ pub returns-clause-kept : goal.returns-clause-kept
 returns-clause-kept c = discarded_is c.args.cont c.args.lo c.args.hi (contents_of c.args.self.now) c.remove_range.new.rows.items c.remove_range.ensures.items
 
 pub returns-clause-free : goal.returns-clause-free
-returns-clause-free c = 
+returns-clause-free c =
     let few : versions_blocks c.remove_range.new.rows.items ≤ versions_blocks c.args.self.now.rows.items = fewer c.args.self.now.rows.items c.remove_range.new.rows.items (is_out_of_range c.args.cont c.args.lo c.args.hi) c.remove_range.ensures.items in
     omega (arith, few)

@@ -14,7 +14,7 @@ invariant_of-self-clause-formed c =
     (settled-in_form c.args.attempt Forget (contents_of c.args.self.now) c.args.self.now.formed)
 
 pub invariant_of-self-clause-room : goal.invariant_of-self-clause-room
-invariant_of-self-clause-room c = 
+invariant_of-self-clause-room c =
     let few_entries : length c.remove_entry.new.rows.items ≤ length c.args.self.now.entries.items = fewer_entries c.args.self.now.entries.items c.remove_entry.new.rows.items (is_other c.args.attempt) c.remove_entry.ensures in
     omega (arith, c.args.self.now.room, few_entries)
 
@@ -22,6 +22,6 @@ pub returns-clause-kept : goal.returns-clause-kept
 returns-clause-kept c = forgotten_is c.args.attempt (contents_of c.args.self.now) c.remove_entry.new.rows.items c.remove_entry.ensures
 
 pub returns-clause-free : goal.returns-clause-free
-returns-clause-free c = 
+returns-clause-free c =
     let few_entries : length c.remove_entry.new.rows.items ≤ length c.args.self.now.entries.items = fewer_entries c.args.self.now.entries.items c.remove_entry.new.rows.items (is_other c.args.attempt) c.remove_entry.ensures in
     omega (arith, few_entries)
