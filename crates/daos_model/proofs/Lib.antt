@@ -5,3 +5,4 @@ pub mod NameOrder
 pub mod PieceSteps
 pub mod InForm
 pub mod Sights
+pub mod AnswerKinds

@@ -30,7 +30,7 @@ use Rattle.daos_model.specs.Versions.{done_by, is_not_pending, version_of, versi
 -- ---- tests of every element
 
 module _ {T : Type 0} (t : T → Bool) where
-  all-put : (key : T → List ℕ) (v : T) (us : List T) → t v ≡ true → list_all t us ≡ true → list_all t (put key v us) ≡ true
+  pub all-put : (key : T → List ℕ) (v : T) (us : List T) → t v ≡ true → list_all t us ≡ true → list_all t (put key v us) ≡ true
   all-put key v [] e h = both (t v) true e refl
   all-put key v (u ∷ us) e h =
       elim (is_before (key u) (key v)) as (λ b. list_all t (if b then u ∷ put key v us else v ∷ u ∷ us) ≡ true) [
@@ -51,7 +51,7 @@ module _ {T : Type 0} (t : T → Bool) where
   all-map f same [] = refl
   all-map f same (u ∷ us) = ap (λ b. b && list_all t (map f us)) (same u) ∙ ap (λ b. t u && b) (all-map f same us)
 
-length-put : {T : Type 0} (key : T → List ℕ) (v : T) (us : List T) → length (put key v us) ≡ length us + 1
+pub length-put : {T : Type 0} (key : T → List ℕ) (v : T) (us : List T) → length (put key v us) ≡ length us + 1
 length-put key v [] = omega arith
 length-put key v (u ∷ us) =
     elim (is_before (key u) (key v)) as (λ b. length (if b then u ∷ put key v us else v ∷ u ∷ us) ≡ length (u ∷ us) + 1) [
@@ -59,11 +59,11 @@ length-put key v (u ∷ us) =
       | false ↦ omega arith
     ]
 
-length-map : {T : Type 0} (f : T → T) (us : List T) → length (map f us) ≡ length us
+pub length-map : {T U : Type 0} (f : T → U) (us : List T) → length (map f us) ≡ length us
 length-map f [] = refl
 length-map f (u ∷ us) = omega (arith, length-map f us)
 
-length-filter : {T : Type 0} (t : T → Bool) (us : List T) → length (filter t us) ≤ length us
+pub length-filter : {T : Type 0} (t : T → Bool) (us : List T) → length (filter t us) ≤ length us
 length-filter t [] = omega arith
 length-filter t (u ∷ us) =
     elim (t u) as (λ b. length (if b then u ∷ filter t us else filter t us) ≤ length (u ∷ us)) [
@@ -72,7 +72,6 @@ length-filter t (u ∷ us) =
     ]
 
 -- ---- each part
-
 
 same_attempt-key : (a b : AttemptId) → attempt_key a ≡ attempt_key b → same_attempt a b ≡ true
 unfolding same_attempt
@@ -84,7 +83,7 @@ same_attempt-key a b e =
     (both (a.client == b.client) (a.command == b.command) (grind (arith, nat_tests)) (grind (arith, nat_tests))) (grind (arith, nat_tests))
 
 -- where an attempt has no entry, no entry has its key
-absent_keys : (a : AttemptId) (es : List Entry) → find (is_entry_of a) es ≡ None → All (λ e. entry_key e ≢ attempt_key a) es
+pub absent_keys : (a : AttemptId) (es : List Entry) → find (is_entry_of a) es ≡ None → All (λ e. entry_key e ≢ attempt_key a) es
 absent_keys a [] h = λ k e lt same. absurd (omega arith)
 absent_keys a (e ∷ es) h =
     elim (is_entry_of a e) as (λ b. is_entry_of a e ≡ b → (if b then Some e else find (is_entry_of a) es) ≡ None → All (λ e. entry_key e ≢ attempt_key a) (e ∷ es)) [
@@ -100,15 +99,15 @@ new_in_form e (w ∷ ws) vs h k = all-put is_version_in_form version_key (versio
 pub prepared-in_form : (e : Entry) (ws : List MinorWrite) (d : Durable) → entry_of d e.attempt ≡ None → AreWritesInForm ws → IsInForm d → IsInForm (prepared e ws d)
 unfolding prepared entry_of
 prepared-in_form e ws d absent form k = record {
-      versions = in_order-puts version_key (versions_of e ws) d.versions k.versions;
-      writes = new_in_form e ws d.versions form.each k.writes;
-      entries = rising-put entry_key e d.entries (absent_keys e.attempt d.entries absent) k.entries;
-      conts = k.conts;
-      snaps = k.snaps;
-      few_conts = k.few_conts;
-      few_snaps = k.few_snaps;
-      lease = k.lease;
-    }
+  versions = in_order-puts version_key (versions_of e ws) d.versions k.versions;
+  writes = new_in_form e ws d.versions form.each k.writes;
+  entries = rising-put entry_key e d.entries (absent_keys e.attempt d.entries absent) k.entries;
+  conts = k.conts;
+  snaps = k.snaps;
+  few_conts = k.few_conts;
+  few_snaps = k.few_snaps;
+  lease = k.lease;
+}
 
 same_key-done : (a : AttemptId) (v : Version) → version_key (done_by a v) ≡ version_key v
 unfolding done_by
@@ -135,74 +134,74 @@ same_key-confirmed a t e = by (same_attempt e.attempt a) _
 pub settled-in_form : (a : AttemptId) (step : Settle) (d : Durable) → IsInForm d → IsInForm (settled a step d)
 unfolding settled
 settled-in_form a Commit d k = record {
-      versions = in_order-map version_key (done_by a) (same_key-done a) d.versions ∙ k.versions;
-      writes = all-map is_version_in_form (done_by a) (same_form-done a) d.versions ∙ k.writes;
-      entries = rising-map entry_key (committed_at a) (same_key-committed a) d.entries ∙ k.entries;
-      conts = k.conts;
-      snaps = k.snaps;
-      few_conts = k.few_conts;
-      few_snaps = k.few_snaps;
-      lease = k.lease;
-    }
+  versions = in_order-map version_key (done_by a) (same_key-done a) d.versions ∙ k.versions;
+  writes = all-map is_version_in_form (done_by a) (same_form-done a) d.versions ∙ k.writes;
+  entries = rising-map entry_key (committed_at a) (same_key-committed a) d.entries ∙ k.entries;
+  conts = k.conts;
+  snaps = k.snaps;
+  few_conts = k.few_conts;
+  few_snaps = k.few_snaps;
+  lease = k.lease;
+}
 settled-in_form a Abort d k = record {
-      versions = in_order-filter version_key (is_not_pending a) d.versions k.versions;
-      writes = all-filter is_version_in_form (is_not_pending a) d.versions k.writes;
-      entries = rising-filter entry_key (is_other a) d.entries k.entries;
-      conts = k.conts;
-      snaps = k.snaps;
-      few_conts = k.few_conts;
-      few_snaps = k.few_snaps;
-      lease = k.lease;
-    }
+  versions = in_order-filter version_key (is_not_pending a) d.versions k.versions;
+  writes = all-filter is_version_in_form (is_not_pending a) d.versions k.writes;
+  entries = rising-filter entry_key (is_other a) d.entries k.entries;
+  conts = k.conts;
+  snaps = k.snaps;
+  few_conts = k.few_conts;
+  few_snaps = k.few_snaps;
+  lease = k.lease;
+}
 settled-in_form a (Confirm t) d k = record {
-      versions = k.versions;
-      writes = k.writes;
-      entries = rising-map entry_key (confirmed_at a t) (same_key-confirmed a t) d.entries ∙ k.entries;
-      conts = k.conts;
-      snaps = k.snaps;
-      few_conts = k.few_conts;
-      few_snaps = k.few_snaps;
-      lease = k.lease;
-    }
+  versions = k.versions;
+  writes = k.writes;
+  entries = rising-map entry_key (confirmed_at a t) (same_key-confirmed a t) d.entries ∙ k.entries;
+  conts = k.conts;
+  snaps = k.snaps;
+  few_conts = k.few_conts;
+  few_snaps = k.few_snaps;
+  lease = k.lease;
+}
 settled-in_form a Forget d k = record {
-      versions = k.versions;
-      writes = k.writes;
-      entries = rising-filter entry_key (is_other a) d.entries k.entries;
-      conts = k.conts;
-      snaps = k.snaps;
-      few_conts = k.few_conts;
-      few_snaps = k.few_snaps;
-      lease = k.lease;
-    }
+  versions = k.versions;
+  writes = k.writes;
+  entries = rising-filter entry_key (is_other a) d.entries k.entries;
+  conts = k.conts;
+  snaps = k.snaps;
+  few_conts = k.few_conts;
+  few_snaps = k.few_snaps;
+  lease = k.lease;
+}
 
 pub leased-in_form : (ticks : ℕ) (d : Durable) → ticks < 2 ^ 56 → IsInForm d → IsInForm (leased ticks d)
 unfolding leased
 leased-in_form ticks d lt k = record {
-      versions = k.versions;
-      writes = k.writes;
-      entries = k.entries;
-      conts = k.conts;
-      snaps = k.snaps;
-      few_conts = k.few_conts;
-      few_snaps = k.few_snaps;
-      lease = lt;
-    }
+  versions = k.versions;
+  writes = k.writes;
+  entries = k.entries;
+  conts = k.conts;
+  snaps = k.snaps;
+  few_conts = k.few_conts;
+  few_snaps = k.few_snaps;
+  lease = lt;
+}
 
 pub reopened-in_form : (d : Durable) → IsInForm d → IsInForm (reopened d)
 unfolding reopened
 reopened-in_form d k = record {
-      versions = k.versions;
-      writes = k.writes;
-      entries = k.entries;
-      conts = k.conts;
-      snaps = k.snaps;
-      few_conts = k.few_conts;
-      few_snaps = k.few_snaps;
-      lease = k.lease;
-    }
+  versions = k.versions;
+  writes = k.writes;
+  entries = k.entries;
+  conts = k.conts;
+  snaps = k.snaps;
+  few_conts = k.few_conts;
+  few_snaps = k.few_snaps;
+  lease = k.lease;
+}
 
 -- a container that isn't there has no row of its key
-absent_rows : (c : ContId) (rows : List ContRow) → list_any (is_row_of c) rows ≡ false → All (λ r. cont_key r ≢ cont_key (new_row c)) rows
+pub absent_rows : (c : ContId) (rows : List ContRow) → list_any (is_row_of c) rows ≡ false → All (λ r. cont_key r ≢ cont_key (new_row c)) rows
 absent_rows c [] h = λ k r lt same. absurd (omega arith)
 absent_rows c (r ∷ rows) h =
     elim (is_row_of c r) as (λ b. is_row_of c r ≡ b → (b || list_any (is_row_of c) rows) ≡ false → All (λ r. cont_key r ≢ cont_key (new_row c)) (r ∷ rows)) [
@@ -210,7 +209,7 @@ absent_rows c (r ∷ rows) h =
       | false ↦ λ is no. All-cons (λ q. cont_key q ≢ cont_key (new_row c)) r rows (λ k. let e : r.cont.0 ≡ c.0 = cc in let n : ⊥ = grind (arith, nat_tests) in n) (absent_rows c rows no)
     ] refl h
 
-with_cont-rising : (c : ContId) (rows : List ContRow) → is_rising cont_key rows ≡ true → is_rising cont_key (with_cont c rows) ≡ true
+pub with_cont-rising : (c : ContId) (rows : List ContRow) → is_rising cont_key rows ≡ true → is_rising cont_key (with_cont c rows) ≡ true
 with_cont-rising c rows h = by (list_any (is_row_of c) rows) refl
   where
     by : (b : Bool) → list_any (is_row_of c) rows ≡ b → is_rising cont_key (if b then rows else put cont_key (new_row c) rows) ≡ true
@@ -224,15 +223,15 @@ with_conts-rising (c ∷ cs) rows h = with_conts-rising cs (with_cont c rows) (w
 pub enlisted-in_form : (cs : List ContId) (d : Durable) → length (enlisted cs d).conts ≤ 256 → IsInForm d → IsInForm (enlisted cs d)
 unfolding enlisted
 enlisted-in_form cs d few k = record {
-      versions = k.versions;
-      writes = k.writes;
-      entries = k.entries;
-      conts = with_conts-rising cs d.conts k.conts;
-      snaps = k.snaps;
-      few_conts = few;
-      few_snaps = k.few_snaps;
-      lease = k.lease;
-    }
+  versions = k.versions;
+  writes = k.writes;
+  entries = k.entries;
+  conts = with_conts-rising cs d.conts k.conts;
+  snaps = k.snaps;
+  few_conts = few;
+  few_snaps = k.few_snaps;
+  lease = k.lease;
+}
 
 same_key-raised : (c : ContId) (e : Epoch) (why : FloorWhy) (r : ContRow) → cont_key (raised_at c e why r) ≡ cont_key r
 same_key-raised c e why r = by (is_row_of c r) (nat_lt r.floor.0 e.0)
@@ -286,28 +285,28 @@ same_key-created c s x = by (is_snap_at c s x)
 pub created-in_form : (c : ContId) (s : Epoch) (d : Durable) → IsInForm d → IsInForm (created c s d)
 unfolding created
 created-in_form c s d k = record {
-      versions = k.versions;
-      writes = k.writes;
-      entries = k.entries;
-      conts = k.conts;
-      snaps = rising-map snap_key (created_at c s) (same_key-created c s) d.snaps ∙ k.snaps;
-      few_conts = k.few_conts;
-      few_snaps = subst (λ n. n ≤ 256) (sym (length-map (created_at c s) d.snaps)) k.few_snaps;
-      lease = k.lease;
-    }
+  versions = k.versions;
+  writes = k.writes;
+  entries = k.entries;
+  conts = k.conts;
+  snaps = rising-map snap_key (created_at c s) (same_key-created c s) d.snaps ∙ k.snaps;
+  few_conts = k.few_conts;
+  few_snaps = subst (λ n. n ≤ 256) (sym (length-map (created_at c s) d.snaps)) k.few_snaps;
+  lease = k.lease;
+}
 
 pub thawed-in_form : (c : ContId) (s : Epoch) (d : Durable) → IsInForm d → IsInForm (thawed c s d)
 unfolding thawed
 thawed-in_form c s d k = record {
-      versions = k.versions;
-      writes = k.writes;
-      entries = k.entries;
-      conts = k.conts;
-      snaps = rising-filter snap_key (is_other_snap c s) d.snaps k.snaps;
-      few_conts = k.few_conts;
-      few_snaps = omega (arith, length-filter (is_other_snap c s) d.snaps, k.few_snaps);
-      lease = k.lease;
-    }
+  versions = k.versions;
+  writes = k.writes;
+  entries = k.entries;
+  conts = k.conts;
+  snaps = rising-filter snap_key (is_other_snap c s) d.snaps k.snaps;
+  few_conts = k.few_conts;
+  few_snaps = omega (arith, length-filter (is_other_snap c s) d.snaps, k.few_snaps);
+  lease = k.lease;
+}
 
 same_key-marked : (c : ContId) (upto : Epoch) (n : ℕ) (r : ContRow) → cont_key (marked_at c upto n r) ≡ cont_key r
 same_key-marked c upto n r = by (is_row_of c r) (nat_lt r.aggregated.0 upto.0)
@@ -324,29 +323,29 @@ same_key-marked c upto n r = by (is_row_of c r) (nat_lt r.aggregated.0 upto.0)
 pub marked-in_form : (c : ContId) (upto : Epoch) (n : ℕ) (d : Durable) → IsInForm d → IsInForm (marked c upto n d)
 unfolding marked
 marked-in_form c upto n d k = record {
-      versions = k.versions;
-      writes = k.writes;
-      entries = k.entries;
-      conts = rising-map cont_key (marked_at c upto n) (same_key-marked c upto n) d.conts ∙ k.conts;
-      snaps = k.snaps;
-      few_conts = subst (λ m. m ≤ 256) (sym (length-map (marked_at c upto n) d.conts)) k.few_conts;
-      few_snaps = k.few_snaps;
-      lease = k.lease;
-    }
+  versions = k.versions;
+  writes = k.writes;
+  entries = k.entries;
+  conts = rising-map cont_key (marked_at c upto n) (same_key-marked c upto n) d.conts ∙ k.conts;
+  snaps = k.snaps;
+  few_conts = subst (λ m. m ≤ 256) (sym (length-map (marked_at c upto n) d.conts)) k.few_conts;
+  few_snaps = k.few_snaps;
+  lease = k.lease;
+}
 
 -- fewer versions
 pub with_versions-in_form : (t : Version → Bool) (d : Durable) → IsInForm d → IsInForm (with_versions (filter t d.versions) d)
 unfolding with_versions
 with_versions-in_form t d k = record {
-      versions = in_order-filter version_key t d.versions k.versions;
-      writes = all-filter is_version_in_form t d.versions k.writes;
-      entries = k.entries;
-      conts = k.conts;
-      snaps = k.snaps;
-      few_conts = k.few_conts;
-      few_snaps = k.few_snaps;
-      lease = k.lease;
-    }
+  versions = in_order-filter version_key t d.versions k.versions;
+  writes = all-filter is_version_in_form t d.versions k.writes;
+  entries = k.entries;
+  conts = k.conts;
+  snaps = k.snaps;
+  few_conts = k.few_conts;
+  few_snaps = k.few_snaps;
+  lease = k.lease;
+}
 
 same_versions-marked : (c : ContId) (upto : Epoch) (n : ℕ) (d : Durable) → (marked c upto n d).versions ≡ d.versions
 unfolding marked

@@ -164,13 +164,7 @@ fn shows_at(versions: &[Version], version: &Version, sight: u128) -> bool
 
 // Whether a snapshot of a container at or below an epoch shows a version.
 #[tactic(auto, unfolding(crate::specs::Prunes::shows_in))]
-fn shows_in(
-    versions: &[Version],
-    version: &Version,
-    cont: ContId,
-    upto: Epoch,
-    snap: &Snap,
-) -> bool
+fn shows_in(versions: &[Version], version: &Version, cont: ContId, upto: Epoch, snap: &Snap) -> bool
     ensures { result ≡ shows_in versions.now version.now cont upto snap.now }
 {
     snap.cont.0 == cont.0
@@ -203,9 +197,7 @@ impl Plan<'_> {
     fn is_old(&self, version: &Version) -> bool
         ensures { result ≡ is_old self.now.cont self.now.upto version.now }
     {
-        version.done
-            && version.write.path().cont.0 == self.cont.0
-            && version.epoch.0 <= self.upto.0
+        version.done && version.write.path().cont.0 == self.cont.0 && version.epoch.0 <= self.upto.0
     }
 
     // Whether a version is an update that no sight shows.

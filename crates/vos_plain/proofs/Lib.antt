@@ -1,1 +1,5 @@
 pub mod Places
+pub mod Kept
+pub mod Sweeping
+pub mod Prepared
+pub mod Turning

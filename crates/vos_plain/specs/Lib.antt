@@ -1,4 +1,7 @@
-pub mod Keys
+pub mod Sweeps
 pub mod Costs
 pub mod Contents
 pub mod Steps
+pub mod Trips
+pub mod Plain
+pub mod Laws

@@ -1,11 +1,11 @@
 // The changes of what a store over lists keeps.
 use crate::contents::Contents;
 use crate::keyed::put_in;
-use crate::rows::{put_all, settle_all, versions_of};
-use crate::sweeps::{remove_entry, remove_pending, remove_range, remove_snap, sweep};
-use crate::tables::{commit, confirm, create, has_row, has_snap, mark, new_row, raise};
+use crate::rows::{put_all, settle_all, versions_in_form};
+use crate::sweeps::{mark_going, remove_entry, remove_pending, remove_range, remove_snap, sweep};
+use crate::tables::{commit, confirm, create, has_snap, mark, raise, with_conts};
 use daos_base::entry::{Entry, Settle};
-use daos_base::epoch::Epoch;
+use daos_base::epoch::{Epoch, TargetId};
 use daos_base::id::{AttemptId, ContId};
 use daos_base::items::Memory;
 use daos_base::operation::MinorWrite;
@@ -13,28 +13,82 @@ use daos_base::outcome::FloorWhy;
 use daos_base::snapshot::Snap;
 use daos_model::durable::Version;
 use daos_model::prunes::Plan;
+use std::alloc::Global;
+use vos_store::refusal::EnlistNo;
 
 impl Contents {
-    ghost use Rattle.std.specs.Prelude.{◌≡◌, ◌+◌, ◌*◌, ◌^◌, ◌<◌, ◌≤◌, true, false, None, IfOk, OnOk, length, vec_len, vec_capacity};
+    ghost use Rattle.std.specs.Prelude.{◌≡◌, ◌+◌, ◌*◌, ◌^◌, ◌<◌, ◌≤◌, true, false, None, IfOk, IsErr, OnOk, length, vec_len, vec_capacity};
     ghost use Rattle.std.specs.List.{list_all};
-    ghost use Rattle.daos_base.specs.declared.outcome.FloorWhy.{FloorWhy};
-    ghost use Rattle.daos_model.specs.Changes.{created, discarded, frozen, leased, pruned, reopened, settled, thawed};
-    ghost use Rattle.daos_model.specs.Durables.{entry_of, is_frozen, is_version_in_form};
+    ghost use Rattle.daos_base.specs.declared.entry.Settle.{Settle};
+    ghost use Rattle.daos_model.specs.Changes.{created, discarded, enlisted, frozen, leased, pruned, reopened, settled, thawed};
+    ghost use Rattle.daos_model.specs.Durables.{empty_durable, entry_of, is_frozen, is_version_in_form};
+    ghost use Rattle.daos_model.specs.Blocks.{blocks};
+    ghost use Rattle.daos_model.specs.Forms.{AreWritesInForm};
     ghost use Rattle.daos_model.specs.Versions.{versions_of};
+    ghost use Rattle.vos_store.specs.Answers.{enlists};
+    ghost use Rattle.vos_store.specs.Calls.{going_count};
+    ghost use Rattle.vos_store.specs.Refusals.{enlist_open, enlist_stop, says};
     ghost use Rattle.vos_plain.specs.Contents.{contents_of, free_of};
     ghost use Rattle.vos_plain.specs.Costs.{versions_blocks};
     ghost use Rattle.vos_plain.specs.Steps.{IsWithin, with_entry};
 
+    /// Empty contents of so many blocks.
+    pub fn new(alloc: Global, capacity: u32) -> Result<Contents, Memory>
+        ensures kept { IfOk result (λ c. contents_of c ≡ empty_durable 1) }
+        ensures free { IfOk result (λ c. free_of c ≡ capacity) }
+    {
+        Ok(Contents {
+            alloc,
+            rows: Vec::new(alloc),
+            marks: Vec::new(alloc),
+            entries: Vec::new(alloc),
+            conts: Vec::new(alloc),
+            snaps: Vec::with_capacity(alloc, 256)?,
+            lease: 0,
+            incarnation: 1,
+            capacity,
+        })
+    }
+
+    /// Adds the containers that aren't there.
+    ///
+    /// # Errors
+    ///
+    /// `TooMany` exactly where the containers together are more than 256.
+    #[tactic(auto, unfolding(daos_model::specs::Changes::enlisted, vos_store::specs::Answers::enlists))]
+    pub fn enlist(&mut self, conts: &[ContId]) -> Result<(), EnlistNo>
+        ensures answer { says enlist_open result ≡ false → result ≡ enlists conts.now (contents_of self.old) }
+        ensures runs { says enlist_stop result ≡ false }
+        ensures kept { OnOk result (contents_of self.new ≡ enlisted conts.now (contents_of self.old)) }
+        ensures refused { IsErr result → contents_of self.new ≡ contents_of self.old }
+        ensures free { free_of self.new ≡ free_of self.old }
+    {
+        let Ok(rows) = with_conts(self.alloc, &self.conts, conts) else {
+            return Err(EnlistNo::Memory);
+        };
+        if rows.len() > 256 {
+            return Err(match u32::try_from(rows.len()) {
+                Ok(together) => EnlistNo::TooMany { together },
+                Err(_) => EnlistNo::Memory,
+            });
+        }
+        self.conts = rows;
+        Ok(())
+    }
+
     /// Takes the memory for an entry and its writes, and gives what they are kept as.
     pub fn ready(&mut self, entry: &Entry, writes: &[MinorWrite]) -> Result<Vec<Version>, Memory>
+        requires { AreWritesInForm writes.now }
         ensures same { contents_of self.new ≡ contents_of self.old }
         ensures free { free_of self.new ≡ free_of self.old }
         ensures versions { IfOk result (λ rows. rows.items ≡ versions_of entry.now writes.now) }
+        ensures form { IfOk result (λ rows. list_all is_version_in_form rows.items ≡ true) }
+        ensures blocks { IfOk result (λ rows. versions_blocks rows.items + 2 ≡ blocks writes.now) }
         ensures rows { IfOk result (λ rows. vec_len self.new.rows + vec_len rows ≤ vec_capacity self.new.rows) }
         ensures marks { IfOk result (λ rows. vec_len self.new.rows + vec_len rows ≤ vec_capacity self.new.marks) }
         ensures entries { OnOk result (vec_len self.new.entries < vec_capacity self.new.entries) }
     {
-        let rows = versions_of(self.alloc, entry, writes)?;
+        let rows = versions_in_form(self.alloc, entry, writes)?;
         self.rows.reserve(rows.len())?;
         self.marks.clear();
         self.marks.reserve(self.rows.len() + rows.len())?;
@@ -57,6 +111,41 @@ impl Contents {
         put_in(&mut self.entries, entry);
     }
 
+    // Makes an attempt's versions done and its entry committed.
+    fn commit(&mut self, attempt: AttemptId)
+        ensures kept { contents_of self.new ≡ settled attempt Settle.Commit (contents_of self.old) }
+        ensures free { free_of self.new ≡ free_of self.old }
+    {
+        settle_all(&mut self.rows, attempt);
+        commit(&mut self.entries, attempt);
+    }
+
+    // Removes an attempt's unsettled versions and its entry.
+    fn abort(&mut self, attempt: AttemptId)
+        ensures kept { contents_of self.new ≡ settled attempt Settle.Abort (contents_of self.old) }
+        ensures free { free_of self.old ≤ free_of self.new }
+    {
+        remove_pending(&mut self.rows, attempt);
+        remove_entry(&mut self.entries, attempt);
+    }
+
+    // Adds a confirmed member.
+    fn confirm(&mut self, attempt: AttemptId, member: TargetId)
+        requires { member < 64 }
+        ensures kept { contents_of self.new ≡ settled attempt (Settle.Confirm member) (contents_of self.old) }
+        ensures free { free_of self.new ≡ free_of self.old }
+    {
+        confirm(&mut self.entries, attempt, member);
+    }
+
+    // Removes an attempt's entry.
+    fn forget(&mut self, attempt: AttemptId)
+        ensures kept { contents_of self.new ≡ settled attempt Settle.Forget (contents_of self.old) }
+        ensures free { free_of self.old ≤ free_of self.new }
+    {
+        remove_entry(&mut self.entries, attempt);
+    }
+
     /// A step of an attempt.
     pub fn settle(&mut self, attempt: AttemptId, step: Settle)
         requires { IsWithin step }
@@ -64,16 +153,10 @@ impl Contents {
         ensures free { free_of self.old ≤ free_of self.new }
     {
         match step {
-            Settle::Commit => {
-                settle_all(&mut self.rows, attempt);
-                commit(&mut self.entries, attempt);
-            }
-            Settle::Abort => {
-                remove_pending(&mut self.rows, attempt);
-                remove_entry(&mut self.entries, attempt);
-            }
-            Settle::Confirm(member) => confirm(&mut self.entries, attempt, member),
-            Settle::Forget => remove_entry(&mut self.entries, attempt),
+            Settle::Commit => self.commit(attempt),
+            Settle::Abort => self.abort(attempt),
+            Settle::Confirm(member) => self.confirm(attempt, member),
+            Settle::Forget => self.forget(attempt),
         }
     }
 
@@ -120,6 +203,22 @@ impl Contents {
         ensures free { free_of self.new ≡ free_of self.old }
     {
         remove_snap(&mut self.snaps, cont, s);
+    }
+
+    /// Aggregates a container up to an epoch.
+    pub fn prune(&mut self, cont: ContId, upto: Epoch, number: u32)
+        ensures kept { contents_of self.new ≡ pruned cont upto number (contents_of self.old) }
+        ensures free { free_of self.old + going_count cont upto (contents_of self.old) ≤ free_of self.new }
+    {
+        mark(&mut self.conts, cont, upto, number);
+        let plan = Plan {
+            versions: &self.rows,
+            snaps: &self.snaps,
+            cont,
+            upto,
+        };
+        mark_going(&mut self.marks, &plan);
+        sweep(&mut self.rows, &self.marks);
     }
 
     /// Removes the versions of a container in a range.

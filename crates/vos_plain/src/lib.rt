@@ -1,9 +1,12 @@
 // A store over lists in memory, which stops at the changes that it is told to.
 #![tactic(auto)]
 
-// mod contents;
+mod answers;
+mod changes;
+mod contents;
 mod keyed;
+pub mod plain;
 mod rows;
 mod sweeps;
 mod tables;
-// mod trips;
+mod trips;

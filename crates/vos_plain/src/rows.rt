@@ -2,10 +2,12 @@
 ghost use Rattle.std.specs.Prelude.{◌≡◌, ◌+◌, ◌≤◌, true, find, map, IfOk, vec_len, vec_capacity};
 ghost use Rattle.std.specs.List.{list_all};
 ghost use Rattle.std.specs.Option.{option_copied};
+ghost use Rattle.daos_model.specs.Blocks.{blocks};
 ghost use Rattle.daos_model.specs.Changes.{is_in_range};
 ghost use Rattle.daos_model.specs.Durables.{is_version_in_form, version_key};
+ghost use Rattle.daos_model.specs.Forms.{AreWritesInForm};
 ghost use Rattle.daos_model.specs.Ordered.{puts};
-ghost use Rattle.daos_model.specs.Versions.{blocks_read, done_by, first_between, first_blocking, is_between, is_pending, map_below, sees, version_of, versions_of};
+ghost use Rattle.daos_model.specs.Versions.{blocks_read, done_by, first_between, first_blocking, is_between, is_pending, map_below, version_of, versions_of};
 ghost use Rattle.vos_store.specs.Answers.{is_open_in};
 ghost use Rattle.vos_plain.specs.Costs.{version_blocks, versions_blocks};
 
@@ -20,6 +22,7 @@ use daos_model::blocks::write_blocks;
 use daos_model::durable::{Version, is_same_attempt};
 use daos_model::effect::apply_write;
 use daos_model::map::Map;
+use daos_model::prunes::is_seen;
 use std::alloc::Global;
 
 // What a write of an entry is kept as.
@@ -35,12 +38,8 @@ fn version_of(entry: &Entry, write: &MinorWrite) -> Result<Version, Memory>
     })
 }
 
-/// What the writes of an entry are kept as.
-pub fn versions_of(
-    alloc: Global,
-    entry: &Entry,
-    writes: &[MinorWrite],
-) -> Result<Vec<Version>, Memory>
+// What the writes of an entry are kept as.
+fn versions_of(alloc: Global, entry: &Entry, writes: &[MinorWrite]) -> Result<Vec<Version>, Memory>
     ensures { IfOk result (λ rows. rows.items ≡ versions_of entry.now writes.now) }
 {
     let mut rows = Vec::new(alloc);
@@ -48,6 +47,20 @@ pub fn versions_of(
         rows.push(version_of(entry, write)?)?;
     }
     Ok(rows)
+}
+
+/// What the writes of an entry, which are in form, are kept as.
+pub fn versions_in_form(
+    alloc: Global,
+    entry: &Entry,
+    writes: &[MinorWrite],
+) -> Result<Vec<Version>, Memory>
+    requires { AreWritesInForm writes.now }
+    ensures versions { IfOk result (λ rows. rows.items ≡ versions_of entry.now writes.now) }
+    ensures form { IfOk result (λ rows. list_all is_version_in_form rows.items ≡ true) }
+    ensures blocks { IfOk result (λ rows. versions_blocks rows.items + 2 ≡ blocks writes.now) }
+{
+    versions_of(alloc, entry, writes)
 }
 
 /// Puts versions among rows in order, for which there is room.
@@ -59,14 +72,6 @@ pub fn put_all(rows: &mut Vec<Version>, mut new: Vec<Version>)
     while let Some(row) = new.pop() {
         put_in(rows, row);
     }
-}
-
-// Whether a version is done and below an epoch.
-#[tactic(auto, unfolding(daos_model::specs::Versions::sees))]
-pub fn is_seen(row: &Version, below: u128) -> bool
-    ensures { result ≡ sees below row.now }
-{
-    row.done && u128::from(row.epoch.0) < below
 }
 
 #[tactic(auto, unfolding(daos_model::specs::Versions::is_pending))]

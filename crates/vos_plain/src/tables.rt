@@ -1,17 +1,20 @@
 // Rows of entries, containers and snapshots.
-ghost use Rattle.std.specs.Prelude.{◌≡◌, ◌<◌, find, map, vec_capacity};
+ghost use Rattle.std.specs.Prelude.{◌≡◌, ◌<◌, find, map, IfOk, OnOk, vec_capacity};
 ghost use Rattle.std.specs.List.{list_any};
 ghost use Rattle.std.specs.Option.{option_copied};
 ghost use Rattle.daos_base.specs.declared.outcome.FloorWhy.{FloorWhy};
-ghost use Rattle.daos_model.specs.Changes.{aggregated_to, committed_at, confirmed_at, created_at, marked_at, raised, raised_at};
+ghost use Rattle.daos_model.specs.Changes.{aggregated_to, committed_at, confirmed_at, created_at, marked_at, raised, raised_at, with_cont, with_conts};
 ghost use Rattle.daos_model.specs.Durables.{is_entry_of, is_row_of, is_snap_at, new_row};
 
+use crate::keyed::put_in;
 use daos_base::entry::Entry;
 use daos_base::epoch::{Epoch, TargetId};
 use daos_base::id::{AttemptId, ContId};
+use daos_base::items::Memory;
 use daos_base::outcome::FloorWhy;
 use daos_base::snapshot::Snap;
 use daos_model::durable::{ContRow, is_same_attempt};
+use std::alloc::Global;
 
 pub fn is_entry_of(row: &Entry, attempt: AttemptId) -> bool
     ensures { result ≡ is_entry_of attempt row.now }
@@ -168,4 +171,38 @@ pub fn create(rows: &mut Vec<Snap>, cont: ContId, epoch: Epoch)
     ensures capacity { vec_capacity rows.new ≡ vec_capacity rows.old }
 {
     create_among(rows, cont, epoch)
+}
+
+// Adds a container, unless it is there.
+fn add_cont(rows: &mut Vec<ContRow>, cont: ContId) -> Result<(), Memory>
+    ensures { OnOk result (rows.new.items ≡ with_cont cont rows.old.items) }
+{
+    if has_row(rows, cont) {
+        return Ok(());
+    }
+    rows.reserve(1)?;
+    put_in(rows, new_row(cont));
+    Ok(())
+}
+
+/// The rows with those of the containers that aren't there.
+pub fn with_conts(alloc: Global, rows: &[ContRow], conts: &[ContId]) -> Result<Vec<ContRow>, Memory>
+    ensures { IfOk result (λ all. all.items ≡ with_conts conts.now rows.now) }
+{
+    let mut all = copied(alloc, rows)?;
+    for cont in conts {
+        add_cont(&mut all, *cont)?;
+    }
+    Ok(all)
+}
+
+/// The same rows again.
+pub fn copied<T: Copy>(alloc: Global, rows: &[T]) -> Result<Vec<T>, Memory>
+    ensures { IfOk result (λ again. again.items ≡ rows.now) }
+{
+    let mut again = Vec::with_capacity(alloc, rows.len())?;
+    for row in rows {
+        again.push(*row)?;
+    }
+    Ok(again)
 }

@@ -9,8 +9,8 @@ loop-row-preserved c = record {
   fits = omega (arith, c.loop-row.invariant.fits, c.in-Some.ensures.len, c.put_in.ensures.len, c.put_in.ensures.capacity);
   len = omega (arith, c.loop-row.invariant.len, c.in-Some.ensures.len, c.put_in.ensures.len);
   items =
-    ap (puts version_key c.pop.new.self.items) c.put_in.ensures.items
-    ∙ sym (puts-last version_key c.pop.new.self.items c.in-Some.row c.loop-row.rows.items)
-    ∙ ap (λ xs. puts version_key xs c.loop-row.rows.items) (sym c.in-Some.ensures.items)
-    ∙ c.loop-row.invariant.items;
+      ap (puts version_key c.pop.new.self.items) c.put_in.ensures.items
+      ∙ sym (puts-last version_key c.pop.new.self.items c.in-Some.row c.loop-row.rows.items)
+      ∙ ap (λ xs. puts version_key xs c.loop-row.rows.items) (sym c.in-Some.ensures.items)
+      ∙ c.loop-row.invariant.items;
 }

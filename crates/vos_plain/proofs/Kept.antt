@@ -1,0 +1,198 @@
+-- What the changes of the contents of a store over lists make of what they stand for.
+use Rattle.std.proofs.Common.{◌≡◌, ℕ, ◌+◌, ◌*◌, ◌<◌, ◌≤◌, Bool, true, false, not, List, [], ◌∷◌, ◌++◌, None, length, map, refl, sym, ◌∙◌, ap, subst, arith}
+use Rattle.std.specs.Prelude.{filter, if◌then◌else◌}
+use Rattle.std.specs.List.{list_all, list_any}
+use Rattle.daos_base.specs.declared.entry.Entry.{Entry}
+use Rattle.daos_base.specs.declared.entry.Settle.TheVariants.{Commit, Abort, Confirm, Forget}
+use Rattle.daos_base.specs.declared.epoch.Epoch.{Epoch}
+use Rattle.daos_base.specs.declared.id.AttemptId.{AttemptId}
+use Rattle.daos_base.specs.declared.id.ContId.{ContId}
+use Rattle.daos_base.specs.declared.outcome.FloorWhy.TheVariants.{Snapshot}
+use Rattle.daos_base.specs.declared.snapshot.Snap.{Snap}
+use Rattle.daos_model.specs.declared.durable.ContRow.{ContRow}
+use Rattle.daos_model.specs.declared.durable.Durable.{Durable}
+use Rattle.daos_model.specs.declared.durable.Version.{Version}
+use Rattle.daos_model.specs.Answers.{is_before}
+use Rattle.daos_model.specs.Changes.{committed_at, confirmed_at, created, created_at, discarded, enlisted, frozen, is_other, is_other_snap, is_out_of_range, marked, marked_at, new_snap, pruned, raised_at, settled, thawed, with_conts, with_versions}
+use Rattle.daos_model.specs.Durables.{IsInForm, entry_key, entry_of, is_frozen, is_snap_at, is_version_in_form, snap_key, version_key}
+use Rattle.daos_model.specs.FormLaws.{absent_keys, all-put, enlisted-in_form, length-filter, length-map, length-put}
+use Rattle.daos_model.specs.OrderLaws.{in_order-puts, rising-put}
+use Rattle.daos_model.specs.Ordered.{put, puts}
+use Rattle.daos_model.specs.Prunes.{is_going, is_staying}
+use Rattle.daos_model.specs.Versions.{done_by, is_not_pending}
+use Rattle.daos_model.specs.BoolLaws.{and_left, and_right}
+use Rattle.vos_plain.specs.Costs.{taken_blocks, version_blocks, versions_blocks}
+use Rattle.vos_plain.specs.Steps.{with_entry}
+use Rattle.vos_plain.specs.Sweeps.{unmarked}
+use Rattle.daos_base.specs.declared.operation.Write.{Write}
+use Rattle.daos_base.specs.declared.operation.Write.TheVariants.{Single, Extent, PunchObject, PunchDkey, PunchAkey}
+use Rattle.daos_model.specs.Blocks.{write_blocks}
+
+-- ---- blocks
+
+some_blocks : (w : Write) → 1 ≤ write_blocks w
+some_blocks (Single p b) = omega arith
+some_blocks (Extent p low b) = omega arith
+some_blocks (PunchObject p) = omega arith
+some_blocks (PunchDkey p) = omega arith
+some_blocks (PunchAkey p) = omega arith
+
+blocks-put : (v : Version) (us : List Version) → versions_blocks (put version_key v us) ≡ version_blocks v + versions_blocks us
+blocks-put v [] = refl
+blocks-put v (u ∷ us) =
+    elim (is_before (version_key u) (version_key v)) as (λ b. versions_blocks (if b then u ∷ put version_key v us else v ∷ u ∷ us) ≡ version_blocks v + versions_blocks (u ∷ us)) [
+      | true ↦ omega (arith, blocks-put v us)
+      | false ↦ refl
+    ]
+
+pub blocks-puts : (vs us : List Version) → versions_blocks (puts version_key vs us) ≡ versions_blocks vs + versions_blocks us
+blocks-puts [] us = omega arith
+blocks-puts (v ∷ vs) us = omega (arith, blocks-put v (puts version_key vs us), blocks-puts vs us)
+
+pub blocks-filter : (t : Version → Bool) (us : List Version) → versions_blocks (filter t us) ≤ versions_blocks us
+blocks-filter t [] = omega arith
+blocks-filter t (u ∷ us) =
+    elim (t u) as (λ b. versions_blocks (if b then u ∷ filter t us else filter t us) ≤ versions_blocks (u ∷ us)) [
+      | true ↦ omega (arith, blocks-filter t us)
+      | false ↦ omega (arith, blocks-filter t us)
+    ]
+
+pub blocks-staying : (t : Version → Bool) (us : List Version) → versions_blocks (filter (λ v. not (t v)) us) + length (filter t us) ≤ versions_blocks us
+blocks-staying t [] = omega arith
+blocks-staying t (u ∷ us) =
+    elim (t u) as (λ b. versions_blocks (if not b then u ∷ filter (λ v. not (t v)) us else filter (λ v. not (t v)) us) + length (if b then u ∷ filter t us else filter t us) ≤ versions_blocks (u ∷ us)) [
+      | true ↦ omega (arith, blocks-staying t us, some_blocks u.write)
+      | false ↦ omega (arith, blocks-staying t us)
+    ]
+
+same_blocks : (a : AttemptId) (v : Version) → version_blocks (done_by a v) ≡ version_blocks v
+unfolding done_by
+same_blocks a v = refl
+
+pub blocks-done : (a : AttemptId) (us : List Version) → versions_blocks (map (done_by a) us) ≡ versions_blocks us
+blocks-done a [] = refl
+blocks-done a (u ∷ us) = omega (arith, same_blocks a u, blocks-done a us)
+
+-- ---- changes
+
+pub committed_is : (a : AttemptId) (d : Durable) (vs : List Version) (es : List Entry) → vs ≡ map (done_by a) d.versions → es ≡ map (committed_at a) d.entries → (record d { versions = vs; entries = es }) ≡ settled a Commit d
+unfolding settled
+committed_is a d vs es v e = ap (λ x. record d { versions = x; entries = es }) v ∙ ap (λ x. record d { versions = map (done_by a) d.versions; entries = x }) e
+
+pub aborted_is : (a : AttemptId) (d : Durable) (vs : List Version) (es : List Entry) → vs ≡ filter (is_not_pending a) d.versions → es ≡ filter (is_other a) d.entries → (record d { versions = vs; entries = es }) ≡ settled a Abort d
+unfolding settled
+aborted_is a d vs es v e = ap (λ x. record d { versions = x; entries = es }) v ∙ ap (λ x. record d { versions = filter (is_not_pending a) d.versions; entries = x }) e
+
+pub confirmed_is : (a : AttemptId) (t : ℕ) (d : Durable) (es : List Entry) → es ≡ map (confirmed_at a t) d.entries → (record d { entries = es }) ≡ settled a (Confirm t) d
+unfolding settled
+confirmed_is a t d es e = ap (λ x. record d { entries = x }) e
+
+pub forgotten_is : (a : AttemptId) (d : Durable) (es : List Entry) → es ≡ filter (is_other a) d.entries → (record d { entries = es }) ≡ settled a Forget d
+unfolding settled
+forgotten_is a d es e = ap (λ x. record d { entries = x }) e
+
+pub created_is : (c : ContId) (s : Epoch) (d : Durable) (xs : List Snap) → xs ≡ map (created_at c s) d.snaps → (record d { snaps = xs }) ≡ created c s d
+unfolding created
+created_is c s d xs e = ap (λ x. record d { snaps = x }) e
+
+pub thawed_is : (c : ContId) (s : Epoch) (d : Durable) (xs : List Snap) → xs ≡ filter (is_other_snap c s) d.snaps → (record d { snaps = xs }) ≡ thawed c s d
+unfolding thawed
+thawed_is c s d xs e = ap (λ x. record d { snaps = x }) e
+
+pub discarded_is : (c : ContId) (lo hi : Epoch) (d : Durable) (vs : List Version) → vs ≡ filter (is_out_of_range c lo hi) d.versions → (record d { versions = vs }) ≡ discarded c lo hi d
+unfolding discarded with_versions
+discarded_is c lo hi d vs e = ap (λ x. record d { versions = x }) e
+
+pub frozen_new : (c : ContId) (s : Epoch) (d : Durable) (rows : List ContRow) (xs : List Snap) → list_any (is_snap_at c s) d.snaps ≡ false → rows ≡ map (raised_at c s (Snapshot s)) d.conts → xs ≡ put snap_key (new_snap c s) d.snaps → (record d { conts = rows; snaps = xs }) ≡ frozen c s d
+unfolding frozen is_frozen
+frozen_new c s d rows xs new r e =
+    ap (λ x. record d { conts = x; snaps = xs }) r
+    ∙ ap (λ x. record d { conts = map (raised_at c s (Snapshot s)) d.conts; snaps = x }) e
+    ∙ sym (ap (λ (b : Bool). record d { conts = map (raised_at c s (Snapshot s)) d.conts; snaps = if b then d.snaps else put snap_key (new_snap c s) d.snaps }) new)
+
+pub frozen_again : (c : ContId) (s : Epoch) (d : Durable) (rows : List ContRow) → list_any (is_snap_at c s) d.snaps ≡ true → rows ≡ map (raised_at c s (Snapshot s)) d.conts → (record d { conts = rows }) ≡ frozen c s d
+unfolding frozen is_frozen
+frozen_again c s d rows there r =
+    ap (λ x. record d { conts = x }) r
+    ∙ sym (ap (λ (b : Bool). record d { conts = map (raised_at c s (Snapshot s)) d.conts; snaps = if b then d.snaps else put snap_key (new_snap c s) d.snaps }) there)
+
+pub unmarked-map : (t : Version → Bool) (vs : List Version) → unmarked (map t vs) vs ≡ filter (λ v. not (t v)) vs
+unmarked-map t [] = refl
+unmarked-map t (v ∷ vs) =
+    elim (t v) as (λ (b : Bool). (if b then unmarked (map t vs) vs else v ∷ unmarked (map t vs) vs) ≡ (if not b then v ∷ filter (λ u. not (t u)) vs else filter (λ u. not (t u)) vs)) [
+      | true ↦ unmarked-map t vs
+      | false ↦ ap (λ x. v ∷ x) (unmarked-map t vs)
+    ]
+
+pub swept_by : (c : ContId) (upto : Epoch) (d : Durable) (vs : List Version) (ss : List Snap) (marks read : List Bool) (ws : List Version) → marks ≡ map (is_going c upto vs ss) vs → vs ≡ d.versions → ss ≡ d.snaps → read ≡ marks → ws ≡ unmarked read d.versions → ws ≡ filter (is_staying c upto d) d.versions
+swept_by c upto d vs ss marks read ws m v s r e =
+    e ∙ ap (λ x. unmarked x d.versions) (r ∙ m ∙ ap (λ x. map (is_going c upto x ss) x) v ∙ ap (λ x. map (is_going c upto d.versions x) d.versions) s)
+    ∙ unmarked-map (is_going c upto d.versions d.snaps) d.versions
+
+pub pruned_is : (c : ContId) (upto : Epoch) (n : ℕ) (d : Durable) (rows : List ContRow) (vs : List Version) → rows ≡ map (marked_at c upto n) d.conts → vs ≡ filter (is_staying c upto d) d.versions → (record d { versions = vs; conts = rows }) ≡ pruned c upto n d
+unfolding pruned with_versions marked
+pruned_is c upto n d rows vs r e =
+    ap (λ x. record d { versions = vs; conts = x }) r ∙ ap (λ x. record d { versions = x; conts = map (marked_at c upto n) d.conts }) e
+
+-- an entry and its versions more, in form
+pub with_entry-in_form : (vs : List Version) (e : Entry) (d : Durable) → entry_of d e.attempt ≡ None → list_all is_version_in_form vs ≡ true → IsInForm d → IsInForm (with_entry vs e d)
+unfolding entry_of
+with_entry-in_form vs e d absent form k = record {
+  versions = in_order-puts version_key vs d.versions k.versions;
+  writes = all_puts vs form;
+  entries = rising-put entry_key e d.entries (absent_keys e.attempt d.entries absent) k.entries;
+  conts = k.conts;
+  snaps = k.snaps;
+  few_conts = k.few_conts;
+  few_snaps = k.few_snaps;
+  lease = k.lease;
+}
+  where
+    all_puts : (us : List Version) → list_all is_version_in_form us ≡ true → list_all is_version_in_form (puts version_key us d.versions) ≡ true
+    all_puts [] h = k.writes
+    all_puts (u ∷ us) h =
+        all-put is_version_in_form version_key u (puts version_key us d.versions) (and_left (is_version_in_form u) (list_all is_version_in_form us) h)
+        (all_puts us (and_right (is_version_in_form u) (list_all is_version_in_form us) h))
+
+-- ---- blocks after each change
+
+pub fewer : (vs ws : List Version) (t : Version → Bool) → ws ≡ filter t vs → versions_blocks ws ≤ versions_blocks vs
+fewer vs ws t e = subst (λ x. versions_blocks x ≤ versions_blocks vs) (sym e) (blocks-filter t vs)
+
+pub fewer_entries : (es fs : List Entry) (t : Entry → Bool) → fs ≡ filter t es → length fs ≤ length es
+fewer_entries es fs t e = subst (λ x. length x ≤ length es) (sym e) (length-filter t es)
+
+pub same_entries : (es fs : List Entry) (f : Entry → Entry) → fs ≡ map f es → length fs ≡ length es
+same_entries es fs f e = ap (λ x. length x) e ∙ length-map f es
+
+pub same_taken : (a : AttemptId) (vs ws : List Version) (es fs : List Entry) → ws ≡ map (done_by a) vs → fs ≡ map (committed_at a) es → taken_blocks ws fs ≡ taken_blocks vs es
+same_taken a vs ws es fs v e = omega (arith, same_versions, same_entries es fs (committed_at a) e)
+  where
+    same_versions : versions_blocks ws ≡ versions_blocks vs
+    same_versions = ap versions_blocks v ∙ blocks-done a vs
+
+pub more_taken : (new vs ws : List Version) (x : Entry) (es fs : List Entry) → ws ≡ puts version_key new vs → fs ≡ put entry_key x es → taken_blocks ws fs ≡ taken_blocks vs es + versions_blocks new + 2
+more_taken new vs ws x es fs v e = omega (arith, more_versions, one_more)
+  where
+    more_versions : versions_blocks ws ≡ versions_blocks new + versions_blocks vs
+    more_versions = ap versions_blocks v ∙ blocks-puts new vs
+
+    one_more : length fs ≡ length es + 1
+    one_more = ap (λ z. length z) e ∙ length-put entry_key x es
+
+pub entry_added : (d : Durable) (new : List Version) (x : Entry) (vs : List Version) (es : List Entry) → vs ≡ puts version_key new d.versions → es ≡ put entry_key x d.entries → (record d { versions = vs; entries = es }) ≡ with_entry new x d
+entry_added d new x vs es v e = ap (λ z. record d { versions = z; entries = es }) v ∙ ap (λ z. record d { versions = puts version_key new d.versions; entries = z }) e
+
+pub freed : (c : ContId) (upto : Epoch) (d : Durable) (ws : List Version) → ws ≡ filter (is_staying c upto d) d.versions → versions_blocks ws + length (filter (is_going c upto d.versions d.snaps) d.versions) ≤ versions_blocks d.versions
+freed c upto d ws e =
+    subst (λ x. versions_blocks x + length (filter (is_going c upto d.versions d.snaps) d.versions) ≤ versions_blocks d.versions) (sym e)
+    (blocks-staying (is_going c upto d.versions d.snaps) d.versions)
+
+pub not_frozen : (c : ContId) (s : Epoch) (d : Durable) → list_any (is_snap_at c s) d.snaps ≡ false → is_frozen d c s ≡ false
+unfolding is_frozen
+not_frozen c s d e = e
+
+pub enlisted_is : (cs : List ContId) (d : Durable) (rows : List ContRow) → rows ≡ with_conts cs d.conts → length rows ≤ 256 → IsInForm d → IsInForm (record d { conts = rows })
+unfolding enlisted
+enlisted_is cs d rows e few k =
+    subst (λ x. IsInForm (record d { conts = x })) (sym e) (enlisted-in_form cs d (subst (λ x. length x ≤ 256) e few) k)

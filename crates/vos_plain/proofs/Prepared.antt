@@ -1,0 +1,41 @@
+-- What the writes of an entry are kept as.
+use Rattle.std.proofs.Common.{◌≡◌, ℕ, ◌+◌, Bool, true, ◌&&◌, List, [], ◌∷◌, Vec, Result, Ok, Err, refl, sym, ◌∙◌, ap, subst, arith}
+use Rattle.std.specs.Prelude.{All, IfOk}
+use Rattle.std.specs.List.{list_all}
+use Rattle.std.proofs.lemmas.List.Elements.{All-head, All-tail}
+use Rattle.daos_base.specs.declared.entry.Entry.{Entry}
+use Rattle.daos_base.specs.declared.operation.MinorWrite.{MinorWrite}
+use Rattle.daos_model.specs.declared.durable.Durable.{Durable}
+use Rattle.daos_model.specs.declared.durable.Version.{Version}
+use Rattle.daos_model.specs.Blocks.{blocks, sum_of_blocks}
+use Rattle.daos_model.specs.BoolLaws.{both}
+use Rattle.daos_model.specs.Changes.{prepared}
+use Rattle.daos_model.specs.Durables.{is_version_in_form}
+use Rattle.daos_model.specs.Forms.{AreWritesInForm, is_write_in_form}
+use Rattle.daos_model.specs.Versions.{version_of, versions_of}
+use Rattle.vos_plain.specs.Costs.{versions_blocks}
+use Rattle.vos_plain.specs.Steps.{with_entry}
+
+blocks_of-versions : (e : Entry) (ws : List MinorWrite) → versions_blocks (versions_of e ws) ≡ sum_of_blocks ws
+blocks_of-versions e [] = refl
+blocks_of-versions e (w ∷ ws) = omega (arith, blocks_of-versions e ws)
+
+versions-in_form : (e : Entry) (ws : List MinorWrite) → All (λ w. is_write_in_form w.write ≡ true) ws → list_all is_version_in_form (versions_of e ws) ≡ true
+versions-in_form e [] h = refl
+versions-in_form e (w ∷ ws) h =
+    both (is_write_in_form w.write) (list_all is_version_in_form (versions_of e ws)) (All-head (λ x. is_write_in_form x.write ≡ true) w ws h)
+    (versions-in_form e ws (All-tail (λ x. is_write_in_form x.write ≡ true) w ws h))
+
+pub form_as_told : {Z E : Type 0} (r : Result (Vec Version Z) E) (e : Entry) (ws : List MinorWrite) → AreWritesInForm ws → IfOk r (λ v. v.items ≡ versions_of e ws) → IfOk r (λ v. list_all is_version_in_form v.items ≡ true)
+form_as_told (Ok v) e ws f h = ap (list_all is_version_in_form) h ∙ versions-in_form e ws f.each
+form_as_told (Err x) e ws f h = tt
+
+pub blocks_as_told : {Z E : Type 0} (r : Result (Vec Version Z) E) (e : Entry) (ws : List MinorWrite) → IfOk r (λ v. v.items ≡ versions_of e ws) → IfOk r (λ v. versions_blocks v.items + 2 ≡ blocks ws)
+unfolding blocks
+blocks_as_told (Ok v) e ws h = let same : versions_blocks v.items ≡ sum_of_blocks ws = ap versions_blocks h ∙ blocks_of-versions e ws in omega (arith, same)
+blocks_as_told (Err x) e ws h = tt
+
+-- an entry and its versions more are what a prepare makes
+pub prepared_is : (e : Entry) (ws : List MinorWrite) (vs : List Version) (d y z : Durable) → vs ≡ versions_of e ws → y ≡ d → z ≡ with_entry vs e y → z ≡ prepared e ws d
+unfolding prepared
+prepared_is e ws vs d y z v s k = k ∙ ap (λ x. with_entry vs e x) s ∙ ap (λ x. with_entry x e d) v

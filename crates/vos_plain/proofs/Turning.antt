@@ -1,0 +1,105 @@
+-- What the calls of a store over lists say, from what they made.
+use Rattle.std.proofs.Common.{◌≡◌, ℕ, ◌+◌, ◌<◌, ◌≤◌, ◌⊎◌, inl, inr, Bool, true, false, not, List, Option, Some, None, Result, Ok, Err, refl, sym, ◌∙◌, ap, subst, arith}
+use Rattle.std.specs.Prelude.{IfOk, filter, if◌then◌else◌}
+use Rattle.std.specs.Option.{option_map}
+use Rattle.std.specs.List.{list_all}
+use Rattle.std.proofs.lemmas.Option.{same_Some}
+use Rattle.daos_base.specs.declared.answer.Answer.{Answer}
+use Rattle.daos_base.specs.declared.entry.Entry.{Entry}
+use Rattle.daos_base.specs.declared.entry.Settle.{Settle}
+use Rattle.daos_base.specs.declared.entry.Settle.TheVariants.{Commit, Abort, Confirm, Forget}
+use Rattle.daos_base.specs.declared.epoch.Epoch.{Epoch}
+use Rattle.daos_base.specs.declared.id.ContId.{ContId}
+use Rattle.daos_base.specs.declared.operation.Read.{Read}
+use Rattle.daos_base.specs.Operations.{read_path}
+use Rattle.daos_model.specs.declared.durable.Durable.{Durable}
+use Rattle.daos_model.specs.declared.durable.Version.{Version}
+use Rattle.daos_model.specs.Answers.{answer}
+use Rattle.daos_model.specs.BoolLaws.{not_false}
+use Rattle.daos_model.specs.Changes.{discarded, is_in_range, pruned, with_versions}
+use Rattle.daos_model.specs.Durables.{is_version_in_form, row_of}
+use Rattle.daos_model.specs.Kinds.{is_of_kind}
+use Rattle.daos_model.specs.Prunes.{Partly, is_going, is_staying}
+use Rattle.daos_model.specs.Versions.{first_blocking, map_below}
+use Rattle.daos_model.proofs.AnswerKinds.{kind-answer}
+use Rattle.vos_store.specs.declared.refusal.FetchNo.{FetchNo}
+use Rattle.vos_store.specs.declared.refusal.FetchNo.TheVariants as fetch
+use Rattle.vos_store.specs.Answers.{answer_unless, fetched, is_past}
+use Rattle.vos_store.specs.Calls.{CutDiscard, CutPrune, Makes, MakesPartly, State, Turns}
+use Rattle.vos_store.specs.Conditions.{StepFits}
+use Rattle.vos_store.specs.Refusals.{fetch_open, says}
+use Rattle.vos_plain.specs.Steps.{IsWithin}
+
+-- a change that was made
+pub makes : {E : Type 0} (stop : E → Bool) (f : Durable → Durable) (was : Bool) (y z : Durable) → was ≡ false → z ≡ f y → Makes {T = Unit {0}} was stop f (Ok tt) (Some y) (Some z) (λ x. x ≡ y) (λ x. x ≡ z)
+makes stop f was y z run e = record {
+  told = refl;
+  done = ap (λ w. Some w) e;
+  refused = λ h. absurd (let n : ⊥ = cc in n);
+  left = λ x m. inr (run, ap (λ w. Some w) (m ∙ e));
+}
+
+-- and one after which the store stopped
+pub makes_stopped : {E : Type 0} (stop : E → Bool) (f : Durable → Durable) (was : Bool) (s : E) (y z : Durable) → stop s ≡ true → was ≡ false → z ≡ f y → Makes {T = Unit {0}} was stop f (Err s) (Some y) (Some z) (λ x. x ≡ y) (λ x. x ≡ z)
+makes_stopped stop f was s y z is run e = record {
+  told = refl;
+  done = tt;
+  refused = λ h. absurd (let k : not true ≡ true = sym (ap not is) ∙ h in let n : ⊥ = cc in n);
+  left = λ x m. inr (run, ap (λ w. Some w) (m ∙ e));
+}
+
+pub makes_partly : {E : Type 0} (stop : E → Bool) (f : Durable → Durable) (Cut : Durable → Durable → Type 0) (was : Bool) (y z : Durable) → was ≡ false → z ≡ f y → ((d : Durable) → Cut d (f d)) → MakesPartly {T = Unit {0}} was stop f Cut (Ok tt) (Some y) (Some z) (λ x. x ≡ y) (λ x. x ≡ z)
+makes_partly stop f Cut was y z run e whole = record {
+  told = refl;
+  done = ap (λ w. Some w) e;
+  refused = λ h. absurd (let n : ⊥ = cc in n);
+  left = λ x d m is. inr (run, subst (Cut d) (sym (m ∙ e ∙ ap f (same_Some y d is))) (whole d));
+}
+
+pub makes_partly_stopped : {E : Type 0} (stop : E → Bool) (f : Durable → Durable) (Cut : Durable → Durable → Type 0) (was : Bool) (s : E) (y z : Durable) → stop s ≡ true → was ≡ false → z ≡ f y → ((d : Durable) → Cut d (f d)) → MakesPartly {T = Unit {0}} was stop f Cut (Err s) (Some y) (Some z) (λ x. x ≡ y) (λ x. x ≡ z)
+makes_partly_stopped stop f Cut was s y z is run e whole = record {
+  told = refl;
+  done = tt;
+  refused = λ h. absurd (let k : not true ≡ true = sym (ap not is) ∙ h in let n : ⊥ = cc in n);
+  left = λ x d m at. inr (run, subst (Cut d) (sym (m ∙ e ∙ ap f (same_Some y d at))) (whole d));
+}
+
+-- the whole of what goes is one of what a cut may leave
+all_gone : (vs : List Version) (going : Version → Bool) → Partly vs going (filter (λ v. not (going v)) vs)
+all_gone vs going = record {
+  stays = λ v. not (going v);
+  left = refl;
+  planned = λ v e. not_false (going v) e;
+  punches = λ p u gone punch update le over goes. ap not goes;
+}
+
+pub whole_prune : (c : ContId) (upto : Epoch) (n : ℕ) (d : Durable) → CutPrune c upto n d (pruned c upto n d)
+unfolding pruned
+whole_prune c upto n d = (filter (is_staying c upto d) d.versions, all_gone d.versions (is_going c upto d.versions d.snaps), refl)
+
+pub whole_discard : (c : ContId) (lo hi : Epoch) (d : Durable) → CutDiscard c lo hi d (discarded c lo hi d)
+unfolding discarded
+whole_discard c lo hi d = (filter (λ v. not (is_in_range c lo hi v)) d.versions, all_gone d.versions (is_in_range c lo hi), refl)
+
+-- the answer of a fetch is of its kind
+fetched_kind : (r : Read) (e : Epoch) (d : Durable) → list_all is_version_in_form d.versions ≡ true → IfOk (fetched r e d) (λ a. is_of_kind r a ≡ true)
+unfolding fetched
+fetched_kind r e d f =
+    elim (is_past (read_path r).cont e d) as (λ (b : Bool). IfOk (if b then Err (fetch.Aggregated (row_of d (read_path r).cont).aggregated (row_of d (read_path r).cont).number) else answer_unless (first_blocking (read_path r) e.0 d.versions) (answer r (map_below d.versions e.0))) (λ a. is_of_kind r a ≡ true)) [
+      | true ↦ tt
+      | false ↦
+          elim (first_blocking (read_path r) e.0 d.versions) as (λ o. IfOk (answer_unless o (answer r (map_below d.versions e.0))) (λ a. is_of_kind r a ≡ true)) [
+            | None ↦ kind-answer r d.versions e.0 f
+            | Some v ↦ tt
+          ]
+    ]
+
+pub kind_of : (x : Result Answer FetchNo) (r : Read) (e : Epoch) (d : Durable) → list_all is_version_in_form d.versions ≡ true → (says fetch_open x ≡ false → x ≡ fetched r e d) → IfOk x (λ a. is_of_kind r a ≡ true)
+kind_of (Ok a) r e d f h = subst (λ y. IfOk y (λ b. is_of_kind r b ≡ true)) (sym (h refl)) (fetched_kind r e d f)
+kind_of (Err x) r e d f h = tt
+
+pub within : (s : State) (step : Settle) (e : Entry) → s.targets ≡ 64 → StepFits s step e → IsWithin step
+within s Commit e is h = tt
+within s Abort e is h = tt
+within s (Confirm t) e is h = subst (λ n. t < n) is h.1
+within s Forget e is h = tt

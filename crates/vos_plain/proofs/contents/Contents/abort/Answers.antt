@@ -1,0 +1,30 @@
+use Rattle.daos_model.specs.Changes.{is_other}
+use Rattle.daos_model.specs.Versions.{is_not_pending}
+use Rattle.std.proofs.Common.{◌≡◌, ◌≤◌, ◌+◌, ◌*◌, ap, sym, ◌∙◌, subst, length, arith}
+use Rattle.daos_model.specs.Durables.{IsInForm}
+use Rattle.daos_model.specs.FormLaws.{settled-in_form}
+use Rattle.vos_plain.specs.Contents.{contents_of}
+use Rattle.vos_plain.specs.Costs.{taken_blocks, versions_blocks}
+use Rattle.vos_plain.proofs.Kept.{aborted_is, fewer, fewer_entries}
+use Rattle.daos_base.specs.declared.entry.Settle.TheVariants.{Abort}
+use Rattle.vos_plain.proofs.contents.Contents.abort.Goals as goal
+
+pub invariant_of-self-clause-formed : goal.invariant_of-self-clause-formed
+invariant_of-self-clause-formed c =
+    subst IsInForm (sym (aborted_is c.args.attempt (contents_of c.args.self.now) c.remove_pending.new.rows.items c.remove_entry.new.rows.items c.remove_pending.ensures.items c.remove_entry.ensures))
+    (settled-in_form c.args.attempt Abort (contents_of c.args.self.now) c.args.self.now.formed)
+
+pub invariant_of-self-clause-room : goal.invariant_of-self-clause-room
+invariant_of-self-clause-room c =
+    let few : versions_blocks c.remove_pending.new.rows.items ≤ versions_blocks c.args.self.now.rows.items = fewer c.args.self.now.rows.items c.remove_pending.new.rows.items (is_not_pending c.args.attempt) c.remove_pending.ensures.items in
+    let few_entries : length c.remove_entry.new.rows.items ≤ length c.args.self.now.entries.items = fewer_entries c.args.self.now.entries.items c.remove_entry.new.rows.items (is_other c.args.attempt) c.remove_entry.ensures in
+    omega (arith, c.args.self.now.room, few, few_entries)
+
+pub returns-clause-kept : goal.returns-clause-kept
+returns-clause-kept c = aborted_is c.args.attempt (contents_of c.args.self.now) c.remove_pending.new.rows.items c.remove_entry.new.rows.items c.remove_pending.ensures.items c.remove_entry.ensures
+
+pub returns-clause-free : goal.returns-clause-free
+returns-clause-free c =
+    let few : versions_blocks c.remove_pending.new.rows.items ≤ versions_blocks c.args.self.now.rows.items = fewer c.args.self.now.rows.items c.remove_pending.new.rows.items (is_not_pending c.args.attempt) c.remove_pending.ensures.items in
+    let few_entries : length c.remove_entry.new.rows.items ≤ length c.args.self.now.entries.items = fewer_entries c.args.self.now.entries.items c.remove_entry.new.rows.items (is_other c.args.attempt) c.remove_entry.ensures in
+    omega (arith, few, few_entries)

@@ -1,0 +1,26 @@
+use Rattle.daos_model.specs.Changes.{is_out_of_range}
+use Rattle.std.proofs.Common.{◌≡◌, ◌≤◌, ◌+◌, ◌*◌, ap, sym, ◌∙◌, subst, length, arith}
+use Rattle.daos_model.specs.Durables.{IsInForm}
+use Rattle.daos_model.specs.FormLaws.{discarded-in_form}
+use Rattle.vos_plain.specs.Contents.{contents_of}
+use Rattle.vos_plain.specs.Costs.{taken_blocks, versions_blocks}
+use Rattle.vos_plain.proofs.Kept.{discarded_is, fewer}
+use Rattle.vos_plain.proofs.contents.Contents.discard.Goals as goal
+
+pub invariant_of-self-clause-formed : goal.invariant_of-self-clause-formed
+invariant_of-self-clause-formed c =
+    subst IsInForm (sym (discarded_is c.args.cont c.args.lo c.args.hi (contents_of c.args.self.now) c.remove_range.new.rows.items c.remove_range.ensures.items))
+    (discarded-in_form c.args.cont c.args.lo c.args.hi (contents_of c.args.self.now) c.args.self.now.formed)
+
+pub invariant_of-self-clause-room : goal.invariant_of-self-clause-room
+invariant_of-self-clause-room c =
+    let few : versions_blocks c.remove_range.new.rows.items ≤ versions_blocks c.args.self.now.rows.items = fewer c.args.self.now.rows.items c.remove_range.new.rows.items (is_out_of_range c.args.cont c.args.lo c.args.hi) c.remove_range.ensures.items in
+    omega (arith, c.args.self.now.room, few)
+
+pub returns-clause-kept : goal.returns-clause-kept
+returns-clause-kept c = discarded_is c.args.cont c.args.lo c.args.hi (contents_of c.args.self.now) c.remove_range.new.rows.items c.remove_range.ensures.items
+
+pub returns-clause-free : goal.returns-clause-free
+returns-clause-free c =
+    let few : versions_blocks c.remove_range.new.rows.items ≤ versions_blocks c.args.self.now.rows.items = fewer c.args.self.now.rows.items c.remove_range.new.rows.items (is_out_of_range c.args.cont c.args.lo c.args.hi) c.remove_range.ensures.items in
+    omega (arith, few)

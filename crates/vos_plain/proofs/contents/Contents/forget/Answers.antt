@@ -1,0 +1,27 @@
+use Rattle.daos_model.specs.Changes.{is_other}
+use Rattle.std.proofs.Common.{◌≡◌, ◌≤◌, ◌+◌, ◌*◌, ap, sym, ◌∙◌, subst, length, arith}
+use Rattle.daos_model.specs.Durables.{IsInForm}
+use Rattle.daos_model.specs.FormLaws.{settled-in_form}
+use Rattle.vos_plain.specs.Contents.{contents_of}
+use Rattle.vos_plain.specs.Costs.{taken_blocks, versions_blocks}
+use Rattle.vos_plain.proofs.Kept.{forgotten_is, fewer_entries}
+use Rattle.daos_base.specs.declared.entry.Settle.TheVariants.{Forget}
+use Rattle.vos_plain.proofs.contents.Contents.forget.Goals as goal
+
+pub invariant_of-self-clause-formed : goal.invariant_of-self-clause-formed
+invariant_of-self-clause-formed c =
+    subst IsInForm (sym (forgotten_is c.args.attempt (contents_of c.args.self.now) c.remove_entry.new.rows.items c.remove_entry.ensures))
+    (settled-in_form c.args.attempt Forget (contents_of c.args.self.now) c.args.self.now.formed)
+
+pub invariant_of-self-clause-room : goal.invariant_of-self-clause-room
+invariant_of-self-clause-room c =
+    let few_entries : length c.remove_entry.new.rows.items ≤ length c.args.self.now.entries.items = fewer_entries c.args.self.now.entries.items c.remove_entry.new.rows.items (is_other c.args.attempt) c.remove_entry.ensures in
+    omega (arith, c.args.self.now.room, few_entries)
+
+pub returns-clause-kept : goal.returns-clause-kept
+returns-clause-kept c = forgotten_is c.args.attempt (contents_of c.args.self.now) c.remove_entry.new.rows.items c.remove_entry.ensures
+
+pub returns-clause-free : goal.returns-clause-free
+returns-clause-free c =
+    let few_entries : length c.remove_entry.new.rows.items ≤ length c.args.self.now.entries.items = fewer_entries c.args.self.now.entries.items c.remove_entry.new.rows.items (is_other c.args.attempt) c.remove_entry.ensures in
+    omega (arith, few_entries)

@@ -1,0 +1,37 @@
+use Rattle.std.proofs.Common.{◌≡◌, ◌≤◌, ◌+◌, ap, sym, ◌∙◌, subst, filter, length, vec_len, arith, rules}
+use Rattle.daos_model.specs.Durables.{IsInForm}
+use Rattle.daos_model.specs.FormLaws.{length-map, pruned-in_form}
+use Rattle.daos_model.specs.Prunes.{is_going, is_staying}
+use Rattle.vos_store.specs.Calls.{going_count}
+use Rattle.vos_plain.specs.Contents.{contents_of}
+use Rattle.vos_plain.specs.Costs.{versions_blocks}
+use Rattle.vos_plain.proofs.Kept.{freed, pruned_is, swept_by}
+use Rattle.vos_plain.proofs.contents.Contents.prune.Goals as goal
+
+pub sweep-requires : goal.sweep-requires
+sweep-requires c =
+    let len : length c.args.self.now.rows.items ≡ vec_len c.args.self.now.rows = search rules in
+    ap (λ z. length z) (c.deref-3.ensures.value ∙ c.mark_going.ensures.items) ∙ length-map (is_going c.args.cont c.args.upto c.deref.result.now c.deref-2.result.now) c.deref.result.now ∙ ap (λ z. length z) c.deref.ensures.value ∙ len
+
+pub invariant_of-self-clause-formed : goal.invariant_of-self-clause-formed
+invariant_of-self-clause-formed c =
+    let rows : c.sweep.new.rows.items ≡ filter (is_staying c.args.cont c.args.upto (contents_of c.args.self.now)) c.args.self.now.rows.items = swept_by c.args.cont c.args.upto (contents_of c.args.self.now) c.deref.result.now c.deref-2.result.now c.mark_going.new.marks.items c.deref-3.result.now c.sweep.new.rows.items c.mark_going.ensures.items c.deref.ensures.value c.deref-2.ensures.value c.deref-3.ensures.value c.sweep.ensures.items in
+    subst IsInForm (sym (pruned_is c.args.cont c.args.upto c.args.number (contents_of c.args.self.now) c.mark.new.rows.items c.sweep.new.rows.items c.mark.ensures rows))
+    (pruned-in_form c.args.cont c.args.upto c.args.number (contents_of c.args.self.now) c.args.self.now.formed)
+
+pub invariant_of-self-clause-room : goal.invariant_of-self-clause-room
+invariant_of-self-clause-room c =
+    let rows : c.sweep.new.rows.items ≡ filter (is_staying c.args.cont c.args.upto (contents_of c.args.self.now)) c.args.self.now.rows.items = swept_by c.args.cont c.args.upto (contents_of c.args.self.now) c.deref.result.now c.deref-2.result.now c.mark_going.new.marks.items c.deref-3.result.now c.sweep.new.rows.items c.mark_going.ensures.items c.deref.ensures.value c.deref-2.ensures.value c.deref-3.ensures.value c.sweep.ensures.items in
+    let given : versions_blocks c.sweep.new.rows.items + going_count c.args.cont c.args.upto (contents_of c.args.self.now) ≤ versions_blocks c.args.self.now.rows.items = freed c.args.cont c.args.upto (contents_of c.args.self.now) c.sweep.new.rows.items rows in
+    omega (arith, c.args.self.now.room, given)
+
+pub returns-clause-kept : goal.returns-clause-kept
+returns-clause-kept c =
+    let rows : c.sweep.new.rows.items ≡ filter (is_staying c.args.cont c.args.upto (contents_of c.args.self.now)) c.args.self.now.rows.items = swept_by c.args.cont c.args.upto (contents_of c.args.self.now) c.deref.result.now c.deref-2.result.now c.mark_going.new.marks.items c.deref-3.result.now c.sweep.new.rows.items c.mark_going.ensures.items c.deref.ensures.value c.deref-2.ensures.value c.deref-3.ensures.value c.sweep.ensures.items in
+    pruned_is c.args.cont c.args.upto c.args.number (contents_of c.args.self.now) c.mark.new.rows.items c.sweep.new.rows.items c.mark.ensures rows
+
+pub returns-clause-free : goal.returns-clause-free
+returns-clause-free c =
+    let rows : c.sweep.new.rows.items ≡ filter (is_staying c.args.cont c.args.upto (contents_of c.args.self.now)) c.args.self.now.rows.items = swept_by c.args.cont c.args.upto (contents_of c.args.self.now) c.deref.result.now c.deref-2.result.now c.mark_going.new.marks.items c.deref-3.result.now c.sweep.new.rows.items c.mark_going.ensures.items c.deref.ensures.value c.deref-2.ensures.value c.deref-3.ensures.value c.sweep.ensures.items in
+    let given : versions_blocks c.sweep.new.rows.items + going_count c.args.cont c.args.upto (contents_of c.args.self.now) ≤ versions_blocks c.args.self.now.rows.items = freed c.args.cont c.args.upto (contents_of c.args.self.now) c.sweep.new.rows.items rows in
+    omega (arith, c.args.self.now.room, given)

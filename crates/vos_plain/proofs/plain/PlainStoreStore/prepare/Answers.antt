@@ -1,0 +1,26 @@
+use Rattle.std.proofs.Common.{◌≡◌, false, refl}
+use Rattle.daos_model.specs.Changes.{prepared}
+use Rattle.vos_store.specs.declared.refusal.PrepareNo.TheVariants as prepare
+use Rattle.vos_store.specs.Refusals.{prepare_stop}
+use Rattle.vos_plain.specs.Contents.{contents_of}
+use Rattle.vos_plain.proofs.Prepared.{prepared_is}
+use Rattle.vos_plain.proofs.Turning.{makes, makes_stopped}
+use Rattle.vos_plain.proofs.plain.PlainStoreStore.prepare.Goals as goal
+
+pub blocks-need-requires : goal.blocks-need-requires
+blocks-need-requires c = (c.requires _ refl).form
+
+pub ready-requires : goal.ready-requires
+ready-requires c = (c.requires _ refl).form
+
+pub returns-in-Made-clause-kept : goal.returns-in-Made-clause-kept
+returns-in-Made-clause-kept c =
+    let run : c.args.self.now.trips.stopped ≡ false = cc in
+    makes prepare_stop (prepared c.args.entry.now c.args.writes.now) c.args.self.now.trips.stopped (contents_of c.args.self.now.contents) (contents_of c.prepare.new.self) run
+    (prepared_is c.args.entry.now c.args.writes.now c.in-Ok.rows.items (contents_of c.args.self.now.contents) (contents_of c.ready.new.self) (contents_of c.prepare.new.self) c.in-Ok.ensures.versions c.in-Ok.ensures.same c.prepare.ensures.kept)
+
+pub returns-in-StopAfter-clause-kept : goal.returns-in-StopAfter-clause-kept
+returns-in-StopAfter-clause-kept c =
+    let run : c.args.self.now.trips.stopped ≡ false = cc in
+    makes_stopped prepare_stop (prepared c.args.entry.now c.args.writes.now) c.args.self.now.trips.stopped prepare.Stopped (contents_of c.args.self.now.contents) (contents_of c.prepare-in-StopAfter.new.self) refl run
+    (prepared_is c.args.entry.now c.args.writes.now c.in-Ok.rows.items (contents_of c.args.self.now.contents) (contents_of c.ready.new.self) (contents_of c.prepare-in-StopAfter.new.self) c.in-Ok.ensures.versions c.in-Ok.ensures.same c.prepare-in-StopAfter.ensures.kept)

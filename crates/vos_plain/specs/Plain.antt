@@ -1,0 +1,27 @@
+-- What a store over lists says of itself.
+use Rattle.std.specs.Prelude.{ℕ, false}
+use Rattle.daos_base.specs.declared.outcome.FloorWhy.TheVariants.{Opening}
+use Rattle.daos_model.specs.declared.durable.Durable.{Durable}
+use Rattle.vos_store.specs.Calls.{State}
+use Rattle.vos_plain.specs.declared.plain.PlainStore.{PlainStore}
+use Rattle.vos_plain.specs.Contents.{contents_of, free_of}
+use Rattle.vos_plain.specs.Trips.{signs_of}
+
+-- what it keeps
+abbrev pub plain_durable : PlainStore → Durable
+plain_durable s = contents_of s.contents
+
+abbrev pub plain_state : PlainStore → State
+plain_state s = record {
+  stopped = (signs_of s.trips).stopped;
+  faults = (signs_of s.trips).faults;
+  burns = (signs_of s.trips).burns;
+  fused = (signs_of s.trips).fused;
+  free = free_of s.contents;
+  targets = 64;
+  opening = (s.floor, s.why);
+}
+
+-- a new one runs, and no fuse is set
+abbrev pub new_state : ℕ → State
+new_state free = record { stopped = false; faults = 0; burns = 0; fused = false; free = free; targets = 64; opening = (record { 0 = 0 }, Opening) }

@@ -1,0 +1,193 @@
+// What a store over lists answers, without stops.
+ghost use Rattle.std.specs.Prelude.{◌≡◌, ◌*◌, ◌≤◌, IfErr, IfOk, length};
+ghost use Rattle.std.specs.Option.{option_copied};
+ghost use Rattle.daos_model.specs.Answers.{answer};
+ghost use Rattle.daos_model.specs.Durables.{row_or_new};
+ghost use Rattle.vos_store.specs.Answers.{shown_or_none};
+
+use crate::contents::Contents;
+use crate::rows::{blocks_of, first_between, first_blocking, first_open_in, map_below};
+use crate::tables::{copied, has_snap, new_row, row_of};
+use daos_base::answer::Answer;
+use daos_base::entry::{Entries, Entry};
+use daos_base::epoch::Epoch;
+use daos_base::id::ContId;
+use daos_base::items::{Items, Memory};
+use daos_base::operation::Read;
+use daos_base::path::Path;
+use daos_base::shown::Shown;
+use daos_base::snapshot::Snaps;
+use daos_model::answers::answer_of;
+use daos_model::durable::{ContRow, Version};
+use daos_model::map::Map;
+use std::alloc::Global;
+use vos_store::refusal::{DiscardNo, FetchNo, FreezeNo};
+
+// A version as it is shown.
+fn shown(version: Option<&Version>) -> Result<Option<Shown>, Memory>
+    ensures { IfOk result (λ shown. shown ≡ shown_or_none (option_copied version.entry)) }
+{
+    match version {
+        Some(version) => Ok(Some(Shown {
+            by: version.by,
+            epoch: version.epoch,
+            path: version.write.path().copy()?,
+        })),
+        None => Ok(None),
+    }
+}
+
+// The blocks that entries take.
+fn entries_blocks(entries: &[Entry], limit: u32) -> u32
+    requires { 2 * length entries.now ≤ limit }
+    ensures { result ≡ 2 * length entries.now }
+{
+    2 * entries.len() as u32
+}
+
+// The row of a container, or a new one.
+fn row_or_new(cont: ContId, row: Option<&ContRow>) -> ContRow
+    ensures { result ≡ row_or_new cont (option_copied row.entry) }
+{
+    match row {
+        Some(row) => *row,
+        None => new_row(cont),
+    }
+}
+
+// The answer of a read on a map.
+fn answered(alloc: Global, map: &Map, read: &Read) -> Result<Answer, FetchNo>
+    ensures answer { IfOk result (λ a. a ≡ answer read.now map.now) }
+    ensures memory { IfErr result (λ e. e ≡ FetchNo.Memory) }
+{
+    match answer_of(alloc, map, read) {
+        Ok(answer) => Ok(answer),
+        Err(_) => Err(FetchNo::Memory),
+    }
+}
+
+impl Contents {
+    ghost use Rattle.std.specs.Prelude.{◌<◌, false, OnOk};
+    ghost use Rattle.daos_model.specs.Durables.{is_frozen, row_of};
+    ghost use Rattle.vos_store.specs.Answers.{discards, fetched, freezes, is_past, later_write};
+    ghost use Rattle.vos_store.specs.Refusals.{discard_stop, fetch_open, fetch_stop, freeze_stop, says};
+    ghost use Rattle.daos_base.specs.Epochs.{restart_floor};
+    ghost use Rattle.vos_plain.specs.Contents.{contents_of, free_of};
+
+    /// What is kept of a container.
+    #[tactic(auto, unfolding(daos_model::specs::Durables::row_of))]
+    pub fn row(&self, cont: ContId) -> ContRow
+        ensures { result ≡ row_of (contents_of self.now) cont }
+    {
+        row_or_new(cont, row_of(&self.conts, cont))
+    }
+
+    /// Whether a snapshot is frozen.
+    #[tactic(auto, unfolding(daos_model::specs::Durables::is_frozen))]
+    pub fn is_frozen(&self, cont: ContId, epoch: Epoch) -> bool
+        ensures { result ≡ is_frozen (contents_of self.now) cont epoch }
+    {
+        has_snap(&self.snaps, cont, epoch)
+    }
+
+    // Whether the versions that a read below an epoch asks for were aggregated.
+    #[tactic(auto, unfolding(vos_store::specs::Answers::is_past))]
+    fn is_past(&self, cont: ContId, epoch: Epoch) -> bool
+        ensures { result ≡ is_past cont epoch (contents_of self.now) }
+    {
+        epoch.0 <= self.row(cont).aggregated.0 && !self.is_frozen(cont, epoch)
+    }
+
+    /// Whether a freeze is refused.
+    #[tactic(auto, unfolding(vos_store::specs::Answers::freezes))]
+    pub fn can_freeze(&self, cont: ContId, s: Epoch) -> Result<(), FreezeNo>
+        ensures answer { result ≡ freezes cont s (contents_of self.now) }
+        ensures runs { says freeze_stop result ≡ false }
+        ensures place { OnOk result (is_frozen (contents_of self.now) cont s ≡ false → length (contents_of self.now).snaps < 256) }
+    {
+        let row = self.row(cont);
+        if s.0 <= row.aggregated.0 {
+            return Err(FreezeNo::Below(row.aggregated, row.number));
+        }
+        if !self.is_frozen(cont, s) && self.snaps.len() >= 256 {
+            return Err(FreezeNo::NoPlace);
+        }
+        Ok(())
+    }
+
+    /// Whether a discard is refused.
+    #[tactic(auto, unfolding(vos_store::specs::Answers::discards))]
+    pub fn can_discard(&self, cont: ContId, lo: Epoch, hi: Epoch) -> Result<(), DiscardNo>
+        ensures answer { result ≡ discards cont lo hi (contents_of self.now) }
+        ensures runs { says discard_stop result ≡ false }
+    {
+        match first_open_in(&self.rows, cont, lo, hi) {
+            Some(version) => Err(DiscardNo::Unsettled(version.by)),
+            None => Ok(()),
+        }
+    }
+
+    /// The answer of a read below an epoch.
+    #[tactic(auto, unfolding(vos_store::specs::Answers::fetched))]
+    pub fn fetch(&self, read: &Read, below: Epoch) -> Result<Answer, FetchNo>
+        ensures answer { says fetch_open result ≡ false → result ≡ fetched read.now below (contents_of self.now) }
+        ensures runs { says fetch_stop result ≡ false }
+    {
+        let path = read.path();
+        if self.is_past(path.cont, below) {
+            let row = self.row(path.cont);
+            return Err(FetchNo::Aggregated(row.aggregated, row.number));
+        }
+        if let Some(version) = first_blocking(&self.rows, path, below) {
+            return Err(FetchNo::Unsettled(version.by));
+        }
+        match map_below(self.alloc, &self.rows, below) {
+            Ok(map) => answered(self.alloc, &map, read),
+            Err(_) => Err(FetchNo::Memory),
+        }
+    }
+
+    /// The write on a path, above one epoch and up to another, that is shown.
+    #[tactic(auto, unfolding(vos_store::specs::Answers::later_write))]
+    pub fn later_write(
+        &self,
+        path: &Path,
+        above: Epoch,
+        upto: Epoch,
+    ) -> Result<Option<Shown>, Memory>
+        ensures { IfOk result (λ shown. shown ≡ later_write path.now above upto (contents_of self.now)) }
+    {
+        shown(first_between(&self.rows, path, above, upto))
+    }
+
+    /// The entries.
+    pub fn entries(&self) -> Result<Entries, Memory>
+        ensures { IfOk result (λ entries. entries ≡ (contents_of self.now).entries) }
+    {
+        Ok(Items::from_vec(copied(self.alloc, &self.entries)?))
+    }
+
+    /// The snapshots.
+    pub fn snaps(&self) -> Result<Snaps, Memory>
+        ensures { IfOk result (λ snaps. snaps ≡ (contents_of self.now).snaps) }
+    {
+        Ok(Items::from_vec(copied(self.alloc, &self.snaps)?))
+    }
+
+    /// The floor that an opening sets.
+    pub fn restart_floor(&self) -> Epoch
+        ensures { result.0 ≡ restart_floor (contents_of self.now).lease }
+    {
+        let lease = self.lease;
+        Epoch(lease * 256 + 255)
+    }
+
+    /// The blocks that are free.
+    pub fn free(&self) -> u32
+        ensures { result ≡ free_of self.now }
+    {
+        let taken = blocks_of(&self.rows, self.capacity)
+            + entries_blocks(&self.entries, self.capacity);
+        self.capacity - taken
+    }
+}

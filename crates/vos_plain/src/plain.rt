@@ -1,0 +1,318 @@
+// A store over lists.
+ghost use Rattle.std.specs.Prelude.{◌≡◌, ◌-◌, ◌*◌, ◌≤◌, IfOk, Some};
+ghost use Rattle.daos_model.specs.Durables.{empty_durable};
+ghost use Rattle.vos_store.specs.Answers.{later_floor};
+ghost use Rattle.vos_plain.specs.Contents.{contents_of};
+ghost use Rattle.vos_plain.specs.Laws.{plain_formed, plain_steady};
+ghost use Rattle.vos_plain.specs.Plain.{new_state, plain_durable, plain_state};
+
+use crate::contents::Contents;
+use crate::trips::{Strike, Trips};
+use daos_base::answer::Answer;
+use daos_base::entry::{Entries, Entry, Settle};
+use daos_base::epoch::Epoch;
+use daos_base::id::{AttemptId, ContId};
+use daos_base::items::{Items, Memory};
+use daos_base::operation::{MinorWrite, Read};
+use daos_base::outcome::FloorWhy;
+use daos_base::path::Path;
+use daos_base::shown::Shown;
+use daos_base::snapshot::Snaps;
+use daos_model::blocks::blocks;
+use daos_model::durable::ContRow;
+use std::alloc::Global;
+use vos_store::refusal::{
+    DiscardNo, EnlistNo, FetchNo, FreezeNo, LaterNo, PrepareNo, ReopenNo, Stopped,
+};
+use vos_store::store::{Fuse, Store};
+
+/// A store over lists in memory, made for 64 targets. It stops at the changes that a plan or a fuse
+/// says.
+#[derive(Drop)]
+pub struct PlainStore {
+    contents: Contents,
+    trips: Trips,
+    floor: Epoch,
+    why: FloorWhy,
+}
+
+// The greater of the opening's floor and a stored one.
+fn later_floor(floor: Epoch, why: FloorWhy, row: ContRow) -> (Epoch, FloorWhy)
+    ensures { result ≡ later_floor (floor, why) row }
+{
+    if floor.0 < row.floor.0 {
+        (row.floor, row.why)
+    } else {
+        (floor, why)
+    }
+}
+
+impl Store for PlainStore {
+    ghost durable = { λ s. Some (plain_durable s) };
+
+    ghost may = { λ s d. d ≡ plain_durable s };
+
+    ghost state = { plain_state };
+
+    fn enlist(&mut self, conts: &[ContId]) -> Result<(), EnlistNo> {
+        if self.trips.stopped {
+            return Err(EnlistNo::Stopped);
+        }
+        self.contents.enlist(conts)
+    }
+
+    fn prepare(&mut self, entry: &Entry, writes: &[MinorWrite]) -> Result<(), PrepareNo> {
+        if self.trips.stopped {
+            return Err(PrepareNo::Stopped);
+        }
+        let (need, free) = (blocks(writes), self.contents.free());
+        if free < need {
+            return Err(PrepareNo::NoSpace { need, free });
+        }
+        let Ok(rows) = self.contents.ready(entry, writes) else {
+            return Err(PrepareNo::Memory);
+        };
+        match self.trips.strike() {
+            Strike::Made => {
+                self.contents.prepare(*entry, rows);
+                Ok(())
+            }
+            Strike::StopBefore => Err(PrepareNo::Stopped),
+            Strike::StopAfter => {
+                self.contents.prepare(*entry, rows);
+                Err(PrepareNo::Stopped)
+            }
+        }
+    }
+
+    fn settle(&mut self, attempt: AttemptId, step: Settle) -> Result<(), Stopped> {
+        if self.trips.stopped {
+            return Err(Stopped);
+        }
+        match self.trips.strike() {
+            Strike::Made => {
+                self.contents.settle(attempt, step);
+                Ok(())
+            }
+            Strike::StopBefore => Err(Stopped),
+            Strike::StopAfter => {
+                self.contents.settle(attempt, step);
+                Err(Stopped)
+            }
+        }
+    }
+
+    fn extend_lease(&mut self, ticks: u64) -> Result<(), Stopped> {
+        if self.trips.stopped {
+            return Err(Stopped);
+        }
+        match self.trips.strike() {
+            Strike::Made => {
+                self.contents.extend(ticks);
+                Ok(())
+            }
+            Strike::StopBefore => Err(Stopped),
+            Strike::StopAfter => {
+                self.contents.extend(ticks);
+                Err(Stopped)
+            }
+        }
+    }
+
+    fn freeze(&mut self, cont: ContId, s: Epoch) -> Result<(), FreezeNo> {
+        if self.trips.stopped {
+            return Err(FreezeNo::Stopped);
+        }
+        if let Err(refusal) = self.contents.can_freeze(cont, s) {
+            return Err(refusal);
+        }
+        match self.trips.strike() {
+            Strike::Made => {
+                self.contents.freeze(cont, s);
+                Ok(())
+            }
+            Strike::StopBefore => Err(FreezeNo::Stopped),
+            Strike::StopAfter => {
+                self.contents.freeze(cont, s);
+                Err(FreezeNo::Stopped)
+            }
+        }
+    }
+
+    fn create(&mut self, cont: ContId, s: Epoch) -> Result<(), Stopped> {
+        if self.trips.stopped {
+            return Err(Stopped);
+        }
+        match self.trips.strike() {
+            Strike::Made => {
+                self.contents.create(cont, s);
+                Ok(())
+            }
+            Strike::StopBefore => Err(Stopped),
+            Strike::StopAfter => {
+                self.contents.create(cont, s);
+                Err(Stopped)
+            }
+        }
+    }
+
+    fn thaw(&mut self, cont: ContId, s: Epoch) -> Result<(), Stopped> {
+        if self.trips.stopped {
+            return Err(Stopped);
+        }
+        match self.trips.strike() {
+            Strike::Made => {
+                self.contents.thaw(cont, s);
+                Ok(())
+            }
+            Strike::StopBefore => Err(Stopped),
+            Strike::StopAfter => {
+                self.contents.thaw(cont, s);
+                Err(Stopped)
+            }
+        }
+    }
+
+    fn prune(&mut self, cont: ContId, upto: Epoch, number: u32) -> Result<(), Stopped> {
+        if self.trips.stopped {
+            return Err(Stopped);
+        }
+        match self.trips.strike() {
+            Strike::Made => {
+                self.contents.prune(cont, upto, number);
+                Ok(())
+            }
+            Strike::StopBefore => Err(Stopped),
+            Strike::StopAfter => {
+                self.contents.prune(cont, upto, number);
+                Err(Stopped)
+            }
+        }
+    }
+
+    fn discard(&mut self, cont: ContId, lo: Epoch, hi: Epoch) -> Result<(), DiscardNo> {
+        if self.trips.stopped {
+            return Err(DiscardNo::Stopped);
+        }
+        if let Err(refusal) = self.contents.can_discard(cont, lo, hi) {
+            return Err(refusal);
+        }
+        match self.trips.strike() {
+            Strike::Made => {
+                self.contents.discard(cont, lo, hi);
+                Ok(())
+            }
+            Strike::StopBefore => Err(DiscardNo::Stopped),
+            Strike::StopAfter => {
+                self.contents.discard(cont, lo, hi);
+                Err(DiscardNo::Stopped)
+            }
+        }
+    }
+
+    fn fetch(&mut self, read: &Read, below: Epoch) -> Result<Answer, FetchNo> {
+        if self.trips.stopped {
+            return Err(FetchNo::Stopped);
+        }
+        self.contents.fetch(read, below)
+    }
+
+    fn later_write(
+        &mut self,
+        path: &Path,
+        above: Epoch,
+        upto: Epoch,
+    ) -> Result<Option<Shown>, LaterNo> {
+        if self.trips.stopped {
+            return Err(LaterNo::Stopped);
+        }
+        match self.contents.later_write(path, above, upto) {
+            Ok(shown) => Ok(shown),
+            Err(_) => Err(LaterNo::Memory),
+        }
+    }
+
+    fn entries(&mut self) -> Result<Entries, LaterNo> {
+        if self.trips.stopped {
+            return Err(LaterNo::Stopped);
+        }
+        match self.contents.entries() {
+            Ok(entries) => Ok(entries),
+            Err(_) => Err(LaterNo::Memory),
+        }
+    }
+
+    fn floor(&self, cont: ContId) -> (Epoch, FloorWhy) {
+        later_floor(self.floor, self.why, self.contents.row(cont))
+    }
+
+    fn aggregated(&self, cont: ContId) -> Epoch {
+        self.contents.row(cont).aggregated
+    }
+
+    fn snaps(&self) -> Result<Snaps, Memory> {
+        self.contents.snaps()
+    }
+
+    fn lease(&self) -> u64 {
+        self.contents.lease
+    }
+
+    fn incarnation(&self) -> u64 {
+        self.contents.incarnation
+    }
+
+    fn reopen(&mut self, number: u32) -> Result<(), ReopenNo> {
+        self.contents.open();
+        self.floor = self.contents.restart_floor();
+        self.why = FloorWhy::Restart(number);
+        self.trips.stopped = false;
+        Ok(())
+    }
+
+    fn free(&self) -> u32 {
+        self.contents.free()
+    }
+
+    fn faults(&self) -> u64 {
+        self.trips.faults
+    }
+
+    fn burnt(&self) -> u64 {
+        self.trips.burns
+    }
+
+    ghost steady = { λ s d x runs is m. plain_steady d x (contents_of s.contents) is m };
+
+    ghost formed = { λ s runs d is. plain_formed (contents_of s.contents) d s.contents.formed is };
+}
+
+impl Fuse for PlainStore {
+    fn fuse(&mut self, k: u32) {
+        self.trips.set(k);
+    }
+}
+
+impl PlainStore {
+    /// An empty store of so many MiB, from 2 to 32, which stops at the changes of the plan: the
+    /// calls of `prepare`, `settle`, `extend_lease`, `freeze`, `create`, `thaw`, `prune` and
+    /// `discard` that aren't refused are numbered from 1, and a change that stops it is made where
+    /// its number is even. Its incarnation is 1.
+    pub fn new(alloc: Global, size_mib: u8, plan: &[u32]) -> Result<PlainStore, Memory>
+        requires least { 2 ≤ size_mib }
+        requires most { size_mib ≤ 32 }
+        ensures durable { IfOk result (λ s. plain_durable s ≡ empty_durable 1) }
+        ensures state { IfOk result (λ s. plain_state s ≡ new_state (size_mib * 4096 - 1264)) }
+    {
+        let mut numbers = Vec::with_capacity(alloc, plan.len())?;
+        for number in plan {
+            numbers.push(*number)?;
+        }
+        Ok(PlainStore {
+            contents: Contents::new(alloc, u32::from(size_mib) * 4096 - 1264)?,
+            trips: Trips::new(numbers),
+            floor: Epoch(0),
+            why: FloorWhy::Opening,
+        })
+    }
+}
