@@ -24,21 +24,17 @@ pub record State : Type 0 where
   pub targets : ℕ
   pub opening : Epoch × FloorWhy
 
--- the outside failed it, or a fuse did, which was set and is gone
+-- the outside failed it, or a fuse did
 abbrev pub Ailed : State → State → Type 0
-Ailed h k = Rose h.faults k.faults ⊎ (Rose h.burns k.burns × (h.fused ≡ true) × (k.fused ≡ false))
-
--- of a store that isn't stopped
-abbrev pub IfRunning : State → Type 0 → Type 0
-IfRunning s P = s.stopped ≡ false → P
+Ailed h k = Rose h.faults k.faults ⊎ Rose h.burns k.burns
 
 -- no fuse fired and none was set or taken away; or one was set, which fired and is gone
 abbrev pub Fires : State → State → Type 0
 Fires h k = ((k.burns ≡ h.burns) × (k.fused ≡ h.fused)) ⊎ ((h.fused ≡ true) × (k.fused ≡ false))
 
 -- A call that may answer Stopped: it does so where the store was stopped, and else only where a count rose; and then
--- the store is stopped. How it was made and opened stays. It costs so many free blocks at most; a call that is refused,
--- and one of a store that was stopped, costs and gives none.
+-- the store is stopped. How it was made and opened stays. It costs so many free blocks at most, and a call that is
+-- refused costs and gives none.
 pub record Turns {T E : Type 0} (cost : ℕ) (stop : E → Bool) (result : Result T E) (h k : State) : Type 0 where
   pub faults : h.faults ≤ k.faults
   pub burns : h.burns ≤ k.burns
@@ -50,7 +46,6 @@ pub record Turns {T E : Type 0} (cost : ℕ) (stop : E → Bool) (result : Resul
   pub opening : k.opening ≡ h.opening
   pub free : h.free ≤ k.free + cost
   pub refused : refuses stop result ≡ true → k.free ≡ h.free
-  pub idle : h.stopped ≡ true → k.free ≡ h.free
 
 -- An opening: the store runs after Ok alone. It answers Stopped only where a count rose in it.
 pub record Opens (result : Result (Unit {0}) ReopenNo) (h k : State) : Type 0 where
@@ -60,6 +55,7 @@ pub record Opens (result : Result (Unit {0}) ReopenNo) (h k : State) : Type 0 wh
   pub stops : k.stopped ≡ is_err result
   pub cause : says reopen_stop result ≡ true → Ailed h k
   pub targets : k.targets ≡ h.targets
+  pub free : h.free ≤ k.free
 
 -- What stands after a call that makes a change of what is kept, or none where it refuses. An opening after it finds what
 -- one before it would have found, or, unless the store was stopped before, what the change makes.

@@ -11,8 +11,8 @@ ghost use Rattle.daos_model.specs.Durables.{IsInForm, is_enlisted, is_frozen, ro
 ghost use Rattle.daos_model.specs.Forms.{is_path_in_form, is_read_in_form};
 ghost use Rattle.daos_model.specs.Kinds.{is_of_kind};
 ghost use Rattle.vos_store.specs.Answers.{PrepareWhy, discards, enlists, fetched, floor_of, freezes, later_write};
-ghost use Rattle.vos_store.specs.Calls.{Answers, CutDiscard, CutPrune, Finds, IfRunning, Looks, Makes, MakesPartly, Opens, State, Turns, going_count};
-ghost use Rattle.vos_store.specs.Conditions.{CanFreeze, CanPrepare, CanPrune, CanSettle, IsPreparable, IsStep};
+ghost use Rattle.vos_store.specs.Calls.{Answers, CutDiscard, CutPrune, Finds, Looks, Makes, MakesPartly, Opens, State, Turns, going_count};
+ghost use Rattle.vos_store.specs.Conditions.{CanExtend, CanFreeze, CanPrepare, CanPrune, CanSettle};
 ghost use Rattle.vos_store.specs.Refusals.{always_stop, discard_open, discard_stop, enlist_open, enlist_stop, fetch_open, fetch_stop, freeze_stop, later_open, later_stop, prepare_stop, reopen_foreign, says};
 
 use crate::refusal::{
@@ -70,8 +70,7 @@ pub trait Store {
     ///
     /// `NoSpace` exactly where fewer blocks are free than the writes may take, with both numbers.
     fn prepare(&mut self, entry: &Entry, writes: &[MinorWrite]) -> Result<(), PrepareNo>
-        requires form { IsPreparable (state self.old) entry.now writes.now }
-        requires here { IfRunning (state self.old) (ForSome (durable self.old) (CanPrepare (state self.old) entry.now writes.now)) }
+        requires { ForSome (durable self.old) (CanPrepare (state self.old) entry.now writes.now) }
         ensures call { Turns (blocks writes.now) prepare_stop result (state self.old) (state self.new) }
         ensures space { MatchResult result (λ _. blocks writes.now ≤ (state self.old).free)
             (PrepareWhy (blocks writes.now) (state self.old).free) }
@@ -81,16 +80,14 @@ pub trait Store {
     /// A step of an attempt: its versions are done and its entry committed; both go; a further
     /// member is confirmed; its entry goes, and its done versions stay. Takes no memory.
     fn settle(&mut self, attempt: AttemptId, step: Settle) -> Result<(), Stopped>
-        requires form { IsStep step }
-        requires here { IfRunning (state self.old) (ForSome (durable self.old) (CanSettle attempt step)) }
+        requires { ForSome (durable self.old) (CanSettle (state self.old) attempt step) }
         ensures call { Turns 0 always_stop result (state self.old) (state self.new) }
         ensures kept { Makes (state self.old).stopped always_stop (settled attempt step) result
             (durable self.old) (durable self.new) (may self.old) (may self.new) };
 
     /// Sets the lease, in ticks. Takes no memory.
     fn extend_lease(&mut self, ticks: u64) -> Result<(), Stopped>
-        requires last { ticks < 2 ^ 56 }
-        requires on { IfRunning (state self.old) (ForSome (durable self.old) (λ d. d.lease ≤ ticks)) }
+        requires { ForSome (durable self.old) (CanExtend ticks) }
         ensures call { Turns 0 always_stop result (state self.old) (state self.new) }
         ensures kept { Makes (state self.old).stopped always_stop (leased ticks) result
             (durable self.old) (durable self.new) (may self.old) (may self.new) };
@@ -104,7 +101,7 @@ pub trait Store {
     /// the number of its aggregation. `NoPlace` exactly where that doesn't hold and 256 other places
     /// are used.
     fn freeze(&mut self, cont: ContId, s: Epoch) -> Result<(), FreezeNo>
-        requires { IfRunning (state self.old) (ForSome (durable self.old) (CanFreeze cont s)) }
+        requires { ForSome (durable self.old) (CanFreeze cont s) }
         ensures call { Turns 0 freeze_stop result (state self.old) (state self.new) }
         ensures answer { Answers freeze_stop result (freezes cont s) (durable self.old) }
         ensures kept { Makes (state self.old).stopped freeze_stop (frozen cont s) result
@@ -112,23 +109,23 @@ pub trait Store {
 
     /// Notes that a frozen snapshot is created. Takes no memory.
     fn create(&mut self, cont: ContId, s: Epoch) -> Result<(), Stopped>
-        requires { IfRunning (state self.old) (ForSome (durable self.old) (λ d. is_frozen d cont s ≡ true)) }
+        requires { ForSome (durable self.old) (λ d. is_frozen d cont s ≡ true) }
         ensures call { Turns 0 always_stop result (state self.old) (state self.new) }
         ensures kept { Makes (state self.old).stopped always_stop (created cont s) result
             (durable self.old) (durable self.new) (may self.old) (may self.new) };
 
     /// Drops a frozen snapshot. Takes no memory.
     fn thaw(&mut self, cont: ContId, s: Epoch) -> Result<(), Stopped>
-        requires { IfRunning (state self.old) (ForSome (durable self.old) (λ d. is_frozen d cont s ≡ true)) }
+        requires { ForSome (durable self.old) (λ d. is_frozen d cont s ≡ true) }
         ensures call { Turns 0 always_stop result (state self.old) (state self.new) }
         ensures kept { Makes (state self.old).stopped always_stop (thawed cont s) result
             (durable self.old) (durable self.new) (may self.old) (may self.new) };
 
     /// Aggregates a container up to an epoch: raises the aggregated-to epoch and the floor to it,
-    /// each where it is greater, and removes the updates that neither a snapshot nor a read above sees
-    /// and the punches under which no older update stays. Each gives back a block at least. Takes no memory.
+    /// each where it is greater, and removes the versions that neither a snapshot nor a read above
+    /// sees. Each gives back a block at least. Takes no memory.
     fn prune(&mut self, cont: ContId, upto: Epoch, number: u32) -> Result<(), Stopped>
-        requires { IfRunning (state self.old) (ForSome (durable self.old) (CanPrune cont upto)) }
+        requires { ForSome (durable self.old) (CanPrune cont upto) }
         ensures call { Turns 0 always_stop result (state self.old) (state self.new) }
         ensures space { OnOk result (ForSome (durable self.old) (λ d.
             (state self.old).free + going_count cont upto d ≤ (state self.new).free)) }
@@ -143,7 +140,7 @@ pub trait Store {
     /// `Unsettled` exactly where one of them is unsettled, with the attempt of the one of the least
     /// epoch.
     fn discard(&mut self, cont: ContId, lo: Epoch, hi: Epoch) -> Result<(), DiscardNo>
-        requires { IfRunning (state self.old) (ForSome (durable self.old) (λ d. is_enlisted d cont ≡ true)) }
+        requires { ForSome (durable self.old) (λ d. is_enlisted d cont ≡ true) }
         ensures call { Turns 0 discard_stop result (state self.old) (state self.new) }
         ensures answer { Answers discard_open result (discards cont lo hi) (durable self.old) }
         ensures kept { MakesPartly (state self.old).stopped discard_stop (discarded cont lo hi)
@@ -161,7 +158,7 @@ pub trait Store {
     /// the least epoch.
     fn fetch(&mut self, read: &Read, below: Epoch) -> Result<Answer, FetchNo>
         requires form { is_read_in_form read.now ≡ true }
-        requires enlisted { IfRunning (state self.old) (ForSome (durable self.old) (λ d. is_enlisted d (read_path read.now).cont ≡ true)) }
+        requires enlisted { ForSome (durable self.old) (λ d. is_enlisted d (read_path read.now).cont ≡ true) }
         ensures call { Turns 0 fetch_stop result (state self.old) (state self.new) }
         ensures free { (state self.new).free ≡ (state self.old).free }
         ensures answer { Answers fetch_open result (fetched read.now below) (durable self.old) }
@@ -179,7 +176,7 @@ pub trait Store {
         upto: Epoch,
     ) -> Result<Option<Shown>, LaterNo>
         requires form { is_path_in_form path.now ≡ true }
-        requires enlisted { IfRunning (state self.old) (ForSome (durable self.old) (λ d. is_enlisted d path.now.cont ≡ true)) }
+        requires enlisted { ForSome (durable self.old) (λ d. is_enlisted d path.now.cont ≡ true) }
         ensures call { Turns 0 later_stop result (state self.old) (state self.new) }
         ensures free { (state self.new).free ≡ (state self.old).free }
         ensures answer { Answers later_open result (λ d. Ok (later_write path.now above upto d)) (durable self.old) }
@@ -197,13 +194,13 @@ pub trait Store {
     /// The floor of a container, at or below which no write is taken, and what set it: the stored
     /// one, or that of the last opening where it isn't below.
     fn floor(&self, cont: ContId) -> (Epoch, FloorWhy)
-        requires { IfRunning (state self.now) (ForSome (durable self.now) (λ d. is_enlisted d cont ≡ true)) }
+        requires { ForSome (durable self.now) (λ d. is_enlisted d cont ≡ true) }
         ensures { (state self.now).stopped ≡ false →
             ForSome (durable self.now) (λ d. result ≡ floor_of (state self.now).opening d cont) };
 
     /// The aggregated-to epoch of a container, 0 where there is none. Takes no memory.
     fn aggregated(&self, cont: ContId) -> Epoch
-        requires { IfRunning (state self.now) (ForSome (durable self.now) (λ d. is_enlisted d cont ≡ true)) }
+        requires { ForSome (durable self.now) (λ d. is_enlisted d cont ≡ true) }
         ensures { (state self.now).stopped ≡ false →
             ForSome (durable self.now) (λ d. result ≡ (row_of d cont).aggregated) };
 
@@ -235,7 +232,6 @@ pub trait Store {
         ensures kept { Finds result (durable self.old) (durable self.new) (may self.old) (may self.new) }
         ensures floor { OnOk result (ForSome (durable self.new) (λ d.
             (state self.new).opening ≡ (record { 0 = restart_floor d.lease }, FloorWhy.Restart number))) }
-        ensures free { OnOk result (IsSome (durable self.old) → (state self.old).free ≤ (state self.new).free) }
         ensures native { IsSome (durable self.old) → says reopen_foreign result ≡ false };
 
     /// How many blocks are free.
