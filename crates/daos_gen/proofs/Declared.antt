@@ -1,5 +1,5 @@
 -- What a generated script declares has names and identities of its own.
-use Rattle.std.proofs.Common.{◌≡◌, ℕ, ◌≤◌, Bool, true, false, ◌&&◌, eqb, List, [], ◌∷◌, map, length, refl, sym, subst, arith, rules, lit≤, All, Any}
+use Rattle.std.proofs.Common.{◌≡◌, ℕ, ◌≤◌, Bool, true, false, ◌&&◌, eqb, List, map, length, refl, sym, subst, rules, lit≤, All, Any}
 use Rattle.std.specs.Prelude.{nat_eq}
 use Rattle.std.specs.List.{IsDistinct}
 use Rattle.daos_base.specs.declared.id.Class.{Class}

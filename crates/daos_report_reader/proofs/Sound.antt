@@ -1,5 +1,6 @@
 -- What is read is spelled as the text says.
 use Rattle.std.proofs.Common.{◌≡◌, ℕ, ◌+◌, ◌*◌, ◌≤◌, Bool, true, false, cond, ◌&&◌, leb, eqb, List, [], ◌∷◌, ◌++◌, length, flat_map, Option, Some, None, Result, Ok, Err, refl, sym, ap, ◌∙◌, subst, append_assoc, append-nil, arith}
+use Rattle.std.specs.Prelude.{IfOk}
 use Rattle.std.specs.Str.{bytes_eq}
 use Rattle.std.specs.List.{AllByRecursion}
 use Rattle.std.proofs.lemmas.Bool.Decides.{nat_tests}
@@ -24,7 +25,8 @@ use Rattle.daos_report_reader.specs.declared.report.Stage.TheVariants.{Start, In
 use Rattle.daos_report_reader.specs.declared.rows.Told.{Told}
 use Rattle.daos_report_reader.specs.declared.rows.Told.TheVariants.{Try, Cond, Got, Other}
 use Rattle.daos_report_reader.specs.Marks.{Marks, ops_of, table_of}
-use Rattle.daos_report_reader.specs.Reads.{◌>>=◌}
+use Rattle.daos_report_reader.specs.declared.fault.ReportNo.{ReportNo}
+use Rattle.daos_report_reader.specs.Reads.{◌>>=◌, ReadsAt}
 use Rattle.daos_report_reader.specs.Reading.{asked, reads, cond_added, got_added, with_cond, with_got, lines_of, some_open, with_try, stop_after, down_after, with_line, reopened, with_cond_last, with_got_last, put, nothing_read, at_head, report_read, at_end, row_of, next_of, bad_at, or_bad_line, step, finished, report_of}
 use Rattle.daos_report_reader.specs.Rows.{told_of}
 use Rattle.daos_report_reader.specs.Told.{told_text, spelled, is_bare, outcome_fits_in, attempt_fits, answer_fits, line_fits}
@@ -271,3 +273,7 @@ module _ (s : Script) where
       go : (o : Result Stage ℕ) → steps (step s (table_of s)) 1 Start (parts_of 10 bytes) ≡ o → result.◌>>=◌ o (finished (length (parts_of 10 bytes))) ≡ Ok q → bytes ≡ report_text s q
       go (Err n) i e = absurd cc
       go (Ok stage) i e = whole stage e (steps_read (table_of s) 1 Start stage [] (parts_of 10 bytes) i refl)
+
+  pub text_if_read : (bytes : List ℕ) (r : Result Report ReportNo) → ReadsAt (λ (q : Report). q) r (report_of s bytes) → IfOk r (λ q. bytes ≡ report_text s q)
+  text_if_read bytes (Ok q) h = read_is_spelled bytes q h
+  text_if_read bytes (Err e) h = tt

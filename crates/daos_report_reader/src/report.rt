@@ -1,7 +1,7 @@
 // Reads a report.
 ghost use Rattle.std.specs.Prelude.{◌≡◌, ◌+◌, ◌^◌, ◌<◌, ◌++◌, ◌∷◌, [], IfOk, length};
 ghost use Rattle.daos_text.specs.Rows.{row_line};
-ghost use Rattle.daos_report.specs.Reports.{end_row, head_row};
+ghost use Rattle.daos_report.specs.Reports.{end_row, head_row, report_text};
 ghost use Rattle.daos_report_reader.specs.Law.{ReadsTexts};
 ghost use Rattle.daos_report_reader.specs.Reads.{Reads, ReadsAt};
 ghost use Rattle.daos_report_reader.specs.Reading.{at_end, at_head, bad_at, finished, inside, next_of, report_of, row_of, step};
@@ -193,7 +193,8 @@ fn finished(at: u32, stage: Stage) -> Result<Report, ReportNo>
 /// is missing the line behind the last, and for one that goes on behind its end the line there.
 pub fn read_report(alloc: Global, bytes: &[u8], script: &Script) -> Result<Report, ReportNo>
     requires { length bytes.now + 1 < 2 ^ 32 }
-    ensures { ReadsAt (λ q. q) result (report_of script.now bytes.now) }
+    ensures exact { ReadsAt (λ q. q) result (report_of script.now bytes.now) }
+    ensures text { IfOk result (λ q. bytes.now ≡ report_text script.now q) }
 {
     let table = table_of(alloc, script)?;
     let marks = table.as_slice();

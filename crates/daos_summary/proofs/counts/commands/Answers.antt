@@ -1,6 +1,6 @@
-use Rattle.std.proofs.Common.{◌≡◌, ◌+◌, sym, ap, subst, ◌∙◌, drop, ◌∷◌}
+use Rattle.std.proofs.Common.{◌+◌, sym, ap, subst, ◌∙◌, drop, ◌∷◌}
 use Rattle.std.specs.List.{list_any}
-use Rattle.std.specs.HashSet.{hash_set_len, contains, HashSet}
+use Rattle.std.specs.HashSet.{hash_set_len, contains}
 use Rattle.std.proofs.lemmas.List.{drop_all}
 use Rattle.daos_summary.specs.Counts.{commands_of, same_command}
 use Rattle.daos_summary.proofs.Seen.{SoFar, start, seen, passed, ended, next_line}
