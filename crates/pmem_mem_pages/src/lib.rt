@@ -1,0 +1,4 @@
+// Pages in memory, for tests.
+#![tactic(auto)]
+
+pub mod mem_pages;
