@@ -1,5 +1,5 @@
 -- What a rack of regions in memory shows.
-use Rattle.std.specs.Prelude.{◌≡◌, ℕ, Bool, false, List, [], Option, slice_get, unwrap_or}
+use Rattle.std.specs.Prelude.{ℕ, Bool, false, List, [], Option, slice_get, unwrap_or}
 use Rattle.daos_outside.specs.Calls.{Calls}
 use Rattle.daos_outside.specs.Images.{Image}
 use Rattle.daos_outside.specs.Racks.{at_home, is_away, IsHeldBack, IsTakenBack, OthersAreKept}

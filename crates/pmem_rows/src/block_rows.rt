@@ -2,10 +2,10 @@
 ghost use Rattle.std.specs.Prelude.{◌≡◌, ◌+◌, ◌<◌, ◌≤◌, ◌^◌, [], IfOk, IfSome};
 ghost use Rattle.pmem_alloc.specs.Blocks.{IsOpened};
 
-use daos_outside::region::Region;
 use daos_outside::sure_region::SureRegion;
 use pmem_alloc::blocks::{Blocks, NoBlock};
 use pmem_pages::pages::Pages;
+use pmem_pages::refusal::PageNo;
 use pmem_undo::undo_region::UndoRegion;
 use std::alloc::Global;
 use std::test::Fail;
@@ -51,5 +51,46 @@ fn the_least_are_taken(rt: HostRuntime) -> Result<(), Fail> {
     assert_eq!(rt; blocks.take(3), Ok(1264));
     assert_eq!(rt; blocks.at(2), 1266);
     assert_eq!(rt; blocks.free(), 6925);
+    Ok(())
+}
+
+#[test]
+fn what_is_dropped_is_free_again(rt: HostRuntime) -> Result<(), Fail> {
+    let mut blocks = fresh(rt.alloc(), 2097152).ok_or("memory")?;
+    assert_eq!(rt; blocks.take(3), Ok(1264));
+    blocks.drop_stage();
+    assert_eq!(rt; blocks.free(), 6928);
+    assert_eq!(rt; blocks.take(2), Ok(1264));
+    assert!(rt; blocks.commit().is_ok());
+    let blocks = Blocks::open(blocks.into_undo()).ok().ok_or("stopped")?;
+    assert_eq!(rt; blocks.free(), 6926);
+    Ok(())
+}
+
+// Takes a block and gives it back. It tells the block, and how many are free then.
+fn take_and_give(blocks: &mut Blocks<SureRegion>) -> Option<(u32, u32)>
+    requires { blocks.old.undo.staged ≡ [] }
+{
+    match blocks.take(1) {
+        Ok(block) => {
+            blocks.give(block);
+            Some((block, blocks.free()))
+        }
+        Err(_) => None,
+    }
+}
+
+#[test]
+fn what_is_given_back_is_free_again(rt: HostRuntime) -> Result<(), Fail> {
+    let mut blocks = fresh(rt.alloc(), 2097152).ok_or("memory")?;
+    assert_eq!(rt; take_and_give(&mut blocks), Some((1264, 6928)));
+    Ok(())
+}
+
+#[test]
+fn pages_take_the_least_block(rt: HostRuntime) -> Result<(), Fail> {
+    let mut blocks = fresh(rt.alloc(), 323584 + 256).ok_or("memory")?;
+    assert_eq!(rt; blocks.take_block(), Ok(1264));
+    assert_eq!(rt; blocks.take_block(), Err(PageNo::NoBlock));
     Ok(())
 }

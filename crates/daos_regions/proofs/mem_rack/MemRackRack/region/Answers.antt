@@ -1,4 +1,4 @@
-use Rattle.std.proofs.Common.{sym, ap, subst}
+use Rattle.std.proofs.Common.{sym, subst}
 use Rattle.daos_regions.specs.MemRackState.{MemRackState, HoldsBack, KeepsOthers}
 use Rattle.daos_regions.proofs.Keeping.{others_set, others_twice, held_back, when_not_ok}
 use Rattle.daos_regions.proofs.mem_rack.MemRackRack.region.Goals as goal

@@ -1,5 +1,5 @@
 use Rattle.std.proofs.Common.{◌∙◌, ap}
-use Rattle.daos_regions.specs.MemRackState.{MemRackState, is_out_of_home, TakesBack}
+use Rattle.daos_regions.specs.MemRackState.{MemRackState, is_out_of_home}
 use Rattle.daos_regions.proofs.Keeping.{taken_back}
 use Rattle.daos_regions.proofs.mem_rack.MemRackRack.take_back.Goals as goal
 
