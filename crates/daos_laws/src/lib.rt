@@ -3,5 +3,6 @@
 
 pub mod groups;
 pub mod matches;
+pub mod prunes;
 pub mod reads;
 pub mod versions;
