@@ -16,3 +16,5 @@ pub mod TouchLaws
 pub mod PruneLaws
 pub mod PruneMatchLaws
 pub mod ServeLaws
+pub mod Targets
+pub mod TargetLaws

@@ -168,7 +168,7 @@ marks-rise own p vs opening all mark e form decided m le = record {
 
 -- ---- a decision
 
-filter_on : {T : Type 0} (t u : T → Bool) (xs : List T) → ((x : T) → Has x xs → t x ≡ u x) → filter t xs ≡ filter u xs
+pub filter_on : {T : Type 0} (t u : T → Bool) (xs : List T) → ((x : T) → Has x xs → t x ≡ u x) → filter t xs ≡ filter u xs
 filter_on t u [] h = refl
 filter_on t u (x ∷ xs) h =
     ap (λ b. if b then x ∷ filter t xs else filter t xs) (h x (inl refl)) ∙ ap (λ ys. if u x then x ∷ ys else ys) (filter_on t u xs (λ y i. h y (inr i)))

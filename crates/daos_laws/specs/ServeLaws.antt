@@ -65,16 +65,16 @@ level same each (Some a) None r h k only = absurd (let e : false ≡ true = only
 level same each (Some a) (Some b) None h k only = absurd (let n : ⊥ = cc in n)
 level same each (Some a) (Some b) (Some c) h k only = (each a b).1 ((each a c).0 h ∙ sym ((each b c).0 k))
 
-abbrev cont_test : Path → Path → Bool
+abbrev pub cont_test : Path → Path → Bool
 cont_test p q = p.cont.0 == q.cont.0
 
-abbrev obj_test : Path → Path → Bool
+abbrev pub obj_test : Path → Path → Bool
 obj_test p q = is_none p.obj || option_eq same_object p.obj q.obj
 
-abbrev dkey_test : Path → Path → Bool
+abbrev pub dkey_test : Path → Path → Bool
 dkey_test p q = is_none p.dkey || option_eq same_key p.dkey q.dkey
 
-abbrev akey_test : Path → Path → Bool
+abbrev pub akey_test : Path → Path → Bool
 akey_test p q = is_none p.akey || option_eq same_key p.akey q.akey
 
 no_further-leads : (p q r : Path) → leads_to p r ≡ true → leads_to q r ≡ true → GoesNoFurther p q → leads_to p q ≡ true
@@ -170,7 +170,7 @@ touches-overlaps r c w f g under at = by (is_punch w) refl
 
 -- ---- the law
 
-all-has : {T : Type 0} (t : T → Bool) (xs : List T) (x : T) → list_all t xs ≡ true → Has x xs → t x ≡ true
+pub all-has : {T : Type 0} (t : T → Bool) (xs : List T) (x : T) → list_all t xs ≡ true → Has x xs → t x ≡ true
 all-has t [] x h i = absurd i
 all-has t (y ∷ xs) x h (inl same) = ap t same ∙ and_left (t y) (list_all t xs) h
 all-has t (y ∷ xs) x h (inr i) = all-has t xs x (and_right (t y) (list_all t xs) h) i
