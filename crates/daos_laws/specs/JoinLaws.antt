@@ -31,7 +31,7 @@ use Rattle.daos_model.specs.Prunes.{touches, values_of}
 use Rattle.daos_model.specs.Ordered.{is_rising}
 use Rattle.daos_model.specs.Sameness.{same_cell-Decides}
 use Rattle.daos_laws.specs.Groups.{ArePartsUnder, DkeysAreJoined, DkeysHaveOneGroup, ExistsIsJoined, GroupPartsAreParts, HasDkeys, IsPartUnder, WritesKeepDkeys, answer_of_groups, group_part, is_dkey_of_group, is_in_group, join_all, join_more}
-use Rattle.daos_laws.specs.Members.{Has, has-cases, has-left, has-right}
+use Rattle.daos_laws.specs.Members.{Has, any-has, has-any, has-cases, has-left, has-right}
 use Rattle.daos_laws.specs.NameLaws.{has-from_names, has-names, rising-names}
 use Rattle.daos_laws.specs.ReadLaws.{Held, Named, dkey_name, answer-same, dkeys-has, has-dkeys, has-under, held-same, under-has}
 use Rattle.daos_laws.specs.RisingLaws.{rising-same}
@@ -161,23 +161,6 @@ join-bools : (a : Bool) (has : ℕ → Bool) (gs : List ℕ) → join_more (yes_
 join-bools a has [] = elim a as (λ b. yes_or_no b ≡ yes_or_no (b || false)) [ true ↦ refl | false ↦ refl ]
 join-bools true has (g ∷ gs) = join-bools true has gs
 join-bools false has (g ∷ gs) = join-bools (has g) has gs
-
-any-has : (has : ℕ → Bool) (gs : List ℕ) (g : ℕ) → Has g gs → has g ≡ true → list_any has gs ≡ true
-any-has has [] g i e = absurd i
-any-has has (f ∷ gs) g (inl same) e = ap (λ b. b || list_any has gs) (ap has (sym same) ∙ e)
-any-has has (f ∷ gs) g (inr i) e = or_true (has f) (list_any has gs) (any-has has gs g i e)
-  where
-    or_true : (a b : Bool) → b ≡ true → (a || b) ≡ true
-    or_true true b e = refl
-    or_true false b e = e
-
-has-any : (has : ℕ → Bool) (gs : List ℕ) → list_any has gs ≡ true → (g : ℕ) × Has g gs × (has g ≡ true)
-has-any has [] e = absurd (let n : ⊥ = cc in n)
-has-any has (f ∷ gs) e = by (λ h. has-any has gs h) (has f) refl e
-  where
-    by : (list_any has gs ≡ true → (g : ℕ) × Has g gs × (has g ≡ true)) → (b : Bool) → has f ≡ b → (b || list_any has gs) ≡ true → (g : ℕ) × Has g (f ∷ gs) × (has g ≡ true)
-    by rest true at e = (f, inl refl, at)
-    by rest false at e = let r = rest e in (r.0, inr r.1, r.2)
 
 exists_over : (class : Class) (targets : ℕ) (p : Path) (m : List CellValue) (part : ℕ → List CellValue) (gs : List ℕ) → HasDkeys m
     → ((g : ℕ) → Has g gs → IsPartUnder class targets p g m (part g)) → ((k : List ℕ) → Has (group_of class k targets) gs)

@@ -11,3 +11,10 @@ pub mod Decided
 pub mod DecidedLaws
 pub mod Matches
 pub mod MatchLaws
+pub mod Pruning
+pub mod TouchLaws
+pub mod PruneLaws
+pub mod PruneMatchLaws
+pub mod ServeLaws
+pub mod Targets
+pub mod TargetLaws

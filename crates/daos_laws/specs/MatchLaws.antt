@@ -109,7 +109,7 @@ gives-dated c p e vs = value-effects c (filter (counts_under p e) vs) [] ∙ ap 
 from-mark : (mark : ℕ) (x : Dated) → mark ≤ x.epoch → is_from mark x ≡ true
 from-mark mark x le = grind (arith, nat_tests)
 
-mark-from : (mark : ℕ) (x : Dated) → is_from mark x ≡ true → mark ≤ x.epoch
+pub mark-from : (mark : ℕ) (x : Dated) → is_from mark x ≡ true → mark ≤ x.epoch
 mark-from mark x h = grind (arith, nat_tests)
 
 -- between a mark and an epoch the same writes say what an own cell holds
@@ -168,7 +168,7 @@ marks-rise own p vs opening all mark e form decided m le = record {
 
 -- ---- a decision
 
-filter_on : {T : Type 0} (t u : T → Bool) (xs : List T) → ((x : T) → Has x xs → t x ≡ u x) → filter t xs ≡ filter u xs
+pub filter_on : {T : Type 0} (t u : T → Bool) (xs : List T) → ((x : T) → Has x xs → t x ≡ u x) → filter t xs ≡ filter u xs
 filter_on t u [] h = refl
 filter_on t u (x ∷ xs) h =
     ap (λ b. if b then x ∷ filter t xs else filter t xs) (h x (inl refl)) ∙ ap (λ ys. if u x then x ∷ ys else ys) (filter_on t u xs (λ y i. h y (inr i)))
@@ -220,10 +220,10 @@ decisions-below own d p q vs opening all more e f g le once added gives c of =
     ∙ ap (λ xs. after_all c xs (value_at opening.now c)) (ordered-added d all more e f g le added)
     ∙ sym (as_of-dated c opening more e)
 
-has-counted : (p : Version → Bool) (vs : List Version) (v : Version) → Has v vs → p v ≡ true → Has (dated v) (dated_of p vs)
+pub has-counted : (p : Version → Bool) (vs : List Version) (v : Version) → Has v vs → p v ≡ true → Has (dated v) (dated_of p vs)
 has-counted p vs v i e = has-map dated (filter p vs) v (has-filter p vs v i e)
 
-counted-has : (p : Version → Bool) (vs : List Version) (x : Dated) → Has x (dated_of p vs) → (v : Version) × Has v vs × (p v ≡ true) × (dated v ≡ x)
+pub counted-has : (p : Version → Bool) (vs : List Version) (x : Dated) → Has x (dated_of p vs) → (v : Version) × Has v vs × (p v ≡ true) × (dated v ≡ x)
 counted-has p vs x i =
     let m = has-from_map dated (filter p vs) x i in
     let h = has-from_filter p vs m.0 m.1 in

@@ -1,5 +1,6 @@
 -- When a target's versions stand for decided transactions, and what keeps it so.
 use Rattle.std.specs.Prelude.{ℕ, ◌≡◌, ◌≤◌, ◌⊎◌, Bool, true, false, ◌&&◌, nat_lt, List, map, filter, Contains}
+use Rattle.std.specs.List.{list_all}
 use Rattle.daos_base.specs.declared.entry.Entry.{Entry}
 use Rattle.daos_base.specs.declared.id.AttemptId.{AttemptId}
 use Rattle.daos_base.specs.declared.operation.MinorWrite.{MinorWrite}
@@ -12,7 +13,8 @@ use Rattle.daos_model.specs.declared.stand.Stand.{Stand}
 use Rattle.daos_model.specs.Answers.{answer}
 use Rattle.daos_model.specs.AsOf.{as_of}
 use Rattle.daos_model.specs.Cells.{value_at}
-use Rattle.daos_model.specs.Durables.{version_key}
+use Rattle.daos_model.specs.Durables.{is_version_in_form, version_key}
+use Rattle.daos_model.specs.Forms.{is_read_in_form}
 use Rattle.daos_model.specs.Ordered.{puts}
 use Rattle.daos_model.specs.Versions.{blocks_read, done_by, is_not_pending, is_pending, map_below, versions_of}
 use Rattle.daos_laws.specs.Dated.{AreSingleInOrder, Dated, SameWritesAt, dated, dated_of, is_about, is_from, map_of}
@@ -112,5 +114,6 @@ PreparesKeepWrites =
 -- that count give.
 abbrev pub ServedReadsSeeAll : Type 0
 ServedReadsSeeAll =
-    (r : Read) (p : Version → Bool) (vs : List Version) (e : ℕ) → AreSingleInOrder vs → ((v : Version) → v.done ≡ true → p v ≡ true)
+    (r : Read) (p : Version → Bool) (vs : List Version) (e : ℕ) → AreSingleInOrder vs → list_all is_version_in_form vs ≡ true → is_read_in_form r ≡ true
+    → ((v : Version) → v.done ≡ true → p v ≡ true)
     → ((v : Version) → Contains vs v → blocks_read (read_path r) e v ≡ false) → answer r (map_below vs e) ≡ answer r (map_of (counts_under p e) vs)

@@ -1,5 +1,6 @@
 -- What stands in a list.
-use Rattle.std.specs.Prelude.{ℕ, zero, suc, ◌+◌, ◌<◌, ◌≡◌, ◌⊎◌, Bool, true, false, List, [], ◌∷◌, ◌++◌, map, filter, length, Contains, slice_index_or, if◌then◌else◌, refl}
+use Rattle.std.specs.Prelude.{ℕ, zero, suc, ◌+◌, ◌<◌, ◌≡◌, ◌⊎◌, Bool, true, false, List, [], ◌∷◌, ◌++◌, ◌||◌, map, filter, length, Contains, slice_index_or, if◌then◌else◌, refl}
+use Rattle.std.specs.List.{list_any}
 use Rattle.std.proofs.Common.{sym, ◌∙◌, ap, subst, arith, inl, inr}
 
 -- something stands in a list
@@ -62,3 +63,21 @@ pub has-cases : {T : Type 0} (xs ys : List T) (x : T) → Has x (xs ++ ys) → H
 has-cases [] ys x h = inr h
 has-cases (y ∷ xs) ys x (inl same) = inl (inl same)
 has-cases (y ∷ xs) ys x (inr h) = elim (has-cases xs ys x h) [ inl k ↦ inl (inr k) | inr k ↦ inr k ]
+
+-- whether one of them passes a test
+pub any-has : {T : Type 0} (t : T → Bool) (xs : List T) (x : T) → Has x xs → t x ≡ true → list_any t xs ≡ true
+any-has t [] x i e = absurd i
+any-has t (y ∷ xs) x (inl same) e = ap (λ b. b || list_any t xs) (ap t (sym same) ∙ e)
+any-has t (y ∷ xs) x (inr i) e = or_true (t y) (list_any t xs) (any-has t xs x i e)
+  where
+    or_true : (a b : Bool) → b ≡ true → (a || b) ≡ true
+    or_true true b e = refl
+    or_true false b e = e
+
+pub has-any : {T : Type 0} (t : T → Bool) (xs : List T) → list_any t xs ≡ true → (x : T) × Has x xs × (t x ≡ true)
+has-any t [] e = absurd (let n : ⊥ = cc in n)
+has-any {T = T} t (y ∷ xs) e = by (λ h. has-any t xs h) (t y) refl e
+  where
+    by : (list_any t xs ≡ true → (x : T) × Has x xs × (t x ≡ true)) → (b : Bool) → t y ≡ b → (b || list_any t xs) ≡ true → (x : T) × Has x (y ∷ xs) × (t x ≡ true)
+    by rest true at e = (y, inl refl, at)
+    by rest false at e = let r = rest e in (r.0, inr r.1, r.2)

@@ -3,5 +3,7 @@
 
 pub mod groups;
 pub mod matches;
+pub mod prunes;
 pub mod reads;
+pub mod targets;
 pub mod versions;

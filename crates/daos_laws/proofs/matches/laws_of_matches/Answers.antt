@@ -1,3 +1,4 @@
+use Rattle.daos_laws.specs.ServeLaws.{served-all}
 use Rattle.daos_laws.specs.MatchLaws.{aborts-keep, commits-keep, decisions-below, decisions-keep, marks-rise, matches-give, prepares-keep, same-below, same-keep}
 use Rattle.daos_laws.proofs.matches.laws_of_matches.Goals as goal
 
@@ -12,4 +13,5 @@ returns c = record {
   commit = commits-keep;
   abort = aborts-keep;
   prepare = prepares-keep;
+  served = served-all;
 }

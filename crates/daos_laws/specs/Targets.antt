@@ -1,0 +1,57 @@
+-- What each target holds of the map, and what all targets stand for together.
+use Rattle.std.specs.Prelude.{ℕ, ◌≡◌, ◌<◌, ◌==◌, Bool, true, ◌&&◌, is_some, List, [], length, Contains, slice_get, Option, Some}
+use Rattle.std.specs.List.{list_all, list_any}
+use Rattle.daos_base.specs.declared.id.ObjId.{ObjId}
+use Rattle.daos_base.specs.declared.path.Path.{Path}
+use Rattle.daos_base.specs.Placement.{ClassFits, groups, members, path_leader, path_members}
+use Rattle.daos_model.specs.declared.cell.Cell.{Cell}
+use Rattle.daos_model.specs.declared.durable.Durable.{Durable}
+use Rattle.daos_model.specs.declared.durable.Version.{Version}
+use Rattle.daos_model.specs.declared.stand.Stand.{Stand}
+use Rattle.daos_model.specs.AsOf.{as_of}
+use Rattle.daos_model.specs.Cells.{value_at}
+use Rattle.daos_model.specs.Durables.{is_version_in_form}
+use Rattle.daos_model.specs.Family.{Agree, counts, family_map, map_where, stand}
+use Rattle.daos_model.specs.Finals.{SameMap}
+use Rattle.daos_model.specs.Versions.{version_path}
+use Rattle.daos_laws.specs.Dated.{AreSingleInOrder, map_of}
+use Rattle.daos_laws.specs.Decided.{AreDecided, Decided, taken_in}
+use Rattle.daos_laws.specs.Groups.{IsPartUnder}
+use Rattle.daos_laws.specs.Matches.{GivesAsOf, Matches, counts_under}
+
+abbrev pub is_target : ℕ → ℕ → Bool
+is_target t u = u == t
+
+-- a cell is a target's own where the target belongs to the group of its dkey
+abbrev pub is_own : ℕ → ℕ → Cell → Bool
+is_own targets t c = is_some c.path.dkey && list_any (is_target t) (path_members c.path targets)
+
+-- every version is a write of a group that the target belongs to
+abbrev pub ArePlaced : ℕ → ℕ → List Version → Type 0
+ArePlaced targets t vs = (v : Version) → Contains vs v → Contains (path_members (version_path v) targets) t
+
+-- A member of a group whose versions give the map as of an epoch at its own cells holds just its group's part of it, of
+-- each object.
+abbrev pub MembersHoldParts : Type 0
+MembersHoldParts =
+    (o : ObjId) (g targets t : ℕ) (p : Path) (q : Version → Bool) (vs : List Version) (opening : Stand) (all : List Decided) (e : ℕ) → ClassFits o.class targets
+    → g < groups o.class targets → Contains (members o g targets) t → p.obj ≡ Some o → AreSingleInOrder vs → list_all is_version_in_form vs ≡ true → ArePlaced targets t vs
+    → GivesAsOf (is_own targets t) q vs opening all e → IsPartUnder o.class targets p g (as_of opening (taken_in all) e) (map_of (counts_under q e) vs)
+
+-- the map as of an epoch depends on which transactions are decided, and not on the order in which they are listed
+abbrev pub AsOfIsOfTheSet : Type 0
+AsOfIsOfTheSet =
+    (opening : Stand) (ds fs : List Decided) (e : ℕ) → AreDecided ds → AreDecided fs → ((d : Decided) → Contains ds d → Contains fs d) → ((d : Decided) → Contains fs d → Contains ds d)
+    → SameMap (as_of opening (taken_in ds) e) (as_of opening (taken_in fs) e)
+
+-- each cell of a family's map is that of its leader
+abbrev pub FamilyMapIsOfLeaders : Type 0
+FamilyMapIsOfLeaders =
+    (F : List Durable) (p : Version → Bool) (c : Cell) (d : Durable) → slice_get F (path_leader c.path (length F)) ≡ Some d → value_at (family_map p F) c ≡ value_at (map_where p d) c
+
+-- Of a family whose replicas agree each target's versions match what it stands for, where no transaction is decided yet, from
+-- any epoch on that is above all of its versions.
+abbrev pub OpeningsMatch : Type 0
+OpeningsMatch =
+    (F : List Durable) (t : ℕ) (d : Durable) (mark : ℕ) → Agree F → slice_get F t ≡ Some d → ((v : Version) → Contains d.versions v → v.epoch.0 < mark)
+    → Matches (is_own (length F) t) (counts F) d.versions (stand F) [] mark
