@@ -62,6 +62,34 @@ impl From<AllocError> for ReadNo {
 /// How many bytes one read asks for at most.
 const PIECE: usize = 4096;
 
+/// Reads a source to its end, but no more than `most` bytes.
+///
+/// # Errors
+///
+/// `Fault` only where the source's count of faults rose in this call. `Memory` for want of memory.
+pub fn read_most<S: Source>(alloc: Global, source: &mut S, most: usize) -> Result<Vec<u8>, ReadNo>
+    requires { most < 2 ^ 33 }
+    ensures bytes { IfOk result (λ v. Consumes (S.left source.old) (S.left source.new) v.items) }
+    ensures end { IfOk result (λ v. vec_len v < most → IsAtEnd (S.left source.new)) }
+    ensures within { IfOk result (λ v. vec_len v ≤ most) }
+    ensures refusals { IsErrOf result ReadNo.TooLong → ⊥ }
+    ensures fault { IsErrOf result ReadNo.Fault → Rose (S.count source.old) (S.count source.new) }
+    ensures later { S.count source.old ≤ S.count source.new }
+    ensures consumed { ConsumesAtMost (S.left source.old) (S.left source.new) most }
+{
+    let mut bytes = Vec::new(alloc);
+    let mut piece = [0u8; PIECE];
+    while bytes.len() < most {
+        let wanted = PIECE.min(most - bytes.len());
+        match source.read(&mut piece[..wanted]) {
+            Ok(0) => return Ok(bytes),
+            Ok(count) => bytes.extend_from_slice(&piece[..count])?,
+            Err(Failed) => return Err(ReadNo::Fault),
+        }
+    }
+    Ok(bytes)
+}
+
 /// Reads a source to its end, where it has at most `limit` bytes. No more than `limit + 1` bytes
 /// are ever taken from it.
 ///
@@ -81,15 +109,9 @@ pub fn read_all<S: Source>(alloc: Global, source: &mut S, limit: usize) -> Resul
     ensures later { S.count source.old ≤ S.count source.new }
     ensures consumed { ConsumesAtMost (S.left source.old) (S.left source.new) (limit + 1) }
 {
-    let mut bytes = Vec::new(alloc);
-    let mut piece = [0u8; PIECE];
-    while bytes.len() <= limit {
-        let wanted = PIECE.min(limit + 1 - bytes.len());
-        match source.read(&mut piece[..wanted]) {
-            Ok(0) => return Ok(bytes),
-            Ok(count) => bytes.extend_from_slice(&piece[..count])?,
-            Err(Failed) => return Err(ReadNo::Fault),
-        }
+    let bytes = read_most(alloc, source, limit + 1)?;
+    if bytes.len() > limit {
+        return Err(ReadNo::TooLong);
     }
-    Err(ReadNo::TooLong)
+    Ok(bytes)
 }

@@ -2,7 +2,7 @@
 use Rattle.std.proofs.Common.{◌++◌, take, arith}
 use Rattle.std.proofs.KnownBytes.{Consumes-trans}
 use Rattle.std.proofs.lemmas.Grind.{common_steps}
-use Rattle.daos_outside.proofs.source.read_all.Goals as goal
+use Rattle.daos_outside.proofs.source.read_most.Goals as goal
 
 pub returns-in_err-extend_from_slice-in-Ok-clause-consumed : goal.returns-in_err-extend_from_slice-in-Ok-clause-consumed
 returns-in_err-extend_from_slice-in-Ok-clause-consumed g c =
