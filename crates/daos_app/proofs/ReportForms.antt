@@ -19,7 +19,7 @@ use Rattle.daos_base.specs.declared.script.Command.{Command}
 use Rattle.daos_base.specs.declared.script.Command.TheVariants.{Run, Snap, Aggregate, Tell, Skip}
 use Rattle.daos_base.specs.declared.script.ObjDecl.{ObjDecl}
 use Rattle.daos_base.specs.declared.script.Script.{Script}
-use Rattle.daos_base.specs.Scripts.{IsInForm, IsPutOrGet, IsSingleAct}
+use Rattle.daos_base.specs.Scripts.{IsRunnable, IsPutOrGet, IsSingleAct}
 use Rattle.daos_model.specs.declared.cell.CellValue.{CellValue}
 use Rattle.daos_model.specs.declared.stand.Taken.{Taken}
 use Rattle.daos_model.specs.Answers.{answer, value_answer}
@@ -154,7 +154,7 @@ none_down (line.Down target ∷ ls) tries = absurd tries.0
 
 -- ---- the report
 
-pub report_form : (s : Script) (q : Report) → IsInForm 1 s → q.targets ≡ s.targets → q.down ≡ None → IsRunOf s q.lines → IsReportOf s q
+pub report_form : (s : Script) (q : Report) → IsRunnable 1 s → q.targets ≡ s.targets → q.down ≡ None → IsRunOf s q.lines → IsReportOf s q
 report_form s q form targets up run =
     let each = run.attempts in
     let at = λ (k : ℕ) (d : Line) (lt : k < length q.lines). each k (get_or q.lines k d) (slice_get-get_or q.lines k d lt) in

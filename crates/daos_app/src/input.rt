@@ -1,6 +1,6 @@
 // Reads the script from the source.
 ghost use Rattle.std.specs.Prelude.{◌≡◌, ◌≤◌, IfOk, IsErrOf};
-ghost use Rattle.daos_base.specs.Scripts.{IsInForm};
+ghost use Rattle.daos_base.specs.Scripts.{IsRunnable};
 ghost use Rattle.daos_outside.specs.Causes.{Rose};
 ghost use Rattle.daos_app.specs.Answers.{IsRead, IsRefused};
 
@@ -36,7 +36,7 @@ pub enum InputNo {
 /// bytes, to the source's end or to 16,777,217 of them, are no script that the program runs.
 pub fn read_input<S: Source>(alloc: Global, source: &mut S) -> Result<Script, InputNo>
     ensures script { IfOk result (λ script. IsRead (S.left source.old) (S.left source.new) script) }
-    ensures form { IfOk result (λ script. IsInForm 1 script) }
+    ensures form { IfOk result (λ script. IsRunnable 1 script) }
     ensures refused { IsErrOf result InputNo.Refused → IsRefused (S.left source.old) (S.left source.new) }
     ensures fault { IsErrOf result InputNo.Fault → Rose (S.count source.old) (S.count source.new) }
     ensures later { S.count source.old ≤ S.count source.new }

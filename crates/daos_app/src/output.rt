@@ -1,7 +1,7 @@
 // Runs a script and makes the text of its report, and writes that to the sink.
 ghost use Rattle.std.specs.Prelude.{◌≡◌, ◌≤◌, ◌⊎◌, IfOk, IsOkUnless};
 ghost use Rattle.std.specs.Io.KnownBytes.{Appends};
-ghost use Rattle.daos_base.specs.Scripts.{IsInForm};
+ghost use Rattle.daos_base.specs.Scripts.{IsRunnable};
 ghost use Rattle.daos_outside.specs.Causes.{Rose};
 ghost use Rattle.daos_outside.specs.Transfers.{AppendsPrefix};
 ghost use Rattle.daos_app.specs.Answers.{IsReported};
@@ -34,7 +34,7 @@ pub fn run_text<R: Threads + Wait + Sync, B: Rack, G: Gate + Sync>(
     gate: &G,
 ) -> Result<Vec<u8>, RunStop>
     requires targets { job.now.targets ≡ 1 }
-    requires script { IsInForm 1 script.now }
+    requires script { IsRunnable 1 script.now }
     ensures reported { IfOk result (λ text. IsReported job.now script.now text.items) }
     ensures refusals { IsOkUnless result RunStop.Memory }
     ensures rack { B.count rack.new ≡ B.count rack.old }

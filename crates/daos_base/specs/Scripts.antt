@@ -1,11 +1,15 @@
--- What a script is that a run can be given, and what a run is given so far.
-use Rattle.std.specs.Prelude.{ℕ, Bool, true, false, ◌≡◌, ◌≤◌, ◌<◌, ◌&&◌, ◌==◌, nat_eq, List, [], ◌∷◌, length, map, All, Any, Some, None}
-use Rattle.std.specs.List.{IsDistinct}
+-- What a script is that a text stands for, and which of them are run so far.
+use Rattle.std.specs.Prelude.{ℕ, Bool, true, false, ◌≡◌, ◌≤◌, ◌<◌, ◌+◌, ◌^◌, ◌&&◌, ◌==◌, nat_eq, List, [], ◌∷◌, ◌++◌, length, map, count_by, All, Any, Option, Some, None}
+use Rattle.std.specs.List.{IsDistinct, list_all}
+use Rattle.daos_base.specs.declared.epoch.Epoch.{Epoch}
+use Rattle.daos_base.specs.declared.id.Class.{Class}
 use Rattle.daos_base.specs.declared.id.Class.TheVariants.{S1}
+use Rattle.daos_base.specs.declared.id.ContId.{ContId}
 use Rattle.daos_base.specs.declared.path.Path.{Path}
 use Rattle.daos_base.specs.declared.operation.Act.{Act}
 use Rattle.daos_base.specs.declared.operation.Act.TheVariants.{Fetch, Change}
-use Rattle.daos_base.specs.declared.operation.Cond.TheVariants.{Free}
+use Rattle.daos_base.specs.declared.operation.Cond.{Cond}
+use Rattle.daos_base.specs.declared.operation.Cond.TheVariants.{Free, Must, MustNot}
 use Rattle.daos_base.specs.declared.operation.Op.{Op}
 use Rattle.daos_base.specs.declared.operation.Read.{Read}
 use Rattle.daos_base.specs.declared.operation.Read.TheVariants as read
@@ -15,9 +19,15 @@ use Rattle.daos_base.specs.declared.script.Command.{Command}
 use Rattle.daos_base.specs.declared.script.Command.TheVariants.{Run, Snap, Aggregate, Tell, Skip}
 use Rattle.daos_base.specs.declared.script.ContDecl.{ContDecl}
 use Rattle.daos_base.specs.declared.script.ObjDecl.{ObjDecl}
+use Rattle.daos_base.specs.declared.script.OldDecl.{OldDecl}
+use Rattle.daos_base.specs.declared.script.StopDecl.{StopDecl}
 use Rattle.daos_base.specs.declared.script.Script.{Script}
 use Rattle.daos_base.specs.Keys.{same_key}
-use Rattle.daos_base.specs.Paths.{same_object}
+use Rattle.daos_base.specs.Operations.{act_path}
+use Rattle.daos_base.specs.Paths.{class_number, same_object}
+use Rattle.daos_base.specs.Placement.{ClassFits}
+
+-- ---- what is declared
 
 abbrev pub cont_name : ContDecl → List ℕ
 cont_name d = d.name
@@ -32,6 +42,126 @@ obj_name d = d.name
 abbrev pub same_declared : ObjDecl → ObjDecl → Bool
 same_declared a b = (a.cont.0 == b.cont.0) && same_object a.id b.id
 
+-- a declared container
+abbrev pub IsContOf : List ContDecl → ContId → Type 0
+IsContOf conts id = Any (λ c. c.id ≡ id) conts
+
+-- what is declared: containers with names and identities of their own, and objects in them likewise
+pub record AreDeclared (s : Script) : Type 0 where
+  pub conts : length s.conts ≤ 256
+  pub cont_names : IsDistinct same_key (map cont_name s.conts)
+  pub cont_ids : IsDistinct nat_eq (map cont_number s.conts)
+  pub objs : length s.objs ≤ 4096
+  pub obj_names : IsDistinct same_key (map obj_name s.objs)
+  pub obj_ids : IsDistinct same_declared s.objs
+  pub obj_conts : All (λ o. IsContOf s.conts o.cont) s.objs
+
+-- the K-th write of a target's region may be told to fail for K from 1 to 1,000,000
+pub record IsStop (targets : ℕ) (d : StopDecl) : Type 0 where
+  pub target : d.target < targets
+  pub first : 0 < d.write
+  pub last : d.write ≤ 1000000
+
+-- ---- operations
+
+-- the path of a declared object, or one that goes on from it
+abbrev pub IsOfObject : List ObjDecl → Path → Type 0
+IsOfObject objs p = Any (λ d. (Some d.id ≡ p.obj) × (d.cont ≡ p.cont)) objs
+
+-- the path of a declared object, and no further
+pub record IsObjectOf (objs : List ObjDecl) (p : Path) : Type 0 where
+  pub declared : IsOfObject objs p
+  pub no_dkey : p.dkey ≡ None
+  pub no_akey : p.akey ≡ None
+
+-- the path of a dkey of a declared object, and no further
+pub record IsDkeyOf (objs : List ObjDecl) (p : Path) : Type 0 where
+  pub declared : IsOfObject objs p
+  pub dkey : (k : List ℕ) × (p.dkey ≡ Some k)
+  pub no_akey : p.akey ≡ None
+
+-- the path of an akey of a declared object
+pub record IsAkeyOf (objs : List ObjDecl) (p : Path) : Type 0 where
+  pub declared : IsOfObject objs p
+  pub dkey : (k : List ℕ) × (p.dkey ≡ Some k)
+  pub akey : (k : List ℕ) × (p.akey ≡ Some k)
+
+-- the path of a declared object, or of a dkey or an akey of one
+pub record IsPathOf (objs : List ObjDecl) (p : Path) : Type 0 where
+  pub declared : IsOfObject objs p
+  pub no_akey : p.dkey ≡ None → p.akey ≡ None
+
+-- a length from 1 to 1,024
+abbrev pub IsLength : ℕ → Type 0
+IsLength len = (0 < len) × (len ≤ 1024)
+
+-- a read whose path ends at its level, whose length is from 1 to 1,024 and whose end is at most 2^32 - 1
+abbrev pub IsReadInForm : List ObjDecl → Read → Type 0
+IsReadInForm objs (read.Single p) = IsAkeyOf objs p
+IsReadInForm objs (read.Extent p low len) = IsAkeyOf objs p × IsLength len × (low + len < 2 ^ 32)
+IsReadInForm objs (read.Dkeys p) = IsObjectOf objs p
+IsReadInForm objs (read.Akeys p) = IsDkeyOf objs p
+IsReadInForm objs (read.Exists p) = IsPathOf objs p
+
+-- a write likewise
+abbrev pub IsWriteInForm : List ObjDecl → Write → Type 0
+IsWriteInForm objs (write.Single p bytes) = IsAkeyOf objs p × IsLength (length bytes)
+IsWriteInForm objs (write.Extent p low bytes) = IsAkeyOf objs p × IsLength (length bytes) × (low + length bytes < 2 ^ 32)
+IsWriteInForm objs (write.PunchObject p) = IsObjectOf objs p
+IsWriteInForm objs (write.PunchDkey p) = IsDkeyOf objs p
+IsWriteInForm objs (write.PunchAkey p) = IsAkeyOf objs p
+
+abbrev pub IsActInForm : List ObjDecl → Act → Type 0
+IsActInForm objs (Fetch r) = IsReadInForm objs r
+IsActInForm objs (Change w) = IsWriteInForm objs w
+
+-- a read, and no write
+abbrev pub is_fetch : Act → Bool
+is_fetch (Fetch r) = true
+is_fetch (Change w) = false
+
+-- all but the question whether there is a cell may be asked to find one
+abbrev pub may_read_must : Read → Bool
+may_read_must (read.Single p) = true
+may_read_must (read.Extent p low len) = true
+may_read_must (read.Dkeys p) = true
+may_read_must (read.Akeys p) = true
+may_read_must (read.Exists p) = false
+
+abbrev pub may_must : Act → Bool
+may_must (Fetch r) = may_read_must r
+may_must (Change w) = true
+
+-- what sets a value or an extent may be asked to find no cell
+abbrev pub may_write_must_not : Write → Bool
+may_write_must_not (write.Single p bytes) = true
+may_write_must_not (write.Extent p low bytes) = true
+may_write_must_not (write.PunchObject p) = false
+may_write_must_not (write.PunchDkey p) = false
+may_write_must_not (write.PunchAkey p) = false
+
+abbrev pub may_must_not : Act → Bool
+may_must_not (Fetch r) = false
+may_must_not (Change w) = may_write_must_not w
+
+-- a condition that an act may have
+abbrev pub may_have : Cond → Act → Bool
+may_have Free act = true
+may_have Must act = may_must act
+may_have MustNot act = may_must_not act
+
+pub record IsOpInForm (objs : List ObjDecl) (op : Op) : Type 0 where
+  pub act : IsActInForm objs op.act
+  pub cond : may_have op.cond op.act ≡ true
+
+-- a read without a condition, in this container
+pub record IsPlainReadIn (cont : ContId) (op : Op) : Type 0 where
+  pub free : op.cond ≡ Free
+  pub fetch : is_fetch op.act ≡ true
+  pub inside : (act_path op.act).cont ≡ cont
+
+-- ---- commands
+
 -- commands that bear a number, which are those with attempts
 abbrev pub is_numbered : Command → Bool
 is_numbered (Run ops skips snapshot) = true
@@ -40,11 +170,84 @@ is_numbered (Aggregate cont) = true
 is_numbered (Tell client) = false
 is_numbered (Skip turns) = false
 
--- the path of an akey of a declared object
-pub record IsAkeyOf (objs : List ObjDecl) (p : Path) : Type 0 where
-  pub declared : Any (λ d. (Some d.id ≡ p.obj) × (d.cont ≡ p.cont)) objs
-  pub dkey : (k : List ℕ) × (p.dkey ≡ Some k)
-  pub akey : (k : List ℕ) × (p.akey ≡ Some k)
+-- a name of a snapshot, and its container
+abbrev pub SnapName : Type 0
+SnapName = List ℕ × ContId
+
+abbrev pub old_snap : OldDecl → SnapName
+old_snap d = (d.name, d.cont)
+
+-- the snapshot that a command makes, if it makes one
+abbrev pub snap_of : Command → List SnapName
+snap_of (Run ops skips snapshot) = []
+snap_of (Snap name cont) = (name, cont) ∷ []
+snap_of (Aggregate cont) = []
+snap_of (Tell client) = []
+snap_of (Skip turns) = []
+
+-- the snapshots that a client makes, in order
+abbrev pub snaps_of : List Command → List SnapName
+snaps_of [] = []
+snaps_of (c ∷ cs) = snap_of c ++ snaps_of cs
+
+-- the snapshots that all clients make
+abbrev pub all_snaps : List (List Command) → List SnapName
+all_snaps [] = []
+all_snaps (list ∷ lists) = snaps_of list ++ all_snaps lists
+
+-- 1 to 64 operations, with the turns to skip before each and before the end
+pub record IsTransaction (objs : List ObjDecl) (ops : List Op) (skips : List ℕ) : Type 0 where
+  pub some : 0 < length ops
+  pub few : length ops ≤ 64
+  pub in_form : All (IsOpInForm objs) ops
+  pub skips_between : length skips ≡ length ops + 1
+
+-- reads without conditions, in the container of a snapshot that is known by this name
+abbrev pub ReadsAt : List SnapName → List Op → Option (List ℕ) → Type 0
+ReadsAt known ops None = Unit {0}
+ReadsAt known ops (Some name) = (cont : ContId) × Any (λ k. k ≡ (name, cont)) known × All (IsPlainReadIn cont) ops
+
+-- a command of a client that knows these snapshots
+abbrev pub IsCommand : List ContDecl → List ObjDecl → List SnapName → Command → Type 0
+IsCommand conts objs known (Run ops skips snapshot) = IsTransaction objs ops skips × ReadsAt known ops snapshot
+IsCommand conts objs known (Snap name cont) = IsContOf conts cont
+IsCommand conts objs known (Aggregate cont) = IsContOf conts cont
+IsCommand conts objs known (Tell client) = Unit {0}
+IsCommand conts objs known (Skip turns) = (0 < turns) × (turns ≤ 10000)
+
+-- the commands of a client, each of which also knows the snapshots made before it
+abbrev pub AreCommands : List ContDecl → List ObjDecl → List SnapName → List Command → Type 0
+AreCommands conts objs known [] = Unit {0}
+AreCommands conts objs known (c ∷ cs) = IsCommand conts objs known c × AreCommands conts objs (known ++ snap_of c) cs
+
+-- a client is told by another one, and both are there
+abbrev pub IsTold : ℕ → ℕ → Command → Type 0
+IsTold clients own (Run ops skips snapshot) = Unit {0}
+IsTold clients own (Snap name cont) = Unit {0}
+IsTold clients own (Aggregate cont) = Unit {0}
+IsTold clients own (Tell client) = (client < clients) × (client ≡ own → ⊥)
+IsTold clients own (Skip turns) = Unit {0}
+
+-- how many numbered commands all clients have
+abbrev pub count_numbered : List (List Command) → ℕ
+count_numbered [] = 0
+count_numbered (list ∷ lists) = count_by is_numbered list + count_numbered lists
+
+-- a script that some text stands for, for so many targets
+pub record IsInForm (targets : ℕ) (s : Script) : Type 0 where
+  pub read_for : s.targets ≡ targets
+  pub declared : AreDeclared s
+  pub classes : All (λ o. ClassFits o.id.class targets) s.objs
+  pub olds : length s.olds ≤ 256
+  pub old_conts : All (λ d. IsContOf s.conts d.cont) s.olds
+  pub snap_names : IsDistinct same_key (map (λ (k : SnapName). k.0) (map old_snap s.olds ++ all_snaps s.clients))
+  pub stops : length s.stops ≤ 64
+  pub stops_fit : All (IsStop targets) s.stops
+  pub clients : length s.clients ≤ 64
+  pub few : count_numbered s.clients ≤ 100000
+  pub commands : All (λ list. AreCommands s.conts s.objs (map old_snap s.olds) list) s.clients
+
+-- ---- what is run so far
 
 -- a single value is put or got at an akey of a declared object; a value has 1 to 1,024 bytes
 abbrev pub IsSingleRead : List ObjDecl → Read → Type 0
@@ -74,16 +277,6 @@ IsPutOrGet objs (Aggregate cont) = ⊥
 IsPutOrGet objs (Tell client) = ⊥
 IsPutOrGet objs (Skip turns) = ⊥
 
--- what is declared: containers with names and identities of their own, and objects in them likewise
-pub record AreDeclared (s : Script) : Type 0 where
-  pub conts : length s.conts ≤ 256
-  pub cont_names : IsDistinct same_key (map cont_name s.conts)
-  pub cont_ids : IsDistinct nat_eq (map cont_number s.conts)
-  pub objs : length s.objs ≤ 4096
-  pub obj_names : IsDistinct same_key (map obj_name s.objs)
-  pub obj_ids : IsDistinct same_declared s.objs
-  pub obj_conts : All (λ o. Any (λ c. c.id ≡ o.cont) s.conts) s.objs
-
 -- a script of at most one client, which puts and gets single values of objects of class S1
 pub record IsRunSoFar (s : Script) : Type 0 where
   pub classes : All (λ o. o.id.class ≡ S1) s.objs
@@ -93,8 +286,8 @@ pub record IsRunSoFar (s : Script) : Type 0 where
   pub few : All (λ list. length list ≤ 100000) s.clients
   pub commands : All (λ list. All (λ c. IsPutOrGet s.objs c) list) s.clients
 
--- a script that a run for so many targets can be given
-pub record IsInForm (targets : ℕ) (s : Script) : Type 0 where
+-- a script that a run for so many targets can be given so far
+pub record IsRunnable (targets : ℕ) (s : Script) : Type 0 where
   pub read_for : s.targets ≡ targets
   pub declared : AreDeclared s
   pub run_so_far : IsRunSoFar s

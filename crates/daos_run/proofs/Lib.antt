@@ -3,4 +3,5 @@ pub mod Answers
 pub mod Epochs
 pub mod SoFar
 pub mod Steps
-mod Whole
+pub mod Whole
+pub mod RunnableLaws

@@ -27,7 +27,7 @@ use Rattle.daos_base.specs.Epochs.{issued_ticks}
 use Rattle.daos_run.specs.Issue.{AreIssued, ticks_after, tracker_after}
 use Rattle.daos_run.specs.Lone.{AreRight, EachAt, IsAnswered, IsIssuedByZero, IsLineAnswered, IsOnlyAttempt, IsOnlyAttemptLine, committed, epochs_of, first_list, line_epoch, no_one, option_epoch}
 use Rattle.daos_run.specs.Told.{all_told}
-use Rattle.daos_base.specs.Scripts.{IsInForm}
+use Rattle.daos_base.specs.Scripts.{IsRunnable}
 use Rattle.daos_run.specs.Runs.{IsRunOf}
 use Rattle.daos_run.specs.CommandLaws.{lone-is}
 use Rattle.daos_run.proofs.Lists.{EachAt-nil, EachAt-push, increasing-from_Rises, recursion-append, recursion-map, Rises, Rises-push}
@@ -213,7 +213,7 @@ one_more s n ticks tracker reading later lines now after ops a h is made effect 
     }
 
 -- all commands ran
-pub all_ran : (s : Script) (n ticks tracker : ℕ) (lines : List Line) (now : List CellValue) → IsInForm 1 s → length (first_list s.clients) ≡ n → SoFar s n ticks tracker lines now → IsRunOf s lines
+pub all_ran : (s : Script) (n ticks tracker : ℕ) (lines : List Line) (now : List CellValue) → IsRunnable 1 s → length (first_list s.clients) ≡ n → SoFar s n ticks tracker lines now → IsRunOf s lines
 all_ran s n ticks tracker lines now form all h = record {
   reads = All-from_recursion (IsLineAnswered s empty_stand (committed s lines)) lines h.reads;
   count = h.count ∙ sym all ∙ sym (ap length (lone-is 1 s form));

@@ -18,7 +18,7 @@ use Rattle.daos_base.specs.declared.script.Command.{Command}
 use Rattle.daos_base.specs.declared.script.Command.TheVariants.{Run, Snap, Aggregate, Tell, Skip}
 use Rattle.daos_base.specs.declared.script.ObjDecl.{ObjDecl}
 use Rattle.daos_base.specs.declared.script.Script.{Script}
-use Rattle.daos_base.specs.Scripts.{IsInForm, IsPutOrGet}
+use Rattle.daos_base.specs.Scripts.{IsRunnable, IsPutOrGet}
 use Rattle.daos_base.specs.declared.report.Report.{Report}
 use Rattle.daos_model.specs.declared.cell.CellValue.{CellValue}
 use Rattle.daos_model.specs.declared.stand.Taken.{Taken}
@@ -384,7 +384,7 @@ first_commands s = is s.clients
     is [] = refl
     is (list ∷ lists) = refl
 
-pub headline-of : (s : Script) (j : Job) (q : Report) → IsInForm 1 s → j.targets ≡ 1 → q.targets ≡ j.targets → q.down ≡ None → IsRunOf s q.lines → Headline (fresh s j) undisturbed no_one q
+pub headline-of : (s : Script) (j : Job) (q : Report) → IsRunnable 1 s → j.targets ≡ 1 → q.targets ≡ j.targets → q.down ≡ None → IsRunOf s q.lines → Headline (fresh s j) undisturbed no_one q
 headline-of s j q form one targets down run =
     let lone = are_tries s 0 q.lines (λ k l e. let same : k ≡ 0 + k = omega arith in subst (λ n. IsOnlyAttemptLine s n l) same (run.attempts k l e)) in
     let count : length lone.attempts ≡ length (first_list s.clients) = sym (length-map lone.attempts try_line) ∙ sym (ap length lone.are) ∙ run.count ∙ ap length (lone-is 1 s form) in

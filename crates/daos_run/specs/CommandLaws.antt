@@ -8,7 +8,7 @@ use Rattle.daos_base.specs.declared.script.Command.{Command}
 use Rattle.daos_base.specs.declared.script.Command.TheVariants.{Run, Snap, Aggregate, Tell, Skip}
 use Rattle.daos_base.specs.declared.script.ObjDecl.{ObjDecl}
 use Rattle.daos_base.specs.declared.script.Script.{Script}
-use Rattle.daos_base.specs.Scripts.{IsInForm, IsPutOrGet, IsSingleAct}
+use Rattle.daos_base.specs.Scripts.{IsRunnable, IsPutOrGet, IsSingleAct}
 use Rattle.daos_base.specs.declared.operation.Act.{Act}
 use Rattle.daos_base.specs.declared.operation.Act.TheVariants.{Fetch, Change}
 use Rattle.daos_base.specs.declared.operation.Write.TheVariants as write
@@ -32,13 +32,13 @@ none_of : (objs : List ObjDecl) → All (λ c. IsPutOrGet objs c) []
 none_of objs k d lt = absurd (omega arith)
 
 -- the commands of the one client put and get
-pub first_puts : (n : ℕ) (s : Script) → IsInForm n s → All (λ c. IsPutOrGet s.objs c) (first_list s.clients)
+pub first_puts : (n : ℕ) (s : Script) → IsRunnable n s → All (λ c. IsPutOrGet s.objs c) (first_list s.clients)
 first_puts n s form = in_first (λ list. All (λ c. IsPutOrGet s.objs c) list) s.clients (none_of s.objs) form.run_so_far.commands
 
-pub lone-is : (n : ℕ) (s : Script) → IsInForm n s → lone_commands s ≡ first_list s.clients
+pub lone-is : (n : ℕ) (s : Script) → IsRunnable n s → lone_commands s ≡ first_list s.clients
 lone-is n s form = all_numbered s.objs (first_list s.clients) (recursion_from_All (λ c. IsPutOrGet s.objs c) (first_list s.clients) (first_puts n s form))
 
-pub few_commands : (n : ℕ) (s : Script) → IsInForm n s → length (first_list s.clients) ≤ 100000
+pub few_commands : (n : ℕ) (s : Script) → IsRunnable n s → length (first_list s.clients) ≤ 100000
 few_commands n s form = in_first (λ list. length list ≤ 100000) s.clients (omega arith) form.run_so_far.few
 
 few_ops : (objs : List ObjDecl) (c : Command) → IsPutOrGet objs c → length (ops_of c) ≤ 64
@@ -48,7 +48,7 @@ few_ops objs (Aggregate cont) p = absurd p
 few_ops objs (Tell client) p = absurd p
 few_ops objs (Skip turns) p = absurd p
 
-pub few_ops_at : (n : ℕ) (s : Script) (k : ℕ) (c : Command) → IsInForm n s → k < length (first_list s.clients) → c ≡ get_or (first_list s.clients) k c → length (ops_of c) ≤ 64
+pub few_ops_at : (n : ℕ) (s : Script) (k : ℕ) (c : Command) → IsRunnable n s → k < length (first_list s.clients) → c ≡ get_or (first_list s.clients) k c → length (ops_of c) ≤ 64
 few_ops_at n s k c form lt e = few_ops s.objs c (subst (λ x. IsPutOrGet s.objs x) (sym e) (first_puts n s form k c lt))
 
 first_numbered : (lists : List (List Command)) (k : ℕ) → numbered_at k (slice_get lists 0) ≡ slice_get (numbered (first_list lists)) k
@@ -56,13 +56,13 @@ first_numbered [] k = refl
 first_numbered (list ∷ lists) k = refl
 
 -- the command of an attempt
-pub command_of-is : (n : ℕ) (s : Script) (k : ℕ) (c : Command) → IsInForm n s → k < length (first_list s.clients) → c ≡ get_or (first_list s.clients) k c → command_of s (record { client = 0; command = k; attempt = 0 }) ≡ Some c
+pub command_of-is : (n : ℕ) (s : Script) (k : ℕ) (c : Command) → IsRunnable n s → k < length (first_list s.clients) → c ≡ get_or (first_list s.clients) k c → command_of s (record { client = 0; command = k; attempt = 0 }) ≡ Some c
 unfolding command_of
 command_of-is n s k c form lt e =
     first_numbered s.clients k ∙ ap (λ cs. slice_get cs k) (lone-is n s form) ∙ slice_get-get_or (first_list s.clients) k c lt ∙ ap (λ x. Some x) (sym e)
 
 -- the operations of an attempt are those of its command
-pub attempt_ops-is : (n : ℕ) (s : Script) (k : ℕ) (c : Command) → IsInForm n s → k < length (first_list s.clients) → c ≡ get_or (first_list s.clients) k c → attempt_ops s (record { client = 0; command = k; attempt = 0 }) ≡ ops_of c
+pub attempt_ops-is : (n : ℕ) (s : Script) (k : ℕ) (c : Command) → IsRunnable n s → k < length (first_list s.clients) → c ≡ get_or (first_list s.clients) k c → attempt_ops s (record { client = 0; command = k; attempt = 0 }) ≡ ops_of c
 attempt_ops-is n s k c form lt e = ap ops_or_none (command_of-is n s k c form lt e)
 
 single_act : (objs : List ObjDecl) (act : Act) → IsSingleAct objs act → CanBeDone act
@@ -82,7 +82,7 @@ can_be_done objs (Aggregate cont) p = absurd p
 can_be_done objs (Tell client) p = absurd p
 can_be_done objs (Skip turns) p = absurd p
 
-pub can_be_done_at : (n : ℕ) (s : Script) (k : ℕ) (c : Command) → IsInForm n s → k < length (first_list s.clients) → c ≡ get_or (first_list s.clients) k c → AllCanBeDone (ops_of c)
+pub can_be_done_at : (n : ℕ) (s : Script) (k : ℕ) (c : Command) → IsRunnable n s → k < length (first_list s.clients) → c ≡ get_or (first_list s.clients) k c → AllCanBeDone (ops_of c)
 can_be_done_at n s k c form lt e = can_be_done s.objs c (subst (λ x. IsPutOrGet s.objs x) (sym e) (first_puts n s form k c lt))
 
 -- the command of a number below their count, which puts or gets, has the operations of its attempt
@@ -91,7 +91,7 @@ pub record IsCommandAt (s : Script) (k : ℕ) (c : Command) : Type 0 where
   pub command : command_of s (record { client = 0; command = k; attempt = 0 }) ≡ Some c
   pub ops : attempt_ops s (record { client = 0; command = k; attempt = 0 }) ≡ ops_of c
 
-pub command_at : (n : ℕ) (s : Script) (k : ℕ) (d : Command) → IsInForm n s → k < length (first_list s.clients) → IsCommandAt s k (get_or (first_list s.clients) k d)
+pub command_at : (n : ℕ) (s : Script) (k : ℕ) (d : Command) → IsRunnable n s → k < length (first_list s.clients) → IsCommandAt s k (get_or (first_list s.clients) k d)
 command_at n s k d form lt =
     let c = get_or (first_list s.clients) k d in
     let again = get_or-again (first_list s.clients) k d lt in

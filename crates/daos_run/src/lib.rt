@@ -4,4 +4,5 @@
 mod attempt;
 mod clock;
 pub mod run;
+pub mod runnable;
 pub mod stop;

@@ -1,6 +1,6 @@
 // Runs the commands of a script's client, and reports them.
 ghost use Rattle.std.specs.Prelude.{◌≡◌, length, None, IfOk, IsOkUnless, slice_get};
-ghost use Rattle.daos_base.specs.Scripts.{IsInForm};
+ghost use Rattle.daos_base.specs.Scripts.{IsRunnable};
 ghost use Rattle.daos_model.specs.Headline.{Headline};
 ghost use Rattle.daos_model.specs.Opening.{fresh, undisturbed};
 ghost use Rattle.daos_model.specs.Transactions.{ops_of};
@@ -54,7 +54,7 @@ fn run_commands<C: Clock, G: Gate>(
     clock: &mut C,
     gate: &G,
 ) -> Result<Lines, Memory>
-    requires { IsInForm 1 script.now }
+    requires { IsRunnable 1 script.now }
     ensures { IfOk result (λ lines. IsRunOf script.now lines) }
 {
     let mut map = Map::new(alloc);
@@ -86,7 +86,7 @@ pub fn run_script<R: Threads + Wait + Sync, B: Rack, G: Gate + Sync>(
     gate: &G,
 ) -> Result<Report, RunStop>
     requires targets { job.now.targets ≡ 1 }
-    requires script { IsInForm job.now.targets script.now }
+    requires script { IsRunnable job.now.targets script.now }
     ensures headline { IfOk result (λ report. Headline (fresh script.now job.now) undisturbed no_one report) }
     ensures lone { IfOk result (λ report. IsRunOf script.now report.lines) }
     ensures down { IfOk result (λ report. report.down ≡ None) }

@@ -8,7 +8,7 @@ use Rattle.std.proofs.lemmas.List.Elements.{All-push, All-from_recursion}
 use Rattle.std.proofs.lemmas.Slice.Eq.{bytes_eq-Decides}
 use Rattle.daos_base.specs.Keys.{same_key}
 use Rattle.daos_base.specs.Paths.{same_object}
-use Rattle.daos_base.specs.Scripts.{cont_name, cont_number, obj_name, same_declared, IsAkeyOf, IsSingleAct, IsPutOrGet, IsInForm}
+use Rattle.daos_base.specs.Scripts.{cont_name, cont_number, obj_name, same_declared, IsAkeyOf, IsSingleAct, IsPutOrGet, IsRunnable}
 use Rattle.daos_base.specs.declared.id.Class.TheVariants.{S1}
 use Rattle.daos_base.specs.declared.id.ContId.{ContId}
 use Rattle.daos_base.specs.declared.id.ObjId.{ObjId}
@@ -112,7 +112,7 @@ object_is_new (o ∷ os) name cont id e =
 pushed : {A B : Type 0} (f : A → B) (xs : List A) (y : A) (P : List B → Type 0) → P (map f xs ++ f y ∷ []) → P (map f (xs ++ y ∷ []))
 pushed f xs y P h = subst P (sym (map-append f xs (y ∷ []))) h
 
-empty_form : (n : ℕ) → IsInForm n (empty_script n)
+empty_form : (n : ℕ) → IsRunnable n (empty_script n)
 unfolding IsDistinct
 empty_form n = record {
   read_for = refl;
@@ -135,11 +135,11 @@ empty_form n = record {
   };
 }
 
-form_cont : (n : ℕ) (name : List ℕ) (id : ContId) (s t : Script) → IsInForm n s → DeclaresContainer name id s t → IsInForm n t
+form_cont : (n : ℕ) (name : List ℕ) (id : ContId) (s t : Script) → IsRunnable n s → DeclaresContainer name id s t → IsRunnable n t
 form_cont n name id s t f d =
     let decl : ContDecl = record { name = name; id = id } in
     let g = f.declared in
-    subst (λ t. IsInForm n t) (sym d.declared) (record {
+    subst (λ t. IsRunnable n t) (sym d.declared) (record {
       read_for = f.read_for;
       declared = record {
         conts = omega (arith, length-append s.conts (decl ∷ []), d.room);
@@ -160,11 +160,11 @@ form_cont n name id s t f d =
       };
     })
 
-form_obj : (n : ℕ) (name cont : List ℕ) (number : ℕ) (s t : Script) → IsInForm n s → DeclaresObject name cont number s t → IsInForm n t
+form_obj : (n : ℕ) (name cont : List ℕ) (number : ℕ) (s t : Script) → IsRunnable n s → DeclaresObject name cont number s t → IsRunnable n t
 form_obj n name cont number s t f d =
     let decl : ObjDecl = record { name = name; cont = d.id; id = record { class = S1; number = number } } in
     let g = f.declared in
-    subst (λ t. IsInForm n t) (sym d.declared) (record {
+    subst (λ t. IsRunnable n t) (sym d.declared) (record {
       read_for = f.read_for;
       declared = record {
         conts = g.conts;
@@ -185,9 +185,9 @@ form_obj n name cont number s t f d =
       };
     })
 
-form_client : (n : ℕ) (s t : Script) → IsInForm n s → BeginsClient s t → IsInForm n t
+form_client : (n : ℕ) (s t : Script) → IsRunnable n s → BeginsClient s t → IsRunnable n t
 form_client n s t f d =
-    subst (λ t. IsInForm n t) (sym d.begun) (record {
+    subst (λ t. IsRunnable n t) (sym d.begun) (record {
       read_for = f.read_for;
       declared = record {
         conts = f.declared.conts;
@@ -208,12 +208,12 @@ form_client n s t f d =
       };
     })
 
-form_command : (n : ℕ) (obj : List ℕ) (act : ContId × ObjId → Act) (s t : Script) → IsInForm n s → (d : AddsCommand obj act s t) → IsSingleAct s.objs (act d.id) → IsInForm n t
+form_command : (n : ℕ) (obj : List ℕ) (act : ContId × ObjId → Act) (s t : Script) → IsRunnable n s → (d : AddsCommand obj act s t) → IsSingleAct s.objs (act d.id) → IsRunnable n t
 form_command n obj act s t f d single =
     let command : Command = lone_act (act d.id) in
     let before : All (λ c. IsPutOrGet s.objs c) d.list = subst (λ lists. All (λ list. All (λ c. IsPutOrGet s.objs c) list) lists) d.in_client f.run_so_far.commands 0 [] (omega arith) in
     let more : length (d.list ++ command ∷ []) ≤ 100000 = omega (arith, length-append d.list (command ∷ []), d.room) in
-    subst (λ t. IsInForm n t) (sym d.commanded) (record {
+    subst (λ t. IsRunnable n t) (sym d.commanded) (record {
       read_for = f.read_for;
       declared = record {
         conts = f.declared.conts;
@@ -238,7 +238,7 @@ form_command n obj act s t f d single =
 akey_of : (objs : List ObjDecl) (obj dkey akey : List ℕ) (id : ContId × ObjId) → obj_named objs obj ≡ Some id → IsAkeyOf objs (akey_path id dkey akey)
 akey_of objs obj dkey akey id known = record { declared = obj_is_known objs obj id known; dkey = (dkey, refl); akey = (akey, refl) }
 
-form_more : (n : ℕ) (statement : Statement) (line : List ℕ) (s t : Script) → IsInForm n s → IsSpelled statement line → Extends statement s t → IsInForm n t
+form_more : (n : ℕ) (statement : Statement) (line : List ℕ) (s t : Script) → IsRunnable n s → IsSpelled statement line → Extends statement s t → IsRunnable n t
 form_more n (Container name id) line s t f c d = form_cont n name id s t f d
 form_more n (Object name cont number) line s t f c d = form_obj n name cont number s t f d
 form_more n Client line s t f c d = form_client n s t f d
@@ -247,11 +247,11 @@ form_more n (Put obj dkey akey value) line s t f c d =
 form_more n (Get obj dkey akey) line s t f c d =
     form_command n obj (λ id. Fetch (read.Single (akey_path id dkey akey))) s t f d (akey_of s.objs obj dkey akey d.id d.known)
 
-make_form : (n : ℕ) (statements : List Statement) (lines : List (List ℕ)) (s t : Script) → IsInForm n s → AreSpelled statements lines → Make statements s t → IsInForm n t
-make_form n [] [] s t f c m = subst (λ t. IsInForm n t) m f
+make_form : (n : ℕ) (statements : List Statement) (lines : List (List ℕ)) (s t : Script) → IsRunnable n s → AreSpelled statements lines → Make statements s t → IsRunnable n t
+make_form n [] [] s t f c m = subst (λ t. IsRunnable n t) m f
 make_form n [] (line ∷ lines) s t f c m = absurd c
 make_form n (st ∷ sts) [] s t f c m = absurd c
 make_form n (st ∷ sts) (line ∷ lines) s t f c m = make_form n sts lines m.0 t (form_more n st line s m.0 f c.0 m.1) c.1 m.2
 
-pub IsInForm-from_text : (n : ℕ) (bytes : List ℕ) (s : Script) → IsScriptText n bytes s → IsInForm n s
-IsInForm-from_text n bytes s h = make_form n h.statements h.lines (empty_script n) s (empty_form n) h.are_spelled h.make
+pub IsRunnable-from_text : (n : ℕ) (bytes : List ℕ) (s : Script) → IsScriptText n bytes s → IsRunnable n s
+IsRunnable-from_text n bytes s h = make_form n h.statements h.lines (empty_script n) s (empty_form n) h.are_spelled h.make

@@ -2,7 +2,7 @@
 ghost use Rattle.std.specs.Prelude.{◌≡◌, IfErr, IfOk, MatchResult};
 ghost use Rattle.std.specs.List.{list_all};
 ghost use Rattle.daos_script.specs.Readings.{is_shown, read_line, script_of, with_line};
-ghost use Rattle.daos_base.specs.Scripts.{IsInForm};
+ghost use Rattle.daos_base.specs.Scripts.{IsRunnable};
 ghost use Rattle.daos_script_words.specs.Reads.{Gives};
 ghost use Rattle.daos_script.specs.Grammar.{IsScriptText, TextsAreUnambiguous};
 ghost use Rattle.daos_script.specs.Refusal.{IsRefused};
@@ -85,7 +85,7 @@ fn script_of(alloc: Global, bytes: &[u8], targets: u8) -> Result<Script, ScriptN
 /// at fault, and why, isn't told yet.
 pub fn read_script(alloc: Global, bytes: &[u8], targets: u8) -> Result<Script, ScriptNo>
     ensures spelled { IfOk result (IsScriptText targets bytes.now) }
-    ensures form { IfOk result (IsInForm targets) }
+    ensures form { IfOk result (IsRunnable targets) }
     ensures refused { IfErr result (IsRefused targets bytes.now) }
 {
     match script_of(alloc, bytes, targets) {

@@ -1,5 +1,5 @@
 use Rattle.std.proofs.Common.{refl}
-use Rattle.daos_script.proofs.Forms.{IsInForm-from_text}
+use Rattle.daos_script.proofs.Forms.{IsRunnable-from_text}
 use Rattle.daos_script.proofs.Texts.{no_script, script_takes}
 use Rattle.daos_script.proofs.script.read_script.Goals as goal
 
@@ -7,7 +7,7 @@ pub returns-in-Ok-clause-spelled : goal.returns-in-Ok-clause-spelled
 returns-in-Ok-clause-spelled c = script_takes c.args.targets c.args.bytes.now c.in-Ok.script c.in-Ok.ensures
 
 pub returns-in-Ok-clause-form : goal.returns-in-Ok-clause-form
-returns-in-Ok-clause-form c = IsInForm-from_text c.args.targets c.args.bytes.now c.in-Ok.script (script_takes c.args.targets c.args.bytes.now c.in-Ok.script c.in-Ok.ensures)
+returns-in-Ok-clause-form c = IsRunnable-from_text c.args.targets c.args.bytes.now c.in-Ok.script (script_takes c.args.targets c.args.bytes.now c.in-Ok.script c.in-Ok.ensures)
 
 pub returns-in-Err-Fault-clause-refused : goal.returns-in-Err-Fault-clause-refused
 returns-in-Err-Fault-clause-refused c =
