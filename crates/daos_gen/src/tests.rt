@@ -1,4 +1,6 @@
 // Generated scripts.
+ghost use Rattle.std.specs.Prelude.{◌<◌, ◌≤◌};
+
 use crate::script::make_script;
 use daos_base::id::Class;
 use daos_base::key::Key;
@@ -59,7 +61,10 @@ fn op(alloc: Global, op: &Op) -> Result<String, Fail> {
 }
 
 // The command of this number, of so many for four targets: its operations.
-fn command(alloc: Global, count: u32, number: usize) -> Result<String, Fail> {
+fn command(alloc: Global, count: u32, number: usize) -> Result<String, Fail>
+    requires some { 0 < count }
+    requires few { count ≤ 10000 }
+{
     let script = make_script(alloc, count, 4)?;
     let commands = script
         .clients
