@@ -1,0 +1,5 @@
+// Rows over trees in pages.
+#![tactic(auto)]
+
+#[cfg(test)]
+mod tests;
