@@ -273,7 +273,7 @@ extent-dkeys p low (b ∷ bytes) c ends e =
     ap (λ t. if t then Some (b ∷ []) else value_at (extent_cells p (low + 1) bytes) c) (false_of (same_cell (index_cell p low) c) (λ same. other p c (ap (λ d. d.path) ((same_cell-Decides (index_cell p low) c).0 same)) ends e))
     ∙ extent-dkeys p (low + 1) bytes c ends e
 
-effect-dkeys : (w : Write) (m : List CellValue) → is_write_in_form w ≡ true → HasDkeys m → HasDkeys (effect w m)
+pub effect-dkeys : (w : Write) (m : List CellValue) → is_write_in_form w ≡ true → HasDkeys m → HasDkeys (effect w m)
 unfolding is_write_in_form touches
 effect-dkeys w m form has c e = value-effect c w m ∙ by w form
   where

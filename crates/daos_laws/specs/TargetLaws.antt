@@ -31,19 +31,21 @@ use Rattle.daos_model.specs.OrderLaws.{rising-filter}
 use Rattle.daos_model.specs.Ordered.{is_rising}
 use Rattle.daos_model.specs.Prunes.{is_punch, touches, values_of}
 use Rattle.daos_model.specs.Sameness.{same_cell-Decides}
-use Rattle.daos_model.specs.Versions.{version_path, writes_in}
+use Rattle.daos_model.specs.Versions.{version_path, writes_in, written_by}
 use Rattle.daos_laws.specs.Dated.{AreSingleInOrder, Dated, after_all, dated, dated_of, dated_key, is_from, map_of}
-use Rattle.daos_laws.specs.Decided.{AreDecided, Decided, all_dated, taken_in}
-use Rattle.daos_laws.specs.DecidedLaws.{IsWriteOf, as_of-dated, has-all, has-dated, has-from_dated, has-from_ordered, has-ordered, ordered, rising-ordered}
-use Rattle.daos_laws.specs.Groups.{is_dkey_of_group, is_in_group}
+use Rattle.daos_laws.specs.Decided.{AreDecided, Decided, all_dated, dated_at, taken_in}
+use Rattle.daos_laws.specs.DecidedLaws.{IsWriteOf, all-from_has, as_of-dated, has-all, has-dated, has-from_dated, has-from_ordered, has-ordered, ordered, rising-ordered}
+use Rattle.daos_laws.specs.Groups.{HasDkeys, is_dkey_of_group, is_in_group}
 use Rattle.daos_laws.specs.Matches.{Matches, counts_under}
 use Rattle.daos_laws.specs.MatchLaws.{counted-has, filter_on, mark-from}
-use Rattle.daos_laws.specs.Members.{Has, any-has, contains-from_has, has-any, has-cases, has-from_contains, has-from_filter, has-left}
+use Rattle.daos_laws.specs.Members.{Has, any-has, contains-from_has, has-any, has-cases, has-from_contains, has-from_filter, has-from_map, has-left}
 use Rattle.daos_laws.specs.RisingLaws.{rising-same}
 use Rattle.daos_laws.specs.ServeLaws.{all-has, cont_test, obj_test, dkey_test, akey_test}
-use Rattle.daos_laws.specs.Targets.{AsOfIsOfTheSet, FamilyMapIsOfLeaders, MembersHoldParts, OpeningsMatch, is_own, is_target}
+use Rattle.daos_laws.specs.Targets.{AsOfHasDkeys, AsOfIsOfTheSet, FamiliesHaveDkeys, FamilyMapIsOfLeaders, MembersHoldParts, OpeningsMatch, is_own, is_target}
 use Rattle.daos_laws.specs.TouchLaws.{Newest, NewestAt, Untouched, newest-of, punch-values, update-path}
 use Rattle.daos_laws.specs.VersionLaws.{rising-from_single}
+use Rattle.daos_laws.specs.JoinLaws.{effect-dkeys, writes-dkeys}
+use Rattle.daos_laws.specs.WriteLaws.{after_write, value-effect}
 
 -- ---- the order of decisions doesn't matter
 
@@ -292,3 +294,44 @@ openings-match F t d mark agree at below = record {
         agree.now c t (path_leader c.path (length F)) d f.0 (and_left (is_some c.path.dkey) (list_any (is_target t) (path_members c.path (length F))) own)
         (contains-from_has (path_members c.path (length F)) t (subst (λ u. Has u (path_members c.path (length F))) (number_same m.0 t m.2) m.1)) leader.member at f.1
         ∙ sym (family-leaders F (counts F) c f.0 f.1)
+
+-- ---- dkeys
+
+-- the versions of a target in form leave nothing at a cell without a dkey
+target-dkeys : (p : Version → Bool) (vs : List Version) → list_all is_version_in_form vs ≡ true → HasDkeys (effects (writes_in (filter p vs)) [])
+target-dkeys p vs forms = writes-dkeys (writes_in (filter p vs)) [] (all-from_has (λ w. is_write_in_form w ≡ true) (writes_in (filter p vs)) in_form) (λ c e. refl)
+  where
+    in_form : (w : Write) → Has w (writes_in (filter p vs)) → is_write_in_form w ≡ true
+    in_form w i =
+        let v = has-from_map written_by (filter p vs) w i in
+        ap is_write_in_form (sym v.2) ∙ all-has is_version_in_form vs v.0 forms (has-from_filter p vs v.0 v.1).0
+
+joined-dkeys : (targets t : ℕ) (p : Version → Bool) (ds : List Durable) → ((d : Durable) → Has d ds → list_all is_version_in_form d.versions ≡ true) → HasDkeys (joined targets t p ds)
+joined-dkeys targets t p [] forms c e = refl
+joined-dkeys targets t p (d ∷ ds) forms c e =
+    append-none (filter (is_led_by targets t) (map_where p d)) (joined targets (t + 1) p ds) c
+    (value-filter (is_led targets t) (map_where p d) c ∙ none (is_led targets t c) (value_at (map_where p d) c) (target-dkeys p d.versions (forms d (inl refl)) c e))
+    ∙ joined-dkeys targets (t + 1) p ds (λ f i. forms f (inr i)) c e
+  where
+    none : (b : Bool) (o : Option (List ℕ)) → o ≡ None → (if b then o else None) ≡ None
+    none true o h = h
+    none false o h = refl
+
+pub families-dkeys : FamiliesHaveDkeys
+families-dkeys F p forms = joined-dkeys (length F) 0 p F (λ d i. forms d (contains-from_has F d i))
+
+after-dkeys : (c : Cell) (xs : List Dated) (held : Option (List ℕ)) → c.path.dkey ≡ None → ((x : Dated) → Has x xs → is_write_in_form x.write ≡ true) → held ≡ None → after_all c xs held ≡ None
+after-dkeys c [] held e forms none = none
+after-dkeys c (x ∷ xs) held e forms none =
+    after-dkeys c xs (after_write c x.write held) e (λ y i. forms y (inr i))
+    (ap (after_write c x.write) none ∙ sym (value-effect c x.write []) ∙ effect-dkeys x.write [] (forms x (inl refl)) (λ d f. refl) c e)
+
+pub as_of-dkeys : AsOfHasDkeys
+as_of-dkeys opening all e has forms c none =
+    as_of-dated c opening all e ∙ after-dkeys c (ordered e all) (value_at opening.now c) none in_form (has c none)
+  where
+    in_form : (x : Dated) → Has x (ordered e all) → is_write_in_form x.write ≡ true
+    in_form x i =
+        let w = has-from_dated all x (has-from_ordered e all x i).0 in
+        let m = has-from_map (dated_at w.by.epoch) w.by.writes x w.has in
+        ap (λ y. is_write_in_form y.write) (sym m.2) ∙ has-all (λ u. is_write_in_form u.write ≡ true) w.by.writes m.0 (forms w.by (contains-from_has all w.by w.among)) m.1

@@ -1,5 +1,5 @@
 -- What each target holds of the map, and what all targets stand for together.
-use Rattle.std.specs.Prelude.{ℕ, ◌≡◌, ◌<◌, ◌==◌, Bool, true, ◌&&◌, is_some, List, [], length, Contains, slice_get, Option, Some}
+use Rattle.std.specs.Prelude.{ℕ, ◌≡◌, ◌<◌, ◌==◌, Bool, true, ◌&&◌, is_some, All, List, [], length, Contains, slice_get, Option, Some}
 use Rattle.std.specs.List.{list_all, list_any}
 use Rattle.daos_base.specs.declared.id.ObjId.{ObjId}
 use Rattle.daos_base.specs.declared.path.Path.{Path}
@@ -13,10 +13,11 @@ use Rattle.daos_model.specs.Cells.{value_at}
 use Rattle.daos_model.specs.Durables.{is_version_in_form}
 use Rattle.daos_model.specs.Family.{Agree, counts, family_map, map_where, stand}
 use Rattle.daos_model.specs.Finals.{SameMap}
+use Rattle.daos_model.specs.Forms.{is_write_in_form}
 use Rattle.daos_model.specs.Versions.{version_path}
 use Rattle.daos_laws.specs.Dated.{AreSingleInOrder, map_of}
 use Rattle.daos_laws.specs.Decided.{AreDecided, Decided, taken_in}
-use Rattle.daos_laws.specs.Groups.{IsPartUnder}
+use Rattle.daos_laws.specs.Groups.{HasDkeys, IsPartUnder}
 use Rattle.daos_laws.specs.Matches.{GivesAsOf, Matches, counts_under}
 
 abbrev pub is_target : ℕ → ℕ → Bool
@@ -55,3 +56,13 @@ abbrev pub OpeningsMatch : Type 0
 OpeningsMatch =
     (F : List Durable) (t : ℕ) (d : Durable) (mark : ℕ) → Agree F → slice_get F t ≡ Some d → ((v : Version) → Contains d.versions v → v.epoch.0 < mark)
     → Matches (is_own (length F) t) (counts F) d.versions (stand F) [] mark
+
+-- no cell without a dkey holds anything: of what a family in form stands for, nor as of an epoch, where that holds of the opening
+abbrev pub FamiliesHaveDkeys : Type 0
+FamiliesHaveDkeys =
+    (F : List Durable) (p : Version → Bool) → ((d : Durable) → Contains F d → list_all is_version_in_form d.versions ≡ true) → HasDkeys (family_map p F)
+
+abbrev pub AsOfHasDkeys : Type 0
+AsOfHasDkeys =
+    (opening : Stand) (all : List Decided) (e : ℕ) → HasDkeys opening.now → ((d : Decided) → Contains all d → All (λ w. is_write_in_form w.write ≡ true) d.writes)
+    → HasDkeys (as_of opening (taken_in all) e)
