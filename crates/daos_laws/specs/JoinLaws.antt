@@ -39,7 +39,7 @@ use Rattle.daos_laws.specs.WriteLaws.{after_write, value-effect}
 
 -- ---- the numbers of groups
 
-has-range : (a n g : ℕ) → a ≤ g → g < a + n → Has g (range_with_len a n)
+pub has-range : (a n g : ℕ) → a ≤ g → g < a + n → Has g (range_with_len a n)
 has-range a zero g le lt = absurd (omega arith)
 has-range a (suc n) g le lt = by (λ more. has-range (a + 1) n g more (omega arith)) (cases_eq g a)
   where

@@ -1,6 +1,6 @@
 -- What each target holds of the map, and what all targets stand for together.
 use Rattle.std.specs.Prelude.{ℕ, zero, suc, ◌≡◌, ◌≢◌, ◌<◌, ◌≤◌, ◌+◌, ◌⊎◌, ◌==◌, ◌^◌, Bool, true, false, ◌&&◌, ◌||◌, nat_le, nat_lt, is_none, is_some, List, [], ◌∷◌, ◌++◌, map, filter, length, Contains, slice_get, All, Option, Some, None, if◌then◌else◌, refl}
-use Rattle.std.specs.List.{list_all, list_any}
+use Rattle.std.specs.List.{list_all, list_any, range_with_len}
 use Rattle.std.specs.Option.{option_eq}
 use Rattle.std.proofs.Common.{sym, ◌∙◌, ap, subst, arith, inl, inr}
 use Rattle.std.proofs.lemmas.Bool.Decides.{nat_tests}
@@ -13,7 +13,7 @@ use Rattle.daos_base.specs.Keys.{same_key}
 use Rattle.daos_base.specs.Operations.{write_path}
 use Rattle.daos_base.specs.Paths.{leads_to, same_object}
 use Rattle.daos_base.specs.PathLaws.{same_object-Decides}
-use Rattle.daos_base.specs.Placement.{ClassFits, group_of, groups, leader_of, members, object_leader, object_members, path_leader, path_members}
+use Rattle.daos_base.specs.Placement.{ClassFits, group_of, groups, groups_members, leader_of, members, object_leader, object_members, path_leader, path_members}
 use Rattle.daos_base.specs.PlacementLaws.{group_of-within, leader_of-member, members-disjoint, members-within}
 use Rattle.daos_model.specs.declared.cell.Cell.{Cell}
 use Rattle.daos_model.specs.declared.cell.CellValue.{CellValue}
@@ -38,13 +38,13 @@ use Rattle.daos_laws.specs.DecidedLaws.{IsWriteOf, all-from_has, as_of-dated, ha
 use Rattle.daos_laws.specs.Groups.{HasDkeys, is_dkey_of_group, is_in_group}
 use Rattle.daos_laws.specs.Matches.{Matches, counts_under}
 use Rattle.daos_laws.specs.MatchLaws.{counted-has, filter_on, mark-from}
-use Rattle.daos_laws.specs.Members.{Has, any-has, contains-from_has, has-any, has-cases, has-from_contains, has-from_filter, has-from_map, has-left}
+use Rattle.daos_laws.specs.Members.{Has, any-has, contains-from_has, has-any, has-cases, has-from_contains, has-from_filter, has-from_map, has-left, has-right}
 use Rattle.daos_laws.specs.RisingLaws.{rising-same}
 use Rattle.daos_laws.specs.ServeLaws.{all-has, cont_test, obj_test, dkey_test, akey_test}
-use Rattle.daos_laws.specs.Targets.{AsOfHasDkeys, AsOfIsOfTheSet, FamiliesHaveDkeys, FamilyMapIsOfLeaders, MembersHoldParts, OpeningsMatch, is_own, is_target}
-use Rattle.daos_laws.specs.TouchLaws.{Newest, NewestAt, Untouched, newest-of, punch-values, update-path}
+use Rattle.daos_laws.specs.Targets.{AgreeingTargetsHoldTheMap, AsOfHasDkeys, AsOfIsOfTheSet, FamiliesHaveDkeys, FamilyMapIsOfLeaders, MembersHoldParts, OpeningsMatch, OwnCellsAreWrittenHere, is_own, is_target}
+use Rattle.daos_laws.specs.TouchLaws.{Newest, NewestAt, Untouched, newest-of, punch-path, punch-values, update-path}
 use Rattle.daos_laws.specs.VersionLaws.{rising-from_single}
-use Rattle.daos_laws.specs.JoinLaws.{effect-dkeys, writes-dkeys}
+use Rattle.daos_laws.specs.JoinLaws.{effect-dkeys, has-range, leads_to-dkey, writes-dkeys}
 use Rattle.daos_laws.specs.WriteLaws.{after_write, value-effect}
 
 -- ---- the order of decisions doesn't matter
@@ -263,6 +263,15 @@ leader-there c targets t some own = by c.path.obj c.path.dkey refl refl
           within = subst (λ u. u < targets) (sym lead) (has-all (λ u. u < targets) (members o (group_of o.class k targets) targets) (leader_of o (group_of o.class k targets) targets) (members-within o (group_of o.class k targets) targets some) one);
         }
 
+pub agreeing-hold : AgreeingTargetsHoldTheMap
+agreeing-hold F p t d c agree at own =
+    let leader = leader-there c (length F) t (let lt = slice_get_within F t d at in omega (arith, lt)) own in
+    let f = there-is F (path_leader c.path (length F)) leader.within in
+    let m = has-any (is_target t) (path_members c.path (length F)) (and_right (is_some c.path.dkey) (list_any (is_target t) (path_members c.path (length F))) own) in
+    agree c t (path_leader c.path (length F)) d f.0 (and_left (is_some c.path.dkey) (list_any (is_target t) (path_members c.path (length F))) own)
+    (contains-from_has (path_members c.path (length F)) t (subst (λ u. Has u (path_members c.path (length F))) (number_same m.0 t m.2) m.1)) leader.member at f.1
+    ∙ sym (family-leaders F p c f.0 f.1)
+
 pub openings-match : OpeningsMatch
 unfolding as_of stand
 openings-match F t d mark agree at below = record {
@@ -287,13 +296,45 @@ openings-match F t d mark agree at below = record {
         with_true false b e = refl
 
     leads : (c : Cell) → is_own (length F) t c ≡ true → value_at (map_where (counts F) d) c ≡ value_at (family_map (counts F) F) c
-    leads c own =
-        let leader = leader-there c (length F) t (let lt = slice_get_within F t d at in omega (arith, lt)) own in
-        let f = there-is F (path_leader c.path (length F)) leader.within in
-        let m = has-any (is_target t) (path_members c.path (length F)) (and_right (is_some c.path.dkey) (list_any (is_target t) (path_members c.path (length F))) own) in
-        agree.now c t (path_leader c.path (length F)) d f.0 (and_left (is_some c.path.dkey) (list_any (is_target t) (path_members c.path (length F))) own)
-        (contains-from_has (path_members c.path (length F)) t (subst (λ u. Has u (path_members c.path (length F))) (number_same m.0 t m.2) m.1)) leader.member at f.1
-        ∙ sym (family-leaders F (counts F) c f.0 f.1)
+    leads c own = agreeing-hold F (counts F) t d c agree.now at own
+
+-- ---- where a cell's writes are
+
+-- the members of a group among those of some groups
+group-among : (o : ObjId) (gs : List ℕ) (g targets t : ℕ) → Has g gs → Has t (members o g targets) → Has t (groups_members o gs targets)
+group-among o [] g targets t i j = absurd i
+group-among o (f ∷ gs) g targets t (inl same) j = has-left (members o f targets) (groups_members o gs targets) t (subst (λ h. Has t (members o h targets)) same j)
+group-among o (f ∷ gs) g targets t (inr i) j = has-right (members o f targets) (groups_members o gs targets) t (group-among o gs g targets t i j)
+
+pub own-here : OwnCellsAreWrittenHere
+unfolding path_members
+own-here targets t c w o obj fits own at = by (is_punch w) refl
+  where
+    any : (u : ℕ) × Has u (path_members c.path targets) × (is_target t u ≡ true)
+    any = has-any (is_target t) (path_members c.path targets) (and_right (is_some c.path.dkey) (list_any (is_target t) (path_members c.path targets)) own)
+
+    here : Has t (path_members c.path targets)
+    here = subst (λ u. Has u (path_members c.path targets)) (number_same any.0 t any.2) any.1
+
+    some : is_some c.path.dkey ≡ true
+    some = and_left (is_some c.path.dkey) (list_any (is_target t) (path_members c.path targets)) own
+
+    of_group : (k : List ℕ) → leads_to (write_path w) c.path ≡ true → c.path.dkey ≡ Some k → Has t (members o (group_of o.class k targets) targets)
+    of_group k under e = member-has c.path o k targets t (leads_to-obj (write_path w) c.path o obj under) e here
+
+    under_dkey : (x y : Option (List ℕ)) → leads_to (write_path w) c.path ≡ true → (write_path w).dkey ≡ x → c.path.dkey ≡ y → Has t (path_members (write_path w) targets)
+    under_dkey x None under e f = clash (is_some c.path.dkey) some (ap is_some f)
+    under_dkey None (Some k) under e f =
+        subst (Has t) (sym (ap (λ z. object_members z (write_path w).dkey targets) obj ∙ ap (λ z. object_members (Some o) z targets) e))
+        (group-among o (range_with_len 0 (groups o.class targets)) (group_of o.class k targets) targets t
+        (has-range 0 (groups o.class targets) (group_of o.class k targets) (omega arith) (let lt = group_of-within o.class k targets fits in omega (arith, lt))) (of_group k under f))
+    under_dkey (Some j) (Some k) under e f =
+        let same : c.path.dkey ≡ Some j = leads_to-dkey (write_path w) c.path j e under in
+        has-member (write_path w) o j targets t obj e (of_group j under same)
+
+    by : (b : Bool) → is_punch w ≡ b → Contains (path_members (write_path w) targets) t
+    by true e = contains-from_has (path_members (write_path w) targets) t (under_dkey (write_path w).dkey c.path.dkey (punch-path w c e at) refl refl)
+    by false e = contains-from_has (path_members (write_path w) targets) t (subst (λ p. Has t (path_members p targets)) (sym (update-path w c e at)) here)
 
 -- ---- dkeys
 
