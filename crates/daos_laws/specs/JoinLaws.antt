@@ -39,7 +39,7 @@ use Rattle.daos_laws.specs.WriteLaws.{after_write, value-effect}
 
 -- ---- the numbers of groups
 
-has-range : (a n g : ℕ) → a ≤ g → g < a + n → Has g (range_with_len a n)
+pub has-range : (a n g : ℕ) → a ≤ g → g < a + n → Has g (range_with_len a n)
 has-range a zero g le lt = absurd (omega arith)
 has-range a (suc n) g le lt = by (λ more. has-range (a + 1) n g more (omega arith)) (cases_eq g a)
   where
@@ -273,7 +273,7 @@ extent-dkeys p low (b ∷ bytes) c ends e =
     ap (λ t. if t then Some (b ∷ []) else value_at (extent_cells p (low + 1) bytes) c) (false_of (same_cell (index_cell p low) c) (λ same. other p c (ap (λ d. d.path) ((same_cell-Decides (index_cell p low) c).0 same)) ends e))
     ∙ extent-dkeys p (low + 1) bytes c ends e
 
-effect-dkeys : (w : Write) (m : List CellValue) → is_write_in_form w ≡ true → HasDkeys m → HasDkeys (effect w m)
+pub effect-dkeys : (w : Write) (m : List CellValue) → is_write_in_form w ≡ true → HasDkeys m → HasDkeys (effect w m)
 unfolding is_write_in_form touches
 effect-dkeys w m form has c e = value-effect c w m ∙ by w form
   where

@@ -22,7 +22,7 @@ use Rattle.daos_model.specs.Versions.{done_by, is_not_pending, is_pending, versi
 use Rattle.daos_laws.specs.Dated.{AreSingleInOrder, Dated, SameWritesAt, after_all, dated, dated_key, dated_of, is_about, is_earlier, is_from, is_within, map_of}
 use Rattle.daos_laws.specs.Decided.{AreDecided, Decided, all_dated, dated_by, taken_in}
 use Rattle.daos_laws.specs.DecidedLaws.{as_of-dated, before-epochs, epoch-dated, has-dated, has-from_dated, has-from_ordered, has-ordered, ordered, rising-ordered}
-use Rattle.daos_laws.specs.Matches.{AbortsKeepWrites, CommitsKeepWrites, CountsOnce, DecisionsKeepMatches, DecisionsKeepWhatIsBelow, GivesAsOf, HoldsWrite, IsAdded, MarksMayRise, Matches, MatchesGiveAsOf, PreparesKeepWrites, SameWritesKeepMatches, SameWritesKeepWhatIsBelow, counts_under}
+use Rattle.daos_laws.specs.Matches.{AbortsKeepWrites, CommitsKeepWrites, CountsOnce, DecisionsChangeNothingBelow, DecisionsKeepMatches, DecisionsKeepWhatIsBelow, GivesAsOf, HoldsWrite, IsAdded, MarksMayRise, Matches, MatchesGiveAsOf, PreparesKeepWrites, SameWritesKeepMatches, SameWritesKeepWhatIsBelow, SameWritesMakeTheSame, counts_under}
 use Rattle.daos_laws.specs.Members.{Has, contains-from_has, has-cases, has-filter, has-from_contains, has-from_filter, has-from_map, has-left, has-map, has-right}
 use Rattle.daos_laws.specs.RisingLaws.{rising-same}
 use Rattle.daos_laws.specs.VersionLaws.{after-append, after-same, filter-put, rising-append, rising-dated, value-effects}
@@ -212,9 +212,13 @@ ordered-added d all more e f g le added =
       | inr j ↦ absurd (let at = epoch-dated d x j in let lt = earlier-from e x h.1 in omega (arith, at, lt, le))
     ])
 
+pub decisions-nothing : DecisionsChangeNothingBelow
+decisions-nothing own d p q vs e le once =
+    ap (λ us. effects (writes_in us) []) (filter_on (counts_under q e) (counts_under p e) vs (λ v i. sym (counts_same own d p q vs e le once v i)))
+
 pub decisions-below : DecisionsKeepWhatIsBelow
 decisions-below own d p q vs opening all more e f g le once added gives c of =
-    ap (λ us. value_at (effects (writes_in us) []) c) (filter_on (counts_under q e) (counts_under p e) vs (λ v i. sym (counts_same own d p q vs e le once v i)))
+    ap (λ m. value_at m c) (decisions-nothing own d p q vs e le once)
     ∙ gives c of
     ∙ as_of-dated c opening all e
     ∙ ap (λ xs. after_all c xs (value_at opening.now c)) (ordered-added d all more e f g le added)
@@ -269,6 +273,9 @@ decisions-keep own d p q vs opening all more mark f g le once added m = record {
 }
 
 -- ---- the same writes
+
+pub same-maps : SameWritesMakeTheSame
+same-maps p q vs us e same c = gives-dated c p e vs ∙ ap (λ xs. after_all c (filter (is_earlier e) xs) None) same ∙ sym (gives-dated c q e us)
 
 pub same-below : SameWritesKeepWhatIsBelow
 same-below own p q vs us opening all e same gives c of =

@@ -15,6 +15,7 @@ use Rattle.daos_model.specs.AsOf.{as_of}
 use Rattle.daos_model.specs.Cells.{value_at}
 use Rattle.daos_model.specs.Durables.{is_version_in_form, version_key}
 use Rattle.daos_model.specs.Forms.{is_read_in_form}
+use Rattle.daos_model.specs.Finals.{SameMap}
 use Rattle.daos_model.specs.Ordered.{puts}
 use Rattle.daos_model.specs.Versions.{blocks_read, done_by, is_not_pending, is_pending, map_below, versions_of}
 use Rattle.daos_laws.specs.Dated.{AreSingleInOrder, Dated, SameWritesAt, dated, dated_of, is_about, is_from, map_of}
@@ -79,6 +80,12 @@ DecisionsKeepWhatIsBelow =
     (own : Cell → Bool) (d : Decided) (p q : Version → Bool) (vs : List Version) (opening : Stand) (all more : List Decided) (e : ℕ) → AreDecided all → AreDecided more
     → e ≤ d.epoch.0 → CountsOnce own d vs p q → IsAdded d all more → GivesAsOf own p vs opening all e → GivesAsOf own q vs opening more e
 
+-- the versions themselves make the same map below such an epoch
+abbrev pub DecisionsChangeNothingBelow : Type 0
+DecisionsChangeNothingBelow =
+    (own : Cell → Bool) (d : Decided) (p q : Version → Bool) (vs : List Version) (e : ℕ) → e ≤ d.epoch.0 → CountsOnce own d vs p q
+    → map_of (counts_under q e) vs ≡ map_of (counts_under p e) vs
+
 -- ---- changes after which the same writes count
 
 abbrev pub SameWritesKeepMatches : Type 0
@@ -90,6 +97,11 @@ abbrev pub SameWritesKeepWhatIsBelow : Type 0
 SameWritesKeepWhatIsBelow =
     (own : Cell → Bool) (p q : Version → Bool) (vs us : List Version) (opening : Stand) (all : List Decided) (e : ℕ) → dated_of p vs ≡ dated_of q us
     → GivesAsOf own p vs opening all e → GivesAsOf own q us opening all e
+
+-- they make the same map below every epoch
+abbrev pub SameWritesMakeTheSame : Type 0
+SameWritesMakeTheSame =
+    (p q : Version → Bool) (vs us : List Version) (e : ℕ) → dated_of p vs ≡ dated_of q us → SameMap (map_of (counts_under p e) vs) (map_of (counts_under q e) us)
 
 -- versions that are made done, where they counted before
 abbrev pub CommitsKeepWrites : Type 0

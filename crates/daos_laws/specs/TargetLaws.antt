@@ -1,6 +1,6 @@
 -- What each target holds of the map, and what all targets stand for together.
 use Rattle.std.specs.Prelude.{ℕ, zero, suc, ◌≡◌, ◌≢◌, ◌<◌, ◌≤◌, ◌+◌, ◌⊎◌, ◌==◌, ◌^◌, Bool, true, false, ◌&&◌, ◌||◌, nat_le, nat_lt, is_none, is_some, List, [], ◌∷◌, ◌++◌, map, filter, length, Contains, slice_get, All, Option, Some, None, if◌then◌else◌, refl}
-use Rattle.std.specs.List.{list_all, list_any}
+use Rattle.std.specs.List.{list_all, list_any, range_with_len}
 use Rattle.std.specs.Option.{option_eq}
 use Rattle.std.proofs.Common.{sym, ◌∙◌, ap, subst, arith, inl, inr}
 use Rattle.std.proofs.lemmas.Bool.Decides.{nat_tests}
@@ -13,7 +13,7 @@ use Rattle.daos_base.specs.Keys.{same_key}
 use Rattle.daos_base.specs.Operations.{write_path}
 use Rattle.daos_base.specs.Paths.{leads_to, same_object}
 use Rattle.daos_base.specs.PathLaws.{same_object-Decides}
-use Rattle.daos_base.specs.Placement.{ClassFits, group_of, groups, leader_of, members, object_leader, object_members, path_leader, path_members}
+use Rattle.daos_base.specs.Placement.{ClassFits, group_of, groups, groups_members, leader_of, members, object_leader, object_members, path_leader, path_members}
 use Rattle.daos_base.specs.PlacementLaws.{group_of-within, leader_of-member, members-disjoint, members-within}
 use Rattle.daos_model.specs.declared.cell.Cell.{Cell}
 use Rattle.daos_model.specs.declared.cell.CellValue.{CellValue}
@@ -31,19 +31,21 @@ use Rattle.daos_model.specs.OrderLaws.{rising-filter}
 use Rattle.daos_model.specs.Ordered.{is_rising}
 use Rattle.daos_model.specs.Prunes.{is_punch, touches, values_of}
 use Rattle.daos_model.specs.Sameness.{same_cell-Decides}
-use Rattle.daos_model.specs.Versions.{version_path, writes_in}
+use Rattle.daos_model.specs.Versions.{version_path, writes_in, written_by}
 use Rattle.daos_laws.specs.Dated.{AreSingleInOrder, Dated, after_all, dated, dated_of, dated_key, is_from, map_of}
-use Rattle.daos_laws.specs.Decided.{AreDecided, Decided, all_dated, taken_in}
-use Rattle.daos_laws.specs.DecidedLaws.{IsWriteOf, as_of-dated, has-all, has-dated, has-from_dated, has-from_ordered, has-ordered, ordered, rising-ordered}
-use Rattle.daos_laws.specs.Groups.{is_dkey_of_group, is_in_group}
+use Rattle.daos_laws.specs.Decided.{AreDecided, Decided, all_dated, dated_at, taken_in}
+use Rattle.daos_laws.specs.DecidedLaws.{IsWriteOf, all-from_has, as_of-dated, has-all, has-dated, has-from_dated, has-from_ordered, has-ordered, ordered, rising-ordered}
+use Rattle.daos_laws.specs.Groups.{HasDkeys, is_dkey_of_group, is_in_group}
 use Rattle.daos_laws.specs.Matches.{Matches, counts_under}
 use Rattle.daos_laws.specs.MatchLaws.{counted-has, filter_on, mark-from}
-use Rattle.daos_laws.specs.Members.{Has, any-has, contains-from_has, has-any, has-cases, has-from_contains, has-from_filter, has-left}
+use Rattle.daos_laws.specs.Members.{Has, any-has, contains-from_has, has-any, has-cases, has-from_contains, has-from_filter, has-from_map, has-left, has-right}
 use Rattle.daos_laws.specs.RisingLaws.{rising-same}
 use Rattle.daos_laws.specs.ServeLaws.{all-has, cont_test, obj_test, dkey_test, akey_test}
-use Rattle.daos_laws.specs.Targets.{AsOfIsOfTheSet, FamilyMapIsOfLeaders, MembersHoldParts, OpeningsMatch, is_own, is_target}
-use Rattle.daos_laws.specs.TouchLaws.{Newest, NewestAt, Untouched, newest-of, punch-values, update-path}
+use Rattle.daos_laws.specs.Targets.{AgreeingTargetsHoldTheMap, AsOfHasDkeys, AsOfIsOfTheSet, FamiliesHaveDkeys, FamilyMapIsOfLeaders, MembersHoldParts, OpeningsMatch, OwnCellsAreWrittenHere, is_own, is_target}
+use Rattle.daos_laws.specs.TouchLaws.{Newest, NewestAt, Untouched, newest-of, punch-path, punch-values, update-path}
 use Rattle.daos_laws.specs.VersionLaws.{rising-from_single}
+use Rattle.daos_laws.specs.JoinLaws.{effect-dkeys, has-range, leads_to-dkey, writes-dkeys}
+use Rattle.daos_laws.specs.WriteLaws.{after_write, value-effect}
 
 -- ---- the order of decisions doesn't matter
 
@@ -261,6 +263,15 @@ leader-there c targets t some own = by c.path.obj c.path.dkey refl refl
           within = subst (λ u. u < targets) (sym lead) (has-all (λ u. u < targets) (members o (group_of o.class k targets) targets) (leader_of o (group_of o.class k targets) targets) (members-within o (group_of o.class k targets) targets some) one);
         }
 
+pub agreeing-hold : AgreeingTargetsHoldTheMap
+agreeing-hold F p t d c agree at own =
+    let leader = leader-there c (length F) t (let lt = slice_get_within F t d at in omega (arith, lt)) own in
+    let f = there-is F (path_leader c.path (length F)) leader.within in
+    let m = has-any (is_target t) (path_members c.path (length F)) (and_right (is_some c.path.dkey) (list_any (is_target t) (path_members c.path (length F))) own) in
+    agree c t (path_leader c.path (length F)) d f.0 (and_left (is_some c.path.dkey) (list_any (is_target t) (path_members c.path (length F))) own)
+    (contains-from_has (path_members c.path (length F)) t (subst (λ u. Has u (path_members c.path (length F))) (number_same m.0 t m.2) m.1)) leader.member at f.1
+    ∙ sym (family-leaders F p c f.0 f.1)
+
 pub openings-match : OpeningsMatch
 unfolding as_of stand
 openings-match F t d mark agree at below = record {
@@ -285,10 +296,83 @@ openings-match F t d mark agree at below = record {
         with_true false b e = refl
 
     leads : (c : Cell) → is_own (length F) t c ≡ true → value_at (map_where (counts F) d) c ≡ value_at (family_map (counts F) F) c
-    leads c own =
-        let leader = leader-there c (length F) t (let lt = slice_get_within F t d at in omega (arith, lt)) own in
-        let f = there-is F (path_leader c.path (length F)) leader.within in
-        let m = has-any (is_target t) (path_members c.path (length F)) (and_right (is_some c.path.dkey) (list_any (is_target t) (path_members c.path (length F))) own) in
-        agree.now c t (path_leader c.path (length F)) d f.0 (and_left (is_some c.path.dkey) (list_any (is_target t) (path_members c.path (length F))) own)
-        (contains-from_has (path_members c.path (length F)) t (subst (λ u. Has u (path_members c.path (length F))) (number_same m.0 t m.2) m.1)) leader.member at f.1
-        ∙ sym (family-leaders F (counts F) c f.0 f.1)
+    leads c own = agreeing-hold F (counts F) t d c agree.now at own
+
+-- ---- where a cell's writes are
+
+-- the members of a group among those of some groups
+group-among : (o : ObjId) (gs : List ℕ) (g targets t : ℕ) → Has g gs → Has t (members o g targets) → Has t (groups_members o gs targets)
+group-among o [] g targets t i j = absurd i
+group-among o (f ∷ gs) g targets t (inl same) j = has-left (members o f targets) (groups_members o gs targets) t (subst (λ h. Has t (members o h targets)) same j)
+group-among o (f ∷ gs) g targets t (inr i) j = has-right (members o f targets) (groups_members o gs targets) t (group-among o gs g targets t i j)
+
+pub own-here : OwnCellsAreWrittenHere
+unfolding path_members
+own-here targets t c w o obj fits own at = by (is_punch w) refl
+  where
+    any : (u : ℕ) × Has u (path_members c.path targets) × (is_target t u ≡ true)
+    any = has-any (is_target t) (path_members c.path targets) (and_right (is_some c.path.dkey) (list_any (is_target t) (path_members c.path targets)) own)
+
+    here : Has t (path_members c.path targets)
+    here = subst (λ u. Has u (path_members c.path targets)) (number_same any.0 t any.2) any.1
+
+    some : is_some c.path.dkey ≡ true
+    some = and_left (is_some c.path.dkey) (list_any (is_target t) (path_members c.path targets)) own
+
+    of_group : (k : List ℕ) → leads_to (write_path w) c.path ≡ true → c.path.dkey ≡ Some k → Has t (members o (group_of o.class k targets) targets)
+    of_group k under e = member-has c.path o k targets t (leads_to-obj (write_path w) c.path o obj under) e here
+
+    under_dkey : (x y : Option (List ℕ)) → leads_to (write_path w) c.path ≡ true → (write_path w).dkey ≡ x → c.path.dkey ≡ y → Has t (path_members (write_path w) targets)
+    under_dkey x None under e f = clash (is_some c.path.dkey) some (ap is_some f)
+    under_dkey None (Some k) under e f =
+        subst (Has t) (sym (ap (λ z. object_members z (write_path w).dkey targets) obj ∙ ap (λ z. object_members (Some o) z targets) e))
+        (group-among o (range_with_len 0 (groups o.class targets)) (group_of o.class k targets) targets t
+        (has-range 0 (groups o.class targets) (group_of o.class k targets) (omega arith) (let lt = group_of-within o.class k targets fits in omega (arith, lt))) (of_group k under f))
+    under_dkey (Some j) (Some k) under e f =
+        let same : c.path.dkey ≡ Some j = leads_to-dkey (write_path w) c.path j e under in
+        has-member (write_path w) o j targets t obj e (of_group j under same)
+
+    by : (b : Bool) → is_punch w ≡ b → Contains (path_members (write_path w) targets) t
+    by true e = contains-from_has (path_members (write_path w) targets) t (under_dkey (write_path w).dkey c.path.dkey (punch-path w c e at) refl refl)
+    by false e = contains-from_has (path_members (write_path w) targets) t (subst (λ p. Has t (path_members p targets)) (sym (update-path w c e at)) here)
+
+-- ---- dkeys
+
+-- the versions of a target in form leave nothing at a cell without a dkey
+target-dkeys : (p : Version → Bool) (vs : List Version) → list_all is_version_in_form vs ≡ true → HasDkeys (effects (writes_in (filter p vs)) [])
+target-dkeys p vs forms = writes-dkeys (writes_in (filter p vs)) [] (all-from_has (λ w. is_write_in_form w ≡ true) (writes_in (filter p vs)) in_form) (λ c e. refl)
+  where
+    in_form : (w : Write) → Has w (writes_in (filter p vs)) → is_write_in_form w ≡ true
+    in_form w i =
+        let v = has-from_map written_by (filter p vs) w i in
+        ap is_write_in_form (sym v.2) ∙ all-has is_version_in_form vs v.0 forms (has-from_filter p vs v.0 v.1).0
+
+joined-dkeys : (targets t : ℕ) (p : Version → Bool) (ds : List Durable) → ((d : Durable) → Has d ds → list_all is_version_in_form d.versions ≡ true) → HasDkeys (joined targets t p ds)
+joined-dkeys targets t p [] forms c e = refl
+joined-dkeys targets t p (d ∷ ds) forms c e =
+    append-none (filter (is_led_by targets t) (map_where p d)) (joined targets (t + 1) p ds) c
+    (value-filter (is_led targets t) (map_where p d) c ∙ none (is_led targets t c) (value_at (map_where p d) c) (target-dkeys p d.versions (forms d (inl refl)) c e))
+    ∙ joined-dkeys targets (t + 1) p ds (λ f i. forms f (inr i)) c e
+  where
+    none : (b : Bool) (o : Option (List ℕ)) → o ≡ None → (if b then o else None) ≡ None
+    none true o h = h
+    none false o h = refl
+
+pub families-dkeys : FamiliesHaveDkeys
+families-dkeys F p forms = joined-dkeys (length F) 0 p F (λ d i. forms d (contains-from_has F d i))
+
+after-dkeys : (c : Cell) (xs : List Dated) (held : Option (List ℕ)) → c.path.dkey ≡ None → ((x : Dated) → Has x xs → is_write_in_form x.write ≡ true) → held ≡ None → after_all c xs held ≡ None
+after-dkeys c [] held e forms none = none
+after-dkeys c (x ∷ xs) held e forms none =
+    after-dkeys c xs (after_write c x.write held) e (λ y i. forms y (inr i))
+    (ap (after_write c x.write) none ∙ sym (value-effect c x.write []) ∙ effect-dkeys x.write [] (forms x (inl refl)) (λ d f. refl) c e)
+
+pub as_of-dkeys : AsOfHasDkeys
+as_of-dkeys opening all e has forms c none =
+    as_of-dated c opening all e ∙ after-dkeys c (ordered e all) (value_at opening.now c) none in_form (has c none)
+  where
+    in_form : (x : Dated) → Has x (ordered e all) → is_write_in_form x.write ≡ true
+    in_form x i =
+        let w = has-from_dated all x (has-from_ordered e all x i).0 in
+        let m = has-from_map (dated_at w.by.epoch) w.by.writes x w.has in
+        ap (λ y. is_write_in_form y.write) (sym m.2) ∙ has-all (λ u. is_write_in_form u.write ≡ true) w.by.writes m.0 (forms w.by (contains-from_has all w.by w.among)) m.1

@@ -1,8 +1,10 @@
 -- What each target holds of the map, and what all targets stand for together.
-use Rattle.std.specs.Prelude.{ℕ, ◌≡◌, ◌<◌, ◌==◌, Bool, true, ◌&&◌, is_some, List, [], length, Contains, slice_get, Option, Some}
+use Rattle.std.specs.Prelude.{ℕ, ◌≡◌, ◌<◌, ◌==◌, Bool, true, ◌&&◌, is_some, All, List, [], length, Contains, slice_get, Option, Some}
 use Rattle.std.specs.List.{list_all, list_any}
 use Rattle.daos_base.specs.declared.id.ObjId.{ObjId}
+use Rattle.daos_base.specs.declared.operation.Write.{Write}
 use Rattle.daos_base.specs.declared.path.Path.{Path}
+use Rattle.daos_base.specs.Operations.{write_path}
 use Rattle.daos_base.specs.Placement.{ClassFits, groups, members, path_leader, path_members}
 use Rattle.daos_model.specs.declared.cell.Cell.{Cell}
 use Rattle.daos_model.specs.declared.durable.Durable.{Durable}
@@ -11,12 +13,14 @@ use Rattle.daos_model.specs.declared.stand.Stand.{Stand}
 use Rattle.daos_model.specs.AsOf.{as_of}
 use Rattle.daos_model.specs.Cells.{value_at}
 use Rattle.daos_model.specs.Durables.{is_version_in_form}
-use Rattle.daos_model.specs.Family.{Agree, counts, family_map, map_where, stand}
+use Rattle.daos_model.specs.Family.{Agree, AgreeOn, counts, family_map, map_where, stand}
 use Rattle.daos_model.specs.Finals.{SameMap}
+use Rattle.daos_model.specs.Forms.{is_write_in_form}
+use Rattle.daos_model.specs.Prunes.{touches}
 use Rattle.daos_model.specs.Versions.{version_path}
 use Rattle.daos_laws.specs.Dated.{AreSingleInOrder, map_of}
 use Rattle.daos_laws.specs.Decided.{AreDecided, Decided, taken_in}
-use Rattle.daos_laws.specs.Groups.{IsPartUnder}
+use Rattle.daos_laws.specs.Groups.{HasDkeys, IsPartUnder}
 use Rattle.daos_laws.specs.Matches.{GivesAsOf, Matches, counts_under}
 
 abbrev pub is_target : ℕ → ℕ → Bool
@@ -55,3 +59,26 @@ abbrev pub OpeningsMatch : Type 0
 OpeningsMatch =
     (F : List Durable) (t : ℕ) (d : Durable) (mark : ℕ) → Agree F → slice_get F t ≡ Some d → ((v : Version) → Contains d.versions v → v.epoch.0 < mark)
     → Matches (is_own (length F) t) (counts F) d.versions (stand F) [] mark
+
+-- no cell without a dkey holds anything: of what a family in form stands for, nor as of an epoch, where that holds of the opening
+abbrev pub FamiliesHaveDkeys : Type 0
+FamiliesHaveDkeys =
+    (F : List Durable) (p : Version → Bool) → ((d : Durable) → Contains F d → list_all is_version_in_form d.versions ≡ true) → HasDkeys (family_map p F)
+
+abbrev pub AsOfHasDkeys : Type 0
+AsOfHasDkeys =
+    (opening : Stand) (all : List Decided) (e : ℕ) → HasDkeys opening.now → ((d : Decided) → Contains all d → All (λ w. is_write_in_form w.write ≡ true) d.writes)
+    → HasDkeys (as_of opening (taken_in all) e)
+
+-- Where the members of each group agree, each target holds what the family does at its own cells: of what counts now, or below a
+-- snapshot.
+abbrev pub AgreeingTargetsHoldTheMap : Type 0
+AgreeingTargetsHoldTheMap =
+    (F : List Durable) (p : Version → Bool) (t : ℕ) (d : Durable) (c : Cell) → AgreeOn F p → slice_get F t ≡ Some d → is_own (length F) t c ≡ true
+    → value_at (map_where p d) c ≡ value_at (family_map p F) c
+
+-- a write that says what a target's own cell holds is one of the target's groups
+abbrev pub OwnCellsAreWrittenHere : Type 0
+OwnCellsAreWrittenHere =
+    (targets t : ℕ) (c : Cell) (w : Write) (o : ObjId) → (write_path w).obj ≡ Some o → ClassFits o.class targets → is_own targets t c ≡ true → touches c w ≡ true
+    → Contains (path_members (write_path w) targets) t

@@ -1,5 +1,5 @@
 // When what a target keeps stands for the transactions that were decided.
-ghost use Rattle.daos_laws.specs.Matches.{AbortsKeepWrites, CommitsKeepWrites, DecisionsKeepMatches, DecisionsKeepWhatIsBelow, MarksMayRise, MatchesGiveAsOf, PreparesKeepWrites, SameWritesKeepMatches, SameWritesKeepWhatIsBelow, ServedReadsSeeAll};
+ghost use Rattle.daos_laws.specs.Matches.{AbortsKeepWrites, CommitsKeepWrites, DecisionsChangeNothingBelow, DecisionsKeepMatches, DecisionsKeepWhatIsBelow, MarksMayRise, MatchesGiveAsOf, PreparesKeepWrites, SameWritesKeepMatches, SameWritesKeepWhatIsBelow, SameWritesMakeTheSame, ServedReadsSeeAll};
 
 /// Says what holds of a target's versions that match the decided transactions above a mark: at the
 /// cells of the target's groups they are the same writes at or above the mark, and give the map as
@@ -12,6 +12,8 @@ pub fn laws_of_matches()
     ensures rise { MarksMayRise }
     ensures decide { DecisionsKeepMatches }
     ensures below { DecisionsKeepWhatIsBelow }
+    ensures nothing { DecisionsChangeNothingBelow }
+    ensures maps { SameWritesMakeTheSame }
     ensures same { SameWritesKeepMatches }
     ensures same_below { SameWritesKeepWhatIsBelow }
     ensures commit { CommitsKeepWrites }

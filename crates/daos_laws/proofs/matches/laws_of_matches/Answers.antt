@@ -1,5 +1,5 @@
 use Rattle.daos_laws.specs.ServeLaws.{served-all}
-use Rattle.daos_laws.specs.MatchLaws.{aborts-keep, commits-keep, decisions-below, decisions-keep, marks-rise, matches-give, prepares-keep, same-below, same-keep}
+use Rattle.daos_laws.specs.MatchLaws.{aborts-keep, commits-keep, decisions-below, decisions-keep, decisions-nothing, marks-rise, matches-give, prepares-keep, same-below, same-keep, same-maps}
 use Rattle.daos_laws.proofs.matches.laws_of_matches.Goals as goal
 
 pub returns : goal.returns
@@ -8,6 +8,8 @@ returns c = record {
   rise = marks-rise;
   decide = decisions-keep;
   below = decisions-below;
+  nothing = decisions-nothing;
+  maps = same-maps;
   same = same-keep;
   same_below = same-below;
   commit = commits-keep;

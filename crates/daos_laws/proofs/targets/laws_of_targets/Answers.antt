@@ -1,5 +1,14 @@
-use Rattle.daos_laws.specs.TargetLaws.{as_of-set, family-leaders, members-parts, openings-match}
+use Rattle.daos_laws.specs.TargetLaws.{agreeing-hold, as_of-dkeys, as_of-set, families-dkeys, family-leaders, members-parts, openings-match, own-here}
 use Rattle.daos_laws.proofs.targets.laws_of_targets.Goals as goal
 
 pub returns : goal.returns
-returns c = record { parts = members-parts; set = as_of-set; leaders = family-leaders; openings = openings-match }
+returns c = record {
+  parts = members-parts;
+  set = as_of-set;
+  leaders = family-leaders;
+  agreeing = agreeing-hold;
+  here = own-here;
+  openings = openings-match;
+  families = families-dkeys;
+  dkeys = as_of-dkeys;
+}
