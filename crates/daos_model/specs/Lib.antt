@@ -22,3 +22,4 @@ pub mod Kinds
 pub mod BoolLaws
 pub mod OrderLaws
 pub mod FormLaws
+pub mod PruneLaws
