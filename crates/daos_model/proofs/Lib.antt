@@ -6,3 +6,5 @@ pub mod PieceSteps
 pub mod InForm
 pub mod Sights
 pub mod AnswerKinds
+pub mod Said
+pub mod Pruning

@@ -33,3 +33,4 @@ pub mod Laws
 pub mod BoolLaws
 pub mod OrderLaws
 pub mod FormLaws
+pub mod PruneLaws
