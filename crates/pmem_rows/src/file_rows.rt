@@ -7,10 +7,10 @@ use daos_files::file_region::FileRegion;
 use daos_outside::rack::Rack;
 use daos_outside::region::Region;
 use pmem_undo::undo_region::UndoRegion;
-use std::fs;
 use std::fs::File;
 use std::rt::Files;
 use std::test::Fail;
+use std::{fs, process};
 
 // The region of target 0, where it has the size of these rows.
 fn region<R: Files<File = File> + Drop>(rack: &mut FileRack<R>, size: u64) -> Option<FileRegion>
@@ -25,7 +25,9 @@ fn region<R: Files<File = File> + Drop>(rack: &mut FileRack<R>, size: u64) -> Op
 
 #[test]
 fn a_commit_over_a_file_lasts(rt: HostRuntime) -> Result<(), Fail> {
-    let folder = "/tmp/pmem-rows-commit";
+    let id = process::id(rt.process());
+    let name = format!(in rt.alloc(); "/tmp/pmem-rows-commit-{id}")?;
+    let folder = name.as_str();
     let _ = fs::remove_dir_all(&rt, folder);
     let mut rack = FileRack::new(rt.alloc(), &rt, folder)?;
     let file = region(&mut rack, SIZE).ok_or("region")?;
@@ -38,7 +40,9 @@ fn a_commit_over_a_file_lasts(rt: HostRuntime) -> Result<(), Fail> {
 
 #[test]
 fn a_rack_of_files_keeps_their_bytes_and_sizes(rt: HostRuntime) -> Result<(), Fail> {
-    let folder = "/tmp/pmem-rows-rack";
+    let id = process::id(rt.process());
+    let name = format!(in rt.alloc(); "/tmp/pmem-rows-rack-{id}")?;
+    let folder = name.as_str();
     let _ = fs::remove_dir_all(&rt, folder);
     let mut rack = FileRack::new(rt.alloc(), &rt, folder)?;
     let mut file = region(&mut rack, SIZE).ok_or("region")?;
