@@ -18,3 +18,4 @@ pub mod PruneMatchLaws
 pub mod ServeLaws
 pub mod Targets
 pub mod TargetLaws
+pub mod StandLaws

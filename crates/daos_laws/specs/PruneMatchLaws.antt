@@ -15,10 +15,11 @@ use Rattle.daos_model.specs.declared.cell.Cell.{Cell}
 use Rattle.daos_model.specs.declared.durable.Durable.{Durable}
 use Rattle.daos_model.specs.declared.durable.Version.{Version}
 use Rattle.daos_model.specs.BoolLaws.{and_left, clash, not_false}
+use Rattle.daos_model.specs.Cells.{value_at}
 use Rattle.daos_model.specs.Changes.{pruned, with_versions}
 use Rattle.daos_model.specs.Prunes.{Partly, is_going, is_old, is_punch, is_staying, touches}
 use Rattle.daos_model.specs.Versions.{map_below, sees, version_path}
-use Rattle.daos_laws.specs.Dated.{AreSingleInOrder, Dated, SameWritesAt, dated, dated_of, is_from}
+use Rattle.daos_laws.specs.Dated.{AreSingleInOrder, Dated, SameWritesAt, dated, dated_of, is_from, map_of}
 use Rattle.daos_laws.specs.Matches.{Matches, counts_under}
 use Rattle.daos_laws.specs.MatchLaws.{counted-has, has-counted, mark-from, marks-rise}
 use Rattle.daos_laws.specs.Members.{Has, contains-from_has, has-filter, has-from_contains, has-from_filter}
@@ -123,6 +124,24 @@ touches-cont k w at = by (is_punch w) refl
     by true e = leads_to-cont (write_path w) k.path (punch-path w k e at)
     by false e = ap (λ q. q.cont.0) (update-path w k e at)
 
+-- a prune changes nothing at a cell of another container
+pub prunes-elsewhere : (c : ContId) (upto : Epoch) (snaps : List Snap) (t : Version → Bool) (vs ws : List Version) (k : Cell) → AreSingleInOrder vs
+    → Partly vs (is_going c upto vs snaps) ws → k.path.cont.0 ≢ c.0 → value_at (map_of t ws) k ≡ value_at (map_of t vs) k
+prunes-elsewhere c upto snaps t vs ws k form cut apart =
+    maps-same t t ws vs k (prunes-order vs ws (is_going c upto vs snaps) form cut) form
+    (λ x about. (
+      λ i. contains-from_has (dated_of t vs) x (write-left t cut.stays vs x (subst (λ us. Has x (dated_of t us)) cut.left (has-from_contains (dated_of t ws) x i))),
+      λ i.
+          contains-from_has (dated_of t ws) x
+          (subst (λ us. Has x (dated_of t us)) (sym cut.left)
+          (left-write t cut.stays vs x (λ v j same. keeps x about v same) (has-from_contains (dated_of t vs) x i))),
+    ))
+  where
+    keeps : (x : Dated) → touches k x.write ≡ true → (v : Version) → dated v ≡ x → cut.stays v ≡ true
+    keeps x about v same =
+        stays-not_going c upto snaps vs ws cut v
+        (λ going. apart (sym (touches-cont k v.write (ap (λ y. touches k y.write) same ∙ about)) ∙ old-cont c upto v (going-old c upto vs snaps v going)))
+
 pub prunes-others : PrunesKeepOthers
 prunes-others c upto snaps own p vs ws opening all mark form cut apart m = record {
   above = λ k of x about. (
@@ -133,18 +152,7 @@ prunes-others c upto snaps own p vs ws opening all mark form cut apart m = recor
         let h = from (dated_of p vs) x ((m.above k of x about).1 i) in
         into (dated_of p ws) x (subst (λ us. Has x (dated_of p us)) (sym cut.left) (left-write p cut.stays vs x (λ v j same. keeps k of x about v same) h.0)) h.1,
   );
-  at_mark = λ k of.
-      maps-same (counts_under p mark) (counts_under p mark) ws vs k (prunes-order vs ws (is_going c upto vs snaps) form cut) form
-      (λ x about. (
-        λ i.
-            contains-from_has (dated_of (counts_under p mark) vs) x
-            (write-left (counts_under p mark) cut.stays vs x (subst (λ us. Has x (dated_of (counts_under p mark) us)) cut.left (has-from_contains (dated_of (counts_under p mark) ws) x i))),
-        λ i.
-            contains-from_has (dated_of (counts_under p mark) ws) x
-            (subst (λ us. Has x (dated_of (counts_under p mark) us)) (sym cut.left)
-            (left-write (counts_under p mark) cut.stays vs x (λ v j same. keeps k of x about v same) (has-from_contains (dated_of (counts_under p mark) vs) x i))),
-      ))
-      ∙ m.at_mark k of;
+  at_mark = λ k of. prunes-elsewhere c upto snaps (counts_under p mark) vs ws k form cut (apart k of) ∙ m.at_mark k of;
 }
   where
     from : (xs : List Dated) (x : Dated) → Contains (filter (is_from mark) xs) x → Has x xs × (is_from mark x ≡ true)

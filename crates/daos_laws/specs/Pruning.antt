@@ -1,5 +1,5 @@
 -- What a prune leaves as it is.
-use Rattle.std.specs.Prelude.{ℕ, ◌≡◌, ◌≢◌, ◌+◌, ◌<◌, ◌≤◌, ◌⊎◌, Bool, true, List, filter, Contains}
+use Rattle.std.specs.Prelude.{ℕ, ◌≡◌, ◌≢◌, ◌+◌, ◌<◌, ◌≤◌, ◌⊎◌, Bool, true, List, [], ◌∷◌, filter, Contains}
 use Rattle.daos_base.specs.declared.epoch.Epoch.{Epoch}
 use Rattle.daos_base.specs.declared.id.ContId.{ContId}
 use Rattle.daos_base.specs.declared.operation.Read.{Read}
@@ -7,9 +7,12 @@ use Rattle.daos_base.specs.declared.snapshot.Snap.{Snap}
 use Rattle.daos_model.specs.declared.cell.Cell.{Cell}
 use Rattle.daos_model.specs.declared.durable.Durable.{Durable}
 use Rattle.daos_model.specs.declared.durable.Version.{Version}
+use Rattle.daos_model.specs.declared.stand.SnapMap.{SnapMap}
 use Rattle.daos_model.specs.declared.stand.Stand.{Stand}
 use Rattle.daos_model.specs.Answers.{answer}
 use Rattle.daos_model.specs.Changes.{pruned}
+use Rattle.daos_model.specs.Durables.{is_frozen}
+use Rattle.daos_model.specs.Family.{created_snaps, stand}
 use Rattle.daos_model.specs.Finals.{SameMap}
 use Rattle.daos_model.specs.Prunes.{Partly, is_going}
 use Rattle.daos_model.specs.Versions.{map_below}
@@ -73,3 +76,42 @@ abbrev pub PrunesKeepWhatIsGiven : Type 0
 PrunesKeepWhatIsGiven =
     (c : ContId) (upto : Epoch) (snaps : List Snap) (own : Cell → Bool) (p : Version → Bool) (vs ws : List Version) (opening : Stand) (all : List Decided) (e : ℕ) → AreSingleInOrder vs
     → DoneCount p → Partly vs (is_going c upto vs snaps) ws → IsSight c upto snaps e → GivesAsOf own p vs opening all e → GivesAsOf own p ws opening all e
+
+-- ---- all targets
+
+-- what a target keeps is pruned, whole or cut, or stays; its entries and snapshots stay
+pub record IsPruned (c : ContId) (upto : Epoch) (d f : Durable) : Type 0 where
+  pub versions : Partly d.versions (is_going c upto d.versions d.snaps) f.versions
+  pub entries : f.entries ≡ d.entries
+  pub snaps : f.snaps ≡ d.snaps
+
+abbrev pub ArePruned : ContId → Epoch → List Durable → List Durable → Type 0
+ArePruned c upto [] [] = Unit {0}
+ArePruned c upto [] (f ∷ G) = ⊥
+ArePruned c upto (d ∷ F) [] = ⊥
+ArePruned c upto (d ∷ F) (f ∷ G) = IsPruned c upto d f × ArePruned c upto F G
+
+-- two snapshots hold the same
+pub record SameSnap (a b : SnapMap) : Type 0 where
+  pub cont : a.cont ≡ b.cont
+  pub epoch : a.epoch ≡ b.epoch
+  pub map : SameMap a.map b.map
+
+abbrev pub SameSnaps : List SnapMap → List SnapMap → Type 0
+SameSnaps [] [] = Unit {0}
+SameSnaps [] (b ∷ bs) = ⊥
+SameSnaps (a ∷ as') [] = ⊥
+SameSnaps (a ∷ as') (b ∷ bs) = SameSnap a b × SameSnaps as' bs
+
+pub record SameStand (a b : Stand) : Type 0 where
+  pub now : SameMap a.now b.now
+  pub snaps : SameSnaps a.snaps b.snaps
+
+-- versions in order, and all created snapshots frozen
+pub record IsReady (snaps : List Snap) (d : Durable) : Type 0 where
+  pub form : AreSingleInOrder d.versions
+  pub frozen : (s : Snap) → Contains snaps s → is_frozen d s.cont s.epoch ≡ true
+
+-- prunes of a container, wherever they were made or cut, leave what all targets stand for
+abbrev pub PrunesKeepStand : Type 0
+PrunesKeepStand = (c : ContId) (upto : Epoch) (F G : List Durable) → ((d : Durable) → Contains F d → IsReady (created_snaps F) d) → ArePruned c upto F G → SameStand (stand G) (stand F)

@@ -41,7 +41,7 @@ use Rattle.daos_laws.specs.MatchLaws.{counted-has, filter_on, mark-from}
 use Rattle.daos_laws.specs.Members.{Has, any-has, contains-from_has, has-any, has-cases, has-from_contains, has-from_filter, has-from_map, has-left, has-right}
 use Rattle.daos_laws.specs.RisingLaws.{rising-same}
 use Rattle.daos_laws.specs.ServeLaws.{all-has, cont_test, obj_test, dkey_test, akey_test}
-use Rattle.daos_laws.specs.Targets.{AgreeingTargetsHoldTheMap, AsOfHasDkeys, AsOfIsOfTheSet, FamiliesHaveDkeys, FamilyMapIsOfLeaders, MembersHoldParts, OpeningsMatch, OwnCellsAreWrittenHere, is_own, is_target}
+use Rattle.daos_laws.specs.Targets.{AgreeingTargetsHoldTheMap, AsOfHasDkeys, AsOfIsOfTheSet, FamiliesAgree, FamiliesGiveAsOf, FamiliesHaveDkeys, FamilyMapIsOfLeaders, MembersHoldParts, OpeningsMatch, OwnCellsAreWrittenHere, is_own, is_target}
 use Rattle.daos_laws.specs.TouchLaws.{Newest, NewestAt, Untouched, newest-of, punch-path, punch-values, update-path}
 use Rattle.daos_laws.specs.VersionLaws.{rising-from_single}
 use Rattle.daos_laws.specs.JoinLaws.{effect-dkeys, has-range, leads_to-dkey, writes-dkeys}
@@ -64,10 +64,10 @@ as_of-set opening ds fs e f g to back c =
 
 -- ---- parts
 
-same_number : (n : ℕ) → (n == n) ≡ true
+pub same_number : (n : ℕ) → (n == n) ≡ true
 same_number n = grind (arith, nat_tests)
 
-number_same : (m n : ℕ) → (m == n) ≡ true → m ≡ n
+pub number_same : (m n : ℕ) → (m == n) ≡ true → m ≡ n
 number_same m n h = grind (arith, nat_tests)
 
 -- a cell that no update sets holds nothing
@@ -156,7 +156,7 @@ members-parts o g targets t p q vs opening all e fits within member obj form for
 
 -- ---- families
 
-append-none : (xs m : List CellValue) (c : Cell) → value_at xs c ≡ None → value_at (xs ++ m) c ≡ value_at m c
+pub append-none : (xs m : List CellValue) (c : Cell) → value_at xs c ≡ None → value_at (xs ++ m) c ≡ value_at m c
 append-none [] m c e = refl
 append-none (v ∷ xs) m c e = by (λ h. append-none xs m c h) (same_cell v.cell c) refl e
   where
@@ -165,12 +165,12 @@ append-none (v ∷ xs) m c e = by (λ h. append-none xs m c h) (same_cell v.cell
     by rest true f h = absurd (let n : ⊥ = cc in n)
     by rest false f h = ap (λ b. if b then Some v.bytes else value_at (xs ++ m) c) f ∙ rest h
 
-append-end : (xs m : List CellValue) (c : Cell) → value_at m c ≡ None → value_at (xs ++ m) c ≡ value_at xs c
+pub append-end : (xs m : List CellValue) (c : Cell) → value_at m c ≡ None → value_at (xs ++ m) c ≡ value_at xs c
 append-end [] m c e = e
 append-end (v ∷ xs) m c e = ap (λ o. if same_cell v.cell c then Some v.bytes else o) (append-end xs m c e)
 
 -- what a map holds of the cells that pass a test
-value-filter : (q : Cell → Bool) (m : List CellValue) (c : Cell) → value_at (filter (λ v. q v.cell) m) c ≡ (if q c then value_at m c else None)
+pub value-filter : (q : Cell → Bool) (m : List CellValue) (c : Cell) → value_at (filter (λ v. q v.cell) m) c ≡ (if q c then value_at m c else None)
 value-filter q [] c = nothing (q c)
   where
     nothing : (b : Bool) → value_at [] c ≡ (if b then value_at [] c else None)
@@ -271,6 +271,22 @@ agreeing-hold F p t d c agree at own =
     agree c t (path_leader c.path (length F)) d f.0 (and_left (is_some c.path.dkey) (list_any (is_target t) (path_members c.path (length F))) own)
     (contains-from_has (path_members c.path (length F)) t (subst (λ u. Has u (path_members c.path (length F))) (number_same m.0 t m.2) m.1)) leader.member at f.1
     ∙ sym (family-leaders F p c f.0 f.1)
+
+pub families-give : FamiliesGiveAsOf
+families-give F p opening all e c gives own some =
+    let leader = leader-there c (length F) (path_leader c.path (length F)) some own in
+    let f = there-is F (path_leader c.path (length F)) leader.within in
+    family-leaders F (counts_under p e) c f.0 f.1 ∙ gives (path_leader c.path (length F)) f.0 f.1 c own
+
+-- a member of a cell with a dkey has it as its own
+own-from_member : (c : Cell) (targets t : ℕ) → is_some c.path.dkey ≡ true → Contains (path_members c.path targets) t → is_own targets t c ≡ true
+own-from_member c targets t dkey i =
+    both (is_some c.path.dkey) (list_any (is_target t) (path_members c.path targets)) dkey
+    (any-has (is_target t) (path_members c.path targets) t (has-from_contains (path_members c.path targets) t i) (same_number t))
+
+pub families-agree : FamiliesAgree
+families-agree F p opening all e gives c t u d f dkey i j at bt =
+    gives t d at c (own-from_member c (length F) t dkey i) ∙ sym (gives u f bt c (own-from_member c (length F) u dkey j))
 
 pub openings-match : OpeningsMatch
 unfolding as_of stand

@@ -82,3 +82,19 @@ abbrev pub OwnCellsAreWrittenHere : Type 0
 OwnCellsAreWrittenHere =
     (targets t : ℕ) (c : Cell) (w : Write) (o : ObjId) → (write_path w).obj ≡ Some o → ClassFits o.class targets → is_own targets t c ≡ true → touches c w ≡ true
     → Contains (path_members (write_path w) targets) t
+
+-- ---- what all targets stand for
+
+-- every target's versions that count give the map as of an epoch at its own cells
+abbrev pub AllGiveAsOf : List Durable → (Version → Bool) → Stand → List Decided → ℕ → Type 0
+AllGiveAsOf F p opening all e = (t : ℕ) (d : Durable) → slice_get F t ≡ Some d → GivesAsOf (is_own (length F) t) p d.versions opening all e
+
+-- so the family's map holds what the map as of it holds at each cell that is its leader's own, and replicas agree
+abbrev pub FamiliesGiveAsOf : Type 0
+FamiliesGiveAsOf =
+    (F : List Durable) (p : Version → Bool) (opening : Stand) (all : List Decided) (e : ℕ) (c : Cell) → AllGiveAsOf F p opening all e
+    → is_own (length F) (path_leader c.path (length F)) c ≡ true → 0 < length F
+    → value_at (family_map (counts_under p e) F) c ≡ value_at (as_of opening (taken_in all) e) c
+
+abbrev pub FamiliesAgree : Type 0
+FamiliesAgree = (F : List Durable) (p : Version → Bool) (opening : Stand) (all : List Decided) (e : ℕ) → AllGiveAsOf F p opening all e → AgreeOn F (counts_under p e)

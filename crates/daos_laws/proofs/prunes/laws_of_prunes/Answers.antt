@@ -1,5 +1,6 @@
 use Rattle.daos_laws.specs.PruneLaws.{prunes-now, prunes-order, prunes-sights}
 use Rattle.daos_laws.specs.PruneMatchLaws.{prunes-answers, prunes-given, prunes-matches, prunes-others, prunes-whole}
+use Rattle.daos_laws.specs.StandLaws.{prunes-stand}
 use Rattle.daos_laws.proofs.prunes.laws_of_prunes.Goals as goal
 
 pub returns : goal.returns
@@ -12,4 +13,5 @@ returns c = record {
   matches = prunes-matches;
   others = prunes-others;
   given = prunes-given;
+  stand = prunes-stand;
 }

@@ -1,4 +1,4 @@
-use Rattle.daos_laws.specs.TargetLaws.{agreeing-hold, as_of-dkeys, as_of-set, families-dkeys, family-leaders, members-parts, openings-match, own-here}
+use Rattle.daos_laws.specs.TargetLaws.{agreeing-hold, as_of-dkeys, as_of-set, families-agree, families-dkeys, families-give, family-leaders, members-parts, openings-match, own-here}
 use Rattle.daos_laws.proofs.targets.laws_of_targets.Goals as goal
 
 pub returns : goal.returns
@@ -9,6 +9,8 @@ returns c = record {
   agreeing = agreeing-hold;
   here = own-here;
   openings = openings-match;
+  give = families-give;
+  agree = families-agree;
   families = families-dkeys;
   dkeys = as_of-dkeys;
 }
