@@ -8,3 +8,4 @@ pub mod Sights
 pub mod AnswerKinds
 pub mod Said
 pub mod Pruning
+pub mod Planned

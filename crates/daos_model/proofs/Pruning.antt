@@ -63,11 +63,11 @@ module _ (stays : Version → Bool) (s : ℕ) (c : Cell) where
   both_of v = stays v && sees s v
 
   -- a punch that has gone, on the cell
-  abbrev lost : Version → Bool
+  abbrev pub lost : Version → Bool
   lost v = not (stays v) && (is_punch v.write && touches c v.write)
 
   -- what is asked of a list: an update that has gone is hidden behind, and none that stays stands before a punch that has gone
-  abbrev Fine : List Version → Type 0
+  abbrev pub Fine : List Version → Type 0
   Fine [] = Unit {0}
   Fine (v ∷ vs) =
       (stays v ≡ false → is_punch v.write ≡ false → sees s v ≡ true → touches c v.write ≡ true → is_some (said (sees s) c vs) ≡ true)
@@ -109,15 +109,15 @@ from_at : (k : List ℕ) (front : List Version) (v : Version) (back : List Versi
 from_at k [] v back h = not_true (is_before (version_key v) k) (and_left (not (is_before (version_key v) k)) (all_from version_key k back) h)
 from_at k (f ∷ front) v back h = from_at k front v back (and_right (not (is_before (version_key f) k)) (all_from version_key k (front ++ v ∷ back)) h)
 
-behind : (front : List Version) (v : Version) (back : List Version) → is_in_order version_key (front ++ v ∷ back) ≡ true → all_from version_key (version_key v) back ≡ true
+pub behind : (front : List Version) (v : Version) (back : List Version) → is_in_order version_key (front ++ v ∷ back) ≡ true → all_from version_key (version_key v) back ≡ true
 behind [] v back h = and_left (all_from version_key (version_key v) back) (is_in_order version_key back) h
 behind (f ∷ front) v back h = behind front v back (and_right (all_from version_key (version_key f) (front ++ v ∷ back)) (is_in_order version_key (front ++ v ∷ back)) h)
 
-none_at : (t : Version → Bool) (front : List Version) (v : Version) (back : List Version) → list_any t (front ++ v ∷ back) ≡ false → t v ≡ false
+pub none_at : (t : Version → Bool) (front : List Version) (v : Version) (back : List Version) → list_any t (front ++ v ∷ back) ≡ false → t v ≡ false
 none_at t [] v back e = or_left (t v) (list_any t back) e
 none_at t (f ∷ front) v back e = none_at t front v back (or_right (t f) (list_any t (front ++ v ∷ back)) e)
 
-later_any : (t : Version → Bool) (front : List Version) (v : Version) (back : List Version) → is_in_order version_key (front ++ v ∷ back) ≡ true → ((w : Version) → t w ≡ true → is_before (version_key v) (version_key w) ≡ true) → list_any t (front ++ v ∷ back) ≡ true → list_any t back ≡ true
+pub later_any : (t : Version → Bool) (front : List Version) (v : Version) (back : List Version) → is_in_order version_key (front ++ v ∷ back) ≡ true → ((w : Version) → t w ≡ true → is_before (version_key v) (version_key w) ≡ true) → list_any t (front ++ v ∷ back) ≡ true → list_any t back ≡ true
 later_any t [] v back o above e =
     elim (t v) as (λ b. t v ≡ b → (b || list_any t back) ≡ true → list_any t back ≡ true) [
       | true ↦ λ is h. clash (is_before (version_key v) (version_key v)) (above v is) (before-itself (version_key v))
@@ -155,5 +155,5 @@ punch_path : (c : Cell) (w : Write) → is_punch w ≡ true → touches c w ≡ 
 unfolding touches
 punch_path c w k h = sym (ap (λ (b : Bool). if b then leads_to (write_path w) c.path else list_any (is_of c) (values_of w)) k) ∙ h
 
-over_update : (c : Cell) (p u : Write) → is_punch p ≡ true → is_punch u ≡ false → touches c p ≡ true → touches c u ≡ true → leads_to (write_path p) (write_path u) ≡ true
+pub over_update : (c : Cell) (p u : Write) → is_punch p ≡ true → is_punch u ≡ false → touches c p ≡ true → touches c u ≡ true → leads_to (write_path p) (write_path u) ≡ true
 over_update c p u kp ku tp tu = ap (leads_to (write_path p)) (sym (update_path c u ku tu)) ∙ punch_path c p kp tp

@@ -110,7 +110,7 @@ one_said c (x ∷ xs) h =
       | false ↦ λ e. one_said c xs e
     ] h
 
-by_update : (c : Cell) (w : Write) (t : Bool) → is_punch w ≡ false → touches c w ≡ t → list_any (is_of c) (values_of w) ≡ t
+pub by_update : (c : Cell) (w : Write) (t : Bool) → is_punch w ≡ false → touches c w ≡ t → list_any (is_of c) (values_of w) ≡ t
 unfolding touches
 by_update c w t k e = sym (ap (λ (b : Bool). if b then leads_to (write_path w) c.path else list_any (is_of c) (values_of w)) k) ∙ e
 
