@@ -129,10 +129,11 @@ module _ (c : ContId) (upto : Epoch) (d : Durable) (ws : List Version) (s : ℕ)
 
   fine : (front us : List Version) → d.versions ≡ front ++ us → Fine cut.stays s x us
   fine front [] e = tt
-  fine front (v ∷ us) e =
-      (gone_hidden front v us e,
-      (λ kept k t. none_lost (version_key v) us (behind front v us (subst (λ z. is_in_order version_key z ≡ true) e o)) (not_lost front v us e kept k t)),
-      fine (front ++ v ∷ []) us (e ∙ sym (append_assoc front (v ∷ []) us)))
+  fine front (v ∷ us) e = (
+    gone_hidden front v us e,
+    (λ kept k t. none_lost (version_key v) us (behind front v us (subst (λ z. is_in_order version_key z ≡ true) e o)) (not_lost front v us e kept k t)),
+    fine (front ++ v ∷ []) us (e ∙ sym (append_assoc front (v ∷ []) us)),
+  )
 
   pub value_at-cut : value_at (map_below ws s) x ≡ value_at (map_below d.versions s) x
   value_at-cut = ap (λ z. value_at (map_below z s) x) cut.left ∙ value_at-left cut.stays s x d.versions (fine [] d.versions refl)

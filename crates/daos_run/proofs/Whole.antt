@@ -197,9 +197,10 @@ here-of P (x ∷ xs) y ys all = let r = here-of P xs y ys all.1 in record { befo
 
 rises-of_increasing : (xs : List ℕ) → AllPairs (λ x y. x < y) xs → Rises xs
 rises-of_increasing [] all = tt
-rises-of_increasing (x ∷ xs) all =
-    (recursion_from_All (λ y. x < y) xs (λ k d lt. all 0 (suc k) d (omega arith) (omega arith)),
-     rises-of_increasing xs (λ i j d lt most. all (suc i) (suc j) d (omega arith) (omega arith)))
+rises-of_increasing (x ∷ xs) all = (
+  recursion_from_All (λ y. x < y) xs (λ k d lt. all 0 (suc k) d (omega arith) (omega arith)),
+  rises-of_increasing xs (λ i j d lt most. all (suc i) (suc j) d (omega arith) (omega arith)),
+)
 
 distinct-of_rises : (xs : List ℕ) → Rises xs → IsDistinct nat_eq xs
 unfolding IsDistinct
@@ -222,6 +223,7 @@ earlier-below (b ∷ bs) a later e is rises = let r = step b.epoch rises in (r.0
   where
     rest : List ℕ
     rest = epochs_of (map try_line (bs ++ a ∷ later))
+
     step : (o : Option Epoch) → Rises (option_epoch o ++ rest) → EpochIsBelow e.0 o × Rises rest
     step None rises = (tt, rises)
     step (Some x) rises = (epoch-within (λ y. x.0 < y) bs a later e is rises.0, rises.1)
@@ -290,18 +292,20 @@ module _ (s : Script) (lines : List Line) (ats : List Attempt) (are : lines ≡ 
       let low = earlier-below r.earlier a r.later x p.here.issued.1 (subst (λ bs. Rises (epochs_of (map try_line bs))) r.all (subst (λ ls. Rises (epochs_of ls)) are rises)) in
       let after_all : All (IsAfter s x.0 a) r.earlier = All-from_recursion (IsAfter s x.0 a) r.earlier (afters x r.earlier p.before low) in
       let mine : All (IsAfter s x.0 a) (tries_of a.id.client before) =
-          subst (λ bs. All (IsAfter s x.0 a) (filter (is_of_client a.id.client) bs)) (sym (tries-lines r.earlier) ∙ sym (ap tries r.before_is))
-          (All-filter (is_of_client a.id.client) (IsAfter s x.0 a) r.earlier after_all) in
+      subst (λ bs. All (IsAfter s x.0 a) (filter (is_of_client a.id.client) bs)) (sym (tries-lines r.earlier) ∙ sym (ap tries r.before_is))
+      (All-filter (is_of_client a.id.client) (IsAfter s x.0 a) r.earlier after_all) in
       subst (λ o. IsAfterAll s a o (tries_of a.id.client before)) (sym p.here.issued.1) mine
     where
       afters : (x : Epoch) (bs : List Attempt) → AllByRecursion (IsPlain s) bs → AllByRecursion (λ b. EpochIsBelow x.0 b.epoch) bs → AllByRecursion (IsAfter s x.0 a) bs
       afters x [] plains low = tt
-      afters x (b ∷ bs) plains low =
-          (record {
-            command = λ _. low.0;
-            sure = λ _ _. low.0;
-            told = subst (λ o. All (λ n. n < x.0) (told_by o)) (sym plains.0.committed) (λ k d lt. absurd (omega arith));
-          }, afters x bs plains.1 low.1)
+      afters x (b ∷ bs) plains low = (
+        record {
+          command = λ _. low.0;
+          sure = λ _ _. low.0;
+          told = subst (λ o. All (λ n. n < x.0) (told_by o)) (sym plains.0.committed) (λ k d lt. absurd (omega arith));
+        },
+        afters x bs plains.1 low.1,
+      )
 
   pub whole-issued : Rises (epochs_of lines) → All (λ e. 255 < e) (epochs_of lines) → AreIssued s 255 lines
   whole-issued rises above =
@@ -363,6 +367,7 @@ module _ (s : Script) (lines : List Line) (ats : List Attempt) (are : lines ≡ 
           let conds : All (IsRightCondition (attempt_ops s a.id) m) a.conds = subst (All (IsRightCondition (attempt_ops s a.id) m)) (sym p.unconditional) (λ k d lt. absurd (omega arith)) in
           let F : Option (List CellValue) → Type 0 = λ o. IsToldRight (attempt_ops s a.id) o a in
           subst (λ o. F (map_read s empty_stand T a o)) (sym p.issued.1) (subst (λ o. F (map_at s empty_stand T e.0 o)) (sym p.no_snapshot) (now, conds))
+
       each : (bs : List Attempt) → AllByRecursion (IsPlain s) bs → AllByRecursion (IsLineAnswered s empty_stand T) (map try_line bs) → AllByRecursion (AttemptReadsLegal s empty_stand T) bs
       each [] plains right = tt
       each (b ∷ bs) plains right = (one b plains.0 right.0, each bs plains.1 right.1)

@@ -44,8 +44,8 @@ low_in m kind (Fork l e r) q s h =
     elim (eqb_tells q e.block) [
       | inl a ↦ let f = s.0.entry.high in let z = a.1 in omega arith
       | inr b ↦
-        elim (cases_lt 0 (count q (entries l))) [
-          | inl in_left ↦ low_in m kind l q s.1 in_left
-          | inr none ↦ low_in m kind r q s.2 (omega (arith, h, none, count_parts q (entries l) e (entries r), count_other q e b.1))
-        ]
+          elim (cases_lt 0 (count q (entries l))) [
+            | inl in_left ↦ low_in m kind l q s.1 in_left
+            | inr none ↦ low_in m kind r q s.2 (omega (arith, h, none, count_parts q (entries l) e (entries r), count_other q e b.1))
+          ]
     ]

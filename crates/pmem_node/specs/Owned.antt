@@ -23,19 +23,20 @@ tree_taken m kind (Fork l e r) s q h =
     elim (eqb_tells q e.block) [
       | inl a ↦ record { bytes = _; holds = ap m a.1 ∙ s.0.block }
       | inr b ↦
-        elim (cases_lt 0 (times q (blocks_of (entries l)))) [
-          | inl in_left ↦ tree_taken m kind l s.1 q in_left
-          | inr none ↦ tree_taken m kind r s.2 q (omega (arith, h, none, times_fork q l e r, times_other q e.block b.1))
-        ]
+          elim (cases_lt 0 (times q (blocks_of (entries l)))) [
+            | inl in_left ↦ tree_taken m kind l s.1 q in_left
+            | inr none ↦ tree_taken m kind r s.2 q (omega (arith, h, none, times_fork q l e r, times_other q e.block b.1))
+          ]
     ]
 
 -- what its blocks hold is all that counts
 pub tree_frame : (m n : Blocks) (kind : ℕ) (t : Shape) → SameIn m n (blocks_of (entries t)) → Stands m kind t → Stands n kind t
 tree_frame m n kind Leaf f s = tt
-tree_frame m n kind (Fork l e r) f s =
-    ( record { entry = s.0.entry; block = f e.block (omega (arith, times_fork e.block l e r, times_own e.block)) ∙ s.0.block },
-      tree_frame m n kind l (λ q h. f q (omega (arith, h, times_fork q l e r))) s.1,
-      tree_frame m n kind r (λ q h. f q (omega (arith, h, times_fork q l e r))) s.2 )
+tree_frame m n kind (Fork l e r) f s = (
+  record { entry = s.0.entry; block = f e.block (omega (arith, times_fork e.block l e r, times_own e.block)) ∙ s.0.block },
+  tree_frame m n kind l (λ q h. f q (omega (arith, h, times_fork q l e r))) s.1,
+  tree_frame m n kind r (λ q h. f q (omega (arith, h, times_fork q l e r))) s.2,
+)
 
 abbrev pub tree_owner : ℕ → Owner Shape
 tree_owner kind = record { stands = λ m t. Stands m kind t; owned = λ t. blocks_of (entries t); is_taken = λ m t. tree_taken m kind t; frame = λ m n t. tree_frame m n kind t }

@@ -105,5 +105,4 @@ pub fn read_node(kind: u8, from: &[u8; 256]) -> Node
 pub fn nodes_are_blocks()
     ensures again { (kind : ℕ) (n : NodeOf) → IsNode kind n → node_of kind (node_bytes kind n) ≡ n }
     ensures back { (kind : ℕ) (bs : List ℕ) → IsNodeBlock kind bs → node_bytes kind (node_of kind bs) ≡ bs }
-{
-}
+{}

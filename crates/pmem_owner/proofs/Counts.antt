@@ -61,9 +61,9 @@ pub at_most : (n : ℕ) (bs : List ℕ) → ((q : ℕ) → times q bs ≤ 1) →
 at_most zero bs once low = nothing bs (λ q h. let l = low q h in omega arith)
 at_most (suc n) bs once low =
     let below : (q : ℕ) → 0 < times q (without n bs) → q < n = λ q h.
-        elim (eqb_tells q n) [
-          | inl a ↦ absurd (let z : times q (without n bs) ≡ times n (without n bs) = ap (λ k. times k (without n bs)) a.1 in omega (arith, z, h, times_own_without n bs))
-          | inr a ↦ let ne = a.1 in omega (arith, low q (omega (arith, h, times_without q n bs)), ne)
-        ] in
+    elim (eqb_tells q n) [
+      | inl a ↦ absurd (let z : times q (without n bs) ≡ times n (without n bs) = ap (λ k. times k (without n bs)) a.1 in omega (arith, z, h, times_own_without n bs))
+      | inr a ↦ let ne = a.1 in omega (arith, low q (omega (arith, h, times_without q n bs)), ne)
+    ] in
     let less = at_most n (without n bs) (λ q. omega (arith, once q, times_without q n bs)) below in
     omega (arith, length_without n bs, once n, less)

@@ -14,10 +14,10 @@ changed_first O P m n a a2 b h c =
     let split = λ (q : ℕ). times-append q (O.owned a) (P.owned b) in
     let split2 = λ (q : ℕ). times-append q (O.owned a2) (P.owned b) in
     let out : (q : ℕ) → 0 < times q (P.owned b) → times q (O.owned a2) ≡ 0 = λ q in_b.
-        elim (cases_lt 0 (times q (O.owned a2))) [
-          | inl in_new ↦ absurd (not_free m q (P.is_taken m b h.here.1 q in_b) (c.taken q (omega (arith, h.apart q, split q)) in_new))
-          | inr none ↦ omega arith
-        ] in
+    elim (cases_lt 0 (times q (O.owned a2))) [
+      | inl in_new ↦ absurd (not_free m q (P.is_taken m b h.here.1 q in_b) (c.taken q (omega (arith, h.apart q, split q)) in_new))
+      | inr none ↦ omega arith
+    ] in
     record {
       holds = record {
         here = (c.holds.here, P.frame m n b (λ q in_b. c.outside q (omega (arith, h.apart q, split q)) (out q in_b)) h.here.1);
@@ -37,10 +37,10 @@ changed_second O P m n a b b2 h c =
     let split = λ (q : ℕ). times-append q (O.owned a) (P.owned b) in
     let split2 = λ (q : ℕ). times-append q (O.owned a) (P.owned b2) in
     let out : (q : ℕ) → 0 < times q (O.owned a) → times q (P.owned b2) ≡ 0 = λ q in_a.
-        elim (cases_lt 0 (times q (P.owned b2))) [
-          | inl in_new ↦ absurd (not_free m q (O.is_taken m a h.here.0 q in_a) (c.taken q (omega (arith, h.apart q, split q)) in_new))
-          | inr none ↦ omega arith
-        ] in
+    elim (cases_lt 0 (times q (P.owned b2))) [
+      | inl in_new ↦ absurd (not_free m q (O.is_taken m a h.here.0 q in_a) (c.taken q (omega (arith, h.apart q, split q)) in_new))
+      | inr none ↦ omega arith
+    ] in
     record {
       holds = record {
         here = (O.frame m n a (λ q in_a. c.outside q (omega (arith, h.apart q, split q)) (out q in_a)) h.here.0, c.holds.here);

@@ -134,11 +134,11 @@ module _ (m : Blocks) (kind at depth : ℕ) (x : Entry) (l : Shape) (e : Entry) 
                 grew = λ grew. absurd (omega (arith, far_right far));
               }
               | inr close ↦
-                let f = near_right close in
-                let v = ap height f.1 in
-                let cheap = one (let k = f.0 in omega arith) (omega arith) in
-                record {
-                  at_most = spent_then _ _ _ _ _ _ b0 b1 b2 ch.at_most cheap (omega arith) (omega arith);
-                  grew = λ grew. spent_then _ _ _ _ _ _ b0 b1 b2 (ch.grew (omega (arith, v))) cheap (omega arith) (omega arith);
-                }
+                  let f = near_right close in
+                  let v = ap height f.1 in
+                  let cheap = one (let k = f.0 in omega arith) (omega arith) in
+                  record {
+                    at_most = spent_then _ _ _ _ _ _ b0 b1 b2 ch.at_most cheap (omega arith) (omega arith);
+                    grew = λ grew. spent_then _ _ _ _ _ _ b0 b1 b2 (ch.grew (omega (arith, v))) cheap (omega arith) (omega arith);
+                  }
             ]

@@ -14,10 +14,11 @@ put_stands m kind b x t none s = stands_on m (put m b x) kind t (λ q in_t. let 
 
 -- a node written between two trees
 pub fork_stands : (m : Blocks) (kind : ℕ) (l : Shape) (e : Entry) (r : Shape) → Stands m kind l → Stands m kind r → IsEntry kind e → count e.block (entries l) ≡ 0 → count e.block (entries r) ≡ 0 → Stands (with_node m kind l e r) kind (Fork l e r)
-fork_stands m kind l e r sl sr en nl nr =
-    ( record { entry = en; block = put_here m e.block _ },
-      put_stands m kind e.block _ l nl sl,
-      put_stands m kind e.block _ r nr sr )
+fork_stands m kind l e r sl sr en nl nr = (
+  record { entry = en; block = put_here m e.block _ },
+  put_stands m kind e.block _ l nl sl,
+  put_stands m kind e.block _ r nr sr,
+)
 
 pub keeps_put : (m : Blocks) (b : ℕ) (x : Option (List ℕ)) (es : List Entry) → 0 < count b es → Keeps m (put m b x) es
 keeps_put m b x es in_es q none =

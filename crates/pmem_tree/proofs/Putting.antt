@@ -54,9 +54,11 @@ module _ (m : Blocks) (kind at depth : ℕ) (p : Pair) (gone : Entry) (l : Shape
           tree = Fork g.tree e r;
           root_as = refl;
           height_as = ap (λ (h : ℕ). max h (height r) + 1) g.height_as;
-          stands = ( record { entry = c.stands.0.entry; block = g.keeps e.block (omega (arith, c.apart e.block, split e.block, count_own e)) ∙ (c.stands.0.block ∙ ap (λ (k : Node). Some (node_bytes kind k)) same) },
+          stands = (
+            record { entry = c.stands.0.entry; block = g.keeps e.block (omega (arith, c.apart e.block, split e.block, count_own e)) ∙ (c.stands.0.block ∙ ap (λ (k : Node). Some (node_bytes kind k)) same) },
             g.stands,
-            stands_on m n kind r (λ q in_r. g.keeps q (omega (arith, in_r, c.apart q, split q))) c.stands.2 );
+            stands_on m n kind r (λ q in_r. g.keeps q (omega (arith, in_r, c.apart q, split q))) c.stands.2,
+          );
           balanced = λ b. let h = g.height_as in let nl = b.0.left in let nr = b.0.right in (record { left = omega arith; right = omega arith }, g.balanced b.1, b.2);
           entries_are = ap (λ z. z ++ e ∷ entries r) g.entries_are ∙ sym (valued_left p.key p.value (entries l) e (entries r) less);
           keeps = λ q none. g.keeps q (omega (arith, none, split q));
@@ -81,9 +83,11 @@ module _ (m : Blocks) (kind at depth : ℕ) (p : Pair) (gone : Entry) (l : Shape
           tree = Fork l e g.tree;
           root_as = refl;
           height_as = ap (λ (h : ℕ). max (height l) h + 1) g.height_as;
-          stands = ( record { entry = c.stands.0.entry; block = g.keeps e.block (omega (arith, c.apart e.block, split e.block, count_own e)) ∙ (c.stands.0.block ∙ ap (λ (k : Node). Some (node_bytes kind k)) same) },
+          stands = (
+            record { entry = c.stands.0.entry; block = g.keeps e.block (omega (arith, c.apart e.block, split e.block, count_own e)) ∙ (c.stands.0.block ∙ ap (λ (k : Node). Some (node_bytes kind k)) same) },
             stands_on m n kind l (λ q in_l. g.keeps q (omega (arith, in_l, c.apart q, split q))) c.stands.1,
-            g.stands );
+            g.stands,
+          );
           balanced = λ b. let h = g.height_as in let nl = b.0.left in let nr = b.0.right in (record { left = omega arith; right = omega arith }, b.1, g.balanced b.2);
           entries_are = ap (λ z. entries l ++ e ∷ z) g.entries_are ∙ sym (valued_past p.key p.value (entries l) (e ∷ entries r) (past_left p.key (entries l) e (entries r) c.rises more) ∙ ap (λ z. entries l ++ z) (rw more refl));
           keeps = λ q none. g.keeps q (omega (arith, none, split q));

@@ -56,9 +56,9 @@ module _ (m : Blocks) (kind at : ℕ) (p : Pair) (top : ℕ) (o : Opened) (c : S
   top_right w = record { bytes = _; holds = ap m (sym (ap (λ (z : Entry). z.block) w.4.opens.entry_is)) ∙ w.4.parts.left.0.block }
 
   module _ (m1 n : Blocks) (low s : Sub)
-    (e1 : m1 ≡ put m at (Some (node_bytes kind (node_between p o.right c)))) (r1 : low.root ≡ at) (h1 : low.height ≡ max o.right.height c.height + 1)
-    (e2 : n ≡ put m1 top (Some (node_bytes kind (node_between o.pair o.left low)))) (r2 : s.root ≡ top) (h2 : s.height ≡ max o.left.height low.height + 1)
-    (outer : o.right.height ≤ o.left.height) where
+      (e1 : m1 ≡ put m at (Some (node_bytes kind (node_between p o.right c)))) (r1 : low.root ≡ at) (h1 : low.height ≡ max o.right.height c.height + 1)
+      (e2 : n ≡ put m1 top (Some (node_bytes kind (node_between o.pair o.left low)))) (r2 : s.root ≡ top) (h2 : s.height ≡ max o.left.height low.height + 1)
+      (outer : o.right.height ≤ o.left.height) where
     pub turned_right : TurnsRight m n kind (entry_of at p) top o c s
     turned_right x j y r w =
         let e = entry_of at p in
@@ -108,10 +108,10 @@ module _ (m : Blocks) (kind at : ℕ) (p : Pair) (top : ℕ) (o i : Opened) (c :
   inner_right (x, j, Fork u f v, r, w) h = (u, f, v, record { at_is = w.opens.right_is.root_is; stands = w.parts.left.2 })
 
   module _ (m1 m2 n : Blocks) (first second s : Sub) (opens : OpensAt m kind o.right.root i)
-    (e1 : m1 ≡ put m top (Some (node_bytes kind (node_between o.pair o.left i.left)))) (r1 : first.root ≡ top) (h1 : first.height ≡ max o.left.height i.left.height + 1)
-    (e2 : m2 ≡ put m1 at (Some (node_bytes kind (node_between p i.right c)))) (r2 : second.root ≡ at) (h2 : second.height ≡ max i.right.height c.height + 1)
-    (e3 : n ≡ put m2 o.right.root (Some (node_bytes kind (node_between i.pair first second)))) (r3 : s.root ≡ o.right.root) (h3 : s.height ≡ max first.height second.height + 1)
-    (inner : o.left.height < o.right.height) where
+      (e1 : m1 ≡ put m top (Some (node_bytes kind (node_between o.pair o.left i.left)))) (r1 : first.root ≡ top) (h1 : first.height ≡ max o.left.height i.left.height + 1)
+      (e2 : m2 ≡ put m1 at (Some (node_bytes kind (node_between p i.right c)))) (r2 : second.root ≡ at) (h2 : second.height ≡ max i.right.height c.height + 1)
+      (e3 : n ≡ put m2 o.right.root (Some (node_bytes kind (node_between i.pair first second)))) (r3 : s.root ≡ o.right.root) (h3 : s.height ≡ max first.height second.height + 1)
+      (inner : o.left.height < o.right.height) where
     pub turned_twice_right : TurnsRight m n kind (entry_of at p) top o c s
     turned_twice_right x j Leaf r w = absurd (let k = w.opens.right_is.height_is in omega arith)
     turned_twice_right x j (Fork u f v) r w =

@@ -20,9 +20,9 @@ module _ (m : Blocks) (kind at : ℕ) (p : Pair) (a : Sub) (top : ℕ) (o : Open
   top_left w = record { bytes = _; holds = ap m (sym (ap (λ (z : Entry). z.block) w.4.opens.entry_is)) ∙ w.4.parts.right.0.block }
 
   module _ (m1 n : Blocks) (low s : Sub)
-    (e1 : m1 ≡ put m at (Some (node_bytes kind (node_between p a o.left)))) (r1 : low.root ≡ at) (h1 : low.height ≡ max a.height o.left.height + 1)
-    (e2 : n ≡ put m1 top (Some (node_bytes kind (node_between o.pair low o.right)))) (r2 : s.root ≡ top) (h2 : s.height ≡ max low.height o.right.height + 1)
-    (outer : o.left.height ≤ o.right.height) where
+      (e1 : m1 ≡ put m at (Some (node_bytes kind (node_between p a o.left)))) (r1 : low.root ≡ at) (h1 : low.height ≡ max a.height o.left.height + 1)
+      (e2 : n ≡ put m1 top (Some (node_bytes kind (node_between o.pair low o.right)))) (r2 : s.root ≡ top) (h2 : s.height ≡ max low.height o.right.height + 1)
+      (outer : o.left.height ≤ o.right.height) where
     pub turned_left : TurnsLeft m n kind (entry_of at p) a top o s
     turned_left l y j x w =
         let e = entry_of at p in
@@ -72,10 +72,10 @@ module _ (m : Blocks) (kind at : ℕ) (p : Pair) (a : Sub) (top : ℕ) (o i : Op
   inner_left (l, Fork u f v, j, x, w) h = (u, f, v, record { at_is = w.opens.left_is.root_is; stands = w.parts.right.1 })
 
   module _ (m1 m2 n : Blocks) (first second s : Sub) (opens : OpensAt m kind o.left.root i)
-    (e1 : m1 ≡ put m at (Some (node_bytes kind (node_between p a i.left)))) (r1 : first.root ≡ at) (h1 : first.height ≡ max a.height i.left.height + 1)
-    (e2 : m2 ≡ put m1 top (Some (node_bytes kind (node_between o.pair i.right o.right)))) (r2 : second.root ≡ top) (h2 : second.height ≡ max i.right.height o.right.height + 1)
-    (e3 : n ≡ put m2 o.left.root (Some (node_bytes kind (node_between i.pair first second)))) (r3 : s.root ≡ o.left.root) (h3 : s.height ≡ max first.height second.height + 1)
-    (inner : o.right.height < o.left.height) where
+      (e1 : m1 ≡ put m at (Some (node_bytes kind (node_between p a i.left)))) (r1 : first.root ≡ at) (h1 : first.height ≡ max a.height i.left.height + 1)
+      (e2 : m2 ≡ put m1 top (Some (node_bytes kind (node_between o.pair i.right o.right)))) (r2 : second.root ≡ top) (h2 : second.height ≡ max i.right.height o.right.height + 1)
+      (e3 : n ≡ put m2 o.left.root (Some (node_bytes kind (node_between i.pair first second)))) (r3 : s.root ≡ o.left.root) (h3 : s.height ≡ max first.height second.height + 1)
+      (inner : o.right.height < o.left.height) where
     pub turned_twice_left : TurnsLeft m n kind (entry_of at p) a top o s
     turned_twice_left l Leaf j x w = absurd (let k = w.opens.left_is.height_is in omega arith)
     turned_twice_left l (Fork u f v) j x w =

@@ -45,7 +45,9 @@ fn number_in(bytes: &[u8]) -> u16 {
 
 // The most that a call may take, with so many pairs.
 fn most(count: usize, each: u64, besides: u64) -> u64 {
-    u64::from(usize::BITS - count.leading_zeros()).saturating_mul(each).saturating_add(besides)
+    u64::from(usize::BITS - count.leading_zeros())
+        .saturating_mul(each)
+        .saturating_add(besides)
 }
 
 // Whether what a call read and staged is within bounds.
@@ -66,7 +68,11 @@ fn insert<L: Ledger>(
     let reads = pages.reads();
     let mut tree = Tree { kind: 5, root };
     tree.insert(pages, &key_of(i), &value_of(i), steps).ok()?;
-    if is_cheap(pages, reads, most(count, 16, 16), most(count, 4, 8)) { Some(tree.root) } else { None }
+    if is_cheap(pages, reads, most(count, 16, 16), most(count, 4, 8)) {
+        Some(tree.root)
+    } else {
+        None
+    }
 }
 
 // Takes a number out of the tree.
@@ -81,7 +87,11 @@ fn remove<L: Ledger>(
     let reads = pages.reads();
     let mut tree = Tree { kind: 5, root };
     tree.remove(pages, &key_of(i), steps).ok()?;
-    if is_cheap(pages, reads, most(count, 16, 16), most(count, 8, 16)) { Some(tree.root) } else { None }
+    if is_cheap(pages, reads, most(count, 16, 16), most(count, 8, 16)) {
+        Some(tree.root)
+    } else {
+        None
+    }
 }
 
 // The first number of the tree above this one.
@@ -97,7 +107,11 @@ fn next<L: Ledger>(
     let pair = tree.next_after(pages, &key_of(i), steps).ok()??;
     let same = number_in(&pair.key.bytes) == number_in(&pair.value.bytes);
     let cheap = pages.reads().saturating_sub(reads) <= most(count, 2, 0);
-    if same && cheap { Some(number_in(&pair.key.bytes)) } else { None }
+    if same && cheap {
+        Some(number_in(&pair.key.bytes))
+    } else {
+        None
+    }
 }
 
 // The height of the balanced tree below a block, and none where it isn't balanced as its nodes say.
@@ -119,7 +133,11 @@ fn balanced_height<L: Ledger>(
     let left = balanced_height(pages, node.left, depth - 1, steps)?;
     let right = balanced_height(pages, node.right, depth - 1, steps)?;
     let height = left.max(right).saturating_add(1);
-    if left.abs_diff(right) <= 1 && node.height == height && block[0] == 5 { Some(height) } else { None }
+    if left.abs_diff(right) <= 1 && node.height == height && block[0] == 5 {
+        Some(height)
+    } else {
+        None
+    }
 }
 
 // Whether the tree has exactly the map's numbers, in order, from 1 on.
@@ -136,7 +154,8 @@ fn agrees<L: Ledger>(
         }
         last = *i;
     }
-    next(pages, root, last, map.len(), steps).is_none() && balanced_height(pages, root, 66, steps).is_some()
+    next(pages, root, last, map.len(), steps).is_none()
+        && balanced_height(pages, root, 66, steps).is_some()
 }
 
 // Inserts the numbers from 1 to 1,000 in an order, and removes each second one of that order.
@@ -160,13 +179,21 @@ fn row<L: Ledger>(alloc: Global, order: u16, blank: Blank) -> Option<(bool, bool
         root = remove(&mut pages, root, i, map.len(), &mut steps)?;
         map.remove(&i);
     }
-    Some((full, agrees(&mut pages, root, &map, &mut steps), pages.free()))
+    Some((
+        full,
+        agrees(&mut pages, root, &map, &mut steps),
+        pages.free(),
+    ))
 }
 
 #[test]
 fn trees_agree_with_maps(rt: HostRuntime) -> Result<(), Fail> {
     for order in [1, 999, 617] {
-        assert_eq!(rt; row::<Brand>(rt.alloc(), order, Blank::new(1)), Some((true, true, 500)), "order {order}");
+        assert_eq!(rt;
+            row::<Brand>(rt.alloc(), order, Blank::new(1)),
+            Some((true, true, 500)),
+            "order {order}"
+        );
     }
     Ok(())
 }
@@ -190,15 +217,18 @@ fn letters<L: Ledger>(alloc: Global, blank: Blank) -> Option<[Option<u16>; 7]>
     let mut pages = MemPages::new(alloc, 2).ok()?;
     pages.grant(1024, 256000);
     let mut tree = Tree { kind: 5, root: 0 };
-    tree.insert(&mut pages, &letter(b'c'), &value_of(3), &mut steps).ok()?;
-    tree.insert(&mut pages, &letter(b'a'), &value_of(1), &mut steps).ok()?;
+    tree.insert(&mut pages, &letter(b'c'), &value_of(3), &mut steps)
+        .ok()?;
+    tree.insert(&mut pages, &letter(b'a'), &value_of(1), &mut steps)
+        .ok()?;
     let after_a = tree.next_after(&mut pages, &letter(b'a'), &mut steps).ok()?;
     let after_c = tree.next_after(&mut pages, &letter(b'c'), &mut steps).ok()?;
     let below_c = tree.last_below(&mut pages, &letter(b'c'), &mut steps).ok()?;
     let below_a = tree.last_below(&mut pages, &letter(b'a'), &mut steps).ok()?;
     let at_b = tree.get(&mut pages, &letter(b'b'), &mut steps).ok()?;
     let at_c = tree.get(&mut pages, &letter(b'c'), &mut steps).ok()?;
-    tree.put_value(&mut pages, &letter(b'c'), &value_of(4), &mut steps).ok()?;
+    tree.put_value(&mut pages, &letter(b'c'), &value_of(4), &mut steps)
+        .ok()?;
     let now_c = tree.get(&mut pages, &letter(b'c'), &mut steps).ok()?;
     Some([
         after_a.map(|pair| number_in(&pair.value.bytes)),
@@ -214,6 +244,9 @@ fn letters<L: Ledger>(alloc: Global, blank: Blank) -> Option<[Option<u16>; 7]>
 #[test]
 fn look_ups_beside_two_letters(rt: HostRuntime) -> Result<(), Fail> {
     let answers = letters::<Brand>(rt.alloc(), Blank::new(1));
-    assert_eq!(rt; answers, Some([Some(3), None, Some(1), None, None, Some(3), Some(4)]));
+    assert_eq!(rt;
+        answers,
+        Some([Some(3), None, Some(1), None, None, Some(3), Some(4)])
+    );
     Ok(())
 }
