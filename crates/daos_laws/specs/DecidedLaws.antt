@@ -1,6 +1,5 @@
 -- The map as of an epoch, by the writes of decided transactions.
-use Rattle.std.specs.Prelude.{ℕ, zero, suc, ◌≡◌, ◌≢◌, ◌≤◌, ◌<◌, ◌⊎◌, ◌==◌, Bool, true, false, ◌&&◌, ◌||◌, not, nat_le, nat_lt, List, [], ◌∷◌, ◌++◌, map, filter, All, AllPairs, Option, if◌then◌else◌, refl}
-use Rattle.std.specs.List.Sorted.{IsStrictlyIncreasing}
+use Rattle.std.specs.Prelude.{ℕ, ◌≡◌, ◌≢◌, ◌<◌, ◌⊎◌, ◌==◌, Bool, true, false, ◌&&◌, ◌||◌, nat_le, nat_lt, List, [], ◌∷◌, ◌++◌, map, filter, All, AllPairs, if◌then◌else◌, refl}
 use Rattle.std.proofs.Common.{sym, ◌∙◌, ap, subst, arith, inl, inr}
 use Rattle.std.proofs.lemmas.Bool.Decides.{nat_tests}
 use Rattle.std.proofs.lemmas.List.Elements.{All-cons, All-head, All-nil, All-tail}
@@ -10,21 +9,20 @@ use Rattle.daos_base.specs.declared.operation.MinorWrite.{MinorWrite}
 use Rattle.daos_model.specs.declared.cell.Cell.{Cell}
 use Rattle.daos_model.specs.declared.cell.CellValue.{CellValue}
 use Rattle.daos_model.specs.declared.stand.Stand.{Stand}
-use Rattle.daos_model.specs.declared.stand.Taken.{Taken}
 use Rattle.daos_model.specs.Answers.{is_before}
 use Rattle.daos_model.specs.AsOf.{as_of, below, in_order, put_in, run_all}
 use Rattle.daos_model.specs.BoolLaws.{and_left, and_right, both}
 use Rattle.daos_model.specs.Cells.{value_at}
 use Rattle.daos_model.specs.Effect.{effect, effects}
 use Rattle.daos_model.specs.Forms.{minor_of}
-use Rattle.daos_model.specs.OrderLaws.{rising-filter, rising-put}
+use Rattle.daos_model.specs.OrderLaws.{rising-put}
 use Rattle.daos_model.specs.Ordered.{all_after, is_rising, put, puts}
-use Rattle.daos_laws.specs.Dated.{Dated, after_all, dated_key, is_earlier, is_within}
+use Rattle.daos_laws.specs.Dated.{Dated, after_all, dated_key, is_earlier}
 use Rattle.daos_laws.specs.Decided.{AreDecided, Decided, IsNumbered, all_dated, dated_at, dated_by, taken_in, taken_of, write_of}
 use Rattle.daos_laws.specs.Members.{Has, has-cases, has-filter, has-from_filter, has-from_map, has-left, has-map, has-right}
-use Rattle.daos_laws.specs.RisingLaws.{after-all, after-has, rising-same}
+use Rattle.daos_laws.specs.RisingLaws.{after-all, after-has}
 use Rattle.daos_laws.specs.VersionLaws.{after-append, pairs-head, pairs-tail, rising-append}
-use Rattle.daos_laws.specs.WriteLaws.{after_write, value-effect}
+use Rattle.daos_laws.specs.WriteLaws.{value-effect}
 
 pub all-from_has : {T : Type 0} (P : T → Type 0) (xs : List T) → ((x : T) → Has x xs → P x) → All P xs
 all-from_has P [] h = All-nil P

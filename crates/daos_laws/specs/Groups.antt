@@ -2,7 +2,7 @@
 use Rattle.std.specs.Prelude.{ℕ, ◌≡◌, ◌<◌, ◌==◌, Bool, true, false, All, List, [], ◌∷◌, ◌++◌, map, filter, Option, Some, None, if◌then◌else◌}
 use Rattle.std.specs.List.{range_with_len}
 use Rattle.daos_base.specs.declared.answer.Answer.{Answer}
-use Rattle.daos_base.specs.declared.answer.Answer.TheVariants.{Bytes, Parts, Names, Yes, No, Absent}
+use Rattle.daos_base.specs.declared.answer.Answer.TheVariants.{Names, No}
 use Rattle.daos_base.specs.declared.id.Class.{Class}
 use Rattle.daos_base.specs.declared.operation.Read.{Read}
 use Rattle.daos_base.specs.declared.operation.Read.TheVariants as read

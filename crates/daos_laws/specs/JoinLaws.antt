@@ -1,15 +1,13 @@
 -- The answer on a map is the join, over groups, of the answers on their parts.
-use Rattle.std.specs.Prelude.{ℕ, zero, suc, ◌+◌, ◌≡◌, ◌<◌, ◌≤◌, ◌⊎◌, ◌==◌, Bool, true, false, ◌&&◌, ◌||◌, List, [], ◌∷◌, ◌++◌, map, filter, Option, Some, None, is_none, is_some, nat_lt, ◌^◌, length, if◌then◌else◌, refl}
+use Rattle.std.specs.Prelude.{ℕ, zero, suc, ◌+◌, ◌≡◌, ◌<◌, ◌≤◌, ◌⊎◌, ◌==◌, Bool, true, false, ◌&&◌, ◌||◌, List, [], ◌∷◌, ◌++◌, map, Option, Some, None, is_none, is_some, nat_lt, ◌^◌, length, if◌then◌else◌, refl}
 use Rattle.std.specs.List.{list_any, range_with_len}
 use Rattle.std.specs.Option.{option_eq}
 use Rattle.std.proofs.Common.{sym, ◌∙◌, ap, subst, arith, inl, inr}
 use Rattle.std.proofs.lemmas.Bool.Decides.{nat_tests}
 use Rattle.std.proofs.lemmas.List.Elements.{All-head, All-tail}
 use Rattle.std.proofs.lemmas.Bool.{cases_eq, cases_lt}
-use Rattle.daos_base.specs.declared.answer.Answer.{Answer}
-use Rattle.daos_base.specs.declared.answer.Answer.TheVariants.{Names, Yes, No}
+use Rattle.daos_base.specs.declared.answer.Answer.TheVariants.{Names}
 use Rattle.daos_base.specs.declared.id.Class.{Class}
-use Rattle.daos_base.specs.declared.operation.Read.{Read}
 use Rattle.daos_base.specs.declared.operation.Read.TheVariants as read
 use Rattle.daos_base.specs.declared.operation.Write.{Write}
 use Rattle.daos_base.specs.declared.operation.Write.TheVariants.{Single, Extent, PunchObject, PunchDkey, PunchAkey}
@@ -18,19 +16,19 @@ use Rattle.daos_base.specs.Keys.{same_key}
 use Rattle.daos_base.specs.Operations.{read_path}
 use Rattle.daos_base.specs.Paths.{leads_to, same_object}
 use Rattle.daos_base.specs.PathLaws.{same_key-Decides}
-use Rattle.daos_base.specs.Placement.{ClassFits, group_of, groups}
+use Rattle.daos_base.specs.Placement.{group_of, groups}
 use Rattle.daos_base.specs.PlacementLaws.{group_of-within, groups-positive}
 use Rattle.daos_model.specs.declared.cell.Cell.{Cell}
 use Rattle.daos_model.specs.declared.cell.CellValue.{CellValue}
 use Rattle.daos_model.specs.Answers.{answer, dkeys_below, has_cell_below, in_byte_order, yes_or_no}
 use Rattle.daos_model.specs.BoolLaws.{and_left, and_right, clash, false_of}
 use Rattle.daos_model.specs.Cells.{index_cell, same_cell, single_cell, value_at}
-use Rattle.daos_model.specs.Effect.{effect, effects, extent_cells}
+use Rattle.daos_model.specs.Effect.{effect, extent_cells}
 use Rattle.daos_model.specs.Forms.{ends_at_akey, is_length, is_write_in_form}
 use Rattle.daos_model.specs.Prunes.{touches, values_of}
 use Rattle.daos_model.specs.Ordered.{is_rising}
 use Rattle.daos_model.specs.Sameness.{same_cell-Decides}
-use Rattle.daos_laws.specs.Groups.{ArePartsUnder, DkeysAreJoined, DkeysHaveOneGroup, ExistsIsJoined, GroupPartsAreParts, HasDkeys, IsPartUnder, WritesKeepDkeys, answer_of_groups, group_part, is_dkey_of_group, is_in_group, join_all, join_more}
+use Rattle.daos_laws.specs.Groups.{DkeysAreJoined, DkeysHaveOneGroup, ExistsIsJoined, GroupPartsAreParts, HasDkeys, IsPartUnder, WritesKeepDkeys, group_part, is_dkey_of_group, is_in_group, join_all, join_more}
 use Rattle.daos_laws.specs.Members.{Has, any-has, has-any, has-cases, has-left, has-right}
 use Rattle.daos_laws.specs.NameLaws.{has-from_names, has-names, rising-names}
 use Rattle.daos_laws.specs.ReadLaws.{Held, Named, dkey_name, answer-same, dkeys-has, has-dkeys, has-under, held-same, under-has}

@@ -1,28 +1,21 @@
 -- A target's versions stand for decided transactions, and stay so.
-use Rattle.std.specs.Prelude.{ℕ, ◌≡◌, ◌≢◌, ◌≤◌, ◌<◌, ◌⊎◌, Bool, true, false, ◌&&◌, ◌||◌, not, nat_le, nat_lt, List, [], ◌∷◌, ◌++◌, map, filter, Contains, Option, Some, None, if◌then◌else◌, refl}
+use Rattle.std.specs.Prelude.{ℕ, ◌≡◌, ◌≤◌, ◌<◌, ◌⊎◌, Bool, true, false, ◌&&◌, not, nat_le, nat_lt, List, [], ◌∷◌, ◌++◌, map, filter, Contains, Option, None, if◌then◌else◌, refl}
 use Rattle.std.proofs.Common.{sym, ◌∙◌, ap, subst, arith, inl, inr}
 use Rattle.std.proofs.lemmas.Bool.Decides.{nat_tests}
 use Rattle.std.proofs.lemmas.Bool.{cases_lt}
-use Rattle.daos_base.specs.declared.entry.Entry.{Entry}
-use Rattle.daos_base.specs.declared.id.AttemptId.{AttemptId}
-use Rattle.daos_base.specs.declared.operation.MinorWrite.{MinorWrite}
 use Rattle.daos_model.specs.declared.cell.Cell.{Cell}
-use Rattle.daos_model.specs.declared.cell.CellValue.{CellValue}
 use Rattle.daos_model.specs.declared.durable.Version.{Version}
-use Rattle.daos_model.specs.declared.stand.Stand.{Stand}
-use Rattle.daos_model.specs.Answers.{is_before}
-use Rattle.daos_model.specs.AsOf.{as_of}
-use Rattle.daos_model.specs.BoolLaws.{and_left, and_right, both, clash, not_true}
+use Rattle.daos_model.specs.BoolLaws.{and_left, and_right, both, clash}
 use Rattle.daos_model.specs.Cells.{value_at}
 use Rattle.daos_model.specs.Durables.{version_key}
 use Rattle.daos_model.specs.Effect.{effects}
 use Rattle.daos_model.specs.OrderLaws.{rising-filter}
-use Rattle.daos_model.specs.Ordered.{is_rising, put, puts}
+use Rattle.daos_model.specs.Ordered.{is_rising, puts}
 use Rattle.daos_model.specs.Versions.{done_by, is_not_pending, is_pending, versions_of, writes_in}
-use Rattle.daos_laws.specs.Dated.{AreSingleInOrder, Dated, SameWritesAt, after_all, dated, dated_key, dated_of, is_about, is_earlier, is_from, is_within, map_of}
-use Rattle.daos_laws.specs.Decided.{AreDecided, Decided, all_dated, dated_by, taken_in}
+use Rattle.daos_laws.specs.Dated.{Dated, SameWritesAt, after_all, dated, dated_key, dated_of, is_about, is_earlier, is_from, is_within, map_of}
+use Rattle.daos_laws.specs.Decided.{AreDecided, Decided, all_dated, dated_by}
 use Rattle.daos_laws.specs.DecidedLaws.{as_of-dated, before-epochs, epoch-dated, has-dated, has-from_dated, has-from_ordered, has-ordered, ordered, rising-ordered}
-use Rattle.daos_laws.specs.Matches.{AbortsKeepWrites, CommitsKeepWrites, CountsOnce, DecisionsChangeNothingBelow, DecisionsKeepMatches, DecisionsKeepWhatIsBelow, GivesAsOf, HoldsWrite, IsAdded, MarksMayRise, Matches, MatchesGiveAsOf, PreparesKeepWrites, SameWritesKeepMatches, SameWritesKeepWhatIsBelow, SameWritesMakeTheSame, counts_under}
+use Rattle.daos_laws.specs.Matches.{AbortsKeepWrites, CommitsKeepWrites, CountsOnce, DecisionsChangeNothingBelow, DecisionsKeepMatches, DecisionsKeepWhatIsBelow, IsAdded, MarksMayRise, MatchesGiveAsOf, PreparesKeepWrites, SameWritesKeepMatches, SameWritesKeepWhatIsBelow, SameWritesMakeTheSame, counts_under}
 use Rattle.daos_laws.specs.Members.{Has, contains-from_has, has-cases, has-filter, has-from_contains, has-from_filter, has-from_map, has-left, has-map, has-right}
 use Rattle.daos_laws.specs.RisingLaws.{rising-same}
 use Rattle.daos_laws.specs.VersionLaws.{after-append, after-same, filter-put, rising-append, rising-dated, value-effects}

@@ -6,7 +6,6 @@ use Rattle.daos_base.specs.declared.id.AttemptId.{AttemptId}
 use Rattle.daos_base.specs.declared.operation.MinorWrite.{MinorWrite}
 use Rattle.daos_base.specs.declared.operation.Read.{Read}
 use Rattle.daos_base.specs.Operations.{read_path}
-use Rattle.daos_base.specs.Paths.{leads_to}
 use Rattle.daos_model.specs.declared.cell.Cell.{Cell}
 use Rattle.daos_model.specs.declared.durable.Version.{Version}
 use Rattle.daos_model.specs.declared.stand.Stand.{Stand}

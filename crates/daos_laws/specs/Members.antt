@@ -1,7 +1,7 @@
 -- What stands in a list.
-use Rattle.std.specs.Prelude.{ℕ, zero, suc, ◌+◌, ◌<◌, ◌≡◌, ◌⊎◌, Bool, true, false, List, [], ◌∷◌, ◌++◌, ◌||◌, map, filter, length, Contains, slice_index_or, if◌then◌else◌, refl}
+use Rattle.std.specs.Prelude.{zero, suc, ◌≡◌, ◌⊎◌, Bool, true, false, List, [], ◌∷◌, ◌++◌, ◌||◌, map, filter, Contains, if◌then◌else◌, refl}
 use Rattle.std.specs.List.{list_any}
-use Rattle.std.proofs.Common.{sym, ◌∙◌, ap, subst, arith, inl, inr}
+use Rattle.std.proofs.Common.{sym, ◌∙◌, ap, arith, inl, inr}
 
 -- something stands in a list
 abbrev pub Has : {T : Type 0} → T → List T → Type 0

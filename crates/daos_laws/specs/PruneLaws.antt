@@ -1,5 +1,5 @@
 -- A prune, also one that was cut, leaves what is seen above it and at snapshots.
-use Rattle.std.specs.Prelude.{ℕ, ◌≡◌, ◌≢◌, ◌+◌, ◌<◌, ◌≤◌, ◌⊎◌, ◌==◌, Bool, true, false, ◌&&◌, ◌||◌, not, nat_le, nat_lt, List, [], ◌∷◌, filter, map, AllPairs, Contains, Option, Some, None, if◌then◌else◌, refl}
+use Rattle.std.specs.Prelude.{ℕ, ◌≡◌, ◌≢◌, ◌+◌, ◌<◌, ◌≤◌, ◌⊎◌, ◌==◌, Bool, true, false, ◌&&◌, ◌||◌, not, nat_le, nat_lt, List, [], ◌∷◌, filter, refl}
 use Rattle.std.specs.List.{list_any}
 use Rattle.std.proofs.Common.{sym, ◌∙◌, ap, subst, arith, inl, inr}
 use Rattle.std.proofs.lemmas.Bool.{cases_lt}
@@ -7,26 +7,23 @@ use Rattle.std.proofs.lemmas.Bool.Decides.{nat_tests}
 use Rattle.std.proofs.lemmas.List.Kept.{AllPairs-filter}
 use Rattle.daos_base.specs.declared.epoch.Epoch.{Epoch}
 use Rattle.daos_base.specs.declared.id.ContId.{ContId}
-use Rattle.daos_base.specs.declared.path.Path.{Path}
 use Rattle.daos_base.specs.declared.snapshot.Snap.{Snap}
-use Rattle.daos_base.specs.Operations.{write_path}
 use Rattle.daos_base.specs.Paths.{leads_to}
 use Rattle.daos_model.specs.declared.cell.Cell.{Cell}
 use Rattle.daos_model.specs.declared.cell.CellValue.{CellValue}
 use Rattle.daos_model.specs.declared.durable.Version.{Version}
 use Rattle.daos_model.specs.Answers.{is_before}
-use Rattle.daos_model.specs.BoolLaws.{and_left, and_right, both, clash, not_false, not_true, or_left, or_right}
+use Rattle.daos_model.specs.BoolLaws.{and_left, and_right, both, clash, not_true, or_left, or_right}
 use Rattle.daos_model.specs.Cells.{value_at}
 use Rattle.daos_model.specs.Durables.{version_key}
-use Rattle.daos_model.specs.Effect.{effects}
 use Rattle.daos_model.specs.OrderLaws.{before-itself, before-total, in_order-filter, rising-filter}
 use Rattle.daos_model.specs.Ordered.{all_after, is_rising}
 use Rattle.daos_model.specs.Prunes.{Partly, hides, is_going, is_hidden, is_idle, is_in_sight, is_needing, is_old, is_punch, is_shown, is_unseen, shows_at, shows_in, touches, values_of}
-use Rattle.daos_model.specs.Versions.{sees, version_path, writes_in}
+use Rattle.daos_model.specs.Versions.{sees, version_path}
 use Rattle.daos_laws.specs.Dated.{AreSingleInOrder, map_of}
 use Rattle.daos_laws.specs.Matches.{counts_under}
-use Rattle.daos_laws.specs.Members.{Has, any-has, contains-from_has, has-any, has-filter, has-from_contains, has-from_filter}
-use Rattle.daos_laws.specs.Pruning.{DoneCount, HasSnapAt, IsSight, PrunesKeepNow, PrunesKeepOrder, PrunesKeepSights}
+use Rattle.daos_laws.specs.Members.{Has, any-has, has-any, has-filter, has-from_contains, has-from_filter}
+use Rattle.daos_laws.specs.Pruning.{DoneCount, PrunesKeepNow, PrunesKeepOrder, PrunesKeepSights}
 use Rattle.daos_laws.specs.RisingLaws.{after-has}
 use Rattle.daos_laws.specs.TouchLaws.{Newest, NewestAt, Untouched, newest-of, punch-path, punch-values, update-path, update-value}
 use Rattle.daos_laws.specs.VersionLaws.{rising-from_single}

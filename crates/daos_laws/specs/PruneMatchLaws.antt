@@ -1,5 +1,5 @@
 -- What a prune leaves goes on to match the decided transactions.
-use Rattle.std.specs.Prelude.{ℕ, ◌≡◌, ◌≢◌, ◌+◌, ◌<◌, ◌≤◌, ◌==◌, Bool, true, false, ◌&&◌, ◌||◌, not, is_none, List, filter, map, Contains, refl}
+use Rattle.std.specs.Prelude.{◌≡◌, ◌≢◌, ◌+◌, ◌==◌, Bool, true, false, ◌&&◌, ◌||◌, not, is_none, List, filter, Contains, refl}
 use Rattle.std.specs.Option.{option_eq}
 use Rattle.std.proofs.Common.{sym, ◌∙◌, ap, subst, arith, inl}
 use Rattle.std.proofs.lemmas.Bool.Decides.{nat_tests}
@@ -12,14 +12,13 @@ use Rattle.daos_base.specs.Keys.{same_key}
 use Rattle.daos_base.specs.Operations.{write_path}
 use Rattle.daos_base.specs.Paths.{leads_to, same_object}
 use Rattle.daos_model.specs.declared.cell.Cell.{Cell}
-use Rattle.daos_model.specs.declared.durable.Durable.{Durable}
 use Rattle.daos_model.specs.declared.durable.Version.{Version}
-use Rattle.daos_model.specs.BoolLaws.{and_left, clash, not_false}
+use Rattle.daos_model.specs.BoolLaws.{and_left}
 use Rattle.daos_model.specs.Cells.{value_at}
 use Rattle.daos_model.specs.Changes.{pruned, with_versions}
 use Rattle.daos_model.specs.Prunes.{Partly, is_going, is_old, is_punch, is_staying, touches}
-use Rattle.daos_model.specs.Versions.{map_below, sees, version_path}
-use Rattle.daos_laws.specs.Dated.{AreSingleInOrder, Dated, SameWritesAt, dated, dated_of, is_from, map_of}
+use Rattle.daos_model.specs.Versions.{map_below, sees}
+use Rattle.daos_laws.specs.Dated.{AreSingleInOrder, Dated, dated, dated_of, is_from, map_of}
 use Rattle.daos_laws.specs.Matches.{Matches, counts_under}
 use Rattle.daos_laws.specs.MatchLaws.{counted-has, has-counted, mark-from, marks-rise}
 use Rattle.daos_laws.specs.Members.{Has, contains-from_has, has-filter, has-from_contains, has-from_filter}

@@ -1,10 +1,10 @@
 -- Lists in which each key comes after those before it: what stands in them decides them.
-use Rattle.std.specs.Prelude.{ℕ, ◌≡◌, ◌≢◌, ◌⊎◌, Bool, true, false, ◌&&◌, not, List, [], ◌∷◌, filter, if◌then◌else◌, refl}
-use Rattle.std.proofs.Common.{sym, ◌∙◌, ap, subst, inl, inr}
+use Rattle.std.specs.Prelude.{ℕ, ◌≡◌, true, not, List, [], ◌∷◌, refl}
+use Rattle.std.proofs.Common.{sym, ◌∙◌, ap, inl, inr}
 use Rattle.daos_model.specs.Answers.{is_before}
 use Rattle.daos_model.specs.BoolLaws.{and_left, and_right, both, clash}
-use Rattle.daos_model.specs.OrderLaws.{before-asym, before-itself, before-total, before-trans}
-use Rattle.daos_model.specs.Ordered.{all_after, all_from, is_in_order, is_rising}
+use Rattle.daos_model.specs.OrderLaws.{before-asym, before-itself}
+use Rattle.daos_model.specs.Ordered.{all_after, all_from, is_rising}
 use Rattle.daos_laws.specs.Members.{Has}
 
 module _ {T : Type 0} (key : T → List ℕ) where

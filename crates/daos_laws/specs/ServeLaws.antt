@@ -1,5 +1,5 @@
 -- A read that no unsettled version keeps from its answer sees all that counts.
-use Rattle.std.specs.Prelude.{ℕ, ◌≡◌, ◌⊎◌, ◌==◌, Bool, true, false, ◌&&◌, ◌||◌, not, nat_lt, is_none, is_some, length, ◌+◌, ◌^◌, List, [], ◌∷◌, Option, Some, None, Contains, Decides, refl}
+use Rattle.std.specs.Prelude.{◌≡◌, ◌⊎◌, ◌==◌, Bool, true, false, ◌&&◌, ◌||◌, not, nat_lt, is_none, is_some, ◌+◌, ◌^◌, List, [], ◌∷◌, Option, Some, None, Contains, Decides, refl}
 use Rattle.std.specs.Option.{option_eq}
 use Rattle.std.specs.List.{list_all}
 use Rattle.std.proofs.Common.{sym, ◌∙◌, ap, subst, inl, inr}
@@ -21,7 +21,7 @@ use Rattle.daos_model.specs.Durables.{is_version_in_form}
 use Rattle.daos_model.specs.Forms.{ends_at_akey, ends_at_dkey, ends_at_object, is_length, is_path_in_form, is_read_in_form, is_write_in_form}
 use Rattle.daos_model.specs.Prunes.{is_punch, touches}
 use Rattle.daos_model.specs.Versions.{blocks_read, map_below, sees, version_path}
-use Rattle.daos_laws.specs.Dated.{AreSingleInOrder, Dated, dated, dated_of, is_about, map_of}
+use Rattle.daos_laws.specs.Dated.{Dated, dated_of, is_about, map_of}
 use Rattle.daos_laws.specs.Matches.{ServedReadsSeeAll, counts_under}
 use Rattle.daos_laws.specs.MatchLaws.{counted-has, has-counted}
 use Rattle.daos_laws.specs.Members.{Has, contains-from_has, has-from_contains}

@@ -1,8 +1,7 @@
 -- Prunes leave what all targets stand for.
-use Rattle.std.specs.Prelude.{ℕ, zero, suc, ◌≡◌, ◌≢◌, ◌+◌, ◌⊎◌, ◌==◌, Bool, true, false, ◌&&◌, ◌||◌, not, nat_lt, is_some, List, [], ◌∷◌, ◌++◌, map, filter, find, length, Contains, Option, Some, None, if◌then◌else◌, refl}
+use Rattle.std.specs.Prelude.{ℕ, suc, ◌≡◌, ◌+◌, ◌==◌, Bool, true, false, ◌&&◌, ◌||◌, not, nat_lt, is_some, List, [], ◌∷◌, ◌++◌, map, filter, find, length, Contains, Option, Some, None, if◌then◌else◌, refl}
 use Rattle.std.specs.List.{list_any}
-use Rattle.std.proofs.Common.{sym, ◌∙◌, ap, subst, arith, inl, inr}
-use Rattle.std.proofs.lemmas.Bool.Decides.{nat_tests}
+use Rattle.std.proofs.Common.{sym, ◌∙◌, ap, subst, inl, inr}
 use Rattle.daos_base.specs.declared.entry.Entry.{Entry}
 use Rattle.daos_base.specs.declared.epoch.Epoch.{Epoch}
 use Rattle.daos_base.specs.declared.id.AttemptId.{AttemptId}
@@ -17,12 +16,10 @@ use Rattle.daos_model.specs.BoolLaws.{and_left, and_right}
 use Rattle.daos_model.specs.Cells.{same_cell, value_at}
 use Rattle.daos_model.specs.Durables.{entry_of, is_entry_of, is_frozen, is_snap_at}
 use Rattle.daos_model.specs.Effect.{effects}
-use Rattle.daos_model.specs.Family.{all_hold_from, counts, counts_below, created_snaps, family_map, holds, is_created, is_in_cont, is_in_field, is_led_by, is_resolved_entry, joined, map_where, part_of, resolved, snap_map, stand}
+use Rattle.daos_model.specs.Family.{all_hold_from, counts, counts_below, created_snaps, family_map, holds, is_created, is_in_field, is_led_by, is_resolved_entry, joined, map_where, part_of, resolved, snap_map, stand}
 use Rattle.daos_model.specs.Versions.{writes_in}
-use Rattle.daos_laws.specs.Dated.{AreSingleInOrder, map_of}
-use Rattle.daos_laws.specs.Matches.{counts_under}
 use Rattle.daos_laws.specs.MatchLaws.{filter_on}
-use Rattle.daos_laws.specs.Members.{Has, contains-from_has, has-any, has-from_contains}
+use Rattle.daos_laws.specs.Members.{Has, contains-from_has, has-any}
 use Rattle.daos_laws.specs.PruneLaws.{prunes-now, prunes-sights}
 use Rattle.daos_laws.specs.PruneMatchLaws.{prunes-elsewhere}
 use Rattle.daos_laws.specs.Pruning.{ArePruned, HasSnapAt, IsPruned, IsReady, PrunesKeepStand, SameSnap, SameSnaps}

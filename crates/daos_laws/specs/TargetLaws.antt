@@ -1,5 +1,5 @@
 -- What each target holds of the map, and what all targets stand for together.
-use Rattle.std.specs.Prelude.{ℕ, zero, suc, ◌≡◌, ◌≢◌, ◌<◌, ◌≤◌, ◌+◌, ◌⊎◌, ◌==◌, ◌^◌, Bool, true, false, ◌&&◌, ◌||◌, nat_le, nat_lt, is_none, is_some, List, [], ◌∷◌, ◌++◌, map, filter, length, Contains, slice_get, All, Option, Some, None, if◌then◌else◌, refl}
+use Rattle.std.specs.Prelude.{ℕ, zero, suc, ◌≡◌, ◌≢◌, ◌<◌, ◌+◌, ◌⊎◌, ◌==◌, ◌^◌, Bool, true, false, ◌&&◌, ◌||◌, nat_lt, is_none, is_some, List, [], ◌∷◌, ◌++◌, filter, length, Contains, slice_get, Option, Some, None, if◌then◌else◌, refl}
 use Rattle.std.specs.List.{list_all, list_any, range_with_len}
 use Rattle.std.specs.Option.{option_eq}
 use Rattle.std.proofs.Common.{sym, ◌∙◌, ap, subst, arith, inl, inr}
@@ -9,34 +9,31 @@ use Rattle.daos_base.specs.declared.id.ObjId.{ObjId}
 use Rattle.daos_base.specs.declared.operation.Write.{Write}
 use Rattle.daos_base.specs.declared.operation.Write.TheVariants as write
 use Rattle.daos_base.specs.declared.path.Path.{Path}
-use Rattle.daos_base.specs.Keys.{same_key}
 use Rattle.daos_base.specs.Operations.{write_path}
 use Rattle.daos_base.specs.Paths.{leads_to, same_object}
 use Rattle.daos_base.specs.PathLaws.{same_object-Decides}
-use Rattle.daos_base.specs.Placement.{ClassFits, group_of, groups, groups_members, leader_of, members, object_leader, object_members, path_leader, path_members}
+use Rattle.daos_base.specs.Placement.{group_of, groups, groups_members, leader_of, members, object_leader, object_members, path_leader, path_members}
 use Rattle.daos_base.specs.PlacementLaws.{group_of-within, leader_of-member, members-disjoint, members-within}
 use Rattle.daos_model.specs.declared.cell.Cell.{Cell}
 use Rattle.daos_model.specs.declared.cell.CellValue.{CellValue}
 use Rattle.daos_model.specs.declared.durable.Durable.{Durable}
 use Rattle.daos_model.specs.declared.durable.Version.{Version}
-use Rattle.daos_model.specs.declared.stand.Stand.{Stand}
 use Rattle.daos_model.specs.AsOf.{as_of}
 use Rattle.daos_model.specs.BoolLaws.{and_left, and_right, both, clash}
 use Rattle.daos_model.specs.Cells.{same_cell, value_at}
 use Rattle.daos_model.specs.Durables.{is_version_in_form, version_key}
 use Rattle.daos_model.specs.Effect.{effects}
-use Rattle.daos_model.specs.Family.{Agree, counts, family_map, is_led_by, joined, map_where, stand}
+use Rattle.daos_model.specs.Family.{counts, family_map, is_led_by, joined, map_where, stand}
 use Rattle.daos_model.specs.Forms.{ends_at_akey, is_length, is_write_in_form}
 use Rattle.daos_model.specs.OrderLaws.{rising-filter}
-use Rattle.daos_model.specs.Ordered.{is_rising}
 use Rattle.daos_model.specs.Prunes.{is_punch, touches, values_of}
 use Rattle.daos_model.specs.Sameness.{same_cell-Decides}
-use Rattle.daos_model.specs.Versions.{version_path, writes_in, written_by}
-use Rattle.daos_laws.specs.Dated.{AreSingleInOrder, Dated, after_all, dated, dated_of, dated_key, is_from, map_of}
-use Rattle.daos_laws.specs.Decided.{AreDecided, Decided, all_dated, dated_at, taken_in}
-use Rattle.daos_laws.specs.DecidedLaws.{IsWriteOf, all-from_has, as_of-dated, has-all, has-dated, has-from_dated, has-from_ordered, has-ordered, ordered, rising-ordered}
+use Rattle.daos_model.specs.Versions.{writes_in, written_by}
+use Rattle.daos_laws.specs.Dated.{AreSingleInOrder, Dated, after_all, dated_of, dated_key, is_from, map_of}
+use Rattle.daos_laws.specs.Decided.{Decided, all_dated, dated_at, taken_in}
+use Rattle.daos_laws.specs.DecidedLaws.{all-from_has, as_of-dated, has-all, has-dated, has-from_dated, has-from_ordered, has-ordered, ordered, rising-ordered}
 use Rattle.daos_laws.specs.Groups.{HasDkeys, is_dkey_of_group, is_in_group}
-use Rattle.daos_laws.specs.Matches.{Matches, counts_under}
+use Rattle.daos_laws.specs.Matches.{counts_under}
 use Rattle.daos_laws.specs.MatchLaws.{counted-has, filter_on, mark-from}
 use Rattle.daos_laws.specs.Members.{Has, any-has, contains-from_has, has-any, has-cases, has-from_contains, has-from_filter, has-from_map, has-left, has-right}
 use Rattle.daos_laws.specs.RisingLaws.{rising-same}

@@ -1,5 +1,5 @@
 -- What each target holds of the map, and what all targets stand for together.
-use Rattle.std.specs.Prelude.{ℕ, ◌≡◌, ◌<◌, ◌==◌, Bool, true, ◌&&◌, is_some, All, List, [], length, Contains, slice_get, Option, Some}
+use Rattle.std.specs.Prelude.{ℕ, ◌≡◌, ◌<◌, ◌==◌, Bool, true, ◌&&◌, is_some, All, List, [], length, Contains, slice_get, Some}
 use Rattle.std.specs.List.{list_all, list_any}
 use Rattle.daos_base.specs.declared.id.ObjId.{ObjId}
 use Rattle.daos_base.specs.declared.operation.Write.{Write}

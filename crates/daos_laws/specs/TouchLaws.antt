@@ -1,7 +1,7 @@
 -- What it takes that a write says what a cell holds, and which write is the newest that does.
-use Rattle.std.specs.Prelude.{ℕ, ◌≡◌, ◌+◌, ◌⊎◌, Bool, true, false, ◌&&◌, ◌||◌, not, List, [], ◌∷◌, Option, Some, None, if◌then◌else◌, refl}
+use Rattle.std.specs.Prelude.{ℕ, ◌≡◌, ◌+◌, Bool, true, false, List, [], ◌∷◌, if◌then◌else◌, refl}
 use Rattle.std.specs.List.{list_any}
-use Rattle.std.proofs.Common.{sym, ◌∙◌, ap, subst, inl, inr}
+use Rattle.std.proofs.Common.{sym, ◌∙◌, ap, inl, inr}
 use Rattle.daos_base.specs.declared.operation.Write.{Write}
 use Rattle.daos_base.specs.declared.operation.Write.TheVariants.{Single, Extent, PunchObject, PunchDkey, PunchAkey}
 use Rattle.daos_base.specs.declared.path.Path.{Path}
@@ -12,7 +12,7 @@ use Rattle.daos_model.specs.declared.cell.CellValue.{CellValue}
 use Rattle.daos_model.specs.declared.durable.Version.{Version}
 use Rattle.daos_model.specs.Answers.{is_before}
 use Rattle.daos_model.specs.BoolLaws.{and_left, and_right, clash}
-use Rattle.daos_model.specs.Cells.{is_of, same_cell, value_at}
+use Rattle.daos_model.specs.Cells.{is_of, value_at}
 use Rattle.daos_model.specs.Durables.{version_key}
 use Rattle.daos_model.specs.Effect.{effect, effects, extent_cells}
 use Rattle.daos_model.specs.OrderLaws.{before-asym, before-itself}
@@ -22,7 +22,7 @@ use Rattle.daos_model.specs.Sameness.{same_cell-Decides}
 use Rattle.daos_model.specs.Versions.{writes_in}
 use Rattle.daos_laws.specs.Members.{Has, has-any}
 use Rattle.daos_laws.specs.RisingLaws.{after-has}
-use Rattle.daos_laws.specs.WriteLaws.{after_write, value-effect}
+use Rattle.daos_laws.specs.WriteLaws.{value-effect}
 
 -- ---- updates and punches
 

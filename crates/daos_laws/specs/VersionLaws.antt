@@ -1,5 +1,5 @@
 -- What a map of versions depends on.
-use Rattle.std.specs.Prelude.{ℕ, zero, suc, ◌≡◌, ◌≢◌, ◌≤◌, ◌<◌, ◌⊎◌, Bool, true, false, ◌&&◌, ◌||◌, not, nat_le, nat_lt, List, [], ◌∷◌, ◌++◌, map, filter, AllPairs, Contains, Option, Some, None, if◌then◌else◌, refl}
+use Rattle.std.specs.Prelude.{ℕ, zero, suc, ◌≡◌, ◌≢◌, ◌≤◌, ◌⊎◌, Bool, true, false, ◌&&◌, nat_lt, List, [], ◌∷◌, ◌++◌, map, filter, AllPairs, Contains, Option, None, if◌then◌else◌, refl}
 use Rattle.std.specs.List.Sorted.{IsPermutation}
 use Rattle.std.proofs.Common.{sym, ◌∙◌, ap, subst, arith, inl, inr}
 use Rattle.std.proofs.lemmas.Bool.Decides.{nat_tests}
@@ -9,7 +9,7 @@ use Rattle.daos_model.specs.declared.cell.Cell.{Cell}
 use Rattle.daos_model.specs.declared.cell.CellValue.{CellValue}
 use Rattle.daos_model.specs.declared.durable.Version.{Version}
 use Rattle.daos_model.specs.Answers.{is_before}
-use Rattle.daos_model.specs.BoolLaws.{and_left, and_right, both, clash, not_true}
+use Rattle.daos_model.specs.BoolLaws.{and_left, and_right, both, not_true}
 use Rattle.daos_model.specs.Cells.{value_at}
 use Rattle.daos_model.specs.Durables.{version_key}
 use Rattle.daos_model.specs.Effect.{effect, effects}
@@ -17,10 +17,10 @@ use Rattle.daos_model.specs.OrderLaws.{before-total, rising-filter}
 use Rattle.daos_model.specs.Ordered.{all_after, all_from, is_in_order, is_rising, put}
 use Rattle.daos_model.specs.Prunes.{touches, values_of}
 use Rattle.daos_model.specs.Versions.{map_below, sees, writes_in}
-use Rattle.daos_laws.specs.Dated.{AreSingleInOrder, Dated, SameWritesAt, after_all, dated, dated_key, dated_of, is_about, is_earlier, is_from, is_within, map_of}
-use Rattle.daos_laws.specs.Members.{Has, contains-from_has, has-cases, has-filter, has-from_contains, has-from_filter, has-from_map, has-left, has-map, has-right}
+use Rattle.daos_laws.specs.Dated.{AreSingleInOrder, Dated, SameWritesAt, after_all, dated, dated_key, dated_of, is_about, map_of}
+use Rattle.daos_laws.specs.Members.{Has, contains-from_has, has-cases, has-filter, has-from_contains, has-from_filter}
 use Rattle.daos_laws.specs.RisingLaws.{after-all, after-has, from-has, rising-same}
-use Rattle.daos_laws.specs.WriteLaws.{after_write, effects-append, effects-same, value-effect}
+use Rattle.daos_laws.specs.WriteLaws.{after_write, value-effect}
 
 -- What versions give at a cell depends on which writes that say what it holds pass, and on nothing else: not on how they
 -- came about, who made them, or what else stands among them.
