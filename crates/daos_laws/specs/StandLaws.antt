@@ -16,7 +16,7 @@ use Rattle.daos_model.specs.BoolLaws.{and_left, and_right}
 use Rattle.daos_model.specs.Cells.{same_cell, value_at}
 use Rattle.daos_model.specs.Durables.{entry_of, is_entry_of, is_frozen, is_snap_at}
 use Rattle.daos_model.specs.Effect.{effects}
-use Rattle.daos_model.specs.Family.{all_hold_from, counts, counts_below, created_snaps, family_map, holds, is_created, is_in_field, is_led_by, is_resolved_entry, joined, map_where, part_of, resolved, snap_map, stand}
+use Rattle.daos_model.specs.Family.{all_hold_from, counts, counts_below, created_snaps, family_map, holds, is_created, is_in_field, is_led_by, is_resolved_entry, is_within, joined, map_where, part_of, resolved, snap_map, stand}
 use Rattle.daos_model.specs.Versions.{writes_in}
 use Rattle.daos_laws.specs.MatchLaws.{filter_on}
 use Rattle.daos_laws.specs.Members.{Has, contains-from_has, has-any}
@@ -39,9 +39,17 @@ hold-same c upto t e (d ∷ F) (f ∷ G) p =
     ap (λ o. (is_some o || not (is_in_field e.members t || e.leader == t)) && all_hold_from (t + 1) e G) (entry-same c upto d f e.attempt p.0)
     ∙ ap (λ b. (holds e.attempt d || not (is_in_field e.members t || e.leader == t)) && b) (hold-same c upto (t + 1) e F G p.1)
 
+length-same : (c : ContId) (upto : Epoch) (F G : List Durable) → ArePruned c upto F G → length G ≡ length F
+length-same c upto [] [] p = refl
+length-same c upto [] (f ∷ G) p = absurd p
+length-same c upto (d ∷ F) [] p = absurd p
+length-same c upto (d ∷ F) (f ∷ G) p = ap suc (length-same c upto F G p.1)
+
 resolved_entry-same : (c : ContId) (upto : Epoch) (F G : List Durable) → ArePruned c upto F G → (o : Option Entry) → is_resolved_entry G o ≡ is_resolved_entry F o
 resolved_entry-same c upto F G p None = refl
-resolved_entry-same c upto F G p (Some e) = ap (λ b. e.committed || b) (hold-same c upto 0 e F G p)
+resolved_entry-same c upto F G p (Some e) =
+    ap (λ n. e.committed || ((nat_lt e.leader n && nat_lt e.members (2 ^ n)) && all_hold_from 0 e G)) (length-same c upto F G p)
+    ∙ ap (λ b. e.committed || (is_within F e && b)) (hold-same c upto 0 e F G p)
 
 any_resolved-same : (c : ContId) (upto : Epoch) (F G : List Durable) → ArePruned c upto F G → (x : AttemptId) (ds fs : List Durable) → ArePruned c upto ds fs
     → list_any (λ d. is_resolved_entry G (entry_of d x)) fs ≡ list_any (λ d. is_resolved_entry F (entry_of d x)) ds
@@ -56,12 +64,6 @@ any_resolved-same c upto F G p x (d ∷ ds) (f ∷ fs) q =
 counts-same : (c : ContId) (upto : Epoch) (F G : List Durable) → ArePruned c upto F G → (v : Version) → counts G v ≡ counts F v
 unfolding resolved
 counts-same c upto F G p v = ap (λ b. v.done || b) (any_resolved-same c upto F G p v.by F G p)
-
-length-same : (c : ContId) (upto : Epoch) (F G : List Durable) → ArePruned c upto F G → length G ≡ length F
-length-same c upto [] [] p = refl
-length-same c upto [] (f ∷ G) p = absurd p
-length-same c upto (d ∷ F) [] p = absurd p
-length-same c upto (d ∷ F) (f ∷ G) p = ap suc (length-same c upto F G p.1)
 
 -- ---- maps of families
 

@@ -4,6 +4,7 @@ use Rattle.std.specs.List.{list_any}
 use Rattle.daos_base.specs.declared.entry.Entry.{Entry}
 use Rattle.daos_base.specs.declared.epoch.Epoch.{Epoch}
 use Rattle.daos_base.specs.declared.id.AttemptId.{AttemptId}
+use Rattle.daos_base.specs.declared.id.ContId.{ContId}
 use Rattle.daos_base.specs.declared.snapshot.Snap.{Snap}
 use Rattle.daos_base.specs.Epochs.{restart_floor}
 use Rattle.daos_base.specs.Placement.{path_leader, path_members}
@@ -52,9 +53,13 @@ resolved F x = list_any (λ d. is_resolved_entry F (entry_of d x)) F
 abbrev pub counts : List Durable → Version → Bool
 counts F v = v.done || resolved F v.by
 
--- and for a snapshot, where it is of the snapshot's container and lies below its epoch too
+-- and below an epoch, where it lies below it too
+abbrev pub counts_below : List Durable → ℕ → Version → Bool
+counts_below F e v = counts F v && nat_lt v.epoch.0 e
+
+-- and at a snapshot, where it lies below the snapshot's epoch and is of its container
 abbrev pub counts_at : List Durable → Snap → Version → Bool
-counts_at F s v = counts F v && ((version_path v).cont.0 == s.cont.0) && nat_lt v.epoch.0 s.epoch.0
+counts_at F s v = counts_below F s.epoch.0 v && ((version_path v).cont.0 == s.cont.0)
 
 -- the map that those of a target's versions make that count, in order of epochs and numbers
 abbrev pub map_where : (Version → Bool) → Durable → List CellValue
@@ -75,6 +80,13 @@ family_map p F = joined (length F) 0 p F
 
 -- ---- what a family stands for
 
+abbrev pub is_in_cont : ContId → CellValue → Bool
+is_in_cont c v = v.cell.path.cont.0 == c.0
+
+-- a map's cells in a container
+abbrev pub part_of : ContId → List CellValue → List CellValue
+part_of c m = filter (is_in_cont c) m
+
 abbrev pub is_created : Snap → Bool
 is_created s = s.created
 
@@ -85,7 +97,7 @@ created_snaps (d ∷ ds) = filter is_created d.snaps
 
 -- the map of a snapshot: that of its container, of the versions below its epoch
 abbrev pub snap_map : List Durable → Snap → SnapMap
-snap_map F s = record { cont = s.cont; epoch = s.epoch; map = family_map (counts_at F s) F }
+snap_map F s = record { cont = s.cont; epoch = s.epoch; map = part_of s.cont (family_map (counts_below F s.epoch.0) F) }
 
 -- what a family stands for: its map now, and that of each created snapshot
 unfoldable pub stand : List Durable → Stand

@@ -15,7 +15,7 @@ use Rattle.daos_model.specs.declared.stand.Taken.{Taken}
 use Rattle.daos_model.specs.AsOf.{as_of}
 use Rattle.daos_model.specs.Attempts.{is_unsure, tries}
 use Rattle.daos_model.specs.Cells.{value_at}
-use Rattle.daos_model.specs.Family.{Agree, greatest_lease, resolved, stand}
+use Rattle.daos_model.specs.Family.{Agree, greatest_lease, part_of, resolved, stand}
 use Rattle.daos_model.specs.Headline.{Headline}
 use Rattle.daos_model.specs.Opening.{Given, Opening, Outside, kept_map}
 use Rattle.daos_model.specs.Snapshots.{MakesSnapshotAt}
@@ -28,13 +28,6 @@ SameMap m n = (c : Cell) → value_at m c ≡ value_at n c
 abbrev pub IsSameAs : List CellValue → Option (List CellValue) → Type 0
 IsSameAs m None = ⊥
 IsSameAs m (Some n) = SameMap m n
-
-abbrev pub is_in_cont : ContId → CellValue → Bool
-is_in_cont c v = v.cell.path.cont.0 == c.0
-
--- a map's cells in a container
-abbrev pub part_of : ContId → List CellValue → List CellValue
-part_of c m = filter (is_in_cont c) m
 
 -- a snapshot is kept among others, with the same map
 abbrev pub IsKeptIn : List SnapMap → SnapMap → Type 0
