@@ -1,6 +1,7 @@
 -- What the program's answers stand for.
-use Rattle.std.specs.Prelude.{ℕ, ◌≡◌, List, length, Option, ◌⊎◌}
+use Rattle.std.specs.Prelude.{ℕ, ◌≡◌, true, false, List, length, Option, ◌⊎◌}
 use Rattle.std.specs.Io.KnownBytes.{Consumes, IsAtEnd}
+use Rattle.daos_base.specs.declared.fault.ScriptFault.{ScriptFault}
 use Rattle.daos_base.specs.declared.fault.Why.TheVariants as why
 use Rattle.daos_base.specs.declared.fault.WordKind.TheVariants as kind
 use Rattle.daos_base.specs.declared.job.Job.{Job}
@@ -12,22 +13,36 @@ use Rattle.daos_report.specs.Forms.{IsReportOf}
 use Rattle.daos_report.specs.Reports.{report_text}
 use Rattle.daos_run.specs.Lone.{no_one}
 use Rattle.daos_run.specs.Runs.{IsRunOf}
-use Rattle.daos_script.specs.Grammar.{IsScriptText}
+use Rattle.daos_run.specs.Runnable.{runs}
+use Rattle.daos_script.specs.Grammar.{HasFault, IsScriptText}
 use Rattle.daos_app.specs.declared.status.Status.{Status}
 use Rattle.daos_app.specs.declared.status.Status.TheVariants as status
 
--- the bytes read, to the source's end, are a text of the script
+-- what is told of a script without a fault that the program doesn't run yet
+abbrev pub script_not_yet : ScriptFault
+script_not_yet = record { line = 0; why = why.NotYet }
+
+-- the bytes read, to the source's end, are a text of the script, which is run so far
 pub record IsRead (left left_now : Option (List ℕ)) (script : Script) : Type 0 where
   pub bytes : List ℕ
   pub consumed : Consumes left left_now bytes
   pub at_end : IsAtEnd left_now
   pub grammar : IsScriptText 1 bytes script
+  pub run : runs script ≡ true
 
--- the bytes read are more than 16 MiB, or are all that there were and no text of a script
-pub record IsRefused (left left_now : Option (List ℕ)) : Type 0 where
+-- a text of a script that isn't run so far
+pub record IsNotYetRun (bytes : List ℕ) (fault : ScriptFault) : Type 0 where
+  pub script : Script
+  pub grammar : IsScriptText 1 bytes script
+  pub not_run : runs script ≡ false
+  pub not_yet : fault ≡ script_not_yet
+
+-- the bytes read are all that there were, or one more than 16 MiB; they have this first fault, or none, but are not run so far
+pub record IsRefused (left left_now : Option (List ℕ)) (fault : ScriptFault) : Type 0 where
   pub bytes : List ℕ
   pub consumed : Consumes left left_now bytes
-  pub no_script : (length bytes ≡ 16777217) ⊎ (IsAtEnd left_now × ((script : Script) → IsScriptText 1 bytes script → ⊥))
+  pub all : (length bytes ≡ 16777217) ⊎ IsAtEnd left_now
+  pub why : HasFault 1 bytes fault ⊎ IsNotYetRun bytes fault
 
 -- the text of a report of a run of the script, over regions of zeros that nothing disturbs: by the headline, each command with one
 -- committed attempt, and in the form in which a text determines its report
@@ -44,18 +59,15 @@ pub record IsRun (job : Job) (left left_now : Option (List ℕ)) (text : List �
   pub read : IsRead left left_now script
   pub reported : IsReported job script text
 
--- the answers to words and scripts that the program doesn't run yet
+-- the answer to words that the program doesn't run yet
 abbrev pub words_not_yet : Status
 words_not_yet = status.Words (record { place = 0; kind = kind.NotYet })
-
-abbrev pub script_not_yet : Status
-script_not_yet = status.Script (record { line = 0; why = why.NotYet })
 
 -- the answers that the program gives so far
 abbrev pub IsAnswerSoFar : Status → Type 0
 IsAnswerSoFar status.Done = Unit {0}
 IsAnswerSoFar (status.Words fault) = status.Words fault ≡ words_not_yet
-IsAnswerSoFar (status.Script fault) = status.Script fault ≡ script_not_yet
+IsAnswerSoFar (status.Script fault) = Unit {0}
 IsAnswerSoFar status.ReadFault = Unit {0}
 IsAnswerSoFar status.WriteFault = Unit {0}
 IsAnswerSoFar (status.RackFault target) = ⊥

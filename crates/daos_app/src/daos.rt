@@ -1,16 +1,17 @@
 // The top call.
 ghost use Rattle.std.specs.Prelude.{◌≡◌, ◌≢◌, ◌≤◌, ◌↔◌, ◌⊎◌, ℕ, List, map, string_bytes};
 ghost use Rattle.std.specs.Io.KnownBytes.{Appends};
+ghost use Rattle.daos_base.specs.declared.fault.ScriptFault.{ScriptFault};
 ghost use Rattle.daos_outside.specs.Causes.{Rose};
 ghost use Rattle.daos_outside.specs.Transfers.{AppendsPrefix};
-ghost use Rattle.daos_app.specs.Answers.{IsAnswerSoFar, IsRefused, IsRun, IsBeforeRun, script_not_yet, words_not_yet};
+ghost use Rattle.daos_app.specs.Answers.{IsAnswerSoFar, IsRefused, IsRun, IsBeforeRun, words_not_yet};
 ghost use Rattle.daos_app.specs.Words.{AreRunWords, lone_job};
 
 use crate::input::{InputNo, read_input};
 use crate::output::{run_text, write_text};
 use crate::status::Status;
 use crate::words::job_of;
-use daos_base::fault::{ScriptFault, Why, WordFault, WordKind};
+use daos_base::fault::{WordFault, WordKind};
 use daos_outside::gate::Gate;
 use daos_outside::rack::Rack;
 use daos_outside::sink::Sink;
@@ -22,11 +23,6 @@ use std::thread::Threads;
 const WORDS_NOT_YET: Status = Status::Words(WordFault {
     place: 0,
     kind: WordKind::NotYet,
-});
-
-const SCRIPT_NOT_YET: Status = Status::Script(ScriptFault {
-    line: 0,
-    why: Why::NotYet,
 });
 
 /// Does all that the program does: reads the words, then the script from the source, runs it, and
@@ -47,8 +43,9 @@ pub fn run_daos<R: Threads + Wait + Sync, S: Source, K: Sink, B: Rack, G: Gate +
     ensures answers { IsAnswerSoFar result }
     ensures words { (result ≡ words_not_yet) ↔ (AreRunWords (map string_bytes words.now) → ⊥) }
 
-    // A script is refused exactly where the bytes read are none of the grammar.
-    ensures script { result ≡ script_not_yet → IsRefused (S.left source.old) (S.left source.new) }
+    // A script is refused exactly where the bytes read have a first fault, which is told, or have none
+    // but aren't run so far.
+    ensures script { (fault : ScriptFault) → result ≡ Status.Script fault → IsRefused (S.left source.old) (S.left source.new) fault }
 
     // Faults come only where the outside shows them.
     ensures read { result ≡ Status.ReadFault → Rose (S.count source.old) (S.count source.new) }
@@ -76,7 +73,7 @@ pub fn run_daos<R: Threads + Wait + Sync, S: Source, K: Sink, B: Rack, G: Gate +
     let script = match read_input(alloc, source) {
         Ok(script) => script,
         Err(InputNo::Fault) => return Status::ReadFault,
-        Err(InputNo::Refused) => return SCRIPT_NOT_YET,
+        Err(InputNo::Refused(fault)) => return Status::Script(fault),
         Err(InputNo::Memory) => return Status::Memory,
     };
     match run_text(rt, alloc, &job, &script, rack, gate) {

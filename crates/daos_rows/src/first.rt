@@ -110,7 +110,7 @@ fn faults_of_the_outside_are_told(rt: HostRuntime) -> Result<(), Fail> {
 #[test]
 fn words_and_scripts_that_are_not_run_are_refused(rt: HostRuntime) -> Result<(), Fail> {
     let alloc = rt.alloc();
-    let table: [(&[&str], &[u8], Status, &str); 6] = [
+    let table: [(&[&str], &[u8], Status, &str); 7] = [
         (&[], FIRST, WORDS_NOT_YET, "daos: word 0: NotYet"),
         (&["run"], FIRST, WORDS_NOT_YET, "daos: word 0: NotYet"),
         (
@@ -122,8 +122,20 @@ fn words_and_scripts_that_are_not_run_are_refused(rt: HostRuntime) -> Result<(),
         (
             &WORDS,
             b"client\nput o d a =1\n",
-            SCRIPT_NOT_YET,
-            "daos: script line 0: NotYet",
+            Status::Script(ScriptFault {
+                line: 2,
+                why: Why::BadName,
+            }),
+            "daos: script line 2: BadName",
+        ),
+        (
+            &WORDS,
+            b"client\ntx\nskip 1\n",
+            Status::Script(ScriptFault {
+                line: 2,
+                why: Why::BadBlock,
+            }),
+            "daos: script line 2: BadBlock",
         ),
         (
             &WORDS,

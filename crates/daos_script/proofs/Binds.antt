@@ -1,8 +1,13 @@
 -- Steps that did not fail.
-use Rattle.std.proofs.Common.{◌≡◌, Bool, true, false, cond, Option, Some, None, Result, Ok, Err, refl, is_some, is_none}
+use Rattle.std.proofs.Common.{◌≡◌, ℕ, ◌<◌, Bool, true, false, cond, leb, Option, Some, None, Result, Ok, Err, refl, sym, ◌+◌, is_some, arith}
+use Rattle.std.proofs.lemmas.Bool.Decides.{nat_tests}
 use Rattle.daos_base.specs.declared.fault.Why.{Why}
+use Rattle.daos_base.specs.declared.fault.Why.TheVariants.{TooMany}
 use Rattle.daos_text.specs.Results.{◌>>=◌}
-use Rattle.daos_script_words.specs.Reads.{Read, or_fault}
+use Rattle.daos_script_words.specs.Decls.{room}
+use Rattle.daos_script_words.specs.Reads.{Read}
+use Rattle.daos_script.specs.declared.client.Client.{Client}
+use Rattle.daos_script.specs.Puts.{present, counted}
 
 -- the value of a step, and what the next one made of it
 pub bind_ok : {A B F : Type 0} (r : Result A F) (f : A → Result B F) (y : B) → (r >>= f) ≡ Ok y → (x : A) × (r ≡ Ok x) × (f x ≡ Ok y)
@@ -20,19 +25,32 @@ pub unless_ok : {A : Type 0} (b : Bool) (why : Why) (r : Read A) (y : A) → con
 unless_ok true why r y e = absurd cc
 unless_ok false why r y e = (refl, e)
 
--- a test that had to hold
-pub where_ok : {A : Type 0} (b : Bool) (why : Why) (r : Read A) (y : A) → cond b r (Err why) ≡ Ok y → (b ≡ true) × (r ≡ Ok y)
-where_ok true why r y e = (refl, e)
-where_ok false why r y e = absurd cc
-
-pub or_fault_ok : {A : Type 0} (why : Why) (o : Option A) (x : A) → or_fault why o ≡ Ok x → o ≡ Some x
-or_fault_ok why None x e = absurd cc
-or_fault_ok why (Some y) x e = cc
-
 pub none_of : {A : Type 0} (o : Option A) → is_some o ≡ false → o ≡ None
 none_of None e = refl
 none_of (Some x) e = absurd cc
 
-pub is_none_of : {A : Type 0} (o : Option A) → is_none o ≡ true → o ≡ None
-is_none_of None e = refl
-is_none_of (Some x) e = absurd cc
+below : (m n : ℕ) → leb m n ≡ false → n < m
+below m n e = grind (arith, nat_tests)
+
+abbrev there : Read (Unit {0})
+there = Ok tt
+
+-- there was room
+pub room_ok : {A : Type 0} (most n : ℕ) (x y : A) → (room most n >>= λ fits. Ok x) ≡ Ok y → (n < most) × (x ≡ y)
+room_ok {A} most n x y e = go (leb most n) refl e
+  where
+    go : (b : Bool) → leb most n ≡ b → (cond b (Err (TooMany most)) there >>= λ fits. Ok x) ≡ Ok y → (n < most) × (x ≡ y)
+    go true h e = absurd cc
+    go false h e = (below most n h, ok_is x y e)
+
+pub present_ok : (o : Option Client) (c : Client) → present o ≡ Ok c → o ≡ Some c
+present_ok None c e = absurd cc
+present_ok (Some d) c e = cc
+
+-- one more was counted
+pub counted_ok : (n m : ℕ) → counted true n ≡ Ok m → (n < 100000) × (m ≡ n + 1)
+counted_ok n m e = go (leb 100000 n) refl e
+  where
+    go : (b : Bool) → leb 100000 n ≡ b → cond b (Err (TooMany 100000)) (Ok (n + 1)) ≡ Ok m → (n < 100000) × (m ≡ n + 1)
+    go true h e = absurd cc
+    go false h e = let same : n + 1 ≡ m = cc in (below 100000 n h, sym same)

@@ -1,9 +1,7 @@
 pub mod Binds
-pub mod Forms
-pub mod LineGives
-pub mod LineReads
-pub mod LineTakes
+pub mod Keeps
+pub mod KeepsHeads
+pub mod KeepsLists
+pub mod Lists
 pub mod Loop
-pub mod Prints
-pub mod Texts
-pub mod WordReads
+pub mod TextLaws

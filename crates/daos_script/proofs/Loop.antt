@@ -1,43 +1,116 @@
 -- The fold over the lines of a text, and where it ends.
-use Rattle.std.proofs.Common.{◌≡◌, ℕ, ◌+◌, ◌≤◌, List, [], ◌∷◌, length, Ok, refl, sym, ap, ◌∙◌, arith, eqb, ltb, false}
+use Rattle.std.proofs.Common.{◌≡◌, ℕ, ◌+◌, ◌≤◌, Bool, true, suc, List, [], ◌∷◌, length, take, Option, Some, None, Result, Ok, Err, refl, sym, ap, subst, ◌∙◌, arith, eqb}
 use Rattle.std.proofs.lemmas.Bool.Decides.{nat_tests}
+use Rattle.std.proofs.lemmas.List.{length-take}
 use Rattle.std.proofs.lemmas.List.Splits.{length-slice_split}
 use Rattle.std.proofs.lemmas.List.Sums.{count_by-le-length}
-use Rattle.daos_text.specs.Parts.{parts_of, ended_parts, without_empty_end}
+use Rattle.daos_base.specs.Scripts.{IsInForm}
+use Rattle.daos_base.specs.declared.fault.ScriptFault.{ScriptFault}
+use Rattle.daos_base.specs.declared.fault.Why.TheVariants.{TooLong}
+use Rattle.daos_base.specs.declared.script.Script.{Script}
+use Rattle.daos_text.specs.Parts.{parts_of}
 use Rattle.daos_text.specs.Results.{◌>>=◌}
-use Rattle.daos_text.specs.Steps.{steps, steps-nil, steps-cons_err}
+use Rattle.daos_text.specs.Steps.{steps, steps-nil, steps-cons_err, steps-cons_ok}
 use Rattle.daos_script.specs.declared.fault.ScriptNo.{ScriptNo}
 use Rattle.daos_script.specs.declared.fault.ScriptNo.TheVariants as whole
 use Rattle.daos_script.specs.declared.reading.Reading.{Reading}
 use Rattle.daos_script.specs.Located.{FailsAt}
-use Rattle.daos_script.specs.Readings.{with_line, nothing_read, script_so_far, script_of}
+use Rattle.daos_script.specs.Puts.{lists_of, nothing_read, tx_of}
+use Rattle.daos_script.specs.Readings.{bad_tell, ended, long_line, open_line, script_of, script_so_far, text_lines, unless_bad, unless_open, with_line}
+use Rattle.daos_script.specs.SoFar.{IsSoFar}
+use Rattle.daos_script.proofs.Keeps.{nothing_so_far, read_for, so_far_form}
 
--- the text is short enough
-short : (bytes : List ℕ) → length bytes ≤ 16777216 → ltb 16777216 (length bytes) ≡ false
-short bytes le = grind (arith, nat_tests)
+same_is : (m n : ℕ) → m ≡ n → eqb m n ≡ true
+same_is m n e = grind (arith, nat_tests)
 
-pub script_of-short : (n : ℕ) (bytes : List ℕ) → length bytes ≤ 16777216 → script_of n bytes ≡ (steps with_line 1 (nothing_read n) (ended_parts 10 bytes) >>= λ r. Ok (script_so_far r))
-unfolding script_of
-script_of-short n bytes le = rw (short bytes le) refl
+-- nothing is read of the line in which the text becomes too long
+pub too_long : (long at : ℕ) (r : Reading) (text : List ℕ) → at ≡ long → with_line long at r text ≡ Err (record { line = at; why = TooLong 16777216 })
+unfolding with_line
+too_long long at r text e = rw (same_is at long e) refl
+
+abbrev read_lines : ℕ → List ℕ → Result Reading ScriptFault
+read_lines n bytes = steps (with_line (long_line bytes)) 1 (nothing_read n) (text_lines bytes)
 
 -- a line's fault is the text's
-pub fault_of : (n : ℕ) (bytes : List ℕ) → length bytes ≤ 16777216 → (e : ScriptNo) (at : ℕ) (r : Reading) (line : List ℕ) (lines : List (List ℕ)) → FailsAt e (with_line at r line)
-    → steps with_line at r (line ∷ lines) ≡ steps with_line 1 (nothing_read n) (ended_parts 10 bytes) → FailsAt e (script_of n bytes)
-fault_of n bytes le whole.Memory at r line lines h e = tt
-fault_of n bytes le (whole.Fault fault) at r line lines h e =
-    script_of-short n bytes le ∙ ap (λ o. o >>= λ r. Ok (script_so_far r)) (sym e ∙ steps-cons_err with_line at r line lines fault h)
+pub fault_of : (n : ℕ) (bytes : List ℕ) (e : ScriptNo) (long at : ℕ) (r : Reading) (line : List ℕ) (lines : List (List ℕ)) → FailsAt e (with_line long at r line)
+    → steps (with_line long) at r (line ∷ lines) ≡ read_lines n bytes → FailsAt e (script_of n bytes)
+unfolding script_of
+fault_of n bytes whole.Memory long at r line lines h e = tt
+fault_of n bytes (whole.Fault fault) long at r line lines h e = ap (λ o. o >>= λ r. ended r) (sym e ∙ steps-cons_err (with_line long) at r line lines fault h)
 
 -- after the last line
-pub end_of : (n : ℕ) (bytes : List ℕ) → length bytes ≤ 16777216 → (at : ℕ) (r : Reading) → steps with_line at r [] ≡ steps with_line 1 (nothing_read n) (ended_parts 10 bytes) → script_of n bytes ≡ Ok (script_so_far r)
-end_of n bytes le at r e = script_of-short n bytes le ∙ ap (λ o. o >>= λ r. Ok (script_so_far r)) (sym e ∙ steps-nil with_line at r)
-
-fewer : (ps : List (List ℕ)) → length (without_empty_end ps) ≤ length ps
-fewer [] = omega arith
-fewer ([] ∷ []) = omega arith
-fewer ((b ∷ p) ∷ []) = omega arith
-fewer (p ∷ q ∷ ps) = omega (arith, fewer (q ∷ ps))
+pub end_of : (n : ℕ) (bytes : List ℕ) (long at : ℕ) (r : Reading) → steps (with_line long) at r [] ≡ read_lines n bytes → script_of n bytes ≡ ended r
+unfolding script_of
+end_of n bytes long at r e = ap (λ o. o >>= λ r. ended r) (sym e ∙ steps-nil (with_line long) at r)
 
 -- a text has no more lines than bytes, but one
-pub few_lines : (bytes : List ℕ) → length (ended_parts 10 bytes) ≤ length bytes + 1
-unfolding ended_parts
-few_lines bytes = omega (arith, fewer (parts_of 10 bytes), length-slice_split (λ b. eqb b 10) bytes, count_by-le-length (λ b. eqb b 10) bytes)
+pub few_lines : (bytes : List ℕ) → length (parts_of 10 bytes) ≤ length bytes + 1
+few_lines bytes = omega (arith, length-slice_split (λ b. eqb b 10) bytes, count_by-le-length (λ b. eqb b 10) bytes)
+
+ends_well : (o b : Option ℕ) (x s : Script) → unless_open o (unless_bad b x) ≡ Ok s → x ≡ s
+ends_well None None x s e = cc
+ends_well None (Some line) x s e = absurd cc
+ends_well (Some line) b x s e = absurd cc
+
+-- the script that was read is in form
+pub ended_form : (targets at : ℕ) (r : Reading) (s : Script) → IsSoFar targets at r → ended r ≡ Ok s → IsInForm targets s
+unfolding ended
+ended_form targets at r s h e =
+    subst (λ s. IsInForm targets s) (ends_well (open_line (tx_of r.current)) (bad_tell (length (lists_of r.whole r.current)) r.tells) (script_so_far r) s e) (so_far_form targets at r h)
+
+-- ---- so far
+
+-- the lines before this number are read, and these are left
+pub record IsReadTo (n : ℕ) (bytes : List ℕ) (long at : ℕ) (r : Reading) (lines : List (List ℕ)) : Type 0 where
+  pub so_far : steps (with_line long) at r lines ≡ read_lines n bytes
+  pub count : at + length lines ≡ 1 + length (text_lines bytes)
+  pub form : IsSoFar n at r
+
+-- no line is read yet
+pub none_read : (n : ℕ) (bytes first : List ℕ) (long : ℕ) (r : Reading) (lines : List (List ℕ)) → long ≡ long_line bytes → first ≡ take 16777216 bytes → lines ≡ parts_of 10 first → r ≡ nothing_read n
+    → IsReadTo n bytes long 1 r lines
+none_read n bytes first long r lines e f g h =
+    let all : lines ≡ text_lines bytes = g ∙ ap (parts_of 10) f in
+    record {
+      so_far = ap (λ k. steps (with_line k) 1 r lines) e ∙ (ap (λ s. steps (with_line (long_line bytes)) 1 s lines) h ∙ ap (λ ls. steps (with_line (long_line bytes)) 1 (nothing_read n) ls) all);
+      count = ap (λ (ls : List (List ℕ)). 1 + length ls) all;
+      form = subst (λ s. IsSoFar n 1 s) (sym h) (nothing_so_far n);
+    }
+
+module _ (n : ℕ) (bytes : List ℕ) (long at : ℕ) (r : Reading) (lines : List (List ℕ)) (h : IsReadTo n bytes long at r lines) where
+  -- it was read for as many targets as it says
+  pub own_form : IsSoFar r.decls.targets at r
+  own_form = subst (λ m. IsSoFar m at r) (sym (read_for n at r h.form)) h.form
+
+  module _ (line : List ℕ) (rest : List (List ℕ)) (e : lines ≡ line ∷ rest) where
+    -- one more line is read
+    pub one_read : (t : Reading) → with_line long at r line ≡ Ok t → IsSoFar r.decls.targets (at + 1) t → IsReadTo n bytes long (at + 1) t rest
+    one_read t made form = record {
+      so_far = sym (steps-cons_ok (with_line long) at r line rest t made) ∙ (ap (steps (with_line long) at r) (sym e) ∙ h.so_far);
+      count = moved at (length rest) (length (text_lines bytes)) (ap (λ (ls : List (List ℕ)). at + length ls) (sym e) ∙ h.count);
+      form = subst (λ m. IsSoFar m (at + 1) t) (read_for n at r h.form) form;
+    }
+      where
+        moved : (at m k : ℕ) → at + suc m ≡ 1 + k → at + 1 + m ≡ 1 + k
+        moved at m k e = omega arith
+
+    -- the number of a line
+    pub at_most : at ≤ 16777217
+    at_most = within at (length rest) (length (text_lines bytes)) (length (take 16777216 bytes)) 16777216 (ap (λ (ls : List (List ℕ)). at + length ls) (sym e) ∙ h.count) (few_lines (take 16777216 bytes)) (short 16777216 bytes)
+      where
+        short : (m : ℕ) (xs : List ℕ) → length (take m xs) ≤ m
+        short m xs = omega (arith, length-take m xs)
+
+        within : (at m len taken most : ℕ) → at + suc m ≡ 1 + len → len ≤ taken + 1 → taken ≤ most → at ≤ most + 1
+        within at m len taken most e f g = omega arith
+
+    -- this line has a fault
+    pub line_fails : (why : ScriptNo) → FailsAt why (with_line long at r line) → FailsAt why (script_of n bytes)
+    line_fails why f = fault_of n bytes why long at r line rest f (ap (steps (with_line long) at r) (sym e) ∙ h.so_far)
+
+  -- no line is left
+  pub all_read : lines ≡ [] → script_of n bytes ≡ ended r
+  all_read e = end_of n bytes long at r (ap (steps (with_line long) at r) (sym e) ∙ h.so_far)
+
+  pub end_fails : (why : ScriptNo) → lines ≡ [] → FailsAt why (ended r) → FailsAt why (script_of n bytes)
+  end_fails why e f = subst (λ o. FailsAt why o) (sym (all_read e)) f

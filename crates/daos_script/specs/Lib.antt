@@ -1,5 +1,7 @@
+pub mod Clients
 pub mod Grammar
 pub mod Located
+pub mod News
 pub mod Puts
 pub mod Readings
-pub mod Refusal
+pub mod SoFar

@@ -1,46 +1,89 @@
 -- What a text stands for as a script, read line by line, or its first fault.
-use Rattle.std.specs.Prelude.{ℕ, Bool, ◌&&◌, nat_le, nat_lt, List, [], ◌∷◌, length, Option, Some, None, Result, Ok, Err, if◌then◌else◌}
+use Rattle.std.specs.Prelude.{ℕ, ◌+◌, Bool, true, ◌&&◌, ◌||◌, ◌==◌, nat_le, nat_lt, List, [], ◌∷◌, length, take, count_by, find, Option, Some, None, Result, Ok, Err, if◌then◌else◌}
 use Rattle.std.specs.List.{list_all}
-use Rattle.daos_base.specs.declared.fault.Why.TheVariants.{NotAscii, TooLong}
+use Rattle.std.specs.Option.{option_map}
+use Rattle.daos_base.specs.declared.fault.Why.TheVariants.{BadBlock, BadName, NotAscii, TooLong}
 use Rattle.daos_base.specs.declared.fault.ScriptFault.{ScriptFault}
-use Rattle.daos_base.specs.declared.script.Command.{Command}
 use Rattle.daos_base.specs.declared.script.Script.{Script}
-use Rattle.daos_text.specs.Parts.{parts_of, ended_parts}
+use Rattle.daos_text.specs.Parts.{parts_of}
 use Rattle.daos_text.specs.Results.{◌>>=◌}
 use Rattle.daos_text.specs.Steps.{steps}
-use Rattle.daos_script.specs.declared.reading.Reading.{Reading}
-use Rattle.daos_script_words.specs.Lines.{line_at}
-use Rattle.daos_script.specs.Puts.{add_line}
+use Rattle.daos_script_lines.specs.declared.line.Line.{Line}
+use Rattle.daos_script_lines.specs.Lines.{line_at}
 use Rattle.daos_script_words.specs.Reads.{Read}
+use Rattle.daos_script.specs.declared.client.Tx.{Tx}
+use Rattle.daos_script.specs.declared.reading.Reading.{Reading}
+use Rattle.daos_script.specs.declared.reading.Told.{Told}
 use Rattle.daos_script.specs.Located.{located}
+use Rattle.daos_script.specs.Puts.{add_line, lists_of, nothing_read, tx_of, within_of}
+
+-- ---- lines
 
 -- a byte that a line may have
 abbrev pub is_shown : ℕ → Bool
 is_shown b = nat_le 32 b && nat_le b 126
 
--- one more line
-unfoldable pub read_line : Reading → List ℕ → Read Reading
-read_line r text =
-    if list_all is_shown text then (line_at r.decls (parts_of 32 text) >>= λ l. add_line r l) else Err NotAscii
+-- a line that is passed over: it is empty, or begins with `#`
+abbrev pub is_passed : List ℕ → Bool
+is_passed [] = true
+is_passed (b ∷ bs) = b == 35
 
--- one more line, the fault at this one
-unfoldable pub with_line : ℕ → Reading → List ℕ → Result Reading ScriptFault
-with_line at r text = located at (read_line r text)
+-- what a line says: its bytes come first, then its words
+unfoldable pub said : Reading → List ℕ → Read Line
+said r text = if list_all is_shown text then line_at r.decls (within_of r.current) (parts_of 32 text) else Err NotAscii
 
--- nothing is read
-abbrev pub nothing_read : ℕ → Reading
-nothing_read targets = record { decls = record { targets = targets; conts = []; objs = [] }; client = None }
+-- what the line of this number says is added, if it may stand there
+unfoldable pub read_line : ℕ → Reading → List ℕ → Read Reading
+read_line at r text = said r text >>= λ l. add_line at r l
 
-abbrev pub client_lists : Option (List Command) → List (List Command)
-client_lists None = []
-client_lists (Some commands) = commands ∷ []
+-- the line of this number; nothing is read of the one in which the text becomes too long
+unfoldable pub with_line : ℕ → ℕ → Reading → List ℕ → Result Reading ScriptFault
+with_line long at r text =
+    if at == long then Err (record { line = at; why = TooLong 16777216 })
+    else if is_passed text then Ok r else located at (read_line at r text)
 
--- the script that was read
+-- the number of the line in which the first byte past 16 MiB stands, or 0 where there is none
+unfoldable pub long_line : List ℕ → ℕ
+long_line bytes = if nat_lt 16777216 (length bytes) then count_by (λ b. b == 10) (take 16777216 bytes) + 1 else 0
+
+-- the lines of the first 16 MiB
+abbrev pub text_lines : List ℕ → List (List ℕ)
+text_lines bytes = parts_of 10 (take 16777216 bytes)
+
+-- ---- the end
+
+-- a client is told that isn't there, or itself
+abbrev pub is_bad : ℕ → Told → Bool
+is_bad clients t = (t.to == t.client) || nat_le clients t.to
+
+-- the line of the first such
+abbrev pub bad_tell : ℕ → List Told → Option ℕ
+bad_tell clients tells = option_map (λ t. t.line) (find (is_bad clients) tells)
+
+-- the script so far
 abbrev pub script_so_far : Reading → Script
 script_so_far r =
-    record { targets = r.decls.targets; conts = r.decls.conts; objs = r.decls.objs; olds = []; stops = []; clients = client_lists r.client }
+    record { targets = r.decls.targets; conts = r.decls.conts; objs = r.decls.objs; olds = r.decls.olds; stops = r.decls.stops; clients = lists_of r.whole r.current }
 
+abbrev pub unless_bad : Option ℕ → Script → Result Script ScriptFault
+unless_bad None s = Ok s
+unless_bad (Some line) s = Err (record { line = line; why = BadName })
+
+-- the line on which a transaction began that isn't ended
+abbrev pub open_line : Option Tx → Option ℕ
+open_line None = None
+open_line (Some t) = Some t.line
+
+abbrev pub unless_open : Option ℕ → Result Script ScriptFault → Result Script ScriptFault
+unless_open None made = made
+unless_open (Some line) made = Err (record { line = line; why = BadBlock })
+
+-- the script, unless a transaction isn't ended, or a client is told that isn't there
+unfoldable pub ended : Reading → Result Script ScriptFault
+ended r = unless_open (open_line (tx_of r.current)) (unless_bad (bad_tell (length (lists_of r.whole r.current)) r.tells) (script_so_far r))
+
+-- ---- a text
+
+-- the script that a text stands for, for so many targets, or its first fault
 unfoldable pub script_of : ℕ → List ℕ → Result Script ScriptFault
-script_of targets bytes =
-    if nat_lt 16777216 (length bytes) then Err (record { line = 0; why = TooLong 16777216 })
-    else (steps with_line 1 (nothing_read targets) (ended_parts 10 bytes) >>= λ r. Ok (script_so_far r))
+script_of targets bytes = steps (with_line (long_line bytes)) 1 (nothing_read targets) (text_lines bytes) >>= λ r. ended r

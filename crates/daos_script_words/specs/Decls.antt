@@ -1,17 +1,34 @@
--- What is declared, with one more container or object.
-use Rattle.std.specs.Prelude.{ℕ, nat_le, [], ◌∷◌, ◌++◌, length, Ok, Err, if◌then◌else◌}
+-- What is declared, with one more container, object, old snapshot, stop or snapshot of the present client.
+use Rattle.std.specs.Prelude.{ℕ, nat_le, List, [], ◌∷◌, ◌++◌, length, Ok, Err, if◌then◌else◌}
 use Rattle.daos_base.specs.declared.fault.Why.TheVariants.{TooMany}
+use Rattle.daos_base.specs.declared.id.ContId.{ContId}
 use Rattle.daos_base.specs.declared.script.ContDecl.{ContDecl}
 use Rattle.daos_base.specs.declared.script.ObjDecl.{ObjDecl}
+use Rattle.daos_base.specs.declared.script.OldDecl.{OldDecl}
+use Rattle.daos_base.specs.declared.script.StopDecl.{StopDecl}
+use Rattle.daos_text.specs.Results.{◌>>=◌}
 use Rattle.daos_script_words.specs.declared.decls.Decls.{Decls}
 use Rattle.daos_script_words.specs.Reads.{Read}
 
--- a value, where fewer than this many came before it
-abbrev pub limited : {A : Type 0} → ℕ → ℕ → A → Read A
-limited most count x = if nat_le most count then Err (TooMany most) else Ok x
+-- nothing is declared yet
+abbrev pub nothing_declared : ℕ → Decls
+nothing_declared targets = record { targets = targets; conts = []; objs = []; olds = []; stops = []; made = []; own = [] }
+
+-- whether one more may come after this many
+abbrev pub room : ℕ → ℕ → Read (Unit {0})
+room most count = if nat_le most count then Err (TooMany most) else Ok tt
 
 unfoldable pub with_cont : Decls → ContDecl → Read Decls
-with_cont decls d = limited 256 (length decls.conts) (record decls { conts = decls.conts ++ d ∷ [] })
+with_cont decls d = room 256 (length decls.conts) >>= λ fits. Ok (record decls { conts = decls.conts ++ d ∷ [] })
 
 unfoldable pub with_obj : Decls → ObjDecl → Read Decls
-with_obj decls d = limited 4096 (length decls.objs) (record decls { objs = decls.objs ++ d ∷ [] })
+with_obj decls d = room 4096 (length decls.objs) >>= λ fits. Ok (record decls { objs = decls.objs ++ d ∷ [] })
+
+unfoldable pub with_old : Decls → OldDecl → Read Decls
+with_old decls d = room 256 (length decls.olds) >>= λ fits. Ok (record decls { olds = decls.olds ++ d ∷ [] })
+
+unfoldable pub with_stop : Decls → StopDecl → Read Decls
+with_stop decls d = room 64 (length decls.stops) >>= λ fits. Ok (record decls { stops = decls.stops ++ d ∷ [] })
+
+unfoldable pub with_own : Decls → List ℕ → ContId → Decls
+with_own decls name cont = record decls { made = decls.made ++ (name, cont) ∷ []; own = decls.own ++ (name, cont) ∷ [] }

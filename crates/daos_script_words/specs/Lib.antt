@@ -1,5 +1,6 @@
 pub mod Decls
-pub mod Lines
 pub mod Lookups
 pub mod Reads
+pub mod Snaps
+pub mod Values
 pub mod Words

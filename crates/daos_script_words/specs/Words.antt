@@ -1,19 +1,22 @@
 -- The words of a line, read from the left.
-use Rattle.std.specs.Prelude.{ℕ, ◌==◌, nat_lt, is_none, is_some, List, [], ◌∷◌, length, codes, Option, Some, None, Ok, Err, if◌then◌else◌}
+use Rattle.std.specs.Prelude.{◌≡◌, ℕ, Bool, false, ◌==◌, nat_le, nat_lt, not, is_none, is_some, List, [], ◌∷◌, length, codes, Option, Some, None, Ok, Err, if◌then◌else◌}
 use Rattle.std.specs.Str.{bytes_eq, is_utf8}
 use Rattle.std.specs.Int.{w128, from_be_bytes}
 use Rattle.uuid.specs.Text.{parsed}
 use Rattle.daos_base.specs.Keys.{key_fault}
-use Rattle.daos_base.specs.declared.fault.Why.TheVariants.{MissingWord, ExtraWord, BadNumber, BadKey, BadHex, BadUuid, BadName, TooLong, NotYet}
+use Rattle.daos_base.specs.Placement.{targets_needed}
+use Rattle.daos_base.specs.declared.fault.Why.TheVariants.{MissingWord, ExtraWord, BadNumber, BadKey, BadUuid, BadName, BadClass}
 use Rattle.daos_base.specs.declared.id.Class.{Class}
-use Rattle.daos_base.specs.declared.id.Class.TheVariants.{S1}
+use Rattle.daos_base.specs.declared.id.Class.TheVariants.{S1, S2, S4, SX, RP2G1, RP2GX, RP3G1, RP3GX}
 use Rattle.daos_base.specs.declared.id.ContId.{ContId}
 use Rattle.daos_base.specs.declared.id.ObjId.{ObjId}
 use Rattle.daos_text.specs.Number.{number_in}
 use Rattle.daos_text.specs.Results.{◌>>=◌}
 use Rattle.daos_script_words.specs.declared.decls.Decls.{Decls}
-use Rattle.daos_script_words.specs.Lookups.{cont_named, obj_named}
+use Rattle.daos_script_words.specs.Lookups.{cont_named, obj_named, old_named}
 use Rattle.daos_script_words.specs.Reads.{Read, Taken, or_fault}
+use Rattle.daos_script_words.specs.Snaps.{is_snap, snap_named}
+use Rattle.daos_script_words.specs.Values.{value_of}
 
 -- a word that isn't empty
 unfoldable pub word_at : List (List ℕ) → Taken (List ℕ)
@@ -25,16 +28,33 @@ unfoldable pub nothing_at : List (List ℕ) → Read (Unit {0})
 nothing_at [] = Ok tt
 nothing_at (w ∷ ws) = Err ExtraWord
 
+-- ---- what needs no declaration
+
+abbrev pub key_of : List ℕ → Read (List ℕ)
+key_of w = if is_none (key_fault w) then Ok w else Err BadKey
+
 unfoldable pub key_at : List (List ℕ) → Taken (List ℕ)
 key_at ws = do
   w ← word_at ws
-  if is_none (key_fault w.0) then Ok w else Err BadKey
+  key ← key_of w.0
+  Ok (key, w.1)
+
+-- a further key, or the end of the line
+unfoldable pub more_key_at : List (List ℕ) → Taken (Option (List ℕ))
+more_key_at [] = Ok (None, [])
+more_key_at (w ∷ ws) = if length w == 0 then Err MissingWord else (key_of w >>= λ key. Ok (Some key, ws))
 
 unfoldable pub number_at : ℕ → ℕ → List (List ℕ) → Taken ℕ
 number_at lo hi ws = do
   w ← word_at ws
   n ← or_fault BadNumber (number_in lo hi w.0)
   Ok (n, w.1)
+
+-- the number of one of so many targets
+unfoldable pub target_at : ℕ → List (List ℕ) → Taken ℕ
+target_at targets ws = do
+  n ← number_at 0 255 ws
+  if nat_lt n.0 targets then Ok n else Err BadNumber
 
 abbrev pub id_of : Option (List ℕ) → Option ContId
 id_of None = None
@@ -53,24 +73,33 @@ uuid_at ws = do
   id ← or_fault BadUuid (uuid_of w.0)
   Ok (id, w.1)
 
-abbrev pub plain_value : List ℕ → Read (List ℕ)
-plain_value bytes = if length bytes == 0 then Err BadHex else if nat_lt 1024 (length bytes) then Err (TooLong 1024) else Ok bytes
-
--- the bytes that a word spells
-unfoldable pub value_of : List ℕ → Read (List ℕ)
-value_of [] = Err NotYet
-value_of (c ∷ bytes) = if c == 61 then plain_value bytes else Err NotYet
-
 unfoldable pub value_at : List (List ℕ) → Taken (List ℕ)
 value_at ws = do
   w ← word_at ws
   v ← value_of w.0
   Ok (v, w.1)
 
-unfoldable pub class_at : List (List ℕ) → Taken Class
-class_at ws = do
+-- the class that a word names
+abbrev pub class_of : List ℕ → Option Class
+class_of w =
+    if bytes_eq w (codes "S1") then Some S1 else if bytes_eq w (codes "S2") then Some S2
+    else if bytes_eq w (codes "S4") then Some S4 else if bytes_eq w (codes "SX") then Some SX
+    else if bytes_eq w (codes "RP_2G1") then Some RP2G1 else if bytes_eq w (codes "RP_2GX") then Some RP2GX
+    else if bytes_eq w (codes "RP_3G1") then Some RP3G1 else if bytes_eq w (codes "RP_3GX") then Some RP3GX else None
+
+-- a class, where there are targets enough for it
+abbrev pub fitting : ℕ → Class → Read Class
+fitting targets class = if nat_le (targets_needed class) targets then Ok class else Err BadClass
+
+-- a class that fits so many targets
+unfoldable pub class_at : ℕ → List (List ℕ) → Taken Class
+class_at targets ws = do
   w ← word_at ws
-  if bytes_eq w.0 (codes "S1") then Ok (S1, w.1) else Err NotYet
+  named ← or_fault BadClass (class_of w.0)
+  class ← fitting targets named
+  Ok (class, w.1)
+
+-- ---- names of what is declared
 
 unfoldable pub cont_at : Decls → List (List ℕ) → Taken ContId
 cont_at decls ws = do
@@ -78,14 +107,35 @@ cont_at decls ws = do
   id ← or_fault BadName (cont_named decls.conts w.0)
   Ok (id, w.1)
 
-unfoldable pub obj_at : Decls → List (List ℕ) → Taken (ContId × ObjId)
-obj_at decls ws = do
+-- whether a container is another one than that within which a line must keep
+abbrev pub is_outside : Option ContId → ContId → Bool
+is_outside None cont = false
+is_outside (Some within) cont = not (cont.0 == within.0)
+
+-- a container is that within which a line must keep, where one is given
+abbrev pub IsWithin : Option ContId → ContId → Type 0
+IsWithin None cont = Unit {0}
+IsWithin (Some within) cont = cont ≡ within
+
+-- the name of an object, within a container where one is given
+unfoldable pub obj_at : Decls → Option ContId → List (List ℕ) → Taken (ContId × ObjId)
+obj_at decls within ws = do
   w ← word_at ws
   o ← or_fault BadName (obj_named decls.objs w.0)
-  Ok (o, w.1)
+  if is_outside within o.0 then Err BadName else Ok (o, w.1)
 
 abbrev pub name_of : List ℕ → Read (List ℕ)
 name_of w = if is_none (key_fault w) then Ok w else Err BadName
+
+-- the name of a snapshot that the present client may read, with its container
+unfoldable pub snap_at : Decls → List (List ℕ) → Taken (List ℕ × ContId)
+snap_at decls ws = do
+  w ← word_at ws
+  name ← name_of w.0
+  cont ← or_fault BadName (snap_named decls name)
+  Ok ((name, cont), w.1)
+
+-- ---- new names
 
 -- a name that no container has
 unfoldable pub new_cont_at : Decls → List (List ℕ) → Taken (List ℕ)
@@ -100,3 +150,10 @@ new_obj_at decls ws = do
   w ← word_at ws
   name ← name_of w.0
   if is_some (obj_named decls.objs name) then Err BadName else Ok (name, w.1)
+
+-- a name that no snapshot has
+unfoldable pub new_snap_at : Decls → List (List ℕ) → Taken (List ℕ)
+new_snap_at decls ws = do
+  w ← word_at ws
+  name ← name_of w.0
+  if is_snap decls name then Err BadName else Ok (name, w.1)

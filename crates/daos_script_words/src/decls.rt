@@ -1,17 +1,20 @@
 // What is declared so far.
-ghost use Rattle.std.specs.Prelude.{◌≡◌, [], ◌∷◌, ◌++◌, IfOk, None, length};
-ghost use Rattle.daos_script_words.specs.Lookups.{cont_named, has_cont, has_obj, obj_named};
-ghost use Rattle.daos_script_words.specs.Decls.{with_cont, with_obj};
+ghost use Rattle.std.specs.Prelude.{◌≡◌, [], ◌∷◌, ◌++◌, ◌<◌, IfOk, None, OnOk};
+ghost use Rattle.daos_script_words.specs.Lookups.{cont_named, obj_named, old_named};
+ghost use Rattle.daos_script_words.specs.Snaps.{is_snap, snap_named};
+ghost use Rattle.daos_names.specs.Names.{named};
+ghost use Rattle.daos_script_words.specs.Decls.{nothing_declared, room, with_cont, with_obj, with_old, with_own, with_stop};
 ghost use Rattle.daos_script_words.specs.Reads.{Gives};
 
 use crate::fault::LineNo;
+use crate::tables::{ContDecls, ObjDecls, OldDecls};
 use daos_base::fault::Why;
-use daos_base::id::{ContId, ObjId};
+use daos_base::id::ContId;
 use daos_base::items::Items;
-use daos_base::script::{ContDecl, Conts, ObjDecl, Objs};
+use daos_base::key::Key;
+use daos_base::script::{ContDecl, ObjDecl, OldDecl, StopDecl, Stops};
 use daos_names::Names;
 use std::alloc::{AllocError, Global};
-use std::marker::Model;
 
 /// The most containers that a script declares.
 pub const CONTS_MAX: u32 = 256;
@@ -19,181 +22,11 @@ pub const CONTS_MAX: u32 = 256;
 /// The most objects that a script declares.
 pub const OBJS_MAX: u32 = 4096;
 
-/// The containers, each found by its name.
-#[derive(Drop)]
-pub struct ContDecls {
-    decls: Conts,
-    names: Names<ContId>,
-}
+/// The most snapshots of earlier runs that a script names.
+pub const OLDS_MAX: u32 = 256;
 
-impl Model for ContDecls {
-    ghost use Rattle.std.specs.Prelude.{◌≡◌, List, map};
-    ghost use Rattle.daos_base.specs.declared.script.ContDecl.{ContDecl};
-    ghost use Rattle.daos_script_words.specs.Lookups.{name_of_cont};
-
-    ghost Value = { List ContDecl };
-
-    ghost view = { λ a. a.decls };
-
-    ghost invariant = { λ a. a.names ≡ map name_of_cont a.decls };
-}
-
-// Whether a container of this identity is declared.
-#[tactic(auto, unfolding(crate::specs::Lookups::has_cont))]
-fn has_cont(decls: &[ContDecl], id: ContId) -> bool
-    ensures { result ≡ has_cont decls.now id }
-{
-    decls.iter().any(|decl| decl.id.0 == id.0)
-}
-
-impl ContDecls {
-    /// None yet. This takes no memory.
-    pub fn new(alloc: Global) -> Self
-        ensures { result ≡ [] }
-    {
-        ContDecls {
-            decls: Items::new(alloc),
-            names: Names::new(alloc),
-        }
-    }
-
-    /// The container of a name.
-    #[tactic(auto, unfolding(crate::specs::Lookups::cont_named))]
-    pub fn find(&self, name: &[u8]) -> Option<ContId>
-        ensures { result ≡ cont_named self.now name.now }
-    {
-        self.names.find(name)
-    }
-
-    /// Whether a container of this identity is declared.
-    pub fn has(&self, id: ContId) -> bool
-        ensures { result ≡ has_cont self.now id }
-    {
-        has_cont(self.decls.as_slice(), id)
-    }
-
-    /// Adds a container of a new name.
-    #[tactic(auto, unfolding(crate::specs::Lookups::cont_named))]
-    pub fn add(self, alloc: Global, decl: ContDecl) -> Result<Self, AllocError>
-        requires { cont_named self decl.name ≡ None }
-        ensures { IfOk result (λ decls. decls ≡ self ++ decl ∷ []) }
-    {
-        let ContDecls {
-            mut decls,
-            mut names,
-        } = self;
-        names.declare(alloc, decl.name.bytes(), decl.id)?;
-        decls.push(decl)?;
-        Ok(ContDecls { decls, names })
-    }
-
-    /// How many there are.
-    pub fn count(&self) -> usize
-        ensures { result ≡ length self.now }
-    {
-        self.decls.len()
-    }
-
-    /// The declarations, in their order.
-    pub fn into_items(self) -> Conts
-        ensures { result ≡ self }
-    {
-        let ContDecls {
-            decls,
-            names: _names,
-        } = self;
-        decls
-    }
-}
-
-/// The objects, each found by its name.
-#[derive(Drop)]
-pub struct ObjDecls {
-    decls: Objs,
-    names: Names<(ContId, ObjId)>,
-}
-
-impl Model for ObjDecls {
-    ghost use Rattle.std.specs.Prelude.{◌≡◌, List, map};
-    ghost use Rattle.daos_base.specs.declared.script.ObjDecl.{ObjDecl};
-    ghost use Rattle.daos_script_words.specs.Lookups.{name_of_obj};
-
-    ghost Value = { List ObjDecl };
-
-    ghost view = { λ a. a.decls };
-
-    ghost invariant = { λ a. a.names ≡ map name_of_obj a.decls };
-}
-
-// Whether this object of this container is declared.
-#[tactic(auto, unfolding(crate::specs::Lookups::has_obj))]
-fn has_obj(decls: &[ObjDecl], cont: ContId, id: ObjId) -> bool
-    ensures { result ≡ has_obj decls.now cont id }
-{
-    decls
-        .iter()
-        .any(|decl| decl.cont.0 == cont.0 && decl.id.same(id))
-}
-
-impl ObjDecls {
-    /// None yet. This takes no memory.
-    pub fn new(alloc: Global) -> Self
-        ensures { result ≡ [] }
-    {
-        ObjDecls {
-            decls: Items::new(alloc),
-            names: Names::new(alloc),
-        }
-    }
-
-    /// The object of a name, with its container.
-    #[tactic(auto, unfolding(crate::specs::Lookups::obj_named))]
-    pub fn find(&self, name: &[u8]) -> Option<(ContId, ObjId)>
-        ensures { result ≡ obj_named self.now name.now }
-    {
-        self.names.find(name)
-    }
-
-    /// Whether this object of this container is declared.
-    pub fn has(&self, cont: ContId, id: ObjId) -> bool
-        ensures { result ≡ has_obj self.now cont id }
-    {
-        has_obj(self.decls.as_slice(), cont, id)
-    }
-
-    /// Adds an object of a new name.
-    #[tactic(auto, unfolding(crate::specs::Lookups::obj_named))]
-    pub fn add(self, alloc: Global, decl: ObjDecl) -> Result<Self, AllocError>
-        requires { obj_named self decl.name ≡ None }
-        ensures { IfOk result (λ decls. decls ≡ self ++ decl ∷ []) }
-    {
-        let ObjDecls {
-            mut decls,
-            mut names,
-        } = self;
-        names.declare(alloc, decl.name.bytes(), (decl.cont, decl.id))?;
-        decls.push(decl)?;
-        Ok(ObjDecls { decls, names })
-    }
-
-    /// How many there are.
-    pub fn count(&self) -> usize
-        ensures { result ≡ length self.now }
-    {
-        self.decls.len()
-    }
-
-    /// The declarations, in their order.
-    pub fn into_items(self) -> Objs
-        ensures { result ≡ self }
-    {
-        let ObjDecls {
-            decls,
-            names: _names,
-        } = self;
-        decls
-    }
-}
+/// The most stops that a script asks for.
+pub const STOPS_MAX: u32 = 64;
 
 /// What is declared so far, in a script for so many targets. Each line is read by it.
 #[derive(Drop)]
@@ -201,17 +34,59 @@ pub struct Decls {
     pub targets: u8,
     pub conts: ContDecls,
     pub objs: ObjDecls,
+    pub olds: OldDecls,
+    pub stops: Stops,
+    /// The snapshots that clients make.
+    pub made: Names<ContId>,
+    /// Those of them that the present client makes.
+    pub own: Names<ContId>,
+}
+
+/// Whether one more may come after so many: at most this many there may be.
+pub fn room(most: u32, count: usize) -> Result<(), LineNo>
+    ensures exact { Gives (λ x. x) result (room most count) }
+    ensures fits { OnOk result (count < most) }
+{
+    if count >= most as usize {
+        return Err(LineNo::Fault(Why::TooMany(most)));
+    }
+    Ok(())
 }
 
 impl Decls {
     /// Nothing declared yet, for so many targets. This takes no memory.
     pub fn new(alloc: Global, targets: u8) -> Decls
-        ensures { result ≡ record { targets = targets; conts = []; objs = [] } }
+        ensures { result ≡ nothing_declared targets }
     {
         Decls {
             targets,
             conts: ContDecls::new(alloc),
             objs: ObjDecls::new(alloc),
+            olds: OldDecls::new(alloc),
+            stops: Items::new(alloc),
+            made: Names::new(alloc),
+            own: Names::new(alloc),
+        }
+    }
+
+    /// Whether a snapshot has this name already.
+    #[tactic(auto, unfolding(crate::specs::Snaps::is_snap))]
+    pub fn is_snap(&self, name: &[u8]) -> bool
+        ensures { result ≡ is_snap self.now name.now }
+    {
+        self.olds.find(name).is_some()
+            || self.made.find(name).is_some()
+            || self.own.find(name).is_some()
+    }
+
+    /// The container of a snapshot that the present client may read: an old one, or its own.
+    #[tactic(auto, unfolding(crate::specs::Snaps::snap_named))]
+    pub fn find_snap(&self, name: &[u8]) -> Option<ContId>
+        ensures { result ≡ snap_named self.now name.now }
+    {
+        match self.olds.find(name) {
+            Some(cont) => Some(cont),
+            None => self.own.find(name),
         }
     }
 
@@ -221,9 +96,7 @@ impl Decls {
         requires { cont_named self.conts decl.name ≡ None }
         ensures { Gives (λ decls. decls) result (with_cont self decl) }
     {
-        if self.conts.count() >= CONTS_MAX as usize {
-            return Err(LineNo::Fault(Why::TooMany(CONTS_MAX)));
-        }
+        room(CONTS_MAX, self.conts.count())?;
         let mut decls = self;
         decls.conts = decls.conts.add(alloc, decl)?;
         Ok(decls)
@@ -235,11 +108,54 @@ impl Decls {
         requires { obj_named self.objs decl.name ≡ None }
         ensures { Gives (λ decls. decls) result (with_obj self decl) }
     {
-        if self.objs.count() >= OBJS_MAX as usize {
-            return Err(LineNo::Fault(Why::TooMany(OBJS_MAX)));
-        }
+        room(OBJS_MAX, self.objs.count())?;
         let mut decls = self;
         decls.objs = decls.objs.add(alloc, decl)?;
         Ok(decls)
+    }
+
+    /// One more snapshot of an earlier run, of a new name.
+    #[tactic(auto, unfolding(crate::specs::Decls::with_old))]
+    pub fn with_old(self, alloc: Global, decl: OldDecl) -> Result<Decls, LineNo>
+        requires { old_named self.olds decl.name ≡ None }
+        ensures { Gives (λ decls. decls) result (with_old self decl) }
+    {
+        room(OLDS_MAX, self.olds.count())?;
+        let mut decls = self;
+        decls.olds = decls.olds.add(alloc, decl)?;
+        Ok(decls)
+    }
+
+    /// One more stop.
+    #[tactic(auto, unfolding(crate::specs::Decls::with_stop))]
+    pub fn with_stop(self, decl: StopDecl) -> Result<Decls, LineNo>
+        ensures { Gives (λ decls. decls) result (with_stop self decl) }
+    {
+        room(STOPS_MAX, self.stops.len())?;
+        let mut decls = self;
+        decls.stops.push(decl)?;
+        Ok(decls)
+    }
+
+    /// One more snapshot that the present client makes, of a new name.
+    #[tactic(auto, unfolding(crate::specs::Decls::with_own))]
+    pub fn with_own(self, alloc: Global, name: &Key, cont: ContId) -> Result<Decls, AllocError>
+        requires made { named self.made name.now ≡ None }
+        requires own { named self.own name.now ≡ None }
+        ensures { IfOk result (λ decls. decls ≡ with_own self name.now cont) }
+    {
+        let mut decls = self;
+        decls.made.declare(alloc, name.bytes(), cont)?;
+        decls.own.declare(alloc, name.bytes(), cont)?;
+        Ok(decls)
+    }
+
+    /// The same for the next client, which makes none yet.
+    pub fn for_next(self, alloc: Global) -> Decls
+        ensures { result ≡ record self { own = [] } }
+    {
+        let mut decls = self;
+        decls.own = Names::new(alloc);
+        decls
     }
 }

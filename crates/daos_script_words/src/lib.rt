@@ -1,7 +1,9 @@
-// Reads the lines of a script: their words, and what they say by what is declared before them.
+// Reads the words of a script's lines, by what is declared before them.
 #![tactic(auto)]
 
 pub mod decls;
 pub mod fault;
-pub mod lines;
-mod words;
+pub mod laws;
+pub mod tables;
+pub mod values;
+pub mod words;

@@ -1,0 +1,4 @@
+pub mod Fits
+pub mod Lines
+pub mod Ops
+pub mod Verbs
