@@ -1,5 +1,5 @@
 -- What a script is that a text stands for, and which of them are run so far.
-use Rattle.std.specs.Prelude.{ℕ, Bool, true, false, ◌≡◌, ◌≤◌, ◌<◌, ◌+◌, ◌^◌, ◌&&◌, ◌==◌, nat_eq, List, [], ◌∷◌, ◌++◌, length, map, count_by, All, Any, Option, Some, None}
+use Rattle.std.specs.Prelude.{ℕ, suc, Bool, true, false, ◌≡◌, ◌≤◌, ◌<◌, ◌+◌, ◌^◌, ◌&&◌, ◌==◌, nat_eq, List, [], ◌∷◌, ◌++◌, length, map, count_by, All, Any, Option, Some, None}
 use Rattle.std.specs.List.{IsDistinct, list_all}
 use Rattle.daos_base.specs.declared.epoch.Epoch.{Epoch}
 use Rattle.daos_base.specs.declared.id.Class.{Class}
@@ -228,6 +228,11 @@ IsTold clients own (Aggregate cont) = Unit {0}
 IsTold clients own (Tell client) = (client < clients) × (client ≡ own → ⊥)
 IsTold clients own (Skip turns) = Unit {0}
 
+-- the lists of the clients from this number on, who are told by others that are there
+abbrev pub AreTold : ℕ → ℕ → List (List Command) → Type 0
+AreTold clients own [] = Unit {0}
+AreTold clients own (list ∷ lists) = All (IsTold clients own) list × AreTold clients (suc own) lists
+
 -- how many numbered commands all clients have
 abbrev pub count_numbered : List (List Command) → ℕ
 count_numbered [] = 0
@@ -246,6 +251,7 @@ pub record IsInForm (targets : ℕ) (s : Script) : Type 0 where
   pub clients : length s.clients ≤ 64
   pub few : count_numbered s.clients ≤ 100000
   pub commands : All (λ list. AreCommands s.conts s.objs (map old_snap s.olds) list) s.clients
+  pub told : AreTold (length s.clients) 0 s.clients
 
 -- ---- what is run so far
 

@@ -65,12 +65,11 @@ raised_at c e why r = if is_row_of c r then raised e why r else r
 abbrev pub new_snap : ContId → Epoch → Snap
 new_snap c s = record { cont = c; epoch = s; created = false }
 
--- a snapshot is frozen: it is stored, and the floor raised to it
+-- a snapshot is frozen: it is stored, and the floor raised to it; one that is frozen already changes nothing
 unfoldable pub frozen : ContId → Epoch → Durable → Durable
-frozen c s d = record d {
-  conts = map (raised_at c s (Snapshot s)) d.conts;
-  snaps = if is_frozen d c s then d.snaps else put snap_key (new_snap c s) d.snaps;
-}
+frozen c s d =
+    if is_frozen d c s then d
+    else record d { conts = map (raised_at c s (Snapshot s)) d.conts; snaps = put snap_key (new_snap c s) d.snaps }
 
 abbrev pub created_at : ContId → Epoch → Snap → Snap
 created_at c s x = if is_snap_at c s x then record x { created = true } else x

@@ -262,17 +262,8 @@ frozen-in_form c s d place k = by (list_any (is_snap_at c s) d.snaps) refl
     rows : List ContRow
     rows = map (raised_at c s (Snapshot s)) d.conts
 
-    by : (b : Bool) → list_any (is_snap_at c s) d.snaps ≡ b → IsInForm (record d { conts = map (raised_at c s (Snapshot s)) d.conts; snaps = if b then d.snaps else put snap_key (new_snap c s) d.snaps })
-    by true is = record {
-      versions = k.versions;
-      writes = k.writes;
-      entries = k.entries;
-      conts = rising-map cont_key (raised_at c s (Snapshot s)) (same_key-raised c s (Snapshot s)) d.conts ∙ k.conts;
-      snaps = k.snaps;
-      few_conts = subst (λ n. n ≤ 256) (sym (length-map (raised_at c s (Snapshot s)) d.conts)) k.few_conts;
-      few_snaps = k.few_snaps;
-      lease = k.lease;
-    }
+    by : (b : Bool) → list_any (is_snap_at c s) d.snaps ≡ b → IsInForm (if b then d else record d { conts = map (raised_at c s (Snapshot s)) d.conts; snaps = put snap_key (new_snap c s) d.snaps })
+    by true is = k
     by false is = record {
       versions = k.versions;
       writes = k.writes;
