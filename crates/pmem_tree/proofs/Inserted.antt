@@ -1,25 +1,22 @@
 -- A pair goes into a whole tree.
-use Rattle.std.proofs.Common.{◌≡◌, ◌≢◌, ℕ, ◌+◌, ◌*◌, ◌^◌, ◌≤◌, ◌<◌, length, List, [], ◌∷◌, ◌++◌, Option, Some, None, refl, sym, ap, ◌∙◌, subst, arith, ◌⊎◌, inl, inr}
+use Rattle.std.proofs.Common.{◌≡◌, ◌≢◌, ℕ, ◌+◌, ◌*◌, ◌^◌, ◌≤◌, ◌<◌, List, [], ◌∷◌, Some, None, sym, ap, ◌∙◌, subst, arith, ◌⊎◌, inl, inr}
 use Rattle.std.proofs.lemmas.Bool.{cases_lt}
 use Rattle.std.proofs.lemmas.Bool.Decides.{eqb_tells}
-use Rattle.pmem_pages.specs.Blocks.{Blocks, Budget, IsTaken, IsSpent, put}
-use Rattle.pmem_owner.specs.Owners.{Changed, times}
+use Rattle.pmem_pages.specs.Blocks.{Blocks, Budget, IsSpent, put}
 use Rattle.pmem_owner.proofs.BlockLaws.{put_here, put_other}
 use Rattle.pmem_owner.proofs.Owning.{not_free}
 use Rattle.pmem_node.specs.declared.node.Pair.{Pair}
-use Rattle.pmem_node.specs.declared.node.TreeKey.{TreeKey}
-use Rattle.pmem_node.specs.declared.node.Value.{Value}
 use Rattle.pmem_node.specs.Node.{IsKey, IsValue}
-use Rattle.pmem_node.specs.Shape.{Entry, Shape, root_of, height, entries, blocks_of, count, IsEntry, Stands, Balanced, Rises, IsTree, entry_at, inserted}
-use Rattle.pmem_node.specs.Owned.{tree_owner}
+use Rattle.pmem_node.specs.Shape.{Entry, Shape, height, entries, count, Stands, Balanced, Rises, IsTree, entry_at}
 use Rattle.pmem_node.proofs.Lists.{count_one, count_own, count_other, count_inserted, rises_inserted}
 use Rattle.pmem_node.proofs.Shapes.{stands_on, taken_in}
 use Rattle.pmem_node.proofs.Heights.{low, never_high}
-use Rattle.pmem_tree.specs.declared.read.Sub.{Sub}
-use Rattle.pmem_tree.specs.Join.{entry_of, IsSub, StandsAt, SomeStandsAt}
-use Rattle.pmem_tree.specs.Find.{StepsAtMost}
-use Rattle.pmem_tree.specs.Grow.{Inserts, CanGrow, SomeGrows, Grown, GrowsCheaply, OfGrowing, StagesAtMost, TooFew}
-use Rattle.pmem_tree.proofs.Growing.{spent_then}
+use Rattle.pmem_tree_base.specs.declared.read.Sub.{Sub}
+use Rattle.pmem_tree_base.specs.Nodes.{entry_of, StandsAt}
+use Rattle.pmem_tree_base.proofs.Staged.{spent_then}
+use Rattle.pmem_tree_insert.specs.Grow.{CanGrow, Grown, GrowsCheaply}
+use Rattle.pmem_tree.specs.Changes.{Inserts}
+use Rattle.pmem_tree.specs.Calls.{StagesAtMost, TooFew}
 
 -- a block that was free isn't of a tree
 pub free_outside : (m : Blocks) (kind b : ℕ) (t : Shape) → Stands m kind t → m b ≡ None → count b (entries t) ≡ 0

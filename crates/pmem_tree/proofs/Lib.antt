@@ -1,13 +1,4 @@
-pub mod Going
-pub mod Finding
-pub mod Joins
-pub mod Turning
-pub mod TurningLeft
-pub mod Growing
-pub mod GrowingRight
-pub mod Inserting
+pub mod Found
 pub mod Inserted
-pub mod Shrinking
-pub mod Removing
 pub mod Removed
-pub mod Putting
+pub mod Valued

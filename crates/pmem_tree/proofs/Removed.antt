@@ -1,21 +1,18 @@
 -- A pair is taken out of a whole tree.
-use Rattle.std.proofs.Common.{◌≡◌, ◌≢◌, ℕ, ◌+◌, ◌*◌, ◌^◌, ◌≤◌, ◌<◌, length, List, [], ◌∷◌, ◌++◌, Option, Some, None, refl, sym, ap, ◌∙◌, subst, arith, ◌⊎◌, inl, inr}
-use Rattle.std.proofs.lemmas.Bool.{cases_lt}
+use Rattle.std.proofs.Common.{◌≡◌, ◌≢◌, ℕ, ◌+◌, ◌*◌, ◌≤◌, ◌<◌, [], ◌∷◌, Some, None, sym, ap, ◌∙◌, subst, arith, ◌⊎◌, inl, inr}
 use Rattle.std.proofs.lemmas.Bool.Decides.{eqb_tells}
 use Rattle.pmem_pages.specs.Blocks.{Blocks, Budget, IsTaken, IsSpent, put}
-use Rattle.pmem_owner.specs.Owners.{Changed, times}
 use Rattle.pmem_owner.proofs.BlockLaws.{put_here, put_other}
 use Rattle.pmem_node.specs.declared.node.TreeKey.{TreeKey}
-use Rattle.pmem_node.specs.Shape.{Entry, Shape, root_of, height, entries, blocks_of, count, Stands, Balanced, Rises, IsTree, Keeps, entry_at, removed}
-use Rattle.pmem_node.specs.Owned.{tree_owner}
-use Rattle.pmem_node.proofs.Lists.{count_one, count_own, count_other, count_removed, rises_removed}
+use Rattle.pmem_node.specs.Shape.{Entry, Shape, height, entries, count, Stands, Balanced, Rises, IsTree, entry_at}
+use Rattle.pmem_node.proofs.Lists.{count_own, count_other, count_removed, rises_removed}
 use Rattle.pmem_node.proofs.Shapes.{stands_on, taken_in}
 use Rattle.pmem_node.proofs.Heights.{low, never_high}
-use Rattle.pmem_tree.specs.declared.shrink.Cut.{Cut}
-use Rattle.pmem_tree.specs.Join.{IsSub, StandsAt}
-use Rattle.pmem_tree.specs.Grow.{StagesAtMost, TooFew}
-use Rattle.pmem_tree.specs.Shrink.{Whole, CanShrink, Shrunk, Removes}
-use Rattle.pmem_tree.proofs.Growing.{spent_then}
+use Rattle.pmem_tree_base.proofs.Staged.{spent_then}
+use Rattle.pmem_tree_remove.specs.declared.shrink.Cut.{Cut}
+use Rattle.pmem_tree_remove.specs.Shrink.{CanShrink, Shrunk}
+use Rattle.pmem_tree.specs.Calls.{StagesAtMost, TooFew}
+use Rattle.pmem_tree.specs.Changes.{Removes}
 
 module _ (m : Blocks) (kind root depth : ℕ) (key : TreeKey) (gone : Entry) (t : Shape) (w : IsTree m kind root t) (there : entry_at key (entries t) ≡ Some gone) where
   pub can_shrink : depth ≡ height t → CanShrink m kind root depth key gone t

@@ -1,76 +1,20 @@
 // A pair goes into a tree.
-ghost use Rattle.std.specs.Prelude.{◌≡◌, ◌⊎◌, ◌↔◌, ◌≤◌, ◌<◌, ◌+◌, ◌*◌, ◌^◌, ℕ, true, length, None, IfOk, OnOk, OnErr, IsErr, IsErrOf, IsTrue};
-ghost use Rattle.pmem_pages.specs.Blocks.{IsSpent};
+ghost use Rattle.std.specs.Prelude.{◌≡◌, ◌↔◌, ◌+◌, true, None, OnOk, OnErr, IsErrOf};
 ghost use Rattle.pmem_node.specs.Node.{IsKind, IsKey, IsValue};
-ghost use Rattle.pmem_node.specs.Shape.{Shape, IsTree, entries, entry_at};
-ghost use Rattle.pmem_tree.specs.declared.tree.TreeNo.{TreeNo};
-ghost use Rattle.pmem_tree.specs.Calls.{Goes, OfTree, HasTree};
-ghost use Rattle.pmem_tree.specs.Find.{StepsAtMost};
-ghost use Rattle.pmem_tree.specs.Join.{entry_of};
-ghost use Rattle.pmem_tree.specs.Grow.{SomeGrows, OfGrowing, Grown, GrowsCheaply, Inserts, StagesAtMost, TooFew};
+ghost use Rattle.pmem_node.specs.Shape.{entries, entry_at};
+ghost use Rattle.pmem_tree_base.specs.declared.refusal.TreeNo.{TreeNo};
+ghost use Rattle.pmem_tree_base.specs.Calls.{Goes};
+ghost use Rattle.pmem_tree.specs.Calls.{OfTree, HasTree, StepsAtMost, StagesAtMost, TooFew};
+ghost use Rattle.pmem_tree.specs.Changes.{Inserts};
 
-use crate::join::join;
-use crate::read::{Spot, Sub, pair_in, read_at, sub_at};
-use crate::tree::{Tree, TreeNo};
-use crate::write::stage_fork;
-use pmem_node::codec::compare;
+use crate::tree::Tree;
 use pmem_node::node::{Pair, TreeKey, Value};
 use pmem_pages::pages::Pages;
 use pmem_pages::steps::Steps;
-use std::cmp::Ordering;
+use pmem_tree_base::read::{Spot, sub_at};
+use pmem_tree_base::refusal::TreeNo;
+use pmem_tree_insert::grow::insert_at;
 use std::sync::ledger::Ledger;
-
-// Puts a new node into the tree below a block, which is no higher than `depth`.
-fn insert_at<P: Pages, L: Ledger>(
-    pages: &mut P,
-    fresh: &Spot,
-    at: u32,
-    depth: u8,
-    steps: &mut Steps<L>,
-) -> Result<Sub, TreeNo>
-    requires tree { IsTrue P.tells → SomeGrows (P.blocks pages.old) fresh.now.kind at depth (entry_of fresh.now.at fresh.now.pair) }
-    requires key { fresh.now.pair.key.len ≤ 64 }
-    ensures grown { IfOk result (λ s. IsTrue P.tells → OfGrowing (P.blocks pages.old) fresh.now.kind at depth (entry_of fresh.now.at fresh.now.pair)
-        (λ t. Grown (P.blocks pages.old) fresh.now.kind t (entry_of fresh.now.at fresh.now.pair) (P.blocks pages.new) s)) }
-    ensures cheap { IfOk result (λ s. IsTrue P.tells → OfGrowing (P.blocks pages.old) fresh.now.kind at depth (entry_of fresh.now.at fresh.now.pair)
-        (λ t. GrowsCheaply t s (P.budget pages.old) (P.budget pages.new))) }
-    ensures refused { IsTrue P.tells → IsErrOf result TreeNo.TooMuch → ((P.budget pages.old).ranges < 3 * depth + 3) ⊎ ((P.budget pages.old).bytes < 256 * (3 * depth + 3)) }
-    ensures no_block { IsErrOf result TreeNo.NoBlock → ⊥ }
-    ensures steps { steps.new ≤ steps.old + 8 * depth }
-    ensures free { (P.budget pages.new).free ≡ (P.budget pages.old).free }
-    ensures spent { IsSpent (3 * depth + 1) (256 * (3 * depth + 1)) (P.budget pages.old) (P.budget pages.new) }
-    ensures goes { Goes P.stopped P.count P.burns pages.old pages.new }
-    ensures stopped { IsErrOf result TreeNo.Stopped → P.stopped pages.new ≡ true }
-    ensures went_on { OnOk result (P.stopped pages.new ≡ P.stopped pages.old) }
-{
-    if at == 0 {
-        let none = Sub { root: 0, height: 0 };
-        return Ok(stage_fork(pages, fresh, none, none)?);
-    }
-    if depth == 0 {
-        return Err(TreeNo::TooMuch);
-    }
-    let node = read_at(pages, fresh.kind, at, steps)?;
-    let pair = pair_in(&node);
-    let spot = Spot {
-        kind: fresh.kind,
-        at,
-        pair,
-    };
-    match compare(&fresh.pair.key, &node.key) {
-        Ordering::Less => {
-            let right = sub_at(pages, fresh.kind, node.right, steps)?;
-            let left = insert_at(pages, fresh, node.left, depth - 1, steps)?;
-            join(pages, &spot, left, right, steps)
-        }
-        Ordering::Equal => Err(TreeNo::TooMuch),
-        Ordering::Greater => {
-            let left = sub_at(pages, fresh.kind, node.left, steps)?;
-            let right = insert_at(pages, fresh, node.right, depth - 1, steps)?;
-            join(pages, &spot, left, right, steps)
-        }
-    }
-}
 
 impl Tree {
     /// Puts a pair into the tree, whose key isn't there yet. After `TooMuch` the stage has to be dropped.

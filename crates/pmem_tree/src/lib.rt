@@ -3,14 +3,12 @@
 
 mod find;
 mod grow;
-mod join;
 mod put;
-mod read;
 mod shrink;
 pub mod tree;
-mod write;
 
 pub use pmem_node::node::{Pair, TreeKey, Value};
+pub use pmem_tree_base::refusal::TreeNo;
 
 /// No tree is higher: a higher one that is balanced has more nodes than there are block numbers.
 pub(crate) const HIGHEST: u8 = 66;

@@ -1,10 +1,9 @@
-use Rattle.std.proofs.Common.{rules, ◌≡◌, ◌∙◌, ◌<◌, ◌^◌, ℕ, sym, subst, arith, refl, ap}
-use Rattle.pmem_pages.specs.Blocks.{Blocks, Budget, IsSpent}
-use Rattle.pmem_node.specs.Shape.{height}
-use Rattle.pmem_tree.specs.Join.{entry_of, StandsAt}
-use Rattle.pmem_tree.specs.Grow.{CanGrow, Grown, GrowsCheaply, TooFew}
-use Rattle.pmem_tree.proofs.Finding.{steps_16}
-use Rattle.pmem_tree.proofs.Inserted.{whole_stands, can_grow, inserts, stages_few, too_few, too_few_1}
+use Rattle.std.proofs.Common.{rules, sym, subst, arith}
+use Rattle.pmem_pages.specs.Blocks.{Blocks}
+use Rattle.pmem_tree_base.specs.Nodes.{entry_of}
+use Rattle.pmem_tree_insert.specs.Grow.{CanGrow, Grown}
+use Rattle.pmem_tree.proofs.Found.{steps_16}
+use Rattle.pmem_tree.proofs.Inserted.{whole_stands, can_grow, inserts, stages_few, too_few}
 use Rattle.pmem_tree.proofs.tree.Tree.insert.Goals as goal
 
 pub sub_at-requires : goal.sub_at-requires

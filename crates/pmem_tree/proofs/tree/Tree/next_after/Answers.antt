@@ -1,5 +1,5 @@
 use Rattle.std.proofs.lemmas.Result.{IfOk-weaker}
-use Rattle.pmem_tree.proofs.Finding.{tree_below, steps_2}
+use Rattle.pmem_tree.proofs.Found.{tree_below, steps_2}
 use Rattle.pmem_tree.proofs.tree.Tree.next_after.Goals as goal
 
 pub first_after-requires-clause-tree : goal.first_after-requires-clause-tree

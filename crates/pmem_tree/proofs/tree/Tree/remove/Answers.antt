@@ -1,8 +1,7 @@
-use Rattle.std.proofs.Common.{rules, ◌≡◌, ◌∙◌, ◌<◌, ◌≤◌, ◌⊎◌, inl, inr, ℕ, sym, subst, arith, refl, ap}
-use Rattle.pmem_pages.specs.Blocks.{Blocks, Budget, IsSpent}
-use Rattle.pmem_tree.specs.Join.{StandsAt}
-use Rattle.pmem_tree.specs.Shrink.{CanShrink, Shrunk}
-use Rattle.pmem_tree.proofs.Finding.{steps_16}
+use Rattle.std.proofs.Common.{rules, sym, subst, arith}
+use Rattle.pmem_pages.specs.Blocks.{Blocks}
+use Rattle.pmem_tree_remove.specs.Shrink.{CanShrink, Shrunk}
+use Rattle.pmem_tree.proofs.Found.{steps_16}
 use Rattle.pmem_tree.proofs.Removed.{can_shrink, gone_taken, removes, stages_least, few_removed, few_given}
 use Rattle.pmem_tree.proofs.tree.Tree.remove.Goals as goal
 

@@ -1,0 +1,3 @@
+pub mod Growing
+pub mod GrowingRight
+pub mod Inserting

@@ -1,0 +1,4 @@
+// A node goes into a tree.
+#![tactic(auto)]
+
+pub mod grow;
