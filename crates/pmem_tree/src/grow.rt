@@ -21,9 +21,9 @@ impl Tree {
     ///
     /// # Errors
     ///
-    /// `NoBlock` comes exactly where no block is free. `TooMuch` comes only where fewer than
-    /// `16 * d + 32` ranges or 256 times as many bytes are left to stage, with a number of pairs of `d`
-    /// binary digits. `Stopped` comes only where the pages answered it.
+    /// `NoBlock` comes exactly where no block is free. Where the pages tell their blocks, `TooMuch` comes
+    /// only where fewer than `16 * d + 32` ranges or 256 times as many bytes are left to stage, with a
+    /// number of pairs of `d` binary digits. `Stopped` comes only where the pages answered it.
     pub fn insert<P: Pages, L: Ledger>(
         &mut self,
         pages: &mut P,

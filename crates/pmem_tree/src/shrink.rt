@@ -22,9 +22,9 @@ impl Tree {
     ///
     /// # Errors
     ///
-    /// `TooMuch` comes only where fewer than `16 * d + 32` ranges or 256 times as many bytes are left to
-    /// stage, with a number of pairs of `d` binary digits. `Stopped` comes only where the pages answered
-    /// it, and `NoBlock` never.
+    /// Where the pages tell their blocks, `TooMuch` comes only where fewer than `16 * d + 32` ranges or 256
+    /// times as many bytes are left to stage, with a number of pairs of `d` binary digits. `Stopped` comes
+    /// only where the pages answered it, and `NoBlock` never.
     pub fn remove<P: Pages, L: Ledger>(
         &mut self,
         pages: &mut P,

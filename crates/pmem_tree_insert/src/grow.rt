@@ -20,8 +20,9 @@ use std::sync::ledger::Ledger;
 ///
 /// # Errors
 ///
-/// `TooMuch` comes only where fewer than three ranges a level and three besides, or 256 times as many
-/// bytes, are left to stage. `Stopped` comes only where the pages answered it, and `NoBlock` never.
+/// Where the pages tell their blocks, `TooMuch` comes only where fewer than three ranges a level and three
+/// besides, or 256 times as many bytes, are left to stage. `Stopped` comes only where the pages answered
+/// it, and `NoBlock` never.
 pub fn insert_at<P: Pages, L: Ledger>(
     pages: &mut P,
     fresh: &Spot,

@@ -115,8 +115,9 @@ fn drop_node<P: Pages, L: Ledger>(
 ///
 /// # Errors
 ///
-/// `TooMuch` comes only where fewer than three ranges a level and three besides, or 256 times as many
-/// bytes, are left to stage. `Stopped` comes only where the pages answered it, and `NoBlock` never.
+/// Where the pages tell their blocks, `TooMuch` comes only where fewer than three ranges a level and three
+/// besides, or 256 times as many bytes, are left to stage. `Stopped` comes only where the pages answered
+/// it, and `NoBlock` never.
 pub fn remove_at<P: Pages, L: Ledger>(
     pages: &mut P,
     kind: u8,

@@ -201,8 +201,8 @@ fn lean_left<P: Pages, L: Ledger>(
 ///
 /// # Errors
 ///
-/// `TooMuch` comes only where fewer than three ranges or 768 bytes are left to stage. `Stopped` comes only
-/// where the pages answered it, and `NoBlock` never.
+/// Where the pages tell their blocks, `TooMuch` comes only where fewer than three ranges or 768 bytes are
+/// left to stage. `Stopped` comes only where the pages answered it, and `NoBlock` never.
 pub fn join<P: Pages, L: Ledger>(
     pages: &mut P,
     spot: &Spot,
