@@ -3,3 +3,4 @@ pub mod Nodes
 pub mod Lists
 pub mod Shapes
 pub mod Heights
+pub mod Parts

@@ -5,8 +5,9 @@ use Rattle.std.proofs.lemmas.Bool.Decides.{eqb_tells}
 use Rattle.pmem_pages.specs.Blocks.{Blocks, put, IsTaken}
 use Rattle.pmem_node.specs.declared.node.Node.{Node}
 use Rattle.pmem_node.specs.Node.{node_bytes, node_of, IsNode, IsKey, IsValue}
-use Rattle.pmem_node.specs.Shape.{Entry, Shape, Leaf, Fork, root_of, height, entries, count, node_at, IsEntry, NodeStands, Stands}
-use Rattle.pmem_node.specs.Owned.{tree_taken, tree_frame}
+use Rattle.pmem_node.specs.Shape.{Entry, Shape, Leaf, Fork, root_of, height, entries, blocks_of, count, node_at, IsEntry, NodeStands, Stands, Balanced, Rises, IsTree}
+use Rattle.pmem_owner.specs.Owners.{SameIn, Holds}
+use Rattle.pmem_node.specs.Owned.{tree_taken, tree_frame, tree_owner}
 use Rattle.pmem_node.proofs.Lists.{count-append, count_one, count_none, count_own, count_other, count_parts}
 use Rattle.pmem_node.proofs.Nodes.{node_again}
 
@@ -49,3 +50,16 @@ low_in m kind (Fork l e r) q s h =
             | inr none ↦ low_in m kind r q s.2 (omega (arith, h, none, count_parts q (entries l) e (entries r), count_other q e b.1))
           ]
     ]
+
+-- a tree is one wherever its blocks hold the same
+pub is_tree_on : (m n : Blocks) (kind at : ℕ) (t : Shape) → SameIn m n (blocks_of (entries t)) → IsTree m kind at t → IsTree n kind at t
+is_tree_on m n kind at t f w = record { root = w.root; stands = tree_frame m n kind t f w.stands; apart = w.apart; balanced = w.balanced; rises = w.rises }
+
+-- a tree is what its owner holds, with its root, its balance and its order
+pub tree_holds : (m : Blocks) (kind at : ℕ) (t : Shape) → IsTree m kind at t → Holds (tree_owner kind) m t
+unfolding count
+tree_holds m kind at t w = record { here = w.stands; apart = w.apart }
+
+pub held_tree : (m : Blocks) (kind at : ℕ) (t : Shape) → Holds (tree_owner kind) m t → at ≡ root_of t → Balanced t → Rises (entries t) → IsTree m kind at t
+unfolding count
+held_tree m kind at t h e b r = record { root = e; stands = h.here; apart = h.apart; balanced = b; rises = r }

@@ -1,3 +1,4 @@
 pub mod Node
 pub mod Shape
 pub mod Owned
+pub mod Parts

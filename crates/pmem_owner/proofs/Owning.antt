@@ -2,7 +2,7 @@
 use Rattle.std.proofs.Common.{◌≡◌, ℕ, ◌≤◌, ◌<◌, ◌+◌, List, [], ◌∷◌, ◌++◌, Option, Some, None, refl, sym, ap, ◌∙◌, arith, ◌⊎◌, inl, inr}
 use Rattle.std.proofs.lemmas.Bool.{cases_lt}
 use Rattle.pmem_pages.specs.Blocks.{Blocks, IsTaken}
-use Rattle.pmem_owner.specs.Owners.{times, SameIn, Owner, Holds, Changed, both, each, stands_each, owned_each, such, times-append}
+use Rattle.pmem_owner.specs.Owners.{times, SameIn, Owner, Holds, Changed, both, each, stands_each, owned_each, such, maybe, stands_maybe, owned_maybe, times-append}
 
 -- a taken block isn't free
 pub not_free : (m : Blocks) (q : ℕ) → IsTaken m q → m q ≡ None → ⊥
@@ -93,3 +93,39 @@ changed_under T O m n o t t2 xs a a2 ys h c d =
 -- with a plain fact that holds again
 pub changed_such : {A : Type 0} (P : A → Type 0) (O : Owner A) (m n : Blocks) (a b : A) → Changed O m a n b → P b → Changed (such P O) m a n b
 changed_such P O m n a b c p = record { holds = record { here = (c.holds.here, p); apart = c.holds.apart }; outside = c.outside; taken = c.taken; given = c.given }
+
+-- a thing that was made goes into a list
+pub changed_more : {A : Type 0} (O : Owner A) (m n : Blocks) (xs : List A) (a : A) (ys : List A) → Holds (each O) m (xs ++ ys) → Changed (maybe O) m None n (Some a) → Changed (each O) m (xs ++ ys) n (xs ++ a ∷ ys)
+changed_more O m n [] a ys h c =
+    let r = changed_first (maybe O) (each O) m n None (Some a) ys (record { here = (tt, h.here); apart = h.apart }) c in
+    record { holds = record { here = r.holds.here; apart = r.holds.apart }; outside = r.outside; taken = r.taken; given = r.given }
+changed_more O m n (x ∷ xs) a ys h c =
+    let tail : Holds (each O) m (xs ++ ys) = record { here = h.here.1; apart = λ q. omega (arith, h.apart q, times-append q (O.owned x) (owned_each O (xs ++ ys))) } in
+    let r = changed_second O (each O) m n x (xs ++ ys) (xs ++ a ∷ ys) (record { here = h.here; apart = h.apart }) (changed_more O m n xs a ys tail c) in
+    record { holds = record { here = r.holds.here; apart = r.holds.apart }; outside = r.outside; taken = r.taken; given = r.given }
+
+-- a thing of a list is given back
+pub changed_less : {A : Type 0} (O : Owner A) (m n : Blocks) (xs : List A) (a : A) (ys : List A) → Holds (each O) m (xs ++ a ∷ ys) → Changed (maybe O) m (Some a) n None → Changed (each O) m (xs ++ a ∷ ys) n (xs ++ ys)
+changed_less O m n [] a ys h c =
+    let r = changed_first (maybe O) (each O) m n (Some a) None ys (record { here = h.here; apart = h.apart }) c in
+    record { holds = record { here = r.holds.here.1; apart = r.holds.apart }; outside = r.outside; taken = r.taken; given = r.given }
+changed_less O m n (x ∷ xs) a ys h c =
+    let tail : Holds (each O) m (xs ++ a ∷ ys) = record { here = h.here.1; apart = λ q. omega (arith, h.apart q, times-append q (O.owned x) (owned_each O (xs ++ a ∷ ys))) } in
+    let r = changed_second O (each O) m n x (xs ++ a ∷ ys) (xs ++ ys) (record { here = h.here; apart = h.apart }) (changed_less O m n xs a ys tail c) in
+    record { holds = record { here = r.holds.here; apart = r.holds.apart }; outside = r.outside; taken = r.taken; given = r.given }
+
+-- a thing is made and hung under a tree, which then changes
+pub changed_under_more : {A B : Type 0} (T : Owner A) (O : Owner B) (m n o : Blocks) (t t2 : A) (xs : List B) (a : B) (ys : List B) → Holds (both T (each O)) m (t, xs ++ ys) → Changed (maybe O) m None n (Some a) → Changed T n t o t2 → Changed (both T (each O)) m (t, xs ++ ys) o (t2, xs ++ a ∷ ys)
+changed_under_more T O m n o t t2 xs a ys h c d =
+    let all : Holds (each O) m (xs ++ ys) = record { here = h.here.1; apart = λ q. omega (arith, h.apart q, times-append q (T.owned t) (owned_each O (xs ++ ys))) } in
+    let x = changed_second T (each O) m n t (xs ++ ys) (xs ++ a ∷ ys) h (changed_more O m n xs a ys all c) in
+    let y = changed_first T (each O) n o t t2 (xs ++ a ∷ ys) x.holds d in
+    changed_then (both T (each O)) m n o (t, xs ++ ys) (t, xs ++ a ∷ ys) (t2, xs ++ a ∷ ys) x y
+
+-- a tree changes, and then a thing that hung under it is given back
+pub changed_under_less : {A B : Type 0} (T : Owner A) (O : Owner B) (m n o : Blocks) (t t2 : A) (xs : List B) (a : B) (ys : List B) → Holds (both T (each O)) m (t, xs ++ a ∷ ys) → Changed T m t n t2 → Changed (maybe O) n (Some a) o None → Changed (both T (each O)) m (t, xs ++ a ∷ ys) o (t2, xs ++ ys)
+changed_under_less T O m n o t t2 xs a ys h d c =
+    let x = changed_first T (each O) m n t t2 (xs ++ a ∷ ys) h d in
+    let all : Holds (each O) n (xs ++ a ∷ ys) = record { here = x.holds.here.1; apart = λ q. omega (arith, x.holds.apart q, times-append q (T.owned t2) (owned_each O (xs ++ a ∷ ys))) } in
+    let y = changed_second T (each O) n o t2 (xs ++ a ∷ ys) (xs ++ ys) x.holds (changed_less O n o xs a ys all c) in
+    changed_then (both T (each O)) m n o (t, xs ++ a ∷ ys) (t2, xs ++ a ∷ ys) (t2, xs ++ ys) x y

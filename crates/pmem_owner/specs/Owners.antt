@@ -1,6 +1,6 @@
 -- What stands in blocks, and which blocks it owns. Trees, chains, pairs, lists and trees of these are
 -- owners.
-use Rattle.std.specs.Prelude.{◌≡◌, ℕ, cond, ◌==◌, ◌≤◌, ◌<◌, ◌+◌, List, [], ◌∷◌, ◌++◌, Option, None, refl}
+use Rattle.std.specs.Prelude.{◌≡◌, ℕ, cond, ◌==◌, ◌≤◌, ◌<◌, ◌+◌, List, [], ◌∷◌, ◌++◌, Option, Some, None, refl}
 use Rattle.std.proofs.Common.{arith, ◌⊎◌, inl, inr}
 use Rattle.std.proofs.lemmas.Bool.{cases_lt}
 use Rattle.pmem_pages.specs.Blocks.{Blocks, IsTaken}
@@ -87,3 +87,26 @@ each O = record { stands = stands_each O; owned = owned_each O; is_taken = each_
 -- a thing of which a plain fact holds besides
 abbrev pub such : {A : Type 0} → (A → Type 0) → Owner A → Owner A
 such P O = record { stands = λ m g. O.stands m g × P g; owned = O.owned; is_taken = λ m g s. O.is_taken m g s.0; frame = λ m n g f s. (O.frame m n g f s.0, s.1) }
+
+-- a thing that may be missing
+abbrev pub stands_maybe : {A : Type 0} → Owner A → Blocks → Option A → Type 0
+stands_maybe O m None = Unit {0}
+stands_maybe O m (Some a) = O.stands m a
+
+abbrev pub owned_maybe : {A : Type 0} → Owner A → Option A → List ℕ
+owned_maybe O None = []
+owned_maybe O (Some a) = O.owned a
+
+pub maybe_is_taken : {A : Type 0} (O : Owner A) (m : Blocks) (x : Option A) → stands_maybe O m x → (q : ℕ) → 0 < times q (owned_maybe O x) → IsTaken m q
+unfolding times
+maybe_is_taken O m None s q h = absurd (omega arith)
+maybe_is_taken O m (Some a) s q h = O.is_taken m a s q h
+
+pub maybe_frame : {A : Type 0} (O : Owner A) (m n : Blocks) (x : Option A) → SameIn m n (owned_maybe O x) → stands_maybe O m x → stands_maybe O n x
+maybe_frame O m n None f s = tt
+maybe_frame O m n (Some a) f s = O.frame m n a f s
+
+-- Where it changes from none, it was made in blocks that were free; where to none, all its blocks were given
+-- back.
+abbrev pub maybe : {A : Type 0} → Owner A → Owner (Option A)
+maybe O = record { stands = stands_maybe O; owned = owned_maybe O; is_taken = maybe_is_taken O; frame = maybe_frame O }
