@@ -4,3 +4,4 @@ pub mod Lists
 pub mod Shapes
 pub mod Heights
 pub mod Parts
+pub mod Walks

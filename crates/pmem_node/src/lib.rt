@@ -2,4 +2,5 @@
 #![tactic(auto)]
 
 pub mod codec;
+pub mod laws;
 pub mod node;

@@ -4,9 +4,9 @@ use Rattle.std.specs.declared.cmp.Ordering.TheVariants.{Less, Equal, Greater}
 use Rattle.pmem_pages.specs.Blocks.{Blocks, put}
 use Rattle.pmem_node.specs.declared.node.Node.{Node}
 use Rattle.pmem_node.specs.declared.node.Pair.{Pair}
-use Rattle.pmem_node.specs.declared.node.Value.{Value}
 use Rattle.pmem_node.specs.Node.{node_bytes, key_cmp}
 use Rattle.pmem_node.specs.Shape.{Entry, Shape, Leaf, Fork, root_of, height, entries, count, node_at, with_node, IsEntry, Stands, Keeps}
+use Rattle.pmem_node.specs.Parts.{with_value}
 use Rattle.pmem_node.proofs.Lists.{count_own, count_parts, Rises-front, Rises-back, entry_at_left, valued_left, valued_past}
 use Rattle.pmem_node.proofs.Shapes.{stands_on}
 use Rattle.pmem_tree_base.specs.Nodes.{SomeNode, IsNodeAt}
@@ -14,10 +14,6 @@ use Rattle.pmem_tree_base.proofs.Held.{some_node}
 use Rattle.pmem_tree_base.proofs.Sides.{past_left, at_left, entry_at_right}
 use Rattle.pmem_tree_base.proofs.Staged.{fork_stands, keeps_put}
 use Rattle.pmem_tree_paths.specs.Put.{CanPut, SomePuts, Put, OfPutting}
-
--- an entry with another value
-abbrev pub with_value : Entry → Value → Entry
-with_value e v = record { block = e.block; key = e.key; value = v }
 
 pub put_node : (m : Blocks) (kind at depth : ℕ) (p : Pair) → SomePuts m kind at depth p → at ≢ 0 → SomeNode m kind at
 put_node m kind at depth p w ne = some_node m kind at w.1 w.2.stands w.2.root_is ne
