@@ -7,7 +7,7 @@ use pmem_node::codec::read_node;
 use pmem_pages::pages::Pages;
 use pmem_pages::steps::Steps;
 use pmem_tree::tree::Tree;
-use pmem_tree::{TreeKey, Value};
+use pmem_tree::{Pair, TreeKey, Value};
 use std::alloc::Global;
 use std::collections::BTreeMap;
 use std::marker::Brand;
@@ -207,6 +207,64 @@ fn letter(byte: u8) -> TreeKey
     TreeKey { len: 1, bytes }
 }
 
+// The number that a pair holds.
+fn pair_number(pair: Option<Pair>) -> Option<u16> {
+    match pair {
+        Some(pair) => Some(number_in(&pair.value.bytes)),
+        None => None,
+    }
+}
+
+// The number that a value holds.
+fn value_number(value: Option<Value>) -> Option<u16> {
+    match value {
+        Some(value) => Some(number_in(&value.bytes)),
+        None => None,
+    }
+}
+
+// The root of a tree with the keys `a` and `c`.
+fn plant<L: Ledger>(pages: &mut MemPages, steps: &mut Steps<L>) -> Option<u32> {
+    let mut tree = Tree { kind: 5, root: 0 };
+    tree.insert(pages, &letter(b'c'), &value_of(3), steps).ok()?;
+    tree.insert(pages, &letter(b'a'), &value_of(1), steps).ok()?;
+    Some(tree.root)
+}
+
+// What stands after `a`, after `c`, below `c` and below `a`.
+fn neighbours<L: Ledger>(
+    pages: &mut MemPages,
+    root: u32,
+    steps: &mut Steps<L>,
+) -> Option<[Option<u16>; 4]> {
+    let tree = Tree { kind: 5, root };
+    let after_a = tree.next_after(pages, &letter(b'a'), steps).ok()?;
+    let after_c = tree.next_after(pages, &letter(b'c'), steps).ok()?;
+    let below_c = tree.last_below(pages, &letter(b'c'), steps).ok()?;
+    let below_a = tree.last_below(pages, &letter(b'a'), steps).ok()?;
+    Some([
+        pair_number(after_a),
+        pair_number(after_c),
+        pair_number(below_c),
+        pair_number(below_a),
+    ])
+}
+
+// What stands at `b`, at `c`, and at `c` after its value was changed.
+fn values<L: Ledger>(
+    pages: &mut MemPages,
+    root: u32,
+    steps: &mut Steps<L>,
+) -> Option<[Option<u16>; 3]> {
+    let mut tree = Tree { kind: 5, root };
+    let at_b = tree.get(pages, &letter(b'b'), steps).ok()?;
+    let at_c = tree.get(pages, &letter(b'c'), steps).ok()?;
+    tree.put_value(pages, &letter(b'c'), &value_of(4), steps)
+        .ok()?;
+    let now_c = tree.get(pages, &letter(b'c'), steps).ok()?;
+    Some([value_number(at_b), value_number(at_c), value_number(now_c)])
+}
+
 // What look-ups answer in a tree with the keys `a` and `c`, and after the value at `c` was changed.
 fn letters<L: Ledger>(alloc: Global, blank: Blank) -> Option<[Option<u16>; 7]>
     requires name { blank.name ≡ L.name }
@@ -216,29 +274,10 @@ fn letters<L: Ledger>(alloc: Global, blank: Blank) -> Option<[Option<u16>; 7]>
     let mut steps = Steps::<L>::new(blank);
     let mut pages = MemPages::new(alloc, 2).ok()?;
     pages.grant(1024, 256000);
-    let mut tree = Tree { kind: 5, root: 0 };
-    tree.insert(&mut pages, &letter(b'c'), &value_of(3), &mut steps)
-        .ok()?;
-    tree.insert(&mut pages, &letter(b'a'), &value_of(1), &mut steps)
-        .ok()?;
-    let after_a = tree.next_after(&mut pages, &letter(b'a'), &mut steps).ok()?;
-    let after_c = tree.next_after(&mut pages, &letter(b'c'), &mut steps).ok()?;
-    let below_c = tree.last_below(&mut pages, &letter(b'c'), &mut steps).ok()?;
-    let below_a = tree.last_below(&mut pages, &letter(b'a'), &mut steps).ok()?;
-    let at_b = tree.get(&mut pages, &letter(b'b'), &mut steps).ok()?;
-    let at_c = tree.get(&mut pages, &letter(b'c'), &mut steps).ok()?;
-    tree.put_value(&mut pages, &letter(b'c'), &value_of(4), &mut steps)
-        .ok()?;
-    let now_c = tree.get(&mut pages, &letter(b'c'), &mut steps).ok()?;
-    Some([
-        after_a.map(|pair| number_in(&pair.value.bytes)),
-        after_c.map(|pair| number_in(&pair.value.bytes)),
-        below_c.map(|pair| number_in(&pair.value.bytes)),
-        below_a.map(|pair| number_in(&pair.value.bytes)),
-        at_b.map(|value| number_in(&value.bytes)),
-        at_c.map(|value| number_in(&value.bytes)),
-        now_c.map(|value| number_in(&value.bytes)),
-    ])
+    let root = plant(&mut pages, &mut steps)?;
+    let [after_a, after_c, below_c, below_a] = neighbours(&mut pages, root, &mut steps)?;
+    let [at_b, at_c, now_c] = values(&mut pages, root, &mut steps)?;
+    Some([after_a, after_c, below_c, below_a, at_b, at_c, now_c])
 }
 
 #[test]
