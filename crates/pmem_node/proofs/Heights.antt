@@ -1,12 +1,11 @@
 -- A balanced tree is low, whatever its blocks hold.
-use Rattle.std.proofs.Common.{◌≡◌, ℕ, zero, suc, ◌+◌, ◌-◌, ◌*◌, ◌^◌, ◌≤◌, ◌<◌, max, List, [], ◌∷◌, ◌++◌, length, refl, sym, ap, ◌∙◌, arith, length-append, ◌⊎◌, inl, inr}
+use Rattle.std.proofs.Common.{ℕ, zero, suc, ◌*◌, ◌^◌, ◌≤◌, ◌<◌, ◌∷◌, length, arith, length-append, inl, inr}
 use Rattle.std.proofs.Math.Nat.{pow-suc}
 use Rattle.std.proofs.lemmas.Bool.{cases_lt}
 use Rattle.pmem_pages.specs.Blocks.{Blocks}
-use Rattle.pmem_owner.specs.Owners.{times}
 use Rattle.pmem_owner.proofs.Counts.{at_most}
-use Rattle.pmem_node.specs.Shape.{Entry, Shape, Leaf, Fork, height, entries, blocks_of, count, Stands, Balanced, IsTree}
-use Rattle.pmem_node.proofs.Lists.{length_blocks, count_none, count_own, count_other, count_parts}
+use Rattle.pmem_node.specs.Shape.{Shape, Leaf, Fork, height, entries, blocks_of, count, Stands, Balanced}
+use Rattle.pmem_node.proofs.Lists.{length_blocks}
 use Rattle.pmem_node.proofs.Shapes.{low_in}
 
 pub many_pairs : (d : ℕ) (t : Shape) → Balanced t → 2 * d < height t → 2 ^ d ≤ length (entries t)

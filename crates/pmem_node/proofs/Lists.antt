@@ -1,10 +1,10 @@
 -- Lists of entries: how often a block stands in them, and keys that rise.
-use Rattle.std.proofs.Common.{◌≡◌, ◌≢◌, ℕ, ◌+◌, ◌≤◌, ◌<◌, List, [], ◌∷◌, ◌++◌, length, Option, Some, None, refl, sym, ap, ◌∙◌, arith, ◌⊎◌, inl, inr}
+use Rattle.std.proofs.Common.{◌≡◌, ◌≢◌, ℕ, ◌+◌, List, [], ◌∷◌, ◌++◌, length, Option, Some, None, refl, sym, ap, ◌∙◌, arith, ◌⊎◌, inl, inr}
 use Rattle.std.specs.declared.cmp.Ordering.{Ordering}
 use Rattle.std.specs.declared.cmp.Ordering.TheVariants.{Less, Equal, Greater}
 use Rattle.std.specs.Ordering.{ordering_reverse}
 use Rattle.std.specs.Cmp.{IsTotalOrder}
-use Rattle.std.proofs.lemmas.Cmp.{nat_list_cmp_total, on_total, tied_back, alike_right}
+use Rattle.std.proofs.lemmas.Cmp.{nat_list_cmp_total, on_total, alike_right}
 use Rattle.pmem_owner.specs.Owners.{times, times-append}
 use Rattle.pmem_owner.proofs.Counts.{times_none, times_one, times_own, times_other}
 use Rattle.pmem_node.specs.declared.node.TreeKey.{TreeKey}

@@ -1,15 +1,11 @@
 -- A node is read back from its block, and a block from its node.
-use Rattle.std.proofs.Common.{◌≡◌, ℕ, zero, suc, ◌+◌, ◌*◌, ◌≤◌, ◌<◌, ◌^◌, min, List, [], ◌∷◌, ◌++◌, length, take, drop, get_or, refl, sym, ap, ◌∙◌, arith, rules, length-append, length-drop, length-take, get_or-take, get_or-drop, ◌⊎◌, inl, inr}
-use Rattle.std.specs.Int.{w16, w32, byte_at, bytes_high_first, from_be_bytes, to_be_bytes}
-use Rattle.std.proofs.lemmas.Bool.{cases_lt}
+use Rattle.std.proofs.Common.{◌≡◌, ℕ, zero, suc, ◌+◌, ◌≤◌, ◌<◌, min, List, [], ◌∷◌, ◌++◌, length, take, drop, get_or, refl, sym, ap, ◌∙◌, arith, length-drop, length-take, get_or-take, get_or-drop}
 use Rattle.std.proofs.lemmas.List.{take_at, drop_at, take_all, drop-drop, take-append-drop}
 use Rattle.std.proofs.lemmas.Nat.{be_bytes_2, be_bytes_4}
-use Rattle.byteorder.specs.Endian.{big_bytes, big_number, big_from}
+use Rattle.byteorder.specs.Endian.{big_bytes, big_number}
 use Rattle.byteorder.specs.Numbers.{big_number-reads_back, length-bytes_high_first}
 use Rattle.pmem_node.specs.declared.node.Node.{Node}
-use Rattle.pmem_node.specs.declared.node.TreeKey.{TreeKey}
-use Rattle.pmem_node.specs.declared.node.Value.{Value}
-use Rattle.pmem_node.specs.Node.{node_bytes, node_of, value_len, IsKey, IsValue, IsNode, IsNodeBlock}
+use Rattle.pmem_node.specs.Node.{node_bytes, node_of, IsNode, IsNodeBlock}
 
 -- what stands behind a part that stands from a place on
 past : (bs xs ys : List ℕ) (n k m : ℕ) → drop n bs ≡ xs ++ ys → length xs ≡ k → m ≡ n + k → drop m bs ≡ ys

@@ -1,5 +1,5 @@
 -- Where an entry goes, or stands: a list of what the values of a tree lead to falls into the same parts.
-use Rattle.std.proofs.Common.{◌≡◌, List, [], ◌∷◌, ◌++◌, Option, Some, None, refl, ap}
+use Rattle.std.proofs.Common.{◌≡◌, List, [], ◌∷◌, Some, None, refl, ap}
 use Rattle.std.specs.declared.cmp.Ordering.TheVariants.{Less, Equal, Greater}
 use Rattle.pmem_node.specs.declared.node.TreeKey.{TreeKey}
 use Rattle.pmem_node.specs.declared.node.Value.{Value}

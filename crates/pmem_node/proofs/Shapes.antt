@@ -1,14 +1,13 @@
 -- A shape that stands in blocks.
-use Rattle.std.proofs.Common.{◌≡◌, ◌≢◌, ℕ, ◌+◌, ◌≤◌, ◌<◌, ◌^◌, max, List, [], ◌∷◌, ◌++◌, length, Option, Some, None, refl, sym, ap, ◌∙◌, subst, arith, ◌⊎◌, inl, inr}
+use Rattle.std.proofs.Common.{◌≡◌, ◌≢◌, ℕ, ◌<◌, ◌^◌, List, Some, ap, ◌∙◌, arith, inl, inr}
 use Rattle.std.proofs.lemmas.Bool.{cases_lt}
 use Rattle.std.proofs.lemmas.Bool.Decides.{eqb_tells}
-use Rattle.pmem_pages.specs.Blocks.{Blocks, put, IsTaken}
-use Rattle.pmem_node.specs.declared.node.Node.{Node}
-use Rattle.pmem_node.specs.Node.{node_bytes, node_of, IsNode, IsKey, IsValue}
-use Rattle.pmem_node.specs.Shape.{Entry, Shape, Leaf, Fork, root_of, height, entries, blocks_of, count, node_at, IsEntry, NodeStands, Stands, Balanced, Rises, IsTree}
+use Rattle.pmem_pages.specs.Blocks.{Blocks, IsTaken}
+use Rattle.pmem_node.specs.Node.{node_bytes, node_of, IsNode}
+use Rattle.pmem_node.specs.Shape.{Entry, Shape, Leaf, Fork, root_of, entries, blocks_of, count, node_at, NodeStands, Stands, Balanced, Rises, IsTree}
 use Rattle.pmem_owner.specs.Owners.{SameIn, Holds}
 use Rattle.pmem_node.specs.Owned.{tree_taken, tree_frame, tree_owner}
-use Rattle.pmem_node.proofs.Lists.{count-append, count_one, count_none, count_own, count_other, count_parts}
+use Rattle.pmem_node.proofs.Lists.{count_none, count_other, count_parts}
 use Rattle.pmem_node.proofs.Nodes.{node_again}
 
 -- a frame: what the nodes' blocks hold is all that counts

@@ -1,8 +1,8 @@
 -- Things that stand apart, and a change in one of them.
-use Rattle.std.proofs.Common.{◌≡◌, ℕ, ◌≤◌, ◌<◌, ◌+◌, List, [], ◌∷◌, ◌++◌, Option, Some, None, refl, sym, ap, ◌∙◌, arith, ◌⊎◌, inl, inr}
+use Rattle.std.proofs.Common.{◌≡◌, ℕ, ◌<◌, List, [], ◌∷◌, ◌++◌, Some, None, sym, ◌∙◌, arith, inl, inr}
 use Rattle.std.proofs.lemmas.Bool.{cases_lt}
 use Rattle.pmem_pages.specs.Blocks.{Blocks, IsTaken}
-use Rattle.pmem_owner.specs.Owners.{times, SameIn, Owner, Holds, Changed, both, each, stands_each, owned_each, such, maybe, stands_maybe, owned_maybe, times-append}
+use Rattle.pmem_owner.specs.Owners.{times, Owner, Holds, Changed, both, each, owned_each, such, maybe, times-append}
 
 -- a taken block isn't free
 pub not_free : (m : Blocks) (q : ℕ) → IsTaken m q → m q ≡ None → ⊥

@@ -1,7 +1,7 @@
 -- What stands in blocks, and which blocks it owns. Trees, chains, pairs, lists and trees of these are
 -- owners.
-use Rattle.std.specs.Prelude.{◌≡◌, ℕ, cond, ◌==◌, ◌≤◌, ◌<◌, ◌+◌, List, [], ◌∷◌, ◌++◌, Option, Some, None, refl}
-use Rattle.std.proofs.Common.{arith, ◌⊎◌, inl, inr}
+use Rattle.std.specs.Prelude.{◌≡◌, ℕ, cond, ◌==◌, ◌≤◌, ◌<◌, ◌+◌, List, [], ◌∷◌, ◌++◌, Option, Some, None}
+use Rattle.std.proofs.Common.{arith, inl, inr}
 use Rattle.std.proofs.lemmas.Bool.{cases_lt}
 use Rattle.pmem_pages.specs.Blocks.{Blocks, IsTaken}
 

@@ -1,4 +1,4 @@
-use Rattle.std.proofs.Common.{◌≡◌, ◌∷◌, [], length, refl, arith, rules}
+use Rattle.std.proofs.Common.{◌∷◌, [], refl, rules}
 use Rattle.byteorder.specs.Endian.{big_bytes}
 use Rattle.byteorder.specs.Numbers.{length-bytes_high_first}
 use Rattle.pmem_node.specs.Node.{node_bytes}
