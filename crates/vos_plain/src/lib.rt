@@ -6,6 +6,7 @@ mod changes;
 mod contents;
 mod keyed;
 mod plain;
+mod reads;
 mod rows;
 pub mod store;
 mod sweeps;
