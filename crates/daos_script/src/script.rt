@@ -100,6 +100,7 @@ fn ended_lists(lists: Lists) -> Result<ClientLists, ScriptNo>
     ensures { GivesAt (λ l. l) result (ended_lists lists) }
 {
     if let Some(line) = open_line(&lists.present.client) {
+        drop(lists);
         return Err(ScriptNo::Fault(ScriptFault {
             line,
             why: Why::BadBlock,
@@ -195,8 +196,13 @@ impl Reading {
         ensures { GivesAt (λ s. s) result (ended self) }
     {
         let Reading { decls, lists } = self;
-        let clients = ended_lists(lists)?;
-        Ok(script_with(decls, clients))
+        match ended_lists(lists) {
+            Ok(clients) => Ok(script_with(decls, clients)),
+            Err(no) => {
+                drop(decls);
+                Err(no)
+            }
+        }
     }
 }
 
@@ -219,7 +225,10 @@ pub fn read_script(alloc: Global, bytes: &[u8], targets: u8) -> Result<Script, S
     let mut lines = Parts::new(b'\n', first_bytes(bytes));
     let mut at: u32 = 1;
     while let Some(line) = lines.take_part() {
-        reading.with_line(alloc, long, at, line)?;
+        if let Err(no) = reading.with_line(alloc, long, at, line) {
+            drop(reading);
+            return Err(no);
+        }
         at += 1;
     }
     let script = reading.ended()?;
