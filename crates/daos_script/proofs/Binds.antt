@@ -6,8 +6,8 @@ use Rattle.daos_base.specs.declared.fault.Why.TheVariants.{TooMany}
 use Rattle.daos_text.specs.Results.{◌>>=◌}
 use Rattle.daos_script_words.specs.Decls.{room}
 use Rattle.daos_script_words.specs.Reads.{Read}
-use Rattle.daos_script.specs.declared.client.Client.{Client}
-use Rattle.daos_script.specs.Puts.{present, counted}
+use Rattle.daos_script_lists.specs.declared.client.Client.{Client}
+use Rattle.daos_script_lists.specs.Steps.{begun, counted}
 
 -- the value of a step, and what the next one made of it
 pub bind_ok : {A B F : Type 0} (r : Result A F) (f : A → Result B F) (y : B) → (r >>= f) ≡ Ok y → (x : A) × (r ≡ Ok x) × (f x ≡ Ok y)
@@ -35,6 +35,13 @@ below m n e = grind (arith, nat_tests)
 abbrev there : Read (Unit {0})
 there = Ok tt
 
+pub room_left : (most n : ℕ) (u : Unit {0}) → room most n ≡ Ok u → n < most
+room_left most n u e = go (leb most n) refl e
+  where
+    go : (b : Bool) → leb most n ≡ b → cond b (Err (TooMany most)) there ≡ Ok u → n < most
+    go true h e = absurd cc
+    go false h e = below most n h
+
 -- there was room
 pub room_ok : {A : Type 0} (most n : ℕ) (x y : A) → (room most n >>= λ fits. Ok x) ≡ Ok y → (n < most) × (x ≡ y)
 room_ok {A} most n x y e = go (leb most n) refl e
@@ -43,9 +50,9 @@ room_ok {A} most n x y e = go (leb most n) refl e
     go true h e = absurd cc
     go false h e = (below most n h, ok_is x y e)
 
-pub present_ok : (o : Option Client) (c : Client) → present o ≡ Ok c → o ≡ Some c
-present_ok None c e = absurd cc
-present_ok (Some d) c e = cc
+pub begun_ok : (o : Option Client) (c : Client) → begun o ≡ Ok c → o ≡ Some c
+begun_ok None c e = absurd cc
+begun_ok (Some d) c e = cc
 
 -- one more was counted
 pub counted_ok : (n m : ℕ) → counted true n ≡ Ok m → (n < 100000) × (m ≡ n + 1)

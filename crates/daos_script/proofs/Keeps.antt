@@ -15,15 +15,18 @@ use Rattle.daos_names.specs.Names.{named}
 use Rattle.daos_script_words.specs.declared.decls.Decls.{Decls}
 use Rattle.daos_script_words.specs.Lookups.{old_named}
 use Rattle.daos_script_words.specs.Snaps.{is_snap}
-use Rattle.daos_script.specs.declared.client.Client.{Client}
-use Rattle.daos_script.specs.declared.client.Tx.{Tx}
+use Rattle.daos_script_lists.specs.declared.client.Client.{Client}
+use Rattle.daos_script_lists.specs.declared.present.Step.TheVariants as step
+use Rattle.daos_script_lists.specs.Clients.{skip_open}
+use Rattle.daos_script_lists.specs.Lists.{all_lists, lists_of, pending}
+use Rattle.daos_script_lists.specs.Steps.{tx_of, within_of}
 use Rattle.daos_script.specs.declared.reading.Reading.{Reading}
-use Rattle.daos_script.specs.Clients.{skip_open}
-use Rattle.daos_script.specs.Puts.{add_line, lists_of, nothing_read, pending, tx_of, within_of}
-use Rattle.daos_script.specs.Readings.{ended, bad_tell, open_line, script_so_far, unless_bad, unless_open}
+use Rattle.daos_script.specs.Puts.{add_line, nothing_read}
+use Rattle.daos_script.specs.Readings.{bad_tell, script_with}
 use Rattle.daos_script.specs.SoFar.{AreHeads, IsBody, IsSoFar, IsState, IsStateAt, count_open, snap_name}
 use Rattle.daos_script.proofs.KeepsHeads.{keep_cont, keep_obj, keep_old, keep_stop, later}
 use Rattle.daos_script.proofs.KeepsLists.{keep_aggregate, keep_client, keep_do_at, keep_end, keep_op, keep_skip, keep_snap, keep_tell, keep_tx, whole_lists}
+use Rattle.daos_script.proofs.Tells.{all_told}
 
 -- a name of no snapshot is none of any of the three tables
 is_none_of : {A B C : Type 0} (a : Option A) (b : Option B) (c : Option C) → (is_some a || is_some b || is_some c) ≡ false → (a ≡ None) × (b ≡ None) × (c ≡ None)
@@ -54,7 +57,7 @@ new_fits decls within (line.Tell client) f = tt
 new_fits decls within (line.Skip turns) f = tt
 
 -- each line keeps the state
-state_keeps : (targets at : ℕ) (r t : Reading) (l : Line) → IsStateAt targets at r → LineFits r.decls (within_of r.current) l → add_line at r l ≡ Ok t → IsStateAt targets (at + 1) t
+state_keeps : (targets at : ℕ) (r t : Reading) (l : Line) → IsStateAt targets at r → LineFits r.decls (within_of r.lists.present.client) l → add_line at r l ≡ Ok t → IsStateAt targets (at + 1) t
 state_keeps targets at r t (line.Cont d) h f e = keep_cont targets at r t d h f e
 state_keeps targets at r t (line.Obj d) h f e = keep_obj targets at r t d h f e
 state_keeps targets at r t (line.Old d) h f e = keep_old targets at r t d h f e
@@ -71,7 +74,7 @@ state_keeps targets at r t (line.Tell client) h f e = keep_tell targets at at r 
 state_keeps targets at r t (line.Skip turns) h f e = keep_skip targets at r t turns f.0 f.1 h e
 
 -- a line keeps what was read in form
-pub line_keeps : (targets at : ℕ) (r t : Reading) (l : Line) → IsSoFar targets at r → LineFits r.decls (within_of r.current) l → add_line at r l ≡ Ok t → IsSoFar targets (at + 1) t
+pub line_keeps : (targets at : ℕ) (r t : Reading) (l : Line) → IsSoFar targets at r → LineFits r.decls (within_of r.lists.present.client) l → add_line at r l ≡ Ok t → IsSoFar targets (at + 1) t
 unfolding IsSoFar
 line_keeps targets at r t l h f e = state_keeps targets at r t l h f e
 
@@ -88,12 +91,13 @@ passed_keeps targets at r h = record {
   counts = h.counts;
   few = h.few;
   skipped = later at _ h.skipped;
+  kept = h.kept;
 }
 
-few_turns : (targets at : ℕ) (r : Reading) → at ≤ 16777217 → IsStateAt targets at r → pending r < 2 ^ 63
+few_turns : (targets at : ℕ) (r : Reading) → at ≤ 16777217 → IsStateAt targets at r → pending r.lists < 2 ^ 63
 few_turns targets at r le h = omega (arith, h.skipped)
 
-pub few_pending : (targets at : ℕ) (r : Reading) → at ≤ 16777217 → IsSoFar targets at r → pending r < 2 ^ 63
+pub few_pending : (targets at : ℕ) (r : Reading) → at ≤ 16777217 → IsSoFar targets at r → pending r.lists < 2 ^ 63
 unfolding IsSoFar
 few_pending targets at r le h = few_turns targets at r le h
 
@@ -127,6 +131,7 @@ nothing_so_far targets = record {
   counts = refl;
   few = omega arith;
   skipped = omega arith;
+  kept = tt;
 }
 
 -- ---- the end
@@ -136,8 +141,8 @@ few_lists conts objs olds whole None h = let e : length whole ≡ 0 = ap length 
 few_lists conts objs olds whole (Some c) h = omega (arith, length-append whole (c.list ∷ []), h.room)
 
 -- the script of a state is in form
-state_form : (targets at : ℕ) (r : Reading) → IsStateAt targets at r → IsInForm targets (script_so_far r)
-state_form targets at r h =
+state_form : (targets at : ℕ) (r : Reading) → IsStateAt targets at r → bad_tell (length (all_lists r.lists)) r.lists.tells ≡ None → IsInForm targets (script_with r.decls (all_lists r.lists))
+state_form targets at r h none =
     let k = h.heads in
     record {
       read_for = h.read_for;
@@ -156,16 +161,17 @@ state_form targets at r h =
       snap_names = subst (λ m. IsDistinct same_key (map snap_name (map old_snap r.decls.olds ++ m))) h.made_are h.names;
       stops = k.few_stops;
       stops_fit = k.stops_fit;
-      clients = few_lists r.decls.conts r.decls.objs (map old_snap r.decls.olds) r.whole r.current h.body;
+      clients = few_lists r.decls.conts r.decls.objs (map old_snap r.decls.olds) r.lists.whole r.lists.present.client h.body;
       few = omega (arith, h.counts, h.few);
-      commands = All-from_recursion (λ list. AreCommands r.decls.conts r.decls.objs (map old_snap r.decls.olds) list) (lists_of r.whole r.current)
-          (whole_lists r.decls.conts r.decls.objs (map old_snap r.decls.olds) r.whole r.current h.body);
+      commands = All-from_recursion (λ list. AreCommands r.decls.conts r.decls.objs (map old_snap r.decls.olds) list) (lists_of r.lists.whole r.lists.present.client)
+          (whole_lists r.decls.conts r.decls.objs (map old_snap r.decls.olds) r.lists.whole r.lists.present.client h.body);
+      told = all_told (length (all_lists r.lists)) r.lists.tells none 0 (lists_of r.lists.whole r.lists.present.client) h.kept;
     }
 
 -- the script so far is in form
-pub so_far_form : (targets at : ℕ) (r : Reading) → IsSoFar targets at r → IsInForm targets (script_so_far r)
+pub so_far_form : (targets at : ℕ) (r : Reading) → IsSoFar targets at r → bad_tell (length (all_lists r.lists)) r.lists.tells ≡ None → IsInForm targets (script_with r.decls (all_lists r.lists))
 unfolding IsSoFar
-so_far_form targets at r h = state_form targets at r h
+so_far_form targets at r h none = state_form targets at r h none
 
 -- it was read for so many targets
 pub read_for : (targets at : ℕ) (r : Reading) → IsSoFar targets at r → r.decls.targets ≡ targets

@@ -31,13 +31,12 @@ use Rattle.daos_script_lines.specs.declared.line.At.{At}
 use Rattle.daos_script_lines.specs.declared.line.Line.{Line}
 use Rattle.daos_script_lines.specs.declared.line.Line.TheVariants as line
 use Rattle.daos_script_lines.specs.Fits.{AtFits, ContFits, DoAtFits, LineFits, ObjFits, OldFits, OpFits, SnapFits}
-use Rattle.daos_script.specs.declared.client.Client.{Client}
-use Rattle.daos_script.specs.declared.client.Tx.{Tx}
+use Rattle.daos_script_lists.specs.declared.client.Client.{Client}
+use Rattle.daos_script_lists.specs.Lists.{lists_of}
 use Rattle.daos_script.specs.declared.reading.Reading.{Reading}
-use Rattle.daos_script.specs.Clients.{client_command, client_end, client_op, client_skip, client_tx, command_of, command_in, end_in, is_barred, is_free, is_plain, lone, name_of, op_in, skip_in, skip_open, tx_begun, tx_in, tx_op, within_tx}
-use Rattle.daos_script.specs.Puts.{add_line, counted, lists_of, present, put_client, put_cont, put_do_at, put_end, put_numbered, put_obj, put_old, put_op, put_skip, put_snap, put_stop, put_tell, put_tx, tx_of, within_of}
+use Rattle.daos_script.specs.Puts.{put_cont, put_obj, put_old, put_stop}
 use Rattle.daos_script.specs.SoFar.{AreHeads, AreLists, IsBody, IsOpen, IsStateAt, IsState, IsTx, TxReads, count_open, snap_name, snaps_now}
-use Rattle.daos_script.proofs.Binds.{bind_ok, counted_ok, none_of, ok_is, present_ok, room_ok, unless_ok}
+use Rattle.daos_script.proofs.Binds.{bind_ok, none_of, ok_is, room_ok, unless_ok}
 use Rattle.daos_script.proofs.Lists.{AreCommands-append, IsDistinct-push, all_append, all_push, all_snaps-push, any_after, any_more, cont_is_new, count_numbered-push, entry_new, id_is_new, obj_is_new, object_is_new, old_is_new, pushed, snaps_of-append}
 
 -- ---- before the first client
@@ -57,10 +56,10 @@ module _ (targets at : ℕ) where
   pub keep_cont : (r t : Reading) (d : ContDecl) → IsStateAt targets at r → ContFits r.decls d → put_cont r d ≡ Ok t → IsStateAt targets (at + 1) t
   unfolding put_cont with_cont
   keep_cont r t d h f e =
-      let g = unless_ok (is_some r.current) BadBlock (with_cont r.decls d >>= λ decls. Ok (record r { decls = decls })) t e in
+      let g = unless_ok (is_some r.lists.present.client) BadBlock (with_cont r.decls d >>= λ decls. Ok (record r { decls = decls })) t e in
       let a = bind_ok (with_cont r.decls d) (λ decls. Ok (record r { decls = decls })) t g.1 in
       let b = room_ok 256 (length r.decls.conts) (record r.decls { conts = r.decls.conts ++ d ∷ [] }) a.0 a.1 in
-      let none : r.current ≡ None = none_of r.current g.0 in
+      let none : r.lists.present.client ≡ None = none_of r.lists.present.client g.0 in
       let new : Reading = record r { decls = record r.decls { conts = r.decls.conts ++ d ∷ [] } } in
       let same : new ≡ t = ap (λ decls. record r { decls = decls }) b.1 ∙ ok_is (record r { decls = a.0 }) t a.2 in
       let k = h.heads in
@@ -83,19 +82,20 @@ module _ (targets at : ℕ) where
         made_are = h.made_are;
         own_are = h.own_are;
         names = h.names;
-        body = body_none r.decls.conts (r.decls.conts ++ d ∷ []) r.decls.objs r.decls.objs (map old_snap r.decls.olds) (map old_snap r.decls.olds) r.whole r.current none h.body;
+        body = body_none r.decls.conts (r.decls.conts ++ d ∷ []) r.decls.objs r.decls.objs (map old_snap r.decls.olds) (map old_snap r.decls.olds) r.lists.whole r.lists.present.client none h.body;
         counts = h.counts;
         few = h.few;
         skipped = later at _ h.skipped;
+        kept = h.kept;
       })
 
   pub keep_obj : (r t : Reading) (d : ObjDecl) → IsStateAt targets at r → ObjFits r.decls d → put_obj r d ≡ Ok t → IsStateAt targets (at + 1) t
   unfolding put_obj with_obj
   keep_obj r t d h f e =
-      let g = unless_ok (is_some r.current) BadBlock (with_obj r.decls d >>= λ decls. Ok (record r { decls = decls })) t e in
+      let g = unless_ok (is_some r.lists.present.client) BadBlock (with_obj r.decls d >>= λ decls. Ok (record r { decls = decls })) t e in
       let a = bind_ok (with_obj r.decls d) (λ decls. Ok (record r { decls = decls })) t g.1 in
       let b = room_ok 4096 (length r.decls.objs) (record r.decls { objs = r.decls.objs ++ d ∷ [] }) a.0 a.1 in
-      let none : r.current ≡ None = none_of r.current g.0 in
+      let none : r.lists.present.client ≡ None = none_of r.lists.present.client g.0 in
       let new : Reading = record r { decls = record r.decls { objs = r.decls.objs ++ d ∷ [] } } in
       let same : new ≡ t = ap (λ decls. record r { decls = decls }) b.1 ∙ ok_is (record r { decls = a.0 }) t a.2 in
       let k = h.heads in
@@ -118,23 +118,24 @@ module _ (targets at : ℕ) where
         made_are = h.made_are;
         own_are = h.own_are;
         names = h.names;
-        body = body_none r.decls.conts r.decls.conts r.decls.objs (r.decls.objs ++ d ∷ []) (map old_snap r.decls.olds) (map old_snap r.decls.olds) r.whole r.current none h.body;
+        body = body_none r.decls.conts r.decls.conts r.decls.objs (r.decls.objs ++ d ∷ []) (map old_snap r.decls.olds) (map old_snap r.decls.olds) r.lists.whole r.lists.present.client none h.body;
         counts = h.counts;
         few = h.few;
         skipped = later at _ h.skipped;
+        kept = h.kept;
       })
 
   pub keep_old : (r t : Reading) (d : OldDecl) → IsStateAt targets at r → OldFits r.decls d → put_old r d ≡ Ok t → IsStateAt targets (at + 1) t
   unfolding put_old with_old is_snap
   keep_old r t d h f e =
-      let g = unless_ok (is_some r.current) BadBlock (with_old r.decls d >>= λ decls. Ok (record r { decls = decls })) t e in
+      let g = unless_ok (is_some r.lists.present.client) BadBlock (with_old r.decls d >>= λ decls. Ok (record r { decls = decls })) t e in
       let a = bind_ok (with_old r.decls d) (λ decls. Ok (record r { decls = decls })) t g.1 in
       let b = room_ok 256 (length r.decls.olds) (record r.decls { olds = r.decls.olds ++ d ∷ [] }) a.0 a.1 in
-      let none : r.current ≡ None = none_of r.current g.0 in
+      let none : r.lists.present.client ≡ None = none_of r.lists.present.client g.0 in
       let new : Reading = record r { decls = record r.decls { olds = r.decls.olds ++ d ∷ [] } } in
       let same : new ≡ t = ap (λ decls. record r { decls = decls }) b.1 ∙ ok_is (record r { decls = a.0 }) t a.2 in
       let k = h.heads in
-      let made : r.decls.made ≡ [] = h.made_are ∙ nothing_made r.decls.conts r.decls.objs (map old_snap r.decls.olds) r.whole r.current none h.body in
+      let made : r.decls.made ≡ [] = h.made_are ∙ nothing_made r.decls.conts r.decls.objs (map old_snap r.decls.olds) r.lists.whole r.lists.present.client none h.body in
       let p = or_parts (is_some (old_named r.decls.olds d.name) || is_some (named r.decls.made d.name)) (is_some (named r.decls.own d.name)) f.new_name in
       let q = or_parts (is_some (old_named r.decls.olds d.name)) (is_some (named r.decls.made d.name)) p.0 in
       let no_old : old_named r.decls.olds d.name ≡ None = none_of _ q.0 in
@@ -161,16 +162,17 @@ module _ (targets at : ℕ) where
         made_are = h.made_are;
         own_are = h.own_are;
         names = subst (λ m. IsDistinct same_key (map snap_name m)) listed after;
-        body = body_none r.decls.conts r.decls.conts r.decls.objs r.decls.objs (map old_snap r.decls.olds) (map old_snap (r.decls.olds ++ d ∷ [])) r.whole r.current none h.body;
+        body = body_none r.decls.conts r.decls.conts r.decls.objs r.decls.objs (map old_snap r.decls.olds) (map old_snap (r.decls.olds ++ d ∷ [])) r.lists.whole r.lists.present.client none h.body;
         counts = h.counts;
         few = h.few;
         skipped = later at _ h.skipped;
+        kept = h.kept;
       })
 
   pub keep_stop : (r t : Reading) (d : StopDecl) → IsStateAt targets at r → IsStop r.decls.targets d → put_stop r d ≡ Ok t → IsStateAt targets (at + 1) t
   unfolding put_stop with_stop
   keep_stop r t d h f e =
-      let g = unless_ok (is_some r.current) BadBlock (with_stop r.decls d >>= λ decls. Ok (record r { decls = decls })) t e in
+      let g = unless_ok (is_some r.lists.present.client) BadBlock (with_stop r.decls d >>= λ decls. Ok (record r { decls = decls })) t e in
       let a = bind_ok (with_stop r.decls d) (λ decls. Ok (record r { decls = decls })) t g.1 in
       let b = room_ok 64 (length r.decls.stops) (record r.decls { stops = r.decls.stops ++ d ∷ [] }) a.0 a.1 in
       let new : Reading = record r { decls = record r.decls { stops = r.decls.stops ++ d ∷ [] } } in
@@ -199,4 +201,5 @@ module _ (targets at : ℕ) where
         counts = h.counts;
         few = h.few;
         skipped = later at _ h.skipped;
+        kept = h.kept;
       })

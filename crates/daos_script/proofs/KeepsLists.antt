@@ -34,16 +34,23 @@ use Rattle.daos_script_lines.specs.declared.line.Line.{Line}
 use Rattle.daos_script_lines.specs.declared.line.Line.TheVariants as line
 use Rattle.daos_script_lines.specs.Ops.{PathFits}
 use Rattle.daos_script_lines.specs.Fits.{AtFits, ContFits, DoAtFits, LineFits, ObjFits, OldFits, OpFits, SnapFits}
-use Rattle.daos_script.specs.declared.client.Client.{Client}
-use Rattle.daos_script.specs.declared.client.Tx.{Tx}
+use Rattle.daos_script_lists.specs.declared.client.Client.{Client}
+use Rattle.daos_script_lists.specs.declared.lists.Lists.{Lists}
+use Rattle.daos_script_lists.specs.declared.lists.Told.{Told}
+use Rattle.daos_script_lists.specs.declared.present.Present.{Present}
+use Rattle.daos_script_lists.specs.declared.present.Step.{Step}
+use Rattle.daos_script_lists.specs.declared.present.Step.TheVariants as step
+use Rattle.daos_script_lists.specs.declared.tx.Tx.{Tx}
 use Rattle.daos_script.specs.declared.reading.Reading.{Reading}
-use Rattle.daos_script.specs.declared.reading.Told.{Told}
-use Rattle.daos_script.specs.Clients.{client_command, client_end, client_op, client_skip, client_tx, command_of, command_in, cont_of, end_in, is_barred, is_free, is_plain, lone, name_of, op_in, skip_in, skip_open, tx_begun, tx_in, tx_op, within_tx}
-use Rattle.daos_script.specs.Puts.{add_line, command_added, counted, lists_closed, lists_of, op_added, present, put_client, put_cont, put_do_at, put_end, put_numbered, put_obj, put_old, put_op, put_skip, put_snap, put_stop, put_tell, put_tx, tell_added, tx_added, tx_of, within_of}
-use Rattle.daos_script.specs.SoFar.{AreHeads, AreLists, IsBody, IsOpen, IsStateAt, IsState, IsTx, TxReads, count_open, snap_name, snaps_now}
+use Rattle.daos_script_lists.specs.Clients.{client_command, client_end, client_op, client_skip, client_tx, command_in, command_of, cont_of, ended_tx, is_barred, is_free, is_plain, lone, may_add, name_of, op_in, skip_in, skip_open, tx_begun, tx_in, tx_op, tx_pushed, within_tx}
+use Rattle.daos_script_lists.specs.Lists.{lists_of, next_client, next_list, one_step, told_by, with_tell}
+use Rattle.daos_script_lists.specs.Steps.{begun, counted, step_command, step_end, step_op, step_skip, step_tx, tx_of, with_step, within_of}
+use Rattle.daos_script.specs.Puts.{put_client, put_do_at, put_snap, put_step, put_tell}
+use Rattle.daos_script.specs.SoFar.{AreHeads, AreKept, AreLists, IsKept, IsBody, IsOpen, IsStateAt, IsState, IsTx, TxReads, count_open, snap_name, snaps_now}
 use Rattle.daos_script.proofs.KeepsHeads.{later}
-use Rattle.daos_script.proofs.Binds.{bind_ok, counted_ok, none_of, ok_is, present_ok, room_ok, unless_ok}
+use Rattle.daos_script.proofs.Binds.{begun_ok, bind_ok, counted_ok, none_of, ok_is, room_left, room_ok, unless_ok}
 use Rattle.daos_script.proofs.Lists.{AreCommands-append, IsDistinct-push, all_append, all_push, all_snaps-push, any_after, any_more, cont_is_new, count_numbered-push, entry_new, id_is_new, obj_is_new, object_is_new, old_is_new, pushed, snaps_of-append}
+use Rattle.daos_script.proofs.Tells.{all_kept-parts, all_kept-push, more_kept, numbered_kept, own_kept}
 
 -- a snapshot that may be read, if one is given
 abbrev pub AtGiven : Decls → Option At → Type 0
@@ -63,13 +70,13 @@ free_counts (Some t) e = absurd cc
 
 module _ (targets at : ℕ) where
   pub keep_client : (r t : Reading) → IsStateAt targets at r → put_client r ≡ Ok t → IsStateAt targets (at + 1) t
-  unfolding put_client lists_closed
+  unfolding put_client next_list
   keep_client r t h e =
-      let lists = lists_of r.whole r.current in
-      let after = λ (x : List (List Command) × ℕ). record r { decls = record r.decls { own = [] }; whole = x.0; current = Some (record { number = x.1; list = []; tx = None }) } in
-      let x = bind_ok (lists_closed r.whole r.current) (λ (x : List (List Command) × ℕ). Ok (after x)) t e in
-      let g = unless_ok (is_some (tx_of r.current)) BadBlock (room 64 (length lists) >>= λ fits. Ok (lists, length lists)) x.0 x.1 in
-      let b = room_ok 64 (length lists) (lists, length lists) x.0 g.1 in
+      let lists = lists_of r.lists.whole r.lists.present.client in
+      let after : Lists → Reading = λ l. record { decls = record r.decls { own = [] }; lists = l } in
+      let x = bind_ok (next_list r.lists) (λ (l : Lists). Ok (after l)) t e in
+      let g = unless_ok (is_some (tx_of r.lists.present.client)) BadBlock (room 64 (length lists) >>= λ fits. Ok (next_client r.lists)) x.0 x.1 in
+      let b = room_ok 64 (length lists) (next_client r.lists) x.0 g.1 in
       let k = h.heads in
       subst (λ t. IsStateAt targets (at + 1) t) (ap after b.1 ∙ ok_is (after x.0) t x.2) (record {
         read_for = h.read_for;
@@ -91,27 +98,30 @@ module _ (targets at : ℕ) where
         own_are = refl;
         names = h.names;
         body = record {
-          earlier = whole_lists r.decls.conts r.decls.objs (map old_snap r.decls.olds) r.whole r.current h.body;
+          earlier = whole_lists r.decls.conts r.decls.objs (map old_snap r.decls.olds) r.lists.whole r.lists.present.client h.body;
           present = tt;
           begun = tt;
           room = b.0;
+          number = refl;
         };
-        counts = omega (arith, h.counts, free_counts (tx_of r.current) g.0, count_numbered-push lists []);
+        counts = omega (arith, h.counts, free_counts (tx_of r.lists.present.client) g.0, count_numbered-push lists []);
         few = h.few;
         skipped = omega arith;
+        kept = all_kept-push r.lists.tells lists [] h.kept tt;
       })
 
   -- ---- a list goes on
 
   -- a client's list has some commands more, or its transaction goes on
-  goes_on : (decls : Decls) (made own : List SnapName) (whole : List (List Command)) (c d : Client) (n m : ℕ) (cmds : List Command) → IsState targets at decls whole (Some c) n
-      → d.list ≡ c.list ++ cmds → made ≡ decls.made ++ snaps_of cmds → own ≡ decls.own ++ snaps_of cmds → IsDistinct same_key (map snap_name (map old_snap decls.olds ++ made))
+  goes_on : (decls : Decls) (made own : List SnapName) (whole : List (List Command)) (c d : Client) (n m : ℕ) (tells : List Told) (cmds : List Command) → IsState targets at decls whole (Some c) n tells
+      → d.list ≡ c.list ++ cmds → d.number ≡ c.number → AllByRecursion (IsKept tells (length whole)) cmds → made ≡ decls.made ++ snaps_of cmds → own ≡ decls.own ++ snaps_of cmds → IsDistinct same_key (map snap_name (map old_snap decls.olds ++ made))
       → AreCommands decls.conts decls.objs (map old_snap decls.olds ++ snaps_of c.list) cmds → IsOpen decls.objs (map old_snap decls.olds ++ snaps_of d.list) d.tx
       → m + count_open c.tx ≡ n + count_by is_numbered cmds + count_open d.tx → m ≤ 100000 → skip_open d.tx ≤ 10000 * (at + 1)
-      → IsState targets (at + 1) (record decls { made = made; own = own }) whole (Some d) m
-  goes_on decls made own whole c d n m cmds h listed made_is own_is distinct commands begun count few skipped =
+      → IsState targets (at + 1) (record decls { made = made; own = own }) whole (Some d) m tells
+  goes_on decls made own whole c d n m tells cmds h listed number told made_is own_is distinct commands begun count few skipped =
       let k = h.heads in
       let b = h.body in
+      let kept = all_kept-parts tells whole c.list h.kept in
       let counted : count_by is_numbered d.list ≡ count_by is_numbered c.list + count_by is_numbered cmds = ap (count_by is_numbered) listed ∙ sum_by-append (λ x. cond (is_numbered x) 1 0) c.list cmds in
       record {
         read_for = h.read_for;
@@ -138,27 +148,29 @@ module _ (targets at : ℕ) where
           present = subst (λ l. AreCommands decls.conts decls.objs (map old_snap decls.olds) l) (sym listed) (AreCommands-append decls.conts decls.objs (map old_snap decls.olds) c.list cmds b.present commands);
           begun = begun;
           room = b.room;
+          number = number ∙ b.number;
         };
         counts = omega (arith, h.counts, count, counted, count_numbered-push whole c.list, count_numbered-push whole d.list);
         few = few;
         skipped = skipped;
+        kept = all_kept-push tells whole d.list kept.0 (subst (λ l. AllByRecursion (IsKept tells (length whole)) l) (sym listed) (all_append (IsKept tells (length whole)) c.list cmds kept.1 told));
       }
 
   -- the same where no snapshot is made
-  goes_on_so : (decls : Decls) (whole : List (List Command)) (c d : Client) (n m : ℕ) (cmds : List Command) → IsState targets at decls whole (Some c) n
-      → d.list ≡ c.list ++ cmds → snaps_of cmds ≡ []
+  goes_on_so : (decls : Decls) (whole : List (List Command)) (c d : Client) (n m : ℕ) (tells : List Told) (cmds : List Command) → IsState targets at decls whole (Some c) n tells
+      → d.list ≡ c.list ++ cmds → d.number ≡ c.number → AllByRecursion (IsKept tells (length whole)) cmds → snaps_of cmds ≡ []
       → AreCommands decls.conts decls.objs (map old_snap decls.olds ++ snaps_of c.list) cmds → IsOpen decls.objs (map old_snap decls.olds ++ snaps_of d.list) d.tx
       → m + count_open c.tx ≡ n + count_by is_numbered cmds + count_open d.tx → m ≤ 100000 → skip_open d.tx ≤ 10000 * (at + 1)
-      → IsState targets (at + 1) decls whole (Some d) m
-  goes_on_so decls whole c d n m cmds h listed none commands begun count few skipped =
-      goes_on decls decls.made decls.own whole c d n m cmds h listed (sym (append-nil decls.made) ∙ ap (λ s. decls.made ++ s) (sym none)) (sym (append-nil decls.own) ∙ ap (λ s. decls.own ++ s) (sym none)) h.names commands begun count few skipped
+      → IsState targets (at + 1) decls whole (Some d) m tells
+  goes_on_so decls whole c d n m tells cmds h listed number told none commands begun count few skipped =
+      goes_on decls decls.made decls.own whole c d n m tells cmds h listed number told (sym (append-nil decls.made) ∙ ap (λ s. decls.made ++ s) (sym none)) (sym (append-nil decls.own) ∙ ap (λ s. decls.own ++ s) (sym none)) h.names commands begun count few skipped
 
   -- a command more, outside of transactions
-  one_more : (decls : Decls) (whole : List (List Command)) (c : Client) (n m : ℕ) (x : Command) → IsState targets at decls whole (Some c) n → c.tx ≡ None → snap_of x ≡ []
+  one_more : (decls : Decls) (whole : List (List Command)) (c : Client) (n m : ℕ) (tells : List Told) (x : Command) → IsState targets at decls whole (Some c) n tells → c.tx ≡ None → IsKept tells (length whole) x → snap_of x ≡ []
       → IsCommand decls.conts decls.objs (map old_snap decls.olds ++ snaps_of c.list) x → m ≡ n + count_by is_numbered (x ∷ []) → m ≤ 100000
-      → IsState targets (at + 1) decls whole (Some (record c { list = c.list ++ x ∷ [] })) m
-  one_more decls whole c n m x h free none form count few =
-      goes_on_so decls whole c (record c { list = c.list ++ x ∷ [] }) n m (x ∷ []) h refl (ap (λ s. s ++ []) none) (form, tt)
+      → IsState targets (at + 1) decls whole (Some (record c { list = c.list ++ x ∷ [] })) m tells
+  one_more decls whole c n m tells x h free told none form count few =
+      goes_on_so decls whole c (record c { list = c.list ++ x ∷ [] }) n m tells (x ∷ []) h refl refl (told, tt) (ap (λ s. s ++ []) none) (form, tt)
       (subst (λ t. IsOpen decls.objs (map old_snap decls.olds ++ snaps_of (c.list ++ x ∷ [])) t) (sym free) tt)
       (ap (λ k. k + count_open c.tx) count) few (subst (λ t. skip_open t ≤ 10000 * (at + 1)) (sym free) (omega arith))
 
@@ -173,45 +185,66 @@ module _ (targets at : ℕ) where
   unfolding client_command
   command_ok c x d e = free_in c x c.tx d e
 
-  state_of : (r : Reading) (c : Client) → r.current ≡ Some c → IsStateAt targets at r → IsState targets at r.decls r.whole (Some c) r.commands
-  state_of r c e h = subst (λ o. IsState targets at r.decls r.whole o r.commands) e h
+  state_of : (decls : Decls) (whole : List (List Command)) (p : Present) (tells : List Told) (c : Client) → p.client ≡ Some c → IsState targets at decls whole p.client p.commands tells → IsState targets at decls whole (Some c) p.commands tells
+  state_of decls whole p tells c e h = subst (λ o. IsState targets at decls whole o p.commands tells) e h
+
+  -- what a step makes of the present client
+  abbrev StepKeeps : (r : Reading) (s : Step) → Type 0
+  StepKeeps r s = (q : Present) → with_step r.lists.present s ≡ Ok q → IsState targets (at + 1) r.decls r.lists.whole q.client q.commands r.lists.tells
+
+  one_step_ok : (l m : Lists) (s : Step) → one_step l s ≡ Ok m → (q : Present) × (with_step l.present s ≡ Ok q) × (record l { present = q } ≡ m)
+  unfolding one_step
+  one_step_ok l m s e =
+      let y = bind_ok (with_step l.present s) (λ q. Ok (record l { present = q })) m e in (y.0, y.1, ok_is (record l { present = y.0 }) m y.2)
+
+  keep_step : (r t : Reading) (s : Step) → StepKeeps r s → put_step r s ≡ Ok t → IsStateAt targets (at + 1) t
+  unfolding put_step
+  keep_step r t s keeps e =
+      let x = bind_ok (one_step r.lists s) (λ lists. Ok (record r { lists = lists })) t e in
+      let y = one_step_ok r.lists x.0 s x.1 in
+      subst (λ t. IsStateAt targets (at + 1) t) (ap (λ l. record r { lists = l }) y.2 ∙ ok_is (record r { lists = x.0 }) t x.2) (keeps y.0 y.1)
 
   -- what a numbered command was added to, and what came of it
-  numbered_ok : (r t : Reading) (x : Command) → put_numbered r x ≡ Ok t
-      → (c : Client) × (r.current ≡ Some c) × (c.tx ≡ None) × (r.commands < 100000) × (record r { current = Some (record c { list = c.list ++ x ∷ [] }); commands = r.commands + 1 } ≡ t)
-  unfolding put_numbered command_added
-  numbered_ok r t x e =
-      let y = bind_ok (command_added r.current r.commands x) (λ (y : Client × ℕ). Ok (record r { current = Some y.0; commands = y.1 })) t e in
-      let a = bind_ok (present r.current) (λ c. client_command c x >>= λ d. counted true r.commands >>= λ n. Ok (d, n)) y.0 y.1 in
-      let b = bind_ok (client_command a.0 x) (λ d. counted true r.commands >>= λ n. Ok (d, n)) y.0 a.2 in
-      let d = bind_ok (counted true r.commands) (λ n. Ok (b.0, n)) y.0 b.2 in
+  numbered_ok : (p q : Present) (x : Command) → step_command p x ≡ Ok q
+      → (c : Client) × (p.client ≡ Some c) × (c.tx ≡ None) × (p.commands < 100000) × (record { client = Some (record c { list = c.list ++ x ∷ [] }); commands = p.commands + 1 } ≡ q)
+  unfolding step_command
+  numbered_ok p q x e =
+      let after : Client → ℕ → Present = λ d n. record { client = Some d; commands = n } in
+      let a = bind_ok (begun p.client) (λ c. client_command c x >>= λ d. counted true p.commands >>= λ n. Ok (after d n)) q e in
+      let b = bind_ok (client_command a.0 x) (λ d. counted true p.commands >>= λ n. Ok (after d n)) q a.2 in
+      let d = bind_ok (counted true p.commands) (λ n. Ok (after b.0 n)) q b.2 in
       let f = command_ok a.0 x b.0 b.1 in
-      let n = counted_ok r.commands d.0 d.1 in
-      let pair : (b.0, d.0) ≡ y.0 = ok_is (b.0, d.0) y.0 d.2 in
-      let same : record r { current = Some b.0; commands = d.0 } ≡ t = ap (λ (y : Client × ℕ). record r { current = Some y.0; commands = y.1 }) pair ∙ ok_is (record r { current = Some y.0.0; commands = y.0.1 }) t y.2 in (
+      let n = counted_ok p.commands d.0 d.1 in (
         a.0,
-        present_ok r.current a.0 a.1,
+        begun_ok p.client a.0 a.1,
         f.0,
         n.0,
-        ap (λ k. record r { current = Some (record a.0 { list = a.0.list ++ x ∷ [] }); commands = k }) (sym n.1) ∙ ap (λ u. record r { current = Some u; commands = d.0 }) (sym f.1) ∙ same,
+        ap (after (record a.0 { list = a.0.list ++ x ∷ [] })) (sym n.1) ∙ ap (λ u. after u d.0) (sym f.1) ∙ ok_is (after b.0 d.0) q d.2,
       )
 
   -- a numbered command that makes no snapshot
   keep_numbered : (r t : Reading) (x : Command) → is_numbered x ≡ true → snap_of x ≡ [] → IsStateAt targets at r
-      → ((c : Client) → r.current ≡ Some c → IsCommand r.decls.conts r.decls.objs (map old_snap r.decls.olds ++ snaps_of c.list) x) → put_numbered r x ≡ Ok t → IsStateAt targets (at + 1) t
-  keep_numbered r t x one none h form e =
-      let a = numbered_ok r t x e in
-      subst (λ t. IsStateAt targets (at + 1) t) a.4
-      (one_more r.decls r.whole a.0 r.commands (r.commands + 1) x (state_of r a.0 a.1 h) a.2 none (form a.0 a.1) (count_one x one) (omega (arith, a.3)))
+      → ((c : Client) → r.lists.present.client ≡ Some c → IsCommand r.decls.conts r.decls.objs (map old_snap r.decls.olds ++ snaps_of c.list) x) → put_step r (step.Number x) ≡ Ok t → IsStateAt targets (at + 1) t
+  keep_numbered r t x one none h form e = keep_step r t (step.Number x) (λ q made. counted_in q (numbered_ok r.lists.present q x made)) e
     where
-      count_one : (x : Command) → is_numbered x ≡ true → r.commands + 1 ≡ r.commands + count_by is_numbered (x ∷ [])
+      n : ℕ
+      n = r.lists.present.commands
+
+      count_one : (x : Command) → is_numbered x ≡ true → n + 1 ≡ n + count_by is_numbered (x ∷ [])
       count_one (command.Run ops skips snapshot) e = refl
       count_one (command.Snap name cont) e = refl
       count_one (command.Aggregate cont) e = refl
       count_one (command.Tell client) e = absurd cc
       count_one (command.Skip n) e = absurd cc
 
-  pub keep_aggregate : (r t : Reading) (cont : ContId) → IsStateAt targets at r → IsContOf r.decls.conts cont → put_numbered r (command.Aggregate cont) ≡ Ok t → IsStateAt targets (at + 1) t
+      counted_in : (q : Present) → (c : Client) × (r.lists.present.client ≡ Some c) × (c.tx ≡ None) × (n < 100000) × (record { client = Some (record c { list = c.list ++ x ∷ [] }); commands = n + 1 } ≡ q)
+          → IsState targets (at + 1) r.decls r.lists.whole q.client q.commands r.lists.tells
+      counted_in q (c, is, free, few, same) =
+          let s = state_of r.decls r.lists.whole r.lists.present r.lists.tells c is h in
+          subst (λ (q : Present). IsState targets (at + 1) r.decls r.lists.whole q.client q.commands r.lists.tells) same
+          (one_more r.decls r.lists.whole c n (n + 1) r.lists.tells x s free (numbered_kept r.lists.tells (length r.lists.whole) x one) none (form c is) (count_one x one) (omega (arith, few)))
+
+  pub keep_aggregate : (r t : Reading) (cont : ContId) → IsStateAt targets at r → IsContOf r.decls.conts cont → put_step r (step.Number (command.Aggregate cont)) ≡ Ok t → IsStateAt targets (at + 1) t
   keep_aggregate r t cont h f e = keep_numbered r t (command.Aggregate cont) refl refl h (λ c is. f) e
 
   -- the snapshots that a client knows are those by which it may read
@@ -230,15 +263,18 @@ module _ (targets at : ℕ) where
   unfolding put_do_at
   keep_do_at r t at' op h f e =
       keep_numbered r t (lone (Some at'.name) op) refl refl h
-      (λ c is. (lone_form r.decls.objs op f.form, (at'.cont, known_snap r.decls c.list at'.name at'.cont ((state_of r c is h).own_are) f.known, All-from_recursion (IsPlainReadIn at'.cont) (op ∷ []) (f.plain, tt)))) e
+      (λ c is. (lone_form r.decls.objs op f.form, (at'.cont, known_snap r.decls c.list at'.name at'.cont ((state_of r.decls r.lists.whole r.lists.present r.lists.tells c is h).own_are) f.known, All-from_recursion (IsPlainReadIn at'.cont) (op ∷ []) (f.plain, tt)))) e
 
   pub keep_snap : (r t : Reading) (name : List ℕ) (cont : ContId) → IsStateAt targets at r → SnapFits r.decls name cont → put_snap r name cont ≡ Ok t → IsStateAt targets (at + 1) t
   unfolding put_snap with_own is_snap
   keep_snap r t name cont h f e =
       let made = r.decls.made ++ (name, cont) ∷ [] in
       let own = r.decls.own ++ (name, cont) ∷ [] in
-      let a = numbered_ok (record r { decls = record r.decls { made = made; own = own } }) t (command.Snap name cont) e in
-      let s = state_of r a.0 a.1 h in
+      let after : Lists → Reading = λ l. record { decls = record r.decls { made = made; own = own }; lists = l } in
+      let x = bind_ok (one_step r.lists (step.Number (command.Snap name cont))) (λ l. Ok (after l)) t e in
+      let y = one_step_ok r.lists x.0 (step.Number (command.Snap name cont)) x.1 in
+      let a = numbered_ok r.lists.present y.0 (command.Snap name cont) y.1 in
+      let s = state_of r.decls r.lists.whole r.lists.present r.lists.tells a.0 a.1 h in
       let p = or_parts (is_some (old_named r.decls.olds name) || is_some (named r.decls.made name)) (is_some (named r.decls.own name)) f.new_name in
       let q = or_parts (is_some (old_named r.decls.olds name)) (is_some (named r.decls.made name)) p.0 in
       let olds = map old_snap r.decls.olds in
@@ -248,24 +284,40 @@ module _ (targets at : ℕ) where
       let pushed_names : IsDistinct same_key (map snap_name ((olds ++ r.decls.made) ++ (name, cont) ∷ [])) =
       pushed snap_name (olds ++ r.decls.made) (name, cont) (λ ns. IsDistinct same_key ns) (IsDistinct-push same_key (map snap_name (olds ++ r.decls.made)) name h.names new) in
       let distinct : IsDistinct same_key (map snap_name (olds ++ made)) = subst (λ ks. IsDistinct same_key (map snap_name ks)) (append_assoc olds r.decls.made ((name, cont) ∷ [])) pushed_names in
-      subst (λ t. IsStateAt targets (at + 1) t) a.4
-      (goes_on r.decls made own r.whole a.0 (record a.0 { list = a.0.list ++ command.Snap name cont ∷ [] }) r.commands (r.commands + 1) (command.Snap name cont ∷ []) s refl refl refl distinct (f.declared, tt)
+      subst (λ t. IsStateAt targets (at + 1) t) (ap (λ q. after (record r.lists { present = q })) a.4 ∙ ap after y.2 ∙ ok_is (after x.0) t x.2)
+      (goes_on r.decls made own r.lists.whole a.0 (record a.0 { list = a.0.list ++ command.Snap name cont ∷ [] }) r.lists.present.commands (r.lists.present.commands + 1) r.lists.tells (command.Snap name cont ∷ []) s refl refl (tt, tt) refl refl distinct (f.declared, tt)
       (subst (λ t. IsOpen r.decls.objs (olds ++ snaps_of (a.0.list ++ command.Snap name cont ∷ [])) t) (sym a.2) tt)
       (omega arith) (omega (arith, a.3)) (subst (λ t. skip_open t ≤ 10000 * (at + 1)) (sym a.2) (omega arith)))
 
+  -- one line from `tell` more changes nothing of the rest
+  told_state : (decls : Decls) (whole : List (List Command)) (c : Client) (n : ℕ) (tells : List Told) (t : Told) → IsState targets at decls whole (Some c) n tells → IsState targets at decls whole (Some c) n (tells ++ t ∷ [])
+  told_state decls whole c n tells t h = record {
+    read_for = h.read_for;
+    heads = h.heads;
+    made_are = h.made_are;
+    own_are = h.own_are;
+    names = h.names;
+    body = h.body;
+    counts = h.counts;
+    few = h.few;
+    skipped = h.skipped;
+    kept = more_kept tells t 0 (whole ++ c.list ∷ []) h.kept;
+  }
+
   pub keep_tell : (line : ℕ) (r t : Reading) (to : ℕ) → IsStateAt targets at r → put_tell line r to ≡ Ok t → IsStateAt targets (at + 1) t
-  unfolding put_tell tell_added
+  unfolding put_tell with_tell
   keep_tell line r t to h e =
-      let after = λ (x : Client × List Told). record r { current = Some x.0; tells = x.1 } in
-      let put : Client → Client × List Told = λ d. (d, r.tells ++ record { line = line; client = d.number; to = to } ∷ []) in
-      let x = bind_ok (tell_added r.current r.tells line to) (λ (x : Client × List Told). Ok (after x)) t e in
-      let a = bind_ok (present r.current) (λ c. client_command c (command.Tell to) >>= λ d. Ok (put d)) x.0 x.1 in
-      let b = bind_ok (client_command a.0 (command.Tell to)) (λ d. Ok (put d)) x.0 a.2 in
-      let f = command_ok a.0 (command.Tell to) b.0 b.1 in
-      let s = state_of r a.0 (present_ok r.current a.0 a.1) h in
-      subst (λ t. IsStateAt targets (at + 1) t) (ap after (ok_is (put b.0) x.0 b.2) ∙ ok_is (after x.0) t x.2)
-      (subst (λ d. IsState targets (at + 1) r.decls r.whole (Some d) r.commands) (sym f.1)
-      (one_more r.decls r.whole a.0 r.commands r.commands (command.Tell to) s f.0 refl tt (omega arith) h.few))
+      let tells = r.lists.tells in
+      let n = r.lists.present.commands in
+      let after : Lists → Reading = λ l. record r { lists = l } in
+      let x = bind_ok (with_tell line r.lists to) (λ l. Ok (after l)) t e in
+      let a = bind_ok (begun r.lists.present.client) (λ c. client_command c (command.Tell to) >>= λ d. Ok (told_by r.lists line to d)) x.0 x.1 in
+      let y = bind_ok (client_command a.0 (command.Tell to)) (λ d. Ok (told_by r.lists line to d)) x.0 a.2 in
+      let f = command_ok a.0 (command.Tell to) y.0 y.1 in
+      let s = state_of r.decls r.lists.whole r.lists.present tells a.0 (begun_ok r.lists.present.client a.0 a.1) h in
+      let told : Told = record { line = line; client = a.0.number; to = to } in
+      subst (λ t. IsStateAt targets (at + 1) t) (ap (λ c. after (told_by r.lists line to c)) (sym f.1) ∙ ap after (ok_is (told_by r.lists line to y.0) x.0 y.2) ∙ ok_is (after x.0) t x.2)
+      (one_more r.decls r.lists.whole a.0 n n (tells ++ told ∷ []) (command.Tell to) (told_state r.decls r.lists.whole a.0 n tells told s) f.0 (own_kept tells told (length r.lists.whole) s.body.number) refl tt (omega arith) h.few)
 
   -- a transaction begins; it reads a snapshot, if one is given
   at_known : (decls : Decls) (list : List Command) (o : Option At) → decls.own ≡ snaps_of list → AtGiven decls o → TxReads (map old_snap decls.olds ++ snaps_of list) [] o
@@ -280,75 +332,99 @@ module _ (targets at : ℕ) where
   unfolding client_tx
   tx_ok line c at' d e = tx_in_ok line c at' c.tx d e
 
-  pub keep_tx : (line : ℕ) (r t : Reading) (at' : Option At) → IsStateAt targets at r → AtGiven r.decls at' → put_tx line r at' ≡ Ok t → IsStateAt targets (at + 1) t
-  unfolding put_tx tx_added
-  keep_tx line r t at' h f e =
-      let y = bind_ok (tx_added line r.current r.commands at') (λ (y : Client × ℕ). Ok (record r { current = Some y.0; commands = y.1 })) t e in
-      let a = bind_ok (present r.current) (λ c. client_tx line c at' >>= λ d. counted true r.commands >>= λ n. Ok (d, n)) y.0 y.1 in
-      let b = bind_ok (client_tx line a.0 at') (λ d. counted true r.commands >>= λ n. Ok (d, n)) y.0 a.2 in
-      let d = bind_ok (counted true r.commands) (λ n. Ok (b.0, n)) y.0 b.2 in
-      let pair : (b.0, d.0) ≡ y.0 = ok_is (b.0, d.0) y.0 d.2 in
-      let made : record r { current = Some b.0; commands = d.0 } ≡ t = ap (λ (y : Client × ℕ). record r { current = Some y.0; commands = y.1 }) pair ∙ ok_is (record r { current = Some y.0.0; commands = y.0.1 }) t y.2 in
-      let g = tx_ok line a.0 at' b.0 b.1 in
-      let n = counted_ok r.commands d.0 d.1 in
-      let s = state_of r a.0 (present_ok r.current a.0 a.1) h in
-      let free : count_open a.0.tx ≡ 0 = ap count_open g.0 in
-      let u : Client = record a.0 { tx = Some (tx_begun line at') } in
-      let same : record r { current = Some u; commands = r.commands + 1 } ≡ t =
-      ap (λ k. record r { current = Some u; commands = k }) (sym n.1) ∙ ap (λ u. record r { current = Some u; commands = d.0 }) (sym g.1) ∙ made in
-      subst (λ t. IsStateAt targets (at + 1) t) same
-      (goes_on_so r.decls r.whole a.0 u r.commands (r.commands + 1) [] s (sym (append-nil a.0.list)) refl tt
-      (record { few = omega arith; in_form = tt; skips_before = refl; reads = at_known r.decls a.0.list at' s.own_are f }) (omega (arith, free)) (omega (arith, n.0)) (omega arith))
+  tx_step : (line : ℕ) (p q : Present) (at' : Option At) → step_tx p line at' ≡ Ok q
+      → (c : Client) × (p.client ≡ Some c) × (c.tx ≡ None) × (p.commands < 100000) × (record { client = Some (record c { tx = Some (tx_begun line at') }); commands = p.commands + 1 } ≡ q)
+  unfolding step_tx
+  tx_step line p q at' e =
+      let after : Client → ℕ → Present = λ d n. record { client = Some d; commands = n } in
+      let a = bind_ok (begun p.client) (λ c. client_tx line c at' >>= λ d. counted true p.commands >>= λ n. Ok (after d n)) q e in
+      let b = bind_ok (client_tx line a.0 at') (λ d. counted true p.commands >>= λ n. Ok (after d n)) q a.2 in
+      let d = bind_ok (counted true p.commands) (λ n. Ok (after b.0 n)) q b.2 in
+      let f = tx_ok line a.0 at' b.0 b.1 in
+      let n = counted_ok p.commands d.0 d.1 in (
+        a.0,
+        begun_ok p.client a.0 a.1,
+        f.0,
+        n.0,
+        ap (after (record a.0 { tx = Some (tx_begun line at') })) (sym n.1) ∙ ap (λ u. after u d.0) (sym f.1) ∙ ok_is (after b.0 d.0) q d.2,
+      )
+
+  pub keep_tx : (line : ℕ) (r t : Reading) (at' : Option At) → IsStateAt targets at r → AtGiven r.decls at' → put_step r (step.Begin line at') ≡ Ok t → IsStateAt targets (at + 1) t
+  keep_tx line r t at' h f e = keep_step r t (step.Begin line at') (λ q made. begun_in q (tx_step line r.lists.present q at' made)) e
+    where
+      n : ℕ
+      n = r.lists.present.commands
+
+      begun_in : (q : Present) → (c : Client) × (r.lists.present.client ≡ Some c) × (c.tx ≡ None) × (n < 100000) × (record { client = Some (record c { tx = Some (tx_begun line at') }); commands = n + 1 } ≡ q)
+          → IsState targets (at + 1) r.decls r.lists.whole q.client q.commands r.lists.tells
+      begun_in q (c, is, none, few, same) =
+          let s = state_of r.decls r.lists.whole r.lists.present r.lists.tells c is h in
+          let free : count_open c.tx ≡ 0 = ap count_open none in
+          subst (λ (q : Present). IsState targets (at + 1) r.decls r.lists.whole q.client q.commands r.lists.tells) same
+          (goes_on_so r.decls r.lists.whole c (record c { tx = Some (tx_begun line at') }) n (n + 1) r.lists.tells [] s (sym (append-nil c.list)) refl tt refl tt
+          (record { few = omega arith; in_form = tt; skips_before = refl; reads = at_known r.decls c.list at' s.own_are f }) (omega (arith, free)) (omega (arith, few)) (omega arith))
 
   -- the transaction ends
-  end_in_ok : (c : Client) (o : Option Tx) (d : Client) → end_in c o ≡ Ok d → (t : Tx) × (o ≡ Some t) × (0 < length t.ops) × (d ≡ record c { list = c.list ++ command_of t ∷ []; tx = None })
-  end_in_ok c None d e = absurd cc
-  end_in_ok c (Some t) d e =
-      let g = unless_ok (eqb (length t.ops) 0) BadBlock (Ok (record c { list = c.list ++ command_of t ∷ []; tx = None })) d e in
-      (t, refl, some (length t.ops) g.0, sym (ok_is (record c { list = c.list ++ command_of t ∷ []; tx = None }) d g.1))
+  ended_ok : (o : Option Tx) (t : Tx) → ended_tx o ≡ Ok t → (o ≡ Some t) × (0 < length t.ops)
+  ended_ok None t e = absurd cc
+  ended_ok (Some u) t e =
+      let g = unless_ok (eqb (length u.ops) 0) BadBlock (Ok u) t e in
+      let same : u ≡ t = ok_is u t g.1 in
+      (ap (λ x. Some x) same, subst (λ (x : Tx). 0 < length x.ops) same (some (length u.ops) g.0))
     where
       some : (n : ℕ) → eqb n 0 ≡ false → 0 < n
       some n h = grind (arith, nat_tests)
 
-  end_ok : (c : Client) (d : Client) → client_end c ≡ Ok d → (t : Tx) × (c.tx ≡ Some t) × (0 < length t.ops) × (d ≡ record c { list = c.list ++ command_of t ∷ []; tx = None })
+  end_ok : (c : Client) (d : Client) → client_end c ≡ Ok d → (t : Tx) × (c.tx ≡ Some t) × (0 < length t.ops) × (record c { list = c.list ++ command_of t ∷ []; tx = None } ≡ d)
   unfolding client_end
-  end_ok c d e = end_in_ok c c.tx d e
+  end_ok c d e =
+      let a = bind_ok (ended_tx c.tx) (λ t. Ok (record c { list = c.list ++ command_of t ∷ []; tx = None })) d e in
+      let g = ended_ok c.tx a.0 a.1 in
+      (a.0, g.0, g.1, ok_is (record c { list = c.list ++ command_of a.0 ∷ []; tx = None }) d a.2)
 
   -- what a whole transaction reads
   reads_of : (known : List SnapName) (ops : List Op) (o : Option At) → TxReads known ops o → ReadsAt known ops (name_of o)
   reads_of known ops None h = tt
   reads_of known ops (Some at') h = (at'.cont, h.0, All-from_recursion (IsPlainReadIn at'.cont) ops h.1)
 
-  pub keep_end : (r t : Reading) → IsStateAt targets at r → put_end r ≡ Ok t → IsStateAt targets (at + 1) t
-  unfolding put_end
-  keep_end r t h e =
-      let a = bind_ok (present r.current) (λ c. client_end c >>= λ d. Ok (record r { current = Some d })) t e in
-      let b = bind_ok (client_end a.0) (λ d. Ok (record r { current = Some d })) t a.2 in
+  end_step : (decls : Decls) (whole : List (List Command)) (p q : Present) (tells : List Told) → IsState targets at decls whole p.client p.commands tells → step_end p ≡ Ok q
+      → IsState targets (at + 1) decls whole q.client q.commands tells
+  unfolding step_end
+  end_step decls whole p q tells h e =
+      let n = p.commands in
+      let after : Client → Present = λ d. record { client = Some d; commands = n } in
+      let a = bind_ok (begun p.client) (λ c. client_end c >>= λ d. Ok (after d)) q e in
+      let b = bind_ok (client_end a.0) (λ d. Ok (after d)) q a.2 in
       let g = end_ok a.0 b.0 b.1 in
-      let s = state_of r a.0 (present_ok r.current a.0 a.1) h in
+      let s = state_of decls whole p tells a.0 (begun_ok p.client a.0 a.1) h in
       let x = g.0 in
-      let known = map old_snap r.decls.olds ++ snaps_of a.0.list in
-      let open_tx : IsTx r.decls.objs known x = subst (λ o. IsOpen r.decls.objs known o) g.1 s.body.begun in
+      let known = map old_snap decls.olds ++ snaps_of a.0.list in
+      let open_tx : IsTx decls.objs known x = subst (λ o. IsOpen decls.objs known o) g.1 s.body.begun in
       let u : Client = record a.0 { list = a.0.list ++ command_of x ∷ []; tx = None } in
-      let same : record r { current = Some u } ≡ t = ap (λ u. record r { current = Some u }) (sym g.3) ∙ ok_is (record r { current = Some b.0 }) t b.2 in
       let begun : count_open a.0.tx ≡ 1 = ap count_open g.1 in
-      let whole_tx : IsTransaction r.decls.objs x.ops (x.skips ++ x.skip ∷ []) = record {
+      let whole_tx : IsTransaction decls.objs x.ops (x.skips ++ x.skip ∷ []) = record {
         some = g.2;
         few = open_tx.few;
-        in_form = All-from_recursion (IsOpInForm r.decls.objs) x.ops open_tx.in_form;
+        in_form = All-from_recursion (IsOpInForm decls.objs) x.ops open_tx.in_form;
         skips_between = length-append x.skips (x.skip ∷ []) ∙ ap (λ n. n + 1) open_tx.skips_before;
       } in
-      subst (λ t. IsStateAt targets (at + 1) t) same
-      (goes_on_so r.decls r.whole a.0 u r.commands r.commands (command_of x ∷ []) s refl refl ((whole_tx, reads_of known x.ops x.at open_tx.reads), tt) tt (omega (arith, begun)) h.few (omega arith))
+      subst (λ (q : Present). IsState targets (at + 1) decls whole q.client q.commands tells) (ap after g.3 ∙ ok_is (after b.0) q b.2)
+      (goes_on_so decls whole a.0 u n n tells (command_of x ∷ []) s refl refl (tt, tt) refl ((whole_tx, reads_of known x.ops x.at open_tx.reads), tt) tt (omega (arith, begun)) h.few (omega arith))
+
+  pub keep_end : (r t : Reading) → IsStateAt targets at r → put_step r step.End ≡ Ok t → IsStateAt targets (at + 1) t
+  keep_end r t h e = keep_step r t step.End (λ q made. end_step r.decls r.lists.whole r.lists.present q r.lists.tells h made) e
 
   -- an operation, of a transaction or as a command of its own
-  tx_op_ok : (t u : Tx) (op : Op) → tx_op t op ≡ Ok u → (is_barred t.at op ≡ false) × (length t.ops < 64) × (record t { ops = t.ops ++ op ∷ []; skips = t.skips ++ t.skip ∷ []; skip = 0 } ≡ u)
+  may_add_ok : (t : Tx) (op : Op) (u : Unit {0}) → may_add t op ≡ Ok u → (is_barred t.at op ≡ false) × (length t.ops < 64)
+  unfolding may_add
+  may_add_ok t op u e = let g = unless_ok (is_barred t.at op) BadBlock (room 64 (length t.ops)) u e in (g.0, room_left 64 (length t.ops) u g.1)
+
+  tx_op_ok : (t u : Tx) (op : Op) → tx_op t op ≡ Ok u → (is_barred t.at op ≡ false) × (length t.ops < 64) × (tx_pushed t op ≡ u)
   unfolding tx_op
   tx_op_ok t u op e =
-      let new : Tx = record t { ops = t.ops ++ op ∷ []; skips = t.skips ++ t.skip ∷ []; skip = 0 } in
-      let g = unless_ok (is_barred t.at op) BadBlock (room 64 (length t.ops) >>= λ fits. Ok new) u e in
-      let b = room_ok 64 (length t.ops) new u g.1 in
-      (g.0, b.0, b.1)
+      let a = bind_ok (may_add t op) (λ fits. Ok (tx_pushed t op)) u e in
+      let g = may_add_ok t op a.0 a.1 in
+      (g.0, g.1, ok_is (tx_pushed t op) u a.2)
 
   free_cond : (c : Cond) → is_free c ≡ true → c ≡ Free
   free_cond Free e = refl
@@ -366,13 +442,13 @@ module _ (targets at : ℕ) where
       let p = both (is_free op.cond) (is_fetch op.act) e in
       (h.0, all_push (IsPlainReadIn at'.cont) ops op h.1 (record { free = free_cond op.cond p.0; fetch = p.1; inside = f }))
 
-  with_op : (decls : Decls) (whole : List (List Command)) (c d : Client) (n m : ℕ) (op : Op) (o : Option Tx) → c.tx ≡ o → IsState targets at decls whole (Some c) n
-      → OpFits decls (within_tx o) op → counted (is_none o) n ≡ Ok m → op_in c o op ≡ Ok d → IsState targets (at + 1) decls whole (Some d) m
-  with_op decls whole c d n m op None free s f e k =
+  with_op : (decls : Decls) (whole : List (List Command)) (c d : Client) (n m : ℕ) (tells : List Told) (op : Op) (o : Option Tx) → c.tx ≡ o → IsState targets at decls whole (Some c) n tells
+      → OpFits decls (within_tx o) op → counted (is_none o) n ≡ Ok m → op_in c o op ≡ Ok d → IsState targets (at + 1) decls whole (Some d) m tells
+  with_op decls whole c d n m tells op None free s f e k =
       let a = counted_ok n m e in
-      subst (λ d. IsState targets (at + 1) decls whole (Some d) m) (ok_is (record c { list = c.list ++ lone None op ∷ [] }) d k)
-      (one_more decls whole c n m (lone None op) s free refl (lone_form decls.objs op f.form, tt) a.1 (omega (arith, a.0, a.1)))
-  with_op decls whole c d n m op (Some t) begun s f e k =
+      subst (λ d. IsState targets (at + 1) decls whole (Some d) m tells) (ok_is (record c { list = c.list ++ lone None op ∷ [] }) d k)
+      (one_more decls whole c n m tells (lone None op) s free tt refl (lone_form decls.objs op f.form, tt) a.1 (omega (arith, a.0, a.1)))
+  with_op decls whole c d n m tells op (Some t) begun s f e k =
       let a = bind_ok (tx_op t op) (λ u. Ok (record c { tx = Some u })) d k in
       let b = tx_op_ok t a.0 op a.1 in
       let known = map old_snap decls.olds ++ snaps_of c.list in
@@ -381,8 +457,8 @@ module _ (targets at : ℕ) where
       let same : record c { tx = Some u } ≡ d = ap (λ u. record c { tx = Some u }) b.2 ∙ ok_is (record c { tx = Some a.0 }) d a.2 in
       let n_is : n ≡ m = ok_is n m e in
       let one : count_open c.tx ≡ 1 = ap count_open begun in
-      subst (λ d. IsState targets (at + 1) decls whole (Some d) m) same
-      (goes_on_so decls whole c (record c { tx = Some u }) n m [] s (sym (append-nil c.list)) refl tt
+      subst (λ d. IsState targets (at + 1) decls whole (Some d) m tells) same
+      (goes_on_so decls whole c (record c { tx = Some u }) n m tells [] s (sym (append-nil c.list)) refl tt refl tt
       (record {
         few = omega (arith, length-append t.ops (op ∷ []), b.1);
         in_form = all_push (IsOpInForm decls.objs) t.ops op x.in_form f.form;
@@ -390,38 +466,42 @@ module _ (targets at : ℕ) where
         reads = reads_more known t.ops t.at op b.0 f.inside x.reads;
       }) (omega (arith, one, n_is)) (omega (arith, n_is, s.few)) (omega arith))
 
-  within_is : (r : Reading) (c : Client) → r.current ≡ Some c → within_of r.current ≡ within_tx c.tx
-  within_is r c e = ap within_of e
+  op_step : (decls : Decls) (whole : List (List Command)) (p q : Present) (tells : List Told) (op : Op) → IsState targets at decls whole p.client p.commands tells → OpFits decls (within_of p.client) op
+      → step_op p op ≡ Ok q → IsState targets (at + 1) decls whole q.client q.commands tells
+  unfolding step_op client_op
+  op_step decls whole p q tells op h f e =
+      let after : Client → ℕ → Present = λ d n. record { client = Some d; commands = n } in
+      let a = bind_ok (begun p.client) (λ c. client_op c op >>= λ d. counted (is_none c.tx) p.commands >>= λ n. Ok (after d n)) q e in
+      let d = bind_ok (client_op a.0 op) (λ d. counted (is_none a.0.tx) p.commands >>= λ n. Ok (after d n)) q a.2 in
+      let b = bind_ok (counted (is_none a.0.tx) p.commands) (λ n. Ok (after d.0 n)) q d.2 in
+      let is = begun_ok p.client a.0 a.1 in
+      let fits : OpFits decls (within_tx a.0.tx) op = subst (λ w. OpFits decls w op) (ap within_of is) f in
+      subst (λ (q : Present). IsState targets (at + 1) decls whole q.client q.commands tells) (ok_is (after d.0 b.0) q b.2)
+      (with_op decls whole a.0 d.0 p.commands b.0 tells op a.0.tx refl (state_of decls whole p tells a.0 is h) fits b.1 d.1)
 
-  pub keep_op : (r t : Reading) (op : Op) → IsStateAt targets at r → OpFits r.decls (within_of r.current) op → put_op r op ≡ Ok t → IsStateAt targets (at + 1) t
-  unfolding put_op op_added client_op
-  keep_op r t op h f e =
-      let x = bind_ok (op_added r.current r.commands op) (λ (x : Client × ℕ). Ok (record r { current = Some x.0; commands = x.1 })) t e in
-      let a = bind_ok (present r.current) (λ c. counted (is_none c.tx) r.commands >>= λ n. client_op c op >>= λ d. Ok (d, n)) x.0 x.1 in
-      let b = bind_ok (counted (is_none a.0.tx) r.commands) (λ n. client_op a.0 op >>= λ d. Ok (d, n)) x.0 a.2 in
-      let d = bind_ok (client_op a.0 op) (λ d. Ok (d, b.0)) x.0 b.2 in
-      let pair : (d.0, b.0) ≡ x.0 = ok_is (d.0, b.0) x.0 d.2 in
-      let is = present_ok r.current a.0 a.1 in
-      let fits : OpFits r.decls (within_tx a.0.tx) op = subst (λ w. OpFits r.decls w op) (within_is r a.0 is) f in
-      let same : record r { current = Some d.0; commands = b.0 } ≡ t = ap (λ (y : Client × ℕ). record r { current = Some y.0; commands = y.1 }) pair ∙ ok_is (record r { current = Some x.0.0; commands = x.0.1 }) t x.2 in
-      subst (λ t. IsStateAt targets (at + 1) t) same
-      (with_op r.decls r.whole a.0 d.0 r.commands b.0 op a.0.tx refl (state_of r a.0 is h) fits b.1 d.1)
+  pub keep_op : (r t : Reading) (op : Op) → IsStateAt targets at r → OpFits r.decls (within_of r.lists.present.client) op → put_step r (step.Do op) ≡ Ok t → IsStateAt targets (at + 1) t
+  keep_op r t op h f e = keep_step r t (step.Do op) (λ q made. op_step r.decls r.lists.whole r.lists.present q r.lists.tells op h f made) e
 
   -- turns are skipped
-  skipping : (decls : Decls) (whole : List (List Command)) (c : Client) (n turns : ℕ) (o : Option Tx) → c.tx ≡ o → 0 < turns → turns ≤ 10000 → IsState targets at decls whole (Some c) n
-      → IsState targets (at + 1) decls whole (Some (skip_in c o turns)) n
-  skipping decls whole c n turns None free some few s = one_more decls whole c n n (command.Skip turns) s free refl (some, few) (omega arith) s.few
-  skipping decls whole c n turns (Some t) begun some few s =
+  skipping : (decls : Decls) (whole : List (List Command)) (c : Client) (n turns : ℕ) (tells : List Told) (o : Option Tx) → c.tx ≡ o → 0 < turns → turns ≤ 10000 → IsState targets at decls whole (Some c) n tells
+      → IsState targets (at + 1) decls whole (Some (skip_in c o turns)) n tells
+  skipping decls whole c n turns tells None free some few s = one_more decls whole c n n tells (command.Skip turns) s free tt refl (some, few) (omega arith) s.few
+  skipping decls whole c n turns tells (Some t) begun some few s =
       let known = map old_snap decls.olds ++ snaps_of c.list in
       let x : IsTx decls.objs known t = subst (λ o. IsOpen decls.objs known o) begun s.body.begun in
       let one : count_open c.tx ≡ 1 = ap count_open begun in
       let before : t.skip ≤ 10000 * at = subst (λ o. skip_open o ≤ 10000 * at) begun s.skipped in
-      goes_on_so decls whole c (record c { tx = Some (record t { skip = t.skip + turns }) }) n n [] s (sym (append-nil c.list)) refl tt
+      goes_on_so decls whole c (record c { tx = Some (record t { skip = t.skip + turns }) }) n n tells [] s (sym (append-nil c.list)) refl tt refl tt
       (record { few = x.few; in_form = x.in_form; skips_before = x.skips_before; reads = x.reads }) (omega (arith, one)) s.few (omega arith)
 
-  pub keep_skip : (r t : Reading) (turns : ℕ) → 0 < turns → turns ≤ 10000 → IsStateAt targets at r → put_skip r turns ≡ Ok t → IsStateAt targets (at + 1) t
-  unfolding put_skip client_skip
-  keep_skip r t turns some few h e =
-      let a = bind_ok (present r.current) (λ c. Ok (record r { current = Some (client_skip c turns) })) t e in
-      subst (λ t. IsStateAt targets (at + 1) t) (ok_is (record r { current = Some (client_skip a.0 turns) }) t a.2)
-      (skipping r.decls r.whole a.0 r.commands turns a.0.tx refl some few (state_of r a.0 (present_ok r.current a.0 a.1) h))
+  skip_step : (decls : Decls) (whole : List (List Command)) (p q : Present) (tells : List Told) (turns : ℕ) → 0 < turns → turns ≤ 10000 → IsState targets at decls whole p.client p.commands tells
+      → step_skip p turns ≡ Ok q → IsState targets (at + 1) decls whole q.client q.commands tells
+  unfolding step_skip client_skip
+  skip_step decls whole p q tells turns some few h e =
+      let after : Client → Present = λ d. record { client = Some d; commands = p.commands } in
+      let a = bind_ok (begun p.client) (λ c. Ok (after (client_skip c turns))) q e in
+      subst (λ (q : Present). IsState targets (at + 1) decls whole q.client q.commands tells) (ok_is (after (client_skip a.0 turns)) q a.2)
+      (skipping decls whole a.0 p.commands turns tells a.0.tx refl some few (state_of decls whole p tells a.0 (begun_ok p.client a.0 a.1) h))
+
+  pub keep_skip : (r t : Reading) (turns : ℕ) → 0 < turns → turns ≤ 10000 → IsStateAt targets at r → put_step r (step.Skip turns) ≡ Ok t → IsStateAt targets (at + 1) t
+  keep_skip r t turns some few h e = keep_step r t (step.Skip turns) (λ q made. skip_step r.decls r.lists.whole r.lists.present q r.lists.tells turns some few h made) e

@@ -5,3 +5,4 @@ pub mod KeepsLists
 pub mod Lists
 pub mod Loop
 pub mod TextLaws
+pub mod Tells

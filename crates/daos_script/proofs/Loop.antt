@@ -7,6 +7,7 @@ use Rattle.std.proofs.lemmas.List.Sums.{count_by-le-length}
 use Rattle.daos_base.specs.Scripts.{IsInForm}
 use Rattle.daos_base.specs.declared.fault.ScriptFault.{ScriptFault}
 use Rattle.daos_base.specs.declared.fault.Why.TheVariants.{TooLong}
+use Rattle.daos_base.specs.declared.script.Command.{Command}
 use Rattle.daos_base.specs.declared.script.Script.{Script}
 use Rattle.daos_text.specs.Parts.{parts_of}
 use Rattle.daos_text.specs.Results.{◌>>=◌}
@@ -15,9 +16,13 @@ use Rattle.daos_script.specs.declared.fault.ScriptNo.{ScriptNo}
 use Rattle.daos_script.specs.declared.fault.ScriptNo.TheVariants as whole
 use Rattle.daos_script.specs.declared.reading.Reading.{Reading}
 use Rattle.daos_script.specs.Located.{FailsAt}
-use Rattle.daos_script.specs.Puts.{lists_of, nothing_read, tx_of}
-use Rattle.daos_script.specs.Readings.{bad_tell, ended, long_line, open_line, script_of, script_so_far, text_lines, unless_bad, unless_open, with_line}
+use Rattle.daos_script_lists.specs.declared.lists.Lists.{Lists}
+use Rattle.daos_script_lists.specs.Lists.{all_lists}
+use Rattle.daos_script_lists.specs.Steps.{tx_of}
+use Rattle.daos_script.specs.Puts.{nothing_read}
+use Rattle.daos_script.specs.Readings.{bad_tell, ended, ended_lists, long_line, open_line, script_of, script_with, text_lines, unless_bad, unless_open, with_line}
 use Rattle.daos_script.specs.SoFar.{IsSoFar}
+use Rattle.daos_script.proofs.Binds.{bind_ok}
 use Rattle.daos_script.proofs.Keeps.{nothing_so_far, read_for, so_far_form}
 
 same_is : (m n : ℕ) → m ≡ n → eqb m n ≡ true
@@ -47,16 +52,28 @@ end_of n bytes long at r e = ap (λ o. o >>= λ r. ended r) (sym e ∙ steps-nil
 pub few_lines : (bytes : List ℕ) → length (parts_of 10 bytes) ≤ length bytes + 1
 few_lines bytes = omega (arith, length-slice_split (λ b. eqb b 10) bytes, count_by-le-length (λ b. eqb b 10) bytes)
 
-ends_well : (o b : Option ℕ) (x s : Script) → unless_open o (unless_bad b x) ≡ Ok s → x ≡ s
-ends_well None None x s e = cc
-ends_well None (Some line) x s e = absurd cc
-ends_well (Some line) b x s e = absurd cc
+ends_well : (o b : Option ℕ) (x y : List (List Command)) → unless_open o (unless_bad b x) ≡ Ok y → (b ≡ None) × (x ≡ y)
+ends_well None None x y e = (refl, cc)
+ends_well None (Some line) x y e = absurd cc
+ends_well (Some line) b x y e = absurd cc
+
+lists_end : (l : Lists) (lists : List (List Command)) → ended_lists l ≡ Ok lists → (bad_tell (length (all_lists l)) l.tells ≡ None) × (all_lists l ≡ lists)
+unfolding ended_lists
+lists_end l lists e = ends_well (open_line (tx_of l.present.client)) (bad_tell (length (all_lists l)) l.tells) (all_lists l) lists e
+
+abbrev made : Script → Result Script ScriptFault
+made s = Ok s
+
+made_is : (x y : Script) → made x ≡ made y → x ≡ y
+made_is x y e = cc
 
 -- the script that was read is in form
 pub ended_form : (targets at : ℕ) (r : Reading) (s : Script) → IsSoFar targets at r → ended r ≡ Ok s → IsInForm targets s
 unfolding ended
 ended_form targets at r s h e =
-    subst (λ s. IsInForm targets s) (ends_well (open_line (tx_of r.current)) (bad_tell (length (lists_of r.whole r.current)) r.tells) (script_so_far r) s e) (so_far_form targets at r h)
+    let a = bind_ok (ended_lists r.lists) (λ lists. Ok (script_with r.decls lists)) s e in
+    let ends = lists_end r.lists a.0 a.1 in
+    subst (λ s. IsInForm targets s) (ap (script_with r.decls) ends.1 ∙ made_is (script_with r.decls a.0) s a.2) (so_far_form targets at r h ends.0)
 
 -- ---- so far
 

@@ -1,4 +1,3 @@
-pub mod Clients
 pub mod Grammar
 pub mod Located
 pub mod News

@@ -11,11 +11,16 @@ use Rattle.daos_text.specs.Steps.{steps}
 use Rattle.daos_script_lines.specs.declared.line.Line.{Line}
 use Rattle.daos_script_lines.specs.Lines.{line_at}
 use Rattle.daos_script_words.specs.Reads.{Read}
-use Rattle.daos_script.specs.declared.client.Tx.{Tx}
+use Rattle.daos_base.specs.declared.script.Command.{Command}
+use Rattle.daos_script_words.specs.declared.decls.Decls.{Decls}
+use Rattle.daos_script_lists.specs.declared.lists.Lists.{Lists}
+use Rattle.daos_script_lists.specs.declared.lists.Told.{Told}
+use Rattle.daos_script_lists.specs.declared.tx.Tx.{Tx}
+use Rattle.daos_script_lists.specs.Lists.{all_lists}
+use Rattle.daos_script_lists.specs.Steps.{tx_of, within_of}
 use Rattle.daos_script.specs.declared.reading.Reading.{Reading}
-use Rattle.daos_script.specs.declared.reading.Told.{Told}
 use Rattle.daos_script.specs.Located.{located}
-use Rattle.daos_script.specs.Puts.{add_line, lists_of, nothing_read, tx_of, within_of}
+use Rattle.daos_script.specs.Puts.{add_line, nothing_read}
 
 -- ---- lines
 
@@ -30,7 +35,7 @@ is_passed (b ∷ bs) = b == 35
 
 -- what a line says: its bytes come first, then its words
 unfoldable pub said : Reading → List ℕ → Read Line
-said r text = if list_all is_shown text then line_at r.decls (within_of r.current) (parts_of 32 text) else Err NotAscii
+said r text = if list_all is_shown text then line_at r.decls (within_of r.lists.present.client) (parts_of 32 text) else Err NotAscii
 
 -- what the line of this number says is added, if it may stand there
 unfoldable pub read_line : ℕ → Reading → List ℕ → Read Reading
@@ -60,27 +65,29 @@ is_bad clients t = (t.to == t.client) || nat_le clients t.to
 abbrev pub bad_tell : ℕ → List Told → Option ℕ
 bad_tell clients tells = option_map (λ t. t.line) (find (is_bad clients) tells)
 
--- the script so far
-abbrev pub script_so_far : Reading → Script
-script_so_far r =
-    record { targets = r.decls.targets; conts = r.decls.conts; objs = r.decls.objs; olds = r.decls.olds; stops = r.decls.stops; clients = lists_of r.whole r.current }
-
-abbrev pub unless_bad : Option ℕ → Script → Result Script ScriptFault
-unless_bad None s = Ok s
-unless_bad (Some line) s = Err (record { line = line; why = BadName })
+abbrev pub unless_bad : Option ℕ → List (List Command) → Result (List (List Command)) ScriptFault
+unless_bad None lists = Ok lists
+unless_bad (Some line) lists = Err (record { line = line; why = BadName })
 
 -- the line on which a transaction began that isn't ended
 abbrev pub open_line : Option Tx → Option ℕ
 open_line None = None
 open_line (Some t) = Some t.line
 
-abbrev pub unless_open : Option ℕ → Result Script ScriptFault → Result Script ScriptFault
+abbrev pub unless_open : Option ℕ → Result (List (List Command)) ScriptFault → Result (List (List Command)) ScriptFault
 unless_open None made = made
 unless_open (Some line) made = Err (record { line = line; why = BadBlock })
 
--- the script, unless a transaction isn't ended, or a client is told that isn't there
+-- the lists of all clients, unless a transaction isn't ended, or a client is told that isn't there
+unfoldable pub ended_lists : Lists → Result (List (List Command)) ScriptFault
+ended_lists l = unless_open (open_line (tx_of l.present.client)) (unless_bad (bad_tell (length (all_lists l)) l.tells) (all_lists l))
+
+-- the script of what is declared and these lists
+abbrev pub script_with : Decls → List (List Command) → Script
+script_with decls clients = record { targets = decls.targets; conts = decls.conts; objs = decls.objs; olds = decls.olds; stops = decls.stops; clients = clients }
+
 unfoldable pub ended : Reading → Result Script ScriptFault
-ended r = unless_open (open_line (tx_of r.current)) (unless_bad (bad_tell (length (lists_of r.whole r.current)) r.tells) (script_so_far r))
+ended r = ended_lists r.lists >>= λ lists. Ok (script_with r.decls lists)
 
 -- ---- a text
 

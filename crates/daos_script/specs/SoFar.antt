@@ -1,22 +1,25 @@
 -- What holds of what was read before a line: it is a script in form so far, and its counts and names are kept beside it.
-use Rattle.std.specs.Prelude.{◌≡◌, ℕ, ◌+◌, ◌*◌, ◌<◌, ◌≤◌, nat_eq, List, [], ◌∷◌, ◌++◌, length, map, All, Any, Option, Some, None}
+use Rattle.std.specs.Prelude.{◌≡◌, ℕ, suc, ◌+◌, ◌*◌, ◌<◌, ◌≤◌, nat_eq, List, [], ◌∷◌, ◌++◌, length, map, All, Any, Option, Some, None}
 use Rattle.std.specs.List.{IsDistinct, AllByRecursion}
 use Rattle.daos_base.specs.Keys.{same_key}
 use Rattle.daos_base.specs.Placement.{ClassFits}
 use Rattle.daos_base.specs.Scripts.{AreCommands, IsContOf, IsOpInForm, IsPlainReadIn, IsStop, SnapName, all_snaps, cont_name, cont_number, count_numbered, obj_name, old_snap, same_declared, snaps_of}
 use Rattle.daos_base.specs.declared.operation.Op.{Op}
 use Rattle.daos_base.specs.declared.script.Command.{Command}
+use Rattle.daos_base.specs.declared.script.Command.TheVariants as command
 use Rattle.daos_base.specs.declared.script.ContDecl.{ContDecl}
 use Rattle.daos_base.specs.declared.script.ObjDecl.{ObjDecl}
 use Rattle.daos_base.specs.declared.script.OldDecl.{OldDecl}
 use Rattle.daos_base.specs.declared.script.StopDecl.{StopDecl}
 use Rattle.daos_script_lines.specs.declared.line.At.{At}
 use Rattle.daos_script_words.specs.declared.decls.Decls.{Decls}
-use Rattle.daos_script.specs.declared.client.Client.{Client}
-use Rattle.daos_script.specs.declared.client.Tx.{Tx}
+use Rattle.daos_script_lists.specs.declared.client.Client.{Client}
+use Rattle.daos_script_lists.specs.declared.lists.Told.{Told}
+use Rattle.daos_script_lists.specs.declared.tx.Tx.{Tx}
+use Rattle.daos_script_lists.specs.Clients.{skip_open}
+use Rattle.daos_script_lists.specs.Lists.{lists_of}
+use Rattle.daos_script_lists.specs.Steps.{tx_of}
 use Rattle.daos_script.specs.declared.reading.Reading.{Reading}
-use Rattle.daos_script.specs.Clients.{skip_open}
-use Rattle.daos_script.specs.Puts.{lists_of, tx_of}
 
 abbrev pub snap_name : SnapName → List ℕ
 snap_name k = k.0
@@ -58,6 +61,7 @@ pub record AreLists (conts : List ContDecl) (objs : List ObjDecl) (olds : List S
   pub present : AreCommands conts objs olds c.list
   pub begun : IsOpen objs (olds ++ snaps_of c.list) c.tx
   pub room : length whole < 64
+  pub number : c.number ≡ length whole
 
 abbrev pub IsBody : List ContDecl → List ObjDecl → List SnapName → List (List Command) → Option Client → Type 0
 IsBody conts objs olds whole None = whole ≡ []
@@ -73,7 +77,20 @@ abbrev pub count_open : Option Tx → ℕ
 count_open None = 0
 count_open (Some t) = 1
 
-pub record IsState (targets at : ℕ) (decls : Decls) (whole : List (List Command)) (current : Option Client) (commands : ℕ) : Type 0 where
+-- a command by which this client tells another one has its line among those from `tell`
+abbrev pub IsKept : List Told → ℕ → Command → Type 0
+IsKept tells own (command.Run ops skips snapshot) = Unit {0}
+IsKept tells own (command.Snap name cont) = Unit {0}
+IsKept tells own (command.Aggregate cont) = Unit {0}
+IsKept tells own (command.Tell to) = Any (λ t. (t.client ≡ own) × (t.to ≡ to)) tells
+IsKept tells own (command.Skip turns) = Unit {0}
+
+-- the lists of the clients from this number on, of which each command to tell has its line
+abbrev pub AreKept : List Told → ℕ → List (List Command) → Type 0
+AreKept tells own [] = Unit {0}
+AreKept tells own (list ∷ lists) = AllByRecursion (IsKept tells own) list × AreKept tells (suc own) lists
+
+pub record IsState (targets at : ℕ) (decls : Decls) (whole : List (List Command)) (current : Option Client) (commands : ℕ) (tells : List Told) : Type 0 where
   pub read_for : decls.targets ≡ targets
   pub heads : AreHeads targets decls.conts decls.objs decls.olds decls.stops
   pub made_are : decls.made ≡ all_snaps (lists_of whole current)
@@ -83,10 +100,11 @@ pub record IsState (targets at : ℕ) (decls : Decls) (whole : List (List Comman
   pub counts : commands ≡ count_numbered (lists_of whole current) + count_open (tx_of current)
   pub few : commands ≤ 100000
   pub skipped : skip_open (tx_of current) ≤ 10000 * at
+  pub kept : AreKept tells 0 (lists_of whole current)
 
 -- the same of what was read before the line of this number, of a script for so many targets
 abbrev pub IsStateAt : ℕ → ℕ → Reading → Type 0
-IsStateAt targets at r = IsState targets at r.decls r.whole r.current r.commands
+IsStateAt targets at r = IsState targets at r.decls r.lists.whole r.lists.present.client r.lists.present.commands r.lists.tells
 
 -- what was read before the line of this number is a script in form so far
 unfoldable pub IsSoFar : ℕ → ℕ → Reading → Type 0

@@ -1,7 +1,6 @@
 // Reads the script of a run: what it declares, and the commands of its clients.
 #![tactic(auto)]
 
-mod client;
 pub mod fault;
 pub mod laws;
 mod reading;

@@ -1,21 +1,22 @@
 // Reads a script.
-ghost use Rattle.std.specs.Prelude.{◌≡◌, ◌<◌, ◌≤◌, ◌+◌, IfOk, length, take};
+ghost use Rattle.std.specs.Prelude.{◌≡◌, ◌≤◌, ◌+◌, IfOk, OnOk, length, take};
 ghost use Rattle.std.specs.List.{list_all};
 ghost use Rattle.daos_base.specs.Scripts.{IsInForm};
 ghost use Rattle.daos_script_words.specs.Reads.{Gives};
 ghost use Rattle.daos_script.specs.Located.{GivesAt};
-ghost use Rattle.daos_script.specs.Puts.{tx_of, within_of};
+ghost use Rattle.daos_script_lists.specs.Steps.{tx_of, within_of};
 ghost use Rattle.daos_script_lines.specs.Fits.{LineFits};
-ghost use Rattle.daos_script.specs.Readings.{bad_tell, ended, is_bad, is_passed, is_shown, long_line, open_line, read_line, said, script_of, with_line};
+ghost use Rattle.daos_script.specs.Readings.{bad_tell, ended, ended_lists, is_bad, is_passed, is_shown, long_line, open_line, read_line, said, script_of, script_with, with_line};
 ghost use Rattle.daos_script.specs.SoFar.{IsSoFar};
 
-use crate::client::Client;
 use crate::fault::ScriptNo;
-use crate::reading::{Reading, Told, lists_of};
+use crate::reading::Reading;
 use daos_base::fault::{ScriptFault, Why};
-use daos_base::script::Script;
+use daos_base::script::{ClientLists, Script};
 use daos_script_lines::line::Line;
 use daos_script_lines::lines::line_at;
+use daos_script_lists::client::Client;
+use daos_script_lists::lists::{Lists, Told};
 use daos_script_words::decls::Decls;
 use daos_script_words::fault::LineNo;
 use daos_text::parts::Parts;
@@ -81,10 +82,10 @@ fn bad_tell(clients: usize, tells: &[Told]) -> Option<u32>
 }
 
 // The line of the transaction that isn't ended.
-fn open_line(current: &Option<Client>) -> Option<u32>
-    ensures { result ≡ open_line (tx_of current.now) }
+fn open_line(client: &Option<Client>) -> Option<u32>
+    ensures { result ≡ open_line (tx_of client.now) }
 {
-    match current {
+    match client {
         None => None,
         Some(client) => match &client.tx {
             None => None,
@@ -93,40 +94,85 @@ fn open_line(current: &Option<Client>) -> Option<u32>
     }
 }
 
+// The lists of all clients, unless a transaction isn't ended, or a client is told that isn't there.
+#[tactic(auto, unfolding(crate::specs::Readings::ended_lists))]
+fn ended_lists(lists: Lists) -> Result<ClientLists, ScriptNo>
+    ensures { GivesAt (λ l. l) result (ended_lists lists) }
+{
+    if let Some(line) = open_line(&lists.present.client) {
+        drop(lists);
+        return Err(ScriptNo::Fault(ScriptFault {
+            line,
+            why: Why::BadBlock,
+        }));
+    }
+    let (clients, tells) = lists.into_all()?;
+    if let Some(line) = bad_tell(clients.len(), tells.as_slice()) {
+        return Err(ScriptNo::Fault(ScriptFault {
+            line,
+            why: Why::BadName,
+        }));
+    }
+    Ok(clients)
+}
+
+// The script of what is declared and these lists.
+fn script_with(decls: Decls, clients: ClientLists) -> Script
+    ensures { result ≡ script_with decls clients }
+{
+    let Decls {
+        targets,
+        conts,
+        objs,
+        olds,
+        stops,
+        made: _made,
+        own: _own,
+    } = decls;
+    Script {
+        targets,
+        conts: conts.into_items(),
+        objs: objs.into_items(),
+        olds: olds.into_items(),
+        stops,
+        clients,
+    }
+}
+
 impl Reading {
     // What a line says.
     #[tactic(auto, unfolding(crate::specs::Readings::said))]
     fn said(&self, alloc: Global, text: &[u8]) -> Result<Line, LineNo>
         ensures exact { Gives (λ l. l) result (said self.now text.now) }
-        ensures fits { IfOk result (LineFits self.now.decls (within_of self.now.current)) }
+        ensures fits { IfOk result (LineFits self.now.decls (within_of self.now.lists.present.client)) }
     {
         if !are_shown(text) {
             return Err(LineNo::Fault(Why::NotAscii));
         }
         let mut words = Parts::new(b' ', text);
-        line_at(alloc, &self.decls, self.within(), &mut words)
+        line_at(alloc, &self.decls, self.lists.present.within(), &mut words)
     }
 
     // One more line.
     #[tactic(auto, unfolding(crate::specs::Readings::read_line))]
-    fn read_line(self, alloc: Global, at: u32, text: &[u8]) -> Result<Reading, LineNo>
+    fn read_line(&mut self, alloc: Global, at: u32, text: &[u8]) -> Result<(), LineNo>
         requires before { at ≤ 16777217 }
-        requires form { IsSoFar self.decls.targets at self }
-        ensures exact { Gives (λ r. r) result (read_line at self text.now) }
-        ensures form { IfOk result (IsSoFar self.decls.targets (at + 1)) }
+        requires form { IsSoFar self.old.decls.targets at self.old }
+        ensures exact { Gives (λ done. self.new) result (read_line at self.old text.now) }
+        ensures form { OnOk result (IsSoFar self.old.decls.targets (at + 1) self.new) }
     {
         let line = self.said(alloc, text)?;
-        let reading = self.add_line(alloc, at, line)?;
-        Ok(reading)
+        self.add_line(alloc, at, line)?;
+        Ok(())
     }
 
     // The line of this number.
     #[tactic(auto, unfolding(crate::specs::Readings::with_line))]
-    fn with_line(self, alloc: Global, long: u32, at: u32, text: &[u8]) -> Result<Reading, ScriptNo>
+    fn with_line(&mut self, alloc: Global, long: u32, at: u32, text: &[u8]) -> Result<(), ScriptNo>
         requires before { at ≤ 16777217 }
-        requires form { IsSoFar self.decls.targets at self }
-        ensures exact { GivesAt (λ r. r) result (with_line long at self text.now) }
-        ensures form { IfOk result (IsSoFar self.decls.targets (at + 1)) }
+        requires form { IsSoFar self.old.decls.targets at self.old }
+        ensures exact { GivesAt (λ done. self.new) result (with_line long at self.old text.now) }
+        ensures form { OnOk result (IsSoFar self.old.decls.targets (at + 1) self.new) }
     {
         if at == long {
             return Err(ScriptNo::Fault(ScriptFault {
@@ -135,10 +181,10 @@ impl Reading {
             }));
         }
         if is_passed(text) {
-            return Ok(self);
+            return Ok(());
         }
         match self.read_line(alloc, at, text) {
-            Ok(reading) => Ok(reading),
+            Ok(()) => Ok(()),
             Err(LineNo::Memory) => Err(ScriptNo::Memory),
             Err(LineNo::Fault(why)) => Err(ScriptNo::Fault(ScriptFault { line: at, why })),
         }
@@ -149,43 +195,14 @@ impl Reading {
     fn ended(self) -> Result<Script, ScriptNo>
         ensures { GivesAt (λ s. s) result (ended self) }
     {
-        if let Some(line) = open_line(&self.current) {
-            return Err(ScriptNo::Fault(ScriptFault {
-                line,
-                why: Why::BadBlock,
-            }));
+        let Reading { decls, lists } = self;
+        match ended_lists(lists) {
+            Ok(clients) => Ok(script_with(decls, clients)),
+            Err(no) => {
+                drop(decls);
+                Err(no)
+            }
         }
-        let Reading {
-            decls,
-            whole,
-            current,
-            commands: _commands,
-            tells,
-        } = self;
-        let clients = lists_of(whole, current)?;
-        if let Some(line) = bad_tell(clients.len(), tells.as_slice()) {
-            return Err(ScriptNo::Fault(ScriptFault {
-                line,
-                why: Why::BadName,
-            }));
-        }
-        let Decls {
-            targets,
-            conts,
-            objs,
-            olds,
-            stops,
-            made: _made,
-            own: _own,
-        } = decls;
-        Ok(Script {
-            targets,
-            conts: conts.into_items(),
-            objs: objs.into_items(),
-            olds: olds.into_items(),
-            stops,
-            clients,
-        })
     }
 }
 
@@ -208,7 +225,10 @@ pub fn read_script(alloc: Global, bytes: &[u8], targets: u8) -> Result<Script, S
     let mut lines = Parts::new(b'\n', first_bytes(bytes));
     let mut at: u32 = 1;
     while let Some(line) = lines.take_part() {
-        reading = reading.with_line(alloc, long, at, line)?;
+        if let Err(no) = reading.with_line(alloc, long, at, line) {
+            drop(reading);
+            return Err(no);
+        }
         at += 1;
     }
     let script = reading.ended()?;

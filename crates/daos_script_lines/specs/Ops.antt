@@ -78,21 +78,33 @@ get_at decls within ws = do
 unfoldable pub offset_at : List (List ℕ) → Taken ℕ
 offset_at ws = number_at 0 4294967295 ws
 
--- write O D A OFFSET V: the end is at most 2^32 - 1
+-- OFFSET V: the end is at most 2^32 - 1
+unfoldable pub piece_at : List (List ℕ) → Taken (ℕ × List ℕ)
+piece_at ws = do
+  offset ← offset_at ws
+  value ← value_at offset.1
+  if nat_lt 4294967295 (offset.0 + length value.0) then Err BadNumber else Ok ((offset.0, value.0), value.1)
+
+-- OFFSET LEN: the end is at most 2^32 - 1
+unfoldable pub range_at : List (List ℕ) → Taken (ℕ × ℕ)
+range_at ws = do
+  offset ← offset_at ws
+  len ← number_at 1 1024 offset.1
+  if nat_lt 4294967295 (offset.0 + len.0) then Err BadNumber else Ok ((offset.0, len.0), len.1)
+
+-- write O D A OFFSET V
 unfoldable pub write_at : Decls → Option ContId → List (List ℕ) → Taken Act
 write_at decls within ws = do
   cell ← cell_at decls within ws
-  offset ← offset_at cell.1
-  value ← value_at offset.1
-  if nat_lt 4294967295 (offset.0 + length value.0) then Err BadNumber else Ok (Change (write.Extent cell.0 offset.0 value.0), value.1)
+  piece ← piece_at cell.1
+  Ok (Change (write.Extent cell.0 piece.0.0 piece.0.1), piece.1)
 
--- read O D A OFFSET LEN: the end is at most 2^32 - 1
+-- read O D A OFFSET LEN
 unfoldable pub read_at : Decls → Option ContId → List (List ℕ) → Taken Act
 read_at decls within ws = do
   cell ← cell_at decls within ws
-  offset ← offset_at cell.1
-  len ← number_at 1 1024 offset.1
-  if nat_lt 4294967295 (offset.0 + len.0) then Err BadNumber else Ok (Fetch (read.Extent cell.0 offset.0 len.0), len.1)
+  range ← range_at cell.1
+  Ok (Fetch (read.Extent cell.0 range.0.0 range.0.1), range.1)
 
 -- dkeys O
 unfoldable pub dkeys_at : Decls → Option ContId → List (List ℕ) → Taken Act

@@ -5,14 +5,14 @@ use daos_base::operation::Op;
 use daos_base::script::{ContDecl, ObjDecl, OldDecl, StopDecl};
 
 /// A snapshot that is read: its name and its container.
-#[derive(Debug, Drop)]
+#[derive(Drop)]
 pub struct At {
     pub name: Key,
     pub cont: ContId,
 }
 
 /// What a line says.
-#[derive(Debug, Drop)]
+#[derive(Drop)]
 pub enum Line {
     /// A container is declared.
     Cont(ContDecl),

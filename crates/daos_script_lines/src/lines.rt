@@ -254,6 +254,11 @@ pub fn line_at(
 {
     let verb = verb_at(words)?;
     let line = line_by(alloc, decls, within, verb, words)?;
-    nothing_at(words)?;
-    Ok(line)
+    match nothing_at(words) {
+        Ok(()) => Ok(line),
+        Err(no) => {
+            drop(line);
+            Err(no)
+        }
+    }
 }

@@ -1,12 +1,13 @@
 // Reads the words of operations.
-ghost use Rattle.std.specs.Prelude.{◌≡◌, IfOk};
-ghost use Rattle.daos_base.specs.Scripts.{IsActInForm, IsAkeyOf, IsDkeyOf, IsObjectOf, IsPathOf};
+ghost use Rattle.std.specs.Prelude.{◌≡◌, ◌+◌, ◌<◌, ◌^◌, IfOk, length};
+ghost use Rattle.daos_base.specs.Scripts.{IsActInForm, IsAkeyOf, IsDkeyOf, IsLength, IsObjectOf, IsPathOf};
 ghost use Rattle.daos_script_words.specs.Reads.{Gives};
-ghost use Rattle.daos_script_lines.specs.Ops.{ActFits, PathFits, act_by, akeys_at, cell_at, dkey_at, dkeys_at, get_at, has_at, object_at, offset_at, path_at, punch_at, punch_of, put_at, read_at, write_at};
+ghost use Rattle.daos_script_lines.specs.Ops.{ActFits, PathFits, act_by, akeys_at, cell_at, dkey_at, dkeys_at, get_at, has_at, object_at, offset_at, path_at, piece_at, punch_at, punch_of, put_at, range_at, read_at, write_at};
 
 use crate::verbs::OpVerb;
 use daos_base::fault::Why;
 use daos_base::id::ContId;
+use daos_base::items::Vec8;
 use daos_base::operation::{Act, Read, Write};
 use daos_base::path::Path;
 use daos_script_words::decls::Decls;
@@ -152,6 +153,36 @@ fn offset_at(words: &mut Parts<'_>) -> Result<u32, LineNo>
     Ok(offset as u32)
 }
 
+// OFFSET V
+#[tactic(auto, unfolding(crate::specs::Ops::piece_at))]
+fn piece_at(alloc: Global, words: &mut Parts<'_>) -> Result<(u32, Vec8), LineNo>
+    ensures exact { Gives (λ p. ((p.0, p.1), words.new)) result (piece_at words.old) }
+    ensures length { IfOk result (λ p. IsLength (length p.1)) }
+    ensures end { IfOk result (λ p. p.0 + length p.1 < 2 ^ 32) }
+{
+    let offset = offset_at(words)?;
+    let value = value_at(alloc, words)?;
+    if u64::from(offset) + value.len() as u64 > u64::from(INDEX_MAX) {
+        return Err(LineNo::Fault(Why::BadNumber));
+    }
+    Ok((offset, value))
+}
+
+// OFFSET LEN
+#[tactic(auto, unfolding(crate::specs::Ops::range_at))]
+fn range_at(words: &mut Parts<'_>) -> Result<(u32, u32), LineNo>
+    ensures exact { Gives (λ r. ((r.0, r.1), words.new)) result (range_at words.old) }
+    ensures length { IfOk result (λ r. IsLength r.1) }
+    ensures end { IfOk result (λ r. r.0 + r.1 < 2 ^ 32) }
+{
+    let offset = offset_at(words)?;
+    let len = number_at(1, 1024, words)?;
+    if u64::from(offset) + len > u64::from(INDEX_MAX) {
+        return Err(LineNo::Fault(Why::BadNumber));
+    }
+    Ok((offset, len as u32))
+}
+
 // write O D A OFFSET V
 #[tactic(auto, unfolding(crate::specs::Ops::write_at))]
 fn write_at(
@@ -165,11 +196,7 @@ fn write_at(
     ensures inside { IfOk result (ActFits within OpVerb.Write) }
 {
     let cell = cell_at(alloc, decls, within, words)?;
-    let offset = offset_at(words)?;
-    let value = value_at(alloc, words)?;
-    if u64::from(offset) + value.len() as u64 > u64::from(INDEX_MAX) {
-        return Err(LineNo::Fault(Why::BadNumber));
-    }
+    let (offset, value) = piece_at(alloc, words)?;
     Ok(Act::Change(Write::Extent(cell, offset, value)))
 }
 
@@ -186,12 +213,8 @@ fn read_at(
     ensures inside { IfOk result (ActFits within OpVerb.Read) }
 {
     let cell = cell_at(alloc, decls, within, words)?;
-    let offset = offset_at(words)?;
-    let len = number_at(1, 1024, words)?;
-    if u64::from(offset) + len > u64::from(INDEX_MAX) {
-        return Err(LineNo::Fault(Why::BadNumber));
-    }
-    Ok(Act::Fetch(Read::Extent(cell, offset, len as u32)))
+    let (offset, len) = range_at(words)?;
+    Ok(Act::Fetch(Read::Extent(cell, offset, len)))
 }
 
 // dkeys O

@@ -9,7 +9,7 @@ use daos_script_words::fault::LineNo;
 use daos_text::parts::Parts;
 
 /// The word of an operation.
-#[derive(Clone, Copy, Debug)]
+#[derive(Clone, Copy)]
 pub enum OpVerb {
     Put,
     Get,
@@ -22,7 +22,7 @@ pub enum OpVerb {
 }
 
 /// The first word of a line.
-#[derive(Clone, Copy, Debug)]
+#[derive(Clone, Copy)]
 pub enum Verb {
     Cont,
     Obj,

@@ -1,5 +1,5 @@
 // What is declared so far.
-ghost use Rattle.std.specs.Prelude.{◌≡◌, [], ◌∷◌, ◌++◌, ◌<◌, IfOk, None, OnOk};
+ghost use Rattle.std.specs.Prelude.{◌≡◌, [], ◌<◌, None, OnOk};
 ghost use Rattle.daos_script_words.specs.Lookups.{cont_named, obj_named, old_named};
 ghost use Rattle.daos_script_words.specs.Snaps.{is_snap, snap_named};
 ghost use Rattle.daos_names.specs.Names.{named};
@@ -92,70 +92,63 @@ impl Decls {
 
     /// One more container, of a new name.
     #[tactic(auto, unfolding(crate::specs::Decls::with_cont))]
-    pub fn with_cont(self, alloc: Global, decl: ContDecl) -> Result<Decls, LineNo>
-        requires { cont_named self.conts decl.name ≡ None }
-        ensures { Gives (λ decls. decls) result (with_cont self decl) }
+    pub fn add_cont(&mut self, alloc: Global, decl: ContDecl) -> Result<(), LineNo>
+        requires { cont_named self.old.conts decl.name ≡ None }
+        ensures { Gives (λ done. self.new) result (with_cont self.old decl) }
     {
         room(CONTS_MAX, self.conts.count())?;
-        let mut decls = self;
-        decls.conts = decls.conts.add(alloc, decl)?;
-        Ok(decls)
+        self.conts.add(alloc, decl)?;
+        Ok(())
     }
 
     /// One more object, of a new name.
     #[tactic(auto, unfolding(crate::specs::Decls::with_obj))]
-    pub fn with_obj(self, alloc: Global, decl: ObjDecl) -> Result<Decls, LineNo>
-        requires { obj_named self.objs decl.name ≡ None }
-        ensures { Gives (λ decls. decls) result (with_obj self decl) }
+    pub fn add_obj(&mut self, alloc: Global, decl: ObjDecl) -> Result<(), LineNo>
+        requires { obj_named self.old.objs decl.name ≡ None }
+        ensures { Gives (λ done. self.new) result (with_obj self.old decl) }
     {
         room(OBJS_MAX, self.objs.count())?;
-        let mut decls = self;
-        decls.objs = decls.objs.add(alloc, decl)?;
-        Ok(decls)
+        self.objs.add(alloc, decl)?;
+        Ok(())
     }
 
     /// One more snapshot of an earlier run, of a new name.
     #[tactic(auto, unfolding(crate::specs::Decls::with_old))]
-    pub fn with_old(self, alloc: Global, decl: OldDecl) -> Result<Decls, LineNo>
-        requires { old_named self.olds decl.name ≡ None }
-        ensures { Gives (λ decls. decls) result (with_old self decl) }
+    pub fn add_old(&mut self, alloc: Global, decl: OldDecl) -> Result<(), LineNo>
+        requires { old_named self.old.olds decl.name ≡ None }
+        ensures { Gives (λ done. self.new) result (with_old self.old decl) }
     {
         room(OLDS_MAX, self.olds.count())?;
-        let mut decls = self;
-        decls.olds = decls.olds.add(alloc, decl)?;
-        Ok(decls)
+        self.olds.add(alloc, decl)?;
+        Ok(())
     }
 
     /// One more stop.
     #[tactic(auto, unfolding(crate::specs::Decls::with_stop))]
-    pub fn with_stop(self, decl: StopDecl) -> Result<Decls, LineNo>
-        ensures { Gives (λ decls. decls) result (with_stop self decl) }
+    pub fn add_stop(&mut self, decl: StopDecl) -> Result<(), LineNo>
+        ensures { Gives (λ done. self.new) result (with_stop self.old decl) }
     {
         room(STOPS_MAX, self.stops.len())?;
-        let mut decls = self;
-        decls.stops.push(decl)?;
-        Ok(decls)
+        self.stops.push(decl)?;
+        Ok(())
     }
 
     /// One more snapshot that the present client makes, of a new name.
     #[tactic(auto, unfolding(crate::specs::Decls::with_own))]
-    pub fn with_own(self, alloc: Global, name: &Key, cont: ContId) -> Result<Decls, AllocError>
-        requires made { named self.made name.now ≡ None }
-        requires own { named self.own name.now ≡ None }
-        ensures { IfOk result (λ decls. decls ≡ with_own self name.now cont) }
+    pub fn add_own(&mut self, alloc: Global, name: &Key, cont: ContId) -> Result<(), AllocError>
+        requires made { named self.old.made name.now ≡ None }
+        requires own { named self.old.own name.now ≡ None }
+        ensures { OnOk result (self.new ≡ with_own self.old name.now cont) }
     {
-        let mut decls = self;
-        decls.made.declare(alloc, name.bytes(), cont)?;
-        decls.own.declare(alloc, name.bytes(), cont)?;
-        Ok(decls)
+        self.made.declare(alloc, name.bytes(), cont)?;
+        self.own.declare(alloc, name.bytes(), cont)?;
+        Ok(())
     }
 
-    /// The same for the next client, which makes none yet.
-    pub fn for_next(self, alloc: Global) -> Decls
-        ensures { result ≡ record self { own = [] } }
+    /// The next client is the present one, and makes none yet.
+    pub fn begin_next(&mut self, alloc: Global)
+        ensures { self.new ≡ record self.old { own = [] } }
     {
-        let mut decls = self;
-        decls.own = Names::new(alloc);
-        decls
+        self.own = Names::new(alloc);
     }
 }

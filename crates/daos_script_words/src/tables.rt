@@ -1,5 +1,5 @@
 // Declarations, each found by its name.
-ghost use Rattle.std.specs.Prelude.{◌≡◌, [], ◌∷◌, ◌++◌, IfOk, None, length};
+ghost use Rattle.std.specs.Prelude.{◌≡◌, [], ◌∷◌, ◌++◌, None, OnOk, length};
 ghost use Rattle.daos_script_words.specs.Lookups.{cont_named, has_cont, has_obj, obj_named, old_named};
 
 use daos_base::id::{ContId, ObjId};
@@ -8,6 +8,7 @@ use daos_base::script::{ContDecl, Conts, ObjDecl, Objs, OldDecl, Olds};
 use daos_names::Names;
 use std::alloc::{AllocError, Global};
 use std::marker::Model;
+use std::mem::replace;
 
 /// The containers, each found by its name.
 #[derive(Drop)]
@@ -64,17 +65,18 @@ impl ContDecls {
 
     /// Adds a container of a new name.
     #[tactic(auto, unfolding(crate::specs::Lookups::cont_named))]
-    pub fn add(self, alloc: Global, decl: ContDecl) -> Result<Self, AllocError>
-        requires { cont_named self decl.name ≡ None }
-        ensures { IfOk result (λ decls. decls ≡ self ++ decl ∷ []) }
+    pub fn add(&mut self, alloc: Global, decl: ContDecl) -> Result<(), AllocError>
+        requires { cont_named self.old decl.name ≡ None }
+        ensures { OnOk result (self.new ≡ self.old ++ decl ∷ []) }
     {
         let ContDecls {
             mut decls,
             mut names,
-        } = self;
+        } = replace(self, ContDecls::new(alloc));
         names.declare(alloc, decl.name.bytes(), decl.id)?;
         decls.push(decl)?;
-        Ok(ContDecls { decls, names })
+        *self = ContDecls { decls, names };
+        Ok(())
     }
 
     /// How many there are.
@@ -153,17 +155,18 @@ impl ObjDecls {
 
     /// Adds an object of a new name.
     #[tactic(auto, unfolding(crate::specs::Lookups::obj_named))]
-    pub fn add(self, alloc: Global, decl: ObjDecl) -> Result<Self, AllocError>
-        requires { obj_named self decl.name ≡ None }
-        ensures { IfOk result (λ decls. decls ≡ self ++ decl ∷ []) }
+    pub fn add(&mut self, alloc: Global, decl: ObjDecl) -> Result<(), AllocError>
+        requires { obj_named self.old decl.name ≡ None }
+        ensures { OnOk result (self.new ≡ self.old ++ decl ∷ []) }
     {
         let ObjDecls {
             mut decls,
             mut names,
-        } = self;
+        } = replace(self, ObjDecls::new(alloc));
         names.declare(alloc, decl.name.bytes(), (decl.cont, decl.id))?;
         decls.push(decl)?;
-        Ok(ObjDecls { decls, names })
+        *self = ObjDecls { decls, names };
+        Ok(())
     }
 
     /// How many there are.
@@ -225,17 +228,18 @@ impl OldDecls {
 
     /// Adds a snapshot of a new name.
     #[tactic(auto, unfolding(crate::specs::Lookups::old_named))]
-    pub fn add(self, alloc: Global, decl: OldDecl) -> Result<Self, AllocError>
-        requires { old_named self decl.name ≡ None }
-        ensures { IfOk result (λ decls. decls ≡ self ++ decl ∷ []) }
+    pub fn add(&mut self, alloc: Global, decl: OldDecl) -> Result<(), AllocError>
+        requires { old_named self.old decl.name ≡ None }
+        ensures { OnOk result (self.new ≡ self.old ++ decl ∷ []) }
     {
         let OldDecls {
             mut decls,
             mut names,
-        } = self;
+        } = replace(self, OldDecls::new(alloc));
         names.declare(alloc, decl.name.bytes(), decl.cont)?;
         decls.push(decl)?;
-        Ok(OldDecls { decls, names })
+        *self = OldDecls { decls, names };
+        Ok(())
     }
 
     /// How many there are.

@@ -12,11 +12,10 @@ with_line-requires-clause-before c = let l = c.loop-line in at_most c.args.targe
 pub with_line-requires-clause-form : goal.with_line-requires-clause-form
 with_line-requires-clause-form c = let l = c.loop-line in own_form c.args.targets c.args.bytes.now c.long_line-long.result l.at l.reading l.lines l.invariant
 
-pub returns-in_err-reading-clause-exact : goal.returns-in_err-reading-clause-exact
-returns-in_err-reading-clause-exact c =
-    let p = err_from_is_err_and c.from_residual.result c.from_residual.ensures.1 in
+pub returns-in-Err-clause-exact : goal.returns-in-Err-clause-exact
+returns-in-Err-clause-exact c =
     let l = c.loop-line in
-    rw (p.1, p.2) (line_fails c.args.targets c.args.bytes.now c.long_line-long.result l.at l.reading l.lines l.invariant c.in-Some.line.now c.take_part.new.self c.in-Some.ensures c.in_err-reading.field-0.0 c.in_err-reading.ensures.exact)
+    line_fails c.args.targets c.args.bytes.now c.long_line-long.result l.at l.reading l.lines l.invariant c.in-Some.line.now c.take_part.new.self c.in-Some.ensures c.in-Err.no c.in-Err.ensures.exact
 
 pub overflow_add-at : goal.overflow_add-at
 overflow_add-at c =
@@ -27,11 +26,11 @@ overflow_add-at c =
 pub loop-line-preserved : goal.loop-line-preserved
 loop-line-preserved c =
     let l = c.loop-line in
-    one_read c.args.targets c.args.bytes.now c.long_line-long.result l.at l.reading l.lines l.invariant c.in-Some.line.now c.take_part.new.self c.in-Some.ensures c.in_ok-reading.reading c.in_ok-reading.ensures.exact c.in_ok-reading.ensures.form
+    one_read c.args.targets c.args.bytes.now c.long_line-long.result l.at l.reading l.lines l.invariant c.in-Some.line.now c.take_part.new.self c.in-Some.ensures c.with_line.new.self c.in_default-with_line.ensures.exact c.in_default-with_line.ensures.form
 
 pub returns-in_err-script-clause-exact : goal.returns-in_err-script-clause-exact
 returns-in_err-script-clause-exact c =
-    let p = err_from_is_err_and c.from_residual-in_err-script.result c.from_residual-in_err-script.ensures.1 in
+    let p = err_from_is_err_and c.from_residual.result c.from_residual.ensures.1 in
     let l = c.loop-line in
     rw (p.1, p.2) (end_fails c.args.targets c.args.bytes.now c.long_line-long.result l.at l.reading l.lines l.invariant c.in_err-script.field-0.0 c.in_default.ensures.0 c.in_err-script.ensures)
 

@@ -12,8 +12,8 @@ use Rattle.daos_text.specs.Results.{◌>>=◌}
 use Rattle.daos_script_lines.specs.declared.line.At.{At}
 use Rattle.daos_script_words.specs.Decls.{room}
 use Rattle.daos_script_words.specs.Reads.{Read}
-use Rattle.daos_script.specs.declared.client.Client.{Client}
-use Rattle.daos_script.specs.declared.client.Tx.{Tx}
+use Rattle.daos_script_lists.specs.declared.client.Client.{Client}
+use Rattle.daos_script_lists.specs.declared.tx.Tx.{Tx}
 
 -- ---- operations
 
@@ -58,11 +58,16 @@ skip_open (Some t) = t.skip
 abbrev pub tx_begun : ℕ → Option At → Tx
 tx_begun line at = record { line = line; at = at; ops = []; skips = []; skip = 0 }
 
--- one more operation, of at most 64
+-- whether an operation may stand here; at most 64 do
+unfoldable pub may_add : Tx → Op → Read (Unit {0})
+may_add t op = if is_barred t.at op then Err BadBlock else room 64 (length t.ops)
+
+-- the operation is added, behind the turns skipped before it
+abbrev pub tx_pushed : Tx → Op → Tx
+tx_pushed t op = record t { ops = t.ops ++ op ∷ []; skips = t.skips ++ t.skip ∷ []; skip = 0 }
+
 unfoldable pub tx_op : Tx → Op → Read Tx
-tx_op t op =
-    if is_barred t.at op then Err BadBlock
-    else (room 64 (length t.ops) >>= λ fits. Ok (record t { ops = t.ops ++ op ∷ []; skips = t.skips ++ t.skip ∷ []; skip = 0 }))
+tx_op t op = may_add t op >>= λ fits. Ok (tx_pushed t op)
 
 -- the command of a whole transaction
 abbrev pub command_of : Tx → Command
@@ -94,13 +99,13 @@ tx_in line c (Some t) at = Err BadBlock
 unfoldable pub client_tx : ℕ → Client → Option At → Read Client
 client_tx line c at = tx_in line c c.tx at
 
--- the transaction ends; it has an operation
-abbrev pub end_in : Client → Option Tx → Read Client
-end_in c None = Err BadBlock
-end_in c (Some t) = if length t.ops == 0 then Err BadBlock else Ok (record c { list = c.list ++ command_of t ∷ []; tx = None })
+-- the transaction that ends; it has an operation
+abbrev pub ended_tx : Option Tx → Read Tx
+ended_tx None = Err BadBlock
+ended_tx (Some t) = if length t.ops == 0 then Err BadBlock else Ok t
 
 unfoldable pub client_end : Client → Read Client
-client_end c = end_in c c.tx
+client_end c = ended_tx c.tx >>= λ t. Ok (record c { list = c.list ++ command_of t ∷ []; tx = None })
 
 -- turns are skipped, in the transaction or as a command of their own
 abbrev pub skip_in : Client → Option Tx → ℕ → Client
