@@ -1,9 +1,11 @@
 -- What a client does in a turn.
-use Rattle.std.specs.Prelude.{ℕ, ◌≡◌, ◌+◌, ◌++◌, ◌-◌, Bool, true, false, ◌&&◌, not, nat_lt, nat_le, max, List, [], ◌∷◌, length, find, slice_get, slice_index_or, Option, Some, None, is_some, if◌then◌else◌}
+use Rattle.std.specs.List.{list_any}
+use Rattle.std.specs.Prelude.{ℕ, map, filter, ◌≡◌, ◌+◌, ◌++◌, ◌-◌, Bool, true, false, ◌&&◌, not, nat_lt, nat_le, max, List, [], ◌∷◌, length, find, slice_get, slice_index_or, Option, Some, None, is_some, if◌then◌else◌}
 use Rattle.daos_base.specs.declared.answer.Answer.{Answer}
 use Rattle.daos_base.specs.declared.answer.Answer.TheVariants as answer
 use Rattle.daos_base.specs.declared.epoch.Epoch.{Epoch}
 use Rattle.daos_base.specs.declared.id.AttemptId.{AttemptId}
+use Rattle.daos_base.specs.declared.id.ContId.{ContId}
 use Rattle.daos_base.specs.declared.id.ObjId.{ObjId}
 use Rattle.daos_base.specs.declared.operation.Act.TheVariants as act
 use Rattle.daos_base.specs.declared.operation.Act.{Act}
@@ -21,12 +23,15 @@ use Rattle.daos_base.specs.declared.report.Line.{Line}
 use Rattle.daos_base.specs.declared.report.Line.TheVariants.{Try}
 use Rattle.daos_base.specs.declared.script.Command.{Command}
 use Rattle.daos_base.specs.declared.script.Command.TheVariants.{Run, Snap, Aggregate, Tell, Skip}
+use Rattle.daos_base.specs.declared.script.OldDecl.{OldDecl}
+use Rattle.daos_base.specs.declared.script.Script.{Script}
+use Rattle.daos_base.specs.declared.snapshot.Snap as frozen
 use Rattle.daos_base.specs.Keys.{same_key}
 use Rattle.daos_base.specs.Operations.{read_path}
 use Rattle.daos_base.specs.Placement.{group_of, groups, writes_leader}
 use Rattle.daos_laws.specs.Groups.{join_two}
 use Rattle.daos_messages.specs.declared.actor.ActorId.{ActorId}
-use Rattle.daos_messages.specs.declared.message.Message.{Message}
+use Rattle.daos_messages.specs.declared.message.Message.{Message, more_of-Message}
 use Rattle.daos_messages.specs.declared.message.Message.TheVariants as message
 use Rattle.daos_messages.specs.declared.message.Post.{Post}
 use Rattle.daos_messages.specs.declared.message.Reply.{Reply}
@@ -34,7 +39,7 @@ use Rattle.daos_messages.specs.declared.message.Reply.TheVariants as reply
 use Rattle.daos_model.specs.Accesses.{asked_member, minor_writes, op_path}
 use Rattle.daos_model.specs.Attempts.{is_restart, snapshot_of_command}
 use Rattle.daos_model.specs.Conditions.{holds_where}
-use Rattle.daos_model.specs.Durables.{same_attempt}
+use Rattle.daos_model.specs.Durables.{is_snap_at, same_attempt}
 use Rattle.daos_model.specs.Order.{told_by}
 use Rattle.daos_model.specs.Transactions.{ops_of}
 use Rattle.world_base.specs.declared.client.ClientPlan.{ClientPlan}
@@ -104,8 +109,16 @@ asks target m a c = record {
 -- a new attempt: nothing of it is done
 abbrev pub begun : ℕ → Option Epoch → Option Epoch → Present
 begun attempt first epoch = record {
-  attempt = attempt; first = first; epoch = epoch; op = 0; stage = stage.Skip; group = 0; found = None;
-  conds = []; gots = []; waits = false;
+  attempt = attempt;
+  first = first;
+  epoch = epoch;
+  op = 0;
+  stage = stage.Skip;
+  group = 0;
+  found = None;
+  conds = [];
+  gots = [];
+  waits = false;
 }
 
 abbrev pub epoch_of_known : Option KnownSnap → Option Epoch
@@ -179,7 +192,7 @@ member_asked (Some o) command targets group = asked_member o command targets gro
 abbrev pub asks_group : ClientPlan → ClientState → Present → Bool → Read → ℕ → Move
 asks_group p c a snapshot r group =
     asks (member_asked (read_path r).obj c.command p.targets group)
-      (message.Fetch (attempt_id p c a) a.op group a.epoch a.first c.tracker r snapshot) a c
+    (message.Fetch (attempt_id p c a) a.op group a.epoch a.first c.tracker r snapshot) a c
 
 abbrev pub asks_read : ClientPlan → ClientState → Present → Bool → Read → Move
 asks_read p c a snapshot r = asks_group p c a snapshot r (group_asked (read_path r).obj (read_path r).dkey p.targets a.group)
@@ -278,25 +291,10 @@ told_by_some None = []
 told_by_some (Some e) = e.0 ∷ []
 
 abbrev pub told_by_message : Message → List ℕ
-told_by_message (message.Fetch x op group e first tracker r snapshot) = []
 told_by_message (message.Fetched x op group e reply) = told_by_some e ++ told_by_reply reply
-told_by_message (message.Commit x e first tracker ws) = []
-told_by_message (message.Ask x) = []
-told_by_message (message.Snap x cont name tracker) = []
-told_by_message (message.Prune x cont tracker e) = []
 told_by_message (message.Ended x e how) = told_by_some e ++ told_by how
 told_by_message (message.Tell tracker) = tracker.0 ∷ []
-told_by_message (message.Prepare entry first ws inc) = []
-told_by_message (message.Ack x inc refusal) = []
-told_by_message (message.Mark inc marks) = []
-told_by_message (message.Marked inc attempts) = []
-told_by_message (message.Query x ask) = []
-told_by_message (message.Verdict x ask inc verdict) = []
-told_by_message (message.Status x inc) = []
-told_by_message (message.StatusIs x inc state) = []
-told_by_message (message.Freeze x cont e) = []
-told_by_message (message.Held x refusal) = []
-told_by_message (message.Reset target down m) = []
+told_by_message m = []
 
 unfoldable pub greatest : ℕ → List ℕ → ℕ
 greatest t [] = t
@@ -309,24 +307,11 @@ hears_epochs m c = record c { tracker = record { 0 = greatest c.tracker.0 (told_
 -- the attempt whose request a message is
 abbrev pub request_of : Message → Option AttemptId
 request_of (message.Fetch x op group e first tracker r snapshot) = Some x
-request_of (message.Fetched x op group e reply) = None
 request_of (message.Commit x e first tracker ws) = Some x
 request_of (message.Ask x) = Some x
 request_of (message.Snap x cont name tracker) = Some x
 request_of (message.Prune x cont tracker e) = Some x
-request_of (message.Ended x e how) = None
-request_of (message.Tell tracker) = None
-request_of (message.Prepare entry first ws inc) = None
-request_of (message.Ack x inc refusal) = None
-request_of (message.Mark inc marks) = None
-request_of (message.Marked inc attempts) = None
-request_of (message.Query x ask) = None
-request_of (message.Verdict x ask inc verdict) = None
-request_of (message.Status x inc) = None
-request_of (message.StatusIs x inc state) = None
-request_of (message.Freeze x cont e) = None
-request_of (message.Held x refusal) = None
-request_of (message.Reset target down m) = None
+request_of m = None
 
 -- the client hears of the epoch that was issued to its attempt
 abbrev pub knows_epoch : Option Epoch → Option Epoch → Option Epoch
@@ -351,9 +336,9 @@ is_yes answer.Absent = false
 
 -- a condition is answered: the operation goes on where it holds; else the attempt ends
 abbrev pub condition_told : ClientPlan → ClientState → Present → Cond → Bool → Move
-condition_told p c a cond yes =
-    if holds_where yes cond then goes (at_present (next_stage stage.Cond (record a { conds = a.conds ++ (a.op, yes) ∷ [] })) c)
-    else ends p c (record a { conds = a.conds ++ (a.op, yes) ∷ [] }) (outcome.CondFailed a.op)
+condition_told p c a cond there =
+    if holds_where there cond then goes (at_present (next_stage stage.Cond (record a { conds = a.conds ++ (a.op, there) ∷ [] })) c)
+    else ends p c (record a { conds = a.conds ++ (a.op, there) ∷ [] }) (outcome.CondFailed a.op)
 
 -- a read is answered: its operation is over
 abbrev pub read_told : ClientState → Present → Answer → Move
@@ -413,14 +398,14 @@ reset_by p c a target true m = ends p c a (outcome.Unknown target)
 abbrev pub about : Message → Option AttemptId
 about (message.Fetched x op group e reply) = Some x
 about (message.Ended x e how) = Some x
-about (message.Reset target down m) = request_of m
+about (message.Reset' target down place (more_of-Message m rest)) = request_of m
 about m = None
 
 -- what a client waits for has come
 abbrev pub answered : ClientPlan → ClientState → Present → Message → Move
 answered p c a (message.Fetched x op group e reply) = replied p c (knows e a) reply
 answered p c a (message.Ended x e how) = ended p c (knows e a) e how
-answered p c a (message.Reset target down m) = reset_by p c (record a { waits = false }) target down m
+answered p c a (message.Reset' target down place (more_of-Message m rest)) = reset_by p c (record a { waits = false }) target down m
 answered p c a m = goes c
 
 abbrev pub is_about : AttemptId → Option AttemptId → Bool
@@ -455,9 +440,9 @@ pub record GoesOn (p : ClientPlan) (c : ClientState) (posts : List Post) (lines 
   pub last : ClientState
   pub moves : Moves p c sent told last
   pub over : (moved p last).over ≡ true
-  pub posts : posts ≡ sent ++ listed (moved p last).post
-  pub lines : lines ≡ told ++ listed (moved p last).line
-  pub state : d ≡ (moved p last).state
+  pub all_sent : posts ≡ sent ++ listed (moved p last).post
+  pub all_told : lines ≡ told ++ listed (moved p last).line
+  pub reached : d ≡ (moved p last).state
 
 abbrev pub skip_counted : ClientState → ClientState
 skip_counted c = record c { skip = c.skip - 1 }
@@ -479,3 +464,27 @@ with_first m did = record { posts = listed m.post ++ did.posts; lines = listed m
 pub data HearTurn (p : ClientPlan) (c : ClientState) (m : Message) (did : Did) (d : ClientState) : Type 0 where
   Ended_by : (heard p c m).over ≡ true → did ≡ record { posts = listed (heard p c m).post; lines = listed (heard p c m).line; issued = None } → d ≡ (heard p c m).state → HearTurn p c m did d
   Went_on : (rest : Did) → (heard p c m).over ≡ false → ClientDid p (heard p c m).state rest d → did ≡ with_first (heard p c m) rest → HearTurn p c m did d
+
+-- ---- the beginning of a run
+
+abbrev pub is_created_at : ContId → Epoch → frozen.Snap → Bool
+is_created_at c e x = is_snap_at c e x && x.created
+
+-- an old snapshot that the opening holds as created
+abbrev pub is_created_old : List frozen.Snap → OldDecl → Bool
+is_created_old opening d = list_any (is_created_at d.cont d.epoch) opening
+
+abbrev pub known_of : OldDecl → KnownSnap
+known_of d = record { name = d.name; epoch = d.epoch }
+
+-- the snapshots of earlier runs that a client may read: those that the script names and the opening holds as created
+abbrev pub known_at_opening : List OldDecl → List frozen.Snap → List KnownSnap
+known_at_opening olds opening = map known_of (filter (is_created_old opening) olds)
+
+-- what the client of this number has to do in a run of a script
+abbrev pub plan_of : Script → ℕ → ℕ → List Command → ClientPlan
+plan_of s number attempts commands = record { number = number; targets = s.targets; attempts = attempts; commands = commands }
+
+-- a client before its first turn
+abbrev pub at_first : Script → List frozen.Snap → Epoch → ClientState
+at_first s opening tracker = record { place = 0; command = 0; tracker = tracker; skip = 0; present = None; known = known_at_opening s.olds opening }

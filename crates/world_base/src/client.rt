@@ -63,7 +63,7 @@ pub type KnownSnaps = Items<KnownSnap>;
 #[derive(Debug, Drop)]
 pub struct ClientState {
     /// How many of its commands are over.
-    pub place: u32,
+    pub place: u64,
     /// How many of these have numbers, which is the number of the next that has one.
     pub command: u32,
     /// The greatest epoch that it heard of.

@@ -1,6 +1,5 @@
 // Messages on their way.
 
-
 use daos_base::items::{Items, Memory, TryCopy};
 use daos_messages::actor::ActorId;
 use daos_messages::message::Message;
