@@ -4,3 +4,5 @@
 pub mod client;
 pub mod did;
 pub mod letter;
+pub mod request;
+pub mod target;
