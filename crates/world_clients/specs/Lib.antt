@@ -1,0 +1,4 @@
+-- What a client's lines tell of its commands.
+pub mod Standing
+pub mod StandingLaws
+pub mod MoveLaws
