@@ -6,3 +6,4 @@ pub mod did;
 pub mod letter;
 pub mod request;
 pub mod target;
+pub mod world;

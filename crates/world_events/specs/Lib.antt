@@ -1,0 +1,3 @@
+-- The events of a run.
+pub mod Letters
+pub mod Events
