@@ -1,6 +1,7 @@
 -- What a client's attempts were answered, and how that goes with their ends.
 use Rattle.std.specs.Prelude.{ℕ, ◌≡◌, ◌⊎◌, ◌+◌, Bool, true, false, List, [], ◌∷◌, map, take, slice_get, All, Option, Some, None}
 use Rattle.daos_base.specs.declared.operation.Op.{Op}
+use Rattle.daos_base.specs.declared.operation.Read.{Read}
 use Rattle.daos_base.specs.declared.outcome.Outcome.{Outcome}
 use Rattle.daos_base.specs.declared.outcome.Outcome.TheVariants as outcome
 use Rattle.daos_base.specs.declared.report.Attempt.{Attempt}
@@ -15,7 +16,7 @@ use Rattle.world_base.specs.declared.client.ClientState.{ClientState}
 use Rattle.world_base.specs.declared.client.Present.{Present}
 use Rattle.world_base.specs.declared.client.Stage.{Stage}
 use Rattle.world_base.specs.declared.client.Stage.TheVariants as stage
-use Rattle.world_base.specs.ClientTurns.{command_at, op_of}
+use Rattle.world_base.specs.ClientTurns.{about, attempt_id, command_at, is_about, question}
 
 -- the operations of the command of this number
 abbrev pub ops_numbered : ClientPlan → ℕ → List Op
@@ -77,12 +78,25 @@ is_refusal outcome.EpochsSpent = true
 is_refusal outcome.NoSnapshot = true
 is_refusal (outcome.Unknown target) = true
 
-abbrev pub IsReplyFit : Reply → Type 0
-IsReplyFit (reply.Answer b) = Unit {0}
-IsReplyFit (reply.Outcome how) = is_refusal how ≡ true
+-- the attempt asks something at its stage
+pub record IsAsking (ops : List Op) (a : Present) : Type 0 where
+  pub op : Op
+  pub read : Read
+  pub at : slice_get ops a.op ≡ Some op
+  pub asks : question a.stage op ≡ Some read
 
--- a read ends in a refusal alone; an attempt ends as committed behind its last operation alone
+abbrev pub IsReplyFit : List Op → Present → Reply → Type 0
+IsReplyFit ops a (reply.Answer b) = IsAsking ops a
+IsReplyFit ops a (reply.Outcome how) = is_refusal how ≡ true
+
+-- an answer comes to what was asked, and a read ends in a refusal alone; an attempt ends as committed behind its last
+-- operation alone
 abbrev pub IsFit : ClientPlan → ClientState → Present → Message → Type 0
-IsFit p c a (message.Fetched x op group e b) = IsReplyFit b
+IsFit p c a (message.Fetched x op group e b) = IsReplyFit (ops_here p c) a b
 IsFit p c a (message.Ended x e how) = (is_refusal how ≡ true) ⊎ ((how ≡ outcome.Committed) × (slice_get (ops_here p c) a.op ≡ None))
 IsFit p c a m = Unit {0}
+
+-- a message that is about the attempt which a client waits with is fit to it
+abbrev pub IsFitHere : ClientPlan → ClientState → Message → Option Present → Type 0
+IsFitHere p c m None = Unit {0}
+IsFitHere p c m (Some a) = a.waits ≡ true → is_about (attempt_id p c a) (about m) ≡ true → IsFit p c a m
