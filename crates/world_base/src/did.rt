@@ -1,0 +1,18 @@
+// What follows from a turn.
+use daos_base::epoch::Epoch;
+use daos_base::id::AttemptId;
+use daos_base::items::Items;
+use daos_base::report::Lines;
+use daos_messages::message::Posts;
+
+/// Attempts with the epochs that were issued to them, in the order of issuing.
+pub type Issues = Items<(AttemptId, Epoch)>;
+
+/// What follows from an actor's turn: the messages that it sends, the lines of the report that it
+/// adds, and the epoch that it issued, with its attempt, if it issued one.
+#[derive(Debug, Drop)]
+pub struct Did {
+    pub posts: Posts,
+    pub lines: Lines,
+    pub issued: Option<(AttemptId, Epoch)>,
+}

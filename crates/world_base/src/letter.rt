@@ -1,0 +1,26 @@
+// Messages on their way.
+
+use daos_base::items::{Items, Memory, TryCopy};
+use daos_messages::actor::ActorId;
+use daos_messages::message::Message;
+
+/// A message on its way from one actor to another.
+#[derive(Debug, Drop)]
+pub struct Letter {
+    pub from: ActorId,
+    pub to: ActorId,
+    pub message: Message,
+}
+
+impl TryCopy for Letter {
+    fn copy(&self) -> Result<Letter, Memory> {
+        Ok(Letter {
+            from: self.from,
+            to: self.to,
+            message: self.message.copy()?,
+        })
+    }
+}
+
+/// Letters, in the order in which they were sent.
+pub type Letters = Items<Letter>;

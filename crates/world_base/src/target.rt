@@ -1,0 +1,47 @@
+// What a target is at a moment.
+use daos_base::epoch::{Epoch, TargetId};
+use daos_base::items::Items;
+use daos_base::outcome::FloorWhy;
+use daos_base::shown::Shown;
+use daos_messages::message::AttemptIds;
+use daos_model::durable::Durable;
+
+/// What a target is made for: its number, the number of targets, and what the clocks leave
+/// uncertain, in ticks.
+#[derive(Clone, Copy, Debug, PartialEq, Eq)]
+pub struct TargetPlan {
+    pub me: TargetId,
+    pub targets: u8,
+    pub epsilon: u32,
+}
+
+/// Whether a target runs, is stopped, or is given up.
+#[derive(Clone, Copy, Debug, PartialEq, Eq)]
+pub enum Life {
+    Running,
+    Stopped,
+    Down,
+}
+
+/// Reads that were served, each with its attempt, epoch and path.
+pub type Reads = Items<Shown>;
+
+/// What a target knows until it stops: its clock's ticks, the reads that it served, and the decided
+/// attempts that it leads and hasn't settled, in the order of attempts.
+#[derive(Debug, Drop)]
+pub struct TargetMemory {
+    pub ticks: u64,
+    pub stamps: Reads,
+    pub decided: AttemptIds,
+}
+
+/// A target: what it keeps, its free blocks, whether it runs, and what it knows while it does.
+#[derive(Debug, Drop)]
+pub struct TargetState {
+    pub durable: Durable,
+    pub free: u32,
+    /// The floor that its last opening set, and what it was set for.
+    pub opening: (Epoch, FloorWhy),
+    pub life: Life,
+    pub memory: TargetMemory,
+}

@@ -1,0 +1,32 @@
+// The world of a run at a moment.
+use crate::client::ClientState;
+use crate::did::Issues;
+use crate::letter::Letters;
+use crate::target::TargetState;
+use daos_base::items::Items;
+use daos_base::report::Lines;
+
+/// The targets, in the order of their numbers.
+pub type TargetStates = Items<TargetState>;
+
+/// The clients, in the order of their numbers.
+pub type ClientStates = Items<ClientState>;
+
+/// The numbers of the restart and the aggregation that come next.
+#[derive(Clone, Copy, Debug, PartialEq, Eq)]
+pub struct Numbers {
+    pub restarts: u32,
+    pub aggregates: u32,
+}
+
+/// All that a run has at a moment: its targets, its clients, the messages in flight in the order in
+/// which they were sent, the epochs issued, the numbers that come next, and the lines so far.
+#[derive(Debug, Drop)]
+pub struct World {
+    pub targets: TargetStates,
+    pub clients: ClientStates,
+    pub messages: Letters,
+    pub issued: Issues,
+    pub numbers: Numbers,
+    pub lines: Lines,
+}

@@ -1,0 +1,2 @@
+// What a client's lines tell of its commands: laws over every turn of a client.
+#![tactic(auto)]

@@ -1,0 +1,79 @@
+-- Epochs: each attempt has at most one, no two have the same, and those of a client rise.
+use Rattle.std.specs.Prelude.{ℕ, ◌≡◌, ◌≤◌, ◌<◌, ◌/◌, ◌%◌, ◌⊎◌, Bool, true, false, List, [], ◌∷◌, Contains, slice_get, Option, Some, None}
+use Rattle.daos_base.specs.declared.epoch.Epoch.{Epoch}
+use Rattle.daos_base.specs.declared.id.AttemptId.{AttemptId}
+use Rattle.daos_base.specs.declared.report.Attempt.{Attempt}
+use Rattle.daos_base.specs.declared.script.Script.{Script}
+use Rattle.daos_messages.specs.declared.message.Message.{Message}
+use Rattle.daos_messages.specs.declared.message.Message.TheVariants as message
+use Rattle.daos_model.specs.Attempts.{has_own_epoch, is_unsure, tries, tries_of}
+use Rattle.daos_model.specs.Order.{AllRise, told_by}
+use Rattle.world_base.specs.declared.client.ClientState.{ClientState}
+use Rattle.world_base.specs.declared.client.Present.{Present}
+use Rattle.world_base.specs.declared.letter.Letter.{Letter}
+use Rattle.world_base.specs.declared.target.TargetState.{TargetState}
+use Rattle.world_base.specs.declared.target.Life.TheVariants.{Running}
+use Rattle.world_base.specs.declared.world.World.{World}
+use Rattle.world_base.specs.ClientTurns.{attempt_id}
+use Rattle.world_events.specs.Events.{Rules, client_plan}
+
+-- an epoch was issued to an attempt
+abbrev pub IsIssued : World → AttemptId → Epoch → Type 0
+IsIssued w x e = Contains w.issued (x, e)
+
+-- the client of an attempt is at it
+pub record IsPresent (r : Rules) (w : World) (x : AttemptId) : Type 0 where
+  pub c : ClientState
+  pub a : Present
+  pub here : slice_get w.clients x.client ≡ Some c
+  pub at : c.present ≡ Some a
+  pub own : attempt_id (client_plan r x.client) c a ≡ x
+
+-- a line tells of an attempt with an epoch
+abbrev pub HasLine : World → AttemptId → Epoch → Type 0
+HasLine w x e = (a : Attempt) × Contains (tries w.lines) a × (a.id ≡ x) × (a.epoch ≡ Some e)
+
+-- a client was told an epoch: its own, by a line of an attempt of which it is known what became; or one in a cause
+pub data IsTold (r : Rules) (w : World) (n : ℕ) (e : ℕ) : Type 0 where
+  ItsOwn : (a : Attempt) → Contains (tries_of n w.lines) a → (own : Epoch) → a.epoch ≡ Some own → has_own_epoch r.script a ≡ true → is_unsure a ≡ false → own.0 ≡ e → IsTold r w n e
+  InCause : (a : Attempt) → Contains (tries_of n w.lines) a → Contains (told_by a.outcome) e → IsTold r w n e
+
+-- a request for which an epoch is to be issued, after this tracker
+abbrev pub AsksEpoch : Message → AttemptId → Epoch → Type 0
+AsksEpoch (message.Fetch x op group None first tracker r snapshot) y k = (x ≡ y) × (tracker ≡ k)
+AsksEpoch (message.Commit x None first tracker ws) y k = (x ≡ y) × (tracker ≡ k)
+AsksEpoch m y k = ⊥
+
+-- a message that bears an attempt's own epoch
+abbrev pub BearsEpoch : Message → AttemptId → Epoch → Type 0
+BearsEpoch (message.Fetch x op group (Some own) first tracker r false) y e = (x ≡ y) × (own ≡ e)
+BearsEpoch (message.Fetched x op group (Some own) b) y e = (x ≡ y) × (own ≡ e)
+BearsEpoch (message.Commit x (Some own) first tracker ws) y e = (x ≡ y) × (own ≡ e)
+BearsEpoch (message.Ended x (Some own) how) y e = (x ≡ y) × (own ≡ e)
+BearsEpoch m y e = ⊥
+
+-- of a run whose opening's epochs are all at or below `top`; snapshots aren't read in it
+pub record Epochs (r : Rules) (top : ℕ) (w : World) : Type 0 where
+  pub one : (x : AttemptId) (e f : Epoch) → IsIssued w x e → IsIssued w x f → e ≡ f
+  pub apart : (x y : AttemptId) (e : Epoch) → IsIssued w x e → IsIssued w y e → x ≡ y
+  pub above : (x : AttemptId) (e : Epoch) → IsIssued w x e → top < e.0
+  -- the target that issued an epoch is there; its lease covers it, and, while it runs, so do its ticks
+  pub issuer : (x : AttemptId) (e : Epoch) → IsIssued w x e → (s : TargetState) × (slice_get w.targets (e.0 % 256) ≡ Some s)
+  pub leased : (x : AttemptId) (e : Epoch) (s : TargetState) → IsIssued w x e → slice_get w.targets (e.0 % 256) ≡ Some s → e.0 / 256 ≤ s.durable.lease
+  pub ticks : (x : AttemptId) (e : Epoch) (s : TargetState) → IsIssued w x e → slice_get w.targets (e.0 % 256) ≡ Some s → s.life ≡ Running → e.0 / 256 ≤ s.memory.ticks
+  -- an attempt with an epoch is present, or has its line
+  pub line : (x : AttemptId) (e : Epoch) → IsIssued w x e → IsPresent r w x ⊎ HasLine w x e
+  -- an attempt for which an epoch is asked has none yet, and the tracker that goes with it covers what its client was told
+  pub fresh : (l : Letter) (x : AttemptId) (k : Epoch) → Contains w.messages l → AsksEpoch l.message x k
+      → IsPresent r w x × ((e : Epoch) → IsIssued w x e → ⊥) × (top ≤ k.0) × ((e : ℕ) → IsTold r w x.client e → e ≤ k.0)
+  -- epochs that go about are those that were issued
+  pub borne : (l : Letter) (x : AttemptId) (e : Epoch) → Contains w.messages l → BearsEpoch l.message x e → IsIssued w x e
+  pub known : (n : ℕ) (c : ClientState) (a : Present) (e : Epoch) → slice_get w.clients n ≡ Some c → c.present ≡ Some a → a.epoch ≡ Some e → IsIssued w (attempt_id (client_plan r n) c a) e
+  pub trackers : (n : ℕ) (c : ClientState) → slice_get w.clients n ≡ Some c → (top ≤ c.tracker.0) × ((e : ℕ) → IsTold r w n e → e ≤ c.tracker.0)
+  -- the epoch of a present attempt is above all that its client was told before
+  pub rises : (x : AttemptId) (e : Epoch) (f : ℕ) → IsPresent r w x → IsIssued w x e → IsTold r w x.client f → f < e.0
+  -- of two attempts of a command the later has the greater epoch
+  pub same_command : (x y : AttemptId) (e f : Epoch) → IsIssued w x e → IsIssued w y f → x.client ≡ y.client → x.command ≡ y.command → y.attempt < x.attempt → f.0 < e.0
+  -- lines show the epochs that were issued, and those of a client rise
+  pub shown : (a : Attempt) (e : Epoch) → Contains (tries w.lines) a → a.epoch ≡ Some e → IsIssued w a.id e
+  pub risen : AllRise r.script w.lines

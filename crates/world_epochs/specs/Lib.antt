@@ -1,0 +1,2 @@
+-- Epochs that are issued, and what shows them.
+pub mod Epochs

@@ -1,0 +1,5 @@
+-- The events of a run.
+pub mod Letters
+pub mod Events
+pub mod Steps
+pub mod StepLaws

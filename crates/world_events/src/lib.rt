@@ -1,0 +1,2 @@
+// The events of a run: one actor's turn each.
+#![tactic(auto)]

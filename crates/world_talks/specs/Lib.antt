@@ -1,0 +1,2 @@
+-- What is in flight between clients and targets.
+pub mod Conversation
