@@ -18,4 +18,5 @@ pub mod PruneMatchLaws
 pub mod ServeLaws
 pub mod Targets
 pub mod TargetLaws
+pub mod AkeyLaws
 pub mod StandLaws

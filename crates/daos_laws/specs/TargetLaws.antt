@@ -98,7 +98,7 @@ member-has : (p : Path) (o : ObjId) (k : List ℕ) (targets t : ℕ) → p.obj �
 member-has p o k targets t obj dkey i =
     elim (has-cases (members o (group_of o.class k targets) targets) [] t (subst (Has t) (dkey-members p o k targets obj dkey) i)) [ inl j ↦ j | inr j ↦ absurd j ]
 
-has-member : (p : Path) (o : ObjId) (k : List ℕ) (targets t : ℕ) → p.obj ≡ Some o → p.dkey ≡ Some k → Has t (members o (group_of o.class k targets) targets) → Has t (path_members p targets)
+pub has-member : (p : Path) (o : ObjId) (k : List ℕ) (targets t : ℕ) → p.obj ≡ Some o → p.dkey ≡ Some k → Has t (members o (group_of o.class k targets) targets) → Has t (path_members p targets)
 has-member p o k targets t obj dkey i = subst (Has t) (sym (dkey-members p o k targets obj dkey)) (has-left (members o (group_of o.class k targets) targets) [] t i)
 
 update-dkey : (w : Write) → is_punch w ≡ false → is_write_in_form w ≡ true → is_some (write_path w).dkey ≡ true
@@ -192,10 +192,10 @@ value-filter q (v ∷ m) c = by (q v.cell) (same_cell v.cell c) (q c) refl refl 
     by false false true e f g h = h
     by false false false e f g h = h
 
-abbrev is_led : ℕ → ℕ → Cell → Bool
+abbrev pub is_led : ℕ → ℕ → Cell → Bool
 is_led targets t c = path_leader c.path targets == t
 
-led-part : (targets t : ℕ) (m : List CellValue) (c : Cell) (b : Bool) → is_led targets t c ≡ b → value_at (filter (is_led_by targets t) m) c ≡ (if b then value_at m c else None)
+pub led-part : (targets t : ℕ) (m : List CellValue) (c : Cell) (b : Bool) → is_led targets t c ≡ b → value_at (filter (is_led_by targets t) m) c ≡ (if b then value_at m c else None)
 led-part targets t m c b e = value-filter (is_led targets t) m c ∙ ap (λ x. if x then value_at m c else None) e
 
 not_led : (targets t : ℕ) (c : Cell) → path_leader c.path targets < t ⊎ t < path_leader c.path targets → is_led targets t c ≡ false
@@ -276,7 +276,7 @@ families-give F p opening all e c gives own some =
     family-leaders F (counts_under p e) c f.0 f.1 ∙ gives (path_leader c.path (length F)) f.0 f.1 c own
 
 -- a member of a cell with a dkey has it as its own
-own-from_member : (c : Cell) (targets t : ℕ) → is_some c.path.dkey ≡ true → Contains (path_members c.path targets) t → is_own targets t c ≡ true
+pub own-from_member : (c : Cell) (targets t : ℕ) → is_some c.path.dkey ≡ true → Contains (path_members c.path targets) t → is_own targets t c ≡ true
 own-from_member c targets t dkey i =
     both (is_some c.path.dkey) (list_any (is_target t) (path_members c.path targets)) dkey
     (any-has (is_target t) (path_members c.path targets) t (has-from_contains (path_members c.path targets) t i) (same_number t))

@@ -1,5 +1,5 @@
 -- What each target holds of the map, and what all targets stand for together.
-use Rattle.std.specs.Prelude.{ℕ, ◌≡◌, ◌<◌, ◌==◌, Bool, true, ◌&&◌, is_some, All, List, [], length, Contains, slice_get, Some}
+use Rattle.std.specs.Prelude.{ℕ, ◌≡◌, ◌<◌, ◌==◌, Bool, true, false, ◌&&◌, is_some, All, List, [], length, Contains, slice_get, Some, None}
 use Rattle.std.specs.List.{list_all, list_any}
 use Rattle.daos_base.specs.declared.id.ObjId.{ObjId}
 use Rattle.daos_base.specs.declared.operation.Write.{Write}
@@ -7,6 +7,7 @@ use Rattle.daos_base.specs.declared.path.Path.{Path}
 use Rattle.daos_base.specs.Operations.{write_path}
 use Rattle.daos_base.specs.Placement.{ClassFits, groups, members, path_leader, path_members}
 use Rattle.daos_model.specs.declared.cell.Cell.{Cell}
+use Rattle.daos_model.specs.declared.cell.CellValue.{CellValue}
 use Rattle.daos_model.specs.declared.durable.Durable.{Durable}
 use Rattle.daos_model.specs.declared.durable.Version.{Version}
 use Rattle.daos_model.specs.declared.stand.Stand.{Stand}
@@ -15,7 +16,7 @@ use Rattle.daos_model.specs.Cells.{value_at}
 use Rattle.daos_model.specs.Durables.{is_version_in_form}
 use Rattle.daos_model.specs.Family.{Agree, AgreeOn, counts, family_map, map_where, stand}
 use Rattle.daos_model.specs.Finals.{SameMap}
-use Rattle.daos_model.specs.Forms.{is_write_in_form}
+use Rattle.daos_model.specs.Forms.{ends_at_akey, is_write_in_form}
 use Rattle.daos_model.specs.Prunes.{touches}
 use Rattle.daos_model.specs.Versions.{version_path}
 use Rattle.daos_laws.specs.Dated.{AreSingleInOrder, map_of}
@@ -95,6 +96,18 @@ FamiliesGiveAsOf =
     (F : List Durable) (p : Version → Bool) (opening : Stand) (all : List Decided) (e : ℕ) (c : Cell) → AllGiveAsOf F p opening all e
     → is_own (length F) (path_leader c.path (length F)) c ≡ true → 0 < length F
     → value_at (family_map (counts_under p e) F) c ≡ value_at (as_of opening (taken_in all) e) c
+
+-- a map holds nothing at a cell whose path doesn't end at an akey
+abbrev pub HasAkeys : List CellValue → Type 0
+HasAkeys m = (c : Cell) → ends_at_akey c.path ≡ false → value_at m c ≡ None
+
+-- so, of a family and of decided transactions whose writes are in form, the family's map is the map as of the epoch: no other cell
+-- holds anything in either
+abbrev pub FamiliesAreAsOf : Type 0
+FamiliesAreAsOf =
+    (F : List Durable) (p : Version → Bool) (opening : Stand) (all : List Decided) (e : ℕ) → 0 < length F → AllGiveAsOf F p opening all e
+    → ((d : Durable) → Contains F d → list_all is_version_in_form d.versions ≡ true) → HasAkeys opening.now
+    → ((d : Decided) → Contains all d → All (λ w. is_write_in_form w.write ≡ true) d.writes) → SameMap (family_map (counts_under p e) F) (as_of opening (taken_in all) e)
 
 abbrev pub FamiliesAgree : Type 0
 FamiliesAgree = (F : List Durable) (p : Version → Bool) (opening : Stand) (all : List Decided) (e : ℕ) → AllGiveAsOf F p opening all e → AgreeOn F (counts_under p e)

@@ -1,6 +1,6 @@
 -- What the calls of the rows ask, from what the calls before made.
-use Rattle.std.proofs.Common.{◌≡◌, ℕ, ◌+◌, ◌<◌, ◌≤◌, ◌^◌, Bool, true, false, ◌&&◌, List, [], ◌∷◌, Option, Some, None, Result, Ok, Err, length, refl, sym, ◌∙◌, ap, subst, arith}
-use Rattle.std.specs.Prelude.{◌≢◌, All, OnOk, nat_lt}
+use Rattle.std.proofs.Common.{◌≡◌, ℕ, ◌+◌, ◌<◌, ◌≤◌, ◌^◌, true, List, [], ◌∷◌, Option, Some, Result, Ok, Err, length, refl, sym, ◌∙◌, ap, subst, arith}
+use Rattle.std.specs.Prelude.{◌≢◌, OnOk, nat_lt}
 use Rattle.std.specs.Option.{ForSome, option_map}
 use Rattle.std.proofs.lemmas.Bool.Decides.{nat_tests}
 use Rattle.std.proofs.lemmas.Option.{same_Some}
@@ -10,7 +10,6 @@ use Rattle.daos_base.specs.declared.operation.Write.{Write}
 use Rattle.daos_base.specs.declared.operation.Write.TheVariants.{Single, Extent}
 use Rattle.daos_base.specs.declared.outcome.FloorWhy.TheVariants.{Opening}
 use Rattle.daos_base.specs.declared.path.Path.{Path}
-use Rattle.daos_base.specs.Operations.{write_path}
 use Rattle.daos_model.specs.declared.durable.Durable.{Durable}
 use Rattle.daos_model.specs.declared.durable.Version.{Version}
 use Rattle.daos_model.specs.BoolLaws.{both}
@@ -19,7 +18,7 @@ use Rattle.daos_model.specs.Durables.{entry_of, is_enlisted, row_of, same_attemp
 use Rattle.daos_model.specs.Forms.{is_length, is_read_in_form, is_write_in_form}
 use Rattle.daos_model.specs.Versions.{done_by, version_of, version_path}
 use Rattle.vos_store.specs.Answers.{floor_of}
-use Rattle.vos_store.specs.Calls.{Looks, State}
+use Rattle.vos_store.specs.Calls.{State}
 use Rattle.vos_store.specs.Conditions.{CanPrepare, CanPrune, CanWrite}
 use Rattle.vos_rows.specs.Rows.{IsHere, akey, alone, attempt, cont, entry, epoch, staged, started, written, written_twice}
 use Rattle.vos_rows.proofs.Made.{one_passes}

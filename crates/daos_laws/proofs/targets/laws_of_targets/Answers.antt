@@ -1,4 +1,5 @@
 use Rattle.daos_laws.specs.TargetLaws.{agreeing-hold, as_of-dkeys, as_of-set, families-agree, families-dkeys, families-give, family-leaders, members-parts, openings-match, own-here}
+use Rattle.daos_laws.specs.AkeyLaws.{families-same}
 use Rattle.daos_laws.proofs.targets.laws_of_targets.Goals as goal
 
 pub returns : goal.returns
@@ -10,6 +11,7 @@ returns c = record {
   here = own-here;
   openings = openings-match;
   give = families-give;
+  same = families-same;
   agree = families-agree;
   families = families-dkeys;
   dkeys = as_of-dkeys;

@@ -1,4 +1,4 @@
-use Rattle.std.proofs.Common.{◌≡◌, ◌∙◌, ap}
+use Rattle.std.proofs.Common.{◌∙◌, ap}
 use Rattle.std.specs.Option.{option_map}
 use Rattle.vos_rows.specs.Rows.{staged, started}
 use Rattle.vos_rows.proofs.Allowed.{enlisted-staged, enlisted_here, first_write}

@@ -1,4 +1,4 @@
-use Rattle.std.proofs.Common.{◌≡◌, ◌<◌, ◌≤◌, ◌+◌, ◌*◌, ◌∙◌, subst, sym, arith}
+use Rattle.std.proofs.Common.{◌≡◌, ◌<◌, ◌+◌, ◌*◌, ◌∙◌, subst, sym, arith}
 use Rattle.std.specs.Option.{ForSome, option_map}
 use Rattle.vos_store.specs.Conditions.{CanPrepare}
 use Rattle.vos_rows.specs.Rows.{alone, entry, staged}

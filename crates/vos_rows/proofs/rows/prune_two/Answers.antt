@@ -1,4 +1,4 @@
-use Rattle.std.proofs.Common.{◌≡◌, ◌∙◌, ◌∷◌, [], Some, ap, refl, sym}
+use Rattle.std.proofs.Common.{◌∙◌, ◌∷◌, [], ap, refl, sym}
 use Rattle.std.specs.Option.{option_map}
 use Rattle.daos_model.specs.Changes.{pruned}
 use Rattle.vos_rows.specs.Rows.{cont, epoch, written_twice}

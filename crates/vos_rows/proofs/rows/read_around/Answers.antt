@@ -1,4 +1,4 @@
-use Rattle.std.proofs.Common.{◌≡◌, ◌∙◌, ◌∷◌, [], ap}
+use Rattle.std.proofs.Common.{◌∙◌, ◌∷◌, [], ap}
 use Rattle.std.specs.Option.{option_map}
 use Rattle.vos_rows.specs.Rows.{started, written}
 use Rattle.vos_rows.proofs.Allowed.{enlisted-written, enlisted_at, extent_read, first_write}

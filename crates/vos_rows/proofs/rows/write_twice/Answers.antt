@@ -1,6 +1,6 @@
-use Rattle.std.proofs.Common.{◌≡◌, ◌∙◌, ap}
+use Rattle.std.proofs.Common.{◌∙◌, ap}
 use Rattle.std.specs.Option.{option_map}
-use Rattle.vos_rows.specs.Rows.{started, written}
+use Rattle.vos_rows.specs.Rows.{written}
 use Rattle.vos_rows.proofs.Allowed.{first_write, second_write, twice}
 use Rattle.vos_rows.proofs.rows.write_twice.Goals as goal
 

@@ -1,4 +1,4 @@
-use Rattle.std.proofs.Common.{◌≡◌, ◌+◌, ◌<◌, ◌^◌, ap, ◌∙◌, subst, sym, length}
+use Rattle.std.proofs.Common.{◌+◌, ◌<◌, ◌^◌, ap, ◌∙◌, subst, sym, length}
 use Rattle.daos_model.specs.Forms.{is_length}
 use Rattle.vos_rows.proofs.Allowed.{extent_here}
 use Rattle.vos_rows.proofs.steps.extent.Goals as goal

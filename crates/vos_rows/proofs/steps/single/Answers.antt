@@ -1,4 +1,4 @@
-use Rattle.std.proofs.Common.{◌≡◌, true, ap, ◌∙◌, length}
+use Rattle.std.proofs.Common.{ap, ◌∙◌, length}
 use Rattle.daos_model.specs.Forms.{is_length}
 use Rattle.vos_rows.proofs.Allowed.{single_here}
 use Rattle.vos_rows.proofs.steps.single.Goals as goal

@@ -1,4 +1,4 @@
-use Rattle.std.proofs.Common.{◌∷◌, [], false, subst, sym}
+use Rattle.std.proofs.Common.{false, subst, sym}
 use Rattle.vos_store.specs.Conditions.{CanPrepare}
 use Rattle.vos_rows.specs.Rows.{alone, epoch}
 use Rattle.vos_rows.proofs.Made.{preparable, staged_is}
