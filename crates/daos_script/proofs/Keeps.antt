@@ -1,12 +1,11 @@
 -- Each line keeps what was read a script in form so far, and at the end it is one.
-use Rattle.std.proofs.Common.{◌≡◌, ◌≤◌, ◌<◌, ◌*◌, ◌^◌, ℕ, ◌+◌, Bool, true, false, cond, List, [], ◌∷◌, ◌++◌, length, map, Some, None, Option, Result, Ok, Err, refl, sym, ap, subst, ◌∙◌, arith, All, is_some, ◌||◌}
-use Rattle.std.specs.List.{AllByRecursion, IsDistinct, list_all}
+use Rattle.std.proofs.Common.{◌≡◌, ◌≤◌, ◌<◌, ◌^◌, ℕ, ◌+◌, false, List, [], ◌∷◌, ◌++◌, length, map, Some, None, Option, Ok, refl, ap, subst, arith, is_some, ◌||◌}
+use Rattle.std.specs.List.{IsDistinct}
 use Rattle.std.proofs.lemmas.List.{length-append}
 use Rattle.std.proofs.lemmas.List.Elements.{All-from_recursion}
 use Rattle.daos_base.specs.Keys.{same_key}
-use Rattle.daos_base.specs.Scripts.{AreCommands, AreDeclared, IsInForm, old_snap}
+use Rattle.daos_base.specs.Scripts.{AreCommands, IsInForm, old_snap}
 use Rattle.daos_base.specs.declared.id.ContId.{ContId}
-use Rattle.daos_base.specs.declared.script.Script.{Script}
 use Rattle.daos_script_lines.specs.declared.line.Line.{Line}
 use Rattle.daos_script_lines.specs.declared.line.Line.TheVariants as line
 use Rattle.daos_script_lines.specs.Fits.{LineFits}
@@ -16,14 +15,12 @@ use Rattle.daos_script_words.specs.declared.decls.Decls.{Decls}
 use Rattle.daos_script_words.specs.Lookups.{old_named}
 use Rattle.daos_script_words.specs.Snaps.{is_snap}
 use Rattle.daos_script_lists.specs.declared.client.Client.{Client}
-use Rattle.daos_script_lists.specs.declared.present.Step.TheVariants as step
-use Rattle.daos_script_lists.specs.Clients.{skip_open}
 use Rattle.daos_script_lists.specs.Lists.{all_lists, lists_of, pending}
-use Rattle.daos_script_lists.specs.Steps.{tx_of, within_of}
+use Rattle.daos_script_lists.specs.Steps.{within_of}
 use Rattle.daos_script.specs.declared.reading.Reading.{Reading}
 use Rattle.daos_script.specs.Puts.{add_line, nothing_read}
 use Rattle.daos_script.specs.Readings.{bad_tell, script_with}
-use Rattle.daos_script.specs.SoFar.{AreHeads, IsBody, IsSoFar, IsState, IsStateAt, count_open, snap_name}
+use Rattle.daos_script.specs.SoFar.{AreHeads, IsBody, IsSoFar, IsStateAt, snap_name}
 use Rattle.daos_script.proofs.KeepsHeads.{keep_cont, keep_obj, keep_old, keep_stop, later}
 use Rattle.daos_script.proofs.KeepsLists.{keep_aggregate, keep_client, keep_do_at, keep_end, keep_op, keep_skip, keep_snap, keep_tell, keep_tx, whole_lists}
 use Rattle.daos_script.proofs.Tells.{all_told}

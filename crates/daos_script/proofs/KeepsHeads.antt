@@ -1,43 +1,31 @@
 -- Lines before the first client keep what was read a script in form so far.
-use Rattle.std.proofs.Common.{◌≡◌, ◌≤◌, ◌<◌, ◌*◌, ℕ, ◌+◌, Bool, true, false, cond, eqb, ◌&&◌, ◌||◌, not, List, [], ◌∷◌, ◌++◌, length, map, Some, None, Option, Result, Ok, Err, refl, sym, ap, subst, ◌∙◌, arith, All, Any, nat_eq, append_assoc, append-nil, is_some, is_none}
-use Rattle.std.specs.List.{AllByRecursion, IsDistinct}
+use Rattle.std.proofs.Common.{◌≡◌, ◌≤◌, ◌*◌, ℕ, ◌+◌, ◌||◌, List, [], ◌∷◌, ◌++◌, length, map, Some, None, Option, Ok, sym, ap, subst, ◌∙◌, arith, nat_eq, append-nil, is_some}
+use Rattle.std.specs.List.{IsDistinct}
 use Rattle.std.proofs.lemmas.Bool.{or_parts}
-use Rattle.std.proofs.lemmas.List.{length-append, map-append, get_or_append_left}
-use Rattle.std.proofs.lemmas.List.Elements.{All-push, All-from_recursion}
+use Rattle.std.proofs.lemmas.List.{length-append, map-append}
+use Rattle.std.proofs.lemmas.List.Elements.{All-push}
 use Rattle.daos_base.specs.Keys.{same_key}
-use Rattle.daos_base.specs.Scripts.{AreCommands, IsCommand, IsContOf, IsOpInForm, IsPlainReadIn, IsStop, IsTransaction, ReadsAt, SnapName, all_snaps, cont_name, cont_number, count_numbered, is_fetch, is_numbered, obj_name, old_snap, same_declared, snap_of, snaps_of}
-use Rattle.daos_base.specs.Operations.{act_path}
+use Rattle.daos_base.specs.Scripts.{IsContOf, IsStop, SnapName, all_snaps, cont_name, cont_number, obj_name, old_snap, same_declared}
 use Rattle.daos_base.specs.Placement.{ClassFits}
 use Rattle.daos_base.specs.declared.fault.Why.TheVariants.{BadBlock}
-use Rattle.daos_base.specs.declared.id.ContId.{ContId}
-use Rattle.daos_base.specs.declared.operation.Cond.{Cond}
-use Rattle.daos_base.specs.declared.operation.Cond.TheVariants.{Free, Must, MustNot}
-use Rattle.daos_base.specs.declared.operation.Op.{Op}
 use Rattle.daos_base.specs.declared.script.Command.{Command}
-use Rattle.daos_base.specs.declared.script.Command.TheVariants as command
 use Rattle.daos_base.specs.declared.script.ContDecl.{ContDecl}
 use Rattle.daos_base.specs.declared.script.ObjDecl.{ObjDecl}
 use Rattle.daos_base.specs.declared.script.OldDecl.{OldDecl}
 use Rattle.daos_base.specs.declared.script.StopDecl.{StopDecl}
 use Rattle.daos_names.specs.Names.{named}
 use Rattle.daos_text.specs.Results.{◌>>=◌}
-use Rattle.daos_script_words.specs.declared.decls.Decls.{Decls}
-use Rattle.daos_script_words.specs.Decls.{room, with_cont, with_obj, with_old, with_own, with_stop}
-use Rattle.daos_script_words.specs.Lookups.{cont_named, obj_named, old_named, has_cont, has_obj}
-use Rattle.daos_script_words.specs.Reads.{Read}
-use Rattle.daos_script_words.specs.Snaps.{is_snap, snap_named}
-use Rattle.daos_script_words.proofs.Known.{entry_named, old_is_known}
-use Rattle.daos_script_lines.specs.declared.line.At.{At}
-use Rattle.daos_script_lines.specs.declared.line.Line.{Line}
-use Rattle.daos_script_lines.specs.declared.line.Line.TheVariants as line
-use Rattle.daos_script_lines.specs.Fits.{AtFits, ContFits, DoAtFits, LineFits, ObjFits, OldFits, OpFits, SnapFits}
+use Rattle.daos_script_words.specs.Decls.{with_cont, with_obj, with_old, with_stop}
+use Rattle.daos_script_words.specs.Lookups.{old_named}
+use Rattle.daos_script_words.specs.Snaps.{is_snap}
+use Rattle.daos_script_lines.specs.Fits.{ContFits, ObjFits, OldFits}
 use Rattle.daos_script_lists.specs.declared.client.Client.{Client}
 use Rattle.daos_script_lists.specs.Lists.{lists_of}
 use Rattle.daos_script.specs.declared.reading.Reading.{Reading}
 use Rattle.daos_script.specs.Puts.{put_cont, put_obj, put_old, put_stop}
-use Rattle.daos_script.specs.SoFar.{AreHeads, AreLists, IsBody, IsOpen, IsStateAt, IsState, IsTx, TxReads, count_open, snap_name, snaps_now}
+use Rattle.daos_script.specs.SoFar.{IsBody, IsStateAt, snap_name}
 use Rattle.daos_script.proofs.Binds.{bind_ok, none_of, ok_is, room_ok, unless_ok}
-use Rattle.daos_script.proofs.Lists.{AreCommands-append, IsDistinct-push, all_append, all_push, all_snaps-push, any_after, any_more, cont_is_new, count_numbered-push, entry_new, id_is_new, obj_is_new, object_is_new, old_is_new, pushed, snaps_of-append}
+use Rattle.daos_script.proofs.Lists.{IsDistinct-push, any_more, cont_is_new, id_is_new, obj_is_new, object_is_new, old_is_new, pushed}
 
 -- ---- before the first client
 

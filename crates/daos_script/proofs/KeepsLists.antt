@@ -1,15 +1,14 @@
 -- Lines in the list of a client keep what was read a script in form so far.
-use Rattle.std.proofs.Common.{count_by, ◌≡◌, ◌≤◌, ◌<◌, ◌*◌, ℕ, ◌+◌, Bool, true, false, cond, eqb, ◌&&◌, ◌||◌, not, List, [], ◌∷◌, ◌++◌, length, map, Some, None, Option, Result, Ok, Err, refl, sym, ap, subst, ◌∙◌, arith, All, Any, nat_eq, append_assoc, append-nil, is_some, is_none}
+use Rattle.std.proofs.Common.{count_by, ◌≡◌, ◌≤◌, ◌<◌, ◌*◌, ℕ, ◌+◌, Bool, true, false, cond, eqb, ◌&&◌, ◌||◌, not, List, [], ◌∷◌, ◌++◌, length, map, Some, None, Option, Ok, refl, sym, ap, subst, ◌∙◌, arith, Any, append_assoc, append-nil, is_some, is_none}
 use Rattle.std.specs.List.{AllByRecursion, IsDistinct}
 use Rattle.std.proofs.lemmas.Bool.{or_parts}
 use Rattle.std.proofs.lemmas.Bool.Decides.{nat_tests}
-use Rattle.std.proofs.lemmas.List.{length-append, map-append, get_or_append_left}
+use Rattle.std.proofs.lemmas.List.{length-append, map-append}
 use Rattle.std.proofs.lemmas.List.Sums.{sum_by-append}
-use Rattle.std.proofs.lemmas.List.Elements.{All-push, All-from_recursion}
+use Rattle.std.proofs.lemmas.List.Elements.{All-from_recursion}
 use Rattle.daos_base.specs.Keys.{same_key}
-use Rattle.daos_base.specs.Scripts.{AreCommands, IsCommand, IsContOf, IsOpInForm, IsPlainReadIn, IsStop, IsTransaction, ReadsAt, SnapName, all_snaps, cont_name, cont_number, count_numbered, is_fetch, is_numbered, obj_name, old_snap, same_declared, snap_of, snaps_of}
+use Rattle.daos_base.specs.Scripts.{AreCommands, IsCommand, IsContOf, IsOpInForm, IsPlainReadIn, IsTransaction, ReadsAt, SnapName, all_snaps, is_fetch, is_numbered, old_snap, snap_of, snaps_of}
 use Rattle.daos_base.specs.Operations.{act_path}
-use Rattle.daos_base.specs.Placement.{ClassFits}
 use Rattle.daos_base.specs.declared.fault.Why.TheVariants.{BadBlock}
 use Rattle.daos_base.specs.declared.id.ContId.{ContId}
 use Rattle.daos_base.specs.declared.operation.Cond.{Cond}
@@ -19,21 +18,16 @@ use Rattle.daos_base.specs.declared.script.Command.{Command}
 use Rattle.daos_base.specs.declared.script.Command.TheVariants as command
 use Rattle.daos_base.specs.declared.script.ContDecl.{ContDecl}
 use Rattle.daos_base.specs.declared.script.ObjDecl.{ObjDecl}
-use Rattle.daos_base.specs.declared.script.OldDecl.{OldDecl}
-use Rattle.daos_base.specs.declared.script.StopDecl.{StopDecl}
 use Rattle.daos_names.specs.Names.{named}
 use Rattle.daos_text.specs.Results.{◌>>=◌}
 use Rattle.daos_script_words.specs.declared.decls.Decls.{Decls}
-use Rattle.daos_script_words.specs.Decls.{room, with_cont, with_obj, with_old, with_own, with_stop}
-use Rattle.daos_script_words.specs.Lookups.{cont_named, obj_named, old_named, has_cont, has_obj}
-use Rattle.daos_script_words.specs.Reads.{Read}
+use Rattle.daos_script_words.specs.Decls.{room, with_own}
+use Rattle.daos_script_words.specs.Lookups.{old_named}
 use Rattle.daos_script_words.specs.Snaps.{is_snap, or_else, snap_named}
 use Rattle.daos_script_words.proofs.Known.{entry_named, old_is_known}
 use Rattle.daos_script_lines.specs.declared.line.At.{At}
-use Rattle.daos_script_lines.specs.declared.line.Line.{Line}
-use Rattle.daos_script_lines.specs.declared.line.Line.TheVariants as line
 use Rattle.daos_script_lines.specs.Ops.{PathFits}
-use Rattle.daos_script_lines.specs.Fits.{AtFits, ContFits, DoAtFits, LineFits, ObjFits, OldFits, OpFits, SnapFits}
+use Rattle.daos_script_lines.specs.Fits.{AtFits, DoAtFits, OpFits, SnapFits}
 use Rattle.daos_script_lists.specs.declared.client.Client.{Client}
 use Rattle.daos_script_lists.specs.declared.lists.Lists.{Lists}
 use Rattle.daos_script_lists.specs.declared.lists.Told.{Told}
@@ -42,14 +36,13 @@ use Rattle.daos_script_lists.specs.declared.present.Step.{Step}
 use Rattle.daos_script_lists.specs.declared.present.Step.TheVariants as step
 use Rattle.daos_script_lists.specs.declared.tx.Tx.{Tx}
 use Rattle.daos_script.specs.declared.reading.Reading.{Reading}
-use Rattle.daos_script_lists.specs.Clients.{client_command, client_end, client_op, client_skip, client_tx, command_in, command_of, cont_of, ended_tx, is_barred, is_free, is_plain, lone, may_add, name_of, op_in, skip_in, skip_open, tx_begun, tx_in, tx_op, tx_pushed, within_tx}
+use Rattle.daos_script_lists.specs.Clients.{client_command, client_end, client_op, client_skip, client_tx, command_in, command_of, cont_of, ended_tx, is_barred, is_free, lone, may_add, name_of, op_in, skip_in, skip_open, tx_begun, tx_in, tx_op, tx_pushed, within_tx}
 use Rattle.daos_script_lists.specs.Lists.{lists_of, next_client, next_list, one_step, told_by, with_tell}
 use Rattle.daos_script_lists.specs.Steps.{begun, counted, step_command, step_end, step_op, step_skip, step_tx, tx_of, with_step, within_of}
 use Rattle.daos_script.specs.Puts.{put_client, put_do_at, put_snap, put_step, put_tell}
-use Rattle.daos_script.specs.SoFar.{AreHeads, AreKept, AreLists, IsKept, IsBody, IsOpen, IsStateAt, IsState, IsTx, TxReads, count_open, snap_name, snaps_now}
-use Rattle.daos_script.proofs.KeepsHeads.{later}
+use Rattle.daos_script.specs.SoFar.{IsKept, IsBody, IsOpen, IsStateAt, IsState, IsTx, TxReads, count_open, snap_name}
 use Rattle.daos_script.proofs.Binds.{begun_ok, bind_ok, counted_ok, none_of, ok_is, room_left, room_ok, unless_ok}
-use Rattle.daos_script.proofs.Lists.{AreCommands-append, IsDistinct-push, all_append, all_push, all_snaps-push, any_after, any_more, cont_is_new, count_numbered-push, entry_new, id_is_new, obj_is_new, object_is_new, old_is_new, pushed, snaps_of-append}
+use Rattle.daos_script.proofs.Lists.{AreCommands-append, IsDistinct-push, all_append, all_push, all_snaps-push, any_after, any_more, count_numbered-push, entry_new, old_is_new, pushed, snaps_of-append}
 use Rattle.daos_script.proofs.Tells.{all_kept-parts, all_kept-push, more_kept, numbered_kept, own_kept}
 
 -- a snapshot that may be read, if one is given

@@ -1,5 +1,5 @@
 -- Lists with one item more: names that stay distinct, commands, and what they make and count.
-use Rattle.std.proofs.Common.{◌≡◌, ◌≤◌, ℕ, ◌+◌, Bool, true, false, cond, eqb, ◌&&◌, List, [], ◌∷◌, ◌++◌, length, map, get_or, Some, None, Option, refl, sym, ap, subst, ◌∙◌, arith, All, Any, nat_eq, add-one, append_assoc, append-nil, add_assoc, count_by}
+use Rattle.std.proofs.Common.{◌≡◌, ℕ, ◌+◌, Bool, true, false, cond, eqb, ◌&&◌, List, [], ◌∷◌, ◌++◌, map, Some, None, refl, sym, ap, subst, ◌∙◌, arith, Any, nat_eq, add-one, append_assoc, append-nil, count_by}
 use Rattle.std.specs.List.{list_any, AllByRecursion, IsDistinct}
 use Rattle.std.specs.Str.{bytes_eq}
 use Rattle.std.proofs.lemmas.Bool.{or_parts}
@@ -7,9 +7,8 @@ use Rattle.std.proofs.lemmas.List.{get_or_append_left, length-append, map-append
 use Rattle.std.proofs.lemmas.Slice.Eq.{bytes_eq-Decides}
 use Rattle.daos_base.specs.Keys.{same_key}
 use Rattle.daos_base.specs.Paths.{same_object}
-use Rattle.daos_base.specs.Scripts.{AreCommands, IsCommand, SnapName, all_snaps, cont_name, cont_number, count_numbered, is_numbered, obj_name, old_snap, same_declared, snap_of, snaps_of}
+use Rattle.daos_base.specs.Scripts.{AreCommands, SnapName, all_snaps, cont_name, cont_number, count_numbered, is_numbered, obj_name, old_snap, same_declared, snap_of, snaps_of}
 use Rattle.daos_base.specs.declared.id.ContId.{ContId}
-use Rattle.daos_base.specs.declared.id.ObjId.{ObjId}
 use Rattle.daos_base.specs.declared.script.Command.{Command}
 use Rattle.daos_base.specs.declared.script.ContDecl.{ContDecl}
 use Rattle.daos_base.specs.declared.script.ObjDecl.{ObjDecl}

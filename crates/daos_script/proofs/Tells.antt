@@ -1,10 +1,9 @@
 -- Commands by which a client tells another one, and the lines from `tell`.
-use Rattle.std.proofs.Common.{◌≡◌, ◌≤◌, ◌<◌, ℕ, ◌+◌, suc, Bool, true, false, cond, eqb, leb, ◌||◌, List, [], ◌∷◌, ◌++◌, length, get_or, Option, Some, None, refl, sym, ap, subst, ◌∙◌, arith, All, Any, find}
+use Rattle.std.proofs.Common.{◌≡◌, ◌<◌, ℕ, ◌+◌, suc, Bool, true, false, cond, eqb, leb, List, [], ◌∷◌, ◌++◌, length, Some, None, refl, sym, subst, ◌∙◌, arith, All, find}
 use Rattle.std.specs.List.{AllByRecursion}
 use Rattle.std.specs.Option.{option_map}
 use Rattle.std.proofs.lemmas.Bool.{or_parts}
 use Rattle.std.proofs.lemmas.Bool.Decides.{nat_tests}
-use Rattle.std.proofs.lemmas.List.{length-append}
 use Rattle.std.proofs.lemmas.List.Elements.{All-from_recursion}
 use Rattle.daos_base.specs.Scripts.{AreTold, IsTold, is_numbered}
 use Rattle.daos_base.specs.declared.script.Command.{Command}
@@ -12,7 +11,7 @@ use Rattle.daos_base.specs.declared.script.Command.TheVariants as command
 use Rattle.daos_script_lists.specs.declared.lists.Told.{Told}
 use Rattle.daos_script.specs.Readings.{bad_tell, is_bad}
 use Rattle.daos_script.specs.SoFar.{AreKept, IsKept}
-use Rattle.daos_script.proofs.Lists.{all_append, any_after, any_more}
+use Rattle.daos_script.proofs.Lists.{any_after, any_more}
 
 -- ---- lists of commands
 

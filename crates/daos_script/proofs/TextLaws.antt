@@ -1,16 +1,15 @@
 -- What holds of all texts.
-use Rattle.std.proofs.Common.{◌≡◌, ◌≢◌, ◌≤◌, ◌<◌, ℕ, ◌+◌, Bool, true, false, cond, eqb, ltb, List, [], ◌∷◌, ◌++◌, length, take, count_by, Option, Some, None, Result, Ok, Err, refl, sym, ap, subst, ◌∙◌, arith}
+use Rattle.std.proofs.Common.{◌≡◌, ◌≢◌, ◌≤◌, ◌<◌, ℕ, ◌+◌, Bool, true, false, cond, eqb, ltb, List, [], ◌∷◌, ◌++◌, length, take, count_by, Result, Ok, Err, refl, ap, ◌∙◌, arith}
 use Rattle.std.proofs.lemmas.Bool.Decides.{nat_tests}
 use Rattle.std.proofs.lemmas.List.{take_all}
 use Rattle.std.proofs.lemmas.List.Splits.{length-slice_split}
 use Rattle.daos_base.specs.declared.fault.ScriptFault.{ScriptFault}
 use Rattle.daos_base.specs.declared.fault.Why.TheVariants.{TooLong}
-use Rattle.daos_base.specs.declared.script.Script.{Script}
 use Rattle.daos_text.specs.Parts.{parts_of}
 use Rattle.daos_text.specs.Results.{◌>>=◌}
 use Rattle.daos_text.specs.Steps.{steps}
 use Rattle.daos_script.specs.declared.reading.Reading.{Reading}
-use Rattle.daos_script.specs.Grammar.{FaultsStand, CommentsSayNothing, IsScriptText, HasFault, LinesHaveFault, TextsAreShort}
+use Rattle.daos_script.specs.Grammar.{FaultsStand, CommentsSayNothing, TextsAreShort}
 use Rattle.daos_script.specs.Located.{located}
 use Rattle.daos_script.specs.Puts.{nothing_read}
 use Rattle.daos_script.specs.Readings.{ended, is_passed, long_line, read_line, script_of, text_lines, with_line}

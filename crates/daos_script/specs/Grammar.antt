@@ -1,5 +1,5 @@
 -- The grammar of scripts: which texts stand for which scripts, and what is wrong with the others.
-use Rattle.std.specs.Prelude.{◌≡◌, ℕ, ◌+◌, ◌≤◌, true, List, ◌∷◌, ◌++◌, length, Ok, Err}
+use Rattle.std.specs.Prelude.{◌≡◌, ℕ, ◌≤◌, true, List, ◌∷◌, ◌++◌, length, Ok, Err}
 use Rattle.daos_base.specs.declared.fault.ScriptFault.{ScriptFault}
 use Rattle.daos_base.specs.declared.script.Script.{Script}
 use Rattle.daos_text.specs.Parts.{parts_of}

@@ -1,5 +1,5 @@
 -- What a line adds to the script so far, or why it may not stand there.
-use Rattle.std.specs.Prelude.{ℕ, is_some, List, [], ◌∷◌, ◌++◌, Option, Some, None, Ok, Err, if◌then◌else◌}
+use Rattle.std.specs.Prelude.{ℕ, is_some, List, [], Some, None, Ok, Err, if◌then◌else◌}
 use Rattle.daos_base.specs.declared.fault.Why.TheVariants.{BadBlock}
 use Rattle.daos_base.specs.declared.id.ContId.{ContId}
 use Rattle.daos_base.specs.declared.operation.Op.{Op}

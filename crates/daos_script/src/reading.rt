@@ -20,7 +20,8 @@ use daos_script_words::decls::Decls;
 use daos_script_words::fault::LineNo;
 use std::alloc::Global;
 
-/// What was read so far: what is declared, and the lists of the clients.
+/// What was read so far: what is declared, and the lists of the clients. After an error nothing is said
+/// of what it holds.
 #[derive(Drop)]
 pub struct Reading {
     pub decls: Decls,

@@ -2,6 +2,7 @@
 use crate::fault::ScriptNo;
 use crate::script::read_script;
 use daos_base::fault::Why;
+use daos_base::key::Key;
 use daos_base::script::{Command, Script};
 use std::alloc::{AllocError, Global};
 use std::test::Fail;
@@ -235,8 +236,14 @@ const WHOLE: [(&[u8], u32, Why); 3] = [
     (b"# none\n\nclient\n\nfoo", 5, Why::UnknownWord),
 ];
 
-fn is_fault(read: &Result<Script, ScriptNo>, line: u32, why: Why) -> bool {
-    match read {
+// Whether a text stands for a script.
+fn is_script(alloc: Global, text: &[u8], targets: u8) -> bool {
+    read_script(alloc, text, targets).is_ok()
+}
+
+// Whether a text has this fault.
+fn has_fault(alloc: Global, text: &[u8], targets: u8, line: u32, why: Why) -> bool {
+    match read_script(alloc, text, targets) {
         Err(ScriptNo::Fault(fault)) => fault.line == line && fault.why == why,
         _ => false,
     }
@@ -265,8 +272,7 @@ fn tells_faults(
 ) -> Result<(), Fail> {
     for (tail, line, why) in table {
         let text = joined(alloc, HEAD, tail)?;
-        let read = read_script(alloc, &text, 2);
-        assert!(rt; is_fault(&read, *line, *why), "{tail:?}");
+        assert!(rt; has_fault(alloc, &text, 2, *line, *why), "{tail:?}");
     }
     Ok(())
 }
@@ -284,31 +290,33 @@ fn tells_faults_in_lists(rt: HostRuntime) -> Result<(), Fail> {
 #[test]
 fn tells_faults_of_whole_texts(rt: HostRuntime) -> Result<(), Fail> {
     for (text, line, why) in WHOLE {
-        let read = read_script(rt.alloc(), text, 4);
-        assert!(rt; is_fault(&read, line, why), "{text:?}");
+        assert!(rt; has_fault(rt.alloc(), text, 4, line, why), "{text:?}");
     }
     Ok(())
 }
 
-// What stands before the lines, the line, how many there may be, the fault of one more.
-const LIMITS: [(&[u8], &[u8], u32, Why); 4] = [
-    (b"", b"stop 0 1\n", 64, Why::TooMany(64)),
-    (b"", b"client\n", 64, Why::TooMany(64)),
-    (b"client\ntx\n", b"get o d a\n", 64, Why::TooMany(64)),
-    (b"client\n", b"get o d a\n", 100_000, Why::TooMany(100_000)),
+// What stands before the lines, the line, how many stand there, the last of which is one too many,
+// and the fault.
+const LIMITS: [(&[u8], &[u8], u32, u32, Why); 4] = [
+    (b"", b"stop 0 1\n", 65, 68, Why::TooMany(64)),
+    (b"", b"client\n", 65, 68, Why::TooMany(64)),
+    (b"client\ntx\n", b"get o d a\n", 65, 70, Why::TooMany(64)),
+    (
+        b"client\n",
+        b"get o d a\n",
+        100_001,
+        100_005,
+        Why::TooMany(100_000),
+    ),
 ];
 
 #[test]
 fn keeps_limits_of_equal_lines(rt: HostRuntime) -> Result<(), Fail> {
     let alloc = rt.alloc();
-    for (before, piece, most, why) in LIMITS {
+    for (before, piece, count, line, why) in LIMITS {
         let head = joined(alloc, HEAD, before)?;
-        let mut text = joined(alloc, &head, &repeated(alloc, piece, most)?)?;
-        let lines = head.iter().filter(|b| **b == b'\n').count();
-        let first = lines.min(100_000) as u32;
-        text.extend_from_slice(piece)?;
-        let read = read_script(alloc, &text, 1);
-        assert!(rt; is_fault(&read, first + most + 1, why), "{piece:?}");
+        let text = joined(alloc, &head, &repeated(alloc, piece, count)?)?;
+        assert!(rt; has_fault(alloc, &text, 1, line, why), "{piece:?}");
     }
     Ok(())
 }
@@ -325,31 +333,54 @@ fn old_line(alloc: Global, number: u32) -> Result<String, AllocError> {
     format!(in alloc; "old s{number} c1 {number}\n")
 }
 
+// So many containers.
+fn conts(alloc: Global, count: u32) -> Result<Vec<u8>, AllocError> {
+    let mut text = Vec::new(alloc);
+    for number in 1..=count {
+        text.extend_from_slice(cont_line(alloc, number)?.as_bytes())?;
+    }
+    Ok(text)
+}
+
+// A container, and so many objects.
+fn objs(alloc: Global, count: u32) -> Result<Vec<u8>, AllocError> {
+    let mut text = conts(alloc, 1)?;
+    for number in 1..=count {
+        text.extend_from_slice(obj_line(alloc, number)?.as_bytes())?;
+    }
+    Ok(text)
+}
+
+// A container, and so many old snapshots.
+fn olds(alloc: Global, count: u32) -> Result<Vec<u8>, AllocError> {
+    let mut text = conts(alloc, 1)?;
+    for number in 1..=count {
+        text.extend_from_slice(old_line(alloc, number)?.as_bytes())?;
+    }
+    Ok(text)
+}
+
 #[test]
-fn keeps_limits_of_declarations(rt: HostRuntime) -> Result<(), Fail> {
+fn keeps_the_limit_of_containers(rt: HostRuntime) -> Result<(), Fail> {
     let alloc = rt.alloc();
-    let mut conts = Vec::new(alloc);
-    for number in 1..=256 {
-        conts.extend_from_slice(cont_line(alloc, number)?.as_bytes())?;
-    }
-    let mut objs = joined(alloc, &conts, b"")?;
-    for number in 1..=4096 {
-        objs.extend_from_slice(obj_line(alloc, number)?.as_bytes())?;
-    }
-    let mut olds = joined(alloc, &objs, b"")?;
-    for number in 1..=256 {
-        olds.extend_from_slice(old_line(alloc, number)?.as_bytes())?;
-    }
-    assert!(rt; read_script(alloc, &olds, 1).is_ok());
-    let rows = [
-        (conts, cont_line(alloc, 257)?, 257, Why::TooMany(256)),
-        (objs, obj_line(alloc, 4097)?, 4353, Why::TooMany(4096)),
-        (olds, old_line(alloc, 257)?, 4609, Why::TooMany(256)),
-    ];
-    for (before, line, number, why) in &rows {
-        let read = read_script(alloc, &joined(alloc, before, line.as_bytes())?, 1);
-        assert!(rt; is_fault(&read, *number, *why), "{line:?}");
-    }
+    assert!(rt; is_script(alloc, &conts(alloc, 256)?, 1));
+    assert!(rt; has_fault(alloc, &conts(alloc, 257)?, 1, 257, Why::TooMany(256)));
+    Ok(())
+}
+
+#[test]
+fn keeps_the_limit_of_objects(rt: HostRuntime) -> Result<(), Fail> {
+    let alloc = rt.alloc();
+    assert!(rt; is_script(alloc, &objs(alloc, 4096)?, 1));
+    assert!(rt; has_fault(alloc, &objs(alloc, 4097)?, 1, 4098, Why::TooMany(4096)));
+    Ok(())
+}
+
+#[test]
+fn keeps_the_limit_of_old_snapshots(rt: HostRuntime) -> Result<(), Fail> {
+    let alloc = rt.alloc();
+    assert!(rt; is_script(alloc, &olds(alloc, 256)?, 1));
+    assert!(rt; has_fault(alloc, &olds(alloc, 257)?, 1, 258, Why::TooMany(256)));
     Ok(())
 }
 
@@ -357,44 +388,55 @@ fn keeps_limits_of_declarations(rt: HostRuntime) -> Result<(), Fail> {
 fn keeps_the_limit_of_bytes(rt: HostRuntime) -> Result<(), Fail> {
     let alloc = rt.alloc();
     let mut text = repeated(alloc, b"# 345678901234567890123456789 1\n", 524_288)?;
-    assert!(rt; read_script(alloc, &text, 1).is_ok());
+    assert!(rt; is_script(alloc, &text, 1));
     text.push(b'\n')?;
-    let read = read_script(alloc, &text, 1);
-    assert!(rt; is_fault(&read, 524_289, Why::TooLong(16_777_216)));
+    assert!(rt; has_fault(alloc, &text, 1, 524_289, Why::TooLong(16_777_216)));
     if let Some(first) = text.first_mut() {
         *first = b'!';
     }
-    let earlier = read_script(alloc, &text, 1);
-    assert!(rt; is_fault(&earlier, 1, Why::UnknownWord));
+    assert!(rt; has_fault(alloc, &text, 1, 1, Why::UnknownWord));
     Ok(())
+}
+
+// A script that puts the value of 512 pieces and a rest.
+fn put_of(alloc: Global, sign: u8, piece: &[u8], rest: &[u8]) -> Result<Vec<u8>, AllocError> {
+    let mut text = joined(alloc, HEAD, b"client\nput o d a ")?;
+    text.push(sign)?;
+    for _ in 0..512 {
+        text.extend_from_slice(piece)?;
+    }
+    text.extend_from_slice(rest)?;
+    Ok(text)
 }
 
 #[test]
 fn keeps_the_limit_of_values(rt: HostRuntime) -> Result<(), Fail> {
     let alloc = rt.alloc();
-    let put = joined(alloc, HEAD, b"client\nput o d a ")?;
-    for (sign, piece) in [(b"=", b"~~".as_slice()), (b"#", b"0020")] {
-        let text = joined(alloc, &put, sign)?;
-        let full = joined(alloc, &text, &repeated(alloc, piece, 512)?)?;
-        assert!(rt; read_script(alloc, &full, 1).is_ok());
-        let over = joined(alloc, &full, &piece[..piece.len() / 2])?;
-        let read = read_script(alloc, &over, 1);
-        assert!(rt; is_fault(&read, 5, Why::TooLong(1024)));
+    for (sign, piece, rest) in [
+        (b'=', b"~~".as_slice(), b"~".as_slice()),
+        (b'#', b"0020", b"00"),
+    ] {
+        assert!(rt; is_script(alloc, &put_of(alloc, sign, piece, b"")?, 1));
+        assert!(rt;
+            has_fault(
+                alloc,
+                &put_of(alloc, sign, piece, rest)?,
+                1,
+                5,
+                Why::TooLong(1024)
+            )
+        );
     }
     Ok(())
 }
 
 #[test]
-fn answers_on_every_prefix(rt: HostRuntime) -> Result<(), Fail> {
+fn answers_on_every_prefix(rt: HostRuntime) {
     let mut any = false;
     for (end, _) in SHOP.iter().enumerate() {
-        any |= read_script(rt.alloc(), &SHOP[..end], 4).is_ok();
+        any |= is_script(rt.alloc(), &SHOP[..end], 4);
     }
     assert!(rt; any);
-    let whole = read_script(rt.alloc(), SHOP, 4)?;
-    assert_eq!(rt; whole.clients.len(), 3);
-    assert_eq!(rt; whole.stops.len(), 1);
-    Ok(())
 }
 
 // The number-th command of a client.
@@ -407,10 +449,17 @@ fn command(script: &Script, client: usize, number: usize) -> Option<&Command> {
         .get(number)
 }
 
-#[test]
-fn reads_what_lines_say(rt: HostRuntime) -> Result<(), Fail> {
-    let script = read_script(rt.alloc(), SHOP, 4)?;
-    match command(&script, 0, 2) {
+// Whether a name is this one, or none where none is given.
+fn is_named(name: &Option<Key>, given: Option<&[u8]>) -> bool {
+    match name {
+        None => given.is_none(),
+        Some(name) => Some(name.bytes()) == given,
+    }
+}
+
+// Whether a command runs so many operations, without turns to skip, at this snapshot.
+fn runs(command: Option<&Command>, count: usize, at: Option<&[u8]>) -> bool {
+    match command {
         Some(
             Command::Run {
                 ops,
@@ -418,25 +467,22 @@ fn reads_what_lines_say(rt: HostRuntime) -> Result<(), Fail> {
                 snapshot,
             },
         ) => {
-            assert_eq!(rt; ops.len(), 4);
-            assert_eq!(rt; skips.as_slice(), [0; 5].as_slice());
-            assert!(rt; snapshot.is_none());
+            ops.len() == count
+                && skips.as_slice().iter().filter(|turns| **turns == 0).count() == skips.len()
+                && skips.len() > count
+                && is_named(snapshot, at)
         }
-        _ => panic!(rt; "no transaction"),
+        _ => false,
     }
+}
+
+#[test]
+fn reads_what_lines_say(rt: HostRuntime) -> Result<(), Fail> {
+    let script = read_script(rt.alloc(), SHOP, 4)?;
+    assert_eq!(rt; script.clients.len(), 3);
+    assert_eq!(rt; script.stops.len(), 1);
+    assert!(rt; runs(command(&script, 0, 2), 4, None));
     assert!(rt; matches!(command(&script, 1, 0), Some(Command::Skip { turns: 4000 })));
-    match command(&script, 1, 4) {
-        Some(
-            Command::Run {
-                ops,
-                snapshot: Some(name),
-                ..
-            },
-        ) => {
-            assert_eq!(rt; ops.len(), 1);
-            assert_eq!(rt; name.bytes(), b"eve".as_slice());
-        }
-        _ => panic!(rt; "no read of a snapshot"),
-    }
+    assert!(rt; runs(command(&script, 1, 4), 1, Some(b"eve")));
     Ok(())
 }

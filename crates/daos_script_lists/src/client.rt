@@ -13,7 +13,8 @@ use daos_script_lines::line::At;
 use daos_script_words::fault::LineNo;
 use std::alloc::{AllocError, Global};
 
-/// The list of a client, with its number and its transaction that isn't ended.
+/// The list of a client, with its number and its transaction that isn't ended. After an error nothing
+/// is said of what it holds.
 #[derive(Drop)]
 pub struct Client {
     pub number: u16,

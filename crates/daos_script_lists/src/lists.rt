@@ -23,7 +23,8 @@ pub struct Told {
     pub to: u16,
 }
 
-/// The lists of earlier clients, the present client, and the lines from `tell`.
+/// The lists of earlier clients, the present client, and the lines from `tell`. After an error nothing
+/// is said of what it holds.
 #[derive(Drop)]
 pub struct Lists {
     pub whole: ClientLists,

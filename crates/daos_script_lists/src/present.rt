@@ -31,7 +31,8 @@ pub enum Step {
     Skip(u32),
 }
 
-/// The present client, once there is one, and how many numbered commands all clients have.
+/// The present client, once there is one, and how many numbered commands all clients have. After an
+/// error nothing is said of what it holds.
 #[derive(Drop)]
 pub struct Present {
     pub client: Option<Client>,

@@ -18,7 +18,8 @@ use std::alloc::{AllocError, Global};
 pub const OPS_MAX: u32 = 64;
 
 /// A transaction that isn't ended: the line on which it began, the snapshot that it reads, its
-/// operations, the turns to skip before each, and those since the last operation.
+/// operations, the turns to skip before each, and those since the last operation. After an error
+/// nothing is said of what it holds.
 #[derive(Drop)]
 pub struct Tx {
     pub line: u32,

@@ -28,7 +28,8 @@ pub const OLDS_MAX: u32 = 256;
 /// The most stops that a script asks for.
 pub const STOPS_MAX: u32 = 64;
 
-/// What is declared so far, in a script for so many targets. Each line is read by it.
+/// What is declared so far, in a script for so many targets. Each line is read by it. After an error
+/// of what adds to it, nothing is said of what it holds.
 #[derive(Drop)]
 pub struct Decls {
     pub targets: u8,

@@ -10,7 +10,8 @@ use std::alloc::{AllocError, Global};
 use std::marker::Model;
 use std::mem::replace;
 
-/// The containers, each found by its name.
+/// The containers, each found by its name. After an error of `add`, nothing is said of
+/// what they are.
 #[derive(Drop)]
 pub struct ContDecls {
     decls: Conts,
@@ -98,7 +99,8 @@ impl ContDecls {
     }
 }
 
-/// The objects, each found by its name.
+/// The objects, each found by its name. After an error of `add`, nothing is said of
+/// what they are.
 #[derive(Drop)]
 pub struct ObjDecls {
     decls: Objs,
@@ -188,7 +190,8 @@ impl ObjDecls {
     }
 }
 
-/// The snapshots of earlier runs, each found by its name.
+/// The snapshots of earlier runs, each found by its name. After an error of `add`, nothing is said of
+/// what they are.
 #[derive(Drop)]
 pub struct OldDecls {
     decls: Olds,
