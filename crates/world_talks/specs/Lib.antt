@@ -1,2 +1,5 @@
 -- What is in flight between clients and targets.
 pub mod Conversation
+pub mod Asked
+pub mod TalkLaws
+pub mod AskLaws
