@@ -3,3 +3,4 @@ pub mod Conversation
 pub mod Asked
 pub mod TalkLaws
 pub mod AskLaws
+pub mod HearLaws
