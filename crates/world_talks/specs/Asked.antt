@@ -41,9 +41,13 @@ pub data Asked (p : ClientPlan) (k : Epoch) (c : ClientState) (a : Present) (q :
   AnAggregation : (cont : ContId) → command_at p c ≡ Some (command.Aggregate cont)
       → q ≡ record { to = target 0; message = message.Prune (attempt_id p c a) cont (Some k) None } → Asked p k c a q
 
+-- what a client sends that tells another its tracker
+abbrev pub tells_tracker : ClientState → ℕ → Post
+tells_tracker c n = record { to = client n; message = message.Tell c.tracker }
+
 -- What a move of a client is that doesn't wait: it sends nothing, and doesn't wait; between attempts it tells another client
 -- its tracker, and doesn't wait; or it asks what it has to ask, and waits.
 pub data IsMove (p : ClientPlan) (c : ClientState) (m : Move) : Type 0 where
   Silent : waits m.state ≡ false → m.post ≡ None → IsMove p c m
-  Telling : (n : ℕ) → c.present ≡ None → waits m.state ≡ false → m.post ≡ Some (record { to = client n; message = message.Tell c.tracker }) → IsMove p c m
+  Telling : (n : ℕ) → c.present ≡ None → waits m.state ≡ false → m.post ≡ Some (tells_tracker c n) → IsMove p c m
   Asking : (a : Present) (q : Post) → c.present ≡ Some a → Asked p c.tracker c a q → m.post ≡ Some q → m.state ≡ at_present (record a { waits = true }) c → IsMove p c m

@@ -4,3 +4,5 @@ pub mod Asked
 pub mod TalkLaws
 pub mod AskLaws
 pub mod HearLaws
+pub mod AnswerLaws
+pub mod ConversationLaws

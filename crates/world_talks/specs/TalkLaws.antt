@@ -2,7 +2,7 @@
 use Rattle.std.specs.Prelude.{ℕ, ◌≡◌, ◌==◌, ◌++◌, Bool, true, false, ◌&&◌, ◌||◌, not, List, [], ◌∷◌, filter, Option, Some, None, Contains, refl}
 use Rattle.std.proofs.Common.{◌⊎◌, sym, ◌∙◌, ap, subst, inl, inr, append-nil, cond}
 use Rattle.std.proofs.lemmas.Bool.{eq-eqb, ne_eqb}
-use Rattle.std.proofs.lemmas.List.Elements.{Contains-append_cases, Contains-append_left, Contains-append_right, filter-append}
+use Rattle.std.proofs.lemmas.List.Elements.{Contains-append_cases, Contains-append_left, Contains-append_right, Contains-push, filter-append}
 use Rattle.daos_messages.specs.declared.actor.ActorId.{ActorId}
 use Rattle.daos_messages.specs.declared.message.Message.{Message}
 use Rattle.world_base.specs.declared.letter.Letter.{Letter}
@@ -47,6 +47,10 @@ talk-only n letters l m rest t passes one =
 -- a conversation without letters has none to take
 pub talk-none : (n : ℕ) (letters : List Letter) (l : Letter) (rest : List Letter) → Takes letters l rest → is_talk_of n l ≡ true → talk_of n letters ≡ [] → ⊥
 talk-none n letters l rest t passes none = no-element (talk_of n t.before) (talk_of n t.after) l (sym (kept-beside (is_talk_of n) letters l rest t passes) ∙ none)
+
+-- a letter that is taken was in flight
+pub taken-is-among : (letters : List Letter) (l : Letter) (rest : List Letter) → Takes letters l rest → Contains letters l
+taken-is-among letters l rest t = subst (λ ls. Contains ls l) (sym t.among) (Contains-append_right t.before (l ∷ t.after) l (Contains-append_left (l ∷ []) t.after l (Contains-push [] l)))
 
 -- a letter that is left was in flight
 pub left-is-among : (letters : List Letter) (l : Letter) (rest : List Letter) (m : Letter) → Takes letters l rest → Contains rest m → Contains letters m
