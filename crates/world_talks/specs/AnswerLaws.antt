@@ -18,6 +18,7 @@ use Rattle.world_base.specs.declared.request.FetchRequest.{FetchRequest}
 use Rattle.world_base.specs.declared.target.TargetMemory.{TargetMemory}
 use Rattle.world_base.specs.declared.target.TargetPlan.{TargetPlan}
 use Rattle.world_events.specs.Letters.{is_tell}
+use Rattle.world_talks.specs.Asked.{commit_of, fetch_of}
 use Rattle.world_talks.specs.Conversation.{Answers}
 use Rattle.world_turns.specs.Changes.{Kept}
 use Rattle.world_turns.specs.Commits as commit
@@ -31,12 +32,6 @@ pub record IsAnsweredBy (from : ActorId) (q : Message) (did : Did) : Type 0 wher
   pub answer : Message
   pub one : did.posts ≡ record { to = from; message = answer } ∷ []
   pub answers : Answers q answer
-
-abbrev fetch_of : FetchRequest → Message
-fetch_of q = message.Fetch q.attempt q.op q.group q.ep q.first q.tracker q.read q.snapshot
-
-abbrev commit_of : CommitRequest → Message
-commit_of q = message.Commit q.attempt q.ep q.first q.tracker q.writes
 
 -- the message that answers a Fetch
 fetched-answers : (q : FetchRequest) (from : ActorId) (own : Option Epoch) (b : Reply) (did : Did)

@@ -19,9 +19,11 @@ use Rattle.world_base.specs.declared.client.ClientState.{ClientState}
 use Rattle.world_base.specs.declared.client.Present.{Present}
 use Rattle.world_base.specs.declared.client.Stage.{Stage}
 use Rattle.world_base.specs.declared.client.Stage.TheVariants as stage
+use Rattle.world_base.specs.declared.request.CommitRequest.{CommitRequest}
+use Rattle.world_base.specs.declared.request.FetchRequest.{FetchRequest}
 use Rattle.world_base.specs.ClientTurns.{Move, after_end, asks_or_goes, asks_read, at_present, attempt_id, attempt_moves, begins, begins_at, begun, command_at, command_moves, commits, ends, first_epoch, is_waiting, moved, moves_at, next_command, next_stage, op_moves, question, request_of, rests, run_moves, waits}
 use Rattle.world_events.specs.Letters.{client, is_tell, target}
-use Rattle.world_talks.specs.Asked.{ARead, ASnapshot, AnAggregation, Asked, Asking, IsMove, ItsWrites, Silent, Telling, group_of_read}
+use Rattle.world_talks.specs.Asked.{ARead, ASnapshot, AnAggregation, Asked, AsksCommit, AsksRead, commit_of, fetch_of, Asking, IsMove, ItsWrites, Silent, Telling, group_of_read}
 use Rattle.world_talks.specs.Conversation.{before_waiting, request_sent}
 
 -- ---- an attempt ends
@@ -132,6 +134,51 @@ asked-is-request p k c a q (ARead ops turns snapshot op r at is asked says) = rw
 asked-is-request p k c a q (ItsWrites ops turns snapshot w ws at last all says) = rw says (record { to_target = refl; of_attempt = refl; no_tell = refl })
 asked-is-request p k c a q (ASnapshot name cont at says) = rw says (record { to_target = refl; of_attempt = refl; no_tell = refl })
 asked-is-request p k c a q (AnAggregation cont at says) = rw says (record { to_target = refl; of_attempt = refl; no_tell = refl })
+
+-- what was asked by a Fetch
+pub asked-read : (p : ClientPlan) (k : Epoch) (c : ClientState) (a : Present) (s : Post) (q : FetchRequest) → Asked p k c a s → s.message ≡ fetch_of q → AsksRead p k c a q
+asked-read p k c a s q (ARead ops turns snapshot op r at here asked says) it =
+    let same : message.Fetch (attempt_id p c a) a.op (group_of_read p a (read_path r)) a.epoch a.first k r (is_some snapshot) ≡ fetch_of q = sym (ap (λ x. x.message) says) ∙ it in
+    let the_read : q.read ≡ r = cc (same) in
+    record {
+      attempt = cc (same);
+      op = cc (same);
+      group = cc (same, the_read);
+      ep = cc (same);
+      first = cc (same);
+      tracker = cc (same);
+      ops = ops;
+      turns = turns;
+      name = snapshot;
+      o = op;
+      at = at;
+      here = here;
+      asked = asked ∙ ap (λ x. Some x) (sym the_read);
+      snapshot = cc (same);
+    }
+asked-read p k c a s q (ItsWrites ops turns snapshot w ws at last all says) it = let no : ⊥ = cc (ap (λ x. x.message) says, it) in absurd no
+asked-read p k c a s q (ASnapshot name cont at says) it = let no : ⊥ = cc (ap (λ x. x.message) says, it) in absurd no
+asked-read p k c a s q (AnAggregation cont at says) it = let no : ⊥ = cc (ap (λ x. x.message) says, it) in absurd no
+
+-- and by a Commit
+pub asked-commit : (p : ClientPlan) (k : Epoch) (c : ClientState) (a : Present) (s : Post) (q : CommitRequest) → Asked p k c a s → s.message ≡ commit_of q → AsksCommit p k c a q
+asked-commit p k c a s q (ItsWrites ops turns snapshot w ws at last all says) it =
+    let same : message.Commit (attempt_id p c a) a.epoch a.first k (w ∷ ws) ≡ commit_of q = sym (ap (λ x. x.message) says) ∙ it in
+    record {
+      attempt = cc (same);
+      ep = cc (same);
+      first = cc (same);
+      tracker = cc (same);
+      ops = ops;
+      turns = turns;
+      name = snapshot;
+      at = at;
+      last = last;
+      writes = cc (same, all);
+    }
+asked-commit p k c a s q (ARead ops turns snapshot op r at here asked says) it = let no : ⊥ = cc (ap (λ x. x.message) says, it) in absurd no
+asked-commit p k c a s q (ASnapshot name cont at says) it = let no : ⊥ = cc (ap (λ x. x.message) says, it) in absurd no
+asked-commit p k c a s q (AnAggregation cont at says) it = let no : ⊥ = cc (ap (λ x. x.message) says, it) in absurd no
 
 -- the state in which a client asked
 abbrev asking : Epoch → ClientState → Present → ClientState

@@ -9,12 +9,15 @@ use Rattle.daos_base.specs.declared.path.Path.{Path}
 use Rattle.daos_base.specs.declared.script.Command.TheVariants as command
 use Rattle.daos_base.specs.Operations.{read_path}
 use Rattle.daos_base.specs.Placement.{writes_leader}
+use Rattle.daos_messages.specs.declared.message.Message.{Message}
 use Rattle.daos_messages.specs.declared.message.Message.TheVariants as message
 use Rattle.daos_messages.specs.declared.message.Post.{Post}
 use Rattle.daos_model.specs.Accesses.{minor_writes}
 use Rattle.world_base.specs.declared.client.ClientPlan.{ClientPlan}
 use Rattle.world_base.specs.declared.client.ClientState.{ClientState}
 use Rattle.world_base.specs.declared.client.Present.{Present}
+use Rattle.world_base.specs.declared.request.CommitRequest.{CommitRequest}
+use Rattle.world_base.specs.declared.request.FetchRequest.{FetchRequest}
 use Rattle.world_base.specs.ClientTurns.{Move, at_present, attempt_id, command_at, group_asked, member_asked, question, waits}
 use Rattle.world_events.specs.Letters.{client, target}
 
@@ -40,6 +43,43 @@ pub data Asked (p : ClientPlan) (k : Epoch) (c : ClientState) (a : Present) (q :
       → q ≡ record { to = target 0; message = message.Snap (attempt_id p c a) cont name k } → Asked p k c a q
   AnAggregation : (cont : ContId) → command_at p c ≡ Some (command.Aggregate cont)
       → q ≡ record { to = target 0; message = message.Prune (attempt_id p c a) cont (Some k) None } → Asked p k c a q
+
+-- a client has asked for this read
+pub record AsksRead (p : ClientPlan) (k : Epoch) (c : ClientState) (a : Present) (q : FetchRequest) : Type 0 where
+  pub attempt : q.attempt ≡ attempt_id p c a
+  pub op : q.op ≡ a.op
+  pub group : q.group ≡ group_of_read p a (read_path q.read)
+  pub ep : q.ep ≡ a.epoch
+  pub first : q.first ≡ a.first
+  pub tracker : q.tracker ≡ k
+  pub ops : List Op
+  pub turns : List ℕ
+  pub name : Option (List ℕ)
+  pub o : Op
+  pub at : command_at p c ≡ Some (command.Run ops turns name)
+  pub here : slice_get ops a.op ≡ Some o
+  pub asked : question a.stage o ≡ Some q.read
+  pub snapshot : q.snapshot ≡ is_some name
+
+-- a client has handed over these writes
+pub record AsksCommit (p : ClientPlan) (k : Epoch) (c : ClientState) (a : Present) (q : CommitRequest) : Type 0 where
+  pub attempt : q.attempt ≡ attempt_id p c a
+  pub ep : q.ep ≡ a.epoch
+  pub first : q.first ≡ a.first
+  pub tracker : q.tracker ≡ k
+  pub ops : List Op
+  pub turns : List ℕ
+  pub name : Option (List ℕ)
+  pub at : command_at p c ≡ Some (command.Run ops turns name)
+  pub last : slice_get ops a.op ≡ None
+  pub writes : q.writes ≡ minor_writes 0 ops
+
+-- these requests as messages
+abbrev pub fetch_of : FetchRequest → Message
+fetch_of q = message.Fetch q.attempt q.op q.group q.ep q.first q.tracker q.read q.snapshot
+
+abbrev pub commit_of : CommitRequest → Message
+commit_of q = message.Commit q.attempt q.ep q.first q.tracker q.writes
 
 -- what a client sends that tells another its tracker
 abbrev pub tells_tracker : ClientState → ℕ → Post

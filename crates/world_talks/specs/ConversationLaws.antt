@@ -14,7 +14,7 @@ use Rattle.world_base.specs.declared.client.Present.{Present}
 use Rattle.world_base.specs.declared.letter.Letter.{Letter}
 use Rattle.world_base.specs.declared.world.World.{World}
 use Rattle.world_base.specs.ClientTurns.{Move, about, answered, at_present, attempt_id, heard, hears_epochs, is_waiting, listed, moved, request_of, waits}
-use Rattle.world_events.specs.Events.{ByClient, ByTarget, Event, Rules, TargetHears, TargetIdles, ToClient, ToTarget, after_turn, client_plan, kept, target_after, target_plan, with_target}
+use Rattle.world_events.specs.Events.{Begins, ByClient, ByTarget, Event, Goes, Rules, Run, TargetHears, TargetIdles, ToClient, ToTarget, after_turn, client_plan, kept, target_after, target_plan, with_target}
 use Rattle.world_events.specs.Letters.{Takes, client, is_talk_of, is_tell, letter_of, letters_of, talk_of, target}
 use Rattle.world_events.specs.StepLaws.{after-none, by-hearing, by-next, set-here, set-same, set-there}
 use Rattle.world_events.specs.Steps.{KeptByCounting, KeptByHearing, KeptByMoves, after_client, after_move, without}
@@ -23,13 +23,9 @@ use Rattle.world_talks.specs.AskLaws.{IsRequest, asked-is-request, asks-what-it-
 use Rattle.world_talks.specs.Asked.{Asked, Asking, IsMove, Silent, Telling, tells_tracker}
 use Rattle.world_talks.specs.Conversation.{Answers, Conversation, ConversationsAreKept, ConversationsBegin, IsAnswered, IsAsked, IsTalk, Talks, before_waiting, request_sent}
 use Rattle.world_talks.specs.HearLaws.{IsAnswer, IsSilent, answer-is, hears-answer, hears-tell, skipping-sends-the-same, tracker-rises}
+use Rattle.world_talks.specs.InFlight.{GetsAnswer, HearsRequest, gets-answer, hears-request, none-in-flight}
 use Rattle.world_talks.specs.TalkLaws.{got-is-no-talk, got-is-talk, left-is-among, sent-is-no-talk, sent-is-talk, taken-is-among, talk-beside, talk-none, talk-only, talk-taken, talk-with, tell-is-no-talk}
 use Rattle.world_turns.specs.TargetTurns.{is_heard}
-
--- ---- actors
-
-no-target : (n : ℕ) (a : ActorId) → a ≡ client n → a.client ≡ false → ⊥
-no-target n a it no_client = let same : true ≡ false = sym (ap (λ b. b.client) it) ∙ no_client in true≢false same
 
 -- ---- one client's conversation goes on
 
@@ -104,41 +100,6 @@ talks-by : (p : ClientPlan) (n : ℕ) (c d : ClientState) (letters : List Letter
 talks-by p n c d letters true more t = (t.0, t.1, more t.0 t.2)
 talks-by p n c d letters false more t = t
 
--- a client that doesn't wait has no letter in flight
-pub none-in-flight : (r : Rules) (w : World) (n : ℕ) (c : ClientState) → Conversation r w → slice_get w.clients n ≡ Some c → waits c ≡ false → talk_of n w.messages ≡ []
-none-in-flight r w n c k here h = subst (λ b. Talks (client_plan r n) n c (talk_of n w.messages) b) h (k.talks n c here)
-
--- a client that waits has one
-pub one-in-flight : (r : Rules) (w : World) (n : ℕ) (c : ClientState) → Conversation r w → slice_get w.clients n ≡ Some c → waits c ≡ true
-    → (l : Letter) × (talk_of n w.messages ≡ l ∷ []) × IsTalk (client_plan r n) n c l
-one-in-flight r w n c k here h = subst (λ b. Talks (client_plan r n) n c (talk_of n w.messages) b) h (k.talks n c here)
-
-is-waiting-at : (o : Option Present) → is_waiting o ≡ true → (a : Present) × (o ≡ Some a) × (a.waits ≡ true)
-is-waiting-at None h = let no : ⊥ = cc in absurd no
-is-waiting-at (Some a) h = (a, refl, h)
-
--- A letter is the conversation of a client: the client waits for it, or for its answer, as the request that it sent when its
--- tracker was at most this; and without the letter none is in flight.
-pub record IsAwaited (r : Rules) (w : World) (n : ℕ) (c : ClientState) (l : Letter) (rest : List Letter) : Type 0 where
-  pub a : Present
-  pub present : c.present ≡ Some a
-  pub waiting : a.waits ≡ true
-  pub talk : IsTalk (client_plan r n) n c l
-  pub none_else : talk_of n rest ≡ []
-
--- a letter of a client's conversation is awaited
-pub talk-is-awaited : (r : Rules) (w : World) (n : ℕ) (c : ClientState) (l : Letter) (rest : List Letter) → Conversation r w → slice_get w.clients n ≡ Some c → Takes w.messages l rest → is_talk_of n l ≡ true
-    → IsAwaited r w n c l rest
-talk-is-awaited r w n c l rest k here takes of_it = by (waits c) refl
-  where
-    by : (b : Bool) → waits c ≡ b → IsAwaited r w n c l rest
-    by false h = absurd (talk-none n w.messages l rest takes of_it (none-in-flight r w n c k here h))
-    by true h =
-        let o = one-in-flight r w n c k here h in
-        let i = is-waiting-at c.present h in
-        let only : (l ≡ o.0) × (talk_of n rest ≡ []) = talk-only n w.messages l o.0 rest takes of_it o.1 in
-        record { a = i.0; present = i.1; waiting = i.2; talk = subst (IsTalk (client_plan r n) n c) (sym only.0) o.2; none_else = only.1 }
-
 -- ---- a client moves
 
 move-keeps : (r : Rules) → KeptByMoves r (Conversation r)
@@ -188,44 +149,6 @@ raised-talk : (p : ClientPlan) (n : ℕ) (c d : ClientState) (l : Letter) → c.
 raised-talk p n c d l rises same (IsAsked k q low sent it) = IsAsked k q (omega arith) (same k ∙ sent) it
 raised-talk p n c d l rises same (IsAnswered k q low sent from to answers) = IsAnswered k q (omega arith) (same k ∙ sent) from to answers
 
--- what a client gets that tells no tracker alone answers what it asked
-pub record GetsAnswer (r : Rules) (w : World) (n : ℕ) (c : ClientState) (l : Letter) (rest : List Letter) : Type 0 where
-  pub a : Present
-  pub present : c.present ≡ Some a
-  pub waiting : a.waits ≡ true
-  pub k : Epoch
-  pub q : Post
-  pub low : k.0 ≤ c.tracker.0
-  pub asked : Asked (client_plan r n) k c a q
-  pub from : l.from ≡ q.to
-  pub answers : Answers q.message l.message
-  pub none_else : talk_of n rest ≡ []
-
-pub gets-answer : (r : Rules) (w : World) (n : ℕ) (c : ClientState) (l : Letter) (rest : List Letter) → Conversation r w → slice_get w.clients n ≡ Some c → Takes w.messages l rest → l.to ≡ client n
-    → is_tell l.message ≡ false → GetsAnswer r w n c l rest
-gets-answer r w n c l rest k here takes to no_tell = by i.talk
-  where
-    i : IsAwaited r w n c l rest
-    i = talk-is-awaited r w n c l rest k here takes (got-is-talk n l no_tell to)
-
-    by : IsTalk (client_plan r n) n c l → GetsAnswer r w n c l rest
-    by (IsAsked e q low sent it) =
-        let asked : Asked (client_plan r n) e c i.a q = sent-is-asked (client_plan r n) e c i.a q i.present sent in
-        let request : IsRequest (client_plan r n) c i.a q = asked-is-request (client_plan r n) e c i.a q asked in
-        absurd (no-target n l.to to (ap (λ x. x.to.client) it ∙ request.to_target))
-    by (IsAnswered e q low sent from it answers) = record {
-      a = i.a;
-      present = i.present;
-      waiting = i.waiting;
-      k = e;
-      q = q;
-      low = low;
-      asked = sent-is-asked (client_plan r n) e c i.a q i.present sent;
-      from = from;
-      answers = answers;
-      none_else = i.none_else;
-    }
-
 hear-keeps : (r : Rules) → KeptByHearing r (Conversation r)
 hear-keeps r w n c l rest here awake takes to k = by (is_tell l.message) refl
   where
@@ -241,7 +164,7 @@ hear-keeps r w n c l rest here awake takes to k = by (is_tell l.message) refl
         (subst (λ ls. Talks p n c2 ls (waits c)) (sym (talk-taken n w.messages l rest takes (tell-is-no-talk n l h)))
         (talks-by p n c c2 (talk_of n w.messages) (waits c) (λ x. raised-talk p n c c2 x (tracker-rises l.message c) (λ e. refl)) (k.talks n c here)))
 
-    answer : GetsAnswer r w n c l rest → Conversation r (after_move (without w rest) n (heard p c l.message))
+    answer : GetsAnswer r n c l rest → Conversation r (after_move (without w rest) n (heard p c l.message))
     answer g =
         let request : IsRequest p c g.a g.q = asked-is-request p g.k c g.a g.q g.asked in
         let i : IsAnswer g.q.message l.message = answer-is g.q.message l.message g.answers in
@@ -258,58 +181,6 @@ hear-keeps r w n c l rest here awake takes to k = by (is_tell l.message) refl
 
 -- ---- a target hears
 
--- what a target hears is what a client that waits has asked
-pub record HearsRequest (r : Rules) (w : World) (l : Letter) (rest : List Letter) : Type 0 where
-  pub n : ℕ
-  pub c : ClientState
-  pub a : Present
-  pub here : slice_get w.clients n ≡ Some c
-  pub present : c.present ≡ Some a
-  pub waiting : a.waits ≡ true
-  pub k : Epoch
-  pub q : Post
-  pub low : k.0 ≤ c.tracker.0
-  pub sent : request_sent (client_plan r n) k c ≡ Some q
-  pub asked : Asked (client_plan r n) k c a q
-  pub it : l ≡ letter_of (client n) q
-  pub none_else : talk_of n rest ≡ []
-
-pub hears-request : (r : Rules) (w : World) (l : Letter) (rest : List Letter) → Conversation r w → Takes w.messages l rest → l.to.client ≡ false → is_heard l.message ≡ true → HearsRequest r w l rest
-hears-request r w l rest k takes to of_kind = by i.talk
-  where
-    n : ℕ
-    n = (k.from_clients l (taken-is-among w.messages l rest takes) of_kind).0
-
-    c : ClientState
-    c = (k.from_clients l (taken-is-among w.messages l rest takes) of_kind).1
-
-    here : slice_get w.clients n ≡ Some c
-    here = (k.from_clients l (taken-is-among w.messages l rest takes) of_kind).2
-
-    from : l.from ≡ client n
-    from = (k.from_clients l (taken-is-among w.messages l rest takes) of_kind).3
-
-    i : IsAwaited r w n c l rest
-    i = talk-is-awaited r w n c l rest k here takes (sent-is-talk n l (heard-no-tell l.message of_kind) from)
-
-    by : IsTalk (client_plan r n) n c l → HearsRequest r w l rest
-    by (IsAsked e q low sent it) = record {
-      n = n;
-      c = c;
-      a = i.a;
-      here = here;
-      present = i.present;
-      waiting = i.waiting;
-      k = e;
-      q = q;
-      low = low;
-      sent = sent;
-      asked = sent-is-asked (client_plan r n) e c i.a q i.present sent;
-      it = it;
-      none_else = i.none_else;
-    }
-    by (IsAnswered e q low sent from2 it answers) = absurd (no-target n l.to it to)
-
 target-hears-keeps : (r : Rules) (w v : World) → Conversation r w → TargetHears r w v → Conversation r v
 target-hears-keeps r w v k g =
     turned r w v h.n h.c h.c k h.here (ap (λ x. x.clients) g.after ∙ sym (set-same w.clients h.n h.c h.here)) others own from
@@ -318,7 +189,7 @@ target-hears-keeps r w v k g =
     to = ap (λ x. x.client) g.to_it
 
     h : HearsRequest r w g.l g.rest
-    h = hears-request r w g.l g.rest k g.takes to (hears-heard (target_plan r g.t) g.s.opening g.s.memory g.reading g.l.from g.l.message (kept g.s) g.new (g.memory, g.did) g.turn)
+    h = hears-request r w g.l g.rest k g.takes (hears-heard (target_plan r g.t) g.s.opening g.s.memory g.reading g.l.from g.l.message (kept g.s) g.new (g.memory, g.did) g.turn)
 
     i : IsAnsweredBy g.l.from g.l.message g.did
     i = answers-are-posted (target_plan r g.t) g.s.opening g.s.memory g.reading g.l.from g.l.message (kept g.s) g.new (g.memory, g.did) g.turn
@@ -379,6 +250,11 @@ conversations-kept r w v k (ByClient g) = by-next r (Conversation r) (move-keeps
 conversations-kept r w v k (ToClient g) = by-hearing r (Conversation r) (move-keeps r) (hear-keeps r) w v k g
 conversations-kept r w v k (ToTarget g) = target-hears-keeps r w v k g
 conversations-kept r w v k (ByTarget g) = target-idles-keeps r w v k g
+
+-- and so does a run
+pub conversations-stay : (r : Rules) (w v : World) → Conversation r w → Run r w v → Conversation r v
+conversations-stay r w v k Begins = k
+conversations-stay r w v k (Goes u x before event) = conversations-kept r u x (conversations-stay r w u k before) event
 
 pub conversations-begin : ConversationsBegin
 conversations-begin r w none free = record {

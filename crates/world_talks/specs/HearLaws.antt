@@ -93,8 +93,7 @@ fetched-silent p c a m x op group own b e = rw e (replied-silent p c (knows own 
 ended-answer-silent : (p : ClientPlan) (c : ClientState) (a : Present) (m : Message) (x : AttemptId) (own : Option Epoch) (how : Outcome) → m ≡ message.Ended x own how → IsSilent (answered p c a m)
 ended-answer-silent p c a m x own how e = rw e (ended-silent p c (knows own a) own how)
 
--- what a client asks, and waits for, is about the attempt that its request is about; it tells no tracker alone, and ends the
--- waiting
+-- a message that answers a request: it is about the same attempt, isn't the tracker of another, and ends the waiting
 pub record IsAnswer (q m : Message) : Type 0 where
   pub same_about : about m ≡ request_of q
   pub no_tell : is_tell m ≡ false

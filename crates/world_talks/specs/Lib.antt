@@ -5,4 +5,6 @@ pub mod TalkLaws
 pub mod AskLaws
 pub mod HearLaws
 pub mod AnswerLaws
+pub mod InFlight
 pub mod ConversationLaws
+pub mod Hearing

@@ -1,6 +1,6 @@
 -- Which letters belong to a client's conversation, and what is left of one.
-use Rattle.std.specs.Prelude.{ℕ, ◌≡◌, ◌==◌, ◌++◌, Bool, true, false, ◌&&◌, ◌||◌, not, List, [], ◌∷◌, filter, Option, Some, None, Contains, refl}
-use Rattle.std.proofs.Common.{◌⊎◌, sym, ◌∙◌, ap, subst, inl, inr, append-nil, cond}
+use Rattle.std.specs.Prelude.{ℕ, ◌≡◌, ◌<◌, length, slice_index_or, ◌==◌, ◌++◌, Bool, true, false, ◌&&◌, ◌||◌, not, List, [], ◌∷◌, filter, Option, Some, None, Contains, refl}
+use Rattle.std.proofs.Common.{◌⊎◌, sym, ◌∙◌, ap, subst, inl, inr, append-nil, arith, cond, zero, suc}
 use Rattle.std.proofs.lemmas.Bool.{eq-eqb, ne_eqb}
 use Rattle.std.proofs.lemmas.List.Elements.{Contains-append_cases, Contains-append_left, Contains-append_right, Contains-push, filter-append}
 use Rattle.daos_messages.specs.declared.actor.ActorId.{ActorId}
@@ -51,6 +51,21 @@ talk-none n letters l rest t passes none = no-element (talk_of n t.before) (talk
 -- a letter that is taken was in flight
 pub taken-is-among : (letters : List Letter) (l : Letter) (rest : List Letter) → Takes letters l rest → Contains letters l
 taken-is-among letters l rest t = subst (λ ls. Contains ls l) (sym t.among) (Contains-append_right t.before (l ∷ t.after) l (Contains-append_left (l ∷ []) t.after l (Contains-push [] l)))
+
+-- a letter in flight can be taken
+pub taken-from : (letters : List Letter) (l : Letter) → Contains letters l → (rest : List Letter) × Takes letters l rest
+taken-from letters l in' = by letters in'.0 in'.1 in'.2
+  where
+    by : (ls : List Letter) (k : ℕ) → k < length ls → slice_index_or ls k l ≡ l → (rest : List Letter) × Takes ls l rest
+    by [] k low at = absurd (omega arith)
+    by (x ∷ xs) zero low at = (xs, record { before = []; after = xs; among = ap (λ y. y ∷ xs) at; left = refl })
+    by (x ∷ xs) (suc k) low at =
+        let t : (rest : List Letter) × Takes xs l rest = by xs k (omega arith) at in
+        (x ∷ t.0, record { before = x ∷ t.1.before; after = t.1.after; among = ap (λ ls. x ∷ ls) t.1.among; left = ap (λ ls. x ∷ ls) t.1.left })
+
+-- a conversation without letters has none among those in flight
+pub none-among : (n : ℕ) (letters : List Letter) (l : Letter) → talk_of n letters ≡ [] → Contains letters l → is_talk_of n l ≡ true → ⊥
+none-among n letters l none in' passes = let t = taken-from letters l in' in talk-none n letters l t.0 t.1 passes none
 
 -- a letter that is left was in flight
 pub left-is-among : (letters : List Letter) (l : Letter) (rest : List Letter) (m : Letter) → Takes letters l rest → Contains rest m → Contains letters m
