@@ -1,5 +1,5 @@
 -- What a client asks of a target, and what a move of a client is.
-use Rattle.std.specs.Prelude.{ℕ, ◌≡◌, Bool, true, false, List, [], ◌∷◌, slice_get, is_some, Option, Some, None}
+use Rattle.std.specs.Prelude.{ℕ, ◌≡◌, true, false, List, ◌∷◌, slice_get, is_some, Option, Some, None}
 use Rattle.daos_base.specs.declared.epoch.Epoch.{Epoch}
 use Rattle.daos_base.specs.declared.id.ContId.{ContId}
 use Rattle.daos_base.specs.declared.operation.MinorWrite.{MinorWrite}

@@ -1,30 +1,28 @@
 -- Every event keeps the clients' conversations in order.
-use Rattle.std.specs.Prelude.{ℕ, ◌≡◌, ◌≤◌, ◌++◌, Bool, true, false, List, [], ◌∷◌, slice_get, Option, Some, None, Contains, refl}
+use Rattle.std.specs.Prelude.{ℕ, ◌≡◌, ◌≤◌, ◌++◌, Bool, true, false, List, [], ◌∷◌, slice_get, Some, None, Contains, refl}
 use Rattle.std.proofs.Common.{◌⊎◌, append-nil, sym, ◌∙◌, ap, subst, inl, inr, arith}
 use Rattle.std.proofs.Math.ListN.{set}
 use Rattle.std.proofs.lemmas.Bool.{cases_eq, true≢false}
-use Rattle.std.proofs.lemmas.List.Elements.{Contains-append_cases, Contains-push_cases}
+use Rattle.std.proofs.lemmas.List.Elements.{Contains-push_cases}
 use Rattle.daos_base.specs.declared.epoch.Epoch.{Epoch}
 use Rattle.daos_base.specs.declared.report.Line.{Line}
-use Rattle.daos_messages.specs.declared.actor.ActorId.{ActorId}
 use Rattle.daos_messages.specs.declared.message.Post.{Post}
 use Rattle.world_base.specs.declared.client.ClientPlan.{ClientPlan}
 use Rattle.world_base.specs.declared.client.ClientState.{ClientState}
-use Rattle.world_base.specs.declared.client.Present.{Present}
 use Rattle.world_base.specs.declared.letter.Letter.{Letter}
 use Rattle.world_base.specs.declared.world.World.{World}
-use Rattle.world_base.specs.ClientTurns.{Move, about, answered, at_present, attempt_id, heard, hears_epochs, is_waiting, listed, moved, request_of, waits}
-use Rattle.world_events.specs.Events.{Begins, ByClient, ByTarget, Event, Goes, Rules, Run, TargetHears, TargetIdles, ToClient, ToTarget, after_turn, client_plan, kept, target_after, target_plan, with_target}
+use Rattle.world_base.specs.ClientTurns.{Move, answered, at_present, heard, hears_epochs, is_waiting, listed, moved, waits}
+use Rattle.world_events.specs.Events.{Begins, ByClient, ByTarget, Goes, Rules, Run, TargetHears, TargetIdles, ToClient, ToTarget, client_plan, kept, target_plan}
 use Rattle.world_events.specs.Letters.{Takes, client, is_talk_of, is_tell, letter_of, letters_of, talk_of, target}
 use Rattle.world_events.specs.StepLaws.{after-none, by-hearing, by-next, set-here, set-same, set-there}
 use Rattle.world_events.specs.Steps.{KeptByCounting, KeptByHearing, KeptByMoves, after_client, after_move, without}
-use Rattle.world_talks.specs.AnswerLaws.{IsAnsweredBy, answer-not-heard, answers-are-posted, heard-no-tell, hears-heard, idle-posts-nothing}
-use Rattle.world_talks.specs.AskLaws.{IsRequest, asked-is-request, asks-what-it-asked, move-is, sent-is-asked, waiting-rests}
-use Rattle.world_talks.specs.Asked.{Asked, Asking, IsMove, Silent, Telling, tells_tracker}
+use Rattle.world_talks.specs.AnswerLaws.{IsAnsweredBy, answer-not-heard, answers-are-posted, hears-heard, idle-posts-nothing}
+use Rattle.world_talks.specs.AskLaws.{IsRequest, asked-is-request, asks-what-it-asked, move-is, waiting-rests}
+use Rattle.world_talks.specs.Asked.{Asking, IsMove, Silent, Telling, tells_tracker}
 use Rattle.world_talks.specs.Conversation.{Answers, Conversation, ConversationsAreKept, ConversationsBegin, IsAnswered, IsAsked, IsTalk, Talks, before_waiting, request_sent}
 use Rattle.world_talks.specs.HearLaws.{IsAnswer, IsSilent, answer-is, hears-answer, hears-tell, skipping-sends-the-same, tracker-rises}
 use Rattle.world_talks.specs.InFlight.{GetsAnswer, HearsRequest, gets-answer, hears-request, none-in-flight}
-use Rattle.world_talks.specs.TalkLaws.{got-is-no-talk, got-is-talk, left-is-among, sent-is-no-talk, sent-is-talk, taken-is-among, talk-beside, talk-none, talk-only, talk-taken, talk-with, tell-is-no-talk}
+use Rattle.world_talks.specs.TalkLaws.{got-is-no-talk, got-is-talk, left-is-among, sent-is-no-talk, sent-is-talk, talk-beside, talk-taken, talk-with, tell-is-no-talk}
 use Rattle.world_turns.specs.TargetTurns.{is_heard}
 
 -- ---- one client's conversation goes on
@@ -94,8 +92,7 @@ gets-one r w n c d lines l rest k here takes others own =
     turned r w (after_client (without w rest) n [] lines d) n c d k here refl (λ m apart. ap (talk_of m) (append-nil rest) ∙ talk-taken m w.messages l rest takes (others m apart))
     (subst (λ ls. Talks (client_plan r n) n d (talk_of n ls) (waits d)) (sym (append-nil rest)) own) (λ x in' of_kind. inl (left-is-among w.messages l rest x takes (no-more rest x in')))
 
--- ---- what is in flight
-
+-- the same letters, of a client of which the same are talk
 talks-by : (p : ClientPlan) (n : ℕ) (c d : ClientState) (letters : List Letter) (b : Bool) → ((l : Letter) → IsTalk p n c l → IsTalk p n d l) → Talks p n c letters b → Talks p n d letters b
 talks-by p n c d letters true more t = (t.0, t.1, more t.0 t.2)
 talks-by p n c d letters false more t = t
@@ -123,10 +120,11 @@ move-keeps r w n c here k = by (waits c) refl
         let i : IsRequest p c a q = asked-is-request p c.tracker c a q asked in
         subst (λ s. Conversation r (after_client w n (listed (moved p c).post) (listed (moved p c).line) s)) (sym after)
         (subst (λ o. Conversation r (after_client w n (listed o) (listed (moved p c).line) (at_present (record a { waits = true }) c))) (sym says)
-        (sends-one r w n c (at_present (record a { waits = true }) c) (listed (moved p c).line) q k here (λ j apart. sent-is-no-talk n j (letter_of (client n) q) refl i.to_target apart)
-        (letter_of (client n) q,
-        talk-with n w.messages (letter_of (client n) q) (sent-is-talk n (letter_of (client n) q) i.no_tell refl) ∙ ap (λ ls. ls ++ letter_of (client n) q ∷ []) (none-in-flight r w n c k here h),
-        IsAsked c.tracker q (omega arith) (asks-what-it-asked p c a q h at says) refl)))
+        (sends-one r w n c (at_present (record a { waits = true }) c) (listed (moved p c).line) q k here (λ j apart. sent-is-no-talk n j (letter_of (client n) q) refl i.to_target apart) (
+          letter_of (client n) q,
+          talk-with n w.messages (letter_of (client n) q) (sent-is-talk n (letter_of (client n) q) i.no_tell refl) ∙ ap (λ ls. ls ++ letter_of (client n) q ∷ []) (none-in-flight r w n c k here h),
+          IsAsked c.tracker q (omega arith) (asks-what-it-asked p c a q h at says) refl,
+        )))
 
     by : (b : Bool) → waits c ≡ b → Conversation r (after_move w n (moved p c))
     by true h = subst (λ m. Conversation r (after_move w n m)) (sym (waiting-rests p c h)) (subst (Conversation r) (sym (after-none w n c here)) k)
@@ -234,8 +232,8 @@ same-conversations r w v clients messages k = record {
   talks = λ n c at. subst (λ ls. Talks (client_plan r n) n c (talk_of n ls) (waits c)) (sym messages) (k.talks n c (ap (λ cs. slice_get cs n) (sym clients) ∙ at));
   nobody = λ n none. ap (talk_of n) messages ∙ k.nobody n (ap (λ cs. slice_get cs n) (sym clients) ∙ none);
   from_clients = λ l in' of_kind.
-    let o = k.from_clients l (subst (λ ls. Contains ls l) messages in') of_kind in
-    (o.0, o.1, ap (λ cs. slice_get cs o.0) clients ∙ o.2, o.3);
+      let o = k.from_clients l (subst (λ ls. Contains ls l) messages in') of_kind in
+      (o.0, o.1, ap (λ cs. slice_get cs o.0) clients ∙ o.2, o.3);
 }
 
 target-idles-keeps : (r : Rules) (w v : World) → Conversation r w → TargetIdles r w v → Conversation r v

@@ -1,29 +1,22 @@
 -- What is in flight to and from a client whose conversation is in order.
-use Rattle.std.specs.Prelude.{ℕ, ◌≡◌, ◌≤◌, ◌++◌, Bool, true, false, List, [], ◌∷◌, slice_get, Option, Some, None, Contains, refl}
-use Rattle.std.proofs.Common.{◌⊎◌, append-nil, sym, ◌∙◌, ap, subst, inl, inr, arith}
-use Rattle.std.proofs.Math.ListN.{set}
-use Rattle.std.proofs.lemmas.Bool.{cases_eq, true≢false}
-use Rattle.std.proofs.lemmas.List.Elements.{Contains-append_cases, Contains-push_cases}
+use Rattle.std.specs.Prelude.{ℕ, ◌≡◌, ◌≤◌, Bool, true, false, List, [], ◌∷◌, slice_get, Option, Some, None, refl}
+use Rattle.std.proofs.Common.{sym, ◌∙◌, ap, subst}
+use Rattle.std.proofs.lemmas.Bool.{true≢false}
 use Rattle.daos_base.specs.declared.epoch.Epoch.{Epoch}
-use Rattle.daos_base.specs.declared.report.Line.{Line}
 use Rattle.daos_messages.specs.declared.actor.ActorId.{ActorId}
 use Rattle.daos_messages.specs.declared.message.Post.{Post}
-use Rattle.world_base.specs.declared.client.ClientPlan.{ClientPlan}
 use Rattle.world_base.specs.declared.client.ClientState.{ClientState}
 use Rattle.world_base.specs.declared.client.Present.{Present}
 use Rattle.world_base.specs.declared.letter.Letter.{Letter}
 use Rattle.world_base.specs.declared.world.World.{World}
-use Rattle.world_base.specs.ClientTurns.{Move, about, answered, at_present, attempt_id, heard, hears_epochs, is_waiting, listed, moved, request_of, waits}
-use Rattle.world_events.specs.Events.{ByClient, ByTarget, Event, Rules, TargetHears, TargetIdles, ToClient, ToTarget, after_turn, client_plan, kept, target_after, target_plan, with_target}
-use Rattle.world_events.specs.Letters.{Takes, client, is_talk_of, is_tell, letter_of, letters_of, talk_of, target}
-use Rattle.world_events.specs.StepLaws.{after-none, by-hearing, by-next, set-here, set-same, set-there}
-use Rattle.world_events.specs.Steps.{KeptByCounting, KeptByHearing, KeptByMoves, after_client, after_move, without}
-use Rattle.world_talks.specs.AnswerLaws.{IsAnsweredBy, answer-not-heard, answers-are-posted, heard-no-tell, hears-heard, idle-posts-nothing}
-use Rattle.world_talks.specs.AskLaws.{IsRequest, asked-is-request, asks-what-it-asked, move-is, sent-is-asked, waiting-rests}
-use Rattle.world_talks.specs.Asked.{Asked, Asking, IsMove, Silent, Telling, tells_tracker}
-use Rattle.world_talks.specs.Conversation.{Answers, Conversation, ConversationsAreKept, ConversationsBegin, IsAnswered, IsAsked, IsTalk, Talks, before_waiting, request_sent}
-use Rattle.world_talks.specs.HearLaws.{IsAnswer, IsSilent, answer-is, hears-answer, hears-tell, skipping-sends-the-same, tracker-rises}
-use Rattle.world_talks.specs.TalkLaws.{got-is-no-talk, got-is-talk, left-is-among, sent-is-no-talk, sent-is-talk, taken-is-among, talk-beside, talk-none, talk-only, talk-taken, talk-with, tell-is-no-talk}
+use Rattle.world_base.specs.ClientTurns.{is_waiting, waits}
+use Rattle.world_events.specs.Events.{Rules, client_plan}
+use Rattle.world_events.specs.Letters.{Takes, client, is_talk_of, is_tell, letter_of, talk_of}
+use Rattle.world_talks.specs.AnswerLaws.{answer-not-heard, heard-no-tell}
+use Rattle.world_talks.specs.AskLaws.{IsRequest, asked-is-request, sent-is-asked}
+use Rattle.world_talks.specs.Asked.{Asked}
+use Rattle.world_talks.specs.Conversation.{Answers, Conversation, IsAnswered, IsAsked, IsTalk, Talks, request_sent}
+use Rattle.world_talks.specs.TalkLaws.{got-is-talk, sent-is-talk, taken-is-among, talk-none, talk-only}
 use Rattle.world_turns.specs.TargetTurns.{is_heard}
 
 no-target : (n : ℕ) (a : ActorId) → a ≡ client n → a.client ≡ false → ⊥

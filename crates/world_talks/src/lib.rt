@@ -5,7 +5,8 @@ ghost use Rattle.world_talks.specs.Conversation.{ConversationsAreKept, Conversat
 
 /// Says what holds of the letters in flight throughout a run. Beside those that tell a tracker, a
 /// client that waits has exactly one, what it asked or the answer to that, and a client that doesn't
-/// wait has none. Each event keeps it so; and so it is where nothing is in flight and no client waits.
+/// wait has none; what is to be read or committed comes from clients that are there. Each event keeps
+/// it so; and so it is where nothing is in flight and no client waits.
 pub fn laws_of_talks()
     ensures begin { ConversationsBegin }
     ensures kept { ConversationsAreKept }
