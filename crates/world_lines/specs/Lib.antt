@@ -1,0 +1,4 @@
+-- The lines of a run, client by client.
+pub mod Lines
+pub mod FilledLaws
+pub mod LineLaws

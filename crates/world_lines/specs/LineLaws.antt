@@ -1,0 +1,1 @@
+-- Every event keeps what the lines tell of each client.
