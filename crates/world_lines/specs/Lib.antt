@@ -2,3 +2,4 @@
 pub mod Lines
 pub mod FilledLaws
 pub mod LineLaws
+pub mod EndingLaws

@@ -80,11 +80,11 @@ op-told-silent : (p : ClientPlan) (c : ClientState) (a : Present) (b : Answer) (
 op-told-silent p c a b None h = record { goes_on = h; no_post = refl }
 op-told-silent p c a b (Some op) h = group-silent p c a op b h
 
-replied-silent : (p : ClientPlan) (c : ClientState) (a : Present) (r : Reply) → a.waits ≡ false → IsSilent (replied p c a r)
+pub replied-silent : (p : ClientPlan) (c : ClientState) (a : Present) (r : Reply) → a.waits ≡ false → IsSilent (replied p c a r)
 replied-silent p c a (reply.Answer b) h = op-told-silent p c a b (op_of (command_at p c) a.op) h
 replied-silent p c a (reply.Outcome how) h = ends-silent p c a how
 
-ended-silent : (p : ClientPlan) (c : ClientState) (a : Present) (e : Option Epoch) (how : Outcome) → IsSilent (ended p c a e how)
+pub ended-silent : (p : ClientPlan) (c : ClientState) (a : Present) (e : Option Epoch) (how : Outcome) → IsSilent (ended p c a e how)
 ended-silent p c a e how = ends-silent p (record c { known = snaps_known (command_at p c) e how c.known }) a how
 
 fetched-silent : (p : ClientPlan) (c : ClientState) (a : Present) (m : Message) (x : AttemptId) (op group : ℕ) (own : Option Epoch) (b : Reply) → m ≡ message.Fetched x op group own b → IsSilent (answered p c a m)
