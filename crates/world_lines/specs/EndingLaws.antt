@@ -51,9 +51,9 @@ PostsEnd posts = (q : Post) → Has q posts → TellsEnd q.message
 pub sent-end : (actor : ActorId) (letters : List Letter) (posts : List Post) → ((l : Letter) → Contains letters l → TellsEnd l.message) → PostsEnd posts
     → (l : Letter) → Contains (letters ++ letters_of actor posts) l → TellsEnd l.message
 sent-end actor letters posts old new l i = elim (has-cases letters (letters_of actor posts) l (has-from_contains (letters ++ letters_of actor posts) l i)) [
-    | inl j ↦ old l (contains-from_has letters l j)
-    | inr j ↦ let q = has-from_map (letter_of actor) posts l j in subst (λ x. TellsEnd x.message) q.2 (new q.0 q.1)
-  ]
+  | inl j ↦ old l (contains-from_has letters l j)
+  | inr j ↦ let q = has-from_map (letter_of actor) posts l j in subst (λ x. TellsEnd x.message) q.2 (new q.0 q.1)
+]
 
 asked-end : (p : ClientPlan) (k : Epoch) (c : ClientState) (a : Present) (q : Post) → Asked p k c a q → TellsEnd q.message
 asked-end p k c a q (ARead ops turns snapshot op r at here asks says) = subst (λ x. TellsEnd x.message) (sym says) tt
@@ -96,7 +96,7 @@ endings-by-hearing : (r : Rules) (w : World) (n : ℕ) (c : ClientState) (l : Le
     → Endings (after_move (without w rest) n (heard (client_plan r n) c l.message))
 endings-by-hearing r w n c l rest talk k here takes to =
     sent-end (client n) rest (listed (heard (client_plan r n) c l.message).post) (λ m i. k m (left-is-among w.messages l rest m takes i))
-      (λ q i. absurd (subst (λ o. Has q (listed o)) (heard-silent r n c l rest (hearing-is r w n c l rest talk here takes to)) i))
+    (λ q i. absurd (subst (λ o. Has q (listed o)) (heard-silent r n c l rest (hearing-is r w n c l rest talk here takes to)) i))
 
 -- ---- targets
 

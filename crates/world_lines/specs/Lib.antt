@@ -3,3 +3,4 @@ pub mod Lines
 pub mod FilledLaws
 pub mod LineLaws
 pub mod EndingLaws
+pub mod LastLines

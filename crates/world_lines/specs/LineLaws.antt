@@ -108,14 +108,14 @@ pub lines-by-moves : (r : Rules) → 0 < r.attempts → KeptByMoves r (Lines r)
 lines-by-moves r some w n c here k =
     let t = k.told n c here in
     did-tell r w n c (moved (client_plan r n) c).state _ (listed (moved (client_plan r n) c).line) k here
-      (record { told = moved-keeps (client_plan r n) c t.attempts some t.tells.told; answers = moved-answered (client_plan r n) c t.attempts some t.tells })
+    (record { told = moved-keeps (client_plan r n) c t.attempts some t.tells.told; answers = moved-answered (client_plan r n) c t.attempts some t.tells })
 
 pub lines-by-counting : (r : Rules) → KeptByCounting (Lines r)
 unfolding tries
 lines-by-counting r w n j c here k =
     let t = k.told n c here in
     subst (λ ls. Lines r (with_client n (record c { skip = j }) (record w { lines = ls }))) (append-nil w.lines)
-      (did-tell r w n c (record c { skip = j }) w.messages [] k here (skipped n j c t.attempts t.tells))
+    (did-tell r w n c (record c { skip = j }) w.messages [] k here (skipped n j c t.attempts t.tells))
   where
     skipped : (n j : ℕ) (c : ClientState) (attempts : List Attempt) → Tells (client_plan r n) c attempts → Tells (client_plan r n) (record c { skip = j }) (attempts ++ tries [])
     skipped n j c attempts t = subst (Tells (client_plan r n) (record c { skip = j })) (sym (append-nil attempts)) (record { told = t.told; answers = record { ended = t.answers.ended; here = t.answers.here } })
@@ -181,4 +181,4 @@ lines-by-hearing r w n c l rest talk ends k here takes to =
     let t = k.told n c here in
     let p = client_plan r n in
     did-tell r w n c (heard p c l.message).state _ (listed (heard p c l.message).line) k here
-      (record { told = heard-keeps p c t.attempts l.message t.tells.told; answers = heard-answered p c t.attempts l.message t.tells (heard-fits r w n c l rest talk ends here takes to) })
+    (record { told = heard-keeps p c t.attempts l.message t.tells.told; answers = heard-answered p c t.attempts l.message t.tells (heard-fits r w n c l rest talk ends here takes to) })
