@@ -1,5 +1,5 @@
 -- Attempts that are the same but for their epochs are told alike.
-use Rattle.std.specs.Prelude.{ℕ, ◌≡◌, ◌⊎◌, ◌+◌, ◌++◌, ◌==◌, Bool, true, false, List, [], ◌∷◌, map, filter, All, Option, Some, None, refl, if◌then◌else◌}
+use Rattle.std.specs.Prelude.{ℕ, ◌≡◌, ◌+◌, ◌++◌, ◌==◌, Bool, true, false, List, [], ◌∷◌, map, filter, Option, Some, None, refl, if◌then◌else◌}
 use Rattle.std.proofs.Common.{append-nil, sym, ◌∙◌, ap, subst, inl, inr}
 use Rattle.std.proofs.lemmas.List.Elements.{filter-append}
 use Rattle.daos_base.specs.declared.epoch.Epoch.{Epoch}
@@ -8,15 +8,15 @@ use Rattle.daos_base.specs.declared.report.Attempt.{Attempt}
 use Rattle.daos_base.specs.declared.report.Line.{Line}
 use Rattle.daos_base.specs.declared.report.Line.TheVariants as line
 use Rattle.daos_base.specs.declared.script.Command.{Command}
-use Rattle.daos_laws.specs.Members.{Has, has-cases, has-right}
+use Rattle.daos_laws.specs.Members.{Has, has-cases}
 use Rattle.daos_laws.specs.TargetLaws.{number_same, same_number}
-use Rattle.daos_model.specs.Attempts.{is_of_client, is_restart, tried, tries, tries_of}
+use Rattle.daos_model.specs.Attempts.{is_of_client, tried, tries, tries_of}
 use Rattle.daos_model.specs.Laws.{tries-append}
-use Rattle.daos_model.specs.Order.{AreAttempts, AreInTurn, IsNumbered}
+use Rattle.daos_model.specs.Order.{AreAttempts, AreInTurn}
 use Rattle.world_base.specs.declared.client.ClientPlan.{ClientPlan}
 use Rattle.world_clients.specs.Standing.{AreOfPresent, AreTriedAgain, Stands}
 use Rattle.world_events.specs.Events.{with_epoch}
-use Rattle.world_lines.specs.Lines.{AreTheSame, IsTheSame, filled}
+use Rattle.world_lines.specs.Lines.{AreTheSame, filled}
 
 -- ---- lists of the same
 

@@ -1,6 +1,6 @@
 -- When every client is done, the lines tell of all commands in turn, and every attempt ended as it was answered.
-use Rattle.std.specs.Prelude.{ℕ, ◌≡◌, ◌⊎◌, ◌+◌, ◌<◌, ◌++◌, Bool, true, false, List, [], ◌∷◌, slice_get, map, All, Option, Some, None, refl}
-use Rattle.std.proofs.Common.{sym, ◌∙◌, ap, subst, inl, inr}
+use Rattle.std.specs.Prelude.{ℕ, ◌≡◌, ◌⊎◌, ◌+◌, ◌++◌, true, false, List, [], ◌∷◌, slice_get, map, All, Option, Some, None, refl}
+use Rattle.std.proofs.Common.{sym, ◌∙◌, ap, subst}
 use Rattle.std.proofs.lemmas.List.Elements.{All-cons, All-head, All-nil, All-tail}
 use Rattle.daos_base.specs.declared.outcome.Outcome.{Outcome}
 use Rattle.daos_base.specs.declared.outcome.Outcome.TheVariants as outcome
@@ -15,10 +15,10 @@ use Rattle.world_base.specs.declared.client.ClientPlan.{ClientPlan}
 use Rattle.world_base.specs.declared.client.ClientState.{ClientState}
 use Rattle.world_base.specs.declared.world.World.{World}
 use Rattle.world_base.specs.ClientTurns.{is_done}
-use Rattle.world_clients.specs.Answered.{EndsAsAnswered, EndsWell, IsAnsweredWhole, ops_numbered}
+use Rattle.world_clients.specs.Answered.{EndsAsAnswered, EndsWell, ops_numbered}
 use Rattle.world_clients.specs.MoveLaws.{clients-end}
 use Rattle.world_events.specs.Events.{Rules, client_plan, commands_or_none}
-use Rattle.world_lines.specs.Lines.{AreTheSame, HasLines, IsTheSame, Lines}
+use Rattle.world_lines.specs.Lines.{AreTheSame, IsTheSame, Lines}
 
 -- every client's commands are over, and it is at no attempt
 abbrev pub AreDone : Rules → World → Type 0

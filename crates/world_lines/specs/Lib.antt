@@ -4,3 +4,4 @@ pub mod FilledLaws
 pub mod LineLaws
 pub mod EndingLaws
 pub mod LastLines
+pub mod Laws

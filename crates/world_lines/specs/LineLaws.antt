@@ -1,12 +1,10 @@
 -- Every event keeps what the lines tell of each client.
-use Rattle.std.specs.Prelude.{ℕ, ◌≡◌, ◌⊎◌, ◌<◌, ◌+◌, ◌++◌, ◌==◌, Bool, true, false, List, [], ◌∷◌, map, filter, slice_get, Contains, Option, Some, None, refl, if◌then◌else◌}
+use Rattle.std.specs.Prelude.{ℕ, ◌≡◌, ◌⊎◌, ◌<◌, ◌++◌, ◌==◌, Bool, true, false, List, [], map, slice_get, Option, Some, None, refl}
 use Rattle.std.proofs.Common.{append-nil, sym, ◌∙◌, ap, subst, inl, inr}
 use Rattle.std.proofs.Math.ListN.{set}
 use Rattle.daos_base.specs.declared.epoch.Epoch.{Epoch}
-use Rattle.daos_base.specs.declared.id.AttemptId.{AttemptId}
 use Rattle.daos_base.specs.declared.outcome.Outcome.{Outcome}
 use Rattle.daos_base.specs.declared.outcome.Outcome.TheVariants as outcome
-use Rattle.daos_base.specs.declared.operation.MinorWrite.{MinorWrite}
 use Rattle.daos_base.specs.declared.operation.Op.{Op}
 use Rattle.daos_base.specs.declared.operation.Read.{Read}
 use Rattle.daos_base.specs.declared.report.Attempt.{Attempt}
@@ -16,7 +14,7 @@ use Rattle.daos_messages.specs.declared.message.Message.TheVariants as message
 use Rattle.daos_messages.specs.declared.message.Post.{Post}
 use Rattle.daos_messages.specs.declared.message.Reply.{Reply}
 use Rattle.daos_messages.specs.declared.message.Reply.TheVariants as reply
-use Rattle.daos_laws.specs.Members.{Has, has-right}
+use Rattle.daos_laws.specs.Members.{has-right}
 use Rattle.daos_laws.specs.TargetLaws.{number_same, same_number}
 use Rattle.daos_model.specs.Attempts.{tries, tries_of}
 use Rattle.daos_model.specs.Transactions.{ops_or_none}
@@ -25,15 +23,15 @@ use Rattle.world_base.specs.declared.client.ClientState.{ClientState}
 use Rattle.world_base.specs.declared.client.Present.{Present}
 use Rattle.world_base.specs.declared.letter.Letter.{Letter}
 use Rattle.world_base.specs.declared.world.World.{World}
-use Rattle.world_base.specs.ClientTurns.{Move, about, attempt_id, command_at, heard, is_about, listed, moved, question}
-use Rattle.world_clients.specs.AnswerLaws.{KeepsAnswers, Tells, heard-answered, moved-answered}
-use Rattle.world_clients.specs.Answered.{AreAnswered, IsAsking, IsFit, IsFitHere, IsReplyFit, is_refusal, ops_here}
+use Rattle.world_base.specs.ClientTurns.{heard, listed, moved, question}
+use Rattle.world_clients.specs.AnswerLaws.{Tells, heard-answered, moved-answered}
+use Rattle.world_clients.specs.Answered.{IsFit, IsFitHere, IsReplyFit, is_refusal, ops_here}
 use Rattle.world_clients.specs.MoveLaws.{heard-keeps, moved-keeps}
-use Rattle.world_clients.specs.Standing.{HasTold, number_of, tells}
+use Rattle.world_clients.specs.Standing.{number_of}
 use Rattle.world_events.specs.Events.{Rules, client_plan, with_client, with_epoch}
 use Rattle.world_events.specs.Letters.{Takes, client, is_tell}
 use Rattle.world_events.specs.StepLaws.{set-here, set-there}
-use Rattle.world_events.specs.Steps.{KeptByCounting, KeptByHearing, KeptByMoves, after_client, after_move, without}
+use Rattle.world_events.specs.Steps.{KeptByCounting, KeptByMoves, after_move, without}
 use Rattle.world_lines.specs.FilledLaws.{AreOf, others-same, own-more, same-append, same-filled, stands-of}
 use Rattle.world_lines.specs.Lines.{AreTheSame, Endings, HasLines, IsRefusalOrNone, Lines, TellsEnd, filled}
 use Rattle.world_talks.specs.Asked.{ARead, ASnapshot, AnAggregation, Asked, ItsWrites}
