@@ -1,7 +1,7 @@
 -- Each move of a client keeps that its attempts end as they were answered.
 use Rattle.std.specs.Prelude.{ℕ, ◌≡◌, ◌≤◌, ◌<◌, ◌+◌, ◌++◌, Bool, true, false, nat_lt, ◌&&◌, List, [], ◌∷◌, length, map, take, drop, filter, slice_get, is_some, All, Option, Some, None, refl, if◌then◌else◌}
 use Rattle.std.proofs.Common.{zero, suc, append-nil, ◌⊎◌, sym, ◌∙◌, ap, subst, inl, inr, arith}
-use Rattle.std.proofs.lemmas.List.{append_assoc, take_all}
+use Rattle.std.proofs.lemmas.List.{take_all}
 use Rattle.std.proofs.lemmas.List.Elements.{All-append, All-cons, All-nil, filter-append}
 use Rattle.daos_base.specs.declared.answer.Answer.{Answer}
 use Rattle.daos_base.specs.declared.epoch.Epoch.{Epoch}
@@ -25,7 +25,7 @@ use Rattle.daos_messages.specs.declared.message.Reply.{Reply}
 use Rattle.daos_messages.specs.declared.message.Reply.TheVariants as reply
 use Rattle.daos_model.specs.Accesses.{is_condition, minor_writes, op_path}
 use Rattle.daos_model.specs.Attempts.{is_restart, snapshot_of_command, tries}
-use Rattle.daos_model.specs.Conditions.{AllHold, FailsAt, Holds, condition_numbers, holds_where, op_holds_where}
+use Rattle.daos_model.specs.Conditions.{AllHold, Holds, condition_numbers, holds_where, op_holds_where}
 use Rattle.daos_model.specs.Transactions.{number_of_read, numbered, ops_of, ops_or_none, read_numbers}
 use Rattle.world_base.specs.declared.client.ClientPlan.{ClientPlan}
 use Rattle.world_base.specs.declared.client.ClientState.{ClientState}

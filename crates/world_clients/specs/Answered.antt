@@ -1,5 +1,5 @@
 -- What a client's attempts were answered, and how that goes with their ends.
-use Rattle.std.specs.Prelude.{ℕ, ◌≡◌, ◌⊎◌, ◌+◌, Bool, true, false, List, [], ◌∷◌, map, take, slice_get, All, Option, Some, None}
+use Rattle.std.specs.Prelude.{ℕ, ◌≡◌, ◌⊎◌, ◌+◌, Bool, true, false, List, map, take, slice_get, All, Option, Some, None}
 use Rattle.daos_base.specs.declared.operation.Op.{Op}
 use Rattle.daos_base.specs.declared.operation.Read.{Read}
 use Rattle.daos_base.specs.declared.outcome.Outcome.{Outcome}

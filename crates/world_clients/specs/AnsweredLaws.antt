@@ -1,9 +1,7 @@
 -- Each move of a client keeps that its attempts end as they were answered.
-use Rattle.std.specs.Prelude.{ℕ, ◌≡◌, ◌≤◌, ◌<◌, ◌+◌, ◌++◌, Bool, true, false, nat_lt, ◌&&◌, List, [], ◌∷◌, length, map, take, drop, filter, slice_get, All, Option, Some, None, refl, if◌then◌else◌}
-use Rattle.std.proofs.Common.{zero, suc, append-nil, ◌⊎◌, sym, ◌∙◌, ap, subst, inl, inr, arith}
+use Rattle.std.specs.Prelude.{ℕ, ◌≡◌, ◌≤◌, ◌+◌, ◌++◌, List, [], ◌∷◌, length, take, slice_get, Some, None, if◌then◌else◌}
+use Rattle.std.proofs.Common.{zero, suc, append-nil, sym, ◌∙◌, ap, arith}
 use Rattle.std.proofs.lemmas.List.{append_assoc, take_all}
-use Rattle.daos_base.specs.declared.operation.Act.{Act}
-use Rattle.daos_base.specs.declared.operation.Act.TheVariants as act
 use Rattle.daos_base.specs.declared.operation.Op.{Op}
 use Rattle.daos_model.specs.Accesses.{is_condition}
 use Rattle.daos_model.specs.Conditions.{condition_numbers}

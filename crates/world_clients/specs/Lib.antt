@@ -5,3 +5,4 @@ pub mod MoveLaws
 pub mod Answered
 pub mod AnsweredLaws
 pub mod AnswerLaws
+pub mod Laws

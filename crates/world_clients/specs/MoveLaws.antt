@@ -1,6 +1,6 @@
 -- Each move of a client keeps how far its lines have told of its commands.
-use Rattle.std.specs.Prelude.{ℕ, ◌≡◌, ◌≤◌, ◌<◌, ◌+◌, ◌++◌, Bool, true, false, nat_lt, nat_le, ◌&&◌, List, [], ◌∷◌, length, slice_get, find, take, is_some, Option, Some, None, refl, if◌then◌else◌}
-use Rattle.std.proofs.Common.{◌⊎◌, sym, ◌∙◌, ap, subst, inl, inr, arith, append-nil}
+use Rattle.std.specs.Prelude.{ℕ, ◌≡◌, ◌≤◌, ◌<◌, ◌+◌, ◌++◌, Bool, true, false, nat_lt, ◌&&◌, List, [], ◌∷◌, length, slice_get, take, is_some, Option, Some, None, refl, if◌then◌else◌}
+use Rattle.std.proofs.Common.{sym, ◌∙◌, ap, subst, inl, inr, arith, append-nil}
 use Rattle.std.proofs.lemmas.Bool.Decides.{nat_tests}
 use Rattle.daos_base.specs.declared.answer.Answer.{Answer}
 use Rattle.daos_base.specs.declared.operation.Cond.{Cond}
@@ -34,7 +34,7 @@ use Rattle.world_base.specs.declared.client.ClientState.{ClientState}
 use Rattle.world_base.specs.declared.client.Present.{Present}
 use Rattle.world_base.specs.declared.client.Stage.{Stage}
 use Rattle.world_base.specs.declared.client.Stage.TheVariants as stage
-use Rattle.world_base.specs.ClientTurns.{GoesOn, HearTurn, Ended_by, Heard_on, NextTurn, Skipped, Went_on, Move, Moves, is_done, skip_counted, None_yet, One_more, about, answered, asks_again, is_about, condition_told, ended, group_count, group_told, heard, heard_at, hears_epochs, is_yes, joined, knows, lost, op_of, op_told, read_told, replied, reset, reset_by, rests, snaps_known, told_at, after_end, asks_or_goes, at_present, attempt_id, attempt_moves, begins, begins_at, begun, next_command, next_place, next_stage, skips, asks, goes, command_at, command_moves, commits, end_line, ends, first_epoch, is_waiting, listed, moved, moves_at, op_moves, question, run_moves, waits}
+use Rattle.world_base.specs.ClientTurns.{GoesOn, HearTurn, Ended_by, Heard_on, NextTurn, Skipped, Went_on, Move, Moves, is_done, skip_counted, None_yet, One_more, about, answered, asks_again, is_about, condition_told, ended, group_count, group_told, heard, heard_at, hears_epochs, is_yes, joined, knows, op_of, op_told, read_told, replied, reset, reset_by, rests, snaps_known, told_at, after_end, asks_or_goes, at_present, attempt_id, attempt_moves, begins_at, begun, next_command, next_stage, skips, goes, command_at, command_moves, commits, ends, first_epoch, listed, moved, moves_at, op_moves, question, run_moves, waits}
 use Rattle.world_clients.specs.Standing.{ClientsBegin, HasTold, Stands, has_number, number_of, tells}
 use Rattle.world_clients.specs.StandingLaws.{stands-again, stands-begins, stands-ends, stands-passes}
 

@@ -1,6 +1,6 @@
 -- Each move of a client keeps how far its lines have told of its commands.
-use Rattle.std.specs.Prelude.{ℕ, ◌≡◌, ◌≤◌, ◌<◌, ◌+◌, ◌++◌, Bool, true, false, nat_lt, ◌&&◌, List, [], ◌∷◌, length, take, filter, slice_get, Option, Some, None, refl, if◌then◌else◌}
-use Rattle.std.proofs.Common.{append-nil, zero, suc, ◌⊎◌, sym, ◌∙◌, ap, subst, inl, inr, arith}
+use Rattle.std.specs.Prelude.{ℕ, ◌≡◌, ◌≤◌, ◌<◌, ◌+◌, ◌++◌, Bool, true, false, List, [], ◌∷◌, length, take, slice_get, Some, None, refl, if◌then◌else◌}
+use Rattle.std.proofs.Common.{append-nil, zero, suc, ◌⊎◌, sym, ◌∙◌, ap, subst, arith}
 use Rattle.std.proofs.lemmas.Grind.{common_steps}
 use Rattle.std.proofs.lemmas.List.{append_assoc, length-append}
 use Rattle.std.proofs.lemmas.List.Elements.{filter-append}
@@ -12,7 +12,7 @@ use Rattle.daos_model.specs.Attempts.{is_restart}
 use Rattle.daos_model.specs.Order.{AreAttempts, AreInTurn, IsNumbered}
 use Rattle.daos_model.specs.Transactions.{numbered}
 use Rattle.world_base.specs.declared.client.ClientPlan.{ClientPlan}
-use Rattle.world_clients.specs.Standing.{AreOfPresent, AreTriedAgain, Stands, has_number}
+use Rattle.world_clients.specs.Standing.{AreTriedAgain, Stands, has_number}
 
 -- ---- lists
 

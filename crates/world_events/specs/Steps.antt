@@ -1,13 +1,12 @@
 -- A client's turn as steps of the world, one for each move.
-use Rattle.std.specs.Prelude.{ℕ, ◌≡◌, List, [], ◌∷◌, ◌++◌, map, slice_get, Option, Some, None}
+use Rattle.std.specs.Prelude.{ℕ, ◌≡◌, List, ◌++◌, map, slice_get, Some}
 use Rattle.daos_base.specs.declared.report.Line.{Line}
 use Rattle.daos_messages.specs.declared.message.Post.{Post}
-use Rattle.world_base.specs.declared.client.ClientPlan.{ClientPlan}
 use Rattle.world_base.specs.declared.client.ClientState.{ClientState}
 use Rattle.world_base.specs.declared.letter.Letter.{Letter}
 use Rattle.world_base.specs.declared.world.World.{World}
-use Rattle.world_base.specs.ClientTurns.{GoesOn, Move, heard, listed, moved}
-use Rattle.world_events.specs.Events.{ClientGoes, ClientHears, Rules, client_plan, with_client, with_epoch}
+use Rattle.world_base.specs.ClientTurns.{Move, heard, listed, moved}
+use Rattle.world_events.specs.Events.{Rules, client_plan, with_client, with_epoch}
 use Rattle.world_events.specs.Letters.{Takes, client, letters_of}
 
 -- the world once a client sent these messages and added these lines, and is in this state

@@ -2,3 +2,5 @@
 pub mod History
 pub mod Versions
 pub mod Reads
+pub mod EntryLaws
+pub mod ChangeLaws
