@@ -1,7 +1,6 @@
 // The script of a load.
-ghost use Rattle.std.specs.Prelude.{◌≡◌, ◌∷◌, ◌<◌, ◌≤◌, [], IfOk, codes, All};
-ghost use Rattle.daos_base.specs.Placement.{ClassFits};
-ghost use Rattle.daos_base.specs.Scripts.{AreDeclared};
+ghost use Rattle.std.specs.Prelude.{◌≡◌, ◌∷◌, ◌<◌, ◌≤◌, [], IfOk, codes};
+ghost use Rattle.daos_base.specs.Scripts.{IsInForm};
 ghost use Rattle.daos_gen.specs.Scripts.{clients_of, conts_of_load, obj_named, objs_of_load, script_of};
 
 use crate::commands::commands_of;
@@ -79,8 +78,7 @@ pub fn make_script(alloc: Global, count: u32, targets: u8) -> Result<Script, Mem
     requires some_targets { 0 < targets }
     requires few_targets { targets ≤ 64 }
     ensures exact { IfOk result (λ script. script ≡ script_of targets count) }
-    ensures declared { IfOk result (λ script. AreDeclared script) }
-    ensures classes { IfOk result (λ script. All (λ decl. ClassFits decl.id.class targets) script.objs) }
+    ensures form { IfOk result (λ script. IsInForm targets script) }
 {
     Ok(Script {
         targets,

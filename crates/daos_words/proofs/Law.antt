@@ -1,5 +1,5 @@
 -- The laws of words.
-use Rattle.std.proofs.Common.{◌≡◌, ◌≢◌, ℕ, ◌+◌, ◌<◌, true, List, [], ◌∷◌, ◌++◌, length, Option, Some, None, Result, Ok, Err, refl, ap, ◌∙◌, subst, arith}
+use Rattle.std.proofs.Common.{◌≡◌, ◌≢◌, ℕ, ◌+◌, ◌*◌, ◌<◌, ◌≤◌, Bool, true, false, List, [], ◌∷◌, ◌++◌, length, Option, Some, None, Result, Ok, Err, refl, ap, ◌∙◌, subst, arith}
 use Rattle.std.specs.Prelude.{unwrap_or, IfSome}
 use Rattle.daos_base.specs.declared.fault.WordFault.{WordFault}
 use Rattle.daos_base.specs.declared.fault.WordKind.{WordKind}
@@ -13,7 +13,7 @@ use Rattle.daos_words.specs.declared.given.JobWord.TheVariants.{Run, Load}
 use Rattle.daos_words.specs.declared.given.Setting.{Setting}
 use Rattle.daos_words.specs.Laws.{IsWithin, IsInForm, WordsLaw}
 use Rattle.daos_words.specs.Words.{fault, with_word, job_with, loaded, job_after, ended_after, ended, nothing_given, job_of}
-use Rattle.daos_words.proofs.Sound.{IsSound, word_adds}
+use Rattle.daos_words.proofs.Sound.{IsSound, bit, one, one_most, said, word_adds}
 
 abbrev Asked : Type 0
 Asked = Result Job WordFault
@@ -80,6 +80,52 @@ form ws j e = go (steps with_word 0 nothing_given ws) refl e
     go (Err f) r e = absurd cc
     go (Ok g) r e = ended_in_form (length ws) g j (steps_sound 0 nothing_given g ws nothing_sound r) e
 
+-- ---- how many words
+
+-- each word gave something
+steps_few : (at : ℕ) (g t : Given) (ws : List (List ℕ)) → IsSound g → steps with_word at g ws ≡ Ok t → said g + length ws ≤ said t
+unfolding steps
+steps_few at g t [] h e = let same : g ≡ t = cc in let alike : said g ≡ said t = ap (λ u. said u) same in omega (arith, alike)
+steps_few at g t (w ∷ ws) h e = go (with_word at g w) refl e (λ u k f. steps_few (at + 1) u t ws k f)
+  where
+    go : (x : Result Given WordFault) → with_word at g w ≡ x → (x >>= λ u. steps with_word (at + 1) u ws) ≡ Ok t
+        → ((u : Given) → IsSound u → steps with_word (at + 1) u ws ≡ Ok t → said u + length ws ≤ said t) → said g + length (w ∷ ws) ≤ said t
+    go (Err f) r e ih = absurd cc
+    go (Ok u) r e ih = let adds = word_adds at g w u h r in omega (arith, adds.more, ih u adds.sound e)
+
+threads_or_order : (threads : Bool) (order : Option ℕ) → (threads ≡ true → order ≡ None) → bit threads + 2 * one order ≤ 2
+threads_or_order false order h = omega (arith, one_most order)
+threads_or_order true order h = let none : one order ≡ 0 = ap (λ (o : Option ℕ). one o) (h refl) in omega (arith, none)
+
+ended_few : (at : ℕ) (g : Given) (j : Job) → IsSound g → ended at g ≡ Ok j → said g ≤ 12
+unfolding ended
+ended_few at g j h e = go g.awaits refl e
+  where
+    go : (x : Option (ℕ × Setting)) → g.awaits ≡ x → ended_after at g x ≡ Ok j → said g ≤ 12
+    go None r e =
+        let none : one g.awaits ≡ 0 = ap (λ (o : Option (ℕ × Setting)). one o) r in
+        omega (
+          arith,
+          none,
+          one_most g.job,
+          one_most g.count,
+          one_most g.targets,
+          one_most g.size,
+          one_most g.attempts,
+          one_most g.epsilon,
+          threads_or_order g.threads g.order h.apart,
+        )
+    go (Some p) r e = absurd cc
+
+few : (ws : List (List ℕ)) (j : Job) → job_of ws ≡ Ok j → length ws ≤ 12
+unfolding job_of
+few ws j e = go (steps with_word 0 nothing_given ws) refl e
+  where
+    go : (x : Result Given WordFault) → steps with_word 0 nothing_given ws ≡ x → (x >>= λ g. ended (length ws) g) ≡ Ok j → length ws ≤ 12
+    go (Err f) r e = absurd cc
+    go (Ok g) r e =
+        omega (arith, steps_few 0 nothing_given g ws nothing_sound r, ended_few (length ws) g j (steps_sound 0 nothing_given g ws nothing_sound r) e)
+
 -- ---- faults
 
 -- a fault at the end stands behind the last word, or is a value that is missing
@@ -122,4 +168,4 @@ stays ws more f e lt ne = go (steps with_word 0 nothing_given ws) refl e
     go (Err k) r e = let same : k ≡ f = cc in rw (steps_stay 0 nothing_given ws more f (r ∙ ap (λ z. Err z) same)) refl
 
 pub words_law : WordsLaw
-words_law = record { form = form; stays = stays }
+words_law = record { form = form; few = few; stays = stays }

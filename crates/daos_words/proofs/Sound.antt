@@ -45,7 +45,7 @@ pub record Adds (g t : Given) : Type 0 where
   pub sound : IsSound t
   pub more : said g + 1 ≤ said t
 
-one_most : {A : Type 0} (o : Option A) → one o ≤ 1
+pub one_most : {A : Type 0} (o : Option A) → one o ≤ 1
 one_most None = omega arith
 one_most (Some x) = omega arith
 

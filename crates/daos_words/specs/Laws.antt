@@ -18,7 +18,8 @@ pub record IsInForm (j : Job) : Type 0 where
   pub epsilon : j.epsilon ≤ 1000000
   pub apart : j.threads ≡ true → j.order ≡ 0
 
--- words stand for jobs in form; a fault at a word, but for a value that is missing, stays whatever words follow
+-- words stand for jobs in form, and are few; a fault at a word, but for a value that is missing, stays whatever words follow
 pub record WordsLaw : Type 0 where
   pub form : (ws : List (List ℕ)) (j : Job) → job_of ws ≡ Ok j → IsInForm j
+  pub few : (ws : List (List ℕ)) (j : Job) → job_of ws ≡ Ok j → length ws ≤ 12
   pub stays : (ws more : List (List ℕ)) (f : WordFault) → job_of ws ≡ Err f → f.place < length ws → f.kind ≢ NoValue → job_of (ws ++ more) ≡ Err f

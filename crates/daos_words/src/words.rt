@@ -52,7 +52,8 @@ pub fn read_words(_alloc: Global, words: &[String]) -> Result<Job, WordNo>
     }
 }
 
-/// Every job that words stand for is in form, and a fault at a word stays whatever words follow.
+/// Every job that words stand for is in form, and at most 12 words stand for one; a fault at a word
+/// stays whatever words follow.
 pub fn words_are_jobs()
     ensures { WordsLaw }
 {}
