@@ -2,3 +2,4 @@
 pub mod Verdicts
 pub mod TellLaws
 pub mod VerdictLaws
+pub mod TurnLaws
