@@ -1,2 +1,3 @@
 -- Epochs that are issued, and what shows them.
 pub mod Epochs
+pub mod Lists
