@@ -1,3 +1,4 @@
 -- Epochs that are issued, and what shows them.
 pub mod Epochs
 pub mod Lists
+pub mod TargetSteps
