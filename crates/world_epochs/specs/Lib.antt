@@ -2,3 +2,5 @@
 pub mod Epochs
 pub mod Lists
 pub mod TargetSteps
+pub mod Talking
+pub mod TargetLaws
