@@ -4,3 +4,4 @@ pub mod Lists
 pub mod TargetSteps
 pub mod Talking
 pub mod TargetLaws
+pub mod TargetEvents
