@@ -5,3 +5,4 @@ pub mod TargetSteps
 pub mod Talking
 pub mod TargetLaws
 pub mod TargetEvents
+pub mod ClientLaws
