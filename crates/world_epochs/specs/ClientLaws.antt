@@ -48,7 +48,7 @@ at-client clients n c d P here own others m z at = by (same-client m n)
         subst (λ k. P k z) (sym same) (subst (λ y. P n y) is own)
     by (inr off) = others m z off (sym (set-there clients n m d off) ∙ at)
 
-same-id : (r : Rules) (n : ℕ) (c d : ClientState) (a b : Present) → d.command ≡ c.command → b.attempt ≡ a.attempt → attempt_id (client_plan r n) d b ≡ attempt_id (client_plan r n) c a
+pub same-id : (r : Rules) (n : ℕ) (c d : ClientState) (a b : Present) → d.command ≡ c.command → b.attempt ≡ a.attempt → attempt_id (client_plan r n) d b ≡ attempt_id (client_plan r n) c a
 same-id r n c d a b command number = ap (λ z. made z b.attempt) command ∙ ap (λ z. made c.command z) number
   where
     made : ℕ → ℕ → AttemptId

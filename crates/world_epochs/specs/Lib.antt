@@ -6,3 +6,4 @@ pub mod Talking
 pub mod TargetLaws
 pub mod TargetEvents
 pub mod ClientLaws
+pub mod MoveLaws
