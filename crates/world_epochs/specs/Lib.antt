@@ -7,3 +7,4 @@ pub mod TargetLaws
 pub mod TargetEvents
 pub mod ClientLaws
 pub mod MoveLaws
+pub mod HearLaws

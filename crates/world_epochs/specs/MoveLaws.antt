@@ -149,11 +149,11 @@ sends-request r top w n c d a b m K idle present command number asks' lacks bear
 
 module _ (r : Rules) (top : ℕ) (w : World) (n : ℕ) where
   -- the client goes on with its attempt, and sends nothing
-  goes-keeps : (c : ClientState) (a b : Present) → AtWork r top w n c a → b.attempt ≡ a.attempt → b.epoch ≡ a.epoch → (b.waits ≡ false → a.waits ≡ false) → Keeps r top w n (goes (at_present b c))
+  pub goes-keeps : (c : ClientState) (a b : Present) → AtWork r top w n c a → b.attempt ≡ a.attempt → b.epoch ≡ a.epoch → (b.waits ≡ false → a.waits ≡ false) → Keeps r top w n (goes (at_present b c))
   goes-keeps c a b K number epoch idle = unsaid-keeps r top w n (at_present a c) (goes (at_present b c)) refl K.epochs (quiet-goes r top w n c (at_present b c) a b K.epochs K.here (omega arith) refl refl number epoch idle) tt
 
   -- it asks, and waits
-  asks-keeps : (c : ClientState) (a : Present) (target : ℕ) (m : Message) → AtWork r top w n c a → Sends r top w n (set w.clients n (at_present (record a { waits = true }) c)) m → Keeps r top w n (asks target m a c)
+  pub asks-keeps : (c : ClientState) (a : Present) (target : ℕ) (m : Message) → AtWork r top w n c a → Sends r top w n (set w.clients n (at_present (record a { waits = true }) c)) m → Keeps r top w n (asks target m a c)
   asks-keeps c a target m K S =
       unsaid-keeps r top w n (at_present a c) (asks target m a c) refl K.epochs
       (quiet-goes r top w n c (at_present (record a { waits = true }) c) a (record a { waits = true }) K.epochs K.here (omega arith) refl refl refl refl (λ e. let no : ⊥ = cc in absurd no)) S
@@ -186,10 +186,10 @@ module _ (r : Rules) (top : ℕ) (w : World) (n : ℕ) where
   no-first known (Tell client') h = refl
   no-first known (Skip turns) h = refl
 
-  end-next : (c : ClientState) (a : Present) (how : Outcome) (o : Option Command) → ((d : Command) → o ≡ Some d → is_unsnapped d ≡ true)
-      → ((after_end (client_plan r n) c o a how).tracker ≡ c.tracker) × IsNext (at_present a c) a (after_end (client_plan r n) c o a how)
-  end-next c a how None plain = (refl, ByCommand refl refl)
-  end-next c a how (Some d) plain = by (is_restart how && nat_lt (a.attempt + 1) r.attempts)
+  end-next : (c : ClientState) (a : Present) (conds : List (ℕ × Bool)) (waits' : Bool) (how : Outcome) (o : Option Command) → ((d : Command) → o ≡ Some d → is_unsnapped d ≡ true)
+      → ((after_end (client_plan r n) c o (record a { conds = conds; waits = waits' }) how).tracker ≡ c.tracker) × IsNext (at_present a c) a (after_end (client_plan r n) c o (record a { conds = conds; waits = waits' }) how)
+  end-next c a conds waits' how None plain = (refl, ByCommand refl refl)
+  end-next c a conds waits' how (Some d) plain = by (is_restart how && nat_lt (a.attempt + 1) r.attempts)
     where
       again : ClientState
       again = at_present (begun (a.attempt + 1) a.first (first_epoch c.known (snapshot_of_command d))) c
@@ -199,30 +199,30 @@ module _ (r : Rules) (top : ℕ) (w : World) (n : ℕ) where
       by false = (refl, ByCommand refl refl)
 
   -- the line of an attempt that ends, with the epoch that its client knows of it, or else the one that was issued
-  abbrev its_line : ClientState → Present → Outcome → Attempt
-  its_line c a how = record {
+  abbrev pub its_line : ClientState → Present → List (ℕ × Bool) → Outcome → Attempt
+  its_line c a conds how = record {
     id = attempt_id (client_plan r n) c a;
     epoch = or_issued w.issued (attempt_id (client_plan r n) c a) a.epoch;
-    conds = a.conds;
+    conds = conds;
     gots = a.gots;
     outcome = how;
   }
 
-  ends-keeps : (c : ClientState) (a : Present) (how : Outcome) → Unsnapped r → AtWork r top w n c a
-      → (a.epoch ≡ None → is_unsure (its_line c a how) ≡ false → IsUnissued w (attempt_id (client_plan r n) c a)) → ((e : ℕ) → Contains (told_by how) e → e ≤ c.tracker.0)
-      → Keeps r top w n (ends (client_plan r n) c a how)
-  ends-keeps c a how U K unsure told =
-      subst (λ ls. Epochs r top (record w { clients = set w.clients n d; messages = ls; lines = w.lines ++ map (with_epoch w.issued) (listed (ends (client_plan r n) c a how).line) })) (sym (append-nil w.messages))
-      (ending-keeps r top w n (at_present a c) d a (its_line c a how) K.epochs ending)
+  pub ends-keeps : (c : ClientState) (a : Present) (conds : List (ℕ × Bool)) (waits' : Bool) (how : Outcome) → Unsnapped r → AtWork r top w n c a
+      → (a.epoch ≡ None → is_unsure (its_line c a conds how) ≡ false → IsUnissued w (attempt_id (client_plan r n) c a)) → ((e : ℕ) → Contains (told_by how) e → e ≤ c.tracker.0)
+      → Keeps r top w n (ends (client_plan r n) c (record a { conds = conds; waits = waits' }) how)
+  ends-keeps c a conds waits' how U K unsure told =
+      subst (λ ls. Epochs r top (record w { clients = set w.clients n d; messages = ls; lines = w.lines ++ map (with_epoch w.issued) (listed (ends (client_plan r n) c (record a { conds = conds; waits = waits' }) how).line) })) (sym (append-nil w.messages))
+      (ending-keeps r top w n (at_present a c) d a (its_line c a conds how) K.epochs ending)
     where
       d : ClientState
-      d = after_end (client_plan r n) c (command_at (client_plan r n) c) a how
+      d = after_end (client_plan r n) c (command_at (client_plan r n) c) (record a { conds = conds; waits = waits' }) how
 
       x : AttemptId
       x = attempt_id (client_plan r n) c a
 
       next : (d.tracker ≡ c.tracker) × IsNext (at_present a c) a d
-      next = end-next c a how (command_at (client_plan r n) c) (λ d' is. U n c.place d' is)
+      next = end-next c a conds waits' how (command_at (client_plan r n) c) (λ d' is. U n c.place d' is)
 
       shown : (o : Option Epoch) (e : Epoch) → a.epoch ≡ o → or_issued w.issued x o ≡ Some e → IsIssued w x e
       shown None e is h = by (epoch-found w.issued x)
@@ -240,11 +240,11 @@ module _ (r : Rules) (top : ℕ) (w : World) (n : ℕ) where
           by (inr k) = k.1 ∙ ap (λ f. Some f) (K.epochs.one x k.0 e k.2 h)
       whole (Some own) e is h = ap (λ f. Some f) (K.epochs.one x own e (K.epochs.known n (at_present a c) a own K.here refl is) h)
 
-      sure : (o : Option Epoch) (e : Epoch) → a.epoch ≡ o → or_issued w.issued x o ≡ Some e → is_unsure (its_line c a how) ≡ false → e.0 ≤ c.tracker.0
+      sure : (o : Option Epoch) (e : Epoch) → a.epoch ≡ o → or_issued w.issued x o ≡ Some e → is_unsure (its_line c a conds how) ≡ false → e.0 ≤ c.tracker.0
       sure None e is h known = absurd (unsure is known e (shown None e is h))
       sure (Some own) e is h known = K.epochs.tracked n (at_present a c) a e K.here refl (is ∙ h)
 
-      ending : IsEnding r w n (at_present a c) d a (its_line c a how)
+      ending : IsEnding r w n (at_present a c) d a (its_line c a conds how)
       ending = record {
         here = K.here;
         at = refl;
@@ -258,13 +258,13 @@ module _ (r : Rules) (top : ℕ) (w : World) (n : ℕ) where
       }
 
   -- one that waits for nothing, and of whose end its client hears nothing new
-  sure-ends : (c : ClientState) (a : Present) (how : Outcome) → Unsnapped r → AtWork r top w n c a → a.waits ≡ false → ((e : ℕ) → Contains (told_by how) e → e ≤ c.tracker.0) → Keeps r top w n (ends (client_plan r n) c a how)
-  sure-ends c a how U K idle told = ends-keeps c a how U K (λ none known. K.epochs.unknown n (at_present a c) a K.here refl idle none) told
+  pub sure-ends : (c : ClientState) (a : Present) (conds : List (ℕ × Bool)) (how : Outcome) → Unsnapped r → AtWork r top w n c a → a.waits ≡ false → ((e : ℕ) → Contains (told_by how) e → e ≤ c.tracker.0) → Keeps r top w n (ends (client_plan r n) c (record a { conds = conds }) how)
+  sure-ends c a conds how U K idle told = ends-keeps c a conds a.waits how U K (λ none known. K.epochs.unknown n (at_present a c) a K.here refl idle none) told
 
   -- ---- the moves of a transaction
 
   commits-keeps : (c : ClientState) (a : Present) (ws : List MinorWrite) → Unsnapped r → AtWork r top w n c a → a.waits ≡ false → Keeps r top w n (commits (client_plan r n) c a ws)
-  commits-keeps c a [] U K idle = sure-ends c a outcome.Committed U K idle (λ e h. absurd (contains-none e h))
+  commits-keeps c a [] U K idle = sure-ends c a a.conds outcome.Committed U K idle (λ e h. absurd (contains-none e h))
   commits-keeps c a (q ∷ qs) U K idle = asks-keeps c a (writes_leader (q ∷ qs) r.script.targets) (message.Commit (attempt_id (client_plan r n) c a) a.epoch a.first c.tracker (q ∷ qs)) K (commit-sends c a a.epoch (q ∷ qs) K idle refl)
 
   stage-stays : (s : Stage) (a : Present) → ((next_stage s a).attempt ≡ a.attempt) × ((next_stage s a).epoch ≡ a.epoch) × ((next_stage s a).waits ≡ a.waits)
