@@ -43,12 +43,12 @@ same-some x y h = cc
 
 -- ---- trackers
 
-greatest-up : (t : ℕ) (es : List ℕ) → t ≤ greatest t es
+pub greatest-up : (t : ℕ) (es : List ℕ) → t ≤ greatest t es
 unfolding greatest
 greatest-up t [] = omega arith
 greatest-up t (e ∷ es) = let k : max t e ≤ greatest (max t e) es = greatest-up (max t e) es in omega (arith, k)
 
-greatest-has : (t : ℕ) (es : List ℕ) (e : ℕ) → Contains es e → e ≤ greatest t es
+pub greatest-has : (t : ℕ) (es : List ℕ) (e : ℕ) → Contains es e → e ≤ greatest t es
 unfolding greatest
 greatest-has t [] e h = absurd (contains-none e h)
 greatest-has t (f ∷ es) e h = by (greatest-up (max t f) es) (λ k. greatest-has (max t f) es e k) (contains-cons f es e h)
@@ -89,26 +89,26 @@ module _ (r : Rules) (top : ℕ) (w : World) (n : ℕ) where
   op-told-keeps c a b None U K idle = goes-keeps r top w n c a a K refl refl (λ e. e)
   op-told-keeps c a b (Some op) U K idle = group-keeps c a op b U K idle
 
-  replied-keeps : (c : ClientState) (a : Present) (b : Reply) → Unsnapped r → AtWork r top w n c a → a.waits ≡ false → ((e : ℕ) → Contains (told_by_reply b) e → e ≤ c.tracker.0) → Keeps r top w n (replied (client_plan r n) c a b)
+  pub replied-keeps : (c : ClientState) (a : Present) (b : Reply) → Unsnapped r → AtWork r top w n c a → a.waits ≡ false → ((e : ℕ) → Contains (told_by_reply b) e → e ≤ c.tracker.0) → Keeps r top w n (replied (client_plan r n) c a b)
   replied-keeps c a (reply.Answer b) U K idle told = op-told-keeps c a b (op_of (command_at (client_plan r n) c) a.op) U K idle
   replied-keeps c a (reply.Outcome how) U K idle told = sure-ends r top w n c a a.conds how U K idle told
 
   -- ---- what a client then knows
 
   -- the client as it is once it knows more
-  quiet-client : (c d : ClientState) → Epochs r top w → IsQuiet r w n c d → Epochs r top (with_client n d w)
+  pub quiet-client : (c d : ClientState) → Epochs r top w → IsQuiet r w n c d → Epochs r top (with_client n d w)
   quiet-client c d E Q = subst (λ ls. Epochs r top (record w { clients = set w.clients n d; messages = ls })) (append-nil w.messages) (quiet-keeps r top w n c d None E Q tt)
 
-  at-work : (c e : ClientState) (b : Present) → Epochs r top w → IsQuiet r w n c (at_present b e) → talk_of n w.messages ≡ [] → AtWork r top (with_client n (at_present b e) w) n e b
+  pub at-work : (c e : ClientState) (b : Present) → Epochs r top w → IsQuiet r w n c (at_present b e) → talk_of n w.messages ≡ [] → AtWork r top (with_client n (at_present b e) w) n e b
   at-work c e b E Q silent = record { here = set-here w.clients n c (at_present b e) Q.here; silent = silent; epochs = quiet-client c (at_present b e) E Q }
 
   -- what it does then, it does at once
-  twice-keeps : (d : ClientState) (m : Move) → Keeps r top (with_client n d w) n m → Keeps r top w n m
+  pub twice-keeps : (d : ClientState) (m : Move) → Keeps r top (with_client n d w) n m → Keeps r top w n m
   twice-keeps d m E =
       subst (λ cs. Epochs r top (record w { clients = cs; messages = w.messages ++ letters_of (client n) (listed m.post); lines = w.lines ++ map (with_epoch w.issued) (listed m.line) })) (set-twice w.clients n d m.state) E
 
   -- it knows the epoch of its attempt, where the answer bears it, or that it has none
-  quiet-knows : (c e : ClientState) (a : Present) (o : Option Epoch) → Epochs r top w → slice_get w.clients n ≡ Some c → c.present ≡ Some a → c.tracker.0 ≤ e.tracker.0 → e.command ≡ c.command
+  pub quiet-knows : (c e : ClientState) (a : Present) (o : Option Epoch) → Epochs r top w → slice_get w.clients n ≡ Some c → c.present ≡ Some a → c.tracker.0 ≤ e.tracker.0 → e.command ≡ c.command
       → ((f : Epoch) → o ≡ Some f → IsIssued w (attempt_id (client_plan r n) c a) f × (f.0 ≤ e.tracker.0)) → (o ≡ None → IsUnissued w (attempt_id (client_plan r n) c a)) → IsQuiet r w n c (at_present (knows o a) e)
   quiet-knows c e a o E here at tracker command bears lacks = record {
     here = here;
@@ -135,7 +135,7 @@ module _ (r : Rules) (top : ℕ) (w : World) (n : ℕ) where
   -- ---- a request that is lost
 
   -- its attempt is over, and it is open what became of it
-  lost-keeps : (c e : ClientState) (a : Present) (how : Outcome) → Unsnapped r → Epochs r top w → slice_get w.clients n ≡ Some c → c.present ≡ Some a → c.tracker.0 ≤ e.tracker.0 → e.command ≡ c.command → e.present ≡ c.present
+  pub lost-keeps : (c e : ClientState) (a : Present) (how : Outcome) → Unsnapped r → Epochs r top w → slice_get w.clients n ≡ Some c → c.present ≡ Some a → c.tracker.0 ≤ e.tracker.0 → e.command ≡ c.command → e.present ≡ c.present
       → talk_of n w.messages ≡ [] → ((x : AttemptId) → x ≡ attempt_id (client_plan r n) e a → is_unknown how || is_lost x how ≡ true) → ((f : ℕ) → Contains (told_by how) f → ⊥) → Keeps r top w n (ends (client_plan r n) e (record a { waits = false }) how)
   lost-keeps c e a how U E here at tracker command present silent told' nothing =
       twice-keeps (at_present a e) (ends (client_plan r n) e (record a { waits = false }) how)
@@ -143,7 +143,7 @@ module _ (r : Rules) (top : ℕ) (w : World) (n : ℕ) where
       (λ none known. let unsure : is_unknown how || is_lost (attempt_id (client_plan r n) e a) how ≡ true = told' (attempt_id (client_plan r n) e a) refl in let no : ⊥ = cc in absurd no) (λ f h. absurd (nothing f h)))
 
   -- it asks what became of its attempt
-  again-keeps : (c e : ClientState) (a : Present) (target : ℕ) → Epochs r top w → slice_get w.clients n ≡ Some c → c.present ≡ Some a → c.tracker.0 ≤ e.tracker.0 → e.command ≡ c.command
+  pub again-keeps : (c e : ClientState) (a : Present) (target : ℕ) → Epochs r top w → slice_get w.clients n ≡ Some c → c.present ≡ Some a → c.tracker.0 ≤ e.tracker.0 → e.command ≡ c.command
       → a.waits ≡ true → Keeps r top w n (asks_again (client_plan r n) e (record a { waits = false }) target)
   again-keeps c e a target E here at tracker command waits' =
       unsaid-keeps r top w n c (asks_again (client_plan r n) e (record a { waits = false }) target) refl E

@@ -8,3 +8,4 @@ pub mod TargetEvents
 pub mod ClientLaws
 pub mod MoveLaws
 pub mod HearLaws
+pub mod HeardLaws
