@@ -9,3 +9,4 @@ pub mod ClientLaws
 pub mod MoveLaws
 pub mod HearLaws
 pub mod HeardLaws
+pub mod EpochLaws
