@@ -25,6 +25,7 @@ use Rattle.world_events.specs.Letters.{client, letter_of, letters_of}
 use Rattle.world_events.specs.StepLaws.{set-here, set-there}
 use Rattle.world_events.specs.Steps.{without}
 use Rattle.world_epochs.specs.Epochs.{AsksEpoch, BearsEpoch, Epochs, HasLine, InCause, IsAt, IsIssued, IsPast, IsPresent, IsTold, IsUnissued, ItsOwn, LacksEpoch, Told, reads_snapshot}
+use Rattle.world_epochs.specs.IssuedLists.{issued-push}
 use Rattle.world_epochs.specs.Lists.{all-each, contains-filter, contains-none, contains-one, each-push, tries-push}
 use Rattle.world_epochs.specs.TargetLaws.{later-unissued}
 
@@ -84,6 +85,7 @@ fewer-keeps r top w rest among E = record {
   same_command = E.same_command;
   past = E.past;
   shown = E.shown;
+  distinct = E.distinct;
   risen = E.risen;
 }
 
@@ -148,6 +150,7 @@ quiet-keeps r top w n c d post E Q S = record {
   past = λ a z h here. at-client w.clients n c d (λ k y. a.id.client ≡ k → IsPast y a.id) Q.here (λ same. still-past a.id (E.past a c h (subst (λ k. slice_get w.clients k ≡ Some c) (sym same) Q.here)))
       (λ k y off at same. E.past a y h (subst (λ j. slice_get w.clients j ≡ Some y) (sym same) at)) a.id.client z here refl;
   shown = E.shown;
+  distinct = E.distinct;
   risen = E.risen;
 }
   where
@@ -258,6 +261,7 @@ ending-keeps r top w n c d a t E Q = record {
   past = λ b z h here. at-client w.clients n c d (λ k y. b.id.client ≡ k → IsPast y b.id) Q.here (λ same. past-here b same (cases b h))
       (λ k y off at same. ⊎_elim (λ o. E.past b y o (subst (λ j. slice_get w.clients j ≡ Some y) (sym same) at)) (λ is. absurd (off (sym same ∙ ap (λ q. q.id.client) (sym is)))) (cases b h)) b.id.client z here refl;
   shown = λ b e h is. ⊎_elim (λ o. E.shown b e o is) (λ same. subst (λ q. IsIssued w q.id e) same (Q.shown e (ap (λ q. q.epoch) same ∙ is))) (cases b h);
+  distinct = issued-push r.script top w.lines now E.distinct (λ e is. (E.above now.id e (Q.shown e is), λ b f h known same. own-only e is b f h known same));
   risen = each-push (RisesFrom r.script) w.lines now E.risen (λ own. after-all t.epoch refl);
 }
   where
@@ -360,6 +364,17 @@ ending-keeps r top w n c d a t E Q = record {
         by : IsPast c b.id → b.id.attempt < a.attempt
         by (inl k) = absurd (omega (arith, k, command))
         by (inr k) = let one : k.0.attempt ≡ a.attempt = ap (λ z. z.attempt) (same-some c.present k.0 a k.1 Q.at) in let low : b.id.attempt < k.0.attempt = k.3 in omega (arith, one, low)
+
+    -- no line before has the epoch of the attempt
+    own-only : (e : Epoch) → t.epoch ≡ Some e → (b : Attempt) (f : Epoch) → Contains (tries w.lines) b → b.epoch ≡ Some f → (e.0 ≡ f.0) → ⊥
+    own-only e is b f h known same =
+        let one : now.id ≡ b.id = E.apart now.id b.id e (Q.shown e is) (subst (λ g. IsIssued w b.id g) (ap epoch-of (sym same)) (E.shown b f h known)) in
+        let number : a.attempt ≡ b.id.attempt = ap (λ y. y.attempt) one in
+        let low : b.id.attempt < a.attempt = before-now b h (ap (λ y. y.client) (sym one)) (ap (λ y. y.command) (sym one)) in
+        omega (arith, number, low)
+      where
+        epoch-of : ℕ → Epoch
+        epoch-of n = record { 0 = n }
 
     after : (e : Epoch) → t.epoch ≡ Some e → (b : Attempt) → Contains (tries_of n w.lines) b → IsAfter r.script e.0 now b
     after e is b h = record {

@@ -21,6 +21,7 @@ use Rattle.world_talks.specs.Conversation.{Conversation}
 use Rattle.world_epochs.specs.Epochs.{Epochs, InCause, IsIssued, IsTold, ItsOwn, OneTarget, Unsnapped}
 use Rattle.world_epochs.specs.HeardLaws.{heard-keeps}
 use Rattle.world_epochs.specs.HearLaws.{quiet-client}
+use Rattle.world_epochs.specs.IssuedLists.{none-issued}
 use Rattle.world_epochs.specs.Lists.{contains-none}
 use Rattle.world_epochs.specs.MoveLaws.{moved-keeps, quiet-same}
 use Rattle.world_epochs.specs.Talking.{silent-unless}
@@ -78,6 +79,7 @@ epochs-begin r top w B = record {
   same_command = λ x y e f h. absurd (contains-none (x, e) (subst (λ is. Contains is (x, e)) B.issued h));
   past = λ a c h. absurd (no-tries a h);
   shown = λ a e h. absurd (no-tries a h);
+  distinct = none-issued r.script top w.lines B.lines;
   risen = none-rise r.script w.lines B.lines;
 }
   where

@@ -10,7 +10,7 @@ use Rattle.daos_base.specs.declared.script.Script.{Script}
 use Rattle.daos_messages.specs.declared.message.Message.{Message}
 use Rattle.daos_messages.specs.declared.message.Message.TheVariants as message
 use Rattle.daos_model.specs.Attempts.{has_own_epoch, is_unsure, tries}
-use Rattle.daos_model.specs.Order.{AllRise, told_by}
+use Rattle.daos_model.specs.Order.{AllRise, AreIssued, told_by}
 use Rattle.world_base.specs.declared.client.ClientState.{ClientState}
 use Rattle.world_base.specs.declared.client.Present.{Present}
 use Rattle.world_base.specs.declared.letter.Letter.{Letter}
@@ -138,6 +138,7 @@ pub record Epochs (r : Rules) (top : ℕ) (w : World) : Type 0 where
   pub same_command : (x y : AttemptId) (e f : Epoch) → IsIssued w x e → IsIssued w y f → x.client ≡ y.client → x.command ≡ y.command → y.attempt < x.attempt → f.0 < e.0
   -- a client is past the attempts that its lines tell of
   pub past : (a : Attempt) (c : ClientState) → Contains (tries w.lines) a → slice_get w.clients a.id.client ≡ Some c → IsPast c a.id
-  -- lines show the epochs that were issued, and those of a client rise
+  -- lines show the epochs that were issued; those differ from one another, and those of a client rise
   pub shown : (a : Attempt) (e : Epoch) → Contains (tries w.lines) a → a.epoch ≡ Some e → IsIssued w a.id e
+  pub distinct : AreIssued r.script top w.lines
   pub risen : AllRise r.script w.lines

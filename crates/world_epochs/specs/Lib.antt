@@ -1,6 +1,7 @@
 -- Epochs that are issued, and what shows them.
 pub mod Epochs
 pub mod Lists
+pub mod IssuedLists
 pub mod TargetSteps
 pub mod Talking
 pub mod TargetLaws

@@ -119,6 +119,7 @@ target-keeps r top w s new letters o E D = record {
   same_command = λ x y e f h k client' command later. rising x y e f client' command later (was x e h) (was y f k);
   past = E.past;
   shown = λ a e h is. old a.id e (E.shown a e h is);
+  distinct = E.distinct;
   risen = E.risen;
 }
   where
