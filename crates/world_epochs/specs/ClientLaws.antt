@@ -1,16 +1,14 @@
 -- What a client does keeps what is said of epochs: it goes on with its attempt, or ends it.
-use Rattle.std.specs.Prelude.{ℕ, ◌≡◌, ◌≢◌, ◌≤◌, ◌<◌, ◌+◌, ◌++◌, ◌⊎◌, ◌==◌, Bool, true, false, List, [], ◌∷◌, map, Contains, slice_get, Option, Some, None, refl}
-use Rattle.std.proofs.Common.{append-nil, sym, ◌∙◌, ap, subst, inl, inr, ⊎_elim, arith}
+use Rattle.std.specs.Prelude.{ℕ, ◌≡◌, ◌≢◌, ◌≤◌, ◌<◌, ◌+◌, ◌++◌, ◌⊎◌, true, false, List, [], ◌∷◌, Contains, slice_get, Option, Some, None, refl}
+use Rattle.std.proofs.Common.{sym, ◌∙◌, ap, subst, inl, inr, ⊎_elim, arith}
 use Rattle.std.proofs.Math.ListN.{set}
 use Rattle.std.proofs.lemmas.Bool.{eqb-true}
 use Rattle.std.proofs.lemmas.Bool.Decides.{eqb_tells}
-use Rattle.std.proofs.lemmas.List.Elements.{Contains-append_cases, Contains-append_left, Contains-append_right, Contains-push, Contains-push_cases}
+use Rattle.std.proofs.lemmas.List.Elements.{Contains-append_cases, Contains-append_left, Contains-push, Contains-push_cases}
 use Rattle.daos_base.specs.declared.epoch.Epoch.{Epoch}
 use Rattle.daos_base.specs.declared.id.AttemptId.{AttemptId}
 use Rattle.daos_base.specs.declared.report.Attempt.{Attempt}
-use Rattle.daos_base.specs.declared.report.Line.{Line}
 use Rattle.daos_base.specs.declared.report.Line.TheVariants as line
-use Rattle.daos_base.specs.declared.script.Script.{Script}
 use Rattle.daos_messages.specs.declared.message.Message.{Message}
 use Rattle.daos_messages.specs.declared.message.Post.{Post}
 use Rattle.daos_model.specs.Attempts.{has_own_epoch, is_of_client, is_unsure, tries, tries_of}
@@ -24,15 +22,12 @@ use Rattle.world_events.specs.Events.{Rules, client_plan}
 use Rattle.world_events.specs.Letters.{client, letter_of, letters_of}
 use Rattle.world_events.specs.StepLaws.{set-here, set-there}
 use Rattle.world_events.specs.Steps.{without}
-use Rattle.world_epochs.specs.Epochs.{AsksEpoch, BearsEpoch, Epochs, HasLine, InCause, IsAt, IsIssued, IsPast, IsPresent, IsTold, IsUnissued, ItsOwn, LacksEpoch, Told, reads_snapshot}
+use Rattle.world_epochs.specs.Epochs.{AsksEpoch, BearsEpoch, Epochs, InCause, IsAt, IsIssued, IsPast, IsPresent, IsTold, IsUnissued, ItsOwn, LacksEpoch, Told, reads_snapshot}
 use Rattle.world_epochs.specs.IssuedLists.{issued-push}
-use Rattle.world_epochs.specs.Lists.{all-each, contains-filter, contains-none, contains-one, each-push, tries-push}
+use Rattle.world_epochs.specs.Lists.{all-each, contains-filter, contains-none, contains-one, each-push, one-value, tries-push}
 use Rattle.world_epochs.specs.TargetLaws.{later-unissued}
 
 -- ---- one client among others
-
-same-some : {T : Type 0} (o : Option T) (x y : T) → o ≡ Some x → o ≡ Some y → x ≡ y
-same-some o x y h k = cc
 
 pub same-client : (m n : ℕ) → (m ≡ n) ⊎ ((m ≡ n) → ⊥)
 same-client m n = ⊎_elim (λ k. inl k.1) (λ k. inr (λ same. let off : m ≢ n = k.1 in omega (arith, off, same))) (eqb_tells m n)
@@ -45,7 +40,7 @@ at-client clients n c d P here own others m z at = by (same-client m n)
     by : (m ≡ n) ⊎ ((m ≡ n) → ⊥) → P m z
     by (inl same) =
         let now : slice_get (set clients n d) m ≡ Some d = subst (λ k. slice_get (set clients n d) k ≡ Some d) (sym same) (set-here clients n c d here) in
-        let is : d ≡ z = same-some (slice_get (set clients n d) m) d z now at in
+        let is : d ≡ z = one-value (slice_get (set clients n d) m) d z now at in
         subst (λ k. P k z) (sym same) (subst (λ y. P n y) is own)
     by (inr off) = others m z off (sym (set-there clients n m d off) ∙ at)
 
@@ -165,7 +160,7 @@ quiet-keeps r top w n c d post E Q S = record {
       where
         by : (x.client ≡ n) ⊎ ((x.client ≡ n) → ⊥) → IsAt r (set w.clients n d) x
         by (inl same) =
-            let is : p.c ≡ c = same-some (slice_get w.clients n) p.c c (subst (λ k. slice_get w.clients k ≡ Some p.c) same p.here) Q.here in
+            let is : p.c ≡ c = one-value (slice_get w.clients n) p.c c (subst (λ k. slice_get w.clients k ≡ Some p.c) same p.here) Q.here in
             let b : (b : Present) × (d.present ≡ Some b) × (b.attempt ≡ p.a.attempt) = Q.stays p.a (subst (λ z. z.present ≡ Some p.a) is p.at) in
             record {
               c = d;
@@ -184,7 +179,7 @@ quiet-keeps r top w n c d post E Q S = record {
         by (inl same) = then (Q.was p.a (subst (λ z. z.present ≡ Some p.a) is p.at))
           where
             is : p.c ≡ d
-            is = same-some (slice_get (set w.clients n d) n) p.c d (subst (λ k. slice_get (set w.clients n d) k ≡ Some p.c) same p.here) (set-here w.clients n c d Q.here)
+            is = one-value (slice_get (set w.clients n d) n) p.c d (subst (λ k. slice_get (set w.clients n d) k ≡ Some p.c) same p.here) (set-here w.clients n c d Q.here)
 
             own : attempt_id (client_plan r x.client) d p.a ≡ x
             own = subst (λ z. attempt_id (client_plan r x.client) z p.a ≡ x) is p.own
@@ -279,8 +274,8 @@ ending-keeps r top w n c d a t E Q = record {
 
     its-own : (x : AttemptId) → IsAt r w.clients x → (x.client ≡ n) → now.id ≡ x
     its-own x p same =
-        let is : p.c ≡ c = same-some (slice_get w.clients n) p.c c (subst (λ k. slice_get w.clients k ≡ Some p.c) same p.here) Q.here in
-        let one : p.a ≡ a = same-some c.present p.a a (subst (λ z. z.present ≡ Some p.a) is p.at) Q.at in
+        let is : p.c ≡ c = one-value (slice_get w.clients n) p.c c (subst (λ k. slice_get w.clients k ≡ Some p.c) same p.here) Q.here in
+        let one : p.a ≡ a = one-value c.present p.a a (subst (λ z. z.present ≡ Some p.a) is p.at) Q.at in
         let there : attempt_id (client_plan r x.client) p.c p.a ≡ x = p.own in
         ap (λ k. attempt_id (client_plan r k) c a) (sym same) ∙ ap (λ z. attempt_id (client_plan r x.client) z a) (sym is) ∙ ap (λ z. attempt_id (client_plan r x.client) p.c z) (sym one) ∙ there
 
@@ -308,7 +303,7 @@ ending-keeps r top w n c d a t E Q = record {
     unknown-next : IsNext c a d → (b : Present) (e : Epoch) → d.present ≡ Some b → b.epoch ≡ Some e → ⊥
     unknown-next (ByCommand none command) b e at is = cc
     unknown-next (ByAttempt b' some command number none) b e at is =
-        let same : b' ≡ b = same-some d.present b' b some at in
+        let same : b' ≡ b = one-value d.present b' b some at in
         let off : b.epoch ≡ None = subst (λ z. z.epoch ≡ None) same none in
         cc
 
@@ -318,7 +313,7 @@ ending-keeps r top w n c d a t E Q = record {
     unissued-next : IsNext c a d → (b : Present) → d.present ≡ Some b → IsUnissued w (attempt_id (client_plan r n) d b)
     unissued-next (ByCommand none command) b at e h = cc
     unissued-next (ByAttempt b' some command number none) b at e h =
-        let same : b' ≡ b = same-some d.present b' b some at in
+        let same : b' ≡ b = one-value d.present b' b some at in
         let up : b.attempt ≡ a.attempt + 1 = subst (λ z. z.attempt ≡ a.attempt + 1) same number in
         later-unissued r top w (attempt_id (client_plan r n) d b) now.id e E present h refl command (omega (arith, up))
 
@@ -333,7 +328,7 @@ ending-keeps r top w n c d a t E Q = record {
     rising : (x : AttemptId) (e : Epoch) (f : ℕ) → IsAt r (set w.clients n d) x → IsIssued w x e → Told r.script (w.lines ++ line.Try now ∷ []) x.client f → (x.client ≡ n) ⊎ ((x.client ≡ n) → ⊥) → f < e.0
     rising x e f p h u (inr off) = E.rises x e f (at-other-before r w.clients n d x off p) h (told-other x.client f off u)
     rising x e f p h u (inl same) =
-        let is : p.c ≡ d = same-some (slice_get (set w.clients n d) n) p.c d (subst (λ k. slice_get (set w.clients n d) k ≡ Some p.c) same p.here) (set-here w.clients n c d Q.here) in
+        let is : p.c ≡ d = one-value (slice_get (set w.clients n d) n) p.c d (subst (λ k. slice_get (set w.clients n d) k ≡ Some p.c) same p.here) (set-here w.clients n c d Q.here) in
         let own : attempt_id (client_plan r n) d p.a ≡ x = ap (λ k. attempt_id (client_plan r k) d p.a) (sym same) ∙ ap (λ z. attempt_id (client_plan r x.client) z p.a) (sym is) ∙ p.own in
         absurd (next-unissued p.a (subst (λ z. z.present ≡ Some p.a) is p.at) e (subst (λ y. IsIssued w y e) (sym own) h))
 
@@ -342,7 +337,7 @@ ending-keeps r top w n c d a t E Q = record {
     past-next (ByCommand none command) x (inr k) = let same : x.command ≡ c.command = k.2 in inl (omega (arith, same, command))
     past-next (ByAttempt b some command number none) x (inl k) = inl (omega (arith, k, command))
     past-next (ByAttempt b some command number none) x (inr k) =
-        let one : k.0.attempt ≡ a.attempt = ap (λ z. z.attempt) (same-some c.present k.0 a k.1 Q.at) in
+        let one : k.0.attempt ≡ a.attempt = ap (λ z. z.attempt) (one-value c.present k.0 a k.1 Q.at) in
         let low : x.attempt < k.0.attempt = k.3 in
         inr (b, some, k.2 ∙ sym command, omega (arith, one, low, number))
 
@@ -363,7 +358,7 @@ ending-keeps r top w n c d a t E Q = record {
       where
         by : IsPast c b.id → b.id.attempt < a.attempt
         by (inl k) = absurd (omega (arith, k, command))
-        by (inr k) = let one : k.0.attempt ≡ a.attempt = ap (λ z. z.attempt) (same-some c.present k.0 a k.1 Q.at) in let low : b.id.attempt < k.0.attempt = k.3 in omega (arith, one, low)
+        by (inr k) = let one : k.0.attempt ≡ a.attempt = ap (λ z. z.attempt) (one-value c.present k.0 a k.1 Q.at) in let low : b.id.attempt < k.0.attempt = k.3 in omega (arith, one, low)
 
     -- no line before has the epoch of the attempt
     own-only : (e : Epoch) → t.epoch ≡ Some e → (b : Attempt) (f : Epoch) → Contains (tries w.lines) b → b.epoch ≡ Some f → (e.0 ≡ f.0) → ⊥

@@ -1,24 +1,21 @@
 -- Every event of a run keeps what is said of epochs, and it holds at the beginning.
-use Rattle.std.specs.Prelude.{ℕ, ◌≡◌, ◌≤◌, ◌-◌, ◌++◌, List, [], ◌∷◌, length, Contains, slice_get, Option, Some, None, refl}
-use Rattle.std.proofs.Common.{append-nil, sym, ◌∙◌, ap, subst, arith}
-use Rattle.std.proofs.Math.ListN.{set}
+use Rattle.std.specs.Prelude.{ℕ, ◌≡◌, ◌≤◌, ◌-◌, List, [], ◌∷◌, Contains, slice_get, Some, None, refl}
+use Rattle.std.proofs.Common.{append-nil, sym, ◌∙◌, subst, arith}
 use Rattle.std.proofs.lemmas.List.{length-set}
 use Rattle.daos_base.specs.declared.report.Attempt.{Attempt}
 use Rattle.daos_base.specs.declared.report.Line.{Line}
-use Rattle.daos_base.specs.declared.report.Line.TheVariants as line
 use Rattle.daos_base.specs.declared.script.Script.{Script}
 use Rattle.daos_model.specs.Attempts.{tries}
-use Rattle.daos_model.specs.Order.{AllRise, RisesFrom}
+use Rattle.daos_model.specs.Order.{AllRise}
 use Rattle.world_base.specs.declared.client.ClientState.{ClientState}
-use Rattle.world_base.specs.declared.target.TargetState.{TargetState}
 use Rattle.world_base.specs.declared.world.World.{World}
 use Rattle.world_base.specs.ClientTurns.{NextTurn, Skipped, Went_on}
-use Rattle.world_events.specs.Events.{ByClient, ByTarget, ClientGoes, ClientHears, Event, Rules, TargetHears, TargetIdles, ToClient, ToTarget, after_turn, client_plan, with_client}
+use Rattle.world_events.specs.Events.{ByClient, ByTarget, ClientGoes, Event, Rules, ToClient, ToTarget, after_turn, client_plan, with_client}
 use Rattle.world_events.specs.Letters.{client}
 use Rattle.world_events.specs.StepLaws.{by-going, by-hearing}
 use Rattle.world_events.specs.Steps.{KeptByHearing, KeptByMoves}
 use Rattle.world_talks.specs.Conversation.{Conversation}
-use Rattle.world_epochs.specs.Epochs.{Epochs, InCause, IsIssued, IsTold, ItsOwn, OneTarget, Unsnapped}
+use Rattle.world_epochs.specs.Epochs.{Epochs, InCause, IsTold, ItsOwn, OneTarget, Unsnapped}
 use Rattle.world_epochs.specs.HeardLaws.{heard-keeps}
 use Rattle.world_epochs.specs.HearLaws.{quiet-client}
 use Rattle.world_epochs.specs.IssuedLists.{none-issued}

@@ -1,45 +1,35 @@
--- A client that hears a message keeps what is said of epochs.
-use Rattle.std.specs.Prelude.{ℕ, ◌≡◌, ◌≤◌, ◌<◌, ◌+◌, ◌++◌, ◌⊎◌, ◌&&◌, ◌||◌, Bool, true, false, nat_lt, max, List, [], ◌∷◌, map, is_some, Contains, slice_get, Option, Some, None, refl, if◌then◌else◌}
-use Rattle.std.proofs.Common.{append-nil, sym, ◌∙◌, ap, subst, inl, inr, ⊎_elim, arith}
+-- What a client does once its question is answered, or its request is lost, keeps what is said of epochs.
+use Rattle.std.specs.Prelude.{ℕ, ◌≡◌, ◌≤◌, ◌+◌, ◌++◌, ◌⊎◌, ◌||◌, Bool, true, false, nat_lt, max, List, [], ◌∷◌, map, Contains, slice_get, Option, Some, None, refl, if◌then◌else◌}
+use Rattle.std.proofs.Common.{append-nil, sym, ◌∙◌, ap, subst, inl, inr, arith}
 use Rattle.std.proofs.Math.ListN.{set}
-use Rattle.std.proofs.lemmas.List.Elements.{Contains-append_left, Contains-append_right, Contains-push}
+use Rattle.std.proofs.lemmas.Option.{same_Some}
 use Rattle.daos_base.specs.declared.answer.Answer.{Answer}
 use Rattle.daos_base.specs.declared.epoch.Epoch.{Epoch}
 use Rattle.daos_base.specs.declared.id.AttemptId.{AttemptId}
 use Rattle.daos_base.specs.declared.operation.Cond.{Cond}
 use Rattle.daos_base.specs.declared.operation.Op.{Op}
-use Rattle.daos_base.specs.declared.outcome.Cause.TheVariants.{Unresolved}
 use Rattle.daos_base.specs.declared.outcome.Outcome.{Outcome}
 use Rattle.daos_base.specs.declared.outcome.Outcome.TheVariants as outcome
-use Rattle.daos_messages.specs.declared.message.Message.{Message, more_of-Message}
 use Rattle.daos_messages.specs.declared.message.Message.TheVariants as message
 use Rattle.daos_messages.specs.declared.message.Reply.{Reply}
 use Rattle.daos_messages.specs.declared.message.Reply.TheVariants as reply
 use Rattle.daos_model.specs.Accesses.{op_path}
-use Rattle.daos_model.specs.Attempts.{is_lost, is_unknown, is_unsure}
+use Rattle.daos_model.specs.Attempts.{is_lost, is_unknown}
 use Rattle.daos_model.specs.Conditions.{holds_where}
-use Rattle.daos_model.specs.Durables.{same_attempt}
 use Rattle.daos_model.specs.Order.{told_by}
 use Rattle.world_base.specs.declared.client.ClientState.{ClientState}
 use Rattle.world_base.specs.declared.client.Present.{Present}
 use Rattle.world_base.specs.declared.client.Stage.{Stage}
 use Rattle.world_base.specs.declared.client.Stage.TheVariants as stage
-use Rattle.world_base.specs.declared.letter.Letter.{Letter}
 use Rattle.world_base.specs.declared.world.World.{World}
-use Rattle.world_base.specs.ClientTurns.{Move, about, answered, asks_again, at_present, attempt_id, command_at, condition_told, ended, ends, goes, greatest, group_count, group_told, heard, heard_at, hears_epochs, is_about, is_yes, joined, knows, knows_epoch, listed, next_op, next_stage, op_of, op_told, read_told, replied, reset, reset_by, snaps_known, told_at, told_by_message, told_by_reply, told_by_some}
+use Rattle.world_base.specs.ClientTurns.{Move, asks_again, at_present, attempt_id, command_at, condition_told, ends, goes, greatest, group_count, group_told, is_yes, joined, knows, knows_epoch, listed, next_op, next_stage, op_of, op_told, replied, told_at, told_by_reply}
 use Rattle.world_events.specs.Events.{Rules, client_plan, with_client, with_epoch}
-use Rattle.world_events.specs.Letters.{Takes, client, is_talk_of, is_tell, letters_of, talk_of}
+use Rattle.world_events.specs.Letters.{client, letters_of, talk_of}
 use Rattle.world_events.specs.StepLaws.{set-here, set-twice}
-use Rattle.world_events.specs.Steps.{without}
-use Rattle.world_talks.specs.Conversation.{Conversation}
-use Rattle.world_epochs.specs.ClientLaws.{IsQuiet, fewer-keeps, quiet-keeps, same-id}
-use Rattle.world_epochs.specs.Epochs.{AsksEpoch, BearsEpoch, Epochs, IsIssued, IsUnissued, LacksEpoch, Unsnapped}
-use Rattle.world_epochs.specs.Lists.{contains-cons, contains-none, same-attempt, same-self}
-use Rattle.world_epochs.specs.MoveLaws.{AtWork, Keeps, asks-keeps, ends-keeps, goes-keeps, quiet-goes, quiet-same, sends-nothing, sure-ends, unsaid-keeps}
-use Rattle.world_epochs.specs.Talking.{rest-among, taken-among, taken-silent, talks-to}
-
-same-some : {T : Type 0} (x y : T) → Some x ≡ Some y → x ≡ y
-same-some x y h = cc
+use Rattle.world_epochs.specs.ClientLaws.{IsQuiet, quiet-keeps, same-id}
+use Rattle.world_epochs.specs.Epochs.{Epochs, IsIssued, IsUnissued, Unsnapped}
+use Rattle.world_epochs.specs.Lists.{contains-cons, contains-none}
+use Rattle.world_epochs.specs.MoveLaws.{AtWork, Keeps, ends-keeps, goes-keeps, quiet-goes, quiet-same, sends-nothing, sure-ends, unsaid-keeps}
 
 -- ---- trackers
 
@@ -114,15 +104,15 @@ module _ (r : Rules) (top : ℕ) (w : World) (n : ℕ) where
     here = here;
     tracker = tracker;
     command = command;
-    stays = λ z at'. (knows o a, refl, ap (λ y. y.attempt) (same-some a z (sym at ∙ at')));
-    was = λ z at'. inl (a, at, ap (λ y. y.attempt) (same-some (knows o a) z at'));
-    known = λ z f at' is. subst (λ x. IsIssued w x f) (sym (own z at')) (known-by a.epoch refl f (ap (λ y. y.epoch) (same-some (knows o a) z at') ∙ is)).0;
-    tracked = λ z f at' is. (known-by a.epoch refl f (ap (λ y. y.epoch) (same-some (knows o a) z at') ∙ is)).1;
-    unknown = λ z at' idle is. subst (λ x. IsUnissued w x) (sym (own z at')) (unknown-by a.epoch refl (ap (λ y. y.epoch) (same-some (knows o a) z at') ∙ is));
+    stays = λ z at'. (knows o a, refl, ap (λ y. y.attempt) (same_Some a z (sym at ∙ at')));
+    was = λ z at'. inl (a, at, ap (λ y. y.attempt) (same_Some (knows o a) z at'));
+    known = λ z f at' is. subst (λ x. IsIssued w x f) (sym (own z at')) (known-by a.epoch refl f (ap (λ y. y.epoch) (same_Some (knows o a) z at') ∙ is)).0;
+    tracked = λ z f at' is. (known-by a.epoch refl f (ap (λ y. y.epoch) (same_Some (knows o a) z at') ∙ is)).1;
+    unknown = λ z at' idle is. subst (λ x. IsUnissued w x) (sym (own z at')) (unknown-by a.epoch refl (ap (λ y. y.epoch) (same_Some (knows o a) z at') ∙ is));
   }
     where
       own : (z : Present) → Some (knows o a) ≡ Some z → attempt_id (client_plan r n) (at_present (knows o a) e) z ≡ attempt_id (client_plan r n) c a
-      own z at' = same-id r n c (at_present (knows o a) e) a z command (sym (ap (λ y. y.attempt) (same-some (knows o a) z at')))
+      own z at' = same-id r n c (at_present (knows o a) e) a z command (sym (ap (λ y. y.attempt) (same_Some (knows o a) z at')))
 
       known-by : (k : Option Epoch) → a.epoch ≡ k → (f : Epoch) → knows_epoch k o ≡ Some f → IsIssued w (attempt_id (client_plan r n) c a) f × (f.0 ≤ e.tracker.0)
       known-by None has f is = bears f is

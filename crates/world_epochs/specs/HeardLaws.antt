@@ -1,7 +1,8 @@
 -- A client that hears a message keeps what is said of epochs.
 use Rattle.std.specs.Prelude.{ℕ, ◌≡◌, ◌≤◌, ◌++◌, ◌&&◌, ◌||◌, Bool, true, false, List, [], ◌∷◌, Contains, slice_get, Option, Some, None, refl, if◌then◌else◌}
-use Rattle.std.proofs.Common.{sym, ◌∙◌, ap, subst, arith}
+use Rattle.std.proofs.Common.{sym, ap, subst, arith}
 use Rattle.std.proofs.lemmas.List.Elements.{Contains-append_left, Contains-append_right, Contains-push}
+use Rattle.std.proofs.lemmas.Option.{same_Some}
 use Rattle.daos_base.specs.declared.epoch.Epoch.{Epoch}
 use Rattle.daos_base.specs.declared.id.AttemptId.{AttemptId}
 use Rattle.daos_base.specs.declared.outcome.Cause.TheVariants.{Unresolved}
@@ -26,11 +27,8 @@ use Rattle.world_epochs.specs.ClientLaws.{IsQuiet, fewer-keeps}
 use Rattle.world_epochs.specs.Epochs.{BearsEpoch, Epochs, IsIssued, IsUnissued, LacksEpoch, Unsnapped}
 use Rattle.world_epochs.specs.HearLaws.{again-keeps, at-work, greatest-has, greatest-up, lost-keeps, quiet-knows, replied-keeps, twice-keeps}
 use Rattle.world_epochs.specs.Lists.{contains-none, same-attempt, same-self}
-use Rattle.world_epochs.specs.MoveLaws.{AtWork, Keeps, quiet-same, sure-ends, unsaid-keeps}
+use Rattle.world_epochs.specs.MoveLaws.{Keeps, quiet-same, sure-ends, unsaid-keeps}
 use Rattle.world_epochs.specs.Talking.{rest-among, taken-among, taken-silent, talks-to}
-
-same-some : {T : Type 0} (x y : T) → Some x ≡ Some y → x ≡ y
-same-some x y h = cc
 
 -- a client at an attempt, which waited for a message that was taken
 record WasTold (r : Rules) (top : ℕ) (w : World) (n : ℕ) (c : ClientState) (a : Present) (m : Message) : Type 0 where
@@ -50,7 +48,7 @@ tracker-up c m = greatest-up c.tracker.0 (told_by_message m)
 told-some : (t : ℕ) (o : Option Epoch) (later : List ℕ) (f : Epoch) → o ≡ Some f → f.0 ≤ greatest t (told_by_some o ++ later)
 told-some t None later f is = let no : ⊥ = cc in absurd no
 told-some t (Some e) later f is =
-    let same : e.0 ≡ f.0 = ap (λ z. z.0) (same-some e f is) in
+    let same : e.0 ≡ f.0 = ap (λ z. z.0) (same_Some e f is) in
     let k : e.0 ≤ greatest t (e.0 ∷ later) = greatest-has t (e.0 ∷ later) e.0 (Contains-append_left (e.0 ∷ []) later e.0 (Contains-push [] e.0)) in
     omega (arith, same, k)
 
@@ -74,7 +72,7 @@ module _ (r : Rules) (top : ℕ) (w : World) (n : ℕ) where
 
       bears : (k : Option Epoch) (f : Epoch) → k ≡ Some f → BearsEpoch (message.Fetched x op group k b) x f
       bears None f is = let no : ⊥ = cc in absurd no
-      bears (Some g) f is = (refl, same-some g f is)
+      bears (Some g) f is = (refl, same_Some g f is)
 
       lacks : (k : Option Epoch) → k ≡ None → LacksEpoch (message.Fetched x op group k b) x
       lacks None is = refl
@@ -101,7 +99,7 @@ module _ (r : Rules) (top : ℕ) (w : World) (n : ℕ) where
 
       bears : (k : Option Epoch) (f : Epoch) → k ≡ Some f → BearsEpoch (message.Ended x k how) x f
       bears None f is = let no : ⊥ = cc in absurd no
-      bears (Some g) f is = (refl, same-some g f is)
+      bears (Some g) f is = (refl, same_Some g f is)
 
       lacks : (k : Option Epoch) → k ≡ None → LacksEpoch (message.Ended x k how) x
       lacks None is = refl

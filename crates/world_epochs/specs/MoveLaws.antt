@@ -1,39 +1,32 @@
 -- Each move of a client keeps what is said of epochs.
-use Rattle.std.specs.Prelude.{ℕ, ◌≡◌, ◌≤◌, ◌<◌, ◌+◌, ◌++◌, ◌⊎◌, ◌&&◌, ◌||◌, not, Bool, true, false, nat_lt, max, List, [], ◌∷◌, map, is_some, Contains, slice_get, Option, Some, None, refl, if◌then◌else◌}
-use Rattle.std.proofs.Common.{append-nil, sym, ◌∙◌, ap, subst, inl, inr, ⊎_elim, arith}
+use Rattle.std.specs.Prelude.{ℕ, ◌≡◌, ◌≤◌, ◌+◌, ◌++◌, ◌⊎◌, ◌&&◌, Bool, true, false, nat_lt, List, [], ◌∷◌, map, Contains, slice_get, Option, Some, None, refl, if◌then◌else◌}
+use Rattle.std.proofs.Common.{append-nil, sym, ◌∙◌, ap, subst, inl, inr, arith}
 use Rattle.std.proofs.Math.ListN.{set}
-use Rattle.daos_base.specs.declared.answer.Answer.{Answer}
+use Rattle.std.proofs.lemmas.Option.{same_Some}
 use Rattle.daos_base.specs.declared.epoch.Epoch.{Epoch}
 use Rattle.daos_base.specs.declared.id.AttemptId.{AttemptId}
-use Rattle.daos_base.specs.declared.operation.Cond.{Cond}
 use Rattle.daos_base.specs.declared.operation.MinorWrite.{MinorWrite}
 use Rattle.daos_base.specs.declared.operation.Op.{Op}
 use Rattle.daos_base.specs.declared.operation.Read.{Read}
 use Rattle.daos_base.specs.declared.outcome.Outcome.{Outcome}
 use Rattle.daos_base.specs.declared.outcome.Outcome.TheVariants as outcome
 use Rattle.daos_base.specs.declared.report.Attempt.{Attempt}
-use Rattle.daos_base.specs.declared.report.Line.{Line}
 use Rattle.daos_base.specs.declared.script.Command.{Command}
 use Rattle.daos_base.specs.declared.script.Command.TheVariants.{Run, Snap, Aggregate, Tell, Skip}
 use Rattle.daos_base.specs.Operations.{read_path}
 use Rattle.daos_base.specs.Placement.{writes_leader}
 use Rattle.daos_messages.specs.declared.message.Message.{Message}
 use Rattle.daos_messages.specs.declared.message.Message.TheVariants as message
-use Rattle.daos_messages.specs.declared.message.Reply.{Reply}
-use Rattle.daos_messages.specs.declared.message.Reply.TheVariants as reply
-use Rattle.daos_model.specs.Accesses.{minor_writes, op_path}
+use Rattle.daos_model.specs.Accesses.{minor_writes}
 use Rattle.daos_model.specs.Attempts.{is_restart, is_unsure, snapshot_of_command}
-use Rattle.daos_model.specs.Conditions.{holds_where}
 use Rattle.daos_model.specs.Order.{told_by}
-use Rattle.world_base.specs.declared.client.ClientPlan.{ClientPlan}
 use Rattle.world_base.specs.declared.client.ClientState.{ClientState}
 use Rattle.world_base.specs.declared.client.KnownSnap.{KnownSnap}
 use Rattle.world_base.specs.declared.client.Present.{Present}
 use Rattle.world_base.specs.declared.client.Stage.{Stage}
 use Rattle.world_base.specs.declared.client.Stage.TheVariants as stage
-use Rattle.world_base.specs.declared.letter.Letter.{Letter}
 use Rattle.world_base.specs.declared.world.World.{World}
-use Rattle.world_base.specs.ClientTurns.{Move, after_end, asks, asks_or_goes, at_present, attempt_id, attempt_moves, begins, begins_at, begun, command_at, command_moves, commits, condition_told, ends, first_epoch, goes, group_asked, group_count, group_told, is_waiting, is_yes, joined, listed, member_asked, moved, moves_at, next_command, next_op, next_place, next_stage, op_moves, op_of, op_told, question, read_told, replied, rests, run_moves, skip_at, skips, told_at, waits}
+use Rattle.world_base.specs.ClientTurns.{Move, after_end, asks, asks_or_goes, at_present, attempt_id, attempt_moves, begins_at, begun, command_at, command_moves, commits, ends, first_epoch, goes, group_asked, is_waiting, listed, member_asked, moved, moves_at, next_command, next_place, next_stage, op_moves, question, rests, run_moves, skip_at, waits}
 use Rattle.world_events.specs.Events.{Rules, client_plan, epoch_issued, or_issued, with_epoch}
 use Rattle.world_events.specs.Letters.{client, letters_of, talk_of}
 use Rattle.world_events.specs.StepLaws.{set-here}
@@ -43,9 +36,6 @@ use Rattle.world_epochs.specs.Epochs.{AsksEpoch, BearsEpoch, Epochs, IsAt, IsIss
 use Rattle.world_epochs.specs.Lists.{contains-none, epoch-found}
 use Rattle.world_epochs.specs.Talking.{asks-no_tell, silent-not, talks-from}
 use Rattle.world_epochs.specs.TargetLaws.{issued-behind}
-
-same-some : {T : Type 0} (x y : T) → Some x ≡ Some y → x ≡ y
-same-some x y h = cc
 
 -- what is said of epochs stands after a move
 abbrev pub Keeps : Rules → ℕ → World → ℕ → Move → Type 0
@@ -84,7 +74,7 @@ quiet-goes r top w n c d a b E here tracker command present number epoch idle = 
   here = here;
   tracker = tracker;
   command = command;
-  stays = λ z at. (b, present, number ∙ ap (λ y. y.attempt) (same-some a z at));
+  stays = λ z at. (b, present, number ∙ ap (λ y. y.attempt) (same_Some a z at));
   was = λ z at. inl (a, refl, sym number ∙ ap (λ y. y.attempt) (is-now z at));
   known = λ z e at is. subst (λ x. IsIssued w x e) (sym (own z at)) (E.known n (at_present a c) a e here refl (sym epoch ∙ (ap (λ y. y.epoch) (is-now z at) ∙ is)));
   tracked = λ z e at is. let low : e.0 ≤ c.tracker.0 = E.tracked n (at_present a c) a e here refl (sym epoch ∙ (ap (λ y. y.epoch) (is-now z at) ∙ is)) in omega (arith, low, tracker);
@@ -92,7 +82,7 @@ quiet-goes r top w n c d a b E here tracker command present number epoch idle = 
 }
   where
     is-now : (z : Present) → d.present ≡ Some z → b ≡ z
-    is-now z at = same-some b z (sym present ∙ at)
+    is-now z at = same_Some b z (sym present ∙ at)
 
     own : (z : Present) → d.present ≡ Some z → attempt_id (client_plan r n) d z ≡ attempt_id (client_plan r n) (at_present a c) a
     own z at = same-id r n (at_present a c) d a z command (sym (ap (λ y. y.attempt) (is-now z at)) ∙ number)
@@ -104,10 +94,10 @@ quiet-begins r top w n c E here none = record {
   tracker = omega arith;
   command = refl;
   stays = λ a at. let no : ⊥ = cc in absurd no;
-  was = λ b at. inr (unissued b (same-some (begun 0 None None) b at));
-  known = λ b e at is. let off : None ≡ Some e = ap (λ y. y.epoch) (same-some (begun 0 None None) b at) ∙ is in let no : ⊥ = cc in absurd no;
-  tracked = λ b e at is. let off : None ≡ Some e = ap (λ y. y.epoch) (same-some (begun 0 None None) b at) ∙ is in let no : ⊥ = cc in absurd no;
-  unknown = λ b at idle is. unissued b (same-some (begun 0 None None) b at);
+  was = λ b at. inr (unissued b (same_Some (begun 0 None None) b at));
+  known = λ b e at is. let off : None ≡ Some e = ap (λ y. y.epoch) (same_Some (begun 0 None None) b at) ∙ is in let no : ⊥ = cc in absurd no;
+  tracked = λ b e at is. let off : None ≡ Some e = ap (λ y. y.epoch) (same_Some (begun 0 None None) b at) ∙ is in let no : ⊥ = cc in absurd no;
+  unknown = λ b at idle is. unissued b (same_Some (begun 0 None None) b at);
 }
   where
     first : (e : Epoch) → IsIssued w (record { client = n; command = c.command; attempt = 0 }) e → ⊥
@@ -133,9 +123,13 @@ sends-request : (r : Rules) (top : ℕ) (w : World) (n : ℕ) (c d : ClientState
     → ((x : AttemptId) (k : Epoch) → AsksEpoch m x k → (a.epoch ≡ None) × (attempt_id (client_plan r n) c a ≡ x) × (c.tracker ≡ k)) → ((x : AttemptId) → LacksEpoch m x → ⊥)
     → ((x : AttemptId) (e : Epoch) → BearsEpoch m x e → (a.epoch ≡ Some e) × (attempt_id (client_plan r n) c a ≡ x)) → reads_snapshot m ≡ false → Sends r top w n (set w.clients n d) m
 sends-request r top w n c d a b m K idle present command number asks' lacks bears plain = record {
-  asks = λ x k h. let f = asks' x k h in
-      (sym (ap (λ y. y.client) f.1), subst (λ y. IsAt r (set w.clients n d) y) f.1 at-now, subst (λ y. IsUnissued w y) f.1 (K.epochs.unknown n (at_present a c) a K.here refl idle f.0),
-      subst (λ y. top ≤ y.0) f.2 tracker.0, λ e t. subst (λ y. e ≤ y.0) f.2 (tracker.1 e (subst (λ y. IsTold r w y.client e) (sym f.1) t)));
+  asks = λ x k h. let f = asks' x k h in (
+    sym (ap (λ y. y.client) f.1),
+    subst (λ y. IsAt r (set w.clients n d) y) f.1 at-now,
+    subst (λ y. IsUnissued w y) f.1 (K.epochs.unknown n (at_present a c) a K.here refl idle f.0),
+    subst (λ y. top ≤ y.0) f.2 tracker.0,
+    λ e t. subst (λ y. e ≤ y.0) f.2 (tracker.1 e (subst (λ y. IsTold r w y.client e) (sym f.1) t)),
+  );
   lacks = lacks;
   bears = λ x e h. let f = bears x e h in subst (λ y. IsIssued w y e) f.1 (K.epochs.known n (at_present a c) a e K.here refl f.0);
   plain = plain;

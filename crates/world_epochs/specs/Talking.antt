@@ -1,6 +1,6 @@
 -- What is in flight between a client and targets, as far as epochs go.
-use Rattle.std.specs.Prelude.{ℕ, ◌≡◌, ◌<◌, ◌++◌, ◌⊎◌, ◌==◌, ◌||◌, ◌&&◌, not, Bool, true, false, List, [], ◌∷◌, Contains, slice_get, Option, Some, None, refl}
-use Rattle.std.proofs.Common.{sym, ◌∙◌, ap, subst, inl, inr, ⊎_elim}
+use Rattle.std.specs.Prelude.{ℕ, ◌≡◌, ◌++◌, ◌⊎◌, ◌||◌, ◌&&◌, not, Bool, true, false, List, [], ◌∷◌, Contains, slice_get, Some, refl}
+use Rattle.std.proofs.Common.{sym, ◌∙◌, ap, subst, inl, inr}
 use Rattle.std.proofs.Math.Bool.{or-true}
 use Rattle.std.proofs.lemmas.Bool.{eq-eqb}
 use Rattle.std.proofs.lemmas.List.Elements.{Contains-append_cases, Contains-append_left, Contains-append_right, Contains-push}
@@ -16,7 +16,7 @@ use Rattle.world_events.specs.Events.{Rules, client_plan}
 use Rattle.world_events.specs.Letters.{Takes, client, is_client, is_talk_of, is_tell, talk_of}
 use Rattle.world_talks.specs.Conversation.{Conversation, Talks}
 use Rattle.world_epochs.specs.Epochs.{AsksEpoch, LacksEpoch}
-use Rattle.world_epochs.specs.Lists.{contains-cons, nothing-passes, taken-alone}
+use Rattle.world_epochs.specs.Lists.{nothing-passes, taken-alone}
 
 -- ---- letters of a conversation
 

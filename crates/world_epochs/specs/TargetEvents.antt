@@ -1,9 +1,7 @@
 -- The events of a target keep what is said of epochs.
-use Rattle.std.specs.Prelude.{ℕ, ◌≡◌, ◌≤◌, ◌<◌, ◌+◌, ◌*◌, ◌/◌, ◌%◌, ◌++◌, ◌⊎◌, Bool, true, false, List, [], ◌∷◌, length, map, Contains, slice_get, Option, Some, None, refl}
+use Rattle.std.specs.Prelude.{ℕ, ◌≡◌, ◌≤◌, ◌<◌, ◌+◌, ◌*◌, ◌/◌, ◌%◌, ◌++◌, ◌⊎◌, true, false, List, [], ◌∷◌, Contains, slice_get, Option, Some, None, refl}
 use Rattle.std.specs.Option.{option_map}
 use Rattle.std.proofs.Common.{append-nil, sym, ◌∙◌, ap, subst, inl, inr, ⊎_elim, arith}
-use Rattle.std.proofs.Math.ListN.{set}
-use Rattle.std.proofs.lemmas.List.{length-set}
 use Rattle.std.proofs.lemmas.List.Elements.{Contains-append_cases}
 use Rattle.std.proofs.lemmas.Option.{slice_get_within}
 use Rattle.daos_base.specs.declared.epoch.Epoch.{Epoch}
@@ -21,17 +19,17 @@ use Rattle.world_base.specs.declared.target.TargetMemory.{TargetMemory}
 use Rattle.world_base.specs.declared.target.TargetPlan.{TargetPlan}
 use Rattle.world_base.specs.declared.target.TargetState.{TargetState}
 use Rattle.world_base.specs.declared.world.World.{World}
-use Rattle.world_base.specs.ClientTurns.{attempt_id, is_waiting, waits}
-use Rattle.world_events.specs.Events.{Rules, TargetHears, TargetIdles, after_turn, client_plan, kept, listed, target_after, target_plan, with_epoch, with_target}
-use Rattle.world_events.specs.Letters.{client, is_talk_of, letter_of, letters_of, talk_of, target}
+use Rattle.world_base.specs.ClientTurns.{is_waiting, waits}
+use Rattle.world_events.specs.Events.{Rules, TargetHears, TargetIdles, after_turn, kept, listed, target_after, target_plan, with_target}
+use Rattle.world_events.specs.Letters.{client, is_talk_of, talk_of, target}
 use Rattle.world_talks.specs.Conversation.{Conversation}
 use Rattle.world_turns.specs.Changes.{Kept}
 use Rattle.world_turns.specs.Requests.{epoch_of_ticks, issued_for, request_epoch, says}
 use Rattle.world_turns.specs.TargetTurns.{Hears}
 use Rattle.world_epochs.specs.Epochs.{AsksEpoch, BearsEpoch, Epochs, IsIssued, IsPresent, IsTold, IsUnissued, LacksEpoch, OneTarget, reads_snapshot}
-use Rattle.world_epochs.specs.Lists.{contains-none, contains-one}
+use Rattle.world_epochs.specs.Lists.{contains-one}
 use Rattle.world_epochs.specs.Talking.{asks-no_tell, lacks-no_tell, rest-among, silent-not, taken-among, taken-silent, talking, talks-from, talks-to}
-use Rattle.world_epochs.specs.TargetLaws.{IsNew, TargetDid, after_target, target-keeps}
+use Rattle.world_epochs.specs.TargetLaws.{IsNew, TargetDid, target-keeps}
 use Rattle.world_epochs.specs.TargetSteps.{ByEnd, ByRead, Covers, Heeds, IsAnswer, IsDated, IsSpent, commit-heeds, idle-keeps, read-heeds, ticks-issued}
 
 -- ---- one target
@@ -224,14 +222,14 @@ hears-kept r top w v one talk E g = subst (λ z. Epochs r top z) (sym g.after) (
       lacks = λ l x h q. ⊎_elim
           (λ j. let f = E.lacking l x (in-rest l j) q in (f.0, f.1, λ e i. let none' : ⊥ = cc in none'))
           (λ j. let f = answer-lacks k.x own a x is (subst (λ z. LacksEpoch z.message x) (sym j) q) in
-            let no-epoch : k.ep ≡ None = none f.0 in
-            let to : l.to ≡ g.l.from = ap (λ z. z.to) (sym j) in
-            (to ∙ E.asker g.l k.x k.tracker among (k.asks no-epoch) ∙ ap (λ y. client y.client) f.1, subst (λ y. IsUnissued w y) f.1 (E.fresh g.l k.x k.tracker among (k.asks no-epoch)).1, λ e i. let none' : ⊥ = cc in none'))
+          let no-epoch : k.ep ≡ None = none f.0 in
+          let to : l.to ≡ g.l.from = ap (λ z. z.to) (sym j) in
+          (to ∙ E.asker g.l k.x k.tracker among (k.asks no-epoch) ∙ ap (λ y. client y.client) f.1, subst (λ y. IsUnissued w y) f.1 (E.fresh g.l k.x k.tracker among (k.asks no-epoch)).1, λ e i. let none' : ⊥ = cc in none'))
           (split a l h);
       bears = λ l x e h q. ⊎_elim
           (λ j. inl (E.borne l x e (in-rest l j) q))
           (λ j. let f = answer-bears k.x own a x e is (subst (λ z. BearsEpoch z.message x e) (sym j) q) in
-            inl (E.borne g.l x e among (subst (λ y. BearsEpoch g.l.message y e) f.1 (k.bears e (some e f.0)))))
+          inl (E.borne g.l x e among (subst (λ y. BearsEpoch g.l.message y e) f.1 (k.bears e (some e f.0)))))
           (split a l h);
       plain = λ l h. ⊎_elim (λ j. E.plain l (in-rest l j)) (λ j. subst (λ z. reads_snapshot z.message ≡ false) j (answer-plain k.x own a is)) (split a l h);
     }
@@ -254,7 +252,7 @@ hears-kept r top w v one talk E g = subst (λ z. Epochs r top z) (sym g.after) (
       bears = λ l x f h q. ⊎_elim
           (λ j. inl (E.borne l x f (in-rest l j) q))
           (λ j. let b = answer-bears k.x (Some e) a x f is (subst (λ z. BearsEpoch z.message x f) (sym j) q) in
-            inr (ap (λ y. Some (y, e)) b.1 ∙ ap (λ o. pair-with x o) b.0))
+          inr (ap (λ y. Some (y, e)) b.1 ∙ ap (λ o. pair-with x o) b.0))
           (split a l h);
       plain = λ l h. ⊎_elim (λ j. E.plain l (in-rest l j)) (λ j. subst (λ z. reads_snapshot z.message ≡ false) j (answer-plain k.x (Some e) a is)) (split a l h);
     }

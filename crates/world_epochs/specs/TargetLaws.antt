@@ -1,14 +1,11 @@
 -- A target's turn keeps what is said of epochs.
-use Rattle.std.specs.Prelude.{ℕ, ◌≡◌, ◌≤◌, ◌<◌, ◌+◌, ◌*◌, ◌/◌, ◌%◌, ◌++◌, ◌⊎◌, Bool, true, false, List, [], ◌∷◌, length, Contains, slice_get, Option, Some, None, refl}
-use Rattle.std.specs.Option.{option_map}
-use Rattle.std.proofs.Common.{append-nil, sym, ◌∙◌, ap, subst, inl, inr, ⊎_elim, arith}
+use Rattle.std.specs.Prelude.{ℕ, ◌≡◌, ◌≤◌, ◌<◌, ◌/◌, ◌%◌, ◌++◌, ◌⊎◌, true, false, List, [], Contains, slice_get, Option, Some, None}
+use Rattle.std.proofs.Common.{sym, ◌∙◌, ap, subst, inl, inr, ⊎_elim, arith}
 use Rattle.std.proofs.Math.ListN.{set}
 use Rattle.std.proofs.lemmas.List.Elements.{Contains-append_cases, Contains-append_left, Contains-append_right, Contains-push}
-use Rattle.std.proofs.lemmas.Option.{slice_get_within, some_pair_parts}
+use Rattle.std.proofs.lemmas.Option.{some_pair_parts}
 use Rattle.daos_base.specs.declared.epoch.Epoch.{Epoch}
 use Rattle.daos_base.specs.declared.id.AttemptId.{AttemptId}
-use Rattle.daos_base.specs.declared.report.Attempt.{Attempt}
-use Rattle.daos_messages.specs.declared.message.Message.{Message}
 use Rattle.world_base.specs.declared.client.ClientState.{ClientState}
 use Rattle.world_base.specs.declared.client.Present.{Present}
 use Rattle.world_base.specs.declared.letter.Letter.{Letter}
@@ -19,13 +16,10 @@ use Rattle.world_base.specs.ClientTurns.{attempt_id}
 use Rattle.world_events.specs.Events.{Rules, client_plan, listed}
 use Rattle.world_events.specs.Letters.{client}
 use Rattle.world_events.specs.StepLaws.{set-here}
-use Rattle.world_epochs.specs.Epochs.{AsksEpoch, BearsEpoch, Epochs, HasLine, IsAt, IsIssued, IsPast, IsPresent, IsTold, IsUnissued, LacksEpoch, reads_snapshot}
-use Rattle.world_epochs.specs.Lists.{contains-none, contains-one}
+use Rattle.world_epochs.specs.Epochs.{AsksEpoch, BearsEpoch, Epochs, HasLine, IsIssued, IsPast, IsPresent, IsTold, IsUnissued, LacksEpoch, reads_snapshot}
+use Rattle.world_epochs.specs.Lists.{contains-none, contains-one, one-value}
 
 -- ---- an attempt that has an epoch
-
-same-some : {T : Type 0} (o : Option T) (x y : T) → o ≡ Some x → o ≡ Some y → x ≡ y
-same-some o x y h k = cc
 
 -- is present, or its client is past it
 pub issued-behind : (r : Rules) (top : ℕ) (w : World) (x : AttemptId) (e : Epoch) (c : ClientState) → Epochs r top w → IsIssued w x e → slice_get w.clients x.client ≡ Some c
@@ -33,7 +27,7 @@ pub issued-behind : (r : Rules) (top : ℕ) (w : World) (x : AttemptId) (e : Epo
 issued-behind r top w x e c E h here = by (E.line x e h)
   where
     by : IsPresent r w x ⊎ HasLine w x e → IsPast c x ⊎ ((a : Present) × (c.present ≡ Some a) × (attempt_id (client_plan r x.client) c a ≡ x))
-    by (inl p) = let same : p.c ≡ c = same-some (slice_get w.clients x.client) p.c c p.here here in inr (p.a, subst (λ d. d.present ≡ Some p.a) same p.at, subst (λ d. attempt_id (client_plan r x.client) d p.a ≡ x) same p.own)
+    by (inl p) = let same : p.c ≡ c = one-value (slice_get w.clients x.client) p.c c p.here here in inr (p.a, subst (λ d. d.present ≡ Some p.a) same p.at, subst (λ d. attempt_id (client_plan r x.client) d p.a ≡ x) same p.own)
     by (inr k) = inl (subst (λ y. IsPast c y) k.2 (E.past k.0 c k.1 (subst (λ y. slice_get w.clients y.client ≡ Some c) (sym k.2) here)))
 
 -- no attempt of a command that is later than the present one has an epoch
@@ -49,11 +43,11 @@ later-unissued r top w x y e E p h same command later = by (issued-behind r top 
     by : IsPast p.c x ⊎ ((a : Present) × (p.c.present ≡ Some a) × (attempt_id (client_plan r x.client) p.c a ≡ x)) → ⊥
     by (inl (inl k)) = omega (arith, k, command, place)
     by (inl (inr k)) =
-        let one : k.0 ≡ p.a = same-some p.c.present k.0 p.a k.1 p.at in
+        let one : k.0 ≡ p.a = one-value p.c.present k.0 p.a k.1 p.at in
         let n : k.0.attempt ≡ p.a.attempt = ap (λ z. z.attempt) one in
         omega (arith, k.3, n, number, later)
     by (inr k) =
-        let one : k.0 ≡ p.a = same-some p.c.present k.0 p.a k.1 p.at in
+        let one : k.0 ≡ p.a = one-value p.c.present k.0 p.a k.1 p.at in
         let n : k.0.attempt ≡ p.a.attempt = ap (λ z. z.attempt) one in
         let m : k.0.attempt ≡ x.attempt = ap (λ z. z.attempt) k.2 in
         omega (arith, n, m, number, later)
@@ -151,7 +145,7 @@ target-keeps r top w s new letters o E D = record {
     zero-of x e h = ⊎_elim (λ k. let i = E.issuer x e k in D.only (e.0 % 256) i.0 i.1) (λ k. (D.issues x e k).own) (was x e h)
 
     is-new : (x : AttemptId) (e : Epoch) (z : TargetState) → Contains (w.issued ++ listed o) (x, e) → slice_get (set w.targets 0 new) (e.0 % 256) ≡ Some z → new ≡ z
-    is-new x e z h at = same-some (slice_get (set w.targets 0 new) 0) new z now (subst (λ t. slice_get (set w.targets 0 new) t ≡ Some z) (zero-of x e h) at)
+    is-new x e z h at = one-value (slice_get (set w.targets 0 new) 0) new z now (subst (λ t. slice_get (set w.targets 0 new) t ≡ Some z) (zero-of x e h) at)
 
     at-zero : (x : AttemptId) (e : Epoch) → IsIssued w x e → slice_get w.targets (e.0 % 256) ≡ Some s
     at-zero x e k = let i = E.issuer x e k in subst (λ t. slice_get w.targets t ≡ Some s) (sym (D.only (e.0 % 256) i.0 i.1)) D.here

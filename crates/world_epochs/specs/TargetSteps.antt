@@ -1,8 +1,7 @@
 -- What a turn of a target does with epochs: it issues at most one, which its answer bears and its lease and ticks cover.
-use Rattle.std.specs.Prelude.{ℕ, ◌≡◌, ◌≤◌, ◌<◌, ◌+◌, ◌*◌, ◌/◌, ◌%◌, ◌^◌, ◌⊎◌, Bool, true, false, min, max, nat_le, List, [], ◌∷◌, Option, Some, None, refl, if◌then◌else◌}
+use Rattle.std.specs.Prelude.{ℕ, ◌≡◌, ◌≤◌, ◌<◌, ◌+◌, ◌*◌, ◌/◌, ◌^◌, true, false, min, max, nat_le, List, Option, Some, None, refl, if◌then◌else◌}
 use Rattle.std.specs.Int.{div_ceil}
-use Rattle.std.specs.Option.{option_map}
-use Rattle.std.proofs.Common.{sym, ◌∙◌, ap, subst, inl, inr, arith}
+use Rattle.std.proofs.Common.{sym, ◌∙◌, ap, subst, arith}
 use Rattle.std.proofs.lemmas.Bool.Decides.{nat_tests}
 use Rattle.std.proofs.lemmas.Grind.{div_ceil_times}
 use Rattle.std.proofs.lemmas.Option.{cond_some}
@@ -14,7 +13,7 @@ use Rattle.daos_base.specs.declared.id.AttemptId.{AttemptId}
 use Rattle.daos_base.specs.declared.operation.MinorWrite.{MinorWrite}
 use Rattle.daos_base.specs.declared.outcome.FloorWhy.{FloorWhy}
 use Rattle.daos_base.specs.declared.outcome.Outcome.{Outcome}
-use Rattle.daos_base.specs.Epochs.{epoch_at, heard_ticks, issued_ticks, last_ticks, lease_for}
+use Rattle.daos_base.specs.Epochs.{heard_ticks, issued_ticks, last_ticks, lease_for}
 use Rattle.daos_hlc.specs.Clock.{next_ticks}
 use Rattle.daos_messages.specs.declared.actor.ActorId.{ActorId}
 use Rattle.daos_messages.specs.declared.message.Message.{Message}
@@ -31,13 +30,13 @@ use Rattle.world_base.specs.declared.request.CommitRequest.{CommitRequest}
 use Rattle.world_base.specs.declared.request.FetchRequest.{FetchRequest}
 use Rattle.world_base.specs.declared.target.TargetMemory.{TargetMemory}
 use Rattle.world_base.specs.declared.target.TargetPlan.{TargetPlan}
-use Rattle.world_turns.specs.Changes.{Change, Extends, Kept, Prepares, Settles, Steps, made}
+use Rattle.world_turns.specs.Changes.{Change, Kept, Steps}
 use Rattle.world_turns.specs.Commits as commit
 use Rattle.world_turns.specs.Idle.{AllSettled, IdleEnds, IdleNext, SettlesFirst}
 use Rattle.world_turns.specs.Reads as read
 use Rattle.world_turns.specs.Requests.{issued_for, nothing_follows, request_epoch, says, with_ticks}
 use Rattle.world_turns.specs.TargetTurns.{IdlesWhole}
-use Rattle.world_turns.specs.Turns.{Here, More, Path, Reached, Whole}
+use Rattle.world_turns.specs.Turns.{Here, More, Path, Whole}
 
 -- ---- leases
 
