@@ -2,3 +2,6 @@
 pub mod Standing
 pub mod StandingLaws
 pub mod MoveLaws
+pub mod Answered
+pub mod AnsweredLaws
+pub mod AnswerLaws

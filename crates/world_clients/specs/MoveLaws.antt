@@ -55,7 +55,7 @@ none-told p place command present attempts s = subst (λ as'. Stands p place com
 abbrev pub told_end : ClientPlan → ClientState → Present → Outcome → Attempt
 told_end p c a how = record { id = attempt_id p c a; epoch = a.epoch; conds = a.conds; gots = a.gots; outcome = how }
 
-tells-end : (p : ClientPlan) (c : ClientState) (a : Present) (how : Outcome) → tells (ends p c a how) ≡ told_end p c a how ∷ []
+pub tells-end : (p : ClientPlan) (c : ClientState) (a : Present) (how : Outcome) → tells (ends p c a how) ≡ told_end p c a how ∷ []
 unfolding tries
 tells-end p c a how = refl
 

@@ -2,7 +2,6 @@
 use Rattle.std.specs.Prelude.{ℕ, ◌≡◌, ◌≤◌, Bool, true, false, List, [], ◌∷◌, slice_get, Option, Some, None, Contains}
 use Rattle.daos_base.specs.declared.epoch.Epoch.{Epoch}
 use Rattle.daos_base.specs.declared.outcome.Outcome.{Outcome}
-use Rattle.daos_messages.specs.declared.actor.ActorId.{ActorId}
 use Rattle.daos_messages.specs.declared.message.Message.{Message}
 use Rattle.daos_messages.specs.declared.message.Message.TheVariants as message
 use Rattle.daos_messages.specs.declared.message.Post.{Post}
@@ -13,7 +12,7 @@ use Rattle.world_base.specs.declared.client.Present.{Present}
 use Rattle.world_base.specs.declared.letter.Letter.{Letter}
 use Rattle.world_base.specs.declared.world.World.{World}
 use Rattle.world_base.specs.ClientTurns.{moved, waits}
-use Rattle.world_events.specs.Events.{Rules, client_plan}
+use Rattle.world_events.specs.Events.{Event, Rules, client_plan}
 use Rattle.world_events.specs.Letters.{client, letter_of, talk_of}
 use Rattle.world_turns.specs.TargetTurns.{is_heard}
 
@@ -49,3 +48,11 @@ pub record Conversation (r : Rules) (w : World) : Type 0 where
   pub talks : (n : ℕ) (c : ClientState) → slice_get w.clients n ≡ Some c → Talks (client_plan r n) n c (talk_of n w.messages) (waits c)
   pub nobody : (n : ℕ) → slice_get w.clients n ≡ None → talk_of n w.messages ≡ []
   pub from_clients : (l : Letter) → Contains w.messages l → is_heard l.message ≡ true → (n : ℕ) × (c : ClientState) × (slice_get w.clients n ≡ Some c) × (l.from ≡ client n)
+
+-- every event keeps the conversations in order
+abbrev pub ConversationsAreKept : Type 0
+ConversationsAreKept = (r : Rules) (w v : World) → Conversation r w → Event r w v → Conversation r v
+
+-- they are in order where nothing is in flight and no client waits
+abbrev pub ConversationsBegin : Type 0
+ConversationsBegin = (r : Rules) (w : World) → w.messages ≡ [] → ((n : ℕ) (c : ClientState) → slice_get w.clients n ≡ Some c → waits c ≡ false) → Conversation r w

@@ -1,0 +1,64 @@
+-- What the lines of a run tell of each client's commands.
+use Rattle.std.specs.Prelude.{ℕ, ◌≡◌, ◌⊎◌, Bool, true, false, List, [], ◌∷◌, map, Contains, slice_get, Option, Some, None}
+use Rattle.daos_base.specs.declared.epoch.Epoch.{Epoch}
+use Rattle.daos_base.specs.declared.id.AttemptId.{AttemptId}
+use Rattle.daos_base.specs.declared.outcome.Outcome.TheVariants.{Committed}
+use Rattle.daos_base.specs.declared.report.Attempt.{Attempt}
+use Rattle.daos_base.specs.declared.report.Line.{Line}
+use Rattle.daos_messages.specs.declared.message.Message.{Message}
+use Rattle.daos_messages.specs.declared.message.Message.TheVariants.{Fetched, Ended}
+use Rattle.daos_messages.specs.declared.message.Reply.{Reply}
+use Rattle.daos_messages.specs.declared.message.Reply.TheVariants as reply
+use Rattle.daos_model.specs.Attempts.{tries_of}
+use Rattle.world_base.specs.declared.client.ClientPlan.{ClientPlan}
+use Rattle.world_base.specs.declared.client.ClientState.{ClientState}
+use Rattle.world_base.specs.declared.letter.Letter.{Letter}
+use Rattle.world_base.specs.declared.world.World.{World}
+use Rattle.world_clients.specs.AnswerLaws.{Tells}
+use Rattle.world_clients.specs.Answered.{is_refusal}
+use Rattle.world_events.specs.Events.{Rules, client_plan, or_issued}
+
+-- an attempt as it stands in the lines: where its client knew no epoch of it, with the one that was issued
+abbrev pub filled : List (AttemptId × Epoch) → Attempt → Attempt
+filled issued a = record a { epoch = or_issued issued a.id a.epoch }
+
+-- two attempts are the same but for their epochs
+pub record IsTheSame (a b : Attempt) : Type 0 where
+  pub id : b.id ≡ a.id
+  pub conds : b.conds ≡ a.conds
+  pub gots : b.gots ≡ a.gots
+  pub outcome : b.outcome ≡ a.outcome
+
+-- one by one
+abbrev pub AreTheSame : List Attempt → List Attempt → Type 0
+AreTheSame [] [] = Unit {0}
+AreTheSame [] (b ∷ bs) = ⊥
+AreTheSame (a ∷ as') [] = ⊥
+AreTheSame (a ∷ as') (b ∷ bs) = IsTheSame a b × AreTheSame as' bs
+
+-- the lines tell of a client what it has told, but for epochs
+pub record HasLines (p : ClientPlan) (n : ℕ) (c : ClientState) (lines : List Line) : Type 0 where
+  pub attempts : List Attempt
+  pub tells : Tells p c attempts
+  pub same : AreTheSame attempts (tries_of n lines)
+
+-- of every client
+pub record Lines (r : Rules) (w : World) : Type 0 where
+  pub told : (n : ℕ) (c : ClientState) → slice_get w.clients n ≡ Some c → HasLines (client_plan r n) n c w.lines
+  pub nobody : (n : ℕ) → slice_get w.clients n ≡ None → tries_of n w.lines ≡ []
+
+-- ---- what goes about
+
+abbrev pub IsRefusalOrNone : Reply → Type 0
+IsRefusalOrNone (reply.Answer b) = Unit {0}
+IsRefusalOrNone (reply.Outcome how) = is_refusal how ≡ true
+
+-- a read ends in a refusal alone, and an attempt in one, or as committed
+abbrev pub TellsEnd : Message → Type 0
+TellsEnd (Fetched x op group e b) = IsRefusalOrNone b
+TellsEnd (Ended x e how) = (is_refusal how ≡ true) ⊎ (how ≡ Committed)
+TellsEnd m = Unit {0}
+
+-- of every message in flight
+abbrev pub Endings : World → Type 0
+Endings w = (l : Letter) → Contains w.messages l → TellsEnd l.message

@@ -1,0 +1,67 @@
+-- Each version belongs to a decided attempt or to one that is prepared, and those that count stand for the decided transactions.
+use Rattle.std.specs.Prelude.{ℕ, ◌≡◌, ◌≢◌, ◌⊎◌, ◌+◌, ◌<◌, ◌≤◌, ◌/◌, Bool, true, false, ◌&&◌, ◌==◌, max, List, [], ◌∷◌, Contains, slice_get, Option, Some, None}
+use Rattle.std.specs.List.{list_all}
+use Rattle.daos_base.specs.declared.entry.Entry.{Entry}
+use Rattle.daos_base.specs.declared.epoch.Epoch.{Epoch}
+use Rattle.daos_base.specs.declared.id.AttemptId.{AttemptId}
+use Rattle.daos_base.specs.declared.id.ContId.{ContId}
+use Rattle.daos_base.specs.declared.operation.MinorWrite.{MinorWrite}
+use Rattle.daos_base.specs.Operations.{write_path}
+use Rattle.daos_base.specs.Placement.{path_members, writes_leader}
+use Rattle.daos_laws.specs.Dated.{AreSingleInOrder}
+use Rattle.daos_laws.specs.Matches.{Matches}
+use Rattle.daos_laws.specs.Targets.{ArePlaced, is_own}
+use Rattle.daos_model.specs.declared.cell.Cell.{Cell}
+use Rattle.daos_model.specs.declared.durable.Durable.{Durable}
+use Rattle.daos_model.specs.declared.durable.Version.{Version}
+use Rattle.daos_model.specs.Accesses.{minor_writes}
+use Rattle.daos_model.specs.Durables.{IsInForm, entry_of, row_of}
+use Rattle.daos_model.specs.Opening.{Opening, top}
+use Rattle.daos_model.specs.Transactions.{attempt_ops}
+use Rattle.daos_model.specs.Versions.{version_of, version_path}
+use Rattle.world_base.specs.declared.target.TargetState.{TargetState}
+use Rattle.world_base.specs.declared.world.World.{World}
+use Rattle.world_events.specs.Events.{Rules}
+use Rattle.world_reads.specs.History.{History, counts_by, transactions}
+
+-- a target's own cells of a container
+abbrev pub is_own_in : ℕ → ℕ → ContId → Cell → Bool
+is_own_in targets t cont c = is_own targets t c && (c.path.cont.0 == cont.0)
+
+-- from where on a target's versions of a container are told one by one: above the opening, and above what was aggregated
+abbrev pub mark_of : Opening → Durable → ContId → ℕ
+mark_of o d cont = max (top o) (row_of d cont).aggregated.0 + 1
+
+-- a write of an attempt that a target of so many holds
+pub record IsWriteAt (r : Rules) (x : AttemptId) (t : ℕ) (w : MinorWrite) : Type 0 where
+  pub of_it : Contains (minor_writes 0 (attempt_ops r.script x)) w
+  pub here : Contains (path_members (write_path w.write) r.script.targets) t
+
+-- what holds of what one target keeps
+pub record VersionsStand (r : Rules) (o : Opening) (held : List Version) (h : History) (w : World) (t : ℕ) (d : Durable) : Type 0 where
+  pub form : IsInForm d
+  pub single : AreSingleInOrder d.versions
+  pub placed : ArePlaced r.script.targets t d.versions
+  -- a done version is of the opening, or of a decided attempt, and then one of its writes
+  pub done : (v : Version) → Contains d.versions v → v.done ≡ true → Contains held v ⊎ (Contains h.decided (v.by, v.epoch) × (m : MinorWrite) × IsWriteAt r v.by t m × (v.minor ≡ m.minor) × (v.write ≡ m.write))
+  -- an unsettled one belongs to a prepared entry here
+  pub unsettled : (v : Version) → Contains d.versions v → v.done ≡ false → (e : Entry) × (entry_of d v.by ≡ Some e) × (e.committed ≡ false) × (e.epoch ≡ v.epoch)
+  -- a prepared entry has exactly the attempt's writes of this target's groups
+  pub whole : (e : Entry) (m : MinorWrite) → Contains d.entries e → e.committed ≡ false → IsWriteAt r e.attempt t m → Contains d.versions (version_of e m)
+  pub only : (v : Version) → Contains d.versions v → v.done ≡ false → (m : MinorWrite) × IsWriteAt r v.by t m × (v.minor ≡ m.minor) × (v.write ≡ m.write)
+  -- the versions that count stand for the decided transactions, in each container
+  pub matches : (cont : ContId) → Matches (is_own_in r.script.targets t cont) (counts_by h) d.versions o.stand (transactions r.script h) (mark_of o d cont)
+  pub leased : (v : Version) → Contains d.versions v → v.epoch.0 / 256 ≤ d.lease
+
+-- of every target; `held` is what each had at the opening
+pub record Versions (r : Rules) (o : Opening) (held : ℕ → List Version) (h : History) (w : World) : Type 0 where
+  pub stand : (t : ℕ) (s : TargetState) → slice_get w.targets t ≡ Some s → VersionsStand r o (held t) h w t s.durable
+  -- what is decided was issued, and its leader and all its members hold it
+  pub issued : (x : AttemptId) (e : Epoch) → Contains h.decided (x, e) → Contains w.issued (x, e)
+  pub written : (x : AttemptId) (e : Epoch) → Contains h.decided (x, e) → minor_writes 0 (attempt_ops r.script x) ≢ []
+  pub held_by : (x : AttemptId) (e : Epoch) (t : ℕ) (s : TargetState) (m : MinorWrite) → Contains h.decided (x, e) → slice_get w.targets t ≡ Some s → IsWriteAt r x t m
+      → (k : Entry) × (entry_of s.durable x ≡ Some k) × (k.epoch ≡ e)
+  -- an entry is of a decided attempt, and one that isn't settled is known to its leader as decided
+  pub entries : (t : ℕ) (s : TargetState) (e : Entry) → slice_get w.targets t ≡ Some s → Contains s.durable.entries e → Contains h.decided (e.attempt, e.epoch)
+  pub led : (t : ℕ) (s : TargetState) (e : Entry) → slice_get w.targets t ≡ Some s → Contains s.durable.entries e → e.committed ≡ false → e.leader ≡ t → Contains s.memory.decided e.attempt
+  pub leading : (t : ℕ) (s : TargetState) (x : AttemptId) → slice_get w.targets t ≡ Some s → Contains s.memory.decided x → (e : Entry) × (entry_of s.durable x ≡ Some e) × (e.committed ≡ false) × (e.leader ≡ t)

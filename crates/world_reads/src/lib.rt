@@ -1,0 +1,2 @@
+// What targets keep stands for the decided transactions, and what they answered still holds.
+#![tactic(auto)]
