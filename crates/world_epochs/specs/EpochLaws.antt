@@ -10,11 +10,12 @@ use Rattle.daos_model.specs.Order.{AllRise}
 use Rattle.world_base.specs.declared.client.ClientState.{ClientState}
 use Rattle.world_base.specs.declared.world.World.{World}
 use Rattle.world_base.specs.ClientTurns.{NextTurn, Skipped, Went_on}
-use Rattle.world_events.specs.Events.{ByClient, ByTarget, ClientGoes, Event, Rules, ToClient, ToTarget, after_turn, client_plan, with_client}
+use Rattle.world_events.specs.Events.{Begins, ByClient, ByTarget, ClientGoes, Event, Goes, Rules, Run, ToClient, ToTarget, after_turn, client_plan, with_client}
 use Rattle.world_events.specs.Letters.{client}
 use Rattle.world_events.specs.StepLaws.{by-going, by-hearing}
 use Rattle.world_events.specs.Steps.{KeptByHearing, KeptByMoves}
 use Rattle.world_talks.specs.Conversation.{Conversation}
+use Rattle.world_talks.specs.ConversationLaws.{conversations-stay, hear-keeps, move-keeps}
 use Rattle.world_epochs.specs.Epochs.{Epochs, InCause, IsTold, ItsOwn, OneTarget, Unsnapped}
 use Rattle.world_epochs.specs.HeardLaws.{heard-keeps}
 use Rattle.world_epochs.specs.HearLaws.{quiet-client}
@@ -41,11 +42,13 @@ EpochsBegin = (r : Rules) (top : ℕ) (w : World) → IsBegun top w → Epochs r
 abbrev pub OneTargetIsKept : Type 0
 OneTargetIsKept = (r : Rules) (w v : World) → OneTarget r w → Event r w v → OneTarget r v
 
--- in a run with one target, without snapshots, each event keeps what is said of epochs; that moves and hearings keep
--- conversations is a premise
+-- in a run with one target, without snapshots, where conversations are in order, each event keeps what is said of epochs
 abbrev pub EpochsAreKept : Type 0
-EpochsAreKept =
-    (r : Rules) (top : ℕ) (w v : World) → KeptByMoves r (Conversation r) → KeptByHearing r (Conversation r) → OneTarget r w → Unsnapped r → Conversation r w → Epochs r top w → Event r w v → Epochs r top v
+EpochsAreKept = (r : Rules) (top : ℕ) (w v : World) → OneTarget r w → Unsnapped r → Conversation r w → Epochs r top w → Event r w v → Epochs r top v
+
+-- and so does a run
+abbrev pub EpochsStay : Type 0
+EpochsStay = (r : Rules) (top : ℕ) (w v : World) → OneTarget r w → Unsnapped r → Conversation r w → Epochs r top w → Run r w v → Epochs r top v
 
 -- ---- the beginning
 
@@ -95,15 +98,15 @@ one_target-kept r w v one (ToClient g) = subst (λ z. OneTarget r z) (sym g.afte
 one_target-kept r w v one (ToTarget g) = subst (λ z. OneTarget r z) (sym g.after) (record { script = one.script; alone = length-set w.targets g.t (record g.s { durable = g.new.durable; free = g.new.free; memory = g.memory }) ∙ one.alone })
 one_target-kept r w v one (ByTarget g) = subst (λ z. OneTarget r z) (sym g.after) (record { script = one.script; alone = length-set w.targets g.t (record g.s { durable = g.new.durable; free = g.new.free; memory = g.memory }) ∙ one.alone })
 
-module _ (r : Rules) (top : ℕ) (U : Unsnapped r) (moves : KeptByMoves r (Conversation r)) (hearing : KeptByHearing r (Conversation r)) where
+module _ (r : Rules) (top : ℕ) (U : Unsnapped r) where
   abbrev Both : World → Type 0
   Both w = Conversation r w × Epochs r top w
 
   moves-keep : KeptByMoves r Both
-  moves-keep w n c here p = (moves w n c here p.0, moved-keeps r top w n c U p.1 here (λ idle. silent-unless r w n c p.0 here idle))
+  moves-keep w n c here p = (move-keeps r w n c here p.0, moved-keeps r top w n c U p.1 here (λ idle. silent-unless r w n c p.0 here idle))
 
   hearing-keeps : KeptByHearing r Both
-  hearing-keeps w n c l rest here awake takes to p = (hearing w n c l rest here awake takes to p.0, heard-keeps r top w n c l rest U p.0 p.1 here takes to)
+  hearing-keeps w n c l rest here awake takes to p = (hear-keeps r w n c l rest here awake takes to p.0, heard-keeps r top w n c l rest U p.0 p.1 here takes to)
 
   -- a turn that is skipped is counted
   counting-keeps : (w : World) (n k : ℕ) (c : ClientState) → slice_get w.clients n ≡ Some c → Epochs r top w → Epochs r top (with_client n (record c { skip = k }) w)
@@ -123,4 +126,13 @@ module _ (r : Rules) (top : ℕ) (U : Unsnapped r) (moves : KeptByMoves r (Conve
   event-kept w v one p (ByTarget g) = idles-kept r top w v one p.1 g
 
 pub epochs-kept : EpochsAreKept
-epochs-kept r top w v moves hearing one U talk E g = event-kept r top U moves hearing w v one (talk, E) g
+epochs-kept r top w v one U talk E g = event-kept r top U w v one (talk, E) g
+
+pub one_target-stays : (r : Rules) (w v : World) → OneTarget r w → Run r w v → OneTarget r v
+one_target-stays r w v one Begins = one
+one_target-stays r w v one (Goes u x before event) = one_target-kept r u x (one_target-stays r w u one before) event
+
+pub epochs-stay : EpochsStay
+epochs-stay r top w v one U talk E Begins = E
+epochs-stay r top w v one U talk E (Goes u x before event) =
+    epochs-kept r top u x (one_target-stays r w u one before) U (conversations-stay r w u talk before) (epochs-stay r top w u one U talk E before) event
