@@ -1,0 +1,339 @@
+-- Every turn keeps that decided attempts are exactly those that are told as committed.
+use Rattle.std.specs.Prelude.{ℕ, ◌≡◌, ◌≢◌, ◌⊎◌, ◌<◌, ◌++◌, Bool, true, false, List, [], ◌∷◌, map, slice_get, Contains, Option, Some, None, refl}
+use Rattle.std.proofs.Common.{append-nil, sym, ◌∙◌, ap, subst, inl, inr}
+use Rattle.daos_base.specs.declared.epoch.Epoch.{Epoch}
+use Rattle.daos_base.specs.declared.id.AttemptId.{AttemptId}
+use Rattle.daos_base.specs.declared.operation.MinorWrite.{MinorWrite}
+use Rattle.daos_base.specs.declared.outcome.Outcome.{Outcome}
+use Rattle.daos_base.specs.declared.outcome.Outcome.TheVariants as outcome
+use Rattle.daos_base.specs.declared.report.Attempt.{Attempt}
+use Rattle.daos_base.specs.declared.report.Line.{Line}
+use Rattle.daos_base.specs.declared.script.Command.{Command}
+use Rattle.daos_laws.specs.Members.{Has, contains-from_has, has-cases, has-from_contains, has-from_map, has-left, has-map, has-right}
+use Rattle.daos_messages.specs.declared.message.Message.{Message}
+use Rattle.daos_messages.specs.declared.message.Message.TheVariants as message
+use Rattle.daos_messages.specs.declared.message.Post.{Post}
+use Rattle.daos_messages.specs.declared.message.Reply.{Reply}
+use Rattle.daos_model.specs.Accesses.{minor_writes}
+use Rattle.daos_model.specs.Attempts.{tries}
+use Rattle.daos_model.specs.Transactions.{attempt_ops, command_of, numbered, numbered_at, ops_of, ops_or_none}
+use Rattle.world_base.specs.declared.client.ClientPlan.{ClientPlan}
+use Rattle.world_base.specs.declared.client.ClientState.{ClientState}
+use Rattle.world_base.specs.declared.client.Present.{Present}
+use Rattle.world_base.specs.declared.did.Did.{Did}
+use Rattle.world_base.specs.declared.letter.Letter.{Letter}
+use Rattle.world_base.specs.declared.world.World.{World}
+use Rattle.world_base.specs.ClientTurns.{Move, attempt_id, begun, command_at, end_line, ended, ends, goes, heard, hears_epochs, knows, knows_epoch, listed, moved, replied, snaps_known, waits}
+use Rattle.world_clients.specs.AnswerLaws.{numbered-here}
+use Rattle.world_clients.specs.MoveLaws.{IsAt, is-at}
+use Rattle.world_clients.specs.Standing.{HasTold}
+use Rattle.world_events.specs.Events.{Rules, TargetHears, TargetIdles, client_plan, commands_or_none, kept, or_issued, target_plan, with_client, with_epoch}
+use Rattle.world_events.specs.Letters.{Takes, client, letter_of, letters_of, target}
+use Rattle.world_events.specs.Steps.{KeptByCounting, after_client, after_move, without}
+use Rattle.world_lines.specs.Lines.{Endings, Lines, TellsEnd, filled}
+use Rattle.world_reads.specs.History.{History}
+use Rattle.world_talks.specs.AskLaws.{move-is, waiting-rests}
+use Rattle.world_talks.specs.Asked.{ARead, ASnapshot, AnAggregation, Asked, Asking, IsMove, ItsWrites, Silent, Telling}
+use Rattle.world_talks.specs.Conversation.{Conversation}
+use Rattle.world_talks.specs.HearLaws.{ended-silent, replied-silent}
+use Rattle.world_talks.specs.Hearing.{ATracker, AReply, AnEnd, IsHearing, hearing-is}
+use Rattle.world_talks.specs.InFlight.{GetsAnswer}
+use Rattle.world_talks.specs.TalkLaws.{left-is-among, taken-is-among}
+use Rattle.world_turns.specs.TargetTurns.{is_heard}
+use Rattle.world_verdicts.specs.TellLaws.{AllRead, Fails, Goes, MoveTells, NoSnap, Nothing, ReplyTells, moved-tells, replied-tells}
+use Rattle.world_verdicts.specs.VerdictLaws.{EndNothing, StillTold, TellDecided, client-did, left-or-it, told-new}
+use Rattle.world_verdicts.specs.Verdicts.{Agrees, HasWrites, IsOnItsWay, IsToldCommitted, Tells, Verdicts}
+
+-- ---- what a client sends ends nothing
+
+asked-ends-nothing : (p : ClientPlan) (k : Epoch) (c : ClientState) (a : Present) (q : Post) (x : AttemptId) (own : Option Epoch) → Asked p k c a q → q.message ≢ message.Ended x own outcome.Committed
+asked-ends-nothing p k c a q x own (ARead ops turns snapshot op r at here asks says) e = let no : ⊥ = cc (sym (ap (λ z. z.message) says) ∙ e) in no
+asked-ends-nothing p k c a q x own (ItsWrites ops turns snapshot w ws at last all says) e = let no : ⊥ = cc (sym (ap (λ z. z.message) says) ∙ e) in no
+asked-ends-nothing p k c a q x own (ASnapshot name cont at says) e = let no : ⊥ = cc (sym (ap (λ z. z.message) says) ∙ e) in no
+asked-ends-nothing p k c a q x own (AnAggregation cont at says) e = let no : ⊥ = cc (sym (ap (λ z. z.message) says) ∙ e) in no
+
+no-post : (m : Move) → m.post ≡ None → EndNothing (listed m.post)
+no-post m e q x own i = absurd (subst (λ o. Has q (listed o)) e i)
+
+move-ends-nothing : (p : ClientPlan) (c : ClientState) → EndNothing (listed (moved p c).post)
+move-ends-nothing p c = by (waits c) refl
+  where
+    one : (m : Move) (s : Post) → m.post ≡ Some s → ((x : AttemptId) (own : Option Epoch) → s.message ≢ message.Ended x own outcome.Committed) → EndNothing (listed m.post)
+    one m s e none q x own i = elim (subst (λ o. Has q (listed o)) e i) [ inl same ↦ (λ f. none x own (sym (ap (λ z. z.message) same) ∙ f)) | inr j ↦ absurd j ]
+
+    is-a : IsMove p c (moved p c) → EndNothing (listed (moved p c).post)
+    is-a (Silent free none) = no-post (moved p c) none
+    is-a (Telling n none free says) = one (moved p c) _ says (λ x own e. let no : ⊥ = cc in no)
+    is-a (Asking a q at asked says state) = one (moved p c) q says (λ x own. asked-ends-nothing p c.tracker c a q x own asked)
+
+    by : (b : Bool) → waits c ≡ b → EndNothing (listed (moved p c).post)
+    by true h = no-post (moved p c) (ap (λ m. m.post) (waiting-rests p c h))
+    by false h = is-a (move-is p c h)
+
+-- ---- what it tells
+
+-- the attempts of a line that ends one
+ends-one : (p : ClientPlan) (c : ClientState) (a : Present) (how : Outcome) (m : Move) (b : Attempt) → m ≡ ends p c a how → Has b (tries (listed m.line))
+    → b ≡ record { id = attempt_id p c a; epoch = a.epoch; conds = a.conds; gots = a.gots; outcome = how }
+unfolding tries
+ends-one p c a how m b e i = elim (subst (λ x. Has b (tries (listed x.line))) e i) [ inl same ↦ same | inr j ↦ absurd j ]
+
+none-told : (m : Move) (b : Attempt) → m.line ≡ None → Has b (tries (listed m.line)) → ⊥
+unfolding tries
+none-told m b e i = subst (λ o. Has b (tries (listed o))) e i
+
+-- the operations of an attempt of a client are those of the command that it is at
+pub attempt-ops-here : (r : Rules) (n : ℕ) (c : ClientState) (a : Present) (d : Command) (attempts : List Attempt) → c.present ≡ Some a → HasTold (client_plan r n) c attempts → command_at (client_plan r n) c ≡ Some d
+    → attempt_ops r.script (attempt_id (client_plan r n) c a) ≡ ops_of d
+unfolding command_of
+attempt-ops-here r n c a d attempts here told at = by (slice_get r.script.clients n) refl
+  where
+    k : (f : Command) × IsAt (client_plan r n) c f a attempts
+    k = is-at (client_plan r n) c a attempts here told
+
+    same : k.0 ≡ d
+    same = let e : Some k.0 ≡ Some d = sym k.1.at ∙ at in cc
+
+    by : (o : Option (List Command)) → slice_get r.script.clients n ≡ o → ops_or_none (numbered_at c.command (slice_get r.script.clients n)) ≡ ops_of d
+    by None e = let bad : None ≡ Some d = sym (ap (λ x. slice_get (commands_or_none x) c.place) e) ∙ at in let no : ⊥ = cc in absurd no
+    by (Some list) e =
+        ap (λ x. ops_or_none (numbered_at c.command x)) e
+        ∙ ap (λ x. ops_or_none (slice_get (numbered x) c.command)) (sym (ap commands_or_none e))
+        ∙ ap (λ x. ops_or_none (slice_get (numbered (commands_or_none (slice_get r.script.clients n))) x)) k.1.told.numbers
+        ∙ ap ops_or_none (numbered-here (client_plan r n) c.place k.0 k.1.at k.1.numbered) ∙ ap ops_of same
+
+-- ---- moves
+
+told-of : (r : Rules) (w : World) (n : ℕ) (c : ClientState) → Lines r w → slice_get w.clients n ≡ Some c → (attempts : List Attempt) × HasTold (client_plan r n) c attempts
+told-of r w n c lines here = let t = lines.told n c here in (t.attempts, t.tells.told)
+
+move-tells-decided : (r : Rules) (h : History) (w : World) (n : ℕ) (c : ClientState) → Lines r w → slice_get w.clients n ≡ Some c → TellDecided r h w.issued (listed (moved (client_plan r n) c).line)
+move-tells-decided r h w n c lines here b i committed some = by (moved-tells p c)
+  where
+    p : ClientPlan
+    p = client_plan r n
+
+    Goal : Type 0
+    Goal = (e : Epoch) × ((filled w.issued b).epoch ≡ Some e) × Contains h.decided (b.id, e)
+
+    by : MoveTells p c (moved p c) → Goal
+    by (Nothing none) = absurd (none-told (moved p c) b none i)
+    by (AllRead d a at present none says) =
+        let one = ends-one p c a outcome.Committed (moved p c) b says i in
+        let t = told-of r w n c lines here in
+        absurd (some (ap (λ x. minor_writes 0 (attempt_ops r.script x.id)) one ∙ ap (minor_writes 0) (attempt-ops-here r n c a d t.0 present t.1 at) ∙ none))
+    by (NoSnap says) =
+        let one = ends-one p c (begun 0 None None) outcome.NoSnapshot (moved p c) b says i in
+        let bad : outcome.NoSnapshot ≡ outcome.Committed = sym (ap (λ x. x.outcome) one) ∙ committed in
+        absurd (let no : ⊥ = cc in no)
+
+pub verdicts-by-moves : (r : Rules) (h : History) (w : World) (n : ℕ) (c : ClientState) → Lines r w → slice_get w.clients n ≡ Some c → Verdicts r h w → Verdicts r h (after_move w n (moved (client_plan r n) c))
+verdicts-by-moves r h w n c lines here k =
+    client-did r h w n w.messages (listed (moved (client_plan r n) c).post) (listed (moved (client_plan r n) c).line) (moved (client_plan r n) c).state (λ m i. i) (λ x e f. inl f)
+      (move-ends-nothing (client_plan r n) c) (move-tells-decided r h w n c lines here) k
+
+pub verdicts-by-counting : (r : Rules) (h : History) → KeptByCounting (Verdicts r h)
+verdicts-by-counting r h w n j c here k = record { told = k.told; flying = k.flying; lines = k.lines }
+
+-- ---- hearing
+
+-- how an attempt ends that its client hears to be committed
+record EndsHere (r : Rules) (h : History) (w : World) (n : ℕ) (c : ClientState) (x : AttemptId) (e : Epoch) (m : Move) : Type 0 where
+  b : Attempt
+  only : (z : Attempt) → Has z (tries (listed m.line)) → z ≡ b
+  among : Has b (tries (listed m.line))
+  of_it : b.id ≡ x
+  at : (filled w.issued b).epoch ≡ Some e
+  committed : b.outcome ≡ outcome.Committed
+
+ends-has : (p : ClientPlan) (c : ClientState) (a : Present) (how : Outcome) (m : Move) → m ≡ ends p c a how
+    → Has (record { id = attempt_id p c a; epoch = a.epoch; conds = a.conds; gots = a.gots; outcome = how }) (tries (listed m.line))
+unfolding tries
+ends-has p c a how m e = subst (λ x. Has (record { id = attempt_id p c a; epoch = a.epoch; conds = a.conds; gots = a.gots; outcome = how }) (tries (listed x.line))) (sym e) (inl refl)
+
+end-here : (r : Rules) (h : History) (w : World) (n : ℕ) (c : ClientState) (l : Letter) (rest : List Letter) (g : GetsAnswer r n c l rest) (e : Epoch) → slice_get w.clients n ≡ Some c → Agrees r h w
+    → Contains h.decided (attempt_id (client_plan r n) c g.a, e)
+    → heard (client_plan r n) c l.message ≡ ended (client_plan r n) (hears_epochs l.message c) (knows (Some e) g.a) (Some e) outcome.Committed
+    → EndsHere r h w n c (attempt_id (client_plan r n) c g.a) e (heard (client_plan r n) c l.message)
+end-here r h w n c l rest g e here agrees decided it = record {
+  b = b;
+  only = λ z i. ends-one p f (knows (Some e) g.a) outcome.Committed (heard p c l.message) z it i;
+  among = ends-has p f (knows (Some e) g.a) outcome.Committed (heard p c l.message) it;
+  of_it = refl;
+  at = by g.a.epoch refl;
+  committed = refl;
+}
+  where
+    p : ClientPlan
+    p = client_plan r n
+
+    f : ClientState
+    f = record (hears_epochs l.message c) { known = snaps_known (command_at p (hears_epochs l.message c)) (Some e) outcome.Committed (hears_epochs l.message c).known }
+
+    b : Attempt
+    b = record { id = attempt_id p f (knows (Some e) g.a); epoch = (knows (Some e) g.a).epoch; conds = g.a.conds; gots = g.a.gots; outcome = outcome.Committed }
+
+    by : (o : Option Epoch) → g.a.epoch ≡ o → or_issued w.issued b.id (knows_epoch g.a.epoch (Some e)) ≡ Some e
+    by None q = ap (λ o. or_issued w.issued b.id (knows_epoch o (Some e))) q
+    by (Some own) q = ap (λ o. or_issued w.issued b.id (knows_epoch o (Some e))) q ∙ ap (λ z. Some z) (agrees n c g.a own e here g.present q decided)
+
+-- what a client hears tells decided attempts, and what is decided is still told
+record HeardTells (r : Rules) (h : History) (w : World) (n : ℕ) (rest : List Letter) (m : Move) : Type 0 where
+  tells : TellDecided r h w.issued (listed m.line)
+  still : StillTold w.messages rest (w.lines ++ map (with_epoch w.issued) (listed m.line))
+  silent : m.post ≡ None
+
+other-still : (r : Rules) (h : History) (w : World) (l : Letter) (rest : List Letter) (lines : List Line) → Takes w.messages l rest → ((x : AttemptId) (e : Epoch) → l.message ≢ message.Ended x (Some e) outcome.Committed) → StillTold w.messages rest lines
+other-still r h w l rest lines takes other x e f = elim (left-or-it w.messages l rest f.l takes f.among) [
+    | inl same ↦ absurd (other x e (sym (ap (λ z. z.message) same) ∙ f.says))
+    | inr i ↦ inl (record { l = f.l; among = i; says = f.says; to_it = f.to_it })
+  ]
+
+heard-tells : (r : Rules) (h : History) (w : World) (n : ℕ) (c : ClientState) (l : Letter) (rest : List Letter) → Endings w → Verdicts r h w → Agrees r h w → slice_get w.clients n ≡ Some c → Takes w.messages l rest
+    → IsHearing r n c l rest → HeardTells r h w n rest (heard (client_plan r n) c l.message)
+heard-tells r h w n c l rest ends k agrees here takes (ATracker t says it) = record {
+  tells = λ b i q s. absurd (none-told (heard (client_plan r n) c l.message) b (ap (λ m. m.line) it) i);
+  still = other-still r h w l rest _ takes (λ x e f. let no : ⊥ = cc (sym says ∙ f) in no);
+  silent = ap (λ m. m.post) it;
+}
+heard-tells r h w n c l rest ends k agrees here takes (AReply g group own b says it) = record {
+  tells = tells (replied-tells p (hears_epochs l.message c) (knows own g.a) b (subst TellsEnd says (ends l (taken-is-among w.messages l rest takes))));
+  still = other-still r h w l rest _ takes (λ x e f. let no : ⊥ = cc (sym says ∙ f) in no);
+  silent = ap (λ m. m.post) it ∙ (replied-silent p (hears_epochs l.message c) (knows own g.a) b refl).no_post;
+}
+  where
+    p : ClientPlan
+    p = client_plan r n
+
+    tells : ReplyTells p (hears_epochs l.message c) (replied p (hears_epochs l.message c) (knows own g.a) b) → TellDecided r h w.issued (listed (heard p c l.message).line)
+    tells (Goes none) z i q s = absurd (none-told (heard p c l.message) z (ap (λ m. m.line) it ∙ none) i)
+    tells (Fails a how other e) z i q s =
+        let one = ends-one p (hears_epochs l.message c) a how (heard p c l.message) z (it ∙ e) i in
+        absurd (other (sym (ap (λ x. x.outcome) one) ∙ q))
+heard-tells r h w n c l rest ends k agrees here takes (AnEnd g own how says it) = record {
+  tells = tells;
+  still = still;
+  silent = ap (λ m. m.post) it ∙ (ended-silent p (hears_epochs l.message c) (knows own g.a) own how).no_post;
+}
+  where
+    p : ClientPlan
+    p = client_plan r n
+
+    x : AttemptId
+    x = attempt_id p c g.a
+
+    f : ClientState
+    f = record (hears_epochs l.message c) { known = snaps_known (command_at p (hears_epochs l.message c)) own how (hears_epochs l.message c).known }
+
+    -- where it is told as committed
+    here-told : how ≡ outcome.Committed → (e : Epoch) × (own ≡ Some e) × Contains h.decided (x, e) × EndsHere r h w n c x e (heard p c l.message)
+    here-told committed =
+        let d = k.flying l x own (taken-is-among w.messages l rest takes) (says ∙ ap (λ o. message.Ended x own o) committed) in
+        (d.0, d.1, d.2, end-here r h w n c l rest g d.0 here agrees d.2 (it ∙ ap (λ o. ended p (hears_epochs l.message c) (knows o g.a) o how) d.1 ∙ ap (λ o. ended p (hears_epochs l.message c) (knows (Some d.0) g.a) (Some d.0) o) committed))
+
+    tells : TellDecided r h w.issued (listed (heard p c l.message).line)
+    tells z i q s =
+        let one = ends-one p f (knows own g.a) how (heard p c l.message) z it i in
+        let t = here-told (sym (ap (λ y. y.outcome) one) ∙ q) in
+        let same : z ≡ t.3.b = t.3.only z i in
+        (t.0, ap (λ y. (filled w.issued y).epoch) same ∙ t.3.at, subst (λ y. Contains h.decided (y, t.0)) (sym (ap (λ y. y.id) same ∙ t.3.of_it)) t.2)
+
+    it-was : (y : AttemptId) (e : Epoch) → l.message ≡ message.Ended y (Some e) outcome.Committed → IsToldCommitted (w.lines ++ map (with_epoch w.issued) (listed (heard p c l.message).line)) y e
+    it-was y e told =
+        let q : message.Ended x own how ≡ message.Ended y (Some e) outcome.Committed = sym says ∙ told in
+        let h1 : x ≡ y = cc in
+        let h2 : own ≡ Some e = cc in
+        let h3 : how ≡ outcome.Committed = cc in
+        let t = here-told h3 in
+        let both : Some t.0 ≡ Some e = sym t.1 ∙ h2 in
+        let same : t.0 ≡ e = cc in
+        record {
+          a = filled w.issued t.3.b;
+          among = told-new w.issued w.lines (listed (heard p c l.message).line) t.3.b t.3.among;
+          of_it = t.3.of_it ∙ h1;
+          at = t.3.at ∙ ap (λ z. Some z) same;
+          committed = t.3.committed;
+        }
+
+    still : StillTold w.messages rest (w.lines ++ map (with_epoch w.issued) (listed (heard p c l.message).line))
+    still y e way = elim (left-or-it w.messages l rest way.l takes way.among) [
+        | inl same ↦ inr (it-was y e (sym (ap (λ z. z.message) same) ∙ way.says))
+        | inr i ↦ inl (record { l = way.l; among = i; says = way.says; to_it = way.to_it })
+      ]
+
+pub verdicts-by-hearing : (r : Rules) (h : History) (w : World) (n : ℕ) (c : ClientState) (l : Letter) (rest : List Letter) → Conversation r w → Endings w → Verdicts r h w → Agrees r h w → slice_get w.clients n ≡ Some c
+    → Takes w.messages l rest → l.to ≡ client n → Verdicts r h (after_move (without w rest) n (heard (client_plan r n) c l.message))
+verdicts-by-hearing r h w n c l rest talk ends k agrees here takes to =
+    let t = heard-tells r h w n c l rest ends k agrees here takes (hearing-is r w n c l rest talk here takes to) in
+    client-did r h w n rest (listed (heard (client_plan r n) c l.message).post) (listed (heard (client_plan r n) c l.message).line) (heard (client_plan r n) c l.message).state
+      (λ m i. left-is-among w.messages l rest m takes i) t.still (no-post (heard (client_plan r n) c l.message) t.silent) t.tells k
+
+-- ---- targets
+
+-- what a target decides in a turn is what it tells as committed
+pub record DecidesTold (h later : History) (posts : List Post) : Type 0 where
+  pub kept : (x : AttemptId) (e : Epoch) → Contains h.decided (x, e) → Contains later.decided (x, e)
+  pub new : (x : AttemptId) (e : Epoch) → Contains later.decided (x, e) → Contains h.decided (x, e) ⊎ Tells posts x e
+  pub told : (q : Post) (x : AttemptId) (own : Option Epoch) → Has q posts → q.message ≡ message.Ended x own outcome.Committed → (e : Epoch) × (own ≡ Some e) × Contains later.decided (x, e)
+
+-- a request isn't an end
+heard-no-end : (m : Message) (x : AttemptId) (e : Epoch) → is_heard m ≡ true → m ≢ message.Ended x (Some e) outcome.Committed
+heard-no-end m x e h q = let bad : false ≡ true = sym (ap is_heard q) ∙ h in let no : ⊥ = cc in no
+
+pub verdicts-by-target : (r : Rules) (h later : History) (w v : World) → Verdicts r h w → (g : TargetHears r w v) → is_heard g.l.message ≡ true → g.did.lines ≡ [] → DecidesTold h later g.did.posts → Verdicts r later v
+verdicts-by-target r h later w v k g of_kind none d = record { told = told; flying = flying; lines = lines }
+  where
+    messages : v.messages ≡ g.rest ++ letters_of (target g.t) g.did.posts
+    messages = ap (λ x. x.messages) g.after
+
+    lines-same : v.lines ≡ w.lines
+    lines-same = ap (λ x. x.lines) g.after ∙ ap (λ ls. w.lines ++ map (with_epoch w.issued) ls) none ∙ append-nil w.lines
+
+    way : (x : AttemptId) (e : Epoch) → IsOnItsWay (g.rest ++ letters_of (target g.t) g.did.posts) x e → IsOnItsWay v.messages x e
+    way x e f = subst (λ ls. IsOnItsWay ls x e) (sym messages) f
+
+    old : (x : AttemptId) (e : Epoch) → IsOnItsWay w.messages x e → IsOnItsWay v.messages x e
+    old x e f = elim (left-or-it w.messages g.l g.rest f.l g.takes f.among) [
+        | inl same ↦ absurd (heard-no-end g.l.message x e of_kind (sym (ap (λ z. z.message) same) ∙ f.says))
+        | inr i ↦ way x e (record {
+            l = f.l;
+            among = contains-from_has (g.rest ++ letters_of (target g.t) g.did.posts) f.l (has-left g.rest (letters_of (target g.t) g.did.posts) f.l (has-from_contains g.rest f.l i));
+            says = f.says;
+            to_it = f.to_it;
+          })
+      ]
+
+    new : (x : AttemptId) (e : Epoch) → Tells g.did.posts x e → IsOnItsWay v.messages x e
+    new x e t = way x e (record {
+        l = letter_of (target g.t) t.0;
+        among = contains-from_has (g.rest ++ letters_of (target g.t) g.did.posts) (letter_of (target g.t) t.0)
+            (has-right g.rest (letters_of (target g.t) g.did.posts) (letter_of (target g.t) t.0) (has-map (letter_of (target g.t)) g.did.posts t.0 t.1));
+        says = t.2;
+        to_it = t.3;
+      })
+
+    told : (x : AttemptId) (e : Epoch) → Contains later.decided (x, e) → IsOnItsWay v.messages x e ⊎ IsToldCommitted v.lines x e
+    told x e i = elim (d.new x e i) [
+        | inl j ↦ elim (k.told x e j) [ inl f ↦ inl (old x e f) | inr t ↦ inr (subst (λ ls. IsToldCommitted ls x e) (sym lines-same) t) ]
+        | inr t ↦ inl (new x e t)
+      ]
+
+    was : (x : AttemptId) (own : Option Epoch) → (e : Epoch) × (own ≡ Some e) × Contains h.decided (x, e) → (e : Epoch) × (own ≡ Some e) × Contains later.decided (x, e)
+    was x own t = (t.0, t.1, d.kept x t.0 t.2)
+
+    flying : (l : Letter) (x : AttemptId) (own : Option Epoch) → Contains v.messages l → l.message ≡ message.Ended x own outcome.Committed → (e : Epoch) × (own ≡ Some e) × Contains later.decided (x, e)
+    flying l x own i says = elim (has-cases g.rest (letters_of (target g.t) g.did.posts) l (subst (Has l) messages (has-from_contains v.messages l i))) [
+        | inl j ↦ was x own (k.flying l x own (left-is-among w.messages g.l g.rest l g.takes (contains-from_has g.rest l j)) says)
+        | inr j ↦ let q = has-from_map (letter_of (target g.t)) g.did.posts l j in d.told q.0 x own q.1 (ap (λ m. m.message) q.2 ∙ says)
+      ]
+
+    lines : (a : Attempt) → Contains (tries v.lines) a → a.outcome ≡ outcome.Committed → HasWrites r a.id → (e : Epoch) × (a.epoch ≡ Some e) × Contains later.decided (a.id, e)
+    lines a i c s = let t = k.lines a (subst (λ ls. Contains (tries ls) a) lines-same i) c s in (t.0, t.1, d.kept a.id t.0 t.2)
+
+-- idle work decides nothing more
+pub verdicts-by-idle : (r : Rules) (h : History) (w v : World) → Verdicts r h w → v.messages ≡ w.messages → v.lines ≡ w.lines → Verdicts r h v
+verdicts-by-idle r h w v k messages lines = record {
+  told = λ x e i. elim (k.told x e i) [ inl f ↦ inl (subst (λ ls. IsOnItsWay ls x e) (sym messages) f) | inr t ↦ inr (subst (λ ls. IsToldCommitted ls x e) (sym lines) t) ];
+  flying = λ l x own i says. k.flying l x own (subst (λ ls. Contains ls l) messages i) says;
+  lines = λ a i c s. k.lines a (subst (λ ls. Contains (tries ls) a) lines i) c s;
+}

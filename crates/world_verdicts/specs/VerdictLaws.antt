@@ -1,0 +1,126 @@
+-- Every event keeps that decided attempts are exactly those that are told as committed.
+use Rattle.std.specs.Prelude.{ℕ, ◌≡◌, ◌≢◌, ◌⊎◌, ◌++◌, Bool, true, false, List, [], ◌∷◌, map, slice_get, Contains, Option, Some, None, refl}
+use Rattle.std.proofs.Common.{append-nil, sym, ◌∙◌, ap, subst, inl, inr}
+use Rattle.daos_base.specs.declared.epoch.Epoch.{Epoch}
+use Rattle.daos_base.specs.declared.id.AttemptId.{AttemptId}
+use Rattle.daos_base.specs.declared.outcome.Outcome.{Outcome}
+use Rattle.daos_base.specs.declared.outcome.Outcome.TheVariants as outcome
+use Rattle.daos_base.specs.declared.report.Attempt.{Attempt}
+use Rattle.daos_base.specs.declared.report.Line.{Line}
+use Rattle.daos_base.specs.declared.report.Line.TheVariants as line
+use Rattle.daos_base.specs.declared.script.Command.{Command}
+use Rattle.daos_laws.specs.Members.{Has, contains-from_has, has-cases, has-from_contains, has-from_map, has-left, has-map, has-right}
+use Rattle.daos_messages.specs.declared.actor.ActorId.{ActorId}
+use Rattle.daos_messages.specs.declared.message.Message.{Message}
+use Rattle.daos_messages.specs.declared.message.Message.TheVariants as message
+use Rattle.daos_messages.specs.declared.message.Post.{Post}
+use Rattle.daos_model.specs.Accesses.{minor_writes}
+use Rattle.daos_model.specs.Attempts.{tries}
+use Rattle.daos_model.specs.Laws.{tries-append}
+use Rattle.daos_model.specs.Transactions.{attempt_ops, ops_of}
+use Rattle.world_base.specs.declared.client.ClientPlan.{ClientPlan}
+use Rattle.world_base.specs.declared.client.ClientState.{ClientState}
+use Rattle.world_base.specs.declared.client.Present.{Present}
+use Rattle.world_base.specs.declared.did.Did.{Did}
+use Rattle.world_base.specs.declared.letter.Letter.{Letter}
+use Rattle.world_base.specs.declared.world.World.{World}
+use Rattle.world_base.specs.ClientTurns.{Move, attempt_id, command_at, end_line, ended, ends, heard, hears_epochs, knows, knows_epoch, listed, moved, snaps_known}
+use Rattle.world_events.specs.Events.{Rules, client_plan, or_issued, with_epoch}
+use Rattle.world_events.specs.Letters.{Takes, client, letter_of, letters_of}
+use Rattle.world_events.specs.Steps.{after_client, after_move, without}
+use Rattle.world_lines.specs.FilledLaws.{tries-filled}
+use Rattle.world_lines.specs.Lines.{filled}
+use Rattle.world_reads.specs.History.{History}
+use Rattle.world_verdicts.specs.TellLaws.{AllRead, Fails, Goes, MoveTells, NoSnap, Nothing, ReplyTells}
+use Rattle.world_verdicts.specs.Verdicts.{Agrees, HasWrites, IsOnItsWay, IsToldCommitted, Tells, Verdicts}
+
+-- ---- lines and letters
+
+-- a line's attempt is among those of more lines
+pub told-more : (lines more : List Line) (x : AttemptId) (e : Epoch) → IsToldCommitted lines x e → IsToldCommitted (lines ++ more) x e
+told-more lines more x e k = record {
+  a = k.a;
+  among = contains-from_has (tries (lines ++ more)) k.a (subst (Has k.a) (sym (tries-append lines more)) (has-left (tries lines) (tries more) k.a (has-from_contains (tries lines) k.a k.among)));
+  of_it = k.of_it;
+  at = k.at;
+  committed = k.committed;
+}
+
+-- an attempt of more lines is of those before, or of the lines that were added, with its epoch filled in
+pub tried-cases : (issued : List (AttemptId × Epoch)) (lines more : List Line) (a : Attempt) → Contains (tries (lines ++ map (with_epoch issued) more)) a
+    → Contains (tries lines) a ⊎ ((b : Attempt) × Has b (tries more) × (filled issued b ≡ a))
+tried-cases issued lines more a i =
+    let all : tries (lines ++ map (with_epoch issued) more) ≡ tries lines ++ map (filled issued) (tries more) = tries-append lines (map (with_epoch issued) more) ∙ ap (λ ts. tries lines ++ ts) (tries-filled issued more) in
+    elim (has-cases (tries lines) (map (filled issued) (tries more)) a (subst (Has a) all (has-from_contains (tries (lines ++ map (with_epoch issued) more)) a i))) [
+      | inl j ↦ inl (contains-from_has (tries lines) a j)
+      | inr j ↦ inr (has-from_map (filled issued) (tries more) a j)
+    ]
+
+-- a line that is added tells of its attempt
+pub told-new : (issued : List (AttemptId × Epoch)) (lines more : List Line) (b : Attempt) → Has b (tries more) → Contains (tries (lines ++ map (with_epoch issued) more)) (filled issued b)
+told-new issued lines more b i =
+    let all : tries (lines ++ map (with_epoch issued) more) ≡ tries lines ++ map (filled issued) (tries more) = tries-append lines (map (with_epoch issued) more) ∙ ap (λ ts. tries lines ++ ts) (tries-filled issued more) in
+    contains-from_has (tries (lines ++ map (with_epoch issued) more)) (filled issued b)
+      (subst (Has (filled issued b)) (sym all) (has-right (tries lines) (map (filled issued) (tries more)) (filled issued b) (has-map (filled issued) (tries more) b i)))
+
+-- another letter than the one that is taken is left
+pub left-or-it : (letters : List Letter) (l : Letter) (rest : List Letter) (m : Letter) → Takes letters l rest → Contains letters m → (m ≡ l) ⊎ Contains rest m
+left-or-it letters l rest m t i = by (has-cases t.before (l ∷ t.after) m (subst (Has m) t.among (has-from_contains letters m i)))
+  where
+    there : Has m (t.before ++ t.after) → Contains rest m
+    there j = contains-from_has rest m (subst (Has m) (sym t.left) j)
+
+    by : Has m t.before ⊎ Has m (l ∷ t.after) → (m ≡ l) ⊎ Contains rest m
+    by (inl j) = inr (there (has-left t.before t.after m j))
+    by (inr (inl e)) = inl e
+    by (inr (inr j)) = inr (there (has-right t.before t.after m j))
+
+way-more : (letters more : List Letter) (x : AttemptId) (e : Epoch) → IsOnItsWay letters x e → IsOnItsWay (letters ++ more) x e
+way-more letters more x e k = record { l = k.l; among = contains-from_has (letters ++ more) k.l (has-left letters more k.l (has-from_contains letters k.l k.among)); says = k.says; to_it = k.to_it }
+
+-- ---- what is added to the world by a client
+
+-- posts end nothing
+abbrev pub EndNothing : List Post → Type 0
+EndNothing posts = (q : Post) (x : AttemptId) (own : Option Epoch) → Has q posts → q.message ≢ message.Ended x own outcome.Committed
+
+-- lines that are added tell as committed only attempts without writes, or decided ones with their epochs
+abbrev pub TellDecided : Rules → History → List (AttemptId × Epoch) → List Line → Type 0
+TellDecided r h issued more = (b : Attempt) → Has b (tries more) → b.outcome ≡ outcome.Committed → HasWrites r b.id → (e : Epoch) × ((filled issued b).epoch ≡ Some e) × Contains h.decided (b.id, e)
+
+-- letters may go that told of no commit, or of one that is told now
+abbrev pub StillTold : List Letter → List Letter → List Line → Type 0
+StillTold before after lines = (x : AttemptId) (e : Epoch) → IsOnItsWay before x e → IsOnItsWay after x e ⊎ IsToldCommitted lines x e
+
+pub client-did : (r : Rules) (h : History) (w : World) (n : ℕ) (rest : List Letter) (posts : List Post) (more : List Line) (d : ClientState) → ((m : Letter) → Contains rest m → Contains w.messages m)
+    → StillTold w.messages rest (w.lines ++ map (with_epoch w.issued) more) → EndNothing posts → TellDecided r h w.issued more → Verdicts r h w → Verdicts r h (after_client (without w rest) n posts more d)
+client-did r h w n rest posts more d among still none tell k = record { told = told; flying = flying; lines = lines }
+  where
+    lines2 : List Line
+    lines2 = w.lines ++ map (with_epoch w.issued) more
+
+    letters2 : List Letter
+    letters2 = rest ++ letters_of (client n) posts
+
+    told : (x : AttemptId) (e : Epoch) → Contains h.decided (x, e) → IsOnItsWay letters2 x e ⊎ IsToldCommitted lines2 x e
+    told x e i = elim (k.told x e i) [
+        | inl f ↦ elim (still x e f) [ inl g ↦ inl (way-more rest (letters_of (client n) posts) x e g) | inr t ↦ inr t ]
+        | inr t ↦ inr (told-more w.lines (map (with_epoch w.issued) more) x e t)
+      ]
+
+    flying : (l : Letter) (x : AttemptId) (own : Option Epoch) → Contains letters2 l → l.message ≡ message.Ended x own outcome.Committed → (e : Epoch) × (own ≡ Some e) × Contains h.decided (x, e)
+    flying l x own i says = elim (has-cases rest (letters_of (client n) posts) l (has-from_contains letters2 l i)) [
+        | inl j ↦ k.flying l x own (among l (contains-from_has rest l j)) says
+        | inr j ↦ let q = has-from_map (letter_of (client n)) posts l j in absurd (none q.0 x own q.1 (ap (λ m. m.message) q.2 ∙ says))
+      ]
+
+    lines : (a : Attempt) → Contains (tries lines2) a → a.outcome ≡ outcome.Committed → HasWrites r a.id → (e : Epoch) × (a.epoch ≡ Some e) × Contains h.decided (a.id, e)
+    lines a i c some = elim (tried-cases w.issued w.lines more a i) [
+        | inl j ↦ k.lines a j c some
+        | inr b ↦ new b.0 b.1 b.2
+      ]
+      where
+        new : (b : Attempt) → Has b (tries more) → filled w.issued b ≡ a → (e : Epoch) × (a.epoch ≡ Some e) × Contains h.decided (a.id, e)
+        new b j same =
+            let t = tell b j (ap (λ z. z.outcome) same ∙ c) (subst (HasWrites r) (sym (ap (λ z. z.id) same)) some) in
+            (t.0, sym (ap (λ z. z.epoch) same) ∙ t.1, subst (λ z. Contains h.decided (z, t.0)) (ap (λ z. z.id) same) t.2)
