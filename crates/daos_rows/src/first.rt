@@ -116,20 +116,50 @@ fn ends<R: Threads + Wait + Sync>(
 fn words_that_are_not_run_are_refused(rt: HostRuntime) -> Result<(), Fail> {
     let alloc = rt.alloc();
     let table: [(&[&str], u32, WordKind, &str); 9] = [
-        (&["run", "--targets", "0"], 2, WordKind::BadValue, "daos: word 2: BadValue"),
-        (&["run", "--threads", "--order", "3"], 2, WordKind::Clash, "daos: word 2: Clash"),
+        (
+            &["run", "--targets", "0"],
+            2,
+            WordKind::BadValue,
+            "daos: word 2: BadValue",
+        ),
+        (
+            &["run", "--threads", "--order", "3"],
+            2,
+            WordKind::Clash,
+            "daos: word 2: Clash",
+        ),
         (&[], 0, WordKind::NoJob, "daos: word 0: NoJob"),
         (&["run"], 1, WordKind::NotYet, "daos: word 1: NotYet"),
-        (&["--targets=2", "run"], 0, WordKind::NotYet, "daos: word 0: NotYet"),
+        (
+            &["--targets=2", "run"],
+            0,
+            WordKind::NotYet,
+            "daos: word 0: NotYet",
+        ),
         (
             &["run", "--attempts", "3", "--threads", "--targets", "2"],
             3,
             WordKind::NotYet,
             "daos: word 3: NotYet",
         ),
-        (&["run", "--order=5", "--size", "8"], 2, WordKind::NotYet, "daos: word 2: NotYet"),
-        (&["--targets", "1", "load", "5"], 0, WordKind::NotYet, "daos: word 0: NotYet"),
-        (&["run", "--targets", "2", "--"], 3, WordKind::UnknownOption, "daos: word 3: UnknownOption"),
+        (
+            &["run", "--order=5", "--size", "8"],
+            2,
+            WordKind::NotYet,
+            "daos: word 2: NotYet",
+        ),
+        (
+            &["--targets", "1", "load", "5"],
+            0,
+            WordKind::NotYet,
+            "daos: word 0: NotYet",
+        ),
+        (
+            &["run", "--targets", "2", "--"],
+            3,
+            WordKind::UnknownOption,
+            "daos: word 3: UnknownOption",
+        ),
     ];
     for (words, place, kind, text) in table {
         let wanted = Status::Words(WordFault { place, kind });
@@ -142,7 +172,13 @@ fn words_that_are_not_run_are_refused(rt: HostRuntime) -> Result<(), Fail> {
 fn what_changes_nothing_is_run(rt: HostRuntime) -> Result<(), Fail> {
     let alloc = rt.alloc();
     let words = [
-        "--order=7", "--attempts", "1", "run", "--epsilon=9", "--size=4", "--targets=1",
+        "--order=7",
+        "--attempts",
+        "1",
+        "run",
+        "--epsilon=9",
+        "--size=4",
+        "--targets=1",
     ];
     let mut source = SureSource::new(alloc, FIRST)?;
     let mut sink = SureSink::new(alloc, 1000)?;
@@ -159,17 +195,42 @@ fn scripts_that_are_not_run_are_refused(rt: HostRuntime) -> Result<(), Fail> {
     let unclosed = format!(in alloc; "{head}tx\nput o d a =1\n")?;
     let printable = format!(in alloc; "{head}put o d a #6869\n")?;
     let table: [(&[u8], u32, Why, &str); 6] = [
-        (unclosed.as_bytes(), 5, Why::BadBlock, "daos: script line 5: BadBlock"),
-        (printable.as_bytes(), 5, Why::BadHex, "daos: script line 5: BadHex"),
+        (
+            unclosed.as_bytes(),
+            5,
+            Why::BadBlock,
+            "daos: script line 5: BadBlock",
+        ),
+        (
+            printable.as_bytes(),
+            5,
+            Why::BadHex,
+            "daos: script line 5: BadHex",
+        ),
         (
             b"cont c 0000000g-0000-0000-0000-000000000001\n",
             1,
             Why::BadUuid,
             "daos: script line 1: BadUuid",
         ),
-        (b"client\nput o d a =1\n", 2, Why::BadName, "daos: script line 2: BadName"),
-        (b"client\ntx\nskip 1\n", 2, Why::BadBlock, "daos: script line 2: BadBlock"),
-        (b"client\nclient\n", 0, Why::NotYet, "daos: script line 0: NotYet"),
+        (
+            b"client\nput o d a =1\n",
+            2,
+            Why::BadName,
+            "daos: script line 2: BadName",
+        ),
+        (
+            b"client\ntx\nskip 1\n",
+            2,
+            Why::BadBlock,
+            "daos: script line 2: BadBlock",
+        ),
+        (
+            b"client\nclient\n",
+            0,
+            Why::NotYet,
+            "daos: script line 0: NotYet",
+        ),
     ];
     for (script, line, why, text) in table {
         let wanted = Status::Script(ScriptFault { line, why });
