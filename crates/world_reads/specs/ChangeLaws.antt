@@ -24,17 +24,16 @@ use Rattle.daos_model.specs.Durables.{entry_of, is_entry_of, row_of, same_attemp
 use Rattle.daos_model.specs.FormLaws.{leased-in_form, settled-in_form}
 use Rattle.daos_model.specs.Opening.{Opening}
 use Rattle.daos_model.specs.Versions.{done_by, version_of, version_path}
-use Rattle.world_base.specs.declared.world.World.{World}
 use Rattle.world_events.specs.Events.{Rules}
 use Rattle.world_reads.specs.History.{History, counts_by, is_decided, transactions}
 use Rattle.world_reads.specs.Versions.{IsWriteAt, VersionsStand, is_own_in, mark_of}
 
 -- ---- the lease is extended
 
-pub extends-stands : (r : Rules) (o : Opening) (held : List Version) (h : History) (w : World) (t : ℕ) (d : Durable) (ticks : ℕ) → d.lease ≤ ticks → ticks < 2 ^ 56
-    → VersionsStand r o held h w t d → VersionsStand r o held h w t (leased ticks d)
+pub extends-stands : (r : Rules) (o : Opening) (held : List Version) (h : History) (t : ℕ) (d : Durable) (ticks : ℕ) → d.lease ≤ ticks → ticks < 2 ^ 56
+    → VersionsStand r o held h t d → VersionsStand r o held h t (leased ticks d)
 unfolding leased entry_of row_of
-extends-stands r o held h w t d ticks more last k = record {
+extends-stands r o held h t d ticks more last k = record {
   form = leased-in_form ticks d last k.form;
   single = k.single;
   placed = k.placed;
@@ -44,6 +43,7 @@ extends-stands r o held h w t d ticks more last k = record {
   only = k.only;
   matches = k.matches;
   leased = λ v i. let low : v.epoch.0 / 256 ≤ d.lease = k.leased v i in omega (arith, low, more);
+  unpruned = k.unpruned;
 }
 
 -- ---- an attempt that is decided is settled
@@ -117,10 +117,10 @@ entry-settled d a x = find-map (is_entry_of x) (committed_at a) d.entries (is-en
 apart-of : (x y a : AttemptId) → x ≡ y → same_attempt y a ≡ false → same_attempt x a ≡ false
 apart-of x y a e s = ap (λ z. same_attempt z a) e ∙ s
 
-pub settles-stands : (r : Rules) (o : Opening) (held : List Version) (h : History) (w : World) (t : ℕ) (d : Durable) (a : AttemptId) (e : Epoch) (k : Entry) → Contains h.decided (a, e) → is_decided h a ≡ true
-    → entry_of d a ≡ Some k → k.epoch ≡ e → VersionsStand r o held h w t d → VersionsStand r o held h w t (settled a Commit d)
+pub settles-stands : (r : Rules) (o : Opening) (held : List Version) (h : History) (t : ℕ) (d : Durable) (a : AttemptId) (e : Epoch) (k : Entry) → Contains h.decided (a, e) → is_decided h a ≡ true
+    → entry_of d a ≡ Some k → k.epoch ≡ e → VersionsStand r o held h t d → VersionsStand r o held h t (settled a Commit d)
 unfolding settled row_of done_by
-settles-stands r o held h w t d a e k among decided here epoch s = record {
+settles-stands r o held h t d a e k among decided here epoch s = record {
   form = settled-in_form a Commit d s.form;
   single = record { in_order = (settled-in_form a Commit d s.form).versions; single = pairs-map version_key (done_by a) d.versions (same-key-done a) s.single.single };
   placed = placed;
@@ -130,6 +130,7 @@ settles-stands r o held h w t d a e k among decided here epoch s = record {
   only = only;
   matches = matches;
   leased = leased';
+  unpruned = s.unpruned;
 }
   where
     old : (v : Version) → Contains (map (done_by a) d.versions) v → (u : Version) × Contains d.versions u × (done_by a u ≡ v)

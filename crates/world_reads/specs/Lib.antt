@@ -2,5 +2,9 @@
 pub mod History
 pub mod Versions
 pub mod Reads
+pub mod Midway
+pub mod Given
 pub mod EntryLaws
+pub mod ListLaws
 pub mod ChangeLaws
+pub mod DecideLaws
