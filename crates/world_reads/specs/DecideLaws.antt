@@ -112,13 +112,13 @@ unfolding entry_of
 entry-among d x k found = contains-from_has d.entries k (found-has (is_entry_of x) d.entries k found)
 
 -- the attempt has no entry yet
-no-entry : (h : History) (d : Durable) (x : AttemptId) → ((f : Epoch) → Contains h.decided (x, f) → ⊥) → ((k : Entry) → Contains d.entries k → Contains h.decided (k.attempt, k.epoch)) → entry_of d x ≡ None
+pub no-entry : (h : History) (d : Durable) (x : AttemptId) → ((f : Epoch) → Contains h.decided (x, f) → ⊥) → ((k : Entry) → Contains d.entries k → Contains h.decided (k.attempt, k.epoch)) → entry_of d x ≡ None
 unfolding entry_of
 no-entry h d x none entries =
     find-none (is_entry_of x) d.entries (λ k i is. none k.epoch (subst (λ y. Contains h.decided (y, k.epoch)) (same-attempt k.attempt x is) (entries k (contains-from_has d.entries k i))))
 
 -- entries that are found stay
-entry-kept : (k : Entry) (ws : List MinorWrite) (d : Durable) (y : AttemptId) (z : Entry) → entry_of d k.attempt ≡ None → entry_of d y ≡ Some z → entry_of (prepared k ws d) y ≡ Some z
+pub entry-kept : (k : Entry) (ws : List MinorWrite) (d : Durable) (y : AttemptId) (z : Entry) → entry_of d k.attempt ≡ None → entry_of d y ≡ Some z → entry_of (prepared k ws d) y ≡ Some z
 unfolding prepared entry_of
 entry-kept k ws d y z none found = find-put entry_key (is_entry_of y) k d.entries (false_of (is_entry_of y k) other) ∙ found
   where
@@ -128,7 +128,7 @@ entry-kept k ws d y z none found = find-put entry_key (is_entry_of y) k d.entrie
         let gone : find (is_entry_of y) d.entries ≡ None = subst (λ a. find (is_entry_of a) d.entries ≡ None) same none in
         let no : ⊥ = cc in no
 
-entry-new : (k : Entry) (ws : List MinorWrite) (d : Durable) → entry_of d k.attempt ≡ None → entry_of (prepared k ws d) k.attempt ≡ Some k
+pub entry-new : (k : Entry) (ws : List MinorWrite) (d : Durable) → entry_of d k.attempt ≡ None → entry_of (prepared k ws d) k.attempt ≡ Some k
 unfolding prepared entry_of
 entry-new k ws d none = find-new entry_key (is_entry_of k.attempt) k d.entries (same-itself k.attempt) none
 
@@ -138,7 +138,7 @@ mark-low : (a b e : ℕ) → b ≤ a → a < e → max a b + 1 ≤ e
 mark-low a b e low lt = omega (arith, low, lt)
 
 -- versions that are stored are new or were there
-new-or-old : (k : Entry) (ws : List MinorWrite) (vs : List Version) (v : Version) → Contains (puts version_key (versions_of k ws) vs) v → ((m : MinorWrite) × Has m ws × (version_of k m ≡ v)) ⊎ Has v vs
+pub new-or-old : (k : Entry) (ws : List MinorWrite) (vs : List Version) (v : Version) → Contains (puts version_key (versions_of k ws) vs) v → ((m : MinorWrite) × Has m ws × (version_of k m ≡ v)) ⊎ Has v vs
 new-or-old k ws vs v i = by (has-puts version_key (versions_of k ws) vs v (has-from_contains (puts version_key (versions_of k ws) vs) v i))
   where
     by : Has v (versions_of k ws) ⊎ Has v vs → ((m : MinorWrite) × Has m ws × (version_of k m ≡ v)) ⊎ Has v vs

@@ -8,3 +8,4 @@ pub mod EntryLaws
 pub mod ListLaws
 pub mod ChangeLaws
 pub mod DecideLaws
+pub mod HoldLaws

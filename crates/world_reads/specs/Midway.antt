@@ -12,6 +12,7 @@ use Rattle.daos_laws.specs.Decided.{AreDecided}
 use Rattle.daos_model.specs.declared.durable.Durable.{Durable}
 use Rattle.daos_model.specs.declared.durable.Version.{Version}
 use Rattle.daos_model.specs.Durables.{entry_of}
+use Rattle.daos_model.specs.Forms.{is_read_in_form}
 use Rattle.daos_model.specs.Opening.{Opening}
 use Rattle.daos_model.specs.Versions.{version_path}
 use Rattle.vos_store.specs.Answers.{floor_of}
@@ -40,6 +41,7 @@ IsGuardedBy opening d stamps q = (q.epoch.0 ≤ (floor_of opening d (read_path q
 -- what it served still holds
 pub record Shows (r : Rules) (o : Opening) (h : History) (opening : Epoch × FloorWhy) (t : ℕ) (d : Durable) (stamps : List Shown) : Type 0 where
   pub asked : (q : Served) → Contains h.served q → IsOfAttempt r q
+  pub form : (q : Served) → Contains h.served q → is_read_in_form q.read ≡ true
   pub answers : (q : Served) → Contains h.served q → IsAnsweredRight r o h q
   pub guarded : (q : Served) → Contains h.served q → q.target ≡ t → IsGuardedBy opening d stamps q
   pub leased : (q : Served) → Contains h.served q → q.target ≡ t → q.epoch.0 / 256 ≤ d.lease
