@@ -6,6 +6,9 @@ pub mod Midway
 pub mod Given
 pub mod EntryLaws
 pub mod ListLaws
+pub mod PlaceLaws
+pub mod AsOfLaws
 pub mod ChangeLaws
 pub mod DecideLaws
 pub mod HoldLaws
+pub mod ShowLaws
