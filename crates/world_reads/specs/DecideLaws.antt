@@ -134,7 +134,7 @@ entry-new k ws d none = find-new entry_key (is_entry_of k.attempt) k d.entries (
 
 -- ---- what versions stand for
 
-mark-low : (a b e : ℕ) → b ≤ a → a < e → max a b + 1 ≤ e
+pub mark-low : (a b e : ℕ) → b ≤ a → a < e → max a b + 1 ≤ e
 mark-low a b e low lt = omega (arith, low, lt)
 
 -- versions that are stored are new or were there

@@ -12,3 +12,4 @@ pub mod ChangeLaws
 pub mod DecideLaws
 pub mod HoldLaws
 pub mod ShowLaws
+pub mod ServedLaws
