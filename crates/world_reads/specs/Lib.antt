@@ -13,3 +13,4 @@ pub mod DecideLaws
 pub mod HoldLaws
 pub mod ShowLaws
 pub mod ServedLaws
+pub mod StepLaws

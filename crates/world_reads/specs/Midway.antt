@@ -1,5 +1,5 @@
 -- What holds of a target in a turn, between two of its changes.
-use Rattle.std.specs.Prelude.{ℕ, ◌≡◌, ◌⊎◌, ◌≤◌, ◌/◌, Bool, true, false, List, Contains, Option, Some}
+use Rattle.std.specs.Prelude.{ℕ, ◌≡◌, ◌≢◌, ◌⊎◌, ◌≤◌, ◌/◌, ◌++◌, Bool, true, false, List, [], Contains, Option, Some}
 use Rattle.daos_base.specs.declared.entry.Entry.{Entry}
 use Rattle.daos_base.specs.declared.epoch.Epoch.{Epoch}
 use Rattle.daos_base.specs.declared.id.AttemptId.{AttemptId}
@@ -16,10 +16,16 @@ use Rattle.daos_model.specs.Forms.{is_read_in_form}
 use Rattle.daos_model.specs.Opening.{Opening}
 use Rattle.daos_model.specs.Versions.{version_path}
 use Rattle.vos_store.specs.Answers.{floor_of}
-use Rattle.world_events.specs.Events.{Rules}
-use Rattle.world_reads.specs.History.{History, Served, transactions}
+use Rattle.daos_model.specs.Accesses.{minor_writes}
+use Rattle.daos_model.specs.Transactions.{attempt_ops}
+use Rattle.world_base.specs.declared.did.Did.{Did}
+use Rattle.world_base.specs.declared.target.TargetMemory.{TargetMemory}
+use Rattle.world_base.specs.declared.world.World.{World}
+use Rattle.world_events.specs.Events.{Rules, listed}
+use Rattle.world_reads.specs.History.{Grew, History, Served, transactions}
 use Rattle.world_reads.specs.Reads.{IsAnsweredRight, IsOfAttempt}
 use Rattle.world_reads.specs.Versions.{IsWriteAt, VersionsStand}
+use Rattle.world_turns.specs.Changes.{Kept}
 
 -- what it keeps stands for the decided transactions, while these attempts are left to settle
 pub record Holds (r : Rules) (o : Opening) (held : List Version) (h : History) (t : ℕ) (d : Durable) (left : List AttemptId) : Type 0 where
@@ -48,3 +54,18 @@ pub record Shows (r : Rules) (o : Opening) (h : History) (opening : Epoch × Flo
   pub barred : (q : Served) (v : Version) → Contains h.served q → q.target ≡ t → Contains d.versions v → v.done ≡ false → overlaps (version_path v) (read_path q.read) ≡ true
       → q.epoch.0 ≤ v.epoch.0
   pub stamped : (z : Shown) → Contains stamps z → (q : Served) × Contains h.served q × (q.target ≡ t) × (q.by ≡ z.by) × (q.epoch ≡ z.epoch) × (read_path q.read ≡ z.path)
+
+-- all of it, where these attempts are left to settle, and these reads are known
+pub record Sound (r : Rules) (o : Opening) (held : List Version) (h : History) (opening : Epoch × FloorWhy) (t : ℕ) (d : Durable) (left : List AttemptId) (stamps : List Shown) : Type 0 where
+  pub holds : Holds r o held h t d left
+  pub unsettled : AreOpen t d left
+  pub shows : Shows r o h opening t d stamps
+
+-- what a turn of a target leaves: what is kept and known is sound for what is decided and served then, and each epoch of these was
+-- issued
+pub record TurnLeaves (r : Rules) (o : Opening) (held : List Version) (h : History) (w : World) (opening : Epoch × FloorWhy) (t : ℕ) (new : Kept) (left : TargetMemory × Did) : Type 0 where
+  pub later : History
+  pub grew : Grew h later
+  pub sound : Sound r o held later opening t new.durable left.0.decided left.0.stamps
+  pub decided : (x : AttemptId) (e : Epoch) → Contains later.decided (x, e) → Contains h.decided (x, e) ⊎ (Contains (w.issued ++ listed left.1.issued) (x, e) × (minor_writes 0 (attempt_ops r.script x) ≢ []))
+  pub served : (q : Served) → Contains later.served q → Contains h.served q ⊎ Contains (w.issued ++ listed left.1.issued) (q.by, q.epoch)
