@@ -14,3 +14,4 @@ pub mod HoldLaws
 pub mod ShowLaws
 pub mod ServedLaws
 pub mod StepLaws
+pub mod FetchLaws
