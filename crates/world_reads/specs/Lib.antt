@@ -15,3 +15,4 @@ pub mod ShowLaws
 pub mod ServedLaws
 pub mod StepLaws
 pub mod FetchLaws
+pub mod CommitLaws
