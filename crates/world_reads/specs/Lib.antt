@@ -16,3 +16,5 @@ pub mod ServedLaws
 pub mod StepLaws
 pub mod FetchLaws
 pub mod CommitLaws
+pub mod Keeping
+pub mod EventLaws
