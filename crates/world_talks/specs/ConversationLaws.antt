@@ -99,7 +99,7 @@ talks-by p n c d letters false more t = t
 
 -- ---- a client moves
 
-move-keeps : (r : Rules) → KeptByMoves r (Conversation r)
+pub move-keeps : (r : Rules) → KeptByMoves r (Conversation r)
 move-keeps r w n c here k = by (waits c) refl
   where
     p : ClientPlan
@@ -136,7 +136,7 @@ skip-talk : (p : ClientPlan) (n s : ℕ) (c : ClientState) (l : Letter) → IsTa
 skip-talk p n s c l (IsAsked k q low sent it) = IsAsked k q low (skipping-sends-the-same p (record c { tracker = k; present = before_waiting c.present }) s ∙ sent) it
 skip-talk p n s c l (IsAnswered k q low sent from to answers) = IsAnswered k q low (skipping-sends-the-same p (record c { tracker = k; present = before_waiting c.present }) s ∙ sent) from to answers
 
-count-keeps : (r : Rules) → KeptByCounting (Conversation r)
+pub count-keeps : (r : Rules) → KeptByCounting (Conversation r)
 count-keeps r w n s c here k =
     turned r w (record w { clients = set w.clients n (record c { skip = s }) }) n c (record c { skip = s }) k here refl (λ m apart. refl)
     (talks-by (client_plan r n) n c (record c { skip = s }) (talk_of n w.messages) (waits c) (skip-talk (client_plan r n) n s c) (k.talks n c here)) (λ l in' of_kind. inl in')
@@ -147,7 +147,7 @@ raised-talk : (p : ClientPlan) (n : ℕ) (c d : ClientState) (l : Letter) → c.
 raised-talk p n c d l rises same (IsAsked k q low sent it) = IsAsked k q (omega arith) (same k ∙ sent) it
 raised-talk p n c d l rises same (IsAnswered k q low sent from to answers) = IsAnswered k q (omega arith) (same k ∙ sent) from to answers
 
-hear-keeps : (r : Rules) → KeptByHearing r (Conversation r)
+pub hear-keeps : (r : Rules) → KeptByHearing r (Conversation r)
 hear-keeps r w n c l rest here awake takes to k = by (is_tell l.message) refl
   where
     p : ClientPlan
