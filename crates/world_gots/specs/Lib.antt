@@ -1,0 +1,4 @@
+-- What clients were told is what targets served.
+pub mod Gots
+pub mod MoreLaws
+pub mod GotLaws
