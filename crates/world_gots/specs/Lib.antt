@@ -2,3 +2,4 @@
 pub mod Gots
 pub mod MoreLaws
 pub mod GotLaws
+pub mod HearGots
