@@ -35,9 +35,10 @@ abbrev pub IsServedHere : History → ClientPlan → ClientState → Option Pres
 IsServedHere h p c None = Unit {0}
 IsServedHere h p c (Some a) = IsServedSoFar h (attempt_id p c a) p.targets (ops_here p c) a
 
--- and so was what an attempt of which it tells was told
-abbrev pub IsToldServed : History → ClientPlan → Attempt → Type 0
-IsToldServed h p a = AreServed h a.id p.targets (ops_numbered p a.id.command) a.epoch a.gots a.conds
+-- an attempt of which it tells is its own, and what that was told was served to it
+pub record IsToldServed (h : History) (p : ClientPlan) (a : Attempt) : Type 0 where
+  pub own : a.id.client ≡ p.number
+  pub served : AreServed h a.id p.targets (ops_numbered p a.id.command) a.epoch a.gots a.conds
 
 -- a move after which this holds
 pub record KeepsGots (h : History) (p : ClientPlan) (m : Move) : Type 0 where
@@ -81,10 +82,11 @@ after-end-served h p c (Some d) a how = by (is_restart how && nat_lt (a.attempt 
     by true = begun-served h (attempt_id p next (begun (a.attempt + 1) a.first (first_epoch c.known (snapshot_of_command d)))) p.targets (ops_here p next) (a.attempt + 1) a.first (first_epoch c.known (snapshot_of_command d))
     by false = tt
 
-pub ends-told : (h : History) (p : ClientPlan) (c : ClientState) (a : Present) (how : Outcome) → IsToldServed h p (told_end p c a how) → KeepsGots h p (ends p c a how)
+pub ends-told : (h : History) (p : ClientPlan) (c : ClientState) (a : Present) (how : Outcome) → AreServed h (attempt_id p c a) p.targets (ops_numbered p c.command) a.epoch a.gots a.conds
+    → KeepsGots h p (ends p c a how)
 ends-told h p c a how s = record {
   here = after-end-served h p c (command_at p c) a how;
-  told = subst (All (IsToldServed h p)) (sym (tells-end p c a how)) (All-cons (IsToldServed h p) (told_end p c a how) [] s (All-nil (IsToldServed h p)));
+  told = subst (All (IsToldServed h p)) (sym (tells-end p c a how)) (All-cons (IsToldServed h p) (told_end p c a how) [] (record { own = refl; served = s }) (All-nil (IsToldServed h p)));
 }
 
 pub ends-gots : (h : History) (p : ClientPlan) (c : ClientState) (d : Command) (a : Present) (how : Outcome) → IsAtCommand p c d → AreServed h (attempt_id p c a) p.targets (ops_of d) a.epoch a.gots a.conds

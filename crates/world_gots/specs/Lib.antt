@@ -3,3 +3,4 @@ pub mod Gots
 pub mod MoreLaws
 pub mod GotLaws
 pub mod HearGots
+pub mod StepGots
