@@ -4,3 +4,4 @@ pub mod MoreLaws
 pub mod GotLaws
 pub mod HearGots
 pub mod StepGots
+pub mod TurnGots

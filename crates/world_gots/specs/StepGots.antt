@@ -79,7 +79,7 @@ asked-no-answer p k c a q (AnAggregation cont at says) = ap (λ z. is_fetched z.
 abbrev pub KeepsAnswers : List Letter → List Letter → Type 0
 KeepsAnswers letters more = (l : Letter) → Contains more l → is_fetched l.message ≡ true → Contains letters l
 
-sends-none : (letters : List Letter) (n : ℕ) (o : Option Post) → o ≡ None → KeepsAnswers letters (letters ++ letters_of (client n) (listed o))
+pub sends-none : (letters : List Letter) (n : ℕ) (o : Option Post) → o ≡ None → KeepsAnswers letters (letters ++ letters_of (client n) (listed o))
 sends-none letters n o e l in' answer = subst (λ ls. Contains ls l) (append-nil letters) (subst (λ z. Contains (letters ++ letters_of (client n) (listed z)) l) e in')
 
 sends-one : (letters : List Letter) (n : ℕ) (o : Option Post) (q : Post) → o ≡ Some q → is_fetched q.message ≡ false → KeepsAnswers letters (letters ++ letters_of (client n) (listed o))
@@ -131,7 +131,7 @@ lines-served r h n issued lines more all told =
 
 -- ---- one client goes on
 
-standing-turned : (r : Rules) (w v : World) (n : ℕ) (c d : ClientState) → slice_get w.clients n ≡ Some c → v.clients ≡ set w.clients n d → Standing r w
+pub standing-turned : (r : Rules) (w v : World) (n : ℕ) (c d : ClientState) → slice_get w.clients n ≡ Some c → v.clients ≡ set w.clients n d → Standing r w
     → (attempts : List Attempt) × HasTold (client_plan r n) d attempts → Standing r v
 standing-turned r w v n c d here clients k own m e at = by (cases_eq m n)
   where
@@ -151,7 +151,7 @@ AreFlying h p n c letters =
     → l.message ≡ message.Fetched x op group own (reply.Answer b) → IsServedAnswer p h c a own b
 
 -- where one client makes such a move, and no answer is sent, what clients were told was served
-turned : (r : Rules) (h : History) (w v : World) (n : ℕ) (c : ClientState) (m : Move) → Gots r h w → slice_get w.clients n ≡ Some c → v.clients ≡ set w.clients n m.state
+pub turned : (r : Rules) (h : History) (w v : World) (n : ℕ) (c : ClientState) (m : Move) → Gots r h w → slice_get w.clients n ≡ Some c → v.clients ≡ set w.clients n m.state
     → v.lines ≡ w.lines ++ map (with_epoch w.issued) (listed m.line) → KeepsAnswers w.messages v.messages → KeepsGots h (client_plan r n) m → AreFlying h (client_plan r n) n m.state v.messages → Gots r h v
 turned r h w v n c m k here clients lines sent own to_it = record {
   present = λ j e a at present. here_at j e a at present (cases_eq j n);
@@ -184,7 +184,7 @@ turned r h w v n c m k here clients lines sent own to_it = record {
     flies j e a l x op group epoch b at present in' to message (inr apart) =
         k.flying j e a l x op group epoch b (sym (other_state j apart) ∙ at) present (sent l in' (fetched-no-tell l.message x op group epoch (reply.Answer b) message)) to message
 
-here-of : (r : Rules) (h : History) (w : World) (n : ℕ) (c : ClientState) → Gots r h w → slice_get w.clients n ≡ Some c → IsServedHere h (client_plan r n) c c.present
+pub here-of : (r : Rules) (h : History) (w : World) (n : ℕ) (c : ClientState) → Gots r h w → slice_get w.clients n ≡ Some c → IsServedHere h (client_plan r n) c c.present
 here-of r h w n c k here = by c.present refl
   where
     by : (o : Option Present) → c.present ≡ o → IsServedHere h (client_plan r n) c o
