@@ -5,3 +5,5 @@ pub mod GotLaws
 pub mod HearGots
 pub mod StepGots
 pub mod TurnGots
+pub mod Remembering
+pub mod TargetGots
