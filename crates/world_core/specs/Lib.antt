@@ -1,0 +1,2 @@
+-- All that holds between any two events of a run.
+pub mod Judged
