@@ -1,14 +1,13 @@
 -- What one more transaction leaves of the map as of an epoch.
-use Rattle.std.specs.Prelude.{ℕ, ◌≡◌, ◌<◌, ◌⊎◌, Bool, true, false, List, Contains, refl}
-use Rattle.std.proofs.Common.{sym, ◌∙◌, ap, subst, inl, inr, arith}
+use Rattle.std.specs.Prelude.{ℕ, ◌≡◌, ◌<◌, ◌⊎◌, true, List, Contains}
+use Rattle.std.proofs.Common.{sym, ◌∙◌, subst, inl, inr, arith}
 use Rattle.std.proofs.lemmas.Bool.Decides.{nat_tests}
 use Rattle.daos_model.specs.declared.cell.Cell.{Cell}
 use Rattle.daos_model.specs.declared.stand.Stand.{Stand}
 use Rattle.daos_model.specs.AsOf.{as_of}
-use Rattle.daos_model.specs.BoolLaws.{clash}
 use Rattle.daos_model.specs.Cells.{value_at}
 use Rattle.daos_model.specs.Prunes.{touches}
-use Rattle.daos_laws.specs.Dated.{Dated, SameWritesAt, is_about, is_earlier}
+use Rattle.daos_laws.specs.Dated.{Dated, is_about, is_earlier}
 use Rattle.daos_laws.specs.Decided.{AreDecided, Decided, all_dated, dated_by, taken_in}
 use Rattle.daos_laws.specs.DecidedLaws.{as_of-dated, has-dated, has-from_dated, has-from_ordered, has-ordered, ordered, rising-ordered}
 use Rattle.daos_laws.specs.Matches.{IsAdded}

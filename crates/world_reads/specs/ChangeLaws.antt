@@ -1,6 +1,5 @@
 -- Each change of what a target keeps leaves its versions standing for the decided transactions.
-use Rattle.std.specs.Prelude.{ℕ, ◌≡◌, ◌≢◌, ◌⊎◌, ◌+◌, ◌<◌, ◌≤◌, ◌/◌, ◌^◌, Bool, true, false, ◌&&◌, ◌||◌, ◌==◌, not, max, List, [], ◌∷◌, map, filter, find, Contains, slice_get, Option, Some, None, refl, if◌then◌else◌}
-use Rattle.std.specs.List.{list_any}
+use Rattle.std.specs.Prelude.{ℕ, ◌≡◌, ◌⊎◌, ◌<◌, ◌≤◌, ◌/◌, ◌^◌, Bool, true, false, ◌||◌, List, map, Contains, Some, refl, if◌then◌else◌}
 use Rattle.std.proofs.Common.{sym, ◌∙◌, ap, subst, inl, inr, arith}
 use Rattle.daos_base.specs.declared.entry.Entry.{Entry}
 use Rattle.daos_base.specs.declared.entry.Settle.TheVariants.{Commit}
@@ -8,15 +7,13 @@ use Rattle.daos_base.specs.declared.epoch.Epoch.{Epoch}
 use Rattle.daos_base.specs.declared.id.AttemptId.{AttemptId}
 use Rattle.daos_base.specs.declared.id.ContId.{ContId}
 use Rattle.daos_base.specs.declared.operation.MinorWrite.{MinorWrite}
-use Rattle.daos_base.specs.Operations.{write_path}
 use Rattle.daos_base.specs.Placement.{path_members}
-use Rattle.daos_laws.specs.Dated.{AreSingleInOrder, dated_of}
 use Rattle.daos_laws.specs.Matches.{Matches}
 use Rattle.daos_laws.specs.MatchLaws.{commits-keep, same-keep}
 use Rattle.daos_laws.specs.Members.{Has, contains-from_has, has-from_contains, has-from_map, has-map}
 use Rattle.daos_laws.specs.Targets.{ArePlaced}
 use Rattle.std.specs.Option.{option_map}
-use Rattle.world_reads.specs.EntryLaws.{find-map, found-passes, is-entry-committed, pairs-map, same-attempt, same-itself}
+use Rattle.world_reads.specs.EntryLaws.{find-map, found-passes, is-entry-committed, pairs-map, same-attempt}
 use Rattle.daos_model.specs.declared.durable.Durable.{Durable}
 use Rattle.daos_model.specs.declared.durable.Version.{Version}
 use Rattle.daos_model.specs.Changes.{committed_at, leased, settled}

@@ -1,14 +1,11 @@
 -- A turn in which a target hears a Commit leaves what it keeps and serves sound, and so does idle work.
-use Rattle.std.specs.Prelude.{ℕ, ◌≡◌, ◌≢◌, ◌⊎◌, ◌<◌, ◌≤◌, ◌/◌, ◌++◌, ◌==◌, Bool, true, false, List, [], ◌∷◌, filter, Contains, Option, Some, None, refl, if◌then◌else◌}
-use Rattle.std.specs.List.{list_any}
+use Rattle.std.specs.Prelude.{ℕ, ◌≡◌, ◌≢◌, ◌⊎◌, ◌≤◌, ◌/◌, ◌++◌, true, false, List, [], ◌∷◌, Contains, Option, Some, refl}
 use Rattle.std.proofs.Common.{sym, ◌∙◌, ap, subst, inl, inr}
 use Rattle.daos_base.specs.declared.entry.Entry.{Entry}
-use Rattle.daos_base.specs.declared.entry.Settle.TheVariants.{Commit}
 use Rattle.daos_base.specs.declared.epoch.Epoch.{Epoch}
 use Rattle.daos_base.specs.declared.id.AttemptId.{AttemptId}
 use Rattle.daos_base.specs.declared.operation.MinorWrite.{MinorWrite}
 use Rattle.daos_base.specs.declared.outcome.FloorWhy.{FloorWhy}
-use Rattle.daos_base.specs.declared.shown.Shown.{Shown}
 use Rattle.daos_base.specs.Operations.{write_path}
 use Rattle.daos_base.specs.Placement.{path_members}
 use Rattle.daos_laws.specs.Members.{Has, any-has, contains-from_has, has-any, has-filter, has-from_contains, has-from_filter}
@@ -18,8 +15,8 @@ use Rattle.daos_model.specs.declared.durable.Durable.{Durable}
 use Rattle.daos_model.specs.declared.durable.Version.{Version}
 use Rattle.daos_model.specs.Accesses.{minor_writes}
 use Rattle.daos_model.specs.BoolLaws.{clash}
-use Rattle.daos_model.specs.Changes.{leased, prepared, settled}
-use Rattle.daos_model.specs.Durables.{attempt_key, entry_of, same_attempt}
+use Rattle.daos_model.specs.Changes.{prepared}
+use Rattle.daos_model.specs.Durables.{attempt_key, same_attempt}
 use Rattle.daos_model.specs.Forms.{AreWritesInForm}
 use Rattle.daos_model.specs.Opening.{Opening, top}
 use Rattle.daos_model.specs.Ordered.{put}
@@ -32,8 +29,8 @@ use Rattle.world_events.specs.Events.{Rules, listed, target_plan}
 use Rattle.world_reads.specs.DecideLaws.{AreItsOwn, IsNewEntry, no-entry, old-decided}
 use Rattle.world_reads.specs.EntryLaws.{same-itself}
 use Rattle.world_reads.specs.FetchLaws.{issued-now, nothing-new}
-use Rattle.world_reads.specs.Given.{FitsTargets, IsCommitRight, IsItsEpoch}
-use Rattle.world_reads.specs.History.{Grew, History, Served, decides}
+use Rattle.world_reads.specs.Given.{IsCommitRight, IsItsEpoch}
+use Rattle.world_reads.specs.History.{History, Served, decides}
 use Rattle.world_reads.specs.HoldLaws.{decides-holds, decides-open, settles-holds}
 use Rattle.world_reads.specs.ListLaws.{some-in_form}
 use Rattle.world_reads.specs.Midway.{Holds, Shows, Sound, TurnLeaves}

@@ -1,6 +1,5 @@
 -- A target stores an attempt's writes and decides it: what it keeps stands for one more transaction.
-use Rattle.std.specs.Prelude.{ℕ, ◌≡◌, ◌≢◌, ◌⊎◌, ◌+◌, ◌<◌, ◌≤◌, ◌/◌, Bool, true, false, ◌&&◌, ◌||◌, ◌==◌, not, max, List, [], ◌∷◌, map, filter, find, All, AllPairs, Contains, Option, Some, None, refl, if◌then◌else◌}
-use Rattle.std.specs.List.{list_any}
+use Rattle.std.specs.Prelude.{ℕ, ◌≡◌, ◌≢◌, ◌⊎◌, ◌+◌, ◌<◌, ◌≤◌, ◌/◌, Bool, true, false, ◌||◌, ◌==◌, max, List, ◌∷◌, map, find, Contains, Some, None, refl}
 use Rattle.std.proofs.Common.{sym, ◌∙◌, ap, subst, inl, inr, arith}
 use Rattle.std.proofs.lemmas.List.Elements.{All-cons}
 use Rattle.std.proofs.lemmas.List.Kept.{AllPairs-cons, AllPairs-from_increasing}
@@ -9,22 +8,21 @@ use Rattle.daos_base.specs.declared.epoch.Epoch.{Epoch}
 use Rattle.daos_base.specs.declared.id.AttemptId.{AttemptId}
 use Rattle.daos_base.specs.declared.id.ContId.{ContId}
 use Rattle.daos_base.specs.declared.operation.MinorWrite.{MinorWrite}
-use Rattle.daos_base.specs.Operations.{write_path}
 use Rattle.daos_base.specs.Placement.{path_members}
-use Rattle.daos_laws.specs.Dated.{Dated, dated, dated_of, is_about}
+use Rattle.daos_laws.specs.Dated.{Dated, dated, is_about}
 use Rattle.daos_laws.specs.Decided.{AreDecided, Decided, IsNumbered, dated_at, dated_by}
 use Rattle.daos_laws.specs.DecidedLaws.{all-from_has}
 use Rattle.daos_laws.specs.Matches.{CountsOnce, HoldsWrite, IsAdded, Matches}
 use Rattle.daos_laws.specs.MatchLaws.{decisions-keep, prepares-keep, same-keep}
 use Rattle.daos_laws.specs.Members.{Has, any-has, contains-from_has, has-any, has-from_contains, has-from_map, has-map}
 use Rattle.daos_laws.specs.TargetLaws.{own-here}
-use Rattle.daos_laws.specs.Targets.{ArePlaced, is_own}
+use Rattle.daos_laws.specs.Targets.{is_own}
 use Rattle.daos_laws.specs.VersionLaws.{rising-from_single}
 use Rattle.daos_model.specs.declared.cell.Cell.{Cell}
 use Rattle.daos_model.specs.declared.durable.Durable.{Durable}
 use Rattle.daos_model.specs.declared.durable.Version.{Version}
 use Rattle.daos_model.specs.Accesses.{minor_writes}
-use Rattle.daos_model.specs.BoolLaws.{and_left, clash, false_of, or_left, or_right}
+use Rattle.daos_model.specs.BoolLaws.{and_left, clash, false_of}
 use Rattle.daos_model.specs.Changes.{prepared}
 use Rattle.daos_model.specs.Durables.{IsInForm, entry_key, entry_of, is_entry_of, row_of, same_attempt, version_key}
 use Rattle.daos_model.specs.FormLaws.{prepared-in_form}
@@ -35,7 +33,7 @@ use Rattle.daos_model.specs.Transactions.{attempt_ops}
 use Rattle.daos_model.specs.Versions.{version_of, version_path, versions_of}
 use Rattle.world_events.specs.Events.{Rules}
 use Rattle.world_reads.specs.ChangeLaws.{entry-of-it}
-use Rattle.world_reads.specs.EntryLaws.{find-new, find-put, found-has, has-put, has-puts, put-has, puts-has, same-attempt, same-itself}
+use Rattle.world_reads.specs.EntryLaws.{find-new, find-put, found-has, has-put, has-puts, puts-has, same-attempt, same-itself}
 use Rattle.world_reads.specs.Given.{FitsTargets}
 use Rattle.world_reads.specs.History.{History, counts_by, decided_of, decides, is_attempt, is_decided, transactions}
 use Rattle.world_reads.specs.ListLaws.{find-none, pairs-from_rising, rising-news}

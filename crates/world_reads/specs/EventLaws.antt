@@ -1,5 +1,5 @@
 -- Every turn keeps the facts of versions and reads.
-use Rattle.std.specs.Prelude.{ℕ, ◌≡◌, ◌≢◌, ◌⊎◌, ◌≤◌, ◌/◌, ◌%◌, ◌++◌, ◌==◌, Bool, true, false, List, [], ◌∷◌, Contains, slice_get, Option, Some, None, refl}
+use Rattle.std.specs.Prelude.{ℕ, ◌≡◌, ◌≢◌, ◌⊎◌, ◌≤◌, ◌/◌, ◌++◌, ◌==◌, Bool, true, false, List, [], ◌∷◌, Contains, slice_get, Some, refl}
 use Rattle.std.proofs.Common.{sym, ◌∙◌, ap, subst, inl, inr}
 use Rattle.std.proofs.Math.ListN.{set}
 use Rattle.std.proofs.Math.Nat.{mod-one}
@@ -7,10 +7,7 @@ use Rattle.std.proofs.lemmas.List.Elements.{Contains-append_left}
 use Rattle.daos_base.specs.declared.entry.Entry.{Entry}
 use Rattle.daos_base.specs.declared.epoch.Epoch.{Epoch}
 use Rattle.daos_base.specs.declared.id.AttemptId.{AttemptId}
-use Rattle.daos_base.specs.declared.operation.MinorWrite.{MinorWrite}
-use Rattle.daos_base.specs.declared.shown.Shown.{Shown}
 use Rattle.daos_base.specs.Operations.{read_path}
-use Rattle.daos_base.specs.Paths.{overlaps}
 use Rattle.daos_laws.specs.Members.{contains-from_has, has-right}
 use Rattle.daos_laws.specs.TargetLaws.{number_same, same_number}
 use Rattle.daos_messages.specs.declared.actor.ActorId.{ActorId}
@@ -22,7 +19,6 @@ use Rattle.daos_model.specs.BoolLaws.{clash}
 use Rattle.daos_model.specs.Durables.{entry_of}
 use Rattle.daos_model.specs.Opening.{Opening}
 use Rattle.daos_model.specs.Transactions.{attempt_ops}
-use Rattle.daos_model.specs.Versions.{version_path}
 use Rattle.world_base.specs.declared.client.ClientState.{ClientState}
 use Rattle.world_base.specs.declared.did.Did.{Did}
 use Rattle.world_base.specs.declared.letter.Letter.{Letter}
@@ -30,13 +26,13 @@ use Rattle.world_base.specs.declared.target.Life.TheVariants.{Running}
 use Rattle.world_base.specs.declared.target.TargetMemory.{TargetMemory}
 use Rattle.world_base.specs.declared.target.TargetState.{TargetState}
 use Rattle.world_base.specs.declared.world.World.{World}
-use Rattle.world_events.specs.Events.{ClientGoes, ClientHears, Rules, TargetHears, TargetIdles, after_turn, kept, listed, target_after, target_plan, with_client, with_target}
+use Rattle.world_events.specs.Events.{ClientGoes, ClientHears, Rules, after_turn, kept, listed, target_after, target_plan, with_client, with_target}
 use Rattle.world_events.specs.Letters.{Takes, client, target}
 use Rattle.world_events.specs.StepLaws.{set-here, set-there}
-use Rattle.world_reads.specs.CommitLaws.{HearsCommit, commit-sound, idle-sound}
+use Rattle.world_reads.specs.CommitLaws.{commit-sound, idle-sound}
 use Rattle.world_reads.specs.FetchLaws.{fetch-sound}
-use Rattle.world_reads.specs.Given.{Given, HasItsEpoch, IsCommitRight, IsFetchRight, IsMessageRight}
-use Rattle.world_reads.specs.History.{Grew, History, Served}
+use Rattle.world_reads.specs.Given.{Given, IsMessageRight}
+use Rattle.world_reads.specs.History.{History, Served}
 use Rattle.world_reads.specs.Keeping.{ClientsKeepReads, GoOn, HearingKeepsReads, IdlingKeepsReads, OthersKeepReads}
 use Rattle.world_reads.specs.Midway.{Sound, TurnLeaves}
 use Rattle.world_reads.specs.Reads.{IsGuarded, Reads}

@@ -1,34 +1,26 @@
 -- A turn in which a target hears a Fetch leaves what it keeps and serves sound.
-use Rattle.std.specs.Prelude.{ℕ, ◌≡◌, ◌≢◌, ◌⊎◌, ◌<◌, ◌≤◌, ◌/◌, ◌++◌, Bool, true, false, List, [], ◌∷◌, filter, Contains, Option, Some, None, Ok, Err, refl, if◌then◌else◌}
+use Rattle.std.specs.Prelude.{ℕ, ◌≡◌, ◌⊎◌, ◌≤◌, ◌/◌, ◌++◌, Bool, true, false, List, [], ◌∷◌, filter, Contains, Option, Some, None, refl, if◌then◌else◌}
 use Rattle.std.proofs.Common.{sym, ◌∙◌, ap, subst, inl, inr}
 use Rattle.std.proofs.lemmas.List.Elements.{Contains-append_left, Contains-push}
-use Rattle.daos_base.specs.declared.answer.Answer.{Answer}
-use Rattle.daos_base.specs.declared.entry.Settle.TheVariants.{Commit}
 use Rattle.daos_base.specs.declared.epoch.Epoch.{Epoch}
 use Rattle.daos_base.specs.declared.id.AttemptId.{AttemptId}
 use Rattle.daos_base.specs.declared.outcome.FloorWhy.{FloorWhy}
-use Rattle.daos_base.specs.declared.shown.Shown.{Shown}
 use Rattle.daos_base.specs.Operations.{read_path}
 use Rattle.daos_laws.specs.Members.{Has, contains-from_has, has-from_contains}
 use Rattle.daos_messages.specs.declared.actor.ActorId.{ActorId}
-use Rattle.daos_model.specs.declared.durable.Durable.{Durable}
 use Rattle.daos_model.specs.declared.durable.Version.{Version}
-use Rattle.daos_model.specs.Accesses.{minor_writes}
 use Rattle.daos_model.specs.BoolLaws.{clash}
-use Rattle.daos_model.specs.Changes.{leased, settled}
-use Rattle.daos_model.specs.Opening.{Opening, top}
-use Rattle.daos_model.specs.Transactions.{attempt_ops}
-use Rattle.vos_store.specs.Answers.{fetched}
+use Rattle.daos_model.specs.Opening.{Opening}
 use Rattle.world_base.specs.declared.did.Did.{Did}
 use Rattle.world_base.specs.declared.request.FetchRequest.{FetchRequest}
 use Rattle.world_base.specs.declared.target.TargetMemory.{TargetMemory}
 use Rattle.world_base.specs.declared.world.World.{World}
 use Rattle.world_events.specs.Events.{Rules, listed, target_plan}
 use Rattle.world_reads.specs.Given.{IsFetchRight, IsItsEpoch}
-use Rattle.world_reads.specs.History.{Grew, History, Served, serves}
+use Rattle.world_reads.specs.History.{History, Served, serves}
 use Rattle.world_reads.specs.Midway.{Sound, TurnLeaves}
 use Rattle.world_reads.specs.ServedLaws.{free-read, holds-served, serves-shows}
-use Rattle.world_reads.specs.StepLaws.{extends-sound, lease-covers, lease-settled, path-keeps, settles-sound}
+use Rattle.world_reads.specs.StepLaws.{extends-sound, lease-settled, path-keeps, settles-sound}
 use Rattle.world_turns.specs.Changes.{Change, Kept, Steps}
 use Rattle.world_turns.specs.Reads as read
 use Rattle.world_turns.specs.Requests.{is_other_attempt, issued_for, request_epoch, with_ticks}

@@ -1,5 +1,5 @@
 -- What else holds of the world, of which the facts of versions and reads make use. Other crates prove it.
-use Rattle.std.specs.Prelude.{ℕ, ◌≡◌, ◌≢◌, ◌≤◌, ◌<◌, ◌⊎◌, Bool, true, false, List, [], ◌∷◌, Contains, slice_get, Option, Some, None}
+use Rattle.std.specs.Prelude.{ℕ, ◌≡◌, ◌≢◌, ◌≤◌, ◌<◌, Bool, true, false, List, [], Contains, slice_get, Option, Some}
 use Rattle.daos_base.specs.declared.answer.Answer.{Answer}
 use Rattle.daos_base.specs.declared.epoch.Epoch.{Epoch}
 use Rattle.daos_base.specs.declared.id.AttemptId.{AttemptId}
@@ -22,7 +22,7 @@ use Rattle.world_base.specs.declared.target.Life.TheVariants.{Running}
 use Rattle.world_base.specs.declared.world.World.{World}
 use Rattle.world_events.specs.Events.{Rules, target_plan}
 use Rattle.world_events.specs.Letters.{target}
-use Rattle.world_reads.specs.History.{History, Served}
+use Rattle.world_reads.specs.History.{History}
 use Rattle.world_reads.specs.Reads.{IsOfAttempt}
 use Rattle.world_turns.specs.Requests.{request_epoch}
 

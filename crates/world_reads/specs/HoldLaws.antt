@@ -1,5 +1,5 @@
 -- What each change of a turn leaves of what a target keeps, and of the attempts that are left to settle.
-use Rattle.std.specs.Prelude.{ℕ, ◌≡◌, ◌≢◌, ◌⊎◌, ◌<◌, ◌≤◌, ◌/◌, ◌^◌, Bool, true, false, not, List, [], ◌∷◌, map, filter, Contains, Option, Some, None, refl, if◌then◌else◌}
+use Rattle.std.specs.Prelude.{ℕ, ◌≡◌, ◌⊎◌, ◌<◌, ◌≤◌, ◌^◌, Bool, true, false, List, ◌∷◌, map, filter, Contains, Some, None, refl, if◌then◌else◌}
 use Rattle.std.proofs.Common.{sym, ◌∙◌, ap, subst, inl, inr}
 use Rattle.std.specs.Option.{option_map}
 use Rattle.daos_base.specs.declared.entry.Entry.{Entry}
@@ -10,7 +10,7 @@ use Rattle.daos_base.specs.declared.operation.MinorWrite.{MinorWrite}
 use Rattle.daos_laws.specs.Members.{Has, contains-from_has, has-from_contains, has-from_filter, has-from_map}
 use Rattle.daos_model.specs.declared.durable.Durable.{Durable}
 use Rattle.daos_model.specs.declared.durable.Version.{Version}
-use Rattle.daos_model.specs.BoolLaws.{clash, not_true}
+use Rattle.daos_model.specs.BoolLaws.{not_true}
 use Rattle.daos_model.specs.Changes.{committed_at, leased, prepared, settled}
 use Rattle.daos_model.specs.Durables.{attempt_key, entry_key, entry_of, same_attempt}
 use Rattle.daos_model.specs.Opening.{Opening}
@@ -19,7 +19,7 @@ use Rattle.world_events.specs.Events.{Rules}
 use Rattle.world_reads.specs.ChangeLaws.{committed-open, entry-of-it, entry-settled, extends-stands, other-entry, apart-of, settles-stands}
 use Rattle.world_reads.specs.DecideLaws.{AreItsOwn, IsNewEntry, decides-stands, entry-among, entry-kept, entry-new, has-decided, new-decided, no-entry, old-decided, stays-apart}
 use Rattle.world_reads.specs.EntryLaws.{has-put, put-has, same-attempt}
-use Rattle.world_reads.specs.History.{History, decides, transactions}
+use Rattle.world_reads.specs.History.{History, decides}
 use Rattle.world_reads.specs.Midway.{AreOpen, Holds}
 use Rattle.world_reads.specs.Versions.{IsWriteAt}
 use Rattle.world_turns.specs.Requests.{is_other_attempt}

@@ -1,8 +1,7 @@
 -- Lists that rise, and those that are put among others.
-use Rattle.std.specs.Prelude.{ℕ, suc, zero, ◌≡◌, ◌≢◌, ◌⊎◌, ◌+◌, ◌<◌, Bool, true, false, ◌&&◌, List, [], ◌∷◌, map, filter, find, length, All, AllPairs, Contains, Option, Some, None, refl, if◌then◌else◌}
+use Rattle.std.specs.Prelude.{ℕ, ◌≡◌, ◌≢◌, ◌⊎◌, ◌+◌, ◌<◌, Bool, true, false, List, [], ◌∷◌, map, filter, find, AllPairs, Some, None, refl, if◌then◌else◌}
 use Rattle.std.specs.List.Sorted.{IsStrictlyIncreasing}
 use Rattle.std.proofs.Common.{sym, ◌∙◌, ap, subst, inl, inr, arith}
-use Rattle.std.proofs.lemmas.List.Elements.{All-cons, All-nil}
 use Rattle.std.proofs.lemmas.List.Kept.{AllPairs-cons, AllPairs-from_increasing}
 use Rattle.daos_base.specs.declared.entry.Entry.{Entry}
 use Rattle.daos_base.specs.declared.operation.MinorWrite.{MinorWrite}
@@ -13,7 +12,7 @@ use Rattle.daos_model.specs.Durables.{version_key}
 use Rattle.daos_model.specs.FormLaws.{length-filter}
 use Rattle.daos_model.specs.Forms.{AreWritesInForm, is_write_in_form, minor_of}
 use Rattle.daos_model.specs.OrderLaws.{before-itself, rising-put}
-use Rattle.daos_model.specs.Ordered.{all_after, is_rising, put, puts}
+use Rattle.daos_model.specs.Ordered.{all_after, is_rising, puts}
 use Rattle.daos_model.specs.Versions.{version_of, versions_of}
 use Rattle.daos_laws.specs.DecidedLaws.{all-from_has, has-all}
 use Rattle.daos_laws.specs.Members.{Has, has-from_filter, has-from_map, has-map}

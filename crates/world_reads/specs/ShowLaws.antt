@@ -1,5 +1,5 @@
 -- What each change of a turn leaves of what a target served.
-use Rattle.std.specs.Prelude.{ℕ, ◌≡◌, ◌≢◌, ◌⊎◌, ◌<◌, ◌≤◌, ◌/◌, ◌^◌, ◌&&◌, ◌||◌, Bool, true, false, nat_le, nat_lt, List, [], ◌∷◌, map, filter, All, Contains, Option, Some, None, refl, if◌then◌else◌}
+use Rattle.std.specs.Prelude.{ℕ, ◌≡◌, ◌⊎◌, ◌<◌, ◌≤◌, ◌/◌, Bool, true, false, nat_le, nat_lt, List, [], ◌∷◌, map, Contains, Option, Some, None, refl, if◌then◌else◌}
 use Rattle.std.proofs.Common.{sym, ◌∙◌, ap, subst, inl, inr, arith}
 use Rattle.std.proofs.lemmas.Bool.{cases_lt}
 use Rattle.std.proofs.lemmas.Bool.Decides.{nat_tests}
@@ -18,7 +18,7 @@ use Rattle.daos_base.specs.Paths.{leads_to, overlaps}
 use Rattle.daos_base.specs.PathLaws.{overlaps-comm}
 use Rattle.daos_base.specs.Placement.{members}
 use Rattle.daos_laws.specs.Dated.{Dated}
-use Rattle.daos_laws.specs.Decided.{AreDecided, dated_at, dated_by}
+use Rattle.daos_laws.specs.Decided.{AreDecided, dated_at}
 use Rattle.daos_laws.specs.DecidedLaws.{has-all}
 use Rattle.daos_laws.specs.Groups.{is_in_group}
 use Rattle.daos_laws.specs.Members.{Has, contains-from_has, has-from_contains, has-from_map}
@@ -31,13 +31,12 @@ use Rattle.daos_model.specs.Accesses.{asked_member, minor_writes}
 use Rattle.daos_model.specs.BoolLaws.{both, clash}
 use Rattle.daos_model.specs.Cells.{value_at}
 use Rattle.daos_model.specs.Changes.{leased, prepared, settled}
-use Rattle.daos_model.specs.Durables.{row_of, version_key}
+use Rattle.daos_model.specs.Durables.{row_of}
 use Rattle.daos_model.specs.Forms.{is_write_in_form}
 use Rattle.daos_model.specs.Opening.{Opening}
-use Rattle.daos_model.specs.Ordered.{puts}
 use Rattle.daos_model.specs.Prunes.{touches}
 use Rattle.daos_model.specs.Transactions.{attempt_ops}
-use Rattle.daos_model.specs.Versions.{done_by, version_of, version_path, versions_of}
+use Rattle.daos_model.specs.Versions.{done_by, version_of, version_path}
 use Rattle.vos_stamp.specs.Stamps.{NoneAgainst, floor_cause, stands_against}
 use Rattle.vos_store.specs.Answers.{floor_of}
 use Rattle.world_base.specs.declared.target.TargetPlan.{TargetPlan}
@@ -49,8 +48,7 @@ use Rattle.world_reads.specs.History.{History, Served, decided_of, decides, tran
 use Rattle.world_reads.specs.Midway.{IsGuardedBy, Shows}
 use Rattle.world_reads.specs.PlaceLaws.{asked-member, group-own, leads-object, overlaps-container}
 use Rattle.world_reads.specs.Reads.{IsAnsweredRight, IsOfAttempt, map_then}
-use Rattle.world_reads.specs.Versions.{IsWriteAt}
-use Rattle.world_turns.specs.Commits.{IsAllowed, NoReads, first_floor, or_else}
+use Rattle.world_turns.specs.Commits.{IsAllowed, first_floor, or_else}
 
 -- ---- the lease is extended
 

@@ -1,13 +1,12 @@
 -- Each version belongs to a decided attempt or to one that is prepared, and those that count stand for the decided transactions.
-use Rattle.std.specs.Prelude.{ℕ, ◌≡◌, ◌≢◌, ◌⊎◌, ◌+◌, ◌<◌, ◌≤◌, ◌/◌, Bool, true, false, ◌&&◌, ◌==◌, max, List, [], ◌∷◌, Contains, slice_get, Option, Some, None}
-use Rattle.std.specs.List.{list_all}
+use Rattle.std.specs.Prelude.{ℕ, ◌≡◌, ◌≢◌, ◌⊎◌, ◌+◌, ◌≤◌, ◌/◌, Bool, true, false, ◌&&◌, ◌==◌, max, List, [], Contains, slice_get, Some}
 use Rattle.daos_base.specs.declared.entry.Entry.{Entry}
 use Rattle.daos_base.specs.declared.epoch.Epoch.{Epoch}
 use Rattle.daos_base.specs.declared.id.AttemptId.{AttemptId}
 use Rattle.daos_base.specs.declared.id.ContId.{ContId}
 use Rattle.daos_base.specs.declared.operation.MinorWrite.{MinorWrite}
 use Rattle.daos_base.specs.Operations.{write_path}
-use Rattle.daos_base.specs.Placement.{path_members, writes_leader}
+use Rattle.daos_base.specs.Placement.{path_members}
 use Rattle.daos_laws.specs.Dated.{AreSingleInOrder}
 use Rattle.daos_laws.specs.Decided.{AreDecided}
 use Rattle.daos_laws.specs.Matches.{Matches}
@@ -19,7 +18,7 @@ use Rattle.daos_model.specs.Accesses.{minor_writes}
 use Rattle.daos_model.specs.Durables.{IsInForm, entry_of, row_of}
 use Rattle.daos_model.specs.Opening.{Opening, top}
 use Rattle.daos_model.specs.Transactions.{attempt_ops}
-use Rattle.daos_model.specs.Versions.{version_of, version_path}
+use Rattle.daos_model.specs.Versions.{version_of}
 use Rattle.world_base.specs.declared.target.TargetState.{TargetState}
 use Rattle.world_base.specs.declared.world.World.{World}
 use Rattle.world_events.specs.Events.{Rules}
