@@ -7,3 +7,5 @@ pub mod StepGots
 pub mod TurnGots
 pub mod Remembering
 pub mod TargetGots
+pub mod Right
+pub mod RightLaws
