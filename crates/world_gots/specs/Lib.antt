@@ -9,3 +9,5 @@ pub mod Remembering
 pub mod TargetGots
 pub mod Right
 pub mod RightLaws
+pub mod FormLaws
+pub mod ToldLaws
