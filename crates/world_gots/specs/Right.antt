@@ -1,5 +1,5 @@
 -- What follows from that clients were told what was served: where that was answered right, so was what they were told.
-use Rattle.std.specs.Prelude.{ℕ, ◌≡◌, List, All, Contains, Option, Some, None}
+use Rattle.std.specs.Prelude.{ℕ, ◌≡◌, List, All, Contains, find, Option, Some, None}
 use Rattle.daos_base.specs.declared.answer.Answer.{Answer}
 use Rattle.daos_base.specs.declared.epoch.Epoch.{Epoch}
 use Rattle.daos_base.specs.declared.id.AttemptId.{AttemptId}
@@ -8,6 +8,7 @@ use Rattle.daos_base.specs.declared.operation.Op.{Op}
 use Rattle.daos_base.specs.declared.operation.Read.{Read}
 use Rattle.daos_base.specs.declared.operation.Read.TheVariants as read
 use Rattle.daos_base.specs.declared.report.Attempt.{Attempt}
+use Rattle.daos_base.specs.declared.script.Script.{Script}
 use Rattle.daos_base.specs.Operations.{read_path}
 use Rattle.daos_base.specs.Placement.{ClassFits}
 use Rattle.daos_base.specs.Scripts.{IsInForm, IsOpInForm}
@@ -16,7 +17,7 @@ use Rattle.daos_laws.specs.Groups.{HasDkeys}
 use Rattle.daos_model.specs.Answers.{answer}
 use Rattle.daos_model.specs.Attempts.{snapshot_of}
 use Rattle.daos_model.specs.Opening.{Opening}
-use Rattle.daos_model.specs.ReadsLegal.{AttemptReadsLegal, IsToldRight}
+use Rattle.daos_model.specs.ReadsLegal.{AttemptReadsLegal, IsToldRight, is_named}
 use Rattle.daos_model.specs.Transactions.{attempt_ops}
 use Rattle.world_events.specs.Events.{Rules}
 use Rattle.world_gots.specs.Gots.{AreServed, IsJoined, IsLineServed}
@@ -60,9 +61,14 @@ ToldIsRight =
 abbrev pub NothingIsToldBefore : Type 0
 NothingIsToldBefore = (h : History) (x : AttemptId) (targets : ℕ) (ops : List Op) (a : Attempt) → AreServed h x targets ops None a.gots a.conds → IsToldRight ops None a
 
--- So where a script is in form, what a line tells of an attempt that isn't at a snapshot is what the decided transactions
--- give.
+-- it isn't at a snapshot of an earlier run: it is at none, or at one that the run made
+abbrev pub IsOfThisRun : Script → Option (List ℕ) → Type 0
+IsOfThisRun s None = Unit {0}
+IsOfThisRun s (Some name) = find (is_named name) s.olds ≡ None
+
+-- So where a script is in form, what a line tells of an attempt is what the decided transactions give, but for one at a
+-- snapshot of an earlier run.
 abbrev pub LinesAreRight : Type 0
 LinesAreRight =
     (r : Rules) (o : Opening) (h : History) (targets : ℕ) (a : Attempt) → IsInForm targets r.script → AreAnsweredRight r o h → ((e : Epoch) → HasDkeys (map_then r o h e))
-    → snapshot_of r.script a.id ≡ None → IsLineServed r h a → AttemptReadsLegal r.script o.stand (taken_in (transactions r.script h)) a
+    → IsOfThisRun r.script (snapshot_of r.script a.id) → IsLineServed r h a → AttemptReadsLegal r.script o.stand (taken_in (transactions r.script h)) a

@@ -9,22 +9,26 @@ use Rattle.daos_base.specs.declared.operation.Op.{Op}
 use Rattle.daos_base.specs.declared.operation.Read.{Read}
 use Rattle.daos_base.specs.declared.operation.Read.TheVariants as read
 use Rattle.daos_base.specs.declared.report.Attempt.{Attempt}
+use Rattle.daos_base.specs.declared.script.Script.{Script}
 use Rattle.daos_base.specs.Placement.{ClassFits}
 use Rattle.daos_base.specs.Scripts.{IsOpInForm}
 use Rattle.daos_laws.specs.Decided.{taken_in}
 use Rattle.daos_laws.specs.Groups.{HasDkeys}
+use Rattle.daos_model.specs.declared.stand.Stand.{Stand}
+use Rattle.daos_model.specs.declared.stand.Taken.{Taken}
 use Rattle.daos_model.specs.Accesses.{op_path}
 use Rattle.daos_model.specs.Answers.{has_cell_below, yes_or_no}
+use Rattle.daos_model.specs.AsOf.{as_of}
 use Rattle.daos_model.specs.Attempts.{snapshot_of}
 use Rattle.daos_model.specs.Opening.{Opening}
-use Rattle.daos_model.specs.ReadsLegal.{IsRightAnswer, IsRightCondition, IsToldRight, map_at, map_read}
+use Rattle.daos_model.specs.ReadsLegal.{IsRightAnswer, IsRightCondition, IsToldRight, map_at, map_read, old_map}
 use Rattle.daos_model.specs.Transactions.{attempt_ops}
 use Rattle.world_base.specs.ClientTurns.{is_yes}
 use Rattle.world_events.specs.Events.{Rules}
 use Rattle.world_gots.specs.FormLaws.{condition-askable, ops-form, read-askable}
 use Rattle.world_gots.specs.Gots.{AreJoined, AreServed, IsGot, IsLineServed, IsTold, NoneYet, OneMore}
 use Rattle.world_gots.specs.MoreLaws.{all-more, unknown-unserved}
-use Rattle.world_gots.specs.Right.{AreAnsweredRight, LinesAreRight, NothingIsToldBefore, ToldIsRight}
+use Rattle.world_gots.specs.Right.{AreAnsweredRight, IsOfThisRun, LinesAreRight, NothingIsToldBefore, ToldIsRight}
 use Rattle.world_gots.specs.RightLaws.{joins-right}
 use Rattle.world_reads.specs.History.{History, transactions}
 use Rattle.world_reads.specs.Reads.{map_then}
@@ -75,8 +79,13 @@ nothing-told h x targets ops a s = (
 
 -- ---- lines
 
+-- an attempt of this run reads the map as of its epoch
+map_of_this_run : (s : Script) (opening : Stand) (T : List Taken) (e : ℕ) (snapshot : Option (List ℕ)) → IsOfThisRun s snapshot → map_at s opening T e snapshot ≡ Some (as_of opening T e)
+map_of_this_run s opening T e None here = refl
+map_of_this_run s opening T e (Some name) here = ap (old_map opening T e) here
+
 pub lines-right : LinesAreRight
-lines-right r o h targets a form all dkeys plain s = by a.epoch s
+lines-right r o h targets a form all dkeys here s = by a.epoch s
   where
     fits : All (λ d. ClassFits d.id.class r.script.targets) r.script.objs
     fits = subst (λ n. All (λ d. ClassFits d.id.class n) r.script.objs) (sym form.read_for) form.classes
@@ -85,5 +94,5 @@ lines-right r o h targets a form all dkeys plain s = by a.epoch s
         → IsToldRight (attempt_ops r.script a.id) (map_read r.script o.stand (taken_in (transactions r.script h)) a known) a
     by None t = nothing-told h a.id r.script.targets (attempt_ops r.script a.id) a t
     by (Some e) t =
-        subst (λ z. IsToldRight (attempt_ops r.script a.id) (map_at r.script o.stand (taken_in (transactions r.script h)) e.0 z) a) (sym plain)
+        subst (λ z. IsToldRight (attempt_ops r.script a.id) z a) (sym (map_of_this_run r.script o.stand (taken_in (transactions r.script h)) e.0 (snapshot_of r.script a.id) here))
         (told-right r o h (attempt_ops r.script a.id) a e fits (ops-form targets r.script a.id form) all (dkeys e) t)
