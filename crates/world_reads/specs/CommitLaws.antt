@@ -1,16 +1,25 @@
 -- A turn in which a target hears a Commit leaves what it keeps and serves sound, and so does idle work.
-use Rattle.std.specs.Prelude.{ℕ, ◌≡◌, ◌≢◌, ◌⊎◌, ◌≤◌, ◌/◌, ◌++◌, true, false, List, [], ◌∷◌, Contains, Option, Some, refl}
+use Rattle.std.specs.Prelude.{ℕ, ◌≡◌, ◌≢◌, ◌⊎◌, ◌≤◌, ◌/◌, ◌++◌, true, false, List, [], ◌∷◌, Contains, Option, Some, refl, None}
 use Rattle.std.proofs.Common.{sym, ◌∙◌, ap, subst, inl, inr}
 use Rattle.daos_base.specs.declared.entry.Entry.{Entry}
 use Rattle.daos_base.specs.declared.epoch.Epoch.{Epoch}
 use Rattle.daos_base.specs.declared.id.AttemptId.{AttemptId}
 use Rattle.daos_base.specs.declared.operation.MinorWrite.{MinorWrite}
 use Rattle.daos_base.specs.declared.outcome.FloorWhy.{FloorWhy}
+use Rattle.daos_base.specs.declared.answer.Answer.{Answer}
+use Rattle.daos_base.specs.declared.outcome.Outcome.{Outcome}
+use Rattle.daos_base.specs.declared.outcome.Outcome.TheVariants as outcome
+use Rattle.daos_messages.specs.declared.message.Message.{Message}
+use Rattle.daos_messages.specs.declared.message.Message.TheVariants as message
+use Rattle.daos_messages.specs.declared.message.Message.TheVariants.{Ended, Fetched}
+use Rattle.daos_messages.specs.declared.message.Post.{Post}
+use Rattle.daos_messages.specs.declared.message.Reply.TheVariants as reply
 use Rattle.daos_base.specs.Operations.{write_path}
 use Rattle.daos_base.specs.Placement.{path_members}
 use Rattle.daos_laws.specs.Members.{Has, any-has, contains-from_has, has-any, has-filter, has-from_contains, has-from_filter}
 use Rattle.daos_laws.specs.TargetLaws.{number_same, same_number}
 use Rattle.daos_messages.specs.declared.actor.ActorId.{ActorId}
+use Rattle.world_base.specs.declared.request.FetchRequest.{FetchRequest}
 use Rattle.daos_model.specs.declared.durable.Durable.{Durable}
 use Rattle.daos_model.specs.declared.durable.Version.{Version}
 use Rattle.daos_model.specs.Accesses.{minor_writes}
@@ -28,12 +37,13 @@ use Rattle.world_base.specs.declared.world.World.{World}
 use Rattle.world_events.specs.Events.{Rules, listed, target_plan}
 use Rattle.world_reads.specs.DecideLaws.{AreItsOwn, IsNewEntry, no-entry, old-decided}
 use Rattle.world_reads.specs.EntryLaws.{same-itself}
-use Rattle.world_reads.specs.FetchLaws.{issued-now, nothing-new}
+use Rattle.world_reads.specs.FetchLaws.{issued-now, nothing-new, nothing-told}
 use Rattle.world_reads.specs.Given.{IsCommitRight, IsItsEpoch}
 use Rattle.world_reads.specs.History.{History, Served, decides}
 use Rattle.world_reads.specs.HoldLaws.{decides-holds, decides-open, settles-holds}
 use Rattle.world_reads.specs.ListLaws.{some-in_form}
-use Rattle.world_reads.specs.Midway.{Holds, Shows, Sound, TurnLeaves}
+use Rattle.world_reads.specs.Adds.{AddsServed, IsPlain, TellsCommit}
+use Rattle.world_reads.specs.Midway.{Holds, Shows, Sound, TurnLeaves, TurnTold}
 use Rattle.world_reads.specs.ShowLaws.{decides-shows, settles-shows}
 use Rattle.world_reads.specs.StepLaws.{extends-sound, path-keeps}
 use Rattle.world_reads.specs.Versions.{IsWriteAt}
@@ -43,6 +53,12 @@ use Rattle.world_turns.specs.Idle.{AllSettled, IdleEnds, IdleNext, SettlesFirst}
 use Rattle.world_turns.specs.Requests.{request_epoch}
 use Rattle.world_turns.specs.TargetTurns.{IdlesWhole}
 use Rattle.world_turns.specs.Turns.{Whole}
+
+abbrev pub commit_message : CommitRequest → Message
+commit_message q = message.Commit q.attempt q.ep q.first q.tracker q.writes
+
+ended-plain : (q : CommitRequest) (own : Option Epoch) (how : Outcome) → ((how ≡ outcome.Committed) → ⊥) → IsPlain (Ended q.attempt own how)
+ended-plain q own how other = record { no_commit = λ x f e. other (let same : how ≡ outcome.Committed = cc in same); no_answer = λ x op group f b e. let no : ⊥ = cc in no }
 
 -- ---- the writes that a target holds
 
@@ -127,17 +143,14 @@ module _ (r : Rules) (o : Opening) (held : List Version) (h : History) (w : Worl
   )
 
   commit-ends : HearsCommit r o held h w t m reading q → (s : commit.CommitStage) (k : Kept) (left : TargetMemory × Did) → commit.CommitEnds (target_plan r t) opening m reading q from s k left
-      → Mid r o held h opening t m reading q s k → TurnLeaves r o held h w opening t k left
-  commit-ends c s k left (commit.IsSpent k' left' none is) p = nothing-new r o held h w opening t k left (subst (λ n. Sound r o held h opening t k.durable n.0.decided n.0.stamps) (sym is) p)
-  commit-ends c s k left (commit.IsRefused k' e why left' by is) p = nothing-new r o held h w opening t k left (subst (λ n. Sound r o held h opening t k.durable n.0.decided n.0.stamps) (sym is) p.0)
-  commit-ends c s k left (commit.HasNoSpace k' e left' allowed few is) p = nothing-new r o held h w opening t k left (subst (λ n. Sound r o held h opening t k.durable n.0.decided n.0.stamps) (sym is) p.0)
-  commit-ends c s k left (commit.IsDecided k' e left' is) p = record {
-    later = decides h q.attempt e;
-    grew = record { decided = old-decided h q.attempt e; served = λ z j. j };
-    sound = subst (λ n. Sound r o held (decides h q.attempt e) opening t k.durable n.0.decided n.0.stamps) (sym is) p.0;
-    decided = λ x f i. by x f (has-from_contains ((q.attempt, e) ∷ h.decided) (x, f) i);
-    served = λ z i. inl i;
-  }
+      → Mid r o held h opening t m reading q s k → TurnTold r o held h w opening t k left from (commit_message q)
+  commit-ends c s k left (commit.IsSpent k' left' none is) p =
+      nothing-told r o held h w opening t k left from (commit_message q) _ (ap (λ n. n.1.posts) is) (ended-plain q None outcome.EpochsSpent (λ c. let no : ⊥ = cc in no)) (subst (λ n. Sound r o held h opening t k.durable n.0.decided n.0.stamps) (sym is) p)
+  commit-ends c s k left (commit.IsRefused k' e why left' by is) p =
+      nothing-told r o held h w opening t k left from (commit_message q) _ (ap (λ n. n.1.posts) is) (ended-plain q (Some e) (outcome.Restart why) (λ c. let no : ⊥ = cc in no)) (subst (λ n. Sound r o held h opening t k.durable n.0.decided n.0.stamps) (sym is) p.0)
+  commit-ends c s k left (commit.HasNoSpace k' e left' allowed few is) p =
+      nothing-told r o held h w opening t k left from (commit_message q) _ (ap (λ n. n.1.posts) is) (ended-plain q (Some e) (outcome.NoSpace _ _ _) (λ c. let no : ⊥ = cc in no)) (subst (λ n. Sound r o held h opening t k.durable n.0.decided n.0.stamps) (sym is) p.0)
+  commit-ends c s k left (commit.IsDecided k' e left' is) p = record { leaves = leaves; adds = record { decided = record { new = λ x f i. tells x f (has-from_contains ((q.attempt, e) ∷ h.decided) (x, f) i); told = told }; served = no-answer } }
     where
       own : (f : Epoch) → q.ep ≡ Some f → f ≡ e
       own f has = let same : Some f ≡ Some e = sym (ap (λ ep. request_epoch (target_plan r t) m reading q.tracker ep) has) ∙ p.1 in cc
@@ -154,10 +167,46 @@ module _ (r : Rules) (o : Opening) (held : List Version) (h : History) (w : Worl
           inr (subst (Contains (w.issued ++ listed left.1.issued)) (sym same) issued, subst (λ y. minor_writes 0 (attempt_ops r.script y) ≢ []) (sym (ap (λ i. i.0) same)) some)
       by x f (inr i) = inl (contains-from_has h.decided (x, f) i)
 
+      leaves : TurnLeaves r o held h w opening t k left
+      leaves = record {
+        later = decides h q.attempt e;
+        grew = record { decided = old-decided h q.attempt e; served = λ z j. j };
+        sound = subst (λ n. Sound r o held (decides h q.attempt e) opening t k.durable n.0.decided n.0.stamps) (sym is) p.0;
+        decided = λ x f i. by x f (has-from_contains ((q.attempt, e) ∷ h.decided) (x, f) i);
+        served = λ z i. inl i;
+      }
+
+      posts : left.1.posts ≡ record { to = from; message = Ended q.attempt (Some e) outcome.Committed } ∷ []
+      posts = ap (λ n. n.1.posts) is
+
+      tells : (x : AttemptId) (f : Epoch) → Has (x, f) ((q.attempt, e) ∷ h.decided) → Contains h.decided (x, f) ⊎ TellsCommit from left.1.posts x f
+      tells x f (inl same) =
+          inr (subst (Has (record { to = from; message = Ended x (Some f) outcome.Committed })) (sym posts)
+            (inl (ap (λ y. record { to = from; message = Ended y (Some f) outcome.Committed }) (ap (λ i. i.0) same) ∙ ap (λ y. record { to = from; message = Ended q.attempt (Some y) outcome.Committed }) (ap (λ i. i.1) same))))
+      tells x f (inr i) = inl (contains-from_has h.decided (x, f) i)
+
+      told : (z : Post) (x : AttemptId) (f : Option Epoch) → Has z left.1.posts → z.message ≡ Ended x f outcome.Committed → (g : Epoch) × (f ≡ Some g) × Contains (decides h q.attempt e).decided (x, g)
+      told z x f i says = elim (subst (Has z) posts i) [
+          | inl same ↦ it x f (sym says ∙ ap (λ y. y.message) same)
+          | inr j ↦ absurd j
+        ]
+        where
+          it : (x : AttemptId) (f : Option Epoch) → Ended x f outcome.Committed ≡ Ended q.attempt (Some e) outcome.Committed → (g : Epoch) × (f ≡ Some g) × Contains (decides h q.attempt e).decided (x, g)
+          it x f same =
+              let h1 : x ≡ q.attempt = cc in
+              let h2 : f ≡ Some e = cc in
+              (e, h2, contains-from_has ((q.attempt, e) ∷ h.decided) (x, e) (inl (ap (λ y. (y, e)) h1)))
+
+      no-answer : AddsServed (decides h q.attempt e) t (commit_message q) left.1.posts
+      no-answer to z f c asked i = elim (subst (Has (record { to = to; message = Fetched z.attempt z.op z.group (Some f) (reply.Answer c) })) posts i) [
+          | inl same ↦ absurd (let bad : Fetched z.attempt z.op z.group (Some f) (reply.Answer c) ≡ Ended q.attempt (Some e) outcome.Committed = ap (λ y. y.message) same in let no : ⊥ = cc in no)
+          | inr j ↦ absurd j
+        ]
+
   -- the whole turn
   pub commit-sound : HearsCommit r o held h w t m reading q → (old new : Kept) (left : TargetMemory × Did)
       → Whole (commit.CommitNext (target_plan r t) opening m reading q) (commit.CommitEnds (target_plan r t) opening m reading q from) commit.Asked old new left
-      → Sound r o held h opening t old.durable m.decided m.stamps → TurnLeaves r o held h w opening t new left
+      → Sound r o held h opening t old.durable m.decided m.stamps → TurnTold r o held h w opening t new left from (commit_message q)
   commit-sound c old new left turn k =
       commit-ends c turn.last new left turn.ends
       (path-keeps (commit.CommitNext (target_plan r t) opening m reading q) (Mid r o held h opening t m reading q) (commit-step c) commit.Asked old turn.reached.did turn.last new turn.reached.path k)

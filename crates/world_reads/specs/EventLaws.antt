@@ -33,8 +33,8 @@ use Rattle.world_reads.specs.CommitLaws.{commit-sound, idle-sound}
 use Rattle.world_reads.specs.FetchLaws.{fetch-sound}
 use Rattle.world_reads.specs.Given.{Given, IsMessageRight}
 use Rattle.world_reads.specs.History.{History, Served}
-use Rattle.world_reads.specs.Keeping.{ClientsKeepReads, GoOn, HearingKeepsReads, IdlingKeepsReads, OthersKeepReads}
-use Rattle.world_reads.specs.Midway.{Sound, TurnLeaves}
+use Rattle.world_reads.specs.Keeping.{GoOnTold, ClientsKeepReads, GoOn, HearingKeepsReads, IdlingKeepsReads, OthersKeepReads}
+use Rattle.world_reads.specs.Midway.{Sound, TurnLeaves, TurnTold}
 use Rattle.world_reads.specs.Reads.{IsGuarded, Reads}
 use Rattle.world_reads.specs.Versions.{IsWriteAt, Versions, VersionsStand}
 use Rattle.world_turns.specs.Changes.{Kept}
@@ -163,7 +163,7 @@ module _ (r : Rules) (o : Opening) (held : ℕ → List Version) (h : History) (
 
 hears-sound : (r : Rules) (o : Opening) (held : ℕ → List Version) (h : History) (w : World) (t : ℕ) (s : TargetState) (reading : ℕ) (from : ActorId) (m : Message) (new : Kept) (left : TargetMemory × Did)
     → Given r o held h w → Versions r o held h w → Reads r o h w → slice_get w.targets t ≡ Some s → s.life ≡ Running → IsMessageRight r o h w t s m
-    → Hears (target_plan r t) s.opening s.memory reading from m (kept s) new left → TurnLeaves r o (held t) h w s.opening t new left
+    → Hears (target_plan r t) s.opening s.memory reading from m (kept s) new left → TurnTold r o (held t) h w s.opening t new left from m
 hears-sound r o held h w t s reading from (message.Fetch x op group ep first tracker read snapshot) new left given versions reads here runs right turn =
     fetch-sound r o (held t) h w s.opening t s.memory reading (record { attempt = x; op = op; group = group; ep = ep; first = first; tracker = tracker; read = read; snapshot = snapshot }) from
     right.0 (right.1 reading) (kept s) new left turn (turn-begins r o held h w t s here runs versions reads)
@@ -174,10 +174,12 @@ hears-sound r o held h w t s reading from (message.Commit x ep first tracker ws)
 hears-sound r o held h w t s reading from other new left given versions reads here runs right turn = absurd turn
 
 pub hearing-keeps : HearingKeepsReads
-hearing-keeps r o held h w v given versions reads e =
-    goes-on r o held h w e.t e.s e.new (e.memory, e.did) e.rest v e.after given.alone e.here versions reads
-    (hears-sound r o held h w e.t e.s e.reading e.l.from e.l.message e.new (e.memory, e.did) given versions reads e.here e.runs
-    (given.asked e.l e.t e.s (taken-among w.messages e.l e.rest e.takes) e.to_it e.here e.runs) e.turn)
+unfolding goes-on
+hearing-keeps r o held h w v given versions reads e = record { on = goes-on r o held h w e.t e.s e.new (e.memory, e.did) e.rest v e.after given.alone e.here versions reads told.leaves; adds = told.adds }
+  where
+    told : TurnTold r o (held e.t) h w e.s.opening e.t e.new (e.memory, e.did) e.l.from e.l.message
+    told = hears-sound r o held h w e.t e.s e.reading e.l.from e.l.message e.new (e.memory, e.did) given versions reads e.here e.runs
+        (given.asked e.l e.t e.s (taken-among w.messages e.l e.rest e.takes) e.to_it e.here e.runs) e.turn
 
 pub idling-keeps : IdlingKeepsReads
 idling-keeps r o held h w v given versions reads e =

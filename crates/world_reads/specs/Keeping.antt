@@ -6,6 +6,7 @@ use Rattle.daos_model.specs.declared.durable.Version.{Version}
 use Rattle.daos_model.specs.Opening.{Opening}
 use Rattle.world_base.specs.declared.world.World.{World}
 use Rattle.world_events.specs.Events.{ClientGoes, ClientHears, Rules, TargetHears, TargetIdles}
+use Rattle.world_reads.specs.Adds.{Adds}
 use Rattle.world_reads.specs.Given.{Given}
 use Rattle.world_reads.specs.History.{Grew, History}
 use Rattle.world_reads.specs.Reads.{Reads}
@@ -18,10 +19,15 @@ pub record GoOn (r : Rules) (o : Opening) (held : ℕ → List Version) (h : His
   pub versions : Versions r o held later v
   pub reads : Reads r o later v
 
+-- and what is more is what the target told the one whose message it heard
+pub record GoOnTold (r : Rules) (o : Opening) (held : ℕ → List Version) (h : History) (w v : World) (g : TargetHears r w v) : Type 0 where
+  pub on : GoOn r o held h v
+  pub adds : Adds h on.later g.t g.l.from g.l.message g.did.posts
+
 -- a target that hears a message keeps them: it decides an attempt, or serves a read, or neither
 abbrev pub HearingKeepsReads : Type 0
 HearingKeepsReads =
-    (r : Rules) (o : Opening) (held : ℕ → List Version) (h : History) (w v : World) → Given r o held h w → Versions r o held h w → Reads r o h w → TargetHears r w v → GoOn r o held h v
+    (r : Rules) (o : Opening) (held : ℕ → List Version) (h : History) (w v : World) → Given r o held h w → Versions r o held h w → Reads r o h w → (g : TargetHears r w v) → GoOnTold r o held h w v g
 
 -- so does a target that does its idle work
 abbrev pub IdlingKeepsReads : Type 0

@@ -22,6 +22,9 @@ use Rattle.world_base.specs.declared.did.Did.{Did}
 use Rattle.world_base.specs.declared.target.TargetMemory.{TargetMemory}
 use Rattle.world_base.specs.declared.world.World.{World}
 use Rattle.world_events.specs.Events.{Rules, listed}
+use Rattle.daos_messages.specs.declared.actor.ActorId.{ActorId}
+use Rattle.daos_messages.specs.declared.message.Message.{Message}
+use Rattle.world_reads.specs.Adds.{Adds}
 use Rattle.world_reads.specs.History.{Grew, History, Served, transactions}
 use Rattle.world_reads.specs.Reads.{IsAnsweredRight, IsOfAttempt}
 use Rattle.world_reads.specs.Versions.{IsWriteAt, VersionsStand}
@@ -69,3 +72,8 @@ pub record TurnLeaves (r : Rules) (o : Opening) (held : List Version) (h : Histo
   pub sound : Sound r o held later opening t new.durable left.0.decided left.0.stamps
   pub decided : (x : AttemptId) (e : Epoch) → Contains later.decided (x, e) → Contains h.decided (x, e) ⊎ (Contains (w.issued ++ listed left.1.issued) (x, e) × (minor_writes 0 (attempt_ops r.script x) ≢ []))
   pub served : (q : Served) → Contains later.served q → Contains h.served q ⊎ Contains (w.issued ++ listed left.1.issued) (q.by, q.epoch)
+
+-- and what it adds is what it tells the one who asked
+pub record TurnTold (r : Rules) (o : Opening) (held : List Version) (h : History) (w : World) (opening : Epoch × FloorWhy) (t : ℕ) (new : Kept) (left : TargetMemory × Did) (from : ActorId) (asked : Message) : Type 0 where
+  pub leaves : TurnLeaves r o held h w opening t new left
+  pub adds : Adds h leaves.later t from asked left.1.posts
