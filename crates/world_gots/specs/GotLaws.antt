@@ -1,6 +1,6 @@
 -- Each move of a client that goes on keeps that it was told what was served.
-use Rattle.std.specs.Prelude.{ℕ, ◌≡◌, ◌<◌, ◌+◌, ◌++◌, Bool, true, false, ◌&&◌, nat_lt, List, [], ◌∷◌, slice_get, is_some, All, Option, Some, None, refl, if◌then◌else◌}
-use Rattle.std.proofs.Common.{sym, ◌∙◌, ap, subst, arith}
+use Rattle.std.specs.Prelude.{ℕ, ◌≡◌, ◌+◌, Bool, true, false, ◌&&◌, nat_lt, List, [], ◌∷◌, slice_get, is_some, All, Option, Some, None, refl, if◌then◌else◌}
+use Rattle.std.proofs.Common.{sym, ◌∙◌, ap, subst}
 use Rattle.std.proofs.lemmas.List.Elements.{All-cons, All-nil}
 use Rattle.daos_base.specs.declared.epoch.Epoch.{Epoch}
 use Rattle.daos_base.specs.declared.id.AttemptId.{AttemptId}
@@ -20,7 +20,7 @@ use Rattle.world_base.specs.declared.client.ClientState.{ClientState}
 use Rattle.world_base.specs.declared.client.Present.{Present}
 use Rattle.world_base.specs.declared.client.Stage.{Stage}
 use Rattle.world_base.specs.declared.client.Stage.TheVariants as stage
-use Rattle.world_base.specs.ClientTurns.{Move, after_end, asks_or_goes, at_present, attempt_id, attempt_moves, begins_at, begun, command_at, command_moves, commits, ends, first_epoch, goes, listed, moved, moves_at, next_command, next_place, next_stage, op_moves, question, rests, run_moves, waits}
+use Rattle.world_base.specs.ClientTurns.{Move, after_end, asks_or_goes, at_present, attempt_id, attempt_moves, begins_at, begun, command_at, command_moves, commits, ends, first_epoch, listed, moved, moves_at, next_command, next_place, next_stage, op_moves, question, rests, run_moves, waits}
 use Rattle.world_clients.specs.Answered.{ops_here, ops_numbered}
 use Rattle.world_clients.specs.AnswerLaws.{ops-here}
 use Rattle.world_clients.specs.MoveLaws.{is-at, tells-end, told_end}

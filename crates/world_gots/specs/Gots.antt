@@ -1,5 +1,5 @@
 -- Every answer that a client was told, and every condition, is the join, over the groups in order, of reads that targets served.
-use Rattle.std.specs.Prelude.{ℕ, ◌≡◌, ◌<◌, ◌+◌, max, Bool, true, List, [], slice_get, All, Contains, Option, Some, None}
+use Rattle.std.specs.Prelude.{ℕ, ◌≡◌, ◌<◌, ◌+◌, max, Bool, true, List, slice_get, All, Contains, Option, Some, None}
 use Rattle.daos_base.specs.declared.answer.Answer.{Answer}
 use Rattle.daos_base.specs.declared.epoch.Epoch.{Epoch}
 use Rattle.daos_base.specs.declared.id.AttemptId.{AttemptId}

@@ -1,5 +1,5 @@
 -- A client that hears the answer of a served read was told what was served.
-use Rattle.std.specs.Prelude.{ℕ, ◌≡◌, ◌<◌, ◌≤◌, ◌+◌, ◌++◌, max, Bool, true, false, nat_lt, List, [], ◌∷◌, slice_get, All, Option, Some, None, refl, if◌then◌else◌}
+use Rattle.std.specs.Prelude.{ℕ, ◌≡◌, ◌<◌, ◌≤◌, ◌+◌, ◌++◌, max, Bool, true, false, nat_lt, List, [], ◌∷◌, slice_get, All, Option, Some, refl, if◌then◌else◌}
 use Rattle.std.proofs.Common.{sym, ◌∙◌, ap, subst, arith}
 use Rattle.std.proofs.lemmas.Bool.Decides.{nat_tests}
 use Rattle.std.proofs.lemmas.List.Elements.{All-append, All-cons, All-nil}
@@ -15,22 +15,20 @@ use Rattle.daos_base.specs.declared.operation.Read.{Read}
 use Rattle.daos_base.specs.declared.operation.Read.TheVariants.{Exists}
 use Rattle.daos_base.specs.declared.outcome.Outcome.{Outcome}
 use Rattle.daos_base.specs.declared.outcome.Outcome.TheVariants as outcome
-use Rattle.daos_base.specs.declared.path.Path.{Path}
 use Rattle.daos_base.specs.declared.script.Command.{Command}
 use Rattle.daos_base.specs.Operations.{act_path, read_path}
-use Rattle.daos_messages.specs.declared.message.Reply.{Reply}
 use Rattle.daos_messages.specs.declared.message.Reply.TheVariants as reply
 use Rattle.daos_model.specs.Accesses.{is_condition, op_path}
 use Rattle.daos_model.specs.Conditions.{holds_where}
-use Rattle.daos_model.specs.Transactions.{ops_of, read_at, read_of, read_of_op}
+use Rattle.daos_model.specs.Transactions.{ops_of, read_of, read_of_op}
 use Rattle.world_base.specs.declared.client.ClientPlan.{ClientPlan}
 use Rattle.world_base.specs.declared.client.ClientState.{ClientState}
 use Rattle.world_base.specs.declared.client.Present.{Present}
 use Rattle.world_base.specs.declared.client.Stage.{Stage}
 use Rattle.world_base.specs.declared.client.Stage.TheVariants as stage
 use Rattle.world_base.specs.ClientTurns.{act_read, at_present, attempt_id, command_at, condition_read, condition_told, ended, ends, goes, group_count, group_told, is_yes, joined, next_op, next_stage, op_of, op_told, question, read_told, replied, snaps_known, told_at}
-use Rattle.world_gots.specs.Gots.{AreJoined, AreServed, Found, IsFound, IsGot, IsJoined, IsServedSoFar, IsServedTo, IsTold, Nothing, NoneYet, OneMore, group_at, groups_asked}
-use Rattle.world_gots.specs.GotLaws.{Here, IsAtCommand, KeepsGots, ends-gots, stays}
+use Rattle.world_gots.specs.Gots.{AreJoined, AreServed, Found, IsFound, IsGot, IsJoined, IsServedTo, IsTold, Nothing, NoneYet, OneMore, group_at, groups_asked}
+use Rattle.world_gots.specs.GotLaws.{Here, KeepsGots, ends-gots, stays}
 use Rattle.world_reads.specs.History.{History}
 
 -- ---- questions

@@ -18,7 +18,6 @@ use Rattle.daos_model.specs.Answers.{answer}
 use Rattle.daos_model.specs.Attempts.{snapshot_of}
 use Rattle.daos_model.specs.Opening.{Opening}
 use Rattle.daos_model.specs.ReadsLegal.{AttemptReadsLegal, IsToldRight, is_named}
-use Rattle.daos_model.specs.Transactions.{attempt_ops}
 use Rattle.world_events.specs.Events.{Rules}
 use Rattle.world_gots.specs.Gots.{AreServed, IsJoined, IsLineServed}
 use Rattle.world_reads.specs.History.{History, Served, transactions}

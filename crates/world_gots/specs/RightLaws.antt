@@ -1,10 +1,8 @@
 -- What clients were told is right, where what targets served was answered right.
-use Rattle.std.specs.Prelude.{ℕ, zero, suc, ◌≡◌, ◌<◌, ◌+◌, ◌++◌, max, Bool, true, false, List, [], ◌∷◌, length, map, filter, slice_get, All, Contains, Option, Some, None, refl}
+use Rattle.std.specs.Prelude.{ℕ, zero, suc, ◌≡◌, ◌<◌, ◌+◌, ◌++◌, max, List, [], ◌∷◌, map, Option, Some, None, refl}
 use Rattle.std.specs.List.{range_with_len}
 use Rattle.std.proofs.Common.{sym, ◌∙◌, ap, subst, arith}
-use Rattle.std.proofs.lemmas.List.Elements.{All-head, All-nil, All-tail}
 use Rattle.daos_base.specs.declared.answer.Answer.{Answer}
-use Rattle.daos_base.specs.declared.answer.Answer.TheVariants as answers
 use Rattle.daos_base.specs.declared.epoch.Epoch.{Epoch}
 use Rattle.daos_base.specs.declared.id.AttemptId.{AttemptId}
 use Rattle.daos_base.specs.declared.id.Class.{Class}
@@ -14,7 +12,7 @@ use Rattle.daos_base.specs.declared.operation.Read.TheVariants as read
 use Rattle.daos_base.specs.Operations.{read_path}
 use Rattle.daos_base.specs.Placement.{ClassFits, group_of, groups}
 use Rattle.daos_base.specs.PlacementLaws.{groups-positive}
-use Rattle.daos_laws.specs.Groups.{HasDkeys, IsPartUnder, group_part, join_all, join_more, join_two}
+use Rattle.daos_laws.specs.Groups.{IsPartUnder, group_part, join_all, join_more, join_two}
 use Rattle.daos_laws.specs.JoinLaws.{dkey-one_group, dkeys-joined, exists-joined, group_part-is}
 use Rattle.daos_laws.specs.ReadLaws.{answer-same}
 use Rattle.daos_model.specs.declared.cell.CellValue.{CellValue}
@@ -23,7 +21,7 @@ use Rattle.daos_model.specs.Opening.{Opening}
 use Rattle.world_base.specs.ClientTurns.{group_asked, group_count, joined}
 use Rattle.world_events.specs.Events.{Rules}
 use Rattle.world_gots.specs.Gots.{AreJoined, IsJoined, IsServedTo, NoneYet, OneMore, group_at, groups_asked}
-use Rattle.world_gots.specs.Right.{AreAnsweredRight, IsAskable, IsJoinable, JoinsAreRight}
+use Rattle.world_gots.specs.Right.{AreAnsweredRight, IsJoinable, JoinsAreRight}
 use Rattle.world_reads.specs.History.{History}
 use Rattle.world_reads.specs.Reads.{IsAnsweredRight, map_then}
 

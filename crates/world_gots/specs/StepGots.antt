@@ -1,5 +1,5 @@
 -- Every turn of a client keeps that clients were told what was served.
-use Rattle.std.specs.Prelude.{ℕ, ◌≡◌, ◌<◌, ◌++◌, Bool, true, false, List, [], ◌∷◌, map, slice_get, All, Contains, Option, Some, None, refl}
+use Rattle.std.specs.Prelude.{ℕ, ◌≡◌, ◌<◌, ◌++◌, Bool, true, false, List, map, slice_get, All, Contains, Option, Some, None, refl}
 use Rattle.std.proofs.Common.{◌⊎◌, append-nil, sym, ◌∙◌, ap, subst, inl, inr}
 use Rattle.std.proofs.Math.ListN.{set}
 use Rattle.std.proofs.lemmas.Bool.{cases_eq, true≢false}
@@ -7,7 +7,6 @@ use Rattle.std.proofs.lemmas.List.Elements.{All-append, Contains-push_cases}
 use Rattle.daos_base.specs.declared.answer.Answer.{Answer}
 use Rattle.daos_base.specs.declared.epoch.Epoch.{Epoch}
 use Rattle.daos_base.specs.declared.id.AttemptId.{AttemptId}
-use Rattle.daos_base.specs.declared.outcome.Outcome.{Outcome}
 use Rattle.daos_base.specs.declared.report.Attempt.{Attempt}
 use Rattle.daos_base.specs.declared.report.Line.{Line}
 use Rattle.daos_base.specs.declared.script.Command.{Command}
@@ -18,35 +17,32 @@ use Rattle.daos_messages.specs.declared.message.Reply.{Reply}
 use Rattle.daos_messages.specs.declared.message.Reply.TheVariants as reply
 use Rattle.daos_model.specs.Attempts.{tries}
 use Rattle.daos_model.specs.Laws.{tries-append}
-use Rattle.daos_model.specs.Transactions.{attempt_ops, command_of, numbered, ops_of, ops_or_none}
+use Rattle.daos_model.specs.Transactions.{attempt_ops, command_of}
 use Rattle.world_base.specs.declared.client.ClientPlan.{ClientPlan}
 use Rattle.world_base.specs.declared.client.ClientState.{ClientState}
 use Rattle.world_base.specs.declared.client.Present.{Present}
 use Rattle.world_base.specs.declared.letter.Letter.{Letter}
 use Rattle.world_base.specs.declared.world.World.{World}
-use Rattle.world_base.specs.ClientTurns.{Move, attempt_id, goes, heard, hears_epochs, knows, knows_epoch, listed, moved, rests, waits}
+use Rattle.world_base.specs.ClientTurns.{Move, attempt_id, listed, moved, waits}
 use Rattle.world_clients.specs.Answered.{ops_here, ops_numbered}
-use Rattle.world_clients.specs.MoveLaws.{heard-keeps, moved-keeps}
-use Rattle.world_clients.specs.Standing.{HasTold, tells}
+use Rattle.world_clients.specs.MoveLaws.{moved-keeps}
+use Rattle.world_clients.specs.Standing.{HasTold}
 use Rattle.world_events.specs.Events.{Rules, client_plan, with_epoch}
-use Rattle.world_events.specs.Letters.{Takes, client, is_tell, letter_of, letters_of, talk_of}
+use Rattle.world_events.specs.Letters.{client, is_tell, letter_of, letters_of}
 use Rattle.world_events.specs.StepLaws.{set-here, set-there}
-use Rattle.world_events.specs.Steps.{KeptByCounting, KeptByHearing, KeptByMoves, after_client, after_move, without}
-use Rattle.world_gots.specs.Gots.{AreServed, Gots, IsLineServed, IsServedAnswer, IsServedSoFar, IsServedTo, group_at}
-use Rattle.world_gots.specs.GotLaws.{Here, IsServedHere, IsToldServed, KeepsGots, at-command, moved-gots, silent-gots}
-use Rattle.world_gots.specs.HearGots.{answer-gots, ended-gots, outcome-gots}
-use Rattle.world_gots.specs.MoreLaws.{all-mapped, all-more, knows-more, served-more, stays-issued}
+use Rattle.world_events.specs.Steps.{KeptByMoves, after_move}
+use Rattle.world_gots.specs.Gots.{AreServed, Gots, IsLineServed, IsServedAnswer, IsServedSoFar}
+use Rattle.world_gots.specs.GotLaws.{IsServedHere, IsToldServed, KeepsGots, moved-gots}
+use Rattle.world_gots.specs.MoreLaws.{all-mapped, served-more, stays-issued}
 use Rattle.world_gots.specs.Remembering.{Standing, ToldServed}
 use Rattle.world_lines.specs.FilledLaws.{tries-filled}
 use Rattle.world_lines.specs.Lines.{filled}
 use Rattle.world_reads.specs.History.{History}
 use Rattle.world_talks.specs.AskLaws.{move-is, waiting-rests}
 use Rattle.world_talks.specs.Asked.{ARead, ASnapshot, AnAggregation, Asked, Asking, IsMove, ItsWrites, Silent, Telling}
-use Rattle.world_talks.specs.Conversation.{Conversation}
-use Rattle.world_talks.specs.ConversationLaws.{count-keeps, hear-keeps, move-keeps}
-use Rattle.world_talks.specs.Hearing.{ATracker, AReply, AnEnd, IsHearing, hearing-is}
-use Rattle.world_talks.specs.InFlight.{GetsAnswer, none-in-flight}
-use Rattle.world_talks.specs.TalkLaws.{got-is-talk, left-is-among, none-among}
+use Rattle.world_talks.specs.ConversationLaws.{move-keeps}
+use Rattle.world_talks.specs.InFlight.{none-in-flight}
+use Rattle.world_talks.specs.TalkLaws.{got-is-talk, none-among}
 
 -- ---- which letters answer reads
 

@@ -1,5 +1,5 @@
 -- What a target answers is of what the client that waits for it asks, at the epoch that its attempt then has.
-use Rattle.std.specs.Prelude.{ℕ, ◌≡◌, ◌<◌, ◌++◌, List, [], ◌∷◌, map, slice_get, All, Contains, Option, Some, None, refl}
+use Rattle.std.specs.Prelude.{ℕ, ◌≡◌, ◌++◌, List, [], ◌∷◌, map, slice_get, All, Contains, Option, Some, None, refl}
 use Rattle.std.proofs.Common.{◌⊎◌, append-nil, sym, ◌∙◌, ap, subst, inl, inr, arith}
 use Rattle.std.proofs.lemmas.List.Elements.{All-nil, Contains-push_cases}
 use Rattle.daos_base.specs.declared.answer.Answer.{Answer}
@@ -8,7 +8,6 @@ use Rattle.daos_base.specs.declared.id.AttemptId.{AttemptId}
 use Rattle.daos_base.specs.declared.outcome.Cause.TheVariants as cause
 use Rattle.daos_base.specs.declared.outcome.FloorWhy.{FloorWhy}
 use Rattle.daos_base.specs.declared.outcome.Outcome.TheVariants as outcome
-use Rattle.daos_base.specs.declared.report.Attempt.{Attempt}
 use Rattle.daos_messages.specs.declared.actor.ActorId.{ActorId}
 use Rattle.daos_messages.specs.declared.message.Message.{Message}
 use Rattle.daos_messages.specs.declared.message.Message.TheVariants as message
@@ -28,17 +27,16 @@ use Rattle.world_base.specs.declared.target.TargetMemory.{TargetMemory}
 use Rattle.world_base.specs.declared.target.TargetPlan.{TargetPlan}
 use Rattle.world_base.specs.declared.world.World.{World}
 use Rattle.world_base.specs.ClientTurns.{attempt_id, knows_epoch}
-use Rattle.world_clients.specs.Standing.{HasTold}
 use Rattle.world_events.specs.Events.{ByClient, ByTarget, Rules, TargetHears, TargetIdles, ToClient, ToTarget, client_plan, kept, target_plan, with_epoch}
-use Rattle.world_events.specs.Letters.{Takes, client, letters_of, target}
-use Rattle.world_gots.specs.Gots.{AreServed, Gots, IsLineServed, IsServedAnswer, IsServedSoFar}
+use Rattle.world_events.specs.Letters.{client, letters_of, target}
+use Rattle.world_gots.specs.Gots.{Gots, IsLineServed, IsServedAnswer}
 use Rattle.world_gots.specs.MoreLaws.{all-more, remembered-more, served-more, stays-remembered}
 use Rattle.world_gots.specs.Remembering.{HasServed, NothingIsTold, Remembers, ServedIsTold, Standing, ToldServed}
 use Rattle.world_gots.specs.TurnGots.{client-goes-told, client-hears-told}
 use Rattle.world_reads.specs.History.{History}
 use Rattle.world_talks.specs.AnswerLaws.{IsAnsweredBy, answers-are-posted, hears-heard, idle-posts-nothing}
 use Rattle.world_talks.specs.AskLaws.{asked-read}
-use Rattle.world_talks.specs.Asked.{AsksRead, commit_of, fetch_of}
+use Rattle.world_talks.specs.Asked.{AsksRead, fetch_of}
 use Rattle.world_talks.specs.Conversation.{Answers}
 use Rattle.world_talks.specs.ConversationLaws.{conversations-kept}
 use Rattle.world_talks.specs.InFlight.{HearsRequest, hears-request}

@@ -5,30 +5,24 @@ use Rattle.std.proofs.lemmas.List.Elements.{All-head}
 use Rattle.daos_base.specs.declared.answer.Answer.{Answer}
 use Rattle.daos_base.specs.declared.epoch.Epoch.{Epoch}
 use Rattle.daos_base.specs.declared.id.AttemptId.{AttemptId}
-use Rattle.daos_base.specs.declared.operation.Op.{Op}
 use Rattle.daos_base.specs.declared.operation.Read.{Read}
 use Rattle.daos_base.specs.declared.operation.Read.TheVariants as read
-use Rattle.daos_base.specs.declared.report.Attempt.{Attempt}
 use Rattle.daos_base.specs.declared.script.Script.{Script}
 use Rattle.daos_base.specs.Placement.{ClassFits}
-use Rattle.daos_base.specs.Scripts.{IsOpInForm}
 use Rattle.daos_laws.specs.Decided.{taken_in}
-use Rattle.daos_laws.specs.Groups.{HasDkeys}
 use Rattle.daos_model.specs.declared.stand.Stand.{Stand}
 use Rattle.daos_model.specs.declared.stand.Taken.{Taken}
 use Rattle.daos_model.specs.Accesses.{op_path}
 use Rattle.daos_model.specs.Answers.{has_cell_below, yes_or_no}
 use Rattle.daos_model.specs.AsOf.{as_of}
 use Rattle.daos_model.specs.Attempts.{snapshot_of}
-use Rattle.daos_model.specs.Opening.{Opening}
 use Rattle.daos_model.specs.ReadsLegal.{IsRightAnswer, IsRightCondition, IsToldRight, map_at, map_read, old_map}
 use Rattle.daos_model.specs.Transactions.{attempt_ops}
 use Rattle.world_base.specs.ClientTurns.{is_yes}
-use Rattle.world_events.specs.Events.{Rules}
 use Rattle.world_gots.specs.FormLaws.{condition-askable, ops-form, read-askable}
-use Rattle.world_gots.specs.Gots.{AreJoined, AreServed, IsGot, IsLineServed, IsTold, NoneYet, OneMore}
+use Rattle.world_gots.specs.Gots.{AreJoined, AreServed, IsGot, IsTold, NoneYet, OneMore}
 use Rattle.world_gots.specs.MoreLaws.{all-more, unknown-unserved}
-use Rattle.world_gots.specs.Right.{AreAnsweredRight, IsOfThisRun, LinesAreRight, NothingIsToldBefore, ToldIsRight}
+use Rattle.world_gots.specs.Right.{IsOfThisRun, LinesAreRight, NothingIsToldBefore, ToldIsRight}
 use Rattle.world_gots.specs.RightLaws.{joins-right}
 use Rattle.world_reads.specs.History.{History, transactions}
 use Rattle.world_reads.specs.Reads.{map_then}

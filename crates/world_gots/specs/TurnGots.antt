@@ -3,8 +3,6 @@ use Rattle.std.specs.Prelude.{ℕ, ◌≡◌, ◌<◌, ◌++◌, List, [], slice
 use Rattle.std.proofs.Common.{append-nil, sym, ◌∙◌, ap, subst}
 use Rattle.daos_base.specs.declared.answer.Answer.{Answer}
 use Rattle.daos_base.specs.declared.epoch.Epoch.{Epoch}
-use Rattle.daos_base.specs.declared.id.AttemptId.{AttemptId}
-use Rattle.daos_base.specs.declared.outcome.Outcome.{Outcome}
 use Rattle.daos_base.specs.declared.report.Attempt.{Attempt}
 use Rattle.daos_base.specs.declared.script.Command.{Command}
 use Rattle.daos_messages.specs.declared.message.Message.TheVariants as message
@@ -16,21 +14,20 @@ use Rattle.world_base.specs.declared.client.ClientState.{ClientState}
 use Rattle.world_base.specs.declared.client.Present.{Present}
 use Rattle.world_base.specs.declared.letter.Letter.{Letter}
 use Rattle.world_base.specs.declared.world.World.{World}
-use Rattle.world_base.specs.ClientTurns.{Move, about, answered, attempt_id, goes, heard, hears_epochs, knows, listed, replied, rests}
+use Rattle.world_base.specs.ClientTurns.{Move, about, attempt_id, goes, heard, hears_epochs, knows, listed, replied, rests}
 use Rattle.world_clients.specs.MoveLaws.{heard-keeps}
-use Rattle.world_clients.specs.Standing.{HasTold, tells}
+use Rattle.world_clients.specs.Standing.{HasTold}
 use Rattle.world_events.specs.Events.{ClientGoes, ClientHears, Rules, client_plan, with_client}
 use Rattle.world_events.specs.Letters.{Takes, client, is_tell, letters_of, talk_of}
 use Rattle.world_events.specs.StepLaws.{by-hearing, by-next}
 use Rattle.world_events.specs.Steps.{KeptByCounting, KeptByHearing, after_move, without}
-use Rattle.world_gots.specs.Gots.{Gots, IsServedAnswer, IsServedSoFar}
+use Rattle.world_gots.specs.Gots.{Gots, IsServedAnswer}
 use Rattle.world_gots.specs.GotLaws.{Here, IsServedHere, KeepsGots, at-command, silent-gots}
 use Rattle.world_gots.specs.HearGots.{answer-gots, ended-gots, outcome-gots}
 use Rattle.world_gots.specs.MoreLaws.{knows-more}
 use Rattle.world_gots.specs.Remembering.{ToldServed}
 use Rattle.world_gots.specs.StepGots.{AreFlying, KeepsAnswers, gots-move, here-of, is_fetched, sends-none, standing-turned, turned}
 use Rattle.world_reads.specs.History.{History}
-use Rattle.world_talks.specs.Conversation.{Conversation}
 use Rattle.world_talks.specs.ConversationLaws.{count-keeps, hear-keeps}
 use Rattle.world_talks.specs.HearLaws.{answer-is, hears-answer}
 use Rattle.world_talks.specs.Hearing.{ATracker, AReply, AnEnd, IsHearing, hearing-is}
