@@ -56,7 +56,13 @@ IsRemembered r w v h (ByTarget g) = Unit {0}
 abbrev pub ServedIsTold : Type 0
 ServedIsTold = (r : Rules) (h k : History) (w v : World) → 0 < r.attempts → Remembers h k → ToldServed r h w → (e : Event r w v) → IsRemembered r w v k e → ToldServed r k v
 
--- it holds where nothing is in flight, no attempt has begun, and there are no lines
+-- a client is at none of its commands yet
+pub record HasNotBegun (c : ClientState) : Type 0 where
+  pub place : c.place ≡ 0
+  pub command : c.command ≡ 0
+  pub present : c.present ≡ None
+
+-- it holds where nothing is in flight, no client has begun, and there are no lines
 abbrev pub NothingIsTold : Type 0
 NothingIsTold =
-    (r : Rules) (h : History) (w : World) → w.messages ≡ [] → w.lines ≡ [] → ((n : ℕ) (c : ClientState) → slice_get w.clients n ≡ Some c → c.present ≡ None) → Gots r h w
+    (r : Rules) (h : History) (w : World) → w.messages ≡ [] → w.lines ≡ [] → ((n : ℕ) (c : ClientState) → slice_get w.clients n ≡ Some c → HasNotBegun c) → ToldServed r h w

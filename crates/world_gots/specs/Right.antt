@@ -8,6 +8,7 @@ use Rattle.daos_base.specs.declared.operation.Op.{Op}
 use Rattle.daos_base.specs.declared.operation.Read.{Read}
 use Rattle.daos_base.specs.declared.operation.Read.TheVariants as read
 use Rattle.daos_base.specs.declared.report.Attempt.{Attempt}
+use Rattle.daos_base.specs.declared.report.Report.{Report}
 use Rattle.daos_base.specs.declared.script.Script.{Script}
 use Rattle.daos_base.specs.Operations.{read_path}
 use Rattle.daos_base.specs.Placement.{ClassFits}
@@ -17,9 +18,10 @@ use Rattle.daos_laws.specs.Groups.{HasDkeys}
 use Rattle.daos_model.specs.Answers.{answer}
 use Rattle.daos_model.specs.Attempts.{snapshot_of}
 use Rattle.daos_model.specs.Opening.{Opening}
-use Rattle.daos_model.specs.ReadsLegal.{AttemptReadsLegal, IsToldRight, is_named}
+use Rattle.daos_model.specs.ReadsLegal.{AttemptReadsLegal, IsToldRight, ReadsLegal, is_named}
+use Rattle.world_base.specs.declared.world.World.{World}
 use Rattle.world_events.specs.Events.{Rules}
-use Rattle.world_gots.specs.Gots.{AreServed, IsJoined, IsLineServed}
+use Rattle.world_gots.specs.Gots.{AreServed, Gots, IsJoined, IsLineServed}
 use Rattle.world_reads.specs.History.{History, Served, transactions}
 use Rattle.world_reads.specs.Reads.{IsAnsweredRight, map_then}
 
@@ -71,3 +73,9 @@ abbrev pub LinesAreRight : Type 0
 LinesAreRight =
     (r : Rules) (o : Opening) (h : History) (targets : ℕ) (a : Attempt) → IsInForm targets r.script → AreAnsweredRight r o h → ((e : Epoch) → HasDkeys (map_then r o h e))
     → IsOfThisRun r.script (snapshot_of r.script a.id) → IsLineServed r h a → AttemptReadsLegal r.script o.stand (taken_in (transactions r.script h)) a
+
+-- And so does a whole report, where no attempt is at a snapshot of an earlier run.
+abbrev pub ReportsAreRight : Type 0
+ReportsAreRight =
+    (r : Rules) (o : Opening) (h : History) (w : World) (targets : ℕ) (q : Report) → IsInForm targets r.script → AreAnsweredRight r o h → ((e : Epoch) → HasDkeys (map_then r o h e))
+    → ((x : AttemptId) → IsOfThisRun r.script (snapshot_of r.script x)) → Gots r h w → q.lines ≡ w.lines → ReadsLegal r.script o.stand (taken_in (transactions r.script h)) q

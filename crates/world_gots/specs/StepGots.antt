@@ -44,15 +44,15 @@ use Rattle.world_talks.specs.ConversationLaws.{move-keeps}
 use Rattle.world_talks.specs.InFlight.{none-in-flight}
 use Rattle.world_talks.specs.TalkLaws.{got-is-talk, none-among}
 
--- ---- which letters answer reads
+-- ---- which letters reply to reads
 
 abbrev pub is_fetched : Message → Bool
 is_fetched (message.Fetched x op group own b) = true
 is_fetched m = false
 
--- an answer to a read tells no tracker
-fetched-no-tell : (m : Message) (x : AttemptId) (op group : ℕ) (own : Option Epoch) (b : Reply) → m ≡ message.Fetched x op group own b → is_fetched m ≡ true
-fetched-no-tell m x op group own b e = ap is_fetched e
+-- a reply to a read is one of these
+fetched-is-one : (m : Message) (x : AttemptId) (op group : ℕ) (own : Option Epoch) (b : Reply) → m ≡ message.Fetched x op group own b → is_fetched m ≡ true
+fetched-is-one m x op group own b e = ap is_fetched e
 
 asked-no-answer : (p : ClientPlan) (k : Epoch) (c : ClientState) (a : Present) (q : Post) → Asked p k c a q → is_fetched q.message ≡ false
 asked-no-answer p k c a q (ARead ops turns snapshot op r at is asked says) = ap (λ z. is_fetched z.message) says
@@ -60,7 +60,7 @@ asked-no-answer p k c a q (ItsWrites ops turns snapshot w ws at last all says) =
 asked-no-answer p k c a q (ASnapshot name cont at says) = ap (λ z. is_fetched z.message) says
 asked-no-answer p k c a q (AnAggregation cont at says) = ap (λ z. is_fetched z.message) says
 
--- the answers in flight were in flight before a client sent something
+-- the replies to reads among these letters were in flight before
 abbrev pub KeepsAnswers : List Letter → List Letter → Type 0
 KeepsAnswers letters more = (l : Letter) → Contains more l → is_fetched l.message ≡ true → Contains letters l
 
@@ -79,7 +79,7 @@ move-sends p c m letters n (Silent goes' none) = sends-none letters n m.post non
 move-sends p c m letters n (Telling k none goes' says) = sends-one letters n m.post _ says refl
 move-sends p c m letters n (Asking a q here asked says after) = sends-one letters n m.post q says (asked-no-answer p c.tracker c a q asked)
 
--- a client sends no answer to a read
+-- a client sends no reply to a read
 moved-sends : (p : ClientPlan) (c : ClientState) (letters : List Letter) (n : ℕ) → KeepsAnswers letters (letters ++ letters_of (client n) (listed (moved p c).post))
 moved-sends p c letters n = by (waits c) refl
   where
@@ -135,7 +135,7 @@ AreFlying h p n c letters =
     (a : Present) (l : Letter) (x : AttemptId) (op group : ℕ) (own : Option Epoch) (b : Answer) → c.present ≡ Some a → Contains letters l → l.to ≡ client n
     → l.message ≡ message.Fetched x op group own (reply.Answer b) → IsServedAnswer p h c a own b
 
--- where one client makes such a move, and no answer is sent, what clients were told was served
+-- where one client makes a move that keeps this, and no reply to a read is sent, what all were told was served
 pub turned : (r : Rules) (h : History) (w v : World) (n : ℕ) (c : ClientState) (m : Move) → Gots r h w → slice_get w.clients n ≡ Some c → v.clients ≡ set w.clients n m.state
     → v.lines ≡ w.lines ++ map (with_epoch w.issued) (listed m.line) → KeepsAnswers w.messages v.messages → KeepsGots h (client_plan r n) m → AreFlying h (client_plan r n) n m.state v.messages → Gots r h v
 turned r h w v n c m k here clients lines sent own to_it = record {
@@ -167,7 +167,7 @@ turned r h w v n c m k here clients lines sent own to_it = record {
         subst (λ i. IsServedAnswer (client_plan r i) h e a epoch b) (sym same)
         (subst (λ s. IsServedAnswer (client_plan r n) h s a epoch b) it (to_it a l x op group epoch b (ap (λ s. s.present) it ∙ present) in' (to ∙ ap client same) message))
     flies j e a l x op group epoch b at present in' to message (inr apart) =
-        k.flying j e a l x op group epoch b (sym (other_state j apart) ∙ at) present (sent l in' (fetched-no-tell l.message x op group epoch (reply.Answer b) message)) to message
+        k.flying j e a l x op group epoch b (sym (other_state j apart) ∙ at) present (sent l in' (fetched-is-one l.message x op group epoch (reply.Answer b) message)) to message
 
 pub here-of : (r : Rules) (h : History) (w : World) (n : ℕ) (c : ClientState) → Gots r h w → slice_get w.clients n ≡ Some c → IsServedHere h (client_plan r n) c c.present
 here-of r h w n c k here = by c.present refl

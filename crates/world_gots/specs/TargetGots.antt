@@ -26,7 +26,8 @@ use Rattle.world_base.specs.declared.request.FetchRequest.{FetchRequest}
 use Rattle.world_base.specs.declared.target.TargetMemory.{TargetMemory}
 use Rattle.world_base.specs.declared.target.TargetPlan.{TargetPlan}
 use Rattle.world_base.specs.declared.world.World.{World}
-use Rattle.world_base.specs.ClientTurns.{attempt_id, knows_epoch}
+use Rattle.world_base.specs.ClientTurns.{attempt_id, is_waiting, knows_epoch}
+use Rattle.world_clients.specs.MoveLaws.{clients-begin}
 use Rattle.world_events.specs.Events.{ByClient, ByTarget, Rules, TargetHears, TargetIdles, ToClient, ToTarget, client_plan, kept, target_plan, with_epoch}
 use Rattle.world_events.specs.Letters.{client, letters_of, target}
 use Rattle.world_gots.specs.Gots.{Gots, IsLineServed, IsServedAnswer}
@@ -38,7 +39,7 @@ use Rattle.world_talks.specs.AnswerLaws.{IsAnsweredBy, answers-are-posted, hears
 use Rattle.world_talks.specs.AskLaws.{asked-read}
 use Rattle.world_talks.specs.Asked.{AsksRead, fetch_of}
 use Rattle.world_talks.specs.Conversation.{Answers}
-use Rattle.world_talks.specs.ConversationLaws.{conversations-kept}
+use Rattle.world_talks.specs.ConversationLaws.{conversations-begin, conversations-kept}
 use Rattle.world_talks.specs.InFlight.{HearsRequest, hears-request}
 use Rattle.world_talks.specs.TalkLaws.{left-is-among}
 use Rattle.world_turns.specs.Changes.{Change, Kept}
@@ -290,7 +291,11 @@ served-is-told r h k w v some more t (ByTarget g) has = target-idles-told r h k 
 pub nothing-is-told : NothingIsTold
 unfolding tries
 nothing-is-told r h w none no_lines free = record {
-  present = λ n c a at here. let no : ⊥ = cc (free n c at, here) in absurd no;
-  lines = subst (λ ls. All (IsLineServed r h) (tries ls)) (sym no_lines) (All-nil (IsLineServed r h));
-  flying = λ n c a l x op group own b at here in' to it. let no : ⊥ = cc (free n c at, here) in absurd no;
+  conversation = conversations-begin r w none (λ n c at. ap is_waiting (free n c at).present);
+  standing = λ n c at. let f = free n c at in ([], clients-begin (client_plan r n) c f.place f.command f.present);
+  gots = record {
+    present = λ n c a at here. let no : ⊥ = cc ((free n c at).present, here) in absurd no;
+    lines = subst (λ ls. All (IsLineServed r h) (tries ls)) (sym no_lines) (All-nil (IsLineServed r h));
+    flying = λ n c a l x op group own b at here in' to it. let no : ⊥ = cc ((free n c at).present, here) in absurd no;
+  };
 }

@@ -15,14 +15,14 @@ use Rattle.daos_model.specs.declared.stand.Taken.{Taken}
 use Rattle.daos_model.specs.Accesses.{op_path}
 use Rattle.daos_model.specs.Answers.{has_cell_below, yes_or_no}
 use Rattle.daos_model.specs.AsOf.{as_of}
-use Rattle.daos_model.specs.Attempts.{snapshot_of}
-use Rattle.daos_model.specs.ReadsLegal.{IsRightAnswer, IsRightCondition, IsToldRight, map_at, map_read, old_map}
+use Rattle.daos_model.specs.Attempts.{snapshot_of, tries}
+use Rattle.daos_model.specs.ReadsLegal.{AttemptReadsLegal, IsRightAnswer, IsRightCondition, IsToldRight, map_at, map_read, old_map}
 use Rattle.daos_model.specs.Transactions.{attempt_ops}
 use Rattle.world_base.specs.ClientTurns.{is_yes}
 use Rattle.world_gots.specs.FormLaws.{condition-askable, ops-form, read-askable}
-use Rattle.world_gots.specs.Gots.{AreJoined, AreServed, IsGot, IsTold, NoneYet, OneMore}
+use Rattle.world_gots.specs.Gots.{AreJoined, AreServed, IsGot, IsLineServed, IsTold, NoneYet, OneMore}
 use Rattle.world_gots.specs.MoreLaws.{all-more, unknown-unserved}
-use Rattle.world_gots.specs.Right.{IsOfThisRun, LinesAreRight, NothingIsToldBefore, ToldIsRight}
+use Rattle.world_gots.specs.Right.{IsOfThisRun, LinesAreRight, NothingIsToldBefore, ReportsAreRight, ToldIsRight}
 use Rattle.world_gots.specs.RightLaws.{joins-right}
 use Rattle.world_reads.specs.History.{History, transactions}
 use Rattle.world_reads.specs.Reads.{map_then}
@@ -90,3 +90,8 @@ lines-right r o h targets a form all dkeys here s = by a.epoch s
     by (Some e) t =
         subst (λ z. IsToldRight (attempt_ops r.script a.id) z a) (sym (map_of_this_run r.script o.stand (taken_in (transactions r.script h)) e.0 (snapshot_of r.script a.id) here))
         (told-right r o h (attempt_ops r.script a.id) a e fits (ops-form targets r.script a.id form) all (dkeys e) t)
+
+pub reports-right : ReportsAreRight
+reports-right r o h w targets q form all dkeys here g same =
+    subst (λ ls. All (AttemptReadsLegal r.script o.stand (taken_in (transactions r.script h))) (tries ls)) (sym same)
+    (all-more (IsLineServed r h) (AttemptReadsLegal r.script o.stand (taken_in (transactions r.script h))) (tries w.lines) (λ a s. lines-right r o h targets a form all dkeys (here a.id) s) g.lines)
