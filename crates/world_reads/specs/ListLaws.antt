@@ -75,7 +75,7 @@ pairs-kept p (w ∷ ws) all = by (pairs-kept p ws (pairs-tail alone (λ m n. m <
     by rest true = AllPairs-cons (λ m n. m < n) w.minor (map minor_of (filter p ws)) (all-from_has (λ n. w.minor < n) (map minor_of (filter p ws)) above) rest
     by rest false = rest
 
-increasing-pairs : (xs : List ℕ) → AllPairs (λ m n. m < n) xs → IsStrictlyIncreasing xs
+pub increasing-pairs : (xs : List ℕ) → AllPairs (λ m n. m < n) xs → IsStrictlyIncreasing xs
 increasing-pairs xs all k lt = all k (k + 1) 0 (omega arith) lt
 
 pub some-in_form : (p : MinorWrite → Bool) (ws : List MinorWrite) → AreWritesInForm ws → AreWritesInForm (filter p ws)
