@@ -1,18 +1,15 @@
 -- Every turn of a client keeps that decided attempts are exactly those that are told as committed.
-use Rattle.std.specs.Prelude.{ℕ, ◌≡◌, ◌<◌, List, Contains, slice_get, Some, refl}
+use Rattle.std.specs.Prelude.{ℕ, ◌⊎◌, ◌<◌, Contains}
+use Rattle.std.proofs.Common.{inl, inr}
 use Rattle.daos_base.specs.declared.epoch.Epoch.{Epoch}
 use Rattle.daos_base.specs.declared.id.AttemptId.{AttemptId}
-use Rattle.world_base.specs.declared.client.ClientState.{ClientState}
-use Rattle.world_base.specs.declared.client.Present.{Present}
-use Rattle.world_base.specs.declared.letter.Letter.{Letter}
 use Rattle.world_base.specs.declared.world.World.{World}
-use Rattle.world_base.specs.ClientTurns.{attempt_id, heard, moved}
+use Rattle.world_base.specs.ClientTurns.{attempt_id}
 use Rattle.world_epochs.specs.EpochLaws.{counting-keeps, hearing-keeps, moves-keep}
 use Rattle.world_epochs.specs.Epochs.{Epochs, Unsnapped}
 use Rattle.world_events.specs.Events.{ClientGoes, ClientHears, Rules, client_plan}
-use Rattle.world_events.specs.Letters.{Takes, client}
 use Rattle.world_events.specs.StepLaws.{by-hearing, by-next}
-use Rattle.world_events.specs.Steps.{KeptByCounting, KeptByHearing, KeptByMoves, after_move, without}
+use Rattle.world_events.specs.Steps.{KeptByCounting, KeptByHearing, KeptByMoves}
 use Rattle.world_lines.specs.EndingLaws.{Spoken, spoken-by-counting, spoken-by-hearing, spoken-by-moves}
 use Rattle.world_reads.specs.History.{History}
 use Rattle.world_verdicts.specs.TurnLaws.{verdicts-by-counting, verdicts-by-hearing, verdicts-by-moves}
@@ -64,3 +61,11 @@ module _ (r : Rules) (top : ℕ) (h : History) (some : 0 < r.attempts) (U : Unsn
 
   pub judged-hears : (w v : World) → Judged r top h w → ClientHears r w v → Judged r top h v
   judged-hears w v k g = by-hearing r (Judged r top h) judged-by-moves judged-by-hearing w v k g
+
+-- in a run that allows an attempt and reads at no snapshot, each turn of a client keeps it all
+abbrev pub ClientsKeepJudged : Type 0
+ClientsKeepJudged = (r : Rules) (top : ℕ) (h : History) (w v : World) → 0 < r.attempts → Unsnapped r → Judged r top h w → ClientGoes r w v ⊎ ClientHears r w v → Judged r top h v
+
+pub clients-keep-judged : ClientsKeepJudged
+clients-keep-judged r top h w v some U k (inl g) = judged-goes r top h some U w v k g
+clients-keep-judged r top h w v some U k (inr g) = judged-hears r top h some U w v k g

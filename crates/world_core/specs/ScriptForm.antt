@@ -1,8 +1,8 @@
 -- What is read and written by a script in form is in form.
-use Rattle.std.specs.Prelude.{ℕ, ◌≡◌, ◌⊎◌, ◌≤◌, ◌<◌, ◌+◌, ◌++◌, ◌^◌, Bool, true, false, ◌&&◌, ◌||◌, nat_lt, nat_le, List, [], ◌∷◌, length, map, filter, slice_get, is_some, is_none, All, AllPairs, Any, Option, Some, None, refl, if◌then◌else◌}
-use Rattle.std.proofs.Common.{inl, inr, zero, suc, sym, ◌∙◌, ap, subst, arith}
+use Rattle.std.specs.Prelude.{ℕ, ◌≡◌, ◌⊎◌, ◌≤◌, ◌<◌, ◌+◌, ◌++◌, ◌^◌, Bool, true, false, ◌&&◌, ◌||◌, nat_lt, nat_le, List, [], ◌∷◌, length, map, is_some, is_none, All, AllPairs, Option, Some, None, refl}
+use Rattle.std.proofs.Common.{inl, inr, suc, sym, ap, subst, arith}
 use Rattle.std.proofs.lemmas.Bool.Decides.{nat_tests}
-use Rattle.std.proofs.lemmas.List.Elements.{All-cons, All-head, All-nil, All-tail}
+use Rattle.std.proofs.lemmas.List.Elements.{All-head, All-tail}
 use Rattle.std.proofs.lemmas.List.Kept.{AllPairs-cons}
 use Rattle.daos_base.specs.declared.operation.Act.{Act}
 use Rattle.daos_base.specs.declared.operation.Act.TheVariants as act
@@ -148,3 +148,16 @@ writes-in-form objs ops few forms = record {
 
 pub writes-declared : (objs : List ObjDecl) (ops : List Op) → All (IsOpInForm objs) ops → (w : MinorWrite) → Has w (minor_writes 0 ops) → IsWriteInForm objs w.write
 writes-declared objs ops forms w i = minors-form objs 0 ops forms w i
+
+-- ---- the statements
+
+-- a read of a script in form is in form
+abbrev pub ReadsAreInForm : Type 0
+ReadsAreInForm = (objs : List ObjDecl) (q : Read) → IsReadInForm objs q → is_read_in_form q ≡ true
+
+-- the writes of an attempt of at most 64 operations in form are in form, and each is as the script declares
+abbrev pub WritesAreInForm : Type 0
+WritesAreInForm = (objs : List ObjDecl) (ops : List Op) → length ops ≤ 64 → All (IsOpInForm objs) ops → AreWritesInForm (minor_writes 0 ops) × ((w : MinorWrite) → Has w (minor_writes 0 ops) → IsWriteInForm objs w.write)
+
+pub writes-are-in-form : WritesAreInForm
+writes-are-in-form objs ops few forms = (writes-in-form objs ops few forms, writes-declared objs ops forms)

@@ -182,14 +182,14 @@ module _ (r : Rules) (o : Opening) (held : List Version) (h : History) (w : Worl
       tells : (x : AttemptId) (f : Epoch) → Has (x, f) ((q.attempt, e) ∷ h.decided) → Contains h.decided (x, f) ⊎ TellsCommit from left.1.posts x f
       tells x f (inl same) =
           inr (subst (Has (record { to = from; message = Ended x (Some f) outcome.Committed })) (sym posts)
-            (inl (ap (λ y. record { to = from; message = Ended y (Some f) outcome.Committed }) (ap (λ i. i.0) same) ∙ ap (λ y. record { to = from; message = Ended q.attempt (Some y) outcome.Committed }) (ap (λ i. i.1) same))))
+          (inl (ap (λ y. record { to = from; message = Ended y (Some f) outcome.Committed }) (ap (λ i. i.0) same) ∙ ap (λ y. record { to = from; message = Ended q.attempt (Some y) outcome.Committed }) (ap (λ i. i.1) same))))
       tells x f (inr i) = inl (contains-from_has h.decided (x, f) i)
 
       told : (z : Post) (x : AttemptId) (f : Option Epoch) → Has z left.1.posts → z.message ≡ Ended x f outcome.Committed → (g : Epoch) × (f ≡ Some g) × Contains (decides h q.attempt e).decided (x, g)
       told z x f i says = elim (subst (Has z) posts i) [
-          | inl same ↦ it x f (sym says ∙ ap (λ y. y.message) same)
-          | inr j ↦ absurd j
-        ]
+        | inl same ↦ it x f (sym says ∙ ap (λ y. y.message) same)
+        | inr j ↦ absurd j
+      ]
         where
           it : (x : AttemptId) (f : Option Epoch) → Ended x f outcome.Committed ≡ Ended q.attempt (Some e) outcome.Committed → (g : Epoch) × (f ≡ Some g) × Contains (decides h q.attempt e).decided (x, g)
           it x f same =
@@ -199,9 +199,9 @@ module _ (r : Rules) (o : Opening) (held : List Version) (h : History) (w : Worl
 
       no-answer : AddsServed (decides h q.attempt e) t (commit_message q) left.1.posts
       no-answer to z f c asked i = elim (subst (Has (record { to = to; message = Fetched z.attempt z.op z.group (Some f) (reply.Answer c) })) posts i) [
-          | inl same ↦ absurd (let bad : Fetched z.attempt z.op z.group (Some f) (reply.Answer c) ≡ Ended q.attempt (Some e) outcome.Committed = ap (λ y. y.message) same in let no : ⊥ = cc in no)
-          | inr j ↦ absurd j
-        ]
+        | inl same ↦ absurd (let bad : Fetched z.attempt z.op z.group (Some f) (reply.Answer c) ≡ Ended q.attempt (Some e) outcome.Committed = ap (λ y. y.message) same in let no : ⊥ = cc in no)
+        | inr j ↦ absurd j
+      ]
 
   -- the whole turn
   pub commit-sound : HearsCommit r o held h w t m reading q → (old new : Kept) (left : TargetMemory × Did)

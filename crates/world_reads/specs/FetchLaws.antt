@@ -164,9 +164,9 @@ module _ (r : Rules) (o : Opening) (held : List Version) (h : History) (w : Worl
 
       serves-it : AddsServed (serves h one) t (fetch_message q) left.1.posts
       serves-it to z f c asked i = elim (subst (Has (record { to = to; message = Fetched z.attempt z.op z.group (Some f) (reply.Answer c) })) posts i) [
-          | inl same ↦ contains-from_has (one ∷ h.served) (record { by = z.attempt; op = z.op; group = z.group; target = t; read = z.read; epoch = f; answer = c }) (inl (one-same z f c asked (ap (λ y. y.message) same)))
-          | inr j ↦ absurd j
-        ]
+        | inl same ↦ contains-from_has (one ∷ h.served) (record { by = z.attempt; op = z.op; group = z.group; target = t; read = z.read; epoch = f; answer = c }) (inl (one-same z f c asked (ap (λ y. y.message) same)))
+        | inr j ↦ absurd j
+      ]
 
   -- the whole turn
   pub fetch-sound : IsFetchRight r t q.attempt q.op q.group q.read q.snapshot → ((e : Epoch) → request_epoch (target_plan r t) m reading q.tracker q.ep ≡ Some e → IsItsEpoch o w q.attempt q.ep e)
