@@ -99,17 +99,17 @@ one_target-kept r w v one (ToTarget g) = subst (λ z. OneTarget r z) (sym g.afte
 one_target-kept r w v one (ByTarget g) = subst (λ z. OneTarget r z) (sym g.after) (record { script = one.script; alone = length-set w.targets g.t (record g.s { durable = g.new.durable; free = g.new.free; memory = g.memory }) ∙ one.alone })
 
 module _ (r : Rules) (top : ℕ) (U : Unsnapped r) where
-  abbrev Both : World → Type 0
+  abbrev pub Both : World → Type 0
   Both w = Conversation r w × Epochs r top w
 
-  moves-keep : KeptByMoves r Both
+  pub moves-keep : KeptByMoves r Both
   moves-keep w n c here p = (move-keeps r w n c here p.0, moved-keeps r top w n c U p.1 here (λ idle. silent-unless r w n c p.0 here idle))
 
-  hearing-keeps : KeptByHearing r Both
+  pub hearing-keeps : KeptByHearing r Both
   hearing-keeps w n c l rest here awake takes to p = (hear-keeps r w n c l rest here awake takes to p.0, heard-keeps r top w n c l rest U p.0 p.1 here takes to)
 
   -- a turn that is skipped is counted
-  counting-keeps : (w : World) (n k : ℕ) (c : ClientState) → slice_get w.clients n ≡ Some c → Epochs r top w → Epochs r top (with_client n (record c { skip = k }) w)
+  pub counting-keeps : (w : World) (n k : ℕ) (c : ClientState) → slice_get w.clients n ≡ Some c → Epochs r top w → Epochs r top (with_client n (record c { skip = k }) w)
   counting-keeps w n k c here E = quiet-client r top w n c (record c { skip = k }) E (quiet-same r top w n c (record c { skip = k }) E here (omega arith) refl refl)
 
   goes-kept : (w v : World) → Both w → ClientGoes r w v → Epochs r top v

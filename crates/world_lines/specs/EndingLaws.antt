@@ -159,13 +159,13 @@ spoken-by-idle r w v k g talk = record {
     none : g.did ≡ nothing_follows
     none = idle-posts-nothing g.s.memory (kept g.s) g.new (g.memory, g.did) g.turn
 
-spoken-by-moves : (r : Rules) → 0 < r.attempts → KeptByMoves r (Spoken r)
+pub spoken-by-moves : (r : Rules) → 0 < r.attempts → KeptByMoves r (Spoken r)
 spoken-by-moves r some w n c here k = record { talk = move-keeps r w n c here k.talk; endings = endings-by-moves r w n c here k.endings; lines = lines-by-moves r some w n c here k.lines }
 
-spoken-by-counting : (r : Rules) → KeptByCounting (Spoken r)
+pub spoken-by-counting : (r : Rules) → KeptByCounting (Spoken r)
 spoken-by-counting r w n j c here k = record { talk = count-keeps r w n j c here k.talk; endings = k.endings; lines = lines-by-counting r w n j c here k.lines }
 
-spoken-by-hearing : (r : Rules) → KeptByHearing r (Spoken r)
+pub spoken-by-hearing : (r : Rules) → KeptByHearing r (Spoken r)
 spoken-by-hearing r w n c l rest here awake takes to k = record {
   talk = hear-keeps r w n c l rest here awake takes to k.talk;
   endings = endings-by-hearing r w n c l rest k.talk k.endings here takes to;

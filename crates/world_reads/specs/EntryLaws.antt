@@ -1,11 +1,11 @@
 -- Entries and versions as they are found once something was put among them.
-use Rattle.std.specs.Prelude.{ℕ, ◌≡◌, ◌≢◌, ◌⊎◌, Bool, true, false, ◌&&◌, ◌==◌, List, [], ◌∷◌, map, find, AllPairs, Option, Some, None, refl, if◌then◌else◌}
+use Rattle.std.specs.Prelude.{ℕ, ◌≡◌, ◌≢◌, ◌⊎◌, Bool, true, false, ◌&&◌, ◌==◌, List, [], ◌∷◌, map, find, AllPairs, Some, None, refl, if◌then◌else◌}
 use Rattle.std.specs.Option.{option_map}
-use Rattle.std.proofs.Common.{sym, ◌∙◌, ap, subst, inl, inr}
+use Rattle.std.proofs.Common.{sym, ◌∙◌, ap, inl, inr}
 use Rattle.daos_base.specs.declared.entry.Entry.{Entry}
 use Rattle.daos_base.specs.declared.id.AttemptId.{AttemptId}
 use Rattle.daos_model.specs.Answers.{is_before}
-use Rattle.daos_model.specs.Changes.{committed_at, prepared, settled}
+use Rattle.daos_model.specs.Changes.{committed_at}
 use Rattle.daos_model.specs.Durables.{is_entry_of, same_attempt}
 use Rattle.daos_model.specs.Ordered.{put, puts}
 use Rattle.daos_laws.specs.DecidedLaws.{all-from_has}

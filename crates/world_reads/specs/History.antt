@@ -1,10 +1,9 @@
 -- What no actor stores, and what the facts speak of: which attempts were decided, and which reads were served.
-use Rattle.std.specs.Prelude.{ℕ, ◌≡◌, ◌+◌, ◌<◌, Bool, true, false, ◌||◌, max, List, [], ◌∷◌, map, Contains}
+use Rattle.std.specs.Prelude.{ℕ, Bool, ◌||◌, List, ◌∷◌, map, Contains}
 use Rattle.std.specs.List.{list_any}
 use Rattle.daos_base.specs.declared.answer.Answer.{Answer}
 use Rattle.daos_base.specs.declared.epoch.Epoch.{Epoch}
 use Rattle.daos_base.specs.declared.id.AttemptId.{AttemptId}
-use Rattle.daos_base.specs.declared.id.ContId.{ContId}
 use Rattle.daos_base.specs.declared.operation.Read.{Read}
 use Rattle.daos_base.specs.declared.script.Script.{Script}
 use Rattle.daos_laws.specs.Decided.{Decided}
@@ -45,3 +44,15 @@ transactions s h = map (decided_of s) h.decided
 -- a version counts where it is done, or its attempt is decided
 abbrev pub counts_by : History → Version → Bool
 counts_by h v = v.done || is_decided h v.by
+
+-- one more attempt is decided, or one more read served
+abbrev pub decides : History → AttemptId → Epoch → History
+decides h x e = record h { decided = (x, e) ∷ h.decided }
+
+abbrev pub serves : History → Served → History
+serves h q = record h { served = q ∷ h.served }
+
+-- what was decided and what was served stay so
+pub record Grew (h g : History) : Type 0 where
+  pub decided : (i : AttemptId × Epoch) → Contains h.decided i → Contains g.decided i
+  pub served : (q : Served) → Contains h.served q → Contains g.served q

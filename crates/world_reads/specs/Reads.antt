@@ -1,10 +1,8 @@
 -- What targets answered still holds: later writes that would change it are refused.
-use Rattle.std.specs.Prelude.{ℕ, ◌≡◌, ◌⊎◌, ◌<◌, ◌≤◌, ◌/◌, Bool, true, false, List, [], ◌∷◌, Contains, slice_get, Option, Some, None}
+use Rattle.std.specs.Prelude.{ℕ, ◌≡◌, ◌⊎◌, ◌≤◌, ◌/◌, true, false, List, Contains, slice_get, Some}
 use Rattle.daos_base.specs.declared.epoch.Epoch.{Epoch}
-use Rattle.daos_base.specs.declared.id.AttemptId.{AttemptId}
 use Rattle.daos_base.specs.declared.id.ObjId.{ObjId}
 use Rattle.daos_base.specs.declared.operation.Op.{Op}
-use Rattle.daos_base.specs.declared.operation.Read.{Read}
 use Rattle.daos_base.specs.declared.shown.Shown.{Shown}
 use Rattle.daos_base.specs.Operations.{read_path}
 use Rattle.daos_base.specs.Paths.{overlaps}
@@ -15,6 +13,7 @@ use Rattle.daos_model.specs.declared.durable.Version.{Version}
 use Rattle.daos_model.specs.Accesses.{asked_member}
 use Rattle.daos_model.specs.Answers.{answer}
 use Rattle.daos_model.specs.AsOf.{as_of}
+use Rattle.daos_model.specs.Forms.{is_read_in_form}
 use Rattle.daos_model.specs.Opening.{Opening}
 use Rattle.daos_model.specs.Transactions.{attempt_ops}
 use Rattle.daos_model.specs.Versions.{version_path}
@@ -55,6 +54,7 @@ IsGuarded s q = (q.epoch.0 ≤ (floor_of s.opening s.durable (read_path q.read).
 
 pub record Reads (r : Rules) (o : Opening) (h : History) (w : World) : Type 0 where
   pub asked : (q : Served) → Contains h.served q → IsOfAttempt r q
+  pub form : (q : Served) → Contains h.served q → is_read_in_form q.read ≡ true
   pub issued : (q : Served) → Contains h.served q → Contains w.issued (q.by, q.epoch)
   pub answers : (q : Served) → Contains h.served q → IsAnsweredRight r o h q
   pub guarded : (q : Served) (s : TargetState) → Contains h.served q → slice_get w.targets q.target ≡ Some s → s.life ≡ Running → IsGuarded s q

@@ -3,3 +3,4 @@ pub mod Verdicts
 pub mod TellLaws
 pub mod VerdictLaws
 pub mod TurnLaws
+pub mod Statements

@@ -1,9 +1,8 @@
 -- Every turn keeps that decided attempts are exactly those that are told as committed.
-use Rattle.std.specs.Prelude.{ℕ, ◌≡◌, ◌≢◌, ◌⊎◌, ◌<◌, ◌++◌, Bool, true, false, List, [], ◌∷◌, map, slice_get, Contains, Option, Some, None, refl}
+use Rattle.std.specs.Prelude.{ℕ, ◌≡◌, ◌≢◌, ◌⊎◌, ◌++◌, Bool, true, false, List, [], map, slice_get, Contains, Option, Some, None, refl}
 use Rattle.std.proofs.Common.{append-nil, sym, ◌∙◌, ap, subst, inl, inr}
 use Rattle.daos_base.specs.declared.epoch.Epoch.{Epoch}
 use Rattle.daos_base.specs.declared.id.AttemptId.{AttemptId}
-use Rattle.daos_base.specs.declared.operation.MinorWrite.{MinorWrite}
 use Rattle.daos_base.specs.declared.outcome.Outcome.{Outcome}
 use Rattle.daos_base.specs.declared.outcome.Outcome.TheVariants as outcome
 use Rattle.daos_base.specs.declared.report.Attempt.{Attempt}
@@ -13,23 +12,21 @@ use Rattle.daos_laws.specs.Members.{Has, contains-from_has, has-cases, has-from_
 use Rattle.daos_messages.specs.declared.message.Message.{Message}
 use Rattle.daos_messages.specs.declared.message.Message.TheVariants as message
 use Rattle.daos_messages.specs.declared.message.Post.{Post}
-use Rattle.daos_messages.specs.declared.message.Reply.{Reply}
 use Rattle.daos_model.specs.Accesses.{minor_writes}
 use Rattle.daos_model.specs.Attempts.{tries}
 use Rattle.daos_model.specs.Transactions.{attempt_ops, command_of, numbered, numbered_at, ops_of, ops_or_none}
 use Rattle.world_base.specs.declared.client.ClientPlan.{ClientPlan}
 use Rattle.world_base.specs.declared.client.ClientState.{ClientState}
 use Rattle.world_base.specs.declared.client.Present.{Present}
-use Rattle.world_base.specs.declared.did.Did.{Did}
 use Rattle.world_base.specs.declared.letter.Letter.{Letter}
 use Rattle.world_base.specs.declared.world.World.{World}
-use Rattle.world_base.specs.ClientTurns.{Move, attempt_id, begun, command_at, end_line, ended, ends, goes, heard, hears_epochs, knows, knows_epoch, listed, moved, replied, snaps_known, waits}
+use Rattle.world_base.specs.ClientTurns.{Move, attempt_id, begun, command_at, ended, ends, heard, hears_epochs, knows, knows_epoch, listed, moved, replied, snaps_known, waits}
 use Rattle.world_clients.specs.AnswerLaws.{numbered-here}
 use Rattle.world_clients.specs.MoveLaws.{IsAt, is-at}
 use Rattle.world_clients.specs.Standing.{HasTold}
-use Rattle.world_events.specs.Events.{Rules, TargetHears, TargetIdles, client_plan, commands_or_none, kept, or_issued, target_plan, with_client, with_epoch}
+use Rattle.world_events.specs.Events.{Rules, TargetHears, client_plan, commands_or_none, or_issued, with_epoch}
 use Rattle.world_events.specs.Letters.{Takes, client, letter_of, letters_of, target}
-use Rattle.world_events.specs.Steps.{KeptByCounting, after_client, after_move, without}
+use Rattle.world_events.specs.Steps.{KeptByCounting, after_move, without}
 use Rattle.world_lines.specs.Lines.{Endings, Lines, TellsEnd, filled}
 use Rattle.world_reads.specs.History.{History}
 use Rattle.world_talks.specs.AskLaws.{move-is, waiting-rests}
@@ -130,7 +127,7 @@ move-tells-decided r h w n c lines here b i committed some = by (moved-tells p c
 pub verdicts-by-moves : (r : Rules) (h : History) (w : World) (n : ℕ) (c : ClientState) → Lines r w → slice_get w.clients n ≡ Some c → Verdicts r h w → Verdicts r h (after_move w n (moved (client_plan r n) c))
 verdicts-by-moves r h w n c lines here k =
     client-did r h w n w.messages (listed (moved (client_plan r n) c).post) (listed (moved (client_plan r n) c).line) (moved (client_plan r n) c).state (λ m i. i) (λ x e f. inl f)
-      (move-ends-nothing (client_plan r n) c) (move-tells-decided r h w n c lines here) k
+    (move-ends-nothing (client_plan r n) c) (move-tells-decided r h w n c lines here) k
 
 pub verdicts-by-counting : (r : Rules) (h : History) → KeptByCounting (Verdicts r h)
 verdicts-by-counting r h w n j c here k = record { told = k.told; flying = k.flying; lines = k.lines }
@@ -185,9 +182,9 @@ record HeardTells (r : Rules) (h : History) (w : World) (n : ℕ) (rest : List L
 
 other-still : (r : Rules) (h : History) (w : World) (l : Letter) (rest : List Letter) (lines : List Line) → Takes w.messages l rest → ((x : AttemptId) (e : Epoch) → l.message ≢ message.Ended x (Some e) outcome.Committed) → StillTold w.messages rest lines
 other-still r h w l rest lines takes other x e f = elim (left-or-it w.messages l rest f.l takes f.among) [
-    | inl same ↦ absurd (other x e (sym (ap (λ z. z.message) same) ∙ f.says))
-    | inr i ↦ inl (record { l = f.l; among = i; says = f.says; to_it = f.to_it })
-  ]
+  | inl same ↦ absurd (other x e (sym (ap (λ z. z.message) same) ∙ f.says))
+  | inr i ↦ inl (record { l = f.l; among = i; says = f.says; to_it = f.to_it })
+]
 
 heard-tells : (r : Rules) (h : History) (w : World) (n : ℕ) (c : ClientState) (l : Letter) (rest : List Letter) → Endings w → Verdicts r h w → Agrees r h w → slice_get w.clients n ≡ Some c → Takes w.messages l rest
     → IsHearing r n c l rest → HeardTells r h w n rest (heard (client_plan r n) c l.message)
@@ -257,16 +254,16 @@ heard-tells r h w n c l rest ends k agrees here takes (AnEnd g own how says it) 
 
     still : StillTold w.messages rest (w.lines ++ map (with_epoch w.issued) (listed (heard p c l.message).line))
     still y e way = elim (left-or-it w.messages l rest way.l takes way.among) [
-        | inl same ↦ inr (it-was y e (sym (ap (λ z. z.message) same) ∙ way.says))
-        | inr i ↦ inl (record { l = way.l; among = i; says = way.says; to_it = way.to_it })
-      ]
+      | inl same ↦ inr (it-was y e (sym (ap (λ z. z.message) same) ∙ way.says))
+      | inr i ↦ inl (record { l = way.l; among = i; says = way.says; to_it = way.to_it })
+    ]
 
 pub verdicts-by-hearing : (r : Rules) (h : History) (w : World) (n : ℕ) (c : ClientState) (l : Letter) (rest : List Letter) → Conversation r w → Endings w → Verdicts r h w → Agrees r h w → slice_get w.clients n ≡ Some c
     → Takes w.messages l rest → l.to ≡ client n → Verdicts r h (after_move (without w rest) n (heard (client_plan r n) c l.message))
 verdicts-by-hearing r h w n c l rest talk ends k agrees here takes to =
     let t = heard-tells r h w n c l rest ends k agrees here takes (hearing-is r w n c l rest talk here takes to) in
     client-did r h w n rest (listed (heard (client_plan r n) c l.message).post) (listed (heard (client_plan r n) c l.message).line) (heard (client_plan r n) c l.message).state
-      (λ m i. left-is-among w.messages l rest m takes i) t.still (no-post (heard (client_plan r n) c l.message) t.silent) t.tells k
+    (λ m i. left-is-among w.messages l rest m takes i) t.still (no-post (heard (client_plan r n) c l.message) t.silent) t.tells k
 
 -- ---- targets
 
@@ -294,38 +291,38 @@ verdicts-by-target r h later w v k g of_kind none d = record { told = told; flyi
 
     old : (x : AttemptId) (e : Epoch) → IsOnItsWay w.messages x e → IsOnItsWay v.messages x e
     old x e f = elim (left-or-it w.messages g.l g.rest f.l g.takes f.among) [
-        | inl same ↦ absurd (heard-no-end g.l.message x e of_kind (sym (ap (λ z. z.message) same) ∙ f.says))
-        | inr i ↦ way x e (record {
-            l = f.l;
-            among = contains-from_has (g.rest ++ letters_of (target g.t) g.did.posts) f.l (has-left g.rest (letters_of (target g.t) g.did.posts) f.l (has-from_contains g.rest f.l i));
-            says = f.says;
-            to_it = f.to_it;
-          })
-      ]
+      | inl same ↦ absurd (heard-no-end g.l.message x e of_kind (sym (ap (λ z. z.message) same) ∙ f.says))
+      | inr i ↦ way x e (record {
+        l = f.l;
+        among = contains-from_has (g.rest ++ letters_of (target g.t) g.did.posts) f.l (has-left g.rest (letters_of (target g.t) g.did.posts) f.l (has-from_contains g.rest f.l i));
+        says = f.says;
+        to_it = f.to_it;
+      })
+    ]
 
     new : (x : AttemptId) (e : Epoch) → Tells g.did.posts x e → IsOnItsWay v.messages x e
     new x e t = way x e (record {
-        l = letter_of (target g.t) t.0;
-        among = contains-from_has (g.rest ++ letters_of (target g.t) g.did.posts) (letter_of (target g.t) t.0)
-            (has-right g.rest (letters_of (target g.t) g.did.posts) (letter_of (target g.t) t.0) (has-map (letter_of (target g.t)) g.did.posts t.0 t.1));
-        says = t.2;
-        to_it = t.3;
-      })
+      l = letter_of (target g.t) t.0;
+      among = contains-from_has (g.rest ++ letters_of (target g.t) g.did.posts) (letter_of (target g.t) t.0)
+          (has-right g.rest (letters_of (target g.t) g.did.posts) (letter_of (target g.t) t.0) (has-map (letter_of (target g.t)) g.did.posts t.0 t.1));
+      says = t.2;
+      to_it = t.3;
+    })
 
     told : (x : AttemptId) (e : Epoch) → Contains later.decided (x, e) → IsOnItsWay v.messages x e ⊎ IsToldCommitted v.lines x e
     told x e i = elim (d.new x e i) [
-        | inl j ↦ elim (k.told x e j) [ inl f ↦ inl (old x e f) | inr t ↦ inr (subst (λ ls. IsToldCommitted ls x e) (sym lines-same) t) ]
-        | inr t ↦ inl (new x e t)
-      ]
+      | inl j ↦ elim (k.told x e j) [ inl f ↦ inl (old x e f) | inr t ↦ inr (subst (λ ls. IsToldCommitted ls x e) (sym lines-same) t) ]
+      | inr t ↦ inl (new x e t)
+    ]
 
     was : (x : AttemptId) (own : Option Epoch) → (e : Epoch) × (own ≡ Some e) × Contains h.decided (x, e) → (e : Epoch) × (own ≡ Some e) × Contains later.decided (x, e)
     was x own t = (t.0, t.1, d.kept x t.0 t.2)
 
     flying : (l : Letter) (x : AttemptId) (own : Option Epoch) → Contains v.messages l → l.message ≡ message.Ended x own outcome.Committed → (e : Epoch) × (own ≡ Some e) × Contains later.decided (x, e)
     flying l x own i says = elim (has-cases g.rest (letters_of (target g.t) g.did.posts) l (subst (Has l) messages (has-from_contains v.messages l i))) [
-        | inl j ↦ was x own (k.flying l x own (left-is-among w.messages g.l g.rest l g.takes (contains-from_has g.rest l j)) says)
-        | inr j ↦ let q = has-from_map (letter_of (target g.t)) g.did.posts l j in d.told q.0 x own q.1 (ap (λ m. m.message) q.2 ∙ says)
-      ]
+      | inl j ↦ was x own (k.flying l x own (left-is-among w.messages g.l g.rest l g.takes (contains-from_has g.rest l j)) says)
+      | inr j ↦ let q = has-from_map (letter_of (target g.t)) g.did.posts l j in d.told q.0 x own q.1 (ap (λ m. m.message) q.2 ∙ says)
+    ]
 
     lines : (a : Attempt) → Contains (tries v.lines) a → a.outcome ≡ outcome.Committed → HasWrites r a.id → (e : Epoch) × (a.epoch ≡ Some e) × Contains later.decided (a.id, e)
     lines a i c s = let t = k.lines a (subst (λ ls. Contains (tries ls) a) lines-same i) c s in (t.0, t.1, d.kept a.id t.0 t.2)

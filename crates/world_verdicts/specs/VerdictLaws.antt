@@ -1,38 +1,26 @@
 -- Every event keeps that decided attempts are exactly those that are told as committed.
-use Rattle.std.specs.Prelude.{ℕ, ◌≡◌, ◌≢◌, ◌⊎◌, ◌++◌, Bool, true, false, List, [], ◌∷◌, map, slice_get, Contains, Option, Some, None, refl}
-use Rattle.std.proofs.Common.{append-nil, sym, ◌∙◌, ap, subst, inl, inr}
+use Rattle.std.specs.Prelude.{ℕ, ◌≡◌, ◌≢◌, ◌⊎◌, ◌++◌, List, ◌∷◌, map, Contains, Option, Some}
+use Rattle.std.proofs.Common.{sym, ◌∙◌, ap, subst, inl, inr}
 use Rattle.daos_base.specs.declared.epoch.Epoch.{Epoch}
 use Rattle.daos_base.specs.declared.id.AttemptId.{AttemptId}
-use Rattle.daos_base.specs.declared.outcome.Outcome.{Outcome}
 use Rattle.daos_base.specs.declared.outcome.Outcome.TheVariants as outcome
 use Rattle.daos_base.specs.declared.report.Attempt.{Attempt}
 use Rattle.daos_base.specs.declared.report.Line.{Line}
-use Rattle.daos_base.specs.declared.report.Line.TheVariants as line
-use Rattle.daos_base.specs.declared.script.Command.{Command}
 use Rattle.daos_laws.specs.Members.{Has, contains-from_has, has-cases, has-from_contains, has-from_map, has-left, has-map, has-right}
-use Rattle.daos_messages.specs.declared.actor.ActorId.{ActorId}
-use Rattle.daos_messages.specs.declared.message.Message.{Message}
 use Rattle.daos_messages.specs.declared.message.Message.TheVariants as message
 use Rattle.daos_messages.specs.declared.message.Post.{Post}
-use Rattle.daos_model.specs.Accesses.{minor_writes}
 use Rattle.daos_model.specs.Attempts.{tries}
 use Rattle.daos_model.specs.Laws.{tries-append}
-use Rattle.daos_model.specs.Transactions.{attempt_ops, ops_of}
-use Rattle.world_base.specs.declared.client.ClientPlan.{ClientPlan}
 use Rattle.world_base.specs.declared.client.ClientState.{ClientState}
-use Rattle.world_base.specs.declared.client.Present.{Present}
-use Rattle.world_base.specs.declared.did.Did.{Did}
 use Rattle.world_base.specs.declared.letter.Letter.{Letter}
 use Rattle.world_base.specs.declared.world.World.{World}
-use Rattle.world_base.specs.ClientTurns.{Move, attempt_id, command_at, end_line, ended, ends, heard, hears_epochs, knows, knows_epoch, listed, moved, snaps_known}
-use Rattle.world_events.specs.Events.{Rules, client_plan, or_issued, with_epoch}
+use Rattle.world_events.specs.Events.{Rules, with_epoch}
 use Rattle.world_events.specs.Letters.{Takes, client, letter_of, letters_of}
-use Rattle.world_events.specs.Steps.{after_client, after_move, without}
+use Rattle.world_events.specs.Steps.{after_client, without}
 use Rattle.world_lines.specs.FilledLaws.{tries-filled}
 use Rattle.world_lines.specs.Lines.{filled}
 use Rattle.world_reads.specs.History.{History}
-use Rattle.world_verdicts.specs.TellLaws.{AllRead, Fails, Goes, MoveTells, NoSnap, Nothing, ReplyTells}
-use Rattle.world_verdicts.specs.Verdicts.{Agrees, HasWrites, IsOnItsWay, IsToldCommitted, Tells, Verdicts}
+use Rattle.world_verdicts.specs.Verdicts.{HasWrites, IsOnItsWay, IsToldCommitted, Verdicts}
 
 -- ---- lines and letters
 
@@ -61,7 +49,7 @@ pub told-new : (issued : List (AttemptId × Epoch)) (lines more : List Line) (b 
 told-new issued lines more b i =
     let all : tries (lines ++ map (with_epoch issued) more) ≡ tries lines ++ map (filled issued) (tries more) = tries-append lines (map (with_epoch issued) more) ∙ ap (λ ts. tries lines ++ ts) (tries-filled issued more) in
     contains-from_has (tries (lines ++ map (with_epoch issued) more)) (filled issued b)
-      (subst (Has (filled issued b)) (sym all) (has-right (tries lines) (map (filled issued) (tries more)) (filled issued b) (has-map (filled issued) (tries more) b i)))
+    (subst (Has (filled issued b)) (sym all) (has-right (tries lines) (map (filled issued) (tries more)) (filled issued b) (has-map (filled issued) (tries more) b i)))
 
 -- another letter than the one that is taken is left
 pub left-or-it : (letters : List Letter) (l : Letter) (rest : List Letter) (m : Letter) → Takes letters l rest → Contains letters m → (m ≡ l) ⊎ Contains rest m
@@ -104,21 +92,21 @@ client-did r h w n rest posts more d among still none tell k = record { told = t
 
     told : (x : AttemptId) (e : Epoch) → Contains h.decided (x, e) → IsOnItsWay letters2 x e ⊎ IsToldCommitted lines2 x e
     told x e i = elim (k.told x e i) [
-        | inl f ↦ elim (still x e f) [ inl g ↦ inl (way-more rest (letters_of (client n) posts) x e g) | inr t ↦ inr t ]
-        | inr t ↦ inr (told-more w.lines (map (with_epoch w.issued) more) x e t)
-      ]
+      | inl f ↦ elim (still x e f) [ inl g ↦ inl (way-more rest (letters_of (client n) posts) x e g) | inr t ↦ inr t ]
+      | inr t ↦ inr (told-more w.lines (map (with_epoch w.issued) more) x e t)
+    ]
 
     flying : (l : Letter) (x : AttemptId) (own : Option Epoch) → Contains letters2 l → l.message ≡ message.Ended x own outcome.Committed → (e : Epoch) × (own ≡ Some e) × Contains h.decided (x, e)
     flying l x own i says = elim (has-cases rest (letters_of (client n) posts) l (has-from_contains letters2 l i)) [
-        | inl j ↦ k.flying l x own (among l (contains-from_has rest l j)) says
-        | inr j ↦ let q = has-from_map (letter_of (client n)) posts l j in absurd (none q.0 x own q.1 (ap (λ m. m.message) q.2 ∙ says))
-      ]
+      | inl j ↦ k.flying l x own (among l (contains-from_has rest l j)) says
+      | inr j ↦ let q = has-from_map (letter_of (client n)) posts l j in absurd (none q.0 x own q.1 (ap (λ m. m.message) q.2 ∙ says))
+    ]
 
     lines : (a : Attempt) → Contains (tries lines2) a → a.outcome ≡ outcome.Committed → HasWrites r a.id → (e : Epoch) × (a.epoch ≡ Some e) × Contains h.decided (a.id, e)
     lines a i c some = elim (tried-cases w.issued w.lines more a i) [
-        | inl j ↦ k.lines a j c some
-        | inr b ↦ new b.0 b.1 b.2
-      ]
+      | inl j ↦ k.lines a j c some
+      | inr b ↦ new b.0 b.1 b.2
+    ]
       where
         new : (b : Attempt) → Has b (tries more) → filled w.issued b ≡ a → (e : Epoch) × (a.epoch ≡ Some e) × Contains h.decided (a.id, e)
         new b j same =

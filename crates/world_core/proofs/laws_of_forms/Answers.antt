@@ -1,0 +1,5 @@
+use Rattle.world_core.specs.ScriptForm.{read-in-form, writes-are-in-form}
+use Rattle.world_core.proofs.laws_of_forms.Goals as goal
+
+pub returns : goal.returns
+returns c = record { reads = read-in-form; writes = writes-are-in-form }

@@ -1,0 +1,71 @@
+-- Every turn of a client keeps that decided attempts are exactly those that are told as committed.
+use Rattle.std.specs.Prelude.{ℕ, ◌⊎◌, ◌<◌, Contains}
+use Rattle.std.proofs.Common.{inl, inr}
+use Rattle.daos_base.specs.declared.epoch.Epoch.{Epoch}
+use Rattle.daos_base.specs.declared.id.AttemptId.{AttemptId}
+use Rattle.world_base.specs.declared.world.World.{World}
+use Rattle.world_base.specs.ClientTurns.{attempt_id}
+use Rattle.world_epochs.specs.EpochLaws.{counting-keeps, hearing-keeps, moves-keep}
+use Rattle.world_epochs.specs.Epochs.{Epochs, Unsnapped}
+use Rattle.world_events.specs.Events.{ClientGoes, ClientHears, Rules, client_plan}
+use Rattle.world_events.specs.StepLaws.{by-hearing, by-next}
+use Rattle.world_events.specs.Steps.{KeptByCounting, KeptByHearing, KeptByMoves}
+use Rattle.world_lines.specs.EndingLaws.{Spoken, spoken-by-counting, spoken-by-hearing, spoken-by-moves}
+use Rattle.world_reads.specs.History.{History}
+use Rattle.world_verdicts.specs.TurnLaws.{verdicts-by-counting, verdicts-by-hearing, verdicts-by-moves}
+use Rattle.world_verdicts.specs.Verdicts.{Agrees, Verdicts}
+
+-- what is decided was issued its epoch
+abbrev pub DecidedIssued : History → World → Type 0
+DecidedIssued h w = (x : AttemptId) (e : Epoch) → Contains h.decided (x, e) → Contains w.issued (x, e)
+
+-- what goes about and what lines tell, epochs, and verdicts
+pub record Judged (r : Rules) (top : ℕ) (h : History) (w : World) : Type 0 where
+  pub spoken : Spoken r w
+  pub epochs : Epochs r top w
+  pub issued : DecidedIssued h w
+  pub verdicts : Verdicts r h w
+
+-- an attempt has one epoch, so the one that its client knows is that of its decision
+pub judged-agrees : (r : Rules) (top : ℕ) (h : History) (w : World) → Judged r top h w → Agrees r h w
+judged-agrees r top h w k n c a f e here at known decided =
+    k.epochs.one (attempt_id (client_plan r n) c a) f e (k.epochs.known n c a f here at known) (k.issued (attempt_id (client_plan r n) c a) e decided)
+
+module _ (r : Rules) (top : ℕ) (h : History) (some : 0 < r.attempts) (U : Unsnapped r) where
+  judged-by-moves : KeptByMoves r (Judged r top h)
+  judged-by-moves w n c here k = record {
+    spoken = spoken-by-moves r some w n c here k.spoken;
+    epochs = (moves-keep r top U w n c here (k.spoken.talk, k.epochs)).1;
+    issued = k.issued;
+    verdicts = verdicts-by-moves r h w n c k.spoken.lines here k.verdicts;
+  }
+
+  judged-by-counting : KeptByCounting (Judged r top h)
+  judged-by-counting w n j c here k = record {
+    spoken = spoken-by-counting r w n j c here k.spoken;
+    epochs = counting-keeps r top U w n j c here k.epochs;
+    issued = k.issued;
+    verdicts = verdicts-by-counting r h w n j c here k.verdicts;
+  }
+
+  judged-by-hearing : KeptByHearing r (Judged r top h)
+  judged-by-hearing w n c l rest here awake takes to k = record {
+    spoken = spoken-by-hearing r w n c l rest here awake takes to k.spoken;
+    epochs = (hearing-keeps r top U w n c l rest here awake takes to (k.spoken.talk, k.epochs)).1;
+    issued = k.issued;
+    verdicts = verdicts-by-hearing r h w n c l rest k.spoken.talk k.spoken.endings k.verdicts (judged-agrees r top h w k) here takes to;
+  }
+
+  pub judged-goes : (w v : World) → Judged r top h w → ClientGoes r w v → Judged r top h v
+  judged-goes w v k g = by-next r (Judged r top h) judged-by-moves judged-by-counting w v k g
+
+  pub judged-hears : (w v : World) → Judged r top h w → ClientHears r w v → Judged r top h v
+  judged-hears w v k g = by-hearing r (Judged r top h) judged-by-moves judged-by-hearing w v k g
+
+-- in a run that allows an attempt and reads at no snapshot, each turn of a client keeps it all
+abbrev pub ClientsKeepJudged : Type 0
+ClientsKeepJudged = (r : Rules) (top : ℕ) (h : History) (w v : World) → 0 < r.attempts → Unsnapped r → Judged r top h w → ClientGoes r w v ⊎ ClientHears r w v → Judged r top h v
+
+pub clients-keep-judged : ClientsKeepJudged
+clients-keep-judged r top h w v some U k (inl g) = judged-goes r top h some U w v k g
+clients-keep-judged r top h w v some U k (inr g) = judged-hears r top h some U w v k g

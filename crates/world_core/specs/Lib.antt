@@ -1,0 +1,3 @@
+-- All that holds between any two events of a run.
+pub mod Judged
+pub mod ScriptForm

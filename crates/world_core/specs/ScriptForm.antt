@@ -1,0 +1,163 @@
+-- What is read and written by a script in form is in form.
+use Rattle.std.specs.Prelude.{ℕ, ◌≡◌, ◌⊎◌, ◌≤◌, ◌<◌, ◌+◌, ◌++◌, ◌^◌, Bool, true, false, ◌&&◌, ◌||◌, nat_lt, nat_le, List, [], ◌∷◌, length, map, is_some, is_none, All, AllPairs, Option, Some, None, refl}
+use Rattle.std.proofs.Common.{inl, inr, suc, sym, ap, subst, arith}
+use Rattle.std.proofs.lemmas.Bool.Decides.{nat_tests}
+use Rattle.std.proofs.lemmas.List.Elements.{All-head, All-tail}
+use Rattle.std.proofs.lemmas.List.Kept.{AllPairs-cons}
+use Rattle.daos_base.specs.declared.operation.Act.{Act}
+use Rattle.daos_base.specs.declared.operation.Act.TheVariants as act
+use Rattle.daos_base.specs.declared.operation.MinorWrite.{MinorWrite}
+use Rattle.daos_base.specs.declared.operation.Op.{Op}
+use Rattle.daos_base.specs.declared.operation.Read.{Read}
+use Rattle.daos_base.specs.declared.operation.Read.TheVariants as read
+use Rattle.daos_base.specs.declared.operation.Write.{Write}
+use Rattle.daos_base.specs.declared.operation.Write.TheVariants as write
+use Rattle.daos_base.specs.declared.path.Path.{Path}
+use Rattle.daos_base.specs.declared.script.ObjDecl.{ObjDecl}
+use Rattle.daos_base.specs.Scripts.{IsActInForm, IsAkeyOf, IsDkeyOf, IsLength, IsObjectOf, IsOfObject, IsOpInForm, IsPathOf, IsReadInForm, IsWriteInForm}
+use Rattle.daos_laws.specs.DecidedLaws.{all-from_has}
+use Rattle.daos_laws.specs.Members.{Has, has-cases, has-from_map}
+use Rattle.daos_model.specs.Accesses.{minor_write, minor_writes}
+use Rattle.world_reads.specs.ListLaws.{increasing-pairs}
+use Rattle.daos_model.specs.BoolLaws.{both}
+use Rattle.daos_model.specs.Forms.{AreWritesInForm, minor_of, ends_at_akey, ends_at_dkey, ends_at_object, is_length, is_path_in_form, is_read_in_form, is_write_in_form}
+
+-- ---- paths
+
+of-object : (objs : List ObjDecl) (p : Path) → IsOfObject objs p → is_some p.obj ≡ true
+of-object objs p i = ap is_some (sym i.4.0)
+
+at-akey : (objs : List ObjDecl) (p : Path) → IsAkeyOf objs p → ends_at_akey p ≡ true
+at-akey objs p k = both (is_some p.obj && is_some p.dkey) (is_some p.akey) (both (is_some p.obj) (is_some p.dkey) (of-object objs p k.declared) (ap is_some k.dkey.1)) (ap is_some k.akey.1)
+
+at-dkey : (objs : List ObjDecl) (p : Path) → IsDkeyOf objs p → ends_at_dkey p ≡ true
+at-dkey objs p k = both (is_some p.obj && is_some p.dkey) (is_none p.akey) (both (is_some p.obj) (is_some p.dkey) (of-object objs p k.declared) (ap is_some k.dkey.1)) (ap is_none k.no_akey)
+
+at-object : (objs : List ObjDecl) (p : Path) → IsObjectOf objs p → ends_at_object p ≡ true
+at-object objs p k = both (is_some p.obj && is_none p.dkey) (is_none p.akey) (both (is_some p.obj) (is_none p.dkey) (of-object objs p k.declared) (ap is_none k.no_dkey)) (ap is_none k.no_akey)
+
+or-right : (a b : Bool) → b ≡ true → (a || b) ≡ true
+or-right true b h = refl
+or-right false b h = h
+
+any-path : (objs : List ObjDecl) (p : Path) → IsPathOf objs p → is_path_in_form p ≡ true
+any-path objs p k = both (is_none p.dkey || is_some p.obj) (is_none p.akey || is_some p.dkey) (or-right (is_none p.dkey) (is_some p.obj) (of-object objs p k.declared)) (by p.dkey refl)
+  where
+    by : (d : Option (List ℕ)) → p.dkey ≡ d → (is_none p.akey || is_some p.dkey) ≡ true
+    by None e = ap (λ a. is_none a || is_some p.dkey) (k.no_akey e)
+    by (Some key) e = or-right (is_none p.akey) (is_some p.dkey) (ap is_some e)
+
+of-length : (n : ℕ) → IsLength n → is_length n ≡ true
+of-length n k = both (nat_le 1 n) (nat_le n 1024) (low n k.0) (high n k.1)
+  where
+    low : (n : ℕ) → 0 < n → nat_le 1 n ≡ true
+    low n h = grind (arith, nat_tests)
+
+    high : (n : ℕ) → n ≤ 1024 → nat_le n 1024 ≡ true
+    high n h = grind (arith, nat_tests)
+
+of-end : (n m : ℕ) → n < m → nat_lt n m ≡ true
+of-end n m h = grind (arith, nat_tests)
+
+-- ---- reads and writes
+
+pub read-in-form : (objs : List ObjDecl) (q : Read) → IsReadInForm objs q → is_read_in_form q ≡ true
+unfolding is_read_in_form
+read-in-form objs (read.Single p) k = at-akey objs p k
+read-in-form objs (read.Extent p low len) k = both (ends_at_akey p && is_length len) (nat_lt (low + len) (2 ^ 32)) (both (ends_at_akey p) (is_length len) (at-akey objs p k.0) (of-length len k.1)) (of-end (low + len) (2 ^ 32) k.2)
+read-in-form objs (read.Dkeys p) k = at-object objs p k
+read-in-form objs (read.Akeys p) k = at-dkey objs p k
+read-in-form objs (read.Exists p) k = any-path objs p k
+
+pub write-in-form : (objs : List ObjDecl) (w : Write) → IsWriteInForm objs w → is_write_in_form w ≡ true
+unfolding is_write_in_form
+write-in-form objs (write.Single p bytes) k = both (ends_at_akey p) (is_length (length bytes)) (at-akey objs p k.0) (of-length (length bytes) k.1)
+write-in-form objs (write.Extent p low bytes) k =
+    both (ends_at_akey p && is_length (length bytes)) (nat_lt (low + length bytes) (2 ^ 32)) (both (ends_at_akey p) (is_length (length bytes)) (at-akey objs p k.0) (of-length (length bytes) k.1)) (of-end (low + length bytes) (2 ^ 32) k.2)
+write-in-form objs (write.PunchObject p) k = at-object objs p k
+write-in-form objs (write.PunchDkey p) k = at-dkey objs p k
+write-in-form objs (write.PunchAkey p) k = at-akey objs p k
+
+-- ---- the writes of an attempt
+
+-- the numbers of writes among operations that are numbered from n
+minor-from : (n : ℕ) (ops : List Op) (w : MinorWrite) → Has w (minor_writes n ops) → (n ≤ w.minor) × (w.minor < n + length ops)
+unfolding minor_writes
+minor-from n [] w i = absurd i
+minor-from n (op ∷ ops) w i = by op.act (has-cases (minor_write n op.act) (minor_writes (n + 1) ops) w i) (minor-from (n + 1) ops w)
+  where
+    later : (n + 1 ≤ w.minor) × (w.minor < n + 1 + length ops) → (n ≤ w.minor) × (w.minor < n + suc (length ops))
+    later k = let low : n + 1 ≤ w.minor = k.0 in let high : w.minor < n + 1 + length ops = k.1 in (omega (arith, low), omega (arith, high))
+
+    by : (a : Act) → Has w (minor_write n a) ⊎ Has w (minor_writes (n + 1) ops) → (Has w (minor_writes (n + 1) ops) → (n + 1 ≤ w.minor) × (w.minor < n + 1 + length ops)) → (n ≤ w.minor) × (w.minor < n + suc (length ops))
+    by a (inr j) rest = later (rest j)
+    by (act.Fetch r) (inl j) rest = absurd j
+    by (act.Change x) (inl (inl e)) rest = let m : w.minor ≡ n = ap (λ z. z.minor) e in (omega (arith, m), omega (arith, m))
+    by (act.Change x) (inl (inr j)) rest = absurd j
+
+-- they rise
+minors-rise : (n : ℕ) (ops : List Op) → AllPairs (λ a b. a < b) (map minor_of (minor_writes n ops))
+unfolding minor_writes
+minors-rise n [] = all-pairs-nil
+  where
+    all-pairs-nil : AllPairs (λ a b. a < b) []
+    all-pairs-nil i j d lt short = let no : ⊥ = omega (arith, lt, short) in absurd no
+minors-rise n (op ∷ ops) = by op.act (minors-rise (n + 1) ops)
+  where
+    above : (m : ℕ) → Has m (map minor_of (minor_writes (n + 1) ops)) → n < m
+    above m i =
+        let w = has-from_map minor_of (minor_writes (n + 1) ops) m i in
+        let low : n + 1 ≤ w.0.minor = (minor-from (n + 1) ops w.0 w.1).0 in
+        let same : w.0.minor ≡ m = w.2 in
+        omega (arith, low, same)
+
+    by : (a : Act) → AllPairs (λ a b. a < b) (map minor_of (minor_writes (n + 1) ops)) → AllPairs (λ a b. a < b) (map minor_of (minor_write n a ++ minor_writes (n + 1) ops))
+    by (act.Fetch r) rest = rest
+    by (act.Change x) rest = AllPairs-cons (λ a b. a < b) n (map minor_of (minor_writes (n + 1) ops)) (all-from_has (λ m. n < m) (map minor_of (minor_writes (n + 1) ops)) above) rest
+
+-- they are no more than the operations
+minors-few : (n : ℕ) (ops : List Op) → length (minor_writes n ops) ≤ length ops
+unfolding minor_writes
+minors-few n [] = omega arith
+minors-few n (op ∷ ops) = by op.act (minors-few (n + 1) ops)
+  where
+    by : (a : Act) → length (minor_writes (n + 1) ops) ≤ length ops → length (minor_write n a ++ minor_writes (n + 1) ops) ≤ suc (length ops)
+    by (act.Fetch r) k = omega (arith, k)
+    by (act.Change x) k = omega (arith, k)
+
+-- each is a write of an operation
+minors-form : (objs : List ObjDecl) (n : ℕ) (ops : List Op) → All (IsOpInForm objs) ops → (w : MinorWrite) → Has w (minor_writes n ops) → IsWriteInForm objs w.write
+unfolding minor_writes
+minors-form objs n [] forms w i = absurd i
+minors-form objs n (op ∷ ops) forms w i = by op.act (All-head (IsOpInForm objs) op ops forms).act (has-cases (minor_write n op.act) (minor_writes (n + 1) ops) w i) (minors-form objs (n + 1) ops (All-tail (IsOpInForm objs) op ops forms) w)
+  where
+    by : (a : Act) → IsActInForm objs a → Has w (minor_write n a) ⊎ Has w (minor_writes (n + 1) ops) → (Has w (minor_writes (n + 1) ops) → IsWriteInForm objs w.write) → IsWriteInForm objs w.write
+    by a f (inr j) rest = rest j
+    by (act.Fetch r) f (inl j) rest = absurd j
+    by (act.Change x) f (inl (inl e)) rest = subst (IsWriteInForm objs) (sym (ap (λ z. z.write) e)) f
+    by (act.Change x) f (inl (inr j)) rest = absurd j
+
+-- the writes of a transaction of at most 64 operations in form are in form
+pub writes-in-form : (objs : List ObjDecl) (ops : List Op) → length ops ≤ 64 → All (IsOpInForm objs) ops → AreWritesInForm (minor_writes 0 ops)
+writes-in-form objs ops few forms = record {
+  count = let k : length (minor_writes 0 ops) ≤ length ops = minors-few 0 ops in omega (arith, k, few);
+  each = all-from_has (λ w. is_write_in_form w.write ≡ true) (minor_writes 0 ops) (λ w i. write-in-form objs w.write (minors-form objs 0 ops forms w i));
+  rising = increasing-pairs (map minor_of (minor_writes 0 ops)) (minors-rise 0 ops);
+  minors = all-from_has (λ w. w.minor < 64) (minor_writes 0 ops) (λ w i. let k : w.minor < 0 + length ops = (minor-from 0 ops w i).1 in omega (arith, k, few));
+}
+
+pub writes-declared : (objs : List ObjDecl) (ops : List Op) → All (IsOpInForm objs) ops → (w : MinorWrite) → Has w (minor_writes 0 ops) → IsWriteInForm objs w.write
+writes-declared objs ops forms w i = minors-form objs 0 ops forms w i
+
+-- ---- the statements
+
+-- a read of a script in form is in form
+abbrev pub ReadsAreInForm : Type 0
+ReadsAreInForm = (objs : List ObjDecl) (q : Read) → IsReadInForm objs q → is_read_in_form q ≡ true
+
+-- the writes of an attempt of at most 64 operations in form are in form, and each is as the script declares
+abbrev pub WritesAreInForm : Type 0
+WritesAreInForm = (objs : List ObjDecl) (ops : List Op) → length ops ≤ 64 → All (IsOpInForm objs) ops → AreWritesInForm (minor_writes 0 ops) × ((w : MinorWrite) → Has w (minor_writes 0 ops) → IsWriteInForm objs w.write)
+
+pub writes-are-in-form : WritesAreInForm
+writes-are-in-form objs ops few forms = (writes-in-form objs ops few forms, writes-declared objs ops forms)
