@@ -1,3 +1,4 @@
 -- All that holds between any two events of a run.
 pub mod Judged
 pub mod ScriptForm
+pub mod Asking

@@ -1,6 +1,6 @@
 -- What is read and written by a script in form is in form.
-use Rattle.std.specs.Prelude.{ℕ, ◌≡◌, ◌⊎◌, ◌≤◌, ◌<◌, ◌+◌, ◌++◌, ◌^◌, Bool, true, false, ◌&&◌, ◌||◌, nat_lt, nat_le, List, [], ◌∷◌, length, map, is_some, is_none, All, AllPairs, Option, Some, None, refl}
-use Rattle.std.proofs.Common.{inl, inr, suc, sym, ap, subst, arith}
+use Rattle.std.specs.Prelude.{ℕ, ◌≡◌, ◌⊎◌, ◌≤◌, ◌<◌, ◌+◌, ◌++◌, ◌^◌, Bool, true, false, ◌&&◌, ◌||◌, nat_lt, nat_le, List, [], ◌∷◌, length, slice_get, map, is_some, is_none, All, AllPairs, Option, Some, None, refl, if◌then◌else◌}
+use Rattle.std.proofs.Common.{inl, inr, zero, suc, sym, ap, subst, arith}
 use Rattle.std.proofs.lemmas.Bool.Decides.{nat_tests}
 use Rattle.std.proofs.lemmas.List.Elements.{All-head, All-tail}
 use Rattle.std.proofs.lemmas.List.Kept.{AllPairs-cons}
@@ -13,11 +13,18 @@ use Rattle.daos_base.specs.declared.operation.Read.TheVariants as read
 use Rattle.daos_base.specs.declared.operation.Write.{Write}
 use Rattle.daos_base.specs.declared.operation.Write.TheVariants as write
 use Rattle.daos_base.specs.declared.path.Path.{Path}
+use Rattle.daos_base.specs.declared.id.AttemptId.{AttemptId}
+use Rattle.daos_base.specs.declared.script.Command.{Command}
+use Rattle.daos_base.specs.declared.script.Command.TheVariants.{Run, Snap, Aggregate, Tell, Skip}
+use Rattle.daos_base.specs.declared.script.ContDecl.{ContDecl}
 use Rattle.daos_base.specs.declared.script.ObjDecl.{ObjDecl}
-use Rattle.daos_base.specs.Scripts.{IsActInForm, IsAkeyOf, IsDkeyOf, IsLength, IsObjectOf, IsOfObject, IsOpInForm, IsPathOf, IsReadInForm, IsWriteInForm}
+use Rattle.daos_base.specs.declared.script.Script.{Script}
+use Rattle.daos_base.specs.Scripts.{AreCommands, IsCommand, IsInForm, SnapName, is_numbered, old_snap, snap_of, IsActInForm, IsAkeyOf, IsDkeyOf, IsLength, IsObjectOf, IsOfObject, IsOpInForm, IsPathOf, IsReadInForm, IsWriteInForm}
 use Rattle.daos_laws.specs.DecidedLaws.{all-from_has}
 use Rattle.daos_laws.specs.Members.{Has, has-cases, has-from_map}
 use Rattle.daos_model.specs.Accesses.{minor_write, minor_writes}
+use Rattle.daos_model.specs.Transactions.{attempt_ops, command_of, numbered, ops_of, ops_or_none}
+use Rattle.world_gots.specs.FormLaws.{all-at}
 use Rattle.world_reads.specs.ListLaws.{increasing-pairs}
 use Rattle.daos_model.specs.BoolLaws.{both}
 use Rattle.daos_model.specs.Forms.{AreWritesInForm, minor_of, ends_at_akey, ends_at_dkey, ends_at_object, is_length, is_path_in_form, is_read_in_form, is_write_in_form}
@@ -148,6 +155,41 @@ writes-in-form objs ops few forms = record {
 
 pub writes-declared : (objs : List ObjDecl) (ops : List Op) → All (IsOpInForm objs) ops → (w : MinorWrite) → Has w (minor_writes 0 ops) → IsWriteInForm objs w.write
 writes-declared objs ops forms w i = minors-form objs 0 ops forms w i
+
+-- ---- the operations of attempts
+
+-- each numbered command of a client in form is in form, for some snapshots that are known there
+numbered-form : (conts : List ContDecl) (objs : List ObjDecl) (known : List SnapName) (list : List Command) (n : ℕ) (d : Command) → AreCommands conts objs known list → slice_get (numbered list) n ≡ Some d
+    → (names : List SnapName) × IsCommand conts objs names d
+numbered-form conts objs known [] n d f at = let no : ⊥ = cc in absurd no
+numbered-form conts objs known (c ∷ cs) n d f at = by (is_numbered c) n at (λ m. numbered-form conts objs (known ++ snap_of c) cs m d f.1)
+  where
+    by : (b : Bool) (m : ℕ) → slice_get (if b then c ∷ numbered cs else numbered cs) m ≡ Some d → ((i : ℕ) → slice_get (numbered cs) i ≡ Some d → (names : List SnapName) × IsCommand conts objs names d)
+        → (names : List SnapName) × IsCommand conts objs names d
+    by true zero h rest = let same : c ≡ d = cc in (known, subst (IsCommand conts objs known) same f.0)
+    by true (suc m) h rest = rest m h
+    by false m h rest = rest m h
+
+-- a command has at most 64 operations
+command-few : (conts : List ContDecl) (objs : List ObjDecl) (names : List SnapName) (d : Command) → IsCommand conts objs names d → length (ops_of d) ≤ 64
+command-few conts objs names (Run ops turns snapshot) f = f.0.few
+command-few conts objs names (Snap name cont) f = omega arith
+command-few conts objs names (Aggregate cont) f = omega arith
+command-few conts objs names (Tell client) f = omega arith
+command-few conts objs names (Skip turns) f = omega arith
+
+-- so has an attempt
+pub ops-few : (targets : ℕ) (s : Script) (x : AttemptId) → IsInForm targets s → length (attempt_ops s x) ≤ 64
+unfolding command_of
+ops-few targets s x f = by (slice_get s.clients x.client) refl
+  where
+    of_list : (list : List Command) → AreCommands s.conts s.objs (map old_snap s.olds) list → (o : Option Command) → slice_get (numbered list) x.command ≡ o → length (ops_or_none o) ≤ 64
+    of_list list commands None at = omega arith
+    of_list list commands (Some d) at = let k = numbered-form s.conts s.objs (map old_snap s.olds) list x.command d commands at in command-few s.conts s.objs k.0 d k.1
+
+    by : (o : Option (List Command)) → slice_get s.clients x.client ≡ o → length (attempt_ops s x) ≤ 64
+    by None at = rw at (omega arith)
+    by (Some list) at = rw at (of_list list (all-at (λ l. AreCommands s.conts s.objs (map old_snap s.olds) l) s.clients x.client list f.commands at) (slice_get (numbered list) x.command) refl)
 
 -- ---- the statements
 

@@ -1,6 +1,7 @@
 // What holds between any two turns of a client in a run of one target, and what a script in form gives.
 #![tactic(auto)]
 
+ghost use Rattle.world_core.specs.Asking.{RequestsAreRight};
 ghost use Rattle.world_core.specs.Judged.{ClientsKeepJudged};
 ghost use Rattle.world_core.specs.ScriptForm.{ReadsAreInForm, WritesAreInForm};
 
@@ -9,6 +10,14 @@ ghost use Rattle.world_core.specs.ScriptForm.{ReadsAreInForm, WritesAreInForm};
 /// those that are told as committed; where the run allows an attempt and reads at no snapshot.
 pub fn laws_of_clients()
     ensures kept { ClientsKeepJudged }
+{}
+
+/// Says that what is asked of the one target of a run is right, where the facts above hold of a script in
+/// form that reads at no snapshot, and clients were told what was served: a read is what the present attempt of
+/// its client has to ask of that target, of a group of a declared object; writes are those of the
+/// attempt, in form, and not decided yet; and the epoch that a request bears, or is issued, is its own.
+pub fn laws_of_requests()
+    ensures right { RequestsAreRight }
 {}
 
 /// Says that what a script in form reads is in form, and so are the writes of each of its attempts.

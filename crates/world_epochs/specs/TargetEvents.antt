@@ -141,7 +141,7 @@ answer-bears y (Some f) a x e (ByRead op group b is) h = let k : (y ≡ x) × (f
 answer-bears y (Some f) a x e (ByEnd how is) h = let k : (y ≡ x) × (f ≡ e) = subst (λ m. BearsEpoch m x e) is h in (ap (λ z. Some z) k.1, k.0)
 
 -- an epoch that is issued has ticks above those so far and above those of the tracker
-issued-ticks : (t : TargetPlan) (m : TargetMemory) (reading : ℕ) (tracker : Epoch) (e : Epoch) → t.me ≡ 0 → request_epoch t m reading tracker None ≡ Some e
+pub issued-ticks : (t : TargetPlan) (m : TargetMemory) (reading : ℕ) (tracker : Epoch) (e : Epoch) → t.me ≡ 0 → request_epoch t m reading tracker None ≡ Some e
     → (m.ticks < e.0 / 256) × (tracker.0 < e.0) × (e.0 % 256 ≡ 0)
 issued-ticks t m reading tracker e me h = by (next_ticks (record { target = t.me; ticks = m.ticks }) reading tracker.0) refl h
   where

@@ -32,14 +32,14 @@ all-at P (y ∷ ys) (suc n) x all at = all-at P ys n x (All-tail P y ys all) at
 
 -- ---- paths
 
-read-declared : (objs : List ObjDecl) (q : Read) → IsReadInForm objs q → IsOfObject objs (read_path q)
+pub read-declared : (objs : List ObjDecl) (q : Read) → IsReadInForm objs q → IsOfObject objs (read_path q)
 read-declared objs (read.Single p) f = f.declared
 read-declared objs (read.Extent p low len) f = f.0.declared
 read-declared objs (read.Dkeys p) f = f.declared
 read-declared objs (read.Akeys p) f = f.declared
 read-declared objs (read.Exists p) f = f.declared
 
-write-declared : (objs : List ObjDecl) (w : Write) → IsWriteInForm objs w → IsOfObject objs (write_path w)
+pub write-declared : (objs : List ObjDecl) (w : Write) → IsWriteInForm objs w → IsOfObject objs (write_path w)
 write-declared objs (write.Single p bytes) f = f.0.declared
 write-declared objs (write.Extent p low bytes) f = f.0.declared
 write-declared objs (write.PunchObject p) f = f.declared
@@ -58,7 +58,7 @@ read-joinable objs (read.Akeys p) f = f.dkey
 read-joinable objs (read.Exists p) f = tt
 
 -- there are targets enough for the object of such a path
-fit-object : (targets : ℕ) (objs : List ObjDecl) (p : Path) → All (λ d. ClassFits d.id.class targets) objs → IsOfObject objs p → (obj : ObjId) × (p.obj ≡ Some obj) × ClassFits obj.class targets
+pub fit-object : (targets : ℕ) (objs : List ObjDecl) (p : Path) → All (λ d. ClassFits d.id.class targets) objs → IsOfObject objs p → (obj : ObjId) × (p.obj ≡ Some obj) × ClassFits obj.class targets
 fit-object targets objs p fits i = (i.1.id, sym i.4.0, subst (λ (d : ObjDecl). ClassFits d.id.class targets) i.3 (fits i.0 i.1 i.2))
 
 askable : (targets : ℕ) (objs : List ObjDecl) (q : Read) → All (λ d. ClassFits d.id.class targets) objs → IsOfObject objs (read_path q) → IsJoinable q → IsAskable targets q

@@ -101,7 +101,7 @@ attempt-ops-here r n c a d attempts here told at = by (slice_get r.script.client
 
 -- ---- moves
 
-told-of : (r : Rules) (w : World) (n : ℕ) (c : ClientState) → Lines r w → slice_get w.clients n ≡ Some c → (attempts : List Attempt) × HasTold (client_plan r n) c attempts
+pub told-of : (r : Rules) (w : World) (n : ℕ) (c : ClientState) → Lines r w → slice_get w.clients n ≡ Some c → (attempts : List Attempt) × HasTold (client_plan r n) c attempts
 told-of r w n c lines here = let t = lines.told n c here in (t.attempts, t.tells.told)
 
 move-tells-decided : (r : Rules) (h : History) (w : World) (n : ℕ) (c : ClientState) → Lines r w → slice_get w.clients n ≡ Some c → TellDecided r h w.issued (listed (moved (client_plan r n) c).line)

@@ -1,0 +1,385 @@
+-- What a target is asked is right: it is what the present attempt of a client has to ask, and bears its epoch.
+use Rattle.std.specs.Prelude.{ℕ, ◌≡◌, ◌≢◌, ◌⊎◌, ◌≤◌, ◌<◌, ◌%◌, ◌/◌, Bool, true, false, is_some, max, List, [], ◌∷◌, slice_get, All, Contains, Option, Some, None, refl}
+use Rattle.std.proofs.Common.{inl, inr, sym, ◌∙◌, ap, subst, arith}
+use Rattle.daos_base.specs.declared.epoch.Epoch.{Epoch}
+use Rattle.daos_base.specs.declared.id.AttemptId.{AttemptId}
+use Rattle.daos_base.specs.declared.id.ObjId.{ObjId}
+use Rattle.daos_base.specs.declared.operation.Act.{Act}
+use Rattle.daos_base.specs.declared.operation.Act.TheVariants as act
+use Rattle.daos_base.specs.declared.operation.Cond.{Cond}
+use Rattle.daos_base.specs.declared.operation.Cond.TheVariants as cond
+use Rattle.daos_base.specs.declared.operation.MinorWrite.{MinorWrite}
+use Rattle.daos_base.specs.declared.operation.Op.{Op}
+use Rattle.daos_base.specs.declared.operation.Read.{Read}
+use Rattle.daos_base.specs.declared.operation.Read.TheVariants as read
+use Rattle.daos_base.specs.declared.operation.Write.{Write}
+use Rattle.daos_base.specs.declared.operation.Write.TheVariants as write
+use Rattle.daos_base.specs.declared.outcome.Outcome.TheVariants.{Committed}
+use Rattle.daos_base.specs.declared.path.Path.{Path}
+use Rattle.daos_base.specs.declared.script.Command.TheVariants as command
+use Rattle.daos_base.specs.declared.script.ObjDecl.{ObjDecl}
+use Rattle.daos_base.specs.Operations.{act_path, read_path, write_path}
+use Rattle.daos_base.specs.Placement.{ClassFits, groups}
+use Rattle.daos_base.specs.PlacementLaws.{group_of-within, groups-positive}
+use Rattle.daos_base.specs.Scripts.{IsActInForm, IsAkeyOf, IsDkeyOf, IsInForm, IsObjectOf, IsOpInForm, IsPathOf, IsReadInForm, IsWriteInForm}
+use Rattle.daos_laws.specs.Members.{Has, has-from_contains}
+use Rattle.daos_messages.specs.declared.message.Message.{Message}
+use Rattle.daos_messages.specs.declared.message.Message.TheVariants as message
+use Rattle.daos_messages.specs.declared.message.Post.{Post}
+use Rattle.daos_model.specs.declared.durable.Version.{Version}
+use Rattle.daos_model.specs.Accesses.{asked_member, minor_writes}
+use Rattle.daos_model.specs.Forms.{AreWritesInForm}
+use Rattle.daos_model.specs.Opening.{Opening, top}
+use Rattle.daos_model.specs.Transactions.{attempt_ops, ops_or_none}
+use Rattle.world_base.specs.declared.client.ClientPlan.{ClientPlan}
+use Rattle.world_base.specs.declared.client.ClientState.{ClientState}
+use Rattle.world_base.specs.declared.client.Present.{Present}
+use Rattle.world_base.specs.declared.client.Stage.{Stage}
+use Rattle.world_base.specs.declared.client.Stage.TheVariants as stage
+use Rattle.world_base.specs.declared.letter.Letter.{Letter}
+use Rattle.world_base.specs.declared.request.CommitRequest.{CommitRequest}
+use Rattle.world_base.specs.declared.request.FetchRequest.{FetchRequest}
+use Rattle.world_base.specs.declared.target.TargetState.{TargetState}
+use Rattle.world_base.specs.declared.target.Life.TheVariants.{Running}
+use Rattle.world_base.specs.declared.world.World.{World}
+use Rattle.world_base.specs.ClientTurns.{attempt_id, command_at, group_asked, group_count, member_asked, question}
+use Rattle.world_core.specs.Judged.{Judged}
+use Rattle.world_epochs.specs.Epochs.{AsksEpoch, BearsEpoch, Epochs, IsIssued, IsPast, OneTarget, Unsnapped, reads_snapshot}
+use Rattle.world_epochs.specs.Lists.{nothing-passes}
+use Rattle.world_epochs.specs.TargetEvents.{issued-ticks, only-target}
+use Rattle.world_events.specs.Events.{Rules, client_plan, target_plan}
+use Rattle.world_events.specs.Letters.{Takes, client, is_talk_of, is_tell, target}
+use Rattle.world_clients.specs.Answered.{ops_here}
+use Rattle.world_core.specs.ScriptForm.{ops-few, read-in-form, writes-declared, writes-in-form}
+use Rattle.world_gots.specs.FormLaws.{all-at, fit-object, ops-form, read-declared, write-declared}
+use Rattle.world_gots.specs.Gots.{Found, Gots, IsFound, Nothing, groups_asked}
+use Rattle.world_reads.specs.Given.{FitsTargets, Given, HasItsEpoch, IsCommitRight, IsFetchRight, IsItsEpoch, IsMessageRight}
+use Rattle.world_reads.specs.History.{History}
+use Rattle.world_talks.specs.AskLaws.{asked-commit, asked-read}
+use Rattle.world_talks.specs.Asked.{ARead, ASnapshot, AnAggregation, Asked, AsksCommit, AsksRead, ItsWrites, commit_of, fetch_of, group_of_read}
+use Rattle.world_talks.specs.InFlight.{HearsRequest, hears-request}
+use Rattle.world_talks.specs.TalkLaws.{got-is-talk}
+use Rattle.world_turns.specs.Requests.{request_epoch}
+use Rattle.world_turns.specs.TargetTurns.{is_heard}
+use Rattle.world_verdicts.specs.TurnLaws.{attempt-ops-here, told-of}
+use Rattle.world_verdicts.specs.VerdictLaws.{left-or-it}
+use Rattle.world_verdicts.specs.Verdicts.{IsOnItsWay, IsToldCommitted}
+
+-- ---- letters
+
+-- one of the letters in flight can be taken
+pub takes-one : (letters : List Letter) (l : Letter) → Has l letters → (rest : List Letter) × Takes letters l rest
+takes-one [] l i = absurd i
+takes-one (m ∷ ms) l (inl same) = (ms, record { before = []; after = ms; among = ap (λ z. z ∷ ms) (sym same); left = refl })
+takes-one (m ∷ ms) l (inr i) = let t = takes-one ms l i in (m ∷ t.0, record { before = m ∷ t.1.before; after = t.1.after; among = ap (λ z. m ∷ z) t.1.among; left = ap (λ z. m ∷ z) t.1.left })
+
+-- ---- the epoch of a request
+
+epoch_of : ℕ → Epoch
+epoch_of n = record { 0 = n }
+
+same-epoch : (e f : Epoch) → e.0 ≡ f.0 → e ≡ f
+unfolding epoch_of
+same-epoch e f h = ap epoch_of h
+
+-- a request bears the epoch of its attempt, if that has one
+own-epoch : (r : Rules) (o : Opening) (w : World) (x : AttemptId) (e : Epoch) → Epochs r (top o) w → IsIssued w x e → IsItsEpoch o w x (Some e) e
+own-epoch r o w x e E i = record {
+  above = E.above x e i;
+  alone = λ y f is same. E.apart y x e (subst (λ z. Contains w.issued (y, z)) (same-epoch f e same) is) i;
+  own = λ f has. let one : e ≡ f = cc in subst (λ z. Contains w.issued (x, z)) one i;
+}
+
+-- else one is issued that none has yet
+new-epoch : (r : Rules) (o : Opening) (w : World) (t : ℕ) (s : TargetState) (x : AttemptId) (k : Epoch) (reading : ℕ) (e : Epoch) → Epochs r (top o) w → t ≡ 0 → slice_get w.targets t ≡ Some s → s.life ≡ Running
+    → top o ≤ k.0 → request_epoch (target_plan r t) s.memory reading k None ≡ Some e → IsItsEpoch o w x None e
+new-epoch r o w t s x k reading e E zero' here runs low h = record { above = above; alone = alone; own = λ f has. let no : ⊥ = cc in absurd no }
+  where
+    is : (s.memory.ticks < e.0 / 256) × (k.0 < e.0) × (e.0 % 256 ≡ 0)
+    is = issued-ticks (target_plan r t) s.memory reading k e zero' h
+
+    above : top o < e.0
+    above = let b : k.0 < e.0 = is.1 in omega (arith, low, b)
+
+    alone : (y : AttemptId) (f : Epoch) → Contains w.issued (y, f) → f.0 ≡ e.0 → y ≡ x
+    alone y f i same =
+        let zero'' : f.0 % 256 ≡ t = ap (λ z. z % 256) same ∙ is.2 ∙ sym zero' in
+        let old : f.0 / 256 ≤ s.memory.ticks = E.ticks y f s i (ap (λ z. slice_get w.targets z) zero'' ∙ here) runs in
+        let new : s.memory.ticks < e.0 / 256 = is.0 in
+        let one : f.0 / 256 ≡ e.0 / 256 = ap (λ z. z / 256) same in
+        let no : ⊥ = omega (arith, old, new, one) in absurd no
+
+-- so a request that bears or asks for an epoch has its epoch
+pub its-epoch : (r : Rules) (o : Opening) (w : World) (t : ℕ) (s : TargetState) (x : AttemptId) (ep : Option Epoch) (k : Epoch) → Epochs r (top o) w → t ≡ 0 → slice_get w.targets t ≡ Some s → s.life ≡ Running
+    → ((e : Epoch) → ep ≡ Some e → IsIssued w x e) → (ep ≡ None → top o ≤ k.0) → HasItsEpoch r o w t s x ep k
+its-epoch r o w t s x None k E zero' here runs bears low reading e h = new-epoch r o w t s x k reading e E zero' here runs (low refl) h
+its-epoch r o w t s x (Some f) k E zero' here runs bears low reading e h = let same : f ≡ e = cc in subst (λ z. IsItsEpoch o w x (Some f) z) same (own-epoch r o w x f E (bears f refl))
+
+-- ---- what holds of a run of one target between any two of its events
+
+pub record Facts (r : Rules) (o : Opening) (h : History) (w : World) : Type 0 where
+  pub one : OneTarget r w
+  pub unsnapped : Unsnapped r
+  pub form : IsInForm r.script.targets r.script
+  pub judged : Judged r (top o) h w
+  pub gots : Gots r h w
+
+-- ---- what is read
+
+-- the target that is asked
+read-member : (p : ClientPlan) (k : Epoch) (c : ClientState) (a : Present) (q : Post) (f : FetchRequest) → Asked p k c a q → q.message ≡ fetch_of f → q.to ≡ target (member_asked (read_path f.read).obj c.command p.targets f.group)
+read-member p k c a q f (ARead ops turns snapshot op r at is asked says) it =
+    let same : message.Fetch (attempt_id p c a) a.op (group_of_read p a (read_path r)) a.epoch a.first k r (is_some snapshot) ≡ fetch_of f = sym (ap (λ x. x.message) says) ∙ it in
+    let the_read : r ≡ f.read = cc (same) in
+    let the_group : group_of_read p a (read_path r) ≡ f.group = cc (same) in
+    ap (λ x. x.to) says ∙ ap (λ g. target (member_asked (read_path r).obj c.command p.targets g)) the_group ∙ ap (λ z. target (member_asked (read_path z).obj c.command p.targets f.group)) the_read
+read-member p k c a q f (ItsWrites ops turns snapshot w ws at last all says) it = let no : ⊥ = cc (ap (λ x. x.message) says, it) in absurd no
+read-member p k c a q f (ASnapshot name cont at says) it = let no : ⊥ = cc (ap (λ x. x.message) says, it) in absurd no
+read-member p k c a q f (AnAggregation cont at says) it = let no : ⊥ = cc (ap (λ x. x.message) says, it) in absurd no
+
+-- a path that a read or a write in form has may be asked whether there is a cell
+of-akey : (objs : List ObjDecl) (p : Path) → IsAkeyOf objs p → IsPathOf objs p
+of-akey objs p f = record { declared = f.declared; no_akey = λ none. let no : ⊥ = let bad : None ≡ Some f.dkey.0 = sym none ∙ f.dkey.1 in cc in absurd no }
+
+of-dkey : (objs : List ObjDecl) (p : Path) → IsDkeyOf objs p → IsPathOf objs p
+of-dkey objs p f = record { declared = f.declared; no_akey = λ none. f.no_akey }
+
+of-object : (objs : List ObjDecl) (p : Path) → IsObjectOf objs p → IsPathOf objs p
+of-object objs p f = record { declared = f.declared; no_akey = λ none. f.no_akey }
+
+read-path : (objs : List ObjDecl) (q : Read) → IsReadInForm objs q → IsPathOf objs (read_path q)
+read-path objs (read.Single p) f = of-akey objs p f
+read-path objs (read.Extent p low len) f = of-akey objs p f.0
+read-path objs (read.Dkeys p) f = of-object objs p f
+read-path objs (read.Akeys p) f = of-dkey objs p f
+read-path objs (read.Exists p) f = f
+
+write-path : (objs : List ObjDecl) (w : Write) → IsWriteInForm objs w → IsPathOf objs (write_path w)
+write-path objs (write.Single p bytes) f = of-akey objs p f.0
+write-path objs (write.Extent p low bytes) f = of-akey objs p f.0
+write-path objs (write.PunchObject p) f = of-object objs p f
+write-path objs (write.PunchDkey p) f = of-dkey objs p f
+write-path objs (write.PunchAkey p) f = of-akey objs p f
+
+act-exists : (objs : List ObjDecl) (a : Act) → IsActInForm objs a → IsReadInForm objs (read.Exists (act_path a))
+act-exists objs (act.Fetch q) f = read-path objs q f
+act-exists objs (act.Change w) f = write-path objs w f
+
+-- an operation in form asks for what is in form
+question-form : (objs : List ObjDecl) (st : Stage) (op : Op) (q : Read) → IsOpInForm objs op → question st op ≡ Some q → IsReadInForm objs q
+question-form objs st op q f asks = by st op.act op.cond asks f.act
+  where
+    by : (st : Stage) (act : Act) (cond : Cond) → question st (record { act = act; cond = cond }) ≡ Some q → IsActInForm objs act → IsReadInForm objs q
+    by stage.Skip a b h g = let no : ⊥ = cc in absurd no
+    by stage.Cond a cond.Free h g = let no : ⊥ = cc in absurd no
+    by stage.Cond a cond.Must h g = let same : read.Exists (act_path a) ≡ q = cc in subst (IsReadInForm objs) same (act-exists objs a g)
+    by stage.Cond a cond.MustNot h g = let same : read.Exists (act_path a) ≡ q = cc in subst (IsReadInForm objs) same (act-exists objs a g)
+    by stage.Act (act.Fetch r) c h g = let same : r ≡ q = cc in subst (IsReadInForm objs) same g
+    by stage.Act (act.Change w) c h g = let no : ⊥ = cc in absurd no
+
+-- the group of a read is one of its object
+group-within : (obj : ObjId) (path : Path) (targets n : ℕ) → path.obj ≡ Some obj → ClassFits obj.class targets → (n ≡ 0) ⊎ (n < groups_asked path targets) → group_asked path.obj path.dkey targets n < groups obj.class targets
+group-within obj path targets n is fits k = by path.dkey refl
+  where
+    some : 0 < groups obj.class targets
+    some = groups-positive obj.class targets fits
+
+    by : (d : Option (List ℕ)) → path.dkey ≡ d → group_asked path.obj path.dkey targets n < groups obj.class targets
+    by None none = rw (is, none) (elim k [
+      | inl zero' ↦ subst (λ m. m < groups obj.class targets) (sym zero') some
+      | inr less ↦ let few : n < max 1 (groups obj.class targets) = subst (λ m. n < m) (ap (λ o. max 1 (group_count o path.dkey targets)) is ∙ ap (λ d. max 1 (group_count (Some obj) d targets)) none) less in omega (arith, some, few)
+    ])
+    by (Some key) some' = rw (is, some') (group_of-within obj.class key targets fits)
+
+-- ---- a request and the attempt that it is of
+
+-- the operations of the attempt of a client that is at this command
+present-ops : (r : Rules) (o : Opening) (h : History) (w : World) (n : ℕ) (c : ClientState) (a : Present) (ops : List Op) (turns : List ℕ) (name : Option (List ℕ)) → Facts r o h w → slice_get w.clients n ≡ Some c
+    → c.present ≡ Some a → command_at (client_plan r n) c ≡ Some (command.Run ops turns name) → attempt_ops r.script (attempt_id (client_plan r n) c a) ≡ ops
+present-ops r o h w n c a ops turns name k here present at =
+    let t = told-of r w n c k.judged.spoken.lines here in
+    attempt-ops-here r n c a (command.Run ops turns name) t.0 present t.1 at
+
+-- the group that is asked is the first, or one of those of the read
+group-found : (h : History) (x : AttemptId) (targets : ℕ) (ops : List Op) (a : Present) (op : Op) (q : Read) → IsFound h x targets ops a → slice_get ops a.op ≡ Some op → question a.stage op ≡ Some q
+    → (a.group ≡ 0) ⊎ (a.group < groups_asked (read_path q) targets)
+group-found h x targets ops a op q (Nothing g f) at asks = inl g
+group-found h x targets ops a op q (Found op' q' at' asks' more joined) at asks =
+    let one : op' ≡ op = let e : Some op' ≡ Some op = sym at' ∙ at in cc in
+    let same : q' ≡ q = let e : Some q' ≡ Some q = sym asks' ∙ ap (question a.stage) one ∙ asks in cc in
+    inr (subst (λ z. a.group < groups_asked (read_path z) targets) same more)
+
+pub fetch-right : (r : Rules) (o : Opening) (h : History) (w : World) (t : ℕ) (l : Letter) (rest : List Letter) (f : FetchRequest) → Facts r o h w → Contains w.messages l → HearsRequest r w l rest → l.to ≡ target t
+    → l.message ≡ fetch_of f → IsFetchRight r t f.attempt f.op f.group f.read f.snapshot
+fetch-right r o h w t l rest f k among i to it = record {
+  now = ap reads_snapshot (sym it) ∙ k.judged.epochs.plain l among;
+  form = read-in-form r.script.objs f.read in_form;
+  asked = λ e b. record { op = asks.o; at = (f.op, refl, ops-at); stage = i.a.stage; asks = asks.asked; obj = obj.0; of_object = obj.1; member = member };
+  obj = obj.0;
+  of_object = obj.1;
+  fits = obj.2;
+  within = within;
+}
+  where
+    says : i.q.message ≡ fetch_of f
+    says = sym (ap (λ z. z.message) i.it) ∙ it
+
+    asks : AsksRead (client_plan r i.n) i.k i.c i.a f
+    asks = asked-read (client_plan r i.n) i.k i.c i.a i.q f i.asked says
+
+    ops-same : attempt_ops r.script f.attempt ≡ asks.ops
+    ops-same = ap (attempt_ops r.script) asks.attempt ∙ present-ops r o h w i.n i.c i.a asks.ops asks.turns asks.name k i.here i.present asks.at
+
+    ops-at : slice_get (attempt_ops r.script f.attempt) f.op ≡ Some asks.o
+    ops-at = ap (λ ops. slice_get ops f.op) ops-same ∙ ap (slice_get asks.ops) asks.op ∙ asks.here
+
+    op-form : IsOpInForm r.script.objs asks.o
+    op-form = all-at (IsOpInForm r.script.objs) (attempt_ops r.script f.attempt) f.op asks.o (ops-form r.script.targets r.script f.attempt k.form) ops-at
+
+    in_form : IsReadInForm r.script.objs f.read
+    in_form = question-form r.script.objs i.a.stage asks.o f.read op-form asks.asked
+
+    obj : (obj : ObjId) × ((read_path f.read).obj ≡ Some obj) × ClassFits obj.class r.script.targets
+    obj = fit-object r.script.targets r.script.objs (read_path f.read) k.form.classes (read-declared r.script.objs f.read in_form)
+
+    member : t ≡ asked_member obj.0 f.attempt.command r.script.targets f.group
+    member =
+        ap (λ z. z.number) (sym to ∙ ap (λ z. z.to) i.it ∙ read-member (client_plan r i.n) i.k i.c i.a i.q f i.asked says)
+        ∙ ap (λ z. member_asked z i.c.command r.script.targets f.group) obj.1 ∙ ap (λ z. asked_member obj.0 z r.script.targets f.group) (sym (ap (λ x. x.command) asks.attempt))
+
+    found : (i.a.group ≡ 0) ⊎ (i.a.group < groups_asked (read_path f.read) r.script.targets)
+    found =
+        group-found h (attempt_id (client_plan r i.n) i.c i.a) r.script.targets (ops_here (client_plan r i.n) i.c) i.a asks.o f.read (k.gots.present i.n i.c i.a i.here i.present).found
+        (ap (λ z. slice_get (ops_or_none z) i.a.op) asks.at ∙ asks.here) asks.asked
+
+    within : f.group < groups obj.0.class r.script.targets
+    within = subst (λ g. g < groups obj.0.class r.script.targets) (sym asks.group) (group-within obj.0 (read_path f.read) r.script.targets i.a.group obj.1 obj.2 found)
+
+-- ---- what is written
+
+-- there are some writes
+writes-some : (p : ClientPlan) (k : Epoch) (c : ClientState) (a : Present) (q : Post) (f : CommitRequest) → Asked p k c a q → q.message ≡ commit_of f → f.writes ≢ []
+writes-some p k c a q f (ItsWrites ops turns snapshot w ws at last all says) it none =
+    let same : message.Commit (attempt_id p c a) a.epoch a.first k (w ∷ ws) ≡ commit_of f = sym (ap (λ x. x.message) says) ∙ it in
+    let some : w ∷ ws ≡ f.writes = cc (same) in
+    let no : ⊥ = let bad : w ∷ ws ≡ [] = some ∙ none in cc in absurd no
+writes-some p k c a q f (ARead ops turns snapshot op r at is asked says) it none = let no : ⊥ = cc (ap (λ x. x.message) says, it) in absurd no
+writes-some p k c a q f (ASnapshot name cont at says) it none = let no : ⊥ = cc (ap (λ x. x.message) says, it) in absurd no
+writes-some p k c a q f (AnAggregation cont at says) it none = let no : ⊥ = cc (ap (λ x. x.message) says, it) in absurd no
+
+-- a client isn't past its present attempt
+present-not-past : (p : ClientPlan) (c : ClientState) (a : Present) → c.present ≡ Some a → IsPast c (attempt_id p c a) → ⊥
+present-not-past p c a here (inl less) = let no : ⊥ = omega (arith, less) in absurd no
+present-not-past p c a here (inr past) =
+    let one : a ≡ past.0 = let e : Some a ≡ Some past.0 = sym here ∙ past.1 in cc in
+    let less : a.attempt < past.0.attempt = past.3 in
+    let same : a.attempt ≡ past.0.attempt = ap (λ z. z.attempt) one in
+    let no : ⊥ = omega (arith, less, same) in absurd no
+
+-- an attempt whose writes are asked to be committed isn't decided
+undecided : (r : Rules) (o : Opening) (h : History) (w : World) (l : Letter) (rest : List Letter) (f : CommitRequest) → Facts r o h w → Takes w.messages l rest → (i : HearsRequest r w l rest) → l.message ≡ commit_of f
+    → f.attempt ≡ attempt_id (client_plan r i.n) i.c i.a → (e : Epoch) → Contains h.decided (f.attempt, e) → ⊥
+undecided r o h w l rest f k takes i it own e d = by (k.judged.verdicts.told f.attempt e d)
+  where
+    number : f.attempt.client ≡ i.n
+    number = ap (λ x. x.client) own
+
+    on_way : (v : IsOnItsWay w.messages f.attempt e) → (v.l ≡ l) ⊎ Contains rest v.l → ⊥
+    on_way v (inl same) = let bad : message.Ended f.attempt (Some e) Committed ≡ commit_of f = sym v.says ∙ ap (λ z. z.message) same ∙ it in let no : ⊥ = cc in absurd no
+    on_way v (inr j) = nothing-passes (is_talk_of i.n) rest v.l i.none_else j (got-is-talk i.n v.l (ap is_tell v.says) (v.to_it ∙ ap client number))
+
+    told : IsToldCommitted w.lines f.attempt e → ⊥
+    told z =
+        present-not-past (client_plan r i.n) i.c i.a i.present
+        (subst (IsPast i.c) (z.of_it ∙ own) (k.judged.epochs.past z.a i.c z.among (ap (λ m. slice_get w.clients m) (ap (λ x. x.client) z.of_it ∙ number) ∙ i.here)))
+
+    by : IsOnItsWay w.messages f.attempt e ⊎ IsToldCommitted w.lines f.attempt e → ⊥
+    by (inl v) = on_way v (left-or-it w.messages l rest v.l takes v.among)
+    by (inr z) = told z
+
+pub commit-right : (r : Rules) (o : Opening) (h : History) (w : World) (l : Letter) (rest : List Letter) (f : CommitRequest) → Facts r o h w → Takes w.messages l rest → HearsRequest r w l rest
+    → l.message ≡ commit_of f → IsCommitRight r h f.attempt f.writes
+commit-right r o h w l rest f k takes i it = record {
+  its = its;
+  some = writes-some (client_plan r i.n) i.k i.c i.a i.q f i.asked says;
+  form = subst AreWritesInForm (sym its) (writes-in-form r.script.objs (attempt_ops r.script f.attempt) (ops-few r.script.targets r.script f.attempt k.form) forms);
+  fits = λ m j. fits m (subst (Has m) its (has-from_contains f.writes m j));
+  undecided = undecided r o h w l rest f k takes i it asks.attempt;
+}
+  where
+    says : i.q.message ≡ commit_of f
+    says = sym (ap (λ z. z.message) i.it) ∙ it
+
+    asks : AsksCommit (client_plan r i.n) i.k i.c i.a f
+    asks = asked-commit (client_plan r i.n) i.k i.c i.a i.q f i.asked says
+
+    its : f.writes ≡ minor_writes 0 (attempt_ops r.script f.attempt)
+    its = asks.writes ∙ ap (minor_writes 0) (sym (ap (attempt_ops r.script) asks.attempt ∙ present-ops r o h w i.n i.c i.a asks.ops asks.turns asks.name k i.here i.present asks.at))
+
+    forms : All (IsOpInForm r.script.objs) (attempt_ops r.script f.attempt)
+    forms = ops-form r.script.targets r.script f.attempt k.form
+
+    fits : (m : MinorWrite) → Has m (minor_writes 0 (attempt_ops r.script f.attempt)) → FitsTargets r m.write
+    fits m j = fit-object r.script.targets r.script.objs (write_path m.write) k.form.classes (write-declared r.script.objs m.write (writes-declared r.script.objs (attempt_ops r.script f.attempt) forms m j))
+
+-- ---- every message to a running target
+
+module _ (r : Rules) (o : Opening) (h : History) (w : World) (k : Facts r o h w) (l : Letter) (t : ℕ) (s : TargetState) (among : Contains w.messages l) (to : l.to ≡ target t)
+    (here : slice_get w.targets t ≡ Some s) (runs : s.life ≡ Running) where
+  taken : (rest : List Letter) × Takes w.messages l rest
+  taken = takes-one w.messages l (has-from_contains w.messages l among)
+
+  heard : is_heard l.message ≡ true → HearsRequest r w l taken.0
+  heard of_kind = hears-request r w l taken.0 k.judged.spoken.talk taken.1 of_kind
+
+  zero-th : t ≡ 0
+  zero-th = only-target r w t s k.one here
+
+  fetch-is : (x : AttemptId) (op group : ℕ) (ep first : Option Epoch) (tracker : Epoch) (q : Read) (snapshot : Bool) → l.message ≡ message.Fetch x op group ep first tracker q snapshot
+      → IsMessageRight r o h w t s (message.Fetch x op group ep first tracker q snapshot)
+  fetch-is x op group ep first tracker q snapshot it = (right, its-epoch r o w t s x ep tracker k.judged.epochs zero-th here runs bears low)
+    where
+      right : IsFetchRight r t x op group q snapshot
+      right =
+          fetch-right r o h w t l taken.0 (record { attempt = x; op = op; group = group; ep = ep; first = first; tracker = tracker; read = q; snapshot = snapshot }) k among (heard (ap is_heard it)) to it
+
+      plain : l.message ≡ message.Fetch x op group ep first tracker q false
+      plain = it ∙ ap (message.Fetch x op group ep first tracker q) right.now
+
+      bears : (e : Epoch) → ep ≡ Some e → IsIssued w x e
+      bears e own = k.judged.epochs.borne l x e among (subst (λ m. BearsEpoch m x e) (sym (plain ∙ ap (λ z. message.Fetch x op group z first tracker q false) own)) (refl, refl))
+
+      low : ep ≡ None → top o ≤ tracker.0
+      low none = (k.judged.epochs.fresh l x tracker among (subst (λ m. AsksEpoch m x tracker) (sym (it ∙ ap (λ z. message.Fetch x op group z first tracker q snapshot) none)) (refl, refl))).2
+
+  commit-is : (x : AttemptId) (ep first : Option Epoch) (tracker : Epoch) (ws : List MinorWrite) → l.message ≡ message.Commit x ep first tracker ws → IsMessageRight r o h w t s (message.Commit x ep first tracker ws)
+  commit-is x ep first tracker ws it = (
+    commit-right r o h w l taken.0 (record { attempt = x; ep = ep; first = first; tracker = tracker; writes = ws }) k taken.1 (heard (ap is_heard it)) it,
+    its-epoch r o w t s x ep tracker k.judged.epochs zero-th here runs bears low,
+  )
+    where
+      bears : (e : Epoch) → ep ≡ Some e → IsIssued w x e
+      bears e own = k.judged.epochs.borne l x e among (subst (λ m. BearsEpoch m x e) (sym (it ∙ ap (λ z. message.Commit x z first tracker ws) own)) (refl, refl))
+
+      low : ep ≡ None → top o ≤ tracker.0
+      low none = (k.judged.epochs.fresh l x tracker among (subst (λ m. AsksEpoch m x tracker) (sym (it ∙ ap (λ z. message.Commit x z first tracker ws) none)) (refl, refl))).2
+
+  pub message-right : IsMessageRight r o h w t s l.message
+  message-right = by l.message refl
+    where
+      by : (m : Message) → l.message ≡ m → IsMessageRight r o h w t s m
+      by (message.Fetch x op group ep first tracker q snapshot) it = fetch-is x op group ep first tracker q snapshot it
+      by (message.Commit x ep first tracker ws) it = commit-is x ep first tracker ws it
+      by m it = tt
+
+-- what is asked of the one target is right, in a run of a script in form that reads at no snapshot
+abbrev pub RequestsAreRight : Type 0
+RequestsAreRight = (r : Rules) (o : Opening) (held : ℕ → List Version) (h : History) (w : World) → Facts r o h w → ((t : ℕ) (v : Version) → Contains (held t) v → v.epoch.0 ≤ top o) → Given r o held h w
+
+pub requests-are-right : RequestsAreRight
+requests-are-right r o held h w k before = record {
+  one = k.one.script;
+  alone = λ t s here. only-target r w t s k.one here;
+  before = before;
+  asked = λ l t s among to here runs. message-right r o h w k l t s among to here runs;
+}
