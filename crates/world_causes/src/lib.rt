@@ -1,0 +1,2 @@
+// Every restart shows a later read, every lack of space is accounted for, and spent ticks are spent.
+#![tactic(auto)]
