@@ -2,3 +2,8 @@
 pub mod Causes
 pub mod Premises
 pub mod Dates
+pub mod Floors
+pub mod Paths
+pub mod Turns
+pub mod ReadTurns
+pub mod CommitTurns
