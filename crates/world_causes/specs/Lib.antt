@@ -7,3 +7,5 @@ pub mod Paths
 pub mod Turns
 pub mod ReadTurns
 pub mod CommitTurns
+pub mod Growth
+pub mod Requests
