@@ -9,3 +9,6 @@ pub mod ReadTurns
 pub mod CommitTurns
 pub mod Growth
 pub mod Requests
+pub mod TargetLaws
+pub mod ClientLaws
+pub mod CauseLaws
