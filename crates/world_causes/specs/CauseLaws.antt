@@ -1,7 +1,6 @@
 -- Every event keeps that outcomes show their causes, and so it is at the beginning.
-use Rattle.std.specs.Prelude.{ℕ, ◌≡◌, ◌≤◌, ◌+◌, ◌++◌, ◌/◌, ◌^◌, max, List, [], ◌∷◌, length, Contains, slice_get, Option, Some, None, refl}
-use Rattle.std.proofs.Common.{sym, ◌∙◌, ap, subst, arith}
-use Rattle.daos_base.specs.declared.report.Attempt.{Attempt}
+use Rattle.std.specs.Prelude.{ℕ, ◌≡◌, ◌≤◌, ◌+◌, ◌++◌, ◌/◌, ◌^◌, max, List, [], length, Contains, slice_get, Some}
+use Rattle.std.proofs.Common.{ap, subst, arith}
 use Rattle.daos_laws.specs.Members.{has-from_contains}
 use Rattle.daos_model.specs.Attempts.{tries}
 use Rattle.daos_model.specs.Opening.{Opening}

@@ -1,7 +1,6 @@
 -- Each move of a client, and its hearing of a message, keeps that outcomes show their causes.
-use Rattle.std.specs.Prelude.{ℕ, ◌≡◌, ◌≤◌, ◌<◌, ◌+◌, ◌++◌, ◌/◌, ◌⊎◌, max, nat_lt, Bool, true, false, ◌&&◌, List, [], ◌∷◌, map, Contains, slice_get, is_some, Option, Some, None, refl, if◌then◌else◌}
+use Rattle.std.specs.Prelude.{ℕ, ◌≡◌, ◌≤◌, ◌+◌, ◌++◌, ◌/◌, ◌⊎◌, max, nat_lt, Bool, true, false, ◌&&◌, List, [], ◌∷◌, map, Contains, slice_get, is_some, Option, Some, None, refl, if◌then◌else◌}
 use Rattle.std.proofs.Common.{append-nil, sym, ◌∙◌, ap, subst, inl, inr, arith}
-use Rattle.std.proofs.Math.ListN.{set}
 use Rattle.daos_base.specs.declared.answer.Answer.{Answer}
 use Rattle.daos_base.specs.declared.epoch.Epoch.{Epoch}
 use Rattle.daos_base.specs.declared.operation.Cond.{Cond}
@@ -17,7 +16,6 @@ use Rattle.daos_base.specs.declared.script.Command.{Command}
 use Rattle.daos_base.specs.declared.script.Command.TheVariants.{Run, Snap, Aggregate, Tell, Skip}
 use Rattle.daos_laws.specs.Members.{Has, contains-from_has, has-cases, has-from_contains, has-from_map}
 use Rattle.daos_messages.specs.declared.message.Message.{Message}
-use Rattle.daos_messages.specs.declared.message.Message.TheVariants as message
 use Rattle.daos_messages.specs.declared.message.Post.{Post}
 use Rattle.daos_messages.specs.declared.message.Reply.{Reply}
 use Rattle.daos_messages.specs.declared.message.Reply.TheVariants as reply
@@ -33,7 +31,7 @@ use Rattle.world_base.specs.declared.client.Stage.{Stage}
 use Rattle.world_base.specs.declared.client.Stage.TheVariants as stage
 use Rattle.world_base.specs.declared.letter.Letter.{Letter}
 use Rattle.world_base.specs.declared.world.World.{World}
-use Rattle.world_base.specs.ClientTurns.{Move, after_end, asks_or_goes, at_present, attempt_id, attempt_moves, begins_at, begun, command_at, command_moves, commits, condition_told, ended, ends, first_epoch, goes, greatest, group_count, group_told, heard, hears_epochs, is_yes, joined, knows, listed, moved, moves_at, next_command, next_stage, op_moves, op_of, op_told, question, replied, rests, run_moves, snaps_known, told_at, told_by_message, waits}
+use Rattle.world_base.specs.ClientTurns.{Move, after_end, asks_or_goes, at_present, attempt_id, attempt_moves, begins_at, begun, command_at, command_moves, commits, condition_told, ends, first_epoch, goes, greatest, group_count, group_told, heard, hears_epochs, is_yes, joined, knows, listed, moved, moves_at, next_command, next_stage, op_moves, op_of, op_told, question, replied, rests, run_moves, snaps_known, told_at, told_by_message, waits}
 use Rattle.world_events.specs.Events.{Rules, client_plan, with_client, with_epoch}
 use Rattle.world_events.specs.Letters.{Takes, client, letter_of, letters_of}
 use Rattle.world_events.specs.Steps.{KeptByCounting, KeptByMoves, after_client, after_move, without}
@@ -42,10 +40,10 @@ use Rattle.world_lines.specs.Lines.{filled}
 use Rattle.world_talks.specs.AskLaws.{move-is, waiting-rests}
 use Rattle.world_talks.specs.Asked.{ARead, ASnapshot, AnAggregation, Asked, Asking, IsMove, ItsWrites, Silent, Telling}
 use Rattle.world_talks.specs.Conversation.{Conversation}
-use Rattle.world_talks.specs.HearLaws.{ended-silent, replied-silent}
+use Rattle.world_talks.specs.HearLaws.{replied-silent}
 use Rattle.world_talks.specs.Hearing.{ATracker, AReply, AnEnd, IsHearing, hearing-is}
 use Rattle.world_talks.specs.TalkLaws.{left-is-among, taken-is-among}
-use Rattle.world_causes.specs.Causes.{Bounded, Causes, Dated, MessageShows, ReplyShows, Shows, limit}
+use Rattle.world_causes.specs.Causes.{Causes, Dated, MessageShows, ReplyShows, Shows, limit}
 use Rattle.world_causes.specs.Growth.{at-set}
 
 -- ---- moves that tell nothing new

@@ -1,33 +1,30 @@
 -- A target that hears a Commit decides the attempt, or shows a later read, or that it lacks blocks, or its ticks are spent.
-use Rattle.std.specs.Prelude.{ℕ, ◌≡◌, ◌≢◌, ◌≤◌, ◌<◌, ◌+◌, ◌/◌, ◌⊎◌, ◌++◌, ◌==◌, Any, Bool, true, false, List, [], ◌∷◌, filter, Contains, Option, Some, None, refl, if◌then◌else◌}
+use Rattle.std.specs.Prelude.{ℕ, ◌≡◌, ◌≢◌, ◌≤◌, ◌<◌, ◌+◌, ◌/◌, ◌++◌, ◌==◌, Bool, true, false, List, [], ◌∷◌, Contains, Some, None, refl, if◌then◌else◌}
 use Rattle.std.specs.List.{list_any}
 use Rattle.std.proofs.Common.{append-nil, sym, ◌∙◌, ap, subst, inl, inr, arith}
 use Rattle.daos_base.specs.declared.epoch.Epoch.{Epoch}
 use Rattle.daos_base.specs.declared.id.AttemptId.{AttemptId}
 use Rattle.daos_base.specs.declared.operation.MinorWrite.{MinorWrite}
 use Rattle.daos_base.specs.declared.outcome.Cause.{Cause}
-use Rattle.daos_base.specs.declared.outcome.Cause.TheVariants as cause
 use Rattle.daos_base.specs.declared.outcome.FloorWhy.{FloorWhy}
 use Rattle.daos_base.specs.declared.outcome.Outcome.TheVariants as outcome
 use Rattle.daos_base.specs.declared.shown.Shown.{Shown}
 use Rattle.daos_base.specs.Epochs.{last_ticks}
 use Rattle.daos_base.specs.Operations.{write_path}
 use Rattle.daos_base.specs.PathLaws.{near-comm}
-use Rattle.daos_base.specs.Paths.{near}
 use Rattle.daos_base.specs.Placement.{path_members}
 use Rattle.daos_laws.specs.Members.{Has, contains-from_has, has-from_contains, has-from_filter, has-right}
 use Rattle.daos_messages.specs.declared.actor.ActorId.{ActorId}
 use Rattle.daos_messages.specs.declared.message.Message.TheVariants as message
 use Rattle.daos_model.specs.Accesses.{minor_writes}
 use Rattle.daos_model.specs.Blocks.{blocks}
-use Rattle.daos_model.specs.CausesShown.{WritesNear, blocks_at, blocks_of_some, writes_at}
+use Rattle.daos_model.specs.CausesShown.{blocks_at, blocks_of_some, writes_at}
 use Rattle.daos_model.specs.Opening.{Opening, top}
 use Rattle.daos_model.specs.Transactions.{attempt_ops}
 use Rattle.vos_stamp.specs.Stamps.{read_later}
 use Rattle.world_base.specs.declared.did.Did.{Did}
 use Rattle.world_base.specs.declared.request.CommitRequest.{CommitRequest}
 use Rattle.world_base.specs.declared.target.TargetMemory.{TargetMemory}
-use Rattle.world_base.specs.declared.target.TargetPlan.{TargetPlan}
 use Rattle.world_events.specs.Events.{Rules, listed, target_plan}
 use Rattle.world_turns.specs.Changes.{Kept}
 use Rattle.world_turns.specs.Commits as commit
@@ -35,11 +32,11 @@ use Rattle.world_turns.specs.Requests.{issued_for, request_epoch, with_ticks}
 use Rattle.world_turns.specs.Turns.{Whole}
 use Rattle.world_causes.specs.Causes.{Dated, ShowsRead, blocks_of_decided, limit}
 use Rattle.world_causes.specs.Dates.{IsDated, heard-within, limit-rises, request-dated, request-spent}
-use Rattle.world_causes.specs.Floors.{AreBelow, below-stays, no-first-floor, no-first-later}
+use Rattle.world_causes.specs.Floors.{below-stays, no-first-floor, no-first-later}
 use Rattle.world_causes.specs.Paths.{CommitSoFar, commit-path}
 use Rattle.world_causes.specs.Premises.{AreOfReads, IsRequest}
 use Rattle.world_causes.specs.ReadTurns.{AreOpeningLow, issue-within, none-told, told-one}
-use Rattle.world_causes.specs.Turns.{Heeds, Says, said}
+use Rattle.world_causes.specs.Turns.{Heeds, said}
 
 -- a target that hears a Commit of an attempt's writes, of which it holds some
 pub record HearsCommit (r : Rules) (o : Opening) (decided issued : Dated) (t : ℕ) (opening : Epoch × FloorWhy) (m : TargetMemory) (old : Kept) (q : CommitRequest) : Type 0 where

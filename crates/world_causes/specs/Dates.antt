@@ -1,15 +1,13 @@
 -- The epoch of a request, and what is within the limit.
-use Rattle.std.specs.Prelude.{ℕ, ◌≡◌, ◌≤◌, ◌<◌, ◌+◌, ◌*◌, ◌/◌, ◌^◌, ◌++◌, min, max, nat_le, Bool, true, false, List, [], ◌∷◌, length, Contains, Option, Some, None, refl, if◌then◌else◌}
+use Rattle.std.specs.Prelude.{ℕ, ◌≡◌, ◌≤◌, ◌<◌, ◌+◌, ◌*◌, ◌/◌, ◌^◌, ◌++◌, min, max, nat_le, Bool, true, false, [], ◌∷◌, length, Contains, Option, Some, None, refl, if◌then◌else◌}
 use Rattle.std.specs.Option.{option_map}
-use Rattle.std.proofs.Common.{append-nil, sym, ◌∙◌, ap, subst, arith}
+use Rattle.std.proofs.Common.{append-nil, sym, ap, subst, arith}
 use Rattle.std.proofs.lemmas.Bool.Decides.{nat_tests}
 use Rattle.std.proofs.lemmas.List.{length-append}
 use Rattle.std.proofs.lemmas.List.Elements.{Contains-append_left, Contains-push}
-use Rattle.std.proofs.lemmas.Option.{cond_some}
 use Rattle.daos_base.specs.declared.epoch.Epoch.{Epoch}
 use Rattle.daos_base.specs.declared.id.AttemptId.{AttemptId}
 use Rattle.daos_base.specs.Epochs.{heard_ticks, issued_ticks, last_ticks}
-use Rattle.daos_hlc.specs.Clock.{next_ticks}
 use Rattle.daos_model.specs.Opening.{Opening, top}
 use Rattle.world_base.specs.declared.target.TargetMemory.{TargetMemory}
 use Rattle.world_base.specs.declared.target.TargetPlan.{TargetPlan}

@@ -1,8 +1,7 @@
 -- What stands at or below the opening refuses nothing, and with clocks that leave nothing uncertain no write is later.
-use Rattle.std.specs.Prelude.{ℕ, ◌≡◌, ◌≤◌, ◌<◌, ◌+◌, ◌*◌, Bool, true, false, ◌&&◌, not, nat_le, nat_lt, List, [], ◌∷◌, find, Option, Some, None, Result, Ok, Err, refl, if◌then◌else◌}
+use Rattle.std.specs.Prelude.{ℕ, ◌≡◌, ◌≤◌, ◌<◌, Bool, true, false, ◌&&◌, not, nat_le, nat_lt, List, [], ◌∷◌, find, Option, Some, None, Err, refl, if◌then◌else◌}
 use Rattle.std.proofs.Common.{sym, ◌∙◌, ap, subst, arith}
 use Rattle.std.proofs.lemmas.Bool.Decides.{nat_tests}
-use Rattle.daos_base.specs.declared.answer.Answer.{Answer}
 use Rattle.daos_base.specs.declared.epoch.Epoch.{Epoch}
 use Rattle.daos_base.specs.declared.id.AttemptId.{AttemptId}
 use Rattle.daos_base.specs.declared.id.ContId.{ContId}
@@ -11,7 +10,6 @@ use Rattle.daos_base.specs.declared.operation.Read.{Read}
 use Rattle.daos_base.specs.declared.outcome.Cause.TheVariants.{Floor}
 use Rattle.daos_base.specs.declared.outcome.FloorWhy.{FloorWhy}
 use Rattle.daos_base.specs.declared.path.Path.{Path}
-use Rattle.daos_base.specs.declared.shown.Shown.{Shown}
 use Rattle.daos_base.specs.Operations.{read_path, write_path}
 use Rattle.daos_base.specs.Paths.{overlaps}
 use Rattle.daos_laws.specs.Members.{Has}
@@ -22,14 +20,13 @@ use Rattle.daos_model.specs.BoolLaws.{and_left, not_true}
 use Rattle.daos_model.specs.Durables.{is_frozen, is_row_of, row_of, row_or_new}
 use Rattle.daos_model.specs.Versions.{blocks_read, first_between, first_blocking, is_between, map_below, version_path}
 use Rattle.vos_stamp.specs.Stamps.{floor_cause}
-use Rattle.vos_store.specs.declared.refusal.FetchNo.{FetchNo}
 use Rattle.vos_store.specs.declared.refusal.FetchNo.TheVariants as fetch
 use Rattle.vos_store.specs.Answers.{answer_unless, fetched, floor_of, is_past, later_floor, later_write, shown_or_none}
 use Rattle.world_base.specs.declared.request.FetchRequest.{FetchRequest}
 use Rattle.world_base.specs.declared.target.TargetPlan.{TargetPlan}
 use Rattle.world_reads.specs.EntryLaws.{found-has, found-passes}
 use Rattle.world_turns.specs.Commits.{first_floor, first_later, or_else}
-use Rattle.world_turns.specs.Reads.{fetch_cause, later_of, later_unless, uncertain_from, uncertain_to}
+use Rattle.world_turns.specs.Reads.{fetch_cause, later_of, uncertain_from, uncertain_to}
 
 -- floors of a target, and what it aggregated to, are at or below an epoch
 pub record AreBelow (opening : Epoch × FloorWhy) (d : Durable) (e : ℕ) : Type 0 where

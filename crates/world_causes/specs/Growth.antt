@@ -1,5 +1,5 @@
 -- What an outcome shows it goes on to show, and what holds of lists where one element changed.
-use Rattle.std.specs.Prelude.{ℕ, ◌≡◌, ◌≤◌, ◌<◌, ◌+◌, ◌/◌, ◌⊎◌, ◌++◌, ◌==◌, Any, Bool, true, false, ◌||◌, List, [], ◌∷◌, Contains, slice_get, Option, Some, None, refl}
+use Rattle.std.specs.Prelude.{ℕ, ◌≡◌, ◌≤◌, ◌+◌, ◌⊎◌, ◌++◌, Any, true, ◌||◌, List, [], ◌∷◌, slice_get, Option, Some, None, refl}
 use Rattle.std.proofs.Common.{zero, suc, sym, ◌∙◌, ap, subst, inl, inr, arith}
 use Rattle.std.proofs.Math.Bool.{or-true}
 use Rattle.std.proofs.Math.ListN.{set}
@@ -26,7 +26,7 @@ use Rattle.daos_messages.specs.declared.message.Message.TheVariants as message
 use Rattle.daos_messages.specs.declared.message.Reply.{Reply}
 use Rattle.daos_messages.specs.declared.message.Reply.TheVariants as reply
 use Rattle.daos_model.specs.Accesses.{is_condition, is_fetch, op_path}
-use Rattle.daos_model.specs.CausesShown.{AsksAt, blocks_at}
+use Rattle.daos_model.specs.CausesShown.{AsksAt}
 use Rattle.daos_model.specs.Opening.{Opening}
 use Rattle.world_base.specs.declared.client.Stage.{Stage}
 use Rattle.world_base.specs.declared.client.Stage.TheVariants as stage

@@ -12,3 +12,4 @@ pub mod Requests
 pub mod TargetLaws
 pub mod ClientLaws
 pub mod CauseLaws
+pub mod LastCauses

@@ -1,5 +1,5 @@
 -- What the steps of a turn leave: the rows of containers, the free blocks but for what writes take, and what isn't settled.
-use Rattle.std.specs.Prelude.{ℕ, ◌≡◌, ◌≤◌, ◌<◌, ◌+◌, ◌/◌, Bool, true, false, ◌&&◌, ◌||◌, not, List, [], ◌∷◌, map, filter, Option, Some, None, refl}
+use Rattle.std.specs.Prelude.{ℕ, ◌≡◌, ◌≤◌, ◌+◌, false, not, List, map, filter, Option, Some, refl}
 use Rattle.std.proofs.Common.{sym, ◌∙◌, ap, subst, arith}
 use Rattle.daos_base.specs.declared.entry.Entry.{Entry}
 use Rattle.daos_base.specs.declared.entry.Settle.TheVariants.{Commit}
@@ -20,9 +20,9 @@ use Rattle.world_base.specs.declared.request.CommitRequest.{CommitRequest}
 use Rattle.world_base.specs.declared.request.FetchRequest.{FetchRequest}
 use Rattle.world_base.specs.declared.target.TargetMemory.{TargetMemory}
 use Rattle.world_base.specs.declared.target.TargetPlan.{TargetPlan}
-use Rattle.world_turns.specs.Changes.{Change, Extends, Kept, Prepares, Settles, Steps}
+use Rattle.world_turns.specs.Changes.{Change, Kept, Steps}
 use Rattle.world_turns.specs.Commits as commit
-use Rattle.world_turns.specs.Idle.{IdleEnds, IdleNext, SettlesFirst}
+use Rattle.world_turns.specs.Idle.{IdleNext, SettlesFirst}
 use Rattle.world_turns.specs.Reads as read
 use Rattle.world_turns.specs.Requests.{is_other_attempt, request_epoch}
 use Rattle.world_turns.specs.TargetTurns.{IdlesWhole}

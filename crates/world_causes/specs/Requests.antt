@@ -1,6 +1,6 @@
 -- What a target hears is a request as its client makes it.
-use Rattle.std.specs.Prelude.{ℕ, ◌≡◌, ◌≢◌, ◌≤◌, ◌<◌, ◌/◌, ◌⊎◌, ◌==◌, Any, Bool, true, false, List, [], ◌∷◌, length, Contains, slice_get, is_some, Option, Some, None, refl}
-use Rattle.std.proofs.Common.{sym, ◌∙◌, ap, subst, inl, inr, arith}
+use Rattle.std.specs.Prelude.{ℕ, ◌≡◌, ◌≢◌, ◌≤◌, ◌<◌, ◌/◌, Any, true, false, List, [], ◌∷◌, length, Contains, slice_get, is_some, Option, Some, None, refl}
+use Rattle.std.proofs.Common.{sym, ◌∙◌, ap, subst, inl, arith}
 use Rattle.std.proofs.lemmas.Bool.{eq-eqb}
 use Rattle.std.proofs.lemmas.Option.{slice_get_within}
 use Rattle.daos_base.specs.declared.epoch.Epoch.{Epoch}
@@ -9,11 +9,9 @@ use Rattle.daos_base.specs.declared.operation.MinorWrite.{MinorWrite}
 use Rattle.daos_base.specs.declared.operation.Op.{Op}
 use Rattle.daos_base.specs.declared.script.Command.{Command}
 use Rattle.daos_base.specs.declared.script.Command.TheVariants as command
-use Rattle.daos_base.specs.declared.shown.Shown.{Shown}
 use Rattle.daos_base.specs.Operations.{read_path, write_path}
 use Rattle.daos_base.specs.Placement.{path_leader, path_members, writes_leader}
 use Rattle.daos_laws.specs.Members.{Has, any-has, contains-from_has, has-filter, has-from_contains}
-use Rattle.daos_messages.specs.declared.message.Message.{Message}
 use Rattle.daos_messages.specs.declared.message.Message.TheVariants as message
 use Rattle.daos_messages.specs.declared.message.Post.{Post}
 use Rattle.daos_model.specs.Accesses.{minor_writes}
@@ -31,7 +29,6 @@ use Rattle.world_base.specs.declared.target.Life.TheVariants.{Running}
 use Rattle.world_base.specs.declared.world.World.{World}
 use Rattle.world_base.specs.ClientTurns.{attempt_id, command_at}
 use Rattle.world_clients.specs.AnswerLaws.{ops-here}
-use Rattle.world_clients.specs.MoveLaws.{IsAt}
 use Rattle.world_clients.specs.Standing.{Stands, number_of}
 use Rattle.world_epochs.specs.Epochs.{AsksEpoch, BearsEpoch, Epochs}
 use Rattle.world_events.specs.Events.{Rules, client_plan, commands_or_none, target_plan}
@@ -44,13 +41,11 @@ use Rattle.world_talks.specs.AskLaws.{asked-commit, asked-read}
 use Rattle.world_talks.specs.Conversation.{Conversation}
 use Rattle.world_talks.specs.InFlight.{HearsRequest, hears-request}
 use Rattle.world_talks.specs.TalkLaws.{taken-is-among}
-use Rattle.world_turns.specs.Changes.{Kept}
 use Rattle.world_turns.specs.Commits as commit
 use Rattle.world_turns.specs.TargetTurns.{is_heard}
 use Rattle.world_causes.specs.Causes.{Bounded, Causes, Dated, limit}
 use Rattle.world_causes.specs.CommitTurns.{HearsCommit}
 use Rattle.world_causes.specs.Growth.{any-of, has-at, question-asks}
-use Rattle.world_causes.specs.Paths.{AreOpenOf}
 use Rattle.world_causes.specs.Premises.{AreOfReads, FirstsAreLow, HasFirstLow, IsFirstLow, IsPlain, IsRequest, OpenIsDecided}
 use Rattle.world_causes.specs.ReadTurns.{HearsFetch}
 

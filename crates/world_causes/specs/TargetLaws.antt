@@ -1,11 +1,9 @@
 -- The events of a target keep that outcomes show their causes.
-use Rattle.std.specs.Prelude.{ℕ, ◌≡◌, ◌≤◌, ◌<◌, ◌+◌, ◌/◌, ◌⊎◌, ◌++◌, List, [], ◌∷◌, map, Contains, slice_get, Option, Some, None, refl}
+use Rattle.std.specs.Prelude.{ℕ, ◌≡◌, ◌≤◌, ◌+◌, ◌/◌, ◌⊎◌, ◌++◌, List, [], map, Contains, slice_get, Option, Some, None, refl}
 use Rattle.std.proofs.Common.{append-nil, sym, ◌∙◌, ap, subst, inl, inr, arith}
-use Rattle.std.proofs.Math.ListN.{set}
 use Rattle.daos_base.specs.declared.epoch.Epoch.{Epoch}
 use Rattle.daos_base.specs.declared.id.AttemptId.{AttemptId}
 use Rattle.daos_base.specs.declared.id.ContId.{ContId}
-use Rattle.daos_base.specs.declared.report.Attempt.{Attempt}
 use Rattle.daos_laws.specs.Members.{Has, contains-from_has, has-cases, has-from_contains, has-from_map}
 use Rattle.daos_messages.specs.declared.actor.ActorId.{ActorId}
 use Rattle.daos_messages.specs.declared.message.Message.{Message}
@@ -31,7 +29,7 @@ use Rattle.world_talks.specs.TalkLaws.{left-is-among}
 use Rattle.world_turns.specs.Changes.{Kept}
 use Rattle.world_turns.specs.Idle.{AllSettled, IdleEnds}
 use Rattle.world_turns.specs.TargetTurns.{Hears, IdlesWhole}
-use Rattle.world_causes.specs.Causes.{Bounded, Causes, Dated, MessageShows, blocks_of_decided, decided_by_posts, limit}
+use Rattle.world_causes.specs.Causes.{Causes, Dated, MessageShows, blocks_of_decided, decided_by_posts, limit}
 use Rattle.world_causes.specs.CommitTurns.{commit-heeds}
 use Rattle.world_causes.specs.Dates.{limit-rises}
 use Rattle.world_causes.specs.Floors.{stays-low}

@@ -1,6 +1,6 @@
 -- What a turn of a target comes to: an answer that shows its cause, ticks within the limit, and blocks that are accounted for.
-use Rattle.std.specs.Prelude.{ℕ, ◌≡◌, ◌≤◌, ◌<◌, ◌+◌, ◌/◌, ◌++◌, List, [], ◌∷◌, Contains, Option, Some, None, refl}
-use Rattle.std.proofs.Common.{sym, ◌∙◌, ap, subst, arith}
+use Rattle.std.specs.Prelude.{ℕ, ◌≡◌, ◌≤◌, ◌+◌, ◌/◌, ◌++◌, [], ◌∷◌, Contains, Option, Some, refl}
+use Rattle.std.proofs.Common.{sym, ap, subst}
 use Rattle.daos_base.specs.declared.epoch.Epoch.{Epoch}
 use Rattle.daos_base.specs.declared.id.AttemptId.{AttemptId}
 use Rattle.daos_messages.specs.declared.actor.ActorId.{ActorId}
@@ -10,7 +10,7 @@ use Rattle.world_base.specs.declared.did.Did.{Did}
 use Rattle.world_base.specs.declared.target.TargetMemory.{TargetMemory}
 use Rattle.world_base.specs.ClientTurns.{told_by_message}
 use Rattle.world_events.specs.Events.{Rules, listed}
-use Rattle.world_turns.specs.Requests.{issued_for, says}
+use Rattle.world_turns.specs.Requests.{says}
 use Rattle.world_causes.specs.Causes.{Dated, MessageShows, blocks_of_decided, decided_by_message, decided_by_posts, limit}
 
 -- what follows from a turn in which a target, with so many free blocks before and after it, heard a request
