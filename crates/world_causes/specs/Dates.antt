@@ -1,0 +1,136 @@
+-- The epoch of a request, and what is within the limit.
+use Rattle.std.specs.Prelude.{ℕ, ◌≡◌, ◌≤◌, ◌<◌, ◌+◌, ◌*◌, ◌/◌, ◌^◌, ◌++◌, min, max, nat_le, Bool, true, false, [], ◌∷◌, length, Contains, Option, Some, None, refl, if◌then◌else◌}
+use Rattle.std.specs.Option.{option_map}
+use Rattle.std.proofs.Common.{append-nil, sym, ap, subst, arith}
+use Rattle.std.proofs.lemmas.Bool.Decides.{nat_tests}
+use Rattle.std.proofs.lemmas.List.{length-append}
+use Rattle.std.proofs.lemmas.List.Elements.{Contains-append_left, Contains-push}
+use Rattle.daos_base.specs.declared.epoch.Epoch.{Epoch}
+use Rattle.daos_base.specs.declared.id.AttemptId.{AttemptId}
+use Rattle.daos_base.specs.Epochs.{heard_ticks, issued_ticks, last_ticks}
+use Rattle.daos_model.specs.Opening.{Opening, top}
+use Rattle.world_base.specs.declared.target.TargetMemory.{TargetMemory}
+use Rattle.world_base.specs.declared.target.TargetPlan.{TargetPlan}
+use Rattle.world_events.specs.Events.{listed}
+use Rattle.world_turns.specs.Reads.{uncertain_from}
+use Rattle.world_turns.specs.Requests.{epoch_of_ticks, issued_for, request_epoch}
+use Rattle.world_causes.specs.Causes.{Dated, limit}
+use Rattle.world_causes.specs.Premises.{IsFirstLow, IsRequest}
+
+-- ---- the limit
+
+pub limit-more : (o : Opening) (issued more : Dated) → limit o (issued ++ more) ≡ limit o issued + length more
+limit-more o issued more = by (length-append issued more)
+  where
+    by : length (issued ++ more) ≡ length issued + length more → limit o (issued ++ more) ≡ limit o issued + length more
+    by e = plus (max (2 ^ 55) o.lease) (length issued) (length more) e
+      where
+        plus : (a b c : ℕ) → length (issued ++ more) ≡ b + c → a + length (issued ++ more) ≡ a + b + c
+        plus a b c e = omega (arith, e)
+
+pub limit-rises : (o : Opening) (issued more : Dated) → limit o issued ≤ limit o (issued ++ more)
+limit-rises o issued more = by (limit o issued) (length more) (limit-more o issued more)
+  where
+    by : (a b : ℕ) → limit o (issued ++ more) ≡ a + b → a ≤ limit o (issued ++ more)
+    by a b e = omega (arith, e)
+
+-- the clock's last reading is within it
+reading-within : (o : Opening) (issued : Dated) → 2 ^ 55 ≤ limit o issued
+reading-within o issued = by (2 ^ 55) o.lease (length issued)
+  where
+    by : (a b c : ℕ) → a ≤ max a b + c
+    by a b c = omega arith
+
+pub heard-within : (n e b : ℕ) → n ≤ b → e / 256 ≤ b → heard_ticks n e ≤ b
+heard-within n e b low k = by (e / 256) k
+  where
+    by : (f : ℕ) → f ≤ b → max n f ≤ b
+    by f k = omega (arith, low, k)
+
+-- ---- ticks that are issued
+
+-- they are above the tracker's, and at most one above all within a bound
+ticks-next : (ticks reading tracker last b : ℕ) → ticks ≤ b → tracker / 256 ≤ b → last ≤ b → (tracker / 256 < max (max (ticks + 1) (min reading last)) (tracker / 256 + 1)) × (max (max (ticks + 1) (min reading last)) (tracker / 256 + 1) ≤ b + 1)
+ticks-next ticks reading tracker last b p q s = by (tracker / 256) q
+  where
+    by : (k : ℕ) → k ≤ b → (k < max (max (ticks + 1) (min reading last)) (k + 1)) × (max (max (ticks + 1) (min reading last)) (k + 1) ≤ b + 1)
+    by k q = (omega (arith, p, q, s), omega (arith, p, q, s))
+
+issued-within : (ticks reading tracker b : ℕ) → ticks ≤ b → tracker / 256 ≤ b → 2 ^ 55 ≤ b → (tracker / 256 < issued_ticks ticks reading tracker) × (issued_ticks ticks reading tracker ≤ b + 1)
+issued-within ticks reading tracker b p q s = ticks-next ticks reading tracker (2 ^ 55) b p q s
+
+-- what is known of the epoch with which a request is heeded
+pub record IsDated (o : Opening) (issued : Dated) (x : AttemptId) (ep first : Option Epoch) (e : Epoch) : Type 0 where
+  pub its : Contains (issued ++ listed (issued_for x ep e)) (x, e)
+  pub within : e.0 / 256 ≤ limit o (issued ++ listed (issued_for x ep e))
+  pub above : top o < e.0
+  pub certain : uncertain_from first e ≤ e.0
+
+last-is-there : (issued : Dated) (i : AttemptId × Epoch) → Contains (issued ++ i ∷ []) i
+last-is-there issued i = Contains-push issued i
+
+certain-first : (first ep : Option Epoch) (tracker e : Epoch) → IsFirstLow first ep tracker → ((own : Epoch) → ep ≡ Some own → own.0 ≤ e.0) → (ep ≡ None → tracker.0 ≤ e.0) → uncertain_from first e ≤ e.0
+certain-first None ep tracker e low own none = omega arith
+certain-first (Some f) None tracker e low own none = let k : tracker.0 ≤ e.0 = none refl in let l : f.0 ≤ tracker.0 = low in omega (arith, k, l)
+certain-first (Some f) (Some g) tracker e low own none = let k : g.0 ≤ e.0 = own g refl in let l : f.0 ≤ g.0 = low in omega (arith, k, l)
+
+epoch-is-new : (o : Opening) (issued : Dated) (x : AttemptId) (first : Option Epoch) (tracker e : Epoch) (me n : ℕ) → me < 256 → e.0 ≡ n * 256 + me → tracker.0 / 256 < n → n ≤ limit o issued + 1 → top o ≤ tracker.0
+    → IsFirstLow first None tracker → IsDated o issued x None first e
+epoch-is-new o issued x first tracker e me n few is above low top-low first-low = record {
+  its = last-is-there issued (x, e);
+  within = subst (λ m. e.0 / 256 ≤ m) (sym (limit-more o issued ((x, e) ∷ []))) (quotient (limit o issued) low);
+  above = over (top o) top-low;
+  certain = certain-first first None tracker e first-low (λ own k. let no : ⊥ = cc in absurd no) (λ k. omega (arith, is, above));
+}
+  where
+    quotient : (b : ℕ) → n ≤ b + 1 → e.0 / 256 ≤ b + 1
+    quotient b low = omega (arith, is, low, few)
+
+    over : (a : ℕ) → a ≤ tracker.0 → a < e.0
+    over a k = omega (arith, is, above, k)
+
+pub request-dated : (o : Opening) (issued : Dated) (x : AttemptId) (ep first : Option Epoch) (tracker : Epoch) (t : TargetPlan) (m : TargetMemory) (reading : ℕ) (e : Epoch) → t.me < 256 → m.ticks ≤ limit o issued
+    → IsRequest o issued x ep first tracker → request_epoch t m reading tracker ep ≡ Some e → IsDated o issued x ep first e
+request-dated o issued x (Some own) first tracker t m reading e few low q h = subst (λ f. IsDated o issued x (Some own) first f) same (record {
+  its = Contains-append_left issued [] (x, own) k.0;
+  within = subst (λ is. own.0 / 256 ≤ limit o is) (sym (append-nil issued)) k.2;
+  above = k.1;
+  certain = certain-first first (Some own) tracker own q.first_low (λ f g. let s : own ≡ f = cc in subst (λ z. z.0 ≤ own.0) s (omega arith)) (λ g. let no : ⊥ = cc in absurd no);
+})
+  where
+    same : own ≡ e
+    same = cc
+
+    k : Contains issued (x, own) × (top o < own.0) × (own.0 / 256 ≤ limit o issued)
+    k = q.own own refl
+request-dated o issued x None first tracker t m reading e few low q h = by (nat_le n last_ticks) refl h
+  where
+    n : ℕ
+    n = issued_ticks m.ticks reading tracker.0
+
+    found : epoch_of_ticks t.me n ≡ e → IsDated o issued x None first e
+    found same =
+        let k : (tracker.0 / 256 < n) × (n ≤ limit o issued + 1) = issued-within m.ticks reading tracker.0 (limit o issued) low q.tracked (reading-within o issued) in
+        epoch-is-new o issued x first tracker e t.me n few (sym (ap (λ z. z.0) same)) k.0 k.1 (q.fresh refl).1 q.first_low
+
+    by : (b : Bool) → nat_le n last_ticks ≡ b → option_map (epoch_of_ticks t.me) (if b then Some n else None) ≡ Some e → IsDated o issued x None first e
+    by true p k = found (cc)
+    by false p k = let no : ⊥ = cc in absurd no
+
+-- where there is none, the ticks are spent
+pub request-spent : (o : Opening) (issued : Dated) (x : AttemptId) (ep first : Option Epoch) (tracker : Epoch) (t : TargetPlan) (m : TargetMemory) (reading : ℕ) → m.ticks ≤ limit o issued
+    → IsRequest o issued x ep first tracker → request_epoch t m reading tracker ep ≡ None → (ep ≡ None) × (last_ticks < limit o issued + 1)
+request-spent o issued x (Some own) first tracker t m reading low q h = let no : ⊥ = cc in absurd no
+request-spent o issued x None first tracker t m reading low q h = (refl, by (nat_le n last_ticks) refl h)
+  where
+    n : ℕ
+    n = issued_ticks m.ticks reading tracker.0
+
+    past : (k last b : ℕ) → nat_le k last ≡ false → k ≤ b → last < b
+    past k last b p l =
+        let q : last < k = grind (arith, nat_tests) in
+        omega (arith, q, l)
+
+    by : (b : Bool) → nat_le n last_ticks ≡ b → option_map (epoch_of_ticks t.me) (if b then Some n else None) ≡ None → last_ticks < limit o issued + 1
+    by true p k = let no : ⊥ = cc in absurd no
+    by false p k = past n last_ticks (limit o issued + 1) p (issued-within m.ticks reading tracker.0 (limit o issued) low q.tracked (reading-within o issued)).1

@@ -1,0 +1,129 @@
+-- What stands at or below the opening refuses nothing, and with clocks that leave nothing uncertain no write is later.
+use Rattle.std.specs.Prelude.{ℕ, ◌≡◌, ◌≤◌, ◌<◌, Bool, true, false, ◌&&◌, not, nat_le, nat_lt, List, [], ◌∷◌, find, Option, Some, None, Err, refl, if◌then◌else◌}
+use Rattle.std.proofs.Common.{sym, ◌∙◌, ap, subst, arith}
+use Rattle.std.proofs.lemmas.Bool.Decides.{nat_tests}
+use Rattle.daos_base.specs.declared.epoch.Epoch.{Epoch}
+use Rattle.daos_base.specs.declared.id.AttemptId.{AttemptId}
+use Rattle.daos_base.specs.declared.id.ContId.{ContId}
+use Rattle.daos_base.specs.declared.operation.MinorWrite.{MinorWrite}
+use Rattle.daos_base.specs.declared.operation.Read.{Read}
+use Rattle.daos_base.specs.declared.outcome.Cause.TheVariants.{Floor}
+use Rattle.daos_base.specs.declared.outcome.FloorWhy.{FloorWhy}
+use Rattle.daos_base.specs.declared.path.Path.{Path}
+use Rattle.daos_base.specs.Operations.{read_path, write_path}
+use Rattle.daos_base.specs.Paths.{overlaps}
+use Rattle.daos_laws.specs.Members.{Has}
+use Rattle.daos_model.specs.declared.durable.Durable.{Durable}
+use Rattle.daos_model.specs.declared.durable.Version.{Version}
+use Rattle.daos_model.specs.Answers.{answer}
+use Rattle.daos_model.specs.BoolLaws.{and_left, not_true}
+use Rattle.daos_model.specs.Durables.{is_frozen, is_row_of, row_of, row_or_new}
+use Rattle.daos_model.specs.Versions.{blocks_read, first_between, first_blocking, is_between, map_below, version_path}
+use Rattle.vos_stamp.specs.Stamps.{floor_cause}
+use Rattle.vos_store.specs.declared.refusal.FetchNo.TheVariants as fetch
+use Rattle.vos_store.specs.Answers.{answer_unless, fetched, floor_of, is_past, later_floor, later_write, shown_or_none}
+use Rattle.world_base.specs.declared.request.FetchRequest.{FetchRequest}
+use Rattle.world_base.specs.declared.target.TargetPlan.{TargetPlan}
+use Rattle.world_reads.specs.EntryLaws.{found-has, found-passes}
+use Rattle.world_turns.specs.Commits.{first_floor, first_later, or_else}
+use Rattle.world_turns.specs.Reads.{fetch_cause, later_of, uncertain_from, uncertain_to}
+
+-- floors of a target, and what it aggregated to, are at or below an epoch
+pub record AreBelow (opening : Epoch × FloorWhy) (d : Durable) (e : ℕ) : Type 0 where
+  pub floor : (cont : ContId) → (floor_of opening d cont).0.0 < e
+  pub aggregated : (cont : ContId) → (row_of d cont).aggregated.0 < e
+
+-- ---- floors
+
+no-floor : (t e : ℕ) (floor : Epoch × FloorWhy) → floor.0.0 < e → floor_cause t e floor ≡ None
+no-floor t e floor low =
+    let is : nat_le e floor.0.0 ≡ false = grind (arith, nat_tests) in
+    ap (λ b. if b then Some (Floor t floor.0 floor.1) else None) is
+
+pub no-first-floor : (t : TargetPlan) (opening : Epoch × FloorWhy) (e : Epoch) (d : Durable) (ws : List MinorWrite) → AreBelow opening d e.0 → first_floor t opening e d ws ≡ None
+unfolding first_floor
+no-first-floor t opening e d [] low = refl
+no-first-floor t opening e d (w ∷ ws) low =
+    ap (λ c. or_else c (first_floor t opening e d ws)) (no-floor t.me e.0 (floor_of opening d (write_path w.write).cont) (low.floor (write_path w.write).cont)) ∙ no-first-floor t opening e d ws low
+
+pub not-past : (opening : Epoch × FloorWhy) (d : Durable) (cont : ContId) (e : Epoch) → AreBelow opening d e.0 → is_past cont e d ≡ false
+unfolding is_past
+not-past opening d cont e low =
+    let up : (row_of d cont).aggregated.0 < e.0 = low.aggregated cont in
+    let is : nat_le e.0 (row_of d cont).aggregated.0 ≡ false = grind (arith, nat_tests) in
+    ap (λ b. b && not (is_frozen d cont e)) is
+
+-- ---- later writes
+
+two-tests : (a u n : ℕ) → u ≤ a → (nat_lt a n && nat_le n u) ≡ false
+two-tests a u n low = by (nat_lt a n) refl
+  where
+    by : (b : Bool) → nat_lt a n ≡ b → (b && nat_le n u) ≡ false
+    by false e = refl
+    by true e = grind (arith, nat_tests)
+
+none-between : (p : Path) (above upto : ℕ) (vs : List Version) → upto ≤ above → first_between p above upto vs ≡ None
+unfolding first_between is_between
+none-between p above upto [] low = refl
+none-between p above upto (v ∷ vs) low =
+    ap (λ b. if b && overlaps p (version_path v) then Some v else find (is_between p above upto) vs) (two-tests above upto v.epoch.0 low) ∙ none-between p above upto vs low
+
+pub no-later : (t : TargetPlan) (first : Option Epoch) (e : Epoch) (p : Path) (d : Durable) → t.epsilon ≡ 0 → uncertain_from first e ≤ e.0 → later_of t first e p d ≡ None
+unfolding later_write
+no-later t first e p d none low = ap shown_or_none (none-between p e.0 (uncertain_to t first e).0 d.versions (omega (arith, none, low)))
+
+pub no-first-later : (t : TargetPlan) (first : Option Epoch) (e : Epoch) (d : Durable) (ws : List MinorWrite) → t.epsilon ≡ 0 → uncertain_from first e ≤ e.0 → first_later t first e d ws ≡ None
+unfolding first_later
+no-first-later t first e d [] none low = refl
+no-first-later t first e d (w ∷ ws) none low =
+    ap (λ c. or_else c (first_later t first e d ws)) (no-later t first e (write_path w.write) d none low) ∙ no-first-later t first e d ws none low
+
+-- ---- reads
+
+-- a read above the opening isn't refused
+pub no-refusal : (t : TargetPlan) (q : FetchRequest) (e : Epoch) (opening : Epoch × FloorWhy) (d : Durable) → q.snapshot ≡ false → t.epsilon ≡ 0 → uncertain_from q.first e ≤ e.0 → AreBelow opening d e.0
+    → fetch_cause t q e d ≡ None
+no-refusal t q e opening d plain none low below =
+    rw (not-past opening d (read_path q.read).cont e below, plain, no-later t q.first e (read_path q.read) d none low) refl
+
+-- one that meets an attempt meets a version of it that isn't settled
+pub meets-open : (r : Read) (e : Epoch) (opening : Epoch × FloorWhy) (d : Durable) (a : AttemptId) → AreBelow opening d e.0 → fetched r e d ≡ Err (fetch.Unsettled a) → (v : Version) × Has v d.versions × (v.done ≡ false) × (v.by ≡ a)
+unfolding fetched first_blocking blocks_read
+meets-open r e opening d a below h = by (find (blocks_read (read_path r) e.0) d.versions) refl (sym past ∙ h)
+  where
+    past : fetched r e d ≡ answer_unless (first_blocking (read_path r) e.0 d.versions) (answer r (map_below d.versions e.0))
+    past = ap (λ b. if b then Err (fetch.Aggregated (row_of d (read_path r).cont).aggregated (row_of d (read_path r).cont).number) else answer_unless (first_blocking (read_path r) e.0 d.versions) (answer r (map_below d.versions e.0)))
+        (not-past opening d (read_path r).cont e below)
+
+    open-of : (v : Version) → blocks_read (read_path r) e.0 v ≡ true → v.done ≡ false
+    open-of v k = not_true v.done (and_left (not v.done) (nat_lt v.epoch.0 e.0) (and_left (not v.done && nat_lt v.epoch.0 e.0) _ k))
+
+    by : (o : Option Version) → find (blocks_read (read_path r) e.0) d.versions ≡ o → answer_unless o (answer r (map_below d.versions e.0)) ≡ Err (fetch.Unsettled a) → (v : Version) × Has v d.versions × (v.done ≡ false) × (v.by ≡ a)
+    by None k f = let no : ⊥ = cc in absurd no
+    by (Some v) k f = (v, found-has (blocks_read (read_path r) e.0) d.versions v k, open-of v (found-passes (blocks_read (read_path r) e.0) d.versions v k), cc)
+
+-- ---- rows that stay
+
+row-stays : (d x : Durable) (cont : ContId) → x.conts ≡ d.conts → row_of x cont ≡ row_of d cont
+unfolding row_of
+row-stays d x cont same = ap (λ rows. row_or_new cont (find (is_row_of cont) rows)) same
+
+floor-stays : (opening : Epoch × FloorWhy) (d x : Durable) (cont : ContId) → x.conts ≡ d.conts → floor_of opening x cont ≡ floor_of opening d cont
+unfolding floor_of
+floor-stays opening d x cont same = ap (later_floor opening) (row-stays d x cont same)
+
+-- what is so of floors stays so where the rows do
+pub stays-low : (opening : Epoch × FloorWhy) (d x : Durable) (P : ℕ → Type 0) → x.conts ≡ d.conts → ((cont : ContId) → P (floor_of opening d cont).0.0 × P (row_of d cont).aggregated.0)
+    → (cont : ContId) → P (floor_of opening x cont).0.0 × P (row_of x cont).aggregated.0
+stays-low opening d x P same low cont =
+    (subst (λ f. P f.0.0) (sym (floor-stays opening d x cont same)) (low cont).0, subst (λ row. P row.aggregated.0) (sym (row-stays d x cont same)) (low cont).1)
+
+pub below-stays : (opening : Epoch × FloorWhy) (d x : Durable) (top e : ℕ) → x.conts ≡ d.conts → top < e → ((cont : ContId) → ((floor_of opening d cont).0.0 ≤ top) × ((row_of d cont).aggregated.0 ≤ top))
+    → AreBelow opening x e
+below-stays opening d x top e same up low = record { floor = λ cont. one (floor_of opening x cont).0.0 (now cont).0; aggregated = λ cont. one (row_of x cont).aggregated.0 (now cont).1 }
+  where
+    one : (n : ℕ) → n ≤ top → n < e
+    one n k = omega (arith, k, up)
+
+    now : (cont : ContId) → ((floor_of opening x cont).0.0 ≤ top) × ((row_of x cont).aggregated.0 ≤ top)
+    now = stays-low opening d x (λ n. n ≤ top) same low

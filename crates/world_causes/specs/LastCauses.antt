@@ -1,0 +1,321 @@
+-- When all attempts have their lines, every line shows its cause in the whole list of lines.
+use Rattle.std.specs.Prelude.{ℕ, ◌≡◌, ◌≢◌, ◌≤◌, ◌<◌, ◌+◌, ◌*◌, ◌^◌, ◌⊎◌, ◌++◌, Bool, true, false, ◌||◌, not, max, List, [], ◌∷◌, length, map, Contains, slice_get, is_some, Option, Some, None, refl, if◌then◌else◌}
+use Rattle.std.proofs.Common.{zero, suc, sym, ◌∙◌, ap, subst, inl, inr, arith}
+use Rattle.daos_base.specs.declared.epoch.Epoch.{Epoch}
+use Rattle.daos_base.specs.declared.id.AttemptId.{AttemptId}
+use Rattle.daos_base.specs.declared.outcome.Cause.{Cause}
+use Rattle.daos_base.specs.declared.outcome.Cause.TheVariants as cause
+use Rattle.daos_base.specs.declared.outcome.Outcome.{Outcome}
+use Rattle.daos_base.specs.declared.outcome.Outcome.TheVariants as outcome
+use Rattle.daos_base.specs.declared.path.Path.{Path}
+use Rattle.daos_base.specs.declared.report.Attempt.{Attempt}
+use Rattle.daos_base.specs.declared.report.Line.{Line}
+use Rattle.daos_base.specs.declared.report.Line.TheVariants as line
+use Rattle.daos_base.specs.declared.script.Command.{Command}
+use Rattle.daos_base.specs.declared.script.Command.TheVariants.{Run, Snap, Aggregate, Tell, Skip}
+use Rattle.daos_base.specs.declared.script.Script.{Script}
+use Rattle.daos_base.specs.Epochs.{last_ticks}
+use Rattle.daos_base.specs.Scripts.{is_numbered}
+use Rattle.daos_laws.specs.Members.{Has, contains-from_has, has-cases, has-from_contains, has-from_filter, has-from_map, has-left, has-map, has-right}
+use Rattle.daos_model.specs.Accesses.{minor_writes}
+use Rattle.daos_model.specs.Attempts.{EachTry, has_own_epoch, snapshot_or_none, tries}
+use Rattle.daos_model.specs.CausesShown.{AreSpent, AttemptShows, IsLaterRead, LacksBlocks, LacksSpace, ShowsWhy, blocks_at, blocks_of_others, blocks_of_some, is_snap, lacks_space_at, writes_at}
+use Rattle.daos_model.specs.CausesShown as shown
+use Rattle.daos_model.specs.Durables.{same_attempt}
+use Rattle.daos_model.specs.Laws.{tries-append}
+use Rattle.daos_model.specs.Opening as model
+use Rattle.daos_model.specs.Opening.{Opening}
+use Rattle.daos_model.specs.Stops.{restart_numbers}
+use Rattle.daos_model.specs.Transactions.{command_of, numbered, numbered_at, ops_or_none}
+use Rattle.world_base.specs.declared.world.World.{World}
+use Rattle.world_events.specs.Events.{Rules, commands_or_none}
+use Rattle.world_reads.specs.EntryLaws.{same-attempt}
+use Rattle.world_causes.specs.Causes.{Causes, Dated, Shows, ShowsCause, ShowsLack, ShowsRead, ShowsSpent, blocks_of_decided}
+use Rattle.world_causes.specs.Growth.{any-of, has-at}
+use Rattle.world_causes.specs.Premises.{IsPlain}
+
+-- ---- the statement
+
+-- no attempt stands there twice
+abbrev pub AreApart : List AttemptId → Type 0
+AreApart [] = Unit {0}
+AreApart (x ∷ xs) = (Has x xs → ⊥) × AreApart xs
+
+abbrev pub ids : List Attempt → List AttemptId
+ids xs = map (λ a. a.id) xs
+
+abbrev pub dated_ids : Dated → List AttemptId
+dated_ids is = map (λ i. i.0) is
+
+-- Each attempt to which an epoch was issued has its line, with that epoch; each that was decided is told of as committed; none
+-- was decided twice, had two epochs issued, or has two lines; and no line tells of a restart of a target.
+pub record AllAreTold (decided : Dated) (w : World) : Type 0 where
+  pub issued : (x : AttemptId) (e : Epoch) → Contains w.issued (x, e) → (a : Attempt) × Contains (tries w.lines) a × (a.id ≡ x) × (a.epoch ≡ Some e)
+  pub decided_are : (x : AttemptId) (e : Epoch) → Contains decided (x, e) → (a : Attempt) × Contains (tries w.lines) a × (a.id ≡ x) × (a.outcome ≡ outcome.Committed)
+  pub lines_apart : AreApart (ids (tries w.lines))
+  pub issued_apart : AreApart (dated_ids w.issued)
+  pub decided_apart : AreApart (dated_ids decided)
+  pub restarts : restart_numbers w.lines ≡ []
+
+-- then every attempt that didn't take effect shows its cause in the whole list of lines
+abbrev pub CausesAreShown : Type 0
+CausesAreShown =
+    (r : Rules) (g : model.Given) (decided : Dated) (w : World) → IsPlain r → g.script ≡ r.script → Causes r g.opening decided w → AllAreTold decided w → EachTry (AttemptShows g w.lines) w.lines
+
+-- ---- lists
+
+cut-at : {T : Type 0} (xs : List T) (x : T) → Has x xs → (us : List T) × (vs : List T) × (xs ≡ us ++ x ∷ vs)
+cut-at [] x i = absurd i
+cut-at (y ∷ ys) x (inl same) = ([], ys, ap (λ z. z ∷ ys) (sym same))
+cut-at (y ∷ ys) x (inr i) = let k = cut-at ys x i in (y ∷ k.0, k.1, ap (λ zs. y ∷ zs) k.2)
+
+beside : {T : Type 0} (us vs : List T) (x z : T) → Has z (us ++ x ∷ vs) → (z ≡ x) ⊎ Has z (us ++ vs)
+beside us vs x z i = by (has-cases us (x ∷ vs) z i)
+  where
+    by : Has z us ⊎ ((z ≡ x) ⊎ Has z vs) → (z ≡ x) ⊎ Has z (us ++ vs)
+    by (inl j) = inr (has-left us vs z j)
+    by (inr (inl same)) = inl same
+    by (inr (inr j)) = inr (has-right us vs z j)
+
+length-beside : {T : Type 0} (us vs : List T) (x : T) → length (us ++ x ∷ vs) ≡ length (us ++ vs) + 1
+length-beside [] vs x = omega arith
+length-beside (u ∷ us) vs x = let k : length (us ++ x ∷ vs) ≡ length (us ++ vs) + 1 = length-beside us vs x in omega (arith, k)
+
+apart-left : (xs ys : Dated) → AreApart (dated_ids (xs ++ ys)) → AreApart (dated_ids xs)
+apart-left [] ys k = tt
+apart-left (x ∷ xs) ys k = (λ i. k.0 (more xs i), apart-left xs ys k.1)
+  where
+    more : (zs : Dated) → Has x.0 (dated_ids zs) → Has x.0 (dated_ids (zs ++ ys))
+    more [] i = absurd i
+    more (z ∷ zs) (inl same) = inl same
+    more (z ∷ zs) (inr i) = inr (more zs i)
+
+-- two lines of an attempt are one
+one-line : (xs : List Attempt) (a b : Attempt) → AreApart (ids xs) → Has a xs → Has b xs → a.id ≡ b.id → a ≡ b
+one-line [] a b k i j e = absurd i
+one-line (x ∷ xs) a b k (inl p) (inl q) e = p ∙ sym q
+one-line (x ∷ xs) a b k (inl p) (inr j) e = absurd (k.0 (subst (λ y. Has y (ids xs)) (sym e ∙ ap (λ z. z.id) p) (has-map (λ z. z.id) xs b j)))
+one-line (x ∷ xs) a b k (inr i) (inl q) e = absurd (k.0 (subst (λ y. Has y (ids xs)) (e ∙ ap (λ z. z.id) q) (has-map (λ z. z.id) xs a i)))
+one-line (x ∷ xs) a b k (inr i) (inr j) e = one-line xs a b k.1 i j e
+
+-- ---- how many lines there are
+
+-- attempts that have lines are at most as many
+pub count-within : (ys : List AttemptId) (xs : List Attempt) → AreApart ys → ((y : AttemptId) → Has y ys → (a : Attempt) × Has a xs × (a.id ≡ y)) → length ys ≤ length xs
+count-within [] xs k lines = omega arith
+count-within (y ∷ ys) xs k lines =
+    let more : length ys ≤ length (us ++ vs) = count-within ys (us ++ vs) k.1 others in
+    let all : length xs ≡ length (us ++ vs) + 1 = ap length cut.2 ∙ length-beside us vs own.0 in
+    omega (arith, more, all)
+  where
+    own : (a : Attempt) × Has a xs × (a.id ≡ y)
+    own = lines y (inl refl)
+
+    cut : (us : List Attempt) × (vs : List Attempt) × (xs ≡ us ++ own.0 ∷ vs)
+    cut = cut-at xs own.0 own.1
+
+    us : List Attempt
+    us = cut.0
+
+    vs : List Attempt
+    vs = cut.1
+
+    others : (z : AttemptId) → Has z ys → (a : Attempt) × Has a (us ++ vs) × (a.id ≡ z)
+    others z i = by (lines z (inr i))
+      where
+        by : (a : Attempt) × Has a xs × (a.id ≡ z) → (a : Attempt) × Has a (us ++ vs) × (a.id ≡ z)
+        by b = elim (beside us vs own.0 b.0 (subst (Has b.0) cut.2 b.1)) [
+          | inl same ↦ absurd (k.0 (subst (λ x. Has x ys) (sym b.2 ∙ ap (λ c. c.id) same ∙ own.2) i))
+          | inr j ↦ (b.0, j, b.2)
+        ]
+
+-- ---- blocks
+
+-- the blocks of one line among others
+abbrev own_blocks : Script → ℕ → AttemptId → Attempt → ℕ
+own_blocks s t x a = if same_attempt a.id x || lacks_space_at t a.outcome then 0 else blocks_at s t a.id
+
+others-beside : (s : Script) (t : ℕ) (x : AttemptId) (us vs : List Attempt) (a : Attempt) → blocks_of_others s t x (us ++ a ∷ vs) ≡ own_blocks s t x a + blocks_of_others s t x (us ++ vs)
+unfolding blocks_of_others
+others-beside s t x [] vs a = refl
+others-beside s t x (u ∷ us) vs a = sum (own_blocks s t x u) (own_blocks s t x a) (others-beside s t x us vs a)
+  where
+    sum : (m n : ℕ) → blocks_of_others s t x (us ++ a ∷ vs) ≡ n + blocks_of_others s t x (us ++ vs) → m + blocks_of_others s t x (us ++ a ∷ vs) ≡ n + (m + blocks_of_others s t x (us ++ vs))
+    sum m n e = omega (arith, e)
+
+committed-blocks : (s : Script) (t : ℕ) (x : AttemptId) (a : Attempt) → a.id ≢ x → a.outcome ≡ outcome.Committed → own_blocks s t x a ≡ blocks_at s t a.id
+committed-blocks s t x a off done = by (same_attempt a.id x) refl
+  where
+    by : (b : Bool) → same_attempt a.id x ≡ b → (if b || lacks_space_at t a.outcome then 0 else blocks_at s t a.id) ≡ blocks_at s t a.id
+    by true same = absurd (off (same-attempt a.id x same))
+    by false same = ap (λ how. if false || lacks_space_at t how then 0 else blocks_at s t a.id) done
+
+-- decided attempts other than one have lines that account for their blocks
+pub blocks-within : (s : Script) (t : ℕ) (x : AttemptId) (ds : Dated) (xs : List Attempt) → AreApart (dated_ids ds)
+    → ((i : AttemptId × Epoch) → Has i ds → (i.0 ≢ x) × ((a : Attempt) × Has a xs × (a.id ≡ i.0) × (a.outcome ≡ outcome.Committed))) → blocks_of_decided s t ds ≤ blocks_of_others s t x xs
+blocks-within s t x [] xs k lines = omega arith
+blocks-within s t x (d ∷ ds) xs k lines = sum (blocks_at s t d.0) (blocks_of_others s t x (us ++ vs)) all (blocks-within s t x ds (us ++ vs) k.1 others)
+  where
+    own : (a : Attempt) × Has a xs × (a.id ≡ d.0) × (a.outcome ≡ outcome.Committed)
+    own = (lines d (inl refl)).1
+
+    cut : (us : List Attempt) × (vs : List Attempt) × (xs ≡ us ++ own.0 ∷ vs)
+    cut = cut-at xs own.0 own.1
+
+    us : List Attempt
+    us = cut.0
+
+    vs : List Attempt
+    vs = cut.1
+
+    off : own.0.id ≢ x
+    off e = (lines d (inl refl)).0 (sym own.2 ∙ e)
+
+    all : blocks_of_others s t x xs ≡ blocks_at s t d.0 + blocks_of_others s t x (us ++ vs)
+    all =
+        ap (blocks_of_others s t x) cut.2 ∙ others-beside s t x us vs own.0 ∙ ap (λ n. n + blocks_of_others s t x (us ++ vs)) (committed-blocks s t x own.0 off own.3)
+        ∙ ap (λ y. blocks_at s t y + blocks_of_others s t x (us ++ vs)) own.2
+
+    others : (i : AttemptId × Epoch) → Has i ds → (i.0 ≢ x) × ((a : Attempt) × Has a (us ++ vs) × (a.id ≡ i.0) × (a.outcome ≡ outcome.Committed))
+    others i j = by (lines i (inr j))
+      where
+        by : (i.0 ≢ x) × ((a : Attempt) × Has a xs × (a.id ≡ i.0) × (a.outcome ≡ outcome.Committed)) → (i.0 ≢ x) × ((a : Attempt) × Has a (us ++ vs) × (a.id ≡ i.0) × (a.outcome ≡ outcome.Committed))
+        by b = elim (beside us vs own.0 b.1.0 (subst (Has b.1.0) cut.2 b.1.1)) [
+          | inl same ↦ absurd (k.0 (subst (λ z. Has z (dated_ids ds)) (sym b.1.2 ∙ ap (λ c. c.id) same ∙ own.2) (has-map (λ z. z.0) ds i j)))
+          | inr l ↦ (b.0, (b.1.0, l, b.1.2, b.1.3))
+        ]
+
+    sum : (m n : ℕ) → blocks_of_others s t x xs ≡ m + n → blocks_of_decided s t ds ≤ n → m + blocks_of_decided s t ds ≤ blocks_of_others s t x xs
+    sum m n e l = omega (arith, e, l)
+
+-- ---- commands
+
+place-of : {T : Type 0} (xs : List T) (x : T) → Has x xs → (k : ℕ) × (slice_get xs k ≡ Some x)
+place-of [] x i = absurd i
+place-of (y ∷ ys) x (inl same) = (zero, ap (λ z. Some z) (sym same))
+place-of (y ∷ ys) x (inr i) = let k = place-of ys x i in (suc k.0, k.1)
+
+-- no attempt reads at a snapshot
+own-epoch : (r : Rules) (a : Attempt) → IsPlain r → has_own_epoch r.script a ≡ true
+unfolding command_of
+own-epoch r a P = ap (λ z. not (is_some z)) (by (slice_get r.script.clients a.id.client) refl)
+  where
+    at : (list : List Command) (z : Option Command) → slice_get r.script.clients a.id.client ≡ Some list → slice_get (numbered list) a.id.command ≡ z → snapshot_or_none z ≡ None
+    at list None e f = refl
+    at list (Some d) e f =
+        let i : Has d list = (has-from_filter is_numbered list d (has-at (numbered list) a.id.command d f)).0 in
+        let k : (k : ℕ) × (slice_get list k ≡ Some d) = place-of list d i in
+        P.now a.id.client k.0 d (ap (λ cs. slice_get (commands_or_none cs) k.0) e ∙ k.1)
+
+    by : (z : Option (List Command)) → slice_get r.script.clients a.id.client ≡ z → snapshot_or_none (numbered_at a.id.command z) ≡ None
+    by None e = refl
+    by (Some list) e = at list (slice_get (numbered list) a.id.command) e refl
+
+-- an attempt that needs blocks makes no snapshot
+no-snapshot : (s : Script) (t free : ℕ) (d : Option Command) → free < blocks_of_some (writes_at s.targets t (minor_writes 0 (ops_or_none d))) → is_snap d ≡ false
+unfolding minor_writes
+no-snapshot s t free None k = refl
+no-snapshot s t free (Some (Run ops turns snapshot)) k = refl
+no-snapshot s t free (Some (Snap name cont)) k = absurd (omega (arith, k))
+no-snapshot s t free (Some (Aggregate cont)) k = refl
+no-snapshot s t free (Some (Tell n)) k = refl
+no-snapshot s t free (Some (Skip turns)) k = refl
+
+-- ---- in the end
+
+module _ (r : Rules) (g : model.Given) (decided : Dated) (w : World) (P : IsPlain r) (same : g.script ≡ r.script) (C : Causes r g.opening decided w) (T : AllAreTold decided w) (before : List Line) (a : Attempt) (own : Has a (tries w.lines)) where
+  its-line : (b : Attempt) → Contains (tries w.lines) b → b.id ≡ a.id → b ≡ a
+  its-line b i e = one-line (tries w.lines) b a T.lines_apart (has-from_contains (tries w.lines) b i) own e
+
+  its-epoch : (e : Epoch) → Contains w.issued (a.id, e) → a.epoch ≡ Some e
+  its-epoch e i = let b = T.issued a.id e i in sym (ap (λ z. z.epoch) (its-line b.0 b.1 b.2)) ∙ b.3
+
+  later-read : (by : AttemptId) (epoch : Epoch) (path : Path) → ShowsRead r w.issued a.id by epoch path → IsLaterRead r.script (tries w.lines) a by epoch path
+  later-read by epoch path k = record {
+    own = k.own;
+    issued = its-epoch k.own k.its;
+    later = k.later;
+    reader = let b = T.issued by epoch k.reader in
+        any-of (λ b. (b.id ≡ by) × (b.epoch ≡ Some epoch) × (has_own_epoch r.script b ≡ true)) (tries w.lines) b.0 (has-from_contains (tries w.lines) b.0 b.1) (b.2, b.3, own-epoch r b.0 P);
+    asks = k.asks;
+    near = k.near;
+  }
+
+  undecided : (t need free : ℕ) → a.outcome ≡ outcome.NoSpace t need free → (i : AttemptId × Epoch) → Has i decided → (i.0 ≢ a.id) × ((b : Attempt) × Has b (tries w.lines) × (b.id ≡ i.0) × (b.outcome ≡ outcome.Committed))
+  undecided t need free is i j = (off, (b.0, has-from_contains (tries w.lines) b.0 b.1, b.2, b.3))
+    where
+      b : (b : Attempt) × Contains (tries w.lines) b × (b.id ≡ i.0) × (b.outcome ≡ outcome.Committed)
+      b = T.decided_are i.0 i.1 (contains-from_has decided i j)
+
+      off : i.0 ≢ a.id
+      off e =
+          let q : outcome.Committed ≡ outcome.NoSpace t need free = sym b.3 ∙ ap (λ z. z.outcome) (its-line b.0 b.1 (b.2 ∙ e)) ∙ is in
+          let no : ⊥ = cc in no
+
+  lacks-blocks : (t need free : ℕ) → a.outcome ≡ outcome.NoSpace t need free → ShowsLack r g.opening decided w.issued a.id t need free → LacksBlocks (record g { script = r.script }) w.lines a t need free
+  lacks-blocks t need free is k = record {
+    issued = ap is_some (its-epoch k.own k.its);
+    wanting = k.wanting;
+    need_is = k.need_is;
+    accounted =
+        let p : g.opening.free t ≤ free + blocks_of_decided r.script t decided = k.accounted in
+        let q : blocks_of_decided r.script t decided ≤ blocks_of_others r.script t a.id (tries w.lines) = blocks-within r.script t a.id decided (tries w.lines) T.decided_apart (undecided t need free is) in
+        omega (arith, p, q);
+  }
+
+  lacks-space : (t need free : ℕ) → a.outcome ≡ outcome.NoSpace t need free → ShowsLack r g.opening decided w.issued a.id t need free
+      → LacksSpace (is_snap (command_of r.script a.id)) (record g { script = r.script }) w.lines a t need free
+  lacks-space t need free is k =
+      subst (λ b. LacksSpace b (record g { script = r.script }) w.lines a t need free) (sym (no-snapshot r.script t free (command_of r.script a.id) (subst (λ n. free < n) k.need_is k.wanting))) (lacks-blocks t need free is k)
+
+  spent-ticks : ShowsSpent g.opening w.issued a.id → AreSpent (record g { script = r.script }) w.lines
+  spent-ticks k = subst (λ ns. last_ticks < max (2 ^ 55) g.opening.lease + 65536 * length ns + length (tries w.lines)) (sym T.restarts) (sum (max (2 ^ 55) g.opening.lease) last_ticks (length k.before) k.spent counted)
+    where
+      apart : AreApart (a.id ∷ dated_ids k.before)
+      apart = (
+        λ i. let j = has-from_map (λ z. z.0) k.before a.id i in k.none j.0.1 (subst (λ x. Contains k.before (x, j.0.1)) j.2 (contains-from_has k.before j.0 j.1)),
+        apart-left k.before k.since (subst (λ is. AreApart (dated_ids is)) k.among T.issued_apart),
+      )
+
+      lines : (y : AttemptId) → Has y (a.id ∷ dated_ids k.before) → (b : Attempt) × Has b (tries w.lines) × (b.id ≡ y)
+      lines y (inl is) = (a, own, sym is)
+      lines y (inr i) =
+          let j = has-from_map (λ z. z.0) k.before y i in
+          let b = T.issued j.0.0 j.0.1 (subst (λ is. Contains is j.0) (sym k.among) (contains-from_has (k.before ++ k.since) j.0 (has-left k.before k.since j.0 j.1))) in
+          (b.0, has-from_contains (tries w.lines) b.0 b.1, b.2 ∙ j.2)
+
+      names : (is : Dated) → length (dated_ids is) ≡ length is
+      names [] = refl
+      names (i ∷ is) = let e : length (dated_ids is) ≡ length is = names is in omega (arith, e)
+
+      counted : length k.before + 1 ≤ length (tries w.lines)
+      counted =
+          let c : length (a.id ∷ dated_ids k.before) ≤ length (tries w.lines) = count-within (a.id ∷ dated_ids k.before) (tries w.lines) apart lines in
+          let e : length (dated_ids k.before) ≡ length k.before = names k.before in
+          omega (arith, c, e)
+
+      sum : (m last b : ℕ) → last < m + b + 1 → b + 1 ≤ length (tries w.lines) → last < m + 65536 * 0 + length (tries w.lines)
+      sum m last b p q = omega (arith, p, q)
+
+  cause-shown : (why : Cause) → ShowsCause r w.issued a.id why → shown.ShowsCause (record g { script = r.script }) w.lines before a why
+  cause-shown (cause.ReadLater by epoch path) k = later-read by epoch path k
+  cause-shown (cause.WriteLater by epoch path) k = absurd k
+  cause-shown (cause.Unresolved by) k = absurd k
+  cause-shown (cause.Floor target epoch why) k = absurd k
+
+  outcome-shown : (how : Outcome) → a.outcome ≡ how → Shows r g.opening decided w.issued a.id how → ShowsWhy (record g { script = r.script }) w.lines before a how
+  outcome-shown outcome.Committed is k = tt
+  outcome-shown (outcome.CondFailed op) is k = tt
+  outcome-shown (outcome.Restart why) is k = cause-shown why k
+  outcome-shown (outcome.NoSpace target need free) is k = lacks-space target need free is k
+  outcome-shown outcome.EpochsSpent is k = spent-ticks k
+  outcome-shown outcome.NoSnapshot is k = tt
+  outcome-shown (outcome.Unknown target) is k = absurd k
+
+  pub attempt-shows : AttemptShows g w.lines before a
+  attempt-shows = subst (λ s. AttemptShows (record g { script = s }) w.lines before a) (sym same) (outcome-shown a.outcome refl (C.lines a (contains-from_has (tries w.lines) a own)))
+
+pub causes-shown : CausesAreShown
+unfolding tries
+causes-shown r g decided w P same C T before a after e = attempt-shows r g decided w P same C T before a
+    (subst (λ ls. Has a (tries ls)) (sym e) (subst (Has a) (sym (tries-append before (line.Try a ∷ after))) (has-right (tries before) (tries (line.Try a ∷ after)) a (inl refl))))
