@@ -24,17 +24,16 @@ use Rattle.daos_model.specs.Durables.{entry_of, is_entry_of, row_of, same_attemp
 use Rattle.daos_model.specs.FormLaws.{leased-in_form, settled-in_form}
 use Rattle.daos_model.specs.Opening.{Opening}
 use Rattle.daos_model.specs.Versions.{done_by, version_of, version_path}
-use Rattle.world_base.specs.declared.world.World.{World}
 use Rattle.world_events.specs.Events.{Rules}
 use Rattle.world_reads.specs.History.{History, counts_by, is_decided, transactions}
 use Rattle.world_reads.specs.Versions.{IsWriteAt, VersionsStand, is_own_in, mark_of}
 
 -- ---- the lease is extended
 
-pub extends-stands : (r : Rules) (o : Opening) (held : List Version) (h : History) (w : World) (t : ℕ) (d : Durable) (ticks : ℕ) → d.lease ≤ ticks → ticks < 2 ^ 56
-    → VersionsStand r o held h w t d → VersionsStand r o held h w t (leased ticks d)
+pub extends-stands : (r : Rules) (o : Opening) (held : List Version) (h : History) (t : ℕ) (d : Durable) (ticks : ℕ) → d.lease ≤ ticks → ticks < 2 ^ 56
+    → VersionsStand r o held h t d → VersionsStand r o held h t (leased ticks d)
 unfolding leased entry_of row_of
-extends-stands r o held h w t d ticks more last k = record {
+extends-stands r o held h t d ticks more last k = record {
   form = leased-in_form ticks d last k.form;
   single = k.single;
   placed = k.placed;
@@ -44,12 +43,13 @@ extends-stands r o held h w t d ticks more last k = record {
   only = k.only;
   matches = k.matches;
   leased = λ v i. let low : v.epoch.0 / 256 ≤ d.lease = k.leased v i in omega (arith, low, more);
+  unpruned = k.unpruned;
 }
 
 -- ---- an attempt that is decided is settled
 
 -- a version of another attempt stays as it is
-other-stays : (a : AttemptId) (v : Version) → same_attempt v.by a ≡ false → done_by a v ≡ v
+pub other-stays : (a : AttemptId) (v : Version) → same_attempt v.by a ≡ false → done_by a v ≡ v
 unfolding done_by
 other-stays a v e = by v.done refl
   where
@@ -63,7 +63,7 @@ unfolding done_by
 done-stays a v d = ap (λ b. record v { done = b }) (ap (λ b. b || same_attempt v.by a) d ∙ sym d)
 
 -- a version that isn't done after that is of another attempt, and wasn't done before
-still-open : (a : AttemptId) (v : Version) → (done_by a v).done ≡ false → (v.done ≡ false) × (same_attempt v.by a ≡ false)
+pub still-open : (a : AttemptId) (v : Version) → (done_by a v).done ≡ false → (v.done ≡ false) × (same_attempt v.by a ≡ false)
 unfolding done_by
 still-open a v e = by v.done (same_attempt v.by a) refl refl e
   where
@@ -99,28 +99,28 @@ pub entry-of-it : (d : Durable) (x : AttemptId) (e : Entry) → entry_of d x ≡
 unfolding entry_of
 entry-of-it d x e found = found-passes (is_entry_of x) d.entries e found
 
-committed-open : (a : AttemptId) (e : Entry) → (committed_at a e).committed ≡ false → same_attempt e.attempt a ≡ false
+pub committed-open : (a : AttemptId) (e : Entry) → (committed_at a e).committed ≡ false → same_attempt e.attempt a ≡ false
 committed-open a e h = by (same_attempt e.attempt a) refl h
   where
     by : (b : Bool) → same_attempt e.attempt a ≡ b → (if b then record e { committed = true } else e).committed ≡ false → same_attempt e.attempt a ≡ false
     by true s f = let no : ⊥ = cc in absurd no
     by false s f = s
 
-other-entry : (a : AttemptId) (e : Entry) → same_attempt e.attempt a ≡ false → committed_at a e ≡ e
+pub other-entry : (a : AttemptId) (e : Entry) → same_attempt e.attempt a ≡ false → committed_at a e ≡ e
 other-entry a e s = ap (λ b. if b then record e { committed = true } else e) s
 
-entry-settled : (d : Durable) (a x : AttemptId) → entry_of (settled a Commit d) x ≡ option_map (committed_at a) (entry_of d x)
+pub entry-settled : (d : Durable) (a x : AttemptId) → entry_of (settled a Commit d) x ≡ option_map (committed_at a) (entry_of d x)
 unfolding settled entry_of
 entry-settled d a x = find-map (is_entry_of x) (committed_at a) d.entries (is-entry-committed x a)
 
 -- the attempts differ where one is a's and the other isn't
-apart-of : (x y a : AttemptId) → x ≡ y → same_attempt y a ≡ false → same_attempt x a ≡ false
+pub apart-of : (x y a : AttemptId) → x ≡ y → same_attempt y a ≡ false → same_attempt x a ≡ false
 apart-of x y a e s = ap (λ z. same_attempt z a) e ∙ s
 
-pub settles-stands : (r : Rules) (o : Opening) (held : List Version) (h : History) (w : World) (t : ℕ) (d : Durable) (a : AttemptId) (e : Epoch) (k : Entry) → Contains h.decided (a, e) → is_decided h a ≡ true
-    → entry_of d a ≡ Some k → k.epoch ≡ e → VersionsStand r o held h w t d → VersionsStand r o held h w t (settled a Commit d)
+pub settles-stands : (r : Rules) (o : Opening) (held : List Version) (h : History) (t : ℕ) (d : Durable) (a : AttemptId) (e : Epoch) (k : Entry) → Contains h.decided (a, e) → is_decided h a ≡ true
+    → entry_of d a ≡ Some k → k.epoch ≡ e → VersionsStand r o held h t d → VersionsStand r o held h t (settled a Commit d)
 unfolding settled row_of done_by
-settles-stands r o held h w t d a e k among decided here epoch s = record {
+settles-stands r o held h t d a e k among decided here epoch s = record {
   form = settled-in_form a Commit d s.form;
   single = record { in_order = (settled-in_form a Commit d s.form).versions; single = pairs-map version_key (done_by a) d.versions (same-key-done a) s.single.single };
   placed = placed;
@@ -130,6 +130,7 @@ settles-stands r o held h w t d a e k among decided here epoch s = record {
   only = only;
   matches = matches;
   leased = leased';
+  unpruned = s.unpruned;
 }
   where
     old : (v : Version) → Contains (map (done_by a) d.versions) v → (u : Version) × Contains d.versions u × (done_by a u ≡ v)

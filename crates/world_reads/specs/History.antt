@@ -45,3 +45,15 @@ transactions s h = map (decided_of s) h.decided
 -- a version counts where it is done, or its attempt is decided
 abbrev pub counts_by : History → Version → Bool
 counts_by h v = v.done || is_decided h v.by
+
+-- one more attempt is decided, or one more read served
+abbrev pub decides : History → AttemptId → Epoch → History
+decides h x e = record h { decided = (x, e) ∷ h.decided }
+
+abbrev pub serves : History → Served → History
+serves h q = record h { served = q ∷ h.served }
+
+-- what was decided and what was served stay so
+pub record Grew (h g : History) : Type 0 where
+  pub decided : (i : AttemptId × Epoch) → Contains h.decided i → Contains g.decided i
+  pub served : (q : Served) → Contains h.served q → Contains g.served q

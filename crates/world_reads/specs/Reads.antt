@@ -15,6 +15,7 @@ use Rattle.daos_model.specs.declared.durable.Version.{Version}
 use Rattle.daos_model.specs.Accesses.{asked_member}
 use Rattle.daos_model.specs.Answers.{answer}
 use Rattle.daos_model.specs.AsOf.{as_of}
+use Rattle.daos_model.specs.Forms.{is_read_in_form}
 use Rattle.daos_model.specs.Opening.{Opening}
 use Rattle.daos_model.specs.Transactions.{attempt_ops}
 use Rattle.daos_model.specs.Versions.{version_path}
@@ -55,6 +56,7 @@ IsGuarded s q = (q.epoch.0 ≤ (floor_of s.opening s.durable (read_path q.read).
 
 pub record Reads (r : Rules) (o : Opening) (h : History) (w : World) : Type 0 where
   pub asked : (q : Served) → Contains h.served q → IsOfAttempt r q
+  pub form : (q : Served) → Contains h.served q → is_read_in_form q.read ≡ true
   pub issued : (q : Served) → Contains h.served q → Contains w.issued (q.by, q.epoch)
   pub answers : (q : Served) → Contains h.served q → IsAnsweredRight r o h q
   pub guarded : (q : Served) (s : TargetState) → Contains h.served q → slice_get w.targets q.target ≡ Some s → s.life ≡ Running → IsGuarded s q

@@ -9,6 +9,7 @@ use Rattle.daos_base.specs.declared.operation.MinorWrite.{MinorWrite}
 use Rattle.daos_base.specs.Operations.{write_path}
 use Rattle.daos_base.specs.Placement.{path_members, writes_leader}
 use Rattle.daos_laws.specs.Dated.{AreSingleInOrder}
+use Rattle.daos_laws.specs.Decided.{AreDecided}
 use Rattle.daos_laws.specs.Matches.{Matches}
 use Rattle.daos_laws.specs.Targets.{ArePlaced, is_own}
 use Rattle.daos_model.specs.declared.cell.Cell.{Cell}
@@ -38,7 +39,7 @@ pub record IsWriteAt (r : Rules) (x : AttemptId) (t : ℕ) (w : MinorWrite) : Ty
   pub here : Contains (path_members (write_path w.write) r.script.targets) t
 
 -- what holds of what one target keeps
-pub record VersionsStand (r : Rules) (o : Opening) (held : List Version) (h : History) (w : World) (t : ℕ) (d : Durable) : Type 0 where
+pub record VersionsStand (r : Rules) (o : Opening) (held : List Version) (h : History) (t : ℕ) (d : Durable) : Type 0 where
   pub form : IsInForm d
   pub single : AreSingleInOrder d.versions
   pub placed : ArePlaced r.script.targets t d.versions
@@ -52,10 +53,14 @@ pub record VersionsStand (r : Rules) (o : Opening) (held : List Version) (h : Hi
   -- the versions that count stand for the decided transactions, in each container
   pub matches : (cont : ContId) → Matches (is_own_in r.script.targets t cont) (counts_by h) d.versions o.stand (transactions r.script h) (mark_of o d cont)
   pub leased : (v : Version) → Contains d.versions v → v.epoch.0 / 256 ≤ d.lease
+  -- a run aggregates nothing so far
+  pub unpruned : (cont : ContId) → (row_of d cont).aggregated.0 ≤ top o
 
 -- of every target; `held` is what each had at the opening
 pub record Versions (r : Rules) (o : Opening) (held : ℕ → List Version) (h : History) (w : World) : Type 0 where
-  pub stand : (t : ℕ) (s : TargetState) → slice_get w.targets t ≡ Some s → VersionsStand r o (held t) h w t s.durable
+  pub stand : (t : ℕ) (s : TargetState) → slice_get w.targets t ≡ Some s → VersionsStand r o (held t) h t s.durable
+  -- no two that are decided have one epoch
+  pub apart : AreDecided (transactions r.script h)
   -- what is decided was issued, and its leader and all its members hold it
   pub issued : (x : AttemptId) (e : Epoch) → Contains h.decided (x, e) → Contains w.issued (x, e)
   pub written : (x : AttemptId) (e : Epoch) → Contains h.decided (x, e) → minor_writes 0 (attempt_ops r.script x) ≢ []
