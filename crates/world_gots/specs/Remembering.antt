@@ -1,0 +1,41 @@
+-- Every event keeps that clients were told what was served, where what targets serve is remembered.
+use Rattle.std.specs.Prelude.{ℕ, ◌≡◌, ◌<◌, [], slice_get, Contains, Option, Some, None}
+use Rattle.daos_base.specs.declared.answer.Answer.{Answer}
+use Rattle.daos_base.specs.declared.epoch.Epoch.{Epoch}
+use Rattle.daos_messages.specs.declared.actor.ActorId.{ActorId}
+use Rattle.daos_messages.specs.declared.message.Message.{Message}
+use Rattle.daos_messages.specs.declared.message.Message.TheVariants.{Fetched}
+use Rattle.daos_messages.specs.declared.message.Reply.TheVariants as reply
+use Rattle.world_base.specs.declared.client.ClientState.{ClientState}
+use Rattle.world_base.specs.declared.did.Did.{Did}
+use Rattle.world_base.specs.declared.request.FetchRequest.{FetchRequest}
+use Rattle.world_base.specs.declared.world.World.{World}
+use Rattle.world_events.specs.Events.{ByClient, ByTarget, Event, Rules, ToClient, ToTarget}
+use Rattle.world_gots.specs.Gots.{Gots}
+use Rattle.world_gots.specs.MoreLaws.{Remembers}
+use Rattle.world_gots.specs.StepGots.{ToldServed}
+use Rattle.world_reads.specs.History.{History}
+use Rattle.world_talks.specs.Asked.{fetch_of}
+
+-- what a target answered to a Fetch that it heard is among the served reads
+abbrev pub HasServed : History → ℕ → Message → Did → Type 0
+HasServed h t asked did =
+    (to : ActorId) (q : FetchRequest) (e : Epoch) (b : Answer) → asked ≡ fetch_of q → Contains did.posts (record { to = to; message = Fetched q.attempt q.op q.group (Some e) (reply.Answer b) })
+    → Contains h.served (record { by = q.attempt; op = q.op; group = q.group; target = t; read = q.read; epoch = e; answer = b })
+
+-- of an event: it serves a read where a target hears a message
+abbrev pub IsRemembered : (r : Rules) (w v : World) → History → Event r w v → Type 0
+IsRemembered r w v h (ByClient g) = Unit {0}
+IsRemembered r w v h (ToClient g) = Unit {0}
+IsRemembered r w v h (ToTarget g) = HasServed h g.t g.l.message g.did
+IsRemembered r w v h (ByTarget g) = Unit {0}
+
+-- every event keeps that clients were told what was served, where all that was served stays remembered and what the event
+-- serves is remembered too
+abbrev pub ServedIsTold : Type 0
+ServedIsTold = (r : Rules) (h k : History) (w v : World) → 0 < r.attempts → Remembers h k → ToldServed r h w → (e : Event r w v) → IsRemembered r w v k e → ToldServed r k v
+
+-- it holds where nothing is in flight, no attempt has begun, and there are no lines
+abbrev pub NothingIsTold : Type 0
+NothingIsTold =
+    (r : Rules) (h : History) (w : World) → w.messages ≡ [] → w.lines ≡ [] → ((n : ℕ) (c : ClientState) → slice_get w.clients n ≡ Some c → c.present ≡ None) → Gots r h w

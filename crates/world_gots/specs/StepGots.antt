@@ -1,0 +1,221 @@
+-- Every turn of a client keeps that clients were told what was served.
+use Rattle.std.specs.Prelude.{ℕ, ◌≡◌, ◌<◌, ◌++◌, Bool, true, false, List, [], ◌∷◌, map, slice_get, All, Contains, Option, Some, None, refl}
+use Rattle.std.proofs.Common.{◌⊎◌, append-nil, sym, ◌∙◌, ap, subst, inl, inr}
+use Rattle.std.proofs.Math.ListN.{set}
+use Rattle.std.proofs.lemmas.Bool.{cases_eq, true≢false}
+use Rattle.std.proofs.lemmas.List.Elements.{All-append, Contains-push_cases}
+use Rattle.daos_base.specs.declared.answer.Answer.{Answer}
+use Rattle.daos_base.specs.declared.epoch.Epoch.{Epoch}
+use Rattle.daos_base.specs.declared.id.AttemptId.{AttemptId}
+use Rattle.daos_base.specs.declared.outcome.Outcome.{Outcome}
+use Rattle.daos_base.specs.declared.report.Attempt.{Attempt}
+use Rattle.daos_base.specs.declared.report.Line.{Line}
+use Rattle.daos_base.specs.declared.script.Command.{Command}
+use Rattle.daos_messages.specs.declared.message.Message.{Message}
+use Rattle.daos_messages.specs.declared.message.Message.TheVariants as message
+use Rattle.daos_messages.specs.declared.message.Post.{Post}
+use Rattle.daos_messages.specs.declared.message.Reply.{Reply}
+use Rattle.daos_messages.specs.declared.message.Reply.TheVariants as reply
+use Rattle.daos_model.specs.Attempts.{tries}
+use Rattle.daos_model.specs.Laws.{tries-append}
+use Rattle.daos_model.specs.Transactions.{attempt_ops, command_of, numbered, ops_of, ops_or_none}
+use Rattle.world_base.specs.declared.client.ClientPlan.{ClientPlan}
+use Rattle.world_base.specs.declared.client.ClientState.{ClientState}
+use Rattle.world_base.specs.declared.client.Present.{Present}
+use Rattle.world_base.specs.declared.letter.Letter.{Letter}
+use Rattle.world_base.specs.declared.world.World.{World}
+use Rattle.world_base.specs.ClientTurns.{Move, attempt_id, goes, heard, hears_epochs, knows, knows_epoch, listed, moved, rests, waits}
+use Rattle.world_clients.specs.Answered.{ops_here, ops_numbered}
+use Rattle.world_clients.specs.MoveLaws.{heard-keeps, moved-keeps}
+use Rattle.world_clients.specs.Standing.{HasTold, tells}
+use Rattle.world_events.specs.Events.{Rules, client_plan, with_epoch}
+use Rattle.world_events.specs.Letters.{Takes, client, is_tell, letter_of, letters_of, talk_of}
+use Rattle.world_events.specs.StepLaws.{set-here, set-there}
+use Rattle.world_events.specs.Steps.{KeptByCounting, KeptByHearing, KeptByMoves, after_client, after_move, without}
+use Rattle.world_gots.specs.Gots.{AreServed, Gots, IsLineServed, IsServedAnswer, IsServedSoFar, IsServedTo, group_at}
+use Rattle.world_gots.specs.GotLaws.{Here, IsServedHere, IsToldServed, KeepsGots, at-command, moved-gots, silent-gots}
+use Rattle.world_gots.specs.HearGots.{answer-gots, ended-gots, outcome-gots}
+use Rattle.world_gots.specs.MoreLaws.{all-mapped, all-more, knows-more, served-more, stays-issued}
+use Rattle.world_lines.specs.FilledLaws.{tries-filled}
+use Rattle.world_lines.specs.Lines.{filled}
+use Rattle.world_reads.specs.History.{History}
+use Rattle.world_talks.specs.AskLaws.{move-is, waiting-rests}
+use Rattle.world_talks.specs.Asked.{ARead, ASnapshot, AnAggregation, Asked, Asking, IsMove, ItsWrites, Silent, Telling}
+use Rattle.world_talks.specs.Conversation.{Conversation}
+use Rattle.world_talks.specs.ConversationLaws.{count-keeps, hear-keeps, move-keeps}
+use Rattle.world_talks.specs.Hearing.{ATracker, AReply, AnEnd, IsHearing, hearing-is}
+use Rattle.world_talks.specs.InFlight.{GetsAnswer, none-in-flight}
+use Rattle.world_talks.specs.TalkLaws.{got-is-talk, left-is-among, none-among}
+
+-- ---- what is kept together
+
+-- the lines of every client have told of its commands so far
+abbrev pub Standing : Rules → World → Type 0
+Standing r w = (n : ℕ) (c : ClientState) → slice_get w.clients n ≡ Some c → (attempts : List Attempt) × HasTold (client_plan r n) c attempts
+
+-- conversations are in order, clients stand where their lines have told, and what they were told was served
+pub record ToldServed (r : Rules) (h : History) (w : World) : Type 0 where
+  pub conversation : Conversation r w
+  pub standing : Standing r w
+  pub gots : Gots r h w
+
+-- ---- which letters answer reads
+
+abbrev pub is_fetched : Message → Bool
+is_fetched (message.Fetched x op group own b) = true
+is_fetched m = false
+
+-- an answer to a read tells no tracker
+fetched-no-tell : (m : Message) (x : AttemptId) (op group : ℕ) (own : Option Epoch) (b : Reply) → m ≡ message.Fetched x op group own b → is_fetched m ≡ true
+fetched-no-tell m x op group own b e = ap is_fetched e
+
+asked-no-answer : (p : ClientPlan) (k : Epoch) (c : ClientState) (a : Present) (q : Post) → Asked p k c a q → is_fetched q.message ≡ false
+asked-no-answer p k c a q (ARead ops turns snapshot op r at is asked says) = ap (λ z. is_fetched z.message) says
+asked-no-answer p k c a q (ItsWrites ops turns snapshot w ws at last all says) = ap (λ z. is_fetched z.message) says
+asked-no-answer p k c a q (ASnapshot name cont at says) = ap (λ z. is_fetched z.message) says
+asked-no-answer p k c a q (AnAggregation cont at says) = ap (λ z. is_fetched z.message) says
+
+-- the answers in flight were in flight before a client sent something
+abbrev pub KeepsAnswers : List Letter → List Letter → Type 0
+KeepsAnswers letters more = (l : Letter) → Contains more l → is_fetched l.message ≡ true → Contains letters l
+
+pub sends-none : (letters : List Letter) (n : ℕ) (o : Option Post) → o ≡ None → KeepsAnswers letters (letters ++ letters_of (client n) (listed o))
+sends-none letters n o e l in' answer = subst (λ ls. Contains ls l) (append-nil letters) (subst (λ z. Contains (letters ++ letters_of (client n) (listed z)) l) e in')
+
+sends-one : (letters : List Letter) (n : ℕ) (o : Option Post) (q : Post) → o ≡ Some q → is_fetched q.message ≡ false → KeepsAnswers letters (letters ++ letters_of (client n) (listed o))
+sends-one letters n o q e isnt l in' answer = by (Contains-push_cases letters (letter_of (client n) q) l (subst (λ z. Contains (letters ++ letters_of (client n) (listed z)) l) e in'))
+  where
+    by : Contains letters l ⊎ (letter_of (client n) q ≡ l) → Contains letters l
+    by (inl before) = before
+    by (inr it) = let no : true ≡ false = sym answer ∙ ap (λ z. is_fetched z.message) (sym it) ∙ isnt in absurd (true≢false no)
+
+move-sends : (p : ClientPlan) (c : ClientState) (m : Move) (letters : List Letter) (n : ℕ) → IsMove p c m → KeepsAnswers letters (letters ++ letters_of (client n) (listed m.post))
+move-sends p c m letters n (Silent goes' none) = sends-none letters n m.post none
+move-sends p c m letters n (Telling k none goes' says) = sends-one letters n m.post _ says refl
+move-sends p c m letters n (Asking a q here asked says after) = sends-one letters n m.post q says (asked-no-answer p c.tracker c a q asked)
+
+-- a client sends no answer to a read
+moved-sends : (p : ClientPlan) (c : ClientState) (letters : List Letter) (n : ℕ) → KeepsAnswers letters (letters ++ letters_of (client n) (listed (moved p c).post))
+moved-sends p c letters n = by (waits c) refl
+  where
+    by : (b : Bool) → waits c ≡ b → KeepsAnswers letters (letters ++ letters_of (client n) (listed (moved p c).post))
+    by true h = sends-none letters n (moved p c).post (ap (λ m. m.post) (waiting-rests p c h))
+    by false h = move-sends p c (moved p c) letters n (move-is p c h)
+
+-- ---- lines
+
+-- the operations of an attempt, by the number of its command
+ops-of-attempt : (r : Rules) (x : AttemptId) → ops_numbered (client_plan r x.client) x.command ≡ attempt_ops r.script x
+unfolding command_of
+ops-of-attempt r x = by (slice_get r.script.clients x.client) refl
+  where
+    by : (o : Option (List Command)) → slice_get r.script.clients x.client ≡ o → ops_numbered (client_plan r x.client) x.command ≡ attempt_ops r.script x
+    by None e = rw e refl
+    by (Some list) e = rw e refl
+
+-- what a client tells of an attempt is served, as it stands in the lines
+line-served : (r : Rules) (h : History) (n : ℕ) (issued : List (AttemptId × Epoch)) (a : Attempt) → IsToldServed h (client_plan r n) a → IsLineServed r h (filled issued a)
+line-served r h n issued a t =
+    served-more h h a.id r.script.targets (attempt_ops r.script a.id) a.epoch _ a.gots a.conds (stays-issued h a.id a.epoch issued)
+    (subst (λ ops. AreServed h a.id r.script.targets ops a.epoch a.gots a.conds) ops t.served)
+  where
+    ops : ops_numbered (client_plan r n) a.id.command ≡ attempt_ops r.script a.id
+    ops = ap (λ m. ops_numbered (client_plan r m) a.id.command) (sym t.own) ∙ ops-of-attempt r a.id
+
+lines-served : (r : Rules) (h : History) (n : ℕ) (issued : List (AttemptId × Epoch)) (lines more : List Line) → All (IsLineServed r h) (tries lines) → All (IsToldServed h (client_plan r n)) (tries more)
+    → All (IsLineServed r h) (tries (lines ++ map (with_epoch issued) more))
+lines-served r h n issued lines more all told =
+    subst (All (IsLineServed r h)) (sym (tries-append lines (map (with_epoch issued) more) ∙ ap (λ ts. tries lines ++ ts) (tries-filled issued more)))
+    (All-append (IsLineServed r h) (tries lines) (map (filled issued) (tries more)) all
+    (all-mapped (IsToldServed h (client_plan r n)) (IsLineServed r h) (filled issued) (tries more) (line-served r h n issued) told))
+
+-- ---- one client goes on
+
+pub standing-turned : (r : Rules) (w v : World) (n : ℕ) (c d : ClientState) → slice_get w.clients n ≡ Some c → v.clients ≡ set w.clients n d → Standing r w
+    → (attempts : List Attempt) × HasTold (client_plan r n) d attempts → Standing r v
+standing-turned r w v n c d here clients k own m e at = by (cases_eq m n)
+  where
+    own_state : slice_get v.clients n ≡ Some d
+    own_state = ap (λ cs. slice_get cs n) clients ∙ set-here w.clients n c d here
+
+    by : (m ≡ n) ⊎ ((m ≡ n) → ⊥) → (attempts : List Attempt) × HasTold (client_plan r m) e attempts
+    by (inl same) =
+        let it : d ≡ e = cc (own_state) in
+        subst (λ j. (attempts : List Attempt) × HasTold (client_plan r j) e attempts) (sym same) (subst (λ s. (attempts : List Attempt) × HasTold (client_plan r n) s attempts) it own)
+    by (inr apart) = k m e (sym (ap (λ cs. slice_get cs m) clients ∙ set-there w.clients n m d apart) ∙ at)
+
+-- the answers on their way to a client in this state were served to it
+abbrev pub AreFlying : History → ClientPlan → ℕ → ClientState → List Letter → Type 0
+AreFlying h p n c letters =
+    (a : Present) (l : Letter) (x : AttemptId) (op group : ℕ) (own : Option Epoch) (b : Answer) → c.present ≡ Some a → Contains letters l → l.to ≡ client n
+    → l.message ≡ message.Fetched x op group own (reply.Answer b) → IsServedAnswer p h c a own b
+
+-- where one client makes such a move, and no answer is sent, what clients were told was served
+pub turned : (r : Rules) (h : History) (w v : World) (n : ℕ) (c : ClientState) (m : Move) → Gots r h w → slice_get w.clients n ≡ Some c → v.clients ≡ set w.clients n m.state
+    → v.lines ≡ w.lines ++ map (with_epoch w.issued) (listed m.line) → KeepsAnswers w.messages v.messages → KeepsGots h (client_plan r n) m → AreFlying h (client_plan r n) n m.state v.messages → Gots r h v
+turned r h w v n c m k here clients lines sent own to_it = record {
+  present = λ j e a at present. here_at j e a at present (cases_eq j n);
+  lines = subst (λ ls. All (IsLineServed r h) (tries ls)) (sym lines) (lines-served r h n w.issued w.lines (listed m.line) k.lines own.told);
+  flying = λ j e a l x op group epoch b at present in' to it. flies j e a l x op group epoch b at present in' to it (cases_eq j n);
+}
+  where
+    own_state : slice_get v.clients n ≡ Some m.state
+    own_state = ap (λ cs. slice_get cs n) clients ∙ set-here w.clients n c m.state here
+
+    other_state : (j : ℕ) → ((j ≡ n) → ⊥) → slice_get v.clients j ≡ slice_get w.clients j
+    other_state j apart = ap (λ cs. slice_get cs j) clients ∙ set-there w.clients n j m.state apart
+
+    here_at : (j : ℕ) (e : ClientState) (a : Present) → slice_get v.clients j ≡ Some e → e.present ≡ Some a → (j ≡ n) ⊎ ((j ≡ n) → ⊥)
+        → IsServedSoFar h (attempt_id (client_plan r j) e a) r.script.targets (ops_here (client_plan r j) e) a
+    here_at j e a at present (inl same) =
+        let it : m.state ≡ e = cc (own_state) in
+        let state : m.state.present ≡ Some a = ap (λ s. s.present) it ∙ present in
+        let served : IsServedSoFar h (attempt_id (client_plan r n) m.state a) r.script.targets (ops_here (client_plan r n) m.state) a = subst (λ o. IsServedHere h (client_plan r n) m.state o) state own.here in
+        subst (λ i. IsServedSoFar h (attempt_id (client_plan r i) e a) r.script.targets (ops_here (client_plan r i) e) a) (sym same)
+        (subst (λ s. IsServedSoFar h (attempt_id (client_plan r n) s a) r.script.targets (ops_here (client_plan r n) s) a) it served)
+    here_at j e a at present (inr apart) = k.present j e a (sym (other_state j apart) ∙ at) present
+
+    flies : (j : ℕ) (e : ClientState) (a : Present) (l : Letter) (x : AttemptId) (op group : ℕ) (epoch : Option Epoch) (b : Answer) → slice_get v.clients j ≡ Some e → e.present ≡ Some a
+        → Contains v.messages l → l.to ≡ client j → l.message ≡ message.Fetched x op group epoch (reply.Answer b) → (j ≡ n) ⊎ ((j ≡ n) → ⊥) → IsServedAnswer (client_plan r j) h e a epoch b
+    flies j e a l x op group epoch b at present in' to message (inl same) =
+        let it : m.state ≡ e = cc (own_state) in
+        subst (λ i. IsServedAnswer (client_plan r i) h e a epoch b) (sym same)
+        (subst (λ s. IsServedAnswer (client_plan r n) h s a epoch b) it (to_it a l x op group epoch b (ap (λ s. s.present) it ∙ present) in' (to ∙ ap client same) message))
+    flies j e a l x op group epoch b at present in' to message (inr apart) =
+        k.flying j e a l x op group epoch b (sym (other_state j apart) ∙ at) present (sent l in' (fetched-no-tell l.message x op group epoch (reply.Answer b) message)) to message
+
+pub here-of : (r : Rules) (h : History) (w : World) (n : ℕ) (c : ClientState) → Gots r h w → slice_get w.clients n ≡ Some c → IsServedHere h (client_plan r n) c c.present
+here-of r h w n c k here = by c.present refl
+  where
+    by : (o : Option Present) → c.present ≡ o → IsServedHere h (client_plan r n) c o
+    by None e = tt
+    by (Some a) e = k.present n c a here e
+
+-- ---- a client moves
+
+pub gots-move : (r : Rules) (h : History) → 0 < r.attempts → KeptByMoves r (ToldServed r h)
+gots-move r h some w n c here k = record {
+  conversation = move-keeps r w n c here k.conversation;
+  standing = standing-turned r w (after_move w n m) n c m.state here refl k.standing (_, moved-keeps p c s.0 some s.1);
+  gots = turned r h w (after_move w n m) n c m k.gots here refl refl (moved-sends p c w.messages n) (moved-gots h p c s.0 s.1 (here-of r h w n c k.gots here)) flies;
+}
+  where
+    p : ClientPlan
+    p = client_plan r n
+
+    m : Move
+    m = moved p c
+
+    s : (attempts : List Attempt) × HasTold p c attempts
+    s = k.standing n c here
+
+    by : (b : Bool) → waits c ≡ b → AreFlying h p n m.state (after_move w n m).messages
+    by true waiting a l x op group own b present in' to it =
+        let same : m.state ≡ c = ap (λ z. z.state) (waiting-rests p c waiting) in
+        subst (λ e. IsServedAnswer p h e a own b) (sym same)
+        (k.gots.flying n c a l x op group own b here (ap (λ e. e.present) (sym same) ∙ present) (moved-sends p c w.messages n l in' (ap is_fetched it)) to it)
+    by false free a l x op group own b present in' to it =
+        absurd (none-among n w.messages l (none-in-flight r w n c k.conversation here free) (moved-sends p c w.messages n l in' (ap is_fetched it)) (got-is-talk n l (ap is_tell it) to))
+
+    flies : AreFlying h p n m.state (after_move w n m).messages
+    flies = by (waits c) refl

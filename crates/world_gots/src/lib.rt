@@ -1,0 +1,2 @@
+// What clients were told is what targets served.
+#![tactic(auto)]
