@@ -1,0 +1,2 @@
+// When a run is over, the report of its lines is legal.
+#![tactic(auto)]
