@@ -1,9 +1,14 @@
 -- What clients were told is what targets served.
 pub mod Gots
+pub mod Remembering
 pub mod MoreLaws
 pub mod GotLaws
 pub mod HearGots
 pub mod StepGots
 pub mod TurnGots
-pub mod Remembering
 pub mod TargetGots
+pub mod ServedLaws
+pub mod Right
+pub mod RightLaws
+pub mod FormLaws
+pub mod ToldLaws

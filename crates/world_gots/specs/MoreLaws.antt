@@ -11,7 +11,8 @@ use Rattle.world_base.specs.declared.client.Present.{Present}
 use Rattle.world_base.specs.ClientTurns.{knows, knows_epoch}
 use Rattle.world_events.specs.Events.{or_issued}
 use Rattle.world_gots.specs.Gots.{AreJoined, AreServed, Found, IsFound, IsGot, IsServedSoFar, IsServedTo, IsTold, Nothing, NoneYet, OneMore}
-use Rattle.world_reads.specs.History.{History, Served}
+use Rattle.world_gots.specs.Remembering.{Remembers}
+use Rattle.world_reads.specs.History.{History}
 
 -- ---- lists
 
@@ -79,10 +80,6 @@ knows-more h x targets ops own a s = record { told = served-more h h x targets o
     by (Found op read at asks low j) = Found op read at asks low (joined-more h h x targets a.op read a.epoch (knows_epoch a.epoch own) a.group a.found (stays-known h x a.epoch own) j)
 
 -- ---- more is remembered
-
--- all that was served is
-abbrev pub Remembers : History → History → Type 0
-Remembers h k = (q : Served) → Contains h.served q → Contains k.served q
 
 pub stays-remembered : (h k : History) (x : AttemptId) (known : Option Epoch) → Remembers h k → StaysServed h k x known known
 stays-remembered h k x known more op group read b s = record {

@@ -1,7 +1,8 @@
 -- Every event keeps that clients were told what was served, where what targets serve is remembered.
-use Rattle.std.specs.Prelude.{ℕ, ◌≡◌, ◌<◌, [], slice_get, Contains, Option, Some, None}
+use Rattle.std.specs.Prelude.{ℕ, ◌≡◌, ◌<◌, List, [], slice_get, Contains, Option, Some, None}
 use Rattle.daos_base.specs.declared.answer.Answer.{Answer}
 use Rattle.daos_base.specs.declared.epoch.Epoch.{Epoch}
+use Rattle.daos_base.specs.declared.report.Attempt.{Attempt}
 use Rattle.daos_messages.specs.declared.actor.ActorId.{ActorId}
 use Rattle.daos_messages.specs.declared.message.Message.{Message}
 use Rattle.daos_messages.specs.declared.message.Message.TheVariants.{Fetched}
@@ -10,12 +11,30 @@ use Rattle.world_base.specs.declared.client.ClientState.{ClientState}
 use Rattle.world_base.specs.declared.did.Did.{Did}
 use Rattle.world_base.specs.declared.request.FetchRequest.{FetchRequest}
 use Rattle.world_base.specs.declared.world.World.{World}
-use Rattle.world_events.specs.Events.{ByClient, ByTarget, Event, Rules, ToClient, ToTarget}
+use Rattle.world_clients.specs.Standing.{HasTold}
+use Rattle.world_events.specs.Events.{ByClient, ByTarget, Event, Rules, ToClient, ToTarget, client_plan}
 use Rattle.world_gots.specs.Gots.{Gots}
-use Rattle.world_gots.specs.MoreLaws.{Remembers}
-use Rattle.world_gots.specs.StepGots.{ToldServed}
-use Rattle.world_reads.specs.History.{History}
+use Rattle.world_reads.specs.History.{History, Served}
 use Rattle.world_talks.specs.Asked.{fetch_of}
+use Rattle.world_talks.specs.Conversation.{Conversation}
+
+-- ---- what is kept together
+
+-- the lines of every client have told of its commands so far
+abbrev pub Standing : Rules → World → Type 0
+Standing r w = (n : ℕ) (c : ClientState) → slice_get w.clients n ≡ Some c → (attempts : List Attempt) × HasTold (client_plan r n) c attempts
+
+-- conversations are in order, clients stand where their lines have told, and what they were told was served
+pub record ToldServed (r : Rules) (h : History) (w : World) : Type 0 where
+  pub conversation : Conversation r w
+  pub standing : Standing r w
+  pub gots : Gots r h w
+
+-- ---- what is remembered
+
+-- all that was served is
+abbrev pub Remembers : History → History → Type 0
+Remembers h k = (q : Served) → Contains h.served q → Contains k.served q
 
 -- what a target answered to a Fetch that it heard is among the served reads
 abbrev pub HasServed : History → ℕ → Message → Did → Type 0
@@ -29,6 +48,8 @@ IsRemembered r w v h (ByClient g) = Unit {0}
 IsRemembered r w v h (ToClient g) = Unit {0}
 IsRemembered r w v h (ToTarget g) = HasServed h g.t g.l.message g.did
 IsRemembered r w v h (ByTarget g) = Unit {0}
+
+-- ---- the laws
 
 -- every event keeps that clients were told what was served, where all that was served stays remembered and what the event
 -- serves is remembered too

@@ -36,6 +36,7 @@ use Rattle.world_gots.specs.Gots.{AreServed, Gots, IsLineServed, IsServedAnswer,
 use Rattle.world_gots.specs.GotLaws.{Here, IsServedHere, IsToldServed, KeepsGots, at-command, moved-gots, silent-gots}
 use Rattle.world_gots.specs.HearGots.{answer-gots, ended-gots, outcome-gots}
 use Rattle.world_gots.specs.MoreLaws.{all-mapped, all-more, knows-more, served-more, stays-issued}
+use Rattle.world_gots.specs.Remembering.{Standing, ToldServed}
 use Rattle.world_lines.specs.FilledLaws.{tries-filled}
 use Rattle.world_lines.specs.Lines.{filled}
 use Rattle.world_reads.specs.History.{History}
@@ -46,18 +47,6 @@ use Rattle.world_talks.specs.ConversationLaws.{count-keeps, hear-keeps, move-kee
 use Rattle.world_talks.specs.Hearing.{ATracker, AReply, AnEnd, IsHearing, hearing-is}
 use Rattle.world_talks.specs.InFlight.{GetsAnswer, none-in-flight}
 use Rattle.world_talks.specs.TalkLaws.{got-is-talk, left-is-among, none-among}
-
--- ---- what is kept together
-
--- the lines of every client have told of its commands so far
-abbrev pub Standing : Rules → World → Type 0
-Standing r w = (n : ℕ) (c : ClientState) → slice_get w.clients n ≡ Some c → (attempts : List Attempt) × HasTold (client_plan r n) c attempts
-
--- conversations are in order, clients stand where their lines have told, and what they were told was served
-pub record ToldServed (r : Rules) (h : History) (w : World) : Type 0 where
-  pub conversation : Conversation r w
-  pub standing : Standing r w
-  pub gots : Gots r h w
 
 -- ---- which letters answer reads
 

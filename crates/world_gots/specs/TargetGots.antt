@@ -32,9 +32,8 @@ use Rattle.world_clients.specs.Standing.{HasTold}
 use Rattle.world_events.specs.Events.{ByClient, ByTarget, Rules, TargetHears, TargetIdles, ToClient, ToTarget, client_plan, kept, target_plan, with_epoch}
 use Rattle.world_events.specs.Letters.{Takes, client, letters_of, target}
 use Rattle.world_gots.specs.Gots.{AreServed, Gots, IsLineServed, IsServedAnswer, IsServedSoFar}
-use Rattle.world_gots.specs.MoreLaws.{Remembers, all-more, remembered-more, served-more, stays-remembered}
-use Rattle.world_gots.specs.Remembering.{HasServed, NothingIsTold, ServedIsTold}
-use Rattle.world_gots.specs.StepGots.{Standing, ToldServed}
+use Rattle.world_gots.specs.MoreLaws.{all-more, remembered-more, served-more, stays-remembered}
+use Rattle.world_gots.specs.Remembering.{HasServed, NothingIsTold, Remembers, ServedIsTold, Standing, ToldServed}
 use Rattle.world_gots.specs.TurnGots.{client-goes-told, client-hears-told}
 use Rattle.world_reads.specs.History.{History}
 use Rattle.world_talks.specs.AnswerLaws.{IsAnsweredBy, answers-are-posted, hears-heard, idle-posts-nothing}

@@ -27,7 +27,8 @@ use Rattle.world_gots.specs.Gots.{Gots, IsServedAnswer, IsServedSoFar}
 use Rattle.world_gots.specs.GotLaws.{Here, IsServedHere, KeepsGots, at-command, silent-gots}
 use Rattle.world_gots.specs.HearGots.{answer-gots, ended-gots, outcome-gots}
 use Rattle.world_gots.specs.MoreLaws.{knows-more}
-use Rattle.world_gots.specs.StepGots.{AreFlying, KeepsAnswers, ToldServed, gots-move, here-of, is_fetched, sends-none, standing-turned, turned}
+use Rattle.world_gots.specs.Remembering.{ToldServed}
+use Rattle.world_gots.specs.StepGots.{AreFlying, KeepsAnswers, gots-move, here-of, is_fetched, sends-none, standing-turned, turned}
 use Rattle.world_reads.specs.History.{History}
 use Rattle.world_talks.specs.Conversation.{Conversation}
 use Rattle.world_talks.specs.ConversationLaws.{count-keeps, hear-keeps}

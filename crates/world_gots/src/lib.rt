@@ -1,2 +1,26 @@
 // What clients were told is what targets served.
 #![tactic(auto)]
+
+ghost use Rattle.world_gots.specs.Remembering.{NothingIsTold, ServedIsTold};
+ghost use Rattle.world_gots.specs.Right.{JoinsAreRight, LinesAreRight, NothingIsToldBefore, ToldIsRight};
+
+/// Says what holds throughout a run of what clients were told. Each answer and each condition, of a
+/// present attempt or in a line, is what the groups of its path gave, in order, joined; each of them was
+/// served to that attempt, by a target, at the attempt's epoch. An answer on its way is of what the attempt
+/// that waits for it asks. Each event keeps it so, where what targets serve is remembered; and so it is
+/// where nothing is in flight, no attempt has begun, and there are no lines.
+pub fn laws_of_gots()
+    ensures begin { NothingIsTold }
+    ensures kept { ServedIsTold }
+{}
+
+/// Says what follows where all that was served was answered right. What the groups of a read gave, joined,
+/// is its answer on the map as of the epoch; so every answer that an attempt was told is right, and so is
+/// every condition. An attempt without an epoch was told nothing. So a line of a script in form tells what
+/// the decided transactions give, unless its attempt is at a snapshot of an earlier run.
+pub fn laws_of_answers()
+    ensures joins { JoinsAreRight }
+    ensures told { ToldIsRight }
+    ensures nothing { NothingIsToldBefore }
+    ensures lines { LinesAreRight }
+{}

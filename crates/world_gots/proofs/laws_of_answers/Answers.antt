@@ -1,0 +1,6 @@
+use Rattle.world_gots.specs.RightLaws.{joins-right}
+use Rattle.world_gots.specs.ToldLaws.{lines-right, nothing-told, told-right}
+use Rattle.world_gots.proofs.laws_of_answers.Goals as goal
+
+pub returns : goal.returns
+returns c = record { joins = joins-right; told = told-right; nothing = nothing-told; lines = lines-right }

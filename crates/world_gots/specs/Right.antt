@@ -1,0 +1,74 @@
+-- What follows from that clients were told what was served: where that was answered right, so was what they were told.
+use Rattle.std.specs.Prelude.{ℕ, ◌≡◌, List, All, Contains, find, Option, Some, None}
+use Rattle.daos_base.specs.declared.answer.Answer.{Answer}
+use Rattle.daos_base.specs.declared.epoch.Epoch.{Epoch}
+use Rattle.daos_base.specs.declared.id.AttemptId.{AttemptId}
+use Rattle.daos_base.specs.declared.id.ObjId.{ObjId}
+use Rattle.daos_base.specs.declared.operation.Op.{Op}
+use Rattle.daos_base.specs.declared.operation.Read.{Read}
+use Rattle.daos_base.specs.declared.operation.Read.TheVariants as read
+use Rattle.daos_base.specs.declared.report.Attempt.{Attempt}
+use Rattle.daos_base.specs.declared.script.Script.{Script}
+use Rattle.daos_base.specs.Operations.{read_path}
+use Rattle.daos_base.specs.Placement.{ClassFits}
+use Rattle.daos_base.specs.Scripts.{IsInForm, IsOpInForm}
+use Rattle.daos_laws.specs.Decided.{taken_in}
+use Rattle.daos_laws.specs.Groups.{HasDkeys}
+use Rattle.daos_model.specs.Answers.{answer}
+use Rattle.daos_model.specs.Attempts.{snapshot_of}
+use Rattle.daos_model.specs.Opening.{Opening}
+use Rattle.daos_model.specs.ReadsLegal.{AttemptReadsLegal, IsToldRight, is_named}
+use Rattle.daos_model.specs.Transactions.{attempt_ops}
+use Rattle.world_events.specs.Events.{Rules}
+use Rattle.world_gots.specs.Gots.{AreServed, IsJoined, IsLineServed}
+use Rattle.world_reads.specs.History.{History, Served, transactions}
+use Rattle.world_reads.specs.Reads.{IsAnsweredRight, map_then}
+
+-- all that was served was answered right
+abbrev pub AreAnsweredRight : Rules → Opening → History → Type 0
+AreAnsweredRight r o h = (q : Served) → Contains h.served q → IsAnsweredRight r o h q
+
+-- a read that several groups answer together: of the names of dkeys, or of whether there is a cell; else one of a dkey, which
+-- has one group
+abbrev pub IsJoinable : Read → Type 0
+IsJoinable (read.Single p) = (k : List ℕ) × (p.dkey ≡ Some k)
+IsJoinable (read.Extent p low len) = (k : List ℕ) × (p.dkey ≡ Some k)
+IsJoinable (read.Dkeys p) = Unit {0}
+IsJoinable (read.Akeys p) = (k : List ℕ) × (p.dkey ≡ Some k)
+IsJoinable (read.Exists p) = Unit {0}
+
+-- such a read of an object for which there are targets enough
+pub record IsAskable (targets : ℕ) (q : Read) : Type 0 where
+  pub obj : ObjId
+  pub of_object : (read_path q).obj ≡ Some obj
+  pub fits : ClassFits obj.class targets
+  pub joinable : IsJoinable q
+
+-- What all the groups of a read's path gave, joined, is the read's answer on the map as of the epoch, of which no cell is
+-- without a dkey.
+abbrev pub JoinsAreRight : Type 0
+JoinsAreRight =
+    (r : Rules) (o : Opening) (h : History) (x : AttemptId) (op : ℕ) (q : Read) (e : Epoch) (b : Answer) → AreAnsweredRight r o h → IsAskable r.script.targets q → HasDkeys (map_then r o h e)
+    → IsJoined h x r.script.targets op q (Some e) b → b ≡ answer q (map_then r o h e)
+
+-- What an attempt was told is right on the map as of its epoch.
+abbrev pub ToldIsRight : Type 0
+ToldIsRight =
+    (r : Rules) (o : Opening) (h : History) (ops : List Op) (a : Attempt) (e : Epoch) → All (λ d. ClassFits d.id.class r.script.targets) r.script.objs → All (IsOpInForm r.script.objs) ops
+    → AreAnsweredRight r o h → HasDkeys (map_then r o h e) → AreServed h a.id r.script.targets ops (Some e) a.gots a.conds → IsToldRight ops (Some (map_then r o h e)) a
+
+-- An attempt without an epoch was told nothing.
+abbrev pub NothingIsToldBefore : Type 0
+NothingIsToldBefore = (h : History) (x : AttemptId) (targets : ℕ) (ops : List Op) (a : Attempt) → AreServed h x targets ops None a.gots a.conds → IsToldRight ops None a
+
+-- it isn't at a snapshot of an earlier run: it is at none, or at one that the run made
+abbrev pub IsOfThisRun : Script → Option (List ℕ) → Type 0
+IsOfThisRun s None = Unit {0}
+IsOfThisRun s (Some name) = find (is_named name) s.olds ≡ None
+
+-- So where a script is in form, what a line tells of an attempt is what the decided transactions give, but for one at a
+-- snapshot of an earlier run.
+abbrev pub LinesAreRight : Type 0
+LinesAreRight =
+    (r : Rules) (o : Opening) (h : History) (targets : ℕ) (a : Attempt) → IsInForm targets r.script → AreAnsweredRight r o h → ((e : Epoch) → HasDkeys (map_then r o h e))
+    → IsOfThisRun r.script (snapshot_of r.script a.id) → IsLineServed r h a → AttemptReadsLegal r.script o.stand (taken_in (transactions r.script h)) a
