@@ -1,7 +1,6 @@
 -- What holds of the world when a run is over, and the report of its lines.
 use Rattle.std.specs.Prelude.{ℕ, ◌≡◌, ◌<◌, ◌^◌, Bool, true, false, List, [], Contains, All, slice_get, Some, None}
 use Rattle.daos_base.specs.declared.entry.Entry.{Entry}
-use Rattle.daos_base.specs.declared.job.Job.{Job}
 use Rattle.daos_base.specs.declared.outcome.Outcome.{Outcome}
 use Rattle.daos_base.specs.declared.outcome.Outcome.TheVariants as outcome
 use Rattle.daos_base.specs.declared.report.Attempt.{Attempt}
@@ -37,7 +36,7 @@ pub record IsPlain (r : Rules) (w : World) : Type 0 where
   pub no_snaps : (t : ℕ) (s : TargetState) → slice_get w.targets t ≡ Some s → s.durable.snaps ≡ []
 
 -- what the target held at the opening: cells of its own alone, no snapshot, and a lease as regions hold it
-pub record OpensPlain (r : Rules) (o : Opening) : Type 0 where
+pub record OpensPlain (o : Opening) : Type 0 where
   pub own : (c : Cell) → is_own 1 0 c ≡ false → value_at o.stand.now c ≡ None
   pub no_snaps : o.stand.snaps ≡ []
   pub lease : o.lease < 2 ^ 56
@@ -91,8 +90,6 @@ pub record TellsPlain (w : World) : Type 0 where
 abbrev pub report_of : Rules → World → Report
 report_of r w = record { targets = r.script.targets; lines = w.lines; down = None }
 
--- a run was given its script, its number of attempts, and what was held at its opening
-pub record IsGiven (r : Rules) (o : Opening) (g : Given) : Type 0 where
-  pub script : g.script ≡ r.script
-  pub attempts : g.job.attempts ≡ r.attempts
-  pub opening : g.opening ≡ o
+-- what a run is given, as its events take it: its clocks leave nothing uncertain
+abbrev pub rules_of : Given → Rules
+rules_of g = record { script = g.script; attempts = g.job.attempts; epsilon = 0 }

@@ -2,3 +2,8 @@
 pub mod Ends
 pub mod Took
 pub mod Decisions
+pub mod FormLaws
+pub mod StopLaws
+pub mod Outcomes
+pub mod LastReads
+pub mod OneTargetLaws
