@@ -1,5 +1,5 @@
 -- When a run is over, its committed attempts with writes are those that were decided.
-use Rattle.std.specs.Prelude.{ℕ, ◌≡◌, ◌≢◌, ◌<◌, ◌++◌, ◌⊎◌, Bool, true, false, not, nat_eq, is_some, List, [], ◌∷◌, map, length, All, AllPairs, Contains, Option, Some, None, refl, if◌then◌else◌}
+use Rattle.std.specs.Prelude.{ℕ, ◌≡◌, ◌≢◌, ◌++◌, ◌⊎◌, Bool, true, false, not, nat_eq, is_some, List, [], ◌∷◌, map, All, AllPairs, Contains, Option, Some, None, refl, if◌then◌else◌}
 use Rattle.std.specs.List.{IsDistinct}
 use Rattle.std.proofs.Common.{sym, ◌∙◌, ap, subst, inl, inr, arith}
 use Rattle.std.proofs.lemmas.Bool.Decides.{nat_tests}
@@ -8,9 +8,7 @@ use Rattle.std.proofs.lemmas.List.Kept.{AllPairs-cons}
 use Rattle.daos_base.specs.declared.epoch.Epoch.{Epoch}
 use Rattle.daos_base.specs.declared.id.AttemptId.{AttemptId}
 use Rattle.daos_base.specs.declared.operation.MinorWrite.{MinorWrite}
-use Rattle.daos_base.specs.declared.outcome.Outcome.TheVariants as outcome
 use Rattle.daos_base.specs.declared.report.Attempt.{Attempt}
-use Rattle.daos_base.specs.declared.report.Line.{Line}
 use Rattle.daos_base.specs.declared.script.Script.{Script}
 use Rattle.daos_laws.specs.Decided.{AreDecided, Decided, IsNumbered, taken_in}
 use Rattle.daos_laws.specs.DecidedLaws.{all-from_has, has-all}
@@ -18,12 +16,11 @@ use Rattle.daos_laws.specs.Members.{Has, contains-from_has, has-from_contains, h
 use Rattle.daos_laws.specs.TargetLaws.{as_of-set}
 use Rattle.daos_model.specs.Accesses.{minor_writes}
 use Rattle.daos_model.specs.AsOf.{as_of}
-use Rattle.daos_model.specs.Attempts.{epoch_or_none, has_own_epoch, is_unknown, own_epochs, snapshot_of, tries}
+use Rattle.daos_model.specs.Attempts.{epoch_or_none, is_unknown, own_epochs, snapshot_of, tries}
 use Rattle.daos_model.specs.Finals.{SameMap}
 use Rattle.daos_model.specs.Opening.{Opening}
 use Rattle.daos_model.specs.TookEffect.{took}
 use Rattle.daos_model.specs.Transactions.{attempt_ops}
-use Rattle.world_base.specs.declared.letter.Letter.{Letter}
 use Rattle.world_base.specs.declared.world.World.{World}
 use Rattle.world_events.specs.Events.{Rules}
 use Rattle.world_reads.specs.History.{History, decided_of, transactions}

@@ -18,10 +18,10 @@ use Rattle.daos_base.specs.declared.script.ObjDecl.{ObjDecl}
 use Rattle.daos_base.specs.declared.script.Script.{Script}
 use Rattle.daos_base.specs.Scripts.{AreCommands, IsActInForm, IsAkeyOf, IsCommand, IsDkeyOf, IsInForm, IsLength, IsObjectOf, IsOpInForm, IsWriteInForm, SnapName, is_numbered, old_snap, snap_of}
 use Rattle.daos_model.specs.Accesses.{minor_write, minor_writes}
-use Rattle.daos_model.specs.Attempts.{snapshot_of, snapshot_of_command, snapshot_or_none}
+use Rattle.daos_model.specs.Attempts.{snapshot_of_command, snapshot_or_none}
 use Rattle.daos_model.specs.BoolLaws.{both}
 use Rattle.daos_model.specs.Forms.{ends_at_akey, ends_at_dkey, ends_at_object, is_length, is_write_in_form}
-use Rattle.daos_model.specs.Transactions.{attempt_ops, command_of, numbered, numbered_at, ops_of, read_numbers}
+use Rattle.daos_model.specs.Transactions.{attempt_ops, command_of, numbered_at, ops_of, read_numbers}
 use Rattle.world_epochs.specs.Epochs.{Unsnapped, is_unsnapped}
 use Rattle.world_events.specs.Events.{Rules, commands_or_none}
 use Rattle.world_gots.specs.FormLaws.{all-at, ops-form}

@@ -1,5 +1,5 @@
 -- When a run is over, what its lines tell of reads is legal.
-use Rattle.std.specs.Prelude.{ℕ, ◌≡◌, ◌&&◌, Bool, true, false, is_some, List, [], All, Contains, Option, Some, None, refl}
+use Rattle.std.specs.Prelude.{ℕ, ◌≡◌, ◌&&◌, Bool, true, false, is_some, List, All, Contains, Option, Some, None, refl}
 use Rattle.std.specs.List.{list_any}
 use Rattle.std.proofs.Common.{sym, ◌∙◌, ap, subst}
 use Rattle.daos_base.specs.declared.answer.Answer.{Answer}
@@ -42,7 +42,6 @@ use Rattle.world_gots.specs.MoreLaws.{all-more}
 use Rattle.world_gots.specs.Right.{IsOfThisRun}
 use Rattle.world_gots.specs.ToldLaws.{lines-right}
 use Rattle.world_reads.specs.History.{History, decided_of, transactions}
-use Rattle.world_reads.specs.Reads.{map_then}
 use Rattle.world_ends.specs.Decisions.{DecisionsTold, took-same_map}
 use Rattle.world_ends.specs.Ends.{Facts, IsOver, IsPlain, OpensPlain, TellsPlain, is_sure, report_of, rules_of}
 use Rattle.world_ends.specs.FormLaws.{attempt-writes-form, no-snapshots}

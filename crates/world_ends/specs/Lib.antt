@@ -7,3 +7,5 @@ pub mod StopLaws
 pub mod Outcomes
 pub mod LastReads
 pub mod OneTargetLaws
+pub mod LastStand
+pub mod Laws

@@ -1,10 +1,8 @@
 -- When a run is over, the outcomes that its lines tell are legal.
-use Rattle.std.specs.Prelude.{ℕ, zero, suc, ◌≡◌, ◌≢◌, ◌<◌, ◌+◌, ◌++◌, ◌⊎◌, Bool, true, false, is_some, List, [], ◌∷◌, filter, map, slice_get, All, Contains, Option, Some, None, refl}
+use Rattle.std.specs.Prelude.{ℕ, suc, ◌≡◌, ◌≢◌, ◌+◌, ◌++◌, ◌⊎◌, true, false, is_some, List, [], ◌∷◌, map, slice_get, Option, Some, None, refl}
 use Rattle.std.proofs.Common.{sym, ◌∙◌, ap, subst, inl, inr, arith}
-use Rattle.std.proofs.lemmas.List.Elements.{All-head, All-tail}
 use Rattle.daos_base.specs.declared.epoch.Epoch.{Epoch}
 use Rattle.daos_base.specs.declared.id.AttemptId.{AttemptId}
-use Rattle.daos_base.specs.declared.id.ContId.{ContId}
 use Rattle.daos_base.specs.declared.operation.MinorWrite.{MinorWrite}
 use Rattle.daos_base.specs.declared.operation.Op.{Op}
 use Rattle.daos_base.specs.declared.outcome.Outcome.{Outcome}
@@ -16,18 +14,18 @@ use Rattle.daos_base.specs.declared.script.Command.{Command}
 use Rattle.daos_base.specs.declared.script.Command.TheVariants.{Snap}
 use Rattle.daos_base.specs.declared.script.Script.{Script}
 use Rattle.daos_laws.specs.DecidedLaws.{all-from_has, has-all}
-use Rattle.daos_laws.specs.Members.{Has, contains-from_has, has-cases, has-filter, has-from_contains, has-right}
+use Rattle.daos_laws.specs.Members.{Has, contains-from_has, has-cases, has-filter, has-right}
 use Rattle.daos_laws.specs.TargetLaws.{same_number}
 use Rattle.daos_model.specs.declared.stand.Stand.{Stand}
 use Rattle.daos_model.specs.declared.durable.Version.{Version}
 use Rattle.daos_model.specs.Accesses.{minor_writes}
-use Rattle.daos_model.specs.Attempts.{is_of_client, snapshot_of, tries, tries_of}
-use Rattle.daos_model.specs.Conditions.{ConditionsLegal, EndsRight, IsWhole}
+use Rattle.daos_model.specs.Attempts.{is_of_client, tries, tries_of}
+use Rattle.daos_model.specs.Conditions.{ConditionsLegal, EndsRight}
 use Rattle.daos_model.specs.Laws.{tries-append}
-use Rattle.daos_model.specs.Opening.{Given, top, undisturbed}
+use Rattle.daos_model.specs.Opening.{Given, undisturbed}
 use Rattle.daos_model.specs.Order.{AllInTurn, AreAttempts, AreInTurn, client_commands, commands_or_none as of_option}
 use Rattle.daos_model.specs.OutcomesLegal.{OutcomesLegal}
-use Rattle.daos_model.specs.Snapshots.{ComesFrom, MakesSnapshot, NoneLegal, SnapshotsLegal}
+use Rattle.daos_model.specs.Snapshots.{ComesFrom, NoneLegal, SnapshotsLegal}
 use Rattle.daos_model.specs.Transactions.{attempt_ops, command_of, numbered, numbered_at}
 use Rattle.world_base.specs.declared.client.ClientState.{ClientState}
 use Rattle.world_base.specs.declared.world.World.{World}
@@ -39,7 +37,6 @@ use Rattle.world_lines.specs.LastLines.{lines-answered, lines-in-turn}
 use Rattle.world_lines.specs.Lines.{Lines}
 use Rattle.world_reads.specs.History.{History}
 use Rattle.world_verdicts.specs.Verdicts.{HasWrites}
-use Rattle.world_ends.specs.Decisions.{NoSnapshots}
 use Rattle.world_ends.specs.Ends.{Facts, IsOver, IsPlain, TellsPlain, is_sure, report_of, rules_of}
 use Rattle.world_ends.specs.FormLaws.{no-ops, no-snaps, no-snapshots, some-op}
 use Rattle.world_ends.specs.StopLaws.{each-line, tries-undisturbed, try-comes}

@@ -1,5 +1,5 @@
 -- Lines of attempts alone tell of no stop and of no snapshot.
-use Rattle.std.specs.Prelude.{ℕ, ◌≡◌, ◌≤◌, ◌<◌, ◌+◌, ◌⊎◌, Bool, true, false, nat_eq, Contains, ◌++◌, List, [], ◌∷◌, filter, length, All, Option, Some, None, refl}
+use Rattle.std.specs.Prelude.{ℕ, ◌≡◌, ◌≤◌, ◌<◌, ◌+◌, ◌⊎◌, Bool, true, false, Contains, ◌++◌, List, [], ◌∷◌, filter, length, All, Some, None, refl}
 use Rattle.std.specs.List.{IsDistinct}
 use Rattle.std.specs.List.Sorted.{IsNonDecreasing, IsStrictlyIncreasing}
 use Rattle.std.proofs.Common.{sym, ◌∙◌, ap, subst, inl, arith}
@@ -7,12 +7,11 @@ use Rattle.std.proofs.lemmas.List.Elements.{All-cons, All-head, All-nil, All-tai
 use Rattle.daos_base.specs.declared.report.Attempt.{Attempt}
 use Rattle.daos_base.specs.declared.report.Line.{Line}
 use Rattle.daos_base.specs.declared.report.Line.TheVariants as line
-use Rattle.daos_base.specs.declared.report.Report.{Report}
 use Rattle.daos_base.specs.declared.script.Script.{Script}
 use Rattle.daos_laws.specs.Members.{has-from_contains}
 use Rattle.daos_model.specs.Opening.{undisturbed}
 use Rattle.daos_model.specs.Snapshots.{ComesFrom}
-use Rattle.daos_model.specs.Stops.{AreCounted, AreNumbered, Down, Running, after_all, least, HasTarget, IsGivenUpBy, StopsLegal, StopsLegalAt, aggregate_numbers, aggregated_number, down_targets, floors, given_up, incarnations, is_at, is_stop_at, lines_at, opened_floor, opened_incarnation, restart_numbers, restarted_number, stop_numbers, stopped_number}
+use Rattle.daos_model.specs.Stops.{AreCounted, AreNumbered, Down, Running, after_all, least, HasTarget, StopsLegal, StopsLegalAt, aggregate_numbers, aggregated_number, down_targets, floors, given_up, incarnations, is_at, is_stop_at, lines_at, restart_numbers, restarted_number, stop_numbers, stopped_number}
 use Rattle.world_ends.specs.Ends.{is_try}
 
 abbrev AreTries : List Line → Type 0

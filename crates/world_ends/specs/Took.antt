@@ -1,6 +1,5 @@
 -- The transactions that took effect by lines are those of their committed attempts with writes.
-use Rattle.std.specs.Prelude.{ℕ, ◌≡◌, ◌≢◌, ◌+◌, ◌++◌, ◌⊎◌, Bool, true, false, nat_eq, List, [], ◌∷◌, map, All, AllPairs, Contains, Option, Some, None, refl, if◌then◌else◌}
-use Rattle.std.specs.List.{IsDistinct}
+use Rattle.std.specs.Prelude.{ℕ, ◌≡◌, ◌≢◌, ◌+◌, ◌++◌, ◌⊎◌, Bool, true, false, List, [], ◌∷◌, map, All, Option, Some, None, refl, if◌then◌else◌}
 use Rattle.std.proofs.Common.{sym, ◌∙◌, ap, subst, inl, inr}
 use Rattle.std.proofs.lemmas.List.{map-append}
 use Rattle.std.proofs.lemmas.List.Elements.{All-head, All-tail}
@@ -10,15 +9,13 @@ use Rattle.daos_base.specs.declared.operation.Act.{Act}
 use Rattle.daos_base.specs.declared.operation.Act.TheVariants.{Fetch, Change}
 use Rattle.daos_base.specs.declared.operation.MinorWrite.{MinorWrite}
 use Rattle.daos_base.specs.declared.operation.Op.{Op}
-use Rattle.daos_base.specs.declared.operation.Write.{Write}
 use Rattle.daos_base.specs.declared.outcome.Outcome.{Outcome}
 use Rattle.daos_base.specs.declared.outcome.Outcome.TheVariants as outcome
 use Rattle.daos_base.specs.declared.report.Attempt.{Attempt}
 use Rattle.daos_base.specs.declared.report.Line.{Line}
 use Rattle.daos_base.specs.declared.script.Script.{Script}
-use Rattle.daos_laws.specs.Decided.{Decided, taken_in, taken_of, write_of}
+use Rattle.daos_laws.specs.Decided.{taken_in, taken_of, write_of}
 use Rattle.daos_laws.specs.Members.{Has, has-cases, has-left, has-right}
-use Rattle.daos_model.specs.declared.stand.Taken.{Taken}
 use Rattle.daos_model.specs.Accesses.{minor_write, minor_writes}
 use Rattle.daos_model.specs.Attempts.{is_unknown, tries}
 use Rattle.daos_model.specs.TookEffect.{all_taken, taken_at, took, took_effect}
