@@ -1,0 +1,94 @@
+-- What holds of the world when a run is over, and the report of its lines.
+use Rattle.std.specs.Prelude.{ℕ, ◌≡◌, ◌<◌, ◌^◌, Bool, true, false, List, [], Contains, All, slice_get, Some, None}
+use Rattle.daos_base.specs.declared.entry.Entry.{Entry}
+use Rattle.daos_base.specs.declared.outcome.Outcome.{Outcome}
+use Rattle.daos_base.specs.declared.outcome.Outcome.TheVariants as outcome
+use Rattle.daos_base.specs.declared.report.Line.{Line}
+use Rattle.daos_base.specs.declared.report.Line.TheVariants as line
+use Rattle.daos_base.specs.declared.report.Report.{Report}
+use Rattle.daos_base.specs.Scripts.{IsInForm}
+use Rattle.daos_laws.specs.Targets.{is_own}
+use Rattle.daos_model.specs.declared.cell.Cell.{Cell}
+use Rattle.daos_model.specs.declared.durable.Version.{Version}
+use Rattle.daos_model.specs.Attempts.{tries}
+use Rattle.daos_model.specs.Cells.{value_at}
+use Rattle.daos_model.specs.Opening.{Given, Opening, top}
+use Rattle.world_base.specs.declared.target.TargetState.{TargetState}
+use Rattle.world_base.specs.declared.world.World.{World}
+use Rattle.world_epochs.specs.Epochs.{Epochs, OneTarget, Unsnapped}
+use Rattle.world_events.specs.Events.{Rules}
+use Rattle.world_gots.specs.Gots.{Gots}
+use Rattle.world_lines.specs.EndingLaws.{Spoken}
+use Rattle.world_lines.specs.LastLines.{AreDone, HasClients}
+use Rattle.world_reads.specs.History.{History}
+use Rattle.world_reads.specs.Reads.{Reads}
+use Rattle.world_reads.specs.Versions.{Versions}
+use Rattle.world_verdicts.specs.Verdicts.{Verdicts}
+
+-- ---- the run
+
+-- a run of a script for one target, which holds no snapshot and makes none
+pub record IsPlain (r : Rules) (w : World) : Type 0 where
+  pub one : OneTarget r w
+  pub form : IsInForm 1 r.script
+  pub unsnapped : Unsnapped r
+  pub no_snaps : (t : ℕ) (s : TargetState) → slice_get w.targets t ≡ Some s → s.durable.snaps ≡ []
+
+-- what the target held at the opening: cells of its own alone, no snapshot, and a lease as regions hold it
+pub record OpensPlain (o : Opening) : Type 0 where
+  pub own : (c : Cell) → is_own 1 0 c ≡ false → value_at o.stand.now c ≡ None
+  pub no_snaps : o.stand.snaps ≡ []
+  pub lease : o.lease < 2 ^ 56
+
+-- ---- what every event keeps
+
+pub record Facts (r : Rules) (o : Opening) (held : ℕ → List Version) (h : History) (w : World) : Type 0 where
+  pub spoken : Spoken r w
+  pub epochs : Epochs r (top o) w
+  pub verdicts : Verdicts r h w
+  pub versions : Versions r o held h w
+  pub reads : Reads r o h w
+  pub gots : Gots r h w
+
+-- ---- the end
+
+-- all clients are done, nothing is in flight, and every decided attempt is settled
+pub record IsOver (r : Rules) (w : World) : Type 0 where
+  pub silent : w.messages ≡ []
+  pub clients : HasClients r w
+  pub done : AreDone r w
+  pub settled : (t : ℕ) (s : TargetState) (e : Entry) → slice_get w.targets t ≡ Some s → Contains s.durable.entries e → e.committed ≡ true
+
+abbrev pub is_try : Line → Bool
+is_try (line.Try a) = true
+is_try (line.Stop number target) = false
+is_try (line.Restart number target incarnation floor) = false
+is_try (line.Freeze target cont epoch) = false
+is_try (line.Snapshot name cont epoch) = false
+is_try (line.Aggregate number target cont upto) = false
+is_try (line.Down target) = false
+
+-- it is known what became of an attempt, and that no snapshot was wanting
+abbrev pub is_sure : Outcome → Bool
+is_sure outcome.Committed = true
+is_sure (outcome.CondFailed op) = true
+is_sure (outcome.Restart cause) = true
+is_sure (outcome.NoSpace target need free) = true
+is_sure outcome.EpochsSpent = true
+is_sure outcome.NoSnapshot = false
+is_sure (outcome.Unknown target) = false
+
+-- the lines tell of attempts alone, and of each what became of it
+pub record TellsPlain (w : World) : Type 0 where
+  pub attempts : All (λ l. is_try l ≡ true) w.lines
+  pub sure : All (λ a. is_sure a.outcome ≡ true) (tries w.lines)
+
+-- ---- the report
+
+-- the report of the lines, where no target was given up
+abbrev pub report_of : Rules → World → Report
+report_of r w = record { targets = r.script.targets; lines = w.lines; down = None }
+
+-- what a run is given, as its events take it: its clocks leave nothing uncertain
+abbrev pub rules_of : Given → Rules
+rules_of g = record { script = g.script; attempts = g.job.attempts; epsilon = 0 }

@@ -1,0 +1,162 @@
+-- What the commands of a script in form are, where it makes no snapshot and reads at none.
+use Rattle.std.specs.Prelude.{ℕ, zero, suc, ◌≡◌, ◌≢◌, ◌<◌, ◌+◌, Bool, true, false, not, is_none, is_some, nat_le, nat_lt, ◌&&◌, ◌^◌, ◌++◌, List, [], ◌∷◌, filter, length, map, slice_get, All, Option, Some, None, refl, if◌then◌else◌}
+use Rattle.std.proofs.Common.{sym, ◌∙◌, ap, subst, arith}
+use Rattle.std.proofs.lemmas.Bool.Decides.{nat_tests}
+use Rattle.std.proofs.lemmas.List.Elements.{All-append, All-cons, All-head, All-nil, All-tail}
+use Rattle.daos_base.specs.declared.id.AttemptId.{AttemptId}
+use Rattle.daos_base.specs.declared.operation.Act.{Act}
+use Rattle.daos_base.specs.declared.operation.Act.TheVariants.{Fetch, Change}
+use Rattle.daos_base.specs.declared.operation.MinorWrite.{MinorWrite}
+use Rattle.daos_base.specs.declared.operation.Op.{Op}
+use Rattle.daos_base.specs.declared.operation.Write.{Write}
+use Rattle.daos_base.specs.declared.operation.Write.TheVariants as write
+use Rattle.daos_base.specs.declared.path.Path.{Path}
+use Rattle.daos_base.specs.declared.script.Command.{Command}
+use Rattle.daos_base.specs.declared.script.Command.TheVariants.{Run, Snap, Aggregate, Tell, Skip}
+use Rattle.daos_base.specs.declared.script.ContDecl.{ContDecl}
+use Rattle.daos_base.specs.declared.script.ObjDecl.{ObjDecl}
+use Rattle.daos_base.specs.declared.script.Script.{Script}
+use Rattle.daos_base.specs.Scripts.{AreCommands, IsActInForm, IsAkeyOf, IsCommand, IsDkeyOf, IsInForm, IsLength, IsObjectOf, IsOpInForm, IsWriteInForm, SnapName, is_numbered, old_snap, snap_of}
+use Rattle.daos_model.specs.Accesses.{minor_write, minor_writes}
+use Rattle.daos_model.specs.Attempts.{snapshot_of_command, snapshot_or_none}
+use Rattle.daos_model.specs.BoolLaws.{both}
+use Rattle.daos_model.specs.Forms.{ends_at_akey, ends_at_dkey, ends_at_object, is_length, is_write_in_form}
+use Rattle.daos_model.specs.Transactions.{attempt_ops, command_of, numbered_at, ops_of, read_numbers}
+use Rattle.world_epochs.specs.Epochs.{Unsnapped, is_unsnapped}
+use Rattle.world_events.specs.Events.{Rules, commands_or_none}
+use Rattle.world_gots.specs.FormLaws.{all-at, ops-form}
+use Rattle.world_ends.specs.Decisions.{NoSnapshots}
+
+-- ---- writes
+
+akey-ends : (objs : List ObjDecl) (p : Path) → IsAkeyOf objs p → ends_at_akey p ≡ true
+akey-ends objs p k =
+    both (is_some p.obj && is_some p.dkey) (is_some p.akey) (both (is_some p.obj) (is_some p.dkey) (ap is_some (sym k.declared.4.0)) (ap is_some k.dkey.1)) (ap is_some k.akey.1)
+
+dkey-ends : (objs : List ObjDecl) (p : Path) → IsDkeyOf objs p → ends_at_dkey p ≡ true
+dkey-ends objs p k =
+    both (is_some p.obj && is_some p.dkey) (is_none p.akey) (both (is_some p.obj) (is_some p.dkey) (ap is_some (sym k.declared.4.0)) (ap is_some k.dkey.1)) (ap is_none k.no_akey)
+
+object-ends : (objs : List ObjDecl) (p : Path) → IsObjectOf objs p → ends_at_object p ≡ true
+object-ends objs p k =
+    both (is_some p.obj && is_none p.dkey) (is_none p.akey) (both (is_some p.obj) (is_none p.dkey) (ap is_some (sym k.declared.4.0)) (ap is_none k.no_dkey)) (ap is_none k.no_akey)
+
+length-is : (n : ℕ) → IsLength n → is_length n ≡ true
+length-is n k = let low : 0 < n = k.0 in let high = k.1 in both (nat_le 1 n) (nat_le n 1024) (grind (arith, nat_tests)) (grind (arith, nat_tests))
+
+below-is : (m n : ℕ) → m < n → nat_lt m n ≡ true
+below-is m n lt = grind (arith, nat_tests)
+
+pub write-form : (objs : List ObjDecl) (w : Write) → IsWriteInForm objs w → is_write_in_form w ≡ true
+unfolding is_write_in_form
+write-form objs (write.Single p bytes) k = both (ends_at_akey p) (is_length (length bytes)) (akey-ends objs p k.0) (length-is (length bytes) k.1)
+write-form objs (write.Extent p low bytes) k =
+    both (ends_at_akey p && is_length (length bytes)) (nat_lt (low + length bytes) (2 ^ 32))
+    (both (ends_at_akey p) (is_length (length bytes)) (akey-ends objs p k.0) (length-is (length bytes) k.1)) (below-is (low + length bytes) (2 ^ 32) k.2)
+write-form objs (write.PunchObject p) k = object-ends objs p k
+write-form objs (write.PunchDkey p) k = dkey-ends objs p k
+write-form objs (write.PunchAkey p) k = akey-ends objs p k
+
+abbrev pub IsMinorInForm : MinorWrite → Type 0
+IsMinorInForm w = is_write_in_form w.write ≡ true
+
+minors-form : (objs : List ObjDecl) (n : ℕ) (ops : List Op) → All (IsOpInForm objs) ops → All IsMinorInForm (minor_writes n ops)
+unfolding minor_writes
+minors-form objs n [] forms = All-nil IsMinorInForm
+minors-form objs n (op ∷ ops) forms =
+    All-append IsMinorInForm (minor_write n op.act) (minor_writes (n + 1) ops) (one op.act (All-head (IsOpInForm objs) op ops forms).act) (minors-form objs (n + 1) ops (All-tail (IsOpInForm objs) op ops forms))
+  where
+    one : (act : Act) → IsActInForm objs act → All IsMinorInForm (minor_write n act)
+    one (Fetch r) k = All-nil IsMinorInForm
+    one (Change w) k = All-cons IsMinorInForm (record { minor = n; write = w }) [] (write-form objs w k) (All-nil IsMinorInForm)
+
+-- the writes of an attempt are in form
+pub attempt-writes-form : (targets : ℕ) (s : Script) (x : AttemptId) → IsInForm targets s → All IsMinorInForm (minor_writes 0 (attempt_ops s x))
+attempt-writes-form targets s x form = minors-form s.objs 0 (attempt_ops s x) (ops-form targets s x form)
+
+-- operations of which none writes and none reads are none
+pub no-ops : (n m : ℕ) (ops : List Op) → minor_writes n ops ≡ [] → read_numbers m ops ≡ [] → ops ≡ []
+unfolding minor_writes read_numbers
+no-ops n m [] writes reads = refl
+no-ops n m (op ∷ ops) writes reads = by op.act refl
+  where
+    by : (act : Act) → op.act ≡ act → op ∷ ops ≡ []
+    by (Fetch r) e = let no : ⊥ = cc (reads, e) in absurd no
+    by (Change w) e = let no : ⊥ = cc (writes, e) in absurd no
+
+-- ---- commands
+
+-- what stands among those that pass a test stands in the list, and passes
+pub filter-at : {T : Type 0} (t : T → Bool) (xs : List T) (k : ℕ) (x : T) → slice_get (filter t xs) k ≡ Some x → (j : ℕ) × (slice_get xs j ≡ Some x) × (t x ≡ true)
+filter-at t [] k x at = let no : ⊥ = cc in absurd no
+filter-at {T = T} t (y ∷ ys) k x at = by (t y) refl k at (λ m. filter-at t ys m x)
+  where
+    by : (b : Bool) → t y ≡ b → (m : ℕ) → slice_get (if b then y ∷ filter t ys else filter t ys) m ≡ Some x
+        → ((i : ℕ) → slice_get (filter t ys) i ≡ Some x → (j : ℕ) × (slice_get ys j ≡ Some x) × (t x ≡ true)) → (j : ℕ) × (slice_get (y ∷ ys) j ≡ Some x) × (t x ≡ true)
+    by true e zero h rest = let same : y ≡ x = cc in (0, h, ap t (sym same) ∙ e)
+    by true e (suc m) h rest = let r = rest m h in (suc r.0, r.1, r.2)
+    by false e m h rest = let r = rest m h in (suc r.0, r.1, r.2)
+
+-- an attempt's command bears a number, and neither makes a snapshot nor reads at one, nor aggregates
+pub command-plain : (r : Rules) (x : AttemptId) (d : Command) → Unsnapped r → command_of r.script x ≡ Some d → (is_unsnapped d ≡ true) × (is_numbered d ≡ true)
+unfolding command_of
+command-plain r x d plain at = by (slice_get r.script.clients x.client) refl at
+  where
+    by : (o : Option (List Command)) → slice_get r.script.clients x.client ≡ o → numbered_at x.command o ≡ Some d → (is_unsnapped d ≡ true) × (is_numbered d ≡ true)
+    by None e h = let no : ⊥ = cc in absurd no
+    by (Some list) e h =
+        let f = filter-at is_numbered list x.command d h in
+        (plain x.client f.0 d (ap (λ o. slice_get (commands_or_none o) f.0) e ∙ f.1), f.2)
+
+plain-reads : (d : Command) → is_unsnapped d ≡ true → snapshot_of_command d ≡ None
+plain-reads (Run ops skips snapshot) e = by snapshot e
+  where
+    by : (o : Option (List ℕ)) → not (is_some o) ≡ true → o ≡ None
+    by None h = refl
+    by (Some name) h = let no : ⊥ = cc in absurd no
+plain-reads (Snap name cont) e = refl
+plain-reads (Aggregate cont) e = refl
+plain-reads (Tell client) e = refl
+plain-reads (Skip turns) e = refl
+
+-- no attempt reads at a snapshot
+pub no-snapshots : (r : Rules) → Unsnapped r → NoSnapshots r.script
+no-snapshots r plain x = by (command_of r.script x) refl
+  where
+    by : (o : Option Command) → command_of r.script x ≡ o → snapshot_or_none (command_of r.script x) ≡ None
+    by None e = ap snapshot_or_none e
+    by (Some d) e = ap snapshot_or_none e ∙ plain-reads d (command-plain r x d plain e).0
+
+-- and none makes one
+pub no-snaps : (r : Rules) (x : AttemptId) (d : Command) → Unsnapped r → command_of r.script x ≡ Some d → is_unsnapped d ≡ false → ⊥
+no-snaps r x d plain at not_plain = let one = (command-plain r x d plain at).0 in let no : ⊥ = cc in no
+
+command-some : (conts : List ContDecl) (objs : List ObjDecl) (known : List SnapName) (d : Command) → IsCommand conts objs known d → is_unsnapped d ≡ true → is_numbered d ≡ true → 0 < length (ops_of d)
+command-some conts objs known (Run ops skips snapshot) f plain number = f.0.some
+command-some conts objs known (Snap name cont) f plain number = let no : ⊥ = cc in absurd no
+command-some conts objs known (Aggregate cont) f plain number = let no : ⊥ = cc in absurd no
+command-some conts objs known (Tell client) f plain number = let no : ⊥ = cc in absurd no
+command-some conts objs known (Skip turns) f plain number = let no : ⊥ = cc in absurd no
+
+commands-some : (conts : List ContDecl) (objs : List ObjDecl) (known : List SnapName) (list : List Command) (n : ℕ) (d : Command) → AreCommands conts objs known list → slice_get list n ≡ Some d
+    → is_unsnapped d ≡ true → is_numbered d ≡ true → 0 < length (ops_of d)
+commands-some conts objs known [] n d f at plain number = let no : ⊥ = cc in absurd no
+commands-some conts objs known (c ∷ cs) zero d f at plain number = let same : c ≡ d = cc in command-some conts objs known d (subst (IsCommand conts objs known) same f.0) plain number
+commands-some conts objs known (c ∷ cs) (suc n) d f at plain number = commands-some conts objs (known ++ snap_of c) cs n d f.1 at plain number
+
+-- an attempt of a command has an operation
+pub some-op : (r : Rules) (targets : ℕ) (x : AttemptId) (d : Command) → IsInForm targets r.script → Unsnapped r → command_of r.script x ≡ Some d → attempt_ops r.script x ≢ []
+unfolding command_of
+some-op r targets x d form plain at none = by (slice_get r.script.clients x.client) refl at
+  where
+    ops : attempt_ops r.script x ≡ ops_of d
+    ops = rw at refl
+
+    by : (o : Option (List Command)) → slice_get r.script.clients x.client ≡ o → numbered_at x.command o ≡ Some d → ⊥
+    by None e h = let no : ⊥ = cc in no
+    by (Some list) e h =
+        let f = filter-at is_numbered list x.command d h in
+        let commands = all-at (λ l. AreCommands r.script.conts r.script.objs (map old_snap r.script.olds) l) r.script.clients x.client list form.commands e in
+        let some = commands-some r.script.conts r.script.objs (map old_snap r.script.olds) list f.0 d commands f.1 (command-plain r x d plain at).0 f.2 in
+        let short : length (ops_of d) ≡ 0 = ap length (sym ops ∙ none) in
+        omega (arith, some, short)
