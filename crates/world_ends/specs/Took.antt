@@ -65,7 +65,7 @@ taken-writes s x (Some e) (w ∷ ws) same = ap (λ vs. taken_of (record { epoch 
 
 taken-one : (s : Script) (resolved : Bool) (a : Attempt) (how : Outcome) → is_unknown how ≡ false
     → (if took_effect resolved how then taken_at a.epoch (writes_of (attempt_ops s a.id)) else [])
-      ≡ taken_in (map (decided_of s) (if is_committed how then with_writes a.id a.epoch (minor_writes 0 (attempt_ops s a.id)) else []))
+    ≡ taken_in (map (decided_of s) (if is_committed how then with_writes a.id a.epoch (minor_writes 0 (attempt_ops s a.id)) else []))
 taken-one s resolved a outcome.Committed known =
     ap (taken_at a.epoch) (written-minors 0 (attempt_ops s a.id)) ∙ taken-writes s a.id a.epoch (minor_writes 0 (attempt_ops s a.id)) refl
 taken-one s resolved a (outcome.CondFailed op) known = refl
