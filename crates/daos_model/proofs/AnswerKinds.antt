@@ -1,5 +1,5 @@
 -- The answer of a read on versions in form is of the kind that the read asks for.
-use Rattle.std.proofs.Common.{◌≡◌, ℕ, zero, suc, ◌+◌, Bool, true, false, ◌&&◌, List, [], ◌∷◌, ◌++◌, Option, Some, None, length, refl, sym, ◌∙◌, ap, subst, arith}
+use Rattle.std.proofs.Common.{◌≡◌, ℕ, zero, suc, ◌+◌, Bool, true, false, ◌&&◌, List, [], ◌∷◌, ◌++◌, Option, Some, None, length, refl, sym, ◌∙◌, ap, arith}
 use Rattle.std.specs.Prelude.{◌==◌, nat_eq, nat_le, filter, is_none, if◌then◌else◌}
 use Rattle.std.specs.List.{list_all}
 use Rattle.std.specs.Option.{option_eq}
@@ -12,7 +12,6 @@ use Rattle.daos_base.specs.declared.operation.Write.{Write}
 use Rattle.daos_base.specs.declared.operation.Write.TheVariants as write
 use Rattle.daos_base.specs.declared.path.Path.{Path}
 use Rattle.daos_base.specs.Paths.{leads_to, same_path}
-use Rattle.daos_model.specs.declared.cell.Cell.{Cell}
 use Rattle.daos_model.specs.declared.cell.CellValue.{CellValue}
 use Rattle.daos_model.specs.declared.durable.Version.{Version}
 use Rattle.daos_model.specs.Answers.{answer, byte_before, has_cell_below, hole_before, index_before, pieces, value_answer, yes_or_no}
@@ -20,7 +19,7 @@ use Rattle.daos_model.specs.BoolLaws.{and_left, and_right, both}
 use Rattle.daos_model.specs.Cells.{index_cell, same_cell, single_cell, value_at}
 use Rattle.daos_model.specs.Durables.{is_version_in_form}
 use Rattle.daos_model.specs.Effect.{effect, effects, extent_cells, without}
-use Rattle.daos_model.specs.Forms.{ends_at_akey, is_length, is_read_in_form, is_write_in_form}
+use Rattle.daos_model.specs.Forms.{ends_at_akey, is_length, is_write_in_form}
 use Rattle.daos_model.specs.Kinds.{are_joined, are_pieces, is_of_kind, is_piece, pieces_length}
 use Rattle.daos_model.specs.Versions.{map_below, sees, writes_in}
 

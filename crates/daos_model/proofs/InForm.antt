@@ -1,13 +1,10 @@
 -- What the form of a write says of its bytes.
-use Rattle.std.proofs.Common.{◌≡◌, ℕ, ◌+◌, ◌*◌, ◌<◌, ◌≤◌, ◌^◌, Bool, true, ◌&&◌, List, [], ◌∷◌, length, All, arith}
+use Rattle.std.proofs.Common.{◌≡◌, ℕ, ◌+◌, ◌≤◌, ◌^◌, true, ◌&&◌, List, length, arith}
 use Rattle.std.specs.Prelude.{nat_le, nat_lt}
-use Rattle.std.specs.Int.{div_ceil}
 use Rattle.std.proofs.lemmas.Bool.Decides.{nat_tests}
-use Rattle.daos_base.specs.declared.operation.MinorWrite.{MinorWrite}
 use Rattle.daos_base.specs.declared.operation.Write.{Write}
 use Rattle.daos_base.specs.declared.operation.Write.TheVariants.{Single, Extent, PunchObject, PunchDkey, PunchAkey}
 use Rattle.daos_base.specs.declared.path.Path.{Path}
-use Rattle.daos_model.specs.Blocks.{sum_of_blocks, write_blocks}
 use Rattle.daos_model.specs.Effect.{EndsInArray}
 use Rattle.daos_model.specs.Forms.{ends_at_akey, is_length, is_write_in_form}
 use Rattle.daos_model.specs.BoolLaws.{and_left, and_right}

@@ -1,32 +1,25 @@
 -- A prune, whole or cut, leaves each cell what it had below a sight.
-use Rattle.std.proofs.Common.{◌≡◌, ℕ, ◌+◌, ◌≤◌, ◌<◌, ◌⊎◌, inl, inr, Bool, true, false, ◌&&◌, ◌||◌, not, List, [], ◌∷◌, ◌++◌, Option, Some, None, refl, sym, subst, ◌∙◌, ap, append_assoc, arith}
-use Rattle.std.specs.Prelude.{◌==◌, filter, is_some, nat_le, nat_lt, if◌then◌else◌}
+use Rattle.std.proofs.Common.{◌≡◌, ℕ, ◌+◌, ◌⊎◌, inl, inr, Bool, true, false, ◌&&◌, ◌||◌, not, List, [], ◌∷◌, ◌++◌, Some, None, refl, sym, subst, ◌∙◌, ap}
+use Rattle.std.specs.Prelude.{filter, is_some, if◌then◌else◌}
 use Rattle.std.specs.List.{list_any}
-use Rattle.std.proofs.lemmas.Bool.Decides.{nat_tests}
-use Rattle.daos_base.specs.declared.epoch.Epoch.{Epoch}
-use Rattle.daos_base.specs.declared.id.ContId.{ContId}
 use Rattle.daos_base.specs.declared.operation.Write.{Write}
 use Rattle.daos_base.specs.declared.operation.Write.TheVariants.{Single, Extent, PunchObject, PunchDkey, PunchAkey}
 use Rattle.daos_base.specs.declared.path.Path.{Path}
-use Rattle.daos_base.specs.declared.snapshot.Snap.{Snap}
 use Rattle.daos_base.specs.Operations.{write_path}
 use Rattle.daos_base.specs.Paths.{leads_to}
 use Rattle.daos_model.specs.declared.cell.Cell.{Cell}
-use Rattle.daos_model.specs.declared.cell.CellValue.{CellValue}
-use Rattle.daos_model.specs.declared.durable.Durable.{Durable}
 use Rattle.daos_model.specs.declared.durable.Version.{Version}
 use Rattle.daos_model.specs.Answers.{is_before}
-use Rattle.daos_model.specs.BoolLaws.{and_left, and_right, both, clash, false_of, not_false, not_true, or_left, or_right}
+use Rattle.daos_model.specs.BoolLaws.{and_left, and_right, clash, not_true, or_left, or_right}
 use Rattle.daos_model.specs.Cells.{is_of, same_cell, value_at}
-use Rattle.daos_model.specs.Durables.{is_frozen, is_snap_at, version_key}
+use Rattle.daos_model.specs.Durables.{version_key}
 use Rattle.daos_model.specs.Effect.{extent_cells}
 use Rattle.daos_model.specs.OrderLaws.{before-itself}
 use Rattle.daos_model.specs.Ordered.{all_from, is_in_order}
-use Rattle.daos_model.specs.PruneLaws.{PruneKeepsCells}
-use Rattle.daos_model.specs.Prunes.{Partly, hides, is_going, is_hidden, is_idle, is_in_sight, is_needing, is_old, is_punch, is_shown, is_unseen, shows_at, shows_in, touches, values_of}
+use Rattle.daos_model.specs.Prunes.{is_punch, touches, values_of}
 use Rattle.daos_model.specs.Sameness.{same_cell-Decides}
-use Rattle.daos_model.specs.Versions.{map_below, sees, version_path}
-use Rattle.daos_model.proofs.Said.{Word, or_before, or_else, said, value_at-map_below, word, word-none, word-punch, word-some}
+use Rattle.daos_model.specs.Versions.{map_below, sees}
+use Rattle.daos_model.proofs.Said.{Word, or_before, or_else, said, value_at-map_below, word, word-none, word-punch}
 
 -- the same is said, or nothing where there was said to be nothing
 abbrev Alike : Word → Word → Bool → Type 0

@@ -1,6 +1,6 @@
 -- The cells that an extent sets.
-use Rattle.std.proofs.Common.{◌≡◌, ℕ, zero, suc, ◌+◌, ◌-◌, ◌<◌, Bool, true, false, ◌&&◌, ◌||◌, List, [], ◌∷◌, Option, Some, None, length, get_or, drop, refl, sym, ◌∙◌, ap, add-one, arith}
-use Rattle.std.specs.Prelude.{◌==◌, is_none, nat_eq, nat_le, nat_lt}
+use Rattle.std.proofs.Common.{◌≡◌, ℕ, zero, suc, ◌+◌, ◌<◌, Bool, true, false, ◌&&◌, ◌||◌, List, [], ◌∷◌, Option, Some, None, length, drop, refl, sym, ◌∙◌, ap, add-one, arith}
+use Rattle.std.specs.Prelude.{is_none, nat_eq}
 use Rattle.std.specs.List.{list_any}
 use Rattle.std.specs.Option.{option_eq}
 use Rattle.std.proofs.lemmas.Bool.Decides.{nat_tests}
@@ -10,7 +10,7 @@ use Rattle.daos_base.specs.declared.operation.Write.TheVariants.{Single, Extent}
 use Rattle.daos_base.specs.declared.path.Path.{Path}
 use Rattle.daos_model.specs.declared.cell.Cell.{Cell}
 use Rattle.daos_model.specs.declared.cell.CellValue.{CellValue}
-use Rattle.daos_model.specs.Cells.{index_cell, is_of, same_cell, single_cell}
+use Rattle.daos_model.specs.Cells.{is_of, same_cell, single_cell}
 use Rattle.daos_model.specs.Effect.{extent_cells, index_value}
 use Rattle.daos_model.specs.Prunes.{is_index_in, touches}
 

@@ -1,5 +1,5 @@
 -- What a test of several parts says of each.
-use Rattle.std.proofs.Common.{◌≡◌, Bool, true, false, ◌&&◌, ◌||◌, not, refl, ap}
+use Rattle.std.proofs.Common.{◌≡◌, Bool, true, false, ◌&&◌, ◌||◌, not, refl}
 
 pub and_left : (a b : Bool) → (a && b) ≡ true → a ≡ true
 and_left true b e = refl
@@ -20,6 +20,14 @@ or_left false b e = refl
 pub or_right : (a b : Bool) → (a || b) ≡ false → b ≡ false
 or_right true b e = absurd (let n : ⊥ = cc in n)
 or_right false b e = e
+
+pub or_from_right : (a b : Bool) → b ≡ true → (a || b) ≡ true
+or_from_right true b e = refl
+or_from_right false b e = e
+
+pub or_other : (a b : Bool) → (a || b) ≡ true → a ≡ false → b ≡ true
+or_other true b e f = absurd (let n : ⊥ = cc in n)
+or_other false b e f = e
 
 pub not_true : (a : Bool) → not a ≡ true → a ≡ false
 not_true true e = absurd (let n : ⊥ = cc in n)

@@ -1,5 +1,5 @@
 -- What an attempt that didn't take effect shows: a later access, a floor, an unresolved transaction, or what else was wanting.
-use Rattle.std.specs.Prelude.{ℕ, ◌+◌, ◌*◌, ◌^◌, ◌≡◌, ◌≤◌, ◌<◌, ◌⊎◌, ◌==◌, ◌||◌, ◌&&◌, Bool, true, false, not, max, List, [], ◌∷◌, ◌++◌, Option, Some, None, Any, Contains, find, is_some, length, map, if◌then◌else◌}
+use Rattle.std.specs.Prelude.{ℕ, ◌+◌, ◌*◌, ◌^◌, ◌≡◌, ◌≤◌, ◌<◌, ◌==◌, ◌||◌, ◌&&◌, Bool, true, false, not, max, List, [], ◌∷◌, ◌++◌, Option, Some, None, Any, Contains, find, is_some, length, map, if◌then◌else◌}
 use Rattle.std.specs.List.{list_any}
 use Rattle.daos_base.specs.declared.epoch.Epoch.{Epoch}
 use Rattle.daos_base.specs.declared.id.AttemptId.{AttemptId}

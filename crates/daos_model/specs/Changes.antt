@@ -14,7 +14,7 @@ use Rattle.daos_base.specs.declared.snapshot.Snap.{Snap}
 use Rattle.daos_model.specs.declared.durable.ContRow.{ContRow}
 use Rattle.daos_model.specs.declared.durable.Durable.{Durable}
 use Rattle.daos_model.specs.declared.durable.Version.{Version}
-use Rattle.daos_model.specs.Durables.{cont_key, entry_key, is_entry_of, is_frozen, is_row_of, is_snap_at, new_row, same_attempt, snap_key, version_key}
+use Rattle.daos_model.specs.Durables.{cont_key, entry_key, is_frozen, is_row_of, is_snap_at, new_row, same_attempt, snap_key, version_key}
 use Rattle.daos_model.specs.Ordered.{put, puts}
 use Rattle.daos_model.specs.Prunes.{is_staying}
 use Rattle.daos_model.specs.Versions.{done_by, is_not_pending, version_path, versions_of}

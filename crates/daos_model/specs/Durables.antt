@@ -1,13 +1,13 @@
 -- What a target keeps: keys of its parts, and where they are found.
-use Rattle.std.specs.Prelude.{ℕ, Bool, true, ◌≡◌, ◌≤◌, ◌^◌, ◌<◌, ◌&&◌, ◌==◌, List, [], ◌∷◌, find, length, Option, Some, None}
+use Rattle.std.specs.Prelude.{ℕ, Bool, true, false, ◌≡◌, ◌≤◌, ◌^◌, ◌<◌, ◌&&◌, ◌||◌, ◌==◌, List, [], ◌∷◌, find, length, Option, Some, None}
 use Rattle.std.specs.List.{list_any, list_all}
 use Rattle.daos_base.specs.declared.entry.Entry.{Entry}
 use Rattle.daos_base.specs.declared.epoch.Epoch.{Epoch}
 use Rattle.daos_base.specs.declared.id.AttemptId.{AttemptId}
 use Rattle.daos_base.specs.declared.id.ContId.{ContId}
 use Rattle.daos_base.specs.declared.id.ObjId.{ObjId}
-use Rattle.daos_base.specs.declared.outcome.FloorWhy.TheVariants.{Opening}
-use Rattle.daos_base.specs.declared.path.Path.{Path}
+use Rattle.daos_base.specs.declared.outcome.FloorWhy.{FloorWhy}
+use Rattle.daos_base.specs.declared.outcome.FloorWhy.TheVariants.{Opening, Restart, Snapshot, Aggregate}
 use Rattle.daos_base.specs.declared.snapshot.Snap.{Snap}
 use Rattle.daos_base.specs.Operations.{write_path}
 use Rattle.daos_base.specs.Paths.{class_number}
@@ -80,12 +80,24 @@ is_frozen d c s = list_any (is_snap_at c s) d.snaps
 abbrev pub is_version_in_form : Version → Bool
 is_version_in_form v = is_write_in_form v.write
 
+-- what can have set a stored floor: a snapshot or an aggregation
+abbrev pub is_stored_why : FloorWhy → Bool
+is_stored_why Opening = false
+is_stored_why (Restart n) = false
+is_stored_why (Snapshot s) = true
+is_stored_why (Aggregate n) = true
+
+-- a stored floor was set by one of them, or by nothing, and is then 0
+abbrev pub is_floor_in_form : ContRow → Bool
+is_floor_in_form r = (r.floor.0 == 0) || is_stored_why r.why
+
 -- what every durable keeps
 pub record IsInForm (d : Durable) : Type 0 where
   pub versions : is_in_order version_key d.versions ≡ true
   pub writes : list_all is_version_in_form d.versions ≡ true
   pub entries : is_rising entry_key d.entries ≡ true
   pub conts : is_rising cont_key d.conts ≡ true
+  pub floors : list_all is_floor_in_form d.conts ≡ true
   pub snaps : is_rising snap_key d.snaps ≡ true
   pub few_conts : length d.conts ≤ 256
   pub few_snaps : length d.snaps ≤ 256

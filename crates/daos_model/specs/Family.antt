@@ -1,8 +1,7 @@
 -- What the durable states of all targets stand for together. A family is the list of them, by the number of the target.
-use Rattle.std.specs.Prelude.{ℕ, ◌+◌, ◌^◌, ◌≡◌, ◌==◌, Bool, true, false, ◌&&◌, ◌||◌, not, max, bit_and, nat_lt, List, [], ◌∷◌, ◌++◌, Option, Some, None, All, Contains, filter, map, slice_get, length, is_some, if◌then◌else◌}
+use Rattle.std.specs.Prelude.{ℕ, ◌+◌, ◌^◌, ◌≡◌, ◌==◌, Bool, true, false, ◌&&◌, ◌||◌, not, max, bit_and, nat_lt, List, [], ◌∷◌, ◌++◌, Option, Some, None, All, Contains, filter, map, slice_get, length, is_some}
 use Rattle.std.specs.List.{list_any}
 use Rattle.daos_base.specs.declared.entry.Entry.{Entry}
-use Rattle.daos_base.specs.declared.epoch.Epoch.{Epoch}
 use Rattle.daos_base.specs.declared.id.AttemptId.{AttemptId}
 use Rattle.daos_base.specs.declared.id.ContId.{ContId}
 use Rattle.daos_base.specs.declared.snapshot.Snap.{Snap}

@@ -1,5 +1,5 @@
 -- What the regions stand for in the end.
-use Rattle.std.specs.Prelude.{ℕ, ◌≡◌, ◌^◌, ◌⊎◌, ◌==◌, filter, Bool, true, List, Option, Some, None, All, Any, is_some}
+use Rattle.std.specs.Prelude.{ℕ, ◌≡◌, ◌^◌, ◌⊎◌, true, List, Option, Some, None, All, Any, is_some}
 use Rattle.daos_base.specs.declared.epoch.Epoch.{Epoch}
 use Rattle.daos_base.specs.declared.id.ContId.{ContId}
 use Rattle.daos_base.specs.declared.outcome.Outcome.TheVariants as outcome

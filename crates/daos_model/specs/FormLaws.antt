@@ -1,6 +1,6 @@
 -- Each change leaves what a target keeps in order and in form.
-use Rattle.std.proofs.Common.{◌≡◌, ℕ, ◌+◌, ◌<◌, ◌≤◌, ◌^◌, Bool, true, false, ◌&&◌, ◌||◌, not, List, [], ◌∷◌, Option, Some, None, length, map, refl, sym, ◌∙◌, ap, subst, arith}
-use Rattle.std.specs.Prelude.{◌==◌, ◌≢◌, nat_lt, nat_le, filter, find, All, if◌then◌else◌}
+use Rattle.std.proofs.Common.{◌≡◌, ℕ, ◌+◌, ◌<◌, ◌≤◌, ◌^◌, Bool, true, false, ◌&&◌, ◌||◌, List, [], ◌∷◌, Option, Some, None, length, map, refl, sym, ◌∙◌, ap, subst, arith}
+use Rattle.std.specs.Prelude.{◌==◌, ◌≢◌, nat_lt, filter, find, is_none, is_some, All, IfSome, if◌then◌else◌}
 use Rattle.std.specs.List.{list_all, list_any}
 use Rattle.std.proofs.lemmas.Bool.Decides.{nat_tests}
 use Rattle.std.proofs.lemmas.List.Elements.{All-cons, All-head, All-tail}
@@ -11,17 +11,21 @@ use Rattle.daos_base.specs.declared.epoch.Epoch.{Epoch}
 use Rattle.daos_base.specs.declared.id.AttemptId.{AttemptId}
 use Rattle.daos_base.specs.declared.id.ContId.{ContId}
 use Rattle.daos_base.specs.declared.operation.MinorWrite.{MinorWrite}
+use Rattle.daos_base.specs.declared.operation.Write.{Write}
+use Rattle.daos_base.specs.declared.operation.Write.TheVariants as write
 use Rattle.daos_base.specs.declared.outcome.FloorWhy.{FloorWhy}
 use Rattle.daos_base.specs.declared.outcome.FloorWhy.TheVariants.{Snapshot, Aggregate}
+use Rattle.daos_base.specs.declared.path.Path.{Path}
 use Rattle.daos_base.specs.declared.snapshot.Snap.{Snap}
+use Rattle.daos_base.specs.Operations.{write_path}
 use Rattle.daos_model.specs.declared.durable.ContRow.{ContRow}
 use Rattle.daos_model.specs.declared.durable.Durable.{Durable}
 use Rattle.daos_model.specs.declared.durable.Version.{Version}
 use Rattle.daos_model.specs.Answers.{is_before}
-use Rattle.daos_model.specs.BoolLaws.{and_left, and_right, both, clash}
-use Rattle.daos_model.specs.Changes.{aggregated_to, committed_at, confirmed_at, created, created_at, discarded, enlisted, frozen, is_other, is_other_snap, is_out_of_range, leased, marked, marked_at, new_snap, prepared, pruned, raised, raised_at, reopened, settled, thawed, with_cont, with_conts, with_versions}
-use Rattle.daos_model.specs.Durables.{IsInForm, attempt_key, cont_key, entry_key, entry_of, is_entry_of, is_frozen, is_row_of, is_snap_at, is_version_in_form, new_row, same_attempt, snap_key, version_key}
-use Rattle.daos_model.specs.Forms.{AreWritesInForm, is_write_in_form}
+use Rattle.daos_model.specs.BoolLaws.{and_left, and_right, both, clash, or_from_right}
+use Rattle.daos_model.specs.Changes.{committed_at, confirmed_at, created, created_at, discarded, enlisted, frozen, is_other, is_other_snap, is_out_of_range, leased, marked, marked_at, new_snap, prepared, pruned, raised, raised_at, reopened, settled, thawed, with_cont, with_conts, with_versions}
+use Rattle.daos_model.specs.Durables.{IsInForm, attempt_key, cont_key, entry_key, entry_of, is_entry_of, is_floor_in_form, is_frozen, is_row_of, is_snap_at, is_stored_why, is_version_in_form, new_row, row_of, row_or_new, same_attempt, snap_key, version_key}
+use Rattle.daos_model.specs.Forms.{AreWritesInForm, ends_at_akey, ends_at_dkey, ends_at_object, is_length, is_path_in_form, is_write_in_form}
 use Rattle.daos_model.specs.OrderLaws.{in_order-filter, in_order-map, in_order-puts, rising-filter, rising-map, rising-put}
 use Rattle.daos_model.specs.Ordered.{is_rising, put, puts}
 use Rattle.daos_model.specs.Prunes.{is_staying}
@@ -51,6 +55,11 @@ module _ {T : Type 0} (t : T → Bool) where
   all-map f same [] = refl
   all-map f same (u ∷ us) = ap (λ b. b && list_all t (map f us)) (same u) ∙ ap (λ b. t u && b) (all-map f same us)
 
+  pub all-kept : (f : T → T) → ((v : T) → t v ≡ true → t (f v) ≡ true) → (us : List T) → list_all t us ≡ true → list_all t (map f us) ≡ true
+  all-kept f keeps [] h = refl
+  all-kept f keeps (u ∷ us) h =
+      both (t (f u)) (list_all t (map f us)) (keeps u (and_left (t u) (list_all t us) h)) (all-kept f keeps us (and_right (t u) (list_all t us) h))
+
 pub length-put : {T : Type 0} (key : T → List ℕ) (v : T) (us : List T) → length (put key v us) ≡ length us + 1
 length-put key v [] = omega arith
 length-put key v (u ∷ us) =
@@ -70,6 +79,35 @@ length-filter t (u ∷ us) =
       | true ↦ omega (arith, length-filter t us)
       | false ↦ omega (arith, length-filter t us)
     ]
+
+-- ---- paths
+
+akey-in_form : (p : Path) → ends_at_akey p ≡ true → is_path_in_form p ≡ true
+akey-in_form p h = by p.obj p.dkey p.akey h
+  where
+    by : {A B C : Type 0} (o : Option A) (d : Option B) (a : Option C) → (is_some o && is_some d && is_some a) ≡ true → ((is_none d || is_some o) && (is_none a || is_some d)) ≡ true
+    by None d a e = absurd (let n : ⊥ = cc in n)
+    by (Some o) None a e = absurd (let n : ⊥ = cc in n)
+    by (Some o) (Some d) None e = refl
+    by (Some o) (Some d) (Some a) e = refl
+
+dkey-in_form : (p : Path) → ends_at_dkey p ≡ true → is_path_in_form p ≡ true
+dkey-in_form p h = by p.obj p.dkey p.akey h
+  where
+    by : {A B C : Type 0} (o : Option A) (d : Option B) (a : Option C) → (is_some o && is_some d && is_none a) ≡ true → ((is_none d || is_some o) && (is_none a || is_some d)) ≡ true
+    by None d a e = absurd (let n : ⊥ = cc in n)
+    by (Some o) None a e = absurd (let n : ⊥ = cc in n)
+    by (Some o) (Some d) None e = refl
+    by (Some o) (Some d) (Some a) e = refl
+
+object-in_form : (p : Path) → ends_at_object p ≡ true → is_path_in_form p ≡ true
+object-in_form p h = by p.obj p.dkey p.akey h
+  where
+    by : {A B C : Type 0} (o : Option A) (d : Option B) (a : Option C) → (is_some o && is_none d && is_none a) ≡ true → ((is_none d || is_some o) && (is_none a || is_some d)) ≡ true
+    by None d a e = absurd (let n : ⊥ = cc in n)
+    by (Some o) (Some d) a e = absurd (let n : ⊥ = cc in n)
+    by (Some o) None (Some a) e = absurd (let n : ⊥ = cc in n)
+    by (Some o) None None e = refl
 
 -- ---- each part
 
@@ -103,6 +141,7 @@ prepared-in_form e ws d absent form k = record {
   writes = new_in_form e ws d.versions form.each k.writes;
   entries = rising-put entry_key e d.entries (absent_keys e.attempt d.entries absent) k.entries;
   conts = k.conts;
+  floors = k.floors;
   snaps = k.snaps;
   few_conts = k.few_conts;
   few_snaps = k.few_snaps;
@@ -138,6 +177,7 @@ settled-in_form a Commit d k = record {
   writes = all-map is_version_in_form (done_by a) (same_form-done a) d.versions ∙ k.writes;
   entries = rising-map entry_key (committed_at a) (same_key-committed a) d.entries ∙ k.entries;
   conts = k.conts;
+  floors = k.floors;
   snaps = k.snaps;
   few_conts = k.few_conts;
   few_snaps = k.few_snaps;
@@ -148,6 +188,7 @@ settled-in_form a Abort d k = record {
   writes = all-filter is_version_in_form (is_not_pending a) d.versions k.writes;
   entries = rising-filter entry_key (is_other a) d.entries k.entries;
   conts = k.conts;
+  floors = k.floors;
   snaps = k.snaps;
   few_conts = k.few_conts;
   few_snaps = k.few_snaps;
@@ -158,6 +199,7 @@ settled-in_form a (Confirm t) d k = record {
   writes = k.writes;
   entries = rising-map entry_key (confirmed_at a t) (same_key-confirmed a t) d.entries ∙ k.entries;
   conts = k.conts;
+  floors = k.floors;
   snaps = k.snaps;
   few_conts = k.few_conts;
   few_snaps = k.few_snaps;
@@ -168,6 +210,7 @@ settled-in_form a Forget d k = record {
   writes = k.writes;
   entries = rising-filter entry_key (is_other a) d.entries k.entries;
   conts = k.conts;
+  floors = k.floors;
   snaps = k.snaps;
   few_conts = k.few_conts;
   few_snaps = k.few_snaps;
@@ -181,6 +224,7 @@ leased-in_form ticks d lt k = record {
   writes = k.writes;
   entries = k.entries;
   conts = k.conts;
+  floors = k.floors;
   snaps = k.snaps;
   few_conts = k.few_conts;
   few_snaps = k.few_snaps;
@@ -194,6 +238,7 @@ reopened-in_form d k = record {
   writes = k.writes;
   entries = k.entries;
   conts = k.conts;
+  floors = k.floors;
   snaps = k.snaps;
   few_conts = k.few_conts;
   few_snaps = k.few_snaps;
@@ -220,6 +265,17 @@ with_conts-rising : (cs : List ContId) (rows : List ContRow) → is_rising cont_
 with_conts-rising [] rows h = h
 with_conts-rising (c ∷ cs) rows h = with_conts-rising cs (with_cont c rows) (with_cont-rising c rows h)
 
+with_cont-floors : (c : ContId) (rows : List ContRow) → list_all is_floor_in_form rows ≡ true → list_all is_floor_in_form (with_cont c rows) ≡ true
+with_cont-floors c rows h = by (list_any (is_row_of c) rows)
+  where
+    by : (b : Bool) → list_all is_floor_in_form (if b then rows else put cont_key (new_row c) rows) ≡ true
+    by true = h
+    by false = all-put is_floor_in_form cont_key (new_row c) rows refl h
+
+with_conts-floors : (cs : List ContId) (rows : List ContRow) → list_all is_floor_in_form rows ≡ true → list_all is_floor_in_form (with_conts cs rows) ≡ true
+with_conts-floors [] rows h = h
+with_conts-floors (c ∷ cs) rows h = with_conts-floors cs (with_cont c rows) (with_cont-floors c rows h)
+
 pub enlisted-in_form : (cs : List ContId) (d : Durable) → length (enlisted cs d).conts ≤ 256 → IsInForm d → IsInForm (enlisted cs d)
 unfolding enlisted
 enlisted-in_form cs d few k = record {
@@ -227,6 +283,7 @@ enlisted-in_form cs d few k = record {
   writes = k.writes;
   entries = k.entries;
   conts = with_conts-rising cs d.conts k.conts;
+  floors = with_conts-floors cs d.conts k.floors;
   snaps = k.snaps;
   few_conts = few;
   few_snaps = k.few_snaps;
@@ -240,6 +297,20 @@ same_key-raised c e why r = by (is_row_of c r) (nat_lt r.floor.0 e.0)
     by true true = refl
     by true false = refl
     by false t = refl
+
+floor-raised : (e : Epoch) (why : FloorWhy) (r : ContRow) → is_stored_why why ≡ true → is_floor_in_form r ≡ true → is_floor_in_form (raised e why r) ≡ true
+floor-raised e why r w h = by (nat_lt r.floor.0 e.0)
+  where
+    by : (t : Bool) → is_floor_in_form (if t then record r { floor = e; why = why } else r) ≡ true
+    by true = or_from_right (e.0 == 0) (is_stored_why why) w
+    by false = h
+
+floor-raised_at : (c : ContId) (e : Epoch) (why : FloorWhy) → is_stored_why why ≡ true → (r : ContRow) → is_floor_in_form r ≡ true → is_floor_in_form (raised_at c e why r) ≡ true
+floor-raised_at c e why w r h = by (is_row_of c r)
+  where
+    by : (b : Bool) → is_floor_in_form (if b then raised e why r else r) ≡ true
+    by true = floor-raised e why r w h
+    by false = h
 
 snap_at-key : (c : ContId) (s : Epoch) (x : Snap) → snap_key x ≡ snap_key (new_snap c s) → is_snap_at c s x ≡ true
 snap_at-key c s x k =
@@ -269,6 +340,7 @@ frozen-in_form c s d place k = by (list_any (is_snap_at c s) d.snaps) refl
       writes = k.writes;
       entries = k.entries;
       conts = rising-map cont_key (raised_at c s (Snapshot s)) (same_key-raised c s (Snapshot s)) d.conts ∙ k.conts;
+      floors = all-kept is_floor_in_form (raised_at c s (Snapshot s)) (floor-raised_at c s (Snapshot s) refl) d.conts k.floors;
       snaps = rising-put snap_key (new_snap c s) d.snaps (absent_snaps c s d.snaps is) k.snaps;
       few_conts = subst (λ n. n ≤ 256) (sym (length-map (raised_at c s (Snapshot s)) d.conts)) k.few_conts;
       few_snaps = let lt : length d.snaps < 256 = place is in omega (arith, length-put snap_key (new_snap c s) d.snaps);
@@ -289,6 +361,7 @@ created-in_form c s d k = record {
   writes = k.writes;
   entries = k.entries;
   conts = k.conts;
+  floors = k.floors;
   snaps = rising-map snap_key (created_at c s) (same_key-created c s) d.snaps ∙ k.snaps;
   few_conts = k.few_conts;
   few_snaps = subst (λ n. n ≤ 256) (sym (length-map (created_at c s) d.snaps)) k.few_snaps;
@@ -302,6 +375,7 @@ thawed-in_form c s d k = record {
   writes = k.writes;
   entries = k.entries;
   conts = k.conts;
+  floors = k.floors;
   snaps = rising-filter snap_key (is_other_snap c s) d.snaps k.snaps;
   few_conts = k.few_conts;
   few_snaps = omega (arith, length-filter (is_other_snap c s) d.snaps, k.few_snaps);
@@ -320,6 +394,14 @@ same_key-marked c upto n r = by (is_row_of c r) (nat_lt r.aggregated.0 upto.0)
     by true false = by_floor r (nat_lt r.floor.0 upto.0)
     by false t = refl
 
+floor-marked_at : (c : ContId) (upto : Epoch) (n : ℕ) (r : ContRow) → is_floor_in_form r ≡ true → is_floor_in_form (marked_at c upto n r) ≡ true
+floor-marked_at c upto n r h = by (is_row_of c r) (nat_lt r.aggregated.0 upto.0)
+  where
+    by : (b t : Bool) → is_floor_in_form (if b then raised upto (Aggregate n) (if t then record r { aggregated = upto; number = n } else r) else r) ≡ true
+    by true true = floor-raised upto (Aggregate n) (record r { aggregated = upto; number = n }) refl h
+    by true false = floor-raised upto (Aggregate n) r refl h
+    by false t = h
+
 pub marked-in_form : (c : ContId) (upto : Epoch) (n : ℕ) (d : Durable) → IsInForm d → IsInForm (marked c upto n d)
 unfolding marked
 marked-in_form c upto n d k = record {
@@ -327,6 +409,7 @@ marked-in_form c upto n d k = record {
   writes = k.writes;
   entries = k.entries;
   conts = rising-map cont_key (marked_at c upto n) (same_key-marked c upto n) d.conts ∙ k.conts;
+  floors = all-kept is_floor_in_form (marked_at c upto n) (floor-marked_at c upto n) d.conts k.floors;
   snaps = k.snaps;
   few_conts = subst (λ m. m ≤ 256) (sym (length-map (marked_at c upto n) d.conts)) k.few_conts;
   few_snaps = k.few_snaps;
@@ -341,6 +424,7 @@ with_versions-in_form t d k = record {
   writes = all-filter is_version_in_form t d.versions k.writes;
   entries = k.entries;
   conts = k.conts;
+  floors = k.floors;
   snaps = k.snaps;
   few_conts = k.few_conts;
   few_snaps = k.few_snaps;
@@ -360,3 +444,33 @@ pruned-in_form c upto n d k =
 pub discarded-in_form : (c : ContId) (lo hi : Epoch) (d : Durable) → IsInForm d → IsInForm (discarded c lo hi d)
 unfolding discarded
 discarded-in_form c lo hi d k = with_versions-in_form (is_out_of_range c lo hi) d k
+
+-- ---- what is found in what is in form
+
+-- what is found passes the tests that all pass
+pub all-find : {T : Type 0} (t s : T → Bool) (us : List T) → list_all t us ≡ true → IfSome (find s us) (λ v. t v ≡ true)
+all-find t s [] h = tt
+all-find t s (u ∷ us) h =
+    elim (s u) as (λ b. IfSome (if b then Some u else find s us) (λ v. t v ≡ true)) [
+      | true ↦ and_left (t u) (list_all t us) h
+      | false ↦ all-find t s us (and_right (t u) (list_all t us) h)
+    ]
+
+-- a write in form has a path in form
+pub path-in_form : (w : Write) → is_write_in_form w ≡ true → is_path_in_form (write_path w) ≡ true
+unfolding is_write_in_form
+path-in_form (write.Single p bytes) h = akey-in_form p (and_left (ends_at_akey p) (is_length (length bytes)) h)
+path-in_form (write.Extent p low bytes) h =
+    akey-in_form p (and_left (ends_at_akey p) (is_length (length bytes)) (and_left (ends_at_akey p && is_length (length bytes)) (nat_lt (low + length bytes) (2 ^ 32)) h))
+path-in_form (write.PunchObject p) h = object-in_form p h
+path-in_form (write.PunchDkey p) h = dkey-in_form p h
+path-in_form (write.PunchAkey p) h = akey-in_form p h
+
+-- the floor of a container is in form
+pub row_of-in_form : (d : Durable) (c : ContId) → list_all is_floor_in_form d.conts ≡ true → is_floor_in_form (row_of d c) ≡ true
+unfolding row_of
+row_of-in_form d c h = by (find (is_row_of c) d.conts) (all-find is_floor_in_form (is_row_of c) d.conts h)
+  where
+    by : (o : Option ContRow) → IfSome o (λ r. is_floor_in_form r ≡ true) → is_floor_in_form (row_or_new c o) ≡ true
+    by None k = refl
+    by (Some r) k = k

@@ -34,3 +34,4 @@ pub mod BoolLaws
 pub mod OrderLaws
 pub mod FormLaws
 pub mod PruneLaws
+pub mod EntryLaws

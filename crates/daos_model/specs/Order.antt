@@ -1,5 +1,5 @@
 -- Which attempts a report has: each command's, in order, up to the one that ends it.
-use Rattle.std.specs.Prelude.{ℕ, ◌+◌, ◌≡◌, ◌<◌, ◌⊎◌, Bool, true, false, List, [], ◌∷◌, ◌++◌, Option, Some, None, slice_get, All}
+use Rattle.std.specs.Prelude.{ℕ, ◌+◌, ◌≡◌, ◌<◌, ◌⊎◌, true, false, List, [], ◌∷◌, ◌++◌, Option, Some, None, slice_get, All}
 use Rattle.std.specs.List.{IsDistinct}
 use Rattle.std.specs.Prelude.{nat_eq}
 use Rattle.daos_base.specs.declared.epoch.Epoch.{Epoch}

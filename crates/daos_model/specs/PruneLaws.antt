@@ -1,5 +1,5 @@
 -- What a prune, whole or cut, leaves of every answer.
-use Rattle.std.specs.Prelude.{◌≡◌, ◌<◌, ◌⊎◌, ℕ, true, List}
+use Rattle.std.specs.Prelude.{◌≡◌, ◌<◌, ◌⊎◌, true, List}
 use Rattle.daos_base.specs.declared.epoch.Epoch.{Epoch}
 use Rattle.daos_base.specs.declared.id.ContId.{ContId}
 use Rattle.daos_model.specs.declared.cell.Cell.{Cell}

@@ -1,13 +1,12 @@
 -- How snapshots and aggregations go with the lines that tell of them.
-use Rattle.std.specs.Prelude.{ℕ, ◌≡◌, ◌≤◌, ◌↔◌, Bool, true, List, [], ◌∷◌, Option, Some, None, Any, Contains, All, find, is_some}
+use Rattle.std.specs.Prelude.{ℕ, ◌≡◌, ◌≤◌, ◌↔◌, true, List, Option, Some, None, Any, Contains, All, find, is_some}
 use Rattle.daos_base.specs.declared.epoch.Epoch.{Epoch}
 use Rattle.daos_base.specs.declared.id.ContId.{ContId}
 use Rattle.daos_base.specs.declared.outcome.Outcome.TheVariants as outcome
 use Rattle.daos_base.specs.declared.report.Attempt.{Attempt}
 use Rattle.daos_base.specs.declared.report.Line.{Line}
 use Rattle.daos_base.specs.declared.report.Line.TheVariants as line
-use Rattle.daos_base.specs.declared.script.Command.{Command}
-use Rattle.daos_base.specs.declared.script.Command.TheVariants.{Run, Snap, Aggregate, Tell, Skip}
+use Rattle.daos_base.specs.declared.script.Command.TheVariants.{Snap, Aggregate}
 use Rattle.daos_base.specs.declared.script.OldDecl.{OldDecl}
 use Rattle.daos_base.specs.declared.script.Script.{Script}
 use Rattle.daos_model.specs.declared.stand.Stand.{Stand}

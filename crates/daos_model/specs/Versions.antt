@@ -1,7 +1,6 @@
 -- Versions, and the map that they stand for.
 use Rattle.std.specs.Prelude.{ℕ, Bool, false, ◌&&◌, ◌||◌, not, nat_lt, nat_le, filter, map, find, List, [], Option}
 use Rattle.daos_base.specs.declared.entry.Entry.{Entry}
-use Rattle.daos_base.specs.declared.epoch.Epoch.{Epoch}
 use Rattle.daos_base.specs.declared.id.AttemptId.{AttemptId}
 use Rattle.daos_base.specs.declared.operation.MinorWrite.{MinorWrite}
 use Rattle.daos_base.specs.declared.operation.Write.{Write}

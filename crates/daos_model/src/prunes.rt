@@ -90,9 +90,9 @@ fn sets_index(at: &Path, low: u32, len: usize, path: &Path, index: Option<u128>)
     at.same(path) && is_index_in(index, low, len)
 }
 
-// Whether a write says what the cell at a path and an index, or the single value, holds.
+/// Whether a write says what the cell at a path and an index, or the single value, holds.
 #[tactic(auto, unfolding(crate::specs::Prunes::touches))]
-fn touches(write: &Write, path: &Path, index: Option<u128>) -> bool
+pub fn touches(write: &Write, path: &Path, index: Option<u128>) -> bool
     ensures { result ≡ touches (cell_at path.now index) write.now }
 {
     match write {

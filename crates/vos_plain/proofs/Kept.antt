@@ -1,5 +1,5 @@
 -- What the changes of the contents of a store over lists make of what they stand for.
-use Rattle.std.proofs.Common.{◌≡◌, ℕ, ◌+◌, ◌*◌, ◌<◌, ◌≤◌, Bool, true, false, not, List, [], ◌∷◌, ◌++◌, None, length, map, refl, sym, ◌∙◌, ap, subst, arith}
+use Rattle.std.proofs.Common.{◌≡◌, ℕ, ◌+◌, ◌≤◌, Bool, true, false, not, List, [], ◌∷◌, None, length, map, refl, sym, ◌∙◌, ap, subst, arith}
 use Rattle.std.specs.Prelude.{filter, if◌then◌else◌}
 use Rattle.std.specs.List.{list_all, list_any}
 use Rattle.daos_base.specs.declared.entry.Entry.{Entry}
@@ -108,13 +108,12 @@ unfolding frozen is_frozen
 frozen_new c s d rows xs new r e =
     ap (λ x. record d { conts = x; snaps = xs }) r
     ∙ ap (λ x. record d { conts = map (raised_at c s (Snapshot s)) d.conts; snaps = x }) e
-    ∙ sym (ap (λ (b : Bool). record d { conts = map (raised_at c s (Snapshot s)) d.conts; snaps = if b then d.snaps else put snap_key (new_snap c s) d.snaps }) new)
+    ∙ sym (ap (λ (b : Bool). if b then d else record d { conts = map (raised_at c s (Snapshot s)) d.conts; snaps = put snap_key (new_snap c s) d.snaps }) new)
 
-pub frozen_again : (c : ContId) (s : Epoch) (d : Durable) (rows : List ContRow) → list_any (is_snap_at c s) d.snaps ≡ true → rows ≡ map (raised_at c s (Snapshot s)) d.conts → (record d { conts = rows }) ≡ frozen c s d
+pub frozen_again : (c : ContId) (s : Epoch) (d : Durable) → list_any (is_snap_at c s) d.snaps ≡ true → d ≡ frozen c s d
 unfolding frozen is_frozen
-frozen_again c s d rows there r =
-    ap (λ x. record d { conts = x }) r
-    ∙ sym (ap (λ (b : Bool). record d { conts = map (raised_at c s (Snapshot s)) d.conts; snaps = if b then d.snaps else put snap_key (new_snap c s) d.snaps }) there)
+frozen_again c s d there =
+    sym (ap (λ (b : Bool). if b then d else record d { conts = map (raised_at c s (Snapshot s)) d.conts; snaps = put snap_key (new_snap c s) d.snaps }) there)
 
 pub unmarked-map : (t : Version → Bool) (vs : List Version) → unmarked (map t vs) vs ≡ filter (λ v. not (t v)) vs
 unmarked-map t [] = refl
@@ -142,6 +141,7 @@ with_entry-in_form vs e d absent form k = record {
   writes = all_puts vs form;
   entries = rising-put entry_key e d.entries (absent_keys e.attempt d.entries absent) k.entries;
   conts = k.conts;
+  floors = k.floors;
   snaps = k.snaps;
   few_conts = k.few_conts;
   few_snaps = k.few_snaps;

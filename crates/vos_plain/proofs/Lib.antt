@@ -3,3 +3,4 @@ pub mod Kept
 pub mod Sweeping
 pub mod Prepared
 pub mod Turning
+pub mod Newest

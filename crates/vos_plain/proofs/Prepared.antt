@@ -1,5 +1,5 @@
 -- What the writes of an entry are kept as.
-use Rattle.std.proofs.Common.{◌≡◌, ℕ, ◌+◌, Bool, true, ◌&&◌, List, [], ◌∷◌, Vec, Result, Ok, Err, refl, sym, ◌∙◌, ap, subst, arith}
+use Rattle.std.proofs.Common.{◌≡◌, ◌+◌, true, List, [], ◌∷◌, Vec, Result, Ok, Err, refl, ◌∙◌, ap, arith}
 use Rattle.std.specs.Prelude.{All, IfOk}
 use Rattle.std.specs.List.{list_all}
 use Rattle.std.proofs.lemmas.List.Elements.{All-head, All-tail}
@@ -12,7 +12,7 @@ use Rattle.daos_model.specs.BoolLaws.{both}
 use Rattle.daos_model.specs.Changes.{prepared}
 use Rattle.daos_model.specs.Durables.{is_version_in_form}
 use Rattle.daos_model.specs.Forms.{AreWritesInForm, is_write_in_form}
-use Rattle.daos_model.specs.Versions.{version_of, versions_of}
+use Rattle.daos_model.specs.Versions.{versions_of}
 use Rattle.vos_plain.specs.Costs.{versions_blocks}
 use Rattle.vos_plain.specs.Steps.{with_entry}
 

@@ -1,5 +1,5 @@
 -- What holds of the contents of a store over lists.
-use Rattle.std.proofs.Common.{◌≡◌, Option, Some, subst, ◌∙◌}
+use Rattle.std.proofs.Common.{◌≡◌, Some, subst, ◌∙◌}
 use Rattle.std.proofs.lemmas.Option.{same_Some}
 use Rattle.daos_model.specs.declared.durable.Durable.{Durable}
 use Rattle.daos_model.specs.Durables.{IsInForm}

@@ -1,9 +1,9 @@
 -- What a store over lists says of itself.
-use Rattle.std.specs.Prelude.{ℕ, false}
+use Rattle.std.specs.Prelude.{ℕ, false, true}
 use Rattle.daos_base.specs.declared.outcome.FloorWhy.TheVariants.{Opening}
 use Rattle.daos_model.specs.declared.durable.Durable.{Durable}
 use Rattle.vos_store.specs.Calls.{State}
-use Rattle.vos_plain.specs.declared.plain.PlainStore.{PlainStore}
+use Rattle.vos_plain.specs.declared.store.PlainStore.{PlainStore}
 use Rattle.vos_plain.specs.Contents.{contents_of, free_of}
 use Rattle.vos_plain.specs.Trips.{signs_of}
 
@@ -17,6 +17,7 @@ plain_state s = record {
   faults = (signs_of s.trips).faults;
   burns = (signs_of s.trips).burns;
   fused = (signs_of s.trips).fused;
+  tells_fuse = true;
   free = free_of s.contents;
   targets = 64;
   opening = (s.floor, s.why);
@@ -24,4 +25,4 @@ plain_state s = record {
 
 -- a new one runs, and no fuse is set
 abbrev pub new_state : ℕ → State
-new_state free = record { stopped = false; faults = 0; burns = 0; fused = false; free = free; targets = 64; opening = (record { 0 = 0 }, Opening) }
+new_state free = record { stopped = false; faults = 0; burns = 0; fused = false; tells_fuse = true; free = free; targets = 64; opening = (record { 0 = 0 }, Opening) }

@@ -1,8 +1,6 @@
 -- What the changes of the contents of a store over lists make of what they stand for.
-use Rattle.std.specs.Prelude.{ℕ, ◌<◌, List}
+use Rattle.std.specs.Prelude.{List}
 use Rattle.daos_base.specs.declared.entry.Entry.{Entry}
-use Rattle.daos_base.specs.declared.entry.Settle.{Settle}
-use Rattle.daos_base.specs.declared.entry.Settle.TheVariants.{Commit, Abort, Confirm, Forget}
 use Rattle.daos_model.specs.declared.durable.Durable.{Durable}
 use Rattle.daos_model.specs.declared.durable.Version.{Version}
 use Rattle.daos_model.specs.Durables.{entry_key, version_key}
@@ -11,10 +9,3 @@ use Rattle.daos_model.specs.Ordered.{put, puts}
 -- an entry and its versions more
 abbrev pub with_entry : List Version → Entry → Durable → Durable
 with_entry vs e d = record d { versions = puts version_key vs d.versions; entries = put entry_key e d.entries }
-
--- a target that a word of 64 bits has a bit for
-abbrev pub IsWithin : Settle → Type 0
-IsWithin Commit = Unit {0}
-IsWithin Abort = Unit {0}
-IsWithin (Confirm t) = t < 64
-IsWithin Forget = Unit {0}

@@ -32,7 +32,7 @@ pub record Fell (h k : Signs) : Type 0 where
   pub stopped : k.stopped ≡ true
   pub faults : h.faults ≤ k.faults
   pub burns : h.burns ≤ k.burns
-  pub ailed : Rose h.faults k.faults ⊎ Rose h.burns k.burns
+  pub ailed : Rose h.faults k.faults ⊎ (Rose h.burns k.burns × (h.fused ≡ true) × (k.fused ≡ false))
   pub fuse : ((k.burns ≡ h.burns) × (k.fused ≡ h.fused)) ⊎ ((h.fused ≡ true) × (k.fused ≡ false))
 
 abbrev pub Struck : Strike → Signs → Signs → Type 0

@@ -1,12 +1,15 @@
 // What a store over lists answers, without stops.
-ghost use Rattle.std.specs.Prelude.{◌≡◌, ◌*◌, ◌≤◌, IfErr, IfOk, length};
+ghost use Rattle.std.specs.Prelude.{◌≡◌, ◌*◌, ◌≤◌, true, IfErr, IfOk, length};
 ghost use Rattle.std.specs.Option.{option_copied};
 ghost use Rattle.daos_model.specs.Answers.{answer};
-ghost use Rattle.daos_model.specs.Durables.{row_or_new};
+ghost use Rattle.std.specs.List.{list_all};
+ghost use Rattle.daos_model.specs.Durables.{is_version_in_form, row_or_new};
+ghost use Rattle.daos_model.specs.Versions.{map_below};
 ghost use Rattle.vos_store.specs.Answers.{shown_or_none};
 
 use crate::contents::Contents;
-use crate::rows::{blocks_of, first_between, first_blocking, first_open_in, map_below};
+use crate::reads::answer_below;
+use crate::rows::{blocks_of, first_between, first_blocking, first_open_in};
 use crate::tables::{copied, has_snap, new_row, row_of};
 use daos_base::answer::Answer;
 use daos_base::entry::{Entries, Entry};
@@ -17,9 +20,7 @@ use daos_base::operation::Read;
 use daos_base::path::Path;
 use daos_base::shown::Shown;
 use daos_base::snapshot::Snaps;
-use daos_model::answers::answer_of;
 use daos_model::durable::{ContRow, Version};
-use daos_model::map::Map;
 use std::alloc::Global;
 use vos_store::refusal::{DiscardNo, FetchNo, FreezeNo};
 
@@ -55,12 +56,13 @@ fn row_or_new(cont: ContId, row: Option<&ContRow>) -> ContRow
     }
 }
 
-// The answer of a read on a map.
-fn answered(alloc: Global, map: &Map, read: &Read) -> Result<Answer, FetchNo>
-    ensures answer { IfOk result (λ a. a ≡ answer read.now map.now) }
+// The answer of a read on the versions below an epoch.
+fn answered(alloc: Global, rows: &[Version], read: &Read, below: Epoch) -> Result<Answer, FetchNo>
+    requires { list_all is_version_in_form rows.now ≡ true }
+    ensures answer { IfOk result (λ a. a ≡ answer read.now (map_below rows.now below.0)) }
     ensures memory { IfErr result (λ e. e ≡ FetchNo.Memory) }
 {
-    match answer_of(alloc, map, read) {
+    match answer_below(alloc, rows, read, below) {
         Ok(answer) => Ok(answer),
         Err(_) => Err(FetchNo::Memory),
     }
@@ -141,10 +143,7 @@ impl Contents {
         if let Some(version) = first_blocking(&self.rows, path, below) {
             return Err(FetchNo::Unsettled(version.by));
         }
-        match map_below(self.alloc, &self.rows, below) {
-            Ok(map) => answered(self.alloc, &map, read),
-            Err(_) => Err(FetchNo::Memory),
-        }
+        answered(self.alloc, &self.rows, read, below)
     }
 
     /// The write on a path, above one epoch and up to another, that is shown.

@@ -27,10 +27,11 @@ impl Contents {
     ghost use Rattle.daos_model.specs.Versions.{versions_of};
     ghost use Rattle.vos_store.specs.Answers.{enlists};
     ghost use Rattle.vos_store.specs.Calls.{going_count};
+    ghost use Rattle.vos_store.specs.Conditions.{IsStep};
     ghost use Rattle.vos_store.specs.Refusals.{enlist_open, enlist_stop, says};
     ghost use Rattle.vos_plain.specs.Contents.{contents_of, free_of};
     ghost use Rattle.vos_plain.specs.Costs.{versions_blocks};
-    ghost use Rattle.vos_plain.specs.Steps.{IsWithin, with_entry};
+    ghost use Rattle.vos_plain.specs.Steps.{with_entry};
 
     /// Empty contents of so many blocks.
     pub fn new(alloc: Global, capacity: u32) -> Result<Contents, Memory>
@@ -62,6 +63,7 @@ impl Contents {
         ensures kept { OnOk result (contents_of self.new ≡ enlisted conts.now (contents_of self.old)) }
         ensures refused { IsErr result → contents_of self.new ≡ contents_of self.old }
         ensures free { free_of self.new ≡ free_of self.old }
+        ensures lease { self.new.lease ≡ self.old.lease }
     {
         let Ok(rows) = with_conts(self.alloc, &self.conts, conts) else {
             return Err(EnlistNo::Memory);
@@ -87,6 +89,7 @@ impl Contents {
         ensures rows { IfOk result (λ rows. vec_len self.new.rows + vec_len rows ≤ vec_capacity self.new.rows) }
         ensures marks { IfOk result (λ rows. vec_len self.new.rows + vec_len rows ≤ vec_capacity self.new.marks) }
         ensures entries { OnOk result (vec_len self.new.entries < vec_capacity self.new.entries) }
+        ensures lease { self.new.lease ≡ self.old.lease }
     {
         let rows = versions_in_form(self.alloc, entry, writes)?;
         self.rows.reserve(rows.len())?;
@@ -106,6 +109,7 @@ impl Contents {
         requires free { versions_blocks rows.items + 2 ≤ free_of self.old }
         ensures kept { contents_of self.new ≡ with_entry rows.items entry (contents_of self.old) }
         ensures free { free_of self.new + versions_blocks rows.items + 2 ≡ free_of self.old }
+        ensures lease { self.new.lease ≡ self.old.lease }
     {
         put_all(&mut self.rows, rows);
         put_in(&mut self.entries, entry);
@@ -115,6 +119,7 @@ impl Contents {
     fn commit(&mut self, attempt: AttemptId)
         ensures kept { contents_of self.new ≡ settled attempt Settle.Commit (contents_of self.old) }
         ensures free { free_of self.new ≡ free_of self.old }
+        ensures lease { self.new.lease ≡ self.old.lease }
     {
         settle_all(&mut self.rows, attempt);
         commit(&mut self.entries, attempt);
@@ -124,6 +129,7 @@ impl Contents {
     fn abort(&mut self, attempt: AttemptId)
         ensures kept { contents_of self.new ≡ settled attempt Settle.Abort (contents_of self.old) }
         ensures free { free_of self.old ≤ free_of self.new }
+        ensures lease { self.new.lease ≡ self.old.lease }
     {
         remove_pending(&mut self.rows, attempt);
         remove_entry(&mut self.entries, attempt);
@@ -134,6 +140,7 @@ impl Contents {
         requires { member < 64 }
         ensures kept { contents_of self.new ≡ settled attempt (Settle.Confirm member) (contents_of self.old) }
         ensures free { free_of self.new ≡ free_of self.old }
+        ensures lease { self.new.lease ≡ self.old.lease }
     {
         confirm(&mut self.entries, attempt, member);
     }
@@ -142,15 +149,17 @@ impl Contents {
     fn forget(&mut self, attempt: AttemptId)
         ensures kept { contents_of self.new ≡ settled attempt Settle.Forget (contents_of self.old) }
         ensures free { free_of self.old ≤ free_of self.new }
+        ensures lease { self.new.lease ≡ self.old.lease }
     {
         remove_entry(&mut self.entries, attempt);
     }
 
     /// A step of an attempt.
     pub fn settle(&mut self, attempt: AttemptId, step: Settle)
-        requires { IsWithin step }
+        requires { IsStep step }
         ensures kept { contents_of self.new ≡ settled attempt step (contents_of self.old) }
         ensures free { free_of self.old ≤ free_of self.new }
+        ensures lease { self.new.lease ≡ self.old.lease }
     {
         match step {
             Settle::Commit => self.commit(attempt),
@@ -166,18 +175,20 @@ impl Contents {
         requires { ticks < 2 ^ 56 }
         ensures kept { contents_of self.new ≡ leased ticks (contents_of self.old) }
         ensures free { free_of self.new ≡ free_of self.old }
+        ensures lease { self.new.lease ≡ ticks }
     {
         self.lease = ticks;
     }
 
-    /// Freezes a snapshot, for which there is a place.
+    /// Freezes a snapshot, for which there is a place, unless it is frozen already.
     pub fn freeze(&mut self, cont: ContId, s: Epoch)
         requires { is_frozen (contents_of self.old) cont s ≡ false → length self.old.snaps.items < 256 }
         ensures kept { contents_of self.new ≡ frozen cont s (contents_of self.old) }
         ensures free { free_of self.new ≡ free_of self.old }
+        ensures lease { self.new.lease ≡ self.old.lease }
     {
-        raise(&mut self.conts, cont, s, FloorWhy::Snapshot(s));
         if !has_snap(&self.snaps, cont, s) {
+            raise(&mut self.conts, cont, s, FloorWhy::Snapshot(s));
             put_in(
                 &mut self.snaps,
                 Snap {
@@ -193,6 +204,7 @@ impl Contents {
     pub fn create(&mut self, cont: ContId, s: Epoch)
         ensures kept { contents_of self.new ≡ created cont s (contents_of self.old) }
         ensures free { free_of self.new ≡ free_of self.old }
+        ensures lease { self.new.lease ≡ self.old.lease }
     {
         create(&mut self.snaps, cont, s);
     }
@@ -201,6 +213,7 @@ impl Contents {
     pub fn thaw(&mut self, cont: ContId, s: Epoch)
         ensures kept { contents_of self.new ≡ thawed cont s (contents_of self.old) }
         ensures free { free_of self.new ≡ free_of self.old }
+        ensures lease { self.new.lease ≡ self.old.lease }
     {
         remove_snap(&mut self.snaps, cont, s);
     }
@@ -209,6 +222,7 @@ impl Contents {
     pub fn prune(&mut self, cont: ContId, upto: Epoch, number: u32)
         ensures kept { contents_of self.new ≡ pruned cont upto number (contents_of self.old) }
         ensures free { free_of self.old + going_count cont upto (contents_of self.old) ≤ free_of self.new }
+        ensures lease { self.new.lease ≡ self.old.lease }
     {
         mark(&mut self.conts, cont, upto, number);
         let plan = Plan {
@@ -225,6 +239,7 @@ impl Contents {
     pub fn discard(&mut self, cont: ContId, lo: Epoch, hi: Epoch)
         ensures kept { contents_of self.new ≡ discarded cont lo hi (contents_of self.old) }
         ensures free { free_of self.old ≤ free_of self.new }
+        ensures lease { self.new.lease ≡ self.old.lease }
     {
         remove_range(&mut self.rows, cont, lo, hi);
     }
@@ -235,6 +250,7 @@ impl Contents {
         requires { (contents_of self.old).incarnation + 1 < 2 ^ 64 }
         ensures kept { contents_of self.new ≡ reopened (contents_of self.old) }
         ensures free { free_of self.new ≡ free_of self.old }
+        ensures lease { self.new.lease ≡ self.old.lease }
     {
         self.incarnation += 1;
     }

@@ -1,5 +1,5 @@
-// A store over lists.
-ghost use Rattle.std.specs.Prelude.{◌≡◌, ◌-◌, ◌*◌, ◌≤◌, IfOk, Some};
+// The calls of a store over lists.
+ghost use Rattle.std.specs.Prelude.{◌≡◌, ◌+◌, ◌-◌, ◌*◌, ◌≤◌, IfOk, Some};
 ghost use Rattle.daos_model.specs.Durables.{empty_durable};
 ghost use Rattle.vos_store.specs.Answers.{later_floor};
 ghost use Rattle.vos_plain.specs.Contents.{contents_of};
@@ -7,6 +7,7 @@ ghost use Rattle.vos_plain.specs.Laws.{plain_formed, plain_steady};
 ghost use Rattle.vos_plain.specs.Plain.{new_state, plain_durable, plain_state};
 
 use crate::contents::Contents;
+use crate::store::PlainStore;
 use crate::trips::{Strike, Trips};
 use daos_base::answer::Answer;
 use daos_base::entry::{Entries, Entry, Settle};
@@ -25,16 +26,6 @@ use vos_store::refusal::{
     DiscardNo, EnlistNo, FetchNo, FreezeNo, LaterNo, PrepareNo, ReopenNo, Stopped,
 };
 use vos_store::store::{Fuse, Store};
-
-/// A store over lists in memory, made for 64 targets. It stops at the changes that a plan or a fuse
-/// says.
-#[derive(Drop)]
-pub struct PlainStore {
-    contents: Contents,
-    trips: Trips,
-    floor: Epoch,
-    why: FloorWhy,
-}
 
 // The greater of the opening's floor and a stored one.
 fn later_floor(floor: Epoch, why: FloorWhy, row: ContRow) -> (Epoch, FloorWhy)

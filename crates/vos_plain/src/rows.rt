@@ -6,12 +6,12 @@ ghost use Rattle.daos_model.specs.Blocks.{blocks};
 ghost use Rattle.daos_model.specs.Changes.{is_in_range};
 ghost use Rattle.daos_model.specs.Durables.{is_version_in_form, version_key};
 ghost use Rattle.daos_model.specs.Forms.{AreWritesInForm};
-ghost use Rattle.daos_model.specs.Ordered.{puts};
-ghost use Rattle.daos_model.specs.Versions.{blocks_read, done_by, first_between, first_blocking, is_between, is_pending, map_below, version_of, versions_of};
+ghost use Rattle.daos_model.specs.Ordered.{is_in_order, puts};
+ghost use Rattle.daos_model.specs.Versions.{blocks_read, done_by, first_between, first_blocking, is_between, is_pending, version_of, versions_of};
 ghost use Rattle.vos_store.specs.Answers.{is_open_in};
 ghost use Rattle.vos_plain.specs.Costs.{version_blocks, versions_blocks};
 
-use crate::keyed::put_in;
+use crate::keyed::put_late;
 use daos_base::entry::Entry;
 use daos_base::epoch::Epoch;
 use daos_base::id::{AttemptId, ContId};
@@ -20,9 +20,6 @@ use daos_base::operation::MinorWrite;
 use daos_base::path::Path;
 use daos_model::blocks::write_blocks;
 use daos_model::durable::{Version, is_same_attempt};
-use daos_model::effect::apply_write;
-use daos_model::map::Map;
-use daos_model::prunes::is_seen;
 use std::alloc::Global;
 
 // What a write of an entry is kept as.
@@ -65,12 +62,13 @@ pub fn versions_in_form(
 
 /// Puts versions among rows in order, for which there is room.
 pub fn put_all(rows: &mut Vec<Version>, mut new: Vec<Version>)
-    requires { vec_len rows.old + vec_len new ≤ vec_capacity rows.old }
+    requires order { is_in_order version_key rows.old.items ≡ true }
+    requires room { vec_len rows.old + vec_len new ≤ vec_capacity rows.old }
     ensures items { rows.new.items ≡ puts version_key new.items rows.old.items }
     ensures len { vec_len rows.new ≡ vec_len rows.old + vec_len new }
 {
     while let Some(row) = new.pop() {
-        put_in(rows, row);
+        put_late(rows, row);
     }
 }
 
@@ -135,21 +133,6 @@ pub fn first_open_in(rows: &[Version], cont: ContId, lo: Epoch, hi: Epoch) -> Op
     ensures { option_copied result ≡ find (is_open_in cont lo hi) rows.now }
 {
     rows.iter().find(|row| is_open_in(row, cont, lo, hi))
-}
-
-/// The map below an epoch.
-#[tactic(auto, unfolding(daos_model::specs::Versions::map_below))]
-pub fn map_below(alloc: Global, rows: &[Version], below: Epoch) -> Result<Map, Memory>
-    requires { list_all is_version_in_form rows.now ≡ true }
-    ensures { IfOk result (λ map. map ≡ map_below rows.now below.0) }
-{
-    let mut map = Map::new(alloc);
-    for row in rows {
-        if is_seen(row, u128::from(below.0)) {
-            apply_write(&mut map, &row.write)?;
-        }
-    }
-    Ok(map)
 }
 
 #[tactic(auto, unfolding(daos_model::specs::Versions::done_by))]

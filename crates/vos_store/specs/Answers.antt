@@ -1,5 +1,5 @@
 -- What the calls of a store answer of what it keeps, and where they refuse.
-use Rattle.std.specs.Prelude.{◌≡◌, ◌<◌, ℕ, Bool, ◌&&◌, not, nat_lt, nat_le, find, length, List, Option, Some, None, Result, Ok, Err, if◌then◌else◌}
+use Rattle.std.specs.Prelude.{◌≡◌, ◌<◌, ◌⊎◌, ℕ, Bool, true, ◌&&◌, not, nat_lt, nat_le, find, length, List, Option, Some, None, Result, Ok, Err, if◌then◌else◌}
 use Rattle.daos_base.specs.declared.answer.Answer.{Answer}
 use Rattle.daos_base.specs.declared.epoch.Epoch.{Epoch}
 use Rattle.daos_base.specs.declared.id.ContId.{ContId}
@@ -13,7 +13,7 @@ use Rattle.daos_model.specs.declared.durable.Durable.{Durable}
 use Rattle.daos_model.specs.declared.durable.Version.{Version}
 use Rattle.daos_model.specs.Answers.{answer}
 use Rattle.daos_model.specs.Changes.{enlisted, is_in_range}
-use Rattle.daos_model.specs.Durables.{is_frozen, row_of}
+use Rattle.daos_model.specs.Durables.{is_frozen, is_stored_why, row_of}
 use Rattle.daos_model.specs.Versions.{first_between, first_blocking, map_below, version_path}
 use Rattle.vos_store.specs.declared.refusal.DiscardNo.{DiscardNo}
 use Rattle.vos_store.specs.declared.refusal.DiscardNo.TheVariants as discard
@@ -33,6 +33,10 @@ later_floor opening r = if nat_lt opening.0.0 r.floor.0 then (r.floor, r.why) el
 -- the floor of a container
 unfoldable pub floor_of : Epoch × FloorWhy → Durable → ContId → Epoch × FloorWhy
 floor_of opening d c = later_floor opening (row_of d c)
+
+-- what may be shown as a floor: that of the last opening, or one that a snapshot or an aggregation set
+abbrev pub IsFloorShown : Epoch × FloorWhy → Epoch × FloorWhy → Type 0
+IsFloorShown opening shown = (shown ≡ opening) ⊎ (is_stored_why shown.1 ≡ true)
 
 -- containers are too many where with those that are there they are more than 256
 unfoldable pub enlists : List ContId → Durable → Result (Unit {0}) EnlistNo

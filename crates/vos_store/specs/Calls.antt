@@ -1,5 +1,5 @@
 -- What every call of a store says: when it answers Stopped, what then stands, and what stays.
-use Rattle.std.specs.Prelude.{◌≡◌, ℕ, ◌+◌, ◌≤◌, ◌⊎◌, Bool, true, false, filter, length, Option, Some, Result, OnOk, OnErr, is_some, is_err, List}
+use Rattle.std.specs.Prelude.{◌≡◌, ℕ, ◌+◌, ◌≤◌, ◌⊎◌, ◌<◌, Bool, true, false, ◌&&◌, nat_lt, filter, length, Option, Some, Result, OnOk, is_some, is_err, List}
 use Rattle.std.specs.Option.{option_map}
 use Rattle.daos_base.specs.declared.epoch.Epoch.{Epoch}
 use Rattle.daos_base.specs.declared.id.ContId.{ContId}
@@ -13,32 +13,49 @@ use Rattle.vos_store.specs.declared.refusal.ReopenNo.{ReopenNo}
 use Rattle.vos_store.specs.Refusals.{refuses, reopen_stop, says}
 
 -- What a store says of itself, whether or not it tells what it keeps: whether it is stopped, how often the outside and
--- a fuse failed it, whether a fuse is set, its free blocks, the number of targets that it was made for, and the floor
--- of its last opening with the reason.
+-- a fuse failed it, whether a fuse may be set and whether that is told, its free blocks, the number of targets that it
+-- was made for, and the floor of its last opening with the reason. Where a fuse isn't told, one may be set at any time
+-- in a store that can have one.
 pub record State : Type 0 where
   pub stopped : Bool
   pub faults : ℕ
   pub burns : ℕ
   pub fused : Bool
+  pub tells_fuse : Bool
   pub free : ℕ
   pub targets : ℕ
   pub opening : Epoch × FloorWhy
 
--- the outside failed it, or a fuse did
-abbrev pub Ailed : State → State → Type 0
-Ailed h k = Rose h.faults k.faults ⊎ Rose h.burns k.burns
+-- of a store that isn't stopped
+abbrev pub IfRunning : State → Type 0 → Type 0
+IfRunning s P = s.stopped ≡ false → P
 
--- no fuse fired and none was set or taken away; or one was set, which fired and is gone
+-- where its fuse is told, none is set any more
+abbrev pub IsFuseGone : State → State → Type 0
+IsFuseGone h k = (h.tells_fuse && k.fused) ≡ false
+
+-- the outside failed it; or a fuse did, which was set and is gone
+abbrev pub Ailed : State → State → Type 0
+Ailed h k = Rose h.faults k.faults ⊎ (Rose h.burns k.burns × (h.fused ≡ true) × IsFuseGone h k)
+
+-- no fuse fired and none was set or taken away; or one fired, which was set and is gone
 abbrev pub Fires : State → State → Type 0
-Fires h k = ((k.burns ≡ h.burns) × (k.fused ≡ h.fused)) ⊎ ((h.fused ≡ true) × (k.fused ≡ false))
+Fires h k = ((k.burns ≡ h.burns) × (k.fused ≡ h.fused)) ⊎ ((h.fused ≡ true) × IsFuseGone h k)
+
+-- What setting a fuse makes of a store: one is set, or, by 0, none, and that one was set before is told no more.
+pub record SetsFuse (k : ℕ) (h new : State) : Type 0 where
+  pub set : 0 < k → new.fused ≡ true
+  pub told : h.tells_fuse ≡ true → new.fused ≡ nat_lt 0 k
+  pub rest : new ≡ record h { fused = new.fused }
 
 -- A call that may answer Stopped: it does so where the store was stopped, and else only where a count rose; and then
--- the store is stopped. How it was made and opened stays. It costs so many free blocks at most, and a call that is
--- refused costs and gives none.
+-- the store is stopped. How it was made and opened stays. It costs so many free blocks at most; a call that is refused,
+-- and one of a store that was stopped, costs and gives none.
 pub record Turns {T E : Type 0} (cost : ℕ) (stop : E → Bool) (result : Result T E) (h k : State) : Type 0 where
   pub faults : h.faults ≤ k.faults
   pub burns : h.burns ≤ k.burns
   pub fuse : Fires h k
+  pub tells_fuse : k.tells_fuse ≡ h.tells_fuse
   pub stops : k.stopped ≡ says stop result
   pub always : h.stopped ≡ true → says stop result ≡ true
   pub cause : h.stopped ≡ false → says stop result ≡ true → Ailed h k
@@ -46,16 +63,17 @@ pub record Turns {T E : Type 0} (cost : ℕ) (stop : E → Bool) (result : Resul
   pub opening : k.opening ≡ h.opening
   pub free : h.free ≤ k.free + cost
   pub refused : refuses stop result ≡ true → k.free ≡ h.free
+  pub idle : h.stopped ≡ true → k.free ≡ h.free
 
 -- An opening: the store runs after Ok alone. It answers Stopped only where a count rose in it.
 pub record Opens (result : Result (Unit {0}) ReopenNo) (h k : State) : Type 0 where
   pub faults : h.faults ≤ k.faults
   pub burns : h.burns ≤ k.burns
   pub fuse : Fires h k
+  pub tells_fuse : k.tells_fuse ≡ h.tells_fuse
   pub stops : k.stopped ≡ is_err result
   pub cause : says reopen_stop result ≡ true → Ailed h k
   pub targets : k.targets ≡ h.targets
-  pub free : h.free ≤ k.free
 
 -- What stands after a call that makes a change of what is kept, or none where it refuses. An opening after it finds what
 -- one before it would have found, or, unless the store was stopped before, what the change makes.

@@ -1,5 +1,5 @@
 -- What the calls of a store ask of what it keeps.
-use Rattle.std.specs.Prelude.{◌≡◌, ◌≢◌, ℕ, ◌/◌, ◌^◌, ◌<◌, ◌≤◌, Bool, true, false, All, length, List, Some, None}
+use Rattle.std.specs.Prelude.{◌≡◌, ◌≢◌, ◌/◌, ◌^◌, ◌<◌, ◌≤◌, true, false, All, length, List, Some, None}
 use Rattle.std.specs.Int.{IsBitSet}
 use Rattle.daos_base.specs.declared.entry.Entry.{Entry}
 use Rattle.daos_base.specs.declared.entry.Settle.{Settle}
@@ -27,34 +27,40 @@ pub record CanWrite (s : State) (e : Entry) (d : Durable) (w : MinorWrite) : Typ
   pub above : (floor_of s.opening d (write_path w.write).cont).0.0 < e.epoch.0
   pub new : All (λ v. version_key v ≢ version_key (version_of e w)) d.versions
 
--- an entry and its writes may be prepared
-pub record CanPrepare (s : State) (e : Entry) (ws : List MinorWrite) (d : Durable) : Type 0 where
-  pub absent : entry_of d e.attempt ≡ None
-  pub prepared : e.committed ≡ false
+-- an entry and its writes may be asked to be prepared, whatever is kept: 1 to 64 writes in form with rising numbers, of an entry
+-- that isn't committed and that no member confirmed, whose leader and members are targets that the store was made for
+pub record IsPreparable (s : State) (e : Entry) (ws : List MinorWrite) : Type 0 where
+  pub undecided : e.committed ≡ false
   pub unconfirmed : e.confirmed ≡ 0
   pub leader : e.leader < s.targets
   pub members : e.members < 2 ^ s.targets
   pub some : 0 < length ws
   pub form : AreWritesInForm ws
+
+-- and here they may be prepared: the attempt has no entry, each write may be made, and the lease covers the epoch
+pub record CanPrepare (s : State) (e : Entry) (ws : List MinorWrite) (d : Durable) : Type 0 where
+  pub absent : entry_of d e.attempt ≡ None
   pub each : All (CanWrite s e d) ws
   pub leased : IsLeased e.epoch d
 
--- a step fits an entry: a prepared one is committed or aborted; a committed one is confirmed by a member or forgotten
-abbrev pub StepFits : State → Settle → Entry → Type 0
-StepFits s Commit e = e.committed ≡ false
-StepFits s Abort e = e.committed ≡ false
-StepFits s (Confirm t) e = (e.committed ≡ true) × (t < s.targets) × IsBitSet e.members t
-StepFits s Forget e = e.committed ≡ true
+-- a step that may be asked for, whatever is kept
+abbrev pub IsStep : Settle → Type 0
+IsStep Commit = Unit {0}
+IsStep Abort = Unit {0}
+IsStep (Confirm t) = t < 64
+IsStep Forget = Unit {0}
 
-pub record CanSettle (s : State) (a : AttemptId) (step : Settle) (d : Durable) : Type 0 where
+-- a step fits an entry: a prepared one is committed or aborted; a committed one is confirmed by a member or forgotten
+abbrev pub StepFits : Settle → Entry → Type 0
+StepFits Commit e = e.committed ≡ false
+StepFits Abort e = e.committed ≡ false
+StepFits (Confirm t) e = (e.committed ≡ true) × IsBitSet e.members t
+StepFits Forget e = e.committed ≡ true
+
+pub record CanSettle (a : AttemptId) (step : Settle) (d : Durable) : Type 0 where
   pub entry : Entry
   pub here : entry_of d a ≡ Some entry
-  pub fits : StepFits s step entry
-
--- the lease goes on, up to the last ticks
-pub record CanExtend (ticks : ℕ) (d : Durable) : Type 0 where
-  pub on : d.lease ≤ ticks
-  pub last : ticks < 2 ^ 56
+  pub fits : StepFits step entry
 
 pub record CanFreeze (c : ContId) (s : Epoch) (d : Durable) : Type 0 where
   pub enlisted : is_enlisted d c ≡ true

@@ -1,5 +1,5 @@
 // The trait of a target's store.
-ghost use Rattle.std.specs.Prelude.{◌≡◌, ◌≤◌, ◌+◌, ◌^◌, ◌<◌, true, false, nat_lt, Option, Some, Ok, IfOk, OnOk, IsSome, MatchResult};
+ghost use Rattle.std.specs.Prelude.{◌≡◌, ◌≤◌, ◌+◌, ◌^◌, ◌<◌, true, false, Option, Some, Ok, IfOk, OnOk, IsSome, IfSome, MatchResult};
 ghost use Rattle.std.specs.Option.{ForSome};
 ghost use Rattle.daos_base.specs.Epochs.{restart_floor};
 ghost use Rattle.daos_base.specs.Operations.{read_path};
@@ -10,9 +10,9 @@ ghost use Rattle.daos_model.specs.Changes.{created, discarded, enlisted, frozen,
 ghost use Rattle.daos_model.specs.Durables.{IsInForm, is_enlisted, is_frozen, row_of};
 ghost use Rattle.daos_model.specs.Forms.{is_path_in_form, is_read_in_form};
 ghost use Rattle.daos_model.specs.Kinds.{is_of_kind};
-ghost use Rattle.vos_store.specs.Answers.{PrepareWhy, discards, enlists, fetched, floor_of, freezes, later_write};
-ghost use Rattle.vos_store.specs.Calls.{Answers, CutDiscard, CutPrune, Finds, Looks, Makes, MakesPartly, Opens, State, Turns, going_count};
-ghost use Rattle.vos_store.specs.Conditions.{CanExtend, CanFreeze, CanPrepare, CanPrune, CanSettle};
+ghost use Rattle.vos_store.specs.Answers.{IsFloorShown, PrepareWhy, discards, enlists, fetched, floor_of, freezes, later_write};
+ghost use Rattle.vos_store.specs.Calls.{Answers, CutDiscard, CutPrune, Finds, IfRunning, Looks, Makes, MakesPartly, Opens, SetsFuse, State, Turns, going_count};
+ghost use Rattle.vos_store.specs.Conditions.{CanFreeze, CanPrepare, CanPrune, CanSettle, IsPreparable, IsStep};
 ghost use Rattle.vos_store.specs.Refusals.{always_stop, discard_open, discard_stop, enlist_open, enlist_stop, fetch_open, fetch_stop, freeze_stop, later_open, later_stop, prepare_stop, reopen_foreign, says};
 
 use crate::refusal::{
@@ -70,7 +70,8 @@ pub trait Store {
     ///
     /// `NoSpace` exactly where fewer blocks are free than the writes may take, with both numbers.
     fn prepare(&mut self, entry: &Entry, writes: &[MinorWrite]) -> Result<(), PrepareNo>
-        requires { ForSome (durable self.old) (CanPrepare (state self.old) entry.now writes.now) }
+        requires form { IsPreparable (state self.old) entry.now writes.now }
+        requires here { IfRunning (state self.old) (ForSome (durable self.old) (CanPrepare (state self.old) entry.now writes.now)) }
         ensures call { Turns (blocks writes.now) prepare_stop result (state self.old) (state self.new) }
         ensures space { MatchResult result (λ _. blocks writes.now ≤ (state self.old).free)
             (PrepareWhy (blocks writes.now) (state self.old).free) }
@@ -80,14 +81,16 @@ pub trait Store {
     /// A step of an attempt: its versions are done and its entry committed; both go; a further
     /// member is confirmed; its entry goes, and its done versions stay. Takes no memory.
     fn settle(&mut self, attempt: AttemptId, step: Settle) -> Result<(), Stopped>
-        requires { ForSome (durable self.old) (CanSettle (state self.old) attempt step) }
+        requires form { IsStep step }
+        requires here { IfRunning (state self.old) (ForSome (durable self.old) (CanSettle attempt step)) }
         ensures call { Turns 0 always_stop result (state self.old) (state self.new) }
         ensures kept { Makes (state self.old).stopped always_stop (settled attempt step) result
             (durable self.old) (durable self.new) (may self.old) (may self.new) };
 
     /// Sets the lease, in ticks. Takes no memory.
     fn extend_lease(&mut self, ticks: u64) -> Result<(), Stopped>
-        requires { ForSome (durable self.old) (CanExtend ticks) }
+        requires last { ticks < 2 ^ 56 }
+        requires on { IfRunning (state self.old) (ForSome (durable self.old) (λ d. d.lease ≤ ticks)) }
         ensures call { Turns 0 always_stop result (state self.old) (state self.new) }
         ensures kept { Makes (state self.old).stopped always_stop (leased ticks) result
             (durable self.old) (durable self.new) (may self.old) (may self.new) };
@@ -101,7 +104,7 @@ pub trait Store {
     /// the number of its aggregation. `NoPlace` exactly where that doesn't hold and 256 other places
     /// are used.
     fn freeze(&mut self, cont: ContId, s: Epoch) -> Result<(), FreezeNo>
-        requires { ForSome (durable self.old) (CanFreeze cont s) }
+        requires { IfRunning (state self.old) (ForSome (durable self.old) (CanFreeze cont s)) }
         ensures call { Turns 0 freeze_stop result (state self.old) (state self.new) }
         ensures answer { Answers freeze_stop result (freezes cont s) (durable self.old) }
         ensures kept { Makes (state self.old).stopped freeze_stop (frozen cont s) result
@@ -109,23 +112,23 @@ pub trait Store {
 
     /// Notes that a frozen snapshot is created. Takes no memory.
     fn create(&mut self, cont: ContId, s: Epoch) -> Result<(), Stopped>
-        requires { ForSome (durable self.old) (λ d. is_frozen d cont s ≡ true) }
+        requires { IfRunning (state self.old) (ForSome (durable self.old) (λ d. is_frozen d cont s ≡ true)) }
         ensures call { Turns 0 always_stop result (state self.old) (state self.new) }
         ensures kept { Makes (state self.old).stopped always_stop (created cont s) result
             (durable self.old) (durable self.new) (may self.old) (may self.new) };
 
     /// Drops a frozen snapshot. Takes no memory.
     fn thaw(&mut self, cont: ContId, s: Epoch) -> Result<(), Stopped>
-        requires { ForSome (durable self.old) (λ d. is_frozen d cont s ≡ true) }
+        requires { IfRunning (state self.old) (ForSome (durable self.old) (λ d. is_frozen d cont s ≡ true)) }
         ensures call { Turns 0 always_stop result (state self.old) (state self.new) }
         ensures kept { Makes (state self.old).stopped always_stop (thawed cont s) result
             (durable self.old) (durable self.new) (may self.old) (may self.new) };
 
     /// Aggregates a container up to an epoch: raises the aggregated-to epoch and the floor to it,
-    /// each where it is greater, and removes the versions that neither a snapshot nor a read above
-    /// sees. Each gives back a block at least. Takes no memory.
+    /// each where it is greater, and removes the updates that neither a snapshot nor a read above sees
+    /// and the punches under which no older update stays. Each gives back a block at least. Takes no memory.
     fn prune(&mut self, cont: ContId, upto: Epoch, number: u32) -> Result<(), Stopped>
-        requires { ForSome (durable self.old) (CanPrune cont upto) }
+        requires { IfRunning (state self.old) (ForSome (durable self.old) (CanPrune cont upto)) }
         ensures call { Turns 0 always_stop result (state self.old) (state self.new) }
         ensures space { OnOk result (ForSome (durable self.old) (λ d.
             (state self.old).free + going_count cont upto d ≤ (state self.new).free)) }
@@ -140,7 +143,7 @@ pub trait Store {
     /// `Unsettled` exactly where one of them is unsettled, with the attempt of the one of the least
     /// epoch.
     fn discard(&mut self, cont: ContId, lo: Epoch, hi: Epoch) -> Result<(), DiscardNo>
-        requires { ForSome (durable self.old) (λ d. is_enlisted d cont ≡ true) }
+        requires { IfRunning (state self.old) (ForSome (durable self.old) (λ d. is_enlisted d cont ≡ true)) }
         ensures call { Turns 0 discard_stop result (state self.old) (state self.new) }
         ensures answer { Answers discard_open result (discards cont lo hi) (durable self.old) }
         ensures kept { MakesPartly (state self.old).stopped discard_stop (discarded cont lo hi)
@@ -158,7 +161,7 @@ pub trait Store {
     /// the least epoch.
     fn fetch(&mut self, read: &Read, below: Epoch) -> Result<Answer, FetchNo>
         requires form { is_read_in_form read.now ≡ true }
-        requires enlisted { ForSome (durable self.old) (λ d. is_enlisted d (read_path read.now).cont ≡ true) }
+        requires enlisted { IfRunning (state self.old) (ForSome (durable self.old) (λ d. is_enlisted d (read_path read.now).cont ≡ true)) }
         ensures call { Turns 0 fetch_stop result (state self.old) (state self.new) }
         ensures free { (state self.new).free ≡ (state self.old).free }
         ensures answer { Answers fetch_open result (fetched read.now below) (durable self.old) }
@@ -176,10 +179,11 @@ pub trait Store {
         upto: Epoch,
     ) -> Result<Option<Shown>, LaterNo>
         requires form { is_path_in_form path.now ≡ true }
-        requires enlisted { ForSome (durable self.old) (λ d. is_enlisted d path.now.cont ≡ true) }
+        requires enlisted { IfRunning (state self.old) (ForSome (durable self.old) (λ d. is_enlisted d path.now.cont ≡ true)) }
         ensures call { Turns 0 later_stop result (state self.old) (state self.new) }
         ensures free { (state self.new).free ≡ (state self.old).free }
         ensures answer { Answers later_open result (λ d. Ok (later_write path.now above upto d)) (durable self.old) }
+        ensures shown { IfOk result (λ shown. IfSome shown (λ x. is_path_in_form x.path ≡ true)) }
         ensures kept { Looks (says later_stop result) (durable self.old) (durable self.new)
             (may self.old) (may self.new) };
 
@@ -192,30 +196,34 @@ pub trait Store {
             (may self.old) (may self.new) };
 
     /// The floor of a container, at or below which no write is taken, and what set it: the stored
-    /// one, or that of the last opening where it isn't below.
+    /// one, or that of the last opening where it isn't below. Also where nothing is told, it is that of
+    /// the last opening, or a snapshot or an aggregation set it.
     fn floor(&self, cont: ContId) -> (Epoch, FloorWhy)
-        requires { ForSome (durable self.now) (λ d. is_enlisted d cont ≡ true) }
-        ensures { (state self.now).stopped ≡ false →
-            ForSome (durable self.now) (λ d. result ≡ floor_of (state self.now).opening d cont) };
+        requires { IfRunning (state self.now) (ForSome (durable self.now) (λ d. is_enlisted d cont ≡ true)) }
+        ensures floor { IfRunning (state self.now)
+            (ForSome (durable self.now) (λ d. result ≡ floor_of (state self.now).opening d cont)) }
+        ensures why { IfRunning (state self.now) (IsFloorShown (state self.now).opening result) };
 
     /// The aggregated-to epoch of a container, 0 where there is none. Takes no memory.
     fn aggregated(&self, cont: ContId) -> Epoch
-        requires { ForSome (durable self.now) (λ d. is_enlisted d cont ≡ true) }
-        ensures { (state self.now).stopped ≡ false →
-            ForSome (durable self.now) (λ d. result ≡ (row_of d cont).aggregated) };
+        requires { IfRunning (state self.now) (ForSome (durable self.now) (λ d. is_enlisted d cont ≡ true)) }
+        ensures { IfRunning (state self.now)
+            (ForSome (durable self.now) (λ d. result ≡ (row_of d cont).aggregated)) };
 
     /// The snapshots, in the order of containers and epochs.
     fn snaps(&self) -> Result<Snaps, Memory>
-        ensures { (state self.now).stopped ≡ false →
-            ForSome (durable self.now) (λ d. IfOk result (λ snaps. snaps ≡ d.snaps)) };
+        ensures { IfRunning (state self.now)
+            (ForSome (durable self.now) (λ d. IfOk result (λ snaps. snaps ≡ d.snaps))) };
 
-    /// The lease, in ticks.
+    /// The lease, in ticks. The floor of the last opening isn't above the floor that it gives, also
+    /// where nothing is told.
     fn lease(&self) -> u64
-        ensures { (state self.now).stopped ≡ false → ForSome (durable self.now) (λ d. result ≡ d.lease) };
+        ensures lease { IfRunning (state self.now) (ForSome (durable self.now) (λ d. result ≡ d.lease)) }
+        ensures covers { IfRunning (state self.now) ((state self.now).opening.0.0 ≤ restart_floor result) };
 
     /// How often it was opened.
     fn incarnation(&self) -> u64
-        ensures { (state self.now).stopped ≡ false → ForSome (durable self.now) (λ d. result ≡ d.incarnation) };
+        ensures { IfRunning (state self.now) (ForSome (durable self.now) (λ d. result ≡ d.incarnation)) };
 
     /// Opens it again, stopped or not: raises the incarnation and sets the floor that the lease
     /// gives, with the number of the restart. Where a change was cut, what it keeps is what it kept
@@ -231,7 +239,9 @@ pub trait Store {
         ensures call { Opens result (state self.old) (state self.new) }
         ensures kept { Finds result (durable self.old) (durable self.new) (may self.old) (may self.new) }
         ensures floor { OnOk result (ForSome (durable self.new) (λ d.
-            (state self.new).opening ≡ (record { 0 = restart_floor d.lease }, FloorWhy.Restart number))) }
+            (state self.new).opening.0.0 ≡ restart_floor d.lease)) }
+        ensures why { OnOk result ((state self.new).opening.1 ≡ FloorWhy.Restart number) }
+        ensures free { IsSome (durable self.old) → (state self.old).free ≤ (state self.new).free }
         ensures native { IsSome (durable self.old) → says reopen_foreign result ≡ false };
 
     /// How many blocks are free.
@@ -259,7 +269,7 @@ pub trait Fuse: Store {
     /// change where it has no region, once, and `burnt` then rises. 0 sets none, and takes away one
     /// that is set. It changes nothing that the store keeps, and takes no memory.
     fn fuse(&mut self, k: u32)
-        ensures state { Self.state self.new ≡ record (Self.state self.old) { fused = nat_lt 0 k } }
+        ensures state { SetsFuse k (Self.state self.old) (Self.state self.new) }
         ensures durable { Self.durable self.new ≡ Self.durable self.old }
         ensures left { (x : Durable) → Self.may self.new x → Self.may self.old x };
 }

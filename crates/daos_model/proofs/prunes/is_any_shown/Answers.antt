@@ -1,4 +1,4 @@
-use Rattle.std.proofs.Common.{◌≡◌, ◌+◌, ◌∙◌, Some, true, false, not, ap, sym, arith, rules}
+use Rattle.std.proofs.Common.{◌≡◌, ◌+◌, ◌∙◌, Some, true, false, not, ap, sym, rules}
 use Rattle.daos_model.specs.Cells.{cell_at}
 use Rattle.daos_model.specs.Prunes.{is_hidden, is_shown}
 use Rattle.daos_model.proofs.Sights.{any-here, any-next}

@@ -1,4 +1,4 @@
-use Rattle.std.proofs.Common.{◌≡◌, ◌+◌, ◌≤◌, take, map, length, vec_len, vec_capacity}
+use Rattle.std.proofs.Common.{◌≡◌, ◌≤◌, take, map, vec_len, vec_capacity}
 use Rattle.daos_model.specs.Prunes.{is_going}
 use Rattle.vos_plain.proofs.sweeps.mark_going.Given as goal
 

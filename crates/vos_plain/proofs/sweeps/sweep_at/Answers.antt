@@ -1,4 +1,4 @@
-use Rattle.std.proofs.Common.{◌≡◌, ◌++◌, ◌+◌, ◌∷◌, take, drop, false, ap, sym, ◌∙◌, rules}
+use Rattle.std.proofs.Common.{◌++◌, ◌+◌, take, drop, false, ap, sym, ◌∙◌}
 use Rattle.std.proofs.lemmas.List.{drop_more}
 use Rattle.vos_plain.specs.Sweeps.{unmarked}
 use Rattle.vos_plain.proofs.sweeps.sweep_at.Goals as goal

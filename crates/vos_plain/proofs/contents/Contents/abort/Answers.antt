@@ -1,10 +1,10 @@
 use Rattle.daos_model.specs.Changes.{is_other}
 use Rattle.daos_model.specs.Versions.{is_not_pending}
-use Rattle.std.proofs.Common.{◌≡◌, ◌≤◌, ◌+◌, ◌*◌, ap, sym, ◌∙◌, subst, length, arith}
+use Rattle.std.proofs.Common.{◌≤◌, sym, subst, length, arith}
 use Rattle.daos_model.specs.Durables.{IsInForm}
 use Rattle.daos_model.specs.FormLaws.{settled-in_form}
 use Rattle.vos_plain.specs.Contents.{contents_of}
-use Rattle.vos_plain.specs.Costs.{taken_blocks, versions_blocks}
+use Rattle.vos_plain.specs.Costs.{versions_blocks}
 use Rattle.vos_plain.proofs.Kept.{aborted_is, fewer, fewer_entries}
 use Rattle.daos_base.specs.declared.entry.Settle.TheVariants.{Abort}
 use Rattle.vos_plain.proofs.contents.Contents.abort.Goals as goal

@@ -1,9 +1,9 @@
 use Rattle.daos_model.specs.Changes.{is_out_of_range}
-use Rattle.std.proofs.Common.{◌≡◌, ◌≤◌, ◌+◌, ◌*◌, ap, sym, ◌∙◌, subst, length, arith}
+use Rattle.std.proofs.Common.{◌≤◌, sym, subst, arith}
 use Rattle.daos_model.specs.Durables.{IsInForm}
 use Rattle.daos_model.specs.FormLaws.{discarded-in_form}
 use Rattle.vos_plain.specs.Contents.{contents_of}
-use Rattle.vos_plain.specs.Costs.{taken_blocks, versions_blocks}
+use Rattle.vos_plain.specs.Costs.{versions_blocks}
 use Rattle.vos_plain.proofs.Kept.{discarded_is, fewer}
 use Rattle.vos_plain.proofs.contents.Contents.discard.Goals as goal
 

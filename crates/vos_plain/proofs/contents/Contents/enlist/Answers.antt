@@ -1,7 +1,5 @@
-use Rattle.std.proofs.Common.{◌≡◌, ◌≤◌, ap, sym, ◌∙◌, subst, length, vec_len, arith, rules}
-use Rattle.daos_model.specs.Changes.{enlisted, with_conts}
-use Rattle.daos_model.specs.Durables.{IsInForm}
-use Rattle.daos_model.specs.FormLaws.{enlisted-in_form}
+use Rattle.std.proofs.Common.{◌≡◌, ◌≤◌, ap, ◌∙◌, length, vec_len, arith, rules}
+use Rattle.daos_model.specs.Changes.{with_conts}
 use Rattle.vos_plain.specs.Contents.{contents_of}
 use Rattle.vos_plain.proofs.Kept.{enlisted_is}
 use Rattle.vos_plain.proofs.contents.Contents.enlist.Goals as goal

@@ -1,9 +1,8 @@
 use Rattle.daos_model.specs.Changes.{is_other}
-use Rattle.std.proofs.Common.{◌≡◌, ◌≤◌, ◌+◌, ◌*◌, ap, sym, ◌∙◌, subst, length, arith}
+use Rattle.std.proofs.Common.{◌≤◌, sym, subst, length, arith}
 use Rattle.daos_model.specs.Durables.{IsInForm}
 use Rattle.daos_model.specs.FormLaws.{settled-in_form}
 use Rattle.vos_plain.specs.Contents.{contents_of}
-use Rattle.vos_plain.specs.Costs.{taken_blocks, versions_blocks}
 use Rattle.vos_plain.proofs.Kept.{forgotten_is, fewer_entries}
 use Rattle.daos_base.specs.declared.entry.Settle.TheVariants.{Forget}
 use Rattle.vos_plain.proofs.contents.Contents.forget.Goals as goal

@@ -1,8 +1,7 @@
-use Rattle.std.proofs.Common.{◌≡◌, ◌≤◌, ◌<◌, rules, vec_len, ap, sym, true, false, ◌∙◌, subst, length, arith}
+use Rattle.std.proofs.Common.{◌≡◌, ◌<◌, rules, vec_len, sym, true, false, subst, length, arith}
 use Rattle.daos_model.specs.Durables.{IsInForm}
 use Rattle.daos_model.specs.FormLaws.{frozen-in_form}
 use Rattle.vos_plain.specs.Contents.{contents_of}
-use Rattle.vos_plain.specs.Costs.{taken_blocks, versions_blocks}
 use Rattle.vos_plain.proofs.Kept.{frozen_again, frozen_new, not_frozen}
 use Rattle.std.specs.List.{list_any}
 use Rattle.daos_model.specs.Durables.{is_frozen, is_snap_at}
@@ -21,12 +20,6 @@ invariant_of-self-clause-formed c =
     subst IsInForm (sym (frozen_new c.args.cont c.args.s (contents_of c.args.self.now) c.raise.new.rows.items c.put_in.new.rows.items new c.raise.ensures c.put_in.ensures.items))
     (frozen-in_form c.args.cont c.args.s (contents_of c.args.self.now) c.requires c.args.self.now.formed)
 
-pub invariant_of-self-else-not-has_snap-clause-formed : goal.invariant_of-self-else-not-has_snap-clause-formed
-invariant_of-self-else-not-has_snap-clause-formed c =
-    let there : list_any (is_snap_at c.args.cont c.args.s) c.args.self.now.snaps.items ≡ true = cc in
-    subst IsInForm (sym (frozen_again c.args.cont c.args.s (contents_of c.args.self.now) c.raise.new.rows.items there c.raise.ensures))
-    (frozen-in_form c.args.cont c.args.s (contents_of c.args.self.now) c.requires c.args.self.now.formed)
-
 pub returns-then-not-has_snap-clause-kept : goal.returns-then-not-has_snap-clause-kept
 returns-then-not-has_snap-clause-kept c =
     let new : list_any (is_snap_at c.args.cont c.args.s) c.args.self.now.snaps.items ≡ false = cc in
@@ -35,4 +28,4 @@ returns-then-not-has_snap-clause-kept c =
 pub returns-else-not-has_snap-clause-kept : goal.returns-else-not-has_snap-clause-kept
 returns-else-not-has_snap-clause-kept c =
     let there : list_any (is_snap_at c.args.cont c.args.s) c.args.self.now.snaps.items ≡ true = cc in
-    frozen_again c.args.cont c.args.s (contents_of c.args.self.now) c.raise.new.rows.items there c.raise.ensures
+    frozen_again c.args.cont c.args.s (contents_of c.args.self.now) there

@@ -1,6 +1,5 @@
-use Rattle.std.proofs.Common.{◌≡◌, ◌≤◌, ◌+◌, ◌*◌, ap, sym, ◌∙◌, subst, length, arith}
+use Rattle.std.proofs.Common.{◌≡◌, ◌+◌, sym, subst, arith}
 use Rattle.daos_model.specs.Durables.{IsInForm}
-use Rattle.daos_model.specs.FormLaws.{prepared-in_form}
 use Rattle.vos_plain.specs.Contents.{contents_of}
 use Rattle.vos_plain.specs.Costs.{taken_blocks, versions_blocks}
 use Rattle.vos_plain.proofs.Kept.{entry_added, more_taken, with_entry-in_form}

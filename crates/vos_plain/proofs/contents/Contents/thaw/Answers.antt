@@ -1,8 +1,7 @@
-use Rattle.std.proofs.Common.{◌≡◌, ◌≤◌, ◌+◌, ◌*◌, ap, sym, ◌∙◌, subst, length, arith}
+use Rattle.std.proofs.Common.{sym, subst}
 use Rattle.daos_model.specs.Durables.{IsInForm}
 use Rattle.daos_model.specs.FormLaws.{thawed-in_form}
 use Rattle.vos_plain.specs.Contents.{contents_of}
-use Rattle.vos_plain.specs.Costs.{taken_blocks, versions_blocks}
 use Rattle.vos_plain.proofs.Kept.{thawed_is}
 use Rattle.vos_plain.proofs.contents.Contents.thaw.Goals as goal
 

@@ -8,10 +8,10 @@ use Rattle.vos_plain.proofs.Turning.{makes, makes_stopped}
 use Rattle.vos_plain.proofs.plain.PlainStoreStore.prepare.Goals as goal
 
 pub blocks-need-requires : goal.blocks-need-requires
-blocks-need-requires c = (c.requires _ refl).form
+blocks-need-requires c = c.requires.form.form
 
 pub ready-requires : goal.ready-requires
-ready-requires c = (c.requires _ refl).form
+ready-requires c = c.requires.form.form
 
 pub returns-in-Made-clause-kept : goal.returns-in-Made-clause-kept
 returns-in-Made-clause-kept c =

@@ -1,0 +1,80 @@
+// What reads are answered on versions in a row.
+ghost use Rattle.std.specs.Prelude.{◌≡◌, true, find, reverse, IfOk};
+ghost use Rattle.std.specs.List.{list_all};
+ghost use Rattle.std.specs.Option.{option_copied};
+ghost use Rattle.daos_model.specs.Answers.{answer, value_answer};
+ghost use Rattle.daos_model.specs.Cells.{single_cell};
+ghost use Rattle.daos_model.specs.Durables.{is_version_in_form};
+ghost use Rattle.daos_model.specs.Versions.{map_below};
+ghost use Rattle.vos_plain.specs.Newest.{says_at, single_of};
+
+use daos_base::answer::Answer;
+use daos_base::epoch::Epoch;
+use daos_base::items::Memory;
+use daos_base::operation::{Read, Write};
+use daos_base::path::Path;
+use daos_model::answers::answer_of;
+use daos_model::durable::Version;
+use daos_model::effect::apply_write;
+use daos_model::map::Map;
+use daos_model::prunes::{is_seen, touches};
+use std::alloc::Global;
+
+// Whether a version below an epoch says what the single value at a path holds.
+fn says(row: &Version, path: &Path, below: Epoch) -> bool
+    ensures { result ≡ says_at (single_cell path.now) below.0 row.now }
+{
+    is_seen(row, u128::from(below.0)) && touches(&row.write, path, None)
+}
+
+// The last version that does.
+fn newest<'a>(rows: &'a [Version], path: &Path, below: Epoch) -> Option<&'a Version>
+    ensures { option_copied result ≡ find (says_at (single_cell path.now) below.0) (reverse rows.now) }
+{
+    rows.iter().rev().find(|row| says(row, path, below))
+}
+
+// The answer that the last version makes.
+fn single_answer(newest: Option<&Version>) -> Result<Answer, Memory>
+    ensures { IfOk result (λ a. a ≡ value_answer (single_of (option_copied newest.entry))) }
+{
+    let Some(newest) = newest else {
+        return Ok(Answer::Absent);
+    };
+    match &newest.write {
+        Write::Single(_, bytes) => Ok(Answer::Bytes(bytes.copy()?)),
+        _ => Ok(Answer::Absent),
+    }
+}
+
+// The map below an epoch.
+#[tactic(auto, unfolding(daos_model::specs::Versions::map_below))]
+fn map_below(alloc: Global, rows: &[Version], below: Epoch) -> Result<Map, Memory>
+    requires { list_all is_version_in_form rows.now ≡ true }
+    ensures { IfOk result (λ map. map ≡ map_below rows.now below.0) }
+{
+    let mut map = Map::new(alloc);
+    for row in rows {
+        if is_seen(row, u128::from(below.0)) {
+            apply_write(&mut map, &row.write)?;
+        }
+    }
+    Ok(map)
+}
+
+/// What a read is answered on the map below an epoch. A single value is sought from the newest
+/// version on.
+pub fn answer_below(
+    alloc: Global,
+    rows: &[Version],
+    read: &Read,
+    below: Epoch,
+) -> Result<Answer, Memory>
+    requires { list_all is_version_in_form rows.now ≡ true }
+    ensures { IfOk result (λ a. a ≡ answer read.now (map_below rows.now below.0)) }
+{
+    match read {
+        Read::Single(path) => single_answer(newest(rows, path, below)),
+        _ => answer_of(alloc, &map_below(alloc, rows, below)?, read),
+    }
+}

@@ -1,0 +1,18 @@
+// A store over lists.
+ghost use Rattle.std.specs.Prelude.{◌+◌, ◌*◌, ◌≤◌};
+
+use crate::contents::Contents;
+use crate::trips::Trips;
+use daos_base::epoch::Epoch;
+use daos_base::outcome::FloorWhy;
+
+/// A store over lists in memory, made for 64 targets. It stops at the changes that a plan or a fuse
+/// says.
+#[derive(Drop)]
+pub struct PlainStore {
+    pub(crate) contents: Contents,
+    pub(crate) trips: Trips,
+    pub(crate) floor: Epoch,
+    pub(crate) why: FloorWhy,
+    ghost covered: { floor.0 ≤ contents.lease * 256 + 255 },
+}
