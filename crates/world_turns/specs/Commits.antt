@@ -108,13 +108,14 @@ pub data CommitStage : Type 0 where
   Checking : (e : Epoch) → CommitStage
   Stored : (e : Epoch) → CommitStage
 
--- the steps of a Commit, at one reading of the clock; `opening` is the floor that the last opening set
+-- The steps of a Commit, at one reading of the clock; `opening` is the floor that the last opening set. Whether there is
+-- space for the writes is the store's to say; where storing them is cut, it may be open.
 pub data CommitNext (t : TargetPlan) (opening : Epoch × FloorWhy) (m : TargetMemory) (reading : ℕ) (q : CommitRequest) : CommitStage → Kept → Option Change → CommitStage → Type 0 where
   HasEpoch : (k : Kept) (e : Epoch) → request_epoch t m reading q.tracker q.ep ≡ Some e → CommitNext t opening m reading q Asked k None (Known e)
   ExtendsLease : (k : Kept) (e : Epoch) (lease : ℕ) → k.durable.lease < e.0 / 256 → lease_for (e.0 / 256) ≡ Some lease
       → CommitNext t opening m reading q (Known e) k (Some (Extends lease)) (Known e)
   IsCovered : (k : Kept) (e : Epoch) → e.0 / 256 ≤ k.durable.lease → CommitNext t opening m reading q (Known e) k None (Checking e)
-  Stores : (k : Kept) (e : Epoch) → IsAllowed t opening q.first e k.durable m.stamps (own_writes t q.writes) → blocks (own_writes t q.writes) ≤ k.free
+  Stores : (k : Kept) (e : Epoch) → IsAllowed t opening q.first e k.durable m.stamps (own_writes t q.writes)
       → CommitNext t opening m reading q (Checking e) k (Some (Prepares (led_entry t q e) (own_writes t q.writes))) (Stored e)
 
 -- the attempt is ended at its epoch
