@@ -1,5 +1,5 @@
 -- What a Fetch comes to at each answer of the store.
-use Rattle.std.proofs.Common.{ℕ, ◌≡◌, ◌≤◌, ◌+◌, refl, sym, subst, List, Contains, filter, Option, Some}
+use Rattle.std.proofs.Common.{ℕ, ◌≡◌, ◌≤◌, ◌+◌, refl, sym, subst, List, Contains, filter, Option, Some, true, Result, Err}
 use Rattle.daos_base.specs.declared.answer.Answer.{Answer}
 use Rattle.daos_base.specs.declared.entry.Settle.TheVariants.{Commit}
 use Rattle.daos_base.specs.declared.epoch.Epoch.{Epoch}
@@ -21,7 +21,9 @@ use Rattle.world_turns.specs.Turns.{CutShort, Reached}
 use Rattle.target_core.specs.declared.reads.Met.{Met}
 use Rattle.target_core.specs.declared.reads.Met.TheVariants as met
 use Rattle.target_core.specs.Meets.{Meets, Replies}
-use Rattle.target_core.specs.Parts.{Answered, Now, WasCut, kept}
+use Rattle.target_core.specs.declared.halt.Halt.{Halt}
+use Rattle.target_core.specs.declared.halt.Halt.TheVariants as halt
+use Rattle.target_core.specs.Parts.{Answered, Now, WasCut, kept, Part}
 use Rattle.target_core.proofs.Turning.{cut_in_change, now_stays, reached_change, whole}
 
 module _ (t : TargetPlan) (m : TargetMemory) (reading : ℕ) (q : FetchRequest) (e : Epoch) (start : FetchStage) (old : Kept) (decided : List AttemptId) where
@@ -86,3 +88,14 @@ module _ (t : TargetPlan) (m : TargetMemory) (reading : ℕ) (q : FetchRequest) 
       let says = subst (Meets t q e d) is a.holds in
       cut_in_change (FetchNext t m reading q) start old (Reading e decided) (kept d k) (Settles b Commit) (Reading e (filter (is_other_attempt b) decided)) finds
       (now_stays (λ l. Reached (FetchNext t m reading q) start old (Reading e decided) l) d h k mid a.stays r) (SettlesOwn (kept d k) e decided b says.0 says.1 among) cut
+
+  -- it was replied, but memory was wanting for the timestamps
+  pub replies_wanting : (r : Reply) (new : Option Durable) (k : State) (finds : Durable → Type 0) (y : Result Reply Halt) → y ≡ Err halt.Memory
+      → Now new k (Replies t m reading q e start decided old r) → Part (FetchNext t m reading q) start old (Replies t m reading q e start decided old) new k finds y
+  replies_wanting r new k finds y is now =
+      let turn = now.holds (record { client = true; number = 0 }) in
+      subst (λ z. Part (FetchNext t m reading q) start old (Replies t m reading q e start decided old) new k finds z) (sym is) (record {
+        durable = now.durable;
+        kept_is = now.kept_is;
+        holds = record { last = turn.last; reached = turn.reached };
+      })

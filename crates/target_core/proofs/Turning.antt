@@ -70,6 +70,10 @@ pub part_cut : {S U : Type 0} (Next : S → Kept → Option Change → S → Typ
     → y ≡ Err halt.Stopped → CutShort Next start old finds → Part Next start old Done new k finds y
 part_cut Next start old Done new k finds y is cut = subst (λ r. Part Next start old Done new k finds r) (sym is) cut
 
+pub part_same : {S U : Type 0} (Next : S → Kept → Option Change → S → Type 0) (start : S) (old : Kept) (Done : U → Kept → Type 0) (new : Option Durable) (k : State) (finds : Durable → Type 0) (y z : Result U Halt)
+    → y ≡ z → Part Next start old Done new k finds z → Part Next start old Done new k finds y
+part_same Next start old Done new k finds y z is part = subst (λ r. Part Next start old Done new k finds r) (sym is) part
+
 -- memory was wanting at the start
 pub now_partway : {S : Type 0} (Next : S → Kept → Option Change → S → Type 0) (start : S) (d : Durable) (h k : State) (new : Option Durable) → Stays d h new k → Now new k (Partway Next start (kept d h))
 now_partway Next start d h k new s = record {

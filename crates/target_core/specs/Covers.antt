@@ -1,5 +1,5 @@
 -- The lease is stored before what it is to cover.
-use Rattle.std.specs.Prelude.{ℕ, ◌≡◌, ◌≤◌, ◌<◌, Option, Some, None, Result, Ok, Err}
+use Rattle.std.specs.Prelude.{◌/◌, ℕ, ◌≡◌, ◌≤◌, ◌<◌, Option, Some, None, Result, Ok, Err}
 use Rattle.std.specs.Option.{option_map}
 use Rattle.daos_base.specs.declared.epoch.Epoch.{Epoch}
 use Rattle.daos_base.specs.Epochs.{heard_ticks, lease_for}
@@ -9,7 +9,7 @@ use Rattle.vos_store.specs.Calls.{State}
 use Rattle.vos_store.specs.declared.refusal.Stopped.{Stopped}
 use Rattle.world_turns.specs.Changes.{Extends}
 use Rattle.world_turns.specs.Requests.{epoch_of_ticks}
-use Rattle.target_core.specs.Parts.{Did, WasCut}
+use Rattle.target_core.specs.Parts.{Did, Stays, WasCut}
 
 -- the lease covers the ticks: it did, or it was extended
 pub data Covers (ticks : ℕ) (d : Durable) (h : State) (new : Option Durable) (k : State) : Type 0 where
@@ -36,3 +36,10 @@ epoch_for clock reading tracker (Some e) = Some e
 abbrev pub heard_of : Option Epoch → Clock → Clock
 heard_of None clock = clock
 heard_of (Some e) clock = record clock { ticks = heard_ticks clock.ticks e.0 }
+
+-- The epoch of a request is known and covered; or there is none, and nothing was changed; or extending the lease for it
+-- was cut.
+abbrev pub ReadiesOrCut : Option Epoch → Durable → State → Option Durable → State → (Durable → Type 0) → Result (Option Epoch) Stopped → Type 0
+ReadiesOrCut wanted d h new k finds (Ok None) = (wanted ≡ None) × Stays d h new k
+ReadiesOrCut wanted d h new k finds (Ok (Some e)) = (wanted ≡ Some e) × Covers (e.0 / 256) d h new k
+ReadiesOrCut wanted d h new k finds (Err s) = (e : Epoch) × (wanted ≡ Some e) × CoverCut (e.0 / 256) d finds

@@ -3,6 +3,7 @@ use Rattle.std.specs.Prelude.{ℕ, ◌≡◌, ◌<◌, ◌^◌, true, List, Some
 use Rattle.daos_base.specs.declared.entry.Settle.TheVariants.{Commit}
 use Rattle.daos_base.specs.declared.epoch.Epoch.{Epoch}
 use Rattle.daos_base.specs.declared.id.AttemptId.{AttemptId}
+use Rattle.daos_base.specs.declared.shown.Shown.{Shown}
 use Rattle.daos_messages.specs.declared.actor.ActorId.{ActorId}
 use Rattle.daos_messages.specs.declared.message.Reply.{Reply}
 use Rattle.daos_messages.specs.declared.message.Reply.TheVariants as reply
@@ -40,6 +41,11 @@ Meets t q e d (met.Answer b) = (fetch_cause t q e d ≡ None) × (fetched q.read
 abbrev pub memory_replied : FetchRequest → Epoch → List AttemptId → Reply → TargetMemory → TargetMemory
 memory_replied q e decided (reply.Answer b) m = record (memory_then q e decided m) { stamps = stamps_with q e m.stamps }
 memory_replied q e decided (reply.Outcome o) m = memory_then q e decided m
+
+-- the timestamps once a target replied to a Fetch
+abbrev pub stamps_replied : FetchRequest → Epoch → Reply → List Shown → List Shown
+stamps_replied q e (reply.Answer b) stamps = stamps_with q e stamps
+stamps_replied q e (reply.Outcome o) stamps = stamps
 
 -- a Fetch from this stage on came to its end by this reply, whoever asked
 abbrev pub Replies : TargetPlan → TargetMemory → ℕ → FetchRequest → Epoch → FetchStage → List AttemptId → Kept → Reply → Kept → Type 0

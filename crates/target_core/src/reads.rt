@@ -10,7 +10,7 @@ ghost use Rattle.daos_model.specs.Forms.{is_path_in_form, is_read_in_form};
 ghost use Rattle.world_base.specs.declared.target.TargetMemory.{TargetMemory};
 ghost use Rattle.world_turns.specs.Reads.{FetchNext, FetchStage, later_of, later_unless, uncertain_to};
 ghost use Rattle.target_core.specs.Halts.{halt_stop};
-ghost use Rattle.target_core.specs.Meets.{AreDecided, HasEpochs, Meets, Replies};
+ghost use Rattle.target_core.specs.Meets.{AreDecided, HasEpochs, Meets, Replies, stamps_replied};
 ghost use Rattle.target_core.specs.Parts.{Asks, Part, Runs, kept};
 
 use crate::decided::{is_among, remove};
@@ -24,6 +24,7 @@ use daos_base::path::Path;
 use daos_base::shown::Shown;
 use daos_messages::message::Reply;
 use vos_stamp::checks::check_read;
+use vos_stamp::stamps::Stamps;
 use vos_store::refusal::FetchNo;
 use vos_store::store::Store;
 use world_base::request::FetchRequest;
@@ -134,9 +135,9 @@ fn restarts(cause: Cause) -> Reply
     Reply::Outcome(Outcome::Restart(cause))
 }
 
-/// Answers a read at an epoch that the lease covers. Decided attempts that stand in its way are
-/// settled first, and go from their list.
-pub fn serve<S: Store>(
+// Answers a read at an epoch that the lease covers. Decided attempts that stand in its way are settled
+// first, and go from their list.
+fn serve<S: Store>(
     store: &mut S,
     decided: &mut Vec<AttemptId>,
     plan: TargetPlan,
@@ -168,4 +169,38 @@ pub fn serve<S: Store>(
             }
         }
     }
+}
+
+/// Answers a read at an epoch that the lease covers, and raises its timestamps where it was answered and
+/// isn't at a snapshot. Decided attempts that stand in its way are settled first, and go from their list.
+///
+/// # Errors
+///
+/// `Stopped` where the store stopped; else for want of memory.
+pub fn read<S: Store>(
+    store: &mut S,
+    stamps: &mut Stamps,
+    decided: &mut Vec<AttemptId>,
+    plan: TargetPlan,
+    request: &FetchRequest,
+    epoch: Epoch,
+) -> Result<Reply, Halt>
+    requires form { is_read_in_form request.now.read ≡ true }
+    requires running { (S.state store.old).stopped ≡ false }
+    requires enlisted { ForSome (S.durable store.old) (λ d. is_enlisted d (read_path request.now.read).cont ≡ true) }
+    requires epochs { ForSome (S.durable store.old) HasEpochs }
+    requires decided { ForSome (S.durable store.old) (AreDecided decided.old.items) }
+    ensures runs { Runs halt_stop result (S.state store.old) (S.state store.new) (S.durable store.old) (S.durable store.new) }
+    ensures served { (d : Durable) → S.durable store.old ≡ Some d → (m : TargetMemory) (reading : ℕ)
+        → Part (FetchNext plan m reading request.now) (FetchStage.Reading epoch decided.old.items) (kept d (S.state store.old))
+        (Replies plan m reading request.now epoch (FetchStage.Reading epoch decided.old.items) decided.new.items (kept d (S.state store.old)))
+        (S.durable store.new) (S.state store.new) (S.may store.new) result }
+    ensures decided { IfOk result (λ _. ForSome (S.durable store.new) (AreDecided decided.new.items)) }
+    ensures stamps { IfOk result (λ reply. stamps.new ≡ stamps_replied request.now epoch reply stamps.old) }
+{
+    let reply = serve(store, decided, plan, request, epoch)?;
+    if matches!(reply, Reply::Answer(_)) && !request.snapshot {
+        stamps.read(request.read.path(), epoch, request.attempt)?;
+    }
+    Ok(reply)
 }
