@@ -463,7 +463,7 @@ with_first m did = record { posts = listed m.post ++ did.posts; lines = listed m
 -- a turn in which a message is heard: the client hears it, and goes on unless that ended its turn
 pub data HearTurn (p : ClientPlan) (c : ClientState) (m : Message) (did : Did) (d : ClientState) : Type 0 where
   Ended_by : (heard p c m).over ≡ true → did ≡ record { posts = listed (heard p c m).post; lines = listed (heard p c m).line; issued = None } → d ≡ (heard p c m).state → HearTurn p c m did d
-  Went_on : (rest : Did) → (heard p c m).over ≡ false → ClientDid p (heard p c m).state rest d → did ≡ with_first (heard p c m) rest → HearTurn p c m did d
+  Heard_on : (rest : Did) → (heard p c m).over ≡ false → ClientDid p (heard p c m).state rest d → did ≡ with_first (heard p c m) rest → HearTurn p c m did d
 
 -- ---- the beginning of a run
 
