@@ -6,3 +6,4 @@ pub mod Hearing
 pub mod Kept
 pub mod Lighter
 pub mod TurnSteps
+pub mod Plans

@@ -6,7 +6,7 @@ use Rattle.daos_messages.specs.declared.message.Post.{Post}
 use Rattle.world_base.specs.declared.client.ClientPlan.{ClientPlan}
 use Rattle.world_base.specs.declared.client.ClientState.{ClientState}
 use Rattle.world_base.specs.declared.did.Did.{Did}
-use Rattle.world_base.specs.ClientTurns.{ClientDid, HearTurn, Ended_by, Went_on, Move, Moves, None_yet, One_more, heard, listed, moved, with_first}
+use Rattle.world_base.specs.ClientTurns.{ClientDid, HearTurn, Ended_by, Heard_on, Move, Moves, None_yet, One_more, heard, listed, moved, with_first}
 use Rattle.client_core.specs.declared.turns.Turn.{Turn}
 use Rattle.client_core.specs.Clients.{GoesOnFrom, IsInPlace, PlanFits}
 use Rattle.client_core.proofs.Kept.{heard_kept, moved_kept}
@@ -96,7 +96,7 @@ hear_ended p c m step did is over adds = Ended_by
 hear_went_on_from :
     (p : ClientPlan) (c : ClientState) (m : Message) (step : Move) (did : Did) (t : Turn)
     → step ≡ heard p c m → step.over ≡ false → Adds step nothing did → GoesOnFrom p (record { did = did; state = step.state }) t → HearTurn p c m t.did t.state
-hear_went_on_from p c m step did t is on adds goes = Went_on
+hear_went_on_from p c m step did t is on adds goes = Heard_on
     goes.rest
     (sym (ap (λ (x : Move). x.over) is) ∙ on)
     (subst (λ (x : Move). ClientDid p x.state goes.rest t.state) is goes.goes_on)

@@ -1,10 +1,11 @@
-// A client's turn: it runs its commands in order, attempt by attempt, by messages to targets.
+// A client of a run: it runs its commands in order, attempt by attempt, by messages to targets.
 #![tactic(auto)]
 
-pub mod asks;
-pub mod ends;
-pub mod hears;
-pub mod joins;
-pub mod moves;
-pub mod step;
-pub mod turns;
+mod asks;
+pub mod client;
+mod ends;
+mod hears;
+mod joins;
+mod moves;
+mod step;
+mod turns;

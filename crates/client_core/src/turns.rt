@@ -1,7 +1,7 @@
 // A client's turn, from where it goes on.
 ghost use Rattle.std.specs.Prelude.{◌≡◌, ◌++◌, [], IfOk};
 ghost use Rattle.client_core.specs.Clients.{GoesOnFrom, IsInPlace, PlanFits};
-ghost use Rattle.world_base.specs.ClientTurns.{HearTurn, listed};
+ghost use Rattle.world_base.specs.ClientTurns.{HearTurn, NextTurn, listed};
 
 use crate::hears::heard;
 use crate::moves::moved;
@@ -95,4 +95,19 @@ pub(crate) fn hears(
     } else {
         goes_on(alloc, plan, turn)
     }
+}
+
+// A turn without a message: a turn that is skipped is counted; else the client goes on.
+pub(crate) fn next(alloc: Global, plan: &ClientPlan, mut state: ClientState) -> Result<Turn, Memory>
+    requires fits { PlanFits plan.now }
+    requires place { IsInPlace plan.now state }
+    ensures turn { IfOk result (λ t. NextTurn plan.now state t.did t.state) }
+    ensures place { IfOk result (λ t. IsInPlace plan.now t.state) }
+{
+    let did = nothing(alloc);
+    if state.skip > 0 {
+        state.skip -= 1;
+        return Ok(Turn { did, state });
+    }
+    goes_on(alloc, plan, Turn { did, state })
 }
