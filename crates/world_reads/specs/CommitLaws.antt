@@ -1,5 +1,5 @@
 -- A turn in which a target hears a Commit leaves what it keeps and serves sound, and so does idle work.
-use Rattle.std.specs.Prelude.{ℕ, ◌≡◌, ◌≢◌, ◌⊎◌, ◌≤◌, ◌/◌, ◌++◌, true, false, List, [], ◌∷◌, Contains, Option, Some, refl}
+use Rattle.std.specs.Prelude.{ℕ, ◌≡◌, ◌≢◌, ◌⊎◌, ◌≤◌, ◌/◌, ◌++◌, true, false, List, [], ◌∷◌, Contains, Option, Some, None, refl}
 use Rattle.std.proofs.Common.{sym, ◌∙◌, ap, subst, inl, inr}
 use Rattle.daos_base.specs.declared.entry.Entry.{Entry}
 use Rattle.daos_base.specs.declared.epoch.Epoch.{Epoch}
@@ -10,10 +10,13 @@ use Rattle.daos_base.specs.Operations.{write_path}
 use Rattle.daos_base.specs.Placement.{path_members}
 use Rattle.daos_laws.specs.Members.{Has, any-has, contains-from_has, has-any, has-filter, has-from_contains, has-from_filter}
 use Rattle.daos_laws.specs.TargetLaws.{number_same, same_number}
+use Rattle.daos_base.specs.declared.outcome.Outcome.TheVariants as outcome
 use Rattle.daos_messages.specs.declared.actor.ActorId.{ActorId}
+use Rattle.daos_messages.specs.declared.message.Message.TheVariants.{Ended}
 use Rattle.daos_model.specs.declared.durable.Durable.{Durable}
 use Rattle.daos_model.specs.declared.durable.Version.{Version}
 use Rattle.daos_model.specs.Accesses.{minor_writes}
+use Rattle.daos_model.specs.Blocks.{blocks}
 use Rattle.daos_model.specs.BoolLaws.{clash}
 use Rattle.daos_model.specs.Changes.{prepared}
 use Rattle.daos_model.specs.Durables.{attempt_key, same_attempt}
@@ -26,9 +29,10 @@ use Rattle.world_base.specs.declared.request.CommitRequest.{CommitRequest}
 use Rattle.world_base.specs.declared.target.TargetMemory.{TargetMemory}
 use Rattle.world_base.specs.declared.world.World.{World}
 use Rattle.world_events.specs.Events.{Rules, listed, target_plan}
-use Rattle.world_reads.specs.DecideLaws.{AreItsOwn, IsNewEntry, no-entry, old-decided}
+use Rattle.world_events.specs.Letters.{client}
+use Rattle.world_reads.specs.DecideLaws.{AreItsOwn, IsNewEntry, new-decided, no-entry, old-decided}
 use Rattle.world_reads.specs.EntryLaws.{same-itself}
-use Rattle.world_reads.specs.FetchLaws.{issued-now, nothing-new}
+use Rattle.world_reads.specs.FetchLaws.{issued-now, nothing-new, only-said}
 use Rattle.world_reads.specs.Given.{IsCommitRight, IsItsEpoch}
 use Rattle.world_reads.specs.History.{History, Served, decides}
 use Rattle.world_reads.specs.HoldLaws.{decides-holds, decides-open, settles-holds}
@@ -40,7 +44,7 @@ use Rattle.world_reads.specs.Versions.{IsWriteAt}
 use Rattle.world_turns.specs.Changes.{Change, Kept, Steps}
 use Rattle.world_turns.specs.Commits as commit
 use Rattle.world_turns.specs.Idle.{AllSettled, IdleEnds, IdleNext, SettlesFirst}
-use Rattle.world_turns.specs.Requests.{request_epoch}
+use Rattle.world_turns.specs.Requests.{issued_for, request_epoch}
 use Rattle.world_turns.specs.TargetTurns.{IdlesWhole}
 use Rattle.world_turns.specs.Turns.{Whole}
 
@@ -76,7 +80,8 @@ Mid r o held h opening t m reading q (commit.Stored e) k =
     Sound r o held (decides h q.attempt e) opening t k.durable (put attempt_key q.attempt m.decided) m.stamps × (request_epoch (target_plan r t) m reading q.tracker q.ep ≡ Some e)
 
 -- what a Commit is heard with: it is right, its epoch is its own, what was decided was issued, and what was served was served here
-pub record HearsCommit (r : Rules) (o : Opening) (held : List Version) (h : History) (w : World) (t : ℕ) (m : TargetMemory) (reading : ℕ) (q : CommitRequest) : Type 0 where
+pub record HearsCommit (r : Rules) (o : Opening) (held : List Version) (h : History) (w : World) (t : ℕ) (m : TargetMemory) (reading : ℕ) (q : CommitRequest) (from : ActorId) : Type 0 where
+  pub sender : from ≡ client q.attempt.client
   pub right : IsCommitRight r h q.attempt q.writes
   pub epochs : (e : Epoch) → request_epoch (target_plan r t) m reading q.tracker q.ep ≡ Some e → IsItsEpoch o w q.attempt q.ep e
   pub issued : (y : AttemptId) (f : Epoch) → Contains h.decided (y, f) → Contains w.issued (y, f)
@@ -84,7 +89,7 @@ pub record HearsCommit (r : Rules) (o : Opening) (held : List Version) (h : Hist
   pub here : (z : Served) → Contains h.served z → z.target ≡ t
 
 module _ (r : Rules) (o : Opening) (held : List Version) (h : History) (w : World) (opening : Epoch × FloorWhy) (t : ℕ) (m : TargetMemory) (reading : ℕ) (q : CommitRequest) (from : ActorId) where
-  commit-stores : HearsCommit r o held h w t m reading q → (e : Epoch) (d : Durable) → request_epoch (target_plan r t) m reading q.tracker q.ep ≡ Some e → e.0 / 256 ≤ d.lease
+  commit-stores : HearsCommit r o held h w t m reading q from → (e : Epoch) (d : Durable) → request_epoch (target_plan r t) m reading q.tracker q.ep ≡ Some e → e.0 / 256 ≤ d.lease
       → commit.IsAllowed (target_plan r t) opening q.first e d m.stamps (commit.own_writes (target_plan r t) q.writes) → Sound r o held h opening t d m.decided m.stamps
       → Sound r o held (decides h q.attempt e) opening t (prepared (commit.led_entry (target_plan r t) q e) (commit.own_writes (target_plan r t) q.writes) d) (put attempt_key q.attempt m.decided) m.stamps
   commit-stores c e d has covered allowed k = record {
@@ -114,7 +119,7 @@ module _ (r : Rules) (o : Opening) (held : List Version) (h : History) (w : Worl
         fits = λ w i. c.right.fits w (subst (λ ws. Contains ws w) (sym c.right.its) i);
       }
 
-  commit-step : HearsCommit r o held h w t m reading q → (s : commit.CommitStage) (k : Kept) (c : Option Change) (u : commit.CommitStage) (l : Kept) → commit.CommitNext (target_plan r t) opening m reading q s k c u
+  commit-step : HearsCommit r o held h w t m reading q from → (s : commit.CommitStage) (k : Kept) (c : Option Change) (u : commit.CommitStage) (l : Kept) → commit.CommitNext (target_plan r t) opening m reading q s k c u
       → Steps c k l → Mid r o held h opening t m reading q s k → Mid r o held h opening t m reading q u l
   commit-step given s k c u l (commit.HasEpoch k' e its) steps p = (subst (λ n. Sound r o held h opening t n.durable m.decided m.stamps) (sym steps) p, its)
   commit-step given s k c u l (commit.ExtendsLease k' e lease low is) steps p =
@@ -126,19 +131,35 @@ module _ (r : Rules) (o : Opening) (held : List Version) (h : History) (w : Worl
     p.1,
   )
 
-  commit-ends : HearsCommit r o held h w t m reading q → (s : commit.CommitStage) (k : Kept) (left : TargetMemory × Did) → commit.CommitEnds (target_plan r t) opening m reading q from s k left
+  commit-ends : HearsCommit r o held h w t m reading q from → (s : commit.CommitStage) (k : Kept) (left : TargetMemory × Did) → commit.CommitEnds (target_plan r t) opening m reading q from s k left
       → Mid r o held h opening t m reading q s k → TurnLeaves r o held h w opening t k left
-  commit-ends c s k left (commit.IsSpent k' left' none is) p = nothing-new r o held h w opening t k left (subst (λ n. Sound r o held h opening t k.durable n.0.decided n.0.stamps) (sym is) p)
-  commit-ends c s k left (commit.IsRefused k' e why left' by is) p = nothing-new r o held h w opening t k left (subst (λ n. Sound r o held h opening t k.durable n.0.decided n.0.stamps) (sym is) p.0)
-  commit-ends c s k left (commit.HasNoSpace k' e left' allowed few is) p = nothing-new r o held h w opening t k left (subst (λ n. Sound r o held h opening t k.durable n.0.decided n.0.stamps) (sym is) p.0)
+  commit-ends c s k left (commit.IsSpent k' left' none is) p =
+      nothing-new r o held h w opening t k left (subst (λ n. Sound r o held h opening t k.durable n.0.decided n.0.stamps) (sym is) p)
+      (only-said h from (Ended q.attempt None outcome.EpochsSpent) None left.1 (ap (λ n. n.1) is) tt)
+  commit-ends c s k left (commit.IsRefused k' e why left' by is) p =
+      nothing-new r o held h w opening t k left (subst (λ n. Sound r o held h opening t k.durable n.0.decided n.0.stamps) (sym is) p.0)
+      (only-said h from (Ended q.attempt (Some e) (outcome.Restart why)) (issued_for q.attempt q.ep e) left.1 (ap (λ n. n.1) is) tt)
+  commit-ends c s k left (commit.HasNoSpace k' e left' allowed few is) p =
+      nothing-new r o held h w opening t k left (subst (λ n. Sound r o held h opening t k.durable n.0.decided n.0.stamps) (sym is) p.0)
+      (only-said h from (Ended q.attempt (Some e) (outcome.NoSpace t (blocks (commit.own_writes (target_plan r t) q.writes)) k.free)) (issued_for q.attempt q.ep e) left.1 (ap (λ n. n.1) is) tt)
   commit-ends c s k left (commit.IsDecided k' e left' is) p = record {
     later = decides h q.attempt e;
     grew = record { decided = old-decided h q.attempt e; served = λ z j. j };
     sound = subst (λ n. Sound r o held (decides h q.attempt e) opening t k.durable n.0.decided n.0.stamps) (sym is) p.0;
     decided = λ x f i. by x f (has-from_contains ((q.attempt, e) ∷ h.decided) (x, f) i);
     served = λ z i. inl i;
+    says = only-said (decides h q.attempt e) from (Ended q.attempt (Some e) outcome.Committed) (issued_for q.attempt q.ep e) left.1 (ap (λ n. n.1) is) (e, refl, new-decided h q.attempt e);
+    tells = λ x f i. told x f (has-from_contains ((q.attempt, e) ∷ h.decided) (x, f) i);
   }
     where
+      told : (x : AttemptId) (f : Epoch) → Has (x, f) ((q.attempt, e) ∷ h.decided) → Contains h.decided (x, f) ⊎ Contains left.1.posts (record { to = client x.client; message = Ended x (Some f) outcome.Committed })
+      told x f (inl same) =
+          inr (subst (λ j. Contains left.1.posts (record { to = client j.0.client; message = Ended j.0 (Some j.1) outcome.Committed })) (sym same)
+          (subst (λ a. Contains left.1.posts (record { to = a; message = Ended q.attempt (Some e) outcome.Committed })) c.sender
+          (subst (λ n. Contains n.1.posts (record { to = from; message = Ended q.attempt (Some e) outcome.Committed })) (sym is)
+          (contains-from_has (record { to = from; message = Ended q.attempt (Some e) outcome.Committed } ∷ []) (record { to = from; message = Ended q.attempt (Some e) outcome.Committed }) (inl refl)))))
+      told x f (inr i) = inl (contains-from_has h.decided (x, f) i)
+
       own : (f : Epoch) → q.ep ≡ Some f → f ≡ e
       own f has = let same : Some f ≡ Some e = sym (ap (λ ep. request_epoch (target_plan r t) m reading q.tracker ep) has) ∙ p.1 in cc
 
@@ -155,7 +176,7 @@ module _ (r : Rules) (o : Opening) (held : List Version) (h : History) (w : Worl
       by x f (inr i) = inl (contains-from_has h.decided (x, f) i)
 
   -- the whole turn
-  pub commit-sound : HearsCommit r o held h w t m reading q → (old new : Kept) (left : TargetMemory × Did)
+  pub commit-sound : HearsCommit r o held h w t m reading q from → (old new : Kept) (left : TargetMemory × Did)
       → Whole (commit.CommitNext (target_plan r t) opening m reading q) (commit.CommitEnds (target_plan r t) opening m reading q from) commit.Asked old new left
       → Sound r o held h opening t old.durable m.decided m.stamps → TurnLeaves r o held h w opening t new left
   commit-sound c old new left turn k =
@@ -188,6 +209,7 @@ module _ (r : Rules) (o : Opening) (held : List Version) (h : History) (w : Worl
   idle-ends s k left (AllSettled k' left' is) p =
       nothing-new r o held h w opening t k left
       (subst (λ n. Sound r o held h opening t k.durable n.0.decided n.0.stamps) (sym is) (record { holds = p.0; unsettled = λ x i. absurd (has-from_contains [] x i); shows = p.1 }))
+      (λ p i. absurd (has-from_contains [] p (subst (λ n. Contains n.1.posts p) is i)))
 
   -- the whole of it
   pub idle-sound : (old new : Kept) (left : TargetMemory × Did) → IdlesWhole m old new left → Sound r o held h opening t old.durable m.decided m.stamps → TurnLeaves r o held h w opening t new left

@@ -162,14 +162,14 @@ module _ (r : Rules) (o : Opening) (held : ℕ → List Version) (h : History) (
 -- ---- turns
 
 hears-sound : (r : Rules) (o : Opening) (held : ℕ → List Version) (h : History) (w : World) (t : ℕ) (s : TargetState) (reading : ℕ) (from : ActorId) (m : Message) (new : Kept) (left : TargetMemory × Did)
-    → Given r o held h w → Versions r o held h w → Reads r o h w → slice_get w.targets t ≡ Some s → s.life ≡ Running → IsMessageRight r o h w t s m
+    → Given r o held h w → Versions r o held h w → Reads r o h w → slice_get w.targets t ≡ Some s → s.life ≡ Running → IsMessageRight r o h w t s from m
     → Hears (target_plan r t) s.opening s.memory reading from m (kept s) new left → TurnLeaves r o (held t) h w s.opening t new left
 hears-sound r o held h w t s reading from (message.Fetch x op group ep first tracker read snapshot) new left given versions reads here runs right turn =
     fetch-sound r o (held t) h w s.opening t s.memory reading (record { attempt = x; op = op; group = group; ep = ep; first = first; tracker = tracker; read = read; snapshot = snapshot }) from
     right.0 (right.1 reading) (kept s) new left turn (turn-begins r o held h w t s here runs versions reads)
 hears-sound r o held h w t s reading from (message.Commit x ep first tracker ws) new left given versions reads here runs right turn =
     commit-sound r o (held t) h w s.opening t s.memory reading (record { attempt = x; ep = ep; first = first; tracker = tracker; writes = ws }) from
-    (record { right = right.0; epochs = right.1 reading; issued = versions.issued; before = given.before t; here = served-here r o h w t given.one (given.alone t s here) reads })
+    (record { sender = right.2; right = right.0; epochs = right.1 reading; issued = versions.issued; before = given.before t; here = served-here r o h w t given.one (given.alone t s here) reads })
     (kept s) new left turn (turn-begins r o held h w t s here runs versions reads)
 hears-sound r o held h w t s reading from other new left given versions reads here runs right turn = absurd turn
 

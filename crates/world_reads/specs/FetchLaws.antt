@@ -7,7 +7,12 @@ use Rattle.daos_base.specs.declared.id.AttemptId.{AttemptId}
 use Rattle.daos_base.specs.declared.outcome.FloorWhy.{FloorWhy}
 use Rattle.daos_base.specs.Operations.{read_path}
 use Rattle.daos_laws.specs.Members.{Has, contains-from_has, has-from_contains}
+use Rattle.daos_base.specs.declared.outcome.Cause.TheVariants as cause
+use Rattle.daos_base.specs.declared.outcome.Outcome.TheVariants as outcome
 use Rattle.daos_messages.specs.declared.actor.ActorId.{ActorId}
+use Rattle.daos_messages.specs.declared.message.Message.{Message}
+use Rattle.daos_messages.specs.declared.message.Post.{Post}
+use Rattle.daos_messages.specs.declared.message.Reply.TheVariants as reply
 use Rattle.daos_model.specs.declared.durable.Version.{Version}
 use Rattle.daos_model.specs.BoolLaws.{clash}
 use Rattle.daos_model.specs.Opening.{Opening}
@@ -20,10 +25,11 @@ use Rattle.world_reads.specs.Given.{IsFetchRight, IsItsEpoch}
 use Rattle.world_reads.specs.History.{History, Served, serves}
 use Rattle.world_reads.specs.Midway.{Sound, TurnLeaves}
 use Rattle.world_reads.specs.ServedLaws.{free-read, holds-served, serves-shows}
+use Rattle.world_reads.specs.Told.{IsTrue}
 use Rattle.world_reads.specs.StepLaws.{extends-sound, lease-settled, path-keeps, settles-sound}
 use Rattle.world_turns.specs.Changes.{Change, Kept, Steps}
 use Rattle.world_turns.specs.Reads as read
-use Rattle.world_turns.specs.Requests.{is_other_attempt, issued_for, request_epoch, with_ticks}
+use Rattle.world_turns.specs.Requests.{is_other_attempt, issued_for, request_epoch, says, with_ticks}
 use Rattle.world_turns.specs.Turns.{Whole}
 
 -- ---- epochs of requests
@@ -33,15 +39,25 @@ pub issued-now : (w : World) (o : Opening) (x : AttemptId) (ep : Option Epoch) (
 issued-now w o x None e is same = Contains-push w.issued (x, e)
 issued-now w o x (Some f) e is same = Contains-append_left w.issued [] (x, e) (subst (λ g. Contains w.issued (x, g)) (same f refl) (is.own f refl))
 
+-- one message is said
+pub only-said : (h : History) (from : ActorId) (m : Message) (i : Option (AttemptId × Epoch)) (did : Did) → did ≡ says from m i → IsTrue h m → (p : Post) → Contains did.posts p → IsTrue h p.message
+only-said h from m i did is so p j = by (has-from_contains (record { to = from; message = m } ∷ []) p (subst (λ d. Contains d.posts p) is j))
+  where
+    by : Has p (record { to = from; message = m } ∷ []) → IsTrue h p.message
+    by (inl same) = subst (λ q. IsTrue h q.message) (sym same) so
+    by (inr none) = absurd none
+
 -- nothing more is decided or served
 pub nothing-new : (r : Rules) (o : Opening) (held : List Version) (h : History) (w : World) (opening : Epoch × FloorWhy) (t : ℕ) (new : Kept) (left : TargetMemory × Did)
-    → Sound r o held h opening t new.durable left.0.decided left.0.stamps → TurnLeaves r o held h w opening t new left
-nothing-new r o held h w opening t new left k = record {
+    → Sound r o held h opening t new.durable left.0.decided left.0.stamps → ((p : Post) → Contains left.1.posts p → IsTrue h p.message) → TurnLeaves r o held h w opening t new left
+nothing-new r o held h w opening t new left k so = record {
   later = h;
   grew = record { decided = λ i j. j; served = λ q j. j };
   sound = k;
   decided = λ x e i. inl i;
   served = λ q i. inl i;
+  says = so;
+  tells = λ x e i. inl i;
 }
 
 -- ---- stages of a Fetch
@@ -78,18 +94,23 @@ module _ (r : Rules) (o : Opening) (held : List Version) (h : History) (w : Worl
       → (s : read.FetchStage) (k : Kept) (left : TargetMemory × Did) → read.FetchEnds (target_plan r t) m reading q from s k left → Mid r o held h opening t m reading q s k
       → TurnLeaves r o held h w opening t k left
   fetch-ends asks epochs s k left (read.IsSpent k' left' at none is) p = nothing-new r o held h w opening t k left (subst (λ n. Sound r o held h opening t k.durable n.0.decided n.0.stamps) (sym is) p)
+      (only-said h from (read.fetched_message q None (reply.Outcome outcome.EpochsSpent)) None left.1 (ap (λ n. n.1) is) tt)
   fetch-ends asks epochs s k left (read.IsRefused k' e decided c left' why is) p =
       nothing-new r o held h w opening t k left
       (subst (λ n. Sound r o held h opening t k.durable n.0.decided n.0.stamps) (sym is) (subst (λ n. Sound r o held h opening t k.durable decided n) (sym (stamps-then e decided)) p.0))
+      (only-said h from (read.fetched_message q (Some e) (reply.Outcome (outcome.Restart c))) (issued_for q.attempt q.ep e) left.1 (ap (λ n. n.1) is) tt)
   fetch-ends asks epochs s k left (read.MeetsUnresolved k' e decided a left' none at apart is) p =
       nothing-new r o held h w opening t k left
       (subst (λ n. Sound r o held h opening t k.durable n.0.decided n.0.stamps) (sym is) (subst (λ n. Sound r o held h opening t k.durable decided n) (sym (stamps-then e decided)) p.0))
+      (only-said h from (read.fetched_message q (Some e) (reply.Outcome (outcome.Restart (cause.Unresolved a)))) (issued_for q.attempt q.ep e) left.1 (ap (λ n. n.1) is) tt)
   fetch-ends asks epochs s k left (read.IsServed k' e decided b left' none is-read is) p = record {
     later = serves h one;
     grew = record { decided = λ i j. j; served = λ z j. contains-from_has (one ∷ h.served) z (inr (has-from_contains h.served z j)) };
     sound = subst (λ n. Sound r o held (serves h one) opening t k.durable n.0.decided n.0.stamps) (sym is) (subst (λ n. Sound r o held (serves h one) opening t k.durable decided n) (sym stamps) served);
     decided = λ x f i. inl i;
     served = λ z i. by z (has-from_contains (one ∷ h.served) z i);
+    says = only-said (serves h one) from (read.fetched_message q (Some e) (reply.Answer b)) (issued_for q.attempt q.ep e) left.1 (ap (λ n. n.1) is) (one, contains-from_has (one ∷ h.served) one (inl refl), refl, refl, refl, refl, refl);
+    tells = λ x f i. inl i;
   }
     where
       one : Served

@@ -9,6 +9,7 @@ use Rattle.daos_base.specs.declared.operation.Read.{Read}
 use Rattle.daos_base.specs.declared.operation.Write.{Write}
 use Rattle.daos_base.specs.Operations.{read_path, write_path}
 use Rattle.daos_base.specs.Placement.{ClassFits, groups}
+use Rattle.daos_messages.specs.declared.actor.ActorId.{ActorId}
 use Rattle.daos_messages.specs.declared.message.Message.{Message}
 use Rattle.daos_messages.specs.declared.message.Message.TheVariants as message
 use Rattle.daos_model.specs.declared.durable.Version.{Version}
@@ -21,7 +22,7 @@ use Rattle.world_base.specs.declared.target.TargetState.{TargetState}
 use Rattle.world_base.specs.declared.target.Life.TheVariants.{Running}
 use Rattle.world_base.specs.declared.world.World.{World}
 use Rattle.world_events.specs.Events.{Rules, target_plan}
-use Rattle.world_events.specs.Letters.{target}
+use Rattle.world_events.specs.Letters.{client, target}
 use Rattle.world_reads.specs.History.{History}
 use Rattle.world_reads.specs.Reads.{IsOfAttempt}
 use Rattle.world_turns.specs.Requests.{request_epoch}
@@ -40,7 +41,7 @@ HasItsEpoch r o w t s x ep tracker = (reading : ℕ) (e : Epoch) → request_epo
 abbrev pub FitsTargets : Rules → Write → Type 0
 FitsTargets r w = (obj : ObjId) × ((write_path w).obj ≡ Some obj) × ClassFits obj.class r.script.targets
 
--- what is asked to be committed: an attempt's writes, of which there are some; it isn't decided
+-- what is asked to be committed: an attempt's writes, of which there are some; it isn't decided yet
 pub record IsCommitRight (r : Rules) (h : History) (x : AttemptId) (ws : List MinorWrite) : Type 0 where
   pub its : ws ≡ minor_writes 0 (attempt_ops r.script x)
   pub some : ws ≢ []
@@ -58,10 +59,10 @@ pub record IsFetchRight (r : Rules) (t : ℕ) (x : AttemptId) (op group : ℕ) (
   pub fits : ClassFits obj.class r.script.targets
   pub within : group < groups obj.class r.script.targets
 
-abbrev pub IsMessageRight : Rules → Opening → History → World → ℕ → TargetState → Message → Type 0
-IsMessageRight r o h w t s (message.Fetch x op group ep first tracker read snapshot) = IsFetchRight r t x op group read snapshot × HasItsEpoch r o w t s x ep tracker
-IsMessageRight r o h w t s (message.Commit x ep first tracker ws) = IsCommitRight r h x ws × HasItsEpoch r o w t s x ep tracker
-IsMessageRight r o h w t s m = Unit {0}
+abbrev pub IsMessageRight : Rules → Opening → History → World → ℕ → TargetState → ActorId → Message → Type 0
+IsMessageRight r o h w t s from (message.Fetch x op group ep first tracker read snapshot) = IsFetchRight r t x op group read snapshot × HasItsEpoch r o w t s x ep tracker
+IsMessageRight r o h w t s from (message.Commit x ep first tracker ws) = IsCommitRight r h x ws × HasItsEpoch r o w t s x ep tracker × (from ≡ client x.client)
+IsMessageRight r o h w t s from m = Unit {0}
 
 -- target 0 is there alone; the opening's versions are below the run; and every message to a running target is right
 pub record Given (r : Rules) (o : Opening) (held : ℕ → List Version) (h : History) (w : World) : Type 0 where
@@ -69,4 +70,4 @@ pub record Given (r : Rules) (o : Opening) (held : ℕ → List Version) (h : Hi
   pub alone : (t : ℕ) (s : TargetState) → slice_get w.targets t ≡ Some s → t ≡ 0
   pub before : (t : ℕ) (v : Version) → Contains (held t) v → v.epoch.0 ≤ top o
   pub asked : (l : Letter) (t : ℕ) (s : TargetState) → Contains w.messages l → l.to ≡ target t → slice_get w.targets t ≡ Some s → s.life ≡ Running
-      → IsMessageRight r o h w t s l.message
+      → IsMessageRight r o h w t s l.from l.message

@@ -2,6 +2,7 @@
 pub mod History
 pub mod Versions
 pub mod Reads
+pub mod Told
 pub mod Midway
 pub mod Given
 pub mod EntryLaws

@@ -5,10 +5,13 @@ use Rattle.daos_base.specs.declared.epoch.Epoch.{Epoch}
 use Rattle.daos_base.specs.declared.id.AttemptId.{AttemptId}
 use Rattle.daos_base.specs.declared.operation.MinorWrite.{MinorWrite}
 use Rattle.daos_base.specs.declared.outcome.FloorWhy.{FloorWhy}
+use Rattle.daos_base.specs.declared.outcome.Outcome.TheVariants as outcome
 use Rattle.daos_base.specs.declared.shown.Shown.{Shown}
 use Rattle.daos_base.specs.Operations.{read_path}
 use Rattle.daos_base.specs.Paths.{overlaps}
 use Rattle.daos_laws.specs.Decided.{AreDecided}
+use Rattle.daos_messages.specs.declared.message.Message.TheVariants as message
+use Rattle.daos_messages.specs.declared.message.Post.{Post}
 use Rattle.daos_model.specs.declared.durable.Durable.{Durable}
 use Rattle.daos_model.specs.declared.durable.Version.{Version}
 use Rattle.daos_model.specs.Durables.{entry_of}
@@ -22,8 +25,10 @@ use Rattle.world_base.specs.declared.did.Did.{Did}
 use Rattle.world_base.specs.declared.target.TargetMemory.{TargetMemory}
 use Rattle.world_base.specs.declared.world.World.{World}
 use Rattle.world_events.specs.Events.{Rules, listed}
+use Rattle.world_events.specs.Letters.{client}
 use Rattle.world_reads.specs.History.{Grew, History, Served, transactions}
 use Rattle.world_reads.specs.Reads.{IsAnsweredRight, IsOfAttempt}
+use Rattle.world_reads.specs.Told.{IsTrue}
 use Rattle.world_reads.specs.Versions.{IsWriteAt, VersionsStand}
 use Rattle.world_turns.specs.Changes.{Kept}
 
@@ -62,10 +67,12 @@ pub record Sound (r : Rules) (o : Opening) (held : List Version) (h : History) (
   pub shows : Shows r o h opening t d stamps
 
 -- what a turn of a target leaves: what is kept and known is sound for what is decided and served then, and each epoch of these was
--- issued
+-- issued; what it says is so, and who is decided is told
 pub record TurnLeaves (r : Rules) (o : Opening) (held : List Version) (h : History) (w : World) (opening : Epoch × FloorWhy) (t : ℕ) (new : Kept) (left : TargetMemory × Did) : Type 0 where
   pub later : History
   pub grew : Grew h later
   pub sound : Sound r o held later opening t new.durable left.0.decided left.0.stamps
   pub decided : (x : AttemptId) (e : Epoch) → Contains later.decided (x, e) → Contains h.decided (x, e) ⊎ (Contains (w.issued ++ listed left.1.issued) (x, e) × (minor_writes 0 (attempt_ops r.script x) ≢ []))
   pub served : (q : Served) → Contains later.served q → Contains h.served q ⊎ Contains (w.issued ++ listed left.1.issued) (q.by, q.epoch)
+  pub says : (p : Post) → Contains left.1.posts p → IsTrue later p.message
+  pub tells : (x : AttemptId) (e : Epoch) → Contains later.decided (x, e) → Contains h.decided (x, e) ⊎ Contains left.1.posts (record { to = client x.client; message = message.Ended x (Some e) outcome.Committed })
