@@ -3,6 +3,7 @@ pub mod History
 pub mod Versions
 pub mod Reads
 pub mod Told
+pub mod AskLaws
 pub mod Midway
 pub mod Given
 pub mod EntryLaws
