@@ -18,5 +18,6 @@ pub mod ServedLaws
 pub mod StepLaws
 pub mod FetchLaws
 pub mod CommitLaws
+pub mod TellLaws
 pub mod Keeping
 pub mod EventLaws

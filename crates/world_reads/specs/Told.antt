@@ -1,5 +1,5 @@
 -- What targets say is so, and what was decided is told.
-use Rattle.std.specs.Prelude.{ℕ, ◌≡◌, ◌⊎◌, Option, Some, List, Contains}
+use Rattle.std.specs.Prelude.{ℕ, ◌≡◌, ◌⊎◌, true, Option, Some, List, Contains, slice_get}
 use Rattle.daos_base.specs.declared.epoch.Epoch.{Epoch}
 use Rattle.daos_base.specs.declared.id.AttemptId.{AttemptId}
 use Rattle.daos_base.specs.declared.outcome.Outcome.{Outcome}
@@ -10,8 +10,13 @@ use Rattle.daos_messages.specs.declared.message.Message.TheVariants as message
 use Rattle.daos_messages.specs.declared.message.Reply.{Reply}
 use Rattle.daos_messages.specs.declared.message.Reply.TheVariants as reply
 use Rattle.daos_model.specs.Attempts.{tries}
+use Rattle.world_base.specs.declared.client.ClientPlan.{ClientPlan}
+use Rattle.world_base.specs.declared.client.ClientState.{ClientState}
+use Rattle.world_base.specs.declared.client.Present.{Present}
 use Rattle.world_base.specs.declared.letter.Letter.{Letter}
 use Rattle.world_base.specs.declared.world.World.{World}
+use Rattle.world_base.specs.ClientTurns.{attempt_id}
+use Rattle.world_events.specs.Events.{Rules, client_plan}
 use Rattle.world_events.specs.Letters.{client}
 use Rattle.world_reads.specs.History.{History, Served}
 
@@ -41,3 +46,17 @@ HasEnd w x e = (a : Attempt) × Contains (tries w.lines) a × (a.id ≡ x) × (a
 pub record Told (h : History) (w : World) : Type 0 where
   pub says : (l : Letter) → Contains w.messages l → IsTrue h l.message
   pub ended : (x : AttemptId) (e : Epoch) → Contains h.decided (x, e) → IsEnding w x e ⊎ HasEnd w x e
+
+-- a client waits with an attempt, for which no other epoch than this was issued
+pub record IsAwaited (p : ClientPlan) (c : ClientState) (x : AttemptId) (e : Epoch) : Type 0 where
+  pub a : Present
+  pub present : c.present ≡ Some a
+  pub waiting : a.waits ≡ true
+  pub its : attempt_id p c a ≡ x
+  pub own : (f : Epoch) → a.epoch ≡ Some f → f ≡ e
+
+-- an end that is on its way to a client is awaited there
+abbrev pub EndsAreAwaited : Rules → World → Type 0
+EndsAreAwaited r w =
+    (l : Letter) (n : ℕ) (c : ClientState) (x : AttemptId) (e : Epoch) → Contains w.messages l → l.to ≡ client n → slice_get w.clients n ≡ Some c → l.message ≡ message.Ended x (Some e) outcome.Committed
+    → IsAwaited (client_plan r n) c x e
