@@ -1,5 +1,5 @@
 -- Every turn keeps the facts of versions and reads.
-use Rattle.std.specs.Prelude.{ℕ, ◌≡◌, ◌≢◌, ◌⊎◌, ◌≤◌, ◌/◌, ◌++◌, ◌==◌, Bool, true, false, List, [], ◌∷◌, Contains, slice_get, Some, refl}
+use Rattle.std.specs.Prelude.{ℕ, ◌≡◌, ◌≢◌, ◌⊎◌, ◌≤◌, ◌/◌, ◌++◌, ◌==◌, Bool, true, false, List, [], ◌∷◌, map, Contains, slice_get, Some, refl}
 use Rattle.std.proofs.Common.{sym, ◌∙◌, ap, subst, inl, inr}
 use Rattle.std.proofs.Math.ListN.{set}
 use Rattle.std.proofs.Math.Nat.{mod-one}
@@ -8,9 +8,11 @@ use Rattle.daos_base.specs.declared.entry.Entry.{Entry}
 use Rattle.daos_base.specs.declared.epoch.Epoch.{Epoch}
 use Rattle.daos_base.specs.declared.id.AttemptId.{AttemptId}
 use Rattle.daos_base.specs.Operations.{read_path}
-use Rattle.daos_laws.specs.Members.{contains-from_has, has-right}
+use Rattle.daos_laws.specs.Members.{Has, contains-from_has, has-from_contains, has-from_map, has-map, has-right}
 use Rattle.daos_laws.specs.TargetLaws.{number_same, same_number}
+use Rattle.daos_base.specs.declared.outcome.Outcome.TheVariants as outcome
 use Rattle.daos_messages.specs.declared.actor.ActorId.{ActorId}
+use Rattle.daos_messages.specs.declared.message.Post.{Post}
 use Rattle.daos_messages.specs.declared.message.Message.{Message}
 use Rattle.daos_messages.specs.declared.message.Message.TheVariants as message
 use Rattle.daos_model.specs.declared.durable.Version.{Version}
@@ -26,8 +28,9 @@ use Rattle.world_base.specs.declared.target.Life.TheVariants.{Running}
 use Rattle.world_base.specs.declared.target.TargetMemory.{TargetMemory}
 use Rattle.world_base.specs.declared.target.TargetState.{TargetState}
 use Rattle.world_base.specs.declared.world.World.{World}
-use Rattle.world_events.specs.Events.{ClientGoes, ClientHears, Rules, after_turn, kept, listed, target_after, target_plan, with_client, with_target}
-use Rattle.world_events.specs.Letters.{Takes, client, target}
+use Rattle.world_events.specs.Events.{ClientGoes, ClientHears, Rules, after_turn, client_plan, kept, listed, target_after, target_plan, with_client, with_epoch, with_target}
+use Rattle.world_base.specs.ClientTurns.{HearTurn}
+use Rattle.world_events.specs.Letters.{Takes, client, letter_of, letters_of, target}
 use Rattle.world_events.specs.StepLaws.{set-here, set-there}
 use Rattle.world_reads.specs.CommitLaws.{commit-sound, idle-sound}
 use Rattle.world_reads.specs.FetchLaws.{fetch-sound}
@@ -36,6 +39,9 @@ use Rattle.world_reads.specs.History.{History, Served}
 use Rattle.world_reads.specs.Keeping.{ClientsKeepReads, GoOn, HearingKeepsReads, IdlingKeepsReads, OthersKeepReads}
 use Rattle.world_reads.specs.Midway.{Sound, TurnLeaves}
 use Rattle.world_reads.specs.Reads.{IsGuarded, Reads}
+use Rattle.world_reads.specs.AskLaws.{hear-quiet, next-quiet}
+use Rattle.world_reads.specs.TellLaws.{apart-from-target, hears-end, left-among, left-or-taken, tells-on}
+use Rattle.world_reads.specs.Told.{HasEnd, IsTrue, Told}
 use Rattle.world_reads.specs.Versions.{IsWriteAt, Versions, VersionsStand}
 use Rattle.world_turns.specs.Changes.{Kept}
 use Rattle.world_turns.specs.TargetTurns.{Hears}
@@ -150,13 +156,35 @@ module _ (r : Rules) (o : Opening) (held : ℕ → List Version) (h : History) (
       issued q (inl i) = Contains-append_left w.issued (listed left.1.issued) (q.by, q.epoch) (before.issued q i)
       issued q (inr i) = i
 
-  goes-on : (v : World) → v ≡ After w t s new left rest → ((u : ℕ) (z : TargetState) → slice_get w.targets u ≡ Some z → u ≡ 0) → slice_get w.targets t ≡ Some s → Versions r o held h w → Reads r o h w
-      → TurnLeaves r o (held t) h w s.opening t new left → GoOn r o held h v
-  goes-on v after alone here versions reads k = record {
+  -- what was in flight to clients is left
+  told-after : ((z : Letter) → Contains rest z → Contains w.messages z) → ((z : Letter) (n : ℕ) → Contains w.messages z → z.to ≡ client n → Contains rest z) → Told h w
+      → (k : TurnLeaves r o (held t) h w s.opening t new left) → Told k.later (After w t s new left rest)
+  told-after among kept-there told k =
+      tells-on h k.later w (After w t s new left rest) rest (letters_of (target t) left.1.posts) (map (with_epoch w.issued) left.1.lines) k.grew told refl refl among said
+      (λ x e z i j to is. inl (kept-there z x.client j to)) (λ x e i. new-end x e (k.tells x e i))
+    where
+      said : (z : Letter) → Has z (letters_of (target t) left.1.posts) → IsTrue k.later z.message
+      said z i =
+          let p = has-from_map (letter_of (target t)) left.1.posts z i in
+          subst (λ y. IsTrue k.later y.message) p.2 (k.says p.0 (contains-from_has left.1.posts p.0 p.1))
+
+      new-end : (x : AttemptId) (e : Epoch) → Contains h.decided (x, e) ⊎ Contains left.1.posts (record { to = client x.client; message = message.Ended x (Some e) outcome.Committed })
+          → Contains h.decided (x, e) ⊎ ((z : Letter) × Has z (letters_of (target t) left.1.posts) × (z.to ≡ client x.client) × (z.message ≡ message.Ended x (Some e) outcome.Committed))
+      new-end x e (inl i) = inl i
+      new-end x e (inr i) =
+          inr (letter_of (target t) (record { to = client x.client; message = message.Ended x (Some e) outcome.Committed }),
+          has-map (letter_of (target t)) left.1.posts (record { to = client x.client; message = message.Ended x (Some e) outcome.Committed })
+          (has-from_contains left.1.posts (record { to = client x.client; message = message.Ended x (Some e) outcome.Committed }) i), refl, refl)
+
+  goes-on : (v : World) → v ≡ After w t s new left rest → ((u : ℕ) (z : TargetState) → slice_get w.targets u ≡ Some z → u ≡ 0) → slice_get w.targets t ≡ Some s
+      → ((z : Letter) → Contains rest z → Contains w.messages z) → ((z : Letter) (n : ℕ) → Contains w.messages z → z.to ≡ client n → Contains rest z)
+      → Versions r o held h w → Reads r o h w → Told h w → TurnLeaves r o (held t) h w s.opening t new left → GoOn r o held h v
+  goes-on v after alone here among kept-there versions reads told k = record {
     later = k.later;
     grew = k.grew;
     versions = subst (Versions r o held k.later) (sym after) (versions-after alone here versions k);
     reads = subst (Reads r o k.later) (sym after) (reads-after alone here reads k);
+    told = subst (Told k.later) (sym after) (told-after among kept-there told k);
   }
 
 -- ---- turns
@@ -174,14 +202,21 @@ hears-sound r o held h w t s reading from (message.Commit x ep first tracker ws)
 hears-sound r o held h w t s reading from other new left given versions reads here runs right turn = absurd turn
 
 pub hearing-keeps : HearingKeepsReads
-hearing-keeps r o held h w v given versions reads e =
-    goes-on r o held h w e.t e.s e.new (e.memory, e.did) e.rest v e.after given.alone e.here versions reads
+hearing-keeps r o held h w v given versions reads told e =
+    goes-on r o held h w e.t e.s e.new (e.memory, e.did) e.rest v e.after given.alone e.here (left-among w.messages e.l e.rest e.takes) kept-there versions reads told
     (hears-sound r o held h w e.t e.s e.reading e.l.from e.l.message e.new (e.memory, e.did) given versions reads e.here e.runs
     (given.asked e.l e.t e.s (taken-among w.messages e.l e.rest e.takes) e.to_it e.here e.runs) e.turn)
+  where
+    kept-there : (z : Letter) (n : ℕ) → Contains w.messages z → z.to ≡ client n → Contains e.rest z
+    kept-there z n i to = by (left-or-taken w.messages e.l e.rest e.takes z i)
+      where
+        by : (z ≡ e.l) ⊎ Contains e.rest z → Contains e.rest z
+        by (inl same) = absurd (apart-from-target e.t n e.l e.to_it (ap (λ y. y.to) (sym same) ∙ to))
+        by (inr j) = j
 
 pub idling-keeps : IdlingKeepsReads
-idling-keeps r o held h w v given versions reads e =
-    goes-on r o held h w e.t e.s e.new (e.memory, e.did) w.messages v e.after given.alone e.here versions reads
+idling-keeps r o held h w v given versions reads told e =
+    goes-on r o held h w e.t e.s e.new (e.memory, e.did) w.messages v e.after given.alone e.here (λ z i. i) (λ z n i to. i) versions reads told
     (idle-sound r o (held e.t) h w e.s.opening e.t e.s.memory (kept e.s) e.new (e.memory, e.did) e.turn (turn-begins r o held h w e.t e.s e.here e.runs versions reads))
 
 -- ---- where no target changes
@@ -213,13 +248,38 @@ others-keep r o held h w v same more k l = (
     back : (t : ℕ) (s : TargetState) → slice_get v.targets t ≡ Some s → slice_get w.targets t ≡ Some s
     back t s at = subst (λ ts. slice_get ts t ≡ Some s) same at
 
+-- a client's turn: what it sends is quiet, and an end that it hears has its line then
+client-tells : (r : Rules) (h : History) (w v : World) (n : ℕ) (d : ClientState) (did : Did) (rest : List Letter) → v ≡ with_client n d (after_turn w (client n) did rest) → Told h w
+    → ((z : Letter) → Contains rest z → Contains w.messages z) → ((q : Post) → Has q did.posts → IsTrue h q.message)
+    → ((x : AttemptId) (e : Epoch) (z : Letter) → Contains w.messages z → z.message ≡ message.Ended x (Some e) outcome.Committed → Contains rest z ⊎ HasEnd v x e) → Told h v
+client-tells r h w v n d did rest after told among quiet gone =
+    tells-on h h w v rest (letters_of (client n) did.posts) (map (with_epoch w.issued) did.lines) (record { decided = λ i j. j; served = λ q j. j }) told (ap (λ u. u.messages) after) (ap (λ u. u.lines) after) among said
+    (λ x e z i j to is. gone x e z j is) (λ x e i. inl i)
+  where
+    said : (z : Letter) → Has z (letters_of (client n) did.posts) → IsTrue h z.message
+    said z i = let p = has-from_map (letter_of (client n)) did.posts z i in subst (λ y. IsTrue h y.message) p.2 (quiet p.0 p.1)
+
 pub clients-keep : ClientsKeepReads
-clients-keep r o held h w v k l e = by e
+clients-keep r o held h w v awaited k l told e = by e
   where
     after : (n : ℕ) (d : ClientState) (did : Did) (rest : List Letter) → v ≡ with_client n d (after_turn w (client n) did rest) → Versions r o held h v × Reads r o h v
     after n d did rest is =
         others-keep r o held h w v (ap (λ u. u.targets) is) (λ i j. subst (λ u. Contains u.issued i) (sym is) (Contains-append_left w.issued (listed did.issued) i j)) k l
 
-    by : ClientGoes r w v ⊎ ClientHears r w v → Versions r o held h v × Reads r o h v
-    by (inl g) = after g.n g.d g.did w.messages g.after
-    by (inr g) = after g.n g.d g.did g.rest g.after
+    heard-told : ClientHears r w v → Told h v
+    heard-told g =
+        client-tells r h w v g.n g.d g.did g.rest g.after told (left-among w.messages g.l g.rest g.takes) (hear-quiet h (client_plan r g.n) g.c g.d g.l.message g.did g.turn)
+        (λ x e z i is. gone x e z is (left-or-taken w.messages g.l g.rest g.takes z i))
+      where
+        gone : (x : AttemptId) (e : Epoch) (z : Letter) → z.message ≡ message.Ended x (Some e) outcome.Committed → (z ≡ g.l) ⊎ Contains g.rest z → Contains g.rest z ⊎ HasEnd v x e
+        gone x e z is (inr j) = inl j
+        gone x e z is (inl same) =
+            let said : g.l.message ≡ message.Ended x (Some e) outcome.Committed = ap (λ y. y.message) (sym same) ∙ is in
+            inr (hears-end (client_plan r g.n) g.c g.d w g.did x e (awaited g.l g.n g.c x e (taken-among w.messages g.l g.rest g.takes) g.to_it g.here said)
+            (subst (λ m. HearTurn (client_plan r g.n) g.c m g.did g.d) said g.turn) v (ap (λ u. u.lines) g.after))
+
+    by : ClientGoes r w v ⊎ ClientHears r w v → Versions r o held h v × Reads r o h v × Told h v
+    by (inl g) =
+        let z = after g.n g.d g.did w.messages g.after in
+        (z.0, z.1, client-tells r h w v g.n g.d g.did w.messages g.after told (λ y i. i) (next-quiet h (client_plan r g.n) g.c g.d g.did g.turn) (λ x e y i is. inl i))
+    by (inr g) = let z = after g.n g.d g.did g.rest g.after in (z.0, z.1, heard-told g)

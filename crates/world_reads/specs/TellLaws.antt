@@ -49,14 +49,14 @@ stays-true h g m more k = tt
 -- ---- letters
 
 -- what is left was in flight, and what was in flight is left or is the one taken
-left-among : (letters : List Letter) (l : Letter) (rest : List Letter) → Takes letters l rest → (z : Letter) → Contains rest z → Contains letters z
+pub left-among : (letters : List Letter) (l : Letter) (rest : List Letter) → Takes letters l rest → (z : Letter) → Contains rest z → Contains letters z
 left-among letters l rest k z i = subst (λ ls. Contains ls z) (sym k.among) (contains-from_has (k.before ++ l ∷ k.after) z (by (has-cases k.before k.after z (subst (Has z) k.left (has-from_contains rest z i)))))
   where
     by : Has z k.before ⊎ Has z k.after → Has z (k.before ++ l ∷ k.after)
     by (inl j) = has-left k.before (l ∷ k.after) z j
     by (inr j) = has-right k.before (l ∷ k.after) z (inr j)
 
-left-or-taken : (letters : List Letter) (l : Letter) (rest : List Letter) → Takes letters l rest → (z : Letter) → Contains letters z → (z ≡ l) ⊎ Contains rest z
+pub left-or-taken : (letters : List Letter) (l : Letter) (rest : List Letter) → Takes letters l rest → (z : Letter) → Contains letters z → (z ≡ l) ⊎ Contains rest z
 left-or-taken letters l rest k z i = by (has-cases k.before (l ∷ k.after) z (subst (Has z) k.among (has-from_contains letters z i)))
   where
     left : Has z (k.before ++ k.after) → Contains rest z
