@@ -82,7 +82,8 @@ Mid r o held h opening t m reading q (commit.Stored e) k =
 -- what a Commit is heard with: it is right, its epoch is its own, what was decided was issued, and what was served was served here
 pub record HearsCommit (r : Rules) (o : Opening) (held : List Version) (h : History) (w : World) (t : ℕ) (m : TargetMemory) (reading : ℕ) (q : CommitRequest) (from : ActorId) : Type 0 where
   pub sender : from ≡ client q.attempt.client
-  pub right : IsCommitRight r h q.attempt q.writes
+  pub right : IsCommitRight r w q.attempt q.writes
+  pub undecided : (e : Epoch) → Contains h.decided (q.attempt, e) → ⊥
   pub epochs : (e : Epoch) → request_epoch (target_plan r t) m reading q.tracker q.ep ≡ Some e → IsItsEpoch o w q.attempt q.ep e
   pub issued : (y : AttemptId) (f : Epoch) → Contains h.decided (y, f) → Contains w.issued (y, f)
   pub before : (v : Version) → Contains held v → v.epoch.0 ≤ top o
@@ -94,7 +95,7 @@ module _ (r : Rules) (o : Opening) (held : List Version) (h : History) (w : Worl
       → Sound r o held (decides h q.attempt e) opening t (prepared (commit.led_entry (target_plan r t) q e) (commit.own_writes (target_plan r t) q.writes) d) (put attempt_key q.attempt m.decided) m.stamps
   commit-stores c e d has covered allowed k = record {
     holds = decides-holds r o held h t d m.decided entry (commit.own_writes (target_plan r t) q.writes) new own k.holds;
-    unsettled = decides-open t d m.decided entry (commit.own_writes (target_plan r t) q.writes) refl refl (no-entry h d q.attempt c.right.undecided k.holds.entries) k.unsettled;
+    unsettled = decides-open t d m.decided entry (commit.own_writes (target_plan r t) q.writes) refl refl (no-entry h d q.attempt c.undecided k.holds.entries) k.unsettled;
     shows = decides-shows r o held h opening t d m.stamps entry (commit.own_writes (target_plan r t) q.writes) (target_plan r t) q.first new own allowed k.holds.apart c.here k.shows;
   }
     where
@@ -110,8 +111,8 @@ module _ (r : Rules) (o : Opening) (held : List Version) (h : History) (w : Worl
       new : IsNewEntry r o held h d (commit.led_entry (target_plan r t) q e)
       new = record {
         open' = refl;
-        undecided = c.right.undecided;
-        alone = λ y f i same. c.right.undecided f (subst (λ x. Contains h.decided (x, f)) (its.alone y f (c.issued y f i) same) i);
+        undecided = c.undecided;
+        alone = λ y f i same. c.undecided f (subst (λ x. Contains h.decided (x, f)) (its.alone y f (c.issued y f i) same) i);
         above = its.above;
         before = c.before;
         covered = covered;

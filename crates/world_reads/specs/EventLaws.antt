@@ -34,7 +34,7 @@ use Rattle.world_events.specs.Letters.{Takes, client, letter_of, letters_of, tar
 use Rattle.world_events.specs.StepLaws.{set-here, set-there}
 use Rattle.world_reads.specs.CommitLaws.{commit-sound, idle-sound}
 use Rattle.world_reads.specs.FetchLaws.{fetch-sound}
-use Rattle.world_reads.specs.Given.{Given, IsMessageRight}
+use Rattle.world_reads.specs.Given.{Given, IsCommitRight, IsMessageRight}
 use Rattle.world_reads.specs.History.{History, Served}
 use Rattle.world_reads.specs.Keeping.{ClientsKeepReads, GoOn, HearingKeepsReads, IdlingKeepsReads, OthersKeepReads}
 use Rattle.world_reads.specs.Midway.{Sound, TurnLeaves}
@@ -190,21 +190,25 @@ module _ (r : Rules) (o : Opening) (held : ℕ → List Version) (h : History) (
 -- ---- turns
 
 hears-sound : (r : Rules) (o : Opening) (held : ℕ → List Version) (h : History) (w : World) (t : ℕ) (s : TargetState) (reading : ℕ) (from : ActorId) (m : Message) (new : Kept) (left : TargetMemory × Did)
-    → Given r o held h w → Versions r o held h w → Reads r o h w → slice_get w.targets t ≡ Some s → s.life ≡ Running → IsMessageRight r o h w t s from m
+    → Given r o held w → Versions r o held h w → Reads r o h w → Told h w → slice_get w.targets t ≡ Some s → s.life ≡ Running → IsMessageRight r o w t s from m
     → Hears (target_plan r t) s.opening s.memory reading from m (kept s) new left → TurnLeaves r o (held t) h w s.opening t new left
-hears-sound r o held h w t s reading from (message.Fetch x op group ep first tracker read snapshot) new left given versions reads here runs right turn =
+hears-sound r o held h w t s reading from (message.Fetch x op group ep first tracker read snapshot) new left given versions reads told here runs right turn =
     fetch-sound r o (held t) h w s.opening t s.memory reading (record { attempt = x; op = op; group = group; ep = ep; first = first; tracker = tracker; read = read; snapshot = snapshot }) from
     right.0 (right.1 reading) (kept s) new left turn (turn-begins r o held h w t s here runs versions reads)
-hears-sound r o held h w t s reading from (message.Commit x ep first tracker ws) new left given versions reads here runs right turn =
+hears-sound r o held h w t s reading from (message.Commit x ep first tracker ws) new left given versions reads told here runs right turn =
     commit-sound r o (held t) h w s.opening t s.memory reading (record { attempt = x; ep = ep; first = first; tracker = tracker; writes = ws }) from
-    (record { sender = right.2; right = right.0; epochs = right.1 reading; issued = versions.issued; before = given.before t; here = served-here r o h w t given.one (given.alone t s here) reads })
+    (record { sender = right.2; right = right.0; undecided = undecided right.0; epochs = right.1 reading; issued = versions.issued; before = given.before t; here = served-here r o h w t given.one (given.alone t s here) reads })
     (kept s) new left turn (turn-begins r o held h w t s here runs versions reads)
-hears-sound r o held h w t s reading from other new left given versions reads here runs right turn = absurd turn
+  where
+    -- it isn't decided: its end would be on its way, or told
+    undecided : IsCommitRight r w x ws → (e : Epoch) → Contains h.decided (x, e) → ⊥
+    undecided k e i = elim (told.ended x e i) [ inl z ↦ k.unended e z | inr z ↦ k.untold e z ]
+hears-sound r o held h w t s reading from other new left given versions reads told here runs right turn = absurd turn
 
 pub hearing-keeps : HearingKeepsReads
 hearing-keeps r o held h w v given versions reads told e =
     goes-on r o held h w e.t e.s e.new (e.memory, e.did) e.rest v e.after given.alone e.here (left-among w.messages e.l e.rest e.takes) kept-there versions reads told
-    (hears-sound r o held h w e.t e.s e.reading e.l.from e.l.message e.new (e.memory, e.did) given versions reads e.here e.runs
+    (hears-sound r o held h w e.t e.s e.reading e.l.from e.l.message e.new (e.memory, e.did) given versions reads told e.here e.runs
     (given.asked e.l e.t e.s (taken-among w.messages e.l e.rest e.takes) e.to_it e.here e.runs) e.turn)
   where
     kept-there : (z : Letter) (n : ℕ) → Contains w.messages z → z.to ≡ client n → Contains e.rest z

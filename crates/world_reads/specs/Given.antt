@@ -25,6 +25,7 @@ use Rattle.world_events.specs.Events.{Rules, target_plan}
 use Rattle.world_events.specs.Letters.{client, target}
 use Rattle.world_reads.specs.History.{History}
 use Rattle.world_reads.specs.Reads.{IsOfAttempt}
+use Rattle.world_reads.specs.Told.{HasEnd, IsEnding}
 use Rattle.world_turns.specs.Requests.{request_epoch}
 
 -- an epoch is an attempt's: it is above the opening, no other attempt has it, and one that goes with a request was issued
@@ -41,13 +42,15 @@ HasItsEpoch r o w t s x ep tracker = (reading : ℕ) (e : Epoch) → request_epo
 abbrev pub FitsTargets : Rules → Write → Type 0
 FitsTargets r w = (obj : ObjId) × ((write_path w).obj ≡ Some obj) × ClassFits obj.class r.script.targets
 
--- what is asked to be committed: an attempt's writes, of which there are some; it isn't decided yet
-pub record IsCommitRight (r : Rules) (h : History) (x : AttemptId) (ws : List MinorWrite) : Type 0 where
+-- what is asked to be committed: an attempt's writes, of which there are some; its end isn't on its way, and it has
+-- no line
+pub record IsCommitRight (r : Rules) (w : World) (x : AttemptId) (ws : List MinorWrite) : Type 0 where
   pub its : ws ≡ minor_writes 0 (attempt_ops r.script x)
   pub some : ws ≢ []
   pub form : AreWritesInForm ws
   pub fits : (m : MinorWrite) → Contains ws m → FitsTargets r m.write
-  pub undecided : (e : Epoch) → Contains h.decided (x, e) → ⊥
+  pub unended : (e : Epoch) → IsEnding w x e → ⊥
+  pub untold : (e : Epoch) → HasEnd w x e → ⊥
 
 -- what is asked of a target: what an operation of the attempt asks there, of a group of an object; and not at a snapshot
 pub record IsFetchRight (r : Rules) (t : ℕ) (x : AttemptId) (op group : ℕ) (read : Read) (snapshot : Bool) : Type 0 where
@@ -59,15 +62,15 @@ pub record IsFetchRight (r : Rules) (t : ℕ) (x : AttemptId) (op group : ℕ) (
   pub fits : ClassFits obj.class r.script.targets
   pub within : group < groups obj.class r.script.targets
 
-abbrev pub IsMessageRight : Rules → Opening → History → World → ℕ → TargetState → ActorId → Message → Type 0
-IsMessageRight r o h w t s from (message.Fetch x op group ep first tracker read snapshot) = IsFetchRight r t x op group read snapshot × HasItsEpoch r o w t s x ep tracker
-IsMessageRight r o h w t s from (message.Commit x ep first tracker ws) = IsCommitRight r h x ws × HasItsEpoch r o w t s x ep tracker × (from ≡ client x.client)
-IsMessageRight r o h w t s from m = Unit {0}
+abbrev pub IsMessageRight : Rules → Opening → World → ℕ → TargetState → ActorId → Message → Type 0
+IsMessageRight r o w t s from (message.Fetch x op group ep first tracker read snapshot) = IsFetchRight r t x op group read snapshot × HasItsEpoch r o w t s x ep tracker
+IsMessageRight r o w t s from (message.Commit x ep first tracker ws) = IsCommitRight r w x ws × HasItsEpoch r o w t s x ep tracker × (from ≡ client x.client)
+IsMessageRight r o w t s from m = Unit {0}
 
 -- target 0 is there alone; the opening's versions are below the run; and every message to a running target is right
-pub record Given (r : Rules) (o : Opening) (held : ℕ → List Version) (h : History) (w : World) : Type 0 where
+pub record Given (r : Rules) (o : Opening) (held : ℕ → List Version) (w : World) : Type 0 where
   pub one : r.script.targets ≡ 1
   pub alone : (t : ℕ) (s : TargetState) → slice_get w.targets t ≡ Some s → t ≡ 0
   pub before : (t : ℕ) (v : Version) → Contains (held t) v → v.epoch.0 ≤ top o
   pub asked : (l : Letter) (t : ℕ) (s : TargetState) → Contains w.messages l → l.to ≡ target t → slice_get w.targets t ≡ Some s → s.life ≡ Running
-      → IsMessageRight r o h w t s l.from l.message
+      → IsMessageRight r o w t s l.from l.message

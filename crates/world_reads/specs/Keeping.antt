@@ -23,12 +23,12 @@ pub record GoOn (r : Rules) (o : Opening) (held : ℕ → List Version) (h : His
 -- a target that hears a message keeps them: it decides an attempt, or serves a read, or neither
 abbrev pub HearingKeepsReads : Type 0
 HearingKeepsReads =
-    (r : Rules) (o : Opening) (held : ℕ → List Version) (h : History) (w v : World) → Given r o held h w → Versions r o held h w → Reads r o h w → Told h w → TargetHears r w v → GoOn r o held h v
+    (r : Rules) (o : Opening) (held : ℕ → List Version) (h : History) (w v : World) → Given r o held w → Versions r o held h w → Reads r o h w → Told h w → TargetHears r w v → GoOn r o held h v
 
 -- so does a target that does its idle work
 abbrev pub IdlingKeepsReads : Type 0
 IdlingKeepsReads =
-    (r : Rules) (o : Opening) (held : ℕ → List Version) (h : History) (w v : World) → Given r o held h w → Versions r o held h w → Reads r o h w → Told h w → TargetIdles r w v → GoOn r o held h v
+    (r : Rules) (o : Opening) (held : ℕ → List Version) (h : History) (w v : World) → Given r o held w → Versions r o held h w → Reads r o h w → Told h w → TargetIdles r w v → GoOn r o held h v
 
 -- where no target changes, they stay as they are
 abbrev pub OthersKeepReads : Type 0
