@@ -1,9 +1,8 @@
 -- A client never tells an answer or an end: what it sends are requests, and its tracker.
-use Rattle.std.specs.Prelude.{ℕ, ◌≡◌, ◌⊎◌, ◌+◌, ◌++◌, ◌&&◌, Bool, true, false, nat_lt, List, [], ◌∷◌, Contains, slice_get, Option, Some, None, is_some, refl, if◌then◌else◌}
+use Rattle.std.specs.Prelude.{ℕ, ◌≡◌, ◌⊎◌, ◌+◌, ◌&&◌, Bool, true, false, nat_lt, List, [], ◌∷◌, slice_get, Option, Some, None, is_some, refl, if◌then◌else◌}
 use Rattle.std.proofs.Common.{sym, ◌∙◌, ap, subst, inl, inr}
 use Rattle.daos_base.specs.declared.answer.Answer.{Answer}
 use Rattle.daos_base.specs.declared.epoch.Epoch.{Epoch}
-use Rattle.daos_base.specs.declared.id.AttemptId.{AttemptId}
 use Rattle.daos_base.specs.declared.operation.Cond.{Cond}
 use Rattle.daos_base.specs.declared.operation.MinorWrite.{MinorWrite}
 use Rattle.daos_base.specs.declared.operation.Op.{Op}
@@ -11,8 +10,7 @@ use Rattle.daos_base.specs.declared.operation.Read.{Read}
 use Rattle.daos_base.specs.declared.report.Line.{Line}
 use Rattle.daos_base.specs.declared.script.Command.{Command}
 use Rattle.daos_base.specs.declared.script.Command.TheVariants as command
-use Rattle.daos_base.specs.Operations.{read_path}
-use Rattle.daos_laws.specs.Members.{Has, has-cases, has-from_contains}
+use Rattle.daos_laws.specs.Members.{Has, has-cases}
 use Rattle.daos_messages.specs.declared.actor.ActorId.{ActorId}
 use Rattle.daos_messages.specs.declared.message.Message.{Message, more_of-Message}
 use Rattle.daos_messages.specs.declared.message.Message.TheVariants as message
@@ -27,7 +25,7 @@ use Rattle.world_base.specs.declared.client.Present.{Present}
 use Rattle.world_base.specs.declared.client.Stage.{Stage}
 use Rattle.world_base.specs.declared.client.Stage.TheVariants as stage
 use Rattle.world_base.specs.declared.did.Did.{Did}
-use Rattle.world_base.specs.ClientTurns.{Ended_by, GoesOn, HearTurn, Heard_on, Move, Moves, NextTurn, None_yet, One_more, Skipped, Went_on, about, answered, attempt_id, attempt_moves, begins_at, command_at, command_moves, commits, condition_told, first_epoch, goes, group_count, group_told, heard, heard_at, hears_epochs, is_about, is_yes, joined, knows, listed, moved, moves_at, op_moves, op_of, op_told, question, replied, reset, reset_by, rests, run_moves, asks_or_goes, told_at, waits}
+use Rattle.world_base.specs.ClientTurns.{Ended_by, GoesOn, HearTurn, Heard_on, Move, Moves, NextTurn, None_yet, One_more, Skipped, Went_on, about, answered, attempt_id, attempt_moves, begins_at, command_at, command_moves, commits, first_epoch, goes, group_count, heard, heard_at, hears_epochs, is_about, is_yes, joined, knows, listed, moved, moves_at, op_moves, op_of, op_told, question, replied, reset_by, rests, run_moves, asks_or_goes, told_at, waits}
 use Rattle.world_reads.specs.History.{History}
 use Rattle.world_reads.specs.Told.{IsTrue}
 

@@ -172,9 +172,13 @@ module _ (r : Rules) (o : Opening) (held : ℕ → List Version) (h : History) (
           → Contains h.decided (x, e) ⊎ ((z : Letter) × Has z (letters_of (target t) left.1.posts) × (z.to ≡ client x.client) × (z.message ≡ message.Ended x (Some e) outcome.Committed))
       new-end x e (inl i) = inl i
       new-end x e (inr i) =
-          inr (letter_of (target t) (record { to = client x.client; message = message.Ended x (Some e) outcome.Committed }),
-          has-map (letter_of (target t)) left.1.posts (record { to = client x.client; message = message.Ended x (Some e) outcome.Committed })
-          (has-from_contains left.1.posts (record { to = client x.client; message = message.Ended x (Some e) outcome.Committed }) i), refl, refl)
+          inr (
+            letter_of (target t) (record { to = client x.client; message = message.Ended x (Some e) outcome.Committed }),
+            has-map (letter_of (target t)) left.1.posts (record { to = client x.client; message = message.Ended x (Some e) outcome.Committed })
+                (has-from_contains left.1.posts (record { to = client x.client; message = message.Ended x (Some e) outcome.Committed }) i),
+            refl,
+            refl,
+          )
 
   goes-on : (v : World) → v ≡ After w t s new left rest → ((u : ℕ) (z : TargetState) → slice_get w.targets u ≡ Some z → u ≡ 0) → slice_get w.targets t ≡ Some s
       → ((z : Letter) → Contains rest z → Contains w.messages z) → ((z : Letter) (n : ℕ) → Contains w.messages z → z.to ≡ client n → Contains rest z)

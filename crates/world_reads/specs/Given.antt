@@ -23,7 +23,6 @@ use Rattle.world_base.specs.declared.target.Life.TheVariants.{Running}
 use Rattle.world_base.specs.declared.world.World.{World}
 use Rattle.world_events.specs.Events.{Rules, target_plan}
 use Rattle.world_events.specs.Letters.{client, target}
-use Rattle.world_reads.specs.History.{History}
 use Rattle.world_reads.specs.Reads.{IsOfAttempt}
 use Rattle.world_reads.specs.Told.{HasEnd, IsEnding}
 use Rattle.world_turns.specs.Requests.{request_epoch}

@@ -1,5 +1,5 @@
 -- What targets say stays so, and what is decided stays told.
-use Rattle.std.specs.Prelude.{ℕ, ◌≡◌, ◌⊎◌, ◌++◌, ◌&&◌, Bool, true, false, List, [], ◌∷◌, map, Contains, slice_get, Option, Some, None, refl, if◌then◌else◌}
+use Rattle.std.specs.Prelude.{ℕ, ◌≡◌, ◌⊎◌, ◌++◌, true, false, List, [], ◌∷◌, map, Contains, Option, Some, None, refl, if◌then◌else◌}
 use Rattle.std.proofs.Common.{sym, ◌∙◌, ap, subst, inl, inr}
 use Rattle.std.proofs.lemmas.List.Elements.{Contains-append_left}
 use Rattle.daos_base.specs.declared.epoch.Epoch.{Epoch}
@@ -9,14 +9,13 @@ use Rattle.daos_base.specs.declared.outcome.Outcome.TheVariants as outcome
 use Rattle.daos_base.specs.declared.report.Attempt.{Attempt}
 use Rattle.daos_base.specs.declared.report.Line.{Line}
 use Rattle.daos_base.specs.declared.report.Line.TheVariants.{Try}
-use Rattle.daos_laws.specs.Members.{Has, contains-from_has, has-cases, has-from_contains, has-from_map, has-left, has-map, has-right}
+use Rattle.daos_laws.specs.Members.{Has, contains-from_has, has-cases, has-from_contains, has-left, has-map, has-right}
 use Rattle.daos_messages.specs.declared.message.Message.{Message}
 use Rattle.daos_messages.specs.declared.message.Message.TheVariants as message
-use Rattle.daos_messages.specs.declared.message.Post.{Post}
 use Rattle.daos_messages.specs.declared.message.Reply.{Reply}
 use Rattle.daos_messages.specs.declared.message.Reply.TheVariants as reply
 use Rattle.daos_model.specs.Attempts.{tried, tries}
-use Rattle.daos_model.specs.BoolLaws.{both, clash}
+use Rattle.daos_model.specs.BoolLaws.{both}
 use Rattle.daos_model.specs.Laws.{tries-append}
 use Rattle.world_base.specs.declared.client.ClientPlan.{ClientPlan}
 use Rattle.world_base.specs.declared.client.ClientState.{ClientState}
@@ -24,9 +23,9 @@ use Rattle.world_base.specs.declared.client.Present.{Present}
 use Rattle.world_base.specs.declared.did.Did.{Did}
 use Rattle.world_base.specs.declared.letter.Letter.{Letter}
 use Rattle.world_base.specs.declared.world.World.{World}
-use Rattle.world_base.specs.ClientTurns.{Ended_by, HearTurn, Heard_on, about, answered, attempt_id, goes, heard, heard_at, hears_epochs, is_about, knows_epoch, listed}
+use Rattle.world_base.specs.ClientTurns.{Ended_by, HearTurn, Heard_on, answered, attempt_id, goes, heard, heard_at, hears_epochs, is_about, knows_epoch, listed}
 use Rattle.world_events.specs.Events.{with_epoch}
-use Rattle.world_events.specs.Letters.{Takes, client, letter_of, letters_of, target}
+use Rattle.world_events.specs.Letters.{Takes, client, target}
 use Rattle.world_reads.specs.EntryLaws.{same-itself}
 use Rattle.world_reads.specs.History.{Grew, History}
 use Rattle.world_reads.specs.Told.{HasEnd, IsAwaited, IsEnding, IsTrue, IsTrueEnd, IsTrueReply, Told}
@@ -132,10 +131,15 @@ tried-has a (l ∷ ls) (inr i) = has-right (tried l) (tries ls) a (tried-has a l
 
 pub hears-end : (p : ClientPlan) (c d : ClientState) (w : World) (did : Did) (x : AttemptId) (e : Epoch) → IsAwaited p c x e → HearTurn p c (message.Ended x (Some e) outcome.Committed) did d
     → (v : World) → v.lines ≡ w.lines ++ map (with_epoch w.issued) did.lines → HasEnd v x e
-hears-end p c d w did x e k turn v is =
-    (one, subst (λ ls. Contains (tries ls) one) (sym is) (contains-from_has (tries (w.lines ++ map (with_epoch w.issued) did.lines)) one (tried-has one (w.lines ++ map (with_epoch w.issued) did.lines)
-    (has-right w.lines (map (with_epoch w.issued) did.lines) (Try one) (has-map (with_epoch w.issued) did.lines (Try one)
-    (hears-line p c d (message.Ended x (Some e) outcome.Committed) did (Try one) turn (heard-end p c k.a x e k.present k.waiting k.its k.own)))))), refl, refl, refl)
+hears-end p c d w did x e k turn v is = (
+  one,
+  subst (λ ls. Contains (tries ls) one) (sym is) (contains-from_has (tries (w.lines ++ map (with_epoch w.issued) did.lines)) one (tried-has one (w.lines ++ map (with_epoch w.issued) did.lines)
+      (has-right w.lines (map (with_epoch w.issued) did.lines) (Try one) (has-map (with_epoch w.issued) did.lines (Try one)
+      (hears-line p c d (message.Ended x (Some e) outcome.Committed) did (Try one) turn (heard-end p c k.a x e k.present k.waiting k.its k.own)))))),
+  refl,
+  refl,
+  refl,
+)
   where
     one : Attempt
     one = record { id = x; epoch = Some e; conds = k.a.conds; gots = k.a.gots; outcome = outcome.Committed }
