@@ -1,2 +1,3 @@
-pub mod Texts
+pub mod Asked
 pub mod ReportForms
+pub mod Texts

@@ -1,9 +1,8 @@
 -- What the program's answers stand for.
-use Rattle.std.specs.Prelude.{ℕ, ◌≡◌, true, false, List, length, Option, ◌⊎◌}
+use Rattle.std.specs.Prelude.{ℕ, ◌≡◌, true, false, List, length, Option, Ok, ◌⊎◌}
 use Rattle.std.specs.Io.KnownBytes.{Consumes, IsAtEnd}
 use Rattle.daos_base.specs.declared.fault.ScriptFault.{ScriptFault}
 use Rattle.daos_base.specs.declared.fault.Why.TheVariants as why
-use Rattle.daos_base.specs.declared.fault.WordKind.TheVariants as kind
 use Rattle.daos_base.specs.declared.job.Job.{Job}
 use Rattle.daos_base.specs.declared.report.Report.{Report}
 use Rattle.daos_base.specs.declared.script.Script.{Script}
@@ -15,6 +14,7 @@ use Rattle.daos_run.specs.Lone.{no_one}
 use Rattle.daos_run.specs.Runs.{IsRunOf}
 use Rattle.daos_run.specs.Runnable.{runs}
 use Rattle.daos_script.specs.Grammar.{HasFault, IsScriptText}
+use Rattle.daos_app.specs.Words.{run_job_of}
 use Rattle.daos_app.specs.declared.status.Status.{Status}
 use Rattle.daos_app.specs.declared.status.Status.TheVariants as status
 
@@ -53,20 +53,18 @@ pub record IsReported (job : Job) (script : Script) (text : List ℕ) : Type 0 w
   pub lone : IsRunOf script report.lines
   pub told : text ≡ report_text script report
 
--- what a run tells of the bytes that were read: the text of one report of a run of their script
-pub record IsRun (job : Job) (left left_now : Option (List ℕ)) (text : List ℕ) : Type 0 where
+-- what a run tells of the words and of the bytes that were read: the text of one report of a run of the script, as the words ask
+pub record IsRun (words : List (List ℕ)) (left left_now : Option (List ℕ)) (text : List ℕ) : Type 0 where
+  pub job : Job
+  pub asked : run_job_of words ≡ Ok job
   pub script : Script
   pub read : IsRead left left_now script
   pub reported : IsReported job script text
 
--- the answer to words that the program doesn't run yet
-abbrev pub words_not_yet : Status
-words_not_yet = status.Words (record { place = 0; kind = kind.NotYet })
-
 -- the answers that the program gives so far
 abbrev pub IsAnswerSoFar : Status → Type 0
 IsAnswerSoFar status.Done = Unit {0}
-IsAnswerSoFar (status.Words fault) = status.Words fault ≡ words_not_yet
+IsAnswerSoFar (status.Words fault) = Unit {0}
 IsAnswerSoFar (status.Script fault) = Unit {0}
 IsAnswerSoFar status.ReadFault = Unit {0}
 IsAnswerSoFar status.WriteFault = Unit {0}

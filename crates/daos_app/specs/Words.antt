@@ -1,11 +1,41 @@
--- The words that the program takes so far.
-use Rattle.std.specs.Prelude.{ℕ, ◌≡◌, List, [], ◌∷◌, codes, None, false}
+-- Which words are run so far, and where others ask for more.
+use Rattle.std.specs.Prelude.{◌≡◌, ℕ, Bool, ◌&&◌, ◌||◌, ◌==◌, not, nat_eq, is_none, is_some, List, length, codes, Result, Ok, Err, if◌then◌else◌}
+use Rattle.std.specs.List.{position_or_len, starts_with}
+use Rattle.daos_base.specs.declared.fault.WordFault.{WordFault}
+use Rattle.daos_base.specs.declared.fault.WordKind.TheVariants.{NotYet}
 use Rattle.daos_base.specs.declared.job.Job.{Job}
+use Rattle.daos_text.specs.Results.{◌>>=◌}
+use Rattle.daos_words.specs.declared.fault.WordNo.{WordNo}
+use Rattle.daos_words.specs.declared.fault.WordNo.TheVariants.{Fault, Memory}
+use Rattle.daos_words.specs.Words.{job_of}
 
--- the words are `run --targets 1`
-abbrev pub AreRunWords : List (List ℕ) → Type 0
-AreRunWords words = words ≡ codes "run" ∷ codes "--targets" ∷ codes "1" ∷ []
+-- a job that is run so far: a script, on one target whose region has the default size, without threads. The order of turns, the
+-- most attempts and epsilon may be any: a client that is alone is never told to restart, and waits for each answer.
+abbrev pub is_run : Job → Bool
+is_run j = is_none j.load && j.targets == 1 && j.size_mib == 4 && not j.threads
 
--- the job that they ask for: to run a script on one target, all else by default
-abbrev pub lone_job : Job
-lone_job = record { load = None; targets = 1; size_mib = 4; attempts = 8; epsilon = 0; threads = false; order = 0 }
+-- a word of a job that is this option, with or without its value
+abbrev pub is_option : List ℕ → List ℕ → Bool
+is_option w name = starts_with nat_eq w name
+
+-- a word that asks for what isn't run so far
+abbrev pub asks_more : Job → List ℕ → Bool
+asks_more j w =
+    is_option w (codes "--threads") || not (j.targets == 1) && is_option w (codes "--targets") || not (j.size_mib == 4) && is_option w (codes "--size")
+
+-- where words first ask for more than is run; behind them, where they leave the number of targets out. A load is told at the first place.
+abbrev pub place_of_more : Job → List (List ℕ) → ℕ
+place_of_more j ws = if is_some j.load then 0 else position_or_len (asks_more j) ws
+
+-- a job that is run so far, or the refusal of one that isn't
+abbrev pub run_or_not_yet : List (List ℕ) → Job → Result Job WordFault
+run_or_not_yet ws j = if is_run j then Ok j else Err (record { place = place_of_more j ws; kind = NotYet })
+
+-- the job that words ask for, where it is run so far; or their first fault, or where they ask for more
+unfoldable pub run_job_of : List (List ℕ) → Result Job WordFault
+run_job_of ws = job_of ws >>= run_or_not_yet ws
+
+-- why words are not run: their first fault, or where they ask for more; reading them takes no memory
+abbrev pub IsRefusedFor : List (List ℕ) → WordNo → Type 0
+IsRefusedFor ws (Fault fault) = run_job_of ws ≡ Err fault
+IsRefusedFor ws Memory = ⊥

@@ -1,29 +1,25 @@
 // The top call.
-ghost use Rattle.std.specs.Prelude.{◌≡◌, ◌≢◌, ◌≤◌, ◌↔◌, ◌⊎◌, ℕ, List, map, string_bytes};
+ghost use Rattle.std.specs.Prelude.{◌≡◌, ◌≢◌, ◌≤◌, ◌↔◌, ◌⊎◌, ℕ, List, Err, map, string_bytes};
 ghost use Rattle.std.specs.Io.KnownBytes.{Appends};
 ghost use Rattle.daos_base.specs.declared.fault.ScriptFault.{ScriptFault};
+ghost use Rattle.daos_base.specs.declared.fault.WordFault.{WordFault};
 ghost use Rattle.daos_outside.specs.Causes.{Rose};
 ghost use Rattle.daos_outside.specs.Transfers.{AppendsPrefix};
-ghost use Rattle.daos_app.specs.Answers.{IsAnswerSoFar, IsRefused, IsRun, IsBeforeRun, words_not_yet};
-ghost use Rattle.daos_app.specs.Words.{AreRunWords, lone_job};
+ghost use Rattle.daos_app.specs.Answers.{IsAnswerSoFar, IsRefused, IsRun, IsBeforeRun};
+ghost use Rattle.daos_app.specs.Words.{run_job_of};
 
 use crate::input::{InputNo, read_input};
 use crate::output::{run_text, write_text};
 use crate::status::Status;
-use crate::words::job_of;
-use daos_base::fault::{WordFault, WordKind};
+use crate::words::run_job;
 use daos_outside::gate::Gate;
 use daos_outside::rack::Rack;
 use daos_outside::sink::Sink;
 use daos_outside::source::Source;
+use daos_words::fault::WordNo;
 use std::alloc::Global;
 use std::sync::Wait;
 use std::thread::Threads;
-
-const WORDS_NOT_YET: Status = Status::Words(WordFault {
-    place: 0,
-    kind: WordKind::NotYet,
-});
 
 /// Does all that the program does: reads the words, then the script from the source, runs it, and
 /// writes its report to the sink.
@@ -39,9 +35,12 @@ pub fn run_daos<R: Threads + Wait + Sync, S: Source, K: Sink, B: Rack, G: Gate +
     rack: &mut B,
     gate: &G,
 ) -> Status
-    // The answers that come so far; words are refused exactly where they aren't `run --targets 1`.
+    // The answers that come so far.
     ensures answers { IsAnswerSoFar result }
-    ensures words { (result ≡ words_not_yet) ↔ (AreRunWords (map string_bytes words.now) → ⊥) }
+
+    // Words are refused exactly where they have a first fault, which is told, or have none but ask for
+    // what isn't run so far, where `NotYet` is told.
+    ensures words { (fault : WordFault) → (result ≡ Status.Words fault) ↔ (run_job_of (map string_bytes words.now) ≡ Err fault) }
 
     // A script is refused exactly where the bytes read have a first fault, which is told, or have none
     // but aren't run so far.
@@ -52,12 +51,13 @@ pub fn run_daos<R: Threads + Wait + Sync, S: Source, K: Sink, B: Rack, G: Gate +
     ensures write { result ≡ Status.WriteFault → Rose (K.count sink.old) (K.count sink.new) ⊎ Rose (K.stalls sink.old) (K.stalls sink.new) }
 
     // At the end the sink holds what it held and then the text of one report, that of a run of the
-    // script that was read, and nothing else; after a fault of the sink, a part of it from the front.
-    ensures done { result ≡ Status.Done → ((text : List ℕ) × IsRun lone_job (S.left source.old) (S.left source.new) text × Appends (K.held sink.old) (K.held sink.new) text) }
-    ensures prefix { result ≡ Status.WriteFault → ((text : List ℕ) × IsRun lone_job (S.left source.old) (S.left source.new) text × AppendsPrefix (K.held sink.old) (K.held sink.new) text) }
+    // script that was read, as the words ask, and nothing else; after a fault of the sink, a part of
+    // it from the front.
+    ensures done { result ≡ Status.Done → ((text : List ℕ) × IsRun (map string_bytes words.now) (S.left source.old) (S.left source.new) text × Appends (K.held sink.old) (K.held sink.new) text) }
+    ensures prefix { result ≡ Status.WriteFault → ((text : List ℕ) × IsRun (map string_bytes words.now) (S.left source.old) (S.left source.new) text × AppendsPrefix (K.held sink.old) (K.held sink.new) text) }
 
     // What a refusal leaves as it was.
-    ensures unread { result ≡ words_not_yet → source.new ≡ source.old }
+    ensures unread { (fault : WordFault) → result ≡ Status.Words fault → source.new ≡ source.old }
     ensures unwritten { result ≢ Status.Done → result ≢ Status.WriteFault → sink.new ≡ sink.old }
     ensures unasked { IsBeforeRun result → rack.new ≡ rack.old }
 
@@ -67,8 +67,10 @@ pub fn run_daos<R: Threads + Wait + Sync, S: Source, K: Sink, B: Rack, G: Gate +
     ensures sink_stalls_later { K.stalls sink.old ≤ K.stalls sink.new }
     ensures rack { B.count rack.new ≡ B.count rack.old }
 {
-    let Some(job) = job_of(words) else {
-        return WORDS_NOT_YET;
+    let job = match run_job(alloc, words) {
+        Ok(job) => job,
+        Err(WordNo::Fault(fault)) => return Status::Words(fault),
+        Err(WordNo::Memory) => return Status::Memory,
     };
     let script = match read_input(alloc, source) {
         Ok(script) => script,

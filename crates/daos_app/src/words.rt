@@ -1,33 +1,86 @@
-// Reads the words of the command line.
-ghost use Rattle.std.specs.Prelude.{◌≡◌, ◌↔◌, IsTrue, map, MatchOption, string_bytes};
-ghost use Rattle.daos_app.specs.Words.{AreRunWords, lone_job};
+// Reads the words of the command line, and refuses jobs that aren't run yet.
+ghost use Rattle.std.specs.Prelude.{◌≡◌, ◌≤◌, length, map, nat_eq, string_bytes, IfErr, IfOk, Ok};
+ghost use Rattle.std.specs.List.{position_or_len, starts_with};
+ghost use Rattle.daos_app.specs.Words.{IsRefusedFor, asks_more, is_run, place_of_more, run_job_of};
 
+use daos_base::fault::{WordFault, WordKind};
 use daos_base::job::Job;
+use daos_words::fault::WordNo;
+use daos_words::words::{read_words, words_are_jobs};
+use std::alloc::Global;
 
-// Whether a word is this text.
-fn is_word(word: &String, text: &str) -> bool
-    ensures { IsTrue result ↔ (string_bytes word.now ≡ text.now) }
+// The targets, and the size of their regions in MiB, that are run so far.
+const TARGETS: u8 = 1;
+
+const SIZE_MIB: u8 = 4;
+
+// Whether a job is run so far.
+fn is_run(job: &Job) -> bool
+    ensures { result ≡ is_run job.now }
 {
-    word.as_str() == text
+    job.load.is_none() && job.targets == TARGETS && job.size_mib == SIZE_MIB && !job.threads
 }
 
-/// The job of the words `run --targets 1`, the only ones that the program takes so far.
-pub fn job_of(words: &[String]) -> Option<Job>
-    ensures { MatchOption result (AreRunWords (map string_bytes words.now) → ⊥) (λ job. AreRunWords (map string_bytes words.now) × (job ≡ lone_job)) }
+// Whether a word is this option, with or without its value.
+fn is_option(word: &[u8], name: &[u8]) -> bool
+    ensures { result ≡ starts_with nat_eq word.now name.now }
 {
-    let [job, option, value] = words else {
-        return None;
-    };
-    if !is_word(job, "run") || !is_word(option, "--targets") || !is_word(value, "1") {
-        return None;
+    word.starts_with(name)
+}
+
+// Whether a word asks for what isn't run so far.
+fn asks_more(job: &Job, word: &[u8]) -> bool
+    ensures { result ≡ asks_more job.now word.now }
+{
+    is_option(word, b"--threads")
+        || job.targets != TARGETS && is_option(word, b"--targets")
+        || job.size_mib != SIZE_MIB && is_option(word, b"--size")
+}
+
+// The first place of such a word, or that behind the last word.
+fn first_of_more(job: &Job, words: &[String]) -> usize
+    ensures exact { result ≡ position_or_len (asks_more job.now) (map string_bytes words.now) }
+    ensures within { result ≤ length words.now }
+{
+    for (place, word) in words.iter().enumerate() {
+        if asks_more(job, word.as_bytes()) {
+            return place;
+        }
     }
-    Some(Job {
-        load: None,
-        targets: 1,
-        size_mib: 4,
-        attempts: 8,
-        epsilon: 0,
-        threads: false,
-        order: 0,
-    })
+    words.len()
+}
+
+// The place that a job that isn't run yet is told at.
+fn place_of_more(job: &Job, words: &[String]) -> usize
+    ensures exact { result ≡ place_of_more job.now (map string_bytes words.now) }
+    ensures within { result ≤ length words.now }
+{
+    if job.load.is_some() {
+        return 0;
+    }
+    first_of_more(job, words)
+}
+
+/// The job that words ask for, where it is run so far: a script, on one target with the default
+/// size and without threads.
+///
+/// # Errors
+///
+/// The first fault of the words. Where they have none but ask for more than is run, `NotYet`: at
+/// the first option that does; behind the words where the number of targets is left out; at place
+/// 0 for a load. `Memory` never comes.
+pub fn run_job(alloc: Global, words: &[String]) -> Result<Job, WordNo>
+    ensures job { IfOk result (λ job. run_job_of (map string_bytes words.now) ≡ Ok job) }
+    ensures refused { IfErr result (IsRefusedFor (map string_bytes words.now)) }
+    ensures targets { IfOk result (λ job. job.targets ≡ 1) }
+{
+    words_are_jobs();
+    let job = read_words(alloc, words)?;
+    if is_run(&job) {
+        return Ok(job);
+    }
+    Err(WordNo::Fault(WordFault {
+        place: place_of_more(&job, words) as u32,
+        kind: WordKind::NotYet,
+    }))
 }

@@ -33,16 +33,6 @@ end 0
 
 const WORDS: [&str; 3] = ["run", "--targets", "1"];
 
-const WORDS_NOT_YET: Status = Status::Words(WordFault {
-    place: 0,
-    kind: WordKind::NotYet,
-});
-
-const SCRIPT_NOT_YET: Status = Status::Script(ScriptFault {
-    line: 0,
-    why: Why::NotYet,
-});
-
 // Runs words over a source and a sink, with ample memory and a rack of one target.
 fn run<R: Threads + Wait + Sync, S: Source, K: Sink>(
     rt: &R,
@@ -107,50 +97,84 @@ fn faults_of_the_outside_are_told(rt: HostRuntime) -> Result<(), Fail> {
     Ok(())
 }
 
+// Runs words over a script, and compares the status and its text with those that are wanted.
+fn ends<R: Threads + Wait + Sync>(
+    rt: &R,
+    alloc: Global,
+    words: &[&str],
+    script: &[u8],
+    wanted: &Status,
+    text: &str,
+) -> Result<bool, Fail> {
+    let mut source = SureSource::new(alloc, script)?;
+    let mut sink = SureSink::new(alloc, 1000)?;
+    let status = run(rt, alloc, words, &mut source, &mut sink)?;
+    Ok(status == *wanted && status_text(alloc, &status)?.as_str() == text)
+}
+
 #[test]
-fn words_and_scripts_that_are_not_run_are_refused(rt: HostRuntime) -> Result<(), Fail> {
+fn words_that_are_not_run_are_refused(rt: HostRuntime) -> Result<(), Fail> {
     let alloc = rt.alloc();
-    let table: [(&[&str], &[u8], Status, &str); 7] = [
-        (&[], FIRST, WORDS_NOT_YET, "daos: word 0: NotYet"),
-        (&["run"], FIRST, WORDS_NOT_YET, "daos: word 0: NotYet"),
+    let table: [(&[&str], u32, WordKind, &str); 9] = [
+        (&["run", "--targets", "0"], 2, WordKind::BadValue, "daos: word 2: BadValue"),
+        (&["run", "--threads", "--order", "3"], 2, WordKind::Clash, "daos: word 2: Clash"),
+        (&[], 0, WordKind::NoJob, "daos: word 0: NoJob"),
+        (&["run"], 1, WordKind::NotYet, "daos: word 1: NotYet"),
+        (&["--targets=2", "run"], 0, WordKind::NotYet, "daos: word 0: NotYet"),
         (
-            &["run", "--targets", "2"],
-            FIRST,
-            WORDS_NOT_YET,
-            "daos: word 0: NotYet",
+            &["run", "--attempts", "3", "--threads", "--targets", "2"],
+            3,
+            WordKind::NotYet,
+            "daos: word 3: NotYet",
         ),
-        (
-            &WORDS,
-            b"client\nput o d a =1\n",
-            Status::Script(ScriptFault {
-                line: 2,
-                why: Why::BadName,
-            }),
-            "daos: script line 2: BadName",
-        ),
-        (
-            &WORDS,
-            b"client\ntx\nskip 1\n",
-            Status::Script(ScriptFault {
-                line: 2,
-                why: Why::BadBlock,
-            }),
-            "daos: script line 2: BadBlock",
-        ),
-        (
-            &WORDS,
-            b"client\nclient\n",
-            SCRIPT_NOT_YET,
-            "daos: script line 0: NotYet",
-        ),
-        (&WORDS, b"client\n", Status::Done, ""),
+        (&["run", "--order=5", "--size", "8"], 2, WordKind::NotYet, "daos: word 2: NotYet"),
+        (&["--targets", "1", "load", "5"], 0, WordKind::NotYet, "daos: word 0: NotYet"),
+        (&["run", "--targets", "2", "--"], 3, WordKind::UnknownOption, "daos: word 3: UnknownOption"),
     ];
-    for (words, script, wanted, text) in table {
-        let mut source = SureSource::new(alloc, script)?;
-        let mut sink = SureSink::new(alloc, 1000)?;
-        let status = run(&rt, alloc, words, &mut source, &mut sink)?;
-        assert_eq!(rt; status, wanted);
-        assert_eq!(rt; status_text(alloc, &status)?.as_str(), text);
+    for (words, place, kind, text) in table {
+        let wanted = Status::Words(WordFault { place, kind });
+        assert!(rt; ends(&rt, alloc, words, FIRST, &wanted, text)?);
     }
+    Ok(())
+}
+
+#[test]
+fn what_changes_nothing_is_run(rt: HostRuntime) -> Result<(), Fail> {
+    let alloc = rt.alloc();
+    let words = [
+        "--order=7", "--attempts", "1", "run", "--epsilon=9", "--size=4", "--targets=1",
+    ];
+    let mut source = SureSource::new(alloc, FIRST)?;
+    let mut sink = SureSink::new(alloc, 1000)?;
+    let status = run(&rt, alloc, &words, &mut source, &mut sink)?;
+    assert_eq!(rt; status, Status::Done);
+    assert_eq!(rt; sink.bytes(), FIRST_REPORT);
+    Ok(())
+}
+
+#[test]
+fn scripts_that_are_not_run_are_refused(rt: HostRuntime) -> Result<(), Fail> {
+    let alloc = rt.alloc();
+    let head = "cont c 00000000-0000-0000-0000-000000000001\nobj o c S1 0\nobj q c S1 1\nclient\n";
+    let unclosed = format!(in alloc; "{head}tx\nput o d a =1\n")?;
+    let printable = format!(in alloc; "{head}put o d a #6869\n")?;
+    let table: [(&[u8], u32, Why, &str); 6] = [
+        (unclosed.as_bytes(), 5, Why::BadBlock, "daos: script line 5: BadBlock"),
+        (printable.as_bytes(), 5, Why::BadHex, "daos: script line 5: BadHex"),
+        (
+            b"cont c 0000000g-0000-0000-0000-000000000001\n",
+            1,
+            Why::BadUuid,
+            "daos: script line 1: BadUuid",
+        ),
+        (b"client\nput o d a =1\n", 2, Why::BadName, "daos: script line 2: BadName"),
+        (b"client\ntx\nskip 1\n", 2, Why::BadBlock, "daos: script line 2: BadBlock"),
+        (b"client\nclient\n", 0, Why::NotYet, "daos: script line 0: NotYet"),
+    ];
+    for (script, line, why, text) in table {
+        let wanted = Status::Script(ScriptFault { line, why });
+        assert!(rt; ends(&rt, alloc, &WORDS, script, &wanted, text)?);
+    }
+    assert!(rt; ends(&rt, alloc, &WORDS, b"client\n", &Status::Done, "")?);
     Ok(())
 }
