@@ -1,10 +1,5 @@
-pub mod Answers
+pub mod Law
 pub mod Marks
-pub mod Names
-pub mod Outcomes
 pub mod Reading
 pub mod Reads
-pub mod Rows
 pub mod Told
-pub mod Words
-pub mod Law

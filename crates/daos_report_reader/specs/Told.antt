@@ -20,8 +20,8 @@ use Rattle.daos_base.specs.declared.script.Script.{Script}
 use Rattle.daos_base.specs.Keys.{same_key}
 use Rattle.daos_text.specs.Rows.{rows_text}
 use Rattle.daos_report.specs.Reports.{try_row, cond_row, got_row, line_rows}
-use Rattle.daos_report_reader.specs.declared.rows.Told.{Told}
-use Rattle.daos_report_reader.specs.declared.rows.Told.TheVariants.{Try, Cond, Got, Other}
+use Rattle.daos_report_rows.specs.declared.rows.Told.{Told}
+use Rattle.daos_report_rows.specs.declared.rows.Told.TheVariants.{Try, Cond, Got, Other}
 use Rattle.daos_report_reader.specs.Marks.{Marks, ops_of}
 
 -- ---- spelling

@@ -1,11 +1,11 @@
 // What was read of a report so far, and what one more row adds.
 ghost use Rattle.std.specs.Prelude.{◌≡◌, IfOk};
-ghost use Rattle.daos_report_reader.specs.Reads.{Reads};
+ghost use Rattle.daos_report_rows.specs.Reads.{Reads};
 ghost use Rattle.daos_report_reader.specs.Reading.{asked, down_after, lines_of, put, reads, stop_after, with_cond, with_cond_last, with_got, with_got_last, with_line, with_try};
 
-use crate::fault::RowNo;
+use daos_report_rows::fault::RowNo;
 use crate::marks::{Marks, mark_at};
-use crate::rows::Told;
+use daos_report_rows::rows::Told;
 use crate::told::{answer_fits, attempt_fits, line_fits};
 use daos_base::answer::Answer;
 use daos_base::epoch::TargetId;

@@ -1,12 +1,12 @@
 // Whether what a row tells may be told of a script, and is spelled so.
 ghost use Rattle.std.specs.Prelude.{◌≡◌, ◌++◌, ◌∷◌, [], OnOk, None};
 ghost use Rattle.daos_report_reader.specs.Marks.{ops_of};
-ghost use Rattle.daos_report_reader.specs.Reads.{Reads};
+ghost use Rattle.daos_report_rows.specs.Reads.{Reads};
 ghost use Rattle.daos_report_reader.specs.Told.{answer_fits, attempt_fits, cause_fits, has_attempt, is_bare, is_hole, is_length, is_made, is_old, is_other, is_next, is_snap, is_snap_of, is_target, line_fits, outcome_fits, outcome_fits_in, piece_fits, pieces_fit, spelled, told_text};
 
-use crate::fault::RowNo;
+use daos_report_rows::fault::RowNo;
 use crate::marks::{Marks, ops_of};
-use crate::rows::Told;
+use daos_report_rows::rows::Told;
 use daos_base::answer::{Answer, Piece};
 use daos_base::id::AttemptId;
 use daos_base::items::{Items, Memory};

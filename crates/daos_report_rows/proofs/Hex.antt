@@ -1,6 +1,6 @@
 -- One byte more of hexadecimal digits.
 use Rattle.std.proofs.Common.{◌≡◌, ℕ, ◌+◌, ◌*◌, List, [], ◌∷◌, ◌++◌, Option, Some, refl, sym, ap, ◌∙◌}
-use Rattle.daos_report_reader.specs.Answers.{digit_of, hex_of}
+use Rattle.daos_report_rows.specs.Answers.{digit_of, hex_of}
 
 pub hex_more : (bytes digits behind next new : List ℕ) (high low h l : ℕ) (all : Option (List ℕ)) → digits ≡ high ∷ behind → behind ≡ low ∷ next → Some h ≡ digit_of high → Some l ≡ digit_of low
     → new ≡ bytes ++ (h * 16 + l) ∷ [] → hex_of bytes digits ≡ all → hex_of new next ≡ all

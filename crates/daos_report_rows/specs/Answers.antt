@@ -7,8 +7,8 @@ use Rattle.daos_base.specs.declared.answer.Piece.{Piece}
 use Rattle.daos_base.specs.declared.answer.Piece.TheVariants as piece
 use Rattle.daos_text.specs.Number.{number_in}
 use Rattle.daos_text.specs.Rows.{Words}
-use Rattle.daos_report_reader.specs.Reads.{◌>>=◌}
-use Rattle.daos_report_reader.specs.Words.{word_at, nothing_at, key_of}
+use Rattle.daos_report_rows.specs.Reads.{◌>>=◌}
+use Rattle.daos_report_rows.specs.Words.{word_at, nothing_at, key_of}
 
 -- a hexadecimal digit in lower case
 abbrev pub digit_of : ℕ → Option ℕ

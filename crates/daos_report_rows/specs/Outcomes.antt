@@ -10,9 +10,9 @@ use Rattle.daos_base.specs.declared.outcome.Outcome.TheVariants as outcome
 use Rattle.daos_base.specs.declared.script.Script.{Script}
 use Rattle.daos_base.specs.declared.shown.Shown.{Shown}
 use Rattle.daos_text.specs.Rows.{Words}
-use Rattle.daos_report_reader.specs.Reads.{◌>>=◌}
-use Rattle.daos_report_reader.specs.Names.{path_at}
-use Rattle.daos_report_reader.specs.Words.{word_at, nothing_at, number_at, epoch_at, attempt_id_at}
+use Rattle.daos_report_rows.specs.Reads.{◌>>=◌}
+use Rattle.daos_report_rows.specs.Names.{path_at}
+use Rattle.daos_report_rows.specs.Words.{word_at, nothing_at, number_at, epoch_at, attempt_id_at}
 
 abbrev pub snapshot_floor : Words → Option FloorWhy
 snapshot_floor ws = do

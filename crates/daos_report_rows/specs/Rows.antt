@@ -4,13 +4,13 @@ use Rattle.std.specs.Str.{bytes_eq}
 use Rattle.daos_base.specs.declared.report.Line.TheVariants as line
 use Rattle.daos_base.specs.declared.script.Script.{Script}
 use Rattle.daos_text.specs.Rows.{Words}
-use Rattle.daos_report_reader.specs.declared.rows.Told.{Told}
-use Rattle.daos_report_reader.specs.declared.rows.Told.TheVariants.{Try, Cond, Got, Other}
-use Rattle.daos_report_reader.specs.Answers.{answer_of}
-use Rattle.daos_report_reader.specs.Names.{cont_at}
-use Rattle.daos_report_reader.specs.Outcomes.{outcome_of}
-use Rattle.daos_report_reader.specs.Reads.{◌>>=◌, Taken}
-use Rattle.daos_report_reader.specs.Words.{word_at, nothing_at, number_at, key_at, epoch_at, epoch_or_none_at, attempt_id_at}
+use Rattle.daos_report_rows.specs.declared.rows.Told.{Told}
+use Rattle.daos_report_rows.specs.declared.rows.Told.TheVariants.{Try, Cond, Got, Other}
+use Rattle.daos_report_rows.specs.Answers.{answer_of}
+use Rattle.daos_report_rows.specs.Names.{cont_at}
+use Rattle.daos_report_rows.specs.Outcomes.{outcome_of}
+use Rattle.daos_report_rows.specs.Reads.{◌>>=◌, Taken}
+use Rattle.daos_report_rows.specs.Words.{word_at, nothing_at, number_at, key_at, epoch_at, epoch_or_none_at, attempt_id_at}
 
 -- an attempt, of which more may be told below
 unfoldable pub attempt_of : Script → Words → Option Told

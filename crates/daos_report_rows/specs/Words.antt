@@ -6,7 +6,7 @@ use Rattle.daos_base.specs.declared.id.AttemptId.{AttemptId}
 use Rattle.daos_base.specs.Keys.{key_fault}
 use Rattle.daos_text.specs.Number.{number_in}
 use Rattle.daos_text.specs.Rows.{Words}
-use Rattle.daos_report_reader.specs.Reads.{◌>>=◌, Taken}
+use Rattle.daos_report_rows.specs.Reads.{◌>>=◌, Taken}
 
 -- the next word
 abbrev pub word_at : Words → Taken (List ℕ)

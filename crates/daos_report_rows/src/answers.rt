@@ -1,7 +1,7 @@
 // Answers in words.
 ghost use Rattle.std.specs.Prelude.{◌≡◌, ◌<◌, [], IfSome};
-ghost use Rattle.daos_report_reader.specs.Answers.{answer_of, digit_of, hex_of, names_from, piece_of, pieces_from, plain_of, value_of};
-ghost use Rattle.daos_report_reader.specs.Reads.{Reads};
+ghost use Rattle.daos_report_rows.specs.Answers.{answer_of, digit_of, hex_of, names_from, piece_of, pieces_from, plain_of, value_of};
+ghost use Rattle.daos_report_rows.specs.Reads.{Reads};
 
 use crate::fault::RowNo;
 use crate::words::{key_of, nothing_at, word_at};

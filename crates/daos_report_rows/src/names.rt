@@ -1,7 +1,7 @@
 // Containers and paths by the names that a script gives them.
 ghost use Rattle.std.specs.Prelude.{◌≡◌};
-ghost use Rattle.daos_report_reader.specs.Names.{cont_at, cont_of, key_or_none_at, obj_of, obj_or_none_at, path_at, path_of};
-ghost use Rattle.daos_report_reader.specs.Reads.{Reads};
+ghost use Rattle.daos_report_rows.specs.Names.{cont_at, cont_of, key_or_none_at, obj_of, obj_or_none_at, path_at, path_of};
+ghost use Rattle.daos_report_rows.specs.Reads.{Reads};
 
 use crate::fault::RowNo;
 use crate::words::{key_of, nothing_at, or_bad, word_at};
@@ -24,12 +24,12 @@ fn cont_of(decls: &[ContDecl], name: &[u8]) -> Option<ContId>
     None
 }
 
-// The first object of this name.
-fn obj_of(decls: &[ObjDecl], name: &[u8]) -> Option<ObjId>
-    ensures { result ≡ obj_of decls.now name.now }
+// The first object of this name in a container.
+fn obj_of(decls: &[ObjDecl], cont: ContId, name: &[u8]) -> Option<ObjId>
+    ensures { result ≡ obj_of decls.now cont name.now }
 {
     for decl in decls {
-        if decl.name.bytes() == name {
+        if decl.cont.0 == cont.0 && decl.name.bytes() == name {
             return Some(decl.id);
         }
     }
@@ -46,12 +46,16 @@ pub fn cont_at(script: &Script, words: &mut Parts<'_>) -> Result<ContId, RowNo>
 }
 
 // An object by its name, if a further part stands.
-fn obj_or_none_at(script: &Script, parts: &mut Parts<'_>) -> Result<Option<ObjId>, RowNo>
-    ensures { Reads (λ id. (id, parts.new)) result (obj_or_none_at script.now parts.old) }
+fn obj_or_none_at(
+    script: &Script,
+    cont: ContId,
+    parts: &mut Parts<'_>,
+) -> Result<Option<ObjId>, RowNo>
+    ensures { Reads (λ id. (id, parts.new)) result (obj_or_none_at script.now cont parts.old) }
 {
     match parts.take_part() {
         None => Ok(None),
-        Some(name) => match obj_of(script.objs.as_slice(), name) {
+        Some(name) => match obj_of(script.objs.as_slice(), cont, name) {
             Some(id) => Ok(Some(id)),
             None => Err(RowNo::Bad),
         },
@@ -78,7 +82,7 @@ fn path_of(alloc: Global, script: &Script, word: &[u8]) -> Result<Path, RowNo>
 {
     let mut parts = Parts::new(b'/', word);
     let cont = cont_at(script, &mut parts)?;
-    let obj = obj_or_none_at(script, &mut parts)?;
+    let obj = obj_or_none_at(script, cont, &mut parts)?;
     let dkey = key_or_none_at(alloc, &mut parts)?;
     let akey = key_or_none_at(alloc, &mut parts)?;
     nothing_at(&mut parts)?;

@@ -1,7 +1,7 @@
 // Outcomes in words.
 ghost use Rattle.std.specs.Prelude.{◌≡◌};
-ghost use Rattle.daos_report_reader.specs.Outcomes.{access_of, cause_of, floor_cause_of, floor_of, no_space_of, numbered_of, outcome_of, plain_of};
-ghost use Rattle.daos_report_reader.specs.Reads.{Reads};
+ghost use Rattle.daos_report_rows.specs.Outcomes.{access_of, cause_of, floor_cause_of, floor_of, no_space_of, numbered_of, outcome_of, plain_of};
+ghost use Rattle.daos_report_rows.specs.Reads.{Reads};
 
 use crate::fault::RowNo;
 use crate::names::path_at;

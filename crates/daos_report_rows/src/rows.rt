@@ -1,7 +1,7 @@
 // The rows of a report, each without its first word.
 ghost use Rattle.std.specs.Prelude.{◌≡◌};
-ghost use Rattle.daos_report_reader.specs.Reads.{Reads};
-ghost use Rattle.daos_report_reader.specs.Rows.{aggregate_of, attempt_of, cond_of, down_of, freeze_of, got_of, restart_of, snapshot_of, stop_of, told_of, yes_at, yes_of};
+ghost use Rattle.daos_report_rows.specs.Reads.{Reads};
+ghost use Rattle.daos_report_rows.specs.Rows.{aggregate_of, attempt_of, cond_of, down_of, freeze_of, got_of, restart_of, snapshot_of, stop_of, told_of, yes_at, yes_of};
 
 use crate::answers::answer_of;
 use crate::fault::RowNo;

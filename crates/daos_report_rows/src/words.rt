@@ -1,7 +1,7 @@
 // Words that stand for numbers, keys, epochs and attempts.
 ghost use Rattle.std.specs.Prelude.{◌≡◌, ◌≤◌, IfOk};
-ghost use Rattle.daos_report_reader.specs.Reads.{Reads};
-ghost use Rattle.daos_report_reader.specs.Words.{attempt_id_at, epoch_at, epoch_of, epoch_or_none_at, key_at, key_of, nothing_at, number_at, word_at};
+ghost use Rattle.daos_report_rows.specs.Reads.{Reads};
+ghost use Rattle.daos_report_rows.specs.Words.{attempt_id_at, epoch_at, epoch_of, epoch_or_none_at, key_at, key_of, nothing_at, number_at, word_at};
 
 use crate::fault::RowNo;
 use daos_base::epoch::Epoch;

@@ -1,5 +1,5 @@
-use Rattle.daos_report_reader.proofs.Hex.{hex_more}
-use Rattle.daos_report_reader.proofs.answers.hex_of.Goals as goal
+use Rattle.daos_report_rows.proofs.Hex.{hex_more}
+use Rattle.daos_report_rows.proofs.answers.hex_of.Goals as goal
 
 pub loop-high-preserved : goal.loop-high-preserved
 loop-high-preserved c =

@@ -1,6 +1,6 @@
 use Rattle.std.proofs.Common.{◌≡◌, [], length}
-use Rattle.daos_report_reader.specs.Answers.{hex_of}
-use Rattle.daos_report_reader.proofs.answers.hex_of.Given as goal
+use Rattle.daos_report_rows.specs.Answers.{hex_of}
+use Rattle.daos_report_rows.proofs.answers.hex_of.Given as goal
 
 abbrev pub invariant-loop-high : goal.invariant-loop-high
 invariant-loop-high l = hex_of l.bytes l.rest ≡ hex_of [] l.digits
