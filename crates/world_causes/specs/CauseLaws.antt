@@ -1,6 +1,6 @@
 -- Every event keeps that outcomes show their causes, and so it is at the beginning.
 use Rattle.std.specs.Prelude.{ℕ, ◌≡◌, ◌≤◌, ◌+◌, ◌++◌, ◌/◌, ◌^◌, max, List, [], length, Contains, slice_get, Some}
-use Rattle.std.proofs.Common.{ap, subst, arith}
+use Rattle.std.proofs.Common.{sym, ap, subst, arith}
 use Rattle.daos_laws.specs.Members.{has-from_contains}
 use Rattle.daos_model.specs.Attempts.{tries}
 use Rattle.daos_model.specs.Opening.{Opening}
@@ -13,7 +13,7 @@ use Rattle.world_events.specs.Steps.{KeptByHearing, KeptByMoves}
 use Rattle.world_reads.specs.History.{History}
 use Rattle.world_talks.specs.Conversation.{Conversation}
 use Rattle.world_talks.specs.ConversationLaws.{hear-keeps, move-keeps}
-use Rattle.world_causes.specs.Causes.{Causes, Dated, LowFloors, decided_in, limit}
+use Rattle.world_causes.specs.Causes.{AreApart, Causes, Dated, LowFloors, dated_ids, decided_in, limit}
 use Rattle.world_causes.specs.ClientLaws.{causes-by-counting, causes-by-hearing, causes-by-moves}
 use Rattle.world_causes.specs.Requests.{Given}
 use Rattle.world_causes.specs.TargetLaws.{target-hears-keeps, target-idles-keeps}
@@ -73,6 +73,7 @@ lease-within o w n low = by (2 ^ 55) (length w.issued)
 pub causes-begin : CausesBegin
 unfolding tries
 causes-begin r o w B = record {
+  once = subst (λ is. AreApart (dated_ids is)) (sym B.issued) tt;
   bounded = record {
     ticks = λ t s at runs. lease-within o w s.memory.ticks (B.ticks t s at);
     trackers = λ n c at. lease-within o w (c.tracker.0 / 256) (B.trackers n c at);

@@ -1,5 +1,5 @@
 -- What the outcomes of attempts show, at each moment of a run.
-use Rattle.std.specs.Prelude.{ℕ, ◌≡◌, ◌≤◌, ◌<◌, ◌+◌, ◌^◌, ◌/◌, ◌++◌, max, Any, List, [], ◌∷◌, length, Contains, slice_get, Some}
+use Rattle.std.specs.Prelude.{ℕ, ◌≡◌, ◌≤◌, ◌<◌, ◌+◌, ◌^◌, ◌/◌, ◌++◌, max, Any, List, [], ◌∷◌, length, map, Contains, slice_get, Some}
 use Rattle.daos_base.specs.declared.epoch.Epoch.{Epoch}
 use Rattle.daos_base.specs.declared.id.AttemptId.{AttemptId}
 use Rattle.daos_base.specs.declared.id.ContId.{ContId}
@@ -11,6 +11,7 @@ use Rattle.daos_base.specs.declared.path.Path.{Path}
 use Rattle.daos_base.specs.declared.report.Attempt.{Attempt}
 use Rattle.daos_base.specs.declared.script.Script.{Script}
 use Rattle.daos_base.specs.Epochs.{last_ticks}
+use Rattle.daos_laws.specs.Members.{Has}
 use Rattle.daos_messages.specs.declared.message.Message.{Message}
 use Rattle.daos_messages.specs.declared.message.Message.TheVariants as message
 use Rattle.daos_messages.specs.declared.message.Post.{Post}
@@ -33,6 +34,14 @@ use Rattle.world_events.specs.Events.{ByClient, ByTarget, Event, Rules, ToClient
 -- attempts with the epochs that were issued to them
 abbrev pub Dated : Type 0
 Dated = List (AttemptId × Epoch)
+
+-- no attempt stands there twice
+abbrev pub AreApart : List AttemptId → Type 0
+AreApart [] = Unit {0}
+AreApart (x ∷ xs) = (Has x xs → ⊥) × AreApart xs
+
+abbrev pub dated_ids : Dated → List AttemptId
+dated_ids is = map (λ i. i.0) is
 
 -- ---- what is counted
 
@@ -117,8 +126,10 @@ LowFloors o w =
 abbrev pub Space : Rules → Opening → Dated → World → Type 0
 Space r o decided w = (t : ℕ) (s : TargetState) → slice_get w.targets t ≡ Some s → o.free t ≤ s.free + blocks_of_decided r.script t decided
 
--- Each outcome that goes about, or that a line tells of, shows its cause, where these attempts were decided.
+-- Each outcome that goes about, or that a line tells of, shows its cause, where these attempts were decided; and no attempt was
+-- issued two epochs.
 pub record Causes (r : Rules) (o : Opening) (decided : Dated) (w : World) : Type 0 where
+  pub once : AreApart (dated_ids w.issued)
   pub bounded : Bounded o w
   pub space : Space r o decided w
   pub floors : LowFloors o w

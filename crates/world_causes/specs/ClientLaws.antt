@@ -202,6 +202,7 @@ did-causes : (r : Rules) (o : Opening) (decided : Dated) (w : World) (n : ℕ) (
     → ((l : Letter) → Contains letters l → Contains w.messages l) → d.tracker.0 / 256 ≤ limit o w.issued → PostsShow r o decided w.issued posts → LinesShow r o decided w.issued lines
     → Causes r o decided (after_client (without w letters) n posts lines d)
 did-causes r o decided w n c d letters posts lines C here among tracker P L = record {
+  once = C.once;
   bounded = record {
     ticks = C.bounded.ticks;
     trackers = at-set w.clients n c d (λ m z. z.tracker.0 / 256 ≤ limit o w.issued) here tracker C.bounded.trackers;

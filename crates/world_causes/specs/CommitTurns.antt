@@ -35,7 +35,7 @@ use Rattle.world_causes.specs.Dates.{IsDated, heard-within, limit-rises, request
 use Rattle.world_causes.specs.Floors.{below-stays, no-first-floor, no-first-later}
 use Rattle.world_causes.specs.Paths.{CommitSoFar, commit-path}
 use Rattle.world_causes.specs.Premises.{AreOfReads, IsRequest}
-use Rattle.world_causes.specs.ReadTurns.{AreOpeningLow, issue-within, none-told, told-one}
+use Rattle.world_causes.specs.ReadTurns.{AreOpeningLow, issue-fresh, issue-within, none-told, told-one}
 use Rattle.world_causes.specs.Turns.{Heeds, said}
 
 -- a target that hears a Commit of an attempt's writes, of which it holds some
@@ -134,6 +134,7 @@ module _ (r : Rules) (o : Opening) (decided issued : Dated) (t : ℕ) (opening :
         told = λ n i. told n (has-from_contains (e.0 ∷ z.epoch.0 ∷ []) n i);
         ticks = heard e d.within;
         dated = issue-within o issued q.attempt q.ep e d.within;
+        fresh = issue-fresh o issued q.attempt q.ep q.first q.tracker e h.request;
         space = let f : old.free ≤ k.free + 0 = w.free in omega (arith, f);
       })
     where
@@ -153,6 +154,7 @@ module _ (r : Rules) (o : Opening) (decided issued : Dated) (t : ℕ) (opening :
         told = λ e i. absurd (none-told e i);
         ticks = subst (λ is'. m.ticks ≤ limit o is') (sym (append-nil issued)) h.ticks;
         dated = λ x e i. let no : ⊥ = cc in absurd no;
+        fresh = λ x e f i. let no : ⊥ = cc in absurd no;
         space = let f : old.free ≤ k.free + 0 = w.free in omega (arith, f);
       })
     where
@@ -166,6 +168,7 @@ module _ (r : Rules) (o : Opening) (decided issued : Dated) (t : ℕ) (opening :
         told = λ n i. subst (λ f. f / 256 ≤ limit o (now e)) (told-one e n i) d.within;
         ticks = heard e d.within;
         dated = issue-within o issued q.attempt q.ep e d.within;
+        fresh = issue-fresh o issued q.attempt q.ep q.first q.tracker e h.request;
         space = let f : old.free ≤ k.free + 0 = w.free in omega (arith, f);
       })
     where
@@ -181,6 +184,7 @@ module _ (r : Rules) (o : Opening) (decided issued : Dated) (t : ℕ) (opening :
         told = λ n i. subst (λ f. f / 256 ≤ limit o (now e)) (told-one e n i) d.within;
         ticks = heard e d.within;
         dated = issue-within o issued q.attempt q.ep e d.within;
+        fresh = issue-fresh o issued q.attempt q.ep q.first q.tracker e h.request;
         space = space;
       })
     where

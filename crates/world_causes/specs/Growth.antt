@@ -1,11 +1,12 @@
 -- What an outcome shows it goes on to show, and what holds of lists where one element changed.
-use Rattle.std.specs.Prelude.{ℕ, ◌≡◌, ◌≤◌, ◌+◌, ◌⊎◌, ◌++◌, Any, true, ◌||◌, List, [], ◌∷◌, slice_get, Option, Some, None, refl}
+use Rattle.std.specs.Prelude.{ℕ, ◌≡◌, ◌≤◌, ◌+◌, ◌⊎◌, ◌++◌, Any, Contains, true, ◌||◌, List, [], ◌∷◌, slice_get, Option, Some, None, refl}
 use Rattle.std.proofs.Common.{zero, suc, sym, ◌∙◌, ap, subst, inl, inr, arith}
 use Rattle.std.proofs.Math.Bool.{or-true}
 use Rattle.std.proofs.Math.ListN.{set}
 use Rattle.std.proofs.lemmas.Bool.{cases_eq}
 use Rattle.std.proofs.lemmas.List.{append_assoc}
 use Rattle.std.proofs.lemmas.List.Elements.{Contains-append_left}
+use Rattle.daos_base.specs.declared.epoch.Epoch.{Epoch}
 use Rattle.daos_base.specs.declared.id.AttemptId.{AttemptId}
 use Rattle.daos_base.specs.declared.operation.Act.{Act}
 use Rattle.daos_base.specs.declared.operation.Act.TheVariants as act
@@ -20,7 +21,7 @@ use Rattle.daos_base.specs.declared.outcome.Outcome.TheVariants as outcome
 use Rattle.daos_base.specs.declared.path.Path.{Path}
 use Rattle.daos_base.specs.declared.script.Script.{Script}
 use Rattle.daos_base.specs.Operations.{act_path, read_path}
-use Rattle.daos_laws.specs.Members.{Has, contains-from_has}
+use Rattle.daos_laws.specs.Members.{Has, contains-from_has, has-from_contains}
 use Rattle.daos_messages.specs.declared.message.Message.{Message}
 use Rattle.daos_messages.specs.declared.message.Message.TheVariants as message
 use Rattle.daos_messages.specs.declared.message.Reply.{Reply}
@@ -33,7 +34,7 @@ use Rattle.world_base.specs.declared.client.Stage.TheVariants as stage
 use Rattle.world_base.specs.ClientTurns.{act_read, condition_read, question}
 use Rattle.world_events.specs.Events.{Rules}
 use Rattle.world_events.specs.StepLaws.{set-here, set-there}
-use Rattle.world_causes.specs.Causes.{Dated, MessageShows, ReplyShows, Shows, ShowsCause, blocks_of_decided}
+use Rattle.world_causes.specs.Causes.{AreApart, Dated, dated_ids, MessageShows, ReplyShows, Shows, ShowsCause, blocks_of_decided}
 
 -- ---- one element among others
 
@@ -56,6 +57,21 @@ has-at (y ∷ ys) (suc n) x h = inr (has-at ys n x h)
 
 pub any-of : {T : Type 0} (P : T → Type 0) (xs : List T) (x : T) → Has x xs → P x → Any P xs
 any-of P xs x i p = let c = contains-from_has xs x i in (c.0, x, c.1, c.2, p)
+
+-- one attempt more, which isn't there
+pub apart-with : (is : Dated) (i : AttemptId × Epoch) → AreApart (dated_ids is) → ((f : Epoch) → Contains is (i.0, f) → ⊥) → AreApart (dated_ids (is ++ i ∷ []))
+apart-with [] i k none = (λ h. h, tt)
+apart-with (j ∷ is) i k none = (λ h. by (among is h), apart-with is i k.1 (λ f c. none f (contains-from_has (j ∷ is) (i.0, f) (inr (has-from_contains is (i.0, f) c)))))
+  where
+    among : (zs : Dated) → Has j.0 (dated_ids (zs ++ i ∷ [])) → Has j.0 (dated_ids zs) ⊎ (j.0 ≡ i.0)
+    among [] (inl same) = inr same
+    among [] (inr bad) = absurd bad
+    among (z ∷ zs) (inl same) = inl (inl same)
+    among (z ∷ zs) (inr h) = elim (among zs h) [ inl l ↦ inl (inr l) | inr e ↦ inr e ]
+
+    by : Has j.0 (dated_ids is) ⊎ (j.0 ≡ i.0) → ⊥
+    by (inl h) = k.0 h
+    by (inr same) = none j.1 (contains-from_has (j ∷ is) (i.0, j.1) (inl (ap (λ x. (x, j.1)) (sym same))))
 
 -- ---- what is shown stays shown
 

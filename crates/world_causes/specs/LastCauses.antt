@@ -30,30 +30,21 @@ use Rattle.daos_model.specs.Transactions.{command_of, numbered, numbered_at, ops
 use Rattle.world_base.specs.declared.world.World.{World}
 use Rattle.world_events.specs.Events.{Rules, commands_or_none}
 use Rattle.world_reads.specs.EntryLaws.{same-attempt}
-use Rattle.world_causes.specs.Causes.{Causes, Dated, Shows, ShowsCause, ShowsLack, ShowsRead, ShowsSpent, blocks_of_decided}
+use Rattle.world_causes.specs.Causes.{AreApart, Causes, Dated, dated_ids, Shows, ShowsCause, ShowsLack, ShowsRead, ShowsSpent, blocks_of_decided}
 use Rattle.world_causes.specs.Growth.{any-of, has-at}
 use Rattle.world_causes.specs.Premises.{IsPlain}
 
 -- ---- the statement
 
--- no attempt stands there twice
-abbrev pub AreApart : List AttemptId → Type 0
-AreApart [] = Unit {0}
-AreApart (x ∷ xs) = (Has x xs → ⊥) × AreApart xs
-
 abbrev pub ids : List Attempt → List AttemptId
 ids xs = map (λ a. a.id) xs
 
-abbrev pub dated_ids : Dated → List AttemptId
-dated_ids is = map (λ i. i.0) is
-
 -- Each attempt to which an epoch was issued has its line, with that epoch; each that was decided is told of as committed; none
--- was decided twice, had two epochs issued, or has two lines; and no line tells of a restart of a target.
+-- was decided twice, or has two lines; and no line tells of a restart of a target.
 pub record AllAreTold (decided : Dated) (w : World) : Type 0 where
   pub issued : (x : AttemptId) (e : Epoch) → Contains w.issued (x, e) → (a : Attempt) × Contains (tries w.lines) a × (a.id ≡ x) × (a.epoch ≡ Some e)
   pub decided_are : (x : AttemptId) (e : Epoch) → Contains decided (x, e) → (a : Attempt) × Contains (tries w.lines) a × (a.id ≡ x) × (a.outcome ≡ outcome.Committed)
   pub lines_apart : AreApart (ids (tries w.lines))
-  pub issued_apart : AreApart (dated_ids w.issued)
   pub decided_apart : AreApart (dated_ids decided)
   pub restarts : restart_numbers w.lines ≡ []
 
@@ -274,7 +265,7 @@ module _ (r : Rules) (g : model.Given) (decided : Dated) (w : World) (P : IsPlai
       apart : AreApart (a.id ∷ dated_ids k.before)
       apart = (
         λ i. let j = has-from_map (λ z. z.0) k.before a.id i in k.none j.0.1 (subst (λ x. Contains k.before (x, j.0.1)) j.2 (contains-from_has k.before j.0 j.1)),
-        apart-left k.before k.since (subst (λ is. AreApart (dated_ids is)) k.among T.issued_apart),
+        apart-left k.before k.since (subst (λ is. AreApart (dated_ids is)) k.among C.once),
       )
 
       lines : (y : AttemptId) → Has y (a.id ∷ dated_ids k.before) → (b : Attempt) × Has b (tries w.lines) × (b.id ≡ y)

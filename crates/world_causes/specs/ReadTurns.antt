@@ -63,6 +63,12 @@ pub issue-within : (o : Opening) (issued : Dated) (x : AttemptId) (ep : Option E
 issue-within o issued x None e k y f is = let same : e ≡ f = (some_pair_parts x y e f is).1 in subst (λ g. g.0 / 256 ≤ limit o (issued ++ listed (issued_for x None e))) same k
 issue-within o issued x (Some own) e k y f is = let no : ⊥ = cc in absurd no
 
+-- and its attempt had none
+pub issue-fresh : (o : Opening) (issued : Dated) (x : AttemptId) (ep first : Option Epoch) (tracker e : Epoch) → IsRequest o issued x ep first tracker
+    → (y : AttemptId) (f g : Epoch) → issued_for x ep e ≡ Some (y, f) → Contains issued (y, g) → ⊥
+issue-fresh o issued x None first tracker e q y f g is i = (q.fresh refl).0 g (subst (λ z. Contains issued (z, g)) (sym (some_pair_parts x y e f is).0) i)
+issue-fresh o issued x (Some own) first tracker e q y f g is i = let no : ⊥ = cc in absurd no
+
 -- ---- the ends
 
 module _ (r : Rules) (o : Opening) (decided issued : Dated) (t : TargetPlan) (opening : Epoch × FloorWhy) (m : TargetMemory) (reading : ℕ) (q : FetchRequest) (from : ActorId) (old : Kept) (h : HearsFetch o issued t opening m old q) where
@@ -74,6 +80,7 @@ module _ (r : Rules) (o : Opening) (decided issued : Dated) (t : TargetPlan) (op
     told = λ k i. subst (λ n. n / 256 ≤ limit o (issued ++ listed (issued_for q.attempt q.ep e))) (told-one e k i) d.within;
     ticks = subst (λ n. n ≤ limit o (issued ++ listed (issued_for q.attempt q.ep e))) (sym now) heard;
     dated = issue-within o issued q.attempt q.ep e d.within;
+    fresh = issue-fresh o issued q.attempt q.ep q.first q.tracker e h.request;
     space = omega (arith, more);
   }
     where
@@ -96,6 +103,7 @@ module _ (r : Rules) (o : Opening) (decided issued : Dated) (t : TargetPlan) (op
         told = λ e i. absurd (none-told e i);
         ticks = subst (λ is'. m.ticks ≤ limit o is') (sym (append-nil issued)) h.ticks;
         dated = λ x e i. let no : ⊥ = cc in absurd no;
+        fresh = λ x e f i. let no : ⊥ = cc in absurd no;
         space = let f : old.free ≤ k.free = w.free in omega (arith, f);
       })
     where

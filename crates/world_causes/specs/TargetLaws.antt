@@ -29,11 +29,11 @@ use Rattle.world_talks.specs.TalkLaws.{left-is-among}
 use Rattle.world_turns.specs.Changes.{Kept}
 use Rattle.world_turns.specs.Idle.{AllSettled, IdleEnds}
 use Rattle.world_turns.specs.TargetTurns.{Hears, IdlesWhole}
-use Rattle.world_causes.specs.Causes.{Causes, Dated, MessageShows, blocks_of_decided, decided_by_posts, limit}
+use Rattle.world_causes.specs.Causes.{AreApart, Causes, Dated, dated_ids, MessageShows, blocks_of_decided, decided_by_posts, limit}
 use Rattle.world_causes.specs.CommitTurns.{commit-heeds}
 use Rattle.world_causes.specs.Dates.{limit-rises}
 use Rattle.world_causes.specs.Floors.{stays-low}
-use Rattle.world_causes.specs.Growth.{at-set, blocks-more, message-more, shows-more}
+use Rattle.world_causes.specs.Growth.{apart-with, at-set, blocks-more, message-more, shows-more}
 use Rattle.world_causes.specs.Paths.{idle-leaves}
 use Rattle.world_causes.specs.ReadTurns.{fetch-heeds}
 use Rattle.world_causes.specs.Requests.{Given, hears-commit, hears-fetch}
@@ -46,6 +46,7 @@ pub record Leaves (r : Rules) (o : Opening) (decided issued : Dated) (t : ℕ) (
   pub lines : did.lines ≡ []
   pub ticks : memory.ticks ≤ limit o (issued ++ listed did.issued)
   pub dated : (x : AttemptId) (e : Epoch) → did.issued ≡ Some (x, e) → e.0 / 256 ≤ limit o (issued ++ listed did.issued)
+  pub fresh : (x : AttemptId) (e f : Epoch) → did.issued ≡ Some (x, e) → Contains issued (x, f) → ⊥
   pub space : old.free + blocks_of_decided r.script t decided ≤ new.free + blocks_of_decided r.script t (decided_by_posts did.posts ++ decided)
   pub conts : new.durable.conts ≡ old.durable.conts
 
@@ -57,6 +58,7 @@ heeds-leaves r o decided issued t from old new memory did k conts = record {
   lines = k.lines;
   ticks = k.ticks;
   dated = k.dated;
+  fresh = k.fresh;
   space = k.space;
   conts = conts;
 }
@@ -74,6 +76,7 @@ leaves-keep : (r : Rules) (o : Opening) (decided : Dated) (w : World) (t : ℕ) 
     → ((l : Letter) → Contains rest l → Contains w.messages l) → Leaves r o decided w.issued t (kept s) new memory did
     → Causes r o (decided_by_posts did.posts ++ decided) (with_target t (target_after s new memory) (after_turn w (target t) did rest))
 leaves-keep r o decided w t s new memory did rest C here runs among L = record {
+  once = once did.issued L.fresh;
   bounded = record {
     ticks = at-set w.targets t s (target_after s new memory) (λ u z. z.life ≡ Running → z.memory.ticks ≤ limit o now) here (λ k. L.ticks) (λ u z at k. up (C.bounded.ticks u z at k));
     trackers = λ n c at. up (C.bounded.trackers n c at);
@@ -95,6 +98,10 @@ leaves-keep r o decided w t s new memory did rest C here runs among L = record {
 
     up : {n : ℕ} → n ≤ limit o w.issued → n ≤ limit o now
     up k = let g : limit o w.issued ≤ limit o now = limit-rises o w.issued (listed did.issued) in omega (arith, k, g)
+
+    once : (new : Option (AttemptId × Epoch)) → ((x : AttemptId) (e f : Epoch) → new ≡ Some (x, e) → Contains w.issued (x, f) → ⊥) → AreApart (dated_ids (w.issued ++ listed new))
+    once None fresh = subst (λ is. AreApart (dated_ids is)) (sym (append-nil w.issued)) C.once
+    once (Some i) fresh = apart-with w.issued i C.once (λ f j. fresh i.0 i.1 f refl j)
 
     dated : (x : AttemptId) (e : Epoch) → Has (x, e) w.issued ⊎ Has (x, e) (listed did.issued) → e.0 / 256 ≤ limit o now
     dated x e (inl i) = up (C.bounded.issued x e (contains-from_has w.issued (x, e) i))
@@ -161,6 +168,7 @@ idle-did r o decided issued t m old new left low w =
       lines = refl;
       ticks = subst (λ is. m.ticks ≤ limit o is) (sym (append-nil issued)) low;
       dated = λ x e i. let no : ⊥ = cc in absurd no;
+      fresh = λ x e f i. let no : ⊥ = cc in absurd no;
       space = let f : old.free ≤ new.free = k.1 in omega (arith, f);
       conts = k.0;
     })

@@ -22,6 +22,7 @@ pub record Heeds (r : Rules) (o : Opening) (decided issued : Dated) (t : ℕ) (f
   pub told : (e : ℕ) → Contains (told_by_message answer) e → e / 256 ≤ limit o (issued ++ listed left.1.issued)
   pub ticks : left.0.ticks ≤ limit o (issued ++ listed left.1.issued)
   pub dated : (x : AttemptId) (e : Epoch) → left.1.issued ≡ Some (x, e) → e.0 / 256 ≤ limit o (issued ++ listed left.1.issued)
+  pub fresh : (x : AttemptId) (e f : Epoch) → left.1.issued ≡ Some (x, e) → Contains issued (x, f) → ⊥
   pub space : before + blocks_of_decided r.script t decided ≤ after + blocks_of_decided r.script t (decided_by_posts left.1.posts ++ decided)
 
 -- an attempt is answered, with its epoch or none
@@ -30,6 +31,7 @@ pub record Says (r : Rules) (o : Opening) (decided issued : Dated) (t : ℕ) (be
   pub told : (e : ℕ) → Contains (told_by_message a) e → e / 256 ≤ limit o (issued ++ listed new)
   pub ticks : memory.ticks ≤ limit o (issued ++ listed new)
   pub dated : (x : AttemptId) (e : Epoch) → new ≡ Some (x, e) → e.0 / 256 ≤ limit o (issued ++ listed new)
+  pub fresh : (x : AttemptId) (e f : Epoch) → new ≡ Some (x, e) → Contains issued (x, f) → ⊥
   pub space : before + blocks_of_decided r.script t decided ≤ after + blocks_of_decided r.script t (decided_by_message a ++ decided)
 
 no-more : (xs : Dated) → xs ++ [] ≡ xs
@@ -46,5 +48,6 @@ said r o decided issued t from before after memory a new left is k = subst (λ z
   told = k.told;
   ticks = k.ticks;
   dated = k.dated;
+  fresh = k.fresh;
   space = subst (λ ds. before + blocks_of_decided r.script t decided ≤ after + blocks_of_decided r.script t (ds ++ decided)) (sym (no-more (decided_by_message a))) k.space;
 })
