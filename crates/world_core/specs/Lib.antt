@@ -2,3 +2,4 @@
 pub mod Judged
 pub mod ScriptForm
 pub mod Asking
+pub mod Everything

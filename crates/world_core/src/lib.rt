@@ -2,6 +2,7 @@
 #![tactic(auto)]
 
 ghost use Rattle.world_core.specs.Asking.{RequestsAreRight};
+ghost use Rattle.world_core.specs.Everything.{EventsKeepEverything, RunsKeepEverything};
 ghost use Rattle.world_core.specs.Judged.{ClientsKeepJudged};
 ghost use Rattle.world_core.specs.ScriptForm.{ReadsAreInForm, WritesAreInForm};
 
@@ -24,4 +25,13 @@ pub fn laws_of_requests()
 pub fn laws_of_forms()
     ensures reads { ReadsAreInForm }
     ensures writes { WritesAreInForm }
+{}
+
+/// Says that every event of a run of one target keeps, all together: what goes about, what lines tell,
+/// epochs, verdicts, what clients were told, what the target keeps, and what it answered; of what was decided and
+/// served by then, which only grows. So does a run. Nothing stops, no snapshot is made or read, and
+/// nothing is aggregated.
+pub fn laws_of_runs()
+    ensures events { EventsKeepEverything }
+    ensures runs { RunsKeepEverything }
 {}

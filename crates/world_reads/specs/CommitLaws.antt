@@ -6,7 +6,6 @@ use Rattle.daos_base.specs.declared.epoch.Epoch.{Epoch}
 use Rattle.daos_base.specs.declared.id.AttemptId.{AttemptId}
 use Rattle.daos_base.specs.declared.operation.MinorWrite.{MinorWrite}
 use Rattle.daos_base.specs.declared.outcome.FloorWhy.{FloorWhy}
-use Rattle.daos_base.specs.declared.answer.Answer.{Answer}
 use Rattle.daos_base.specs.declared.outcome.Outcome.{Outcome}
 use Rattle.daos_base.specs.declared.outcome.Outcome.TheVariants as outcome
 use Rattle.daos_messages.specs.declared.message.Message.{Message}
@@ -19,7 +18,6 @@ use Rattle.daos_base.specs.Placement.{path_members}
 use Rattle.daos_laws.specs.Members.{Has, any-has, contains-from_has, has-any, has-filter, has-from_contains, has-from_filter}
 use Rattle.daos_laws.specs.TargetLaws.{number_same, same_number}
 use Rattle.daos_messages.specs.declared.actor.ActorId.{ActorId}
-use Rattle.world_base.specs.declared.request.FetchRequest.{FetchRequest}
 use Rattle.daos_model.specs.declared.durable.Durable.{Durable}
 use Rattle.daos_model.specs.declared.durable.Version.{Version}
 use Rattle.daos_model.specs.Accesses.{minor_writes}
@@ -37,7 +35,7 @@ use Rattle.world_base.specs.declared.world.World.{World}
 use Rattle.world_events.specs.Events.{Rules, listed, target_plan}
 use Rattle.world_reads.specs.DecideLaws.{AreItsOwn, IsNewEntry, no-entry, old-decided}
 use Rattle.world_reads.specs.EntryLaws.{same-itself}
-use Rattle.world_reads.specs.FetchLaws.{issued-now, nothing-new, nothing-told}
+use Rattle.world_reads.specs.FetchLaws.{issued-now, nothing-told}
 use Rattle.world_reads.specs.Given.{IsCommitRight, IsItsEpoch}
 use Rattle.world_reads.specs.History.{History, Served, decides}
 use Rattle.world_reads.specs.HoldLaws.{decides-holds, decides-open, settles-holds}
@@ -217,7 +215,7 @@ module _ (r : Rules) (o : Opening) (held : List Version) (h : History) (w : Worl
 abbrev Idling : (r : Rules) (o : Opening) (held : List Version) (h : History) (opening : Epoch × FloorWhy) (t : ℕ) (m : TargetMemory) → List AttemptId → Kept → Type 0
 Idling r o held h opening t m left k = Holds r o held h t k.durable left × Shows r o h opening t k.durable m.stamps
 
-module _ (r : Rules) (o : Opening) (held : List Version) (h : History) (w : World) (opening : Epoch × FloorWhy) (t : ℕ) (m : TargetMemory) where
+module _ (r : Rules) (o : Opening) (held : List Version) (h : History) (opening : Epoch × FloorWhy) (t : ℕ) (m : TargetMemory) where
   idle-step : (s : List AttemptId) (k : Kept) (c : Option Change) (u : List AttemptId) (l : Kept) → IdleNext s k c u → Steps c k l → Idling r o held h opening t m s k → Idling r o held h opening t m u l
   idle-step s k c u l (SettlesFirst k' a rest) steps p =
       subst (λ d. Holds r o held h t d rest × Shows r o h opening t d m.stamps) (sym steps.0)
@@ -233,12 +231,11 @@ module _ (r : Rules) (o : Opening) (held : List Version) (h : History) (w : Worl
       fewer : (x : AttemptId) → Contains rest x → Contains (a ∷ rest) x
       fewer x i = contains-from_has (a ∷ rest) x (inr (has-from_contains rest x i))
 
-  idle-ends : (s : List AttemptId) (k : Kept) (left : TargetMemory × Did) → IdleEnds m s k left → Idling r o held h opening t m s k → TurnLeaves r o held h w opening t k left
+  idle-ends : (s : List AttemptId) (k : Kept) (left : TargetMemory × Did) → IdleEnds m s k left → Idling r o held h opening t m s k → Sound r o held h opening t k.durable left.0.decided left.0.stamps
   idle-ends s k left (AllSettled k' left' is) p =
-      nothing-new r o held h w opening t k left
-      (subst (λ n. Sound r o held h opening t k.durable n.0.decided n.0.stamps) (sym is) (record { holds = p.0; unsettled = λ x i. absurd (has-from_contains [] x i); shows = p.1 }))
+      subst (λ n. Sound r o held h opening t k.durable n.0.decided n.0.stamps) (sym is) (record { holds = p.0; unsettled = λ x i. absurd (has-from_contains [] x i); shows = p.1 })
 
   -- the whole of it
-  pub idle-sound : (old new : Kept) (left : TargetMemory × Did) → IdlesWhole m old new left → Sound r o held h opening t old.durable m.decided m.stamps → TurnLeaves r o held h w opening t new left
+  pub idle-sound : (old new : Kept) (left : TargetMemory × Did) → IdlesWhole m old new left → Sound r o held h opening t old.durable m.decided m.stamps → Sound r o held h opening t new.durable left.0.decided left.0.stamps
   idle-sound old new left turn k =
       idle-ends turn.last new left turn.ends (path-keeps IdleNext (Idling r o held h opening t m) idle-step m.decided old turn.reached.did turn.last new turn.reached.path (k.holds, k.shows))

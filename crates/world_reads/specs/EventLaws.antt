@@ -33,7 +33,7 @@ use Rattle.world_reads.specs.CommitLaws.{commit-sound, idle-sound}
 use Rattle.world_reads.specs.FetchLaws.{fetch-sound}
 use Rattle.world_reads.specs.Given.{Given, IsMessageRight}
 use Rattle.world_reads.specs.History.{History, Served}
-use Rattle.world_reads.specs.Keeping.{GoOnTold, ClientsKeepReads, GoOn, HearingKeepsReads, IdlingKeepsReads, OthersKeepReads}
+use Rattle.world_reads.specs.Keeping.{ClientsKeepReads, GoOn, HearingKeepsReads, IdlingKeepsReads, OthersKeepReads}
 use Rattle.world_reads.specs.Midway.{Sound, TurnLeaves, TurnTold}
 use Rattle.world_reads.specs.Reads.{IsGuarded, Reads}
 use Rattle.world_reads.specs.Versions.{IsWriteAt, Versions, VersionsStand}
@@ -182,9 +182,20 @@ hearing-keeps r o held h w v given versions reads e = record { on = goes-on r o 
         (given.asked e.l e.t e.s (taken-among w.messages e.l e.rest e.takes) e.to_it e.here e.runs) e.turn
 
 pub idling-keeps : IdlingKeepsReads
-idling-keeps r o held h w v given versions reads e =
-    goes-on r o held h w e.t e.s e.new (e.memory, e.did) w.messages v e.after given.alone e.here versions reads
-    (idle-sound r o (held e.t) h w e.s.opening e.t e.s.memory (kept e.s) e.new (e.memory, e.did) e.turn (turn-begins r o held h w e.t e.s e.here e.runs versions reads))
+unfolding goes-on
+idling-keeps r o held h w v given versions reads e = (on.versions, on.reads)
+  where
+    nothing : TurnLeaves r o (held e.t) h w e.s.opening e.t e.new (e.memory, e.did)
+    nothing = record {
+      later = h;
+      grew = record { decided = λ i j. j; served = λ q j. j };
+      sound = idle-sound r o (held e.t) h e.s.opening e.t e.s.memory (kept e.s) e.new (e.memory, e.did) e.turn (turn-begins r o held h w e.t e.s e.here e.runs versions reads);
+      decided = λ x f i. inl i;
+      served = λ q i. inl i;
+    }
+
+    on : GoOn r o held h v
+    on = goes-on r o held h w e.t e.s e.new (e.memory, e.did) w.messages v e.after given.alone e.here versions reads nothing
 
 -- ---- where no target changes
 

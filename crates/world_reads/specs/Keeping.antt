@@ -29,10 +29,10 @@ abbrev pub HearingKeepsReads : Type 0
 HearingKeepsReads =
     (r : Rules) (o : Opening) (held : ℕ → List Version) (h : History) (w v : World) → Given r o held h w → Versions r o held h w → Reads r o h w → (g : TargetHears r w v) → GoOnTold r o held h w v g
 
--- so does a target that does its idle work
+-- so does a target that does its idle work, which decides and serves nothing more
 abbrev pub IdlingKeepsReads : Type 0
 IdlingKeepsReads =
-    (r : Rules) (o : Opening) (held : ℕ → List Version) (h : History) (w v : World) → Given r o held h w → Versions r o held h w → Reads r o h w → TargetIdles r w v → GoOn r o held h v
+    (r : Rules) (o : Opening) (held : ℕ → List Version) (h : History) (w v : World) → Given r o held h w → Versions r o held h w → Reads r o h w → TargetIdles r w v → Versions r o held h v × Reads r o h v
 
 -- where no target changes, they stay as they are
 abbrev pub OthersKeepReads : Type 0
