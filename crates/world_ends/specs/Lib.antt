@@ -9,3 +9,4 @@ pub mod LastReads
 pub mod OneTargetLaws
 pub mod LastStand
 pub mod Laws
+pub mod Runs

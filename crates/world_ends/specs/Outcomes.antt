@@ -26,7 +26,7 @@ use Rattle.daos_model.specs.Opening.{Given, undisturbed}
 use Rattle.daos_model.specs.Order.{AllInTurn, AreAttempts, AreInTurn, client_commands, commands_or_none as of_option}
 use Rattle.daos_model.specs.OutcomesLegal.{OutcomesLegal}
 use Rattle.daos_model.specs.Snapshots.{ComesFrom, NoneLegal, SnapshotsLegal}
-use Rattle.daos_model.specs.Transactions.{attempt_ops, command_of, numbered, numbered_at}
+use Rattle.daos_model.specs.Transactions.{attempt_ops, command_of, numbered_at}
 use Rattle.world_base.specs.declared.client.ClientState.{ClientState}
 use Rattle.world_base.specs.declared.world.World.{World}
 use Rattle.world_clients.specs.Answered.{EndsAsAnswered, EndsWell, IsAnsweredWhole, ops_numbered}

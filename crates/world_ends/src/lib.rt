@@ -2,16 +2,19 @@
 #![tactic(auto)]
 
 ghost use Rattle.world_ends.specs.Laws.{LastOutcomesAreLegal, LastReadsAreLegal, LastReportsAreLegal, LastStandIsRight, TookIsDecided};
+ghost use Rattle.world_ends.specs.Runs.{RunsReportLegally};
 
 /// Says what holds when a run is over: all clients are done, nothing is in flight, and every decided
 /// attempt is settled. The run is of one target, without stops, snapshots and aggregation. What took
 /// effect by the lines is what was decided. Each answer that a line tells is what that gives, and each
 /// outcome goes with what stands beside it; the target stands for it and for nothing else. So, where
-/// every outcome shows its cause, the report of the lines is legal.
+/// every outcome shows its cause, the report of the lines is legal. And so it is for every run, from
+/// where all that events keep holds.
 pub fn laws_of_ends()
     ensures took { TookIsDecided }
     ensures outcomes { LastOutcomesAreLegal }
     ensures reads { LastReadsAreLegal }
     ensures stands { LastStandIsRight }
     ensures reports { LastReportsAreLegal }
+    ensures runs { RunsReportLegally }
 {}
