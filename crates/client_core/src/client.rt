@@ -118,8 +118,18 @@ impl Client {
         ensures plan { self.new.plan ≡ self.old.plan }
         ensures err { OnErr result (self.new.state ≡ self.old.state) }
     {
+        self.heard(&message)
+    }
+
+    // The same, of a message that the caller keeps.
+    fn heard(&mut self, message: &Message) -> Result<Did, Memory>
+        requires { self.old.state.skip ≡ 0 }
+        ensures turn { IfOk result (λ did. HearTurn self.old.plan self.old.state message.now did self.new.state) }
+        ensures plan { self.new.plan ≡ self.old.plan }
+        ensures err { OnErr result (self.new.state ≡ self.old.state) }
+    {
         let state = self.state.copy(self.alloc)?;
-        let Turn { did, state } = hears(self.alloc, &self.plan, state, &message)?;
+        let Turn { did, state } = hears(self.alloc, &self.plan, state, message)?;
         self.state = state;
         Ok(did)
     }
