@@ -13,3 +13,8 @@ pub mod TargetLaws
 pub mod ClientLaws
 pub mod CauseLaws
 pub mod LastCauses
+pub mod Unsettled
+pub mod Firsts
+pub mod FirstMoves
+pub mod FirstLaws
+pub mod IssuedOnce

@@ -2,7 +2,10 @@
 #![tactic(auto)]
 
 ghost use Rattle.world_causes.specs.CauseLaws.{CausesAreKept, CausesBegin};
+ghost use Rattle.world_causes.specs.Firsts.{EventsKeepFirsts};
+ghost use Rattle.world_causes.specs.IssuedOnce.{EventsKeepIssuedOnce};
 ghost use Rattle.world_causes.specs.LastCauses.{CausesAreShown};
+ghost use Rattle.world_causes.specs.Unsettled.{UnsettledIsDecided};
 
 /// Says what the outcomes of attempts show in a run without stops and snapshots, whose clocks leave
 /// nothing uncertain. At each moment, each outcome that goes about, or that a line tells of, shows its
@@ -15,4 +18,14 @@ pub fn laws_of_causes()
     ensures begin { CausesBegin }
     ensures kept { CausesAreKept }
     ensures shown { CausesAreShown }
+{}
+
+/// Says what the causes stand on. The one target of a run knows as decided what isn't settled there. Every
+/// event of a run without snapshots keeps that the first epoch which goes with a request isn't above the
+/// request's own epoch, or where it has none yet above its tracker; and that each attempt is issued an
+/// epoch at most once.
+pub fn laws_of_premises()
+    ensures unsettled { UnsettledIsDecided }
+    ensures firsts { EventsKeepFirsts }
+    ensures issued { EventsKeepIssuedOnce }
 {}

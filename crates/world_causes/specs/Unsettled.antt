@@ -1,0 +1,68 @@
+-- What isn't settled at a target is of attempts that it knows as decided, where it leads all entries that it has.
+use Rattle.std.specs.Prelude.{ℕ, ◌≡◌, ◌%◌, List, [], ◌∷◌, slice_get, Contains, Option, Some, None, false, refl}
+use Rattle.std.proofs.Common.{sym, ◌∙◌, ap, subst}
+use Rattle.std.proofs.Math.Nat.{mod-one}
+use Rattle.daos_base.specs.declared.entry.Entry.{Entry}
+use Rattle.daos_base.specs.declared.id.ObjId.{ObjId}
+use Rattle.daos_base.specs.declared.operation.MinorWrite.{MinorWrite}
+use Rattle.daos_base.specs.declared.path.Path.{Path}
+use Rattle.daos_base.specs.Operations.{write_path}
+use Rattle.daos_base.specs.Placement.{first_shard, leader_of, leading_group, object_leader, path_leader, writes_leader}
+use Rattle.daos_model.specs.declared.durable.Version.{Version}
+use Rattle.daos_model.specs.Accesses.{minor_writes}
+use Rattle.daos_model.specs.Durables.{entry_of}
+use Rattle.daos_model.specs.Opening.{Opening}
+use Rattle.daos_model.specs.Transactions.{attempt_ops}
+use Rattle.world_base.specs.declared.target.TargetState.{TargetState}
+use Rattle.world_base.specs.declared.world.World.{World}
+use Rattle.world_epochs.specs.Epochs.{OneTarget}
+use Rattle.world_epochs.specs.TargetEvents.{only-target}
+use Rattle.world_events.specs.Events.{Rules}
+use Rattle.world_reads.specs.ChangeLaws.{entry-of-it}
+use Rattle.world_reads.specs.DecideLaws.{entry-among}
+use Rattle.world_reads.specs.EntryLaws.{same-attempt}
+use Rattle.world_reads.specs.History.{History}
+use Rattle.world_reads.specs.Versions.{Versions}
+use Rattle.world_causes.specs.Premises.{OpenIsDecided}
+
+-- in a run of one target, which leads all attempts
+abbrev pub UnsettledIsDecided : Type 0
+UnsettledIsDecided = (r : Rules) (o : Opening) (held : ℕ → List Version) (h : History) (w : World) → OneTarget r w → Versions r o held h w → OpenIsDecided w
+
+-- ---- the leader
+
+leader-one : (o : ObjId) (g : ℕ) → leader_of o g 1 ≡ 0
+unfolding leader_of
+leader-one o g = mod-one _
+
+path-one : (p : Path) → path_leader p 1 ≡ 0
+unfolding path_leader
+path-one p = by p.obj
+  where
+    by : (o : Option ObjId) → object_leader o p.dkey 1 ≡ 0
+    by None = refl
+    by (Some o) = leader-one o (leading_group o p.dkey 1)
+
+pub writes-one : (ws : List MinorWrite) → writes_leader ws 1 ≡ 0
+unfolding writes_leader
+writes-one [] = refl
+writes-one (w ∷ ws) = path-one (write_path w.write)
+
+-- ---- the law
+
+pub unsettled-is-decided : UnsettledIsDecided
+unsettled-is-decided r o held h w one k t s v here runs i open' = subst (Contains s.memory.decided) own (k.led t s e.0 here among e.2 leads)
+  where
+    e : (e : Entry) × (entry_of s.durable v.by ≡ Some e) × (e.committed ≡ false) × (e.epoch ≡ v.epoch)
+    e = (k.stand t s here).unsettled v i open'
+
+    among : Contains s.durable.entries e.0
+    among = entry-among s.durable v.by e.0 e.1
+
+    own : e.0.attempt ≡ v.by
+    own = same-attempt e.0.attempt v.by (entry-of-it s.durable v.by e.0 e.1)
+
+    leads : e.0.leader ≡ t
+    leads =
+        k.leaders t s e.0 here among ∙ ap (writes_leader (minor_writes 0 (attempt_ops r.script e.0.attempt))) one.script ∙ writes-one (minor_writes 0 (attempt_ops r.script e.0.attempt))
+        ∙ sym (only-target r w t s one here)
