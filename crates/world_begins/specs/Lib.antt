@@ -4,5 +4,6 @@ pub mod BeginLaws
 pub mod Fresh
 pub mod Staying
 pub mod Requests
+pub mod Addressed
 pub mod Hearable
 pub mod Whole

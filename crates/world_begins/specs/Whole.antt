@@ -1,5 +1,5 @@
 -- All that a run of one target keeps from its beginning on.
-use Rattle.std.specs.Prelude.{ℕ, ◌≡◌, ◌≤◌, true, List, [], slice_get, Contains, Some}
+use Rattle.std.specs.Prelude.{ℕ, ◌≡◌, ◌≤◌, true, List, [], length, slice_get, Contains, Some}
 use Rattle.std.specs.List.{list_any}
 use Rattle.std.proofs.Common.{sym, ◌∙◌, ap, subst}
 use Rattle.daos_laws.specs.Members.{has-from_contains}
@@ -7,6 +7,7 @@ use Rattle.daos_base.specs.declared.id.ContId.{ContId}
 use Rattle.daos_model.specs.declared.durable.Durable.{Durable}
 use Rattle.daos_model.specs.declared.durable.Version.{Version}
 use Rattle.daos_model.specs.Durables.{is_enlisted, is_row_of}
+use Rattle.daos_model.specs.FormLaws.{length-map}
 use Rattle.daos_model.specs.Opening.{Opening, top}
 use Rattle.world_base.specs.declared.letter.Letter.{Letter}
 use Rattle.world_base.specs.declared.target.TargetState.{TargetState}
@@ -16,18 +17,20 @@ use Rattle.world_core.specs.Everything.{Everything, HoldsStill, events-keep-ever
 use Rattle.world_events.specs.Events.{Begins, Event, Goes, Rules, Run}
 use Rattle.world_events.specs.Letters.{target}
 use Rattle.world_reads.specs.History.{History}
+use Rattle.world_begins.specs.Addressed.{AreAddressed, events-keep-addresses}
 use Rattle.world_begins.specs.BeginLaws.{everything-begins, only-one}
-use Rattle.world_begins.specs.Begins.{AreEnlisted, IsAlone, IsBegun, StartsWith, no_history}
+use Rattle.world_begins.specs.Begins.{AreEnlisted, IsAlone, IsBegun, first_client, no_history}
 use Rattle.world_begins.specs.Hearable.{CanHear, requests-can-be-heard}
 use Rattle.world_begins.specs.Requests.{OnlyRequests, events-keep-requests}
 use Rattle.world_begins.specs.Staying.{KeepsAs, StaysAs, events-keep-targets}
 
 -- ---- the statements
 
--- all that events keep; only requests go to targets; and each target runs, knows the containers that the script declares, and holds
--- no snapshot
+-- all that events keep; messages go to actors that are there, and only requests to targets; and each target runs, knows the
+-- containers that the script declares, and holds no snapshot
 pub record Whole (r : Rules) (o : Opening) (held : ℕ → List Version) (h : History) (w : World) : Type 0 where
   pub all : Everything r o held h w
+  pub addressed : AreAddressed r.script w
   pub requests : OnlyRequests w
   pub running : (t : ℕ) (s : TargetState) → slice_get w.targets t ≡ Some s → s.life ≡ Running
   pub enlisted : (t : ℕ) (s : TargetState) → slice_get w.targets t ≡ Some s → AreEnlisted r.script s.durable
@@ -57,6 +60,10 @@ enlisted-same d e c same is = ap (list_any (is_row_of c)) same ∙ is
 pub whole-begins : (r : Rules) (o : Opening) (w : World) → IsAlone r → (b : IsBegun r o w) → Whole r o (λ t. b.s.durable.versions) no_history w
 whole-begins r o w A B = record {
   all = everything-begins r o w A B;
+  addressed = record {
+    clients = ap length B.clients ∙ length-map (first_client r.script B.s.durable.snaps o) r.script.clients;
+    letters = λ l i. absurd (has-from_contains [] l (subst (λ ls. Contains ls l) B.messages i));
+  };
   requests = λ l i. absurd (has-from_contains [] l (subst (λ ls. Contains ls l) B.messages i));
   running = λ t s here. subst (λ z. z.life ≡ Running) (first t s here) B.starts.runs;
   enlisted = λ t s here. subst (λ z. AreEnlisted r.script z.durable) (first t s here) B.enlisted;
@@ -77,6 +84,7 @@ whole-stays r o held h w v A before k e = record {
   still = still;
   whole = record {
     all = still.all;
+    addressed = events-keep-addresses r w v A.one A.form k.all.facts.judged.spoken.talk k.addressed e;
     requests = events-keep-requests r w v A.unsnapped k.all.facts.judged.spoken.talk k.requests e;
     running = λ t z at. let s = events-keep-targets r w v e t z at in s.2.life ∙ k.running t s.0 s.1;
     enlisted = λ t z at c i. let s = events-keep-targets r w v e t z at in enlisted-same s.0.durable z.durable c s.2.keeps.conts (k.enlisted t s.0 s.1 c i);

@@ -1,6 +1,7 @@
 // What a run of one target begins with, and what holds from there on.
 #![tactic(auto)]
 
+ghost use Rattle.world_begins.specs.Addressed.{EventsKeepAddresses};
 ghost use Rattle.world_begins.specs.BeginLaws.{RunsBeginWithEverything};
 ghost use Rattle.world_begins.specs.Fresh.{EmptyStoresOpen, EnlistedOpensToo, FreshStoresOpen};
 ghost use Rattle.world_begins.specs.Hearable.{RequestsCanBeHeard};
@@ -25,11 +26,12 @@ pub fn laws_of_beginnings()
 {}
 
 /// Says what every event leaves of a target: whether it runs, the floor of its opening, and the
-/// containers and snapshots that it keeps. And only reads, and writes to commit, go to targets, where no
-/// client makes a snapshot or aggregates.
+/// containers and snapshots that it keeps. And every message goes to an actor that is there; only reads,
+/// and writes to commit, go to targets, where no client makes a snapshot or aggregates.
 pub fn laws_of_targets()
     ensures targets { EventsKeepTargets }
     ensures runs { RunsKeepTargets }
+    ensures addresses { EventsKeepAddresses }
     ensures requests { EventsKeepRequests }
 {}
 

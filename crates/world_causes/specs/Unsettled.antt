@@ -50,8 +50,14 @@ writes-one (w ∷ ws) = path-one (write_path w.write)
 
 -- ---- the law
 
+-- the target leads each entry that it has
+pub leads-all : (r : Rules) (o : Opening) (held : ℕ → List Version) (h : History) (w : World) (t : ℕ) (s : TargetState) (e : Entry) → OneTarget r w → Versions r o held h w → slice_get w.targets t ≡ Some s → Contains s.durable.entries e → e.leader ≡ t
+leads-all r o held h w t s e one k here i =
+    k.leaders t s e here i ∙ ap (writes_leader (minor_writes 0 (attempt_ops r.script e.attempt))) one.script ∙ writes-one (minor_writes 0 (attempt_ops r.script e.attempt))
+    ∙ sym (only-target r w t s one here)
+
 pub unsettled-is-decided : UnsettledIsDecided
-unsettled-is-decided r o held h w one k t s v here runs i open' = subst (Contains s.memory.decided) own (k.led t s e.0 here among e.2 leads)
+unsettled-is-decided r o held h w one k t s v here runs i open' = subst (Contains s.memory.decided) own (k.led t s e.0 here among e.2 (leads-all r o held h w t s e.0 one k here among))
   where
     e : (e : Entry) × (entry_of s.durable v.by ≡ Some e) × (e.committed ≡ false) × (e.epoch ≡ v.epoch)
     e = (k.stand t s here).unsettled v i open'
@@ -61,8 +67,3 @@ unsettled-is-decided r o held h w one k t s v here runs i open' = subst (Contain
 
     own : e.0.attempt ≡ v.by
     own = same-attempt e.0.attempt v.by (entry-of-it s.durable v.by e.0 e.1)
-
-    leads : e.0.leader ≡ t
-    leads =
-        k.leaders t s e.0 here among ∙ ap (writes_leader (minor_writes 0 (attempt_ops r.script e.0.attempt))) one.script ∙ writes-one (minor_writes 0 (attempt_ops r.script e.0.attempt))
-        ∙ sym (only-target r w t s one here)
