@@ -8,6 +8,7 @@ pub mod Turns
 pub mod ReadTurns
 pub mod CommitTurns
 pub mod Growth
+pub mod Writes
 pub mod Requests
 pub mod TargetLaws
 pub mod ClientLaws

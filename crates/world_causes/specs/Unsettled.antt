@@ -1,6 +1,6 @@
--- What isn't settled at a target is of attempts that it knows as decided, where it leads all entries that it has.
-use Rattle.std.specs.Prelude.{ℕ, ◌≡◌, ◌%◌, List, [], ◌∷◌, slice_get, Contains, Option, Some, None, false, refl}
-use Rattle.std.proofs.Common.{sym, ◌∙◌, ap, subst}
+-- What isn't settled at a target is of attempts that it knows as decided, where it leads all entries that it has; and what versions are.
+use Rattle.std.specs.Prelude.{ℕ, ◌≡◌, ◌%◌, List, [], ◌∷◌, slice_get, Contains, Option, Some, None, Bool, true, false, ◌≤◌, ◌<◌, Any, refl}
+use Rattle.std.proofs.Common.{inl, inr, sym, ◌∙◌, ap, subst, arith}
 use Rattle.std.proofs.Math.Nat.{mod-one}
 use Rattle.daos_base.specs.declared.entry.Entry.{Entry}
 use Rattle.daos_base.specs.declared.id.ObjId.{ObjId}
@@ -8,11 +8,13 @@ use Rattle.daos_base.specs.declared.operation.MinorWrite.{MinorWrite}
 use Rattle.daos_base.specs.declared.path.Path.{Path}
 use Rattle.daos_base.specs.Operations.{write_path}
 use Rattle.daos_base.specs.Placement.{first_shard, leader_of, leading_group, object_leader, path_leader, writes_leader}
+use Rattle.daos_laws.specs.Members.{contains-from_has, has-from_contains}
 use Rattle.daos_model.specs.declared.durable.Version.{Version}
 use Rattle.daos_model.specs.Accesses.{minor_writes}
 use Rattle.daos_model.specs.Durables.{entry_of}
-use Rattle.daos_model.specs.Opening.{Opening}
+use Rattle.daos_model.specs.Opening.{Opening, top}
 use Rattle.daos_model.specs.Transactions.{attempt_ops}
+use Rattle.daos_model.specs.Versions.{version_path}
 use Rattle.world_base.specs.declared.target.TargetState.{TargetState}
 use Rattle.world_base.specs.declared.world.World.{World}
 use Rattle.world_epochs.specs.Epochs.{OneTarget}
@@ -22,8 +24,9 @@ use Rattle.world_reads.specs.ChangeLaws.{entry-of-it}
 use Rattle.world_reads.specs.DecideLaws.{entry-among}
 use Rattle.world_reads.specs.EntryLaws.{same-attempt}
 use Rattle.world_reads.specs.History.{History}
-use Rattle.world_reads.specs.Versions.{Versions}
-use Rattle.world_causes.specs.Premises.{OpenIsDecided}
+use Rattle.world_reads.specs.Versions.{IsWriteAt, Versions}
+use Rattle.world_causes.specs.Growth.{any-of}
+use Rattle.world_causes.specs.Premises.{OpenIsDecided, VersionsAreWritten}
 
 -- in a run of one target, which leads all attempts
 abbrev pub UnsettledIsDecided : Type 0
@@ -67,3 +70,33 @@ unsettled-is-decided r o held h w one k t s v here runs i open' = subst (Contain
 
     own : e.0.attempt ≡ v.by
     own = same-attempt e.0.attempt v.by (entry-of-it s.durable v.by e.0 e.1)
+
+-- ---- what versions are of
+
+-- versions above the opening are writes of attempts to which their epochs were issued
+abbrev pub VersionsWritten : Type 0
+VersionsWritten = (r : Rules) (o : Opening) (held : ℕ → List Version) (h : History) (w : World) → ((t : ℕ) (z : Version) → Contains (held t) z → z.epoch.0 ≤ top o) → Versions r o held h w → VersionsAreWritten r o w
+
+-- the write that a version is
+write-of : (r : Rules) (t : ℕ) (v : Version) (m : MinorWrite) → IsWriteAt r v.by t m → v.write ≡ m.write → Any (λ w. write_path w.write ≡ version_path v) (minor_writes 0 (attempt_ops r.script v.by))
+write-of r t v m at same =
+    any-of (λ w. write_path w.write ≡ version_path v) (minor_writes 0 (attempt_ops r.script v.by)) m (has-from_contains (minor_writes 0 (attempt_ops r.script v.by)) m at.of_it) (ap write_path (sym same))
+
+pub versions-written : VersionsWritten
+versions-written r o held h w before k t s here v i above = by v.done refl
+  where
+    among : Contains s.durable.versions v
+    among = contains-from_has s.durable.versions v i
+
+    by : (b : Bool) → v.done ≡ b → Contains w.issued (v.by, v.epoch) × Any (λ w. write_path w.write ≡ version_path v) (minor_writes 0 (attempt_ops r.script v.by))
+    by true is = elim ((k.stand t s here).done v among is) [
+      | inl j ↦ let low : v.epoch.0 ≤ top o = before t v j in absurd (omega (arith, low, above))
+      | inr j ↦ (k.issued v.by v.epoch j.0, write-of r t v j.1 j.2 j.4)
+    ]
+    by false is =
+        let e = (k.stand t s here).unsettled v among is in
+        let m = (k.stand t s here).only v among is in
+        let decided = k.entries t s e.0 here (entry-among s.durable v.by e.0 e.1) in (
+          k.issued v.by v.epoch (subst (λ x. Contains h.decided (x, v.epoch)) (same-attempt e.0.attempt v.by (entry-of-it s.durable v.by e.0 e.1)) (subst (λ f. Contains h.decided (e.0.attempt, f)) e.3 decided)),
+          write-of r t v m.0 m.1 m.3,
+        )

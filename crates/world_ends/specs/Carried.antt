@@ -34,7 +34,7 @@ use Rattle.world_causes.specs.Firsts.{Firsts}
 use Rattle.world_causes.specs.IssuedOnce.{IssuedOnce, events-keep-issued-once}
 use Rattle.world_causes.specs.LastCauses.{AreApart, dated_ids}
 use Rattle.world_causes.specs.Requests as requests
-use Rattle.world_causes.specs.Unsettled.{unsettled-is-decided}
+use Rattle.world_causes.specs.Unsettled.{unsettled-is-decided, versions-written}
 use Rattle.world_core.specs.Asking.{requests-are-right}
 use Rattle.world_core.specs.Everything.{Everything}
 use Rattle.world_events.specs.Events.{Begins, ByClient, ByTarget, Event, Goes, Rules, Run, TargetHears, ToClient, ToTarget, kept, target_plan}
@@ -72,9 +72,9 @@ pub record CarriedBy (r : Rules) (o : Opening) (held : ℕ → List Version) (w 
   pub decided : Dated
   pub carried : Carried r o held h decided w
 
--- at each moment of a run from its beginning, whose clocks leave nothing uncertain
+-- at each moment of a run from its beginning
 abbrev pub RunsCarry : Type 0
-RunsCarry = (r : Rules) (o : Opening) (w v : World) → IsAlone r → r.epsilon ≡ 0 → (b : IsBegun r o w) → Run r w v → CarriedBy r o (λ t. b.s.durable.versions) v
+RunsCarry = (r : Rules) (o : Opening) (w v : World) → IsAlone r → (b : IsBegun r o w) → Run r w v → CarriedBy r o (λ t. b.s.durable.versions) v
 
 -- ---- the beginning
 
@@ -119,8 +119,8 @@ module _ (r : Rules) (o : Opening) (w : World) (A : IsAlone r) (B : IsBegun r o 
   carried-begins = record {
     whole = whole-begins r o w A B;
     firsts = record {
-      clients = λ n c a f here at. let none : c.present ≡ None = (client-is n c here).0 in let no : ⊥ = cc in absurd no;
-      requests = λ l i. absurd (no-letter l i);
+      clients = λ n c a here at. let none : c.present ≡ None = (client-is n c here).0 in let no : ⊥ = cc in absurd no;
+      messages = λ l i. absurd (no-letter l i);
     };
     once = subst (λ is. AreApart (dated_ids is)) (sym B.issued) tt;
     causes = causes-at-first;
@@ -212,28 +212,29 @@ few-targets : (n : ℕ) → n ≡ 1 → n ≤ 256
 few-targets n one = omega (arith, one)
 
 -- what the facts of causes ask of a world
-given-causes : (r : Rules) (o : Opening) (held : ℕ → List Version) (h : History) (decided : Dated) (w : World) → r.epsilon ≡ 0 → Carried r o held h decided w → requests.Given r o h w
-given-causes r o held h decided w certain k = record {
-  plain = plain-causes r certain k.whole.all.facts.unsnapped k.whole.all.facts.form;
+given-causes : (r : Rules) (o : Opening) (held : ℕ → List Version) (h : History) (decided : Dated) (w : World) → ((t : ℕ) (z : Version) → Contains (held t) z → z.epoch.0 ≤ top o) → Carried r o held h decided w → requests.Given r o h w
+given-causes r o held h decided w before k = record {
+  plain = plain-causes r k.whole.all.facts.unsnapped k.whole.all.facts.form;
   few = few-targets (length w.targets) k.whole.all.facts.one.alone;
   talk = k.whole.all.facts.judged.spoken.talk;
   lines = k.whole.all.facts.judged.spoken.lines;
   epochs = k.whole.all.facts.judged.epochs;
   reads = k.whole.all.reads;
-  firsts = k.firsts.requests;
+  firsts = k.firsts.messages;
+  written = versions-written r o held h w before k.whole.all.versions;
   unsettled = unsettled-is-decided r o held h w k.whole.all.facts.one k.whole.all.versions;
 }
 
-event-carries : (r : Rules) (o : Opening) (held : ℕ → List Version) (h : History) (decided : Dated) (w v : World) → IsAlone r → r.epsilon ≡ 0 → ((t : ℕ) (z : Version) → Contains (held t) z → z.epoch.0 ≤ top o)
+event-carries : (r : Rules) (o : Opening) (held : ℕ → List Version) (h : History) (decided : Dated) (w v : World) → IsAlone r → ((t : ℕ) (z : Version) → Contains (held t) z → z.epoch.0 ≤ top o)
     → Carried r o held h decided w → Event r w v → CarriedBy r o held v
-event-carries r o held h decided w v A certain before k e = record {
+event-carries r o held h decided w v A before k e = record {
   h = s.still.later;
   decided = decided_in r w v e ++ decided;
   carried = record {
     whole = s.whole;
     firsts = events-keep-firsts r (top o) w v A.unsnapped k.whole.all.facts.judged.spoken.talk k.whole.all.facts.judged.epochs k.firsts e;
     once = events-keep-issued-once r (top o) w v k.whole.all.facts.judged.epochs k.once e;
-    causes = causes-kept r o h decided w v (given-causes r o held h decided w certain k) k.causes e;
+    causes = causes-kept r o h decided w v (given-causes r o held h decided w before k) k.causes e;
     tallied = tallied-then r o held h decided w v before k s.still.later s.still.grew e s.whole.all.facts.judged.verdicts;
     tells = events-tell-surely r w v A.unsnapped k.whole.all.facts.judged.spoken.talk k.tells e;
   };
@@ -243,7 +244,7 @@ event-carries r o held h decided w v A certain before k e = record {
     s = whole-stays r o held h w v A before k.whole e
 
 pub runs-carry : RunsCarry
-runs-carry r o w v A certain b Begins = record { h = no_history; decided = []; carried = carried-begins r o w A b }
-runs-carry r o w v A certain b (Goes u x run e) =
-    let k = runs-carry r o w u A certain b run in
-    event-carries r o (λ t. b.s.durable.versions) k.h k.decided u v A certain (held-before r o w b) k.carried e
+runs-carry r o w v A b Begins = record { h = no_history; decided = []; carried = carried-begins r o w A b }
+runs-carry r o w v A b (Goes u x run e) =
+    let k = runs-carry r o w u A b run in
+    event-carries r o (λ t. b.s.durable.versions) k.h k.decided u v A (held-before r o w b) k.carried e

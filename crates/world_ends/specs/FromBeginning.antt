@@ -7,13 +7,15 @@ use Rattle.std.proofs.lemmas.Bool.Decides.{nat_tests}
 use Rattle.daos_base.specs.declared.entry.Entry.{Entry}
 use Rattle.daos_base.specs.declared.epoch.Epoch.{Epoch}
 use Rattle.daos_base.specs.declared.id.AttemptId.{AttemptId}
+use Rattle.daos_base.specs.declared.outcome.Cause.TheVariants as cause
+use Rattle.daos_base.specs.declared.outcome.Outcome.{Outcome}
 use Rattle.daos_base.specs.declared.outcome.Outcome.TheVariants as outcome
 use Rattle.daos_base.specs.declared.report.Attempt.{Attempt}
 use Rattle.daos_base.specs.declared.script.Command.{Command}
 use Rattle.daos_laws.specs.Members.{contains-from_has, has-from_contains}
 use Rattle.daos_model.specs.declared.durable.Durable.{Durable}
 use Rattle.daos_model.specs.declared.durable.Version.{Version}
-use Rattle.daos_model.specs.Attempts.{tries}
+use Rattle.daos_model.specs.Attempts.{is_lost, tries}
 use Rattle.daos_model.specs.CausesShown.{CausesShown}
 use Rattle.daos_model.specs.Finals.{HeadlineOver}
 use Rattle.daos_model.specs.Opening.{Given, Opening, undisturbed}
@@ -27,6 +29,7 @@ use Rattle.world_base.specs.ClientTurns.{is_done, waits}
 use Rattle.world_begins.specs.Addressed.{AClient, IsThere, TheTarget}
 use Rattle.world_begins.specs.BeginLaws.{get-map}
 use Rattle.world_begins.specs.Begins.{IsAlone, IsBegun, OpensWith, first_client}
+use Rattle.world_causes.specs.Causes.{Dated, Shows}
 use Rattle.world_causes.specs.LastCauses.{AllAreTold, causes-shown}
 use Rattle.world_causes.specs.Unsettled.{leads-all}
 use Rattle.world_clients.specs.Standing.{AreOfPresent, HasTold, has_number, number_of}
@@ -39,7 +42,7 @@ use Rattle.world_verdicts.specs.Verdicts.{IsOnItsWay, IsToldCommitted}
 use Rattle.world_ends.specs.Carried.{Carried, CarriedBy, runs-carry}
 use Rattle.world_ends.specs.Ends.{IsOver, OpensPlain, TellsPlain, report_of, rules_of}
 use Rattle.world_ends.specs.Laws.{reports-legal}
-use Rattle.world_ends.specs.LinesApart.{lines-apart}
+use Rattle.world_ends.specs.LinesApart.{first-line, lines-apart}
 use Rattle.world_ends.specs.PlainCauses.{plain-causes}
 use Rattle.world_ends.specs.Runs.{at-the-end, plain-then}
 use Rattle.world_ends.specs.StopLaws.{no-restarts}
@@ -140,6 +143,19 @@ module _ (r : Rules) (o : Opening) (held : ℕ → List Version) (v : World) (k 
           let led = k.carried.whole.all.versions.led t s e here i is (leads-all r o held k.h v t s e k.carried.whole.all.facts.one k.carried.whole.all.versions here i) in
           absurd (has-from_contains [] e.attempt (subst (λ xs. Contains xs e.attempt) (ended.settled t s here) led))
 
+-- no attempt is lost where nothing stops
+not-lost : (r : Rules) (o : Opening) (decided issued : Dated) (a : Attempt) (how : Outcome) → Shows r o decided issued a.id how → is_lost a.id how ≡ false
+not-lost r o decided issued a outcome.Committed k = refl
+not-lost r o decided issued a (outcome.CondFailed op) k = refl
+not-lost r o decided issued a (outcome.Restart (cause.ReadLater by epoch path)) k = refl
+not-lost r o decided issued a (outcome.Restart (cause.WriteLater by epoch path)) k = refl
+not-lost r o decided issued a (outcome.Restart (cause.Unresolved by)) k = absurd k
+not-lost r o decided issued a (outcome.Restart (cause.Floor target epoch why)) k = refl
+not-lost r o decided issued a (outcome.NoSpace target need free) k = refl
+not-lost r o decided issued a outcome.EpochsSpent k = refl
+not-lost r o decided issued a outcome.NoSnapshot k = refl
+not-lost r o decided issued a (outcome.Unknown target) k = refl
+
 -- where a run has ended that carries all of it, each attempt with an epoch has its line, and so has each that was decided
 all-are-told : (r : Rules) (o : Opening) (held : ℕ → List Version) (v : World) (k : CarriedBy r o held v) → IsOver r v → AllAreTold k.decided v
 all-are-told r o held v k over = record {
@@ -149,6 +165,8 @@ all-are-told r o held v k over = record {
   issued_apart = k.carried.once;
   decided_apart = k.carried.tallied.apart;
   restarts = no-restarts v.lines (tells-plain v k.carried.tells).attempts;
+  firsts = λ x b i same. first-line r.attempts r.script v.lines (lines-in-turn r v k.carried.whole.all.facts.judged.spoken.lines over.done over.clients)
+      (λ a j. not-lost r o k.decided v.issued a a.outcome (k.carried.causes.lines a (contains-from_has (tries v.lines) a j))) x b (has-from_contains (tries v.lines) b i) same;
 }
   where
     issued : (x : AttemptId) (e : Epoch) → IsPresent r v x ⊎ HasLine v x e → (a : Attempt) × Contains (tries v.lines) a × (a.id ≡ x) × (a.epoch ≡ Some e)
@@ -169,7 +187,7 @@ runs-from-the-beginning g w v s A b run ended here =
     (at-the-end (rules_of g) g.opening (λ t. b.s.durable.versions) k.h v k.carried.whole.all) over (tells-plain v k.carried.tells) here causes
   where
     k : CarriedBy (rules_of g) g.opening (λ t. b.s.durable.versions) v
-    k = runs-carry (rules_of g) g.opening w v A refl b run
+    k = runs-carry (rules_of g) g.opening w v A b run
 
     over : IsOver (rules_of g) v
     over = record {
@@ -181,4 +199,4 @@ runs-from-the-beginning g w v s A b run ended here =
 
     causes : CausesShown g (report_of (rules_of g) v)
     causes =
-        causes-shown (rules_of g) g k.decided v (plain-causes (rules_of g) refl A.unsnapped A.form) refl k.carried.causes (all-are-told (rules_of g) g.opening (λ t. b.s.durable.versions) v k over)
+        causes-shown (rules_of g) g k.decided v (plain-causes (rules_of g) A.unsnapped A.form) refl refl k.carried.causes (all-are-told (rules_of g) g.opening (λ t. b.s.durable.versions) v k over)

@@ -27,8 +27,8 @@ reads-now (Aggregate cont) plain = refl
 reads-now (Tell n) plain = refl
 reads-now (Skip turns) plain = refl
 
-pub plain-causes : (r : Rules) → r.epsilon ≡ 0 → Unsnapped r → IsInForm r.script.targets r.script → IsPlain r
-plain-causes r certain plain form = record { certain = certain; now = λ n place d at. reads-now d (plain n place d at); led = led }
+pub plain-causes : (r : Rules) → Unsnapped r → IsInForm r.script.targets r.script → IsPlain r
+plain-causes r plain form = record { now = λ n place d at. reads-now d (plain n place d at); led = led }
   where
     led : (x : AttemptId) (m : MinorWrite) → Contains (minor_writes 0 (attempt_ops r.script x)) m → Contains (path_members (write_path m.write) r.script.targets) (path_leader (write_path m.write) r.script.targets)
     led x m i =
