@@ -1,0 +1,12 @@
+pub mod Cover
+pub mod OwnEpochs
+pub mod Later
+pub mod Fetching
+pub mod Running
+pub mod Settling
+pub mod Turning
+pub mod Serving
+pub mod Writing
+pub mod Alone
+pub mod Committing
+pub mod IdleSteps
