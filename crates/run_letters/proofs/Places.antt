@@ -1,0 +1,68 @@
+-- The place of an actor's letter of a number.
+use Rattle.std.specs.Prelude.{ℕ, ◌≡◌, ◌≤◌, ◌<◌, ◌+◌, Bool, true, false, ◌&&◌, List, [], ◌∷◌, ◌++◌, length, take, drop, slice_get, slice_index_or, Some, refl}
+use mathlib.Core.Bool.{beq}
+use Rattle.std.proofs.Common.{zero, suc, ◌∙◌, ap, sym, arith, nat_eq}
+use Rattle.std.proofs.lemmas.Bool.Decides.{nat_tests}
+use Rattle.daos_messages.specs.declared.actor.ActorId.{ActorId}
+use Rattle.run_letters.specs.Letters.{IsPicked, IsPlaceOf, letters_to}
+use Rattle.world_base.specs.declared.letter.Letter.{Letter}
+
+-- of the letters before a place so many are to the actor, no more than the number that is looked for
+pub record AreCounted (letters : List Letter) (to : ActorId) (number place before : ℕ) : Type 0 where
+  pub counted : before ≡ length (letters_to to (take place letters))
+  pub few : before ≤ number
+
+-- a list is what stands before a place, what stands there, and what stands after it
+pub cut-at : {T : Type 0} (xs : List T) (n : ℕ) (x : T) → slice_get xs n ≡ Some x → xs ≡ take n xs ++ x ∷ drop (suc n) xs
+cut-at [] n x h = let no : ⊥ = cc in absurd no
+cut-at (y ∷ ys) zero x h = let same : y ≡ x = cc in ap (λ z. z ∷ ys) same
+cut-at (y ∷ ys) (suc n) x h = ap (λ zs. y ∷ zs) (cut-at ys n x h)
+
+pub index-is : {T : Type 0} (xs : List T) (n : ℕ) (x y : T) → slice_get xs n ≡ Some x → slice_index_or xs n y ≡ x
+index-is [] n x y h = let no : ⊥ = cc in absurd no
+index-is (z ∷ zs) zero x y h = let same : z ≡ x = cc in same
+index-is (z ∷ zs) (suc n) x y h = index-is zs n x y h
+
+-- what stands at that place is picked
+pub picked-at : (letters : List Letter) (to : ActorId) (number place : ℕ) (l : Letter) (rest : List Letter) → IsPlaceOf letters to number place → l ≡ slice_index_or letters place l
+    → rest ≡ take place letters ++ drop (place + 1) letters → IsPicked letters to number l rest
+picked-at letters to number place l rest k value left = record {
+  before = take place letters;
+  after = drop (place + 1) letters;
+  among = cut-at letters place l (k.here ∙ ap (λ x. Some x) (sym same)) ∙ ap (λ m. take place letters ++ l ∷ drop m letters) next;
+  left = left;
+  to_it = ap (λ x. x.to) same ∙ k.to_it;
+  first = k.first;
+}
+  where
+    next : suc place ≡ place + 1
+    next = omega arith
+
+    same : l ≡ k.letter
+    same = value ∙ index-is letters place k.letter l k.here
+
+same-kind : (a b : Bool) → beq a b ≡ true → a ≡ b
+same-kind true true h = refl
+same-kind true false h = let no : ⊥ = cc in absurd no
+same-kind false true h = let no : ⊥ = cc in absurd no
+same-kind false false h = refl
+
+both-hold : (a b : Bool) → a && b ≡ true → (a ≡ true) × (b ≡ true)
+both-hold true b h = (refl, h)
+both-hold false b h = let no : ⊥ = cc in absurd no
+
+same-number : (m n : ℕ) → nat_eq m n ≡ true → m ≡ n
+same-number m n h = grind (arith, nat_tests)
+
+actor : Bool → ℕ → ActorId
+actor kind n = record { client = kind; number = n }
+
+-- actors that test the same are the same
+pub same-actor : (a b : ActorId) → beq a.client b.client && nat_eq a.number b.number ≡ true → a ≡ b
+unfolding actor
+same-actor a b h = let k = both-hold (beq a.client b.client) (nat_eq a.number b.number) h in ap (λ x. actor x a.number) (same-kind a.client b.client k.0) ∙ ap (actor b.client) (same-number a.number b.number k.1)
+
+pub at-index : {T : Type 0} (xs : List T) (n : ℕ) (x : T) → n < length xs → x ≡ slice_index_or xs n x → slice_get xs n ≡ Some x
+at-index [] n x within is = absurd (omega (arith, within))
+at-index (y ∷ ys) zero x within is = ap (λ z. Some z) (sym is)
+at-index (y ∷ ys) (suc n) x within is = at-index ys n x (omega (arith, within)) is

@@ -1,0 +1,2 @@
+-- Letters to an actor, and what lies between actors.
+pub mod Letters
