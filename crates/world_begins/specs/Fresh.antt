@@ -1,8 +1,9 @@
 -- A store that was never used is one with which a run may begin, and so is each such store once containers were enlisted.
-use Rattle.std.specs.Prelude.{ℕ, ◌≡◌, ◌⊎◌, ◌≤◌, ◌<◌, ◌+◌, ◌==◌, ◌||◌, Bool, true, false, List, [], ◌∷◌, map, find, length, Contains, Option, Some, None, refl, if◌then◌else◌}
+use Rattle.std.specs.Prelude.{ℕ, ◌≡◌, ◌⊎◌, ◌≤◌, ◌<◌, ◌+◌, ◌-◌, ◌*◌, ◌==◌, ◌||◌, Bool, true, false, List, [], ◌∷◌, map, find, length, Contains, Option, Some, None, refl, if◌then◌else◌}
 use Rattle.std.specs.List.{list_any}
 use Rattle.std.proofs.Common.{inl, inr, sym, ◌∙◌, ap, subst, arith}
 use Rattle.daos_base.specs.declared.id.ContId.{ContId}
+use Rattle.daos_base.specs.declared.outcome.FloorWhy.TheVariants as why
 use Rattle.daos_base.specs.declared.script.ContDecl.{ContDecl}
 use Rattle.daos_base.specs.declared.script.Script.{Script}
 use Rattle.daos_laws.specs.Members.{Has, any-has, has-any, has-from_contains}
@@ -16,7 +17,11 @@ use Rattle.daos_model.specs.FormLaws.{enlisted-in_form, length-map, length-put}
 use Rattle.daos_model.specs.Opening.{Opening, fresh_opening, top}
 use Rattle.daos_model.specs.Ordered.{put}
 use Rattle.world_reads.specs.EntryLaws.{put-has}
-use Rattle.world_begins.specs.Begins.{AreEnlisted, OpensWith, declared_conts}
+use Rattle.world_base.specs.declared.target.TargetState.{TargetState}
+use Rattle.world_base.specs.declared.target.Life.TheVariants.{Running}
+use Rattle.world_base.specs.declared.world.World.{World}
+use Rattle.world_begins.specs.Begins.{AreEnlisted, IsBegun, OpensWith, declared_conts, first_client}
+use Rattle.world_events.specs.Events.{Rules}
 
 -- ---- the statements
 
@@ -174,3 +179,57 @@ fresh-opens s size incarnation few = (
         let k : length (with_conts (declared_conts s) []) ≤ 0 + length (declared_conts s) = conts-few (declared_conts s) [] in
         let l : length (declared_conts s) ≡ length s.conts = length-map (λ (d : ContDecl). d.id) s.conts in
         omega (arith, k, l, few)
+
+-- ---- a world
+
+-- a target over a store that was never used, once the script's containers were enlisted
+abbrev pub fresh_target : Script → ℕ → ℕ → TargetState
+fresh_target s size incarnation = record {
+  durable = enlisted (declared_conts s) (empty_durable incarnation);
+  free = size * 4096 - 1264;
+  opening = (record { 0 = 0 }, why.Opening);
+  life = Running;
+  memory = record { ticks = 0; stamps = []; decided = [] };
+}
+
+-- the world of a script before its first event, over regions of zeros
+abbrev pub fresh_world : Script → ℕ → ℕ → World
+fresh_world s size incarnation = record {
+  targets = fresh_target s size incarnation ∷ [];
+  clients = map (first_client s [] (fresh_opening size)) s.clients;
+  messages = [];
+  issued = [];
+  numbers = record { restarts = 0; aggregates = 0 };
+  lines = [];
+}
+
+-- it is a beginning of a run
+abbrev pub FreshWorldsAreBegun : Type 0
+FreshWorldsAreBegun = (r : Rules) (size incarnation : ℕ) → length r.script.conts ≤ 256 → IsBegun r (fresh_opening size) (fresh_world r.script size incarnation)
+
+pub fresh-begun : FreshWorldsAreBegun
+unfolding enlisted
+fresh-begun r size incarnation few = record {
+  s = fresh_target r.script size incarnation;
+  targets = refl;
+  starts = record {
+    opens = k.0;
+    free = same-low (size * 4096 - 1264);
+    floor = omega arith;
+    runs = refl;
+    ticks = omega arith;
+    stamps = refl;
+    decided = refl;
+  };
+  enlisted = k.1;
+  clients = refl;
+  messages = refl;
+  issued = refl;
+  lines = refl;
+}
+  where
+    same-low : (n : ℕ) → n ≤ n
+    same-low n = omega arith
+
+    k : OpensWith (fresh_opening size) (enlisted (declared_conts r.script) (empty_durable incarnation)) × AreEnlisted r.script (enlisted (declared_conts r.script) (empty_durable incarnation))
+    k = fresh-opens r.script size incarnation few

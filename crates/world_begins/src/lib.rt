@@ -3,18 +3,20 @@
 
 ghost use Rattle.world_begins.specs.Addressed.{EventsKeepAddresses};
 ghost use Rattle.world_begins.specs.BeginLaws.{RunsBeginWithEverything};
-ghost use Rattle.world_begins.specs.Fresh.{EmptyStoresOpen, EnlistedOpensToo, FreshStoresOpen};
+ghost use Rattle.world_begins.specs.Fresh.{EmptyStoresOpen, EnlistedOpensToo, FreshStoresOpen, FreshWorldsAreBegun};
 ghost use Rattle.world_begins.specs.Hearable.{RequestsCanBeHeard};
 ghost use Rattle.world_begins.specs.Requests.{EventsKeepRequests};
 ghost use Rattle.world_begins.specs.Staying.{EventsKeepTargets, RunsKeepTargets};
 ghost use Rattle.world_begins.specs.Whole.{RunsBeginWhole, RunsCanBeHeard, RunsStayWhole};
 
 /// Says that a store with which a run may begin is one of those that were never used, once the
-/// containers of the script were enlisted; and that such a store stays one where more are.
+/// containers of the script were enlisted; and that such a store stays one where more are. So there is
+/// a world before the first event of a run over regions of zeros.
 pub fn laws_of_stores()
     ensures empty { EmptyStoresOpen }
     ensures enlisted { EnlistedOpensToo }
     ensures fresh { FreshStoresOpen }
+    ensures begun { FreshWorldsAreBegun }
 {}
 
 /// Says that a run of a script in form for one target, without snapshots and aggregation, begins with

@@ -18,6 +18,7 @@ use Rattle.daos_model.specs.declared.durable.Version.{Version}
 use Rattle.daos_model.specs.Attempts.{is_lost, tries}
 use Rattle.daos_model.specs.CausesShown.{CausesShown}
 use Rattle.daos_model.specs.Finals.{HeadlineOver}
+use Rattle.daos_model.specs.Headline.{Headline}
 use Rattle.daos_model.specs.Opening.{Given, Opening, undisturbed}
 use Rattle.world_base.specs.declared.client.ClientPlan.{ClientPlan}
 use Rattle.world_base.specs.declared.client.ClientState.{ClientState}
@@ -40,9 +41,11 @@ use Rattle.world_lines.specs.LastLines.{AreDone, HasClients, lines-in-turn}
 use Rattle.world_talks.specs.InFlight.{one-in-flight}
 use Rattle.world_verdicts.specs.Verdicts.{IsOnItsWay, IsToldCommitted}
 use Rattle.world_ends.specs.Carried.{Carried, CarriedBy, runs-carry}
-use Rattle.world_ends.specs.Ends.{IsOver, OpensPlain, TellsPlain, report_of, rules_of}
+use Rattle.world_ends.specs.Ends.{Facts, IsOver, IsPlain, OpensPlain, TellsPlain, report_of, rules_of}
+use Rattle.world_ends.specs.LastReads.{reads-legal}
 use Rattle.world_ends.specs.Laws.{reports-legal}
 use Rattle.world_ends.specs.LinesApart.{first-line, lines-apart}
+use Rattle.world_ends.specs.Outcomes.{outcomes-legal}
 use Rattle.world_ends.specs.PlainCauses.{plain-causes}
 use Rattle.world_ends.specs.Runs.{at-the-end, plain-then}
 use Rattle.world_ends.specs.StopLaws.{no-restarts}
@@ -64,6 +67,11 @@ abbrev pub RunsFromTheBeginning : Type 0
 RunsFromTheBeginning =
     (g : Given) (w v : World) (s : TargetState) → IsAlone (rules_of g) → IsBegun (rules_of g) g.opening w → Run (rules_of g) w v → HasEnded (rules_of g) v → slice_get v.targets 0 ≡ Some s
     → HeadlineOver g undisturbed (s.durable ∷ []) (report_of (rules_of g) v)
+
+-- The report is legal whichever attempts are taken as resolved, since it is known of each what became of it.
+abbrev pub RunsGiveTheHeadline : Type 0
+RunsGiveTheHeadline =
+    (g : Given) (resolved : AttemptId → Bool) (w v : World) → IsAlone (rules_of g) → IsBegun (rules_of g) g.opening w → Run (rules_of g) w v → HasEnded (rules_of g) v → Headline g undisturbed resolved (report_of (rules_of g) v)
 
 -- ---- clients
 
@@ -181,22 +189,46 @@ all-are-told r o held v k over = record {
 opens-plain : (o : Opening) (d : Durable) → OpensWith o d → OpensPlain o
 opens-plain o d k = record { own = k.nowhere_else; no_snaps = k.no_snaps; lease = subst (λ n. n < 2 ^ 56) k.lease k.form.lease }
 
+module _ (g : Given) (w v : World) (A : IsAlone (rules_of g)) (b : IsBegun (rules_of g) g.opening w) (run : Run (rules_of g) w v) (ended : HasEnded (rules_of g) v) where
+  carried : CarriedBy (rules_of g) g.opening (λ t. b.s.durable.versions) v
+  carried = runs-carry (rules_of g) g.opening w v A b run
+
+  over : IsOver (rules_of g) v
+  over = record {
+    silent = silent (rules_of g) g.opening (λ t. b.s.durable.versions) v carried ended;
+    clients = has-clients (rules_of g) g.opening w v b run;
+    done = all-done (rules_of g) g.opening (λ t. b.s.durable.versions) v carried ended;
+    settled = all-settled (rules_of g) g.opening (λ t. b.s.durable.versions) v carried ended;
+  }
+
+  plain : IsPlain (rules_of g) v
+  plain = plain-then (rules_of g) g.opening (λ t. b.s.durable.versions) carried.h v carried.carried.whole.all carried.carried.whole.no_snaps
+
+  opens : OpensPlain g.opening
+  opens = opens-plain g.opening b.s.durable b.starts.opens
+
+  facts : Facts (rules_of g) g.opening (λ t. b.s.durable.versions) carried.h v
+  facts = at-the-end (rules_of g) g.opening (λ t. b.s.durable.versions) carried.h v carried.carried.whole.all
+
+  tells : TellsPlain v
+  tells = tells-plain v carried.carried.tells
+
+  causes : CausesShown g (report_of (rules_of g) v)
+  causes =
+      causes-shown (rules_of g) g carried.decided v (plain-causes (rules_of g) A.unsnapped A.form) refl refl carried.carried.causes (all-are-told (rules_of g) g.opening (λ t. b.s.durable.versions) v carried over)
+
+  pub over-legally : (s : TargetState) → slice_get v.targets 0 ≡ Some s → HeadlineOver g undisturbed (s.durable ∷ []) (report_of (rules_of g) v)
+  over-legally s here = reports-legal g (λ t. b.s.durable.versions) carried.h v s plain opens facts over tells here causes
+
+  pub headline : (resolved : AttemptId → Bool) → Headline g undisturbed resolved (report_of (rules_of g) v)
+  headline resolved = record {
+    reads = reads-legal g (λ t. b.s.durable.versions) carried.h v resolved plain opens facts over tells;
+    outcomes = outcomes-legal g (λ t. b.s.durable.versions) carried.h v plain facts over tells;
+    causes = causes;
+  }
+
 pub runs-from-the-beginning : RunsFromTheBeginning
-runs-from-the-beginning g w v s A b run ended here =
-    reports-legal g (λ t. b.s.durable.versions) k.h v s (plain-then (rules_of g) g.opening (λ t. b.s.durable.versions) k.h v k.carried.whole.all k.carried.whole.no_snaps) (opens-plain g.opening b.s.durable b.starts.opens)
-    (at-the-end (rules_of g) g.opening (λ t. b.s.durable.versions) k.h v k.carried.whole.all) over (tells-plain v k.carried.tells) here causes
-  where
-    k : CarriedBy (rules_of g) g.opening (λ t. b.s.durable.versions) v
-    k = runs-carry (rules_of g) g.opening w v A b run
+runs-from-the-beginning g w v s A b run ended here = over-legally g w v A b run ended s here
 
-    over : IsOver (rules_of g) v
-    over = record {
-      silent = silent (rules_of g) g.opening (λ t. b.s.durable.versions) v k ended;
-      clients = has-clients (rules_of g) g.opening w v b run;
-      done = all-done (rules_of g) g.opening (λ t. b.s.durable.versions) v k ended;
-      settled = all-settled (rules_of g) g.opening (λ t. b.s.durable.versions) v k ended;
-    }
-
-    causes : CausesShown g (report_of (rules_of g) v)
-    causes =
-        causes-shown (rules_of g) g k.decided v (plain-causes (rules_of g) A.unsnapped A.form) refl refl k.carried.causes (all-are-told (rules_of g) g.opening (λ t. b.s.durable.versions) v k over)
+pub runs-give-the-headline : RunsGiveTheHeadline
+runs-give-the-headline g resolved w v A b run ended = headline g w v A b run ended resolved

@@ -2,7 +2,7 @@
 #![tactic(auto)]
 
 ghost use Rattle.world_ends.specs.Carried.{RunsCarry};
-ghost use Rattle.world_ends.specs.FromBeginning.{RunsFromTheBeginning};
+ghost use Rattle.world_ends.specs.FromBeginning.{RunsFromTheBeginning, RunsGiveTheHeadline};
 ghost use Rattle.world_ends.specs.Laws.{LastOutcomesAreLegal, LastReadsAreLegal, LastReportsAreLegal, LastStandIsRight, TookIsDecided};
 ghost use Rattle.world_ends.specs.Runs.{RunsReportLegally};
 ghost use Rattle.world_ends.specs.SureTells.{EventsTellSurely};
@@ -24,4 +24,5 @@ pub fn laws_of_ends()
     ensures sure { EventsTellSurely }
     ensures carried { RunsCarry }
     ensures runs_from_the_beginning { RunsFromTheBeginning }
+    ensures headline { RunsGiveTheHeadline }
 {}

@@ -1,6 +1,6 @@
 use Rattle.world_ends.specs.Carried.{runs-carry}
 use Rattle.world_ends.specs.Decisions.{took-same_map}
-use Rattle.world_ends.specs.FromBeginning.{runs-from-the-beginning}
+use Rattle.world_ends.specs.FromBeginning.{runs-from-the-beginning, runs-give-the-headline}
 use Rattle.world_ends.specs.LastReads.{reads-legal}
 use Rattle.world_ends.specs.LastStand.{stands-last}
 use Rattle.world_ends.specs.Laws.{reports-legal}
@@ -20,4 +20,5 @@ returns c = record {
   sure = events-tell-surely;
   carried = runs-carry;
   runs_from_the_beginning = runs-from-the-beginning;
+  headline = runs-give-the-headline;
 }
