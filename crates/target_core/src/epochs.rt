@@ -63,6 +63,7 @@ pub fn ready<S: Store, C: Clock>(
     ensures ready { (reading : ℕ) × IfSome (C.next clock.old) (λ r. r ≡ reading) × ((d : Durable) → S.durable store.old ≡ Some d
         → ReadiesOrCut (epoch_for hlc.old reading tracker ep) d (S.state store.old) (S.durable store.new) (S.state store.new) (S.may store.new) result) }
     ensures heard { IfOk result (λ epoch. hlc.new ≡ heard_of epoch hlc.old) }
+    ensures own { hlc.new.target ≡ hlc.old.target }
 {
     match request_epoch(clock, hlc, tracker, ep) {
         Some(epoch) => {
