@@ -93,6 +93,12 @@ CanHear (Fetch x op group ep first tracker r snapshot) d = is_enlisted d (read_p
 CanHear (Commit x ep first tracker ws) d = CanCommit x ep ws d
 CanHear m d = ⊥
 
+-- a message that has the epoch of its attempt
+abbrev pub has_epoch : Message → Bool
+has_epoch (Fetch x op group ep first tracker r snapshot) = is_some ep
+has_epoch (Commit x ep first tracker ws) = is_some ep
+has_epoch m = false
+
 -- ---- what a turn comes to
 
 -- a Fetch from a stage on

@@ -152,6 +152,7 @@ pub(crate) fn hear_fetch<S: Store, C: Clock>(
     ensures leads { says stop_store result ≡ false → ForSome (S.durable store.new) (LeadsWell (memory_of knows.new)) }
     ensures native { says stop_foreign result ≡ false }
     ensures own { knows.new.hlc.target ≡ plan.me }
+    ensures unread { is_some request.now.ep ≡ true → clock.new ≡ clock.old }
 {
     if request.snapshot {
         let epoch = request.ep.unwrap();
@@ -236,6 +237,7 @@ pub(crate) fn hear_commit<S: Store, C: Clock>(
     ensures leads { says stop_store result ≡ false → ForSome (S.durable store.new) (LeadsWell (memory_of knows.new)) }
     ensures native { says stop_foreign result ≡ false }
     ensures own { knows.new.hlc.target ≡ plan.me }
+    ensures unread { is_some request.now.ep ≡ true → clock.new ≡ clock.old }
 {
     match ready(store, clock, &mut knows.hlc, request.tracker, request.ep) {
         Ok(Some(epoch)) => end_at(alloc, plan, store, knows, from, request, epoch),

@@ -1,12 +1,12 @@
 // A target of a run.
-ghost use Rattle.std.specs.Prelude.{◌≡◌, ◌≤◌, ◌==◌, ℕ, [], length, not, IfOk, IfErr, IfSome, Some, false};
+ghost use Rattle.std.specs.Prelude.{◌≡◌, ◌≤◌, ◌==◌, ℕ, [], length, not, IfOk, IfErr, IfSome, Some, true, false};
 ghost use Rattle.std.specs.Option.{ForSome};
 ghost use Rattle.daos_model.specs.declared.durable.Durable.{Durable};
 ghost use Rattle.vos_store.specs.Refusals.{says};
 ghost use Rattle.target_core.specs.Asked.{message_of};
 ghost use Rattle.target_core.specs.Parts.{Runs};
 ghost use Rattle.target_core.specs.Stops.{stop_foreign, stop_store};
-ghost use Rattle.target_core.specs.Targets.{CanHear, HasForm, HearsOrStops, IdlesOrStops, IsHeard};
+ghost use Rattle.target_core.specs.Targets.{CanHear, HasForm, HearsOrStops, IdlesOrStops, IsHeard, has_epoch};
 
 use crate::asked::{Asked, asked_by};
 use crate::hearing::{hear_commit, hear_fetch};
@@ -115,6 +115,7 @@ impl<S: Store, C: Clock> Target<S, C> {
             → HearsOrStops self.old.plan self.old.memory reading from (message_of asked.now) d (S.state self.old.store)
             (S.durable self.new.store) (S.state self.new.store) (S.may self.new.store) self.new.memory result) }
         ensures native { says stop_foreign result ≡ false }
+        ensures unread { has_epoch (message_of asked.now) ≡ true → self.new.clock ≡ self.old.clock }
     {
         let Target {
             alloc,
@@ -131,8 +132,8 @@ impl<S: Store, C: Clock> Target<S, C> {
         }
     }
 
-    /// It hears a message, a Fetch or a Commit so far, and tells what follows. The number is one drawn
-    /// for this turn, which none of these uses.
+    /// It hears a message, a Fetch or a Commit so far, and tells what follows. Its clock is read only
+    /// where an epoch is issued. The number is one drawn for this turn, which none of these uses.
     ///
     /// # Errors
     ///
@@ -152,6 +153,7 @@ impl<S: Store, C: Clock> Target<S, C> {
             → HearsOrStops self.old.plan self.old.memory reading from message d (S.state self.old.store)
             (S.durable self.new.store) (S.state self.new.store) (S.may self.new.store) self.new.memory result) }
         ensures native { says stop_foreign result ≡ false }
+        ensures unread { has_epoch message ≡ true → self.new.clock ≡ self.old.clock }
     {
         let _number = number;
         let asked = asked_by(message);
