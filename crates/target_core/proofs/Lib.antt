@@ -10,3 +10,9 @@ pub mod Writing
 pub mod Alone
 pub mod Committing
 pub mod IdleSteps
+pub mod Ending
+pub mod Readying
+pub mod Paths
+pub mod Replying
+pub mod WholeTurns
+pub mod Messages

@@ -5,3 +5,6 @@ pub mod Covers
 pub mod Meets
 pub mod Checks
 pub mod Idling
+pub mod Stops
+pub mod Targets
+pub mod Asked

@@ -1,5 +1,5 @@
 // The epoch of a request, and the lease that covers it.
-ghost use Rattle.std.specs.Prelude.{◌≡◌, ◌^◌, ◌<◌, ℕ, IfOk, IfSome, Some, false};
+ghost use Rattle.std.specs.Prelude.{◌≡◌, ◌^◌, ◌<◌, ℕ, IfOk, IfSome, Some, is_some, true, false};
 ghost use Rattle.daos_model.specs.declared.durable.Durable.{Durable};
 ghost use Rattle.vos_store.specs.Refusals.{always_stop};
 ghost use Rattle.target_core.specs.Covers.{CoversOrCut, ReadiesOrCut, epoch_for, heard_of};
@@ -22,6 +22,7 @@ pub fn request_epoch<C: Clock>(
 ) -> Option<Epoch>
     ensures epoch { (reading : ℕ) × IfSome (C.next clock.old) (λ r. r ≡ reading) × (result ≡ epoch_for hlc.old reading tracker ep) }
     ensures heard { hlc.new ≡ heard_of result hlc.old }
+    ensures unread { is_some ep ≡ true → clock.new ≡ clock.old }
 {
     match ep {
         Some(epoch) => {
@@ -63,6 +64,8 @@ pub fn ready<S: Store, C: Clock>(
     ensures ready { (reading : ℕ) × IfSome (C.next clock.old) (λ r. r ≡ reading) × ((d : Durable) → S.durable store.old ≡ Some d
         → ReadiesOrCut (epoch_for hlc.old reading tracker ep) d (S.state store.old) (S.durable store.new) (S.state store.new) (S.may store.new) result) }
     ensures heard { IfOk result (λ epoch. hlc.new ≡ heard_of epoch hlc.old) }
+    ensures own { hlc.new.target ≡ hlc.old.target }
+    ensures unread { is_some ep ≡ true → clock.new ≡ clock.old }
 {
     match request_epoch(clock, hlc, tracker, ep) {
         Some(epoch) => {
