@@ -1,13 +1,11 @@
 -- What every event leaves of a target: whether it runs, the floor of its opening, and the containers and snapshots that it keeps.
-use Rattle.std.specs.Prelude.{ℕ, ◌≡◌, slice_get, Option, Some, None, List, refl}
+use Rattle.std.specs.Prelude.{ℕ, ◌≡◌, slice_get, Option, Some, None, refl}
 use Rattle.std.proofs.Common.{sym, ◌∙◌, ap, subst}
 use Rattle.std.proofs.Math.ListN.{set}
-use Rattle.daos_base.specs.declared.entry.Entry.{Entry}
 use Rattle.daos_base.specs.declared.entry.Settle.{Settle}
 use Rattle.daos_base.specs.declared.entry.Settle.TheVariants.{Commit, Abort, Confirm, Forget}
 use Rattle.daos_base.specs.declared.epoch.Epoch.{Epoch}
 use Rattle.daos_base.specs.declared.id.AttemptId.{AttemptId}
-use Rattle.daos_base.specs.declared.operation.MinorWrite.{MinorWrite}
 use Rattle.daos_base.specs.declared.outcome.FloorWhy.{FloorWhy}
 use Rattle.daos_messages.specs.declared.actor.ActorId.{ActorId}
 use Rattle.daos_messages.specs.declared.message.Message.{Message}
