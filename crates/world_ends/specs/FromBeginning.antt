@@ -189,10 +189,10 @@ opens-plain : (o : Opening) (d : Durable) → OpensWith o d → OpensPlain o
 opens-plain o d k = record { own = k.nowhere_else; no_snaps = k.no_snaps; lease = subst (λ n. n < 2 ^ 56) k.lease k.form.lease }
 
 module _ (g : Given) (w v : World) (A : IsAlone (rules_of g)) (b : IsBegun (rules_of g) g.opening w) (run : Run (rules_of g) w v) (ended : HasEnded (rules_of g) v) where
-  carried : CarriedBy (rules_of g) g.opening (λ t. b.s.durable.versions) v
+  pub carried : CarriedBy (rules_of g) g.opening (λ t. b.s.durable.versions) v
   carried = runs-carry (rules_of g) g.opening w v A b run
 
-  over : IsOver (rules_of g) v
+  pub over : IsOver (rules_of g) v
   over = record {
     silent = silent (rules_of g) g.opening (λ t. b.s.durable.versions) v carried ended;
     clients = has-clients (rules_of g) g.opening w v b run;
