@@ -2,6 +2,7 @@
 use Rattle.std.specs.Prelude.{ℕ, ◌≡◌, ◌⊎◌, ◌≤◌, ◌^◌, ◌/◌, ◌||◌, true, false, List, [], ◌∷◌, filter, find, slice_get, Contains, Some, None, refl}
 use Rattle.std.specs.List.{list_all}
 use Rattle.std.proofs.Common.{inl, inr, sym, ◌∙◌, ap, subst, arith}
+use Rattle.daos_base.specs.declared.entry.Entry.{Entry}
 use Rattle.daos_base.specs.declared.id.ContId.{ContId}
 use Rattle.daos_base.specs.Epochs.{restart_floor}
 use Rattle.daos_laws.specs.Dated.{AreSingleInOrder}
@@ -54,9 +55,10 @@ SettledStoresOpen = (d : Durable) (free : ℕ → ℕ) → IsSettled d → Opens
 abbrev pub forgotten : Durable → Durable
 forgotten d = record d { entries = [] }
 
--- Where a run has ended, the next one may begin with what the target keeps, once its entries are forgotten; and what that stands for is
--- what took effect by the report.
+-- Where a run has ended, all entries are committed. The next run may begin with what the target keeps, once they are forgotten; and what
+-- that stands for is what took effect by the report.
 pub record HandsOn (g : Given) (v : World) (d : Durable) : Type 0 where
+  pub committed : (e : Entry) → Contains d.entries e → e.committed ≡ true
   pub opens : (free : ℕ → ℕ) → OpensWith (opening_of (forgotten d ∷ []) free) (forgotten d)
   pub stands : SameMap (stand (forgotten d ∷ [])).now (as_of g.opening.stand (took g.script (resolved (d ∷ [])) v.lines) (2 ^ 64))
 
@@ -139,6 +141,7 @@ stands-alike d k c =
 pub next-runs-may-begin : NextRunsMayBegin
 unfolding row_of
 next-runs-may-begin g w v s A b run ended here = record {
+  committed = λ e i. (over g w v A b run ended).settled 0 s e here i;
   opens = λ free. settled-opens (forgotten s.durable) free settled;
   stands = λ c. stands-alike s.durable settled c ∙ (over-legally g w v A b run ended s here).stands.now c;
 }
