@@ -1,20 +1,17 @@
 -- All that holds between any two events of a run holds at its beginning.
-use Rattle.std.specs.Prelude.{ℕ, zero, suc, ◌≡◌, ◌≤◌, ◌+◌, ◌*◌, ◌/◌, ◌&&◌, ◌||◌, ◌==◌, Bool, true, false, max, nat_le, nat_lt, List, [], ◌∷◌, map, filter, length, slice_get, Contains, All, Option, Some, None, refl, if◌then◌else◌}
+use Rattle.std.specs.Prelude.{ℕ, zero, suc, ◌≡◌, ◌≤◌, ◌+◌, ◌*◌, ◌/◌, ◌||◌, ◌==◌, Bool, true, max, nat_le, nat_lt, List, [], ◌∷◌, map, filter, length, slice_get, Contains, All, Option, Some, None, refl}
 use Rattle.std.specs.Option.{option_map}
 use Rattle.std.proofs.Common.{inl, inr, sym, ◌∙◌, ap, subst, arith}
 use Rattle.std.proofs.lemmas.Bool.Decides.{nat_tests}
 use Rattle.std.proofs.lemmas.List.Elements.{All-nil}
 use Rattle.daos_base.specs.declared.entry.Entry.{Entry}
-use Rattle.daos_base.specs.declared.id.AttemptId.{AttemptId}
 use Rattle.daos_base.specs.declared.id.ContId.{ContId}
 use Rattle.daos_base.specs.declared.report.Attempt.{Attempt}
 use Rattle.daos_base.specs.declared.script.Command.{Command}
-use Rattle.daos_laws.specs.Dated.{Dated, dated, dated_of, is_about, is_from, map_of}
-use Rattle.daos_laws.specs.Decided.{AreDecided, all_dated}
+use Rattle.daos_laws.specs.Dated.{Dated, dated, dated_of, is_from}
 use Rattle.daos_laws.specs.Matches.{Matches, counts_under}
 use Rattle.daos_laws.specs.Members.{Has, contains-from_has, has-from_contains, has-from_filter, has-from_map}
 use Rattle.daos_laws.specs.Targets.{ArePlaced, is_own}
-use Rattle.daos_model.specs.declared.cell.Cell.{Cell}
 use Rattle.daos_model.specs.declared.durable.Durable.{Durable}
 use Rattle.daos_model.specs.declared.durable.Version.{Version}
 use Rattle.daos_model.specs.AsOf.{as_of}
@@ -37,15 +34,14 @@ use Rattle.world_core.specs.Asking.{Facts}
 use Rattle.world_core.specs.Everything.{Everything}
 use Rattle.world_epochs.specs.EpochLaws.{epochs-begin}
 use Rattle.world_events.specs.Events.{Rules, client_plan}
-use Rattle.world_gots.specs.Gots.{Gots, IsLineServed}
+use Rattle.world_gots.specs.Gots.{IsLineServed}
 use Rattle.world_lines.specs.EndingLaws.{Spoken}
 use Rattle.world_lines.specs.Lines.{AreTheSame, HasLines, Lines}
 use Rattle.world_reads.specs.History.{counts_by, is_decided, transactions}
 use Rattle.world_reads.specs.Reads.{Reads}
 use Rattle.world_reads.specs.Versions.{Versions, VersionsStand, is_own_in, mark_of}
 use Rattle.world_talks.specs.ConversationLaws.{conversations-begin}
-use Rattle.world_verdicts.specs.Verdicts.{Verdicts}
-use Rattle.world_begins.specs.Begins.{IsAlone, IsBegun, OpensWith, first_client, first_tracker, no_history}
+use Rattle.world_begins.specs.Begins.{IsAlone, IsBegun, OpensWith, first_client, no_history}
 
 -- ---- lists
 

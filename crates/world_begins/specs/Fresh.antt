@@ -1,7 +1,7 @@
 -- A store that was never used is one with which a run may begin, and so is each such store once containers were enlisted.
-use Rattle.std.specs.Prelude.{ℕ, ◌≡◌, ◌⊎◌, ◌≤◌, ◌<◌, ◌+◌, ◌-◌, ◌*◌, ◌==◌, ◌||◌, Bool, true, false, List, [], ◌∷◌, map, find, length, Contains, Option, Some, None, refl, if◌then◌else◌}
+use Rattle.std.specs.Prelude.{ℕ, ◌≡◌, ◌⊎◌, ◌≤◌, ◌+◌, ◌-◌, ◌*◌, Bool, true, false, List, [], ◌∷◌, map, find, length, Some, None, refl, if◌then◌else◌}
 use Rattle.std.specs.List.{list_any}
-use Rattle.std.proofs.Common.{inl, inr, sym, ◌∙◌, ap, subst, arith}
+use Rattle.std.proofs.Common.{inl, inr, sym, subst, arith}
 use Rattle.daos_base.specs.declared.id.ContId.{ContId}
 use Rattle.daos_base.specs.declared.outcome.FloorWhy.TheVariants as why
 use Rattle.daos_base.specs.declared.script.ContDecl.{ContDecl}
@@ -12,7 +12,7 @@ use Rattle.daos_model.specs.declared.durable.ContRow.{ContRow}
 use Rattle.daos_model.specs.declared.durable.Durable.{Durable}
 use Rattle.daos_model.specs.Answers.{is_before}
 use Rattle.daos_model.specs.Changes.{enlisted, with_cont, with_conts}
-use Rattle.daos_model.specs.Durables.{IsInForm, cont_key, empty_durable, is_enlisted, is_row_of, new_row, row_of, row_or_new}
+use Rattle.daos_model.specs.Durables.{cont_key, empty_durable, is_enlisted, is_row_of, new_row, row_of, row_or_new}
 use Rattle.daos_model.specs.FormLaws.{enlisted-in_form, length-map, length-put}
 use Rattle.daos_model.specs.Opening.{Opening, fresh_opening, top}
 use Rattle.daos_model.specs.Ordered.{put}

@@ -1,5 +1,5 @@
 -- What goes to a target is a read, or writes to commit.
-use Rattle.std.specs.Prelude.{ℕ, ◌≡◌, ◌⊎◌, ◌++◌, Bool, true, false, not, is_some, List, [], ◌∷◌, slice_get, Contains, Option, Some, None, refl}
+use Rattle.std.specs.Prelude.{ℕ, ◌≡◌, ◌++◌, Bool, true, false, List, [], Contains, Some, None, refl}
 use Rattle.std.proofs.Common.{append-nil, inl, inr, sym, ◌∙◌, ap, subst}
 use Rattle.std.proofs.lemmas.Bool.{true≢false}
 use Rattle.daos_base.specs.declared.epoch.Epoch.{Epoch}
@@ -14,7 +14,7 @@ use Rattle.world_base.specs.declared.world.World.{World}
 use Rattle.world_base.specs.ClientTurns.{Move, heard, listed, moved, waits}
 use Rattle.world_epochs.specs.Epochs.{Unsnapped}
 use Rattle.world_events.specs.Events.{ByClient, ByTarget, Event, Rules, TargetHears, TargetIdles, ToClient, ToTarget, client_plan, kept, target_plan}
-use Rattle.world_events.specs.Letters.{Takes, client, letter_of, letters_of, target}
+use Rattle.world_events.specs.Letters.{client, letter_of, letters_of, target}
 use Rattle.world_events.specs.StepLaws.{by-hearing, by-next}
 use Rattle.world_events.specs.Steps.{KeptByCounting, KeptByHearing, KeptByMoves}
 use Rattle.world_lines.specs.EndingLaws.{heard-silent}

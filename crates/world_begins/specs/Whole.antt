@@ -22,7 +22,7 @@ use Rattle.world_begins.specs.BeginLaws.{everything-begins, only-one}
 use Rattle.world_begins.specs.Begins.{AreEnlisted, IsAlone, IsBegun, first_client, no_history}
 use Rattle.world_begins.specs.Hearable.{CanHear, requests-can-be-heard}
 use Rattle.world_begins.specs.Requests.{OnlyRequests, events-keep-requests}
-use Rattle.world_begins.specs.Staying.{KeepsAs, StaysAs, events-keep-targets}
+use Rattle.world_begins.specs.Staying.{events-keep-targets}
 
 -- ---- the statements
 

@@ -1,5 +1,5 @@
 -- Every event keeps that first epochs are those of attempts 0.
-use Rattle.std.specs.Prelude.{ℕ, ◌≡◌, ◌⊎◌, ◌++◌, Bool, true, false, is_some, List, [], ◌∷◌, slice_get, Contains, Option, Some, None, refl, if◌then◌else◌}
+use Rattle.std.specs.Prelude.{ℕ, ◌≡◌, ◌++◌, Bool, true, false, is_some, List, [], ◌∷◌, slice_get, Contains, Option, Some, None, refl, if◌then◌else◌}
 use Rattle.std.proofs.Common.{inl, inr, sym, ◌∙◌, ap, subst}
 use Rattle.std.proofs.Math.ListN.{set}
 use Rattle.std.proofs.lemmas.List.Elements.{Contains-append_left}
@@ -25,14 +25,14 @@ use Rattle.world_base.specs.declared.request.FetchRequest.{FetchRequest}
 use Rattle.world_base.specs.declared.target.TargetMemory.{TargetMemory}
 use Rattle.world_base.specs.declared.target.TargetPlan.{TargetPlan}
 use Rattle.world_base.specs.declared.world.World.{World}
-use Rattle.world_base.specs.ClientTurns.{Move, at_present, attempt_id, ended, goes, heard, hears_epochs, knows, knows_epoch, listed, moved, replied, waits}
+use Rattle.world_base.specs.ClientTurns.{Move, attempt_id, ended, heard, hears_epochs, knows, knows_epoch, listed, moved, replied, waits}
 use Rattle.world_epochs.specs.EpochLaws.{counting-keeps, hearing-keeps, moves-keep}
 use Rattle.world_epochs.specs.Epochs.{BearsEpoch, Epochs, IsIssued, Unsnapped}
 use Rattle.world_events.specs.Events as events
 use Rattle.world_events.specs.Events.{ByClient, ByTarget, Event, Rules, TargetHears, TargetIdles, ToClient, ToTarget, client_plan, kept, target_plan}
-use Rattle.world_events.specs.Letters.{Takes, client, letter_of, letters_of, target}
+use Rattle.world_events.specs.Letters.{client, letter_of, letters_of, target}
 use Rattle.world_events.specs.StepLaws.{by-hearing, by-next}
-use Rattle.world_events.specs.Steps.{KeptByCounting, KeptByHearing, KeptByMoves, after_client, after_move, without}
+use Rattle.world_events.specs.Steps.{KeptByCounting, KeptByHearing, KeptByMoves}
 use Rattle.world_lines.specs.EndingLaws.{heard-silent}
 use Rattle.world_talks.specs.AnswerLaws.{idle-posts-nothing}
 use Rattle.world_talks.specs.AskLaws.{move-is, waiting-rests}
@@ -143,9 +143,6 @@ module _ (r : Rules) (top : ℕ) (w : World) (n : ℕ) (c : ClientState) (l : Le
   knows-first : (a : Present) (own : Option Epoch) → c.present ≡ Some a → ((g : Epoch) → own ≡ Some g → IsIssued w (attempt_id (client_plan r n) c a) g) → KeepsFirst w.issued n now (knows own a)
   knows-first a own at bears = by a.epoch a.first (F.clients n c a here at)
     where
-      x : AttemptId
-      x = record { client = n; command = c.command; attempt = a.attempt }
-
       new : (o : Option Epoch) → own ≡ o → a.attempt ≡ 0 → IsFirstKnown w.issued (record { client = n; command = c.command; attempt = a.attempt }) o o
       new None e zero' = (zero', refl)
       new (Some g) e zero' = subst (λ m. Contains w.issued (record { client = n; command = c.command; attempt = m }, g)) zero' (bears g e)

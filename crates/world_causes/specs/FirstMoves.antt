@@ -1,6 +1,6 @@
 -- What a client does leaves the first epoch that it keeps of its command, until the command is over.
 use Rattle.std.specs.Prelude.{ℕ, ◌≡◌, ◌⊎◌, ◌+◌, ◌++◌, ◌&&◌, Bool, true, false, nat_lt, is_some, slice_get, List, [], ◌∷◌, Option, Some, None, refl, if◌then◌else◌}
-use Rattle.std.proofs.Common.{inl, inr, sym, ◌∙◌, ap, subst}
+use Rattle.std.proofs.Common.{inl, inr, sym, ◌∙◌, ap}
 use Rattle.std.proofs.lemmas.Option.{same_Some}
 use Rattle.daos_base.specs.declared.answer.Answer.{Answer}
 use Rattle.daos_base.specs.declared.epoch.Epoch.{Epoch}
@@ -23,7 +23,7 @@ use Rattle.world_base.specs.declared.client.ClientState.{ClientState}
 use Rattle.world_base.specs.declared.client.Present.{Present}
 use Rattle.world_base.specs.declared.client.Stage.{Stage}
 use Rattle.world_base.specs.declared.client.Stage.TheVariants as stage
-use Rattle.world_base.specs.ClientTurns.{after_end, asks_or_goes, at_present, attempt_moves, begun, command_at, command_moves, commits, condition_told, ended, ends, first_epoch, goes, group_count, group_told, is_yes, joined, moved, moves_at, next_command, next_op, next_place, next_stage, op_moves, op_of, op_told, question, replied, rests, run_moves, skip_at, skips, snaps_known, told_at, waits}
+use Rattle.world_base.specs.ClientTurns.{after_end, asks_or_goes, at_present, attempt_moves, begun, command_at, command_moves, commits, condition_told, ended, ends, first_epoch, goes, group_count, group_told, is_yes, joined, moved, moves_at, next_command, next_op, next_place, next_stage, op_moves, op_of, op_told, question, replied, rests, run_moves, skip_at, snaps_known, told_at, waits}
 use Rattle.world_epochs.specs.Epochs.{Unsnapped, is_unsnapped}
 use Rattle.world_events.specs.Events.{Rules, client_plan}
 

@@ -1,6 +1,5 @@
 -- The first epoch of a command that a client keeps was issued to the command's attempt 0.
 use Rattle.std.specs.Prelude.{ℕ, ◌≡◌, slice_get, Some}
-use Rattle.daos_base.specs.declared.id.AttemptId.{AttemptId}
 use Rattle.world_base.specs.declared.client.ClientState.{ClientState}
 use Rattle.world_base.specs.declared.client.Present.{Present}
 use Rattle.world_base.specs.declared.world.World.{World}

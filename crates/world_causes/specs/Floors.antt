@@ -1,5 +1,5 @@
 -- What stands at or below the opening refuses nothing; and what a later write is that refuses an access.
-use Rattle.std.specs.Prelude.{ℕ, ◌≡◌, ◌≤◌, ◌<◌, ◌+◌, ◌*◌, Bool, true, false, ◌&&◌, not, nat_le, nat_lt, List, [], ◌∷◌, find, Option, Some, None, Err, refl, if◌then◌else◌}
+use Rattle.std.specs.Prelude.{ℕ, ◌≡◌, ◌≤◌, ◌<◌, ◌+◌, ◌*◌, true, false, ◌&&◌, not, nat_le, nat_lt, List, [], ◌∷◌, find, Option, Some, None, Err, refl, if◌then◌else◌}
 use Rattle.std.proofs.Common.{inl, inr, sym, ◌∙◌, ap, subst, arith}
 use Rattle.std.proofs.lemmas.Bool.Decides.{nat_tests}
 use Rattle.daos_base.specs.declared.epoch.Epoch.{Epoch}

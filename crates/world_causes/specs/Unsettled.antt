@@ -1,5 +1,5 @@
 -- What isn't settled at a target is of attempts that it knows as decided, where it leads all entries that it has; and what versions are.
-use Rattle.std.specs.Prelude.{ℕ, ◌≡◌, ◌%◌, List, [], ◌∷◌, slice_get, Contains, Option, Some, None, Bool, true, false, ◌≤◌, ◌<◌, Any, refl}
+use Rattle.std.specs.Prelude.{ℕ, ◌≡◌, List, [], ◌∷◌, slice_get, Contains, Option, Some, None, Bool, true, false, ◌≤◌, Any, refl}
 use Rattle.std.proofs.Common.{inl, inr, sym, ◌∙◌, ap, subst, arith}
 use Rattle.std.proofs.Math.Nat.{mod-one}
 use Rattle.daos_base.specs.declared.entry.Entry.{Entry}
@@ -7,7 +7,7 @@ use Rattle.daos_base.specs.declared.id.ObjId.{ObjId}
 use Rattle.daos_base.specs.declared.operation.MinorWrite.{MinorWrite}
 use Rattle.daos_base.specs.declared.path.Path.{Path}
 use Rattle.daos_base.specs.Operations.{write_path}
-use Rattle.daos_base.specs.Placement.{first_shard, leader_of, leading_group, object_leader, path_leader, writes_leader}
+use Rattle.daos_base.specs.Placement.{leader_of, leading_group, object_leader, path_leader, writes_leader}
 use Rattle.daos_laws.specs.Members.{contains-from_has, has-from_contains}
 use Rattle.daos_model.specs.declared.durable.Version.{Version}
 use Rattle.daos_model.specs.Accesses.{minor_writes}

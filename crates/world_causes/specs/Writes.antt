@@ -1,5 +1,5 @@
 -- A later write that refuses an access shows why.
-use Rattle.std.specs.Prelude.{ℕ, ◌≡◌, ◌≤◌, ◌<◌, ◌+◌, ◌*◌, ◌⊎◌, true, Any, List, [], ◌∷◌, ◌++◌, map, Contains, Option, Some, refl}
+use Rattle.std.specs.Prelude.{ℕ, ◌≡◌, ◌≤◌, ◌<◌, ◌+◌, ◌*◌, ◌⊎◌, true, Any, List, [], ◌∷◌, ◌++◌, Contains, Option, Some, refl}
 use Rattle.std.proofs.Common.{inl, inr, sym, ◌∙◌, ap, subst, arith}
 use Rattle.std.proofs.lemmas.List.Elements.{Contains-append_left}
 use Rattle.daos_base.specs.declared.epoch.Epoch.{Epoch}
@@ -12,7 +12,7 @@ use Rattle.daos_base.specs.declared.path.Path.{Path}
 use Rattle.daos_base.specs.declared.shown.Shown.{Shown}
 use Rattle.daos_base.specs.Operations.{act_path, write_path}
 use Rattle.daos_base.specs.PathLaws.{near-from_overlaps}
-use Rattle.daos_base.specs.Paths.{near, overlaps}
+use Rattle.daos_base.specs.Paths.{near}
 use Rattle.daos_laws.specs.Members.{Has, has-cases}
 use Rattle.daos_model.specs.declared.durable.Durable.{Durable}
 use Rattle.daos_model.specs.declared.durable.Version.{Version}
@@ -20,12 +20,11 @@ use Rattle.daos_model.specs.Accesses.{access_paths, minor_write, minor_writes}
 use Rattle.daos_model.specs.Opening.{Opening, top}
 use Rattle.daos_model.specs.Transactions.{attempt_ops}
 use Rattle.daos_model.specs.Versions.{version_path}
-use Rattle.vos_store.specs.Answers.{shown_version}
 use Rattle.world_base.specs.declared.target.TargetPlan.{TargetPlan}
 use Rattle.world_events.specs.Events.{Rules, listed}
 use Rattle.world_turns.specs.Reads.{later_of, uncertain_from}
 use Rattle.world_turns.specs.Requests.{issued_for}
-use Rattle.world_causes.specs.Causes.{Dated, ShowsWrite, zeroth}
+use Rattle.world_causes.specs.Causes.{Dated, ShowsWrite}
 use Rattle.world_causes.specs.Dates.{IsDated}
 use Rattle.world_causes.specs.Floors.{IsLater, later-is}
 use Rattle.world_causes.specs.Growth.{any-of}

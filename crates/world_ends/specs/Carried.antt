@@ -1,25 +1,19 @@
 -- All that a run of one target keeps, with the causes of outcomes.
-use Rattle.std.specs.Prelude.{ℕ, ◌≡◌, ◌≢◌, ◌⊎◌, ◌≤◌, ◌++◌, ◌+◌, ◌*◌, ◌/◌, Bool, true, false, nat_lt, List, [], ◌∷◌, length, map, slice_get, Contains, Option, Some, None, refl, if◌then◌else◌}
+use Rattle.std.specs.Prelude.{ℕ, ◌≡◌, ◌⊎◌, ◌≤◌, ◌++◌, ◌+◌, ◌*◌, ◌/◌, Bool, true, false, nat_lt, List, [], ◌∷◌, length, slice_get, Contains, Option, Some, None, refl, if◌then◌else◌}
 use Rattle.std.specs.Option.{option_map}
 use Rattle.std.proofs.Common.{inl, inr, sym, ◌∙◌, ap, subst, arith}
-use Rattle.std.proofs.Math.ListN.{set}
-use Rattle.std.proofs.lemmas.List.Elements.{Contains-append_right}
 use Rattle.daos_base.specs.declared.epoch.Epoch.{Epoch}
 use Rattle.daos_base.specs.declared.id.AttemptId.{AttemptId}
 use Rattle.daos_base.specs.declared.id.ContId.{ContId}
-use Rattle.daos_base.specs.declared.outcome.FloorWhy.{FloorWhy}
-use Rattle.daos_base.specs.declared.outcome.Outcome.{Outcome}
 use Rattle.daos_base.specs.declared.outcome.Outcome.TheVariants as outcome
 use Rattle.daos_base.specs.declared.script.Command.{Command}
-use Rattle.daos_laws.specs.Members.{Has, contains-from_has, has-cases, has-from_contains, has-from_map, has-map, has-right}
+use Rattle.daos_laws.specs.Members.{Has, contains-from_has, has-from_contains, has-from_map, has-right}
 use Rattle.daos_messages.specs.declared.message.Message.{Message}
 use Rattle.daos_messages.specs.declared.message.Message.TheVariants as message
-use Rattle.daos_messages.specs.declared.message.Post.{Post}
-use Rattle.daos_model.specs.declared.durable.ContRow.{ContRow}
 use Rattle.daos_model.specs.declared.durable.Version.{Version}
 use Rattle.daos_model.specs.Durables.{row_of}
 use Rattle.daos_model.specs.Opening.{Opening, top}
-use Rattle.vos_store.specs.Answers.{floor_of, later_floor}
+use Rattle.vos_store.specs.Answers.{floor_of}
 use Rattle.world_base.specs.declared.client.ClientState.{ClientState}
 use Rattle.world_base.specs.declared.letter.Letter.{Letter}
 use Rattle.world_base.specs.declared.target.TargetState.{TargetState}
@@ -36,7 +30,6 @@ use Rattle.world_causes.specs.LastCauses.{AreApart, dated_ids}
 use Rattle.world_causes.specs.Requests as requests
 use Rattle.world_causes.specs.Unsettled.{unsettled-is-decided, versions-written}
 use Rattle.world_core.specs.Asking.{requests-are-right}
-use Rattle.world_core.specs.Everything.{Everything}
 use Rattle.world_events.specs.Events.{Begins, ByClient, ByTarget, Event, Goes, Rules, Run, TargetHears, ToClient, ToTarget, kept, target_plan}
 use Rattle.world_events.specs.Letters.{letter_of, letters_of, target}
 use Rattle.world_reads.specs.Given.{IsMessageRight}
@@ -163,9 +156,6 @@ module _ (r : Rules) (o : Opening) (held : ℕ → List Version) (h : History) (
         (has-right g.rest (letters_of (target g.t) g.did.posts) (letter_of (target g.t) (record { to = g.l.from; message = b.answer }))
         (subst (λ ps. Has (letter_of (target g.t) (record { to = g.l.from; message = b.answer })) (letters_of (target g.t) ps)) (sym b.one) (inl refl))))
 
-    now : Dated
-    now = decided_by_message b.answer ++ []
-
     posted : decided_by_posts g.did.posts ≡ decided_by_message b.answer ++ []
     posted = ap decided_by_posts b.one
 
@@ -176,9 +166,6 @@ module _ (r : Rules) (o : Opening) (held : ℕ → List Version) (h : History) (
         by (inl none) = subst (λ ds. AreTallied ((ds ++ []) ++ decided) later) (sym none) tallied-still
         by (inr one) = subst (λ ds. AreTallied ((ds ++ []) ++ decided) later) (sym one.3) (record { among = among; apart = (new, k.tallied.apart) })
           where
-            x : AttemptId
-            x = one.0
-
             is-decided : Contains later.decided (one.0, one.1)
             is-decided =
                 let f = verdicts.flying (letter_of (target g.t) (record { to = g.l.from; message = b.answer })) one.0 (Some one.1) sent one.2 in

@@ -1,5 +1,5 @@
 -- A run of one target from its beginning, once it is over, gives a legal report, and the target stands for what it tells.
-use Rattle.std.specs.Prelude.{ℕ, ◌≡◌, ◌⊎◌, ◌≤◌, ◌<◌, ◌^◌, Bool, true, false, nat_le, List, [], ◌∷◌, length, map, slice_get, Contains, Option, Some, None, refl}
+use Rattle.std.specs.Prelude.{ℕ, ◌≡◌, ◌⊎◌, ◌≤◌, ◌<◌, ◌^◌, Bool, true, false, nat_le, List, [], ◌∷◌, length, slice_get, Contains, Option, Some, None, refl}
 use Rattle.std.specs.Option.{option_map}
 use Rattle.std.proofs.Common.{zero, suc, inl, inr, sym, ◌∙◌, ap, subst, arith}
 use Rattle.std.proofs.Math.ListN.{set}
@@ -11,7 +11,6 @@ use Rattle.daos_base.specs.declared.outcome.Cause.TheVariants as cause
 use Rattle.daos_base.specs.declared.outcome.Outcome.{Outcome}
 use Rattle.daos_base.specs.declared.outcome.Outcome.TheVariants as outcome
 use Rattle.daos_base.specs.declared.report.Attempt.{Attempt}
-use Rattle.daos_base.specs.declared.script.Command.{Command}
 use Rattle.daos_laws.specs.Members.{contains-from_has, has-from_contains}
 use Rattle.daos_model.specs.declared.durable.Durable.{Durable}
 use Rattle.daos_model.specs.declared.durable.Version.{Version}
@@ -40,7 +39,7 @@ use Rattle.world_events.specs.Letters.{client, talk_of, target}
 use Rattle.world_lines.specs.LastLines.{AreDone, HasClients, lines-in-turn}
 use Rattle.world_talks.specs.InFlight.{one-in-flight}
 use Rattle.world_verdicts.specs.Verdicts.{IsOnItsWay, IsToldCommitted}
-use Rattle.world_ends.specs.Carried.{Carried, CarriedBy, runs-carry}
+use Rattle.world_ends.specs.Carried.{CarriedBy, runs-carry}
 use Rattle.world_ends.specs.Ends.{Facts, IsOver, IsPlain, OpensPlain, TellsPlain, report_of, rules_of}
 use Rattle.world_ends.specs.LastReads.{reads-legal}
 use Rattle.world_ends.specs.Laws.{reports-legal}
@@ -190,10 +189,10 @@ opens-plain : (o : Opening) (d : Durable) → OpensWith o d → OpensPlain o
 opens-plain o d k = record { own = k.nowhere_else; no_snaps = k.no_snaps; lease = subst (λ n. n < 2 ^ 56) k.lease k.form.lease }
 
 module _ (g : Given) (w v : World) (A : IsAlone (rules_of g)) (b : IsBegun (rules_of g) g.opening w) (run : Run (rules_of g) w v) (ended : HasEnded (rules_of g) v) where
-  carried : CarriedBy (rules_of g) g.opening (λ t. b.s.durable.versions) v
+  pub carried : CarriedBy (rules_of g) g.opening (λ t. b.s.durable.versions) v
   carried = runs-carry (rules_of g) g.opening w v A b run
 
-  over : IsOver (rules_of g) v
+  pub over : IsOver (rules_of g) v
   over = record {
     silent = silent (rules_of g) g.opening (λ t. b.s.durable.versions) v carried ended;
     clients = has-clients (rules_of g) g.opening w v b run;

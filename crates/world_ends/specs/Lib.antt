@@ -15,3 +15,4 @@ pub mod SureTells
 pub mod LinesApart
 pub mod Carried
 pub mod FromBeginning
+pub mod NextRuns

@@ -1,6 +1,5 @@
 -- A script in form that reads at no snapshot gives what the facts of causes ask of a run.
-use Rattle.std.specs.Prelude.{ℕ, ◌≡◌, true, false, not, is_some, List, slice_get, Contains, Option, Some, None, refl}
-use Rattle.std.proofs.Common.{sym, ap, subst}
+use Rattle.std.specs.Prelude.{◌≡◌, true, Contains, Some, None, refl}
 use Rattle.daos_base.specs.declared.id.AttemptId.{AttemptId}
 use Rattle.daos_base.specs.declared.operation.MinorWrite.{MinorWrite}
 use Rattle.daos_base.specs.declared.script.Command.{Command}

@@ -1,5 +1,5 @@
 -- In a run without stops and snapshots, all that lines tell of are attempts, and it is known what became of each.
-use Rattle.std.specs.Prelude.{ℕ, ◌≡◌, ◌+◌, ◌++◌, ◌&&◌, Bool, true, false, not, nat_lt, is_some, List, [], ◌∷◌, map, slice_get, Contains, All, Option, Some, None, refl, if◌then◌else◌}
+use Rattle.std.specs.Prelude.{ℕ, ◌≡◌, ◌+◌, ◌++◌, Bool, true, false, nat_lt, is_some, List, [], ◌∷◌, map, slice_get, Contains, Option, Some, None, refl, if◌then◌else◌}
 use Rattle.std.proofs.Common.{append-nil, inl, inr, sym, ◌∙◌, ap, subst}
 use Rattle.daos_base.specs.declared.answer.Answer.{Answer}
 use Rattle.daos_base.specs.declared.epoch.Epoch.{Epoch}
@@ -9,7 +9,6 @@ use Rattle.daos_base.specs.declared.operation.MinorWrite.{MinorWrite}
 use Rattle.daos_base.specs.declared.operation.Op.{Op}
 use Rattle.daos_base.specs.declared.operation.Read.{Read}
 use Rattle.daos_base.specs.declared.outcome.FloorWhy.{FloorWhy}
-use Rattle.daos_base.specs.declared.outcome.Outcome.{Outcome}
 use Rattle.daos_base.specs.declared.outcome.Outcome.TheVariants as outcome
 use Rattle.daos_base.specs.declared.report.Attempt.{Attempt}
 use Rattle.daos_base.specs.declared.report.Line.{Line}
@@ -39,10 +38,10 @@ use Rattle.world_base.specs.declared.request.FetchRequest.{FetchRequest}
 use Rattle.world_base.specs.declared.target.TargetMemory.{TargetMemory}
 use Rattle.world_base.specs.declared.target.TargetPlan.{TargetPlan}
 use Rattle.world_base.specs.declared.world.World.{World}
-use Rattle.world_base.specs.ClientTurns.{Move, asks_or_goes, at_present, attempt_moves, begins_at, command_at, command_moves, commits, condition_told, ended, ends, first_epoch, goes, group_count, group_told, heard, hears_epochs, is_yes, joined, knows, listed, moved, moves_at, next_stage, op_moves, op_of, op_told, question, replied, rests, run_moves, told_at, waits}
+use Rattle.world_base.specs.ClientTurns.{Move, asks_or_goes, at_present, attempt_moves, command_at, command_moves, commits, condition_told, ended, ends, goes, group_count, group_told, heard, hears_epochs, is_yes, joined, knows, listed, moved, moves_at, next_stage, op_moves, op_of, op_told, question, replied, rests, run_moves, told_at, waits}
 use Rattle.world_epochs.specs.Epochs.{Unsnapped, is_unsnapped}
 use Rattle.world_events.specs.Events.{ByClient, ByTarget, Event, Rules, TargetHears, TargetIdles, ToClient, ToTarget, client_plan, kept, target_plan, with_epoch}
-use Rattle.world_events.specs.Letters.{Takes, client, letter_of, letters_of, target}
+use Rattle.world_events.specs.Letters.{client, letter_of, letters_of, target}
 use Rattle.world_events.specs.StepLaws.{by-hearing, by-next}
 use Rattle.world_events.specs.Steps.{KeptByCounting, KeptByHearing, KeptByMoves}
 use Rattle.world_lines.specs.EndingLaws.{heard-silent, hears-ends}

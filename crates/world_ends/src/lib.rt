@@ -4,6 +4,7 @@
 ghost use Rattle.world_ends.specs.Carried.{RunsCarry};
 ghost use Rattle.world_ends.specs.FromBeginning.{RunsFromTheBeginning, RunsGiveTheHeadline};
 ghost use Rattle.world_ends.specs.Laws.{LastOutcomesAreLegal, LastReadsAreLegal, LastReportsAreLegal, LastStandIsRight, TookIsDecided};
+ghost use Rattle.world_ends.specs.NextRuns.{NextRunsMayBegin, SettledStoresOpen};
 ghost use Rattle.world_ends.specs.Runs.{RunsReportLegally};
 ghost use Rattle.world_ends.specs.SureTells.{EventsTellSurely};
 
@@ -25,4 +26,13 @@ pub fn laws_of_ends()
     ensures carried { RunsCarry }
     ensures runs_from_the_beginning { RunsFromTheBeginning }
     ensures headline { RunsGiveTheHeadline }
+{}
+
+/// Says that a run may begin with every store in which nothing is left to settle, and no snapshot is
+/// held: the opening is what it stands for. What a run leaves that has ended is such a store once its
+/// entries are forgotten, and it stands for what took effect by the report. So one run goes on from
+/// another.
+pub fn laws_of_next_runs()
+    ensures stores { SettledStoresOpen }
+    ensures next { NextRunsMayBegin }
 {}
