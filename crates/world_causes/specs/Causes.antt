@@ -1,5 +1,5 @@
 -- What the outcomes of attempts show, at each moment of a run.
-use Rattle.std.specs.Prelude.{ℕ, ◌≡◌, ◌≤◌, ◌<◌, ◌+◌, ◌^◌, ◌/◌, ◌++◌, max, Any, List, [], ◌∷◌, length, Contains, slice_get, Some}
+use Rattle.std.specs.Prelude.{ℕ, ◌≡◌, ◌≤◌, ◌<◌, ◌+◌, ◌*◌, ◌^◌, ◌/◌, ◌++◌, true, max, Any, List, [], ◌∷◌, length, Contains, slice_get, Some}
 use Rattle.daos_base.specs.declared.epoch.Epoch.{Epoch}
 use Rattle.daos_base.specs.declared.id.AttemptId.{AttemptId}
 use Rattle.daos_base.specs.declared.id.ContId.{ContId}
@@ -11,11 +11,14 @@ use Rattle.daos_base.specs.declared.path.Path.{Path}
 use Rattle.daos_base.specs.declared.report.Attempt.{Attempt}
 use Rattle.daos_base.specs.declared.script.Script.{Script}
 use Rattle.daos_base.specs.Epochs.{last_ticks}
+use Rattle.daos_base.specs.Operations.{write_path}
+use Rattle.daos_base.specs.Paths.{near}
 use Rattle.daos_messages.specs.declared.message.Message.{Message}
 use Rattle.daos_messages.specs.declared.message.Message.TheVariants as message
 use Rattle.daos_messages.specs.declared.message.Post.{Post}
 use Rattle.daos_messages.specs.declared.message.Reply.{Reply}
 use Rattle.daos_messages.specs.declared.message.Reply.TheVariants as reply
+use Rattle.daos_model.specs.Accesses.{access_paths, minor_writes}
 use Rattle.daos_model.specs.Attempts.{tries}
 use Rattle.daos_model.specs.CausesShown.{AsksAt, WritesNear, blocks_at}
 use Rattle.daos_model.specs.Durables.{row_of}
@@ -56,6 +59,23 @@ pub record ShowsRead (r : Rules) (issued : Dated) (x : AttemptId) (by : AttemptI
   pub asks : Any (AsksAt path) (attempt_ops r.script by)
   pub near : WritesNear (attempt_ops r.script x) path
 
+-- the first attempt of an attempt's command
+abbrev pub zeroth : AttemptId → AttemptId
+zeroth x = record x { attempt = 0 }
+
+-- a later write within what the clocks leave uncertain since the command's first epoch: one of an attempt with a later epoch, on a
+-- path near an access
+pub record ShowsWrite (r : Rules) (issued : Dated) (x : AttemptId) (by : AttemptId) (epoch : Epoch) (path : Path) : Type 0 where
+  pub own : Epoch
+  pub its : Contains issued (x, own)
+  pub later : own.0 < epoch.0
+  pub first : Epoch
+  pub begun : Contains issued (zeroth x, first)
+  pub uncertain : epoch.0 ≤ first.0 + 256 * r.epsilon
+  pub writer : Contains issued (by, epoch)
+  pub writes : Any (λ w. write_path w.write ≡ path) (minor_writes 0 (attempt_ops r.script by))
+  pub near : Any (λ p. near p path ≡ true) (access_paths (attempt_ops r.script x))
+
 -- too few blocks for an attempt's writes: all but those that are left went to decided attempts
 pub record ShowsLack (r : Rules) (o : Opening) (decided issued : Dated) (x : AttemptId) (t : ℕ) (need : ℕ) (free : ℕ) : Type 0 where
   pub own : Epoch
@@ -74,7 +94,7 @@ pub record ShowsSpent (o : Opening) (issued : Dated) (x : AttemptId) : Type 0 wh
 
 abbrev pub ShowsCause : Rules → Dated → AttemptId → Cause → Type 0
 ShowsCause r issued x (cause.ReadLater by epoch path) = ShowsRead r issued x by epoch path
-ShowsCause r issued x (cause.WriteLater by epoch path) = ⊥
+ShowsCause r issued x (cause.WriteLater by epoch path) = ShowsWrite r issued x by epoch path
 ShowsCause r issued x (cause.Unresolved by) = ⊥
 ShowsCause r issued x (cause.Floor target epoch why) = ⊥
 

@@ -1,4 +1,4 @@
--- A target that hears a Commit decides the attempt, or shows a later read, or that it lacks blocks, or its ticks are spent.
+-- A target that hears a Commit decides the attempt, or shows a later read or write, or that it lacks blocks, or its ticks are spent.
 use Rattle.std.specs.Prelude.{ℕ, ◌≡◌, ◌≢◌, ◌≤◌, ◌<◌, ◌+◌, ◌/◌, ◌++◌, ◌==◌, Bool, true, false, List, [], ◌∷◌, Contains, Some, None, refl, if◌then◌else◌}
 use Rattle.std.specs.List.{list_any}
 use Rattle.std.proofs.Common.{append-nil, sym, ◌∙◌, ap, subst, inl, inr, arith}
@@ -21,32 +21,34 @@ use Rattle.daos_model.specs.Blocks.{blocks}
 use Rattle.daos_model.specs.CausesShown.{blocks_at, blocks_of_some, writes_at}
 use Rattle.daos_model.specs.Opening.{Opening, top}
 use Rattle.daos_model.specs.Transactions.{attempt_ops}
-use Rattle.vos_stamp.specs.Stamps.{read_later}
+use Rattle.vos_stamp.specs.Stamps.{read_later, write_later}
 use Rattle.world_base.specs.declared.did.Did.{Did}
 use Rattle.world_base.specs.declared.request.CommitRequest.{CommitRequest}
 use Rattle.world_base.specs.declared.target.TargetMemory.{TargetMemory}
 use Rattle.world_events.specs.Events.{Rules, listed, target_plan}
 use Rattle.world_turns.specs.Changes.{Kept}
 use Rattle.world_turns.specs.Commits as commit
+use Rattle.world_turns.specs.Reads.{later_of}
 use Rattle.world_turns.specs.Requests.{issued_for, request_epoch, with_ticks}
 use Rattle.world_turns.specs.Turns.{Whole}
 use Rattle.world_causes.specs.Causes.{Dated, ShowsRead, blocks_of_decided, limit}
 use Rattle.world_causes.specs.Dates.{IsDated, heard-within, limit-rises, request-dated, request-spent}
-use Rattle.world_causes.specs.Floors.{below-stays, no-first-floor, no-first-later}
+use Rattle.world_causes.specs.Floors.{below-stays, first-later-is, no-first-floor}
 use Rattle.world_causes.specs.Paths.{CommitSoFar, commit-path}
-use Rattle.world_causes.specs.Premises.{AreOfReads, IsRequest}
+use Rattle.world_causes.specs.Premises.{AreOfReads, AreWritten, IsRequest}
 use Rattle.world_causes.specs.ReadTurns.{AreOpeningLow, issue-within, none-told, told-one}
 use Rattle.world_causes.specs.Turns.{Heeds, said}
+use Rattle.world_causes.specs.Writes.{IsWriteShown, write-access, write-shown}
 
 -- a target that hears a Commit of an attempt's writes, of which it holds some
 pub record HearsCommit (r : Rules) (o : Opening) (decided issued : Dated) (t : ℕ) (opening : Epoch × FloorWhy) (m : TargetMemory) (old : Kept) (q : CommitRequest) : Type 0 where
   pub few : t < 256
-  pub certain : r.epsilon ≡ 0
   pub ticks : m.ticks ≤ limit o issued
   pub dates : (x : AttemptId) (e : Epoch) → Contains issued (x, e) → e.0 / 256 ≤ limit o issued
   pub request : IsRequest o issued q.attempt q.ep q.first q.tracker
   pub floors : AreOpeningLow o opening old
   pub stamps : AreOfReads r issued m.stamps
+  pub written : AreWritten r issued (top o) old.durable.versions
   pub space : o.free t ≤ old.free + blocks_of_decided r.script t decided
   pub its : q.writes ≡ minor_writes 0 (attempt_ops r.script q.attempt)
   pub some : commit.own_writes (target_plan r t) q.writes ≢ []
@@ -124,10 +126,31 @@ module _ (r : Rules) (o : Opening) (decided issued : Dated) (t : ℕ) (opening :
       no-first-floor (target_plan r t) opening e k.durable (commit.own_writes (target_plan r t) q.writes) (below-stays opening old.durable k.durable (top o) e.0 w.conts d.above h.floors) in
       let no : ⊥ = cc in absurd no
   refuses k e c left w (commit.ByWrite floor reads z later same) is =
-      let d = dated-at e w.dated in
-      let none : commit.first_later (target_plan r t) q.first e k.durable (commit.own_writes (target_plan r t) q.writes) ≡ None =
-      no-first-later (target_plan r t) q.first e k.durable (commit.own_writes (target_plan r t) q.writes) h.certain d.certain in
-      let no : ⊥ = cc in absurd no
+      said r o decided issued t from old.free k.free (with_ticks e m) (message.Ended q.attempt (Some e) (outcome.Restart (write_later z))) (issued_for q.attempt q.ep e) left (is ∙ ap (λ b. (with_ticks e m, commit.ends_at q from e (outcome.Restart b))) same) (record {
+        shows = shown.shows;
+        told = λ n i. told n (has-from_contains (e.0 ∷ z.epoch.0 ∷ []) n i);
+        ticks = heard e d.within;
+        dated = issue-within o issued q.attempt q.ep e d.within;
+        space = let f : old.free ≤ k.free + 0 = w.free in omega (arith, f);
+      })
+    where
+      d : IsDated o issued q.attempt q.ep q.first e
+      d = dated-at e w.dated
+
+      f : (u : MinorWrite) × Has u (commit.own_writes (target_plan r t) q.writes) × (later_of (target_plan r t) q.first e (write_path u.write) k.durable ≡ Some z)
+      f = first-later-is (target_plan r t) q.first e k.durable (commit.own_writes (target_plan r t) q.writes) z later
+
+      among : Has f.0 (minor_writes 0 (attempt_ops r.script q.attempt))
+      among = subst (Has f.0) h.its (has-from_filter (commit.is_own (target_plan r t)) q.writes f.0 f.1).0
+
+      shown : IsWriteShown r o issued (now e) q.attempt z
+      shown = write-shown r o issued (target_plan r t) q.attempt q.ep q.first e (write_path f.0.write) k.durable z refl d (subst (AreWritten r issued (top o)) (sym w.olds) h.written)
+          (write-access 0 (attempt_ops r.script q.attempt) f.0 among) f.2
+
+      told : (n : ℕ) → Has n (e.0 ∷ z.epoch.0 ∷ []) → n / 256 ≤ limit o (now e)
+      told n (inl same) = subst (λ g. g / 256 ≤ limit o (now e)) (sym same) d.within
+      told n (inr (inl same)) = subst (λ g. g / 256 ≤ limit o (now e)) (sym same) (up (h.dates z.by z.epoch shown.writer) (rises e))
+      told n (inr (inr bad)) = absurd bad
   refuses k e c left w (commit.ByRead floor z first same) is =
       said r o decided issued t from old.free k.free (with_ticks e m) (message.Ended q.attempt (Some e) (outcome.Restart (read_later z))) (issued_for q.attempt q.ep e) left (is ∙ ap (λ b. (with_ticks e m, commit.ends_at q from e (outcome.Restart b))) same) (record {
         shows = read-shown e z d first;

@@ -14,8 +14,8 @@ use Rattle.world_base.specs.declared.target.TargetPlan.{TargetPlan}
 use Rattle.world_events.specs.Events.{listed}
 use Rattle.world_turns.specs.Reads.{uncertain_from}
 use Rattle.world_turns.specs.Requests.{epoch_of_ticks, issued_for, request_epoch}
-use Rattle.world_causes.specs.Causes.{Dated, limit}
-use Rattle.world_causes.specs.Premises.{IsFirstLow, IsRequest}
+use Rattle.world_causes.specs.Causes.{Dated, limit, zeroth}
+use Rattle.world_causes.specs.Premises.{IsFirstKnown, IsRequest}
 
 -- ---- the limit
 
@@ -64,23 +64,23 @@ pub record IsDated (o : Opening) (issued : Dated) (x : AttemptId) (ep first : Op
   pub its : Contains (issued ++ listed (issued_for x ep e)) (x, e)
   pub within : e.0 / 256 ≤ limit o (issued ++ listed (issued_for x ep e))
   pub above : top o < e.0
-  pub certain : uncertain_from first e ≤ e.0
+  pub begun : (f : Epoch) × Contains (issued ++ listed (issued_for x ep e)) (zeroth x, f) × (uncertain_from first e ≡ f.0)
 
 last-is-there : (issued : Dated) (i : AttemptId × Epoch) → Contains (issued ++ i ∷ []) i
 last-is-there issued i = Contains-push issued i
 
-certain-first : (first ep : Option Epoch) (tracker e : Epoch) → IsFirstLow first ep tracker → ((own : Epoch) → ep ≡ Some own → own.0 ≤ e.0) → (ep ≡ None → tracker.0 ≤ e.0) → uncertain_from first e ≤ e.0
-certain-first None ep tracker e low own none = omega arith
-certain-first (Some f) None tracker e low own none = let k : tracker.0 ≤ e.0 = none refl in let l : f.0 ≤ tracker.0 = low in omega (arith, k, l)
-certain-first (Some f) (Some g) tracker e low own none = let k : g.0 ≤ e.0 = own g refl in let l : f.0 ≤ g.0 = low in omega (arith, k, l)
+-- the first epoch of the command was issued to its attempt 0
+begun-first : (issued more : Dated) (x : AttemptId) (ep first : Option Epoch) (e : Epoch) → IsFirstKnown issued x ep first → Contains (issued ++ more) (x, e) → (f : Epoch) × Contains (issued ++ more) (zeroth x, f) × (uncertain_from first e ≡ f.0)
+begun-first issued more x ep None e known its = (e, subst (λ y. Contains (issued ++ more) (y, e)) (ap (λ n. record x { attempt = n }) known.0) its, refl)
+begun-first issued more x ep (Some f) e known its = (f, Contains-append_left issued more (zeroth x, f) known, refl)
 
 epoch-is-new : (o : Opening) (issued : Dated) (x : AttemptId) (first : Option Epoch) (tracker e : Epoch) (me n : ℕ) → me < 256 → e.0 ≡ n * 256 + me → tracker.0 / 256 < n → n ≤ limit o issued + 1 → top o ≤ tracker.0
-    → IsFirstLow first None tracker → IsDated o issued x None first e
-epoch-is-new o issued x first tracker e me n few is above low top-low first-low = record {
+    → IsFirstKnown issued x None first → IsDated o issued x None first e
+epoch-is-new o issued x first tracker e me n few is above low top-low known = record {
   its = last-is-there issued (x, e);
   within = subst (λ m. e.0 / 256 ≤ m) (sym (limit-more o issued ((x, e) ∷ []))) (quotient (limit o issued) low);
   above = over (top o) top-low;
-  certain = certain-first first None tracker e first-low (λ own k. let no : ⊥ = cc in absurd no) (λ k. omega (arith, is, above));
+  begun = begun-first issued ((x, e) ∷ []) x None first e known (last-is-there issued (x, e));
 }
   where
     quotient : (b : ℕ) → n ≤ b + 1 → e.0 / 256 ≤ b + 1
@@ -95,7 +95,7 @@ request-dated o issued x (Some own) first tracker t m reading e few low q h = su
   its = Contains-append_left issued [] (x, own) k.0;
   within = subst (λ is. own.0 / 256 ≤ limit o is) (sym (append-nil issued)) k.2;
   above = k.1;
-  certain = certain-first first (Some own) tracker own q.first_low (λ f g. let s : own ≡ f = cc in subst (λ z. z.0 ≤ own.0) s (omega arith)) (λ g. let no : ⊥ = cc in absurd no);
+  begun = begun-first issued [] x (Some own) first own q.known (Contains-append_left issued [] (x, own) k.0);
 })
   where
     same : own ≡ e
@@ -111,7 +111,7 @@ request-dated o issued x None first tracker t m reading e few low q h = by (nat_
     found : epoch_of_ticks t.me n ≡ e → IsDated o issued x None first e
     found same =
         let k : (tracker.0 / 256 < n) × (n ≤ limit o issued + 1) = issued-within m.ticks reading tracker.0 (limit o issued) low q.tracked (reading-within o issued) in
-        epoch-is-new o issued x first tracker e t.me n few (sym (ap (λ z. z.0) same)) k.0 k.1 (q.fresh refl).1 q.first_low
+        epoch-is-new o issued x first tracker e t.me n few (sym (ap (λ z. z.0) same)) k.0 k.1 (q.fresh refl).1 q.known
 
     by : (b : Bool) → nat_le n last_ticks ≡ b → option_map (epoch_of_ticks t.me) (if b then Some n else None) ≡ Some e → IsDated o issued x None first e
     by true p k = found (cc)

@@ -1,27 +1,29 @@
--- What stands at or below the opening refuses nothing, and with clocks that leave nothing uncertain no write is later.
-use Rattle.std.specs.Prelude.{ℕ, ◌≡◌, ◌≤◌, ◌<◌, Bool, true, false, ◌&&◌, not, nat_le, nat_lt, List, [], ◌∷◌, find, Option, Some, None, Err, refl, if◌then◌else◌}
-use Rattle.std.proofs.Common.{sym, ◌∙◌, ap, subst, arith}
+-- What stands at or below the opening refuses nothing; and what a later write is that refuses an access.
+use Rattle.std.specs.Prelude.{ℕ, ◌≡◌, ◌≤◌, ◌<◌, ◌+◌, ◌*◌, true, false, ◌&&◌, not, nat_le, nat_lt, List, [], ◌∷◌, find, Option, Some, None, Err, refl, if◌then◌else◌}
+use Rattle.std.proofs.Common.{inl, inr, sym, ◌∙◌, ap, subst, arith}
 use Rattle.std.proofs.lemmas.Bool.Decides.{nat_tests}
 use Rattle.daos_base.specs.declared.epoch.Epoch.{Epoch}
 use Rattle.daos_base.specs.declared.id.AttemptId.{AttemptId}
 use Rattle.daos_base.specs.declared.id.ContId.{ContId}
 use Rattle.daos_base.specs.declared.operation.MinorWrite.{MinorWrite}
 use Rattle.daos_base.specs.declared.operation.Read.{Read}
+use Rattle.daos_base.specs.declared.outcome.Cause.{Cause}
 use Rattle.daos_base.specs.declared.outcome.Cause.TheVariants.{Floor}
 use Rattle.daos_base.specs.declared.outcome.FloorWhy.{FloorWhy}
 use Rattle.daos_base.specs.declared.path.Path.{Path}
+use Rattle.daos_base.specs.declared.shown.Shown.{Shown}
 use Rattle.daos_base.specs.Operations.{read_path, write_path}
 use Rattle.daos_base.specs.Paths.{overlaps}
 use Rattle.daos_laws.specs.Members.{Has}
 use Rattle.daos_model.specs.declared.durable.Durable.{Durable}
 use Rattle.daos_model.specs.declared.durable.Version.{Version}
 use Rattle.daos_model.specs.Answers.{answer}
-use Rattle.daos_model.specs.BoolLaws.{and_left, not_true}
+use Rattle.daos_model.specs.BoolLaws.{and_left, and_right, not_true}
 use Rattle.daos_model.specs.Durables.{is_frozen, is_row_of, row_of, row_or_new}
 use Rattle.daos_model.specs.Versions.{blocks_read, first_between, first_blocking, is_between, map_below, version_path}
-use Rattle.vos_stamp.specs.Stamps.{floor_cause}
+use Rattle.vos_stamp.specs.Stamps.{floor_cause, later_cause, write_later}
 use Rattle.vos_store.specs.declared.refusal.FetchNo.TheVariants as fetch
-use Rattle.vos_store.specs.Answers.{answer_unless, fetched, floor_of, is_past, later_floor, later_write, shown_or_none}
+use Rattle.vos_store.specs.Answers.{answer_unless, fetched, floor_of, is_past, later_floor, later_write, shown_or_none, shown_version}
 use Rattle.world_base.specs.declared.request.FetchRequest.{FetchRequest}
 use Rattle.world_base.specs.declared.target.TargetPlan.{TargetPlan}
 use Rattle.world_reads.specs.EntryLaws.{found-has, found-passes}
@@ -55,36 +57,64 @@ not-past opening d cont e low =
 
 -- ---- later writes
 
-two-tests : (a u n : ℕ) → u ≤ a → (nat_lt a n && nat_le n u) ≡ false
-two-tests a u n low = by (nat_lt a n) refl
+-- a version that refuses an access on a path: it is later, within what the clocks leave uncertain, and overlaps
+pub record IsLater (t : TargetPlan) (first : Option Epoch) (e : Epoch) (p : Path) (d : Durable) (z : Shown) : Type 0 where
+  pub v : Version
+  pub among : Has v d.versions
+  pub shown : shown_version v ≡ z
+  pub above : e.0 < v.epoch.0
+  pub within : v.epoch.0 ≤ uncertain_from first e + 256 * t.epsilon
+  pub overlap : overlaps p (version_path v) ≡ true
+
+above-is : (m n : ℕ) → nat_lt m n ≡ true → m < n
+above-is m n h = grind (arith, nat_tests)
+
+within-is : (m n : ℕ) → nat_le m n ≡ true → m ≤ n
+within-is m n h = grind (arith, nat_tests)
+
+pub later-is : (t : TargetPlan) (first : Option Epoch) (e : Epoch) (p : Path) (d : Durable) (z : Shown) → later_of t first e p d ≡ Some z → IsLater t first e p d z
+unfolding later_write first_between is_between
+later-is t first e p d z h = by (find (is_between p e.0 (uncertain_to t first e).0) d.versions) refl h
   where
-    by : (b : Bool) → nat_lt a n ≡ b → (b && nat_le n u) ≡ false
-    by false e = refl
-    by true e = grind (arith, nat_tests)
+    by : (o : Option Version) → find (is_between p e.0 (uncertain_to t first e).0) d.versions ≡ o → shown_or_none o ≡ Some z → IsLater t first e p d z
+    by None k f = let no : ⊥ = cc in absurd no
+    by (Some v) k f =
+        let passes : is_between p e.0 (uncertain_to t first e).0 v ≡ true = found-passes (is_between p e.0 (uncertain_to t first e).0) d.versions v k in
+        let both = and_left (nat_lt e.0 v.epoch.0 && nat_le v.epoch.0 (uncertain_to t first e).0) (overlaps p (version_path v)) passes in
+        record {
+          v = v;
+          among = found-has (is_between p e.0 (uncertain_to t first e).0) d.versions v k;
+          shown = cc;
+          above = above-is e.0 v.epoch.0 (and_left (nat_lt e.0 v.epoch.0) (nat_le v.epoch.0 (uncertain_to t first e).0) both);
+          within = within-is v.epoch.0 (uncertain_from first e + 256 * t.epsilon) (and_right (nat_lt e.0 v.epoch.0) (nat_le v.epoch.0 (uncertain_to t first e).0) both);
+          overlap = and_right (nat_lt e.0 v.epoch.0 && nat_le v.epoch.0 (uncertain_to t first e).0) (overlaps p (version_path v)) passes;
+        }
 
-none-between : (p : Path) (above upto : ℕ) (vs : List Version) → upto ≤ above → first_between p above upto vs ≡ None
-unfolding first_between is_between
-none-between p above upto [] low = refl
-none-between p above upto (v ∷ vs) low =
-    ap (λ b. if b && overlaps p (version_path v) then Some v else find (is_between p above upto) vs) (two-tests above upto v.epoch.0 low) ∙ none-between p above upto vs low
-
-pub no-later : (t : TargetPlan) (first : Option Epoch) (e : Epoch) (p : Path) (d : Durable) → t.epsilon ≡ 0 → uncertain_from first e ≤ e.0 → later_of t first e p d ≡ None
-unfolding later_write
-no-later t first e p d none low = ap shown_or_none (none-between p e.0 (uncertain_to t first e).0 d.versions (omega (arith, none, low)))
-
-pub no-first-later : (t : TargetPlan) (first : Option Epoch) (e : Epoch) (d : Durable) (ws : List MinorWrite) → t.epsilon ≡ 0 → uncertain_from first e ≤ e.0 → first_later t first e d ws ≡ None
+-- the write of which a later one is shown
+pub first-later-is : (t : TargetPlan) (first : Option Epoch) (e : Epoch) (d : Durable) (ws : List MinorWrite) (z : Shown) → first_later t first e d ws ≡ Some z
+    → (w : MinorWrite) × Has w ws × (later_of t first e (write_path w.write) d ≡ Some z)
 unfolding first_later
-no-first-later t first e d [] none low = refl
-no-first-later t first e d (w ∷ ws) none low =
-    ap (λ c. or_else c (first_later t first e d ws)) (no-later t first e (write_path w.write) d none low) ∙ no-first-later t first e d ws none low
+first-later-is t first e d [] z h = let no : ⊥ = cc in absurd no
+first-later-is t first e d (w ∷ ws) z h = by (first-later-is t first e d ws z) (later_of t first e (write_path w.write) d) refl h
+  where
+    by : (first_later t first e d ws ≡ Some z → (w : MinorWrite) × Has w ws × (later_of t first e (write_path w.write) d ≡ Some z)) → (o : Option Shown) → later_of t first e (write_path w.write) d ≡ o
+        → or_else o (first_later t first e d ws) ≡ Some z → (u : MinorWrite) × Has u (w ∷ ws) × (later_of t first e (write_path u.write) d ≡ Some z)
+    by rest None k f = let m = rest f in (m.0, inr m.1, m.2)
+    by rest (Some y) k f = (w, inl refl, k ∙ f)
 
 -- ---- reads
 
--- a read above the opening isn't refused
-pub no-refusal : (t : TargetPlan) (q : FetchRequest) (e : Epoch) (opening : Epoch × FloorWhy) (d : Durable) → q.snapshot ≡ false → t.epsilon ≡ 0 → uncertain_from q.first e ≤ e.0 → AreBelow opening d e.0
-    → fetch_cause t q e d ≡ None
-no-refusal t q e opening d plain none low below =
-    rw (not-past opening d (read_path q.read).cont e below, plain, no-later t q.first e (read_path q.read) d none low) refl
+-- a read above the opening is refused by a later write alone
+pub read-refused : (t : TargetPlan) (q : FetchRequest) (e : Epoch) (opening : Epoch × FloorWhy) (d : Durable) (c : Cause) → q.snapshot ≡ false → AreBelow opening d e.0 → fetch_cause t q e d ≡ Some c
+    → (z : Shown) × (later_of t q.first e (read_path q.read) d ≡ Some z) × (c ≡ write_later z)
+read-refused t q e opening d c plain below h = by (later_of t q.first e (read_path q.read) d) refl (sym now ∙ h)
+  where
+    now : fetch_cause t q e d ≡ later_cause (later_of t q.first e (read_path q.read) d)
+    now = rw (not-past opening d (read_path q.read).cont e below, plain) refl
+
+    by : (o : Option Shown) → later_of t q.first e (read_path q.read) d ≡ o → later_cause o ≡ Some c → (z : Shown) × (later_of t q.first e (read_path q.read) d ≡ Some z) × (c ≡ write_later z)
+    by None k f = let no : ⊥ = cc in absurd no
+    by (Some z) k f = (z, k, let same : write_later z ≡ c = cc in sym same)
 
 -- one that meets an attempt meets a version of it that isn't settled
 pub meets-open : (r : Read) (e : Epoch) (opening : Epoch × FloorWhy) (d : Durable) (a : AttemptId) → AreBelow opening d e.0 → fetched r e d ≡ Err (fetch.Unsettled a) → (v : Version) × Has v d.versions × (v.done ≡ false) × (v.by ≡ a)

@@ -33,7 +33,7 @@ use Rattle.world_base.specs.declared.client.Stage.TheVariants as stage
 use Rattle.world_base.specs.ClientTurns.{act_read, condition_read, question}
 use Rattle.world_events.specs.Events.{Rules}
 use Rattle.world_events.specs.StepLaws.{set-here, set-there}
-use Rattle.world_causes.specs.Causes.{Dated, MessageShows, ReplyShows, Shows, ShowsCause, blocks_of_decided}
+use Rattle.world_causes.specs.Causes.{Dated, MessageShows, ReplyShows, Shows, ShowsCause, blocks_of_decided, zeroth}
 
 -- ---- one element among others
 
@@ -73,7 +73,17 @@ module _ (r : Rules) (o : Opening) (new decided issued more : Dated) where
     asks = k.asks;
     near = k.near;
   }
-  cause-more x (cause.WriteLater by epoch path) k = k
+  cause-more x (cause.WriteLater by epoch path) k = record {
+    own = k.own;
+    its = Contains-append_left issued more (x, k.own) k.its;
+    later = k.later;
+    first = k.first;
+    begun = Contains-append_left issued more (zeroth x, k.first) k.begun;
+    uncertain = k.uncertain;
+    writer = Contains-append_left issued more (by, epoch) k.writer;
+    writes = k.writes;
+    near = k.near;
+  }
   cause-more x (cause.Unresolved by) k = k
   cause-more x (cause.Floor target epoch why) k = k
 

@@ -19,7 +19,7 @@ use Rattle.daos_base.specs.Scripts.{is_numbered}
 use Rattle.daos_laws.specs.Members.{Has, contains-from_has, has-cases, has-from_contains, has-from_filter, has-from_map, has-left, has-map, has-right}
 use Rattle.daos_model.specs.Accesses.{minor_writes}
 use Rattle.daos_model.specs.Attempts.{EachTry, has_own_epoch, snapshot_or_none, tries}
-use Rattle.daos_model.specs.CausesShown.{AreSpent, AttemptShows, IsLaterRead, LacksBlocks, LacksSpace, ShowsWhy, blocks_at, blocks_of_others, blocks_of_some, is_snap, lacks_space_at, writes_at}
+use Rattle.daos_model.specs.CausesShown.{AreSpent, AttemptShows, IsLaterRead, IsLaterWrite, LacksBlocks, LacksSpace, ShowsWhy, blocks_at, blocks_of_others, blocks_of_some, first_epoch, is_snap, lacks_space_at, writes_at}
 use Rattle.daos_model.specs.CausesShown as shown
 use Rattle.daos_model.specs.Durables.{same_attempt}
 use Rattle.daos_model.specs.Laws.{tries-append}
@@ -30,7 +30,7 @@ use Rattle.daos_model.specs.Transactions.{command_of, numbered, numbered_at, ops
 use Rattle.world_base.specs.declared.world.World.{World}
 use Rattle.world_events.specs.Events.{Rules, commands_or_none}
 use Rattle.world_reads.specs.EntryLaws.{same-attempt}
-use Rattle.world_causes.specs.Causes.{Causes, Dated, Shows, ShowsCause, ShowsLack, ShowsRead, ShowsSpent, blocks_of_decided}
+use Rattle.world_causes.specs.Causes.{Causes, Dated, Shows, ShowsCause, ShowsLack, ShowsRead, ShowsSpent, ShowsWrite, blocks_of_decided, zeroth}
 use Rattle.world_causes.specs.Growth.{any-of, has-at}
 use Rattle.world_causes.specs.Premises.{IsPlain}
 
@@ -48,7 +48,7 @@ abbrev pub dated_ids : Dated → List AttemptId
 dated_ids is = map (λ i. i.0) is
 
 -- Each attempt to which an epoch was issued has its line, with that epoch; each that was decided is told of as committed; none
--- was decided twice, had two epochs issued, or has two lines; and no line tells of a restart of a target.
+-- was decided twice, had two epochs issued, or has two lines; no line tells of a restart of a target, and lines begin with attempts 0.
 pub record AllAreTold (decided : Dated) (w : World) : Type 0 where
   pub issued : (x : AttemptId) (e : Epoch) → Contains w.issued (x, e) → (a : Attempt) × Contains (tries w.lines) a × (a.id ≡ x) × (a.epoch ≡ Some e)
   pub decided_are : (x : AttemptId) (e : Epoch) → Contains decided (x, e) → (a : Attempt) × Contains (tries w.lines) a × (a.id ≡ x) × (a.outcome ≡ outcome.Committed)
@@ -56,11 +56,13 @@ pub record AllAreTold (decided : Dated) (w : World) : Type 0 where
   pub issued_apart : AreApart (dated_ids w.issued)
   pub decided_apart : AreApart (dated_ids decided)
   pub restarts : restart_numbers w.lines ≡ []
+  -- the first epoch of a command is that of its attempt 0
+  pub firsts : (x : AttemptId) (b : Attempt) → Contains (tries w.lines) b → b.id ≡ zeroth x → first_epoch (tries w.lines) x ≡ b.epoch
 
 -- then every attempt that didn't take effect shows its cause in the whole list of lines
 abbrev pub CausesAreShown : Type 0
 CausesAreShown =
-    (r : Rules) (g : model.Given) (decided : Dated) (w : World) → IsPlain r → g.script ≡ r.script → Causes r g.opening decided w → AllAreTold decided w → EachTry (AttemptShows g w.lines) w.lines
+    (r : Rules) (g : model.Given) (decided : Dated) (w : World) → IsPlain r → g.script ≡ r.script → g.job.epsilon ≡ r.epsilon → Causes r g.opening decided w → AllAreTold decided w → EachTry (AttemptShows g w.lines) w.lines
 
 -- ---- lists
 
@@ -223,7 +225,7 @@ no-snapshot s t free (Some (Skip turns)) k = refl
 
 -- ---- in the end
 
-module _ (r : Rules) (g : model.Given) (decided : Dated) (w : World) (P : IsPlain r) (same : g.script ≡ r.script) (C : Causes r g.opening decided w) (T : AllAreTold decided w) (before : List Line) (a : Attempt) (own : Has a (tries w.lines)) where
+module _ (r : Rules) (g : model.Given) (decided : Dated) (w : World) (P : IsPlain r) (same : g.script ≡ r.script) (clocks : g.job.epsilon ≡ r.epsilon) (C : Causes r g.opening decided w) (T : AllAreTold decided w) (before : List Line) (a : Attempt) (own : Has a (tries w.lines)) where
   its-line : (b : Attempt) → Contains (tries w.lines) b → b.id ≡ a.id → b ≡ a
   its-line b i e = one-line (tries w.lines) b a T.lines_apart (has-from_contains (tries w.lines) b i) own e
 
@@ -238,6 +240,19 @@ module _ (r : Rules) (g : model.Given) (decided : Dated) (w : World) (P : IsPlai
     reader = let b = T.issued by epoch k.reader in
         any-of (λ b. (b.id ≡ by) × (b.epoch ≡ Some epoch) × (has_own_epoch r.script b ≡ true)) (tries w.lines) b.0 (has-from_contains (tries w.lines) b.0 b.1) (b.2, b.3, own-epoch r b.0 P);
     asks = k.asks;
+    near = k.near;
+  }
+
+  later-write : (by : AttemptId) (epoch : Epoch) (path : Path) → ShowsWrite r w.issued a.id by epoch path → IsLaterWrite r.script g.job.epsilon (tries w.lines) a by epoch path
+  later-write by epoch path k = record {
+    own = k.own;
+    issued = its-epoch k.own k.its;
+    later = k.later;
+    first = k.first;
+    begun = let b = T.issued (zeroth a.id) k.first k.begun in T.firsts a.id b.0 b.1 b.2 ∙ b.3;
+    uncertain = subst (λ n. epoch.0 ≤ k.first.0 + 256 * n) (sym clocks) k.uncertain;
+    writer = let b = T.issued by epoch k.writer in any-of (λ b. (b.id ≡ by) × (b.epoch ≡ Some epoch)) (tries w.lines) b.0 (has-from_contains (tries w.lines) b.0 b.1) (b.2, b.3);
+    writes = k.writes;
     near = k.near;
   }
 
@@ -299,7 +314,7 @@ module _ (r : Rules) (g : model.Given) (decided : Dated) (w : World) (P : IsPlai
 
   cause-shown : (why : Cause) → ShowsCause r w.issued a.id why → shown.ShowsCause (record g { script = r.script }) w.lines before a why
   cause-shown (cause.ReadLater by epoch path) k = later-read by epoch path k
-  cause-shown (cause.WriteLater by epoch path) k = absurd k
+  cause-shown (cause.WriteLater by epoch path) k = later-write by epoch path k
   cause-shown (cause.Unresolved by) k = absurd k
   cause-shown (cause.Floor target epoch why) k = absurd k
 
@@ -317,5 +332,5 @@ module _ (r : Rules) (g : model.Given) (decided : Dated) (w : World) (P : IsPlai
 
 pub causes-shown : CausesAreShown
 unfolding tries
-causes-shown r g decided w P same C T before a after e = attempt-shows r g decided w P same C T before a
+causes-shown r g decided w P same clocks C T before a after e = attempt-shows r g decided w P same clocks C T before a
     (subst (λ ls. Has a (tries ls)) (sym e) (subst (Has a) (sym (tries-append before (line.Try a ∷ after))) (has-right (tries before) (tries (line.Try a ∷ after)) a (inl refl))))

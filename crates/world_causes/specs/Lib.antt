@@ -8,8 +8,14 @@ pub mod Turns
 pub mod ReadTurns
 pub mod CommitTurns
 pub mod Growth
+pub mod Writes
 pub mod Requests
 pub mod TargetLaws
 pub mod ClientLaws
 pub mod CauseLaws
 pub mod LastCauses
+pub mod Unsettled
+pub mod Firsts
+pub mod FirstMoves
+pub mod FirstLaws
+pub mod IssuedOnce

@@ -66,6 +66,21 @@ open-settled a vs decided k v i open' =
     subst (λ x. Has x (filter (is_other_attempt a) decided)) (sym was.2 ∙ ap (λ z. z.by) u.2)
     (has-filter (is_other_attempt a) decided u.0.by (k u.0 u.1 was.0) (ap not was.1))
 
+-- each of these versions was one of those before, but for whether it is done
+abbrev pub AreOld : List Version → List Version → Type 0
+AreOld olds vs = (v : Version) → Has v vs → (u : Version) × Has u olds × (u.by ≡ v.by) × (u.epoch ≡ v.epoch) × (u.write ≡ v.write)
+
+same-done : (a : AttemptId) (v : Version) → ((done_by a v).by ≡ v.by) × ((done_by a v).epoch ≡ v.epoch) × ((done_by a v).write ≡ v.write)
+unfolding done_by
+same-done a v = (refl, refl, refl)
+
+old-settled : (a : AttemptId) (olds vs : List Version) → AreOld olds vs → AreOld olds (map (done_by a) vs)
+old-settled a olds vs k v i =
+    let y = has-from_map (done_by a) vs v i in
+    let u = k y.0 y.1 in
+    let s = same-done a y.0 in
+    (u.0, u.1, u.2 ∙ sym s.0 ∙ ap (λ z. z.by) y.2, u.3 ∙ sym s.1 ∙ ap (λ z. z.epoch) y.2, u.4 ∙ sym s.2 ∙ ap (λ z. z.write) y.2)
+
 -- ---- a Fetch
 
 abbrev pub left_at : TargetMemory → read.FetchStage → List AttemptId
@@ -84,6 +99,7 @@ pub record ReadSoFar (t : TargetPlan) (m : TargetMemory) (reading : ℕ) (q : Fe
   pub conts : k.durable.conts ≡ old.durable.conts
   pub free : old.free ≤ k.free
   pub unsettled : AreOpenOf k.durable.versions (left_at m s)
+  pub olds : AreOld old.durable.versions k.durable.versions
 
 -- a step that changes nothing
 read-rests : (t : TargetPlan) (m : TargetMemory) (reading : ℕ) (q : FetchRequest) (old : Kept) (s u : read.FetchStage) (k l : Kept) → l ≡ k → ReadDated t m reading q u → left_at m u ≡ left_at m s
@@ -93,6 +109,7 @@ read-rests t m reading q old s u k l same dated left h = subst (ReadSoFar t m re
   conts = h.conts;
   free = h.free;
   unsettled = subst (AreOpenOf k.durable.versions) (sym left) h.unsettled;
+  olds = h.olds;
 })
 
 read-step : (t : TargetPlan) (m : TargetMemory) (reading : ℕ) (q : FetchRequest) (old : Kept) (s u : read.FetchStage) (k l : Kept) (o : Option Change) → q.snapshot ≡ false
@@ -104,6 +121,7 @@ read-step t m reading q old s u k l o plain (read.ExtendsLease j e lease low is)
   conts = ap (λ d. d.conts) st.0 ∙ conts-leased lease k.durable ∙ h.conts;
   free = let f : old.free ≤ k.free = h.free in let g : k.free ≤ l.free + 0 = st.1 in omega (arith, f, g);
   unsettled = subst (λ vs. AreOpenOf vs m.decided) (sym (ap (λ d. d.versions) st.0 ∙ versions-leased lease k.durable)) h.unsettled;
+  olds = subst (AreOld old.durable.versions) (sym (ap (λ d. d.versions) st.0 ∙ versions-leased lease k.durable)) h.olds;
 }
 read-step t m reading q old s u k l o plain (read.IsCovered j e low) st h = read-rests t m reading q old (read.Known e) (read.Reading e m.decided) k l st h.dated refl h
 read-step t m reading q old s u k l o plain (read.SettlesOwn j e decided a none unsettled among) st h = record {
@@ -111,11 +129,12 @@ read-step t m reading q old s u k l o plain (read.SettlesOwn j e decided a none 
   conts = ap (λ d. d.conts) st.0 ∙ conts-settled a k.durable ∙ h.conts;
   free = let f : old.free ≤ k.free = h.free in let g : k.free ≤ l.free + 0 = st.1 in omega (arith, f, g);
   unsettled = subst (λ vs. AreOpenOf vs (filter (is_other_attempt a) decided)) (sym (ap (λ d. d.versions) st.0 ∙ versions-settled a k.durable)) (open-settled a k.durable.versions decided h.unsettled);
+  olds = subst (AreOld old.durable.versions) (sym (ap (λ d. d.versions) st.0 ∙ versions-settled a k.durable)) (old-settled a old.durable.versions k.durable.versions h.olds);
 }
 
 pub read-path : (t : TargetPlan) (m : TargetMemory) (reading : ℕ) (q : FetchRequest) (old : Kept) (s : read.FetchStage) (k : Kept) (did : List Change) → q.snapshot ≡ false → AreOpenOf old.durable.versions m.decided
     → Path (read.FetchNext t m reading q) read.Asked old did s k → ReadSoFar t m reading q old s k
-read-path t m reading q old s k did plain known Here = record { dated = tt; conts = refl; free = omega arith; unsettled = known }
+read-path t m reading q old s k did plain known Here = record { dated = tt; conts = refl; free = omega arith; unsettled = known; olds = λ v i. (v, i, refl, refl, refl) }
 read-path t m reading q old s k did plain known (More did' u j o v i p n st) = read-step t m reading q old u s j k o plain n st (read-path t m reading q old u j did' plain known p)
 
 -- ---- a Commit
@@ -133,29 +152,39 @@ taken_at t q (commit.Known e) = 0
 taken_at t q (commit.Checking e) = 0
 taken_at t q (commit.Stored e) = blocks (commit.own_writes t q.writes)
 
+-- no version is stored before the writes are checked
+abbrev pub AreSameUntil : commit.CommitStage → List Version → List Version → Type 0
+AreSameUntil commit.Asked olds vs = vs ≡ olds
+AreSameUntil (commit.Known e) olds vs = vs ≡ olds
+AreSameUntil (commit.Checking e) olds vs = vs ≡ olds
+AreSameUntil (commit.Stored e) olds vs = Unit {0}
+
 -- what a turn that hears a Commit has come to
 pub record CommitSoFar (t : TargetPlan) (m : TargetMemory) (reading : ℕ) (q : CommitRequest) (old : Kept) (s : commit.CommitStage) (k : Kept) : Type 0 where
   pub dated : CommitDated t m reading q s
   pub conts : k.durable.conts ≡ old.durable.conts
   pub free : old.free ≤ k.free + taken_at t q s
+  pub olds : AreSameUntil s old.durable.versions k.durable.versions
 
 commit-rests : (t : TargetPlan) (m : TargetMemory) (reading : ℕ) (q : CommitRequest) (old : Kept) (s u : commit.CommitStage) (k l : Kept) → l ≡ k → CommitDated t m reading q u → taken_at t q u ≡ taken_at t q s
-    → CommitSoFar t m reading q old s k → CommitSoFar t m reading q old u l
-commit-rests t m reading q old s u k l same dated taken h = subst (CommitSoFar t m reading q old u) (sym same) (record { dated = dated; conts = h.conts; free = subst (λ n. old.free ≤ k.free + n) (sym taken) h.free })
+    → AreSameUntil u old.durable.versions k.durable.versions → CommitSoFar t m reading q old s k → CommitSoFar t m reading q old u l
+commit-rests t m reading q old s u k l same dated taken olds h = subst (CommitSoFar t m reading q old u) (sym same) (record { dated = dated; conts = h.conts; free = subst (λ n. old.free ≤ k.free + n) (sym taken) h.free; olds = olds })
 
 commit-step : (t : TargetPlan) (opening : Epoch × FloorWhy) (m : TargetMemory) (reading : ℕ) (q : CommitRequest) (old : Kept) (s u : commit.CommitStage) (k l : Kept) (o : Option Change)
     → commit.CommitNext t opening m reading q s k o u → Steps o k l → CommitSoFar t m reading q old s k → CommitSoFar t m reading q old u l
-commit-step t opening m reading q old s u k l o (commit.HasEpoch j e is) st h = commit-rests t m reading q old commit.Asked (commit.Known e) k l st is refl h
+commit-step t opening m reading q old s u k l o (commit.HasEpoch j e is) st h = commit-rests t m reading q old commit.Asked (commit.Known e) k l st is refl h.olds h
 commit-step t opening m reading q old s u k l o (commit.ExtendsLease j e lease low is) st h = record {
   dated = h.dated;
   conts = ap (λ d. d.conts) st.0 ∙ conts-leased lease k.durable ∙ h.conts;
   free = let f : old.free ≤ k.free + 0 = h.free in let g : k.free ≤ l.free + 0 = st.1 in omega (arith, f, g);
+  olds = ap (λ d. d.versions) st.0 ∙ versions-leased lease k.durable ∙ h.olds;
 }
-commit-step t opening m reading q old s u k l o (commit.IsCovered j e low) st h = commit-rests t m reading q old (commit.Known e) (commit.Checking e) k l st h.dated refl h
+commit-step t opening m reading q old s u k l o (commit.IsCovered j e low) st h = commit-rests t m reading q old (commit.Known e) (commit.Checking e) k l st h.dated refl h.olds h
 commit-step t opening m reading q old s u k l o (commit.Stores j e allowed space) st h = record {
   dated = h.dated;
   conts = ap (λ d. d.conts) st.0 ∙ conts-prepared (commit.led_entry t q e) (commit.own_writes t q.writes) k.durable ∙ h.conts;
   free = sum (blocks (commit.own_writes t q.writes)) h.free st.1;
+  olds = tt;
 }
   where
     sum : (n : ℕ) → old.free ≤ k.free + 0 → k.free ≤ l.free + n → old.free ≤ l.free + n
@@ -163,7 +192,7 @@ commit-step t opening m reading q old s u k l o (commit.Stores j e allowed space
 
 pub commit-path : (t : TargetPlan) (opening : Epoch × FloorWhy) (m : TargetMemory) (reading : ℕ) (q : CommitRequest) (old : Kept) (s : commit.CommitStage) (k : Kept) (did : List Change)
     → Path (commit.CommitNext t opening m reading q) commit.Asked old did s k → CommitSoFar t m reading q old s k
-commit-path t opening m reading q old s k did Here = record { dated = tt; conts = refl; free = omega arith }
+commit-path t opening m reading q old s k did Here = record { dated = tt; conts = refl; free = omega arith; olds = refl }
 commit-path t opening m reading q old s k did (More did' u j o v i p n st) = commit-step t opening m reading q old u s j k o n st (commit-path t opening m reading q old u j did' p)
 
 -- ---- idle work

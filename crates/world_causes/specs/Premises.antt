@@ -7,48 +7,69 @@ use Rattle.daos_base.specs.declared.script.Command.{Command}
 use Rattle.daos_base.specs.declared.shown.Shown.{Shown}
 use Rattle.daos_base.specs.Operations.{write_path}
 use Rattle.daos_base.specs.Placement.{path_leader, path_members}
+use Rattle.daos_laws.specs.Members.{Has}
 use Rattle.daos_messages.specs.declared.message.Message.{Message}
 use Rattle.daos_messages.specs.declared.message.Message.TheVariants as message
+use Rattle.daos_messages.specs.declared.message.Reply.{Reply}
+use Rattle.daos_messages.specs.declared.message.Reply.TheVariants as reply
 use Rattle.daos_model.specs.declared.durable.Version.{Version}
 use Rattle.daos_model.specs.Accesses.{minor_writes}
-use Rattle.daos_model.specs.Attempts.{snapshot_of_command}
+use Rattle.daos_model.specs.Attempts.{is_restart, snapshot_of_command}
 use Rattle.daos_model.specs.CausesShown.{AsksAt}
 use Rattle.daos_model.specs.Opening.{Opening, top}
 use Rattle.daos_model.specs.Transactions.{attempt_ops}
+use Rattle.daos_model.specs.Versions.{version_path}
 use Rattle.world_base.specs.declared.letter.Letter.{Letter}
 use Rattle.world_base.specs.declared.target.TargetState.{TargetState}
 use Rattle.world_base.specs.declared.target.Life.TheVariants.{Running}
 use Rattle.world_base.specs.declared.world.World.{World}
 use Rattle.world_events.specs.Events.{Rules, client_plan}
-use Rattle.world_causes.specs.Causes.{Dated, limit}
+use Rattle.world_causes.specs.Causes.{Dated, limit, zeroth}
 
 -- ---- the run
 
--- the clocks leave nothing uncertain, no command reads at a snapshot, and the leader of a write is one of its members
+-- no command reads at a snapshot, and the leader of a write is one of its members
 pub record IsPlain (r : Rules) : Type 0 where
-  pub certain : r.epsilon ≡ 0
   pub now : (n place : ℕ) (d : Command) → slice_get (client_plan r n).commands place ≡ Some d → snapshot_of_command d ≡ None
   pub led : (x : AttemptId) (m : MinorWrite) → Contains (minor_writes 0 (attempt_ops r.script x)) m → Contains (path_members (write_path m.write) r.script.targets) (path_leader (write_path m.write) r.script.targets)
 
--- ---- the world
+-- ---- first epochs
 
--- the first epoch of a command that goes with a request isn't above the attempt's own, or where it has none yet above the tracker
-abbrev pub IsFirstLow : Option Epoch → Option Epoch → Epoch → Type 0
-IsFirstLow None ep tracker = Unit {0}
-IsFirstLow (Some first) None tracker = first.0 ≤ tracker.0
-IsFirstLow (Some first) (Some own) tracker = first.0 ≤ own.0
+-- The first epoch of a command that is known of an attempt was issued to the command's attempt 0. Where none is known, this is that
+-- attempt, and no epoch of it is known.
+abbrev pub IsFirstKnown : Dated → AttemptId → Option Epoch → Option Epoch → Type 0
+IsFirstKnown issued x own None = (x.attempt ≡ 0) × (own ≡ None)
+IsFirstKnown issued x own (Some f) = Contains issued (zeroth x, f)
 
-abbrev pub HasFirstLow : Message → Type 0
-HasFirstLow (message.Fetch x op group ep first tracker r snapshot) = IsFirstLow first ep tracker
-HasFirstLow (message.Commit x ep first tracker ws) = IsFirstLow first ep tracker
-HasFirstLow m = Unit {0}
+abbrev pub IsNoRestart : Reply → Type 0
+IsNoRestart (reply.Answer b) = Unit {0}
+IsNoRestart (reply.Outcome how) = is_restart how ≡ false
 
-abbrev pub FirstsAreLow : World → Type 0
-FirstsAreLow w = (l : Letter) → Contains w.messages l → HasFirstLow l.message
+-- it is so of each request; and an answer without an epoch tells of no restart
+abbrev pub MessageKnows : Dated → Message → Type 0
+MessageKnows issued (message.Fetch x op group ep first tracker r snapshot) = IsFirstKnown issued x ep first
+MessageKnows issued (message.Commit x ep first tracker ws) = IsFirstKnown issued x ep first
+MessageKnows issued (message.Fetched x op group None b) = IsNoRestart b
+MessageKnows issued (message.Ended x None how) = is_restart how ≡ false
+MessageKnows issued m = Unit {0}
+
+abbrev pub FirstsAreKnown : World → Type 0
+FirstsAreKnown w = (l : Letter) → Contains w.messages l → MessageKnows w.issued l.message
+
+-- ---- versions
 
 -- what isn't settled at a running target, it knows as decided
 abbrev pub OpenIsDecided : World → Type 0
 OpenIsDecided w = (t : ℕ) (s : TargetState) (v : Version) → slice_get w.targets t ≡ Some s → s.life ≡ Running → Contains s.durable.versions v → v.done ≡ false → Contains s.memory.decided v.by
+
+-- versions above the opening are writes of attempts to which their epochs were issued
+abbrev pub AreWritten : Rules → Dated → ℕ → List Version → Type 0
+AreWritten r issued top vs =
+    (v : Version) → Has v vs → top < v.epoch.0 → Contains issued (v.by, v.epoch) × Any (λ w. write_path w.write ≡ version_path v) (minor_writes 0 (attempt_ops r.script v.by))
+
+-- those of each target are
+abbrev pub VersionsAreWritten : Rules → Opening → World → Type 0
+VersionsAreWritten r o w = (t : ℕ) (s : TargetState) → slice_get w.targets t ≡ Some s → AreWritten r w.issued (top o) s.durable.versions
 
 -- ---- a turn
 
@@ -57,7 +78,7 @@ pub record IsRequest (o : Opening) (issued : Dated) (x : AttemptId) (ep first : 
   pub tracked : tracker.0 / 256 ≤ limit o issued
   pub own : (e : Epoch) → ep ≡ Some e → Contains issued (x, e) × (top o < e.0) × (e.0 / 256 ≤ limit o issued)
   pub fresh : ep ≡ None → ((e : Epoch) → Contains issued (x, e) → ⊥) × (top o ≤ tracker.0)
-  pub first_low : IsFirstLow first ep tracker
+  pub known : IsFirstKnown issued x ep first
 
 -- each timestamp is of an attempt with that epoch, which asks there
 abbrev pub AreOfReads : Rules → Dated → List Shown → Type 0

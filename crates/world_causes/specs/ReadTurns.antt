@@ -1,4 +1,4 @@
--- A target that hears a Fetch serves it, or its ticks are spent.
+-- A target that hears a Fetch serves it, or shows a later write, or its ticks are spent.
 use Rattle.std.specs.Prelude.{ℕ, ◌≡◌, ◌≤◌, ◌<◌, ◌+◌, ◌/◌, ◌⊎◌, ◌++◌, false, List, [], ◌∷◌, Contains, Option, Some, None, refl, if◌then◌else◌}
 use Rattle.std.proofs.Common.{append-nil, sym, ◌∙◌, ap, subst, inl, inr, arith}
 use Rattle.std.proofs.lemmas.Option.{some_pair_parts}
@@ -6,14 +6,20 @@ use Rattle.daos_base.specs.declared.answer.Answer.{Answer}
 use Rattle.daos_base.specs.declared.epoch.Epoch.{Epoch}
 use Rattle.daos_base.specs.declared.id.AttemptId.{AttemptId}
 use Rattle.daos_base.specs.declared.id.ContId.{ContId}
+use Rattle.daos_base.specs.declared.outcome.Cause.{Cause}
 use Rattle.daos_base.specs.declared.outcome.FloorWhy.{FloorWhy}
 use Rattle.daos_base.specs.declared.outcome.Outcome.TheVariants as outcome
+use Rattle.daos_base.specs.declared.shown.Shown.{Shown}
 use Rattle.daos_base.specs.Epochs.{heard_ticks, last_ticks}
+use Rattle.daos_base.specs.Operations.{read_path}
 use Rattle.daos_laws.specs.Members.{Has, contains-from_has, has-from_contains}
 use Rattle.daos_messages.specs.declared.actor.ActorId.{ActorId}
 use Rattle.daos_messages.specs.declared.message.Reply.TheVariants as reply
+use Rattle.daos_model.specs.Accesses.{access_paths}
 use Rattle.daos_model.specs.Durables.{row_of}
 use Rattle.daos_model.specs.Opening.{Opening, top}
+use Rattle.daos_model.specs.Transactions.{attempt_ops}
+use Rattle.vos_stamp.specs.Stamps.{write_later}
 use Rattle.vos_store.specs.Answers.{floor_of}
 use Rattle.world_base.specs.declared.did.Did.{Did}
 use Rattle.world_base.specs.declared.request.FetchRequest.{FetchRequest}
@@ -26,24 +32,28 @@ use Rattle.world_turns.specs.Requests.{issued_for, with_ticks}
 use Rattle.world_turns.specs.Turns.{Whole}
 use Rattle.world_causes.specs.Causes.{Dated, limit}
 use Rattle.world_causes.specs.Dates.{IsDated, heard-within, limit-rises, request-dated, request-spent}
-use Rattle.world_causes.specs.Floors.{AreBelow, below-stays, meets-open, no-refusal}
+use Rattle.world_causes.specs.Floors.{AreBelow, below-stays, meets-open, read-refused}
 use Rattle.world_causes.specs.Paths.{AreOpenOf, ReadSoFar, read-path}
-use Rattle.world_causes.specs.Premises.{IsRequest}
+use Rattle.world_causes.specs.Premises.{AreWritten, IsRequest}
 use Rattle.world_causes.specs.Turns.{Heeds, Says, said}
+use Rattle.world_causes.specs.Writes.{IsWriteShown, write-shown, written-stays}
 
 -- the floors of a target are of before the run
 abbrev pub AreOpeningLow : Opening → Epoch × FloorWhy → Kept → Type 0
 AreOpeningLow o opening k = (cont : ContId) → ((floor_of opening k.durable cont).0.0 ≤ top o) × ((row_of k.durable cont).aggregated.0 ≤ top o)
 
 -- a target that hears a Fetch, which isn't one at a snapshot
-pub record HearsFetch (o : Opening) (issued : Dated) (t : TargetPlan) (opening : Epoch × FloorWhy) (m : TargetMemory) (old : Kept) (q : FetchRequest) : Type 0 where
+pub record HearsFetch (r : Rules) (o : Opening) (issued : Dated) (t : TargetPlan) (opening : Epoch × FloorWhy) (m : TargetMemory) (old : Kept) (q : FetchRequest) : Type 0 where
   pub few : t.me < 256
-  pub certain : t.epsilon ≡ 0
+  pub epsilon : t.epsilon ≡ r.epsilon
   pub plain : q.snapshot ≡ false
   pub ticks : m.ticks ≤ limit o issued
   pub request : IsRequest o issued q.attempt q.ep q.first q.tracker
   pub floors : AreOpeningLow o opening old
   pub unsettled : AreOpenOf old.durable.versions m.decided
+  pub dates : (x : AttemptId) (e : Epoch) → Contains issued (x, e) → e.0 / 256 ≤ limit o issued
+  pub written : AreWritten r issued (top o) old.durable.versions
+  pub access : Has (read_path q.read) (access_paths (attempt_ops r.script q.attempt))
 
 -- ---- what is told
 
@@ -65,7 +75,7 @@ issue-within o issued x (Some own) e k y f is = let no : ⊥ = cc in absurd no
 
 -- ---- the ends
 
-module _ (r : Rules) (o : Opening) (decided issued : Dated) (t : TargetPlan) (opening : Epoch × FloorWhy) (m : TargetMemory) (reading : ℕ) (q : FetchRequest) (from : ActorId) (old : Kept) (h : HearsFetch o issued t opening m old q) where
+module _ (r : Rules) (o : Opening) (decided issued : Dated) (t : TargetPlan) (opening : Epoch × FloorWhy) (m : TargetMemory) (reading : ℕ) (q : FetchRequest) (from : ActorId) (old : Kept) (h : HearsFetch r o issued t opening m old q) where
   -- a read is served
   serves : (e : Epoch) (left : List AttemptId) (stamps : TargetMemory) (b : Answer) (free : ℕ) → old.free ≤ free → IsDated o issued q.attempt q.ep q.first e → stamps.ticks ≡ (read.ticks_known q e m).ticks
       → Says r o decided issued t.me old.free free stamps (read.fetched_message q (Some e) (reply.Answer b)) (issued_for q.attempt q.ep e)
@@ -86,8 +96,43 @@ module _ (r : Rules) (o : Opening) (decided issued : Dated) (t : TargetPlan) (op
           up : {a b c : ℕ} → a ≤ b → b ≤ c → a ≤ c
           up p q = omega (arith, p, q)
 
+  -- a later write refuses the read
+  write-refuses : (k : Kept) (e : Epoch) (dec : List AttemptId) (left : TargetMemory × Did) → IsDated o issued q.attempt q.ep q.first e → ReadSoFar t m reading q old (read.Reading e dec) k → (z : Shown)
+      → read.later_of t q.first e (read_path q.read) k.durable ≡ Some z → left ≡ (read.memory_then q e dec m, read.tells q from e (reply.Outcome (outcome.Restart (write_later z)))) → Heeds r o decided issued t.me from old.free k.free left
+  write-refuses k e dec left d w z later is =
+      said r o decided issued t.me from old.free k.free (read.memory_then q e dec m) (read.fetched_message q (Some e) (reply.Outcome (outcome.Restart (write_later z)))) (issued_for q.attempt q.ep e) left is (record {
+        shows = shown.shows;
+        told = λ n i. told n (has-from_contains (e.0 ∷ z.epoch.0 ∷ []) n i);
+        ticks = subst (λ n. n ≤ limit o (issued ++ listed (issued_for q.attempt q.ep e))) (sym (ap (λ b. (if b then m else with_ticks e m).ticks) h.plain)) heard;
+        dated = issue-within o issued q.attempt q.ep e d.within;
+        space = let f : old.free ≤ k.free = w.free in omega (arith, f);
+      })
+    where
+      shown : IsWriteShown r o issued (issued ++ listed (issued_for q.attempt q.ep e)) q.attempt z
+      shown = write-shown r o issued t q.attempt q.ep q.first e (read_path q.read) k.durable z h.epsilon d (written-stays r issued (top o) old.durable.versions k.durable.versions h.written w.olds) h.access later
+
+      up : {a b c : ℕ} → a ≤ b → b ≤ c → a ≤ c
+      up p q = omega (arith, p, q)
+
+      rises : limit o issued ≤ limit o (issued ++ listed (issued_for q.attempt q.ep e))
+      rises = limit-rises o issued (listed (issued_for q.attempt q.ep e))
+
+      heard : heard_ticks m.ticks e.0 ≤ limit o (issued ++ listed (issued_for q.attempt q.ep e))
+      heard = heard-within m.ticks e.0 (limit o (issued ++ listed (issued_for q.attempt q.ep e))) (up h.ticks rises) d.within
+
+      told : (n : ℕ) → Has n (e.0 ∷ z.epoch.0 ∷ []) → n / 256 ≤ limit o (issued ++ listed (issued_for q.attempt q.ep e))
+      told n (inl same) = subst (λ f. f / 256 ≤ limit o (issued ++ listed (issued_for q.attempt q.ep e))) (sym same) d.within
+      told n (inr (inl same)) = subst (λ f. f / 256 ≤ limit o (issued ++ listed (issued_for q.attempt q.ep e))) (sym same) (up (h.dates z.by z.epoch shown.writer) rises)
+      told n (inr (inr bad)) = absurd bad
+
   below-at : (k : Kept) (e : Epoch) → k.durable.conts ≡ old.durable.conts → top o < e.0 → AreBelow opening k.durable e.0
   below-at k e conts above = below-stays opening old.durable k.durable (top o) e.0 conts above h.floors
+
+  refuses : (k : Kept) (e : Epoch) (dec : List AttemptId) (left : TargetMemory × Did) → IsDated o issued q.attempt q.ep q.first e → ReadSoFar t m reading q old (read.Reading e dec) k → (c : Cause)
+      → read.fetch_cause t q e k.durable ≡ Some c → left ≡ (read.memory_then q e dec m, read.tells q from e (reply.Outcome (outcome.Restart c))) → Heeds r o decided issued t.me from old.free k.free left
+  refuses k e dec left d w c why is =
+      let z = read-refused t q e opening k.durable c h.plain (below-at k e w.conts d.above) why in
+      write-refuses k e dec left d w z.0 z.1 (is ∙ ap (λ b. (read.memory_then q e dec m, read.tells q from e (reply.Outcome (outcome.Restart b)))) z.2)
 
   fetch-ends : (s : read.FetchStage) (k : Kept) (left : TargetMemory × Did) → ReadSoFar t m reading q old s k → read.FetchEnds t m reading q from s k left → Heeds r o decided issued t.me from old.free k.free left
   fetch-ends s k left w (read.IsSpent j z plain none is) =
@@ -102,9 +147,7 @@ module _ (r : Rules) (o : Opening) (decided issued : Dated) (t : TargetPlan) (op
       spent : (q.ep ≡ None) × (last_ticks < limit o issued + 1)
       spent = request-spent o issued q.attempt q.ep q.first q.tracker t m reading h.ticks h.request none
   fetch-ends s k left w (read.IsRefused j e dec c z why is) =
-      let d = request-dated o issued q.attempt q.ep q.first q.tracker t m reading e h.few h.ticks h.request w.dated in
-      let none : read.fetch_cause t q e k.durable ≡ None = no-refusal t q e opening k.durable h.plain h.certain d.certain (below-at k e w.conts d.above) in
-      let no : ⊥ = cc in absurd no
+      refuses k e dec left (request-dated o issued q.attempt q.ep q.first q.tracker t m reading e h.few h.ticks h.request w.dated) w c why is
   fetch-ends s k left w (read.MeetsUnresolved j e dec a z free unsettled other is) =
       let d = request-dated o issued q.attempt q.ep q.first q.tracker t m reading e h.few h.ticks h.request w.dated in
       let v = meets-open q.read e opening k.durable a (below-at k e w.conts d.above) unsettled in

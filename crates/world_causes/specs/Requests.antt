@@ -11,10 +11,10 @@ use Rattle.daos_base.specs.declared.script.Command.{Command}
 use Rattle.daos_base.specs.declared.script.Command.TheVariants as command
 use Rattle.daos_base.specs.Operations.{read_path, write_path}
 use Rattle.daos_base.specs.Placement.{path_leader, path_members, writes_leader}
-use Rattle.daos_laws.specs.Members.{Has, any-has, contains-from_has, has-filter, has-from_contains}
+use Rattle.daos_laws.specs.Members.{Has, any-has, contains-from_has, has-filter, has-from_contains, has-map}
 use Rattle.daos_messages.specs.declared.message.Message.TheVariants as message
 use Rattle.daos_messages.specs.declared.message.Post.{Post}
-use Rattle.daos_model.specs.Accesses.{minor_writes}
+use Rattle.daos_model.specs.Accesses.{access_paths, minor_writes, op_path}
 use Rattle.daos_model.specs.CausesShown.{AsksAt}
 use Rattle.daos_model.specs.Opening.{Opening, top}
 use Rattle.daos_model.specs.Transactions.{attempt_ops, command_of, numbered, numbered_at, ops_or_none}
@@ -46,7 +46,7 @@ use Rattle.world_turns.specs.TargetTurns.{is_heard}
 use Rattle.world_causes.specs.Causes.{Bounded, Causes, Dated, limit}
 use Rattle.world_causes.specs.CommitTurns.{HearsCommit}
 use Rattle.world_causes.specs.Growth.{any-of, has-at, question-asks}
-use Rattle.world_causes.specs.Premises.{AreOfReads, FirstsAreLow, HasFirstLow, IsFirstLow, IsPlain, IsRequest, OpenIsDecided}
+use Rattle.world_causes.specs.Premises.{AreOfReads, FirstsAreKnown, IsFirstKnown, IsPlain, IsRequest, MessageKnows, OpenIsDecided, VersionsAreWritten}
 use Rattle.world_causes.specs.ReadTurns.{HearsFetch}
 
 -- what is known of a world beside causes, each by the crate whose word it is
@@ -57,7 +57,8 @@ pub record Given (r : Rules) (o : Opening) (h : History) (w : World) : Type 0 wh
   pub lines : Lines r w
   pub epochs : Epochs r (top o) w
   pub reads : Reads r o h w
-  pub firsts : FirstsAreLow w
+  pub firsts : FirstsAreKnown w
+  pub written : VersionsAreWritten r o w
   pub unsettled : OpenIsDecided w
 
 -- ---- timestamps
@@ -83,13 +84,13 @@ stamps-of-reads r o h w t s k here runs z i = (issued, asks)
 
 -- what is known of a request's epochs
 request-is : (r : Rules) (o : Opening) (w : World) (l : Letter) (x : AttemptId) (ep first : Option Epoch) (tracker : Epoch) → Epochs r (top o) w → Bounded o w → Contains w.messages l
-    → (ep ≡ None → AsksEpoch l.message x tracker) → ((e : Epoch) → ep ≡ Some e → BearsEpoch l.message x e) → IsFirstLow first ep tracker → tracker.0 / 256 ≤ limit o w.issued
+    → (ep ≡ None → AsksEpoch l.message x tracker) → ((e : Epoch) → ep ≡ Some e → BearsEpoch l.message x e) → IsFirstKnown w.issued x ep first → tracker.0 / 256 ≤ limit o w.issued
     → IsRequest o w.issued x ep first tracker
 request-is r o w l x ep first tracker E B among asks bears low tracked = record {
   tracked = tracked;
   own = λ e is. let i : Contains w.issued (x, e) = E.borne l x e among (bears e is) in (i, E.above x e i, B.issued x e i);
   fresh = λ none. let f = E.fresh l x tracker among (asks none) in (f.1, f.2);
-  first_low = low;
+  known = low;
 }
 
 tracker-within : (k c b : ℕ) → k ≤ c → c / 256 ≤ b → k / 256 ≤ b
@@ -106,31 +107,7 @@ module _ (r : Rules) (o : Opening) (h : History) (w : World) (G : Given r o h w)
   no-name : (n : ℕ) (c : ClientState) (ops : List Op) (turns : List ℕ) (name : Option (List ℕ)) → command_at (client_plan r n) c ≡ Some (command.Run ops turns name) → name ≡ None
   no-name n c ops turns name at = G.plain.now n c.place (command.Run ops turns name) at
 
-  pub hears-fetch : (q : FetchRequest) → l.message ≡ fetch_of q → HearsFetch o w.issued (target_plan r t) s.opening s.memory (record { durable = s.durable; free = s.free }) q
-  hears-fetch q is = record {
-    few = few;
-    certain = G.plain.certain;
-    plain = plain;
-    ticks = C.bounded.ticks t s here runs;
-    request = request-is r o w l q.attempt q.ep q.first q.tracker G.epochs C.bounded among
-        (λ none. subst (λ m. AsksEpoch m q.attempt q.tracker) (sym (is ∙ ap (λ ep. message.Fetch q.attempt q.op q.group ep q.first q.tracker q.read q.snapshot) none)) (refl, refl))
-        (λ e some. subst (λ m. BearsEpoch m q.attempt e) (sym (is ∙ ap (λ ep. message.Fetch q.attempt q.op q.group ep q.first q.tracker q.read q.snapshot) some ∙ ap (λ b. message.Fetch q.attempt q.op q.group (Some e) q.first q.tracker q.read b) plain)) (refl, refl))
-        (subst HasFirstLow is (G.firsts l among))
-        (tracker-within q.tracker.0 a.c.tracker.0 (limit o w.issued) (subst (λ e. e.0 ≤ a.c.tracker.0) (sym its.tracker) a.low) (C.bounded.trackers a.n a.c a.here));
-    floors = λ cont. C.floors t s cont here;
-    unsettled = λ v i open'. has-from_contains s.memory.decided v.by (G.unsettled t s v here runs (contains-from_has s.durable.versions v i) open');
-  }
-    where
-      a : HearsRequest r w l rest
-      a = hears-request r w l rest G.talk takes (ap is_heard is)
-
-      its : AsksRead (client_plan r a.n) a.k a.c a.a q
-      its = asked-read (client_plan r a.n) a.k a.c a.a a.q q a.asked (sym (ap (λ z. z.message) a.it) ∙ is)
-
-      plain : q.snapshot ≡ false
-      plain = its.snapshot ∙ ap is_some (no-name a.n a.c its.ops its.turns its.name its.at)
-
-  -- ---- writes
+  -- ---- operations
 
   ops-of-option : (k : ℕ) (clients : Option (List Command)) → ops_or_none (numbered_at k clients) ≡ ops_or_none (slice_get (numbered (commands_or_none clients)) k)
   ops-of-option k None = refl
@@ -143,6 +120,38 @@ module _ (r : Rules) (o : Opening) (h : History) (w : World) (G : Given r o h w)
       let k = G.lines.told n c at in
       ops-of-option c.command (slice_get r.script.clients n)
       ∙ ops-here (client_plan r n) c (command.Run ops turns name) a k.attempts (record { at = cmd; numbered = refl; told = subst (λ p. Stands (client_plan r n) c.place c.command (number_of p) k.attempts) is k.tells.told })
+
+  -- ---- reads
+
+  pub hears-fetch : (q : FetchRequest) → l.message ≡ fetch_of q → HearsFetch r o w.issued (target_plan r t) s.opening s.memory (record { durable = s.durable; free = s.free }) q
+  hears-fetch q is = record {
+    few = few;
+    epsilon = refl;
+    plain = plain;
+    ticks = C.bounded.ticks t s here runs;
+    request = request-is r o w l q.attempt q.ep q.first q.tracker G.epochs C.bounded among
+        (λ none. subst (λ m. AsksEpoch m q.attempt q.tracker) (sym (is ∙ ap (λ ep. message.Fetch q.attempt q.op q.group ep q.first q.tracker q.read q.snapshot) none)) (refl, refl))
+        (λ e some. subst (λ m. BearsEpoch m q.attempt e) (sym (is ∙ ap (λ ep. message.Fetch q.attempt q.op q.group ep q.first q.tracker q.read q.snapshot) some ∙ ap (λ b. message.Fetch q.attempt q.op q.group (Some e) q.first q.tracker q.read b) plain)) (refl, refl))
+        (subst (MessageKnows w.issued) is (G.firsts l among))
+        (tracker-within q.tracker.0 a.c.tracker.0 (limit o w.issued) (subst (λ e. e.0 ≤ a.c.tracker.0) (sym its.tracker) a.low) (C.bounded.trackers a.n a.c a.here));
+    floors = λ cont. C.floors t s cont here;
+    unsettled = λ v i open'. has-from_contains s.memory.decided v.by (G.unsettled t s v here runs (contains-from_has s.durable.versions v i) open');
+    dates = C.bounded.issued;
+    written = G.written t s here;
+    access = subst (λ ops. Has (read_path q.read) (access_paths ops)) (sym (ap (attempt_ops r.script) its.attempt ∙ ops-at a.n a.c a.a its.ops its.turns its.name a.here a.present its.at))
+        (subst (λ p. Has p (access_paths its.ops)) (question-asks a.a.stage its.o q.read its.asked).1 (has-map op_path its.ops its.o (has-at its.ops a.a.op its.o its.here)));
+  }
+    where
+      a : HearsRequest r w l rest
+      a = hears-request r w l rest G.talk takes (ap is_heard is)
+
+      its : AsksRead (client_plan r a.n) a.k a.c a.a q
+      its = asked-read (client_plan r a.n) a.k a.c a.a a.q q a.asked (sym (ap (λ z. z.message) a.it) ∙ is)
+
+      plain : q.snapshot ≡ false
+      plain = its.snapshot ∙ ap is_some (no-name a.n a.c its.ops its.turns its.name its.at)
+
+  -- ---- writes
 
   -- a Commit goes to the leader of its first write
   to-leader : (p : ClientPlan) (k : Epoch) (c : ClientState) (a : Present) (post : Post) (q : CommitRequest) → Asked p k c a post → post.message ≡ commit_of q
@@ -166,16 +175,16 @@ module _ (r : Rules) (o : Opening) (h : History) (w : World) (G : Given r o h w)
   pub hears-commit : (q : CommitRequest) → l.to ≡ target t → l.message ≡ commit_of q → HearsCommit r o decided w.issued t s.opening s.memory (record { durable = s.durable; free = s.free }) q
   hears-commit q to is = record {
     few = few;
-    certain = G.plain.certain;
     ticks = C.bounded.ticks t s here runs;
     dates = C.bounded.issued;
     request = request-is r o w l q.attempt q.ep q.first q.tracker G.epochs C.bounded among
         (λ none. subst (λ m. AsksEpoch m q.attempt q.tracker) (sym (is ∙ ap (λ ep. message.Commit q.attempt ep q.first q.tracker q.writes) none)) (refl, refl))
         (λ e some. subst (λ m. BearsEpoch m q.attempt e) (sym (is ∙ ap (λ ep. message.Commit q.attempt ep q.first q.tracker q.writes) some)) (refl, refl))
-        (subst HasFirstLow is (G.firsts l among))
+        (subst (MessageKnows w.issued) is (G.firsts l among))
         (tracker-within q.tracker.0 a.c.tracker.0 (limit o w.issued) (subst (λ e. e.0 ≤ a.c.tracker.0) (sym its.tracker) a.low) (C.bounded.trackers a.n a.c a.here));
     floors = λ cont. C.floors t s cont here;
     stamps = stamps-of-reads r o h w t s G.reads here runs;
+    written = G.written t s here;
     space = C.space t s here;
     its = writes;
     some = λ none. holds-first first.0 first.1 member (ap (commit.own_writes (target_plan r t)) (sym first.2) ∙ none);

@@ -19,7 +19,7 @@ use Rattle.daos_base.specs.declared.path.Path.{Path}
 use Rattle.daos_base.specs.declared.script.Command.TheVariants as command
 use Rattle.daos_base.specs.declared.script.ObjDecl.{ObjDecl}
 use Rattle.daos_base.specs.Operations.{act_path, read_path, write_path}
-use Rattle.daos_base.specs.Placement.{ClassFits, groups}
+use Rattle.daos_base.specs.Placement.{ClassFits, groups, writes_leader}
 use Rattle.daos_base.specs.PlacementLaws.{group_of-within, groups-positive}
 use Rattle.daos_base.specs.Scripts.{IsActInForm, IsAkeyOf, IsDkeyOf, IsInForm, IsObjectOf, IsOpInForm, IsPathOf, IsReadInForm, IsWriteInForm}
 use Rattle.daos_laws.specs.Members.{Has, has-from_contains}
@@ -166,7 +166,7 @@ act-exists objs (act.Fetch q) f = read-path objs q f
 act-exists objs (act.Change w) f = write-path objs w f
 
 -- an operation in form asks for what is in form
-question-form : (objs : List ObjDecl) (st : Stage) (op : Op) (q : Read) → IsOpInForm objs op → question st op ≡ Some q → IsReadInForm objs q
+pub question-form : (objs : List ObjDecl) (st : Stage) (op : Op) (q : Read) → IsOpInForm objs op → question st op ≡ Some q → IsReadInForm objs q
 question-form objs st op q f asks = by st op.act op.cond asks f.act
   where
     by : (st : Stage) (act : Act) (cond : Cond) → question st (record { act = act; cond = cond }) ≡ Some q → IsActInForm objs act → IsReadInForm objs q
@@ -267,6 +267,16 @@ writes-some p k c a q f (ARead ops turns snapshot op r at is asked says) it none
 writes-some p k c a q f (ASnapshot name cont at says) it none = let no : ⊥ = cc (ap (λ x. x.message) says, it) in absurd no
 writes-some p k c a q f (AnAggregation cont at says) it none = let no : ⊥ = cc (ap (λ x. x.message) says, it) in absurd no
 
+-- they go to their leader
+writes-to : (p : ClientPlan) (k : Epoch) (c : ClientState) (a : Present) (q : Post) (f : CommitRequest) → Asked p k c a q → q.message ≡ commit_of f → q.to ≡ target (writes_leader f.writes p.targets)
+writes-to p k c a q f (ItsWrites ops turns snapshot w ws at last all says) it =
+    let same : message.Commit (attempt_id p c a) a.epoch a.first k (w ∷ ws) ≡ commit_of f = sym (ap (λ x. x.message) says) ∙ it in
+    let some : w ∷ ws ≡ f.writes = cc (same) in
+    ap (λ x. x.to) says ∙ ap (λ xs. target (writes_leader xs p.targets)) some
+writes-to p k c a q f (ARead ops turns snapshot op r at is asked says) it = let no : ⊥ = cc (ap (λ x. x.message) says, it) in absurd no
+writes-to p k c a q f (ASnapshot name cont at says) it = let no : ⊥ = cc (ap (λ x. x.message) says, it) in absurd no
+writes-to p k c a q f (AnAggregation cont at says) it = let no : ⊥ = cc (ap (λ x. x.message) says, it) in absurd no
+
 -- a client isn't past its present attempt
 present-not-past : (p : ClientPlan) (c : ClientState) (a : Present) → c.present ≡ Some a → IsPast c (attempt_id p c a) → ⊥
 present-not-past p c a here (inl less) = let no : ⊥ = omega (arith, less) in absurd no
@@ -297,11 +307,12 @@ undecided r o h w l rest f k takes i it own e d = by (k.judged.verdicts.told f.a
     by (inl v) = on_way v (left-or-it w.messages l rest v.l takes v.among)
     by (inr z) = told z
 
-pub commit-right : (r : Rules) (o : Opening) (h : History) (w : World) (l : Letter) (rest : List Letter) (f : CommitRequest) → Facts r o h w → Takes w.messages l rest → HearsRequest r w l rest
-    → l.message ≡ commit_of f → IsCommitRight r h f.attempt f.writes
-commit-right r o h w l rest f k takes i it = record {
+pub commit-right : (r : Rules) (o : Opening) (h : History) (w : World) (t : ℕ) (l : Letter) (rest : List Letter) (f : CommitRequest) → Facts r o h w → Takes w.messages l rest → HearsRequest r w l rest
+    → l.to ≡ target t → l.message ≡ commit_of f → IsCommitRight r h t f.attempt f.writes
+commit-right r o h w t l rest f k takes i to it = record {
   its = its;
   some = writes-some (client_plan r i.n) i.k i.c i.a i.q f i.asked says;
+  leads = ap (λ z. z.number) (sym to ∙ ap (λ z. z.to) i.it ∙ writes-to (client_plan r i.n) i.k i.c i.a i.q f i.asked says);
   form = subst AreWritesInForm (sym its) (writes-in-form r.script.objs (attempt_ops r.script f.attempt) (ops-few r.script.targets r.script f.attempt k.form) forms);
   fits = λ m j. fits m (subst (Has m) its (has-from_contains f.writes m j));
   undecided = undecided r o h w l rest f k takes i it asks.attempt;
@@ -354,7 +365,7 @@ module _ (r : Rules) (o : Opening) (h : History) (w : World) (k : Facts r o h w)
 
   commit-is : (x : AttemptId) (ep first : Option Epoch) (tracker : Epoch) (ws : List MinorWrite) → l.message ≡ message.Commit x ep first tracker ws → IsMessageRight r o h w t s (message.Commit x ep first tracker ws)
   commit-is x ep first tracker ws it = (
-    commit-right r o h w l taken.0 (record { attempt = x; ep = ep; first = first; tracker = tracker; writes = ws }) k taken.1 (heard (ap is_heard it)) it,
+    commit-right r o h w t l taken.0 (record { attempt = x; ep = ep; first = first; tracker = tracker; writes = ws }) k taken.1 (heard (ap is_heard it)) to it,
     its-epoch r o w t s x ep tracker k.judged.epochs zero-th here runs bears low,
   )
     where

@@ -89,6 +89,6 @@ pub record TellsPlain (w : World) : Type 0 where
 abbrev pub report_of : Rules → World → Report
 report_of r w = record { targets = r.script.targets; lines = w.lines; down = None }
 
--- what a run is given, as its events take it: its clocks leave nothing uncertain
+-- what a run is given, as its events take it
 abbrev pub rules_of : Given → Rules
-rules_of g = record { script = g.script; attempts = g.job.attempts; epsilon = 0 }
+rules_of g = record { script = g.script; attempts = g.job.attempts; epsilon = g.job.epsilon }

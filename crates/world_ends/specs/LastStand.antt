@@ -45,7 +45,7 @@ use Rattle.world_ends.specs.OneTargetLaws.{as_of-objects, objectless-not, one-le
 
 -- ---- every version is done
 
-settled-done : (r : Rules) (o : Opening) (held : List Version) (h : History) (t : ℕ) (w : World) (s : TargetState) → VersionsStand r o held h t s.durable → IsOver r w → slice_get w.targets t ≡ Some s
+pub settled-done : (r : Rules) (o : Opening) (held : List Version) (h : History) (t : ℕ) (w : World) (s : TargetState) → VersionsStand r o held h t s.durable → IsOver r w → slice_get w.targets t ≡ Some s
     → (v : Version) → Contains s.durable.versions v → v.done ≡ true
 unfolding entry_of
 settled-done r o held h t w s k over here v i = by v.done refl
@@ -126,7 +126,7 @@ module _ (r : Rules) (o : Opening) (held : List Version) (h : History) (d : Dura
 created-none : (d : Durable) → d.snaps ≡ [] → created_snaps (d ∷ []) ≡ []
 created-none d e = ap (filter is_created) e
 
-stand-snaps : (d : Durable) → d.snaps ≡ [] → (stand (d ∷ [])).snaps ≡ []
+pub stand-snaps : (d : Durable) → d.snaps ≡ [] → (stand (d ∷ [])).snaps ≡ []
 unfolding stand
 stand-snaps d e = ap (map (snap_map (d ∷ []))) (created-none d e)
 
@@ -144,7 +144,7 @@ one-at d e (suc t) at = let no : ⊥ = cc in absurd no
 agree-one : (d : Durable) (p : Version → Bool) → AgreeOn (d ∷ []) p
 agree-one d p c t u e f dkey i j at bt = ap (λ g. value_at (map_where p g) c) (sym (one-at d e t at) ∙ one-at d f u bt)
 
-agree-alone : (d : Durable) → d.snaps ≡ [] → Agree (d ∷ [])
+pub agree-alone : (d : Durable) → d.snaps ≡ [] → Agree (d ∷ [])
 agree-alone d none = record {
   now = agree-one d (counts (d ∷ []));
   snaps = subst (All (λ s. AgreeOn (d ∷ []) (counts_at (d ∷ []) s))) (sym (created-none d none)) (All-nil (λ s. AgreeOn (d ∷ []) (counts_at (d ∷ []) s)));

@@ -10,3 +10,9 @@ pub mod OneTargetLaws
 pub mod LastStand
 pub mod Laws
 pub mod Runs
+pub mod PlainCauses
+pub mod SureTells
+pub mod LinesApart
+pub mod Carried
+pub mod FromBeginning
+pub mod NextRuns

@@ -24,7 +24,7 @@ RunsReportLegally =
     → HeadlineOver g undisturbed (s.durable ∷ []) (report_of (rules_of g) v)
 
 -- what holds between events is what the end asks for
-at-the-end : (r : Rules) (o : Opening) (held : ℕ → List Version) (h : History) (w : World) → Everything r o held h w → Facts r o held h w
+pub at-the-end : (r : Rules) (o : Opening) (held : ℕ → List Version) (h : History) (w : World) → Everything r o held h w → Facts r o held h w
 at-the-end r o held h w k = record {
   spoken = k.facts.judged.spoken;
   epochs = k.facts.judged.epochs;
@@ -34,7 +34,7 @@ at-the-end r o held h w k = record {
   gots = k.facts.gots;
 }
 
-plain-then : (r : Rules) (o : Opening) (held : ℕ → List Version) (h : History) (w : World) → Everything r o held h w → ((t : ℕ) (u : TargetState) → slice_get w.targets t ≡ Some u → u.durable.snaps ≡ []) → IsPlain r w
+pub plain-then : (r : Rules) (o : Opening) (held : ℕ → List Version) (h : History) (w : World) → Everything r o held h w → ((t : ℕ) (u : TargetState) → slice_get w.targets t ≡ Some u → u.durable.snaps ≡ []) → IsPlain r w
 plain-then r o held h w k none = record {
   one = k.facts.one;
   form = subst (λ n. IsInForm n r.script) k.facts.one.script k.facts.form;

@@ -68,7 +68,7 @@ no-stops : (lines : List Line) → AreTries lines → stop_numbers lines ≡ []
 no-stops [] all = refl
 no-stops (l ∷ lines) all = ap (λ ns. ns ++ stop_numbers lines) (try-nothing l (All-head (λ m. is_try m ≡ true) l lines all)).stops ∙ no-stops lines (All-tail (λ m. is_try m ≡ true) l lines all)
 
-no-restarts : (lines : List Line) → AreTries lines → restart_numbers lines ≡ []
+pub no-restarts : (lines : List Line) → AreTries lines → restart_numbers lines ≡ []
 no-restarts [] all = refl
 no-restarts (l ∷ lines) all = ap (λ ns. ns ++ restart_numbers lines) (try-nothing l (All-head (λ m. is_try m ≡ true) l lines all)).restarts ∙ no-restarts lines (All-tail (λ m. is_try m ≡ true) l lines all)
 

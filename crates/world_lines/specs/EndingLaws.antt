@@ -86,7 +86,7 @@ pub endings-by-counting : KeptByCounting Endings
 endings-by-counting w n j c here k = k
 
 -- nothing is sent in hearing
-heard-silent : (r : Rules) (n : ℕ) (c : ClientState) (l : Letter) (rest : List Letter) → IsHearing r n c l rest → (heard (client_plan r n) c l.message).post ≡ None
+pub heard-silent : (r : Rules) (n : ℕ) (c : ClientState) (l : Letter) (rest : List Letter) → IsHearing r n c l rest → (heard (client_plan r n) c l.message).post ≡ None
 heard-silent r n c l rest (ATracker k says it) = ap (λ m. m.post) it
 heard-silent r n c l rest (AReply g group own b says it) = ap (λ m. m.post) it ∙ (replied-silent (client_plan r n) (hears_epochs l.message c) (knows own g.a) b refl).no_post
 heard-silent r n c l rest (AnEnd g own how says it) = ap (λ m. m.post) it ∙ (ended-silent (client_plan r n) (hears_epochs l.message c) (knows own g.a) own how).no_post

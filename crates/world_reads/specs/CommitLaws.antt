@@ -14,7 +14,7 @@ use Rattle.daos_messages.specs.declared.message.Message.TheVariants.{Ended, Fetc
 use Rattle.daos_messages.specs.declared.message.Post.{Post}
 use Rattle.daos_messages.specs.declared.message.Reply.TheVariants as reply
 use Rattle.daos_base.specs.Operations.{write_path}
-use Rattle.daos_base.specs.Placement.{path_members}
+use Rattle.daos_base.specs.Placement.{path_members, writes_leader}
 use Rattle.daos_laws.specs.Members.{Has, any-has, contains-from_has, has-any, has-filter, has-from_contains, has-from_filter}
 use Rattle.daos_laws.specs.TargetLaws.{number_same, same_number}
 use Rattle.daos_messages.specs.declared.actor.ActorId.{ActorId}
@@ -91,7 +91,7 @@ Mid r o held h opening t m reading q (commit.Stored e) k =
 
 -- what a Commit is heard with: it is right, its epoch is its own, what was decided was issued, and what was served was served here
 pub record HearsCommit (r : Rules) (o : Opening) (held : List Version) (h : History) (w : World) (t : ℕ) (m : TargetMemory) (reading : ℕ) (q : CommitRequest) : Type 0 where
-  pub right : IsCommitRight r h q.attempt q.writes
+  pub right : IsCommitRight r h t q.attempt q.writes
   pub epochs : (e : Epoch) → request_epoch (target_plan r t) m reading q.tracker q.ep ≡ Some e → IsItsEpoch o w q.attempt q.ep e
   pub issued : (y : AttemptId) (f : Epoch) → Contains h.decided (y, f) → Contains w.issued (y, f)
   pub before : (v : Version) → Contains held v → v.epoch.0 ≤ top o
@@ -119,6 +119,7 @@ module _ (r : Rules) (o : Opening) (held : List Version) (h : History) (w : Worl
       new : IsNewEntry r o held h d (commit.led_entry (target_plan r t) q e)
       new = record {
         open' = refl;
+        leader = c.right.leads ∙ ap (λ ws. writes_leader ws r.script.targets) c.right.its;
         undecided = c.right.undecided;
         alone = λ y f i same. c.right.undecided f (subst (λ x. Contains h.decided (x, f)) (its.alone y f (c.issued y f i) same) i);
         above = its.above;

@@ -23,6 +23,7 @@ use Rattle.daos_model.specs.declared.durable.Durable.{Durable}
 use Rattle.daos_model.specs.declared.durable.Version.{Version}
 use Rattle.daos_model.specs.Accesses.{minor_writes}
 use Rattle.daos_model.specs.BoolLaws.{and_left, clash, false_of}
+use Rattle.daos_model.specs.CausesShown.{leader_of_attempt}
 use Rattle.daos_model.specs.Changes.{prepared}
 use Rattle.daos_model.specs.Durables.{IsInForm, entry_key, entry_of, is_entry_of, row_of, same_attempt, version_key}
 use Rattle.daos_model.specs.FormLaws.{prepared-in_form}
@@ -48,9 +49,10 @@ pub record AreItsOwn (r : Rules) (x : AttemptId) (t : ℕ) (ws : List MinorWrite
   pub all : (m : MinorWrite) → IsWriteAt r x t m → Has m ws
   pub form : AreWritesInForm ws
 
--- an entry is new: its attempt isn't decided, its epoch is above the opening and no decided attempt's, and the lease covers it
+-- an entry is new: its attempt isn't decided, and it names that one's leader; its epoch is above the opening and no decided attempt's, and the lease covers it
 pub record IsNewEntry (r : Rules) (o : Opening) (held : List Version) (h : History) (d : Durable) (k : Entry) : Type 0 where
   pub open' : k.committed ≡ false
+  pub leader : k.leader ≡ leader_of_attempt r.script k.attempt
   pub undecided : (f : Epoch) → Contains h.decided (k.attempt, f) → ⊥
   pub alone : (y : AttemptId) (f : Epoch) → Contains h.decided (y, f) → f.0 ≢ k.epoch.0
   pub above : top o < k.epoch.0

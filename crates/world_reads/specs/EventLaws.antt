@@ -16,6 +16,7 @@ use Rattle.daos_messages.specs.declared.message.Message.TheVariants as message
 use Rattle.daos_model.specs.declared.durable.Version.{Version}
 use Rattle.daos_model.specs.Accesses.{asked_member, minor_writes}
 use Rattle.daos_model.specs.BoolLaws.{clash}
+use Rattle.daos_model.specs.CausesShown.{leader_of_attempt}
 use Rattle.daos_model.specs.Durables.{entry_of}
 use Rattle.daos_model.specs.Opening.{Opening}
 use Rattle.daos_model.specs.Transactions.{attempt_ops}
@@ -62,6 +63,7 @@ turn-begins r o held h w t s here runs k l = record {
     held_by = λ x e m i at. k.held_by x e t s m i here at;
     entries = λ e i. k.entries t s e here i;
     led = λ e i f at. k.led t s e here i f at;
+    leaders = λ e i. k.leaders t s e here i;
     listed = λ x i. let z = k.leading t s x here i in (z.0, z.1);
   };
   unsettled = λ x i. k.leading t s x here i;
@@ -114,6 +116,7 @@ module _ (r : Rules) (o : Opening) (held : ℕ → List Version) (h : History) (
     held_by = λ x e u z m i at its. only (λ n y. IsWriteAt r x n m → (a : Entry) × (entry_of y.durable x ≡ Some a) × (a.epoch ≡ e)) (k.sound.holds.held_by x e m i) u z at its;
     entries = λ u z e at i. only (λ n y. Contains y.durable.entries e → Contains k.later.decided (e.attempt, e.epoch)) (k.sound.holds.entries e) u z at i;
     led = λ u z e at i f is. only (λ n y. Contains y.durable.entries e → e.committed ≡ false → e.leader ≡ n → Contains y.memory.decided e.attempt) (k.sound.holds.led e) u z at i f is;
+    leaders = λ u z e at i. only (λ n y. Contains y.durable.entries e → e.leader ≡ leader_of_attempt r.script e.attempt) (k.sound.holds.leaders e) u z at i;
     leading = λ u z x at i. only (λ n y. Contains y.memory.decided x → (e : Entry) × (entry_of y.durable x ≡ Some e) × (e.committed ≡ false) × (e.leader ≡ n)) (k.sound.unsettled x) u z at i;
   }
     where
@@ -209,6 +212,7 @@ others-keep r o held h w v same more k l = (
     held_by = λ x e t s m i at its. k.held_by x e t s m i (back t s at) its;
     entries = λ t s e at i. k.entries t s e (back t s at) i;
     led = λ t s e at i f is. k.led t s e (back t s at) i f is;
+    leaders = λ t s e at i. k.leaders t s e (back t s at) i;
     leading = λ t s x at i. k.leading t s x (back t s at) i;
   },
   record {

@@ -8,7 +8,7 @@ use Rattle.daos_base.specs.declared.operation.MinorWrite.{MinorWrite}
 use Rattle.daos_base.specs.declared.operation.Read.{Read}
 use Rattle.daos_base.specs.declared.operation.Write.{Write}
 use Rattle.daos_base.specs.Operations.{read_path, write_path}
-use Rattle.daos_base.specs.Placement.{ClassFits, groups}
+use Rattle.daos_base.specs.Placement.{ClassFits, groups, writes_leader}
 use Rattle.daos_messages.specs.declared.message.Message.{Message}
 use Rattle.daos_messages.specs.declared.message.Message.TheVariants as message
 use Rattle.daos_model.specs.declared.durable.Version.{Version}
@@ -40,10 +40,11 @@ HasItsEpoch r o w t s x ep tracker = (reading : ℕ) (e : Epoch) → request_epo
 abbrev pub FitsTargets : Rules → Write → Type 0
 FitsTargets r w = (obj : ObjId) × ((write_path w).obj ≡ Some obj) × ClassFits obj.class r.script.targets
 
--- what is asked to be committed: an attempt's writes, of which there are some; it isn't decided
-pub record IsCommitRight (r : Rules) (h : History) (x : AttemptId) (ws : List MinorWrite) : Type 0 where
+-- what a target is asked to commit: an attempt's writes, of which there are some, and which it leads; the attempt isn't decided
+pub record IsCommitRight (r : Rules) (h : History) (t : ℕ) (x : AttemptId) (ws : List MinorWrite) : Type 0 where
   pub its : ws ≡ minor_writes 0 (attempt_ops r.script x)
   pub some : ws ≢ []
+  pub leads : t ≡ writes_leader ws r.script.targets
   pub form : AreWritesInForm ws
   pub fits : (m : MinorWrite) → Contains ws m → FitsTargets r m.write
   pub undecided : (e : Epoch) → Contains h.decided (x, e) → ⊥
@@ -60,7 +61,7 @@ pub record IsFetchRight (r : Rules) (t : ℕ) (x : AttemptId) (op group : ℕ) (
 
 abbrev pub IsMessageRight : Rules → Opening → History → World → ℕ → TargetState → Message → Type 0
 IsMessageRight r o h w t s (message.Fetch x op group ep first tracker read snapshot) = IsFetchRight r t x op group read snapshot × HasItsEpoch r o w t s x ep tracker
-IsMessageRight r o h w t s (message.Commit x ep first tracker ws) = IsCommitRight r h x ws × HasItsEpoch r o w t s x ep tracker
+IsMessageRight r o h w t s (message.Commit x ep first tracker ws) = IsCommitRight r h t x ws × HasItsEpoch r o w t s x ep tracker
 IsMessageRight r o h w t s m = Unit {0}
 
 -- target 0 is there alone; the opening's versions are below the run; and every message to a running target is right

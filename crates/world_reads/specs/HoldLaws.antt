@@ -11,6 +11,7 @@ use Rattle.daos_laws.specs.Members.{Has, contains-from_has, has-from_contains, h
 use Rattle.daos_model.specs.declared.durable.Durable.{Durable}
 use Rattle.daos_model.specs.declared.durable.Version.{Version}
 use Rattle.daos_model.specs.BoolLaws.{not_true}
+use Rattle.daos_model.specs.CausesShown.{leader_of_attempt}
 use Rattle.daos_model.specs.Changes.{committed_at, leased, prepared, settled}
 use Rattle.daos_model.specs.Durables.{attempt_key, entry_key, entry_of, same_attempt}
 use Rattle.daos_model.specs.Opening.{Opening}
@@ -35,6 +36,7 @@ extends-holds r o held h t d left ticks more last k = record {
   held_by = k.held_by;
   entries = k.entries;
   led = k.led;
+  leaders = k.leaders;
   listed = k.listed;
 }
 
@@ -69,6 +71,7 @@ settles-holds r o held h t d left rest a i others fewer k = record {
   held_by = λ x e m j at. let z = k.held_by x e m j at in (committed_at a z.0, found-settled d a x z.0 z.1, (same-committed a z.0).1 ∙ z.2);
   entries = λ z j. let y = settled-among d a z j in subst (λ u. Contains h.decided (u.attempt, u.epoch)) y.2 (entries y.0 y.1);
   led = λ z j f at. let y = settled-among d a z j in led z f at y.0 y.1 y.2;
+  leaders = λ z j. let y = settled-among d a z j in subst (λ u. u.leader ≡ leader_of_attempt r.script u.attempt) y.2 (leaders y.0 y.1);
   listed = λ x j. let z = k.listed x (fewer x j) in (committed_at a z.0, found-settled d a x z.0 z.1);
 }
   where
@@ -82,6 +85,9 @@ settles-holds r o held h t d left rest a i others fewer k = record {
     entries y j =
         subst (λ x. Contains h.decided (x, (committed_at a y).epoch)) (sym (same-committed a y).0)
         (subst (λ e. Contains h.decided (y.attempt, e)) (sym (same-committed a y).1) (k.entries y j))
+
+    leaders : (y : Entry) → Contains d.entries y → (committed_at a y).leader ≡ leader_of_attempt r.script (committed_at a y).attempt
+    leaders y j = (same-committed a y).2 ∙ k.leaders y j ∙ ap (leader_of_attempt r.script) (sym (same-committed a y).0)
 
     led : (z : Entry) → z.committed ≡ false → z.leader ≡ t → (y : Entry) → Contains d.entries y → committed_at a y ≡ z → Contains rest z.attempt
     led z f at y j e =
@@ -108,6 +114,7 @@ decides-holds r o held h t d left k ws new own s = record {
   held_by = λ x e m i at. held_by x e m at (has-from_contains now.decided (x, e) i);
   entries = λ z i. entries z (has-put entry_key k d.entries z (has-from_contains (put entry_key k d.entries) z i));
   led = λ z i f at. contains-from_has (put attempt_key k.attempt left) z.attempt (put-has attempt_key k.attempt left z.attempt (led z f at (has-put entry_key k d.entries z (has-from_contains (put entry_key k d.entries) z i))));
+  leaders = λ z i. leaders z (has-put entry_key k d.entries z (has-from_contains (put entry_key k d.entries) z i));
   listed = λ x i. listed x (has-put attempt_key k.attempt left x (has-from_contains (put attempt_key k.attempt left) x i));
 }
   where
@@ -127,6 +134,10 @@ decides-holds r o held h t d left k ws new own s = record {
     entries : (z : Entry) → (z ≡ k) ⊎ Has z d.entries → Contains now.decided (z.attempt, z.epoch)
     entries z (inl same) = subst (λ y. Contains now.decided (y.attempt, y.epoch)) (sym same) (new-decided h k.attempt k.epoch)
     entries z (inr i) = old-decided h k.attempt k.epoch (z.attempt, z.epoch) (s.entries z (contains-from_has d.entries z i))
+
+    leaders : (z : Entry) → (z ≡ k) ⊎ Has z d.entries → z.leader ≡ leader_of_attempt r.script z.attempt
+    leaders z (inl same) = subst (λ y. y.leader ≡ leader_of_attempt r.script y.attempt) (sym same) new.leader
+    leaders z (inr i) = s.leaders z (contains-from_has d.entries z i)
 
     led : (z : Entry) → z.committed ≡ false → z.leader ≡ t → (z ≡ k) ⊎ Has z d.entries → (z.attempt ≡ k.attempt) ⊎ Has z.attempt left
     led z f at (inl same) = inl (ap (λ y. y.attempt) same)

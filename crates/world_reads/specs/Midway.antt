@@ -17,6 +17,7 @@ use Rattle.daos_model.specs.Opening.{Opening}
 use Rattle.daos_model.specs.Versions.{version_path}
 use Rattle.vos_store.specs.Answers.{floor_of}
 use Rattle.daos_model.specs.Accesses.{minor_writes}
+use Rattle.daos_model.specs.CausesShown.{leader_of_attempt}
 use Rattle.daos_model.specs.Transactions.{attempt_ops}
 use Rattle.world_base.specs.declared.did.Did.{Did}
 use Rattle.world_base.specs.declared.target.TargetMemory.{TargetMemory}
@@ -37,6 +38,7 @@ pub record Holds (r : Rules) (o : Opening) (held : List Version) (h : History) (
   pub held_by : (x : AttemptId) (e : Epoch) (m : MinorWrite) → Contains h.decided (x, e) → IsWriteAt r x t m → (k : Entry) × (entry_of d x ≡ Some k) × (k.epoch ≡ e)
   pub entries : (k : Entry) → Contains d.entries k → Contains h.decided (k.attempt, k.epoch)
   pub led : (k : Entry) → Contains d.entries k → k.committed ≡ false → k.leader ≡ t → Contains left k.attempt
+  pub leaders : (k : Entry) → Contains d.entries k → k.leader ≡ leader_of_attempt r.script k.attempt
   pub listed : (x : AttemptId) → Contains left x → (k : Entry) × (entry_of d x ≡ Some k)
 
 -- the attempts that are left aren't settled, and the target leads them

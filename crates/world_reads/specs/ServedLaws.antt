@@ -65,6 +65,7 @@ holds-served r o held h q t d left k = record {
   held_by = k.held_by;
   entries = k.entries;
   led = k.led;
+  leaders = k.leaders;
   listed = k.listed;
 }
 

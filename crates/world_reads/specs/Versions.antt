@@ -15,6 +15,7 @@ use Rattle.daos_model.specs.declared.cell.Cell.{Cell}
 use Rattle.daos_model.specs.declared.durable.Durable.{Durable}
 use Rattle.daos_model.specs.declared.durable.Version.{Version}
 use Rattle.daos_model.specs.Accesses.{minor_writes}
+use Rattle.daos_model.specs.CausesShown.{leader_of_attempt}
 use Rattle.daos_model.specs.Durables.{IsInForm, entry_of, row_of}
 use Rattle.daos_model.specs.Opening.{Opening, top}
 use Rattle.daos_model.specs.Transactions.{attempt_ops}
@@ -68,4 +69,6 @@ pub record Versions (r : Rules) (o : Opening) (held : ℕ → List Version) (h :
   -- an entry is of a decided attempt, and one that isn't settled is known to its leader as decided
   pub entries : (t : ℕ) (s : TargetState) (e : Entry) → slice_get w.targets t ≡ Some s → Contains s.durable.entries e → Contains h.decided (e.attempt, e.epoch)
   pub led : (t : ℕ) (s : TargetState) (e : Entry) → slice_get w.targets t ≡ Some s → Contains s.durable.entries e → e.committed ≡ false → e.leader ≡ t → Contains s.memory.decided e.attempt
+  -- an entry names the leader of its attempt
+  pub leaders : (t : ℕ) (s : TargetState) (e : Entry) → slice_get w.targets t ≡ Some s → Contains s.durable.entries e → e.leader ≡ leader_of_attempt r.script e.attempt
   pub leading : (t : ℕ) (s : TargetState) (x : AttemptId) → slice_get w.targets t ≡ Some s → Contains s.memory.decided x → (e : Entry) × (entry_of s.durable x ≡ Some e) × (e.committed ≡ false) × (e.leader ≡ t)

@@ -1,0 +1,244 @@
+-- All that holds between any two events of a run holds at its beginning.
+use Rattle.std.specs.Prelude.{ℕ, zero, suc, ◌≡◌, ◌≤◌, ◌+◌, ◌*◌, ◌/◌, ◌||◌, ◌==◌, Bool, true, max, nat_le, nat_lt, List, [], ◌∷◌, map, filter, length, slice_get, Contains, All, Option, Some, None, refl}
+use Rattle.std.specs.Option.{option_map}
+use Rattle.std.proofs.Common.{inl, inr, sym, ◌∙◌, ap, subst, arith}
+use Rattle.std.proofs.lemmas.Bool.Decides.{nat_tests}
+use Rattle.std.proofs.lemmas.List.Elements.{All-nil}
+use Rattle.daos_base.specs.declared.entry.Entry.{Entry}
+use Rattle.daos_base.specs.declared.id.ContId.{ContId}
+use Rattle.daos_base.specs.declared.report.Attempt.{Attempt}
+use Rattle.daos_base.specs.declared.script.Command.{Command}
+use Rattle.daos_laws.specs.Dated.{Dated, dated, dated_of, is_from}
+use Rattle.daos_laws.specs.Matches.{Matches, counts_under}
+use Rattle.daos_laws.specs.Members.{Has, contains-from_has, has-from_contains, has-from_filter, has-from_map}
+use Rattle.daos_laws.specs.Targets.{ArePlaced, is_own}
+use Rattle.daos_model.specs.declared.durable.Durable.{Durable}
+use Rattle.daos_model.specs.declared.durable.Version.{Version}
+use Rattle.daos_model.specs.AsOf.{as_of}
+use Rattle.daos_model.specs.Attempts.{is_of_client, tries}
+use Rattle.daos_model.specs.BoolLaws.{and_left, both, clash}
+use Rattle.daos_model.specs.Cells.{value_at}
+use Rattle.daos_model.specs.Durables.{row_of}
+use Rattle.daos_model.specs.Effect.{effects}
+use Rattle.daos_model.specs.Opening.{Opening, top}
+use Rattle.daos_model.specs.Versions.{writes_in}
+use Rattle.world_base.specs.declared.client.ClientState.{ClientState}
+use Rattle.world_base.specs.declared.client.Present.{Present}
+use Rattle.world_base.specs.declared.letter.Letter.{Letter}
+use Rattle.world_base.specs.declared.target.TargetState.{TargetState}
+use Rattle.world_base.specs.declared.world.World.{World}
+use Rattle.world_base.specs.ClientTurns.{is_waiting}
+use Rattle.world_clients.specs.MoveLaws.{clients-begin}
+use Rattle.world_clients.specs.Answered.{EndsAsAnswered, IsAnsweredHere, ops_here}
+use Rattle.world_core.specs.Asking.{Facts}
+use Rattle.world_core.specs.Everything.{Everything}
+use Rattle.world_epochs.specs.EpochLaws.{epochs-begin}
+use Rattle.world_events.specs.Events.{Rules, client_plan}
+use Rattle.world_gots.specs.Gots.{IsLineServed}
+use Rattle.world_lines.specs.EndingLaws.{Spoken}
+use Rattle.world_lines.specs.Lines.{AreTheSame, HasLines, Lines}
+use Rattle.world_reads.specs.History.{counts_by, is_decided, transactions}
+use Rattle.world_reads.specs.Reads.{Reads}
+use Rattle.world_reads.specs.Versions.{Versions, VersionsStand, is_own_in, mark_of}
+use Rattle.world_talks.specs.ConversationLaws.{conversations-begin}
+use Rattle.world_begins.specs.Begins.{IsAlone, IsBegun, OpensWith, first_client, no_history}
+
+-- ---- lists
+
+none-in : {T : Type 0} (xs : List T) (x : T) → xs ≡ [] → Contains xs x → ⊥
+none-in xs x none i = has-from_contains [] x (subst (λ ys. Contains ys x) none i)
+
+pub filter-all : {T : Type 0} (t : T → Bool) (xs : List T) → ((x : T) → Has x xs → t x ≡ true) → filter t xs ≡ xs
+filter-all t [] all = refl
+filter-all t (x ∷ xs) all = rw (all x (inl refl)) (ap (λ ys. x ∷ ys) (filter-all t xs (λ y i. all y (inr i))))
+
+pub get-map : {T U : Type 0} (f : T → U) (xs : List T) (n : ℕ) → slice_get (map f xs) n ≡ option_map f (slice_get xs n)
+get-map f [] n = refl
+get-map f (x ∷ xs) zero = refl
+get-map f (x ∷ xs) (suc n) = get-map f xs n
+
+from-map : {T U : Type 0} (f : T → U) (o : Option T) (y : U) → option_map f o ≡ Some y → (x : T) × (o ≡ Some x) × (f x ≡ y)
+from-map f None y h = let no : ⊥ = cc in absurd no
+from-map f (Some x) y h = (x, refl, let same : f x ≡ y = cc in same)
+
+pub only-one : {T : Type 0} (x : T) (n : ℕ) (y : T) → slice_get (x ∷ []) n ≡ Some y → (n ≡ 0) × (x ≡ y)
+only-one x zero y h = (refl, let same : x ≡ y = cc in same)
+only-one x (suc n) y h = let no : ⊥ = cc in absurd no
+
+-- ---- what the target keeps
+
+low-lease : (e lease d : ℕ) → e ≤ lease * 256 + 255 → d ≡ lease → e / 256 ≤ d
+low-lease e lease d low same = omega (arith, low, same)
+
+above-not : (mark e : ℕ) → nat_le mark e ≡ true → mark ≤ e
+above-not mark e h = grind (arith, nat_tests)
+
+below-is : (e mark : ℕ) → e + 1 ≤ mark → nat_lt e mark ≡ true
+below-is e mark h = grind (arith, nat_tests)
+
+under-mark : (e t a : ℕ) → e ≤ t → e + 1 ≤ max t a + 1
+under-mark e t a low = omega (arith, low)
+
+module _ (r : Rules) (o : Opening) (d : Durable) (one : r.script.targets ≡ 1) (k : OpensWith o d) where
+  low : (cont : ContId) (v : Version) → Has v d.versions → v.epoch.0 + 1 ≤ mark_of o d cont
+  low cont v i = under-mark v.epoch.0 (top o) (row_of d cont).aggregated.0 (k.covered v (contains-from_has d.versions v i))
+
+  none-above : (cont : ContId) (x : Dated) → Has x (filter (is_from (mark_of o d cont)) (dated_of (counts_by no_history) d.versions)) → ⊥
+  none-above cont x i =
+      let h = has-from_filter (is_from (mark_of o d cont)) (dated_of (counts_by no_history) d.versions) x i in
+      let v = has-from_map dated (filter (counts_by no_history) d.versions) x h.0 in
+      let under : v.0.epoch.0 + 1 ≤ mark_of o d cont = low cont v.0 (has-from_filter (counts_by no_history) d.versions v.0 v.1).0 in
+      let over : mark_of o d cont ≤ x.epoch = above-not (mark_of o d cont) x.epoch h.1 in
+      let same : v.0.epoch.0 ≡ x.epoch = ap (λ y. y.epoch) v.2 in
+      omega (arith, under, over, same)
+
+  all-count : (cont : ContId) → filter (counts_under (counts_by no_history) (mark_of o d cont)) d.versions ≡ d.versions
+  all-count cont = filter-all (counts_under (counts_by no_history) (mark_of o d cont)) d.versions (λ v i. both (counts_by no_history v) (nat_lt v.epoch.0 (mark_of o d cont))
+      (ap (λ b. b || is_decided no_history v.by) (k.done v (contains-from_has d.versions v i))) (below-is v.epoch.0 (mark_of o d cont) (low cont v i)))
+
+  matches-begin : (cont : ContId) → Matches (is_own_in 1 0 cont) (counts_by no_history) d.versions o.stand (transactions r.script no_history) (mark_of o d cont)
+  unfolding as_of
+  matches-begin cont = record {
+    above = λ c own x about. (
+      λ i. absurd (none-above cont x (has-from_contains (filter (is_from (mark_of o d cont)) (dated_of (counts_by no_history) d.versions)) x i)),
+      λ i. absurd (has-from_contains [] x i),
+    );
+    at_mark = λ c own. ap (λ vs. value_at (effects (writes_in vs) []) c) (all-count cont) ∙ k.stands c (and_left (is_own 1 0 c) (c.path.cont.0 == cont.0) own);
+  }
+
+  pub stand-begins : VersionsStand r o d.versions no_history 0 d
+  stand-begins = record {
+    form = k.form;
+    single = k.single;
+    placed = subst (λ n. ArePlaced n 0 d.versions) (sym one) k.placed;
+    done = λ v i is. inl i;
+    unsettled = λ v i is. clash v.done (k.done v i) is;
+    whole = λ e m i. absurd (none-in d.entries e k.entries i);
+    only = λ v i is. clash v.done (k.done v i) is;
+    matches = λ cont. subst (λ n. Matches (is_own_in n 0 cont) (counts_by no_history) d.versions o.stand (transactions r.script no_history) (mark_of o d cont)) (sym one) (matches-begin cont);
+    leased = λ v i. low-lease v.epoch.0 o.lease d.lease (k.covered v i) k.lease;
+    unpruned = λ cont. (k.floors cont).1;
+  }
+
+-- ---- the whole
+
+module _ (r : Rules) (o : Opening) (w : World) (A : IsAlone r) (B : IsBegun r o w) where
+  no-letter : (l : Letter) → Contains w.messages l → ⊥
+  no-letter l i = none-in w.messages l B.messages i
+
+  no-tries : tries w.lines ≡ []
+  unfolding tries
+  no-tries = ap tries B.lines
+
+  no-try : (a : Attempt) → Contains (tries w.lines) a → ⊥
+  no-try a i = none-in (tries w.lines) a no-tries i
+
+  -- each client is at its beginning
+  client-is : (n : ℕ) (c : ClientState) → slice_get w.clients n ≡ Some c → (list : List Command) × (first_client r.script B.s.durable.snaps o list ≡ c)
+  client-is n c here =
+      let x = from-map (first_client r.script B.s.durable.snaps o) (slice_get r.script.clients n) c
+      (sym (get-map (first_client r.script B.s.durable.snaps o) r.script.clients n) ∙ ap (λ cs. slice_get cs n) (sym B.clients) ∙ here) in
+      (x.0, x.2)
+
+  idle : (n : ℕ) (c : ClientState) → slice_get w.clients n ≡ Some c → c.present ≡ None
+  idle n c here = let x = client-is n c here in sym (ap (λ z. z.present) x.1)
+
+  no-attempt : {T : Type 0} (n : ℕ) (c : ClientState) (a : Present) → slice_get w.clients n ≡ Some c → c.present ≡ Some a → T
+  no-attempt n c a here at = let none : c.present ≡ None = idle n c here in let no : ⊥ = cc in absurd no
+
+  only-target : (t : ℕ) (s : TargetState) → slice_get w.targets t ≡ Some s → (t ≡ 0) × (B.s ≡ s)
+  only-target t s here = only-one B.s t s (ap (λ ts. slice_get ts t) (sym B.targets) ∙ here)
+
+  no-entry : (t : ℕ) (s : TargetState) (e : Entry) → slice_get w.targets t ≡ Some s → Contains s.durable.entries e → ⊥
+  no-entry t s e here i = none-in s.durable.entries e (subst (λ z. z.durable.entries ≡ []) (only-target t s here).1 B.starts.opens.entries) i
+
+  lines-begin : Lines r w
+  lines-begin = record {
+    told = λ n c here. told n c (idle n c here) (client-is n c here);
+    nobody = λ n none. ap (filter (is_of_client n)) no-tries;
+  }
+    where
+      told : (n : ℕ) (c : ClientState) → c.present ≡ None → (list : List Command) × (first_client r.script B.s.durable.snaps o list ≡ c) → HasLines (client_plan r n) n c w.lines
+      told n c none x = record {
+        attempts = [];
+        tells = record {
+          told = clients-begin (client_plan r n) c (sym (ap (λ z. z.place) x.1)) (sym (ap (λ z. z.command) x.1)) none;
+          answers = record { ended = All-nil (EndsAsAnswered (client_plan r n)); here = subst (IsAnsweredHere (ops_here (client_plan r n) c)) (sym none) tt };
+        };
+        same = subst (AreTheSame []) (sym (ap (filter (is_of_client n)) no-tries)) tt;
+      }
+
+  spoken-begins : Spoken r w
+  spoken-begins = record {
+    talk = conversations-begin r w B.messages (λ n c here. ap is_waiting (idle n c here));
+    endings = λ l i. absurd (no-letter l i);
+    lines = lines-begin;
+  }
+
+  facts-begin : Facts r o no_history w
+  facts-begin = record {
+    one = record { script = A.one; alone = ap length B.targets };
+    unsnapped = A.unsnapped;
+    form = A.form;
+    judged = record {
+      spoken = spoken-begins;
+      epochs = epochs-begin r (top o) w (record {
+        messages = B.messages;
+        issued = B.issued;
+        lines = B.lines;
+        clients = λ n c here. (idle n c here, subst (λ z. top o ≤ z.tracker.0) (client-is n c here).1 (same-low (top o)));
+      });
+      issued = λ x e i. absurd (has-from_contains [] (x, e) i);
+      verdicts = record {
+        told = λ x e i. absurd (has-from_contains [] (x, e) i);
+        flying = λ l x own i says. absurd (no-letter l i);
+        lines = λ a i. absurd (no-try a i);
+      };
+    };
+    gots = record {
+      present = λ n c a here at. no-attempt n c a here at;
+      lines = subst (All (IsLineServed r no_history)) (sym no-tries) (All-nil (IsLineServed r no_history));
+      flying = λ n c a l x op group own b here at i. absurd (no-letter l i);
+    };
+  }
+    where
+      same-low : (n : ℕ) → n ≤ n
+      same-low n = omega arith
+
+  versions-begin : Versions r o (λ t. B.s.durable.versions) no_history w
+  versions-begin = record {
+    stand = λ t s here. let k = only-target t s here in
+        subst (λ n. VersionsStand r o B.s.durable.versions no_history n s.durable) (sym k.0) (subst (λ z. VersionsStand r o B.s.durable.versions no_history 0 z.durable) k.1 (stand-begins r o B.s.durable A.one B.starts.opens));
+    apart = record { apart = λ i j d lt within. absurd (omega (arith, lt, within)); numbered = All-nil _ };
+    issued = λ x e i. absurd (has-from_contains [] (x, e) i);
+    written = λ x e i. absurd (has-from_contains [] (x, e) i);
+    held_by = λ x e t s m i. absurd (has-from_contains [] (x, e) i);
+    entries = λ t s e here i. absurd (no-entry t s e here i);
+    led = λ t s e here i. absurd (no-entry t s e here i);
+    leaders = λ t s e here i. absurd (no-entry t s e here i);
+    leading = λ t s x here i. absurd (none-in s.memory.decided x (subst (λ z. z.memory.decided ≡ []) (only-target t s here).1 B.starts.decided) i);
+  }
+
+  reads-begin : Reads r o no_history w
+  reads-begin = record {
+    asked = λ q i. absurd (has-from_contains [] q i);
+    form = λ q i. absurd (has-from_contains [] q i);
+    issued = λ q i. absurd (has-from_contains [] q i);
+    answers = λ q i. absurd (has-from_contains [] q i);
+    guarded = λ q s i. absurd (has-from_contains [] q i);
+    leased = λ q s i. absurd (has-from_contains [] q i);
+    barred = λ q s v i. absurd (has-from_contains [] q i);
+    stamps = λ t s z here runs i. absurd (none-in s.memory.stamps z (subst (λ y. y.memory.stamps ≡ []) (only-target t s here).1 B.starts.stamps) i);
+  }
+
+  pub everything-begins : Everything r o (λ t. B.s.durable.versions) no_history w
+  everything-begins = record { facts = facts-begin; versions = versions-begin; reads = reads-begin }
+
+-- ---- the statement
+
+-- a run of one target begins with all that every event keeps, of nothing decided and nothing served
+abbrev pub RunsBeginWithEverything : Type 0
+RunsBeginWithEverything = (r : Rules) (o : Opening) (w : World) → IsAlone r → (b : IsBegun r o w) → Everything r o (λ t. b.s.durable.versions) no_history w
+
+pub runs-begin-with-everything : RunsBeginWithEverything
+runs-begin-with-everything r o w A B = everything-begins r o w A B
