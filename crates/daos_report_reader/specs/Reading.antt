@@ -17,12 +17,12 @@ use Rattle.daos_report_reader.specs.declared.reading.Open.{Open}
 use Rattle.daos_report_reader.specs.declared.reading.Reading.{Reading}
 use Rattle.daos_report_reader.specs.declared.report.Stage.{Stage}
 use Rattle.daos_report_reader.specs.declared.report.Stage.TheVariants.{Start, Inside, Ended, Whole}
-use Rattle.daos_report_reader.specs.declared.rows.Told.{Told}
-use Rattle.daos_report_reader.specs.declared.rows.Told.TheVariants.{Try, Cond, Got, Other}
-use Rattle.daos_report_reader.specs.Marks.{Marks, mark_at, table_of}
-use Rattle.daos_report_reader.specs.Reads.{◌>>=◌}
-use Rattle.daos_report_reader.specs.Rows.{told_of}
-use Rattle.daos_report_reader.specs.Told.{spelled, attempt_fits, answer_fits, line_fits}
+use Rattle.daos_report_rows.specs.declared.rows.Told.{Told}
+use Rattle.daos_report_rows.specs.declared.rows.Told.TheVariants.{Try, Cond, Got, Other}
+use Rattle.daos_report_fits.specs.Marks.{Marks, mark_at, table_of}
+use Rattle.daos_report_words.specs.Reads.{◌>>=◌}
+use Rattle.daos_report_rows.specs.Rows.{told_of}
+use Rattle.daos_report_fits.specs.Told.{spelled, attempt_fits, answer_fits, line_fits}
 
 -- ---- the rows of an attempt
 

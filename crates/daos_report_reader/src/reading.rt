@@ -1,18 +1,18 @@
 // What was read of a report so far, and what one more row adds.
 ghost use Rattle.std.specs.Prelude.{◌≡◌, IfOk};
-ghost use Rattle.daos_report_reader.specs.Reads.{Reads};
+ghost use Rattle.daos_report_words.specs.Reads.{Reads};
 ghost use Rattle.daos_report_reader.specs.Reading.{asked, down_after, lines_of, put, reads, stop_after, with_cond, with_cond_last, with_got, with_got_last, with_line, with_try};
 
-use crate::fault::RowNo;
-use crate::marks::{Marks, mark_at};
-use crate::rows::Told;
-use crate::told::{answer_fits, attempt_fits, line_fits};
 use daos_base::answer::Answer;
 use daos_base::epoch::TargetId;
 use daos_base::id::AttemptId;
 use daos_base::items::{Items, Memory};
 use daos_base::report::{Attempt, Line, Lines};
 use daos_base::script::Script;
+use daos_report_fits::marks::{Marks, mark_at};
+use daos_report_fits::told::{answer_fits, attempt_fits, line_fits};
+use daos_report_rows::rows::Told;
+use daos_report_words::fault::RowNo;
 
 /// An attempt of which more may be told, and the least place that its next row may have: twice the
 /// number of the operation for a condition, and one more for an answer.
