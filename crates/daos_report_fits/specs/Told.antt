@@ -18,10 +18,13 @@ use Rattle.daos_base.specs.declared.script.Command.TheVariants as command
 use Rattle.daos_base.specs.declared.script.OldDecl.{OldDecl}
 use Rattle.daos_base.specs.declared.script.Script.{Script}
 use Rattle.daos_base.specs.Keys.{same_key}
+use Rattle.daos_text.specs.Parts.{parts_of}
 use Rattle.daos_text.specs.Rows.{rows_text}
 use Rattle.daos_report.specs.Reports.{try_row, cond_row, got_row, line_rows}
 use Rattle.daos_report_rows.specs.declared.rows.Told.{Told}
 use Rattle.daos_report_rows.specs.declared.rows.Told.TheVariants.{Try, Cond, Got, Other}
+use Rattle.daos_report_rows.specs.Rows.{told_of}
+use Rattle.daos_report_words.specs.Reads.{◌>>=◌}
 use Rattle.daos_report_fits.specs.Marks.{Marks, ops_of}
 
 -- ---- spelling
@@ -36,6 +39,12 @@ told_text s (Other l) = rows_text (line_rows s l)
 -- what is told, where the line is what that is spelled as
 abbrev pub spelled : Script → List ℕ → Told → Option Told
 spelled s line told = if bytes_eq (told_text s told) (line ++ 10 ∷ []) then Some told else None
+
+-- what a line tells, whatever stands above it
+unfoldable pub told_in : Script → List ℕ → Option Told
+told_in s line = do
+  read ← told_of s (parts_of 32 line)
+  spelled s line read
 
 -- ---- attempts
 

@@ -1,8 +1,9 @@
 // Whether what a row tells may be told of a script, and is spelled so.
-ghost use Rattle.std.specs.Prelude.{◌≡◌, ◌++◌, ◌∷◌, [], OnOk, None};
+ghost use Rattle.std.specs.Prelude.{◌≡◌, ◌++◌, ◌∷◌, [], IfOk, OnOk, None};
+ghost use Rattle.std.specs.Str.{bytes_eq};
 ghost use Rattle.daos_report_fits.specs.Marks.{ops_of};
 ghost use Rattle.daos_report_words.specs.Reads.{Reads};
-ghost use Rattle.daos_report_fits.specs.Told.{answer_fits, attempt_fits, cause_fits, has_attempt, is_bare, is_hole, is_length, is_made, is_old, is_other, is_next, is_snap, is_snap_of, is_target, line_fits, outcome_fits, outcome_fits_in, piece_fits, pieces_fit, spelled, told_text};
+ghost use Rattle.daos_report_fits.specs.Told.{answer_fits, attempt_fits, cause_fits, has_attempt, is_bare, is_hole, is_length, is_made, is_old, is_other, is_next, is_snap, is_snap_of, is_target, line_fits, outcome_fits, outcome_fits_in, piece_fits, pieces_fit, spelled, told_in, told_text};
 
 use crate::marks::{Marks, ops_of};
 use daos_base::answer::{Answer, Piece};
@@ -13,8 +14,9 @@ use daos_base::report::{Attempt, Line};
 use daos_base::script::{Command, OldDecl, Script};
 use daos_report::attempts::{push_cond, push_got, push_try};
 use daos_report::lines::push_line;
-use daos_report_rows::rows::Told;
+use daos_report_rows::rows::{Told, told_of};
 use daos_report_words::fault::RowNo;
+use daos_text::parts::Parts;
 use std::alloc::Global;
 
 // Adds the text of what a row tells.
@@ -29,19 +31,36 @@ fn push_told(out: &mut Vec<u8>, script: &Script, told: &Told) -> Result<(), Memo
     }
 }
 
-/// What a row tells, where the line is what that is spelled as.
-pub fn spelled(alloc: Global, script: &Script, line: &[u8], told: Told) -> Result<Told, RowNo>
-    ensures { Reads (λ t. t) result (spelled script.now line.now told) }
+// Whether a line is what a row that tells this is spelled as.
+fn is_spelled(alloc: Global, script: &Script, line: &[u8], told: &Told) -> Result<bool, Memory>
+    ensures { IfOk result (λ yes. yes ≡ bytes_eq (told_text script.now told.now) (line.now ++ 10 ∷ [])) }
 {
     let mut text = Vec::new(alloc);
-    push_told(&mut text, script, &told)?;
+    push_told(&mut text, script, told)?;
     let mut wanted = line.to_vec(alloc)?;
     wanted.push(b'\n')?;
-    if text.as_slice() == wanted.as_slice() {
+    Ok(text.as_slice() == wanted.as_slice())
+}
+
+// What a row tells, where the line is what that is spelled as.
+fn spelled(alloc: Global, script: &Script, line: &[u8], told: Told) -> Result<Told, RowNo>
+    ensures { Reads (λ t. t) result (spelled script.now line.now told) }
+{
+    if is_spelled(alloc, script, line, &told)? {
         Ok(told)
     } else {
         Err(RowNo::Bad)
     }
+}
+
+/// What a line tells, whatever stands above it.
+#[tactic(auto, unfolding(crate::specs::Told::told_in))]
+pub fn told_in(alloc: Global, script: &Script, line: &[u8]) -> Result<Told, RowNo>
+    ensures { Reads (λ t. t) result (told_in script.now line.now) }
+{
+    let mut words = Parts::new(b' ', line);
+    let told = told_of(alloc, script, &mut words)?;
+    spelled(alloc, script, line, told)
 }
 
 fn is_target(script: &Script, target: u8) -> bool

@@ -32,7 +32,7 @@ use Rattle.daos_report_reader.specs.declared.report.Stage.TheVariants.{Start, In
 use Rattle.daos_report_reader.specs.Law.{IsAttemptIn, IsGotIn, IsLineIn, IsReportFor, RiseFrom, StopsFrom}
 use Rattle.daos_report_fits.specs.Marks.{Marks, table_of}
 use Rattle.daos_report_reader.specs.Reading.{asked, at_end, at_head, down_after, lesser, lines_of, next_of, nothing_read, put, report_of, report_read, row_of, step, stop_after, with_cond, with_got, with_line, with_try}
-use Rattle.daos_report_fits.specs.Told.{line_fits, told_text}
+use Rattle.daos_report_fits.specs.Told.{told_in, line_fits, told_text}
 use Rattle.daos_report_reader.proofs.Again.{aggregate_back, alone, cond_back, down_back, freeze_back, got_back, restart_back, snapshot_back, stop_back, try_back}
 
 -- ---- numbers
@@ -153,7 +153,7 @@ module _ (s : Script) where
 
   -- a row that is spelled as what it tells, and what that adds
   one_row : (r next : Reading) (row : Words) (t : Told) → IsRow row → told_of s row ≡ Some t → told_text s t ≡ rows_text (row ∷ []) → put s table r t ≡ Some next → Tells r (row ∷ []) next
-  unfolding row_of
+  unfolding row_of told_in
   one_row r next row t h e text adds = leads-one (Inside r) (Inside next) (row_line row) (rw (not_end r.down row t h e) told)
     where
       words : told_of s (parts_of 32 (row_line row)) ≡ Some t

@@ -20,7 +20,6 @@ use Rattle.daos_report.proofs.Inner.{all_append}
 use Rattle.daos_report_rows.specs.declared.rows.Told.{Told}
 use Rattle.daos_report_rows.specs.declared.rows.Told.TheVariants.{Try, Cond, Got, Other}
 use Rattle.daos_report_words.specs.Reads.{◌>>=◌}
-use Rattle.daos_report_rows.specs.Rows.{told_of}
 use Rattle.daos_report_reader.specs.declared.reading.Open.{Open}
 use Rattle.daos_report_reader.specs.declared.reading.Reading.{Reading}
 use Rattle.daos_report_reader.specs.declared.report.Stage.{Stage}
@@ -28,10 +27,10 @@ use Rattle.daos_report_reader.specs.declared.report.Stage.TheVariants.{Start, In
 use Rattle.daos_report_reader.specs.Law.{AreBytes, HasWholeValues, IsAttemptIn, IsGotIn, IsLineIn, IsNamed, IsReportFor, RiseFrom, StopsFrom}
 use Rattle.daos_report_fits.specs.Marks.{Marks, ops_of, table_of}
 use Rattle.daos_report_reader.specs.Reading.{asked, at_end, at_head, bad_at, cond_added, down_after, finished, got_added, lines_of, next_of, nothing_read, or_bad_line, put, reads, reopened, report_of, report_read, row_of, some_open, step, stop_after, with_cond, with_cond_last, with_got, with_got_last, with_line, with_try}
-use Rattle.daos_report_fits.specs.Told.{answer_fits, attempt_fits, is_bare, is_next, is_target, line_fits, outcome_fits_in, spelled, told_text}
+use Rattle.daos_report_fits.specs.Told.{told_in, answer_fits, attempt_fits, is_bare, is_next, is_target, line_fits, outcome_fits_in}
 use Rattle.daos_report_reader.proofs.Back.{down_is, down_of, numbered, places, stops_of}
 use Rattle.daos_report_reader.proofs.Order.{Below, GotBelow}
-use Rattle.daos_report_reader.proofs.Sound.{IsLast, IsOrdered, at_most, both, cond_more, empty, got_more, put_adds, tested, then_some}
+use Rattle.daos_report_reader.proofs.Sound.{IsLast, IsOrdered, at_most, both, cond_more, empty, got_more, put_adds, tested, then_some, told_in_says}
 use Rattle.daos_report_reader.proofs.Takes.{IsGoodTold, told_takes}
 
 same : {A : Type 0} {x y : A} → Some x ≡ Some y → x ≡ y
@@ -323,11 +322,9 @@ module _ (s : Script) (named : IsNamed s) where
   row_kept : (r : Reading) (next : Stage) (l : List ℕ) → AllByRecursion (λ b. b < 2 ^ 8) l → row_of s table r l ≡ Some next → IsKept r → IsKeptStage next
   unfolding row_of
   row_kept r next l bytes e h =
-      let a = then_some (told_of s (parts_of 32 l)) (λ read. spelled s l read >>= λ t. put s table r t >>= λ next. Some (Inside next)) next e in
-      let b = then_some (spelled s l a.0) (λ t. put s table r t >>= λ next. Some (Inside next)) next a.2 in
+      let b = then_some (told_in s l) (λ t. put s table r t >>= λ next. Some (Inside next)) next e in
       let c = then_some (put s table r b.0) (λ next. Some (Inside next)) next b.2 in
-      let t = tested (bytes_eq (told_text s a.0) (l ++ 10 ∷ [])) a.0 b.0 b.1 in
-      let good = subst (λ x. IsGoodTold s named.names x) t.1 (told_takes s named.names (parts_of 32 l) a.0 (parts_are_texts 32 l bytes) a.1) in
+      let good = told_takes s named.names (parts_of 32 l) b.0 (parts_are_texts 32 l bytes) (told_in_says s l b.0 b.1).0 in
       subst (λ x. IsKeptStage x) (same c.2) (put_kept r c.0 b.0 h good c.1)
 
   next_kept : (stage next : Stage) (l : List ℕ) → AllByRecursion (λ b. b < 2 ^ 8) l → next_of s table stage l ≡ Some next → IsKeptStage stage → IsKeptStage next

@@ -1,4 +1,5 @@
 pub mod Again
+pub mod Answered
 pub mod Back
 pub mod Bad
 pub mod Kept

@@ -1,6 +1,5 @@
 -- What is read is spelled as the text says.
 use Rattle.std.proofs.Common.{◌≡◌, ℕ, ◌+◌, ◌*◌, ◌≤◌, Bool, true, false, cond, ◌&&◌, leb, eqb, List, [], ◌∷◌, ◌++◌, length, flat_map, Option, Some, None, Result, Ok, Err, refl, sym, ap, ◌∙◌, subst, append_assoc, append-nil, arith}
-use Rattle.std.specs.Prelude.{IfOk}
 use Rattle.std.specs.Str.{bytes_eq}
 use Rattle.std.specs.List.{AllByRecursion}
 use Rattle.std.proofs.lemmas.Bool.Decides.{nat_tests}
@@ -25,12 +24,10 @@ use Rattle.daos_report_reader.specs.declared.report.Stage.TheVariants.{Start, In
 use Rattle.daos_report_rows.specs.declared.rows.Told.{Told}
 use Rattle.daos_report_rows.specs.declared.rows.Told.TheVariants.{Try, Cond, Got, Other}
 use Rattle.daos_report_fits.specs.Marks.{Marks, ops_of, table_of}
-use Rattle.daos_report_reader.specs.declared.fault.ReportNo.{ReportNo}
-use Rattle.daos_report_reader.specs.Reads.{ReadsAt}
 use Rattle.daos_report_words.specs.Reads.{◌>>=◌}
 use Rattle.daos_report_reader.specs.Reading.{asked, reads, cond_added, got_added, with_cond, with_got, lines_of, some_open, with_try, stop_after, down_after, with_line, reopened, with_cond_last, with_got_last, put, nothing_read, at_head, report_read, at_end, row_of, next_of, bad_at, or_bad_line, step, finished, report_of}
 use Rattle.daos_report_rows.specs.Rows.{told_of}
-use Rattle.daos_report_fits.specs.Told.{told_text, spelled, is_bare, outcome_fits_in, attempt_fits, answer_fits, line_fits}
+use Rattle.daos_report_fits.specs.Told.{told_in, told_text, spelled, is_bare, outcome_fits_in, attempt_fits, answer_fits, line_fits}
 use Rattle.daos_report_reader.proofs.Order.{Below, GotBelow, details-cond, details-got, all-below, all-push}
 
 -- ---- tests that were passed
@@ -210,16 +207,22 @@ module _ (s : Script) where
       let same : Ended (report_read s r) ≡ stage = cc in
       subst (λ x. IsRead x (done ++ l ∷ [])) same text
 
+  -- what a line tells is what its words tell, and spelled as the line
+  pub told_in_says : (l : List ℕ) (t : Told) → told_in s l ≡ Some t → (told_of s (parts_of 32 l) ≡ Some t) × (told_text s t ≡ l ++ 10 ∷ [])
+  unfolding told_in
+  told_in_says l t e =
+      let a = then_some (told_of s (parts_of 32 l)) (λ read. spelled s l read) t e in
+      let b = tested (bytes_eq (told_text s a.0) (l ++ 10 ∷ [])) a.0 t a.2 in
+      (a.1 ∙ ap (λ x. Some x) b.1, ap (told_text s) (sym b.1) ∙ same_bytes (told_text s a.0) (l ++ 10 ∷ []) b.0)
+
   row_read : (table : List (List Marks)) (r : Reading) (stage : Stage) (done : List (List ℕ)) (l : List ℕ) → row_of s table r l ≡ Some stage → IsLast r.last
       → lines_text done ≡ head ++ told (lines_of r.lines r.last) → IsRead stage (done ++ l ∷ [])
   unfolding row_of
   row_read table r stage done l e h f =
-      let a = then_some (told_of s (parts_of 32 l)) (λ read. spelled s l read >>= λ t. put s table r t >>= λ next. Some (Inside next)) stage e in
-      let b = then_some (spelled s l a.0) (λ t. put s table r t >>= λ next. Some (Inside next)) stage a.2 in
+      let b = then_some (told_in s l) (λ t. put s table r t >>= λ next. Some (Inside next)) stage e in
       let c = then_some (put s table r b.0) (λ next. Some (Inside next)) stage b.2 in
-      let t = tested (bytes_eq (told_text s a.0) (l ++ 10 ∷ [])) a.0 b.0 b.1 in
       let adds = put_adds table r c.0 b.0 h c.1 in
-      let line : l ++ 10 ∷ [] ≡ told_text s b.0 = sym (same_bytes (told_text s a.0) (l ++ 10 ∷ []) t.0) ∙ ap (told_text s) t.1 in
+      let line : l ++ 10 ∷ [] ≡ told_text s b.0 = sym (told_in_says l b.0 b.1).1 in
       let text = lines_append done (l ∷ []) ∙ ap (λ x. lines_text done ++ x) line ∙ ap (λ x. x ++ told_text s b.0) f
       ∙ append_assoc head (told (lines_of r.lines r.last)) (told_text s b.0) ∙ ap (λ x. head ++ x) (sym adds.1) in
       let same : Inside c.0 ≡ stage = some_stage (Inside c.0) stage c.2 in
@@ -274,7 +277,3 @@ module _ (s : Script) where
       go : (o : Result Stage ℕ) → steps (step s (table_of s)) 1 Start (parts_of 10 bytes) ≡ o → result.◌>>=◌ o (finished (length (parts_of 10 bytes))) ≡ Ok q → bytes ≡ report_text s q
       go (Err n) i e = absurd cc
       go (Ok stage) i e = whole stage e (steps_read (table_of s) 1 Start stage [] (parts_of 10 bytes) i refl)
-
-  pub text_if_read : (bytes : List ℕ) (r : Result Report ReportNo) → ReadsAt (λ (q : Report). q) r (report_of s bytes) → IfOk r (λ q. bytes ≡ report_text s q)
-  text_if_read bytes (Ok q) h = read_is_spelled bytes q h
-  text_if_read bytes (Err e) h = tt

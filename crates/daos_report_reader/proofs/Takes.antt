@@ -457,8 +457,8 @@ module _ (s : Script) (names : HasNames s) where
   got_takes : (ws : Words) (t : Told) → AreTexts ws → got_of ws ≡ Some t → IsGoodTold t
   unfolding got_of
   got_takes ws t h e =
-      let a = step e in
-      let b = step a.2 in
+      let a = then_some (number_at 0 255 ws) (λ op. answer_of op.1 >>= λ x. Some (Got (op.0, x))) t e in
+      let b = then_some (answer_of a.0.1) (λ x. Some (Got (a.0.0, x))) t a.2 in
       let n = number_takes 0 255 ws a.0 (omega arith) a.1 in
       let good = answer_takes a.0.1 b.0 (n.behind h) b.1 in
       subst (λ u. IsGoodTold u) {x = Got (a.0.0, b.0)} (same b.2) (record { op = u8_takes ws a.0 a.1; answer = good.0 }, good.1)
@@ -477,7 +477,7 @@ module _ (s : Script) (names : HasNames s) where
       let b = step a.2 in
       let c = step b.2 in
       let d = step c.2 in
-      subst (λ u. IsGoodTold u) {x = Other (line.Restart a.0.0 b.0.0 c.0.0 d.0.0)} (same (done d.0.1 (Some (Other (line.Restart a.0.0 b.0.0 c.0.0 d.0.0))) t d.2)) (record { which = u32_takes ws a.0 a.1; of_target = u8_takes a.0.1 b.0 b.1; opening = u64_takes b.0.1 c.0 c.1; issued = epoch_takes c.0.1 d.0 d.1 })
+      subst (λ u. IsGoodTold u) {x = Other (line.Restart a.0.0 b.0.0 c.0.0 d.0.0)} (same {x = Other (line.Restart a.0.0 b.0.0 c.0.0 d.0.0)} (done d.0.1 (Some (Other (line.Restart a.0.0 b.0.0 c.0.0 d.0.0))) t d.2)) (record { which = u32_takes ws a.0 a.1; of_target = u8_takes a.0.1 b.0 b.1; opening = u64_takes b.0.1 c.0 c.1; issued = epoch_takes c.0.1 d.0 d.1 })
 
   freeze_takes : (ws : Words) (t : Told) → freeze_of s ws ≡ Some t → IsGoodTold t
   unfolding freeze_of
@@ -507,7 +507,7 @@ module _ (s : Script) (names : HasNames s) where
       let b = step a.2 in
       let c = step b.2 in
       let d = step c.2 in
-      subst (λ u. IsGoodTold u) {x = Other (line.Aggregate a.0.0 b.0.0 c.0.0 d.0.0)} (same (done d.0.1 (Some (Other (line.Aggregate a.0.0 b.0.0 c.0.0 d.0.0))) t d.2)) (record { which = u32_takes ws a.0 a.1; of_target = u8_takes a.0.1 b.0 b.1; named = cont_takes s names b.0.1 c.0 c.1; issued = epoch_takes c.0.1 d.0 d.1 })
+      subst (λ u. IsGoodTold u) {x = Other (line.Aggregate a.0.0 b.0.0 c.0.0 d.0.0)} (same {x = Other (line.Aggregate a.0.0 b.0.0 c.0.0 d.0.0)} (done d.0.1 (Some (Other (line.Aggregate a.0.0 b.0.0 c.0.0 d.0.0))) t d.2)) (record { which = u32_takes ws a.0 a.1; of_target = u8_takes a.0.1 b.0 b.1; named = cont_takes s names b.0.1 c.0 c.1; issued = epoch_takes c.0.1 d.0 d.1 })
 
   down_takes : (ws : Words) (t : Told) → down_of ws ≡ Some t → IsGoodTold t
   unfolding down_of

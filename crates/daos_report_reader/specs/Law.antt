@@ -1,5 +1,5 @@
 -- Which reports are read, and which line of a text is the first bad one.
-use Rattle.std.specs.Prelude.{◌≡◌, ℕ, ◌+◌, ◌-◌, ◌^◌, ◌<◌, ◌≤◌, true, List, [], ◌∷◌, ◌++◌, length, map, take, All, Ok, Err}
+use Rattle.std.specs.Prelude.{◌≡◌, ℕ, ◌+◌, ◌-◌, ◌^◌, ◌<◌, ◌≤◌, true, List, [], ◌∷◌, ◌++◌, length, map, take, All, Result, Ok, Err}
 use Rattle.daos_base.specs.declared.answer.Answer.{Answer}
 use Rattle.daos_base.specs.declared.answer.Answer.TheVariants as answer
 use Rattle.daos_base.specs.declared.answer.Piece.{Piece}
@@ -15,7 +15,10 @@ use Rattle.daos_text.specs.Rows.{lines_text}
 use Rattle.daos_report.specs.Forms.{HasNames, IsReportOf}
 use Rattle.daos_report.specs.Reports.{report_text}
 use Rattle.daos_report_fits.specs.Marks.{ops_of, table_of}
+use Rattle.daos_report_reader.specs.declared.fault.ReportNo.{ReportNo}
+use Rattle.daos_report_reader.specs.declared.fault.ReportNo.TheVariants as no
 use Rattle.daos_report_reader.specs.Reading.{asked, reads, report_of}
+use Rattle.daos_report_reader.specs.Reads.{told_line}
 use Rattle.daos_report_fits.specs.Told.{answer_fits, is_snap, outcome_fits_in}
 
 -- ---- what is told of a script
@@ -120,3 +123,23 @@ pub record ReadsTexts : Type 0 where
   pub back : (s : Script) (q : Report) → IsReportFor s q → report_of s (report_text s q) ≡ Ok q
   pub for_script : (s : Script) (bytes : List ℕ) (q : Report) → IsNamed s → AreBytes bytes → report_of s bytes ≡ Ok q → IsReportFor s q
   pub first_bad : (s : Script) (bytes : List ℕ) (at : ℕ) → IsNamed s → AreBytes bytes → report_of s bytes ≡ Err at → IsFirstBad s bytes at
+
+-- ---- what is answered
+
+abbrev pub IsNoBadLine : ReportNo → Type 0
+IsNoBadLine no.Memory = Unit {0}
+IsNoBadLine (no.BadLine told) = ⊥
+
+-- the answer is this report, unless memory is wanting
+abbrev pub IsReadAs : Report → Result Report ReportNo → Type 0
+IsReadAs q (Ok r) = r ≡ q
+IsReadAs q (Err e) = IsNoBadLine e
+
+-- a bad line that is told is the first one of the text
+abbrev pub IsFirstTold : Script → List ℕ → ReportNo → Type 0
+IsFirstTold s bytes no.Memory = Unit {0}
+IsFirstTold s bytes (no.BadLine told) = (at : ℕ) × IsFirstBad s bytes at × (told ≡ told_line at)
+
+abbrev pub TellsFirstBad : Script → List ℕ → Result Report ReportNo → Type 0
+TellsFirstBad s bytes (Ok q) = Unit {0}
+TellsFirstBad s bytes (Err e) = IsFirstTold s bytes e

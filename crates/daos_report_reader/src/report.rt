@@ -2,7 +2,7 @@
 ghost use Rattle.std.specs.Prelude.{◌≡◌, ◌+◌, ◌^◌, ◌<◌, ◌++◌, ◌∷◌, [], IfOk, length};
 ghost use Rattle.daos_text.specs.Rows.{row_line};
 ghost use Rattle.daos_report.specs.Reports.{end_row, head_row, report_text};
-ghost use Rattle.daos_report_reader.specs.Law.{ReadsTexts};
+ghost use Rattle.daos_report_reader.specs.Law.{AreBytes, IsNamed, IsReadAs, IsReportFor, ReadsTexts, TellsFirstBad};
 ghost use Rattle.daos_report_reader.specs.Reads.{ReadsAt, told_line};
 ghost use Rattle.daos_report_words.specs.Reads.{Reads};
 ghost use Rattle.daos_report_reader.specs.Reading.{at_end, at_head, bad_at, finished, inside, next_of, report_of, row_of, step};
@@ -14,15 +14,14 @@ use daos_base::items::{Items, Memory};
 use daos_base::report::Report;
 use daos_base::script::Script;
 use daos_report_fits::marks::{Marks, table_of};
-use daos_report_fits::told::spelled;
-use daos_report_rows::rows::told_of;
+use daos_report_fits::told::told_in;
 use daos_report_words::fault::RowNo;
 use daos_text::parts::Parts;
 use itoa::Buffer;
 use std::alloc::Global;
 
 /// Where in a report a line stands.
-#[derive(Debug, Drop)]
+#[derive(Drop)]
 pub enum Stage {
     /// At the first line.
     Start,
@@ -96,9 +95,7 @@ fn row_of(
 ) -> Result<Stage, RowNo>
     ensures { Reads (λ s. s) result (row_of script.now table.now reading line.now) }
 {
-    let mut words = Parts::new(b' ', line);
-    let told = told_of(alloc, script, &mut words)?;
-    let told = spelled(alloc, script, line, told)?;
+    let told = told_in(alloc, script, line)?;
     let reading = reading.put(script, table, told)?;
     Ok(Stage::Inside(reading))
 }
@@ -204,6 +201,9 @@ fn finished(at: usize, stage: Stage) -> Result<Report, ReportNo>
 pub fn read_report(alloc: Global, bytes: &[u8], script: &Script) -> Result<Report, ReportNo>
     ensures exact { ReadsAt (λ q. q) result (report_of script.now bytes.now) }
     ensures text { IfOk result (λ q. bytes.now ≡ report_text script.now q) }
+    ensures back { (q : Report) → IsReportFor script.now q → bytes.now ≡ report_text script.now q → IsReadAs q result }
+    ensures form { IsNamed script.now → AreBytes bytes.now → IfOk result (λ q. IsReportFor script.now q) }
+    ensures first_bad { IsNamed script.now → AreBytes bytes.now → TellsFirstBad script.now bytes.now result }
 {
     let table = table_of(alloc, script)?;
     let marks = table.as_slice();
