@@ -17,12 +17,11 @@ use Rattle.daos_report_reader.specs.declared.reading.Open.{Open}
 use Rattle.daos_report_reader.specs.declared.reading.Reading.{Reading}
 use Rattle.daos_report_reader.specs.declared.report.Stage.{Stage}
 use Rattle.daos_report_reader.specs.declared.report.Stage.TheVariants.{Start, Inside, Ended, Whole}
-use Rattle.daos_report_reader.specs.declared.rows.Told.{Told}
-use Rattle.daos_report_reader.specs.declared.rows.Told.TheVariants.{Try, Cond, Got, Other}
-use Rattle.daos_report_reader.specs.Marks.{Marks, mark_at, table_of}
-use Rattle.daos_report_reader.specs.Reads.{◌>>=◌}
-use Rattle.daos_report_reader.specs.Rows.{told_of}
-use Rattle.daos_report_reader.specs.Told.{spelled, attempt_fits, answer_fits, line_fits}
+use Rattle.daos_report_rows.specs.declared.rows.Told.{Told}
+use Rattle.daos_report_rows.specs.declared.rows.Told.TheVariants.{Try, Cond, Got, Other}
+use Rattle.daos_report_fits.specs.Marks.{Marks, mark_at, table_of}
+use Rattle.daos_report_words.specs.Reads.{◌>>=◌}
+use Rattle.daos_report_fits.specs.Told.{told_in, attempt_fits, answer_fits, line_fits}
 
 -- ---- the rows of an attempt
 
@@ -66,9 +65,11 @@ lines_of lines (Some o) = lines ++ line.Try o.attempt ∷ []
 abbrev pub some_open : Attempt → Option Open
 some_open a = Some (record { attempt = a; next = 0 })
 
+abbrev pub opened : Reading → Attempt → Reading
+opened r a = record { lines = lines_of r.lines r.last; last = some_open a; next_stop = r.next_stop; down = r.down }
+
 unfoldable pub with_try : Script → List (List Marks) → Reading → Attempt → Option Reading
-with_try s table r a =
-    if attempt_fits s table a then Some (record { lines = lines_of r.lines r.last; last = some_open a; next_stop = r.next_stop; down = r.down }) else None
+with_try s table r a = if attempt_fits s table a then Some (opened r a) else None
 
 -- stops are numbered from 0
 abbrev pub next_number : ℕ → Option ℕ
@@ -140,8 +141,7 @@ at_end s r = Some (Ended (report_read s r))
 -- a line between them
 unfoldable pub row_of : Script → List (List Marks) → Reading → List ℕ → Option Stage
 row_of s table r line = do
-  read ← told_of s (parts_of 32 line)
-  told ← spelled s line read
+  told ← told_in s line
   next ← put s table r told
   Some (Inside next)
 

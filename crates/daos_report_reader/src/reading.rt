@@ -1,22 +1,22 @@
 // What was read of a report so far, and what one more row adds.
 ghost use Rattle.std.specs.Prelude.{◌≡◌, IfOk};
-ghost use Rattle.daos_report_reader.specs.Reads.{Reads};
-ghost use Rattle.daos_report_reader.specs.Reading.{asked, down_after, lines_of, put, reads, stop_after, with_cond, with_cond_last, with_got, with_got_last, with_line, with_try};
+ghost use Rattle.daos_report_words.specs.Reads.{Reads};
+ghost use Rattle.daos_report_reader.specs.Reading.{asked, asked_in, down_after, lines_of, next_number, opened, put, reads, reads_in, stop_after, with_cond, with_cond_last, with_got, with_got_last, with_line, with_try};
 
-use crate::fault::RowNo;
-use crate::marks::{Marks, mark_at};
-use crate::rows::Told;
-use crate::told::{answer_fits, attempt_fits, line_fits};
 use daos_base::answer::Answer;
 use daos_base::epoch::TargetId;
 use daos_base::id::AttemptId;
 use daos_base::items::{Items, Memory};
 use daos_base::report::{Attempt, Line, Lines};
 use daos_base::script::Script;
+use daos_report_fits::marks::{Marks, mark_at};
+use daos_report_fits::told::{answer_fits, attempt_fits, line_fits};
+use daos_report_rows::rows::Told;
+use daos_report_words::fault::RowNo;
 
 /// An attempt of which more may be told, and the least place that its next row may have: twice the
 /// number of the operation for a condition, and one more for an answer.
-#[derive(Debug, Drop)]
+#[derive(Drop)]
 pub struct Open {
     pub attempt: Attempt,
     pub next: u16,
@@ -24,7 +24,7 @@ pub struct Open {
 
 /// The lines that are whole, the attempt behind them, the number of the next stop, and the least
 /// target that is down.
-#[derive(Debug, Drop)]
+#[derive(Drop)]
 pub struct Reading {
     pub lines: Lines,
     pub last: Option<Open>,
@@ -32,24 +32,36 @@ pub struct Reading {
     pub down: Option<TargetId>,
 }
 
+fn asked_in(mark: Option<(bool, bool)>) -> bool
+    ensures { result ≡ asked_in mark }
+{
+    match mark {
+        Some((asked, _)) => asked,
+        None => false,
+    }
+}
+
+fn reads_in(mark: Option<(bool, bool)>) -> bool
+    ensures { result ≡ reads_in mark }
+{
+    match mark {
+        Some((_, reads)) => reads,
+        None => false,
+    }
+}
+
 // Whether an operation has a condition.
 fn asked(table: &[Items<Marks>], id: AttemptId, op: u8) -> bool
     ensures { result ≡ asked table.now id op }
 {
-    match mark_at(table, id, op) {
-        Some((asked, _)) => asked,
-        None => false,
-    }
+    asked_in(mark_at(table, id, op))
 }
 
 // Whether an operation reads.
 fn reads(table: &[Items<Marks>], id: AttemptId, op: u8) -> bool
     ensures { result ≡ reads table.now id op }
 {
-    match mark_at(table, id, op) {
-        Some((_, reads)) => reads,
-        None => false,
-    }
+    reads_in(mark_at(table, id, op))
 }
 
 impl Open {
@@ -82,12 +94,18 @@ impl Open {
     }
 }
 
+fn next_number(number: u32) -> Option<u32>
+    ensures { result ≡ next_number number }
+{
+    number.checked_add(1)
+}
+
 // The number of the stop behind a line.
 fn stop_after(next: Option<u32>, line: &Line) -> Option<u32>
     ensures { result ≡ stop_after next line.now }
 {
     match line {
-        Line::Stop { number, .. } => number.checked_add(1),
+        Line::Stop { number, .. } => next_number(*number),
         _ => next,
     }
 }
@@ -123,18 +141,10 @@ fn closed(lines: Lines, last: Option<Open>) -> Result<Lines, Memory>
 }
 
 impl Reading {
-    #[tactic(auto, unfolding(crate::specs::Reading::with_try))]
-    fn with_try(
-        self,
-        script: &Script,
-        table: &[Items<Marks>],
-        attempt: Attempt,
-    ) -> Result<Reading, RowNo>
-        ensures { Reads (λ r. r) result (with_try script.now table.now self attempt) }
+    // An attempt of which more may be told, behind all lines.
+    fn opened(self, attempt: Attempt) -> Result<Reading, Memory>
+        ensures { IfOk result (λ r. r ≡ opened self attempt) }
     {
-        if !attempt_fits(script, table, &attempt) {
-            return Err(RowNo::Bad);
-        }
         let Reading {
             lines,
             last,
@@ -148,6 +158,22 @@ impl Reading {
             next_stop,
             down,
         })
+    }
+
+    #[tactic(auto, unfolding(crate::specs::Reading::with_try))]
+    fn with_try(
+        self,
+        script: &Script,
+        table: &[Items<Marks>],
+        attempt: Attempt,
+    ) -> Result<Reading, RowNo>
+        ensures { Reads (λ r. r) result (with_try script.now table.now self attempt) }
+    {
+        if attempt_fits(script, table, &attempt) {
+            Ok(self.opened(attempt)?)
+        } else {
+            Err(RowNo::Bad)
+        }
     }
 
     #[tactic(auto, unfolding(crate::specs::Reading::with_line))]
