@@ -5,7 +5,7 @@ ghost use Rattle.daos_report.specs.Reports.{end_row, head_row, report_text};
 ghost use Rattle.daos_report_reader.specs.Law.{AreBytes, IsNamed, IsReadAs, IsReportFor, ReadsTexts, TellsFirstBad};
 ghost use Rattle.daos_report_reader.specs.Reads.{ReadsAt, told_line};
 ghost use Rattle.daos_report_words.specs.Reads.{Reads};
-ghost use Rattle.daos_report_reader.specs.Reading.{at_end, at_head, bad_at, finished, inside, next_of, report_of, row_of, step};
+ghost use Rattle.daos_report_reader.specs.Reading.{at_end, at_head, bad_at, finished, inside, next_of, put_row, report_of, row_of, step};
 
 use crate::fault::ReportNo;
 use crate::reading::Reading;
@@ -15,6 +15,7 @@ use daos_base::report::Report;
 use daos_base::script::Script;
 use daos_report_fits::marks::{Marks, table_of};
 use daos_report_fits::told::told_in;
+use daos_report_rows::rows::Told;
 use daos_report_words::fault::RowNo;
 use daos_text::parts::Parts;
 use itoa::Buffer;
@@ -84,6 +85,19 @@ fn at_end(script: &Script, reading: Reading) -> Result<Stage, RowNo>
     }))
 }
 
+// What a line between them tells.
+fn put_row(
+    script: &Script,
+    table: &[Items<Marks>],
+    reading: Reading,
+    told: Told,
+) -> Result<Stage, RowNo>
+    ensures { Reads (λ s. s) result (put_row script.now table.now reading told) }
+{
+    let reading = reading.put(script, table, told)?;
+    Ok(Stage::Inside(reading))
+}
+
 // A line between them.
 #[tactic(auto, unfolding(crate::specs::Reading::row_of))]
 fn row_of(
@@ -96,8 +110,7 @@ fn row_of(
     ensures { Reads (λ s. s) result (row_of script.now table.now reading line.now) }
 {
     let told = told_in(alloc, script, line)?;
-    let reading = reading.put(script, table, told)?;
-    Ok(Stage::Inside(reading))
+    put_row(script, table, reading, told)
 }
 
 fn inside(
