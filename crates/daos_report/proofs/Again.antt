@@ -58,7 +58,7 @@ unfolding number_in
 no_number n e = cc
 
 -- a number is no dash
-no_dash : (n : ℕ) → n < 2 ^ 64 → bytes_eq (decimal n) (codes "-") ≡ false
+pub no_dash : (n : ℕ) → n < 2 ^ 64 → bytes_eq (decimal n) (codes "-") ≡ false
 no_dash n lt = go (bytes_eq (decimal n) (codes "-")) refl
   where
     go : (b : Bool) → bytes_eq (decimal n) (codes "-") ≡ b → bytes_eq (decimal n) (codes "-") ≡ false
@@ -233,7 +233,7 @@ then_rows s r t u (row ∷ rows) more e f = go (with_row s r row) refl e (λ v h
     go None h e ih = absurd cc
     go (Some v) h e ih = rw h (ih v e)
 
-until_and_after : (op : ℕ) (conds : List (ℕ × Bool)) → conds_until op conds ++ conds_after op conds ≡ conds
+pub until_and_after : (op : ℕ) (conds : List (ℕ × Bool)) → conds_until op conds ++ conds_after op conds ≡ conds
 until_and_after op [] = refl
 until_and_after op (c ∷ cs) = go (leb c.0 op) (until_and_after op cs)
   where

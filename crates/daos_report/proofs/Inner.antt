@@ -47,7 +47,7 @@ pub all_append : {A : Type 0} (P : A → Type 0) (xs ys : List A) → AllByRecur
 all_append P [] ys p q = q
 all_append P (x ∷ xs) ys p q = (p.0, all_append P xs ys p.1 q)
 
-u8_inner : (n : ℕ) → n < 2 ^ 8 → IsWord (decimal n)
+pub u8_inner : (n : ℕ) → n < 2 ^ 8 → IsWord (decimal n)
 u8_inner n lt = IsWord-decimal n (omega arith)
 
 u16_inner : (n : ℕ) → n < 2 ^ 16 → IsWord (decimal n)
@@ -104,7 +104,7 @@ keys_inner : (ks : List (List ℕ)) → AllByRecursion IsKey ks → AllByRecursi
 keys_inner [] h = tt
 keys_inner (k ∷ ks) h = (IsWord-from_key k h.0, keys_inner ks h.1)
 
-answer_inner : (a : Answer) → IsAnswer a → AllByRecursion IsWord (answer_words a)
+pub answer_inner : (a : Answer) → IsAnswer a → AllByRecursion IsWord (answer_words a)
 answer_inner (answer.Bytes bytes) h = (refl, (value_inner bytes, tt))
 answer_inner (answer.Parts pieces) h = (refl, pieces_inner pieces (recursion_from_All IsPiece pieces h))
 answer_inner (answer.Names keys) h = (refl, keys_inner keys (recursion_from_All IsKey keys h))
@@ -194,11 +194,11 @@ outcome_inner s (outcome.Unknown target) lt = (refl, (u8_inner target lt, tt))
 
 -- ---- rows
 
-try_inner : (s : Script) (a : Attempt) → IsAttemptOf s a → IsRow (try_row s a)
+pub try_inner : (s : Script) (a : Attempt) → IsAttemptOf s a → IsRow (try_row s a)
 try_inner s a h =
     (refl, all_append IsWord (attempt_words a.id) (epoch_word a.epoch ∷ outcome_words s a.outcome) (attempt_id_inner a.id h.id) (epoch_or_none_inner a.epoch h.epoch, outcome_inner s a.outcome h.outcome))
 
-yes_inner : (b : Bool) → IsWord (yes_word b)
+pub yes_inner : (b : Bool) → IsWord (yes_word b)
 yes_inner true = refl
 yes_inner false = refl
 
@@ -206,13 +206,13 @@ conds_inner : (cs : List (ℕ × Bool)) → AllByRecursion IsCond cs → AllByRe
 conds_inner [] h = tt
 conds_inner (c ∷ cs) h = ((refl, (u8_inner c.0 h.0, (yes_inner c.1, tt))), conds_inner cs h.1)
 
-details_inner : (cs : List (ℕ × Bool)) (gs : List (ℕ × Answer)) → AllByRecursion IsCond cs → AllByRecursion IsGot gs → AllByRecursion IsRow (detail_rows cs gs)
+pub details_inner : (cs : List (ℕ × Bool)) (gs : List (ℕ × Answer)) → AllByRecursion IsCond cs → AllByRecursion IsGot gs → AllByRecursion IsRow (detail_rows cs gs)
 details_inner cs [] p q = conds_inner cs p
 details_inner cs (g ∷ gs) p q =
     all_append IsRow (map cond_row (conds_until g.0 cs)) (got_row g ∷ detail_rows (conds_after g.0 cs) gs) (conds_inner (conds_until g.0 cs) (conds_until_kept IsCond g.0 cs p))
     ((refl, (u8_inner g.0 q.0.op, answer_inner g.1 q.0.answer)), details_inner (conds_after g.0 cs) gs (conds_after_kept IsCond g.0 cs p) q.1)
 
-line_inner : (s : Script) (l : Line) → IsLineOf s l → AllByRecursion IsRow (line_rows s l)
+pub line_inner : (s : Script) (l : Line) → IsLineOf s l → AllByRecursion IsRow (line_rows s l)
 line_inner s (line.Try a) h = (try_inner s a h, details_inner a.conds a.gots (recursion_from_All IsCond a.conds h.conds) (recursion_from_All IsGot a.gots h.gots))
 line_inner s (line.Stop number target) h = ((refl, (u32_inner number h.0, (u8_inner target h.1, tt))), tt)
 line_inner s (line.Restart number target incarnation floor) h =
@@ -227,7 +227,7 @@ lines_inner : (s : Script) (ls : List Line) → AllByRecursion (IsLineOf s) ls �
 lines_inner s [] h = tt
 lines_inner s (l ∷ ls) h = all_append IsRow (line_rows s l) (flat_map (line_rows s) ls) (line_inner s l h.0) (lines_inner s ls h.1)
 
-end_inner : (down : Option ℕ) → IsRow (end_row down)
+pub end_inner : (down : Option ℕ) → IsRow (end_row down)
 end_inner None = (refl, (refl, tt))
 end_inner (Some target) = (refl, (refl, tt))
 

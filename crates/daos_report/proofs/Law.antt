@@ -65,7 +65,7 @@ later_rows (row ∷ rows) = rows
 abbrev report : ℕ → List Line → Option ℕ → Report
 report targets lines down = record { targets = targets; lines = lines; down = down }
 
-same_reports : (q r : Report) → q.targets ≡ r.targets → q.lines ≡ r.lines → q.down ≡ r.down → q ≡ r
+pub same_reports : (q r : Report) → q.targets ≡ r.targets → q.lines ≡ r.lines → q.down ≡ r.down → q ≡ r
 same_reports q r t l d = ap (λ n. report n q.lines q.down) t ∙ ap (λ ls. report r.targets ls q.down) l ∙ ap (report r.targets r.lines) d
 
 from_rows : (s : Script) (q r : Report) → IsReportOf s q → IsReportOf s r → report_rows s q ≡ report_rows s r → q ≡ r

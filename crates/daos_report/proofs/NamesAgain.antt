@@ -26,27 +26,27 @@ use Rattle.daos_report.proofs.Keys.{key_unslashed}
 use Rattle.daos_report.proofs.Reading.{cont_of, decl_of, path_in, path_of_names, path_of}
 
 -- some element of a list has a property
-abbrev Holds : {A : Type 0} → (A → Type 0) → List A → Type 0
+abbrev pub Holds : {A : Type 0} → (A → Type 0) → List A → Type 0
 Holds P [] = ⊥
 Holds P (x ∷ xs) = P x ⊎ Holds P xs
 
-Holds-from_Any : {A : Type 0} (P : A → Type 0) (xs : List A) → Any P xs → Holds P xs
+pub Holds-from_Any : {A : Type 0} (P : A → Type 0) (xs : List A) → Any P xs → Holds P xs
 Holds-from_Any P [] (k, x, lt, is, p) = absurd (omega arith)
 Holds-from_Any P (y ∷ ys) (zero, x, lt, is, p) = inl (subst P (sym is) p)
 Holds-from_Any P (y ∷ ys) (suc k, x, lt, is, p) = inr (Holds-from_Any P ys (k, x, omega arith, is, p))
 
-same_self : (w : List ℕ) → same_key w w ≡ true
+pub same_self : (w : List ℕ) → same_key w w ≡ true
 same_self w = (bytes_decides w w).1 refl
 
 -- a name that differs from all of a list differs from each
-differs : {A : Type 0} (name : A → List ℕ) (v w : List ℕ) (xs : List A) → AllByRecursion (λ y. same_key v y ≡ false) (map name xs) → Holds (λ x. name x ≡ w) xs → same_key v w ≡ false
+pub differs : {A : Type 0} (name : A → List ℕ) (v w : List ℕ) (xs : List A) → AllByRecursion (λ y. same_key v y ≡ false) (map name xs) → Holds (λ x. name x ≡ w) xs → same_key v w ≡ false
 differs name v w [] h none = absurd none
 differs name v w (x ∷ xs) h (inl is) = subst (λ z. same_key v z ≡ false) is h.0
 differs name v w (x ∷ xs) h (inr rest) = differs name v w xs h.1 rest
 
 -- ---- containers
 
-same_cont : (a b : ContId) → eqb a.0 b.0 ≡ true → a ≡ b
+pub same_cont : (a b : ContId) → eqb a.0 b.0 ≡ true → a ≡ b
 same_cont a b e = let number : a.0 ≡ b.0 = eqb-true a.0 b.0 e in let made : ℕ → ContId = λ n. record { 0 = n } in ap made number
 
 not_same_cont : (a b : ContId) → a ≡ b → eqb a.0 b.0 ≡ false → ⊥
@@ -103,16 +103,16 @@ same_class a b e = sym (class_again a) ∙ ap class_of_number e ∙ class_again 
 abbrev object : Class → ℕ → ObjId
 object class number = record { class = class; number = number }
 
-same_obj : (a b : ObjId) → same_object a b ≡ true → a ≡ b
+pub same_obj : (a b : ObjId) → same_object a b ≡ true → a ≡ b
 same_obj a b e =
     let p = and_parts (eqb (class_number a.class) (class_number b.class)) (eqb a.number b.number) e in
     ap (λ c. object c a.number) (same_class a.class b.class (eqb-true _ _ p.0)) ∙ ap (object b.class) (eqb-true _ _ p.1)
 
 -- a declaration of an object of a container
-abbrev Declares : ContId → ObjId → ObjDecl → Type 0
+abbrev pub Declares : ContId → ObjId → ObjDecl → Type 0
 Declares cont obj d = (d.cont ≡ cont) × (d.id ≡ obj)
 
-abbrev is_decl : ContId → ObjId → ObjDecl → Bool
+abbrev pub is_decl : ContId → ObjId → ObjDecl → Bool
 is_decl cont obj d = eqb d.cont.0 cont.0 && same_object d.id obj
 
 same_number : (n : ℕ) → eqb n n ≡ true
@@ -123,12 +123,12 @@ is_decl-self d =
     and_from (eqb d.cont.0 d.cont.0) (same_object d.id d.id) (same_number d.cont.0)
     (and_from (eqb (class_number d.id.class) (class_number d.id.class)) (eqb d.id.number d.id.number) (same_number (class_number d.id.class)) (same_number d.id.number))
 
-not_declared : (cont : ContId) (obj : ObjId) (d : ObjDecl) → Declares cont obj d → is_decl cont obj d ≡ false → ⊥
+pub not_declared : (cont : ContId) (obj : ObjId) (d : ObjDecl) → Declares cont obj d → is_decl cont obj d ≡ false → ⊥
 not_declared cont obj d is e =
     let yes : is_decl cont obj d ≡ true = subst (λ o. is_decl cont o d ≡ true) is.1 (subst (λ c. is_decl c d.id d ≡ true) is.0 (is_decl-self d)) in
     absurd cc
 
-obj_word_stands : (ds : List ObjDecl) (cont : ContId) (obj : ObjId) → Holds (Declares cont obj) ds → Holds (λ d. obj_name d ≡ obj_word ds cont obj) ds
+pub obj_word_stands : (ds : List ObjDecl) (cont : ContId) (obj : ObjId) → Holds (Declares cont obj) ds → Holds (λ d. obj_name d ≡ obj_word ds cont obj) ds
 obj_word_stands [] cont obj none = absurd none
 obj_word_stands (d ∷ ds) cont obj h = go (is_decl cont obj d) refl h (obj_word_stands ds cont obj)
   where
@@ -180,10 +180,10 @@ obj_unslashed (d ∷ ds) cont obj h = go (is_decl cont obj d) (obj_unslashed ds 
     go true rest = key_unslashed d.name h.0
     go false rest = rest
 
-last_part : (w : List ℕ) → AllByRecursion (λ b. eqb b 47 ≡ false) w → parts_of 47 w ≡ w ∷ []
+pub last_part : (w : List ℕ) → AllByRecursion (λ b. eqb b 47 ≡ false) w → parts_of 47 w ≡ w ∷ []
 last_part w h = slice_split_none (λ b. eqb b 47) w (All-from_recursion (λ b. eqb b 47 ≡ false) w h)
 
-next_part : (w rest : List ℕ) → AllByRecursion (λ b. eqb b 47 ≡ false) w → parts_of 47 (w ++ 47 ∷ rest) ≡ w ∷ parts_of 47 rest
+pub next_part : (w rest : List ℕ) → AllByRecursion (λ b. eqb b 47 ≡ false) w → parts_of 47 (w ++ 47 ∷ rest) ≡ w ∷ parts_of 47 rest
 next_part w rest h = slice_split_at (λ b. eqb b 47) w 47 rest (All-from_recursion (λ b. eqb b 47 ≡ false) w h) refl
 
 abbrev path_at : ContId → Option ObjId → Option (List ℕ) → Option (List ℕ) → Path
@@ -192,10 +192,10 @@ path_at cont obj dkey akey = record { cont = cont; obj = obj; dkey = dkey; akey 
 names_again : (s : Script) (cont : ContId) (names : List (List ℕ)) (p : Path) → IsContOf s cont → path_in s cont names ≡ Some p → path_of_names s (cont_word s.conts cont ∷ names) ≡ Some p
 names_again s cont names p h e = rw (cont_again s cont h) e
 
-keys_of_conts : (s : Script) → HasNames s → (cont : ContId) → AllByRecursion (λ b. eqb b 47 ≡ false) (cont_word s.conts cont)
+pub keys_of_conts : (s : Script) → HasNames s → (cont : ContId) → AllByRecursion (λ b. eqb b 47 ≡ false) (cont_word s.conts cont)
 keys_of_conts s h cont = cont_unslashed s.conts cont (recursion_from_All (λ d. IsKey d.name) s.conts h.cont_keys)
 
-keys_of_objs : (s : Script) → HasNames s → (cont : ContId) (obj : ObjId) → AllByRecursion (λ b. eqb b 47 ≡ false) (obj_word s.objs cont obj)
+pub keys_of_objs : (s : Script) → HasNames s → (cont : ContId) (obj : ObjId) → AllByRecursion (λ b. eqb b 47 ≡ false) (obj_word s.objs cont obj)
 keys_of_objs s h cont obj = obj_unslashed s.objs cont obj (recursion_from_All (λ d. IsKey d.name) s.objs h.obj_keys)
 
 found_obj : (s : Script) (cont : ContId) (obj : ObjId) → HasNames s → IsObjOf s cont obj → IsFound (decl_of s.objs (obj_word s.objs cont obj)) obj

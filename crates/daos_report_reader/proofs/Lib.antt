@@ -1,4 +1,9 @@
-pub mod Hex
+pub mod Again
+pub mod Answered
+pub mod Back
+pub mod Bad
+pub mod Kept
 pub mod Loop
 pub mod Order
 pub mod Sound
+pub mod Takes

@@ -10,7 +10,7 @@ use Rattle.daos_report_reader.specs.declared.fault.ReportNo.{ReportNo}
 use Rattle.daos_report_reader.specs.declared.fault.ReportNo.TheVariants as no
 use Rattle.daos_report_reader.specs.declared.report.Stage.{Stage}
 use Rattle.daos_report_reader.specs.declared.report.Stage.TheVariants.{Start}
-use Rattle.daos_report_reader.specs.Marks.{Marks, table_of}
+use Rattle.daos_report_fits.specs.Marks.{Marks, table_of}
 use Rattle.daos_report_reader.specs.Reads.{FailsAt}
 use Rattle.daos_report_reader.specs.Reading.{step, finished, report_of}
 
@@ -32,7 +32,7 @@ module _ (s : Script) (bytes : List ℕ) (marks : List (List Marks)) (are : mark
   pub fault_of : (e : ReportNo) (at : ℕ) (stage : Stage) (line : List ℕ) (lines : List (List ℕ)) → FailsAt e (step s marks at stage line) → steps (step s marks) at stage (line ∷ lines) ≡ all_steps
       → FailsAt e (report_of s bytes)
   fault_of no.Memory at stage line lines h e = tt
-  fault_of (no.BadLine n) at stage line lines h e = whole (Err n) (sym (steps-cons_err (step s marks) at stage line lines n h) ∙ e)
+  fault_of (no.BadLine n) at stage line lines h e = (h.0, whole (Err h.0) (sym (steps-cons_err (step s marks) at stage line lines h.0 h.1) ∙ e), h.2)
 
   -- after the last line
   pub end_of : (at next : ℕ) (stage : Stage) → steps (step s marks) next stage [] ≡ all_steps → at ≡ length (parts_of 10 bytes) → report_of s bytes ≡ finished at stage

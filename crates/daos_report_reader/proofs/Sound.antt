@@ -1,6 +1,5 @@
 -- What is read is spelled as the text says.
 use Rattle.std.proofs.Common.{◌≡◌, ℕ, ◌+◌, ◌*◌, ◌≤◌, Bool, true, false, cond, ◌&&◌, leb, eqb, List, [], ◌∷◌, ◌++◌, length, flat_map, Option, Some, None, Result, Ok, Err, refl, sym, ap, ◌∙◌, subst, append_assoc, append-nil, arith}
-use Rattle.std.specs.Prelude.{IfOk}
 use Rattle.std.specs.Str.{bytes_eq}
 use Rattle.std.specs.List.{AllByRecursion}
 use Rattle.std.proofs.lemmas.Bool.Decides.{nat_tests}
@@ -22,40 +21,39 @@ use Rattle.daos_report_reader.specs.declared.reading.Open.{Open}
 use Rattle.daos_report_reader.specs.declared.reading.Reading.{Reading}
 use Rattle.daos_report_reader.specs.declared.report.Stage.{Stage}
 use Rattle.daos_report_reader.specs.declared.report.Stage.TheVariants.{Start, Inside, Ended, Whole}
-use Rattle.daos_report_reader.specs.declared.rows.Told.{Told}
-use Rattle.daos_report_reader.specs.declared.rows.Told.TheVariants.{Try, Cond, Got, Other}
-use Rattle.daos_report_reader.specs.Marks.{Marks, ops_of, table_of}
-use Rattle.daos_report_reader.specs.declared.fault.ReportNo.{ReportNo}
-use Rattle.daos_report_reader.specs.Reads.{◌>>=◌, ReadsAt}
+use Rattle.daos_report_rows.specs.declared.rows.Told.{Told}
+use Rattle.daos_report_rows.specs.declared.rows.Told.TheVariants.{Try, Cond, Got, Other}
+use Rattle.daos_report_fits.specs.Marks.{Marks, ops_of, table_of}
+use Rattle.daos_report_words.specs.Reads.{◌>>=◌}
 use Rattle.daos_report_reader.specs.Reading.{asked, reads, cond_added, got_added, with_cond, with_got, lines_of, some_open, with_try, stop_after, down_after, with_line, reopened, with_cond_last, with_got_last, put, nothing_read, at_head, report_read, at_end, row_of, next_of, bad_at, or_bad_line, step, finished, report_of}
-use Rattle.daos_report_reader.specs.Rows.{told_of}
-use Rattle.daos_report_reader.specs.Told.{told_text, spelled, is_bare, outcome_fits_in, attempt_fits, answer_fits, line_fits}
+use Rattle.daos_report_rows.specs.Rows.{told_of}
+use Rattle.daos_report_fits.specs.Told.{told_in, told_text, spelled, is_bare, outcome_fits_in, attempt_fits, answer_fits, line_fits}
 use Rattle.daos_report_reader.proofs.Order.{Below, GotBelow, details-cond, details-got, all-below, all-push}
 
 -- ---- tests that were passed
 
-tested : {A : Type 0} (b : Bool) (x y : A) → cond b (Some x) None ≡ Some y → (b ≡ true) × (x ≡ y)
+pub tested : {A : Type 0} (b : Bool) (x y : A) → cond b (Some x) None ≡ Some y → (b ≡ true) × (x ≡ y)
 tested true x y e = (refl, cc)
 tested false x y e = absurd cc
 
-both : (a b : Bool) → (a && b) ≡ true → (a ≡ true) × (b ≡ true)
+pub both : (a b : Bool) → (a && b) ≡ true → (a ≡ true) × (b ≡ true)
 both true b e = (refl, e)
 both false b e = absurd cc
 
 same_bytes : (a b : List ℕ) → bytes_eq a b ≡ true → a ≡ b
 same_bytes a b e = (bytes_eq-Decides a b).0 e
 
-at_most : (a b : ℕ) → leb a b ≡ true → a ≤ b
+pub at_most : (a b : ℕ) → leb a b ≡ true → a ≤ b
 at_most a b e = grind (arith, nat_tests)
 
 no_length : (n : ℕ) → eqb n 0 ≡ true → n ≡ 0
 no_length n e = grind (arith, nat_tests)
 
-empty : {A : Type 0} (xs : List A) → eqb (length xs) 0 ≡ true → xs ≡ []
+pub empty : {A : Type 0} (xs : List A) → eqb (length xs) 0 ≡ true → xs ≡ []
 empty [] e = refl
 empty (x ∷ xs) e = let none : length (x ∷ xs) ≡ 0 = no_length (length (x ∷ xs)) e in absurd (omega (arith, none))
 
-then_some : {A B : Type 0} (o : Option A) (f : A → Option B) (y : B) → (o >>= f) ≡ Some y → (x : A) × (o ≡ Some x) × (f x ≡ Some y)
+pub then_some : {A B : Type 0} (o : Option A) (f : A → Option B) (y : B) → (o >>= f) ≡ Some y → (x : A) × (o ≡ Some x) × (f x ≡ Some y)
 then_some None f y e = absurd cc
 then_some (Some x) f y e = (x, refl, e)
 
@@ -65,13 +63,13 @@ rows_append : (rs ss : List Words) → rows_text (rs ++ ss) ≡ rows_text rs ++ 
 rows_append [] ss = refl
 rows_append (r ∷ rs) ss = ap (λ t. row_line r ++ 10 ∷ t) (rows_append rs ss) ∙ sym (append_assoc (row_line r) (10 ∷ rows_text rs) (rows_text ss))
 
-lines_append : (ls ms : List (List ℕ)) → lines_text (ls ++ ms) ≡ lines_text ls ++ lines_text ms
+pub lines_append : (ls ms : List (List ℕ)) → lines_text (ls ++ ms) ≡ lines_text ls ++ lines_text ms
 lines_append [] ms = refl
 lines_append (l ∷ ls) ms = ap (λ t. l ++ 10 ∷ t) (lines_append ls ms) ∙ sym (append_assoc l (10 ∷ lines_text ls) (lines_text ms))
 
 module _ (s : Script) where
   -- the text of lines
-  abbrev told : List Line → List ℕ
+  abbrev pub told : List Line → List ℕ
   told ls = rows_text (flat_map (line_rows s) ls)
 
   told-push : (ls : List Line) (l : Line) → told (ls ++ l ∷ []) ≡ told ls ++ rows_text (line_rows s l)
@@ -83,11 +81,11 @@ module _ (s : Script) where
     pub conds : AllByRecursion (Below o.next) o.attempt.conds
     pub gots : AllByRecursion (GotBelow o.next) o.attempt.gots
 
-  abbrev IsLast : Option Open → Type 0
+  abbrev pub IsLast : Option Open → Type 0
   IsLast None = Unit {0}
   IsLast (Some o) = IsOrdered o
 
-  cond_more : (table : List (List Marks)) (o p : Open) (c : ℕ × Bool) → IsOrdered o → with_cond table o c ≡ Some p
+  pub cond_more : (table : List (List Marks)) (o p : Open) (c : ℕ × Bool) → IsOrdered o → with_cond table o c ≡ Some p
       → IsOrdered p × (rows_text (line_rows s (line.Try p.attempt)) ≡ rows_text (line_rows s (line.Try o.attempt)) ++ rows_text (cond_row c ∷ []))
   unfolding with_cond
   cond_more table o p c h e =
@@ -100,7 +98,7 @@ module _ (s : Script) where
       let P : Open → Type 0 = λ q. IsOrdered q × (rows_text (line_rows s (line.Try q.attempt)) ≡ rows_text (line_rows s (line.Try o.attempt)) ++ rows_text (cond_row c ∷ [])) in
       subst P t.1 (record { conds = conds; gots = gots }, rows)
 
-  got_more : (table : List (List Marks)) (o p : Open) (g : ℕ × Answer) → IsOrdered o → with_got table o g ≡ Some p
+  pub got_more : (table : List (List Marks)) (o p : Open) (g : ℕ × Answer) → IsOrdered o → with_got table o g ≡ Some p
       → IsOrdered p × (rows_text (line_rows s (line.Try p.attempt)) ≡ rows_text (line_rows s (line.Try o.attempt)) ++ rows_text (got_row g ∷ []))
   unfolding with_got
   got_more table o p g h e =
@@ -116,7 +114,7 @@ module _ (s : Script) where
       subst P t.1 (record { conds = more; gots = gots }, rows)
 
   -- what was read, with a row more
-  abbrev Adds : Reading → List ℕ → Reading → Type 0
+  abbrev pub Adds : Reading → List ℕ → Reading → Type 0
   Adds r text next = IsLast next.last × (told (lines_of next.lines next.last) ≡ told (lines_of r.lines r.last) ++ text)
 
   try_adds : (table : List (List Marks)) (r next : Reading) (a : Attempt) → with_try s table r a ≡ Some next → Adds r (rows_text (try_row s a ∷ [])) next
@@ -173,7 +171,7 @@ module _ (s : Script) where
           let more = got_more table o t.0 g h t.1 in
           subst (Adds r (rows_text (got_row g ∷ []))) (same_reading (reopened r t.0) next t.2) (last_adds r o t.0 (rows_text (got_row g ∷ [])) i more.0 more.1)
 
-  put_adds : (table : List (List Marks)) (r next : Reading) (t : Told) → IsLast r.last → put s table r t ≡ Some next → Adds r (told_text s t) next
+  pub put_adds : (table : List (List Marks)) (r next : Reading) (t : Told) → IsLast r.last → put s table r t ≡ Some next → Adds r (told_text s t) next
   put_adds table r next (Try a) h e = try_adds table r next a e
   put_adds table r next (Cond c) h e = cond_adds table r next c h e
   put_adds table r next (Got g) h e = got_adds table r next g h e
@@ -181,11 +179,11 @@ module _ (s : Script) where
 
   -- ---- lines
 
-  abbrev head : List ℕ
+  abbrev pub head : List ℕ
   head = rows_text (head_row s.targets ∷ [])
 
   -- the lines so far spell what was read
-  abbrev IsRead : Stage → List (List ℕ) → Type 0
+  abbrev pub IsRead : Stage → List (List ℕ) → Type 0
   IsRead Start done = done ≡ []
   IsRead (Inside r) done = IsLast r.last × (lines_text done ≡ head ++ told (lines_of r.lines r.last))
   IsRead (Ended q) done = lines_text done ≡ report_text s q
@@ -199,7 +197,7 @@ module _ (s : Script) where
       let text : lines_text (done ++ l ∷ []) ≡ head ++ told [] = ap (λ d. lines_text (d ++ l ∷ [])) f ∙ ap (λ x. x ++ 10 ∷ []) (sym same) ∙ sym (append-nil head) in
       subst (λ x. IsRead x (done ++ l ∷ [])) t.1 (tt, text)
 
-  end_read : (r : Reading) (stage : Stage) (done : List (List ℕ)) (l : List ℕ) → l ≡ row_line (end_row r.down) → at_end s r ≡ Some stage
+  pub end_read : (r : Reading) (stage : Stage) (done : List (List ℕ)) (l : List ℕ) → l ≡ row_line (end_row r.down) → at_end s r ≡ Some stage
       → lines_text done ≡ head ++ told (lines_of r.lines r.last) → IsRead stage (done ++ l ∷ [])
   unfolding at_end report_text report_rows
   end_read r stage done l i e f =
@@ -209,16 +207,22 @@ module _ (s : Script) where
       let same : Ended (report_read s r) ≡ stage = cc in
       subst (λ x. IsRead x (done ++ l ∷ [])) same text
 
+  -- what a line tells is what its words tell, and spelled as the line
+  pub told_in_says : (l : List ℕ) (t : Told) → told_in s l ≡ Some t → (told_of s (parts_of 32 l) ≡ Some t) × (told_text s t ≡ l ++ 10 ∷ [])
+  unfolding told_in
+  told_in_says l t e =
+      let a = then_some (told_of s (parts_of 32 l)) (λ read. spelled s l read) t e in
+      let b = tested (bytes_eq (told_text s a.0) (l ++ 10 ∷ [])) a.0 t a.2 in
+      (a.1 ∙ ap (λ x. Some x) b.1, ap (told_text s) (sym b.1) ∙ same_bytes (told_text s a.0) (l ++ 10 ∷ []) b.0)
+
   row_read : (table : List (List Marks)) (r : Reading) (stage : Stage) (done : List (List ℕ)) (l : List ℕ) → row_of s table r l ≡ Some stage → IsLast r.last
       → lines_text done ≡ head ++ told (lines_of r.lines r.last) → IsRead stage (done ++ l ∷ [])
   unfolding row_of
   row_read table r stage done l e h f =
-      let a = then_some (told_of s (parts_of 32 l)) (λ read. spelled s l read >>= λ t. put s table r t >>= λ next. Some (Inside next)) stage e in
-      let b = then_some (spelled s l a.0) (λ t. put s table r t >>= λ next. Some (Inside next)) stage a.2 in
+      let b = then_some (told_in s l) (λ t. put s table r t >>= λ next. Some (Inside next)) stage e in
       let c = then_some (put s table r b.0) (λ next. Some (Inside next)) stage b.2 in
-      let t = tested (bytes_eq (told_text s a.0) (l ++ 10 ∷ [])) a.0 b.0 b.1 in
       let adds = put_adds table r c.0 b.0 h c.1 in
-      let line : l ++ 10 ∷ [] ≡ told_text s b.0 = sym (same_bytes (told_text s a.0) (l ++ 10 ∷ []) t.0) ∙ ap (told_text s) t.1 in
+      let line : l ++ 10 ∷ [] ≡ told_text s b.0 = sym (told_in_says l b.0 b.1).1 in
       let text = lines_append done (l ∷ []) ∙ ap (λ x. lines_text done ++ x) line ∙ ap (λ x. x ++ told_text s b.0) f
       ∙ append_assoc head (told (lines_of r.lines r.last)) (told_text s b.0) ∙ ap (λ x. head ++ x) (sym adds.1) in
       let same : Inside c.0 ≡ stage = some_stage (Inside c.0) stage c.2 in
@@ -247,7 +251,7 @@ module _ (s : Script) where
       go None i e = absurd cc
       go (Some x) i e = let same : x ≡ next = cc in next_read table stage next done l (i ∙ ap (λ y. Some y) same) h
 
-  steps_read : (table : List (List Marks)) (at : ℕ) (stage last : Stage) (done ls : List (List ℕ)) → steps (step s table) at stage ls ≡ Ok last → IsRead stage done → IsRead last (done ++ ls)
+  pub steps_read : (table : List (List Marks)) (at : ℕ) (stage last : Stage) (done ls : List (List ℕ)) → steps (step s table) at stage ls ≡ Ok last → IsRead stage done → IsRead last (done ++ ls)
   unfolding steps
   steps_read table at stage last done [] e h = let same : stage ≡ last = cc in subst (IsRead last) (sym (append-nil done)) (subst (λ x. IsRead x done) same h)
   steps_read table at stage last done (l ∷ ls) e h = go (step s table at stage l) refl e (λ x i k. steps_read table (at + 1) x last (done ++ l ∷ []) ls k (step_read table at stage x done l i h))
@@ -273,7 +277,3 @@ module _ (s : Script) where
       go : (o : Result Stage ℕ) → steps (step s (table_of s)) 1 Start (parts_of 10 bytes) ≡ o → result.◌>>=◌ o (finished (length (parts_of 10 bytes))) ≡ Ok q → bytes ≡ report_text s q
       go (Err n) i e = absurd cc
       go (Ok stage) i e = whole stage e (steps_read (table_of s) 1 Start stage [] (parts_of 10 bytes) i refl)
-
-  pub text_if_read : (bytes : List ℕ) (r : Result Report ReportNo) → ReadsAt (λ (q : Report). q) r (report_of s bytes) → IfOk r (λ q. bytes ≡ report_text s q)
-  text_if_read bytes (Ok q) h = read_is_spelled bytes q h
-  text_if_read bytes (Err e) h = tt

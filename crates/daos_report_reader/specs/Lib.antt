@@ -1,10 +1,3 @@
-pub mod Answers
-pub mod Marks
-pub mod Names
-pub mod Outcomes
+pub mod Law
 pub mod Reading
 pub mod Reads
-pub mod Rows
-pub mod Told
-pub mod Words
-pub mod Law

@@ -17,12 +17,11 @@ use Rattle.daos_report_reader.specs.declared.reading.Open.{Open}
 use Rattle.daos_report_reader.specs.declared.reading.Reading.{Reading}
 use Rattle.daos_report_reader.specs.declared.report.Stage.{Stage}
 use Rattle.daos_report_reader.specs.declared.report.Stage.TheVariants.{Start, Inside, Ended, Whole}
-use Rattle.daos_report_reader.specs.declared.rows.Told.{Told}
-use Rattle.daos_report_reader.specs.declared.rows.Told.TheVariants.{Try, Cond, Got, Other}
-use Rattle.daos_report_reader.specs.Marks.{Marks, mark_at, table_of}
-use Rattle.daos_report_reader.specs.Reads.{◌>>=◌}
-use Rattle.daos_report_reader.specs.Rows.{told_of}
-use Rattle.daos_report_reader.specs.Told.{spelled, attempt_fits, answer_fits, line_fits}
+use Rattle.daos_report_rows.specs.declared.rows.Told.{Told}
+use Rattle.daos_report_rows.specs.declared.rows.Told.TheVariants.{Try, Cond, Got, Other}
+use Rattle.daos_report_fits.specs.Marks.{Marks, mark_at, table_of}
+use Rattle.daos_report_words.specs.Reads.{◌>>=◌}
+use Rattle.daos_report_fits.specs.Told.{told_in, attempt_fits, answer_fits, line_fits}
 
 -- ---- the rows of an attempt
 
@@ -48,13 +47,19 @@ abbrev pub got_added : Open → ℕ × Answer → Open
 got_added o got = record { attempt = record o.attempt { gots = o.attempt.gots ++ got ∷ [] }; next = got.0 * 2 + 2 }
 
 -- a condition of an operation that has one; rows come in order of operations, a condition before the answer of one operation
+abbrev pub takes_cond : List (List Marks) → Open → ℕ → Bool
+takes_cond table o op = asked table o.attempt.id op && nat_le o.next (op * 2)
+
 unfoldable pub with_cond : List (List Marks) → Open → ℕ × Bool → Option Open
-with_cond table o cond = if asked table o.attempt.id cond.0 && nat_le o.next (cond.0 * 2) then Some (cond_added o cond) else None
+with_cond table o cond = if takes_cond table o cond.0 then Some (cond_added o cond) else None
 
 -- an answer of an operation that reads
+abbrev pub takes_got : List (List Marks) → Open → ℕ × Answer → Bool
+takes_got table o got = reads table o.attempt.id got.0 && nat_le o.next (got.0 * 2 + 1) && answer_fits got.1
+
 unfoldable pub with_got : List (List Marks) → Open → ℕ × Answer → Option Open
 with_got table o got =
-    if reads table o.attempt.id got.0 && nat_le o.next (got.0 * 2 + 1) && answer_fits got.1 then Some (got_added o got) else None
+    if takes_got table o got then Some (got_added o got) else None
 
 -- ---- rows
 
@@ -66,9 +71,11 @@ lines_of lines (Some o) = lines ++ line.Try o.attempt ∷ []
 abbrev pub some_open : Attempt → Option Open
 some_open a = Some (record { attempt = a; next = 0 })
 
+abbrev pub opened : Reading → Attempt → Reading
+opened r a = record { lines = lines_of r.lines r.last; last = some_open a; next_stop = r.next_stop; down = r.down }
+
 unfoldable pub with_try : Script → List (List Marks) → Reading → Attempt → Option Reading
-with_try s table r a =
-    if attempt_fits s table a then Some (record { lines = lines_of r.lines r.last; last = some_open a; next_stop = r.next_stop; down = r.down }) else None
+with_try s table r a = if attempt_fits s table a then Some (opened r a) else None
 
 -- stops are numbered from 0
 abbrev pub next_number : ℕ → Option ℕ
@@ -97,11 +104,11 @@ down_after down (line.Snapshot name cont epoch) = down
 down_after down (line.Aggregate number target cont upto) = down
 down_after down (line.Down target) = lesser down target
 
+abbrev pub line_added : Reading → Line → Reading
+line_added r l = record { lines = lines_of r.lines r.last ++ l ∷ []; last = None; next_stop = stop_after r.next_stop l; down = down_after r.down l }
+
 unfoldable pub with_line : Script → Reading → Line → Option Reading
-with_line s r l =
-    if line_fits s r.next_stop l
-    then Some (record { lines = lines_of r.lines r.last ++ l ∷ []; last = None; next_stop = stop_after r.next_stop l; down = down_after r.down l })
-    else None
+with_line s r l = if line_fits s r.next_stop l then Some (line_added r l) else None
 
 abbrev pub reopened : Reading → Open → Reading
 reopened r o = record r { last = Some o }
@@ -137,13 +144,15 @@ report_read s r = record { targets = s.targets; lines = lines_of r.lines r.last;
 unfoldable pub at_end : Script → Reading → Option Stage
 at_end s r = Some (Ended (report_read s r))
 
+-- what a line between them tells
+abbrev pub put_row : Script → List (List Marks) → Reading → Told → Option Stage
+put_row s table r told = put s table r told >>= λ next. Some (Inside next)
+
 -- a line between them
 unfoldable pub row_of : Script → List (List Marks) → Reading → List ℕ → Option Stage
 row_of s table r line = do
-  read ← told_of s (parts_of 32 line)
-  told ← spelled s line read
-  next ← put s table r told
-  Some (Inside next)
+  told ← told_in s line
+  put_row s table r told
 
 abbrev pub inside : Script → List (List Marks) → Reading → List ℕ → Option Stage
 inside s table r line = if bytes_eq line (row_line (end_row r.down)) then at_end s r else row_of s table r line

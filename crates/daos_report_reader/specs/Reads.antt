@@ -1,34 +1,17 @@
--- What a reader of words gives: a value, or nothing where the words say none.
-use Rattle.std.specs.Prelude.{◌≡◌, ℕ, Result, Ok, Err, Option, Some, None}
-use Rattle.daos_text.specs.Rows.{Words}
+-- What the reader of a text gives: a report, or the number of the first bad line.
+use Rattle.std.specs.Prelude.{◌≡◌, ℕ, min, Result, Ok, Err}
 use Rattle.daos_report_reader.specs.declared.fault.ReportNo.{ReportNo}
-use Rattle.daos_report_reader.specs.declared.fault.ReportNo.TheVariants as report
-use Rattle.daos_report_reader.specs.declared.fault.RowNo.{RowNo}
-use Rattle.daos_report_reader.specs.declared.fault.RowNo.TheVariants as no
+use Rattle.daos_report_reader.specs.declared.fault.ReportNo.TheVariants as no
 
-infixl 10 ◌>>=◌
-abbrev pub ◌>>=◌ : {A B : Type 0} → Option A → (A → Option B) → Option B
-(Some x) >>= f = f x
-None >>= f = None
+-- a line's number as it is told: from 2^32 - 1 on it is held there
+abbrev pub told_line : ℕ → ℕ
+told_line at = min at 4294967295
 
--- what was read, and the words behind it
-abbrev pub Taken : Type 0 → Type 0
-Taken A = Option (A × Words)
-
-abbrev pub Fails : {Y : Type 0} → RowNo → Option Y → Type 0
-Fails no.Memory read = Unit {0}
-Fails no.Bad read = read ≡ None
+abbrev pub FailsAt : {Y : Type 0} → ReportNo → Result Y ℕ → Type 0
+FailsAt no.Memory read = Unit {0}
+FailsAt (no.BadLine told) read = (at : ℕ) × (read ≡ Err at) × (told ≡ told_line at)
 
 -- a result, seen by view, is what reading gives, unless memory is wanting
-abbrev pub Reads : {X Y : Type 0} → (X → Y) → Result X RowNo → Option Y → Type 0
-Reads view (Ok x) read = read ≡ Some (view x)
-Reads view (Err e) read = Fails e read
-
--- the same for a line's number
-abbrev pub FailsAt : {Y : Type 0} → ReportNo → Result Y ℕ → Type 0
-FailsAt report.Memory read = Unit {0}
-FailsAt (report.BadLine at) read = read ≡ Err at
-
 abbrev pub ReadsAt : {X Y : Type 0} → (X → Y) → Result X ReportNo → Result Y ℕ → Type 0
 ReadsAt view (Ok x) read = read ≡ Ok (view x)
 ReadsAt view (Err e) read = FailsAt e read

@@ -1,15 +1,14 @@
 // Why a text is no report.
 ghost use Rattle.std.specs.Prelude.{◌≡◌};
-ghost use Rattle.daos_report_reader.specs.declared.fault.RowNo.TheVariants.{Memory as NoMemory};
-ghost use Rattle.daos_report_reader.specs.declared.fault.ReportNo.TheVariants.{Memory as NoReportMemory};
+ghost use Rattle.daos_report_reader.specs.declared.fault.ReportNo.TheVariants.{Memory as NoMemory};
 
-use std::alloc::{AllocError, AllocFailed};
+use std::alloc::AllocError;
 use thiserror::Error;
 
 /// Why a text is no report: its first bad line, counted from 1, or want of memory.
 #[derive(Clone, Copy, Debug, PartialEq, Eq, Error)]
 pub enum ReportNo {
-    /// The first line that is none of the format.
+    /// The first line that is none of the format; 2^32 - 1 also where that is a later one.
     #[error("bad line {0}")]
     BadLine(u32),
     /// There was no memory.
@@ -18,32 +17,9 @@ pub enum ReportNo {
 }
 
 impl From<AllocError> for ReportNo {
-    ghost from_gives = { λ _ e. e ≡ NoReportMemory };
+    ghost from_gives = { λ _ e. e ≡ NoMemory };
 
     fn from(_error: AllocError) -> ReportNo {
         ReportNo::Memory
-    }
-}
-
-/// Why words say nothing.
-#[derive(Clone, Copy, Debug, PartialEq, Eq)]
-pub enum RowNo {
-    Bad,
-    Memory,
-}
-
-impl From<AllocError> for RowNo {
-    ghost from_gives = { λ _ e. e ≡ NoMemory };
-
-    fn from(_error: AllocError) -> RowNo {
-        RowNo::Memory
-    }
-}
-
-impl<T: Drop> From<AllocFailed<T>> for RowNo {
-    ghost from_gives = { λ _ e. e ≡ NoMemory };
-
-    fn from(_error: AllocFailed<T>) -> RowNo {
-        RowNo::Memory
     }
 }

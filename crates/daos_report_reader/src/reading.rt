@@ -1,22 +1,22 @@
 // What was read of a report so far, and what one more row adds.
-ghost use Rattle.std.specs.Prelude.{◌≡◌, IfOk};
-ghost use Rattle.daos_report_reader.specs.Reads.{Reads};
-ghost use Rattle.daos_report_reader.specs.Reading.{asked, down_after, lines_of, put, reads, stop_after, with_cond, with_cond_last, with_got, with_got_last, with_line, with_try};
+ghost use Rattle.std.specs.Prelude.{◌≡◌, ◌++◌, ◌∷◌, [], IfOk, Some};
+ghost use Rattle.daos_report_words.specs.Reads.{Reads};
+ghost use Rattle.daos_report_reader.specs.Reading.{asked, asked_in, cond_added, down_after, got_added, line_added, lines_of, next_number, opened, put, reads, reads_in, stop_after, takes_cond, takes_got, with_cond, with_cond_last, with_got, with_got_last, with_line, with_try};
 
-use crate::fault::RowNo;
-use crate::marks::{Marks, mark_at};
-use crate::rows::Told;
-use crate::told::{answer_fits, attempt_fits, line_fits};
 use daos_base::answer::Answer;
 use daos_base::epoch::TargetId;
 use daos_base::id::AttemptId;
 use daos_base::items::{Items, Memory};
 use daos_base::report::{Attempt, Line, Lines};
 use daos_base::script::Script;
+use daos_report_fits::marks::{Marks, mark_at};
+use daos_report_fits::told::{answer_fits, attempt_fits, line_fits};
+use daos_report_rows::rows::Told;
+use daos_report_words::fault::RowNo;
 
 /// An attempt of which more may be told, and the least place that its next row may have: twice the
 /// number of the operation for a condition, and one more for an answer.
-#[derive(Debug, Drop)]
+#[derive(Drop)]
 pub struct Open {
     pub attempt: Attempt,
     pub next: u16,
@@ -24,7 +24,7 @@ pub struct Open {
 
 /// The lines that are whole, the attempt behind them, the number of the next stop, and the least
 /// target that is down.
-#[derive(Debug, Drop)]
+#[derive(Drop)]
 pub struct Reading {
     pub lines: Lines,
     pub last: Option<Open>,
@@ -32,38 +32,81 @@ pub struct Reading {
     pub down: Option<TargetId>,
 }
 
+fn asked_in(mark: Option<(bool, bool)>) -> bool
+    ensures { result ≡ asked_in mark }
+{
+    match mark {
+        Some(mark) => mark.0,
+        None => false,
+    }
+}
+
+fn reads_in(mark: Option<(bool, bool)>) -> bool
+    ensures { result ≡ reads_in mark }
+{
+    match mark {
+        Some(mark) => mark.1,
+        None => false,
+    }
+}
+
 // Whether an operation has a condition.
 fn asked(table: &[Items<Marks>], id: AttemptId, op: u8) -> bool
     ensures { result ≡ asked table.now id op }
 {
-    match mark_at(table, id, op) {
-        Some((asked, _)) => asked,
-        None => false,
-    }
+    asked_in(mark_at(table, id, op))
 }
 
 // Whether an operation reads.
 fn reads(table: &[Items<Marks>], id: AttemptId, op: u8) -> bool
     ensures { result ≡ reads table.now id op }
 {
-    match mark_at(table, id, op) {
-        Some((_, reads)) => reads,
-        None => false,
-    }
+    reads_in(mark_at(table, id, op))
 }
 
 impl Open {
+    // Whether the row of a condition may come next.
+    fn takes_cond(&self, table: &[Items<Marks>], op: u8) -> bool
+        ensures { result ≡ takes_cond table.now self.now op }
+    {
+        asked(table, self.attempt.id, op) && self.next <= u16::from(op) * 2
+    }
+
+    fn add_cond(self, cond: (u8, bool)) -> Result<Open, RowNo>
+        ensures { Reads (λ o. o) result (Some (cond_added self cond)) }
+    {
+        let mut open = self;
+        open.attempt.conds.push(cond)?;
+        open.next = u16::from(cond.0) * 2 + 1;
+        Ok(open)
+    }
+
     #[tactic(auto, unfolding(crate::specs::Reading::with_cond))]
     fn with_cond(self, table: &[Items<Marks>], cond: (u8, bool)) -> Result<Open, RowNo>
         ensures { Reads (λ o. o) result (with_cond table.now self cond) }
     {
-        let mut open = self;
-        let place = u16::from(cond.0) * 2;
-        if !asked(table, open.attempt.id, cond.0) || place < open.next {
-            return Err(RowNo::Bad);
+        if self.takes_cond(table, cond.0) {
+            self.add_cond(cond)
+        } else {
+            Err(RowNo::Bad)
         }
-        open.attempt.conds.push(cond)?;
-        open.next = place + 1;
+    }
+
+    // Whether the row of an answer may come next.
+    fn takes_got(&self, table: &[Items<Marks>], got: &(u8, Answer)) -> bool
+        ensures { result ≡ takes_got table.now self.now got.now }
+    {
+        reads(table, self.attempt.id, got.0)
+            && self.next <= u16::from(got.0) * 2 + 1
+            && answer_fits(&got.1)
+    }
+
+    fn add_got(self, got: (u8, Answer)) -> Result<Open, RowNo>
+        ensures { Reads (λ o. o) result (Some (got_added self got)) }
+    {
+        let mut open = self;
+        open.next = u16::from(got.0) * 2 + 2;
+        open.attempt.gots.push(got)?;
         Ok(open)
     }
 
@@ -71,14 +114,21 @@ impl Open {
     fn with_got(self, table: &[Items<Marks>], got: (u8, Answer)) -> Result<Open, RowNo>
         ensures { Reads (λ o. o) result (with_got table.now self got) }
     {
-        let mut open = self;
-        let place = u16::from(got.0) * 2 + 1;
-        if !reads(table, open.attempt.id, got.0) || place < open.next || !answer_fits(&got.1) {
-            return Err(RowNo::Bad);
+        if self.takes_got(table, &got) {
+            self.add_got(got)
+        } else {
+            Err(RowNo::Bad)
         }
-        open.attempt.gots.push(got)?;
-        open.next = place + 1;
-        Ok(open)
+    }
+}
+
+fn next_number(number: u32) -> Option<u32>
+    ensures { result ≡ next_number number }
+{
+    if number < u32::MAX {
+        Some(number + 1)
+    } else {
+        None
     }
 }
 
@@ -87,7 +137,7 @@ fn stop_after(next: Option<u32>, line: &Line) -> Option<u32>
     ensures { result ≡ stop_after next line.now }
 {
     match line {
-        Line::Stop { number, .. } => number.checked_add(1),
+        Line::Stop { number, .. } => next_number(*number),
         _ => next,
     }
 }
@@ -122,19 +172,20 @@ fn closed(lines: Lines, last: Option<Open>) -> Result<Lines, Memory>
     Ok(lines)
 }
 
+// Lines, an attempt behind them if there is one, and a line behind that.
+fn closed_with(lines: Lines, last: Option<Open>, line: Line) -> Result<Lines, Memory>
+    ensures { IfOk result (λ ls. ls ≡ lines_of lines last ++ line ∷ []) }
+{
+    let mut lines = closed(lines, last)?;
+    lines.push(line)?;
+    Ok(lines)
+}
+
 impl Reading {
-    #[tactic(auto, unfolding(crate::specs::Reading::with_try))]
-    fn with_try(
-        self,
-        script: &Script,
-        table: &[Items<Marks>],
-        attempt: Attempt,
-    ) -> Result<Reading, RowNo>
-        ensures { Reads (λ r. r) result (with_try script.now table.now self attempt) }
+    // An attempt of which more may be told, behind all lines.
+    fn opened(self, attempt: Attempt) -> Result<Reading, RowNo>
+        ensures { Reads (λ r. r) result (Some (opened self attempt)) }
     {
-        if !attempt_fits(script, table, &attempt) {
-            return Err(RowNo::Bad);
-        }
         let Reading {
             lines,
             last,
@@ -150,9 +201,25 @@ impl Reading {
         })
     }
 
-    #[tactic(auto, unfolding(crate::specs::Reading::with_line))]
-    fn with_line(self, script: &Script, line: Line) -> Result<Reading, RowNo>
-        ensures { Reads (λ r. r) result (with_line script.now self line) }
+    #[tactic(auto, unfolding(crate::specs::Reading::with_try))]
+    fn with_try(
+        self,
+        script: &Script,
+        table: &[Items<Marks>],
+        attempt: Attempt,
+    ) -> Result<Reading, RowNo>
+        ensures { Reads (λ r. r) result (with_try script.now table.now self attempt) }
+    {
+        if attempt_fits(script, table, &attempt) {
+            self.opened(attempt)
+        } else {
+            Err(RowNo::Bad)
+        }
+    }
+
+    // A line behind all lines.
+    fn added(self, line: Line) -> Result<Reading, RowNo>
+        ensures { Reads (λ r. r) result (Some (line_added self line)) }
     {
         let Reading {
             lines,
@@ -160,19 +227,26 @@ impl Reading {
             next_stop,
             down,
         } = self;
-        if !line_fits(script, next_stop, &line) {
-            return Err(RowNo::Bad);
-        }
-        let mut lines = closed(lines, last)?;
         let next_stop = stop_after(next_stop, &line);
         let down = down_after(down, &line);
-        lines.push(line)?;
+        let lines = closed_with(lines, last, line)?;
         Ok(Reading {
             lines,
             last: None,
             next_stop,
             down,
         })
+    }
+
+    #[tactic(auto, unfolding(crate::specs::Reading::with_line))]
+    fn with_line(self, script: &Script, line: Line) -> Result<Reading, RowNo>
+        ensures { Reads (λ r. r) result (with_line script.now self line) }
+    {
+        if line_fits(script, self.next_stop, &line) {
+            self.added(line)
+        } else {
+            Err(RowNo::Bad)
+        }
     }
 
     fn with_cond(self, table: &[Items<Marks>], cond: (u8, bool)) -> Result<Reading, RowNo>

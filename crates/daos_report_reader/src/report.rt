@@ -2,25 +2,27 @@
 ghost use Rattle.std.specs.Prelude.{◌≡◌, ◌+◌, ◌^◌, ◌<◌, ◌++◌, ◌∷◌, [], IfOk, length};
 ghost use Rattle.daos_text.specs.Rows.{row_line};
 ghost use Rattle.daos_report.specs.Reports.{end_row, head_row, report_text};
-ghost use Rattle.daos_report_reader.specs.Law.{ReadsTexts};
-ghost use Rattle.daos_report_reader.specs.Reads.{Reads, ReadsAt};
-ghost use Rattle.daos_report_reader.specs.Reading.{at_end, at_head, bad_at, finished, inside, next_of, report_of, row_of, step};
+ghost use Rattle.daos_report_reader.specs.Law.{AreBytes, IsNamed, IsReadAs, IsReportFor, ReadsTexts, TellsFirstBad};
+ghost use Rattle.daos_report_reader.specs.Reads.{ReadsAt, told_line};
+ghost use Rattle.daos_report_words.specs.Reads.{Reads};
+ghost use Rattle.daos_report_reader.specs.Reading.{at_end, at_head, bad_at, finished, inside, next_of, put_row, report_of, row_of, step};
 
-use crate::fault::{ReportNo, RowNo};
-use crate::marks::{Marks, table_of};
+use crate::fault::ReportNo;
 use crate::reading::Reading;
-use crate::rows::told_of;
-use crate::told::spelled;
 use daos_base::epoch::TargetId;
 use daos_base::items::{Items, Memory};
 use daos_base::report::Report;
 use daos_base::script::Script;
+use daos_report_fits::marks::{Marks, table_of};
+use daos_report_fits::told::told_in;
+use daos_report_rows::rows::Told;
+use daos_report_words::fault::RowNo;
 use daos_text::parts::Parts;
 use itoa::Buffer;
 use std::alloc::Global;
 
 /// Where in a report a line stands.
-#[derive(Debug, Drop)]
+#[derive(Drop)]
 pub enum Stage {
     /// At the first line.
     Start,
@@ -83,6 +85,19 @@ fn at_end(script: &Script, reading: Reading) -> Result<Stage, RowNo>
     }))
 }
 
+// What a line between them tells.
+fn put_row(
+    script: &Script,
+    table: &[Items<Marks>],
+    reading: Reading,
+    told: Told,
+) -> Result<Stage, RowNo>
+    ensures { Reads (λ s. s) result (put_row script.now table.now reading told) }
+{
+    let reading = reading.put(script, table, told)?;
+    Ok(Stage::Inside(reading))
+}
+
 // A line between them.
 #[tactic(auto, unfolding(crate::specs::Reading::row_of))]
 fn row_of(
@@ -94,11 +109,8 @@ fn row_of(
 ) -> Result<Stage, RowNo>
     ensures { Reads (λ s. s) result (row_of script.now table.now reading line.now) }
 {
-    let mut words = Parts::new(b' ', line);
-    let told = told_of(alloc, script, &mut words)?;
-    let told = spelled(alloc, script, line, told)?;
-    let reading = reading.put(script, table, told)?;
-    Ok(Stage::Inside(reading))
+    let told = told_in(alloc, script, line)?;
+    put_row(script, table, reading, told)
 }
 
 fn inside(
@@ -142,7 +154,7 @@ fn next_of(
 }
 
 // The line that is bad where the one of this number can't be read.
-fn bad_at(at: u32, stage: &Stage) -> u32
+fn bad_at(at: usize, stage: &Stage) -> usize
     ensures { result ≡ bad_at at stage.now }
 {
     match stage {
@@ -153,13 +165,20 @@ fn bad_at(at: u32, stage: &Stage) -> u32
     }
 }
 
+// A bad line, whose number is held at its last value.
+fn bad_line(at: usize) -> ReportNo
+    ensures { result ≡ ReportNo.BadLine (told_line at) }
+{
+    ReportNo::BadLine(at.min(u32::MAX as usize) as u32)
+}
+
 // One line more, which has this number.
 #[tactic(auto, unfolding(crate::specs::Reading::step))]
 fn step(
     alloc: Global,
     script: &Script,
     table: &[Items<Marks>],
-    at: u32,
+    at: usize,
     stage: Stage,
     line: &[u8],
 ) -> Result<Stage, ReportNo>
@@ -168,20 +187,20 @@ fn step(
     let bad = bad_at(at, &stage);
     match next_of(alloc, script, table, stage, line) {
         Ok(stage) => Ok(stage),
-        Err(RowNo::Bad) => Err(ReportNo::BadLine(bad)),
+        Err(RowNo::Bad) => Err(bad_line(bad)),
         Err(RowNo::Memory) => Err(ReportNo::Memory),
     }
 }
 
 // The report, where all was read with the line of this number.
-fn finished(at: u32, stage: Stage) -> Result<Report, ReportNo>
+fn finished(at: usize, stage: Stage) -> Result<Report, ReportNo>
     ensures { ReadsAt (λ q. q) result (finished at stage) }
 {
     match stage {
         Stage::Whole(report) => Ok(report),
-        Stage::Start => Err(ReportNo::BadLine(at)),
-        Stage::Inside(_) => Err(ReportNo::BadLine(at)),
-        Stage::Ended(_) => Err(ReportNo::BadLine(at)),
+        Stage::Start => Err(bad_line(at)),
+        Stage::Inside(_) => Err(bad_line(at)),
+        Stage::Ended(_) => Err(bad_line(at)),
     }
 }
 
@@ -190,17 +209,20 @@ fn finished(at: u32, stage: Stage) -> Result<Report, ReportNo>
 /// # Errors
 ///
 /// `BadLine` with the first line, counted from 1, that is none of the format: for a text whose end
-/// is missing the line behind the last, and for one that goes on behind its end the line there.
+/// is missing the line behind the last, and for one that goes on behind its end the line there. A
+/// number of more than 32 bits is told as 2^32 - 1.
 pub fn read_report(alloc: Global, bytes: &[u8], script: &Script) -> Result<Report, ReportNo>
-    requires { length bytes.now + 1 < 2 ^ 32 }
     ensures exact { ReadsAt (λ q. q) result (report_of script.now bytes.now) }
     ensures text { IfOk result (λ q. bytes.now ≡ report_text script.now q) }
+    ensures back { (q : Report) → IsReportFor script.now q → bytes.now ≡ report_text script.now q → IsReadAs q result }
+    ensures form { IsNamed script.now → AreBytes bytes.now → IfOk result (λ q. IsReportFor script.now q) }
+    ensures first_bad { IsNamed script.now → AreBytes bytes.now → TellsFirstBad script.now bytes.now result }
 {
     let table = table_of(alloc, script)?;
     let marks = table.as_slice();
     let mut lines = Parts::new(b'\n', bytes);
     let mut stage = Stage::Start;
-    let mut at: u32 = 0;
+    let mut at: usize = 0;
     while let Some(line) = lines.take_part() {
         at += 1;
         stage = step(alloc, script, marks, at, stage, line)?;

@@ -1,11 +1,15 @@
 // Texts of reports, read.
 use crate::fault::ReportNo;
 use crate::report::read_report;
-use daos_base::id::{Class, ContId, ObjId};
+use daos_base::answer::Answer;
+use daos_base::epoch::Epoch;
+use daos_base::id::{AttemptId, Class, ContId, ObjId};
 use daos_base::items::{Items, bytes_of};
 use daos_base::key::Key;
 use daos_base::operation::{Act, Cond, Op, Ops, Read, Write};
+use daos_base::outcome::Outcome;
 use daos_base::path::Path;
+use daos_base::report::{Attempt, Line, Lines, Report};
 use daos_base::script::{Command, Commands, ContDecl, ObjDecl, Script};
 use daos_report::text::report_text;
 use std::alloc::Global;
@@ -82,6 +86,47 @@ fn texts_are_read_back(rt: HostRuntime) -> Result<(), Fail> {
         let report = read_report(alloc, text, &script)?;
         assert_eq!(rt; report_text(alloc, &report, &script)?.as_slice(), text);
     }
+    Ok(())
+}
+
+// An attempt of a command of the first client, which is committed.
+fn committed(alloc: Global, command: u32, epoch: u64) -> Attempt {
+    Attempt {
+        id: AttemptId {
+            client: 0,
+            command,
+            attempt: 0,
+        },
+        epoch: Some(Epoch(epoch)),
+        conds: Items::new(alloc),
+        gots: Items::new(alloc),
+        outcome: Outcome::Committed,
+    }
+}
+
+#[test]
+fn the_first_report_is_read(rt: HostRuntime) -> Result<(), Fail> {
+    let alloc = rt.alloc();
+    let mut script = script(alloc)?;
+    script.targets = 1;
+    let text = b"daos 1 targets 1\ntry 0 0 0 256 committed\ntry 0 1 0 512 committed\n\
+        got 0 value =hello\nend 0\n";
+    let report = read_report(alloc, text, &script)?;
+    let mut get = committed(alloc, 1, 512);
+    get.gots
+        .push((0, Answer::Bytes(bytes_of(alloc, b"hello")?)))?;
+    let mut lines: Lines = Items::new(alloc);
+    lines.push(Line::Try(committed(alloc, 0, 256)))?;
+    lines.push(Line::Try(get))?;
+    let wanted = Report {
+        targets: 1,
+        lines,
+        down: None,
+    };
+    assert_eq!(rt;
+        format!(in alloc; "{report:?}")?.as_str(),
+        format!(in alloc; "{wanted:?}")?.as_str()
+    );
     Ok(())
 }
 

@@ -1,4 +1,4 @@
-use Rattle.std.proofs.Common.{◌≡◌, ◌+◌, ◌∙◌, sym, ap, arith, length, subst}
+use Rattle.std.proofs.Common.{◌≡◌, ◌+◌, ◌∙◌, Err, sym, ap, arith, length, subst}
 use Rattle.std.proofs.lemmas.Result.{err_from_is_err_and}
 use Rattle.daos_base.specs.declared.report.Report.{Report}
 use Rattle.daos_text.specs.Parts.{parts_of}
@@ -6,7 +6,7 @@ use Rattle.daos_text.specs.Steps.{steps, steps-cons_ok}
 use Rattle.daos_report_reader.specs.Reads.{ReadsAt}
 use Rattle.daos_report_reader.specs.Reading.{step}
 use Rattle.daos_report_reader.proofs.Loop.{fault_of, end_of, few_lines}
-use Rattle.daos_report_reader.proofs.Sound.{text_if_read}
+use Rattle.daos_report_reader.proofs.Answered.{text_answered, back_answered, form_answered, bad_answered}
 use Rattle.daos_report_reader.proofs.report.read_report.Goals as goal
 
 pub overflow_add-at : goal.overflow_add-at
@@ -19,7 +19,11 @@ returns-in_err-stage c =
     let marks = c.as_slice-marks.result.now in
     let are = c.as_slice-marks.ensures ∙ c.in_ok-table.ensures in
     let so_far = ap (steps (step c.args.script.now marks) (l.at + 1) l.stage) (sym c.in-Some.ensures) ∙ l.invariant.so_far in
-    rw (p.1, p.2) (record { exact = fault_of c.args.script.now c.args.bytes.now marks are c.in_err-stage.field-0.0 (l.at + 1) l.stage c.in-Some.line.now c.take_part.new.self c.in_err-stage.ensures so_far; text = tt })
+    let s = c.args.script.now in
+    let bytes = c.args.bytes.now in
+    let e = c.in_err-stage.field-0.0 in
+    let exact = fault_of s bytes marks are e (l.at + 1) l.stage c.in-Some.line.now c.take_part.new.self c.in_err-stage.ensures so_far in
+    rw (p.1, p.2) (record { exact = exact; text = tt; back = back_answered s bytes (Err e) exact; form = λ named are. tt; first_bad = bad_answered s bytes (Err e) exact })
 
 pub loop-line-preserved : goal.loop-line-preserved
 loop-line-preserved c =
@@ -39,4 +43,7 @@ returns c =
     let all : l.at ≡ length (parts_of 10 c.args.bytes.now) = omega (arith, l.invariant.count, ap length c.in_default.ensures.0) in
     let e = end_of c.args.script.now c.args.bytes.now marks are l.at (l.at + 1) l.stage (ap (steps (step c.args.script.now marks) (l.at + 1) l.stage) (sym c.in_default.ensures.0) ∙ l.invariant.so_far) all in
     let exact = subst (λ t. ReadsAt (λ (q : Report). q) c.finished.result t) (sym e) c.finished.ensures in
-    record { exact = exact; text = text_if_read c.args.script.now c.args.bytes.now c.finished.result exact }
+    let s = c.args.script.now in
+    let bytes = c.args.bytes.now in
+    let r = c.finished.result in
+    record { exact = exact; text = text_answered s bytes r exact; back = back_answered s bytes r exact; form = form_answered s bytes r exact; first_bad = bad_answered s bytes r exact }

@@ -1,0 +1,5 @@
+// Reads the words of a report's rows.
+#![tactic(auto)]
+
+mod outcomes;
+pub mod rows;

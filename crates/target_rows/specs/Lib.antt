@@ -1,0 +1,2 @@
+-- What the rows name.
+pub mod Rows
