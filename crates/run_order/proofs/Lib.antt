@@ -1,0 +1,6 @@
+pub mod Turns
+pub mod Ends
+pub mod Going
+pub mod Dues
+pub mod Follow
+pub mod Hearing

@@ -1,0 +1,240 @@
+-- A turn of an actor leads to a world that a run reaches by one event more.
+use Rattle.std.specs.Prelude.{ℕ, ◌≡◌, List, [], ◌∷◌, ◌++◌, length, map, slice_get, false, Option, Some, None, refl}
+use Rattle.std.proofs.Common.{zero, suc, inl, inr, sym, ◌∙◌, ap, subst, arith}
+use Rattle.std.proofs.Math.ListN.{set}
+use Rattle.std.proofs.lemmas.Bool.{cases_eq}
+use Rattle.client_core.specs.Clients.{ClientNow}
+use Rattle.daos_model.specs.declared.durable.Durable.{Durable}
+use Rattle.run_letters.specs.Letters.{BetweenNow, IsPicked}
+use Rattle.run_order.specs.Shows.{IsReached, IsTargetOf, Shows, state_of}
+use Rattle.target_core.specs.Targets.{TargetOf}
+use Rattle.vos_store.specs.Calls.{State}
+use Rattle.world_base.specs.declared.did.Did.{Did}
+use Rattle.world_base.specs.declared.letter.Letter.{Letter}
+use Rattle.world_base.specs.declared.target.TargetState.{TargetState}
+use Rattle.world_base.specs.declared.world.World.{World}
+use Rattle.world_base.specs.ClientTurns.{HearTurn, NextTurn}
+use Rattle.world_events.specs.Events.{Goes, ByClient, ByTarget, Rules, ToClient, ToTarget, after_turn, client_plan, kept, listed, target_after, target_plan, with_client, with_epoch, with_target}
+use Rattle.world_events.specs.Letters.{Takes, client, letters_of, target}
+use Rattle.world_events.specs.StepLaws.{set-here, set-there}
+use Rattle.world_turns.specs.TargetTurns.{Hears, IdlesWhole}
+
+-- ---- lists
+
+pub map-set : {A B : Type 0} (f : A → B) (xs : List A) (n : ℕ) (x : A) → map f (set xs n x) ≡ set (map f xs) n (f x)
+map-set f [] n x = refl
+map-set f (y ∷ ys) zero x = refl
+map-set f (y ∷ ys) (suc n) x = ap (λ zs. f y ∷ zs) (map-set f ys n x)
+
+pub map-get : {A B : Type 0} (f : A → B) (xs : List A) (n : ℕ) (x : A) → slice_get xs n ≡ Some x → slice_get (map f xs) n ≡ Some (f x)
+map-get f [] n x h = let no : ⊥ = cc in absurd no
+map-get f (y ∷ ys) zero x h = let same : y ≡ x = cc in ap (λ z. Some (f z)) same
+map-get f (y ∷ ys) (suc n) x h = map-get f ys n x h
+
+pub length-set : {A : Type 0} (xs : List A) (n : ℕ) (x : A) → length (set xs n x) ≡ length xs
+length-set [] n x = refl
+length-set (y ∷ ys) zero x = refl
+length-set (y ∷ ys) (suc n) x = ap suc (length-set ys n x)
+
+none-stays : {A : Type 0} (xs : List A) (n : ℕ) (y : A) → slice_get xs n ≡ None → slice_get (set xs n y) n ≡ None
+none-stays [] n y h = refl
+none-stays (z ∷ zs) zero y h = let no : ⊥ = cc in absurd no
+none-stays (z ∷ zs) (suc n) y h = none-stays zs n y h
+
+-- what stands where an element was set is that one
+pub set-is : {A : Type 0} (xs : List A) (n : ℕ) (y x : A) → slice_get (set xs n y) n ≡ Some x → y ≡ x
+set-is xs n y x at = by (slice_get xs n) refl
+  where
+    by : (o : Option _) → slice_get xs n ≡ o → y ≡ x
+    by None h = let bad : None ≡ Some x = sym (none-stays xs n y h) ∙ at in let no : ⊥ = cc in absurd no
+    by (Some z) h = let e : Some y ≡ Some x = sym (set-here xs n z y h) ∙ at in cc
+
+-- an element of a list in which one was set is that one or an old one
+pub get-set : {A : Type 0} (P : ℕ → A → Type 0) (xs : List A) (n : ℕ) (y : A) → P n y → ((m : ℕ) (x : A) → slice_get xs m ≡ Some x → P m x) → (m : ℕ) (x : A) → slice_get (set xs n y) m ≡ Some x → P m x
+get-set P xs n y new old m x at = elim (cases_eq m n) [
+  | inl same ↦ subst (λ k. P k x) (sym same) (subst (P n) (set-is xs n y x (subst (λ k. slice_get (set xs n y) k ≡ Some x) same at)) new)
+  | inr apart ↦ old m x (sym (set-there xs n m y apart) ∙ at)
+]
+
+pub picked-takes : (letters : List Letter) (n : ℕ) (l : Letter) (rest : List Letter) → (a : _) → IsPicked letters a n l rest → Takes letters l rest
+picked-takes letters n l rest a k = record { before = k.before; after = k.after; among = k.among; left = k.left }
+
+-- ---- what lies between
+
+-- what lies between actors once one did something, where these letters were left in flight
+pub record Follows (b : BetweenNow) (actor : _) (did : Did) (rest : List Letter) (b' : BetweenNow) : Type 0 where
+  pub messages : b'.messages ≡ rest ++ letters_of actor did.posts
+  pub lines : b'.lines ≡ b.lines ++ map (with_epoch b.issued) did.lines
+  pub issued : b'.issued ≡ b.issued ++ listed did.issued
+
+module _ {S C : Type 0} (durable : S → Option Durable) (state : S → State) (r : Rules) (first : World) (clients : List ClientNow) (targets : List (TargetOf S C)) (b : BetweenNow) where
+  -- ---- clients
+
+  module _ (n : ℕ) (c d : ClientNow) (did : Did) (rest : List Letter) (b' : BetweenNow) (clients' : List ClientNow) where
+    abbrev client-after : World → World
+    client-after w = with_client n d.state (after_turn w (client n) did rest)
+
+    client-shown : (w : World) → Shows durable state r clients targets b w → d.plan ≡ c.plan → slice_get clients n ≡ Some c → Follows b (client n) did rest b' → clients' ≡ set clients n d
+        → Shows durable state r clients' targets b' (client-after w)
+    client-shown w k plan at f set' = record {
+      clients = ap (λ cs. set cs n d.state) k.clients ∙ sym (map-set state_of clients n d) ∙ ap (map state_of) (sym set');
+      plans = λ m x is. get-set (λ j y. y.plan ≡ client_plan r j) clients n d (plan ∙ k.plans n c at) k.plans m x (ap (λ cs. slice_get cs m) (sym set') ∙ is);
+      many = k.many;
+      targets = k.targets;
+      messages = f.messages;
+      issued = f.issued ∙ ap (λ is. is ++ listed did.issued) k.issued;
+      lines = f.lines ∙ ap (λ ls. ls ++ map (with_epoch b.issued) did.lines) k.lines ∙ ap (λ is. w.lines ++ map (with_epoch is) did.lines) k.issued;
+    }
+
+    here : (w : World) → Shows durable state r clients targets b w → slice_get clients n ≡ Some c → slice_get w.clients n ≡ Some c.state
+    here w k at = ap (λ cs. slice_get cs n) k.clients ∙ map-get state_of clients n c at
+
+    -- a client heard a message
+    pub client-hears : IsReached durable state r first clients targets b → slice_get clients n ≡ Some c → c.state.skip ≡ 0 → (number : ℕ) (l : Letter) → IsPicked b.messages (client n) number l rest
+        → HearTurn c.plan c.state l.message did d.state → d.plan ≡ c.plan → Follows b (client n) did rest b' → clients' ≡ set clients n d → IsReached durable state r first clients' targets b'
+    client-hears k at awake number l picked turn plan f set' = record {
+      now = client-after k.now;
+      run = Goes k.now (client-after k.now) k.run (ToClient (record {
+        n = n;
+        c = c.state;
+        d = d.state;
+        did = did;
+        l = l;
+        rest = rest;
+        here = here k.now k.shows at;
+        awake = awake;
+        takes = subst (λ ls. Takes ls l rest) k.shows.messages (picked-takes b.messages number l rest (client n) picked);
+        to_it = picked.to_it;
+        turn = subst (λ p. HearTurn p c.state l.message did d.state) (k.shows.plans n c at) turn;
+        after = refl;
+      }));
+      shows = client-shown k.now k.shows plan at f set';
+    }
+
+    -- a client went on without a message
+    pub client-goes : IsReached durable state r first clients targets b → slice_get clients n ≡ Some c → rest ≡ b.messages
+        → NextTurn c.plan c.state did d.state → d.plan ≡ c.plan → Follows b (client n) did rest b' → clients' ≡ set clients n d → IsReached durable state r first clients' targets b'
+    client-goes k at all turn plan f set' = record {
+      now = client-after k.now;
+      run = Goes k.now (client-after k.now) k.run (ByClient (record {
+        n = n;
+        c = c.state;
+        d = d.state;
+        did = did;
+        here = here k.now k.shows at;
+        turn = subst (λ p. NextTurn p c.state did d.state) (k.shows.plans n c at) turn;
+        after = ap (λ ls. with_client n d.state (after_turn k.now (client n) did ls)) (all ∙ k.shows.messages);
+      }));
+      shows = client-shown k.now k.shows plan at f set';
+    }
+
+  -- ---- targets
+
+  module _ (t : ℕ) (x y : TargetOf S C) (did : Did) (rest : List Letter) (b' : BetweenNow) (targets' : List (TargetOf S C)) where
+    there : (w : World) → Shows durable state r clients targets b w → slice_get targets t ≡ Some x → (s : TargetState) × (slice_get w.targets t ≡ Some s) × IsTargetOf durable state (target_plan r t) x s
+    there w k at = by (slice_get w.targets t) refl
+      where
+        by : (o : Option TargetState) → slice_get w.targets t ≡ o → (s : TargetState) × (slice_get w.targets t ≡ Some s) × IsTargetOf durable state (target_plan r t) x s
+        by None e = absurd (missing w.targets targets t k.many e at)
+          where
+            missing : {A B : Type 0} {z : B} (ps : List A) (qs : List B) (m : ℕ) → length ps ≡ length qs → slice_get ps m ≡ None → slice_get qs m ≡ Some z → ⊥
+            missing [] [] m same none is = cc
+            missing [] (q ∷ qs) m same none is = omega (arith, same)
+            missing (p ∷ ps) [] m same none is = cc
+            missing (p ∷ ps) (q ∷ qs) zero same none is = cc
+            missing (p ∷ ps) (q ∷ qs) (suc m) same none is = missing ps qs m (omega (arith, same)) none is
+        by (Some s) e = (s, e, k.targets t x s at e)
+
+    abbrev target-after : World → TargetState → Durable → World
+    target-after w s new = with_target t (target_after s (record { durable = new; free = (state y.store).free }) y.memory) (after_turn w (target t) did rest)
+
+    target-shown : (w : World) (s : TargetState) (new : Durable) → Shows durable state r clients targets b w → IsTargetOf durable state (target_plan r t) x s → y.plan ≡ x.plan → durable y.store ≡ Some new
+        → (state y.store).opening ≡ (state x.store).opening → (state y.store).stopped ≡ false → Follows b (target t) did rest b' → targets' ≡ set targets t y
+        → Shows durable state r clients targets' b' (target-after w s new)
+    target-shown w s new k is plan told opening running f set' = record {
+      clients = k.clients;
+      plans = k.plans;
+      many = length-set w.targets t _ ∙ k.many ∙ sym (length-set targets t y) ∙ ap length (sym set');
+      targets = λ m z u at here. pairs m z u (ap (λ ts. slice_get ts m) (sym set') ∙ at) here;
+      messages = f.messages;
+      issued = f.issued ∙ ap (λ is. is ++ listed did.issued) k.issued;
+      lines = f.lines ∙ ap (λ ls. ls ++ map (with_epoch b.issued) did.lines) k.lines ∙ ap (λ is. w.lines ++ map (with_epoch is) did.lines) k.issued;
+    }
+      where
+        s' : TargetState
+        s' = target_after s (record { durable = new; free = (state y.store).free }) y.memory
+
+        now : IsTargetOf durable state (target_plan r t) y s'
+        now = record { made = plan ∙ is.made; told = told; free = refl; opening = opening ∙ is.opening; running = running; runs = is.runs; knows = refl }
+
+        pairs : (m : ℕ) (z : TargetOf S C) (u : TargetState) → slice_get (set targets t y) m ≡ Some z → slice_get (set w.targets t s') m ≡ Some u → IsTargetOf durable state (target_plan r m) z u
+        pairs m z u at stands = elim (cases_eq m t) [
+          | inl same ↦ subst (λ j. IsTargetOf durable state (target_plan r j) z u) (sym same) (at-it same)
+          | inr apart ↦ k.targets m z u (sym (set-there targets t m y apart) ∙ at) (sym (set-there w.targets t m s' apart) ∙ stands)
+        ]
+          where
+            at-it : m ≡ t → IsTargetOf durable state (target_plan r t) z u
+            at-it same =
+                let one : y ≡ z = set-is targets t y z (subst (λ j. slice_get (set targets t y) j ≡ Some z) same at) in
+                let two : s' ≡ u = set-is w.targets t s' u (subst (λ j. slice_get (set w.targets t s') j ≡ Some u) same stands) in
+                subst (λ q. IsTargetOf durable state (target_plan r t) q u) one (subst (λ q. IsTargetOf durable state (target_plan r t) y q) two now)
+
+    kept-is : (h : State) (s : TargetState) (d : Durable) → d ≡ s.durable → h.free ≡ s.free → record { durable = d; free = h.free } ≡ kept s
+    kept-is h s d one two = ap (λ z. record { durable = z; free = h.free }) one ∙ ap (λ z. record { durable = s.durable; free = z }) two
+
+    -- a target heard a message
+    pub target-hears : IsReached durable state r first clients targets b → slice_get targets t ≡ Some x → (number reading : ℕ) (l : Letter) → IsPicked b.messages (target t) number l rest → (d new : Durable) → durable x.store ≡ Some d
+        → durable y.store ≡ Some new → Hears x.plan (state x.store).opening x.memory reading l.from l.message (record { durable = d; free = (state x.store).free }) (record { durable = new; free = (state y.store).free }) (y.memory, did)
+        → y.plan ≡ x.plan → (state y.store).opening ≡ (state x.store).opening → (state y.store).stopped ≡ false → Follows b (target t) did rest b' → targets' ≡ set targets t y
+        → IsReached durable state r first clients targets' b'
+    target-hears k at number reading l picked d new had told turn plan opening running f set' =
+        let s = there k.now k.shows at in
+        let same : d ≡ s.0.durable = let e : Some d ≡ Some s.0.durable = sym had ∙ s.2.told in cc in
+        record {
+          now = target-after k.now s.0 new;
+          run = Goes k.now (target-after k.now s.0 new) k.run (ToTarget (record {
+            t = t;
+            s = s.0;
+            new = record { durable = new; free = (state y.store).free };
+            memory = y.memory;
+            did = did;
+            reading = reading;
+            l = l;
+            rest = rest;
+            here = s.1;
+            runs = s.2.runs;
+            takes = subst (λ ls. Takes ls l rest) k.shows.messages (picked-takes b.messages number l rest (target t) picked);
+            to_it = picked.to_it;
+            turn = subst (λ m. Hears (target_plan r t) s.0.opening m reading l.from l.message (kept s.0) (record { durable = new; free = (state y.store).free }) (y.memory, did)) s.2.knows
+                (subst (λ o. Hears (target_plan r t) o x.memory reading l.from l.message (kept s.0) (record { durable = new; free = (state y.store).free }) (y.memory, did)) s.2.opening
+                (subst (λ p. Hears p (state x.store).opening x.memory reading l.from l.message (kept s.0) (record { durable = new; free = (state y.store).free }) (y.memory, did)) s.2.made
+                (subst (λ q. Hears x.plan (state x.store).opening x.memory reading l.from l.message q (record { durable = new; free = (state y.store).free }) (y.memory, did)) (kept-is (state x.store) s.0 d same s.2.free) turn)));
+            after = refl;
+          }));
+          shows = target-shown k.now s.0 new k.shows s.2 plan told opening running f set';
+        }
+
+    -- a target did its idle work
+    pub target-idles : IsReached durable state r first clients targets b → slice_get targets t ≡ Some x → rest ≡ b.messages → (d new : Durable) → durable x.store ≡ Some d
+        → durable y.store ≡ Some new → IdlesWhole x.memory (record { durable = d; free = (state x.store).free }) (record { durable = new; free = (state y.store).free }) (y.memory, did)
+        → y.plan ≡ x.plan → (state y.store).opening ≡ (state x.store).opening → (state y.store).stopped ≡ false → Follows b (target t) did rest b' → targets' ≡ set targets t y
+        → IsReached durable state r first clients targets' b'
+    target-idles k at all d new had told turn plan opening running f set' =
+        let s = there k.now k.shows at in
+        let same : d ≡ s.0.durable = let e : Some d ≡ Some s.0.durable = sym had ∙ s.2.told in cc in
+        record {
+          now = target-after k.now s.0 new;
+          run = Goes k.now (target-after k.now s.0 new) k.run (ByTarget (record {
+            t = t;
+            s = s.0;
+            new = record { durable = new; free = (state y.store).free };
+            memory = y.memory;
+            did = did;
+            here = s.1;
+            runs = s.2.runs;
+            turn = subst (λ m. IdlesWhole m (kept s.0) (record { durable = new; free = (state y.store).free }) (y.memory, did)) s.2.knows
+                (subst (λ q. IdlesWhole x.memory q (record { durable = new; free = (state y.store).free }) (y.memory, did)) (kept-is (state x.store) s.0 d same s.2.free) turn);
+            after = ap (λ ls. with_target t (target_after s.0 (record { durable = new; free = (state y.store).free }) y.memory) (after_turn k.now (target t) did ls)) (all ∙ k.shows.messages);
+          }));
+          shows = target-shown k.now s.0 new k.shows s.2 plan told opening running f set';
+        }

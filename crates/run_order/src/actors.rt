@@ -1,0 +1,174 @@
+// The actors of a run, and their turns.
+ghost use Rattle.std.specs.Prelude.{◌≡◌, ◌≤◌, ◌<◌, max, length, slice_get, IfOk, OnOk, Some};
+ghost use Rattle.client_core.specs.Clients.{ClientNow};
+ghost use Rattle.target_core.specs.Targets.{TargetOf};
+ghost use Rattle.run_order.specs.Due.{count_to, due_actors, heard_awake, is_client_due, is_due_client, is_due_target, is_target_due};
+ghost use Rattle.run_order.specs.Shows.{IsGoing, IsReached};
+ghost use Rattle.world_base.specs.declared.world.World.{World};
+ghost use Rattle.world_events.specs.Events.{Rules};
+ghost use Rattle.world_events.specs.Letters.{client, target};
+
+use client_core::client::Client;
+use daos_base::items::Memory;
+use daos_messages::actor::ActorId;
+use daos_outside::clock::Clock;
+use run_letters::between::Between;
+use std::alloc::Global;
+use target_core::stop::TargetStop;
+use target_core::target::Target;
+use vos_store::store::Store;
+
+/// The clients and the targets of a run, in the order of their numbers, and what lies between them.
+pub(crate) struct Actors<S: Store, C: Clock> {
+    pub(crate) clients: Vec<Client>,
+    pub(crate) targets: Vec<Target<S, C>>,
+    pub(crate) between: Between,
+}
+
+/// The name of a client.
+pub(crate) fn client_id(n: usize) -> ActorId
+    requires { n < 65536 }
+    ensures { result ≡ client n }
+{
+    ActorId {
+        client: true,
+        number: n as u16,
+    }
+}
+
+/// The name of a target.
+pub(crate) fn target_id(t: usize) -> ActorId
+    requires { t < 65536 }
+    ensures { result ≡ target t }
+{
+    ActorId {
+        client: false,
+        number: t as u16,
+    }
+}
+
+impl<S: Store, C: Clock> Actors<S, C> {
+    /// Of how many messages a client hears one in its next turn; of none where it skips that turn.
+    pub(crate) fn heard_by_client(&self, n: usize) -> usize
+        requires within { n < length self.now.clients.items }
+        requires few { n < 65536 }
+        ensures { (c : ClientNow) → slice_get self.now.clients.items n ≡ Some c → result ≡ heard_awake c.state (count_to (client n) self.now.between.messages) }
+    {
+        if self.clients[n].skips() {
+            0
+        } else {
+            self.between.count_to(client_id(n))
+        }
+    }
+
+    /// Of how many messages a target hears one in its next turn.
+    pub(crate) fn heard_by_target(&self, t: usize) -> usize
+        requires few { t < 65536 }
+        ensures { result ≡ count_to (target t) self.now.between.messages }
+    {
+        self.between.count_to(target_id(t))
+    }
+
+    /// Whether a client has something to do.
+    pub(crate) fn is_client_due(&self, n: usize) -> bool
+        requires within { n < length self.now.clients.items }
+        requires few { n < 65536 }
+        ensures { result ≡ is_due_client self.now.between.messages n (slice_get self.now.clients.items n) }
+    {
+        let client = &self.clients[n];
+        client.skips()
+            || self.between.count_to(client_id(n)) > 0
+            || !(client.waits() || client.done())
+    }
+
+    /// Whether a target has something to do.
+    pub(crate) fn is_target_due(&self, t: usize, settling: bool) -> bool
+        requires within { t < length self.now.targets.items }
+        requires few { t < 65536 }
+        ensures { result ≡ is_due_target self.now.between.messages t (slice_get self.now.targets.items t) }
+    {
+        self.between.count_to(target_id(t)) > 0 || self.targets[t].has_idle(settling)
+    }
+
+    /// A turn of a client: it counts a skip, hears the message of this number among those to it, or
+    /// goes on.
+    pub(crate) fn client_turn(&mut self, n: usize, number: usize) -> Result<(), Memory>
+        requires within { n < length self.old.clients.items }
+        requires few { n < 65536 }
+        requires number { number < max 1 (count_to (client n) self.old.between.messages) }
+        ensures reached { (r : Rules) (w : World) → IsReached S.durable S.state r w self.old.clients.items self.old.targets.items self.old.between
+            → OnOk result (IsReached S.durable S.state r w self.new.clients.items self.new.targets.items self.new.between) }
+        ensures many_clients { length self.new.clients.items ≡ length self.old.clients.items }
+        ensures many_targets { length self.new.targets.items ≡ length self.old.targets.items }
+    {
+        let hears = self.heard_by_client(n) > 0;
+        let Actors {
+            clients,
+            between,
+            ..
+        } = self;
+        let client = &mut clients[n];
+        let did = if hears {
+            client.hear(between.take(client_id(n), number).message)?
+        } else {
+            client.next()?
+        };
+        between.follow(client_id(n), did)
+    }
+
+    /// A turn of a target: it hears the message of this number among those to it, or does its idle
+    /// work.
+    pub(crate) fn target_turn(
+        &mut self,
+        t: usize,
+        number: usize,
+        settling: bool,
+    ) -> Result<(), TargetStop>
+        requires going { IsGoing S.durable S.state self.old.clients.items self.old.targets.items self.old.between }
+        requires within { t < length self.old.targets.items }
+        requires few { t < 65536 }
+        requires number { number < max 1 (count_to (target t) self.old.between.messages) }
+        ensures reached { (r : Rules) (w : World) → IsReached S.durable S.state r w self.old.clients.items self.old.targets.items self.old.between
+            → OnOk result (IsReached S.durable S.state r w self.new.clients.items self.new.targets.items self.new.between) }
+        ensures many_clients { length self.new.clients.items ≡ length self.old.clients.items }
+        ensures many_targets { length self.new.targets.items ≡ length self.old.targets.items }
+    {
+        let hears = self.heard_by_target(t) > 0;
+        let Actors {
+            targets,
+            between,
+            ..
+        } = self;
+        let target = &mut targets[t];
+        let did = if hears {
+            let letter = between.take(target_id(t), number);
+            target.hear(letter.from, letter.message, None)?
+        } else {
+            target.idle(settling)?
+        };
+        match between.follow(target_id(t), did) {
+            Ok(()) => Ok(()),
+            Err(_memory) => Err(TargetStop::Memory),
+        }
+    }
+
+    /// The actors that have something to do, in the order of their numbers, clients first.
+    pub(crate) fn due(&self, alloc: Global, settling: bool) -> Result<Vec<ActorId>, Memory>
+        requires few_clients { length self.now.clients.items ≤ 65535 }
+        requires few_targets { length self.now.targets.items ≤ 255 }
+        ensures { IfOk result (λ due. due.items ≡ due_actors self.now.between.messages self.now.clients.items self.now.targets.items) }
+    {
+        let mut due = Vec::new(alloc);
+        for n in 0..self.clients.len() {
+            if self.is_client_due(n) {
+                due.push(client_id(n))?;
+            }
+        }
+        for t in 0..self.targets.len() {
+            if self.is_target_due(t, settling) {
+                due.push(target_id(t))?;
+            }
+        }
+        Ok(due)
+    }
+}

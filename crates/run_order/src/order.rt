@@ -1,0 +1,243 @@
+// The order of turns.
+ghost use Rattle.std.specs.Prelude.{◌≡◌, ◌≤◌, ◌<◌, max, [], length, IfOk, OnOk};
+ghost use Rattle.run_order.specs.Due.{IsActor, count_to, due_actors};
+ghost use Rattle.run_order.specs.Ended.{HasRun, nothing};
+ghost use Rattle.run_order.specs.Shows.{IsGoing, IsReached};
+ghost use Rattle.world_base.specs.declared.world.World.{World};
+ghost use Rattle.daos_model.specs.Opening.{Opening};
+ghost use Rattle.world_begins.specs.Begins.{IsAlone, IsBegun};
+ghost use Rattle.world_events.specs.Events.{Rules};
+
+use crate::actors::Actors;
+use crate::halted::Halted;
+use client_core::client::Client;
+use daos_base::epoch::TargetId;
+use daos_base::report::Lines;
+use daos_draw::draw::drawn;
+use daos_messages::actor::ActorId;
+use daos_outside::clock::Clock;
+use daos_outside::gate::Gate;
+use run_letters::between::Between;
+use std::alloc::Global;
+use std::sync::Wait;
+use target_core::stop::TargetStop;
+use target_core::target::Target;
+use vos_store::store::Store;
+
+// Of how many messages an actor hears one in its next turn.
+fn heard_by<S: Store, C: Clock>(actors: &Actors<S, C>, actor: ActorId) -> usize
+    requires actor { IsActor (length actors.now.clients.items) (length actors.now.targets.items) actor }
+    requires few_clients { length actors.now.clients.items ≤ 65535 }
+    requires few_targets { length actors.now.targets.items ≤ 255 }
+    ensures { result ≤ count_to actor actors.now.between.messages }
+{
+    let number = usize::from(actor.number);
+    if actor.client {
+        actors.heard_by_client(number)
+    } else {
+        actors.heard_by_target(number)
+    }
+}
+
+// Why a target's turn isn't whole.
+fn halted_by(target: TargetId, stop: TargetStop) -> Halted {
+    match stop {
+        TargetStop::Store { .. } => Halted::Stopped(target),
+        TargetStop::Foreign { .. } | TargetStop::Memory => Halted::Memory,
+    }
+}
+
+// A turn of an actor, which hears the message of this number if it hears one.
+fn turn<S: Store, C: Clock>(
+    actors: &mut Actors<S, C>,
+    actor: ActorId,
+    message: usize,
+    settling: bool,
+) -> Result<(), Halted>
+    requires going { IsGoing S.durable S.state actors.old.clients.items actors.old.targets.items actors.old.between }
+    requires actor { IsActor (length actors.old.clients.items) (length actors.old.targets.items) actor }
+    requires few_clients { length actors.old.clients.items ≤ 65535 }
+    requires few_targets { length actors.old.targets.items ≤ 255 }
+    requires message { message < max 1 (count_to actor actors.old.between.messages) }
+    ensures reached { (r : Rules) (w : World) → IsReached S.durable S.state r w actors.old.clients.items actors.old.targets.items actors.old.between
+        → OnOk result (IsReached S.durable S.state r w actors.new.clients.items actors.new.targets.items actors.new.between) }
+    ensures many_clients { length actors.new.clients.items ≡ length actors.old.clients.items }
+    ensures many_targets { length actors.new.targets.items ≡ length actors.old.targets.items }
+{
+    let number = usize::from(actor.number);
+    if actor.client {
+        actors.client_turn(number, message)?;
+        return Ok(());
+    }
+    match actors.target_turn(number, message, settling) {
+        Ok(()) => Ok(()),
+        Err(stop) => Err(halted_by(number as u8, stop)),
+    }
+}
+
+// A round: every client in order and then every target in order has one turn, if it has something to
+// do, and hears the message that was sent to it first.
+fn round<S: Store, C: Clock, G: Gate>(
+    actors: &mut Actors<S, C>,
+    gate: &G,
+    number: u64,
+    settling: bool,
+) -> Result<(), Halted>
+    requires going { IsGoing S.durable S.state actors.old.clients.items actors.old.targets.items actors.old.between }
+    requires few_clients { length actors.old.clients.items ≤ 65535 }
+    requires few_targets { length actors.old.targets.items ≤ 255 }
+    ensures reached { (r : Rules) (w : World) → IsReached S.durable S.state r w actors.old.clients.items actors.old.targets.items actors.old.between
+        → OnOk result (IsReached S.durable S.state r w actors.new.clients.items actors.new.targets.items actors.new.between) }
+    ensures many_clients { length actors.new.clients.items ≡ length actors.old.clients.items }
+    ensures many_targets { length actors.new.targets.items ≡ length actors.old.targets.items }
+{
+    for n in 0..actors.clients.len() {
+        if actors.is_client_due(n) {
+            gate.pass(true, n as u16, number);
+            actors.client_turn(n, 0)?;
+        }
+    }
+    for t in 0..actors.targets.len() {
+        if actors.is_target_due(t, settling) {
+            gate.pass(false, t as u16, number);
+            if let Err(stop) = actors.target_turn(t, 0, settling) {
+                return Err(halted_by(t as u8, stop));
+            }
+        }
+    }
+    Ok(())
+}
+
+// Rounds, until no actor has anything to do.
+fn go_round<R: Wait, S: Store, C: Clock, G: Gate>(
+    rt: &R,
+    alloc: Global,
+    actors: &mut Actors<S, C>,
+    gate: &G,
+    settling: bool,
+) -> Result<(), Halted>
+    requires going { IsGoing S.durable S.state actors.old.clients.items actors.old.targets.items actors.old.between }
+    requires few_clients { length actors.old.clients.items ≤ 65535 }
+    requires few_targets { length actors.old.targets.items ≤ 255 }
+    ensures reached { (r : Rules) (w : World) → IsReached S.durable S.state r w actors.old.clients.items actors.old.targets.items actors.old.between
+        → OnOk result (IsReached S.durable S.state r w actors.new.clients.items actors.new.targets.items actors.new.between) }
+    ensures quiet { OnOk result (due_actors actors.new.between.messages actors.new.clients.items actors.new.targets.items ≡ []) }
+    ensures many_clients { length actors.new.clients.items ≡ length actors.old.clients.items }
+    ensures many_targets { length actors.new.targets.items ≡ length actors.old.targets.items }
+{
+    let mut number: u64 = 0;
+    for _ in rt.forever() {
+        if actors.due(alloc, settling)?.is_empty() {
+            return Ok(());
+        }
+        round(actors, gate, number, settling)?;
+        number = number.wrapping_add(1);
+    }
+    unreachable!()
+}
+
+// One of so many, as the next number drawn says; it isn't drawn where there is none.
+fn pick(x: &mut u64, many: usize) -> usize
+    ensures { result < max 1 many }
+{
+    if many == 0 {
+        return 0;
+    }
+    *x = drawn(*x);
+    (*x % many as u64) as usize
+}
+
+// Turns of drawn actors, until none has anything to do.
+fn go_drawn<R: Wait, S: Store, C: Clock, G: Gate>(
+    rt: &R,
+    alloc: Global,
+    x: &mut u64,
+    actors: &mut Actors<S, C>,
+    gate: &G,
+    settling: bool,
+) -> Result<(), Halted>
+    requires going { IsGoing S.durable S.state actors.old.clients.items actors.old.targets.items actors.old.between }
+    requires few_clients { length actors.old.clients.items ≤ 65535 }
+    requires few_targets { length actors.old.targets.items ≤ 255 }
+    ensures reached { (r : Rules) (w : World) → IsReached S.durable S.state r w actors.old.clients.items actors.old.targets.items actors.old.between
+        → OnOk result (IsReached S.durable S.state r w actors.new.clients.items actors.new.targets.items actors.new.between) }
+    ensures quiet { OnOk result (due_actors actors.new.between.messages actors.new.clients.items actors.new.targets.items ≡ []) }
+    ensures many_clients { length actors.new.clients.items ≡ length actors.old.clients.items }
+    ensures many_targets { length actors.new.targets.items ≡ length actors.old.targets.items }
+{
+    let mut number: u64 = 0;
+    for _ in rt.forever() {
+        let due = actors.due(alloc, settling)?;
+        if due.is_empty() {
+            return Ok(());
+        }
+        let actor = due[pick(x, due.len())];
+        let message = pick(x, heard_by(actors, actor));
+        gate.pass(actor.client, actor.number, number);
+        turn(actors, actor, message, settling)?;
+        number = number.wrapping_add(1);
+    }
+    unreachable!()
+}
+
+// Runs the actors in an order until none has anything to do, and then, while they settle, until there
+// is nothing to do in that.
+fn go<R: Wait, S: Store, C: Clock, G: Gate>(
+    rt: &R,
+    alloc: Global,
+    order: u64,
+    actors: &mut Actors<S, C>,
+    gate: &G,
+) -> Result<(), Halted>
+    requires going { IsGoing S.durable S.state actors.old.clients.items actors.old.targets.items actors.old.between }
+    requires few_clients { length actors.old.clients.items ≤ 65535 }
+    requires few_targets { length actors.old.targets.items ≤ 255 }
+    ensures reached { (r : Rules) (w : World) → IsReached S.durable S.state r w actors.old.clients.items actors.old.targets.items actors.old.between
+        → OnOk result (IsReached S.durable S.state r w actors.new.clients.items actors.new.targets.items actors.new.between) }
+    ensures quiet { OnOk result (due_actors actors.new.between.messages actors.new.clients.items actors.new.targets.items ≡ []) }
+    ensures many_clients { length actors.new.clients.items ≡ length actors.old.clients.items }
+    ensures many_targets { length actors.new.targets.items ≡ length actors.old.targets.items }
+{
+    if order == 0 {
+        go_round(rt, alloc, actors, gate, false)?;
+        return go_round(rt, alloc, actors, gate, true);
+    }
+    let mut x = order;
+    go_drawn(rt, alloc, &mut x, actors, gate, false)?;
+    go_drawn(rt, alloc, &mut x, actors, gate, true)
+}
+
+/// Clients and targets run until none has anything to do: the targets, and the lines of the report.
+/// Order 0 goes round; any other is the first number of the draws.
+pub fn run_in_order<R: Wait, S: Store, C: Clock, G: Gate>(
+    rt: &R,
+    alloc: Global,
+    order: u64,
+    clients: Vec<Client>,
+    targets: Vec<Target<S, C>>,
+    gate: &G,
+) -> (Vec<Target<S, C>>, Result<Lines, Halted>)
+    requires going { IsGoing S.durable S.state clients.items targets.items nothing }
+    requires few_clients { length clients.items ≤ 65535 }
+    requires few_targets { length targets.items ≤ 255 }
+    ensures run { (r : Rules) (w : World) (o : Opening) → IsAlone r → IsBegun r o w → IsReached S.durable S.state r w clients.items targets.items nothing
+        → IfOk result.1 (λ lines. HasRun S.durable S.state r w result.0.items lines) }
+    ensures many { length result.0.items ≡ length targets.items }
+{
+    let mut actors = Actors {
+        clients,
+        targets,
+        between: Between::new(alloc),
+    };
+    let went = go(rt, alloc, order, &mut actors, gate);
+    let Actors {
+        clients: _clients,
+        targets,
+        between,
+    } = actors;
+    let lines = between.into_lines();
+    match went {
+        Ok(()) => (targets, Ok(lines)),
+        Err(halted) => (targets, Err(halted)),
+    }
+}
