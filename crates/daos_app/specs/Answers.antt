@@ -6,12 +6,10 @@ use Rattle.daos_base.specs.declared.fault.Why.TheVariants as why
 use Rattle.daos_base.specs.declared.job.Job.{Job}
 use Rattle.daos_base.specs.declared.report.Report.{Report}
 use Rattle.daos_base.specs.declared.script.Script.{Script}
-use Rattle.daos_model.specs.Headline.{Headline}
-use Rattle.daos_model.specs.Opening.{fresh, undisturbed}
+use Rattle.daos_model.specs.Opening.{fresh}
 use Rattle.daos_report.specs.Forms.{IsReportOf}
 use Rattle.daos_report.specs.Reports.{report_text}
-use Rattle.daos_run.specs.Lone.{no_one}
-use Rattle.daos_run.specs.Runs.{IsRunOf}
+use Rattle.daos_run.specs.Opens.{IsLegal}
 use Rattle.daos_run.specs.Runnable.{runs}
 use Rattle.daos_script.specs.Grammar.{HasFault, IsScriptText}
 use Rattle.daos_app.specs.Words.{run_job_of}
@@ -44,13 +42,12 @@ pub record IsRefused (left left_now : Option (List ℕ)) (fault : ScriptFault) :
   pub all : (length bytes ≡ 16777217) ⊎ IsAtEnd left_now
   pub why : HasFault 1 bytes fault ⊎ IsNotYetRun bytes fault
 
--- the text of a report of a run of the script, over regions of zeros that nothing disturbs: by the headline, each command with one
--- committed attempt, and in the form in which a text determines its report
+-- the text of a report of a run of the script, over regions of zeros that nothing disturbs: it is legal by the headline, and in the
+-- form in which a text determines its report
 pub record IsReported (job : Job) (script : Script) (text : List ℕ) : Type 0 where
   pub report : Report
   pub form : IsReportOf script report
-  pub headline : Headline (fresh script job) undisturbed no_one report
-  pub lone : IsRunOf script report.lines
+  pub legal : IsLegal (fresh script job) report
   pub told : text ≡ report_text script report
 
 -- what a run tells of the words and of the bytes that were read: the text of one report of a run of the script, as the words ask

@@ -9,10 +9,9 @@ use Rattle.daos_words.specs.declared.fault.WordNo.{WordNo}
 use Rattle.daos_words.specs.declared.fault.WordNo.TheVariants.{Fault, Memory}
 use Rattle.daos_words.specs.Words.{job_of}
 
--- a job that is run so far: a script, on one target whose region has the default size, without threads. The order of turns, the
--- most attempts and epsilon may be any: a client that is alone is never told to restart, and waits for each answer.
+-- a job that is run so far: a script, on one target, without threads
 abbrev pub is_run : Job → Bool
-is_run j = is_none j.load && j.targets == 1 && j.size_mib == 4 && not j.threads
+is_run j = is_none j.load && j.targets == 1 && not j.threads
 
 -- a word of a job that is this option, with or without its value
 abbrev pub is_option : List ℕ → List ℕ → Bool
@@ -21,7 +20,7 @@ is_option w name = starts_with nat_eq w name
 -- a word that asks for what isn't run so far
 abbrev pub asks_more : Job → List ℕ → Bool
 asks_more j w =
-    is_option w (codes "--threads") || not (j.targets == 1) && is_option w (codes "--targets") || not (j.size_mib == 4) && is_option w (codes "--size")
+    is_option w (codes "--threads") || not (j.targets == 1) && is_option w (codes "--targets")
 
 -- where words first ask for more than is run; behind them, where they leave the number of targets out. A load is told at the first place.
 abbrev pub place_of_more : Job → List (List ℕ) → ℕ

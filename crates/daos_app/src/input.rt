@@ -1,19 +1,19 @@
 // Reads the script from the source.
 ghost use Rattle.std.specs.Prelude.{◌≡◌, ◌≤◌, true, IfOk, IfErr, IsErrOf, length};
-ghost use Rattle.daos_base.specs.Scripts.{IsRunnable};
 ghost use Rattle.daos_outside.specs.Causes.{Rose};
 ghost use Rattle.daos_app.specs.Answers.{IsRead};
 ghost use Rattle.daos_app.specs.Inputs.{IsScriptRefused, RefusesFor};
-ghost use Rattle.daos_run.specs.Runnable.{runs};
+ghost use Rattle.daos_run.specs.Runnable.{IsRunnable, runs};
 ghost use Rattle.daos_script.specs.Grammar.{IsScriptText};
 
 use daos_base::fault::{ScriptFault, Why};
 use daos_base::script::Script;
 use daos_outside::source::{ReadNo, Source, read_most};
-use daos_run::runnable::{runs, runs_are_runnable};
+use daos_run::runnable::runs;
 use daos_script::fault::ScriptNo;
 use daos_script::laws::texts_are_short;
 use daos_script::script::read_script;
+use daos_script_keys::laws_of_keys;
 use std::alloc::Global;
 use thiserror::Error;
 
@@ -42,7 +42,7 @@ fn runnable(alloc: Global, bytes: &[u8]) -> Result<Script, InputNo>
     ensures refused { IfErr result (IsScriptRefused bytes.now) }
     ensures short { IfOk result (λ script. length bytes.now ≤ 16777216) }
 {
-    runs_are_runnable();
+    laws_of_keys();
     texts_are_short();
     match read_script(alloc, bytes, 1) {
         Ok(script) if runs(&script) => Ok(script),

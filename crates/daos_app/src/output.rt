@@ -1,10 +1,11 @@
 // Runs a script and makes the text of its report, and writes that to the sink.
 ghost use Rattle.std.specs.Prelude.{◌≡◌, ◌≤◌, ◌⊎◌, IfOk, IsOkUnless};
 ghost use Rattle.std.specs.Io.KnownBytes.{Appends};
-ghost use Rattle.daos_base.specs.Scripts.{IsRunnable};
 ghost use Rattle.daos_outside.specs.Causes.{Rose};
 ghost use Rattle.daos_outside.specs.Transfers.{AppendsPrefix};
 ghost use Rattle.daos_app.specs.Answers.{IsReported};
+ghost use Rattle.daos_run.specs.Runnable.{IsRunnable};
+ghost use Rattle.daos_words.specs.Laws.{IsInForm};
 
 use crate::status::Status;
 use daos_base::items::Memory;
@@ -33,7 +34,8 @@ pub fn run_text<R: Threads + Wait + Sync, B: Rack, G: Gate + Sync>(
     rack: &mut B,
     gate: &G,
 ) -> Result<Vec<u8>, RunStop>
-    requires targets { job.now.targets ≡ 1 }
+    requires one { job.now.targets ≡ 1 }
+    requires job { IsInForm job.now }
     requires script { IsRunnable 1 script.now }
     ensures reported { IfOk result (λ text. IsReported job.now script.now text.items) }
     ensures refusals { IsOkUnless result RunStop.Memory }

@@ -1,6 +1,7 @@
 // Reads the words of the command line, and refuses jobs that aren't run yet.
 ghost use Rattle.std.specs.Prelude.{◌≡◌, ◌≤◌, length, map, nat_eq, string_bytes, IfErr, IfOk, Ok};
 ghost use Rattle.std.specs.List.{position_or_len, starts_with};
+ghost use Rattle.daos_words.specs.Laws.{IsInForm};
 ghost use Rattle.daos_app.specs.Words.{IsRefusedFor, asks_more, is_run, place_of_more, run_job_of};
 
 use daos_base::fault::{WordFault, WordKind};
@@ -9,16 +10,14 @@ use daos_words::fault::WordNo;
 use daos_words::words::{read_words, words_are_jobs};
 use std::alloc::Global;
 
-// The targets, and the size of their regions in MiB, that are run so far.
+// The targets that are run so far.
 const TARGETS: u8 = 1;
-
-const SIZE_MIB: u8 = 4;
 
 // Whether a job is run so far.
 fn is_run(job: &Job) -> bool
     ensures { result ≡ is_run job.now }
 {
-    job.load.is_none() && job.targets == TARGETS && job.size_mib == SIZE_MIB && !job.threads
+    job.load.is_none() && job.targets == TARGETS && !job.threads
 }
 
 // Whether a word is this option, with or without its value.
@@ -32,9 +31,7 @@ fn is_option(word: &[u8], name: &[u8]) -> bool
 fn asks_more(job: &Job, word: &[u8]) -> bool
     ensures { result ≡ asks_more job.now word.now }
 {
-    is_option(word, b"--threads")
-        || job.targets != TARGETS && is_option(word, b"--targets")
-        || job.size_mib != SIZE_MIB && is_option(word, b"--size")
+    is_option(word, b"--threads") || job.targets != TARGETS && is_option(word, b"--targets")
 }
 
 // The first place of such a word, or that behind the last word.
@@ -61,8 +58,7 @@ fn place_of_more(job: &Job, words: &[String]) -> usize
     first_of_more(job, words)
 }
 
-/// The job that words ask for, where it is run so far: a script, on one target with the default
-/// size and without threads.
+/// The job that words ask for, where it is run so far: a script, on one target and without threads.
 ///
 /// # Errors
 ///
@@ -72,7 +68,8 @@ fn place_of_more(job: &Job, words: &[String]) -> usize
 pub fn run_job(alloc: Global, words: &[String]) -> Result<Job, WordNo>
     ensures job { IfOk result (λ job. run_job_of (map string_bytes words.now) ≡ Ok job) }
     ensures refused { IfErr result (IsRefusedFor (map string_bytes words.now)) }
-    ensures targets { IfOk result (λ job. job.targets ≡ 1) }
+    ensures one { IfOk result (λ job. job.targets ≡ 1) }
+    ensures form { IfOk result IsInForm }
 {
     words_are_jobs();
     let job = read_words(alloc, words)?;

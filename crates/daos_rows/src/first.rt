@@ -144,9 +144,9 @@ fn words_that_are_not_run_are_refused(rt: HostRuntime) -> Result<(), Fail> {
         ),
         (
             &["run", "--order=5", "--size", "8"],
-            2,
+            4,
             WordKind::NotYet,
-            "daos: word 2: NotYet",
+            "daos: word 4: NotYet",
         ),
         (
             &["--targets", "1", "load", "5"],
@@ -226,7 +226,7 @@ fn scripts_that_are_not_run_are_refused(rt: HostRuntime) -> Result<(), Fail> {
             "daos: script line 2: BadBlock",
         ),
         (
-            b"client\nclient\n",
+            b"cont c 00000000-0000-0000-0000-000000000001\nclient\nsnap s c\n",
             0,
             Why::NotYet,
             "daos: script line 0: NotYet",

@@ -1,7 +1,4 @@
-pub mod Lists
-pub mod Answers
-pub mod Epochs
-pub mod SoFar
-pub mod Steps
-pub mod Whole
-pub mod RunnableLaws
+pub mod Begun
+pub mod Reported
+pub mod Slots
+pub mod Firsts

@@ -1,8 +1,5 @@
-pub mod Lone
-pub mod Issue
-pub mod Told
-pub mod Runs
+-- What a run says.
 pub mod Runnable
-pub mod Acts
-pub mod CommandLaws
-pub mod IssueLaws
+pub mod Slots
+pub mod Opens
+pub mod Stops

@@ -1,8 +1,9 @@
-// Runs a script: its transactions, one after another, and the report of them.
+// Runs a script: its clients on its targets, in an order of turns, and the report of them.
 #![tactic(auto)]
 
-mod attempt;
-mod clock;
+mod opening;
+pub mod parts;
 pub mod run;
+pub mod run_on;
 pub mod runnable;
 pub mod stop;

@@ -1,103 +1,54 @@
-// Runs the commands of a script's client, and reports them.
-ghost use Rattle.std.specs.Prelude.{◌≡◌, length, None, IfOk, IsOkUnless, slice_get};
-ghost use Rattle.daos_base.specs.Scripts.{IsRunnable};
-ghost use Rattle.daos_model.specs.Headline.{Headline};
-ghost use Rattle.daos_model.specs.Opening.{fresh, undisturbed};
-ghost use Rattle.daos_model.specs.Transactions.{ops_of};
-ghost use Rattle.daos_run.specs.Lone.{first_list, no_one};
-ghost use Rattle.daos_run.specs.Runs.{IsRunOf};
+// Runs a script on targets.
+ghost use Rattle.std.specs.Prelude.{◌≡◌, ◌≤◌, IfOk, IsOkUnless};
+ghost use Rattle.daos_model.specs.Opening.{fresh};
+ghost use Rattle.daos_report.specs.Forms.{IsReportOf};
+ghost use Rattle.daos_run.specs.Opens.{IsLegal};
+ghost use Rattle.daos_run.specs.Runnable.{IsRunnable};
 
-use crate::attempt::run_attempt;
-use crate::clock::next_ticks;
+use crate::parts::Parts;
+use crate::run_on::run_on;
 use crate::stop::RunStop;
-use daos_base::epoch::Epoch;
-use daos_base::items::{Items, Memory};
 use daos_base::job::Job;
-use daos_base::operation::Op;
-use daos_base::report::{Line, Lines, Report};
-use daos_base::script::{Command, Script};
-use daos_model::map::Map;
-use daos_outside::clock::Clock;
+use daos_base::report::Report;
+use daos_base::script::Script;
 use daos_outside::gate::Gate;
 use daos_outside::rack::Rack;
 use std::alloc::Global;
 use std::sync::Wait;
 use std::thread::Threads;
+use vos_plain::store::PlainStore;
 
-/// The tracker with which a client of regions of zeros begins: the greatest epoch below ticks 1.
-pub const FIRST_TRACKER: Epoch = Epoch(255);
-
-// The operations of a command.
-fn ops_of(command: &Command) -> &[Op]
-    ensures { result.now ≡ ops_of command.now }
-{
-    match command {
-        Command::Run { ops, .. } => ops.as_slice(),
-        _ => &[],
-    }
-}
-
-// The list of the one client, or none.
-fn client_list(script: &Script) -> &[Command]
-    ensures { result.now ≡ first_list script.now.clients }
-{
-    match script.clients.as_slice() {
-        [list, ..] => list.as_slice(),
-        [] => &[],
-    }
-}
-
-// Runs the commands of the one client, each at an epoch of its own.
-fn run_commands<C: Clock, G: Gate>(
-    alloc: Global,
-    script: &Script,
-    clock: &mut C,
-    gate: &G,
-) -> Result<Lines, Memory>
-    requires { IsRunnable 1 script.now }
-    ensures { IfOk result (λ lines. IsRunOf script.now lines) }
-{
-    let mut map = Map::new(alloc);
-    let mut lines = Items::new(alloc);
-    let mut ticks: u64 = 0;
-    let mut tracker = FIRST_TRACKER;
-    for (number, command) in client_list(script).iter().enumerate() {
-        gate.pass(true, 0, number as u64);
-        ticks = next_ticks(ticks, clock.now(), tracker);
-        tracker = Epoch(ticks * 256);
-        let attempt = run_attempt(alloc, &mut map, number as u32, tracker, ops_of(command))?;
-        lines.push(Line::Try(attempt))?;
-    }
-    Ok(lines)
-}
-
-/// Runs a script and reports what became of its commands. So far a script has one client and runs
-/// on one target, whose region is not asked for: the rack gives its clock alone.
+/// Runs a script and reports what became of its commands. So far it runs on one target, whose store is
+/// a list in memory: the rack gives its clock alone.
 ///
 /// # Errors
 ///
-/// `Memory` alone.
+/// `Memory` alone. A store in memory that no plan stops and that has no fuse stops at nothing else; did
+/// it, `Memory` would be told.
 pub fn run_script<R: Threads + Wait + Sync, B: Rack, G: Gate + Sync>(
-    _rt: &R,
+    rt: &R,
     alloc: Global,
     job: &Job,
     script: &Script,
     rack: &mut B,
     gate: &G,
 ) -> Result<Report, RunStop>
-    requires targets { job.now.targets ≡ 1 }
-    requires script { IsRunnable job.now.targets script.now }
-    ensures headline { IfOk result (λ report. Headline (fresh script.now job.now) undisturbed no_one report) }
-    ensures lone { IfOk result (λ report. IsRunOf script.now report.lines) }
-    ensures down { IfOk result (λ report. report.down ≡ None) }
+    requires one { job.now.targets ≡ 1 }
+    requires least_size { 2 ≤ job.now.size_mib }
+    requires most_size { job.now.size_mib ≤ 32 }
+    requires least { 1 ≤ job.now.attempts }
+    requires most { job.now.attempts ≤ 100 }
+    requires script { IsRunnable 1 script.now }
+    ensures legal { IfOk result (λ report. IsLegal (fresh script.now job.now) report) }
+    ensures form { IfOk result (λ report. IsReportOf script.now report) }
     ensures refusals { IsOkUnless result RunStop.Memory }
     ensures rack { B.count rack.new ≡ B.count rack.old }
 {
-    let mut clock = rack.clock(0);
-    let lines = run_commands(alloc, script, &mut clock, gate)?;
-    Ok(Report {
-        targets: job.targets,
-        lines,
-        down: None,
-    })
+    let clock = rack.clock(0);
+    let mut parts = Parts::new(alloc, 1)?;
+    parts.set(0, PlainStore::new(alloc, job.size_mib, &[])?, clock);
+    match run_on(rt, alloc, job, script, &mut parts, gate) {
+        Ok(report) => Ok(report),
+        Err(_stop) => Err(RunStop::Memory),
+    }
 }

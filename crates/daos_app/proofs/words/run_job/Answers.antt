@@ -14,3 +14,6 @@ returns-then-is_run-clause-job c = run_is_asked (map string_bytes c.args.words.n
 pub returns-clause-refused : goal.returns-clause-refused
 returns-clause-refused c =
     rw c.place_of_more.ensures.exact (more_is_asked (map string_bytes c.args.words.now) c.in_ok-job.job (sym c.read_words.ensures ∙ c.in_ok-job.was) (sym c.if-is_run.ensures))
+
+pub returns-then-is_run-clause-form : goal.returns-then-is_run-clause-form
+returns-then-is_run-clause-form c = c.words_are_jobs.ensures.form (map string_bytes c.args.words.now) c.in_ok-job.job (sym c.read_words.ensures ∙ c.in_ok-job.was)

@@ -1,0 +1,12 @@
+-- Places of which none is set.
+use Rattle.std.specs.Prelude.{ℕ, ◌≡◌, ◌≤◌, ◌+◌, List, [], ◌∷◌, ◌++◌, length, replicate, Option, None, Result, Ok, is_ok, if◌then◌else◌, refl}
+use Rattle.std.proofs.Common.{zero, suc, ◌∙◌, ap, sym, arith}
+
+-- so many places without anything; there is room for these
+pub record AreNone {T : Type 0} (slots : List (Option T)) (count room cap : ℕ) : Type 0 where
+  pub none : slots ≡ replicate count None
+  pub room_is : room ≤ cap
+
+-- what a list holds that was empty and to which one was added
+pub pushed : {T U E : Type 0} (r : Result U E) (u : U) (xs new other : List T) (x : T) → new ≡ (if is_ok r then xs ++ x ∷ [] else other) → r ≡ Ok u → xs ≡ [] → new ≡ x ∷ []
+pushed r u xs new other x h ok none = h ∙ ap (λ q. if is_ok q then xs ++ x ∷ [] else other) ok ∙ ap (λ ys. ys ++ x ∷ []) none

@@ -1,0 +1,80 @@
+// A run begins: a store gets the script's containers, and the clients are made.
+ghost use Rattle.std.specs.Prelude.{◌≡◌, ◌≤◌, length, IfErr, IfOk, OnOk};
+ghost use Rattle.daos_base.specs.Scripts.{IsInForm};
+ghost use Rattle.daos_run.specs.Opens.{AreFirst, IsEmpty, IsOpened};
+ghost use Rattle.world_begins.specs.Begins.{declared_conts};
+
+use crate::stop::{Part, RunStop};
+use client_core::client::Client;
+use daos_base::epoch::{Epoch, TargetId};
+use daos_base::id::ContId;
+use daos_base::items::{Items, Memory};
+use daos_base::script::Script;
+use std::alloc::Global;
+use vos_store::refusal::EnlistNo;
+use vos_store::store::Store;
+
+// The containers that a script declares.
+fn conts_of(alloc: Global, script: &Script) -> Result<Vec<ContId>, Memory>
+    ensures { IfOk result (λ conts. conts.items ≡ declared_conts script.now) }
+{
+    let mut conts = Vec::with_capacity(alloc, script.conts.len())?;
+    for cont in script.conts.as_slice() {
+        conts.push(cont.id)?;
+    }
+    Ok(conts)
+}
+
+// Why containers aren't added to the store of a target.
+fn enlist_stop(target: TargetId, no: EnlistNo) -> RunStop {
+    match no {
+        EnlistNo::TooMany { together } => RunStop::Shape {
+            target,
+            what: Part::Containers,
+            found: u64::from(together),
+            asked: 256,
+        },
+        EnlistNo::Stopped => RunStop::RackFault { target },
+        EnlistNo::Memory => RunStop::Memory,
+    }
+}
+
+/// Opens an empty store for a run of a script: its containers are added.
+pub fn open<S: Store>(
+    alloc: Global,
+    script: &Script,
+    store: &mut S,
+    size: u8,
+) -> Result<(), RunStop>
+    requires few { length script.now.conts ≤ 256 }
+    requires empty { IsEmpty S.durable S.state size store.old }
+    ensures opened { OnOk result (IsOpened S.durable S.state script.now size store.new) }
+{
+    let _size = size;
+    let conts = conts_of(alloc, script)?;
+    match store.enlist(&conts) {
+        Ok(()) => Ok(()),
+        Err(no) => Err(enlist_stop(0, no)),
+    }
+}
+
+/// The clients of a script before their first turns, each of whose commands has so many attempts.
+pub fn clients_of(
+    alloc: Global,
+    script: &Script,
+    tracker: Epoch,
+    attempts: u8,
+) -> Result<Vec<Client>, Memory>
+    requires form { IsInForm script.now.targets script.now }
+    requires least { 1 ≤ attempts }
+    requires most { attempts ≤ 100 }
+    ensures { IfOk result (λ clients. AreFirst script.now attempts tracker clients.items) }
+{
+    let opening = Items::new(alloc);
+    let mut clients = Vec::with_capacity(alloc, script.clients.len())?;
+    for number in 0..script.clients.len() {
+        let client = Client::new(alloc, number as u16, script, &opening, tracker, attempts)?;
+        clients.push(client)?;
+    }
+    Ok(clients)
+}
