@@ -1,5 +1,5 @@
 -- Which words are run so far, and where others ask for more.
-use Rattle.std.specs.Prelude.{◌≡◌, ℕ, Bool, ◌&&◌, ◌||◌, ◌==◌, not, nat_eq, is_none, is_some, List, length, codes, Result, Ok, Err, if◌then◌else◌}
+use Rattle.std.specs.Prelude.{◌≡◌, ℕ, Bool, ◌&&◌, ◌||◌, ◌==◌, not, nat_eq, is_none, is_some, List, codes, Result, Ok, Err, if◌then◌else◌}
 use Rattle.std.specs.List.{position_or_len, starts_with}
 use Rattle.daos_base.specs.declared.fault.WordFault.{WordFault}
 use Rattle.daos_base.specs.declared.fault.WordKind.TheVariants.{NotYet}
