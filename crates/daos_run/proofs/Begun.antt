@@ -1,12 +1,11 @@
 -- The world that a run begins with, and what the run comes to.
-use Rattle.std.specs.Prelude.{ℕ, ◌≡◌, ◌≤◌, ◌<◌, ◌-◌, ◌*◌, ◌/◌, All, Bool, true, false, ◌&&◌, not, is_none, is_some, List, [], ◌∷◌, length, map, slice_get, Option, Some, None, refl}
+use Rattle.std.specs.Prelude.{ℕ, ◌≡◌, ◌≤◌, ◌/◌, All, Bool, true, false, ◌&&◌, List, [], ◌∷◌, length, map, slice_get, Option, Some, None, refl}
 use Rattle.std.specs.List.{list_all}
 use Rattle.std.proofs.Common.{zero, suc, sym, ◌∙◌, ap, subst, arith}
 use Rattle.std.proofs.lemmas.List.Elements.{All-nil}
 use Rattle.client_core.specs.Clients.{ClientNow}
 use Rattle.daos_base.specs.Scripts.{IsInForm}
 use Rattle.daos_base.specs.declared.job.Job.{Job}
-use Rattle.daos_base.specs.declared.report.Line.{Line}
 use Rattle.daos_base.specs.declared.script.Command.{Command}
 use Rattle.daos_base.specs.declared.script.Command.TheVariants.{Aggregate, Run, Skip, Snap, Tell}
 use Rattle.daos_base.specs.declared.script.Script.{Script}
@@ -17,10 +16,9 @@ use Rattle.daos_model.specs.Opening.{Given, fresh, fresh_opening}
 use Rattle.daos_run.specs.Opens.{AreFirst, IsNew, IsOpened}
 use Rattle.daos_run.specs.Runnable.{IsRunnable, are_run, is_run, runs}
 use Rattle.run_order.specs.Ended.{nothing}
-use Rattle.run_order.specs.Shows.{IsGoing, IsReached, IsTargetOf, Shows, state_of}
+use Rattle.run_order.specs.Shows.{IsGoing, IsReached, IsTargetOf, state_of}
 use Rattle.target_core.specs.Targets.{IsHeard, TargetOf}
 use Rattle.vos_store.specs.Calls.{State}
-use Rattle.world_base.specs.declared.client.ClientState.{ClientState}
 use Rattle.world_base.specs.declared.target.Life.TheVariants.{Running}
 use Rattle.world_base.specs.declared.target.TargetState.{TargetState}
 use Rattle.world_base.specs.declared.world.World.{World}
@@ -28,7 +26,7 @@ use Rattle.world_base.specs.ClientTurns.{at_first, plan_of}
 use Rattle.world_begins.specs.Begins.{AreEnlisted, IsAlone, IsBegun, OpensWith, declared_conts, first_client}
 use Rattle.world_begins.specs.Fresh.{fresh-opens}
 use Rattle.world_ends.specs.Ends.{rules_of}
-use Rattle.world_epochs.specs.Epochs.{Unsnapped, is_unsnapped}
+use Rattle.world_epochs.specs.Epochs.{is_unsnapped}
 use Rattle.world_events.specs.Events.{Begins, Rules, client_plan, commands_or_none, target_plan}
 
 -- ---- scripts

@@ -1,5 +1,5 @@
 -- What a run of the actors gives.
-use Rattle.std.specs.Prelude.{ℕ, ◌≡◌, ◌≤◌, List, [], ◌∷◌, length, slice_get, Option, Some, refl}
+use Rattle.std.specs.Prelude.{◌≡◌, ◌≤◌, List, [], ◌∷◌, length, slice_get, Option, Some, refl}
 use Rattle.std.proofs.Common.{sym, ◌∙◌, ap, subst, arith}
 use Rattle.daos_base.specs.declared.job.Job.{Job}
 use Rattle.daos_base.specs.declared.report.Line.{Line}
@@ -15,7 +15,6 @@ use Rattle.daos_run.proofs.Begun.{is-alone}
 use Rattle.run_order.specs.Ended.{HasRun}
 use Rattle.target_core.specs.Targets.{TargetOf}
 use Rattle.vos_store.specs.Calls.{State}
-use Rattle.world_base.specs.declared.target.TargetState.{TargetState}
 use Rattle.world_base.specs.declared.world.World.{World}
 use Rattle.world_begins.specs.Begins.{IsBegun}
 use Rattle.world_ends.specs.Ends.{rules_of}

@@ -1,6 +1,6 @@
 -- Places of which none is set.
-use Rattle.std.specs.Prelude.{ℕ, ◌≡◌, ◌≤◌, ◌+◌, List, [], ◌∷◌, ◌++◌, length, replicate, Option, None, Result, Ok, is_ok, if◌then◌else◌, refl}
-use Rattle.std.proofs.Common.{zero, suc, ◌∙◌, ap, sym, arith}
+use Rattle.std.specs.Prelude.{ℕ, ◌≡◌, ◌≤◌, List, [], ◌∷◌, ◌++◌, replicate, Option, None, Result, Ok, is_ok, if◌then◌else◌}
+use Rattle.std.proofs.Common.{◌∙◌, ap}
 
 -- so many places without anything; there is room for these
 pub record AreNone {T : Type 0} (slots : List (Option T)) (count room cap : ℕ) : Type 0 where

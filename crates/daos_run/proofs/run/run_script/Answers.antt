@@ -1,4 +1,4 @@
-use Rattle.std.specs.Prelude.{None, Some, slice_set, refl}
+use Rattle.std.specs.Prelude.{Some, slice_set, refl}
 use Rattle.std.proofs.Common.{◌∙◌, ap, subst, sym, arith}
 use Rattle.daos_run.specs.Opens.{IsFreshState}
 use Rattle.daos_run.proofs.run.run_script.Goals as goal

@@ -1,7 +1,5 @@
-use Rattle.std.specs.Prelude.{◌≡◌, IfOk, None, Some, slice_set}
+use Rattle.std.specs.Prelude.{IfOk, None, Some, slice_set}
 use Rattle.std.proofs.Common.{◌∙◌, ap, subst, sym}
-use Rattle.daos_base.specs.declared.report.Line.{Line}
-use Rattle.daos_base.specs.declared.report.Report.{Report}
 use Rattle.daos_model.specs.Opening.{fresh}
 use Rattle.daos_run.specs.Opens.{IsLegal, Reports, Stands, report_of}
 use Rattle.daos_run.proofs.run_on.run_on.Goals as goal
