@@ -1,5 +1,5 @@
 -- Where a client is.
-use Rattle.std.proofs.Common.{◌≡◌, ℕ, ◌+◌, ◌-◌, ◌^◌, ◌<◌, ◌≤◌, Bool, true, false, List, [], ◌∷◌, length, get_or, slice_get, drop, count_by, is_some, Option, None, Some, All, refl, sym, ◌∙◌, ap, subst, arith, cond, zero-add, if◌then◌else◌}
+use Rattle.std.proofs.Common.{◌≡◌, ℕ, ◌+◌, ◌-◌, ◌^◌, ◌<◌, true, false, List, ◌∷◌, length, slice_get, drop, count_by, is_some, Option, None, Some, All, refl, sym, ◌∙◌, ap, subst, arith, cond, zero-add, if◌then◌else◌}
 use Rattle.std.proofs.lemmas.Option.{get_or_from_slice_get, slice_get_within}
 use Rattle.std.proofs.lemmas.List.{drop_more}
 use Rattle.std.proofs.lemmas.List.Sums.{sum_by-cons}
