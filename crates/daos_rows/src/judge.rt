@@ -155,14 +155,28 @@ fn come_in_turn(attempts: &[&Attempt], client: u16, commands: u32, limit: u8) ->
         if (attempt.id.command, attempt.id.attempt) != next {
             return false;
         }
-        let again = matches!(attempt.outcome, Outcome::Restart(_)) && next.1 + 1 < limit;
+        let again = matches!(attempt.outcome, Outcome::Restart(_))
+            && next.1.saturating_add(1) < limit;
         next = if again {
-            (next.0, next.1 + 1)
+            (next.0, next.1.wrapping_add(1))
         } else {
             (next.0.wrapping_add(1), 0)
         };
     }
     next == (commands, 0)
+}
+
+// Whether those of every client are.
+fn all_come_in_turn(script: &Script, attempts: &[&Attempt], limit: u8) -> bool {
+    for (client, list) in script.clients.as_slice().iter().enumerate() {
+        if client > 65_535 || list.len() > 100_000 {
+            return false;
+        }
+        if !come_in_turn(attempts, client as u16, list.len() as u32, limit) {
+            return false;
+        }
+    }
+    true
 }
 
 // Whether each attempt has an epoch that target 0 issued above all of before, no two have the same, and
@@ -204,15 +218,11 @@ pub fn is_legal(alloc: Global, script: &Script, report: &Report, limit: u8) -> R
     let Some(attempts) = attempts_of(alloc, report)? else {
         return Ok(false);
     };
-    let lists = script.clients.as_slice().iter().enumerate();
-    let in_turn = lists.all(|(client, list)| {
-        come_in_turn(&attempts, client as u16, list.len() as u32, limit)
-    });
     let ends = attempts
         .iter()
         .all(|attempt| ends_rightly(script, &attempts, attempt));
     Ok(
-        in_turn
+        all_come_in_turn(script, &attempts, limit)
             && ends
             && epochs_are_right(&attempts)
             && answers_are_right(alloc, script, &attempts)?,

@@ -22,7 +22,7 @@ fn report_of<R: Threads + Wait + Sync>(
     alloc: Global,
     script: &[u8],
     options: &[&str],
-) -> Result<SureSink, Fail> {
+) -> Result<(Status, SureSink), Fail> {
     let mut words = Vec::new(alloc);
     for word in ["run", "--targets", "1"] {
         words.push(String::from_str(alloc, word)?)?;
@@ -42,8 +42,7 @@ fn report_of<R: Threads + Wait + Sync>(
         &mut rack,
         &FreeGate,
     );
-    assert_eq!(rt; status, Status::Done);
-    Ok(sink)
+    Ok((status, sink))
 }
 
 // Whether a report tells of an attempt that was told to restart.
@@ -62,7 +61,8 @@ fn drawn_orders_give_legal_reports(rt: HostRuntime) -> Result<(), Fail> {
     let mut restarted = 0;
     for order in 1..201 {
         let order = format!(in alloc; "{order}")?;
-        let sink = report_of(&rt, alloc, text, &["--order", order.as_str()])?;
+        let (status, sink) = report_of(&rt, alloc, text, &["--order", order.as_str()])?;
+        assert_eq!(rt; status, Status::Done);
         let report = read_report(alloc, sink.bytes(), &script)?;
         assert!(rt; is_legal(alloc, &script, &report, 8)?, "order {order}");
         if restarts(&report) {
@@ -113,7 +113,8 @@ fn puts_that_fit(report: &Report, puts: usize) -> Option<usize> {
 fn puts_end_where_blocks_end(rt: HostRuntime) -> Result<(), Fail> {
     let alloc = rt.alloc();
     let text = puts_and_a_get(alloc, 2000)?;
-    let sink = report_of(&rt, alloc, text.as_bytes(), &["--size", "2"])?;
+    let (status, sink) = report_of(&rt, alloc, text.as_bytes(), &["--size", "2"])?;
+    assert_eq!(rt; status, Status::Done);
     let script = read_script(alloc, text.as_bytes(), 1)?;
     let report = read_report(alloc, sink.bytes(), &script)?;
     let fit = puts_that_fit(&report, 2000).unwrap_or(0);
