@@ -4,5 +4,3 @@
 mod commands;
 mod places;
 pub mod script;
-#[cfg(test)]
-mod tests;

@@ -4,5 +4,3 @@
 pub mod fault;
 mod reading;
 pub mod report;
-#[cfg(test)]
-mod tests;

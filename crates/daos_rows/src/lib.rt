@@ -10,6 +10,10 @@ mod copies;
 #[cfg(test)]
 mod first;
 #[cfg(test)]
+mod judge;
+#[cfg(test)]
+mod orders;
+#[cfg(test)]
 mod planned;
 #[cfg(test)]
 mod slow;

@@ -5,5 +5,3 @@ pub mod fault;
 pub mod laws;
 mod reading;
 pub mod script;
-#[cfg(test)]
-mod tests;

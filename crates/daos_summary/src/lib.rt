@@ -4,5 +4,3 @@
 mod counts;
 mod rows;
 pub mod summary;
-#[cfg(test)]
-mod tests;

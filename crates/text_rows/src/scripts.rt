@@ -1,6 +1,6 @@
 // Texts, and what is wrong with them: the line and the fault. The tables are another reader's.
-use crate::fault::ScriptNo;
-use crate::script::read_script;
+use daos_script::fault::ScriptNo;
+use daos_script::script::read_script;
 use daos_base::fault::Why;
 use daos_base::key::Key;
 use daos_base::script::{Command, Script};

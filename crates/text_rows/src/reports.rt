@@ -1,6 +1,6 @@
 // Texts of reports, read.
-use crate::fault::ReportNo;
-use crate::report::read_report;
+use daos_report_reader::fault::ReportNo;
+use daos_report_reader::report::read_report;
 use daos_base::answer::Answer;
 use daos_base::epoch::Epoch;
 use daos_base::id::{AttemptId, Class, ContId, ObjId};

@@ -1,5 +1,5 @@
 // Summaries.
-use crate::summary::summary_text;
+use daos_summary::summary::summary_text;
 use daos_base::epoch::Epoch;
 use daos_base::id::AttemptId;
 use daos_base::items::Items;

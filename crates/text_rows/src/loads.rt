@@ -1,7 +1,7 @@
 // Generated scripts.
 ghost use Rattle.std.specs.Prelude.{◌<◌, ◌≤◌};
 
-use crate::script::make_script;
+use daos_gen::script::make_script;
 use daos_base::id::Class;
 use daos_base::key::Key;
 use daos_base::operation::{Act, Op, Read, Write};

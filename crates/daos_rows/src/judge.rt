@@ -1,0 +1,230 @@
+// Whether a report of one target is legal, as the slow functions of the definitions find it. Scripts
+// whose clients put and get single values, without conditions, stops, snapshots and aggregation.
+ghost use Rattle.std.specs.Prelude.{All, IfOk};
+ghost use Rattle.daos_model.specs.Effect.{AllEndInArrays, EndsInArray};
+
+use daos_base::answer::Answer;
+use daos_base::epoch::Epoch;
+use daos_base::id::AttemptId;
+use daos_base::items::{Items, Memory};
+use daos_base::operation::{Act, Op, Write};
+use daos_base::outcome::{Cause, Outcome};
+use daos_base::path::Path;
+use daos_base::report::{Attempt, Line, Report};
+use daos_base::script::{Command, Script};
+use daos_model::answers::answer_of;
+use daos_model::as_of::as_of;
+use daos_model::map::Map;
+use daos_model::stand::{Stand, Taken};
+use std::alloc::Global;
+use std::test::Fail;
+
+// The operations of a client's command of this number.
+fn ops_of(script: &Script, id: AttemptId) -> &[Op] {
+    let mut number: u32 = 0;
+    for (client, list) in script.clients.as_slice().iter().enumerate() {
+        if client == usize::from(id.client) {
+            for command in list.as_slice() {
+                if let Command::Run { ops, .. } = command {
+                    if number == id.command {
+                        return ops.as_slice();
+                    }
+                    number = number.wrapping_add(1);
+                }
+            }
+        }
+    }
+    &[]
+}
+
+// The attempts that a report tells of; none where it tells of something else.
+fn attempts_of(alloc: Global, report: &Report) -> Result<Option<Vec<&Attempt>>, Memory> {
+    let mut attempts = Vec::new(alloc);
+    for line in report.lines.as_slice() {
+        match line {
+            Line::Try(attempt) => attempts.push(attempt)?,
+            _ => return Ok(None),
+        }
+    }
+    Ok(Some(attempts))
+}
+
+// The single values that operations write.
+fn writes_of(alloc: Global, ops: &[Op]) -> Result<Vec<Write>, Memory>
+    ensures { IfOk result (λ writes. All EndsInArray writes.items) }
+{
+    let mut writes = Vec::new(alloc);
+    for op in ops {
+        if let Act::Change(Write::Single(path, bytes)) = &op.act {
+            writes.push(Write::Single(path.copy()?, bytes.copy()?))?;
+        }
+    }
+    Ok(writes)
+}
+
+// The transactions of these attempts that took effect.
+fn took(alloc: Global, script: &Script, attempts: &[&Attempt]) -> Result<Vec<Taken>, Memory>
+    ensures { IfOk result (λ took. AllEndInArrays took.items) }
+{
+    let mut took = Vec::new(alloc);
+    for attempt in attempts {
+        let writes = writes_of(alloc, ops_of(script, attempt.id))?;
+        if let (Outcome::Committed, Some(epoch), false) = (
+            &attempt.outcome,
+            attempt.epoch,
+            writes.is_empty(),
+        ) {
+            took.push(Taken {
+                epoch,
+                writes: Items::from_vec(writes),
+            })?;
+        }
+    }
+    Ok(took)
+}
+
+// Whether two answers are told alike.
+fn is_told_as(alloc: Global, one: &Answer, other: &Answer) -> Result<bool, Fail> {
+    let (one, other) = (
+        format!(in alloc; "{one:?}")?,
+        format!(in alloc; "{other:?}")?,
+    );
+    Ok(one.as_str() == other.as_str())
+}
+
+// Whether each answer of an attempt is that of its read on a map.
+fn reads_are_right(alloc: Global, map: &Map, ops: &[Op], attempt: &Attempt) -> Result<bool, Fail> {
+    for (number, answer) in attempt.gots.as_slice() {
+        let Some(
+            Op {
+                act: Act::Fetch(read),
+                ..
+            },
+        ) = ops.get(usize::from(*number))
+        else {
+            return Ok(false);
+        };
+        if !is_told_as(alloc, &answer_of(alloc, map, read)?, answer)? {
+            return Ok(false);
+        }
+    }
+    Ok(true)
+}
+
+// Whether an attempt has a read at this path.
+fn reads_at(ops: &[Op], path: &Path) -> bool {
+    ops.iter().any(|op| match &op.act {
+        Act::Fetch(read) => read.path().same(path),
+        Act::Change(_) => false,
+    })
+}
+
+// Whether it has a write near this path.
+fn writes_near(ops: &[Op], path: &Path) -> bool {
+    ops.iter().any(|op| match &op.act {
+        Act::Fetch(_) => false,
+        Act::Change(write) => write.path().near(path),
+    })
+}
+
+// Whether an attempt may end so: committed, or told to restart by an attempt that read at a later
+// epoch near a write.
+fn ends_rightly(script: &Script, attempts: &[&Attempt], attempt: &Attempt) -> bool {
+    match &attempt.outcome {
+        Outcome::Committed => true,
+        Outcome::Restart(Cause::ReadLater { by, epoch, path }) => {
+            attempt.epoch < Some(*epoch)
+                && attempts
+                    .iter()
+                    .any(|other| other.id == *by && other.epoch == Some(*epoch))
+                && reads_at(ops_of(script, *by), path)
+                && writes_near(ops_of(script, attempt.id), path)
+        }
+        _ => false,
+    }
+}
+
+// Whether the attempts of a client are those of its commands in turn: each command is tried until its
+// attempt isn't told to restart, or was the last one that it may have.
+fn come_in_turn(attempts: &[&Attempt], client: u16, commands: u32, limit: u8) -> bool {
+    let mut next = (0, 0);
+    for attempt in attempts
+        .iter()
+        .filter(|attempt| attempt.id.client == client)
+    {
+        if (attempt.id.command, attempt.id.attempt) != next {
+            return false;
+        }
+        let again = matches!(attempt.outcome, Outcome::Restart(_))
+            && next.1.saturating_add(1) < limit;
+        next = if again {
+            (next.0, next.1.wrapping_add(1))
+        } else {
+            (next.0.wrapping_add(1), 0)
+        };
+    }
+    next == (commands, 0)
+}
+
+// Whether those of every client are.
+fn all_come_in_turn(script: &Script, attempts: &[&Attempt], limit: u8) -> bool {
+    for (client, list) in script.clients.as_slice().iter().enumerate() {
+        if client > 65_535 || list.len() > 100_000 {
+            return false;
+        }
+        if !come_in_turn(attempts, client as u16, list.len() as u32, limit) {
+            return false;
+        }
+    }
+    true
+}
+
+// Whether each attempt has an epoch that target 0 issued above all of before, no two have the same, and
+// those of a client rise.
+fn epochs_are_right(attempts: &[&Attempt]) -> bool {
+    let above = |attempt: &Attempt| match attempt.epoch {
+        Some(epoch) => epoch > Epoch(255) && epoch.issuer() == 0,
+        None => false,
+    };
+    attempts.iter().all(|attempt| above(attempt))
+        && attempts.iter().enumerate().all(|(place, attempt)| {
+            attempts[..place].iter().all(|before| {
+                before.epoch != attempt.epoch
+                    && (before.id.client != attempt.id.client || before.epoch < attempt.epoch)
+            })
+        })
+}
+
+// Whether every answer is that of the map as of its attempt's epoch.
+fn answers_are_right(alloc: Global, script: &Script, attempts: &[&Attempt]) -> Result<bool, Fail> {
+    let opening = Stand {
+        now: Map::new(alloc),
+        snaps: Items::new(alloc),
+    };
+    let took = took(alloc, script, attempts)?;
+    for attempt in attempts {
+        let epoch = attempt.epoch.unwrap_or(Epoch(0));
+        let map = as_of(alloc, &opening, &took, epoch)?;
+        if !reads_are_right(alloc, &map, ops_of(script, attempt.id), attempt)? {
+            return Ok(false);
+        }
+    }
+    Ok(true)
+}
+
+/// Whether a report is legal for a script that was run from regions of zeros, with so many attempts for
+/// each command.
+pub fn is_legal(alloc: Global, script: &Script, report: &Report, limit: u8) -> Result<bool, Fail> {
+    let Some(attempts) = attempts_of(alloc, report)? else {
+        return Ok(false);
+    };
+    let ends = attempts
+        .iter()
+        .all(|attempt| ends_rightly(script, &attempts, attempt));
+    Ok(
+        all_come_in_turn(script, &attempts, limit)
+            && ends
+            && epochs_are_right(&attempts)
+            && answers_are_right(alloc, script, &attempts)?,
+    )
+}
