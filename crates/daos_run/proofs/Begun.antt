@@ -16,7 +16,7 @@ use Rattle.daos_model.specs.Opening.{Given, fresh, fresh_opening}
 use Rattle.daos_run.specs.Opens.{AreFirst, IsNew, IsOpened}
 use Rattle.daos_run.specs.Runnable.{IsRunnable, are_run, is_run, runs}
 use Rattle.run_order.specs.Ended.{nothing}
-use Rattle.run_order.specs.Shows.{IsGoing, IsReached, IsTargetOf, state_of}
+use Rattle.run_order.specs.Shows.{IsGoing, IsTargetOf, Shows, state_of}
 use Rattle.target_core.specs.Targets.{IsHeard, TargetOf}
 use Rattle.vos_store.specs.Calls.{State}
 use Rattle.world_base.specs.declared.target.Life.TheVariants.{Running}
@@ -166,15 +166,11 @@ module _ {S C : Type 0} (durable : S → Option Durable) (state : S → State) (
         knows = refl;
       }
 
-  pub is-reached : IsReached durable state r first clients (x ∷ []) nothing
-  is-reached = record {
-    now = first;
-    run = Begins;
-    shows = record { clients = refl; plans = plans; many = refl; targets = the-target; messages = refl; issued = refl; lines = refl };
-  }
+  pub is-shown : Shows durable state r clients (x ∷ []) nothing first
+  is-shown = record { clients = refl; plans = plans; many = refl; targets = the-target; messages = refl; issued = refl; lines = refl }
 
   pub is-going : IsGoing durable state clients (x ∷ []) nothing
-  is-going = record { rules = r; opening = fresh_opening j.size_mib; first = first; alone = is-alone s j F least; begun = is-begun; reached = is-reached }
+  is-going = record { rules = r; opening = fresh_opening j.size_mib; first = first; alone = is-alone s j F least; begun = is-begun; reached = record { now = first; run = Begins; shows = is-shown } }
 
 -- an opened store keeps no version, and its lease covers its ticks
 pub is-heard : {S : Type 0} (durable : S → Option Durable) (state : S → State) (s : Script) (j : Job) (store : S) (d : Durable) → IsRunnable 1 s → IsOpened durable state s j.size_mib store → durable store ≡ Some d → IsHeard d.lease d

@@ -13,6 +13,7 @@ use Rattle.daos_run.specs.Opens.{Reports, report_of}
 use Rattle.daos_run.specs.Runnable.{IsRunnable}
 use Rattle.daos_run.proofs.Begun.{is-alone}
 use Rattle.run_order.specs.Ended.{HasRun}
+use Rattle.run_picks.specs.OrderLaws.{orders-are-runs}
 use Rattle.target_core.specs.Targets.{TargetOf}
 use Rattle.vos_store.specs.Calls.{State}
 use Rattle.world_base.specs.declared.world.World.{World}
@@ -26,11 +27,12 @@ one-there [] h = absurd (omega (arith, h))
 one-there (x ∷ xs) h = (x, refl)
 
 module _ {S C : Type 0} (durable : S → Option Durable) (state : S → State) (s : Script) (j : Job) (first : World) (xs : List (TargetOf S C)) (lines : List Line) (store : S)
-    (F : IsRunnable 1 s) (least : 1 ≤ j.attempts) (most : j.attempts ≤ 100) (B : IsBegun (rules_of (fresh s j)) (fresh s j).opening first) (K : HasRun durable state (rules_of (fresh s j)) first xs lines)
+    (F : IsRunnable 1 s) (least : 1 ≤ j.attempts) (most : j.attempts ≤ 100) (B : IsBegun (rules_of (fresh s j)) (fresh s j).opening first) (K : HasRun durable state (rules_of (fresh s j)) j.order first xs lines)
     (one : length xs ≡ 1) (its : (x : TargetOf S C) → slice_get xs 0 ≡ Some x → store ≡ x.store) where
   -- the report of its lines is legal and in form, and the store stands for it
   pub reports : Reports durable (fresh s j) (report_of s lines) store
   reports =
+      let run = orders-are-runs (rules_of (fresh s j)) j.order first K.last K.run in
       let x = one-there xs one in
       let t = one-there K.last.targets (K.many ∙ one) in
       let is = K.targets 0 x.0 t.0 x.1 t.1 in
@@ -38,8 +40,8 @@ module _ {S C : Type 0} (durable : S → Option Durable) (state : S → State) (
         stands = record {
           last = t.0.durable;
           kept = ap durable (its x.0 x.1) ∙ is.told;
-          headline = subst (λ ls. HeadlineOver (fresh s j) undisturbed (t.0.durable ∷ []) (report_of s ls)) (sym K.told) (runs-from-the-beginning (fresh s j) first K.last t.0 (is-alone s j F least) B K.run K.ended t.1);
+          headline = subst (λ ls. HeadlineOver (fresh s j) undisturbed (t.0.durable ∷ []) (report_of s ls)) (sym K.told) (runs-from-the-beginning (fresh s j) first K.last t.0 (is-alone s j F least) B run K.ended t.1);
         };
-        legal = λ resolved. subst (λ ls. Headline (fresh s j) undisturbed resolved (report_of s ls)) (sym K.told) (runs-give-the-headline (fresh s j) resolved first K.last (is-alone s j F least) B K.run K.ended);
-        form = subst (λ ls. IsReportOf s (report_of s ls)) (sym K.told) (fresh-runs-report-in-form s j first K.last (is-alone s j F least) B K.run K.ended (omega (arith, most)) F.keys);
+        legal = λ resolved. subst (λ ls. Headline (fresh s j) undisturbed resolved (report_of s ls)) (sym K.told) (runs-give-the-headline (fresh s j) resolved first K.last (is-alone s j F least) B run K.ended);
+        form = subst (λ ls. IsReportOf s (report_of s ls)) (sym K.told) (fresh-runs-report-in-form s j first K.last (is-alone s j F least) B run K.ended (omega (arith, most)) F.keys);
       }

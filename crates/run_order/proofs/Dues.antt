@@ -6,8 +6,8 @@ use Rattle.daos_messages.specs.declared.actor.ActorId.{ActorId}
 use Rattle.client_core.specs.Clients.{ClientNow}
 use Rattle.world_base.specs.declared.client.ClientState.{ClientState}
 use Rattle.world_base.specs.declared.letter.Letter.{Letter}
-use Rattle.world_events.specs.Letters.{client}
-use Rattle.run_order.specs.Due.{count_to, heard_awake}
+use Rattle.world_events.specs.Letters.{client, target}
+use Rattle.run_picks.specs.Picks.{count_to, heard_awake}
 
 pub at-index : {T : Type 0} (xs : List T) (n : ℕ) (x : T) → n < length xs → x ≡ slice_index_or xs n x → slice_get xs n ≡ Some x
 at-index [] n x within is = absurd (omega (arith, within))
@@ -26,7 +26,14 @@ hears c count heard number is some within = by (nat_lt 0 c.skip) refl
     by true s = absurd (let none : heard ≡ 0 = is ∙ ap (λ b. if b then 0 else count) s in omega (arith, none, some))
     by false s = record { awake = grind (arith, nat_tests); within = let all : heard ≡ count = is ∙ ap (λ b. if b then 0 else count) s in let few : number < max 1 count = within in omega (arith, all, some, few) }
 
--- a client that hears none is asleep, or there is none
+-- none is heard where the count that was looked at isn't above 0
+pub none-heard : (count heard : ℕ) → heard ≡ count → heard ≤ 0 → count ≡ 0
+none-heard count heard is none = omega (arith, is, none)
+
+pub silent : (c : ClientState) (count heard : ℕ) → heard ≡ heard_awake c count → heard ≤ 0 → heard_awake c count ≡ 0
+silent c count heard is none = none-heard (heard_awake c count) heard is none
+
+-- a client hears one of those to it, or none
 pub heard-few : (c : ClientState) (count heard : ℕ) → heard ≡ heard_awake c count → heard ≤ count
 heard-few c count heard is = by (nat_lt 0 c.skip) refl
   where
@@ -34,19 +41,24 @@ heard-few c count heard is = by (nat_lt 0 c.skip) refl
     by true s = let none : heard ≡ 0 = is ∙ ap (λ b. if b then 0 else count) s in omega (arith, none)
     by false s = let all : heard ≡ count = is ∙ ap (λ b. if b then 0 else count) s in omega (arith, all)
 
-there-is : {T : Type 0} (xs : List T) (n : ℕ) → n < length xs → (x : T) × (slice_get xs n ≡ Some x)
+pub there-is : {T : Type 0} (xs : List T) (n : ℕ) → n < length xs → (x : T) × (slice_get xs n ≡ Some x)
 there-is [] n h = absurd (omega (arith, h))
 there-is (x ∷ xs) zero h = (x, refl)
 there-is (x ∷ xs) (suc n) h = there-is xs n (omega (arith, h))
 
-actor : Bool → ℕ → ActorId
+abbrev pub actor : Bool → ℕ → ActorId
 actor kind n = record { client = kind; number = n }
+
+-- an actor by its kind and number
+pub named-client : (a : ActorId) (n : ℕ) → a.client ≡ true → n ≡ a.number → client n ≡ a
+named-client a n kind named = ap (actor true) named ∙ ap (λ k. actor k a.number) (sym kind)
+
+pub named-target : (a : ActorId) (n : ℕ) → a.client ≡ false → n ≡ a.number → target n ≡ a
+named-target a n kind named = ap (actor false) named ∙ ap (λ k. actor k a.number) (sym kind)
 
 -- a client hears one of those to it at most
 pub heard-by : (a : ActorId) (n heard : ℕ) (clients : List ClientNow) (letters : List Letter) → a.client ≡ true → n ≡ a.number → n < length clients
     → ((c : ClientNow) → slice_get clients n ≡ Some c → heard ≡ heard_awake c.state (count_to (client n) letters)) → heard ≤ count_to a letters
-unfolding actor
 heard-by a n heard clients letters kind named within is =
     let c = there-is clients n within in
-    let same : client n ≡ a = ap (actor true) named ∙ ap (λ k. actor k a.number) (sym kind) in
-    subst (λ x. heard ≤ count_to x letters) same (heard-few c.0.state (count_to (client n) letters) heard (is c.0 c.1))
+    subst (λ x. heard ≤ count_to x letters) (named-client a n kind named) (heard-few c.0.state (count_to (client n) letters) heard (is c.0 c.1))

@@ -4,3 +4,5 @@ pub mod Going
 pub mod Dues
 pub mod Follow
 pub mod Hearing
+pub mod Shown
+pub mod Loops

@@ -1,4 +1,4 @@
--- A turn of an actor leads to a world that a run reaches by one event more.
+-- A turn of an actor leads from a world that the actors show to one that they show then.
 use Rattle.std.specs.Prelude.{ℕ, ◌≡◌, List, [], ◌∷◌, ◌++◌, length, map, slice_get, false, Option, Some, None, refl}
 use Rattle.std.proofs.Common.{zero, suc, inl, inr, sym, ◌∙◌, ap, subst, arith}
 use Rattle.std.proofs.Math.ListN.{set}
@@ -6,7 +6,8 @@ use Rattle.std.proofs.lemmas.Bool.{cases_eq}
 use Rattle.client_core.specs.Clients.{ClientNow}
 use Rattle.daos_model.specs.declared.durable.Durable.{Durable}
 use Rattle.run_letters.specs.Letters.{BetweenNow, IsPicked}
-use Rattle.run_order.specs.Shows.{IsReached, IsTargetOf, Shows, state_of}
+use Rattle.run_order.specs.Shows.{IsTargetOf, Shows, Steps, state_of}
+use Rattle.run_picks.specs.Picks.{Going, Hearing, Idling, Serving, count_to, heard_awake, heard_by_client}
 use Rattle.target_core.specs.Targets.{TargetOf}
 use Rattle.vos_store.specs.Calls.{State}
 use Rattle.world_base.specs.declared.did.Did.{Did}
@@ -14,7 +15,7 @@ use Rattle.world_base.specs.declared.letter.Letter.{Letter}
 use Rattle.world_base.specs.declared.target.TargetState.{TargetState}
 use Rattle.world_base.specs.declared.world.World.{World}
 use Rattle.world_base.specs.ClientTurns.{HearTurn, NextTurn}
-use Rattle.world_events.specs.Events.{Goes, ByClient, ByTarget, Rules, ToClient, ToTarget, after_turn, client_plan, kept, listed, target_after, target_plan, with_client, with_epoch, with_target}
+use Rattle.world_events.specs.Events.{Rules, after_turn, client_plan, kept, listed, target_after, target_plan, with_client, with_epoch, with_target}
 use Rattle.world_events.specs.Letters.{Takes, client, letters_of, target}
 use Rattle.world_events.specs.StepLaws.{set-here, set-there}
 use Rattle.world_turns.specs.TargetTurns.{Hears, IdlesWhole}
@@ -67,7 +68,7 @@ pub record Follows (b : BetweenNow) (actor : _) (did : Did) (rest : List Letter)
   pub lines : b'.lines ≡ b.lines ++ map (with_epoch b.issued) did.lines
   pub issued : b'.issued ≡ b.issued ++ listed did.issued
 
-module _ {S C : Type 0} (durable : S → Option Durable) (state : S → State) (r : Rules) (first : World) (clients : List ClientNow) (targets : List (TargetOf S C)) (b : BetweenNow) where
+module _ {S C : Type 0} (durable : S → Option Durable) (state : S → State) (r : Rules) (clients : List ClientNow) (targets : List (TargetOf S C)) (b : BetweenNow) where
   -- ---- clients
 
   module _ (n : ℕ) (c d : ClientNow) (did : Did) (rest : List Letter) (b' : BetweenNow) (clients' : List ClientNow) where
@@ -90,42 +91,42 @@ module _ {S C : Type 0} (durable : S → Option Durable) (state : S → State) (
     here w k at = ap (λ cs. slice_get cs n) k.clients ∙ map-get state_of clients n c at
 
     -- a client heard a message
-    pub client-hears : IsReached durable state r first clients targets b → slice_get clients n ≡ Some c → c.state.skip ≡ 0 → (number : ℕ) (l : Letter) → IsPicked b.messages (client n) number l rest
-        → HearTurn c.plan c.state l.message did d.state → d.plan ≡ c.plan → Follows b (client n) did rest b' → clients' ≡ set clients n d → IsReached durable state r first clients' targets b'
-    client-hears k at awake number l picked turn plan f set' = record {
-      now = client-after k.now;
-      run = Goes k.now (client-after k.now) k.run (ToClient (record {
+    pub client-hears : (w : World) → Shows durable state r clients targets b w → slice_get clients n ≡ Some c → c.state.skip ≡ 0 → (number : ℕ) (l : Letter) → IsPicked b.messages (client n) number l rest
+        → HearTurn c.plan c.state l.message did d.state → d.plan ≡ c.plan → Follows b (client n) did rest b' → clients' ≡ set clients n d → Steps durable state r (client n) number w clients' targets b'
+    client-hears w k at awake number l picked turn plan f set' = record {
+      next = client-after w;
+      turn = Hearing (record {
         n = n;
         c = c.state;
         d = d.state;
         did = did;
         l = l;
         rest = rest;
-        here = here k.now k.shows at;
+        here = here w k at;
         awake = awake;
-        takes = subst (λ ls. Takes ls l rest) k.shows.messages (picked-takes b.messages number l rest (client n) picked);
+        takes = subst (λ ls. Takes ls l rest) k.messages (picked-takes b.messages number l rest (client n) picked);
         to_it = picked.to_it;
-        turn = subst (λ p. HearTurn p c.state l.message did d.state) (k.shows.plans n c at) turn;
+        turn = subst (λ p. HearTurn p c.state l.message did d.state) (k.plans n c at) turn;
         after = refl;
-      }));
-      shows = client-shown k.now k.shows plan at f set';
+      }) refl (subst (λ ls. IsPicked ls (client n) number l rest) k.messages picked);
+      shows = client-shown w k plan at f set';
     }
 
     -- a client went on without a message
-    pub client-goes : IsReached durable state r first clients targets b → slice_get clients n ≡ Some c → rest ≡ b.messages
-        → NextTurn c.plan c.state did d.state → d.plan ≡ c.plan → Follows b (client n) did rest b' → clients' ≡ set clients n d → IsReached durable state r first clients' targets b'
-    client-goes k at all turn plan f set' = record {
-      now = client-after k.now;
-      run = Goes k.now (client-after k.now) k.run (ByClient (record {
+    pub client-goes : (number : ℕ) (w : World) → Shows durable state r clients targets b w → slice_get clients n ≡ Some c → heard_awake c.state (count_to (client n) b.messages) ≡ 0 → rest ≡ b.messages
+        → NextTurn c.plan c.state did d.state → d.plan ≡ c.plan → Follows b (client n) did rest b' → clients' ≡ set clients n d → Steps durable state r (client n) number w clients' targets b'
+    client-goes number w k at none all turn plan f set' = record {
+      next = client-after w;
+      turn = Going (record {
         n = n;
         c = c.state;
         d = d.state;
         did = did;
-        here = here k.now k.shows at;
-        turn = subst (λ p. NextTurn p c.state did d.state) (k.shows.plans n c at) turn;
-        after = ap (λ ls. with_client n d.state (after_turn k.now (client n) did ls)) (all ∙ k.shows.messages);
-      }));
-      shows = client-shown k.now k.shows plan at f set';
+        here = here w k at;
+        turn = subst (λ p. NextTurn p c.state did d.state) (k.plans n c at) turn;
+        after = ap (λ ls. with_client n d.state (after_turn w (client n) did ls)) (all ∙ k.messages);
+      }) refl (ap (heard_by_client (count_to (client n) w.messages)) (here w k at) ∙ ap (λ ls. heard_awake c.state (count_to (client n) ls)) (sym k.messages) ∙ none);
+      shows = client-shown w k plan at f set';
     }
 
   -- ---- targets
@@ -183,16 +184,16 @@ module _ {S C : Type 0} (durable : S → Option Durable) (state : S → State) (
     kept-is h s d one two = ap (λ z. record { durable = z; free = h.free }) one ∙ ap (λ z. record { durable = s.durable; free = z }) two
 
     -- a target heard a message
-    pub target-hears : IsReached durable state r first clients targets b → slice_get targets t ≡ Some x → (number reading : ℕ) (l : Letter) → IsPicked b.messages (target t) number l rest → (d new : Durable) → durable x.store ≡ Some d
+    pub target-hears : (w : World) → Shows durable state r clients targets b w → slice_get targets t ≡ Some x → (number reading : ℕ) (l : Letter) → IsPicked b.messages (target t) number l rest → (d new : Durable) → durable x.store ≡ Some d
         → durable y.store ≡ Some new → Hears x.plan (state x.store).opening x.memory reading l.from l.message (record { durable = d; free = (state x.store).free }) (record { durable = new; free = (state y.store).free }) (y.memory, did)
         → y.plan ≡ x.plan → (state y.store).opening ≡ (state x.store).opening → (state y.store).stopped ≡ false → Follows b (target t) did rest b' → targets' ≡ set targets t y
-        → IsReached durable state r first clients targets' b'
-    target-hears k at number reading l picked d new had told turn plan opening running f set' =
-        let s = there k.now k.shows at in
+        → Steps durable state r (target t) number w clients targets' b'
+    target-hears w k at number reading l picked d new had told turn plan opening running f set' =
+        let s = there w k at in
         let same : d ≡ s.0.durable = let e : Some d ≡ Some s.0.durable = sym had ∙ s.2.told in cc in
         record {
-          now = target-after k.now s.0 new;
-          run = Goes k.now (target-after k.now s.0 new) k.run (ToTarget (record {
+          next = target-after w s.0 new;
+          turn = Serving (record {
             t = t;
             s = s.0;
             new = record { durable = new; free = (state y.store).free };
@@ -203,28 +204,28 @@ module _ {S C : Type 0} (durable : S → Option Durable) (state : S → State) (
             rest = rest;
             here = s.1;
             runs = s.2.runs;
-            takes = subst (λ ls. Takes ls l rest) k.shows.messages (picked-takes b.messages number l rest (target t) picked);
+            takes = subst (λ ls. Takes ls l rest) k.messages (picked-takes b.messages number l rest (target t) picked);
             to_it = picked.to_it;
             turn = subst (λ m. Hears (target_plan r t) s.0.opening m reading l.from l.message (kept s.0) (record { durable = new; free = (state y.store).free }) (y.memory, did)) s.2.knows
                 (subst (λ o. Hears (target_plan r t) o x.memory reading l.from l.message (kept s.0) (record { durable = new; free = (state y.store).free }) (y.memory, did)) s.2.opening
                 (subst (λ p. Hears p (state x.store).opening x.memory reading l.from l.message (kept s.0) (record { durable = new; free = (state y.store).free }) (y.memory, did)) s.2.made
                 (subst (λ q. Hears x.plan (state x.store).opening x.memory reading l.from l.message q (record { durable = new; free = (state y.store).free }) (y.memory, did)) (kept-is (state x.store) s.0 d same s.2.free) turn)));
             after = refl;
-          }));
-          shows = target-shown k.now s.0 new k.shows s.2 plan told opening running f set';
+          }) refl (subst (λ ls. IsPicked ls (target t) number l rest) k.messages picked);
+          shows = target-shown w s.0 new k s.2 plan told opening running f set';
         }
 
     -- a target did its idle work
-    pub target-idles : IsReached durable state r first clients targets b → slice_get targets t ≡ Some x → rest ≡ b.messages → (d new : Durable) → durable x.store ≡ Some d
+    pub target-idles : (number : ℕ) (w : World) → Shows durable state r clients targets b w → slice_get targets t ≡ Some x → count_to (target t) b.messages ≡ 0 → rest ≡ b.messages → (d new : Durable) → durable x.store ≡ Some d
         → durable y.store ≡ Some new → IdlesWhole x.memory (record { durable = d; free = (state x.store).free }) (record { durable = new; free = (state y.store).free }) (y.memory, did)
         → y.plan ≡ x.plan → (state y.store).opening ≡ (state x.store).opening → (state y.store).stopped ≡ false → Follows b (target t) did rest b' → targets' ≡ set targets t y
-        → IsReached durable state r first clients targets' b'
-    target-idles k at all d new had told turn plan opening running f set' =
-        let s = there k.now k.shows at in
+        → Steps durable state r (target t) number w clients targets' b'
+    target-idles number w k at none all d new had told turn plan opening running f set' =
+        let s = there w k at in
         let same : d ≡ s.0.durable = let e : Some d ≡ Some s.0.durable = sym had ∙ s.2.told in cc in
         record {
-          now = target-after k.now s.0 new;
-          run = Goes k.now (target-after k.now s.0 new) k.run (ByTarget (record {
+          next = target-after w s.0 new;
+          turn = Idling (record {
             t = t;
             s = s.0;
             new = record { durable = new; free = (state y.store).free };
@@ -234,7 +235,7 @@ module _ {S C : Type 0} (durable : S → Option Durable) (state : S → State) (
             runs = s.2.runs;
             turn = subst (λ m. IdlesWhole m (kept s.0) (record { durable = new; free = (state y.store).free }) (y.memory, did)) s.2.knows
                 (subst (λ q. IdlesWhole x.memory q (record { durable = new; free = (state y.store).free }) (y.memory, did)) (kept-is (state x.store) s.0 d same s.2.free) turn);
-            after = ap (λ ls. with_target t (target_after s.0 (record { durable = new; free = (state y.store).free }) y.memory) (after_turn k.now (target t) did ls)) (all ∙ k.shows.messages);
-          }));
-          shows = target-shown k.now s.0 new k.shows s.2 plan told opening running f set';
+            after = ap (λ ls. with_target t (target_after s.0 (record { durable = new; free = (state y.store).free }) y.memory) (after_turn w (target t) did ls)) (all ∙ k.messages);
+          }) refl (ap (count_to (target t)) (sym k.messages) ∙ none);
+          shows = target-shown w s.0 new k s.2 plan told opening running f set';
         }

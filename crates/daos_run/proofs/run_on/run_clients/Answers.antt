@@ -1,10 +1,10 @@
 use Rattle.std.specs.Prelude.{IfOk, length}
 use Rattle.std.proofs.Common.{◌∙◌, ap, subst, sym}
-use Rattle.daos_run.proofs.Begun.{first, is-alone, is-begun, is-going, is-reached, is-heard}
+use Rattle.daos_run.proofs.Begun.{first, is-alone, is-begun, is-going, is-heard, is-shown}
 use Rattle.daos_run.proofs.Reported.{reports}
 use Rattle.daos_model.specs.Opening.{fresh}
 use Rattle.run_order.specs.Ended.{HasRun, nothing}
-use Rattle.run_order.specs.Shows.{IsGoing, IsReached}
+use Rattle.run_order.specs.Shows.{IsGoing, Shows}
 use Rattle.world_ends.specs.Ends.{rules_of}
 use Rattle.daos_run.proofs.run_on.run_clients.Goals as goal
 
@@ -24,9 +24,9 @@ returns-in-Ok-ran g c =
     let w = first g.S.Store.durable g.S.Store.state c.args.script.now c.args.job.now c.args.store c.args.clients.items n.target q.script q.least q.opened q.first n.new in
     let begun = is-begun g.S.Store.durable g.S.Store.state c.args.script.now c.args.job.now c.args.store c.args.clients.items n.target q.script q.least q.opened q.first n.new in
     let alone = is-alone c.args.script.now c.args.job.now q.script q.least in
-    let reached = subst (λ xs. IsReached g.S.Store.durable g.S.Store.state (rules_of (fresh c.args.script.now c.args.job.now)) w c.args.clients.items xs nothing) (sym n.only)
-    (is-reached g.S.Store.durable g.S.Store.state c.args.script.now c.args.job.now c.args.store c.args.clients.items n.target q.script q.least q.opened q.first n.new) in
+    let shown = subst (λ xs. Shows g.S.Store.durable g.S.Store.state (rules_of (fresh c.args.script.now c.args.job.now)) c.args.clients.items xs nothing w) (sym n.only)
+    (is-shown g.S.Store.durable g.S.Store.state c.args.script.now c.args.job.now c.args.store c.args.clients.items n.target q.script q.least q.opened q.first n.new) in
     let xs = c.run_in_order-targets.result.0.items in
-    let ran = subst (λ r. IfOk r (λ lines. HasRun g.S.Store.durable g.S.Store.state (rules_of (fresh c.args.script.now c.args.job.now)) w xs lines)) c.in-Ok-ran.is
-    (c.run_in_order-targets.ensures.run (rules_of (fresh c.args.script.now c.args.job.now)) w (fresh c.args.script.now c.args.job.now).opening alone begun reached) in
+    let ran = subst (λ r. IfOk r (λ lines. HasRun g.S.Store.durable g.S.Store.state (rules_of (fresh c.args.script.now c.args.job.now)) c.args.job.now.order w xs lines)) c.in-Ok-ran.is
+    (c.run_in_order-targets.ensures.run (rules_of (fresh c.args.script.now c.args.job.now)) w (fresh c.args.script.now c.args.job.now).opening alone begun shown) in
     reports g.S.Store.durable g.S.Store.state c.args.script.now c.args.job.now w xs c.in-Ok-ran.lines c.parts_of-store.result.0 q.script q.least q.most begun ran (c.run_in_order-targets.ensures.many ∙ ap length n.only) c.parts_of-store.ensures
