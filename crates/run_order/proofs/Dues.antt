@@ -7,6 +7,7 @@ use Rattle.client_core.specs.Clients.{ClientNow}
 use Rattle.world_base.specs.declared.client.ClientState.{ClientState}
 use Rattle.world_base.specs.declared.letter.Letter.{Letter}
 use Rattle.world_events.specs.Letters.{client, target}
+use Rattle.run_picks.specs.Quiet.{there-is}
 use Rattle.run_picks.specs.Picks.{count_to, heard_awake}
 
 pub at-index : {T : Type 0} (xs : List T) (n : ℕ) (x : T) → n < length xs → x ≡ slice_index_or xs n x → slice_get xs n ≡ Some x
@@ -40,11 +41,6 @@ heard-few c count heard is = by (nat_lt 0 c.skip) refl
     by : (b : Bool) → nat_lt 0 c.skip ≡ b → heard ≤ count
     by true s = let none : heard ≡ 0 = is ∙ ap (λ b. if b then 0 else count) s in omega (arith, none)
     by false s = let all : heard ≡ count = is ∙ ap (λ b. if b then 0 else count) s in omega (arith, all)
-
-pub there-is : {T : Type 0} (xs : List T) (n : ℕ) → n < length xs → (x : T) × (slice_get xs n ≡ Some x)
-there-is [] n h = absurd (omega (arith, h))
-there-is (x ∷ xs) zero h = (x, refl)
-there-is (x ∷ xs) (suc n) h = there-is xs n (omega (arith, h))
 
 abbrev pub actor : Bool → ℕ → ActorId
 actor kind n = record { client = kind; number = n }

@@ -8,10 +8,11 @@ use Rattle.daos_model.specs.declared.durable.Durable.{Durable}
 use Rattle.run_letters.specs.Letters.{BetweenNow}
 use Rattle.run_order.specs.Due.{due_actors, due_below, is_due_client, is_due_target, one_if}
 use Rattle.run_order.specs.Shows.{Shows, state_of}
-use Rattle.run_order.proofs.Dues.{named-client, named-target, there-is}
+use Rattle.run_order.proofs.Dues.{named-client, named-target}
 use Rattle.run_order.proofs.Hearing.{target-there}
 use Rattle.run_order.proofs.Turns.{map-get}
 use Rattle.run_picks.specs.Picks.{count_to, due, heard, heard_awake, heard_by_client, if_client_due, if_target_due, is_client_due, is_due, is_target_due, numbered}
+use Rattle.run_picks.specs.Quiet.{there-is}
 use Rattle.target_core.specs.Targets.{TargetOf}
 use Rattle.vos_store.specs.Calls.{State}
 use Rattle.world_base.specs.declared.world.World.{World}
