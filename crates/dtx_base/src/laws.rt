@@ -1,0 +1,20 @@
+// Laws of the steps of leaders and members.
+ghost use Rattle.dtx_base.specs.LeaderLaws.{BatchesNameOnce, DecidedOnlyByLastOk};
+ghost use Rattle.dtx_base.specs.MemberLaws.{ResolvedFreesOnce, UnresolvedAnswersOnce};
+
+/// Says what holds of every step of a leader. An Ack decides an attempt only where it is an Ok, of
+/// this incarnation, and the last one awaited: each other member was counted as Ok before. What a
+/// batch tells a target names no attempt twice, and none that a Mark names to it which is without an
+/// answer.
+pub fn laws_of_leaders()
+    ensures last { DecidedOnlyByLastOk }
+    ensures once { BatchesNameOnce }
+{}
+
+/// Says what holds of every step of a member. Once it is known what became of an attempt, each Fetch
+/// that waits for it is freed just once, in the order in which they were parked. Where an attempt
+/// isn't decided, those of the attempt that asked are answered just once, and the others wait on.
+pub fn laws_of_members()
+    ensures freed { ResolvedFreesOnce }
+    ensures answered { UnresolvedAnswersOnce }
+{}
