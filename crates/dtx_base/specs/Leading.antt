@@ -249,9 +249,12 @@ abbrev pub knowing : ℕ → Bool → LeaderOf → LeaderOf
 knowing t true l = record l { memory = record l.memory { down = with_target l.memory.down t } }
 knowing t false l = l
 
+abbrev pub step_knowing : ℕ → Bool → LeaderStep → LeaderStep
+step_knowing t down s = record { leader = knowing t down s.leader; posts = s.posts }
+
 -- a Reset by a target of a message that got no answer
 abbrev pub reset_heard : ℕ → Bool → Message → LeaderOf → LeaderStep
-reset_heard t down m l = reset_of t down m (knowing t down l)
+reset_heard t down m l = step_knowing t down (reset_of t down m l)
 
 -- ---- commits are told in batches
 

@@ -4,3 +4,5 @@ pub mod Leading
 pub mod Joining
 pub mod LeaderLaws
 pub mod MemberLaws
+pub mod RowLaws
+pub mod StandingLaws

@@ -1,5 +1,6 @@
 // Laws of the steps of leaders and members.
 ghost use Rattle.dtx_base.specs.LeaderLaws.{BatchesNameOnce, DecidedOnlyByLastOk};
+ghost use Rattle.dtx_base.specs.StandingLaws.{AnswersLetStand, BatchesLetStand, BeginningLetsStand, ResetsLetStand, SettlingLetsStand, StandsCommitted};
 ghost use Rattle.dtx_base.specs.MemberLaws.{ResolvedFreesOnce, UnresolvedAnswersOnce};
 
 /// Says what holds of every step of a leader. An Ack decides an attempt only where it is an Ok, of
@@ -9,6 +10,18 @@ ghost use Rattle.dtx_base.specs.MemberLaws.{ResolvedFreesOnce, UnresolvedAnswers
 pub fn laws_of_leaders()
     ensures last { DecidedOnlyByLastOk }
     ensures once { BatchesNameOnce }
+{}
+
+/// Says what becomes of an attempt that is decided, or committed. A Query for it is answered that it
+/// is committed; and it stays so, whatever members answer, whatever Reset comes, when its commit is
+/// told and stored, and when another attempt begins.
+pub fn laws_of_decisions()
+    ensures told { StandsCommitted }
+    ensures answers { AnswersLetStand }
+    ensures resets { ResetsLetStand }
+    ensures batches { BatchesLetStand }
+    ensures settling { SettlingLetsStand }
+    ensures beginning { BeginningLetsStand }
 {}
 
 /// Says what holds of every step of a member. Once it is known what became of an attempt, each Fetch

@@ -232,3 +232,103 @@ impl Member {
         Ok(posts)
     }
 }
+
+#[cfg(test)]
+mod tests {
+    use super::*;
+    use daos_base::epoch::Epoch;
+    use daos_base::id::ContId;
+    use daos_base::operation::Read;
+    use daos_base::path::Path;
+    use std::test::Fail;
+
+    fn attempt(client: u16) -> AttemptId {
+        AttemptId {
+            client,
+            command: 0,
+            attempt: 0,
+        }
+    }
+
+    fn entry(client: u16) -> Entry {
+        Entry {
+            attempt: attempt(client),
+            epoch: Epoch(256),
+            leader: 0,
+            members: 3,
+            confirmed: 0,
+            committed: false,
+        }
+    }
+
+    // A Fetch of a client's attempt waits for attempt 0 0 0.
+    fn park(member: &mut Member, client: u16) -> Result<Posts, Memory> {
+        let path = Path {
+            cont: ContId(1),
+            obj: None,
+            dkey: None,
+            akey: None,
+        };
+        let fetch = Message::Fetch {
+            attempt: attempt(client),
+            op: 0,
+            group: 0,
+            ep: Some(Epoch(513)),
+            first: None,
+            tracker: Epoch(255),
+            read: Read::Exists(path),
+            snapshot: false,
+        };
+        member.park(fetch, attempt(0), 0)
+    }
+
+    // The numbers of the actors that messages go to, and of the clients whose Fetches are tried again.
+    fn told(alloc: Global, freed: &Freed) -> Result<String, Fail> {
+        let mut text = String::new(alloc);
+        for post in freed.posts.as_slice() {
+            let to = post.to.number;
+            text.push_str(&format!(in alloc; "told {to} ")?)?;
+        }
+        for ask in freed.again.as_slice() {
+            if let Some(attempt) = asker(ask) {
+                let client = attempt.client;
+                text.push_str(&format!(in alloc; "again {client} ")?)?;
+            }
+        }
+        Ok(text)
+    }
+
+    #[test]
+    fn parks_and_frees(rt: HostRuntime) -> Result<(), Fail> {
+        let alloc = rt.alloc();
+        let mut member = Member::new(alloc, 1, 2)?;
+        for client in [3, 1, 2] {
+            assert_eq!(rt; park(&mut member, client)?.len(), 1);
+        }
+        let on = attempt(0);
+        let undecided = member.hear_verdict(on, Some(attempt(1)), Verdict::Undecided)?;
+        assert_eq!(rt; told(alloc, &undecided)?, "told 1 ");
+        let aborted = member.hear_verdict(on, Some(attempt(3)), Verdict::Aborted)?;
+        assert_eq!(rt; told(alloc, &aborted)?, "again 3 again 2 ");
+        let late = member.hear_verdict(on, Some(attempt(2)), Verdict::Committed)?;
+        assert_eq!(rt; told(alloc, &late)?, "");
+        Ok(())
+    }
+
+    #[test]
+    fn asks_once(rt: HostRuntime) -> Result<(), Fail> {
+        let alloc = rt.alloc();
+        let mut member = Member::new(alloc, 1, 2)?;
+        let entries = [entry(0), entry(1)];
+        assert_eq!(rt; member.inquire(&entries)?.len(), 2);
+        assert_eq!(rt; member.inquire(&entries)?.len(), 0);
+        member.hear_verdict(attempt(0), None, Verdict::Undecided)?;
+        let query = Message::Query {
+            attempt: attempt(1),
+            ask: None,
+        };
+        member.hear_reset(false, &query)?;
+        assert_eq!(rt; member.inquire(&entries)?.len(), 1);
+        Ok(())
+    }
+}
