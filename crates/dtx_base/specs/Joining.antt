@@ -1,5 +1,6 @@
 -- The steps of a member: a target that holds the entry of an attempt which another one leads.
 use Rattle.std.specs.Prelude.{ℕ, Bool, true, false, ◌&&◌, ◌==◌, not, filter, map, ◌++◌, List, [], ◌∷◌, Option, Some, None, is_none, if◌then◌else◌}
+use Rattle.std.specs.List.{list_any}
 use Rattle.daos_base.specs.declared.entry.Entry.{Entry}
 use Rattle.daos_base.specs.declared.entry.Verdict.{Verdict}
 use Rattle.daos_base.specs.declared.entry.Verdict.TheVariants as verdict
@@ -171,6 +172,10 @@ with_inquiries_for (e ∷ es) qs = with_inquiries_for es (with_row inquiry_attem
 -- the entries for which Queries are to be sent, in their order
 unfoldable pub to_inquire : List Entry → MemberOf → List Entry
 to_inquire es s = filter (is_to_inquire s.me s.memory.inquiries) es
+
+-- some Query is to be sent
+abbrev pub is_inquiry_due : List Entry → MemberOf → Bool
+is_inquiry_due es s = list_any (is_to_inquire s.me s.memory.inquiries) es
 
 -- the leader of each such entry is asked
 unfoldable pub inquired : List Entry → MemberOf → MemberStep

@@ -1,5 +1,5 @@
 -- What holds of every step of a leader.
-use Rattle.std.specs.Prelude.{ℕ, ◌≡◌, ◌^◌, ◌⊎◌, Bool, true, false, ◌&&◌, ◌||◌, ◌==◌, not, filter, find, map, All, List, [], ◌∷◌, Option, Some, None, if◌then◌else◌, refl}
+use Rattle.std.specs.Prelude.{ℕ, ◌≡◌, ◌^◌, ◌⊎◌, Bool, true, false, ◌&&◌, ◌||◌, ◌==◌, not, filter, find, map, All, List, [], ◌∷◌, ◌++◌, Option, Some, None, if◌then◌else◌, refl}
 use Rattle.std.specs.List.{list_all, list_any}
 use Rattle.std.specs.Int.{bit_at}
 use Rattle.std.proofs.Common.{sym, ◌∙◌, ap, subst, arith, inl, inr, max}
@@ -10,6 +10,8 @@ use Rattle.daos_base.specs.declared.entry.Entry.{Entry}
 use Rattle.daos_base.specs.declared.id.AttemptId.{AttemptId}
 use Rattle.daos_base.specs.declared.outcome.Outcome.{Outcome}
 use Rattle.daos_base.specs.declared.outcome.Outcome.TheVariants.{Committed}
+use Rattle.daos_messages.specs.declared.message.Message.TheVariants.{Mark}
+use Rattle.daos_messages.specs.declared.message.Post.{Post}
 use Rattle.daos_model.specs.Answers.{is_before}
 use Rattle.daos_model.specs.BoolLaws.{and_left, and_right, both, clash, false_of, not_true}
 use Rattle.daos_model.specs.Durables.{attempt_key, entry_key, same_attempt}
@@ -17,9 +19,9 @@ use Rattle.daos_model.specs.Ordered.{all_after, is_rising, put}
 use Rattle.daos_model.specs.OrderLaws.{rising-filter}
 use Rattle.dtx_base.specs.declared.leading.Naming.{Naming}
 use Rattle.dtx_base.specs.declared.leading.Undecided.{Undecided}
-use Rattle.dtx_base.specs.Leading.{LeaderOf, ack_heard, answer_heard, answer_if_awaited, counted_at, decided, ended, entry_attempt, entry_led, is_named, is_owed, ok_heard, owed, quietly, undecided_of, with_undecided}
-use Rattle.dtx_base.specs.Members.{are_all_counted, has_target, is_other_member, other_members, with_target}
-use Rattle.dtx_base.specs.Rows.{is_among, itself, row_key}
+use Rattle.dtx_base.specs.Leading.{LeaderOf, ack_heard, answer_heard, answer_if_awaited, batched, commit_mark, counted_at, decided, ended, entry_attempt, entry_led, is_batch_due, is_due_to, is_named, is_owed, mark_with, marks_for, ok_heard, owed, quietly, to_target, undecided_of, with_undecided}
+use Rattle.dtx_base.specs.Members.{all_targets, are_all_counted, has_target, is_other_member, other_members, with_target}
+use Rattle.dtx_base.specs.Rows.{is_among, is_empty, itself, row_key}
 
 abbrev attempt_of : ℕ → ℕ → ℕ → AttemptId
 attempt_of client command attempt = record { client = client; command = command; attempt = attempt }
@@ -194,3 +196,49 @@ batches-name_once down named es t rising = by (has_target down t)
       rising = rising_attempts (filter (is_owed t named) es) (rising-filter entry_key (is_owed t named) es rising);
       unnamed = all_attempts (λ a. is_named t a named ≡ false) (filter (is_owed t named) es) (all_owed t named (filter (is_owed t named) es) (filter_passes (is_owed t named) es));
     }
+
+-- ---- a batch that is due
+
+-- a batch sends something where it is due, and nothing where it isn't
+abbrev pub BatchesAreDue : Type 0
+BatchesAreDue = (l : LeaderOf) → is_empty (batched l).posts ≡ not (is_batch_due l)
+
+not_empty : {T : Type 0} (x : T) (xs : List T) → is_empty (x ∷ xs) ≡ false
+not_empty x xs = grind (arith, nat_tests)
+
+none_owed : (t : ℕ) (named : List Naming) (es : List Entry) → is_empty (map entry_attempt (filter (is_owed t named) es)) ≡ not (list_any (is_owed t named) es)
+none_owed t named [] = refl
+none_owed t named (e ∷ es) = by (none_owed t named es) (is_owed t named e)
+  where
+    by : is_empty (map entry_attempt (filter (is_owed t named) es)) ≡ not (list_any (is_owed t named) es) → (s : Bool)
+        → is_empty (map entry_attempt (if s then e ∷ filter (is_owed t named) es else filter (is_owed t named) es)) ≡ not (s || list_any (is_owed t named) es)
+    by rest true = not_empty e.attempt (map entry_attempt (filter (is_owed t named) es))
+    by rest false = rest
+
+none_told : (inc down : ℕ) (named : List Naming) (es : List Entry) (t : ℕ) → is_empty (mark_with inc t (owed down named es t)) ≡ not (is_due_to down named es t)
+unfolding owed
+none_told inc down named es t = by (has_target down t)
+  where
+    sent : (s : Bool) (ids : List AttemptId) → is_empty ids ≡ s → is_empty (mark_with inc t ids) ≡ s
+    sent true ids is = ap (λ (b : Bool). is_empty (if b then [] else to_target t (Mark inc (map commit_mark ids)) ∷ [])) is
+    sent false ids is = ap (λ (b : Bool). is_empty (if b then [] else to_target t (Mark inc (map commit_mark ids)) ∷ [])) is
+
+    by : (s : Bool) → is_empty (mark_with inc t (if s then [] else map entry_attempt (filter (is_owed t named) es))) ≡ not (not s && list_any (is_owed t named) es)
+    by true = refl
+    by false = sent (not (list_any (is_owed t named) es)) (map entry_attempt (filter (is_owed t named) es)) (none_owed t named es)
+
+none_of_both : (xs ys : List Post) (p q : Bool) → is_empty xs ≡ not p → is_empty ys ≡ not q → is_empty (xs ++ ys) ≡ not (p || q)
+none_of_both [] ys true q e f = absurd (let no : ⊥ = cc in no)
+none_of_both [] ys false q e f = f
+none_of_both (x ∷ xs) ys true q e f = not_empty x (xs ++ ys)
+none_of_both (x ∷ xs) ys false q e f = clash (is_empty (x ∷ xs)) e (not_empty x xs)
+
+none_sent : (inc down : ℕ) (named : List Naming) (es : List Entry) (ts : List ℕ) → is_empty (marks_for inc down named es ts) ≡ not (list_any (is_due_to down named es) ts)
+none_sent inc down named es [] = refl
+none_sent inc down named es (t ∷ ts) =
+    none_of_both (mark_with inc t (owed down named es t)) (marks_for inc down named es ts) (is_due_to down named es t) (list_any (is_due_to down named es) ts)
+    (none_told inc down named es t) (none_sent inc down named es ts)
+
+pub batches-are_due : BatchesAreDue
+unfolding batched is_batch_due
+batches-are_due l = none_sent l.incarnation l.memory.down l.memory.named l.entries all_targets

@@ -299,6 +299,13 @@ batched l = record {
   posts = marks_for l.incarnation l.memory.down l.memory.named l.entries all_targets;
 }
 
+-- one of these targets is to be told of a commit
+abbrev pub is_due_to : ℕ → List Naming → List Entry → ℕ → Bool
+is_due_to down named es t = not (has_target down t) && list_any (is_owed t named) es
+
+unfoldable pub is_batch_due : LeaderOf → Bool
+is_batch_due l = list_any (is_due_to l.memory.down l.memory.named l.entries) all_targets
+
 -- ---- what else a leader does
 
 -- committed where the entry is, or where the attempt is decided; aborted where there is no entry

@@ -1,7 +1,7 @@
 -- The targets one by one.
-use Rattle.std.proofs.Common.{◌≡◌, ℕ, ◌+◌, ◌-◌, ◌<◌, ◌≤◌, suc, Bool, true, false, ◌&&◌, List, [], ◌∷◌, ◌++◌, Option, Some, None, filter, find, refl, sym, ◌∙◌, ap, arith, append_assoc, append-nil}
+use Rattle.std.proofs.Common.{◌≡◌, ℕ, ◌+◌, ◌-◌, ◌<◌, ◌≤◌, suc, Bool, true, false, ◌&&◌, ◌||◌, List, [], ◌∷◌, ◌++◌, Option, Some, None, filter, find, refl, sym, ◌∙◌, ap, arith, append_assoc, append-nil}
 use Rattle.std.specs.Prelude.{if◌then◌else◌}
-use Rattle.std.specs.List.{list_all, range_with_len}
+use Rattle.std.specs.List.{list_all, list_any, range_with_len}
 
 -- from one target on: that one, and those from the next on
 pub from_one : (t n : ℕ) → t < n → range_with_len t (n - t) ≡ t ∷ range_with_len (t + 1) (n - (t + 1))
@@ -70,3 +70,19 @@ sought_next p all t n within is so_far =
 
 pub none_found : (p : ℕ → Bool) (all : Option ℕ) (t n : ℕ) → n ≤ t → find p (range_with_len t (n - t)) ≡ all → None ≡ all
 none_found p all t n past so_far = sym (ap (find p) (none_left t n past)) ∙ so_far
+
+-- ---- whether one passes a test
+
+pub any_here : (p : ℕ → Bool) (all : Bool) (t n : ℕ) → t < n → p t ≡ true → list_any p (range_with_len t (n - t)) ≡ all → true ≡ all
+any_here p all t n within is so_far =
+    let rest = list_any p (range_with_len (t + 1) (n - (t + 1))) in
+    sym (ap (λ b. b || rest) is) ∙ sym (ap (list_any p) (from_one t n within)) ∙ so_far
+
+pub any_later : (p : ℕ → Bool) (all : Bool) (t n : ℕ) → t < n → p t ≡ false → list_any p (range_with_len t (n - t)) ≡ all
+    → list_any p (range_with_len (t + 1) (n - (t + 1))) ≡ all
+any_later p all t n within is so_far =
+    let rest = list_any p (range_with_len (t + 1) (n - (t + 1))) in
+    sym (ap (λ b. b || rest) is) ∙ sym (ap (list_any p) (from_one t n within)) ∙ so_far
+
+pub none_anywhere : (p : ℕ → Bool) (all : Bool) (t n : ℕ) → n ≤ t → list_any p (range_with_len t (n - t)) ≡ all → false ≡ all
+none_anywhere p all t n past so_far = sym (ap (list_any p) (none_left t n past)) ∙ so_far

@@ -232,18 +232,18 @@ mod tests {
         let alloc = rt.alloc();
         let mut leader = Leader::new(alloc, 0, 3, 1, &Items::new(alloc))?;
         assert_eq!(rt;
-            told(alloc, &begin(&mut leader, 0)?)?,
+            told(alloc, &begin(&mut leader, 0)?)?.as_str(),
             "prepare 1 prepare 2 "
         );
         assert!(rt; matches!(leader.answer_query(attempt(0)), Verdict::Undecided));
         for (from, inc, posts) in [(1, 1, ""), (2, 0, ""), (2, 1, "ended 9 ")] {
             let answer = leader.hear_ack(from, &ack(0, inc, None))?;
-            assert_eq!(rt; told(alloc, &answer)?, posts, "{from}");
+            assert_eq!(rt; told(alloc, &answer)?.as_str(), posts, "{from}");
         }
         assert!(rt; matches!(leader.answer_query(attempt(0)), Verdict::Committed));
         leader.settled(attempt(0));
-        assert_eq!(rt; told(alloc, &leader.batch()?)?, "mark 1 mark 2 ");
-        assert_eq!(rt; told(alloc, &leader.batch()?)?, "");
+        assert_eq!(rt; told(alloc, &leader.batch()?)?.as_str(), "mark 1 mark 2 ");
+        assert_eq!(rt; told(alloc, &leader.batch()?)?.as_str(), "");
         let mut attempts = Items::new(alloc);
         attempts.push(attempt(0))?;
         leader.hear_ack(1, &Message::Marked { inc: 1, attempts })?;
@@ -251,8 +251,11 @@ mod tests {
         marks.push((attempt(0), true))?;
         let mark = Message::Mark { inc: 1, marks };
         for (down, posts) in [(false, "mark 2 "), (true, "")] {
-            assert_eq!(rt; told(alloc, &leader.hear_reset(2, down, &mark)?)?, posts);
-            assert_eq!(rt; told(alloc, &leader.batch()?)?, "");
+            assert_eq!(rt;
+                told(alloc, &leader.hear_reset(2, down, &mark)?)?.as_str(),
+                posts
+            );
+            assert_eq!(rt; told(alloc, &leader.batch()?)?.as_str(), "");
         }
         Ok(())
     }
@@ -264,8 +267,11 @@ mod tests {
         begin(&mut leader, 1)?;
         let spent = ack(1, 1, Some(Outcome::EpochsSpent));
         let posts = leader.hear_ack(1, &spent)?;
-        assert_eq!(rt; told(alloc, &posts)?, "ended 9 mark 1 mark 2 ");
-        assert_eq!(rt; told(alloc, &leader.hear_ack(2, &ack(1, 1, None))?)?, "");
+        assert_eq!(rt; told(alloc, &posts)?.as_str(), "ended 9 mark 1 mark 2 ");
+        assert_eq!(rt;
+            told(alloc, &leader.hear_ack(2, &ack(1, 1, None))?)?.as_str(),
+            ""
+        );
         assert!(rt; matches!(leader.answer_query(attempt(1)), Verdict::Aborted));
         begin(&mut leader, 2)?;
         let status = Message::Status {
@@ -273,7 +279,10 @@ mod tests {
             inc: 1,
         };
         for (down, posts) in [(false, "status 1 "), (true, "ended 9 "), (true, "")] {
-            assert_eq!(rt; told(alloc, &leader.hear_reset(1, down, &status)?)?, posts);
+            assert_eq!(rt;
+                told(alloc, &leader.hear_reset(1, down, &status)?)?.as_str(),
+                posts
+            );
         }
         assert_eq!(rt; leader.down_among(6), Some(1));
         Ok(())

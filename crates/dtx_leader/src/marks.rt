@@ -103,9 +103,9 @@ fn is_named(named: &[Naming], member: TargetId, attempt: AttemptId) -> bool
     false
 }
 
-// Whether a member is to be told of a commit.
+/// Whether a member is to be told of a commit.
 #[tactic(auto, unfolding(dtx_base::specs::Leading::is_owed))]
-fn is_owed(entry: &Entry, named: &[Naming], member: TargetId) -> bool
+pub fn is_owed(entry: &Entry, named: &[Naming], member: TargetId) -> bool
     ensures { result ≡ is_owed member named.now entry.now }
 {
     entry.committed

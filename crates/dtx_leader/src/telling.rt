@@ -1,8 +1,8 @@
 // What a leader tells of what it decided.
 ghost use Rattle.std.specs.Prelude.{◌≡◌, IfOk, OnErr};
-ghost use Rattle.dtx_base.specs.Leading.{batched, first_down, query_answer, settled_led, step_of};
+ghost use Rattle.dtx_base.specs.Leading.{batched, first_down, is_batch_due, query_answer, settled_led, step_of};
 
-use crate::batch::batch_of;
+use crate::batch::{batch_of, is_due};
 use crate::bits::first_down;
 use crate::leader::Leader;
 use daos_base::entry::{Settle, Verdict};
@@ -34,6 +34,14 @@ impl Leader {
         )?;
         self.named.extend_from_slice(&batch.named)?;
         Ok(batch.posts)
+    }
+
+    /// Whether a batch would send something.
+    #[tactic(auto, unfolding(dtx_base::specs::Leading::is_batch_due))]
+    pub fn has_batch(&self) -> bool
+        ensures { result ≡ is_batch_due self.now }
+    {
+        is_due(self.down, &self.named, self.table.entries())
     }
 
     /// What became of an attempt: committed where it is decided, aborted where there is no entry of

@@ -1,5 +1,6 @@
 // Queries that idle work sends.
 ghost use Rattle.std.specs.Prelude.{◌≡◌, ◌+◌, ◌≤◌, filter, length, map, vec_len, vec_capacity, IfOk};
+ghost use Rattle.std.specs.List.{list_any};
 ghost use Rattle.dtx_base.specs.Joining.{inquiries_reset, inquiry_at, inquiry_for, is_to_inquire, with_inquiries_for};
 ghost use Rattle.dtx_base.specs.Leading.{to_target};
 
@@ -61,6 +62,18 @@ fn is_to_inquire(entry: &Entry, me: TargetId, rows: &[Inquiry]) -> bool
     ensures { result ≡ is_to_inquire me rows.now entry.now }
 {
     !entry.committed && entry.leader != me && find(rows, entry.attempt).is_none()
+}
+
+/// Whether a Query is to be sent for one of these entries.
+pub fn is_due(entries: &[Entry], me: TargetId, rows: &[Inquiry]) -> bool
+    ensures { result ≡ list_any (is_to_inquire me rows.now) entries.now }
+{
+    for entry in entries {
+        if is_to_inquire(entry, me, rows) {
+            return true;
+        }
+    }
+    false
 }
 
 /// The entries for which Queries are to be sent, in their order.

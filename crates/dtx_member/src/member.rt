@@ -1,9 +1,9 @@
 // A member: a target that holds the entry of an attempt which another target leads.
 ghost use Rattle.std.specs.Prelude.{◌≡◌, [], ◌∷◌, true, IfOk, OnErr, OnOk, is_some};
-ghost use Rattle.dtx_base.specs.Joining.{asker, first_member, inquired, member_step, ok_told, parking, query_for, query_reset, reset_heard, resolved, undecided_heard, unresolved, verdict_heard};
+ghost use Rattle.dtx_base.specs.Joining.{asker, first_member, inquired, is_inquiry_due, member_step, ok_told, parking, query_for, query_reset, reset_heard, resolved, undecided_heard, unresolved, verdict_heard};
 ghost use Rattle.dtx_base.specs.Leading.{to_target};
 
-use crate::inquiries::{put_all, queries, reset, set, to_inquire, to_target};
+use crate::inquiries::{is_due, put_all, queries, reset, set, to_inquire, to_target};
 use crate::parked::{asker, drop_waiting, free, unresolved_told};
 use daos_base::entry::{Entry, Verdict};
 use daos_base::epoch::TargetId;
@@ -214,6 +214,13 @@ impl Member {
         }
     }
 
+    /// Whether there is a leader to ask of these entries.
+    pub fn has_inquiry(&self, entries: &[Entry]) -> bool
+        ensures { result ≡ is_inquiry_due entries.now self.now }
+    {
+        is_due(entries, self.me, &self.inquiries)
+    }
+
     /// Asks, once each, the leaders of those of these entries that are prepared and that other
     /// targets lead, what became of them.
     ///
@@ -307,11 +314,11 @@ mod tests {
         }
         let on = attempt(0);
         let undecided = member.hear_verdict(on, Some(attempt(1)), Verdict::Undecided)?;
-        assert_eq!(rt; told(alloc, &undecided)?, "told 1 ");
+        assert_eq!(rt; told(alloc, &undecided)?.as_str(), "told 1 ");
         let aborted = member.hear_verdict(on, Some(attempt(3)), Verdict::Aborted)?;
-        assert_eq!(rt; told(alloc, &aborted)?, "again 3 again 2 ");
+        assert_eq!(rt; told(alloc, &aborted)?.as_str(), "again 3 again 2 ");
         let late = member.hear_verdict(on, Some(attempt(2)), Verdict::Committed)?;
-        assert_eq!(rt; told(alloc, &late)?, "");
+        assert_eq!(rt; told(alloc, &late)?.as_str(), "");
         Ok(())
     }
 
