@@ -1,0 +1,290 @@
+// A leader: the target that decides an attempt.
+ghost use Rattle.std.specs.Prelude.{◌≡◌, true, All, IfOk, IfSome, OnErr};
+ghost use Rattle.daos_base.specs.Operations.{write_path};
+ghost use Rattle.daos_base.specs.Placement.{ClassFits};
+ghost use Rattle.daos_model.specs.Durables.{entry_key};
+ghost use Rattle.daos_model.specs.Ordered.{is_rising};
+ghost use Rattle.dtx_base.specs.Leading.{begun, begun_alone, begun_with_others, first_leader, step_of};
+ghost use Rattle.dtx_base.specs.Members.{other_members};
+
+use crate::bits::other_members;
+use crate::opening::{first_decided, first_undecided, led_by};
+use crate::posts::{Asking, ended, prepares};
+use daos_base::entry::{Entries, Entry};
+use daos_base::epoch::{Epoch, TargetId};
+use daos_base::id::AttemptId;
+use daos_base::items::Memory;
+use daos_base::operation::MinorWrite;
+use daos_base::outcome::Outcome;
+use daos_messages::actor::ActorId;
+use daos_messages::message::Posts;
+use dtx_base::leading::{Naming, Undecided};
+use dtx_table::rows::put;
+use dtx_table::table::Table;
+use std::alloc::Global;
+use std::marker::Model;
+
+/// A leader: the entries of the attempts that it leads, as its store keeps them; which of these it
+/// hasn't decided, and whose Ok it counted; which it decided and hasn't settled; what Marks it sent;
+/// and which targets it knows to be down.
+#[derive(Drop)]
+pub struct Leader {
+    pub(crate) alloc: Global,
+    pub(crate) me: TargetId,
+    pub(crate) targets: u8,
+    pub(crate) incarnation: u64,
+    pub(crate) table: Table,
+    pub(crate) undecided: Vec<Undecided>,
+    pub(crate) decided: Vec<AttemptId>,
+    pub(crate) named: Vec<Naming>,
+    pub(crate) down: u64,
+}
+
+impl Model for Leader {
+    ghost use Rattle.dtx_base.specs.Leading.{LeaderOf};
+
+    ghost Value = { LeaderOf };
+
+    ghost view = { λ l. record {
+      me = l.me;
+      targets = l.targets;
+      incarnation = l.incarnation;
+      entries = l.table;
+      memory = record { undecided = l.undecided.items; decided = l.decided.items; named = l.named.items; down = l.down };
+    } };
+}
+
+impl Leader {
+    /// A leader that has just opened, with this number among so many targets, under this
+    /// incarnation. Of these entries, in the order of attempts, it begins with those that it leads:
+    /// one that isn't committed is undecided, or decided where there is no other member.
+    ///
+    /// # Errors
+    ///
+    /// For want of memory.
+    #[tactic(auto, unfolding(dtx_base::specs::Leading::first_leader))]
+    pub fn new(
+        alloc: Global,
+        me: TargetId,
+        targets: u8,
+        incarnation: u64,
+        entries: &Entries,
+    ) -> Result<Leader, Memory>
+        requires { is_rising entry_key entries.now ≡ true }
+        ensures { IfOk result (λ leader. leader ≡ first_leader me targets incarnation entries.now) }
+    {
+        let led = led_by(alloc, me, entries.as_slice())?;
+        let undecided = first_undecided(alloc, &led)?;
+        let decided = first_decided(alloc, &led)?;
+        Ok(Leader {
+            alloc,
+            me,
+            targets,
+            incarnation,
+            table: Table::of_rows(led),
+            undecided,
+            decided,
+            named: Vec::new(alloc),
+            down: 0,
+        })
+    }
+
+    // An attempt without other members begins, and is decided.
+    fn begin_alone(&mut self, entry: &Entry, client: ActorId) -> Result<Posts, Memory>
+        ensures ok { IfOk result (λ posts. step_of self.new posts ≡ begun_alone entry.now client self.old) }
+        ensures err { OnErr result (self.new ≡ self.old) }
+    {
+        let posts = ended(
+            self.alloc,
+            Some(client),
+            entry.attempt,
+            entry.epoch,
+            Outcome::Committed,
+        )?;
+        self.decided.reserve(1)?;
+        self.table.add(*entry)?;
+        put(&mut self.decided, entry.attempt);
+        Ok(posts)
+    }
+
+    // An attempt with these other members begins.
+    fn begin_with(
+        &mut self,
+        asking: Asking,
+        client: ActorId,
+        writes: &[MinorWrite],
+        others: &[TargetId],
+    ) -> Result<Posts, Memory>
+        requires fit { All (λ w. IfSome (write_path w.write).obj (λ o. ClassFits o.class asking.targets)) writes.now }
+        requires targets { asking.targets ≡ self.old.targets }
+        requires incarnation { asking.incarnation ≡ self.old.incarnation }
+        requires others { others.now ≡ other_members asking.entry }
+        ensures ok { IfOk result (λ posts. step_of self.new posts ≡ begun_with_others asking.entry asking.first client writes.now self.old) }
+        ensures err { OnErr result (self.new ≡ self.old) }
+    {
+        let posts = prepares(self.alloc, asking, writes, others)?;
+        self.undecided.reserve(1)?;
+        self.table.add(asking.entry)?;
+        put(
+            &mut self.undecided,
+            Undecided {
+                attempt: asking.entry.attempt,
+                client: Some(client),
+                counted: 0,
+            },
+        );
+        Ok(posts)
+    }
+
+    /// An attempt begins, whose entry the store has taken; a client waits for its end. Each other
+    /// member is asked to prepare the writes of its groups; without others the attempt is decided.
+    /// The writes are all that the attempt has, and their classes fit the number of targets.
+    ///
+    /// # Errors
+    ///
+    /// For want of memory; the leader is then as it was.
+    #[tactic(auto, unfolding(dtx_base::specs::Leading::begun))]
+    pub fn begin(
+        &mut self,
+        entry: &Entry,
+        first: Option<Epoch>,
+        client: ActorId,
+        writes: &[MinorWrite],
+    ) -> Result<Posts, Memory>
+        requires { All (λ w. IfSome (write_path w.write).obj (λ o. ClassFits o.class self.old.targets)) writes.now }
+        ensures ok { IfOk result (λ posts. step_of self.new posts ≡ begun entry.now first client writes.now self.old) }
+        ensures err { OnErr result (self.new ≡ self.old) }
+    {
+        let others = other_members(self.alloc, entry)?;
+        if others.is_empty() {
+            return self.begin_alone(entry, client);
+        }
+        let asking = Asking {
+            entry: *entry,
+            first,
+            targets: self.targets,
+            incarnation: self.incarnation,
+        };
+        self.begin_with(asking, client, writes, &others)
+    }
+}
+
+#[cfg(test)]
+mod tests {
+    use super::*;
+    use daos_base::entry::Verdict;
+    use daos_base::items::Items;
+    use daos_messages::message::Message;
+    use std::test::Fail;
+
+    // The kinds of messages, each with the number of the actor that it goes to.
+    fn told(alloc: Global, posts: &Posts) -> Result<String, Fail> {
+        let mut text = String::new(alloc);
+        for post in posts.as_slice() {
+            let kind = match &post.message {
+                Message::Prepare { .. } => "prepare",
+                Message::Mark { .. } => "mark",
+                Message::Status { .. } => "status",
+                Message::Ended { .. } => "ended",
+                _ => "other",
+            };
+            let to = post.to.number;
+            text.push_str(&format!(in alloc; "{kind} {to} ")?)?;
+        }
+        Ok(text)
+    }
+
+    fn attempt(command: u32) -> AttemptId {
+        AttemptId {
+            client: 9,
+            command,
+            attempt: 0,
+        }
+    }
+
+    // Target 0 of three, which are all members.
+    fn begin(leader: &mut Leader, command: u32) -> Result<Posts, Memory> {
+        let entry = Entry {
+            attempt: attempt(command),
+            epoch: Epoch(256),
+            leader: 0,
+            members: 7,
+            confirmed: 0,
+            committed: false,
+        };
+        let client = ActorId {
+            client: true,
+            number: 9,
+        };
+        leader.begin(&entry, None, client, &[])
+    }
+
+    fn ack(command: u32, inc: u64, refusal: Option<Outcome>) -> Message {
+        Message::Ack {
+            attempt: attempt(command),
+            inc,
+            refusal,
+        }
+    }
+
+    #[test]
+    fn commits_and_tells(rt: HostRuntime) -> Result<(), Fail> {
+        let alloc = rt.alloc();
+        let mut leader = Leader::new(alloc, 0, 3, 1, &Items::new(alloc))?;
+        assert_eq!(rt;
+            told(alloc, &begin(&mut leader, 0)?)?.as_str(),
+            "prepare 1 prepare 2 "
+        );
+        assert!(rt; matches!(leader.answer_query(attempt(0)), Verdict::Undecided));
+        for (from, inc, posts) in [(1, 1, ""), (2, 0, ""), (2, 1, "ended 9 ")] {
+            let answer = leader.hear_ack(from, &ack(0, inc, None))?;
+            assert_eq!(rt; told(alloc, &answer)?.as_str(), posts, "{from}");
+        }
+        assert!(rt; matches!(leader.answer_query(attempt(0)), Verdict::Committed));
+        leader.settled(attempt(0));
+        assert_eq!(rt; told(alloc, &leader.batch()?)?.as_str(), "mark 1 mark 2 ");
+        assert_eq!(rt; told(alloc, &leader.batch()?)?.as_str(), "");
+        let mut attempts = Items::new(alloc);
+        attempts.push(attempt(0))?;
+        leader.hear_ack(1, &Message::Marked { inc: 1, attempts })?;
+        let mut marks = Items::new(alloc);
+        marks.push((attempt(0), true))?;
+        let mark = Message::Mark { inc: 1, marks };
+        for (down, posts) in [(false, "mark 2 "), (true, "")] {
+            assert_eq!(rt;
+                told(alloc, &leader.hear_reset(2, down, &mark)?)?.as_str(),
+                posts
+            );
+            assert_eq!(rt; told(alloc, &leader.batch()?)?.as_str(), "");
+        }
+        Ok(())
+    }
+
+    #[test]
+    fn aborts_and_asks_again(rt: HostRuntime) -> Result<(), Fail> {
+        let alloc = rt.alloc();
+        let mut leader = Leader::new(alloc, 0, 3, 1, &Items::new(alloc))?;
+        begin(&mut leader, 1)?;
+        let spent = ack(1, 1, Some(Outcome::EpochsSpent));
+        let posts = leader.hear_ack(1, &spent)?;
+        assert_eq!(rt; told(alloc, &posts)?.as_str(), "ended 9 mark 1 mark 2 ");
+        assert_eq!(rt;
+            told(alloc, &leader.hear_ack(2, &ack(1, 1, None))?)?.as_str(),
+            ""
+        );
+        assert!(rt; matches!(leader.answer_query(attempt(1)), Verdict::Aborted));
+        begin(&mut leader, 2)?;
+        let status = Message::Status {
+            attempt: attempt(2),
+            inc: 1,
+        };
+        for (down, posts) in [(false, "status 1 "), (true, "ended 9 "), (true, "")] {
+            assert_eq!(rt;
+                told(alloc, &leader.hear_reset(1, down, &status)?)?.as_str(),
+                posts
+            );
+        }
+        assert_eq!(rt; leader.down_among(6), Some(1));
+        Ok(())
+    }
+}

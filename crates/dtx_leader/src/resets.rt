@@ -1,0 +1,158 @@
+// Resets: messages that got no answer, since the target stopped or is down.
+ghost use Rattle.std.specs.Prelude.{◌≡◌, ◌<◌, IfOk, OnErr, map};
+ghost use Rattle.dtx_base.specs.Leading.{down_told, entry_led, mark_reset, prepare_reset, reset_heard, reset_of, status_asked, step_of, undecided_of, unwaited_at};
+
+use crate::bits::with_target;
+use crate::leader::Leader;
+use crate::marks::{attempts_of, name, unanswered};
+use crate::posts::{ended, none, one, to_target};
+use daos_base::epoch::TargetId;
+use daos_base::id::AttemptId;
+use daos_base::items::Memory;
+use daos_base::outcome::Outcome;
+use daos_messages::message::{Marks, Message, Posts};
+use daos_model::durable::is_same_attempt;
+use dtx_base::leading::Undecided;
+use dtx_table::rows::find;
+
+// No client waits any more for the end of an attempt.
+fn unwait_among(rows: &mut [Undecided], attempt: AttemptId)
+    ensures { rows.new ≡ map (unwaited_at attempt) rows.old }
+{
+    for row in rows.iter_mut() {
+        if is_same_attempt(row.attempt, attempt) {
+            row.client = None;
+        }
+    }
+}
+
+fn unwait(rows: &mut Vec<Undecided>, attempt: AttemptId)
+    ensures { rows.new.items ≡ map (unwaited_at attempt) rows.old.items }
+{
+    unwait_among(rows, attempt)
+}
+
+impl Leader {
+    // A member is down: the client that waits for an attempt is told, and the attempt stays undecided.
+    fn tell_down(&mut self, target: TargetId, attempt: AttemptId) -> Result<Posts, Memory>
+        ensures ok { IfOk result (λ posts. step_of self.new posts ≡ down_told target attempt (entry_led attempt self.old) (undecided_of attempt self.old) self.old) }
+        ensures err { OnErr result (self.new ≡ self.old) }
+    {
+        let Some(entry) = self.table.state(attempt) else {
+            return Ok(none(self.alloc));
+        };
+        let Some(undecided) = find(&self.undecided, attempt) else {
+            return Ok(none(self.alloc));
+        };
+        let outcome = Outcome::Unknown { target };
+        let posts = ended(self.alloc, undecided.client, attempt, entry.epoch, outcome)?;
+        unwait(&mut self.undecided, attempt);
+        Ok(posts)
+    }
+
+    // A member that stopped is asked what it holds, unless an older incarnation asked it to prepare.
+    fn ask_status(&self, target: TargetId, attempt: AttemptId, inc: u64) -> Result<Posts, Memory>
+        ensures { IfOk result (λ posts. step_of self.now posts ≡ status_asked target attempt inc self.now) }
+    {
+        if inc != self.incarnation {
+            return Ok(none(self.alloc));
+        }
+        one(
+            self.alloc,
+            to_target(target, Message::Status { attempt, inc }),
+        )
+    }
+
+    // A Prepare or a Status got no answer.
+    #[tactic(auto, unfolding(dtx_base::specs::Leading::prepare_reset))]
+    fn hear_prepare_reset(
+        &mut self,
+        target: TargetId,
+        down: bool,
+        attempt: AttemptId,
+        inc: u64,
+    ) -> Result<Posts, Memory>
+        ensures ok { IfOk result (λ posts. step_of self.new posts ≡ prepare_reset target down attempt inc self.old) }
+        ensures err { OnErr result (self.new ≡ self.old) }
+    {
+        if down {
+            return self.tell_down(target, attempt);
+        }
+        self.ask_status(target, attempt, inc)
+    }
+
+    // A Mark got no answer: it is sent again, unless the member is down.
+    #[tactic(auto, unfolding(dtx_base::specs::Leading::mark_reset))]
+    fn hear_mark_reset(
+        &mut self,
+        target: TargetId,
+        down: bool,
+        inc: u64,
+        marks: &Marks,
+    ) -> Result<Posts, Memory>
+        ensures ok { IfOk result (λ posts. step_of self.new posts ≡ mark_reset target down inc marks.now self.old) }
+        ensures err { OnErr result (self.new ≡ self.old) }
+    {
+        let attempts = attempts_of(self.alloc, marks.as_slice())?;
+        let mut named = unanswered(self.alloc, &self.named, target, inc, &attempts)?;
+        if down {
+            self.named = named;
+            return Ok(none(self.alloc));
+        }
+        name(&mut named, target, inc, &attempts)?;
+        let again = Message::Mark {
+            inc,
+            marks: marks.copy()?,
+        };
+        let posts = one(self.alloc, to_target(target, again))?;
+        self.named = named;
+        Ok(posts)
+    }
+
+    // What follows of the message.
+    fn hear_reset_of(
+        &mut self,
+        target: TargetId,
+        down: bool,
+        message: &Message,
+    ) -> Result<Posts, Memory>
+        ensures ok { IfOk result (λ posts. step_of self.new posts ≡ reset_of target down message.now self.old) }
+        ensures err { OnErr result (self.new ≡ self.old) }
+    {
+        match message {
+            Message::Prepare { entry, inc, .. } => {
+                self.hear_prepare_reset(target, down, entry.attempt, *inc)
+            }
+            Message::Status { attempt, inc } => {
+                self.hear_prepare_reset(target, down, *attempt, *inc)
+            }
+            Message::Mark { inc, marks } => self.hear_mark_reset(target, down, *inc, marks),
+            _ => Ok(none(self.alloc)),
+        }
+    }
+
+    /// A message to a target got no answer, since the target stopped or, where `down` is set, is
+    /// given up; that it is down is remembered, whatever the message. A Prepare or Status of this
+    /// incarnation is followed by a Status, and a Mark is sent again. Where the target is down, an
+    /// attempt stays undecided, and its client, if it waits, is told. The target is below 64.
+    ///
+    /// # Errors
+    ///
+    /// For want of memory; the leader is then as it was.
+    pub fn hear_reset(
+        &mut self,
+        target: TargetId,
+        down: bool,
+        message: &Message,
+    ) -> Result<Posts, Memory>
+        requires { target < 64 }
+        ensures ok { IfOk result (λ posts. step_of self.new posts ≡ reset_heard target down message.now self.old) }
+        ensures err { OnErr result (self.new ≡ self.old) }
+    {
+        let posts = self.hear_reset_of(target, down, message)?;
+        if down {
+            self.down = with_target(self.down, target);
+        }
+        Ok(posts)
+    }
+}

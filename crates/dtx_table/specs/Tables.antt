@@ -1,0 +1,26 @@
+-- What the calls of a table make of its entries.
+use Rattle.std.specs.Prelude.{◌<◌, find, filter, map, List, Option}
+use Rattle.daos_base.specs.declared.entry.Entry.{Entry}
+use Rattle.daos_base.specs.declared.entry.Settle.{Settle}
+use Rattle.daos_base.specs.declared.entry.Settle.TheVariants.{Commit, Abort, Confirm, Forget}
+use Rattle.daos_base.specs.declared.id.AttemptId.{AttemptId}
+use Rattle.daos_model.specs.Changes.{committed_at, confirmed_at, is_other}
+use Rattle.daos_model.specs.Durables.{is_entry_of}
+
+-- a member that confirms is one of at most 64 targets
+abbrev pub IsStep : Settle → Type 0
+IsStep Commit = Unit {0}
+IsStep Abort = Unit {0}
+IsStep (Confirm t) = t < 64
+IsStep Forget = Unit {0}
+
+-- the entry of an attempt
+abbrev pub entry_in : List Entry → AttemptId → Option Entry
+entry_in es a = find (is_entry_of a) es
+
+-- a step of an attempt: its entry is committed; it goes; one more member has confirmed it
+unfoldable pub entries_settled : AttemptId → Settle → List Entry → List Entry
+entries_settled a Commit es = map (committed_at a) es
+entries_settled a Abort es = filter (is_other a) es
+entries_settled a (Confirm t) es = map (confirmed_at a t) es
+entries_settled a Forget es = filter (is_other a) es
