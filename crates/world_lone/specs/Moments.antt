@@ -1,0 +1,169 @@
+-- At each moment of a run of one client, no line tells an attempt to restart.
+use Rattle.std.specs.Prelude.{◌≡◌, ◌⊎◌, ◌<◌, ◌==◌, true, false, not, is_some, ◌||◌, List, ◌∷◌, ◌++◌, length, slice_get, Option, Some, None, refl}
+use Rattle.std.proofs.Common.{append_assoc, inl, inr, sym, ◌∙◌, ap, subst, arith}
+use Rattle.std.proofs.lemmas.Option.{slice_get_within}
+use Rattle.daos_base.specs.declared.epoch.Epoch.{Epoch}
+use Rattle.daos_base.specs.declared.id.AttemptId.{AttemptId}
+use Rattle.daos_base.specs.declared.outcome.Cause.{Cause}
+use Rattle.daos_base.specs.declared.outcome.Cause.TheVariants as cause
+use Rattle.daos_base.specs.declared.outcome.Outcome.{Outcome}
+use Rattle.daos_base.specs.declared.outcome.Outcome.TheVariants as outcome
+use Rattle.daos_base.specs.declared.report.Attempt.{Attempt}
+use Rattle.daos_base.specs.declared.report.Line.{Line}
+use Rattle.daos_base.specs.declared.report.Line.TheVariants as line
+use Rattle.daos_laws.specs.DecidedLaws.{all-from_has, has-all}
+use Rattle.daos_laws.specs.Members.{Has, contains-from_has, has-filter, has-from_contains}
+use Rattle.daos_laws.specs.TargetLaws.{same_number}
+use Rattle.daos_lone.specs.Alone.{stands-before, stands-beside, stands-there}
+use Rattle.daos_model.specs.Attempts.{has_own_epoch, is_lost, is_of_client, is_restart, is_unknown, is_unsure, tries, tries_of}
+use Rattle.daos_model.specs.Opening.{Opening, top}
+use Rattle.daos_model.specs.Order.{EpochIsBelow, IsAfter, IsAfterAll, told_by}
+use Rattle.daos_room.specs.Lines.{StandsAt, line-of}
+use Rattle.world_base.specs.declared.client.ClientState.{ClientState}
+use Rattle.world_base.specs.declared.client.Present.{Present}
+use Rattle.world_base.specs.declared.world.World.{World}
+use Rattle.world_causes.specs.Causes.{Causes, Dated, Shows, ShowsCause}
+use Rattle.world_ends.specs.Carried.{runs-carry}
+use Rattle.world_ends.specs.FormLaws.{no-snapshots}
+use Rattle.world_epochs.specs.Epochs.{Epochs, HasLine, InCause, IsIssued, IsPast, IsPresent, Unsnapped}
+use Rattle.world_events.specs.Events.{Rules, client_plan}
+use Rattle.world_lines.specs.Lines.{Lines}
+use Rattle.world_lone.specs.LoneRuns.{LoneRunsNeverRestart}
+use Rattle.world_lone.specs.Rising.{lines-rise, one-of-rising}
+
+number-of : {e f : Epoch} → Some e ≡ Some f → e.0 ≡ f.0
+number-of {e = e} {f = f} s = let same : e ≡ f = cc in ap (λ x. x.0) same
+
+module _ (r : Rules) (o : Opening) (v : World) (plain : Unsnapped r) (clients : length v.clients ≡ 1) (E : Epochs r (top o) v) (L : Lines r v) (decided : Dated) (C : Causes r o decided v) where
+  -- ---- the lines
+
+  -- an attempt that is told of is of a client that is there
+  told-client : (a : Attempt) → Has a (tries v.lines) → (c : ClientState) × (slice_get v.clients a.id.client ≡ Some c)
+  told-client a i = by (slice_get v.clients a.id.client) refl
+    where
+      by : (z : Option ClientState) → slice_get v.clients a.id.client ≡ z → (c : ClientState) × (slice_get v.clients a.id.client ≡ Some c)
+      by None e = absurd (subst (Has a) (L.nobody a.id.client e) (has-filter (is_of_client a.id.client) (tries v.lines) a i (same_number a.id.client)))
+      by (Some c) e = (c, e)
+
+  only-client : (a : Attempt) → Has a (tries v.lines) → a.id.client ≡ 0
+  only-client a i =
+      let c = told-client a i in
+      let within : a.id.client < length v.clients = slice_get_within v.clients a.id.client c.0 c.1 in
+      omega (arith, within, clients)
+
+  same-client : (a b : Attempt) → Has a (tries v.lines) → Has b (tries v.lines) → is_of_client a.id.client b ≡ true
+  same-client a b i j = subst (λ c. (c == a.id.client) ≡ true) (only-client a i ∙ sym (only-client b j)) (same_number a.id.client)
+
+  -- two lines of an attempt are one
+  one-line : (a b : Attempt) → Has a (tries v.lines) → Has b (tries v.lines) → a.id ≡ b.id → a ≡ b
+  one-line a b i j same =
+      let c = told-client a i in
+      let t = L.told a.id.client c.0 c.1 in
+      one-of-rising (tries_of a.id.client v.lines) a b (lines-rise (client_plan r a.id.client) c.0 t.attempts (tries_of a.id.client v.lines) t.tells.told t.same)
+      (has-filter (is_of_client a.id.client) (tries v.lines) a i (same_number a.id.client)) (has-filter (is_of_client a.id.client) (tries v.lines) b j (same-client a b i j)) same
+
+  -- none is lost, or unknown
+  is-sure : (a : Attempt) → Has a (tries v.lines) → is_unsure a ≡ false
+  is-sure a i = by a.outcome (C.lines a (contains-from_has (tries v.lines) a i))
+    where
+      by : (how : Outcome) → Shows r o decided v.issued a.id how → (is_unknown how || is_lost a.id how) ≡ false
+      by outcome.Committed k = refl
+      by (outcome.CondFailed op) k = refl
+      by (outcome.Restart (cause.ReadLater x epoch path)) k = refl
+      by (outcome.Restart (cause.WriteLater x epoch path)) k = refl
+      by (outcome.Restart (cause.Unresolved x)) k = absurd k
+      by (outcome.Restart (cause.Floor target epoch why)) k = absurd k
+      by (outcome.NoSpace target need free) k = refl
+      by outcome.EpochsSpent k = refl
+      by outcome.NoSnapshot k = refl
+      by (outcome.Unknown target) k = absurd k
+
+  has-own : (a : Attempt) → has_own_epoch r.script a ≡ true
+  has-own a = ap (λ n. not (is_some n)) (no-snapshots r plain a.id)
+
+  -- ---- epochs
+
+  -- an attempt that a line tells of is present no more
+  not-present : (a : Attempt) → Has a (tries v.lines) → IsPresent r v a.id → ⊥
+  not-present a i p = by (E.past a p.c (contains-from_has (tries v.lines) a i) p.here)
+    where
+      by : IsPast p.c a.id → ⊥
+      by (inl less) = let e : p.c.command ≡ a.id.command = ap (λ x. x.command) p.own in omega (arith, less, e)
+      by (inr k) =
+          let same : p.a ≡ k.0 = some (sym p.at ∙ k.1) in
+          let e : p.a.attempt ≡ a.id.attempt = ap (λ x. x.attempt) p.own in
+          let f : p.a.attempt ≡ k.0.attempt = ap (λ x. x.attempt) same in
+          let less : a.id.attempt < k.0.attempt = k.3 in
+          omega (arith, e, f, less)
+        where
+          some : {x y : Present} → Some x ≡ Some y → x ≡ y
+          some s = cc
+
+  -- its line has the epoch that was issued to it
+  its-epoch : (a : Attempt) (own : Epoch) → Has a (tries v.lines) → IsIssued v a.id own → a.epoch ≡ Some own
+  its-epoch a own i issued = by (E.line a.id own issued)
+    where
+      by : IsPresent r v a.id ⊎ HasLine v a.id own → a.epoch ≡ Some own
+      by (inl p) = absurd (not-present a i p)
+      by (inr b) = ap (λ c. c.epoch) (one-line a b.0 i (has-from_contains (tries v.lines) b.0 b.1) (sym b.2)) ∙ b.3
+
+  -- what an attempt's epoch owes to a line before its own
+  after-earlier : (before after : List Line) (a b : Attempt) (f : Epoch) → v.lines ≡ before ++ line.Try a ∷ after → Has b (tries before) → a.epoch ≡ Some f → IsAfter r.script f.0 a b
+  after-earlier before after a b f among i at =
+      has-all (IsAfter r.script f.0 a) (tries_of a.id.client before) b
+      (subst (λ e. IsAfterAll r.script a e (tries_of a.id.client before)) at (E.risen before a after among (has-own a)))
+      (has-filter (is_of_client a.id.client) (tries before) b i (same-client a b (subst (λ ls. Has a (tries ls)) (sym among) (stands-there before after a)) (subst (λ ls. Has b (tries ls)) (sym among) (stands-before before after a b i))))
+
+  -- no attempt is told of a later epoch that was issued
+  not-later : (a : Attempt) (own e : Epoch) (x : AttemptId) → Has a (tries v.lines) → IsIssued v a.id own → IsIssued v x e → own.0 < e.0 → Has e.0 (told_by a.outcome) → ⊥
+  not-later a own e x i its issued later told = by (E.line x e issued)
+    where
+      z : StandsAt v.lines a
+      z = line-of v.lines a i
+
+      apart : (b : Attempt) → b.id ≡ x → b.epoch ≡ Some e → Has b (tries v.lines) → Has b (tries z.before) ⊎ (b ≡ a) ⊎ Has b (tries z.after) → ⊥
+      apart b is at j (inl k) =
+          let low : e.0 < own.0 = subst (EpochIsBelow own.0) at ((after-earlier z.before z.after a b own z.among k (its-epoch a own i its)).sure (has-own b) (is-sure b j)) in
+          omega (arith, later, low)
+      apart b is at j (inr (inl same)) = let equal : e.0 ≡ own.0 = number-of (sym at ∙ ap (λ c. c.epoch) same ∙ its-epoch a own i its) in omega (arith, later, equal)
+      apart b is at j (inr (inr k)) =
+          let y = line-of z.after b k in
+          let among : v.lines ≡ (z.before ++ line.Try a ∷ y.before) ++ line.Try b ∷ y.after = z.among ∙ ap (λ ls. z.before ++ line.Try a ∷ ls) y.among ∙ sym (append_assoc z.before (line.Try a ∷ y.before) (line.Try b ∷ y.after)) in
+          let low : e.0 < e.0 = has-all (λ n. n < e.0) (told_by a.outcome) e.0 (after-earlier (z.before ++ line.Try a ∷ y.before) y.after b a e among (stands-there z.before y.before a) at).told told in
+          omega (arith, low)
+
+      by : IsPresent r v x ⊎ HasLine v x e → ⊥
+      by (inl p) =
+          let within : x.client < length v.clients = slice_get_within v.clients x.client p.c p.here in
+          let here : a.id.client ≡ 0 = only-client a i in
+          let mine : a.id.client ≡ x.client = omega (arith, within, clients, here) in
+          let low : e.0 < e.0 = E.rises x e e.0 p issued (InCause a (contains-from_has (tries v.lines) a i) mine (contains-from_has (told_by a.outcome) e.0 told)) in
+          omega (arith, low)
+      by (inr b) =
+          let j = has-from_contains (tries v.lines) b.0 b.1 in
+          apart b.0 b.2 b.3 j (stands-beside z.before z.after a b.0 (subst (λ ls. Has b.0 (tries ls)) z.among j))
+
+  no-cause : (a : Attempt) (c : Cause) → Has a (tries v.lines) → a.outcome ≡ outcome.Restart c → ShowsCause r v.issued a.id c → ⊥
+  no-cause a (cause.ReadLater x epoch path) i how k = not-later a k.own epoch x i k.its k.reader k.later (subst (λ y. Has epoch.0 (told_by y)) (sym how) (inl refl))
+  no-cause a (cause.WriteLater x epoch path) i how k = not-later a k.own epoch x i k.its k.writer k.later (subst (λ y. Has epoch.0 (told_by y)) (sym how) (inl refl))
+  no-cause a (cause.Unresolved x) i how k = k
+  no-cause a (cause.Floor target epoch why) i how k = k
+
+  pub not-restarted : (a : Attempt) → Has a (tries v.lines) → is_restart a.outcome ≡ false
+  not-restarted a i = by a.outcome refl (C.lines a (contains-from_has (tries v.lines) a i))
+    where
+      by : (how : Outcome) → a.outcome ≡ how → Shows r o decided v.issued a.id how → is_restart how ≡ false
+      by outcome.Committed e k = refl
+      by (outcome.CondFailed op) e k = refl
+      by (outcome.Restart c) e k = absurd (no-cause a c i e k)
+      by (outcome.NoSpace target need free) e k = refl
+      by outcome.EpochsSpent e k = refl
+      by outcome.NoSnapshot e k = refl
+      by (outcome.Unknown target) e k = refl
+
+pub lone-runs-never-restart : LoneRunsNeverRestart
+lone-runs-never-restart r o w v A b run one =
+    let k = runs-carry r o w v A b run in
+    let f = k.carried.whole.all.facts in
+    all-from_has (λ a. is_restart a.outcome ≡ false) (tries v.lines)
+    (not-restarted r o v f.unsnapped (k.carried.whole.addressed.clients ∙ one) f.judged.epochs f.judged.spoken.lines k.decided k.carried.causes)
