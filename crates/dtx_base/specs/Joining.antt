@@ -7,7 +7,6 @@ use Rattle.daos_base.specs.declared.entry.Verdict.TheVariants as verdict
 use Rattle.daos_base.specs.declared.id.AttemptId.{AttemptId}
 use Rattle.daos_base.specs.declared.outcome.Cause.TheVariants.{Unresolved}
 use Rattle.daos_base.specs.declared.outcome.Outcome.TheVariants.{Restart}
-use Rattle.daos_messages.specs.declared.actor.ActorId.{ActorId}
 use Rattle.daos_messages.specs.declared.message.Message.{Message}
 use Rattle.daos_messages.specs.declared.message.Message.TheVariants.{Ack, Fetch, Fetched, Prepare, Query}
 use Rattle.daos_messages.specs.declared.message.Post.{Post}

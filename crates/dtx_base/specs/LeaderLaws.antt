@@ -1,10 +1,10 @@
 -- What holds of every step of a leader.
-use Rattle.std.specs.Prelude.{ℕ, ◌≡◌, ◌^◌, ◌⊎◌, Bool, true, false, ◌&&◌, ◌||◌, ◌==◌, not, filter, find, map, All, List, [], ◌∷◌, ◌++◌, Option, Some, None, if◌then◌else◌, refl}
+use Rattle.std.specs.Prelude.{ℕ, ◌≡◌, ◌^◌, ◌⊎◌, Bool, true, false, ◌&&◌, ◌||◌, ◌==◌, not, filter, map, All, List, [], ◌∷◌, ◌++◌, Option, Some, None, if◌then◌else◌, refl}
 use Rattle.std.specs.List.{list_all, list_any}
 use Rattle.std.specs.Int.{bit_at}
-use Rattle.std.proofs.Common.{sym, ◌∙◌, ap, subst, arith, inl, inr, max}
+use Rattle.std.proofs.Common.{sym, ◌∙◌, ap, arith, inl, inr, max}
 use Rattle.std.proofs.lemmas.Bool.Decides.{nat_tests}
-use Rattle.std.proofs.lemmas.List.Elements.{All-cons, All-filter, All-head, All-tail, filter_passes}
+use Rattle.std.proofs.lemmas.List.Elements.{All-cons, All-head, All-tail, filter_passes}
 use Rattle.std.proofs.lemmas.Nat.Bits.{bit_at_or, bit_at-pow_other}
 use Rattle.daos_base.specs.declared.entry.Entry.{Entry}
 use Rattle.daos_base.specs.declared.id.AttemptId.{AttemptId}
@@ -13,7 +13,7 @@ use Rattle.daos_base.specs.declared.outcome.Outcome.TheVariants.{Committed}
 use Rattle.daos_messages.specs.declared.message.Message.TheVariants.{Mark}
 use Rattle.daos_messages.specs.declared.message.Post.{Post}
 use Rattle.daos_model.specs.Answers.{is_before}
-use Rattle.daos_model.specs.BoolLaws.{and_left, and_right, both, clash, false_of, not_true}
+use Rattle.daos_model.specs.BoolLaws.{and_left, and_right, both, clash, not_true}
 use Rattle.daos_model.specs.Durables.{attempt_key, entry_key, same_attempt}
 use Rattle.daos_model.specs.Ordered.{all_after, is_rising, put}
 use Rattle.daos_model.specs.OrderLaws.{rising-filter}
@@ -42,7 +42,7 @@ same-is a b is =
 -- ---- an attempt is decided once all its other members answered Ok
 
 -- a target whose bit is set once one more is added is that one, or had it before
-had_or_is : (set t m : ℕ) → has_target (with_target set t) m ≡ true → (m ≡ t) ⊎ (has_target set m ≡ true)
+pub had_or_is : (set t m : ℕ) → has_target (with_target set t) m ≡ true → (m ≡ t) ⊎ (has_target set m ≡ true)
 unfolding has_target
 had_or_is set t m has = by (m == t) refl
   where

@@ -6,3 +6,4 @@ pub mod LeaderLaws
 pub mod MemberLaws
 pub mod RowLaws
 pub mod StandingLaws
+pub mod CountLaws

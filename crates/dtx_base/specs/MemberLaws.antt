@@ -1,6 +1,5 @@
 -- What holds of every step of a member.
 use Rattle.std.specs.Prelude.{◌≡◌, Bool, true, false, not, filter, map, All, List, [], ◌∷◌, if◌then◌else◌, refl}
-use Rattle.std.proofs.Common.{ap, arith}
 use Rattle.std.proofs.lemmas.List.Elements.{filter_passes}
 use Rattle.daos_base.specs.declared.id.AttemptId.{AttemptId}
 use Rattle.daos_messages.specs.declared.message.Message.{Message}

@@ -1,5 +1,5 @@
 -- What is found among rows after a change.
-use Rattle.std.specs.Prelude.{ℕ, ◌≡◌, Bool, true, false, ◌||◌, not, filter, find, map, List, [], ◌∷◌, Option, Some, None, if◌then◌else◌, refl}
+use Rattle.std.specs.Prelude.{◌≡◌, Bool, true, false, ◌||◌, not, map, List, [], ◌∷◌, Some, None, if◌then◌else◌, refl}
 use Rattle.std.specs.Option.{option_map}
 use Rattle.std.proofs.Common.{sym, ◌∙◌, ap}
 use Rattle.daos_base.specs.declared.id.AttemptId.{AttemptId}
@@ -8,7 +8,7 @@ use Rattle.daos_model.specs.BoolLaws.{false_of}
 use Rattle.daos_model.specs.Durables.{attempt_key, same_attempt}
 use Rattle.daos_model.specs.Ordered.{put}
 use Rattle.dtx_base.specs.LeaderLaws.{same-is}
-use Rattle.dtx_base.specs.Rows.{is_among, is_row_of, itself, row_key, row_of, with_row, without_row}
+use Rattle.dtx_base.specs.Rows.{is_among, itself, row_key, row_of, with_row, without_row}
 
 -- no attempt is another one
 pub other-is_not : (x a b : AttemptId) → (a ≡ b → ⊥) → same_attempt x b ≡ true → same_attempt x a ≡ false

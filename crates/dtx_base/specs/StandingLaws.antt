@@ -1,9 +1,8 @@
 -- What a leader decided stays decided or committed.
-use Rattle.std.specs.Prelude.{ℕ, ◌≡◌, Bool, true, false, ◌&&◌, ◌||◌, ◌==◌, not, filter, find, map, List, [], ◌∷◌, ◌++◌, Option, Some, None, if◌then◌else◌, refl}
+use Rattle.std.specs.Prelude.{ℕ, ◌≡◌, Bool, true, false, ◌||◌, ◌==◌, find, map, List, [], ◌∷◌, Option, Some, None, if◌then◌else◌, refl}
 use Rattle.std.specs.Option.{option_map}
-use Rattle.std.proofs.Common.{sym, ◌∙◌, ap, subst}
+use Rattle.std.proofs.Common.{◌∙◌, ap, subst}
 use Rattle.daos_base.specs.declared.entry.Entry.{Entry}
-use Rattle.daos_base.specs.declared.entry.Verdict.{Verdict}
 use Rattle.daos_base.specs.declared.entry.Verdict.TheVariants as verdict
 use Rattle.daos_base.specs.declared.epoch.Epoch.{Epoch}
 use Rattle.daos_base.specs.declared.id.AttemptId.{AttemptId}
@@ -19,7 +18,7 @@ use Rattle.dtx_base.specs.declared.leading.Undecided.{Undecided}
 use Rattle.dtx_base.specs.Leading.{LeaderOf, aborted, ack_heard, all_confirmed_by, answer_heard, answer_if_awaited, answer_of_member, answered, batched, begun, begun_alone, begun_with_others, confirmed_by, counted_at, decided, down_told, ended, entries_marked, entry_attempt, entry_led, knowing, mark_reset, marked_heard, may_confirm, new_undecided, ok_heard, prepare_reset, query_answer, quietly, reset_heard, reset_of, settled_led, status_asked, to_target, undecided_attempt, undecided_of, unwaited_at, verdict_on, with_entries, with_named, with_undecided}
 use Rattle.dtx_base.specs.Members.{are_all_counted, is_other_member, other_members, with_target}
 use Rattle.dtx_base.specs.RowLaws.{among-with, among-without, row-is, row-map, row-with, row-without}
-use Rattle.dtx_base.specs.Rows.{is_among, is_empty, itself}
+use Rattle.dtx_base.specs.Rows.{is_among, is_empty}
 
 -- An attempt is decided or committed: it has an entry, which is committed or whose attempt is among the decided ones, and it
 -- isn't undecided.

@@ -62,10 +62,9 @@ impl Member {
     /// # Errors
     ///
     /// None so far: it takes no memory.
-    pub fn new(alloc: Global, me: TargetId, targets: u8) -> Result<Member, Memory>
+    pub fn new(alloc: Global, me: TargetId, _targets: u8) -> Result<Member, Memory>
         ensures { IfOk result (λ member. member ≡ first_member me) }
     {
-        let _ = targets;
         Ok(Member {
             alloc,
             me,
