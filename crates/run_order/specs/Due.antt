@@ -1,33 +1,13 @@
 -- Which actors have something to do.
-use Rattle.std.specs.Prelude.{ℕ, zero, suc, ◌≡◌, ◌<◌, ◌++◌, Bool, true, false, ◌||◌, ◌==◌, not, nat_lt, List, [], ◌∷◌, length, slice_get, Option, Some, None, if◌then◌else◌}
+use Rattle.std.specs.Prelude.{ℕ, zero, suc, ◌≡◌, ◌<◌, ◌++◌, Bool, true, false, List, [], ◌∷◌, length, slice_get, Option, Some, None}
 use Rattle.client_core.specs.Clients.{ClientNow}
-use Rattle.daos_base.specs.declared.id.AttemptId.{AttemptId}
 use Rattle.daos_messages.specs.declared.actor.ActorId.{ActorId}
+use Rattle.run_picks.specs.Picks.{count_to, is_client_due, is_target_due}
 use Rattle.target_core.specs.Targets.{TargetOf}
-use Rattle.world_base.specs.declared.client.ClientPlan.{ClientPlan}
-use Rattle.world_base.specs.declared.client.ClientState.{ClientState}
 use Rattle.world_base.specs.declared.letter.Letter.{Letter}
-use Rattle.world_base.specs.ClientTurns.{is_done, waits}
-use Rattle.run_letters.specs.Letters.{letters_to}
 use Rattle.world_events.specs.Letters.{client, target}
 
--- how many letters are in flight to an actor
-abbrev pub count_to : ActorId → List Letter → ℕ
-count_to a letters = length (letters_to a letters)
-
--- of how many a client hears one in its turn: of none where it skips it
-abbrev pub heard_awake : ClientState → ℕ → ℕ
-heard_awake c heard = if nat_lt 0 c.skip then 0 else heard
-
--- a client has something to do: it skips, a message is in flight to it, or it neither waits nor is done
-abbrev pub is_client_due : ClientPlan → ClientState → ℕ → Bool
-is_client_due p c heard = nat_lt 0 c.skip || nat_lt 0 heard || not (waits c || is_done p c)
-
--- a target has something to do: a message is in flight to it, or it has decided attempts to settle
-abbrev pub is_target_due : List AttemptId → ℕ → Bool
-is_target_due decided heard = nat_lt 0 heard || not (length decided == 0)
-
--- the same of the client, and of the target, of a number
+-- the client, or the target, of this number has something to do
 abbrev pub is_due_client : List Letter → ℕ → Option ClientNow → Bool
 is_due_client letters n None = false
 is_due_client letters n (Some c) = is_client_due c.plan c.state (count_to (client n) letters)

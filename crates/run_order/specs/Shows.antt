@@ -1,9 +1,11 @@
 -- The actors of a run, and what lies between them, as a world that a run has reached.
 use Rattle.std.specs.Prelude.{ℕ, ◌≡◌, false, List, length, map, slice_get, Option, Some}
 use Rattle.client_core.specs.Clients.{ClientNow}
+use Rattle.daos_messages.specs.declared.actor.ActorId.{ActorId}
 use Rattle.daos_model.specs.declared.durable.Durable.{Durable}
 use Rattle.daos_model.specs.Opening.{Opening}
 use Rattle.run_letters.specs.Letters.{BetweenNow}
+use Rattle.run_picks.specs.Picks.{TurnOf}
 use Rattle.target_core.specs.Targets.{TargetOf}
 use Rattle.vos_store.specs.Calls.{State}
 use Rattle.world_base.specs.declared.client.ClientState.{ClientState}
@@ -37,6 +39,12 @@ module _ {S C : Type 0} (durable : S → Option Durable) (state : S → State) w
     pub messages : b.messages ≡ w.messages
     pub issued : b.issued ≡ w.issued
     pub lines : b.lines ≡ w.lines
+
+  -- From this world, a turn of an actor has led to one that the actors show; the letter that it heard, if it heard one, had this number.
+  pub record Steps (r : Rules) (actor : ActorId) (number : ℕ) (w : World) (clients : List ClientNow) (targets : List (TargetOf S C)) (b : BetweenNow) : Type 0 where
+    pub next : World
+    pub turn : TurnOf r actor number w next
+    pub shows : Shows r clients targets b next
 
   -- a run from this world has reached one that the actors show
   pub record IsReached (r : Rules) (w : World) (clients : List ClientNow) (targets : List (TargetOf S C)) (b : BetweenNow) : Type 0 where

@@ -2,8 +2,9 @@
 ghost use Rattle.std.specs.Prelude.{◌≡◌, ◌≤◌, ◌<◌, max, length, slice_get, IfOk, OnOk, Some};
 ghost use Rattle.client_core.specs.Clients.{ClientNow};
 ghost use Rattle.target_core.specs.Targets.{TargetOf};
-ghost use Rattle.run_order.specs.Due.{count_to, due_actors, heard_awake, is_client_due, is_due_client, is_due_target, is_target_due};
-ghost use Rattle.run_order.specs.Shows.{IsGoing, IsReached};
+ghost use Rattle.run_order.specs.Due.{due_actors, is_due_client, is_due_target};
+ghost use Rattle.run_order.specs.Shows.{IsGoing, Shows, Steps};
+ghost use Rattle.run_picks.specs.Picks.{count_to, heard_awake, is_client_due, is_target_due};
 ghost use Rattle.world_base.specs.declared.world.World.{World};
 ghost use Rattle.world_events.specs.Events.{Rules};
 ghost use Rattle.world_events.specs.Letters.{client, target};
@@ -93,11 +94,13 @@ impl<S: Store, C: Clock> Actors<S, C> {
     /// A turn of a client: it counts a skip, hears the message of this number among those to it, or
     /// goes on.
     pub(crate) fn client_turn(&mut self, n: usize, number: usize) -> Result<(), Memory>
+        requires going { IsGoing S.durable S.state self.old.clients.items self.old.targets.items self.old.between }
         requires within { n < length self.old.clients.items }
         requires few { n < 65536 }
         requires number { number < max 1 (count_to (client n) self.old.between.messages) }
-        ensures reached { (r : Rules) (w : World) → IsReached S.durable S.state r w self.old.clients.items self.old.targets.items self.old.between
-            → OnOk result (IsReached S.durable S.state r w self.new.clients.items self.new.targets.items self.new.between) }
+        ensures steps { (r : Rules) (w : World) → Shows S.durable S.state r self.old.clients.items self.old.targets.items self.old.between w
+            → OnOk result (Steps S.durable S.state r (client n) number w self.new.clients.items self.new.targets.items self.new.between) }
+        ensures going { OnOk result (IsGoing S.durable S.state self.new.clients.items self.new.targets.items self.new.between) }
         ensures many_clients { length self.new.clients.items ≡ length self.old.clients.items }
         ensures many_targets { length self.new.targets.items ≡ length self.old.targets.items }
     {
@@ -128,8 +131,9 @@ impl<S: Store, C: Clock> Actors<S, C> {
         requires within { t < length self.old.targets.items }
         requires few { t < 65536 }
         requires number { number < max 1 (count_to (target t) self.old.between.messages) }
-        ensures reached { (r : Rules) (w : World) → IsReached S.durable S.state r w self.old.clients.items self.old.targets.items self.old.between
-            → OnOk result (IsReached S.durable S.state r w self.new.clients.items self.new.targets.items self.new.between) }
+        ensures steps { (r : Rules) (w : World) → Shows S.durable S.state r self.old.clients.items self.old.targets.items self.old.between w
+            → OnOk result (Steps S.durable S.state r (target t) number w self.new.clients.items self.new.targets.items self.new.between) }
+        ensures going { OnOk result (IsGoing S.durable S.state self.new.clients.items self.new.targets.items self.new.between) }
         ensures many_clients { length self.new.clients.items ≡ length self.old.clients.items }
         ensures many_targets { length self.new.targets.items ≡ length self.old.targets.items }
     {

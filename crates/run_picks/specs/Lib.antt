@@ -1,0 +1,3 @@
+-- The order of turns.
+pub mod Picks
+pub mod Orders

@@ -1,0 +1,2 @@
+// Which actor has its turn, and which letter it hears.
+#![tactic(auto)]
