@@ -1,32 +1,63 @@
--- Turns of actors one after another: what was reached from is reached on.
-use Rattle.std.specs.Prelude.{◌≡◌, List, length, Option, refl}
+-- Turns of actors one after another.
+use Rattle.std.specs.Prelude.{ℕ, ◌≡◌, List, length, Option, Result, Ok, Err, OnOk, refl}
 use Rattle.std.proofs.Common.{◌∙◌}
 use Rattle.client_core.specs.Clients.{ClientNow}
+use Rattle.daos_messages.specs.declared.actor.ActorId.{ActorId}
 use Rattle.daos_model.specs.declared.durable.Durable.{Durable}
 use Rattle.run_letters.specs.Letters.{BetweenNow}
-use Rattle.run_order.specs.Shows.{IsGoing, IsReached}
+use Rattle.run_order.specs.Ended.{IsShown}
+use Rattle.run_actors.specs.CanGo.{CanGo}
+use Rattle.run_actors.specs.Stores.{AllRun}
+use Rattle.run_actors.specs.StoreLaws.{run-first, run-then}
+use Rattle.run_actors.specs.Shows.{Shows, Steps}
+use Rattle.run_picks.specs.OrderLaws.{turn-event}
+use Rattle.run_picks.specs.Picks.{TurnOf}
 use Rattle.target_core.specs.Targets.{TargetOf}
 use Rattle.vos_store.specs.Calls.{State}
 use Rattle.world_base.specs.declared.world.World.{World}
-use Rattle.world_events.specs.Events.{Rules}
+use Rattle.world_events.specs.Events.{Goes, Rules}
 
 module _ {S C : Type 0} (durable : S → Option Durable) (state : S → State) where
-  -- from whatever beginning these were reached, those are; there are as many
-  pub record GoesOn (cs : List ClientNow) (xs : List (TargetOf S C)) (b : BetweenNow) (cs' : List ClientNow) (xs' : List (TargetOf S C)) (b' : BetweenNow) : Type 0 where
-    pub reached : (r : Rules) (w : World) → IsReached durable state r w cs xs b → IsReached durable state r w cs' xs' b'
+  -- From each world that these showed, those have come to one that they show, in this way; they are those of a begun run, and as many.
+  pub record GoesOn (way : Rules → World → World → Type 0) (cs : List ClientNow) (xs : List (TargetOf S C)) (b : BetweenNow) (cs' : List ClientNow) (xs' : List (TargetOf S C)) (b' : BetweenNow) : Type 0 where
+    pub led : (r : Rules) (w : World) → Shows durable state r cs xs b w → IsShown durable state r (way r w) cs' xs' b'
+    pub going : CanGo durable state cs' xs' b'
     pub clients : length cs' ≡ length cs
-    pub targets : length xs' ≡ length xs
+    pub stores : AllRun durable state xs xs'
 
-  pub goes-none : (cs : List ClientNow) (xs : List (TargetOf S C)) (b : BetweenNow) → GoesOn cs xs b cs xs b
-  goes-none cs xs b = record { reached = λ r w k. k; clients = refl; targets = refl }
+  pub goes-none : (way : Rules → World → World → Type 0) (cs : List ClientNow) (xs : List (TargetOf S C)) (b : BetweenNow) → ((r : Rules) (w : World) → way r w w) → CanGo durable state cs xs b → GoesOn way cs xs b cs xs b
+  goes-none way cs xs b none going = record { led = λ r w k. record { now = w; is = none r w; shows = k }; going = going; clients = refl; stores = run-first durable state xs going.running }
 
-  pub goes-then : (cs : List ClientNow) (xs : List (TargetOf S C)) (b : BetweenNow) (cs' : List ClientNow) (xs' : List (TargetOf S C)) (b' : BetweenNow) (cs'' : List ClientNow) (xs'' : List (TargetOf S C)) (b'' : BetweenNow)
-      → GoesOn cs xs b cs' xs' b' → GoesOn cs' xs' b' cs'' xs'' b'' → GoesOn cs xs b cs'' xs'' b''
-  goes-then cs xs b cs' xs' b' cs'' xs'' b'' k l = record {
-    reached = λ r w i. l.reached r w (k.reached r w i);
+  -- one way and then another
+  pub goes-then : (one other both : Rules → World → World → Type 0) (cs : List ClientNow) (xs : List (TargetOf S C)) (b : BetweenNow) (cs' : List ClientNow) (xs' : List (TargetOf S C)) (b' : BetweenNow) (cs'' : List ClientNow) (xs'' : List (TargetOf S C)) (b'' : BetweenNow)
+      → ((r : Rules) (w u v : World) → Shows durable state r cs' xs' b' u → one r w u → other r u v → both r w v) → GoesOn one cs xs b cs' xs' b' → GoesOn other cs' xs' b' cs'' xs'' b'' → GoesOn both cs xs b cs'' xs'' b''
+  goes-then one other both cs xs b cs' xs' b' cs'' xs'' b'' join k l = record {
+    led = λ r w s.
+        let m = k.led r w s in
+        let n = l.led r m.now m.shows in
+        record { now = n.now; is = join r w m.now n.now m.shows m.is n.is; shows = n.shows };
+    going = l.going;
     clients = l.clients ∙ k.clients;
-    targets = l.targets ∙ k.targets;
+    stores = run-then durable state _ _ xs xs' xs'' k.stores l.stores;
   }
 
-  pub still-going : (cs : List ClientNow) (xs : List (TargetOf S C)) (b : BetweenNow) (cs' : List ClientNow) (xs' : List (TargetOf S C)) (b' : BetweenNow) → IsGoing durable state cs xs b → GoesOn cs xs b cs' xs' b' → IsGoing durable state cs' xs' b'
-  still-going cs xs b cs' xs' b' k l = record { rules = k.rules; opening = k.opening; first = k.first; alone = k.alone; begun = k.begun; reached = l.reached k.rules k.first k.reached }
+  -- said in another way
+  pub goes-as : (one other : Rules → World → World → Type 0) (cs : List ClientNow) (xs : List (TargetOf S C)) (b : BetweenNow) (cs' : List ClientNow) (xs' : List (TargetOf S C)) (b' : BetweenNow)
+      → ((r : Rules) (w u : World) → Shows durable state r cs' xs' b' u → one r w u → other r w u) → GoesOn one cs xs b cs' xs' b' → GoesOn other cs xs b cs' xs' b'
+  goes-as one other cs xs b cs' xs' b' said k = record {
+    led = λ r w s. let m = k.led r w s in record { now = m.now; is = said r w m.now m.shows m.is; shows = m.shows };
+    going = k.going;
+    clients = k.clients;
+    stores = k.stores;
+  }
+
+  -- a turn
+  pub goes-turn : (a : ActorId) (k : ℕ) (cs : List ClientNow) (xs : List (TargetOf S C)) (b : BetweenNow) (cs' : List ClientNow) (xs' : List (TargetOf S C)) (b' : BetweenNow)
+      → ((r : Rules) (w : World) → Shows durable state r cs xs b w → Steps durable state r a k w cs' xs' b') → CanGo durable state cs' xs' b' → length cs' ≡ length cs → AllRun durable state xs xs'
+      → GoesOn (λ r w v. TurnOf r a k w v) cs xs b cs' xs' b'
+  goes-turn a k cs xs b cs' xs' b' steps going clients stores = record {
+    led = λ r w s. let n = steps r w s in record { now = n.next; is = n.turn; shows = n.shows };
+    going = going;
+    clients = clients;
+    stores = stores;
+  }

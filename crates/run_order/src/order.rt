@@ -1,14 +1,17 @@
 // The order of turns.
-ghost use Rattle.std.specs.Prelude.{◌≡◌, ◌≤◌, ◌<◌, max, [], length, IfOk, OnOk};
-ghost use Rattle.run_order.specs.Due.{IsActor, count_to, due_actors};
-ghost use Rattle.run_order.specs.Ended.{HasRun, nothing};
-ghost use Rattle.run_order.specs.Shows.{IsGoing, IsReached};
+ghost use Rattle.std.specs.Prelude.{◌≡◌, ◌≤◌, ◌<◌, max, length, IfOk, OnOk};
+ghost use Rattle.run_actors.specs.Due.{IsActor};
+ghost use Rattle.run_order.specs.Halts.{ComesOf, Leaves};
+ghost use Rattle.run_order.specs.Ended.{HasRun, IsShown, nothing};
+ghost use Rattle.run_actors.specs.CanGo.{CanGo};
+ghost use Rattle.run_actors.specs.Shows.{Shows, Steps};
+ghost use Rattle.run_picks.specs.Orders.{InDraws, InOrder, InRounds, RoundOf, after_pick, pick};
+ghost use Rattle.run_picks.specs.Picks.{count_to, heard};
 ghost use Rattle.world_base.specs.declared.world.World.{World};
 ghost use Rattle.daos_model.specs.Opening.{Opening};
 ghost use Rattle.world_begins.specs.Begins.{IsAlone, IsBegun};
 ghost use Rattle.world_events.specs.Events.{Rules};
 
-use crate::actors::Actors;
 use crate::halted::Halted;
 use client_core::client::Client;
 use daos_base::epoch::TargetId;
@@ -17,6 +20,7 @@ use daos_draw::draw::drawn;
 use daos_messages::actor::ActorId;
 use daos_outside::clock::Clock;
 use daos_outside::gate::Gate;
+use run_actors::actors::Actors;
 use run_letters::between::Between;
 use std::alloc::Global;
 use std::sync::Wait;
@@ -29,7 +33,8 @@ fn heard_by<S: Store, C: Clock>(actors: &Actors<S, C>, actor: ActorId) -> usize
     requires actor { IsActor (length actors.now.clients.items) (length actors.now.targets.items) actor }
     requires few_clients { length actors.now.clients.items ≤ 65535 }
     requires few_targets { length actors.now.targets.items ≤ 255 }
-    ensures { result ≤ count_to actor actors.now.between.messages }
+    ensures heard { (r : Rules) (w : World) → Shows S.durable S.state r actors.now.clients.items actors.now.targets.items actors.now.between w → result ≡ heard w actor }
+    ensures few { result ≤ count_to actor actors.now.between.messages }
 {
     let number = usize::from(actor.number);
     if actor.client {
@@ -40,7 +45,9 @@ fn heard_by<S: Store, C: Clock>(actors: &Actors<S, C>, actor: ActorId) -> usize
 }
 
 // Why a target's turn isn't whole.
-fn halted_by(target: TargetId, stop: TargetStop) -> Halted {
+fn halted_by(target: TargetId, stop: TargetStop) -> Halted
+    ensures { ComesOf target stop result }
+{
     match stop {
         TargetStop::Store { .. } => Halted::Stopped(target),
         TargetStop::Foreign { .. } | TargetStop::Memory => Halted::Memory,
@@ -54,15 +61,16 @@ fn turn<S: Store, C: Clock>(
     message: usize,
     settling: bool,
 ) -> Result<(), Halted>
-    requires going { IsGoing S.durable S.state actors.old.clients.items actors.old.targets.items actors.old.between }
+    requires going { CanGo S.durable S.state actors.old.clients.items actors.old.targets.items actors.old.between }
     requires actor { IsActor (length actors.old.clients.items) (length actors.old.targets.items) actor }
     requires few_clients { length actors.old.clients.items ≤ 65535 }
     requires few_targets { length actors.old.targets.items ≤ 255 }
     requires message { message < max 1 (count_to actor actors.old.between.messages) }
-    ensures reached { (r : Rules) (w : World) → IsReached S.durable S.state r w actors.old.clients.items actors.old.targets.items actors.old.between
-        → OnOk result (IsReached S.durable S.state r w actors.new.clients.items actors.new.targets.items actors.new.between) }
+    ensures steps { (r : Rules) (w : World) → Shows S.durable S.state r actors.old.clients.items actors.old.targets.items actors.old.between w
+        → OnOk result (Steps S.durable S.state r actor message w actors.new.clients.items actors.new.targets.items actors.new.between) }
+    ensures going { OnOk result (CanGo S.durable S.state actors.new.clients.items actors.new.targets.items actors.new.between) }
     ensures many_clients { length actors.new.clients.items ≡ length actors.old.clients.items }
-    ensures many_targets { length actors.new.targets.items ≡ length actors.old.targets.items }
+    ensures stores { Leaves S.durable S.state result actors.old.targets.items actors.new.targets.items }
 {
     let number = usize::from(actor.number);
     if actor.client {
@@ -76,20 +84,21 @@ fn turn<S: Store, C: Clock>(
 }
 
 // A round: every client in order and then every target in order has one turn, if it has something to
-// do, and hears the message that was sent to it first.
+// do, and hears the message that was sent to it first. The gate is told the round's number.
 fn round<S: Store, C: Clock, G: Gate>(
     actors: &mut Actors<S, C>,
     gate: &G,
     number: u64,
     settling: bool,
 ) -> Result<(), Halted>
-    requires going { IsGoing S.durable S.state actors.old.clients.items actors.old.targets.items actors.old.between }
+    requires going { CanGo S.durable S.state actors.old.clients.items actors.old.targets.items actors.old.between }
     requires few_clients { length actors.old.clients.items ≤ 65535 }
     requires few_targets { length actors.old.targets.items ≤ 255 }
-    ensures reached { (r : Rules) (w : World) → IsReached S.durable S.state r w actors.old.clients.items actors.old.targets.items actors.old.between
-        → OnOk result (IsReached S.durable S.state r w actors.new.clients.items actors.new.targets.items actors.new.between) }
+    ensures round { (r : Rules) (w : World) → Shows S.durable S.state r actors.old.clients.items actors.old.targets.items actors.old.between w
+        → OnOk result (IsShown S.durable S.state r (RoundOf r w) actors.new.clients.items actors.new.targets.items actors.new.between) }
+    ensures going { OnOk result (CanGo S.durable S.state actors.new.clients.items actors.new.targets.items actors.new.between) }
     ensures many_clients { length actors.new.clients.items ≡ length actors.old.clients.items }
-    ensures many_targets { length actors.new.targets.items ≡ length actors.old.targets.items }
+    ensures stores { Leaves S.durable S.state result actors.old.targets.items actors.new.targets.items }
 {
     for n in 0..actors.clients.len() {
         if actors.is_client_due(n) {
@@ -108,37 +117,39 @@ fn round<S: Store, C: Clock, G: Gate>(
     Ok(())
 }
 
-// Rounds, until no actor has anything to do.
+// Rounds, until no actor has anything to do. The number is that of the next round.
 fn go_round<R: Wait, S: Store, C: Clock, G: Gate>(
     rt: &R,
     alloc: Global,
     actors: &mut Actors<S, C>,
     gate: &G,
+    number: &mut u64,
     settling: bool,
 ) -> Result<(), Halted>
-    requires going { IsGoing S.durable S.state actors.old.clients.items actors.old.targets.items actors.old.between }
+    requires going { CanGo S.durable S.state actors.old.clients.items actors.old.targets.items actors.old.between }
     requires few_clients { length actors.old.clients.items ≤ 65535 }
     requires few_targets { length actors.old.targets.items ≤ 255 }
-    ensures reached { (r : Rules) (w : World) → IsReached S.durable S.state r w actors.old.clients.items actors.old.targets.items actors.old.between
-        → OnOk result (IsReached S.durable S.state r w actors.new.clients.items actors.new.targets.items actors.new.between) }
-    ensures quiet { OnOk result (due_actors actors.new.between.messages actors.new.clients.items actors.new.targets.items ≡ []) }
+    ensures rounds { (r : Rules) (w : World) → Shows S.durable S.state r actors.old.clients.items actors.old.targets.items actors.old.between w
+        → OnOk result (IsShown S.durable S.state r (InRounds r w) actors.new.clients.items actors.new.targets.items actors.new.between) }
+    ensures going { OnOk result (CanGo S.durable S.state actors.new.clients.items actors.new.targets.items actors.new.between) }
     ensures many_clients { length actors.new.clients.items ≡ length actors.old.clients.items }
-    ensures many_targets { length actors.new.targets.items ≡ length actors.old.targets.items }
+    ensures stores { Leaves S.durable S.state result actors.old.targets.items actors.new.targets.items }
 {
-    let mut number: u64 = 0;
     for _ in rt.forever() {
         if actors.due(alloc, settling)?.is_empty() {
             return Ok(());
         }
-        round(actors, gate, number, settling)?;
-        number = number.wrapping_add(1);
+        round(actors, gate, *number, settling)?;
+        *number = number.wrapping_add(1);
     }
     unreachable!()
 }
 
-// One of so many, as the next number drawn says; it isn't drawn where there is none.
+// A number below so many, by the next one drawn; where there is none, none is drawn.
 fn pick(x: &mut u64, many: usize) -> usize
-    ensures { result < max 1 many }
+    ensures number { result ≡ pick x.old many }
+    ensures last { x.new ≡ after_pick x.old many }
+    ensures below { result < max 1 many }
 {
     if many == 0 {
         return 0;
@@ -147,25 +158,25 @@ fn pick(x: &mut u64, many: usize) -> usize
     (*x % many as u64) as usize
 }
 
-// Turns of drawn actors, until none has anything to do.
+// Turns of drawn actors, until none has anything to do. The number is that of the next turn.
 fn go_drawn<R: Wait, S: Store, C: Clock, G: Gate>(
     rt: &R,
     alloc: Global,
     x: &mut u64,
     actors: &mut Actors<S, C>,
     gate: &G,
+    number: &mut u64,
     settling: bool,
 ) -> Result<(), Halted>
-    requires going { IsGoing S.durable S.state actors.old.clients.items actors.old.targets.items actors.old.between }
+    requires going { CanGo S.durable S.state actors.old.clients.items actors.old.targets.items actors.old.between }
     requires few_clients { length actors.old.clients.items ≤ 65535 }
     requires few_targets { length actors.old.targets.items ≤ 255 }
-    ensures reached { (r : Rules) (w : World) → IsReached S.durable S.state r w actors.old.clients.items actors.old.targets.items actors.old.between
-        → OnOk result (IsReached S.durable S.state r w actors.new.clients.items actors.new.targets.items actors.new.between) }
-    ensures quiet { OnOk result (due_actors actors.new.between.messages actors.new.clients.items actors.new.targets.items ≡ []) }
+    ensures draws { (r : Rules) (w : World) → Shows S.durable S.state r actors.old.clients.items actors.old.targets.items actors.old.between w
+        → OnOk result (IsShown S.durable S.state r (λ v. InDraws r x.old w x.new v) actors.new.clients.items actors.new.targets.items actors.new.between) }
+    ensures going { OnOk result (CanGo S.durable S.state actors.new.clients.items actors.new.targets.items actors.new.between) }
     ensures many_clients { length actors.new.clients.items ≡ length actors.old.clients.items }
-    ensures many_targets { length actors.new.targets.items ≡ length actors.old.targets.items }
+    ensures stores { Leaves S.durable S.state result actors.old.targets.items actors.new.targets.items }
 {
-    let mut number: u64 = 0;
     for _ in rt.forever() {
         let due = actors.due(alloc, settling)?;
         if due.is_empty() {
@@ -173,9 +184,9 @@ fn go_drawn<R: Wait, S: Store, C: Clock, G: Gate>(
         }
         let actor = due[pick(x, due.len())];
         let message = pick(x, heard_by(actors, actor));
-        gate.pass(actor.client, actor.number, number);
+        gate.pass(actor.client, actor.number, *number);
         turn(actors, actor, message, settling)?;
-        number = number.wrapping_add(1);
+        *number = number.wrapping_add(1);
     }
     unreachable!()
 }
@@ -189,26 +200,30 @@ fn go<R: Wait, S: Store, C: Clock, G: Gate>(
     actors: &mut Actors<S, C>,
     gate: &G,
 ) -> Result<(), Halted>
-    requires going { IsGoing S.durable S.state actors.old.clients.items actors.old.targets.items actors.old.between }
+    requires going { CanGo S.durable S.state actors.old.clients.items actors.old.targets.items actors.old.between }
     requires few_clients { length actors.old.clients.items ≤ 65535 }
     requires few_targets { length actors.old.targets.items ≤ 255 }
-    ensures reached { (r : Rules) (w : World) → IsReached S.durable S.state r w actors.old.clients.items actors.old.targets.items actors.old.between
-        → OnOk result (IsReached S.durable S.state r w actors.new.clients.items actors.new.targets.items actors.new.between) }
-    ensures quiet { OnOk result (due_actors actors.new.between.messages actors.new.clients.items actors.new.targets.items ≡ []) }
+    ensures order { (r : Rules) (w : World) → Shows S.durable S.state r actors.old.clients.items actors.old.targets.items actors.old.between w
+        → OnOk result (IsShown S.durable S.state r (InOrder r order w) actors.new.clients.items actors.new.targets.items actors.new.between) }
+    ensures going { OnOk result (CanGo S.durable S.state actors.new.clients.items actors.new.targets.items actors.new.between) }
     ensures many_clients { length actors.new.clients.items ≡ length actors.old.clients.items }
-    ensures many_targets { length actors.new.targets.items ≡ length actors.old.targets.items }
+    ensures stores { Leaves S.durable S.state result actors.old.targets.items actors.new.targets.items }
 {
+    let mut number = 0;
     if order == 0 {
-        go_round(rt, alloc, actors, gate, false)?;
-        return go_round(rt, alloc, actors, gate, true);
+        go_round(rt, alloc, actors, gate, &mut number, false)?;
+        return go_round(rt, alloc, actors, gate, &mut number, true);
     }
     let mut x = order;
-    go_drawn(rt, alloc, &mut x, actors, gate, false)?;
-    go_drawn(rt, alloc, &mut x, actors, gate, true)
+    go_drawn(rt, alloc, &mut x, actors, gate, &mut number, false)?;
+    go_drawn(rt, alloc, &mut x, actors, gate, &mut number, true)
 }
 
 /// Clients and targets run until none has anything to do: the targets, and the lines of the report.
-/// Order 0 goes round; any other is the first number of the draws.
+/// Order 0 goes round: each client and then each target has a turn, if it has something to do, and
+/// hears the message that was sent to it first. Any other order is the number before the first one
+/// drawn: one draw says whose turn it is, of those that have something to do, and where it hears a
+/// message, a second one says which of those in flight to it.
 pub fn run_in_order<R: Wait, S: Store, C: Clock, G: Gate>(
     rt: &R,
     alloc: Global,
@@ -217,12 +232,12 @@ pub fn run_in_order<R: Wait, S: Store, C: Clock, G: Gate>(
     targets: Vec<Target<S, C>>,
     gate: &G,
 ) -> (Vec<Target<S, C>>, Result<Lines, Halted>)
-    requires going { IsGoing S.durable S.state clients.items targets.items nothing }
+    requires going { CanGo S.durable S.state clients.items targets.items nothing }
     requires few_clients { length clients.items ≤ 65535 }
     requires few_targets { length targets.items ≤ 255 }
-    ensures run { (r : Rules) (w : World) (o : Opening) → IsAlone r → IsBegun r o w → IsReached S.durable S.state r w clients.items targets.items nothing
-        → IfOk result.1 (λ lines. HasRun S.durable S.state r w result.0.items lines) }
-    ensures many { length result.0.items ≡ length targets.items }
+    ensures run { (r : Rules) (w : World) (o : Opening) → IsAlone r → IsBegun r o w → Shows S.durable S.state r clients.items targets.items nothing w
+        → IfOk result.1 (λ lines. HasRun S.durable S.state r order w result.0.items lines) }
+    ensures stores { Leaves S.durable S.state result.1 targets.items result.0.items }
 {
     let mut actors = Actors {
         clients,

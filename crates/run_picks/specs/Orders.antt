@@ -20,7 +20,7 @@ pub data InTurn (r : Rules) (w : World) : List ActorId → World → Type 0 wher
 
 -- a round: all actors, clients first, each kind in order of number
 abbrev pub RoundOf : Rules → World → World → Type 0
-RoundOf r w v = InTurn r w (actors w) v
+RoundOf r w = InTurn r w (actors w)
 
 -- some rounds, each from a world in which an actor has something to do
 pub data Rounds (r : Rules) (w : World) : World → Type 0 where

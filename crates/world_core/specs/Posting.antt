@@ -25,10 +25,10 @@ use Rattle.world_base.specs.declared.client.ClientPlan.{ClientPlan}
 use Rattle.world_base.specs.declared.client.ClientState.{ClientState}
 use Rattle.world_base.specs.declared.client.Present.{Present}
 use Rattle.world_base.specs.declared.did.Did.{Did}
-use Rattle.world_base.specs.ClientTurns.{ClientDid, Ended_by, Heard_on, HearTurn, Move, Moves, NextTurn, None_yet, One_more, Skipped, Went_on, about, answered, attempt_id, command_at, goes, heard, heard_at, hears_epochs, is_about, knows, listed, moved, waits}
+use Rattle.world_base.specs.ClientTurns.{ClientDid, Ended_by, Heard_on, HearTurn, Move, Moves, NextTurn, None_yet, One_more, Skipped, Went_on, about, answered, attempt_id, command_at, goes, heard, heard_at, hears_epochs, is_about, knows, listed, moved, question, waits}
 use Rattle.world_core.specs.Asking.{question-form}
 use Rattle.world_core.specs.ScriptForm.{read-in-form, writes-declared, writes-in-form}
-use Rattle.world_epochs.specs.Epochs.{Unsnapped}
+use Rattle.world_epochs.specs.Epochs.{Unsnapped, is_unsnapped}
 use Rattle.world_events.specs.Events.{Rules, client_plan, commands_or_none}
 use Rattle.world_gots.specs.FormLaws.{all-at, fit-object, write-declared}
 use Rattle.world_talks.specs.AskLaws.{move-is, waiting-rests}
@@ -111,13 +111,13 @@ module _ (r : Rules) (plain : IsPlainScript r) where
 
   -- an operation's question
   asks-read : (n place : ℕ) (ops : List Op) (turns : List ℕ) (snapshot : Option (List ℕ)) (a : Present) (op : Op) (q : Read) → slice_get (commands_or_none (slice_get r.script.clients n)) place ≡ Some (command.Run ops turns snapshot)
-      → slice_get ops a.op ≡ Some op → _ → IsReadNow q (is_some snapshot)
+      → slice_get ops a.op ≡ Some op → question a.stage op ≡ Some q → IsReadNow q (is_some snapshot)
   asks-read n place ops turns snapshot a op q at here asks = record {
     form = read-in-form r.script.objs q (question-form r.script.objs a.stage op q (all-at (IsOpInForm r.script.objs) ops a.op op (command-here r n place (command.Run ops turns snapshot) plain.form at).1.0.in_form here) asks);
     now = by snapshot (plain.unsnapped n place (command.Run ops turns snapshot) at);
   }
     where
-      by : (s : Option (List ℕ)) → _ → is_some s ≡ false
+      by : (s : Option (List ℕ)) → is_unsnapped (command.Run ops turns s) ≡ true → is_some s ≡ false
       by None h = refl
       by (Some name) h = let no : ⊥ = cc in absurd no
 

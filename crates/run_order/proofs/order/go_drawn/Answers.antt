@@ -1,7 +1,7 @@
 use Rattle.std.specs.Prelude.{All, length}
 use Rattle.std.proofs.Common.{subst, sym}
 use Rattle.std.proofs.lemmas.List.Elements.{All-get_or}
-use Rattle.run_order.specs.Due.{IsActor}
+use Rattle.run_actors.specs.Due.{IsActor}
 use Rattle.run_order.proofs.Ends.{due-are-actors, one-of}
 use Rattle.run_order.proofs.order.go_drawn.Goals as goal
 

@@ -1,6 +1,6 @@
 use Rattle.std.proofs.Common.{subst, sym}
 use Rattle.run_order.specs.Ended.{HasRun}
-use Rattle.run_order.specs.Shows.{IsReached}
+use Rattle.run_actors.specs.Shows.{IsReached}
 use Rattle.run_order.proofs.Ends.{has-run, is-nothing}
 use Rattle.run_order.proofs.order.run_in_order.Goals as goal
 

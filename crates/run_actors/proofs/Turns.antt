@@ -1,4 +1,4 @@
--- A turn of an actor leads to a world that a run reaches by one event more.
+-- A turn of an actor leads from a world that the actors show to one that they show then.
 use Rattle.std.specs.Prelude.{ℕ, ◌≡◌, List, [], ◌∷◌, ◌++◌, length, map, slice_get, false, Option, Some, None, refl}
 use Rattle.std.proofs.Common.{zero, suc, inl, inr, sym, ◌∙◌, ap, subst, arith}
 use Rattle.std.proofs.Math.ListN.{set}
@@ -6,7 +6,9 @@ use Rattle.std.proofs.lemmas.Bool.{cases_eq}
 use Rattle.client_core.specs.Clients.{ClientNow}
 use Rattle.daos_model.specs.declared.durable.Durable.{Durable}
 use Rattle.run_letters.specs.Letters.{BetweenNow, IsPicked}
-use Rattle.run_order.specs.Shows.{IsReached, IsTargetOf, Shows, state_of}
+use Rattle.run_actors.specs.ListLaws.{get-set, length-set, map-get, map-set, set-is}
+use Rattle.run_actors.specs.Shows.{IsTargetOf, Shows, Steps, state_of}
+use Rattle.run_picks.specs.Picks.{Going, Hearing, Idling, Serving, count_to, heard_awake, heard_by_client}
 use Rattle.target_core.specs.Targets.{TargetOf}
 use Rattle.vos_store.specs.Calls.{State}
 use Rattle.world_base.specs.declared.did.Did.{Did}
@@ -14,47 +16,10 @@ use Rattle.world_base.specs.declared.letter.Letter.{Letter}
 use Rattle.world_base.specs.declared.target.TargetState.{TargetState}
 use Rattle.world_base.specs.declared.world.World.{World}
 use Rattle.world_base.specs.ClientTurns.{HearTurn, NextTurn}
-use Rattle.world_events.specs.Events.{Goes, ByClient, ByTarget, Rules, ToClient, ToTarget, after_turn, client_plan, kept, listed, target_after, target_plan, with_client, with_epoch, with_target}
+use Rattle.world_events.specs.Events.{Rules, after_turn, client_plan, kept, listed, target_after, target_plan, with_client, with_epoch, with_target}
 use Rattle.world_events.specs.Letters.{Takes, client, letters_of, target}
 use Rattle.world_events.specs.StepLaws.{set-here, set-there}
 use Rattle.world_turns.specs.TargetTurns.{Hears, IdlesWhole}
-
--- ---- lists
-
-pub map-set : {A B : Type 0} (f : A → B) (xs : List A) (n : ℕ) (x : A) → map f (set xs n x) ≡ set (map f xs) n (f x)
-map-set f [] n x = refl
-map-set f (y ∷ ys) zero x = refl
-map-set f (y ∷ ys) (suc n) x = ap (λ zs. f y ∷ zs) (map-set f ys n x)
-
-pub map-get : {A B : Type 0} (f : A → B) (xs : List A) (n : ℕ) (x : A) → slice_get xs n ≡ Some x → slice_get (map f xs) n ≡ Some (f x)
-map-get f [] n x h = let no : ⊥ = cc in absurd no
-map-get f (y ∷ ys) zero x h = let same : y ≡ x = cc in ap (λ z. Some (f z)) same
-map-get f (y ∷ ys) (suc n) x h = map-get f ys n x h
-
-pub length-set : {A : Type 0} (xs : List A) (n : ℕ) (x : A) → length (set xs n x) ≡ length xs
-length-set [] n x = refl
-length-set (y ∷ ys) zero x = refl
-length-set (y ∷ ys) (suc n) x = ap suc (length-set ys n x)
-
-none-stays : {A : Type 0} (xs : List A) (n : ℕ) (y : A) → slice_get xs n ≡ None → slice_get (set xs n y) n ≡ None
-none-stays [] n y h = refl
-none-stays (z ∷ zs) zero y h = let no : ⊥ = cc in absurd no
-none-stays (z ∷ zs) (suc n) y h = none-stays zs n y h
-
--- what stands where an element was set is that one
-pub set-is : {A : Type 0} (xs : List A) (n : ℕ) (y x : A) → slice_get (set xs n y) n ≡ Some x → y ≡ x
-set-is xs n y x at = by (slice_get xs n) refl
-  where
-    by : (o : Option _) → slice_get xs n ≡ o → y ≡ x
-    by None h = let bad : None ≡ Some x = sym (none-stays xs n y h) ∙ at in let no : ⊥ = cc in absurd no
-    by (Some z) h = let e : Some y ≡ Some x = sym (set-here xs n z y h) ∙ at in cc
-
--- an element of a list in which one was set is that one or an old one
-pub get-set : {A : Type 0} (P : ℕ → A → Type 0) (xs : List A) (n : ℕ) (y : A) → P n y → ((m : ℕ) (x : A) → slice_get xs m ≡ Some x → P m x) → (m : ℕ) (x : A) → slice_get (set xs n y) m ≡ Some x → P m x
-get-set P xs n y new old m x at = elim (cases_eq m n) [
-  | inl same ↦ subst (λ k. P k x) (sym same) (subst (P n) (set-is xs n y x (subst (λ k. slice_get (set xs n y) k ≡ Some x) same at)) new)
-  | inr apart ↦ old m x (sym (set-there xs n m y apart) ∙ at)
-]
 
 pub picked-takes : (letters : List Letter) (n : ℕ) (l : Letter) (rest : List Letter) → (a : _) → IsPicked letters a n l rest → Takes letters l rest
 picked-takes letters n l rest a k = record { before = k.before; after = k.after; among = k.among; left = k.left }
@@ -67,7 +32,7 @@ pub record Follows (b : BetweenNow) (actor : _) (did : Did) (rest : List Letter)
   pub lines : b'.lines ≡ b.lines ++ map (with_epoch b.issued) did.lines
   pub issued : b'.issued ≡ b.issued ++ listed did.issued
 
-module _ {S C : Type 0} (durable : S → Option Durable) (state : S → State) (r : Rules) (first : World) (clients : List ClientNow) (targets : List (TargetOf S C)) (b : BetweenNow) where
+module _ {S C : Type 0} (durable : S → Option Durable) (state : S → State) (r : Rules) (clients : List ClientNow) (targets : List (TargetOf S C)) (b : BetweenNow) where
   -- ---- clients
 
   module _ (n : ℕ) (c d : ClientNow) (did : Did) (rest : List Letter) (b' : BetweenNow) (clients' : List ClientNow) where
@@ -90,42 +55,42 @@ module _ {S C : Type 0} (durable : S → Option Durable) (state : S → State) (
     here w k at = ap (λ cs. slice_get cs n) k.clients ∙ map-get state_of clients n c at
 
     -- a client heard a message
-    pub client-hears : IsReached durable state r first clients targets b → slice_get clients n ≡ Some c → c.state.skip ≡ 0 → (number : ℕ) (l : Letter) → IsPicked b.messages (client n) number l rest
-        → HearTurn c.plan c.state l.message did d.state → d.plan ≡ c.plan → Follows b (client n) did rest b' → clients' ≡ set clients n d → IsReached durable state r first clients' targets b'
-    client-hears k at awake number l picked turn plan f set' = record {
-      now = client-after k.now;
-      run = Goes k.now (client-after k.now) k.run (ToClient (record {
+    pub client-hears : (w : World) → Shows durable state r clients targets b w → slice_get clients n ≡ Some c → c.state.skip ≡ 0 → (number : ℕ) (l : Letter) → IsPicked b.messages (client n) number l rest
+        → HearTurn c.plan c.state l.message did d.state → d.plan ≡ c.plan → Follows b (client n) did rest b' → clients' ≡ set clients n d → Steps durable state r (client n) number w clients' targets b'
+    client-hears w k at awake number l picked turn plan f set' = record {
+      next = client-after w;
+      turn = Hearing (record {
         n = n;
         c = c.state;
         d = d.state;
         did = did;
         l = l;
         rest = rest;
-        here = here k.now k.shows at;
+        here = here w k at;
         awake = awake;
-        takes = subst (λ ls. Takes ls l rest) k.shows.messages (picked-takes b.messages number l rest (client n) picked);
+        takes = subst (λ ls. Takes ls l rest) k.messages (picked-takes b.messages number l rest (client n) picked);
         to_it = picked.to_it;
-        turn = subst (λ p. HearTurn p c.state l.message did d.state) (k.shows.plans n c at) turn;
+        turn = subst (λ p. HearTurn p c.state l.message did d.state) (k.plans n c at) turn;
         after = refl;
-      }));
-      shows = client-shown k.now k.shows plan at f set';
+      }) refl (subst (λ ls. IsPicked ls (client n) number l rest) k.messages picked);
+      shows = client-shown w k plan at f set';
     }
 
     -- a client went on without a message
-    pub client-goes : IsReached durable state r first clients targets b → slice_get clients n ≡ Some c → rest ≡ b.messages
-        → NextTurn c.plan c.state did d.state → d.plan ≡ c.plan → Follows b (client n) did rest b' → clients' ≡ set clients n d → IsReached durable state r first clients' targets b'
-    client-goes k at all turn plan f set' = record {
-      now = client-after k.now;
-      run = Goes k.now (client-after k.now) k.run (ByClient (record {
+    pub client-goes : (number : ℕ) (w : World) → Shows durable state r clients targets b w → slice_get clients n ≡ Some c → heard_awake c.state (count_to (client n) b.messages) ≡ 0 → rest ≡ b.messages
+        → NextTurn c.plan c.state did d.state → d.plan ≡ c.plan → Follows b (client n) did rest b' → clients' ≡ set clients n d → Steps durable state r (client n) number w clients' targets b'
+    client-goes number w k at none all turn plan f set' = record {
+      next = client-after w;
+      turn = Going (record {
         n = n;
         c = c.state;
         d = d.state;
         did = did;
-        here = here k.now k.shows at;
-        turn = subst (λ p. NextTurn p c.state did d.state) (k.shows.plans n c at) turn;
-        after = ap (λ ls. with_client n d.state (after_turn k.now (client n) did ls)) (all ∙ k.shows.messages);
-      }));
-      shows = client-shown k.now k.shows plan at f set';
+        here = here w k at;
+        turn = subst (λ p. NextTurn p c.state did d.state) (k.plans n c at) turn;
+        after = ap (λ ls. with_client n d.state (after_turn w (client n) did ls)) (all ∙ k.messages);
+      }) refl (ap (heard_by_client (count_to (client n) w.messages)) (here w k at) ∙ ap (λ ls. heard_awake c.state (count_to (client n) ls)) (sym k.messages) ∙ none);
+      shows = client-shown w k plan at f set';
     }
 
   -- ---- targets
@@ -183,16 +148,16 @@ module _ {S C : Type 0} (durable : S → Option Durable) (state : S → State) (
     kept-is h s d one two = ap (λ z. record { durable = z; free = h.free }) one ∙ ap (λ z. record { durable = s.durable; free = z }) two
 
     -- a target heard a message
-    pub target-hears : IsReached durable state r first clients targets b → slice_get targets t ≡ Some x → (number reading : ℕ) (l : Letter) → IsPicked b.messages (target t) number l rest → (d new : Durable) → durable x.store ≡ Some d
+    pub target-hears : (w : World) → Shows durable state r clients targets b w → slice_get targets t ≡ Some x → (number reading : ℕ) (l : Letter) → IsPicked b.messages (target t) number l rest → (d new : Durable) → durable x.store ≡ Some d
         → durable y.store ≡ Some new → Hears x.plan (state x.store).opening x.memory reading l.from l.message (record { durable = d; free = (state x.store).free }) (record { durable = new; free = (state y.store).free }) (y.memory, did)
         → y.plan ≡ x.plan → (state y.store).opening ≡ (state x.store).opening → (state y.store).stopped ≡ false → Follows b (target t) did rest b' → targets' ≡ set targets t y
-        → IsReached durable state r first clients targets' b'
-    target-hears k at number reading l picked d new had told turn plan opening running f set' =
-        let s = there k.now k.shows at in
+        → Steps durable state r (target t) number w clients targets' b'
+    target-hears w k at number reading l picked d new had told turn plan opening running f set' =
+        let s = there w k at in
         let same : d ≡ s.0.durable = let e : Some d ≡ Some s.0.durable = sym had ∙ s.2.told in cc in
         record {
-          now = target-after k.now s.0 new;
-          run = Goes k.now (target-after k.now s.0 new) k.run (ToTarget (record {
+          next = target-after w s.0 new;
+          turn = Serving (record {
             t = t;
             s = s.0;
             new = record { durable = new; free = (state y.store).free };
@@ -203,28 +168,28 @@ module _ {S C : Type 0} (durable : S → Option Durable) (state : S → State) (
             rest = rest;
             here = s.1;
             runs = s.2.runs;
-            takes = subst (λ ls. Takes ls l rest) k.shows.messages (picked-takes b.messages number l rest (target t) picked);
+            takes = subst (λ ls. Takes ls l rest) k.messages (picked-takes b.messages number l rest (target t) picked);
             to_it = picked.to_it;
             turn = subst (λ m. Hears (target_plan r t) s.0.opening m reading l.from l.message (kept s.0) (record { durable = new; free = (state y.store).free }) (y.memory, did)) s.2.knows
                 (subst (λ o. Hears (target_plan r t) o x.memory reading l.from l.message (kept s.0) (record { durable = new; free = (state y.store).free }) (y.memory, did)) s.2.opening
                 (subst (λ p. Hears p (state x.store).opening x.memory reading l.from l.message (kept s.0) (record { durable = new; free = (state y.store).free }) (y.memory, did)) s.2.made
                 (subst (λ q. Hears x.plan (state x.store).opening x.memory reading l.from l.message q (record { durable = new; free = (state y.store).free }) (y.memory, did)) (kept-is (state x.store) s.0 d same s.2.free) turn)));
             after = refl;
-          }));
-          shows = target-shown k.now s.0 new k.shows s.2 plan told opening running f set';
+          }) refl (subst (λ ls. IsPicked ls (target t) number l rest) k.messages picked);
+          shows = target-shown w s.0 new k s.2 plan told opening running f set';
         }
 
     -- a target did its idle work
-    pub target-idles : IsReached durable state r first clients targets b → slice_get targets t ≡ Some x → rest ≡ b.messages → (d new : Durable) → durable x.store ≡ Some d
+    pub target-idles : (number : ℕ) (w : World) → Shows durable state r clients targets b w → slice_get targets t ≡ Some x → count_to (target t) b.messages ≡ 0 → rest ≡ b.messages → (d new : Durable) → durable x.store ≡ Some d
         → durable y.store ≡ Some new → IdlesWhole x.memory (record { durable = d; free = (state x.store).free }) (record { durable = new; free = (state y.store).free }) (y.memory, did)
         → y.plan ≡ x.plan → (state y.store).opening ≡ (state x.store).opening → (state y.store).stopped ≡ false → Follows b (target t) did rest b' → targets' ≡ set targets t y
-        → IsReached durable state r first clients targets' b'
-    target-idles k at all d new had told turn plan opening running f set' =
-        let s = there k.now k.shows at in
+        → Steps durable state r (target t) number w clients targets' b'
+    target-idles number w k at none all d new had told turn plan opening running f set' =
+        let s = there w k at in
         let same : d ≡ s.0.durable = let e : Some d ≡ Some s.0.durable = sym had ∙ s.2.told in cc in
         record {
-          now = target-after k.now s.0 new;
-          run = Goes k.now (target-after k.now s.0 new) k.run (ByTarget (record {
+          next = target-after w s.0 new;
+          turn = Idling (record {
             t = t;
             s = s.0;
             new = record { durable = new; free = (state y.store).free };
@@ -234,7 +199,7 @@ module _ {S C : Type 0} (durable : S → Option Durable) (state : S → State) (
             runs = s.2.runs;
             turn = subst (λ m. IdlesWhole m (kept s.0) (record { durable = new; free = (state y.store).free }) (y.memory, did)) s.2.knows
                 (subst (λ q. IdlesWhole x.memory q (record { durable = new; free = (state y.store).free }) (y.memory, did)) (kept-is (state x.store) s.0 d same s.2.free) turn);
-            after = ap (λ ls. with_target t (target_after s.0 (record { durable = new; free = (state y.store).free }) y.memory) (after_turn k.now (target t) did ls)) (all ∙ k.shows.messages);
-          }));
-          shows = target-shown k.now s.0 new k.shows s.2 plan told opening running f set';
+            after = ap (λ ls. with_target t (target_after s.0 (record { durable = new; free = (state y.store).free }) y.memory) (after_turn w (target t) did ls)) (all ∙ k.messages);
+          }) refl (ap (count_to (target t)) (sym k.messages) ∙ none);
+          shows = target-shown w s.0 new k s.2 plan told opening running f set';
         }

@@ -1,0 +1,113 @@
+-- Which actors have something to do, and what they hear, is that of the world that they show.
+use Rattle.std.specs.Prelude.{ℕ, ◌≡◌, ◌<◌, ◌++◌, Bool, true, false, List, [], ◌∷◌, filter, length, map, slice_get, Option, Some, None, if◌then◌else◌, refl}
+use Rattle.std.proofs.Common.{zero, suc, sym, ◌∙◌, ap, subst, arith}
+use Rattle.std.proofs.lemmas.List.Elements.{filter-append}
+use Rattle.client_core.specs.Clients.{ClientNow}
+use Rattle.daos_messages.specs.declared.actor.ActorId.{ActorId}
+use Rattle.daos_model.specs.declared.durable.Durable.{Durable}
+use Rattle.run_letters.specs.Letters.{BetweenNow}
+use Rattle.run_actors.specs.Due.{due_actors, due_below, is_due_client, is_due_target, one_if}
+use Rattle.run_actors.specs.ListLaws.{map-get, there-is}
+use Rattle.run_actors.specs.Shows.{IsTargetOf, Shows, state_of}
+use Rattle.run_picks.specs.Picks.{actors, count_to, due, heard, heard_awake, heard_by_client, if_client_due, if_target_due, is_client_due, is_due, is_target_due, numbered}
+use Rattle.target_core.specs.Targets.{TargetOf}
+use Rattle.vos_store.specs.Calls.{State}
+use Rattle.world_base.specs.declared.client.ClientState.{ClientState}
+use Rattle.world_base.specs.declared.target.TargetState.{TargetState}
+use Rattle.world_base.specs.declared.world.World.{World}
+use Rattle.world_events.specs.Events.{Rules, client_plan, target_plan}
+use Rattle.world_events.specs.Letters.{client, target}
+
+-- ---- targets
+
+missing : {A B : Type 0} {z : B} (ps : List A) (qs : List B) (m : ℕ) → length ps ≡ length qs → slice_get ps m ≡ None → slice_get qs m ≡ Some z → ⊥
+missing ps [] m same none is = let no : ⊥ = cc in no
+missing [] (q ∷ qs) m same none is = omega (arith, same)
+missing (p ∷ ps) (q ∷ qs) zero same none is = let no : ⊥ = cc in no
+missing (p ∷ ps) (q ∷ qs) (suc m) same none is = missing ps qs m (omega (arith, same)) none is
+
+module _ {S C : Type 0} (durable : S → Option Durable) (state : S → State) where
+  -- a target as it is in the world
+  pub record IsThere (r : Rules) (w : World) (t : ℕ) (x : TargetOf S C) : Type 0 where
+    pub s : TargetState
+    pub here : slice_get w.targets t ≡ Some s
+    pub is : IsTargetOf durable state (target_plan r t) x s
+
+  pub target-there : (r : Rules) (clients : List ClientNow) (targets : List (TargetOf S C)) (b : BetweenNow) (w : World) (t : ℕ) (x : TargetOf S C) → Shows durable state r clients targets b w → slice_get targets t ≡ Some x → IsThere r w t x
+  target-there r clients targets b w t x k at = by (slice_get w.targets t) refl
+    where
+      by : (o : Option TargetState) → slice_get w.targets t ≡ o → IsThere r w t x
+      by None e = absurd (missing w.targets targets t k.many e at)
+      by (Some s) e = record { s = s; here = e; is = k.targets t x s at e }
+
+-- ---- who is due, and who hears
+
+pub actor : Bool → ℕ → ActorId
+actor kind n = record { client = kind; number = n }
+
+-- those below a number for which a test holds, one by one
+below-is-filter : (test : ActorId → Bool) (name : ℕ → ActorId) (passes : ℕ → Bool) (n : ℕ) → ((k : ℕ) → k < n → passes k ≡ test (name k)) → due_below name passes n ≡ filter test (numbered name n)
+below-is-filter test name passes zero same = refl
+below-is-filter test name passes (suc n) same =
+    ap (λ as'. as' ++ one_if (passes n) (name n)) (below-is-filter test name passes n (λ k within. same k (omega (arith, within))))
+    ∙ ap (λ as'. filter test (numbered name n) ++ as') (ap (λ b. one_if b (name n)) (same n (omega arith)) ∙ one (test (name n)))
+    ∙ sym (filter-append test (numbered name n) (name n ∷ []))
+  where
+    one : (b : Bool) → one_if b (name n) ≡ (if b then name n ∷ [] else [])
+    one true = refl
+    one false = refl
+
+pub length-map : {A B : Type 0} (f : A → B) (xs : List A) → length (map f xs) ≡ length xs
+length-map f [] = refl
+length-map f (x ∷ xs) = ap suc (length-map f xs)
+
+module _ {S C : Type 0} (durable : S → Option Durable) (state : S → State) (r : Rules) (clients : List ClientNow) (targets : List (TargetOf S C)) (b : BetweenNow) (w : World) (k : Shows durable state r clients targets b w) where
+  pub many-clients : length w.clients ≡ length clients
+  many-clients = ap length k.clients ∙ length-map state_of clients
+
+  client-here : (n : ℕ) (c : ClientNow) → slice_get clients n ≡ Some c → slice_get w.clients n ≡ Some c.state
+  client-here n c at = ap (λ cs. slice_get cs n) k.clients ∙ map-get state_of clients n c at
+
+  pub client-due-shown : (n : ℕ) → n < length clients → is_due_client b.messages n (slice_get clients n) ≡ is_due r w (client n)
+  client-due-shown n within =
+      let c = there-is clients n within in
+      ap (is_due_client b.messages n) c.1
+      ∙ ap (λ p. is_client_due p c.0.state (count_to (client n) b.messages)) (k.plans n c.0 c.1)
+      ∙ ap (λ ls. is_client_due (client_plan r n) c.0.state (count_to (client n) ls)) k.messages
+      ∙ ap (if_client_due (client_plan r n) (count_to (client n) w.messages)) (sym (client-here n c.0 c.1))
+
+  pub target-due-shown : (t : ℕ) → t < length targets → is_due_target b.messages t (slice_get targets t) ≡ is_due r w (target t)
+  target-due-shown t within =
+      let x = there-is targets t within in
+      let s = target-there durable state r clients targets b w t x.0 k x.1 in
+      ap (is_due_target b.messages t) x.1
+      ∙ ap (λ m. is_target_due m.decided (count_to (target t) b.messages)) s.is.knows
+      ∙ ap (λ ls. is_target_due s.s.memory.decided (count_to (target t) ls)) k.messages
+      ∙ ap (if_target_due (count_to (target t) w.messages)) (sym s.here)
+
+  pub due-shown : due_actors b.messages clients targets ≡ due r w
+  due-shown =
+      ap (λ as'. as' ++ due_below target (λ j. is_due_target b.messages j (slice_get targets j)) (length targets))
+      (below-is-filter (is_due r w) client (λ j. is_due_client b.messages j (slice_get clients j)) (length clients) client-due-shown)
+      ∙ ap (λ as'. filter (is_due r w) (numbered client (length clients)) ++ as')
+      (below-is-filter (is_due r w) target (λ j. is_due_target b.messages j (slice_get targets j)) (length targets) target-due-shown)
+      ∙ sym (filter-append (is_due r w) (numbered client (length clients)) (numbered target (length targets)))
+      ∙ ap (λ n. filter (is_due r w) (numbered client n ++ numbered target (length targets))) (sym many-clients)
+      ∙ ap (λ n. filter (is_due r w) (numbered client (length w.clients) ++ numbered target n)) (sym k.many)
+
+  -- what a client hears, by its number
+  pub client-heard-shown : (a : ActorId) (n many : ℕ) → a.client ≡ true → n ≡ a.number → n < length clients
+      → ((c : ClientNow) → slice_get clients n ≡ Some c → many ≡ heard_awake c.state (count_to (client n) b.messages)) → many ≡ heard w a
+  unfolding actor
+  client-heard-shown a n many kind named within is =
+      let c = there-is clients n within in
+      let same : client n ≡ a = ap (actor true) named ∙ ap (λ x. actor x a.number) (sym kind) in
+      subst (λ x. many ≡ heard w x) same
+      (is c.0 c.1 ∙ ap (λ ls. heard_awake c.0.state (count_to (client n) ls)) k.messages ∙ ap (heard_by_client (count_to (client n) w.messages)) (sym (client-here n c.0 c.1)))
+
+  -- and what a target hears
+  pub target-heard-shown : (a : ActorId) (t many : ℕ) → a.client ≡ false → t ≡ a.number → many ≡ count_to (target t) b.messages → many ≡ heard w a
+  unfolding actor
+  target-heard-shown a t many kind named is =
+      let same : target t ≡ a = ap (actor false) named ∙ ap (λ x. actor x a.number) (sym kind) in
+      subst (λ x. many ≡ heard w x) same (is ∙ ap (count_to (target t)) k.messages)
