@@ -22,12 +22,8 @@ hears c count heard number is some within = by (nat_lt 0 c.skip) refl
     by false s = record { awake = grind (arith, nat_tests); within = let all : heard ≡ count = is ∙ ap (λ b. if b then 0 else count) s in let few : number < max 1 count = within in omega (arith, all, some, few) }
 
 -- none is heard where the count that was looked at isn't above 0
-pub none-heard : (count heard : ℕ) → heard ≡ count → (0 < heard → ⊥) → count ≡ 0
-none-heard count heard is none = rw (← is) (not-some heard none)
-  where
-    not-some : (n : ℕ) → (0 < n → ⊥) → n ≡ 0
-    not-some zero none' = refl
-    not-some (suc n) none' = absurd (none' (omega arith))
+pub none-heard : (count heard : ℕ) → heard ≡ count → heard ≤ 0 → count ≡ 0
+none-heard count heard is none = omega (arith, is, none)
 
-pub silent : (c : ClientState) (count heard : ℕ) → heard ≡ heard_awake c count → (0 < heard → ⊥) → heard_awake c count ≡ 0
+pub silent : (c : ClientState) (count heard : ℕ) → heard ≡ heard_awake c count → heard ≤ 0 → heard_awake c count ≡ 0
 silent c count heard is none = none-heard (heard_awake c count) heard is none

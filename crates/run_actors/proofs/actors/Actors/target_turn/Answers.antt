@@ -1,8 +1,9 @@
-use Rattle.std.specs.Prelude.{◌≡◌, [], Ok, refl}
-use Rattle.std.proofs.Common.{◌∙◌, ap, subst, sym}
+use Rattle.std.specs.Prelude.{◌≡◌, [], Err, Ok, refl}
+use Rattle.std.proofs.Common.{◌∙◌, ap, rules, subst, sym}
 use Rattle.run_letters.specs.Letters.{IsPicked}
 use Rattle.run_actors.specs.ListLaws.{at-index}
 use Rattle.run_actors.specs.Shown.{target-there}
+use Rattle.run_actors.specs.StoreLaws.{run-stopped, run-whole}
 use Rattle.run_actors.proofs.Dues.{none-heard}
 use Rattle.run_actors.proofs.Follow.{followed}
 use Rattle.run_actors.proofs.Going.{keeps-going, target-heard, target-idled}
@@ -11,7 +12,7 @@ use Rattle.run_actors.proofs.Turns.{target-hears, target-idles}
 use Rattle.run_picks.specs.Picks.{count_to}
 use Rattle.target_core.specs.Parts.{Runs, kept}
 use Rattle.target_core.specs.Running.{still_runs}
-use Rattle.target_core.specs.Stops.{stop_store}
+use Rattle.target_core.specs.Stops.{stop_memory, stop_store}
 use Rattle.target_core.specs.Targets.{IsAnswered}
 use Rattle.world_events.specs.Letters.{target}
 use Rattle.world_turns.specs.TargetTurns.{Hears, IdlesWhole}
@@ -104,3 +105,43 @@ returns-in-Ok-clause-going g c = elim c.if-hears.branch [
           c.args.number w k at (none-heard (count_to (target c.args.t) c.args.self.now.between.messages) c.heard_by_target-hears.result c.heard_by_target-hears.ensures b.if-hears.false) refl s.s.durable now.durable s.is.told now.kept_is (subst (λ z. IdlesWhole x.memory (kept s.s.durable (g.S.Store.state x.store)) (kept now.durable (g.S.Store.state y.store)) (y.memory, z)) (sym b.did-is) now.holds)
           b.in_ok-did-2.ensures.plan b.in_ok-did-2.ensures.runs.opening b.in_ok-did-2.ensures.runs.stops f (ap (λ z. z.1.1.0.items) b.self-is)))
 ]
+
+pub returns-in_err-did-clause-stores : goal.returns-in_err-did-clause-stores
+returns-in_err-did-clause-stores g c =
+    let x = c.index_mut-target.result.now in
+    let at = at-index c.args.self.now.targets.items c.args.t x c.requires.within c.index_mut-target.ensures.value in
+    let is : c.from_residual.result ≡ Err c.in_err-did.field-0.0 = search rules in
+    run-stopped g.S.Store.durable g.S.Store.state c.in_err-did.field-0.0 c.from_residual.result c.args.self.now.targets.items c.args.t x c.hear.new.self c.requires.going.running at is c.in_err-did.ensures.runs
+
+pub returns-in_err-did-2-clause-stores : goal.returns-in_err-did-2-clause-stores
+returns-in_err-did-2-clause-stores g c =
+    let x = c.index_mut-target.result.now in
+    let at = at-index c.args.self.now.targets.items c.args.t x c.requires.within c.index_mut-target.ensures.value in
+    let is : c.from_residual-in_err-did-2.result ≡ Err c.in_err-did-2.field-0.0 = search rules in
+    run-stopped g.S.Store.durable g.S.Store.state c.in_err-did-2.field-0.0 c.from_residual-in_err-did-2.result c.args.self.now.targets.items c.args.t x c.idle.new.self c.requires.going.running at is c.in_err-did-2.ensures.runs
+
+pub returns-in-Ok-clause-stores : goal.returns-in-Ok-clause-stores
+returns-in-Ok-clause-stores g c =
+    let x = c.index_mut-target.result.now in
+    let at = at-index c.args.self.now.targets.items c.args.t x c.requires.within c.index_mut-target.ensures.value in
+    elim c.if-hears.branch [
+      | then-hears+in_ok-did b ↦
+          run-whole g.S.Store.durable g.S.Store.state c.if-hears.did (Ok (tt {0})) c.args.self.now.targets.items c.if-hears.self.1.1.0.items c.args.t x b.hear.new.self c.requires.going.running at refl (ap (λ z. z.1.1.0.items) b.self-is)
+          (subst (λ z. Runs stop_store (Ok z) (g.S.Store.state x.store) (g.S.Store.state b.hear.new.self.store) (g.S.Store.durable x.store) (g.S.Store.durable b.hear.new.self.store)) (sym b.did-is) b.in_ok-did.ensures.runs)
+      | else-hears+in_ok-did-2 b ↦
+          run-whole g.S.Store.durable g.S.Store.state c.if-hears.did (Ok (tt {0})) c.args.self.now.targets.items c.if-hears.self.1.1.0.items c.args.t x b.idle.new.self c.requires.going.running at refl (ap (λ z. z.1.1.0.items) b.self-is)
+          (subst (λ z. Runs stop_store (Ok z) (g.S.Store.state x.store) (g.S.Store.state b.idle.new.self.store) (g.S.Store.durable x.store) (g.S.Store.durable b.idle.new.self.store)) (sym b.did-is) b.in_ok-did-2.ensures.runs)
+    ]
+
+pub returns-in-Err-clause-stores : goal.returns-in-Err-clause-stores
+returns-in-Err-clause-stores g c =
+    let x = c.index_mut-target.result.now in
+    let at = at-index c.args.self.now.targets.items c.args.t x c.requires.within c.index_mut-target.ensures.value in
+    elim c.if-hears.branch [
+      | then-hears+in_ok-did b ↦
+          run-whole g.S.Store.durable g.S.Store.state c.if-hears.did (Err stop_memory) c.args.self.now.targets.items c.if-hears.self.1.1.0.items c.args.t x b.hear.new.self c.requires.going.running at refl (ap (λ z. z.1.1.0.items) b.self-is)
+          (subst (λ z. Runs stop_store (Ok z) (g.S.Store.state x.store) (g.S.Store.state b.hear.new.self.store) (g.S.Store.durable x.store) (g.S.Store.durable b.hear.new.self.store)) (sym b.did-is) b.in_ok-did.ensures.runs)
+      | else-hears+in_ok-did-2 b ↦
+          run-whole g.S.Store.durable g.S.Store.state c.if-hears.did (Err stop_memory) c.args.self.now.targets.items c.if-hears.self.1.1.0.items c.args.t x b.idle.new.self c.requires.going.running at refl (ap (λ z. z.1.1.0.items) b.self-is)
+          (subst (λ z. Runs stop_store (Ok z) (g.S.Store.state x.store) (g.S.Store.state b.idle.new.self.store) (g.S.Store.durable x.store) (g.S.Store.durable b.idle.new.self.store)) (sym b.did-is) b.in_ok-did-2.ensures.runs)
+    ]
