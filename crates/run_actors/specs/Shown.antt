@@ -42,8 +42,15 @@ module _ {S C : Type 0} (durable : S → Option Durable) (state : S → State) w
 
 -- ---- who is due, and who hears
 
-pub actor : Bool → ℕ → ActorId
+abbrev pub actor : Bool → ℕ → ActorId
 actor kind n = record { client = kind; number = n }
+
+-- an actor by its kind and number
+pub named-client : (a : ActorId) (n : ℕ) → a.client ≡ true → n ≡ a.number → client n ≡ a
+named-client a n kind named = ap (actor true) named ∙ ap (λ k. actor k a.number) (sym kind)
+
+pub named-target : (a : ActorId) (n : ℕ) → a.client ≡ false → n ≡ a.number → target n ≡ a
+named-target a n kind named = ap (actor false) named ∙ ap (λ k. actor k a.number) (sym kind)
 
 -- those below a number for which a test holds, one by one
 below-is-filter : (test : ActorId → Bool) (name : ℕ → ActorId) (passes : ℕ → Bool) (n : ℕ) → ((k : ℕ) → k < n → passes k ≡ test (name k)) → due_below name passes n ≡ filter test (numbered name n)
@@ -98,16 +105,12 @@ module _ {S C : Type 0} (durable : S → Option Durable) (state : S → State) (
   -- what a client hears, by its number
   pub client-heard-shown : (a : ActorId) (n many : ℕ) → a.client ≡ true → n ≡ a.number → n < length clients
       → ((c : ClientNow) → slice_get clients n ≡ Some c → many ≡ heard_awake c.state (count_to (client n) b.messages)) → many ≡ heard w a
-  unfolding actor
   client-heard-shown a n many kind named within is =
       let c = there-is clients n within in
-      let same : client n ≡ a = ap (actor true) named ∙ ap (λ x. actor x a.number) (sym kind) in
-      subst (λ x. many ≡ heard w x) same
+      subst (λ x. many ≡ heard w x) (named-client a n kind named)
       (is c.0 c.1 ∙ ap (λ ls. heard_awake c.0.state (count_to (client n) ls)) k.messages ∙ ap (heard_by_client (count_to (client n) w.messages)) (sym (client-here n c.0 c.1)))
 
   -- and what a target hears
   pub target-heard-shown : (a : ActorId) (t many : ℕ) → a.client ≡ false → t ≡ a.number → many ≡ count_to (target t) b.messages → many ≡ heard w a
-  unfolding actor
   target-heard-shown a t many kind named is =
-      let same : target t ≡ a = ap (actor false) named ∙ ap (λ x. actor x a.number) (sym kind) in
-      subst (λ x. many ≡ heard w x) same (is ∙ ap (count_to (target t)) k.messages)
+      subst (λ x. many ≡ heard w x) (named-target a t kind named) (is ∙ ap (count_to (target t)) k.messages)

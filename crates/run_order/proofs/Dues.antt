@@ -1,10 +1,10 @@
 -- Of how many messages an actor hears one.
 use Rattle.std.specs.Prelude.{ℕ, ◌≡◌, ◌≤◌, ◌<◌, Bool, true, false, nat_lt, List, length, slice_get, Some, refl, if◌then◌else◌}
-use Rattle.std.proofs.Common.{sym, ◌∙◌, ap, subst, arith}
+use Rattle.std.proofs.Common.{◌∙◌, ap, subst, arith}
 use Rattle.daos_messages.specs.declared.actor.ActorId.{ActorId}
 use Rattle.client_core.specs.Clients.{ClientNow}
 use Rattle.run_actors.specs.ListLaws.{there-is}
-use Rattle.run_actors.specs.Shown.{actor}
+use Rattle.run_actors.specs.Shown.{named-client}
 use Rattle.run_picks.specs.Picks.{count_to, heard_awake}
 use Rattle.world_base.specs.declared.client.ClientState.{ClientState}
 use Rattle.world_base.specs.declared.letter.Letter.{Letter}
@@ -21,8 +21,6 @@ heard-few c count heard is = by (nat_lt 0 c.skip) refl
 -- a client hears one of those to it at most
 pub heard-by : (a : ActorId) (n heard : ℕ) (clients : List ClientNow) (letters : List Letter) → a.client ≡ true → n ≡ a.number → n < length clients
     → ((c : ClientNow) → slice_get clients n ≡ Some c → heard ≡ heard_awake c.state (count_to (client n) letters)) → heard ≤ count_to a letters
-unfolding actor
 heard-by a n heard clients letters kind named within is =
     let c = there-is clients n within in
-    let same : client n ≡ a = ap (actor true) named ∙ ap (λ k. actor k a.number) (sym kind) in
-    subst (λ x. heard ≤ count_to x letters) same (heard-few c.0.state (count_to (client n) letters) heard (is c.0 c.1))
+    subst (λ x. heard ≤ count_to x letters) (named-client a n kind named) (heard-few c.0.state (count_to (client n) letters) heard (is c.0 c.1))

@@ -23,8 +23,13 @@ module _ {S C : Type 0} (durable : S → Option Durable) (state : S → State) w
   leaves-ok x xs ys k = record { stores = run-as durable state _ _ stopped_at (Ok x) xs ys (λ t. refl) k; named = tt }
 
   -- and those in which memory was wanting
-  pub leaves-wanting : {T : Type 0} (h : Halted) (xs ys : List (TargetOf S C)) → h ≡ wanting → AllRun durable state xs ys → Leaves {T = T} durable state (Err h) xs ys
-  leaves-wanting h xs ys is k = subst (λ e. Leaves durable state (Err e) xs ys) (sym is) (record { stores = run-as durable state _ _ stopped_at (Err wanting) xs ys (λ t. refl) k; named = tt })
+  pub leaves-wanting : {T : Type 0} (result : Result T Halted) (xs ys : List (TargetOf S C)) → result ≡ Err wanting → AllRun durable state xs ys → Leaves durable state result xs ys
+  leaves-wanting {T} result xs ys is k = subst (λ r. Leaves {T = T} durable state r xs ys) (sym is) (record { stores = run-as durable state _ _ stopped_at (Err wanting) xs ys (λ t. refl) k; named = tt })
+
+  -- and those of which the last ones didn't come whole
+  pub leaves-so : {T U : Type 0} (h : Halted) (result : Result T Halted) (xs ys zs : List (TargetOf S C)) → result ≡ Err h → AllRun durable state xs ys → Leaves {T = U} durable state (Err h) ys zs → Leaves durable state result xs zs
+  leaves-so {T} h result xs ys zs is k l =
+      leaves-then result xs ys zs k (subst (λ r. Leaves {T = T} durable state r ys zs) (sym is) (record { stores = run-as durable state stopped_at (Err h) stopped_at (Err h) ys zs (λ t. refl) l.stores; named = l.named }))
 
   -- turns that came whole leave the stores running
   pub all-run : {T : Type 0} (x : T) (xs ys : List (TargetOf S C)) → Leaves durable state (Ok x) xs ys → AllRun durable state xs ys
@@ -36,7 +41,7 @@ module _ {S C : Type 0} (durable : S → Option Durable) (state : S → State) w
 
   -- a turn of a target that came whole
   pub turn-whole : {T : Type 0} (x : T) (target : ℕ) (xs ys : List (TargetOf S C)) → StoresRun {E = TargetStop} durable state (stops_at target) (Ok x) xs ys → AllRun durable state xs ys
-  turn-whole x target xs ys k = run-as {E = TargetStop} durable state (stops_at target) (Ok x) _ _ xs ys (λ t. refl) k
+  turn-whole x target xs ys k = run-as durable state (stops_at target) (Ok x) _ _ xs ys (λ t. refl) k
 
   -- and one that stopped
   pub turn-stopped : {T U : Type 0} (target number : ℕ) (stop : TargetStop) (h : Halted) (xs ys : List (TargetOf S C)) → target ≡ number → number < length xs → ComesOf target stop h → StoresRun {T = U} durable state (stops_at number) (Err stop) xs ys

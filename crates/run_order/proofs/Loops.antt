@@ -1,6 +1,7 @@
 -- Rounds and draws, one turn after another.
-use Rattle.std.specs.Prelude.{ℕ, ◌≡◌, ◌<◌, ◌++◌, ◌==◌, ◌%◌, Bool, true, false, List, [], ◌∷◌, length, slice_get, Option, Some, if◌then◌else◌, refl}
+use Rattle.std.specs.Prelude.{ℕ, ◌≡◌, ◌≤◌, ◌<◌, ◌++◌, ◌==◌, ◌%◌, Bool, true, false, List, [], ◌∷◌, length, slice_get, Option, Some, Result, Ok, Err, OnOk, if◌then◌else◌, refl}
 use Rattle.std.proofs.Common.{zero, suc, sym, ◌∙◌, ap, subst, arith}
+use Rattle.std.proofs.lemmas.Bool.Decides.{nat_tests}
 use Rattle.std.proofs.lemmas.List.{append_assoc}
 use Rattle.client_core.specs.Clients.{ClientNow}
 use Rattle.daos_draw.specs.Draws.{drawn}
@@ -16,7 +17,7 @@ use Rattle.run_actors.specs.Shows.{Shows, Steps}
 use Rattle.run_order.proofs.Going.{GoesOn, goes-as, goes-then, goes-turn}
 use Rattle.run_actors.specs.Shown.{client-due-shown, due-shown, many-clients, target-due-shown}
 use Rattle.run_picks.specs.Orders.{AndThen, Draws, HasIt, HasNone, InDraws, InRounds, InTurn, OneDraw, OneRound, RoundOf, Rounds, after_pick, pick}
-use Rattle.run_picks.specs.Picks.{TurnOf, actors, due, heard, is_due, numbered}
+use Rattle.run_picks.specs.Picks.{TurnOf, heard, is_due, numbered}
 use Rattle.target_core.specs.Targets.{TargetOf}
 use Rattle.vos_store.specs.Calls.{State}
 use Rattle.world_base.specs.declared.world.World.{World}
@@ -38,14 +39,31 @@ from_draw x0 x r w = Draws r x0 w x
 -- ---- numbers
 
 pub some-pick : (x many p y : ℕ) → (many ≡ 0 → ⊥) → p ≡ pick x many → y ≡ after_pick x many → (p ≡ drawn x % many) × (y ≡ drawn x)
-some-pick x many p y some is last = by (many == 0) (not-none many some)
+some-pick x many p y some is last = by (many == 0) (tested many some)
   where
-    not-none : (n : ℕ) → (n ≡ 0 → ⊥) → (n == 0) ≡ false
-    not-none zero h = absurd (h refl)
-    not-none (suc n) h = refl
+    tested : (n : ℕ) → (n ≡ 0 → ⊥) → (n == 0) ≡ false
+    tested zero h = absurd (h refl)
+    tested (suc n) h = grind (arith, nat_tests)
 
     by : (b : Bool) → (many == 0) ≡ false → (p ≡ drawn x % many) × (y ≡ drawn x)
     by b h = (is ∙ ap (λ z. if z then 0 else drawn x % many) h, last ∙ ap (λ z. if z then x else drawn x) h)
+
+pub within-now : (n end : ℕ) {T : Type 0} (olds nows : List T) → n < end → end ≡ length olds → length nows ≡ length olds → n < length nows
+within-now n end olds nows low is same = omega (arith, low, is, same)
+
+pub at-end : (t end : ℕ) {T : Type 0} (olds mids : List T) → end ≤ t → t ≤ end → end ≡ length mids → length mids ≡ length olds → t ≡ length olds
+at-end t end olds mids past low is same = omega (arith, past, low, is, same)
+
+pub none-in : {T : Type 0} (xs : List T) (len : ℕ) → true ≡ (len == 0) → len ≡ length xs → xs ≡ []
+none-in [] len empty is = refl
+none-in (x ∷ xs) len empty is = let no : ⊥ = grind (arith, nat_tests) in absurd no
+
+pub some-in : {T : Type 0} (xs : List T) (len : ℕ) → false ≡ (len == 0) → len ≡ length xs → xs ≡ [] → ⊥
+some-in [] len some is none = grind (arith, nat_tests)
+some-in (x ∷ xs) len some is none = cc
+
+pub not-none : (many len : ℕ) → false ≡ (len == 0) → many ≡ len → many ≡ 0 → ⊥
+not-none many len some is none = grind (arith, nat_tests)
 
 module _ {S C : Type 0} (durable : S → Option Durable) (state : S → State) (cs0 : List ClientNow) (xs0 : List (TargetOf S C)) (b0 : BetweenNow) (cs : List ClientNow) (xs : List (TargetOf S C)) (b : BetweenNow) where
   -- ---- a round
@@ -121,11 +139,17 @@ module _ {S C : Type 0} (durable : S → Option Durable) (state : S → State) (
   draw-more x0 x y a many message cs' xs' b' k its hears is last steps going clients targets =
       goes-then durable state (from_draw x0 x) (λ r w v. TurnOf r a message w v) (from_draw x0 y) cs0 xs0 b0 cs xs b cs' xs' b'
       (λ r w u v s so turn.
-          OneDraw x y u v so (record {
-            actor = a;
-            its = subst (λ as'. slice_get as' (drawn x % length as') ≡ Some a) (due-shown durable state r cs xs b u s) its;
-            turn = subst (λ j. TurnOf r a j u v) (is ∙ ap (pick (drawn x)) (hears r u s)) turn;
-            last = last ∙ ap (after_pick (drawn x)) (hears r u s);
-          }))
+      OneDraw x y u v so (record {
+        actor = a;
+        its = subst (λ as'. slice_get as' (drawn x % length as') ≡ Some a) (due-shown durable state r cs xs b u s) its;
+        turn = subst (λ j. TurnOf r a j u v) (is ∙ ap (pick (drawn x)) (hears r u s)) turn;
+        last = last ∙ ap (after_pick (drawn x)) (hears r u s);
+      }))
       k
       (goes-turn durable state a message cs xs b cs' xs' b' steps going clients targets)
+
+-- what holds of the world that is shown, in other words
+pub shown-as : {S C T E : Type 0} (durable : S → Option Durable) (state : S → State) (r : Rules) (result : Result T E) (one other : World → Type 0) (cs : List ClientNow) (xs : List (TargetOf S C)) (b : BetweenNow) → ((v : World) → one v → other v)
+    → OnOk result (IsShown durable state r one cs xs b) → OnOk result (IsShown durable state r other cs xs b)
+shown-as durable state r (Ok x) one other cs xs b said k = record { now = k.now; is = said k.now k.is; shows = k.shows }
+shown-as durable state r (Err e) one other cs xs b said k = tt

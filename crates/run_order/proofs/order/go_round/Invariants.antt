@@ -1,6 +1,7 @@
 use Rattle.run_order.proofs.Going.{GoesOn}
+use Rattle.run_picks.specs.Orders.{Rounds}
 use Rattle.run_order.proofs.order.go_round.Given as goal
 
--- the actors went on
+-- there were some rounds
 abbrev pub invariant-loop : goal.invariant-loop
-invariant-loop g l = GoesOn g.S.Store.durable g.S.Store.state l.fn.actors.clients.items l.fn.actors.targets.items l.fn.actors.between l.actors.clients.items l.actors.targets.items l.actors.between
+invariant-loop g l = GoesOn g.S.Store.durable g.S.Store.state Rounds l.fn.actors.clients.items l.fn.actors.targets.items l.fn.actors.between l.actors.clients.items l.actors.targets.items l.actors.between
