@@ -1,4 +1,5 @@
 pub mod Begun
+pub mod OneStore
 pub mod Reported
 pub mod Slots
 pub mod Firsts

@@ -1,13 +1,17 @@
 -- What a run begins with, and what it comes to.
-use Rattle.std.specs.Prelude.{ℕ, ◌≡◌, ◌≤◌, ◌-◌, ◌*◌, Bool, false, List, [], ◌∷◌, length, slice_get, Option, Some, None}
+use Rattle.std.specs.Prelude.{ℕ, ◌≡◌, ◌≤◌, Bool, true, false, List, [], ◌∷◌, length, slice_get, Contains, Option, Some, None}
+use Rattle.std.specs.Option.{ForSome}
 use Rattle.client_core.specs.Clients.{ClientNow}
+use Rattle.daos_base.specs.declared.entry.Entry.{Entry}
 use Rattle.daos_base.specs.declared.epoch.Epoch.{Epoch}
+use Rattle.daos_base.specs.declared.job.Job.{Job}
 use Rattle.daos_base.specs.declared.id.AttemptId.{AttemptId}
 use Rattle.daos_base.specs.declared.report.Line.{Line}
 use Rattle.daos_base.specs.declared.report.Report.{Report}
 use Rattle.daos_base.specs.declared.script.Command.{Command}
 use Rattle.daos_base.specs.declared.script.Script.{Script}
 use Rattle.daos_model.specs.declared.durable.Durable.{Durable}
+use Rattle.daos_model.specs.AsOf.{empty_stand}
 use Rattle.daos_model.specs.Changes.{enlisted}
 use Rattle.daos_model.specs.Durables.{empty_durable}
 use Rattle.daos_model.specs.Finals.{HeadlineOver}
@@ -18,47 +22,51 @@ use Rattle.target_core.specs.Targets.{TargetOf}
 use Rattle.vos_store.specs.Calls.{State}
 use Rattle.world_base.specs.ClientTurns.{at_first, plan_of}
 use Rattle.world_begins.specs.Begins.{declared_conts}
+use Rattle.world_forms.specs.Keyed.{ScriptHasKeys}
 
--- a store that runs, was made for a target at least, and whose last opening set no floor above that of a lease of 0, with as many
--- free blocks as a region of zeros of so many MiB has
-pub record IsFreshState (size : ℕ) (h : State) : Type 0 where
+-- a run of a script over regions that stand for nothing, with so many blocks free on each
+abbrev pub given : Script → Job → ℕ → Given
+given s j free = record { script = s; job = j; opening = record { stand = empty_stand; lease = 0; free = λ t. free } }
+
+-- a store that runs, was made for a target at least, and whose last opening set no floor above that of a lease of 0
+pub record IsFreshState (h : State) : Type 0 where
   pub running : h.stopped ≡ false
   pub made : 1 ≤ h.targets
   pub floor : h.opening.0.0 ≤ 255
-  pub free : size * 4096 - 1264 ≤ h.free
 
 module _ {S : Type 0} (durable : S → Option Durable) (state : S → State) where
-  -- a store that was never used
-  pub record IsEmpty (size : ℕ) (store : S) : Type 0 where
-    pub fresh : IsFreshState size (state store)
+  -- a store that was never used, as far as it tells what it keeps
+  pub record IsEmpty (store : S) : Type 0 where
+    pub fresh : IsFreshState (state store)
     pub incarnation : ℕ
-    pub kept : durable store ≡ Some (empty_durable incarnation)
+    pub kept : ForSome (durable store) (λ d. d ≡ empty_durable incarnation)
 
   -- one to which the containers of a script were added
-  pub record IsOpened (s : Script) (size : ℕ) (store : S) : Type 0 where
-    pub fresh : IsFreshState size (state store)
+  pub record IsOpened (s : Script) (store : S) : Type 0 where
+    pub fresh : IsFreshState (state store)
     pub incarnation : ℕ
-    pub kept : durable store ≡ Some (enlisted (declared_conts s) (empty_durable incarnation))
+    pub kept : ForSome (durable store) (λ d. d ≡ enlisted (declared_conts s) (empty_durable incarnation))
 
 -- the report of these lines, where no target was given up
 abbrev pub report_of : Script → List Line → Report
 report_of s lines = record { targets = s.targets; lines = lines; down = None }
 
--- In the end a store stands for what a report tells, by the headline.
+-- In the end a store stands for what a report tells, by the headline, and nothing is left to settle.
 pub record Stands {S : Type 0} (durable : S → Option Durable) (g : Given) (q : Report) (store : S) : Type 0 where
   pub last : Durable
   pub kept : durable store ≡ Some last
   pub headline : HeadlineOver g undisturbed (last ∷ []) q
+  pub settled : (e : Entry) → Contains last.entries e → e.committed ≡ true
 
 -- the report is legal, whichever attempts are taken as resolved: it tells of each what became of it
 abbrev pub IsLegal : Given → Report → Type 0
 IsLegal g q = (resolved : AttemptId → Bool) → Headline g undisturbed resolved q
 
--- what a run comes to: the report is legal and in form, and the store stands for what it tells
+-- what a run comes to: the report is legal, and in form where names and keys are keys, and the store stands for what it tells
 pub record Reports {S : Type 0} (durable : S → Option Durable) (g : Given) (q : Report) (store : S) : Type 0 where
   pub stands : Stands durable g q store
   pub legal : IsLegal g q
-  pub form : IsReportOf g.script q
+  pub form : ScriptHasKeys g.script → IsReportOf g.script q
 
 -- the only target, which has just opened this store
 pub record IsNew {S C : Type 0} (durable : S → Option Durable) (store : S) (epsilon : ℕ) (x : TargetOf S C) : Type 0 where

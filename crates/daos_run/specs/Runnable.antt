@@ -5,7 +5,6 @@ use Rattle.daos_base.specs.Scripts.{IsInForm}
 use Rattle.daos_base.specs.declared.script.Command.{Command}
 use Rattle.daos_base.specs.declared.script.Command.TheVariants.{Aggregate, Run, Skip, Snap, Tell}
 use Rattle.daos_base.specs.declared.script.Script.{Script}
-use Rattle.world_forms.specs.Keyed.{ScriptHasKeys}
 
 -- a command that is run so far: a transaction that reads at no snapshot, a tracker that is told, or turns that are skipped
 abbrev pub is_run : Command → Bool
@@ -22,8 +21,7 @@ are_run list = list_all is_run list
 unfoldable pub runs : Script → Bool
 runs s = length s.olds == 0 && length s.stops == 0 && list_all are_run s.clients
 
--- a script in form for so many targets, whose names and keys are keys, that is run so far
+-- a script in form for so many targets that is run so far
 pub record IsRunnable (targets : ℕ) (s : Script) : Type 0 where
   pub form : IsInForm targets s
-  pub keys : ScriptHasKeys s
   pub run : runs s ≡ true

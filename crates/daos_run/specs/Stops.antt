@@ -1,4 +1,7 @@
 -- Why a run gives no report.
+use Rattle.std.specs.Prelude.{◌≡◌, Bool, true, false, Option, None}
+use Rattle.daos_model.specs.declared.durable.Durable.{Durable}
+use Rattle.daos_run.specs.declared.stop.Part.TheVariants.{Containers}
 use Rattle.daos_run.specs.declared.stop.RunStop.{RunStop}
 use Rattle.daos_run.specs.declared.stop.RunStop.TheVariants as stop
 use Rattle.run_order.specs.declared.halted.Halted.{Halted}
@@ -7,3 +10,18 @@ use Rattle.run_order.specs.declared.halted.Halted.TheVariants as halted
 abbrev pub stop_of : Halted → RunStop
 stop_of (halted.Stopped target) = stop.RackFault target
 stop_of halted.Memory = stop.Memory
+
+-- it is the fault of a target's store
+abbrev pub is_fault : RunStop → Bool
+is_fault (stop.RackFault target) = true
+is_fault (stop.Foreign target at byte) = false
+is_fault (stop.Shape target what found asked) = false
+is_fault stop.Memory = false
+
+-- What may stop a run on the store of target 0, which tells this of what it keeps: a fault of the store; its containers, with those of the
+-- script, are too many, which an empty store that tells what it keeps never answers; or memory was wanting.
+abbrev pub MayStop : Option Durable → RunStop → Type 0
+MayStop told (stop.RackFault target) = target ≡ 0
+MayStop told (stop.Foreign target at byte) = ⊥
+MayStop told (stop.Shape target what found asked) = (told ≡ None) × (target ≡ 0) × (what ≡ Containers) × (asked ≡ 256)
+MayStop told stop.Memory = Unit {0}

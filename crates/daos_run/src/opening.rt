@@ -2,6 +2,8 @@
 ghost use Rattle.std.specs.Prelude.{◌≡◌, ◌≤◌, length, IfErr, IfOk, OnOk};
 ghost use Rattle.daos_base.specs.Scripts.{IsInForm};
 ghost use Rattle.daos_run.specs.Opens.{AreFirst, IsEmpty, IsOpened};
+ghost use Rattle.daos_run.specs.Stops.{MayStop, is_fault};
+ghost use Rattle.target_core.specs.Parts.{Runs};
 ghost use Rattle.world_begins.specs.Begins.{declared_conts};
 
 use crate::stop::{Part, RunStop};
@@ -44,13 +46,14 @@ pub fn open<S: Store>(
     alloc: Global,
     script: &Script,
     store: &mut S,
-    size: u8,
 ) -> Result<(), RunStop>
     requires few { length script.now.conts ≤ 256 }
-    requires empty { IsEmpty S.durable S.state size store.old }
-    ensures opened { OnOk result (IsOpened S.durable S.state script.now size store.new) }
+    requires empty { IsEmpty S.durable S.state store.old }
+    ensures opened { OnOk result (IsOpened S.durable S.state script.now store.new) }
+    ensures free { (S.state store.old).free ≤ (S.state store.new).free }
+    ensures runs { Runs is_fault result (S.state store.old) (S.state store.new) (S.durable store.old) (S.durable store.new) }
+    ensures refusals { IfErr result (MayStop (S.durable store.old)) }
 {
-    let _size = size;
     let conts = conts_of(alloc, script)?;
     match store.enlist(&conts) {
         Ok(()) => Ok(()),

@@ -4,6 +4,7 @@ ghost use Rattle.daos_model.specs.Opening.{fresh};
 ghost use Rattle.daos_report.specs.Forms.{IsReportOf};
 ghost use Rattle.daos_run.specs.Opens.{IsLegal};
 ghost use Rattle.daos_run.specs.Runnable.{IsRunnable};
+ghost use Rattle.world_forms.specs.Keyed.{ScriptHasKeys};
 
 use crate::parts::Parts;
 use crate::run_on::run_on;
@@ -40,7 +41,7 @@ pub fn run_script<R: Threads + Wait + Sync, B: Rack, G: Gate + Sync>(
     requires most { job.now.attempts ≤ 100 }
     requires script { IsRunnable 1 script.now }
     ensures legal { IfOk result (λ report. IsLegal (fresh script.now job.now) report) }
-    ensures form { IfOk result (λ report. IsReportOf script.now report) }
+    ensures form { ScriptHasKeys script.now → IfOk result (λ report. IsReportOf script.now report) }
     ensures refusals { IsOkUnless result RunStop.Memory }
     ensures rack { B.count rack.new ≡ B.count rack.old }
 {

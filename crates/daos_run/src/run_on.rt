@@ -1,12 +1,14 @@
 // Runs a script on stores.
-ghost use Rattle.std.specs.Prelude.{◌≡◌, ◌≤◌, length, slice_get, IfOk, Some, false};
-ghost use Rattle.daos_model.specs.Opening.{fresh};
+ghost use Rattle.std.specs.Prelude.{◌≡◌, ◌≤◌, ℕ, length, slice_get, IfErr, IfOk, Some, is_some, true, false};
 ghost use Rattle.daos_report.specs.Forms.{IsReportOf};
-ghost use Rattle.daos_run.specs.Opens.{AreFirst, IsEmpty, IsLegal, IsOnlyNew, IsOpened, Reports, Stands, report_of};
+ghost use Rattle.daos_run.specs.Opens.{AreFirst, IsEmpty, IsLegal, IsOnlyNew, IsOpened, Reports, Stands, given, report_of};
 ghost use Rattle.std.specs.Option.{ForSome};
 ghost use Rattle.target_core.specs.Targets.{IsHeard, TargetOf};
 ghost use Rattle.daos_run.specs.Runnable.{IsRunnable};
-ghost use Rattle.daos_run.specs.Slots.{HasStore, IsSet};
+ghost use Rattle.daos_run.specs.Slots.{FromTo, HasStore, IfTold, IsSet};
+ghost use Rattle.daos_run.specs.Stops.{MayStop, is_fault};
+ghost use Rattle.target_core.specs.Parts.{Runs};
+ghost use Rattle.world_forms.specs.Keyed.{ScriptHasKeys};
 
 use crate::opening::{clients_of, open};
 use crate::parts::Parts;
@@ -83,9 +85,12 @@ fn run_clients<R: Wait, S: Store, C: Clock, G: Gate>(
     requires least { 1 ≤ job.now.attempts }
     requires most { job.now.attempts ≤ 100 }
     requires script { IsRunnable 1 script.now }
-    requires opened { IsOpened S.durable S.state script.now job.now.size_mib store }
+    requires opened { IsOpened S.durable S.state script.now store }
     requires first { AreFirst script.now job.now.attempts (record { 0 = 255 }) clients.items }
-    ensures { IfOk result.2 (λ lines. Reports S.durable (fresh script.now job.now) (report_of script.now lines) result.0) }
+    ensures reports { (free : ℕ) → free ≤ (S.state store).free → is_some (S.durable store) ≡ true
+        → IfOk result.2 (λ lines. Reports S.durable (given script.now job.now free) (report_of script.now lines) result.0) }
+    ensures runs { Runs is_fault result.2 (S.state store) (S.state result.0) (S.durable store) (S.durable result.0) }
+    ensures refusals { IfErr result.2 (MayStop (S.durable store)) }
 {
     match targets_of(alloc, job, store, clock) {
         Ok(targets) => {
@@ -113,11 +118,14 @@ fn run_store<R: Wait, S: Store, C: Clock, G: Gate>(
     requires least { 1 ≤ job.now.attempts }
     requires most { job.now.attempts ≤ 100 }
     requires script { IsRunnable 1 script.now }
-    requires empty { IsEmpty S.durable S.state job.now.size_mib store }
-    ensures { IfOk result.2 (λ lines. Reports S.durable (fresh script.now job.now) (report_of script.now lines) result.0) }
+    requires empty { IsEmpty S.durable S.state store }
+    ensures reports { is_some (S.durable store) ≡ true
+        → IfOk result.2 (λ lines. Reports S.durable (given script.now job.now (S.state store).free) (report_of script.now lines) result.0) }
+    ensures runs { Runs is_fault result.2 (S.state store) (S.state result.0) (S.durable store) (S.durable result.0) }
+    ensures refusals { IfErr result.2 (MayStop (S.durable store)) }
 {
     let mut store = store;
-    if let Err(stop) = open(alloc, script, &mut store, job.size_mib) {
+    if let Err(stop) = open(alloc, script, &mut store) {
         return (store, clock, Err(stop));
     }
     match clients_of(alloc, script, FIRST_TRACKER, job.attempts) {
@@ -127,11 +135,13 @@ fn run_store<R: Wait, S: Store, C: Clock, G: Gate>(
 }
 
 /// Runs a script on the empty store of the only target, so far, and reports what became of its
-/// commands. The store and the clock are set again at every ending.
+/// commands. The store and the clock are set again at every ending. Of a store that doesn't tell what
+/// it keeps the report isn't bound; the run is safe, and errors are told as of any other.
 ///
 /// # Errors
 ///
-/// `RackFault` where the store stopped; `Memory`.
+/// `RackFault` where the store stopped, which is only where a count of its rose in this call; `Memory`;
+/// and `Shape` where a store that doesn't tell what it keeps has no place for the script's containers.
 pub fn run_on<R: Threads + Wait + Sync, S: Store + Send, C: Clock + Send, G: Gate + Sync>(
     rt: &R,
     alloc: Global,
@@ -144,10 +154,16 @@ pub fn run_on<R: Threads + Wait + Sync, S: Store + Send, C: Clock + Send, G: Gat
     requires least { 1 ≤ job.now.attempts }
     requires most { job.now.attempts ≤ 100 }
     requires script { IsRunnable 1 script.now }
-    requires store { HasStore (IsEmpty S.durable S.state job.now.size_mib) parts.old }
-    ensures legal { IfOk result (λ report. IsLegal (fresh script.now job.now) report) }
-    ensures form { IfOk result (λ report. IsReportOf script.now report) }
-    ensures stands { IfOk result (λ report. HasStore (Stands S.durable (fresh script.now job.now) report) parts.new) }
+    requires store { HasStore (IsEmpty S.durable S.state) parts.old }
+    ensures legal { IfTold S.durable parts.old (λ store. IfOk result (λ report.
+        IsLegal (given script.now job.now (S.state store).free) report)) }
+    ensures form { IfTold S.durable parts.old (λ store. ScriptHasKeys script.now → IfOk result (λ report.
+        IsReportOf script.now report)) }
+    ensures stands { IfTold S.durable parts.old (λ store. IfOk result (λ report.
+        HasStore (Stands S.durable (given script.now job.now (S.state store).free) report) parts.new)) }
+    ensures store { FromTo parts.old parts.new (λ old new.
+        Runs is_fault result (S.state old) (S.state new) (S.durable old) (S.durable new)) }
+    ensures refusals { FromTo parts.old parts.new (λ old new. IfErr result (MayStop (S.durable old))) }
     ensures set { IsSet parts.new }
 {
     let Some((store, clock)) = parts.take(0) else {

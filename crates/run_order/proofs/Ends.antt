@@ -8,7 +8,7 @@ use Rattle.daos_messages.specs.declared.actor.ActorId.{ActorId}
 use Rattle.daos_model.specs.declared.durable.Durable.{Durable}
 use Rattle.daos_model.specs.Opening.{Opening}
 use Rattle.run_letters.specs.Letters.{BetweenNow}
-use Rattle.run_order.specs.Due.{IsActor, due_actors, due_below, due_clients, due_targets, is_due_client, is_due_target, one_if}
+use Rattle.run_actors.specs.Due.{IsActor, due_actors, due_below, due_clients, due_targets, is_due_client, is_due_target, one_if}
 use Rattle.run_order.specs.Ended.{HasRun, IsShown, nothing}
 use Rattle.run_picks.specs.OrderLaws.{orders-are-runs, orders-end-quiet}
 use Rattle.run_picks.specs.Orders.{InOrder}

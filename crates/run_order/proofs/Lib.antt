@@ -1,8 +1,5 @@
-pub mod Turns
 pub mod Ends
+pub mod Leaving
 pub mod Going
 pub mod Dues
-pub mod Follow
-pub mod Hearing
-pub mod Shown
 pub mod Loops

@@ -8,11 +8,14 @@ use Rattle.daos_draw.specs.Draws.{drawn}
 use Rattle.daos_messages.specs.declared.actor.ActorId.{ActorId}
 use Rattle.daos_model.specs.declared.durable.Durable.{Durable}
 use Rattle.run_letters.specs.Letters.{BetweenNow}
-use Rattle.run_order.specs.Due.{due_actors, is_due_client, is_due_target}
+use Rattle.run_actors.specs.Due.{due_actors, is_due_client, is_due_target}
 use Rattle.run_order.specs.Ended.{IsShown}
-use Rattle.run_order.specs.Shows.{IsGoing, Shows, Steps}
+use Rattle.run_actors.specs.CanGo.{CanGo}
+use Rattle.run_actors.specs.Stores.{AllRun}
+use Rattle.run_actors.specs.StoreLaws.{run-first, run-then}
+use Rattle.run_actors.specs.Shows.{Shows, Steps}
 use Rattle.run_order.proofs.Going.{GoesOn, goes-as, goes-then, goes-turn}
-use Rattle.run_order.proofs.Shown.{client-due-shown, due-shown, many-clients, target-due-shown}
+use Rattle.run_actors.specs.Shown.{client-due-shown, due-shown, many-clients, target-due-shown}
 use Rattle.run_picks.specs.Orders.{AndThen, Draws, HasIt, HasNone, InDraws, InRounds, InTurn, OneDraw, OneRound, RoundOf, Rounds, after_pick, pick}
 use Rattle.run_picks.specs.Picks.{TurnOf, heard, is_due, numbered}
 use Rattle.target_core.specs.Targets.{TargetOf}
@@ -68,7 +71,7 @@ module _ {S C : Type 0} (durable : S → Option Durable) (state : S → State) (
   module _ (before : List ActorId) (a : ActorId) (k : GoesOn durable state (turned before) cs0 xs0 b0 cs xs b) where
     -- one has its turn
     one-more : (cs' : List ClientNow) (xs' : List (TargetOf S C)) (b' : BetweenNow) → ((r : Rules) (w : World) → Shows durable state r cs xs b w → is_due r w a ≡ true)
-        → ((r : Rules) (w : World) → Shows durable state r cs xs b w → Steps durable state r a 0 w cs' xs' b') → IsGoing durable state cs' xs' b' → length cs' ≡ length cs → length xs' ≡ length xs
+        → ((r : Rules) (w : World) → Shows durable state r cs xs b w → Steps durable state r a 0 w cs' xs' b') → CanGo durable state cs' xs' b' → length cs' ≡ length cs → AllRun durable state xs xs'
         → GoesOn durable state (turned (before ++ a ∷ [])) cs0 xs0 b0 cs' xs' b'
     one-more cs' xs' b' is steps going clients targets =
         goes-then durable state (turned before) (λ r w v. TurnOf r a 0 w v) (turned (before ++ a ∷ [])) cs0 xs0 b0 cs xs b cs' xs' b' (λ r w u v s so turn. AndThen before a u v so (HasIt (is r u s) turn)) k
@@ -80,7 +83,7 @@ module _ {S C : Type 0} (durable : S → Option Durable) (state : S → State) (
 
   module _ (n : ℕ) (k : GoesOn durable state (turned (numbered client n)) cs0 xs0 b0 cs xs b) (within : n < length cs) where
     pub client-had-turn : (cs' : List ClientNow) (xs' : List (TargetOf S C)) (b' : BetweenNow) → is_due_client b.messages n (slice_get cs n) ≡ true
-        → ((r : Rules) (w : World) → Shows durable state r cs xs b w → Steps durable state r (client n) 0 w cs' xs' b') → IsGoing durable state cs' xs' b' → length cs' ≡ length cs → length xs' ≡ length xs
+        → ((r : Rules) (w : World) → Shows durable state r cs xs b w → Steps durable state r (client n) 0 w cs' xs' b') → CanGo durable state cs' xs' b' → length cs' ≡ length cs → AllRun durable state xs xs'
         → GoesOn durable state (turned (numbered client (suc n))) cs0 xs0 b0 cs' xs' b'
     client-had-turn cs' xs' b' is = one-more (numbered client n) (client n) k cs' xs' b' (λ r w s. sym (client-due-shown durable state r cs xs b w s n within) ∙ is)
 
@@ -92,7 +95,7 @@ module _ {S C : Type 0} (durable : S → Option Durable) (state : S → State) (
     next = append_assoc (numbered client m) (numbered target t) (target t ∷ [])
 
     pub target-had-turn : (cs' : List ClientNow) (xs' : List (TargetOf S C)) (b' : BetweenNow) → is_due_target b.messages t (slice_get xs t) ≡ true
-        → ((r : Rules) (w : World) → Shows durable state r cs xs b w → Steps durable state r (target t) 0 w cs' xs' b') → IsGoing durable state cs' xs' b' → length cs' ≡ length cs → length xs' ≡ length xs
+        → ((r : Rules) (w : World) → Shows durable state r cs xs b w → Steps durable state r (target t) 0 w cs' xs' b') → CanGo durable state cs' xs' b' → length cs' ≡ length cs → AllRun durable state xs xs'
         → GoesOn durable state (turned (first_targets m (suc t))) cs0 xs0 b0 cs' xs' b'
     target-had-turn cs' xs' b' is steps going clients targets =
         subst (λ as'. GoesOn durable state (turned as') cs0 xs0 b0 cs' xs' b') next
@@ -111,10 +114,10 @@ module _ {S C : Type 0} (durable : S → Option Durable) (state : S → State) (
   -- ---- rounds
 
   pub round-more : (cs' : List ClientNow) (xs' : List (TargetOf S C)) (b' : BetweenNow) → GoesOn durable state Rounds cs0 xs0 b0 cs xs b → (due_actors b.messages cs xs ≡ [] → ⊥)
-      → ((r : Rules) (w : World) → Shows durable state r cs xs b w → IsShown durable state r (RoundOf r w) cs' xs' b') → IsGoing durable state cs' xs' b' → length cs' ≡ length cs → length xs' ≡ length xs → GoesOn durable state Rounds cs0 xs0 b0 cs' xs' b'
+      → ((r : Rules) (w : World) → Shows durable state r cs xs b w → IsShown durable state r (RoundOf r w) cs' xs' b') → CanGo durable state cs' xs' b' → length cs' ≡ length cs → AllRun durable state xs xs' → GoesOn durable state Rounds cs0 xs0 b0 cs' xs' b'
   round-more cs' xs' b' k some round going clients targets =
       goes-then durable state Rounds RoundOf Rounds cs0 xs0 b0 cs xs b cs' xs' b' (λ r w u v s so one. OneRound u v so (λ none. some (due-shown durable state r cs xs b u s ∙ none)) one) k
-      (record { led = round; going = going; clients = clients; targets = targets })
+      (record { led = round; going = going; clients = clients; stores = targets })
 
   pub rounds-over : GoesOn durable state Rounds cs0 xs0 b0 cs xs b → due_actors b.messages cs xs ≡ [] → (r : Rules) (w : World) → Shows durable state r cs0 xs0 b0 w → IsShown durable state r (InRounds r w) cs xs b
   rounds-over k quiet r w s =
@@ -132,7 +135,7 @@ module _ {S C : Type 0} (durable : S → Option Durable) (state : S → State) (
   -- an actor is drawn, and then the letter that it hears, if it hears one
   pub draw-more : (x0 x y : ℕ) (a : ActorId) (many message : ℕ) (cs' : List ClientNow) (xs' : List (TargetOf S C)) (b' : BetweenNow) → GoesOn durable state (from_draw x0 x) cs0 xs0 b0 cs xs b
       → slice_get (due_actors b.messages cs xs) (drawn x % length (due_actors b.messages cs xs)) ≡ Some a → ((r : Rules) (w : World) → Shows durable state r cs xs b w → many ≡ heard w a) → message ≡ pick (drawn x) many → y ≡ after_pick (drawn x) many
-      → ((r : Rules) (w : World) → Shows durable state r cs xs b w → Steps durable state r a message w cs' xs' b') → IsGoing durable state cs' xs' b' → length cs' ≡ length cs → length xs' ≡ length xs → GoesOn durable state (from_draw x0 y) cs0 xs0 b0 cs' xs' b'
+      → ((r : Rules) (w : World) → Shows durable state r cs xs b w → Steps durable state r a message w cs' xs' b') → CanGo durable state cs' xs' b' → length cs' ≡ length cs → AllRun durable state xs xs' → GoesOn durable state (from_draw x0 y) cs0 xs0 b0 cs' xs' b'
   draw-more x0 x y a many message cs' xs' b' k its hears is last steps going clients targets =
       goes-then durable state (from_draw x0 x) (λ r w v. TurnOf r a message w v) (from_draw x0 y) cs0 xs0 b0 cs xs b cs' xs' b'
       (λ r w u v s so turn.

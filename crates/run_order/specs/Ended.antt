@@ -4,7 +4,7 @@ use Rattle.client_core.specs.Clients.{ClientNow}
 use Rattle.daos_base.specs.declared.report.Line.{Line}
 use Rattle.daos_model.specs.declared.durable.Durable.{Durable}
 use Rattle.run_letters.specs.Letters.{BetweenNow}
-use Rattle.run_order.specs.Shows.{IsTargetOf, Shows}
+use Rattle.run_actors.specs.Shows.{IsTargetOf, Shows}
 use Rattle.run_picks.specs.Orders.{InOrder}
 use Rattle.run_picks.specs.Picks.{due}
 use Rattle.target_core.specs.Targets.{TargetOf}

@@ -1,5 +1,3 @@
--- The actors of a run as a world, and what they come to.
+-- Where a run of the actors ends, and what it leaves.
 pub mod Halts
-pub mod Shows
-pub mod Due
 pub mod Ended

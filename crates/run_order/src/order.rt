@@ -1,8 +1,10 @@
 // The order of turns.
 ghost use Rattle.std.specs.Prelude.{◌≡◌, ◌≤◌, ◌<◌, max, length, IfOk, OnOk};
-ghost use Rattle.run_order.specs.Due.{IsActor};
+ghost use Rattle.run_actors.specs.Due.{IsActor};
+ghost use Rattle.run_order.specs.Halts.{ComesOf, Leaves};
 ghost use Rattle.run_order.specs.Ended.{HasRun, IsShown, nothing};
-ghost use Rattle.run_order.specs.Shows.{IsGoing, Shows, Steps};
+ghost use Rattle.run_actors.specs.CanGo.{CanGo};
+ghost use Rattle.run_actors.specs.Shows.{Shows, Steps};
 ghost use Rattle.run_picks.specs.Orders.{InDraws, InOrder, InRounds, RoundOf, after_pick, pick};
 ghost use Rattle.run_picks.specs.Picks.{count_to, heard};
 ghost use Rattle.world_base.specs.declared.world.World.{World};
@@ -10,7 +12,6 @@ ghost use Rattle.daos_model.specs.Opening.{Opening};
 ghost use Rattle.world_begins.specs.Begins.{IsAlone, IsBegun};
 ghost use Rattle.world_events.specs.Events.{Rules};
 
-use crate::actors::Actors;
 use crate::halted::Halted;
 use client_core::client::Client;
 use daos_base::epoch::TargetId;
@@ -19,6 +20,7 @@ use daos_draw::draw::drawn;
 use daos_messages::actor::ActorId;
 use daos_outside::clock::Clock;
 use daos_outside::gate::Gate;
+use run_actors::actors::Actors;
 use run_letters::between::Between;
 use std::alloc::Global;
 use std::sync::Wait;
@@ -43,7 +45,9 @@ fn heard_by<S: Store, C: Clock>(actors: &Actors<S, C>, actor: ActorId) -> usize
 }
 
 // Why a target's turn isn't whole.
-fn halted_by(target: TargetId, stop: TargetStop) -> Halted {
+fn halted_by(target: TargetId, stop: TargetStop) -> Halted
+    ensures { ComesOf target stop result }
+{
     match stop {
         TargetStop::Store { .. } => Halted::Stopped(target),
         TargetStop::Foreign { .. } | TargetStop::Memory => Halted::Memory,
@@ -57,16 +61,16 @@ fn turn<S: Store, C: Clock>(
     message: usize,
     settling: bool,
 ) -> Result<(), Halted>
-    requires going { IsGoing S.durable S.state actors.old.clients.items actors.old.targets.items actors.old.between }
+    requires going { CanGo S.durable S.state actors.old.clients.items actors.old.targets.items actors.old.between }
     requires actor { IsActor (length actors.old.clients.items) (length actors.old.targets.items) actor }
     requires few_clients { length actors.old.clients.items ≤ 65535 }
     requires few_targets { length actors.old.targets.items ≤ 255 }
     requires message { message < max 1 (count_to actor actors.old.between.messages) }
     ensures steps { (r : Rules) (w : World) → Shows S.durable S.state r actors.old.clients.items actors.old.targets.items actors.old.between w
         → OnOk result (Steps S.durable S.state r actor message w actors.new.clients.items actors.new.targets.items actors.new.between) }
-    ensures going { OnOk result (IsGoing S.durable S.state actors.new.clients.items actors.new.targets.items actors.new.between) }
+    ensures going { OnOk result (CanGo S.durable S.state actors.new.clients.items actors.new.targets.items actors.new.between) }
     ensures many_clients { length actors.new.clients.items ≡ length actors.old.clients.items }
-    ensures many_targets { length actors.new.targets.items ≡ length actors.old.targets.items }
+    ensures stores { Leaves S.durable S.state result actors.old.targets.items actors.new.targets.items }
 {
     let number = usize::from(actor.number);
     if actor.client {
@@ -87,14 +91,14 @@ fn round<S: Store, C: Clock, G: Gate>(
     number: u64,
     settling: bool,
 ) -> Result<(), Halted>
-    requires going { IsGoing S.durable S.state actors.old.clients.items actors.old.targets.items actors.old.between }
+    requires going { CanGo S.durable S.state actors.old.clients.items actors.old.targets.items actors.old.between }
     requires few_clients { length actors.old.clients.items ≤ 65535 }
     requires few_targets { length actors.old.targets.items ≤ 255 }
     ensures round { (r : Rules) (w : World) → Shows S.durable S.state r actors.old.clients.items actors.old.targets.items actors.old.between w
         → OnOk result (IsShown S.durable S.state r (RoundOf r w) actors.new.clients.items actors.new.targets.items actors.new.between) }
-    ensures going { OnOk result (IsGoing S.durable S.state actors.new.clients.items actors.new.targets.items actors.new.between) }
+    ensures going { OnOk result (CanGo S.durable S.state actors.new.clients.items actors.new.targets.items actors.new.between) }
     ensures many_clients { length actors.new.clients.items ≡ length actors.old.clients.items }
-    ensures many_targets { length actors.new.targets.items ≡ length actors.old.targets.items }
+    ensures stores { Leaves S.durable S.state result actors.old.targets.items actors.new.targets.items }
 {
     for n in 0..actors.clients.len() {
         if actors.is_client_due(n) {
@@ -122,14 +126,14 @@ fn go_round<R: Wait, S: Store, C: Clock, G: Gate>(
     number: &mut u64,
     settling: bool,
 ) -> Result<(), Halted>
-    requires going { IsGoing S.durable S.state actors.old.clients.items actors.old.targets.items actors.old.between }
+    requires going { CanGo S.durable S.state actors.old.clients.items actors.old.targets.items actors.old.between }
     requires few_clients { length actors.old.clients.items ≤ 65535 }
     requires few_targets { length actors.old.targets.items ≤ 255 }
     ensures rounds { (r : Rules) (w : World) → Shows S.durable S.state r actors.old.clients.items actors.old.targets.items actors.old.between w
         → OnOk result (IsShown S.durable S.state r (InRounds r w) actors.new.clients.items actors.new.targets.items actors.new.between) }
-    ensures going { OnOk result (IsGoing S.durable S.state actors.new.clients.items actors.new.targets.items actors.new.between) }
+    ensures going { OnOk result (CanGo S.durable S.state actors.new.clients.items actors.new.targets.items actors.new.between) }
     ensures many_clients { length actors.new.clients.items ≡ length actors.old.clients.items }
-    ensures many_targets { length actors.new.targets.items ≡ length actors.old.targets.items }
+    ensures stores { Leaves S.durable S.state result actors.old.targets.items actors.new.targets.items }
 {
     for _ in rt.forever() {
         if actors.due(alloc, settling)?.is_empty() {
@@ -164,14 +168,14 @@ fn go_drawn<R: Wait, S: Store, C: Clock, G: Gate>(
     number: &mut u64,
     settling: bool,
 ) -> Result<(), Halted>
-    requires going { IsGoing S.durable S.state actors.old.clients.items actors.old.targets.items actors.old.between }
+    requires going { CanGo S.durable S.state actors.old.clients.items actors.old.targets.items actors.old.between }
     requires few_clients { length actors.old.clients.items ≤ 65535 }
     requires few_targets { length actors.old.targets.items ≤ 255 }
     ensures draws { (r : Rules) (w : World) → Shows S.durable S.state r actors.old.clients.items actors.old.targets.items actors.old.between w
         → OnOk result (IsShown S.durable S.state r (λ v. InDraws r x.old w x.new v) actors.new.clients.items actors.new.targets.items actors.new.between) }
-    ensures going { OnOk result (IsGoing S.durable S.state actors.new.clients.items actors.new.targets.items actors.new.between) }
+    ensures going { OnOk result (CanGo S.durable S.state actors.new.clients.items actors.new.targets.items actors.new.between) }
     ensures many_clients { length actors.new.clients.items ≡ length actors.old.clients.items }
-    ensures many_targets { length actors.new.targets.items ≡ length actors.old.targets.items }
+    ensures stores { Leaves S.durable S.state result actors.old.targets.items actors.new.targets.items }
 {
     for _ in rt.forever() {
         let due = actors.due(alloc, settling)?;
@@ -196,14 +200,14 @@ fn go<R: Wait, S: Store, C: Clock, G: Gate>(
     actors: &mut Actors<S, C>,
     gate: &G,
 ) -> Result<(), Halted>
-    requires going { IsGoing S.durable S.state actors.old.clients.items actors.old.targets.items actors.old.between }
+    requires going { CanGo S.durable S.state actors.old.clients.items actors.old.targets.items actors.old.between }
     requires few_clients { length actors.old.clients.items ≤ 65535 }
     requires few_targets { length actors.old.targets.items ≤ 255 }
     ensures order { (r : Rules) (w : World) → Shows S.durable S.state r actors.old.clients.items actors.old.targets.items actors.old.between w
         → OnOk result (IsShown S.durable S.state r (InOrder r order w) actors.new.clients.items actors.new.targets.items actors.new.between) }
-    ensures going { OnOk result (IsGoing S.durable S.state actors.new.clients.items actors.new.targets.items actors.new.between) }
+    ensures going { OnOk result (CanGo S.durable S.state actors.new.clients.items actors.new.targets.items actors.new.between) }
     ensures many_clients { length actors.new.clients.items ≡ length actors.old.clients.items }
-    ensures many_targets { length actors.new.targets.items ≡ length actors.old.targets.items }
+    ensures stores { Leaves S.durable S.state result actors.old.targets.items actors.new.targets.items }
 {
     let mut number = 0;
     if order == 0 {
@@ -228,12 +232,12 @@ pub fn run_in_order<R: Wait, S: Store, C: Clock, G: Gate>(
     targets: Vec<Target<S, C>>,
     gate: &G,
 ) -> (Vec<Target<S, C>>, Result<Lines, Halted>)
-    requires going { IsGoing S.durable S.state clients.items targets.items nothing }
+    requires going { CanGo S.durable S.state clients.items targets.items nothing }
     requires few_clients { length clients.items ≤ 65535 }
     requires few_targets { length targets.items ≤ 255 }
     ensures run { (r : Rules) (w : World) (o : Opening) → IsAlone r → IsBegun r o w → Shows S.durable S.state r clients.items targets.items nothing w
         → IfOk result.1 (λ lines. HasRun S.durable S.state r order w result.0.items lines) }
-    ensures many { length result.0.items ≡ length targets.items }
+    ensures stores { Leaves S.durable S.state result.1 targets.items result.0.items }
 {
     let mut actors = Actors {
         clients,

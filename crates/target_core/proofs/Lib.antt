@@ -2,7 +2,6 @@ pub mod Cover
 pub mod OwnEpochs
 pub mod Later
 pub mod Fetching
-pub mod Running
 pub mod Settling
 pub mod Turning
 pub mod Serving

@@ -1,6 +1,7 @@
 -- What a target says of its turns.
 pub mod Halts
 pub mod Parts
+pub mod Running
 pub mod Covers
 pub mod Meets
 pub mod Checks

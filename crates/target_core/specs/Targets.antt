@@ -1,5 +1,5 @@
 -- What a target is seen as, what holds of each, and what a turn of it comes to.
-use Rattle.std.specs.Prelude.{ℕ, ◌≡◌, ◌≤◌, ◌/◌, Bool, true, false, All, List, [], Option, Some, None, is_some, Result, Ok, Err}
+use Rattle.std.specs.Prelude.{ℕ, ◌≡◌, ◌≤◌, ◌/◌, Bool, true, false, All, List, [], ◌∷◌, Option, Some, None, is_some, Result, Ok, Err}
 use Rattle.std.specs.Option.{ForSome}
 use Rattle.daos_base.specs.declared.epoch.Epoch.{Epoch}
 use Rattle.daos_base.specs.declared.id.AttemptId.{AttemptId}
@@ -10,7 +10,8 @@ use Rattle.daos_base.specs.declared.report.Line.{Line}
 use Rattle.daos_base.specs.Operations.{read_path}
 use Rattle.daos_messages.specs.declared.actor.ActorId.{ActorId}
 use Rattle.daos_messages.specs.declared.message.Message.{Message}
-use Rattle.daos_messages.specs.declared.message.Message.TheVariants.{Fetch, Commit}
+use Rattle.daos_messages.specs.declared.message.Message.TheVariants.{Fetch, Fetched, Commit, Ended}
+use Rattle.daos_messages.specs.declared.message.Post.{Post}
 use Rattle.daos_model.specs.declared.durable.Durable.{Durable}
 use Rattle.daos_model.specs.Durables.{entry_of, is_enlisted}
 use Rattle.daos_model.specs.Forms.{is_read_in_form}
@@ -98,6 +99,20 @@ abbrev pub has_epoch : Message → Bool
 has_epoch (Fetch x op group ep first tracker r snapshot) = is_some ep
 has_epoch (Commit x ep first tracker ws) = is_some ep
 has_epoch m = false
+
+-- ---- what a turn sends
+
+-- an answer to a Fetch, or how an attempt ended
+abbrev pub is_answer : Message → Bool
+is_answer (Fetched x op group ep reply) = true
+is_answer (Ended x ep how) = true
+is_answer m = false
+
+-- one message is sent, an answer to the one who asked
+pub record IsAnswered (from : ActorId) (posts : List Post) : Type 0 where
+  pub answer : Message
+  pub kind : is_answer answer ≡ true
+  pub one : posts ≡ record { to = from; message = answer } ∷ []
 
 -- ---- what a turn comes to
 

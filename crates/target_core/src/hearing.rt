@@ -17,7 +17,7 @@ ghost use Rattle.world_turns.specs.Requests as asked;
 ghost use Rattle.target_core.specs.Checks.{AreEnlisted, AreWrites, IsAlone, IsNew};
 ghost use Rattle.target_core.specs.Parts.{Runs};
 ghost use Rattle.target_core.specs.Stops.{stop_foreign, stop_memory, stop_store};
-ghost use Rattle.target_core.specs.Targets.{CanCommit, CommitTurn, FetchTurn, IsReadAsked, LeadsWell, memory_of};
+ghost use Rattle.target_core.specs.Targets.{CanCommit, CommitTurn, FetchTurn, IsAnswered, IsReadAsked, LeadsWell, is_answer, memory_of};
 
 use crate::epochs::ready;
 use crate::halt::Halt;
@@ -80,7 +80,9 @@ fn says(
     message: Message,
     issued: Option<(AttemptId, Epoch)>,
 ) -> Result<Did, TargetStop>
+    requires answer { is_answer message ≡ true }
     ensures did { IfOk result (λ did. did ≡ asked.says to message issued) }
+    ensures posts { IfOk result (λ did. IsAnswered to did.posts) }
     ensures wanting { IfErr result (λ stop. stop ≡ stop_memory) }
 {
     let mut posts = Items::new(alloc);
@@ -112,6 +114,7 @@ fn reply_at<S: Store>(
         → FetchTurn plan m reading request.now from (FetchStage.Reading epoch knows.old.decided.items) d (S.state store.old)
         (S.durable store.new) (S.state store.new) (S.may store.new) (memory_of knows.new) result }
     ensures leads { says stop_store result ≡ false → ForSome (S.durable store.new) (LeadsWell (memory_of knows.new)) }
+    ensures posts { IfOk result (λ did. IsAnswered from did.posts) }
     ensures native { says stop_foreign result ≡ false }
     ensures clock { knows.new.hlc ≡ knows.old.hlc }
 {
@@ -150,6 +153,7 @@ pub(crate) fn hear_fetch<S: Store, C: Clock>(
         → FetchTurn plan (memory_of knows.old) reading request.now from FetchStage.Asked d (S.state store.old)
         (S.durable store.new) (S.state store.new) (S.may store.new) (memory_of knows.new) result) }
     ensures leads { says stop_store result ≡ false → ForSome (S.durable store.new) (LeadsWell (memory_of knows.new)) }
+    ensures posts { IfOk result (λ did. IsAnswered from did.posts) }
     ensures native { says stop_foreign result ≡ false }
     ensures own { knows.new.hlc.target ≡ plan.me }
     ensures unread { is_some request.now.ep ≡ true → clock.new ≡ clock.old }
@@ -191,6 +195,7 @@ fn end_at<S: Store>(
         → CommitTurn plan (S.state store.old).opening m reading request.now from (CommitStage.Checking epoch) d (S.state store.old)
         (S.durable store.new) (S.state store.new) (S.may store.new) (memory_of knows.new) result }
     ensures leads { says stop_store result ≡ false → ForSome (S.durable store.new) (LeadsWell (memory_of knows.new)) }
+    ensures posts { IfOk result (λ did. IsAnswered from did.posts) }
     ensures native { says stop_foreign result ≡ false }
     ensures clock { knows.new.hlc ≡ knows.old.hlc }
 {
@@ -235,6 +240,7 @@ pub(crate) fn hear_commit<S: Store, C: Clock>(
         → CommitTurn plan (S.state store.old).opening (memory_of knows.old) reading request.now from CommitStage.Asked d (S.state store.old)
         (S.durable store.new) (S.state store.new) (S.may store.new) (memory_of knows.new) result) }
     ensures leads { says stop_store result ≡ false → ForSome (S.durable store.new) (LeadsWell (memory_of knows.new)) }
+    ensures posts { IfOk result (λ did. IsAnswered from did.posts) }
     ensures native { says stop_foreign result ≡ false }
     ensures own { knows.new.hlc.target ≡ plan.me }
     ensures unread { is_some request.now.ep ≡ true → clock.new ≡ clock.old }

@@ -1,5 +1,5 @@
 // A target does its idle work.
-ghost use Rattle.std.specs.Prelude.{◌≡◌, ℕ, Some, false};
+ghost use Rattle.std.specs.Prelude.{◌≡◌, ℕ, [], IfOk, Some, false};
 ghost use Rattle.std.specs.Option.{ForSome};
 ghost use Rattle.daos_model.specs.declared.durable.Durable.{Durable};
 ghost use Rattle.vos_store.specs.Refusals.{always_stop, says};
@@ -58,6 +58,7 @@ pub(crate) fn idle_work<S: Store>(
     ensures turn { (d : Durable) → S.durable store.old ≡ Some d
         → IdlesOrStops (memory_of knows.old) d (S.state store.old) (S.durable store.new) (S.state store.new) (S.may store.new) (memory_of knows.new) result }
     ensures leads { says stop_store result ≡ false → ForSome (S.durable store.new) (LeadsWell (memory_of knows.new)) }
+    ensures posts { IfOk result (λ did. did.posts ≡ []) }
     ensures native { says stop_foreign result ≡ false }
     ensures clock { knows.new.hlc ≡ knows.old.hlc }
 {

@@ -6,7 +6,7 @@ ghost use Rattle.vos_store.specs.Refusals.{says};
 ghost use Rattle.target_core.specs.Asked.{message_of};
 ghost use Rattle.target_core.specs.Parts.{Runs};
 ghost use Rattle.target_core.specs.Stops.{stop_foreign, stop_store};
-ghost use Rattle.target_core.specs.Targets.{CanHear, HasForm, HearsOrStops, IdlesOrStops, IsHeard, has_epoch};
+ghost use Rattle.target_core.specs.Targets.{CanHear, HasForm, HearsOrStops, IdlesOrStops, IsAnswered, IsHeard, has_epoch};
 
 use crate::asked::{Asked, asked_by};
 use crate::hearing::{hear_commit, hear_fetch};
@@ -114,6 +114,7 @@ impl<S: Store, C: Clock> Target<S, C> {
         ensures turn { (reading : ℕ) × IfSome (C.next self.old.clock) (λ r. r ≡ reading) × ((d : Durable) → S.durable self.old.store ≡ Some d
             → HearsOrStops self.old.plan self.old.memory reading from (message_of asked.now) d (S.state self.old.store)
             (S.durable self.new.store) (S.state self.new.store) (S.may self.new.store) self.new.memory result) }
+        ensures posts { IfOk result (λ did. IsAnswered from did.posts) }
         ensures native { says stop_foreign result ≡ false }
         ensures unread { has_epoch (message_of asked.now) ≡ true → self.new.clock ≡ self.old.clock }
     {
@@ -132,8 +133,9 @@ impl<S: Store, C: Clock> Target<S, C> {
         }
     }
 
-    /// It hears a message, a Fetch or a Commit so far, and tells what follows. Its clock is read only
-    /// where an epoch is issued. The number is one drawn for this turn, which none of these uses.
+    /// It hears a message, a Fetch or a Commit so far, and tells what follows: one answer, to the one
+    /// who asked. Its clock is read only where an epoch is issued. The number is one drawn for this
+    /// turn, which none of these uses.
     ///
     /// # Errors
     ///
@@ -152,6 +154,7 @@ impl<S: Store, C: Clock> Target<S, C> {
         ensures turn { (reading : ℕ) × IfSome (C.next self.old.clock) (λ r. r ≡ reading) × ((d : Durable) → S.durable self.old.store ≡ Some d
             → HearsOrStops self.old.plan self.old.memory reading from message d (S.state self.old.store)
             (S.durable self.new.store) (S.state self.new.store) (S.may self.new.store) self.new.memory result) }
+        ensures posts { IfOk result (λ did. IsAnswered from did.posts) }
         ensures native { says stop_foreign result ≡ false }
         ensures unread { has_epoch message ≡ true → self.new.clock ≡ self.old.clock }
     {
@@ -160,8 +163,8 @@ impl<S: Store, C: Clock> Target<S, C> {
         self.answer(from, &asked)
     }
 
-    /// It does its idle work: it settles the attempts that it decided. A settling phase asks no more
-    /// of it so far.
+    /// It does its idle work: it settles the attempts that it decided, and sends nothing. A settling
+    /// phase asks no more of it so far.
     ///
     /// # Errors
     ///
@@ -174,6 +177,7 @@ impl<S: Store, C: Clock> Target<S, C> {
         ensures turn { (d : Durable) → S.durable self.old.store ≡ Some d
             → IdlesOrStops self.old.memory d (S.state self.old.store)
             (S.durable self.new.store) (S.state self.new.store) (S.may self.new.store) self.new.memory result }
+        ensures posts { IfOk result (λ did. did.posts ≡ []) }
         ensures native { says stop_foreign result ≡ false }
     {
         let _settling = settling;

@@ -2,4 +2,5 @@
 pub mod Judged
 pub mod ScriptForm
 pub mod Asking
+pub mod Posting
 pub mod Everything

@@ -4,6 +4,7 @@
 ghost use Rattle.world_core.specs.Asking.{RequestsAreRight};
 ghost use Rattle.world_core.specs.Everything.{EventsKeepEverything, RunsKeepEverything};
 ghost use Rattle.world_core.specs.Judged.{ClientsKeepJudged};
+ghost use Rattle.world_core.specs.Posting.{ClientsPostInForm, HearersPostInForm};
 ghost use Rattle.world_core.specs.ScriptForm.{ReadsAreInForm, WritesAreInForm};
 
 /// Says that every turn of a client keeps, all together, what goes about and what lines tell, what
@@ -21,10 +22,14 @@ pub fn laws_of_requests()
     ensures right { RequestsAreRight }
 {}
 
-/// Says that what a script in form reads is in form, and so are the writes of each of its attempts.
+/// Says that what a script in form reads is in form, and so are the writes of each of its attempts. So
+/// is all that its clients send, whatever they heard, where they make no snapshot, read at none, and
+/// don't aggregate: reads and writes go to targets, and trackers to clients.
 pub fn laws_of_forms()
     ensures reads { ReadsAreInForm }
     ensures writes { WritesAreInForm }
+    ensures posts { ClientsPostInForm }
+    ensures answers { HearersPostInForm }
 {}
 
 /// Says that every event of a run of one target keeps, all together: what goes about, what lines tell,

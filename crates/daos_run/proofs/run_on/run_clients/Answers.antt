@@ -1,32 +1,37 @@
 use Rattle.std.specs.Prelude.{IfOk, length}
 use Rattle.std.proofs.Common.{◌∙◌, ap, subst, sym}
-use Rattle.daos_run.proofs.Begun.{first, is-alone, is-begun, is-going, is-heard, is-shown}
+use Rattle.daos_run.proofs.Begun.{can-go, first, is-alone, is-begun, is-heard, is-shown}
+use Rattle.daos_run.proofs.OneStore.{halted-so, may, ran, some-kept}
 use Rattle.daos_run.proofs.Reported.{reports}
-use Rattle.daos_model.specs.Opening.{fresh}
+use Rattle.daos_run.specs.Opens.{given}
+use Rattle.run_actors.specs.CanGo.{CanGo}
+use Rattle.run_actors.specs.Shows.{Shows}
 use Rattle.run_order.specs.Ended.{HasRun, nothing}
-use Rattle.run_order.specs.Shows.{IsGoing, Shows}
 use Rattle.world_ends.specs.Ends.{rules_of}
 use Rattle.daos_run.proofs.run_on.run_clients.Goals as goal
 
 pub targets_of-requires-clause-opened : goal.targets_of-requires-clause-opened
-targets_of-requires-clause-opened g c d told = is-heard g.S.Store.durable g.S.Store.state c.args.script.now c.args.job.now c.args.store d c.requires.script c.requires.opened told
+targets_of-requires-clause-opened g c d told = is-heard g.S.Store.durable g.S.Store.state c.args.script.now c.args.store d c.requires.opened told
 
 pub run_in_order-targets-requires-clause-going : goal.run_in_order-targets-requires-clause-going
 run_in_order-targets-requires-clause-going g c =
     let n = c.in-Ok.ensures in
-    subst (λ xs. IsGoing g.S.Store.durable g.S.Store.state c.args.clients.items xs nothing) (sym n.only)
-    (is-going g.S.Store.durable g.S.Store.state c.args.script.now c.args.job.now c.args.store c.args.clients.items n.target c.requires.script c.requires.least c.requires.opened c.requires.first n.new)
+    subst (λ xs. CanGo g.S.Store.durable g.S.Store.state c.args.clients.items xs nothing) (sym n.only)
+    (can-go g.S.Store.durable g.S.Store.state c.args.script.now c.args.job.now c.args.store c.args.clients.items n.target c.requires.script c.requires.least c.requires.opened c.requires.first n.new)
 
-pub returns-in-Ok-ran : goal.returns-in-Ok-ran
-returns-in-Ok-ran g c =
+pub returns-in-Ok-ran-clause-reports : goal.returns-in-Ok-ran-clause-reports
+returns-in-Ok-ran-clause-reports g c free room tells =
     let n = c.in-Ok.ensures in
     let q = c.requires in
-    let w = first g.S.Store.durable g.S.Store.state c.args.script.now c.args.job.now c.args.store c.args.clients.items n.target q.script q.least q.opened q.first n.new in
-    let begun = is-begun g.S.Store.durable g.S.Store.state c.args.script.now c.args.job.now c.args.store c.args.clients.items n.target q.script q.least q.opened q.first n.new in
-    let alone = is-alone c.args.script.now c.args.job.now q.script q.least in
-    let shown = subst (λ xs. Shows g.S.Store.durable g.S.Store.state (rules_of (fresh c.args.script.now c.args.job.now)) c.args.clients.items xs nothing w) (sym n.only)
-    (is-shown g.S.Store.durable g.S.Store.state c.args.script.now c.args.job.now c.args.store c.args.clients.items n.target q.script q.least q.opened q.first n.new) in
+    let s = c.args.script.now in
+    let j = c.args.job.now in
+    let d = some-kept (g.S.Store.durable c.args.store) tells in
+    let w = first g.S.Store.durable g.S.Store.state s j free c.args.store c.args.clients.items n.target q.script q.least q.opened room d.0 d.1 q.first n.new in
+    let begun = is-begun g.S.Store.durable g.S.Store.state s j free c.args.store c.args.clients.items n.target q.script q.least q.opened room d.0 d.1 q.first n.new in
+    let alone = is-alone s j free q.script q.least in
+    let shown = subst (λ xs. Shows g.S.Store.durable g.S.Store.state (rules_of (given s j free)) c.args.clients.items xs nothing w) (sym n.only)
+    (is-shown g.S.Store.durable g.S.Store.state s j free c.args.store c.args.clients.items n.target q.script q.least q.opened room d.0 d.1 q.first n.new) in
     let xs = c.run_in_order-targets.result.0.items in
-    let ran = subst (λ r. IfOk r (λ lines. HasRun g.S.Store.durable g.S.Store.state (rules_of (fresh c.args.script.now c.args.job.now)) c.args.job.now.order w xs lines)) c.in-Ok-ran.is
-    (c.run_in_order-targets.ensures.run (rules_of (fresh c.args.script.now c.args.job.now)) w (fresh c.args.script.now c.args.job.now).opening alone begun shown) in
-    reports g.S.Store.durable g.S.Store.state c.args.script.now c.args.job.now w xs c.in-Ok-ran.lines c.parts_of-store.result.0 q.script q.least q.most begun ran (c.run_in_order-targets.ensures.many ∙ ap length n.only) c.parts_of-store.ensures
+    let went = subst (λ r. IfOk r (λ lines. HasRun g.S.Store.durable g.S.Store.state (rules_of (given s j free)) j.order w xs lines)) c.in-Ok-ran.is
+    (c.run_in_order-targets.ensures.run (rules_of (given s j free)) w (given s j free).opening alone begun shown) in
+    reports g.S.Store.durable g.S.Store.state s j free w xs c.in-Ok-ran.lines c.parts_of-store.result.0 q.script q.least q.most begun went (c.run_in_order-targets.ensures.stores.stores.many ∙ ap length n.only) c.parts_of-store.ensures

@@ -1,11 +1,13 @@
-use Rattle.std.specs.Prelude.{◌≡◌, ◌%◌, All, Some, length, slice_get}
-use Rattle.std.proofs.Common.{◌∙◌, ap, subst, sym}
+use Rattle.std.specs.Prelude.{◌≡◌, ◌%◌, All, Err, Some, length, slice_get}
+use Rattle.std.proofs.Common.{◌∙◌, ap, rules, subst, sym}
 use Rattle.std.proofs.lemmas.List.Elements.{All-get_or}
-use Rattle.run_order.specs.Due.{IsActor}
+use Rattle.run_actors.specs.Due.{IsActor}
 use Rattle.daos_draw.specs.Draws.{drawn}
-use Rattle.run_order.proofs.Dues.{at-index}
+use Rattle.run_actors.specs.ListLaws.{at-index}
 use Rattle.run_order.proofs.Ends.{due-are-actors, one-of}
 use Rattle.run_order.proofs.Going.{goes-none}
+use Rattle.run_order.proofs.Leaving.{all-run, leaves-ok, leaves-so, leaves-wanting}
+use Rattle.run_order.specs.Halts.{wanting}
 use Rattle.run_order.proofs.Loops.{draw-more, draws-over, from_draw, none-in, not-none, some-pick}
 use Rattle.run_picks.specs.Orders.{NoDraw, after_pick, pick}
 use Rattle.run_order.proofs.order.go_drawn.Goals as goal
@@ -48,4 +50,17 @@ loop-preserved g c =
     a c.heard_by.result c.pick-message.result new.clients.items new.targets.items new.between c.loop.invariant
     (subst (λ as'. slice_get as' (drawn c.loop.x % length as') ≡ Some a) c.in_ok-due.ensures its) c.heard_by.ensures.heard
     (c.pick-message.ensures.number ∙ ap (λ z. pick z c.heard_by.result) one.1) (c.pick-message.ensures.last ∙ ap (λ z. after_pick z c.heard_by.result) one.1)
-    c.in_ok-turn.ensures.steps c.in_ok-turn.ensures.going c.in_ok-turn.ensures.many_clients c.in_ok-turn.ensures.many_targets
+    c.in_ok-turn.ensures.steps c.in_ok-turn.ensures.going c.in_ok-turn.ensures.many_clients (all-run g.S.Store.durable g.S.Store.state _ now.targets.items new.targets.items c.in_ok-turn.ensures.stores)
+
+pub returns-in_err-due-clause-stores : goal.returns-in_err-due-clause-stores
+returns-in_err-due-clause-stores g c =
+    let is : c.from_residual.result ≡ Err wanting = search rules in
+    leaves-wanting g.S.Store.durable g.S.Store.state c.from_residual.result c.args.actors.now.targets.items c.loop.actors.targets.items is c.loop.invariant.stores
+
+pub returns-then-is_empty-clause-stores : goal.returns-then-is_empty-clause-stores
+returns-then-is_empty-clause-stores g c = leaves-ok g.S.Store.durable g.S.Store.state (tt {0}) c.args.actors.now.targets.items c.loop.actors.targets.items c.loop.invariant.stores
+
+pub returns-in_err-turn-clause-stores : goal.returns-in_err-turn-clause-stores
+returns-in_err-turn-clause-stores g c =
+    let is : c.from_residual-in_err-turn.result ≡ Err c.in_err-turn.field-0.0 = search rules in
+    leaves-so g.S.Store.durable g.S.Store.state c.in_err-turn.field-0.0 c.from_residual-in_err-turn.result c.args.actors.now.targets.items c.loop.actors.targets.items c.turn.new.actors.targets.items is c.loop.invariant.stores c.in_err-turn.ensures.stores

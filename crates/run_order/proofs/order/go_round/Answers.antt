@@ -1,7 +1,10 @@
 use Rattle.run_order.proofs.Going.{goes-none}
+use Rattle.run_order.proofs.Leaving.{all-run, leaves-ok, leaves-so, leaves-wanting}
+use Rattle.run_order.specs.Halts.{wanting}
 use Rattle.run_order.proofs.Loops.{none-in, round-more, rounds-over, some-in}
 use Rattle.run_picks.specs.Orders.{NoRound, Rounds}
-use Rattle.std.proofs.Common.{◌∙◌, sym}
+use Rattle.std.specs.Prelude.{◌≡◌, Err}
+use Rattle.std.proofs.Common.{◌∙◌, rules, sym}
 use Rattle.run_order.proofs.order.go_round.Goals as goal
 
 pub loop-init : goal.loop-init
@@ -19,4 +22,17 @@ loop-preserved g c =
     let new = c.round.new.actors in
     round-more g.S.Store.durable g.S.Store.state c.args.actors.now.clients.items c.args.actors.now.targets.items c.args.actors.now.between now.clients.items now.targets.items now.between new.clients.items new.targets.items new.between
     c.loop.invariant (λ none. some-in c.in_ok-due.field-0.items c.in_ok-due.field-0.len c.if-is_empty.ensures c.in_ok-due.field-0.ok.0 (c.in_ok-due.ensures ∙ none))
-    c.in_ok-round.ensures.round c.in_ok-round.ensures.going c.in_ok-round.ensures.many_clients c.in_ok-round.ensures.many_targets
+    c.in_ok-round.ensures.round c.in_ok-round.ensures.going c.in_ok-round.ensures.many_clients (all-run g.S.Store.durable g.S.Store.state _ now.targets.items new.targets.items c.in_ok-round.ensures.stores)
+
+pub returns-in_err-due-clause-stores : goal.returns-in_err-due-clause-stores
+returns-in_err-due-clause-stores g c =
+    let is : c.from_residual.result ≡ Err wanting = search rules in
+    leaves-wanting g.S.Store.durable g.S.Store.state c.from_residual.result c.args.actors.now.targets.items c.loop.actors.targets.items is c.loop.invariant.stores
+
+pub returns-then-is_empty-clause-stores : goal.returns-then-is_empty-clause-stores
+returns-then-is_empty-clause-stores g c = leaves-ok g.S.Store.durable g.S.Store.state (tt {0}) c.args.actors.now.targets.items c.loop.actors.targets.items c.loop.invariant.stores
+
+pub returns-in_err-round-clause-stores : goal.returns-in_err-round-clause-stores
+returns-in_err-round-clause-stores g c =
+    let is : c.from_residual-in_err-round.result ≡ Err c.in_err-round.field-0.0 = search rules in
+    leaves-so g.S.Store.durable g.S.Store.state c.in_err-round.field-0.0 c.from_residual-in_err-round.result c.args.actors.now.targets.items c.loop.actors.targets.items c.round.new.actors.targets.items is c.loop.invariant.stores c.in_err-round.ensures.stores

@@ -1,7 +1,7 @@
 use Rattle.std.proofs.Common.{subst, sym}
 use Rattle.std.specs.Prelude.{◌<◌, length}
 use Rattle.run_order.proofs.Dues.{heard-by}
-use Rattle.run_order.proofs.Shown.{client-heard-shown}
+use Rattle.run_actors.specs.Shown.{client-heard-shown}
 use Rattle.run_order.proofs.order.heard_by.Goals as goal
 
 pub returns-then-actor-clause-heard : goal.returns-then-actor-clause-heard

@@ -1,6 +1,8 @@
-use Rattle.std.proofs.Common.{subst}
-use Rattle.run_order.specs.Shows.{Steps}
-use Rattle.run_order.proofs.Dues.{named-client, named-target}
+use Rattle.std.specs.Prelude.{◌≤◌, ◌<◌, length}
+use Rattle.std.proofs.Common.{arith, subst, sym}
+use Rattle.run_actors.specs.Shows.{Steps}
+use Rattle.run_order.proofs.Leaving.{leaves-ok, leaves-wanting, turn-stopped, turn-whole}
+use Rattle.run_actors.specs.Shown.{named-client, named-target}
 use Rattle.run_order.proofs.order.turn.Goals as goal
 
 pub returns-then-actor-clause-steps : goal.returns-then-actor-clause-steps
@@ -12,3 +14,13 @@ pub returns-in-Ok-clause-steps : goal.returns-in-Ok-clause-steps
 returns-in-Ok-clause-steps g c r w k =
     subst (λ a. Steps g.S.Store.durable g.S.Store.state r a c.args.message w c.target_turn.new.self.clients.items c.target_turn.new.self.targets.items c.target_turn.new.self.between)
     (named-target c.args.actor c.from-number.result c.if-actor.false c.from-number.ensures) (c.in-Ok.ensures.steps r w k)
+
+pub returns-in-Ok-clause-stores : goal.returns-in-Ok-clause-stores
+returns-in-Ok-clause-stores g c =
+    leaves-ok g.S.Store.durable g.S.Store.state (tt {0}) c.args.actors.now.targets.items c.target_turn.new.self.targets.items (turn-whole g.S.Store.durable g.S.Store.state _ c.from-number.result c.args.actors.now.targets.items c.target_turn.new.self.targets.items c.in-Ok.ensures.stores)
+
+pub returns-in-Err-clause-stores : goal.returns-in-Err-clause-stores
+returns-in-Err-clause-stores g c =
+    let within : c.from-number.result < length c.args.actors.now.targets.items = subst (λ n. n < length c.args.actors.now.targets.items) (sym c.from-number.ensures) (c.requires.actor.target c.if-actor.false) in
+    let few : length c.args.actors.now.targets.items ≤ 255 = c.requires.few_targets in
+    turn-stopped g.S.Store.durable g.S.Store.state _ c.from-number.result c.in-Err.stop c.halted_by.result c.args.actors.now.targets.items c.target_turn.new.self.targets.items (omega (arith, within, few)) within c.halted_by.ensures c.in-Err.ensures.stores

@@ -12,7 +12,7 @@ use Rattle.target_core.specs.Targets.{LeadsWell, memory_of}
 use Rattle.target_core.proofs.Ending.{only_memory, part_wanting, turn_halted}
 use Rattle.target_core.proofs.Paths.{ends_decided, has_epochs, stores_decided, stores_heard, stores_issued, stores_on}
 use Rattle.target_core.proofs.Replying.{commit_ended, memory_once_ended}
-use Rattle.target_core.proofs.Running.{for_some_on}
+use Rattle.target_core.specs.Running.{for_some_on}
 use Rattle.target_core.proofs.hearing.end_at.Goals as goal
 
 pub commit-requires-clause-epochs : goal.commit-requires-clause-epochs

@@ -5,7 +5,7 @@ use Rattle.target_core.specs.Checks.{AreEnlisted, IsNew}
 use Rattle.target_core.specs.Covers.{ReadiesOrCut, epoch_for, heard_of}
 use Rattle.target_core.specs.Targets.{LeadsWell, memory_of}
 use Rattle.target_core.proofs.Readying.{enlisted-leased, leads-leased, leases}
-use Rattle.target_core.proofs.Running.{for_some_on}
+use Rattle.target_core.specs.Running.{for_some_on}
 use Rattle.target_core.proofs.WholeTurns.{commit_cut, commit_on, commit_spent, epoch_known, new_leased, unused_epoch}
 use Rattle.target_core.proofs.hearing.hear_commit.Goals as goal
 

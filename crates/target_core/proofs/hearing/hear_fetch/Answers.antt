@@ -8,7 +8,7 @@ use Rattle.target_core.specs.Targets.{LeadsWell, memory_of}
 use Rattle.target_core.proofs.Ending.{some_reading}
 use Rattle.target_core.proofs.WholeTurns.{epoch_known, fetch_at_snapshot, fetch_cut, fetch_on, fetch_spent, ticks_at_snapshot, ticks_heard}
 use Rattle.target_core.proofs.Readying.{enlisted-leased, leads-leased, leases}
-use Rattle.target_core.proofs.Running.{for_some_on}
+use Rattle.target_core.specs.Running.{for_some_on}
 use Rattle.target_core.proofs.hearing.hear_fetch.Goals as goal
 
 pub returns-then-request-clause-turn : goal.returns-then-request-clause-turn

@@ -11,7 +11,7 @@ use Rattle.target_core.specs.Targets.{LeadsWell, memory_of}
 use Rattle.target_core.proofs.Ending.{only_memory, part_wanting, turn_halted}
 use Rattle.target_core.proofs.Paths.{has_epochs, reads_on}
 use Rattle.target_core.proofs.Replying.{fetch_replied, memory_once_replied}
-use Rattle.target_core.proofs.Running.{for_some_on}
+use Rattle.target_core.specs.Running.{for_some_on}
 use Rattle.target_core.proofs.hearing.reply_at.Goals as goal
 
 pub read-requires-clause-epochs : goal.read-requires-clause-epochs

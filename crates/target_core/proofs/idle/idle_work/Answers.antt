@@ -5,7 +5,7 @@ use Rattle.target_core.specs.Meets.{AreDecided}
 use Rattle.target_core.specs.Parts.{kept}
 use Rattle.target_core.specs.Targets.{LeadsWell, memory_of}
 use Rattle.target_core.proofs.Paths.{idles_heard}
-use Rattle.target_core.proofs.Running.{for_some_on}
+use Rattle.target_core.specs.Running.{for_some_on}
 use Rattle.target_core.proofs.Turning.{whole}
 use Rattle.target_core.proofs.idle.idle_work.Goals as goal
 

@@ -10,7 +10,7 @@ use Rattle.target_core.specs.Idling.{SettlesAll}
 use Rattle.target_core.specs.Meets.{AreDecided}
 use Rattle.target_core.proofs.Cover.{was_cut}
 use Rattle.target_core.proofs.IdleSteps.{idle_decided, idle_over, idles_cut, idles_on}
-use Rattle.target_core.proofs.Running.{for_some_on, runs_call, runs_first, runs_on, still_runs}
+use Rattle.target_core.specs.Running.{for_some_on, runs_call, runs_first, runs_on, still_runs}
 use Rattle.target_core.proofs.Turning.{reached_none}
 use Rattle.target_core.proofs.idle.settle_all.Goals as goal
 

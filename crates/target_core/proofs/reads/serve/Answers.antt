@@ -12,7 +12,7 @@ use Rattle.world_turns.specs.Reads.{FetchNext, Reading}
 use Rattle.target_core.specs.Halts.{halt_stop}
 use Rattle.target_core.specs.Meets.{AreDecided, HasEpochs, Meets}
 use Rattle.target_core.proofs.Cover.{was_cut}
-use Rattle.target_core.proofs.Running.{for_some_on, runs_call, runs_first, runs_on, still_runs}
+use Rattle.target_core.specs.Running.{for_some_on, runs_call, runs_first, runs_on, still_runs}
 use Rattle.target_core.proofs.Serving.{serves_answer, serves_cut, serves_on, serves_refusal, serves_unresolved}
 use Rattle.target_core.proofs.Settling.{decided-without, enlisted-settled, epochs-settled, fewer}
 use Rattle.target_core.proofs.Turning.{part_asked, part_cut, reached_none}

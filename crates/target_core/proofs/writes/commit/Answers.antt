@@ -2,7 +2,7 @@ use Rattle.std.proofs.Common.{◌≡◌, Err, Some, rules, subst, sym}
 use Rattle.world_turns.specs.Commits.{Checking, CommitNext, IsAllowed}
 use Rattle.target_core.specs.Checks.{Checks, IsNew}
 use Rattle.target_core.proofs.Committing.{commit_moved, refuses}
-use Rattle.target_core.proofs.Running.{for_some_on}
+use Rattle.target_core.specs.Running.{for_some_on}
 use Rattle.target_core.proofs.Turning.{part_asked, reached_none}
 use Rattle.target_core.proofs.writes.commit.Goals as goal
 

@@ -3,7 +3,7 @@ use Rattle.daos_model.specs.FormLaws.{path-in_form}
 use Rattle.daos_model.specs.Forms.{is_path_in_form, is_write_in_form}
 use Rattle.world_turns.specs.Reads.{later_of}
 use Rattle.target_core.specs.Halts.{halt_stop}
-use Rattle.target_core.proofs.Running.{runs_on, still_runs}
+use Rattle.target_core.specs.Running.{runs_on, still_runs}
 use Rattle.target_core.proofs.Writing.{item_holds, later_found, later_passes, laters_passed}
 use Rattle.target_core.proofs.writes.first_later.Goals as goal
 

@@ -57,6 +57,20 @@ still_runs stop result h k old new going r = record {
   told = r.told;
 }
 
+-- a result that answers Stopped in the same case
+pub runs_as : {T E U F : Type 0} (stop : E → Bool) (result : Result T E) (other : F → Bool) (said : Result U F) (h k : State) (old new : Option Durable) → says other said ≡ says stop result → Runs stop result h k old new → Runs other said h k old new
+runs_as stop result other said h k old new same r = record {
+  faults = r.faults;
+  burns = r.burns;
+  fuse = r.fuse;
+  tells_fuse = r.tells_fuse;
+  stops = r.stops ∙ sym same;
+  cause = λ s. r.cause (sym same ∙ s);
+  targets = r.targets;
+  opening = r.opening;
+  told = r.told;
+}
+
 -- before any call
 pub runs_first : (h : State) (old : Option Durable) → h.stopped ≡ false → StillRuns h h old old
 runs_first h old running = record {

@@ -3,7 +3,7 @@ use Rattle.std.specs.Prelude.{◌≡◌, List, ◌++◌, map, Result, Ok, Err, O
 use Rattle.std.proofs.Common.{◌∙◌, ap}
 use Rattle.daos_messages.specs.declared.actor.ActorId.{ActorId}
 use Rattle.run_letters.specs.Letters.{BetweenNow}
-use Rattle.run_order.proofs.Turns.{Follows}
+use Rattle.run_actors.proofs.Turns.{Follows}
 use Rattle.world_base.specs.declared.did.Did.{Did}
 use Rattle.world_base.specs.declared.letter.Letter.{Letter}
 use Rattle.world_events.specs.Events.{listed, with_epoch}

@@ -2,8 +2,10 @@
 ghost use Rattle.std.specs.Prelude.{◌≡◌, ◌≤◌, ◌<◌, max, length, slice_get, IfOk, OnOk, Some};
 ghost use Rattle.client_core.specs.Clients.{ClientNow};
 ghost use Rattle.target_core.specs.Targets.{TargetOf};
-ghost use Rattle.run_order.specs.Due.{due_actors, is_due_client, is_due_target};
-ghost use Rattle.run_order.specs.Shows.{IsGoing, Shows, Steps};
+ghost use Rattle.run_actors.specs.Due.{due_actors, is_due_client, is_due_target};
+ghost use Rattle.run_actors.specs.CanGo.{CanGo};
+ghost use Rattle.run_actors.specs.Shows.{Shows, Steps};
+ghost use Rattle.run_actors.specs.Stores.{StoresRun, stops_at};
 ghost use Rattle.run_picks.specs.Picks.{count_to, heard_awake, is_client_due, is_target_due};
 ghost use Rattle.world_base.specs.declared.world.World.{World};
 ghost use Rattle.world_events.specs.Events.{Rules};
@@ -20,14 +22,17 @@ use target_core::target::Target;
 use vos_store::store::Store;
 
 /// The clients and the targets of a run, in the order of their numbers, and what lies between them.
-pub(crate) struct Actors<S: Store, C: Clock> {
-    pub(crate) clients: Vec<Client>,
-    pub(crate) targets: Vec<Target<S, C>>,
-    pub(crate) between: Between,
+pub struct Actors<S: Store, C: Clock> {
+    /// The clients.
+    pub clients: Vec<Client>,
+    /// The targets.
+    pub targets: Vec<Target<S, C>>,
+    /// What lies between them.
+    pub between: Between,
 }
 
 /// The name of a client.
-pub(crate) fn client_id(n: usize) -> ActorId
+pub fn client_id(n: usize) -> ActorId
     requires { n < 65536 }
     ensures { result ≡ client n }
 {
@@ -38,7 +43,7 @@ pub(crate) fn client_id(n: usize) -> ActorId
 }
 
 /// The name of a target.
-pub(crate) fn target_id(t: usize) -> ActorId
+pub fn target_id(t: usize) -> ActorId
     requires { t < 65536 }
     ensures { result ≡ target t }
 {
@@ -50,7 +55,7 @@ pub(crate) fn target_id(t: usize) -> ActorId
 
 impl<S: Store, C: Clock> Actors<S, C> {
     /// Of how many messages a client hears one in its next turn; of none where it skips that turn.
-    pub(crate) fn heard_by_client(&self, n: usize) -> usize
+    pub fn heard_by_client(&self, n: usize) -> usize
         requires within { n < length self.now.clients.items }
         requires few { n < 65536 }
         ensures { (c : ClientNow) → slice_get self.now.clients.items n ≡ Some c → result ≡ heard_awake c.state (count_to (client n) self.now.between.messages) }
@@ -63,7 +68,7 @@ impl<S: Store, C: Clock> Actors<S, C> {
     }
 
     /// Of how many messages a target hears one in its next turn.
-    pub(crate) fn heard_by_target(&self, t: usize) -> usize
+    pub fn heard_by_target(&self, t: usize) -> usize
         requires few { t < 65536 }
         ensures { result ≡ count_to (target t) self.now.between.messages }
     {
@@ -71,7 +76,7 @@ impl<S: Store, C: Clock> Actors<S, C> {
     }
 
     /// Whether a client has something to do.
-    pub(crate) fn is_client_due(&self, n: usize) -> bool
+    pub fn is_client_due(&self, n: usize) -> bool
         requires within { n < length self.now.clients.items }
         requires few { n < 65536 }
         ensures { result ≡ is_due_client self.now.between.messages n (slice_get self.now.clients.items n) }
@@ -83,7 +88,7 @@ impl<S: Store, C: Clock> Actors<S, C> {
     }
 
     /// Whether a target has something to do.
-    pub(crate) fn is_target_due(&self, t: usize, settling: bool) -> bool
+    pub fn is_target_due(&self, t: usize, settling: bool) -> bool
         requires within { t < length self.now.targets.items }
         requires few { t < 65536 }
         ensures { result ≡ is_due_target self.now.between.messages t (slice_get self.now.targets.items t) }
@@ -93,16 +98,20 @@ impl<S: Store, C: Clock> Actors<S, C> {
 
     /// A turn of a client: it counts a skip, hears the message of this number among those to it, or
     /// goes on.
-    pub(crate) fn client_turn(&mut self, n: usize, number: usize) -> Result<(), Memory>
-        requires going { IsGoing S.durable S.state self.old.clients.items self.old.targets.items self.old.between }
+    ///
+    /// # Errors
+    ///
+    /// For want of memory.
+    pub fn client_turn(&mut self, n: usize, number: usize) -> Result<(), Memory>
+        requires going { CanGo S.durable S.state self.old.clients.items self.old.targets.items self.old.between }
         requires within { n < length self.old.clients.items }
         requires few { n < 65536 }
         requires number { number < max 1 (count_to (client n) self.old.between.messages) }
         ensures steps { (r : Rules) (w : World) → Shows S.durable S.state r self.old.clients.items self.old.targets.items self.old.between w
             → OnOk result (Steps S.durable S.state r (client n) number w self.new.clients.items self.new.targets.items self.new.between) }
-        ensures going { OnOk result (IsGoing S.durable S.state self.new.clients.items self.new.targets.items self.new.between) }
+        ensures going { OnOk result (CanGo S.durable S.state self.new.clients.items self.new.targets.items self.new.between) }
         ensures many_clients { length self.new.clients.items ≡ length self.old.clients.items }
-        ensures many_targets { length self.new.targets.items ≡ length self.old.targets.items }
+        ensures targets { self.new.targets.items ≡ self.old.targets.items }
     {
         let hears = self.heard_by_client(n) > 0;
         let Actors {
@@ -121,21 +130,25 @@ impl<S: Store, C: Clock> Actors<S, C> {
 
     /// A turn of a target: it hears the message of this number among those to it, or does its idle
     /// work.
-    pub(crate) fn target_turn(
+    ///
+    /// # Errors
+    ///
+    /// `Store` where its store stopped, and then a count of that store rose; else for want of memory.
+    pub fn target_turn(
         &mut self,
         t: usize,
         number: usize,
         settling: bool,
     ) -> Result<(), TargetStop>
-        requires going { IsGoing S.durable S.state self.old.clients.items self.old.targets.items self.old.between }
+        requires going { CanGo S.durable S.state self.old.clients.items self.old.targets.items self.old.between }
         requires within { t < length self.old.targets.items }
         requires few { t < 65536 }
         requires number { number < max 1 (count_to (target t) self.old.between.messages) }
         ensures steps { (r : Rules) (w : World) → Shows S.durable S.state r self.old.clients.items self.old.targets.items self.old.between w
             → OnOk result (Steps S.durable S.state r (target t) number w self.new.clients.items self.new.targets.items self.new.between) }
-        ensures going { OnOk result (IsGoing S.durable S.state self.new.clients.items self.new.targets.items self.new.between) }
+        ensures going { OnOk result (CanGo S.durable S.state self.new.clients.items self.new.targets.items self.new.between) }
         ensures many_clients { length self.new.clients.items ≡ length self.old.clients.items }
-        ensures many_targets { length self.new.targets.items ≡ length self.old.targets.items }
+        ensures stores { StoresRun S.durable S.state (stops_at t) result self.old.targets.items self.new.targets.items }
     {
         let hears = self.heard_by_target(t) > 0;
         let Actors {
@@ -157,7 +170,7 @@ impl<S: Store, C: Clock> Actors<S, C> {
     }
 
     /// The actors that have something to do, in the order of their numbers, clients first.
-    pub(crate) fn due(&self, alloc: Global, settling: bool) -> Result<Vec<ActorId>, Memory>
+    pub fn due(&self, alloc: Global, settling: bool) -> Result<Vec<ActorId>, Memory>
         requires few_clients { length self.now.clients.items ≤ 65535 }
         requires few_targets { length self.now.targets.items ≤ 255 }
         ensures { IfOk result (λ due. due.items ≡ due_actors self.now.between.messages self.now.clients.items self.now.targets.items) }

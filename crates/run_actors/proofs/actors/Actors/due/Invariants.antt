@@ -1,6 +1,6 @@
 use Rattle.std.specs.Prelude.{◌≡◌, ◌++◌, length}
-use Rattle.run_order.specs.Due.{due_clients, due_targets}
-use Rattle.run_order.proofs.actors.Actors.due.Given as goal
+use Rattle.run_actors.specs.Due.{due_clients, due_targets}
+use Rattle.run_actors.proofs.actors.Actors.due.Given as goal
 
 -- the clients so far that have something to do
 abbrev pub invariant-loop-n : goal.invariant-loop-n

@@ -6,7 +6,8 @@ use Rattle.std.proofs.lemmas.Bool.{cases_eq}
 use Rattle.client_core.specs.Clients.{ClientNow}
 use Rattle.daos_model.specs.declared.durable.Durable.{Durable}
 use Rattle.run_letters.specs.Letters.{BetweenNow, IsPicked}
-use Rattle.run_order.specs.Shows.{IsTargetOf, Shows, Steps, state_of}
+use Rattle.run_actors.specs.ListLaws.{get-set, length-set, map-get, map-set, set-is}
+use Rattle.run_actors.specs.Shows.{IsTargetOf, Shows, Steps, state_of}
 use Rattle.run_picks.specs.Picks.{Going, Hearing, Idling, Serving, count_to, heard_awake, heard_by_client}
 use Rattle.target_core.specs.Targets.{TargetOf}
 use Rattle.vos_store.specs.Calls.{State}
@@ -19,43 +20,6 @@ use Rattle.world_events.specs.Events.{Rules, after_turn, client_plan, kept, list
 use Rattle.world_events.specs.Letters.{Takes, client, letters_of, target}
 use Rattle.world_events.specs.StepLaws.{set-here, set-there}
 use Rattle.world_turns.specs.TargetTurns.{Hears, IdlesWhole}
-
--- ---- lists
-
-pub map-set : {A B : Type 0} (f : A → B) (xs : List A) (n : ℕ) (x : A) → map f (set xs n x) ≡ set (map f xs) n (f x)
-map-set f [] n x = refl
-map-set f (y ∷ ys) zero x = refl
-map-set f (y ∷ ys) (suc n) x = ap (λ zs. f y ∷ zs) (map-set f ys n x)
-
-pub map-get : {A B : Type 0} (f : A → B) (xs : List A) (n : ℕ) (x : A) → slice_get xs n ≡ Some x → slice_get (map f xs) n ≡ Some (f x)
-map-get f [] n x h = let no : ⊥ = cc in absurd no
-map-get f (y ∷ ys) zero x h = let same : y ≡ x = cc in ap (λ z. Some (f z)) same
-map-get f (y ∷ ys) (suc n) x h = map-get f ys n x h
-
-pub length-set : {A : Type 0} (xs : List A) (n : ℕ) (x : A) → length (set xs n x) ≡ length xs
-length-set [] n x = refl
-length-set (y ∷ ys) zero x = refl
-length-set (y ∷ ys) (suc n) x = ap suc (length-set ys n x)
-
-none-stays : {A : Type 0} (xs : List A) (n : ℕ) (y : A) → slice_get xs n ≡ None → slice_get (set xs n y) n ≡ None
-none-stays [] n y h = refl
-none-stays (z ∷ zs) zero y h = let no : ⊥ = cc in absurd no
-none-stays (z ∷ zs) (suc n) y h = none-stays zs n y h
-
--- what stands where an element was set is that one
-pub set-is : {A : Type 0} (xs : List A) (n : ℕ) (y x : A) → slice_get (set xs n y) n ≡ Some x → y ≡ x
-set-is xs n y x at = by (slice_get xs n) refl
-  where
-    by : (o : Option _) → slice_get xs n ≡ o → y ≡ x
-    by None h = let bad : None ≡ Some x = sym (none-stays xs n y h) ∙ at in let no : ⊥ = cc in absurd no
-    by (Some z) h = let e : Some y ≡ Some x = sym (set-here xs n z y h) ∙ at in cc
-
--- an element of a list in which one was set is that one or an old one
-pub get-set : {A : Type 0} (P : ℕ → A → Type 0) (xs : List A) (n : ℕ) (y : A) → P n y → ((m : ℕ) (x : A) → slice_get xs m ≡ Some x → P m x) → (m : ℕ) (x : A) → slice_get (set xs n y) m ≡ Some x → P m x
-get-set P xs n y new old m x at = elim (cases_eq m n) [
-  | inl same ↦ subst (λ k. P k x) (sym same) (subst (P n) (set-is xs n y x (subst (λ k. slice_get (set xs n y) k ≡ Some x) same at)) new)
-  | inr apart ↦ old m x (sym (set-there xs n m y apart) ∙ at)
-]
 
 pub picked-takes : (letters : List Letter) (n : ℕ) (l : Letter) (rest : List Letter) → (a : _) → IsPicked letters a n l rest → Takes letters l rest
 picked-takes letters n l rest a k = record { before = k.before; after = k.after; among = k.among; left = k.left }

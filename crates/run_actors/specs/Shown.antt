@@ -1,23 +1,56 @@
 -- Which actors have something to do, and what they hear, is that of the world that they show.
-use Rattle.std.specs.Prelude.{ℕ, ◌≡◌, ◌<◌, ◌++◌, Bool, true, false, List, [], ◌∷◌, filter, length, map, slice_get, Option, Some, if◌then◌else◌, refl}
+use Rattle.std.specs.Prelude.{ℕ, ◌≡◌, ◌<◌, ◌++◌, Bool, true, false, List, [], ◌∷◌, filter, length, map, slice_get, Option, Some, None, if◌then◌else◌, refl}
 use Rattle.std.proofs.Common.{zero, suc, sym, ◌∙◌, ap, subst, arith}
 use Rattle.std.proofs.lemmas.List.Elements.{filter-append}
 use Rattle.client_core.specs.Clients.{ClientNow}
 use Rattle.daos_messages.specs.declared.actor.ActorId.{ActorId}
 use Rattle.daos_model.specs.declared.durable.Durable.{Durable}
 use Rattle.run_letters.specs.Letters.{BetweenNow}
-use Rattle.run_order.specs.Due.{due_actors, due_below, is_due_client, is_due_target, one_if}
-use Rattle.run_order.specs.Shows.{Shows, state_of}
-use Rattle.run_order.proofs.Dues.{named-client, named-target}
-use Rattle.run_order.proofs.Hearing.{target-there}
-use Rattle.run_order.proofs.Turns.{map-get}
-use Rattle.run_picks.specs.Picks.{count_to, due, heard, heard_awake, heard_by_client, if_client_due, if_target_due, is_client_due, is_due, is_target_due, numbered}
-use Rattle.run_picks.specs.Quiet.{there-is}
+use Rattle.run_actors.specs.Due.{due_actors, due_below, is_due_client, is_due_target, one_if}
+use Rattle.run_actors.specs.ListLaws.{map-get, there-is}
+use Rattle.run_actors.specs.Shows.{IsTargetOf, Shows, state_of}
+use Rattle.run_picks.specs.Picks.{actors, count_to, due, heard, heard_awake, heard_by_client, if_client_due, if_target_due, is_client_due, is_due, is_target_due, numbered}
 use Rattle.target_core.specs.Targets.{TargetOf}
 use Rattle.vos_store.specs.Calls.{State}
+use Rattle.world_base.specs.declared.client.ClientState.{ClientState}
+use Rattle.world_base.specs.declared.target.TargetState.{TargetState}
 use Rattle.world_base.specs.declared.world.World.{World}
-use Rattle.world_events.specs.Events.{Rules, client_plan}
+use Rattle.world_events.specs.Events.{Rules, client_plan, target_plan}
 use Rattle.world_events.specs.Letters.{client, target}
+
+-- ---- targets
+
+missing : {A B : Type 0} {z : B} (ps : List A) (qs : List B) (m : ℕ) → length ps ≡ length qs → slice_get ps m ≡ None → slice_get qs m ≡ Some z → ⊥
+missing ps [] m same none is = let no : ⊥ = cc in no
+missing [] (q ∷ qs) m same none is = omega (arith, same)
+missing (p ∷ ps) (q ∷ qs) zero same none is = let no : ⊥ = cc in no
+missing (p ∷ ps) (q ∷ qs) (suc m) same none is = missing ps qs m (omega (arith, same)) none is
+
+module _ {S C : Type 0} (durable : S → Option Durable) (state : S → State) where
+  -- a target as it is in the world
+  pub record IsThere (r : Rules) (w : World) (t : ℕ) (x : TargetOf S C) : Type 0 where
+    pub s : TargetState
+    pub here : slice_get w.targets t ≡ Some s
+    pub is : IsTargetOf durable state (target_plan r t) x s
+
+  pub target-there : (r : Rules) (clients : List ClientNow) (targets : List (TargetOf S C)) (b : BetweenNow) (w : World) (t : ℕ) (x : TargetOf S C) → Shows durable state r clients targets b w → slice_get targets t ≡ Some x → IsThere r w t x
+  target-there r clients targets b w t x k at = by (slice_get w.targets t) refl
+    where
+      by : (o : Option TargetState) → slice_get w.targets t ≡ o → IsThere r w t x
+      by None e = absurd (missing w.targets targets t k.many e at)
+      by (Some s) e = record { s = s; here = e; is = k.targets t x s at e }
+
+-- ---- who is due, and who hears
+
+abbrev pub actor : Bool → ℕ → ActorId
+actor kind n = record { client = kind; number = n }
+
+-- an actor by its kind and number
+pub named-client : (a : ActorId) (n : ℕ) → a.client ≡ true → n ≡ a.number → client n ≡ a
+named-client a n kind named = ap (actor true) named ∙ ap (λ k. actor k a.number) (sym kind)
+
+pub named-target : (a : ActorId) (n : ℕ) → a.client ≡ false → n ≡ a.number → target n ≡ a
+named-target a n kind named = ap (actor false) named ∙ ap (λ k. actor k a.number) (sym kind)
 
 -- those below a number for which a test holds, one by one
 below-is-filter : (test : ActorId → Bool) (name : ℕ → ActorId) (passes : ℕ → Bool) (n : ℕ) → ((k : ℕ) → k < n → passes k ≡ test (name k)) → due_below name passes n ≡ filter test (numbered name n)

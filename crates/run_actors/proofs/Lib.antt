@@ -1,0 +1,5 @@
+pub mod Dues
+pub mod Turns
+pub mod Follow
+pub mod Going
+pub mod Hearing

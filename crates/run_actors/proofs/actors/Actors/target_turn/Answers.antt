@@ -1,0 +1,147 @@
+use Rattle.std.specs.Prelude.{◌≡◌, [], Err, Ok, refl}
+use Rattle.std.proofs.Common.{◌∙◌, ap, rules, subst, sym}
+use Rattle.run_letters.specs.Letters.{IsPicked}
+use Rattle.run_actors.specs.ListLaws.{at-index}
+use Rattle.run_actors.specs.Shown.{target-there}
+use Rattle.run_actors.specs.StoreLaws.{run-stopped, run-whole}
+use Rattle.run_actors.proofs.Dues.{none-heard}
+use Rattle.run_actors.proofs.Follow.{followed}
+use Rattle.run_actors.proofs.Going.{keeps-going, target-heard, target-idled}
+use Rattle.run_actors.proofs.Hearing.{hearable}
+use Rattle.run_actors.proofs.Turns.{target-hears, target-idles}
+use Rattle.run_picks.specs.Picks.{count_to}
+use Rattle.target_core.specs.Parts.{Runs, kept}
+use Rattle.target_core.specs.Running.{still_runs}
+use Rattle.target_core.specs.Stops.{stop_memory, stop_store}
+use Rattle.target_core.specs.Targets.{IsAnswered}
+use Rattle.world_events.specs.Letters.{target}
+use Rattle.world_turns.specs.TargetTurns.{Hears, IdlesWhole}
+use Rattle.run_actors.proofs.actors.Actors.target_turn.Goals as goal
+use Rattle.run_actors.proofs.actors.Actors.target_turn.Goals.{then-hears+in_ok-did, else-hears+in_ok-did-2}
+
+pub hear-requires-clause-running : goal.hear-requires-clause-running
+hear-requires-clause-running g c =
+    let at = at-index c.args.self.now.targets.items c.args.t c.index_mut-target.result.now c.requires.within c.index_mut-target.ensures.value in
+    c.requires.going.running c.args.t c.index_mut-target.result.now at
+
+pub hear-requires-clause-form : goal.hear-requires-clause-form
+hear-requires-clause-form g c =
+    let at = at-index c.args.self.now.targets.items c.args.t c.index_mut-target.result.now c.requires.within c.index_mut-target.ensures.value in
+    (hearable g.S.Store.durable g.S.Store.state c.args.self.now.clients.items c.args.self.now.targets.items c.args.self.now.between c.args.t c.args.number c.index_mut-target.result.now c.take-letter.result c.take-letter.new.self.messages
+    c.requires.going at (subst (λ a. IsPicked c.args.self.now.between.messages a c.args.number c.take-letter.result c.take-letter.new.self.messages) c.target_id.ensures c.take-letter.ensures.picked)).form
+
+pub hear-requires-clause-here : goal.hear-requires-clause-here
+hear-requires-clause-here g c =
+    let at = at-index c.args.self.now.targets.items c.args.t c.index_mut-target.result.now c.requires.within c.index_mut-target.ensures.value in
+    (hearable g.S.Store.durable g.S.Store.state c.args.self.now.clients.items c.args.self.now.targets.items c.args.self.now.between c.args.t c.args.number c.index_mut-target.result.now c.take-letter.result c.take-letter.new.self.messages
+    c.requires.going at (subst (λ a. IsPicked c.args.self.now.between.messages a c.args.number c.take-letter.result c.take-letter.new.self.messages) c.target_id.ensures c.take-letter.ensures.picked)).here
+
+pub idle-requires : goal.idle-requires
+idle-requires g c =
+    let at = at-index c.args.self.now.targets.items c.args.t c.index_mut-target.result.now c.requires.within c.index_mut-target.ensures.value in
+    record { running = c.requires.going.running c.args.t c.index_mut-target.result.now at }
+
+pub returns-in-Ok-clause-steps : goal.returns-in-Ok-clause-steps
+returns-in-Ok-clause-steps g c r w k = elim c.if-hears.branch [
+  | then-hears+in_ok-did b ↦
+      let x = c.index_mut-target.result.now in
+      let y = b.hear.new.self in
+      let at = at-index c.args.self.now.targets.items c.args.t x c.requires.within c.index_mut-target.ensures.value in
+      let s = target-there g.S.Store.durable g.S.Store.state r c.args.self.now.clients.items c.args.self.now.targets.items c.args.self.now.between w c.args.t x k at in
+      let turn = b.in_ok-did.ensures.turn in
+      let now = turn.2 s.s.durable s.is.told in
+      let f = followed c.args.self.now.between c.if-hears.between c.if-hears.did b.take-letter.new.self.messages c.target_id-2.result (target c.args.t) c.follow.new.self (ap (λ z. z.messages) b.between-is) (ap (λ z. z.lines) b.between-is ∙ b.take-letter.ensures.lines)
+      (ap (λ z. z.issued) b.between-is ∙ b.take-letter.ensures.issued) c.target_id-2.ensures c.in-Ok.ensures.messages c.in-Ok.ensures.lines c.in-Ok.ensures.issued in
+      target-hears g.S.Store.durable g.S.Store.state r c.args.self.now.clients.items c.args.self.now.targets.items c.args.self.now.between c.args.t x y c.if-hears.did b.take-letter.new.self.messages c.follow.new.self c.if-hears.self.1.1.0.items
+      w k at c.args.number turn.0 b.take-letter.result (subst (λ a. IsPicked c.args.self.now.between.messages a c.args.number b.take-letter.result b.take-letter.new.self.messages) b.target_id.ensures b.take-letter.ensures.picked) s.s.durable now.durable s.is.told now.kept_is
+      (subst (λ z. Hears x.plan (g.S.Store.state x.store).opening x.memory turn.0 b.take-letter.result.from b.take-letter.result.message (kept s.s.durable (g.S.Store.state x.store)) (kept now.durable (g.S.Store.state y.store)) (y.memory, z)) (sym b.did-is) now.holds)
+      b.in_ok-did.ensures.plan b.in_ok-did.ensures.runs.opening b.in_ok-did.ensures.runs.stops f (ap (λ z. z.1.1.0.items) b.self-is)
+  | else-hears+in_ok-did-2 b ↦
+      let x = c.index_mut-target.result.now in
+      let y = b.idle.new.self in
+      let at = at-index c.args.self.now.targets.items c.args.t x c.requires.within c.index_mut-target.ensures.value in
+      let s = target-there g.S.Store.durable g.S.Store.state r c.args.self.now.clients.items c.args.self.now.targets.items c.args.self.now.between w c.args.t x k at in
+      let now = b.in_ok-did-2.ensures.turn s.s.durable s.is.told in
+      let f = followed c.args.self.now.between c.if-hears.between c.if-hears.did c.args.self.now.between.messages c.target_id-2.result (target c.args.t) c.follow.new.self (ap (λ z. z.messages) b.between-is) (ap (λ z. z.lines) b.between-is)
+      (ap (λ z. z.issued) b.between-is) c.target_id-2.ensures c.in-Ok.ensures.messages c.in-Ok.ensures.lines c.in-Ok.ensures.issued in
+      target-idles g.S.Store.durable g.S.Store.state r c.args.self.now.clients.items c.args.self.now.targets.items c.args.self.now.between c.args.t x y c.if-hears.did c.args.self.now.between.messages c.follow.new.self c.if-hears.self.1.1.0.items
+      c.args.number w k at (none-heard (count_to (target c.args.t) c.args.self.now.between.messages) c.heard_by_target-hears.result c.heard_by_target-hears.ensures b.if-hears.false) refl s.s.durable now.durable s.is.told now.kept_is (subst (λ z. IdlesWhole x.memory (kept s.s.durable (g.S.Store.state x.store)) (kept now.durable (g.S.Store.state y.store)) (y.memory, z)) (sym b.did-is) now.holds)
+      b.in_ok-did-2.ensures.plan b.in_ok-did-2.ensures.runs.opening b.in_ok-did-2.ensures.runs.stops f (ap (λ z. z.1.1.0.items) b.self-is)
+]
+
+pub returns-in-Ok-clause-going : goal.returns-in-Ok-clause-going
+returns-in-Ok-clause-going g c = elim c.if-hears.branch [
+  | then-hears+in_ok-did b ↦
+      let x = c.index_mut-target.result.now in
+      let y = b.hear.new.self in
+      let at = at-index c.args.self.now.targets.items c.args.t x c.requires.within c.index_mut-target.ensures.value in
+      let turn = b.in_ok-did.ensures.turn in
+      let f = followed c.args.self.now.between c.if-hears.between c.if-hears.did b.take-letter.new.self.messages c.target_id-2.result (target c.args.t) c.follow.new.self (ap (λ z. z.messages) b.between-is) (ap (λ z. z.lines) b.between-is ∙ b.take-letter.ensures.lines)
+      (ap (λ z. z.issued) b.between-is ∙ b.take-letter.ensures.issued) c.target_id-2.ensures c.in-Ok.ensures.messages c.in-Ok.ensures.lines c.in-Ok.ensures.issued in
+      target-heard g.S.Store.durable g.S.Store.state c.args.self.now.clients.items c.args.self.now.targets.items c.args.self.now.between c.follow.new.self c.requires.going c.args.t c.args.number x y c.if-hears.did b.take-letter.result b.take-letter.new.self.messages c.if-hears.self.1.1.0.items at
+      (still_runs stop_store (Ok c.if-hears.did) (g.S.Store.state x.store) (g.S.Store.state y.store) (g.S.Store.durable x.store) (g.S.Store.durable y.store) refl (subst (λ z. Runs stop_store (Ok z) (g.S.Store.state x.store) (g.S.Store.state y.store) (g.S.Store.durable x.store) (g.S.Store.durable y.store)) (sym b.did-is) b.in_ok-did.ensures.runs))
+      (subst (λ a. IsPicked c.args.self.now.between.messages a c.args.number b.take-letter.result b.take-letter.new.self.messages) b.target_id.ensures b.take-letter.ensures.picked)
+      (subst (λ z. IsAnswered b.take-letter.result.from z.posts) (sym b.did-is) b.in_ok-did.ensures.posts) f (ap (λ z. z.1.1.0.items) b.self-is)
+      (λ on. keeps-going g.S.Store.durable g.S.Store.state (target c.args.t) c.args.number c.args.self.now.clients.items c.args.self.now.targets.items c.args.self.now.between c.args.self.now.clients.items c.if-hears.self.1.1.0.items c.follow.new.self on (λ r w k.
+          let s = target-there g.S.Store.durable g.S.Store.state r c.args.self.now.clients.items c.args.self.now.targets.items c.args.self.now.between w c.args.t x k at in
+          let now = turn.2 s.s.durable s.is.told in
+          target-hears g.S.Store.durable g.S.Store.state r c.args.self.now.clients.items c.args.self.now.targets.items c.args.self.now.between c.args.t x y c.if-hears.did b.take-letter.new.self.messages c.follow.new.self c.if-hears.self.1.1.0.items
+          w k at c.args.number turn.0 b.take-letter.result (subst (λ a. IsPicked c.args.self.now.between.messages a c.args.number b.take-letter.result b.take-letter.new.self.messages) b.target_id.ensures b.take-letter.ensures.picked) s.s.durable now.durable s.is.told now.kept_is
+          (subst (λ z. Hears x.plan (g.S.Store.state x.store).opening x.memory turn.0 b.take-letter.result.from b.take-letter.result.message (kept s.s.durable (g.S.Store.state x.store)) (kept now.durable (g.S.Store.state y.store)) (y.memory, z)) (sym b.did-is) now.holds)
+          b.in_ok-did.ensures.plan b.in_ok-did.ensures.runs.opening b.in_ok-did.ensures.runs.stops f (ap (λ z. z.1.1.0.items) b.self-is)))
+  | else-hears+in_ok-did-2 b ↦
+      let x = c.index_mut-target.result.now in
+      let y = b.idle.new.self in
+      let at = at-index c.args.self.now.targets.items c.args.t x c.requires.within c.index_mut-target.ensures.value in
+      let f = followed c.args.self.now.between c.if-hears.between c.if-hears.did c.args.self.now.between.messages c.target_id-2.result (target c.args.t) c.follow.new.self (ap (λ z. z.messages) b.between-is) (ap (λ z. z.lines) b.between-is)
+      (ap (λ z. z.issued) b.between-is) c.target_id-2.ensures c.in-Ok.ensures.messages c.in-Ok.ensures.lines c.in-Ok.ensures.issued in
+      target-idled g.S.Store.durable g.S.Store.state c.args.self.now.clients.items c.args.self.now.targets.items c.args.self.now.between c.follow.new.self c.requires.going c.args.t x y c.if-hears.did c.if-hears.self.1.1.0.items at
+      (still_runs stop_store (Ok c.if-hears.did) (g.S.Store.state x.store) (g.S.Store.state y.store) (g.S.Store.durable x.store) (g.S.Store.durable y.store) refl (subst (λ z. Runs stop_store (Ok z) (g.S.Store.state x.store) (g.S.Store.state y.store) (g.S.Store.durable x.store) (g.S.Store.durable y.store)) (sym b.did-is) b.in_ok-did-2.ensures.runs))
+      (subst (λ z. z.posts ≡ []) (sym b.did-is) b.in_ok-did-2.ensures.posts) f (ap (λ z. z.1.1.0.items) b.self-is)
+      (λ on. keeps-going g.S.Store.durable g.S.Store.state (target c.args.t) c.args.number c.args.self.now.clients.items c.args.self.now.targets.items c.args.self.now.between c.args.self.now.clients.items c.if-hears.self.1.1.0.items c.follow.new.self on (λ r w k.
+          let s = target-there g.S.Store.durable g.S.Store.state r c.args.self.now.clients.items c.args.self.now.targets.items c.args.self.now.between w c.args.t x k at in
+          let now = b.in_ok-did-2.ensures.turn s.s.durable s.is.told in
+          target-idles g.S.Store.durable g.S.Store.state r c.args.self.now.clients.items c.args.self.now.targets.items c.args.self.now.between c.args.t x y c.if-hears.did c.args.self.now.between.messages c.follow.new.self c.if-hears.self.1.1.0.items
+          c.args.number w k at (none-heard (count_to (target c.args.t) c.args.self.now.between.messages) c.heard_by_target-hears.result c.heard_by_target-hears.ensures b.if-hears.false) refl s.s.durable now.durable s.is.told now.kept_is (subst (λ z. IdlesWhole x.memory (kept s.s.durable (g.S.Store.state x.store)) (kept now.durable (g.S.Store.state y.store)) (y.memory, z)) (sym b.did-is) now.holds)
+          b.in_ok-did-2.ensures.plan b.in_ok-did-2.ensures.runs.opening b.in_ok-did-2.ensures.runs.stops f (ap (λ z. z.1.1.0.items) b.self-is)))
+]
+
+pub returns-in_err-did-clause-stores : goal.returns-in_err-did-clause-stores
+returns-in_err-did-clause-stores g c =
+    let x = c.index_mut-target.result.now in
+    let at = at-index c.args.self.now.targets.items c.args.t x c.requires.within c.index_mut-target.ensures.value in
+    let is : c.from_residual.result ≡ Err c.in_err-did.field-0.0 = search rules in
+    run-stopped g.S.Store.durable g.S.Store.state c.in_err-did.field-0.0 c.from_residual.result c.args.self.now.targets.items c.args.t x c.hear.new.self c.requires.going.running at is c.in_err-did.ensures.runs
+
+pub returns-in_err-did-2-clause-stores : goal.returns-in_err-did-2-clause-stores
+returns-in_err-did-2-clause-stores g c =
+    let x = c.index_mut-target.result.now in
+    let at = at-index c.args.self.now.targets.items c.args.t x c.requires.within c.index_mut-target.ensures.value in
+    let is : c.from_residual-in_err-did-2.result ≡ Err c.in_err-did-2.field-0.0 = search rules in
+    run-stopped g.S.Store.durable g.S.Store.state c.in_err-did-2.field-0.0 c.from_residual-in_err-did-2.result c.args.self.now.targets.items c.args.t x c.idle.new.self c.requires.going.running at is c.in_err-did-2.ensures.runs
+
+pub returns-in-Ok-clause-stores : goal.returns-in-Ok-clause-stores
+returns-in-Ok-clause-stores g c =
+    let x = c.index_mut-target.result.now in
+    let at = at-index c.args.self.now.targets.items c.args.t x c.requires.within c.index_mut-target.ensures.value in
+    elim c.if-hears.branch [
+      | then-hears+in_ok-did b ↦
+          run-whole g.S.Store.durable g.S.Store.state c.if-hears.did (Ok (tt {0})) c.args.self.now.targets.items c.if-hears.self.1.1.0.items c.args.t x b.hear.new.self c.requires.going.running at refl (ap (λ z. z.1.1.0.items) b.self-is)
+          (subst (λ z. Runs stop_store (Ok z) (g.S.Store.state x.store) (g.S.Store.state b.hear.new.self.store) (g.S.Store.durable x.store) (g.S.Store.durable b.hear.new.self.store)) (sym b.did-is) b.in_ok-did.ensures.runs)
+      | else-hears+in_ok-did-2 b ↦
+          run-whole g.S.Store.durable g.S.Store.state c.if-hears.did (Ok (tt {0})) c.args.self.now.targets.items c.if-hears.self.1.1.0.items c.args.t x b.idle.new.self c.requires.going.running at refl (ap (λ z. z.1.1.0.items) b.self-is)
+          (subst (λ z. Runs stop_store (Ok z) (g.S.Store.state x.store) (g.S.Store.state b.idle.new.self.store) (g.S.Store.durable x.store) (g.S.Store.durable b.idle.new.self.store)) (sym b.did-is) b.in_ok-did-2.ensures.runs)
+    ]
+
+pub returns-in-Err-clause-stores : goal.returns-in-Err-clause-stores
+returns-in-Err-clause-stores g c =
+    let x = c.index_mut-target.result.now in
+    let at = at-index c.args.self.now.targets.items c.args.t x c.requires.within c.index_mut-target.ensures.value in
+    elim c.if-hears.branch [
+      | then-hears+in_ok-did b ↦
+          run-whole g.S.Store.durable g.S.Store.state c.if-hears.did (Err stop_memory) c.args.self.now.targets.items c.if-hears.self.1.1.0.items c.args.t x b.hear.new.self c.requires.going.running at refl (ap (λ z. z.1.1.0.items) b.self-is)
+          (subst (λ z. Runs stop_store (Ok z) (g.S.Store.state x.store) (g.S.Store.state b.hear.new.self.store) (g.S.Store.durable x.store) (g.S.Store.durable b.hear.new.self.store)) (sym b.did-is) b.in_ok-did.ensures.runs)
+      | else-hears+in_ok-did-2 b ↦
+          run-whole g.S.Store.durable g.S.Store.state c.if-hears.did (Err stop_memory) c.args.self.now.targets.items c.if-hears.self.1.1.0.items c.args.t x b.idle.new.self c.requires.going.running at refl (ap (λ z. z.1.1.0.items) b.self-is)
+          (subst (λ z. Runs stop_store (Ok z) (g.S.Store.state x.store) (g.S.Store.state b.idle.new.self.store) (g.S.Store.durable x.store) (g.S.Store.durable b.idle.new.self.store)) (sym b.did-is) b.in_ok-did-2.ensures.runs)
+    ]
