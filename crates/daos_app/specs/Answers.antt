@@ -1,46 +1,16 @@
 -- What the program's answers stand for.
-use Rattle.std.specs.Prelude.{ℕ, ◌≡◌, true, false, List, length, Option, Ok, ◌⊎◌}
-use Rattle.std.specs.Io.KnownBytes.{Consumes, IsAtEnd}
-use Rattle.daos_base.specs.declared.fault.ScriptFault.{ScriptFault}
-use Rattle.daos_base.specs.declared.fault.Why.TheVariants as why
+use Rattle.std.specs.Prelude.{ℕ, ◌≡◌, List, Option, Ok}
 use Rattle.daos_base.specs.declared.job.Job.{Job}
 use Rattle.daos_base.specs.declared.report.Report.{Report}
 use Rattle.daos_base.specs.declared.script.Script.{Script}
+use Rattle.daos_input.specs.Inputs.{IsRead}
+use Rattle.daos_input.specs.Words.{run_job_of}
 use Rattle.daos_model.specs.Opening.{fresh}
 use Rattle.daos_report.specs.Forms.{IsReportOf}
 use Rattle.daos_report.specs.Reports.{report_text}
 use Rattle.daos_run.specs.Opens.{IsLegal}
-use Rattle.daos_run.specs.Runnable.{runs}
-use Rattle.daos_script.specs.Grammar.{HasFault, IsScriptText}
-use Rattle.daos_app.specs.Words.{run_job_of}
-use Rattle.daos_app.specs.declared.status.Status.{Status}
-use Rattle.daos_app.specs.declared.status.Status.TheVariants as status
-
--- what is told of a script without a fault that the program doesn't run yet
-abbrev pub script_not_yet : ScriptFault
-script_not_yet = record { line = 0; why = why.NotYet }
-
--- the bytes read, to the source's end, are a text of the script, which is run so far
-pub record IsRead (left left_now : Option (List ℕ)) (script : Script) : Type 0 where
-  pub bytes : List ℕ
-  pub consumed : Consumes left left_now bytes
-  pub at_end : IsAtEnd left_now
-  pub grammar : IsScriptText 1 bytes script
-  pub run : runs script ≡ true
-
--- a text of a script that isn't run so far
-pub record IsNotYetRun (bytes : List ℕ) (fault : ScriptFault) : Type 0 where
-  pub script : Script
-  pub grammar : IsScriptText 1 bytes script
-  pub not_run : runs script ≡ false
-  pub not_yet : fault ≡ script_not_yet
-
--- the bytes read are all that there were, or one more than 16 MiB; they have this first fault, or none, but are not run so far
-pub record IsRefused (left left_now : Option (List ℕ)) (fault : ScriptFault) : Type 0 where
-  pub bytes : List ℕ
-  pub consumed : Consumes left left_now bytes
-  pub all : (length bytes ≡ 16777217) ⊎ IsAtEnd left_now
-  pub why : HasFault 1 bytes fault ⊎ IsNotYetRun bytes fault
+use Rattle.daos_status.specs.declared.status.Status.{Status}
+use Rattle.daos_status.specs.declared.status.Status.TheVariants as status
 
 -- the text of a report of a run of the script, over regions of zeros that nothing disturbs: it is legal by the headline, and in the
 -- form in which a text determines its report

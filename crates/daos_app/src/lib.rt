@@ -2,9 +2,7 @@
 #![tactic(auto)]
 
 pub mod daos;
-mod input;
 mod output;
-pub mod status;
-mod words;
 
 pub use daos_run::run::run_script;
+pub use daos_status::status;

@@ -7,7 +7,6 @@ ghost use Rattle.daos_app.specs.Answers.{IsReported};
 ghost use Rattle.daos_run.specs.Runnable.{IsRunnable};
 ghost use Rattle.daos_words.specs.Laws.{IsInForm};
 
-use crate::status::Status;
 use daos_base::items::Memory;
 use daos_base::job::Job;
 use daos_base::script::Script;
@@ -17,6 +16,7 @@ use daos_outside::sink::{Sink, write_all};
 use daos_report::text::report_text;
 use daos_run::run::run_script;
 use daos_run::stop::RunStop;
+use daos_status::status::Status;
 use std::alloc::{AllocError, Global};
 use std::sync::Wait;
 use std::thread::Threads;

@@ -2,7 +2,7 @@
 ghost use Rattle.std.specs.Prelude.{◌≡◌, ◌≤◌, length, map, nat_eq, string_bytes, IfErr, IfOk, Ok};
 ghost use Rattle.std.specs.List.{position_or_len, starts_with};
 ghost use Rattle.daos_words.specs.Laws.{IsInForm};
-ghost use Rattle.daos_app.specs.Words.{IsRefusedFor, asks_more, is_run, place_of_more, run_job_of};
+ghost use Rattle.daos_input.specs.Words.{IsRefusedFor, asks_more, is_run, place_of_more, run_job_of};
 
 use daos_base::fault::{WordFault, WordKind};
 use daos_base::job::Job;

@@ -7,7 +7,7 @@ use Rattle.daos_text.specs.Results.{◌>>=◌}
 use Rattle.daos_words.specs.declared.fault.WordNo.{WordNo}
 use Rattle.daos_words.specs.declared.fault.WordNo.TheVariants.{Fault}
 use Rattle.daos_words.specs.Words.{answered, job_of}
-use Rattle.daos_app.specs.Words.{IsRefusedFor, is_run, place_of_more, run_job_of, run_or_not_yet}
+use Rattle.daos_input.specs.Words.{IsRefusedFor, is_run, place_of_more, run_job_of, run_or_not_yet}
 
 abbrev not_yet : List (List ℕ) → Job → Result Job WordFault
 not_yet ws j = Err (record { place = place_of_more j ws; kind = NotYet })

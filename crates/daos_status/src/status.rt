@@ -1,11 +1,11 @@
 // How the program ends, and what it tells of that.
 ghost use Rattle.std.specs.Prelude.{◌≡◌, IfOk, string_bytes};
-ghost use Rattle.daos_app.specs.Statuses.{down_text, foreign_text, kind_text, part_text, rack_text, script_text, shape_text, status_number, status_text, why_text, words_text};
+ghost use Rattle.daos_status.specs.Statuses.{down_text, foreign_text, kind_text, part_text, rack_text, script_text, shape_text, status_number, status_text, why_text, words_text};
 
+use crate::part::Part;
 use daos_base::epoch::TargetId;
 use daos_base::fault::{ScriptFault, Why, WordFault, WordKind};
 use daos_base::items::Memory;
-use daos_run::stop::Part;
 use std::alloc::Global;
 
 /// How the program ended. The number of a status is that of its place here, from 0.

@@ -1,8 +1,7 @@
 // Reads the script from the source.
 ghost use Rattle.std.specs.Prelude.{◌≡◌, ◌≤◌, true, IfOk, IfErr, IsErrOf, length};
 ghost use Rattle.daos_outside.specs.Causes.{Rose};
-ghost use Rattle.daos_app.specs.Answers.{IsRead};
-ghost use Rattle.daos_app.specs.Inputs.{IsScriptRefused, RefusesFor};
+ghost use Rattle.daos_input.specs.Inputs.{IsRead, IsScriptRefused, RefusesFor};
 ghost use Rattle.daos_run.specs.Runnable.{IsRunnable, runs};
 ghost use Rattle.daos_script.specs.Grammar.{IsScriptText};
 

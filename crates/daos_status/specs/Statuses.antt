@@ -7,10 +7,10 @@ use Rattle.daos_base.specs.declared.fault.Why.{Why}
 use Rattle.daos_base.specs.declared.fault.Why.TheVariants as why
 use Rattle.daos_base.specs.declared.fault.WordKind.{WordKind}
 use Rattle.daos_base.specs.declared.fault.WordKind.TheVariants as kind
-use Rattle.daos_run.specs.declared.stop.Part.{Part}
-use Rattle.daos_run.specs.declared.stop.Part.TheVariants as part
-use Rattle.daos_app.specs.declared.status.Status.{Status}
-use Rattle.daos_app.specs.declared.status.Status.TheVariants as status
+use Rattle.daos_status.specs.declared.part.Part.{Part}
+use Rattle.daos_status.specs.declared.part.Part.TheVariants as part
+use Rattle.daos_status.specs.declared.status.Status.{Status}
+use Rattle.daos_status.specs.declared.status.Status.TheVariants as status
 
 -- the name of what is wrong with a line of a script, and its limit where there is one
 abbrev pub why_text : Why → List ℕ

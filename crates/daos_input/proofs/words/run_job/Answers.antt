@@ -1,7 +1,7 @@
 use Rattle.std.proofs.Common.{sym, ◌∙◌, map, string_bytes}
 use Rattle.std.proofs.lemmas.Result.{err_from_is_err_and}
-use Rattle.daos_app.proofs.Asked.{fault_stays, job_is_read, more_is_asked, run_is_asked}
-use Rattle.daos_app.proofs.words.run_job.Goals as goal
+use Rattle.daos_input.proofs.Asked.{fault_stays, job_is_read, more_is_asked, run_is_asked}
+use Rattle.daos_input.proofs.words.run_job.Goals as goal
 
 pub returns-in_err-job-clause-refused : goal.returns-in_err-job-clause-refused
 returns-in_err-job-clause-refused c =

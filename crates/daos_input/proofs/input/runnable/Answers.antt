@@ -1,5 +1,5 @@
 use Rattle.std.proofs.Common.{sym}
-use Rattle.daos_app.proofs.input.runnable.Goals as goal
+use Rattle.daos_input.proofs.input.runnable.Goals as goal
 
 pub returns-in-Ok-clause-form : goal.returns-in-Ok-clause-form
 returns-in-Ok-clause-form c = record {
