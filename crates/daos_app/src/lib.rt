@@ -3,6 +3,8 @@
 
 pub mod daos;
 mod output;
+mod runs;
+mod text;
 
 pub use daos_run::run::run_script;
 pub use daos_status::status;

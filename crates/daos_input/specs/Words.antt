@@ -1,5 +1,5 @@
 -- Which words are run so far, and where others ask for more.
-use Rattle.std.specs.Prelude.{◌≡◌, ℕ, Bool, ◌&&◌, ◌||◌, ◌==◌, not, nat_eq, is_none, is_some, List, codes, Result, Ok, Err, if◌then◌else◌}
+use Rattle.std.specs.Prelude.{◌≡◌, ℕ, Bool, ◌&&◌, ◌||◌, ◌==◌, not, nat_eq, List, codes, Result, Ok, Err, if◌then◌else◌}
 use Rattle.std.specs.List.{position_or_len, starts_with}
 use Rattle.daos_base.specs.declared.fault.WordFault.{WordFault}
 use Rattle.daos_base.specs.declared.fault.WordKind.TheVariants.{NotYet}
@@ -9,9 +9,9 @@ use Rattle.daos_words.specs.declared.fault.WordNo.{WordNo}
 use Rattle.daos_words.specs.declared.fault.WordNo.TheVariants.{Fault, Memory}
 use Rattle.daos_words.specs.Words.{job_of}
 
--- a job that is run so far: a script, on one target, without threads
+-- a job that is run so far: a script or a load, on one target, without threads
 abbrev pub is_run : Job → Bool
-is_run j = is_none j.load && j.targets == 1 && not j.threads
+is_run j = j.targets == 1 && not j.threads
 
 -- a word of a job that is this option, with or without its value
 abbrev pub is_option : List ℕ → List ℕ → Bool
@@ -22,9 +22,9 @@ abbrev pub asks_more : Job → List ℕ → Bool
 asks_more j w =
     is_option w (codes "--threads") || not (j.targets == 1) && is_option w (codes "--targets")
 
--- where words first ask for more than is run; behind them, where they leave the number of targets out. A load is told at the first place.
+-- where words first ask for more than is run; behind them, where they leave the number of targets out
 abbrev pub place_of_more : Job → List (List ℕ) → ℕ
-place_of_more j ws = if is_some j.load then 0 else position_or_len (asks_more j) ws
+place_of_more j ws = position_or_len (asks_more j) ws
 
 -- a job that is run so far, or the refusal of one that isn't
 abbrev pub run_or_not_yet : List (List ℕ) → Job → Result Job WordFault

@@ -4,6 +4,7 @@ ghost use Rattle.daos_outside.specs.Causes.{Rose};
 ghost use Rattle.daos_input.specs.Inputs.{IsRead, IsScriptRefused, RefusesFor};
 ghost use Rattle.daos_run.specs.Runnable.{IsRunnable, runs};
 ghost use Rattle.daos_script.specs.Grammar.{IsScriptText};
+ghost use Rattle.world_forms.specs.Keyed.{ScriptHasKeys};
 
 use daos_base::fault::{ScriptFault, Why};
 use daos_base::script::Script;
@@ -38,6 +39,7 @@ fn runnable(alloc: Global, bytes: &[u8]) -> Result<Script, InputNo>
     ensures grammar { IfOk result (λ script. IsScriptText 1 bytes.now script) }
     ensures run { IfOk result (λ script. runs script ≡ true) }
     ensures form { IfOk result (λ script. IsRunnable 1 script) }
+    ensures keys { IfOk result (λ script. ScriptHasKeys script) }
     ensures refused { IfErr result (IsScriptRefused bytes.now) }
     ensures short { IfOk result (λ script. length bytes.now ≤ 16777216) }
 {
@@ -65,6 +67,7 @@ fn runnable(alloc: Global, bytes: &[u8]) -> Result<Script, InputNo>
 pub fn read_input<S: Source>(alloc: Global, source: &mut S) -> Result<Script, InputNo>
     ensures script { IfOk result (λ script. IsRead (S.left source.old) (S.left source.new) script) }
     ensures form { IfOk result (λ script. IsRunnable 1 script) }
+    ensures keys { IfOk result (λ script. ScriptHasKeys script) }
     ensures refused { IfErr result (RefusesFor (S.left source.old) (S.left source.new)) }
     ensures fault { IsErrOf result InputNo.Fault → Rose (S.count source.old) (S.count source.new) }
     ensures later { S.count source.old ≤ S.count source.new }

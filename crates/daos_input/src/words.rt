@@ -1,6 +1,6 @@
 // Reads the words of the command line, and refuses jobs that aren't run yet.
 ghost use Rattle.std.specs.Prelude.{◌≡◌, ◌≤◌, length, map, nat_eq, string_bytes, IfErr, IfOk, Ok};
-ghost use Rattle.std.specs.List.{position_or_len, starts_with};
+ghost use Rattle.std.specs.List.{starts_with};
 ghost use Rattle.daos_words.specs.Laws.{IsInForm};
 ghost use Rattle.daos_input.specs.Words.{IsRefusedFor, asks_more, is_run, place_of_more, run_job_of};
 
@@ -17,7 +17,7 @@ const TARGETS: u8 = 1;
 fn is_run(job: &Job) -> bool
     ensures { result ≡ is_run job.now }
 {
-    job.load.is_none() && job.targets == TARGETS && !job.threads
+    job.targets == TARGETS && !job.threads
 }
 
 // Whether a word is this option, with or without its value.
@@ -34,9 +34,10 @@ fn asks_more(job: &Job, word: &[u8]) -> bool
     is_option(word, b"--threads") || job.targets != TARGETS && is_option(word, b"--targets")
 }
 
-// The first place of such a word, or that behind the last word.
-fn first_of_more(job: &Job, words: &[String]) -> usize
-    ensures exact { result ≡ position_or_len (asks_more job.now) (map string_bytes words.now) }
+// The place that a job that isn't run yet is told at: that of the first such word, or that behind the
+// last word.
+fn place_of_more(job: &Job, words: &[String]) -> usize
+    ensures exact { result ≡ place_of_more job.now (map string_bytes words.now) }
     ensures within { result ≤ length words.now }
 {
     for (place, word) in words.iter().enumerate() {
@@ -47,24 +48,14 @@ fn first_of_more(job: &Job, words: &[String]) -> usize
     words.len()
 }
 
-// The place that a job that isn't run yet is told at.
-fn place_of_more(job: &Job, words: &[String]) -> usize
-    ensures exact { result ≡ place_of_more job.now (map string_bytes words.now) }
-    ensures within { result ≤ length words.now }
-{
-    if job.load.is_some() {
-        return 0;
-    }
-    first_of_more(job, words)
-}
-
-/// The job that words ask for, where it is run so far: a script, on one target and without threads.
+/// The job that words ask for, where it is run so far: a script or a load, on one target and without
+/// threads.
 ///
 /// # Errors
 ///
 /// The first fault of the words. Where they have none but ask for more than is run, `NotYet`: at
-/// the first option that does; behind the words where the number of targets is left out; at place
-/// 0 for a load. `Memory` never comes.
+/// the first option that does; behind the words where the number of targets is left out. `Memory`
+/// never comes.
 pub fn run_job(alloc: Global, words: &[String]) -> Result<Job, WordNo>
     ensures job { IfOk result (λ job. run_job_of (map string_bytes words.now) ≡ Ok job) }
     ensures refused { IfErr result (IsRefusedFor (map string_bytes words.now)) }

@@ -1,4 +1,4 @@
-use Rattle.daos_app.proofs.output.run_text.Goals as goal
+use Rattle.daos_app.proofs.runs.run_text.Goals as goal
 
 pub returns-clause-reported : goal.returns-clause-reported
 returns-clause-reported g c =
