@@ -1,4 +1,1 @@
-pub mod Statuses
-pub mod Words
 pub mod Answers
-pub mod Inputs

@@ -5,24 +5,24 @@ ghost use Rattle.daos_base.specs.declared.fault.ScriptFault.{ScriptFault};
 ghost use Rattle.daos_base.specs.declared.fault.WordFault.{WordFault};
 ghost use Rattle.daos_outside.specs.Causes.{Rose};
 ghost use Rattle.daos_outside.specs.Transfers.{AppendsPrefix};
-ghost use Rattle.daos_app.specs.Answers.{IsAnswerSoFar, IsRefused, IsRun, IsBeforeRun};
-ghost use Rattle.daos_app.specs.Words.{run_job_of};
+ghost use Rattle.daos_app.specs.Answers.{AsksLoad, IsAnswerOfLoad, IsAnswerSoFar, IsBeforeRun, IsTold};
+ghost use Rattle.daos_input.specs.Inputs.{IsRefused};
+ghost use Rattle.daos_input.specs.Words.{run_job_of};
 
-use crate::input::{InputNo, read_input};
-use crate::output::{run_text, write_text};
-use crate::status::Status;
-use crate::words::run_job;
+use crate::output::write_text;
+use crate::text::text_of;
 use daos_outside::gate::Gate;
 use daos_outside::rack::Rack;
 use daos_outside::sink::Sink;
 use daos_outside::source::Source;
-use daos_words::fault::WordNo;
+use daos_status::status::Status;
 use std::alloc::Global;
 use std::sync::Wait;
 use std::thread::Threads;
 
-/// Does all that the program does: reads the words, then the script from the source, runs it, and
-/// writes its report to the sink.
+/// Does all that the program does: reads the words; for a run reads the script from the source, runs it
+/// and writes its report to the sink; for a load generates the script, runs it and writes the summary
+/// of its report.
 ///
 /// Of two refusals that both hold the words' comes first, then a fault of the source, then the
 /// script's, then a fault of the sink. Want of memory may come at any place.
@@ -50,11 +50,15 @@ pub fn run_daos<R: Threads + Wait + Sync, S: Source, K: Sink, B: Rack, G: Gate +
     ensures read { result ≡ Status.ReadFault → Rose (S.count source.old) (S.count source.new) }
     ensures write { result ≡ Status.WriteFault → Rose (K.count sink.old) (K.count sink.new) ⊎ Rose (K.stalls sink.old) (K.stalls sink.new) }
 
-    // At the end the sink holds what it held and then the text of one report, that of a run of the
-    // script that was read, as the words ask, and nothing else; after a fault of the sink, a part of
-    // it from the front.
-    ensures done { result ≡ Status.Done → ((text : List ℕ) × IsRun (map string_bytes words.now) (S.left source.old) (S.left source.new) text × Appends (K.held sink.old) (K.held sink.new) text) }
-    ensures prefix { result ≡ Status.WriteFault → ((text : List ℕ) × IsRun (map string_bytes words.now) (S.left source.old) (S.left source.new) text × AppendsPrefix (K.held sink.old) (K.held sink.new) text) }
+    // At the end the sink holds what it held and then the text that the words ask for, and nothing else:
+    // of a run the text of one report for the script that was read, of a load the summary of one report
+    // for the generated script; after a fault of the sink, a part of it from the front.
+    ensures done { result ≡ Status.Done → ((text : List ℕ) × IsTold (map string_bytes words.now) (S.left source.old) (S.left source.new) text × Appends (K.held sink.old) (K.held sink.new) text) }
+    ensures prefix { result ≡ Status.WriteFault → ((text : List ℕ) × IsTold (map string_bytes words.now) (S.left source.old) (S.left source.new) text × AppendsPrefix (K.held sink.old) (K.held sink.new) text) }
+
+    // A load reads nothing, and so has no answer that reading has.
+    ensures unread_by_load { AsksLoad (map string_bytes words.now) → source.new ≡ source.old }
+    ensures load { AsksLoad (map string_bytes words.now) → IsAnswerOfLoad result }
 
     // What a refusal leaves as it was.
     ensures unread { (fault : WordFault) → result ≡ Status.Words fault → source.new ≡ source.old }
@@ -67,19 +71,8 @@ pub fn run_daos<R: Threads + Wait + Sync, S: Source, K: Sink, B: Rack, G: Gate +
     ensures sink_stalls_later { K.stalls sink.old ≤ K.stalls sink.new }
     ensures rack { B.count rack.new ≡ B.count rack.old }
 {
-    let job = match run_job(alloc, words) {
-        Ok(job) => job,
-        Err(WordNo::Fault(fault)) => return Status::Words(fault),
-        Err(WordNo::Memory) => return Status::Memory,
-    };
-    let script = match read_input(alloc, source) {
-        Ok(script) => script,
-        Err(InputNo::Fault) => return Status::ReadFault,
-        Err(InputNo::Refused(fault)) => return Status::Script(fault),
-        Err(InputNo::Memory) => return Status::Memory,
-    };
-    match run_text(rt, alloc, &job, &script, rack, gate) {
+    match text_of(rt, alloc, words, source, rack, gate) {
         Ok(text) => write_text(sink, &text),
-        Err(_) => Status::Memory,
+        Err(status) => status,
     }
 }

@@ -2,9 +2,9 @@
 #![tactic(auto)]
 
 pub mod daos;
-mod input;
 mod output;
-pub mod status;
-mod words;
+mod runs;
+mod text;
 
 pub use daos_run::run::run_script;
+pub use daos_status::status;

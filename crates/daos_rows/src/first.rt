@@ -148,12 +148,7 @@ fn words_that_are_not_run_are_refused(rt: HostRuntime) -> Result<(), Fail> {
             WordKind::NotYet,
             "daos: word 4: NotYet",
         ),
-        (
-            &["--targets", "1", "load", "5"],
-            0,
-            WordKind::NotYet,
-            "daos: word 0: NotYet",
-        ),
+        (&["load", "5"], 2, WordKind::NotYet, "daos: word 2: NotYet"),
         (
             &["run", "--targets", "2", "--"],
             3,

@@ -4,20 +4,10 @@ ghost use Rattle.daos_run.specs.declared.stop.RunStop.TheVariants.{Memory as NoM
 ghost use Rattle.daos_run.specs.Stops.{stop_of};
 
 use daos_base::epoch::TargetId;
+pub use daos_status::part::Part;
 use run_order::halted::Halted;
 use std::alloc::{AllocError, AllocFailed};
 use thiserror::Error;
-
-/// What a region was made for in another measure than the one asked.
-#[derive(Clone, Copy, Debug, PartialEq, Eq)]
-pub enum Part {
-    /// Its size in bytes.
-    Bytes,
-    /// The number of targets of its pool.
-    Targets,
-    /// The number of containers of its pool.
-    Containers,
-}
 
 /// Why a run gives no report.
 #[derive(Clone, Copy, Debug, PartialEq, Eq, Error)]

@@ -1,6 +1,0 @@
-use Rattle.std.proofs.Common.{string_bytes, append_assoc}
-use Rattle.daos_app.proofs.Texts.{retold}
-use Rattle.daos_app.proofs.status.foreign_text.Goals as goal
-
-pub returns : goal.returns
-returns c = retold string_bytes c.format.result _ _ c.format.ensures.ok (simp append_assoc)

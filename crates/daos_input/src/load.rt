@@ -1,0 +1,27 @@
+// Generates the script of a load.
+ghost use Rattle.std.specs.Prelude.{◌≡◌, ◌<◌, ◌≤◌, IfOk};
+ghost use Rattle.daos_gen.specs.Scripts.{script_of};
+ghost use Rattle.daos_run.specs.Runnable.{IsRunnable};
+ghost use Rattle.world_forms.specs.Keyed.{ScriptHasKeys};
+
+use daos_base::items::Memory;
+use daos_base::script::Script;
+use daos_gen::script::make_script;
+use daos_gen_keys::laws_of_loads;
+use std::alloc::Global;
+
+/// The generated script of a load of so many commands, 1 to 10,000, on one target.
+///
+/// # Errors
+///
+/// For want of memory alone.
+pub fn load_script(alloc: Global, count: u32) -> Result<Script, Memory>
+    requires some { 0 < count }
+    requires few { count ≤ 10000 }
+    ensures exact { IfOk result (λ script. script ≡ script_of 1 count) }
+    ensures form { IfOk result (λ script. IsRunnable 1 script) }
+    ensures keys { IfOk result (λ script. ScriptHasKeys script) }
+{
+    laws_of_loads();
+    make_script(alloc, count, 1)
+}

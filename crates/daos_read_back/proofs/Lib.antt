@@ -1,0 +1,7 @@
+pub mod InOrder
+pub mod Lines
+pub mod Marks
+pub mod Snaps
+pub mod Space
+pub mod Tries
+pub mod Reports

@@ -1,0 +1,36 @@
+-- Attempts among the lines of a report.
+use Rattle.std.proofs.Common.{◌≡◌, inl, inr, ◌++◌, List, [], ◌∷◌, All, Any, ap, sym, subst, refl}
+use Rattle.daos_base.specs.declared.report.Attempt.{Attempt}
+use Rattle.daos_base.specs.declared.report.Line.{Line}
+use Rattle.daos_base.specs.declared.report.Line.TheVariants as line
+use Rattle.daos_laws.specs.Members.{Has}
+use Rattle.daos_model.specs.Attempts.{tries}
+
+-- an attempt and its line
+pub try-among : (lines : List Line) (a : Attempt) → Has (line.Try a) lines → Has a (tries lines)
+unfolding tries
+try-among [] a i = absurd i
+try-among (line.Try b ∷ lines) a (inl same) = let e : a ≡ b = cc in inl e
+try-among (line.Try b ∷ lines) a (inr i) = inr (try-among lines a i)
+try-among (line.Stop n t ∷ lines) a (inl same) = let no : ⊥ = cc in absurd no
+try-among (line.Stop n t ∷ lines) a (inr i) = try-among lines a i
+try-among (line.Restart n t incarnation floor ∷ lines) a (inl same) = let no : ⊥ = cc in absurd no
+try-among (line.Restart n t incarnation floor ∷ lines) a (inr i) = try-among lines a i
+try-among (line.Freeze t cont e ∷ lines) a (inl same) = let no : ⊥ = cc in absurd no
+try-among (line.Freeze t cont e ∷ lines) a (inr i) = try-among lines a i
+try-among (line.Snapshot name cont e ∷ lines) a (inl same) = let no : ⊥ = cc in absurd no
+try-among (line.Snapshot name cont e ∷ lines) a (inr i) = try-among lines a i
+try-among (line.Aggregate n t cont upto ∷ lines) a (inl same) = let no : ⊥ = cc in absurd no
+try-among (line.Aggregate n t cont upto ∷ lines) a (inr i) = try-among lines a i
+try-among (line.Down t ∷ lines) a (inl same) = let no : ⊥ = cc in absurd no
+try-among (line.Down t ∷ lines) a (inr i) = try-among lines a i
+
+-- the lines before one of them, and those after it
+pub cut-at : (lines : List Line) (l : Line) → Has l lines → (before : List Line) × (after : List Line) × (lines ≡ before ++ l ∷ after)
+cut-at [] l i = absurd i
+cut-at (m ∷ lines) l (inl same) = ([], lines, ap (λ x. x ∷ lines) (sym same))
+cut-at (m ∷ lines) l (inr i) = let k = cut-at lines l i in (m ∷ k.0, k.1, ap (λ ls. m ∷ ls) k.2)
+
+-- what is so of all is so of one that is shown
+pub any-all : {T : Type 0} (P Q : T → Type 0) (xs : List T) → All P xs → (i : Any Q xs) → P i.1
+any-all P Q xs all i = subst P i.3 (all i.0 i.1 i.2)
