@@ -22,6 +22,8 @@ use Rattle.world_begins.specs.Begins.{IsBegun}
 use Rattle.world_ends.specs.Ends.{rules_of}
 use Rattle.world_ends.specs.FromBeginning.{over, runs-from-the-beginning, runs-give-the-headline}
 use Rattle.world_forms.specs.Keyed.{CellHasKeys}
+use Rattle.world_lone.specs.Issued.{the-target-issues}
+use Rattle.world_lone.specs.LoneRuns.{AreIssuedBy}
 use Rattle.world_forms.specs.RunForms.{runs-report-in-form}
 
 one-there : {T : Type 0} (xs : List T) → length xs ≡ 1 → (x : T) × (slice_get xs 0 ≡ Some x)
@@ -51,4 +53,6 @@ module _ {S C : Type 0} (durable : S → Option Durable) (state : S → State) (
         };
         legal = λ resolved. subst (λ ls. Headline g undisturbed resolved (report_of s ls)) (sym K.told) (runs-give-the-headline g resolved first K.last alone B run K.ended);
         form = λ keys. subst (λ ls. IsReportOf s (report_of s ls)) (sym K.told) (runs-report-in-form g first K.last alone B run K.ended (omega (arith, most)) keys (All-nil CellHasKeys));
+        issued = subst (λ ls. AreIssuedBy 0 (report_of s ls)) (sym K.told) (the-target-issues (rules_of g) g.opening first K.last alone B run);
+        ordered = record { follows = record { first = first; begun = B; last = K.last; run = K.run; lines = K.told }; target = t.0; only = t.1; kept = ap durable (its x.0 x.1) ∙ is.told };
       }

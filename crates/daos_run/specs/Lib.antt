@@ -3,3 +3,4 @@ pub mod Runnable
 pub mod Slots
 pub mod Opens
 pub mod Stops
+pub mod Alone

@@ -21,8 +21,13 @@ use Rattle.daos_report.specs.Forms.{IsReportOf}
 use Rattle.target_core.specs.Targets.{TargetOf}
 use Rattle.vos_store.specs.Calls.{State}
 use Rattle.world_base.specs.ClientTurns.{at_first, plan_of}
-use Rattle.world_begins.specs.Begins.{declared_conts}
+use Rattle.run_picks.specs.Orders.{InOrder}
+use Rattle.world_base.specs.declared.target.TargetState.{TargetState}
+use Rattle.world_base.specs.declared.world.World.{World}
+use Rattle.world_begins.specs.Begins.{IsBegun, declared_conts}
+use Rattle.world_ends.specs.Ends.{rules_of}
 use Rattle.world_forms.specs.Keyed.{ScriptHasKeys}
+use Rattle.world_lone.specs.LoneRuns.{AreIssuedBy}
 
 -- a run of a script over regions that stand for nothing, with so many blocks free on each
 abbrev pub given : Script → Job → ℕ → Given
@@ -62,11 +67,30 @@ pub record Stands {S : Type 0} (durable : S → Option Durable) (g : Given) (q :
 abbrev pub IsLegal : Given → Report → Type 0
 IsLegal g q = (resolved : AttemptId → Bool) → Headline g undisturbed resolved q
 
--- what a run comes to: the report is legal, and in form where names and keys are keys, and the store stands for what it tells
+-- A report's lines are those of a run of the world in the order that the job names, to where that order ends: turn by turn, those of the
+-- actor and the message that it picks.
+pub record FollowsOrder (g : Given) (q : Report) : Type 0 where
+  pub first : World
+  pub begun : IsBegun (rules_of g) g.opening first
+  pub last : World
+  pub run : InOrder (rules_of g) g.job.order first last
+  pub lines : q.lines ≡ last.lines
+
+-- and a store keeps what the target of that run keeps in the end
+pub record IsOrdered {S : Type 0} (durable : S → Option Durable) (g : Given) (q : Report) (store : S) : Type 0 where
+  pub follows : FollowsOrder g q
+  pub target : TargetState
+  pub only : slice_get follows.last.targets 0 ≡ Some target
+  pub kept : durable store ≡ Some target.durable
+
+-- What a run comes to: the report is legal, and in form where names and keys are keys; target 0 issued its epochs; it tells of turns in
+-- the order asked; and the store stands for what it tells.
 pub record Reports {S : Type 0} (durable : S → Option Durable) (g : Given) (q : Report) (store : S) : Type 0 where
   pub stands : Stands durable g q store
   pub legal : IsLegal g q
   pub form : ScriptHasKeys g.script → IsReportOf g.script q
+  pub issued : AreIssuedBy 0 q
+  pub ordered : IsOrdered durable g q store
 
 -- the only target, which has just opened this store
 pub record IsNew {S C : Type 0} (durable : S → Option Durable) (store : S) (epsilon : ℕ) (x : TargetOf S C) : Type 0 where

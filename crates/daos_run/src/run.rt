@@ -2,7 +2,11 @@
 ghost use Rattle.std.specs.Prelude.{◌≡◌, ◌≤◌, IfOk, IsOkUnless};
 ghost use Rattle.daos_model.specs.Opening.{fresh};
 ghost use Rattle.daos_report.specs.Forms.{IsReportOf};
-ghost use Rattle.daos_run.specs.Opens.{IsLegal};
+ghost use Rattle.daos_lone.specs.Lone.{HasOneClient};
+ghost use Rattle.daos_room.specs.Rooms.{FindsRoom, HasRoom};
+ghost use Rattle.daos_run.specs.Alone.{IsOfLoneClient};
+ghost use Rattle.daos_run.specs.Opens.{FollowsOrder, IsLegal};
+ghost use Rattle.world_lone.specs.LoneRuns.{AreIssuedBy};
 ghost use Rattle.daos_run.specs.Runnable.{IsRunnable};
 ghost use Rattle.world_forms.specs.Keyed.{ScriptHasKeys};
 
@@ -42,6 +46,10 @@ pub fn run_script<R: Threads + Wait + Sync, B: Rack, G: Gate + Sync>(
     requires script { IsRunnable 1 script.now }
     ensures legal { IfOk result (λ report. IsLegal (fresh script.now job.now) report) }
     ensures form { ScriptHasKeys script.now → IfOk result (λ report. IsReportOf script.now report) }
+    ensures ordered { IfOk result (FollowsOrder (fresh script.now job.now)) }
+    ensures issued { IfOk result (AreIssuedBy 0) }
+    ensures room { HasRoom script.now job.now.attempts (fresh script.now job.now).opening.free → IfOk result FindsRoom }
+    ensures lone { HasOneClient script.now → IfOk result (IsOfLoneClient (fresh script.now job.now)) }
     ensures refusals { IsOkUnless result RunStop.Memory }
     ensures rack { B.count rack.new ≡ B.count rack.old }
 {

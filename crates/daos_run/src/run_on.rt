@@ -1,7 +1,11 @@
 // Runs a script on stores.
 ghost use Rattle.std.specs.Prelude.{◌≡◌, ◌≤◌, ℕ, length, slice_get, IfErr, IfOk, Some, is_some, true, false};
 ghost use Rattle.daos_report.specs.Forms.{IsReportOf};
-ghost use Rattle.daos_run.specs.Opens.{AreFirst, IsEmpty, IsLegal, IsOnlyNew, IsOpened, Reports, Stands, given, report_of};
+ghost use Rattle.daos_lone.specs.Lone.{HasOneClient};
+ghost use Rattle.daos_room.specs.Rooms.{FindsRoom, HasRoom};
+ghost use Rattle.daos_run.specs.Alone.{IsOfLoneClient};
+ghost use Rattle.daos_run.specs.Opens.{AreFirst, IsEmpty, IsLegal, IsOnlyNew, IsOpened, IsOrdered, Reports, Stands, given, report_of};
+ghost use Rattle.world_lone.specs.LoneRuns.{AreIssuedBy};
 ghost use Rattle.std.specs.Option.{ForSome};
 ghost use Rattle.target_core.specs.Targets.{IsHeard, TargetOf};
 ghost use Rattle.daos_run.specs.Runnable.{IsRunnable};
@@ -161,6 +165,13 @@ pub fn run_on<R: Threads + Wait + Sync, S: Store + Send, C: Clock + Send, G: Gat
         IsReportOf script.now report)) }
     ensures stands { IfTold S.durable parts.old (λ store. IfOk result (λ report.
         HasStore (Stands S.durable (given script.now job.now (S.state store).free) report) parts.new)) }
+    ensures ordered { IfTold S.durable parts.old (λ store. IfOk result (λ report.
+        HasStore (IsOrdered S.durable (given script.now job.now (S.state store).free) report) parts.new)) }
+    ensures issued { IfTold S.durable parts.old (λ store. IfOk result (AreIssuedBy 0)) }
+    ensures room { IfTold S.durable parts.old (λ store.
+        HasRoom script.now job.now.attempts (given script.now job.now (S.state store).free).opening.free → IfOk result FindsRoom) }
+    ensures lone { IfTold S.durable parts.old (λ store.
+        HasOneClient script.now → IfOk result (IsOfLoneClient (given script.now job.now (S.state store).free))) }
     ensures store { FromTo parts.old parts.new (λ old new.
         Runs is_fault result (S.state old) (S.state new) (S.durable old) (S.durable new)) }
     ensures refusals { FromTo parts.old parts.new (λ old new. IfErr result (MayStop (S.durable old))) }

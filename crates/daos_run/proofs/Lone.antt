@@ -1,0 +1,73 @@
+-- A script that is run so far runs transactions alone, and nothing stops; so what follows from a legal report of room and of a lone
+-- client follows of its run.
+use Rattle.std.specs.Prelude.{ℕ, ◌≡◌, ◌≤◌, ◌<◌, ◌==◌, ◌&&◌, Bool, true, false, List, [], ◌∷◌, length, refl}
+use Rattle.std.specs.List.{list_all}
+use Rattle.std.proofs.Common.{arith}
+use Rattle.daos_base.specs.declared.id.AttemptId.{AttemptId}
+use Rattle.daos_base.specs.declared.job.Job.{Job}
+use Rattle.daos_base.specs.declared.report.Report.{Report}
+use Rattle.daos_base.specs.declared.script.Command.{Command}
+use Rattle.daos_base.specs.declared.script.Command.TheVariants.{Run, Snap, Aggregate, Tell, Skip}
+use Rattle.daos_base.specs.declared.script.Script.{Script}
+use Rattle.daos_base.specs.Scripts.{is_numbered}
+use Rattle.daos_laws.specs.TargetLaws.{number_same}
+use Rattle.daos_lone.specs.Ends.{commit, end-plainly, fresh-ticks}
+use Rattle.daos_lone.specs.Lone.{HasOneClient, IsLone}
+use Rattle.daos_lone.specs.Once.{rise, try-once}
+use Rattle.daos_lone.specs.Restarts.{never-restart}
+use Rattle.daos_model.specs.BoolLaws.{and_left, and_right}
+use Rattle.daos_model.specs.Opening.{undisturbed}
+use Rattle.daos_room.specs.Lines.{lists-of-transactions}
+use Rattle.daos_room.specs.RoomLaws.{transactions-find-room}
+use Rattle.daos_room.specs.Rooms.{FindsRoom, HasRoom, OnlyTransactions, is_transaction}
+use Rattle.daos_run.specs.Alone.{IsOfLoneClient}
+use Rattle.daos_run.specs.Opens.{IsLegal, given}
+use Rattle.daos_run.specs.Runnable.{IsRunnable, are_run, is_run, runs}
+
+transaction-if-run : (c : Command) → is_run c ≡ true → is_numbered c ≡ true → is_transaction c ≡ true
+transaction-if-run (Run ops skips snapshot) run number = run
+transaction-if-run (Snap name cont) run number = run
+transaction-if-run (Aggregate cont) run number = run
+transaction-if-run (Tell client) run number = number
+transaction-if-run (Skip turns) run number = number
+
+none-there : {T : Type 0} (xs : List T) → (length xs == 0) ≡ true → xs ≡ []
+none-there [] h = refl
+none-there (x ∷ xs) h = let none : length (x ∷ xs) ≡ 0 = number_same (length (x ∷ xs)) 0 h in absurd (omega (arith, none))
+
+lists-run : (s : Script) → runs s ≡ true → list_all are_run s.clients ≡ true
+unfolding runs
+lists-run s h = and_right ((length s.olds == 0) && (length s.stops == 0)) (list_all are_run s.clients) h
+
+no-stops : (s : Script) → runs s ≡ true → s.stops ≡ []
+unfolding runs
+no-stops s h = none-there s.stops (and_right (length s.olds == 0) (length s.stops == 0) (and_left ((length s.olds == 0) && (length s.stops == 0)) (list_all are_run s.clients) h))
+
+pub only-transactions : (s : Script) → IsRunnable 1 s → OnlyTransactions s
+only-transactions s F = lists-of-transactions s is_run transaction-if-run (lists-run s F.run)
+
+pub is-lone : (s : Script) → IsRunnable 1 s → HasOneClient s → IsLone s undisturbed
+is-lone s F one = record { one = one; plain = only-transactions s F; no_stops = no-stops s F.run; undisturbed = λ t. refl }
+
+-- whichever attempts are taken as resolved
+nobody : AttemptId → Bool
+nobody x = false
+
+some-targets : (n : ℕ) → n ≡ 1 → 0 < n
+some-targets n one = omega (arith, one)
+
+pub room-found : (s : Script) (j : Job) (free : ℕ) (q : Report) → IsRunnable 1 s → 1 ≤ j.attempts → IsLegal (given s j free) q → HasRoom s j.attempts (given s j free).opening.free → FindsRoom q
+room-found s j free q F least legal room =
+    transactions-find-room (given s j free) undisturbed nobody q (some-targets s.targets F.form.read_for) least room (only-transactions s F) (legal nobody)
+
+pub of-lone-client : (s : Script) (j : Job) (free : ℕ) (q : Report) → IsRunnable 1 s → 1 ≤ j.attempts → IsLegal (given s j free) q → HasOneClient s → IsOfLoneClient (given s j free) q
+of-lone-client s j free q F least legal one =
+    let g = given s j free in
+    let lone = is-lone s F one in
+    record {
+      never_restarted = never-restart g undisturbed nobody q lone (legal nobody);
+      one_attempt = try-once g undisturbed nobody q lone (legal nobody);
+      rising = (rise g undisturbed nobody q lone (legal nobody)).0;
+      plainly = end-plainly g undisturbed nobody q lone (legal nobody);
+      committed = λ free' room. commit g undisturbed nobody q lone (legal nobody) (some-targets s.targets F.form.read_for) least room free' (fresh-ticks 1 s j F.form one);
+    }

@@ -1,0 +1,14 @@
+-- What a report tells of a client that is alone.
+use Rattle.daos_base.specs.declared.report.Report.{Report}
+use Rattle.daos_lone.specs.Lone.{AllAreCommitted, EachIsTriedOnce, EndsPlainly, EpochsRise, HasNoConditions, NeverRestarts}
+use Rattle.daos_model.specs.Opening.{Given}
+use Rattle.daos_room.specs.Rooms.{HasRoom}
+
+-- A client that is alone is never told to restart: each of its commands has one attempt, in the order of the script, epochs rise in the
+-- order of the lines, and it is known what became of each; each is committed where there are no conditions, and room.
+pub record IsOfLoneClient (g : Given) (q : Report) : Type 0 where
+  pub never_restarted : NeverRestarts q
+  pub one_attempt : EachIsTriedOnce g.script q
+  pub rising : EpochsRise q
+  pub plainly : EndsPlainly q
+  pub committed : HasNoConditions g.script → HasRoom g.script g.job.attempts g.opening.free → AllAreCommitted q
