@@ -5,17 +5,10 @@ use Rattle.daos_base.specs.declared.report.Report.{Report}
 use Rattle.daos_base.specs.declared.script.Script.{Script}
 use Rattle.daos_gen.specs.Scripts.{script_of}
 use Rattle.daos_model.specs.Opening.{fresh}
-use Rattle.daos_report.specs.Forms.{IsReportOf}
-use Rattle.daos_run.specs.Opens.{IsLegal}
 use Rattle.daos_summary.specs.Summaries.{summary_text}
-use Rattle.daos_app.specs.Answers.{IsSummed}
+use Rattle.daos_app.specs.Answers.{IsRunReport, IsSummed}
 
-pub summed : (job : Job) (count : ℕ) (s : Script) (q : Report) (text : List ℕ) → job.targets ≡ 1 → s ≡ script_of 1 count → IsReportOf s q → IsLegal (fresh s job) q → text ≡ summary_text q count → IsSummed job count text
-summed job count s q text one is form legal told =
+pub summed : (job : Job) (count : ℕ) (s : Script) (q : Report) (text : List ℕ) → job.targets ≡ 1 → s ≡ script_of 1 count → IsRunReport (fresh s job) q → text ≡ summary_text q count → IsSummed job count text
+summed job count s q text one is of told =
     let same : s ≡ script_of job.targets count = is ∙ ap (λ n. script_of n count) (sym one) in
-    record {
-      report = q;
-      form = subst (λ t. IsReportOf t q) same form;
-      legal = subst (λ t. IsLegal (fresh t job) q) same legal;
-      told = told;
-    }
+    record { report = q; of_run = subst (λ t. IsRunReport (fresh t job) q) same of; told = told }

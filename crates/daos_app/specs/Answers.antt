@@ -6,29 +6,41 @@ use Rattle.daos_base.specs.declared.script.Script.{Script}
 use Rattle.daos_gen.specs.Scripts.{script_of}
 use Rattle.daos_input.specs.Inputs.{IsRead, IsRefused}
 use Rattle.daos_input.specs.Words.{run_job_of}
-use Rattle.daos_model.specs.Opening.{fresh}
+use Rattle.daos_lone.specs.Lone.{HasOneClient}
+use Rattle.daos_model.specs.Opening.{Given, fresh}
 use Rattle.daos_report.specs.Forms.{IsReportOf}
 use Rattle.daos_report.specs.Reports.{report_text}
-use Rattle.daos_run.specs.Opens.{IsLegal}
+use Rattle.daos_room.specs.Rooms.{FindsRoom, HasRoom}
+use Rattle.daos_run.specs.Alone.{IsOfLoneClient}
+use Rattle.daos_run.specs.Opens.{FollowsOrder, IsLegal}
 use Rattle.daos_status.specs.declared.status.Status.{Status}
 use Rattle.daos_status.specs.declared.status.Status.TheVariants as status
 use Rattle.daos_summary.specs.Summaries.{summary_text}
+use Rattle.world_lone.specs.LoneRuns.{AreIssuedBy}
 
 -- ---- what is written
 
--- the text of a legal report in form: legal for the script by the headline, over regions of zeros that nothing disturbs, and in the
--- form in which a text determines its report
+-- What the report of a run is: legal for the script by the headline, over regions of zeros that nothing disturbs, and in the form in
+-- which a text determines its report. It tells of turns in the order asked; target 0 issued all epochs; where there is room for all that
+-- the script writes, no attempt is refused for want of it; and a client that is alone is never told to restart.
+pub record IsRunReport (g : Given) (q : Report) : Type 0 where
+  pub form : IsReportOf g.script q
+  pub legal : IsLegal g q
+  pub ordered : FollowsOrder g q
+  pub issued : AreIssuedBy 0 q
+  pub room : HasRoom g.script g.job.attempts g.opening.free → FindsRoom q
+  pub lone : HasOneClient g.script → IsOfLoneClient g q
+
+-- the text of such a report
 pub record IsReported (job : Job) (script : Script) (text : List ℕ) : Type 0 where
   pub report : Report
-  pub form : IsReportOf script report
-  pub legal : IsLegal (fresh script job) report
+  pub of_run : IsRunReport (fresh script job) report
   pub told : text ≡ report_text script report
 
--- the summary of a legal report in form, of the generated script of so many commands
+-- the summary of such a report, of the generated script of so many commands
 pub record IsSummed (job : Job) (count : ℕ) (text : List ℕ) : Type 0 where
   pub report : Report
-  pub form : IsReportOf (script_of job.targets count) report
-  pub legal : IsLegal (fresh (script_of job.targets count) job) report
+  pub of_run : IsRunReport (fresh (script_of job.targets count) job) report
   pub told : text ≡ summary_text report count
 
 -- what a run tells: the source was read to its end, and the text is that of one report for the script that was read

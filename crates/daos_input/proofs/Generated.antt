@@ -10,6 +10,6 @@ pub generated_has_keys : {E : Type 0} (count : ℕ) (made : Result Script E) →
 generated_has_keys count (Ok s) is keys = subst ScriptHasKeys (sym is) keys
 generated_has_keys count (Err e) is keys = tt
 
-pub generated_is_run : {E : Type 0} (count : ℕ) (made : Result Script E) → IfOk made (λ s. s ≡ script_of 1 count) → IfOk made (λ s. IsInForm 1 s) → ScriptHasKeys (script_of 1 count) → runs (script_of 1 count) ≡ true → IfOk made (λ s. IsRunnable 1 s)
-generated_is_run count (Ok s) is form keys run = record { form = form; keys = subst ScriptHasKeys (sym is) keys; run = ap runs is ∙ run }
-generated_is_run count (Err e) is form keys run = tt
+pub generated_is_run : {E : Type 0} (count : ℕ) (made : Result Script E) → IfOk made (λ s. s ≡ script_of 1 count) → IfOk made (λ s. IsInForm 1 s) → runs (script_of 1 count) ≡ true → IfOk made (λ s. IsRunnable 1 s)
+generated_is_run count (Ok s) is form run = record { form = form; run = ap runs is ∙ run }
+generated_is_run count (Err e) is form run = tt

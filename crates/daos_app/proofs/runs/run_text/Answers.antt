@@ -3,4 +3,8 @@ use Rattle.daos_app.proofs.runs.run_text.Goals as goal
 pub returns-clause-reported : goal.returns-clause-reported
 returns-clause-reported g c =
     let ran = c.in_ok-report.ensures in
-    record { report = c.in_ok-report.report; form = ran.form; legal = ran.legal; told = c.in_ok-report_text.ensures }
+    record {
+      report = c.in_ok-report.report;
+      of_run = record { form = ran.form c.requires.keys; legal = ran.legal; ordered = ran.ordered; issued = ran.issued; room = ran.room; lone = ran.lone };
+      told = c.in_ok-report_text.ensures;
+    }

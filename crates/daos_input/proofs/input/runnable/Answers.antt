@@ -4,7 +4,6 @@ use Rattle.daos_input.proofs.input.runnable.Goals as goal
 pub returns-in-Ok-clause-form : goal.returns-in-Ok-clause-form
 returns-in-Ok-clause-form c = record {
   form = c.in-Ok.ensures.form;
-  keys = c.laws_of_keys.ensures.read 1 c.args.bytes.now c.in-Ok.script c.in-Ok.ensures.exact;
   run = sym c.if-runs.ensures;
 }
 
