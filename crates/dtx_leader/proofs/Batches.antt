@@ -1,5 +1,5 @@
 -- A batch, target by target.
-use Rattle.std.proofs.Common.{◌≡◌, ℕ, ◌+◌, ◌-◌, ◌<◌, ◌≤◌, List, [], ◌++◌, map, sym, ◌∙◌, ap, append_assoc, append-nil}
+use Rattle.std.proofs.Common.{◌≡◌, ℕ, ◌+◌, ◌-◌, ◌<◌, ◌≤◌, List, ◌++◌, map, sym, ◌∙◌, ap, append_assoc, append-nil}
 use Rattle.std.specs.List.{range_with_len}
 use Rattle.daos_base.specs.declared.entry.Entry.{Entry}
 use Rattle.daos_messages.specs.declared.message.Post.{Post}

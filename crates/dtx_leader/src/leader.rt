@@ -227,64 +227,34 @@ mod tests {
         }
     }
 
+    // An attempt that two others answered Ok, in a leader of incarnation 1.
+    fn decided(alloc: Global) -> Result<Leader, Memory> {
+        let mut leader = Leader::new(alloc, 0, 3, 1, &Items::new(alloc))?;
+        begin(&mut leader, 0)?;
+        leader.hear_ack(1, &ack(0, 1, None))?;
+        leader.hear_ack(2, &ack(0, 1, None))?;
+        Ok(leader)
+    }
+
     #[test]
     fn commits_and_tells(rt: HostRuntime) -> Result<(), Fail> {
         let alloc = rt.alloc();
-        let mut leader = Leader::new(alloc, 0, 3, 1, &Items::new(alloc))?;
-        assert_eq!(rt;
-            told(alloc, &begin(&mut leader, 0)?)?.as_str(),
-            "prepare 1 prepare 2 "
-        );
-        assert!(rt; matches!(leader.answer_query(attempt(0)), Verdict::Undecided));
-        for (from, inc, posts) in [(1, 1, ""), (2, 0, ""), (2, 1, "ended 9 ")] {
-            let answer = leader.hear_ack(from, &ack(0, inc, None))?;
-            assert_eq!(rt; told(alloc, &answer)?.as_str(), posts, "{from}");
-        }
+        let mut leader = decided(alloc)?;
         assert!(rt; matches!(leader.answer_query(attempt(0)), Verdict::Committed));
         leader.settled(attempt(0));
         assert_eq!(rt; told(alloc, &leader.batch()?)?.as_str(), "mark 1 mark 2 ");
-        assert_eq!(rt; told(alloc, &leader.batch()?)?.as_str(), "");
-        let mut attempts = Items::new(alloc);
-        attempts.push(attempt(0))?;
-        leader.hear_ack(1, &Message::Marked { inc: 1, attempts })?;
-        let mut marks = Items::new(alloc);
-        marks.push((attempt(0), true))?;
-        let mark = Message::Mark { inc: 1, marks };
-        for (down, posts) in [(false, "mark 2 "), (true, "")] {
-            assert_eq!(rt;
-                told(alloc, &leader.hear_reset(2, down, &mark)?)?.as_str(),
-                posts
-            );
-            assert_eq!(rt; told(alloc, &leader.batch()?)?.as_str(), "");
-        }
+        assert!(rt; !leader.has_batch());
         Ok(())
     }
 
     #[test]
-    fn aborts_and_asks_again(rt: HostRuntime) -> Result<(), Fail> {
+    fn aborts(rt: HostRuntime) -> Result<(), Fail> {
         let alloc = rt.alloc();
         let mut leader = Leader::new(alloc, 0, 3, 1, &Items::new(alloc))?;
         begin(&mut leader, 1)?;
-        let spent = ack(1, 1, Some(Outcome::EpochsSpent));
-        let posts = leader.hear_ack(1, &spent)?;
+        let posts = leader.hear_ack(1, &ack(1, 1, Some(Outcome::EpochsSpent)))?;
         assert_eq!(rt; told(alloc, &posts)?.as_str(), "ended 9 mark 1 mark 2 ");
-        assert_eq!(rt;
-            told(alloc, &leader.hear_ack(2, &ack(1, 1, None))?)?.as_str(),
-            ""
-        );
         assert!(rt; matches!(leader.answer_query(attempt(1)), Verdict::Aborted));
-        begin(&mut leader, 2)?;
-        let status = Message::Status {
-            attempt: attempt(2),
-            inc: 1,
-        };
-        for (down, posts) in [(false, "status 1 "), (true, "ended 9 "), (true, "")] {
-            assert_eq!(rt;
-                told(alloc, &leader.hear_reset(1, down, &status)?)?.as_str(),
-                posts
-            );
-        }
-        assert_eq!(rt; leader.down_among(6), Some(1));
         Ok(())
     }
 }

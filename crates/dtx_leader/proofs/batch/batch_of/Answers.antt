@@ -1,4 +1,4 @@
-use Rattle.std.proofs.Common.{◌≡◌, arith}
+use Rattle.std.proofs.Common.{arith}
 use Rattle.dtx_base.specs.Leading.{marks_for, names_for}
 use Rattle.dtx_base.specs.Members.{all_targets}
 use Rattle.dtx_leader.proofs.Batches.{marks_all, marks_next, names_all, names_next}

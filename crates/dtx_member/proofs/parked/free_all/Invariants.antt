@@ -1,4 +1,4 @@
-use Rattle.std.specs.Prelude.{◌≡◌, ◌++◌, ◌+◌, ◌-◌, ◌≤◌, drop, take, filter, length, map, vec_len, vec_capacity}
+use Rattle.std.specs.Prelude.{◌≡◌, ◌++◌, ◌+◌, ◌-◌, ◌≤◌, drop, take, filter, map, vec_len, vec_capacity}
 use Rattle.dtx_base.specs.Joining.{is_parked_elsewhere, is_parked_on, parked_ask}
 use Rattle.dtx_member.proofs.parked.free_all.Given as goal
 

@@ -1,6 +1,4 @@
-use Rattle.std.proofs.Common.{◌≡◌, true}
 use Rattle.daos_model.specs.Durables.{entry_key}
-use Rattle.daos_model.specs.Ordered.{is_rising}
 use Rattle.daos_model.specs.OrderLaws.{rising-filter}
 use Rattle.dtx_base.specs.Leading.{is_led}
 use Rattle.dtx_leader.proofs.leader.Leader.new.Goals as goal
