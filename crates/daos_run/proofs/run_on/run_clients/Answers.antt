@@ -15,13 +15,13 @@ targets_of-requires-clause-opened g c d told = is-heard g.S.Store.durable g.S.St
 
 pub run_in_order-targets-requires-clause-going : goal.run_in_order-targets-requires-clause-going
 run_in_order-targets-requires-clause-going g c =
-    let n = c.in-Ok.ensures in
+    let n = c.in-Ok.ensures.new in
     subst (λ xs. CanGo g.S.Store.durable g.S.Store.state c.args.clients.items xs nothing) (sym n.only)
     (can-go g.S.Store.durable g.S.Store.state c.args.script.now c.args.job.now c.args.store c.args.clients.items n.target c.requires.script c.requires.least c.requires.opened c.requires.first n.new)
 
 pub returns-in-Ok-ran-clause-reports : goal.returns-in-Ok-ran-clause-reports
 returns-in-Ok-ran-clause-reports g c free room tells =
-    let n = c.in-Ok.ensures in
+    let n = c.in-Ok.ensures.new in
     let q = c.requires in
     let s = c.args.script.now in
     let j = c.args.job.now in
@@ -35,3 +35,12 @@ returns-in-Ok-ran-clause-reports g c free room tells =
     let went = subst (λ r. IfOk r (λ lines. HasRun g.S.Store.durable g.S.Store.state (rules_of (given s j free)) j.order w xs lines)) c.in-Ok-ran.is
     (c.run_in_order-targets.ensures.run (rules_of (given s j free)) w (given s j free).opening alone begun shown) in
     reports g.S.Store.durable g.S.Store.state s j free w xs c.in-Ok-ran.lines c.parts_of-store.result.0 q.script q.least q.most begun went (c.run_in_order-targets.ensures.stores.stores.many ∙ ap length n.only) c.parts_of-store.ensures
+
+pub returns-in-Ok-ran-clause-runs : goal.returns-in-Ok-ran-clause-runs
+returns-in-Ok-ran-clause-runs g c =
+    let n = c.in-Ok.ensures.new in
+    let ys = c.run_in_order-targets.result.0.items in
+    ran g.S.Store.durable g.S.Store.state n.target _ ys c.args.store c.parts_of-store.result.0 n.only n.new.over (c.run_in_order-targets.ensures.stores.stores.many ∙ ap length n.only) c.parts_of-store.ensures c.in-Ok-ran.lines c.in-Ok-ran.lines c.in-Ok-ran.ensures.stores
+
+pub returns-in-Err-ran-clause-runs : goal.returns-in-Err-ran-clause-runs
+returns-in-Err-ran-clause-runs g c = ?
