@@ -1,15 +1,23 @@
 -- Why a run gives no report.
-use Rattle.std.specs.Prelude.{◌≡◌, Bool, true, false, Option, None}
+use Rattle.std.specs.Prelude.{ℕ, ◌≡◌, Bool, true, false, Option, None}
 use Rattle.daos_model.specs.declared.durable.Durable.{Durable}
 use Rattle.daos_run.specs.declared.stop.Part.TheVariants.{Containers}
 use Rattle.daos_run.specs.declared.stop.RunStop.{RunStop}
 use Rattle.daos_run.specs.declared.stop.RunStop.TheVariants as stop
 use Rattle.run_order.specs.declared.halted.Halted.{Halted}
 use Rattle.run_order.specs.declared.halted.Halted.TheVariants as halted
+use Rattle.vos_store.specs.declared.refusal.EnlistNo.{EnlistNo}
+use Rattle.vos_store.specs.declared.refusal.EnlistNo.TheVariants as enlist
 
 abbrev pub stop_of : Halted → RunStop
 stop_of (halted.Stopped target) = stop.RackFault target
 stop_of halted.Memory = stop.Memory
+
+-- containers aren't added to the store of a target
+abbrev pub enlist_stopped : ℕ → EnlistNo → RunStop
+enlist_stopped target (enlist.TooMany together) = stop.Shape target Containers together 256
+enlist_stopped target enlist.Stopped = stop.RackFault target
+enlist_stopped target enlist.Memory = stop.Memory
 
 -- it is the fault of a target's store
 abbrev pub is_fault : RunStop → Bool

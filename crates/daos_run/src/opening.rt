@@ -2,7 +2,7 @@
 ghost use Rattle.std.specs.Prelude.{◌≡◌, ◌≤◌, length, IfErr, IfOk, OnOk};
 ghost use Rattle.daos_base.specs.Scripts.{IsInForm};
 ghost use Rattle.daos_run.specs.Opens.{AreFirst, IsEmpty, IsOpened};
-ghost use Rattle.daos_run.specs.Stops.{MayStop, is_fault};
+ghost use Rattle.daos_run.specs.Stops.{MayStop, enlist_stopped, is_fault};
 ghost use Rattle.target_core.specs.Parts.{Runs};
 ghost use Rattle.world_begins.specs.Begins.{declared_conts};
 
@@ -28,7 +28,9 @@ fn conts_of(alloc: Global, script: &Script) -> Result<Vec<ContId>, Memory>
 }
 
 // Why containers aren't added to the store of a target.
-fn enlist_stop(target: TargetId, no: EnlistNo) -> RunStop {
+fn enlist_stop(target: TargetId, no: EnlistNo) -> RunStop
+    ensures { result ≡ enlist_stopped target no }
+{
     match no {
         EnlistNo::TooMany { together } => RunStop::Shape {
             target,

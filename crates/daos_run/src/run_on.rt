@@ -41,7 +41,8 @@ fn targets_of<S: Store, C: Clock>(
     requires running { (S.state store).stopped ≡ false }
     requires made { 1 ≤ (S.state store).targets }
     requires opened { ForSome (S.durable store) (λ d. IsHeard d.lease d) }
-    ensures { IfOk result (λ targets. IsOnlyNew S.durable store job.now.epsilon targets.items) }
+    ensures new { IfOk result (λ targets. IsOnlyNew S.durable store job.now.epsilon targets.items) }
+    ensures handed_back { IfErr result (λ parts. parts ≡ record { store = store; clock = clock }) }
 {
     let Ok(mut targets) = Vec::with_capacity(alloc, 1) else {
         return Err(TargetNew { store, clock });
