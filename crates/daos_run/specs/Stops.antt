@@ -1,7 +1,7 @@
 -- Why a run gives no report.
 use Rattle.std.specs.Prelude.{ℕ, ◌≡◌, Bool, true, false, Option, None}
 use Rattle.daos_model.specs.declared.durable.Durable.{Durable}
-use Rattle.daos_run.specs.declared.stop.Part.TheVariants.{Containers}
+use Rattle.daos_status.specs.declared.part.Part.TheVariants.{Containers}
 use Rattle.daos_run.specs.declared.stop.RunStop.{RunStop}
 use Rattle.daos_run.specs.declared.stop.RunStop.TheVariants as stop
 use Rattle.run_order.specs.declared.halted.Halted.{Halted}

@@ -1,4 +1,4 @@
-use Rattle.std.specs.Prelude.{IfOk, length}
+use Rattle.std.specs.Prelude.{Err, IfOk, Ok, length, refl}
 use Rattle.std.proofs.Common.{◌∙◌, ap, subst, sym}
 use Rattle.daos_run.proofs.Begun.{can-go, first, is-alone, is-begun, is-heard, is-shown}
 use Rattle.daos_run.proofs.OneStore.{halted-so, may, ran, some-kept}
@@ -6,6 +6,12 @@ use Rattle.daos_run.proofs.Reported.{reports}
 use Rattle.daos_run.specs.Opens.{given}
 use Rattle.run_actors.specs.CanGo.{CanGo}
 use Rattle.run_actors.specs.Shows.{Shows}
+use Rattle.daos_run.specs.declared.stop.RunStop.TheVariants.{Memory as NoMemory}
+use Rattle.daos_run.specs.Stops.{MayStop, is_fault}
+use Rattle.run_order.specs.Halts.{Leaves}
+use Rattle.target_core.specs.Parts.{Runs}
+use Rattle.target_core.specs.Running.{runs_as, runs_first}
+use Rattle.vos_store.specs.Refusals.{always_stop}
 use Rattle.run_order.specs.Ended.{HasRun, nothing}
 use Rattle.world_ends.specs.Ends.{rules_of}
 use Rattle.daos_run.proofs.run_on.run_clients.Goals as goal
@@ -39,8 +45,29 @@ returns-in-Ok-ran-clause-reports g c free room tells =
 pub returns-in-Ok-ran-clause-runs : goal.returns-in-Ok-ran-clause-runs
 returns-in-Ok-ran-clause-runs g c =
     let n = c.in-Ok.ensures.new in
+    let xs = c.in-Ok.targets.items in
     let ys = c.run_in_order-targets.result.0.items in
-    ran g.S.Store.durable g.S.Store.state n.target _ ys c.args.store c.parts_of-store.result.0 n.only n.new.over (c.run_in_order-targets.ensures.stores.stores.many ∙ ap length n.only) c.parts_of-store.ensures c.in-Ok-ran.lines c.in-Ok-ran.lines c.in-Ok-ran.ensures.stores
+    ran g.S.Store.durable g.S.Store.state n.target xs ys c.args.store c.parts_of-store.result.0 n.only n.new.over (c.run_in_order-targets.ensures.stores.stores.many ∙ ap length n.only) c.parts_of-store.ensures c.in-Ok-ran.lines c.in-Ok-ran.lines
+    (subst (λ r. Leaves g.S.Store.durable g.S.Store.state r xs ys) c.in-Ok-ran.is c.run_in_order-targets.ensures.stores)
 
 pub returns-in-Err-ran-clause-runs : goal.returns-in-Err-ran-clause-runs
-returns-in-Err-ran-clause-runs g c = ?
+returns-in-Err-ran-clause-runs g c =
+    let n = c.in-Ok.ensures.new in
+    let xs = c.in-Ok.targets.items in
+    let ys = c.run_in_order-targets.result.0.items in
+    halted-so g.S.Store.durable g.S.Store.state n.target xs ys c.args.store c.parts_of-store.result.0 n.only n.new.over (c.run_in_order-targets.ensures.stores.stores.many ∙ ap length n.only) c.parts_of-store.ensures c.in-Err-ran.halted (Err c.from.result) (ap Err c.from.ensures)
+    (subst (λ r. Leaves g.S.Store.durable g.S.Store.state r xs ys) c.in-Err-ran.is c.run_in_order-targets.ensures.stores)
+
+pub returns-in-Err-ran-clause-refusals : goal.returns-in-Err-ran-clause-refusals
+returns-in-Err-ran-clause-refusals g c =
+    let n = c.in-Ok.ensures.new in
+    let xs = c.in-Ok.targets.items in
+    let ys = c.run_in_order-targets.result.0.items in
+    subst (MayStop (g.S.Store.durable c.args.store)) (sym c.from.ensures)
+    (may g.S.Store.durable g.S.Store.state n.target xs ys c.args.store c.parts_of-store.result.0 n.only n.new.over (c.run_in_order-targets.ensures.stores.stores.many ∙ ap length n.only) c.parts_of-store.ensures (g.S.Store.durable c.args.store) c.in-Err-ran.halted
+    (subst (λ r. Leaves g.S.Store.durable g.S.Store.state r xs ys) c.in-Err-ran.is c.run_in_order-targets.ensures.stores))
+
+pub returns-in-Err-clause-runs : goal.returns-in-Err-clause-runs
+returns-in-Err-clause-runs g c =
+    subst (λ x. Runs is_fault (Err NoMemory) (g.S.Store.state c.args.store) (g.S.Store.state x) (g.S.Store.durable c.args.store) (g.S.Store.durable x)) (sym (ap (λ p. p.store) c.in-Err.ensures.handed_back))
+    (runs_as always_stop (Ok (tt {0})) is_fault (Err NoMemory) (g.S.Store.state c.args.store) (g.S.Store.state c.args.store) (g.S.Store.durable c.args.store) (g.S.Store.durable c.args.store) refl (runs_first (g.S.Store.state c.args.store) (g.S.Store.durable c.args.store) c.requires.opened.fresh.running))
