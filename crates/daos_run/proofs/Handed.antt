@@ -1,5 +1,5 @@
 -- What a run on the only target's store comes to, said of the store at the call.
-use Rattle.std.specs.Prelude.{ℕ, ◌≡◌, true, List, [], ◌∷◌, Option, Some, None, is_some, slice_get}
+use Rattle.std.specs.Prelude.{◌≡◌, true, List, [], ◌∷◌, Option, Some, None, is_some, slice_get}
 use Rattle.std.proofs.Common.{◌∙◌, subst, sym}
 use Rattle.daos_base.specs.declared.job.Job.{Job}
 use Rattle.daos_base.specs.declared.report.Line.{Line}
