@@ -29,7 +29,7 @@ use Rattle.world_begins.specs.Begins.{AreEnlisted, IsAlone, IsBegun, OpensWith, 
 use Rattle.world_begins.specs.Fresh.{fresh-opens}
 use Rattle.world_ends.specs.Ends.{rules_of}
 use Rattle.world_epochs.specs.Epochs.{is_unsnapped}
-use Rattle.world_events.specs.Events.{Begins, Rules, client_plan, commands_or_none, target_plan}
+use Rattle.world_events.specs.Events.{Begins, client_plan, commands_or_none, target_plan}
 
 -- ---- scripts
 

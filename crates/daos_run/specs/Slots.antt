@@ -1,5 +1,5 @@
 -- The stores and the clocks that a run is given and hands back.
-use Rattle.std.specs.Prelude.{◌≡◌, Bool, true, List, [], ◌∷◌, Option, Some, is_some}
+use Rattle.std.specs.Prelude.{◌≡◌, true, List, [], ◌∷◌, Option, Some, is_some}
 use Rattle.daos_model.specs.declared.durable.Durable.{Durable}
 
 -- the only target has a store and a clock
