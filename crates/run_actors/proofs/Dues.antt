@@ -1,13 +1,9 @@
 -- Who hears how many messages.
-use Rattle.std.specs.Prelude.{ℕ, ◌≡◌, ◌≤◌, ◌<◌, Bool, true, false, nat_lt, max, List, [], ◌∷◌, length, slice_get, slice_index_or, Some, refl, if◌then◌else◌}
-use Rattle.std.proofs.Common.{zero, suc, sym, ◌∙◌, ap, subst, arith}
+use Rattle.std.specs.Prelude.{ℕ, ◌≡◌, ◌≤◌, ◌<◌, Bool, true, false, nat_lt, max, refl, if◌then◌else◌}
+use Rattle.std.proofs.Common.{◌∙◌, ap, arith}
 use Rattle.std.proofs.lemmas.Bool.Decides.{nat_tests}
-use Rattle.daos_messages.specs.declared.actor.ActorId.{ActorId}
-use Rattle.client_core.specs.Clients.{ClientNow}
 use Rattle.world_base.specs.declared.client.ClientState.{ClientState}
-use Rattle.world_base.specs.declared.letter.Letter.{Letter}
-use Rattle.world_events.specs.Letters.{client}
-use Rattle.run_picks.specs.Picks.{count_to, heard_awake}
+use Rattle.run_picks.specs.Picks.{heard_awake}
 
 -- a client that hears one of these messages is awake, and the number is that of one of them
 pub record Hears (c : ClientState) (count number : ℕ) : Type 0 where

@@ -1,5 +1,5 @@
 -- Actors that can go on can go on after a turn.
-use Rattle.std.specs.Prelude.{ℕ, ◌≡◌, ◌++◌, Bool, true, false, List, [], ◌∷◌, slice_get, Contains, Option, Some, None, is_some, refl}
+use Rattle.std.specs.Prelude.{ℕ, ◌≡◌, ◌++◌, true, false, List, [], slice_get, Contains, Option, Some, None, is_some, refl}
 use Rattle.std.proofs.Common.{inl, inr, sym, ◌∙◌, ap, subst}
 use Rattle.std.proofs.Math.ListN.{set}
 use Rattle.std.proofs.lemmas.Bool.{cases_eq, true≢false}
@@ -24,7 +24,7 @@ use Rattle.world_base.specs.declared.letter.Letter.{Letter}
 use Rattle.world_base.specs.declared.world.World.{World}
 use Rattle.world_base.specs.ClientTurns.{HearTurn, NextTurn}
 use Rattle.world_begins.specs.Begins.{IsAlone}
-use Rattle.world_core.specs.Posting.{ArePostsInForm, HasFormFor, IsPlainScript, clients-post-in-form, hearers-post-in-form, is_told}
+use Rattle.world_core.specs.Posting.{ArePostsInForm, IsPlainScript, clients-post-in-form, hearers-post-in-form, is_told}
 use Rattle.world_events.specs.Events.{Goes, Rules, client_plan}
 use Rattle.world_events.specs.Letters.{client, letter_of, letters_of, target}
 use Rattle.world_events.specs.StepLaws.{set-there}

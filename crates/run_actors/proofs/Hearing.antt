@@ -1,5 +1,5 @@
 -- What a target of a run is asked it can hear.
-use Rattle.std.specs.Prelude.{ℕ, ◌≡◌, true, false, List, [], ◌∷◌, length, slice_get, Contains, All, Option, Some, None, refl}
+use Rattle.std.specs.Prelude.{ℕ, ◌≡◌, true, false, List, slice_get, Contains, All, Option, Some, None, refl}
 use Rattle.std.proofs.Common.{sym, ◌∙◌, ap, subst}
 use Rattle.client_core.specs.Clients.{ClientNow}
 use Rattle.daos_base.specs.declared.epoch.Epoch.{Epoch}
@@ -7,7 +7,7 @@ use Rattle.daos_messages.specs.declared.message.Message.{Message}
 use Rattle.daos_messages.specs.declared.message.Message.TheVariants as message
 use Rattle.daos_model.specs.declared.durable.Durable.{Durable}
 use Rattle.run_letters.specs.Letters.{BetweenNow, IsPicked}
-use Rattle.run_actors.specs.Shows.{IsGoing, IsTargetOf, Shows}
+use Rattle.run_actors.specs.Shows.{IsGoing}
 use Rattle.run_actors.specs.CanGo.{CanGo}
 use Rattle.run_actors.specs.Shown.{target-there}
 use Rattle.run_actors.proofs.Going.{taken-in-form}
@@ -16,12 +16,9 @@ use Rattle.target_core.specs.Targets as target_core
 use Rattle.target_core.specs.Targets.{HasForm, TargetOf}
 use Rattle.vos_store.specs.Calls.{State}
 use Rattle.world_base.specs.declared.letter.Letter.{Letter}
-use Rattle.world_base.specs.declared.target.TargetState.{TargetState}
-use Rattle.world_base.specs.declared.world.World.{World}
 use Rattle.world_begins.specs.Hearable.{CanHear}
 use Rattle.world_core.specs.Posting.{IsAskedInForm}
 use Rattle.world_begins.specs.Whole.{runs-can-be-heard}
-use Rattle.world_events.specs.Events.{Rules, target_plan}
 use Rattle.world_events.specs.Letters.{target}
 use Rattle.world_talks.specs.TalkLaws.{taken-is-among}
 

@@ -9,10 +9,9 @@ use Rattle.run_letters.specs.Letters.{BetweenNow}
 use Rattle.run_actors.specs.Due.{due_actors, due_below, is_due_client, is_due_target, one_if}
 use Rattle.run_actors.specs.ListLaws.{map-get, there-is}
 use Rattle.run_actors.specs.Shows.{IsTargetOf, Shows, state_of}
-use Rattle.run_picks.specs.Picks.{actors, count_to, due, heard, heard_awake, heard_by_client, if_client_due, if_target_due, is_client_due, is_due, is_target_due, numbered}
+use Rattle.run_picks.specs.Picks.{count_to, due, heard, heard_awake, heard_by_client, if_client_due, if_target_due, is_client_due, is_due, is_target_due, numbered}
 use Rattle.target_core.specs.Targets.{TargetOf}
 use Rattle.vos_store.specs.Calls.{State}
-use Rattle.world_base.specs.declared.client.ClientState.{ClientState}
 use Rattle.world_base.specs.declared.target.TargetState.{TargetState}
 use Rattle.world_base.specs.declared.world.World.{World}
 use Rattle.world_events.specs.Events.{Rules, client_plan, target_plan}

@@ -1,5 +1,5 @@
 -- Turns of actors one after another.
-use Rattle.std.specs.Prelude.{ℕ, ◌≡◌, List, length, Option, Result, Ok, Err, OnOk, refl}
+use Rattle.std.specs.Prelude.{ℕ, ◌≡◌, List, length, Option, refl}
 use Rattle.std.proofs.Common.{◌∙◌}
 use Rattle.client_core.specs.Clients.{ClientNow}
 use Rattle.daos_messages.specs.declared.actor.ActorId.{ActorId}
@@ -10,12 +10,11 @@ use Rattle.run_actors.specs.CanGo.{CanGo}
 use Rattle.run_actors.specs.Stores.{AllRun}
 use Rattle.run_actors.specs.StoreLaws.{run-first, run-then}
 use Rattle.run_actors.specs.Shows.{Shows, Steps}
-use Rattle.run_picks.specs.OrderLaws.{turn-event}
 use Rattle.run_picks.specs.Picks.{TurnOf}
 use Rattle.target_core.specs.Targets.{TargetOf}
 use Rattle.vos_store.specs.Calls.{State}
 use Rattle.world_base.specs.declared.world.World.{World}
-use Rattle.world_events.specs.Events.{Goes, Rules}
+use Rattle.world_events.specs.Events.{Rules}
 
 module _ {S C : Type 0} (durable : S → Option Durable) (state : S → State) where
   -- From each world that these showed, those have come to one that they show, in this way; they are those of a begun run, and as many.

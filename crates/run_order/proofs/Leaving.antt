@@ -1,11 +1,10 @@
 -- What turns leave of the stores, one after another.
-use Rattle.std.specs.Prelude.{ℕ, ◌≡◌, ◌<◌, ◌==◌, ◌&&◌, Bool, true, false, IfErr, List, length, Option, Result, Ok, Err, refl}
+use Rattle.std.specs.Prelude.{ℕ, ◌≡◌, ◌<◌, IfErr, List, length, Option, Result, Ok, Err, refl}
 use Rattle.std.proofs.Common.{sym, ◌∙◌, ap, subst}
 use Rattle.daos_model.specs.declared.durable.Durable.{Durable}
 use Rattle.run_actors.specs.Stores.{AllRun, StoresRun, stops_at}
 use Rattle.run_actors.specs.StoreLaws.{AreRunning, run-as, run-first, run-then}
 use Rattle.run_order.specs.declared.halted.Halted.{Halted}
-use Rattle.run_order.specs.declared.halted.Halted.TheVariants as halted
 use Rattle.run_order.specs.Halts.{ComesOf, IsOneOf, Leaves, stopped_at, wanting}
 use Rattle.target_core.specs.declared.stop.TargetStop.{TargetStop}
 use Rattle.target_core.specs.Targets.{TargetOf}

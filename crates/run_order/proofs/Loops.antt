@@ -12,7 +12,6 @@ use Rattle.run_actors.specs.Due.{due_actors, is_due_client, is_due_target}
 use Rattle.run_order.specs.Ended.{IsShown}
 use Rattle.run_actors.specs.CanGo.{CanGo}
 use Rattle.run_actors.specs.Stores.{AllRun}
-use Rattle.run_actors.specs.StoreLaws.{run-first, run-then}
 use Rattle.run_actors.specs.Shows.{Shows, Steps}
 use Rattle.run_order.proofs.Going.{GoesOn, goes-as, goes-then, goes-turn}
 use Rattle.run_actors.specs.Shown.{client-due-shown, due-shown, many-clients, target-due-shown}

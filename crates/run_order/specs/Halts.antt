@@ -1,5 +1,5 @@
 -- Why a run doesn't come to its end, and what it then leaves of the stores.
-use Rattle.std.specs.Prelude.{ℕ, ◌≡◌, ◌<◌, ◌==◌, Bool, true, false, IfErr, List, length, Option, Result}
+use Rattle.std.specs.Prelude.{ℕ, ◌≡◌, ◌<◌, ◌==◌, Bool, false, IfErr, List, length, Option, Result}
 use Rattle.daos_model.specs.declared.durable.Durable.{Durable}
 use Rattle.run_actors.specs.Stores.{StoresRun, stops_at}
 use Rattle.run_order.specs.declared.halted.Halted.{Halted}

@@ -1,7 +1,7 @@
 use Rattle.std.specs.Prelude.{◌≤◌, ◌<◌, length}
 use Rattle.std.proofs.Common.{arith, subst, sym}
 use Rattle.run_actors.specs.Shows.{Steps}
-use Rattle.run_order.proofs.Leaving.{leaves-ok, leaves-wanting, turn-stopped, turn-whole}
+use Rattle.run_order.proofs.Leaving.{leaves-ok, turn-stopped, turn-whole}
 use Rattle.run_actors.specs.Shown.{named-client, named-target}
 use Rattle.run_order.proofs.order.turn.Goals as goal
 
