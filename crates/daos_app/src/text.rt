@@ -20,7 +20,7 @@ use std::sync::Wait;
 use std::thread::Threads;
 
 // The report of a run of the script that the source gives; or why there is none.
-fn report_of<R: Threads + Wait + Sync, S: Source, B: Rack, G: Gate + Sync>(
+fn report_text_of<R: Threads + Wait + Sync, S: Source, B: Rack, G: Gate + Sync>(
     rt: &R,
     alloc: Global,
     job: &Job,
@@ -51,7 +51,7 @@ fn report_of<R: Threads + Wait + Sync, S: Source, B: Rack, G: Gate + Sync>(
 }
 
 // The summary of a load of so many commands; for want of memory there is none.
-fn summary_of<R: Threads + Wait + Sync, B: Rack, G: Gate + Sync>(
+fn summary_text_of<R: Threads + Wait + Sync, B: Rack, G: Gate + Sync>(
     rt: &R,
     alloc: Global,
     job: &Job,
@@ -104,7 +104,7 @@ pub fn text_of<R: Threads + Wait + Sync, S: Source, B: Rack, G: Gate + Sync>(
         Err(WordNo::Memory) => return Err(Status::Memory),
     };
     match job.load {
-        None => report_of(rt, alloc, &job, source, rack, gate),
-        Some(count) => summary_of(rt, alloc, &job, count, rack, gate),
+        None => report_text_of(rt, alloc, &job, source, rack, gate),
+        Some(count) => summary_text_of(rt, alloc, &job, count, rack, gate),
     }
 }

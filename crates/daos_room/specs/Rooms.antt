@@ -88,7 +88,7 @@ RoomIsFound =
     (g : Given) (o : Outside) (resolved : AttemptId → Bool) (q : Report) → 0 < g.script.targets → 0 < g.job.attempts → HasRoom g.script g.job.attempts g.opening.free
     → HasPlaces g.script g.job.attempts (length g.opening.stand.snaps) → Headline g o resolved q → FindsRoom q
 
--- where no command makes a snapshot, room is enough
+-- where each command is a transaction that reads at no snapshot, room is enough
 abbrev pub TransactionsFindRoom : Type 0
 TransactionsFindRoom =
     (g : Given) (o : Outside) (resolved : AttemptId → Bool) (q : Report) → 0 < g.script.targets → 0 < g.job.attempts → HasRoom g.script g.job.attempts g.opening.free → OnlyTransactions g.script

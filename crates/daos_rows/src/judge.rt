@@ -1,5 +1,6 @@
 // Whether a report of one target is legal, as the slow functions of the definitions find it. Scripts
-// whose clients put and get single values, without conditions, stops, snapshots and aggregation.
+// whose clients run transactions alone, which put and get single values, without conditions, stops,
+// snapshots and aggregation, skip no turns and tell no trackers.
 ghost use Rattle.std.specs.Prelude.{All, IfOk};
 ghost use Rattle.daos_model.specs.Effect.{AllEndInArrays, EndsInArray};
 
@@ -127,11 +128,25 @@ fn writes_near(ops: &[Op], path: &Path) -> bool {
     })
 }
 
-// Whether an attempt may end so: committed, or told to restart by an attempt that read at a later
-// epoch near a write.
+// Whether an attempt was answered all its reads, each once, in their order.
+fn has_all_answers(ops: &[Op], attempt: &Attempt) -> bool {
+    let mut gots = attempt.gots.as_slice().iter();
+    for (number, op) in ops.iter().enumerate() {
+        if let Act::Fetch(_) = &op.act {
+            match gots.next() {
+                Some(got) if usize::from(got.0) == number => {}
+                _ => return false,
+            }
+        }
+    }
+    gots.next().is_none()
+}
+
+// Whether an attempt may end so: committed with all its answers, or told to restart by an attempt that
+// read at a later epoch near a write.
 fn ends_rightly(script: &Script, attempts: &[&Attempt], attempt: &Attempt) -> bool {
     match &attempt.outcome {
-        Outcome::Committed => true,
+        Outcome::Committed => has_all_answers(ops_of(script, attempt.id), attempt),
         Outcome::Restart(Cause::ReadLater { by, epoch, path }) => {
             attempt.epoch < Some(*epoch)
                 && attempts
@@ -179,8 +194,17 @@ fn all_come_in_turn(script: &Script, attempts: &[&Attempt], limit: u8) -> bool {
     true
 }
 
+// The greatest epoch that a client was told of with an attempt: its own, or that of the cause that it
+// shows.
+fn told_by(attempt: &Attempt) -> Option<Epoch> {
+    match &attempt.outcome {
+        Outcome::Restart(Cause::ReadLater { epoch, .. }) => Some(*epoch),
+        _ => attempt.epoch,
+    }
+}
+
 // Whether each attempt has an epoch that target 0 issued above all of before, no two have the same, and
-// those of a client rise.
+// those of a client rise above all that it was told.
 fn epochs_are_right(attempts: &[&Attempt]) -> bool {
     let above = |attempt: &Attempt| match attempt.epoch {
         Some(epoch) => epoch > Epoch(255) && epoch.issuer() == 0,
@@ -190,7 +214,7 @@ fn epochs_are_right(attempts: &[&Attempt]) -> bool {
         && attempts.iter().enumerate().all(|(place, attempt)| {
             attempts[..place].iter().all(|before| {
                 before.epoch != attempt.epoch
-                    && (before.id.client != attempt.id.client || before.epoch < attempt.epoch)
+                    && (before.id.client != attempt.id.client || told_by(before) < attempt.epoch)
             })
         })
 }
@@ -218,6 +242,9 @@ pub fn is_legal(alloc: Global, script: &Script, report: &Report, limit: u8) -> R
     let Some(attempts) = attempts_of(alloc, report)? else {
         return Ok(false);
     };
+    if report.targets != script.targets || report.down.is_some() {
+        return Ok(false);
+    }
     let ends = attempts
         .iter()
         .all(|attempt| ends_rightly(script, &attempts, attempt));

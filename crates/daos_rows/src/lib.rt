@@ -12,6 +12,8 @@ mod first;
 #[cfg(test)]
 mod judge;
 #[cfg(test)]
+mod loads;
+#[cfg(test)]
 mod orders;
 #[cfg(test)]
 mod planned;

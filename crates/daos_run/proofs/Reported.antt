@@ -6,6 +6,8 @@ use Rattle.daos_base.specs.declared.job.Job.{Job}
 use Rattle.daos_base.specs.declared.report.Line.{Line}
 use Rattle.daos_base.specs.declared.script.Script.{Script}
 use Rattle.daos_model.specs.declared.durable.Durable.{Durable}
+use Rattle.daos_model.specs.Changes.{enlisted}
+use Rattle.daos_model.specs.Durables.{empty_durable}
 use Rattle.daos_model.specs.Finals.{HeadlineOver}
 use Rattle.daos_model.specs.Headline.{Headline}
 use Rattle.daos_model.specs.Opening.{Given, undisturbed}
@@ -17,8 +19,9 @@ use Rattle.run_order.specs.Ended.{HasRun}
 use Rattle.run_picks.specs.OrderLaws.{orders-are-runs}
 use Rattle.target_core.specs.Targets.{TargetOf}
 use Rattle.vos_store.specs.Calls.{State}
+use Rattle.world_base.specs.declared.target.TargetState.{TargetState}
 use Rattle.world_base.specs.declared.world.World.{World}
-use Rattle.world_begins.specs.Begins.{IsBegun}
+use Rattle.world_begins.specs.Begins.{IsBegun, declared_conts}
 use Rattle.world_ends.specs.Ends.{rules_of}
 use Rattle.world_ends.specs.FromBeginning.{over, runs-from-the-beginning, runs-give-the-headline}
 use Rattle.world_forms.specs.Keyed.{CellHasKeys}
@@ -32,6 +35,7 @@ one-there (x ∷ xs) h = (x, refl)
 
 module _ {S C : Type 0} (durable : S → Option Durable) (state : S → State) (s : Script) (j : Job) (free : ℕ) (first : World) (xs : List (TargetOf S C)) (lines : List Line) (store : S)
     (F : IsRunnable 1 s) (least : 1 ≤ j.attempts) (most : j.attempts ≤ 100) (B : IsBegun (rules_of (given s j free)) (given s j free).opening first) (K : HasRun durable state (rules_of (given s j free)) j.order first xs lines)
+    (start : TargetState) (alone_there : first.targets ≡ start ∷ []) (incarnation : ℕ) (opened : start.durable ≡ enlisted (declared_conts s) (empty_durable incarnation))
     (one : length xs ≡ 1) (its : (x : TargetOf S C) → slice_get xs 0 ≡ Some x → store ≡ x.store) where
   abbrev g : Given
   g = given s j free
@@ -54,5 +58,5 @@ module _ {S C : Type 0} (durable : S → Option Durable) (state : S → State) (
         legal = λ resolved. subst (λ ls. Headline g undisturbed resolved (report_of s ls)) (sym K.told) (runs-give-the-headline g resolved first K.last alone B run K.ended);
         form = λ keys. subst (λ ls. IsReportOf s (report_of s ls)) (sym K.told) (runs-report-in-form g first K.last alone B run K.ended (omega (arith, most)) keys (All-nil CellHasKeys));
         issued = subst (λ ls. AreIssuedBy 0 (report_of s ls)) (sym K.told) (the-target-issues (rules_of g) g.opening first K.last alone B run);
-        ordered = record { follows = record { first = first; begun = B; last = K.last; run = K.run; lines = K.told }; target = t.0; only = t.1; kept = ap durable (its x.0 x.1) ∙ is.told };
+        ordered = record { follows = record { first = first; begun = B; start = start; alone = alone_there; incarnation = incarnation; opened = opened; last = K.last; run = K.run; lines = K.told }; target = t.0; only = t.1; kept = ap durable (its x.0 x.1) ∙ is.told };
       }

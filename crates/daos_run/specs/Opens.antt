@@ -68,10 +68,14 @@ abbrev pub IsLegal : Given → Report → Type 0
 IsLegal g q = (resolved : AttemptId → Bool) → Headline g undisturbed resolved q
 
 -- A report's lines are those of a run of the world in the order that the job names, to where that order ends: turn by turn, those of the
--- actor and the message that it picks.
+-- actor and the message that it picks. It begins where no client had a turn, and the only target keeps the script's containers alone.
 pub record FollowsOrder (g : Given) (q : Report) : Type 0 where
   pub first : World
   pub begun : IsBegun (rules_of g) g.opening first
+  pub start : TargetState
+  pub alone : first.targets ≡ start ∷ []
+  pub incarnation : ℕ
+  pub opened : start.durable ≡ enlisted (declared_conts g.script) (empty_durable incarnation)
   pub last : World
   pub run : InOrder (rules_of g) g.job.order first last
   pub lines : q.lines ≡ last.lines

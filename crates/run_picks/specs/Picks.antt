@@ -47,7 +47,8 @@ heard w a = if a.client then heard_by_client (count_to a w.messages) (slice_get 
 abbrev pub is_client_due : ClientPlan → ClientState → ℕ → Bool
 is_client_due p c count = nat_lt 0 c.skip || nat_lt 0 count || not (waits c || is_done p c)
 
--- a target has something to do: a letter is in flight to it, or it has decided attempts to settle
+-- a target has something to do: a letter is in flight to it, or it has decided attempts to settle; so far of targets that run and lead
+-- all their attempts, which have no more to do while they settle
 abbrev pub is_target_due : List AttemptId → ℕ → Bool
 is_target_due decided count = nat_lt 0 count || not (length decided == 0)
 

@@ -5,15 +5,16 @@ ghost use Rattle.run_picks.specs.OrderLaws.{OrdersAreRuns, OrdersEndQuiet, Turns
 ghost use Rattle.run_picks.specs.Quiet.{QuietHasEnded, QuietSkipsNone};
 
 /// Says that an ordered run is a run of events, and that it ends where no actor has anything to do.
-/// In each of its turns a letter is heard where the actor hears one, and it is one of those.
+/// In each of its turns the number of the letter heard is below how many the actor hears one of.
 pub fn laws_of_orders()
     ensures runs { OrdersAreRuns }
     ensures quiet { OrdersEndQuiet }
     ensures hear { TurnsHear }
 {}
 
-/// Says what holds where no actor has anything to do: nothing is in flight to an actor, each client
-/// waits or is done, no target knows of a decided attempt that is left to settle, and no client skips.
+/// Says what holds where no actor has anything to do: nothing is in flight to a client or to target 0,
+/// each client waits or is done, no target knows of a decided attempt that is left to settle, and no
+/// client skips.
 pub fn laws_of_quiet()
     ensures ended { QuietHasEnded }
     ensures awake { QuietSkipsNone }

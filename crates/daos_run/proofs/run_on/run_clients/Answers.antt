@@ -1,6 +1,6 @@
 use Rattle.std.specs.Prelude.{Err, IfOk, Ok, length, refl}
 use Rattle.std.proofs.Common.{◌∙◌, ap, subst, sym}
-use Rattle.daos_run.proofs.Begun.{can-go, first, is-alone, is-begun, is-heard, is-shown}
+use Rattle.daos_run.proofs.Begun.{can-go, first, is-alone, is-begun, is-heard, is-shown, there}
 use Rattle.daos_run.proofs.OneStore.{halted-so, may, ran, some-kept}
 use Rattle.daos_run.proofs.Reported.{reports}
 use Rattle.daos_run.specs.Opens.{given}
@@ -40,7 +40,8 @@ returns-in-Ok-ran-clause-reports g c free room tells =
     let xs = c.run_in_order-targets.result.0.items in
     let went = subst (λ r. IfOk r (λ lines. HasRun g.S.Store.durable g.S.Store.state (rules_of (given s j free)) j.order w xs lines)) c.in-Ok-ran.is
     (c.run_in_order-targets.ensures.run (rules_of (given s j free)) w (given s j free).opening alone begun shown) in
-    reports g.S.Store.durable g.S.Store.state s j free w xs c.in-Ok-ran.lines c.parts_of-store.result.0 q.script q.least q.most begun went (c.run_in_order-targets.ensures.stores.stores.many ∙ ap length n.only) c.parts_of-store.ensures
+    reports g.S.Store.durable g.S.Store.state s j free w xs c.in-Ok-ran.lines c.parts_of-store.result.0 q.script q.least q.most begun went
+    (there g.S.Store.durable g.S.Store.state s j free c.args.store c.args.clients.items n.target q.script q.least q.opened room d.0 d.1 q.first n.new) refl q.opened.incarnation (q.opened.kept d.0 d.1) (c.run_in_order-targets.ensures.stores.stores.many ∙ ap length n.only) c.parts_of-store.ensures
 
 pub returns-in-Ok-ran-clause-runs : goal.returns-in-Ok-ran-clause-runs
 returns-in-Ok-ran-clause-runs g c =
