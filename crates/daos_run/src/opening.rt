@@ -44,11 +44,7 @@ fn enlist_stop(target: TargetId, no: EnlistNo) -> RunStop
 }
 
 /// Opens an empty store for a run of a script: its containers are added.
-pub fn open<S: Store>(
-    alloc: Global,
-    script: &Script,
-    store: &mut S,
-) -> Result<(), RunStop>
+pub fn open<S: Store>(alloc: Global, script: &Script, store: &mut S) -> Result<(), RunStop>
     requires few { length script.now.conts ≤ 256 }
     requires empty { IsEmpty S.durable S.state store.old }
     ensures opened { OnOk result (IsOpened S.durable S.state script.now store.new) }

@@ -134,12 +134,7 @@ impl<S: Store, C: Clock> Actors<S, C> {
     /// # Errors
     ///
     /// `Store` where its store stopped, and then a count of that store rose; else for want of memory.
-    pub fn target_turn(
-        &mut self,
-        t: usize,
-        number: usize,
-        settling: bool,
-    ) -> Result<(), TargetStop>
+    pub fn target_turn(&mut self, t: usize, number: usize, settling: bool) -> Result<(), TargetStop>
         requires going { CanGo S.durable S.state self.old.clients.items self.old.targets.items self.old.between }
         requires within { t < length self.old.targets.items }
         requires few { t < 65536 }

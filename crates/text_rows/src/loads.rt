@@ -1,12 +1,12 @@
 // Generated scripts.
 ghost use Rattle.std.specs.Prelude.{◌<◌, ◌≤◌};
 
-use daos_gen::script::make_script;
 use daos_base::id::Class;
 use daos_base::key::Key;
 use daos_base::operation::{Act, Op, Read, Write};
 use daos_base::path::Path;
 use daos_base::script::Command;
+use daos_gen::script::make_script;
 use std::alloc::Global;
 use std::test::Fail;
 

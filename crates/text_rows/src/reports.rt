@@ -1,6 +1,4 @@
 // Texts of reports, read.
-use daos_report_reader::fault::ReportNo;
-use daos_report_reader::report::read_report;
 use daos_base::answer::Answer;
 use daos_base::epoch::Epoch;
 use daos_base::id::{AttemptId, Class, ContId, ObjId};
@@ -12,6 +10,8 @@ use daos_base::path::Path;
 use daos_base::report::{Attempt, Line, Lines, Report};
 use daos_base::script::{Command, Commands, ContDecl, ObjDecl, Script};
 use daos_report::text::report_text;
+use daos_report_reader::fault::ReportNo;
+use daos_report_reader::report::read_report;
 use std::alloc::Global;
 use std::test::Fail;
 

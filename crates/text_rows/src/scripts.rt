@@ -1,9 +1,9 @@
 // Texts, and what is wrong with them: the line and the fault. The tables are another reader's.
-use daos_script::fault::ScriptNo;
-use daos_script::script::read_script;
 use daos_base::fault::Why;
 use daos_base::key::Key;
 use daos_base::script::{Command, Script};
+use daos_script::fault::ScriptNo;
+use daos_script::script::read_script;
 use std::alloc::{AllocError, Global};
 use std::test::Fail;
 

@@ -1,10 +1,10 @@
 // Summaries.
-use daos_summary::summary::summary_text;
 use daos_base::epoch::Epoch;
 use daos_base::id::AttemptId;
 use daos_base::items::Items;
 use daos_base::outcome::{Cause, FloorWhy, Outcome};
 use daos_base::report::{Attempt, Line, Report};
+use daos_summary::summary::summary_text;
 use std::alloc::Global;
 use std::test::Fail;
 

@@ -83,12 +83,12 @@ returns-in-Ok-clause-going g c = elim c.if-hears.branch [
       (subst (λ a. IsPicked c.args.self.now.between.messages a c.args.number b.take-letter.result b.take-letter.new.self.messages) b.target_id.ensures b.take-letter.ensures.picked)
       (subst (λ z. IsAnswered b.take-letter.result.from z.posts) (sym b.did-is) b.in_ok-did.ensures.posts) f (ap (λ z. z.1.1.0.items) b.self-is)
       (λ on. keeps-going g.S.Store.durable g.S.Store.state (target c.args.t) c.args.number c.args.self.now.clients.items c.args.self.now.targets.items c.args.self.now.between c.args.self.now.clients.items c.if-hears.self.1.1.0.items c.follow.new.self on (λ r w k.
-          let s = target-there g.S.Store.durable g.S.Store.state r c.args.self.now.clients.items c.args.self.now.targets.items c.args.self.now.between w c.args.t x k at in
-          let now = turn.2 s.s.durable s.is.told in
-          target-hears g.S.Store.durable g.S.Store.state r c.args.self.now.clients.items c.args.self.now.targets.items c.args.self.now.between c.args.t x y c.if-hears.did b.take-letter.new.self.messages c.follow.new.self c.if-hears.self.1.1.0.items
-          w k at c.args.number turn.0 b.take-letter.result (subst (λ a. IsPicked c.args.self.now.between.messages a c.args.number b.take-letter.result b.take-letter.new.self.messages) b.target_id.ensures b.take-letter.ensures.picked) s.s.durable now.durable s.is.told now.kept_is
-          (subst (λ z. Hears x.plan (g.S.Store.state x.store).opening x.memory turn.0 b.take-letter.result.from b.take-letter.result.message (kept s.s.durable (g.S.Store.state x.store)) (kept now.durable (g.S.Store.state y.store)) (y.memory, z)) (sym b.did-is) now.holds)
-          b.in_ok-did.ensures.plan b.in_ok-did.ensures.runs.opening b.in_ok-did.ensures.runs.stops f (ap (λ z. z.1.1.0.items) b.self-is)))
+      let s = target-there g.S.Store.durable g.S.Store.state r c.args.self.now.clients.items c.args.self.now.targets.items c.args.self.now.between w c.args.t x k at in
+      let now = turn.2 s.s.durable s.is.told in
+      target-hears g.S.Store.durable g.S.Store.state r c.args.self.now.clients.items c.args.self.now.targets.items c.args.self.now.between c.args.t x y c.if-hears.did b.take-letter.new.self.messages c.follow.new.self c.if-hears.self.1.1.0.items
+      w k at c.args.number turn.0 b.take-letter.result (subst (λ a. IsPicked c.args.self.now.between.messages a c.args.number b.take-letter.result b.take-letter.new.self.messages) b.target_id.ensures b.take-letter.ensures.picked) s.s.durable now.durable s.is.told now.kept_is
+      (subst (λ z. Hears x.plan (g.S.Store.state x.store).opening x.memory turn.0 b.take-letter.result.from b.take-letter.result.message (kept s.s.durable (g.S.Store.state x.store)) (kept now.durable (g.S.Store.state y.store)) (y.memory, z)) (sym b.did-is) now.holds)
+      b.in_ok-did.ensures.plan b.in_ok-did.ensures.runs.opening b.in_ok-did.ensures.runs.stops f (ap (λ z. z.1.1.0.items) b.self-is)))
   | else-hears+in_ok-did-2 b ↦
       let x = c.index_mut-target.result.now in
       let y = b.idle.new.self in
@@ -99,11 +99,11 @@ returns-in-Ok-clause-going g c = elim c.if-hears.branch [
       (still_runs stop_store (Ok c.if-hears.did) (g.S.Store.state x.store) (g.S.Store.state y.store) (g.S.Store.durable x.store) (g.S.Store.durable y.store) refl (subst (λ z. Runs stop_store (Ok z) (g.S.Store.state x.store) (g.S.Store.state y.store) (g.S.Store.durable x.store) (g.S.Store.durable y.store)) (sym b.did-is) b.in_ok-did-2.ensures.runs))
       (subst (λ z. z.posts ≡ []) (sym b.did-is) b.in_ok-did-2.ensures.posts) f (ap (λ z. z.1.1.0.items) b.self-is)
       (λ on. keeps-going g.S.Store.durable g.S.Store.state (target c.args.t) c.args.number c.args.self.now.clients.items c.args.self.now.targets.items c.args.self.now.between c.args.self.now.clients.items c.if-hears.self.1.1.0.items c.follow.new.self on (λ r w k.
-          let s = target-there g.S.Store.durable g.S.Store.state r c.args.self.now.clients.items c.args.self.now.targets.items c.args.self.now.between w c.args.t x k at in
-          let now = b.in_ok-did-2.ensures.turn s.s.durable s.is.told in
-          target-idles g.S.Store.durable g.S.Store.state r c.args.self.now.clients.items c.args.self.now.targets.items c.args.self.now.between c.args.t x y c.if-hears.did c.args.self.now.between.messages c.follow.new.self c.if-hears.self.1.1.0.items
-          c.args.number w k at (none-heard (count_to (target c.args.t) c.args.self.now.between.messages) c.heard_by_target-hears.result c.heard_by_target-hears.ensures b.if-hears.false) refl s.s.durable now.durable s.is.told now.kept_is (subst (λ z. IdlesWhole x.memory (kept s.s.durable (g.S.Store.state x.store)) (kept now.durable (g.S.Store.state y.store)) (y.memory, z)) (sym b.did-is) now.holds)
-          b.in_ok-did-2.ensures.plan b.in_ok-did-2.ensures.runs.opening b.in_ok-did-2.ensures.runs.stops f (ap (λ z. z.1.1.0.items) b.self-is)))
+      let s = target-there g.S.Store.durable g.S.Store.state r c.args.self.now.clients.items c.args.self.now.targets.items c.args.self.now.between w c.args.t x k at in
+      let now = b.in_ok-did-2.ensures.turn s.s.durable s.is.told in
+      target-idles g.S.Store.durable g.S.Store.state r c.args.self.now.clients.items c.args.self.now.targets.items c.args.self.now.between c.args.t x y c.if-hears.did c.args.self.now.between.messages c.follow.new.self c.if-hears.self.1.1.0.items
+      c.args.number w k at (none-heard (count_to (target c.args.t) c.args.self.now.between.messages) c.heard_by_target-hears.result c.heard_by_target-hears.ensures b.if-hears.false) refl s.s.durable now.durable s.is.told now.kept_is (subst (λ z. IdlesWhole x.memory (kept s.s.durable (g.S.Store.state x.store)) (kept now.durable (g.S.Store.state y.store)) (y.memory, z)) (sym b.did-is) now.holds)
+      b.in_ok-did-2.ensures.plan b.in_ok-did-2.ensures.runs.opening b.in_ok-did-2.ensures.runs.stops f (ap (λ z. z.1.1.0.items) b.self-is)))
 ]
 
 pub returns-in_err-did-clause-stores : goal.returns-in_err-did-clause-stores
