@@ -1,0 +1,4 @@
+mod Clients
+mod OneTurn
+mod Runs
+mod Taken

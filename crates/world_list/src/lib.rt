@@ -1,0 +1,6 @@
+// A list of events, and whether it is a run.
+#![tactic(auto)]
+
+pub mod events;
+pub mod follow;
+pub mod laws;
