@@ -1,4 +1,4 @@
-mod Clients
+mod Decided
 mod OneTurn
 mod Runs
 mod Taken

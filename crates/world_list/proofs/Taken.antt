@@ -1,5 +1,6 @@
 -- A letter that was taken stood at some place.
-use Rattle.std.proofs.Common.{ℕ, ◌≡◌, ◌+◌, ◌<◌, ◌++◌, List, [], ◌∷◌, Option, Some, None, zero, suc, refl, sym, ◌∙◌, ap, length, slice_get, append_assoc, arith, subst}
+use Rattle.std.proofs.Common.{ℕ, ◌≡◌, ◌+◌, ◌<◌, ◌++◌, List, [], ◌∷◌, Option, Some, None, zero, suc, refl, sym, ◌∙◌, ap, length, slice_get, append_assoc, arith, subst, ◌⊎◌, inl, inr, ◌≤◌, slice_index_or}
+use Rattle.std.proofs.lemmas.Option.{slice_get_read, slice_get_within}
 use Rattle.std.proofs.Math.ListN.{take, drop}
 use Rattle.world_base.specs.declared.letter.Letter.{Letter}
 use Rattle.world_list.specs.Taken.{IsTaken, IsTakenAt}
@@ -49,3 +50,24 @@ taken_somewhere after before l sent nowhere h =
     nowhere (length h.takes.before)
     (subst (λ x. IsTakenAt after x (length h.takes.before) l sent) (sym h.takes.among)
     (taken_there after h.takes.before l h.takes.after sent (h.left ∙ ap (λ x. x ++ sent) h.takes.left)))
+
+pub none_more : (P : ℕ → Type 0) (n : ℕ) → ((k : ℕ) → k < n → P k → ⊥) → (P n → ⊥) → (k : ℕ) → k < n + 1 → (k ≡ n) ⊎ ((k < n) ⊎ (n < k)) → P k → ⊥
+none_more P n before here k within (inl same) p = here (subst P same p)
+none_more P n before here k within (inr (inl less)) p = before k less p
+none_more P n before here k within (inr (inr more)) p = let past : ⊥ = omega (arith, within, more) in past
+
+pub nowhere :
+    (after before : List Letter) (l : Letter) (sent : List Letter) (n : ℕ) → length before ≤ n
+    → ((k : ℕ) → k < n → IsTakenAt after before k l sent → ⊥) → IsTaken after before l sent → ⊥
+nowhere after before l sent n past none h =
+    taken_somewhere after before l sent
+    (λ k at. let within : k < length before = slice_get_within before k l at.here in none k (omega (arith, within, past)) at) h
+
+-- a letter at a place is the one there
+pub at_place : (before : List Letter) (at : ℕ) (x l : Letter) → at < length before → x ≡ slice_index_or before at x → x ≡ l → slice_get before at ≡ Some l
+at_place before at x l within is same = slice_get_read before (length before) at x refl within is ∙ ap (λ z. Some z) same
+
+pub only_one : (before : List Letter) (at : ℕ) (x l : Letter) → at < length before → x ≡ slice_index_or before at x → slice_get before at ≡ Some l → x ≡ l
+only_one before at x l within is here =
+    let there : slice_get before at ≡ Some x = slice_get_read before (length before) at x refl within is in
+    cc
