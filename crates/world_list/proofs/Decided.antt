@@ -1,5 +1,5 @@
 -- A client's turn that was made decides whether a world comes after another one by it.
-use Rattle.std.proofs.Common.{ℕ, ◌≡◌, ◌+◌, ◌<◌, ◌++◌, Bool, true, false, List, [], ◌∷◌, Option, Some, None, zero, suc, refl, sym, ◌∙◌, ap, subst, length, slice_get, arith, ◌⊎◌, inl, inr}
+use Rattle.std.proofs.Common.{ℕ, ◌≡◌, ◌+◌, ◌<◌, ◌++◌, Bool, true, false, List, [], ◌∷◌, Some, None, zero, suc, refl, sym, ◌∙◌, ap, subst, slice_get, arith, ◌⊎◌, inl, inr}
 use Rattle.std.specs.Bool.{Decides}
 use Rattle.std.proofs.Math.ListN.{drop, set, take}
 use Rattle.std.proofs.lemmas.Bool.{cases_order}
@@ -21,10 +21,10 @@ use Rattle.world_base.specs.ClientTurns.{HearTurn, NextTurn}
 use Rattle.world_events.specs.Events.{Rules, after_turn, client_plan, with_client}
 use Rattle.world_events.specs.StepLaws.{set-here, set-there}
 use Rattle.world_list.specs.Fitting.{AreInPlace}
-use Rattle.world_events.specs.Letters.{Takes, client, letters_of}
+use Rattle.world_events.specs.Letters.{Takes, client}
 use Rattle.world_list.specs.OneTurn.{OneTurn}
 use Rattle.world_list.specs.RunLists.{ClientHearsAs, GoesAs}
-use Rattle.world_list.specs.Following.{FollowIs, IsAfter, IsTold}
+use Rattle.world_list.specs.Following.{FollowIs, IsAfter}
 use Rattle.world_list.specs.Taken.{IsTaken}
 use Rattle.world_list.specs.declared.follow.Follow.{Follow}
 use Rattle.world_list.proofs.OneTurn.{one_hear, one_next}

@@ -1,16 +1,15 @@
 -- A client's turn is determined by what it has to do, its state and what it hears.
-use Rattle.std.proofs.Common.{ℕ, ◌≡◌, ◌++◌, ◌<◌, ◌⊎◌, inl, inr, Bool, true, false, List, [], zero, suc, refl, sym, ◌∙◌, ap, subst, arith, Option}
+use Rattle.std.proofs.Common.{ℕ, ◌≡◌, ◌++◌, ◌<◌, ◌⊎◌, inl, inr, true, false, List, [], zero, suc, refl, sym, ◌∙◌, ap, subst, arith, Option}
 use Rattle.std.proofs.lemmas.Bool.{cases_order}
 use Rattle.daos_base.specs.declared.report.Line.{Line}
 use Rattle.daos_base.specs.declared.epoch.Epoch.{Epoch}
 use Rattle.daos_base.specs.declared.id.AttemptId.{AttemptId}
-use Rattle.daos_messages.specs.declared.message.Message.{Message}
 use Rattle.daos_messages.specs.declared.message.Post.{Post}
 use Rattle.daos_model.specs.BoolLaws.{clash}
 use Rattle.world_base.specs.declared.client.ClientPlan.{ClientPlan}
 use Rattle.world_base.specs.declared.client.ClientState.{ClientState}
 use Rattle.world_base.specs.declared.did.Did.{Did}
-use Rattle.world_base.specs.ClientTurns.{ClientDid, Ended_by, GoesOn, HearTurn, Heard_on, Move, Moves, NextTurn, None_yet, One_more, Skipped, Went_on, heard, listed, moved, with_first}
+use Rattle.world_base.specs.ClientTurns.{ClientDid, Ended_by, GoesOn, Heard_on, Moves, None_yet, One_more, Skipped, Went_on, heard, listed, moved, with_first}
 use Rattle.world_list.specs.OneTurn.{HearIsOne, NextIsOne, OneTurn}
 
 -- ---- so many moves

@@ -1,5 +1,5 @@
 -- A letter that was taken stood at some place.
-use Rattle.std.proofs.Common.{ℕ, ◌≡◌, ◌+◌, ◌<◌, ◌++◌, List, [], ◌∷◌, Option, Some, None, zero, suc, refl, sym, ◌∙◌, ap, length, slice_get, append_assoc, arith, subst, ◌⊎◌, inl, inr, ◌≤◌, slice_index_or}
+use Rattle.std.proofs.Common.{ℕ, ◌≡◌, ◌+◌, ◌<◌, ◌++◌, List, [], ◌∷◌, Some, zero, suc, refl, sym, ◌∙◌, ap, length, slice_get, append_assoc, arith, subst, ◌⊎◌, inl, inr, ◌≤◌, slice_index_or}
 use Rattle.std.proofs.lemmas.Option.{slice_get_read, slice_get_within}
 use Rattle.std.proofs.Math.ListN.{take, drop}
 use Rattle.world_base.specs.declared.letter.Letter.{Letter}

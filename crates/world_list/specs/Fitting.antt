@@ -1,5 +1,5 @@
 -- What a list of events is asked for, so that the turns of its clients can be made.
-use Rattle.std.specs.Prelude.{ℕ, ◌≡◌, ◌<◌, ◌^◌, slice_get, Some}
+use Rattle.std.specs.Prelude.{ℕ, ◌≡◌, slice_get, Some}
 use Rattle.client_core.specs.Clients.{IsInPlace, PlanFits}
 use Rattle.world_base.specs.declared.client.ClientState.{ClientState}
 use Rattle.world_base.specs.declared.world.World.{World}

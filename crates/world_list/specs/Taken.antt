@@ -1,5 +1,5 @@
 -- Letters in flight once one of them was heard and others were sent.
-use Rattle.std.specs.Prelude.{ℕ, ◌≡◌, ◌+◌, ◌<◌, ◌++◌, List, Some, slice_get, take, drop}
+use Rattle.std.specs.Prelude.{ℕ, ◌≡◌, ◌+◌, ◌++◌, List, Some, slice_get, take, drop}
 use Rattle.world_base.specs.declared.letter.Letter.{Letter}
 use Rattle.world_events.specs.Letters.{Takes}
 

@@ -1,5 +1,5 @@
-use Rattle.std.proofs.Common.{◌≡◌, ◌++◌, ◌∙◌, sym, subst, ap, refl}
-use Rattle.world_list.proofs.Decided.{Both, Falls, Stands, joined_of, made_goes, made_places}
+use Rattle.std.proofs.Common.{◌≡◌, ◌++◌, ◌∙◌}
+use Rattle.world_list.proofs.Decided.{Falls, Stands, joined_of, made_goes, made_places}
 use Rattle.world_list.specs.RunLists.{rules_of}
 use Rattle.world_list.proofs.clients.goes_from.Goals as goal
 use Rattle.world_list.proofs.clients.goes_from.Goals.{then-is_after_client, else-is_after_client}

@@ -1,5 +1,5 @@
-use Rattle.std.proofs.Common.{◌≡◌, ◌++◌, ◌∙◌, sym, subst, ap, refl}
-use Rattle.world_list.proofs.Decided.{Both, Falls, Stands, made_hears, made_places, taken_of}
+use Rattle.std.proofs.Common.{◌∙◌}
+use Rattle.world_list.proofs.Decided.{Falls, Stands, made_hears, made_places, taken_of}
 use Rattle.world_list.specs.RunLists.{rules_of}
 use Rattle.world_list.specs.Taken.{IsTaken}
 use Rattle.world_list.proofs.clients.hears_from.Goals as goal
