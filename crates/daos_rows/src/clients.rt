@@ -7,7 +7,7 @@ use daos_outside::sure_sink::SureSink;
 use daos_outside::sure_source::SureSource;
 use std::test::Fail;
 
-pub(crate) const WRITE_BELOW_A_LATER_READ: (&[u8], &[u8]) = (
+const WRITE_BELOW_A_LATER_READ: (&[u8], &[u8]) = (
     b"cont c 00000000-0000-0000-0000-000000000001
 obj o c S1 0
 obj q c S1 1

@@ -10,12 +10,6 @@ mod copies;
 #[cfg(test)]
 mod first;
 #[cfg(test)]
-mod judge;
-#[cfg(test)]
-mod loads;
-#[cfg(test)]
-mod orders;
-#[cfg(test)]
 mod planned;
 #[cfg(test)]
 mod slow;

@@ -1,5 +1,5 @@
 use Rattle.daos_model.specs.Effect.{AllEndInArrays}
-use Rattle.daos_rows.proofs.judge.took.Given as goal
+use Rattle.order_rows.proofs.judge.took.Given as goal
 
 -- the writes of the transactions so far end within arrays
 abbrev pub invariant-loop-attempt : goal.invariant-loop-attempt

@@ -1,10 +1,10 @@
 // Many orders of turns, each report judged by the slow functions of the definitions.
-use crate::clients::WRITE_BELOW_A_LATER_READ;
 use crate::judge::is_legal;
 use daos_app::daos::run_daos;
 use daos_app::status::Status;
 use daos_base::outcome::Outcome;
 use daos_base::report::{Line, Report};
+use daos_base::script::Script;
 use daos_outside::gate::FreeGate;
 use daos_outside::sure_rack::SureRack;
 use daos_outside::sure_sink::SureSink;
@@ -16,13 +16,21 @@ use std::sync::Wait;
 use std::test::Fail;
 use std::thread::Threads;
 
-// The text of the report that a script gives on one target with these further words.
-fn report_of<R: Threads + Wait + Sync>(
-    rt: &R,
-    alloc: Global,
-    script: &[u8],
-    options: &[&str],
-) -> Result<(Status, SureSink), Fail> {
+// A client that reads and writes while another one reads where it writes.
+const WRITE_BELOW_A_LATER_READ: &[u8] = b"cont c 00000000-0000-0000-0000-000000000001
+obj o c S1 0
+obj q c S1 1
+client
+tx
+get o d x
+put o d a =1
+end
+client
+get o d a
+";
+
+// The words of a run on one target, with these further ones.
+fn words_of(alloc: Global, options: &[&str]) -> Result<Vec<String>, Fail> {
     let mut words = Vec::new(alloc);
     for word in ["run", "--targets", "1"] {
         words.push(String::from_str(alloc, word)?)?;
@@ -30,6 +38,17 @@ fn report_of<R: Threads + Wait + Sync>(
     for word in options {
         words.push(String::from_str(alloc, word)?)?;
     }
+    Ok(words)
+}
+
+// The report that a script gives on one target with these further words; the text must be there.
+fn report_of<R: Threads + Wait + Sync>(
+    rt: &R,
+    alloc: Global,
+    script: &[u8],
+    options: &[&str],
+) -> Result<(Status, SureSink), Fail> {
+    let words = words_of(alloc, options)?;
     let mut source = SureSource::new(alloc, script)?;
     let mut sink = SureSink::new(alloc, 1_000_000)?;
     let mut rack = SureRack::new(alloc, 1, 4096)?;
@@ -53,20 +72,33 @@ fn restarts(report: &Report) -> bool {
     })
 }
 
+// What a run in an order comes to: none where it gives no legal report; else whether an attempt was told
+// to restart.
+fn judged<R: Threads + Wait + Sync>(
+    rt: &R,
+    alloc: Global,
+    script: &Script,
+    order: &str,
+) -> Result<Option<bool>, Fail> {
+    let (status, sink) = report_of(rt, alloc, WRITE_BELOW_A_LATER_READ, &["--order", order])?;
+    let report = read_report(alloc, sink.bytes(), script)?;
+    if status != Status::Done || !is_legal(alloc, script, &report, 8)? {
+        return Ok(None);
+    }
+    Ok(Some(restarts(&report)))
+}
+
 #[test]
 fn drawn_orders_give_legal_reports(rt: HostRuntime) -> Result<(), Fail> {
     let alloc = rt.alloc();
-    let (text, _) = WRITE_BELOW_A_LATER_READ;
-    let script = read_script(alloc, text, 1)?;
-    let mut restarted = 0;
+    let script = read_script(alloc, WRITE_BELOW_A_LATER_READ, 1)?;
+    let mut restarted: usize = 0;
     for order in 1..201 {
         let order = format!(in alloc; "{order}")?;
-        let (status, sink) = report_of(&rt, alloc, text, &["--order", order.as_str()])?;
-        assert_eq!(rt; status, Status::Done);
-        let report = read_report(alloc, sink.bytes(), &script)?;
-        assert!(rt; is_legal(alloc, &script, &report, 8)?, "order {order}");
-        if restarts(&report) {
-            restarted += 1;
+        let restarts = judged(&rt, alloc, &script, order.as_str())?;
+        assert!(rt; restarts.is_some(), "order {order}");
+        if restarts == Some(true) {
+            restarted = restarted.wrapping_add(1);
         }
     }
     // So often the simulator's reports for these orders show the later read.
@@ -91,13 +123,15 @@ fn puts_and_a_get(alloc: Global, puts: usize) -> Result<String, Fail> {
 // How many puts are committed before the first that isn't, where all later ones are told that 15
 // blocks are needed and fewer are free.
 fn puts_that_fit(report: &Report, puts: usize) -> Option<usize> {
-    let mut fit = 0;
+    let mut fit: usize = 0;
     for line in report.lines.as_slice().iter().take(puts) {
         let Line::Try(attempt) = line else {
             return None;
         };
         match attempt.outcome {
-            Outcome::Committed if fit == usize::from(attempt.id.command as u16) => fit += 1,
+            Outcome::Committed if fit as u64 == u64::from(attempt.id.command) => {
+                fit = fit.wrapping_add(1);
+            }
             Outcome::NoSpace {
                 target: 0,
                 need: 15,
@@ -109,18 +143,27 @@ fn puts_that_fit(report: &Report, puts: usize) -> Option<usize> {
     Some(fit)
 }
 
-#[test]
-fn puts_end_where_blocks_end(rt: HostRuntime) -> Result<(), Fail> {
-    let alloc = rt.alloc();
-    let text = puts_and_a_get(alloc, 2000)?;
-    let (status, sink) = report_of(&rt, alloc, text.as_bytes(), &["--size", "2"])?;
-    assert_eq!(rt; status, Status::Done);
+// How many puts fit into a region of 2 MiB, and whether the get behind them is answered the last one
+// that did.
+fn fills<R: Threads + Wait + Sync>(
+    rt: &R,
+    alloc: Global,
+    puts: usize,
+) -> Result<(usize, bool), Fail> {
+    let text = puts_and_a_get(alloc, puts)?;
+    let (_status, sink) = report_of(rt, alloc, text.as_bytes(), &["--size", "2"])?;
     let script = read_script(alloc, text.as_bytes(), 1)?;
     let report = read_report(alloc, sink.bytes(), &script)?;
-    let fit = puts_that_fit(&report, 2000).unwrap_or(0);
-    assert!(rt; 0 < fit && fit < 2000);
-    let last = fit - 1;
+    let fit = puts_that_fit(&report, puts).unwrap_or(0);
+    let last = fit.saturating_sub(1);
     let end = format!(in alloc; "\ngot 0 value ={last:01024}\nend 0\n")?;
-    assert!(rt; sink.bytes().ends_with(end.as_bytes()));
+    Ok((fit, sink.bytes().ends_with(end.as_bytes())))
+}
+
+#[test]
+fn puts_end_where_blocks_end(rt: HostRuntime) -> Result<(), Fail> {
+    let (fit, answered) = fills(&rt, rt.alloc(), 2000)?;
+    assert!(rt; 0 < fit && fit < 2000);
+    assert!(rt; answered);
     Ok(())
 }
