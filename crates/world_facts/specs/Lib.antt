@@ -1,0 +1,3 @@
+-- The facts of the world at each moment of a run of one target.
+pub mod Facts
+pub mod FactLaws
