@@ -22,7 +22,8 @@ use Rattle.world_base.specs.declared.letter.Letter.{Letter}
 use Rattle.world_base.specs.declared.world.World.{World}
 use Rattle.world_base.specs.ClientTurns.{Move, begins_at, command_at, first_epoch, heard, listed, member_asked, moved, moves_at, rests, waits}
 use Rattle.world_causes.specs.Unsettled.{writes-one}
-use Rattle.world_events.specs.Events.{ByClient, ByTarget, Event, Rules, TargetHears, TargetIdles, ToClient, ToTarget, client_plan, commands_or_none, kept, target_plan}
+use Rattle.world_events.specs.AloneEvents.{ByClient, ByTarget, Event, TargetHears, TargetIdles, ToClient, ToTarget}
+use Rattle.world_events.specs.Events.{Rules, client_plan, commands_or_none, kept, target_plan}
 use Rattle.world_events.specs.Letters.{client, letter_of, letters_of, target}
 use Rattle.world_events.specs.StepLaws.{by-hearing, by-next}
 use Rattle.world_events.specs.Steps.{KeptByCounting, KeptByHearing, KeptByMoves}
@@ -35,7 +36,7 @@ use Rattle.world_talks.specs.Conversation.{Conversation}
 use Rattle.world_talks.specs.ConversationLaws.{count-keeps, hear-keeps, move-keeps}
 use Rattle.world_talks.specs.Hearing.{hearing-is}
 use Rattle.world_talks.specs.TalkLaws.{left-is-among, taken-is-among}
-use Rattle.world_turns.specs.TargetTurns.{is_heard}
+use Rattle.world_turns.specs.AloneTurns.{is_heard}
 
 -- ---- the statement
 

@@ -216,7 +216,7 @@ module _ (r : Rules) (o : Opening) (w : World) (A : IsAlone r) (B : IsBegun r o 
     entries = λ t s e here i. absurd (no-entry t s e here i);
     led = λ t s e here i. absurd (no-entry t s e here i);
     leaders = λ t s e here i. absurd (no-entry t s e here i);
-    leading = λ t s x here i. absurd (none-in s.memory.decided x (subst (λ z. z.memory.decided ≡ []) (only-target t s here).1 B.starts.decided) i);
+    leading = λ t s x here i. absurd (none-in s.memory.leader.decided x (subst (λ z. z.memory.leader.decided ≡ []) (only-target t s here).1 B.starts.decided) i);
   }
 
   reads-begin : Reads r o no_history w

@@ -72,7 +72,7 @@ pub record StartsWith (o : Opening) (s : TargetState) : Type 0 where
   pub runs : s.life ≡ Running
   pub ticks : s.memory.ticks ≤ o.lease
   pub stamps : s.memory.stamps ≡ []
-  pub decided : s.memory.decided ≡ []
+  pub decided : s.memory.leader.decided ≡ []
 
 -- the tracker of each client covers all epochs of the opening
 abbrev pub first_tracker : Opening → Epoch

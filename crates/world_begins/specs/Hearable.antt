@@ -42,7 +42,7 @@ use Rattle.world_reads.specs.Given.{FitsTargets, Given, HasItsEpoch, IsCommitRig
 use Rattle.world_reads.specs.History.{History}
 use Rattle.world_reads.specs.Reads.{IsOfAttempt}
 use Rattle.world_reads.specs.Versions.{VersionsStand}
-use Rattle.world_turns.specs.TargetTurns.{is_heard}
+use Rattle.world_turns.specs.AloneTurns.{is_heard}
 use Rattle.world_begins.specs.Begins.{AreEnlisted, declared_conts}
 use Rattle.world_begins.specs.Requests.{OnlyRequests}
 

@@ -22,14 +22,16 @@ use Rattle.world_base.specs.declared.target.TargetMemory.{TargetMemory}
 use Rattle.world_base.specs.declared.target.TargetPlan.{TargetPlan}
 use Rattle.world_base.specs.declared.target.TargetState.{TargetState}
 use Rattle.world_base.specs.declared.world.World.{World}
-use Rattle.world_events.specs.Events.{Begins, ByClient, ByTarget, Event, Goes, Rules, Run, ToClient, ToTarget, kept, target_after, target_plan}
+use Rattle.world_events.specs.AloneEvents.{Begins, ByClient, ByTarget, Event, Goes, Run, ToClient, ToTarget}
+use Rattle.world_events.specs.Events.{Rules, kept, target_after, target_plan}
 use Rattle.world_causes.specs.Growth.{at-set}
-use Rattle.world_reads.specs.StepLaws.{lease-covers, path-keeps}
+use Rattle.world_reads.specs.StepLaws.{lease-covers}
+use Rattle.world_turns.specs.PathLaws.{path-keeps}
 use Rattle.world_turns.specs.Changes.{Change, Kept, Steps}
 use Rattle.world_turns.specs.Commits as commit
 use Rattle.world_turns.specs.Idle.{IdleNext, SettlesFirst}
 use Rattle.world_turns.specs.Reads as read
-use Rattle.world_turns.specs.TargetTurns.{Hears, IdlesWhole}
+use Rattle.world_turns.specs.AloneTurns.{Hears, IdlesWhole}
 use Rattle.world_turns.specs.Turns.{Whole}
 
 -- ---- the statement
@@ -115,7 +117,7 @@ hears-keeps t opening m reading from (message.Commit x ep first tracker ws) old 
 hears-keeps t opening m reading from q old new left h = absurd h
 
 idles-keep : (m : TargetMemory) (old new : Kept) (left : TargetMemory × Did) → IdlesWhole m old new left → KeepsAs old.durable new.durable
-idles-keep m old new left h = whole-keeps _ _ m.decided old new left idle-step h
+idles-keep m old new left h = whole-keeps _ _ m.leader.decided old new left idle-step h
 
 -- ---- events
 

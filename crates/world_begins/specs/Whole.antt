@@ -14,7 +14,8 @@ use Rattle.world_base.specs.declared.target.TargetState.{TargetState}
 use Rattle.world_base.specs.declared.target.Life.TheVariants.{Running}
 use Rattle.world_base.specs.declared.world.World.{World}
 use Rattle.world_core.specs.Everything.{Everything, HoldsStill, events-keep-everything}
-use Rattle.world_events.specs.Events.{Begins, Event, Goes, Rules, Run}
+use Rattle.world_events.specs.AloneEvents.{Begins, Event, Goes, Run}
+use Rattle.world_events.specs.Events.{Rules}
 use Rattle.world_events.specs.Letters.{target}
 use Rattle.world_reads.specs.History.{History}
 use Rattle.world_begins.specs.Addressed.{AreAddressed, events-keep-addresses}

@@ -7,7 +7,8 @@ use Rattle.daos_model.specs.Opening.{Opening}
 use Rattle.world_base.specs.declared.client.ClientState.{ClientState}
 use Rattle.world_base.specs.declared.target.TargetState.{TargetState}
 use Rattle.world_base.specs.declared.world.World.{World}
-use Rattle.world_events.specs.Events.{ByClient, ByTarget, Event, Rules, ToClient, ToTarget}
+use Rattle.world_events.specs.AloneEvents.{ByClient, ByTarget, Event, ToClient, ToTarget}
+use Rattle.world_events.specs.Events.{Rules}
 use Rattle.world_events.specs.StepLaws.{by-hearing, by-next}
 use Rattle.world_events.specs.Steps.{KeptByHearing, KeptByMoves}
 use Rattle.world_reads.specs.History.{History}

@@ -31,7 +31,8 @@ use Rattle.world_base.specs.declared.target.TargetState.{TargetState}
 use Rattle.world_base.specs.declared.target.Life.TheVariants.{Running}
 use Rattle.world_base.specs.declared.world.World.{World}
 use Rattle.world_base.specs.ClientTurns.{told_by_message}
-use Rattle.world_events.specs.Events.{ByClient, ByTarget, Event, Rules, ToClient, ToTarget}
+use Rattle.world_events.specs.AloneEvents.{ByClient, ByTarget, Event, ToClient, ToTarget}
+use Rattle.world_events.specs.Events.{Rules}
 
 -- attempts with the epochs that were issued to them
 abbrev pub Dated : Type 0

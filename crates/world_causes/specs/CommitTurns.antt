@@ -27,6 +27,7 @@ use Rattle.world_base.specs.declared.request.CommitRequest.{CommitRequest}
 use Rattle.world_base.specs.declared.target.TargetMemory.{TargetMemory}
 use Rattle.world_events.specs.Events.{Rules, listed, target_plan}
 use Rattle.world_turns.specs.Changes.{Kept}
+use Rattle.world_turns.specs.AloneCommits as commit_alone
 use Rattle.world_turns.specs.Commits as commit
 use Rattle.world_turns.specs.Reads.{later_of}
 use Rattle.world_turns.specs.Requests.{issued_for, request_epoch, with_ticks}
@@ -168,9 +169,9 @@ module _ (r : Rules) (o : Opening) (decided issued : Dated) (t : ℕ) (opening :
       told n (inr (inl same)) = subst (λ f. f / 256 ≤ limit o (now e)) (sym same) (up (h.dates z.by z.epoch (h.stamps z first.shown.among).0) (rises e))
       told n (inr (inr bad)) = absurd bad
 
-  commit-ends : (s : commit.CommitStage) (k : Kept) (left : TargetMemory × Did) → CommitSoFar (target_plan r t) m reading q old s k → commit.CommitEnds (target_plan r t) opening m reading q from s k left
+  commit-ends : (s : commit.CommitStage) (k : Kept) (left : TargetMemory × Did) → CommitSoFar (target_plan r t) m reading q old s k → commit_alone.CommitEnds (target_plan r t) opening m reading q from s k left
       → Heeds r o decided issued t from old.free k.free left
-  commit-ends s k left w (commit.IsSpent j z none is) =
+  commit-ends s k left w (commit_alone.IsSpent j z none is) =
       said r o decided issued t from old.free k.free m (message.Ended q.attempt None outcome.EpochsSpent) None left is (record {
         shows = record { before = issued; since = []; among = refl; none = (h.request.fresh spent.0).0; spent = spent.1 };
         told = λ e i. absurd (none-told e i);
@@ -181,8 +182,8 @@ module _ (r : Rules) (o : Opening) (decided issued : Dated) (t : ℕ) (opening :
     where
       spent : (q.ep ≡ None) × (last_ticks < limit o issued + 1)
       spent = request-spent o issued q.attempt q.ep q.first q.tracker (target_plan r t) m reading h.ticks h.request none
-  commit-ends s k left w (commit.IsRefused j e c z why is) = refuses k e c left w why is
-  commit-ends s k left w (commit.HasNoSpace j e z allowed full is) =
+  commit-ends s k left w (commit_alone.IsRefused j e c z why is) = refuses k e c left w why is
+  commit-ends s k left w (commit_alone.HasNoSpace j e z allowed full is) =
       let d = dated-at e w.dated in
       said r o decided issued t from old.free k.free (with_ticks e m) (message.Ended q.attempt (Some e) (outcome.NoSpace t (blocks (commit.own_writes (target_plan r t) q.writes)) k.free)) (issued_for q.attempt q.ep e) left is (record {
         shows = record { own = e; its = d.its; wanting = full; need_is = need-is r t q.attempt q.writes h.its h.some; accounted = accounted };
@@ -197,9 +198,9 @@ module _ (r : Rules) (o : Opening) (decided issued : Dated) (t : ℕ) (opening :
           let f : old.free ≤ k.free + 0 = w.free in
           let g : o.free t ≤ old.free + blocks_of_decided r.script t decided = h.space in
           omega (arith, f, g)
-  commit-ends s k left w (commit.IsDecided j e z is) =
+  commit-ends s k left w (commit_alone.IsDecided j e z is) =
       let d = dated-at e w.dated in
-      said r o decided issued t from old.free k.free (commit.with_decided q.attempt (with_ticks e m)) (message.Ended q.attempt (Some e) outcome.Committed) (issued_for q.attempt q.ep e) left is (record {
+      said r o decided issued t from old.free k.free (commit_alone.with_decided q.attempt (with_ticks e m)) (message.Ended q.attempt (Some e) outcome.Committed) (issued_for q.attempt q.ep e) left is (record {
         shows = tt;
         told = λ n i. subst (λ f. f / 256 ≤ limit o (now e)) (told-one e n i) d.within;
         ticks = heard e d.within;
@@ -214,7 +215,7 @@ module _ (r : Rules) (o : Opening) (decided issued : Dated) (t : ℕ) (opening :
           sum a b same low = omega (arith, same, low)
 
   -- a turn that hears a Commit, and leaves the rows of containers as they were
-  pub commit-heeds : (new : Kept) (left : TargetMemory × Did) → Whole (commit.CommitNext (target_plan r t) opening m reading q) (commit.CommitEnds (target_plan r t) opening m reading q from) commit.Asked old new left
+  pub commit-heeds : (new : Kept) (left : TargetMemory × Did) → Whole (commit.CommitNext (target_plan r t) opening m reading q) (commit_alone.CommitEnds (target_plan r t) opening m reading q from) commit.Asked old new left
       → Heeds r o decided issued t from old.free new.free left × (new.durable.conts ≡ old.durable.conts)
   commit-heeds new left w =
       let k : CommitSoFar (target_plan r t) m reading q old w.last new = commit-path (target_plan r t) opening m reading q old w.last new w.reached.did w.reached.path in

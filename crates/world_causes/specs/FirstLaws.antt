@@ -29,7 +29,8 @@ use Rattle.world_base.specs.ClientTurns.{Move, attempt_id, ended, heard, hears_e
 use Rattle.world_epochs.specs.EpochLaws.{counting-keeps, hearing-keeps, moves-keep}
 use Rattle.world_epochs.specs.Epochs.{BearsEpoch, Epochs, IsIssued, Unsnapped}
 use Rattle.world_events.specs.Events as events
-use Rattle.world_events.specs.Events.{ByClient, ByTarget, Event, Rules, TargetHears, TargetIdles, ToClient, ToTarget, client_plan, kept, target_plan}
+use Rattle.world_events.specs.AloneEvents.{ByClient, ByTarget, Event, TargetHears, TargetIdles, ToClient, ToTarget}
+use Rattle.world_events.specs.Events.{Rules, client_plan, kept, target_plan}
 use Rattle.world_events.specs.Letters.{client, letter_of, letters_of, target}
 use Rattle.world_events.specs.StepLaws.{by-hearing, by-next}
 use Rattle.world_events.specs.Steps.{KeptByCounting, KeptByHearing, KeptByMoves}
@@ -42,9 +43,11 @@ use Rattle.world_talks.specs.ConversationLaws.{count-keeps}
 use Rattle.world_talks.specs.Hearing.{AReply, ATracker, AnEnd, IsHearing, hearing-is}
 use Rattle.world_talks.specs.TalkLaws.{left-is-among, taken-is-among}
 use Rattle.world_turns.specs.Changes.{Kept}
+use Rattle.world_turns.specs.AloneCommits as commit_alone
 use Rattle.world_turns.specs.Commits as commit
+use Rattle.world_turns.specs.AloneReads as read_alone
 use Rattle.world_turns.specs.Reads as read
-use Rattle.world_turns.specs.TargetTurns.{Hears}
+use Rattle.world_turns.specs.AloneTurns.{Hears}
 use Rattle.world_causes.specs.Causes.{Dated, zeroth}
 use Rattle.world_causes.specs.FirstMoves.{GoesOnFrom, KnowsIfRestart, ReplyKnows, StaysIfUnknown, ended-goes, moved-moves, replied-goes}
 use Rattle.world_causes.specs.Firsts.{EventsKeepFirsts, Firsts, KeepsFirst}
@@ -221,18 +224,18 @@ module _ (r : Rules) (top : ℕ) (U : Unsnapped r) where
 one-post : (issued : Dated) (did : Did) (q : Post) → did.posts ≡ q ∷ [] → MessageKnows issued q.message → ArePosts issued did.posts
 one-post issued did q e t s i = elim (subst (λ ps. Has s ps) e i) [ inl same ↦ subst (λ x. MessageKnows issued x.message) (sym same) t | inr j ↦ absurd j ]
 
-fetch-knows : (issued : Dated) (t : TargetPlan) (m : TargetMemory) (reading : ℕ) (q : FetchRequest) (from : ActorId) (s : read.FetchStage) (k : Kept) (left : TargetMemory × Did) → read.FetchEnds t m reading q from s k left → ArePosts issued left.1.posts
-fetch-knows issued t m reading q from s k left (read.IsSpent k2 left2 live none says) = one-post issued left2.1 _ (ap (λ o. o.1.posts) says) refl
-fetch-knows issued t m reading q from s k left (read.IsRefused k2 e decided c left2 why says) = one-post issued left2.1 _ (ap (λ o. o.1.posts) says) tt
-fetch-knows issued t m reading q from s k left (read.MeetsUnresolved k2 e decided a left2 free unsettled other says) = one-post issued left2.1 _ (ap (λ o. o.1.posts) says) tt
-fetch-knows issued t m reading q from s k left (read.IsServed k2 e decided b left2 free served says) = one-post issued left2.1 _ (ap (λ o. o.1.posts) says) tt
+fetch-knows : (issued : Dated) (t : TargetPlan) (m : TargetMemory) (reading : ℕ) (q : FetchRequest) (from : ActorId) (s : read.FetchStage) (k : Kept) (left : TargetMemory × Did) → read_alone.FetchEnds t m reading q from s k left → ArePosts issued left.1.posts
+fetch-knows issued t m reading q from s k left (read_alone.IsSpent k2 left2 live none says) = one-post issued left2.1 _ (ap (λ o. o.1.posts) says) refl
+fetch-knows issued t m reading q from s k left (read_alone.IsRefused k2 e decided c left2 why says) = one-post issued left2.1 _ (ap (λ o. o.1.posts) says) tt
+fetch-knows issued t m reading q from s k left (read_alone.MeetsUnresolved k2 e decided a left2 free unsettled other says) = one-post issued left2.1 _ (ap (λ o. o.1.posts) says) tt
+fetch-knows issued t m reading q from s k left (read_alone.IsServed k2 e decided b left2 free served says) = one-post issued left2.1 _ (ap (λ o. o.1.posts) says) tt
 
 commit-knows : (issued : Dated) (t : TargetPlan) (opening : Epoch × FloorWhy) (m : TargetMemory) (reading : ℕ) (q : CommitRequest) (from : ActorId) (s : commit.CommitStage) (k : Kept) (left : TargetMemory × Did)
-    → commit.CommitEnds t opening m reading q from s k left → ArePosts issued left.1.posts
-commit-knows issued t opening m reading q from s k left (commit.IsSpent k2 left2 none says) = one-post issued left2.1 _ (ap (λ o. o.1.posts) says) refl
-commit-knows issued t opening m reading q from s k left (commit.IsRefused k2 e c left2 why says) = one-post issued left2.1 _ (ap (λ o. o.1.posts) says) tt
-commit-knows issued t opening m reading q from s k left (commit.HasNoSpace k2 e left2 allowed full says) = one-post issued left2.1 _ (ap (λ o. o.1.posts) says) tt
-commit-knows issued t opening m reading q from s k left (commit.IsDecided k2 e left2 says) = one-post issued left2.1 _ (ap (λ o. o.1.posts) says) tt
+    → commit_alone.CommitEnds t opening m reading q from s k left → ArePosts issued left.1.posts
+commit-knows issued t opening m reading q from s k left (commit_alone.IsSpent k2 left2 none says) = one-post issued left2.1 _ (ap (λ o. o.1.posts) says) refl
+commit-knows issued t opening m reading q from s k left (commit_alone.IsRefused k2 e c left2 why says) = one-post issued left2.1 _ (ap (λ o. o.1.posts) says) tt
+commit-knows issued t opening m reading q from s k left (commit_alone.HasNoSpace k2 e left2 allowed full says) = one-post issued left2.1 _ (ap (λ o. o.1.posts) says) tt
+commit-knows issued t opening m reading q from s k left (commit_alone.IsDecided k2 e left2 says) = one-post issued left2.1 _ (ap (λ o. o.1.posts) says) tt
 
 hears-knows : (issued : Dated) (t : TargetPlan) (opening : Epoch × FloorWhy) (m : TargetMemory) (reading : ℕ) (from : ActorId) (q : Message) (old new : Kept) (left : TargetMemory × Did) → Hears t opening m reading from q old new left
     → ArePosts issued left.1.posts

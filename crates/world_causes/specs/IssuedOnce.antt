@@ -16,15 +16,18 @@ use Rattle.world_base.specs.declared.target.TargetPlan.{TargetPlan}
 use Rattle.world_base.specs.declared.world.World.{World}
 use Rattle.world_epochs.specs.Epochs.{AsksEpoch, Epochs, IsUnissued}
 use Rattle.world_events.specs.Events as events
-use Rattle.world_events.specs.Events.{ByClient, ByTarget, Event, Rules, TargetHears, TargetIdles, ToClient, ToTarget, kept, target_plan}
+use Rattle.world_events.specs.AloneEvents.{ByClient, ByTarget, Event, TargetHears, TargetIdles, ToClient, ToTarget}
+use Rattle.world_events.specs.Events.{Rules, kept, target_plan}
 use Rattle.world_events.specs.StepLaws.{by-hearing, by-next}
 use Rattle.world_talks.specs.AnswerLaws.{idle-posts-nothing}
 use Rattle.world_talks.specs.TalkLaws.{taken-is-among}
 use Rattle.world_turns.specs.Changes.{Kept}
+use Rattle.world_turns.specs.AloneCommits as commit_alone
 use Rattle.world_turns.specs.Commits as commit
+use Rattle.world_turns.specs.AloneReads as read_alone
 use Rattle.world_turns.specs.Reads as read
 use Rattle.world_turns.specs.Requests.{issued_for}
-use Rattle.world_turns.specs.TargetTurns.{Hears}
+use Rattle.world_turns.specs.AloneTurns.{Hears}
 use Rattle.world_causes.specs.Causes.{Dated}
 use Rattle.world_causes.specs.LastCauses.{AreApart, dated_ids}
 
@@ -51,19 +54,19 @@ commit-issues : (q : CommitRequest) (e : Epoch) (ep : Option Epoch) (o : Option 
 commit-issues q e None o is = ItsEpoch q.attempt e q.tracker (refl, refl) is
 commit-issues q e (Some own) o is = Nothing is
 
-fetch-ends : (t : TargetPlan) (m : TargetMemory) (reading : ℕ) (q : FetchRequest) (from : ActorId) (s : read.FetchStage) (k : Kept) (left : TargetMemory × Did) → read.FetchEnds t m reading q from s k left
+fetch-ends : (t : TargetPlan) (m : TargetMemory) (reading : ℕ) (q : FetchRequest) (from : ActorId) (s : read.FetchStage) (k : Kept) (left : TargetMemory × Did) → read_alone.FetchEnds t m reading q from s k left
     → Issues (message.Fetch q.attempt q.op q.group q.ep q.first q.tracker q.read q.snapshot) left.1.issued
-fetch-ends t m reading q from s k left (read.IsSpent k2 left2 live none says) = Nothing (ap (λ o. o.1.issued) says)
-fetch-ends t m reading q from s k left (read.IsRefused k2 e decided c left2 why says) = fetch-issues q e q.ep left.1.issued (ap (λ o. o.1.issued) says)
-fetch-ends t m reading q from s k left (read.MeetsUnresolved k2 e decided a left2 free unsettled other says) = fetch-issues q e q.ep left.1.issued (ap (λ o. o.1.issued) says)
-fetch-ends t m reading q from s k left (read.IsServed k2 e decided b left2 free served says) = fetch-issues q e q.ep left.1.issued (ap (λ o. o.1.issued) says)
+fetch-ends t m reading q from s k left (read_alone.IsSpent k2 left2 live none says) = Nothing (ap (λ o. o.1.issued) says)
+fetch-ends t m reading q from s k left (read_alone.IsRefused k2 e decided c left2 why says) = fetch-issues q e q.ep left.1.issued (ap (λ o. o.1.issued) says)
+fetch-ends t m reading q from s k left (read_alone.MeetsUnresolved k2 e decided a left2 free unsettled other says) = fetch-issues q e q.ep left.1.issued (ap (λ o. o.1.issued) says)
+fetch-ends t m reading q from s k left (read_alone.IsServed k2 e decided b left2 free served says) = fetch-issues q e q.ep left.1.issued (ap (λ o. o.1.issued) says)
 
 commit-ends : (t : TargetPlan) (opening : Epoch × FloorWhy) (m : TargetMemory) (reading : ℕ) (q : CommitRequest) (from : ActorId) (s : commit.CommitStage) (k : Kept) (left : TargetMemory × Did)
-    → commit.CommitEnds t opening m reading q from s k left → Issues (message.Commit q.attempt q.ep q.first q.tracker q.writes) left.1.issued
-commit-ends t opening m reading q from s k left (commit.IsSpent k2 left2 none says) = Nothing (ap (λ o. o.1.issued) says)
-commit-ends t opening m reading q from s k left (commit.IsRefused k2 e c left2 why says) = commit-issues q e q.ep left.1.issued (ap (λ o. o.1.issued) says)
-commit-ends t opening m reading q from s k left (commit.HasNoSpace k2 e left2 allowed full says) = commit-issues q e q.ep left.1.issued (ap (λ o. o.1.issued) says)
-commit-ends t opening m reading q from s k left (commit.IsDecided k2 e left2 says) = commit-issues q e q.ep left.1.issued (ap (λ o. o.1.issued) says)
+    → commit_alone.CommitEnds t opening m reading q from s k left → Issues (message.Commit q.attempt q.ep q.first q.tracker q.writes) left.1.issued
+commit-ends t opening m reading q from s k left (commit_alone.IsSpent k2 left2 none says) = Nothing (ap (λ o. o.1.issued) says)
+commit-ends t opening m reading q from s k left (commit_alone.IsRefused k2 e c left2 why says) = commit-issues q e q.ep left.1.issued (ap (λ o. o.1.issued) says)
+commit-ends t opening m reading q from s k left (commit_alone.HasNoSpace k2 e left2 allowed full says) = commit-issues q e q.ep left.1.issued (ap (λ o. o.1.issued) says)
+commit-ends t opening m reading q from s k left (commit_alone.IsDecided k2 e left2 says) = commit-issues q e q.ep left.1.issued (ap (λ o. o.1.issued) says)
 
 hears-issues : (t : TargetPlan) (opening : Epoch × FloorWhy) (m : TargetMemory) (reading : ℕ) (from : ActorId) (q : Message) (old new : Kept) (left : TargetMemory × Did) → Hears t opening m reading from q old new left → Issues q left.1.issued
 hears-issues t opening m reading from (message.Fetch x op group ep first tracker r snapshot) old new left h =

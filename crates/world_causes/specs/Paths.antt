@@ -25,7 +25,7 @@ use Rattle.world_turns.specs.Commits as commit
 use Rattle.world_turns.specs.Idle.{IdleNext, SettlesFirst}
 use Rattle.world_turns.specs.Reads as read
 use Rattle.world_turns.specs.Requests.{is_other_attempt, request_epoch}
-use Rattle.world_turns.specs.TargetTurns.{IdlesWhole}
+use Rattle.world_turns.specs.AloneTurns.{IdlesWhole}
 use Rattle.world_turns.specs.Turns.{Here, More, Path}
 
 -- ---- changes
@@ -84,8 +84,8 @@ old-settled a olds vs k v i =
 -- ---- a Fetch
 
 abbrev pub left_at : TargetMemory → read.FetchStage → List AttemptId
-left_at m read.Asked = m.decided
-left_at m (read.Known e) = m.decided
+left_at m read.Asked = m.leader.decided
+left_at m (read.Known e) = m.leader.decided
 left_at m (read.Reading e decided) = decided
 
 abbrev pub ReadDated : TargetPlan → TargetMemory → ℕ → FetchRequest → read.FetchStage → Type 0
@@ -120,10 +120,10 @@ read-step t m reading q old s u k l o plain (read.ExtendsLease j e lease low is)
   dated = h.dated;
   conts = ap (λ d. d.conts) st.0 ∙ conts-leased lease k.durable ∙ h.conts;
   free = let f : old.free ≤ k.free = h.free in let g : k.free ≤ l.free + 0 = st.1 in omega (arith, f, g);
-  unsettled = subst (λ vs. AreOpenOf vs m.decided) (sym (ap (λ d. d.versions) st.0 ∙ versions-leased lease k.durable)) h.unsettled;
+  unsettled = subst (λ vs. AreOpenOf vs m.leader.decided) (sym (ap (λ d. d.versions) st.0 ∙ versions-leased lease k.durable)) h.unsettled;
   olds = subst (AreOld old.durable.versions) (sym (ap (λ d. d.versions) st.0 ∙ versions-leased lease k.durable)) h.olds;
 }
-read-step t m reading q old s u k l o plain (read.IsCovered j e low) st h = read-rests t m reading q old (read.Known e) (read.Reading e m.decided) k l st h.dated refl h
+read-step t m reading q old s u k l o plain (read.IsCovered j e low) st h = read-rests t m reading q old (read.Known e) (read.Reading e m.leader.decided) k l st h.dated refl h
 read-step t m reading q old s u k l o plain (read.SettlesOwn j e decided a none unsettled among) st h = record {
   dated = h.dated;
   conts = ap (λ d. d.conts) st.0 ∙ conts-settled a k.durable ∙ h.conts;
@@ -132,7 +132,7 @@ read-step t m reading q old s u k l o plain (read.SettlesOwn j e decided a none 
   olds = subst (AreOld old.durable.versions) (sym (ap (λ d. d.versions) st.0 ∙ versions-settled a k.durable)) (old-settled a old.durable.versions k.durable.versions h.olds);
 }
 
-pub read-path : (t : TargetPlan) (m : TargetMemory) (reading : ℕ) (q : FetchRequest) (old : Kept) (s : read.FetchStage) (k : Kept) (did : List Change) → q.snapshot ≡ false → AreOpenOf old.durable.versions m.decided
+pub read-path : (t : TargetPlan) (m : TargetMemory) (reading : ℕ) (q : FetchRequest) (old : Kept) (s : read.FetchStage) (k : Kept) (did : List Change) → q.snapshot ≡ false → AreOpenOf old.durable.versions m.leader.decided
     → Path (read.FetchNext t m reading q) read.Asked old did s k → ReadSoFar t m reading q old s k
 read-path t m reading q old s k did plain known Here = record { dated = tt; conts = refl; free = omega arith; unsettled = known; olds = λ v i. (v, i, refl, refl, refl) }
 read-path t m reading q old s k did plain known (More did' u j o v i p n st) = read-step t m reading q old u s j k o plain n st (read-path t m reading q old u j did' plain known p)
@@ -210,4 +210,4 @@ idle-path start k s l did (More did' u j o v i p n st) =
     (g.0 ∙ f.0, omega (arith, low, up))
 
 pub idle-leaves : (m : TargetMemory) (old new : Kept) (left : TargetMemory × Did) → IdlesWhole m old new left → (new.durable.conts ≡ old.durable.conts) × (old.free ≤ new.free)
-idle-leaves m old new left w = idle-path m.decided old w.last new w.reached.did w.reached.path
+idle-leaves m old new left w = idle-path m.leader.decided old w.last new w.reached.did w.reached.path

@@ -60,7 +60,7 @@ FirstsAreKnown w = (l : Letter) → Contains w.messages l → MessageKnows w.iss
 
 -- what isn't settled at a running target, it knows as decided
 abbrev pub OpenIsDecided : World → Type 0
-OpenIsDecided w = (t : ℕ) (s : TargetState) (v : Version) → slice_get w.targets t ≡ Some s → s.life ≡ Running → Contains s.durable.versions v → v.done ≡ false → Contains s.memory.decided v.by
+OpenIsDecided w = (t : ℕ) (s : TargetState) (v : Version) → slice_get w.targets t ≡ Some s → s.life ≡ Running → Contains s.durable.versions v → v.done ≡ false → Contains s.memory.leader.decided v.by
 
 -- versions above the opening are writes of attempts to which their epochs were issued
 abbrev pub AreWritten : Rules → Dated → ℕ → List Version → Type 0

@@ -27,6 +27,7 @@ use Rattle.world_base.specs.declared.target.TargetMemory.{TargetMemory}
 use Rattle.world_base.specs.declared.target.TargetPlan.{TargetPlan}
 use Rattle.world_events.specs.Events.{Rules, listed}
 use Rattle.world_turns.specs.Changes.{Kept}
+use Rattle.world_turns.specs.AloneReads as read_alone
 use Rattle.world_turns.specs.Reads as read
 use Rattle.world_turns.specs.Requests.{issued_for, with_ticks}
 use Rattle.world_turns.specs.Turns.{Whole}
@@ -50,7 +51,7 @@ pub record HearsFetch (r : Rules) (o : Opening) (issued : Dated) (t : TargetPlan
   pub ticks : m.ticks ≤ limit o issued
   pub request : IsRequest o issued q.attempt q.ep q.first q.tracker
   pub floors : AreOpeningLow o opening old
-  pub unsettled : AreOpenOf old.durable.versions m.decided
+  pub unsettled : AreOpenOf old.durable.versions m.leader.decided
   pub dates : (x : AttemptId) (e : Epoch) → Contains issued (x, e) → e.0 / 256 ≤ limit o issued
   pub written : AreWritten r issued (top o) old.durable.versions
   pub access : Has (read_path q.read) (access_paths (attempt_ops r.script q.attempt))
@@ -134,8 +135,8 @@ module _ (r : Rules) (o : Opening) (decided issued : Dated) (t : TargetPlan) (op
       let z = read-refused t q e opening k.durable c h.plain (below-at k e w.conts d.above) why in
       write-refuses k e dec left d w z.0 z.1 (is ∙ ap (λ b. (read.memory_then q e dec m, read.tells q from e (reply.Outcome (outcome.Restart b)))) z.2)
 
-  fetch-ends : (s : read.FetchStage) (k : Kept) (left : TargetMemory × Did) → ReadSoFar t m reading q old s k → read.FetchEnds t m reading q from s k left → Heeds r o decided issued t.me from old.free k.free left
-  fetch-ends s k left w (read.IsSpent j z plain none is) =
+  fetch-ends : (s : read.FetchStage) (k : Kept) (left : TargetMemory × Did) → ReadSoFar t m reading q old s k → read_alone.FetchEnds t m reading q from s k left → Heeds r o decided issued t.me from old.free k.free left
+  fetch-ends s k left w (read_alone.IsSpent j z plain none is) =
       said r o decided issued t.me from old.free k.free m (read.fetched_message q None (reply.Outcome outcome.EpochsSpent)) None left is (record {
         shows = record { before = issued; since = []; among = refl; none = (h.request.fresh spent.0).0; spent = spent.1 };
         told = λ e i. absurd (none-told e i);
@@ -146,19 +147,19 @@ module _ (r : Rules) (o : Opening) (decided issued : Dated) (t : TargetPlan) (op
     where
       spent : (q.ep ≡ None) × (last_ticks < limit o issued + 1)
       spent = request-spent o issued q.attempt q.ep q.first q.tracker t m reading h.ticks h.request none
-  fetch-ends s k left w (read.IsRefused j e dec c z why is) =
+  fetch-ends s k left w (read_alone.IsRefused j e dec c z why is) =
       refuses k e dec left (request-dated o issued q.attempt q.ep q.first q.tracker t m reading e h.few h.ticks h.request w.dated) w c why is
-  fetch-ends s k left w (read.MeetsUnresolved j e dec a z free unsettled other is) =
+  fetch-ends s k left w (read_alone.MeetsUnresolved j e dec a z free unsettled other is) =
       let d = request-dated o issued q.attempt q.ep q.first q.tracker t m reading e h.few h.ticks h.request w.dated in
       let v = meets-open q.read e opening k.durable a (below-at k e w.conts d.above) unsettled in
       absurd (other (contains-from_has dec a (subst (λ x. Has x dec) v.3 (w.unsettled v.0 v.1 v.2))))
-  fetch-ends s k left w (read.IsServed j e dec b z free served is) =
+  fetch-ends s k left w (read_alone.IsServed j e dec b z free served is) =
       let d = request-dated o issued q.attempt q.ep q.first q.tracker t m reading e h.few h.ticks h.request w.dated in
       said r o decided issued t.me from old.free k.free (record (read.memory_then q e dec m) { stamps = read.stamps_with q e m.stamps }) (read.fetched_message q (Some e) (reply.Answer b)) (issued_for q.attempt q.ep e) left is
       (serves e dec (record (read.memory_then q e dec m) { stamps = read.stamps_with q e m.stamps }) b k.free w.free d refl)
 
   -- a turn that hears a Fetch, and leaves the rows of containers as they were
-  pub fetch-heeds : (new : Kept) (left : TargetMemory × Did) → Whole (read.FetchNext t m reading q) (read.FetchEnds t m reading q from) read.Asked old new left
+  pub fetch-heeds : (new : Kept) (left : TargetMemory × Did) → Whole (read.FetchNext t m reading q) (read_alone.FetchEnds t m reading q from) read.Asked old new left
       → Heeds r o decided issued t.me from old.free new.free left × (new.durable.conts ≡ old.durable.conts)
   fetch-heeds new left w =
       let k : ReadSoFar t m reading q old w.last new = read-path t m reading q old w.last new w.reached.did h.plain h.unsettled w.reached.path in

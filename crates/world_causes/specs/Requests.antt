@@ -42,7 +42,7 @@ use Rattle.world_talks.specs.Conversation.{Conversation}
 use Rattle.world_talks.specs.InFlight.{HearsRequest, hears-request}
 use Rattle.world_talks.specs.TalkLaws.{taken-is-among}
 use Rattle.world_turns.specs.Commits as commit
-use Rattle.world_turns.specs.TargetTurns.{is_heard}
+use Rattle.world_turns.specs.AloneTurns.{is_heard}
 use Rattle.world_causes.specs.Causes.{Bounded, Causes, Dated, limit}
 use Rattle.world_causes.specs.CommitTurns.{HearsCommit}
 use Rattle.world_causes.specs.Growth.{any-of, has-at, question-asks}
@@ -135,7 +135,7 @@ module _ (r : Rules) (o : Opening) (h : History) (w : World) (G : Given r o h w)
         (subst (MessageKnows w.issued) is (G.firsts l among))
         (tracker-within q.tracker.0 a.c.tracker.0 (limit o w.issued) (subst (λ e. e.0 ≤ a.c.tracker.0) (sym its.tracker) a.low) (C.bounded.trackers a.n a.c a.here));
     floors = λ cont. C.floors t s cont here;
-    unsettled = λ v i open'. has-from_contains s.memory.decided v.by (G.unsettled t s v here runs (contains-from_has s.durable.versions v i) open');
+    unsettled = λ v i open'. has-from_contains s.memory.leader.decided v.by (G.unsettled t s v here runs (contains-from_has s.durable.versions v i) open');
     dates = C.bounded.issued;
     written = G.written t s here;
     access = subst (λ ops. Has (read_path q.read) (access_paths ops)) (sym (ap (attempt_ops r.script) its.attempt ∙ ops-at a.n a.c a.a its.ops its.turns its.name a.here a.present its.at))

@@ -22,13 +22,14 @@ use Rattle.world_base.specs.declared.target.TargetState.{TargetState}
 use Rattle.world_base.specs.declared.target.Life.TheVariants.{Running}
 use Rattle.world_base.specs.declared.world.World.{World}
 use Rattle.world_base.specs.ClientTurns.{told_by_message}
-use Rattle.world_events.specs.Events.{Rules, TargetHears, TargetIdles, after_turn, kept, listed, target_after, target_plan, with_epoch, with_target}
+use Rattle.world_events.specs.AloneEvents.{TargetHears, TargetIdles}
+use Rattle.world_events.specs.Events.{Rules, after_turn, kept, listed, target_after, target_plan, with_epoch, with_target}
 use Rattle.world_events.specs.Letters.{letter_of, letters_of, target}
 use Rattle.world_reads.specs.History.{History}
 use Rattle.world_talks.specs.TalkLaws.{left-is-among}
 use Rattle.world_turns.specs.Changes.{Kept}
-use Rattle.world_turns.specs.Idle.{AllSettled, IdleEnds}
-use Rattle.world_turns.specs.TargetTurns.{Hears, IdlesWhole}
+use Rattle.world_turns.specs.Roles.{with_unsettled}
+use Rattle.world_turns.specs.AloneTurns.{AllSettled, Hears, IdleEnds, IdlesWhole}
 use Rattle.world_causes.specs.Causes.{Causes, Dated, MessageShows, blocks_of_decided, decided_by_posts, limit}
 use Rattle.world_causes.specs.CommitTurns.{commit-heeds}
 use Rattle.world_causes.specs.Dates.{limit-rises}
@@ -150,7 +151,7 @@ target-hears-keeps r o h decided w v G C g =
 
 -- ---- a target does its idle work
 
-idle-is : (m : TargetMemory) (s : List AttemptId) (k : Kept) (left : TargetMemory × Did) → IdleEnds m s k left → left ≡ (record m { decided = [] }, record { posts = []; lines = []; issued = None })
+idle-is : (m : TargetMemory) (s : List AttemptId) (k : Kept) (left : TargetMemory × Did) → IdleEnds m s k left → left ≡ (with_unsettled [] m, record { posts = []; lines = []; issued = None })
 idle-is m s k left (AllSettled j z is) = is
 
 idle-did : (r : Rules) (o : Opening) (decided issued : Dated) (t : ℕ) (m : TargetMemory) (old new : Kept) (left : TargetMemory × Did) → m.ticks ≤ limit o issued → IdlesWhole m old new left → Leaves r o decided issued t old new left.0 left.1

@@ -60,7 +60,7 @@ leads-all r o held h w t s e one k here i =
     ∙ sym (only-target r w t s one here)
 
 pub unsettled-is-decided : UnsettledIsDecided
-unsettled-is-decided r o held h w one k t s v here runs i open' = subst (Contains s.memory.decided) own (k.led t s e.0 here among e.2 (leads-all r o held h w t s e.0 one k here among))
+unsettled-is-decided r o held h w one k t s v here runs i open' = subst (Contains s.memory.leader.decided) own (k.led t s e.0 here among e.2 (leads-all r o held h w t s e.0 one k here among))
   where
     e : (e : Entry) × (entry_of s.durable v.by ≡ Some e) × (e.committed ≡ false) × (e.epoch ≡ v.epoch)
     e = (k.stand t s here).unsettled v i open'

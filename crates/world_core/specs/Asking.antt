@@ -60,7 +60,7 @@ use Rattle.world_talks.specs.Asked.{ARead, ASnapshot, AnAggregation, Asked, Asks
 use Rattle.world_talks.specs.InFlight.{HearsRequest, hears-request}
 use Rattle.world_talks.specs.TalkLaws.{got-is-talk}
 use Rattle.world_turns.specs.Requests.{request_epoch}
-use Rattle.world_turns.specs.TargetTurns.{is_heard}
+use Rattle.world_turns.specs.AloneTurns.{is_heard}
 use Rattle.world_verdicts.specs.TurnLaws.{attempt-ops-here, told-of}
 use Rattle.world_verdicts.specs.VerdictLaws.{left-or-it}
 use Rattle.world_verdicts.specs.Verdicts.{IsOnItsWay, IsToldCommitted}

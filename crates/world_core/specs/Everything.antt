@@ -15,7 +15,8 @@ use Rattle.world_base.specs.ClientTurns.{attempt_id, request_of}
 use Rattle.world_core.specs.Asking.{Facts, requests-are-right}
 use Rattle.world_core.specs.Judged.{clients-keep-judged}
 use Rattle.world_epochs.specs.EpochLaws.{epochs-kept, one_target-kept}
-use Rattle.world_events.specs.Events.{Begins, ByClient, ByTarget, ClientGoes, ClientHears, Event, Goes, Rules, Run, TargetHears, TargetIdles, ToClient, ToTarget, client_plan, kept, target_plan, with_epoch}
+use Rattle.world_events.specs.AloneEvents.{Begins, ByClient, ByTarget, Event, Goes, Run, TargetHears, TargetIdles, ToClient, ToTarget}
+use Rattle.world_events.specs.Events.{ClientGoes, ClientHears, Rules, client_plan, kept, target_plan, with_epoch}
 use Rattle.world_events.specs.Letters.{client, letters_of, target}
 use Rattle.world_gots.specs.Remembering.{IsRemembered, ToldServed}
 use Rattle.world_gots.specs.TargetGots.{served-is-told}
@@ -31,7 +32,7 @@ use Rattle.world_talks.specs.AskLaws.{asked-is-request}
 use Rattle.world_talks.specs.Conversation.{Answers}
 use Rattle.world_talks.specs.InFlight.{HearsRequest, hears-request}
 use Rattle.world_turns.specs.Requests.{nothing_follows}
-use Rattle.world_turns.specs.TargetTurns.{is_heard}
+use Rattle.world_turns.specs.AloneTurns.{is_heard}
 use Rattle.world_verdicts.specs.TurnLaws.{DecidesTold, told-of, verdicts-by-idle, verdicts-by-target}
 use Rattle.world_verdicts.specs.Verdicts.{Tells}
 

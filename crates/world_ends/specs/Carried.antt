@@ -30,14 +30,15 @@ use Rattle.world_causes.specs.LastCauses.{AreApart, dated_ids}
 use Rattle.world_causes.specs.Requests as requests
 use Rattle.world_causes.specs.Unsettled.{unsettled-is-decided, versions-written}
 use Rattle.world_core.specs.Asking.{requests-are-right}
-use Rattle.world_events.specs.Events.{Begins, ByClient, ByTarget, Event, Goes, Rules, Run, TargetHears, ToClient, ToTarget, kept, target_plan}
+use Rattle.world_events.specs.AloneEvents.{Begins, ByClient, ByTarget, Event, Goes, Run, TargetHears, ToClient, ToTarget}
+use Rattle.world_events.specs.Events.{Rules, kept, target_plan}
 use Rattle.world_events.specs.Letters.{letter_of, letters_of, target}
 use Rattle.world_reads.specs.Given.{IsMessageRight}
 use Rattle.world_reads.specs.History.{Grew, History}
 use Rattle.world_talks.specs.AnswerLaws.{IsAnsweredBy, answers-are-posted, hears-heard, idle-posts-nothing}
 use Rattle.world_talks.specs.Conversation.{Answers}
 use Rattle.world_talks.specs.TalkLaws.{taken-is-among}
-use Rattle.world_turns.specs.TargetTurns.{is_heard}
+use Rattle.world_turns.specs.AloneTurns.{is_heard}
 use Rattle.world_verdicts.specs.Verdicts.{Verdicts}
 use Rattle.world_ends.specs.PlainCauses.{plain-causes}
 use Rattle.world_ends.specs.SureTells.{TellsSurely, events-tell-surely}

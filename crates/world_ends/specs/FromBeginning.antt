@@ -34,7 +34,8 @@ use Rattle.world_causes.specs.LastCauses.{AllAreTold, causes-shown}
 use Rattle.world_causes.specs.Unsettled.{leads-all}
 use Rattle.world_clients.specs.Standing.{AreOfPresent, HasTold, has_number, number_of}
 use Rattle.world_epochs.specs.Epochs.{HasLine, IsPresent}
-use Rattle.world_events.specs.Events.{Begins, ByClient, ByTarget, Event, Goes, Rules, Run, ToClient, ToTarget, client_plan}
+use Rattle.world_events.specs.AloneEvents.{Begins, ByClient, ByTarget, Event, Goes, Run, ToClient, ToTarget}
+use Rattle.world_events.specs.Events.{Rules, client_plan}
 use Rattle.world_events.specs.Letters.{client, talk_of, target}
 use Rattle.world_lines.specs.LastLines.{AreDone, HasClients, lines-in-turn}
 use Rattle.world_talks.specs.InFlight.{one-in-flight}
@@ -58,7 +59,7 @@ pub record HasEnded (r : Rules) (w : World) : Type 0 where
   pub to_clients : (n : ℕ) (l : Letter) → n < length r.script.clients → Contains w.messages l → l.to ≡ client n → ⊥
   pub to_target : (l : Letter) → Contains w.messages l → l.to ≡ target 0 → ⊥
   pub clients : (n : ℕ) (c : ClientState) → slice_get w.clients n ≡ Some c → (waits c ≡ true) ⊎ (is_done (client_plan r n) c ≡ true)
-  pub settled : (t : ℕ) (s : TargetState) → slice_get w.targets t ≡ Some s → s.memory.decided ≡ []
+  pub settled : (t : ℕ) (s : TargetState) → slice_get w.targets t ≡ Some s → s.memory.leader.decided ≡ []
 
 -- Of a run of a script in form for one target, without stops, snapshots and aggregation, from its beginning to where it has ended:
 -- the report of its lines is legal in each part, and the target stands for what it tells.

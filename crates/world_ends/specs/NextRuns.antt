@@ -27,7 +27,7 @@ use Rattle.world_base.specs.declared.world.World.{World}
 use Rattle.world_begins.specs.BeginLaws.{filter-all}
 use Rattle.world_begins.specs.Begins.{IsAlone, IsBegun, OpensWith}
 use Rattle.world_begins.specs.Staying.{StaysAs, runs-keep-targets}
-use Rattle.world_events.specs.Events.{Run}
+use Rattle.world_events.specs.AloneEvents.{Run}
 use Rattle.world_reads.specs.Versions.{VersionsStand}
 use Rattle.world_ends.specs.Ends.{rules_of}
 use Rattle.world_ends.specs.FromBeginning.{HasEnded, carried, over, over-legally}

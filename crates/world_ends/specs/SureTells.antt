@@ -40,7 +40,8 @@ use Rattle.world_base.specs.declared.target.TargetPlan.{TargetPlan}
 use Rattle.world_base.specs.declared.world.World.{World}
 use Rattle.world_base.specs.ClientTurns.{Move, asks_or_goes, at_present, attempt_moves, command_at, command_moves, commits, condition_told, ended, ends, goes, group_count, group_told, heard, hears_epochs, is_yes, joined, knows, listed, moved, moves_at, next_stage, op_moves, op_of, op_told, question, replied, rests, run_moves, told_at, waits}
 use Rattle.world_epochs.specs.Epochs.{Unsnapped, is_unsnapped}
-use Rattle.world_events.specs.Events.{ByClient, ByTarget, Event, Rules, TargetHears, TargetIdles, ToClient, ToTarget, client_plan, kept, target_plan, with_epoch}
+use Rattle.world_events.specs.AloneEvents.{ByClient, ByTarget, Event, TargetHears, TargetIdles, ToClient, ToTarget}
+use Rattle.world_events.specs.Events.{Rules, client_plan, kept, target_plan, with_epoch}
 use Rattle.world_events.specs.Letters.{client, letter_of, letters_of, target}
 use Rattle.world_events.specs.StepLaws.{by-hearing, by-next}
 use Rattle.world_events.specs.Steps.{KeptByCounting, KeptByHearing, KeptByMoves}
@@ -53,9 +54,11 @@ use Rattle.world_talks.specs.ConversationLaws.{count-keeps, hear-keeps, move-kee
 use Rattle.world_talks.specs.Hearing.{AReply, ATracker, AnEnd, IsHearing, hearing-is}
 use Rattle.world_talks.specs.TalkLaws.{left-is-among, taken-is-among}
 use Rattle.world_turns.specs.Changes.{Kept}
+use Rattle.world_turns.specs.AloneCommits as commit_alone
 use Rattle.world_turns.specs.Commits as commit
+use Rattle.world_turns.specs.AloneReads as read_alone
 use Rattle.world_turns.specs.Reads as read
-use Rattle.world_turns.specs.TargetTurns.{Hears}
+use Rattle.world_turns.specs.AloneTurns.{Hears}
 use Rattle.world_ends.specs.Ends.{TellsPlain, is_sure, is_try}
 
 -- ---- the statement
@@ -300,18 +303,18 @@ module _ (r : Rules) (U : Unsnapped r) where
 one-post : (did : Did) (q : Post) → did.posts ≡ q ∷ [] → MessageIsSure q.message → ArePosts did.posts
 one-post did q e t s i = elim (subst (λ ps. Has s ps) e i) [ inl same ↦ subst (λ x. MessageIsSure x.message) (sym same) t | inr j ↦ absurd j ]
 
-fetch-sure : (t : TargetPlan) (m : TargetMemory) (reading : ℕ) (q : FetchRequest) (from : ActorId) (s : read.FetchStage) (k : Kept) (left : TargetMemory × Did) → read.FetchEnds t m reading q from s k left → ArePosts left.1.posts
-fetch-sure t m reading q from s k left (read.IsSpent k2 left2 live none says) = one-post left2.1 _ (ap (λ o. o.1.posts) says) refl
-fetch-sure t m reading q from s k left (read.IsRefused k2 e decided c left2 why says) = one-post left2.1 _ (ap (λ o. o.1.posts) says) refl
-fetch-sure t m reading q from s k left (read.MeetsUnresolved k2 e decided a left2 free unsettled other says) = one-post left2.1 _ (ap (λ o. o.1.posts) says) refl
-fetch-sure t m reading q from s k left (read.IsServed k2 e decided b left2 free served says) = one-post left2.1 _ (ap (λ o. o.1.posts) says) tt
+fetch-sure : (t : TargetPlan) (m : TargetMemory) (reading : ℕ) (q : FetchRequest) (from : ActorId) (s : read.FetchStage) (k : Kept) (left : TargetMemory × Did) → read_alone.FetchEnds t m reading q from s k left → ArePosts left.1.posts
+fetch-sure t m reading q from s k left (read_alone.IsSpent k2 left2 live none says) = one-post left2.1 _ (ap (λ o. o.1.posts) says) refl
+fetch-sure t m reading q from s k left (read_alone.IsRefused k2 e decided c left2 why says) = one-post left2.1 _ (ap (λ o. o.1.posts) says) refl
+fetch-sure t m reading q from s k left (read_alone.MeetsUnresolved k2 e decided a left2 free unsettled other says) = one-post left2.1 _ (ap (λ o. o.1.posts) says) refl
+fetch-sure t m reading q from s k left (read_alone.IsServed k2 e decided b left2 free served says) = one-post left2.1 _ (ap (λ o. o.1.posts) says) tt
 
 commit-sure : (t : TargetPlan) (opening : Epoch × FloorWhy) (m : TargetMemory) (reading : ℕ) (q : CommitRequest) (from : ActorId) (s : commit.CommitStage) (k : Kept) (left : TargetMemory × Did)
-    → commit.CommitEnds t opening m reading q from s k left → ArePosts left.1.posts
-commit-sure t opening m reading q from s k left (commit.IsSpent k2 left2 none says) = one-post left2.1 _ (ap (λ o. o.1.posts) says) refl
-commit-sure t opening m reading q from s k left (commit.IsRefused k2 e c left2 why says) = one-post left2.1 _ (ap (λ o. o.1.posts) says) refl
-commit-sure t opening m reading q from s k left (commit.HasNoSpace k2 e left2 allowed full says) = one-post left2.1 _ (ap (λ o. o.1.posts) says) refl
-commit-sure t opening m reading q from s k left (commit.IsDecided k2 e left2 says) = one-post left2.1 _ (ap (λ o. o.1.posts) says) refl
+    → commit_alone.CommitEnds t opening m reading q from s k left → ArePosts left.1.posts
+commit-sure t opening m reading q from s k left (commit_alone.IsSpent k2 left2 none says) = one-post left2.1 _ (ap (λ o. o.1.posts) says) refl
+commit-sure t opening m reading q from s k left (commit_alone.IsRefused k2 e c left2 why says) = one-post left2.1 _ (ap (λ o. o.1.posts) says) refl
+commit-sure t opening m reading q from s k left (commit_alone.HasNoSpace k2 e left2 allowed full says) = one-post left2.1 _ (ap (λ o. o.1.posts) says) refl
+commit-sure t opening m reading q from s k left (commit_alone.IsDecided k2 e left2 says) = one-post left2.1 _ (ap (λ o. o.1.posts) says) refl
 
 hears-sure : (t : TargetPlan) (opening : Epoch × FloorWhy) (m : TargetMemory) (reading : ℕ) (from : ActorId) (q : Message) (old new : Kept) (left : TargetMemory × Did) → Hears t opening m reading from q old new left → ArePosts left.1.posts
 hears-sure t opening m reading from (message.Fetch x op group ep first tracker r snapshot) old new left h =

@@ -10,7 +10,8 @@ use Rattle.daos_model.specs.Order.{AllRise}
 use Rattle.world_base.specs.declared.client.ClientState.{ClientState}
 use Rattle.world_base.specs.declared.world.World.{World}
 use Rattle.world_base.specs.ClientTurns.{NextTurn, Skipped, Went_on}
-use Rattle.world_events.specs.Events.{Begins, ByClient, ByTarget, ClientGoes, Event, Goes, Rules, Run, ToClient, ToTarget, after_turn, client_plan, with_client}
+use Rattle.world_events.specs.AloneEvents.{Begins, ByClient, ByTarget, Event, Goes, Run, ToClient, ToTarget}
+use Rattle.world_events.specs.Events.{ClientGoes, Rules, after_turn, client_plan, with_client}
 use Rattle.world_events.specs.Letters.{client}
 use Rattle.world_events.specs.StepLaws.{by-going, by-hearing}
 use Rattle.world_events.specs.Steps.{KeptByHearing, KeptByMoves}

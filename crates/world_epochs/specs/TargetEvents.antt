@@ -20,12 +20,13 @@ use Rattle.world_base.specs.declared.target.TargetPlan.{TargetPlan}
 use Rattle.world_base.specs.declared.target.TargetState.{TargetState}
 use Rattle.world_base.specs.declared.world.World.{World}
 use Rattle.world_base.specs.ClientTurns.{is_waiting, waits}
-use Rattle.world_events.specs.Events.{Rules, TargetHears, TargetIdles, after_turn, kept, listed, target_after, target_plan, with_target}
+use Rattle.world_events.specs.AloneEvents.{TargetHears, TargetIdles}
+use Rattle.world_events.specs.Events.{Rules, after_turn, kept, listed, target_after, target_plan, with_target}
 use Rattle.world_events.specs.Letters.{client, is_talk_of, talk_of, target}
 use Rattle.world_talks.specs.Conversation.{Conversation}
 use Rattle.world_turns.specs.Changes.{Kept}
 use Rattle.world_turns.specs.Requests.{epoch_of_ticks, issued_for, request_epoch, says}
-use Rattle.world_turns.specs.TargetTurns.{Hears}
+use Rattle.world_turns.specs.AloneTurns.{Hears}
 use Rattle.world_epochs.specs.Epochs.{AsksEpoch, BearsEpoch, Epochs, IsIssued, IsPresent, IsTold, IsUnissued, LacksEpoch, OneTarget, reads_snapshot}
 use Rattle.world_epochs.specs.Lists.{contains-one}
 use Rattle.world_epochs.specs.Talking.{asks-no_tell, lacks-no_tell, rest-among, silent-not, taken-among, taken-silent, talking, talks-from, talks-to}

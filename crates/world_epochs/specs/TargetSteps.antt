@@ -31,11 +31,13 @@ use Rattle.world_base.specs.declared.request.FetchRequest.{FetchRequest}
 use Rattle.world_base.specs.declared.target.TargetMemory.{TargetMemory}
 use Rattle.world_base.specs.declared.target.TargetPlan.{TargetPlan}
 use Rattle.world_turns.specs.Changes.{Change, Kept, Steps}
+use Rattle.world_turns.specs.AloneCommits as commit_alone
 use Rattle.world_turns.specs.Commits as commit
-use Rattle.world_turns.specs.Idle.{AllSettled, IdleEnds, IdleNext, SettlesFirst}
+use Rattle.world_turns.specs.AloneTurns.{AllSettled, IdleEnds, IdlesWhole}
+use Rattle.world_turns.specs.Idle.{IdleNext, SettlesFirst}
+use Rattle.world_turns.specs.AloneReads as read_alone
 use Rattle.world_turns.specs.Reads as read
 use Rattle.world_turns.specs.Requests.{issued_for, nothing_follows, request_epoch, says, with_ticks}
-use Rattle.world_turns.specs.TargetTurns.{IdlesWhole}
 use Rattle.world_turns.specs.Turns.{Here, More, Path, Whole}
 
 -- ---- leases
@@ -152,19 +154,19 @@ read-dated t m reading q from e decided b lease left plain c ticks did =
     IsDated e (message.Fetched q.attempt q.op q.group (Some e) b) c (ByRead q.op q.group b refl) did (subst (λ n. m.ticks ≤ n) (sym now) up.0) (subst (λ n. e.0 / 256 ≤ n) (sym now) up.1)
 
 read-ends : (t : TargetPlan) (m : TargetMemory) (reading : ℕ) (q : FetchRequest) (from : ActorId) (s : read.FetchStage) (k : Kept) (left : TargetMemory × Did) → q.snapshot ≡ false
-    → read.FetchEnds t m reading q from s k left → ReadStands t m reading q s k → Heeds t m reading from q.attempt q.ep q.tracker k.durable.lease left
-read-ends t m reading q from s k left plain (read.IsSpent j i p none is) h =
+    → read_alone.FetchEnds t m reading q from s k left → ReadStands t m reading q s k → Heeds t m reading from q.attempt q.ep q.tracker k.durable.lease left
+read-ends t m reading q from s k left plain (read_alone.IsSpent j i p none is) h =
     IsSpent (message.Fetched q.attempt q.op q.group None (reply.Outcome outcome.EpochsSpent)) (no-epoch t m reading q.tracker q.ep none) (ByRead q.op q.group (reply.Outcome outcome.EpochsSpent) refl) (ap (λ z. z.1) is) (subst (λ z. m.ticks ≤ z.0.ticks) (sym is) (omega arith))
-read-ends t m reading q from s k left plain (read.IsRefused j e decided c i why is) h =
+read-ends t m reading q from s k left plain (read_alone.IsRefused j e decided c i why is) h =
     read-dated t m reading q from e decided (reply.Outcome (outcome.Restart c)) k.durable.lease left plain h (ap (λ z. z.0.ticks) is) (ap (λ z. z.1) is)
-read-ends t m reading q from s k left plain (read.MeetsUnresolved j e decided a i none unsettled among is) h =
+read-ends t m reading q from s k left plain (read_alone.MeetsUnresolved j e decided a i none unsettled among is) h =
     read-dated t m reading q from e decided (reply.Outcome (outcome.Restart (cause.Unresolved a))) k.durable.lease left plain h (ap (λ z. z.0.ticks) is) (ap (λ z. z.1) is)
-read-ends t m reading q from s k left plain (read.IsServed j e decided b i none ok is) h =
+read-ends t m reading q from s k left plain (read_alone.IsServed j e decided b i none ok is) h =
     read-dated t m reading q from e decided (reply.Answer b) k.durable.lease left plain h (ap (λ z. z.0.ticks) is) (ap (λ z. z.1) is)
 
 -- a target that hears a Fetch answers it, and its lease doesn't go down
 pub read-heeds : (t : TargetPlan) (m : TargetMemory) (reading : ℕ) (q : FetchRequest) (from : ActorId) (old new : Kept) (left : TargetMemory × Did) → q.snapshot ≡ false
-    → Whole (read.FetchNext t m reading q) (read.FetchEnds t m reading q from) read.Asked old new left
+    → Whole (read.FetchNext t m reading q) (read_alone.FetchEnds t m reading q from) read.Asked old new left
     → Heeds t m reading from q.attempt q.ep q.tracker new.durable.lease left × (old.durable.lease ≤ new.durable.lease)
 read-heeds t m reading q from old new left plain w =
     let h : ReadStands t m reading q w.last new × (old.durable.lease ≤ new.durable.lease) = read-path t m reading q old w.last new w.reached.did plain w.reached.path in
@@ -207,19 +209,19 @@ commit-dated t m reading q from e how lease left c now did =
     IsDated e (message.Ended q.attempt (Some e) how) c (ByEnd how refl) did (subst (λ n. m.ticks ≤ n) (sym now) up.0) (subst (λ n. e.0 / 256 ≤ n) (sym now) up.1)
 
 commit-ends : (t : TargetPlan) (opening : Epoch × FloorWhy) (m : TargetMemory) (reading : ℕ) (q : CommitRequest) (from : ActorId) (s : commit.CommitStage) (k : Kept) (left : TargetMemory × Did)
-    → commit.CommitEnds t opening m reading q from s k left → CommitStands t m reading q s k → Heeds t m reading from q.attempt q.ep q.tracker k.durable.lease left
-commit-ends t opening m reading q from s k left (commit.IsSpent j i none is) h =
+    → commit_alone.CommitEnds t opening m reading q from s k left → CommitStands t m reading q s k → Heeds t m reading from q.attempt q.ep q.tracker k.durable.lease left
+commit-ends t opening m reading q from s k left (commit_alone.IsSpent j i none is) h =
     IsSpent (message.Ended q.attempt None outcome.EpochsSpent) (no-epoch t m reading q.tracker q.ep none) (ByEnd outcome.EpochsSpent refl) (ap (λ z. z.1) is) (subst (λ z. m.ticks ≤ z.0.ticks) (sym is) (omega arith))
-commit-ends t opening m reading q from s k left (commit.IsRefused j e c i why is) h =
+commit-ends t opening m reading q from s k left (commit_alone.IsRefused j e c i why is) h =
     commit-dated t m reading q from e (outcome.Restart c) k.durable.lease left h (ap (λ z. z.0.ticks) is) (ap (λ z. z.1) is)
-commit-ends t opening m reading q from s k left (commit.HasNoSpace j e i allowed space is) h =
+commit-ends t opening m reading q from s k left (commit_alone.HasNoSpace j e i allowed space is) h =
     commit-dated t m reading q from e (outcome.NoSpace t.me (blocks (commit.own_writes t q.writes)) k.free) k.durable.lease left h (ap (λ z. z.0.ticks) is) (ap (λ z. z.1) is)
-commit-ends t opening m reading q from s k left (commit.IsDecided j e i is) h =
+commit-ends t opening m reading q from s k left (commit_alone.IsDecided j e i is) h =
     commit-dated t m reading q from e outcome.Committed k.durable.lease left h (ap (λ z. z.0.ticks) is) (ap (λ z. z.1) is)
 
 -- a target that hears a Commit answers it, and its lease doesn't go down
 pub commit-heeds : (t : TargetPlan) (opening : Epoch × FloorWhy) (m : TargetMemory) (reading : ℕ) (q : CommitRequest) (from : ActorId) (old new : Kept) (left : TargetMemory × Did)
-    → Whole (commit.CommitNext t opening m reading q) (commit.CommitEnds t opening m reading q from) commit.Asked old new left
+    → Whole (commit.CommitNext t opening m reading q) (commit_alone.CommitEnds t opening m reading q from) commit.Asked old new left
     → Heeds t m reading from q.attempt q.ep q.tracker new.durable.lease left × (old.durable.lease ≤ new.durable.lease)
 commit-heeds t opening m reading q from old new left w =
     let h : CommitStands t m reading q w.last new × (old.durable.lease ≤ new.durable.lease) = commit-path t opening m reading q old w.last new w.reached.did w.reached.path in
@@ -242,4 +244,4 @@ pub idle-keeps : (m : TargetMemory) (old new : Kept) (left : TargetMemory × Did
     → (new.durable.lease ≡ old.durable.lease) × (left.0.ticks ≡ m.ticks) × (left.1 ≡ nothing_follows)
 idle-keeps m old new left w =
     let k : (left.0.ticks ≡ m.ticks) × (left.1 ≡ nothing_follows) = idle-ends m w.last new left w.ends in
-    (idle-path m.decided old w.last new w.reached.did w.reached.path, k.0, k.1)
+    (idle-path m.leader.decided old w.last new w.reached.did w.reached.path, k.0, k.1)

@@ -19,7 +19,8 @@ use Rattle.world_ends.specs.Ends.{report_of, rules_of}
 use Rattle.world_ends.specs.FromBeginning.{HasEnded, runs-give-the-headline}
 use Rattle.world_ends.specs.SureTells.{tells-plain}
 use Rattle.world_epochs.specs.Epochs.{Epochs, IsIssued}
-use Rattle.world_events.specs.Events.{Rules, Run}
+use Rattle.world_events.specs.AloneEvents.{Run}
+use Rattle.world_events.specs.Events.{Rules}
 use Rattle.world_reads.specs.History.{History}
 use Rattle.world_reads.specs.Versions.{Versions}
 use Rattle.world_forms.specs.Keyed.{CellHasKeys, MapHasKeys, ScriptHasKeys}

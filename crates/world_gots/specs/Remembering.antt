@@ -12,7 +12,8 @@ use Rattle.world_base.specs.declared.did.Did.{Did}
 use Rattle.world_base.specs.declared.request.FetchRequest.{FetchRequest}
 use Rattle.world_base.specs.declared.world.World.{World}
 use Rattle.world_clients.specs.Standing.{HasTold}
-use Rattle.world_events.specs.Events.{ByClient, ByTarget, Event, Rules, ToClient, ToTarget, client_plan}
+use Rattle.world_events.specs.AloneEvents.{ByClient, ByTarget, Event, ToClient, ToTarget}
+use Rattle.world_events.specs.Events.{Rules, client_plan}
 use Rattle.world_gots.specs.Gots.{Gots}
 use Rattle.world_reads.specs.History.{History, Served}
 use Rattle.world_talks.specs.Asked.{fetch_of}

@@ -28,7 +28,8 @@ use Rattle.world_base.specs.declared.target.TargetPlan.{TargetPlan}
 use Rattle.world_base.specs.declared.world.World.{World}
 use Rattle.world_base.specs.ClientTurns.{attempt_id, is_waiting, knows_epoch}
 use Rattle.world_clients.specs.MoveLaws.{clients-begin}
-use Rattle.world_events.specs.Events.{ByClient, ByTarget, Rules, TargetHears, TargetIdles, ToClient, ToTarget, client_plan, kept, target_plan, with_epoch}
+use Rattle.world_events.specs.AloneEvents.{ByClient, ByTarget, TargetHears, TargetIdles, ToClient, ToTarget}
+use Rattle.world_events.specs.Events.{Rules, client_plan, kept, target_plan, with_epoch}
 use Rattle.world_events.specs.Letters.{client, letters_of, target}
 use Rattle.world_gots.specs.Gots.{Gots, IsLineServed, IsServedAnswer}
 use Rattle.world_gots.specs.MoreLaws.{all-more, remembered-more, served-more, stays-remembered}
@@ -43,10 +44,12 @@ use Rattle.world_talks.specs.ConversationLaws.{conversations-begin, conversation
 use Rattle.world_talks.specs.InFlight.{HearsRequest, hears-request}
 use Rattle.world_talks.specs.TalkLaws.{left-is-among}
 use Rattle.world_turns.specs.Changes.{Change, Kept}
+use Rattle.world_turns.specs.AloneCommits as commit_alone
 use Rattle.world_turns.specs.Commits as commit
+use Rattle.world_turns.specs.AloneReads as read_alone
 use Rattle.world_turns.specs.Reads as read
 use Rattle.world_turns.specs.Requests.{request_epoch}
-use Rattle.world_turns.specs.TargetTurns.{Hears}
+use Rattle.world_turns.specs.AloneTurns.{Hears}
 use Rattle.world_turns.specs.Turns.{Here, More, Path}
 
 -- ---- the epoch of a Fetch
@@ -87,18 +90,18 @@ pub record IsAnsweredAt (q : FetchRequest) (own : Option Epoch) : Type 0 where
   pub agrees : knows_epoch q.ep own ≡ Some epoch
 
 ends-own : (t : TargetPlan) (m : TargetMemory) (reading : ℕ) (q : FetchRequest) (from to : ActorId) (s : read.FetchStage) (k : Kept) (left : TargetMemory × Did) (own : Option Epoch) (b : Answer)
-    → read.FetchEnds t m reading q from s k left → IsOwn q.ep s → left.1.posts ≡ record { to = to; message = message.Fetched q.attempt q.op q.group own (reply.Answer b) } ∷ [] → IsAnsweredAt q own
-ends-own t m reading q from to s k left own b (read.IsSpent k2 left2 live none says) i posts =
+    → read_alone.FetchEnds t m reading q from s k left → IsOwn q.ep s → left.1.posts ≡ record { to = to; message = message.Fetched q.attempt q.op q.group own (reply.Answer b) } ∷ [] → IsAnsweredAt q own
+ends-own t m reading q from to s k left own b (read_alone.IsSpent k2 left2 live none says) i posts =
     let same : message.Fetched q.attempt q.op q.group own (reply.Answer b) ≡ message.Fetched q.attempt q.op q.group None (reply.Outcome outcome.EpochsSpent) = said-one left2.1.posts to from _ _ posts (ap (λ o. o.1.posts) says) in
     let no : ⊥ = cc (same) in absurd no
-ends-own t m reading q from to s k left own b (read.IsRefused k2 e decided c left2 why says) i posts =
+ends-own t m reading q from to s k left own b (read_alone.IsRefused k2 e decided c left2 why says) i posts =
     let same : message.Fetched q.attempt q.op q.group own (reply.Answer b) ≡ message.Fetched q.attempt q.op q.group (Some e) (reply.Outcome (outcome.Restart c)) = said-one left2.1.posts to from _ _ posts (ap (λ o. o.1.posts) says) in
     let no : ⊥ = cc (same) in absurd no
-ends-own t m reading q from to s k left own b (read.MeetsUnresolved k2 e decided a left2 free unsettled other says) i posts =
+ends-own t m reading q from to s k left own b (read_alone.MeetsUnresolved k2 e decided a left2 free unsettled other says) i posts =
     let same : message.Fetched q.attempt q.op q.group own (reply.Answer b) ≡ message.Fetched q.attempt q.op q.group (Some e) (reply.Outcome (outcome.Restart (cause.Unresolved a))) =
     said-one left2.1.posts to from _ _ posts (ap (λ o. o.1.posts) says) in
     let no : ⊥ = cc (same) in absurd no
-ends-own t m reading q from to s k left own b (read.IsServed k2 e decided b2 left2 free served says) i posts =
+ends-own t m reading q from to s k left own b (read_alone.IsServed k2 e decided b2 left2 free served says) i posts =
     let all : message.Fetched q.attempt q.op q.group own (reply.Answer b) ≡ message.Fetched q.attempt q.op q.group (Some e) (reply.Answer b2) = said-one left2.1.posts to from _ _ posts (ap (λ o. o.1.posts) says) in
     let same : own ≡ Some e = cc (all) in
     record { epoch = e; bears = same; agrees = ap (knows_epoch q.ep) same ∙ i }
@@ -109,18 +112,18 @@ fetch-own t opening m reading from to q old new left own b h posts = ends-own t 
 
 -- ---- a target adds no line
 
-fetch-lines : (t : TargetPlan) (m : TargetMemory) (reading : ℕ) (q : FetchRequest) (from : ActorId) (s : read.FetchStage) (k : Kept) (left : TargetMemory × Did) → read.FetchEnds t m reading q from s k left → left.1.lines ≡ []
-fetch-lines t m reading q from s k left (read.IsSpent k2 left2 live none says) = ap (λ o. o.1.lines) says
-fetch-lines t m reading q from s k left (read.IsRefused k2 e decided c left2 why says) = ap (λ o. o.1.lines) says
-fetch-lines t m reading q from s k left (read.MeetsUnresolved k2 e decided a left2 free unsettled other says) = ap (λ o. o.1.lines) says
-fetch-lines t m reading q from s k left (read.IsServed k2 e decided b left2 free served says) = ap (λ o. o.1.lines) says
+fetch-lines : (t : TargetPlan) (m : TargetMemory) (reading : ℕ) (q : FetchRequest) (from : ActorId) (s : read.FetchStage) (k : Kept) (left : TargetMemory × Did) → read_alone.FetchEnds t m reading q from s k left → left.1.lines ≡ []
+fetch-lines t m reading q from s k left (read_alone.IsSpent k2 left2 live none says) = ap (λ o. o.1.lines) says
+fetch-lines t m reading q from s k left (read_alone.IsRefused k2 e decided c left2 why says) = ap (λ o. o.1.lines) says
+fetch-lines t m reading q from s k left (read_alone.MeetsUnresolved k2 e decided a left2 free unsettled other says) = ap (λ o. o.1.lines) says
+fetch-lines t m reading q from s k left (read_alone.IsServed k2 e decided b left2 free served says) = ap (λ o. o.1.lines) says
 
 commit-lines : (t : TargetPlan) (opening : Epoch × FloorWhy) (m : TargetMemory) (reading : ℕ) (q : CommitRequest) (from : ActorId) (s : commit.CommitStage) (k : Kept) (left : TargetMemory × Did)
-    → commit.CommitEnds t opening m reading q from s k left → left.1.lines ≡ []
-commit-lines t opening m reading q from s k left (commit.IsSpent k2 left2 none says) = ap (λ o. o.1.lines) says
-commit-lines t opening m reading q from s k left (commit.IsRefused k2 e c left2 why says) = ap (λ o. o.1.lines) says
-commit-lines t opening m reading q from s k left (commit.HasNoSpace k2 e left2 allowed full says) = ap (λ o. o.1.lines) says
-commit-lines t opening m reading q from s k left (commit.IsDecided k2 e left2 says) = ap (λ o. o.1.lines) says
+    → commit_alone.CommitEnds t opening m reading q from s k left → left.1.lines ≡ []
+commit-lines t opening m reading q from s k left (commit_alone.IsSpent k2 left2 none says) = ap (λ o. o.1.lines) says
+commit-lines t opening m reading q from s k left (commit_alone.IsRefused k2 e c left2 why says) = ap (λ o. o.1.lines) says
+commit-lines t opening m reading q from s k left (commit_alone.HasNoSpace k2 e left2 allowed full says) = ap (λ o. o.1.lines) says
+commit-lines t opening m reading q from s k left (commit_alone.IsDecided k2 e left2 says) = ap (λ o. o.1.lines) says
 
 hears-no-lines : (t : TargetPlan) (opening : Epoch × FloorWhy) (m : TargetMemory) (reading : ℕ) (from : ActorId) (q : Message) (old new : Kept) (left : TargetMemory × Did)
     → Hears t opening m reading from q old new left → left.1.lines ≡ []

@@ -20,7 +20,8 @@ use Rattle.world_base.specs.declared.target.TargetMemory.{TargetMemory}
 use Rattle.world_base.specs.declared.target.TargetPlan.{TargetPlan}
 use Rattle.world_base.specs.declared.world.World.{World}
 use Rattle.world_base.specs.ClientTurns.{Move, heard, hears_epochs, knows, listed, moved, waits}
-use Rattle.world_events.specs.Events.{with_epoch, ByClient, ByTarget, Event, Rules, TargetHears, TargetIdles, ToClient, ToTarget, client_plan, kept, target_plan}
+use Rattle.world_events.specs.AloneEvents.{ByClient, ByTarget, Event, TargetHears, TargetIdles, ToClient, ToTarget}
+use Rattle.world_events.specs.Events.{with_epoch, Rules, client_plan, kept, target_plan}
 use Rattle.world_events.specs.Letters.{Takes, client, letter_of, letters_of, target}
 use Rattle.world_events.specs.StepLaws.{by-hearing, by-next}
 use Rattle.world_events.specs.Steps.{KeptByCounting, KeptByHearing, KeptByMoves, after_move, without}
@@ -36,9 +37,11 @@ use Rattle.world_talks.specs.Hearing.{ATracker, AReply, AnEnd, IsHearing, hearin
 use Rattle.world_turns.specs.Requests.{nothing_follows}
 use Rattle.world_talks.specs.TalkLaws.{left-is-among}
 use Rattle.world_turns.specs.Changes.{Kept}
+use Rattle.world_turns.specs.AloneCommits as commit_alone
 use Rattle.world_turns.specs.Commits as commit
+use Rattle.world_turns.specs.AloneReads as read_alone
 use Rattle.world_turns.specs.Reads as read
-use Rattle.world_turns.specs.TargetTurns.{Hears}
+use Rattle.world_turns.specs.AloneTurns.{Hears}
 
 -- ---- what is sent
 
@@ -102,19 +105,19 @@ endings-by-hearing r w n c l rest talk k here takes to =
 one-post : (did : Did) (q : Post) → did.posts ≡ q ∷ [] → TellsEnd q.message → PostsEnd did.posts
 one-post did q e t s i = elim (subst (λ ps. Has s ps) e i) [ inl same ↦ subst (λ x. TellsEnd x.message) (sym same) t | inr j ↦ absurd j ]
 
-fetch-ends : (t : TargetPlan) (m : TargetMemory) (reading : ℕ) (q : FetchRequest) (from : ActorId) (s : read.FetchStage) (k : Kept) (left : TargetMemory × Did) → read.FetchEnds t m reading q from s k left
+fetch-ends : (t : TargetPlan) (m : TargetMemory) (reading : ℕ) (q : FetchRequest) (from : ActorId) (s : read.FetchStage) (k : Kept) (left : TargetMemory × Did) → read_alone.FetchEnds t m reading q from s k left
     → PostsEnd left.1.posts × (left.1.lines ≡ [])
-fetch-ends t m reading q from s k left (read.IsSpent k2 left2 live none says) = (one-post left2.1 _ (ap (λ o. o.1.posts) says) refl, ap (λ o. o.1.lines) says)
-fetch-ends t m reading q from s k left (read.IsRefused k2 e decided c left2 why says) = (one-post left2.1 _ (ap (λ o. o.1.posts) says) refl, ap (λ o. o.1.lines) says)
-fetch-ends t m reading q from s k left (read.MeetsUnresolved k2 e decided a left2 free unsettled other says) = (one-post left2.1 _ (ap (λ o. o.1.posts) says) refl, ap (λ o. o.1.lines) says)
-fetch-ends t m reading q from s k left (read.IsServed k2 e decided b left2 free served says) = (one-post left2.1 _ (ap (λ o. o.1.posts) says) tt, ap (λ o. o.1.lines) says)
+fetch-ends t m reading q from s k left (read_alone.IsSpent k2 left2 live none says) = (one-post left2.1 _ (ap (λ o. o.1.posts) says) refl, ap (λ o. o.1.lines) says)
+fetch-ends t m reading q from s k left (read_alone.IsRefused k2 e decided c left2 why says) = (one-post left2.1 _ (ap (λ o. o.1.posts) says) refl, ap (λ o. o.1.lines) says)
+fetch-ends t m reading q from s k left (read_alone.MeetsUnresolved k2 e decided a left2 free unsettled other says) = (one-post left2.1 _ (ap (λ o. o.1.posts) says) refl, ap (λ o. o.1.lines) says)
+fetch-ends t m reading q from s k left (read_alone.IsServed k2 e decided b left2 free served says) = (one-post left2.1 _ (ap (λ o. o.1.posts) says) tt, ap (λ o. o.1.lines) says)
 
 commit-ends : (t : TargetPlan) (opening : Epoch × FloorWhy) (m : TargetMemory) (reading : ℕ) (q : CommitRequest) (from : ActorId) (s : commit.CommitStage) (k : Kept) (left : TargetMemory × Did)
-    → commit.CommitEnds t opening m reading q from s k left → PostsEnd left.1.posts × (left.1.lines ≡ [])
-commit-ends t opening m reading q from s k left (commit.IsSpent k2 left2 none says) = (one-post left2.1 _ (ap (λ o. o.1.posts) says) (inl refl), ap (λ o. o.1.lines) says)
-commit-ends t opening m reading q from s k left (commit.IsRefused k2 e c left2 why says) = (one-post left2.1 _ (ap (λ o. o.1.posts) says) (inl refl), ap (λ o. o.1.lines) says)
-commit-ends t opening m reading q from s k left (commit.HasNoSpace k2 e left2 allowed full says) = (one-post left2.1 _ (ap (λ o. o.1.posts) says) (inl refl), ap (λ o. o.1.lines) says)
-commit-ends t opening m reading q from s k left (commit.IsDecided k2 e left2 says) = (one-post left2.1 _ (ap (λ o. o.1.posts) says) (inr refl), ap (λ o. o.1.lines) says)
+    → commit_alone.CommitEnds t opening m reading q from s k left → PostsEnd left.1.posts × (left.1.lines ≡ [])
+commit-ends t opening m reading q from s k left (commit_alone.IsSpent k2 left2 none says) = (one-post left2.1 _ (ap (λ o. o.1.posts) says) (inl refl), ap (λ o. o.1.lines) says)
+commit-ends t opening m reading q from s k left (commit_alone.IsRefused k2 e c left2 why says) = (one-post left2.1 _ (ap (λ o. o.1.posts) says) (inl refl), ap (λ o. o.1.lines) says)
+commit-ends t opening m reading q from s k left (commit_alone.HasNoSpace k2 e left2 allowed full says) = (one-post left2.1 _ (ap (λ o. o.1.posts) says) (inl refl), ap (λ o. o.1.lines) says)
+commit-ends t opening m reading q from s k left (commit_alone.IsDecided k2 e left2 says) = (one-post left2.1 _ (ap (λ o. o.1.posts) says) (inr refl), ap (λ o. o.1.lines) says)
 
 -- a target's turn ends attempts as it may, and adds no line
 pub hears-ends : (t : TargetPlan) (opening : Epoch × FloorWhy) (m : TargetMemory) (reading : ℕ) (from : ActorId) (q : Message) (old new : Kept) (left : TargetMemory × Did) → Hears t opening m reading from q old new left

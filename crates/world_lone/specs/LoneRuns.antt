@@ -9,7 +9,8 @@ use Rattle.daos_model.specs.Opening.{Opening}
 use Rattle.world_base.specs.declared.world.World.{World}
 use Rattle.world_begins.specs.Begins.{IsAlone, IsBegun}
 use Rattle.world_ends.specs.Ends.{report_of}
-use Rattle.world_events.specs.Events.{Rules, Run}
+use Rattle.world_events.specs.AloneEvents.{Run}
+use Rattle.world_events.specs.Events.{Rules}
 
 -- the target of this number issued all epochs
 abbrev pub AreIssuedBy : ℕ → Report → Type 0

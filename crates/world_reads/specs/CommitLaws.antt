@@ -43,13 +43,15 @@ use Rattle.world_reads.specs.ListLaws.{some-in_form}
 use Rattle.world_reads.specs.Adds.{AddsServed, IsPlain, TellsCommit}
 use Rattle.world_reads.specs.Midway.{Holds, Shows, Sound, TurnLeaves, TurnTold}
 use Rattle.world_reads.specs.ShowLaws.{decides-shows, settles-shows}
-use Rattle.world_reads.specs.StepLaws.{extends-sound, path-keeps}
+use Rattle.world_reads.specs.StepLaws.{extends-sound}
+use Rattle.world_turns.specs.PathLaws.{path-keeps}
 use Rattle.world_reads.specs.Versions.{IsWriteAt}
 use Rattle.world_turns.specs.Changes.{Change, Kept, Steps}
+use Rattle.world_turns.specs.AloneCommits as commit_alone
 use Rattle.world_turns.specs.Commits as commit
-use Rattle.world_turns.specs.Idle.{AllSettled, IdleEnds, IdleNext, SettlesFirst}
+use Rattle.world_turns.specs.AloneTurns.{AllSettled, IdleEnds, IdlesWhole}
+use Rattle.world_turns.specs.Idle.{IdleNext, SettlesFirst}
 use Rattle.world_turns.specs.Requests.{request_epoch}
-use Rattle.world_turns.specs.TargetTurns.{IdlesWhole}
 use Rattle.world_turns.specs.Turns.{Whole}
 
 abbrev pub commit_message : CommitRequest → Message
@@ -82,12 +84,12 @@ own-writes r x t ws its form = record {
 -- ---- stages of a Commit
 
 abbrev Mid : (r : Rules) (o : Opening) (held : List Version) (h : History) (opening : Epoch × FloorWhy) (t : ℕ) (m : TargetMemory) (reading : ℕ) (q : CommitRequest) → commit.CommitStage → Kept → Type 0
-Mid r o held h opening t m reading q commit.Asked k = Sound r o held h opening t k.durable m.decided m.stamps
-Mid r o held h opening t m reading q (commit.Known e) k = Sound r o held h opening t k.durable m.decided m.stamps × (request_epoch (target_plan r t) m reading q.tracker q.ep ≡ Some e)
+Mid r o held h opening t m reading q commit.Asked k = Sound r o held h opening t k.durable m.leader.decided m.stamps
+Mid r o held h opening t m reading q (commit.Known e) k = Sound r o held h opening t k.durable m.leader.decided m.stamps × (request_epoch (target_plan r t) m reading q.tracker q.ep ≡ Some e)
 Mid r o held h opening t m reading q (commit.Checking e) k =
-    Sound r o held h opening t k.durable m.decided m.stamps × (request_epoch (target_plan r t) m reading q.tracker q.ep ≡ Some e) × (e.0 / 256 ≤ k.durable.lease)
+    Sound r o held h opening t k.durable m.leader.decided m.stamps × (request_epoch (target_plan r t) m reading q.tracker q.ep ≡ Some e) × (e.0 / 256 ≤ k.durable.lease)
 Mid r o held h opening t m reading q (commit.Stored e) k =
-    Sound r o held (decides h q.attempt e) opening t k.durable (put attempt_key q.attempt m.decided) m.stamps × (request_epoch (target_plan r t) m reading q.tracker q.ep ≡ Some e)
+    Sound r o held (decides h q.attempt e) opening t k.durable (put attempt_key q.attempt m.leader.decided) m.stamps × (request_epoch (target_plan r t) m reading q.tracker q.ep ≡ Some e)
 
 -- what a Commit is heard with: it is right, its epoch is its own, what was decided was issued, and what was served was served here
 pub record HearsCommit (r : Rules) (o : Opening) (held : List Version) (h : History) (w : World) (t : ℕ) (m : TargetMemory) (reading : ℕ) (q : CommitRequest) : Type 0 where
@@ -99,11 +101,11 @@ pub record HearsCommit (r : Rules) (o : Opening) (held : List Version) (h : Hist
 
 module _ (r : Rules) (o : Opening) (held : List Version) (h : History) (w : World) (opening : Epoch × FloorWhy) (t : ℕ) (m : TargetMemory) (reading : ℕ) (q : CommitRequest) (from : ActorId) where
   commit-stores : HearsCommit r o held h w t m reading q → (e : Epoch) (d : Durable) → request_epoch (target_plan r t) m reading q.tracker q.ep ≡ Some e → e.0 / 256 ≤ d.lease
-      → commit.IsAllowed (target_plan r t) opening q.first e d m.stamps (commit.own_writes (target_plan r t) q.writes) → Sound r o held h opening t d m.decided m.stamps
-      → Sound r o held (decides h q.attempt e) opening t (prepared (commit.led_entry (target_plan r t) q e) (commit.own_writes (target_plan r t) q.writes) d) (put attempt_key q.attempt m.decided) m.stamps
+      → commit.IsAllowed (target_plan r t) opening q.first e d m.stamps (commit.own_writes (target_plan r t) q.writes) → Sound r o held h opening t d m.leader.decided m.stamps
+      → Sound r o held (decides h q.attempt e) opening t (prepared (commit.led_entry (target_plan r t) q e) (commit.own_writes (target_plan r t) q.writes) d) (put attempt_key q.attempt m.leader.decided) m.stamps
   commit-stores c e d has covered allowed k = record {
-    holds = decides-holds r o held h t d m.decided entry (commit.own_writes (target_plan r t) q.writes) new own k.holds;
-    unsettled = decides-open t d m.decided entry (commit.own_writes (target_plan r t) q.writes) refl refl (no-entry h d q.attempt c.right.undecided k.holds.entries) k.unsettled;
+    holds = decides-holds r o held h t d m.leader.decided entry (commit.own_writes (target_plan r t) q.writes) new own k.holds;
+    unsettled = decides-open t d m.leader.decided entry (commit.own_writes (target_plan r t) q.writes) refl refl (no-entry h d q.attempt c.right.undecided k.holds.entries) k.unsettled;
     shows = decides-shows r o held h opening t d m.stamps entry (commit.own_writes (target_plan r t) q.writes) (target_plan r t) q.first new own allowed k.holds.apart c.here k.shows;
   }
     where
@@ -131,25 +133,25 @@ module _ (r : Rules) (o : Opening) (held : List Version) (h : History) (w : Worl
 
   commit-step : HearsCommit r o held h w t m reading q → (s : commit.CommitStage) (k : Kept) (c : Option Change) (u : commit.CommitStage) (l : Kept) → commit.CommitNext (target_plan r t) opening m reading q s k c u
       → Steps c k l → Mid r o held h opening t m reading q s k → Mid r o held h opening t m reading q u l
-  commit-step given s k c u l (commit.HasEpoch k' e its) steps p = (subst (λ n. Sound r o held h opening t n.durable m.decided m.stamps) (sym steps) p, its)
+  commit-step given s k c u l (commit.HasEpoch k' e its) steps p = (subst (λ n. Sound r o held h opening t n.durable m.leader.decided m.stamps) (sym steps) p, its)
   commit-step given s k c u l (commit.ExtendsLease k' e lease low is) steps p =
-      (subst (λ d. Sound r o held h opening t d m.decided m.stamps) (sym steps.0) (extends-sound r o held h opening t k.durable m.decided m.stamps (e.0 / 256) lease low is p.0), p.1)
+      (subst (λ d. Sound r o held h opening t d m.leader.decided m.stamps) (sym steps.0) (extends-sound r o held h opening t k.durable m.leader.decided m.stamps (e.0 / 256) lease low is p.0), p.1)
   commit-step given s k c u l (commit.IsCovered k' e le) steps p =
-      (subst (λ n. Sound r o held h opening t n.durable m.decided m.stamps) (sym steps) p.0, p.1, subst (λ n. e.0 / 256 ≤ n.durable.lease) (sym steps) le)
+      (subst (λ n. Sound r o held h opening t n.durable m.leader.decided m.stamps) (sym steps) p.0, p.1, subst (λ n. e.0 / 256 ≤ n.durable.lease) (sym steps) le)
   commit-step given s k c u l (commit.Stores k' e allowed space) steps p = (
-    subst (λ d. Sound r o held (decides h q.attempt e) opening t d (put attempt_key q.attempt m.decided) m.stamps) (sym steps.0) (commit-stores given e k.durable p.1 p.2 allowed p.0),
+    subst (λ d. Sound r o held (decides h q.attempt e) opening t d (put attempt_key q.attempt m.leader.decided) m.stamps) (sym steps.0) (commit-stores given e k.durable p.1 p.2 allowed p.0),
     p.1,
   )
 
-  commit-ends : HearsCommit r o held h w t m reading q → (s : commit.CommitStage) (k : Kept) (left : TargetMemory × Did) → commit.CommitEnds (target_plan r t) opening m reading q from s k left
+  commit-ends : HearsCommit r o held h w t m reading q → (s : commit.CommitStage) (k : Kept) (left : TargetMemory × Did) → commit_alone.CommitEnds (target_plan r t) opening m reading q from s k left
       → Mid r o held h opening t m reading q s k → TurnTold r o held h w opening t k left from (commit_message q)
-  commit-ends c s k left (commit.IsSpent k' left' none is) p =
-      nothing-told r o held h w opening t k left from (commit_message q) _ (ap (λ n. n.1.posts) is) (ended-plain q None outcome.EpochsSpent (λ c. let no : ⊥ = cc in no)) (subst (λ n. Sound r o held h opening t k.durable n.0.decided n.0.stamps) (sym is) p)
-  commit-ends c s k left (commit.IsRefused k' e why left' by is) p =
-      nothing-told r o held h w opening t k left from (commit_message q) _ (ap (λ n. n.1.posts) is) (ended-plain q (Some e) (outcome.Restart why) (λ c. let no : ⊥ = cc in no)) (subst (λ n. Sound r o held h opening t k.durable n.0.decided n.0.stamps) (sym is) p.0)
-  commit-ends c s k left (commit.HasNoSpace k' e left' allowed few is) p =
-      nothing-told r o held h w opening t k left from (commit_message q) _ (ap (λ n. n.1.posts) is) (ended-plain q (Some e) (outcome.NoSpace _ _ _) (λ c. let no : ⊥ = cc in no)) (subst (λ n. Sound r o held h opening t k.durable n.0.decided n.0.stamps) (sym is) p.0)
-  commit-ends c s k left (commit.IsDecided k' e left' is) p = record { leaves = leaves; adds = record { decided = record { new = λ x f i. tells x f (has-from_contains ((q.attempt, e) ∷ h.decided) (x, f) i); told = told }; served = no-answer } }
+  commit-ends c s k left (commit_alone.IsSpent k' left' none is) p =
+      nothing-told r o held h w opening t k left from (commit_message q) _ (ap (λ n. n.1.posts) is) (ended-plain q None outcome.EpochsSpent (λ c. let no : ⊥ = cc in no)) (subst (λ n. Sound r o held h opening t k.durable n.0.leader.decided n.0.stamps) (sym is) p)
+  commit-ends c s k left (commit_alone.IsRefused k' e why left' by is) p =
+      nothing-told r o held h w opening t k left from (commit_message q) _ (ap (λ n. n.1.posts) is) (ended-plain q (Some e) (outcome.Restart why) (λ c. let no : ⊥ = cc in no)) (subst (λ n. Sound r o held h opening t k.durable n.0.leader.decided n.0.stamps) (sym is) p.0)
+  commit-ends c s k left (commit_alone.HasNoSpace k' e left' allowed few is) p =
+      nothing-told r o held h w opening t k left from (commit_message q) _ (ap (λ n. n.1.posts) is) (ended-plain q (Some e) (outcome.NoSpace _ _ _) (λ c. let no : ⊥ = cc in no)) (subst (λ n. Sound r o held h opening t k.durable n.0.leader.decided n.0.stamps) (sym is) p.0)
+  commit-ends c s k left (commit_alone.IsDecided k' e left' is) p = record { leaves = leaves; adds = record { decided = record { new = λ x f i. tells x f (has-from_contains ((q.attempt, e) ∷ h.decided) (x, f) i); told = told }; served = no-answer } }
     where
       own : (f : Epoch) → q.ep ≡ Some f → f ≡ e
       own f has = let same : Some f ≡ Some e = sym (ap (λ ep. request_epoch (target_plan r t) m reading q.tracker ep) has) ∙ p.1 in cc
@@ -170,7 +172,7 @@ module _ (r : Rules) (o : Opening) (held : List Version) (h : History) (w : Worl
       leaves = record {
         later = decides h q.attempt e;
         grew = record { decided = old-decided h q.attempt e; served = λ z j. j };
-        sound = subst (λ n. Sound r o held (decides h q.attempt e) opening t k.durable n.0.decided n.0.stamps) (sym is) p.0;
+        sound = subst (λ n. Sound r o held (decides h q.attempt e) opening t k.durable n.0.leader.decided n.0.stamps) (sym is) p.0;
         decided = λ x f i. by x f (has-from_contains ((q.attempt, e) ∷ h.decided) (x, f) i);
         served = λ z i. inl i;
       }
@@ -204,8 +206,8 @@ module _ (r : Rules) (o : Opening) (held : List Version) (h : History) (w : Worl
 
   -- the whole turn
   pub commit-sound : HearsCommit r o held h w t m reading q → (old new : Kept) (left : TargetMemory × Did)
-      → Whole (commit.CommitNext (target_plan r t) opening m reading q) (commit.CommitEnds (target_plan r t) opening m reading q from) commit.Asked old new left
-      → Sound r o held h opening t old.durable m.decided m.stamps → TurnTold r o held h w opening t new left from (commit_message q)
+      → Whole (commit.CommitNext (target_plan r t) opening m reading q) (commit_alone.CommitEnds (target_plan r t) opening m reading q from) commit.Asked old new left
+      → Sound r o held h opening t old.durable m.leader.decided m.stamps → TurnTold r o held h w opening t new left from (commit_message q)
   commit-sound c old new left turn k =
       commit-ends c turn.last new left turn.ends
       (path-keeps (commit.CommitNext (target_plan r t) opening m reading q) (Mid r o held h opening t m reading q) (commit-step c) commit.Asked old turn.reached.did turn.last new turn.reached.path k)
@@ -232,11 +234,11 @@ module _ (r : Rules) (o : Opening) (held : List Version) (h : History) (opening 
       fewer : (x : AttemptId) → Contains rest x → Contains (a ∷ rest) x
       fewer x i = contains-from_has (a ∷ rest) x (inr (has-from_contains rest x i))
 
-  idle-ends : (s : List AttemptId) (k : Kept) (left : TargetMemory × Did) → IdleEnds m s k left → Idling r o held h opening t m s k → Sound r o held h opening t k.durable left.0.decided left.0.stamps
+  idle-ends : (s : List AttemptId) (k : Kept) (left : TargetMemory × Did) → IdleEnds m s k left → Idling r o held h opening t m s k → Sound r o held h opening t k.durable left.0.leader.decided left.0.stamps
   idle-ends s k left (AllSettled k' left' is) p =
-      subst (λ n. Sound r o held h opening t k.durable n.0.decided n.0.stamps) (sym is) (record { holds = p.0; unsettled = λ x i. absurd (has-from_contains [] x i); shows = p.1 })
+      subst (λ n. Sound r o held h opening t k.durable n.0.leader.decided n.0.stamps) (sym is) (record { holds = p.0; unsettled = λ x i. absurd (has-from_contains [] x i); shows = p.1 })
 
   -- the whole of it
-  pub idle-sound : (old new : Kept) (left : TargetMemory × Did) → IdlesWhole m old new left → Sound r o held h opening t old.durable m.decided m.stamps → Sound r o held h opening t new.durable left.0.decided left.0.stamps
+  pub idle-sound : (old new : Kept) (left : TargetMemory × Did) → IdlesWhole m old new left → Sound r o held h opening t old.durable m.leader.decided m.stamps → Sound r o held h opening t new.durable left.0.leader.decided left.0.stamps
   idle-sound old new left turn k =
-      idle-ends turn.last new left turn.ends (path-keeps IdleNext (Idling r o held h opening t m) idle-step m.decided old turn.reached.did turn.last new turn.reached.path (k.holds, k.shows))
+      idle-ends turn.last new left turn.ends (path-keeps IdleNext (Idling r o held h opening t m) idle-step m.leader.decided old turn.reached.did turn.last new turn.reached.path (k.holds, k.shows))

@@ -39,7 +39,7 @@ use Rattle.world_reads.specs.Midway.{Sound, TurnLeaves, TurnTold}
 use Rattle.world_reads.specs.Reads.{IsGuarded, Reads}
 use Rattle.world_reads.specs.Versions.{IsWriteAt, Versions, VersionsStand}
 use Rattle.world_turns.specs.Changes.{Kept}
-use Rattle.world_turns.specs.TargetTurns.{Hears}
+use Rattle.world_turns.specs.AloneTurns.{Hears}
 
 -- ---- before a turn
 
@@ -55,7 +55,7 @@ served-here r o h w t one zero k q i =
 
 -- a target before its turn
 turn-begins : (r : Rules) (o : Opening) (held : ℕ → List Version) (h : History) (w : World) (t : ℕ) (s : TargetState) → slice_get w.targets t ≡ Some s → s.life ≡ Running
-    → Versions r o held h w → Reads r o h w → Sound r o (held t) h s.opening t s.durable s.memory.decided s.memory.stamps
+    → Versions r o held h w → Reads r o h w → Sound r o (held t) h s.opening t s.durable s.memory.leader.decided s.memory.stamps
 turn-begins r o held h w t s here runs k l = record {
   holds = record {
     stand = k.stand t s here;
@@ -115,9 +115,9 @@ module _ (r : Rules) (o : Opening) (held : ℕ → List Version) (h : History) (
     written = λ x e i. written x e (k.decided x e i);
     held_by = λ x e u z m i at its. only (λ n y. IsWriteAt r x n m → (a : Entry) × (entry_of y.durable x ≡ Some a) × (a.epoch ≡ e)) (k.sound.holds.held_by x e m i) u z at its;
     entries = λ u z e at i. only (λ n y. Contains y.durable.entries e → Contains k.later.decided (e.attempt, e.epoch)) (k.sound.holds.entries e) u z at i;
-    led = λ u z e at i f is. only (λ n y. Contains y.durable.entries e → e.committed ≡ false → e.leader ≡ n → Contains y.memory.decided e.attempt) (k.sound.holds.led e) u z at i f is;
+    led = λ u z e at i f is. only (λ n y. Contains y.durable.entries e → e.committed ≡ false → e.leader ≡ n → Contains y.memory.leader.decided e.attempt) (k.sound.holds.led e) u z at i f is;
     leaders = λ u z e at i. only (λ n y. Contains y.durable.entries e → e.leader ≡ leader_of_attempt r.script e.attempt) (k.sound.holds.leaders e) u z at i;
-    leading = λ u z x at i. only (λ n y. Contains y.memory.decided x → (e : Entry) × (entry_of y.durable x ≡ Some e) × (e.committed ≡ false) × (e.leader ≡ n)) (k.sound.unsettled x) u z at i;
+    leading = λ u z x at i. only (λ n y. Contains y.memory.leader.decided x → (e : Entry) × (entry_of y.durable x ≡ Some e) × (e.committed ≡ false) × (e.leader ≡ n)) (k.sound.unsettled x) u z at i;
   }
     where
       only : (P : ℕ → TargetState → Type 0) → P t (target_after s new left.0) → (u : ℕ) (z : TargetState) → slice_get (set w.targets t (target_after s new left.0)) u ≡ Some z → P u z

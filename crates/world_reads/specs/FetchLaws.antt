@@ -30,8 +30,10 @@ use Rattle.world_reads.specs.History.{History, Served, serves}
 use Rattle.world_reads.specs.Adds.{AddsServed, IsPlain, adds-nothing, fetch_message}
 use Rattle.world_reads.specs.Midway.{Sound, TurnLeaves, TurnTold}
 use Rattle.world_reads.specs.ServedLaws.{free-read, holds-served, serves-shows}
-use Rattle.world_reads.specs.StepLaws.{extends-sound, lease-settled, path-keeps, settles-sound}
+use Rattle.world_reads.specs.StepLaws.{extends-sound, lease-settled, settles-sound}
+use Rattle.world_turns.specs.PathLaws.{path-keeps}
 use Rattle.world_turns.specs.Changes.{Change, Kept, Steps}
+use Rattle.world_turns.specs.AloneReads as read_alone
 use Rattle.world_turns.specs.Reads as read
 use Rattle.world_turns.specs.Requests.{is_other_attempt, issued_for, request_epoch, with_ticks}
 use Rattle.world_turns.specs.Turns.{Whole}
@@ -45,7 +47,7 @@ issued-now w o x (Some f) e is same = Contains-append_left w.issued [] (x, e) (s
 
 -- nothing more is decided or served
 pub nothing-new : (r : Rules) (o : Opening) (held : List Version) (h : History) (w : World) (opening : Epoch × FloorWhy) (t : ℕ) (new : Kept) (left : TargetMemory × Did)
-    → Sound r o held h opening t new.durable left.0.decided left.0.stamps → TurnLeaves r o held h w opening t new left
+    → Sound r o held h opening t new.durable left.0.leader.decided left.0.stamps → TurnLeaves r o held h w opening t new left
 nothing-new r o held h w opening t new left k = record {
   later = h;
   grew = record { decided = λ i j. j; served = λ q j. j };
@@ -56,7 +58,7 @@ nothing-new r o held h w opening t new left k = record {
 
 -- and nothing but a refusal is told
 pub nothing-told : (r : Rules) (o : Opening) (held : List Version) (h : History) (w : World) (opening : Epoch × FloorWhy) (t : ℕ) (new : Kept) (left : TargetMemory × Did) (from : ActorId) (asked m : Message)
-    → left.1.posts ≡ record { to = from; message = m } ∷ [] → IsPlain m → Sound r o held h opening t new.durable left.0.decided left.0.stamps → TurnTold r o held h w opening t new left from asked
+    → left.1.posts ≡ record { to = from; message = m } ∷ [] → IsPlain m → Sound r o held h opening t new.durable left.0.leader.decided left.0.stamps → TurnTold r o held h w opening t new left from asked
 nothing-told r o held h w opening t new left from asked m one plain k = record { leaves = record { later = h; grew = record { decided = λ i j. j; served = λ q j. j }; sound = k; decided = λ x e i. inl i; served = λ q i. inl i }; adds = adds-nothing h t from asked m left.1.posts one plain }
 
 fetched-plain : (q : FetchRequest) (own : Option Epoch) (how : Outcome) → IsPlain (read.fetched_message q own (reply.Outcome how))
@@ -68,8 +70,8 @@ made-served x op group t read e b = record { by = x; op = op; group = group; tar
 -- ---- stages of a Fetch
 
 abbrev Mid : (r : Rules) (o : Opening) (held : List Version) (h : History) (opening : Epoch × FloorWhy) (t : ℕ) (m : TargetMemory) (reading : ℕ) (q : FetchRequest) → read.FetchStage → Kept → Type 0
-Mid r o held h opening t m reading q read.Asked k = Sound r o held h opening t k.durable m.decided m.stamps
-Mid r o held h opening t m reading q (read.Known e) k = Sound r o held h opening t k.durable m.decided m.stamps × (request_epoch (target_plan r t) m reading q.tracker q.ep ≡ Some e)
+Mid r o held h opening t m reading q read.Asked k = Sound r o held h opening t k.durable m.leader.decided m.stamps
+Mid r o held h opening t m reading q (read.Known e) k = Sound r o held h opening t k.durable m.leader.decided m.stamps × (request_epoch (target_plan r t) m reading q.tracker q.ep ≡ Some e)
 Mid r o held h opening t m reading q (read.Reading e decided) k =
     Sound r o held h opening t k.durable decided m.stamps × (request_epoch (target_plan r t) m reading q.tracker q.ep ≡ Some e) × (e.0 / 256 ≤ k.durable.lease)
 
@@ -77,11 +79,11 @@ module _ (r : Rules) (o : Opening) (held : List Version) (h : History) (w : Worl
   fetch-step : q.snapshot ≡ false → (s : read.FetchStage) (k : Kept) (c : Option Change) (u : read.FetchStage) (l : Kept) → read.FetchNext (target_plan r t) m reading q s k c u → Steps c k l
       → Mid r o held h opening t m reading q s k → Mid r o held h opening t m reading q u l
   fetch-step now s k c u l (read.AtSnapshot k' e at its) steps p = clash q.snapshot at now
-  fetch-step now s k c u l (read.HasEpoch k' e at its) steps p = (subst (λ n. Sound r o held h opening t n.durable m.decided m.stamps) (sym steps) p, its)
+  fetch-step now s k c u l (read.HasEpoch k' e at its) steps p = (subst (λ n. Sound r o held h opening t n.durable m.leader.decided m.stamps) (sym steps) p, its)
   fetch-step now s k c u l (read.ExtendsLease k' e lease low is) steps p =
-      (subst (λ d. Sound r o held h opening t d m.decided m.stamps) (sym steps.0) (extends-sound r o held h opening t k.durable m.decided m.stamps (e.0 / 256) lease low is p.0), p.1)
+      (subst (λ d. Sound r o held h opening t d m.leader.decided m.stamps) (sym steps.0) (extends-sound r o held h opening t k.durable m.leader.decided m.stamps (e.0 / 256) lease low is p.0), p.1)
   fetch-step now s k c u l (read.IsCovered k' e le) steps p =
-      (subst (λ n. Sound r o held h opening t n.durable m.decided m.stamps) (sym steps) p.0, p.1, subst (λ n. e.0 / 256 ≤ n.durable.lease) (sym steps) le)
+      (subst (λ n. Sound r o held h opening t n.durable m.leader.decided m.stamps) (sym steps) p.0, p.1, subst (λ n. e.0 / 256 ≤ n.durable.lease) (sym steps) le)
   fetch-step now s k c u l (read.SettlesOwn k' e decided a none is among) steps p = (
     subst (λ d. Sound r o held h opening t d (filter (is_other_attempt a) decided) m.stamps) (sym steps.0) (settles-sound r o held h opening t k.durable decided m.stamps a among p.0),
     p.1,
@@ -96,17 +98,17 @@ module _ (r : Rules) (o : Opening) (held : List Version) (h : History) (w : Worl
       by false = refl
 
   fetch-ends : IsFetchRight r t q.attempt q.op q.group q.read q.snapshot → ((e : Epoch) → request_epoch (target_plan r t) m reading q.tracker q.ep ≡ Some e → IsItsEpoch o w q.attempt q.ep e)
-      → (s : read.FetchStage) (k : Kept) (left : TargetMemory × Did) → read.FetchEnds (target_plan r t) m reading q from s k left → Mid r o held h opening t m reading q s k
+      → (s : read.FetchStage) (k : Kept) (left : TargetMemory × Did) → read_alone.FetchEnds (target_plan r t) m reading q from s k left → Mid r o held h opening t m reading q s k
       → TurnTold r o held h w opening t k left from (fetch_message q)
-  fetch-ends asks epochs s k left (read.IsSpent k' left' at none is) p =
-      nothing-told r o held h w opening t k left from (fetch_message q) _ (ap (λ n. n.1.posts) is) (fetched-plain q None outcome.EpochsSpent) (subst (λ n. Sound r o held h opening t k.durable n.0.decided n.0.stamps) (sym is) p)
-  fetch-ends asks epochs s k left (read.IsRefused k' e decided c left' why is) p =
+  fetch-ends asks epochs s k left (read_alone.IsSpent k' left' at none is) p =
+      nothing-told r o held h w opening t k left from (fetch_message q) _ (ap (λ n. n.1.posts) is) (fetched-plain q None outcome.EpochsSpent) (subst (λ n. Sound r o held h opening t k.durable n.0.leader.decided n.0.stamps) (sym is) p)
+  fetch-ends asks epochs s k left (read_alone.IsRefused k' e decided c left' why is) p =
       nothing-told r o held h w opening t k left from (fetch_message q) _ (ap (λ n. n.1.posts) is) (fetched-plain q (Some e) (outcome.Restart c))
-      (subst (λ n. Sound r o held h opening t k.durable n.0.decided n.0.stamps) (sym is) (subst (λ n. Sound r o held h opening t k.durable decided n) (sym (stamps-then e decided)) p.0))
-  fetch-ends asks epochs s k left (read.MeetsUnresolved k' e decided a left' none at apart is) p =
+      (subst (λ n. Sound r o held h opening t k.durable n.0.leader.decided n.0.stamps) (sym is) (subst (λ n. Sound r o held h opening t k.durable decided n) (sym (stamps-then e decided)) p.0))
+  fetch-ends asks epochs s k left (read_alone.MeetsUnresolved k' e decided a left' none at apart is) p =
       nothing-told r o held h w opening t k left from (fetch_message q) _ (ap (λ n. n.1.posts) is) (fetched-plain q (Some e) (outcome.Restart (cause.Unresolved a)))
-      (subst (λ n. Sound r o held h opening t k.durable n.0.decided n.0.stamps) (sym is) (subst (λ n. Sound r o held h opening t k.durable decided n) (sym (stamps-then e decided)) p.0))
-  fetch-ends asks epochs s k left (read.IsServed k' e decided b left' none is-read is) p = record { leaves = leaves; adds = record { decided = record { new = λ x f i. inl i; told = no-commit }; served = serves-it } }
+      (subst (λ n. Sound r o held h opening t k.durable n.0.leader.decided n.0.stamps) (sym is) (subst (λ n. Sound r o held h opening t k.durable decided n) (sym (stamps-then e decided)) p.0))
+  fetch-ends asks epochs s k left (read_alone.IsServed k' e decided b left' none is-read is) p = record { leaves = leaves; adds = record { decided = record { new = λ x f i. inl i; told = no-commit }; served = serves-it } }
     where
       one : Served
       one = record { by = q.attempt; op = q.op; group = q.group; target = t; read = q.read; epoch = e; answer = b }
@@ -138,7 +140,7 @@ module _ (r : Rules) (o : Opening) (held : List Version) (h : History) (w : Worl
       leaves = record {
         later = serves h one;
         grew = record { decided = λ i j. j; served = λ z j. contains-from_has (one ∷ h.served) z (inr (has-from_contains h.served z j)) };
-        sound = subst (λ n. Sound r o held (serves h one) opening t k.durable n.0.decided n.0.stamps) (sym is) (subst (λ n. Sound r o held (serves h one) opening t k.durable decided n) (sym stamps) served);
+        sound = subst (λ n. Sound r o held (serves h one) opening t k.durable n.0.leader.decided n.0.stamps) (sym is) (subst (λ n. Sound r o held (serves h one) opening t k.durable decided n) (sym stamps) served);
         decided = λ x f i. inl i;
         served = λ z i. by z (has-from_contains (one ∷ h.served) z i);
       }
@@ -169,8 +171,8 @@ module _ (r : Rules) (o : Opening) (held : List Version) (h : History) (w : Worl
 
   -- the whole turn
   pub fetch-sound : IsFetchRight r t q.attempt q.op q.group q.read q.snapshot → ((e : Epoch) → request_epoch (target_plan r t) m reading q.tracker q.ep ≡ Some e → IsItsEpoch o w q.attempt q.ep e)
-      → (old new : Kept) (left : TargetMemory × Did) → Whole (read.FetchNext (target_plan r t) m reading q) (read.FetchEnds (target_plan r t) m reading q from) read.Asked old new left
-      → Sound r o held h opening t old.durable m.decided m.stamps → TurnTold r o held h w opening t new left from (fetch_message q)
+      → (old new : Kept) (left : TargetMemory × Did) → Whole (read.FetchNext (target_plan r t) m reading q) (read_alone.FetchEnds (target_plan r t) m reading q from) read.Asked old new left
+      → Sound r o held h opening t old.durable m.leader.decided m.stamps → TurnTold r o held h w opening t new left from (fetch_message q)
   fetch-sound asks epochs old new left turn k =
       fetch-ends asks epochs turn.last new left turn.ends
       (path-keeps (read.FetchNext (target_plan r t) m reading q) (Mid r o held h opening t m reading q) (fetch-step asks.now) read.Asked old turn.reached.did turn.last new turn.reached.path k)

@@ -5,7 +5,8 @@ use Rattle.daos_base.specs.declared.id.AttemptId.{AttemptId}
 use Rattle.daos_model.specs.declared.durable.Version.{Version}
 use Rattle.daos_model.specs.Opening.{Opening}
 use Rattle.world_base.specs.declared.world.World.{World}
-use Rattle.world_events.specs.Events.{ClientGoes, ClientHears, Rules, TargetHears, TargetIdles}
+use Rattle.world_events.specs.AloneEvents.{TargetHears, TargetIdles}
+use Rattle.world_events.specs.Events.{ClientGoes, ClientHears, Rules}
 use Rattle.world_reads.specs.Adds.{Adds}
 use Rattle.world_reads.specs.Given.{Given}
 use Rattle.world_reads.specs.History.{Grew, History}

@@ -71,7 +71,7 @@ pub record Sound (r : Rules) (o : Opening) (held : List Version) (h : History) (
 pub record TurnLeaves (r : Rules) (o : Opening) (held : List Version) (h : History) (w : World) (opening : Epoch × FloorWhy) (t : ℕ) (new : Kept) (left : TargetMemory × Did) : Type 0 where
   pub later : History
   pub grew : Grew h later
-  pub sound : Sound r o held later opening t new.durable left.0.decided left.0.stamps
+  pub sound : Sound r o held later opening t new.durable left.0.leader.decided left.0.stamps
   pub decided : (x : AttemptId) (e : Epoch) → Contains later.decided (x, e) → Contains h.decided (x, e) ⊎ (Contains (w.issued ++ listed left.1.issued) (x, e) × (minor_writes 0 (attempt_ops r.script x) ≢ []))
   pub served : (q : Served) → Contains later.served q → Contains h.served q ⊎ Contains (w.issued ++ listed left.1.issued) (q.by, q.epoch)
 

@@ -1,5 +1,5 @@
 -- What the changes of a turn leave, one by one.
-use Rattle.std.specs.Prelude.{ℕ, ◌≡◌, ◌<◌, ◌≤◌, ◌*◌, ◌^◌, Bool, true, false, not, min, nat_le, List, filter, Contains, Option, Some, None, refl, if◌then◌else◌}
+use Rattle.std.specs.Prelude.{ℕ, ◌≡◌, ◌<◌, ◌≤◌, ◌*◌, ◌^◌, Bool, true, false, not, min, nat_le, List, filter, Contains, Some, None, refl, if◌then◌else◌}
 use Rattle.std.specs.Int.{div_ceil}
 use Rattle.std.proofs.Common.{ap, arith}
 use Rattle.std.proofs.lemmas.Bool.Decides.{nat_tests}
@@ -21,9 +21,7 @@ use Rattle.world_reads.specs.History.{History}
 use Rattle.world_reads.specs.HoldLaws.{extends-holds, extends-open, settles-holds, settles-open}
 use Rattle.world_reads.specs.Midway.{Sound}
 use Rattle.world_reads.specs.ShowLaws.{extends-shows, settles-shows}
-use Rattle.world_turns.specs.Changes.{Change, Kept, Steps}
 use Rattle.world_turns.specs.Requests.{is_other_attempt}
-use Rattle.world_turns.specs.Turns.{Here, More, Path}
 
 -- ---- leases
 
@@ -83,12 +81,3 @@ settles-sound r o held h opening t d left stamps a i k = record {
 
     fewer : (x : AttemptId) → Contains (filter (is_other_attempt a) left) x → Contains left x
     fewer x j = contains-from_has left x (has-from_filter (is_other_attempt a) left x (has-from_contains (filter (is_other_attempt a) left) x j)).0
-
--- ---- paths
-
--- what each step of a turn keeps, every path keeps
-module _ {S : Type 0} (Next : S → Kept → Option Change → S → Type 0) (P : S → Kept → Type 0) where
-  pub path-keeps : ((s : S) (k : Kept) (o : Option Change) (t : S) (l : Kept) → Next s k o t → Steps o k l → P s k → P t l) → (s : S) (k : Kept) (did : List Change) (t : S) (l : Kept)
-      → Path Next s k did t l → P s k → P t l
-  path-keeps step s k did t l Here p = p
-  path-keeps step s k did t l (More some u m o v n path next steps) p = step u m o v n next steps (path-keeps step s k some u m path p)

@@ -68,7 +68,7 @@ pub record Versions (r : Rules) (o : Opening) (held : ℕ → List Version) (h :
       → (k : Entry) × (entry_of s.durable x ≡ Some k) × (k.epoch ≡ e)
   -- an entry is of a decided attempt, and one that isn't settled is known to its leader as decided
   pub entries : (t : ℕ) (s : TargetState) (e : Entry) → slice_get w.targets t ≡ Some s → Contains s.durable.entries e → Contains h.decided (e.attempt, e.epoch)
-  pub led : (t : ℕ) (s : TargetState) (e : Entry) → slice_get w.targets t ≡ Some s → Contains s.durable.entries e → e.committed ≡ false → e.leader ≡ t → Contains s.memory.decided e.attempt
+  pub led : (t : ℕ) (s : TargetState) (e : Entry) → slice_get w.targets t ≡ Some s → Contains s.durable.entries e → e.committed ≡ false → e.leader ≡ t → Contains s.memory.leader.decided e.attempt
   -- an entry names the leader of its attempt
   pub leaders : (t : ℕ) (s : TargetState) (e : Entry) → slice_get w.targets t ≡ Some s → Contains s.durable.entries e → e.leader ≡ leader_of_attempt r.script e.attempt
-  pub leading : (t : ℕ) (s : TargetState) (x : AttemptId) → slice_get w.targets t ≡ Some s → Contains s.memory.decided x → (e : Entry) × (entry_of s.durable x ≡ Some e) × (e.committed ≡ false) × (e.leader ≡ t)
+  pub leading : (t : ℕ) (s : TargetState) (x : AttemptId) → slice_get w.targets t ≡ Some s → Contains s.memory.leader.decided x → (e : Entry) × (entry_of s.durable x ≡ Some e) × (e.committed ≡ false) × (e.leader ≡ t)

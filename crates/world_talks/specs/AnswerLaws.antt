@@ -21,11 +21,12 @@ use Rattle.world_events.specs.Letters.{is_tell}
 use Rattle.world_talks.specs.Asked.{commit_of, fetch_of}
 use Rattle.world_talks.specs.Conversation.{Answers}
 use Rattle.world_turns.specs.Changes.{Kept}
+use Rattle.world_turns.specs.AloneCommits as commit_alone
 use Rattle.world_turns.specs.Commits as commit
-use Rattle.world_turns.specs.Idle.{AllSettled, IdleEnds}
+use Rattle.world_turns.specs.AloneTurns.{AllSettled, Hears, IdleEnds, IdlesWhole, is_heard}
+use Rattle.world_turns.specs.AloneReads as read_alone
 use Rattle.world_turns.specs.Reads as read
 use Rattle.world_turns.specs.Requests.{nothing_follows}
-use Rattle.world_turns.specs.TargetTurns.{Hears, IdlesWhole, is_heard}
 
 -- what a target's turn sends: one message, which answers what it heard, to the one who asked
 pub record IsAnsweredBy (from : ActorId) (q : Message) (did : Did) : Type 0 where
@@ -43,19 +44,19 @@ ended-answers : (q : CommitRequest) (from : ActorId) (own : Option Epoch) (how :
 ended-answers q from own how did one = record { answer = message.Ended q.attempt own how; one = one; answers = (own, how, refl) }
 
 fetch-posts : (t : TargetPlan) (m : TargetMemory) (reading : ℕ) (q : FetchRequest) (from : ActorId) (s : read.FetchStage) (k : Kept) (left : TargetMemory × Did)
-    → read.FetchEnds t m reading q from s k left → IsAnsweredBy from (fetch_of q) left.1
-fetch-posts t m reading q from s k left (read.IsSpent k2 left2 live none says) = fetched-answers q from None (reply.Outcome outcome.EpochsSpent) left2.1 (ap (λ o. o.1.posts) says)
-fetch-posts t m reading q from s k left (read.IsRefused k2 e decided c left2 why says) = fetched-answers q from (Some e) (reply.Outcome (outcome.Restart c)) left2.1 (ap (λ o. o.1.posts) says)
-fetch-posts t m reading q from s k left (read.MeetsUnresolved k2 e decided a left2 free unsettled other says) =
+    → read_alone.FetchEnds t m reading q from s k left → IsAnsweredBy from (fetch_of q) left.1
+fetch-posts t m reading q from s k left (read_alone.IsSpent k2 left2 live none says) = fetched-answers q from None (reply.Outcome outcome.EpochsSpent) left2.1 (ap (λ o. o.1.posts) says)
+fetch-posts t m reading q from s k left (read_alone.IsRefused k2 e decided c left2 why says) = fetched-answers q from (Some e) (reply.Outcome (outcome.Restart c)) left2.1 (ap (λ o. o.1.posts) says)
+fetch-posts t m reading q from s k left (read_alone.MeetsUnresolved k2 e decided a left2 free unsettled other says) =
     fetched-answers q from (Some e) (reply.Outcome (outcome.Restart (cause.Unresolved a))) left2.1 (ap (λ o. o.1.posts) says)
-fetch-posts t m reading q from s k left (read.IsServed k2 e decided b left2 free served says) = fetched-answers q from (Some e) (reply.Answer b) left2.1 (ap (λ o. o.1.posts) says)
+fetch-posts t m reading q from s k left (read_alone.IsServed k2 e decided b left2 free served says) = fetched-answers q from (Some e) (reply.Answer b) left2.1 (ap (λ o. o.1.posts) says)
 
 commit-posts : (t : TargetPlan) (opening : Epoch × FloorWhy) (m : TargetMemory) (reading : ℕ) (q : CommitRequest) (from : ActorId) (s : commit.CommitStage) (k : Kept) (left : TargetMemory × Did)
-    → commit.CommitEnds t opening m reading q from s k left → IsAnsweredBy from (commit_of q) left.1
-commit-posts t opening m reading q from s k left (commit.IsSpent k2 left2 none says) = ended-answers q from None outcome.EpochsSpent left2.1 (ap (λ o. o.1.posts) says)
-commit-posts t opening m reading q from s k left (commit.IsRefused k2 e c left2 why says) = ended-answers q from (Some e) (outcome.Restart c) left2.1 (ap (λ o. o.1.posts) says)
-commit-posts t opening m reading q from s k left (commit.HasNoSpace k2 e left2 allowed full says) = ended-answers q from (Some e) (outcome.NoSpace _ _ _) left2.1 (ap (λ o. o.1.posts) says)
-commit-posts t opening m reading q from s k left (commit.IsDecided k2 e left2 says) = ended-answers q from (Some e) outcome.Committed left2.1 (ap (λ o. o.1.posts) says)
+    → commit_alone.CommitEnds t opening m reading q from s k left → IsAnsweredBy from (commit_of q) left.1
+commit-posts t opening m reading q from s k left (commit_alone.IsSpent k2 left2 none says) = ended-answers q from None outcome.EpochsSpent left2.1 (ap (λ o. o.1.posts) says)
+commit-posts t opening m reading q from s k left (commit_alone.IsRefused k2 e c left2 why says) = ended-answers q from (Some e) (outcome.Restart c) left2.1 (ap (λ o. o.1.posts) says)
+commit-posts t opening m reading q from s k left (commit_alone.HasNoSpace k2 e left2 allowed full says) = ended-answers q from (Some e) (outcome.NoSpace _ _ _) left2.1 (ap (λ o. o.1.posts) says)
+commit-posts t opening m reading q from s k left (commit_alone.IsDecided k2 e left2 says) = ended-answers q from (Some e) outcome.Committed left2.1 (ap (λ o. o.1.posts) says)
 
 -- a message that is heard is answered by one message
 pub answers-are-posted : (t : TargetPlan) (opening : Epoch × FloorWhy) (m : TargetMemory) (reading : ℕ) (from : ActorId) (q : Message) (old new : Kept) (left : TargetMemory × Did)

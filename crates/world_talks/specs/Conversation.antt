@@ -12,9 +12,10 @@ use Rattle.world_base.specs.declared.client.Present.{Present}
 use Rattle.world_base.specs.declared.letter.Letter.{Letter}
 use Rattle.world_base.specs.declared.world.World.{World}
 use Rattle.world_base.specs.ClientTurns.{moved, waits}
-use Rattle.world_events.specs.Events.{Event, Rules, client_plan}
+use Rattle.world_events.specs.AloneEvents.{Event}
+use Rattle.world_events.specs.Events.{Rules, client_plan}
 use Rattle.world_events.specs.Letters.{client, letter_of, talk_of}
-use Rattle.world_turns.specs.TargetTurns.{is_heard}
+use Rattle.world_turns.specs.AloneTurns.{is_heard}
 
 abbrev pub before_waiting : Option Present → Option Present
 before_waiting None = None

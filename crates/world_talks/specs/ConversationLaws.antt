@@ -12,7 +12,8 @@ use Rattle.world_base.specs.declared.client.ClientState.{ClientState}
 use Rattle.world_base.specs.declared.letter.Letter.{Letter}
 use Rattle.world_base.specs.declared.world.World.{World}
 use Rattle.world_base.specs.ClientTurns.{Move, answered, at_present, heard, hears_epochs, is_waiting, listed, moved, waits}
-use Rattle.world_events.specs.Events.{Begins, ByClient, ByTarget, Goes, Rules, Run, TargetHears, TargetIdles, ToClient, ToTarget, client_plan, kept, target_plan}
+use Rattle.world_events.specs.AloneEvents.{Begins, ByClient, ByTarget, Goes, Run, TargetHears, TargetIdles, ToClient, ToTarget}
+use Rattle.world_events.specs.Events.{Rules, client_plan, kept, target_plan}
 use Rattle.world_events.specs.Letters.{Takes, client, is_talk_of, is_tell, letter_of, letters_of, talk_of, target}
 use Rattle.world_events.specs.StepLaws.{after-none, by-hearing, by-next, set-here, set-same, set-there}
 use Rattle.world_events.specs.Steps.{KeptByCounting, KeptByHearing, KeptByMoves, after_client, after_move, without}
@@ -23,7 +24,7 @@ use Rattle.world_talks.specs.Conversation.{Answers, Conversation, ConversationsA
 use Rattle.world_talks.specs.HearLaws.{IsAnswer, IsSilent, answer-is, hears-answer, hears-tell, skipping-sends-the-same, tracker-rises}
 use Rattle.world_talks.specs.InFlight.{GetsAnswer, HearsRequest, gets-answer, hears-request, none-in-flight}
 use Rattle.world_talks.specs.TalkLaws.{got-is-no-talk, got-is-talk, left-is-among, sent-is-no-talk, sent-is-talk, talk-beside, talk-taken, talk-with, tell-is-no-talk}
-use Rattle.world_turns.specs.TargetTurns.{is_heard}
+use Rattle.world_turns.specs.AloneTurns.{is_heard}
 
 -- ---- one client's conversation goes on
 

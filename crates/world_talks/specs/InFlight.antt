@@ -17,7 +17,7 @@ use Rattle.world_talks.specs.AskLaws.{IsRequest, asked-is-request, sent-is-asked
 use Rattle.world_talks.specs.Asked.{Asked}
 use Rattle.world_talks.specs.Conversation.{Answers, Conversation, IsAnswered, IsAsked, IsTalk, Talks, request_sent}
 use Rattle.world_talks.specs.TalkLaws.{got-is-talk, sent-is-talk, taken-is-among, talk-none, talk-only}
-use Rattle.world_turns.specs.TargetTurns.{is_heard}
+use Rattle.world_turns.specs.AloneTurns.{is_heard}
 
 no-target : (n : ℕ) (a : ActorId) → a ≡ client n → a.client ≡ false → ⊥
 no-target n a it no_client = let same : true ≡ false = sym (ap (λ b. b.client) it) ∙ no_client in true≢false same

@@ -97,7 +97,7 @@ unfolding path_members
 path-zero p = by p.obj
   where
     by : (o : Option ObjId) → AreZero (object_members o p.dkey 1)
-    by None u i = absurd i
+    by None = λ u i. absurd i
     by (Some o) = groups-zero o (dkey_groups o p.dkey 1)
 
 writes-zero : (ws : List MinorWrite) → AreZero (writes_members ws 1)
@@ -189,7 +189,7 @@ leased-own t ticks d k = k
 -- ---- what its attempts come to
 
 own-led_here : (t : TargetPlan) (a : AttemptId) (d : Durable) → KeepsOwn t d → other_leader t a d ≡ None
-unfolding other_leader, entry_of
+unfolding other_leader entry_of
 own-led_here t a d k = by (find (is_entry_of a) d.entries) refl
   where
     led : (e : Entry) → e.leader ≡ t.me → other_leader_of t.me (Some e) ≡ None
@@ -293,7 +293,7 @@ module _ (t : TargetPlan) (d : Durable) (own : KeepsOwn t d) where
           ap (λ b. not e.committed && not b && is_none (row_of member.inquiry_attempt e.attempt qs)) is ∙ by (not e.committed) (is_none (row_of member.inquiry_attempt e.attempt qs))
 
   inquires-none : (settling : Bool) (m : TargetMemory) → inquiry_of settling t m d ≡ member.quietly (member_at t m)
-  unfolding member.inquired, member.to_inquire
+  unfolding member.inquired member.to_inquire
   inquires-none false m = refl
   inquires-none true m =
       ap (λ es. record {
@@ -306,7 +306,7 @@ module _ (t : TargetPlan) (d : Durable) (own : KeepsOwn t d) where
   abbrev left_by : TargetMemory → List Naming → List Post → member.MemberStep → TargetMemory × Did
   left_by m named posts s = (record m { leader = record m.leader { decided = []; named = named }; member = s.member.memory }, sends (posts ++ s.freed.posts) None)
 
-  idle-alone : (settling : Bool) (m : TargetMemory) → (idle_memory settling t m d, idle_told settling t m d) ≡ (with_unsettled [] m, nothing_follows)
+  idle-alone : (settling : Bool) (m : TargetMemory) → ◌≡◌ {A = TargetMemory × Did} (idle_memory settling t m d, idle_told settling t m d) (with_unsettled [] m, nothing_follows)
   unfolding batched
   idle-alone settling m =
       ap (λ n. left_by m n (marks_for d.incarnation m.leader.down m.leader.named led all_targets) (inquiry_of settling t m d))

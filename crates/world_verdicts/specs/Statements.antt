@@ -4,13 +4,14 @@ use Rattle.world_base.specs.declared.client.ClientState.{ClientState}
 use Rattle.world_base.specs.declared.letter.Letter.{Letter}
 use Rattle.world_base.specs.declared.world.World.{World}
 use Rattle.world_base.specs.ClientTurns.{heard, moved}
-use Rattle.world_events.specs.Events.{Rules, TargetHears, client_plan}
+use Rattle.world_events.specs.AloneEvents.{TargetHears}
+use Rattle.world_events.specs.Events.{Rules, client_plan}
 use Rattle.world_events.specs.Letters.{Takes, client}
 use Rattle.world_events.specs.Steps.{KeptByCounting, after_move, without}
 use Rattle.world_lines.specs.Lines.{Endings, Lines}
 use Rattle.world_reads.specs.History.{History}
 use Rattle.world_talks.specs.Conversation.{Conversation}
-use Rattle.world_turns.specs.TargetTurns.{is_heard}
+use Rattle.world_turns.specs.AloneTurns.{is_heard}
 use Rattle.world_verdicts.specs.TurnLaws.{DecidesTold}
 use Rattle.world_verdicts.specs.Verdicts.{Agrees, Verdicts}
 

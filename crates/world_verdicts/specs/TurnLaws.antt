@@ -24,7 +24,8 @@ use Rattle.world_base.specs.ClientTurns.{Move, attempt_id, begun, command_at, en
 use Rattle.world_clients.specs.AnswerLaws.{numbered-here}
 use Rattle.world_clients.specs.MoveLaws.{IsAt, is-at}
 use Rattle.world_clients.specs.Standing.{HasTold}
-use Rattle.world_events.specs.Events.{Rules, TargetHears, client_plan, commands_or_none, or_issued, with_epoch}
+use Rattle.world_events.specs.AloneEvents.{TargetHears}
+use Rattle.world_events.specs.Events.{Rules, client_plan, commands_or_none, or_issued, with_epoch}
 use Rattle.world_events.specs.Letters.{Takes, client, letter_of, letters_of, target}
 use Rattle.world_events.specs.Steps.{KeptByCounting, after_move, without}
 use Rattle.world_lines.specs.Lines.{Endings, Lines, TellsEnd, filled}
@@ -36,7 +37,7 @@ use Rattle.world_talks.specs.HearLaws.{ended-silent, replied-silent}
 use Rattle.world_talks.specs.Hearing.{ATracker, AReply, AnEnd, IsHearing, hearing-is}
 use Rattle.world_talks.specs.InFlight.{GetsAnswer}
 use Rattle.world_talks.specs.TalkLaws.{left-is-among, taken-is-among}
-use Rattle.world_turns.specs.TargetTurns.{is_heard}
+use Rattle.world_turns.specs.AloneTurns.{is_heard}
 use Rattle.world_verdicts.specs.TellLaws.{AllRead, Fails, Goes, MoveTells, NoSnap, Nothing, ReplyTells, moved-tells, replied-tells}
 use Rattle.world_verdicts.specs.VerdictLaws.{EndNothing, StillTold, TellDecided, client-did, left-or-it, told-new}
 use Rattle.world_verdicts.specs.Verdicts.{Agrees, HasWrites, IsOnItsWay, IsToldCommitted, Tells, Verdicts}
