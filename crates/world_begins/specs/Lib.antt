@@ -7,3 +7,4 @@ pub mod Requests
 pub mod Addressed
 pub mod Hearable
 pub mod Whole
+pub mod AloneRuns

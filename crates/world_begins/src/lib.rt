@@ -2,6 +2,7 @@
 #![tactic(auto)]
 
 ghost use Rattle.world_begins.specs.Addressed.{EventsKeepAddresses};
+ghost use Rattle.world_begins.specs.AloneRuns.{RunsAreAlone};
 ghost use Rattle.world_begins.specs.BeginLaws.{RunsBeginWithEverything};
 ghost use Rattle.world_begins.specs.Fresh.{EmptyStoresOpen, EnlistedOpensToo, FreshStoresOpen, FreshWorldsAreBegun};
 ghost use Rattle.world_begins.specs.Hearable.{RequestsCanBeHeard};
@@ -45,4 +46,11 @@ pub fn laws_of_hearing()
     ensures requests { RequestsCanBeHeard }
     ensures whole { RunsStayWhole }
     ensures runs { RunsCanBeHeard }
+{}
+
+/// Says that such a run, whose turns are those of a world with many targets, is a run of a target alone:
+/// it leads every transaction and is its only member, so that no target hears another and none asks
+/// another. So all that holds of the runs of a target alone holds of it.
+pub fn laws_of_one_target()
+    ensures runs { RunsAreAlone }
 {}

@@ -4,7 +4,6 @@ use Rattle.std.proofs.Common.{inl, sym, ◌∙◌, ap, subst}
 use Rattle.std.proofs.Math.ListN.{set}
 use Rattle.daos_laws.specs.Members.{contains-from_has, has-right}
 use Rattle.world_base.specs.declared.letter.Letter.{Letter}
-use Rattle.world_base.specs.declared.target.TargetMemory.{TargetMemory}
 use Rattle.world_base.specs.declared.target.TargetState.{TargetState}
 use Rattle.world_base.specs.declared.world.World.{World}
 use Rattle.world_events.specs.AloneEvents as alone
@@ -12,7 +11,6 @@ use Rattle.world_events.specs.Events.{ByClient, ByTarget, Event, Rules, ToClient
 use Rattle.world_events.specs.Letters.{Takes, target}
 use Rattle.world_turns.specs.AloneLaws.{IsOnly, KeepsOwn, hears-alone, idles-alone}
 use Rattle.world_turns.specs.AloneTurns.{is_heard}
-use Rattle.world_turns.specs.Changes.{Kept}
 
 -- ---- the statement
 
@@ -34,17 +32,17 @@ EventsAreAlone = (r : Rules) (w v : World) → IsAskedAlone r w → TargetsKeepO
 own-target : (r : Rules) (w : World) (t : ℕ) (s : TargetState) → IsAskedAlone r w → slice_get w.targets t ≡ Some s → IsOnly (target_plan r t)
 own-target r w t s a here = record { me = a.only t s here; targets = a.one }
 
--- one target's state changes
+-- what holds of each element, and of one that is set at its place, holds of each then
+at-set : {T : Type 0} (P : ℕ → T → Type 0) (xs : List T) (t u : ℕ) (z y : T) → P t z → ((n : ℕ) (x : T) → slice_get xs n ≡ Some x → P n x) → slice_get (set xs t z) u ≡ Some y → P u y
+at-set P [] t u z y new old at = let no : ⊥ = cc in absurd no
+at-set P (x ∷ xs) zero zero z y new old at = let same : z ≡ y = cc in subst (P zero) same new
+at-set P (x ∷ xs) zero (suc u) z y new old at = old (suc u) y at
+at-set P (x ∷ xs) (suc t) zero z y new old at = old zero y at
+at-set P (x ∷ xs) (suc t) (suc u) z y new old at = at-set (λ n. P (suc n)) xs t u z y new (λ n w h. old (suc n) w h) at
+
 set-own : (r : Rules) (ts : List TargetState) (t : ℕ) (z : TargetState) → KeepsOwn (target_plan r t) z.durable → ((u : ℕ) (s : TargetState) → slice_get ts u ≡ Some s → KeepsOwn (target_plan r u) s.durable)
     → (u : ℕ) (s : TargetState) → slice_get (set ts t z) u ≡ Some s → KeepsOwn (target_plan r u) s.durable
-set-own r ts t z new old u s at = by ts t u (λ n y. KeepsOwn (target_plan r n) y.durable) new old s at
-  where
-    by : (ts : List TargetState) (t u : ℕ) (P : ℕ → TargetState → Type 0) → P t z → ((n : ℕ) (y : TargetState) → slice_get ts n ≡ Some y → P n y) → (y : TargetState) → slice_get (set ts t z) u ≡ Some y → P u y
-    by [] t u P new old y at = let no : ⊥ = cc in absurd no
-    by (x ∷ xs) zero zero P new old y at = let same : z ≡ y = cc in subst (P zero) same new
-    by (x ∷ xs) zero (suc u) P new old y at = old (suc u) y at
-    by (x ∷ xs) (suc t) zero P new old y at = old zero y at
-    by (x ∷ xs) (suc t) (suc u) P new old y at = by xs t u (λ n. P (suc n)) new (λ n y. old (suc n) y) y at
+set-own r ts t z new old u s at = at-set (λ n y. KeepsOwn (target_plan r n) y.durable) ts t u z s new old at
 
 among-taken : (letters : List Letter) (l : Letter) (rest : List Letter) → Takes letters l rest → Contains letters l
 among-taken letters l rest k = subst (λ ls. Contains ls l) (sym k.among) (contains-from_has (k.before ++ l ∷ k.after) l (has-right k.before (l ∷ k.after) l (inl refl)))
