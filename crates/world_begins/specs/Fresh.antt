@@ -17,6 +17,8 @@ use Rattle.daos_model.specs.FormLaws.{enlisted-in_form, length-map, length-put}
 use Rattle.daos_model.specs.Opening.{Opening, fresh_opening, top}
 use Rattle.daos_model.specs.Ordered.{put}
 use Rattle.world_reads.specs.EntryLaws.{put-has}
+use Rattle.dtx_base.specs.Joining.{first_member}
+use Rattle.dtx_base.specs.Leading.{first_memory}
 use Rattle.world_base.specs.declared.target.TargetState.{TargetState}
 use Rattle.world_base.specs.declared.target.Life.TheVariants.{Running}
 use Rattle.world_base.specs.declared.world.World.{World}
@@ -189,7 +191,7 @@ fresh_target s size incarnation = record {
   free = size * 4096 - 1264;
   opening = (record { 0 = 0 }, why.Opening);
   life = Running;
-  memory = record { ticks = 0; stamps = []; decided = [] };
+  memory = record { ticks = 0; stamps = []; leader = first_memory []; member = (first_member 0).memory };
 }
 
 -- the world of a script before its first event, over regions of zeros
