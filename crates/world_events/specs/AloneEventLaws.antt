@@ -55,17 +55,27 @@ events-are-alone r w v a k (ByClient g) = (alone.ByClient g, same-targets r w v 
 events-are-alone r w v a k (ToClient g) = (alone.ToClient g, same-targets r w v (ap (λ x. x.targets) g.after) k)
 events-are-alone r w v a k (ToTarget g) =
     let q = hears-alone (target_plan r g.t) g.s.opening g.s.memory g.reading g.l.from g.l.message (kept g.s) g.new (g.memory, g.did) (own-target r w g.t g.s a g.here)
-        (a.asked g.l g.t (among-taken w.messages g.l g.rest g.takes) g.to_it) (k g.t g.s g.here) g.turn in
-    (
+    (a.asked g.l g.t (among-taken w.messages g.l g.rest g.takes) g.to_it) (k g.t g.s g.here) g.turn in (
       alone.ToTarget (record {
-        t = g.t; s = g.s; new = g.new; memory = g.memory; did = g.did; reading = g.reading; l = g.l; rest = g.rest;
-        here = g.here; runs = g.runs; takes = g.takes; to_it = g.to_it; turn = q.0; after = g.after;
+        t = g.t;
+        s = g.s;
+        new = g.new;
+        memory = g.memory;
+        did = g.did;
+        reading = g.reading;
+        l = g.l;
+        rest = g.rest;
+        here = g.here;
+        runs = g.runs;
+        takes = g.takes;
+        to_it = g.to_it;
+        turn = q.0;
+        after = g.after;
       }),
       λ u s at. set-own r w.targets g.t (target_after g.s g.new g.memory) q.1 k u s (ap (λ x. slice_get x.targets u) (sym g.after) ∙ at),
     )
 events-are-alone r w v a k (ByTarget g) =
-    let q = idles-alone g.settling (target_plan r g.t) g.s.memory (kept g.s) g.new (g.memory, g.did) (k g.t g.s g.here) g.turn in
-    (
+    let q = idles-alone g.settling (target_plan r g.t) g.s.memory (kept g.s) g.new (g.memory, g.did) (k g.t g.s g.here) g.turn in (
       alone.ByTarget (record { t = g.t; s = g.s; new = g.new; memory = g.memory; did = g.did; here = g.here; runs = g.runs; turn = q.0; after = g.after }),
       λ u s at. set-own r w.targets g.t (target_after g.s g.new g.memory) q.1 k u s (ap (λ x. slice_get x.targets u) (sym g.after) ∙ at),
     )
