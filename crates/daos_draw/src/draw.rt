@@ -14,15 +14,3 @@ pub fn drawn(number: u64) -> u64
     next ^= next << 17;
     next
 }
-
-#[cfg(test)]
-mod tests {
-    use super::*;
-
-    // The first two are those of the published generator with these moves, from 1.
-    #[test]
-    fn draws_from_one(rt: HostRuntime) {
-        assert_eq!(rt; drawn(1), 1_082_269_761);
-        assert_eq!(rt; drawn(1_082_269_761), 1_152_992_998_833_853_505);
-    }
-}

@@ -19,22 +19,3 @@ pub fn lease_for(ticks: u64) -> Option<u64>
     }
     Some((ticks.div_ceil(LEASE_STEP) * LEASE_STEP).min(LAST_TICKS))
 }
-
-#[cfg(test)]
-mod tests {
-    use super::*;
-
-    #[test]
-    fn leases_in_steps(rt: HostRuntime) {
-        let table = [
-            (1, Some(65_536)),
-            (65_536, Some(65_536)),
-            (65_537, Some(131_072)),
-            (LAST_TICKS, Some(LAST_TICKS)),
-            (LAST_TICKS + 1, None),
-        ];
-        for (ticks, lease) in table {
-            assert_eq!(rt; lease_for(ticks), lease, "{ticks}");
-        }
-    }
-}

@@ -13,5 +13,3 @@ mod names;
 mod pieces;
 pub mod prunes;
 pub mod stand;
-#[cfg(test)]
-mod tests;

@@ -18,8 +18,6 @@ pub mod sure_rack;
 pub mod sure_region;
 pub mod sure_sink;
 pub mod sure_source;
-#[cfg(test)]
-mod tests;
 
 use std::alloc::AllocError;
 

@@ -6,8 +6,6 @@ pub mod attempts;
 pub mod lines;
 mod names;
 mod outcomes;
-#[cfg(test)]
-mod tests;
 pub mod text;
 mod values;
 mod words;

@@ -10,4 +10,6 @@ mod scripts;
 #[cfg(test)]
 mod summaries;
 #[cfg(test)]
+mod texts;
+#[cfg(test)]
 mod words;

@@ -3,5 +3,3 @@
 
 pub mod checks;
 pub mod stamps;
-#[cfg(test)]
-mod tests;

@@ -1,6 +1,4 @@
 // Later reads and floors, as the worked examples of restarts have them.
-use crate::checks::{check_read, check_write};
-use crate::stamps::Stamps;
 use daos_base::epoch::Epoch;
 use daos_base::id::{AttemptId, Class, ContId, ObjId};
 use daos_base::key::Key;
@@ -8,6 +6,8 @@ use daos_base::outcome::{Cause, FloorWhy};
 use daos_base::path::Path;
 use std::alloc::Global;
 use std::test::Fail;
+use vos_stamp::checks::{check_read, check_write};
+use vos_stamp::stamps::Stamps;
 
 const READER: AttemptId = AttemptId {
     client: 1,

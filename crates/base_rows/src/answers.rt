@@ -2,10 +2,6 @@
 ghost use Rattle.std.specs.Prelude.{IfOk};
 ghost use Rattle.daos_model.specs.Effect.{AllEndInArrays, EndsInArray, WritesEndInArrays};
 
-use crate::answers::answer_of;
-use crate::as_of::as_of;
-use crate::map::Map;
-use crate::stand::{Stand, Taken};
 use daos_base::answer::{Answer, Piece};
 use daos_base::epoch::Epoch;
 use daos_base::id::{Class, ContId, ObjId};
@@ -13,6 +9,10 @@ use daos_base::items::{Items, bytes_of};
 use daos_base::key::Key;
 use daos_base::operation::{Read, Write};
 use daos_base::path::Path;
+use daos_model::answers::answer_of;
+use daos_model::as_of::as_of;
+use daos_model::map::Map;
+use daos_model::stand::{Stand, Taken};
 use std::alloc::Global;
 use std::test::Fail;
 

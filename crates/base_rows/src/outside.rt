@@ -1,16 +1,16 @@
 // Tables over the objects in memory, and over those that others hand in.
-use crate::Failed;
-use crate::adapters::{Reading, Writing};
-use crate::clock::Clock;
-use crate::mem_sink::MemSink;
-use crate::mem_source::MemSource;
-use crate::rack::Rack;
-use crate::region::Region;
-use crate::sink::{Sink, WriteNo, write_all};
-use crate::source::{ReadNo, Source, read_all};
-use crate::sure_rack::SureRack;
-use crate::sure_sink::SureSink;
-use crate::sure_source::SureSource;
+use daos_outside::Failed;
+use daos_outside::adapters::{Reading, Writing};
+use daos_outside::clock::Clock;
+use daos_outside::mem_sink::MemSink;
+use daos_outside::mem_source::MemSource;
+use daos_outside::rack::Rack;
+use daos_outside::region::Region;
+use daos_outside::sink::{Sink, WriteNo, write_all};
+use daos_outside::source::{ReadNo, Source, read_all};
+use daos_outside::sure_rack::SureRack;
+use daos_outside::sure_sink::SureSink;
+use daos_outside::sure_source::SureSource;
 use std::test::Fail;
 
 #[test]

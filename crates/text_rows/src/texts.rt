@@ -1,5 +1,4 @@
 // Lines and their texts.
-use crate::text::report_text;
 use daos_base::answer::{Answer, Piece};
 use daos_base::epoch::Epoch;
 use daos_base::id::{AttemptId, Class, ContId, ObjId};
@@ -9,6 +8,7 @@ use daos_base::outcome::{Cause, FloorWhy, Outcome};
 use daos_base::path::Path;
 use daos_base::report::{Attempt, Line, Report};
 use daos_base::script::{ContDecl, ObjDecl, Script};
+use daos_report::text::report_text;
 use std::alloc::Global;
 use std::test::Fail;
 
