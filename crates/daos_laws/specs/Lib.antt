@@ -20,3 +20,4 @@ pub mod Targets
 pub mod TargetLaws
 pub mod AkeyLaws
 pub mod StandLaws
+pub mod HoldingLaws

@@ -1,5 +1,5 @@
 // Runs a script on targets.
-ghost use Rattle.std.specs.Prelude.{◌≡◌, ◌≤◌, IfOk, IsOkUnless};
+ghost use Rattle.std.specs.Prelude.{◌≡◌, ◌≤◌, IfOk, IsOkUnless, None};
 ghost use Rattle.daos_model.specs.Opening.{fresh};
 ghost use Rattle.daos_report.specs.Forms.{IsReportOf};
 ghost use Rattle.daos_lone.specs.Lone.{HasOneClient};
@@ -48,6 +48,7 @@ pub fn run_script<R: Threads + Wait + Sync, B: Rack, G: Gate + Sync>(
     ensures form { ScriptHasKeys script.now → IfOk result (λ report. IsReportOf script.now report) }
     ensures ordered { IfOk result (FollowsOrder (fresh script.now job.now)) }
     ensures issued { IfOk result (AreIssuedBy 0) }
+    ensures none_down { IfOk result (λ report. report.down ≡ None) }
     ensures room { HasRoom script.now job.now.attempts (fresh script.now job.now).opening.free → IfOk result FindsRoom }
     ensures lone { HasOneClient script.now → IfOk result (IsOfLoneClient (fresh script.now job.now)) }
     ensures refusals { IsOkUnless result RunStop.Memory }

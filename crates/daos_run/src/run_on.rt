@@ -1,5 +1,5 @@
 // Runs a script on stores.
-ghost use Rattle.std.specs.Prelude.{◌≡◌, ◌≤◌, ℕ, length, slice_get, IfErr, IfOk, Some, is_some, true, false};
+ghost use Rattle.std.specs.Prelude.{◌≡◌, ◌≤◌, ℕ, length, slice_get, IfErr, IfOk, None, Some, is_some, true, false};
 ghost use Rattle.daos_report.specs.Forms.{IsReportOf};
 ghost use Rattle.daos_lone.specs.Lone.{HasOneClient};
 ghost use Rattle.daos_room.specs.Rooms.{FindsRoom, HasRoom};
@@ -169,6 +169,7 @@ pub fn run_on<R: Threads + Wait + Sync, S: Store + Send, C: Clock + Send, G: Gat
     ensures ordered { IfTold S.durable parts.old (λ store. IfOk result (λ report.
         HasStore (IsOrdered S.durable (given script.now job.now (S.state store).free) report) parts.new)) }
     ensures issued { IfTold S.durable parts.old (λ store. IfOk result (AreIssuedBy 0)) }
+    ensures none_down { IfOk result (λ report. report.down ≡ None) }
     ensures room { IfTold S.durable parts.old (λ store.
         HasRoom script.now job.now.attempts (given script.now job.now (S.state store).free).opening.free → IfOk result FindsRoom) }
     ensures lone { IfTold S.durable parts.old (λ store.
