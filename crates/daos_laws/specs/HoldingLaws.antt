@@ -44,7 +44,7 @@ group-within o (g ∷ gs) n t some i = by (λ j. group-within o gs n t some j) (
     by rest (inl j) = let c = contains-from_has (members o g n) t j in subst (λ u. u < n) c.2 (members-within o g n some c.0 t c.1)
     by rest (inr j) = rest j
 
-path-within : (p : Path) (n t : ℕ) → 0 < n → Has t (path_members p n) → t < n
+pub path-within : (p : Path) (n t : ℕ) → 0 < n → Has t (path_members p n) → t < n
 unfolding path_members
 path-within p n t some i = by p.obj refl i
   where
