@@ -21,3 +21,4 @@ pub mod TargetLaws
 pub mod AkeyLaws
 pub mod StandLaws
 pub mod HoldingLaws
+pub mod EntryLaws

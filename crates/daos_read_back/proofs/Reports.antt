@@ -45,7 +45,7 @@ use Rattle.daos_read_back.proofs.Marks.{command-ops, has-attempt, is-asked, is-r
 use Rattle.daos_read_back.proofs.Snaps.{is-snap}
 use Rattle.daos_read_back.proofs.Space.{lacks-within}
 use Rattle.daos_read_back.proofs.Tries.{cond-asks, got-reads, is-of-command}
-use Rattle.world_reads.specs.EntryLaws.{same-attempt}
+use Rattle.daos_laws.specs.EntryLaws.{same-attempt}
 
 -- ---- numbers
 

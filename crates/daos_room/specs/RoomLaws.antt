@@ -1,5 +1,5 @@
 -- Where there is room, no attempt is refused for want of space.
-use Rattle.std.specs.Prelude.{ℕ, ◌+◌, ◌*◌, ◌≡◌, ◌≤◌, ◌<◌, ◌==◌, Bool, true, false, ◌||◌, ◌&&◌, not, List, [], ◌∷◌, length, Option, Some, None, refl, if◌then◌else◌}
+use Rattle.std.specs.Prelude.{ℕ, ◌+◌, ◌*◌, ◌≡◌, ◌≤◌, ◌<◌, Bool, true, false, ◌||◌, ◌&&◌, not, List, [], ◌∷◌, length, Option, Some, None, refl, if◌then◌else◌}
 use Rattle.std.proofs.Common.{sym, ◌∙◌, ap, subst, arith, inl, inr}
 use Rattle.daos_base.specs.declared.id.AttemptId.{AttemptId}
 use Rattle.daos_base.specs.declared.outcome.Outcome.{Outcome}
@@ -13,13 +13,12 @@ use Rattle.daos_base.specs.declared.script.Script.{Script}
 use Rattle.daos_laws.specs.DecidedLaws.{all-from_has}
 use Rattle.daos_laws.specs.HoldingLaws.{held-blocks, holder-within}
 use Rattle.daos_laws.specs.Members.{Has}
-use Rattle.daos_laws.specs.TargetLaws.{same_number}
 use Rattle.daos_model.specs.Accesses.{minor_writes}
 use Rattle.daos_model.specs.Attempts.{tries}
 use Rattle.daos_model.specs.Blocks.{blocks}
-use Rattle.daos_model.specs.BoolLaws.{both}
 use Rattle.daos_model.specs.CausesShown.{LacksBlocks, LacksPlace, LacksSpace, ShowsWhy, blocks_at, blocks_of_others, blocks_of_some, is_snap, lacks_space_at, other_snaps, writes_at}
 use Rattle.daos_model.specs.Durables.{same_attempt}
+use Rattle.daos_model.specs.EntryLaws.{same_attempt-itself}
 use Rattle.daos_model.specs.Headline.{Headline}
 use Rattle.daos_model.specs.Opening.{Given, Outside}
 use Rattle.daos_model.specs.Order.{AllInTurn}
@@ -35,11 +34,6 @@ attempt-blocks : (s : Script) (t : ℕ) (x : AttemptId) (c : Command) → comman
 attempt-blocks s t x c at = subst (λ o. blocks_of_some (writes_at s.targets t (minor_writes 0 (ops_or_none o))) ≤ blocks_of_command c) (sym at) (held-blocks s.targets t (minor_writes 0 (ops_of c)))
 
 -- ---- one attempt beside the others
-
-same-itself : (x : AttemptId) → same_attempt x x ≡ true
-unfolding same_attempt
-same-itself x =
-    both ((x.client == x.client) && (x.command == x.command)) (x.attempt == x.attempt) (both (x.client == x.client) (x.command == x.command) (same_number x.client) (same_number x.command)) (same_number x.attempt)
 
 module _ (s : Script) (t : ℕ) where
   abbrev held : Attempt → ℕ
@@ -67,7 +61,7 @@ module _ (s : Script) (t : ℕ) where
       omega (arith, none, one, rest)
     where
       itself : same_attempt b.id a.id ≡ true
-      itself = subst (λ c. same_attempt c.id a.id ≡ true) same (same-itself a.id)
+      itself = subst (λ c. same_attempt c.id a.id ≡ true) same (same_attempt-itself a.id)
 
       by : (z : Bool) → z ≡ true → (if z || lacks_space_at t b.outcome then 0 else blocks_at s t b.id) ≡ 0
       by true e = refl
@@ -118,7 +112,7 @@ module _ (s : Script) where
       omega (arith, none, one, rest)
     where
       itself : same_attempt b.id a.id ≡ true
-      itself = subst (λ c. same_attempt c.id a.id ≡ true) same (same-itself a.id)
+      itself = subst (λ c. same_attempt c.id a.id ≡ true) same (same_attempt-itself a.id)
 
       by : (y z : Bool) → z ≡ true → ◌≡◌ {A = ℕ} (if y && not z then 1 else 0) 0
       by true true e = refl

@@ -16,7 +16,7 @@ use Rattle.daos_model.specs.Durables.{cont_key, empty_durable, is_enlisted, is_r
 use Rattle.daos_model.specs.FormLaws.{enlisted-in_form, length-map, length-put}
 use Rattle.daos_model.specs.Opening.{Opening, fresh_opening, top}
 use Rattle.daos_model.specs.Ordered.{put}
-use Rattle.world_reads.specs.EntryLaws.{put-has}
+use Rattle.daos_laws.specs.EntryLaws.{put-has}
 use Rattle.world_base.specs.declared.target.TargetState.{TargetState}
 use Rattle.world_base.specs.declared.target.Life.TheVariants.{Running}
 use Rattle.world_base.specs.declared.world.World.{World}

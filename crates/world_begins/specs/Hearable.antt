@@ -37,7 +37,7 @@ use Rattle.world_events.specs.Letters.{target}
 use Rattle.world_gots.specs.FormLaws.{all-at, ops-form, read-declared, write-declared}
 use Rattle.world_reads.specs.ChangeLaws.{entry-of-it}
 use Rattle.world_reads.specs.DecideLaws.{entry-among, no-entry}
-use Rattle.world_reads.specs.EntryLaws.{same-attempt}
+use Rattle.daos_laws.specs.EntryLaws.{same-attempt}
 use Rattle.world_reads.specs.Given.{FitsTargets, Given, HasItsEpoch, IsCommitRight, IsFetchRight, IsItsEpoch, IsMessageRight}
 use Rattle.world_reads.specs.History.{History}
 use Rattle.world_reads.specs.Reads.{IsOfAttempt}

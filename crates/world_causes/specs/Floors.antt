@@ -26,7 +26,7 @@ use Rattle.vos_store.specs.declared.refusal.FetchNo.TheVariants as fetch
 use Rattle.vos_store.specs.Answers.{answer_unless, fetched, floor_of, is_past, later_floor, later_write, shown_or_none, shown_version}
 use Rattle.world_base.specs.declared.request.FetchRequest.{FetchRequest}
 use Rattle.world_base.specs.declared.target.TargetPlan.{TargetPlan}
-use Rattle.world_reads.specs.EntryLaws.{found-has, found-passes}
+use Rattle.daos_laws.specs.EntryLaws.{found-has, found-passes}
 use Rattle.world_turns.specs.Commits.{first_floor, first_later, or_else}
 use Rattle.world_turns.specs.Reads.{fetch_cause, later_of, uncertain_from, uncertain_to}
 

@@ -29,7 +29,7 @@ use Rattle.daos_model.specs.Stops.{restart_numbers}
 use Rattle.daos_model.specs.Transactions.{command_of, numbered, numbered_at, ops_or_none}
 use Rattle.world_base.specs.declared.world.World.{World}
 use Rattle.world_events.specs.Events.{Rules, commands_or_none}
-use Rattle.world_reads.specs.EntryLaws.{same-attempt}
+use Rattle.daos_laws.specs.EntryLaws.{same-attempt}
 use Rattle.world_causes.specs.Causes.{Causes, Dated, Shows, ShowsCause, ShowsLack, ShowsRead, ShowsSpent, ShowsWrite, blocks_of_decided, zeroth}
 use Rattle.world_causes.specs.Growth.{any-of, has-at}
 use Rattle.world_causes.specs.Premises.{IsPlain}

@@ -22,7 +22,7 @@ use Rattle.world_epochs.specs.TargetEvents.{only-target}
 use Rattle.world_events.specs.Events.{Rules}
 use Rattle.world_reads.specs.ChangeLaws.{entry-of-it}
 use Rattle.world_reads.specs.DecideLaws.{entry-among}
-use Rattle.world_reads.specs.EntryLaws.{same-attempt}
+use Rattle.daos_laws.specs.EntryLaws.{same-attempt}
 use Rattle.world_reads.specs.History.{History}
 use Rattle.world_reads.specs.Versions.{IsWriteAt, Versions}
 use Rattle.world_causes.specs.Growth.{any-of}

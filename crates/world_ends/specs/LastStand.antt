@@ -34,7 +34,7 @@ use Rattle.world_base.specs.declared.target.TargetState.{TargetState}
 use Rattle.world_base.specs.declared.world.World.{World}
 use Rattle.world_epochs.specs.Epochs.{Unsnapped}
 use Rattle.world_events.specs.Events.{Rules}
-use Rattle.world_reads.specs.EntryLaws.{found-has}
+use Rattle.daos_laws.specs.EntryLaws.{found-has}
 use Rattle.world_reads.specs.History.{History, counts_by, is_decided, transactions}
 use Rattle.world_reads.specs.Versions.{VersionsStand, is_own_in, mark_of}
 use Rattle.world_ends.specs.Decisions.{took-same_map}

@@ -55,7 +55,7 @@ use Rattle.world_lines.specs.Lines.{HasLines}
 use Rattle.world_lone.specs.Rising.{lines-rise, one-of-rising}
 use Rattle.world_reads.specs.ChangeLaws.{entry-of-it}
 use Rattle.world_reads.specs.DecideLaws.{entry-among, mark-low}
-use Rattle.world_reads.specs.EntryLaws.{same-attempt}
+use Rattle.daos_laws.specs.EntryLaws.{same-attempt}
 use Rattle.world_reads.specs.History.{History, counts_by, transactions}
 use Rattle.world_reads.specs.Versions.{IsWriteAt, VersionsStand, is_own_in, mark_of}
 use Rattle.world_talks.specs.AskLaws.{asked-is-request}

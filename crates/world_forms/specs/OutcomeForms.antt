@@ -31,7 +31,7 @@ use Rattle.daos_report.specs.Forms.{IsAccessOf, IsAttemptId, IsCauseOf, IsCond, 
 use Rattle.world_ends.specs.Ends.{is_try, rules_of}
 use Rattle.world_ends.specs.FormLaws.{command-plain}
 use Rattle.world_epochs.specs.Epochs.{Unsnapped, is_unsnapped}
-use Rattle.world_reads.specs.EntryLaws.{same-attempt}
+use Rattle.daos_laws.specs.EntryLaws.{same-attempt}
 use Rattle.world_forms.specs.Keyed.{ScriptHasKeys}
 use Rattle.world_forms.specs.PathForms.{any-all, attempt-paths, attempt-writes}
 use Rattle.world_forms.specs.SpaceForms.{space-form}

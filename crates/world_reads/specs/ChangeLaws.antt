@@ -13,7 +13,7 @@ use Rattle.daos_laws.specs.MatchLaws.{commits-keep, same-keep}
 use Rattle.daos_laws.specs.Members.{Has, contains-from_has, has-from_contains, has-from_map, has-map}
 use Rattle.daos_laws.specs.Targets.{ArePlaced}
 use Rattle.std.specs.Option.{option_map}
-use Rattle.world_reads.specs.EntryLaws.{find-map, found-passes, is-entry-committed, pairs-map, same-attempt}
+use Rattle.daos_laws.specs.EntryLaws.{find-map, found-passes, is-entry-committed, pairs-map, same-attempt}
 use Rattle.daos_model.specs.declared.durable.Durable.{Durable}
 use Rattle.daos_model.specs.declared.durable.Version.{Version}
 use Rattle.daos_model.specs.Changes.{committed_at, leased, settled}

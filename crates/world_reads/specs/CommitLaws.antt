@@ -34,7 +34,7 @@ use Rattle.world_base.specs.declared.target.TargetMemory.{TargetMemory}
 use Rattle.world_base.specs.declared.world.World.{World}
 use Rattle.world_events.specs.Events.{Rules, listed, target_plan}
 use Rattle.world_reads.specs.DecideLaws.{AreItsOwn, IsNewEntry, no-entry, old-decided}
-use Rattle.world_reads.specs.EntryLaws.{same-itself}
+use Rattle.daos_laws.specs.EntryLaws.{same-itself}
 use Rattle.world_reads.specs.FetchLaws.{issued-now, nothing-told}
 use Rattle.world_reads.specs.Given.{IsCommitRight, IsItsEpoch}
 use Rattle.world_reads.specs.History.{History, Served, decides}

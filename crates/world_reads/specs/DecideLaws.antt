@@ -34,7 +34,7 @@ use Rattle.daos_model.specs.Transactions.{attempt_ops}
 use Rattle.daos_model.specs.Versions.{version_of, version_path, versions_of}
 use Rattle.world_events.specs.Events.{Rules}
 use Rattle.world_reads.specs.ChangeLaws.{entry-of-it}
-use Rattle.world_reads.specs.EntryLaws.{find-new, find-put, found-has, has-put, has-puts, puts-has, same-attempt, same-itself}
+use Rattle.daos_laws.specs.EntryLaws.{find-new, find-put, found-has, has-put, has-puts, puts-has, same-attempt, same-itself}
 use Rattle.world_reads.specs.Given.{FitsTargets}
 use Rattle.world_reads.specs.History.{History, counts_by, decided_of, decides, is_attempt, is_decided, transactions}
 use Rattle.world_reads.specs.ListLaws.{find-none, pairs-from_rising, rising-news}

@@ -19,7 +19,7 @@ use Rattle.daos_model.specs.Ordered.{put}
 use Rattle.world_events.specs.Events.{Rules}
 use Rattle.world_reads.specs.ChangeLaws.{committed-open, entry-of-it, entry-settled, extends-stands, other-entry, apart-of, settles-stands}
 use Rattle.world_reads.specs.DecideLaws.{AreItsOwn, IsNewEntry, decides-stands, entry-among, entry-kept, entry-new, has-decided, new-decided, no-entry, old-decided, stays-apart}
-use Rattle.world_reads.specs.EntryLaws.{has-put, put-has, same-attempt}
+use Rattle.daos_laws.specs.EntryLaws.{has-put, put-has, same-attempt}
 use Rattle.world_reads.specs.History.{History, decides}
 use Rattle.world_reads.specs.Midway.{AreOpen, Holds}
 use Rattle.world_reads.specs.Versions.{IsWriteAt}

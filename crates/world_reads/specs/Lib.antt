@@ -5,7 +5,6 @@ pub mod Reads
 pub mod Adds
 pub mod Midway
 pub mod Given
-pub mod EntryLaws
 pub mod ListLaws
 pub mod PlaceLaws
 pub mod AsOfLaws

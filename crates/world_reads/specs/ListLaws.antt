@@ -18,7 +18,7 @@ use Rattle.daos_laws.specs.DecidedLaws.{all-from_has, has-all}
 use Rattle.daos_laws.specs.Members.{Has, has-from_filter, has-from_map, has-map}
 use Rattle.daos_laws.specs.RisingLaws.{after-has}
 use Rattle.daos_laws.specs.VersionLaws.{pairs-head, pairs-tail}
-use Rattle.world_reads.specs.EntryLaws.{has-puts}
+use Rattle.daos_laws.specs.EntryLaws.{has-puts}
 
 -- in a list that rises no two have one key
 pub pairs-from_rising : {T : Type 0} (key : T → List ℕ) (xs : List T) → is_rising key xs ≡ true → AllPairs (λ x y. key x ≢ key y) xs
