@@ -2,4 +2,4 @@
 #![tactic(auto)]
 
 pub mod between;
-mod lines;
+pub mod lines;

@@ -1,0 +1,4 @@
+mod Decided
+mod OneTurn
+mod Runs
+mod Taken
