@@ -4,11 +4,11 @@
 mod answers;
 mod changes;
 mod contents;
-mod keyed;
+pub mod keyed;
 mod plain;
-mod reads;
-mod rows;
+pub mod reads;
+pub mod rows;
 pub mod store;
 mod sweeps;
-mod tables;
+pub mod tables;
 mod trips;

@@ -1,0 +1,4 @@
+pub mod Starts
+pub mod Covering
+pub mod Asking
+mod Issuing

@@ -1,0 +1,3 @@
+-- Whether a target heard a Commit so.
+pub mod Ways
+pub mod Committed

@@ -1,0 +1,4 @@
+mod Stages
+mod Reading
+mod Asking
+mod Meeting

@@ -1,0 +1,160 @@
+-- A read goes on from one decided attempt to the next, and ends with its reply.
+use Rattle.std.proofs.Common.{ℕ, ◌≡◌, ◌≤◌, ◌+◌, refl, sym, ◌∙◌, ap, subst, List, Bool, true, false, Option, Some, None, arith}
+use Rattle.std.specs.Prelude.{filter}
+use Rattle.std.specs.Bool.{Decides}
+use Rattle.daos_base.specs.declared.entry.Settle.TheVariants.{Commit}
+use Rattle.daos_base.specs.declared.epoch.Epoch.{Epoch}
+use Rattle.daos_base.specs.declared.id.AttemptId.{AttemptId}
+use Rattle.daos_messages.specs.declared.actor.ActorId.{ActorId}
+use Rattle.daos_messages.specs.declared.message.Reply.{Reply}
+use Rattle.daos_model.specs.declared.durable.Durable.{Durable}
+use Rattle.daos_model.specs.Changes.{settled}
+use Rattle.target_core.specs.Meets.{memory_replied}
+use Rattle.world_base.specs.declared.did.Did.{Did}
+use Rattle.world_base.specs.declared.request.FetchRequest.{FetchRequest}
+use Rattle.world_base.specs.declared.target.TargetMemory.{TargetMemory}
+use Rattle.world_base.specs.declared.target.TargetPlan.{TargetPlan}
+use Rattle.world_base.specs.declared.target.TargetState.{TargetState}
+use Rattle.world_turns.specs.Changes.{Change, Kept, Settles, Steps}
+use Rattle.world_turns.specs.Reads.{FetchEnds, FetchNext, FetchStage, Reading, SettlesOwn, tells}
+use Rattle.world_turns.specs.Requests.{is_other_attempt}
+use Rattle.world_turns.specs.Turns.{Whole}
+use Rattle.replay_base.specs.Onward.{FreeAfter, Iff, Onward, keeps}
+use Rattle.replay_base.proofs.Starts.{AtOnce, First, Later, at_once, change_first, durable_is, first, free_least, free_more, iff_both}
+use Rattle.replay_fetch.specs.Fetched.{RepliesSo}
+use Rattle.replay_fetch.specs.Met.{IsInTheWay, IsReply, IsSettled, IsStuck, ReadsFrom, ReadsOn}
+use Rattle.replay_fetch.specs.declared.reads.Work.{Work}
+use Rattle.replay_fetch.proofs.Stages.{SettlesOne, ends_at, ends_with, next_at, one_reply, replied, stuck_unanswered, way_unanswered}
+
+module _ (t : TargetPlan) (m : TargetMemory) (reading : ℕ) (q : FetchRequest) (from : ActorId) where
+  abbrev Next : FetchStage → Kept → Option Change → FetchStage → Type 0
+  Next = FetchNext t m reading q
+
+  abbrev Ends : FetchStage → Kept → TargetMemory × Did → Type 0
+  Ends = FetchEnds t m reading q from
+
+  abbrev From : Epoch → List AttemptId → Durable → Bool → ℕ → Kept → TargetMemory × Did → Type 0
+  From e decided d changed free new left = Onward Next Ends (Reading e decided) d changed free new left
+
+  -- ---- a decided attempt is in the way
+
+  settles_on : (e : Epoch) (decided : List AttemptId) (d : Durable) (changed : Bool) (free : ℕ) (new : Kept) (left : TargetMemory × Did) (a : AttemptId) → IsInTheWay t q e d decided a
+      → From e decided d changed free new left → From e (filter (is_other_attempt a) decided) (settled a Commit d) true free new left
+  settles_on e decided d changed free new left a way w = by (first Next Ends (Reading e decided) (keeps d w.blocks) new left w.turn)
+    where
+      goes : (u : FetchStage) (n : Kept) → u ≡ Reading e (filter (is_other_attempt a) decided) → n.durable ≡ settled a Commit d → w.blocks ≤ n.free + 0 → Whole Next Ends u n new left
+          → From e (filter (is_other_attempt a) decided) (settled a Commit d) true free new left
+      goes u n there durable more rest =
+          let more' : w.blocks ≤ n.free = omega (arith, more) in
+          record {
+            blocks = n.free;
+            may = free_more changed free w.blocks n.free w.may more';
+            turn = subst (λ x. Whole Next Ends (Reading e (filter (is_other_attempt a) decided)) x new left) (durable_is n (settled a Commit d) durable) (subst (λ x. Whole Next Ends x n new left) there rest);
+          }
+
+      step : (o : Option Change) (u : FetchStage) (n : Kept) → SettlesOne t q e decided (keeps d w.blocks) o u → Steps o (keeps d w.blocks) n → Whole Next Ends u n new left
+          → From e (filter (is_other_attempt a) decided) (settled a Commit d) true free new left
+      step o u n s taken rest =
+          let here = way.meets in
+          let there = s.way.meets in
+          let same : s.a ≡ a = cc in
+          let made = subst (λ x. Steps x (keeps d w.blocks) n) s.change taken in
+          goes u n (s.there ∙ ap (λ x. Reading e (filter (is_other_attempt x) decided)) same) (made.0 ∙ ap (λ x. settled x Commit d) same) made.1 rest
+
+      by : First Next Ends (Reading e decided) (keeps d w.blocks) new left → From e (filter (is_other_attempt a) decided) (settled a Commit d) true free new left
+      by (AtOnce same ends) = (let r = ends_at t m reading q from (Reading e decided) (keeps d w.blocks) left ends in absurd (way_unanswered t m reading q from e (keeps d w.blocks) decided a r.r way r.is))
+      by (Later o u n next taken rest) = step o u n (next_at t m reading q from (Reading e decided) (keeps d w.blocks) o u next) taken rest
+
+  settles_back : (e : Epoch) (decided : List AttemptId) (d : Durable) (changed : Bool) (free : ℕ) (new : Kept) (left : TargetMemory × Did) (a : AttemptId) → IsInTheWay t q e d decided a
+      → From e (filter (is_other_attempt a) decided) (settled a Commit d) true free new left → From e decided d changed free new left
+  settles_back e decided d changed free new left a way w =
+      let least = free_least changed free w.blocks w.may in
+      let fewer : least.0 ≤ w.blocks + 0 = (let l = least.1.1 in omega (arith, l)) in
+      record {
+        blocks = least.0;
+        may = least.1.0;
+        turn = change_first Next Ends (Reading e decided) (Reading e (filter (is_other_attempt a) decided)) (keeps d least.0) (keeps (settled a Commit d) w.blocks) new left (Settles a Commit)
+            (SettlesOwn (keeps d least.0) e decided a way.free way.meets way.own) refl fewer w.turn;
+      }
+
+  pub settles_iff : (e : Epoch) (decided : List AttemptId) (d : Durable) (changed : Bool) (free : ℕ) (new : Kept) (left : TargetMemory × Did) (a : AttemptId) → IsInTheWay t q e d decided a
+      → Iff (From e decided d changed free new left) (From e (filter (is_other_attempt a) decided) (settled a Commit d) true free new left)
+  settles_iff e decided d changed free new left a way = (settles_on e decided d changed free new left a way, settles_back e decided d changed free new left a way)
+
+  -- ---- the reply
+
+  pub replies_back : (e : Epoch) (decided : List AttemptId) (d : Durable) (changed : Bool) (free : ℕ) (new : Kept) (left : TargetMemory × Did) (r : Reply) → IsReply t q e d decided r
+      → new.durable ≡ d → FreeAfter changed free new.free → left ≡ replied t m reading q from e decided r → From e decided d changed free new left
+  replies_back e decided d changed free new left r is durable may left_is = record {
+    blocks = new.free;
+    may = may;
+    turn = subst (λ x. Whole Next Ends (Reading e decided) (keeps d new.free) x left) (sym (durable_is new d durable))
+        (subst (Whole Next Ends (Reading e decided) (keeps d new.free) (keeps d new.free)) (sym left_is)
+        (at_once Next Ends (Reading e decided) (keeps d new.free) (replied t m reading q from e decided r) (ends_with t m reading q from e decided (keeps d new.free) r is)));
+  }
+
+  -- what it comes to
+  pub record Came (e : Epoch) (decided : List AttemptId) (d : Durable) (changed : Bool) (free : ℕ) (new : Kept) (left : TargetMemory × Did) : Type 0 where
+    pub r : Reply
+    pub is : IsReply t q e d decided r
+    pub durable : new.durable ≡ d
+    pub may : FreeAfter changed free new.free
+    pub left_is : left ≡ replied t m reading q from e decided r
+
+  pub comes : (e : Epoch) (decided : List AttemptId) (d : Durable) (changed : Bool) (free : ℕ) (new : Kept) (left : TargetMemory × Did) → ((a : AttemptId) → IsInTheWay t q e d decided a → ⊥)
+      → From e decided d changed free new left → Came e decided d changed free new left
+  comes e decided d changed free new left clear w = by (first Next Ends (Reading e decided) (keeps d w.blocks) new left w.turn)
+    where
+      by : First Next Ends (Reading e decided) (keeps d w.blocks) new left → Came e decided d changed free new left
+      by (AtOnce same ends) =
+          let r = ends_at t m reading q from (Reading e decided) (keeps d w.blocks) left ends in
+          record {
+            r = r.r;
+            is = r.is;
+            durable = ap (λ k. k.durable) same;
+            may = subst (λ n. FreeAfter changed free n) (sym (ap (λ k. k.free) same)) w.may;
+            left_is = r.left_is;
+          }
+      by (Later o u n next taken rest) = (let s = next_at t m reading q from (Reading e decided) (keeps d w.blocks) o u next in absurd (clear s.a s.way))
+
+  -- where a reply is to be given, a turn ends with it
+  pub reply_decides : (e : Epoch) (w : Work) (s new : TargetState) (did : Did) (r : Reply) → m ≡ s.memory → IsReply t q e w.durable w.decided.items r → (yes : Bool) → Decides yes (RepliesSo from q e w r s new did)
+      → Decides yes (From e w.decided.items w.durable w.changed s.free (keeps new.durable new.free) (new.memory, did))
+  reply_decides e w s new did r own is yes same = (
+    λ h.
+        let so = same.0 h in
+        replies_back e w.decided.items w.durable w.changed s.free (keeps new.durable new.free) (new.memory, did) r is so.durable so.free
+        (so.left ∙ ap (λ x. (memory_replied q e w.decided.items r x, tells q from e r)) (sym own)),
+    λ f.
+        let c = comes e w.decided.items w.durable w.changed s.free (keeps new.durable new.free) (new.memory, did) (λ a way. way_unanswered t m reading q from e (keeps w.durable 0) w.decided.items a r way is) f in
+        let same_reply : c.r ≡ r = one_reply t m reading q from e (keeps w.durable 0) w.decided.items r c.r is c.is in
+        same.1 (record {
+          durable = c.durable;
+          free = c.may;
+          left = c.left_is ∙ ap (λ x. (memory_replied q e w.decided.items x m, tells q from e x)) same_reply ∙ ap (λ x. (memory_replied q e w.decided.items r x, tells q from e r)) own;
+        }),
+  )
+
+  -- where a read doesn't go on, there is no turn
+  pub stuck_none : (e : Epoch) (decided : List AttemptId) (d : Durable) (changed : Bool) (free : ℕ) (new : Kept) (left : TargetMemory × Did) → IsStuck t q e d → From e decided d changed free new left → ⊥
+  stuck_none e decided d changed free new left stuck f =
+      let c = comes e decided d changed free new left (λ a way. stuck.unmet a way.meets) f in
+      stuck_unanswered t m reading q from e (keeps d 0) decided c.r stuck c.is
+
+-- ---- as the code says it
+
+pub none_decides : {P : Type 0} → (P → ⊥) → Decides false P
+none_decides no = (λ e. let n : ⊥ = cc in absurd n, λ p. absurd (no p))
+
+pub settled_on : (t : TargetPlan) (q : FetchRequest) (e : Epoch) (old mid new : Work) (a : AttemptId) → IsInTheWay t q e mid.durable mid.decided.items a → IsSettled a mid new → ReadsOn t q e old mid → ReadsOn t q e old new
+settled_on t q e old mid new a way is on m from free reading k left =
+    let goes : Iff (ReadsFrom t q e m from mid free reading k left) (Onward (FetchNext t m reading q) (FetchEnds t m reading q from) (Reading e (filter (is_other_attempt a) mid.decided.items)) (settled a Commit mid.durable) true free k left) =
+    settles_iff t m reading q from e mid.decided.items mid.durable mid.changed free k left a way in
+    let there : Iff (ReadsFrom t q e m from mid free reading k left) (ReadsFrom t q e m from new free reading k left) =
+    subst (λ x. Iff (ReadsFrom t q e m from mid free reading k left) (Onward (FetchNext t m reading q) (FetchEnds t m reading q from) (Reading e new.decided.items) new.durable x free k left)) (sym is.changed)
+    (subst (λ x. Iff (ReadsFrom t q e m from mid free reading k left) (Onward (FetchNext t m reading q) (FetchEnds t m reading q from) (Reading e new.decided.items) x true free k left)) (sym is.durable)
+    (subst (λ x. Iff (ReadsFrom t q e m from mid free reading k left) (Onward (FetchNext t m reading q) (FetchEnds t m reading q from) (Reading e x) (settled a Commit mid.durable) true free k left)) (sym is.decided) goes)) in
+    iff_both (on m from free reading k left) there
+
+pub decides_on : {P Q : Type 0} (yes : Bool) → Iff P Q → Decides yes Q → Decides yes P
+decides_on yes iff same = (λ h. iff.1 (same.0 h), λ p. same.1 (iff.0 p))
