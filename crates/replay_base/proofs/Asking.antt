@@ -37,7 +37,7 @@ module _ {S : Type 0} (request : ℕ → Option Epoch) (Next : ℕ → S → Kep
     (unissued : spent.1.issued ≡ None)
     (issues : (reading : ℕ) (e : Epoch) (k new : Kept) (r : TargetMemory × Did) → Whole (Next reading) (Ends reading) (known e) k new r → r.1.issued ≡ issued_for x ep e) where
 
-  HearsSo : Kept → Kept → TargetMemory × Did → Type 0
+  abbrev pub HearsSo : Kept → Kept → TargetMemory × Did → Type 0
   HearsSo k new r = (reading : ℕ) × Whole (Next reading) (Ends reading) asked k new r
 
   -- the epoch that a turn began with is the one that is told

@@ -1,12 +1,18 @@
 -- The lease is extended where it doesn't cover an epoch, and then the turn goes on.
 use Rattle.std.proofs.Common.{ℕ, ◌≡◌, ◌≤◌, ◌<◌, ◌+◌, refl, sym, ◌∙◌, ap, subst, Bool, true, false, Option, Some, None, arith}
+use Rattle.std.specs.Bool.{Decides}
 use Rattle.daos_base.specs.Epochs.{lease_for}
 use Rattle.daos_model.specs.declared.durable.Durable.{Durable}
 use Rattle.daos_model.specs.Changes.{leased}
 use Rattle.world_turns.specs.Changes.{Change, Extends, Kept, Steps}
 use Rattle.world_turns.specs.Turns.{Whole}
+use Rattle.replay_base.specs.declared.leases.Covered.{Covered}
+use Rattle.replay_base.specs.Leases.{Already, Extended, IsCovered, Never}
 use Rattle.replay_base.specs.Onward.{FreeAfter, Iff, Onward, keeps}
 use Rattle.replay_base.proofs.Starts.{AtOnce, First, Later, change_first, durable_is, first, free_least, free_more, silent_first}
+
+abbrev covered_as : Durable → Bool → Covered
+covered_as d extended = record { durable = d; extended = extended }
 
 -- a step where the lease is to cover ticks: it is extended, or covers them already
 pub data CoverStep {S : Type 0} (ticks : ℕ) (known onto : S) (k : Kept) : Option Change → S → Type 0 where
@@ -94,3 +100,23 @@ module _ {S R : Type 0} (Next : S → Kept → Option Change → S → Type 0) (
       by : First Next Ends known (keeps d w.blocks) new r → ⊥
       by (AtOnce same ends) = goes (keeps d w.blocks) r ends
       by (Later o u m next taken rest) = step o u (step_is (keeps d w.blocks) o u next)
+
+  -- as it is computed
+  pub cover_decides : (d : Durable) (free : ℕ) (new : Kept) (r : R) (c : Covered) → IsCovered ticks d (Some c) → (yes : Bool) → Decides yes (Onward Next Ends onto c.durable c.extended free new r) → Decides yes (Onward Next Ends known d false free new r)
+  cover_decides d free new r c is yes same = by is
+    where
+      on : (x : Covered) → x ≡ c → Iff (Onward Next Ends known d false free new r) (Onward Next Ends onto x.durable x.extended free new r) → Decides yes (Onward Next Ends known d false free new r)
+      on x at iff =
+          let there : Iff (Onward Next Ends known d false free new r) (Onward Next Ends onto c.durable c.extended free new r) =
+          subst (λ y. Iff (Onward Next Ends known d false free new r) (Onward Next Ends onto y.durable y.extended free new r)) at iff in
+          (λ h. there.1 (same.0 h), λ p. same.1 (there.0 p))
+
+      by : IsCovered ticks d (Some c) → Decides yes (Onward Next Ends known d false free new r)
+      by (Already le at) = (let here : covered_as d false ≡ c = cc in on (covered_as d false) here (covered_already d false free new r le))
+      by (Extended lease low at covers there) = (let here : covered_as (leased lease d) true ≡ c = cc in on (covered_as (leased lease d) true) here (covered_by d false free new r lease low at covers))
+      by (Never low none at) = (let no : ⊥ = cc in absurd no)
+
+  pub cover_none : (d : Durable) (free : ℕ) (new : Kept) (r : R) → IsCovered ticks d None → Onward Next Ends known d false free new r → ⊥
+  cover_none d free new r (Already le at) w = (let no : ⊥ = cc in no)
+  cover_none d free new r (Extended lease low at covers there) w = (let no : ⊥ = cc in no)
+  cover_none d free new r (Never low none at) w = covered_never d false free new r low none w

@@ -1,13 +1,18 @@
 -- Which ticks a clock can issue, whatever it reads.
 use Rattle.std.proofs.Common.{ℕ, ◌≡◌, ◌≤◌, ◌<◌, ◌+◌, ◌*◌, ◌/◌, ◌%◌, ◌^◌, refl, sym, ◌∙◌, ap, subst, Bool, true, false, nat_le, Option, Some, None, ◌⊎◌, inl, inr, arith}
 use Rattle.std.specs.Prelude.{if◌then◌else◌, max, min}
+use Rattle.std.specs.Bool.{Decides}
 use Rattle.std.specs.Option.{option_map}
 use Rattle.std.proofs.lemmas.Bool.Decides.{nat_tests}
 use Rattle.daos_base.specs.declared.epoch.Epoch.{Epoch}
+use Rattle.daos_base.specs.declared.id.AttemptId.{AttemptId}
 use Rattle.daos_base.specs.Epochs.{epoch_at, issued_ticks, last_ticks}
 use Rattle.daos_hlc.specs.Clock.{next_ticks, within_last}
-use Rattle.world_turns.specs.Requests.{epoch_of_ticks}
+use Rattle.world_base.specs.declared.target.TargetMemory.{TargetMemory}
+use Rattle.world_base.specs.declared.target.TargetPlan.{TargetPlan}
+use Rattle.world_turns.specs.Requests.{epoch_of_ticks, request_epoch}
 use Rattle.replay_base.specs.Issuing.{CanIssue, least_ticks}
+use Rattle.replay_base.specs.Requested.{AsksAt, TellsEpoch, epoch_of_issue}
 
 -- ---- ticks within the last ones
 
@@ -117,3 +122,61 @@ is_issued me ticks tracker e small can = by (within_last (issued_ticks ticks can
         let w = some_within (issued_ticks ticks can.0 tracker.0) n is in
         let same : epoch_of_ticks me n ≡ e = cc in
         made n w.0 (subst (λ x. x ≤ last_ticks) w.0 w.1) (ap (λ x. x.0) same)
+
+-- ---- as the code tests it
+
+pub spent_so : (t : TargetPlan) (m : TargetMemory) (tracker : Epoch) → least_ticks m.ticks tracker.0 ≡ None → (reading : ℕ) × (request_epoch t m reading tracker None ≡ None)
+spent_so t m tracker none = (0, ap (option_map (epoch_of_ticks t.me)) (spent_whatever t.me m.ticks tracker.0 0 none))
+
+unmapped : (me : ℕ) (o : Option ℕ) → option_map (epoch_of_ticks me) o ≡ None → o ≡ None
+unmapped me None is = refl
+unmapped me (Some n) is = absurd (let no : ⊥ = cc in no)
+
+pub unspent : (t : TargetPlan) (m : TargetMemory) (tracker : Epoch) (least : ℕ) → least_ticks m.ticks tracker.0 ≡ Some least → (reading : ℕ) × (request_epoch t m reading tracker None ≡ None) → ⊥
+unspent t m tracker least some spent =
+    let gone = spent_always t.me m.ticks tracker.0 spent.0 (unmapped t.me (next_ticks (record { target = t.me; ticks = m.ticks }) spent.0 tracker.0) spent.1) in
+    let no : ⊥ = cc in no
+
+pub never_issued : (me ticks : ℕ) (tracker e : Epoch) → me < 256 → least_ticks ticks tracker.0 ≡ None → CanIssue me ticks tracker e → ⊥
+never_issued me ticks tracker e small none can =
+    let i = is_issued me ticks tracker e small can in
+    let some = i.some in
+    let no : ⊥ = cc in no
+
+pub issue_decides : (me ticks least : ℕ) (tracker e : Epoch) (yes : Bool) → me < 256 → least_ticks ticks tracker.0 ≡ Some least
+    → Decides yes ((e.0 % 256 ≡ me) × ((e.0 / 256 ≡ least) ⊎ ((least < e.0 / 256) × (e.0 / 256 ≤ 2 ^ 55)))) → Decides yes (CanIssue me ticks tracker e)
+issue_decides me ticks least tracker e yes small some same = (
+  λ h.
+      let k = same.0 h in
+      kind k.0 k.1,
+  λ can.
+      let i = is_issued me ticks tracker e small can in
+      let its = i.some in
+      let least_is : i.least ≡ least = cc in
+      same.1 (i.own, subst (λ n. (e.0 / 256 ≡ n) ⊎ ((n < e.0 / 256) × (e.0 / 256 ≤ 2 ^ 55))) least_is i.kind),
+)
+  where
+    kind : e.0 % 256 ≡ me → (e.0 / 256 ≡ least) ⊎ ((least < e.0 / 256) × (e.0 / 256 ≤ 2 ^ 55)) → CanIssue me ticks tracker e
+    kind own (inl at) = issues_least me ticks least tracker e some own at
+    kind own (inr above) = issues_read me ticks least tracker e some own above.0 above.1
+
+-- ---- the epoch of a request
+
+pub asks_own : (t : TargetPlan) (m : TargetMemory) (tracker : Epoch) (ep : Option Epoch) (own e : Epoch) (yes : Bool) → ep ≡ Some own → Decides yes (own ≡ e) → Decides yes (AsksAt (λ reading. request_epoch t m reading tracker ep) e)
+asks_own t m tracker ep own e yes is same = (
+  λ h. (0, ap (request_epoch t m 0 tracker) is ∙ ap Some (same.0 h)),
+  λ asks.
+      let one : Some own ≡ Some e = sym (ap (request_epoch t m asks.0 tracker) is) ∙ asks.1 in
+      let its : own ≡ e = cc in
+      same.1 its,
+)
+
+pub asks_issued : (t : TargetPlan) (m : TargetMemory) (tracker : Epoch) (ep : Option Epoch) (e : Epoch) (yes : Bool) → ep ≡ None → Decides yes (CanIssue t.me m.ticks tracker e) → Decides yes (AsksAt (λ reading. request_epoch t m reading tracker ep) e)
+asks_issued t m tracker ep e yes is same = (
+  λ h. (let can = same.0 h in (can.0, ap (request_epoch t m can.0 tracker) is ∙ can.1)),
+  λ asks. same.1 (asks.0, sym (ap (request_epoch t m asks.0 tracker) is) ∙ asks.1),
+)
+
+pub tells_issued : (ep : Option Epoch) (issued : Option (AttemptId × Epoch)) (o : Option Epoch) → ep ≡ None → o ≡ epoch_of_issue issued → TellsEpoch ep issued o
+tells_issued ep None o none is = subst (TellsEpoch ep None) (sym is) (none, refl)
+tells_issued ep (Some i) o none is = subst (TellsEpoch ep (Some i)) (sym is) (inr (none, (i.0, refl)))

@@ -1,4 +1,5 @@
 pub mod Starts
 pub mod Covering
 pub mod Asking
-mod Issuing
+pub mod Idling
+pub mod Issuing

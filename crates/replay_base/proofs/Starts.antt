@@ -1,9 +1,13 @@
 -- A turn from its first step on.
-use Rattle.std.proofs.Common.{ℕ, ◌≡◌, ◌≤◌, ◌+◌, ◌++◌, refl, sym, ap, subst, List, [], Bool, true, false, Option, Some, None, ◌∙◌, arith}
+use Rattle.std.proofs.Common.{Ok, Err, Result, ℕ, ◌≡◌, ◌≤◌, ◌+◌, ◌++◌, refl, sym, ap, subst, List, [], Bool, true, false, Option, Some, None, ◌∙◌, arith}
+use Rattle.std.specs.Prelude.{IfOk}
+use Rattle.std.specs.Bool.{Decides}
 use Rattle.daos_model.specs.declared.durable.Durable.{Durable}
 use Rattle.world_turns.specs.Changes.{Change, Kept, Steps, cost, made}
 use Rattle.world_turns.specs.Turns.{Here, More, Path, Reached, Whole}
 use Rattle.target_core.proofs.Turning.{reached_change, reached_none, reached_silent, whole, whole_on}
+use Rattle.replay_base.specs.Leases.{IsCovered}
+use Rattle.replay_base.specs.declared.leases.Covered.{Covered}
 use Rattle.replay_base.specs.Onward.{FreeAfter, Iff, Onward, keeps}
 
 -- ---- the first step
@@ -76,3 +80,22 @@ whole_onward Next Ends s k new r = (
 
 pub iff_both : {P Q R : Type 0} → Iff P Q → Iff Q R → Iff P R
 iff_both a b = (λ p. b.0 (a.0 p), λ r. a.1 (b.1 r))
+
+-- ---- as the code says it
+
+pub if_ok : {T E : Type 0} (P Q : T → Type 0) (r : Result T E) → ((x : T) → P x → Q x) → IfOk r P → IfOk r Q
+if_ok P Q (Ok x) goes p = goes x p
+if_ok P Q (Err e) goes p = p
+
+pub none_so : {P : Type 0} → (P → ⊥) → Decides false P
+none_so no = (λ e. let n : ⊥ = cc in absurd n, λ p. absurd (no p))
+
+pub all_so : {P : Type 0} → P → Decides true P
+all_so p = (λ e. p, λ q. refl)
+
+-- the same test of equal facts
+pub covered_of : (ticks ticks' : ℕ) (d d' : Durable) (o : Option Covered) (c : Covered) → ticks ≡ ticks' → d ≡ d' → IsCovered ticks d o → o ≡ Some c → IsCovered ticks' d' (Some c)
+covered_of ticks ticks' d d' o c at_ticks at_d is here = subst (λ n. IsCovered n d' (Some c)) at_ticks (subst (λ x. IsCovered ticks x (Some c)) at_d (subst (IsCovered ticks d) here is))
+
+pub uncovered_of : (ticks ticks' : ℕ) (d d' : Durable) (o : Option Covered) → ticks ≡ ticks' → d ≡ d' → IsCovered ticks d o → o ≡ None → IsCovered ticks' d' None
+uncovered_of ticks ticks' d d' o at_ticks at_d is here = subst (λ n. IsCovered n d' None) at_ticks (subst (λ x. IsCovered ticks x None) at_d (subst (IsCovered ticks d) here is))

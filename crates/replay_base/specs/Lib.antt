@@ -3,3 +3,5 @@ pub mod Onward
 pub mod Requested
 pub mod Issuing
 pub mod Leases
+pub mod Heard
+pub mod Idles

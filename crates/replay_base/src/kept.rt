@@ -1,12 +1,11 @@
 // What a target keeps, again, and with an attempt settled.
-ghost use Rattle.std.specs.Prelude.{◌≡◌, true, IfOk};
-ghost use Rattle.std.specs.List.{list_all};
+ghost use Rattle.std.specs.Prelude.{◌≡◌, IfOk};
 ghost use Rattle.daos_base.specs.declared.entry.Settle.TheVariants.{Commit};
 ghost use Rattle.daos_model.specs.Changes.{settled};
-ghost use Rattle.daos_model.specs.Durables.{is_version_in_form};
 
 use daos_base::id::AttemptId;
 use daos_base::items::{Items, Memory};
+use daos_base::shown::Shown;
 use daos_model::durable::Durable;
 use std::alloc::Global;
 use vos_plain::rows::settle_all;
@@ -26,10 +25,10 @@ pub fn copy_kept(alloc: Global, durable: &Durable) -> Result<Durable, Memory>
     })
 }
 
-/// What is kept once an attempt is committed. Its versions are the same writes, and so stay in form.
+/// What is kept once an attempt is committed.
 #[tactic(auto, unfolding(daos_model::specs::Changes::settled))]
 pub fn settled(durable: Durable, attempt: AttemptId) -> Durable
-    ensures kept { result ≡ settled attempt Commit durable }
+    ensures { result ≡ settled attempt Commit durable }
 {
     let Durable {
         versions,
@@ -51,4 +50,15 @@ pub fn settled(durable: Durable, attempt: AttemptId) -> Durable
         lease,
         incarnation,
     }
+}
+
+/// The same reads again.
+pub fn copy_reads(alloc: Global, reads: &[Shown]) -> Result<Items<Shown>, Memory>
+    ensures { IfOk result (λ copy. copy ≡ reads.now) }
+{
+    let mut copy = Vec::with_capacity(alloc, reads.len())?;
+    for read in reads {
+        copy.push(read.copy()?)?;
+    }
+    Ok(Items::from_vec(copy))
 }

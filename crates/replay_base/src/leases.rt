@@ -21,7 +21,7 @@ fn leased(durable: Durable, lease: u64) -> Durable
 }
 
 /// What a target keeps once its lease covers these ticks; none where no lease covers them.
-pub fn covered(durable: Durable, ticks: u64) -> Option<Covered>
+pub fn cover(durable: Durable, ticks: u64) -> Option<Covered>
     ensures { IsCovered ticks durable result }
 {
     if ticks <= durable.lease {

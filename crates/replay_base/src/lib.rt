@@ -4,6 +4,7 @@
 
 pub mod epochs;
 pub mod free;
+pub mod idle;
 pub mod kept;
 pub mod leases;
 pub mod told;

@@ -1,16 +1,18 @@
 // What follows from a turn that answers one who asked, and the comparison with what is told.
 ghost use Rattle.std.specs.Prelude.{◌≡◌, None, IfOk, Decides};
-ghost use Rattle.replay_base.specs.Onward.{keeps};
+ghost use Rattle.replay_base.specs.Onward.{FreeAfter, keeps};
 ghost use Rattle.replay_base.specs.Requested.{SpentSo};
 ghost use Rattle.world_turns.specs.Requests as asked;
 
 use crate::epochs::is_spent;
+use crate::free::is_free;
 
 use daos_base::epoch::Epoch;
 use daos_base::id::AttemptId;
 use daos_base::items::{Items, Memory};
 use daos_messages::actor::ActorId;
 use daos_messages::message::{Message, Post};
+use daos_model::durable::Durable;
 use std::alloc::Global;
 use world_base::did::Did;
 use world_base::target::{TargetMemory, TargetPlan, TargetState};
@@ -60,6 +62,13 @@ pub fn is_left(memory: &TargetMemory, did: &Did, expected: &TargetMemory, told: 
     memory.is_same(expected) && is_same_did(did, told)
 }
 
+// Whether a target keeps the same as before, and as many blocks are free.
+fn is_kept(before: &TargetState, after: &TargetState) -> bool
+    ensures { Decides result (keeps after.now.durable after.now.free ≡ keeps before.now.durable before.now.free) }
+{
+    after.durable.is_same(&before.durable) && after.free == before.free
+}
+
 /// Whether no ticks are left for a request without an epoch, so that a target stays as it was, and this
 /// follows.
 pub fn is_spent_so(
@@ -73,8 +82,36 @@ pub fn is_spent_so(
     ensures { Decides result (SpentSo (λ reading. asked.request_epoch plan before.now.memory reading tracker None) (keeps before.now.durable before.now.free)
         (keeps after.now.durable after.now.free) (before.now.memory, told.now) (after.now.memory, did.now)) }
 {
-    is_spent(plan.me, before.memory.ticks, tracker)
-        && after.durable.is_same(&before.durable)
-        && after.free == before.free
+    is_spent(plan, &before.memory, tracker)
+        && is_kept(before, after)
         && is_left(&after.memory, did, &before.memory, told)
+}
+
+/// Nothing follows.
+pub fn nothing(alloc: Global) -> Did
+    ensures { result ≡ asked.nothing_follows }
+{
+    Did {
+        posts: Items::new(alloc),
+        lines: Items::new(alloc),
+        issued: None,
+    }
+}
+
+/// Whether a target was left with this, after changes that take no free blocks or after none, and this
+/// followed.
+pub fn is_left_with(
+    before: &TargetState,
+    after: &TargetState,
+    did: &Did,
+    durable: &Durable,
+    changed: bool,
+    memory: &TargetMemory,
+    told: &Did,
+) -> bool
+    ensures { Decides result ((after.now.durable ≡ durable.now) × (FreeAfter changed before.now.free after.now.free × ((after.now.memory, did.now) ≡ (memory.now, told.now)))) }
+{
+    after.durable.is_same(durable)
+        && is_free(changed, before.free, after.free)
+        && is_left(&after.memory, did, memory, told)
 }

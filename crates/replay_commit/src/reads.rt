@@ -61,7 +61,7 @@ fn is_served(stamps: &[Shown], read: &Shown) -> bool
 fn is_shown(path: &Path, epoch: Epoch, stamps: &[Shown], read: &Shown) -> bool
     ensures { Decides result (IsShown path.now epoch.0 stamps.now read.now) }
 {
-    epoch.0 < read.epoch.0 && path.near(&read.path) && is_served(stamps, read)
+    is_served(stamps, read) && epoch.0 < read.epoch.0 && path.near(&read.path)
 }
 
 /// Whether a read may be shown for the first of these writes that one stands against.

@@ -1,5 +1,5 @@
 // How a target ends a Commit whose epoch the lease covers: its ways, by the outcome that is told.
-ghost use Rattle.std.specs.Prelude.{◌≡◌, IfOk, Decides};
+ghost use Rattle.std.specs.Prelude.{◌≡◌, ◌&&◌, IfOk, Decides};
 ghost use Rattle.std.specs.Option.{option_copied};
 ghost use Rattle.daos_base.specs.declared.outcome.Outcome.TheVariants as outcome;
 ghost use Rattle.daos_model.specs.Forms.{AreWritesInForm};
@@ -17,11 +17,13 @@ use daos_base::outcome::{Cause, Outcome};
 use daos_messages::actor::ActorId;
 use daos_messages::message::{Message, Post};
 use daos_model::blocks::blocks;
-use replay_base::free::is_free;
+use daos_model::durable::Durable;
+use replay_base::kept::copy_reads;
 use replay_base::leases::Covered;
-use replay_base::told::{is_left, issued_for, says};
+use replay_base::told::{is_left, is_left_with, issued_for, says};
 use std::alloc::Global;
 use target_core::decided::put;
+use vos_plain::tables::copied;
 use world_base::did::Did;
 use world_base::request::CommitRequest;
 use world_base::target::{TargetMemory, TargetPlan, TargetState};
@@ -71,13 +73,17 @@ fn ends_at(
 }
 
 // What a target knows once it heard of an epoch.
-fn with_ticks(memory: &TargetMemory, epoch: Epoch) -> Result<TargetMemory, Memory>
+fn with_ticks(
+    alloc: Global,
+    memory: &TargetMemory,
+    epoch: Epoch,
+) -> Result<TargetMemory, Memory>
     ensures { IfOk result (λ after. after ≡ asked.with_ticks epoch memory.now) }
 {
     Ok(TargetMemory {
         ticks: memory.ticks.max(epoch.ticks()),
-        stamps: memory.stamps.copy()?,
-        decided: memory.decided.copy()?,
+        stamps: copy_reads(alloc, memory.stamps.as_slice())?,
+        decided: Items::from_vec(copied(alloc, memory.decided.as_slice())?),
     })
 }
 
@@ -100,6 +106,13 @@ fn with_decided(attempt: AttemptId, memory: TargetMemory) -> Result<TargetMemory
     })
 }
 
+// Whether both hold.
+fn both(one: bool, other: bool) -> bool
+    ensures { result ≡ (one && other) }
+{
+    one && other
+}
+
 // Whether the writes are refused so for this cause.
 fn refuses_so(
     alloc: Global,
@@ -116,7 +129,7 @@ fn refuses_so(
     ensures { IfOk result (λ yes. Decides yes (RefusesSo plan from request.now epoch start.now before.now after.now did.now cause.now)) }
 {
     let told = ends_at(alloc, from, request, epoch, Outcome::Restart(cause.copy()?))?;
-    let memory = with_ticks(&before.memory, epoch)?;
+    let memory = with_ticks(alloc, &before.memory, epoch)?;
     let refused = is_refused_by(
         plan,
         before.opening,
@@ -127,12 +140,16 @@ fn refuses_so(
         request.writes.as_slice(),
         cause,
     )?;
-    Ok(
-        refused
-            && after.durable.is_same(&start.durable)
-            && is_free(start.extended, before.free, after.free)
-            && is_left(&after.memory, did, &memory, &told),
-    )
+    let left = is_left_with(
+        before,
+        after,
+        did,
+        &start.durable,
+        start.extended,
+        &memory,
+        &told,
+    );
+    Ok(both(refused, left))
 }
 
 // Whether the writes of a request are allowed.
@@ -174,14 +191,18 @@ fn lacks_space_so(
     let need = blocks(request.writes.as_slice());
     let outcome = no_space(plan.me, need, after.free);
     let told = ends_at(alloc, from, request, epoch, outcome)?;
-    let memory = with_ticks(&before.memory, epoch)?;
-    Ok(
-        allows(plan, request, epoch, start, before)?
-            && after.durable.is_same(&start.durable)
-            && is_free(start.extended, before.free, after.free)
-            && after.free < need
-            && is_left(&after.memory, did, &memory, &told),
-    )
+    let memory = with_ticks(alloc, &before.memory, epoch)?;
+    let allowed = allows(plan, request, epoch, start, before)?;
+    let left = is_left_with(
+        before,
+        after,
+        did,
+        &start.durable,
+        start.extended,
+        &memory,
+        &told,
+    );
+    Ok(both(both(allowed, after.free < need), left))
 }
 
 // The attempt ends for want of space.
@@ -201,6 +222,24 @@ fn is_stored_free(extended: bool, need: u32, before: u32, after: u32) -> bool
     } else {
         need <= before && fits
     }
+}
+
+// Whether a target was left with this once writes were stored, and this followed.
+fn is_stored_with(
+    before: &TargetState,
+    after: &TargetState,
+    did: &Did,
+    durable: &Durable,
+    extended: bool,
+    need: u32,
+    memory: &TargetMemory,
+    told: &Did,
+) -> bool
+    ensures { Decides result ((after.now.durable ≡ durable.now) × (StoresFree extended need before.now.free after.now.free × ((after.now.memory, did.now) ≡ (memory.now, told.now)))) }
+{
+    after.durable.is_same(durable)
+        && is_stored_free(extended, need, before.free, after.free)
+        && is_left(&after.memory, did, memory, told)
 }
 
 // The entry of an attempt that this target leads and is the only member of.
@@ -234,17 +273,13 @@ fn stores_so(
 {
     let need = blocks(request.writes.as_slice());
     let told = ends_at(alloc, from, request, epoch, Outcome::Committed)?;
-    let memory = with_decided(request.attempt, with_ticks(&before.memory, epoch)?)?;
+    let memory = with_decided(request.attempt, with_ticks(alloc, &before.memory, epoch)?)?;
     let allowed = allows(plan, request, epoch, &start, before)?;
     let Covered { durable, extended } = start;
     let entry = lone_entry(plan, request, epoch);
     let stored = prepared(alloc, durable, entry, request.writes.as_slice())?;
-    Ok(
-        allowed
-            && after.durable.is_same(&stored)
-            && is_stored_free(extended, need, before.free, after.free)
-            && is_left(&after.memory, did, &memory, &told),
-    )
+    let left = is_stored_with(before, after, did, &stored, extended, need, &memory, &told);
+    Ok(both(allowed, left))
 }
 
 /// Whether a target whose lease covers the epoch ends a Commit so, in the way of the outcome that is

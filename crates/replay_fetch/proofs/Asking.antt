@@ -6,7 +6,6 @@ use Rattle.daos_base.specs.declared.id.AttemptId.{AttemptId}
 use Rattle.daos_messages.specs.declared.actor.ActorId.{ActorId}
 use Rattle.daos_model.specs.declared.durable.Durable.{Durable}
 use Rattle.daos_model.specs.BoolLaws.{clash}
-use Rattle.daos_model.specs.Changes.{leased}
 use Rattle.world_base.specs.declared.did.Did.{Did}
 use Rattle.world_base.specs.declared.request.FetchRequest.{FetchRequest}
 use Rattle.world_base.specs.declared.target.TargetMemory.{TargetMemory}
@@ -16,11 +15,11 @@ use Rattle.world_turns.specs.Reads.{Asked, AtSnapshot, ExtendsLease, FetchEnds, 
 use Rattle.world_turns.specs.Requests.{issued_for, request_epoch}
 use Rattle.world_turns.specs.Turns.{Whole}
 use Rattle.replay_base.specs.Leases as lease
-use Rattle.replay_base.specs.Onward.{Iff, Onward, keeps}
-use Rattle.replay_base.specs.Requested.{AsksAt, IsToldEpoch, SpentSo}
+use Rattle.replay_base.specs.Onward.{Onward}
+use Rattle.replay_base.specs.Requested.{AsksAt, IsToldEpoch, SpentSo, TellsEpoch}
 use Rattle.replay_base.specs.declared.leases.Covered.{Covered}
 use Rattle.replay_base.proofs.Asking.{Begins, keeps_on, known_decides, known_not, spent_decides}
-use Rattle.replay_base.proofs.Covering.{CoverStep, Covering, Extending, covered_already, covered_by, covered_never}
+use Rattle.replay_base.proofs.Covering.{CoverStep, Covering, Extending, cover_decides, cover_none}
 use Rattle.replay_base.proofs.Starts.{AtOnce, First, Later, first, silent_first, whole_onward}
 use Rattle.replay_fetch.proofs.Stages.{EndsAt, ends_at, NextAt, next_at, spent}
 
@@ -59,31 +58,12 @@ module _ (t : TargetPlan) (m : TargetMemory) (reading : ℕ) (q : FetchRequest) 
   pub covered_decides : (e : Epoch) (d : Durable) (free : ℕ) (new : Kept) (left : TargetMemory × Did) (c : Covered) → lease.IsCovered (e.0 / 256) d (Some c) → (yes : Bool)
       → Decides yes (Onward (FetchNext t m reading q) (FetchEnds t m reading q from) (Reading e m.decided) c.durable c.extended free new left)
       → Decides yes (Onward (FetchNext t m reading q) (FetchEnds t m reading q from) (Known e) d false free new left)
-  covered_decides e d free new left c is yes same = by is
-    where
-      on : (x : Covered) → x ≡ c → Iff (Onward (FetchNext t m reading q) (FetchEnds t m reading q from) (Known e) d false free new left) (Onward (FetchNext t m reading q) (FetchEnds t m reading q from) (Reading e m.decided) x.durable x.extended free new left)
-          → Decides yes (Onward (FetchNext t m reading q) (FetchEnds t m reading q from) (Known e) d false free new left)
-      on x at iff =
-          let there : Iff (Onward (FetchNext t m reading q) (FetchEnds t m reading q from) (Known e) d false free new left) (Onward (FetchNext t m reading q) (FetchEnds t m reading q from) (Reading e m.decided) c.durable c.extended free new left) =
-          subst (λ y. Iff (Onward (FetchNext t m reading q) (FetchEnds t m reading q from) (Known e) d false free new left) (Onward (FetchNext t m reading q) (FetchEnds t m reading q from) (Reading e m.decided) y.durable y.extended free new left)) at iff in
-          (λ h. there.1 (same.0 h), λ p. same.1 (there.0 p))
-
-      by : lease.IsCovered (e.0 / 256) d (Some c) → Decides yes (Onward (FetchNext t m reading q) (FetchEnds t m reading q from) (Known e) d false free new left)
-      by (lease.Already le at) =
-          let same_start : (record { durable = d; extended = false }) ≡ c = (let here : Some c ≡ Some (record { durable = d; extended = false }) = at in cc) in
-          on (record { durable = d; extended = false }) same_start
-          (covered_already (FetchNext t m reading q) (FetchEnds t m reading q from) (e.0 / 256) (Known e) (Reading e m.decided) (λ k o u n. next_at t m reading q from (Known e) k o u n) (cover_is e) (λ k r end. ends_at t m reading q from (Known e) k r end) d false free new left le)
-      by (lease.Extended l low at covers here) =
-          let same_start : (record { durable = leased l d; extended = true }) ≡ c = (let there : Some c ≡ Some (record { durable = leased l d; extended = true }) = here in cc) in
-          on (record { durable = leased l d; extended = true }) same_start
-          (covered_by (FetchNext t m reading q) (FetchEnds t m reading q from) (e.0 / 256) (Known e) (Reading e m.decided) (λ k o u n. next_at t m reading q from (Known e) k o u n) (cover_is e) (λ k r end. ends_at t m reading q from (Known e) k r end) d false free new left l low at covers)
-      by (lease.Never low none at) = let no : ⊥ = cc in absurd no
+  covered_decides e = cover_decides (FetchNext t m reading q) (FetchEnds t m reading q from) (e.0 / 256) (Known e) (Reading e m.decided) (λ k o u n. next_at t m reading q from (Known e) k o u n) (cover_is e)
+      (λ k r end. ends_at t m reading q from (Known e) k r end)
 
   pub uncovered_none : (e : Epoch) (d : Durable) (free : ℕ) (new : Kept) (left : TargetMemory × Did) → lease.IsCovered (e.0 / 256) d None → Onward (FetchNext t m reading q) (FetchEnds t m reading q from) (Known e) d false free new left → ⊥
-  uncovered_none e d free new left (lease.Already le at) w = let no : ⊥ = cc in no
-  uncovered_none e d free new left (lease.Extended l low at covers here) w = let no : ⊥ = cc in no
-  uncovered_none e d free new left (lease.Never low none at) w =
-      covered_never (FetchNext t m reading q) (FetchEnds t m reading q from) (e.0 / 256) (Known e) (Reading e m.decided) (λ k o u n. next_at t m reading q from (Known e) k o u n) (cover_is e) (λ k r end. ends_at t m reading q from (Known e) k r end) d false free new left low none w
+  uncovered_none e = cover_none (FetchNext t m reading q) (FetchEnds t m reading q from) (e.0 / 256) (Known e) (Reading e m.decided) (λ k o u n. next_at t m reading q from (Known e) k o u n) (cover_is e)
+      (λ k r end. ends_at t m reading q from (Known e) k r end)
 
 -- ---- from the beginning on
 
@@ -121,6 +101,13 @@ module _ (t : TargetPlan) (m : TargetMemory) (q : FetchRequest) (from : ActorId)
     pub fetch_spent : (k new : Kept) (r : TargetMemory × Did) (yes : Bool) → q.ep ≡ None → r.1.issued ≡ None → Decides yes (SpentSo request k new (spent t m 0 q from) r) → Decides yes (HearsSo k new r)
     fetch_spent = spent_decides request (λ reading. FetchNext t m reading q) (λ reading. FetchEnds t m reading q from) Asked Known q.attempt q.ep (spent t m 0 q from) own begins (λ reading k e asks. HasEpoch k e now asks) ends_so
         (λ reading k none. IsSpent k (spent t m 0 q from) now none refl) refl (λ reading e k new r w. issues t m reading q from e k new r w)
+
+    pub fetch_spent_so : (k new : Kept) (memory : TargetMemory) (did told : Did) (yes : Bool) → TellsEpoch q.ep did.issued None → told ≡ (spent t m 0 q from).1 → Decides yes (SpentSo (λ reading. request_epoch t m reading q.tracker None) k new (m, told) (memory, did))
+        → Decides yes (HearsSo k new (memory, did))
+    fetch_spent_so k new memory did told yes none says same =
+        fetch_spent k new (memory, did) yes none.0 none.1
+        (subst (λ x. Decides yes (SpentSo (λ reading. request_epoch t m reading q.tracker x) k new (spent t m 0 q from) (memory, did))) (sym none.0)
+        (subst (λ x. Decides yes (SpentSo (λ reading. request_epoch t m reading q.tracker None) k new (m, x) (memory, did))) says same))
 
   -- at a snapshot
   module _ (snapshot : q.snapshot ≡ true) where

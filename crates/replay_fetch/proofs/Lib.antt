@@ -1,4 +1,4 @@
-mod Stages
-mod Reading
-mod Asking
-mod Meeting
+pub mod Stages
+pub mod Reading
+pub mod Asking
+pub mod Meeting

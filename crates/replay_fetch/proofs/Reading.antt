@@ -1,28 +1,33 @@
 -- A read goes on from one decided attempt to the next, and ends with its reply.
 use Rattle.std.proofs.Common.{ℕ, ◌≡◌, ◌≤◌, ◌+◌, refl, sym, ◌∙◌, ap, subst, List, Bool, true, false, Option, Some, None, arith}
-use Rattle.std.specs.Prelude.{filter}
+use Rattle.std.specs.Prelude.{filter, if◌then◌else◌}
 use Rattle.std.specs.Bool.{Decides}
 use Rattle.daos_base.specs.declared.entry.Settle.TheVariants.{Commit}
 use Rattle.daos_base.specs.declared.epoch.Epoch.{Epoch}
+use Rattle.daos_base.specs.declared.shown.Shown.{Shown}
+use Rattle.daos_base.specs.Epochs.{heard_ticks}
 use Rattle.daos_base.specs.declared.id.AttemptId.{AttemptId}
 use Rattle.daos_messages.specs.declared.actor.ActorId.{ActorId}
 use Rattle.daos_messages.specs.declared.message.Reply.{Reply}
+use Rattle.daos_messages.specs.declared.message.Reply.TheVariants as reply
 use Rattle.daos_model.specs.declared.durable.Durable.{Durable}
 use Rattle.daos_model.specs.Changes.{settled}
-use Rattle.target_core.specs.Meets.{memory_replied}
+use Rattle.target_core.specs.Meets.{memory_replied, stamps_replied}
 use Rattle.world_base.specs.declared.did.Did.{Did}
 use Rattle.world_base.specs.declared.request.FetchRequest.{FetchRequest}
 use Rattle.world_base.specs.declared.target.TargetMemory.{TargetMemory}
 use Rattle.world_base.specs.declared.target.TargetPlan.{TargetPlan}
 use Rattle.world_base.specs.declared.target.TargetState.{TargetState}
 use Rattle.world_turns.specs.Changes.{Change, Kept, Settles, Steps}
-use Rattle.world_turns.specs.Reads.{FetchEnds, FetchNext, FetchStage, Reading, SettlesOwn, tells}
-use Rattle.world_turns.specs.Requests.{is_other_attempt}
+use Rattle.world_turns.specs.Reads.{FetchEnds, FetchNext, FetchStage, Reading, SettlesOwn, stamps_with, tells}
+use Rattle.world_turns.specs.Requests.{is_other_attempt, with_ticks}
 use Rattle.world_turns.specs.Turns.{Whole}
 use Rattle.replay_base.specs.Onward.{FreeAfter, Iff, Onward, keeps}
 use Rattle.replay_base.proofs.Starts.{AtOnce, First, Later, at_once, change_first, durable_is, first, free_least, free_more, iff_both}
 use Rattle.replay_fetch.specs.Fetched.{RepliesSo}
-use Rattle.replay_fetch.specs.Met.{IsInTheWay, IsReply, IsSettled, IsStuck, ReadsFrom, ReadsOn}
+use Rattle.replay_fetch.specs.Met.{IsInTheWay, IsMet, IsReply, IsSettled, IsStuck, ReadsFrom, ReadsOn, ticks_after}
+use Rattle.replay_fetch.specs.declared.meets.Met.{Met}
+use Rattle.replay_fetch.specs.declared.meets.Met.TheVariants as met
 use Rattle.replay_fetch.specs.declared.reads.Work.{Work}
 use Rattle.replay_fetch.proofs.Stages.{SettlesOne, ends_at, ends_with, next_at, one_reply, replied, stuck_unanswered, way_unanswered}
 
@@ -143,8 +148,46 @@ module _ (t : TargetPlan) (m : TargetMemory) (reading : ℕ) (q : FetchRequest) 
 
 -- ---- as the code says it
 
-pub none_decides : {P : Type 0} → (P → ⊥) → Decides false P
-none_decides no = (λ e. let n : ⊥ = cc in absurd n, λ p. absurd (no p))
+-- what is met, of what is met there
+pub met_way : (t : TargetPlan) (q : FetchRequest) (e : Epoch) (d : Durable) (ds decided : List AttemptId) (m : Met) (a : AttemptId) → ds ≡ decided → IsMet t q e d ds m → m ≡ met.Settles a → IsInTheWay t q e d decided a
+met_way t q e d ds decided m a same is here = subst (λ xs. IsInTheWay t q e d xs a) same (subst (IsMet t q e d ds) here is)
+
+pub met_reply : (t : TargetPlan) (q : FetchRequest) (e : Epoch) (d : Durable) (ds decided : List AttemptId) (m : Met) (r : Reply) → ds ≡ decided → IsMet t q e d ds m → m ≡ met.Replies r → IsReply t q e d decided r
+met_reply t q e d ds decided m r same is here = subst (λ xs. IsReply t q e d xs r) same (subst (IsMet t q e d ds) here is)
+
+pub met_stuck : (t : TargetPlan) (q : FetchRequest) (e : Epoch) (d : Durable) (ds : List AttemptId) (m : Met) → IsMet t q e d ds m → m ≡ met.Stuck → IsStuck t q e d
+met_stuck t q e d ds m is here = subst (IsMet t q e d ds) here is
+
+-- what a target knows, part by part
+memory_of : ℕ → List Shown → List AttemptId → TargetMemory
+memory_of ticks stamps decided = record { ticks = ticks; stamps = stamps; decided = decided }
+
+memory_at : (q : FetchRequest) (e : Epoch) (decided : List AttemptId) (m : TargetMemory) (b : Bool)
+    → memory_of (if b then m.ticks else heard_ticks m.ticks e.0) m.stamps decided ≡ record (if b then m else with_ticks e m) { decided = decided }
+memory_at q e decided m true = refl
+memory_at q e decided m false = refl
+
+ticks_at : (e : Epoch) (m : TargetMemory) (b : Bool) → (if b then m.ticks else heard_ticks m.ticks e.0) ≡ (if b then m else with_ticks e m).ticks
+ticks_at e m true = refl
+ticks_at e m false = refl
+
+pub memory_is : (q : FetchRequest) (e : Epoch) (decided : List AttemptId) (r : Reply) (m : TargetMemory) → memory_of (ticks_after q e m.ticks) (stamps_replied q e r m.stamps) decided ≡ memory_replied q e decided r m
+memory_is q e decided (reply.Answer b) m = ap (λ n. memory_of n (stamps_with q e m.stamps) decided) (ticks_at e m q.snapshot)
+memory_is q e decided (reply.Outcome o) m = memory_at q e decided m q.snapshot
+
+pub memory_with : (q : FetchRequest) (e : Epoch) (decided : List AttemptId) (r : Reply) (m : TargetMemory) (ticks : ℕ) (before after : List Shown) → ticks ≡ ticks_after q e m.ticks → before ≡ m.stamps → after ≡ stamps_replied q e r before
+    → memory_of ticks after decided ≡ memory_replied q e decided r m
+memory_with q e decided r m ticks before after at_ticks at_before at_after =
+    ap (λ n. memory_of n after decided) at_ticks ∙ ap (λ xs. memory_of (ticks_after q e m.ticks) xs decided) (at_after ∙ ap (stamps_replied q e r) at_before) ∙ memory_is q e decided r m
+
+pub replied_decides : (from : ActorId) (q : FetchRequest) (e : Epoch) (w : Work) (r : Reply) (s new : TargetState) (did : Did) (d : Durable) (changed : Bool) (m : TargetMemory) (told : Did) (yes : Bool)
+    → d ≡ w.durable → changed ≡ w.changed → m ≡ memory_replied q e w.decided.items r s.memory → told ≡ tells q from e r
+    → Decides yes ((new.durable ≡ d) × (FreeAfter changed s.free new.free × ((new.memory, did) ≡ (m, told)))) → Decides yes (RepliesSo from q e w r s new did)
+replied_decides from q e w r s new did d changed m told yes kept was knows says same =
+    let left : (m, told) ≡ (memory_replied q e w.decided.items r s.memory, tells q from e r) = ap (λ x. (x, told)) knows ∙ ap (λ x. (memory_replied q e w.decided.items r s.memory, x)) says in (
+      λ h. (let p = same.0 h in record { durable = p.0 ∙ kept; free = subst (λ b. FreeAfter b s.free new.free) was p.1.0; left = p.1.1 ∙ left }),
+      λ so. same.1 (so.durable ∙ sym kept, (subst (λ b. FreeAfter b s.free new.free) (sym was) so.free, so.left ∙ sym left)),
+    )
 
 pub settled_on : (t : TargetPlan) (q : FetchRequest) (e : Epoch) (old mid new : Work) (a : AttemptId) → IsInTheWay t q e mid.durable mid.decided.items a → IsSettled a mid new → ReadsOn t q e old mid → ReadsOn t q e old new
 settled_on t q e old mid new a way is on m from free reading k left =

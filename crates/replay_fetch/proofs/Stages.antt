@@ -74,7 +74,7 @@ module _ (t : TargetPlan) (m : TargetMemory) (reading : ℕ) (q : FetchRequest) 
   pub ends_at : (s : FetchStage) (k : Kept) (left : TargetMemory × Did) → FetchEnds t m reading q from s k left → EndsAt s k left
   ends_at s k left (IsSpent j l now none is) = (now, (none, is))
   ends_at s k left (IsRefused j e decided c l why is) = record { r = reply.Outcome (outcome.Restart c); is = met.IsRefused c why refl; left_is = is }
-  ends_at s k left (MeetsUnresolved j e decided a l none unsettled apart is) = record { r = _; is = met.IsUnresolved a none unsettled apart refl; left_is = is }
+  ends_at s k left (MeetsUnresolved j e decided a l none unsettled apart is) = record { r = reply.Outcome (outcome.Restart (cause.Unresolved a)); is = met.IsUnresolved a none unsettled apart refl; left_is = is }
   ends_at s k left (IsServed j e decided b l none answer is) = record { r = reply.Answer b; is = met.IsAnswered b none answer refl; left_is = is }
 
   pub ends_with : (e : Epoch) (decided : List AttemptId) (k : Kept) (r : Reply) → IsReply t q e k.durable decided r → FetchEnds t m reading q from (Reading e decided) k (replied e decided r)

@@ -1,5 +1,5 @@
 -- What a read meets, while some decided attempts aren't settled.
-use Rattle.std.specs.Prelude.{ℕ, ◌≡◌, true, List, Option, Some, None, Ok, Err, Contains, filter}
+use Rattle.std.specs.Prelude.{ℕ, ◌≡◌, true, List, Option, Some, None, Ok, Err, Contains, filter, if◌then◌else◌}
 use Rattle.daos_base.specs.declared.answer.Answer.{Answer}
 use Rattle.daos_base.specs.declared.entry.Settle.TheVariants.{Commit}
 use Rattle.daos_base.specs.declared.epoch.Epoch.{Epoch}
@@ -7,6 +7,7 @@ use Rattle.daos_base.specs.declared.id.AttemptId.{AttemptId}
 use Rattle.daos_base.specs.declared.outcome.Cause.{Cause}
 use Rattle.daos_base.specs.declared.outcome.Cause.TheVariants as cause
 use Rattle.daos_base.specs.declared.outcome.Outcome.TheVariants as outcome
+use Rattle.daos_base.specs.Epochs.{heard_ticks}
 use Rattle.daos_messages.specs.declared.actor.ActorId.{ActorId}
 use Rattle.daos_messages.specs.declared.message.Reply.{Reply}
 use Rattle.daos_messages.specs.declared.message.Reply.TheVariants as reply
@@ -69,3 +70,7 @@ pub record IsSettled (a : AttemptId) (old new : Work) : Type 0 where
   pub durable : new.durable ≡ settled a Commit old.durable
   pub decided : new.decided.items ≡ filter (is_other_attempt a) old.decided.items
   pub changed : new.changed ≡ true
+
+-- the ticks once a target replied to a Fetch
+abbrev pub ticks_after : FetchRequest → Epoch → ℕ → ℕ
+ticks_after q e ticks = if q.snapshot then ticks else heard_ticks ticks e.0

@@ -5,6 +5,7 @@ ghost use Rattle.daos_base.specs.declared.outcome.Outcome.TheVariants as outcome
 ghost use Rattle.daos_messages.specs.declared.message.Reply.TheVariants as reply;
 ghost use Rattle.daos_model.specs.Durables.{is_version_in_form};
 ghost use Rattle.replay_base.specs.Onward.{Onward, keeps};
+ghost use Rattle.replay_base.specs.Requested.{IsToldEpoch, TellsEpoch};
 ghost use Rattle.replay_fetch.specs.Fetched.{FetchesSo};
 ghost use Rattle.world_turns.specs.Reads.{FetchEnds, FetchNext, FetchStage, fetched_message};
 ghost use Rattle.world_turns.specs.Requests as asked;
@@ -17,7 +18,7 @@ use daos_messages::actor::ActorId;
 use daos_messages::message::{Message, Reply};
 use replay_base::epochs::{asks_at, told_epoch};
 use replay_base::kept::copy_kept;
-use replay_base::leases::{Covered, covered};
+use replay_base::leases::{Covered, cover};
 use replay_base::told::{is_spent_so, says};
 use std::alloc::Global;
 use vos_plain::tables::copied;
@@ -68,7 +69,7 @@ fn known_so(
         → Decides yes (Onward (FetchNext plan before.now.memory reading request.now) (FetchEnds plan before.now.memory reading request.now from)
         (FetchStage.Known epoch) before.now.durable false before.now.free (keeps after.now.durable after.now.free) (after.now.memory, did.now))) }
 {
-    match covered(copy_kept(alloc, &before.durable)?, epoch.ticks()) {
+    match cover(copy_kept(alloc, &before.durable)?, epoch.ticks()) {
         Some(start) => read_from(
             alloc, plan, from, request, epoch, start, before, after, did,
         ),
@@ -90,16 +91,18 @@ fn snapshot_so(
     requires form { list_all is_version_in_form before.now.durable.versions ≡ true }
     ensures { IfOk result (λ yes. Decides yes (FetchesSo plan from request.now before.now after.now did.now)) }
 {
-    let Some(epoch) = request.ep else {
-        return Ok(false);
-    };
-    let start = Covered {
-        durable: copy_kept(alloc, &before.durable)?,
-        extended: false,
-    };
-    read_from(
-        alloc, plan, from, request, epoch, start, before, after, did,
-    )
+    match request.ep {
+        Some(epoch) => {
+            let start = Covered {
+                durable: copy_kept(alloc, &before.durable)?,
+                extended: false,
+            };
+            read_from(
+                alloc, plan, from, request, epoch, start, before, after, did,
+            )
+        }
+        None => Ok(false),
+    }
 }
 
 // What follows where no ticks are left.
@@ -114,6 +117,75 @@ fn spent(alloc: Global, from: ActorId, request: &FetchRequest) -> Result<Did, Me
         reply: Reply::Outcome(Outcome::EpochsSpent),
     };
     says(alloc, from, message, None)
+}
+
+// Whether a Fetch without an epoch, where none was issued, leads to this state because no ticks were
+// left.
+fn spent_so(
+    alloc: Global,
+    plan: TargetPlan,
+    from: ActorId,
+    request: &FetchRequest,
+    before: &TargetState,
+    after: &TargetState,
+    did: &Did,
+) -> Result<bool, Memory>
+    requires now { request.now.snapshot ≡ false }
+    requires told { TellsEpoch request.now.ep did.now.issued None }
+    ensures { IfOk result (λ yes. Decides yes (FetchesSo plan from request.now before.now after.now did.now)) }
+{
+    let told = spent(alloc, from, request)?;
+    Ok(is_spent_so(
+        plan,
+        request.tracker,
+        before,
+        after,
+        did,
+        &told,
+    ))
+}
+
+// Whether a Fetch of this epoch, its own or the one that was issued, leads to this state.
+fn asked_so(
+    alloc: Global,
+    plan: TargetPlan,
+    from: ActorId,
+    request: &FetchRequest,
+    epoch: Epoch,
+    before: &TargetState,
+    after: &TargetState,
+    did: &Did,
+) -> Result<bool, Memory>
+    requires now { request.now.snapshot ≡ false }
+    requires told { IsToldEpoch request.now.ep did.now.issued epoch }
+    requires form { list_all is_version_in_form before.now.durable.versions ≡ true }
+    ensures { IfOk result (λ yes. Decides yes (FetchesSo plan from request.now before.now after.now did.now)) }
+{
+    if asks_at(plan, &before.memory, request.tracker, request.ep, epoch) {
+        known_so(alloc, plan, from, request, epoch, before, after, did)
+    } else {
+        Ok(false)
+    }
+}
+
+// The same of a read that isn't at a snapshot.
+fn now_so(
+    alloc: Global,
+    plan: TargetPlan,
+    from: ActorId,
+    request: &FetchRequest,
+    before: &TargetState,
+    after: &TargetState,
+    did: &Did,
+) -> Result<bool, Memory>
+    requires now { request.now.snapshot ≡ false }
+    requires form { list_all is_version_in_form before.now.durable.versions ≡ true }
+    ensures { IfOk result (λ yes. Decides yes (FetchesSo plan from request.now before.now after.now did.now)) }
+{
+    match told_epoch(request.ep, did) {
+        Some(epoch) => asked_so(alloc, plan, from, request, epoch, before, after, did),
+        None => spent_so(alloc, plan, from, request, before, after, did),
+    }
 }
 
 /// Whether a target that hears a Fetch comes from one state to another, and this follows, at some reading of
@@ -131,21 +203,8 @@ pub fn fetches_so(
     ensures { IfOk result (λ yes. Decides yes (FetchesSo plan from request.now before.now after.now did.now)) }
 {
     if request.snapshot {
-        return snapshot_so(alloc, plan, from, request, before, after, did);
+        snapshot_so(alloc, plan, from, request, before, after, did)
+    } else {
+        now_so(alloc, plan, from, request, before, after, did)
     }
-    let Some(epoch) = told_epoch(request.ep, did) else {
-        let told = spent(alloc, from, request)?;
-        return Ok(is_spent_so(
-            plan,
-            request.tracker,
-            before,
-            after,
-            did,
-            &told,
-        ));
-    };
-    if !asks_at(plan, &before.memory, request.tracker, request.ep, epoch) {
-        return Ok(false);
-    }
-    known_so(alloc, plan, from, request, epoch, before, after, did)
 }

@@ -3,10 +3,10 @@ ghost use Rattle.std.specs.Prelude.{◌≡◌, true, ℕ, IfOk, Decides};
 ghost use Rattle.std.specs.List.{list_all};
 ghost use Rattle.daos_base.specs.Operations.{read_path};
 ghost use Rattle.daos_model.specs.Durables.{is_version_in_form};
-ghost use Rattle.target_core.specs.Meets.{memory_replied};
+ghost use Rattle.target_core.specs.Meets.{memory_replied, stamps_replied};
 ghost use Rattle.replay_base.specs.Onward.{keeps};
 ghost use Rattle.replay_fetch.specs.Fetched.{RepliesSo};
-ghost use Rattle.replay_fetch.specs.Met.{ComesTo, IsSettled, ReadsFrom, ReadsOn};
+ghost use Rattle.replay_fetch.specs.Met.{ComesTo, IsSettled, ReadsFrom, ReadsOn, ticks_after};
 ghost use Rattle.world_turns.specs.Reads as fetch;
 
 use crate::meets::{Met, meet};
@@ -17,15 +17,13 @@ use daos_base::shown::Shown;
 use daos_messages::actor::ActorId;
 use daos_messages::message::{Message, Reply};
 use daos_model::durable::Durable;
-use replay_base::free::is_free;
-use replay_base::kept::settled;
-use replay_base::told::{is_left, issued_for, says};
+use replay_base::kept::{copy_reads, settled};
+use replay_base::told::{is_left_with, issued_for, says};
 use std::alloc::Global;
 use target_core::decided::remove;
 use world_base::did::Did;
 use world_base::request::FetchRequest;
 use world_base::target::{TargetMemory, TargetPlan, TargetState};
-use world_same::same::Same;
 
 /// How far a read came: what is kept, the decided attempts that aren't settled, and whether anything
 /// was changed.
@@ -89,8 +87,37 @@ fn read_on(
     }
 }
 
+// A target's ticks once it replied to a Fetch.
+fn ticks_known(request: &FetchRequest, epoch: Epoch, ticks: u64) -> u64
+    ensures { result ≡ ticks_after request.now epoch ticks }
+{
+    if request.snapshot {
+        ticks
+    } else {
+        ticks.max(epoch.ticks())
+    }
+}
+
+// The timestamps once a target replied to a Fetch.
+fn stamps_replied(
+    alloc: Global,
+    request: &FetchRequest,
+    epoch: Epoch,
+    reply: &Reply,
+    stamps: &[Shown],
+) -> Result<Items<Shown>, Memory>
+    ensures { IfOk result (λ after. after ≡ stamps_replied request.now epoch reply.now stamps.now) }
+{
+    let mut after = copy_reads(alloc, stamps)?;
+    if matches!(reply, Reply::Answer(_)) && !request.snapshot {
+        after.push(read_of(request, epoch)?)?;
+    }
+    Ok(after)
+}
+
 // What a target knows once it replied to a Fetch.
 fn memory_replied(
+    alloc: Global,
     request: &FetchRequest,
     epoch: Epoch,
     decided: Vec<AttemptId>,
@@ -99,17 +126,9 @@ fn memory_replied(
 ) -> Result<TargetMemory, Memory>
     ensures { IfOk result (λ after. after ≡ memory_replied request.now epoch decided.items reply.now memory.now) }
 {
-    let ticks = if request.snapshot {
-        memory.ticks
-    } else {
-        memory.ticks.max(epoch.ticks())
-    };
-    let mut stamps = memory.stamps.copy()?;
-    if matches!(reply, Reply::Answer(_)) && !request.snapshot {
-        stamps.push(read_of(request, epoch)?)?;
-    }
+    let stamps = stamps_replied(alloc, request, epoch, reply, memory.stamps.as_slice())?;
     Ok(TargetMemory {
-        ticks,
+        ticks: ticks_known(request, epoch, memory.ticks),
         stamps,
         decided: Items::from_vec(decided),
     })
@@ -171,12 +190,8 @@ fn replies_so(
         decided,
         changed,
     } = work;
-    let memory = memory_replied(request, epoch, decided, reply, &before.memory)?;
-    Ok(
-        after.durable.is_same(&durable)
-            && is_free(changed, before.free, after.free)
-            && is_left(&after.memory, did, &memory, &told),
-    )
+    let memory = memory_replied(alloc, request, epoch, decided, reply, &before.memory)?;
+    Ok(is_left_with(before, after, did, &durable, changed, &memory, &told))
 }
 
 /// Whether a target that reads from here on comes to this state, and this follows.

@@ -34,7 +34,7 @@ use Rattle.world_list.proofs.OneTurn.{one_hear, one_next}
 abbrev world_of : List TargetState → List ClientState → List Letter → List (AttemptId × Epoch) → Numbers → List Line → World
 world_of targets clients messages issued numbers lines = record { targets = targets; clients = clients; messages = messages; issued = issued; numbers = numbers; lines = lines }
 
-same_world : (v u : World) → v.targets ≡ u.targets → v.clients ≡ u.clients → v.messages ≡ u.messages → v.issued ≡ u.issued → v.numbers ≡ u.numbers → v.lines ≡ u.lines → v ≡ u
+pub same_world : (v u : World) → v.targets ≡ u.targets → v.clients ≡ u.clients → v.messages ≡ u.messages → v.issued ≡ u.issued → v.numbers ≡ u.numbers → v.lines ≡ u.lines → v ≡ u
 same_world v u targets clients messages issued numbers lines =
     ap (λ x. world_of x v.clients v.messages v.issued v.numbers v.lines) targets
     ∙ ap (λ x. world_of u.targets x v.messages v.issued v.numbers v.lines) clients
@@ -51,7 +51,7 @@ set_cut (z ∷ zs) (suc n) x y here = ap (λ ws. z ∷ ws) (set_cut zs n x y her
 after_it_is : (n : ℕ) → suc n ≡ n + 1
 after_it_is n = omega arith
 
-set_parts : {A : Type 0} (xs : List A) (n : ℕ) (x y : A) → slice_get xs n ≡ Some x → set xs n y ≡ take n xs ++ (y ∷ drop (n + 1) xs)
+pub set_parts : {A : Type 0} (xs : List A) (n : ℕ) (x y : A) → slice_get xs n ≡ Some x → set xs n y ≡ take n xs ++ (y ∷ drop (n + 1) xs)
 set_parts xs n x y here = set_cut xs n x y here ∙ ap (λ k. take n xs ++ (y ∷ drop k xs)) (after_it_is n)
 
 -- ---- what follows from a turn that was made
@@ -80,7 +80,7 @@ from_world w v a c d did f rest here is e = (
   ap (λ x. x.messages) e ∙ ap (λ x. rest ++ x) (sym is.letters),
 )
 
-actor_is : (a : ActorId) → a.client ≡ true → a ≡ client a.number
+pub actor_is : (a : ActorId) → a.client ≡ true → a ≡ client a.number
 actor_is a is = ap (λ b. record { client = b; number = a.number }) is
 
 -- ---- a turn without a message
@@ -250,13 +250,13 @@ pub data Both (stands : Bool) (P : Type 0) (result : Bool) : Type 0 where
   Stands : (sent : Bool) → stands ≡ true → Decides sent P → result ≡ sent → Both stands P result
   Falls : stands ≡ false → result ≡ false → Both stands P result
 
-both_decide : (P Q G : Type 0) (stands result : Bool) → Decides stands P → (P → Q → G) → (G → P) → (G → Q) → Both stands Q result → Decides result G
+pub both_decide : (P Q G : Type 0) (stands result : Bool) → Decides stands P → (P → Q → G) → (G → P) → (G → Q) → Both stands Q result → Decides result G
 both_decide P Q G stands result first made one two (Stands sent is same e) =
     (λ h. made (first.0 is) (same.0 (sym e ∙ h)), λ g. e ∙ same.1 (two g))
 both_decide P Q G stands result first made one two (Falls is e) =
     (λ h. clash result h e, λ g. clash stands (first.1 (one g)) is)
 
-both_first : (P Q : Type 0) (stands result : Bool) → Decides stands P → Both stands Q result → result ≡ true → P
+pub both_first : (P Q : Type 0) (stands result : Bool) → Decides stands P → Both stands Q result → result ≡ true → P
 both_first P Q stands result first (Stands sent is same e) h = first.0 is
 both_first P Q stands result first (Falls is e) h = clash result h e
 

@@ -1,4 +1,4 @@
-mod Decided
+pub mod Decided
 mod OneTurn
 mod Runs
 mod Taken

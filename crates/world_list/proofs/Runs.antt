@@ -27,4 +27,4 @@ goes_on r start w [] so_far _ = so_far
 goes_on r start w (e ∷ es) so_far h = goes_on r start e.after es (Goes w e.after so_far (is_event r w e.after e.kind e.actor e.heard h.0)) h.1
 
 pub lists_are_runs : ListsAreRuns
-lists_are_runs e h = goes_on (rules_of e) e.start e.start e.list Begins h
+lists_are_runs e h = goes_on (rules_of e) e.start e.start e.list Begins h.goes

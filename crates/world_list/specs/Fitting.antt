@@ -12,3 +12,8 @@ PlansFit r = (n : ℕ) → PlanFits (client_plan r n)
 -- each client of a world has come as far as its numbers say
 abbrev pub AreInPlace : Rules → World → Type 0
 AreInPlace r w = (n : ℕ) (c : ClientState) → slice_get w.clients n ≡ Some c → IsInPlace (client_plan r n) c
+
+-- a list of events starts well: what its clients have to do can be done, and they have come as far as their numbers say
+pub record StartsWell (r : Rules) (w : World) : Type 0 where
+  pub plans : PlansFit r
+  pub places : AreInPlace r w

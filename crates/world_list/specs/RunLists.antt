@@ -3,8 +3,10 @@ use Rattle.std.specs.Prelude.{◌≡◌, ◌⊎◌, List, [], ◌∷◌, Option,
 use Rattle.daos_messages.specs.declared.actor.ActorId.{ActorId}
 use Rattle.world_base.specs.declared.letter.Letter.{Letter}
 use Rattle.world_base.specs.declared.world.World.{World}
-use Rattle.world_events.specs.Events.{ClientGoes, ClientHears, Rules, Run, TargetHears, TargetIdles}
+use Rattle.replay_base.specs.Heard.{CanHear}
+use Rattle.world_events.specs.Events.{ClientGoes, ClientHears, Rules, Run, TargetHears, TargetIdles, target_plan}
 use Rattle.world_events.specs.Letters.{client, target}
+use Rattle.world_list.specs.Fitting.{StartsWell}
 use Rattle.world_list.specs.declared.events.Event.{Event}
 use Rattle.world_list.specs.declared.events.Events.{Events}
 use Rattle.world_list.specs.declared.events.EventKind.{EventKind}
@@ -23,11 +25,13 @@ pub record ClientHearsAs (r : Rules) (w : World) (a : ActorId) (l : Letter) (v :
   pub by : a ≡ client event.n
   pub letter : l ≡ event.l
 
--- a target hears this letter
+-- A target hears this letter, which is one that it can hear: in a run of one target from its beginning every letter is that
+-- goes to it.
 pub record TargetHearsAs (r : Rules) (w : World) (a : ActorId) (l : Letter) (v : World) : Type 0 where
   pub event : TargetHears r w v
   pub by : a ≡ target event.t
   pub letter : l ≡ event.l
+  pub form : CanHear (target_plan r event.t) event.s.durable l.message
 
 -- a target does its idle work
 pub record IdlesAs (r : Rules) (w : World) (a : ActorId) (v : World) : Type 0 where
@@ -59,8 +63,9 @@ abbrev pub rules_of : Events → Rules
 rules_of e = record { script = e.script; attempts = e.attempts; epsilon = e.epsilon }
 
 -- a list of events is a run
-abbrev pub IsRunList : Events → Type 0
-IsRunList e = IsRunFrom (rules_of e) e.start e.list
+pub record IsRunList (e : Events) : Type 0 where
+  pub starts : StartsWell (rules_of e) e.start
+  pub goes : IsRunFrom (rules_of e) e.start e.list
 
 -- the world after a list of events
 abbrev pub last_world : World → List Event → World
