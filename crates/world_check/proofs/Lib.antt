@@ -1,3 +1,5 @@
 pub mod Told
 pub mod Targets
 pub mod Lists
+pub mod Kinds
+pub mod Starts

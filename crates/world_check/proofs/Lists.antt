@@ -45,3 +45,23 @@ module _ (r : Rules) (start w : World) (list : List Event) (i : ℕ) (e : Event)
 -- none is left
 pub at_end : (r : Rules) (start w : World) (list : List Event) (i : ℕ) → length list ≤ i → Iff (IsRunFrom r start list) (IsRunFrom r w (drop i list)) → IsRunFrom r start list
 at_end r start w list i le so = so.1 (subst (IsRunFrom r w) (sym (drop_of_length-le list le)) tt)
+
+-- ---- as the code goes through a list
+
+module _ (r : Rules) (start : World) (list list' : List Event) (i : ℕ) (e : Event) (w : World) (same : list' ≡ list) (lt : i < length list') (is : e ≡ get_or list' i e) (at : w ≡ last_world start (take i list)) where
+  within : i < length list
+  within = subst (λ xs. i < length xs) same lt
+
+  item : e ≡ get_or list i e
+  item = subst (λ xs. e ≡ get_or xs i e) same is
+
+  pub event_not : (yes : Bool) → Decides yes (LeadsTo r w e.kind e.actor e.heard e.after) → yes ≡ false → Iff (IsRunFrom r start list) (IsRunFrom r (last_world start (take i list)) (drop i list)) → IsRunFrom r start list → ⊥
+  event_not yes leads no so = leads_not r start (last_world start (take i list)) list i e within item yes (subst (λ x. Decides yes (LeadsTo r x e.kind e.actor e.heard e.after)) at leads) no so
+
+  pub event_on : LeadsTo r w e.kind e.actor e.heard e.after → Iff (IsRunFrom r start list) (IsRunFrom r (last_world start (take i list)) (drop i list))
+      → Iff (IsRunFrom r start list) (IsRunFrom r (last_world start (take (i + 1) list)) (drop (i + 1) list))
+  event_on leads so =
+      leads_on r start (last_world start (take i list)) list i e within item (last_world start (take (i + 1) list)) (last_more start list i e within item) (subst (λ x. LeadsTo r x e.kind e.actor e.heard e.after) at leads) so
+
+  pub places_on : (P : World → Type 0) → P e.after → P (last_world start (take (i + 1) list))
+  places_on P p = subst P (sym (last_more start list i e within item)) p

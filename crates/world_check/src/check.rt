@@ -78,7 +78,8 @@ fn goes_on(alloc: Global, events: &Events) -> Result<bool, Memory>
 {
     let list = events.list.as_slice();
     for i in 0..list.len() {
-        if !leads_to(alloc, events, world_before(events, i), &list[i])? {
+        let leads = leads_to(alloc, events, world_before(events, i), &list[i])?;
+        if !leads {
             return Ok(false);
         }
     }

@@ -1,7 +1,7 @@
 // Whether a list of events starts well: what each client has to do can be done, and each has come as far as
 // its numbers say.
-ghost use Rattle.std.specs.Prelude.{◌≡◌, All, count_by, drop, Decides};
-ghost use Rattle.client_core.specs.Clients.{CommandFits, ObjFits, OpsFit};
+ghost use Rattle.std.specs.Prelude.{◌≡◌, ◌≤◌, ◌+◌, ◌&&◌, All, count_by, drop, slice_get, true, Decides};
+ghost use Rattle.client_core.specs.Clients.{CommandFits, ObjFits, OpsFit, has_number};
 ghost use Rattle.daos_base.specs.Scripts.{is_numbered};
 ghost use Rattle.world_check.specs.Starting.{HasPlace, commands_of};
 ghost use Rattle.world_list.specs.Fitting.{AreInPlace, PlansFit, StartsWell};
@@ -15,7 +15,7 @@ use world_base::client::ClientState;
 use world_list::events::Events;
 
 // The most commands with numbers of a client.
-const MOST: u64 = 100_000;
+const MOST: usize = 100_000;
 
 // Whether an object, if there is one, fits so many targets.
 fn obj_fits(obj: Option<ObjId>, targets: u8) -> bool
@@ -94,16 +94,48 @@ fn from_place(commands: &[Command], place: u64) -> &[Command]
     &commands[place as usize..]
 }
 
+// Whether the commands of a client that are over and have numbers, and those that are left, are few.
+fn are_few(over: u32, left: usize) -> bool
+    ensures { Decides result (over + left ≤ 100000) }
+{
+    left <= MOST && over as usize + left <= MOST
+}
+
+// Whether the command at a place has a number.
+fn has_number(commands: &[Command], place: u64) -> bool
+    ensures { result ≡ has_number (slice_get commands.now place) }
+{
+    match commands.get(place as usize) {
+        Some(command) => is_numbered(command),
+        None => false,
+    }
+}
+
+// Whether an attempt, if there is one, is one of a command that has a number.
+fn is_of_number(present: bool, numbered: bool) -> bool
+    ensures { Decides result (present ≡ true → numbered ≡ true) }
+{
+    !present || numbered
+}
+
+// Whether both hold.
+fn both(one: bool, other: bool) -> bool
+    ensures { result ≡ (one && other) }
+{
+    one && other
+}
+
 // Whether a client has come as far as its numbers say.
 fn is_in_place(commands: &[Command], state: &ClientState) -> bool
     ensures { Decides result (HasPlace commands.now state.now) }
 {
-    let rest = from_place(commands, state.place);
-    let left = count_numbered(rest) as u64;
-    let numbered = !rest.is_empty() && is_numbered(&rest[0]);
-    left <= MOST
-        && u64::from(state.command) + left <= MOST
-        && (state.present.is_none() || numbered)
+    let left = count_numbered(from_place(commands, state.place));
+    let numbered = has_number(commands, state.place);
+    let present = state.present.is_some();
+    both(
+        are_few(state.command, left),
+        is_of_number(present, numbered),
+    )
 }
 
 // The commands of a client.
@@ -116,13 +148,19 @@ fn commands_of(events: &Events, number: usize) -> &[Command]
     }
 }
 
+// Whether commands can be done, and few have numbers.
+fn plan_fits(commands: &[Command], targets: u8) -> bool
+    ensures { Decides result (All (CommandFits targets) commands.now × (count_by is_numbered commands.now ≤ 100000)) }
+{
+    commands_fit(commands, targets) && count_numbered(commands) <= MOST
+}
+
 // Whether what each client has to do can be done.
 fn plans_fit(events: &Events) -> bool
     ensures { Decides result (PlansFit (rules_of events.now)) }
 {
     for number in 0..events.script.clients.len() {
-        let commands = commands_of(events, number);
-        if !commands_fit(commands, events.script.targets) || count_numbered(commands) > MOST as usize {
+        if !plan_fits(commands_of(events, number), events.script.targets) {
             return false;
         }
     }
