@@ -45,8 +45,8 @@ module _ {S : Type 0} (request : ℕ → Option Epoch) (Next : ℕ → S → Kep
   same_epoch e f r reading (inl is) asks issued = (let o : request reading ≡ Some e = own reading e is in cc)
   same_epoch e f r reading (inr told) asks issued =
       let here : issued_for x ep f ≡ Some (x, f) = ap (λ y. issued_for x y f) told.0 in
-      let both : Some (told.1.0, e) ≡ Some (x, f) = sym told.1.1 ∙ issued ∙ here in
-      let pair : (told.1.0, e) ≡ (x, f) = cc in
+      let both : ◌≡◌ {A = Option (AttemptId × Epoch)} (Some (told.1.0, e)) (Some (x, f)) = sym told.1.1 ∙ issued ∙ here in
+      let pair : ◌≡◌ {A = AttemptId × Epoch} (told.1.0, e) (x, f) = cc in
       sym (ap (λ p. p.1) pair)
 
   begun : (e : Epoch) (k new : Kept) (r : TargetMemory × Did) (reading : ℕ) → IsToldEpoch ep r.1.issued e → Whole (Next reading) (Ends reading) asked k new r
@@ -62,17 +62,17 @@ module _ {S : Type 0} (request : ℕ → Option Epoch) (Next : ℕ → S → Kep
           (subst (λ y. request reading ≡ Some y) same b.asked, subst (λ y. Whole (Next reading) (Ends reading) (known y) k new r) same on)
 
       spends : (request reading ≡ None) × (r ≡ spent) → IsToldEpoch ep r.1.issued e → (request reading ≡ Some e) × Whole (Next reading) (Ends reading) (known e) k new r
-      spends s (inl is) = (let o : request reading ≡ Some e = own reading e is in let n = s.0 in let no : ⊥ = cc in absurd no)
-      spends s (inr t) = (let here : None ≡ Some (t.1.0, e) = sym unissued ∙ ap (λ y. y.1.issued) (sym s.1) ∙ t.1.1 in let no : ⊥ = cc in absurd no)
+      spends s (inl is) = (let o : request reading ≡ Some e = own reading e is in let n = s.0 in let bad : ⊥ = cc in absurd bad)
+      spends s (inr t) = (let here : ◌≡◌ {A = Option (AttemptId × Epoch)} None (Some (t.1.0, e)) = sym unissued ∙ ap (λ y. y.1.issued) (sym s.1) ∙ t.1.1 in let bad : ⊥ = cc in absurd bad)
 
       by : First (Next reading) (Ends reading) asked k new r → (request reading ≡ Some e) × Whole (Next reading) (Ends reading) (known e) k new r
       by (AtOnce same end) = spends (ends_is reading k r end) told
       by (Later o u m step taken rest) = goes o u m (next_is reading k o u step) taken rest
 
   -- a turn is one from where its epoch is known, where that can be its epoch
-  pub known_decides : (e : Epoch) (k new : Kept) (r : TargetMemory × Did) (yes : Bool) → IsToldEpoch ep r.1.issued e → AsksAt request e
-      → ((reading : ℕ) → Decides yes (Onward (Next reading) (Ends reading) (known e) k.durable false k.free new r)) → Decides yes (HearsSo k new r)
-  known_decides e k new r yes told asks at = (
+  pub known_decides : (e : Epoch) (k new : Kept) (r : TargetMemory × Did) (test : Bool) → IsToldEpoch ep r.1.issued e → AsksAt request e
+      → ((reading : ℕ) → Decides test (Onward (Next reading) (Ends reading) (known e) k.durable false k.free new r)) → Decides test (HearsSo k new r)
+  known_decides e k new r test told asks at = (
     λ is. (
       asks.0,
       silent_first (Next asks.0) (Ends asks.0) asked (known e) k new r (next asks.0 k e asks.1)
@@ -95,10 +95,10 @@ module _ {S : Type 0} (request : ℕ → Option Epoch) (Next : ℕ → S → Kep
           let b = next_is w.0 k o u step in
           let on : Whole (Next w.0) (Ends w.0) (known b.epoch) m new r = subst (λ y. Whole (Next w.0) (Ends w.0) y m new r) b.there rest in
           let issued : r.1.issued ≡ Some (x, b.epoch) = issues w.0 b.epoch m new r on ∙ ap (λ y. issued_for x y b.epoch) none in
-          let no : ⊥ = cc in absurd no
+          let bad : ⊥ = cc in absurd bad
 
-  pub spent_decides : (k new : Kept) (r : TargetMemory × Did) (yes : Bool) → ep ≡ None → r.1.issued ≡ None → Decides yes (SpentSo request k new spent r) → Decides yes (HearsSo k new r)
-  spent_decides k new r yes none unsaid same = (
+  pub spent_decides : (k new : Kept) (r : TargetMemory × Did) (test : Bool) → ep ≡ None → r.1.issued ≡ None → Decides test (SpentSo request k new spent r) → Decides test (HearsSo k new r)
+  spent_decides k new r test none unsaid same = (
     λ h.
         let s = same.0 h in
         let end : Whole (Next s.none.0) (Ends s.none.0) asked k k spent = at_once (Next s.none.0) (Ends s.none.0) asked k spent (ends s.none.0 k s.none.1) in

@@ -11,7 +11,7 @@ use Rattle.replay_base.specs.Leases.{Already, Extended, IsCovered, Never}
 use Rattle.replay_base.specs.Onward.{FreeAfter, Iff, Onward, keeps}
 use Rattle.replay_base.proofs.Starts.{AtOnce, First, Later, change_first, durable_is, first, free_least, free_more, silent_first}
 
-abbrev covered_as : Durable → Bool → Covered
+abbrev pub covered_as : Durable → Bool → Covered
 covered_as d extended = record { durable = d; extended = extended }
 
 -- a step where the lease is to cover ticks: it is extended, or covers them already
@@ -33,7 +33,7 @@ module _ {S R : Type 0} (Next : S → Kept → Option Change → S → Type 0) (
   on_covered k new r le w = by (first Next Ends known k new r w)
     where
       step : (o : Option Change) (u : S) (m : Kept) → CoverStep ticks known onto k o u → Steps o k m → Whole Next Ends u m new r → Whole Next Ends onto k new r
-      step o u m (Extending lease low is) taken rest = let no : ⊥ = omega (arith, le, low) in absurd no
+      step o u m (Extending lease low is) taken rest = let bad : ⊥ = omega (arith, le, low) in absurd bad
       step o u m (Covering covers) taken rest = subst (λ x. Whole Next Ends onto x new r) taken rest
 
       by : First Next Ends known k new r → Whole Next Ends onto k new r
@@ -66,7 +66,7 @@ module _ {S R : Type 0} (Next : S → Kept → Option Change → S → Type 0) (
       step o u m (Extending other low' is') taken rest =
           let same : other ≡ lease = cc in
           extends m (taken.0 ∙ ap (λ x. leased x d) same) taken.1 rest
-      step o u m (Covering le) taken rest = let no : ⊥ = omega (arith, le, low) in absurd no
+      step o u m (Covering le) taken rest = let bad : ⊥ = omega (arith, le, low) in absurd bad
 
       by : First Next Ends known (keeps d w.blocks) new r → Onward Next Ends onto (leased lease d) true free new r
       by (AtOnce same ends) = absurd (goes (keeps d w.blocks) r ends)
@@ -94,29 +94,29 @@ module _ {S R : Type 0} (Next : S → Kept → Option Change → S → Type 0) (
   covered_never d changed free new r low none w = by (first Next Ends known (keeps d w.blocks) new r w.turn)
     where
       step : (o : Option Change) (u : S) → CoverStep ticks known onto (keeps d w.blocks) o u → ⊥
-      step o u (Extending other low' is') = let no : ⊥ = cc in no
-      step o u (Covering le) = let no : ⊥ = omega (arith, le, low) in no
+      step o u (Extending other low' is') = let bad : ⊥ = cc in bad
+      step o u (Covering le) = let bad : ⊥ = omega (arith, le, low) in bad
 
       by : First Next Ends known (keeps d w.blocks) new r → ⊥
       by (AtOnce same ends) = goes (keeps d w.blocks) r ends
       by (Later o u m next taken rest) = step o u (step_is (keeps d w.blocks) o u next)
 
   -- as it is computed
-  pub cover_decides : (d : Durable) (free : ℕ) (new : Kept) (r : R) (c : Covered) → IsCovered ticks d (Some c) → (yes : Bool) → Decides yes (Onward Next Ends onto c.durable c.extended free new r) → Decides yes (Onward Next Ends known d false free new r)
-  cover_decides d free new r c is yes same = by is
+  pub cover_decides : (d : Durable) (free : ℕ) (new : Kept) (r : R) (c : Covered) → IsCovered ticks d (Some c) → (test : Bool) → Decides test (Onward Next Ends onto c.durable c.extended free new r) → Decides test (Onward Next Ends known d false free new r)
+  cover_decides d free new r c is test same = by is
     where
-      on : (x : Covered) → x ≡ c → Iff (Onward Next Ends known d false free new r) (Onward Next Ends onto x.durable x.extended free new r) → Decides yes (Onward Next Ends known d false free new r)
+      on : (x : Covered) → x ≡ c → Iff (Onward Next Ends known d false free new r) (Onward Next Ends onto x.durable x.extended free new r) → Decides test (Onward Next Ends known d false free new r)
       on x at iff =
           let there : Iff (Onward Next Ends known d false free new r) (Onward Next Ends onto c.durable c.extended free new r) =
           subst (λ y. Iff (Onward Next Ends known d false free new r) (Onward Next Ends onto y.durable y.extended free new r)) at iff in
           (λ h. there.1 (same.0 h), λ p. same.1 (there.0 p))
 
-      by : IsCovered ticks d (Some c) → Decides yes (Onward Next Ends known d false free new r)
+      by : IsCovered ticks d (Some c) → Decides test (Onward Next Ends known d false free new r)
       by (Already le at) = (let here : covered_as d false ≡ c = cc in on (covered_as d false) here (covered_already d false free new r le))
       by (Extended lease low at covers there) = (let here : covered_as (leased lease d) true ≡ c = cc in on (covered_as (leased lease d) true) here (covered_by d false free new r lease low at covers))
-      by (Never low none at) = (let no : ⊥ = cc in absurd no)
+      by (Never low none at) = (let bad : ⊥ = cc in absurd bad)
 
   pub cover_none : (d : Durable) (free : ℕ) (new : Kept) (r : R) → IsCovered ticks d None → Onward Next Ends known d false free new r → ⊥
-  cover_none d free new r (Already le at) w = (let no : ⊥ = cc in no)
-  cover_none d free new r (Extended lease low at covers there) w = (let no : ⊥ = cc in no)
+  cover_none d free new r (Already le at) w = (let bad : ⊥ = cc in bad)
+  cover_none d free new r (Extended lease low at covers there) w = (let bad : ⊥ = cc in bad)
   cover_none d free new r (Never low none at) w = covered_never d false free new r low none w

@@ -2,6 +2,7 @@
 use Rattle.std.proofs.Common.{ℕ, ◌≡◌, ◌≤◌, ◌+◌, refl, sym, ◌∙◌, ap, subst, List, [], ◌∷◌, Bool, true, false, Option, Some, length, not, arith}
 use Rattle.std.specs.Prelude.{◌==◌}
 use Rattle.std.specs.Bool.{Decides}
+use Rattle.std.proofs.lemmas.Bool.Decides.{nat_tests}
 use Rattle.daos_base.specs.declared.entry.Settle.TheVariants.{Commit}
 use Rattle.daos_base.specs.declared.id.AttemptId.{AttemptId}
 use Rattle.daos_model.specs.declared.durable.Durable.{Durable}
@@ -58,7 +59,7 @@ nothing_left m d changed free new left w = by (first IdleNext (IdleEnds m) [] (k
       may = subst (FreeAfter changed free) (sym (ap (λ k. k.free) same)) w.may;
       is = (ends_at m [] (keeps d w.blocks) left ends).is;
     }
-    by (Later o u n next taken rest) = (let s = next_at [] (keeps d w.blocks) o u next in let here = s.here in let no : ⊥ = cc in absurd no)
+    by (Later o u n next taken rest) = (let s = next_at [] (keeps d w.blocks) o u next in let here = s.here in let bad : ⊥ = cc in absurd bad)
 
 one_left : (m : TargetMemory) (a : AttemptId) (rest : List AttemptId) (d : Durable) (changed : Bool) (free : ℕ) (new : Kept) (left : TargetMemory × Did)
     → (Onward IdleNext (IdleEnds m) rest (settled a Commit d) true free new left → Done m rest (settled a Commit d) true free new left)
@@ -84,7 +85,7 @@ one_left m a rest d changed free new left goes_on w = by (first IdleNext (IdleEn
         goes u n tail (made.0 ∙ ap (λ x. settled x Commit d) head) made.1 turn
 
     by : First IdleNext (IdleEnds m) (a ∷ rest) (keeps d w.blocks) new left → Done m (a ∷ rest) d changed free new left
-    by (AtOnce same ends) = (let e = ends_at m (a ∷ rest) (keeps d w.blocks) left ends in let none = e.none in let no : ⊥ = cc in absurd no)
+    by (AtOnce same ends) = (let e = ends_at m (a ∷ rest) (keeps d w.blocks) left ends in let none = e.none in let bad : ⊥ = cc in absurd bad)
     by (Later o u n next taken turn) = step o u n (next_at (a ∷ rest) (keeps d w.blocks) o u next) taken turn
 
 done : (m : TargetMemory) (decided : List AttemptId) (d : Durable) (changed : Bool) (free : ℕ) (new : Kept) (left : TargetMemory × Did) → Onward IdleNext (IdleEnds m) decided d changed free new left → Done m decided d changed free new left
@@ -108,17 +109,17 @@ undone m (a ∷ rest) d changed free new left so =
       turn = change_first IdleNext (IdleEnds m) (a ∷ rest) rest (keeps d least.0) (keeps (settled a Commit d) w.blocks) new left (Settles a Commit) (SettlesFirst (keeps d least.0) a rest) refl fewer w.turn;
     }
 
-memory_left : (a b : TargetMemory) (did : Did) → a ≡ b → (a, did) ≡ (b, did)
+memory_left : (a b : TargetMemory) (did : Did) → a ≡ b → ◌≡◌ {A = TargetMemory × Did} (a, did) (b, did)
 memory_left a b did e = ap (λ x. (x, did)) e
 
 changes_are : (decided : List AttemptId) → changes false decided ≡ not (length decided == 0)
 changes_are [] = refl
-changes_are (a ∷ rest) = refl
+changes_are (a ∷ rest) = (let some : (length (a ∷ rest) == 0) ≡ false = grind (arith, nat_tests) in sym (ap not some))
 
 -- as the code tests it, part by part
-pub idles_decides : (s new : TargetState) (d d' : Durable) (xs : List AttemptId) (m : TargetMemory) (yes : Bool) → xs ≡ s.memory.decided → d ≡ s.durable → d' ≡ all_settled xs d → m ≡ record s.memory { decided = [] }
-    → Decides yes ((new.durable ≡ d') × ((new.memory ≡ m) × FreeAfter (not (length s.memory.decided == 0)) s.free new.free)) → Decides yes (IdlesSo s new)
-idles_decides s new d d' xs m yes own start end left same =
+pub idles_decides : (s new : TargetState) (d d' : Durable) (xs : List AttemptId) (m : TargetMemory) (test : Bool) → xs ≡ s.memory.decided → d ≡ s.durable → d' ≡ all_settled xs d → m ≡ record s.memory { decided = [] }
+    → Decides test ((new.durable ≡ d') × ((new.memory ≡ m) × FreeAfter (not (length s.memory.decided == 0)) s.free new.free)) → Decides test (IdlesSo s new)
+idles_decides s new d d' xs m test own start end left same =
     let onward = whole_onward IdleNext (IdleEnds s.memory) s.memory.decided (keeps s.durable s.free) (keeps new.durable new.free) (new.memory, nothing_follows) in
     let all : d' ≡ all_settled s.memory.decided s.durable = end ∙ ap (λ ys. all_settled ys d) own ∙ ap (all_settled s.memory.decided) start in (
       λ h.

@@ -26,13 +26,13 @@ pub some_within : (n m : ℕ) → within_last n ≡ Some m → (n ≡ m) × (n �
 some_within n m is =
     elim (nat_le n last_ticks) as (λ b. nat_le n last_ticks ≡ b → (if b then Some n else None) ≡ Some m → (n ≡ m) × (n ≤ last_ticks)) [
       | true ↦ λ t here. (let same : n ≡ m = cc in same, grind (arith, nat_tests))
-      | false ↦ λ t here. absurd (let no : ⊥ = cc in no)
+      | false ↦ λ t here. absurd (let bad : ⊥ = cc in bad)
     ] refl is
 
 pub none_within : (n : ℕ) → within_last n ≡ None → last_ticks < n
 none_within n is =
     elim (nat_le n last_ticks) as (λ b. nat_le n last_ticks ≡ b → (if b then Some n else None) ≡ None → last_ticks < n) [
-      | true ↦ λ t here. absurd (let no : ⊥ = cc in no)
+      | true ↦ λ t here. absurd (let bad : ⊥ = cc in bad)
       | false ↦ λ t here. grind (arith, nat_tests)
     ] refl is
 
@@ -117,7 +117,7 @@ is_issued me ticks tracker e small can = by (within_last (issued_ticks ticks can
         }
 
     by : (o : Option ℕ) → within_last (issued_ticks ticks can.0 tracker.0) ≡ o → option_map (epoch_of_ticks me) o ≡ Some e → IsIssued me ticks tracker e
-    by None is none = absurd (let no : ⊥ = cc in no)
+    by None is none = absurd (let bad : ⊥ = cc in bad)
     by (Some n) is some =
         let w = some_within (issued_ticks ticks can.0 tracker.0) n is in
         let same : epoch_of_ticks me n ≡ e = cc in
@@ -130,22 +130,22 @@ spent_so t m tracker none = (0, ap (option_map (epoch_of_ticks t.me)) (spent_wha
 
 unmapped : (me : ℕ) (o : Option ℕ) → option_map (epoch_of_ticks me) o ≡ None → o ≡ None
 unmapped me None is = refl
-unmapped me (Some n) is = absurd (let no : ⊥ = cc in no)
+unmapped me (Some n) is = absurd (let bad : ⊥ = cc in bad)
 
 pub unspent : (t : TargetPlan) (m : TargetMemory) (tracker : Epoch) (least : ℕ) → least_ticks m.ticks tracker.0 ≡ Some least → (reading : ℕ) × (request_epoch t m reading tracker None ≡ None) → ⊥
 unspent t m tracker least some spent =
     let gone = spent_always t.me m.ticks tracker.0 spent.0 (unmapped t.me (next_ticks (record { target = t.me; ticks = m.ticks }) spent.0 tracker.0) spent.1) in
-    let no : ⊥ = cc in no
+    let bad : ⊥ = cc in bad
 
 pub never_issued : (me ticks : ℕ) (tracker e : Epoch) → me < 256 → least_ticks ticks tracker.0 ≡ None → CanIssue me ticks tracker e → ⊥
 never_issued me ticks tracker e small none can =
     let i = is_issued me ticks tracker e small can in
     let some = i.some in
-    let no : ⊥ = cc in no
+    let bad : ⊥ = cc in bad
 
-pub issue_decides : (me ticks least : ℕ) (tracker e : Epoch) (yes : Bool) → me < 256 → least_ticks ticks tracker.0 ≡ Some least
-    → Decides yes ((e.0 % 256 ≡ me) × ((e.0 / 256 ≡ least) ⊎ ((least < e.0 / 256) × (e.0 / 256 ≤ 2 ^ 55)))) → Decides yes (CanIssue me ticks tracker e)
-issue_decides me ticks least tracker e yes small some same = (
+pub issue_decides : (me ticks least : ℕ) (tracker e : Epoch) (test : Bool) → me < 256 → least_ticks ticks tracker.0 ≡ Some least
+    → Decides test ((e.0 % 256 ≡ me) × ((e.0 / 256 ≡ least) ⊎ ((least < e.0 / 256) × (e.0 / 256 ≤ 2 ^ 55)))) → Decides test (CanIssue me ticks tracker e)
+issue_decides me ticks least tracker e test small some same = (
   λ h.
       let k = same.0 h in
       kind k.0 k.1,
@@ -162,8 +162,8 @@ issue_decides me ticks least tracker e yes small some same = (
 
 -- ---- the epoch of a request
 
-pub asks_own : (t : TargetPlan) (m : TargetMemory) (tracker : Epoch) (ep : Option Epoch) (own e : Epoch) (yes : Bool) → ep ≡ Some own → Decides yes (own ≡ e) → Decides yes (AsksAt (λ reading. request_epoch t m reading tracker ep) e)
-asks_own t m tracker ep own e yes is same = (
+pub asks_own : (t : TargetPlan) (m : TargetMemory) (tracker : Epoch) (ep : Option Epoch) (own e : Epoch) (test : Bool) → ep ≡ Some own → Decides test (own ≡ e) → Decides test (AsksAt (λ reading. request_epoch t m reading tracker ep) e)
+asks_own t m tracker ep own e test is same = (
   λ h. (0, ap (request_epoch t m 0 tracker) is ∙ ap Some (same.0 h)),
   λ asks.
       let one : Some own ≡ Some e = sym (ap (request_epoch t m asks.0 tracker) is) ∙ asks.1 in
@@ -171,8 +171,8 @@ asks_own t m tracker ep own e yes is same = (
       same.1 its,
 )
 
-pub asks_issued : (t : TargetPlan) (m : TargetMemory) (tracker : Epoch) (ep : Option Epoch) (e : Epoch) (yes : Bool) → ep ≡ None → Decides yes (CanIssue t.me m.ticks tracker e) → Decides yes (AsksAt (λ reading. request_epoch t m reading tracker ep) e)
-asks_issued t m tracker ep e yes is same = (
+pub asks_issued : (t : TargetPlan) (m : TargetMemory) (tracker : Epoch) (ep : Option Epoch) (e : Epoch) (test : Bool) → ep ≡ None → Decides test (CanIssue t.me m.ticks tracker e) → Decides test (AsksAt (λ reading. request_epoch t m reading tracker ep) e)
+asks_issued t m tracker ep e test is same = (
   λ h. (let can = same.0 h in (can.0, ap (request_epoch t m can.0 tracker) is ∙ can.1)),
   λ asks. same.1 (asks.0, sym (ap (request_epoch t m asks.0 tracker) is) ∙ asks.1),
 )

@@ -88,7 +88,7 @@ if_ok P Q (Ok x) goes p = goes x p
 if_ok P Q (Err e) goes p = p
 
 pub none_so : {P : Type 0} → (P → ⊥) → Decides false P
-none_so no = (λ e. let n : ⊥ = cc in absurd n, λ p. absurd (no p))
+none_so bad = (λ e. let n : ⊥ = cc in absurd n, λ p. absurd (bad p))
 
 pub all_so : {P : Type 0} → P → Decides true P
 all_so p = (λ e. p, λ q. refl)

@@ -14,6 +14,7 @@ pub struct Covered {
 }
 
 // With this lease.
+#[tactic(auto, unfolding(daos_model::specs::Changes::leased))]
 fn leased(durable: Durable, lease: u64) -> Durable
     ensures { result ≡ leased lease durable }
 {

@@ -2,6 +2,8 @@
 ghost use Rattle.std.specs.Prelude.{◌≡◌, None, IfOk, Decides};
 ghost use Rattle.replay_base.specs.Onward.{FreeAfter, keeps};
 ghost use Rattle.replay_base.specs.Requested.{SpentSo};
+ghost use Rattle.world_base.specs.declared.did.Did.{Did};
+ghost use Rattle.world_base.specs.declared.target.TargetMemory.{TargetMemory};
 ghost use Rattle.world_turns.specs.Requests as asked;
 
 use crate::epochs::is_spent;
@@ -57,7 +59,7 @@ fn is_same_did(one: &Did, other: &Did) -> bool
 
 /// Whether a turn left this in a target's memory, and this followed.
 pub fn is_left(memory: &TargetMemory, did: &Did, expected: &TargetMemory, told: &Did) -> bool
-    ensures { Decides result ((memory.now, did.now) ≡ (expected.now, told.now)) }
+    ensures { Decides result (◌≡◌ {A = TargetMemory × Did} (memory.now, did.now) (expected.now, told.now)) }
 {
     memory.is_same(expected) && is_same_did(did, told)
 }
@@ -109,7 +111,7 @@ pub fn is_left_with(
     memory: &TargetMemory,
     told: &Did,
 ) -> bool
-    ensures { Decides result ((after.now.durable ≡ durable.now) × (FreeAfter changed before.now.free after.now.free × ((after.now.memory, did.now) ≡ (memory.now, told.now)))) }
+    ensures { Decides result ((after.now.durable ≡ durable.now) × (FreeAfter changed before.now.free after.now.free × (◌≡◌ {A = TargetMemory × Did} (after.now.memory, did.now) (memory.now, told.now)))) }
 {
     after.durable.is_same(durable)
         && is_free(changed, before.free, after.free)

@@ -61,9 +61,9 @@ module _ (t : TargetPlan) (opening : Epoch × FloorWhy) (m : TargetMemory) (read
   cover_is e k o u (Covering le) = IsCovered k e le
 
   -- from where the epoch is known, a turn goes on where the lease covers it
-  pub covered_decides : (e : Epoch) (d : Durable) (free : ℕ) (new : Kept) (left : TargetMemory × Did) (c : Covered) → lease.IsCovered (e.0 / 256) d (Some c) → (yes : Bool)
-      → Decides yes (Onward (CommitNext t opening m reading q) (CommitEnds t opening m reading q from) (Checking e) c.durable c.extended free new left)
-      → Decides yes (Onward (CommitNext t opening m reading q) (CommitEnds t opening m reading q from) (Known e) d false free new left)
+  pub covered_decides : (e : Epoch) (d : Durable) (free : ℕ) (new : Kept) (left : TargetMemory × Did) (c : Covered) → lease.IsCovered (e.0 / 256) d (Some c) → (test : Bool)
+      → Decides test (Onward (CommitNext t opening m reading q) (CommitEnds t opening m reading q from) (Checking e) c.durable c.extended free new left)
+      → Decides test (Onward (CommitNext t opening m reading q) (CommitEnds t opening m reading q from) (Known e) d false free new left)
   covered_decides e = cover_decides (CommitNext t opening m reading q) (CommitEnds t opening m reading q from) (e.0 / 256) (Known e) (Checking e) (λ k o u n. next_at t opening m reading q from (Known e) k o u n) (cover_is e)
       (λ k r end. ends_at_stage t opening m reading q from (Known e) k r end)
 
@@ -83,8 +83,8 @@ module _ (t : TargetPlan) (opening : Epoch × FloorWhy) (m : TargetMemory) (q : 
   own : (reading : ℕ) (e : Epoch) → q.ep ≡ Some e → request reading ≡ Some e
   own reading e is = ap (request_epoch t m reading q.tracker) is
 
-  pub commit_known : (e : Epoch) (k new : Kept) (r : TargetMemory × Did) (yes : Bool) → IsToldEpoch q.ep r.1.issued e → AsksAt request e
-      → ((reading : ℕ) → Decides yes (Onward (CommitNext t opening m reading q) (CommitEnds t opening m reading q from) (Known e) k.durable false k.free new r)) → Decides yes (HearsSo k new r)
+  pub commit_known : (e : Epoch) (k new : Kept) (r : TargetMemory × Did) (test : Bool) → IsToldEpoch q.ep r.1.issued e → AsksAt request e
+      → ((reading : ℕ) → Decides test (Onward (CommitNext t opening m reading q) (CommitEnds t opening m reading q from) (Known e) k.durable false k.free new r)) → Decides test (HearsSo k new r)
   commit_known = known_decides request (λ reading. CommitNext t opening m reading q) (λ reading. CommitEnds t opening m reading q from) Asked Known q.attempt q.ep (spent t opening m 0 q from) own
       (λ reading k o u next. next_at t opening m reading q from Asked k o u next) (λ reading k e asks. HasEpoch k e asks) (λ reading k r end. ends_at_stage t opening m reading q from Asked k r end)
       (λ reading k none. IsSpent k (spent t opening m 0 q from) none refl) refl (λ reading e k new r w. issues t opening m reading q from e k new r w)
@@ -94,14 +94,14 @@ module _ (t : TargetPlan) (opening : Epoch × FloorWhy) (m : TargetMemory) (q : 
       (λ reading k o u next. next_at t opening m reading q from Asked k o u next) (λ reading k e asks. HasEpoch k e asks) (λ reading k r end. ends_at_stage t opening m reading q from Asked k r end)
       (λ reading k none. IsSpent k (spent t opening m 0 q from) none refl) refl (λ reading e k new r w. issues t opening m reading q from e k new r w)
 
-  pub commit_spent : (k new : Kept) (r : TargetMemory × Did) (yes : Bool) → q.ep ≡ None → r.1.issued ≡ None → Decides yes (SpentSo request k new (spent t opening m 0 q from) r) → Decides yes (HearsSo k new r)
+  pub commit_spent : (k new : Kept) (r : TargetMemory × Did) (test : Bool) → q.ep ≡ None → r.1.issued ≡ None → Decides test (SpentSo request k new (spent t opening m 0 q from) r) → Decides test (HearsSo k new r)
   commit_spent = spent_decides request (λ reading. CommitNext t opening m reading q) (λ reading. CommitEnds t opening m reading q from) Asked Known q.attempt q.ep (spent t opening m 0 q from) own
       (λ reading k o u next. next_at t opening m reading q from Asked k o u next) (λ reading k e asks. HasEpoch k e asks) (λ reading k r end. ends_at_stage t opening m reading q from Asked k r end)
       (λ reading k none. IsSpent k (spent t opening m 0 q from) none refl) refl (λ reading e k new r w. issues t opening m reading q from e k new r w)
 
-  pub commit_spent_so : (k new : Kept) (memory : TargetMemory) (did told : Did) (yes : Bool) → TellsEpoch q.ep did.issued None → told ≡ (spent t opening m 0 q from).1 → Decides yes (SpentSo (λ reading. request_epoch t m reading q.tracker None) k new (m, told) (memory, did))
-      → Decides yes (HearsSo k new (memory, did))
-  commit_spent_so k new memory did told yes none says same =
-      commit_spent k new (memory, did) yes none.0 none.1
-      (subst (λ x. Decides yes (SpentSo (λ reading. request_epoch t m reading q.tracker x) k new (spent t opening m 0 q from) (memory, did))) (sym none.0)
-      (subst (λ x. Decides yes (SpentSo (λ reading. request_epoch t m reading q.tracker None) k new (m, x) (memory, did))) says same))
+  pub commit_spent_so : (k new : Kept) (memory : TargetMemory) (did told : Did) (test : Bool) → TellsEpoch q.ep did.issued None → told ≡ (spent t opening m 0 q from).1 → Decides test (SpentSo (λ reading. request_epoch t m reading q.tracker None) k new (m, told) (memory, did))
+      → Decides test (HearsSo k new (memory, did))
+  commit_spent_so k new memory did told test none says same =
+      commit_spent k new (memory, did) test none.0 none.1
+      (subst (λ x. Decides test (SpentSo (λ reading. request_epoch t m reading q.tracker x) k new (spent t opening m 0 q from) (memory, did))) (sym none.0)
+      (subst (λ x. Decides test (SpentSo (λ reading. request_epoch t m reading q.tracker None) k new (m, x) (memory, did))) says same))

@@ -187,8 +187,8 @@ module _ (t : TargetPlan) (reading : ℕ) (q : CommitRequest) (from : ActorId) (
   of_told (Some outcome.NoSnapshot) h = absurd h
   of_told (Some (outcome.Unknown target)) h = absurd h
 
-  pub told_decides : (yes : Bool) → Decides yes (EndsAs t from q e start s new did (outcome_of did.posts))
-      → Decides yes (Onward (CommitNext t s.opening s.memory reading q) (CommitEnds t s.opening s.memory reading q from) (Checking e) start.durable start.extended s.free (keeps new.durable new.free) (new.memory, did))
-  told_decides yes same =
+  pub told_decides : (test : Bool) → Decides test (EndsAs t from q e start s new did (outcome_of did.posts))
+      → Decides test (Onward (CommitNext t s.opening s.memory reading q) (CommitEnds t s.opening s.memory reading q from) (Checking e) start.durable start.extended s.free (keeps new.durable new.free) (new.memory, did))
+  told_decides test same =
       let w = ways t s.opening s.memory reading q from e start.durable start.extended s.free (keeps new.durable new.free) (new.memory, did) in
       (λ h. w.1 (of_told (outcome_of did.posts) (same.0 h)), λ o. same.1 (as_told (w.0 o)))

@@ -25,18 +25,18 @@ any_false : {X : Type 0} (t : X → Bool) (xs : List X) → list_any t xs ≡ fa
 any_false t [] h = λ k d lt. absurd (omega arith)
 any_false t (x ∷ xs) h =
     elim (t x) as (λ b. t x ≡ b → (b || list_any t xs) ≡ false → All (λ x. t x ≡ false) (x ∷ xs)) [
-      | true ↦ λ is bad. absurd (let no : ⊥ = cc in no)
+      | true ↦ λ is bad. absurd (let bad : ⊥ = cc in bad)
       | false ↦ λ is rest. All-cons (λ x. t x ≡ false) x xs is (any_false t xs rest)
     ] refl h
 
 pub none_decides : {X : Type 0} (t : X → Bool) (xs : List X) (some : Bool) → some ≡ list_any t xs → Decides (not some) (All (λ x. t x ≡ false) xs)
-none_decides t xs true is = (λ e. let no : ⊥ = cc in absurd no, λ all. (let none = list_any_none t xs all in let no : ⊥ = cc in absurd no))
+none_decides t xs true is = (λ e. let bad : ⊥ = cc in absurd bad, λ all. (let none = list_any_none t xs all in let bad : ⊥ = cc in absurd bad))
 none_decides t xs false is = (λ e. any_false t xs (sym is), λ all. refl)
 
 -- ---- a loop over all elements
 
 pub not_all : {X : Type 0} (P : X → Type 0) (xs : List X) (i : ℕ) (x : X) (found : Bool) → Decides found (P x) → found ≡ false → i < length xs → x ≡ get_or xs i x → All P xs → ⊥
-not_all P xs i x found same no lt is all = clash found (same.1 (item_holds P xs i x all lt is)) no
+not_all P xs i x found same bad lt is all = clash found (same.1 (item_holds P xs i x all lt is)) bad
 
 -- ---- a loop that looks for an element
 
@@ -45,9 +45,9 @@ abbrev pub NoneYet : {X : Type 0} → (X → Type 0) → List X → ℕ → Type
 NoneYet {X} P xs i = (k : ℕ) (x : X) → k < i → x ≡ get_or xs k x → P x → ⊥
 
 none_at : {X : Type 0} (P : X → Type 0) (xs : List X) (i : ℕ) (x y : X) (found : Bool) → Decides found (P x) → found ≡ false → i < length xs → x ≡ get_or xs i x → y ≡ get_or xs i y → P y → ⊥
-none_at P xs i x y found same no lt at_x at_y p =
+none_at P xs i x y found same bad lt at_x at_y p =
     let one : y ≡ x = at_y ∙ same_item xs i x y lt ∙ sym at_x in
-    clash found (same.1 (subst P one p)) no
+    clash found (same.1 (subst P one p)) bad
   where
     same_item : {X : Type 0} (us : List X) (j : ℕ) (a b : X) → j < length us → get_or us j b ≡ get_or us j a
     same_item [] j a b less = absurd (omega arith)
@@ -55,15 +55,15 @@ none_at P xs i x y found same no lt at_x at_y p =
     same_item (u ∷ us) (suc j) a b less = same_item us j a b (omega arith)
 
 pub none_more : {X : Type 0} (P : X → Type 0) (xs : List X) (i : ℕ) (x : X) (found : Bool) → Decides found (P x) → found ≡ false → i < length xs → x ≡ get_or xs i x → NoneYet P xs i → NoneYet P xs (i + 1)
-none_more P xs i x found same no lt is before k y within at_y p = by (cases_order k i)
+none_more P xs i x found same bad lt is before k y within at_y p = by (cases_order k i)
   where
     by : (k ≡ i) ⊎ ((k < i) ⊎ (i < k)) → ⊥
-    by (inl here) = none_at P xs i x y found same no lt is (subst (λ n. y ≡ get_or xs n y) here at_y) p
+    by (inl here) = none_at P xs i x y found same bad lt is (subst (λ n. y ≡ get_or xs n y) here at_y) p
     by (inr (inl earlier)) = before k y earlier at_y p
     by (inr (inr later)) = let past : ⊥ = omega (arith, within, later) in past
 
 pub nothing_yet : {X : Type 0} (P : X → Type 0) (xs : List X) → NoneYet P xs 0
-nothing_yet P xs k x lt at p = let no : ⊥ = omega (arith, lt) in no
+nothing_yet P xs k x lt at p = let bad : ⊥ = omega (arith, lt) in bad
 
 pub never_there : {X : Type 0} (xs : List X) (x : X) (i : ℕ) → length xs ≤ i → NoneYet (λ y. y ≡ x) xs i → Contains xs x → ⊥
 never_there xs x i le none there = (let less : there.0 < i = (let l = there.1.0 in omega (arith, l, le)) in none there.0 x less (sym there.1.1) refl)

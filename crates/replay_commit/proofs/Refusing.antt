@@ -33,16 +33,16 @@ module _ (t : TargetPlan) (opening : Epoch × FloorWhy) (first : Option Epoch) (
 
   floor_of_it : (f c : Cause) → first_floor t opening e d ws ≡ Some f → By c → c ≡ f
   floor_of_it f c is (ByFloor here) = cc
-  floor_of_it f c is (ByRead none r shown same) = let no : ⊥ = cc in absurd no
-  floor_of_it f c is (ByWrite none clear w later same) = let no : ⊥ = cc in absurd no
+  floor_of_it f c is (ByRead none r shown same) = let bad : ⊥ = cc in absurd bad
+  floor_of_it f c is (ByWrite none clear w later same) = let bad : ⊥ = cc in absurd bad
 
-  pub by_floor : (o : Option Cause) (f c : Cause) (yes : Bool) → o ≡ first_floor t opening e d ws → o ≡ Some f → Decides yes (c ≡ f) → Decides yes (By c)
-  by_floor o f c yes is some same =
+  pub by_floor : (o : Option Cause) (f c : Cause) (test : Bool) → o ≡ first_floor t opening e d ws → o ≡ Some f → Decides test (c ≡ f) → Decides test (By c)
+  by_floor o f c test is some same =
       let here : first_floor t opening e d ws ≡ Some f = sym is ∙ some in
       (λ h. ByFloor (here ∙ ap Some (sym (same.0 h))), λ b. same.1 (floor_of_it f c here b))
 
   above_of : (c : Cause) → first_floor t opening e d ws ≡ None → By c → IsRefusedAbove t first e d stamps ws c
-  above_of c none (ByFloor here) = let no : ⊥ = cc in absurd no
+  above_of c none (ByFloor here) = let bad : ⊥ = cc in absurd bad
   above_of c none (ByRead _ r shown same) = subst (IsRefusedAbove t first e d stamps ws) (sym same) shown
   above_of c none (ByWrite _ clear w later same) = subst (IsRefusedAbove t first e d stamps ws) (sym same) (clear, later)
 
@@ -52,8 +52,8 @@ module _ (t : TargetPlan) (opening : Epoch × FloorWhy) (first : Option Epoch) (
   of_above (Unresolved by) none h = absurd h
   of_above (Floor target at why) none h = absurd h
 
-  pub by_above : (o : Option Cause) (c : Cause) (yes : Bool) → o ≡ first_floor t opening e d ws → o ≡ None → Decides yes (IsRefusedAbove t first e d stamps ws c) → Decides yes (By c)
-  by_above o c yes is none same =
+  pub by_above : (o : Option Cause) (c : Cause) (test : Bool) → o ≡ first_floor t opening e d ws → o ≡ None → Decides test (IsRefusedAbove t first e d stamps ws c) → Decides test (By c)
+  by_above o c test is none same =
       let here : first_floor t opening e d ws ≡ None = sym is ∙ none in
       (λ h. of_above c here (same.0 h), λ b. same.1 (above_of c here b))
 
@@ -62,46 +62,46 @@ module _ (t : TargetPlan) (opening : Epoch × FloorWhy) (first : Option Epoch) (
 pub less_decides : (a b : ℕ) → Decides (nat_lt a b) (a < b)
 less_decides a b = (λ h. grind (arith, nat_tests), λ h. grind (arith, nat_tests))
 
-both_are : (P Q R : Type 0) (a b yes : Bool) → yes ≡ (a && b) → Decides a P → Decides b Q → (P → Q → R) → (R → P) → (R → Q) → Decides yes R
-both_are P Q R a b yes is one two made left right =
+both_are : (P Q R : Type 0) (a b test : Bool) → test ≡ (a && b) → Decides a P → Decides b Q → (P → Q → R) → (R → P) → (R → Q) → Decides test R
+both_are P Q R a b test is one two made left right =
     let two_of = Decides-and a b one two in
     (λ h. (let p = two_of.0 (sym is ∙ h) in made p.0 p.1), λ r. is ∙ two_of.1 (left r, right r))
 
-pair_is : (m m' : TargetMemory) (a b : Did) → m ≡ m' → a ≡ b → (m, a) ≡ (m', b)
+pair_is : (m m' : TargetMemory) (a b : Did) → m ≡ m' → a ≡ b → ◌≡◌ {A = TargetMemory × Did} (m, a) (m', b)
 pair_is m m' a b one two = ap (λ x. (x, a)) one ∙ ap (λ x. (m', x)) two
 
 module _ (t : TargetPlan) (from : ActorId) (q : CommitRequest) (e : Epoch) (start : Covered) (s new : TargetState) (did : Did) where
-  pub refuses_decides : (c : Cause) (stamps : List Shown) (ws : List MinorWrite) (m : TargetMemory) (told : Did) (refused left yes : Bool) → stamps ≡ s.memory.stamps → ws ≡ q.writes → m ≡ with_ticks e s.memory → told ≡ ends_at q from e (outcome.Restart c)
+  pub refuses_decides : (c : Cause) (stamps : List Shown) (ws : List MinorWrite) (m : TargetMemory) (told : Did) (refused left test : Bool) → stamps ≡ s.memory.stamps → ws ≡ q.writes → m ≡ with_ticks e s.memory → told ≡ ends_at q from e (outcome.Restart c)
       → Decides refused (IsRefusedBy t s.opening q.first e start.durable stamps ws c)
-      → Decides left ((new.durable ≡ start.durable) × (FreeAfter start.extended s.free new.free × ((new.memory, did) ≡ (m, told)))) → yes ≡ (refused && left) → Decides yes (RefusesSo t from q e start s new did c)
-  refuses_decides c stamps ws m told refused left yes stamps_is ws_is knows says one two is =
+      → Decides left ((new.durable ≡ start.durable) × (FreeAfter start.extended s.free new.free × (◌≡◌ {A = TargetMemory × Did} (new.memory, did) (m, told)))) → test ≡ (refused && left) → Decides test (RefusesSo t from q e start s new did c)
+  refuses_decides c stamps ws m told refused left test stamps_is ws_is knows says one two is =
       let same = pair_is m (with_ticks e s.memory) told (ends_at q from e (outcome.Restart c)) knows says in
       let one' : Decides refused (IsRefusedBy t s.opening q.first e start.durable s.memory.stamps q.writes c) =
       subst (λ xs. Decides refused (IsRefusedBy t s.opening q.first e start.durable s.memory.stamps xs c)) ws_is (subst (λ xs. Decides refused (IsRefusedBy t s.opening q.first e start.durable xs ws c)) stamps_is one) in
-      both_are (IsRefusedBy t s.opening q.first e start.durable s.memory.stamps q.writes c) ((new.durable ≡ start.durable) × (FreeAfter start.extended s.free new.free × ((new.memory, did) ≡ (m, told)))) (RefusesSo t from q e start s new did c)
-      refused left yes is one' two
+      both_are (IsRefusedBy t s.opening q.first e start.durable s.memory.stamps q.writes c) ((new.durable ≡ start.durable) × (FreeAfter start.extended s.free new.free × (◌≡◌ {A = TargetMemory × Did} (new.memory, did) (m, told)))) (RefusesSo t from q e start s new did c)
+      refused left test is one' two
       (λ r l. record { refused = r; durable = l.0; free = l.1.0; left = l.1.1 ∙ same }) (λ h. h.refused) (λ h. (h.durable, (h.free, h.left ∙ sym same)))
 
-  pub lacks_decides : (need : ℕ) (m : TargetMemory) (told : Did) (how : Outcome) (allowed lacks left two yes : Bool) → need ≡ blocks q.writes → m ≡ with_ticks e s.memory → told ≡ ends_at q from e how → how ≡ outcome.NoSpace t.me need new.free
+  pub lacks_decides : (need : ℕ) (m : TargetMemory) (told : Did) (how : Outcome) (allowed lacks left two test : Bool) → need ≡ blocks q.writes → m ≡ with_ticks e s.memory → told ≡ ends_at q from e how → how ≡ outcome.NoSpace t.me need new.free
       → Decides allowed (IsAllowed t s.opening q.first e start.durable s.memory.stamps q.writes) → Decides lacks (new.free < need)
-      → Decides left ((new.durable ≡ start.durable) × (FreeAfter start.extended s.free new.free × ((new.memory, did) ≡ (m, told)))) → two ≡ (allowed && lacks) → yes ≡ (two && left) → Decides yes (LacksSpaceSo t from q e start s new did)
-  lacks_decides need m told how allowed lacks left two yes need_is knows says how_is ok short kept both all =
+      → Decides left ((new.durable ≡ start.durable) × (FreeAfter start.extended s.free new.free × (◌≡◌ {A = TargetMemory × Did} (new.memory, did) (m, told)))) → two ≡ (allowed && lacks) → test ≡ (two && left) → Decides test (LacksSpaceSo t from q e start s new did)
+  lacks_decides need m told how allowed lacks left two test need_is knows says how_is ok short kept both all =
       let says' : told ≡ ends_at q from e (outcome.NoSpace t.me (blocks q.writes) new.free) = says ∙ ap (ends_at q from e) how_is ∙ ap (λ n. ends_at q from e (outcome.NoSpace t.me n new.free)) need_is in
       let same = pair_is m (with_ticks e s.memory) told (ends_at q from e (outcome.NoSpace t.me (blocks q.writes) new.free)) knows says' in
       let two_hold : Decides two (IsAllowed t s.opening q.first e start.durable s.memory.stamps q.writes × (new.free < need)) = (let d = Decides-and allowed lacks ok short in (λ h. d.0 (sym both ∙ h), λ p. both ∙ d.1 p)) in
-      both_are (IsAllowed t s.opening q.first e start.durable s.memory.stamps q.writes × (new.free < need)) ((new.durable ≡ start.durable) × (FreeAfter start.extended s.free new.free × ((new.memory, did) ≡ (m, told))))
-      (LacksSpaceSo t from q e start s new did) two left yes all two_hold kept
+      both_are (IsAllowed t s.opening q.first e start.durable s.memory.stamps q.writes × (new.free < need)) ((new.durable ≡ start.durable) × (FreeAfter start.extended s.free new.free × (◌≡◌ {A = TargetMemory × Did} (new.memory, did) (m, told))))
+      (LacksSpaceSo t from q e start s new did) two left test all two_hold kept
       (λ r l. record { allowed = r.0; durable = l.0; free = l.1.0; lacks = subst (λ n. new.free < n) need_is r.1; left = l.1.1 ∙ same })
       (λ h. (h.allowed, subst (λ n. new.free < n) (sym need_is) h.lacks)) (λ h. (h.durable, (h.free, h.left ∙ sym same)))
 
-  pub stores_decides : (need : ℕ) (m : TargetMemory) (told : Did) (d : Durable) (extended allowed left yes : Bool) → need ≡ blocks q.writes → m ≡ with_decided q.attempt (with_ticks e s.memory) → told ≡ ends_at q from e outcome.Committed
+  pub stores_decides : (need : ℕ) (m : TargetMemory) (told : Did) (d : Durable) (extended allowed left test : Bool) → need ≡ blocks q.writes → m ≡ with_decided q.attempt (with_ticks e s.memory) → told ≡ ends_at q from e outcome.Committed
       → d ≡ prepared (lone_entry t q e) q.writes start.durable → extended ≡ start.extended
       → Decides allowed (IsAllowed t s.opening q.first e start.durable s.memory.stamps q.writes)
-      → Decides left ((new.durable ≡ d) × (StoresFree extended need s.free new.free × ((new.memory, did) ≡ (m, told)))) → yes ≡ (allowed && left) → Decides yes (StoresSo t from q e start s new did)
-  stores_decides need m told d extended allowed left yes need_is knows says stored was ok kept all =
+      → Decides left ((new.durable ≡ d) × (StoresFree extended need s.free new.free × (◌≡◌ {A = TargetMemory × Did} (new.memory, did) (m, told)))) → test ≡ (allowed && left) → Decides test (StoresSo t from q e start s new did)
+  stores_decides need m told d extended allowed left test need_is knows says stored was ok kept all =
       let same = pair_is m (with_decided q.attempt (with_ticks e s.memory)) told (ends_at q from e outcome.Committed) knows says in
-      both_are (IsAllowed t s.opening q.first e start.durable s.memory.stamps q.writes) ((new.durable ≡ d) × (StoresFree extended need s.free new.free × ((new.memory, did) ≡ (m, told)))) (StoresSo t from q e start s new did)
-      allowed left yes all ok kept
+      both_are (IsAllowed t s.opening q.first e start.durable s.memory.stamps q.writes) ((new.durable ≡ d) × (StoresFree extended need s.free new.free × (◌≡◌ {A = TargetMemory × Did} (new.memory, did) (m, told)))) (StoresSo t from q e start s new did)
+      allowed left test all ok kept
       (λ r l. record {
         allowed = r;
         durable = l.0 ∙ stored;

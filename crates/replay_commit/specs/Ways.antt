@@ -43,7 +43,7 @@ pub record RefusesSo (t : TargetPlan) (from : ActorId) (q : CommitRequest) (e : 
   pub refused : IsRefusedBy t s.opening q.first e start.durable s.memory.stamps q.writes c
   pub durable : new.durable ≡ start.durable
   pub free : FreeAfter start.extended s.free new.free
-  pub left : (new.memory, did) ≡ (with_ticks e s.memory, ends_at q from e (outcome.Restart c))
+  pub left : ◌≡◌ {A = TargetMemory × Did} (new.memory, did) (with_ticks e s.memory, ends_at q from e (outcome.Restart c))
 
 -- they are allowed, and there is no space for them
 pub record LacksSpaceSo (t : TargetPlan) (from : ActorId) (q : CommitRequest) (e : Epoch) (start : Covered) (s new : TargetState) (did : Did) : Type 0 where
@@ -51,7 +51,7 @@ pub record LacksSpaceSo (t : TargetPlan) (from : ActorId) (q : CommitRequest) (e
   pub durable : new.durable ≡ start.durable
   pub free : FreeAfter start.extended s.free new.free
   pub lacks : new.free < blocks q.writes
-  pub left : (new.memory, did) ≡ (with_ticks e s.memory, ends_at q from e (outcome.NoSpace t.me (blocks q.writes) new.free))
+  pub left : ◌≡◌ {A = TargetMemory × Did} (new.memory, did) (with_ticks e s.memory, ends_at q from e (outcome.NoSpace t.me (blocks q.writes) new.free))
 
 abbrev pub lone_entry : TargetPlan → CommitRequest → Epoch → Entry
 lone_entry t q e = record { attempt = q.attempt; epoch = e; leader = t.me; members = 1; confirmed = 0; committed = false }
@@ -61,7 +61,7 @@ pub record StoresSo (t : TargetPlan) (from : ActorId) (q : CommitRequest) (e : E
   pub allowed : IsAllowed t s.opening q.first e start.durable s.memory.stamps q.writes
   pub durable : new.durable ≡ prepared (lone_entry t q e) q.writes start.durable
   pub free : StoresFree start.extended (blocks q.writes) s.free new.free
-  pub left : (new.memory, did) ≡ (with_decided q.attempt (with_ticks e s.memory), ends_at q from e outcome.Committed)
+  pub left : ◌≡◌ {A = TargetMemory × Did} (new.memory, did) (with_decided q.attempt (with_ticks e s.memory), ends_at q from e outcome.Committed)
 
 -- one of these ways, by the outcome that is told
 abbrev pub EndsAs : TargetPlan → ActorId → CommitRequest → Epoch → Covered → TargetState → TargetState → Did → Option Outcome → Type 0

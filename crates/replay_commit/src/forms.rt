@@ -4,7 +4,8 @@ ghost use Rattle.std.specs.List.Sorted.{IsStrictlyIncreasing};
 ghost use Rattle.daos_base.specs.Operations.{write_path};
 ghost use Rattle.daos_base.specs.Placement.{ClassFits};
 ghost use Rattle.daos_model.specs.Forms.{ends_at_akey, ends_at_dkey, ends_at_object, is_length, is_write_in_form, minor_of};
-ghost use Rattle.replay_commit.specs.Committed.{IsAsked, IsOne};
+ghost use Rattle.replay_base.specs.Heard.{CanCommit, IsLone};
+ghost use Rattle.replay_commit.specs.Committed.{IsOne};
 ghost use Rattle.target_core.specs.Checks.{AreWrites};
 
 use daos_base::operation::{MinorWrite, Write};
@@ -103,9 +104,16 @@ fn are_writes(writes: &[MinorWrite]) -> bool
     !writes.is_empty() && writes.len() <= 64 && are_ones(writes) && are_rising(writes)
 }
 
+/// Whether a target is the only one, of number 0.
+pub fn is_lone(plan: TargetPlan) -> bool
+    ensures { Decides result (IsLone plan) }
+{
+    plan.me == 0 && plan.targets == 1
+}
+
 /// Whether a lone target is asked to commit writes that it can be asked to.
 pub fn is_asked(plan: TargetPlan, request: &CommitRequest) -> bool
-    ensures { Decides result (IsAsked plan request.now) }
+    ensures { Decides result (CanCommit plan request.now.writes) }
 {
-    plan.me == 0 && plan.targets == 1 && are_writes(request.writes.as_slice())
+    is_lone(plan) && are_writes(request.writes.as_slice())
 }

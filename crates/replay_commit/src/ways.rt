@@ -4,6 +4,8 @@ ghost use Rattle.std.specs.Option.{option_copied};
 ghost use Rattle.daos_base.specs.declared.outcome.Outcome.TheVariants as outcome;
 ghost use Rattle.daos_model.specs.Forms.{AreWritesInForm};
 ghost use Rattle.replay_commit.specs.Ways.{EndsAs, LacksSpaceSo, RefusesSo, StoresFree, StoresSo, ended_of, lone_entry, outcome_of};
+ghost use Rattle.world_base.specs.declared.did.Did.{Did};
+ghost use Rattle.world_base.specs.declared.target.TargetMemory.{TargetMemory};
 ghost use Rattle.world_turns.specs.Commits as commit;
 ghost use Rattle.world_turns.specs.Requests as asked;
 
@@ -235,7 +237,7 @@ fn is_stored_with(
     memory: &TargetMemory,
     told: &Did,
 ) -> bool
-    ensures { Decides result ((after.now.durable ≡ durable.now) × (StoresFree extended need before.now.free after.now.free × ((after.now.memory, did.now) ≡ (memory.now, told.now)))) }
+    ensures { Decides result ((after.now.durable ≡ durable.now) × (StoresFree extended need before.now.free after.now.free × (◌≡◌ {A = TargetMemory × Did} (after.now.memory, did.now) (memory.now, told.now)))) }
 {
     after.durable.is_same(durable)
         && is_stored_free(extended, need, before.free, after.free)

@@ -55,9 +55,9 @@ module _ (t : TargetPlan) (m : TargetMemory) (reading : ℕ) (q : FetchRequest) 
   cover_is e k o u (Covering le) = IsCovered k e le
 
   -- from where the epoch is known, a turn goes on where the lease covers it
-  pub covered_decides : (e : Epoch) (d : Durable) (free : ℕ) (new : Kept) (left : TargetMemory × Did) (c : Covered) → lease.IsCovered (e.0 / 256) d (Some c) → (yes : Bool)
-      → Decides yes (Onward (FetchNext t m reading q) (FetchEnds t m reading q from) (Reading e m.decided) c.durable c.extended free new left)
-      → Decides yes (Onward (FetchNext t m reading q) (FetchEnds t m reading q from) (Known e) d false free new left)
+  pub covered_decides : (e : Epoch) (d : Durable) (free : ℕ) (new : Kept) (left : TargetMemory × Did) (c : Covered) → lease.IsCovered (e.0 / 256) d (Some c) → (test : Bool)
+      → Decides test (Onward (FetchNext t m reading q) (FetchEnds t m reading q from) (Reading e m.decided) c.durable c.extended free new left)
+      → Decides test (Onward (FetchNext t m reading q) (FetchEnds t m reading q from) (Known e) d false free new left)
   covered_decides e = cover_decides (FetchNext t m reading q) (FetchEnds t m reading q from) (e.0 / 256) (Known e) (Reading e m.decided) (λ k o u n. next_at t m reading q from (Known e) k o u n) (cover_is e)
       (λ k r end. ends_at t m reading q from (Known e) k r end)
 
@@ -89,8 +89,8 @@ module _ (t : TargetPlan) (m : TargetMemory) (q : FetchRequest) (from : ActorId)
     ends_so : (reading : ℕ) (k : Kept) (r : TargetMemory × Did) → FetchEnds t m reading q from Asked k r → (request reading ≡ None) × (r ≡ spent t m reading q from)
     ends_so reading k r end = (ends_at t m reading q from Asked k r end).1
 
-    pub fetch_known : (e : Epoch) (k new : Kept) (r : TargetMemory × Did) (yes : Bool) → IsToldEpoch q.ep r.1.issued e → AsksAt request e
-        → ((reading : ℕ) → Decides yes (Onward (FetchNext t m reading q) (FetchEnds t m reading q from) (Known e) k.durable false k.free new r)) → Decides yes (HearsSo k new r)
+    pub fetch_known : (e : Epoch) (k new : Kept) (r : TargetMemory × Did) (test : Bool) → IsToldEpoch q.ep r.1.issued e → AsksAt request e
+        → ((reading : ℕ) → Decides test (Onward (FetchNext t m reading q) (FetchEnds t m reading q from) (Known e) k.durable false k.free new r)) → Decides test (HearsSo k new r)
     fetch_known = known_decides request (λ reading. FetchNext t m reading q) (λ reading. FetchEnds t m reading q from) Asked Known q.attempt q.ep (spent t m 0 q from) own begins (λ reading k e asks. HasEpoch k e now asks) ends_so
         (λ reading k none. IsSpent k (spent t m 0 q from) now none refl) refl (λ reading e k new r w. issues t m reading q from e k new r w)
 
@@ -98,16 +98,16 @@ module _ (t : TargetPlan) (m : TargetMemory) (q : FetchRequest) (from : ActorId)
     fetch_unknown = known_not request (λ reading. FetchNext t m reading q) (λ reading. FetchEnds t m reading q from) Asked Known q.attempt q.ep (spent t m 0 q from) own begins (λ reading k e asks. HasEpoch k e now asks) ends_so
         (λ reading k none. IsSpent k (spent t m 0 q from) now none refl) refl (λ reading e k new r w. issues t m reading q from e k new r w)
 
-    pub fetch_spent : (k new : Kept) (r : TargetMemory × Did) (yes : Bool) → q.ep ≡ None → r.1.issued ≡ None → Decides yes (SpentSo request k new (spent t m 0 q from) r) → Decides yes (HearsSo k new r)
+    pub fetch_spent : (k new : Kept) (r : TargetMemory × Did) (test : Bool) → q.ep ≡ None → r.1.issued ≡ None → Decides test (SpentSo request k new (spent t m 0 q from) r) → Decides test (HearsSo k new r)
     fetch_spent = spent_decides request (λ reading. FetchNext t m reading q) (λ reading. FetchEnds t m reading q from) Asked Known q.attempt q.ep (spent t m 0 q from) own begins (λ reading k e asks. HasEpoch k e now asks) ends_so
         (λ reading k none. IsSpent k (spent t m 0 q from) now none refl) refl (λ reading e k new r w. issues t m reading q from e k new r w)
 
-    pub fetch_spent_so : (k new : Kept) (memory : TargetMemory) (did told : Did) (yes : Bool) → TellsEpoch q.ep did.issued None → told ≡ (spent t m 0 q from).1 → Decides yes (SpentSo (λ reading. request_epoch t m reading q.tracker None) k new (m, told) (memory, did))
-        → Decides yes (HearsSo k new (memory, did))
-    fetch_spent_so k new memory did told yes none says same =
-        fetch_spent k new (memory, did) yes none.0 none.1
-        (subst (λ x. Decides yes (SpentSo (λ reading. request_epoch t m reading q.tracker x) k new (spent t m 0 q from) (memory, did))) (sym none.0)
-        (subst (λ x. Decides yes (SpentSo (λ reading. request_epoch t m reading q.tracker None) k new (m, x) (memory, did))) says same))
+    pub fetch_spent_so : (k new : Kept) (memory : TargetMemory) (did told : Did) (test : Bool) → TellsEpoch q.ep did.issued None → told ≡ (spent t m 0 q from).1 → Decides test (SpentSo (λ reading. request_epoch t m reading q.tracker None) k new (m, told) (memory, did))
+        → Decides test (HearsSo k new (memory, did))
+    fetch_spent_so k new memory did told test none says same =
+        fetch_spent k new (memory, did) test none.0 none.1
+        (subst (λ x. Decides test (SpentSo (λ reading. request_epoch t m reading q.tracker x) k new (spent t m 0 q from) (memory, did))) (sym none.0)
+        (subst (λ x. Decides test (SpentSo (λ reading. request_epoch t m reading q.tracker None) k new (m, x) (memory, did))) says same))
 
   -- at a snapshot
   module _ (snapshot : q.snapshot ≡ true) where
@@ -126,9 +126,9 @@ module _ (t : TargetPlan) (m : TargetMemory) (q : FetchRequest) (from : ActorId)
         by (AtOnce same end) = clash q.snapshot snapshot (ends_at t m reading q from Asked k r end).0
         by (Later o u n next taken rest) = step o u n (next_at t m reading q from Asked k o u next) taken rest
 
-    pub snapshot_decides : (e : Epoch) (k new : Kept) (r : TargetMemory × Did) (yes : Bool) → q.ep ≡ Some e
-        → ((reading : ℕ) → Decides yes (Onward (FetchNext t m reading q) (FetchEnds t m reading q from) (Reading e m.decided) k.durable false k.free new r)) → Decides yes (HearsSo k new r)
-    snapshot_decides e k new r yes own at = (
+    pub snapshot_decides : (e : Epoch) (k new : Kept) (r : TargetMemory × Did) (test : Bool) → q.ep ≡ Some e
+        → ((reading : ℕ) → Decides test (Onward (FetchNext t m reading q) (FetchEnds t m reading q from) (Reading e m.decided) k.durable false k.free new r)) → Decides test (HearsSo k new r)
+    snapshot_decides e k new r test own at = (
       λ h. (
         0,
         silent_first (FetchNext t m 0 q) (FetchEnds t m 0 q from) Asked (Reading e m.decided) k new r (AtSnapshot k e snapshot own)
@@ -143,4 +143,4 @@ module _ (t : TargetPlan) (m : TargetMemory) (q : FetchRequest) (from : ActorId)
     )
 
     pub snapshot_none : (k new : Kept) (r : TargetMemory × Did) → q.ep ≡ None → HearsSo k new r → ⊥
-    snapshot_none k new r none w = (let s = from_snapshot k new r w.0 w.1 in let here = s.1.0 in let no : ⊥ = cc in no)
+    snapshot_none k new r none w = (let s = from_snapshot k new r w.0 w.1 in let here = s.1.0 in let bad : ⊥ = cc in bad)

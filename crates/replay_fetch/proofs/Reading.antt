@@ -123,9 +123,9 @@ module _ (t : TargetPlan) (m : TargetMemory) (reading : ℕ) (q : FetchRequest) 
       by (Later o u n next taken rest) = (let s = next_at t m reading q from (Reading e decided) (keeps d w.blocks) o u next in absurd (clear s.a s.way))
 
   -- where a reply is to be given, a turn ends with it
-  pub reply_decides : (e : Epoch) (w : Work) (s new : TargetState) (did : Did) (r : Reply) → m ≡ s.memory → IsReply t q e w.durable w.decided.items r → (yes : Bool) → Decides yes (RepliesSo from q e w r s new did)
-      → Decides yes (From e w.decided.items w.durable w.changed s.free (keeps new.durable new.free) (new.memory, did))
-  reply_decides e w s new did r own is yes same = (
+  pub reply_decides : (e : Epoch) (w : Work) (s new : TargetState) (did : Did) (r : Reply) → m ≡ s.memory → IsReply t q e w.durable w.decided.items r → (test : Bool) → Decides test (RepliesSo from q e w r s new did)
+      → Decides test (From e w.decided.items w.durable w.changed s.free (keeps new.durable new.free) (new.memory, did))
+  reply_decides e w s new did r own is test same = (
     λ h.
         let so = same.0 h in
         replies_back e w.decided.items w.durable w.changed s.free (keeps new.durable new.free) (new.memory, did) r is so.durable so.free
@@ -180,11 +180,11 @@ pub memory_with : (q : FetchRequest) (e : Epoch) (decided : List AttemptId) (r :
 memory_with q e decided r m ticks before after at_ticks at_before at_after =
     ap (λ n. memory_of n after decided) at_ticks ∙ ap (λ xs. memory_of (ticks_after q e m.ticks) xs decided) (at_after ∙ ap (stamps_replied q e r) at_before) ∙ memory_is q e decided r m
 
-pub replied_decides : (from : ActorId) (q : FetchRequest) (e : Epoch) (w : Work) (r : Reply) (s new : TargetState) (did : Did) (d : Durable) (changed : Bool) (m : TargetMemory) (told : Did) (yes : Bool)
+pub replied_decides : (from : ActorId) (q : FetchRequest) (e : Epoch) (w : Work) (r : Reply) (s new : TargetState) (did : Did) (d : Durable) (changed : Bool) (m : TargetMemory) (told : Did) (test : Bool)
     → d ≡ w.durable → changed ≡ w.changed → m ≡ memory_replied q e w.decided.items r s.memory → told ≡ tells q from e r
-    → Decides yes ((new.durable ≡ d) × (FreeAfter changed s.free new.free × ((new.memory, did) ≡ (m, told)))) → Decides yes (RepliesSo from q e w r s new did)
-replied_decides from q e w r s new did d changed m told yes kept was knows says same =
-    let left : (m, told) ≡ (memory_replied q e w.decided.items r s.memory, tells q from e r) = ap (λ x. (x, told)) knows ∙ ap (λ x. (memory_replied q e w.decided.items r s.memory, x)) says in (
+    → Decides test ((new.durable ≡ d) × (FreeAfter changed s.free new.free × (◌≡◌ {A = TargetMemory × Did} (new.memory, did) (m, told)))) → Decides test (RepliesSo from q e w r s new did)
+replied_decides from q e w r s new did d changed m told test kept was knows says same =
+    let left : ◌≡◌ {A = TargetMemory × Did} (m, told) (memory_replied q e w.decided.items r s.memory, tells q from e r) = ap (λ x. (x, told)) knows ∙ ap (λ x. (memory_replied q e w.decided.items r s.memory, x)) says in (
       λ h. (let p = same.0 h in record { durable = p.0 ∙ kept; free = subst (λ b. FreeAfter b s.free new.free) was p.1.0; left = p.1.1 ∙ left }),
       λ so. same.1 (so.durable ∙ sym kept, (subst (λ b. FreeAfter b s.free new.free) (sym was) so.free, so.left ∙ sym left)),
     )
@@ -199,5 +199,5 @@ settled_on t q e old mid new a way is on m from free reading k left =
     (subst (λ x. Iff (ReadsFrom t q e m from mid free reading k left) (Onward (FetchNext t m reading q) (FetchEnds t m reading q from) (Reading e x) (settled a Commit mid.durable) true free k left)) (sym is.decided) goes)) in
     iff_both (on m from free reading k left) there
 
-pub decides_on : {P Q : Type 0} (yes : Bool) → Iff P Q → Decides yes Q → Decides yes P
-decides_on yes iff same = (λ h. iff.1 (same.0 h), λ p. same.1 (iff.0 p))
+pub decides_on : {P Q : Type 0} (test : Bool) → Iff P Q → Decides test Q → Decides test P
+decides_on test iff same = (λ h. iff.1 (same.0 h), λ p. same.1 (iff.0 p))

@@ -85,23 +85,23 @@ module _ (t : TargetPlan) (m : TargetMemory) (reading : ℕ) (q : FetchRequest) 
   -- one reply is given
   pub one_reply : (e : Epoch) (k : Kept) (decided : List AttemptId) (r r' : Reply) → IsReply t q e k.durable decided r → IsReply t q e k.durable decided r' → r' ≡ r
   one_reply e k decided r r' (met.IsRefused c why is) (met.IsRefused c' why' is') = (let same : c' ≡ c = cc in is' ∙ ap (λ x. reply.Outcome (outcome.Restart x)) same ∙ sym is)
-  one_reply e k decided r r' (met.IsRefused c why is) (met.IsUnresolved a none unsettled apart is') = let no : ⊥ = cc in absurd no
-  one_reply e k decided r r' (met.IsRefused c why is) (met.IsAnswered b none answer is') = let no : ⊥ = cc in absurd no
-  one_reply e k decided r r' (met.IsUnresolved a none unsettled apart is) (met.IsRefused c why is') = let no : ⊥ = cc in absurd no
+  one_reply e k decided r r' (met.IsRefused c why is) (met.IsUnresolved a none unsettled apart is') = let bad : ⊥ = cc in absurd bad
+  one_reply e k decided r r' (met.IsRefused c why is) (met.IsAnswered b none answer is') = let bad : ⊥ = cc in absurd bad
+  one_reply e k decided r r' (met.IsUnresolved a none unsettled apart is) (met.IsRefused c why is') = let bad : ⊥ = cc in absurd bad
   one_reply e k decided r r' (met.IsUnresolved a none unsettled apart is) (met.IsUnresolved a' none' unsettled' apart' is') = (let same : a' ≡ a = cc in is' ∙ ap (λ x. reply.Outcome (outcome.Restart (cause.Unresolved x))) same ∙ sym is)
-  one_reply e k decided r r' (met.IsUnresolved a none unsettled apart is) (met.IsAnswered b none' answer is') = let no : ⊥ = cc in absurd no
-  one_reply e k decided r r' (met.IsAnswered b none answer is) (met.IsRefused c why is') = let no : ⊥ = cc in absurd no
-  one_reply e k decided r r' (met.IsAnswered b none answer is) (met.IsUnresolved a none' unsettled apart is') = let no : ⊥ = cc in absurd no
+  one_reply e k decided r r' (met.IsUnresolved a none unsettled apart is) (met.IsAnswered b none' answer is') = let bad : ⊥ = cc in absurd bad
+  one_reply e k decided r r' (met.IsAnswered b none answer is) (met.IsRefused c why is') = let bad : ⊥ = cc in absurd bad
+  one_reply e k decided r r' (met.IsAnswered b none answer is) (met.IsUnresolved a none' unsettled apart is') = let bad : ⊥ = cc in absurd bad
   one_reply e k decided r r' (met.IsAnswered b none answer is) (met.IsAnswered b' none' answer' is') = (let same : b' ≡ b = cc in is' ∙ ap reply.Answer same ∙ sym is)
 
   -- it isn't given while a decided attempt is in the way, nor where a read doesn't go on
   pub way_unanswered : (e : Epoch) (k : Kept) (decided : List AttemptId) (a : AttemptId) (r : Reply) → IsInTheWay t q e k.durable decided a → IsReply t q e k.durable decided r → ⊥
-  way_unanswered e k decided a r w (met.IsRefused c why is) = (let none = w.free in let no : ⊥ = cc in no)
+  way_unanswered e k decided a r w (met.IsRefused c why is) = (let none = w.free in let bad : ⊥ = cc in bad)
   way_unanswered e k decided a r w (met.IsUnresolved b none unsettled apart is) = (let here = w.meets in let same : a ≡ b = cc in apart (subst (Contains decided) same w.own))
-  way_unanswered e k decided a r w (met.IsAnswered b none answer is) = (let here = w.meets in let no : ⊥ = cc in no)
+  way_unanswered e k decided a r w (met.IsAnswered b none answer is) = (let here = w.meets in let bad : ⊥ = cc in bad)
 
   pub stuck_unanswered : (e : Epoch) (k : Kept) (decided : List AttemptId) (r : Reply) → met.IsStuck t q e k.durable → IsReply t q e k.durable decided r → ⊥
-  stuck_unanswered e k decided r w (met.IsRefused c why is) = (let none = w.free in let no : ⊥ = cc in no)
+  stuck_unanswered e k decided r w (met.IsRefused c why is) = (let none = w.free in let bad : ⊥ = cc in bad)
   stuck_unanswered e k decided r w (met.IsUnresolved b none unsettled apart is) = w.unmet b unsettled
   stuck_unanswered e k decided r w (met.IsAnswered b none answer is) = w.unanswered b answer
 

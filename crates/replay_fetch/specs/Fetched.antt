@@ -6,6 +6,7 @@ use Rattle.daos_messages.specs.declared.message.Reply.{Reply}
 use Rattle.target_core.specs.Meets.{memory_replied}
 use Rattle.world_base.specs.declared.did.Did.{Did}
 use Rattle.world_base.specs.declared.request.FetchRequest.{FetchRequest}
+use Rattle.world_base.specs.declared.target.TargetMemory.{TargetMemory}
 use Rattle.world_base.specs.declared.target.TargetPlan.{TargetPlan}
 use Rattle.world_base.specs.declared.target.TargetState.{TargetState}
 use Rattle.world_turns.specs.Reads.{Asked, FetchEnds, FetchNext, tells}
@@ -22,4 +23,4 @@ FetchesSo t from q s new did =
 pub record RepliesSo (from : ActorId) (q : FetchRequest) (e : Epoch) (w : Work) (r : Reply) (s new : TargetState) (did : Did) : Type 0 where
   pub durable : new.durable ≡ w.durable
   pub free : FreeAfter w.changed s.free new.free
-  pub left : (new.memory, did) ≡ (memory_replied q e w.decided.items r s.memory, tells q from e r)
+  pub left : ◌≡◌ {A = TargetMemory × Did} (new.memory, did) (memory_replied q e w.decided.items r s.memory, tells q from e r)

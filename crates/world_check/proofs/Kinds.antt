@@ -12,17 +12,17 @@ use Rattle.world_list.specs.declared.events.Event.{Event}
 use Rattle.world_check.proofs.Lists.{last_more}
 
 module _ (r : Rules) (w v : World) (a : ActorId) (l : Letter) where
-  pub to_client : (yes : Bool) → a.client ≡ true → Decides yes (ClientHearsAs r w a l v) → Decides yes (ClientHearsAs r w a l v ⊎ TargetHearsAs r w a l v)
-  to_client yes is same = (λ h. inl (same.0 h), by)
+  pub to_client : (test : Bool) → a.client ≡ true → Decides test (ClientHearsAs r w a l v) → Decides test (ClientHearsAs r w a l v ⊎ TargetHearsAs r w a l v)
+  to_client test is same = (λ h. inl (same.0 h), by)
     where
-      by : ClientHearsAs r w a l v ⊎ TargetHearsAs r w a l v → yes ≡ true
+      by : ClientHearsAs r w a l v ⊎ TargetHearsAs r w a l v → test ≡ true
       by (inl h) = same.1 h
       by (inr h) = clash a.client is (ap (λ b. b.client) h.by)
 
-  pub to_target : (yes : Bool) → a.client ≡ false → Decides yes (TargetHearsAs r w a l v) → Decides yes (ClientHearsAs r w a l v ⊎ TargetHearsAs r w a l v)
-  to_target yes is same = (λ h. inr (same.0 h), by)
+  pub to_target : (test : Bool) → a.client ≡ false → Decides test (TargetHearsAs r w a l v) → Decides test (ClientHearsAs r w a l v ⊎ TargetHearsAs r w a l v)
+  to_target test is same = (λ h. inr (same.0 h), by)
     where
-      by : ClientHearsAs r w a l v ⊎ TargetHearsAs r w a l v → yes ≡ true
+      by : ClientHearsAs r w a l v ⊎ TargetHearsAs r w a l v → test ≡ true
       by (inl h) = clash a.client (ap (λ b. b.client) h.by) is
       by (inr h) = same.1 h
 

@@ -3,3 +3,4 @@ pub mod Targets
 pub mod Lists
 pub mod Kinds
 pub mod Starts
+pub mod Hearing

@@ -17,7 +17,7 @@ drop_item xs i x lt is =
 
 -- the world after one event more
 pub last_more : (w : World) (es : List Event) (i : ℕ) (e : Event) → i < length es → e ≡ get_or es i e → last_world w (take (i + 1) es) ≡ e.after
-last_more w [] i e lt is = let no : ⊥ = omega (arith, lt) in absurd no
+last_more w [] i e lt is = let bad : ⊥ = omega (arith, lt) in absurd bad
 last_more w (x ∷ es) zero e lt is = sym (ap (λ y. y.after) is)
 last_more w (x ∷ es) (suc i) e lt is = last_more x.after es i e (omega arith) is
 
@@ -39,8 +39,8 @@ module _ (r : Rules) (start w : World) (list : List Event) (i : ℕ) (e : Event)
   )
 
   -- or it doesn't
-  pub leads_not : (yes : Bool) → Decides yes (LeadsTo r w e.kind e.actor e.heard e.after) → yes ≡ false → Iff (IsRunFrom r start list) Rest → IsRunFrom r start list → ⊥
-  leads_not yes same no so h = clash yes (same.1 (here (so.0 h)).0) no
+  pub leads_not : (test : Bool) → Decides test (LeadsTo r w e.kind e.actor e.heard e.after) → test ≡ false → Iff (IsRunFrom r start list) Rest → IsRunFrom r start list → ⊥
+  leads_not test same bad so h = clash test (same.1 (here (so.0 h)).0) bad
 
 -- none is left
 pub at_end : (r : Rules) (start w : World) (list : List Event) (i : ℕ) → length list ≤ i → Iff (IsRunFrom r start list) (IsRunFrom r w (drop i list)) → IsRunFrom r start list
@@ -55,8 +55,8 @@ module _ (r : Rules) (start : World) (list list' : List Event) (i : ℕ) (e : Ev
   item : e ≡ get_or list i e
   item = subst (λ xs. e ≡ get_or xs i e) same is
 
-  pub event_not : (yes : Bool) → Decides yes (LeadsTo r w e.kind e.actor e.heard e.after) → yes ≡ false → Iff (IsRunFrom r start list) (IsRunFrom r (last_world start (take i list)) (drop i list)) → IsRunFrom r start list → ⊥
-  event_not yes leads no so = leads_not r start (last_world start (take i list)) list i e within item yes (subst (λ x. Decides yes (LeadsTo r x e.kind e.actor e.heard e.after)) at leads) no so
+  pub event_not : (test : Bool) → Decides test (LeadsTo r w e.kind e.actor e.heard e.after) → test ≡ false → Iff (IsRunFrom r start list) (IsRunFrom r (last_world start (take i list)) (drop i list)) → IsRunFrom r start list → ⊥
+  event_not test leads bad so = leads_not r start (last_world start (take i list)) list i e within item test (subst (λ x. Decides test (LeadsTo r x e.kind e.actor e.heard e.after)) at leads) bad so
 
   pub event_on : LeadsTo r w e.kind e.actor e.heard e.after → Iff (IsRunFrom r start list) (IsRunFrom r (last_world start (take i list)) (drop i list))
       → Iff (IsRunFrom r start list) (IsRunFrom r (last_world start (take (i + 1) list)) (drop (i + 1) list))

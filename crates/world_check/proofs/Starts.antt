@@ -21,7 +21,7 @@ plan_fits r n commands few = record { commands = commands; few = few }
 -- behind the last list of the script a client has nothing to do
 none_there : {A : Type 0} (xs : List A) (n : ℕ) → length xs ≤ n → slice_get xs n ≡ None
 none_there [] n le = refl
-none_there (x ∷ xs) zero le = let no : ⊥ = omega (arith, le) in absurd no
+none_there (x ∷ xs) zero le = let bad : ⊥ = omega (arith, le) in absurd bad
 none_there (x ∷ xs) (suc n) le = none_there xs n (omega arith)
 
 nothing_fits : (r : Rules) (n : ℕ) → slice_get r.script.clients n ≡ None → PlanFits (client_plan r n)
@@ -60,9 +60,9 @@ has_place : (r : Rules) (n : ℕ) (c : ClientState) → IsInPlace (client_plan r
 has_place r n c h = record { few = h.few; numbered = h.numbered }
 
 -- as the code tests it, part by part
-pub place_decides : (commands rest : List Command) (c : ClientState) (left : ℕ) (present numbered few of yes : Bool) → rest ≡ drop c.place commands → left ≡ count_by is_numbered rest → numbered ≡ has_number (slice_get commands c.place) → present ≡ is_some c.present
-    → Decides few (c.command + left ≤ 100000) → Decides of (present ≡ true → numbered ≡ true) → yes ≡ (few && of) → Decides yes (HasPlace commands c)
-place_decides commands rest c left present numbered few of yes rest_is left_is number_is present_is one two all =
+pub place_decides : (commands rest : List Command) (c : ClientState) (left : ℕ) (present numbered few of test : Bool) → rest ≡ drop c.place commands → left ≡ count_by is_numbered rest → numbered ≡ has_number (slice_get commands c.place) → present ≡ is_some c.present
+    → Decides few (c.command + left ≤ 100000) → Decides of (present ≡ true → numbered ≡ true) → test ≡ (few && of) → Decides test (HasPlace commands c)
+place_decides commands rest c left present numbered few of test rest_is left_is number_is present_is one two all =
     let both_of = Decides-and few of one two in
     let left_same : left ≡ count_by is_numbered (drop c.place commands) = left_is ∙ ap (count_by is_numbered) rest_is in (
       λ h.
@@ -75,7 +75,7 @@ place_decides commands rest c left present numbered few of yes rest_is left_is n
     )
 
 get_at : {A : Type 0} (xs : List A) (n : ℕ) (x : A) → n < length xs → x ≡ get_or xs n x → slice_get xs n ≡ Some x
-get_at [] n x lt is = let no : ⊥ = omega (arith, lt) in absurd no
+get_at [] n x lt is = let bad : ⊥ = omega (arith, lt) in absurd bad
 get_at (y ∷ ys) zero x lt is = ap Some (sym is)
 get_at (y ∷ ys) (suc n) x lt is = get_at ys n x (omega arith) is
 
@@ -102,7 +102,7 @@ pub places_all : (r : Rules) (w : World) (clients : List ClientState) (i : ℕ) 
 places_all r w clients i same le before n c there = by (cases_order n i)
   where
     none : length clients ≤ n → ⊥
-    none past = (let gone : slice_get w.clients n ≡ None = subst (λ xs. slice_get xs n ≡ None) same (none_there clients n past) in let no : ⊥ = cc in no)
+    none past = (let gone : slice_get w.clients n ≡ None = subst (λ xs. slice_get xs n ≡ None) same (none_there clients n past) in let bad : ⊥ = cc in bad)
 
     by : (n ≡ i) ⊎ ((n < i) ⊎ (i < n)) → IsInPlace (client_plan r n) c
     by (inl here) = absurd (none (omega (arith, le, here)))

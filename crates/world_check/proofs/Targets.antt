@@ -173,18 +173,18 @@ found r w v n l s next here there h =
 -- where the turn is none that could be made, there is no such event
 pub hears_none : (r : Rules) (w v : World) (n : ℕ) (l : Letter) (s next : TargetState) (hears : Bool) → l.to ≡ target n → slice_get w.targets n ≡ Some s → slice_get v.targets n ≡ Some next
     → Decides hears (HearsSo (target_plan r n) l.from l.message s next (did_told w v)) → hears ≡ false → TargetHearsAs r w l.to l v → ⊥
-hears_none r w v n l s next hears to here there same no h = clash hears (same.1 (found r w v n l s next here there (hears_at r w n l v to h)).hears) no
+hears_none r w v n l s next hears to here there same bad h = clash hears (same.1 (found r w v n l s next here there (hears_at r w n l v to h)).hears) bad
 
 pub hears_decides : (r : Rules) (w v : World) (n : ℕ) (l : Letter) (s next : TargetState) (did : Did) (f : Follow) (hears stands result : Bool) → l.to ≡ target n → s.life ≡ Running
     → slice_get w.targets n ≡ Some s → slice_get v.targets n ≡ Some next → did ≡ did_told w v → Decides hears (HearsSo (target_plan r n) l.from l.message s next did) → hears ≡ true → FollowIs f w (target n) did
     → Decides stands (StaysOpen s next × IsAfterTarget w n next f v) → Both stands (IsTaken v.messages w.messages l f.letters) result → Decides result (TargetHearsAs r w l.to l v)
-hears_decides r w v n l s next did f hears stands result to runs here there did_same same yes follow first both =
+hears_decides r w v n l s next did f hears stands result to runs here there did_same same test follow first both =
     let follow' : FollowIs f w (target n) (did_told w v) = subst (FollowIs f w (target n)) did_same follow in
     let parts : TargetHearsAs r w l.to l v → IsAfterTarget w n next f v × IsTaken v.messages w.messages l f.letters = (λ h.
     let g = found r w v n l s next here there (hears_at r w n l v to h) in
     let x = from_world w v n s next (did_told w v) f g.rest here follow' g.after in (x.0, record { rest = g.rest; takes = g.takes; left = x.1 })) in
     both_decide (StaysOpen s next × IsAfterTarget w n next f v) (IsTaken v.messages w.messages l f.letters) (TargetHearsAs r w l.to l v) stands result first
-    (λ p taken. hears_made r w v n l s next did f to runs here (same.0 yes) follow p taken)
+    (λ p taken. hears_made r w v n l s next did f to runs here (same.0 test) follow p taken)
     (λ h. ((found r w v n l s next here there (hears_at r w n l v to h)).still, (parts h).0)) (λ h. (parts h).1) both
 
 -- ---- a target does its idle work
@@ -260,17 +260,17 @@ found_idle w v n s next here there h =
 
 pub idles_none : (r : Rules) (w v : World) (a : ActorId) (s next : TargetState) (idles : Bool) → slice_get w.targets a.number ≡ Some s → slice_get v.targets a.number ≡ Some next
     → Decides idles (IdlesSo s next) → idles ≡ false → IdlesAs r w a v → ⊥
-idles_none r w v a s next idles here there same no h = clash idles (same.1 (found_idle w v a.number s next here there (idles_at r w a v h)).idles) no
+idles_none r w v a s next idles here there same bad h = clash idles (same.1 (found_idle w v a.number s next here there (idles_at r w a v h)).idles) bad
 
 pub idles_decides : (r : Rules) (w v : World) (a : ActorId) (s next : TargetState) (f : Follow) (idles stands result : Bool) → a.client ≡ false → s.life ≡ Running
     → slice_get w.targets a.number ≡ Some s → slice_get v.targets a.number ≡ Some next → Decides idles (IdlesSo s next) → idles ≡ true → FollowIs f w a nothing_follows
     → Decides stands (StaysOpen s next × IsAfterTarget w a.number next f v) → Both stands (v.messages ≡ w.messages ++ f.letters) result → Decides result (IdlesAs r w a v)
-idles_decides r w v a s next f idles stands result is runs here there same yes follow first both =
+idles_decides r w v a s next f idles stands result is runs here there same test follow first both =
     let follow' : FollowIs f w (target a.number) nothing_follows = subst (λ b. FollowIs f w b nothing_follows) (target_is a is) follow in
     let parts : IdlesAs r w a v → StaysOpen s next × (IsAfterTarget w a.number next f v × (v.messages ≡ w.messages ++ f.letters)) = (λ h.
     let g = found_idle w v a.number s next here there (idles_at r w a v h) in (g.still, from_world w v a.number s next nothing_follows f w.messages here follow' g.after)) in
     both_decide (StaysOpen s next × IsAfterTarget w a.number next f v) (v.messages ≡ w.messages ++ f.letters) (IdlesAs r w a v) stands result first
-    (λ p letters. idles_made r w v a s next f is runs here (same.0 yes) follow' p letters) (λ h. ((parts h).0, (parts h).1.0)) (λ h. (parts h).1.1) both
+    (λ p letters. idles_made r w v a s next f is runs here (same.0 test) follow' p letters) (λ h. ((parts h).0, (parts h).1.0)) (λ h. (parts h).1.1) both
 
 -- ---- as the code says it
 

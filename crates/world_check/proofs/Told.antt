@@ -75,6 +75,6 @@ did_is w v a did rest one messages issued =
 
 -- the last of some letters
 pub told_last : (ls : List Letter) (l : Letter) → 0 < length ls → l ≡ get_or ls (length ls - 1) l → posts_told ls ≡ post_of l ∷ []
-told_last [] l some is = let no : ⊥ = omega (arith, some) in absurd no
+told_last [] l some is = let bad : ⊥ = omega (arith, some) in absurd bad
 told_last (x ∷ []) l some is = ap (λ y. post_of y ∷ []) (sym is)
 told_last (x ∷ y ∷ ls) l some is = told_last (y ∷ ls) l (omega arith) is

@@ -1,15 +1,16 @@
 // A target hears a message.
-ghost use Rattle.std.specs.Prelude.{◌≡◌, true, IfOk, Decides};
+ghost use Rattle.std.specs.Prelude.{◌≡◌, IfOk, Decides};
 ghost use Rattle.std.specs.List.{list_all};
 ghost use Rattle.daos_model.specs.Durables.{is_version_in_form};
+ghost use Rattle.replay_base.specs.Heard.{CanRead};
 ghost use Rattle.world_check.specs.Turned.{HearsSo};
 
 use daos_base::items::Memory;
 use daos_messages::actor::ActorId;
 use daos_messages::message::Message;
-use daos_model::durable::Version;
+use daos_model::durable::{Durable, Version};
 use replay_commit::commit::commits_so;
-use replay_commit::forms::{is_asked, is_write_in_form};
+use replay_commit::forms::{is_asked, is_lone, is_write_in_form};
 use replay_fetch::fetch::fetches_so;
 use std::alloc::Global;
 use world_base::did::Did;
@@ -23,6 +24,13 @@ fn are_in_form(versions: &[Version]) -> bool
     versions
         .iter()
         .all(|version| is_write_in_form(&version.write))
+}
+
+// Whether a lone target can read what it keeps.
+fn can_read(plan: TargetPlan, durable: &Durable) -> bool
+    ensures { Decides result (CanRead plan durable.now) }
+{
+    is_lone(plan) && are_in_form(durable.versions.as_slice())
 }
 
 /// Whether a target hears a message so: it comes from one state to another, and this follows, at some
@@ -49,7 +57,7 @@ pub fn hears_so(
             read,
             snapshot,
         } => {
-            if !are_in_form(before.durable.versions.as_slice()) {
+            if !can_read(plan, &before.durable) {
                 return Ok(false);
             }
             let request = FetchRequest {

@@ -4,7 +4,7 @@ use Rattle.replay_base.proofs.epochs.is_spent.Goals as goal
 
 pub returns-in-Some : goal.returns-in-Some
 returns-in-Some c = (
-  λ e. let no : ⊥ = cc in absurd no,
+  λ e. let bad : ⊥ = cc in absurd bad,
   λ spent. absurd (unspent c.args.plan c.args.memory.now c.args.tracker c.in-Some._least (sym c.least_ticks.ensures ∙ c.in-Some.is) spent),
 )
 

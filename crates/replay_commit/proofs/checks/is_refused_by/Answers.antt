@@ -7,4 +7,4 @@ returns-in-Some c = by_floor c.args.plan c.args.opening c.args.first c.args.epoc
 
 pub returns-in-None : goal.returns-in-None
 returns-in-None c =
-    if_ok _ _ c.is_refused_above.result (λ yes same. by_above c.args.plan c.args.opening c.args.first c.args.epoch c.args.durable.now c.args.stamps.now c.args.writes.now c.first_floor.result c.args.cause.now yes c.first_floor.ensures c.in-None.is same) c.is_refused_above.ensures
+    if_ok _ _ c.is_refused_above.result (λ test same. by_above c.args.plan c.args.opening c.args.first c.args.epoch c.args.durable.now c.args.stamps.now c.args.writes.now c.first_floor.result c.args.cause.now test c.first_floor.ensures c.in-None.is same) c.is_refused_above.ensures

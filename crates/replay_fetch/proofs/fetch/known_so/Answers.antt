@@ -11,8 +11,8 @@ read_from-requires c =
 pub returns-in-Some : goal.returns-in-Some
 returns-in-Some c =
     if_ok _ _ c.read_from.result
-    (λ yes same reading. covered_decides c.args.plan c.args.before.now.memory reading c.args.request.now c.args.from c.args.epoch c.args.before.now.durable c.args.before.now.free _ _ c.in-Some.start
-    (covered_of _ _ _ c.args.before.now.durable _ c.in-Some.start c.ticks.ensures c.in_ok-copy_kept.ensures c.cover.ensures c.in-Some.is) yes (same reading)) c.read_from.ensures
+    (λ test same reading. covered_decides c.args.plan c.args.before.now.memory reading c.args.request.now c.args.from c.args.epoch c.args.before.now.durable c.args.before.now.free _ _ c.in-Some.start
+    (covered_of _ _ _ c.args.before.now.durable _ c.in-Some.start c.ticks.ensures c.in_ok-copy_kept.ensures c.cover.ensures c.in-Some.is) test (same reading)) c.read_from.ensures
 
 pub returns-in-None : goal.returns-in-None
 returns-in-None c reading =
