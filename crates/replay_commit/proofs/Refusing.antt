@@ -25,7 +25,7 @@ use Rattle.world_turns.specs.Requests.{with_ticks}
 use Rattle.replay_base.specs.Onward.{FreeAfter}
 use Rattle.replay_base.specs.declared.leases.Covered.{Covered}
 use Rattle.replay_commit.specs.Refused.{IsRefusedAbove}
-use Rattle.replay_commit.specs.Ways.{LacksSpaceSo, RefusesSo, StoresFree, StoresSo, lone_entry}
+use Rattle.replay_commit.specs.Ways.{EndsAs, LacksSpaceSo, RefusesSo, StoresFree, StoresSo, lone_entry, outcome_of}
 
 module _ (t : TargetPlan) (opening : Epoch × FloorWhy) (first : Option Epoch) (e : Epoch) (d : Durable) (stamps : List Shown) (ws : List MinorWrite) where
   abbrev By : Cause → Type 0
@@ -113,3 +113,6 @@ module _ (t : TargetPlan) (from : ActorId) (q : CommitRequest) (e : Epoch) (star
         h.durable ∙ sym stored,
         (subst (λ n. StoresFree extended n s.free new.free) (sym need_is) (subst (λ b. StoresFree b (blocks q.writes) s.free new.free) (sym was) h.free), h.left ∙ sym same),
       ))
+
+  pub told_arm : (x how : Option Outcome) (test : Bool) → x ≡ outcome_of did.posts → x ≡ how → Decides test (EndsAs t from q e start s new did how) → Decides test (EndsAs t from q e start s new did (outcome_of did.posts))
+  told_arm x how test told is same = subst (λ o. Decides test (EndsAs t from q e start s new did o)) (sym is ∙ told) same

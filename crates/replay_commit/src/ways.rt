@@ -33,7 +33,7 @@ use world_same::same::Same;
 
 // How an attempt ended, as a message tells it.
 fn ended_of(message: &Message) -> Option<&Outcome>
-    ensures { option_copied result.entry ≡ ended_of message.now }
+    ensures { option_copied result ≡ ended_of message.now }
 {
     match message {
         Message::Ended { outcome, .. } => Some(outcome),
@@ -43,7 +43,7 @@ fn ended_of(message: &Message) -> Option<&Outcome>
 
 // How an attempt ended, as it is told by what is sent.
 fn outcome_of(posts: &[Post]) -> Option<&Outcome>
-    ensures { option_copied result.entry ≡ outcome_of posts.now }
+    ensures { option_copied result ≡ outcome_of posts.now }
 {
     if posts.is_empty() {
         return None;

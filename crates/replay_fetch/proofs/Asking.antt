@@ -15,7 +15,7 @@ use Rattle.world_turns.specs.Reads.{Asked, AtSnapshot, ExtendsLease, FetchEnds, 
 use Rattle.world_turns.specs.Requests.{issued_for, request_epoch}
 use Rattle.world_turns.specs.Turns.{Whole}
 use Rattle.replay_base.specs.Leases as lease
-use Rattle.replay_base.specs.Onward.{Onward}
+use Rattle.replay_base.specs.Onward.{Onward, keeps}
 use Rattle.replay_base.specs.Requested.{AsksAt, IsToldEpoch, SpentSo, TellsEpoch}
 use Rattle.replay_base.specs.declared.leases.Covered.{Covered}
 use Rattle.replay_base.proofs.Asking.{Begins, keeps_on, known_decides, known_not, spent_decides}
@@ -141,6 +141,11 @@ module _ (t : TargetPlan) (m : TargetMemory) (q : FetchRequest) (from : ActorId)
           (at w.0).1 ((whole_onward (FetchNext t m w.0 q) (FetchEnds t m w.0 q from) (Reading e m.decided) k new r).0
           (subst (λ y. Whole (FetchNext t m w.0 q) (FetchEnds t m w.0 q from) (Reading y m.decided) k new r) same s.1.1)),
     )
+
+    pub snapshot_at : (e : Epoch) (d d' : Durable) (free : ℕ) (new : Kept) (r : TargetMemory × Did) (test : Bool) → q.ep ≡ Some e → d ≡ d'
+        → ((reading : ℕ) → Decides test (Onward (FetchNext t m reading q) (FetchEnds t m reading q from) (Reading e m.decided) d false free new r)) → Decides test (HearsSo (keeps d' free) new r)
+    snapshot_at e d d' free new r test own same at =
+        snapshot_decides e (keeps d' free) new r test own (λ reading. subst (λ x. Decides test (Onward (FetchNext t m reading q) (FetchEnds t m reading q from) (Reading e m.decided) x false free new r)) same (at reading))
 
     pub snapshot_none : (k new : Kept) (r : TargetMemory × Did) → q.ep ≡ None → HearsSo k new r → ⊥
     snapshot_none k new r none w = (let s = from_snapshot k new r w.0 w.1 in let here = s.1.0 in let bad : ⊥ = cc in bad)

@@ -23,9 +23,9 @@ use Rattle.world_turns.specs.Reads.{FetchEnds, FetchNext, FetchStage, Reading, S
 use Rattle.world_turns.specs.Requests.{is_other_attempt, with_ticks}
 use Rattle.world_turns.specs.Turns.{Whole}
 use Rattle.replay_base.specs.Onward.{FreeAfter, Iff, Onward, keeps}
-use Rattle.replay_base.proofs.Starts.{AtOnce, First, Later, at_once, change_first, durable_is, first, free_least, free_more, iff_both}
+use Rattle.replay_base.proofs.Starts.{AtOnce, First, Later, at_once, change_first, durable_is, first, free_least, free_more, iff_both, none_so}
 use Rattle.replay_fetch.specs.Fetched.{RepliesSo}
-use Rattle.replay_fetch.specs.Met.{IsInTheWay, IsMet, IsReply, IsSettled, IsStuck, ReadsFrom, ReadsOn, ticks_after}
+use Rattle.replay_fetch.specs.Met.{ComesTo, IsInTheWay, IsMet, IsReply, IsSettled, IsStuck, ReadsFrom, ReadsOn, ticks_after}
 use Rattle.replay_fetch.specs.declared.meets.Met.{Met}
 use Rattle.replay_fetch.specs.declared.meets.Met.TheVariants as met
 use Rattle.replay_fetch.specs.declared.reads.Work.{Work}
@@ -159,7 +159,7 @@ pub met_stuck : (t : TargetPlan) (q : FetchRequest) (e : Epoch) (d : Durable) (d
 met_stuck t q e d ds m is here = subst (IsMet t q e d ds) here is
 
 -- what a target knows, part by part
-memory_of : ℕ → List Shown → List AttemptId → TargetMemory
+abbrev pub memory_of : ℕ → List Shown → List AttemptId → TargetMemory
 memory_of ticks stamps decided = record { ticks = ticks; stamps = stamps; decided = decided }
 
 memory_at : (q : FetchRequest) (e : Epoch) (decided : List AttemptId) (m : TargetMemory) (b : Bool)
@@ -201,3 +201,20 @@ settled_on t q e old mid new a way is on m from free reading k left =
 
 pub decides_on : {P Q : Type 0} (test : Bool) → Iff P Q → Decides test Q → Decides test P
 decides_on test iff same = (λ h. iff.1 (same.0 h), λ p. same.1 (iff.0 p))
+
+-- a read that came to its reply
+pub end_decides : (t : TargetPlan) (q : FetchRequest) (e : Epoch) (old w w' : Work) (o o' : Option Reply) (r : Reply) (from : ActorId) (s new : TargetState) (did : Did) (test : Bool) → w ≡ w' → o ≡ o' → o' ≡ Some r → ReadsOn t q e old w
+    → ComesTo t q e w.durable w.decided.items o → Decides test (RepliesSo from q e w' r s new did) → (reading : ℕ)
+    → Decides test (ReadsFrom t q e s.memory from old s.free reading (keeps new.durable new.free) (new.memory, did))
+end_decides t q e old w w' o o' r from s new did test same_work same_reply some on comes_to same reading =
+    let is : IsReply t q e w.durable w.decided.items r = subst (ComesTo t q e w.durable w.decided.items) (same_reply ∙ some) comes_to in
+    decides_on test (on s.memory from s.free reading (keeps new.durable new.free) (new.memory, did))
+    (reply_decides t s.memory reading q from e w s new did r refl is test (subst (λ x. Decides test (RepliesSo from q e x r s new did)) (sym same_work) same))
+
+-- or doesn't go on
+pub end_never : (t : TargetPlan) (q : FetchRequest) (e : Epoch) (old w : Work) (o o' : Option Reply) (from : ActorId) (s new : TargetState) (did : Did) → o ≡ o' → o' ≡ None → ReadsOn t q e old w → ComesTo t q e w.durable w.decided.items o → (reading : ℕ)
+    → Decides false (ReadsFrom t q e s.memory from old s.free reading (keeps new.durable new.free) (new.memory, did))
+end_never t q e old w o o' from s new did same_reply none on comes_to reading =
+    let stuck : IsStuck t q e w.durable = subst (ComesTo t q e w.durable w.decided.items) (same_reply ∙ none) comes_to in
+    decides_on false (on s.memory from s.free reading (keeps new.durable new.free) (new.memory, did))
+    (none_so (stuck_none t s.memory reading q from e w.decided.items w.durable w.changed s.free (keeps new.durable new.free) (new.memory, did) stuck))

@@ -60,18 +60,18 @@ has_place : (r : Rules) (n : ℕ) (c : ClientState) → IsInPlace (client_plan r
 has_place r n c h = record { few = h.few; numbered = h.numbered }
 
 -- as the code tests it, part by part
-pub place_decides : (commands rest : List Command) (c : ClientState) (left : ℕ) (present numbered few of test : Bool) → rest ≡ drop c.place commands → left ≡ count_by is_numbered rest → numbered ≡ has_number (slice_get commands c.place) → present ≡ is_some c.present
-    → Decides few (c.command + left ≤ 100000) → Decides of (present ≡ true → numbered ≡ true) → test ≡ (few && of) → Decides test (HasPlace commands c)
-place_decides commands rest c left present numbered few of test rest_is left_is number_is present_is one two all =
-    let both_of = Decides-and few of one two in
+pub place_decides : (commands rest : List Command) (c : ClientState) (left : ℕ) (present numbered few kind test : Bool) → rest ≡ drop c.place commands → left ≡ count_by is_numbered rest → numbered ≡ has_number (slice_get commands c.place) → present ≡ is_some c.present
+    → Decides few (c.command + left ≤ 100000) → Decides kind (present ≡ true → numbered ≡ true) → test ≡ (few && kind) → Decides test (HasPlace commands c)
+place_decides commands rest c left present numbered few kind test rest_is left_is number_is present_is one two all =
+    let both_hold = Decides-and few kind one two in
     let left_same : left ≡ count_by is_numbered (drop c.place commands) = left_is ∙ ap (count_by is_numbered) rest_is in (
       λ h.
-          let p = both_of.0 (sym all ∙ h) in
+          let p = both_hold.0 (sym all ∙ h) in
           record {
             few = subst (λ n. c.command + n ≤ 100000) left_same p.0;
             numbered = λ some. sym number_is ∙ p.1 (present_is ∙ some);
           },
-      λ h. all ∙ both_of.1 (subst (λ n. c.command + n ≤ 100000) (sym left_same) h.few, λ some. number_is ∙ h.numbered (sym present_is ∙ some)),
+      λ h. all ∙ both_hold.1 (subst (λ n. c.command + n ≤ 100000) (sym left_same) h.few, λ some. number_is ∙ h.numbered (sym present_is ∙ some)),
     )
 
 get_at : {A : Type 0} (xs : List A) (n : ℕ) (x : A) → n < length xs → x ≡ get_or xs n x → slice_get xs n ≡ Some x

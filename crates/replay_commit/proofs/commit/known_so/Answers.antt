@@ -3,6 +3,9 @@ use Rattle.replay_commit.proofs.Asking.{covered_decides, uncovered_none}
 use Rattle.replay_commit.proofs.Checking.{told_decides}
 use Rattle.replay_commit.proofs.commit.known_so.Goals as goal
 
+pub ends_so-requires : goal.ends_so-requires
+ends_so-requires c = c.requires.writes.form
+
 pub returns-in-Some : goal.returns-in-Some
 returns-in-Some c =
     if_ok _ _ c.ends_so.result

@@ -5,11 +5,11 @@ use Rattle.replay_fetch.specs.Met.{ReadsOn}
 use Rattle.replay_fetch.proofs.reads.read_on.Given as goal
 
 -- the read went on from where it began to here
-abbrev pub invariant-loop-attempt : goal.invariant-loop-attempt
-invariant-loop-attempt l = record {
+abbrev pub invariant-loop-work : goal.invariant-loop-work
+invariant-loop-work l = record {
   form : list_all is_version_in_form l.work.durable.versions ≡ true;
   on : ReadsOn l.plan l.request l.epoch l.initial.work l.work;
 }
 
-abbrev pub decreases-loop-attempt : goal.decreases-loop-attempt
-decreases-loop-attempt l = length l.work.decided.items
+abbrev pub decreases-loop-work : goal.decreases-loop-work
+decreases-loop-work l = length l.work.decided.items
