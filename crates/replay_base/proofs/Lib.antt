@@ -1,0 +1,5 @@
+pub mod Starts
+pub mod Covering
+pub mod Asking
+pub mod Idling
+pub mod Issuing

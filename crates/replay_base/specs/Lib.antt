@@ -1,0 +1,7 @@
+-- A target's turn, followed step by step from what is told of it.
+pub mod Onward
+pub mod Requested
+pub mod Issuing
+pub mod Leases
+pub mod Heard
+pub mod Idles

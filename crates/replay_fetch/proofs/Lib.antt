@@ -1,0 +1,4 @@
+pub mod Stages
+pub mod Reading
+pub mod Asking
+pub mod Meeting

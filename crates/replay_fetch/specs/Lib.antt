@@ -1,0 +1,3 @@
+-- Whether a target heard a Fetch so.
+pub mod Met
+pub mod Fetched

@@ -1,0 +1,4 @@
+-- Whether a list of events is a run.
+pub mod Told
+pub mod Turned
+pub mod Starting

@@ -1,0 +1,52 @@
+// What followed from a target's turn, as the world after it tells.
+ghost use Rattle.std.specs.Prelude.{◌≡◌, length, slice_get, IfOk};
+ghost use Rattle.std.specs.Option.{option_copied};
+ghost use Rattle.world_check.specs.Told.{did_told, posts_told};
+
+use daos_base::epoch::Epoch;
+use daos_base::id::AttemptId;
+use daos_base::items::{Items, Memory};
+use daos_messages::message::{Post, Posts};
+use std::alloc::Global;
+use world_base::did::Did;
+use world_base::letter::Letter;
+use world_base::world::World;
+
+// The last letter as what was sent.
+fn posts_told(alloc: Global, letters: &[Letter]) -> Result<Posts, Memory>
+    ensures { IfOk result (λ posts. posts ≡ posts_told letters.now) }
+{
+    let mut posts = Items::new(alloc);
+    if letters.is_empty() {
+        return Ok(posts);
+    }
+    let last = &letters[letters.len() - 1];
+    posts.push(Post {
+        to: last.to,
+        message: last.message.copy()?,
+    })?;
+    Ok(posts)
+}
+
+// The first epoch behind those that were issued before.
+fn issue_told(before: &World, after: &World) -> Option<(AttemptId, Epoch)>
+    ensures { result ≡ slice_get after.now.issued (length before.now.issued) }
+{
+    after
+        .issued
+        .as_slice()
+        .get(before.issued.len())
+        .copied()
+}
+
+/// What followed from a turn in which a target answered, as the world after it tells: the last letter,
+/// and the first epoch behind those that were issued before.
+pub fn did_told(alloc: Global, before: &World, after: &World) -> Result<Did, Memory>
+    ensures { IfOk result (λ did. did ≡ did_told before.now after.now) }
+{
+    Ok(Did {
+        posts: posts_told(alloc, after.messages.as_slice())?,
+        lines: Items::new(alloc),
+        issued: issue_told(before, after),
+    })
+}

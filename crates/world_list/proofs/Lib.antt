@@ -1,0 +1,4 @@
+pub mod Decided
+mod OneTurn
+mod Runs
+mod Taken

@@ -1,0 +1,6 @@
+-- Which lists of events are runs.
+pub mod Fitting
+pub mod Following
+pub mod OneTurn
+pub mod RunLists
+pub mod Taken

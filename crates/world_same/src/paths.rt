@@ -1,0 +1,47 @@
+// Whether two keys, paths or names of things are the same.
+ghost use Rattle.std.specs.Prelude.{◌≡◌, Decides};
+
+use crate::same::Same;
+use daos_base::epoch::Epoch;
+use daos_base::id::{AttemptId, ContId, ObjId};
+use daos_base::key::Key;
+use daos_base::path::Path;
+
+impl Same for Epoch {
+    fn is_same(&self, other: &Epoch) -> bool {
+        *self == *other
+    }
+}
+
+impl Same for AttemptId {
+    fn is_same(&self, other: &AttemptId) -> bool {
+        *self == *other
+    }
+}
+
+impl Same for ContId {
+    fn is_same(&self, other: &ContId) -> bool {
+        *self == *other
+    }
+}
+
+impl Same for ObjId {
+    fn is_same(&self, other: &ObjId) -> bool {
+        *self == *other
+    }
+}
+
+impl Same for Key {
+    fn is_same(&self, other: &Key) -> bool {
+        self.same(other)
+    }
+}
+
+impl Same for Path {
+    fn is_same(&self, other: &Path) -> bool {
+        self.cont.is_same(&other.cont)
+            && self.obj.is_same(&other.obj)
+            && self.dkey.is_same(&other.dkey)
+            && self.akey.is_same(&other.akey)
+    }
+}

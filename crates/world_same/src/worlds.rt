@@ -1,0 +1,56 @@
+// Whether two worlds are the same.
+ghost use Rattle.std.specs.Prelude.{◌≡◌, Decides};
+
+use crate::same::Same;
+use world_base::letter::Letter;
+use world_base::target::{Life, TargetMemory, TargetState};
+use world_base::world::{Numbers, World};
+
+impl Same for Letter {
+    fn is_same(&self, other: &Letter) -> bool {
+        self.from.is_same(&other.from)
+            && self.to.is_same(&other.to)
+            && self.message.is_same(&other.message)
+    }
+}
+
+impl Same for Life {
+    fn is_same(&self, other: &Life) -> bool {
+        *self == *other
+    }
+}
+
+impl Same for TargetMemory {
+    fn is_same(&self, other: &TargetMemory) -> bool {
+        self.ticks.is_same(&other.ticks)
+            && self.stamps.is_same(&other.stamps)
+            && self.decided.is_same(&other.decided)
+    }
+}
+
+impl Same for TargetState {
+    fn is_same(&self, other: &TargetState) -> bool {
+        self.durable.is_same(&other.durable)
+            && self.free.is_same(&other.free)
+            && self.opening.is_same(&other.opening)
+            && self.life.is_same(&other.life)
+            && self.memory.is_same(&other.memory)
+    }
+}
+
+impl Same for Numbers {
+    fn is_same(&self, other: &Numbers) -> bool {
+        *self == *other
+    }
+}
+
+impl Same for World {
+    fn is_same(&self, other: &World) -> bool {
+        self.targets.is_same(&other.targets)
+            && self.clients.is_same(&other.clients)
+            && self.messages.is_same(&other.messages)
+            && self.issued.is_same(&other.issued)
+            && self.numbers.is_same(&other.numbers)
+            && self.lines.is_same(&other.lines)
+    }
+}
