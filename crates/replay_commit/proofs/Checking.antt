@@ -34,7 +34,7 @@ use Rattle.replay_commit.proofs.Stages.{NextAt, Refused, Spaceless, StoresAll, T
 
 -- ---- a lone target
 
-alone_state : Epoch × FloorWhy → State
+abbrev alone_state : Epoch × FloorWhy → State
 alone_state opening = record { stopped = false; faults = 0; burns = 0; fused = false; tells_fuse = false; free = 0; targets = 1; opening = opening }
 
 is_alone : (t : TargetPlan) (opening : Epoch × FloorWhy) (q : CommitRequest) → IsAsked t q → IsAlone t (alone_state opening)

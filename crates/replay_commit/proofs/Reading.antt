@@ -66,7 +66,7 @@ pub nothing_yet : {X : Type 0} (P : X → Type 0) (xs : List X) → NoneYet P xs
 nothing_yet P xs k x lt at p = let bad : ⊥ = omega (arith, lt) in bad
 
 pub never_there : {X : Type 0} (xs : List X) (x : X) (i : ℕ) → length xs ≤ i → NoneYet (λ y. y ≡ x) xs i → Contains xs x → ⊥
-never_there xs x i le none there = (let less : there.0 < i = (let l = there.1.0 in omega (arith, l, le)) in none there.0 x less (sym there.1.1) refl)
+never_there xs x i le none there = (let less : there.0 < i = (let l = there.1 in omega (arith, l, le)) in none there.0 x less (sym there.2) refl)
 
 -- ---- the first read
 

@@ -1,12 +1,12 @@
 -- A target hears a Fetch or a Commit, or no message that it can hear.
-use Rattle.std.proofs.Common.{ℕ, ◌≡◌, refl, sym, subst, Bool, Option}
+use Rattle.std.proofs.Common.{ℕ, ◌≡◌, ◌∙◌, refl, sym, ap, subst, Bool, true, false, Option, Some, None}
 use Rattle.std.specs.Bool.{Decides}
-use Rattle.daos_base.specs.declared.epoch.Epoch.{Epoch}
-use Rattle.daos_base.specs.declared.id.AttemptId.{AttemptId}
 use Rattle.daos_messages.specs.declared.actor.ActorId.{ActorId}
 use Rattle.daos_messages.specs.declared.message.Message.{Message}
 use Rattle.daos_messages.specs.declared.message.Message.TheVariants as message
+use Rattle.daos_model.specs.declared.durable.Durable.{Durable}
 use Rattle.replay_base.specs.Heard.{CanCommit, CanHear, CanRead}
+use Rattle.replay_base.proofs.Starts.{none_so}
 use Rattle.replay_commit.specs.Committed.{CommitsSo}
 use Rattle.replay_fetch.specs.Fetched.{FetchesSo}
 use Rattle.world_base.specs.declared.did.Did.{Did}
@@ -14,37 +14,55 @@ use Rattle.world_base.specs.declared.request.CommitRequest.{CommitRequest}
 use Rattle.world_base.specs.declared.request.FetchRequest.{FetchRequest}
 use Rattle.world_base.specs.declared.target.TargetPlan.{TargetPlan}
 use Rattle.world_base.specs.declared.target.TargetState.{TargetState}
-use Rattle.world_check.specs.Turned.{HearsSo}
+use Rattle.world_check.specs.Turned.{HearsSo, commit_in, fetch_in}
 
--- a request as a message
-abbrev pub fetch_of : FetchRequest → Message
+-- ---- requests as messages
+
+fetch_of : FetchRequest → Message
 fetch_of q = message.Fetch q.attempt q.op q.group q.ep q.first q.tracker q.read q.snapshot
 
-abbrev pub commit_of : CommitRequest → Message
+commit_of : CommitRequest → Message
 commit_of q = message.Commit q.attempt q.ep q.first q.tracker q.writes
 
+is_fetch : (m : Message) (q : FetchRequest) → fetch_in m ≡ Some q → m ≡ fetch_of q
+unfolding fetch_of
+is_fetch (message.Fetch x op group ep first tracker r snapshot) q is =
+    let same : (record { attempt = x; op = op; group = group; ep = ep; first = first; tracker = tracker; read = r; snapshot = snapshot }) ≡ q = cc in
+    ap (λ (y : FetchRequest). message.Fetch y.attempt y.op y.group y.ep y.first y.tracker y.read y.snapshot) same
+is_fetch m q is = let bad : ⊥ = cc in absurd bad
+
+is_commit : (m : Message) (q : CommitRequest) → commit_in m ≡ Some q → m ≡ commit_of q
+unfolding commit_of
+is_commit (message.Commit x ep first tracker ws) q is =
+    let same : (record { attempt = x; ep = ep; first = first; tracker = tracker; writes = ws }) ≡ q = cc in
+    ap (λ (y : CommitRequest). message.Commit y.attempt y.ep y.first y.tracker y.writes) same
+is_commit m q is = let bad : ⊥ = cc in absurd bad
+
+neither : (t : TargetPlan) (d : Durable) (m : Message) → fetch_in m ≡ None → commit_in m ≡ None → CanHear t d m → ⊥
+neither t d (message.Fetch x op group ep first tracker r snapshot) no_fetch no_commit h = let bad : ⊥ = cc in bad
+neither t d (message.Commit x ep first tracker ws) no_fetch no_commit h = let bad : ⊥ = cc in bad
+neither t d m no_fetch no_commit h = h
+
+-- ---- as the code tests it
+
+pub both_hold : {P Q : Type 0} (test : Bool) → P → Decides test Q → Decides test (P × Q)
+both_hold test p same = (λ h. (p, same.0 h), λ b. same.1 b.1)
+
+pub first_fails : {P Q : Type 0} → (P → ⊥) → Decides false (P × Q)
+first_fails never = none_so (λ b. never b.0)
+
 module _ (t : TargetPlan) (from : ActorId) (m : Message) (s new : TargetState) (did : Did) where
-  pub fetch_heard : (q : FetchRequest) (test : Bool) → m ≡ fetch_of q → CanRead t s.durable → Decides test (FetchesSo t from q s new did) → Decides test (HearsSo t from m s new did)
-  fetch_heard q test is can same =
-      subst (λ x. Decides test (HearsSo t from x s new did)) (sym is)
-      (λ h. record { form = can; turn = same.0 h }, λ h. same.1 h.turn)
+  pub fetch_heard : (q : FetchRequest) (o o' : Option FetchRequest) (test : Bool) → o ≡ fetch_in m → o ≡ o' → o' ≡ Some q → Decides test (CanRead t s.durable × FetchesSo t from q s new did) → Decides test (HearsSo t from m s new did)
+  unfolding fetch_of
+  fetch_heard q o o' test is same_o some same =
+      subst (λ x. Decides test (HearsSo t from x s new did)) (sym (is_fetch m q (sym is ∙ same_o ∙ some)))
+      (λ h. (let p = same.0 h in record { form = p.0; turn = p.1 }), λ h. same.1 (h.form, h.turn))
 
-  pub fetch_unheard : (q : FetchRequest) → m ≡ fetch_of q → (CanRead t s.durable → ⊥) → HearsSo t from m s new did → ⊥
-  fetch_unheard q is cannot h = cannot (subst (CanHear t s.durable) is h.form)
+  pub commit_heard : (q : CommitRequest) (o o' : Option CommitRequest) (test : Bool) → o ≡ commit_in m → o ≡ o' → o' ≡ Some q → Decides test (CanCommit t q.writes × CommitsSo t from q s new did) → Decides test (HearsSo t from m s new did)
+  unfolding commit_of
+  commit_heard q o o' test is same_o some same =
+      subst (λ x. Decides test (HearsSo t from x s new did)) (sym (is_commit m q (sym is ∙ same_o ∙ some)))
+      (λ h. (let p = same.0 h in record { form = p.0; turn = p.1 }), λ h. same.1 (h.form, h.turn))
 
-  pub commit_heard : (q : CommitRequest) (test : Bool) → m ≡ commit_of q → CanCommit t q.writes → Decides test (CommitsSo t from q s new did) → Decides test (HearsSo t from m s new did)
-  commit_heard q test is can same =
-      subst (λ x. Decides test (HearsSo t from x s new did)) (sym is)
-      (λ h. record { form = can; turn = same.0 h }, λ h. same.1 h.turn)
-
-  pub commit_unheard : (q : CommitRequest) → m ≡ commit_of q → (CanCommit t q.writes → ⊥) → HearsSo t from m s new did → ⊥
-  commit_unheard q is cannot h = cannot (subst (CanHear t s.durable) is h.form)
-
-other_one : (t : TargetPlan) (from : ActorId) (m : Message) (s new : TargetState) (did : Did) → ((q : FetchRequest) → m ≡ fetch_of q → ⊥) → ((q : CommitRequest) → m ≡ commit_of q → ⊥) → CanHear t s.durable m → ⊥
-other_one t from (message.Fetch x op group ep first tracker r snapshot) s new did no_fetch no_commit h =
-    no_fetch (record { attempt = x; op = op; group = group; ep = ep; first = first; tracker = tracker; read = r; snapshot = snapshot }) refl
-other_one t from (message.Commit x ep first tracker ws) s new did no_fetch no_commit h = no_commit (record { attempt = x; ep = ep; first = first; tracker = tracker; writes = ws }) refl
-other_one t from m s new did no_fetch no_commit h = h
-
-pub other_unheard : (t : TargetPlan) (from : ActorId) (m : Message) (s new : TargetState) (did : Did) → ((q : FetchRequest) → m ≡ fetch_of q → ⊥) → ((q : CommitRequest) → m ≡ commit_of q → ⊥) → HearsSo t from m s new did → ⊥
-other_unheard t from m s new did no_fetch no_commit h = other_one t from m s new did no_fetch no_commit h.form
+  pub none_heard : (o o' : Option CommitRequest) → fetch_in m ≡ None → o ≡ commit_in m → o ≡ o' → o' ≡ None → Decides false (HearsSo t from m s new did)
+  none_heard o o' no_fetch is same_o none = none_so (λ h. neither t s.durable m no_fetch (sym is ∙ same_o ∙ none) h.form)

@@ -1,10 +1,13 @@
 -- A target's turn in which it hears a message, and a world after a target's turn.
-use Rattle.std.specs.Prelude.{ℕ, ◌≡◌, ◌+◌, ◌++◌, ◌∷◌, take, drop}
+use Rattle.std.specs.Prelude.{ℕ, ◌≡◌, ◌+◌, ◌++◌, ◌∷◌, take, drop, Option, Some, None}
 use Rattle.daos_messages.specs.declared.actor.ActorId.{ActorId}
 use Rattle.daos_messages.specs.declared.message.Message.{Message}
+use Rattle.daos_messages.specs.declared.message.Message.TheVariants.{Fetch, Commit}
 use Rattle.replay_base.specs.Heard.{CanHear}
 use Rattle.replay_base.specs.Onward.{keeps}
 use Rattle.world_base.specs.declared.did.Did.{Did}
+use Rattle.world_base.specs.declared.request.CommitRequest.{CommitRequest}
+use Rattle.world_base.specs.declared.request.FetchRequest.{FetchRequest}
 use Rattle.world_base.specs.declared.target.TargetPlan.{TargetPlan}
 use Rattle.world_base.specs.declared.target.TargetState.{TargetState}
 use Rattle.world_base.specs.declared.world.World.{World}
@@ -27,3 +30,12 @@ pub record IsAfterTarget (w : World) (t : ℕ) (s : TargetState) (f : Follow) (v
   pub clients : v.clients ≡ w.clients
   pub targets : v.targets ≡ take t w.targets ++ (s ∷ drop (t + 1) w.targets)
   pub told : IsTold w f v
+
+-- what a Fetch asks, or a Commit
+abbrev pub fetch_in : Message → Option FetchRequest
+fetch_in (Fetch x op group ep first tracker r snapshot) = Some (record { attempt = x; op = op; group = group; ep = ep; first = first; tracker = tracker; read = r; snapshot = snapshot })
+fetch_in m = None
+
+abbrev pub commit_in : Message → Option CommitRequest
+commit_in (Commit x ep first tracker ws) = Some (record { attempt = x; ep = ep; first = first; tracker = tracker; writes = ws })
+commit_in m = None
