@@ -1,6 +1,6 @@
-pub mod Told
-pub mod Targets
+pub mod Telling
+pub mod Turning
 pub mod Lists
-pub mod Kinds
-pub mod Starts
+pub mod Sorting
+pub mod Starting
 pub mod Hearing

@@ -1,6 +1,6 @@
 use Rattle.replay_base.proofs.Starts.{if_ok}
 use Rattle.world_list.specs.RunLists.{rules_of}
-use Rattle.world_check.proofs.Kinds.{target_places, to_client, to_target}
+use Rattle.world_check.proofs.Sorting.{target_places, to_client, to_target}
 use Rattle.world_check.proofs.check.hears.Goals as goal
 
 pub returns-then-actor_client-clause-turn : goal.returns-then-actor_client-clause-turn

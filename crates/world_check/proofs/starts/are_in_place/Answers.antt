@@ -1,7 +1,7 @@
 use Rattle.replay_base.proofs.Starts.{all_so, none_so}
 use Rattle.std.proofs.lemmas.Bool.Decides.{not_from_Decides}
 use Rattle.world_list.specs.RunLists.{rules_of}
-use Rattle.world_check.proofs.Starts.{places_all, places_more, places_not}
+use Rattle.world_check.proofs.Starting.{places_all, places_more, places_not}
 use Rattle.world_check.proofs.starts.are_in_place.Goals as goal
 
 pub returns-then-not-is_in_place : goal.returns-then-not-is_in_place

@@ -1,5 +1,5 @@
 use Rattle.std.proofs.Common.{rules}
-use Rattle.world_check.proofs.Starts.{place_decides}
+use Rattle.world_check.proofs.Starting.{place_decides}
 use Rattle.world_check.proofs.starts.is_in_place.Goals as goal
 
 pub returns : goal.returns

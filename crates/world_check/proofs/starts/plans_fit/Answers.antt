@@ -2,7 +2,7 @@ use Rattle.std.proofs.Common.{arith}
 use Rattle.replay_base.proofs.Starts.{all_so, none_so}
 use Rattle.std.proofs.lemmas.Bool.Decides.{not_from_Decides}
 use Rattle.world_list.specs.RunLists.{rules_of}
-use Rattle.world_check.proofs.Starts.{all_fit, fit_more, fit_not}
+use Rattle.world_check.proofs.Starting.{all_fit, fit_more, fit_not}
 use Rattle.world_check.proofs.starts.plans_fit.Goals as goal
 
 pub returns-then-not-plan_fits : goal.returns-then-not-plan_fits

@@ -5,7 +5,7 @@ use Rattle.world_events.specs.Events.{target_plan}
 use Rattle.world_list.proofs.Decided.{Falls, Stands, taken_of}
 use Rattle.world_list.specs.RunLists.{rules_of}
 use Rattle.world_check.specs.Turned.{HearsSo}
-use Rattle.world_check.proofs.Targets.{hears_decides, hears_none, planned}
+use Rattle.world_check.proofs.Turning.{hears_decides, hears_none, planned}
 use Rattle.world_check.proofs.targets.hears_from.Goals as goal
 use Rattle.world_check.proofs.targets.hears_from.Goals.{then-is_next, else-is_next}
 

@@ -1,7 +1,7 @@
 use Rattle.std.proofs.Common.{◌∙◌}
 use Rattle.replay_base.proofs.Starts.{none_so}
 use Rattle.world_list.proofs.Decided.{Falls, Stands, joined_of}
-use Rattle.world_check.proofs.Targets.{idle_follows, idles_decides, idles_none}
+use Rattle.world_check.proofs.Turning.{idle_follows, idles_decides, idles_none}
 use Rattle.world_check.proofs.targets.idles_from.Goals as goal
 use Rattle.world_check.proofs.targets.idles_from.Goals.{then-is_next, else-is_next}
 

@@ -35,7 +35,7 @@ use Rattle.world_list.specs.declared.follow.Follow.{Follow}
 use Rattle.world_list.proofs.Decided.{Both, both_decide, same_world, set_parts}
 use Rattle.world_check.specs.Told.{did_told}
 use Rattle.world_check.specs.Turned.{HearsSo, IsAfterTarget, StaysOpen}
-use Rattle.world_check.proofs.Told.{did_is, one_answer}
+use Rattle.world_check.proofs.Telling.{did_is, one_answer}
 
 -- ---- states and worlds by their parts
 
