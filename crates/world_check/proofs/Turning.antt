@@ -39,7 +39,7 @@ use Rattle.world_check.proofs.Telling.{did_is, one_answer}
 
 -- ---- states and worlds by their parts
 
-state_of : Durable → ℕ → Epoch × FloorWhy → Life → TargetMemory → TargetState
+abbrev state_of : Durable → ℕ → Epoch × FloorWhy → Life → TargetMemory → TargetState
 state_of durable free opening life memory = record { durable = durable; free = free; opening = opening; life = life; memory = memory }
 
 stays : (s next : TargetState) → StaysOpen s next → next ≡ target_after s (keeps next.durable next.free) next.memory
