@@ -1,5 +1,5 @@
 -- What followed from a target's turn is told by the world after it.
-use Rattle.std.proofs.Common.{ℕ, suc, ◌≡◌, ◌++◌, ◌<◌, ◌-◌, refl, sym, ◌∙◌, ap, subst, List, [], ◌∷◌, length, get_or, slice_get, Option, Some, None, arith}
+use Rattle.std.proofs.Common.{ℕ, suc, zero, ◌≡◌, ◌+◌, ◌++◌, ◌<◌, ◌-◌, refl, sym, ◌∙◌, ap, subst, List, [], ◌∷◌, length, get_or, slice_get, Option, Some, None, arith}
 use Rattle.daos_base.specs.declared.epoch.Epoch.{Epoch}
 use Rattle.daos_base.specs.declared.id.AttemptId.{AttemptId}
 use Rattle.daos_base.specs.declared.outcome.FloorWhy.{FloorWhy}
