@@ -19,7 +19,6 @@ use Rattle.world_check.specs.Starting.{HasPlace, commands_of}
 pub ops_decide : (targets : ℕ) (ops : List Op) → All (OpFits targets) ops → Decides (nat_le (length ops) 64) (OpsFit targets ops)
 ops_decide targets ops all = (λ h. record { few = grind (arith, nat_tests); objs = all }, λ f. (let few = f.few in grind (arith, nat_tests)))
 
-
 plan_fits : (r : Rules) (n : ℕ) → All (CommandFits r.script.targets) (commands_of r.script n) → count_by is_numbered (commands_of r.script n) ≤ 100000 → PlanFits (client_plan r n)
 plan_fits r n commands few = record { commands = commands; few = few }
 

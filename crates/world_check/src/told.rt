@@ -38,11 +38,7 @@ fn posts_told(alloc: Global, letters: &[Letter]) -> Result<Posts, Memory>
 fn issue_told(before: &World, after: &World) -> Option<(AttemptId, Epoch)>
     ensures { result ≡ slice_get after.now.issued (length before.now.issued) }
 {
-    after
-        .issued
-        .as_slice()
-        .get(before.issued.len())
-        .copied()
+    after.issued.as_slice().get(before.issued.len()).copied()
 }
 
 /// What followed from a turn in which a target answered, as the world after it tells: the last letter,
