@@ -166,7 +166,11 @@ fn client(alloc: Global, stage: u8, told: Told) -> ClientState {
         command: if done { 1 } else { 0 },
         tracker: Epoch(if done { told.epoch } else { 0 }),
         skip: 0,
-        present: if stage == 1 { Some(present(alloc)) } else { None },
+        present: if stage == 1 {
+            Some(present(alloc))
+        } else {
+            None
+        },
         known: Items::new(alloc),
     }
 }

@@ -36,7 +36,6 @@ module _ {S : Type 0} (request : ℕ → Option Epoch) (Next : ℕ → S → Kep
     (ends : (reading : ℕ) (k : Kept) → request reading ≡ None → Ends reading asked k spent)
     (unissued : spent.1.issued ≡ None)
     (issues : (reading : ℕ) (e : Epoch) (k new : Kept) (r : TargetMemory × Did) → Whole (Next reading) (Ends reading) (known e) k new r → r.1.issued ≡ issued_for x ep e) where
-
   abbrev pub HearsSo : Kept → Kept → TargetMemory × Did → Type 0
   HearsSo k new r = (reading : ℕ) × Whole (Next reading) (Ends reading) asked k new r
 
@@ -76,7 +75,7 @@ module _ {S : Type 0} (request : ℕ → Option Epoch) (Next : ℕ → S → Kep
     λ is. (
       asks.0,
       silent_first (Next asks.0) (Ends asks.0) asked (known e) k new r (next asks.0 k e asks.1)
-      ((whole_onward (Next asks.0) (Ends asks.0) (known e) k new r).1 ((at asks.0).0 is)),
+          ((whole_onward (Next asks.0) (Ends asks.0) (known e) k new r).1 ((at asks.0).0 is)),
     ),
     λ w. (at w.0).1 ((whole_onward (Next w.0) (Ends w.0) (known e) k new r).0 (begun e k new r w.0 told w.1).1),
   )

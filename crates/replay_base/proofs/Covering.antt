@@ -23,7 +23,6 @@ module _ {S R : Type 0} (Next : S → Kept → Option Change → S → Type 0) (
     (step_is : (k : Kept) (o : Option Change) (u : S) → Next known k o u → CoverStep ticks known onto k o u)
     (steps : (k : Kept) (o : Option Change) (u : S) → CoverStep ticks known onto k o u → Next known k o u)
     (goes : (k : Kept) (r : R) → Ends known k r → ⊥) where
-
   leased_lease : (lease : ℕ) (d : Durable) → (leased lease d).lease ≡ lease
   unfolding leased
   leased_lease lease d = refl

@@ -49,11 +49,7 @@ fn is_left_so(
 }
 
 /// Whether a target that does its idle work comes from one state to another.
-pub fn idles_so(
-    alloc: Global,
-    before: &TargetState,
-    after: &TargetState,
-) -> Result<bool, Memory>
+pub fn idles_so(alloc: Global, before: &TargetState, after: &TargetState) -> Result<bool, Memory>
     ensures { IfOk result (λ yes. Decides yes (IdlesSo before.now after.now)) }
 {
     let decided = before.memory.decided.as_slice();

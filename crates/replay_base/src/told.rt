@@ -8,7 +8,6 @@ ghost use Rattle.world_turns.specs.Requests as asked;
 
 use crate::epochs::is_spent;
 use crate::free::is_free;
-
 use daos_base::epoch::Epoch;
 use daos_base::id::AttemptId;
 use daos_base::items::{Items, Memory};

@@ -40,7 +40,6 @@ not_all P xs i x found same bad lt is all = clash found (same.1 (item_holds P xs
 
 -- ---- a loop that looks for an element
 
-
 abbrev pub NoneYet : {X : Type 0} → (X → Type 0) → List X → ℕ → Type 0
 NoneYet {X} P xs i = (k : ℕ) (x : X) → k < i → x ≡ get_or xs k x → P x → ⊥
 

@@ -41,9 +41,7 @@ fn known_so(
         (CommitStage.Known epoch) before.now.durable false before.now.free (keeps after.now.durable after.now.free) (after.now.memory, did.now))) }
 {
     match cover(copy_kept(alloc, &before.durable)?, epoch.ticks()) {
-        Some(start) => ends_so(
-            alloc, plan, from, request, epoch, start, before, after, did,
-        ),
+        Some(start) => ends_so(alloc, plan, from, request, epoch, start, before, after, did),
         None => Ok(false),
     }
 }
@@ -75,14 +73,7 @@ fn spent_so(
     ensures { IfOk result (λ yes. Decides yes (CommitsSo plan from request.now before.now after.now did.now)) }
 {
     let told = spent(alloc, from, request)?;
-    Ok(is_spent_so(
-        plan,
-        request.tracker,
-        before,
-        after,
-        did,
-        &told,
-    ))
+    Ok(is_spent_so(plan, request.tracker, before, after, did, &told))
 }
 
 // Whether a Commit of this epoch, its own or the one that was issued, leads to this state.

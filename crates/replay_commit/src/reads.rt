@@ -21,9 +21,7 @@ fn stands_against(path: &Path, epoch: Epoch, read: &Shown) -> bool
 fn some_against(path: &Path, epoch: Epoch, stamps: &[Shown]) -> bool
     ensures { result ≡ list_any (stands_against path.now epoch.0) stamps.now }
 {
-    stamps
-        .iter()
-        .any(|read| stands_against(path, epoch, read))
+    stamps.iter().any(|read| stands_against(path, epoch, read))
 }
 
 /// Whether no read stands against a write on a path at an epoch.
@@ -65,12 +63,7 @@ fn is_shown(path: &Path, epoch: Epoch, stamps: &[Shown], read: &Shown) -> bool
 }
 
 /// Whether a read may be shown for the first of these writes that one stands against.
-pub fn is_first_read(
-    epoch: Epoch,
-    stamps: &[Shown],
-    writes: &[MinorWrite],
-    read: &Shown,
-) -> bool
+pub fn is_first_read(epoch: Epoch, stamps: &[Shown], writes: &[MinorWrite], read: &Shown) -> bool
     ensures { Decides result (FirstRead epoch stamps.now writes.now read.now) }
 {
     for write in writes {

@@ -75,11 +75,7 @@ fn ends_at(
 }
 
 // What a target knows once it heard of an epoch.
-fn with_ticks(
-    alloc: Global,
-    memory: &TargetMemory,
-    epoch: Epoch,
-) -> Result<TargetMemory, Memory>
+fn with_ticks(alloc: Global, memory: &TargetMemory, epoch: Epoch) -> Result<TargetMemory, Memory>
     ensures { IfOk result (λ after. after ≡ asked.with_ticks epoch memory.now) }
 {
     Ok(TargetMemory {

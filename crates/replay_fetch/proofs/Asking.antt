@@ -132,7 +132,7 @@ module _ (t : TargetPlan) (m : TargetMemory) (q : FetchRequest) (from : ActorId)
       λ h. (
         0,
         silent_first (FetchNext t m 0 q) (FetchEnds t m 0 q from) Asked (Reading e m.decided) k new r (AtSnapshot k e snapshot own)
-        ((whole_onward (FetchNext t m 0 q) (FetchEnds t m 0 q from) (Reading e m.decided) k new r).1 ((at 0).0 h)),
+            ((whole_onward (FetchNext t m 0 q) (FetchEnds t m 0 q from) (Reading e m.decided) k new r).1 ((at 0).0 h)),
       ),
       λ w.
           let s = from_snapshot k new r w.0 w.1 in

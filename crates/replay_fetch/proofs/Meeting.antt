@@ -80,7 +80,6 @@ module _ (r : Read) (e : Epoch) (d : Durable) where
 module _ (t : TargetPlan) (q : FetchRequest) (e : Epoch) (d : Durable) (decided : List AttemptId) (p : Path) (rows : List Version) (found : Option Cause) (past : Bool) (o : Option Version)
     (path_is : p ≡ read_path q.read) (rows_are : rows ≡ d.versions) (cause_is : found ≡ fetch_cause t q e d) (free : found ≡ None) (past_is : past ≡ is_past p.cont e d) (not_past : past ≡ false)
     (blocking : o ≡ first_blocking p e.0 rows) where
-
   here-past : is_past (read_path q.read).cont e d ≡ false
   here-past = ap (λ x. is_past x.cont e d) (sym path_is) ∙ sym past_is ∙ not_past
 

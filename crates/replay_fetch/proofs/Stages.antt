@@ -104,4 +104,3 @@ module _ (t : TargetPlan) (m : TargetMemory) (reading : ℕ) (q : FetchRequest) 
   stuck_unanswered e k decided r w (met.IsRefused c why is) = (let none = w.free in let bad : ⊥ = cc in bad)
   stuck_unanswered e k decided r w (met.IsUnresolved b none unsettled apart is) = w.unmet b unsettled
   stuck_unanswered e k decided r w (met.IsAnswered b none answer is) = w.unanswered b answer
-

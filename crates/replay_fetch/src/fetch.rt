@@ -70,9 +70,7 @@ fn known_so(
         (FetchStage.Known epoch) before.now.durable false before.now.free (keeps after.now.durable after.now.free) (after.now.memory, did.now))) }
 {
     match cover(copy_kept(alloc, &before.durable)?, epoch.ticks()) {
-        Some(start) => read_from(
-            alloc, plan, from, request, epoch, start, before, after, did,
-        ),
+        Some(start) => read_from(alloc, plan, from, request, epoch, start, before, after, did),
         None => Ok(false),
     }
 }
@@ -97,9 +95,7 @@ fn snapshot_so(
                 durable: copy_kept(alloc, &before.durable)?,
                 extended: false,
             };
-            read_from(
-                alloc, plan, from, request, epoch, start, before, after, did,
-            )
+            read_from(alloc, plan, from, request, epoch, start, before, after, did)
         }
         None => Ok(false),
     }
@@ -135,14 +131,7 @@ fn spent_so(
     ensures { IfOk result (λ yes. Decides yes (FetchesSo plan from request.now before.now after.now did.now)) }
 {
     let told = spent(alloc, from, request)?;
-    Ok(is_spent_so(
-        plan,
-        request.tracker,
-        before,
-        after,
-        did,
-        &told,
-    ))
+    Ok(is_spent_so(plan, request.tracker, before, after, did, &told))
 }
 
 // Whether a Fetch of this epoch, its own or the one that was issued, leads to this state.

@@ -15,11 +15,14 @@ drop_item xs i x lt is =
     let next : suc i ≡ i + 1 = omega arith in
     drop-cons xs i x lt ∙ ap (λ y. y ∷ drop (suc i) xs) (sym is) ∙ ap (λ n. x ∷ drop n xs) next
 
+last_next : (w : World) (es : List Event) (i : ℕ) (e : Event) → i < length es → e ≡ get_or es i e → last_world w (take (suc i) es) ≡ e.after
+last_next w [] i e lt is = let bad : ⊥ = omega (arith, lt) in absurd bad
+last_next w (x ∷ es) zero e lt is = sym (ap (λ y. y.after) is)
+last_next w (x ∷ es) (suc i) e lt is = last_next x.after es i e (omega arith) is
+
 -- the world after one event more
 pub last_more : (w : World) (es : List Event) (i : ℕ) (e : Event) → i < length es → e ≡ get_or es i e → last_world w (take (i + 1) es) ≡ e.after
-last_more w [] i e lt is = let bad : ⊥ = omega (arith, lt) in absurd bad
-last_more w (x ∷ es) zero e lt is = sym (ap (λ y. y.after) is)
-last_more w (x ∷ es) (suc i) e lt is = last_more x.after es i e (omega arith) is
+last_more w es i e lt is = (let next : i + 1 ≡ suc i = omega arith in ap (λ k. last_world w (take k es)) next ∙ last_next w es i e lt is)
 
 module _ (r : Rules) (start w : World) (list : List Event) (i : ℕ) (e : Event) (lt : i < length list) (is : e ≡ get_or list i e) where
   abbrev Rest : Type 0

@@ -1,5 +1,5 @@
 -- Which kind of turn an event is, and whose clients stay in their places.
-use Rattle.std.proofs.Common.{ℕ, ◌≡◌, ◌<◌, ◌+◌, refl, sym, ◌∙◌, ap, subst, Bool, true, false, ◌⊎◌, inl, inr, List, length, take, get_or, slice_get}
+use Rattle.std.proofs.Common.{ℕ, ◌≡◌, ◌<◌, ◌+◌, refl, sym, ◌∙◌, ap, subst, Bool, true, false, ◌⊎◌, inl, inr, List, Some, None, length, take, get_or, slice_get}
 use Rattle.std.specs.Bool.{Decides}
 use Rattle.daos_messages.specs.declared.actor.ActorId.{ActorId}
 use Rattle.daos_model.specs.BoolLaws.{clash}
@@ -7,8 +7,9 @@ use Rattle.world_base.specs.declared.letter.Letter.{Letter}
 use Rattle.world_base.specs.declared.world.World.{World}
 use Rattle.world_events.specs.Events.{Rules}
 use Rattle.world_list.specs.Fitting.{AreInPlace}
-use Rattle.world_list.specs.RunLists.{ClientHearsAs, IdlesAs, TargetHearsAs, last_world}
+use Rattle.world_list.specs.RunLists.{ClientHearsAs, GoesAs, IdlesAs, LeadsTo, TargetHearsAs, last_world}
 use Rattle.world_list.specs.declared.events.Event.{Event}
+use Rattle.world_list.specs.declared.events.EventKind.TheVariants.{Hear, GoOn, Idle}
 use Rattle.world_check.proofs.Lists.{last_more}
 
 module _ (r : Rules) (w v : World) (a : ActorId) (l : Letter) where
@@ -34,6 +35,18 @@ target_places r w v a l before h = clients_stay r w v (ap (λ x. x.clients) h.ev
 
 pub idle_places : (r : Rules) (w v : World) (a : ActorId) → AreInPlace r w → IdlesAs r w a v → AreInPlace r v
 idle_places r w v a before h = clients_stay r w v (ap (λ x. x.clients) h.event.after) before
+
+-- ---- an event by its kind
+
+module _ (r : Rules) (w : World) (e : Event) where
+  pub led_hear : (l : Letter) (test : Bool) → e.kind ≡ Hear → e.heard ≡ Some l → Decides test (ClientHearsAs r w e.actor l e.after ⊎ TargetHearsAs r w e.actor l e.after) → Decides test (LeadsTo r w e.kind e.actor e.heard e.after)
+  led_hear l test kind heard same = subst (λ k. Decides test (LeadsTo r w k e.actor e.heard e.after)) (sym kind) (subst (λ h. Decides test (LeadsTo r w Hear e.actor h e.after)) (sym heard) same)
+
+  pub led_goes : (test : Bool) → e.kind ≡ GoOn → e.heard ≡ None → Decides test (GoesAs r w e.actor e.after) → Decides test (LeadsTo r w e.kind e.actor e.heard e.after)
+  led_goes test kind heard same = subst (λ k. Decides test (LeadsTo r w k e.actor e.heard e.after)) (sym kind) (subst (λ h. Decides test (LeadsTo r w GoOn e.actor h e.after)) (sym heard) same)
+
+  pub led_idles : (test : Bool) → e.kind ≡ Idle → e.heard ≡ None → Decides test (IdlesAs r w e.actor e.after) → Decides test (LeadsTo r w e.kind e.actor e.heard e.after)
+  led_idles test kind heard same = subst (λ k. Decides test (LeadsTo r w k e.actor e.heard e.after)) (sym kind) (subst (λ h. Decides test (LeadsTo r w Idle e.actor h e.after)) (sym heard) same)
 
 -- ---- the world before an event
 

@@ -1,10 +1,11 @@
 -- Whether a list of events starts well, as the code tests it.
-use Rattle.std.proofs.Common.{ℕ, suc, zero, ◌≡◌, ◌<◌, ◌≤◌, ◌+◌, refl, sym, ◌∙◌, ap, subst, Bool, true, false, List, [], ◌∷◌, length, drop, get_or, slice_get, Option, Some, None, All, arith, ◌⊎◌, inl, inr, ◌&&◌}
+use Rattle.std.proofs.Common.{ℕ, suc, zero, ◌≡◌, ◌<◌, ◌≤◌, ◌+◌, refl, sym, ◌∙◌, ap, subst, Bool, true, false, List, [], ◌∷◌, length, drop, get_or, slice_get, Option, Some, None, All, arith, ◌⊎◌, inl, inr, ◌&&◌, nat_le}
 use Rattle.std.specs.Prelude.{count_by, is_some}
 use Rattle.std.specs.Bool.{Decides}
-use Rattle.std.proofs.lemmas.Bool.Decides.{Decides-and}
+use Rattle.std.proofs.lemmas.Bool.Decides.{Decides-and, nat_tests}
 use Rattle.std.proofs.lemmas.Bool.{cases_order}
-use Rattle.client_core.specs.Clients.{CommandFits, IsInPlace, PlanFits, has_number}
+use Rattle.client_core.specs.Clients.{CommandFits, IsInPlace, OpFits, OpsFit, PlanFits, has_number}
+use Rattle.daos_base.specs.declared.operation.Op.{Op}
 use Rattle.daos_base.specs.declared.script.Command.{Command}
 use Rattle.daos_base.specs.Scripts.{is_numbered}
 use Rattle.world_base.specs.declared.client.ClientState.{ClientState}
@@ -14,6 +15,9 @@ use Rattle.world_list.specs.Fitting.{AreInPlace, PlansFit}
 use Rattle.world_check.specs.Starting.{HasPlace, commands_of}
 
 -- ---- what clients have to do
+
+pub ops_decide : (targets : ℕ) (ops : List Op) → All (OpFits targets) ops → Decides (nat_le (length ops) 64) (OpsFit targets ops)
+ops_decide targets ops all = (λ h. record { few = grind (arith, nat_tests); objs = all }, λ f. (let few = f.few in grind (arith, nat_tests)))
 
 plan_fits : (r : Rules) (n : ℕ) → All (CommandFits r.script.targets) (commands_of r.script n) → count_by is_numbered (commands_of r.script n) ≤ 100000 → PlanFits (client_plan r n)
 plan_fits r n commands few = record { commands = commands; few = few }

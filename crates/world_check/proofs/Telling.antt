@@ -1,5 +1,5 @@
 -- What followed from a target's turn is told by the world after it.
-use Rattle.std.proofs.Common.{ℕ, suc, ◌≡◌, ◌++◌, ◌<◌, ◌-◌, refl, sym, ◌∙◌, ap, subst, List, [], ◌∷◌, length, get_or, slice_get, Option, Some, None, arith}
+use Rattle.std.proofs.Common.{ℕ, suc, zero, ◌≡◌, ◌+◌, ◌++◌, ◌<◌, ◌-◌, refl, sym, ◌∙◌, ap, subst, List, [], ◌∷◌, length, get_or, slice_get, Option, Some, None, arith}
 use Rattle.daos_base.specs.declared.epoch.Epoch.{Epoch}
 use Rattle.daos_base.specs.declared.id.AttemptId.{AttemptId}
 use Rattle.daos_base.specs.declared.outcome.FloorWhy.{FloorWhy}
@@ -63,7 +63,7 @@ issue_behind [] None = refl
 issue_behind [] (Some i) = refl
 issue_behind (x ∷ xs) o = issue_behind xs o
 
-did_of : List Post → List Line → Option (AttemptId × Epoch) → Did
+abbrev did_of : List Post → List Line → Option (AttemptId × Epoch) → Did
 did_of posts lines issued = record { posts = posts; lines = lines; issued = issued }
 
 pub did_is : (w v : World) (a : ActorId) (did : Did) (rest : List Letter) → SaysOne did → v.messages ≡ rest ++ letters_of a did.posts → v.issued ≡ w.issued ++ listed did.issued → did_told w v ≡ did
@@ -74,7 +74,13 @@ did_is w v a did rest one messages issued =
     ap (λ ps. did_of ps [] (slice_get v.issued (length w.issued))) posts ∙ ap (λ o. did_of did.posts [] o) issue ∙ ap (λ ls. did_of did.posts ls did.issued) (sym one.lines)
 
 -- the last of some letters
-pub told_last : (ls : List Letter) (l : Letter) → 0 < length ls → l ≡ get_or ls (length ls - 1) l → posts_told ls ≡ post_of l ∷ []
-told_last [] l some is = let bad : ⊥ = omega (arith, some) in absurd bad
-told_last (x ∷ []) l some is = ap (λ y. post_of y ∷ []) (sym is)
-told_last (x ∷ y ∷ ls) l some is = told_last (y ∷ ls) l (omega arith) is
+told_at : (ls : List Letter) (j : ℕ) (l : Letter) → j + 1 ≡ length ls → l ≡ get_or ls j l → posts_told ls ≡ post_of l ∷ []
+told_at [] j l end is = let bad : ⊥ = omega (arith, end) in absurd bad
+told_at (x ∷ []) zero l end is = ap (λ y. post_of y ∷ []) (sym is)
+told_at (x ∷ []) (suc j) l end is = let bad : ⊥ = omega (arith, end) in absurd bad
+told_at (x ∷ y ∷ ls) zero l end is = let bad : ⊥ = omega (arith, end) in absurd bad
+told_at (x ∷ y ∷ ls) (suc j) l end is = told_at (y ∷ ls) j l (omega (arith, end)) is
+
+pub told_pushed : (letters : List Letter) (new old : List Post) (l : Letter) (p : Post) → new ≡ old ++ p ∷ [] → old ≡ [] → p ≡ post_of l → 0 < length letters → l ≡ get_or letters (length letters - 1) l → new ≡ posts_told letters
+told_pushed letters new old l p made none post some is =
+    made ∙ ap (λ xs. xs ++ p ∷ []) none ∙ ap (λ x. x ∷ []) post ∙ sym (told_at letters (length letters - 1) l (omega (arith, some)) is)

@@ -39,7 +39,7 @@ use Rattle.world_check.proofs.Telling.{did_is, one_answer}
 
 -- ---- states and worlds by their parts
 
-state_of : Durable → ℕ → Epoch × FloorWhy → Life → TargetMemory → TargetState
+abbrev state_of : Durable → ℕ → Epoch × FloorWhy → Life → TargetMemory → TargetState
 state_of durable free opening life memory = record { durable = durable; free = free; opening = opening; life = life; memory = memory }
 
 stays : (s next : TargetState) → StaysOpen s next → next ≡ target_after s (keeps next.durable next.free) next.memory
@@ -157,12 +157,12 @@ found r w v n l s next here there h =
       hears = record {
         form = subst (λ x. CanHear (target_plan r n) x.durable l.message) state h.form;
         turn = (
-            h.reading,
-            subst (λ x. Hears (target_plan r n) x.opening x.memory h.reading l.from l.message (keeps x.durable x.free) (keeps next.durable next.free) (next.memory, did_told w v)) state
-            (subst (λ x. Hears (target_plan r n) h.s.opening h.s.memory h.reading l.from l.message (keeps h.s.durable h.s.free) (keeps next.durable next.free) (next.memory, x)) (sym told)
-            (subst (λ x. Hears (target_plan r n) h.s.opening h.s.memory h.reading l.from l.message (keeps h.s.durable h.s.free) (keeps next.durable next.free) (x, h.did)) memory_same
-            (subst (λ x. Hears (target_plan r n) h.s.opening h.s.memory h.reading l.from l.message (keeps h.s.durable h.s.free) x (h.memory, h.did)) kept_same h.turn))),
-          );
+          h.reading,
+          subst (λ x. Hears (target_plan r n) x.opening x.memory h.reading l.from l.message (keeps x.durable x.free) (keeps next.durable next.free) (next.memory, did_told w v)) state
+              (subst (λ x. Hears (target_plan r n) h.s.opening h.s.memory h.reading l.from l.message (keeps h.s.durable h.s.free) (keeps next.durable next.free) (next.memory, x)) (sym told)
+              (subst (λ x. Hears (target_plan r n) h.s.opening h.s.memory h.reading l.from l.message (keeps h.s.durable h.s.free) (keeps next.durable next.free) (x, h.did)) memory_same
+              (subst (λ x. Hears (target_plan r n) h.s.opening h.s.memory h.reading l.from l.message (keeps h.s.durable h.s.free) x (h.memory, h.did)) kept_same h.turn))),
+        );
       };
       still = record { opening = ap (λ x. x.opening) next_same ∙ ap (λ x. x.opening) state; life = ap (λ x. x.life) next_same ∙ ap (λ x. x.life) state };
       rest = h.rest;

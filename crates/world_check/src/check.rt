@@ -35,12 +35,7 @@ fn hears(
 }
 
 // Whether an event leads from one world to another.
-fn leads_to(
-    alloc: Global,
-    events: &Events,
-    before: &World,
-    event: &Event,
-) -> Result<bool, Memory>
+fn leads_to(alloc: Global, events: &Events, before: &World, event: &Event) -> Result<bool, Memory>
     requires plans { PlansFit (rules_of events.now) }
     requires places { AreInPlace (rules_of events.now) before.now }
     ensures turn { IfOk result (λ yes. Decides yes (LeadsTo (rules_of events.now) before.now event.now.kind event.now.actor event.now.heard event.now.after)) }
@@ -50,9 +45,7 @@ fn leads_to(
         (EventKind::Hear, Some(letter)) => {
             hears(alloc, events, before, event.actor, letter, &event.after)
         }
-        (EventKind::GoOn, None) => {
-            client_goes(alloc, events, before, event.actor, &event.after)
-        }
+        (EventKind::GoOn, None) => { client_goes(alloc, events, before, event.actor, &event.after) }
         (EventKind::Idle, None) => target_idles(alloc, before, event.actor, &event.after),
         _ => Ok(false),
     }

@@ -94,15 +94,7 @@ fn hears_from(
 {
     let did = did_told(alloc, before, after)?;
     let plan = first_plan(events);
-    let hears = hears_so(
-        alloc,
-        plan,
-        letter.from,
-        &letter.message,
-        state,
-        next,
-        &did,
-    )?;
+    let hears = hears_so(alloc, plan, letter.from, &letter.message, state, next, &did)?;
     if !hears {
         return Ok(false);
     }
@@ -134,7 +126,10 @@ pub fn target_hears(
     if actor.client || actor.number != 0 || letter.to != actor {
         return Ok(false);
     }
-    let states = (before.targets.as_slice().get(0), after.targets.as_slice().get(0));
+    let states = (
+        before.targets.as_slice().get(0),
+        after.targets.as_slice().get(0),
+    );
     match states {
         (Some(state), Some(next)) if state.life == Life::Running => {
             hears_from(alloc, events, before, state, letter, after, next)
@@ -185,7 +180,10 @@ pub fn target_idles(
         return Ok(false);
     }
     let number = usize::from(actor.number);
-    let states = (before.targets.as_slice().get(number), after.targets.as_slice().get(number));
+    let states = (
+        before.targets.as_slice().get(number),
+        after.targets.as_slice().get(number),
+    );
     match states {
         (Some(state), Some(next)) if state.life == Life::Running => {
             idles_from(alloc, before, actor, state, after, next)

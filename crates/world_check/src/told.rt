@@ -1,7 +1,7 @@
 // What followed from a target's turn, as the world after it tells.
 ghost use Rattle.std.specs.Prelude.{◌≡◌, length, slice_get, IfOk};
 ghost use Rattle.std.specs.Option.{option_copied};
-ghost use Rattle.world_check.specs.Told.{did_told, posts_told};
+ghost use Rattle.world_check.specs.Told.{did_told, post_of, posts_told};
 
 use daos_base::epoch::Epoch;
 use daos_base::id::AttemptId;
@@ -12,6 +12,16 @@ use world_base::did::Did;
 use world_base::letter::Letter;
 use world_base::world::World;
 
+// A letter as what was sent.
+fn post_of(letter: &Letter) -> Result<Post, Memory>
+    ensures { IfOk result (λ post. post ≡ post_of letter.now) }
+{
+    Ok(Post {
+        to: letter.to,
+        message: letter.message.copy()?,
+    })
+}
+
 // The last letter as what was sent.
 fn posts_told(alloc: Global, letters: &[Letter]) -> Result<Posts, Memory>
     ensures { IfOk result (λ posts. posts ≡ posts_told letters.now) }
@@ -20,11 +30,7 @@ fn posts_told(alloc: Global, letters: &[Letter]) -> Result<Posts, Memory>
     if letters.is_empty() {
         return Ok(posts);
     }
-    let last = &letters[letters.len() - 1];
-    posts.push(Post {
-        to: last.to,
-        message: last.message.copy()?,
-    })?;
+    posts.push(post_of(&letters[letters.len() - 1])?)?;
     Ok(posts)
 }
 
@@ -32,11 +38,7 @@ fn posts_told(alloc: Global, letters: &[Letter]) -> Result<Posts, Memory>
 fn issue_told(before: &World, after: &World) -> Option<(AttemptId, Epoch)>
     ensures { result ≡ slice_get after.now.issued (length before.now.issued) }
 {
-    after
-        .issued
-        .as_slice()
-        .get(before.issued.len())
-        .copied()
+    after.issued.as_slice().get(before.issued.len()).copied()
 }
 
 /// What followed from a turn in which a target answered, as the world after it tells: the last letter,

@@ -15,4 +15,4 @@ loop-number-preserved c =
     fit_more (rules_of c.args.events.now) c.loop-number.number c.commands_of.result.now c.commands_of.ensures p.0 p.1 c.loop-number.invariant
 
 pub returns : goal.returns
-returns c = all_so (all_fit (rules_of c.args.events.now) c.loop-number.number c.loop-number.invariant (omega (arith, c.loop-number-test.false, c.len.ensures)))
+returns c = all_so (all_fit (rules_of c.args.events.now) c.loop-number.number c.loop-number.invariant (omega (arith, c.loop-number-test.false, c.len-number-end.ensures)))
