@@ -153,7 +153,9 @@ impl Leader {
             Message::Status { attempt, inc } => {
                 self.hear_prepare_reset(seat, entries, target, down, *attempt, *inc)
             }
-            Message::Mark { inc, marks } => self.hear_mark_reset(seat, entries, target, down, *inc, marks),
+            Message::Mark { inc, marks } => self.hear_mark_reset(
+                seat, entries, target, down, *inc, marks,
+            ),
             _ => Ok(none(self.alloc)),
         }
     }

@@ -60,13 +60,7 @@ fn is_owed_some(me: TargetId, entries: &[Entry], named: &[Naming], target: Targe
 }
 
 // Whether a target is to be told of some commit.
-fn is_due_to(
-    me: TargetId,
-    down: u64,
-    named: &[Naming],
-    entries: &[Entry],
-    target: TargetId,
-) -> bool
+fn is_due_to(me: TargetId, down: u64, named: &[Naming], entries: &[Entry], target: TargetId) -> bool
     ensures { result ≡ is_due_to down named.now (filter (is_led me) entries.now) target }
 {
     !has_target(down, target) && is_owed_some(me, entries, named, target)

@@ -2,13 +2,13 @@
 ghost use Rattle.std.specs.Prelude.{◌≡◌, ◌++◌, filter, map, IfOk, OnOk};
 ghost use Rattle.dtx_base.specs.Leading.{answered, attempts_of, entry_attempt, is_named, is_not_named_in, is_owed, naming, naming_to, owed};
 
-use dtx_posts::bits::{has_target, is_other_member};
 use daos_base::entry::Entry;
 use daos_base::epoch::TargetId;
 use daos_base::id::AttemptId;
 use daos_base::items::Memory;
 use daos_model::durable::is_same_attempt;
 use dtx_base::leading::Naming;
+use dtx_posts::bits::{has_target, is_other_member};
 use dtx_table::rows::is_among;
 use std::alloc::Global;
 
