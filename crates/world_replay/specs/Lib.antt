@@ -1,0 +1,2 @@
+-- Runs as lists of events.
+pub mod Replays
