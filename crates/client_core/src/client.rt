@@ -1,6 +1,5 @@
 // A client of a run.
 ghost use Rattle.std.specs.Prelude.{◌≡◌, ◌≤◌, ◌<◌, length, nat_lt, slice_get, IfOk, OnErr};
-ghost use Rattle.client_core.specs.Clients.{IsInPlace, PlanFits};
 ghost use Rattle.daos_base.specs.Scripts.{IsInForm};
 ghost use Rattle.world_base.specs.ClientTurns.{HearTurn, NextTurn, at_first, is_created_old, is_done, known_at_opening, plan_of, waits};
 
@@ -97,26 +96,6 @@ impl Client {
             known,
         };
         Ok(Client { alloc, plan, state })
-    }
-
-    /// A client that has come this far. What it has to do can be done, and it has come as far as its
-    /// numbers say.
-    pub fn at(alloc: Global, plan: ClientPlan, state: &ClientState) -> Result<Client, Memory>
-        requires fits { PlanFits plan }
-        requires place { IsInPlace plan state.now }
-        ensures plan { IfOk result (λ c. c.plan ≡ plan) }
-        ensures state { IfOk result (λ c. c.state ≡ state.now) }
-    {
-        let state = copy_state(alloc, state)?;
-        Ok(Client { alloc, plan, state })
-    }
-
-    /// How far it came.
-    pub fn state(&self) -> &ClientState
-        ensures state { result.now ≡ self.now.state }
-        ensures place { IsInPlace self.now.plan result.now }
-    {
-        &self.state
     }
 
     /// A turn without a message: a turn that is skipped is counted; else the client goes on. Where

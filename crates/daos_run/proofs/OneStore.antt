@@ -14,8 +14,8 @@ use Rattle.run_actors.specs.ListLaws.{there-is}
 use Rattle.run_order.specs.declared.halted.Halted.{Halted}
 use Rattle.run_order.specs.declared.halted.Halted.TheVariants as halted
 use Rattle.run_order.specs.Halts.{IsOneOf, Leaves, stopped_at}
-use Rattle.target_core.specs.Parts.{Runs}
-use Rattle.target_core.specs.Running.{runs_as}
+use Rattle.target_parts.specs.Parts.{Runs}
+use Rattle.target_parts.specs.Running.{runs_as}
 use Rattle.target_core.specs.Targets.{TargetOf}
 use Rattle.vos_store.specs.Calls.{Answers, State}
 use Rattle.vos_store.specs.Answers.{enlists}

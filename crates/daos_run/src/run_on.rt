@@ -11,7 +11,7 @@ ghost use Rattle.target_core.specs.Targets.{IsHeard, TargetOf};
 ghost use Rattle.daos_run.specs.Runnable.{IsRunnable};
 ghost use Rattle.daos_run.specs.Slots.{FromTo, HasStore, IfTold, IsSet};
 ghost use Rattle.daos_run.specs.Stops.{MayStop, is_fault};
-ghost use Rattle.target_core.specs.Parts.{Runs};
+ghost use Rattle.target_parts.specs.Parts.{Runs};
 ghost use Rattle.world_forms.specs.Keyed.{ScriptHasKeys};
 
 use crate::opening::{clients_of, open};

@@ -1,21 +1,23 @@
 // What members answer.
-ghost use Rattle.std.specs.Prelude.{◌≡◌, ◌<◌, IfOk, OnErr, map};
-ghost use Rattle.dtx_base.specs.Leading.{ack_heard, all_confirmed_by, answer_of_member, confirmed_by, counted_at, marked_heard, ok_heard, refusal_heard, step_of};
+ghost use Rattle.std.specs.Prelude.{◌≡◌, ◌<◌, IfOk, OnErr, OnOk, map};
+ghost use Rattle.dtx_base.specs.Leading.{ack_heard, answered, counted_at, ok_heard, refusal_heard};
+ghost use Rattle.dtx_posts.specs.Seats.{came, leader_of};
 
-use crate::bits::{are_all_counted, has_target, is_other_member, other_members, with_target};
 use crate::leader::Leader;
-use crate::marks::{names_to, unanswered};
-use crate::posts::{ended, none, push_aborts};
-use daos_base::entry::{Entry, Settle};
+use daos_base::entry::Entry;
 use daos_base::epoch::TargetId;
 use daos_base::id::AttemptId;
 use daos_base::items::Memory;
 use daos_base::outcome::Outcome;
-use daos_messages::message::{Message, Posts};
+use daos_messages::message::Posts;
 use daos_model::durable::is_same_attempt;
 use dtx_base::leading::Undecided;
+use dtx_marks::marks::{names_to, unanswered};
+use dtx_posts::bits::{are_all_counted, is_other_member, other_members, with_target};
+use dtx_posts::led::find_led;
+use dtx_posts::posts::{ended, none, push_aborts};
+use dtx_posts::seat::Seat;
 use dtx_table::rows::{find, put, remove};
-use dtx_table::table::Table;
 
 // One more member of an attempt counts as Ok.
 fn count_among(rows: &mut [Undecided], attempt: AttemptId, member: TargetId)
@@ -36,41 +38,23 @@ fn count(rows: &mut Vec<Undecided>, attempt: AttemptId, member: TargetId)
     count_among(rows, attempt, member)
 }
 
-// A target confirms the commit of an attempt, where it is committed and the target a member.
-#[tactic(auto, unfolding(dtx_table::specs::Tables::entries_settled))]
-fn confirm(table: &mut Table, from: TargetId, attempt: AttemptId)
-    ensures { table.new ≡ confirmed_by from attempt table.old }
-{
-    let Some(entry) = table.state(attempt) else {
-        return;
-    };
-    if entry.committed && has_target(entry.members, from) {
-        table.settle(attempt, Settle::Confirm(from));
-    }
-}
-
-// A target confirms the commits of these attempts.
-fn confirm_all(table: &mut Table, from: TargetId, attempts: &[AttemptId])
-    ensures { table.new ≡ all_confirmed_by from attempts.now table.old }
-{
-    for attempt in attempts {
-        confirm(table, from, *attempt);
-    }
-}
-
 impl Leader {
     // A member answers Ok, and is counted; the last one decides.
     fn hear_ok(
         &mut self,
+        seat: Seat,
+        entries: &[Entry],
         from: TargetId,
         attempt: AttemptId,
         entry: &Entry,
         undecided: &Undecided,
     ) -> Result<Posts, Memory>
         requires { from < 64 }
-        ensures ok { IfOk result (λ posts. step_of self.new posts ≡ ok_heard from attempt entry.now undecided.now self.old) }
+        ensures ok { IfOk result (λ posts. (self.new, posts) ≡ came (ok_heard from attempt entry.now undecided.now (leader_of seat entries.now self.old))) }
         ensures err { OnErr result (self.new ≡ self.old) }
     {
+        let _seat = seat;
+        let _kept = entries;
         if !are_all_counted(entry, with_target(undecided.counted, from)) {
             count(&mut self.undecided, attempt, from);
             return Ok(none(self.alloc));
@@ -89,17 +73,19 @@ impl Leader {
     }
 
     // A member refuses: the attempt is aborted.
-    #[tactic(auto, unfolding(dtx_table::specs::Tables::entries_settled))]
     fn hear_refusal(
         &mut self,
+        seat: Seat,
+        entries: &[Entry],
         attempt: AttemptId,
         refusal: &Outcome,
         entry: &Entry,
         undecided: &Undecided,
     ) -> Result<Posts, Memory>
-        ensures ok { IfOk result (λ posts. step_of self.new posts ≡ refusal_heard attempt refusal.now entry.now undecided.now self.old) }
+        ensures ok { IfOk result (λ posts. (self.new, posts) ≡ came (refusal_heard attempt refusal.now entry.now undecided.now (leader_of seat entries.now self.old))) }
         ensures err { OnErr result (self.new ≡ self.old) }
     {
+        let _kept = entries;
         let others = other_members(self.alloc, entry)?;
         let mut posts = ended(
             self.alloc,
@@ -108,30 +94,37 @@ impl Leader {
             entry.epoch,
             refusal.copy()?,
         )?;
-        push_aborts(self.alloc, &mut posts, self.incarnation, attempt, &others)?;
-        let named = names_to(self.alloc, &others, self.incarnation, attempt)?;
+        push_aborts(self.alloc, &mut posts, seat.incarnation, attempt, &others)?;
+        let named = names_to(self.alloc, &others, seat.incarnation, attempt)?;
         self.named.extend_from_slice(&named)?;
         remove(&mut self.undecided, attempt);
-        self.table.settle(attempt, Settle::Abort);
         Ok(posts)
     }
 
-    // A member answers a Prepare.
+    /// A member answers a Prepare: the Ack counts it, or the attempt is aborted. One of another
+    /// incarnation changes nothing; nor does one of an attempt that isn't undecided here, or of a
+    /// target that is no other member of it.
+    ///
+    /// # Errors
+    ///
+    /// For want of memory; the leader is then as it was.
     #[tactic(auto, unfolding(dtx_base::specs::Leading::ack_heard))]
-    fn hear_answer(
+    pub fn hear_ack(
         &mut self,
+        seat: Seat,
+        entries: &[Entry],
         from: TargetId,
         attempt: AttemptId,
         inc: u64,
         refusal: &Option<Outcome>,
     ) -> Result<Posts, Memory>
-        ensures ok { IfOk result (λ posts. step_of self.new posts ≡ ack_heard from attempt inc refusal.now self.old) }
+        ensures ok { IfOk result (λ posts. (self.new, posts) ≡ came (ack_heard from attempt inc refusal.now (leader_of seat entries.now self.old))) }
         ensures err { OnErr result (self.new ≡ self.old) }
     {
-        if inc != self.incarnation {
+        if inc != seat.incarnation {
             return Ok(none(self.alloc));
         }
-        let Some(entry) = self.table.state(attempt) else {
+        let Some(entry) = find_led(entries, seat.me, attempt) else {
             return Ok(none(self.alloc));
         };
         let Some(undecided) = find(&self.undecided, attempt) else {
@@ -141,49 +134,26 @@ impl Leader {
             return Ok(none(self.alloc));
         }
         match refusal {
-            None => self.hear_ok(from, attempt, &entry, &undecided),
-            Some(outcome) => self.hear_refusal(attempt, outcome, &entry, &undecided),
+            None => self.hear_ok(seat, entries, from, attempt, &entry, &undecided),
+            Some(outcome) => self.hear_refusal(seat, entries, attempt, outcome, &entry, &undecided),
         }
     }
 
-    // A member answers a Mark.
-    #[tactic(auto, unfolding(dtx_base::specs::Leading::marked_heard))]
-    fn hear_marked(
-        &mut self,
-        from: TargetId,
-        inc: u64,
-        attempts: &[AttemptId],
-    ) -> Result<Posts, Memory>
-        ensures ok { IfOk result (λ posts. step_of self.new posts ≡ marked_heard from inc attempts.now self.old) }
-        ensures err { OnErr result (self.new ≡ self.old) }
-    {
-        self.named = unanswered(self.alloc, &self.named, from, inc, attempts)?;
-        if inc == self.incarnation {
-            confirm_all(&mut self.table, from, attempts);
-        }
-        Ok(none(self.alloc))
-    }
-
-    /// A member answers: an Ack, which counts it or aborts the attempt, or a Marked, which confirms
-    /// commits. One of another incarnation counts and confirms nothing; an Ack of an attempt that
-    /// isn't undecided here, or of a target that is no other member of it, changes nothing. Nor does
-    /// any other message.
+    /// A member answers a Mark, which is then no more without an answer.
     ///
     /// # Errors
     ///
     /// For want of memory; the leader is then as it was.
-    pub fn hear_ack(&mut self, from: TargetId, message: &Message) -> Result<Posts, Memory>
-        ensures ok { IfOk result (λ posts. step_of self.new posts ≡ answer_of_member from message.now self.old) }
+    pub fn hear_marked(
+        &mut self,
+        from: TargetId,
+        inc: u64,
+        attempts: &[AttemptId],
+    ) -> Result<(), Memory>
+        ensures ok { OnOk result (self.new ≡ record self.old { named = answered from inc attempts.now self.old.named }) }
         ensures err { OnErr result (self.new ≡ self.old) }
     {
-        match message {
-            Message::Ack {
-                attempt,
-                inc,
-                refusal,
-            } => self.hear_answer(from, *attempt, *inc, refusal),
-            Message::Marked { inc, attempts } => self.hear_marked(from, *inc, attempts.as_slice()),
-            _ => Ok(none(self.alloc)),
-        }
+        self.named = unanswered(self.alloc, &self.named, from, inc, attempts)?;
+        Ok(())
     }
 }

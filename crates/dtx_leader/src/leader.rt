@@ -1,16 +1,13 @@
 // A leader: the target that decides an attempt.
-ghost use Rattle.std.specs.Prelude.{◌≡◌, true, All, IfOk, IfSome, OnErr};
+ghost use Rattle.std.specs.Prelude.{◌≡◌, [], All, IfOk, IfSome, OnErr, filter};
 ghost use Rattle.daos_base.specs.Operations.{write_path};
 ghost use Rattle.daos_base.specs.Placement.{ClassFits};
-ghost use Rattle.daos_model.specs.Durables.{entry_key};
-ghost use Rattle.daos_model.specs.Ordered.{is_rising};
-ghost use Rattle.dtx_base.specs.Leading.{begun, begun_alone, begun_with_others, first_leader, step_of};
+ghost use Rattle.dtx_base.specs.Leading.{begun, begun_alone, begun_with_others, first_memory, is_led};
 ghost use Rattle.dtx_base.specs.Members.{other_members};
+ghost use Rattle.dtx_posts.specs.Seats.{came, leader_of};
 
-use crate::bits::other_members;
-use crate::opening::{first_decided, first_undecided, led_by};
-use crate::posts::{Asking, ended, prepares};
-use daos_base::entry::{Entries, Entry};
+use crate::opening::{first_decided, first_undecided};
+use daos_base::entry::Entry;
 use daos_base::epoch::{Epoch, TargetId};
 use daos_base::id::AttemptId;
 use daos_base::items::Memory;
@@ -19,21 +16,20 @@ use daos_base::outcome::Outcome;
 use daos_messages::actor::ActorId;
 use daos_messages::message::Posts;
 use dtx_base::leading::{Naming, Undecided};
+use dtx_posts::bits::other_members;
+use dtx_posts::led::led_by;
+use dtx_posts::posts::{Asking, ended, prepares};
+use dtx_posts::seat::Seat;
 use dtx_table::rows::put;
-use dtx_table::table::Table;
 use std::alloc::Global;
 use std::marker::Model;
 
-/// A leader: the entries of the attempts that it leads, as its store keeps them; which of these it
-/// hasn't decided, and whose Ok it counted; which it decided and hasn't settled; what Marks it sent;
-/// and which targets it knows to be down.
+/// What a leader remembers: which attempts it hasn't decided, and whose Ok it counted of each; which it
+/// decided and hasn't settled; what Marks it sent that are without an answer; and which targets it knows
+/// to be down.
 #[derive(Drop)]
 pub struct Leader {
     pub(crate) alloc: Global,
-    pub(crate) me: TargetId,
-    pub(crate) targets: u8,
-    pub(crate) incarnation: u64,
-    pub(crate) table: Table,
     pub(crate) undecided: Vec<Undecided>,
     pub(crate) decided: Vec<AttemptId>,
     pub(crate) named: Vec<Naming>,
@@ -41,47 +37,28 @@ pub struct Leader {
 }
 
 impl Model for Leader {
-    ghost use Rattle.dtx_base.specs.Leading.{LeaderOf};
+    ghost use Rattle.dtx_base.specs.declared.leading.LeaderMemory.{LeaderMemory};
 
-    ghost Value = { LeaderOf };
+    ghost Value = { LeaderMemory };
 
-    ghost view = { λ l. record {
-      me = l.me;
-      targets = l.targets;
-      incarnation = l.incarnation;
-      entries = l.table;
-      memory = record { undecided = l.undecided.items; decided = l.decided.items; named = l.named.items; down = l.down };
-    } };
+    ghost view = { λ l. record { undecided = l.undecided.items; decided = l.decided.items; named = l.named.items; down = l.down } };
 }
 
 impl Leader {
-    /// A leader that has just opened, with this number among so many targets, under this
-    /// incarnation. Of these entries, in the order of attempts, it begins with those that it leads:
-    /// one that isn't committed is undecided, or decided where there is no other member.
+    /// A leader that has just opened, at a target of this number which keeps these entries. Of those that
+    /// it leads, one that isn't committed is undecided, or decided where there is no other member.
     ///
     /// # Errors
     ///
     /// For want of memory.
-    #[tactic(auto, unfolding(dtx_base::specs::Leading::first_leader))]
-    pub fn new(
-        alloc: Global,
-        me: TargetId,
-        targets: u8,
-        incarnation: u64,
-        entries: &Entries,
-    ) -> Result<Leader, Memory>
-        requires { is_rising entry_key entries.now ≡ true }
-        ensures { IfOk result (λ leader. leader ≡ first_leader me targets incarnation entries.now) }
+    pub fn new(alloc: Global, me: TargetId, entries: &[Entry]) -> Result<Leader, Memory>
+        ensures { IfOk result (λ leader. leader ≡ first_memory (filter (is_led me) entries.now)) }
     {
-        let led = led_by(alloc, me, entries.as_slice())?;
+        let led = led_by(alloc, me, entries)?;
         let undecided = first_undecided(alloc, &led)?;
         let decided = first_decided(alloc, &led)?;
         Ok(Leader {
             alloc,
-            me,
-            targets,
-            incarnation,
-            table: Table::of_rows(led),
             undecided,
             decided,
             named: Vec::new(alloc),
@@ -90,10 +67,11 @@ impl Leader {
     }
 
     // An attempt without other members begins, and is decided.
-    fn begin_alone(&mut self, entry: &Entry, client: ActorId) -> Result<Posts, Memory>
-        ensures ok { IfOk result (λ posts. step_of self.new posts ≡ begun_alone entry.now client self.old) }
+    fn begin_alone(&mut self, seat: Seat, entry: &Entry, client: ActorId) -> Result<Posts, Memory>
+        ensures ok { IfOk result (λ posts. (self.new, posts) ≡ came (begun_alone entry.now client (leader_of seat [] self.old))) }
         ensures err { OnErr result (self.new ≡ self.old) }
     {
+        let _seat = seat;
         let posts = ended(
             self.alloc,
             Some(client),
@@ -102,7 +80,6 @@ impl Leader {
             Outcome::Committed,
         )?;
         self.decided.reserve(1)?;
-        self.table.add(*entry)?;
         put(&mut self.decided, entry.attempt);
         Ok(posts)
     }
@@ -110,21 +87,22 @@ impl Leader {
     // An attempt with these other members begins.
     fn begin_with(
         &mut self,
+        seat: Seat,
         asking: Asking,
         client: ActorId,
         writes: &[MinorWrite],
         others: &[TargetId],
     ) -> Result<Posts, Memory>
         requires fit { All (λ w. IfSome (write_path w.write).obj (λ o. ClassFits o.class asking.targets)) writes.now }
-        requires targets { asking.targets ≡ self.old.targets }
-        requires incarnation { asking.incarnation ≡ self.old.incarnation }
+        requires targets { asking.targets ≡ seat.targets }
+        requires incarnation { asking.incarnation ≡ seat.incarnation }
         requires others { others.now ≡ other_members asking.entry }
-        ensures ok { IfOk result (λ posts. step_of self.new posts ≡ begun_with_others asking.entry asking.first client writes.now self.old) }
+        ensures ok { IfOk result (λ posts. (self.new, posts) ≡ came (begun_with_others asking.entry asking.first client writes.now (leader_of seat [] self.old))) }
         ensures err { OnErr result (self.new ≡ self.old) }
     {
+        let _seat = seat;
         let posts = prepares(self.alloc, asking, writes, others)?;
         self.undecided.reserve(1)?;
-        self.table.add(asking.entry)?;
         put(
             &mut self.undecided,
             Undecided {
@@ -146,25 +124,26 @@ impl Leader {
     #[tactic(auto, unfolding(dtx_base::specs::Leading::begun))]
     pub fn begin(
         &mut self,
+        seat: Seat,
         entry: &Entry,
         first: Option<Epoch>,
         client: ActorId,
         writes: &[MinorWrite],
     ) -> Result<Posts, Memory>
-        requires { All (λ w. IfSome (write_path w.write).obj (λ o. ClassFits o.class self.old.targets)) writes.now }
-        ensures ok { IfOk result (λ posts. step_of self.new posts ≡ begun entry.now first client writes.now self.old) }
+        requires { All (λ w. IfSome (write_path w.write).obj (λ o. ClassFits o.class seat.targets)) writes.now }
+        ensures ok { IfOk result (λ posts. (self.new, posts) ≡ came (begun entry.now first client writes.now (leader_of seat [] self.old))) }
         ensures err { OnErr result (self.new ≡ self.old) }
     {
         let others = other_members(self.alloc, entry)?;
         if others.is_empty() {
-            return self.begin_alone(entry, client);
+            return self.begin_alone(seat, entry, client);
         }
         let asking = Asking {
             entry: *entry,
             first,
-            targets: self.targets,
-            incarnation: self.incarnation,
+            targets: seat.targets,
+            incarnation: seat.incarnation,
         };
-        self.begin_with(asking, client, writes, &others)
+        self.begin_with(seat, asking, client, writes, &others)
     }
 }

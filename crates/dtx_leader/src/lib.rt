@@ -1,13 +1,9 @@
-// The machine of a leader: it counts what members answer, decides, and tells them.
+// The machine of a leader: it counts what members answer, decides, and tells them. The entries of the
+// attempts are those that its target keeps: each call that needs them is given them.
 #![tactic(auto)]
 
 mod answers;
-mod batch;
-mod bits;
 pub mod leader;
-mod marks;
 mod opening;
-mod posts;
 mod resets;
 mod telling;
-mod written;

@@ -1,27 +1,13 @@
 // What a leader begins with.
 ghost use Rattle.std.specs.Prelude.{◌≡◌, filter, map, IfOk};
-ghost use Rattle.dtx_base.specs.Leading.{entry_attempt, is_led, is_open, is_open_alone, reopened_undecided};
+ghost use Rattle.dtx_base.specs.Leading.{entry_attempt, is_open, is_open_alone, reopened_undecided};
 
-use crate::bits::other_members;
 use daos_base::entry::Entry;
-use daos_base::epoch::TargetId;
 use daos_base::id::AttemptId;
 use daos_base::items::Memory;
 use dtx_base::leading::Undecided;
+use dtx_posts::bits::other_members;
 use std::alloc::Global;
-
-/// The entries that a target leads.
-pub fn led_by(alloc: Global, me: TargetId, entries: &[Entry]) -> Result<Vec<Entry>, Memory>
-    ensures { IfOk result (λ led. led.items ≡ filter (is_led me) entries.now) }
-{
-    let mut led = Vec::new(alloc);
-    for entry in entries {
-        if entry.leader == me {
-            led.push(*entry)?;
-        }
-    }
-    Ok(led)
-}
 
 // Whether an entry isn't committed, and there are others to ask.
 fn is_open(alloc: Global, entry: &Entry) -> Result<bool, Memory>

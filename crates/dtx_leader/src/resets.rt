@@ -1,11 +1,10 @@
 // Resets: messages that got no answer, since the target stopped or is down.
 ghost use Rattle.std.specs.Prelude.{◌≡◌, ◌<◌, IfOk, OnErr, map};
-ghost use Rattle.dtx_base.specs.Leading.{down_told, entry_led, mark_reset, prepare_reset, reset_heard, reset_of, status_asked, step_of, undecided_of, unwaited_at};
+ghost use Rattle.dtx_base.specs.Leading.{down_told, entry_led, mark_reset, prepare_reset, reset_heard, reset_of, status_asked, undecided_of, unwaited_at};
+ghost use Rattle.dtx_posts.specs.Seats.{came, leader_of};
 
-use crate::bits::with_target;
 use crate::leader::Leader;
-use crate::marks::{attempts_of, name, unanswered};
-use crate::posts::{ended, none, one, to_target};
+use daos_base::entry::Entry;
 use daos_base::epoch::TargetId;
 use daos_base::id::AttemptId;
 use daos_base::items::Memory;
@@ -13,6 +12,11 @@ use daos_base::outcome::Outcome;
 use daos_messages::message::{Marks, Message, Posts};
 use daos_model::durable::is_same_attempt;
 use dtx_base::leading::Undecided;
+use dtx_marks::marks::{attempts_of, name, unanswered};
+use dtx_posts::bits::with_target;
+use dtx_posts::led::find_led;
+use dtx_posts::posts::{ended, none, one, to_target};
+use dtx_posts::seat::Seat;
 use dtx_table::rows::find;
 
 // No client waits any more for the end of an attempt.
@@ -34,11 +38,18 @@ fn unwait(rows: &mut Vec<Undecided>, attempt: AttemptId)
 
 impl Leader {
     // A member is down: the client that waits for an attempt is told, and the attempt stays undecided.
-    fn tell_down(&mut self, target: TargetId, attempt: AttemptId) -> Result<Posts, Memory>
-        ensures ok { IfOk result (λ posts. step_of self.new posts ≡ down_told target attempt (entry_led attempt self.old) (undecided_of attempt self.old) self.old) }
+    fn tell_down(
+        &mut self,
+        seat: Seat,
+        entries: &[Entry],
+        target: TargetId,
+        attempt: AttemptId,
+    ) -> Result<Posts, Memory>
+        ensures ok { IfOk result (λ posts. (self.new, posts) ≡ came (down_told target attempt
+            (entry_led attempt (leader_of seat entries.now self.old)) (undecided_of attempt (leader_of seat entries.now self.old)) (leader_of seat entries.now self.old))) }
         ensures err { OnErr result (self.new ≡ self.old) }
     {
-        let Some(entry) = self.table.state(attempt) else {
+        let Some(entry) = find_led(entries, seat.me, attempt) else {
             return Ok(none(self.alloc));
         };
         let Some(undecided) = find(&self.undecided, attempt) else {
@@ -51,10 +62,18 @@ impl Leader {
     }
 
     // A member that stopped is asked what it holds, unless an older incarnation asked it to prepare.
-    fn ask_status(&self, target: TargetId, attempt: AttemptId, inc: u64) -> Result<Posts, Memory>
-        ensures { IfOk result (λ posts. step_of self.now posts ≡ status_asked target attempt inc self.now) }
+    fn ask_status(
+        &self,
+        seat: Seat,
+        entries: &[Entry],
+        target: TargetId,
+        attempt: AttemptId,
+        inc: u64,
+    ) -> Result<Posts, Memory>
+        ensures { IfOk result (λ posts. (self.now, posts) ≡ came (status_asked target attempt inc (leader_of seat entries.now self.now))) }
     {
-        if inc != self.incarnation {
+        let _kept = entries;
+        if inc != seat.incarnation {
             return Ok(none(self.alloc));
         }
         one(
@@ -67,32 +86,38 @@ impl Leader {
     #[tactic(auto, unfolding(dtx_base::specs::Leading::prepare_reset))]
     fn hear_prepare_reset(
         &mut self,
+        seat: Seat,
+        entries: &[Entry],
         target: TargetId,
         down: bool,
         attempt: AttemptId,
         inc: u64,
     ) -> Result<Posts, Memory>
-        ensures ok { IfOk result (λ posts. step_of self.new posts ≡ prepare_reset target down attempt inc self.old) }
+        ensures ok { IfOk result (λ posts. (self.new, posts) ≡ came (prepare_reset target down attempt inc (leader_of seat entries.now self.old))) }
         ensures err { OnErr result (self.new ≡ self.old) }
     {
         if down {
-            return self.tell_down(target, attempt);
+            return self.tell_down(seat, entries, target, attempt);
         }
-        self.ask_status(target, attempt, inc)
+        self.ask_status(seat, entries, target, attempt, inc)
     }
 
     // A Mark got no answer: it is sent again, unless the member is down.
     #[tactic(auto, unfolding(dtx_base::specs::Leading::mark_reset))]
     fn hear_mark_reset(
         &mut self,
+        seat: Seat,
+        entries: &[Entry],
         target: TargetId,
         down: bool,
         inc: u64,
         marks: &Marks,
     ) -> Result<Posts, Memory>
-        ensures ok { IfOk result (λ posts. step_of self.new posts ≡ mark_reset target down inc marks.now self.old) }
+        ensures ok { IfOk result (λ posts. (self.new, posts) ≡ came (mark_reset target down inc marks.now (leader_of seat entries.now self.old))) }
         ensures err { OnErr result (self.new ≡ self.old) }
     {
+        let _seat = seat;
+        let _kept = entries;
         let attempts = attempts_of(self.alloc, marks.as_slice())?;
         let mut named = unanswered(self.alloc, &self.named, target, inc, &attempts)?;
         if down {
@@ -112,21 +137,23 @@ impl Leader {
     // What follows of the message.
     fn hear_reset_of(
         &mut self,
+        seat: Seat,
+        entries: &[Entry],
         target: TargetId,
         down: bool,
         message: &Message,
     ) -> Result<Posts, Memory>
-        ensures ok { IfOk result (λ posts. step_of self.new posts ≡ reset_of target down message.now self.old) }
+        ensures ok { IfOk result (λ posts. (self.new, posts) ≡ came (reset_of target down message.now (leader_of seat entries.now self.old))) }
         ensures err { OnErr result (self.new ≡ self.old) }
     {
         match message {
             Message::Prepare { entry, inc, .. } => {
-                self.hear_prepare_reset(target, down, entry.attempt, *inc)
+                self.hear_prepare_reset(seat, entries, target, down, entry.attempt, *inc)
             }
             Message::Status { attempt, inc } => {
-                self.hear_prepare_reset(target, down, *attempt, *inc)
+                self.hear_prepare_reset(seat, entries, target, down, *attempt, *inc)
             }
-            Message::Mark { inc, marks } => self.hear_mark_reset(target, down, *inc, marks),
+            Message::Mark { inc, marks } => self.hear_mark_reset(seat, entries, target, down, *inc, marks),
             _ => Ok(none(self.alloc)),
         }
     }
@@ -141,15 +168,17 @@ impl Leader {
     /// For want of memory; the leader is then as it was.
     pub fn hear_reset(
         &mut self,
+        seat: Seat,
+        entries: &[Entry],
         target: TargetId,
         down: bool,
         message: &Message,
     ) -> Result<Posts, Memory>
         requires { target < 64 }
-        ensures ok { IfOk result (λ posts. step_of self.new posts ≡ reset_heard target down message.now self.old) }
+        ensures ok { IfOk result (λ posts. (self.new, posts) ≡ came (reset_heard target down message.now (leader_of seat entries.now self.old))) }
         ensures err { OnErr result (self.new ≡ self.old) }
     {
-        let posts = self.hear_reset_of(target, down, message)?;
+        let posts = self.hear_reset_of(seat, entries, target, down, message)?;
         if down {
             self.down = with_target(self.down, target);
         }

@@ -1,16 +1,21 @@
 // What a leader tells of what it decided.
-ghost use Rattle.std.specs.Prelude.{◌≡◌, IfOk, OnErr};
-ghost use Rattle.dtx_base.specs.Leading.{batched, first_down, is_batch_due, query_answer, settled_led, step_of};
+ghost use Rattle.std.specs.Prelude.{◌≡◌, [], IfOk, OnErr};
+ghost use Rattle.dtx_base.specs.Leading.{batched, first_down, is_batch_due, query_answer, undecided_attempt};
+ghost use Rattle.dtx_base.specs.Rows.{itself, row_of, without_row};
+ghost use Rattle.dtx_posts.specs.Seats.{came, leader_of};
 
-use crate::batch::{batch_of, is_due};
-use crate::bits::first_down;
 use crate::leader::Leader;
-use daos_base::entry::{Settle, Verdict};
+use daos_base::entry::{Entry, Verdict};
 use daos_base::epoch::TargetId;
 use daos_base::id::AttemptId;
 use daos_base::items::Memory;
 use daos_messages::message::Posts;
-use dtx_table::rows::{is_among, remove};
+use dtx_base::leading::Undecided;
+use dtx_marks::batch::{batch_of, is_due};
+use dtx_posts::bits::first_down;
+use dtx_posts::led::{find_led, led_by};
+use dtx_posts::seat::Seat;
+use dtx_table::rows::{find, is_among, remove};
 
 impl Leader {
     /// Tells each other member of the commits that it hasn't confirmed, by one Mark each, in the
@@ -21,36 +26,31 @@ impl Leader {
     ///
     /// For want of memory; the leader is then as it was.
     #[tactic(auto, unfolding(dtx_base::specs::Leading::batched))]
-    pub fn batch(&mut self) -> Result<Posts, Memory>
-        ensures ok { IfOk result (λ posts. step_of self.new posts ≡ batched self.old) }
+    pub fn batch(&mut self, seat: Seat, entries: &[Entry]) -> Result<Posts, Memory>
+        ensures ok { IfOk result (λ posts. (self.new, posts) ≡ came (batched (leader_of seat entries.now self.old))) }
         ensures err { OnErr result (self.new ≡ self.old) }
     {
-        let batch = batch_of(
-            self.alloc,
-            self.incarnation,
-            self.down,
-            &self.named,
-            self.table.entries(),
-        )?;
+        let led = led_by(self.alloc, seat.me, entries)?;
+        let batch = batch_of(self.alloc, seat.incarnation, self.down, &self.named, &led)?;
         self.named.extend_from_slice(&batch.named)?;
         Ok(batch.posts)
     }
 
     /// Whether a batch would send something.
     #[tactic(auto, unfolding(dtx_base::specs::Leading::is_batch_due))]
-    pub fn has_batch(&self) -> bool
-        ensures { result ≡ is_batch_due self.now }
+    pub fn has_batch(&self, seat: Seat, entries: &[Entry]) -> bool
+        ensures { result ≡ is_batch_due (leader_of seat entries.now self.now) }
     {
-        is_due(self.down, &self.named, self.table.entries())
+        is_due(seat.me, self.down, &self.named, entries)
     }
 
     /// What became of an attempt: committed where it is decided, aborted where there is no entry of
     /// it.
     #[tactic(auto, unfolding(dtx_base::specs::Leading::query_answer))]
-    pub fn answer_query(&self, attempt: AttemptId) -> Verdict
-        ensures { result ≡ query_answer attempt self.now }
+    pub fn answer_query(&self, seat: Seat, entries: &[Entry], attempt: AttemptId) -> Verdict
+        ensures { result ≡ query_answer attempt (leader_of seat entries.now self.now) }
     {
-        match self.table.state(attempt) {
+        match find_led(entries, seat.me, attempt) {
             None => Verdict::Aborted,
             Some(entry) => {
                 if entry.committed || is_among(&self.decided, attempt) {
@@ -62,25 +62,37 @@ impl Leader {
         }
     }
 
+    /// What is known of an attempt that isn't decided, if it is one.
+    pub fn undecided(&self, attempt: AttemptId) -> Option<Undecided>
+        ensures { result ≡ row_of undecided_attempt attempt self.now.undecided }
+    {
+        find(&self.undecided, attempt)
+    }
+
     /// The attempts that are decided and not settled in the store yet, in their order.
     pub fn decided(&self) -> &[AttemptId]
-        ensures { result.now ≡ self.now.memory.decided }
+        ensures { result.now ≡ self.now.decided }
     {
         &self.decided
     }
 
     /// A decided attempt was settled in the store.
-    #[tactic(auto, unfolding(dtx_base::specs::Leading::settled_led, dtx_table::specs::Tables::entries_settled))]
     pub fn settled(&mut self, attempt: AttemptId)
-        ensures { self.new ≡ settled_led attempt self.old }
+        ensures { self.new ≡ record self.old { decided = without_row itself attempt self.old.decided } }
     {
-        self.table.settle(attempt, Settle::Commit);
         remove(&mut self.decided, attempt);
+    }
+
+    /// All decided attempts were settled in the store.
+    pub fn all_settled(&mut self)
+        ensures { self.new ≡ record self.old { decided = [] } }
+    {
+        self.decided.clear();
     }
 
     /// The least of some members, one bit for each target, that is known to be down.
     pub fn down_among(&self, members: u64) -> Option<TargetId>
-        ensures { result ≡ first_down members self.now.memory.down }
+        ensures { result ≡ first_down members self.now.down }
     {
         first_down(members, self.down)
     }

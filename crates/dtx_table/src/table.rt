@@ -66,6 +66,20 @@ fn confirm(rows: &mut Vec<Entry>, attempt: AttemptId, member: TargetId)
     confirm_among(rows, attempt, member)
 }
 
+/// A step of an attempt among entries, as a store makes it of those that it keeps. A member that
+/// confirms is below 64.
+#[tactic(auto, unfolding(crate::specs::Tables::entries_settled))]
+pub fn settle_rows(rows: &mut Vec<Entry>, attempt: AttemptId, step: Settle)
+    requires { IsStep step }
+    ensures { rows.new.items ≡ entries_settled attempt step rows.old.items }
+{
+    match step {
+        Settle::Commit => commit(rows, attempt),
+        Settle::Abort | Settle::Forget => remove(rows, attempt),
+        Settle::Confirm(member) => confirm(rows, attempt, member),
+    }
+}
+
 impl Table {
     /// A table without entries.
     ///
@@ -118,15 +132,10 @@ impl Table {
 
     /// A step of an attempt, as a store makes it of the entries that it keeps. A member that
     /// confirms is below 64.
-    #[tactic(auto, unfolding(crate::specs::Tables::entries_settled))]
     pub fn settle(&mut self, attempt: AttemptId, step: Settle)
         requires { IsStep step }
         ensures { self.new ≡ entries_settled attempt step self.old }
     {
-        match step {
-            Settle::Commit => commit(&mut self.rows, attempt),
-            Settle::Abort | Settle::Forget => remove(&mut self.rows, attempt),
-            Settle::Confirm(member) => confirm(&mut self.rows, attempt, member),
-        }
+        settle_rows(&mut self.rows, attempt, step)
     }
 }

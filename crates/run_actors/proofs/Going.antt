@@ -16,7 +16,7 @@ use Rattle.run_actors.specs.Shows.{IsGoing, Shows, Steps}
 use Rattle.run_actors.proofs.Turns.{Follows, picked-takes}
 use Rattle.run_letters.specs.Letters.{BetweenNow, IsPicked}
 use Rattle.run_picks.specs.OrderLaws.{turn-event}
-use Rattle.target_core.specs.Parts.{StillRuns}
+use Rattle.target_parts.specs.Parts.{StillRuns}
 use Rattle.target_core.specs.Targets.{IsAnswered, TargetOf, is_answer}
 use Rattle.vos_store.specs.Calls.{State}
 use Rattle.world_base.specs.declared.did.Did.{Did}

@@ -8,10 +8,10 @@ use Rattle.std.proofs.lemmas.Option.{slice_get_within}
 use Rattle.daos_model.specs.declared.durable.Durable.{Durable}
 use Rattle.run_actors.specs.ListLaws.{length-set, set-is, there-is}
 use Rattle.run_actors.specs.Stores.{AllRun, StoresRun, stops_at}
-use Rattle.target_core.specs.declared.stop.TargetStop.{TargetStop}
-use Rattle.target_core.specs.Parts.{Runs, StillRuns}
-use Rattle.target_core.specs.Running.{runs_as, runs_first, runs_on}
-use Rattle.target_core.specs.Stops.{stop_store}
+use Rattle.target_parts.specs.declared.stop.TargetStop.{TargetStop}
+use Rattle.target_parts.specs.Parts.{Runs, StillRuns}
+use Rattle.target_parts.specs.Running.{runs_as, runs_first, runs_on}
+use Rattle.target_parts.specs.Stops.{stop_store}
 use Rattle.target_core.specs.Targets.{TargetOf}
 use Rattle.vos_store.specs.Calls.{State}
 use Rattle.vos_store.specs.Refusals.{always_stop, says}

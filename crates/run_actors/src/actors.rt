@@ -17,7 +17,7 @@ use daos_messages::actor::ActorId;
 use daos_outside::clock::Clock;
 use run_letters::between::Between;
 use std::alloc::Global;
-use target_core::stop::TargetStop;
+use target_parts::stop::TargetStop;
 use target_core::target::Target;
 use vos_store::store::Store;
 

@@ -2,4 +2,4 @@
 #![tactic(auto)]
 
 pub mod between;
-pub mod lines;
+mod lines;

@@ -6,7 +6,7 @@ use Rattle.run_actors.specs.Stores.{AllRun, StoresRun, stops_at}
 use Rattle.run_actors.specs.StoreLaws.{AreRunning, run-as, run-first, run-then}
 use Rattle.run_order.specs.declared.halted.Halted.{Halted}
 use Rattle.run_order.specs.Halts.{ComesOf, IsOneOf, Leaves, stopped_at, wanting}
-use Rattle.target_core.specs.declared.stop.TargetStop.{TargetStop}
+use Rattle.target_parts.specs.declared.stop.TargetStop.{TargetStop}
 use Rattle.target_core.specs.Targets.{TargetOf}
 use Rattle.vos_store.specs.Calls.{State}
 

@@ -24,7 +24,7 @@ use run_actors::actors::Actors;
 use run_letters::between::Between;
 use std::alloc::Global;
 use std::sync::Wait;
-use target_core::stop::TargetStop;
+use target_parts::stop::TargetStop;
 use target_core::target::Target;
 use vos_store::store::Store;
 

@@ -1,12 +1,12 @@
 // The steps of the rows, over any store and clock.
-ghost use Rattle.std.specs.Prelude.{◌≡◌, IfOk, OnOk, None, false};
+ghost use Rattle.std.specs.Prelude.{◌≡◌, ◌<◌, ◌≤◌, IfOk, OnOk, None, false};
 ghost use Rattle.std.specs.Option.{ForSome};
 ghost use Rattle.daos_base.specs.declared.id.AttemptId.{AttemptId};
 ghost use Rattle.daos_model.specs.Durables.{entry_of, same_attempt};
 ghost use Rattle.target_core.specs.Targets.{IsUnused};
 ghost use Rattle.target_rows.specs.Rows.{IsBlank, IsHere, IsNeverUsed, akey, commit, fetch};
 
-use daos_base::epoch::Epoch;
+use daos_base::epoch::{Epoch, TargetId};
 use daos_base::id::{AttemptId, Class, ContId, ObjId};
 use daos_base::items::{Items, bytes_of};
 use daos_base::key::{Key, KeyNo};
@@ -16,8 +16,8 @@ use daos_messages::actor::ActorId;
 use daos_messages::message::Message;
 use daos_outside::clock::Clock;
 use std::alloc::{AllocError, AllocFailed, Global};
-use target_core::stop::TargetStop;
 use target_core::target::Target;
+use target_parts::stop::TargetStop;
 use thiserror::Error;
 use vos_store::refusal::EnlistNo;
 use vos_store::store::Store;
@@ -105,23 +105,44 @@ fn client_of(by: AttemptId) -> ActorId {
     }
 }
 
-/// A target over a store that was never used, which enlists the container.
-pub fn start<S: Store + Drop, C: Clock + Drop>(
+/// A target of this number among so many, over a store that was never used, which enlists the container.
+pub fn start_at<S: Store + Drop, C: Clock + Drop>(
     alloc: Global,
+    me: TargetId,
+    targets: u8,
     store: S,
     clock: C,
 ) -> Result<Target<S, C>, StepNo>
-    requires { IsNeverUsed (S.state store) (S.durable store) }
+    requires one { me < targets }
+    requires few { targets ≤ 64 }
+    requires made { targets ≤ (S.state store).targets }
+    requires new { IsNeverUsed (S.state store) (S.durable store) }
+    ensures plan { IfOk result (λ t. t.plan ≡ record { me = me; targets = targets; epsilon = 0 }) }
     ensures runs { IfOk result (λ t. (S.state t.store).stopped ≡ false) }
     ensures here { IfOk result (λ t. ForSome (S.durable t.store) IsHere) }
     ensures blank { IfOk result (λ t. ForSome (S.durable t.store) IsBlank) }
 {
     let mut store = store;
     store.enlist(&[ContId(1)])?;
-    match Target::new(alloc, 0, 1, 0, store, clock) {
+    match Target::new(alloc, me, targets, 0, store, clock) {
         Ok(target) => Ok(target),
         Err(_parts) => Err(StepNo::Memory),
     }
+}
+
+/// The only target, over a store that was never used, which enlists the container.
+pub fn start<S: Store + Drop, C: Clock + Drop>(
+    alloc: Global,
+    store: S,
+    clock: C,
+) -> Result<Target<S, C>, StepNo>
+    requires { IsNeverUsed (S.state store) (S.durable store) }
+    ensures plan { IfOk result (λ t. t.plan ≡ record { me = 0; targets = 1; epsilon = 0 }) }
+    ensures runs { IfOk result (λ t. (S.state t.store).stopped ≡ false) }
+    ensures here { IfOk result (λ t. ForSome (S.durable t.store) IsHere) }
+    ensures blank { IfOk result (λ t. ForSome (S.durable t.store) IsBlank) }
+{
+    start_at(alloc, 0, 1, store, clock)
 }
 
 /// An attempt reads an akey. Where nothing was written, nothing is after it.

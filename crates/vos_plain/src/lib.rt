@@ -4,11 +4,11 @@
 mod answers;
 mod changes;
 mod contents;
-pub mod keyed;
+mod keyed;
 mod plain;
-pub mod reads;
-pub mod rows;
+mod reads;
+mod rows;
 pub mod store;
 mod sweeps;
-pub mod tables;
+mod tables;
 mod trips;

@@ -33,7 +33,7 @@ use Rattle.world_core.specs.Asking.{requests-are-right}
 use Rattle.world_events.specs.Events.{Begins, ByClient, ByTarget, Event, Goes, Rules, Run, TargetHears, ToClient, ToTarget, kept, target_plan}
 use Rattle.world_events.specs.Letters.{letter_of, letters_of, target}
 use Rattle.world_reads.specs.Given.{IsMessageRight}
-use Rattle.world_reads.specs.History.{Grew, History}
+use Rattle.world_attempts.specs.History.{Grew, History}
 use Rattle.world_talks.specs.AnswerLaws.{IsAnsweredBy, answers-are-posted, hears-heard, idle-posts-nothing}
 use Rattle.world_talks.specs.Conversation.{Answers}
 use Rattle.world_talks.specs.TalkLaws.{taken-is-among}

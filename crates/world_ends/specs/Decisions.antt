@@ -23,7 +23,8 @@ use Rattle.daos_model.specs.TookEffect.{took}
 use Rattle.daos_model.specs.Transactions.{attempt_ops}
 use Rattle.world_base.specs.declared.world.World.{World}
 use Rattle.world_events.specs.Events.{Rules}
-use Rattle.world_reads.specs.History.{History, decided_of, transactions}
+use Rattle.world_attempts.specs.History.{History}
+use Rattle.world_reads.specs.Transactions.{decided_of, transactions}
 use Rattle.world_verdicts.specs.Verdicts.{HasWrites, IsOnItsWay, IsToldCommitted, Verdicts}
 use Rattle.world_ends.specs.Took.{all_committed, committed-has, committed_by, has-committed, is_committed, took-committed, with_writes}
 

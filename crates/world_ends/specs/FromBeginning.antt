@@ -40,7 +40,7 @@ use Rattle.world_lines.specs.LastLines.{AreDone, HasClients, lines-in-turn}
 use Rattle.world_talks.specs.InFlight.{one-in-flight}
 use Rattle.world_verdicts.specs.Verdicts.{IsOnItsWay, IsToldCommitted}
 use Rattle.world_ends.specs.Carried.{CarriedBy, runs-carry}
-use Rattle.world_ends.specs.Ends.{Facts, IsOver, IsPlain, OpensPlain, TellsPlain, report_of, rules_of}
+use Rattle.world_ends.specs.Ends.{Facts, IsOver, IsPlain, IsOpeningPlain, TellsPlain, report_of, rules_of}
 use Rattle.world_ends.specs.LastReads.{reads-legal}
 use Rattle.world_ends.specs.Laws.{reports-legal}
 use Rattle.world_ends.specs.LinesApart.{first-line, lines-apart}
@@ -185,7 +185,7 @@ all-are-told r o held v k over = record {
     told x e (inr t) = (t.a, t.among, t.of_it, t.committed)
 
 -- the opening holds the target's own cells alone, and no snapshot
-opens-plain : (o : Opening) (d : Durable) → OpensWith o d → OpensPlain o
+opens-plain : (o : Opening) (d : Durable) → OpensWith o d → IsOpeningPlain o
 opens-plain o d k = record { own = k.nowhere_else; no_snaps = k.no_snaps; lease = subst (λ n. n < 2 ^ 56) k.lease k.form.lease }
 
 module _ (g : Given) (w v : World) (A : IsAlone (rules_of g)) (b : IsBegun (rules_of g) g.opening w) (run : Run (rules_of g) w v) (ended : HasEnded (rules_of g) v) where
@@ -203,7 +203,7 @@ module _ (g : Given) (w v : World) (A : IsAlone (rules_of g)) (b : IsBegun (rule
   plain : IsPlain (rules_of g) v
   plain = plain-then (rules_of g) g.opening (λ t. b.s.durable.versions) carried.h v carried.carried.whole.all carried.carried.whole.no_snaps
 
-  opens : OpensPlain g.opening
+  opens : IsOpeningPlain g.opening
   opens = opens-plain g.opening b.s.durable b.starts.opens
 
   facts : Facts (rules_of g) g.opening (λ t. b.s.durable.versions) carried.h v

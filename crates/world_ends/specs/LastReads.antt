@@ -41,9 +41,10 @@ use Rattle.world_gots.specs.Gots.{IsLineServed}
 use Rattle.world_gots.specs.MoreLaws.{all-more}
 use Rattle.world_gots.specs.Right.{IsOfThisRun}
 use Rattle.world_gots.specs.ToldLaws.{lines-right}
-use Rattle.world_reads.specs.History.{History, decided_of, transactions}
+use Rattle.world_attempts.specs.History.{History}
+use Rattle.world_reads.specs.Transactions.{decided_of, transactions}
 use Rattle.world_ends.specs.Decisions.{DecisionsTold, took-same_map}
-use Rattle.world_ends.specs.Ends.{Facts, IsOver, IsPlain, OpensPlain, TellsPlain, is_sure, report_of, rules_of}
+use Rattle.world_ends.specs.Ends.{Facts, IsOver, IsPlain, IsOpeningPlain, TellsPlain, is_sure, report_of, rules_of}
 use Rattle.world_ends.specs.FormLaws.{attempt-writes-form, no-snapshots}
 
 -- ---- what is told and decided
@@ -77,11 +78,11 @@ decided-form r h targets form d i =
     let p = has-from_map (decided_of r.script) h.decided d (has-from_contains (transactions r.script h) d i) in
     subst (λ f. All (λ w. is_write_in_form w.write ≡ true) f.writes) p.2 (attempt-writes-form targets r.script p.0.0 form)
 
--- a target's own cells have dkeys
-pub opening-dkeys : (o : Opening) → OpensPlain o → HasDkeys o.stand.now
-opening-dkeys o k c e = k.own c (ap (λ d. is_some d && list_any (is_target 0) (path_members c.path 1)) e)
+-- what the opening stands for has dkeys
+pub opening-dkeys : (o : Opening) → IsOpeningPlain o → HasDkeys o.stand.now
+opening-dkeys o k c e = k.unowned c (inl e)
 
-pub then-dkeys : (r : Rules) (o : Opening) (h : History) (targets : ℕ) (e : ℕ) → IsInForm targets r.script → OpensPlain o → HasDkeys (as_of o.stand (taken_in (transactions r.script h)) e)
+pub then-dkeys : (r : Rules) (o : Opening) (h : History) (targets : ℕ) (e : ℕ) → IsInForm targets r.script → IsOpeningPlain o → HasDkeys (as_of o.stand (taken_in (transactions r.script h)) e)
 then-dkeys r o h targets e form opens = as_of-dkeys o.stand (transactions r.script h) e (opening-dkeys o opens) (decided-form r h targets form)
 
 -- ---- maps that hold the same
@@ -116,7 +117,7 @@ legal-same s o T U a plain same k = by a.epoch k
 
 -- ---- all of it
 
-pub reads-legal : (g : Given) (held : ℕ → List Version) (h : History) (w : World) (resolved : AttemptId → Bool) → IsPlain (rules_of g) w → OpensPlain g.opening → Facts (rules_of g) g.opening held h w → IsOver (rules_of g) w
+pub reads-legal : (g : Given) (held : ℕ → List Version) (h : History) (w : World) (resolved : AttemptId → Bool) → IsPlain (rules_of g) w → IsOpeningPlain g.opening → Facts (rules_of g) g.opening held h w → IsOver (rules_of g) w
     → TellsPlain w → ReadsLegal g.script g.opening.stand (took g.script resolved w.lines) (report_of (rules_of g) w)
 reads-legal g held h w resolved plain opens facts over tells = all-from_has (AttemptReadsLegal g.script g.opening.stand (took g.script resolved w.lines)) (tries w.lines) one
   where
@@ -125,5 +126,5 @@ reads-legal g held h w resolved plain opens facts over tells = all-from_has (Att
         let none = no-snapshots (rules_of g) plain.unsnapped a.id in
         legal-same g.script g.opening.stand (taken_in (transactions g.script h)) (took g.script resolved w.lines) a none
         (λ e c. sym (took-same_map (rules_of g) g.opening h w resolved e (last-told g held h w plain facts over tells) c))
-        (lines-right (rules_of g) g.opening h 1 a plain.form facts.reads.answers (λ e. then-dkeys (rules_of g) g.opening h 1 e.0 plain.form opens)
+        (lines-right (rules_of g) g.opening h g.script.targets a plain.form facts.reads.answers (λ e. then-dkeys (rules_of g) g.opening h g.script.targets e.0 plain.form opens)
         (subst (IsOfThisRun g.script) (sym none) tt) (has-all (IsLineServed (rules_of g) h) (tries w.lines) a facts.gots.lines i))

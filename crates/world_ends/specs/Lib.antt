@@ -6,7 +6,7 @@ pub mod FormLaws
 pub mod StopLaws
 pub mod Outcomes
 pub mod LastReads
-pub mod OneTargetLaws
+pub mod FamilyStands
 pub mod LastStand
 pub mod Laws
 pub mod Runs

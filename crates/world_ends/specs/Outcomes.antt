@@ -35,7 +35,7 @@ use Rattle.world_gots.specs.Gots.{AreServed, IsLineServed}
 use Rattle.world_gots.specs.ToldLaws.{nothing-told}
 use Rattle.world_lines.specs.LastLines.{lines-answered, lines-in-turn}
 use Rattle.world_lines.specs.Lines.{Lines}
-use Rattle.world_reads.specs.History.{History}
+use Rattle.world_attempts.specs.History.{History}
 use Rattle.world_verdicts.specs.Verdicts.{HasWrites}
 use Rattle.world_ends.specs.Ends.{Facts, IsOver, IsPlain, TellsPlain, is_sure, report_of, rules_of}
 use Rattle.world_ends.specs.FormLaws.{no-ops, no-snaps, no-snapshots, some-op}

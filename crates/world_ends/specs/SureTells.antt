@@ -9,6 +9,7 @@ use Rattle.daos_base.specs.declared.operation.MinorWrite.{MinorWrite}
 use Rattle.daos_base.specs.declared.operation.Op.{Op}
 use Rattle.daos_base.specs.declared.operation.Read.{Read}
 use Rattle.daos_base.specs.declared.outcome.FloorWhy.{FloorWhy}
+use Rattle.daos_base.specs.declared.outcome.Outcome.{Outcome}
 use Rattle.daos_base.specs.declared.outcome.Outcome.TheVariants as outcome
 use Rattle.daos_base.specs.declared.report.Attempt.{Attempt}
 use Rattle.daos_base.specs.declared.report.Line.{Line}
@@ -44,18 +45,14 @@ use Rattle.world_events.specs.Events.{ByClient, ByTarget, Event, Rules, TargetHe
 use Rattle.world_events.specs.Letters.{client, letter_of, letters_of, target}
 use Rattle.world_events.specs.StepLaws.{by-hearing, by-next}
 use Rattle.world_events.specs.Steps.{KeptByCounting, KeptByHearing, KeptByMoves}
-use Rattle.world_lines.specs.EndingLaws.{heard-silent, hears-ends}
-use Rattle.world_talks.specs.AnswerLaws.{idle-posts-nothing}
+use Rattle.world_lines.specs.EndingLaws.{PostsEnd, heard-silent, hears-ends, idle-ends}
+use Rattle.world_lines.specs.Lines.{Endings, IsCommitted, IsRefusalOrNone, TellsEnd, is_refusal}
 use Rattle.world_talks.specs.AskLaws.{move-is, waiting-rests}
 use Rattle.world_talks.specs.Asked.{ARead, ASnapshot, AnAggregation, Asked, Asking, IsMove, ItsWrites, Silent, Telling}
 use Rattle.world_talks.specs.Conversation.{Conversation}
 use Rattle.world_talks.specs.ConversationLaws.{count-keeps, hear-keeps, move-keeps}
 use Rattle.world_talks.specs.Hearing.{AReply, ATracker, AnEnd, IsHearing, hearing-is}
 use Rattle.world_talks.specs.TalkLaws.{left-is-among, taken-is-among}
-use Rattle.world_turns.specs.Changes.{Kept}
-use Rattle.world_turns.specs.Commits as commit
-use Rattle.world_turns.specs.Reads as read
-use Rattle.world_turns.specs.TargetTurns.{Hears}
 use Rattle.world_ends.specs.Ends.{TellsPlain, is_sure, is_try}
 
 -- ---- the statement
@@ -87,7 +84,7 @@ pub record TellsSurely (w : World) : Type 0 where
 
 -- every event of a run without stops and snapshots keeps it
 abbrev pub EventsTellSurely : Type 0
-EventsTellSurely = (r : Rules) (w v : World) → Unsnapped r → Conversation r w → TellsSurely w → Event r w v → TellsSurely v
+EventsTellSurely = (r : Rules) (w v : World) → Unsnapped r → Conversation r w → Endings w → TellsSurely w → Event r w v → TellsSurely v
 
 -- ---- what it says of lines
 
@@ -297,53 +294,53 @@ module _ (r : Rules) (U : Unsnapped r) where
 
 -- ---- turns of targets
 
-one-post : (did : Did) (q : Post) → did.posts ≡ q ∷ [] → MessageIsSure q.message → ArePosts did.posts
-one-post did q e t s i = elim (subst (λ ps. Has s ps) e i) [ inl same ↦ subst (λ x. MessageIsSure x.message) (sym same) t | inr j ↦ absurd j ]
+-- what ends an attempt as it may tells what became of it
+refusal-sure : (how : Outcome) → is_refusal how ≡ true → is_sure how ≡ true
+refusal-sure outcome.Committed h = refl
+refusal-sure (outcome.CondFailed op) h = refl
+refusal-sure (outcome.Restart cause) h = refl
+refusal-sure (outcome.NoSpace target need free) h = refl
+refusal-sure outcome.EpochsSpent h = refl
+refusal-sure outcome.NoSnapshot h = let no : ⊥ = cc in absurd no
+refusal-sure (outcome.Unknown target) h = let no : ⊥ = cc in absurd no
 
-fetch-sure : (t : TargetPlan) (m : TargetMemory) (reading : ℕ) (q : FetchRequest) (from : ActorId) (s : read.FetchStage) (k : Kept) (left : TargetMemory × Did) → read.FetchEnds t m reading q from s k left → ArePosts left.1.posts
-fetch-sure t m reading q from s k left (read.IsSpent k2 left2 live none says) = one-post left2.1 _ (ap (λ o. o.1.posts) says) refl
-fetch-sure t m reading q from s k left (read.IsRefused k2 e decided c left2 why says) = one-post left2.1 _ (ap (λ o. o.1.posts) says) refl
-fetch-sure t m reading q from s k left (read.MeetsUnresolved k2 e decided a left2 free unsettled other says) = one-post left2.1 _ (ap (λ o. o.1.posts) says) refl
-fetch-sure t m reading q from s k left (read.IsServed k2 e decided b left2 free served says) = one-post left2.1 _ (ap (λ o. o.1.posts) says) tt
+reply-sure : (b : Reply) → IsRefusalOrNone b → ReplyIsSure b
+reply-sure (reply.Answer b) k = tt
+reply-sure (reply.Outcome how) k = refusal-sure how k
 
-commit-sure : (t : TargetPlan) (opening : Epoch × FloorWhy) (m : TargetMemory) (reading : ℕ) (q : CommitRequest) (from : ActorId) (s : commit.CommitStage) (k : Kept) (left : TargetMemory × Did)
-    → commit.CommitEnds t opening m reading q from s k left → ArePosts left.1.posts
-commit-sure t opening m reading q from s k left (commit.IsSpent k2 left2 none says) = one-post left2.1 _ (ap (λ o. o.1.posts) says) refl
-commit-sure t opening m reading q from s k left (commit.IsRefused k2 e c left2 why says) = one-post left2.1 _ (ap (λ o. o.1.posts) says) refl
-commit-sure t opening m reading q from s k left (commit.HasNoSpace k2 e left2 allowed full says) = one-post left2.1 _ (ap (λ o. o.1.posts) says) refl
-commit-sure t opening m reading q from s k left (commit.IsDecided k2 e left2 says) = one-post left2.1 _ (ap (λ o. o.1.posts) says) refl
+ending-sure : (m : Message) → TellsEnd m → MessageIsSure m
+ending-sure (message.Fetched x op group e b) k = reply-sure b k
+ending-sure (message.Ended x e how) (inl refused) = refusal-sure how refused
+ending-sure (message.Ended x e how) (inr c) = ap is_sure c.committed
+ending-sure m k = tt
 
-hears-sure : (t : TargetPlan) (opening : Epoch × FloorWhy) (m : TargetMemory) (reading : ℕ) (from : ActorId) (q : Message) (old new : Kept) (left : TargetMemory × Did) → Hears t opening m reading from q old new left → ArePosts left.1.posts
-hears-sure t opening m reading from (message.Fetch x op group ep first tracker r snapshot) old new left h =
-    fetch-sure t m reading (record { attempt = x; op = op; group = group; ep = ep; first = first; tracker = tracker; read = r; snapshot = snapshot }) from h.last new left h.ends
-hears-sure t opening m reading from (message.Commit x ep first tracker ws) old new left h =
-    commit-sure t opening m reading (record { attempt = x; ep = ep; first = first; tracker = tracker; writes = ws }) from h.last new left h.ends
-hears-sure t opening m reading from q old new left h = absurd h
+posts-sure : (posts : List Post) → PostsEnd posts → ArePosts posts
+posts-sure posts k q i = ending-sure q.message (k q i)
 
-target-hears-surely : (r : Rules) (w v : World) → TellsSurely w → TargetHears r w v → TellsSurely v
-target-hears-surely r w v k g = record {
+target-hears-surely : (r : Rules) (w v : World) → Endings w → TellsSurely w → TargetHears r w v → TellsSurely v
+target-hears-surely r w v endings k g = record {
   flight = subst (λ ls. (l : Letter) → Contains ls l → MessageIsSure l.message) (sym (ap (λ x. x.messages) g.after))
-      (sent-sure (target g.t) g.rest g.did.posts (λ m i. k.flight m (left-is-among w.messages g.l g.rest m g.takes i))
-      (hears-sure (target_plan r g.t) g.s.opening g.s.memory g.reading g.l.from g.l.message (kept g.s) g.new (g.memory, g.did) g.turn));
-  lines = subst (λ ls. (l : Line) → Has l ls → LineIsSure l) (sym (ap (λ x. x.lines) g.after ∙ ap (λ ls. w.lines ++ map (with_epoch w.issued) ls) none ∙ append-nil w.lines)) k.lines;
+      (sent-sure (target g.t) g.rest g.did.posts (λ m i. k.flight m (left-is-among w.messages g.l g.rest m g.takes i)) (posts-sure g.did.posts ends.0));
+  lines = subst (λ ls. (l : Line) → Has l ls → LineIsSure l) (sym (ap (λ x. x.lines) g.after ∙ ap (λ ls. w.lines ++ map (with_epoch w.issued) ls) ends.1 ∙ append-nil w.lines)) k.lines;
 }
   where
-    none : g.did.lines ≡ []
-    none = (hears-ends (target_plan r g.t) g.s.opening g.s.memory g.reading g.l.from g.l.message (kept g.s) g.new (g.memory, g.did) g.turn).1
+    ends : PostsEnd g.did.posts × (g.did.lines ≡ [])
+    ends = hears-ends (target_plan r g.t) g.s.opening g.s.memory g.reading g.l.from g.l.message (kept g.s) g.new (g.memory, g.did) (endings g.l (taken-is-among w.messages g.l g.rest g.takes)) g.turn
 
 target-idles-surely : (r : Rules) (w v : World) → TellsSurely w → TargetIdles r w v → TellsSurely v
 target-idles-surely r w v k g = record {
-  flight = subst (λ ls. (l : Letter) → Contains ls l → MessageIsSure l.message) (sym (ap (λ x. x.messages) g.after ∙ ap (λ d. w.messages ++ letters_of (target g.t) d.posts) none ∙ append-nil w.messages)) k.flight;
-  lines = subst (λ ls. (l : Line) → Has l ls → LineIsSure l) (sym (ap (λ x. x.lines) g.after ∙ ap (λ d. w.lines ++ map (with_epoch w.issued) d.lines) none ∙ append-nil w.lines)) k.lines;
+  flight = subst (λ ls. (l : Letter) → Contains ls l → MessageIsSure l.message) (sym (ap (λ x. x.messages) g.after))
+      (sent-sure (target g.t) w.messages g.did.posts k.flight (posts-sure g.did.posts ends.0));
+  lines = subst (λ ls. (l : Line) → Has l ls → LineIsSure l) (sym (ap (λ x. x.lines) g.after ∙ ap (λ ls. w.lines ++ map (with_epoch w.issued) ls) ends.1 ∙ append-nil w.lines)) k.lines;
 }
   where
-    none : g.did ≡ record { posts = []; lines = []; issued = None }
-    none = idle-posts-nothing g.s.memory (kept g.s) g.new (g.memory, g.did) g.turn
+    ends : PostsEnd g.did.posts × (g.did.lines ≡ [])
+    ends = idle-ends g.settling (target_plan r g.t) g.s.memory g.turn.last g.new (g.memory, g.did) g.turn.ends
 
 -- ---- the law
 
 pub events-tell-surely : EventsTellSurely
-events-tell-surely r w v U talk k (ByClient g) = (by-next r (Both r U) (moves r U) (counting r U) w v (talk, k) g).1
-events-tell-surely r w v U talk k (ToClient g) = (by-hearing r (Both r U) (moves r U) (hearing r U) w v (talk, k) g).1
-events-tell-surely r w v U talk k (ToTarget g) = target-hears-surely r w v k g
-events-tell-surely r w v U talk k (ByTarget g) = target-idles-surely r w v k g
+events-tell-surely r w v U talk endings k (ByClient g) = (by-next r (Both r U) (moves r U) (counting r U) w v (talk, k) g).1
+events-tell-surely r w v U talk endings k (ToClient g) = (by-hearing r (Both r U) (moves r U) (hearing r U) w v (talk, k) g).1
+events-tell-surely r w v U talk endings k (ToTarget g) = target-hears-surely r w v endings k g
+events-tell-surely r w v U talk endings k (ByTarget g) = target-idles-surely r w v k g

@@ -1,3 +1,3 @@
--- The facts of the world at each moment of a run of one target.
+-- The facts of the world at each moment of a run.
 pub mod Facts
 pub mod FactLaws

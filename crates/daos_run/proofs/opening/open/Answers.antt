@@ -2,7 +2,7 @@ use Rattle.std.specs.Prelude.{Err}
 use Rattle.std.proofs.Common.{◌∙◌, ap, subst, sym}
 use Rattle.daos_run.proofs.OneStore.{enlist-fault, enlist-may}
 use Rattle.daos_run.specs.Stops.{MayStop, is_fault}
-use Rattle.target_core.specs.Running.{runs_as, runs_call}
+use Rattle.target_parts.specs.Running.{runs_as, runs_call}
 use Rattle.vos_store.specs.Answers.{enlists}
 use Rattle.vos_store.specs.Calls.{Answers}
 use Rattle.vos_store.specs.Refusals.{enlist_open, enlist_stop}

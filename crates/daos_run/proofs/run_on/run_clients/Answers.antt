@@ -9,8 +9,8 @@ use Rattle.run_actors.specs.Shows.{Shows}
 use Rattle.daos_run.specs.declared.stop.RunStop.TheVariants.{Memory as NoMemory}
 use Rattle.daos_run.specs.Stops.{MayStop, is_fault}
 use Rattle.run_order.specs.Halts.{Leaves}
-use Rattle.target_core.specs.Parts.{Runs}
-use Rattle.target_core.specs.Running.{runs_as, runs_first}
+use Rattle.target_parts.specs.Parts.{Runs}
+use Rattle.target_parts.specs.Running.{runs_as, runs_first}
 use Rattle.vos_store.specs.Refusals.{always_stop}
 use Rattle.run_order.specs.Ended.{HasRun, nothing}
 use Rattle.world_ends.specs.Ends.{rules_of}

@@ -10,9 +10,9 @@ use Rattle.run_actors.proofs.Going.{keeps-going, target-heard, target-idled}
 use Rattle.run_actors.proofs.Hearing.{hearable}
 use Rattle.run_actors.proofs.Turns.{target-hears, target-idles}
 use Rattle.run_picks.specs.Picks.{count_to}
-use Rattle.target_core.specs.Parts.{Runs, kept}
-use Rattle.target_core.specs.Running.{still_runs}
-use Rattle.target_core.specs.Stops.{stop_memory, stop_store}
+use Rattle.target_parts.specs.Parts.{Runs, kept}
+use Rattle.target_parts.specs.Running.{still_runs}
+use Rattle.target_parts.specs.Stops.{stop_memory, stop_store}
 use Rattle.target_core.specs.Targets.{IsAnswered}
 use Rattle.world_events.specs.Letters.{target}
 use Rattle.world_turns.specs.TargetTurns.{Hears, IdlesWhole}

@@ -1,0 +1,11 @@
+// Where a leader is.
+use daos_base::epoch::TargetId;
+
+/// Where a leader is: the number of its target, the number of targets, and the incarnation of its
+/// target.
+#[derive(Clone, Copy, Debug)]
+pub struct Seat {
+    pub me: TargetId,
+    pub targets: u8,
+    pub incarnation: u64,
+}

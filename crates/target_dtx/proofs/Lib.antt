@@ -1,0 +1,4 @@
+pub mod Marking
+pub mod Confirming
+pub mod Idling
+pub mod Acking
