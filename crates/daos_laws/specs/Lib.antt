@@ -11,6 +11,8 @@ pub mod Decided
 pub mod DecidedLaws
 pub mod Matches
 pub mod MatchLaws
+pub mod Deciding
+pub mod DecidingLaws
 pub mod Pruning
 pub mod TouchLaws
 pub mod PruneLaws
@@ -22,3 +24,5 @@ pub mod AkeyLaws
 pub mod StandLaws
 pub mod HoldingLaws
 pub mod EntryLaws
+pub mod PlaceLaws
+pub mod FamilyLaws

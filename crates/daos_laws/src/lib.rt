@@ -1,6 +1,7 @@
 // Laws of the model: what holds of all reads, maps, versions and transactions.
 #![tactic(auto)]
 
+pub mod deciding;
 pub mod groups;
 pub mod matches;
 pub mod prunes;

@@ -10,12 +10,12 @@ use crate::opening::{first_decided, first_undecided};
 use daos_base::entry::Entry;
 use daos_base::epoch::{Epoch, TargetId};
 use daos_base::id::AttemptId;
-use daos_base::items::Memory;
+use daos_base::items::{Items, Memory};
 use daos_base::operation::MinorWrite;
 use daos_base::outcome::Outcome;
 use daos_messages::actor::ActorId;
 use daos_messages::message::Posts;
-use dtx_base::leading::{Naming, Undecided};
+use dtx_base::leading::{LeaderMemory, Naming, Undecided};
 use dtx_posts::bits::other_members;
 use dtx_posts::led::led_by;
 use dtx_posts::posts::{Asking, ended, prepares};
@@ -64,6 +64,44 @@ impl Leader {
             named: Vec::new(alloc),
             down: 0,
         })
+    }
+
+    /// A leader that remembers this.
+    pub fn remembering(alloc: Global, memory: LeaderMemory) -> Leader
+        ensures { result ≡ memory }
+    {
+        let LeaderMemory {
+            undecided,
+            decided,
+            named,
+            down,
+        } = memory;
+        Leader {
+            alloc,
+            undecided: undecided.into_vec(),
+            decided: decided.into_vec(),
+            named: named.into_vec(),
+            down,
+        }
+    }
+
+    /// What it remembers.
+    pub fn into_memory(self) -> LeaderMemory
+        ensures { result ≡ self }
+    {
+        let Leader {
+            alloc: _alloc,
+            undecided,
+            decided,
+            named,
+            down,
+        } = self;
+        LeaderMemory {
+            undecided: Items::from_vec(undecided),
+            decided: Items::from_vec(decided),
+            named: Items::from_vec(named),
+            down,
+        }
     }
 
     // An attempt without other members begins, and is decided.

@@ -1,0 +1,2 @@
+-- What a leader owes.
+pub mod Due

@@ -1,8 +1,9 @@
 // The Marks that idle work sends.
-ghost use Rattle.std.specs.Prelude.{◌≡◌, filter, IfOk};
+ghost use Rattle.std.specs.Prelude.{ℕ, ◌≡◌, true, filter, IfOk};
 ghost use Rattle.std.specs.List.{list_any};
-ghost use Rattle.dtx_base.specs.Leading.{is_due_to, is_led, is_owed, marks_for, names_for};
-ghost use Rattle.dtx_base.specs.Members.{all_targets};
+ghost use Rattle.dtx_base.specs.Leading.{is_due_to, is_led, marks_for, names_for};
+ghost use Rattle.dtx_base.specs.Members.{all_targets, has_target, is_other_member};
+ghost use Rattle.dtx_marks.specs.Due.{is_owed_at, is_owed_somewhere};
 
 use crate::marks::{is_owed, name, owed};
 use daos_base::entry::Entry;
@@ -10,7 +11,7 @@ use daos_base::epoch::TargetId;
 use daos_base::items::{Items, Memory};
 use daos_messages::message::Posts;
 use dtx_base::leading::Naming;
-use dtx_posts::bits::has_target;
+use dtx_posts::bits::{has_target, with_target};
 use dtx_posts::posts::push_commits;
 use std::alloc::Global;
 
@@ -47,34 +48,55 @@ pub fn batch_of(
     })
 }
 
-// Whether a target is to be told of some commit, down or not.
-fn is_owed_some(me: TargetId, entries: &[Entry], named: &[Naming], target: TargetId) -> bool
-    ensures { result ≡ list_any (is_owed target named.now) (filter (is_led me) entries.now) }
+// Whether surely all other members have confirmed a commit.
+fn is_confirmed(entry: &Entry) -> bool
+    ensures { result ≡ true → (t : ℕ) → is_other_member entry.now t ≡ true → has_target entry.now.confirmed t ≡ true }
 {
-    for entry in entries {
-        if entry.leader == me && is_owed(entry, named, target) {
-            return true;
-        }
+    entry.leader < 64 && entry.members == with_target(entry.confirmed, entry.leader)
+}
+
+// Whether a target is to be told of a commit: it isn't down, and the commit is owed to it.
+fn is_owed_at(down: u64, named: &[Naming], entry: &Entry, target: TargetId) -> bool
+    ensures { result ≡ is_owed_at down named.now entry.now target }
+{
+    !has_target(down, target) && is_owed(entry, named, target)
+}
+
+// Whether some target is to be told of a commit.
+fn is_owed_somewhere(down: u64, named: &[Naming], entry: &Entry) -> bool
+    ensures { result ≡ is_owed_somewhere down named.now entry.now }
+{
+    if !entry.committed {
+        return false;
     }
-    false
-}
-
-// Whether a target is to be told of some commit.
-fn is_due_to(me: TargetId, down: u64, named: &[Naming], entries: &[Entry], target: TargetId) -> bool
-    ensures { result ≡ is_due_to down named.now (filter (is_led me) entries.now) target }
-{
-    !has_target(down, target) && is_owed_some(me, entries, named, target)
-}
-
-/// Whether some target is to be told of a commit of an attempt that this target leads.
-pub fn is_due(me: TargetId, down: u64, named: &[Naming], entries: &[Entry]) -> bool
-    ensures { result ≡ list_any (is_due_to down named.now (filter (is_led me) entries.now)) all_targets }
-{
+    if is_confirmed(entry) {
+        return false;
+    }
     for target in 0..64 {
-        let is_here = is_due_to(me, down, named, entries, target);
+        let is_here = is_owed_at(down, named, entry, target);
         if is_here {
             return true;
         }
     }
     false
+}
+
+// Whether some target is to be told of some commit of this leader, entry by entry.
+fn is_some_owed(me: TargetId, down: u64, named: &[Naming], entries: &[Entry]) -> bool
+    ensures { result ≡ list_any (is_owed_somewhere down named.now) (filter (is_led me) entries.now) }
+{
+    for entry in entries {
+        if entry.leader == me && is_owed_somewhere(down, named, entry) {
+            return true;
+        }
+    }
+    false
+}
+
+/// Whether some target is to be told of a commit of an attempt that this target leads. An entry that all
+/// have confirmed costs one test.
+pub fn is_due(me: TargetId, down: u64, named: &[Naming], entries: &[Entry]) -> bool
+    ensures { result ≡ list_any (is_due_to down named.now (filter (is_led me) entries.now)) all_targets }
+{
+    is_some_owed(me, down, named, entries)
 }

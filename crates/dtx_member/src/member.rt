@@ -10,7 +10,7 @@ use daos_base::epoch::TargetId;
 use daos_base::id::AttemptId;
 use daos_base::items::{Items, Memory};
 use daos_messages::message::{Message, Posts};
-use dtx_base::member::{Freed, Inquiry, Parked, QueryState};
+use dtx_base::member::{Freed, Inquiry, MemberMemory, Parked, QueryState};
 use dtx_table::rows::remove;
 use std::alloc::Global;
 use std::marker::Model;
@@ -71,6 +71,35 @@ impl Member {
             parked: Vec::new(alloc),
             inquiries: Vec::new(alloc),
         })
+    }
+
+    /// A member with this number that remembers this.
+    pub fn remembering(alloc: Global, me: TargetId, memory: MemberMemory) -> Member
+        ensures { result ≡ record { me = me; memory = memory } }
+    {
+        let MemberMemory { parked, inquiries } = memory;
+        Member {
+            alloc,
+            me,
+            parked: parked.into_vec(),
+            inquiries: inquiries.into_vec(),
+        }
+    }
+
+    /// What it remembers.
+    pub fn into_memory(self) -> MemberMemory
+        ensures { result ≡ self.memory }
+    {
+        let Member {
+            alloc: _alloc,
+            me: _me,
+            parked,
+            inquiries,
+        } = self;
+        MemberMemory {
+            parked: Items::from_vec(parked),
+            inquiries: Items::from_vec(inquiries),
+        }
     }
 
     /// The writes of a Prepare are stored with its entry: its leader is told Ok. Any other message

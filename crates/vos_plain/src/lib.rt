@@ -9,6 +9,6 @@ mod plain;
 pub mod reads;
 pub mod rows;
 pub mod store;
-mod sweeps;
+pub mod sweeps;
 pub mod tables;
 mod trips;

@@ -4,6 +4,7 @@
 pub mod clients;
 pub mod durables;
 pub mod lists;
+pub mod memories;
 pub mod messages;
 pub mod operations;
 pub mod outcomes;

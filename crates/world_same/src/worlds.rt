@@ -24,7 +24,8 @@ impl Same for TargetMemory {
     fn is_same(&self, other: &TargetMemory) -> bool {
         self.ticks.is_same(&other.ticks)
             && self.stamps.is_same(&other.stamps)
-            && self.decided.is_same(&other.decided)
+            && self.leader.is_same(&other.leader)
+            && self.member.is_same(&other.member)
     }
 }
 
