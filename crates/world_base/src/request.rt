@@ -1,4 +1,5 @@
-// What a client asks of a target, as the target hears it.
+// What is asked of a target, as the target hears it.
+use daos_base::entry::Entry;
 use daos_base::epoch::Epoch;
 use daos_base::id::AttemptId;
 use daos_base::operation::{MinorWrites, Read};
@@ -24,4 +25,14 @@ pub struct CommitRequest {
     pub first: Option<Epoch>,
     pub tracker: Epoch,
     pub writes: MinorWrites,
+}
+
+/// An attempt's writes, which a member is to prepare: the entry of its leader, the first epoch issued
+/// to its command, the writes of the member's groups, and the leader's incarnation.
+#[derive(Debug, Drop)]
+pub struct PrepareRequest {
+    pub entry: Entry,
+    pub first: Option<Epoch>,
+    pub writes: MinorWrites,
+    pub inc: u64,
 }

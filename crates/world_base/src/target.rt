@@ -3,8 +3,9 @@ use daos_base::epoch::{Epoch, TargetId};
 use daos_base::items::Items;
 use daos_base::outcome::FloorWhy;
 use daos_base::shown::Shown;
-use daos_messages::message::AttemptIds;
 use daos_model::durable::Durable;
+use dtx_base::leading::LeaderMemory;
+use dtx_base::member::MemberMemory;
 
 /// What a target is made for: its number, the number of targets, and what the clocks leave
 /// uncertain, in ticks.
@@ -26,13 +27,14 @@ pub enum Life {
 /// Reads that were served, each with its attempt, epoch and path.
 pub type Reads = Items<Shown>;
 
-/// What a target knows until it stops: its clock's ticks, the reads that it served, and the decided
-/// attempts that it leads and hasn't settled, in the order of attempts.
+/// What a target knows until it stops: its clock's ticks, the reads that it served, what it
+/// remembers of the attempts that it leads, and what of those that it is another's member of.
 #[derive(Debug, Drop)]
 pub struct TargetMemory {
     pub ticks: u64,
     pub stamps: Reads,
-    pub decided: AttemptIds,
+    pub leader: LeaderMemory,
+    pub member: MemberMemory,
 }
 
 /// A target: what it keeps, its free blocks, whether it runs, and what it knows while it does.

@@ -136,8 +136,9 @@ pub record TargetHears (r : Rules) (w v : World) : Type 0 where
   pub turn : Hears (target_plan r t) s.opening s.memory reading l.from l.message (kept s) new (memory, did)
   pub after : v ≡ with_target t (target_after s new memory) (after_turn w (target t) did rest)
 
--- a running target does its idle work
+-- a running target does its idle work, in the settling phase or before it
 pub record TargetIdles (r : Rules) (w v : World) : Type 0 where
+  pub settling : Bool
   pub t : ℕ
   pub s : TargetState
   pub new : Kept
@@ -145,7 +146,7 @@ pub record TargetIdles (r : Rules) (w v : World) : Type 0 where
   pub did : Did
   pub here : slice_get w.targets t ≡ Some s
   pub runs : s.life ≡ Running
-  pub turn : IdlesWhole s.memory (kept s) new (memory, did)
+  pub turn : IdlesWhole settling (target_plan r t) s.memory (kept s) new (memory, did)
   pub after : v ≡ with_target t (target_after s new memory) (after_turn w (target t) did w.messages)
 
 -- one actor's turn

@@ -3,3 +3,4 @@ pub mod Letters
 pub mod Events
 pub mod Steps
 pub mod StepLaws
+pub mod Ended

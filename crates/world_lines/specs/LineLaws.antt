@@ -33,7 +33,7 @@ use Rattle.world_events.specs.Letters.{Takes, client, is_tell}
 use Rattle.world_events.specs.StepLaws.{set-here, set-there}
 use Rattle.world_events.specs.Steps.{KeptByCounting, KeptByMoves, after_move, without}
 use Rattle.world_lines.specs.FilledLaws.{AreOf, others-same, own-more, same-append, same-filled, stands-of}
-use Rattle.world_lines.specs.Lines.{AreTheSame, Endings, HasLines, IsRefusalOrNone, Lines, TellsEnd, filled}
+use Rattle.world_lines.specs.Lines.{AreTheSame, Endings, HasLines, IsCommitted, IsRefusalOrNone, Lines, TellsEnd, filled}
 use Rattle.world_talks.specs.Asked.{ARead, ASnapshot, AnAggregation, Asked, ItsWrites}
 use Rattle.world_talks.specs.Conversation.{Answers, Conversation}
 use Rattle.world_talks.specs.InFlight.{GetsAnswer, gets-answer}
@@ -132,25 +132,25 @@ got-fits p k c a q m (ARead ops turns snapshot op r at here asks says) answers e
     subst (IsFit p c a) (sym o.2) (reply-fit p c a ops op r o.1 (ap ops_or_none at) here asks (subst TellsEnd o.2 ends))
 got-fits p k c a q m (ItsWrites ops turns snapshot w ws at last all says) answers ends =
     let o = subst (λ s. Answers s.message m) says answers in
-    subst (IsFit p c a) (sym o.2) (end-fit o.1 (subst TellsEnd o.2 ends))
+    subst (IsFit p c a) (sym o.2) (end-fit o.0 o.1 (subst TellsEnd o.2 ends))
   where
-    end-fit : (how : Outcome) → (is_refusal how ≡ true) ⊎ (how ≡ outcome.Committed) → (is_refusal how ≡ true) ⊎ ((how ≡ outcome.Committed) × (slice_get (ops_here p c) a.op ≡ None))
-    end-fit how (inl r) = inl r
-    end-fit how (inr e) = inr (e, ap (λ x. slice_get (ops_or_none x) a.op) at ∙ last)
+    end-fit : (ep : Option Epoch) (how : Outcome) → (is_refusal how ≡ true) ⊎ IsCommitted ep how → (is_refusal how ≡ true) ⊎ ((how ≡ outcome.Committed) × (slice_get (ops_here p c) a.op ≡ None))
+    end-fit ep how (inl r) = inl r
+    end-fit ep how (inr e) = inr (e.committed, ap (λ x. slice_get (ops_or_none x) a.op) at ∙ last)
 got-fits p k c a q m (ASnapshot name cont at says) answers ends =
     let o = subst (λ s. Answers s.message m) says answers in
-    subst (IsFit p c a) (sym o.2) (end-fit o.1 (subst TellsEnd o.2 ends))
+    subst (IsFit p c a) (sym o.2) (end-fit o.0 o.1 (subst TellsEnd o.2 ends))
   where
-    end-fit : (how : Outcome) → (is_refusal how ≡ true) ⊎ (how ≡ outcome.Committed) → (is_refusal how ≡ true) ⊎ ((how ≡ outcome.Committed) × (slice_get (ops_here p c) a.op ≡ None))
-    end-fit how (inl r) = inl r
-    end-fit how (inr e) = inr (e, ap (λ x. slice_get (ops_or_none x) a.op) at)
+    end-fit : (ep : Option Epoch) (how : Outcome) → (is_refusal how ≡ true) ⊎ IsCommitted ep how → (is_refusal how ≡ true) ⊎ ((how ≡ outcome.Committed) × (slice_get (ops_here p c) a.op ≡ None))
+    end-fit ep how (inl r) = inl r
+    end-fit ep how (inr e) = inr (e.committed, ap (λ x. slice_get (ops_or_none x) a.op) at)
 got-fits p k c a q m (AnAggregation cont at says) answers ends =
     let o = subst (λ s. Answers s.message m) says answers in
-    subst (IsFit p c a) (sym o.2) (end-fit o.1 (subst TellsEnd o.2 ends))
+    subst (IsFit p c a) (sym o.2) (end-fit o.0 o.1 (subst TellsEnd o.2 ends))
   where
-    end-fit : (how : Outcome) → (is_refusal how ≡ true) ⊎ (how ≡ outcome.Committed) → (is_refusal how ≡ true) ⊎ ((how ≡ outcome.Committed) × (slice_get (ops_here p c) a.op ≡ None))
-    end-fit how (inl r) = inl r
-    end-fit how (inr e) = inr (e, ap (λ x. slice_get (ops_or_none x) a.op) at)
+    end-fit : (ep : Option Epoch) (how : Outcome) → (is_refusal how ≡ true) ⊎ IsCommitted ep how → (is_refusal how ≡ true) ⊎ ((how ≡ outcome.Committed) × (slice_get (ops_here p c) a.op ≡ None))
+    end-fit ep how (inl r) = inl r
+    end-fit ep how (inr e) = inr (e.committed, ap (λ x. slice_get (ops_or_none x) a.op) at)
 
 tell-fits : (p : ClientPlan) (c : ClientState) (a : Present) (m : Message) → is_tell m ≡ true → IsFit p c a m
 tell-fits p c a (message.Tell k) h = tt

@@ -1,12 +1,13 @@
 -- What the lines of a run tell of each client's commands.
-use Rattle.std.specs.Prelude.{ℕ, ◌≡◌, ◌⊎◌, true, List, [], ◌∷◌, Contains, slice_get, Some, None}
+use Rattle.std.specs.Prelude.{ℕ, ◌≡◌, ◌⊎◌, Bool, true, false, List, [], ◌∷◌, Contains, slice_get, Option, Some, None}
 use Rattle.daos_base.specs.declared.epoch.Epoch.{Epoch}
 use Rattle.daos_base.specs.declared.id.AttemptId.{AttemptId}
-use Rattle.daos_base.specs.declared.outcome.Outcome.TheVariants.{Committed}
+use Rattle.daos_base.specs.declared.outcome.Outcome.{Outcome}
+use Rattle.daos_base.specs.declared.outcome.Outcome.TheVariants.{Committed, NoSpace, Restart}
 use Rattle.daos_base.specs.declared.report.Attempt.{Attempt}
 use Rattle.daos_base.specs.declared.report.Line.{Line}
 use Rattle.daos_messages.specs.declared.message.Message.{Message}
-use Rattle.daos_messages.specs.declared.message.Message.TheVariants.{Fetched, Ended}
+use Rattle.daos_messages.specs.declared.message.Message.TheVariants.{Ack, Fetched, Ended}
 use Rattle.daos_messages.specs.declared.message.Reply.{Reply}
 use Rattle.daos_messages.specs.declared.message.Reply.TheVariants as reply
 use Rattle.daos_model.specs.Attempts.{tries_of}
@@ -53,10 +54,27 @@ abbrev pub IsRefusalOrNone : Reply → Type 0
 IsRefusalOrNone (reply.Answer b) = Unit {0}
 IsRefusalOrNone (reply.Outcome how) = is_refusal how ≡ true
 
--- a read ends in a refusal alone, and an attempt in one, or as committed
+-- what a member refuses an attempt with, by which it ends: it is told to restart, or there is no space
+abbrev pub is_member_refusal : Outcome → Bool
+is_member_refusal (Restart cause) = true
+is_member_refusal (NoSpace target need free) = true
+is_member_refusal how = false
+
+abbrev pub MayEnd : Option Outcome → Type 0
+MayEnd None = Unit {0}
+MayEnd (Some how) = is_member_refusal how ≡ true
+
+-- an attempt ended as committed, at an epoch
+pub record IsCommitted (ep : Option Epoch) (how : Outcome) : Type 0 where
+  pub committed : how ≡ Committed
+  pub epoch : Epoch
+  pub at : ep ≡ Some epoch
+
+-- a read ends in a refusal alone, and an attempt in one, or as committed; a member refuses an attempt with such as may end it
 abbrev pub TellsEnd : Message → Type 0
 TellsEnd (Fetched x op group e b) = IsRefusalOrNone b
-TellsEnd (Ended x e how) = (is_refusal how ≡ true) ⊎ (how ≡ Committed)
+TellsEnd (Ended x e how) = (is_refusal how ≡ true) ⊎ IsCommitted e how
+TellsEnd (Ack x inc refusal) = MayEnd refusal
 TellsEnd m = Unit {0}
 
 -- of every message in flight

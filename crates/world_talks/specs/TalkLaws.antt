@@ -93,6 +93,10 @@ or-right : (f o : Bool) → o ≡ true → (f || o) ≡ true
 or-right true o h = refl
 or-right false o h = h
 
+or-false : (b : Bool) → (b || false) ≡ b
+or-false true = refl
+or-false false = refl
+
 -- a letter that tells a tracker is of no conversation
 pub tell-is-no-talk : (n : ℕ) (l : Letter) → is_tell l.message ≡ true → is_talk_of n l ≡ false
 unfolding is_talk_of
@@ -125,3 +129,22 @@ talk-with n letters l passes = filter-append (is_talk_of n) letters (l ∷ []) �
 
 pub talk-beside : (n : ℕ) (letters : List Letter) (l : Letter) → is_talk_of n l ≡ false → talk_of n (letters ++ l ∷ []) ≡ talk_of n letters
 talk-beside n letters l isnt = filter-append (is_talk_of n) letters (l ∷ []) ∙ ap (λ ls. talk_of n letters ++ ls) (filter-fails (is_talk_of n) l [] isnt) ∙ append-nil (talk_of n letters)
+
+-- ---- whose letters there are
+
+-- what a client sends a target is of that client's conversation alone
+pub sent-is-of : (n j : ℕ) (l : Letter) → is_tell l.message ≡ false → l.from ≡ client j → l.to.client ≡ false → is_talk_of n l ≡ (j == n)
+unfolding is_talk_of
+sent-is-of n j l isnt from to =
+    ap (λ b. not b && (is_client n l.from || is_client n l.to)) isnt ∙ ap (λ a. is_client n a || is_client n l.to) from ∙ ap (λ b. (j == n) || b) (is-no-client n l.to to) ∙ or-false (j == n)
+
+-- and what a target sends a client
+pub got-is-of : (n j : ℕ) (l : Letter) → is_tell l.message ≡ false → l.from.client ≡ false → l.to ≡ client j → is_talk_of n l ≡ (j == n)
+unfolding is_talk_of
+got-is-of n j l isnt from to =
+    ap (λ b. not b && (is_client n l.from || is_client n l.to)) isnt ∙ ap (λ a. is_client n l.from || is_client n a) to ∙ ap (λ b. b || (j == n)) (is-no-client n l.from from)
+
+-- what targets send each other is of no client's
+pub between-is-of : (n : ℕ) (l : Letter) → l.from.client ≡ false → l.to.client ≡ false → is_talk_of n l ≡ false
+unfolding is_talk_of
+between-is-of n l from to = of-both (is_tell l.message) (is_client n l.from) (is_client n l.to) (is-no-client n l.from from) (is-no-client n l.to to)

@@ -3,12 +3,11 @@ use Rattle.std.specs.Prelude.{ℕ, ◌≡◌, ◌^◌, ◌/◌, ◌≤◌, ◌<�
 use Rattle.std.specs.List.{list_any}
 use Rattle.daos_base.specs.declared.entry.Entry.{Entry}
 use Rattle.daos_base.specs.declared.epoch.Epoch.{Epoch}
-use Rattle.daos_base.specs.declared.id.AttemptId.{AttemptId}
 use Rattle.daos_base.specs.declared.operation.MinorWrite.{MinorWrite}
 use Rattle.daos_base.specs.declared.outcome.Cause.{Cause}
 use Rattle.daos_base.specs.declared.outcome.FloorWhy.{FloorWhy}
 use Rattle.daos_base.specs.declared.outcome.Outcome.{Outcome}
-use Rattle.daos_base.specs.declared.outcome.Outcome.TheVariants.{Committed, Restart, NoSpace, EpochsSpent}
+use Rattle.daos_base.specs.declared.outcome.Outcome.TheVariants.{Restart, NoSpace, EpochsSpent}
 use Rattle.daos_base.specs.declared.shown.Shown.{Shown}
 use Rattle.daos_base.specs.Epochs.{lease_for}
 use Rattle.daos_base.specs.Operations.{write_path}
@@ -17,8 +16,7 @@ use Rattle.daos_messages.specs.declared.actor.ActorId.{ActorId}
 use Rattle.daos_messages.specs.declared.message.Message.TheVariants.{Ended}
 use Rattle.daos_model.specs.declared.durable.Durable.{Durable}
 use Rattle.daos_model.specs.Blocks.{blocks}
-use Rattle.daos_model.specs.Durables.{attempt_key}
-use Rattle.daos_model.specs.Ordered.{put}
+use Rattle.dtx_base.specs.Leading.{LeaderStep, begun}
 use Rattle.vos_stamp.specs.Stamps.{IsShown, NoneAgainst, floor_cause, read_later, write_later}
 use Rattle.vos_store.specs.Answers.{floor_of}
 use Rattle.world_base.specs.declared.did.Did.{Did}
@@ -27,7 +25,8 @@ use Rattle.world_base.specs.declared.target.TargetMemory.{TargetMemory}
 use Rattle.world_base.specs.declared.target.TargetPlan.{TargetPlan}
 use Rattle.world_turns.specs.Changes.{Change, Extends, Kept, Prepares}
 use Rattle.world_turns.specs.Reads.{later_of}
-use Rattle.world_turns.specs.Requests.{issued_for, request_epoch, says, with_ticks}
+use Rattle.world_turns.specs.Requests.{issued_for, request_epoch, says, sends, with_ticks}
+use Rattle.world_turns.specs.Roles.{leader_at, leads_on}
 
 -- ---- what is stored
 
@@ -121,12 +120,12 @@ pub data CommitNext (t : TargetPlan) (opening : Epoch × FloorWhy) (m : TargetMe
 abbrev pub ends_at : CommitRequest → ActorId → Epoch → Outcome → Did
 ends_at q from e how = says from (Ended q.attempt (Some e) how) (issued_for q.attempt q.ep e)
 
--- an attempt is decided, and isn't settled yet
-abbrev pub with_decided : AttemptId → TargetMemory → TargetMemory
-with_decided a m = record m { decided = put attempt_key a m.decided }
+-- the attempt begins, of which the writes are stored, at the leader and with this client waiting
+abbrev pub begins_at : TargetPlan → TargetMemory → CommitRequest → ActorId → Epoch → Durable → LeaderStep
+begins_at t m q from e d = begun (led_entry t q e) q.first from q.writes (leader_at t m d)
 
--- what a Commit ends with: no ticks are left; the writes are refused; there is no space for them; or they are stored, and
--- the attempt, which has no other member, is decided
+-- What a Commit ends with: no ticks are left; the writes are refused; there is no space for them; or they are stored, and
+-- the attempt begins: the other members are asked to prepare, and without others it is decided at once.
 pub data CommitEnds (t : TargetPlan) (opening : Epoch × FloorWhy) (m : TargetMemory) (reading : ℕ) (q : CommitRequest) (from : ActorId) : CommitStage → Kept → TargetMemory × Did → Type 0 where
   IsSpent : (k : Kept) (left : TargetMemory × Did) → request_epoch t m reading q.tracker q.ep ≡ None
       → left ≡ (m, says from (Ended q.attempt None EpochsSpent) None) → CommitEnds t opening m reading q from Asked k left
@@ -135,5 +134,6 @@ pub data CommitEnds (t : TargetPlan) (opening : Epoch × FloorWhy) (m : TargetMe
   HasNoSpace : (k : Kept) (e : Epoch) (left : TargetMemory × Did) → IsAllowed t opening q.first e k.durable m.stamps (own_writes t q.writes)
       → k.free < blocks (own_writes t q.writes)
       → left ≡ (with_ticks e m, ends_at q from e (NoSpace t.me (blocks (own_writes t q.writes)) k.free)) → CommitEnds t opening m reading q from (Checking e) k left
-  IsDecided : (k : Kept) (e : Epoch) (left : TargetMemory × Did)
-      → left ≡ (with_decided q.attempt (with_ticks e m), ends_at q from e Committed) → CommitEnds t opening m reading q from (Stored e) k left
+  HasBegun : (k : Kept) (e : Epoch) (left : TargetMemory × Did)
+      → left ≡ (leads_on (begins_at t m q from e k.durable) (with_ticks e m), sends (begins_at t m q from e k.durable).posts (issued_for q.attempt q.ep e))
+      → CommitEnds t opening m reading q from (Stored e) k left

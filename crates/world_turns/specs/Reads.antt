@@ -13,12 +13,13 @@ use Rattle.daos_base.specs.Epochs.{lease_for}
 use Rattle.daos_base.specs.Operations.{read_path}
 use Rattle.daos_messages.specs.declared.actor.ActorId.{ActorId}
 use Rattle.daos_messages.specs.declared.message.Message.{Message}
-use Rattle.daos_messages.specs.declared.message.Message.TheVariants.{Fetched}
+use Rattle.daos_messages.specs.declared.message.Message.TheVariants.{Fetch, Fetched}
 use Rattle.daos_messages.specs.declared.message.Reply.{Reply}
 use Rattle.daos_messages.specs.declared.message.Reply.TheVariants as reply
 use Rattle.daos_model.specs.declared.durable.ContRow.{ContRow}
 use Rattle.daos_model.specs.declared.durable.Durable.{Durable}
 use Rattle.daos_model.specs.Durables.{row_of}
+use Rattle.dtx_base.specs.Joining.{parking, query_for}
 use Rattle.vos_stamp.specs.Stamps.{read_cause}
 use Rattle.vos_store.specs.Answers.{fetched, is_past, later_write}
 use Rattle.vos_store.specs.declared.refusal.FetchNo.TheVariants.{Unsettled}
@@ -27,7 +28,8 @@ use Rattle.world_base.specs.declared.request.FetchRequest.{FetchRequest}
 use Rattle.world_base.specs.declared.target.TargetMemory.{TargetMemory}
 use Rattle.world_base.specs.declared.target.TargetPlan.{TargetPlan}
 use Rattle.world_turns.specs.Changes.{Change, Extends, Kept, Settles}
-use Rattle.world_turns.specs.Requests.{is_other_attempt, issued_for, request_epoch, says, with_ticks}
+use Rattle.world_turns.specs.Requests.{is_other_attempt, issued_for, request_epoch, says, sends, with_ticks}
+use Rattle.world_turns.specs.Roles.{joins_on, member_at, other_leader, with_unsettled}
 
 -- ---- the checks of a read
 
@@ -70,11 +72,11 @@ pub data FetchStage : Type 0 where
 
 -- the steps of a Fetch, at one reading of the clock
 pub data FetchNext (t : TargetPlan) (m : TargetMemory) (reading : ℕ) (q : FetchRequest) : FetchStage → Kept → Option Change → FetchStage → Type 0 where
-  AtSnapshot : (k : Kept) (e : Epoch) → q.snapshot ≡ true → q.ep ≡ Some e → FetchNext t m reading q Asked k None (Reading e m.decided)
+  AtSnapshot : (k : Kept) (e : Epoch) → q.snapshot ≡ true → q.ep ≡ Some e → FetchNext t m reading q Asked k None (Reading e m.leader.decided)
   HasEpoch : (k : Kept) (e : Epoch) → q.snapshot ≡ false → request_epoch t m reading q.tracker q.ep ≡ Some e → FetchNext t m reading q Asked k None (Known e)
   ExtendsLease : (k : Kept) (e : Epoch) (lease : ℕ) → k.durable.lease < e.0 / 256 → lease_for (e.0 / 256) ≡ Some lease
       → FetchNext t m reading q (Known e) k (Some (Extends lease)) (Known e)
-  IsCovered : (k : Kept) (e : Epoch) → e.0 / 256 ≤ k.durable.lease → FetchNext t m reading q (Known e) k None (Reading e m.decided)
+  IsCovered : (k : Kept) (e : Epoch) → e.0 / 256 ≤ k.durable.lease → FetchNext t m reading q (Known e) k None (Reading e m.leader.decided)
   SettlesOwn : (k : Kept) (e : Epoch) (decided : List AttemptId) (a : AttemptId) → fetch_cause t q e k.durable ≡ None
       → fetched q.read e k.durable ≡ Err (Unsettled a) → Contains decided a
       → FetchNext t m reading q (Reading e decided) k (Some (Settles a Commit)) (Reading e (filter (is_other_attempt a) decided))
@@ -91,20 +93,35 @@ ticks_known q e m = if q.snapshot then m else with_ticks e m
 
 -- what a target knows after a Fetch at an epoch, of which these decided attempts aren't settled
 abbrev pub memory_then : FetchRequest → Epoch → List AttemptId → TargetMemory → TargetMemory
-memory_then q e decided m = record (ticks_known q e m) { decided = decided }
+memory_then q e decided m = with_unsettled decided (ticks_known q e m)
 
 abbrev pub tells : FetchRequest → ActorId → Epoch → Reply → Did
 tells q from e r = says from (fetched_message q (Some e) r) (issued_for q.attempt q.ep e)
 
--- what a Fetch ends with: no ticks are left; the read is refused; it meets an attempt that isn't resolved; or it is served
+-- a Fetch that is to be tried again, at its epoch
+abbrev pub fetch_at : FetchRequest → Epoch → Message
+fetch_at q e = Fetch q.attempt q.op q.group (Some e) q.first q.tracker q.read q.snapshot
+
+-- what a target knows after it parked a Fetch on an attempt, and what it asks that attempt's leader
+abbrev pub memory_parked : TargetPlan → FetchRequest → Epoch → List AttemptId → AttemptId → ℕ → TargetMemory → TargetMemory
+memory_parked t q e decided a leader m = joins_on (parking (fetch_at q e) a leader (member_at t m)) (memory_then q e decided m)
+
+abbrev pub asks_leader : FetchRequest → Epoch → AttemptId → ℕ → Did
+asks_leader q e a leader = sends (query_for (fetch_at q e) a leader) (issued_for q.attempt q.ep e)
+
+-- What a Fetch ends with: no ticks are left; the read is refused; it meets an attempt that this target leads and hasn't decided;
+-- it meets one that another target leads, and is parked while that one is asked; or it is served.
 pub data FetchEnds (t : TargetPlan) (m : TargetMemory) (reading : ℕ) (q : FetchRequest) (from : ActorId) : FetchStage → Kept → TargetMemory × Did → Type 0 where
   IsSpent : (k : Kept) (left : TargetMemory × Did) → q.snapshot ≡ false → request_epoch t m reading q.tracker q.ep ≡ None
       → left ≡ (m, says from (fetched_message q None (reply.Outcome outcome.EpochsSpent)) None) → FetchEnds t m reading q from Asked k left
   IsRefused : (k : Kept) (e : Epoch) (decided : List AttemptId) (c : Cause) (left : TargetMemory × Did) → fetch_cause t q e k.durable ≡ Some c
       → left ≡ (memory_then q e decided m, tells q from e (reply.Outcome (outcome.Restart c))) → FetchEnds t m reading q from (Reading e decided) k left
   MeetsUnresolved : (k : Kept) (e : Epoch) (decided : List AttemptId) (a : AttemptId) (left : TargetMemory × Did) → fetch_cause t q e k.durable ≡ None
-      → fetched q.read e k.durable ≡ Err (Unsettled a) → (Contains decided a → ⊥)
+      → fetched q.read e k.durable ≡ Err (Unsettled a) → (Contains decided a → ⊥) → other_leader t a k.durable ≡ None
       → left ≡ (memory_then q e decided m, tells q from e (reply.Outcome (outcome.Restart (cause.Unresolved a)))) → FetchEnds t m reading q from (Reading e decided) k left
+  IsParked : (k : Kept) (e : Epoch) (decided : List AttemptId) (a : AttemptId) (leader : ℕ) (left : TargetMemory × Did) → fetch_cause t q e k.durable ≡ None
+      → fetched q.read e k.durable ≡ Err (Unsettled a) → other_leader t a k.durable ≡ Some leader
+      → left ≡ (memory_parked t q e decided a leader m, asks_leader q e a leader) → FetchEnds t m reading q from (Reading e decided) k left
   IsServed : (k : Kept) (e : Epoch) (decided : List AttemptId) (b : Answer) (left : TargetMemory × Did) → fetch_cause t q e k.durable ≡ None
       → fetched q.read e k.durable ≡ Ok b
       → left ≡ (record (memory_then q e decided m) { stamps = stamps_with q e m.stamps }, tells q from e (reply.Answer b)) → FetchEnds t m reading q from (Reading e decided) k left

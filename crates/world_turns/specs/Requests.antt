@@ -1,5 +1,5 @@
 -- The epoch of a request, and what follows from a turn that answers it.
-use Rattle.std.specs.Prelude.{ℕ, Bool, not, [], ◌∷◌, Option, Some, None}
+use Rattle.std.specs.Prelude.{ℕ, Bool, not, List, [], ◌∷◌, Option, Some, None}
 use Rattle.std.specs.Option.{option_map}
 use Rattle.daos_base.specs.declared.epoch.Epoch.{Epoch}
 use Rattle.daos_base.specs.declared.id.AttemptId.{AttemptId}
@@ -8,6 +8,7 @@ use Rattle.daos_hlc.specs.Clock.{next_ticks}
 use Rattle.daos_model.specs.Durables.{same_attempt}
 use Rattle.daos_messages.specs.declared.actor.ActorId.{ActorId}
 use Rattle.daos_messages.specs.declared.message.Message.{Message}
+use Rattle.daos_messages.specs.declared.message.Post.{Post}
 use Rattle.world_base.specs.declared.did.Did.{Did}
 use Rattle.world_base.specs.declared.target.TargetMemory.{TargetMemory}
 use Rattle.world_base.specs.declared.target.TargetPlan.{TargetPlan}
@@ -32,6 +33,10 @@ issued_for a (Some own) e = None
 -- one message is what follows, and perhaps an epoch
 abbrev pub says : ActorId → Message → Option (AttemptId × Epoch) → Did
 says to m issued = record { posts = record { to = to; message = m } ∷ []; lines = []; issued = issued }
+
+-- these messages are what follows, and perhaps an epoch
+abbrev pub sends : List Post → Option (AttemptId × Epoch) → Did
+sends posts issued = record { posts = posts; lines = []; issued = issued }
 
 -- any other attempt
 abbrev pub is_other_attempt : AttemptId → AttemptId → Bool

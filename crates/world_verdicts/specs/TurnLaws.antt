@@ -9,7 +9,6 @@ use Rattle.daos_base.specs.declared.report.Attempt.{Attempt}
 use Rattle.daos_base.specs.declared.report.Line.{Line}
 use Rattle.daos_base.specs.declared.script.Command.{Command}
 use Rattle.daos_laws.specs.Members.{Has, contains-from_has, has-cases, has-from_contains, has-from_map, has-left, has-map, has-right}
-use Rattle.daos_messages.specs.declared.message.Message.{Message}
 use Rattle.daos_messages.specs.declared.message.Message.TheVariants as message
 use Rattle.daos_messages.specs.declared.message.Post.{Post}
 use Rattle.daos_model.specs.Accesses.{minor_writes}
@@ -18,17 +17,22 @@ use Rattle.daos_model.specs.Transactions.{attempt_ops, command_of, numbered, num
 use Rattle.world_base.specs.declared.client.ClientPlan.{ClientPlan}
 use Rattle.world_base.specs.declared.client.ClientState.{ClientState}
 use Rattle.world_base.specs.declared.client.Present.{Present}
+use Rattle.world_base.specs.declared.did.Did.{Did}
 use Rattle.world_base.specs.declared.letter.Letter.{Letter}
 use Rattle.world_base.specs.declared.world.World.{World}
 use Rattle.world_base.specs.ClientTurns.{Move, attempt_id, begun, command_at, ended, ends, heard, hears_epochs, knows, knows_epoch, listed, moved, replied, snaps_known, waits}
+use Rattle.world_addresses.specs.Addresses.{AreAddressed, GoesTo, crowd}
 use Rattle.world_clients.specs.AnswerLaws.{numbered-here}
+use Rattle.world_clients.specs.Answered.{is_refusal}
 use Rattle.world_clients.specs.MoveLaws.{IsAt, is-at}
 use Rattle.world_clients.specs.Standing.{HasTold}
-use Rattle.world_events.specs.Events.{Rules, TargetHears, client_plan, commands_or_none, or_issued, with_epoch}
+use Rattle.world_events.specs.Events.{Rules, TargetHears, TargetIdles, client_plan, commands_or_none, kept, or_issued, target_plan, with_epoch}
 use Rattle.world_events.specs.Letters.{Takes, client, letter_of, letters_of, target}
 use Rattle.world_events.specs.Steps.{KeptByCounting, after_move, without}
-use Rattle.world_lines.specs.Lines.{Endings, Lines, TellsEnd, filled}
-use Rattle.world_reads.specs.History.{History}
+use Rattle.world_lines.specs.Lines.{Endings, IsCommitted, Lines, TellsEnd, filled}
+use Rattle.world_lines.specs.EndingLaws.{PostsEnd, hears-ends, idle-ends}
+use Rattle.world_attempts.specs.History.{Aborted, Decided, GrowsBy, History, Tells}
+use Rattle.world_talks.specs.AnswerLaws.{hears-heard}
 use Rattle.world_talks.specs.AskLaws.{move-is, waiting-rests}
 use Rattle.world_talks.specs.Asked.{ARead, ASnapshot, AnAggregation, Asked, Asking, IsMove, ItsWrites, Silent, Telling}
 use Rattle.world_talks.specs.Conversation.{Conversation}
@@ -38,30 +42,30 @@ use Rattle.world_talks.specs.InFlight.{GetsAnswer}
 use Rattle.world_talks.specs.TalkLaws.{left-is-among, taken-is-among}
 use Rattle.world_turns.specs.TargetTurns.{is_heard}
 use Rattle.world_verdicts.specs.TellLaws.{AllRead, Fails, Goes, MoveTells, NoSnap, Nothing, ReplyTells, moved-tells, replied-tells}
-use Rattle.world_verdicts.specs.VerdictLaws.{EndNothing, StillTold, TellDecided, client-did, left-or-it, told-new}
-use Rattle.world_verdicts.specs.Verdicts.{Agrees, HasWrites, IsOnItsWay, IsToldCommitted, Tells, Verdicts}
+use Rattle.world_verdicts.specs.VerdictLaws.{EndNothing, StillRefused, StillTold, TellDecided, client-did, left-or-it, told-new}
+use Rattle.world_verdicts.specs.Verdicts.{Agrees, HasWrites, IsOnItsWay, IsRefusedOnItsWay, IsToldCommitted, IsToldRefused, Verdicts}
 
 -- ---- what a client sends ends nothing
 
-asked-ends-nothing : (p : ClientPlan) (k : Epoch) (c : ClientState) (a : Present) (q : Post) (x : AttemptId) (own : Option Epoch) → Asked p k c a q → q.message ≢ message.Ended x own outcome.Committed
-asked-ends-nothing p k c a q x own (ARead ops turns snapshot op r at here asks says) e = let no : ⊥ = cc (sym (ap (λ z. z.message) says) ∙ e) in no
-asked-ends-nothing p k c a q x own (ItsWrites ops turns snapshot w ws at last all says) e = let no : ⊥ = cc (sym (ap (λ z. z.message) says) ∙ e) in no
-asked-ends-nothing p k c a q x own (ASnapshot name cont at says) e = let no : ⊥ = cc (sym (ap (λ z. z.message) says) ∙ e) in no
-asked-ends-nothing p k c a q x own (AnAggregation cont at says) e = let no : ⊥ = cc (sym (ap (λ z. z.message) says) ∙ e) in no
+asked-ends-nothing : (p : ClientPlan) (k : Epoch) (c : ClientState) (a : Present) (q : Post) (x : AttemptId) (own : Option Epoch) (how : Outcome) → Asked p k c a q → q.message ≢ message.Ended x own how
+asked-ends-nothing p k c a q x own how (ARead ops turns snapshot op r at here asks says) e = let no : ⊥ = cc (sym (ap (λ z. z.message) says) ∙ e) in no
+asked-ends-nothing p k c a q x own how (ItsWrites ops turns snapshot w ws at last all says) e = let no : ⊥ = cc (sym (ap (λ z. z.message) says) ∙ e) in no
+asked-ends-nothing p k c a q x own how (ASnapshot name cont at says) e = let no : ⊥ = cc (sym (ap (λ z. z.message) says) ∙ e) in no
+asked-ends-nothing p k c a q x own how (AnAggregation cont at says) e = let no : ⊥ = cc (sym (ap (λ z. z.message) says) ∙ e) in no
 
 no-post : (m : Move) → m.post ≡ None → EndNothing (listed m.post)
-no-post m e q x own i = absurd (subst (λ o. Has q (listed o)) e i)
+no-post m e q x own how i = absurd (subst (λ o. Has q (listed o)) e i)
 
 move-ends-nothing : (p : ClientPlan) (c : ClientState) → EndNothing (listed (moved p c).post)
 move-ends-nothing p c = by (waits c) refl
   where
-    one : (m : Move) (s : Post) → m.post ≡ Some s → ((x : AttemptId) (own : Option Epoch) → s.message ≢ message.Ended x own outcome.Committed) → EndNothing (listed m.post)
-    one m s e none q x own i = elim (subst (λ o. Has q (listed o)) e i) [ inl same ↦ (λ f. none x own (sym (ap (λ z. z.message) same) ∙ f)) | inr j ↦ absurd j ]
+    one : (m : Move) (s : Post) → m.post ≡ Some s → ((x : AttemptId) (own : Option Epoch) (how : Outcome) → s.message ≢ message.Ended x own how) → EndNothing (listed m.post)
+    one m s e none q x own how i = elim (subst (λ o. Has q (listed o)) e i) [ inl same ↦ (λ f. none x own how (sym (ap (λ z. z.message) same) ∙ f)) | inr j ↦ absurd j ]
 
     is-a : IsMove p c (moved p c) → EndNothing (listed (moved p c).post)
     is-a (Silent free none) = no-post (moved p c) none
-    is-a (Telling n none free says) = one (moved p c) _ says (λ x own e. let no : ⊥ = cc in no)
-    is-a (Asking a q at asked says state) = one (moved p c) q says (λ x own. asked-ends-nothing p c.tracker c a q x own asked)
+    is-a (Telling n none free says) = one (moved p c) _ says (λ x own how e. let no : ⊥ = cc in no)
+    is-a (Asking a q at asked says state) = one (moved p c) q says (λ x own how. asked-ends-nothing p c.tracker c a q x own how asked)
 
     by : (b : Bool) → waits c ≡ b → EndNothing (listed (moved p c).post)
     by true h = no-post (moved p c) (ap (λ m. m.post) (waiting-rests p c h))
@@ -111,7 +115,7 @@ move-tells-decided r h w n c lines here b i committed some = by (moved-tells p c
     p = client_plan r n
 
     Goal : Type 0
-    Goal = (e : Epoch) × ((filled w.issued b).epoch ≡ Some e) × Contains h.decided (b.id, e)
+    Goal = (e : Epoch) × ((filled w.issued b).epoch ≡ Some e) × Decided h b.id e
 
     by : MoveTells p c (moved p c) → Goal
     by (Nothing none) = absurd (none-told (moved p c) b none i)
@@ -126,11 +130,11 @@ move-tells-decided r h w n c lines here b i committed some = by (moved-tells p c
 
 pub verdicts-by-moves : (r : Rules) (h : History) (w : World) (n : ℕ) (c : ClientState) → Lines r w → slice_get w.clients n ≡ Some c → Verdicts r h w → Verdicts r h (after_move w n (moved (client_plan r n) c))
 verdicts-by-moves r h w n c lines here k =
-    client-did r h w n w.messages (listed (moved (client_plan r n) c).post) (listed (moved (client_plan r n) c).line) (moved (client_plan r n) c).state (λ m i. i) (λ x e f. inl f)
+    client-did r h w n w.messages (listed (moved (client_plan r n) c).post) (listed (moved (client_plan r n) c).line) (moved (client_plan r n) c).state (λ m i. i) (λ x e f. inl f) (λ x f. inl f)
     (move-ends-nothing (client_plan r n) c) (move-tells-decided r h w n c lines here) k
 
 pub verdicts-by-counting : (r : Rules) (h : History) → KeptByCounting (Verdicts r h)
-verdicts-by-counting r h w n j c here k = record { told = k.told; flying = k.flying; lines = k.lines }
+verdicts-by-counting r h w n j c here k = record { told = k.told; flying = k.flying; lines = k.lines; refused = k.refused; refusing = k.refusing }
 
 -- ---- hearing
 
@@ -149,7 +153,7 @@ unfolding tries
 ends-has p c a how m e = subst (λ x. Has (record { id = attempt_id p c a; epoch = a.epoch; conds = a.conds; gots = a.gots; outcome = how }) (tries (listed x.line))) (sym e) (inl refl)
 
 end-here : (r : Rules) (h : History) (w : World) (n : ℕ) (c : ClientState) (l : Letter) (rest : List Letter) (g : GetsAnswer r n c l rest) (e : Epoch) → slice_get w.clients n ≡ Some c → Agrees r h w
-    → Contains h.decided (attempt_id (client_plan r n) c g.a, e)
+    → Decided h (attempt_id (client_plan r n) c g.a) e
     → heard (client_plan r n) c l.message ≡ ended (client_plan r n) (hears_epochs l.message c) (knows (Some e) g.a) (Some e) outcome.Committed
     → EndsHere r h w n c (attempt_id (client_plan r n) c g.a) e (heard (client_plan r n) c l.message)
 end-here r h w n c l rest g e here agrees decided it = record {
@@ -178,24 +182,37 @@ end-here r h w n c l rest g e here agrees decided it = record {
 record HeardTells (r : Rules) (h : History) (w : World) (n : ℕ) (rest : List Letter) (m : Move) : Type 0 where
   tells : TellDecided r h w.issued (listed m.line)
   still : StillTold w.messages rest (w.lines ++ map (with_epoch w.issued) (listed m.line))
+  refused : StillRefused w.messages rest (w.lines ++ map (with_epoch w.issued) (listed m.line))
   silent : m.post ≡ None
 
-other-still : (r : Rules) (h : History) (w : World) (l : Letter) (rest : List Letter) (lines : List Line) → Takes w.messages l rest → ((x : AttemptId) (e : Epoch) → l.message ≢ message.Ended x (Some e) outcome.Committed) → StillTold w.messages rest lines
-other-still r h w l rest lines takes other x e f = elim (left-or-it w.messages l rest f.l takes f.among) [
-  | inl same ↦ absurd (other x e (sym (ap (λ z. z.message) same) ∙ f.says))
+-- where another letter is taken than one that ends an attempt
+abbrev EndsNone : Letter → Type 0
+EndsNone l = (x : AttemptId) (own : Option Epoch) (how : Outcome) → l.message ≢ message.Ended x own how
+
+other-still : (w : World) (l : Letter) (rest : List Letter) (lines : List Line) → Takes w.messages l rest → EndsNone l → StillTold w.messages rest lines
+other-still w l rest lines takes other x e f = elim (left-or-it w.messages l rest f.l takes f.among) [
+  | inl same ↦ absurd (other x (Some e) outcome.Committed (sym (ap (λ z. z.message) same) ∙ f.says))
   | inr i ↦ inl (record { l = f.l; among = i; says = f.says; to_it = f.to_it })
+]
+
+other-refused : (w : World) (l : Letter) (rest : List Letter) (lines : List Line) → Takes w.messages l rest → EndsNone l → StillRefused w.messages rest lines
+other-refused w l rest lines takes other x f = elim (left-or-it w.messages l rest f.l takes f.among) [
+  | inl same ↦ absurd (other x f.own f.how (sym (ap (λ z. z.message) same) ∙ f.says))
+  | inr i ↦ inl (record { l = f.l; own = f.own; how = f.how; among = i; says = f.says; to_it = f.to_it; refused = f.refused })
 ]
 
 heard-tells : (r : Rules) (h : History) (w : World) (n : ℕ) (c : ClientState) (l : Letter) (rest : List Letter) → Endings w → Verdicts r h w → Agrees r h w → slice_get w.clients n ≡ Some c → Takes w.messages l rest
     → IsHearing r n c l rest → HeardTells r h w n rest (heard (client_plan r n) c l.message)
 heard-tells r h w n c l rest ends k agrees here takes (ATracker t says it) = record {
   tells = λ b i q s. absurd (none-told (heard (client_plan r n) c l.message) b (ap (λ m. m.line) it) i);
-  still = other-still r h w l rest _ takes (λ x e f. let no : ⊥ = cc (sym says ∙ f) in no);
+  still = other-still w l rest _ takes (λ x e how f. let no : ⊥ = cc (sym says ∙ f) in no);
+  refused = other-refused w l rest _ takes (λ x e how f. let no : ⊥ = cc (sym says ∙ f) in no);
   silent = ap (λ m. m.post) it;
 }
 heard-tells r h w n c l rest ends k agrees here takes (AReply g group own b says it) = record {
   tells = tells (replied-tells p (hears_epochs l.message c) (knows own g.a) b (subst TellsEnd says (ends l (taken-is-among w.messages l rest takes))));
-  still = other-still r h w l rest _ takes (λ x e f. let no : ⊥ = cc (sym says ∙ f) in no);
+  still = other-still w l rest _ takes (λ x e how f. let no : ⊥ = cc (sym says ∙ f) in no);
+  refused = other-refused w l rest _ takes (λ x e how f. let no : ⊥ = cc (sym says ∙ f) in no);
   silent = ap (λ m. m.post) it ∙ (replied-silent p (hears_epochs l.message c) (knows own g.a) b refl).no_post;
 }
   where
@@ -210,6 +227,7 @@ heard-tells r h w n c l rest ends k agrees here takes (AReply g group own b says
 heard-tells r h w n c l rest ends k agrees here takes (AnEnd g own how says it) = record {
   tells = tells;
   still = still;
+  refused = refused;
   silent = ap (λ m. m.post) it ∙ (ended-silent p (hears_epochs l.message c) (knows own g.a) own how).no_post;
 }
   where
@@ -223,7 +241,7 @@ heard-tells r h w n c l rest ends k agrees here takes (AnEnd g own how says it) 
     f = record (hears_epochs l.message c) { known = snaps_known (command_at p (hears_epochs l.message c)) own how (hears_epochs l.message c).known }
 
     -- where it is told as committed
-    here-told : how ≡ outcome.Committed → (e : Epoch) × (own ≡ Some e) × Contains h.decided (x, e) × EndsHere r h w n c x e (heard p c l.message)
+    here-told : how ≡ outcome.Committed → (e : Epoch) × (own ≡ Some e) × Decided h x e × EndsHere r h w n c x e (heard p c l.message)
     here-told committed =
         let d = k.flying l x own (taken-is-among w.messages l rest takes) (says ∙ ap (λ o. message.Ended x own o) committed) in
         (d.0, d.1, d.2, end-here r h w n c l rest g d.0 here agrees d.2 (it ∙ ap (λ o. ended p (hears_epochs l.message c) (knows o g.a) o how) d.1 ∙ ap (λ o. ended p (hears_epochs l.message c) (knows (Some d.0) g.a) (Some d.0) o) committed))
@@ -233,7 +251,7 @@ heard-tells r h w n c l rest ends k agrees here takes (AnEnd g own how says it) 
         let one = ends-one p f (knows own g.a) how (heard p c l.message) z it i in
         let t = here-told (sym (ap (λ y. y.outcome) one) ∙ q) in
         let same : z ≡ t.3.b = t.3.only z i in
-        (t.0, ap (λ y. (filled w.issued y).epoch) same ∙ t.3.at, subst (λ y. Contains h.decided (y, t.0)) (sym (ap (λ y. y.id) same ∙ t.3.of_it)) t.2)
+        (t.0, ap (λ y. (filled w.issued y).epoch) same ∙ t.3.at, subst (λ y. Decided h y t.0) (sym (ap (λ y. y.id) same ∙ t.3.of_it)) t.2)
 
     it-was : (y : AttemptId) (e : Epoch) → l.message ≡ message.Ended y (Some e) outcome.Committed → IsToldCommitted (w.lines ++ map (with_epoch w.issued) (listed (heard p c l.message).line)) y e
     it-was y e told =
@@ -258,79 +276,190 @@ heard-tells r h w n c l rest ends k agrees here takes (AnEnd g own how says it) 
       | inr i ↦ inl (record { l = way.l; among = i; says = way.says; to_it = way.to_it })
     ]
 
+    told-so : Attempt
+    told-so = record { id = attempt_id p f (knows own g.a); epoch = (knows own g.a).epoch; conds = g.a.conds; gots = g.a.gots; outcome = how }
+
+    refused : StillRefused w.messages rest (w.lines ++ map (with_epoch w.issued) (listed (heard p c l.message).line))
+    refused y way = elim (left-or-it w.messages l rest way.l takes way.among) [
+      | inl same ↦
+          let q : message.Ended x own how ≡ message.Ended y way.own way.how = sym says ∙ sym (ap (λ z. z.message) same) ∙ way.says in
+          let h1 : x ≡ y = cc (q) in
+          let h2 : how ≡ way.how = cc (q) in
+          inr (record {
+            a = filled w.issued told-so;
+            among = told-new w.issued w.lines (listed (heard p c l.message).line) told-so (ends-has p f (knows own g.a) how (heard p c l.message) it);
+            of_it = h1;
+            refused = ap is_refusal h2 ∙ way.refused;
+          })
+      | inr i ↦ inl (record { l = way.l; own = way.own; how = way.how; among = i; says = way.says; to_it = way.to_it; refused = way.refused })
+    ]
+
 pub verdicts-by-hearing : (r : Rules) (h : History) (w : World) (n : ℕ) (c : ClientState) (l : Letter) (rest : List Letter) → Conversation r w → Endings w → Verdicts r h w → Agrees r h w → slice_get w.clients n ≡ Some c
     → Takes w.messages l rest → l.to ≡ client n → Verdicts r h (after_move (without w rest) n (heard (client_plan r n) c l.message))
 verdicts-by-hearing r h w n c l rest talk ends k agrees here takes to =
     let t = heard-tells r h w n c l rest ends k agrees here takes (hearing-is r w n c l rest talk here takes to) in
     client-did r h w n rest (listed (heard (client_plan r n) c l.message).post) (listed (heard (client_plan r n) c l.message).line) (heard (client_plan r n) c l.message).state
-    (λ m i. left-is-among w.messages l rest m takes i) t.still (no-post (heard (client_plan r n) c l.message) t.silent) t.tells k
+    (λ m i. left-is-among w.messages l rest m takes i) t.still t.refused (no-post (heard (client_plan r n) c l.message) t.silent) t.tells k
 
 -- ---- targets
 
--- what a target decides in a turn is what it tells as committed
-pub record DecidesTold (h later : History) (posts : List Post) : Type 0 where
-  pub kept : (x : AttemptId) (e : Epoch) → Contains h.decided (x, e) → Contains later.decided (x, e)
-  pub new : (x : AttemptId) (e : Epoch) → Contains later.decided (x, e) → Contains h.decided (x, e) ⊎ Tells posts x e
-  pub told : (q : Post) (x : AttemptId) (own : Option Epoch) → Has q posts → q.message ≡ message.Ended x own outcome.Committed → (e : Epoch) × (own ≡ Some e) × Contains later.decided (x, e)
+-- what a target sends, beside letters that are left
+pub record IsSent (r : Rules) (w v : World) (t : ℕ) (rest : List Letter) (posts : List Post) : Type 0 where
+  pub messages : v.messages ≡ rest ++ letters_of (target t) posts
+  pub lines : v.lines ≡ w.lines
+  pub among : (l : Letter) → Contains rest l → Contains w.messages l
+  -- a letter that is taken ends no attempt
+  pub left : (l : Letter) → Contains w.messages l → Contains rest l ⊎ EndsNone l
+  pub ends : PostsEnd posts
+  pub home : AreAddressed r v
 
--- a request isn't an end
-heard-no-end : (m : Message) (x : AttemptId) (e : Epoch) → is_heard m ≡ true → m ≢ message.Ended x (Some e) outcome.Committed
-heard-no-end m x e h q = let bad : false ≡ true = sym (ap is_heard q) ∙ h in let no : ⊥ = cc in no
+module _ (r : Rules) (h later : History) (w v : World) (k : Verdicts r h w) (t : ℕ) (rest : List Letter) (posts : List Post) (s : IsSent r w v t rest posts) (g : GrowsBy h posts later) where
+  stays : (l : Letter) → Contains rest l → Contains v.messages l
+  stays l i = contains-from_has v.messages l (subst (Has l) (sym s.messages) (has-left rest (letters_of (target t) posts) l (has-from_contains rest l i)))
 
-pub verdicts-by-target : (r : Rules) (h later : History) (w v : World) → Verdicts r h w → (g : TargetHears r w v) → is_heard g.l.message ≡ true → g.did.lines ≡ [] → DecidesTold h later g.did.posts → Verdicts r later v
-verdicts-by-target r h later w v k g of_kind none d = record { told = told; flying = flying; lines = lines }
+  flies : (q : Post) → Has q posts → Contains v.messages (letter_of (target t) q)
+  flies q i =
+      contains-from_has v.messages (letter_of (target t) q) (subst (Has (letter_of (target t) q)) (sym s.messages)
+      (has-right rest (letters_of (target t) posts) (letter_of (target t) q) (has-map (letter_of (target t)) posts q i)))
+
+  goes-home : (q : Post) (x : AttemptId) (own : Option Epoch) (how : Outcome) → Has q posts → q.message ≡ message.Ended x own how → q.to ≡ client x.client
+  goes-home q x own how i says =
+      let to : GoesTo (crowd r.script) q.to q.message = (s.home.letters (letter_of (target t) q) (flies q i)).goes in
+      (subst (GoesTo (crowd r.script) q.to) says to).1
+
+  -- a letter in flight was in flight, or is sent
+  from-where : (l : Letter) → Contains v.messages l → Contains w.messages l ⊎ ((q : Post) × Has q posts × (letter_of (target t) q ≡ l))
+  from-where l i = elim (has-cases rest (letters_of (target t) posts) l (subst (Has l) s.messages (has-from_contains v.messages l i))) [
+    | inl j ↦ inl (s.among l (contains-from_has rest l j))
+    | inr j ↦ inr (has-from_map (letter_of (target t)) posts l j)
+  ]
+
+  how-it-ends : (q : Post) (x : AttemptId) (own : Option Epoch) (how : Outcome) → Has q posts → q.message ≡ message.Ended x own how → (is_refusal how ≡ true) ⊎ IsCommitted own how
+  how-it-ends q x own how i says = subst TellsEnd says (s.ends q i)
+
+  tells-it : (q : Post) (x : AttemptId) (own : Option Epoch) (how : Outcome) → Has q posts → q.message ≡ message.Ended x own how → Tells posts x own how
+  tells-it q x own how i says = record { to = q.to; sent = subst (λ m. Has (record { to = q.to; message = m }) posts) says i }
+
+  told-then : (x : AttemptId) (e : Epoch) → Decided later x e → IsOnItsWay v.messages x e ⊎ IsToldCommitted v.lines x e
+  told-then x e i = elim (g.only_decided x e i) [
+    | inl j ↦ elim (k.told x e j) [
+      | inl f ↦ elim (s.left f.l f.among) [ inl a ↦ inl (record { l = f.l; among = stays f.l a; says = f.says; to_it = f.to_it }) | inr none ↦ absurd (none x (Some e) outcome.Committed f.says) ]
+      | inr o ↦ inr (subst (λ ls. IsToldCommitted ls x e) (sym s.lines) o)
+    ]
+    | inr n ↦
+        let q : Post = record { to = n.to; message = message.Ended x (Some e) outcome.Committed } in
+        inl (record { l = letter_of (target t) q; among = flies q n.sent; says = refl; to_it = goes-home q x (Some e) outcome.Committed n.sent refl })
+  ]
+
+  flying-then : (l : Letter) (x : AttemptId) (own : Option Epoch) → Contains v.messages l → l.message ≡ message.Ended x own outcome.Committed → (e : Epoch) × (own ≡ Some e) × Decided later x e
+  flying-then l x own i says = elim (from-where l i) [
+    | inl j ↦ let d = k.flying l x own j says in (d.0, d.1, g.decided x d.0 d.2)
+    | inr q ↦
+        let it : q.0.message ≡ message.Ended x own outcome.Committed = ap (λ z. z.message) q.2 ∙ says in
+        elim (how-it-ends q.0 x own outcome.Committed q.1 it) [
+          | inl bad ↦ let none : ⊥ = cc (bad) in absurd none
+          | inr c ↦ (c.epoch, c.at, g.committed x c.epoch (subst (λ o. Tells posts x o outcome.Committed) c.at (tells-it q.0 x own outcome.Committed q.1 it)))
+        ]
+  ]
+
+  lines-then : (a : Attempt) → Contains (tries v.lines) a → a.outcome ≡ outcome.Committed → HasWrites r a.id → (e : Epoch) × (a.epoch ≡ Some e) × Decided later a.id e
+  lines-then a i c some = let d = k.lines a (subst (λ ls. Contains (tries ls) a) s.lines i) c some in (d.0, d.1, g.decided a.id d.0 d.2)
+
+  refused-then : (x : AttemptId) → Aborted later x → IsRefusedOnItsWay v.messages x ⊎ IsToldRefused v.lines x
+  refused-then x i = elim (g.only_aborted x i) [
+    | inl j ↦ elim (k.refused x j) [
+      | inl f ↦ elim (s.left f.l f.among) [
+        | inl a ↦ inl (record { l = f.l; own = f.own; how = f.how; among = stays f.l a; says = f.says; to_it = f.to_it; refused = f.refused })
+        | inr none ↦ absurd (none x f.own f.how f.says)
+      ]
+      | inr o ↦ inr (subst (λ ls. IsToldRefused ls x) (sym s.lines) o)
+    ]
+    | inr n ↦
+        let q : Post = record { to = n.told.to; message = message.Ended x n.own n.how } in
+        elim (how-it-ends q x n.own n.how n.told.sent refl) [
+          | inl is ↦ inl (record { l = letter_of (target t) q; own = n.own; how = n.how; among = flies q n.told.sent; says = refl; to_it = goes-home q x n.own n.how n.told.sent refl; refused = is })
+          | inr c ↦ absurd (n.refused c.committed)
+        ]
+  ]
+
+  refusing-then : (l : Letter) (x : AttemptId) (own : Option Epoch) (how : Outcome) → Contains v.messages l → l.message ≡ message.Ended x own how → is_refusal how ≡ true → Aborted later x
+  refusing-then l x own how i says is = elim (from-where l i) [
+    | inl j ↦ g.aborted x (k.refusing l x own how j says is)
+    | inr q ↦
+        let it : q.0.message ≡ message.Ended x own how = ap (λ z. z.message) q.2 ∙ says in
+        g.refused x (record { own = own; how = how; told = tells-it q.0 x own how q.1 it; refused = λ c. let no : false ≡ true = sym (ap is_refusal c) ∙ is in let bad : ⊥ = cc in bad })
+  ]
+
+  verdicts-by-sending : Verdicts r later v
+  verdicts-by-sending = record { told = told-then; flying = flying-then; lines = lines-then; refused = refused-then; refusing = refusing-then }
+
+-- what is heard ends no attempt
+heard-no-end : (l : Letter) → is_heard l.message ≡ true → EndsNone l
+heard-no-end l h x own how q = let bad : false ≡ true = sym (ap is_heard q) ∙ h in let no : ⊥ = cc in no
+
+no-lines : (w : World) (did : Did) → did.lines ≡ [] → w.lines ++ map (with_epoch w.issued) did.lines ≡ w.lines
+no-lines w did none = ap (λ ls. w.lines ++ map (with_epoch w.issued) ls) none ∙ append-nil w.lines
+
+pub verdicts-by-target : (r : Rules) (h later : History) (w v : World) → Endings w → AreAddressed r v → Verdicts r h w → (g : TargetHears r w v) → GrowsBy h g.did.posts later → Verdicts r later v
+verdicts-by-target r h later w v endings home k g grows = verdicts-by-sending r h later w v k g.t g.rest g.did.posts sent grows
   where
-    messages : v.messages ≡ g.rest ++ letters_of (target g.t) g.did.posts
-    messages = ap (λ x. x.messages) g.after
+    ends : PostsEnd g.did.posts × (g.did.lines ≡ [])
+    ends =
+        hears-ends (target_plan r g.t) g.s.opening g.s.memory g.reading g.l.from g.l.message (kept g.s) g.new (g.memory, g.did) (endings g.l (taken-is-among w.messages g.l g.rest g.takes)) g.turn
 
-    lines-same : v.lines ≡ w.lines
-    lines-same = ap (λ x. x.lines) g.after ∙ ap (λ ls. w.lines ++ map (with_epoch w.issued) ls) none ∙ append-nil w.lines
+    heard-kind : is_heard g.l.message ≡ true
+    heard-kind = hears-heard (target_plan r g.t) g.s.opening g.s.memory g.reading g.l.from g.l.message (kept g.s) g.new (g.memory, g.did) g.turn
 
-    way : (x : AttemptId) (e : Epoch) → IsOnItsWay (g.rest ++ letters_of (target g.t) g.did.posts) x e → IsOnItsWay v.messages x e
-    way x e f = subst (λ ls. IsOnItsWay ls x e) (sym messages) f
+    left : (l : Letter) → Contains w.messages l → Contains g.rest l ⊎ EndsNone l
+    left l i = elim (left-or-it w.messages g.l g.rest l g.takes i) [ inl same ↦ inr (subst EndsNone (sym same) (heard-no-end g.l heard-kind)) | inr j ↦ inl j ]
 
-    old : (x : AttemptId) (e : Epoch) → IsOnItsWay w.messages x e → IsOnItsWay v.messages x e
-    old x e f = elim (left-or-it w.messages g.l g.rest f.l g.takes f.among) [
-      | inl same ↦ absurd (heard-no-end g.l.message x e of_kind (sym (ap (λ z. z.message) same) ∙ f.says))
-      | inr i ↦ way x e (record {
-        l = f.l;
-        among = contains-from_has (g.rest ++ letters_of (target g.t) g.did.posts) f.l (has-left g.rest (letters_of (target g.t) g.did.posts) f.l (has-from_contains g.rest f.l i));
-        says = f.says;
-        to_it = f.to_it;
-      })
-    ]
+    sent : IsSent r w v g.t g.rest g.did.posts
+    sent = record {
+      messages = ap (λ x. x.messages) g.after;
+      lines = ap (λ x. x.lines) g.after ∙ no-lines w g.did ends.1;
+      among = λ l i. left-is-among w.messages g.l g.rest l g.takes i;
+      left = left;
+      ends = ends.0;
+      home = home;
+    }
 
-    new : (x : AttemptId) (e : Epoch) → Tells g.did.posts x e → IsOnItsWay v.messages x e
-    new x e t = way x e (record {
-      l = letter_of (target g.t) t.0;
-      among = contains-from_has (g.rest ++ letters_of (target g.t) g.did.posts) (letter_of (target g.t) t.0)
-          (has-right g.rest (letters_of (target g.t) g.did.posts) (letter_of (target g.t) t.0) (has-map (letter_of (target g.t)) g.did.posts t.0 t.1));
-      says = t.2;
-      to_it = t.3;
-    })
+pub verdicts-by-idle : (r : Rules) (h later : History) (w v : World) → Endings w → AreAddressed r v → Verdicts r h w → (g : TargetIdles r w v) → GrowsBy h g.did.posts later → Verdicts r later v
+verdicts-by-idle r h later w v endings home k g grows = verdicts-by-sending r h later w v k g.t w.messages g.did.posts sent grows
+  where
+    ends : PostsEnd g.did.posts × (g.did.lines ≡ [])
+    ends = idle-ends g.settling (target_plan r g.t) g.s.memory g.turn.last g.new (g.memory, g.did) g.turn.ends
 
-    told : (x : AttemptId) (e : Epoch) → Contains later.decided (x, e) → IsOnItsWay v.messages x e ⊎ IsToldCommitted v.lines x e
-    told x e i = elim (d.new x e i) [
-      | inl j ↦ elim (k.told x e j) [ inl f ↦ inl (old x e f) | inr t ↦ inr (subst (λ ls. IsToldCommitted ls x e) (sym lines-same) t) ]
-      | inr t ↦ inl (new x e t)
-    ]
+    sent : IsSent r w v g.t w.messages g.did.posts
+    sent = record {
+      messages = ap (λ x. x.messages) g.after;
+      lines = ap (λ x. x.lines) g.after ∙ no-lines w g.did ends.1;
+      among = λ l i. i;
+      left = λ l i. inl i;
+      ends = ends.0;
+      home = home;
+    }
 
-    was : (x : AttemptId) (own : Option Epoch) → (e : Epoch) × (own ≡ Some e) × Contains h.decided (x, e) → (e : Epoch) × (own ≡ Some e) × Contains later.decided (x, e)
-    was x own t = (t.0, t.1, d.kept x t.0 t.2)
+-- ---- histories
 
-    flying : (l : Letter) (x : AttemptId) (own : Option Epoch) → Contains v.messages l → l.message ≡ message.Ended x own outcome.Committed → (e : Epoch) × (own ≡ Some e) × Contains later.decided (x, e)
-    flying l x own i says = elim (has-cases g.rest (letters_of (target g.t) g.did.posts) l (subst (Has l) messages (has-from_contains v.messages l i))) [
-      | inl j ↦ was x own (k.flying l x own (left-is-among w.messages g.l g.rest l g.takes (contains-from_has g.rest l j)) says)
-      | inr j ↦ let q = has-from_map (letter_of (target g.t)) g.did.posts l j in d.told q.0 x own q.1 (ap (λ m. m.message) q.2 ∙ says)
-    ]
-
-    lines : (a : Attempt) → Contains (tries v.lines) a → a.outcome ≡ outcome.Committed → HasWrites r a.id → (e : Epoch) × (a.epoch ≡ Some e) × Contains later.decided (a.id, e)
-    lines a i c s = let t = k.lines a (subst (λ ls. Contains (tries ls) a) lines-same i) c s in (t.0, t.1, d.kept a.id t.0 t.2)
-
--- idle work decides nothing more
-pub verdicts-by-idle : (r : Rules) (h : History) (w v : World) → Verdicts r h w → v.messages ≡ w.messages → v.lines ≡ w.lines → Verdicts r h v
-verdicts-by-idle r h w v k messages lines = record {
-  told = λ x e i. elim (k.told x e i) [ inl f ↦ inl (subst (λ ls. IsOnItsWay ls x e) (sym messages) f) | inr t ↦ inr (subst (λ ls. IsToldCommitted ls x e) (sym lines) t) ];
-  flying = λ l x own i says. k.flying l x own (subst (λ ls. Contains ls l) messages i) says;
-  lines = λ a i c s. k.lines a (subst (λ ls. Contains (tries ls) a) lines i) c s;
+-- of two histories in which the same was decided and aborted
+pub verdicts-are-of : (r : Rules) (h later : History) (w : World) → Verdicts r h w → GrowsBy h [] later → Verdicts r later w
+verdicts-are-of r h later w k g = record {
+  told = λ x e i. elim (g.only_decided x e i) [ inl j ↦ k.told x e j | inr n ↦ absurd n.sent ];
+  flying = λ l x own i says. let d = k.flying l x own i says in (d.0, d.1, g.decided x d.0 d.2);
+  lines = λ a i c some. let d = k.lines a i c some in (d.0, d.1, g.decided a.id d.0 d.2);
+  refused = λ x i. elim (g.only_aborted x i) [ inl j ↦ k.refused x j | inr n ↦ absurd n.told.sent ];
+  refusing = λ l x own how i says is. g.aborted x (k.refusing l x own how i says is);
 }
+
+pub verdicts-begin : (r : Rules) (h : History) (w : World) → h.decided ≡ [] → h.aborted ≡ [] → w.messages ≡ [] → w.lines ≡ [] → Verdicts r h w
+unfolding tries
+verdicts-begin r h w decided aborted messages lines = record {
+  told = λ x e i. absurd (subst (Has (x, e)) decided i);
+  flying = λ l x own i says. absurd (nothing l i);
+  lines = λ a i c some. absurd (subst (λ ls. Has a (tries ls)) lines (has-from_contains (tries w.lines) a i));
+  refused = λ x i. absurd (subst (Has x) aborted i);
+  refusing = λ l x own how i says is. absurd (nothing l i);
+}
+  where
+    nothing : (l : Letter) → Contains w.messages l → ⊥
+    nothing l i = subst (Has l) messages (has-from_contains w.messages l i)

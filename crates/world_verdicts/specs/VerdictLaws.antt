@@ -1,8 +1,9 @@
 -- Every event keeps that decided attempts are exactly those that are told as committed.
-use Rattle.std.specs.Prelude.{ℕ, ◌≡◌, ◌≢◌, ◌⊎◌, ◌++◌, List, ◌∷◌, map, Contains, Option, Some}
+use Rattle.std.specs.Prelude.{ℕ, ◌≡◌, ◌≢◌, ◌⊎◌, ◌++◌, true, List, ◌∷◌, map, Contains, Option, Some}
 use Rattle.std.proofs.Common.{sym, ◌∙◌, ap, subst, inl, inr}
 use Rattle.daos_base.specs.declared.epoch.Epoch.{Epoch}
 use Rattle.daos_base.specs.declared.id.AttemptId.{AttemptId}
+use Rattle.daos_base.specs.declared.outcome.Outcome.{Outcome}
 use Rattle.daos_base.specs.declared.outcome.Outcome.TheVariants as outcome
 use Rattle.daos_base.specs.declared.report.Attempt.{Attempt}
 use Rattle.daos_base.specs.declared.report.Line.{Line}
@@ -19,8 +20,9 @@ use Rattle.world_events.specs.Letters.{Takes, client, letter_of, letters_of}
 use Rattle.world_events.specs.Steps.{after_client, without}
 use Rattle.world_lines.specs.FilledLaws.{tries-filled}
 use Rattle.world_lines.specs.Lines.{filled}
-use Rattle.world_reads.specs.History.{History}
-use Rattle.world_verdicts.specs.Verdicts.{HasWrites, IsOnItsWay, IsToldCommitted, Verdicts}
+use Rattle.world_attempts.specs.History.{Aborted, Decided, History}
+use Rattle.world_clients.specs.Answered.{is_refusal}
+use Rattle.world_verdicts.specs.Verdicts.{HasWrites, IsOnItsWay, IsRefusedOnItsWay, IsToldCommitted, IsToldRefused, Verdicts}
 
 -- ---- lines and letters
 
@@ -32,6 +34,14 @@ told-more lines more x e k = record {
   of_it = k.of_it;
   at = k.at;
   committed = k.committed;
+}
+
+pub refused-more : (lines more : List Line) (x : AttemptId) → IsToldRefused lines x → IsToldRefused (lines ++ more) x
+refused-more lines more x k = record {
+  a = k.a;
+  among = contains-from_has (tries (lines ++ more)) k.a (subst (Has k.a) (sym (tries-append lines more)) (has-left (tries lines) (tries more) k.a (has-from_contains (tries lines) k.a k.among)));
+  of_it = k.of_it;
+  refused = k.refused;
 }
 
 -- an attempt of more lines is of those before, or of the lines that were added, with its epoch filled in
@@ -66,23 +76,38 @@ left-or-it letters l rest m t i = by (has-cases t.before (l ∷ t.after) m (subs
 way-more : (letters more : List Letter) (x : AttemptId) (e : Epoch) → IsOnItsWay letters x e → IsOnItsWay (letters ++ more) x e
 way-more letters more x e k = record { l = k.l; among = contains-from_has (letters ++ more) k.l (has-left letters more k.l (has-from_contains letters k.l k.among)); says = k.says; to_it = k.to_it }
 
+pub refused-way-more : (letters more : List Letter) (x : AttemptId) → IsRefusedOnItsWay letters x → IsRefusedOnItsWay (letters ++ more) x
+refused-way-more letters more x k = record {
+  l = k.l;
+  own = k.own;
+  how = k.how;
+  among = contains-from_has (letters ++ more) k.l (has-left letters more k.l (has-from_contains letters k.l k.among));
+  says = k.says;
+  to_it = k.to_it;
+  refused = k.refused;
+}
+
 -- ---- what is added to the world by a client
 
 -- posts end nothing
 abbrev pub EndNothing : List Post → Type 0
-EndNothing posts = (q : Post) (x : AttemptId) (own : Option Epoch) → Has q posts → q.message ≢ message.Ended x own outcome.Committed
+EndNothing posts = (q : Post) (x : AttemptId) (own : Option Epoch) (how : Outcome) → Has q posts → q.message ≢ message.Ended x own how
 
 -- lines that are added tell as committed only attempts without writes, or decided ones with their epochs
 abbrev pub TellDecided : Rules → History → List (AttemptId × Epoch) → List Line → Type 0
-TellDecided r h issued more = (b : Attempt) → Has b (tries more) → b.outcome ≡ outcome.Committed → HasWrites r b.id → (e : Epoch) × ((filled issued b).epoch ≡ Some e) × Contains h.decided (b.id, e)
+TellDecided r h issued more = (b : Attempt) → Has b (tries more) → b.outcome ≡ outcome.Committed → HasWrites r b.id → (e : Epoch) × ((filled issued b).epoch ≡ Some e) × Decided h b.id e
 
 -- letters may go that told of no commit, or of one that is told now
 abbrev pub StillTold : List Letter → List Letter → List Line → Type 0
 StillTold before after lines = (x : AttemptId) (e : Epoch) → IsOnItsWay before x e → IsOnItsWay after x e ⊎ IsToldCommitted lines x e
 
+-- and so of those that told of a refusal
+abbrev pub StillRefused : List Letter → List Letter → List Line → Type 0
+StillRefused before after lines = (x : AttemptId) → IsRefusedOnItsWay before x → IsRefusedOnItsWay after x ⊎ IsToldRefused lines x
+
 pub client-did : (r : Rules) (h : History) (w : World) (n : ℕ) (rest : List Letter) (posts : List Post) (more : List Line) (d : ClientState) → ((m : Letter) → Contains rest m → Contains w.messages m)
-    → StillTold w.messages rest (w.lines ++ map (with_epoch w.issued) more) → EndNothing posts → TellDecided r h w.issued more → Verdicts r h w → Verdicts r h (after_client (without w rest) n posts more d)
-client-did r h w n rest posts more d among still none tell k = record { told = told; flying = flying; lines = lines }
+    → StillTold w.messages rest (w.lines ++ map (with_epoch w.issued) more) → StillRefused w.messages rest (w.lines ++ map (with_epoch w.issued) more) → EndNothing posts → TellDecided r h w.issued more → Verdicts r h w → Verdicts r h (after_client (without w rest) n posts more d)
+client-did r h w n rest posts more d among still still_refused none tell k = record { told = told; flying = flying; lines = lines; refused = refused; refusing = refusing }
   where
     lines2 : List Line
     lines2 = w.lines ++ map (with_epoch w.issued) more
@@ -90,25 +115,37 @@ client-did r h w n rest posts more d among still none tell k = record { told = t
     letters2 : List Letter
     letters2 = rest ++ letters_of (client n) posts
 
-    told : (x : AttemptId) (e : Epoch) → Contains h.decided (x, e) → IsOnItsWay letters2 x e ⊎ IsToldCommitted lines2 x e
+    told : (x : AttemptId) (e : Epoch) → Decided h x e → IsOnItsWay letters2 x e ⊎ IsToldCommitted lines2 x e
     told x e i = elim (k.told x e i) [
       | inl f ↦ elim (still x e f) [ inl g ↦ inl (way-more rest (letters_of (client n) posts) x e g) | inr t ↦ inr t ]
       | inr t ↦ inr (told-more w.lines (map (with_epoch w.issued) more) x e t)
     ]
 
-    flying : (l : Letter) (x : AttemptId) (own : Option Epoch) → Contains letters2 l → l.message ≡ message.Ended x own outcome.Committed → (e : Epoch) × (own ≡ Some e) × Contains h.decided (x, e)
+    flying : (l : Letter) (x : AttemptId) (own : Option Epoch) → Contains letters2 l → l.message ≡ message.Ended x own outcome.Committed → (e : Epoch) × (own ≡ Some e) × Decided h x e
     flying l x own i says = elim (has-cases rest (letters_of (client n) posts) l (has-from_contains letters2 l i)) [
       | inl j ↦ k.flying l x own (among l (contains-from_has rest l j)) says
-      | inr j ↦ let q = has-from_map (letter_of (client n)) posts l j in absurd (none q.0 x own q.1 (ap (λ m. m.message) q.2 ∙ says))
+      | inr j ↦ let q = has-from_map (letter_of (client n)) posts l j in absurd (none q.0 x own outcome.Committed q.1 (ap (λ m. m.message) q.2 ∙ says))
     ]
 
-    lines : (a : Attempt) → Contains (tries lines2) a → a.outcome ≡ outcome.Committed → HasWrites r a.id → (e : Epoch) × (a.epoch ≡ Some e) × Contains h.decided (a.id, e)
+    refused : (x : AttemptId) → Aborted h x → IsRefusedOnItsWay letters2 x ⊎ IsToldRefused lines2 x
+    refused x i = elim (k.refused x i) [
+      | inl f ↦ elim (still_refused x f) [ inl g ↦ inl (refused-way-more rest (letters_of (client n) posts) x g) | inr t ↦ inr t ]
+      | inr t ↦ inr (refused-more w.lines (map (with_epoch w.issued) more) x t)
+    ]
+
+    refusing : (l : Letter) (x : AttemptId) (own : Option Epoch) (how : Outcome) → Contains letters2 l → l.message ≡ message.Ended x own how → is_refusal how ≡ true → Aborted h x
+    refusing l x own how i says is = elim (has-cases rest (letters_of (client n) posts) l (has-from_contains letters2 l i)) [
+      | inl j ↦ k.refusing l x own how (among l (contains-from_has rest l j)) says is
+      | inr j ↦ let q = has-from_map (letter_of (client n)) posts l j in absurd (none q.0 x own how q.1 (ap (λ m. m.message) q.2 ∙ says))
+    ]
+
+    lines : (a : Attempt) → Contains (tries lines2) a → a.outcome ≡ outcome.Committed → HasWrites r a.id → (e : Epoch) × (a.epoch ≡ Some e) × Decided h a.id e
     lines a i c some = elim (tried-cases w.issued w.lines more a i) [
       | inl j ↦ k.lines a j c some
       | inr b ↦ new b.0 b.1 b.2
     ]
       where
-        new : (b : Attempt) → Has b (tries more) → filled w.issued b ≡ a → (e : Epoch) × (a.epoch ≡ Some e) × Contains h.decided (a.id, e)
+        new : (b : Attempt) → Has b (tries more) → filled w.issued b ≡ a → (e : Epoch) × (a.epoch ≡ Some e) × Decided h a.id e
         new b j same =
             let t = tell b j (ap (λ z. z.outcome) same ∙ c) (subst (HasWrites r) (sym (ap (λ z. z.id) same)) some) in
-            (t.0, sym (ap (λ z. z.epoch) same) ∙ t.1, subst (λ z. Contains h.decided (z, t.0)) (ap (λ z. z.id) same) t.2)
+            (t.0, sym (ap (λ z. z.epoch) same) ∙ t.1, subst (λ z. Decided h z t.0) (ap (λ z. z.id) same) t.2)

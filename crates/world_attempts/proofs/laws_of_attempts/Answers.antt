@@ -1,0 +1,5 @@
+use Rattle.world_attempts.specs.EventLaws.{attempts-begin, attempts-kept, decided-once, none-is-both}
+use Rattle.world_attempts.proofs.laws_of_attempts.Goals as goal
+
+pub returns : goal.returns
+returns c = record { begin = attempts-begin; kept = attempts-kept; apart = none-is-both; once = decided-once }

@@ -1,0 +1,20 @@
+// One attempt between its leader, its other members and the letters between them, and what became of it.
+#![tactic(auto)]
+
+ghost use Rattle.world_attempts.specs.Keeping.{AttemptsAreKept, AttemptsBegin, DecidedOnce, NoneIsBoth};
+
+/// Says what holds of each attempt throughout a run of many targets in which nothing stops. Where
+/// anything of it stands or is in flight between targets, its leader keeps its entry, or it is aborted.
+/// Of each other member of an attempt that isn't decided just one holds: it is asked to prepare, its
+/// answer is in flight, or it is counted; and who is counted holds it. Once it is decided, its leader
+/// and all other members hold it, at one epoch; once it is aborted, its leader has no entry of it. What
+/// is committed is decided, what letters say of an attempt is so, and what its leader remembers of it
+/// is of an entry that isn't committed. Each event keeps it so, of what is decided and aborted by what
+/// targets tell; and so it is where nothing is stored and in flight. No attempt is both decided and
+/// aborted, and none is decided at two epochs.
+pub fn laws_of_attempts()
+    ensures begin { AttemptsBegin }
+    ensures kept { AttemptsAreKept }
+    ensures apart { NoneIsBoth }
+    ensures once { DecidedOnce }
+{}

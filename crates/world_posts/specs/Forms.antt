@@ -1,0 +1,115 @@
+-- The form of messages: what clients ask of targets, what targets tell each other, and what clients are told.
+use Rattle.std.specs.Prelude.{ℕ, ◌≡◌, ◌<◌, ◌^◌, Bool, true, false, IfSome, All, length, List, Option, Some, is_some}
+use Rattle.daos_base.specs.declared.entry.Entry.{Entry}
+use Rattle.daos_base.specs.declared.epoch.Epoch.{Epoch}
+use Rattle.daos_base.specs.declared.operation.MinorWrite.{MinorWrite}
+use Rattle.daos_base.specs.declared.operation.Read.{Read}
+use Rattle.daos_base.specs.Operations.{write_path}
+use Rattle.daos_base.specs.Placement.{ClassFits}
+use Rattle.daos_laws.specs.Members.{Has}
+use Rattle.daos_messages.specs.declared.actor.ActorId.{ActorId}
+use Rattle.daos_messages.specs.declared.message.Message.{Message}
+use Rattle.daos_messages.specs.declared.message.Message.TheVariants.{Ack, Commit, Ended, Fetch, Fetched, Mark, Marked, Prepare, Query, Tell, Verdict}
+use Rattle.daos_messages.specs.declared.message.Post.{Post}
+use Rattle.daos_model.specs.Forms.{AreWritesInForm, is_read_in_form}
+use Rattle.dtx_base.specs.declared.leading.LeaderMemory.{LeaderMemory}
+use Rattle.dtx_base.specs.declared.leading.Undecided.{Undecided}
+use Rattle.world_base.specs.declared.target.TargetPlan.{TargetPlan}
+use Rattle.world_turns.specs.Commits.{own_writes}
+
+-- ---- what a message bears
+
+-- a read has form, and at a snapshot its epoch is known
+pub record IsReadAsked (r : Read) (ep : Option Epoch) (snapshot : Bool) : Type 0 where
+  pub form : is_read_in_form r ≡ true
+  pub known : snapshot ≡ true → is_some ep ≡ true
+
+-- writes that a target can be asked to commit: 1 to 64 in form with rising numbers, some of them its own, of objects whose class
+-- fits the targets
+pub record AreWrites (t : TargetPlan) (ws : List MinorWrite) : Type 0 where
+  pub form : AreWritesInForm ws
+  pub some : 0 < length (own_writes t ws)
+  pub fit : All (λ w. IfSome (write_path w.write).obj (λ o. ClassFits o.class t.targets)) ws
+
+-- what a target can be asked to prepare, on so many targets: 1 to 64 writes in form, of an attempt that isn't committed and that no
+-- member confirmed, whose leader and members are among them
+pub record IsPrepareInForm (targets : ℕ) (e : Entry) (ws : List MinorWrite) : Type 0 where
+  pub undecided : e.committed ≡ false
+  pub unconfirmed : e.confirmed ≡ 0
+  pub leader : e.leader < targets
+  pub members : e.members < 2 ^ targets
+  pub some : 0 < length ws
+  pub form : AreWritesInForm ws
+
+-- ---- who sends what
+
+-- what a client asks of a target
+abbrev pub IsAsked : TargetPlan → Message → Type 0
+IsAsked t (Fetch x op group ep first tracker r snapshot) = IsReadAsked r ep snapshot
+IsAsked t (Commit x ep first tracker ws) = AreWrites t ws
+IsAsked t m = ⊥
+
+-- what targets tell and ask each other, where there are so many
+abbrev pub IsBetween : ℕ → Message → Type 0
+IsBetween targets (Prepare e first ws inc) = IsPrepareInForm targets e ws
+IsBetween targets (Ack x inc refusal) = Unit {0}
+IsBetween targets (Mark inc marks) = Unit {0}
+IsBetween targets (Marked inc ids) = Unit {0}
+IsBetween targets (Query x ask) = Unit {0}
+IsBetween targets (Verdict x ask inc v) = Unit {0}
+IsBetween targets m = ⊥
+
+-- what a client is told where nothing stops: an answer, how its attempt ended, or another's tracker
+abbrev pub is_told : Message → Bool
+is_told (Fetched x op group ep reply) = true
+is_told (Ended x ep how) = true
+is_told (Tell tracker) = true
+is_told m = false
+
+-- a message that a client sends to a target
+abbrev pub is_of_client : Message → Bool
+is_of_client (Fetch x op group ep first tracker r snapshot) = true
+is_of_client (Commit x ep first tracker ws) = true
+is_of_client m = false
+
+-- a message that a target hears, and its form, whatever is kept; an answer of a member comes from a target that there may be
+abbrev pub HasForm : TargetPlan → ActorId → Message → Type 0
+HasForm t from (Fetch x op group ep first tracker r snapshot) = IsReadAsked r ep snapshot
+HasForm t from (Commit x ep first tracker ws) = AreWrites t ws
+HasForm t from (Prepare e first ws inc) = IsPrepareInForm t.targets e ws
+HasForm t from (Ack x inc refusal) = from.number < 64
+HasForm t from (Mark inc marks) = Unit {0}
+HasForm t from (Marked inc ids) = from.number < 64
+HasForm t from (Query x ask) = Unit {0}
+HasForm t from (Verdict x ask inc v) = Unit {0}
+HasForm t from m = ⊥
+
+-- ---- what is posted
+
+-- what a client posts: it asks targets, and tells clients; `plans` is the plan of each target
+pub record IsOfClient (plans : ℕ → TargetPlan) (q : Post) : Type 0 where
+  pub asked : q.to.client ≡ false → IsAsked (plans q.to.number) q.message
+  pub told : q.to.client ≡ true → is_told q.message ≡ true
+
+abbrev pub ClientPosts : (ℕ → TargetPlan) → List Post → Type 0
+ClientPosts plans posts = (q : Post) → Has q posts → IsOfClient plans q
+
+-- what one of so many targets posts: it tells and asks other targets, and tells clients
+pub record IsOfTarget (targets : ℕ) (q : Post) : Type 0 where
+  pub between : q.to.client ≡ false → IsBetween targets q.message
+  pub told : q.to.client ≡ true → is_told q.message ≡ true
+
+abbrev pub TargetPosts : ℕ → List Post → Type 0
+TargetPosts targets posts = (q : Post) → Has q posts → IsOfTarget targets q
+
+-- it is clients that wait for the end of undecided attempts
+abbrev pub ClientsWait : LeaderMemory → Type 0
+ClientsWait m = (u : Undecided) (c : ActorId) → Has u m.undecided → u.client ≡ Some c → c.client ≡ true
+
+-- what follows from a target's turn, where it was clients that waited before: it posts what has form, and clients wait
+pub record Follows (targets : ℕ) (m : LeaderMemory) (posts : List Post) : Type 0 where
+  pub form : TargetPosts targets posts
+  pub waiting : ClientsWait m
+
+abbrev pub PostsInForm : ℕ → LeaderMemory → LeaderMemory → List Post → Type 0
+PostsInForm targets old new posts = ClientsWait old → Follows targets new posts
