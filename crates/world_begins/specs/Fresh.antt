@@ -1,7 +1,7 @@
 -- A store that was never used is one with which a run may begin, and so is each such store once containers were enlisted.
-use Rattle.std.specs.Prelude.{ℕ, ◌≡◌, ◌⊎◌, ◌≤◌, ◌+◌, ◌-◌, ◌*◌, Bool, true, false, List, [], ◌∷◌, map, find, length, Some, None, refl, if◌then◌else◌}
+use Rattle.std.specs.Prelude.{ℕ, zero, suc, ◌≡◌, ◌⊎◌, ◌≤◌, ◌+◌, ◌-◌, ◌*◌, Bool, true, false, List, [], ◌∷◌, map, find, length, replicate, slice_get, Some, None, refl, if◌then◌else◌}
 use Rattle.std.specs.List.{list_any}
-use Rattle.std.proofs.Common.{inl, inr, sym, subst, arith}
+use Rattle.std.proofs.Common.{inl, inr, sym, ap, subst, arith}
 use Rattle.daos_base.specs.declared.id.ContId.{ContId}
 use Rattle.daos_base.specs.declared.outcome.FloorWhy.TheVariants as why
 use Rattle.daos_base.specs.declared.script.ContDecl.{ContDecl}
@@ -20,24 +20,25 @@ use Rattle.daos_laws.specs.EntryLaws.{put-has}
 use Rattle.world_base.specs.declared.target.TargetState.{TargetState}
 use Rattle.world_base.specs.declared.target.Life.TheVariants.{Running}
 use Rattle.world_base.specs.declared.world.World.{World}
-use Rattle.world_begins.specs.Begins.{AreEnlisted, IsBegun, OpensWith, declared_conts, first_client}
+use Rattle.world_begins.specs.Begins.{AreEnlisted, IsBegun, OpensWith, StartsWith, declared_conts, first_client, no_joining, no_leading}
 use Rattle.world_events.specs.Events.{Rules}
 
 -- ---- the statements
 
 -- more containers change nothing else
 abbrev pub EnlistedOpensToo : Type 0
-EnlistedOpensToo = (o : Opening) (d : Durable) (cs : List ContId) → length (enlisted cs d).conts ≤ 256 → OpensWith o d → OpensWith o (enlisted cs d)
+EnlistedOpensToo =
+    (targets t : ℕ) (o : Opening) (d : Durable) (cs : List ContId) → length (enlisted cs d).conts ≤ 256 → OpensWith targets t o d → OpensWith targets t o (enlisted cs d)
 
 -- a store that was never used stands for nothing, which is what a run over regions of zeros begins with
 abbrev pub EmptyStoresOpen : Type 0
-EmptyStoresOpen = (size incarnation : ℕ) → OpensWith (fresh_opening size) (empty_durable incarnation)
+EmptyStoresOpen = (targets t size incarnation : ℕ) → OpensWith targets t (fresh_opening size) (empty_durable incarnation)
 
 -- once the containers that a script declares were enlisted, all of them are known; a script in form has no more than fit
 abbrev pub FreshStoresOpen : Type 0
 FreshStoresOpen =
-    (s : Script) (size incarnation : ℕ) → length s.conts ≤ 256
-    → OpensWith (fresh_opening size) (enlisted (declared_conts s) (empty_durable incarnation)) × AreEnlisted s (enlisted (declared_conts s) (empty_durable incarnation))
+    (s : Script) (targets t size incarnation : ℕ) → length s.conts ≤ 256
+    → OpensWith targets t (fresh_opening size) (enlisted (declared_conts s) (empty_durable incarnation)) × AreEnlisted s (enlisted (declared_conts s) (empty_durable incarnation))
 
 -- ---- rows of containers
 
@@ -135,7 +136,7 @@ conts-few (c ∷ cs) rows =
 
 pub enlisted-opens : EnlistedOpensToo
 unfolding enlisted row_of
-enlisted-opens o d cs few k = record {
+enlisted-opens targets t o d cs few k = record {
   form = enlisted-in_form cs d few k.form;
   single = k.single;
   placed = k.placed;
@@ -146,31 +147,27 @@ enlisted-opens o d cs few k = record {
   covered = k.covered;
   floors = conts-low (top o) cs d.conts k.floors;
   stands = k.stands;
-  nowhere_else = k.nowhere_else;
-  no_snaps = k.no_snaps;
 }
 
 pub empty-opens : EmptyStoresOpen
 unfolding row_of
-empty-opens size incarnation = record {
+empty-opens targets t size incarnation = record {
   form = record { versions = refl; writes = refl; entries = refl; conts = refl; floors = refl; snaps = refl; few_conts = omega arith; few_snaps = omega arith; lease = omega arith };
   single = record { in_order = refl; single = λ i j d lt within. absurd (omega (arith, lt, within)) };
   placed = λ v i. absurd (has-from_contains [] v i);
   done = λ v i. absurd (has-from_contains [] v i);
   entries = refl;
   snaps = refl;
-  lease = refl;
+  lease = omega arith;
   covered = λ v i. absurd (has-from_contains [] v i);
   floors = λ c. new-low (top (fresh_opening size)) c;
   stands = λ c own. refl;
-  nowhere_else = λ c other. refl;
-  no_snaps = refl;
 }
 
 pub fresh-opens : FreshStoresOpen
 unfolding enlisted is_enlisted
-fresh-opens s size incarnation few = (
-  enlisted-opens (fresh_opening size) (empty_durable incarnation) (declared_conts s) fits (empty-opens size incarnation),
+fresh-opens s targets t size incarnation few = (
+  enlisted-opens targets t (fresh_opening size) (empty_durable incarnation) (declared_conts s) fits (empty-opens targets t size incarnation),
   λ c i. conts-there (declared_conts s) c [] (has-from_contains (declared_conts s) c i),
 )
   where
@@ -189,14 +186,14 @@ fresh_target s size incarnation = record {
   free = size * 4096 - 1264;
   opening = (record { 0 = 0 }, why.Opening);
   life = Running;
-  memory = record { ticks = 0; stamps = []; decided = [] };
+  memory = record { ticks = 0; stamps = []; leader = no_leading; member = no_joining };
 }
 
 -- the world of a script before its first event, over regions of zeros
 abbrev pub fresh_world : Script → ℕ → ℕ → World
 fresh_world s size incarnation = record {
-  targets = fresh_target s size incarnation ∷ [];
-  clients = map (first_client s [] (fresh_opening size)) s.clients;
+  targets = replicate s.targets (fresh_target s size incarnation);
+  clients = map (first_client s (fresh_opening size)) s.clients;
   messages = [];
   issued = [];
   numbers = record { restarts = 0; aggregates = 0 };
@@ -207,21 +204,22 @@ fresh_world s size incarnation = record {
 abbrev pub FreshWorldsAreBegun : Type 0
 FreshWorldsAreBegun = (r : Rules) (size incarnation : ℕ) → length r.script.conts ≤ 256 → IsBegun r (fresh_opening size) (fresh_world r.script size incarnation)
 
+length-replicate : {T : Type 0} (n : ℕ) (x : T) → length (replicate n x) ≡ n
+length-replicate zero x = refl
+length-replicate (suc n) x = ap suc (length-replicate n x)
+
+at-replicate : {T : Type 0} (n : ℕ) (x : T) (k : ℕ) (y : T) → slice_get (replicate n x) k ≡ Some y → x ≡ y
+at-replicate zero x k y at = let no : ⊥ = cc in absurd no
+at-replicate (suc n) x zero y at = let same : x ≡ y = cc in same
+at-replicate (suc n) x (suc k) y at = at-replicate n x k y at
+
 pub fresh-begun : FreshWorldsAreBegun
 unfolding enlisted
 fresh-begun r size incarnation few = record {
-  s = fresh_target r.script size incarnation;
-  targets = refl;
-  starts = record {
-    opens = k.0;
-    free = same-low (size * 4096 - 1264);
-    floor = omega arith;
-    runs = refl;
-    ticks = omega arith;
-    stamps = refl;
-    decided = refl;
-  };
-  enlisted = k.1;
+  plain = record { unowned = λ c none. refl; no_snaps = refl; lease = omega arith };
+  targets = length-replicate r.script.targets (fresh_target r.script size incarnation);
+  starts = λ t s here. subst (StartsWith r.script.targets t (fresh_opening size)) (at-replicate r.script.targets (fresh_target r.script size incarnation) t s here) (starts t);
+  enlisted = λ t s here. subst (λ z. AreEnlisted r.script z.durable) (at-replicate r.script.targets (fresh_target r.script size incarnation) t s here) (fresh-opens r.script r.script.targets t size incarnation few).1;
   clients = refl;
   messages = refl;
   issued = refl;
@@ -231,5 +229,14 @@ fresh-begun r size incarnation few = record {
     same-low : (n : ℕ) → n ≤ n
     same-low n = omega arith
 
-    k : OpensWith (fresh_opening size) (enlisted (declared_conts r.script) (empty_durable incarnation)) × AreEnlisted r.script (enlisted (declared_conts r.script) (empty_durable incarnation))
-    k = fresh-opens r.script size incarnation few
+    starts : (t : ℕ) → StartsWith r.script.targets t (fresh_opening size) (fresh_target r.script size incarnation)
+    starts t = record {
+      opens = (fresh-opens r.script r.script.targets t size incarnation few).0;
+      free = same-low (size * 4096 - 1264);
+      floor = omega arith;
+      runs = refl;
+      ticks = omega arith;
+      stamps = refl;
+      leader = refl;
+      member = refl;
+    }

@@ -1,5 +1,5 @@
--- What a target is asked, it can hear.
-use Rattle.std.specs.Prelude.{ℕ, ◌≡◌, ◌≢◌, ◌≤◌, ◌<◌, Bool, true, false, IfSome, List, [], ◌∷◌, length, slice_get, Contains, All, Any, Option, Some, None, refl}
+-- What a target is asked, and told by other targets, it can hear.
+use Rattle.std.specs.Prelude.{ℕ, ◌≡◌, ◌⊎◌, ◌≤◌, ◌<◌, ◌^◌, Bool, true, false, IfSome, List, [], ◌∷◌, filter, length, slice_get, Contains, All, Any, Option, Some, None, refl}
 use Rattle.std.proofs.Common.{inl, inr, sym, ◌∙◌, ap, subst, arith}
 use Rattle.daos_base.specs.declared.answer.Answer.TheVariants as answer
 use Rattle.daos_base.specs.declared.entry.Entry.{Entry}
@@ -15,36 +15,42 @@ use Rattle.daos_base.specs.Operations.{read_path, write_path}
 use Rattle.daos_base.specs.Placement.{ClassFits}
 use Rattle.daos_base.specs.Scripts.{IsInForm, IsOfObject, IsOpInForm}
 use Rattle.daos_laws.specs.DecidedLaws.{all-from_has}
-use Rattle.daos_laws.specs.Members.{Has, contains-from_has, has-from_contains, has-map}
+use Rattle.daos_laws.specs.Members.{Has, contains-from_has, has-from_contains, has-from_filter, has-map}
+use Rattle.daos_messages.specs.declared.actor.ActorId.{ActorId}
 use Rattle.daos_messages.specs.declared.message.Message.{Message}
 use Rattle.daos_messages.specs.declared.message.Message.TheVariants as message
 use Rattle.daos_model.specs.declared.durable.Durable.{Durable}
 use Rattle.daos_model.specs.declared.durable.Version.{Version}
-use Rattle.daos_model.specs.Accesses.{minor_writes}
 use Rattle.daos_model.specs.Durables.{entry_of, is_enlisted}
 use Rattle.daos_model.specs.Forms.{AreWritesInForm, is_read_in_form}
 use Rattle.daos_model.specs.Opening.{Opening, top}
 use Rattle.daos_model.specs.Transactions.{attempt_ops}
+use Rattle.dtx_base.specs.Members.{is_written_at, writes_at}
+use Rattle.world_addresses.specs.Addresses.{ComesFrom, GoesTo, IsPlaced, IsTarget, crowd}
+use Rattle.world_attempts.specs.Asked.{IsCommitNew}
+use Rattle.world_attempts.specs.Attempts.{IsFromLeader, IsOther, IsPrepareRight, IsTrueOf, entry_at, entry_in, leader_of, writes_of}
+use Rattle.world_attempts.specs.History.{Decided, History}
+use Rattle.world_attempts.specs.MemberBits.{other-no_leader}
+use Rattle.world_attempts.specs.Overs.{prepare-to}
 use Rattle.world_base.specs.declared.letter.Letter.{Letter}
 use Rattle.world_base.specs.declared.target.TargetState.{TargetState}
 use Rattle.world_base.specs.declared.target.Life.TheVariants.{Running}
 use Rattle.world_base.specs.declared.world.World.{World}
-use Rattle.world_core.specs.Asking.{question-form, requests-are-right}
-use Rattle.world_core.specs.Everything.{Everything}
+use Rattle.world_core.specs.Asking.{own-epoch, question-form, requests-are-right}
+use Rattle.world_core.specs.Commits.{commits-are-new}
+use Rattle.world_core.specs.Everything.{AreBefore, Everything}
 use Rattle.world_core.specs.ScriptForm.{writes-declared}
-use Rattle.world_events.specs.Events.{Rules}
-use Rattle.world_events.specs.Letters.{target}
+use Rattle.world_events.specs.Events.{Rules, target_plan}
+use Rattle.world_events.specs.Letters.{client, target}
 use Rattle.world_gots.specs.FormLaws.{all-at, ops-form, read-declared, write-declared}
-use Rattle.world_reads.specs.ChangeLaws.{entry-of-it}
-use Rattle.world_reads.specs.DecideLaws.{entry-among, no-entry}
-use Rattle.daos_laws.specs.EntryLaws.{same-attempt}
-use Rattle.world_reads.specs.Given.{FitsTargets, Given, HasItsEpoch, IsCommitRight, IsFetchRight, IsItsEpoch, IsMessageRight}
-use Rattle.world_reads.specs.History.{History}
+use Rattle.world_reads.specs.Given.{FitsTargets, Given, IsFetchRight, IsItsEpoch, IsMessageRight}
+use Rattle.world_reads.specs.ListLaws.{some-in_form}
 use Rattle.world_reads.specs.Reads.{IsOfAttempt}
 use Rattle.world_reads.specs.Versions.{VersionsStand}
-use Rattle.world_turns.specs.TargetTurns.{is_heard}
+use Rattle.world_turns.specs.Commits.{own_writes}
+use Rattle.world_turns.specs.Requests.{request_epoch}
 use Rattle.world_begins.specs.Begins.{AreEnlisted, declared_conts}
-use Rattle.world_begins.specs.Requests.{OnlyRequests}
+use Rattle.world_begins.specs.Sharing.{leader-writes, members-below, others-write}
 
 -- ---- the statement
 
@@ -54,27 +60,51 @@ pub record CanServe (d : Durable) (read : Read) (snapshot : Bool) : Type 0 where
   pub form : is_read_in_form read ≡ true
   pub enlisted : is_enlisted d (read_path read).cont ≡ true
 
--- Writes that a lone target can be asked to commit: there are some, in form, of objects that fit one target, in containers that it
--- knows. The attempt has no entry here, and no version has the epoch that goes with them.
-pub record CanCommit (d : Durable) (x : AttemptId) (ep : Option Epoch) (ws : List MinorWrite) : Type 0 where
+-- writes that can be stored for an attempt: they are in form, in containers that the target knows, the attempt has no entry
+-- here, and no version has its epoch
+pub record CanStore (d : Durable) (x : AttemptId) (ep : Option Epoch) (ws : List MinorWrite) : Type 0 where
   pub form : AreWritesInForm ws
-  pub some : 0 < length ws
-  pub fit : All (λ w. IfSome (write_path w.write).obj (λ o. ClassFits o.class 1)) ws
   pub enlisted : All (λ w. is_enlisted d (write_path w.write).cont ≡ true) ws
   pub absent : entry_of d x ≡ None
   pub new : (e : Epoch) → ep ≡ Some e → All (λ v. v.epoch.0 ≡ e.0 → ⊥) d.versions
 
--- a message that a target can hear, which is one of these
-abbrev pub CanHear : Durable → Message → Type 0
-CanHear d (message.Fetch x op group ep first tracker read snapshot) = CanServe d read snapshot
-CanHear d (message.Commit x ep first tracker ws) = CanCommit d x ep ws
-CanHear d m = ⊥
+-- writes to commit can be stored; they are of objects that fit the targets, and some of them belong to a group of this one
+pub record CanCommit (r : Rules) (t : ℕ) (d : Durable) (x : AttemptId) (ep : Option Epoch) (ws : List MinorWrite) : Type 0 where
+  pub store : CanStore d x ep ws
+  pub some : 0 < length (own_writes (target_plan r t) ws)
+  pub fit : All (λ w. IfSome (write_path w.write).obj (λ o. ClassFits o.class r.script.targets)) ws
+
+-- writes to prepare can be stored, with an entry that says that the attempt is neither committed nor confirmed, and names
+-- targets that are there
+pub record CanPrepare (r : Rules) (d : Durable) (e : Entry) (ws : List MinorWrite) : Type 0 where
+  pub store : CanStore d e.attempt (Some e.epoch) ws
+  pub some : 0 < length ws
+  pub undecided : e.committed ≡ false
+  pub unconfirmed : e.confirmed ≡ 0
+  pub leader : e.leader < r.script.targets
+  pub members : e.members < 2 ^ r.script.targets
+
+-- where an attempt has an entry here, another target leads it
+abbrev pub IsLedElsewhere : ℕ → Durable → AttemptId → Type 0
+IsLedElsewhere t d x = (e : Entry) → entry_of d x ≡ Some e → e.leader ≡ t → ⊥
+
+-- a message that a target can hear
+abbrev pub CanHear : Rules → ℕ → Durable → ActorId → Message → Type 0
+CanHear r t d from (message.Fetch x op group ep first tracker read snapshot) = CanServe d read snapshot
+CanHear r t d from (message.Commit x ep first tracker ws) = CanCommit r t d x ep ws
+CanHear r t d from (message.Prepare e first ws inc) = CanPrepare r d e ws
+CanHear r t d from (message.Ack x inc refusal) = from.number < r.script.targets
+CanHear r t d from (message.Mark inc marks) = (x : AttemptId) (committed : Bool) → Has (x, committed) marks → IsLedElsewhere t d x
+CanHear r t d from (message.Marked inc ids) = from.number < r.script.targets
+CanHear r t d from (message.Query x ask) = Unit {0}
+CanHear r t d from (message.Verdict x ask inc v) = IsLedElsewhere t d x
+CanHear r t d from m = ⊥
 
 -- where all holds that events keep, and the declared containers are known, what goes to a running target it can hear
 abbrev pub RequestsCanBeHeard : Type 0
 RequestsCanBeHeard =
-    (r : Rules) (o : Opening) (held : ℕ → List Version) (h : History) (w : World) (l : Letter) (t : ℕ) (s : TargetState) → ((u : ℕ) (z : Version) → Contains (held u) z → z.epoch.0 ≤ top o)
-    → Everything r o held h w → OnlyRequests w → AreEnlisted r.script s.durable → Contains w.messages l → l.to ≡ target t → slice_get w.targets t ≡ Some s → s.life ≡ Running → CanHear s.durable l.message
+    (r : Rules) (o : Opening) (held : ℕ → List Version) (h : History) (w : World) (l : Letter) (t : ℕ) (s : TargetState) → AreBefore o held
+    → Everything r o held h w → AreEnlisted r.script s.durable → Contains w.messages l → l.to ≡ target t → slice_get w.targets t ≡ Some s → s.life ≡ Running → CanHear r t s.durable l.from l.message
 
 -- ---- containers of declared objects
 
@@ -91,84 +121,188 @@ cont-declared r p form of_object = subst (Contains (declared_conts r.script)) sa
     same : cont.1.id ≡ p.cont
     same = cont.4 ∙ of_object.4.1
 
--- ---- the attempt that asks to commit is new here
+-- ---- what can be stored
 
-module _ (r : Rules) (o : Opening) (held : ℕ → List Version) (h : History) (w : World) (t : ℕ) (s : TargetState) (before : (u : ℕ) (z : Version) → Contains (held u) z → z.epoch.0 ≤ top o) (k : Everything r o held h w) (here : slice_get w.targets t ≡ Some s) where
+module _ (r : Rules) (o : Opening) (held : ℕ → List Version) (h : History) (w : World) (before : AreBefore o held) (k : Everything r o held h w) (t : ℕ) (s : TargetState) (here : slice_get w.targets t ≡ Some s) where
+  given : Given r o held w
+  given = requests-are-right r o held h w k.facts before
+
   stands : VersionsStand r o (held t) h t s.durable
   stands = k.versions.stand t s here
 
-  -- the attempt of a version of the run is decided at its epoch
-  decided : (v : Version) → Contains s.durable.versions v → top o < v.epoch.0 → Contains h.decided (v.by, v.epoch)
-  decided v i above = by v.done refl
-    where
-      of-entry : (e : Entry) × (entry_of s.durable v.by ≡ Some e) × (e.committed ≡ false) × (e.epoch ≡ v.epoch) → Contains h.decided (v.by, v.epoch)
-      of-entry e =
-          subst (λ x. Contains h.decided (x, v.epoch)) (same-attempt e.0.attempt v.by (entry-of-it s.durable v.by e.0 e.1))
-          (subst (λ f. Contains h.decided (e.0.attempt, f)) e.3 (k.versions.entries t s e.0 here (entry-among s.durable v.by e.0 e.1)))
+  entry-here : (x : AttemptId) → entry_at w t x ≡ entry_of s.durable x
+  entry-here x = ap (λ z. entry_in z x) here
 
-      by : (b : Bool) → v.done ≡ b → Contains h.decided (v.by, v.epoch)
-      by false is = of-entry (stands.unsettled v i is)
+  -- a version of the run is of an attempt that was issued its epoch
+  its-issued : (v : Version) → Contains s.durable.versions v → top o < v.epoch.0 → Contains w.issued (v.by, v.epoch)
+  its-issued v i above = by v.done refl
+    where
+      by : (b : Bool) → v.done ≡ b → Contains w.issued (v.by, v.epoch)
+      by false is =
+          let e = stands.unsettled v i is in
+          let its = ((k.facts.attempts.each v.by).entries.one t e.entry (entry-here v.by ∙ e.found)).issued in
+          contains-from_has w.issued (v.by, v.epoch) (subst (λ f. Has (v.by, f) w.issued) e.epoch its)
       by true is = elim (stands.done v i is) [
         | inl j ↦ let low : v.epoch.0 ≤ top o = before t v j in absurd (omega (arith, low, above))
-        | inr j ↦ j.0
+        | inr j ↦ k.versions.issued v.by v.epoch j.0
       ]
 
-  no-version : (x : AttemptId) (ep : Option Epoch) (tracker : Epoch) → HasItsEpoch r o w t s x ep tracker → ((f : Epoch) → Contains h.decided (x, f) → ⊥) → (e : Epoch) → ep ≡ Some e → (v : Version) → Has v s.durable.versions → v.epoch.0 ≡ e.0 → ⊥
-  no-version x (Some f) tracker epochs undecided e is v i same =
-      undecided v.epoch (subst (λ y. Contains h.decided (y, v.epoch)) (its.alone v.by v.epoch (k.versions.issued v.by v.epoch there) (same ∙ ap (λ g. g.0) (sym one))) there)
+  -- no version has the epoch of an attempt that has no entry here and isn't decided
+  no-version : (x : AttemptId) (e : Epoch) → entry_of s.durable x ≡ None → ((f : Epoch) → Decided h x f → ⊥) → top o < e.0 → ((y : AttemptId) (f : Epoch) → Contains w.issued (y, f) → f.0 ≡ e.0 → y ≡ x) → (v : Version) → Has v s.durable.versions → v.epoch.0 ≡ e.0 → ⊥
+  no-version x e absent undecided above alone v i same = by v.done refl
     where
-      one : f ≡ e
-      one = cc
+      here-too : Contains s.durable.versions v
+      here-too = contains-from_has s.durable.versions v i
 
-      its : IsItsEpoch o w x (Some f) f
-      its = epochs 0 f refl
+      up : top o < v.epoch.0
+      up = omega (arith, above, same)
 
-      there : Contains h.decided (v.by, v.epoch)
-      there = decided v (contains-from_has s.durable.versions v i) (let up : top o < f.0 = its.above in let e' : v.epoch.0 ≡ f.0 = same ∙ ap (λ g. g.0) (sym one) in omega (arith, up, e'))
-  no-version x None tracker epochs undecided e is v i same = let no : ⊥ = cc (is) in no
+      mine : v.by ≡ x
+      mine = alone v.by v.epoch (its-issued v here-too up) same
 
-  some-writes : (ws : List MinorWrite) → ws ≢ [] → 0 < length ws
-  some-writes [] some = absurd (some refl)
-  some-writes (m ∷ ws) some = omega arith
+      by : (b : Bool) → v.done ≡ b → ⊥
+      by false is =
+          let e' = stands.unsettled v here-too is in
+          let found : entry_of s.durable x ≡ Some e'.entry = ap (entry_of s.durable) (sym mine) ∙ e'.found in
+          let no : ⊥ = cc in no
+      by true is = elim (stands.done v here-too is) [
+        | inl j ↦ let low : v.epoch.0 ≤ top o = before t v j in let no : ⊥ = omega (arith, low, up) in no
+        | inr j ↦ undecided v.epoch (subst (λ y. Decided h y v.epoch) mine j.0)
+      ]
 
-  can-commit : (x : AttemptId) (ep : Option Epoch) (tracker : Epoch) (ws : List MinorWrite) → AreEnlisted r.script s.durable → IsCommitRight r h t x ws → HasItsEpoch r o w t s x ep tracker → CanCommit s.durable x ep ws
-  can-commit x ep tracker ws enlisted c epochs = record {
-    form = c.form;
-    some = some-writes ws c.some;
-    fit = all-from_has (λ m. IfSome (write_path m.write).obj (λ obj. ClassFits obj.class 1)) ws (λ m i. fits-one m.write (c.fits m (contains-from_has ws m i)));
-    enlisted = all-from_has (λ m. is_enlisted s.durable (write_path m.write).cont ≡ true) ws (λ m i. known m (subst (Has m) c.its i));
-    absent = no-entry h s.durable x c.undecided (λ e i. k.versions.entries t s e here i);
-    new = λ e is. all-from_has (λ v. v.epoch.0 ≡ e.0 → ⊥) s.durable.versions (no-version x ep tracker epochs c.undecided e is);
-  }
-    where
-      fits-one : (z : Write) → FitsTargets r z → IfSome (write_path z).obj (λ obj. ClassFits obj.class 1)
-      fits-one z f = subst (λ p. IfSome p (λ obj. ClassFits obj.class 1)) (sym f.1) (subst (ClassFits f.0.class) k.facts.one.script f.2)
+  -- an attempt that has no entry at its leader isn't decided
+  undecided-there : (x : AttemptId) → entry_at w (leader_of r x) x ≡ None → (f : Epoch) → Decided h x f → ⊥
+  undecided-there x none f d = let held' = (k.facts.attempts.each x).entries.held_by_leader f d in let found : entry_at w (leader_of r x) x ≡ Some held'.entry = held'.found in let no : ⊥ = cc in no
 
-      known : (m : MinorWrite) → Has m (minor_writes 0 (attempt_ops r.script x)) → is_enlisted s.durable (write_path m.write).cont ≡ true
-      known m i = enlisted (write_path m.write).cont
-          (cont-declared r (write_path m.write) k.facts.form
-          (write-declared r.script.objs m.write (writes-declared r.script.objs (attempt_ops r.script x) (ops-form r.script.targets r.script x k.facts.form) m i)))
+  -- nor is one that has none at another member
+  undecided-at : (x : AttemptId) → IsOther r x t → entry_of s.durable x ≡ None → (f : Epoch) → Decided h x f → ⊥
+  undecided-at x other none f d =
+      let held' = (k.facts.attempts.each x).entries.held_by_others f t d other in
+      let found : entry_of s.durable x ≡ Some held'.entry = sym (entry-here x) ∙ held'.found in let no : ⊥ = cc in no
 
-  can-serve : (x : AttemptId) (op group : ℕ) (read : Read) (snapshot : Bool) → AreEnlisted r.script s.durable → IsFetchRight r t x op group read snapshot → CanServe s.durable read snapshot
-  can-serve x op group read snapshot enlisted f = record {
-    now = f.now;
-    form = f.form;
-    enlisted = enlisted (read_path read).cont (cont-declared r (read_path read) k.facts.form
-        (read-declared r.script.objs read (question-form r.script.objs a.stage a.op read (all-at (IsOpInForm r.script.objs) (attempt_ops r.script x) a.at.0 a.op (ops-form r.script.targets r.script x k.facts.form) a.at.2) a.asks)));
-  }
-    where
-      a : IsOfAttempt r (record { by = x; op = op; group = group; target = t; read = read; epoch = record { 0 = 0 }; answer = answer.Absent })
-      a = f.asked (record { 0 = 0 }) answer.Absent
+  module _ (enlisted : AreEnlisted r.script s.durable) where
+    known : (x : AttemptId) (m : MinorWrite) → Has m (writes_of r x) → is_enlisted s.durable (write_path m.write).cont ≡ true
+    known x m i = enlisted (write_path m.write).cont
+        (cont-declared r (write_path m.write) k.facts.form
+        (write-declared r.script.objs m.write (writes-declared r.script.objs (attempt_ops r.script x) (ops-form r.script.targets r.script x k.facts.form) m i)))
 
-  -- a message of a kind that is heard can be heard
-  pub can-hear : (m : Message) → AreEnlisted r.script s.durable → is_heard m ≡ true → IsMessageRight r o h w t s m → CanHear s.durable m
-  can-hear (message.Fetch x op group ep first tracker read snapshot) enlisted of_kind right = can-serve x op group read snapshot enlisted right.0
-  can-hear (message.Commit x ep first tracker ws) enlisted of_kind right = can-commit x ep tracker ws enlisted right.0 right.1
-  can-hear m enlisted of_kind right = let no : ⊥ = cc in absurd no
+    -- some of an attempt's writes can be stored where it has no entry, isn't decided, and an epoch is its own
+    can-store : (x : AttemptId) (ep : Option Epoch) (ws : List MinorWrite) → AreWritesInForm ws → ((m : MinorWrite) → Has m ws → Has m (writes_of r x)) → entry_of s.durable x ≡ None → ((f : Epoch) → Decided h x f → ⊥)
+        → ((e : Epoch) → ep ≡ Some e → IsItsEpoch o w x ep e) → CanStore s.durable x ep ws
+    can-store x ep ws form its absent undecided own = record {
+      form = form;
+      enlisted = all-from_has (λ m. is_enlisted s.durable (write_path m.write).cont ≡ true) ws (λ m i. known x m (its m i));
+      absent = absent;
+      new = λ e is. all-from_has (λ v. v.epoch.0 ≡ e.0 → ⊥) s.durable.versions (no-version x e absent undecided (own e is).above (own e is).alone);
+    }
+
+    fits-each : (x : AttemptId) (m : MinorWrite) → Has m (writes_of r x) → FitsTargets r m.write
+    fits-each x m i = given.fits x m (contains-from_has (writes_of r x) m i)
+
+    can-commit : (l : Letter) (x : AttemptId) (ep first : Option Epoch) (tracker : Epoch) (ws : List MinorWrite) → Contains w.messages l → l.to ≡ target t → l.message ≡ message.Commit x ep first tracker ws → IsMessageRight r o w t s (message.Commit x ep first tracker ws) → CanCommit r t s.durable x ep ws
+    can-commit l x ep first tracker ws among to says right = record {
+      store = can-store x ep ws (subst AreWritesInForm (sym its) (given.forms x)) (λ m i. subst (Has m) its i) (sym (entry-here x) ∙ ap (λ u. entry_at w u x) leads ∙ new.unstored) (undecided-there x new.unstored) epochs;
+      some = subst (λ u. 0 < length (own_writes (target_plan r u) ws)) (sym leads) (subst (λ vs. 0 < length (own_writes (target_plan r (leader_of r x)) vs)) (sym its) (leader-writes r x (fits-each x) (λ none. right.0.some (its ∙ none))));
+      fit = all-from_has (λ m. IfSome (write_path m.write).obj (λ obj. ClassFits obj.class r.script.targets)) ws (λ m i. fits-one m.write (fits-each x m (subst (Has m) its i)));
+    }
+      where
+        its : ws ≡ writes_of r x
+        its = right.0.its
+
+        leads : t ≡ leader_of r x
+        leads = right.0.leads
+
+        new : IsCommitNew r h w l.to x ep ws
+        new = (commits-are-new r o h w k.facts).commits l x ep first tracker ws (has-from_contains w.messages l among) says
+
+        epochs : (e : Epoch) → ep ≡ Some e → IsItsEpoch o w x ep e
+        epochs e is = right.1 0 e (ap (request_epoch (target_plan r t) s.memory 0 tracker) is)
+
+        fits-one : (z : Write) → FitsTargets r z → IfSome (write_path z).obj (λ obj. ClassFits obj.class r.script.targets)
+        fits-one z f = subst (λ p. IfSome p (λ obj. ClassFits obj.class r.script.targets)) (sym f.1) f.2
+
+    can-prepare : (l : Letter) (e : Entry) (first : Option Epoch) (ws : List MinorWrite) (inc : ℕ) → Contains w.messages l → l.to ≡ target t → l.message ≡ message.Prepare e first ws inc → IsPrepareRight r h w l.from l.to e ws inc → CanPrepare r s.durable e ws
+    can-prepare l e first ws inc among to says p = record {
+      store = can-store e.attempt (Some e.epoch) ws (subst AreWritesInForm (sym mine) (some-in_form (is_written_at r.script.targets t) (writes_of r e.attempt) (given.forms e.attempt)))
+          (λ m i. (has-from_filter (is_written_at r.script.targets t) (writes_of r e.attempt) m (subst (Has m) mine i)).0) absent (undecided-at e.attempt other absent) epochs;
+      some = subst (λ vs. 0 < length vs) (sym mine) (others-write r e.attempt t other);
+      undecided = ap (λ z. z.committed) p.entry;
+      unconfirmed = ap (λ z. z.confirmed) p.entry;
+      leader = (its-place l e first ws inc says among).leader;
+      members = subst (λ n. n < 2 ^ r.script.targets) (sym (ap (λ z. z.members) p.entry)) (members-below r e.attempt k.facts.some);
+    }
+      where
+        same : p.way.member ≡ t
+        same = ap (λ a. a.number) (sym p.way.receiver ∙ to)
+
+        other : IsOther r e.attempt t
+        other = subst (IsOther r e.attempt) same p.way.other
+
+        mine : ws ≡ writes_at r.script.targets t (writes_of r e.attempt)
+        mine = p.writes ∙ ap (λ m. writes_at r.script.targets m (writes_of r e.attempt)) same
+
+        absent : entry_of s.durable e.attempt ≡ None
+        absent = sym (entry-here e.attempt) ∙ (k.facts.attempts.each e.attempt).awaited.before t l (has-from_contains w.messages l among) (prepare-to l t e first ws inc says to)
+
+        epochs : (f : Epoch) → Some e.epoch ≡ Some f → IsItsEpoch o w e.attempt (Some e.epoch) f
+        epochs f is = subst (λ g. IsItsEpoch o w e.attempt (Some e.epoch) g) (let one : e.epoch ≡ f = cc in one) (own-epoch r o w e.attempt e.epoch k.facts.judged.epochs (contains-from_has w.issued (e.attempt, e.epoch) p.issued))
+
+        its-place : (l : Letter) (e : Entry) (first : Option Epoch) (ws : List MinorWrite) (inc : ℕ) → l.message ≡ message.Prepare e first ws inc → Contains w.messages l → IsPlaced (crowd r.script) e
+        its-place l e first ws inc says among = (subst (ComesFrom (crowd r.script) l.from) says (k.facts.addressed.letters l among).comes).1
+
+    can-serve : (x : AttemptId) (op group : ℕ) (read : Read) (snapshot : Bool) → IsFetchRight r t x op group read snapshot → CanServe s.durable read snapshot
+    can-serve x op group read snapshot f = record {
+      now = f.now;
+      form = f.form;
+      enlisted = enlisted (read_path read).cont (cont-declared r (read_path read) k.facts.form
+          (read-declared r.script.objs read (question-form r.script.objs a.stage a.op read (all-at (IsOpInForm r.script.objs) (attempt_ops r.script x) a.at.0 a.op (ops-form r.script.targets r.script x k.facts.form) a.at.2) a.asks)));
+    }
+      where
+        a : IsOfAttempt r (record { by = x; op = op; group = group; target = t; read = read; epoch = record { 0 = 0 }; answer = answer.Absent })
+        a = f.asked (record { 0 = 0 }) answer.Absent
+
+    -- where a target is another member of an attempt, an entry of it here names another leader
+    led-elsewhere : (x : AttemptId) (from to : ActorId) → to ≡ target t → IsFromLeader r x from to → IsLedElsewhere t s.durable x
+    led-elsewhere x from to at way e found mine =
+        let same : way.member ≡ t = ap (λ a. a.number) (sym way.receiver ∙ at) in
+        let its = (k.facts.attempts.each x).entries.one t e (entry-here x ∙ found) in
+        other-no_leader r x t (subst (IsOther r x) same way.other) (sym mine ∙ its.leader)
+
+    from-target : (a : ActorId) → IsTarget (crowd r.script) a → a.number < r.script.targets
+    from-target a it = subst (λ b. b.number < r.script.targets) (sym it.2) it.1
+
+    -- a letter that goes to a target can be heard there
+    pub can-hear : (l : Letter) → Contains w.messages l → l.to ≡ target t → s.life ≡ Running → CanHear r t s.durable l.from l.message
+    can-hear l among to runs = by l.message refl
+      where
+        right : (m : Message) → l.message ≡ m → IsMessageRight r o w t s m
+        right m it = subst (IsMessageRight r o w t s) it (given.asked l t s among to here runs)
+
+        tells : (m : Message) → l.message ≡ m → IsTrueOf r h w l.from l.to m
+        tells m it = subst (IsTrueOf r h w l.from l.to) it (k.facts.attempts.letters l (has-from_contains w.messages l among))
+
+        comes : (m : Message) → l.message ≡ m → ComesFrom (crowd r.script) l.from m
+        comes m it = subst (ComesFrom (crowd r.script) l.from) it (k.facts.addressed.letters l among).comes
+
+        goes : (m : Message) → l.message ≡ m → GoesTo (crowd r.script) l.to m
+        goes m it = subst (GoesTo (crowd r.script) l.to) it (k.facts.addressed.letters l among).goes
+
+        no-client : (n : ℕ) → l.to ≡ client n → ⊥
+        no-client n it = let bad : true ≡ false = ap (λ a. a.client) (sym it ∙ to) in let no : ⊥ = cc in no
+
+        by : (m : Message) → l.message ≡ m → CanHear r t s.durable l.from m
+        by (message.Fetch x op group ep first tracker read snapshot) it = can-serve x op group read snapshot (right (message.Fetch x op group ep first tracker read snapshot) it).0
+        by (message.Commit x ep first tracker ws) it = can-commit l x ep first tracker ws among to it (right (message.Commit x ep first tracker ws) it)
+        by (message.Prepare e first ws inc) it = can-prepare l e first ws inc among to it (tells (message.Prepare e first ws inc) it)
+        by (message.Ack x inc refusal) it = from-target l.from (comes (message.Ack x inc refusal) it)
+        by (message.Mark inc marks) it = λ x committed i. led-elsewhere x l.from l.to to (tells (message.Mark inc marks) it x committed i).way
+        by (message.Marked inc ids) it = from-target l.from (comes (message.Marked inc ids) it)
+        by (message.Query x ask) it = tt
+        by (message.Verdict x ask inc v) it = led-elsewhere x l.from l.to to (tells (message.Verdict x ask inc v) it).way
+        by (message.Fetched x op group ep b) it = absurd (no-client x.client (goes (message.Fetched x op group ep b) it).1)
+        by (message.Ended x ep how) it = absurd (no-client x.client (goes (message.Ended x ep how) it).1)
+        by (message.Tell tracker) it = let c = goes (message.Tell tracker) it in absurd (no-client c.0 c.2)
+        by m it = absurd (goes m it)
 
 pub requests-can-be-heard : RequestsCanBeHeard
-requests-can-be-heard r o held h w l t s before k requests enlisted among to here runs =
-    can-hear r o held h w t s before k here l.message enlisted (requests l among (ap (λ a. a.client) to)) (right.asked l t s among to here runs)
-  where
-    right : Given r o held h w
-    right = requests-are-right r o held h w k.facts before
+requests-can-be-heard r o held h w l t s before k enlisted among to here runs = can-hear r o held h w before k t s here enlisted l among to runs

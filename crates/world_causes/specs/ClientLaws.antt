@@ -1,8 +1,13 @@
 -- Each move of a client, and its hearing of a message, keeps that outcomes show their causes.
-use Rattle.std.specs.Prelude.{ℕ, ◌≡◌, ◌≤◌, ◌+◌, ◌++◌, ◌/◌, ◌⊎◌, max, nat_lt, Bool, true, false, ◌&&◌, List, [], ◌∷◌, map, Contains, slice_get, is_some, Option, Some, None, refl, if◌then◌else◌}
+use Rattle.std.specs.List.{list_any}
+use Rattle.std.specs.Prelude.{ℕ, ◌≡◌, ◌≤◌, ◌+◌, ◌++◌, ◌/◌, ◌⊎◌, ◌==◌, ◌||◌, Any, max, nat_lt, Bool, true, false, ◌&&◌, List, [], ◌∷◌, map, Contains, slice_get, is_some, Option, Some, None, refl, if◌then◌else◌}
 use Rattle.std.proofs.Common.{append-nil, sym, ◌∙◌, ap, subst, inl, inr, arith}
+use Rattle.std.proofs.Math.ListN.{set}
+use Rattle.std.proofs.lemmas.Bool.{eqb-true}
 use Rattle.daos_base.specs.declared.answer.Answer.{Answer}
+use Rattle.daos_base.specs.declared.entry.Verdict.TheVariants as verdict
 use Rattle.daos_base.specs.declared.epoch.Epoch.{Epoch}
+use Rattle.daos_base.specs.declared.id.AttemptId.{AttemptId}
 use Rattle.daos_base.specs.declared.operation.Cond.{Cond}
 use Rattle.daos_base.specs.declared.operation.MinorWrite.{MinorWrite}
 use Rattle.daos_base.specs.declared.operation.Op.{Op}
@@ -14,16 +19,17 @@ use Rattle.daos_base.specs.declared.report.Line.{Line}
 use Rattle.daos_base.specs.declared.report.Line.TheVariants as line
 use Rattle.daos_base.specs.declared.script.Command.{Command}
 use Rattle.daos_base.specs.declared.script.Command.TheVariants.{Run, Snap, Aggregate, Tell, Skip}
-use Rattle.daos_laws.specs.Members.{Has, contains-from_has, has-cases, has-from_contains, has-from_map}
+use Rattle.daos_laws.specs.Members.{Has, contains-from_has, has-cases, has-from_contains, has-from_map, has-left, has-right}
 use Rattle.daos_messages.specs.declared.message.Message.{Message}
+use Rattle.daos_messages.specs.declared.message.Message.TheVariants as message
 use Rattle.daos_messages.specs.declared.message.Post.{Post}
 use Rattle.daos_messages.specs.declared.message.Reply.{Reply}
 use Rattle.daos_messages.specs.declared.message.Reply.TheVariants as reply
 use Rattle.daos_model.specs.Accesses.{minor_writes, op_path}
-use Rattle.daos_model.specs.Attempts.{is_restart, snapshot_of_command, tries}
+use Rattle.daos_model.specs.Attempts.{EachTry, is_of_client, is_restart, snapshot_of_command, tries, up_to_last_of}
 use Rattle.daos_model.specs.Conditions.{holds_where}
 use Rattle.daos_model.specs.Laws.{tries-append}
-use Rattle.daos_model.specs.Opening.{Opening}
+use Rattle.daos_model.specs.Opening.{Opening, top}
 use Rattle.world_base.specs.declared.client.ClientPlan.{ClientPlan}
 use Rattle.world_base.specs.declared.client.ClientState.{ClientState}
 use Rattle.world_base.specs.declared.client.Present.{Present}
@@ -31,11 +37,13 @@ use Rattle.world_base.specs.declared.client.Stage.{Stage}
 use Rattle.world_base.specs.declared.client.Stage.TheVariants as stage
 use Rattle.world_base.specs.declared.letter.Letter.{Letter}
 use Rattle.world_base.specs.declared.world.World.{World}
-use Rattle.world_base.specs.ClientTurns.{Move, after_end, asks_or_goes, at_present, attempt_id, attempt_moves, begins_at, begun, command_at, command_moves, commits, condition_told, ends, first_epoch, goes, greatest, group_count, group_told, heard, hears_epochs, is_yes, joined, knows, listed, moved, moves_at, next_command, next_stage, op_moves, op_of, op_told, question, replied, rests, run_moves, snaps_known, told_at, told_by_message, waits}
+use Rattle.world_base.specs.ClientTurns.{Move, after_end, asks_or_goes, at_present, attempt_id, attempt_moves, begins_at, begun, command_at, command_moves, commits, condition_told, ended, ends, first_epoch, goes, greatest, group_count, group_told, heard, hears_epochs, is_yes, joined, knows, listed, moved, moves_at, next_command, next_stage, op_moves, op_of, op_told, question, replied, rests, run_moves, snaps_known, told_at, told_by_message, waits}
+use Rattle.world_epochs.specs.Epochs.{Epochs, IsPresent}
+use Rattle.world_epochs.specs.Lists.{each-push, tries-push}
+use Rattle.world_epochs.specs.Talking.{TalksOnce, silent-not, silent-unless, talks-to}
 use Rattle.world_events.specs.Events.{Rules, client_plan, with_client, with_epoch}
-use Rattle.world_events.specs.Letters.{Takes, client, letter_of, letters_of}
-use Rattle.world_events.specs.Steps.{KeptByCounting, KeptByMoves, after_client, after_move, without}
-use Rattle.world_lines.specs.FilledLaws.{tries-filled}
+use Rattle.world_events.specs.Letters.{Takes, client, is_tell, letter_of, letters_of, talk_of}
+use Rattle.world_events.specs.Steps.{after_client, after_move, without}
 use Rattle.world_lines.specs.Lines.{filled}
 use Rattle.world_talks.specs.AskLaws.{move-is, waiting-rests}
 use Rattle.world_talks.specs.Asked.{ARead, ASnapshot, AnAggregation, Asked, Asking, IsMove, ItsWrites, Silent, Telling}
@@ -43,8 +51,11 @@ use Rattle.world_talks.specs.Conversation.{Conversation}
 use Rattle.world_talks.specs.HearLaws.{replied-silent}
 use Rattle.world_talks.specs.Hearing.{ATracker, AReply, AnEnd, IsHearing, hearing-is}
 use Rattle.world_talks.specs.TalkLaws.{left-is-among, taken-is-among}
-use Rattle.world_causes.specs.Causes.{Causes, Dated, MessageShows, ReplyShows, Shows, limit}
-use Rattle.world_causes.specs.Growth.{at-set}
+use Rattle.world_causes.specs.Causes.{Causes, Dated, EndsOf, IsAskedFor, IsUnanswered, IsUndecidedFor, MessageShows, ReplyShows, Shows, Stored, epochs_told, is_try, limit}
+use Rattle.world_causes.specs.Growth.{at-set, message-more}
+use Rattle.world_causes.specs.ReadTurns.{none-told}
+use Rattle.world_causes.specs.Requests.{present-unended}
+use Rattle.world_causes.specs.Turns.{HasNoLine}
 
 -- ---- moves that tell nothing new
 
@@ -55,18 +66,25 @@ IsQuiet (outcome.CondFailed op) = Unit {0}
 IsQuiet (outcome.Restart why) = ⊥
 IsQuiet (outcome.NoSpace target need free) = ⊥
 IsQuiet outcome.EpochsSpent = ⊥
-IsQuiet outcome.NoSnapshot = Unit {0}
+IsQuiet outcome.NoSnapshot = ⊥
 IsQuiet (outcome.Unknown target) = ⊥
+
+-- a line is of this attempt, if there is one
+abbrev pub IsLineOf : AttemptId → Option Line → Type 0
+IsLineOf x None = Unit {0}
+IsLineOf x (Some (line.Try a)) = a.id ≡ x
+IsLineOf x (Some l) = ⊥
 
 abbrev pub IsQuietLine : Option Line → Type 0
 IsQuietLine None = Unit {0}
 IsQuietLine (Some (line.Try a)) = IsQuiet a.outcome
-IsQuietLine (Some l) = Unit {0}
+IsQuietLine (Some l) = ⊥
 
--- a move that leaves the tracker, and tells at most of an outcome that shows nothing
-pub record IsMild (c : ClientState) (m : Move) : Type 0 where
+-- a move that leaves the tracker, and tells at most of an outcome of this attempt that shows nothing
+pub record IsMild (x : AttemptId) (c : ClientState) (m : Move) : Type 0 where
   pub tracker : m.state.tracker ≡ c.tracker
   pub quiet : IsQuietLine m.line
+  pub own : IsLineOf x m.line
 
 ends-tracker : (p : ClientPlan) (c : ClientState) (o : Option Command) (a : Present) (how : Outcome) → (after_end p c o a how).tracker ≡ c.tracker
 ends-tracker p c None a how = refl
@@ -76,212 +94,373 @@ ends-tracker p c (Some d) a how = by (is_restart how && nat_lt (a.attempt + 1) p
     by true = refl
     by false = refl
 
-ends-mild : (p : ClientPlan) (c : ClientState) (a : Present) (how : Outcome) → IsQuiet how → IsMild c (ends p c a how)
-ends-mild p c a how k = record { tracker = ends-tracker p c (command_at p c) a how; quiet = k }
+ends-mild : (p : ClientPlan) (c : ClientState) (a : Present) (how : Outcome) → IsQuiet how → IsMild (attempt_id p c a) c (ends p c a how)
+ends-mild p c a how k = record { tracker = ends-tracker p c (command_at p c) a how; quiet = k; own = refl }
 
-commits-mild : (p : ClientPlan) (c : ClientState) (a : Present) (ws : List MinorWrite) → IsMild c (commits p c a ws)
+commits-mild : (p : ClientPlan) (c : ClientState) (a : Present) (ws : List MinorWrite) → IsMild (attempt_id p c a) c (commits p c a ws)
 commits-mild p c a [] = ends-mild p c a outcome.Committed tt
-commits-mild p c a (w ∷ ws) = record { tracker = refl; quiet = tt }
+commits-mild p c a (w ∷ ws) = record { tracker = refl; quiet = tt; own = tt }
 
-asks-mild : (p : ClientPlan) (c : ClientState) (a : Present) (snapshot : Bool) (q : Option Read) → IsMild c (asks_or_goes p c a snapshot q)
-asks-mild p c a snapshot None = record { tracker = refl; quiet = tt }
-asks-mild p c a snapshot (Some q) = record { tracker = refl; quiet = tt }
+asks-mild : (p : ClientPlan) (c : ClientState) (a : Present) (snapshot : Bool) (q : Option Read) → IsMild (attempt_id p c a) c (asks_or_goes p c a snapshot q)
+asks-mild p c a snapshot None = record { tracker = refl; quiet = tt; own = tt }
+asks-mild p c a snapshot (Some q) = record { tracker = refl; quiet = tt; own = tt }
 
-op-mild : (p : ClientPlan) (c : ClientState) (a : Present) (ops : List Op) (snapshot : Bool) (o : Option Op) → IsMild c (op_moves p c a ops snapshot o)
+op-mild : (p : ClientPlan) (c : ClientState) (a : Present) (ops : List Op) (snapshot : Bool) (o : Option Op) → IsMild (attempt_id p c a) c (op_moves p c a ops snapshot o)
 op-mild p c a ops snapshot None = commits-mild p c a (minor_writes 0 ops)
 op-mild p c a ops snapshot (Some op) = asks-mild p c a snapshot (question a.stage op)
 
-run-mild : (p : ClientPlan) (c : ClientState) (a : Present) (ops : List Op) (turns : List ℕ) (snapshot : Bool) (s : Stage) → IsMild c (run_moves p c a ops turns snapshot s)
-run-mild p c a ops turns snapshot stage.Skip = record { tracker = refl; quiet = tt }
+run-mild : (p : ClientPlan) (c : ClientState) (a : Present) (ops : List Op) (turns : List ℕ) (snapshot : Bool) (s : Stage) → IsMild (attempt_id p c a) c (run_moves p c a ops turns snapshot s)
+run-mild p c a ops turns snapshot stage.Skip = record { tracker = refl; quiet = tt; own = tt }
 run-mild p c a ops turns snapshot stage.Cond = op-mild p c a ops snapshot (slice_get ops a.op)
 run-mild p c a ops turns snapshot stage.Act = op-mild p c a ops snapshot (slice_get ops a.op)
 
-attempt-mild : (p : ClientPlan) (c : ClientState) (a : Present) (d : Command) → IsMild c (attempt_moves p c a d)
+attempt-mild : (p : ClientPlan) (c : ClientState) (a : Present) (d : Command) → IsMild (attempt_id p c a) c (attempt_moves p c a d)
 attempt-mild p c a (Run ops turns snapshot) = run-mild p c a ops turns (is_some snapshot) a.stage
-attempt-mild p c a (Snap name cont) = record { tracker = refl; quiet = tt }
-attempt-mild p c a (Aggregate cont) = record { tracker = refl; quiet = tt }
-attempt-mild p c a (Tell n) = record { tracker = refl; quiet = tt }
-attempt-mild p c a (Skip turns) = record { tracker = refl; quiet = tt }
+attempt-mild p c a (Snap name cont) = record { tracker = refl; quiet = tt; own = tt }
+attempt-mild p c a (Aggregate cont) = record { tracker = refl; quiet = tt; own = tt }
+attempt-mild p c a (Tell n) = record { tracker = refl; quiet = tt; own = tt }
+attempt-mild p c a (Skip turns) = record { tracker = refl; quiet = tt; own = tt }
 
-begins-mild : (p : ClientPlan) (c : ClientState) (snapshot : Option (List ℕ)) (e : Option Epoch) → IsMild c (begins_at p c snapshot e)
-begins-mild p c None e = record { tracker = refl; quiet = tt }
-begins-mild p c (Some name) None = ends-mild p c (begun 0 None None) outcome.NoSnapshot tt
-begins-mild p c (Some name) (Some e) = record { tracker = refl; quiet = tt }
+begins-mild : (p : ClientPlan) (c : ClientState) (snapshot : Option (List ℕ)) (e : Option Epoch) → snapshot ≡ None → IsMild (attempt_id p c (begun 0 None None)) c (begins_at p c snapshot e)
+begins-mild p c None e now = record { tracker = refl; quiet = tt; own = tt }
+begins-mild p c (Some name) e now = let no : ⊥ = cc in absurd no
 
-command-mild : (p : ClientPlan) (c : ClientState) (d : Command) → IsMild c (command_moves p c d)
-command-mild p c (Run ops turns snapshot) = begins-mild p c snapshot (first_epoch c.known snapshot)
-command-mild p c (Snap name cont) = begins-mild p c None (first_epoch c.known None)
-command-mild p c (Aggregate cont) = begins-mild p c None (first_epoch c.known None)
-command-mild p c (Tell n) = record { tracker = refl; quiet = tt }
-command-mild p c (Skip turns) = record { tracker = refl; quiet = tt }
+command-mild : (p : ClientPlan) (c : ClientState) (d : Command) → snapshot_of_command d ≡ None → IsMild (attempt_id p c (begun 0 None None)) c (command_moves p c d)
+command-mild p c (Run ops turns snapshot) now = begins-mild p c snapshot (first_epoch c.known snapshot) now
+command-mild p c (Snap name cont) now = begins-mild p c None (first_epoch c.known None) refl
+command-mild p c (Aggregate cont) now = begins-mild p c None (first_epoch c.known None) refl
+command-mild p c (Tell n) now = record { tracker = refl; quiet = tt; own = tt }
+command-mild p c (Skip turns) now = record { tracker = refl; quiet = tt; own = tt }
 
-moves-mild : (p : ClientPlan) (c : ClientState) (o : Option Command) (present : Option Present) → IsMild c (moves_at p c o present)
-moves-mild p c None present = record { tracker = refl; quiet = tt }
-moves-mild p c (Some d) None = command-mild p c d
-moves-mild p c (Some d) (Some a) = attempt-mild p c a d
+-- the attempt that a client is at, or that it begins
+abbrev pub attempt_here : ClientPlan → ClientState → Option Present → AttemptId
+attempt_here p c None = attempt_id p c (begun 0 None None)
+attempt_here p c (Some a) = attempt_id p c a
 
--- each move is of this kind
-pub moved-mild : (p : ClientPlan) (c : ClientState) → IsMild c (moved p c)
+-- a command, if there is one, reads at no snapshot
+abbrev pub ReadsNow : Option Command → Type 0
+ReadsNow o = (d : Command) → o ≡ Some d → snapshot_of_command d ≡ None
+
+moves-mild : (p : ClientPlan) (c : ClientState) (o : Option Command) (present : Option Present) → ReadsNow o → IsMild (attempt_here p c present) c (moves_at p c o present)
+moves-mild p c None present now = record { tracker = refl; quiet = tt; own = tt }
+moves-mild p c (Some d) None now = command-mild p c d (now d refl)
+moves-mild p c (Some d) (Some a) now = attempt-mild p c a d
+
+-- each move is of this kind; one of a client that waits tells nothing
+pub moved-mild : (p : ClientPlan) (c : ClientState) → ReadsNow (command_at p c) → IsMild (attempt_here p c c.present) c (moved p c)
 unfolding moved
-moved-mild p c = by (waits c)
+moved-mild p c now = by (waits c)
   where
-    by : (b : Bool) → IsMild c (if b then rests c else moves_at p c (command_at p c) c.present)
-    by true = record { tracker = refl; quiet = tt }
-    by false = moves-mild p c (command_at p c) c.present
+    by : (b : Bool) → IsMild (attempt_here p c c.present) c (if b then rests c else moves_at p c (command_at p c) c.present)
+    by true = record { tracker = refl; quiet = tt; own = tt }
+    by false = moves-mild p c (command_at p c) c.present now
 
 -- ---- an answer that is heard
 
-condition-mild : (p : ClientPlan) (c : ClientState) (a : Present) (cond : Cond) (there : Bool) → IsMild c (condition_told p c a cond there)
+condition-mild : (p : ClientPlan) (c : ClientState) (a : Present) (cond : Cond) (there : Bool) → IsMild (attempt_id p c a) c (condition_told p c a cond there)
 condition-mild p c a cond there = by (holds_where there cond)
   where
     told : Present
     told = record a { conds = a.conds ++ (a.op, there) ∷ [] }
 
-    by : (b : Bool) → IsMild c (if b then goes (at_present (next_stage stage.Cond told) c) else ends p c told (outcome.CondFailed a.op))
-    by true = record { tracker = refl; quiet = tt }
+    by : (b : Bool) → IsMild (attempt_id p c a) c (if b then goes (at_present (next_stage stage.Cond told) c) else ends p c told (outcome.CondFailed a.op))
+    by true = record { tracker = refl; quiet = tt; own = tt }
     by false = ends-mild p c told (outcome.CondFailed a.op) tt
 
-told-at-mild : (p : ClientPlan) (c : ClientState) (a : Present) (cond : Cond) (s : Stage) (b : Answer) → IsMild c (told_at p c a cond s b)
-told-at-mild p c a cond stage.Skip b = record { tracker = refl; quiet = tt }
+told-at-mild : (p : ClientPlan) (c : ClientState) (a : Present) (cond : Cond) (s : Stage) (b : Answer) → IsMild (attempt_id p c a) c (told_at p c a cond s b)
+told-at-mild p c a cond stage.Skip b = record { tracker = refl; quiet = tt; own = tt }
 told-at-mild p c a cond stage.Cond b = condition-mild p c a cond (is_yes b)
-told-at-mild p c a cond stage.Act b = record { tracker = refl; quiet = tt }
+told-at-mild p c a cond stage.Act b = record { tracker = refl; quiet = tt; own = tt }
 
-group-mild : (p : ClientPlan) (c : ClientState) (a : Present) (op : Op) (b : Answer) → IsMild c (group_told p c a op b)
+group-mild : (p : ClientPlan) (c : ClientState) (a : Present) (op : Op) (b : Answer) → IsMild (attempt_id p c a) c (group_told p c a op b)
 group-mild p c a op b = by (nat_lt (a.group + 1) (group_count (op_path op).obj (op_path op).dkey p.targets))
   where
     more : Present
     more = record a { group = a.group + 1; found = Some (joined a.found b) }
 
-    by : (l : Bool) → IsMild c (if l then goes (at_present more c) else told_at p c a op.cond a.stage (joined a.found b))
-    by true = record { tracker = refl; quiet = tt }
+    by : (l : Bool) → IsMild (attempt_id p c a) c (if l then goes (at_present more c) else told_at p c a op.cond a.stage (joined a.found b))
+    by true = record { tracker = refl; quiet = tt; own = tt }
     by false = told-at-mild p c a op.cond a.stage (joined a.found b)
 
-answer-mild : (p : ClientPlan) (c : ClientState) (a : Present) (b : Answer) (o : Option Op) → IsMild c (op_told p c a b o)
-answer-mild p c a b None = record { tracker = refl; quiet = tt }
+pub answer-mild : (p : ClientPlan) (c : ClientState) (a : Present) (b : Answer) (o : Option Op) → IsMild (attempt_id p c a) c (op_told p c a b o)
+answer-mild p c a b None = record { tracker = refl; quiet = tt; own = tt }
 answer-mild p c a b (Some op) = group-mild p c a op b
 
 -- ---- what a client did
 
-abbrev LinesShow : Rules → Opening → Dated → Dated → List Line → Type 0
-LinesShow r o decided issued lines = (a : Attempt) → Has a (tries lines) → Shows r o decided issued a.id a.outcome
+-- what a line shows, where these stand before it
+abbrev LineShows : Rules → Opening → Stored → Dated → List Line → Option Line → Type 0
+LineShows r o stored issued before None = Unit {0}
+LineShows r o stored issued before (Some (line.Try a)) = Shows r o stored issued before a.id a.outcome
+LineShows r o stored issued before (Some l) = ⊥
 
-quiet-shows : (r : Rules) (o : Opening) (decided issued : Dated) (a : Attempt) (how : Outcome) → IsQuiet how → Shows r o decided issued a.id how
-quiet-shows r o decided issued a outcome.Committed k = tt
-quiet-shows r o decided issued a (outcome.CondFailed op) k = tt
-quiet-shows r o decided issued a (outcome.Restart why) k = absurd k
-quiet-shows r o decided issued a (outcome.NoSpace target need free) k = absurd k
-quiet-shows r o decided issued a outcome.EpochsSpent k = absurd k
-quiet-shows r o decided issued a outcome.NoSnapshot k = tt
-quiet-shows r o decided issued a (outcome.Unknown target) k = absurd k
+quiet-shows : (r : Rules) (o : Opening) (stored : Stored) (issued : Dated) (before : List Line) (x : AttemptId) (how : Outcome) → IsQuiet how → Shows r o stored issued before x how
+quiet-shows r o stored issued before x outcome.Committed k = tt
+quiet-shows r o stored issued before x (outcome.CondFailed op) k = tt
+quiet-shows r o stored issued before x (outcome.Restart why) k = absurd k
+quiet-shows r o stored issued before x (outcome.NoSpace target need free) k = absurd k
+quiet-shows r o stored issued before x outcome.EpochsSpent k = absurd k
+quiet-shows r o stored issued before x outcome.NoSnapshot k = k
+quiet-shows r o stored issued before x (outcome.Unknown target) k = absurd k
 
-one-line : (r : Rules) (o : Opening) (decided issued : Dated) (b : Attempt) → Shows r o decided issued b.id b.outcome → LinesShow r o decided issued (line.Try b ∷ [])
-unfolding tries
-one-line r o decided issued b k a (inl same) = subst (λ z. Shows r o decided issued z.id z.outcome) (sym same) k
-one-line r o decided issued b k a (inr bad) = absurd bad
+quiet-line : (r : Rules) (o : Opening) (stored : Stored) (issued : Dated) (before : List Line) (l : Option Line) → IsQuietLine l → LineShows r o stored issued before l
+quiet-line r o stored issued before None k = tt
+quiet-line r o stored issued before (Some (line.Try a)) k = quiet-shows r o stored issued before a.id a.outcome k
+quiet-line r o stored issued before (Some (line.Stop n t)) k = k
+quiet-line r o stored issued before (Some (line.Restart n t incarnation floor)) k = k
+quiet-line r o stored issued before (Some (line.Freeze t cont e)) k = k
+quiet-line r o stored issued before (Some (line.Snapshot name cont e)) k = k
+quiet-line r o stored issued before (Some (line.Aggregate n t cont upto)) k = k
+quiet-line r o stored issued before (Some (line.Down t)) k = k
 
-quiet-line : (r : Rules) (o : Opening) (decided issued : Dated) (l : Option Line) → IsQuietLine l → LinesShow r o decided issued (listed l)
-unfolding tries
-quiet-line r o decided issued None k a i = absurd i
-quiet-line r o decided issued (Some (line.Try b)) k a i = one-line r o decided issued b (quiet-shows r o decided issued b b.outcome k) a i
-quiet-line r o decided issued (Some (line.Stop n t)) k a i = absurd i
-quiet-line r o decided issued (Some (line.Restart n t incarnation floor)) k a i = absurd i
-quiet-line r o decided issued (Some (line.Freeze t cont e)) k a i = absurd i
-quiet-line r o decided issued (Some (line.Snapshot name cont e)) k a i = absurd i
-quiet-line r o decided issued (Some (line.Aggregate n t cont upto)) k a i = absurd i
-quiet-line r o decided issued (Some (line.Down t)) k a i = absurd i
+-- what a client sends ends nothing and answers nothing, and tells epochs within the limit
+pub record IsPlain (o : Opening) (issued : Dated) (m : Message) : Type 0 where
+  pub shows : (r : Rules) (stored : Stored) (lines : List Line) → MessageShows r o stored issued lines m
+  pub told : (e : ℕ) → Has e (epochs_told m) → e / 256 ≤ limit o issued
+  pub undecided : (x by : AttemptId) → IsUndecidedFor m x by → ⊥
+  pub asked : (x : AttemptId) → IsAskedFor m x → ⊥
+  pub ends : (x : AttemptId) → EndsOf m x → ⊥
 
--- what a client sends shows its cause, and tells epochs within the limit
-pub record PostShows (r : Rules) (o : Opening) (decided issued : Dated) (m : Message) : Type 0 where
-  pub shows : MessageShows r o decided issued m
-  pub told : (e : ℕ) → Has e (told_by_message m) → e / 256 ≤ limit o issued
+abbrev ArePlain : Opening → Dated → List Post → Type 0
+ArePlain o issued posts = (q : Post) → Has q posts → IsPlain o issued q.message
 
-abbrev PostsShow : Rules → Opening → Dated → Dated → List Post → Type 0
-PostsShow r o decided issued posts = (q : Post) → Has q posts → PostShows r o decided issued q.message
+-- ---- what wasn't answered
 
-did-causes : (r : Rules) (o : Opening) (decided : Dated) (w : World) (n : ℕ) (c d : ClientState) (letters : List Letter) (posts : List Post) (lines : List Line) → Causes r o decided w → slice_get w.clients n ≡ Some c
-    → ((l : Letter) → Contains letters l → Contains w.messages l) → d.tracker.0 / 256 ≤ limit o w.issued → PostsShow r o decided w.issued posts → LinesShow r o decided w.issued lines
-    → Causes r o decided (after_client (without w letters) n posts lines d)
-did-causes r o decided w n c d letters posts lines C here among tracker P L = record {
+none-of : (c : ℕ) (xs : List Attempt) (a : Attempt) → ((a.id.client ≡ c) → ⊥) → list_any (is_of_client c) (xs ++ a ∷ []) ≡ list_any (is_of_client c) xs
+none-of c [] a off = ap (λ b. b || false) (not-of (a.id.client == c) refl)
+  where
+    not-of : (b : Bool) → (a.id.client == c) ≡ b → (a.id.client == c) ≡ false
+    not-of true is = absurd (off (eqb-true a.id.client c is))
+    not-of false is = is
+none-of c (x ∷ xs) a off = ap (λ b. is_of_client c x || b) (none-of c xs a off)
+
+-- a line of another client changes nothing of what a client's lines stand before
+up-to-push : (c : ℕ) (lines : List Line) (a : Attempt) → ((a.id.client ≡ c) → ⊥) → up_to_last_of c (lines ++ line.Try a ∷ []) ≡ up_to_last_of c lines
+unfolding up_to_last_of tries
+up-to-push c [] a off = ap (λ b. if b then line.Try a ∷ [] else []) (none-of c [] a off)
+up-to-push c (l ∷ ls) a off =
+    ap (λ z. if list_any (is_of_client c) (tries (l ∷ (ls ++ line.Try a ∷ []))) then l ∷ z else []) (up-to-push c ls a off)
+    ∙ ap (λ b. if b then l ∷ up_to_last_of c ls else []) (ap (list_any (is_of_client c)) (tries-append (l ∷ ls) (line.Try a ∷ [])) ∙ none-of c (tries (l ∷ ls)) a off)
+
+unanswered-push : (lines : List Line) (a : Attempt) (x by : AttemptId) → ((a.id.client ≡ x.client) → ⊥) → IsUnanswered lines x by → IsUnanswered (lines ++ line.Try a ∷ []) x by
+unanswered-push lines a x by off u k = u (subst (λ ls. Any (λ b. b.id ≡ by) (tries ls)) (up-to-push x.client lines a off) k)
+
+-- ---- the world then
+
+-- what is known of a client that makes a move
+record IsMoving (r : Rules) (o : Opening) (w : World) (n : ℕ) (c d : ClientState) (letters : List Letter) (l : Option Line) (v : World) : Type 0 where
+  here : slice_get w.clients n ≡ Some c
+  among : (z : Letter) → Contains letters z → Contains w.messages z
+  clients : v.clients ≡ set w.clients n d
+  lines : v.lines ≡ w.lines ++ map (with_epoch w.issued) (listed l)
+  before : Epochs r (top o) w
+  after : Epochs r (top o) v
+  own : IsLineOf (attempt_here (client_plan r n) c c.present) l
+  -- where there is a line, no answer to the client is left
+  silent : (a : Attempt) → l ≡ Some (line.Try a) → (z : Letter) (x : AttemptId) → Contains letters z → EndsOf z.message x → (x.client ≡ n) → ⊥
+
+-- an attempt with an epoch that is present then was present before
+present-before : (r : Rules) (o : Opening) (w : World) (n : ℕ) (c d : ClientState) (letters : List Letter) (l : Option Line) (v : World) (x : AttemptId) (e : Epoch) → IsMoving r o w n c d letters l v → Contains w.issued (x, e) → IsPresent r v x → IsPresent r w x
+present-before r o w n c d letters l v x e K i p = elim (K.before.line x e i) [
+  | inl q ↦ q
+  | inr q ↦ absurd (subst (HasNoLine v.lines) p.own (present-unended r o v x.client p.c p.a K.after p.here p.at) q.0 (stays q.0 (has-from_contains (tries w.lines) q.0 q.1)) q.2)
+]
+  where
+    stays : (a : Attempt) → Has a (tries w.lines) → Has a (tries v.lines)
+    stays a j = subst (λ ls. Has a (tries ls)) (sym K.lines) (subst (Has a) (sym (tries-append w.lines (map (with_epoch w.issued) (listed l)))) (has-left (tries w.lines) (tries (map (with_epoch w.issued) (listed l))) a j))
+
+did-causes : (r : Rules) (o : Opening) (stored : Stored) (w : World) (n : ℕ) (c d : ClientState) (letters : List Letter) (posts : List Post) (l : Option Line) → Causes r o stored w
+    → IsMoving r o w n c d letters l (after_client (without w letters) n posts (listed l) d) → d.tracker.0 / 256 ≤ limit o w.issued → ArePlain o w.issued posts → LineShows r o stored w.issued w.lines l
+    → Causes r o stored (after_client (without w letters) n posts (listed l) d)
+did-causes r o stored w n c d letters posts l C K tracker P L = record {
   bounded = record {
     ticks = C.bounded.ticks;
-    trackers = at-set w.clients n c d (λ m z. z.tracker.0 / 256 ≤ limit o w.issued) here tracker C.bounded.trackers;
+    trackers = at-set w.clients n c d (λ m z. z.tracker.0 / 256 ≤ limit o w.issued) K.here tracker C.bounded.trackers;
     issued = C.bounded.issued;
-    told = λ l e i j. told l e j (sent l i);
+    told = λ z e i j. told z e j (sent z i);
   };
   space = C.space;
   floors = C.floors;
-  flight = λ l i. shows l (sent l i);
-  lines = λ a i. line-shows a (has-cases (tries w.lines) (map (filled w.issued) (tries lines)) a (subst (Has a) all (has-from_contains (tries (w.lines ++ map (with_epoch w.issued) lines)) a i)));
+  waiting = record {
+    meets = C.waiting.meets;
+    undecided = λ z x by i u p. undecided z x by u p (sent z i);
+    asked = λ z x i u. asked z x u (sent z i);
+    own = λ z x i u. own z x u (sent z i);
+  };
+  flight = λ z i. shows z (sent z i);
+  lines = line-shows l L;
+  attempts = λ m i. line-try l L m (has-cases w.lines (map (with_epoch w.issued) (listed l)) m i);
 }
   where
-    all : tries (w.lines ++ map (with_epoch w.issued) lines) ≡ tries w.lines ++ map (filled w.issued) (tries lines)
-    all = tries-append w.lines (map (with_epoch w.issued) lines) ∙ ap (λ ts. tries w.lines ++ ts) (tries-filled w.issued lines)
+    v : World
+    v = after_client (without w letters) n posts (listed l) d
 
-    line-shows : (a : Attempt) → Has a (tries w.lines) ⊎ Has a (map (filled w.issued) (tries lines)) → Shows r o decided w.issued a.id a.outcome
-    line-shows a (inl i) = C.lines a (contains-from_has (tries w.lines) a i)
-    line-shows a (inr i) = let b = has-from_map (filled w.issued) (tries lines) a i in subst (λ z. Shows r o decided w.issued z.id z.outcome) b.2 (L b.0 b.1)
+    Sent : Letter → Type 0
+    Sent z = Contains letters z ⊎ ((q : Post) × Has q posts × (letter_of (client n) q ≡ z))
 
-    sent : (l : Letter) → Contains (letters ++ letters_of (client n) posts) l → Contains w.messages l ⊎ ((q : Post) × Has q posts × (letter_of (client n) q ≡ l))
-    sent l i = elim (has-cases letters (letters_of (client n) posts) l (has-from_contains (letters ++ letters_of (client n) posts) l i)) [
-      | inl j ↦ inl (among l (contains-from_has letters l j))
-      | inr j ↦ inr (has-from_map (letter_of (client n)) posts l j)
+    sent : (z : Letter) → Contains (letters ++ letters_of (client n) posts) z → Sent z
+    sent z i = elim (has-cases letters (letters_of (client n) posts) z (has-from_contains (letters ++ letters_of (client n) posts) z i)) [
+      | inl j ↦ inl (contains-from_has letters z j)
+      | inr j ↦ inr (has-from_map (letter_of (client n)) posts z j)
     ]
 
-    told : (l : Letter) (e : ℕ) → Contains (told_by_message l.message) e → Contains w.messages l ⊎ ((q : Post) × Has q posts × (letter_of (client n) q ≡ l)) → e / 256 ≤ limit o w.issued
-    told l e j (inl i) = C.bounded.told l e i j
-    told l e j (inr q) = (P q.0 q.1).told e (subst (λ z. Has e (told_by_message z.message)) (sym q.2) (has-from_contains (told_by_message l.message) e j))
+    told : (z : Letter) (e : ℕ) → Contains (epochs_told z.message) e → Sent z → e / 256 ≤ limit o w.issued
+    told z e j (inl i) = C.bounded.told z e (K.among z i) j
+    told z e j (inr q) = (P q.0 q.1).told e (subst (λ y. Has e (epochs_told y.message)) (sym q.2) (has-from_contains (epochs_told z.message) e j))
 
-    shows : (l : Letter) → Contains w.messages l ⊎ ((q : Post) × Has q posts × (letter_of (client n) q ≡ l)) → MessageShows r o decided w.issued l.message
-    shows l (inl i) = C.flight l i
-    shows l (inr q) = subst (λ z. MessageShows r o decided w.issued z.message) q.2 (P q.0 q.1).shows
+    asked : (z : Letter) (x : AttemptId) → IsAskedFor z.message x → Sent z → (e : Epoch) × Contains w.issued (x, e)
+    asked z x u (inl i) = C.waiting.asked z x (K.among z i) u
+    asked z x u (inr q) = absurd ((P q.0 q.1).asked x (subst (λ y. IsAskedFor y.message x) (sym q.2) u))
+
+    own : (z : Letter) (x : AttemptId) → EndsOf z.message x → Sent z → z.to ≡ client x.client
+    own z x u (inl i) = C.waiting.own z x (K.among z i) u
+    own z x u (inr q) = absurd ((P q.0 q.1).ends x (subst (λ y. EndsOf y.message x) (sym q.2) u))
+
+    -- the line of a client is its own
+    line-client : (a : Attempt) → l ≡ Some (line.Try a) → a.id.client ≡ n
+    line-client a is = ap (λ y. y.client) (subst (IsLineOf (attempt_here (client_plan r n) c c.present)) is K.own) ∙ by c.present
+      where
+        by : (z : Option Present) → (attempt_here (client_plan r n) c z).client ≡ n
+        by None = refl
+        by (Some b) = refl
+
+    -- of other clients as much is unanswered then
+    goes-unanswered : (k : Option Line) → l ≡ k → (x by : AttemptId) → ((a : Attempt) → k ≡ Some (line.Try a) → (x.client ≡ n) → ⊥) → IsUnanswered w.lines x by → IsUnanswered (w.lines ++ map (with_epoch w.issued) (listed k)) x by
+    goes-unanswered None is x by off u = subst (λ ls. IsUnanswered ls x by) (sym (append-nil w.lines)) u
+    goes-unanswered (Some (line.Try a)) is x by off u = unanswered-push w.lines (filled w.issued a) x by (λ same. off a refl (sym same ∙ line-client a is)) u
+    goes-unanswered (Some (line.Stop m t)) is x by off u = absurd (subst (IsLineOf (attempt_here (client_plan r n) c c.present)) is K.own)
+    goes-unanswered (Some (line.Restart m t incarnation floor)) is x by off u = absurd (subst (IsLineOf (attempt_here (client_plan r n) c c.present)) is K.own)
+    goes-unanswered (Some (line.Freeze t cont e)) is x by off u = absurd (subst (IsLineOf (attempt_here (client_plan r n) c c.present)) is K.own)
+    goes-unanswered (Some (line.Snapshot name cont e)) is x by off u = absurd (subst (IsLineOf (attempt_here (client_plan r n) c c.present)) is K.own)
+    goes-unanswered (Some (line.Aggregate m t cont upto)) is x by off u = absurd (subst (IsLineOf (attempt_here (client_plan r n) c c.present)) is K.own)
+    goes-unanswered (Some (line.Down t)) is x by off u = absurd (subst (IsLineOf (attempt_here (client_plan r n) c c.present)) is K.own)
+
+    -- the client's own attempt has its line then, so it is present no more
+    not-present : (x : AttemptId) → IsPresent r w x → IsPresent r v x → (a : Attempt) → l ≡ Some (line.Try a) → (x.client ≡ n) → ⊥
+    not-present x p q a is same = subst (HasNoLine v.lines) q.own (present-unended r o v x.client q.c q.a K.after q.here q.at) (filled w.issued a) told' its
+      where
+        its-state : p.c ≡ c
+        its-state = one (sym p.here ∙ ap (slice_get w.clients) same ∙ K.here)
+          where
+            one : {y z : ClientState} → Some y ≡ Some z → y ≡ z
+            one e = cc
+
+        at : c.present ≡ Some p.a
+        at = subst (λ z. z.present ≡ Some p.a) its-state p.at
+
+        its : a.id ≡ x
+        its = subst (IsLineOf (attempt_here (client_plan r n) c c.present)) is K.own ∙ ap (attempt_here (client_plan r n) c) at ∙ ap (λ k. attempt_id (client_plan r k) c p.a) (sym same) ∙ ap (λ z. attempt_id (client_plan r x.client) z p.a) (sym its-state) ∙ p.own
+
+        told' : Has (filled w.issued a) (tries v.lines)
+        told' = subst (λ k. Has (filled w.issued a) (tries (w.lines ++ map (with_epoch w.issued) (listed k)))) (sym is) (subst (Has (filled w.issued a)) (sym (tries-push w.lines (filled w.issued a))) (has-right (tries w.lines) (filled w.issued a ∷ []) (filled w.issued a) (inl refl)))
+
+    undecided : (z : Letter) (x by : AttemptId) → IsUndecidedFor z.message x by → IsPresent r v x → Sent z → IsUnanswered (w.lines ++ map (with_epoch w.issued) (listed l)) x by
+    undecided z x by u p (inr q) = absurd ((P q.0 q.1).undecided x by (subst (λ y. IsUndecidedFor y.message x by) (sym q.2) u))
+    undecided z x by u p (inl i) =
+        let e = C.waiting.asked z x (K.among z i) (asks-of z.message x by u) in
+        let b : IsPresent r w x = present-before r o w n c d letters l v x e.0 K e.1 p in
+        goes-unanswered l refl x by (not-present x b p) (C.waiting.undecided z x by (K.among z i) u b)
+      where
+        asks-of : (m : Message) (x by : AttemptId) → IsUndecidedFor m x by → IsAskedFor m x
+        asks-of (message.Verdict a (Some y) inc verdict.Undecided) x by u = u.0
+        asks-of m x by u = absurd u
+
+    shows : (z : Letter) → Sent z → MessageShows r o stored w.issued (w.lines ++ map (with_epoch w.issued) (listed l)) z.message
+    shows z (inr q) = subst (λ y. MessageShows r o stored w.issued (w.lines ++ map (with_epoch w.issued) (listed l)) y.message) q.2 ((P q.0 q.1).shows r stored (w.lines ++ map (with_epoch w.issued) (listed l)))
+    shows z (inl i) = subst (λ is. MessageShows r o stored is (w.lines ++ map (with_epoch w.issued) (listed l)) z.message) (append-nil w.issued)
+        (message-more r o [] stored w.issued [] w.lines (w.lines ++ map (with_epoch w.issued) (listed l)) z.message (λ x by ends u. goes-unanswered l refl x by (λ a is. K.silent a is z x i ends) u) (C.flight z (K.among z i)))
+
+    line-shows : (k : Option Line) → LineShows r o stored w.issued w.lines k → EachTry (λ before a. Shows r o stored w.issued before a.id a.outcome) (w.lines ++ map (with_epoch w.issued) (listed k))
+    line-shows None k = subst (EachTry (λ before a. Shows r o stored w.issued before a.id a.outcome)) (sym (append-nil w.lines)) C.lines
+    line-shows (Some (line.Try a)) k = each-push (λ before a. Shows r o stored w.issued before a.id a.outcome) w.lines (filled w.issued a) C.lines k
+    line-shows (Some (line.Stop m t)) k = absurd k
+    line-shows (Some (line.Restart m t incarnation floor)) k = absurd k
+    line-shows (Some (line.Freeze t cont e)) k = absurd k
+    line-shows (Some (line.Snapshot name cont e)) k = absurd k
+    line-shows (Some (line.Aggregate m t cont upto)) k = absurd k
+    line-shows (Some (line.Down t)) k = absurd k
+
+    line-try : (k : Option Line) → LineShows r o stored w.issued w.lines k → (m : Line) → Has m w.lines ⊎ Has m (map (with_epoch w.issued) (listed k)) → is_try m ≡ true
+    line-try k K m (inl i) = C.attempts m i
+    line-try None K m (inr i) = absurd i
+    line-try (Some (line.Try a)) K m (inr (inl same)) = ap is_try same
+    line-try (Some (line.Try a)) K m (inr (inr i)) = absurd i
+    line-try (Some (line.Stop u t)) K m (inr i) = absurd K
+    line-try (Some (line.Restart u t incarnation floor)) K m (inr i) = absurd K
+    line-try (Some (line.Freeze t cont e)) K m (inr i) = absurd K
+    line-try (Some (line.Snapshot name cont e)) K m (inr i) = absurd K
+    line-try (Some (line.Aggregate u t cont upto)) K m (inr i) = absurd K
+    line-try (Some (line.Down t)) K m (inr i) = absurd K
 
 -- ---- a client moves
 
-asked-shows : (r : Rules) (o : Opening) (decided issued : Dated) (p : ClientPlan) (k : Epoch) (c : ClientState) (a : Present) (q : Post) → Asked p k c a q → PostShows r o decided issued q.message
-asked-shows r o decided issued p k c a q (ARead ops turns snapshot op z at here asked says) = subst (λ x. PostShows r o decided issued x.message) (sym says) (record { shows = tt; told = λ e i. absurd i })
-asked-shows r o decided issued p k c a q (ItsWrites ops turns snapshot w ws at last all says) = subst (λ x. PostShows r o decided issued x.message) (sym says) (record { shows = tt; told = λ e i. absurd i })
-asked-shows r o decided issued p k c a q (ASnapshot name cont at says) = subst (λ x. PostShows r o decided issued x.message) (sym says) (record { shows = tt; told = λ e i. absurd i })
-asked-shows r o decided issued p k c a q (AnAggregation cont at says) = subst (λ x. PostShows r o decided issued x.message) (sym says) (record { shows = tt; told = λ e i. absurd i })
+asked-plain : (o : Opening) (issued : Dated) (p : ClientPlan) (k : Epoch) (c : ClientState) (a : Present) (q : Post) → Asked p k c a q → IsPlain o issued q.message
+asked-plain o issued p k c a q (ARead ops turns snapshot op z at here asked says) =
+    subst (λ x. IsPlain o issued x.message) (sym says) (record { shows = λ r stored lines. tt; told = λ e i. absurd i; undecided = λ x by u. u; asked = λ x u. u; ends = λ x u. u })
+asked-plain o issued p k c a q (ItsWrites ops turns snapshot w ws at last all says) =
+    subst (λ x. IsPlain o issued x.message) (sym says) (record { shows = λ r stored lines. tt; told = λ e i. absurd i; undecided = λ x by u. u; asked = λ x u. u; ends = λ x u. u })
+asked-plain o issued p k c a q (ASnapshot name cont at says) =
+    subst (λ x. IsPlain o issued x.message) (sym says) (record { shows = λ r stored lines. tt; told = λ e i. absurd i; undecided = λ x by u. u; asked = λ x u. u; ends = λ x u. u })
+asked-plain o issued p k c a q (AnAggregation cont at says) =
+    subst (λ x. IsPlain o issued x.message) (sym says) (record { shows = λ r stored lines. tt; told = λ e i. absurd i; undecided = λ x by u. u; asked = λ x u. u; ends = λ x u. u })
 
 tells-within : (e k : ℕ) (b : ℕ) → k / 256 ≤ b → Has e (k ∷ []) → e / 256 ≤ b
 tells-within e k b low (inl same) = subst (λ n. n / 256 ≤ b) (sym same) low
 tells-within e k b low (inr bad) = absurd bad
 
 -- what a move sends
-move-posts : (r : Rules) (o : Opening) (decided issued : Dated) (p : ClientPlan) (c : ClientState) → c.tracker.0 / 256 ≤ limit o issued → PostsShow r o decided issued (listed (moved p c).post)
-move-posts r o decided issued p c low = by (waits c) refl
+move-posts : (o : Opening) (issued : Dated) (p : ClientPlan) (c : ClientState) → c.tracker.0 / 256 ≤ limit o issued → ArePlain o issued (listed (moved p c).post)
+move-posts o issued p c low = by (waits c) refl
   where
-    nothing : (m : Move) → m.post ≡ None → PostsShow r o decided issued (listed m.post)
+    nothing : (m : Move) → m.post ≡ None → ArePlain o issued (listed m.post)
     nothing m e q i = absurd (subst (λ o. Has q (listed o)) e i)
 
-    one : (m : Move) (s : Post) → m.post ≡ Some s → PostShows r o decided issued s.message → PostsShow r o decided issued (listed m.post)
-    one m s e t q i = elim (subst (λ o. Has q (listed o)) e i) [ inl same ↦ subst (λ x. PostShows r o decided issued x.message) (sym same) t | inr j ↦ absurd j ]
+    one : (m : Move) (s : Post) → m.post ≡ Some s → IsPlain o issued s.message → ArePlain o issued (listed m.post)
+    one m s e t q i = elim (subst (λ o. Has q (listed o)) e i) [ inl same ↦ subst (λ x. IsPlain o issued x.message) (sym same) t | inr j ↦ absurd j ]
 
-    is-a : IsMove p c (moved p c) → PostsShow r o decided issued (listed (moved p c).post)
+    is-a : IsMove p c (moved p c) → ArePlain o issued (listed (moved p c).post)
     is-a (Silent free none) = nothing (moved p c) none
-    is-a (Telling n none free says) = one (moved p c) _ says (record { shows = tt; told = λ e i. tells-within e c.tracker.0 (limit o issued) low i })
-    is-a (Asking a q at asked says state) = one (moved p c) q says (asked-shows r o decided issued p c.tracker c a q asked)
+    is-a (Telling n none free says) = one (moved p c) _ says (record { shows = λ r stored lines. tt; told = λ e i. tells-within e c.tracker.0 (limit o issued) low i; undecided = λ x by u. u; asked = λ x u. u; ends = λ x u. u })
+    is-a (Asking a q at asked says state) = one (moved p c) q says (asked-plain o issued p c.tracker c a q asked)
 
-    by : (b : Bool) → waits c ≡ b → PostsShow r o decided issued (listed (moved p c).post)
+    by : (b : Bool) → waits c ≡ b → ArePlain o issued (listed (moved p c).post)
     by true h = nothing (moved p c) (ap (λ m. m.post) (waiting-rests p c h))
     by false h = is-a (move-is p c h)
 
-pub causes-by-moves : (r : Rules) (o : Opening) (decided : Dated) → KeptByMoves r (Causes r o decided)
-causes-by-moves r o decided w n c here C =
-    did-causes r o decided w n c (moved p c).state w.messages (listed (moved p c).post) (listed (moved p c).line) C here (λ l i. i)
-    (subst (λ e. e.0 / 256 ≤ limit o w.issued) (sym (moved-mild p c).tracker) (C.bounded.trackers n c here))
-    (move-posts r o decided w.issued p c (C.bounded.trackers n c here)) (quiet-line r o decided w.issued (moved p c).line (moved-mild p c).quiet)
+ends-no_tell : (m : Message) (x : AttemptId) → EndsOf m x → is_tell m ≡ false
+ends-no_tell (message.Tell k) x u = absurd u
+ends-no_tell m x u = refl
+
+pub causes-by-moves : (r : Rules) (o : Opening) (stored : Stored) (w : World) (n : ℕ) (c : ClientState) → ReadsNow (command_at (client_plan r n) c) → TalksOnce w → Epochs r (top o) w → Epochs r (top o) (after_move w n (moved (client_plan r n) c)) → slice_get w.clients n ≡ Some c
+    → Causes r o stored w → Causes r o stored (after_move w n (moved (client_plan r n) c))
+causes-by-moves r o stored w n c now talk E F here C =
+    did-causes r o stored w n c (moved p c).state w.messages (listed (moved p c).post) (moved p c).line C
+    (record { here = here; among = λ l i. i; clients = refl; lines = refl; before = E; after = F; own = k.own; silent = λ a is z x i ends same. silent-not n w.messages z (silent-unless w n c talk here (idle a is)) i (talks-to n z (ends-no_tell z.message x ends) (C.waiting.own z x i ends ∙ ap client same)) })
+    (subst (λ e. e.0 / 256 ≤ limit o w.issued) (sym k.tracker) (C.bounded.trackers n c here))
+    (move-posts o w.issued p c (C.bounded.trackers n c here)) (quiet-line r o stored w.issued w.lines (moved p c).line k.quiet)
   where
     p : ClientPlan
     p = client_plan r n
 
+    k : IsMild (attempt_here p c c.present) c (moved p c)
+    k = moved-mild p c now
+
+    -- one that tells a line doesn't wait
+    idle : (a : Attempt) → (moved p c).line ≡ Some (line.Try a) → waits c ≡ false
+    idle a is = by (waits c) refl
+      where
+        by : (b : Bool) → waits c ≡ b → waits c ≡ false
+        by true h = let none : (moved p c).line ≡ None = ap (λ m. m.line) (waiting-rests p c h) in let no : ⊥ = cc in absurd no
+        by false h = h
+
 -- a turn that is skipped is counted
-pub causes-by-counting : (r : Rules) (o : Opening) (decided : Dated) → KeptByCounting (Causes r o decided)
-unfolding tries
-causes-by-counting r o decided w n k c here C =
-    subst (λ ms. Causes r o decided (with_client n (record c { skip = k }) (record w { messages = ms }))) (append-nil w.messages)
-    (subst (λ ls. Causes r o decided (with_client n (record c { skip = k }) (record w { messages = w.messages ++ []; lines = ls }))) (append-nil w.lines)
-    (did-causes r o decided w n c (record c { skip = k }) w.messages [] [] C here (λ l i. i) (C.bounded.trackers n c here) (λ q i. absurd i) (λ a i. absurd i)))
+pub causes-by-counting : (r : Rules) (o : Opening) (stored : Stored) (w : World) (n k : ℕ) (c : ClientState) → Epochs r (top o) w → Epochs r (top o) (with_client n (record c { skip = k }) w) → slice_get w.clients n ≡ Some c → Causes r o stored w
+    → Causes r o stored (with_client n (record c { skip = k }) w)
+causes-by-counting r o stored w n k c E F here C = subst (Causes r o stored) same (did-causes r o stored w n c (record c { skip = k }) w.messages [] None C
+    (record { here = here; among = λ l i. i; clients = refl; lines = refl; before = E; after = subst (Epochs r (top o)) (sym same) F; own = tt; silent = λ a is. let no : ⊥ = cc in absurd no }) (C.bounded.trackers n c here) (λ q i. absurd i) tt)
+  where
+    same : after_client (without w w.messages) n [] (listed None) (record c { skip = k }) ≡ with_client n (record c { skip = k }) w
+    same = rw (append-nil w.messages, append-nil w.lines) refl
 
 -- ---- a client hears
 
@@ -293,43 +472,54 @@ greatest-within t (e ∷ es) b low all = greatest-within (max t e) es b (larger 
     larger : (x y : ℕ) → x / 256 ≤ b → y / 256 ≤ b → max x y / 256 ≤ b
     larger x y p q = omega (arith, p, q)
 
--- a move that a client makes when it hears: it sends nothing, and its line shows its cause
-pub record IsHeard (r : Rules) (o : Opening) (decided issued : Dated) (tracker : Epoch) (m : Move) : Type 0 where
+-- a move that a client makes when it hears: it sends nothing, and its line is of its attempt, and shows its cause
+pub record IsHeard (r : Rules) (o : Opening) (stored : Stored) (issued : Dated) (before : List Line) (x : AttemptId) (tracker : Epoch) (m : Move) : Type 0 where
   pub silent : m.post ≡ None
   pub same : m.state.tracker ≡ tracker
-  pub shows : LinesShow r o decided issued (listed m.line)
+  pub shows : LineShows r o stored issued before m.line
+  pub own : IsLineOf x m.line
 
-mild-heard : (r : Rules) (o : Opening) (decided issued : Dated) (c : ClientState) (m : Move) → IsMild c m → m.post ≡ None → IsHeard r o decided issued c.tracker m
-mild-heard r o decided issued c m k none = record { silent = none; same = k.tracker; shows = quiet-line r o decided issued m.line k.quiet }
+mild-heard : (r : Rules) (o : Opening) (stored : Stored) (issued : Dated) (before : List Line) (x : AttemptId) (c : ClientState) (m : Move) → IsMild x c m → m.post ≡ None → IsHeard r o stored issued before x c.tracker m
+mild-heard r o stored issued before x c m k none = record { silent = none; same = k.tracker; shows = quiet-line r o stored issued before m.line k.quiet; own = k.own }
 
-ends-heard : (r : Rules) (o : Opening) (decided issued : Dated) (p : ClientPlan) (c : ClientState) (a : Present) (how : Outcome) → Shows r o decided issued (attempt_id p c a) how → IsHeard r o decided issued c.tracker (ends p c a how)
-ends-heard r o decided issued p c a how k = record {
-  silent = refl;
-  same = ends-tracker p c (command_at p c) a how;
-  shows = one-line r o decided issued (record { id = attempt_id p c a; epoch = a.epoch; conds = a.conds; gots = a.gots; outcome = how }) k;
-}
+ends-heard : (r : Rules) (o : Opening) (stored : Stored) (issued : Dated) (before : List Line) (p : ClientPlan) (c : ClientState) (a : Present) (how : Outcome) → Shows r o stored issued before (attempt_id p c a) how
+    → IsHeard r o stored issued before (attempt_id p c a) c.tracker (ends p c a how)
+ends-heard r o stored issued before p c a how k = record { silent = refl; same = ends-tracker p c (command_at p c) a how; shows = k; own = refl }
 
-replied-heard : (r : Rules) (o : Opening) (decided issued : Dated) (p : ClientPlan) (c : ClientState) (a : Present) (b : Reply) → a.waits ≡ false → ReplyShows r o decided issued (attempt_id p c a) b
-    → IsHeard r o decided issued c.tracker (replied p c a b)
-replied-heard r o decided issued p c a (reply.Answer b) free k = mild-heard r o decided issued c (replied p c a (reply.Answer b)) (answer-mild p c a b (op_of (command_at p c) a.op)) (replied-silent p c a (reply.Answer b) free).no_post
-replied-heard r o decided issued p c a (reply.Outcome how) free k = ends-heard r o decided issued p c a how k
+replied-heard : (r : Rules) (o : Opening) (stored : Stored) (issued : Dated) (before : List Line) (p : ClientPlan) (c : ClientState) (a : Present) (b : Reply) → a.waits ≡ false → ReplyShows r o stored issued before (attempt_id p c a) b
+    → IsHeard r o stored issued before (attempt_id p c a) c.tracker (replied p c a b)
+replied-heard r o stored issued before p c a (reply.Answer b) free k =
+    mild-heard r o stored issued before (attempt_id p c a) c (replied p c a (reply.Answer b)) (answer-mild p c a b (op_of (command_at p c) a.op)) (replied-silent p c a (reply.Answer b) free).no_post
+replied-heard r o stored issued before p c a (reply.Outcome how) free k = ends-heard r o stored issued before p c a how k
 
-is-heard : (r : Rules) (o : Opening) (decided issued : Dated) (n : ℕ) (c : ClientState) (l : Letter) (rest : List Letter) → MessageShows r o decided issued l.message → IsHearing r n c l rest
-    → IsHeard r o decided issued (hears_epochs l.message c).tracker (heard (client_plan r n) c l.message)
-is-heard r o decided issued n c l rest k (ATracker e says it) =
-    subst (IsHeard r o decided issued (hears_epochs l.message c).tracker) (sym it) (mild-heard r o decided issued (hears_epochs l.message c) (goes (hears_epochs l.message c)) (record { tracker = refl; quiet = tt }) refl)
-is-heard r o decided issued n c l rest k (AReply g group own b says it) =
-    subst (IsHeard r o decided issued (hears_epochs l.message c).tracker) (sym it) (replied-heard r o decided issued (client_plan r n) (hears_epochs l.message c) (knows own g.a) b refl (subst (MessageShows r o decided issued) says k))
-is-heard r o decided issued n c l rest k (AnEnd g own how says it) =
-    subst (IsHeard r o decided issued (hears_epochs l.message c).tracker) (sym it)
-    (ends-heard r o decided issued (client_plan r n) (record (hears_epochs l.message c) { known = snaps_known (command_at (client_plan r n) (hears_epochs l.message c)) own how (hears_epochs l.message c).known }) (knows own g.a) how (subst (MessageShows r o decided issued) says k))
+is-heard : (r : Rules) (o : Opening) (stored : Stored) (issued : Dated) (before : List Line) (n : ℕ) (c : ClientState) (l : Letter) (rest : List Letter) → MessageShows r o stored issued before l.message → IsHearing r n c l rest
+    → IsHeard r o stored issued before (attempt_here (client_plan r n) c c.present) (hears_epochs l.message c).tracker (heard (client_plan r n) c l.message)
+is-heard r o stored issued before n c l rest k (ATracker e says it) =
+    subst (IsHeard r o stored issued before (attempt_here (client_plan r n) c c.present) (hears_epochs l.message c).tracker) (sym it)
+    (mild-heard r o stored issued before (attempt_here (client_plan r n) c c.present) (hears_epochs l.message c) (goes (hears_epochs l.message c)) (record { tracker = refl; quiet = tt; own = tt }) refl)
+is-heard r o stored issued before n c l rest k (AReply g group own b says it) =
+    subst (IsHeard r o stored issued before (attempt_here (client_plan r n) c c.present) (hears_epochs l.message c).tracker) (sym it)
+    (subst (λ z. IsHeard r o stored issued before (attempt_here (client_plan r n) c z) (hears_epochs l.message c).tracker (replied (client_plan r n) (hears_epochs l.message c) (knows own g.a) b)) (sym g.present)
+    (replied-heard r o stored issued before (client_plan r n) (hears_epochs l.message c) (knows own g.a) b refl (subst (MessageShows r o stored issued before) says k)))
+is-heard r o stored issued before n c l rest k (AnEnd g own how says it) =
+    let e : ClientState = record (hears_epochs l.message c) { known = snaps_known (command_at (client_plan r n) (hears_epochs l.message c)) own how (hears_epochs l.message c).known } in
+    subst (IsHeard r o stored issued before (attempt_here (client_plan r n) c c.present) (hears_epochs l.message c).tracker) (sym it)
+    (subst (λ z. IsHeard r o stored issued before (attempt_here (client_plan r n) c z) (hears_epochs l.message c).tracker (ended (client_plan r n) (hears_epochs l.message c) (knows own g.a) own how)) (sym g.present)
+    (ends-heard r o stored issued before (client_plan r n) e (knows own g.a) how (subst (MessageShows r o stored issued before) says k)))
 
-pub causes-by-hearing : (r : Rules) (o : Opening) (decided : Dated) (w : World) (n : ℕ) (c : ClientState) (l : Letter) (rest : List Letter) → Conversation r w → Causes r o decided w → slice_get w.clients n ≡ Some c → Takes w.messages l rest
-    → l.to ≡ client n → Causes r o decided (after_move (without w rest) n (heard (client_plan r n) c l.message))
-causes-by-hearing r o decided w n c l rest talk C here takes to =
-    did-causes r o decided w n c m.state rest (listed m.post) (listed m.line) C here (λ z i. left-is-among w.messages l rest z takes i)
+-- what a client is told is what such a message tells
+told-is : (m : Message) (e : ℕ) → Contains (told_by_message m) e → Contains (epochs_told m) e
+told-is (message.Ack x inc refusal) e i = absurd (none-told e i)
+told-is m e i = i
+
+pub causes-by-hearing : (r : Rules) (o : Opening) (stored : Stored) (w : World) (n : ℕ) (c : ClientState) (l : Letter) (rest : List Letter) → Conversation r w → TalksOnce w → Epochs r (top o) w
+    → Epochs r (top o) (after_move (without w rest) n (heard (client_plan r n) c l.message)) → slice_get w.clients n ≡ Some c → Takes w.messages l rest → l.to ≡ client n → Causes r o stored w
+    → Causes r o stored (after_move (without w rest) n (heard (client_plan r n) c l.message))
+causes-by-hearing r o stored w n c l rest talk once E F here takes to C =
+    did-causes r o stored w n c m.state rest (listed m.post) m.line C
+    (record { here = here; among = λ z i. left-is-among w.messages l rest z takes i; clients = refl; lines = refl; before = E; after = F; own = k.own; silent = λ a is z x i ends same. answered a is z x i ends same })
     (subst (λ e. e.0 / 256 ≤ limit o w.issued) (sym k.same)
-    (greatest-within c.tracker.0 (told_by_message l.message) (limit o w.issued) (C.bounded.trackers n c here) (λ e i. C.bounded.told l e among (contains-from_has (told_by_message l.message) e i))))
+    (greatest-within c.tracker.0 (told_by_message l.message) (limit o w.issued) (C.bounded.trackers n c here) (λ e i. C.bounded.told l e among (told-is l.message e (contains-from_has (told_by_message l.message) e i)))))
     (λ q i. absurd (subst (λ z. Has q (listed z)) k.silent i)) k.shows
   where
     m : Move
@@ -338,5 +528,20 @@ causes-by-hearing r o decided w n c l rest talk C here takes to =
     among : Contains w.messages l
     among = taken-is-among w.messages l rest takes
 
-    k : IsHeard r o decided w.issued (hears_epochs l.message c).tracker m
-    k = is-heard r o decided w.issued n c l rest (C.flight l among) (hearing-is r w n c l rest talk here takes to)
+    hearing : IsHearing r n c l rest
+    hearing = hearing-is r w n c l rest talk here takes to
+
+    k : IsHeard r o stored w.issued w.lines (attempt_here (client_plan r n) c c.present) (hears_epochs l.message c).tracker m
+    k = is-heard r o stored w.issued w.lines n c l rest (C.flight l among) hearing
+
+    -- a line is told where an answer was heard, and none else is left then
+    answered : (a : Attempt) → m.line ≡ Some (line.Try a) → (z : Letter) (x : AttemptId) → Contains rest z → EndsOf z.message x → (x.client ≡ n) → ⊥
+    answered a is z x i ends same = by hearing
+      where
+        left : talk_of n rest ≡ [] → ⊥
+        left none = silent-not n rest z none i (talks-to n z (ends-no_tell z.message x ends) (C.waiting.own z x (left-is-among w.messages l rest z takes i) ends ∙ ap client same))
+
+        by : IsHearing r n c l rest → ⊥
+        by (ATracker e says it) = let none : m.line ≡ None = ap (λ y. y.line) it in cc
+        by (AReply g group own b says it) = left g.none_else
+        by (AnEnd g own how says it) = left g.none_else

@@ -1,61 +1,61 @@
--- A target that hears a Commit decides the attempt, or shows a later read or write, or that it lacks blocks, or its ticks are spent.
-use Rattle.std.specs.Prelude.{ℕ, ◌≡◌, ◌≢◌, ◌≤◌, ◌<◌, ◌+◌, ◌/◌, ◌++◌, ◌==◌, Bool, true, false, List, [], ◌∷◌, Contains, Some, None, refl, if◌then◌else◌}
+-- A target that is to store an attempt's writes stores them, or shows a later read or write, or that it lacks blocks.
 use Rattle.std.specs.List.{list_any}
+use Rattle.std.specs.Prelude.{ℕ, ◌≡◌, ◌≢◌, ◌≤◌, ◌<◌, ◌+◌, ◌/◌, ◌⊎◌, ◌++◌, ◌==◌, Bool, true, false, is_none, filter, List, [], ◌∷◌, Contains, Option, Some, None, refl, if◌then◌else◌}
 use Rattle.std.proofs.Common.{append-nil, sym, ◌∙◌, ap, subst, inl, inr, arith}
+use Rattle.std.proofs.lemmas.Bool.{eq-eqb}
+use Rattle.std.proofs.lemmas.List.Elements.{Contains-append_left}
+use Rattle.daos_base.specs.declared.entry.Entry.{Entry}
 use Rattle.daos_base.specs.declared.epoch.Epoch.{Epoch}
 use Rattle.daos_base.specs.declared.id.AttemptId.{AttemptId}
 use Rattle.daos_base.specs.declared.operation.MinorWrite.{MinorWrite}
 use Rattle.daos_base.specs.declared.outcome.Cause.{Cause}
 use Rattle.daos_base.specs.declared.outcome.FloorWhy.{FloorWhy}
+use Rattle.daos_base.specs.declared.outcome.Outcome.{Outcome}
 use Rattle.daos_base.specs.declared.outcome.Outcome.TheVariants as outcome
+use Rattle.daos_base.specs.declared.report.Line.{Line}
+use Rattle.daos_base.specs.declared.script.Script.{Script}
 use Rattle.daos_base.specs.declared.shown.Shown.{Shown}
 use Rattle.daos_base.specs.Epochs.{last_ticks}
 use Rattle.daos_base.specs.Operations.{write_path}
 use Rattle.daos_base.specs.PathLaws.{near-comm}
 use Rattle.daos_base.specs.Placement.{path_members}
-use Rattle.daos_laws.specs.Members.{Has, contains-from_has, has-from_contains, has-from_filter, has-right}
+use Rattle.daos_laws.specs.Members.{Has, contains-from_has, has-filter, has-from_contains, has-from_filter, has-map, has-right}
 use Rattle.daos_messages.specs.declared.actor.ActorId.{ActorId}
-use Rattle.daos_messages.specs.declared.message.Message.TheVariants as message
+use Rattle.daos_model.specs.declared.durable.Durable.{Durable}
 use Rattle.daos_model.specs.Accesses.{minor_writes}
 use Rattle.daos_model.specs.Blocks.{blocks}
 use Rattle.daos_model.specs.CausesShown.{blocks_at, blocks_of_some, writes_at}
+use Rattle.daos_model.specs.Durables.{entry_of}
 use Rattle.daos_model.specs.Opening.{Opening, top}
+use Rattle.daos_model.specs.Order.{told_by}
 use Rattle.daos_model.specs.Transactions.{attempt_ops}
-use Rattle.vos_stamp.specs.Stamps.{read_later, write_later}
+use Rattle.dtx_base.specs.Leading.{LeaderOf, begun, begun_alone, begun_with_others, prepare_to}
+use Rattle.dtx_base.specs.Members.{other_members}
+use Rattle.dtx_base.specs.Rows.{is_empty}
 use Rattle.world_base.specs.declared.did.Did.{Did}
 use Rattle.world_base.specs.declared.request.CommitRequest.{CommitRequest}
 use Rattle.world_base.specs.declared.target.TargetMemory.{TargetMemory}
 use Rattle.world_events.specs.Events.{Rules, listed, target_plan}
+use Rattle.world_events.specs.Letters.{client}
 use Rattle.world_turns.specs.Changes.{Kept}
 use Rattle.world_turns.specs.Commits as commit
 use Rattle.world_turns.specs.Reads.{later_of}
 use Rattle.world_turns.specs.Requests.{issued_for, request_epoch, with_ticks}
+use Rattle.world_turns.specs.Roles.{leader_at}
 use Rattle.world_turns.specs.Turns.{Whole}
-use Rattle.world_causes.specs.Causes.{Dated, ShowsRead, blocks_of_decided, limit}
+use Rattle.world_causes.specs.Causes.{Dated, Refuses, ShowsRead, Stored, blocks_if, blocks_of_stored, is_new_to, limit, stored_as, stored_by}
 use Rattle.world_causes.specs.Dates.{IsDated, heard-within, limit-rises, request-dated, request-spent}
 use Rattle.world_causes.specs.Floors.{below-stays, first-later-is, no-first-floor}
+use Rattle.world_causes.specs.Growth.{blocks-more, refusal-shows, refuses-more}
 use Rattle.world_causes.specs.Paths.{CommitSoFar, commit-path}
 use Rattle.world_causes.specs.Premises.{AreOfReads, AreWritten, IsRequest}
-use Rattle.world_causes.specs.ReadTurns.{AreOpeningLow, issue-within, none-told, told-one}
-use Rattle.world_causes.specs.Turns.{Heeds, said}
+use Rattle.world_causes.specs.ReadTurns.{IsTarget, issue-within, meet-more, none-told, told-one}
+use Rattle.world_causes.specs.Turns.{AllMeet, AllShow, Leaves, PostShows, all-map}
 use Rattle.world_causes.specs.Writes.{IsWriteShown, write-access, write-shown}
-
--- a target that hears a Commit of an attempt's writes, of which it holds some
-pub record HearsCommit (r : Rules) (o : Opening) (decided issued : Dated) (t : ℕ) (opening : Epoch × FloorWhy) (m : TargetMemory) (old : Kept) (q : CommitRequest) : Type 0 where
-  pub few : t < 256
-  pub ticks : m.ticks ≤ limit o issued
-  pub dates : (x : AttemptId) (e : Epoch) → Contains issued (x, e) → e.0 / 256 ≤ limit o issued
-  pub request : IsRequest o issued q.attempt q.ep q.first q.tracker
-  pub floors : AreOpeningLow o opening old
-  pub stamps : AreOfReads r issued m.stamps
-  pub written : AreWritten r issued (top o) old.durable.versions
-  pub space : o.free t ≤ old.free + blocks_of_decided r.script t decided
-  pub its : q.writes ≡ minor_writes 0 (attempt_ops r.script q.attempt)
-  pub some : commit.own_writes (target_plan r t) q.writes ≢ []
 
 -- ---- blocks
 
-own-is : (r : Rules) (t : ℕ) (ws : List MinorWrite) → commit.own_writes (target_plan r t) ws ≡ writes_at r.script.targets t ws
+pub own-is : (r : Rules) (t : ℕ) (ws : List MinorWrite) → commit.own_writes (target_plan r t) ws ≡ writes_at r.script.targets t ws
 own-is r t [] = refl
 own-is r t (w ∷ ws) = by (list_any (λ m. m == t) (path_members (write_path w.write) r.script.targets)) (own-is r t ws)
   where
@@ -64,158 +64,226 @@ own-is r t (w ∷ ws) = by (list_any (λ m. m == t) (path_members (write_path w.
     by true e = ap (λ z. w ∷ z) e
     by false e = e
 
-blocks-some : (ws : List MinorWrite) → ws ≢ [] → blocks ws ≡ blocks_of_some ws
+pub blocks-some : (ws : List MinorWrite) → ws ≢ [] → blocks ws ≡ blocks_of_some ws
 blocks-some [] some = absurd (some refl)
 blocks-some (w ∷ ws) some = refl
+
+-- an attempt that has an entry now, and had none, counts with its blocks
+stored-counts : (s : Script) (t : ℕ) (x : AttemptId) (stored : Stored) → Has (t, x) stored → blocks_at s t x ≤ blocks_of_stored s t stored
+stored-counts s t x [] i = absurd i
+stored-counts s t x (j ∷ stored) (inl same) =
+    let own : blocks_if (j.0 == t) (blocks_at s t j.1) ≡ blocks_at s t x = ap (λ k. blocks_if (k.0 == t) (blocks_at s t k.1)) (sym same) ∙ ap (λ b. blocks_if b (blocks_at s t x)) (eq-eqb t t refl) in
+    sum (blocks_if (j.0 == t) (blocks_at s t j.1)) (blocks_at s t x) own
+  where
+    sum : (m n : ℕ) → m ≡ n → n ≤ m + blocks_of_stored s t stored
+    sum m n own = omega (arith, own)
+stored-counts s t x (j ∷ stored) (inr i) = let k : blocks_at s t x ≤ blocks_of_stored s t stored = stored-counts s t x stored i in more (blocks_if (j.0 == t) (blocks_at s t j.1)) k
+  where
+    more : (m : ℕ) → blocks_at s t x ≤ blocks_of_stored s t stored → blocks_at s t x ≤ m + blocks_of_stored s t stored
+    more m k = omega (arith, k)
+
+is-stored : (t : ℕ) (old new : Durable) (e : Entry) → entry_of old e.attempt ≡ None → Has e new.entries → Has (t, e.attempt) (stored_by t old new)
+is-stored t old new e none i = has-map (stored_as t) (filter (is_new_to old) new.entries) e (has-filter (is_new_to old) new.entries e i (ap is_none none))
+
+both-count : (s : Script) (t : ℕ) (new stored : Stored) → blocks_of_stored s t (new ++ stored) ≡ blocks_of_stored s t new + blocks_of_stored s t stored
+both-count s t [] stored = omega arith
+both-count s t (j ∷ new) stored = sum (blocks_if (j.0 == t) (blocks_at s t j.1)) (both-count s t new stored)
+  where
+    sum : (m : ℕ) → blocks_of_stored s t (new ++ stored) ≡ blocks_of_stored s t new + blocks_of_stored s t stored → m + blocks_of_stored s t (new ++ stored) ≡ m + blocks_of_stored s t new + blocks_of_stored s t stored
+    sum m e = omega (arith, e)
+
+-- blocks are accounted for where they went to an entry that is stored
+pub space-stored : (s : Script) (t : ℕ) (stored : Stored) (old new : Kept) (e : Entry) (ws : List MinorWrite) → entry_of old.durable e.attempt ≡ None → Has e new.durable.entries → old.free ≤ new.free + blocks ws → blocks ws ≡ blocks_at s t e.attempt
+    → old.free + blocks_of_stored s t stored ≤ new.free + blocks_of_stored s t (stored_by t old.durable new.durable ++ stored)
+space-stored s t stored old new e ws none among low is =
+    let all : blocks_of_stored s t (stored_by t old.durable new.durable ++ stored) ≡ blocks_of_stored s t (stored_by t old.durable new.durable) + blocks_of_stored s t stored = both-count s t (stored_by t old.durable new.durable) stored in
+    let own : blocks_at s t e.attempt ≤ blocks_of_stored s t (stored_by t old.durable new.durable) = stored-counts s t e.attempt (stored_by t old.durable new.durable) (is-stored t old.durable new.durable e none among) in
+    sum (blocks ws) (blocks_at s t e.attempt) low is own all
+  where
+    sum : (a b : ℕ) → old.free ≤ new.free + a → a ≡ b → b ≤ blocks_of_stored s t (stored_by t old.durable new.durable)
+        → blocks_of_stored s t (stored_by t old.durable new.durable ++ stored) ≡ blocks_of_stored s t (stored_by t old.durable new.durable) + blocks_of_stored s t stored
+        → old.free + blocks_of_stored s t stored ≤ new.free + blocks_of_stored s t (stored_by t old.durable new.durable ++ stored)
+    sum a b low is own all = omega (arith, low, is, own, all)
+
+-- and where none were taken
+pub space-same : (s : Script) (t : ℕ) (stored : Stored) (old new : Kept) → old.free ≤ new.free → old.free + blocks_of_stored s t stored ≤ new.free + blocks_of_stored s t (stored_by t old.durable new.durable ++ stored)
+space-same s t stored old new low = let k : blocks_of_stored s t stored ≤ blocks_of_stored s t (stored_by t old.durable new.durable ++ stored) = blocks-more s t (stored_by t old.durable new.durable) stored in omega (arith, low, k)
+
+-- ---- what a target shows that doesn't store writes
+
+-- what is known of writes that are to be stored: they are some of an attempt, at its epoch
+pub record IsWriting (r : Rules) (o : Opening) (issued : Dated) (x : AttemptId) (ep first : Option Epoch) (e : Epoch) (ws : List MinorWrite) : Type 0 where
+  pub dated : IsDated o issued x ep first e
+  pub its : (w : MinorWrite) → Has w ws → Has w (minor_writes 0 (attempt_ops r.script x))
+
+up : {a b c : ℕ} → a ≤ b → b ≤ c → a ≤ c
+up p q = omega (arith, p, q)
+
+-- why they are refused, and which epochs that tells
+pub record RefusalShows (r : Rules) (o : Opening) (stored : Stored) (issued now : Dated) (x : AttemptId) (how : Outcome) : Type 0 where
+  pub shows : Refuses r o stored now x how
+  pub told : (n : ℕ) → Has n (told_by how) → n / 256 ≤ limit o now
+
+module _ (r : Rules) (o : Opening) (stored : Stored) (issued : Dated) (t : ℕ) (opening : Epoch × FloorWhy) (m : TargetMemory) (old : Kept) (x : AttemptId) (ep first : Option Epoch) (ws : List MinorWrite) (T : IsTarget r o issued opening old) (stamps : AreOfReads r issued m.stamps) where
+  abbrev now : Epoch → Dated
+  now e = issued ++ listed (issued_for x ep e)
+
+  rises : (e : Epoch) → limit o issued ≤ limit o (now e)
+  rises e = limit-rises o issued (listed (issued_for x ep e))
+
+  -- a later read is near a write
+  read-shown : (e : Epoch) (z : Shown) → IsWriting r o issued x ep first e ws → commit.FirstRead e m.stamps ws z → ShowsRead r (now e) x z.by z.epoch z.path
+  read-shown e z d f = record {
+    own = e;
+    its = d.dated.its;
+    later = f.shown.later;
+    reader = Contains-append_left issued (listed (issued_for x ep e)) (z.by, z.epoch) (stamps z f.shown.among).0;
+    asks = (stamps z f.shown.among).1;
+    near = (at.0, f.w, at.1, at.2, near-comm z.path (write_path f.w.write) ∙ f.shown.near);
+  }
+    where
+      at : Contains (minor_writes 0 (attempt_ops r.script x)) f.w
+      at = contains-from_has (minor_writes 0 (attempt_ops r.script x)) f.w (d.its f.w (subst (Has f.w) (sym f.among) (has-right f.before (f.w ∷ f.after) f.w (inl refl))))
+
+  pub refused-shows : (k : Kept) (e : Epoch) (c : Cause) → IsWriting r o issued x ep first e ws → k.durable.conts ≡ old.durable.conts → k.durable.versions ≡ old.durable.versions
+      → commit.IsRefusedBy (target_plan r t) opening first e k.durable m.stamps ws c → RefusalShows r o stored issued (now e) x (outcome.Restart c)
+  refused-shows k e c d conts olds (commit.ByFloor floor) =
+      let none : commit.first_floor (target_plan r t) opening e k.durable ws ≡ None = no-first-floor (target_plan r t) opening e k.durable ws (below-stays opening old.durable k.durable (top o) e.0 conts d.dated.above T.floors) in
+      let no : ⊥ = cc in absurd no
+  refused-shows k e c d conts olds (commit.ByWrite floor reads z later same) = subst (λ b. RefusalShows r o stored issued (now e) x (outcome.Restart b)) (sym same) (record { shows = shown.shows; told = told })
+    where
+      f : (u : MinorWrite) × Has u ws × (later_of (target_plan r t) first e (write_path u.write) k.durable ≡ Some z)
+      f = first-later-is (target_plan r t) first e k.durable ws z later
+
+      shown : IsWriteShown r o issued (now e) x z
+      shown = write-shown r o issued (target_plan r t) x ep first e (write_path f.0.write) k.durable z refl d.dated (subst (AreWritten r issued (top o)) (sym olds) T.written)
+          (write-access 0 (attempt_ops r.script x) f.0 (d.its f.0 f.1)) f.2
+
+      told : (n : ℕ) → Has n (z.epoch.0 ∷ []) → n / 256 ≤ limit o (now e)
+      told n (inl same') = subst (λ g. g / 256 ≤ limit o (now e)) (sym same') (up (T.dates z.by z.epoch shown.writer) (rises e))
+      told n (inr bad) = absurd bad
+  refused-shows k e c d conts olds (commit.ByRead floor z first' same) = subst (λ b. RefusalShows r o stored issued (now e) x (outcome.Restart b)) (sym same) (record { shows = read-shown e z d first'; told = told })
+    where
+      told : (n : ℕ) → Has n (z.epoch.0 ∷ []) → n / 256 ≤ limit o (now e)
+      told n (inl same') = subst (λ f. f / 256 ≤ limit o (now e)) (sym same') (up (T.dates z.by z.epoch (stamps z first'.shown.among).0) (rises e))
+      told n (inr bad) = absurd bad
+
+  pub lack-shows : (k : Kept) (e : Epoch) → IsWriting r o issued x ep first e ws → old.free ≤ k.free → k.free < blocks ws → blocks ws ≡ blocks_at r.script t x → o.free t ≤ old.free + blocks_of_stored r.script t stored
+      → RefusalShows r o stored issued (now e) x (outcome.NoSpace t (blocks ws) k.free)
+  lack-shows k e d low full is space = record {
+    shows = record { own = e; its = d.dated.its; wanting = full; need_is = is; accounted = omega (arith, low, space) };
+    told = λ n i. absurd i;
+  }
+
+-- ---- a Commit
+
+-- what is known of a Commit: an attempt's writes, some of which its target holds, of which it keeps no entry
+pub record IsCommit (r : Rules) (o : Opening) (issued : Dated) (t : ℕ) (old : Kept) (q : CommitRequest) : Type 0 where
+  pub few : t < 256
+  pub request : IsRequest o issued q.attempt q.ep q.first q.tracker
+  pub its : q.writes ≡ minor_writes 0 (attempt_ops r.script q.attempt)
+  pub some : commit.own_writes (target_plan r t) q.writes ≢ []
+  pub unstored : entry_of old.durable q.attempt ≡ None
 
 -- the blocks that a Commit asks for are those of the attempt
 pub need-is : (r : Rules) (t : ℕ) (x : AttemptId) (ws : List MinorWrite) → ws ≡ minor_writes 0 (attempt_ops r.script x) → commit.own_writes (target_plan r t) ws ≢ []
     → blocks (commit.own_writes (target_plan r t) ws) ≡ blocks_at r.script t x
 need-is r t x ws its some = blocks-some (commit.own_writes (target_plan r t) ws) some ∙ ap blocks_of_some (own-is r t ws) ∙ ap (λ z. blocks_of_some (writes_at r.script.targets t z)) its
 
--- ---- the ends
+-- what is sent when an attempt begins
+begins-shows : (r : Rules) (o : Opening) (stored : Stored) (issued : Dated) (lines : List Line) (e : Entry) (first : Option Epoch) (from : ActorId) (ws : List MinorWrite) (l : LeaderOf) → from ≡ client e.attempt.client → e.epoch.0 / 256 ≤ limit o issued
+    → AllShow r o stored issued lines (begun e first from ws l).posts
+unfolding begun
+begins-shows r o stored issued lines e first from ws l own within = by (is_empty (other_members e))
+  where
+    asks : (t : ℕ) → PostShows r o stored issued lines (prepare_to l.targets l.incarnation e first ws t)
+    asks t = record { shows = tt; told = λ n i. absurd (none-told n i); undecided = λ x by' u. absurd u; asked = λ x u. absurd u; own = λ x u. absurd u }
 
-module _ (r : Rules) (o : Opening) (decided issued : Dated) (t : ℕ) (opening : Epoch × FloorWhy) (m : TargetMemory) (reading : ℕ) (q : CommitRequest) (from : ActorId) (old : Kept) (h : HearsCommit r o decided issued t opening m old q) where
-  abbrev now : Epoch → Dated
-  now e = issued ++ listed (issued_for q.attempt q.ep e)
+    by : (b : Bool) → AllShow r o stored issued lines (if b then begun_alone e from l else begun_with_others e first from ws l).posts
+    by true = (record { shows = tt; told = λ n i. subst (λ f. f / 256 ≤ limit o issued) (told-one e.epoch n i) within; undecided = λ x by' u. absurd u; asked = λ x u. absurd u; own = λ x same. own ∙ ap (λ y. client y.client) same }, tt)
+    by false = all-map r o stored issued lines (prepare_to l.targets l.incarnation e first ws) asks (other_members e)
 
-  up : {a b c : ℕ} → a ≤ b → b ≤ c → a ≤ c
-  up p q = omega (arith, p, q)
+module _ (r : Rules) (o : Opening) (stored : Stored) (issued : Dated) (lines : List Line) (t : ℕ) (opening : Epoch × FloorWhy) (m : TargetMemory) (reading : ℕ) (q : CommitRequest) (from : ActorId) (old : Kept)
+    (T : IsTarget r o issued opening old) (h : IsCommit r o issued t old q) (own : from ≡ client q.attempt.client) (ticks : m.ticks ≤ limit o issued) (parked : AllMeet r issued m.member.parked) (stamps : AreOfReads r issued m.stamps)
+    (space : o.free t ≤ old.free + blocks_of_stored r.script t stored) where
+  abbrev later : Epoch → Dated
+  later e = issued ++ listed (issued_for q.attempt q.ep e)
 
-  rises : (e : Epoch) → limit o issued ≤ limit o (now e)
-  rises e = limit-rises o issued (listed (issued_for q.attempt q.ep e))
-
-  heard : (e : Epoch) → e.0 / 256 ≤ limit o (now e) → (with_ticks e m).ticks ≤ limit o (now e)
-  heard e k = heard-within m.ticks e.0 (limit o (now e)) (up h.ticks (rises e)) k
-
-  dated-at : (e : Epoch) → request_epoch (target_plan r t) m reading q.tracker q.ep ≡ Some e → IsDated o issued q.attempt q.ep q.first e
-  dated-at e d = request-dated o issued q.attempt q.ep q.first q.tracker (target_plan r t) m reading e h.few h.ticks h.request d
-
-  -- a later read is near a write
-  read-shown : (e : Epoch) (z : Shown) → IsDated o issued q.attempt q.ep q.first e → commit.FirstRead e m.stamps (commit.own_writes (target_plan r t) q.writes) z → ShowsRead r (now e) q.attempt z.by z.epoch z.path
-  read-shown e z d f = record {
-    own = e;
-    its = d.its;
-    later = f.shown.later;
-    reader = more (h.stamps z f.shown.among).0;
-    asks = (h.stamps z f.shown.among).1;
-    near = (at.0, f.w, at.1, at.2, near-comm z.path (write_path f.w.write) ∙ f.shown.near);
+  writing : (e : Epoch) → request_epoch (target_plan r t) m reading q.tracker q.ep ≡ Some e → IsWriting r o issued q.attempt q.ep q.first e (commit.own_writes (target_plan r t) q.writes)
+  writing e found = record {
+    dated = request-dated o issued q.attempt q.ep q.first q.tracker (target_plan r t) m reading e h.few ticks h.request found;
+    its = λ w i. subst (Has w) h.its (has-from_filter (commit.is_own (target_plan r t)) q.writes w i).0;
   }
+
+  heard : (e : Epoch) → e.0 / 256 ≤ limit o (later e) → (with_ticks e m).ticks ≤ limit o (later e)
+  heard e k = heard-within m.ticks e.0 (limit o (later e)) (up ticks (limit-rises o issued (listed (issued_for q.attempt q.ep e)))) k
+
+  -- the attempt is refused
+  ends-left : (k : Kept) (e : Epoch) (how : Outcome) (left : TargetMemory × Did) → IsWriting r o issued q.attempt q.ep q.first e (commit.own_writes (target_plan r t) q.writes) → old.free ≤ k.free
+      → RefusalShows r o stored issued (later e) q.attempt how → left ≡ (with_ticks e m, commit.ends_at q from e how) → Leaves r o stored issued lines t old k left
+  ends-left k e how left d low shown is = subst (Leaves r o stored issued lines t old k) (sym is) (record {
+    posts = (
+      record {
+        shows = refusal-shows r o (stored_by t old.durable k.durable ++ stored) (later e) lines q.attempt how (subst (λ is'. Refuses r o (stored_by t old.durable k.durable ++ stored) is' q.attempt how) (append-nil (later e))
+            (refuses-more r o (stored_by t old.durable k.durable) stored (later e) [] q.attempt how shown.shows));
+        told = λ n i. told n (has-from_contains (e.0 ∷ told_by how) n i);
+        undecided = λ x by u. absurd u;
+        asked = λ x u. absurd u;
+        own = λ x same. own ∙ ap (λ y. client y.client) same;
+      },
+      tt,
+    );
+    ticks = heard e d.dated.within;
+    dated = issue-within o issued q.attempt q.ep e d.dated.within;
+    space = space-same r.script t stored old k low;
+    parked = meet-more r issued (listed (issued_for q.attempt q.ep e)) m.member.parked parked;
+  })
     where
-      more : Contains issued (z.by, z.epoch) → Contains (now e) (z.by, z.epoch)
-      more i = contains-from_has (now e) (z.by, z.epoch) (left issued (has-from_contains issued (z.by, z.epoch) i))
-        where
-          left : (xs : Dated) → Has (z.by, z.epoch) xs → Has (z.by, z.epoch) (xs ++ listed (issued_for q.attempt q.ep e))
-          left [] i = absurd i
-          left (y ∷ ys) (inl same) = inl same
-          left (y ∷ ys) (inr i) = inr (left ys i)
-
-      among : Has f.w q.writes
-      among = (has-from_filter (commit.is_own (target_plan r t)) q.writes f.w (subst (Has f.w) (sym f.among) (has-right f.before (f.w ∷ f.after) f.w (inl refl)))).0
-
-      at : Contains (minor_writes 0 (attempt_ops r.script q.attempt)) f.w
-      at = contains-from_has (minor_writes 0 (attempt_ops r.script q.attempt)) f.w (subst (Has f.w) h.its among)
-
-  -- an attempt is ended without a decision
-  refuses : (k : Kept) (e : Epoch) (c : Cause) (left : TargetMemory × Did) → CommitSoFar (target_plan r t) m reading q old (commit.Checking e) k
-      → commit.IsRefusedBy (target_plan r t) opening q.first e k.durable m.stamps (commit.own_writes (target_plan r t) q.writes) c → left ≡ (with_ticks e m, commit.ends_at q from e (outcome.Restart c))
-      → Heeds r o decided issued t from old.free k.free left
-  refuses k e c left w (commit.ByFloor floor) is =
-      let d = dated-at e w.dated in
-      let none : commit.first_floor (target_plan r t) opening e k.durable (commit.own_writes (target_plan r t) q.writes) ≡ None =
-      no-first-floor (target_plan r t) opening e k.durable (commit.own_writes (target_plan r t) q.writes) (below-stays opening old.durable k.durable (top o) e.0 w.conts d.above h.floors) in
-      let no : ⊥ = cc in absurd no
-  refuses k e c left w (commit.ByWrite floor reads z later same) is =
-      said r o decided issued t from old.free k.free (with_ticks e m) (message.Ended q.attempt (Some e) (outcome.Restart (write_later z))) (issued_for q.attempt q.ep e) left (is ∙ ap (λ b. (with_ticks e m, commit.ends_at q from e (outcome.Restart b))) same) (record {
-        shows = shown.shows;
-        told = λ n i. told n (has-from_contains (e.0 ∷ z.epoch.0 ∷ []) n i);
-        ticks = heard e d.within;
-        dated = issue-within o issued q.attempt q.ep e d.within;
-        space = let f : old.free ≤ k.free + 0 = w.free in omega (arith, f);
-      })
-    where
-      d : IsDated o issued q.attempt q.ep q.first e
-      d = dated-at e w.dated
-
-      f : (u : MinorWrite) × Has u (commit.own_writes (target_plan r t) q.writes) × (later_of (target_plan r t) q.first e (write_path u.write) k.durable ≡ Some z)
-      f = first-later-is (target_plan r t) q.first e k.durable (commit.own_writes (target_plan r t) q.writes) z later
-
-      among : Has f.0 (minor_writes 0 (attempt_ops r.script q.attempt))
-      among = subst (Has f.0) h.its (has-from_filter (commit.is_own (target_plan r t)) q.writes f.0 f.1).0
-
-      shown : IsWriteShown r o issued (now e) q.attempt z
-      shown = write-shown r o issued (target_plan r t) q.attempt q.ep q.first e (write_path f.0.write) k.durable z refl d (subst (AreWritten r issued (top o)) (sym w.olds) h.written)
-          (write-access 0 (attempt_ops r.script q.attempt) f.0 among) f.2
-
-      told : (n : ℕ) → Has n (e.0 ∷ z.epoch.0 ∷ []) → n / 256 ≤ limit o (now e)
-      told n (inl same) = subst (λ g. g / 256 ≤ limit o (now e)) (sym same) d.within
-      told n (inr (inl same)) = subst (λ g. g / 256 ≤ limit o (now e)) (sym same) (up (h.dates z.by z.epoch shown.writer) (rises e))
-      told n (inr (inr bad)) = absurd bad
-  refuses k e c left w (commit.ByRead floor z first same) is =
-      said r o decided issued t from old.free k.free (with_ticks e m) (message.Ended q.attempt (Some e) (outcome.Restart (read_later z))) (issued_for q.attempt q.ep e) left (is ∙ ap (λ b. (with_ticks e m, commit.ends_at q from e (outcome.Restart b))) same) (record {
-        shows = read-shown e z d first;
-        told = λ n i. told n (has-from_contains (e.0 ∷ z.epoch.0 ∷ []) n i);
-        ticks = heard e d.within;
-        dated = issue-within o issued q.attempt q.ep e d.within;
-        space = let f : old.free ≤ k.free + 0 = w.free in omega (arith, f);
-      })
-    where
-      d : IsDated o issued q.attempt q.ep q.first e
-      d = dated-at e w.dated
-
-      told : (n : ℕ) → Has n (e.0 ∷ z.epoch.0 ∷ []) → n / 256 ≤ limit o (now e)
-      told n (inl same) = subst (λ f. f / 256 ≤ limit o (now e)) (sym same) d.within
-      told n (inr (inl same)) = subst (λ f. f / 256 ≤ limit o (now e)) (sym same) (up (h.dates z.by z.epoch (h.stamps z first.shown.among).0) (rises e))
-      told n (inr (inr bad)) = absurd bad
+      told : (n : ℕ) → (n ≡ e.0) ⊎ Has n (told_by how) → n / 256 ≤ limit o (later e)
+      told n (inl same) = subst (λ f. f / 256 ≤ limit o (later e)) (sym same) d.dated.within
+      told n (inr i) = shown.told n i
 
   commit-ends : (s : commit.CommitStage) (k : Kept) (left : TargetMemory × Did) → CommitSoFar (target_plan r t) m reading q old s k → commit.CommitEnds (target_plan r t) opening m reading q from s k left
-      → Heeds r o decided issued t from old.free k.free left
-  commit-ends s k left w (commit.IsSpent j z none is) =
-      said r o decided issued t from old.free k.free m (message.Ended q.attempt None outcome.EpochsSpent) None left is (record {
+      → Leaves r o stored issued lines t old k left
+  commit-ends s k left w (commit.IsSpent j z none is) = subst (Leaves r o stored issued lines t old k) (sym is) (record {
+    posts = (
+      record {
         shows = record { before = issued; since = []; among = refl; none = (h.request.fresh spent.0).0; spent = spent.1 };
-        told = λ e i. absurd (none-told e i);
-        ticks = subst (λ is'. m.ticks ≤ limit o is') (sym (append-nil issued)) h.ticks;
-        dated = λ x e i. let no : ⊥ = cc in absurd no;
-        space = let f : old.free ≤ k.free + 0 = w.free in omega (arith, f);
-      })
+        told = λ n i. absurd (none-told n i);
+        undecided = λ x by u. absurd u;
+        asked = λ x u. absurd u;
+        own = λ x same. own ∙ ap (λ y. client y.client) same;
+      },
+      tt,
+    );
+    ticks = subst (λ is'. m.ticks ≤ limit o is') (sym (append-nil issued)) ticks;
+    dated = λ x e i. let no : ⊥ = cc in absurd no;
+    space = space-same r.script t stored old k (let f : old.free ≤ k.free + 0 = w.free in omega (arith, f));
+    parked = meet-more r issued [] m.member.parked parked;
+  })
     where
       spent : (q.ep ≡ None) × (last_ticks < limit o issued + 1)
-      spent = request-spent o issued q.attempt q.ep q.first q.tracker (target_plan r t) m reading h.ticks h.request none
-  commit-ends s k left w (commit.IsRefused j e c z why is) = refuses k e c left w why is
+      spent = request-spent o issued q.attempt q.ep q.first q.tracker (target_plan r t) m reading ticks h.request none
+  commit-ends s k left w (commit.IsRefused j e c z why is) =
+      let d = writing e w.dated in
+      ends-left k e (outcome.Restart c) left d (let f : old.free ≤ k.free + 0 = w.free in omega (arith, f))
+      (refused-shows r o stored issued t opening m old q.attempt q.ep q.first (commit.own_writes (target_plan r t) q.writes) T stamps k e c d w.conts w.olds why) is
   commit-ends s k left w (commit.HasNoSpace j e z allowed full is) =
-      let d = dated-at e w.dated in
-      said r o decided issued t from old.free k.free (with_ticks e m) (message.Ended q.attempt (Some e) (outcome.NoSpace t (blocks (commit.own_writes (target_plan r t) q.writes)) k.free)) (issued_for q.attempt q.ep e) left is (record {
-        shows = record { own = e; its = d.its; wanting = full; need_is = need-is r t q.attempt q.writes h.its h.some; accounted = accounted };
-        told = λ n i. subst (λ f. f / 256 ≤ limit o (now e)) (told-one e n i) d.within;
-        ticks = heard e d.within;
-        dated = issue-within o issued q.attempt q.ep e d.within;
-        space = let f : old.free ≤ k.free + 0 = w.free in omega (arith, f);
+      let d = writing e w.dated in
+      let low : old.free ≤ k.free = (let f : old.free ≤ k.free + 0 = w.free in omega (arith, f)) in
+      ends-left k e (outcome.NoSpace t (blocks (commit.own_writes (target_plan r t) q.writes)) k.free) left d low
+      (lack-shows r o stored issued t opening m old q.attempt q.ep q.first (commit.own_writes (target_plan r t) q.writes) T stamps k e d low full (need-is r t q.attempt q.writes h.its h.some) space) is
+  commit-ends s k left w (commit.HasBegun j e z is) =
+      let d = writing e w.dated in
+      subst (Leaves r o stored issued lines t old k) (sym is) (record {
+        posts = begins-shows r o (stored_by t old.durable k.durable ++ stored) (later e) lines (commit.led_entry (target_plan r t) q e) q.first from q.writes (leader_at (target_plan r t) m k.durable) own d.dated.within;
+        ticks = heard e d.dated.within;
+        dated = issue-within o issued q.attempt q.ep e d.dated.within;
+        space = space-stored r.script t stored old k (commit.led_entry (target_plan r t) q e) (commit.own_writes (target_plan r t) q.writes) h.unstored w.olds w.free (need-is r t q.attempt q.writes h.its h.some);
+        parked = meet-more r issued (listed (issued_for q.attempt q.ep e)) m.member.parked parked;
       })
-    where
-      accounted : o.free t ≤ k.free + blocks_of_decided r.script t decided
-      accounted =
-          let f : old.free ≤ k.free + 0 = w.free in
-          let g : o.free t ≤ old.free + blocks_of_decided r.script t decided = h.space in
-          omega (arith, f, g)
-  commit-ends s k left w (commit.IsDecided j e z is) =
-      let d = dated-at e w.dated in
-      said r o decided issued t from old.free k.free (commit.with_decided q.attempt (with_ticks e m)) (message.Ended q.attempt (Some e) outcome.Committed) (issued_for q.attempt q.ep e) left is (record {
-        shows = tt;
-        told = λ n i. subst (λ f. f / 256 ≤ limit o (now e)) (told-one e n i) d.within;
-        ticks = heard e d.within;
-        dated = issue-within o issued q.attempt q.ep e d.within;
-        space = space;
-      })
-    where
-      space : old.free + blocks_of_decided r.script t decided ≤ k.free + (blocks_at r.script t q.attempt + blocks_of_decided r.script t decided)
-      space = sum (blocks (commit.own_writes (target_plan r t) q.writes)) (blocks_at r.script t q.attempt) (need-is r t q.attempt q.writes h.its h.some) w.free
-        where
-          sum : (a b : ℕ) → a ≡ b → old.free ≤ k.free + a → old.free + blocks_of_decided r.script t decided ≤ k.free + (b + blocks_of_decided r.script t decided)
-          sum a b same low = omega (arith, same, low)
 
-  -- a turn that hears a Commit, and leaves the rows of containers as they were
-  pub commit-heeds : (new : Kept) (left : TargetMemory × Did) → Whole (commit.CommitNext (target_plan r t) opening m reading q) (commit.CommitEnds (target_plan r t) opening m reading q from) commit.Asked old new left
-      → Heeds r o decided issued t from old.free new.free left × (new.durable.conts ≡ old.durable.conts)
-  commit-heeds new left w =
-      let k : CommitSoFar (target_plan r t) m reading q old w.last new = commit-path (target_plan r t) opening m reading q old w.last new w.reached.did w.reached.path in
-      (commit-ends w.last new left k w.ends, k.conts)
+  -- a turn that hears a Commit
+  pub commit-leaves : (new : Kept) (left : TargetMemory × Did) → Whole (commit.CommitNext (target_plan r t) opening m reading q) (commit.CommitEnds (target_plan r t) opening m reading q from) commit.Asked old new left
+      → Leaves r o stored issued lines t old new left
+  commit-leaves new left w = commit-ends w.last new left (commit-path (target_plan r t) opening m reading q old w.last new w.reached.did w.reached.path) w.ends

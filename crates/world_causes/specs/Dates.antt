@@ -15,7 +15,7 @@ use Rattle.world_events.specs.Events.{listed}
 use Rattle.world_turns.specs.Reads.{uncertain_from}
 use Rattle.world_turns.specs.Requests.{epoch_of_ticks, issued_for, request_epoch}
 use Rattle.world_causes.specs.Causes.{Dated, limit, zeroth}
-use Rattle.world_causes.specs.Premises.{IsFirstKnown, IsRequest}
+use Rattle.world_causes.specs.Premises.{IsFirst, IsRequest}
 
 -- ---- the limit
 
@@ -70,17 +70,17 @@ last-is-there : (issued : Dated) (i : AttemptId × Epoch) → Contains (issued +
 last-is-there issued i = Contains-push issued i
 
 -- the first epoch of the command was issued to its attempt 0
-begun-first : (issued more : Dated) (x : AttemptId) (ep first : Option Epoch) (e : Epoch) → IsFirstKnown issued x ep first → Contains (issued ++ more) (x, e) → (f : Epoch) × Contains (issued ++ more) (zeroth x, f) × (uncertain_from first e ≡ f.0)
-begun-first issued more x ep None e known its = (e, subst (λ y. Contains (issued ++ more) (y, e)) (ap (λ n. record x { attempt = n }) known.0) its, refl)
-begun-first issued more x ep (Some f) e known its = (f, Contains-append_left issued more (zeroth x, f) known, refl)
+pub begun-first : (issued more : Dated) (x : AttemptId) (first : Option Epoch) (e : Epoch) → IsFirst issued x first → Contains (issued ++ more) (x, e) → (f : Epoch) × Contains (issued ++ more) (zeroth x, f) × (uncertain_from first e ≡ f.0)
+begun-first issued more x None e known its = (e, subst (λ y. Contains (issued ++ more) (y, e)) (ap (λ n. record x { attempt = n }) known) its, refl)
+begun-first issued more x (Some f) e known its = (f, Contains-append_left issued more (zeroth x, f) known, refl)
 
 epoch-is-new : (o : Opening) (issued : Dated) (x : AttemptId) (first : Option Epoch) (tracker e : Epoch) (me n : ℕ) → me < 256 → e.0 ≡ n * 256 + me → tracker.0 / 256 < n → n ≤ limit o issued + 1 → top o ≤ tracker.0
-    → IsFirstKnown issued x None first → IsDated o issued x None first e
+    → IsFirst issued x first → IsDated o issued x None first e
 epoch-is-new o issued x first tracker e me n few is above low top-low known = record {
   its = last-is-there issued (x, e);
   within = subst (λ m. e.0 / 256 ≤ m) (sym (limit-more o issued ((x, e) ∷ []))) (quotient (limit o issued) low);
   above = over (top o) top-low;
-  begun = begun-first issued ((x, e) ∷ []) x None first e known (last-is-there issued (x, e));
+  begun = begun-first issued ((x, e) ∷ []) x first e known (last-is-there issued (x, e));
 }
   where
     quotient : (b : ℕ) → n ≤ b + 1 → e.0 / 256 ≤ b + 1
@@ -95,7 +95,7 @@ request-dated o issued x (Some own) first tracker t m reading e few low q h = su
   its = Contains-append_left issued [] (x, own) k.0;
   within = subst (λ is. own.0 / 256 ≤ limit o is) (sym (append-nil issued)) k.2;
   above = k.1;
-  begun = begun-first issued [] x (Some own) first own q.known (Contains-append_left issued [] (x, own) k.0);
+  begun = begun-first issued [] x first own q.known (Contains-append_left issued [] (x, own) k.0);
 })
   where
     same : own ≡ e

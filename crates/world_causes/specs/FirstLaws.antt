@@ -1,17 +1,17 @@
 -- Every event keeps that first epochs are those of attempts 0.
-use Rattle.std.specs.Prelude.{ℕ, ◌≡◌, ◌++◌, Bool, true, false, is_some, List, [], ◌∷◌, slice_get, Contains, Option, Some, None, refl, if◌then◌else◌}
+use Rattle.std.specs.Prelude.{ℕ, ◌≡◌, ◌<◌, ◌++◌, Bool, true, false, is_some, List, slice_get, Contains, Option, Some, None, refl, if◌then◌else◌}
 use Rattle.std.proofs.Common.{inl, inr, sym, ◌∙◌, ap, subst}
 use Rattle.std.proofs.Math.ListN.{set}
 use Rattle.std.proofs.lemmas.List.Elements.{Contains-append_left}
 use Rattle.daos_base.specs.declared.epoch.Epoch.{Epoch}
 use Rattle.daos_base.specs.declared.id.AttemptId.{AttemptId}
-use Rattle.daos_base.specs.declared.outcome.FloorWhy.{FloorWhy}
 use Rattle.daos_base.specs.declared.outcome.Outcome.{Outcome}
 use Rattle.daos_laws.specs.Members.{Has, contains-from_has, has-cases, has-from_contains, has-from_map}
 use Rattle.daos_messages.specs.declared.actor.ActorId.{ActorId}
 use Rattle.daos_messages.specs.declared.message.Message.{Message}
 use Rattle.daos_messages.specs.declared.message.Message.TheVariants as message
 use Rattle.daos_messages.specs.declared.message.Post.{Post}
+use Rattle.dtx_base.specs.declared.member.Parked.{Parked}
 use Rattle.daos_messages.specs.declared.message.Reply.{Reply}
 use Rattle.daos_messages.specs.declared.message.Reply.TheVariants as reply
 use Rattle.daos_model.specs.Attempts.{is_restart}
@@ -20,36 +20,30 @@ use Rattle.world_base.specs.declared.client.ClientState.{ClientState}
 use Rattle.world_base.specs.declared.client.Present.{Present}
 use Rattle.world_base.specs.declared.did.Did.{Did}
 use Rattle.world_base.specs.declared.letter.Letter.{Letter}
-use Rattle.world_base.specs.declared.request.CommitRequest.{CommitRequest}
-use Rattle.world_base.specs.declared.request.FetchRequest.{FetchRequest}
-use Rattle.world_base.specs.declared.target.TargetMemory.{TargetMemory}
-use Rattle.world_base.specs.declared.target.TargetPlan.{TargetPlan}
+use Rattle.world_base.specs.declared.target.TargetState.{TargetState}
 use Rattle.world_base.specs.declared.world.World.{World}
 use Rattle.world_base.specs.ClientTurns.{Move, attempt_id, ended, heard, hears_epochs, knows, knows_epoch, listed, moved, replied, waits}
-use Rattle.world_epochs.specs.EpochLaws.{counting-keeps, hearing-keeps, moves-keep}
-use Rattle.world_epochs.specs.Epochs.{BearsEpoch, Epochs, IsIssued, Unsnapped}
+use Rattle.world_epochs.specs.Carried.{talks-once}
+use Rattle.world_epochs.specs.Epochs.{BearsEpoch, ClientsStand, Epochs, IsIssued, Unsnapped}
+use Rattle.world_epochs.specs.EventLaws as epochs
 use Rattle.world_events.specs.Events as events
-use Rattle.world_events.specs.Events.{ByClient, ByTarget, Event, Rules, TargetHears, TargetIdles, ToClient, ToTarget, client_plan, kept, target_plan}
+use Rattle.world_events.specs.Events.{ByClient, ByTarget, Event, Rules, TargetHears, TargetIdles, ToClient, ToTarget, after_turn, client_plan, kept, target_after, target_plan, with_target}
 use Rattle.world_events.specs.Letters.{client, letter_of, letters_of, target}
 use Rattle.world_events.specs.StepLaws.{by-hearing, by-next}
 use Rattle.world_events.specs.Steps.{KeptByCounting, KeptByHearing, KeptByMoves}
 use Rattle.world_lines.specs.EndingLaws.{heard-silent}
-use Rattle.world_talks.specs.AnswerLaws.{idle-posts-nothing}
 use Rattle.world_talks.specs.AskLaws.{move-is, waiting-rests}
 use Rattle.world_talks.specs.Asked.{ARead, ASnapshot, AnAggregation, Asked, Asking, IsMove, ItsWrites, Silent, Telling}
 use Rattle.world_talks.specs.Conversation.{Conversation}
-use Rattle.world_talks.specs.ConversationLaws.{count-keeps}
+use Rattle.world_talks.specs.ConversationLaws.{count-keeps, hear-keeps, move-keeps}
 use Rattle.world_talks.specs.Hearing.{AReply, ATracker, AnEnd, IsHearing, hearing-is}
 use Rattle.world_talks.specs.TalkLaws.{left-is-among, taken-is-among}
-use Rattle.world_turns.specs.Changes.{Kept}
-use Rattle.world_turns.specs.Commits as commit
-use Rattle.world_turns.specs.Reads as read
-use Rattle.world_turns.specs.TargetTurns.{Hears}
 use Rattle.world_causes.specs.Causes.{Dated, zeroth}
 use Rattle.world_causes.specs.FirstMoves.{GoesOnFrom, KnowsIfRestart, ReplyKnows, StaysIfUnknown, ended-goes, moved-moves, replied-goes}
 use Rattle.world_causes.specs.Firsts.{EventsKeepFirsts, Firsts, KeepsFirst}
+use Rattle.world_causes.specs.FirstTurns.{AreParked, ArePosts, HasEpoch, Knows, hears-knows, idle-knows}
 use Rattle.world_causes.specs.Growth.{at-set}
-use Rattle.world_causes.specs.Premises.{IsFirstKnown, IsNoRestart, MessageKnows}
+use Rattle.world_causes.specs.Premises.{IsFirst, IsFirstKnown, IsNoRestart, MessageKnows}
 
 -- ---- what is issued stays issued
 
@@ -57,23 +51,29 @@ known-more : (issued more : Dated) (x : AttemptId) (own first : Option Epoch) �
 known-more issued more x own None k = k
 known-more issued more x own (Some f) k = Contains-append_left issued more (zeroth x, f) k
 
+first-more : (issued more : Dated) (x : AttemptId) (first : Option Epoch) → IsFirst issued x first → IsFirst (issued ++ more) x first
+first-more issued more x None k = k
+first-more issued more x (Some f) k = Contains-append_left issued more (zeroth x, f) k
+
 message-more : (issued more : Dated) (m : Message) → MessageKnows issued m → MessageKnows (issued ++ more) m
-message-more issued more (message.Fetch x op group ep first tracker z snapshot) k = known-more issued more x ep first k
-message-more issued more (message.Commit x ep first tracker ws) k = known-more issued more x ep first k
+message-more issued more (message.Fetch x op group ep first tracker z snapshot) k = first-more issued more x first k
+message-more issued more (message.Commit x ep first tracker ws) k = first-more issued more x first k
+message-more issued more (message.Prepare e first ws inc) k = first-more issued more e.attempt first k
 message-more issued more (message.Fetched x op group None b) k = k
 message-more issued more (message.Ended x None how) k = k
 message-more issued more m k = tt
 
 -- ---- requests
 
+weaker : (issued : Dated) (x : AttemptId) (own first : Option Epoch) → IsFirstKnown issued x own first → IsFirst issued x first
+weaker issued x own None k = k.0
+weaker issued x own (Some f) k = k
+
 asked-knows : (r : Rules) (issued : Dated) (n : ℕ) (k : Epoch) (c : ClientState) (a : Present) (q : Post) → KeepsFirst issued n c a → Asked (client_plan r n) k c a q → MessageKnows issued q.message
-asked-knows r issued n k c a q known (ARead ops turns snapshot op z at' is asks says) = subst (λ x. MessageKnows issued x.message) (sym says) known
-asked-knows r issued n k c a q known (ItsWrites ops turns snapshot m ms at' last all says) = subst (λ x. MessageKnows issued x.message) (sym says) known
+asked-knows r issued n k c a q known (ARead ops turns snapshot op z at' is asks says) = subst (λ x. MessageKnows issued x.message) (sym says) (weaker issued (attempt_id (client_plan r n) c a) a.epoch a.first known)
+asked-knows r issued n k c a q known (ItsWrites ops turns snapshot m ms at' last all says) = subst (λ x. MessageKnows issued x.message) (sym says) (weaker issued (attempt_id (client_plan r n) c a) a.epoch a.first known)
 asked-knows r issued n k c a q known (ASnapshot name cont at' says) = subst (λ x. MessageKnows issued x.message) (sym says) tt
 asked-knows r issued n k c a q known (AnAggregation cont at' says) = subst (λ x. MessageKnows issued x.message) (sym says) tt
-
-abbrev ArePosts : Dated → List Post → Type 0
-ArePosts issued posts = (q : Post) → Has q posts → MessageKnows issued q.message
 
 -- letters that are sent beside others in flight
 sent-knows : (issued : Dated) (actor : ActorId) (letters : List Letter) (posts : List Post) → ((l : Letter) → Contains letters l → MessageKnows issued l.message) → ArePosts issued posts → (l : Letter) → Contains (letters ++ letters_of actor posts) l
@@ -171,45 +171,50 @@ module _ (r : Rules) (top : ℕ) (w : World) (n : ℕ) (c : ClientState) (l : Le
       subst (λ m. ItsFirst w.issued n m.state) (sym it)
       (goes-first w.issued n now (replied (client_plan r n) now (knows own g.a) b).state (knows own g.a)
       (replied-goes (client_plan r n) now (knows own g.a) b
-      (reply-knows g.a own b known (λ none. subst (MessageKnows w.issued) (says ∙ ap (λ e. message.Fetched (attempt_id (client_plan r n) c g.a) g.a.op group e b) none) (F.messages l among)))) known)
+      (reply-knows g.a own b known (λ none. subst (MessageKnows w.issued) (says ∙ ap (λ e. message.Fetched (attempt_id (client_plan r n) c g.a) g.a.op group e b) none) (F.messages.flight l among)))) known)
   heard-first rest (AnEnd g own how says it) =
       let known = knows-first g.a own g.present (λ f is. E.borne l (attempt_id (client_plan r n) c g.a) f among (subst (λ m. BearsEpoch m (attempt_id (client_plan r n) c g.a) f) (sym (says ∙ ap (λ e. message.Ended (attempt_id (client_plan r n) c g.a) e how) is)) (refl, refl))) in
       subst (λ m. ItsFirst w.issued n m.state) (sym it)
       (goes-first w.issued n now (ended (client_plan r n) now (knows own g.a) own how).state (knows own g.a)
       (ended-goes (client_plan r n) now (knows own g.a) own how
-      (knows-restart g.a own how known (λ none. subst (MessageKnows w.issued) (says ∙ ap (λ e. message.Ended (attempt_id (client_plan r n) c g.a) e how) none) (F.messages l among)))) known)
+      (knows-restart g.a own how known (λ none. subst (MessageKnows w.issued) (says ∙ ap (λ e. message.Ended (attempt_id (client_plan r n) c g.a) e how) none) (F.messages.flight l among)))) known)
 
 -- ---- turns of clients
 
-module _ (r : Rules) (top : ℕ) (U : Unsnapped r) where
+module _ (r : Rules) (top : ℕ) (some : 0 < r.attempts) (U : Unsnapped r) where
+  -- what is known of conversations and epochs is kept, and first epochs with it
   abbrev Three : World → Type 0
-  Three w = (Conversation r w × Epochs r top w) × Firsts w
+  Three w = (Conversation r w × ClientsStand r w × Epochs r top w) × Firsts w
 
   moves : KeptByMoves r Three
   moves w n c here p = (
-    moves-keep r top U w n c here p.0,
+    epochs.moves-keep r top some U (Conversation r) (talks-once r) (move-keeps r) (hear-keeps r) w n c here p.0,
     record {
       clients = one-changes w n c (moved (client_plan r n) c).state p.1 here (moved-first r w n c U p.1 here);
-      messages = sent-knows w.issued (client n) w.messages (listed (moved (client_plan r n) c).post) p.1.messages (move-knows r w n c p.1 here);
+      messages = record { flight = sent-knows w.issued (client n) w.messages (listed (moved (client_plan r n) c).post) p.1.messages.flight (move-knows r w n c p.1 here); parked = p.1.messages.parked };
     },
   )
 
   counting : KeptByCounting Three
   counting w n j c here p = (
-    (count-keeps r w n j c here p.0.0, counting-keeps r top U w n j c here p.0.1),
-    record {
-      clients = one-changes w n c (record c { skip = j }) p.1 here (λ b at. p.1.clients n c b here at);
-      messages = p.1.messages;
-    },
+    (
+      count-keeps r w n j c here p.0.0,
+      epochs.stands-by-counting r some w n j c here p.0.1,
+      epochs.counting-keeps r top some U (Conversation r) (talks-once r) (move-keeps r) (hear-keeps r) w n j c here p.0.2,
+    ),
+    record { clients = one-changes w n c (record c { skip = j }) p.1 here (λ b at. p.1.clients n c b here at); messages = record { flight = p.1.messages.flight; parked = p.1.messages.parked } },
   )
 
   hearing : KeptByHearing r Three
   hearing w n c l rest here awake takes to p = (
-    hearing-keeps r top U w n c l rest here awake takes to p.0,
+    epochs.hearing-keeps r top some U (Conversation r) (talks-once r) (move-keeps r) (hear-keeps r) w n c l rest here awake takes to p.0,
     record {
-      clients = one-changes w n c (heard (client_plan r n) c l.message).state p.1 here (heard-first r top w n c l p.0.1 p.1 here (taken-is-among w.messages l rest takes) rest is);
-      messages = sent-knows w.issued (client n) rest (listed (heard (client_plan r n) c l.message).post) (λ m i. p.1.messages m (left-is-among w.messages l rest m takes i))
-          (λ q i. absurd (subst (λ o. Has q (listed o)) (heard-silent r n c l rest is) i));
+      clients = one-changes w n c (heard (client_plan r n) c l.message).state p.1 here (heard-first r top w n c l p.0.2 p.1 here (taken-is-among w.messages l rest takes) rest is);
+      messages = record {
+        flight = sent-knows w.issued (client n) rest (listed (heard (client_plan r n) c l.message).post) (λ m i. p.1.messages.flight m (left-is-among w.messages l rest m takes i))
+            (λ q i. absurd (subst (λ o. Has q (listed o)) (heard-silent r n c l rest is) i));
+        parked = p.1.messages.parked;
+      };
     },
   )
     where
@@ -218,57 +223,48 @@ module _ (r : Rules) (top : ℕ) (U : Unsnapped r) where
 
 -- ---- turns of targets
 
-one-post : (issued : Dated) (did : Did) (q : Post) → did.posts ≡ q ∷ [] → MessageKnows issued q.message → ArePosts issued did.posts
-one-post issued did q e t s i = elim (subst (λ ps. Has s ps) e i) [ inl same ↦ subst (λ x. MessageKnows issued x.message) (sym same) t | inr j ↦ absurd j ]
-
-fetch-knows : (issued : Dated) (t : TargetPlan) (m : TargetMemory) (reading : ℕ) (q : FetchRequest) (from : ActorId) (s : read.FetchStage) (k : Kept) (left : TargetMemory × Did) → read.FetchEnds t m reading q from s k left → ArePosts issued left.1.posts
-fetch-knows issued t m reading q from s k left (read.IsSpent k2 left2 live none says) = one-post issued left2.1 _ (ap (λ o. o.1.posts) says) refl
-fetch-knows issued t m reading q from s k left (read.IsRefused k2 e decided c left2 why says) = one-post issued left2.1 _ (ap (λ o. o.1.posts) says) tt
-fetch-knows issued t m reading q from s k left (read.MeetsUnresolved k2 e decided a left2 free unsettled other says) = one-post issued left2.1 _ (ap (λ o. o.1.posts) says) tt
-fetch-knows issued t m reading q from s k left (read.IsServed k2 e decided b left2 free served says) = one-post issued left2.1 _ (ap (λ o. o.1.posts) says) tt
-
-commit-knows : (issued : Dated) (t : TargetPlan) (opening : Epoch × FloorWhy) (m : TargetMemory) (reading : ℕ) (q : CommitRequest) (from : ActorId) (s : commit.CommitStage) (k : Kept) (left : TargetMemory × Did)
-    → commit.CommitEnds t opening m reading q from s k left → ArePosts issued left.1.posts
-commit-knows issued t opening m reading q from s k left (commit.IsSpent k2 left2 none says) = one-post issued left2.1 _ (ap (λ o. o.1.posts) says) refl
-commit-knows issued t opening m reading q from s k left (commit.IsRefused k2 e c left2 why says) = one-post issued left2.1 _ (ap (λ o. o.1.posts) says) tt
-commit-knows issued t opening m reading q from s k left (commit.HasNoSpace k2 e left2 allowed full says) = one-post issued left2.1 _ (ap (λ o. o.1.posts) says) tt
-commit-knows issued t opening m reading q from s k left (commit.IsDecided k2 e left2 says) = one-post issued left2.1 _ (ap (λ o. o.1.posts) says) tt
-
-hears-knows : (issued : Dated) (t : TargetPlan) (opening : Epoch × FloorWhy) (m : TargetMemory) (reading : ℕ) (from : ActorId) (q : Message) (old new : Kept) (left : TargetMemory × Did) → Hears t opening m reading from q old new left
-    → ArePosts issued left.1.posts
-hears-knows issued t opening m reading from (message.Fetch x op group ep first tracker z snapshot) old new left h =
-    fetch-knows issued t m reading (record { attempt = x; op = op; group = group; ep = ep; first = first; tracker = tracker; read = z; snapshot = snapshot }) from h.last new left h.ends
-hears-knows issued t opening m reading from (message.Commit x ep first tracker ws) old new left h =
-    commit-knows issued t opening m reading (record { attempt = x; ep = ep; first = first; tracker = tracker; writes = ws }) from h.last new left h.ends
-hears-knows issued t opening m reading from q old new left h = absurd h
+-- Fetches that wait bear epochs
+parked-dated : (r : Rules) (top : ℕ) (w : World) (t : ℕ) (s : TargetState) → Epochs r top w → slice_get w.targets t ≡ Some s → (p : Parked) → Has p s.memory.member.parked → HasEpoch p.ask
+parked-dated r top w t s E here p i = let k = E.parked t s p here (contains-from_has s.memory.member.parked p i) in (k.x, k.e, k.bears)
 
 -- the world once a target did something, where these letters were left
-target-knows : (w v : World) (actor : ActorId) (did : Did) (rest : List Letter) → Firsts w → v.clients ≡ w.clients → v.issued ≡ w.issued ++ events.listed did.issued → v.messages ≡ rest ++ letters_of actor did.posts
-    → ((l : Letter) → Contains rest l → Contains w.messages l) → ArePosts (w.issued ++ events.listed did.issued) did.posts → Firsts v
-target-knows w v actor did rest F clients issued messages among posts = record {
-  clients = λ n c a here at. subst (λ is. KeepsFirst is n c a) (sym issued)
-      (known-more w.issued (events.listed did.issued) (record { client = n; command = c.command; attempt = a.attempt }) a.epoch a.first (F.clients n c a (ap (λ cs. slice_get cs n) (sym clients) ∙ here) at));
-  messages = λ l i. subst (λ is. MessageKnows is l.message) (sym issued)
-      (sent-knows (w.issued ++ events.listed did.issued) actor rest did.posts (λ m j. message-more w.issued (events.listed did.issued) m.message (F.messages m (among m j))) posts l (subst (λ ls. Contains ls l) messages i));
+target-knows : (w : World) (t : ℕ) (s new : TargetState) (did : Did) (rest : List Letter) → Firsts w → slice_get w.targets t ≡ Some s → ((l : Letter) → Contains rest l → Contains w.messages l)
+    → ArePosts (w.issued ++ events.listed did.issued) did.posts → AreParked (w.issued ++ events.listed did.issued) new.memory.member.parked → Firsts (with_target t new (after_turn w (target t) did rest))
+target-knows w t s new did rest F here among posts parked = record {
+  clients = λ n c a here at. known-more w.issued (events.listed did.issued) (record { client = n; command = c.command; attempt = a.attempt }) a.epoch a.first (F.clients n c a here at);
+  messages = record {
+    flight = sent-knows (w.issued ++ events.listed did.issued) (target t) rest did.posts (λ m j. message-more w.issued (events.listed did.issued) m.message (F.messages.flight m (among m j))) posts;
+    parked = λ u z p at. at-set w.targets t s new (λ v y. Contains y.memory.member.parked p → MessageKnows (w.issued ++ events.listed did.issued) p.ask) here
+        (λ i. parked p (has-from_contains new.memory.member.parked p i)) (λ v y at' i. message-more w.issued (events.listed did.issued) p.ask (F.messages.parked v y p at' i)) u z at;
+  };
 }
 
-target-hears-keeps : (r : Rules) (w v : World) → Firsts w → TargetHears r w v → Firsts v
-target-hears-keeps r w v F g =
-    target-knows w v (target g.t) g.did g.rest F (ap (λ x. x.clients) g.after) (ap (λ x. x.issued) g.after) (ap (λ x. x.messages) g.after) (λ m i. left-is-among w.messages g.l g.rest m g.takes i)
-    (hears-knows (w.issued ++ events.listed g.did.issued) (target_plan r g.t) g.s.opening g.s.memory g.reading g.l.from g.l.message (kept g.s) g.new (g.memory, g.did) g.turn)
+target-hears-keeps : (r : Rules) (top : ℕ) (w v : World) → Epochs r top w → Firsts w → TargetHears r w v → Firsts v
+target-hears-keeps r top w v E F g = subst Firsts (sym g.after) (target-knows w g.t g.s (target_after g.s g.new g.memory) g.did g.rest F g.here (λ m i. left-is-among w.messages g.l g.rest m g.takes i) k.posts k.parked)
+  where
+    now : Dated
+    now = w.issued ++ events.listed g.did.issued
+
+    k : Knows now (g.memory, g.did)
+    k = hears-knows now (target_plan r g.t) g.s.opening g.s.memory g.reading g.l.from g.l.message (kept g.s) g.new (g.memory, g.did)
+        (message-more w.issued (events.listed g.did.issued) g.l.message (F.messages.flight g.l (taken-is-among w.messages g.l g.rest g.takes)))
+        (λ p i. message-more w.issued (events.listed g.did.issued) p.ask (F.messages.parked g.t g.s p g.here (contains-from_has g.s.memory.member.parked p i)))
+        (parked-dated r top w g.t g.s E g.here) g.turn
 
 target-idles-keeps : (r : Rules) (w v : World) → Firsts w → TargetIdles r w v → Firsts v
-target-idles-keeps r w v F g =
-    target-knows w v (target g.t) g.did w.messages F (ap (λ x. x.clients) g.after) (ap (λ x. x.issued) g.after) (ap (λ x. x.messages) g.after) (λ m i. i)
-    (λ q i. absurd (subst (λ d. Has q d.posts) none i))
+target-idles-keeps r w v F g = subst Firsts (sym g.after) (target-knows w g.t g.s (target_after g.s g.new g.memory) g.did w.messages F g.here (λ m i. i) k.posts k.parked)
   where
-    none : g.did ≡ record { posts = []; lines = []; issued = None }
-    none = idle-posts-nothing g.s.memory (kept g.s) g.new (g.memory, g.did) g.turn
+    now : Dated
+    now = w.issued ++ events.listed g.did.issued
+
+    k : Knows now (g.memory, g.did)
+    k = idle-knows now g.settling (target_plan r g.t) g.s.memory (kept g.s) g.new (g.memory, g.did)
+        (λ p i. message-more w.issued (events.listed g.did.issued) p.ask (F.messages.parked g.t g.s p g.here (contains-from_has g.s.memory.member.parked p i))) g.turn
 
 -- ---- the law
 
 pub events-keep-firsts : EventsKeepFirsts
-events-keep-firsts r top w v U talk E F (ByClient g) = (by-next r (Three r top U) (moves r top U) (counting r top U) w v ((talk, E), F) g).1
-events-keep-firsts r top w v U talk E F (ToClient g) = (by-hearing r (Three r top U) (moves r top U) (hearing r top U) w v ((talk, E), F) g).1
-events-keep-firsts r top w v U talk E F (ToTarget g) = target-hears-keeps r w v F g
-events-keep-firsts r top w v U talk E F (ByTarget g) = target-idles-keeps r w v F g
+events-keep-firsts r top w v some U talk S E F (ByClient g) = (by-next r (Three r top some U) (moves r top some U) (counting r top some U) w v ((talk, S, E), F) g).1
+events-keep-firsts r top w v some U talk S E F (ToClient g) = (by-hearing r (Three r top some U) (moves r top some U) (hearing r top some U) w v ((talk, S, E), F) g).1
+events-keep-firsts r top w v some U talk S E F (ToTarget g) = target-hears-keeps r top w v E F g
+events-keep-firsts r top w v some U talk S E F (ByTarget g) = target-idles-keeps r w v F g

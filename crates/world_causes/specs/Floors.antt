@@ -14,6 +14,7 @@ use Rattle.daos_base.specs.declared.path.Path.{Path}
 use Rattle.daos_base.specs.declared.shown.Shown.{Shown}
 use Rattle.daos_base.specs.Operations.{read_path, write_path}
 use Rattle.daos_base.specs.Paths.{overlaps}
+use Rattle.daos_laws.specs.EntryLaws.{found-has, found-passes}
 use Rattle.daos_laws.specs.Members.{Has}
 use Rattle.daos_model.specs.declared.durable.Durable.{Durable}
 use Rattle.daos_model.specs.declared.durable.Version.{Version}
@@ -116,8 +117,17 @@ read-refused t q e opening d c plain below h = by (later_of t q.first e (read_pa
     by None k f = let no : ⊥ = cc in absurd no
     by (Some z) k f = (z, k, let same : write_later z ≡ c = cc in sym same)
 
--- one that meets an attempt meets a version of it that isn't settled
-pub meets-open : (r : Read) (e : Epoch) (opening : Epoch × FloorWhy) (d : Durable) (a : AttemptId) → AreBelow opening d e.0 → fetched r e d ≡ Err (fetch.Unsettled a) → (v : Version) × Has v d.versions × (v.done ≡ false) × (v.by ≡ a)
+-- a version that is in a read's way: it isn't settled, it is below the read's epoch, and overlaps
+pub record IsInTheWay (r : Read) (e : Epoch) (d : Durable) (a : AttemptId) : Type 0 where
+  pub v : Version
+  pub among : Has v d.versions
+  pub unsettled : v.done ≡ false
+  pub its : v.by ≡ a
+  pub below : v.epoch.0 < e.0
+  pub overlap : overlaps (read_path r) (version_path v) ≡ true
+
+-- one that meets an attempt meets such a version of it
+pub meets-open : (r : Read) (e : Epoch) (opening : Epoch × FloorWhy) (d : Durable) (a : AttemptId) → AreBelow opening d e.0 → fetched r e d ≡ Err (fetch.Unsettled a) → IsInTheWay r e d a
 unfolding fetched first_blocking blocks_read
 meets-open r e opening d a below h = by (find (blocks_read (read_path r) e.0) d.versions) refl (sym past ∙ h)
   where
@@ -125,12 +135,21 @@ meets-open r e opening d a below h = by (find (blocks_read (read_path r) e.0) d.
     past = ap (λ b. if b then Err (fetch.Aggregated (row_of d (read_path r).cont).aggregated (row_of d (read_path r).cont).number) else answer_unless (first_blocking (read_path r) e.0 d.versions) (answer r (map_below d.versions e.0)))
         (not-past opening d (read_path r).cont e below)
 
-    open-of : (v : Version) → blocks_read (read_path r) e.0 v ≡ true → v.done ≡ false
-    open-of v k = not_true v.done (and_left (not v.done) (nat_lt v.epoch.0 e.0) (and_left (not v.done && nat_lt v.epoch.0 e.0) _ k))
+    found : (v : Version) → blocks_read (read_path r) e.0 v ≡ true → Has v d.versions → v.by ≡ a → IsInTheWay r e d a
+    found v k among its =
+        let both = and_left (not v.done && nat_lt v.epoch.0 e.0) (overlaps (read_path r) (version_path v)) k in
+        record {
+          v = v;
+          among = among;
+          unsettled = not_true v.done (and_left (not v.done) (nat_lt v.epoch.0 e.0) both);
+          its = its;
+          below = above-is v.epoch.0 e.0 (and_right (not v.done) (nat_lt v.epoch.0 e.0) both);
+          overlap = and_right (not v.done && nat_lt v.epoch.0 e.0) (overlaps (read_path r) (version_path v)) k;
+        }
 
-    by : (o : Option Version) → find (blocks_read (read_path r) e.0) d.versions ≡ o → answer_unless o (answer r (map_below d.versions e.0)) ≡ Err (fetch.Unsettled a) → (v : Version) × Has v d.versions × (v.done ≡ false) × (v.by ≡ a)
+    by : (o : Option Version) → find (blocks_read (read_path r) e.0) d.versions ≡ o → answer_unless o (answer r (map_below d.versions e.0)) ≡ Err (fetch.Unsettled a) → IsInTheWay r e d a
     by None k f = let no : ⊥ = cc in absurd no
-    by (Some v) k f = (v, found-has (blocks_read (read_path r) e.0) d.versions v k, open-of v (found-passes (blocks_read (read_path r) e.0) d.versions v k), cc)
+    by (Some v) k f = found v (found-passes (blocks_read (read_path r) e.0) d.versions v k) (found-has (blocks_read (read_path r) e.0) d.versions v k) (cc)
 
 -- ---- rows that stay
 

@@ -18,6 +18,7 @@ use Rattle.daos_base.specs.declared.outcome.Cause.TheVariants as cause
 use Rattle.daos_base.specs.declared.outcome.Outcome.{Outcome}
 use Rattle.daos_base.specs.declared.outcome.Outcome.TheVariants as outcome
 use Rattle.daos_base.specs.declared.path.Path.{Path}
+use Rattle.daos_base.specs.declared.report.Line.{Line}
 use Rattle.daos_base.specs.declared.script.Script.{Script}
 use Rattle.daos_base.specs.Operations.{act_path, read_path}
 use Rattle.daos_laws.specs.Members.{Has, contains-from_has}
@@ -33,7 +34,7 @@ use Rattle.world_base.specs.declared.client.Stage.TheVariants as stage
 use Rattle.world_base.specs.ClientTurns.{act_read, condition_read, question}
 use Rattle.world_events.specs.Events.{Rules}
 use Rattle.world_events.specs.StepLaws.{set-here, set-there}
-use Rattle.world_causes.specs.Causes.{Dated, MessageShows, ReplyShows, Shows, ShowsCause, blocks_of_decided, zeroth}
+use Rattle.world_causes.specs.Causes.{Dated, EndsOf, IsUnanswered, MeetsOther, MessageShows, Refuses, RefusesBy, ReplyShows, Shows, Stored, blocks_of_stored, zeroth}
 
 -- ---- one element among others
 
@@ -59,12 +60,22 @@ any-of P xs x i p = let c = contains-from_has xs x i in (c.0, x, c.1, c.2, p)
 
 -- ---- what is shown stays shown
 
-pub blocks-more : (s : Script) (t : ℕ) (new decided : Dated) → blocks_of_decided s t decided ≤ blocks_of_decided s t (new ++ decided)
-blocks-more s t [] decided = omega arith
-blocks-more s t (i ∷ new) decided = let k : blocks_of_decided s t decided ≤ blocks_of_decided s t (new ++ decided) = blocks-more s t new decided in omega (arith, k)
+pub blocks-more : (s : Script) (t : ℕ) (new stored : Stored) → blocks_of_stored s t stored ≤ blocks_of_stored s t (new ++ stored)
+blocks-more s t [] stored = omega arith
+blocks-more s t (i ∷ new) stored = let k : blocks_of_stored s t stored ≤ blocks_of_stored s t (new ++ stored) = blocks-more s t new stored in omega (arith, k)
 
-module _ (r : Rules) (o : Opening) (new decided issued more : Dated) where
-  cause-more : (x : AttemptId) (why : Cause) → ShowsCause r issued x why → ShowsCause r (issued ++ more) x why
+pub meets-more : (r : Rules) (issued more : Dated) (x by : AttemptId) → MeetsOther r issued x by → MeetsOther r (issued ++ more) x by
+meets-more r issued more x by k = record {
+  own = k.own;
+  its = Contains-append_left issued more (x, k.own) k.its;
+  other = k.other;
+  others = Contains-append_left issued more (by, k.other) k.others;
+  below = k.below;
+  overlap = k.overlap;
+}
+
+module _ (r : Rules) (o : Opening) (new stored : Stored) (issued more : Dated) where
+  cause-more : (x : AttemptId) (why : Cause) → RefusesBy r issued x why → RefusesBy r (issued ++ more) x why
   cause-more x (cause.ReadLater by epoch path) k = record {
     own = k.own;
     its = Contains-append_left issued more (x, k.own) k.its;
@@ -87,38 +98,66 @@ module _ (r : Rules) (o : Opening) (new decided issued more : Dated) where
   cause-more x (cause.Unresolved by) k = k
   cause-more x (cause.Floor target epoch why) k = k
 
-  pub shows-more : (x : AttemptId) (how : Outcome) → Shows r o decided issued x how → Shows r o (new ++ decided) (issued ++ more) x how
-  shows-more x outcome.Committed k = tt
-  shows-more x (outcome.CondFailed op) k = tt
-  shows-more x (outcome.Restart why) k = cause-more x why k
-  shows-more x (outcome.NoSpace target need free) k = record {
+  pub refuses-more : (x : AttemptId) (how : Outcome) → Refuses r o stored issued x how → Refuses r o (new ++ stored) (issued ++ more) x how
+  refuses-more x outcome.Committed k = tt
+  refuses-more x (outcome.CondFailed op) k = tt
+  refuses-more x (outcome.Restart why) k = cause-more x why k
+  refuses-more x (outcome.NoSpace target need free) k = record {
     own = k.own;
     its = Contains-append_left issued more (x, k.own) k.its;
     wanting = k.wanting;
     need_is = k.need_is;
     accounted =
-        let p : o.free target ≤ free + blocks_of_decided r.script target decided = k.accounted in
-        let q : blocks_of_decided r.script target decided ≤ blocks_of_decided r.script target (new ++ decided) = blocks-more r.script target new decided in
+        let p : o.free target ≤ free + blocks_of_stored r.script target stored = k.accounted in
+        let q : blocks_of_stored r.script target stored ≤ blocks_of_stored r.script target (new ++ stored) = blocks-more r.script target new stored in
         omega (arith, p, q);
   }
-  shows-more x outcome.EpochsSpent k = record {
+  refuses-more x outcome.EpochsSpent k = record {
     before = k.before;
     since = k.since ++ more;
     among = ap (λ is. is ++ more) k.among ∙ append_assoc k.before k.since more;
     none = k.none;
     spent = k.spent;
   }
-  shows-more x outcome.NoSnapshot k = tt
-  shows-more x (outcome.Unknown target) k = k
+  refuses-more x outcome.NoSnapshot k = k
+  refuses-more x (outcome.Unknown target) k = k
 
-  reply-more : (x : AttemptId) (b : Reply) → ReplyShows r o decided issued x b → ReplyShows r o (new ++ decided) (issued ++ more) x b
-  reply-more x (reply.Answer b) k = tt
-  reply-more x (reply.Outcome how) k = shows-more x how k
+  -- with the same lines before it, or with other lines before which as much is unanswered
+  pub shows-more : (lines later : List Line) (x : AttemptId) → ((by : AttemptId) → IsUnanswered lines x by → IsUnanswered later x by) → (how : Outcome) → Shows r o stored issued lines x how → Shows r o (new ++ stored) (issued ++ more) later x how
+  shows-more lines later x same outcome.Committed k = tt
+  shows-more lines later x same (outcome.CondFailed op) k = tt
+  shows-more lines later x same (outcome.Restart (cause.ReadLater by epoch path)) k = cause-more x (cause.ReadLater by epoch path) k
+  shows-more lines later x same (outcome.Restart (cause.WriteLater by epoch path)) k = cause-more x (cause.WriteLater by epoch path) k
+  shows-more lines later x same (outcome.Restart (cause.Unresolved by)) k = record { meets = meets-more r issued more x by k.meets; unanswered = same by k.unanswered }
+  shows-more lines later x same (outcome.Restart (cause.Floor target epoch why)) k = k
+  shows-more lines later x same (outcome.NoSpace target need free) k = refuses-more x (outcome.NoSpace target need free) k
+  shows-more lines later x same outcome.EpochsSpent k = refuses-more x outcome.EpochsSpent k
+  shows-more lines later x same outcome.NoSnapshot k = k
+  shows-more lines later x same (outcome.Unknown target) k = k
 
-  pub message-more : (m : Message) → MessageShows r o decided issued m → MessageShows r o (new ++ decided) (issued ++ more) m
-  message-more (message.Fetched x op group e b) k = reply-more x b k
-  message-more (message.Ended x e how) k = shows-more x how k
-  message-more m k = tt
+  reply-more : (lines later : List Line) (x : AttemptId) → ((by : AttemptId) → IsUnanswered lines x by → IsUnanswered later x by) → (b : Reply) → ReplyShows r o stored issued lines x b → ReplyShows r o (new ++ stored) (issued ++ more) later x b
+  reply-more lines later x same (reply.Answer b) k = tt
+  reply-more lines later x same (reply.Outcome how) k = shows-more lines later x same how k
+
+  pub message-more : (lines later : List Line) (m : Message) → ((x by : AttemptId) → EndsOf m x → IsUnanswered lines x by → IsUnanswered later x by) → MessageShows r o stored issued lines m → MessageShows r o (new ++ stored) (issued ++ more) later m
+  message-more lines later (message.Fetched x op group e b) same k = reply-more lines later x (λ by u. same x by refl u) b k
+  message-more lines later (message.Ended x e how) same k = shows-more lines later x (λ by u. same x by refl u) how k
+  message-more lines later (message.Ack x inc (Some how)) same k = refuses-more x how k
+  message-more lines later (message.Ack x inc None) same k = tt
+  message-more lines later m same k = tt
+
+-- a member's refusal is what its attempt's outcome shows, wherever its line stands
+pub refusal-shows : (r : Rules) (o : Opening) (stored : Stored) (issued : Dated) (lines : List Line) (x : AttemptId) (how : Outcome) → Refuses r o stored issued x how → Shows r o stored issued lines x how
+refusal-shows r o stored issued lines x outcome.Committed k = tt
+refusal-shows r o stored issued lines x (outcome.CondFailed op) k = tt
+refusal-shows r o stored issued lines x (outcome.Restart (cause.ReadLater by epoch path)) k = k
+refusal-shows r o stored issued lines x (outcome.Restart (cause.WriteLater by epoch path)) k = k
+refusal-shows r o stored issued lines x (outcome.Restart (cause.Unresolved by)) k = absurd k
+refusal-shows r o stored issued lines x (outcome.Restart (cause.Floor target epoch why)) k = absurd k
+refusal-shows r o stored issued lines x (outcome.NoSpace target need free) k = k
+refusal-shows r o stored issued lines x outcome.EpochsSpent k = k
+refusal-shows r o stored issued lines x outcome.NoSnapshot k = k
+refusal-shows r o stored issued lines x (outcome.Unknown target) k = absurd k
 
 -- ---- what an operation asks
 

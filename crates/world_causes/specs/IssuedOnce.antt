@@ -18,15 +18,15 @@ use Rattle.world_epochs.specs.Epochs.{AsksEpoch, Epochs, IsUnissued}
 use Rattle.world_events.specs.Events as events
 use Rattle.world_events.specs.Events.{ByClient, ByTarget, Event, Rules, TargetHears, TargetIdles, ToClient, ToTarget, kept, target_plan}
 use Rattle.world_events.specs.StepLaws.{by-hearing, by-next}
-use Rattle.world_talks.specs.AnswerLaws.{idle-posts-nothing}
 use Rattle.world_talks.specs.TalkLaws.{taken-is-among}
 use Rattle.world_turns.specs.Changes.{Kept}
 use Rattle.world_turns.specs.Commits as commit
+use Rattle.world_turns.specs.MemoryLaws.{hears-issues-none, idles-issue-none}
 use Rattle.world_turns.specs.Reads as read
 use Rattle.world_turns.specs.Requests.{issued_for}
 use Rattle.world_turns.specs.TargetTurns.{Hears}
 use Rattle.world_causes.specs.Causes.{Dated}
-use Rattle.world_causes.specs.LastCauses.{AreApart, dated_ids}
+use Rattle.world_causes.specs.Storing.{AreApart, dated_ids}
 
 -- ---- the statement
 
@@ -55,7 +55,8 @@ fetch-ends : (t : TargetPlan) (m : TargetMemory) (reading : ℕ) (q : FetchReque
     → Issues (message.Fetch q.attempt q.op q.group q.ep q.first q.tracker q.read q.snapshot) left.1.issued
 fetch-ends t m reading q from s k left (read.IsSpent k2 left2 live none says) = Nothing (ap (λ o. o.1.issued) says)
 fetch-ends t m reading q from s k left (read.IsRefused k2 e decided c left2 why says) = fetch-issues q e q.ep left.1.issued (ap (λ o. o.1.issued) says)
-fetch-ends t m reading q from s k left (read.MeetsUnresolved k2 e decided a left2 free unsettled other says) = fetch-issues q e q.ep left.1.issued (ap (λ o. o.1.issued) says)
+fetch-ends t m reading q from s k left (read.MeetsUnresolved k2 e decided a left2 free unsettled among other says) = fetch-issues q e q.ep left.1.issued (ap (λ o. o.1.issued) says)
+fetch-ends t m reading q from s k left (read.IsParked k2 e decided a leader left2 free unsettled other says) = fetch-issues q e q.ep left.1.issued (ap (λ o. o.1.issued) says)
 fetch-ends t m reading q from s k left (read.IsServed k2 e decided b left2 free served says) = fetch-issues q e q.ep left.1.issued (ap (λ o. o.1.issued) says)
 
 commit-ends : (t : TargetPlan) (opening : Epoch × FloorWhy) (m : TargetMemory) (reading : ℕ) (q : CommitRequest) (from : ActorId) (s : commit.CommitStage) (k : Kept) (left : TargetMemory × Did)
@@ -63,13 +64,19 @@ commit-ends : (t : TargetPlan) (opening : Epoch × FloorWhy) (m : TargetMemory) 
 commit-ends t opening m reading q from s k left (commit.IsSpent k2 left2 none says) = Nothing (ap (λ o. o.1.issued) says)
 commit-ends t opening m reading q from s k left (commit.IsRefused k2 e c left2 why says) = commit-issues q e q.ep left.1.issued (ap (λ o. o.1.issued) says)
 commit-ends t opening m reading q from s k left (commit.HasNoSpace k2 e left2 allowed full says) = commit-issues q e q.ep left.1.issued (ap (λ o. o.1.issued) says)
-commit-ends t opening m reading q from s k left (commit.IsDecided k2 e left2 says) = commit-issues q e q.ep left.1.issued (ap (λ o. o.1.issued) says)
+commit-ends t opening m reading q from s k left (commit.HasBegun k2 e left2 says) = commit-issues q e q.ep left.1.issued (ap (λ o. o.1.issued) says)
 
 hears-issues : (t : TargetPlan) (opening : Epoch × FloorWhy) (m : TargetMemory) (reading : ℕ) (from : ActorId) (q : Message) (old new : Kept) (left : TargetMemory × Did) → Hears t opening m reading from q old new left → Issues q left.1.issued
 hears-issues t opening m reading from (message.Fetch x op group ep first tracker r snapshot) old new left h =
     fetch-ends t m reading (record { attempt = x; op = op; group = group; ep = ep; first = first; tracker = tracker; read = r; snapshot = snapshot }) from h.last new left h.ends
 hears-issues t opening m reading from (message.Commit x ep first tracker ws) old new left h =
     commit-ends t opening m reading (record { attempt = x; ep = ep; first = first; tracker = tracker; writes = ws }) from h.last new left h.ends
+hears-issues t opening m reading from (message.Prepare e first ws inc) old new left h = Nothing (hears-issues-none t opening m reading from (message.Prepare e first ws inc) old new left h refl)
+hears-issues t opening m reading from (message.Ack x inc refusal) old new left h = Nothing (hears-issues-none t opening m reading from (message.Ack x inc refusal) old new left h refl)
+hears-issues t opening m reading from (message.Mark inc marks) old new left h = Nothing (hears-issues-none t opening m reading from (message.Mark inc marks) old new left h refl)
+hears-issues t opening m reading from (message.Marked inc ids) old new left h = Nothing (hears-issues-none t opening m reading from (message.Marked inc ids) old new left h refl)
+hears-issues t opening m reading from (message.Query x ask) old new left h = Nothing (hears-issues-none t opening m reading from (message.Query x ask) old new left h refl)
+hears-issues t opening m reading from (message.Verdict x ask inc v) old new left h = Nothing (hears-issues-none t opening m reading from (message.Verdict x ask inc v) old new left h refl)
 hears-issues t opening m reading from q old new left h = absurd h
 
 -- ---- lists
@@ -103,10 +110,9 @@ hears-once r top w v E k g = subst (λ is. AreApart (dated_ids is)) (sym (ap (λ
         (apart-push w.issued x e (not-among w x (E.fresh g.l x tracker (taken-is-among w.messages g.l g.rest g.takes) asks).1) k)
 
 idles-once : (r : Rules) (w v : World) → IssuedOnce w → TargetIdles r w v → IssuedOnce v
-idles-once r w v k g = subst (λ is. AreApart (dated_ids is)) (sym (ap (λ x. x.issued) g.after ∙ ap (λ d. w.issued ++ events.listed d.issued) none ∙ append-nil w.issued)) k
-  where
-    none : g.did ≡ record { posts = []; lines = []; issued = None }
-    none = idle-posts-nothing g.s.memory (kept g.s) g.new (g.memory, g.did) g.turn
+idles-once r w v k g =
+    subst (λ is. AreApart (dated_ids is))
+    (sym (ap (λ x. x.issued) g.after ∙ ap (λ o. w.issued ++ events.listed o) (idles-issue-none g.settling (target_plan r g.t) g.s.memory (kept g.s) g.new (g.memory, g.did) g.turn) ∙ append-nil w.issued)) k
 
 pub events-keep-issued-once : EventsKeepIssuedOnce
 events-keep-issued-once r top w v E k (ByClient g) = by-next r IssuedOnce (λ u n c here p. p) (λ u n j c here p. p) w v k g

@@ -1,70 +1,95 @@
 -- What the steps of a turn leave: the rows of containers, the free blocks but for what writes take, and what isn't settled.
-use Rattle.std.specs.Prelude.{ℕ, ◌≡◌, ◌≤◌, ◌+◌, false, not, List, map, filter, Option, Some, refl}
-use Rattle.std.proofs.Common.{sym, ◌∙◌, ap, subst, arith}
+use Rattle.std.specs.Option.{option_map}
+use Rattle.std.specs.Prelude.{ℕ, ◌≡◌, ◌≤◌, ◌<◌, ◌+◌, Bool, true, false, not, List, [], ◌∷◌, map, filter, Option, Some, None, refl, if◌then◌else◌}
+use Rattle.std.proofs.Common.{inl, inr, sym, ◌∙◌, ap, subst, arith}
 use Rattle.daos_base.specs.declared.entry.Entry.{Entry}
-use Rattle.daos_base.specs.declared.entry.Settle.TheVariants.{Commit}
+use Rattle.daos_base.specs.declared.entry.Settle.{Settle}
+use Rattle.daos_base.specs.declared.entry.Settle.TheVariants.{Abort, Commit, Confirm, Forget}
 use Rattle.daos_base.specs.declared.epoch.Epoch.{Epoch}
 use Rattle.daos_base.specs.declared.id.AttemptId.{AttemptId}
 use Rattle.daos_base.specs.declared.operation.MinorWrite.{MinorWrite}
 use Rattle.daos_base.specs.declared.outcome.FloorWhy.{FloorWhy}
-use Rattle.daos_laws.specs.Members.{Has, has-filter, has-from_map}
+use Rattle.daos_base.specs.declared.report.Line.{Line}
+use Rattle.daos_laws.specs.Members.{Has, has-filter, has-from_filter, has-from_map}
 use Rattle.daos_model.specs.declared.durable.Durable.{Durable}
 use Rattle.daos_model.specs.declared.durable.Version.{Version}
+use Rattle.daos_model.specs.Answers.{is_before}
 use Rattle.daos_model.specs.Blocks.{blocks}
 use Rattle.daos_model.specs.BoolLaws.{or_left, or_right}
-use Rattle.daos_model.specs.Changes.{leased, prepared, settled}
-use Rattle.daos_model.specs.Durables.{same_attempt}
-use Rattle.daos_model.specs.Versions.{done_by}
-use Rattle.world_base.specs.declared.did.Did.{Did}
+use Rattle.daos_model.specs.Changes.{committed_at, leased, prepared, settled}
+use Rattle.daos_model.specs.Durables.{entry_key, entry_of, same_attempt}
+use Rattle.daos_model.specs.Ordered.{put}
+use Rattle.daos_model.specs.Versions.{done_by, is_not_pending, is_pending}
 use Rattle.world_base.specs.declared.request.CommitRequest.{CommitRequest}
 use Rattle.world_base.specs.declared.request.FetchRequest.{FetchRequest}
+use Rattle.world_base.specs.declared.request.PrepareRequest.{PrepareRequest}
 use Rattle.world_base.specs.declared.target.TargetMemory.{TargetMemory}
 use Rattle.world_base.specs.declared.target.TargetPlan.{TargetPlan}
-use Rattle.world_turns.specs.Changes.{Change, Kept, Steps}
+use Rattle.world_epochs.specs.Lists.{same-self}
+use Rattle.world_turns.specs.Changes.{Change, Extends, Kept, Settles, Steps, cost}
 use Rattle.world_turns.specs.Commits as commit
-use Rattle.world_turns.specs.Idle.{IdleNext, SettlesFirst}
+use Rattle.world_turns.specs.EntryLaws.{entry-aborted_other, entry-committed, entry-leased}
+use Rattle.world_turns.specs.PathLaws.{path-keeps}
+use Rattle.world_turns.specs.Prepares as prepare
 use Rattle.world_turns.specs.Reads as read
 use Rattle.world_turns.specs.Requests.{is_other_attempt, request_epoch}
-use Rattle.world_turns.specs.TargetTurns.{IdlesWhole}
-use Rattle.world_turns.specs.Turns.{Here, More, Path}
+use Rattle.world_turns.specs.Roles.{other_leader, other_leader_of}
+use Rattle.world_turns.specs.Turns.{Path}
+use Rattle.world_causes.specs.Turns.{HasNoLine}
 
 -- ---- changes
-
-conts-leased : (n : ℕ) (d : Durable) → (leased n d).conts ≡ d.conts
-unfolding leased
-conts-leased n d = refl
 
 versions-leased : (n : ℕ) (d : Durable) → (leased n d).versions ≡ d.versions
 unfolding leased
 versions-leased n d = refl
 
+conts-settled : (a : AttemptId) (step : Settle) (d : Durable) → (settled a step d).conts ≡ d.conts
+unfolding settled
+conts-settled a Commit d = refl
+conts-settled a Abort d = refl
+conts-settled a (Confirm t) d = refl
+conts-settled a Forget d = refl
+
+conts-leased : (n : ℕ) (d : Durable) → (leased n d).conts ≡ d.conts
+unfolding leased
+conts-leased n d = refl
+
 conts-prepared : (e : Entry) (ws : List MinorWrite) (d : Durable) → (prepared e ws d).conts ≡ d.conts
 unfolding prepared
 conts-prepared e ws d = refl
 
-conts-settled : (a : AttemptId) (d : Durable) → (settled a Commit d).conts ≡ d.conts
+versions-committed : (a : AttemptId) (d : Durable) → (settled a Commit d).versions ≡ map (done_by a) d.versions
 unfolding settled
-conts-settled a d = refl
+versions-committed a d = refl
 
-versions-settled : (a : AttemptId) (d : Durable) → (settled a Commit d).versions ≡ map (done_by a) d.versions
+versions-aborted : (a : AttemptId) (d : Durable) → (settled a Abort d).versions ≡ filter (is_not_pending a) d.versions
 unfolding settled
-versions-settled a d = refl
+versions-aborted a d = refl
 
--- what isn't settled is of these attempts
-abbrev pub AreOpenOf : List Version → List AttemptId → Type 0
-AreOpenOf vs decided = (v : Version) → Has v vs → v.done ≡ false → Has v.by decided
+-- the blocks that a step may take
+abbrev pub costs : Option Change → ℕ
+costs None = 0
+costs (Some c) = cost c
 
-open-before : (a : AttemptId) (u : Version) → (done_by a u).done ≡ false → (u.done ≡ false) × (same_attempt u.by a ≡ false) × ((done_by a u).by ≡ u.by)
-unfolding done_by
-open-before a u h = (or_left u.done (same_attempt u.by a) h, or_right u.done (same_attempt u.by a) h, refl)
+pub free-step : (o : Option Change) (k l : Kept) → Steps o k l → k.free ≤ l.free + costs o
+free-step None k l st = let same : l.free ≡ k.free = ap (λ z. z.free) st in omega (arith, same)
+free-step (Some c) k l st = st.1
 
--- once one of them is settled it is of the others
-open-settled : (a : AttemptId) (vs : List Version) (decided : List AttemptId) → AreOpenOf vs decided → AreOpenOf (map (done_by a) vs) (filter (is_other_attempt a) decided)
-open-settled a vs decided k v i open' =
-    let u = has-from_map (done_by a) vs v i in
-    let was = open-before a u.0 (ap (λ z. z.done) u.2 ∙ open') in
-    subst (λ x. Has x (filter (is_other_attempt a) decided)) (sym was.2 ∙ ap (λ z. z.by) u.2)
-    (has-filter (is_other_attempt a) decided u.0.by (k u.0 u.1 was.0) (ap not was.1))
+-- a turn whose steps take no blocks leaves as many free
+pub free-path : {S : Type 0} (Next : S → Kept → Option Change → S → Type 0) → ((s : S) (k : Kept) (o : Option Change) (u : S) → Next s k o u → costs o ≡ 0)
+    → (s : S) (k : Kept) (did : List Change) (u : S) (l : Kept) → Path Next s k did u l → k.free ≤ l.free
+free-path {S = S} Next cheap s k did u l p = path-keeps Next (λ v j. k.free ≤ j.free) one s k did u l p (omega arith)
+  where
+    one : (v : S) (j : Kept) (o : Option Change) (w : S) (i : Kept) → Next v j o w → Steps o j i → k.free ≤ j.free → k.free ≤ i.free
+    one v j o w i next st low =
+        let step : j.free ≤ i.free + costs o = free-step o j i st in
+        let none : costs o ≡ 0 = cheap v j o w next in
+        sum (costs o) step none
+      where
+        sum : (n : ℕ) → j.free ≤ i.free + n → n ≡ 0 → k.free ≤ i.free
+        sum n step none = omega (arith, low, step, none)
+
+-- ---- versions that were there before
 
 -- each of these versions was one of those before, but for whether it is done
 abbrev pub AreOld : List Version → List Version → Type 0
@@ -74,18 +99,141 @@ same-done : (a : AttemptId) (v : Version) → ((done_by a v).by ≡ v.by) × ((d
 unfolding done_by
 same-done a v = (refl, refl, refl)
 
-old-settled : (a : AttemptId) (olds vs : List Version) → AreOld olds vs → AreOld olds (map (done_by a) vs)
-old-settled a olds vs k v i =
+old-committed : (a : AttemptId) (olds vs : List Version) → AreOld olds vs → AreOld olds (map (done_by a) vs)
+old-committed a olds vs k v i =
     let y = has-from_map (done_by a) vs v i in
     let u = k y.0 y.1 in
     let s = same-done a y.0 in
     (u.0, u.1, u.2 ∙ sym s.0 ∙ ap (λ z. z.by) y.2, u.3 ∙ sym s.1 ∙ ap (λ z. z.epoch) y.2, u.4 ∙ sym s.2 ∙ ap (λ z. z.write) y.2)
 
+-- ---- what a read may meet
+
+-- an attempt that a read may meet at a target: it is known as decided, another target leads it, or no line tells of it
+pub data IsMet (t : TargetPlan) (lines : List Line) (d : Durable) (left : List AttemptId) (a : AttemptId) : Type 0 where
+  IsKnown : Has a left → IsMet t lines d left a
+  IsOthers : (leader : ℕ) → other_leader t a d ≡ Some leader → IsMet t lines d left a
+  IsUnended : HasNoLine lines a → IsMet t lines d left a
+
+-- a version that isn't settled is of such an attempt, and of an epoch above all of before the run
+pub record IsOpen (t : TargetPlan) (lines : List Line) (top : ℕ) (d : Durable) (left : List AttemptId) (v : Version) : Type 0 where
+  pub met : IsMet t lines d left v.by
+  pub above : top < v.epoch.0
+
+abbrev pub AreOpen : TargetPlan → List Line → ℕ → Durable → List AttemptId → Type 0
+AreOpen t lines top d left = (v : Version) → Has v d.versions → v.done ≡ false → IsOpen t lines top d left v
+
+same-leader : (a : AttemptId) (me : ℕ) (o : Option Entry) → other_leader_of me (option_map (committed_at a) o) ≡ other_leader_of me o
+same-leader a me None = refl
+same-leader a me (Some e) = by (same_attempt e.attempt a)
+  where
+    by : (b : Bool) → other_leader_of me (Some (if b then record e { committed = true } else e)) ≡ other_leader_of me (Some e)
+    by true = refl
+    by false = refl
+
+leader-committed : (t : TargetPlan) (a x : AttemptId) (d : Durable) → other_leader t x (settled a Commit d) ≡ other_leader t x d
+unfolding other_leader
+leader-committed t a x d = ap (other_leader_of t.me) (entry-committed a d x) ∙ same-leader a t.me (entry_of d x)
+
+leader-aborted : (t : TargetPlan) (a x : AttemptId) (d : Durable) → (x ≡ a → ⊥) → other_leader t x (settled a Abort d) ≡ other_leader t x d
+unfolding other_leader
+leader-aborted t a x d off = ap (other_leader_of t.me) (entry-aborted_other a d x off)
+
+leader-leased : (t : TargetPlan) (n : ℕ) (x : AttemptId) (d : Durable) → other_leader t x (leased n d) ≡ other_leader t x d
+unfolding other_leader
+leader-leased t n x d = ap (other_leader_of t.me) (entry-leased n d x)
+
+met-by : (t : TargetPlan) (lines : List Line) (d e : Durable) (left more : List AttemptId) (a : AttemptId) → (Has a left → Has a more) → other_leader t a e ≡ other_leader t a d → IsMet t lines d left a → IsMet t lines e more a
+met-by t lines d e left more a known same (IsKnown i) = IsKnown (known i)
+met-by t lines d e left more a known same (IsOthers leader is) = IsOthers leader (same ∙ is)
+met-by t lines d e left more a known same (IsUnended none) = IsUnended none
+
+open-before : (a : AttemptId) (u : Version) → (done_by a u).done ≡ false → (u.done ≡ false) × (same_attempt u.by a ≡ false)
+unfolding done_by
+open-before a u h = (or_left u.done (same_attempt u.by a) h, or_right u.done (same_attempt u.by a) h)
+
+-- once an attempt is committed the others are left
+open-committed : (t : TargetPlan) (lines : List Line) (top : ℕ) (a : AttemptId) (d : Durable) (left : List AttemptId) → AreOpen t lines top d left → AreOpen t lines top (settled a Commit d) (filter (is_other_attempt a) left)
+open-committed t lines top a d left k v i open' =
+    let u = has-from_map (done_by a) d.versions v (subst (Has v) (versions-committed a d) i) in
+    let was = open-before a u.0 (ap (λ z. z.done) u.2 ∙ open') in
+    let s = same-done a u.0 in
+    let own : u.0.by ≡ v.by = sym s.0 ∙ ap (λ z. z.by) u.2 in
+    let is = k u.0 u.1 was.0 in
+    record {
+      met = subst (IsMet t lines (settled a Commit d) (filter (is_other_attempt a) left)) own
+          (met-by t lines d (settled a Commit d) left (filter (is_other_attempt a) left) u.0.by (λ j. has-filter (is_other_attempt a) left u.0.by j (ap not was.1)) (leader-committed t a u.0.by d) is.met);
+      above = subst (λ e. top < e.0) (sym s.1 ∙ ap (λ z. z.epoch) u.2) is.above;
+    }
+
+not-its : (a : AttemptId) (v : Version) → v.done ≡ false → is_not_pending a v ≡ true → v.by ≡ a → ⊥
+unfolding is_pending
+not-its a v open' other same =
+    let its : same_attempt v.by a ≡ true = subst (λ x. same_attempt v.by x ≡ true) same (same-self v.by) in
+    let no : ⊥ = cc in no
+
+-- and once it is aborted
+open-aborted : (t : TargetPlan) (lines : List Line) (top : ℕ) (a : AttemptId) (d : Durable) (left : List AttemptId) → AreOpen t lines top d left → AreOpen t lines top (settled a Abort d) left
+open-aborted t lines top a d left k v i open' =
+    let u = has-from_filter (is_not_pending a) d.versions v (subst (Has v) (versions-aborted a d) i) in
+    let is = k v u.0 open' in
+    record { met = met-by t lines d (settled a Abort d) left left v.by (λ j. j) (leader-aborted t a v.by d (λ same. not-its a v open' u.1 same)) is.met; above = is.above }
+
+-- ---- a turn that reads
+
+-- what the steps of such a turn leave
+pub record Lasts (t : TargetPlan) (lines : List Line) (top : ℕ) (old : Kept) (left : List AttemptId) (k : Kept) : Type 0 where
+  pub free : old.free ≤ k.free
+  pub conts : k.durable.conts ≡ old.durable.conts
+  pub olds : AreOld old.durable.versions k.durable.versions
+  pub opens : AreOpen t lines top k.durable left
+
+module _ (t : TargetPlan) (lines : List Line) (top : ℕ) (old : Kept) where
+  pub lasts-here : (left : List AttemptId) → AreOpen t lines top old.durable left → Lasts t lines top old left old
+  lasts-here left open' = record { free = omega arith; conts = refl; olds = λ v i. (v, i, refl, refl, refl); opens = open' }
+
+  pub lasts-rests : (left : List AttemptId) (k l : Kept) → l ≡ k → Lasts t lines top old left k → Lasts t lines top old left l
+  lasts-rests left k l same h = subst (Lasts t lines top old left) (sym same) h
+
+  pub lasts-leased : (left : List AttemptId) (n : ℕ) (k l : Kept) → Steps (Some (Extends n)) k l → Lasts t lines top old left k → Lasts t lines top old left l
+  lasts-leased left n k l st h = record {
+    free = let f : old.free ≤ k.free = h.free in let g : k.free ≤ l.free + 0 = st.1 in omega (arith, f, g);
+    conts = ap (λ d. d.conts) st.0 ∙ conts-leased n k.durable ∙ h.conts;
+    olds = subst (AreOld old.durable.versions) (sym (ap (λ d. d.versions) st.0 ∙ versions-leased n k.durable)) h.olds;
+    opens = subst (λ d. AreOpen t lines top d left) (sym st.0)
+        (λ v i open'. let is = h.opens v (subst (Has v) (versions-leased n k.durable) i) open' in
+        record { met = met-by t lines k.durable (leased n k.durable) left left v.by (λ j. j) (leader-leased t n v.by k.durable) is.met; above = is.above });
+  }
+
+  pub lasts-committed : (left : List AttemptId) (a : AttemptId) (k l : Kept) → Steps (Some (Settles a Commit)) k l → Lasts t lines top old left k → Lasts t lines top old (filter (is_other_attempt a) left) l
+  lasts-committed left a k l st h = record {
+    free = let f : old.free ≤ k.free = h.free in let g : k.free ≤ l.free + 0 = st.1 in omega (arith, f, g);
+    conts = ap (λ d. d.conts) st.0 ∙ conts-settled a Commit k.durable ∙ h.conts;
+    olds = subst (AreOld old.durable.versions) (sym (ap (λ d. d.versions) st.0 ∙ versions-committed a k.durable)) (old-committed a old.durable.versions k.durable.versions h.olds);
+    opens = subst (λ d. AreOpen t lines top d (filter (is_other_attempt a) left)) (sym st.0) (open-committed t lines top a k.durable left h.opens);
+  }
+
+  pub lasts-aborted : (left : List AttemptId) (a : AttemptId) (k l : Kept) → Steps (Some (Settles a Abort)) k l → Lasts t lines top old left k → Lasts t lines top old left l
+  lasts-aborted left a k l st h = record {
+    free = let f : old.free ≤ k.free = h.free in let g : k.free ≤ l.free + 0 = st.1 in omega (arith, f, g);
+    conts = ap (λ d. d.conts) st.0 ∙ conts-settled a Abort k.durable ∙ h.conts;
+    olds = subst (AreOld old.durable.versions) (sym (ap (λ d. d.versions) st.0 ∙ versions-aborted a k.durable)) (λ v i. h.olds v (has-from_filter (is_not_pending a) k.durable.versions v i).0);
+    opens = subst (λ d. AreOpen t lines top d left) (sym st.0) (open-aborted t lines top a k.durable left h.opens);
+  }
+
+  -- more may be known
+  pub lasts-known : (left more : List AttemptId) (k : Kept) → ((a : AttemptId) → Has a left → Has a more) → Lasts t lines top old left k → Lasts t lines top old more k
+  lasts-known left more k known h = record {
+    free = h.free;
+    conts = h.conts;
+    olds = h.olds;
+    opens = λ v i open'. let is = h.opens v i open' in record { met = met-by t lines k.durable k.durable left more v.by (known v.by) refl is.met; above = is.above };
+  }
+
 -- ---- a Fetch
 
 abbrev pub left_at : TargetMemory → read.FetchStage → List AttemptId
-left_at m read.Asked = m.decided
-left_at m (read.Known e) = m.decided
+left_at m read.Asked = m.leader.decided
+left_at m (read.Known e) = m.leader.decided
 left_at m (read.Reading e decided) = decided
 
 abbrev pub ReadDated : TargetPlan → TargetMemory → ℕ → FetchRequest → read.FetchStage → Type 0
@@ -94,48 +242,36 @@ ReadDated t m reading q (read.Known e) = request_epoch t m reading q.tracker q.e
 ReadDated t m reading q (read.Reading e decided) = request_epoch t m reading q.tracker q.ep ≡ Some e
 
 -- what a turn that hears a Fetch has come to
-pub record ReadSoFar (t : TargetPlan) (m : TargetMemory) (reading : ℕ) (q : FetchRequest) (old : Kept) (s : read.FetchStage) (k : Kept) : Type 0 where
+pub record ReadSoFar (t : TargetPlan) (lines : List Line) (top : ℕ) (m : TargetMemory) (reading : ℕ) (q : FetchRequest) (old : Kept) (s : read.FetchStage) (k : Kept) : Type 0 where
   pub dated : ReadDated t m reading q s
-  pub conts : k.durable.conts ≡ old.durable.conts
-  pub free : old.free ≤ k.free
-  pub unsettled : AreOpenOf k.durable.versions (left_at m s)
-  pub olds : AreOld old.durable.versions k.durable.versions
+  pub lasts : Lasts t lines top old (left_at m s) k
 
--- a step that changes nothing
-read-rests : (t : TargetPlan) (m : TargetMemory) (reading : ℕ) (q : FetchRequest) (old : Kept) (s u : read.FetchStage) (k l : Kept) → l ≡ k → ReadDated t m reading q u → left_at m u ≡ left_at m s
-    → ReadSoFar t m reading q old s k → ReadSoFar t m reading q old u l
-read-rests t m reading q old s u k l same dated left h = subst (ReadSoFar t m reading q old u) (sym same) (record {
-  dated = dated;
-  conts = h.conts;
-  free = h.free;
-  unsettled = subst (AreOpenOf k.durable.versions) (sym left) h.unsettled;
-  olds = h.olds;
-})
+pub read-step : (t : TargetPlan) (lines : List Line) (top : ℕ) (m : TargetMemory) (reading : ℕ) (q : FetchRequest) (old : Kept) → q.snapshot ≡ false → (s : read.FetchStage) (k : Kept) (o : Option Change) (u : read.FetchStage) (l : Kept)
+    → read.FetchNext t m reading q s k o u → Steps o k l → ReadSoFar t lines top m reading q old s k → ReadSoFar t lines top m reading q old u l
+read-step t lines top m reading q old plain s k o u l (read.AtSnapshot j e snap ep) st h = let no : ⊥ = cc in absurd no
+read-step t lines top m reading q old plain s k o u l (read.HasEpoch j e p is) st h = record { dated = is; lasts = lasts-rests t lines top old m.leader.decided k l st h.lasts }
+read-step t lines top m reading q old plain s k o u l (read.ExtendsLease j e lease low is) st h = record { dated = h.dated; lasts = lasts-leased t lines top old m.leader.decided lease k l st h.lasts }
+read-step t lines top m reading q old plain s k o u l (read.IsCovered j e low) st h = record { dated = h.dated; lasts = lasts-rests t lines top old m.leader.decided k l st h.lasts }
+read-step t lines top m reading q old plain s k o u l (read.SettlesOwn j e decided a none unsettled among) st h = record { dated = h.dated; lasts = lasts-committed t lines top old decided a k l st h.lasts }
 
-read-step : (t : TargetPlan) (m : TargetMemory) (reading : ℕ) (q : FetchRequest) (old : Kept) (s u : read.FetchStage) (k l : Kept) (o : Option Change) → q.snapshot ≡ false
-    → read.FetchNext t m reading q s k o u → Steps o k l → ReadSoFar t m reading q old s k → ReadSoFar t m reading q old u l
-read-step t m reading q old s u k l o plain (read.AtSnapshot j e snap ep) st h = let no : ⊥ = cc in absurd no
-read-step t m reading q old s u k l o plain (read.HasEpoch j e p is) st h = read-rests t m reading q old read.Asked (read.Known e) k l st is refl h
-read-step t m reading q old s u k l o plain (read.ExtendsLease j e lease low is) st h = record {
-  dated = h.dated;
-  conts = ap (λ d. d.conts) st.0 ∙ conts-leased lease k.durable ∙ h.conts;
-  free = let f : old.free ≤ k.free = h.free in let g : k.free ≤ l.free + 0 = st.1 in omega (arith, f, g);
-  unsettled = subst (λ vs. AreOpenOf vs m.decided) (sym (ap (λ d. d.versions) st.0 ∙ versions-leased lease k.durable)) h.unsettled;
-  olds = subst (AreOld old.durable.versions) (sym (ap (λ d. d.versions) st.0 ∙ versions-leased lease k.durable)) h.olds;
-}
-read-step t m reading q old s u k l o plain (read.IsCovered j e low) st h = read-rests t m reading q old (read.Known e) (read.Reading e m.decided) k l st h.dated refl h
-read-step t m reading q old s u k l o plain (read.SettlesOwn j e decided a none unsettled among) st h = record {
-  dated = h.dated;
-  conts = ap (λ d. d.conts) st.0 ∙ conts-settled a k.durable ∙ h.conts;
-  free = let f : old.free ≤ k.free = h.free in let g : k.free ≤ l.free + 0 = st.1 in omega (arith, f, g);
-  unsettled = subst (λ vs. AreOpenOf vs (filter (is_other_attempt a) decided)) (sym (ap (λ d. d.versions) st.0 ∙ versions-settled a k.durable)) (open-settled a k.durable.versions decided h.unsettled);
-  olds = subst (AreOld old.durable.versions) (sym (ap (λ d. d.versions) st.0 ∙ versions-settled a k.durable)) (old-settled a old.durable.versions k.durable.versions h.olds);
-}
+pub read-path : (t : TargetPlan) (lines : List Line) (top : ℕ) (m : TargetMemory) (reading : ℕ) (q : FetchRequest) (old : Kept) (s : read.FetchStage) (k : Kept) (did : List Change) → q.snapshot ≡ false
+    → AreOpen t lines top old.durable m.leader.decided → Path (read.FetchNext t m reading q) read.Asked old did s k → ReadSoFar t lines top m reading q old s k
+read-path t lines top m reading q old s k did plain open' p =
+    path-keeps (read.FetchNext t m reading q) (ReadSoFar t lines top m reading q old) (read-step t lines top m reading q old plain) read.Asked old did s k p (record { dated = tt; lasts = lasts-here t lines top old m.leader.decided open' })
 
-pub read-path : (t : TargetPlan) (m : TargetMemory) (reading : ℕ) (q : FetchRequest) (old : Kept) (s : read.FetchStage) (k : Kept) (did : List Change) → q.snapshot ≡ false → AreOpenOf old.durable.versions m.decided
-    → Path (read.FetchNext t m reading q) read.Asked old did s k → ReadSoFar t m reading q old s k
-read-path t m reading q old s k did plain known Here = record { dated = tt; conts = refl; free = omega arith; unsettled = known; olds = λ v i. (v, i, refl, refl, refl) }
-read-path t m reading q old s k did plain known (More did' u j o v i p n st) = read-step t m reading q old u s j k o plain n st (read-path t m reading q old u j did' plain known p)
+-- ---- an entry that is stored
+
+has-put : (e : Entry) (ks : List Entry) → Has e (put entry_key e ks)
+has-put e [] = inl refl
+has-put e (k ∷ ks) = by (has-put e ks) (is_before (entry_key k) (entry_key e))
+  where
+    by : Has e (put entry_key e ks) → (b : Bool) → Has e (if b then k ∷ put entry_key e ks else e ∷ k ∷ ks)
+    by rest true = inr rest
+    by rest false = inl refl
+
+has-stored : (e : Entry) (ws : List MinorWrite) (d : Durable) → Has e (prepared e ws d).entries
+unfolding prepared
+has-stored e ws d = has-put e d.entries
 
 -- ---- a Commit
 
@@ -152,39 +288,35 @@ taken_at t q (commit.Known e) = 0
 taken_at t q (commit.Checking e) = 0
 taken_at t q (commit.Stored e) = blocks (commit.own_writes t q.writes)
 
--- no version is stored before the writes are checked
-abbrev pub AreSameUntil : commit.CommitStage → List Version → List Version → Type 0
-AreSameUntil commit.Asked olds vs = vs ≡ olds
-AreSameUntil (commit.Known e) olds vs = vs ≡ olds
-AreSameUntil (commit.Checking e) olds vs = vs ≡ olds
-AreSameUntil (commit.Stored e) olds vs = Unit {0}
+-- no version is stored before the writes are checked; then the entry is
+abbrev pub AreSameUntil : TargetPlan → CommitRequest → commit.CommitStage → Durable → Durable → Type 0
+AreSameUntil t q commit.Asked old d = d.versions ≡ old.versions
+AreSameUntil t q (commit.Known e) old d = d.versions ≡ old.versions
+AreSameUntil t q (commit.Checking e) old d = d.versions ≡ old.versions
+AreSameUntil t q (commit.Stored e) old d = Has (commit.led_entry t q e) d.entries
 
 -- what a turn that hears a Commit has come to
 pub record CommitSoFar (t : TargetPlan) (m : TargetMemory) (reading : ℕ) (q : CommitRequest) (old : Kept) (s : commit.CommitStage) (k : Kept) : Type 0 where
   pub dated : CommitDated t m reading q s
   pub conts : k.durable.conts ≡ old.durable.conts
   pub free : old.free ≤ k.free + taken_at t q s
-  pub olds : AreSameUntil s old.durable.versions k.durable.versions
+  pub olds : AreSameUntil t q s old.durable k.durable
 
-commit-rests : (t : TargetPlan) (m : TargetMemory) (reading : ℕ) (q : CommitRequest) (old : Kept) (s u : commit.CommitStage) (k l : Kept) → l ≡ k → CommitDated t m reading q u → taken_at t q u ≡ taken_at t q s
-    → AreSameUntil u old.durable.versions k.durable.versions → CommitSoFar t m reading q old s k → CommitSoFar t m reading q old u l
-commit-rests t m reading q old s u k l same dated taken olds h = subst (CommitSoFar t m reading q old u) (sym same) (record { dated = dated; conts = h.conts; free = subst (λ n. old.free ≤ k.free + n) (sym taken) h.free; olds = olds })
-
-commit-step : (t : TargetPlan) (opening : Epoch × FloorWhy) (m : TargetMemory) (reading : ℕ) (q : CommitRequest) (old : Kept) (s u : commit.CommitStage) (k l : Kept) (o : Option Change)
+commit-step : (t : TargetPlan) (opening : Epoch × FloorWhy) (m : TargetMemory) (reading : ℕ) (q : CommitRequest) (old : Kept) (s : commit.CommitStage) (k : Kept) (o : Option Change) (u : commit.CommitStage) (l : Kept)
     → commit.CommitNext t opening m reading q s k o u → Steps o k l → CommitSoFar t m reading q old s k → CommitSoFar t m reading q old u l
-commit-step t opening m reading q old s u k l o (commit.HasEpoch j e is) st h = commit-rests t m reading q old commit.Asked (commit.Known e) k l st is refl h.olds h
-commit-step t opening m reading q old s u k l o (commit.ExtendsLease j e lease low is) st h = record {
+commit-step t opening m reading q old s k o u l (commit.HasEpoch j e is) st h = subst (CommitSoFar t m reading q old (commit.Known e)) (sym st) (record { dated = is; conts = h.conts; free = h.free; olds = h.olds })
+commit-step t opening m reading q old s k o u l (commit.ExtendsLease j e lease low is) st h = record {
   dated = h.dated;
   conts = ap (λ d. d.conts) st.0 ∙ conts-leased lease k.durable ∙ h.conts;
   free = let f : old.free ≤ k.free + 0 = h.free in let g : k.free ≤ l.free + 0 = st.1 in omega (arith, f, g);
   olds = ap (λ d. d.versions) st.0 ∙ versions-leased lease k.durable ∙ h.olds;
 }
-commit-step t opening m reading q old s u k l o (commit.IsCovered j e low) st h = commit-rests t m reading q old (commit.Known e) (commit.Checking e) k l st h.dated refl h.olds h
-commit-step t opening m reading q old s u k l o (commit.Stores j e allowed space) st h = record {
+commit-step t opening m reading q old s k o u l (commit.IsCovered j e low) st h = subst (CommitSoFar t m reading q old (commit.Checking e)) (sym st) (record { dated = h.dated; conts = h.conts; free = h.free; olds = h.olds })
+commit-step t opening m reading q old s k o u l (commit.Stores j e allowed space) st h = record {
   dated = h.dated;
   conts = ap (λ d. d.conts) st.0 ∙ conts-prepared (commit.led_entry t q e) (commit.own_writes t q.writes) k.durable ∙ h.conts;
   free = sum (blocks (commit.own_writes t q.writes)) h.free st.1;
-  olds = tt;
+  olds = subst (λ d. Has (commit.led_entry t q e) d.entries) (sym st.0) (has-stored (commit.led_entry t q e) (commit.own_writes t q.writes) k.durable);
 }
   where
     sum : (n : ℕ) → old.free ≤ k.free + 0 → k.free ≤ l.free + n → old.free ≤ l.free + n
@@ -192,22 +324,45 @@ commit-step t opening m reading q old s u k l o (commit.Stores j e allowed space
 
 pub commit-path : (t : TargetPlan) (opening : Epoch × FloorWhy) (m : TargetMemory) (reading : ℕ) (q : CommitRequest) (old : Kept) (s : commit.CommitStage) (k : Kept) (did : List Change)
     → Path (commit.CommitNext t opening m reading q) commit.Asked old did s k → CommitSoFar t m reading q old s k
-commit-path t opening m reading q old s k did Here = record { dated = tt; conts = refl; free = omega arith; olds = refl }
-commit-path t opening m reading q old s k did (More did' u j o v i p n st) = commit-step t opening m reading q old u s j k o n st (commit-path t opening m reading q old u j did' p)
+commit-path t opening m reading q old s k did p =
+    path-keeps (commit.CommitNext t opening m reading q) (CommitSoFar t m reading q old) (commit-step t opening m reading q old) commit.Asked old did s k p (record { dated = tt; conts = refl; free = omega arith; olds = refl })
 
--- ---- idle work
+-- ---- a Prepare
 
-idle-step : (s u : List AttemptId) (k l : Kept) (o : Option Change) → IdleNext s k o u → Steps o k l → (l.durable.conts ≡ k.durable.conts) × (k.free ≤ l.free)
-idle-step s u k l o (SettlesFirst j a rest) st = (ap (λ d. d.conts) st.0 ∙ conts-settled a k.durable, let g : k.free ≤ l.free + 0 = st.1 in omega (arith, g))
+abbrev pub prepared_blocks : PrepareRequest → prepare.PrepareStage → ℕ
+prepared_blocks q prepare.Heard = 0
+prepared_blocks q prepare.Checking = 0
+prepared_blocks q prepare.Stored = blocks q.writes
 
-idle-path : (start : List AttemptId) (k : Kept) (s : List AttemptId) (l : Kept) (did : List Change) → Path IdleNext start k did s l → (l.durable.conts ≡ k.durable.conts) × (k.free ≤ l.free)
-idle-path start k s l did Here = (refl, omega arith)
-idle-path start k s l did (More did' u j o v i p n st) =
-    let f = idle-path start k u j did' p in
-    let g = idle-step u s j l o n st in
-    let low : k.free ≤ j.free = f.1 in
-    let up : j.free ≤ l.free = g.1 in
-    (g.0 ∙ f.0, omega (arith, low, up))
+abbrev pub IsSameUntil : PrepareRequest → prepare.PrepareStage → Durable → Durable → Type 0
+IsSameUntil q prepare.Heard old d = d.versions ≡ old.versions
+IsSameUntil q prepare.Checking old d = d.versions ≡ old.versions
+IsSameUntil q prepare.Stored old d = Has q.entry d.entries
 
-pub idle-leaves : (m : TargetMemory) (old new : Kept) (left : TargetMemory × Did) → IdlesWhole m old new left → (new.durable.conts ≡ old.durable.conts) × (old.free ≤ new.free)
-idle-leaves m old new left w = idle-path m.decided old w.last new w.reached.did w.reached.path
+-- what a turn that hears a Prepare has come to
+pub record PrepareSoFar (q : PrepareRequest) (old : Kept) (s : prepare.PrepareStage) (k : Kept) : Type 0 where
+  pub conts : k.durable.conts ≡ old.durable.conts
+  pub free : old.free ≤ k.free + prepared_blocks q s
+  pub olds : IsSameUntil q s old.durable k.durable
+
+prepare-step : (t : TargetPlan) (opening : Epoch × FloorWhy) (m : TargetMemory) (q : PrepareRequest) (old : Kept) (s : prepare.PrepareStage) (k : Kept) (o : Option Change) (u : prepare.PrepareStage) (l : Kept)
+    → prepare.PrepareNext t opening m q s k o u → Steps o k l → PrepareSoFar q old s k → PrepareSoFar q old u l
+prepare-step t opening m q old s k o u l (prepare.ExtendsLease j lease low is) st h = record {
+  conts = ap (λ d. d.conts) st.0 ∙ conts-leased lease k.durable ∙ h.conts;
+  free = let f : old.free ≤ k.free + 0 = h.free in let g : k.free ≤ l.free + 0 = st.1 in omega (arith, f, g);
+  olds = ap (λ d. d.versions) st.0 ∙ versions-leased lease k.durable ∙ h.olds;
+}
+prepare-step t opening m q old s k o u l (prepare.IsCovered j low) st h = subst (PrepareSoFar q old prepare.Checking) (sym st) (record { conts = h.conts; free = h.free; olds = h.olds })
+prepare-step t opening m q old s k o u l (prepare.Stores j allowed space) st h = record {
+  conts = ap (λ d. d.conts) st.0 ∙ conts-prepared q.entry q.writes k.durable ∙ h.conts;
+  free = sum (blocks q.writes) h.free st.1;
+  olds = subst (λ d. Has q.entry d.entries) (sym st.0) (has-stored q.entry q.writes k.durable);
+}
+  where
+    sum : (n : ℕ) → old.free ≤ k.free + 0 → k.free ≤ l.free + n → old.free ≤ l.free + n
+    sum n f g = omega (arith, f, g)
+
+pub prepare-path : (t : TargetPlan) (opening : Epoch × FloorWhy) (m : TargetMemory) (q : PrepareRequest) (old : Kept) (s : prepare.PrepareStage) (k : Kept) (did : List Change)
+    → Path (prepare.PrepareNext t opening m q) prepare.Heard old did s k → PrepareSoFar q old s k
+prepare-path t opening m q old s k did p =
+    path-keeps (prepare.PrepareNext t opening m q) (PrepareSoFar q old) (prepare-step t opening m q old) prepare.Heard old did s k p (record { conts = refl; free = omega arith; olds = refl })

@@ -13,6 +13,7 @@ use Rattle.daos_messages.specs.declared.message.Message.TheVariants as message
 use Rattle.daos_messages.specs.declared.message.Reply.{Reply}
 use Rattle.daos_messages.specs.declared.message.Reply.TheVariants as reply
 use Rattle.daos_model.specs.declared.durable.Version.{Version}
+use Rattle.dtx_base.specs.declared.member.Parked.{Parked}
 use Rattle.daos_model.specs.Accesses.{minor_writes}
 use Rattle.daos_model.specs.Attempts.{is_restart, snapshot_of_command}
 use Rattle.daos_model.specs.CausesShown.{AsksAt}
@@ -21,7 +22,6 @@ use Rattle.daos_model.specs.Transactions.{attempt_ops}
 use Rattle.daos_model.specs.Versions.{version_path}
 use Rattle.world_base.specs.declared.letter.Letter.{Letter}
 use Rattle.world_base.specs.declared.target.TargetState.{TargetState}
-use Rattle.world_base.specs.declared.target.Life.TheVariants.{Running}
 use Rattle.world_base.specs.declared.world.World.{World}
 use Rattle.world_events.specs.Events.{Rules, client_plan}
 use Rattle.world_causes.specs.Causes.{Dated, limit, zeroth}
@@ -36,7 +36,12 @@ pub record IsPlain (r : Rules) : Type 0 where
 -- ---- first epochs
 
 -- The first epoch of a command that is known of an attempt was issued to the command's attempt 0. Where none is known, this is that
--- attempt, and no epoch of it is known.
+-- attempt.
+abbrev pub IsFirst : Dated → AttemptId → Option Epoch → Type 0
+IsFirst issued x None = x.attempt ≡ 0
+IsFirst issued x (Some f) = Contains issued (zeroth x, f)
+
+-- what a client knows: where it knows no first epoch, it knows no epoch of the attempt
 abbrev pub IsFirstKnown : Dated → AttemptId → Option Epoch → Option Epoch → Type 0
 IsFirstKnown issued x own None = (x.attempt ≡ 0) × (own ≡ None)
 IsFirstKnown issued x own (Some f) = Contains issued (zeroth x, f)
@@ -45,22 +50,21 @@ abbrev pub IsNoRestart : Reply → Type 0
 IsNoRestart (reply.Answer b) = Unit {0}
 IsNoRestart (reply.Outcome how) = is_restart how ≡ false
 
--- it is so of each request; and an answer without an epoch tells of no restart
+-- it is so of each request, also of one between targets; and an answer without an epoch tells of no restart
 abbrev pub MessageKnows : Dated → Message → Type 0
-MessageKnows issued (message.Fetch x op group ep first tracker r snapshot) = IsFirstKnown issued x ep first
-MessageKnows issued (message.Commit x ep first tracker ws) = IsFirstKnown issued x ep first
+MessageKnows issued (message.Fetch x op group ep first tracker r snapshot) = IsFirst issued x first
+MessageKnows issued (message.Commit x ep first tracker ws) = IsFirst issued x first
+MessageKnows issued (message.Prepare e first ws inc) = IsFirst issued e.attempt first
 MessageKnows issued (message.Fetched x op group None b) = IsNoRestart b
 MessageKnows issued (message.Ended x None how) = is_restart how ≡ false
 MessageKnows issued m = Unit {0}
 
-abbrev pub FirstsAreKnown : World → Type 0
-FirstsAreKnown w = (l : Letter) → Contains w.messages l → MessageKnows w.issued l.message
+-- it is so of all messages, and of the Fetches that wait
+pub record FirstsAreKnown (w : World) : Type 0 where
+  pub flight : (l : Letter) → Contains w.messages l → MessageKnows w.issued l.message
+  pub parked : (t : ℕ) (s : TargetState) (p : Parked) → slice_get w.targets t ≡ Some s → Contains s.memory.member.parked p → MessageKnows w.issued p.ask
 
 -- ---- versions
-
--- what isn't settled at a running target, it knows as decided
-abbrev pub OpenIsDecided : World → Type 0
-OpenIsDecided w = (t : ℕ) (s : TargetState) (v : Version) → slice_get w.targets t ≡ Some s → s.life ≡ Running → Contains s.durable.versions v → v.done ≡ false → Contains s.memory.decided v.by
 
 -- versions above the opening are writes of attempts to which their epochs were issued
 abbrev pub AreWritten : Rules → Dated → ℕ → List Version → Type 0
@@ -78,7 +82,7 @@ pub record IsRequest (o : Opening) (issued : Dated) (x : AttemptId) (ep first : 
   pub tracked : tracker.0 / 256 ≤ limit o issued
   pub own : (e : Epoch) → ep ≡ Some e → Contains issued (x, e) × (top o < e.0) × (e.0 / 256 ≤ limit o issued)
   pub fresh : ep ≡ None → ((e : Epoch) → Contains issued (x, e) → ⊥) × (top o ≤ tracker.0)
-  pub known : IsFirstKnown issued x ep first
+  pub known : IsFirst issued x first
 
 -- each timestamp is of an attempt with that epoch, which asks there
 abbrev pub AreOfReads : Rules → Dated → List Shown → Type 0

@@ -1,58 +1,73 @@
--- A target that hears a Fetch serves it, or shows a later write, or its ticks are spent.
-use Rattle.std.specs.Prelude.{ℕ, ◌≡◌, ◌≤◌, ◌<◌, ◌+◌, ◌/◌, ◌⊎◌, ◌++◌, false, List, [], ◌∷◌, Contains, Option, Some, None, refl, if◌then◌else◌}
+-- A target that hears a Fetch serves it, or shows a later write or an attempt in its way that isn't decided, or its ticks are spent;
+-- or the Fetch waits for an attempt in its way.
+use Rattle.std.specs.List.{list_any}
+use Rattle.std.specs.Prelude.{ℕ, ◌≡◌, ◌≤◌, ◌<◌, ◌+◌, ◌/◌, ◌⊎◌, ◌++◌, Bool, true, false, Any, List, [], ◌∷◌, Contains, Option, Some, None, refl, if◌then◌else◌}
 use Rattle.std.proofs.Common.{append-nil, sym, ◌∙◌, ap, subst, inl, inr, arith}
+use Rattle.std.proofs.lemmas.List.Elements.{Contains-append_left}
 use Rattle.std.proofs.lemmas.Option.{some_pair_parts}
-use Rattle.daos_base.specs.declared.answer.Answer.{Answer}
 use Rattle.daos_base.specs.declared.epoch.Epoch.{Epoch}
 use Rattle.daos_base.specs.declared.id.AttemptId.{AttemptId}
 use Rattle.daos_base.specs.declared.id.ContId.{ContId}
-use Rattle.daos_base.specs.declared.outcome.Cause.{Cause}
+use Rattle.daos_base.specs.declared.outcome.Cause.TheVariants as cause
 use Rattle.daos_base.specs.declared.outcome.FloorWhy.{FloorWhy}
 use Rattle.daos_base.specs.declared.outcome.Outcome.TheVariants as outcome
+use Rattle.daos_base.specs.declared.report.Attempt.{Attempt}
+use Rattle.daos_base.specs.declared.report.Line.{Line}
 use Rattle.daos_base.specs.declared.shown.Shown.{Shown}
-use Rattle.daos_base.specs.Epochs.{heard_ticks, last_ticks}
-use Rattle.daos_base.specs.Operations.{read_path}
-use Rattle.daos_laws.specs.Members.{Has, contains-from_has, has-from_contains}
+use Rattle.daos_base.specs.Epochs.{last_ticks}
+use Rattle.daos_base.specs.Operations.{read_path, write_path}
+use Rattle.daos_base.specs.Paths.{overlaps}
+use Rattle.daos_laws.specs.Members.{Has, contains-from_has, has-cases, has-from_contains, has-left, has-right}
 use Rattle.daos_messages.specs.declared.actor.ActorId.{ActorId}
+use Rattle.daos_messages.specs.declared.message.Message.TheVariants as message
+use Rattle.daos_messages.specs.declared.message.Reply.{Reply}
 use Rattle.daos_messages.specs.declared.message.Reply.TheVariants as reply
-use Rattle.daos_model.specs.Accesses.{access_paths}
+use Rattle.daos_model.specs.Accesses.{access_paths, minor_writes}
+use Rattle.daos_model.specs.Attempts.{is_of_client, tried, tries, up_to_last_of}
 use Rattle.daos_model.specs.Durables.{row_of}
 use Rattle.daos_model.specs.Opening.{Opening, top}
 use Rattle.daos_model.specs.Transactions.{attempt_ops}
+use Rattle.daos_model.specs.Versions.{version_path}
+use Rattle.dtx_base.specs.declared.member.Parked.{Parked}
 use Rattle.vos_stamp.specs.Stamps.{write_later}
 use Rattle.vos_store.specs.Answers.{floor_of}
 use Rattle.world_base.specs.declared.did.Did.{Did}
 use Rattle.world_base.specs.declared.request.FetchRequest.{FetchRequest}
 use Rattle.world_base.specs.declared.target.TargetMemory.{TargetMemory}
 use Rattle.world_base.specs.declared.target.TargetPlan.{TargetPlan}
+use Rattle.world_base.specs.ClientTurns.{told_by_reply}
+use Rattle.world_epochs.specs.Epochs.{BearsEpoch}
 use Rattle.world_events.specs.Events.{Rules, listed}
+use Rattle.world_events.specs.Letters.{client}
 use Rattle.world_turns.specs.Changes.{Kept}
 use Rattle.world_turns.specs.Reads as read
-use Rattle.world_turns.specs.Requests.{issued_for, with_ticks}
-use Rattle.world_turns.specs.Turns.{Whole}
-use Rattle.world_causes.specs.Causes.{Dated, limit}
+use Rattle.world_turns.specs.Requests.{issued_for, request_epoch, with_ticks}
+use Rattle.world_turns.specs.Roles.{other_leader}
+use Rattle.world_causes.specs.Causes.{Dated, IsUnanswered, MeetsOther, ReplyShows, Stored, limit}
 use Rattle.world_causes.specs.Dates.{IsDated, heard-within, limit-rises, request-dated, request-spent}
-use Rattle.world_causes.specs.Floors.{AreBelow, below-stays, meets-open, read-refused}
-use Rattle.world_causes.specs.Paths.{AreOpenOf, ReadSoFar, read-path}
+use Rattle.world_causes.specs.Floors.{AreBelow, IsInTheWay, below-stays, meets-open, read-refused}
+use Rattle.world_causes.specs.Growth.{any-of, meets-more}
+use Rattle.world_causes.specs.Paths.{IsKnown, IsMet, IsOthers, IsUnended, Lasts, ReadSoFar}
 use Rattle.world_causes.specs.Premises.{AreWritten, IsRequest}
-use Rattle.world_causes.specs.Turns.{Heeds, Says, said}
+use Rattle.world_causes.specs.Turns.{AllMeet, AllShow, HasNoLine, ParkedMeets}
 use Rattle.world_causes.specs.Writes.{IsWriteShown, write-shown, written-stays}
 
 -- the floors of a target are of before the run
 abbrev pub AreOpeningLow : Opening → Epoch × FloorWhy → Kept → Type 0
 AreOpeningLow o opening k = (cont : ContId) → ((floor_of opening k.durable cont).0.0 ≤ top o) × ((row_of k.durable cont).aggregated.0 ≤ top o)
 
--- a target that hears a Fetch, which isn't one at a snapshot
-pub record HearsFetch (r : Rules) (o : Opening) (issued : Dated) (t : TargetPlan) (opening : Epoch × FloorWhy) (m : TargetMemory) (old : Kept) (q : FetchRequest) : Type 0 where
+-- what is known of a target when a turn begins
+pub record IsTarget (r : Rules) (o : Opening) (issued : Dated) (opening : Epoch × FloorWhy) (old : Kept) : Type 0 where
+  pub floors : AreOpeningLow o opening old
+  pub dates : (x : AttemptId) (e : Epoch) → Contains issued (x, e) → e.0 / 256 ≤ limit o issued
+  pub written : AreWritten r issued (top o) old.durable.versions
+
+-- what is known of a Fetch, which isn't one at a snapshot
+pub record IsFetch (r : Rules) (o : Opening) (issued : Dated) (t : TargetPlan) (q : FetchRequest) : Type 0 where
   pub few : t.me < 256
   pub epsilon : t.epsilon ≡ r.epsilon
   pub plain : q.snapshot ≡ false
-  pub ticks : m.ticks ≤ limit o issued
   pub request : IsRequest o issued q.attempt q.ep q.first q.tracker
-  pub floors : AreOpeningLow o opening old
-  pub unsettled : AreOpenOf old.durable.versions m.decided
-  pub dates : (x : AttemptId) (e : Epoch) → Contains issued (x, e) → e.0 / 256 ≤ limit o issued
-  pub written : AreWritten r issued (top o) old.durable.versions
   pub access : Has (read_path q.read) (access_paths (attempt_ops r.script q.attempt))
 
 -- ---- what is told
@@ -73,93 +88,165 @@ pub issue-within : (o : Opening) (issued : Dated) (x : AttemptId) (ep : Option E
 issue-within o issued x None e k y f is = let same : e ≡ f = (some_pair_parts x y e f is).1 in subst (λ g. g.0 / 256 ≤ limit o (issued ++ listed (issued_for x None e))) same k
 issue-within o issued x (Some own) e k y f is = let no : ⊥ = cc in absurd no
 
+-- an attempt without a line wasn't answered before any other
+up-to-among : (c : ℕ) (lines : List Line) (a : Attempt) → Has a (tries (up_to_last_of c lines)) → Has a (tries lines)
+unfolding up_to_last_of tries
+up-to-among c [] a i = i
+up-to-among c (l ∷ ls) a i = by (up-to-among c ls a) (list_any (is_of_client c) (tries (l ∷ ls))) i
+  where
+    by : (Has a (tries (up_to_last_of c ls)) → Has a (tries ls)) → (b : Bool) → Has a (tries (if b then l ∷ up_to_last_of c ls else [])) → Has a (tried l ++ tries ls)
+    by rest true i = elim (has-cases (tried l) (tries (up_to_last_of c ls)) a i) [ inl j ↦ has-left (tried l) (tries ls) a j | inr j ↦ has-right (tried l) (tries ls) a (rest j) ]
+    by rest false i = absurd i
+
+pub unended-unanswered : (lines : List Line) (x by : AttemptId) → HasNoLine lines by → IsUnanswered lines x by
+unended-unanswered lines x by none k = none k.1 (up-to-among x.client lines k.1 (has-from_contains (tries (up_to_last_of x.client lines)) k.1 (k.0, k.2, k.3))) k.4
+
 -- ---- the ends
 
-module _ (r : Rules) (o : Opening) (decided issued : Dated) (t : TargetPlan) (opening : Epoch × FloorWhy) (m : TargetMemory) (reading : ℕ) (q : FetchRequest) (from : ActorId) (old : Kept) (h : HearsFetch r o issued t opening m old q) where
-  -- a read is served
-  serves : (e : Epoch) (left : List AttemptId) (stamps : TargetMemory) (b : Answer) (free : ℕ) → old.free ≤ free → IsDated o issued q.attempt q.ep q.first e → stamps.ticks ≡ (read.ticks_known q e m).ticks
-      → Says r o decided issued t.me old.free free stamps (read.fetched_message q (Some e) (reply.Answer b)) (issued_for q.attempt q.ep e)
-  serves e left stamps b free more d ticks = record {
-    shows = tt;
-    told = λ k i. subst (λ n. n / 256 ≤ limit o (issued ++ listed (issued_for q.attempt q.ep e))) (told-one e k i) d.within;
-    ticks = subst (λ n. n ≤ limit o (issued ++ listed (issued_for q.attempt q.ep e))) (sym now) heard;
+-- what a Fetch is left with that a target heard
+pub record FetchLeft (r : Rules) (o : Opening) (stored : Stored) (issued : Dated) (lines : List Line) (left : TargetMemory × Did) : Type 0 where
+  pub posts : AllShow r o stored (issued ++ listed left.1.issued) lines left.1.posts
+  pub ticks : left.0.ticks ≤ limit o (issued ++ listed left.1.issued)
+  pub dated : (x : AttemptId) (e : Epoch) → left.1.issued ≡ Some (x, e) → e.0 / 256 ≤ limit o (issued ++ listed left.1.issued)
+  pub parked : AllMeet r (issued ++ listed left.1.issued) left.0.member.parked
+
+up : {a b c : ℕ} → a ≤ b → b ≤ c → a ≤ c
+up p q = omega (arith, p, q)
+
+-- what waits goes on to wait for what is in its way
+pub meet-more : (r : Rules) (issued more : Dated) (ps : List Parked) → AllMeet r issued ps → AllMeet r (issued ++ more) ps
+meet-more r issued more ps h p i x e b = meets-more r issued more x p.on (h p i x e b)
+
+module _ (r : Rules) (o : Opening) (stored : Stored) (issued : Dated) (lines : List Line) (t : TargetPlan) (opening : Epoch × FloorWhy) (m : TargetMemory) (reading : ℕ) (q : FetchRequest) (from : ActorId) (old : Kept)
+    (T : IsTarget r o issued opening old) (h : IsFetch r o issued t q) (own : from ≡ client q.attempt.client) (ticks : m.ticks ≤ limit o issued) (parked : AllMeet r issued m.member.parked) where
+  abbrev now : Epoch → Dated
+  now e = issued ++ listed (issued_for q.attempt q.ep e)
+
+  rises : (e : Epoch) → limit o issued ≤ limit o (now e)
+  rises e = limit-rises o issued (listed (issued_for q.attempt q.ep e))
+
+  its : (e : Epoch) → request_epoch t m reading q.tracker q.ep ≡ Some e → IsDated o issued q.attempt q.ep q.first e
+  its e found = request-dated o issued q.attempt q.ep q.first q.tracker t m reading e h.few ticks h.request found
+
+  -- ticks that heard of the epoch
+  heard : (e : Epoch) (decided : List AttemptId) → IsDated o issued q.attempt q.ep q.first e → (read.memory_then q e decided m).ticks ≤ limit o (now e)
+  heard e decided d =
+      subst (λ n. n ≤ limit o (now e)) (sym (ap (λ b. (if b then m else with_ticks e m).ticks) h.plain)) (heard-within m.ticks e.0 (limit o (now e)) (up ticks (rises e)) d.within)
+
+  member-then : (e : Epoch) (decided : List AttemptId) → (read.memory_then q e decided m).member ≡ m.member
+  member-then e decided = by q.snapshot
+    where
+      by : (b : Bool) → (if b then m else with_ticks e m).member ≡ m.member
+      by true = refl
+      by false = refl
+
+  -- the client is told how its read went
+  tells-left : (e : Epoch) (decided : List AttemptId) (b : Reply) (memory : TargetMemory) (left : TargetMemory × Did) → IsDated o issued q.attempt q.ep q.first e → memory.ticks ≡ (read.memory_then q e decided m).ticks
+      → memory.member ≡ (read.memory_then q e decided m).member → left ≡ (memory, read.tells q from e b) → ReplyShows r o stored (now e) lines q.attempt b
+      → ((n : ℕ) → Contains (e.0 ∷ told_by_reply b) n → n / 256 ≤ limit o (now e)) → FetchLeft r o stored issued lines left
+  tells-left e decided b memory left d ticks' member is shows told = subst (FetchLeft r o stored issued lines) (sym is) (record {
+    posts = (record { shows = shows; told = told; undecided = λ x by k. absurd k; asked = λ x k. absurd k; own = λ x same. own ∙ ap (λ y. client y.client) same }, tt);
+    ticks = subst (λ n. n ≤ limit o (now e)) (sym ticks') (heard e decided d);
     dated = issue-within o issued q.attempt q.ep e d.within;
-    space = omega (arith, more);
-  }
-    where
-      now : stamps.ticks ≡ heard_ticks m.ticks e.0
-      now = ticks ∙ ap (λ b. (if b then m else with_ticks e m).ticks) h.plain
-
-      heard : heard_ticks m.ticks e.0 ≤ limit o (issued ++ listed (issued_for q.attempt q.ep e))
-      heard = heard-within m.ticks e.0 (limit o (issued ++ listed (issued_for q.attempt q.ep e))) (up h.ticks (limit-rises o issued (listed (issued_for q.attempt q.ep e)))) d.within
-        where
-          up : {a b c : ℕ} → a ≤ b → b ≤ c → a ≤ c
-          up p q = omega (arith, p, q)
-
-  -- a later write refuses the read
-  write-refuses : (k : Kept) (e : Epoch) (dec : List AttemptId) (left : TargetMemory × Did) → IsDated o issued q.attempt q.ep q.first e → ReadSoFar t m reading q old (read.Reading e dec) k → (z : Shown)
-      → read.later_of t q.first e (read_path q.read) k.durable ≡ Some z → left ≡ (read.memory_then q e dec m, read.tells q from e (reply.Outcome (outcome.Restart (write_later z)))) → Heeds r o decided issued t.me from old.free k.free left
-  write-refuses k e dec left d w z later is =
-      said r o decided issued t.me from old.free k.free (read.memory_then q e dec m) (read.fetched_message q (Some e) (reply.Outcome (outcome.Restart (write_later z)))) (issued_for q.attempt q.ep e) left is (record {
-        shows = shown.shows;
-        told = λ n i. told n (has-from_contains (e.0 ∷ z.epoch.0 ∷ []) n i);
-        ticks = subst (λ n. n ≤ limit o (issued ++ listed (issued_for q.attempt q.ep e))) (sym (ap (λ b. (if b then m else with_ticks e m).ticks) h.plain)) heard;
-        dated = issue-within o issued q.attempt q.ep e d.within;
-        space = let f : old.free ≤ k.free = w.free in omega (arith, f);
-      })
-    where
-      shown : IsWriteShown r o issued (issued ++ listed (issued_for q.attempt q.ep e)) q.attempt z
-      shown = write-shown r o issued t q.attempt q.ep q.first e (read_path q.read) k.durable z h.epsilon d (written-stays r issued (top o) old.durable.versions k.durable.versions h.written w.olds) h.access later
-
-      up : {a b c : ℕ} → a ≤ b → b ≤ c → a ≤ c
-      up p q = omega (arith, p, q)
-
-      rises : limit o issued ≤ limit o (issued ++ listed (issued_for q.attempt q.ep e))
-      rises = limit-rises o issued (listed (issued_for q.attempt q.ep e))
-
-      heard : heard_ticks m.ticks e.0 ≤ limit o (issued ++ listed (issued_for q.attempt q.ep e))
-      heard = heard-within m.ticks e.0 (limit o (issued ++ listed (issued_for q.attempt q.ep e))) (up h.ticks rises) d.within
-
-      told : (n : ℕ) → Has n (e.0 ∷ z.epoch.0 ∷ []) → n / 256 ≤ limit o (issued ++ listed (issued_for q.attempt q.ep e))
-      told n (inl same) = subst (λ f. f / 256 ≤ limit o (issued ++ listed (issued_for q.attempt q.ep e))) (sym same) d.within
-      told n (inr (inl same)) = subst (λ f. f / 256 ≤ limit o (issued ++ listed (issued_for q.attempt q.ep e))) (sym same) (up (h.dates z.by z.epoch shown.writer) rises)
-      told n (inr (inr bad)) = absurd bad
+    parked = subst (λ z. AllMeet r (now e) z.parked) (sym (member ∙ member-then e decided)) (meet-more r issued (listed (issued_for q.attempt q.ep e)) m.member.parked parked);
+  })
 
   below-at : (k : Kept) (e : Epoch) → k.durable.conts ≡ old.durable.conts → top o < e.0 → AreBelow opening k.durable e.0
-  below-at k e conts above = below-stays opening old.durable k.durable (top o) e.0 conts above h.floors
+  below-at k e conts above = below-stays opening old.durable k.durable (top o) e.0 conts above T.floors
 
-  refuses : (k : Kept) (e : Epoch) (dec : List AttemptId) (left : TargetMemory × Did) → IsDated o issued q.attempt q.ep q.first e → ReadSoFar t m reading q old (read.Reading e dec) k → (c : Cause)
-      → read.fetch_cause t q e k.durable ≡ Some c → left ≡ (read.memory_then q e dec m, read.tells q from e (reply.Outcome (outcome.Restart c))) → Heeds r o decided issued t.me from old.free k.free left
-  refuses k e dec left d w c why is =
-      let z = read-refused t q e opening k.durable c h.plain (below-at k e w.conts d.above) why in
-      write-refuses k e dec left d w z.0 z.1 (is ∙ ap (λ b. (read.memory_then q e dec m, read.tells q from e (reply.Outcome (outcome.Restart b)))) z.2)
+  written-at : (k : Kept) (left : List AttemptId) → Lasts t lines (top o) old left k → AreWritten r issued (top o) k.durable.versions
+  written-at k left w = written-stays r issued (top o) old.durable.versions k.durable.versions T.written w.olds
 
-  fetch-ends : (s : read.FetchStage) (k : Kept) (left : TargetMemory × Did) → ReadSoFar t m reading q old s k → read.FetchEnds t m reading q from s k left → Heeds r o decided issued t.me from old.free k.free left
-  fetch-ends s k left w (read.IsSpent j z plain none is) =
-      said r o decided issued t.me from old.free k.free m (read.fetched_message q None (reply.Outcome outcome.EpochsSpent)) None left is (record {
+  -- a later write refuses the read
+  write-refuses : (k : Kept) (e : Epoch) (dec : List AttemptId) (left : TargetMemory × Did) → IsDated o issued q.attempt q.ep q.first e → Lasts t lines (top o) old dec k → (z : Shown)
+      → read.later_of t q.first e (read_path q.read) k.durable ≡ Some z → left ≡ (read.memory_then q e dec m, read.tells q from e (reply.Outcome (outcome.Restart (write_later z)))) → FetchLeft r o stored issued lines left
+  write-refuses k e dec left d w z later is = tells-left e dec (reply.Outcome (outcome.Restart (write_later z))) (read.memory_then q e dec m) left d refl refl is shown.shows (λ n i. told n (has-from_contains (e.0 ∷ z.epoch.0 ∷ []) n i))
+    where
+      shown : IsWriteShown r o issued (now e) q.attempt z
+      shown = write-shown r o issued t q.attempt q.ep q.first e (read_path q.read) k.durable z h.epsilon d (written-at k dec w) h.access later
+
+      told : (n : ℕ) → Has n (e.0 ∷ z.epoch.0 ∷ []) → n / 256 ≤ limit o (now e)
+      told n (inl same) = subst (λ f. f / 256 ≤ limit o (now e)) (sym same) d.within
+      told n (inr (inl same)) = subst (λ f. f / 256 ≤ limit o (now e)) (sym same) (up (T.dates z.by z.epoch shown.writer) (rises e))
+      told n (inr (inr bad)) = absurd bad
+
+  -- an attempt is in the read's way
+  meets : (k : Kept) (e : Epoch) (dec : List AttemptId) (a : AttemptId) → IsDated o issued q.attempt q.ep q.first e → Lasts t lines (top o) old dec k → IsInTheWay q.read e k.durable a → MeetsOther r (now e) q.attempt a
+  meets k e dec a d w v = record {
+    own = e;
+    its = d.its;
+    other = v.v.epoch;
+    others = Contains-append_left issued (listed (issued_for q.attempt q.ep e)) (a, v.v.epoch) (subst (λ x. Contains issued (x, v.v.epoch)) v.its wrote.0);
+    below = v.below;
+    overlap = subst (λ x. Any (λ w. Any (λ p. overlaps p (write_path w.write) ≡ true) (access_paths (attempt_ops r.script q.attempt))) (minor_writes 0 (attempt_ops r.script x))) v.its
+        (wrote.1.0, wrote.1.1, wrote.1.2, wrote.1.3, any-of (λ p. overlaps p (write_path wrote.1.1.write) ≡ true) (access_paths (attempt_ops r.script q.attempt)) (read_path q.read) h.access (subst (λ p. overlaps (read_path q.read) p ≡ true) (sym wrote.1.4) v.overlap));
+  }
+    where
+      wrote : Contains issued (v.v.by, v.v.epoch) × Any (λ w. write_path w.write ≡ version_path v.v) (minor_writes 0 (attempt_ops r.script v.v.by))
+      wrote = written-at k dec w v.v v.among (w.opens v.v v.among v.unsettled).above
+
+  -- it isn't answered yet
+  unended : (k : Kept) (e : Epoch) (dec : List AttemptId) (a : AttemptId) → Lasts t lines (top o) old dec k → IsInTheWay q.read e k.durable a → (Contains dec a → ⊥) → other_leader t a k.durable ≡ None → HasNoLine lines a
+  unended k e dec a w v unknown alone = by (subst (IsMet t lines k.durable dec) v.its (w.opens v.v v.among v.unsettled).met)
+    where
+      by : IsMet t lines k.durable dec a → HasNoLine lines a
+      by (IsKnown i) = absurd (unknown (contains-from_has dec a i))
+      by (IsOthers leader is) = let no : ⊥ = cc in absurd no
+      by (IsUnended none) = none
+
+  -- the Fetch waits
+  parks : (k : Kept) (e : Epoch) (dec : List AttemptId) (a : AttemptId) (leader : ℕ) (left : TargetMemory × Did) → IsDated o issued q.attempt q.ep q.first e → MeetsOther r (now e) q.attempt a
+      → left ≡ (read.memory_parked t q e dec a leader m, read.asks_leader q e a leader) → FetchLeft r o stored issued lines left
+  parks k e dec a leader left d met is = subst (FetchLeft r o stored issued lines) (sym is) (record {
+    posts = (record { shows = tt; told = λ n i. absurd (none-told n i); undecided = λ x by u. absurd u; asked = λ x same. (e, subst (λ y. Contains (now e) (y, e)) same d.its); own = λ x u. absurd u }, tt);
+    ticks = heard e dec d;
+    dated = issue-within o issued q.attempt q.ep e d.within;
+    parked = λ p i. placed p (has-cases m.member.parked (record { on = a; leader = leader; ask = read.fetch_at q e } ∷ []) p i);
+  })
+    where
+      bears-own : (x : AttemptId) (f : Epoch) (b : Bool) → BearsEpoch (message.Fetch q.attempt q.op q.group (Some e) q.first q.tracker q.read b) x f → q.attempt ≡ x
+      bears-own x f true u = absurd u
+      bears-own x f false u = u.0
+
+      placed : (p : Parked) → Has p m.member.parked ⊎ ((p ≡ record { on = a; leader = leader; ask = read.fetch_at q e }) ⊎ ⊥) → ParkedMeets r (now e) p
+      placed p (inl i) x f b = meets-more r issued (listed (issued_for q.attempt q.ep e)) x p.on (parked p i x f b)
+      placed p (inr (inl same)) x f b =
+          let mine : q.attempt ≡ x = bears-own x f q.snapshot (subst (λ z. BearsEpoch z.ask x f) same b) in
+          subst (λ z. MeetsOther r (now e) x z.on) (sym same) (subst (λ y. MeetsOther r (now e) y a) mine met)
+      placed p (inr (inr bad)) x f b = absurd bad
+
+  pub fetch-ends : (s : read.FetchStage) (k : Kept) (left : TargetMemory × Did) → ReadSoFar t lines (top o) m reading q old s k → read.FetchEnds t m reading q from s k left → FetchLeft r o stored issued lines left
+  fetch-ends s k left w (read.IsSpent j z plain none is) = subst (FetchLeft r o stored issued lines) (sym is) (record {
+    posts = (
+      record {
         shows = record { before = issued; since = []; among = refl; none = (h.request.fresh spent.0).0; spent = spent.1 };
-        told = λ e i. absurd (none-told e i);
-        ticks = subst (λ is'. m.ticks ≤ limit o is') (sym (append-nil issued)) h.ticks;
-        dated = λ x e i. let no : ⊥ = cc in absurd no;
-        space = let f : old.free ≤ k.free = w.free in omega (arith, f);
-      })
+        told = λ n i. absurd (none-told n i);
+        undecided = λ x by u. absurd u;
+        asked = λ x u. absurd u;
+        own = λ x same. own ∙ ap (λ y. client y.client) same;
+      },
+      tt,
+    );
+    ticks = subst (λ is'. m.ticks ≤ limit o is') (sym (append-nil issued)) ticks;
+    dated = λ x e i. let no : ⊥ = cc in absurd no;
+    parked = meet-more r issued [] m.member.parked parked;
+  })
     where
       spent : (q.ep ≡ None) × (last_ticks < limit o issued + 1)
-      spent = request-spent o issued q.attempt q.ep q.first q.tracker t m reading h.ticks h.request none
+      spent = request-spent o issued q.attempt q.ep q.first q.tracker t m reading ticks h.request none
   fetch-ends s k left w (read.IsRefused j e dec c z why is) =
-      refuses k e dec left (request-dated o issued q.attempt q.ep q.first q.tracker t m reading e h.few h.ticks h.request w.dated) w c why is
-  fetch-ends s k left w (read.MeetsUnresolved j e dec a z free unsettled other is) =
-      let d = request-dated o issued q.attempt q.ep q.first q.tracker t m reading e h.few h.ticks h.request w.dated in
-      let v = meets-open q.read e opening k.durable a (below-at k e w.conts d.above) unsettled in
-      absurd (other (contains-from_has dec a (subst (λ x. Has x dec) v.3 (w.unsettled v.0 v.1 v.2))))
+      let d = its e w.dated in
+      let y = read-refused t q e opening k.durable c h.plain (below-at k e w.lasts.conts d.above) why in
+      write-refuses k e dec left d w.lasts y.0 y.1 (is ∙ ap (λ b. (read.memory_then q e dec m, read.tells q from e (reply.Outcome (outcome.Restart b)))) y.2)
+  fetch-ends s k left w (read.MeetsUnresolved j e dec a z free unsettled unknown alone is) =
+      let d = its e w.dated in
+      let v = meets-open q.read e opening k.durable a (below-at k e w.lasts.conts d.above) unsettled in
+      tells-left e dec (reply.Outcome (outcome.Restart (cause.Unresolved a))) (read.memory_then q e dec m) left d refl refl is
+      (record { meets = meets k e dec a d w.lasts v; unanswered = unended-unanswered lines q.attempt a (unended k e dec a w.lasts v unknown alone) }) (λ n i. subst (λ f. f / 256 ≤ limit o (now e)) (told-one e n i) d.within)
+  fetch-ends s k left w (read.IsParked j e dec a leader z free unsettled other is) =
+      let d = its e w.dated in
+      let v = meets-open q.read e opening k.durable a (below-at k e w.lasts.conts d.above) unsettled in
+      parks k e dec a leader left d (meets k e dec a d w.lasts v) is
   fetch-ends s k left w (read.IsServed j e dec b z free served is) =
-      let d = request-dated o issued q.attempt q.ep q.first q.tracker t m reading e h.few h.ticks h.request w.dated in
-      said r o decided issued t.me from old.free k.free (record (read.memory_then q e dec m) { stamps = read.stamps_with q e m.stamps }) (read.fetched_message q (Some e) (reply.Answer b)) (issued_for q.attempt q.ep e) left is
-      (serves e dec (record (read.memory_then q e dec m) { stamps = read.stamps_with q e m.stamps }) b k.free w.free d refl)
-
-  -- a turn that hears a Fetch, and leaves the rows of containers as they were
-  pub fetch-heeds : (new : Kept) (left : TargetMemory × Did) → Whole (read.FetchNext t m reading q) (read.FetchEnds t m reading q from) read.Asked old new left
-      → Heeds r o decided issued t.me from old.free new.free left × (new.durable.conts ≡ old.durable.conts)
-  fetch-heeds new left w =
-      let k : ReadSoFar t m reading q old w.last new = read-path t m reading q old w.last new w.reached.did h.plain h.unsettled w.reached.path in
-      (fetch-ends w.last new left k w.ends, k.conts)
+      let d = its e w.dated in
+      tells-left e dec (reply.Answer b) (record (read.memory_then q e dec m) { stamps = read.stamps_with q e m.stamps }) left d refl refl is tt (λ n i. subst (λ f. f / 256 ≤ limit o (now e)) (told-one e n i) d.within)

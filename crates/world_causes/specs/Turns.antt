@@ -1,50 +1,89 @@
--- What a turn of a target comes to: an answer that shows its cause, ticks within the limit, and blocks that are accounted for.
-use Rattle.std.specs.Prelude.{ℕ, ◌≡◌, ◌≤◌, ◌+◌, ◌/◌, ◌++◌, [], ◌∷◌, Contains, Option, Some, refl}
-use Rattle.std.proofs.Common.{sym, ap, subst}
+-- What a turn of a target comes to: what it sends shows its cause, ticks are within the limit, and blocks are accounted for.
+use Rattle.std.specs.Prelude.{ℕ, ◌≡◌, ◌≤◌, ◌+◌, ◌/◌, ◌++◌, map, List, [], ◌∷◌, Contains, Some}
+use Rattle.std.proofs.Common.{sym, subst, inl, inr, arith}
+use Rattle.std.proofs.lemmas.List.Elements.{Contains-append_left}
 use Rattle.daos_base.specs.declared.epoch.Epoch.{Epoch}
 use Rattle.daos_base.specs.declared.id.AttemptId.{AttemptId}
-use Rattle.daos_messages.specs.declared.actor.ActorId.{ActorId}
-use Rattle.daos_messages.specs.declared.message.Message.{Message}
+use Rattle.daos_base.specs.declared.report.Attempt.{Attempt}
+use Rattle.daos_base.specs.declared.report.Line.{Line}
+use Rattle.daos_laws.specs.Members.{Has}
+use Rattle.daos_messages.specs.declared.message.Post.{Post}
+use Rattle.daos_model.specs.Attempts.{tries}
 use Rattle.daos_model.specs.Opening.{Opening}
+use Rattle.dtx_base.specs.declared.member.Parked.{Parked}
 use Rattle.world_base.specs.declared.did.Did.{Did}
 use Rattle.world_base.specs.declared.target.TargetMemory.{TargetMemory}
-use Rattle.world_base.specs.ClientTurns.{told_by_message}
+use Rattle.world_epochs.specs.Epochs.{BearsEpoch}
 use Rattle.world_events.specs.Events.{Rules, listed}
-use Rattle.world_turns.specs.Requests.{says}
-use Rattle.world_causes.specs.Causes.{Dated, MessageShows, blocks_of_decided, decided_by_message, decided_by_posts, limit}
+use Rattle.world_events.specs.Letters.{client}
+use Rattle.world_turns.specs.Changes.{Kept}
+use Rattle.world_causes.specs.Causes.{Dated, EndsOf, IsAskedFor, IsUnanswered, IsUndecidedFor, MeetsOther, MessageShows, Stored, blocks_of_stored, epochs_told, limit, stored_by}
+use Rattle.world_causes.specs.Dates.{limit-rises}
+use Rattle.world_causes.specs.Growth.{message-more}
 
--- what follows from a turn in which a target, with so many free blocks before and after it, heard a request
-pub record Heeds (r : Rules) (o : Opening) (decided issued : Dated) (t : ℕ) (from : ActorId) (before after : ℕ) (left : TargetMemory × Did) : Type 0 where
-  pub answer : Message
-  pub one : left.1.posts ≡ record { to = from; message = answer } ∷ []
-  pub lines : left.1.lines ≡ []
-  pub shows : MessageShows r o (decided_by_posts left.1.posts ++ decided) (issued ++ listed left.1.issued) answer
-  pub told : (e : ℕ) → Contains (told_by_message answer) e → e / 256 ≤ limit o (issued ++ listed left.1.issued)
+-- ---- what is sent
+
+-- what a message shows and tells, where these attempts were stored, these epochs issued, and these lines told
+pub record PostShows (r : Rules) (o : Opening) (stored : Stored) (issued : Dated) (lines : List Line) (q : Post) : Type 0 where
+  pub shows : MessageShows r o stored issued lines q.message
+  pub told : (e : ℕ) → Contains (epochs_told q.message) e → e / 256 ≤ limit o issued
+  pub undecided : (x by : AttemptId) → IsUndecidedFor q.message x by → IsUnanswered lines x by
+  pub asked : (x : AttemptId) → IsAskedFor q.message x → (e : Epoch) × Contains issued (x, e)
+  pub own : (x : AttemptId) → EndsOf q.message x → q.to ≡ client x.client
+
+abbrev pub AllShow : Rules → Opening → Stored → Dated → List Line → List Post → Type 0
+AllShow r o stored issued lines [] = Unit {0}
+AllShow r o stored issued lines (q ∷ qs) = PostShows r o stored issued lines q × AllShow r o stored issued lines qs
+
+module _ (r : Rules) (o : Opening) (stored : Stored) (issued : Dated) (lines : List Line) where
+  pub all-both : (ps qs : List Post) → AllShow r o stored issued lines ps → AllShow r o stored issued lines qs → AllShow r o stored issued lines (ps ++ qs)
+  all-both [] qs h k = k
+  all-both (p ∷ ps) qs h k = (h.0, all-both ps qs h.1 k)
+
+  pub all-map : {A : Type 0} (f : A → Post) → ((a : A) → PostShows r o stored issued lines (f a)) → (xs : List A) → AllShow r o stored issued lines (map f xs)
+  all-map f each [] = tt
+  all-map f each (x ∷ xs) = (each x, all-map f each xs)
+
+  pub all-each : (qs : List Post) (q : Post) → AllShow r o stored issued lines qs → Has q qs → PostShows r o stored issued lines q
+  all-each [] q h i = absurd i
+  all-each (p ∷ ps) q h (inl same) = subst (PostShows r o stored issued lines) (sym same) h.0
+  all-each (p ∷ ps) q h (inr i) = all-each ps q h.1 i
+
+-- what is sent goes on to show it, when more is stored and issued
+pub all-more : (r : Rules) (o : Opening) (new stored : Stored) (issued more : Dated) (lines : List Line) (qs : List Post) → AllShow r o stored issued lines qs → AllShow r o (new ++ stored) (issued ++ more) lines qs
+all-more r o new stored issued more lines [] h = tt
+all-more r o new stored issued more lines (q ∷ qs) h = (
+  record {
+    shows = message-more r o new stored issued more lines lines q.message (λ x by k u. u) h.0.shows;
+    told = λ e i. let low : e / 256 ≤ limit o issued = h.0.told e i in let up : limit o issued ≤ limit o (issued ++ more) = limit-rises o issued more in omega (arith, low, up);
+    undecided = h.0.undecided;
+    asked = λ x k. let e = h.0.asked x k in (e.0, Contains-append_left issued more (x, e.0) e.1);
+    own = h.0.own;
+  },
+  all-more r o new stored issued more lines qs h.1,
+)
+
+-- ---- Fetches that wait
+
+-- what a Fetch waits for is in its way
+abbrev pub ParkedMeets : Rules → Dated → Parked → Type 0
+ParkedMeets r issued p = (x : AttemptId) (e : Epoch) → BearsEpoch p.ask x e → MeetsOther r issued x p.on
+
+abbrev pub AllMeet : Rules → Dated → List Parked → Type 0
+AllMeet r issued ps = (p : Parked) → Has p ps → ParkedMeets r issued p
+
+-- ---- attempts without a line
+
+-- no line tells of an attempt
+abbrev pub HasNoLine : List Line → AttemptId → Type 0
+HasNoLine lines x = (a : Attempt) → Has a (tries lines) → (a.id ≡ x) → ⊥
+
+-- ---- a turn
+
+-- what follows from a turn of a target, beside the rows of containers, which stay, and lines, of which it adds none
+pub record Leaves (r : Rules) (o : Opening) (stored : Stored) (issued : Dated) (lines : List Line) (t : ℕ) (old new : Kept) (left : TargetMemory × Did) : Type 0 where
+  pub posts : AllShow r o (stored_by t old.durable new.durable ++ stored) (issued ++ listed left.1.issued) lines left.1.posts
   pub ticks : left.0.ticks ≤ limit o (issued ++ listed left.1.issued)
   pub dated : (x : AttemptId) (e : Epoch) → left.1.issued ≡ Some (x, e) → e.0 / 256 ≤ limit o (issued ++ listed left.1.issued)
-  pub space : before + blocks_of_decided r.script t decided ≤ after + blocks_of_decided r.script t (decided_by_posts left.1.posts ++ decided)
-
--- an attempt is answered, with its epoch or none
-pub record Says (r : Rules) (o : Opening) (decided issued : Dated) (t : ℕ) (before after : ℕ) (memory : TargetMemory) (a : Message) (new : Option (AttemptId × Epoch)) : Type 0 where
-  pub shows : MessageShows r o (decided_by_message a ++ decided) (issued ++ listed new) a
-  pub told : (e : ℕ) → Contains (told_by_message a) e → e / 256 ≤ limit o (issued ++ listed new)
-  pub ticks : memory.ticks ≤ limit o (issued ++ listed new)
-  pub dated : (x : AttemptId) (e : Epoch) → new ≡ Some (x, e) → e.0 / 256 ≤ limit o (issued ++ listed new)
-  pub space : before + blocks_of_decided r.script t decided ≤ after + blocks_of_decided r.script t (decided_by_message a ++ decided)
-
-no-more : (xs : Dated) → xs ++ [] ≡ xs
-no-more [] = refl
-no-more (x ∷ xs) = ap (λ ys. x ∷ ys) (no-more xs)
-
-pub said : (r : Rules) (o : Opening) (decided issued : Dated) (t : ℕ) (from : ActorId) (before after : ℕ) (memory : TargetMemory) (a : Message) (new : Option (AttemptId × Epoch)) (left : TargetMemory × Did)
-    → left ≡ (memory, says from a new) → Says r o decided issued t before after memory a new → Heeds r o decided issued t from before after left
-said r o decided issued t from before after memory a new left is k = subst (λ z. Heeds r o decided issued t from before after z) (sym is) (record {
-  answer = a;
-  one = refl;
-  lines = refl;
-  shows = subst (λ ds. MessageShows r o (ds ++ decided) (issued ++ listed new) a) (sym (no-more (decided_by_message a))) k.shows;
-  told = k.told;
-  ticks = k.ticks;
-  dated = k.dated;
-  space = subst (λ ds. before + blocks_of_decided r.script t decided ≤ after + blocks_of_decided r.script t (ds ++ decided)) (sym (no-more (decided_by_message a))) k.space;
-})
+  pub space : old.free + blocks_of_stored r.script t stored ≤ new.free + blocks_of_stored r.script t (stored_by t old.durable new.durable ++ stored)
+  pub parked : AllMeet r (issued ++ listed left.1.issued) left.0.member.parked

@@ -1,5 +1,6 @@
 -- What a target is asked is right: it is what the present attempt of a client has to ask, and bears its epoch.
-use Rattle.std.specs.Prelude.{ℕ, ◌≡◌, ◌≢◌, ◌⊎◌, ◌≤◌, ◌<◌, ◌%◌, ◌/◌, Bool, true, false, is_some, max, List, [], ◌∷◌, slice_get, All, Contains, Option, Some, None, refl}
+use Rattle.std.specs.Prelude.{ℕ, ◌≡◌, ◌≢◌, ◌⊎◌, ◌≤◌, ◌<◌, ◌%◌, ◌/◌, Bool, true, false, is_some, length, max, List, [], ◌∷◌, slice_get, Contains, Option, Some, None, refl}
+use Rattle.std.proofs.lemmas.Option.{slice_get_within}
 use Rattle.std.proofs.Common.{inl, inr, sym, ◌∙◌, ap, subst, arith}
 use Rattle.daos_base.specs.declared.epoch.Epoch.{Epoch}
 use Rattle.daos_base.specs.declared.id.AttemptId.{AttemptId}
@@ -9,12 +10,12 @@ use Rattle.daos_base.specs.declared.operation.Act.TheVariants as act
 use Rattle.daos_base.specs.declared.operation.Cond.{Cond}
 use Rattle.daos_base.specs.declared.operation.Cond.TheVariants as cond
 use Rattle.daos_base.specs.declared.operation.MinorWrite.{MinorWrite}
+use Rattle.daos_base.specs.declared.outcome.Outcome.{Outcome}
 use Rattle.daos_base.specs.declared.operation.Op.{Op}
 use Rattle.daos_base.specs.declared.operation.Read.{Read}
 use Rattle.daos_base.specs.declared.operation.Read.TheVariants as read
 use Rattle.daos_base.specs.declared.operation.Write.{Write}
 use Rattle.daos_base.specs.declared.operation.Write.TheVariants as write
-use Rattle.daos_base.specs.declared.outcome.Outcome.TheVariants.{Committed}
 use Rattle.daos_base.specs.declared.path.Path.{Path}
 use Rattle.daos_base.specs.declared.script.Command.TheVariants as command
 use Rattle.daos_base.specs.declared.script.ObjDecl.{ObjDecl}
@@ -22,15 +23,19 @@ use Rattle.daos_base.specs.Operations.{act_path, read_path, write_path}
 use Rattle.daos_base.specs.Placement.{ClassFits, groups, writes_leader}
 use Rattle.daos_base.specs.PlacementLaws.{group_of-within, groups-positive}
 use Rattle.daos_base.specs.Scripts.{IsActInForm, IsAkeyOf, IsDkeyOf, IsInForm, IsObjectOf, IsOpInForm, IsPathOf, IsReadInForm, IsWriteInForm}
-use Rattle.daos_laws.specs.Members.{Has, has-from_contains}
+use Rattle.daos_laws.specs.Members.{Has, contains-from_has, has-from_contains}
+use Rattle.daos_laws.specs.TargetLaws.{same_number}
 use Rattle.daos_messages.specs.declared.message.Message.{Message}
 use Rattle.daos_messages.specs.declared.message.Message.TheVariants as message
 use Rattle.daos_messages.specs.declared.message.Post.{Post}
 use Rattle.daos_model.specs.declared.durable.Version.{Version}
 use Rattle.daos_model.specs.Accesses.{asked_member, minor_writes}
-use Rattle.daos_model.specs.Forms.{AreWritesInForm}
 use Rattle.daos_model.specs.Opening.{Opening, top}
 use Rattle.daos_model.specs.Transactions.{attempt_ops, ops_or_none}
+use Rattle.dtx_base.specs.declared.member.Parked.{Parked}
+use Rattle.world_addresses.specs.Addresses.{AreAddressed, IsAsk, IsParkedRight as IsWaitingThere, crowd}
+use Rattle.world_attempts.specs.Attempts.{Attempts, IsAckRight, IsTrueOf}
+use Rattle.world_attempts.specs.History.{History}
 use Rattle.world_base.specs.declared.client.ClientPlan.{ClientPlan}
 use Rattle.world_base.specs.declared.client.ClientState.{ClientState}
 use Rattle.world_base.specs.declared.client.Present.{Present}
@@ -44,26 +49,23 @@ use Rattle.world_base.specs.declared.target.Life.TheVariants.{Running}
 use Rattle.world_base.specs.declared.world.World.{World}
 use Rattle.world_base.specs.ClientTurns.{attempt_id, command_at, group_asked, group_count, member_asked, question}
 use Rattle.world_core.specs.Judged.{Judged}
-use Rattle.world_epochs.specs.Epochs.{AsksEpoch, BearsEpoch, Epochs, IsIssued, IsPast, OneTarget, Unsnapped, reads_snapshot}
-use Rattle.world_epochs.specs.Lists.{nothing-passes}
-use Rattle.world_epochs.specs.TargetEvents.{issued-ticks, only-target}
+use Rattle.world_epochs.specs.Epochs.{AsksEpoch, BearsEpoch, BearsIssued, Epochs, IsIssued, IsPast, Unsnapped, reads_snapshot}
+use Rattle.world_epochs.specs.TargetEvents.{issued-ticks}
 use Rattle.world_events.specs.Events.{Rules, client_plan, target_plan}
-use Rattle.world_events.specs.Letters.{Takes, client, is_talk_of, is_tell, target}
+use Rattle.world_events.specs.Letters.{Takes, target}
 use Rattle.world_clients.specs.Answered.{ops_here}
 use Rattle.world_core.specs.ScriptForm.{ops-few, read-in-form, writes-declared, writes-in-form}
 use Rattle.world_gots.specs.FormLaws.{all-at, fit-object, ops-form, read-declared, write-declared}
 use Rattle.world_gots.specs.Gots.{Found, Gots, IsFound, Nothing, groups_asked}
-use Rattle.world_reads.specs.Given.{FitsTargets, Given, HasItsEpoch, IsCommitRight, IsFetchRight, IsItsEpoch, IsMessageRight}
-use Rattle.world_reads.specs.History.{History}
-use Rattle.world_talks.specs.AskLaws.{asked-commit, asked-read}
+use Rattle.world_reads.specs.Given.{FitsTargets, Given, HasItsEpoch, IsCommitRight, IsFetchRight, IsItsEpoch, IsMessageRight, IsParkedRight, IsRefusalRight}
+use Rattle.world_talks.specs.AskLaws.{asked-commit, asked-read, sent-is-asked}
+use Rattle.world_talks.specs.Carriers.{is_fetch_of}
+use Rattle.world_talks.specs.Conversation.{is_request}
 use Rattle.world_talks.specs.Asked.{ARead, ASnapshot, AnAggregation, Asked, AsksCommit, AsksRead, ItsWrites, commit_of, fetch_of, group_of_read}
-use Rattle.world_talks.specs.InFlight.{HearsRequest, hears-request}
-use Rattle.world_talks.specs.TalkLaws.{got-is-talk}
+use Rattle.world_talks.specs.InFlight.{HearsRequest, hears-request, parked-is}
 use Rattle.world_turns.specs.Requests.{request_epoch}
-use Rattle.world_turns.specs.TargetTurns.{is_heard}
+use Rattle.world_turns.specs.Reads.{fetch_at}
 use Rattle.world_verdicts.specs.TurnLaws.{attempt-ops-here, told-of}
-use Rattle.world_verdicts.specs.VerdictLaws.{left-or-it}
-use Rattle.world_verdicts.specs.Verdicts.{IsOnItsWay, IsToldCommitted}
 
 -- ---- letters
 
@@ -83,7 +85,7 @@ unfolding epoch_of
 same-epoch e f h = ap epoch_of h
 
 -- a request bears the epoch of its attempt, if that has one
-own-epoch : (r : Rules) (o : Opening) (w : World) (x : AttemptId) (e : Epoch) → Epochs r (top o) w → IsIssued w x e → IsItsEpoch o w x (Some e) e
+pub own-epoch : (r : Rules) (o : Opening) (w : World) (x : AttemptId) (e : Epoch) → Epochs r (top o) w → IsIssued w x e → IsItsEpoch o w x (Some e) e
 own-epoch r o w x e E i = record {
   above = E.above x e i;
   alone = λ y f is same. E.apart y x e (subst (λ z. Contains w.issued (y, z)) (same-epoch f e same) is) i;
@@ -91,37 +93,45 @@ own-epoch r o w x e E i = record {
 }
 
 -- else one is issued that none has yet
-new-epoch : (r : Rules) (o : Opening) (w : World) (t : ℕ) (s : TargetState) (x : AttemptId) (k : Epoch) (reading : ℕ) (e : Epoch) → Epochs r (top o) w → t ≡ 0 → slice_get w.targets t ≡ Some s → s.life ≡ Running
+new-epoch : (r : Rules) (o : Opening) (w : World) (t : ℕ) (s : TargetState) (x : AttemptId) (k : Epoch) (reading : ℕ) (e : Epoch) → Epochs r (top o) w → slice_get w.targets t ≡ Some s → s.life ≡ Running
     → top o ≤ k.0 → request_epoch (target_plan r t) s.memory reading k None ≡ Some e → IsItsEpoch o w x None e
-new-epoch r o w t s x k reading e E zero' here runs low h = record { above = above; alone = alone; own = λ f has. let no : ⊥ = cc in absurd no }
+new-epoch r o w t s x k reading e E here runs low h = record { above = above; alone = alone; own = λ f has. let no : ⊥ = cc in absurd no }
   where
-    is : (s.memory.ticks < e.0 / 256) × (k.0 < e.0) × (e.0 % 256 ≡ 0)
-    is = issued-ticks (target_plan r t) s.memory reading k e zero' h
+    few : t < 256
+    few = let within : t < length w.targets = slice_get_within w.targets t s here in let all : length w.targets ≤ 256 = E.few in omega (arith, within, all)
+
+    is : (s.memory.ticks < e.0 / 256) × (k.0 < e.0) × (e.0 % 256 ≡ t)
+    is = issued-ticks (target_plan r t) s.memory reading k e few h
 
     above : top o < e.0
     above = let b : k.0 < e.0 = is.1 in omega (arith, low, b)
 
     alone : (y : AttemptId) (f : Epoch) → Contains w.issued (y, f) → f.0 ≡ e.0 → y ≡ x
     alone y f i same =
-        let zero'' : f.0 % 256 ≡ t = ap (λ z. z % 256) same ∙ is.2 ∙ sym zero' in
-        let old : f.0 / 256 ≤ s.memory.ticks = E.ticks y f s i (ap (λ z. slice_get w.targets z) zero'' ∙ here) runs in
+        let issuer : f.0 % 256 ≡ t = ap (λ z. z % 256) same ∙ is.2 in
+        let old : f.0 / 256 ≤ s.memory.ticks = E.ticks y f s i (ap (λ z. slice_get w.targets z) issuer ∙ here) runs in
         let new : s.memory.ticks < e.0 / 256 = is.0 in
         let one : f.0 / 256 ≡ e.0 / 256 = ap (λ z. z / 256) same in
         let no : ⊥ = omega (arith, old, new, one) in absurd no
 
 -- so a request that bears or asks for an epoch has its epoch
-pub its-epoch : (r : Rules) (o : Opening) (w : World) (t : ℕ) (s : TargetState) (x : AttemptId) (ep : Option Epoch) (k : Epoch) → Epochs r (top o) w → t ≡ 0 → slice_get w.targets t ≡ Some s → s.life ≡ Running
+pub its-epoch : (r : Rules) (o : Opening) (w : World) (t : ℕ) (s : TargetState) (x : AttemptId) (ep : Option Epoch) (k : Epoch) → Epochs r (top o) w → slice_get w.targets t ≡ Some s → s.life ≡ Running
     → ((e : Epoch) → ep ≡ Some e → IsIssued w x e) → (ep ≡ None → top o ≤ k.0) → HasItsEpoch r o w t s x ep k
-its-epoch r o w t s x None k E zero' here runs bears low reading e h = new-epoch r o w t s x k reading e E zero' here runs (low refl) h
-its-epoch r o w t s x (Some f) k E zero' here runs bears low reading e h = let same : f ≡ e = cc in subst (λ z. IsItsEpoch o w x (Some f) z) same (own-epoch r o w x f E (bears f refl))
+its-epoch r o w t s x None k E here runs bears low reading e h = new-epoch r o w t s x k reading e E here runs (low refl) h
+its-epoch r o w t s x (Some f) k E here runs bears low reading e h = let same : f ≡ e = cc in subst (λ z. IsItsEpoch o w x (Some f) z) same (own-epoch r o w x f E (bears f refl))
 
--- ---- what holds of a run of one target between any two of its events
+-- ---- what holds of a run between any two of its events
 
+-- of a script in form, in which nothing is asked of snapshots, for as many targets as a set of members holds: what goes about and what
+-- lines tell, epochs and verdicts; what became of each attempt; what clients were told; and who is named is there
 pub record Facts (r : Rules) (o : Opening) (h : History) (w : World) : Type 0 where
-  pub one : OneTarget r w
   pub unsnapped : Unsnapped r
   pub form : IsInForm r.script.targets r.script
+  pub few : r.script.targets ≤ 64
+  pub some : 0 < r.script.targets
+  pub addressed : AreAddressed r w
   pub judged : Judged r (top o) h w
+  pub attempts : Attempts r h w
   pub gots : Gots r h w
 
 -- ---- what is read
@@ -209,10 +219,22 @@ group-found h x targets ops a op q (Found op' q' at' asks' more joined) at asks 
     let same : q' ≡ q = let e : Some q' ≡ Some q = sym asks' ∙ ap (question a.stage) one ∙ asks in cc in
     inr (subst (λ z. a.group < groups_asked (read_path z) targets) same more)
 
-pub fetch-right : (r : Rules) (o : Opening) (h : History) (w : World) (t : ℕ) (l : Letter) (rest : List Letter) (f : FetchRequest) → Facts r o h w → Contains w.messages l → HearsRequest r w l rest → l.to ≡ target t
-    → l.message ≡ fetch_of f → IsFetchRight r t f.attempt f.op f.group f.read f.snapshot
-fetch-right r o h w t l rest f k among i to it = record {
-  now = ap reads_snapshot (sym it) ∙ k.judged.epochs.plain l among;
+-- what a present attempt of a client that waits has asked of a target
+pub record ReadIsAsked (r : Rules) (w : World) (t : ℕ) (f : FetchRequest) : Type 0 where
+  pub n : ℕ
+  pub c : ClientState
+  pub a : Present
+  pub here : slice_get w.clients n ≡ Some c
+  pub present : c.present ≡ Some a
+  pub k : Epoch
+  pub q : Post
+  pub asked : Asked (client_plan r n) k c a q
+  pub says : q.message ≡ fetch_of f
+  pub to : q.to ≡ target t
+
+pub fetch-right : (r : Rules) (o : Opening) (h : History) (w : World) (t : ℕ) (f : FetchRequest) → Facts r o h w → ReadIsAsked r w t f → f.snapshot ≡ false → IsFetchRight r t f.attempt f.op f.group f.read f.snapshot
+fetch-right r o h w t f k i plain = record {
+  now = plain;
   form = read-in-form r.script.objs f.read in_form;
   asked = λ e b. record { op = asks.o; at = (f.op, refl, ops-at); stage = i.a.stage; asks = asks.asked; obj = obj.0; of_object = obj.1; member = member };
   obj = obj.0;
@@ -221,11 +243,8 @@ fetch-right r o h w t l rest f k among i to it = record {
   within = within;
 }
   where
-    says : i.q.message ≡ fetch_of f
-    says = sym (ap (λ z. z.message) i.it) ∙ it
-
     asks : AsksRead (client_plan r i.n) i.k i.c i.a f
-    asks = asked-read (client_plan r i.n) i.k i.c i.a i.q f i.asked says
+    asks = asked-read (client_plan r i.n) i.k i.c i.a i.q f i.asked i.says
 
     ops-same : attempt_ops r.script f.attempt ≡ asks.ops
     ops-same = ap (attempt_ops r.script) asks.attempt ∙ present-ops r o h w i.n i.c i.a asks.ops asks.turns asks.name k i.here i.present asks.at
@@ -244,7 +263,7 @@ fetch-right r o h w t l rest f k among i to it = record {
 
     member : t ≡ asked_member obj.0 f.attempt.command r.script.targets f.group
     member =
-        ap (λ z. z.number) (sym to ∙ ap (λ z. z.to) i.it ∙ read-member (client_plan r i.n) i.k i.c i.a i.q f i.asked says)
+        ap (λ z. z.number) (sym i.to ∙ read-member (client_plan r i.n) i.k i.c i.a i.q f i.asked i.says)
         ∙ ap (λ z. member_asked z i.c.command r.script.targets f.group) obj.1 ∙ ap (λ z. asked_member obj.0 z r.script.targets f.group) (sym (ap (λ x. x.command) asks.attempt))
 
     found : (i.a.group ≡ 0) ⊎ (i.a.group < groups_asked (read_path f.read) r.script.targets)
@@ -278,7 +297,7 @@ writes-to p k c a q f (ASnapshot name cont at says) it = let no : ⊥ = cc (ap (
 writes-to p k c a q f (AnAggregation cont at says) it = let no : ⊥ = cc (ap (λ x. x.message) says, it) in absurd no
 
 -- a client isn't past its present attempt
-present-not-past : (p : ClientPlan) (c : ClientState) (a : Present) → c.present ≡ Some a → IsPast c (attempt_id p c a) → ⊥
+pub present-not-past : (p : ClientPlan) (c : ClientState) (a : Present) → c.present ≡ Some a → IsPast c (attempt_id p c a) → ⊥
 present-not-past p c a here (inl less) = let no : ⊥ = omega (arith, less) in absurd no
 present-not-past p c a here (inr past) =
     let one : a ≡ past.0 = let e : Some a ≡ Some past.0 = sym here ∙ past.1 in cc in
@@ -286,36 +305,13 @@ present-not-past p c a here (inr past) =
     let same : a.attempt ≡ past.0.attempt = ap (λ z. z.attempt) one in
     let no : ⊥ = omega (arith, less, same) in absurd no
 
--- an attempt whose writes are asked to be committed isn't decided
-undecided : (r : Rules) (o : Opening) (h : History) (w : World) (l : Letter) (rest : List Letter) (f : CommitRequest) → Facts r o h w → Takes w.messages l rest → (i : HearsRequest r w l rest) → l.message ≡ commit_of f
-    → f.attempt ≡ attempt_id (client_plan r i.n) i.c i.a → (e : Epoch) → Contains h.decided (f.attempt, e) → ⊥
-undecided r o h w l rest f k takes i it own e d = by (k.judged.verdicts.told f.attempt e d)
-  where
-    number : f.attempt.client ≡ i.n
-    number = ap (λ x. x.client) own
-
-    on_way : (v : IsOnItsWay w.messages f.attempt e) → (v.l ≡ l) ⊎ Contains rest v.l → ⊥
-    on_way v (inl same) = let bad : message.Ended f.attempt (Some e) Committed ≡ commit_of f = sym v.says ∙ ap (λ z. z.message) same ∙ it in let no : ⊥ = cc in absurd no
-    on_way v (inr j) = nothing-passes (is_talk_of i.n) rest v.l i.none_else j (got-is-talk i.n v.l (ap is_tell v.says) (v.to_it ∙ ap client number))
-
-    told : IsToldCommitted w.lines f.attempt e → ⊥
-    told z =
-        present-not-past (client_plan r i.n) i.c i.a i.present
-        (subst (IsPast i.c) (z.of_it ∙ own) (k.judged.epochs.past z.a i.c z.among (ap (λ m. slice_get w.clients m) (ap (λ x. x.client) z.of_it ∙ number) ∙ i.here)))
-
-    by : IsOnItsWay w.messages f.attempt e ⊎ IsToldCommitted w.lines f.attempt e → ⊥
-    by (inl v) = on_way v (left-or-it w.messages l rest v.l takes v.among)
-    by (inr z) = told z
-
-pub commit-right : (r : Rules) (o : Opening) (h : History) (w : World) (t : ℕ) (l : Letter) (rest : List Letter) (f : CommitRequest) → Facts r o h w → Takes w.messages l rest → HearsRequest r w l rest
-    → l.to ≡ target t → l.message ≡ commit_of f → IsCommitRight r h t f.attempt f.writes
-commit-right r o h w t l rest f k takes i to it = record {
+-- what a target is asked to commit by a client that waits
+pub commit-right : (r : Rules) (o : Opening) (h : History) (w : World) (t : ℕ) (l : Letter) (rest : List Letter) (f : CommitRequest) → Facts r o h w → HearsRequest r w l rest
+    → l.to ≡ target t → l.message ≡ commit_of f → IsCommitRight r t f.attempt f.writes
+commit-right r o h w t l rest f k i to it = record {
   its = its;
   some = writes-some (client_plan r i.n) i.k i.c i.a i.q f i.asked says;
-  leads = ap (λ z. z.number) (sym to ∙ ap (λ z. z.to) i.it ∙ writes-to (client_plan r i.n) i.k i.c i.a i.q f i.asked says);
-  form = subst AreWritesInForm (sym its) (writes-in-form r.script.objs (attempt_ops r.script f.attempt) (ops-few r.script.targets r.script f.attempt k.form) forms);
-  fits = λ m j. fits m (subst (Has m) its (has-from_contains f.writes m j));
-  undecided = undecided r o h w l rest f k takes i it asks.attempt;
+  leads = ap (λ z. z.number) (sym to ∙ ap (λ z. z.to) i.it ∙ writes-to (client_plan r i.n) i.k i.c i.a i.q f i.asked says) ∙ ap (λ ws. writes_leader ws r.script.targets) its;
 }
   where
     says : i.q.message ≡ commit_of f
@@ -327,12 +323,6 @@ commit-right r o h w t l rest f k takes i to it = record {
     its : f.writes ≡ minor_writes 0 (attempt_ops r.script f.attempt)
     its = asks.writes ∙ ap (minor_writes 0) (sym (ap (attempt_ops r.script) asks.attempt ∙ present-ops r o h w i.n i.c i.a asks.ops asks.turns asks.name k i.here i.present asks.at))
 
-    forms : All (IsOpInForm r.script.objs) (attempt_ops r.script f.attempt)
-    forms = ops-form r.script.targets r.script f.attempt k.form
-
-    fits : (m : MinorWrite) → Has m (minor_writes 0 (attempt_ops r.script f.attempt)) → FitsTargets r m.write
-    fits m j = fit-object r.script.targets r.script.objs (write_path m.write) k.form.classes (write-declared r.script.objs m.write (writes-declared r.script.objs (attempt_ops r.script f.attempt) forms m j))
-
 -- ---- every message to a running target
 
 module _ (r : Rules) (o : Opening) (h : History) (w : World) (k : Facts r o h w) (l : Letter) (t : ℕ) (s : TargetState) (among : Contains w.messages l) (to : l.to ≡ target t)
@@ -340,22 +330,26 @@ module _ (r : Rules) (o : Opening) (h : History) (w : World) (k : Facts r o h w)
   taken : (rest : List Letter) × Takes w.messages l rest
   taken = takes-one w.messages l (has-from_contains w.messages l among)
 
-  heard : is_heard l.message ≡ true → HearsRequest r w l taken.0
+  heard : is_request l.message ≡ true → HearsRequest r w l taken.0
   heard of_kind = hears-request r w l taken.0 k.judged.spoken.talk taken.1 of_kind
 
-  zero-th : t ≡ 0
-  zero-th = only-target r w t s k.one here
-
   fetch-is : (x : AttemptId) (op group : ℕ) (ep first : Option Epoch) (tracker : Epoch) (q : Read) (snapshot : Bool) → l.message ≡ message.Fetch x op group ep first tracker q snapshot
-      → IsMessageRight r o h w t s (message.Fetch x op group ep first tracker q snapshot)
-  fetch-is x op group ep first tracker q snapshot it = (right, its-epoch r o w t s x ep tracker k.judged.epochs zero-th here runs bears low)
+      → IsMessageRight r o w t s (message.Fetch x op group ep first tracker q snapshot)
+  fetch-is x op group ep first tracker q snapshot it = (right, its-epoch r o w t s x ep tracker k.judged.epochs here runs bears low)
     where
+      i : HearsRequest r w l taken.0
+      i = heard (ap is_request it)
+
+      now : snapshot ≡ false
+      now = ap reads_snapshot (sym it) ∙ k.judged.epochs.plain l among
+
       right : IsFetchRight r t x op group q snapshot
       right =
-          fetch-right r o h w t l taken.0 (record { attempt = x; op = op; group = group; ep = ep; first = first; tracker = tracker; read = q; snapshot = snapshot }) k among (heard (ap is_heard it)) to it
+          fetch-right r o h w t (record { attempt = x; op = op; group = group; ep = ep; first = first; tracker = tracker; read = q; snapshot = snapshot }) k
+          (record { n = i.n; c = i.c; a = i.a; here = i.here; present = i.present; k = i.k; q = i.q; asked = i.asked; says = sym (ap (λ z. z.message) i.it) ∙ it; to = sym (ap (λ z. z.to) i.it) ∙ to }) now
 
       plain : l.message ≡ message.Fetch x op group ep first tracker q false
-      plain = it ∙ ap (message.Fetch x op group ep first tracker q) right.now
+      plain = it ∙ ap (message.Fetch x op group ep first tracker q) now
 
       bears : (e : Epoch) → ep ≡ Some e → IsIssued w x e
       bears e own = k.judged.epochs.borne l x e among (subst (λ m. BearsEpoch m x e) (sym (plain ∙ ap (λ z. message.Fetch x op group z first tracker q false) own)) (refl, refl))
@@ -363,10 +357,10 @@ module _ (r : Rules) (o : Opening) (h : History) (w : World) (k : Facts r o h w)
       low : ep ≡ None → top o ≤ tracker.0
       low none = (k.judged.epochs.fresh l x tracker among (subst (λ m. AsksEpoch m x tracker) (sym (it ∙ ap (λ z. message.Fetch x op group z first tracker q snapshot) none)) (refl, refl))).2
 
-  commit-is : (x : AttemptId) (ep first : Option Epoch) (tracker : Epoch) (ws : List MinorWrite) → l.message ≡ message.Commit x ep first tracker ws → IsMessageRight r o h w t s (message.Commit x ep first tracker ws)
+  commit-is : (x : AttemptId) (ep first : Option Epoch) (tracker : Epoch) (ws : List MinorWrite) → l.message ≡ message.Commit x ep first tracker ws → IsMessageRight r o w t s (message.Commit x ep first tracker ws)
   commit-is x ep first tracker ws it = (
-    commit-right r o h w t l taken.0 (record { attempt = x; ep = ep; first = first; tracker = tracker; writes = ws }) k taken.1 (heard (ap is_heard it)) to it,
-    its-epoch r o w t s x ep tracker k.judged.epochs zero-th here runs bears low,
+    commit-right r o h w t l taken.0 (record { attempt = x; ep = ep; first = first; tracker = tracker; writes = ws }) k (heard (ap is_request it)) to it,
+    its-epoch r o w t s x ep tracker k.judged.epochs here runs bears low,
   )
     where
       bears : (e : Epoch) → ep ≡ Some e → IsIssued w x e
@@ -375,22 +369,65 @@ module _ (r : Rules) (o : Opening) (h : History) (w : World) (k : Facts r o h w)
       low : ep ≡ None → top o ≤ tracker.0
       low none = (k.judged.epochs.fresh l x tracker among (subst (λ m. AsksEpoch m x tracker) (sym (it ∙ ap (λ z. message.Commit x z first tracker ws) none)) (refl, refl))).2
 
-  pub message-right : IsMessageRight r o h w t s l.message
+  ack-is : (x : AttemptId) (inc : ℕ) (refusal : Option Outcome) → l.message ≡ message.Ack x inc refusal → IsRefusalRight refusal
+  ack-is x inc refusal it = refused refusal (subst (IsTrueOf r h w l.from l.to) it (k.attempts.letters l (has-from_contains w.messages l among)))
+    where
+      refused : (how : Option Outcome) → IsAckRight r h w l.from l.to x inc how → IsRefusalRight how
+      refused None a = tt
+      refused (Some how) a = a.held
+
+  pub message-right : IsMessageRight r o w t s l.message
   message-right = by l.message refl
     where
-      by : (m : Message) → l.message ≡ m → IsMessageRight r o h w t s m
+      by : (m : Message) → l.message ≡ m → IsMessageRight r o w t s m
       by (message.Fetch x op group ep first tracker q snapshot) it = fetch-is x op group ep first tracker q snapshot it
       by (message.Commit x ep first tracker ws) it = commit-is x ep first tracker ws it
+      by (message.Ack x inc refusal) it = ack-is x inc refusal it
       by m it = tt
 
--- what is asked of the one target is right, in a run of a script in form that reads at no snapshot
+-- ---- what waits at a target
+
+-- a Fetch that waits bears the epoch that was issued to its attempt, and reads at no snapshot
+parked-epoch : (r : Rules) (o : Opening) (w : World) (x : AttemptId) (op group : ℕ) (e : Epoch) (first : Option Epoch) (tracker : Epoch) (q : Read) (snapshot : Bool) → Epochs r (top o) w
+    → BearsIssued w.issued (message.Fetch x op group (Some e) first tracker q snapshot) → (snapshot ≡ false) × IsItsEpoch o w x (Some e) e
+parked-epoch r o w x op group e first tracker q true E b = absurd b.bears
+parked-epoch r o w x op group e first tracker q false E b = (refl, subst (λ z. IsItsEpoch o w z (Some e) e) (sym b.bears.0) (subst (λ z. IsItsEpoch o w b.x (Some z) z) (sym b.bears.1) (own-epoch r o w b.x b.e E b.known)))
+
+pub parked-right : (r : Rules) (o : Opening) (h : History) (w : World) (t : ℕ) (s : TargetState) (p : Parked) → Facts r o h w → slice_get w.targets t ≡ Some s → Has p s.memory.member.parked → IsParkedRight r o w t p.ask
+parked-right r o h w t s p k here i = by p.ask refl (k.addressed.known t s here).parked
+  where
+    of-client : (n : ℕ) → is_fetch_of n p.ask ≡ true → IsParkedRight r o w t p.ask
+    of-client n of_it =
+        let z = parked-is r w t s p n k.judged.spoken.talk here i of_it in
+        let bears : BearsIssued w.issued (fetch_at z.f z.e) = subst (BearsIssued w.issued) z.it (k.judged.epochs.parked t s p here (contains-from_has s.memory.member.parked p i)) in
+        let e = parked-epoch r o w z.f.attempt z.f.op z.f.group z.e z.f.first z.f.tracker z.f.read z.f.snapshot k.judged.epochs bears in
+        let asked = sent-is-asked (client_plan r z.n) z.k z.c z.a z.q z.present z.sent in
+        let right = fetch-right r o h w t z.f k (record { n = z.n; c = z.c; a = z.a; here = z.here; present = z.present; k = z.k; q = z.q; asked = asked; says = z.says; to = z.at }) e.0 in
+        subst (IsParkedRight r o w t) (sym z.it) (record { right = right; epoch = z.e; has = refl; its = e.1 })
+
+    by : (m : Message) → p.ask ≡ m → ((u : Parked) → Has u s.memory.member.parked → IsWaitingThere (crowd r.script) u) → IsParkedRight r o w t p.ask
+    by (message.Fetch x op group ep first tracker q snapshot) it known = of-client x.client (ap (is_fetch_of x.client) it ∙ same_number x.client)
+    by m it known = absurd (subst (IsAsk (crowd r.script)) it (known p i).ask)
+
+-- ---- all of it
+
+-- a class fits the targets, for each write of an attempt
+writes-fit : (r : Rules) (x : AttemptId) (m : MinorWrite) → IsInForm r.script.targets r.script → Has m (minor_writes 0 (attempt_ops r.script x)) → FitsTargets r m.write
+writes-fit r x m form i =
+    fit-object r.script.targets r.script.objs (write_path m.write) form.classes (write-declared r.script.objs m.write (writes-declared r.script.objs (attempt_ops r.script x) (ops-form r.script.targets r.script x form) m i))
+
+-- what is asked of targets is right, in a run of a script in form that reads at no snapshot
 abbrev pub RequestsAreRight : Type 0
-RequestsAreRight = (r : Rules) (o : Opening) (held : ℕ → List Version) (h : History) (w : World) → Facts r o h w → ((t : ℕ) (v : Version) → Contains (held t) v → v.epoch.0 ≤ top o) → Given r o held h w
+RequestsAreRight = (r : Rules) (o : Opening) (held : ℕ → List Version) (h : History) (w : World) → Facts r o h w → ((t : ℕ) (v : Version) → Contains (held t) v → v.epoch.0 ≤ top o) → Given r o held w
 
 pub requests-are-right : RequestsAreRight
 requests-are-right r o held h w k before = record {
-  one = k.one.script;
-  alone = λ t s here. only-target r w t s k.one here;
   before = before;
+  above = λ x e i. k.judged.epochs.above x e i;
+  apart = λ x y e f i j same. k.judged.epochs.apart x y e i (subst (λ z. Contains w.issued (y, z)) (sym (same-epoch e f same)) j);
+  forms = λ x. writes-in-form r.script.objs (attempt_ops r.script x) (ops-few r.script.targets r.script x k.form) (ops-form r.script.targets r.script x k.form);
+  fits = λ x m i. writes-fit r x m k.form (has-from_contains (minor_writes 0 (attempt_ops r.script x)) m i);
+  few = k.few;
   asked = λ l t s among to here runs. message-right r o h w k l t s among to here runs;
+  waiting = λ t s p here runs i. parked-right r o h w t s p k here i;
 }

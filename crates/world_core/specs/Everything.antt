@@ -1,217 +1,224 @@
--- Every event of a run of one target keeps all that holds between events, of what is decided and served by then.
-use Rattle.std.specs.Prelude.{ℕ, ◌≡◌, ◌⊎◌, ◌≤◌, ◌<◌, ◌++◌, true, List, [], ◌∷◌, map, Contains, Option, Some, refl}
-use Rattle.std.proofs.Common.{append-nil, inl, inr, sym, ◌∙◌, ap, subst}
+-- Every event of a run keeps all that holds between events, of what is decided, aborted and served by then.
+use Rattle.std.specs.Prelude.{ℕ, ◌≡◌, ◌⊎◌, ◌≤◌, ◌<◌, ◌++◌, List, [], Contains, Option, refl}
+use Rattle.std.proofs.Common.{inl, inr, sym, ap, subst, true≢false}
+use Rattle.daos_base.specs.declared.answer.Answer.{Answer}
 use Rattle.daos_base.specs.declared.epoch.Epoch.{Epoch}
 use Rattle.daos_base.specs.declared.id.AttemptId.{AttemptId}
-use Rattle.daos_base.specs.declared.outcome.Outcome.TheVariants.{Committed}
-use Rattle.daos_laws.specs.Members.{has-from_contains}
-use Rattle.daos_messages.specs.declared.message.Message.{Message}
+use Rattle.daos_base.specs.declared.script.Command.TheVariants.{Aggregate, Snap}
+use Rattle.daos_laws.specs.Members.{Has, contains-from_has, has-map, has-right}
+use Rattle.daos_messages.specs.declared.actor.ActorId.{ActorId}
 use Rattle.daos_messages.specs.declared.message.Message.TheVariants as message
+use Rattle.daos_messages.specs.declared.message.Post.{Post}
 use Rattle.daos_messages.specs.declared.message.Reply.TheVariants as reply
 use Rattle.daos_model.specs.declared.durable.Version.{Version}
 use Rattle.daos_model.specs.Opening.{Opening, top}
+use Rattle.world_addresses.specs.Addresses.{AreAddressed, AsksPlainly, GoesTo, crowd}
+use Rattle.world_addresses.specs.AddressLaws.{events-keep-addresses}
+use Rattle.world_asks.specs.Asks.{Asks}
+use Rattle.world_asks.specs.AskLaws.{asks-kept}
+use Rattle.world_attempts.specs.Attempts.{Attempts, leader_of}
+use Rattle.world_attempts.specs.EventLaws.{attempts-kept, none-is-both}
+use Rattle.world_attempts.specs.History.{Grew, GrowsBy, History, Served, target_posts}
+use Rattle.world_base.specs.declared.letter.Letter.{Letter}
 use Rattle.world_base.specs.declared.world.World.{World}
-use Rattle.world_base.specs.ClientTurns.{attempt_id, request_of}
 use Rattle.world_core.specs.Asking.{Facts, requests-are-right}
-use Rattle.world_core.specs.Judged.{clients-keep-judged}
-use Rattle.world_epochs.specs.EpochLaws.{epochs-kept, one_target-kept}
-use Rattle.world_events.specs.Events.{Begins, ByClient, ByTarget, ClientGoes, ClientHears, Event, Goes, Rules, Run, TargetHears, TargetIdles, ToClient, ToTarget, client_plan, kept, target_plan, with_epoch}
-use Rattle.world_events.specs.Letters.{client, letters_of, target}
-use Rattle.world_gots.specs.Remembering.{IsRemembered, ToldServed}
+use Rattle.world_core.specs.Commits.{commits-are-new}
+use Rattle.world_core.specs.Judged.{DecidedIssued, Judged, clients-keep-judged, lines-stand}
+use Rattle.world_epochs.specs.EpochLaws.{epochs-kept}
+use Rattle.world_epochs.specs.Epochs.{Unsnapped}
+use Rattle.world_events.specs.Events.{Begins, ByClient, ByTarget, ClientGoes, ClientHears, Event, Goes, Rules, Run, TargetHears, TargetIdles, ToClient, ToTarget}
+use Rattle.world_events.specs.Letters.{client, letter_of, letters_of, target}
+use Rattle.world_gots.specs.Remembering.{AreRemembered, IsRemembered, ToldServed}
 use Rattle.world_gots.specs.TargetGots.{served-is-told}
-use Rattle.world_lines.specs.EndingLaws.{hears-ends, spoken-kept}
-use Rattle.world_reads.specs.Adds.{TellsCommit}
+use Rattle.world_lines.specs.EndingLaws.{spoken-kept}
 use Rattle.world_reads.specs.EventLaws.{clients-keep, hearing-keeps, idling-keeps}
-use Rattle.world_reads.specs.History.{Grew, History}
-use Rattle.world_reads.specs.Keeping.{GoOnTold}
+use Rattle.world_reads.specs.Keeping.{Before, GoOn}
 use Rattle.world_reads.specs.Reads.{Reads}
 use Rattle.world_reads.specs.Versions.{Versions}
-use Rattle.world_talks.specs.AnswerLaws.{IsAnsweredBy, answers-are-posted, hears-heard, idle-posts-nothing}
-use Rattle.world_talks.specs.AskLaws.{asked-is-request}
-use Rattle.world_talks.specs.Conversation.{Answers}
-use Rattle.world_talks.specs.InFlight.{HearsRequest, hears-request}
-use Rattle.world_turns.specs.Requests.{nothing_follows}
-use Rattle.world_turns.specs.TargetTurns.{is_heard}
-use Rattle.world_verdicts.specs.TurnLaws.{DecidesTold, told-of, verdicts-by-idle, verdicts-by-target}
-use Rattle.world_verdicts.specs.Verdicts.{Tells}
+use Rattle.world_verdicts.specs.TurnLaws.{verdicts-by-idle, verdicts-by-target}
+use Rattle.world_verdicts.specs.Verdicts.{Verdicts}
 
 -- ---- the statement
 
--- what goes about, what lines tell, epochs, verdicts, what clients were told, what the target keeps, and what it answered
+-- what goes about, what lines tell, epochs, verdicts, what became of attempts, what clients were told, what targets ask one another, what
+-- they keep, and what they answered
 pub record Everything (r : Rules) (o : Opening) (held : ℕ → List Version) (h : History) (w : World) : Type 0 where
   pub facts : Facts r o h w
+  pub asks : Asks r h w
   pub versions : Versions r o held h w
   pub reads : Reads r o h w
 
--- it holds of what was decided and served by now, which is all that was before, and perhaps more
+-- it holds of what was decided, aborted and served by now, which is all that was before, and perhaps more
 pub record HoldsStill (r : Rules) (o : Opening) (held : ℕ → List Version) (h : History) (v : World) : Type 0 where
   pub later : History
   pub grew : Grew h later
   pub all : Everything r o held later v
 
--- every event keeps it, where the opening's versions are of before the run
+-- the opening's versions are of before the run
+abbrev pub AreBefore : Opening → (ℕ → List Version) → Type 0
+AreBefore o held = (t : ℕ) (z : Version) → Contains (held t) z → z.epoch.0 ≤ top o
+
+-- every event keeps it
 abbrev pub EventsKeepEverything : Type 0
-EventsKeepEverything =
-    (r : Rules) (o : Opening) (held : ℕ → List Version) (h : History) (w v : World) → 0 < r.attempts → ((t : ℕ) (z : Version) → Contains (held t) z → z.epoch.0 ≤ top o) → Everything r o held h w → Event r w v → HoldsStill r o held h v
+EventsKeepEverything = (r : Rules) (o : Opening) (held : ℕ → List Version) (h : History) (w v : World) → 0 < r.attempts → AreBefore o held → Everything r o held h w → Event r w v → HoldsStill r o held h v
 
--- ---- what is told to a client is told to the one whose attempt it is
+-- and so does a run
+abbrev pub RunsKeepEverything : Type 0
+RunsKeepEverything = (r : Rules) (o : Opening) (held : ℕ → List Version) (h : History) (w v : World) → 0 < r.attempts → AreBefore o held → Everything r o held h w → Run r w v → HoldsStill r o held h v
 
--- an end that answers a request is of the request's attempt
-ends-own : (q : Message) (x : AttemptId) (own : Option Epoch) → is_heard q ≡ true → Answers q (message.Ended x own Committed) → request_of q ≡ Some x
-ends-own (message.Fetch y op group e first tracker z snapshot) x own h k = let no : ⊥ = cc (k.2) in absurd no
-ends-own (message.Commit y e first tracker ws) x own h k = let same : y ≡ x = cc (k.2) in ap (λ z. Some z) same
-ends-own q x own h k = let no : ⊥ = cc in absurd no
+-- ---- what is told
 
--- the client of an attempt that a target tells as committed is the one that asked
-asker-is : (r : Rules) (o : Opening) (h : History) (w v : World) (x : AttemptId) (e : Epoch) → Facts r o h w → (g : TargetHears r w v) → TellsCommit g.l.from g.did.posts x e
-    → g.l.from ≡ client x.client
-asker-is r o h w v x e k g i = ap (λ z. z.from) a.it ∙ ap client (ap (λ z. z.client) own)
-  where
-    of_kind : is_heard g.l.message ≡ true
-    of_kind = hears-heard (target_plan r g.t) g.s.opening g.s.memory g.reading g.l.from g.l.message (kept g.s) g.new (g.memory, g.did) g.turn
-
-    a : HearsRequest r w g.l g.rest
-    a = hears-request r w g.l g.rest k.judged.spoken.talk g.takes of_kind
-
-    b : IsAnsweredBy g.l.from g.l.message g.did
-    b = answers-are-posted (target_plan r g.t) g.s.opening g.s.memory g.reading g.l.from g.l.message (kept g.s) g.new (g.memory, g.did) g.turn
-
-    only : TellsCommit g.l.from (record { to = g.l.from; message = b.answer } ∷ []) x e → message.Ended x (Some e) Committed ≡ b.answer
-    only (inl same) = ap (λ z. z.message) same
-    only (inr j) = absurd j
-
-    answer : Answers g.l.message (message.Ended x (Some e) Committed)
-    answer = subst (Answers g.l.message) (sym (only (subst (λ posts. TellsCommit g.l.from posts x e) b.one i))) b.answers
-
-    own : attempt_id (client_plan r a.n) a.c a.a ≡ x
-    own =
-        let asked : request_of g.l.message ≡ Some x = ends-own g.l.message x (Some e) of_kind answer in
-        let sent : request_of g.l.message ≡ Some (attempt_id (client_plan r a.n) a.c a.a) =
-        ap (λ z. request_of z.message) a.it ∙ (asked-is-request (client_plan r a.n) a.k a.c a.a a.q a.asked).of_attempt in
-        let both : Some (attempt_id (client_plan r a.n) a.c a.a) ≡ Some x = sym sent ∙ asked in cc
-
--- ---- events
+-- no client makes a snapshot or aggregates
+asks-plainly : (r : Rules) → Unsnapped r → AsksPlainly r
+asks-plainly r U = record {
+  snaps = λ n k name cont at. let bad = U n k (Snap name cont) at in true≢false (sym bad);
+  aggregates = λ n k cont at. let bad = U n k (Aggregate cont) at in true≢false (sym bad);
+}
 
 -- what clients were told, with what it stands on
 told-served : (r : Rules) (o : Opening) (h : History) (w : World) → Facts r o h w → ToldServed r h w
-told-served r o h w k = record { conversation = k.judged.spoken.talk; standing = λ n c here. told-of r w n c k.judged.spoken.lines here; gots = k.gots }
+told-served r o h w k = record { conversation = k.judged.spoken.talk; standing = lines-stand r w k.judged.spoken.lines; gots = k.gots }
 
-by-client : (r : Rules) (o : Opening) (held : ℕ → List Version) (h : History) (w v : World) → 0 < r.attempts → Everything r o held h w → (g : ClientGoes r w v ⊎ ClientHears r w v) → (e : Event r w v) → IsRemembered r w v h e
-    → HoldsStill r o held h v
-by-client r o held h w v some k g e remembered =
-    let k2 = clients-keep r o held h w v k.versions k.reads g in
-    record {
-      later = h;
-      grew = record { decided = λ i j. j; served = λ q j. j };
-      all = record {
-        facts = record {
-          one = one_target-kept r w v k.facts.one e;
-          unsnapped = k.facts.unsnapped;
-          form = k.facts.form;
-          judged = clients-keep-judged r (top o) h w v some k.facts.unsnapped k.facts.judged g;
-          gots = (served-is-told r h h w v some (λ q i. i) (told-served r o h w k.facts) e remembered).gots;
+-- what is decided has its epoch, which was issued
+decided-issued : (r : Rules) (h : History) (w : World) → Attempts r h w → DecidedIssued h w
+decided-issued r h w k x e d =
+    let held = (k.each x).entries.held_by_leader e d in
+    let its = (k.each x).entries.one (leader_of r x) held.entry held.found in
+    contains-from_has w.issued (x, e) (subst (λ z. Has (x, z) w.issued) held.epoch its.issued)
+
+-- an answer goes home: it is in flight then, to the client of its attempt
+goes-home : (r : Rules) (v : World) (from : ActorId) (rest : List Letter) (posts : List Post) (q : Post) (x : AttemptId) (op group : ℕ) (own : Option Epoch) (b : Answer) → AreAddressed r v → v.messages ≡ rest ++ letters_of from posts → Has q posts
+    → q.message ≡ message.Fetched x op group own (reply.Answer b) → q.to ≡ client x.client
+goes-home r v from rest posts q x op group own b k messages i says =
+    let among : Contains v.messages (letter_of from q) = subst (λ ls. Contains ls (letter_of from q)) (sym messages) (contains-from_has (rest ++ letters_of from posts) (letter_of from q) (has-right rest (letters_of from posts) (letter_of from q) (has-map (letter_of from) posts q i))) in
+    let goes : GoesTo (crowd r.script) q.to q.message = (k.letters (letter_of from q) among).goes in
+    (subst (GoesTo (crowd r.script) q.to) says goes).1
+
+-- ---- events
+
+module _ (r : Rules) (o : Opening) (held : ℕ → List Version) (h : History) (w v : World) (some : 0 < r.attempts) (before : AreBefore o held) (k : Everything r o held h w) where
+  at-turn : Before r o held h w
+  at-turn = record { given = requests-are-right r o held h w k.facts before; right = commits-are-new r o h w k.facts; attempts = k.facts.attempts; versions = k.versions; reads = k.reads }
+
+  addressed : Event r w v → AreAddressed r v
+  addressed e = events-keep-addresses r w v k.facts.some k.facts.form (asks-plainly r k.facts.unsnapped) k.facts.addressed e
+
+  same : Grew h h
+  same = record { decided = λ i j. j; aborted = λ x j. j; served = λ q j. j }
+
+  -- a client's turn decides, aborts and serves nothing
+  nothing-grows : GrowsBy h [] h
+  nothing-grows = record {
+    decided = λ x e d. d;
+    committed = λ x e t. absurd t.sent;
+    only_decided = λ x e d. inl d;
+    aborted = λ x d. d;
+    refused = λ x t. absurd t.told.sent;
+    only_aborted = λ x d. inl d;
+  }
+
+  -- what targets ask one another
+  asks-then : (later : History) (e : Event r w v) → GrowsBy h (target_posts e) later → Asks r later v
+  asks-then later e grows = asks-kept r h later w v at-turn.right k.facts.attempts e grows (attempts-kept r h later w v at-turn.right k.facts.attempts e grows) k.asks
+
+  by-client : (g : ClientGoes r w v ⊎ ClientHears r w v) (e : Event r w v) → target_posts e ≡ [] → IsRemembered r w v h e → HoldsStill r o held h v
+  by-client g e none remembered =
+      let kept = clients-keep r o held h w v k.versions k.reads g in
+      record {
+        later = h;
+        grew = same;
+        all = record {
+          facts = record {
+            unsnapped = k.facts.unsnapped;
+            form = k.facts.form;
+            few = k.facts.few;
+            some = k.facts.some;
+            addressed = addressed e;
+            judged = clients-keep-judged r (top o) h w v some k.facts.unsnapped k.facts.judged g;
+            attempts = attempts-kept r h h w v at-turn.right k.facts.attempts e (subst (λ ps. GrowsBy h ps h) (sym none) nothing-grows);
+            gots = (served-is-told r h h w v some (λ q j. j) (told-served r o h w k.facts) e remembered).gots;
+          };
+          asks = asks-then h e (subst (λ ps. GrowsBy h ps h) (sym none) nothing-grows);
+          versions = kept.0;
+          reads = kept.1;
         };
-        versions = k2.0;
-        reads = k2.1;
-      };
+      }
+
+  -- a target's turn
+  module _ (later : History) (e : Event r w v) (grows : GrowsBy h (target_posts e) later) (verdicts : AreAddressed r v → Verdicts r later v) where
+    attempts-then : Attempts r later v
+    attempts-then = attempts-kept r h later w v at-turn.right k.facts.attempts e grows
+
+    judged-then : Judged r (top o) later v
+    judged-then = record {
+      spoken = spoken-kept r w v some k.facts.judged.spoken e;
+      epochs = epochs-kept r (top o) w v some k.facts.unsnapped k.facts.judged.spoken.talk (lines-stand r w k.facts.judged.spoken.lines) k.facts.judged.epochs e;
+      issued = decided-issued r later v attempts-then;
+      verdicts = verdicts (addressed e);
     }
 
-by-hearing : (r : Rules) (o : Opening) (held : ℕ → List Version) (h : History) (w v : World) → 0 < r.attempts → ((t : ℕ) (z : Version) → Contains (held t) z → z.epoch.0 ≤ top o) → Everything r o held h w → TargetHears r w v
-    → HoldsStill r o held h v
-by-hearing r o held h w v some before k g = record {
-  later = go.on.later;
-  grew = go.on.grew;
-  all = record {
-    facts = record {
-      one = one_target-kept r w v k.facts.one (ToTarget g);
+    facts-then : ((q : Served) → Has q h.served → Has q later.served) → IsRemembered r w v later e → Facts r o later v
+    facts-then more remembered = record {
       unsnapped = k.facts.unsnapped;
       form = k.facts.form;
-      judged = record {
-        spoken = spoken-kept r w v some k.facts.judged.spoken (ToTarget g);
-        epochs = epochs-kept r (top o) w v k.facts.one k.facts.unsnapped k.facts.judged.spoken.talk k.facts.judged.epochs (ToTarget g);
-        issued = go.on.versions.issued;
-        verdicts = verdicts-by-target r h go.on.later w v k.facts.judged.verdicts g of_kind silent decides;
-      };
-      gots = (served-is-told r h go.on.later w v some go.on.grew.served (told-served r o h w k.facts) (ToTarget g) remembered).gots;
-    };
-    versions = go.on.versions;
-    reads = go.on.reads;
-  };
-}
-  where
-    go : GoOnTold r o held h w v g
-    go = hearing-keeps r o held h w v (requests-are-right r o held h w k.facts before) k.versions k.reads g
-
-    of_kind : is_heard g.l.message ≡ true
-    of_kind = hears-heard (target_plan r g.t) g.s.opening g.s.memory g.reading g.l.from g.l.message (kept g.s) g.new (g.memory, g.did) g.turn
-
-    silent : g.did.lines ≡ []
-    silent = (hears-ends (target_plan r g.t) g.s.opening g.s.memory g.reading g.l.from g.l.message (kept g.s) g.new (g.memory, g.did) g.turn).1
-
-    tells : (x : AttemptId) (e : Epoch) → TellsCommit g.l.from g.did.posts x e → Tells g.did.posts x e
-    tells x e i = (record { to = g.l.from; message = message.Ended x (Some e) Committed }, i, refl, asker-is r o h w v x e k.facts g i)
-
-    decides : DecidesTold h go.on.later g.did.posts
-    decides = record {
-      kept = λ x e i. go.on.grew.decided (x, e) i;
-      new = λ x e i. elim (go.adds.decided.new x e i) [ inl j ↦ inl j | inr j ↦ inr (tells x e j) ];
-      told = go.adds.decided.told;
+      few = k.facts.few;
+      some = k.facts.some;
+      addressed = addressed e;
+      judged = judged-then;
+      attempts = attempts-then;
+      gots = (served-is-told r h later w v some more (told-served r o h w k.facts) e remembered).gots;
     }
 
-    remembered : IsRemembered r w v go.on.later (ToTarget g)
-    remembered to q e b is i = go.adds.served to q e b is (has-from_contains g.did.posts (record { to = to; message = message.Fetched q.attempt q.op q.group (Some e) (reply.Answer b) }) i)
-
-by-idling : (r : Rules) (o : Opening) (held : ℕ → List Version) (h : History) (w v : World) → 0 < r.attempts → ((t : ℕ) (z : Version) → Contains (held t) z → z.epoch.0 ≤ top o) → Everything r o held h w → TargetIdles r w v
-    → HoldsStill r o held h v
-by-idling r o held h w v some before k g = record {
-  later = h;
-  grew = record { decided = λ i j. j; served = λ q j. j };
-  all = record {
-    facts = record {
-      one = one_target-kept r w v k.facts.one (ByTarget g);
-      unsnapped = k.facts.unsnapped;
-      form = k.facts.form;
-      judged = record {
-        spoken = spoken-kept r w v some k.facts.judged.spoken (ByTarget g);
-        epochs = epochs-kept r (top o) w v k.facts.one k.facts.unsnapped k.facts.judged.spoken.talk k.facts.judged.epochs (ByTarget g);
-        issued = k2.0.issued;
-        verdicts = verdicts-by-idle r h w v k.facts.judged.verdicts
-            (ap (λ x. x.messages) g.after ∙ ap (λ d. w.messages ++ letters_of (target g.t) d.posts) none ∙ append-nil w.messages)
-            (ap (λ x. x.lines) g.after ∙ ap (λ d. w.lines ++ map (with_epoch w.issued) d.lines) none ∙ append-nil w.lines);
-      };
-      gots = (served-is-told r h h w v some (λ q i. i) (told-served r o h w k.facts) (ByTarget g) tt).gots;
+  by-hearing : TargetHears r w v → HoldsStill r o held h v
+  by-hearing g = record {
+    later = go.later;
+    grew = record { decided = λ i j. go.grows.decided i.0 i.1 j; aborted = λ x j. go.grows.aborted x j; served = go.served };
+    all = record {
+      facts = facts-then go.later (ToTarget g) go.grows (λ there. verdicts-by-target r h go.later w v k.facts.judged.spoken.endings there k.facts.judged.verdicts g go.grows) go.served remembered;
+      asks = asks-then go.later (ToTarget g) go.grows;
+      versions = go.versions;
+      reads = go.reads;
     };
-    versions = k2.0;
-    reads = k2.1;
-  };
-}
-  where
-    none : g.did ≡ nothing_follows
-    none = idle-posts-nothing g.s.memory (kept g.s) g.new (g.memory, g.did) g.turn
+  }
+    where
+      go : GoOn r o held h w v g
+      go = hearing-keeps attempts-kept none-is-both r o held h w v at-turn g
 
-    k2 : Versions r o held h v × Reads r o h v
-    k2 = idling-keeps r o held h w v (requests-are-right r o held h w k.facts before) k.versions k.reads g
+      remembered : AreRemembered r w v go.later g
+      remembered = record {
+        answered = go.answered;
+        home = λ q x op group own b i says. goes-home r v (target g.t) g.rest g.did.posts q x op group own b (addressed (ToTarget g)) (ap (λ z. z.messages) g.after) i says;
+      }
+
+  by-idling : TargetIdles r w v → HoldsStill r o held h v
+  by-idling g =
+      let go = idling-keeps r o held h w v at-turn g in
+      record {
+        later = h;
+        grew = same;
+        all = record {
+          facts = facts-then h (ByTarget g) go.0 (λ there. verdicts-by-idle r h h w v k.facts.judged.spoken.endings there k.facts.judged.verdicts g go.0) (λ q j. j) tt;
+          asks = asks-then h (ByTarget g) go.0;
+          versions = go.1;
+          reads = go.2;
+        };
+      }
 
 pub events-keep-everything : EventsKeepEverything
-events-keep-everything r o held h w v some before k (ByClient g) = by-client r o held h w v some k (inl g) (ByClient g) tt
-events-keep-everything r o held h w v some before k (ToClient g) = by-client r o held h w v some k (inr g) (ToClient g) tt
+events-keep-everything r o held h w v some before k (ByClient g) = by-client r o held h w v some before k (inl g) (ByClient g) refl tt
+events-keep-everything r o held h w v some before k (ToClient g) = by-client r o held h w v some before k (inr g) (ToClient g) refl tt
 events-keep-everything r o held h w v some before k (ToTarget g) = by-hearing r o held h w v some before k g
 events-keep-everything r o held h w v some before k (ByTarget g) = by-idling r o held h w v some before k g
 
 -- ---- runs
 
--- so does a run
-abbrev pub RunsKeepEverything : Type 0
-RunsKeepEverything =
-    (r : Rules) (o : Opening) (held : ℕ → List Version) (h : History) (w v : World) → 0 < r.attempts → ((t : ℕ) (z : Version) → Contains (held t) z → z.epoch.0 ≤ top o) → Everything r o held h w → Run r w v → HoldsStill r o held h v
-
 pub runs-keep-everything : RunsKeepEverything
-runs-keep-everything r o held h w v some before k Begins = record { later = h; grew = record { decided = λ i j. j; served = λ q j. j }; all = k }
+runs-keep-everything r o held h w v some before k Begins = record { later = h; grew = record { decided = λ i j. j; aborted = λ x j. j; served = λ q j. j }; all = k }
 runs-keep-everything r o held h w v some before k (Goes u x run e) =
     let m = runs-keep-everything r o held h w u some before k run in
     let n = events-keep-everything r o held m.later u x some before m.all e in
     record {
       later = n.later;
-      grew = record { decided = λ i j. n.grew.decided i (m.grew.decided i j); served = λ q j. n.grew.served q (m.grew.served q j) };
+      grew = record { decided = λ i j. n.grew.decided i (m.grew.decided i j); aborted = λ y j. n.grew.aborted y (m.grew.aborted y j); served = λ q j. n.grew.served q (m.grew.served q j) };
       all = n.all;
     }

@@ -1,23 +1,27 @@
--- Every turn of a client keeps that decided attempts are exactly those that are told as committed.
+-- Every turn of a client keeps that attempts are decided and aborted exactly as it is told of them.
 use Rattle.std.specs.Prelude.{ℕ, ◌⊎◌, ◌<◌, Contains}
 use Rattle.std.proofs.Common.{inl, inr}
 use Rattle.daos_base.specs.declared.epoch.Epoch.{Epoch}
 use Rattle.daos_base.specs.declared.id.AttemptId.{AttemptId}
+use Rattle.world_attempts.specs.History.{Decided, History}
 use Rattle.world_base.specs.declared.world.World.{World}
 use Rattle.world_base.specs.ClientTurns.{attempt_id}
-use Rattle.world_epochs.specs.EpochLaws.{counting-keeps, hearing-keeps, moves-keep}
-use Rattle.world_epochs.specs.Epochs.{Epochs, Unsnapped}
+use Rattle.world_epochs.specs.Carried.{talks-once}
+use Rattle.world_epochs.specs.Epochs.{ClientsStand, Epochs, Unsnapped}
+use Rattle.world_epochs.specs.EventLaws.{counting-keeps, hearing-keeps, moves-keep}
 use Rattle.world_events.specs.Events.{ClientGoes, ClientHears, Rules, client_plan}
 use Rattle.world_events.specs.StepLaws.{by-hearing, by-next}
 use Rattle.world_events.specs.Steps.{KeptByCounting, KeptByHearing, KeptByMoves}
 use Rattle.world_lines.specs.EndingLaws.{Spoken, spoken-by-counting, spoken-by-hearing, spoken-by-moves}
-use Rattle.world_reads.specs.History.{History}
-use Rattle.world_verdicts.specs.TurnLaws.{verdicts-by-counting, verdicts-by-hearing, verdicts-by-moves}
+use Rattle.world_lines.specs.Lines.{Lines}
+use Rattle.world_talks.specs.Conversation.{Conversation}
+use Rattle.world_talks.specs.ConversationLaws.{hear-keeps, move-keeps}
+use Rattle.world_verdicts.specs.TurnLaws.{told-of, verdicts-by-counting, verdicts-by-hearing, verdicts-by-moves}
 use Rattle.world_verdicts.specs.Verdicts.{Agrees, Verdicts}
 
 -- what is decided was issued its epoch
 abbrev pub DecidedIssued : History → World → Type 0
-DecidedIssued h w = (x : AttemptId) (e : Epoch) → Contains h.decided (x, e) → Contains w.issued (x, e)
+DecidedIssued h w = (x : AttemptId) (e : Epoch) → Decided h x e → Contains w.issued (x, e)
 
 -- what goes about and what lines tell, epochs, and verdicts
 pub record Judged (r : Rules) (top : ℕ) (h : History) (w : World) : Type 0 where
@@ -31,11 +35,15 @@ pub judged-agrees : (r : Rules) (top : ℕ) (h : History) (w : World) → Judged
 judged-agrees r top h w k n c a f e here at known decided =
     k.epochs.one (attempt_id (client_plan r n) c a) f e (k.epochs.known n c a f here at known) (k.issued (attempt_id (client_plan r n) c a) e decided)
 
+-- each client is at the command of its number
+pub lines-stand : (r : Rules) (w : World) → Lines r w → ClientsStand r w
+lines-stand r w k n c here = told-of r w n c k here
+
 module _ (r : Rules) (top : ℕ) (h : History) (some : 0 < r.attempts) (U : Unsnapped r) where
   judged-by-moves : KeptByMoves r (Judged r top h)
   judged-by-moves w n c here k = record {
     spoken = spoken-by-moves r some w n c here k.spoken;
-    epochs = (moves-keep r top U w n c here (k.spoken.talk, k.epochs)).1;
+    epochs = (moves-keep r top some U (Conversation r) (talks-once r) (move-keeps r) (hear-keeps r) w n c here (k.spoken.talk, lines-stand r w k.spoken.lines, k.epochs)).2;
     issued = k.issued;
     verdicts = verdicts-by-moves r h w n c k.spoken.lines here k.verdicts;
   }
@@ -43,7 +51,7 @@ module _ (r : Rules) (top : ℕ) (h : History) (some : 0 < r.attempts) (U : Unsn
   judged-by-counting : KeptByCounting (Judged r top h)
   judged-by-counting w n j c here k = record {
     spoken = spoken-by-counting r w n j c here k.spoken;
-    epochs = counting-keeps r top U w n j c here k.epochs;
+    epochs = counting-keeps r top some U (Conversation r) (talks-once r) (move-keeps r) (hear-keeps r) w n j c here k.epochs;
     issued = k.issued;
     verdicts = verdicts-by-counting r h w n j c here k.verdicts;
   }
@@ -51,7 +59,7 @@ module _ (r : Rules) (top : ℕ) (h : History) (some : 0 < r.attempts) (U : Unsn
   judged-by-hearing : KeptByHearing r (Judged r top h)
   judged-by-hearing w n c l rest here awake takes to k = record {
     spoken = spoken-by-hearing r w n c l rest here awake takes to k.spoken;
-    epochs = (hearing-keeps r top U w n c l rest here awake takes to (k.spoken.talk, k.epochs)).1;
+    epochs = (hearing-keeps r top some U (Conversation r) (talks-once r) (move-keeps r) (hear-keeps r) w n c l rest here awake takes to (k.spoken.talk, lines-stand r w k.spoken.lines, k.epochs)).2;
     issued = k.issued;
     verdicts = verdicts-by-hearing r h w n c l rest k.spoken.talk k.spoken.endings k.verdicts (judged-agrees r top h w k) here takes to;
   }

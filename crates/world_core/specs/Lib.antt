@@ -2,5 +2,6 @@
 pub mod Judged
 pub mod ScriptForm
 pub mod Asking
+pub mod Commits
 pub mod Posting
 pub mod Everything

@@ -1,6 +1,6 @@
 -- What clients of a script in form send is in form.
-use Rattle.std.specs.Prelude.{ℕ, ◌≡◌, ◌≤◌, ◌<◌, ◌++◌, Bool, true, false, ◌&&◌, IfSome, List, [], ◌∷◌, length, map, slice_get, Contains, All, Option, Some, None, refl, is_some, if◌then◌else◌}
-use Rattle.std.proofs.Common.{inl, inr, zero, suc, sym, ◌∙◌, ap, subst, arith}
+use Rattle.std.specs.Prelude.{ℕ, ◌≡◌, ◌++◌, Bool, true, false, ◌&&◌, IfSome, List, [], ◌∷◌, map, slice_get, All, Option, Some, None, refl, is_some, if◌then◌else◌}
+use Rattle.std.proofs.Common.{inl, inr, zero, suc, sym, ap, subst}
 use Rattle.daos_base.specs.declared.epoch.Epoch.{Epoch}
 use Rattle.daos_base.specs.declared.operation.MinorWrite.{MinorWrite}
 use Rattle.daos_base.specs.declared.operation.Op.{Op}
@@ -11,77 +11,46 @@ use Rattle.daos_base.specs.declared.script.Command.TheVariants as command
 use Rattle.daos_base.specs.declared.script.ContDecl.{ContDecl}
 use Rattle.daos_base.specs.declared.script.ObjDecl.{ObjDecl}
 use Rattle.daos_base.specs.Operations.{write_path}
-use Rattle.daos_base.specs.Placement.{ClassFits}
+use Rattle.daos_base.specs.Placement.{ClassFits, writes_leader}
 use Rattle.daos_base.specs.Scripts.{AreCommands, IsCommand, IsInForm, IsOpInForm, IsWriteInForm, SnapName, old_snap, snap_of}
 use Rattle.daos_laws.specs.DecidedLaws.{all-from_has}
-use Rattle.daos_laws.specs.Members.{Has, has-cases, has-from_contains}
-use Rattle.daos_messages.specs.declared.actor.ActorId.{ActorId}
+use Rattle.daos_laws.specs.Members.{Has, has-cases}
 use Rattle.daos_messages.specs.declared.message.Message.{Message}
 use Rattle.daos_messages.specs.declared.message.Message.TheVariants as message
 use Rattle.daos_messages.specs.declared.message.Post.{Post}
 use Rattle.daos_model.specs.Accesses.{minor_writes}
-use Rattle.daos_model.specs.Forms.{AreWritesInForm, is_read_in_form}
+use Rattle.daos_model.specs.Forms.{AreWritesInForm}
 use Rattle.world_base.specs.declared.client.ClientPlan.{ClientPlan}
 use Rattle.world_base.specs.declared.client.ClientState.{ClientState}
 use Rattle.world_base.specs.declared.client.Present.{Present}
 use Rattle.world_base.specs.declared.did.Did.{Did}
-use Rattle.world_base.specs.ClientTurns.{ClientDid, Ended_by, Heard_on, HearTurn, Move, Moves, NextTurn, None_yet, One_more, Skipped, Went_on, about, answered, attempt_id, command_at, goes, heard, heard_at, hears_epochs, is_about, knows, listed, moved, question, waits}
+use Rattle.world_base.specs.ClientTurns.{ClientDid, Ended_by, Heard_on, HearTurn, Move, Moves, NextTurn, None_yet, One_more, Skipped, Went_on, about, answered, attempt_id, goes, heard, heard_at, hears_epochs, is_about, knows, listed, moved, question, waits}
 use Rattle.world_core.specs.Asking.{question-form}
 use Rattle.world_core.specs.ScriptForm.{read-in-form, writes-declared, writes-in-form}
 use Rattle.world_epochs.specs.Epochs.{Unsnapped, is_unsnapped}
-use Rattle.world_events.specs.Events.{Rules, client_plan, commands_or_none}
+use Rattle.world_events.specs.Events.{Rules, client_plan, commands_or_none, target_plan}
+use Rattle.world_events.specs.Letters.{target}
 use Rattle.world_gots.specs.FormLaws.{all-at, fit-object, write-declared}
+use Rattle.world_posts.specs.Forms.{AreWrites, ClientPosts, IsAsked, IsOfClient, IsReadAsked, is_told}
+use Rattle.world_posts.specs.Posting.{leader-writes}
 use Rattle.world_talks.specs.AskLaws.{move-is, waiting-rests}
 use Rattle.world_talks.specs.Asked.{ARead, ASnapshot, AnAggregation, Asked, Asking, IsMove, ItsWrites, Silent, Telling}
 use Rattle.world_talks.specs.HearLaws.{ended-silent, replied-silent}
 
 -- ---- the statements
 
--- a read in form, not at a snapshot
-pub record IsReadNow (read : Read) (snapshot : Bool) : Type 0 where
-  pub form : is_read_in_form read ≡ true
-  pub now : snapshot ≡ false
-
--- writes for a lone target: there are some, in form, of objects that fit one target
-pub record AreForOne (ws : List MinorWrite) : Type 0 where
-  pub form : AreWritesInForm ws
-  pub some : 0 < length ws
-  pub fit : All (λ w. IfSome (write_path w.write).obj (λ o. ClassFits o.class 1)) ws
-
--- what a lone target is asked so far: a read, or writes to commit
-abbrev pub IsAskedInForm : Message → Type 0
-IsAskedInForm (message.Fetch x op group ep first tracker read snapshot) = IsReadNow read snapshot
-IsAskedInForm (message.Commit x ep first tracker ws) = AreForOne ws
-IsAskedInForm m = ⊥
-
--- what a client is told where nothing stops: an answer, how its attempt ended, or another's tracker
-abbrev pub is_told : Message → Bool
-is_told (message.Fetched x op group ep reply) = true
-is_told (message.Ended x ep how) = true
-is_told (message.Tell tracker) = true
-is_told m = false
-
--- a message has the form of those that go to targets, or to clients
-pub record HasFormFor (to : ActorId) (m : Message) : Type 0 where
-  pub asked : to.client ≡ false → IsAskedInForm m
-  pub told : to.client ≡ true → is_told m ≡ true
-
-abbrev pub ArePostsInForm : List Post → Type 0
-ArePostsInForm posts = (q : Post) → Contains posts q → HasFormFor q.to q.message
-
--- a script in form for one target, in which no client makes a snapshot, reads at one, or aggregates
+-- a script in form, in which no client makes a snapshot, reads at one, or aggregates
 pub record IsPlainScript (r : Rules) : Type 0 where
-  pub one : r.script.targets ≡ 1
   pub form : IsInForm r.script.targets r.script
   pub unsnapped : Unsnapped r
 
 -- wherever a client of such a script goes on from, what it sends has that form
 abbrev pub ClientsPostInForm : Type 0
-ClientsPostInForm = (r : Rules) (n : ℕ) (c d : ClientState) (did : Did) → IsPlainScript r → NextTurn (client_plan r n) c did d → ArePostsInForm did.posts
+ClientsPostInForm = (r : Rules) (n : ℕ) (c d : ClientState) (did : Did) → IsPlainScript r → NextTurn (client_plan r n) c did d → ClientPosts (target_plan r) did.posts
 
 -- and so it is whatever it hears, of what a client is told
 abbrev pub HearersPostInForm : Type 0
-HearersPostInForm = (r : Rules) (n : ℕ) (c d : ClientState) (m : Message) (did : Did) → IsPlainScript r → is_told m ≡ true → HearTurn (client_plan r n) c m did d → ArePostsInForm did.posts
+HearersPostInForm = (r : Rules) (n : ℕ) (c d : ClientState) (m : Message) (did : Did) → IsPlainScript r → is_told m ≡ true → HearTurn (client_plan r n) c m did d → ClientPosts (target_plan r) did.posts
 
 -- ---- commands
 
@@ -104,53 +73,51 @@ command-here r n place d form at = by (slice_get r.script.clients n) refl at
 -- ---- what is asked
 
 module _ (r : Rules) (plain : IsPlainScript r) where
-  fits-one : (w : Write) → IsWriteInForm r.script.objs w → IfSome (write_path w).obj (λ o. ClassFits o.class 1)
-  fits-one w f =
+  fits-all : (w : Write) → IsWriteInForm r.script.objs w → IfSome (write_path w).obj (λ o. ClassFits o.class r.script.targets)
+  fits-all w f =
       let o = fit-object r.script.targets r.script.objs (write_path w) plain.form.classes (write-declared r.script.objs w f) in
-      subst (λ p. IfSome p (λ obj. ClassFits obj.class 1)) (sym o.1) (subst (ClassFits o.0.class) plain.one o.2)
+      subst (λ p. IfSome p (λ obj. ClassFits obj.class r.script.targets)) (sym o.1) o.2
 
   -- an operation's question
-  asks-read : (n place : ℕ) (ops : List Op) (turns : List ℕ) (snapshot : Option (List ℕ)) (a : Present) (op : Op) (q : Read) → slice_get (commands_or_none (slice_get r.script.clients n)) place ≡ Some (command.Run ops turns snapshot)
-      → slice_get ops a.op ≡ Some op → question a.stage op ≡ Some q → IsReadNow q (is_some snapshot)
-  asks-read n place ops turns snapshot a op q at here asks = record {
+  asks-read : (n place : ℕ) (ops : List Op) (turns : List ℕ) (snapshot : Option (List ℕ)) (a : Present) (op : Op) (q : Read) (ep : Option Epoch) → slice_get (commands_or_none (slice_get r.script.clients n)) place ≡ Some (command.Run ops turns snapshot)
+      → slice_get ops a.op ≡ Some op → question a.stage op ≡ Some q → IsReadAsked q ep (is_some snapshot)
+  asks-read n place ops turns snapshot a op q ep at here asks = record {
     form = read-in-form r.script.objs q (question-form r.script.objs a.stage op q (all-at (IsOpInForm r.script.objs) ops a.op op (command-here r n place (command.Run ops turns snapshot) plain.form at).1.0.in_form here) asks);
-    now = by snapshot (plain.unsnapped n place (command.Run ops turns snapshot) at);
+    known = by snapshot (plain.unsnapped n place (command.Run ops turns snapshot) at);
   }
     where
-      by : (s : Option (List ℕ)) → is_unsnapped (command.Run ops turns s) ≡ true → is_some s ≡ false
-      by None h = refl
-      by (Some name) h = let no : ⊥ = cc in absurd no
+      by : (s : Option (List ℕ)) → is_unsnapped (command.Run ops turns s) ≡ true → is_some s ≡ true → is_some ep ≡ true
+      by None h is = let no : ⊥ = cc in absurd no
+      by (Some name) h is = let no : ⊥ = cc in absurd no
 
-  some-of : (w : MinorWrite) (ws : List MinorWrite) → 0 < length (w ∷ ws)
-  some-of w ws = omega arith
-
-  -- the writes of a transaction
+  -- the writes of a transaction, which go to their leader
   asks-writes : (n place : ℕ) (ops : List Op) (turns : List ℕ) (snapshot : Option (List ℕ)) (w : MinorWrite) (ws : List MinorWrite) → slice_get (commands_or_none (slice_get r.script.clients n)) place ≡ Some (command.Run ops turns snapshot)
-      → minor_writes 0 ops ≡ w ∷ ws → AreForOne (w ∷ ws)
+      → minor_writes 0 ops ≡ w ∷ ws → AreWrites (target_plan r (writes_leader (w ∷ ws) r.script.targets)) (w ∷ ws)
   asks-writes n place ops turns snapshot w ws at all =
       let f = (command-here r n place (command.Run ops turns snapshot) plain.form at).1.0 in
+      let first = fit-object r.script.targets r.script.objs (write_path w.write) plain.form.classes (write-declared r.script.objs w.write (writes-declared r.script.objs ops f.in_form w (subst (Has w) (sym all) (inl refl)))) in
       record {
         form = subst AreWritesInForm all (writes-in-form r.script.objs ops f.few f.in_form);
-        some = some-of w ws;
-        fit = subst (All (λ m. IfSome (write_path m.write).obj (λ o. ClassFits o.class 1))) all
-            (all-from_has (λ m. IfSome (write_path m.write).obj (λ o. ClassFits o.class 1)) (minor_writes 0 ops) (λ m i. fits-one m.write (writes-declared r.script.objs ops f.in_form m i)));
+        some = leader-writes (target_plan r (writes_leader (w ∷ ws) r.script.targets)) w ws first.0 refl first.1 first.2;
+        fit = subst (All (λ m. IfSome (write_path m.write).obj (λ o. ClassFits o.class r.script.targets))) all
+            (all-from_has (λ m. IfSome (write_path m.write).obj (λ o. ClassFits o.class r.script.targets)) (minor_writes 0 ops) (λ m i. fits-all m.write (writes-declared r.script.objs ops f.in_form m i)));
       }
 
-  to-target : (t : ℕ) (m : Message) → IsAskedInForm m → HasFormFor (record { client = false; number = t }) m
+  to-target : (t : ℕ) (m : Message) → IsAsked (target_plan r t) m → IsOfClient (target_plan r) (record { to = target t; message = m })
   to-target t m k = record { asked = λ to. k; told = λ to. let no : ⊥ = cc in absurd no }
 
-  asked-form : (n : ℕ) (k : Epoch) (c : ClientState) (a : Present) (q : Post) → Asked (client_plan r n) k c a q → HasFormFor q.to q.message
+  asked-form : (n : ℕ) (k : Epoch) (c : ClientState) (a : Present) (q : Post) → Asked (client_plan r n) k c a q → IsOfClient (target_plan r) q
   asked-form n k c a q (ARead ops turns snapshot op z at here asks says) =
-      subst (λ x. HasFormFor x.to x.message) (sym says) (to-target _ (message.Fetch (attempt_id (client_plan r n) c a) a.op _ a.epoch a.first k z (is_some snapshot)) (asks-read n c.place ops turns snapshot a op z at here asks))
+      subst (IsOfClient (target_plan r)) (sym says) (to-target _ (message.Fetch (attempt_id (client_plan r n) c a) a.op _ a.epoch a.first k z (is_some snapshot)) (asks-read n c.place ops turns snapshot a op z a.epoch at here asks))
   asked-form n k c a q (ItsWrites ops turns snapshot w ws at last all says) =
-      subst (λ x. HasFormFor x.to x.message) (sym says) (to-target _ (message.Commit (attempt_id (client_plan r n) c a) a.epoch a.first k (w ∷ ws)) (asks-writes n c.place ops turns snapshot w ws at all))
+      subst (IsOfClient (target_plan r)) (sym says) (to-target (writes_leader (w ∷ ws) r.script.targets) (message.Commit (attempt_id (client_plan r n) c a) a.epoch a.first k (w ∷ ws)) (asks-writes n c.place ops turns snapshot w ws at all))
   asked-form n k c a q (ASnapshot name cont at says) = let bad : false ≡ true = plain.unsnapped n c.place (command.Snap name cont) at in let no : ⊥ = cc in absurd no
   asked-form n k c a q (AnAggregation cont at says) = let bad : false ≡ true = plain.unsnapped n c.place (command.Aggregate cont) at in let no : ⊥ = cc in absurd no
 
   -- ---- a move
 
   abbrev AreInForm : List Post → Type 0
-  AreInForm posts = (q : Post) → Has q posts → HasFormFor q.to q.message
+  AreInForm posts = ClientPosts (target_plan r) posts
 
   move-form : (n : ℕ) (c : ClientState) → AreInForm (listed (moved (client_plan r n) c).post)
   move-form n c = by (waits c) refl
@@ -158,8 +125,8 @@ module _ (r : Rules) (plain : IsPlainScript r) where
       nothing : (m : Move) → m.post ≡ None → AreInForm (listed m.post)
       nothing m e q i = absurd (subst (λ o. Has q (listed o)) e i)
 
-      one : (m : Move) (s : Post) → m.post ≡ Some s → HasFormFor s.to s.message → AreInForm (listed m.post)
-      one m s e t q i = elim (subst (λ o. Has q (listed o)) e i) [ inl same ↦ subst (λ x. HasFormFor x.to x.message) (sym same) t | inr j ↦ absurd j ]
+      one : (m : Move) (s : Post) → m.post ≡ Some s → IsOfClient (target_plan r) s → AreInForm (listed m.post)
+      one m s e t q i = elim (subst (λ o. Has q (listed o)) e i) [ inl same ↦ subst (IsOfClient (target_plan r)) (sym same) t | inr j ↦ absurd j ]
 
       is-a : IsMove (client_plan r n) c (moved (client_plan r n) c) → AreInForm (listed (moved (client_plan r n) c).post)
       is-a (Silent free none) = nothing (moved (client_plan r n) c) none
@@ -208,12 +175,12 @@ told-silent p c m h = by c.present
 -- ---- the laws
 
 pub clients-post-in-form : ClientsPostInForm
-clients-post-in-form r n c d did plain (Skipped skips none counted) q i = absurd (has-from_contains [] q (subst (λ x. Contains x.posts q) none i))
-clients-post-in-form r n c d did plain (Went_on awake k) q i = did-form r plain n c d did k q (has-from_contains did.posts q i)
+clients-post-in-form r n c d did plain (Skipped skips none counted) q i = absurd (subst (λ x. Has q x.posts) none i)
+clients-post-in-form r n c d did plain (Went_on awake k) q i = did-form r plain n c d did k q i
 
 pub hearers-post-in-form : HearersPostInForm
 hearers-post-in-form r n c d m did plain h (Ended_by over posts state) q i =
-    absurd (has-from_contains [] q (subst (λ o. Contains (listed o) q) (told-silent (client_plan r n) c m h) (subst (λ x. Contains x.posts q) posts i)))
+    absurd (subst (λ o. Has q (listed o)) (told-silent (client_plan r n) c m h) (subst (λ x. Has q x.posts) posts i))
 hearers-post-in-form r n c d m did plain h (Heard_on rest goes-on k both) q i =
     did-form r plain n (heard (client_plan r n) c m).state d rest k q
-    (has-from_contains rest.posts q (subst (λ o. Contains (listed o ++ rest.posts) q) (told-silent (client_plan r n) c m h) (subst (λ x. Contains x.posts q) both i)))
+    (subst (λ o. Has q (listed o ++ rest.posts)) (told-silent (client_plan r n) c m h) (subst (λ x. Has q x.posts) both i))

@@ -23,7 +23,8 @@ use Rattle.daos_model.specs.TookEffect.{took}
 use Rattle.daos_model.specs.Transactions.{attempt_ops}
 use Rattle.world_base.specs.declared.world.World.{World}
 use Rattle.world_events.specs.Events.{Rules}
-use Rattle.world_reads.specs.History.{History, decided_of, transactions}
+use Rattle.world_attempts.specs.History.{History}
+use Rattle.world_reads.specs.Transactions.{decided_of, transactions}
 use Rattle.world_verdicts.specs.Verdicts.{HasWrites, IsOnItsWay, IsToldCommitted, Verdicts}
 use Rattle.world_ends.specs.Took.{all_committed, committed-has, committed_by, has-committed, is_committed, took-committed, with_writes}
 
@@ -100,16 +101,16 @@ committed-apart s (a ∷ attempts) plain distinct = by (one-or-none s a) (commit
 -- ---- told and decided
 
 -- what is told as committed is decided
-pub told-decided : (r : Rules) (h : History) (w : World) (x : AttemptId) (e : Epoch) → Verdicts r h w → Has (x, e) (all_committed r.script (tries w.lines)) → Contains h.decided (x, e)
+pub told-decided : (r : Rules) (h : History) (w : World) (x : AttemptId) (e : Epoch) → Verdicts r h w → Has (x, e) (all_committed r.script (tries w.lines)) → Has (x, e) h.decided
 told-decided r h w x e v i =
     let c = committed-has r.script (tries w.lines) x e i in
     let k = v.lines c.a (contains-from_has (tries w.lines) c.a c.among) c.committed (subst (HasWrites r) (sym c.of_it) c.writes) in
     let epochs : Some k.0 ≡ Some e = sym k.1 ∙ c.at in
     let same : k.0 ≡ e = cc in
-    subst (λ y. Contains h.decided (y, e)) c.of_it (subst (λ f. Contains h.decided (c.a.id, f)) same k.2)
+    subst (λ y. Has (y, e) h.decided) c.of_it (subst (λ f. Has (c.a.id, f) h.decided) same k.2)
 
 -- where nothing is in flight, what is decided is told
-pub decided-told : (r : Rules) (h : History) (w : World) (x : AttemptId) (e : Epoch) → Verdicts r h w → w.messages ≡ [] → HasWrites r x → Contains h.decided (x, e) → Has (x, e) (all_committed r.script (tries w.lines))
+pub decided-told : (r : Rules) (h : History) (w : World) (x : AttemptId) (e : Epoch) → Verdicts r h w → w.messages ≡ [] → HasWrites r x → Has (x, e) h.decided → Has (x, e) (all_committed r.script (tries w.lines))
 decided-told r h w x e v silent writes i = by (v.told x e i)
   where
     by : IsOnItsWay w.messages x e ⊎ IsToldCommitted w.lines x e → Has (x, e) (all_committed r.script (tries w.lines))
@@ -126,21 +127,20 @@ pub record DecisionsTold (r : Rules) (h : History) (w : World) : Type 0 where
   pub plain : NoSnapshots r.script
   pub distinct : IsDistinct nat_eq (own_epochs r.script (tries w.lines))
   pub decided : AreDecided (transactions r.script h)
-  pub written : (x : AttemptId) (e : Epoch) → Contains h.decided (x, e) → HasWrites r x
+  pub written : (x : AttemptId) (e : Epoch) → Has (x, e) h.decided → HasWrites r x
   pub known : All (λ a. is_unknown a.outcome ≡ false) (tries w.lines)
 
 to-decided : (r : Rules) (h : History) (w : World) → DecisionsTold r h w → (d : Decided) → Has d (map (decided_of r.script) (all_committed r.script (tries w.lines))) → Has d (transactions r.script h)
 to-decided r h w k d i =
     let p = has-from_map (decided_of r.script) (all_committed r.script (tries w.lines)) d i in
     subst (λ f. Has f (transactions r.script h)) p.2
-    (has-map (decided_of r.script) h.decided p.0 (has-from_contains h.decided p.0 (told-decided r h w p.0.0 p.0.1 k.verdicts p.1)))
+    (has-map (decided_of r.script) h.decided p.0 (told-decided r h w p.0.0 p.0.1 k.verdicts p.1))
 
 from-decided : (r : Rules) (h : History) (w : World) → DecisionsTold r h w → (d : Decided) → Has d (transactions r.script h) → Has d (map (decided_of r.script) (all_committed r.script (tries w.lines)))
 from-decided r h w k d i =
     let p = has-from_map (decided_of r.script) h.decided d i in
-    let at = contains-from_has h.decided p.0 p.1 in
     subst (λ f. Has f (map (decided_of r.script) (all_committed r.script (tries w.lines)))) p.2
-    (has-map (decided_of r.script) (all_committed r.script (tries w.lines)) p.0 (decided-told r h w p.0.0 p.0.1 k.verdicts k.silent (k.written p.0.0 p.0.1 at) at))
+    (has-map (decided_of r.script) (all_committed r.script (tries w.lines)) p.0 (decided-told r h w p.0.0 p.0.1 k.verdicts k.silent (k.written p.0.0 p.0.1 p.1) p.1))
 
 are-decided : (r : Rules) (h : History) (w : World) → DecisionsTold r h w → AreDecided (map (decided_of r.script) (all_committed r.script (tries w.lines)))
 are-decided r h w k = record {

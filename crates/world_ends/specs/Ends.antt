@@ -1,44 +1,36 @@
 -- What holds of the world when a run is over, and the report of its lines.
-use Rattle.std.specs.Prelude.{ℕ, ◌≡◌, ◌<◌, ◌^◌, Bool, true, false, List, [], Contains, All, slice_get, Some, None}
+use Rattle.std.specs.Prelude.{ℕ, ◌≡◌, ◌<◌, Bool, true, false, List, [], length, map, Contains, All, slice_get, Some, None}
 use Rattle.daos_base.specs.declared.entry.Entry.{Entry}
 use Rattle.daos_base.specs.declared.outcome.Outcome.{Outcome}
 use Rattle.daos_base.specs.declared.outcome.Outcome.TheVariants as outcome
-use Rattle.daos_base.specs.declared.report.Line.{Line}
-use Rattle.daos_base.specs.declared.report.Line.TheVariants as line
 use Rattle.daos_base.specs.declared.report.Report.{Report}
 use Rattle.daos_base.specs.Scripts.{IsInForm}
-use Rattle.daos_laws.specs.Targets.{is_own}
-use Rattle.daos_model.specs.declared.cell.Cell.{Cell}
+use Rattle.daos_model.specs.declared.durable.Durable.{Durable}
 use Rattle.daos_model.specs.declared.durable.Version.{Version}
 use Rattle.daos_model.specs.Attempts.{tries}
-use Rattle.daos_model.specs.Cells.{value_at}
 use Rattle.daos_model.specs.Opening.{Given, Opening, top}
+use Rattle.world_attempts.specs.History.{History}
 use Rattle.world_base.specs.declared.target.TargetState.{TargetState}
 use Rattle.world_base.specs.declared.world.World.{World}
-use Rattle.world_epochs.specs.Epochs.{Epochs, OneTarget, Unsnapped}
+use Rattle.world_causes.specs.Causes.{is_try}
+use Rattle.world_epochs.specs.Epochs.{Epochs, Unsnapped}
 use Rattle.world_events.specs.Events.{Rules}
 use Rattle.world_gots.specs.Gots.{Gots}
 use Rattle.world_lines.specs.EndingLaws.{Spoken}
 use Rattle.world_lines.specs.LastLines.{AreDone, HasClients}
-use Rattle.world_reads.specs.History.{History}
 use Rattle.world_reads.specs.Reads.{Reads}
 use Rattle.world_reads.specs.Versions.{Versions}
 use Rattle.world_verdicts.specs.Verdicts.{Verdicts}
 
 -- ---- the run
 
--- a run of a script for one target, which holds no snapshot and makes none
+-- a run of a script in form, with a target for each number, which holds no snapshot and makes none
 pub record IsPlain (r : Rules) (w : World) : Type 0 where
-  pub one : OneTarget r w
-  pub form : IsInForm 1 r.script
+  pub many : length w.targets ≡ r.script.targets
+  pub some : 0 < r.script.targets
+  pub form : IsInForm r.script.targets r.script
   pub unsnapped : Unsnapped r
   pub no_snaps : (t : ℕ) (s : TargetState) → slice_get w.targets t ≡ Some s → s.durable.snaps ≡ []
-
--- what the target held at the opening: cells of its own alone, no snapshot, and a lease as regions hold it
-pub record OpensPlain (o : Opening) : Type 0 where
-  pub own : (c : Cell) → is_own 1 0 c ≡ false → value_at o.stand.now c ≡ None
-  pub no_snaps : o.stand.snaps ≡ []
-  pub lease : o.lease < 2 ^ 56
 
 -- ---- what every event keeps
 
@@ -52,21 +44,19 @@ pub record Facts (r : Rules) (o : Opening) (held : ℕ → List Version) (h : Hi
 
 -- ---- the end
 
--- all clients are done, nothing is in flight, and every decided attempt is settled
+-- all clients are done, nothing is in flight, and every entry of every target is committed
 pub record IsOver (r : Rules) (w : World) : Type 0 where
   pub silent : w.messages ≡ []
   pub clients : HasClients r w
   pub done : AreDone r w
   pub settled : (t : ℕ) (s : TargetState) (e : Entry) → slice_get w.targets t ≡ Some s → Contains s.durable.entries e → e.committed ≡ true
 
-abbrev pub is_try : Line → Bool
-is_try (line.Try a) = true
-is_try (line.Stop number target) = false
-is_try (line.Restart number target incarnation floor) = false
-is_try (line.Freeze target cont epoch) = false
-is_try (line.Snapshot name cont epoch) = false
-is_try (line.Aggregate number target cont upto) = false
-is_try (line.Down target) = false
+-- what targets keep, in their order
+abbrev pub durable_of : TargetState → Durable
+durable_of s = s.durable
+
+abbrev pub durables_of : World → List Durable
+durables_of w = map durable_of w.targets
 
 -- it is known what became of an attempt, and that no snapshot was wanting
 abbrev pub is_sure : Outcome → Bool

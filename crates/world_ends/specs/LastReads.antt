@@ -1,7 +1,6 @@
 -- When a run is over, what its lines tell of reads is legal.
-use Rattle.std.specs.Prelude.{ℕ, ◌≡◌, ◌&&◌, Bool, true, false, is_some, List, All, Contains, Option, Some, None, refl}
-use Rattle.std.specs.List.{list_any}
-use Rattle.std.proofs.Common.{sym, ◌∙◌, ap, subst}
+use Rattle.std.specs.Prelude.{ℕ, ◌≡◌, Bool, true, false, List, All, Contains, Option, Some, None, refl}
+use Rattle.std.proofs.Common.{inl, sym, ◌∙◌, ap, subst}
 use Rattle.daos_base.specs.declared.answer.Answer.{Answer}
 use Rattle.daos_base.specs.declared.epoch.Epoch.{Epoch}
 use Rattle.daos_base.specs.declared.id.AttemptId.{AttemptId}
@@ -11,7 +10,6 @@ use Rattle.daos_base.specs.declared.outcome.Outcome.{Outcome}
 use Rattle.daos_base.specs.declared.outcome.Outcome.TheVariants as outcome
 use Rattle.daos_base.specs.declared.report.Attempt.{Attempt}
 use Rattle.daos_base.specs.declared.script.Script.{Script}
-use Rattle.daos_base.specs.Placement.{path_members}
 use Rattle.daos_base.specs.Scripts.{IsInForm}
 use Rattle.daos_laws.specs.Decided.{Decided, taken_in}
 use Rattle.daos_laws.specs.DecidedLaws.{all-from_has, has-all}
@@ -19,7 +17,6 @@ use Rattle.daos_laws.specs.Groups.{HasDkeys}
 use Rattle.daos_laws.specs.Members.{Has, has-from_contains, has-from_map}
 use Rattle.daos_laws.specs.ReadLaws.{answer-same_map}
 use Rattle.daos_laws.specs.TargetLaws.{as_of-dkeys}
-use Rattle.daos_laws.specs.Targets.{is_target}
 use Rattle.daos_model.specs.declared.cell.CellValue.{CellValue}
 use Rattle.daos_model.specs.declared.durable.Version.{Version}
 use Rattle.daos_model.specs.declared.stand.Stand.{Stand}
@@ -36,14 +33,16 @@ use Rattle.daos_model.specs.TookEffect.{took}
 use Rattle.daos_model.specs.Transactions.{attempt_ops}
 use Rattle.world_base.specs.declared.world.World.{World}
 use Rattle.world_base.specs.ClientTurns.{is_yes}
+use Rattle.world_begins.specs.Begins.{IsOpeningPlain}
 use Rattle.world_events.specs.Events.{Rules}
 use Rattle.world_gots.specs.Gots.{IsLineServed}
 use Rattle.world_gots.specs.MoreLaws.{all-more}
 use Rattle.world_gots.specs.Right.{IsOfThisRun}
 use Rattle.world_gots.specs.ToldLaws.{lines-right}
-use Rattle.world_reads.specs.History.{History, decided_of, transactions}
+use Rattle.world_attempts.specs.History.{History}
+use Rattle.world_reads.specs.Transactions.{decided_of, transactions}
 use Rattle.world_ends.specs.Decisions.{DecisionsTold, took-same_map}
-use Rattle.world_ends.specs.Ends.{Facts, IsOver, IsPlain, OpensPlain, TellsPlain, is_sure, report_of, rules_of}
+use Rattle.world_ends.specs.Ends.{Facts, IsOver, IsPlain, TellsPlain, is_sure, report_of, rules_of}
 use Rattle.world_ends.specs.FormLaws.{attempt-writes-form, no-snapshots}
 
 -- ---- what is told and decided
@@ -77,11 +76,11 @@ decided-form r h targets form d i =
     let p = has-from_map (decided_of r.script) h.decided d (has-from_contains (transactions r.script h) d i) in
     subst (λ f. All (λ w. is_write_in_form w.write ≡ true) f.writes) p.2 (attempt-writes-form targets r.script p.0.0 form)
 
--- a target's own cells have dkeys
-pub opening-dkeys : (o : Opening) → OpensPlain o → HasDkeys o.stand.now
-opening-dkeys o k c e = k.own c (ap (λ d. is_some d && list_any (is_target 0) (path_members c.path 1)) e)
+-- what the opening stands for has dkeys
+pub opening-dkeys : (o : Opening) → IsOpeningPlain o → HasDkeys o.stand.now
+opening-dkeys o k c e = k.unowned c (inl e)
 
-pub then-dkeys : (r : Rules) (o : Opening) (h : History) (targets : ℕ) (e : ℕ) → IsInForm targets r.script → OpensPlain o → HasDkeys (as_of o.stand (taken_in (transactions r.script h)) e)
+pub then-dkeys : (r : Rules) (o : Opening) (h : History) (targets : ℕ) (e : ℕ) → IsInForm targets r.script → IsOpeningPlain o → HasDkeys (as_of o.stand (taken_in (transactions r.script h)) e)
 then-dkeys r o h targets e form opens = as_of-dkeys o.stand (transactions r.script h) e (opening-dkeys o opens) (decided-form r h targets form)
 
 -- ---- maps that hold the same
@@ -116,7 +115,7 @@ legal-same s o T U a plain same k = by a.epoch k
 
 -- ---- all of it
 
-pub reads-legal : (g : Given) (held : ℕ → List Version) (h : History) (w : World) (resolved : AttemptId → Bool) → IsPlain (rules_of g) w → OpensPlain g.opening → Facts (rules_of g) g.opening held h w → IsOver (rules_of g) w
+pub reads-legal : (g : Given) (held : ℕ → List Version) (h : History) (w : World) (resolved : AttemptId → Bool) → IsPlain (rules_of g) w → IsOpeningPlain g.opening → Facts (rules_of g) g.opening held h w → IsOver (rules_of g) w
     → TellsPlain w → ReadsLegal g.script g.opening.stand (took g.script resolved w.lines) (report_of (rules_of g) w)
 reads-legal g held h w resolved plain opens facts over tells = all-from_has (AttemptReadsLegal g.script g.opening.stand (took g.script resolved w.lines)) (tries w.lines) one
   where
@@ -125,5 +124,5 @@ reads-legal g held h w resolved plain opens facts over tells = all-from_has (Att
         let none = no-snapshots (rules_of g) plain.unsnapped a.id in
         legal-same g.script g.opening.stand (taken_in (transactions g.script h)) (took g.script resolved w.lines) a none
         (λ e c. sym (took-same_map (rules_of g) g.opening h w resolved e (last-told g held h w plain facts over tells) c))
-        (lines-right (rules_of g) g.opening h 1 a plain.form facts.reads.answers (λ e. then-dkeys (rules_of g) g.opening h 1 e.0 plain.form opens)
+        (lines-right (rules_of g) g.opening h g.script.targets a plain.form facts.reads.answers (λ e. then-dkeys (rules_of g) g.opening h g.script.targets e.0 plain.form opens)
         (subst (IsOfThisRun g.script) (sym none) tt) (has-all (IsLineServed (rules_of g) h) (tries w.lines) a facts.gots.lines i))

@@ -1,5 +1,5 @@
 -- What the facts of a run say when it is over.
-use Rattle.std.specs.Prelude.{ℕ, ◌≡◌, Bool, List, [], ◌∷◌, slice_get, Some}
+use Rattle.std.specs.Prelude.{ℕ, Bool, List}
 use Rattle.daos_base.specs.declared.id.AttemptId.{AttemptId}
 use Rattle.daos_laws.specs.Decided.{taken_in}
 use Rattle.daos_model.specs.declared.durable.Version.{Version}
@@ -11,12 +11,13 @@ use Rattle.daos_model.specs.Opening.{Given, Opening, undisturbed}
 use Rattle.daos_model.specs.OutcomesLegal.{OutcomesLegal}
 use Rattle.daos_model.specs.ReadsLegal.{ReadsLegal}
 use Rattle.daos_model.specs.TookEffect.{took}
-use Rattle.world_base.specs.declared.target.TargetState.{TargetState}
 use Rattle.world_base.specs.declared.world.World.{World}
+use Rattle.world_begins.specs.Begins.{IsOpeningPlain}
 use Rattle.world_events.specs.Events.{Rules}
-use Rattle.world_reads.specs.History.{History, transactions}
+use Rattle.world_attempts.specs.History.{History}
+use Rattle.world_reads.specs.Transactions.{transactions}
 use Rattle.world_ends.specs.Decisions.{DecisionsTold}
-use Rattle.world_ends.specs.Ends.{Facts, IsOver, IsPlain, OpensPlain, TellsPlain, report_of, rules_of}
+use Rattle.world_ends.specs.Ends.{Facts, IsOver, IsPlain, TellsPlain, durables_of, report_of, rules_of}
 use Rattle.world_ends.specs.LastReads.{reads-legal}
 use Rattle.world_ends.specs.LastStand.{stands-last}
 use Rattle.world_ends.specs.Outcomes.{outcomes-legal}
@@ -36,27 +37,27 @@ LastOutcomesAreLegal =
 -- each answer is what the transactions that took effect give
 abbrev pub LastReadsAreLegal : Type 0
 LastReadsAreLegal =
-    (g : Given) (held : ℕ → List Version) (h : History) (w : World) (resolved : AttemptId → Bool) → IsPlain (rules_of g) w → OpensPlain g.opening → Facts (rules_of g) g.opening held h w → IsOver (rules_of g) w
+    (g : Given) (held : ℕ → List Version) (h : History) (w : World) (resolved : AttemptId → Bool) → IsPlain (rules_of g) w → IsOpeningPlain g.opening → Facts (rules_of g) g.opening held h w → IsOver (rules_of g) w
     → TellsPlain w → ReadsLegal g.script g.opening.stand (took g.script resolved w.lines) (report_of (rules_of g) w)
 
--- the target stands for exactly what took effect
+-- the targets stand for exactly what took effect
 abbrev pub LastStandIsRight : Type 0
 LastStandIsRight =
-    (g : Given) (held : ℕ → List Version) (h : History) (w : World) (s : TargetState) → IsPlain (rules_of g) w → OpensPlain g.opening → Facts (rules_of g) g.opening held h w → IsOver (rules_of g) w → TellsPlain w
-    → slice_get w.targets 0 ≡ Some s → StandInTheEnd g (s.durable ∷ []) (report_of (rules_of g) w)
+    (g : Given) (held : ℕ → List Version) (h : History) (w : World) → IsPlain (rules_of g) w → IsOpeningPlain g.opening → Facts (rules_of g) g.opening held h w → IsOver (rules_of g) w → TellsPlain w
+    → StandInTheEnd g (durables_of w) (report_of (rules_of g) w)
 
--- so, where every outcome shows its cause, the report is legal, and the target stands for what it tells
+-- so, where every outcome shows its cause, the report is legal, and the targets stand for what it tells
 abbrev pub LastReportsAreLegal : Type 0
 LastReportsAreLegal =
-    (g : Given) (held : ℕ → List Version) (h : History) (w : World) (s : TargetState) → IsPlain (rules_of g) w → OpensPlain g.opening → Facts (rules_of g) g.opening held h w → IsOver (rules_of g) w → TellsPlain w
-    → slice_get w.targets 0 ≡ Some s → CausesShown g (report_of (rules_of g) w) → HeadlineOver g undisturbed (s.durable ∷ []) (report_of (rules_of g) w)
+    (g : Given) (held : ℕ → List Version) (h : History) (w : World) → IsPlain (rules_of g) w → IsOpeningPlain g.opening → Facts (rules_of g) g.opening held h w → IsOver (rules_of g) w → TellsPlain w
+    → CausesShown g (report_of (rules_of g) w) → HeadlineOver g undisturbed (durables_of w) (report_of (rules_of g) w)
 
 pub reports-legal : LastReportsAreLegal
-reports-legal g held h w s plain opens facts over tells here causes = record {
+reports-legal g held h w plain opens facts over tells causes = record {
   told = record {
-    reads = reads-legal g held h w (resolved (s.durable ∷ [])) plain opens facts over tells;
+    reads = reads-legal g held h w (resolved (durables_of w)) plain opens facts over tells;
     outcomes = outcomes-legal g held h w plain facts over tells;
     causes = causes;
   };
-  stands = stands-last g held h w s plain opens facts over tells here;
+  stands = stands-last g held h w plain opens facts over tells;
 }

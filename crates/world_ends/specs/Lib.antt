@@ -6,13 +6,15 @@ pub mod FormLaws
 pub mod StopLaws
 pub mod Outcomes
 pub mod LastReads
-pub mod OneTargetLaws
+pub mod FamilyStands
 pub mod LastStand
 pub mod Laws
 pub mod Runs
 pub mod PlainCauses
 pub mod SureTells
 pub mod LinesApart
+pub mod Born
 pub mod Carried
 pub mod FromBeginning
+pub mod Settled
 pub mod NextRuns

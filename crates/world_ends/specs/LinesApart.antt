@@ -14,7 +14,8 @@ use Rattle.daos_model.specs.BoolLaws.{and_left, and_right, both, clash, false_of
 use Rattle.daos_model.specs.CausesShown.{epoch_of_attempt, first_epoch, starts_command}
 use Rattle.daos_model.specs.Order.{AllInTurn, AreAttempts, AreInTurn, client_commands}
 use Rattle.world_causes.specs.Causes.{zeroth}
-use Rattle.world_causes.specs.LastCauses.{AreApart, ids}
+use Rattle.world_causes.specs.LastCauses.{ids}
+use Rattle.world_causes.specs.Storing.{AreApart}
 
 -- ---- one command
 

@@ -35,7 +35,7 @@ use Rattle.world_gots.specs.Gots.{AreServed, IsLineServed}
 use Rattle.world_gots.specs.ToldLaws.{nothing-told}
 use Rattle.world_lines.specs.LastLines.{lines-answered, lines-in-turn}
 use Rattle.world_lines.specs.Lines.{Lines}
-use Rattle.world_reads.specs.History.{History}
+use Rattle.world_attempts.specs.History.{History}
 use Rattle.world_verdicts.specs.Verdicts.{HasWrites}
 use Rattle.world_ends.specs.Ends.{Facts, IsOver, IsPlain, TellsPlain, is_sure, report_of, rules_of}
 use Rattle.world_ends.specs.FormLaws.{no-ops, no-snaps, no-snapshots, some-op}
@@ -175,4 +175,4 @@ outcomes-legal g held h w plain facts over tells = record {
             let d = has-command g.job.attempts g.script w.lines a turn i in
             whole-issued r h a (has-all (IsLineServed r h) (tries w.lines) a facts.gots.lines i)
             (λ writes. let e = facts.verdicts.lines a (contains-from_has (tries w.lines) a i) committed writes in (e.0, e.1))
-            (some-op r 1 a.id d.0 plain.form plain.unsnapped d.1) whole
+            (some-op r r.script.targets a.id d.0 plain.form plain.unsnapped d.1) whole

@@ -12,7 +12,7 @@ use Rattle.daos_laws.specs.Members.{has-from_contains}
 use Rattle.daos_model.specs.Opening.{undisturbed}
 use Rattle.daos_model.specs.Snapshots.{ComesFrom}
 use Rattle.daos_model.specs.Stops.{AreCounted, AreNumbered, Down, Running, after_all, least, HasTarget, StopsLegal, StopsLegalAt, aggregate_numbers, aggregated_number, down_targets, floors, given_up, incarnations, is_at, is_stop_at, lines_at, restart_numbers, restarted_number, stop_numbers, stopped_number}
-use Rattle.world_ends.specs.Ends.{is_try}
+use Rattle.world_causes.specs.Causes.{is_try}
 
 abbrev AreTries : List Line → Type 0
 AreTries lines = All (λ l. is_try l ≡ true) lines

@@ -20,7 +20,7 @@ use Rattle.daos_model.specs.Accesses.{minor_write, minor_writes}
 use Rattle.daos_model.specs.Attempts.{is_unknown, tries}
 use Rattle.daos_model.specs.TookEffect.{all_taken, taken_at, took, took_effect}
 use Rattle.daos_model.specs.Transactions.{attempt_ops, writes_of, written}
-use Rattle.world_reads.specs.History.{decided_of}
+use Rattle.world_reads.specs.Transactions.{decided_of}
 
 abbrev pub is_committed : Outcome → Bool
 is_committed outcome.Committed = true

@@ -1,48 +1,33 @@
 -- What a client does keeps what is said of epochs: it goes on with its attempt, or ends it.
-use Rattle.std.specs.Prelude.{ℕ, ◌≡◌, ◌≢◌, ◌≤◌, ◌<◌, ◌+◌, ◌++◌, ◌⊎◌, true, false, List, [], ◌∷◌, Contains, slice_get, Option, Some, None, refl}
+use Rattle.std.specs.Prelude.{ℕ, ◌≡◌, ◌≤◌, ◌<◌, ◌+◌, ◌++◌, ◌⊎◌, true, false, List, [], ◌∷◌, Contains, slice_get, Option, Some, None, refl}
 use Rattle.std.proofs.Common.{sym, ◌∙◌, ap, subst, inl, inr, ⊎_elim, arith}
 use Rattle.std.proofs.Math.ListN.{set}
 use Rattle.std.proofs.lemmas.Bool.{eqb-true}
-use Rattle.std.proofs.lemmas.Bool.Decides.{eqb_tells}
 use Rattle.std.proofs.lemmas.List.Elements.{Contains-append_cases, Contains-append_left, Contains-push, Contains-push_cases}
 use Rattle.daos_base.specs.declared.epoch.Epoch.{Epoch}
 use Rattle.daos_base.specs.declared.id.AttemptId.{AttemptId}
+use Rattle.daos_base.specs.declared.operation.Op.{Op}
 use Rattle.daos_base.specs.declared.report.Attempt.{Attempt}
 use Rattle.daos_base.specs.declared.report.Line.TheVariants as line
-use Rattle.daos_messages.specs.declared.message.Message.{Message}
 use Rattle.daos_messages.specs.declared.message.Post.{Post}
 use Rattle.daos_model.specs.Attempts.{has_own_epoch, is_of_client, is_unsure, tries, tries_of}
 use Rattle.daos_model.specs.Order.{EpochIsBelow, IsAfter, IsAfterAll, RisesFrom, told_by}
+use Rattle.daos_model.specs.Transactions.{attempt_ops}
 use Rattle.world_base.specs.declared.client.ClientState.{ClientState}
 use Rattle.world_base.specs.declared.client.Present.{Present}
 use Rattle.world_base.specs.declared.letter.Letter.{Letter}
 use Rattle.world_base.specs.declared.world.World.{World}
 use Rattle.world_base.specs.ClientTurns.{attempt_id, listed}
 use Rattle.world_events.specs.Events.{Rules, client_plan}
-use Rattle.world_events.specs.Letters.{client, letter_of, letters_of}
+use Rattle.world_events.specs.Letters.{client, letter_of, letters_of, target}
 use Rattle.world_events.specs.StepLaws.{set-here, set-there}
 use Rattle.world_events.specs.Steps.{without}
-use Rattle.world_epochs.specs.Epochs.{AsksEpoch, BearsEpoch, Epochs, InCause, IsAt, IsIssued, IsPast, IsPresent, IsTold, IsUnissued, ItsOwn, LacksEpoch, Told, reads_snapshot}
+use Rattle.world_epochs.specs.Epochs.{AsksEpoch, AsksFirst, BearsEpoch, Epochs, InCause, IsAt, IsIssued, IsPast, IsPresent, IsTold, IsUnissued, ItsOwn, LacksEpoch, Told, answers_undated, issuer_of, reads_snapshot}
 use Rattle.world_epochs.specs.IssuedLists.{issued-push}
-use Rattle.world_epochs.specs.Lists.{all-each, contains-filter, contains-none, contains-one, each-push, one-value, tries-push}
+use Rattle.world_epochs.specs.Lists.{all-each, at-set, contains-filter, contains-none, contains-one, each-push, one-value, same-number, tries-push}
 use Rattle.world_epochs.specs.TargetLaws.{later-unissued}
 
 -- ---- one client among others
-
-pub same-client : (m n : ℕ) → (m ≡ n) ⊎ ((m ≡ n) → ⊥)
-same-client m n = ⊎_elim (λ k. inl k.1) (λ k. inr (λ same. let off : m ≢ n = k.1 in omega (arith, off, same))) (eqb_tells m n)
-
--- what is so of a client that changed, and of each other, is so of all
-pub at-client : (clients : List ClientState) (n : ℕ) (c d : ClientState) (P : ℕ → ClientState → Type 0) → slice_get clients n ≡ Some c → P n d
-    → ((m : ℕ) (z : ClientState) → ((m ≡ n) → ⊥) → slice_get clients m ≡ Some z → P m z) → (m : ℕ) (z : ClientState) → slice_get (set clients n d) m ≡ Some z → P m z
-at-client clients n c d P here own others m z at = by (same-client m n)
-  where
-    by : (m ≡ n) ⊎ ((m ≡ n) → ⊥) → P m z
-    by (inl same) =
-        let now : slice_get (set clients n d) m ≡ Some d = subst (λ k. slice_get (set clients n d) k ≡ Some d) (sym same) (set-here clients n c d here) in
-        let is : d ≡ z = one-value (slice_get (set clients n d) m) d z now at in
-        subst (λ k. P k z) (sym same) (subst (λ y. P n y) is own)
-    by (inr off) = others m z off (sym (set-there clients n m d off) ∙ at)
 
 pub same-id : (r : Rules) (n : ℕ) (c d : ClientState) (a b : Present) → d.command ≡ c.command → b.attempt ≡ a.attempt → attempt_id (client_plan r n) d b ≡ attempt_id (client_plan r n) c a
 same-id r n c d a b command number = ap (λ z. made z b.attempt) command ∙ ap (λ z. made c.command z) number
@@ -60,21 +45,28 @@ at-other-before r clients n d x off p = record { c = p.c; a = p.a; here = sym (s
 
 pub fewer-keeps : (r : Rules) (top : ℕ) (w : World) (rest : List Letter) → ((l : Letter) → Contains rest l → Contains w.messages l) → Epochs r top w → Epochs r top (without w rest)
 fewer-keeps r top w rest among E = record {
+  few = E.few;
   one = E.one;
   apart = E.apart;
   above = E.above;
+  issued_by = E.issued_by;
   issuer = E.issuer;
   leased = E.leased;
   ticks = E.ticks;
   line = E.line;
   fresh = λ l x k h. E.fresh l x k (among l h);
   asker = λ l x k h. E.asker l x k (among l h);
+  asked = λ l x k h. E.asked l x k (among l h);
   lacking = λ l x h. E.lacking l x (among l h);
+  dated = λ l h. E.dated l (among l h);
   borne = λ l x e h. E.borne l x e (among l h);
+  entered = E.entered;
+  parked = E.parked;
   plain = λ l h. E.plain l (among l h);
   known = E.known;
   tracked = E.tracked;
   unknown = E.unknown;
+  unasked = E.unasked;
   trackers = E.trackers;
   rises = E.rises;
   same_command = E.same_command;
@@ -87,15 +79,17 @@ fewer-keeps r top w rest among E = record {
 -- ---- a client that goes on
 
 -- what a client may send: a request of its attempt, with the epoch that it knows, or none where there is none
-pub record Sends (r : Rules) (top : ℕ) (w : World) (n : ℕ) (clients : List ClientState) (m : Message) : Type 0 where
-  pub asks : (x : AttemptId) (k : Epoch) → AsksEpoch m x k → (x.client ≡ n) × IsAt r clients x × IsUnissued w x × (top ≤ k.0) × ((e : ℕ) → IsTold r w x.client e → e ≤ k.0)
-  pub lacks : (x : AttemptId) → LacksEpoch m x → ⊥
-  pub bears : (x : AttemptId) (e : Epoch) → BearsEpoch m x e → IsIssued w x e
-  pub plain : reads_snapshot m ≡ false
+pub record Sends (r : Rules) (top : ℕ) (w : World) (n : ℕ) (clients : List ClientState) (q : Post) : Type 0 where
+  pub asks : (x : AttemptId) (k : Epoch) → AsksEpoch q.message x k → (x.client ≡ n) × IsAt r clients x × IsUnissued w x × (top ≤ k.0) × ((e : ℕ) → IsTold r w x.client e → e ≤ k.0)
+  pub first : (x : AttemptId) (k : Epoch) → AsksEpoch q.message x k → q.to ≡ target (issuer_of r.script x)
+  pub lacks : (x : AttemptId) → LacksEpoch q.message x → ⊥
+  pub bears : (x : AttemptId) (e : Epoch) → BearsEpoch q.message x e → IsIssued w x e
+  pub plain : reads_snapshot q.message ≡ false
+  pub dated : answers_undated q.message ≡ false
 
 abbrev pub SendsSome : Rules → ℕ → World → ℕ → List ClientState → Option Post → Type 0
 SendsSome r top w n clients None = Unit {0}
-SendsSome r top w n clients (Some p) = Sends r top w n clients p.message
+SendsSome r top w n clients (Some q) = Sends r top w n clients q
 
 -- a client goes on with its attempt, or begins one that has no epoch
 pub record IsQuiet (r : Rules) (w : World) (n : ℕ) (c d : ClientState) : Type 0 where
@@ -107,6 +101,7 @@ pub record IsQuiet (r : Rules) (w : World) (n : ℕ) (c d : ClientState) : Type 
   pub known : (b : Present) (e : Epoch) → d.present ≡ Some b → b.epoch ≡ Some e → IsIssued w (attempt_id (client_plan r n) d b) e
   pub tracked : (b : Present) (e : Epoch) → d.present ≡ Some b → b.epoch ≡ Some e → e.0 ≤ d.tracker.0
   pub unknown : (b : Present) → d.present ≡ Some b → b.waits ≡ false → b.epoch ≡ None → IsUnissued w (attempt_id (client_plan r n) d b)
+  pub unasked : (b : Present) → d.present ≡ Some b → b.epoch ≡ None → AsksFirst (attempt_ops r.script (attempt_id (client_plan r n) d b)) b
 
 abbrev pub after_quiet : World → ℕ → Option Post → ClientState → World
 after_quiet w n post d = record w { clients = set w.clients n d; messages = w.messages ++ letters_of (client n) (listed post) }
@@ -118,9 +113,11 @@ sent-one n (Some p) l h = (p, refl, contains-one (letter_of (client n) p) l h)
 pub quiet-keeps : (r : Rules) (top : ℕ) (w : World) (n : ℕ) (c d : ClientState) (post : Option Post) → Epochs r top w → IsQuiet r w n c d → SendsSome r top w n (set w.clients n d) post
     → Epochs r top (after_quiet w n post d)
 quiet-keeps r top w n c d post E Q S = record {
+  few = E.few;
   one = E.one;
   apart = E.apart;
   above = E.above;
+  issued_by = E.issued_by;
   issuer = E.issuer;
   leased = E.leased;
   ticks = E.ticks;
@@ -133,30 +130,38 @@ quiet-keeps r top w n c d post E Q S = record {
       (λ o. E.asker l x k o a)
       (λ q. let f = q.2.asks x k (subst (λ m. AsksEpoch m x k) (sym (ap (λ z. z.message) q.1)) a) in sym (ap (λ z. z.from) q.1) ∙ ap (λ m. client m) (sym f.0))
       (split l h);
+  asked = λ l x k h a. ⊎_elim
+      (λ o. E.asked l x k o a)
+      (λ q. sym (ap (λ z. z.to) q.1) ∙ q.2.first x k (subst (λ m. AsksEpoch m x k) (sym (ap (λ z. z.message) q.1)) a))
+      (split l h);
   lacking = λ l x h a. ⊎_elim (λ o. E.lacking l x o a) (λ q. absurd (q.2.lacks x (subst (λ m. LacksEpoch m x) (sym (ap (λ z. z.message) q.1)) a))) (split l h);
   borne = λ l x e h a. ⊎_elim (λ o. E.borne l x e o a) (λ q. q.2.bears x e (subst (λ m. BearsEpoch m x e) (sym (ap (λ z. z.message) q.1)) a)) (split l h);
+  entered = E.entered;
+  parked = E.parked;
   plain = λ l h. ⊎_elim (λ o. E.plain l o) (λ q. subst (λ m. reads_snapshot m ≡ false) (ap (λ z. z.message) q.1) q.2.plain) (split l h);
-  known = λ m z a e here. at-client w.clients n c d (λ k y. y.present ≡ Some a → a.epoch ≡ Some e → IsIssued w (attempt_id (client_plan r k) y a) e) Q.here (Q.known a e) (λ k y off at. E.known k y a e at) m z here;
-  tracked = λ m z a e here. at-client w.clients n c d (λ k y. y.present ≡ Some a → a.epoch ≡ Some e → e.0 ≤ y.tracker.0) Q.here (Q.tracked a e) (λ k y off at. E.tracked k y a e at) m z here;
-  unknown = λ m z a here. at-client w.clients n c d (λ k y. y.present ≡ Some a → a.waits ≡ false → a.epoch ≡ None → IsUnissued w (attempt_id (client_plan r k) y a)) Q.here (Q.unknown a) (λ k y off at. E.unknown k y a at) m z here;
-  trackers = at-client w.clients n c d (λ k y. (top ≤ y.tracker.0) × ((e : ℕ) → IsTold r w k e → e ≤ y.tracker.0)) Q.here tracker-here (λ k y off at. E.trackers k y at);
+  dated = λ l h. ⊎_elim (λ o. E.dated l o) (λ q. subst (λ m. answers_undated m ≡ false) (ap (λ z. z.message) q.1) q.2.dated) (split l h);
+  known = λ m z a e here. at-set w.clients n c d (λ k y. y.present ≡ Some a → a.epoch ≡ Some e → IsIssued w (attempt_id (client_plan r k) y a) e) Q.here (Q.known a e) (λ k y off at. E.known k y a e at) m z here;
+  tracked = λ m z a e here. at-set w.clients n c d (λ k y. y.present ≡ Some a → a.epoch ≡ Some e → e.0 ≤ y.tracker.0) Q.here (Q.tracked a e) (λ k y off at. E.tracked k y a e at) m z here;
+  unknown = λ m z a here. at-set w.clients n c d (λ k y. y.present ≡ Some a → a.waits ≡ false → a.epoch ≡ None → IsUnissued w (attempt_id (client_plan r k) y a)) Q.here (Q.unknown a) (λ k y off at. E.unknown k y a at) m z here;
+  unasked = λ m z a here. at-set w.clients n c d (λ k y. y.present ≡ Some a → a.epoch ≡ None → AsksFirst (attempt_ops r.script (attempt_id (client_plan r k) y a)) a) Q.here (Q.unasked a) (λ k y off at. E.unasked k y a at) m z here;
+  trackers = at-set w.clients n c d (λ k y. (top ≤ y.tracker.0) × ((e : ℕ) → IsTold r w k e → e ≤ y.tracker.0)) Q.here tracker-here (λ k y off at. E.trackers k y at);
   rises = λ x e f p h t. ⊎_elim (λ q. E.rises x e f q h t) (λ u. absurd (u e h)) (was-at x p);
   same_command = E.same_command;
-  past = λ a z h here. at-client w.clients n c d (λ k y. a.id.client ≡ k → IsPast y a.id) Q.here (λ same. still-past a.id (E.past a c h (subst (λ k. slice_get w.clients k ≡ Some c) (sym same) Q.here)))
+  past = λ a z h here. at-set w.clients n c d (λ k y. a.id.client ≡ k → IsPast y a.id) Q.here (λ same. still-past a.id (E.past a c h (subst (λ k. slice_get w.clients k ≡ Some c) (sym same) Q.here)))
       (λ k y off at same. E.past a y h (subst (λ j. slice_get w.clients j ≡ Some y) (sym same) at)) a.id.client z here refl;
   shown = E.shown;
   distinct = E.distinct;
   risen = E.risen;
 }
   where
-    some-sends : (o : Option Post) (p : Post) → o ≡ Some p → SendsSome r top w n (set w.clients n d) o → Sends r top w n (set w.clients n d) p.message
+    some-sends : (o : Option Post) (p : Post) → o ≡ Some p → SendsSome r top w n (set w.clients n d) o → Sends r top w n (set w.clients n d) p
     some-sends o p e s = subst (λ q. SendsSome r top w n (set w.clients n d) q) e s
 
-    split : (l : Letter) → Contains (w.messages ++ letters_of (client n) (listed post)) l → Contains w.messages l ⊎ ((p : Post) × (letter_of (client n) p ≡ l) × Sends r top w n (set w.clients n d) p.message)
+    split : (l : Letter) → Contains (w.messages ++ letters_of (client n) (listed post)) l → Contains w.messages l ⊎ ((p : Post) × (letter_of (client n) p ≡ l) × Sends r top w n (set w.clients n d) p)
     split l h = ⊎_elim (λ o. inl o) (λ k. let s = sent-one n post l k in inr (s.0, s.2, some-sends post s.0 s.1 S)) (Contains-append_cases w.messages (letters_of (client n) (listed post)) l h)
 
     stays-at : (x : AttemptId) → IsAt r w.clients x → IsAt r (set w.clients n d) x
-    stays-at x p = by (same-client x.client n)
+    stays-at x p = by (same-number x.client n)
       where
         by : (x.client ≡ n) ⊎ ((x.client ≡ n) → ⊥) → IsAt r (set w.clients n d) x
         by (inl same) =
@@ -172,7 +177,7 @@ quiet-keeps r top w n c d post E Q S = record {
         by (inr off) = at-other r w.clients n d x off p
 
     was-at : (x : AttemptId) → IsAt r (set w.clients n d) x → IsAt r w.clients x ⊎ IsUnissued w x
-    was-at x p = by (same-client x.client n)
+    was-at x p = by (same-number x.client n)
       where
         by : (x.client ≡ n) ⊎ ((x.client ≡ n) → ⊥) → IsAt r w.clients x ⊎ IsUnissued w x
         by (inr off) = inl (at-other-before r w.clients n d x off p)
@@ -210,7 +215,7 @@ quiet-keeps r top w n c d post E Q S = record {
 -- the client is then at the next attempt of its command, of which no epoch is known, or at the next command
 pub data IsNext (c : ClientState) (a : Present) (d : ClientState) : Type 0 where
   ByCommand : d.present ≡ None → d.command ≡ c.command + 1 → IsNext c a d
-  ByAttempt : (b : Present) → d.present ≡ Some b → d.command ≡ c.command → b.attempt ≡ a.attempt + 1 → b.epoch ≡ None → IsNext c a d
+  ByAttempt : (b : Present) → d.present ≡ Some b → d.command ≡ c.command → b.attempt ≡ a.attempt + 1 → b.epoch ≡ None → ((ops : List Op) → AsksFirst ops b) → IsNext c a d
 
 -- a client's attempt ends with a line, while no request of it is in flight
 pub record IsEnding (r : Rules) (w : World) (n : ℕ) (c d : ClientState) (a : Present) (t : Attempt) : Type 0 where
@@ -232,28 +237,35 @@ after_ending w n t d = record w { clients = set w.clients n d; lines = w.lines +
 
 pub ending-keeps : (r : Rules) (top : ℕ) (w : World) (n : ℕ) (c d : ClientState) (a : Present) (t : Attempt) → Epochs r top w → IsEnding r w n c d a t → Epochs r top (after_ending w n (line_of r n c a t) d)
 ending-keeps r top w n c d a t E Q = record {
+  few = E.few;
   one = E.one;
   apart = E.apart;
   above = E.above;
+  issued_by = E.issued_by;
   issuer = E.issuer;
   leased = E.leased;
   ticks = E.ticks;
-  line = λ x e h. ⊎_elim (λ p. line-of x e h p (same-client x.client n)) (λ k. inr (k.0, more k.0 k.1, k.2, k.3)) (E.line x e h);
+  line = λ x e h. ⊎_elim (λ p. line-of x e h p (same-number x.client n)) (λ k. inr (k.0, more k.0 k.1, k.2, k.3)) (E.line x e h);
   fresh = λ l x k h q. let f = E.fresh l x k h q in
       let off : (x.client ≡ n) → ⊥ = Q.silent l x k h q in
       (at-other r w.clients n d x off f.0, f.1, f.2, λ e u. f.3 e (told-other x.client e off u));
   asker = E.asker;
+  asked = E.asked;
   lacking = E.lacking;
+  dated = E.dated;
   borne = E.borne;
+  entered = E.entered;
+  parked = E.parked;
   plain = E.plain;
-  known = λ m z b e here. at-client w.clients n c d (λ k y. y.present ≡ Some b → b.epoch ≡ Some e → IsIssued w (attempt_id (client_plan r k) y b) e) Q.here (λ at is. absurd (unknown-here b e at is)) (λ k y off at. E.known k y b e at) m z here;
-  tracked = λ m z b e here. at-client w.clients n c d (λ k y. y.present ≡ Some b → b.epoch ≡ Some e → e.0 ≤ y.tracker.0) Q.here (λ at is. absurd (unknown-here b e at is)) (λ k y off at. E.tracked k y b e at) m z here;
-  unknown = λ m z b here. at-client w.clients n c d (λ k y. y.present ≡ Some b → b.waits ≡ false → b.epoch ≡ None → IsUnissued w (attempt_id (client_plan r k) y b)) Q.here (λ at idle is. next-unissued b at) (λ k y off at. E.unknown k y b at) m z here;
-  trackers = at-client w.clients n c d (λ k y. (top ≤ y.tracker.0) × ((e : ℕ) → Told r.script (w.lines ++ line.Try now ∷ []) k e → e ≤ y.tracker.0)) Q.here tracker-here
+  known = λ m z b e here. at-set w.clients n c d (λ k y. y.present ≡ Some b → b.epoch ≡ Some e → IsIssued w (attempt_id (client_plan r k) y b) e) Q.here (λ at is. absurd (unknown-here b e at is)) (λ k y off at. E.known k y b e at) m z here;
+  tracked = λ m z b e here. at-set w.clients n c d (λ k y. y.present ≡ Some b → b.epoch ≡ Some e → e.0 ≤ y.tracker.0) Q.here (λ at is. absurd (unknown-here b e at is)) (λ k y off at. E.tracked k y b e at) m z here;
+  unknown = λ m z b here. at-set w.clients n c d (λ k y. y.present ≡ Some b → b.waits ≡ false → b.epoch ≡ None → IsUnissued w (attempt_id (client_plan r k) y b)) Q.here (λ at idle is. next-unissued b at) (λ k y off at. E.unknown k y b at) m z here;
+  unasked = λ m z b here. at-set w.clients n c d (λ k y. y.present ≡ Some b → b.epoch ≡ None → AsksFirst (attempt_ops r.script (attempt_id (client_plan r k) y b)) b) Q.here (λ at is. next-unasked Q.next b (attempt_ops r.script (attempt_id (client_plan r n) d b)) at) (λ k y off at. E.unasked k y b at) m z here;
+  trackers = at-set w.clients n c d (λ k y. (top ≤ y.tracker.0) × ((e : ℕ) → Told r.script (w.lines ++ line.Try now ∷ []) k e → e ≤ y.tracker.0)) Q.here tracker-here
       (λ k y off at. let f = E.trackers k y at in (f.0, λ e u. f.1 e (told-other k e off u)));
-  rises = λ x e f p h u. rising x e f p h u (same-client x.client n);
+  rises = λ x e f p h u. rising x e f p h u (same-number x.client n);
   same_command = E.same_command;
-  past = λ b z h here. at-client w.clients n c d (λ k y. b.id.client ≡ k → IsPast y b.id) Q.here (λ same. past-here b same (cases b h))
+  past = λ b z h here. at-set w.clients n c d (λ k y. b.id.client ≡ k → IsPast y b.id) Q.here (λ same. past-here b same (cases b h))
       (λ k y off at same. ⊎_elim (λ o. E.past b y o (subst (λ j. slice_get w.clients j ≡ Some y) (sym same) at)) (λ is. absurd (off (sym same ∙ ap (λ q. q.id.client) (sym is)))) (cases b h)) b.id.client z here refl;
   shown = λ b e h is. ⊎_elim (λ o. E.shown b e o is) (λ same. subst (λ q. IsIssued w q.id e) same (Q.shown e (ap (λ q. q.epoch) same ∙ is))) (cases b h);
   distinct = issued-push r.script top w.lines now E.distinct (λ e is. (E.above now.id e (Q.shown e is), λ b f h known same. own-only e is b f h known same));
@@ -302,7 +314,7 @@ ending-keeps r top w n c d a t E Q = record {
 
     unknown-next : IsNext c a d → (b : Present) (e : Epoch) → d.present ≡ Some b → b.epoch ≡ Some e → ⊥
     unknown-next (ByCommand none command) b e at is = cc
-    unknown-next (ByAttempt b' some command number none) b e at is =
+    unknown-next (ByAttempt b' some command number none first) b e at is =
         let same : b' ≡ b = one-value d.present b' b some at in
         let off : b.epoch ≡ None = subst (λ z. z.epoch ≡ None) same none in
         cc
@@ -312,10 +324,14 @@ ending-keeps r top w n c d a t E Q = record {
 
     unissued-next : IsNext c a d → (b : Present) → d.present ≡ Some b → IsUnissued w (attempt_id (client_plan r n) d b)
     unissued-next (ByCommand none command) b at e h = cc
-    unissued-next (ByAttempt b' some command number none) b at e h =
+    unissued-next (ByAttempt b' some command number none first) b at e h =
         let same : b' ≡ b = one-value d.present b' b some at in
         let up : b.attempt ≡ a.attempt + 1 = subst (λ z. z.attempt ≡ a.attempt + 1) same number in
         later-unissued r top w (attempt_id (client_plan r n) d b) now.id e E present h refl command (omega (arith, up))
+
+    next-unasked : IsNext c a d → (b : Present) (ops : List Op) → d.present ≡ Some b → AsksFirst ops b
+    next-unasked (ByCommand none command) b ops at = let no : ⊥ = cc in absurd no
+    next-unasked (ByAttempt b' some command number none first) b ops at = subst (AsksFirst ops) (one-value d.present b' b some at) (first ops)
 
     next-unissued : (b : Present) → d.present ≡ Some b → IsUnissued w (attempt_id (client_plan r n) d b)
     next-unissued b at = unissued-next Q.next b at
@@ -335,15 +351,15 @@ ending-keeps r top w n c d a t E Q = record {
     past-next : IsNext c a d → (x : AttemptId) → IsPast c x → IsPast d x
     past-next (ByCommand none command) x (inl k) = inl (omega (arith, k, command))
     past-next (ByCommand none command) x (inr k) = let same : x.command ≡ c.command = k.2 in inl (omega (arith, same, command))
-    past-next (ByAttempt b some command number none) x (inl k) = inl (omega (arith, k, command))
-    past-next (ByAttempt b some command number none) x (inr k) =
+    past-next (ByAttempt b some command number none first) x (inl k) = inl (omega (arith, k, command))
+    past-next (ByAttempt b some command number none first) x (inr k) =
         let one : k.0.attempt ≡ a.attempt = ap (λ z. z.attempt) (one-value c.present k.0 a k.1 Q.at) in
         let low : x.attempt < k.0.attempt = k.3 in
         inr (b, some, k.2 ∙ sym command, omega (arith, one, low, number))
 
     past-now : IsNext c a d → IsPast d now.id
     past-now (ByCommand none command) = inl (omega (arith, command))
-    past-now (ByAttempt b some command number none) = inr (b, some, sym command, omega (arith, number))
+    past-now (ByAttempt b some command number none first) = inr (b, some, sym command, omega (arith, number))
 
     past-here : (b : Attempt) → b.id.client ≡ n → Contains (tries w.lines) b ⊎ (now ≡ b) → IsPast d b.id
     past-here b same (inl o) = past-next Q.next b.id (E.past b c o (subst (λ k. slice_get w.clients k ≡ Some c) (sym same) Q.here))

@@ -1,32 +1,42 @@
 -- Epochs: each attempt has at most one, no two have the same, and those of a client rise.
-use Rattle.std.specs.Prelude.{ℕ, ◌≡◌, ◌≤◌, ◌<◌, ◌/◌, ◌%◌, ◌⊎◌, Bool, true, false, not, is_some, List, length, Contains, slice_get, Some, None}
+use Rattle.std.specs.Prelude.{ℕ, ◌≡◌, ◌≤◌, ◌<◌, ◌/◌, ◌%◌, ◌⊎◌, Bool, true, false, not, is_some, List, [], ◌∷◌, drop, length, Contains, slice_get, Option, Some, None}
+use Rattle.daos_base.specs.declared.entry.Entry.{Entry}
 use Rattle.daos_base.specs.declared.epoch.Epoch.{Epoch}
 use Rattle.daos_base.specs.declared.id.AttemptId.{AttemptId}
+use Rattle.daos_base.specs.declared.operation.MinorWrite.{MinorWrite}
+use Rattle.daos_base.specs.declared.operation.Op.{Op}
+use Rattle.daos_base.specs.declared.operation.Read.{Read}
+use Rattle.daos_base.specs.declared.path.Path.{Path}
 use Rattle.daos_base.specs.declared.report.Attempt.{Attempt}
 use Rattle.daos_base.specs.declared.report.Line.{Line}
 use Rattle.daos_base.specs.declared.script.Command.{Command}
 use Rattle.daos_base.specs.declared.script.Command.TheVariants.{Run, Snap, Aggregate, Tell, Skip}
 use Rattle.daos_base.specs.declared.script.Script.{Script}
+use Rattle.daos_base.specs.Operations.{read_path}
+use Rattle.daos_base.specs.Placement.{writes_leader}
 use Rattle.daos_messages.specs.declared.message.Message.{Message}
 use Rattle.daos_messages.specs.declared.message.Message.TheVariants as message
+use Rattle.daos_messages.specs.declared.message.Reply.TheVariants as reply
+use Rattle.daos_model.specs.Accesses.{minor_writes}
 use Rattle.daos_model.specs.Attempts.{has_own_epoch, is_unsure, tries}
 use Rattle.daos_model.specs.Order.{AllRise, AreIssued, told_by}
+use Rattle.daos_model.specs.Transactions.{attempt_ops}
+use Rattle.dtx_base.specs.declared.member.Parked.{Parked}
 use Rattle.world_base.specs.declared.client.ClientState.{ClientState}
 use Rattle.world_base.specs.declared.client.Present.{Present}
+use Rattle.world_base.specs.declared.client.Stage.{Stage}
+use Rattle.world_base.specs.declared.client.Stage.TheVariants as stage
 use Rattle.world_base.specs.declared.letter.Letter.{Letter}
 use Rattle.world_base.specs.declared.target.TargetState.{TargetState}
 use Rattle.world_base.specs.declared.target.Life.TheVariants.{Running}
 use Rattle.world_base.specs.declared.world.World.{World}
-use Rattle.world_base.specs.ClientTurns.{attempt_id}
+use Rattle.world_base.specs.ClientTurns.{act_read, attempt_id, condition_read, group_asked, member_asked}
+use Rattle.world_clients.specs.Standing.{HasTold}
 use Rattle.world_events.specs.Events.{Rules, client_plan, commands_or_none}
-use Rattle.world_events.specs.Letters.{client}
+use Rattle.world_events.specs.Letters.{client, target}
+use Rattle.world_turns.specs.Commits.{or_else}
 
 -- ---- the runs that this speaks of
-
--- the script is for one target, and the world has target 0 alone
-pub record OneTarget (r : Rules) (w : World) : Type 0 where
-  pub script : r.script.targets ≡ 1
-  pub alone : length w.targets ≡ 1
 
 -- a transaction that reads at no snapshot, a tracker that is told, or turns that are skipped
 abbrev pub is_unsnapped : Command → Bool
@@ -39,6 +49,45 @@ is_unsnapped (Skip turns) = true
 -- no client makes a snapshot, reads at one, or aggregates
 abbrev pub Unsnapped : Rules → Type 0
 Unsnapped r = (n k : ℕ) (d : Command) → slice_get (commands_or_none (slice_get r.script.clients n)) k ≡ Some d → is_unsnapped d ≡ true
+
+-- each client is at the command of its number, as its attempts so far told
+abbrev pub ClientsStand : Rules → World → Type 0
+ClientsStand r w = (n : ℕ) (c : ClientState) → slice_get w.clients n ≡ Some c → (attempts : List Attempt) × HasTold (client_plan r n) c attempts
+
+-- ---- the target that issues an attempt's epoch
+
+-- what some operations ask first: a condition or a read
+abbrev pub first_question : List Op → Option Read
+first_question [] = None
+first_question (op ∷ ops) = or_else (condition_read op op.cond) (or_else (act_read op.act) (first_question ops))
+
+-- the member of its first group that a command of this number asks about a path
+abbrev pub asked_first : ℕ → ℕ → Path → ℕ
+asked_first command targets p = member_asked p.obj command targets (group_asked p.obj p.dkey targets 0)
+
+-- the target that a command of this number asks first: about its first question, or, where it has none, to commit its writes
+abbrev pub first_target : ℕ → ℕ → List MinorWrite → Option Read → ℕ
+first_target command targets ws None = writes_leader ws targets
+first_target command targets ws (Some r) = asked_first command targets (read_path r)
+
+-- the target that the command of an attempt asks first: it issues the epochs of all attempts of that command
+unfoldable pub issuer_of : Script → AttemptId → ℕ
+issuer_of s x = first_target x.command s.targets (minor_writes 0 (attempt_ops s x)) (first_question (attempt_ops s x))
+
+abbrev pub behind_condition : List Op → Option Read
+behind_condition [] = None
+behind_condition (op ∷ ops) = or_else (act_read op.act) (first_question ops)
+
+-- what is left to be asked first, at this stage of the first of some operations
+abbrev pub left_to_ask : Stage → List Op → Option Read
+left_to_ask stage.Skip ops = first_question ops
+left_to_ask stage.Cond ops = first_question ops
+left_to_ask stage.Act ops = behind_condition ops
+
+-- what an attempt asks now is what its command asks first, of the first group
+pub record AsksFirst (ops : List Op) (a : Present) : Type 0 where
+  pub group : a.group ≡ 0
+  pub next : left_to_ask a.stage (drop a.op ops) ≡ first_question ops
 
 -- ---- attempts and their epochs
 
@@ -97,7 +146,20 @@ BearsEpoch (message.Fetch x op group (Some own) first tracker r false) y e = (x 
 BearsEpoch (message.Fetched x op group (Some own) b) y e = (x ≡ y) × (own ≡ e)
 BearsEpoch (message.Commit x (Some own) first tracker ws) y e = (x ≡ y) × (own ≡ e)
 BearsEpoch (message.Ended x (Some own) how) y e = (x ≡ y) × (own ≡ e)
+BearsEpoch (message.Prepare k first ws inc) y e = (k.attempt ≡ y) × (k.epoch ≡ e)
 BearsEpoch m y e = ⊥
+
+-- a message bears the epoch that was issued to its attempt
+pub record BearsIssued (issued : List (AttemptId × Epoch)) (m : Message) : Type 0 where
+  pub x : AttemptId
+  pub e : Epoch
+  pub bears : BearsEpoch m x e
+  pub known : Contains issued (x, e)
+
+-- a read is answered at no epoch
+abbrev pub answers_undated : Message → Bool
+answers_undated (message.Fetched x op group None (reply.Answer b)) = true
+answers_undated m = false
 
 -- a read at a snapshot
 abbrev pub reads_snapshot : Message → Bool
@@ -108,10 +170,14 @@ reads_snapshot m = false
 
 -- of a run whose opening's epochs are all at or below `top`; snapshots aren't read in it
 pub record Epochs (r : Rules) (top : ℕ) (w : World) : Type 0 where
+  -- the number of a target fits into an epoch
+  pub few : length w.targets ≤ 256
   pub one : (x : AttemptId) (e f : Epoch) → IsIssued w x e → IsIssued w x f → e ≡ f
   pub apart : (x y : AttemptId) (e : Epoch) → IsIssued w x e → IsIssued w y e → x ≡ y
   pub above : (x : AttemptId) (e : Epoch) → IsIssued w x e → top < e.0
-  -- the target that issued an epoch is there; its lease covers it, and, while it runs, so do its ticks
+  -- the target that issued an epoch is the one that the attempt's command asks first
+  pub issued_by : (x : AttemptId) (e : Epoch) → IsIssued w x e → e.0 % 256 ≡ issuer_of r.script x
+  -- it is there; its lease covers the epoch, and, while it runs, so do its ticks
   pub issuer : (x : AttemptId) (e : Epoch) → IsIssued w x e → (s : TargetState) × (slice_get w.targets (e.0 % 256) ≡ Some s)
   pub leased : (x : AttemptId) (e : Epoch) (s : TargetState) → IsIssued w x e → slice_get w.targets (e.0 % 256) ≡ Some s → e.0 / 256 ≤ s.durable.lease
   pub ticks : (x : AttemptId) (e : Epoch) (s : TargetState) → IsIssued w x e → slice_get w.targets (e.0 % 256) ≡ Some s → s.life ≡ Running → e.0 / 256 ≤ s.memory.ticks
@@ -120,17 +186,23 @@ pub record Epochs (r : Rules) (top : ℕ) (w : World) : Type 0 where
   -- an attempt for which an epoch is asked has none yet, and the tracker that goes with it covers what its client was told
   pub fresh : (l : Letter) (x : AttemptId) (k : Epoch) → Contains w.messages l → AsksEpoch l.message x k
       → IsPresent r w x × IsUnissued w x × (top ≤ k.0) × ((e : ℕ) → IsTold r w x.client e → e ≤ k.0)
-  -- its client asks
+  -- its client asks, and asks the target that its command asks first
   pub asker : (l : Letter) (x : AttemptId) (k : Epoch) → Contains w.messages l → AsksEpoch l.message x k → l.from ≡ client x.client
-  -- an answer without an epoch goes to the client of an attempt that has none
+  pub asked : (l : Letter) (x : AttemptId) (k : Epoch) → Contains w.messages l → AsksEpoch l.message x k → l.to ≡ target (issuer_of r.script x)
+  -- an answer without an epoch goes to the client of an attempt that has none, and ends it
   pub lacking : (l : Letter) (x : AttemptId) → Contains w.messages l → LacksEpoch l.message x → (l.to ≡ client x.client) × IsUnissued w x
-  -- epochs that go about are those that were issued
+  pub dated : (l : Letter) → Contains w.messages l → answers_undated l.message ≡ false
+  -- epochs that go about, that entries have, or that go with a parked Fetch, are those that were issued
   pub borne : (l : Letter) (x : AttemptId) (e : Epoch) → Contains w.messages l → BearsEpoch l.message x e → IsIssued w x e
+  pub entered : (t : ℕ) (s : TargetState) (k : Entry) → slice_get w.targets t ≡ Some s → Contains s.durable.entries k → IsIssued w k.attempt k.epoch
+  pub parked : (t : ℕ) (s : TargetState) (p : Parked) → slice_get w.targets t ≡ Some s → Contains s.memory.member.parked p → BearsIssued w.issued p.ask
   pub plain : (l : Letter) → Contains w.messages l → reads_snapshot l.message ≡ false
-  -- a client's tracker covers the epoch that it knows of its attempt; one that waits for nothing and knows none has none
+  -- a client's tracker covers the epoch that it knows of its attempt; one of which it knows none, while it waits for nothing, has
+  -- none; and what such an attempt asks is the first that its command asks
   pub known : (n : ℕ) (c : ClientState) (a : Present) (e : Epoch) → slice_get w.clients n ≡ Some c → c.present ≡ Some a → a.epoch ≡ Some e → IsIssued w (attempt_id (client_plan r n) c a) e
   pub tracked : (n : ℕ) (c : ClientState) (a : Present) (e : Epoch) → slice_get w.clients n ≡ Some c → c.present ≡ Some a → a.epoch ≡ Some e → e.0 ≤ c.tracker.0
   pub unknown : (n : ℕ) (c : ClientState) (a : Present) → slice_get w.clients n ≡ Some c → c.present ≡ Some a → a.waits ≡ false → a.epoch ≡ None → IsUnissued w (attempt_id (client_plan r n) c a)
+  pub unasked : (n : ℕ) (c : ClientState) (a : Present) → slice_get w.clients n ≡ Some c → c.present ≡ Some a → a.epoch ≡ None → AsksFirst (attempt_ops r.script (attempt_id (client_plan r n) c a)) a
   pub trackers : (n : ℕ) (c : ClientState) → slice_get w.clients n ≡ Some c → (top ≤ c.tracker.0) × ((e : ℕ) → IsTold r w n e → e ≤ c.tracker.0)
   -- the epoch of a present attempt is above all that its client was told before
   pub rises : (x : AttemptId) (e : Epoch) (f : ℕ) → IsPresent r w x → IsIssued w x e → IsTold r w x.client f → f < e.0

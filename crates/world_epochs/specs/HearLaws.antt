@@ -17,6 +17,7 @@ use Rattle.daos_model.specs.Accesses.{op_path}
 use Rattle.daos_model.specs.Attempts.{is_lost, is_unknown}
 use Rattle.daos_model.specs.Conditions.{holds_where}
 use Rattle.daos_model.specs.Order.{told_by}
+use Rattle.daos_model.specs.Transactions.{attempt_ops, ops_or_none}
 use Rattle.world_base.specs.declared.client.ClientState.{ClientState}
 use Rattle.world_base.specs.declared.client.Present.{Present}
 use Rattle.world_base.specs.declared.client.Stage.{Stage}
@@ -24,10 +25,10 @@ use Rattle.world_base.specs.declared.client.Stage.TheVariants as stage
 use Rattle.world_base.specs.declared.world.World.{World}
 use Rattle.world_base.specs.ClientTurns.{Move, asks_again, at_present, attempt_id, command_at, condition_told, ends, goes, greatest, group_count, group_told, is_yes, joined, knows, knows_epoch, listed, next_op, next_stage, op_of, op_told, replied, told_at, told_by_reply}
 use Rattle.world_events.specs.Events.{Rules, client_plan, with_client, with_epoch}
-use Rattle.world_events.specs.Letters.{client, letters_of, talk_of}
+use Rattle.world_events.specs.Letters.{client, letters_of, talk_of, target}
 use Rattle.world_events.specs.StepLaws.{set-here, set-twice}
 use Rattle.world_epochs.specs.ClientLaws.{IsQuiet, quiet-keeps, same-id}
-use Rattle.world_epochs.specs.Epochs.{Epochs, IsIssued, IsUnissued, Unsnapped}
+use Rattle.world_epochs.specs.Epochs.{AsksFirst, Epochs, IsIssued, IsUnissued, Unsnapped}
 use Rattle.world_epochs.specs.Lists.{contains-cons, contains-none}
 use Rattle.world_epochs.specs.MoveLaws.{AtWork, Keeps, ends-keeps, goes-keeps, quiet-goes, quiet-same, sends-nothing, sure-ends, unsaid-keeps}
 
@@ -50,38 +51,40 @@ greatest-has t (f ∷ es) e h = by (greatest-up (max t f) es) (λ k. greatest-ha
 -- ---- what was asked is answered
 
 module _ (r : Rules) (top : ℕ) (w : World) (n : ℕ) where
-  condition-keeps : (c : ClientState) (a : Present) (cond : Cond) (there : Bool) → Unsnapped r → AtWork r top w n c a → a.waits ≡ false → Keeps r top w n (condition_told (client_plan r n) c a cond there)
-  condition-keeps c a cond there U K idle = by (holds_where there cond)
-    where
-      told : Present
-      told = record a { conds = a.conds ++ (a.op, there) ∷ [] }
+  -- the client knows the epoch of an attempt of which a read was answered
+  module _ (c : ClientState) (U : Unsnapped r) where
+    condition-keeps : (a : Present) (cond : Cond) (there : Bool) → AtWork r top w n c a → a.waits ≡ false → (a.epoch ≡ None → ⊥) → Keeps r top w n (condition_told (client_plan r n) c a cond there)
+    condition-keeps a cond there K idle dated = by (holds_where there cond)
+      where
+        told : Present
+        told = record a { conds = a.conds ++ (a.op, there) ∷ [] }
 
-      by : (b : Bool) → Keeps r top w n (if b then goes (at_present (next_stage stage.Cond told) c) else ends (client_plan r n) c told (outcome.CondFailed a.op))
-      by true = goes-keeps r top w n c a (next_stage stage.Cond told) K refl refl (λ e. idle)
-      by false = sure-ends r top w n c a (a.conds ++ (a.op, there) ∷ []) (outcome.CondFailed a.op) U K idle (λ e h. absurd (contains-none e h))
+        by : (b : Bool) → Keeps r top w n (if b then goes (at_present (next_stage stage.Cond told) c) else ends (client_plan r n) c told (outcome.CondFailed a.op))
+        by true = goes-keeps r top w n c a (next_stage stage.Cond told) K refl refl (λ e. idle) (λ none f. absurd (dated none))
+        by false = sure-ends r top w n c a (a.conds ++ (a.op, there) ∷ []) (outcome.CondFailed a.op) U K idle (λ e h. absurd (contains-none e h))
 
-  told-at-keeps : (c : ClientState) (a : Present) (cond : Cond) (s : Stage) (b : Answer) → Unsnapped r → AtWork r top w n c a → a.waits ≡ false → Keeps r top w n (told_at (client_plan r n) c a cond s b)
-  told-at-keeps c a cond stage.Skip b U K idle = goes-keeps r top w n c a a K refl refl (λ e. e)
-  told-at-keeps c a cond stage.Cond b U K idle = condition-keeps c a cond (is_yes b) U K idle
-  told-at-keeps c a cond stage.Act b U K idle = goes-keeps r top w n c a (next_op (record a { gots = a.gots ++ (a.op, b) ∷ [] })) K refl refl (λ e. e)
+    told-at-keeps : (a : Present) (cond : Cond) (s : Stage) (b : Answer) → AtWork r top w n c a → a.waits ≡ false → (a.epoch ≡ None → ⊥) → Keeps r top w n (told_at (client_plan r n) c a cond s b)
+    told-at-keeps a cond stage.Skip b K idle dated = goes-keeps r top w n c a a K refl refl (λ e. e) (λ none f. f)
+    told-at-keeps a cond stage.Cond b K idle dated = condition-keeps a cond (is_yes b) K idle dated
+    told-at-keeps a cond stage.Act b K idle dated = goes-keeps r top w n c a (next_op (record a { gots = a.gots ++ (a.op, b) ∷ [] })) K refl refl (λ e. e) (λ none f. absurd (dated none))
 
-  group-keeps : (c : ClientState) (a : Present) (op : Op) (b : Answer) → Unsnapped r → AtWork r top w n c a → a.waits ≡ false → Keeps r top w n (group_told (client_plan r n) c a op b)
-  group-keeps c a op b U K idle = by (nat_lt (a.group + 1) (group_count (op_path op).obj (op_path op).dkey r.script.targets))
-    where
-      more : Present
-      more = record a { group = a.group + 1; found = Some (joined a.found b) }
+    group-keeps : (a : Present) (op : Op) (b : Answer) → AtWork r top w n c a → a.waits ≡ false → (a.epoch ≡ None → ⊥) → Keeps r top w n (group_told (client_plan r n) c a op b)
+    group-keeps a op b K idle dated = by (nat_lt (a.group + 1) (group_count (op_path op).obj (op_path op).dkey r.script.targets))
+      where
+        more : Present
+        more = record a { group = a.group + 1; found = Some (joined a.found b) }
 
-      by : (l : Bool) → Keeps r top w n (if l then goes (at_present more c) else told_at (client_plan r n) c a op.cond a.stage (joined a.found b))
-      by true = goes-keeps r top w n c a more K refl refl (λ e. e)
-      by false = told-at-keeps c a op.cond a.stage (joined a.found b) U K idle
+        by : (l : Bool) → Keeps r top w n (if l then goes (at_present more c) else told_at (client_plan r n) c a op.cond a.stage (joined a.found b))
+        by true = goes-keeps r top w n c a more K refl refl (λ e. e) (λ none f. absurd (dated none))
+        by false = told-at-keeps a op.cond a.stage (joined a.found b) K idle dated
 
-  op-told-keeps : (c : ClientState) (a : Present) (b : Answer) (o : Option Op) → Unsnapped r → AtWork r top w n c a → a.waits ≡ false → Keeps r top w n (op_told (client_plan r n) c a b o)
-  op-told-keeps c a b None U K idle = goes-keeps r top w n c a a K refl refl (λ e. e)
-  op-told-keeps c a b (Some op) U K idle = group-keeps c a op b U K idle
+    op-told-keeps : (a : Present) (b : Answer) (o : Option Op) → AtWork r top w n c a → a.waits ≡ false → (a.epoch ≡ None → ⊥) → Keeps r top w n (op_told (client_plan r n) c a b o)
+    op-told-keeps a b None K idle dated = goes-keeps r top w n c a a K refl refl (λ e. e) (λ none f. f)
+    op-told-keeps a b (Some op) K idle dated = group-keeps a op b K idle dated
 
-  pub replied-keeps : (c : ClientState) (a : Present) (b : Reply) → Unsnapped r → AtWork r top w n c a → a.waits ≡ false → ((e : ℕ) → Contains (told_by_reply b) e → e ≤ c.tracker.0) → Keeps r top w n (replied (client_plan r n) c a b)
-  replied-keeps c a (reply.Answer b) U K idle told = op-told-keeps c a b (op_of (command_at (client_plan r n) c) a.op) U K idle
-  replied-keeps c a (reply.Outcome how) U K idle told = sure-ends r top w n c a a.conds how U K idle told
+    pub replied-keeps : (a : Present) (b : Reply) → AtWork r top w n c a → a.waits ≡ false → ((z : Answer) → b ≡ reply.Answer z → a.epoch ≡ None → ⊥) → ((e : ℕ) → Contains (told_by_reply b) e → e ≤ c.tracker.0) → Keeps r top w n (replied (client_plan r n) c a b)
+    replied-keeps a (reply.Answer b) K idle dated told = op-told-keeps a b (op_of (command_at (client_plan r n) c) a.op) K idle (dated b refl)
+    replied-keeps a (reply.Outcome how) K idle dated told = sure-ends r top w n c a a.conds how U K idle told
 
   -- ---- what a client then knows
 
@@ -89,8 +92,16 @@ module _ (r : Rules) (top : ℕ) (w : World) (n : ℕ) where
   pub quiet-client : (c d : ClientState) → Epochs r top w → IsQuiet r w n c d → Epochs r top (with_client n d w)
   quiet-client c d E Q = subst (λ ls. Epochs r top (record w { clients = set w.clients n d; messages = ls })) (append-nil w.messages) (quiet-keeps r top w n c d None E Q tt)
 
-  pub at-work : (c e : ClientState) (b : Present) → Epochs r top w → IsQuiet r w n c (at_present b e) → talk_of n w.messages ≡ [] → AtWork r top (with_client n (at_present b e) w) n e b
-  at-work c e b E Q silent = record { here = set-here w.clients n c (at_present b e) Q.here; silent = silent; epochs = quiet-client c (at_present b e) E Q }
+  -- the operations of the attempt that a client is at are those of its command
+  abbrev pub IsAtOps : ClientState → Present → Type 0
+  IsAtOps c a = attempt_ops r.script (attempt_id (client_plan r n) c a) ≡ ops_or_none (command_at (client_plan r n) c)
+
+  pub ops-stay : (c e : ClientState) (a b : Present) → e.command ≡ c.command → e.place ≡ c.place → b.attempt ≡ a.attempt → IsAtOps c a → IsAtOps e b
+  ops-stay c e a b command place number ops =
+      ap (attempt_ops r.script) (same-id r n c e a b command number) ∙ ops ∙ ap (λ k. ops_or_none (slice_get (client_plan r n).commands k)) (sym place)
+
+  pub at-work : (c e : ClientState) (b : Present) → Epochs r top w → IsQuiet r w n c (at_present b e) → talk_of n w.messages ≡ [] → IsAtOps e b → AtWork r top (with_client n (at_present b e) w) n e b
+  at-work c e b E Q silent ops = record { here = set-here w.clients n c (at_present b e) Q.here; silent = silent; epochs = quiet-client c (at_present b e) E Q; ops = ops }
 
   -- what it does then, it does at once
   pub twice-keeps : (d : ClientState) (m : Move) → Keeps r top (with_client n d w) n m → Keeps r top w n m
@@ -109,6 +120,8 @@ module _ (r : Rules) (top : ℕ) (w : World) (n : ℕ) where
     known = λ z f at' is. subst (λ x. IsIssued w x f) (sym (own z at')) (known-by a.epoch refl f (ap (λ y. y.epoch) (same_Some (knows o a) z at') ∙ is)).0;
     tracked = λ z f at' is. (known-by a.epoch refl f (ap (λ y. y.epoch) (same_Some (knows o a) z at') ∙ is)).1;
     unknown = λ z at' idle is. subst (λ x. IsUnissued w x) (sym (own z at')) (unknown-by a.epoch refl (ap (λ y. y.epoch) (same_Some (knows o a) z at') ∙ is));
+    unasked = λ z at' is. let f = E.unasked n c a here at (none-by a.epoch (ap (λ y. y.epoch) (same_Some (knows o a) z at') ∙ is)) in
+        subst (λ x. AsksFirst (attempt_ops r.script x) z) (sym (own z at')) (subst (AsksFirst (attempt_ops r.script (attempt_id (client_plan r n) c a))) (same_Some (knows o a) z at') (record { group = f.group; next = f.next }));
   }
     where
       own : (z : Present) → Some (knows o a) ≡ Some z → attempt_id (client_plan r n) (at_present (knows o a) e) z ≡ attempt_id (client_plan r n) c a
@@ -118,6 +131,10 @@ module _ (r : Rules) (top : ℕ) (w : World) (n : ℕ) where
       known-by None has f is = bears f is
       known-by (Some g) has f is = let low : f.0 ≤ c.tracker.0 = E.tracked n c a f here at (has ∙ is) in (E.known n c a f here at (has ∙ is), omega (arith, low, tracker))
 
+      none-by : (k : Option Epoch) → knows_epoch k o ≡ None → k ≡ None
+      none-by None is = refl
+      none-by (Some g) is = let no : ⊥ = cc in absurd no
+
       unknown-by : (k : Option Epoch) → a.epoch ≡ k → knows_epoch k o ≡ None → IsUnissued w (attempt_id (client_plan r n) c a)
       unknown-by None has is = lacks is
       unknown-by (Some g) has is = let no : ⊥ = cc in absurd no
@@ -125,18 +142,18 @@ module _ (r : Rules) (top : ℕ) (w : World) (n : ℕ) where
   -- ---- a request that is lost
 
   -- its attempt is over, and it is open what became of it
-  pub lost-keeps : (c e : ClientState) (a : Present) (how : Outcome) → Unsnapped r → Epochs r top w → slice_get w.clients n ≡ Some c → c.present ≡ Some a → c.tracker.0 ≤ e.tracker.0 → e.command ≡ c.command → e.present ≡ c.present
-      → talk_of n w.messages ≡ [] → ((x : AttemptId) → x ≡ attempt_id (client_plan r n) e a → is_unknown how || is_lost x how ≡ true) → ((f : ℕ) → Contains (told_by how) f → ⊥) → Keeps r top w n (ends (client_plan r n) e (record a { waits = false }) how)
-  lost-keeps c e a how U E here at tracker command present silent told' nothing =
+  pub lost-keeps : (c e : ClientState) (a : Present) (how : Outcome) → Unsnapped r → Epochs r top w → slice_get w.clients n ≡ Some c → c.present ≡ Some a → c.tracker.0 ≤ e.tracker.0 → e.command ≡ c.command → e.place ≡ c.place → e.present ≡ c.present
+      → IsAtOps c a → talk_of n w.messages ≡ [] → ((x : AttemptId) → x ≡ attempt_id (client_plan r n) e a → is_unknown how || is_lost x how ≡ true) → ((f : ℕ) → Contains (told_by how) f → ⊥) → Keeps r top w n (ends (client_plan r n) e (record a { waits = false }) how)
+  lost-keeps c e a how U E here at tracker command place present ops silent told' nothing =
       twice-keeps (at_present a e) (ends (client_plan r n) e (record a { waits = false }) how)
-      (ends-keeps r top (with_client n (at_present a e) w) n e a a.conds false how U (at-work c e a E (quiet-same r top w n c (at_present a e) E here tracker command (sym at)) silent)
+      (ends-keeps r top (with_client n (at_present a e) w) n e a a.conds false how U (at-work c e a E (quiet-same r top w n c (at_present a e) E here tracker command (sym at)) silent (ops-stay c e a a command place refl ops))
       (λ none known. let unsure : is_unknown how || is_lost (attempt_id (client_plan r n) e a) how ≡ true = told' (attempt_id (client_plan r n) e a) refl in let no : ⊥ = cc in absurd no) (λ f h. absurd (nothing f h)))
 
   -- it asks what became of its attempt
-  pub again-keeps : (c e : ClientState) (a : Present) (target : ℕ) → Epochs r top w → slice_get w.clients n ≡ Some c → c.present ≡ Some a → c.tracker.0 ≤ e.tracker.0 → e.command ≡ c.command
-      → a.waits ≡ true → Keeps r top w n (asks_again (client_plan r n) e (record a { waits = false }) target)
-  again-keeps c e a target E here at tracker command waits' =
-      unsaid-keeps r top w n c (asks_again (client_plan r n) e (record a { waits = false }) target) refl E
+  pub again-keeps : (c e : ClientState) (a : Present) (t : ℕ) → Epochs r top w → slice_get w.clients n ≡ Some c → c.present ≡ Some a → c.tracker.0 ≤ e.tracker.0 → e.command ≡ c.command
+      → a.waits ≡ true → Keeps r top w n (asks_again (client_plan r n) e (record a { waits = false }) t)
+  again-keeps c e a t E here at tracker command waits' =
+      unsaid-keeps r top w n c (asks_again (client_plan r n) e (record a { waits = false }) t) refl E
       (subst (λ z. IsQuiet r w n z (at_present (record a { waits = true }) e)) (ap (λ o. record c { present = o }) (sym at))
-      (quiet-goes r top w n c (at_present (record a { waits = true }) e) a (record a { waits = true }) E (here ∙ ap (λ z. Some z) (ap (λ o. record c { present = o }) at)) tracker command refl refl refl (λ off. let no : ⊥ = cc in absurd no)))
-      (sends-nothing r top w n (set w.clients n (at_present (record a { waits = true }) e)) (message.Ask (attempt_id (client_plan r n) e a)) (λ x k h. h) (λ x h. h) (λ x f h. h) refl)
+      (quiet-goes r top w n c (at_present (record a { waits = true }) e) a (record a { waits = true }) E (here ∙ ap (λ z. Some z) (ap (λ o. record c { present = o }) at)) tracker command refl refl refl (λ off. let no : ⊥ = cc in absurd no) (λ none f. record { group = f.group; next = f.next })))
+      (sends-nothing r top w n (set w.clients n (at_present (record a { waits = true }) e)) (record { to = target t; message = message.Ask (attempt_id (client_plan r n) e a) }) (λ x k h. h) (λ x h. h) (λ x f h. h) refl refl)

@@ -3,6 +3,7 @@ use Rattle.std.specs.Prelude.{ℕ, ◌≡◌, ◌≤◌, ◌++◌, ◌&&◌, ◌
 use Rattle.std.proofs.Common.{sym, ap, subst, arith}
 use Rattle.std.proofs.lemmas.List.Elements.{Contains-append_left, Contains-append_right, Contains-push}
 use Rattle.std.proofs.lemmas.Option.{same_Some}
+use Rattle.daos_base.specs.declared.answer.Answer.{Answer}
 use Rattle.daos_base.specs.declared.epoch.Epoch.{Epoch}
 use Rattle.daos_base.specs.declared.id.AttemptId.{AttemptId}
 use Rattle.daos_base.specs.declared.outcome.Cause.TheVariants.{Unresolved}
@@ -11,6 +12,7 @@ use Rattle.daos_base.specs.declared.outcome.Outcome.TheVariants as outcome
 use Rattle.daos_messages.specs.declared.message.Message.{Message, more_of-Message}
 use Rattle.daos_messages.specs.declared.message.Message.TheVariants as message
 use Rattle.daos_messages.specs.declared.message.Reply.{Reply}
+use Rattle.daos_messages.specs.declared.message.Reply.TheVariants as reply
 use Rattle.daos_model.specs.Attempts.{is_lost, is_unknown}
 use Rattle.daos_model.specs.Durables.{same_attempt}
 use Rattle.daos_model.specs.Order.{told_by}
@@ -18,17 +20,17 @@ use Rattle.world_base.specs.declared.client.ClientState.{ClientState}
 use Rattle.world_base.specs.declared.client.Present.{Present}
 use Rattle.world_base.specs.declared.letter.Letter.{Letter}
 use Rattle.world_base.specs.declared.world.World.{World}
-use Rattle.world_base.specs.ClientTurns.{about, answered, at_present, attempt_id, command_at, ended, ends, goes, greatest, heard, heard_at, hears_epochs, is_about, knows, lost, replied, reset, reset_by, snaps_known, told_by_message, told_by_reply, told_by_some}
+use Rattle.world_base.specs.ClientTurns.{about, answered, at_present, attempt_id, command_at, ended, ends, goes, greatest, heard, heard_at, hears_epochs, is_about, knows, knows_epoch, lost, replied, reset, reset_by, snaps_known, told_by_message, told_by_reply, told_by_some}
 use Rattle.world_events.specs.Events.{Rules, client_plan, with_client}
 use Rattle.world_events.specs.Letters.{Takes, client, is_tell, talk_of}
 use Rattle.world_events.specs.Steps.{without}
-use Rattle.world_talks.specs.Conversation.{Conversation}
+use Rattle.world_epochs.specs.Asking.{ops-at}
 use Rattle.world_epochs.specs.ClientLaws.{IsQuiet, fewer-keeps}
-use Rattle.world_epochs.specs.Epochs.{BearsEpoch, Epochs, IsIssued, IsUnissued, LacksEpoch, Unsnapped}
-use Rattle.world_epochs.specs.HearLaws.{again-keeps, at-work, greatest-has, greatest-up, lost-keeps, quiet-knows, replied-keeps, twice-keeps}
+use Rattle.world_epochs.specs.Epochs.{BearsEpoch, ClientsStand, Epochs, IsIssued, IsUnissued, LacksEpoch, Unsnapped, answers_undated}
+use Rattle.world_epochs.specs.HearLaws.{IsAtOps, again-keeps, at-work, greatest-has, greatest-up, lost-keeps, ops-stay, quiet-knows, replied-keeps, twice-keeps}
 use Rattle.world_epochs.specs.Lists.{contains-none, same-attempt, same-self}
 use Rattle.world_epochs.specs.MoveLaws.{Keeps, quiet-same, sure-ends, unsaid-keeps}
-use Rattle.world_epochs.specs.Talking.{rest-among, taken-among, taken-silent, talks-to}
+use Rattle.world_epochs.specs.Talking.{TalksOnce, rest-among, taken-among, taken-silent, talks-to}
 
 -- a client at an attempt, which waited for a message that was taken
 record WasTold (r : Rules) (top : ℕ) (w : World) (n : ℕ) (c : ClientState) (a : Present) (m : Message) : Type 0 where
@@ -40,6 +42,8 @@ record WasTold (r : Rules) (top : ℕ) (w : World) (n : ℕ) (c : ClientState) (
   silent : is_tell m ≡ false → talk_of n w.messages ≡ []
   bears : (x : AttemptId) (e : Epoch) → BearsEpoch m x e → IsIssued w x e
   lacks : (x : AttemptId) → LacksEpoch m x → IsUnissued w x
+  dated : answers_undated m ≡ false
+  ops : IsAtOps r top w n c a
 
 tracker-up : (c : ClientState) (m : Message) → c.tracker.0 ≤ (hears_epochs m c).tracker.0
 tracker-up c m = greatest-up c.tracker.0 (told_by_message m)
@@ -64,7 +68,8 @@ module _ (r : Rules) (top : ℕ) (w : World) (n : ℕ) where
       → Keeps r top w n (replied (client_plan r n) (hears_epochs (message.Fetched x op group o b) c) (knows o a) b)
   fetched-keeps c a x op group o b T own =
       twice-keeps r top w n (at_present (knows o a) e) (replied (client_plan r n) e (knows o a) b)
-      (replied-keeps r top (with_client n (at_present (knows o a) e) w) n e (knows o a) b T.unsnapped (at-work r top w n c e (knows o a) T.epochs quiet (T.silent refl)) refl
+      (replied-keeps r top (with_client n (at_present (knows o a) e) w) n e T.unsnapped (knows o a) b (at-work r top w n c e (knows o a) T.epochs quiet (T.silent refl) (ops-stay r top w n c e a (knows o a) refl refl refl T.ops)) refl
+      (λ z is none. undated o a.epoch z (subst (λ y. answers_undated (message.Fetched x op group o y) ≡ false) is T.dated) none)
       (λ f h. told-later c.tracker.0 o (told_by_reply b) f h))
     where
       e : ClientState
@@ -73,6 +78,11 @@ module _ (r : Rules) (top : ℕ) (w : World) (n : ℕ) where
       bears : (k : Option Epoch) (f : Epoch) → k ≡ Some f → BearsEpoch (message.Fetched x op group k b) x f
       bears None f is = let no : ⊥ = cc in absurd no
       bears (Some g) f is = (refl, same_Some g f is)
+
+      undated : (k own : Option Epoch) (z : Answer) → answers_undated (message.Fetched x op group k (reply.Answer z)) ≡ false → knows_epoch own k ≡ None → ⊥
+      undated None own z is none = cc
+      undated (Some f) None z is none = cc
+      undated (Some f) (Some g) z is none = cc
 
       lacks : (k : Option Epoch) → k ≡ None → LacksEpoch (message.Fetched x op group k b) x
       lacks None is = refl
@@ -88,7 +98,7 @@ module _ (r : Rules) (top : ℕ) (w : World) (n : ℕ) where
       → Keeps r top w n (ended (client_plan r n) (hears_epochs (message.Ended x o how) c) (knows o a) o how)
   ended-keeps c a x o how T own =
       twice-keeps r top w n (at_present (knows o a) e) (ends (client_plan r n) e (knows o a) how)
-      (sure-ends r top (with_client n (at_present (knows o a) e) w) n e (knows o a) a.conds how T.unsnapped (at-work r top w n c e (knows o a) T.epochs quiet (T.silent refl)) refl
+      (sure-ends r top (with_client n (at_present (knows o a) e) w) n e (knows o a) a.conds how T.unsnapped (at-work r top w n c e (knows o a) T.epochs quiet (T.silent refl) (ops-stay r top w n c e a (knows o a) refl refl refl T.ops)) refl
       (λ f h. told-later c.tracker.0 o (told_by how) f h))
     where
       d : ClientState
@@ -116,7 +126,7 @@ module _ (r : Rules) (top : ℕ) (w : World) (n : ℕ) where
 
   is-lost : (c : ClientState) (a : Present) (m : Message) → WasTold r top w n c a m → is_tell m ≡ false → Keeps r top w n (lost (client_plan r n) (hears_epochs m c) (record a { waits = false }))
   is-lost c a m T talks =
-      lost-keeps r top w n c (hears_epochs m c) a (outcome.Restart (Unresolved (attempt_id (client_plan r n) c a))) T.unsnapped T.epochs T.here T.at (tracker-up c m) refl refl (T.silent talks)
+      lost-keeps r top w n c (hears_epochs m c) a (outcome.Restart (Unresolved (attempt_id (client_plan r n) c a))) T.unsnapped T.epochs T.here T.at (tracker-up c m) refl refl refl T.ops (T.silent talks)
       (λ x same. unsure-lost c a x same) (λ f h. contains-none f h)
 
   is-asked-again : (c : ClientState) (a : Present) (m : Message) (target : ℕ) → WasTold r top w n c a m → Keeps r top w n (reset (client_plan r n) (hears_epochs m c) (record a { waits = false }) target (message.Ask (attempt_id (client_plan r n) c a)))
@@ -130,7 +140,7 @@ module _ (r : Rules) (top : ℕ) (w : World) (n : ℕ) where
   reset-by-keeps : (c : ClientState) (a : Present) (m : Message) (target : ℕ) (down : Bool) (q : Message) → WasTold r top w n c a m → is_tell m ≡ false → Keeps r top w n (reset_by (client_plan r n) (hears_epochs m c) (record a { waits = false }) target down q)
   reset-by-keeps c a m target false q T talks = reset-keeps c a m target q T talks
   reset-by-keeps c a m target true q T talks =
-      lost-keeps r top w n c (hears_epochs m c) a (outcome.Unknown target) T.unsnapped T.epochs T.here T.at (tracker-up c m) refl refl (T.silent talks) (λ x same. refl) (λ f h. contains-none f h)
+      lost-keeps r top w n c (hears_epochs m c) a (outcome.Unknown target) T.unsnapped T.epochs T.here T.at (tracker-up c m) refl refl refl T.ops (T.silent talks) (λ x same. refl) (λ f h. contains-none f h)
 
   -- what the client waited for has come
   answered-keeps : (c : ClientState) (a : Present) (m : Message) → WasTold r top w n c a m → is_about (attempt_id (client_plan r n) c a) (about m) ≡ true → Keeps r top w n (answered (client_plan r n) (hears_epochs m c) a m)
@@ -144,10 +154,10 @@ both true b h = (refl, h)
 both false b h = let no : ⊥ = cc in absurd no
 
 -- a client hears a message
-pub heard-keeps : (r : Rules) (top : ℕ) (w : World) (n : ℕ) (c : ClientState) (l : Letter) (rest : List Letter) → Unsnapped r → Conversation r w → Epochs r top w → slice_get w.clients n ≡ Some c → Takes w.messages l rest
+pub heard-keeps : (r : Rules) (top : ℕ) (w : World) (n : ℕ) (c : ClientState) (l : Letter) (rest : List Letter) → Unsnapped r → TalksOnce w → ClientsStand r w → Epochs r top w → slice_get w.clients n ≡ Some c → Takes w.messages l rest
     → l.to ≡ client n → Keeps r top (without w rest) n (heard (client_plan r n) c l.message)
 unfolding heard
-heard-keeps r top w n c l rest U v E here takes to = by c.present refl
+heard-keeps r top w n c l rest U v S E here takes to = by c.present refl
   where
     fewer : Epochs r top (without w rest)
     fewer = fewer-keeps r top w rest (λ m h. rest-among w.messages l rest m takes h) E
@@ -170,7 +180,9 @@ heard-keeps r top w n c l rest U v E here takes to = by c.present refl
               here = here;
               at = at;
               waiting = k.0;
-              silent = λ talks. taken-silent r w n c l rest v here takes (talks-to n l talks to);
+              silent = λ talks. taken-silent w n c l rest v here takes (talks-to n l talks to);
               bears = λ x f h. E.borne l x f among h;
               lacks = λ x h. (E.lacking l x among h).1;
+              dated = E.dated l among;
+              ops = ops-at r n c a (S n c here).0 at (S n c here).1;
             }) k.1

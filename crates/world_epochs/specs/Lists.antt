@@ -1,7 +1,8 @@
 -- What holds of lists of letters, lines and issued epochs.
-use Rattle.std.specs.Prelude.{ℕ, ◌≡◌, ◌<◌, ◌++◌, ◌⊎◌, Bool, true, false, List, [], ◌∷◌, filter, find, Contains, All, Option, Some, None, refl, if◌then◌else◌}
+use Rattle.std.specs.Prelude.{ℕ, ◌≡◌, ◌≢◌, ◌<◌, ◌++◌, ◌⊎◌, Bool, true, false, List, [], ◌∷◌, filter, find, Contains, All, slice_get, Option, Some, None, refl, if◌then◌else◌}
 use Rattle.std.proofs.Common.{sym, ◌∙◌, ap, subst, inl, inr, ⊎_elim, arith}
-use Rattle.std.proofs.lemmas.Bool.Decides.{nat_tests}
+use Rattle.std.proofs.Math.ListN.{set}
+use Rattle.std.proofs.lemmas.Bool.Decides.{eqb_tells, nat_tests}
 use Rattle.std.proofs.lemmas.List.Elements.{All-contains_itself, All-weaker, Contains-append_cases, Contains-append_left, Contains-append_right, Contains-push, Contains-push_cases, filter-append}
 use Rattle.daos_base.specs.declared.epoch.Epoch.{Epoch}
 use Rattle.daos_base.specs.declared.id.AttemptId.{AttemptId}
@@ -12,10 +13,28 @@ use Rattle.daos_model.specs.Attempts.{EachTry, tries}
 use Rattle.daos_model.specs.Durables.{same_attempt}
 use Rattle.daos_model.specs.Laws.{tries-append}
 use Rattle.world_events.specs.Events.{epoch_issued, epoch_of_issue, is_issue_of}
+use Rattle.world_events.specs.StepLaws.{set-here, set-there}
 
 -- one value, where there is one
 pub one-value : {T : Type 0} (o : Option T) (x y : T) → o ≡ Some x → o ≡ Some y → x ≡ y
 one-value o x y h k = cc
+
+-- ---- one among others
+
+pub same-number : (m n : ℕ) → (m ≡ n) ⊎ ((m ≡ n) → ⊥)
+same-number m n = ⊎_elim (λ k. inl k.1) (λ k. inr (λ same. let off : m ≢ n = k.1 in omega (arith, off, same))) (eqb_tells m n)
+
+-- what is so of one that changed, and of each other, is so of all
+pub at-set : {T : Type 0} (xs : List T) (n : ℕ) (c d : T) (P : ℕ → T → Type 0) → slice_get xs n ≡ Some c → P n d → ((m : ℕ) (z : T) → ((m ≡ n) → ⊥) → slice_get xs m ≡ Some z → P m z)
+    → (m : ℕ) (z : T) → slice_get (set xs n d) m ≡ Some z → P m z
+at-set xs n c d P here own others m z at = by (same-number m n)
+  where
+    by : (m ≡ n) ⊎ ((m ≡ n) → ⊥) → P m z
+    by (inl same) =
+        let now : slice_get (set xs n d) m ≡ Some d = subst (λ k. slice_get (set xs n d) k ≡ Some d) (sym same) (set-here xs n c d here) in
+        let is : d ≡ z = one-value (slice_get (set xs n d) m) d z now at in
+        subst (λ k. P k z) (sym same) (subst (λ y. P n y) is own)
+    by (inr off) = others m z off (sym (set-there xs n m d off) ∙ at)
 
 -- ---- what a list has
 

@@ -1,5 +1,5 @@
 -- Each move of a client keeps what is said of epochs.
-use Rattle.std.specs.Prelude.{ℕ, ◌≡◌, ◌≤◌, ◌+◌, ◌++◌, ◌⊎◌, ◌&&◌, Bool, true, false, nat_lt, List, [], ◌∷◌, map, Contains, slice_get, Option, Some, None, refl, if◌then◌else◌}
+use Rattle.std.specs.Prelude.{ℕ, ◌≡◌, ◌≤◌, ◌+◌, ◌++◌, ◌⊎◌, ◌&&◌, Bool, true, false, nat_lt, List, [], ◌∷◌, drop, map, Contains, slice_get, Option, Some, None, refl, if◌then◌else◌}
 use Rattle.std.proofs.Common.{append-nil, sym, ◌∙◌, ap, subst, inl, inr, arith}
 use Rattle.std.proofs.Math.ListN.{set}
 use Rattle.std.proofs.lemmas.Option.{same_Some}
@@ -17,9 +17,11 @@ use Rattle.daos_base.specs.Operations.{read_path}
 use Rattle.daos_base.specs.Placement.{writes_leader}
 use Rattle.daos_messages.specs.declared.message.Message.{Message}
 use Rattle.daos_messages.specs.declared.message.Message.TheVariants as message
+use Rattle.daos_messages.specs.declared.message.Post.{Post}
 use Rattle.daos_model.specs.Accesses.{minor_writes}
 use Rattle.daos_model.specs.Attempts.{is_restart, is_unsure, snapshot_of_command}
 use Rattle.daos_model.specs.Order.{told_by}
+use Rattle.daos_model.specs.Transactions.{attempt_ops, ops_or_none}
 use Rattle.world_base.specs.declared.client.ClientState.{ClientState}
 use Rattle.world_base.specs.declared.client.KnownSnap.{KnownSnap}
 use Rattle.world_base.specs.declared.client.Present.{Present}
@@ -28,11 +30,12 @@ use Rattle.world_base.specs.declared.client.Stage.TheVariants as stage
 use Rattle.world_base.specs.declared.world.World.{World}
 use Rattle.world_base.specs.ClientTurns.{Move, after_end, asks, asks_or_goes, at_present, attempt_id, attempt_moves, begins_at, begun, command_at, command_moves, commits, ends, first_epoch, goes, group_asked, is_waiting, listed, member_asked, moved, moves_at, next_command, next_place, next_stage, op_moves, question, rests, run_moves, skip_at, waits}
 use Rattle.world_events.specs.Events.{Rules, client_plan, epoch_issued, or_issued, with_epoch}
-use Rattle.world_events.specs.Letters.{client, letters_of, talk_of}
+use Rattle.world_events.specs.Letters.{client, letters_of, talk_of, target}
 use Rattle.world_events.specs.StepLaws.{set-here}
 use Rattle.world_events.specs.Steps.{after_client, after_move}
+use Rattle.world_epochs.specs.Asking.{asks-first, asks-nothing, begins-first, goes-first, issuer-asked, issuer-leads, ops-at}
 use Rattle.world_epochs.specs.ClientLaws.{ByAttempt, ByCommand, IsEnding, IsNext, IsQuiet, Sends, SendsSome, ending-keeps, quiet-keeps, same-id}
-use Rattle.world_epochs.specs.Epochs.{AsksEpoch, BearsEpoch, Epochs, IsAt, IsIssued, IsPast, IsTold, IsUnissued, LacksEpoch, Unsnapped, is_unsnapped, reads_snapshot}
+use Rattle.world_epochs.specs.Epochs.{AsksEpoch, AsksFirst, BearsEpoch, ClientsStand, Epochs, IsAt, IsIssued, IsPast, IsTold, IsUnissued, LacksEpoch, Unsnapped, answers_undated, first_question, is_unsnapped, issuer_of, left_to_ask, reads_snapshot}
 use Rattle.world_epochs.specs.Lists.{contains-none, epoch-found}
 use Rattle.world_epochs.specs.Talking.{asks-no_tell, silent-not, talks-from}
 use Rattle.world_epochs.specs.TargetLaws.{issued-behind}
@@ -46,6 +49,7 @@ pub record AtWork (r : Rules) (top : ℕ) (w : World) (n : ℕ) (c : ClientState
   pub here : slice_get w.clients n ≡ Some (at_present a c)
   pub silent : talk_of n w.messages ≡ []
   pub epochs : Epochs r top w
+  pub ops : attempt_ops r.script (attempt_id (client_plan r n) c a) ≡ ops_or_none (command_at (client_plan r n) c)
 
 -- ---- a move without a line
 
@@ -65,12 +69,14 @@ quiet-same r top w n c d E here tracker command present = record {
   known = λ b e at is. subst (λ x. IsIssued w x e) (sym (same-id r n c d b b command refl)) (E.known n c b e here (sym present ∙ at) is);
   tracked = λ b e at is. let low : e.0 ≤ c.tracker.0 = E.tracked n c b e here (sym present ∙ at) is in omega (arith, low, tracker);
   unknown = λ b at idle is. subst (λ x. IsUnissued w x) (sym (same-id r n c d b b command refl)) (E.unknown n c b here (sym present ∙ at) idle is);
+  unasked = λ b at is. subst (λ x. AsksFirst (attempt_ops r.script x) b) (sym (same-id r n c d b b command refl)) (E.unasked n c b here (sym present ∙ at) is);
 }
 
 -- an attempt of which as much is known as before
 pub quiet-goes : (r : Rules) (top : ℕ) (w : World) (n : ℕ) (c d : ClientState) (a b : Present) → Epochs r top w → slice_get w.clients n ≡ Some (at_present a c) → c.tracker.0 ≤ d.tracker.0 → d.command ≡ c.command
-    → d.present ≡ Some b → b.attempt ≡ a.attempt → b.epoch ≡ a.epoch → (b.waits ≡ false → a.waits ≡ false) → IsQuiet r w n (at_present a c) d
-quiet-goes r top w n c d a b E here tracker command present number epoch idle = record {
+    → d.present ≡ Some b → b.attempt ≡ a.attempt → b.epoch ≡ a.epoch → (b.waits ≡ false → a.waits ≡ false)
+    → (a.epoch ≡ None → AsksFirst (attempt_ops r.script (attempt_id (client_plan r n) c a)) a → AsksFirst (attempt_ops r.script (attempt_id (client_plan r n) c a)) b) → IsQuiet r w n (at_present a c) d
+quiet-goes r top w n c d a b E here tracker command present number epoch idle first = record {
   here = here;
   tracker = tracker;
   command = command;
@@ -79,6 +85,8 @@ quiet-goes r top w n c d a b E here tracker command present number epoch idle = 
   known = λ z e at is. subst (λ x. IsIssued w x e) (sym (own z at)) (E.known n (at_present a c) a e here refl (sym epoch ∙ (ap (λ y. y.epoch) (is-now z at) ∙ is)));
   tracked = λ z e at is. let low : e.0 ≤ c.tracker.0 = E.tracked n (at_present a c) a e here refl (sym epoch ∙ (ap (λ y. y.epoch) (is-now z at) ∙ is)) in omega (arith, low, tracker);
   unknown = λ z at off is. subst (λ x. IsUnissued w x) (sym (own z at)) (E.unknown n (at_present a c) a here refl (idle (ap (λ y. y.waits) (is-now z at) ∙ off)) (sym epoch ∙ (ap (λ y. y.epoch) (is-now z at) ∙ is)));
+  unasked = λ z at is. let none : a.epoch ≡ None = sym epoch ∙ (ap (λ y. y.epoch) (is-now z at) ∙ is) in
+      subst (λ x. AsksFirst (attempt_ops r.script x) z) (sym (own z at)) (subst (AsksFirst (attempt_ops r.script (attempt_id (client_plan r n) c a))) (is-now z at) (first none (E.unasked n (at_present a c) a here refl none)));
 }
   where
     is-now : (z : Present) → d.present ≡ Some z → b ≡ z
@@ -98,6 +106,7 @@ quiet-begins r top w n c E here none = record {
   known = λ b e at is. let off : None ≡ Some e = ap (λ y. y.epoch) (same_Some (begun 0 None None) b at) ∙ is in let no : ⊥ = cc in absurd no;
   tracked = λ b e at is. let off : None ≡ Some e = ap (λ y. y.epoch) (same_Some (begun 0 None None) b at) ∙ is in let no : ⊥ = cc in absurd no;
   unknown = λ b at idle is. unissued b (same_Some (begun 0 None None) b at);
+  unasked = λ b at is. subst (AsksFirst (attempt_ops r.script (attempt_id (client_plan r n) c b))) (same_Some (begun 0 None None) b at) (begins-first (attempt_ops r.script (attempt_id (client_plan r n) c b)) 0 None None);
 }
   where
     first : (e : Epoch) → IsIssued w (record { client = n; command = c.command; attempt = 0 }) e → ⊥
@@ -114,15 +123,17 @@ quiet-begins r top w n c E here none = record {
 -- ---- what is sent
 
 -- a message that neither asks for an epoch nor bears one
-pub sends-nothing : (r : Rules) (top : ℕ) (w : World) (n : ℕ) (clients : List ClientState) (m : Message) → ((x : AttemptId) (k : Epoch) → AsksEpoch m x k → ⊥) → ((x : AttemptId) → LacksEpoch m x → ⊥)
-    → ((x : AttemptId) (e : Epoch) → BearsEpoch m x e → ⊥) → reads_snapshot m ≡ false → Sends r top w n clients m
-sends-nothing r top w n clients m asks' lacks bears plain = record { asks = λ x k h. absurd (asks' x k h); lacks = lacks; bears = λ x e h. absurd (bears x e h); plain = plain }
+pub sends-nothing : (r : Rules) (top : ℕ) (w : World) (n : ℕ) (clients : List ClientState) (q : Post) → ((x : AttemptId) (k : Epoch) → AsksEpoch q.message x k → ⊥) → ((x : AttemptId) → LacksEpoch q.message x → ⊥)
+    → ((x : AttemptId) (e : Epoch) → BearsEpoch q.message x e → ⊥) → reads_snapshot q.message ≡ false → answers_undated q.message ≡ false → Sends r top w n clients q
+sends-nothing r top w n clients q asks' lacks bears plain dated =
+    record { asks = λ x k h. absurd (asks' x k h); first = λ x k h. absurd (asks' x k h); lacks = lacks; bears = λ x e h. absurd (bears x e h); plain = plain; dated = dated }
 
 -- a request of an attempt, with the epoch that its client knows of it
-sends-request : (r : Rules) (top : ℕ) (w : World) (n : ℕ) (c d : ClientState) (a b : Present) (m : Message) → AtWork r top w n c a → a.waits ≡ false → d.present ≡ Some b → d.command ≡ c.command → b.attempt ≡ a.attempt
-    → ((x : AttemptId) (k : Epoch) → AsksEpoch m x k → (a.epoch ≡ None) × (attempt_id (client_plan r n) c a ≡ x) × (c.tracker ≡ k)) → ((x : AttemptId) → LacksEpoch m x → ⊥)
-    → ((x : AttemptId) (e : Epoch) → BearsEpoch m x e → (a.epoch ≡ Some e) × (attempt_id (client_plan r n) c a ≡ x)) → reads_snapshot m ≡ false → Sends r top w n (set w.clients n d) m
-sends-request r top w n c d a b m K idle present command number asks' lacks bears plain = record {
+sends-request : (r : Rules) (top : ℕ) (w : World) (n : ℕ) (c d : ClientState) (a b : Present) (q : Post) → AtWork r top w n c a → a.waits ≡ false → d.present ≡ Some b → d.command ≡ c.command → b.attempt ≡ a.attempt
+    → (a.epoch ≡ None → q.to ≡ target (issuer_of r.script (attempt_id (client_plan r n) c a)))
+    → ((x : AttemptId) (k : Epoch) → AsksEpoch q.message x k → (a.epoch ≡ None) × (attempt_id (client_plan r n) c a ≡ x) × (c.tracker ≡ k)) → ((x : AttemptId) → LacksEpoch q.message x → ⊥)
+    → ((x : AttemptId) (e : Epoch) → BearsEpoch q.message x e → (a.epoch ≡ Some e) × (attempt_id (client_plan r n) c a ≡ x)) → reads_snapshot q.message ≡ false → answers_undated q.message ≡ false → Sends r top w n (set w.clients n d) q
+sends-request r top w n c d a b q K idle present command number to asks' lacks bears plain dated = record {
   asks = λ x k h. let f = asks' x k h in (
     sym (ap (λ y. y.client) f.1),
     subst (λ y. IsAt r (set w.clients n d) y) f.1 at-now,
@@ -130,9 +141,11 @@ sends-request r top w n c d a b m K idle present command number asks' lacks bear
     subst (λ y. top ≤ y.0) f.2 tracker.0,
     λ e t. subst (λ y. e ≤ y.0) f.2 (tracker.1 e (subst (λ y. IsTold r w y.client e) (sym f.1) t)),
   );
+  first = λ x k h. let f = asks' x k h in subst (λ y. q.to ≡ target (issuer_of r.script y)) f.1 (to f.0);
   lacks = lacks;
   bears = λ x e h. let f = bears x e h in subst (λ y. IsIssued w y e) f.1 (K.epochs.known n (at_present a c) a e K.here refl f.0);
   plain = plain;
+  dated = dated;
 }
   where
     at-now : IsAt r (set w.clients n d) (attempt_id (client_plan r n) c a)
@@ -143,32 +156,39 @@ sends-request r top w n c d a b m K idle present command number asks' lacks bear
 
 module _ (r : Rules) (top : ℕ) (w : World) (n : ℕ) where
   -- the client goes on with its attempt, and sends nothing
-  pub goes-keeps : (c : ClientState) (a b : Present) → AtWork r top w n c a → b.attempt ≡ a.attempt → b.epoch ≡ a.epoch → (b.waits ≡ false → a.waits ≡ false) → Keeps r top w n (goes (at_present b c))
-  goes-keeps c a b K number epoch idle = unsaid-keeps r top w n (at_present a c) (goes (at_present b c)) refl K.epochs (quiet-goes r top w n c (at_present b c) a b K.epochs K.here (omega arith) refl refl number epoch idle) tt
+  pub goes-keeps : (c : ClientState) (a b : Present) → AtWork r top w n c a → b.attempt ≡ a.attempt → b.epoch ≡ a.epoch → (b.waits ≡ false → a.waits ≡ false)
+      → (a.epoch ≡ None → AsksFirst (ops_or_none (command_at (client_plan r n) c)) a → AsksFirst (ops_or_none (command_at (client_plan r n) c)) b) → Keeps r top w n (goes (at_present b c))
+  goes-keeps c a b K number epoch idle first =
+      unsaid-keeps r top w n (at_present a c) (goes (at_present b c)) refl K.epochs
+      (quiet-goes r top w n c (at_present b c) a b K.epochs K.here (omega arith) refl refl number epoch idle (λ none f. subst (λ ops. AsksFirst ops b) (sym K.ops) (first none (subst (λ ops. AsksFirst ops a) K.ops f)))) tt
 
   -- it asks, and waits
-  pub asks-keeps : (c : ClientState) (a : Present) (target : ℕ) (m : Message) → AtWork r top w n c a → Sends r top w n (set w.clients n (at_present (record a { waits = true }) c)) m → Keeps r top w n (asks target m a c)
-  asks-keeps c a target m K S =
-      unsaid-keeps r top w n (at_present a c) (asks target m a c) refl K.epochs
-      (quiet-goes r top w n c (at_present (record a { waits = true }) c) a (record a { waits = true }) K.epochs K.here (omega arith) refl refl refl refl (λ e. let no : ⊥ = cc in absurd no)) S
+  pub asks-keeps : (c : ClientState) (a : Present) (t : ℕ) (m : Message) → AtWork r top w n c a → Sends r top w n (set w.clients n (at_present (record a { waits = true }) c)) (record { to = target t; message = m }) → Keeps r top w n (asks t m a c)
+  asks-keeps c a t m K S =
+      unsaid-keeps r top w n (at_present a c) (asks t m a c) refl K.epochs
+      (quiet-goes r top w n c (at_present (record a { waits = true }) c) a (record a { waits = true }) K.epochs K.here (omega arith) refl refl refl refl (λ e. let no : ⊥ = cc in absurd no) (λ none f. record { group = f.group; next = f.next })) S
 
-  fetch-sends : (c : ClientState) (a : Present) (group : ℕ) (o : Option Epoch) (q : Read) → AtWork r top w n c a → a.waits ≡ false → a.epoch ≡ o
-      → Sends r top w n (set w.clients n (at_present (record a { waits = true }) c)) (message.Fetch (attempt_id (client_plan r n) c a) a.op group o a.first c.tracker q false)
-  fetch-sends c a group None q K idle is =
-      sends-request r top w n c (at_present (record a { waits = true }) c) a (record a { waits = true }) (message.Fetch (attempt_id (client_plan r n) c a) a.op group None a.first c.tracker q false) K idle refl refl refl
-      (λ x k h. (is, h.0, h.1)) (λ x h. h) (λ x e h. absurd h) refl
-  fetch-sends c a group (Some own) q K idle is =
-      sends-request r top w n c (at_present (record a { waits = true }) c) a (record a { waits = true }) (message.Fetch (attempt_id (client_plan r n) c a) a.op group (Some own) a.first c.tracker q false) K idle refl refl refl
-      (λ x k h. absurd h) (λ x h. h) (λ x e h. (is ∙ ap (λ z. Some z) h.1, h.0)) refl
+  -- the target that a request without an epoch goes to
+  abbrev pub GoesFirst : ClientState → Present → ℕ → Type 0
+  GoesFirst c a t = a.epoch ≡ None → target t ≡ target (issuer_of r.script (attempt_id (client_plan r n) c a))
 
-  commit-sends : (c : ClientState) (a : Present) (o : Option Epoch) (ws : List MinorWrite) → AtWork r top w n c a → a.waits ≡ false → a.epoch ≡ o
-      → Sends r top w n (set w.clients n (at_present (record a { waits = true }) c)) (message.Commit (attempt_id (client_plan r n) c a) o a.first c.tracker ws)
-  commit-sends c a None ws K idle is =
-      sends-request r top w n c (at_present (record a { waits = true }) c) a (record a { waits = true }) (message.Commit (attempt_id (client_plan r n) c a) None a.first c.tracker ws) K idle refl refl refl
-      (λ x k h. (is, h.0, h.1)) (λ x h. h) (λ x e h. absurd h) refl
-  commit-sends c a (Some own) ws K idle is =
-      sends-request r top w n c (at_present (record a { waits = true }) c) a (record a { waits = true }) (message.Commit (attempt_id (client_plan r n) c a) (Some own) a.first c.tracker ws) K idle refl refl refl
-      (λ x k h. absurd h) (λ x h. h) (λ x e h. (is ∙ ap (λ z. Some z) h.1, h.0)) refl
+  fetch-sends : (c : ClientState) (a : Present) (t group : ℕ) (o : Option Epoch) (q : Read) → AtWork r top w n c a → a.waits ≡ false → a.epoch ≡ o → GoesFirst c a t
+      → Sends r top w n (set w.clients n (at_present (record a { waits = true }) c)) (record { to = target t; message = message.Fetch (attempt_id (client_plan r n) c a) a.op group o a.first c.tracker q false })
+  fetch-sends c a t group None q K idle is to =
+      sends-request r top w n c (at_present (record a { waits = true }) c) a (record a { waits = true }) (record { to = target t; message = message.Fetch (attempt_id (client_plan r n) c a) a.op group None a.first c.tracker q false }) K idle refl refl refl
+      to (λ x k h. (is, h.0, h.1)) (λ x h. h) (λ x e h. absurd h) refl refl
+  fetch-sends c a t group (Some own) q K idle is to =
+      sends-request r top w n c (at_present (record a { waits = true }) c) a (record a { waits = true }) (record { to = target t; message = message.Fetch (attempt_id (client_plan r n) c a) a.op group (Some own) a.first c.tracker q false }) K idle refl refl refl
+      to (λ x k h. absurd h) (λ x h. h) (λ x e h. (is ∙ ap (λ z. Some z) h.1, h.0)) refl refl
+
+  commit-sends : (c : ClientState) (a : Present) (t : ℕ) (o : Option Epoch) (ws : List MinorWrite) → AtWork r top w n c a → a.waits ≡ false → a.epoch ≡ o → GoesFirst c a t
+      → Sends r top w n (set w.clients n (at_present (record a { waits = true }) c)) (record { to = target t; message = message.Commit (attempt_id (client_plan r n) c a) o a.first c.tracker ws })
+  commit-sends c a t None ws K idle is to =
+      sends-request r top w n c (at_present (record a { waits = true }) c) a (record a { waits = true }) (record { to = target t; message = message.Commit (attempt_id (client_plan r n) c a) None a.first c.tracker ws }) K idle refl refl refl
+      to (λ x k h. (is, h.0, h.1)) (λ x h. h) (λ x e h. absurd h) refl refl
+  commit-sends c a t (Some own) ws K idle is to =
+      sends-request r top w n c (at_present (record a { waits = true }) c) a (record a { waits = true }) (record { to = target t; message = message.Commit (attempt_id (client_plan r n) c a) (Some own) a.first c.tracker ws }) K idle refl refl refl
+      to (λ x k h. absurd h) (λ x h. h) (λ x e h. (is ∙ ap (λ z. Some z) h.1, h.0)) refl refl
 
   -- ---- an attempt ends
 
@@ -189,7 +209,7 @@ module _ (r : Rules) (top : ℕ) (w : World) (n : ℕ) where
       again = at_present (begun (a.attempt + 1) a.first (first_epoch c.known (snapshot_of_command d))) c
 
       by : (b : Bool) → ((if b then again else next_command c).tracker ≡ c.tracker) × IsNext (at_present a c) a (if b then again else next_command c)
-      by true = (refl, ByAttempt (begun (a.attempt + 1) a.first (first_epoch c.known (snapshot_of_command d))) refl refl refl (no-first c.known d (plain d refl)))
+      by true = (refl, ByAttempt (begun (a.attempt + 1) a.first (first_epoch c.known (snapshot_of_command d))) refl refl refl (no-first c.known d (plain d refl)) (λ ops. begins-first ops (a.attempt + 1) a.first (first_epoch c.known (snapshot_of_command d))))
       by false = (refl, ByCommand refl refl)
 
   -- the line of an attempt that ends, with the epoch that its client knows of it, or else the one that was issued
@@ -257,40 +277,55 @@ module _ (r : Rules) (top : ℕ) (w : World) (n : ℕ) where
 
   -- ---- the moves of a transaction
 
-  commits-keeps : (c : ClientState) (a : Present) (ws : List MinorWrite) → Unsnapped r → AtWork r top w n c a → a.waits ≡ false → Keeps r top w n (commits (client_plan r n) c a ws)
-  commits-keeps c a [] U K idle = sure-ends c a a.conds outcome.Committed U K idle (λ e h. absurd (contains-none e h))
-  commits-keeps c a (q ∷ qs) U K idle = asks-keeps c a (writes_leader (q ∷ qs) r.script.targets) (message.Commit (attempt_id (client_plan r n) c a) a.epoch a.first c.tracker (q ∷ qs)) K (commit-sends c a a.epoch (q ∷ qs) K idle refl)
-
   stage-stays : (s : Stage) (a : Present) → ((next_stage s a).attempt ≡ a.attempt) × ((next_stage s a).epoch ≡ a.epoch) × ((next_stage s a).waits ≡ a.waits)
   stage-stays stage.Skip a = (refl, refl, refl)
   stage-stays stage.Cond a = (refl, refl, refl)
   stage-stays stage.Act a = (refl, refl, refl)
 
-  reads-keeps : (c : ClientState) (a : Present) (q : Option Read) → AtWork r top w n c a → a.waits ≡ false → Keeps r top w n (asks_or_goes (client_plan r n) c a false q)
-  reads-keeps c a None K idle = let s = stage-stays a.stage a in goes-keeps c a (next_stage a.stage a) K s.0 s.1 (λ e. idle)
-  reads-keeps c a (Some q) K idle =
-      asks-keeps c a (member_asked (read_path q).obj c.command r.script.targets (group_asked (read_path q).obj (read_path q).dkey r.script.targets a.group))
-      (message.Fetch (attempt_id (client_plan r n) c a) a.op (group_asked (read_path q).obj (read_path q).dkey r.script.targets a.group) a.epoch a.first c.tracker q false) K
-      (fetch-sends c a (group_asked (read_path q).obj (read_path q).dkey r.script.targets a.group) a.epoch q K idle refl)
+  -- the client goes on with these operations of its command
+  module _ (c : ClientState) (a : Present) (ops : List Op) (U : Unsnapped r) (K : AtWork r top w n c a) (its : ops_or_none (command_at (client_plan r n) c) ≡ ops) (idle : a.waits ≡ false) where
+    asking : a.epoch ≡ None → AsksFirst ops a
+    asking none = subst (λ os. AsksFirst os a) (K.ops ∙ its) (K.epochs.unasked n (at_present a c) a K.here refl none)
 
-  op-keeps : (c : ClientState) (a : Present) (ops : List Op) (o : Option Op) → Unsnapped r → AtWork r top w n c a → a.waits ≡ false → Keeps r top w n (op_moves (client_plan r n) c a ops false o)
-  op-keeps c a ops None U K idle = commits-keeps c a (minor_writes 0 ops) U K idle
-  op-keeps c a ops (Some op) U K idle = reads-keeps c a (question a.stage op) K idle
+    commits-keeps : (ws : List MinorWrite) → minor_writes 0 ops ≡ ws → slice_get ops a.op ≡ None → Keeps r top w n (commits (client_plan r n) c a ws)
+    commits-keeps [] is last = sure-ends c a a.conds outcome.Committed U K idle (λ e h. absurd (contains-none e h))
+    commits-keeps (q ∷ qs) is last =
+        asks-keeps c a (writes_leader (q ∷ qs) r.script.targets) (message.Commit (attempt_id (client_plan r n) c a) a.epoch a.first c.tracker (q ∷ qs)) K
+        (commit-sends c a (writes_leader (q ∷ qs) r.script.targets) a.epoch (q ∷ qs) K idle refl
+        (λ none. ap target (ap (λ ws. writes_leader ws r.script.targets) (sym is) ∙ issuer-leads r.script (attempt_id (client_plan r n) c a) ops (K.ops ∙ its) (asks-nothing ops a last (asking none)))))
 
-  run-keeps : (c : ClientState) (a : Present) (ops : List Op) (turns : List ℕ) (s : Stage) → Unsnapped r → AtWork r top w n c a → a.waits ≡ false → Keeps r top w n (run_moves (client_plan r n) c a ops turns false s)
-  run-keeps c a ops turns stage.Skip U K idle =
-      unsaid-keeps r top w n (at_present a c) (run_moves (client_plan r n) c a ops turns false stage.Skip) refl K.epochs
-      (quiet-goes r top w n c (record c { present = Some (next_stage stage.Skip a); skip = skip_at turns a.op }) a (next_stage stage.Skip a) K.epochs K.here (omega arith) refl refl refl refl (λ e. idle)) tt
-  run-keeps c a ops turns stage.Cond U K idle = op-keeps c a ops (slice_get ops a.op) U K idle
-  run-keeps c a ops turns stage.Act U K idle = op-keeps c a ops (slice_get ops a.op) U K idle
+    reads-keeps : (op : Op) (q : Option Read) → slice_get ops a.op ≡ Some op → question a.stage op ≡ q → Keeps r top w n (asks_or_goes (client_plan r n) c a false q)
+    reads-keeps op None at nothing =
+        let s = stage-stays a.stage a in
+        goes-keeps c a (next_stage a.stage a) K s.0 s.1 (λ e. sym s.2 ∙ e) (λ none f. subst (λ os. AsksFirst os (next_stage a.stage a)) (sym its) (goes-first ops a op at nothing (subst (λ os. AsksFirst os a) its f)))
+    reads-keeps op (Some q) at asked' =
+        asks-keeps c a (member_asked (read_path q).obj c.command r.script.targets group) (message.Fetch (attempt_id (client_plan r n) c a) a.op group a.epoch a.first c.tracker q false) K
+        (fetch-sends c a (member_asked (read_path q).obj c.command r.script.targets group) group a.epoch q K idle refl
+        (λ none. ap target (issuer-asked r.script (attempt_id (client_plan r n) c a) ops q a.group (K.ops ∙ its) (asks-first ops a op q at asked' (asking none)) (asking none).group)))
+      where
+        group : ℕ
+        group = group_asked (read_path q).obj (read_path q).dkey r.script.targets a.group
 
-  attempt-keeps : (c : ClientState) (a : Present) (d : Command) → Unsnapped r → is_unsnapped d ≡ true → AtWork r top w n c a → c.present ≡ Some a → a.waits ≡ false → Keeps r top w n (attempt_moves (client_plan r n) c a d)
-  attempt-keeps c a (Run ops turns None) U plain K at idle = run-keeps c a ops turns a.stage U K idle
-  attempt-keeps c a (Run ops turns (Some name)) U plain K at idle = let no : ⊥ = cc in absurd no
-  attempt-keeps c a (Snap name cont) U plain K at idle = let no : ⊥ = cc in absurd no
-  attempt-keeps c a (Aggregate cont) U plain K at idle = let no : ⊥ = cc in absurd no
-  attempt-keeps c a (Tell client') U plain K at idle = unsaid-keeps r top w n (at_present a c) (rests c) refl K.epochs (quiet-same r top w n (at_present a c) c K.epochs K.here (omega arith) refl at) tt
-  attempt-keeps c a (Skip turns) U plain K at idle = unsaid-keeps r top w n (at_present a c) (rests c) refl K.epochs (quiet-same r top w n (at_present a c) c K.epochs K.here (omega arith) refl at) tt
+    op-keeps : (o : Option Op) → slice_get ops a.op ≡ o → Keeps r top w n (op_moves (client_plan r n) c a ops false o)
+    op-keeps None last = commits-keeps (minor_writes 0 ops) refl last
+    op-keeps (Some op) at = reads-keeps op (question a.stage op) at refl
+
+    run-keeps : (turns : List ℕ) (s : Stage) → a.stage ≡ s → Keeps r top w n (run_moves (client_plan r n) c a ops turns false s)
+    run-keeps turns stage.Skip at =
+        unsaid-keeps r top w n (at_present a c) (run_moves (client_plan r n) c a ops turns false stage.Skip) refl K.epochs
+        (quiet-goes r top w n c (record c { present = Some (next_stage stage.Skip a); skip = skip_at turns a.op }) a (next_stage stage.Skip a) K.epochs K.here (omega arith) refl refl refl refl (λ e. idle)
+        (λ none f. record { group = f.group; next = subst (λ s. left_to_ask s (drop a.op (attempt_ops r.script (attempt_id (client_plan r n) c a))) ≡ first_question (attempt_ops r.script (attempt_id (client_plan r n) c a))) at f.next })) tt
+    run-keeps turns stage.Cond at = op-keeps (slice_get ops a.op) refl
+    run-keeps turns stage.Act at = op-keeps (slice_get ops a.op) refl
+
+  attempt-keeps : (c : ClientState) (a : Present) (d : Command) → Unsnapped r → is_unsnapped d ≡ true → AtWork r top w n c a → command_at (client_plan r n) c ≡ Some d → c.present ≡ Some a → a.waits ≡ false
+      → Keeps r top w n (attempt_moves (client_plan r n) c a d)
+  attempt-keeps c a (Run ops turns None) U plain K here at idle = run-keeps c a ops U K (ap ops_or_none here) idle turns a.stage refl
+  attempt-keeps c a (Run ops turns (Some name)) U plain K here at idle = let no : ⊥ = cc in absurd no
+  attempt-keeps c a (Snap name cont) U plain K here at idle = let no : ⊥ = cc in absurd no
+  attempt-keeps c a (Aggregate cont) U plain K here at idle = let no : ⊥ = cc in absurd no
+  attempt-keeps c a (Tell client') U plain K here at idle = unsaid-keeps r top w n (at_present a c) (rests c) refl K.epochs (quiet-same r top w n (at_present a c) c K.epochs K.here (omega arith) refl at) tt
+  attempt-keeps c a (Skip turns) U plain K here at idle = unsaid-keeps r top w n (at_present a c) (rests c) refl K.epochs (quiet-same r top w n (at_present a c) c K.epochs K.here (omega arith) refl at) tt
 
   -- ---- commands begin
 
@@ -301,25 +336,26 @@ module _ (r : Rules) (top : ℕ) (w : World) (n : ℕ) where
   command-keeps c (Aggregate cont) plain E here none = let no : ⊥ = cc in absurd no
   command-keeps c (Tell client') plain E here none =
       unsaid-keeps r top w n c (command_moves (client_plan r n) c (Tell client')) refl E (quiet-same r top w n c (next_place c) E here (omega arith) refl refl)
-      (sends-nothing r top w n (set w.clients n (next_place c)) (message.Tell c.tracker) (λ x k h. h) (λ x h. h) (λ x e h. h) refl)
+      (sends-nothing r top w n (set w.clients n (next_place c)) (record { to = client client'; message = message.Tell c.tracker }) (λ x k h. h) (λ x h. h) (λ x e h. h) refl refl)
   command-keeps c (Skip turns) plain E here none =
       unsaid-keeps r top w n c (command_moves (client_plan r n) c (Skip turns)) refl E (quiet-same r top w n c (record (next_place c) { skip = turns }) E here (omega arith) refl refl) tt
 
   present-at : (c : ClientState) (a : Present) → c.present ≡ Some a → c ≡ at_present a c
   present-at c a at = ap (λ o. record c { present = o }) at
 
-  moves-at-keeps : (c : ClientState) (o : Option Command) (present : Option Present) → Unsnapped r → Epochs r top w → slice_get w.clients n ≡ Some c → talk_of n w.messages ≡ [] → command_at (client_plan r n) c ≡ o → c.present ≡ present
+  moves-at-keeps : (c : ClientState) (o : Option Command) (present : Option Present) → Unsnapped r → ClientsStand r w → Epochs r top w → slice_get w.clients n ≡ Some c → talk_of n w.messages ≡ [] → command_at (client_plan r n) c ≡ o → c.present ≡ present
       → is_waiting present ≡ false → Keeps r top w n (moves_at (client_plan r n) c o present)
-  moves-at-keeps c None present U E here silent at is idle = unsaid-keeps r top w n c (rests c) refl E (quiet-same r top w n c c E here (omega arith) refl refl) tt
-  moves-at-keeps c (Some d) None U E here silent at is idle = command-keeps c d (U n c.place d at) E here is
-  moves-at-keeps c (Some d) (Some a) U E here silent at is idle =
-      attempt-keeps c a d U (U n c.place d at) (record { here = here ∙ ap (λ z. Some z) (present-at c a is); silent = silent; epochs = E }) is idle
+  moves-at-keeps c None present U S E here silent at is idle = unsaid-keeps r top w n c (rests c) refl E (quiet-same r top w n c c E here (omega arith) refl refl) tt
+  moves-at-keeps c (Some d) None U S E here silent at is idle = command-keeps c d (U n c.place d at) E here is
+  moves-at-keeps c (Some d) (Some a) U S E here silent at is idle =
+      let told = S n c here in
+      attempt-keeps c a d U (U n c.place d at) (record { here = here ∙ ap (λ z. Some z) (present-at c a is); silent = silent; epochs = E; ops = ops-at r n c a told.0 is told.1 }) at is idle
 
   -- each move of a client that goes on keeps what is said of epochs, where no letter of its conversation is in flight unless it waits
-  pub moved-keeps : (c : ClientState) → Unsnapped r → Epochs r top w → slice_get w.clients n ≡ Some c → (waits c ≡ false → talk_of n w.messages ≡ []) → Keeps r top w n (moved (client_plan r n) c)
+  pub moved-keeps : (c : ClientState) → Unsnapped r → ClientsStand r w → Epochs r top w → slice_get w.clients n ≡ Some c → (waits c ≡ false → talk_of n w.messages ≡ []) → Keeps r top w n (moved (client_plan r n) c)
   unfolding moved
-  moved-keeps c U E here silent = by (waits c) refl
+  moved-keeps c U S E here silent = by (waits c) refl
     where
       by : (b : Bool) → waits c ≡ b → Keeps r top w n (if b then rests c else moves_at (client_plan r n) c (command_at (client_plan r n) c) c.present)
       by true e = unsaid-keeps r top w n c (rests c) refl E (quiet-same r top w n c c E here (omega arith) refl refl) tt
-      by false e = moves-at-keeps c (command_at (client_plan r n) c) c.present U E here (silent e) refl refl e
+      by false e = moves-at-keeps c (command_at (client_plan r n) c) c.present U S E here (silent e) refl refl e

@@ -12,9 +12,7 @@ use Rattle.world_base.specs.declared.client.ClientState.{ClientState}
 use Rattle.world_base.specs.declared.letter.Letter.{Letter}
 use Rattle.world_base.specs.declared.world.World.{World}
 use Rattle.world_base.specs.ClientTurns.{waits}
-use Rattle.world_events.specs.Events.{Rules, client_plan}
 use Rattle.world_events.specs.Letters.{Takes, client, is_client, is_talk_of, is_tell, talk_of}
-use Rattle.world_talks.specs.Conversation.{Conversation, Talks}
 use Rattle.world_epochs.specs.Epochs.{AsksEpoch, LacksEpoch}
 use Rattle.world_epochs.specs.Lists.{nothing-passes, taken-alone}
 
@@ -40,18 +38,30 @@ pub lacks-no_tell : (m : Message) (x : AttemptId) → LacksEpoch m x → is_tell
 lacks-no_tell (message.Tell tracker) x h = absurd h
 lacks-no_tell m x h = refl
 
+-- the letters of a conversation: none, or one where the client waits
+pub data AtMostOne (letters : List Letter) (waiting : Bool) : Type 0 where
+  NoLetter : letters ≡ [] → AtMostOne letters waiting
+  OneLetter : (z : Letter) → letters ≡ z ∷ [] → waiting ≡ true → AtMostOne letters waiting
+
+-- it is so of every client's
+abbrev pub TalksOnce : World → Type 0
+TalksOnce w = (n : ℕ) (c : ClientState) → slice_get w.clients n ≡ Some c → AtMostOne (talk_of n w.messages) (waits c)
+
 -- a client of whose conversation a letter is in flight waits, and no other is
-pub talking : (r : Rules) (w : World) (n : ℕ) (c : ClientState) (l : Letter) → Conversation r w → slice_get w.clients n ≡ Some c → Contains w.messages l → is_talk_of n l ≡ true
-    → (waits c ≡ true) × ((z : Letter) × (talk_of n w.messages ≡ z ∷ []))
-talking r w n c l v here among t = by (waits c) refl (v.talks n c here)
+pub talking : (w : World) (n : ℕ) (c : ClientState) (l : Letter) → TalksOnce w → slice_get w.clients n ≡ Some c → Contains w.messages l → is_talk_of n l ≡ true → (waits c ≡ true) × ((z : Letter) × (talk_of n w.messages ≡ z ∷ []))
+talking w n c l v here among t = by (v n c here)
   where
-    by : (b : Bool) → waits c ≡ b → Talks (client_plan r n) n c (talk_of n w.messages) b → (waits c ≡ true) × ((z : Letter) × (talk_of n w.messages ≡ z ∷ []))
-    by true e k = (e, (k.0, k.1))
-    by false e k = absurd (nothing-passes (is_talk_of n) w.messages l k among t)
+    by : AtMostOne (talk_of n w.messages) (waits c) → (waits c ≡ true) × ((z : Letter) × (talk_of n w.messages ≡ z ∷ []))
+    by (OneLetter z is waiting) = (waiting, (z, is))
+    by (NoLetter none) = absurd (nothing-passes (is_talk_of n) w.messages l none among t)
 
 -- of a client that doesn't wait no letter is in flight
-pub silent-unless : (r : Rules) (w : World) (n : ℕ) (c : ClientState) → Conversation r w → slice_get w.clients n ≡ Some c → waits c ≡ false → talk_of n w.messages ≡ []
-silent-unless r w n c v here idle = subst (λ b. Talks (client_plan r n) n c (talk_of n w.messages) b) idle (v.talks n c here)
+pub silent-unless : (w : World) (n : ℕ) (c : ClientState) → TalksOnce w → slice_get w.clients n ≡ Some c → waits c ≡ false → talk_of n w.messages ≡ []
+silent-unless w n c v here idle = by (v n c here)
+  where
+    by : AtMostOne (talk_of n w.messages) (waits c) → talk_of n w.messages ≡ []
+    by (NoLetter none) = none
+    by (OneLetter z is waiting) = let no : ⊥ = cc in absurd no
 
 -- ---- a letter that is taken
 
@@ -66,12 +76,12 @@ rest-among letters l rest m t h = subst (λ ls. Contains ls m) (sym t.among) (by
     by (inr k) = Contains-append_right t.before (l ∷ t.after) m (Contains-append_right (l ∷ []) t.after m k)
 
 -- where the letter of a conversation is taken, none of it is left
-pub taken-silent : (r : Rules) (w : World) (n : ℕ) (c : ClientState) (l : Letter) (rest : List Letter) → Conversation r w → slice_get w.clients n ≡ Some c → Takes w.messages l rest → is_talk_of n l ≡ true
+pub taken-silent : (w : World) (n : ℕ) (c : ClientState) (l : Letter) (rest : List Letter) → TalksOnce w → slice_get w.clients n ≡ Some c → Takes w.messages l rest → is_talk_of n l ≡ true
     → talk_of n rest ≡ []
-taken-silent r w n c l rest v here t talk = subst (λ ls. talk_of n ls ≡ []) (sym t.left) (taken-alone (is_talk_of n) t.before t.after l k.1.0 (subst (λ ls. talk_of n ls ≡ k.1.0 ∷ []) t.among k.1.1) talk)
+taken-silent w n c l rest v here t talk = subst (λ ls. talk_of n ls ≡ []) (sym t.left) (taken-alone (is_talk_of n) t.before t.after l k.1.0 (subst (λ ls. talk_of n ls ≡ k.1.0 ∷ []) t.among k.1.1) talk)
   where
     k : (waits c ≡ true) × ((z : Letter) × (talk_of n w.messages ≡ z ∷ []))
-    k = talking r w n c l v here (taken-among w.messages l rest t) talk
+    k = talking w n c l v here (taken-among w.messages l rest t) talk
 
 -- no letter of a conversation of which none is in flight
 pub silent-not : (n : ℕ) (letters : List Letter) (l : Letter) → talk_of n letters ≡ [] → Contains letters l → is_talk_of n l ≡ true → ⊥

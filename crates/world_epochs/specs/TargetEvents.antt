@@ -1,308 +1,431 @@
 -- The events of a target keep what is said of epochs.
-use Rattle.std.specs.Prelude.{ℕ, ◌≡◌, ◌≤◌, ◌<◌, ◌+◌, ◌*◌, ◌/◌, ◌%◌, ◌++◌, ◌⊎◌, true, false, List, [], ◌∷◌, Contains, slice_get, Option, Some, None, refl}
+use Rattle.std.specs.Prelude.{ℕ, ◌≡◌, ◌≤◌, ◌<◌, ◌+◌, ◌*◌, ◌/◌, ◌%◌, ◌^◌, ◌++◌, ◌⊎◌, Bool, true, false, min, max, nat_le, List, [], ◌∷◌, length, map, Contains, slice_get, Option, Some, None, refl}
 use Rattle.std.specs.Option.{option_map}
 use Rattle.std.proofs.Common.{append-nil, sym, ◌∙◌, ap, subst, inl, inr, ⊎_elim, arith}
-use Rattle.std.proofs.lemmas.List.Elements.{Contains-append_cases}
-use Rattle.std.proofs.lemmas.Option.{slice_get_within}
+use Rattle.std.proofs.Math.ListN.{set}
+use Rattle.std.proofs.lemmas.List.Elements.{Contains-append_cases, Contains-append_left, Contains-append_right}
+use Rattle.std.proofs.lemmas.Option.{cond_some, slice_get_within, some_pair_parts}
+use Rattle.daos_base.specs.declared.entry.Entry.{Entry}
 use Rattle.daos_base.specs.declared.epoch.Epoch.{Epoch}
 use Rattle.daos_base.specs.declared.id.AttemptId.{AttemptId}
+use Rattle.daos_base.specs.declared.operation.MinorWrite.{MinorWrite}
+use Rattle.daos_base.specs.declared.operation.Read.{Read}
 use Rattle.daos_base.specs.declared.outcome.FloorWhy.{FloorWhy}
+use Rattle.daos_base.specs.Epochs.{issued_ticks, last_ticks}
 use Rattle.daos_hlc.specs.Clock.{next_ticks}
+use Rattle.daos_laws.specs.Members.{contains-from_has, has-from_contains, has-from_map}
 use Rattle.daos_messages.specs.declared.actor.ActorId.{ActorId}
 use Rattle.daos_messages.specs.declared.message.Message.{Message}
 use Rattle.daos_messages.specs.declared.message.Message.TheVariants as message
+use Rattle.daos_messages.specs.declared.message.Post.{Post}
+use Rattle.dtx_base.specs.declared.member.Parked.{Parked}
 use Rattle.world_base.specs.declared.client.ClientState.{ClientState}
 use Rattle.world_base.specs.declared.client.Present.{Present}
 use Rattle.world_base.specs.declared.did.Did.{Did}
 use Rattle.world_base.specs.declared.letter.Letter.{Letter}
+use Rattle.world_base.specs.declared.request.CommitRequest.{CommitRequest}
+use Rattle.world_base.specs.declared.request.FetchRequest.{FetchRequest}
 use Rattle.world_base.specs.declared.target.TargetMemory.{TargetMemory}
 use Rattle.world_base.specs.declared.target.TargetPlan.{TargetPlan}
 use Rattle.world_base.specs.declared.target.TargetState.{TargetState}
 use Rattle.world_base.specs.declared.world.World.{World}
 use Rattle.world_base.specs.ClientTurns.{is_waiting, waits}
-use Rattle.world_events.specs.Events.{Rules, TargetHears, TargetIdles, after_turn, kept, listed, target_after, target_plan, with_target}
-use Rattle.world_events.specs.Letters.{client, is_talk_of, talk_of, target}
-use Rattle.world_talks.specs.Conversation.{Conversation}
+use Rattle.world_events.specs.Events.{Rules, TargetHears, TargetIdles, after_turn, kept, listed, target_after, target_plan, with_epoch, with_target}
+use Rattle.world_events.specs.Letters.{client, is_talk_of, letter_of, letters_of, talk_of, target}
+use Rattle.world_turns.specs.Acks as ack
 use Rattle.world_turns.specs.Changes.{Kept}
-use Rattle.world_turns.specs.Requests.{epoch_of_ticks, issued_for, request_epoch, says}
-use Rattle.world_turns.specs.TargetTurns.{Hears}
-use Rattle.world_epochs.specs.Epochs.{AsksEpoch, BearsEpoch, Epochs, IsIssued, IsPresent, IsTold, IsUnissued, LacksEpoch, OneTarget, reads_snapshot}
-use Rattle.world_epochs.specs.Lists.{contains-one}
-use Rattle.world_epochs.specs.Talking.{asks-no_tell, lacks-no_tell, rest-among, silent-not, taken-among, taken-silent, talking, talks-from, talks-to}
-use Rattle.world_epochs.specs.TargetLaws.{IsNew, TargetDid, target-keeps}
-use Rattle.world_epochs.specs.TargetSteps.{ByEnd, ByRead, Covers, Heeds, IsAnswer, IsDated, IsSpent, commit-heeds, idle-keeps, read-heeds, ticks-issued}
+use Rattle.world_turns.specs.Requests.{epoch_of_ticks, issued_for, request_epoch}
+use Rattle.world_turns.specs.TargetTurns.{Hears, commit_request, fetch_request, prepare_request}
+use Rattle.world_epochs.specs.CommitTurns.{IsKnownCommit, commit-leaves}
+use Rattle.world_epochs.specs.Epochs.{AsksEpoch, BearsEpoch, Epochs, IsIssued, IsPresent, IsTold, IsUnissued, LacksEpoch, answers_undated, reads_snapshot}
+use Rattle.world_epochs.specs.FetchTurns.{Covers, Dates, IsDated, IsKnownFetch, IsSpent, fetch-leaves}
+use Rattle.world_epochs.specs.MemberTurns.{GoesOn, ack-leaves, idle-leaves, mark-leaves, marked-leaves, prepare-leaves, query-leaves}
+use Rattle.world_epochs.specs.Sayings.{AreKnown, AreParkedKnown, Known, Leaves, Says, Spent, Stays, known-all, parked-all, says-each}
+use Rattle.world_epochs.specs.Talking.{TalksOnce, asks-no_tell, lacks-no_tell, rest-among, silent-not, taken-among, taken-silent, talking, talks-from, talks-to}
+use Rattle.world_epochs.specs.TargetLaws.{IsNew, TargetDid, issued_then, listed-has, target-keeps}
+use Rattle.world_epochs.specs.VerdictTurns.{verdict-leaves}
 
--- ---- one target
+-- ---- an epoch that is issued
 
-one-target : (n : ℕ) → n < 1 → n ≡ 0
-one-target n h = omega arith
-
-pub only-target : (r : Rules) (w : World) (t : ℕ) (s : TargetState) → OneTarget r w → slice_get w.targets t ≡ Some s → t ≡ 0
-only-target r w t s one here = one-target t (subst (λ n. t < n) one.alone (slice_get_within w.targets t s here))
-
--- the world after a turn of target 0 that adds no line
-target-after : (r : Rules) (top : ℕ) (w : World) (t : ℕ) (s new : TargetState) (letters : List Letter) (o : Option (AttemptId × Epoch)) → t ≡ 0 → Epochs r top w → TargetDid r top w s new letters o
-    → Epochs r top (with_target t new (record w { messages = letters; issued = w.issued ++ listed o; lines = w.lines ++ [] }))
-target-after r top w t s new letters o zero' E D = rw (zero', append-nil w.lines) (target-keeps r top w s new letters o E D)
-
--- ---- idle work
-
-pub idles-kept : (r : Rules) (top : ℕ) (w v : World) → OneTarget r w → Epochs r top w → TargetIdles r w v → Epochs r top v
-idles-kept r top w v one E g = subst (λ z. Epochs r top z) (sym g.after) (subst (λ d. Epochs r top (with_target g.t new (after_turn w (target g.t) d w.messages))) (sym k.2) after)
+-- ticks that are issued are above those so far and those of the tracker
+pub ticks-issued : (target ticks reading tracker t : ℕ) → next_ticks (record { target = target; ticks = ticks }) reading tracker ≡ Some t → (ticks < t) × (tracker / 256 < t)
+ticks-issued target ticks reading tracker t h = by (cond_some (nat_le (issued_ticks ticks reading tracker) last_ticks) (issued_ticks ticks reading tracker) t h).1
   where
-    new : TargetState
-    new = target_after g.s g.new g.memory
+    above : (a b c : ℕ) → max (max (a + 1) b) (c + 1) ≡ t → (a < t) × (c < t)
+    above a b c e = (omega arith, omega arith)
 
-    k : (g.new.durable.lease ≡ g.s.durable.lease) × (g.memory.ticks ≡ g.s.memory.ticks) × (g.did ≡ record { posts = []; lines = []; issued = None })
-    k = idle-keeps g.s.memory (kept g.s) g.new (g.memory, g.did) g.turn
+    by : issued_ticks ticks reading tracker ≡ t → (ticks < t) × (tracker / 256 < t)
+    by e = above ticks (min reading (2 ^ 55)) (tracker / 256) e
 
-    lease : g.new.durable.lease ≡ g.s.durable.lease
-    lease = k.0
-
-    ticks : g.memory.ticks ≡ g.s.memory.ticks
-    ticks = k.1
-
-    zero' : g.t ≡ 0
-    zero' = only-target r w g.t g.s one g.here
-
-    did : TargetDid r top w g.s new w.messages None
-    did = record {
-      here = subst (λ t. slice_get w.targets t ≡ Some g.s) zero' g.here;
-      only = λ t z here. only-target r w t z one here;
-      life = refl;
-      lease = omega (arith, lease);
-      ticks = omega (arith, ticks);
-      issues = λ x e k. let none : ⊥ = cc in absurd none;
-      asks = λ l x k h a. (h, λ e k. let none : ⊥ = cc in none);
-      lacks = λ l x h a. let k = E.lacking l x h a in (k.0, k.1, λ e k. let none : ⊥ = cc in none);
-      bears = λ l x e h a. inl (E.borne l x e h a);
-      plain = E.plain;
-    }
-
-    after : Epochs r top (with_target g.t new (record w { messages = w.messages ++ []; issued = w.issued ++ []; lines = w.lines ++ [] }))
-    after = rw (append-nil w.messages) (target-after r top w g.t g.s new w.messages None zero' E did)
-
--- ---- hearing
-
--- what a target hears, and what it does: a request of an attempt that asks for an epoch, or bears it
-record Hearing (t : TargetPlan) (m : TargetMemory) (reading : ℕ) (from : ActorId) (said : Message) (old new : Kept) (left : TargetMemory × Did) : Type 0 where
-  x : AttemptId
-  ep : Option Epoch
-  tracker : Epoch
-  asks : ep ≡ None → AsksEpoch said x tracker
-  bears : (e : Epoch) → ep ≡ Some e → BearsEpoch said x e
-  heeds : Heeds t m reading from x ep tracker new.durable.lease left
-  lease : old.durable.lease ≤ new.durable.lease
-
-hearing : (t : TargetPlan) (opening : Epoch × FloorWhy) (m : TargetMemory) (reading : ℕ) (from : ActorId) (said : Message) (old new : Kept) (left : TargetMemory × Did) → reads_snapshot said ≡ false
-    → Hears t opening m reading from said old new left → Hearing t m reading from said old new left
-hearing t opening m reading from (message.Fetch x op group ep first tracker r snapshot) old new left plain h =
-    let k = read-heeds t m reading (record { attempt = x; op = op; group = group; ep = ep; first = first; tracker = tracker; read = r; snapshot = snapshot }) from old new left plain h in
-    record {
-      x = x;
-      ep = ep;
-      tracker = tracker;
-      asks = λ e. subst (λ o. AsksEpoch (message.Fetch x op group o first tracker r snapshot) x tracker) (sym e) (refl, refl);
-      bears = λ own e. subst (λ o. BearsEpoch (message.Fetch x op group o first tracker r snapshot) x own) (sym e) (subst (λ b. BearsEpoch (message.Fetch x op group (Some own) first tracker r b) x own) (sym plain) (refl, refl));
-      heeds = k.0;
-      lease = k.1;
-    }
-hearing t opening m reading from (message.Commit x ep first tracker ws) old new left plain h =
-    let k = commit-heeds t opening m reading (record { attempt = x; ep = ep; first = first; tracker = tracker; writes = ws }) from old new left h in
-    record {
-      x = x;
-      ep = ep;
-      tracker = tracker;
-      asks = λ e. subst (λ o. AsksEpoch (message.Commit x o first tracker ws) x tracker) (sym e) (refl, refl);
-      bears = λ own e. subst (λ o. BearsEpoch (message.Commit x o first tracker ws) x own) (sym e) (refl, refl);
-      heeds = k.0;
-      lease = k.1;
-    }
-hearing t opening m reading from said old new left plain h = absurd h
-
-answer-asks : (y : AttemptId) (own : Option Epoch) (a : Message) (x : AttemptId) (k : Epoch) → IsAnswer y own a → AsksEpoch a x k → ⊥
-answer-asks y own a x k (ByRead op group b is) h = subst (λ m. AsksEpoch m x k) is h
-answer-asks y own a x k (ByEnd how is) h = subst (λ m. AsksEpoch m x k) is h
-
-answer-plain : (y : AttemptId) (own : Option Epoch) (a : Message) → IsAnswer y own a → reads_snapshot a ≡ false
-answer-plain y own a (ByRead op group b is) = ap reads_snapshot is
-answer-plain y own a (ByEnd how is) = ap reads_snapshot is
-
-answer-lacks : (y : AttemptId) (own : Option Epoch) (a : Message) (x : AttemptId) → IsAnswer y own a → LacksEpoch a x → (own ≡ None) × (y ≡ x)
-answer-lacks y None a x (ByRead op group b is) h = (refl, subst (λ m. LacksEpoch m x) is h)
-answer-lacks y None a x (ByEnd how is) h = (refl, subst (λ m. LacksEpoch m x) is h)
-answer-lacks y (Some e) a x (ByRead op group b is) h = absurd (subst (λ m. LacksEpoch m x) is h)
-answer-lacks y (Some e) a x (ByEnd how is) h = absurd (subst (λ m. LacksEpoch m x) is h)
-
-answer-bears : (y : AttemptId) (own : Option Epoch) (a : Message) (x : AttemptId) (e : Epoch) → IsAnswer y own a → BearsEpoch a x e → (own ≡ Some e) × (y ≡ x)
-answer-bears y None a x e (ByRead op group b is) h = absurd (subst (λ m. BearsEpoch m x e) is h)
-answer-bears y None a x e (ByEnd how is) h = absurd (subst (λ m. BearsEpoch m x e) is h)
-answer-bears y (Some f) a x e (ByRead op group b is) h = let k : (y ≡ x) × (f ≡ e) = subst (λ m. BearsEpoch m x e) is h in (ap (λ z. Some z) k.1, k.0)
-answer-bears y (Some f) a x e (ByEnd how is) h = let k : (y ≡ x) × (f ≡ e) = subst (λ m. BearsEpoch m x e) is h in (ap (λ z. Some z) k.1, k.0)
-
--- an epoch that is issued has ticks above those so far and above those of the tracker
-pub issued-ticks : (t : TargetPlan) (m : TargetMemory) (reading : ℕ) (tracker : Epoch) (e : Epoch) → t.me ≡ 0 → request_epoch t m reading tracker None ≡ Some e
-    → (m.ticks < e.0 / 256) × (tracker.0 < e.0) × (e.0 % 256 ≡ 0)
-issued-ticks t m reading tracker e me h = by (next_ticks (record { target = t.me; ticks = m.ticks }) reading tracker.0) refl h
+-- it has ticks above those so far and above those of the tracker, and names the target
+pub issued-ticks : (t : TargetPlan) (m : TargetMemory) (reading : ℕ) (tracker : Epoch) (e : Epoch) → t.me < 256 → request_epoch t m reading tracker None ≡ Some e
+    → (m.ticks < e.0 / 256) × (tracker.0 < e.0) × (e.0 % 256 ≡ t.me)
+issued-ticks t m reading tracker e few h = by (next_ticks (record { target = t.me; ticks = m.ticks }) reading tracker.0) refl h
   where
-    parts : (n k : ℕ) → e.0 ≡ n * 256 + t.me → m.ticks < n → tracker.0 / 256 < n → (m.ticks < e.0 / 256) × (tracker.0 < e.0) × (e.0 % 256 ≡ 0)
-    parts n k is a b = (omega (arith, is, me, a), omega (arith, is, me, b), omega (arith, is, me))
+    parts : (n : ℕ) → e.0 ≡ n * 256 + t.me → m.ticks < n → tracker.0 / 256 < n → (m.ticks < e.0 / 256) × (tracker.0 < e.0) × (e.0 % 256 ≡ t.me)
+    parts n is a b = (omega (arith, is, few, a), omega (arith, is, b), omega (arith, is, few))
 
     by : (o : Option ℕ) → next_ticks (record { target = t.me; ticks = m.ticks }) reading tracker.0 ≡ o → option_map (epoch_of_ticks t.me) o ≡ Some e
-        → (m.ticks < e.0 / 256) × (tracker.0 < e.0) × (e.0 % 256 ≡ 0)
+        → (m.ticks < e.0 / 256) × (tracker.0 < e.0) × (e.0 % 256 ≡ t.me)
     by None is k = let none : ⊥ = cc in absurd none
     by (Some n) is k =
         let up : (m.ticks < n) × (tracker.0 / 256 < n) = ticks-issued t.me m.ticks reading tracker.0 n is in
         let own : epoch_of_ticks t.me n ≡ e = cc in
-        parts n 0 (sym (ap (λ z. z.0) own)) up.0 up.1
+        parts n (sym (ap (λ z. z.0) own)) up.0 up.1
 
-pub hears-kept : (r : Rules) (top : ℕ) (w v : World) → OneTarget r w → Conversation r w → Epochs r top w → TargetHears r w v → Epochs r top v
-hears-kept r top w v one talk E g = subst (λ z. Epochs r top z) (sym g.after) (by k.heeds)
+-- ---- what a turn issues
+
+-- a request of an attempt that asks for an epoch after this tracker, or bears its own
+record Asking (said : Message) (x : AttemptId) (ep : Option Epoch) (tracker : Epoch) : Type 0 where
+  asks : ep ≡ None → AsksEpoch said x tracker
+  bears : (e : Epoch) → ep ≡ Some e → BearsEpoch said x e
+
+-- a turn issues nothing, or an epoch to the attempt that asks for one
+pub data Issuing (t : TargetPlan) (m : TargetMemory) (reading : ℕ) (said : Message) (lease : ℕ) (left : TargetMemory × Did) : Type 0 where
+  Nothing : left.1.issued ≡ None → Issuing t m reading said lease left
+  ItsEpoch : (x : AttemptId) (e tracker : Epoch) → AsksEpoch said x tracker → Covers t m reading tracker None e lease → left.1.issued ≡ Some (x, e) → e.0 / 256 ≤ left.0.ticks → Issuing t m reading said lease left
+
+module _ (t : TargetPlan) (m : TargetMemory) (reading : ℕ) (said : Message) (x : AttemptId) (ep : Option Epoch) (tracker : Epoch) (lease : ℕ) (left : TargetMemory × Did) (A : Asking said x ep tracker) (D : Dates t m reading x ep tracker lease left) where
+  issuing-of : Issuing t m reading said lease left
+  issuing-of = by D
+    where
+      dated : (o : Option Epoch) → ep ≡ o → (e : Epoch) → Covers t m reading tracker o e lease → left.1.issued ≡ issued_for x o e → e.0 / 256 ≤ left.0.ticks → Issuing t m reading said lease left
+      dated None none e c is up = ItsEpoch x e tracker (A.asks none) c is up
+      dated (Some own) some e c is up = Nothing is
+
+      by : Dates t m reading x ep tracker lease left → Issuing t m reading said lease left
+      by (IsSpent none is) = Nothing is
+      by (IsDated e c is up) = dated ep refl e c is up
+
+  -- the epoch of the request was issued before, or is issued now
+  known-of : (P : Known) → ((e : Epoch) → BearsEpoch said x e → P x e) → ((e : Epoch) → left.1.issued ≡ Some (x, e) → P x e) → (e : Epoch) → request_epoch t m reading tracker ep ≡ Some e → P x e
+  known-of P old new e found = by D
+    where
+      same : (f : Epoch) → Some f ≡ Some e → f ≡ e
+      same f is = cc
+
+      dated : (o : Option Epoch) → ep ≡ o → (f : Epoch) → left.1.issued ≡ issued_for x o f → f ≡ e → request_epoch t m reading tracker o ≡ Some e → P x e
+      dated None none f is one found' = subst (P x) one (new f is)
+      dated (Some own) some f is one found' = subst (P x) (same own found') (old own (A.bears own some))
+
+      by : Dates t m reading x ep tracker lease left → P x e
+      by (IsSpent none is) = let no : ⊥ = cc in absurd no
+      by (IsDated f c is up) = dated ep refl f is (same f (sym c.found ∙ found)) found
+
+  -- where there is none, nothing is issued
+  spent-of : request_epoch t m reading tracker ep ≡ None → (ep ≡ None) × (left.1.issued ≡ None)
+  spent-of none = (no-own ep refl none, by D)
+    where
+      no-own : (o : Option Epoch) → ep ≡ o → request_epoch t m reading tracker o ≡ None → ep ≡ None
+      no-own None is k = is
+      no-own (Some own) is k = let no : ⊥ = cc in absurd no
+
+      by : Dates t m reading x ep tracker lease left → left.1.issued ≡ None
+      by (IsSpent k is) = is
+      by (IsDated f c is up) = let found : request_epoch t m reading tracker ep ≡ Some f = c.found in let no : ⊥ = cc in absurd no
+
+-- ---- what a turn leaves
+
+-- everything is known, and everyone may be told
+abbrev anything : Known
+anything x e = Unit {0}
+
+abbrev anyone : Spent
+anyone x to = Unit {0}
+
+all-anything : (ks : List Entry) → AreKnown anything ks
+all-anything [] = tt
+all-anything (k ∷ ks) = (tt, all-anything ks)
+
+parked-anything : (P : Known) (ps : List Parked) → AreParkedKnown P ps → AreParkedKnown anything ps
+parked-anything P [] h = tt
+parked-anything P (p ∷ ps) h = (record { x = h.0.x; e = h.0.e; bears = h.0.bears; known = tt }, parked-anything P ps h.1)
+
+-- what is known when a turn begins: the epochs that are heard, those of entries here, those of Fetches that wait, and what the turn
+-- issues
+record Knows (P : Known) (L : Spent) (from : ActorId) (said : Message) (old : Kept) (m : TargetMemory) (left : TargetMemory × Did) : Type 0 where
+  heard : (x : AttemptId) (e : Epoch) → BearsEpoch said x e → P x e
+  issued : (x : AttemptId) (e : Epoch) → left.1.issued ≡ Some (x, e) → P x e
+  spent : (x : AttemptId) (tracker : Epoch) → AsksEpoch said x tracker → left.1.issued ≡ None → L x from
+  entries : AreKnown P old.durable.entries
+  parked : AreParkedKnown P m.member.parked
+
+-- what a turn of a target does with epochs
+record Turns (P : Known) (L : Spent) (t : TargetPlan) (m : TargetMemory) (reading : ℕ) (said : Message) (old new : Kept) (left : TargetMemory × Did) : Type 0 where
+  leaves : Leaves P L m left
+  stays : Stays P old.durable.lease new
+  issuing : Issuing t m reading said new.durable.lease left
+
+goes-on : (P : Known) (L : Spent) (t : TargetPlan) (m : TargetMemory) (reading : ℕ) (said : Message) (old new : Kept) (left : TargetMemory × Did) → GoesOn P L m old.durable.lease new left → Turns P L t m reading said old new left
+goes-on P L t m reading said old new left g = record { leaves = g.leaves; stays = g.stays; issuing = Nothing g.issued }
+
+module _ (P : Known) (L : Spent) (t : TargetPlan) (opening : Epoch × FloorWhy) (m : TargetMemory) (reading : ℕ) (from : ActorId) (old new : Kept) (left : TargetMemory × Did) where
+  fetch-turns : (x : AttemptId) (op group : ℕ) (ep first : Option Epoch) (tracker : Epoch) (r : Read) → Knows P L from (message.Fetch x op group ep first tracker r false) old m left
+      → Hears t opening m reading from (message.Fetch x op group ep first tracker r false) old new left → Turns P L t m reading (message.Fetch x op group ep first tracker r false) old new left
+  fetch-turns x op group ep first tracker r K h = record { leaves = k.1; stays = k.2; issuing = issuing-of t m reading said x ep tracker new.durable.lease left asking dates }
+    where
+      said : Message
+      said = message.Fetch x op group ep first tracker r false
+
+      q : FetchRequest
+      q = fetch_request x op group ep first tracker r false
+
+      asks : (o : Option Epoch) → o ≡ None → AsksEpoch (message.Fetch x op group o first tracker r false) x tracker
+      asks None is = (refl, refl)
+      asks (Some e) is = let no : ⊥ = cc in absurd no
+
+      bears : (o : Option Epoch) (e : Epoch) → o ≡ Some e → BearsEpoch (message.Fetch x op group o first tracker r false) x e
+      bears None e is = let no : ⊥ = cc in absurd no
+      bears (Some f) e is = (refl, cc)
+
+      asking : Asking said x ep tracker
+      asking = record { asks = asks ep; bears = bears ep }
+
+      dates : Dates t m reading x ep tracker new.durable.lease left
+      dates =
+          (fetch-leaves anything anyone t m reading q from old.durable.lease old new left refl h (record { lease = omega arith; entries = all-anything old.durable.entries })
+          (record { epoch = λ e f. tt; spent = λ n. tt; parked = parked-anything P m.member.parked K.parked })).0
+
+      known : IsKnownFetch P L t m reading q from
+      known = record {
+        epoch = known-of t m reading said x ep tracker new.durable.lease left asking dates P (λ e b. K.heard x e b) (λ e i. K.issued x e i);
+        spent = λ none. let s = spent-of t m reading said x ep tracker new.durable.lease left asking dates none in K.spent x tracker (asks ep s.0) s.1;
+        parked = K.parked;
+      }
+
+      k : Dates t m reading x ep tracker new.durable.lease left × Leaves P L m left × Stays P old.durable.lease new
+      k = fetch-leaves P L t m reading q from old.durable.lease old new left refl h (record { lease = omega arith; entries = K.entries }) known
+
+  commit-turns : (x : AttemptId) (ep first : Option Epoch) (tracker : Epoch) (ws : List MinorWrite) → Knows P L from (message.Commit x ep first tracker ws) old m left
+      → Hears t opening m reading from (message.Commit x ep first tracker ws) old new left → Turns P L t m reading (message.Commit x ep first tracker ws) old new left
+  commit-turns x ep first tracker ws K h = record { leaves = k.1; stays = k.2; issuing = issuing-of t m reading said x ep tracker new.durable.lease left asking dates }
+    where
+      said : Message
+      said = message.Commit x ep first tracker ws
+
+      q : CommitRequest
+      q = commit_request x ep first tracker ws
+
+      asks : (o : Option Epoch) → o ≡ None → AsksEpoch (message.Commit x o first tracker ws) x tracker
+      asks None is = (refl, refl)
+      asks (Some e) is = let no : ⊥ = cc in absurd no
+
+      bears : (o : Option Epoch) (e : Epoch) → o ≡ Some e → BearsEpoch (message.Commit x o first tracker ws) x e
+      bears None e is = let no : ⊥ = cc in absurd no
+      bears (Some f) e is = (refl, cc)
+
+      asking : Asking said x ep tracker
+      asking = record { asks = asks ep; bears = bears ep }
+
+      dates : Dates t m reading x ep tracker new.durable.lease left
+      dates =
+          (commit-leaves anything anyone t opening m reading q from old.durable.lease old new left h (record { lease = omega arith; entries = all-anything old.durable.entries })
+          (record { epoch = λ e f. tt; spent = λ n. tt; parked = parked-anything P m.member.parked K.parked })).0
+
+      known : IsKnownCommit P L t m reading q from
+      known = record {
+        epoch = known-of t m reading said x ep tracker new.durable.lease left asking dates P (λ e b. K.heard x e b) (λ e i. K.issued x e i);
+        spent = λ none. let s = spent-of t m reading said x ep tracker new.durable.lease left asking dates none in K.spent x tracker (asks ep s.0) s.1;
+        parked = K.parked;
+      }
+
+      k : Dates t m reading x ep tracker new.durable.lease left × Leaves P L m left × Stays P old.durable.lease new
+      k = commit-leaves P L t opening m reading q from old.durable.lease old new left h (record { lease = omega arith; entries = K.entries }) known
+
+  stands : (said : Message) → Knows P L from said old m left → Stays P old.durable.lease old
+  stands said K = record { lease = omega arith; entries = K.entries }
+
+  -- every turn in which a target hears a message
+  hears-turns : (said : Message) → reads_snapshot said ≡ false → Knows P L from said old m left → Hears t opening m reading from said old new left → Turns P L t m reading said old new left
+  hears-turns (message.Fetch x op group ep first tracker r true) plain K h = let no : ⊥ = cc in absurd no
+  hears-turns (message.Fetch x op group ep first tracker r false) plain K h = fetch-turns x op group ep first tracker r K h
+  hears-turns (message.Commit x ep first tracker ws) plain K h = commit-turns x ep first tracker ws K h
+  hears-turns (message.Prepare e first ws inc) plain K h =
+      goes-on P L t m reading (message.Prepare e first ws inc) old new left
+      (prepare-leaves P L t opening m (prepare_request e first ws inc) old.durable.lease old new left (K.heard e.attempt e.epoch (refl, refl)) K.parked h (stands (message.Prepare e first ws inc) K))
+  hears-turns (message.Ack x inc refusal) plain K h =
+      goes-on P L t m reading (message.Ack x inc refusal) old new left (ack-leaves P L t m from.number x inc refusal old.durable.lease old new left K.parked h (stands (message.Ack x inc refusal) K))
+  hears-turns (message.Mark inc marks) plain K h =
+      goes-on P L t m reading (message.Mark inc marks) old new left (mark-leaves P L m from inc marks old.durable.lease old new left K.parked h (stands (message.Mark inc marks) K))
+  hears-turns (message.Marked inc ids) plain K h =
+      goes-on P L t m reading (message.Marked inc ids) old new left
+      (marked-leaves P L t m from.number inc ids (ack.to_confirm inc ids old.durable) old.durable.lease old new left K.parked h (stands (message.Marked inc ids) K))
+  hears-turns (message.Query x ask) plain K h =
+      goes-on P L t m reading (message.Query x ask) old new left (query-leaves P L t m from x ask old.durable.lease old new left K.parked h (stands (message.Query x ask) K))
+  hears-turns (message.Verdict x ask inc v) plain K h =
+      goes-on P L t m reading (message.Verdict x ask inc v) old new left (verdict-leaves P L old.durable.lease t m reading x ask v K.parked old new left h (stands (message.Verdict x ask inc v) K))
+  hears-turns said plain K h = absurd h
+
+-- ---- the world after a turn
+
+-- a letter is of those that were left, or was sent in the turn
+sent-cases : (rest : List Letter) (from : ActorId) (posts : List Post) (l : Letter) → Contains (rest ++ letters_of from posts) l → Contains rest l ⊎ ((q : Post) × Contains posts q × (letter_of from q ≡ l))
+sent-cases rest from posts l h =
+    ⊎_elim (λ i. inl i) (λ i. let q = has-from_map (letter_of from) posts l (has-from_contains (letters_of from posts) l i) in inr (q.0, contains-from_has posts q.0 q.1, q.2)) (Contains-append_cases rest (letters_of from posts) l h)
+
+-- what is issued in a turn may be issued
+abbrev MayIssue : Rules → ℕ → World → ℕ → TargetState → Option (AttemptId × Epoch) → Type 0
+MayIssue r top w t new o = (x : AttemptId) (e : Epoch) → o ≡ Some (x, e) → IsNew r top w t new x e
+
+-- letters in flight that neither ask nor were answered for an attempt to which an epoch is issued now
+record AreOthers (r : Rules) (w : World) (rest : List Letter) (o : Option (AttemptId × Epoch)) : Type 0 where
+  among : (l : Letter) → Contains rest l → Contains w.messages l
+  asks : (l : Letter) (x : AttemptId) (k e : Epoch) → Contains rest l → AsksEpoch l.message x k → o ≡ Some (x, e) → ⊥
+  lacks : (l : Letter) (x : AttemptId) (e : Epoch) → Contains rest l → LacksEpoch l.message x → o ≡ Some (x, e) → ⊥
+
+-- those who are told that no epoch is left
+abbrev MaySpend : World → Option (AttemptId × Epoch) → Spent
+MaySpend w o x to = (to ≡ client x.client) × IsUnissued w x × (o ≡ None)
+
+turn-keeps : (r : Rules) (top : ℕ) (w : World) (t : ℕ) (s : TargetState) (new : Kept) (memory : TargetMemory) (did : Did) (rest : List Letter) → Epochs r top w → slice_get w.targets t ≡ Some s → AreOthers r w rest did.issued
+    → MayIssue r top w t (target_after s new memory) did.issued → Leaves (issued_then w did.issued) (MaySpend w did.issued) s.memory (memory, did) → Stays (issued_then w did.issued) s.durable.lease new
+    → Epochs r top (with_target t (target_after s new memory) (after_turn w (target t) did rest))
+turn-keeps r top w t s new memory did rest E here O I L S =
+    subst (λ ls. Epochs r top (record w { targets = set w.targets t (target_after s new memory); messages = rest ++ letters_of (target t) did.posts; issued = w.issued ++ listed did.issued; lines = ls })) (sym lines)
+    (target-keeps r top w t s (target_after s new memory) (rest ++ letters_of (target t) did.posts) did.issued E (record {
+      here = here;
+      life = refl;
+      lease = S.lease;
+      ticks = L.ticks;
+      issues = I;
+      asks = λ l x k h a. ⊎_elim (λ i. (O.among l i, λ e is. O.asks l x k e i a is)) (λ q. absurd ((said q.0 q.1).asks x k (subst (λ z. AsksEpoch z.message x k) (sym q.2) a))) (sent l h);
+      lacks = λ l x h a. ⊎_elim
+          (λ i. let f = E.lacking l x (O.among l i) a in (f.0, f.1, λ e is. O.lacks l x e i a is))
+          (λ q. let f = (said q.0 q.1).lacks x (subst (λ z. LacksEpoch z.message x) (sym q.2) a) in (sym (ap (λ z. z.to) q.2) ∙ f.0, f.1, λ e is. let none : did.issued ≡ None = f.2 in let no : ⊥ = cc in no))
+          (sent l h);
+      bears = λ l x e h a. ⊎_elim (λ i. Contains-append_left w.issued (listed did.issued) (x, e) (E.borne l x e (O.among l i) a)) (λ q. (said q.0 q.1).bears x e (subst (λ z. BearsEpoch z.message x e) (sym q.2) a)) (sent l h);
+      plain = λ l h. ⊎_elim (λ i. E.plain l (O.among l i)) (λ q. subst (λ z. reads_snapshot z.message ≡ false) q.2 (said q.0 q.1).plain) (sent l h);
+      dated = λ l h. ⊎_elim (λ i. E.dated l (O.among l i)) (λ q. subst (λ z. answers_undated z.message ≡ false) q.2 (said q.0 q.1).dated) (sent l h);
+      entries = S.entries;
+      parked = L.parked;
+    }))
   where
-    new : TargetState
-    new = target_after g.s g.new g.memory
+    sent : (l : Letter) → Contains (rest ++ letters_of (target t) did.posts) l → Contains rest l ⊎ ((q : Post) × Contains did.posts q × (letter_of (target t) q ≡ l))
+    sent l h = sent-cases rest (target t) did.posts l h
 
-    zero' : g.t ≡ 0
-    zero' = only-target r w g.t g.s one g.here
+    said : (q : Post) → Contains did.posts q → Says (issued_then w did.issued) (MaySpend w did.issued) q
+    said q i = says-each (issued_then w did.issued) (MaySpend w did.issued) did.posts q L.says i
 
+    lines : w.lines ++ map (with_epoch w.issued) did.lines ≡ w.lines
+    lines = ap (λ ls. w.lines ++ map (with_epoch w.issued) ls) L.lines ∙ append-nil w.lines
+
+-- what is known when a turn begins, since the world knows it
+knows-then : (r : Rules) (top : ℕ) (w : World) (t : ℕ) (s : TargetState) (from : ActorId) (said : Message) (o : Option (AttemptId × Epoch)) → Epochs r top w → slice_get w.targets t ≡ Some s
+    → AreKnown (issued_then w o) s.durable.entries × AreParkedKnown (issued_then w o) s.memory.member.parked
+knows-then r top w t s from said o E here = (
+  known-all (issued_then w o) s.durable.entries (λ k i. Contains-append_left w.issued (listed o) (k.attempt, k.epoch) (E.entered t s k here i)),
+  parked-all (issued_then w o) s.memory.member.parked (λ p i. let b = E.parked t s p here i in record { x = b.x; e = b.e; bears = b.bears; known = Contains-append_left w.issued (listed o) (b.x, b.e) b.known }),
+)
+
+-- ---- idle work
+
+none-issued : (w : World) (o : Option (AttemptId × Epoch)) → o ≡ None → (x : AttemptId) (e : Epoch) → o ≡ Some (x, e) → ⊥
+none-issued w o none x e some = cc
+
+pub idles-kept : (r : Rules) (top : ℕ) (w v : World) → Epochs r top w → TargetIdles r w v → Epochs r top v
+idles-kept r top w v E g =
+    subst (λ z. Epochs r top z) (sym g.after)
+    (turn-keeps r top w g.t g.s g.new g.memory g.did w.messages E g.here
+    (record { among = λ l i. i; asks = λ l x tracker e i a is. none-issued w g.did.issued k.issued x e is; lacks = λ l x e i a is. none-issued w g.did.issued k.issued x e is })
+    (λ x e is. absurd (none-issued w g.did.issued k.issued x e is)) k.leaves k.stays)
+  where
+    before : AreKnown (issued_then w g.did.issued) g.s.durable.entries × AreParkedKnown (issued_then w g.did.issued) g.s.memory.member.parked
+    before = knows-then r top w g.t g.s (target g.t) (message.Ask (record { client = 0; command = 0; attempt = 0 })) g.did.issued E g.here
+
+    k : GoesOn (issued_then w g.did.issued) (MaySpend w g.did.issued) g.s.memory g.s.durable.lease g.new (g.memory, g.did)
+    k = idle-leaves (issued_then w g.did.issued) (MaySpend w g.did.issued) g.settling (target_plan r g.t) g.s.memory g.s.durable.lease (kept g.s) g.new (g.memory, g.did) before.1 g.turn (record { lease = omega arith; entries = before.0 })
+
+-- ---- hearing
+
+pub hears-kept : (r : Rules) (top : ℕ) (w v : World) → TalksOnce w → Epochs r top w → TargetHears r w v → Epochs r top v
+hears-kept r top w v talk E g =
+    subst (λ z. Epochs r top z) (sym g.after)
+    (turn-keeps r top w g.t g.s g.new g.memory g.did g.rest E g.here
+    (record { among = in-rest; asks = λ l x t e h a is. other-asks l x t h a (asker x e is); lacks = λ l x e h a is. other-lacks l x h a (asker x e is) })
+    (λ x e is. may-issue x e k.issuing is) k.leaves k.stays)
+  where
     among : Contains w.messages g.l
     among = taken-among w.messages g.l g.rest g.takes
-
-    k : Hearing (target_plan r g.t) g.s.memory g.reading g.l.from g.l.message (kept g.s) g.new (g.memory, g.did)
-    k = hearing (target_plan r g.t) g.s.opening g.s.memory g.reading g.l.from g.l.message (kept g.s) g.new (g.memory, g.did) (E.plain g.l among) g.turn
-
-    lease : g.s.durable.lease ≤ g.new.durable.lease
-    lease = k.lease
 
     in-rest : (l : Letter) → Contains g.rest l → Contains w.messages l
     in-rest l h = rest-among w.messages g.l g.rest l g.takes h
 
+    P : Known
+    P = issued_then w g.did.issued
+
+    L : Spent
+    L = MaySpend w g.did.issued
+
+    before : AreKnown P g.s.durable.entries × AreParkedKnown P g.s.memory.member.parked
+    before = knows-then r top w g.t g.s g.l.from g.l.message g.did.issued E g.here
+
+    k : Turns P L (target_plan r g.t) g.s.memory g.reading g.l.message (kept g.s) g.new (g.memory, g.did)
+    k = hears-turns P L (target_plan r g.t) g.s.opening g.s.memory g.reading g.l.from (kept g.s) g.new (g.memory, g.did) g.l.message (E.plain g.l among) (record {
+      heard = λ x e h. Contains-append_left w.issued (listed g.did.issued) (x, e) (E.borne g.l x e among h);
+      issued = λ x e is. Contains-append_right w.issued (listed g.did.issued) (x, e) (listed-has g.did.issued (x, e) is);
+      spent = λ x tracker a none. (E.asker g.l x tracker among a, (E.fresh g.l x tracker among a).1, none);
+      entries = before.0;
+      parked = before.1;
+    }) g.turn
+
+    -- the attempt to which an epoch is issued asks
+    Asks : AttemptId → Type 0
+    Asks x = (tracker : Epoch) × AsksEpoch g.l.message x tracker
+
+    asker : (x : AttemptId) (e : Epoch) → g.did.issued ≡ Some (x, e) → Asks x
+    asker x e is = by k.issuing
+      where
+        by : Issuing (target_plan r g.t) g.s.memory g.reading g.l.message g.new.durable.lease (g.memory, g.did) → Asks x
+        by (Nothing none) = let no : ⊥ = cc in absurd no
+        by (ItsEpoch y f tracker a c is' up) = let same : y ≡ x = (some_pair_parts y x f e (sym is' ∙ is)).0 in (tracker, subst (λ z. AsksEpoch g.l.message z tracker) same a)
+
     -- the asking client has no other letter in flight
-    alone : (c : ClientState) → k.ep ≡ None → slice_get w.clients k.x.client ≡ Some c → (waits c ≡ true) × (talk_of k.x.client g.rest ≡ [])
-    alone c none here =
-        let asks : AsksEpoch g.l.message k.x k.tracker = k.asks none in
-        let talks : is_talk_of k.x.client g.l ≡ true = talks-from k.x.client g.l (asks-no_tell g.l.message k.x k.tracker asks) (E.asker g.l k.x k.tracker among asks) in
-        ((talking r w k.x.client c g.l talk here among talks).0, taken-silent r w k.x.client c g.l g.rest talk here g.takes talks)
+    alone : (x : AttemptId) (c : ClientState) → Asks x → slice_get w.clients x.client ≡ Some c → (waits c ≡ true) × (talk_of x.client g.rest ≡ [])
+    alone x c a here =
+        let talks : is_talk_of x.client g.l ≡ true = talks-from x.client g.l (asks-no_tell g.l.message x a.0 a.1) (E.asker g.l x a.0 among a.1) in
+        ((talking w x.client c g.l talk here among talks).0, taken-silent w x.client c g.l g.rest talk here g.takes talks)
 
-    waits-then : (c : ClientState) (a : Present) → k.ep ≡ None → slice_get w.clients k.x.client ≡ Some c → c.present ≡ Some a → a.waits ≡ true
-    waits-then c a none here at = sym (ap is_waiting at) ∙ (alone c none here).0
+    other-asks : (l : Letter) (x : AttemptId) (t : Epoch) → Contains g.rest l → AsksEpoch l.message x t → Asks x → ⊥
+    other-asks l x t h a own =
+        let p = (E.fresh g.l x own.0 among own.1).0 in
+        silent-not x.client g.rest l (alone x p.c own p.here).1 h (talks-from x.client l (asks-no_tell l.message x t a) (E.asker l x t (in-rest l h) a))
 
-    present : k.ep ≡ None → IsPresent r w k.x
-    present none = (E.fresh g.l k.x k.tracker among (k.asks none)).0
+    other-lacks : (l : Letter) (x : AttemptId) → Contains g.rest l → LacksEpoch l.message x → Asks x → ⊥
+    other-lacks l x h a own =
+        let p = (E.fresh g.l x own.0 among own.1).0 in
+        silent-not x.client g.rest l (alone x p.c own p.here).1 h (talks-to x.client l (lacks-no_tell l.message x a) (E.lacking l x (in-rest l h) a).0)
 
-    other-asks : (l : Letter) (x : AttemptId) (t : Epoch) → k.ep ≡ None → Contains g.rest l → AsksEpoch l.message x t → (k.x ≡ x) → ⊥
-    other-asks l x t none h a same =
-        let p = present none in
-        let client' : l.from ≡ client k.x.client = E.asker l x t (in-rest l h) a ∙ ap (λ y. client y.client) (sym same) in
-        silent-not k.x.client g.rest l (alone p.c none p.here).1 h (talks-from k.x.client l (asks-no_tell l.message x t a) client')
+    few : g.t < 256
+    few = let p : g.t < length w.targets = slice_get_within w.targets g.t g.s g.here in let q : length w.targets ≤ 256 = E.few in omega (arith, p, q)
 
-    other-lacks : (l : Letter) (x : AttemptId) → k.ep ≡ None → Contains g.rest l → LacksEpoch l.message x → (k.x ≡ x) → ⊥
-    other-lacks l x none h a same =
-        let p = present none in
-        let client' : l.to ≡ client k.x.client = (E.lacking l x (in-rest l h) a).0 ∙ ap (λ y. client y.client) (sym same) in
-        silent-not k.x.client g.rest l (alone p.c none p.here).1 h (talks-to k.x.client l (lacks-no_tell l.message x a) client')
-
-    answer : Message → Letter
-    answer a = record { from = target g.t; to = g.l.from; message = a }
-
-    split : (a : Message) (l : Letter) → Contains (g.rest ++ answer a ∷ []) l → Contains g.rest l ⊎ (answer a ≡ l)
-    split a l h = ⊎_elim (λ j. inl j) (λ j. inr (contains-one (answer a) l j)) (Contains-append_cases g.rest (answer a ∷ []) l h)
-
-    -- the answer without an epoch, or with the attempt's own
-    did-none : (a : Message) (own : Option Epoch) → IsAnswer k.x own a → ((own ≡ None) → k.ep ≡ None) → ((e : Epoch) → own ≡ Some e → k.ep ≡ Some e) → g.s.memory.ticks ≤ g.memory.ticks
-        → TargetDid r top w g.s new (g.rest ++ answer a ∷ []) None
-    did-none a own is none some ticks = record {
-      here = subst (λ t. slice_get w.targets t ≡ Some g.s) zero' g.here;
-      only = λ t z here. only-target r w t z one here;
-      life = refl;
-      lease = lease;
-      ticks = ticks;
-      issues = λ x e j. let none' : ⊥ = cc in absurd none';
-      asks = λ l x t h q. (⊎_elim (in-rest l) (λ j. absurd (answer-asks k.x own a x t is (subst (λ z. AsksEpoch z.message x t) (sym j) q))) (split a l h), λ e j. let none' : ⊥ = cc in none');
-      lacks = λ l x h q. ⊎_elim
-          (λ j. let f = E.lacking l x (in-rest l j) q in (f.0, f.1, λ e i. let none' : ⊥ = cc in none'))
-          (λ j. let f = answer-lacks k.x own a x is (subst (λ z. LacksEpoch z.message x) (sym j) q) in
-          let no-epoch : k.ep ≡ None = none f.0 in
-          let to : l.to ≡ g.l.from = ap (λ z. z.to) (sym j) in
-          (to ∙ E.asker g.l k.x k.tracker among (k.asks no-epoch) ∙ ap (λ y. client y.client) f.1, subst (λ y. IsUnissued w y) f.1 (E.fresh g.l k.x k.tracker among (k.asks no-epoch)).1, λ e i. let none' : ⊥ = cc in none'))
-          (split a l h);
-      bears = λ l x e h q. ⊎_elim
-          (λ j. inl (E.borne l x e (in-rest l j) q))
-          (λ j. let f = answer-bears k.x own a x e is (subst (λ z. BearsEpoch z.message x e) (sym j) q) in
-          inl (E.borne g.l x e among (subst (λ y. BearsEpoch g.l.message y e) f.1 (k.bears e (some e f.0)))))
-          (split a l h);
-      plain = λ l h. ⊎_elim (λ j. E.plain l (in-rest l j)) (λ j. subst (λ z. reads_snapshot z.message ≡ false) j (answer-plain k.x own a is)) (split a l h);
-    }
-
-    -- the answer with an epoch that is issued
-    did-issue : (a : Message) (e : Epoch) → k.ep ≡ None → request_epoch (target_plan r g.t) g.s.memory g.reading k.tracker None ≡ Some e → e.0 / 256 ≤ g.new.durable.lease → IsAnswer k.x (Some e) a
-        → g.s.memory.ticks ≤ g.memory.ticks → e.0 / 256 ≤ g.memory.ticks → TargetDid r top w g.s new (g.rest ++ answer a ∷ []) (Some (k.x, e))
-    did-issue a e none found covered is ticks up = record {
-      here = subst (λ t. slice_get w.targets t ≡ Some g.s) zero' g.here;
-      only = λ t z here. only-target r w t z one here;
-      life = refl;
-      lease = lease;
-      ticks = ticks;
-      issues = λ x f j. subst (λ y. IsNew r top w new y f) (ap (λ i. i.0) (own-pair x f j)) (subst (λ h. IsNew r top w new k.x h) (ap (λ i. i.1) (own-pair x f j)) is-new);
-      asks = λ l x t h q. ⊎_elim (λ j. (in-rest l j, λ f i. other-asks l x t none j q (ap (λ p. p.0) (own-pair x f i)))) (λ j. absurd (answer-asks k.x (Some e) a x t is (subst (λ z. AsksEpoch z.message x t) (sym j) q))) (split a l h);
-      lacks = λ l x h q. ⊎_elim
-          (λ j. let f = E.lacking l x (in-rest l j) q in (f.0, f.1, λ g' i. other-lacks l x none j q (ap (λ p. p.0) (own-pair x g' i))))
-          (λ j. let f = answer-lacks k.x (Some e) a x is (subst (λ z. LacksEpoch z.message x) (sym j) q) in let off : Some e ≡ None = f.0 in let none' : ⊥ = cc in absurd none')
-          (split a l h);
-      bears = λ l x f h q. ⊎_elim
-          (λ j. inl (E.borne l x f (in-rest l j) q))
-          (λ j. let b = answer-bears k.x (Some e) a x f is (subst (λ z. BearsEpoch z.message x f) (sym j) q) in
-          inr (ap (λ y. Some (y, e)) b.1 ∙ ap (λ o. pair-with x o) b.0))
-          (split a l h);
-      plain = λ l h. ⊎_elim (λ j. E.plain l (in-rest l j)) (λ j. subst (λ z. reads_snapshot z.message ≡ false) j (answer-plain k.x (Some e) a is)) (split a l h);
+    -- it may be issued
+    new-epoch : (x : AttemptId) (e tracker : Epoch) → AsksEpoch g.l.message x tracker → Covers (target_plan r g.t) g.s.memory g.reading tracker None e g.new.durable.lease → e.0 / 256 ≤ g.memory.ticks
+        → IsNew r top w g.t (target_after g.s g.new g.memory) x e
+    new-epoch x e tracker a c up = record {
+      unissued = f.1;
+      present = f.0;
+      waits = λ z b here at. sym (ap is_waiting at) ∙ (alone x z (tracker, a) here).0;
+      above = let low : top ≤ tracker.0 = f.2 in let above : tracker.0 < e.0 = t.1 in omega (arith, low, above);
+      own = t.2;
+      first = ap (λ z. z.number) (sym g.to_it ∙ E.asked g.l x tracker among a);
+      leased = c.covered;
+      ticks = up;
+      told = λ n told. let low : n ≤ tracker.0 = f.3 n told in let above : tracker.0 < e.0 = t.1 in omega (arith, low, above);
+      highest = λ y z issued own.
+          let at : slice_get w.targets (z.0 % 256) ≡ Some g.s = subst (λ u. slice_get w.targets u ≡ Some g.s) (sym own) g.here in
+          let low : z.0 / 256 ≤ g.s.memory.ticks = E.ticks y z g.s issued at g.runs in
+          let above : g.s.memory.ticks < e.0 / 256 = t.0 in
+          omega (arith, low, above);
     }
       where
-        pair-with : AttemptId → Option Epoch → Option (AttemptId × Epoch)
-        pair-with x None = None
-        pair-with x (Some f) = Some (x, f)
+        f : IsPresent r w x × IsUnissued w x × (top ≤ tracker.0) × ((n : ℕ) → IsTold r w x.client n → n ≤ tracker.0)
+        f = E.fresh g.l x tracker among a
 
-        own-pair : (x : AttemptId) (f : Epoch) → ◌≡◌ {A = Option (AttemptId × Epoch)} (Some (k.x, e)) (Some (x, f)) → ◌≡◌ {A = AttemptId × Epoch} (k.x, e) (x, f)
-        own-pair x f j = cc
+        t : (g.s.memory.ticks < e.0 / 256) × (tracker.0 < e.0) × (e.0 % 256 ≡ g.t)
+        t = issued-ticks (target_plan r g.t) g.s.memory g.reading tracker e few c.found
 
-        told : (t : ℕ) → IsTold r w k.x.client t → t ≤ k.tracker.0
-        told t h = (E.fresh g.l k.x k.tracker among (k.asks none)).3 t h
-
-        below : top ≤ k.tracker.0
-        below = (E.fresh g.l k.x k.tracker among (k.asks none)).2
-
-        ahead : (g.s.memory.ticks < e.0 / 256) × (k.tracker.0 < e.0) × (e.0 % 256 ≡ 0)
-        ahead = issued-ticks (target_plan r g.t) g.s.memory g.reading k.tracker e zero' found
-
-        highest : (y : AttemptId) (f : Epoch) → IsIssued w y f → f.0 < e.0
-        highest y f h =
-            let i = E.issuer y f h in
-            let at : slice_get w.targets (f.0 % 256) ≡ Some g.s = subst (λ t. slice_get w.targets t ≡ Some g.s) (zero' ∙ sym (only-target r w (f.0 % 256) i.0 one i.1)) g.here in
-            let low : f.0 / 256 ≤ g.s.memory.ticks = E.ticks y f g.s h at g.runs in
-            let up' : g.s.memory.ticks < e.0 / 256 = ahead.0 in
-            omega (arith, low, up')
-
-        is-new : IsNew r top w new k.x e
-        is-new = record {
-          unissued = (E.fresh g.l k.x k.tracker among (k.asks none)).1;
-          present = present none;
-          waits = λ c a' here at. waits-then c a' none here at;
-          above = let p : k.tracker.0 < e.0 = ahead.1 in omega (arith, below, p);
-          own = ahead.2;
-          leased = covered;
-          ticks = up;
-          told = λ t h. let q : t ≤ k.tracker.0 = told t h in let p : k.tracker.0 < e.0 = ahead.1 in omega (arith, q, p);
-          highest = highest;
-        }
-
-    -- the world after an answer
-    answered : (a : Message) (o : Option (AttemptId × Epoch)) → g.did ≡ says g.l.from a o → TargetDid r top w g.s new (g.rest ++ answer a ∷ []) o → Epochs r top (with_target g.t new (after_turn w (target g.t) g.did g.rest))
-    answered a o did D = subst (λ d. Epochs r top (with_target g.t new (after_turn w (target g.t) d g.rest))) (sym did) (target-after r top w g.t g.s new (g.rest ++ answer a ∷ []) o zero' E D)
-
-    dated : (e : Epoch) (a : Message) (o : Option Epoch) → k.ep ≡ o → Covers (target_plan r g.t) g.s.memory g.reading k.tracker o e g.new.durable.lease → IsAnswer k.x (Some e) a → g.did ≡ says g.l.from a (issued_for k.x o e)
-        → g.s.memory.ticks ≤ g.memory.ticks → e.0 / 256 ≤ g.memory.ticks → Epochs r top (with_target g.t new (after_turn w (target g.t) g.did g.rest))
-    dated e a None none c is did ticks up = answered a (Some (k.x, e)) did (did-issue a e none c.found c.covered is ticks up)
-    dated e a (Some own) some c is did ticks up = answered a None did (did-none a (Some e) is (λ off. let none' : ⊥ = cc in absurd none') (λ f same. some ∙ c.found ∙ same) ticks)
-
-    by : Heeds (target_plan r g.t) g.s.memory g.reading g.l.from k.x k.ep k.tracker g.new.durable.lease (g.memory, g.did) → Epochs r top (with_target g.t new (after_turn w (target g.t) g.did g.rest))
-    by (IsSpent a none is did ticks) = answered a None did (did-none a None is (λ same. none) (λ e off. let none' : ⊥ = cc in absurd none') ticks)
-    by (IsDated e a c is did ticks up) = dated e a k.ep refl c is did ticks up
+    may-issue : (x : AttemptId) (e : Epoch) → Issuing (target_plan r g.t) g.s.memory g.reading g.l.message g.new.durable.lease (g.memory, g.did) → g.did.issued ≡ Some (x, e) → IsNew r top w g.t (target_after g.s g.new g.memory) x e
+    may-issue x e (Nothing none) is = let no : ⊥ = cc in absurd no
+    may-issue x e (ItsEpoch y f tracker a c is' up) is =
+        let same = some_pair_parts y x f e (sym is' ∙ is) in
+        subst (λ z. IsNew r top w g.t (target_after g.s g.new g.memory) z e) same.0 (subst (λ z. IsNew r top w g.t (target_after g.s g.new g.memory) y z) same.1 (new-epoch y f tracker a c up))

@@ -1,28 +1,49 @@
-// The facts of the world at each moment of a run of one target.
+// The facts of the world at each moment of a run.
 #![tactic(auto)]
 
-ghost use Rattle.world_facts.specs.Facts.{AtEachMoment, ClientsHaveCarriers, EntriesHold, EpochsAreAbove, EpochsAreOwn, LeasesCover, NoneIsFrozen, OfAHistory, ReadsStand, SignsAreApart, TargetsSendNone, TimestampsAreServed, VersionsAreOwned, VersionsGiveAsOf};
+ghost use Rattle.world_facts.specs.Facts.{AtEachMoment, ClientsCarried, CountedOnce, DecidedIsHeld, EpochsAboveTop, LeaseCovers, NoneIsFrozen, NoneIsUnknown, NoneStops, OfAHistory, OneEpoch, OneVerdict, StandsForHistory, VersionsOwned};
+ghost use Rattle.world_facts.specs.Resolved.{KeepResolved};
+ghost use Rattle.world_facts.specs.Settled.{EndedRunsCommitAtAll};
 
-/// Says what holds of the world at each moment of a run of one target, without stops, snapshots and
-/// aggregation, from its beginning, whether it ends or not.
+/// Says what holds of the world at each moment of a run, without stops, snapshots and aggregation,
+/// from its beginning, whether it ends or not.
 ///
-/// No message goes between targets, and each client that waits has one carrier in flight. An attempt has
-/// at most one epoch, of its own, above the opening's, and leases cover it. No attempt has both a sign
-/// that it is decided and one that it is aborted. Where it has a decided sign the target has its entry;
-/// unsettled versions are those of prepared entries, and the others are of the opening or of attempts with
-/// a decided sign. The target's versions give what these attempts give as of each epoch, and so does each
-/// answer; timestamps and floors keep it so. No snapshot is held.
+/// No message asks for a status. Each client that waits has one carrier, and what a target keeps of a
+/// client waits for a letter in flight. An attempt has at most one epoch, of its own, above the
+/// opening's, which leases cover. No attempt has both a sign that it is decided and one that it is
+/// aborted. Where it has a decided sign, its leader and each other member hold it; of one that isn't
+/// decided, each member is asked, answers, or is counted. Unsettled versions are those of prepared
+/// entries, and the others are of the opening or of attempts with a decided sign. There is one history of
+/// decided attempts and served reads for all of these: the targets' versions give what its attempts give
+/// as of each epoch; so does each answer, which the target gave that is asked; timestamps and floors keep
+/// it so; and each timestamp is of such a read. It is known what became of each attempt that a line tells
+/// of. No snapshot is held.
 pub fn laws_of_facts()
-    ensures messages { AtEachMoment TargetsSendNone }
-    ensures carriers { AtEachMoment ClientsHaveCarriers }
-    ensures own_epochs { AtEachMoment EpochsAreOwn }
-    ensures above_opening { AtEachMoment EpochsAreAbove }
-    ensures leases { AtEachMoment LeasesCover }
-    ensures signs { AtEachMoment SignsAreApart }
-    ensures entries { AtEachMoment EntriesHold }
-    ensures owners { AtEachMoment VersionsAreOwned }
-    ensures as_of { AtEachMoment (OfAHistory VersionsGiveAsOf) }
-    ensures reads { AtEachMoment (OfAHistory ReadsStand) }
-    ensures timestamps { AtEachMoment (OfAHistory TimestampsAreServed) }
+    ensures messages { AtEachMoment NoneStops }
+    ensures carriers { AtEachMoment ClientsCarried }
+    ensures own_epochs { AtEachMoment OneEpoch }
+    ensures above_opening { AtEachMoment EpochsAboveTop }
+    ensures leases { AtEachMoment LeaseCovers }
+    ensures signs { AtEachMoment OneVerdict }
+    ensures entries { AtEachMoment DecidedIsHeld }
+    ensures counted { AtEachMoment CountedOnce }
+    ensures owners { AtEachMoment VersionsOwned }
+    ensures history { AtEachMoment (OfAHistory StandsForHistory) }
+    ensures outcomes { AtEachMoment NoneIsUnknown }
     ensures snapshots { AtEachMoment NoneIsFrozen }
+{}
+
+/// Says what the targets keep at each moment of such a run, taken together: the map that the opening and
+/// the resolved attempts give, one by one in the order of their epochs. An attempt is resolved where a
+/// target holds it committed, or its leader and all its members hold it; each with a decided sign is, and
+/// none with an aborted sign. Replicas agree. So whole attempts are left where all targets stop between
+/// two turns, among them each with writes of which a client was told that it is committed.
+pub fn laws_of_kept_states()
+    ensures resolved { AtEachMoment KeepResolved }
+{}
+
+/// Says what is left where such a run has ended: each attempt that a target keeps an entry of is committed
+/// at all its members, those that the entry names and those by the script.
+pub fn laws_of_last_entries()
+    ensures committed { EndedRunsCommitAtAll }
 {}

@@ -28,7 +28,8 @@ use Rattle.daos_model.specs.Durables.{same_attempt}
 use Rattle.daos_model.specs.Opening.{Given}
 use Rattle.daos_model.specs.Transactions.{attempt_ops, command_of}
 use Rattle.daos_report.specs.Forms.{IsAccessOf, IsAttemptId, IsCauseOf, IsCond, IsEpochOrNone, IsOutcomeOf, IsPathOf}
-use Rattle.world_ends.specs.Ends.{is_try, rules_of}
+use Rattle.world_causes.specs.Causes.{is_try}
+use Rattle.world_ends.specs.Ends.{rules_of}
 use Rattle.world_ends.specs.FormLaws.{command-plain}
 use Rattle.world_epochs.specs.Epochs.{Unsnapped, is_unsnapped}
 use Rattle.daos_laws.specs.EntryLaws.{same-attempt}

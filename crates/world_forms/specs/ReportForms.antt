@@ -25,7 +25,8 @@ use Rattle.daos_model.specs.TookEffect.{took}
 use Rattle.daos_model.specs.Transactions.{attempt_ops}
 use Rattle.daos_report.specs.Forms.{IsAttemptOf, IsCond, IsEpochOrNone, IsGot, IsLineOf, IsReportOf, least_down}
 use Rattle.world_core.specs.ScriptForm.{ops-few}
-use Rattle.world_ends.specs.Ends.{is_try, rules_of}
+use Rattle.world_causes.specs.Causes.{is_try}
+use Rattle.world_ends.specs.Ends.{rules_of}
 use Rattle.world_ends.specs.FormLaws.{no-snapshots}
 use Rattle.world_epochs.specs.Epochs.{Unsnapped}
 use Rattle.world_gots.specs.FormLaws.{ops-form}

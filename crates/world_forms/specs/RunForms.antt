@@ -12,33 +12,34 @@ use Rattle.daos_model.specs.declared.durable.Version.{Version}
 use Rattle.daos_model.specs.Attempts.{tries}
 use Rattle.daos_model.specs.Opening.{Given, Opening, fresh, top, undisturbed}
 use Rattle.daos_report.specs.Forms.{IsEpochOrNone, IsReportOf}
+use Rattle.world_attempts.specs.History.{History}
 use Rattle.world_base.specs.declared.world.World.{World}
-use Rattle.world_begins.specs.Begins.{IsAlone, IsBegun}
+use Rattle.world_begins.specs.Begins.{IsBegun, IsSimple, held_at}
 use Rattle.world_ends.specs.Carried.{CarriedBy, runs-carry}
 use Rattle.world_ends.specs.Ends.{report_of, rules_of}
-use Rattle.world_ends.specs.FromBeginning.{HasEnded, runs-give-the-headline}
+use Rattle.world_ends.specs.FromBeginning.{runs-give-the-headline}
 use Rattle.world_ends.specs.SureTells.{tells-plain}
 use Rattle.world_epochs.specs.Epochs.{Epochs, IsIssued}
+use Rattle.world_events.specs.Ended.{HasEnded}
 use Rattle.world_events.specs.Events.{Rules, Run}
-use Rattle.world_reads.specs.History.{History}
 use Rattle.world_reads.specs.Versions.{Versions}
 use Rattle.world_forms.specs.Keyed.{CellHasKeys, MapHasKeys, ScriptHasKeys}
 use Rattle.world_forms.specs.ReportForms.{IsPlainReport, report-form}
 
 -- ---- the statements
 
--- Of a run of a script in form for one target, without stops, snapshots and aggregation, from its beginning to where it has ended: the
+-- Of a run of a script in form for its targets, without stops, snapshots and aggregation, from its beginning to where it has ended: the
 -- text of the report of its lines determines that report; where names and keys of the script, and those of the opening's cells, are
 -- keys, and a command has at most 256 attempts.
 abbrev pub RunsReportInForm : Type 0
 RunsReportInForm =
-    (g : Given) (w v : World) → IsAlone (rules_of g) → IsBegun (rules_of g) g.opening w → Run (rules_of g) w v → HasEnded (rules_of g) v → g.job.attempts ≤ 256 → ScriptHasKeys g.script → MapHasKeys g.opening.stand.now
+    (g : Given) (w v : World) → IsSimple (rules_of g) → IsBegun (rules_of g) g.opening w → Run (rules_of g) w v → HasEnded (rules_of g) v → g.job.attempts ≤ 256 → ScriptHasKeys g.script → MapHasKeys g.opening.stand.now
     → IsReportOf g.script (report_of (rules_of g) v)
 
 -- Over regions of zeros nothing is asked of the opening.
 abbrev pub FreshRunsReportInForm : Type 0
 FreshRunsReportInForm =
-    (s : Script) (j : Job) (w v : World) → IsAlone (rules_of (fresh s j)) → IsBegun (rules_of (fresh s j)) (fresh s j).opening w → Run (rules_of (fresh s j)) w v → HasEnded (rules_of (fresh s j)) v → j.attempts ≤ 256 → ScriptHasKeys s
+    (s : Script) (j : Job) (w v : World) → IsSimple (rules_of (fresh s j)) → IsBegun (rules_of (fresh s j)) (fresh s j).opening w → Run (rules_of (fresh s j)) w v → HasEnded (rules_of (fresh s j)) v → j.attempts ≤ 256 → ScriptHasKeys s
     → IsReportOf s (report_of (rules_of (fresh s j)) v)
 
 -- An epoch that a line tells of is below 2^64: the lease of the target that issued it covers its ticks.
@@ -66,24 +67,24 @@ epochs-are-short r o held h w epochs versions = all-from_has (λ a. IsEpochOrNon
 pub runs-report-in-form : RunsReportInForm
 runs-report-in-form g w v A b run ended byte keys opening = report-form g undisturbed (λ x. false) (report_of (rules_of g) v) plain (runs-give-the-headline g (λ x. false) w v A b run ended)
   where
-    c : CarriedBy (rules_of g) g.opening (λ t. b.s.durable.versions) v
+    c : CarriedBy (rules_of g) g.opening (held_at w) v
     c = runs-carry (rules_of g) g.opening w v A b run
 
-    one : g.script.targets ≡ 1
-    one = A.one
+    few : g.script.targets ≤ 64
+    few = A.few_targets
 
     plain : IsPlainReport g (report_of (rules_of g) v)
     plain = record {
       form = A.form;
-      some = omega (arith, one);
-      few = omega (arith, one);
+      some = A.some_target;
+      few = omega (arith, few);
       keys = keys;
       opening = opening;
       unsnapped = A.unsnapped;
-      allowed = A.some;
+      allowed = A.some_attempt;
       byte = byte;
-      attempts = (tells-plain v c.carried.tells).attempts;
-      epochs = epochs-are-short (rules_of g) g.opening (λ t. b.s.durable.versions) c.h v c.carried.whole.all.facts.judged.epochs c.carried.whole.all.versions;
+      attempts = (tells-plain (rules_of g) g.opening c.stored v c.carried.causes).attempts;
+      epochs = epochs-are-short (rules_of g) g.opening (held_at w) c.h v c.carried.whole.all.facts.judged.epochs c.carried.whole.all.versions;
       up = refl;
     }
 

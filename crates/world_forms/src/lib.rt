@@ -5,7 +5,7 @@ ghost use Rattle.world_forms.specs.ReportForms.{LegalReportsAreInForm};
 ghost use Rattle.world_forms.specs.RunForms.{EpochsAreShort, FreshRunsReportInForm, RunsReportInForm};
 
 /// Says that the report of a run that has ended is in the form in which its text determines it: of a
-/// run of a script in form for one target, from its beginning, without stops, snapshots and
+/// run of a script in form for its targets, from its beginning, without stops, snapshots and
 /// aggregation, where names and keys are keys and a command has at most 256 attempts. So is every
 /// legal report that tells of attempts alone. Attempts are numbered within their commands; answers
 /// are those of reads in form on a map with keys; a cause shows a path of an operation, which the

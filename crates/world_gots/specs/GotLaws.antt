@@ -26,7 +26,7 @@ use Rattle.world_clients.specs.AnswerLaws.{ops-here}
 use Rattle.world_clients.specs.MoveLaws.{is-at, tells-end, told_end}
 use Rattle.world_clients.specs.Standing.{HasTold, tells}
 use Rattle.world_gots.specs.Gots.{AreServed, Found, IsFound, IsGot, IsServedSoFar, IsTold, Nothing}
-use Rattle.world_reads.specs.History.{History}
+use Rattle.world_attempts.specs.History.{History}
 
 -- ---- what a move keeps
 

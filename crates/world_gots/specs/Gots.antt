@@ -9,6 +9,7 @@ use Rattle.daos_base.specs.declared.operation.Read.TheVariants.{Exists}
 use Rattle.daos_base.specs.declared.path.Path.{Path}
 use Rattle.daos_base.specs.declared.report.Attempt.{Attempt}
 use Rattle.daos_base.specs.Operations.{read_path}
+use Rattle.daos_laws.specs.Members.{Has}
 use Rattle.daos_messages.specs.declared.message.Message.TheVariants.{Fetched}
 use Rattle.daos_messages.specs.declared.message.Reply.TheVariants as reply
 use Rattle.daos_model.specs.Accesses.{is_condition, op_path}
@@ -23,14 +24,14 @@ use Rattle.world_base.specs.ClientTurns.{attempt_id, group_asked, group_count, i
 use Rattle.world_clients.specs.Answered.{ops_here}
 use Rattle.world_events.specs.Events.{Rules, client_plan}
 use Rattle.world_events.specs.Letters.{client}
-use Rattle.world_reads.specs.History.{History, Served}
+use Rattle.world_attempts.specs.History.{History, Served}
 
 -- ---- one group, and several
 
 -- a target served an attempt a read of a group, for the operation of this number, at the epoch that is known of the attempt
 pub record IsServedTo (h : History) (x : AttemptId) (op group : ℕ) (read : Read) (answer : Answer) (known : Option Epoch) : Type 0 where
   pub q : Served
-  pub among : Contains h.served q
+  pub among : Has q h.served
   pub of_attempt : q.by ≡ x
   pub of_op : q.op ≡ op
   pub of_group : q.group ≡ group

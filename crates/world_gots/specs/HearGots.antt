@@ -29,7 +29,7 @@ use Rattle.world_base.specs.declared.client.Stage.TheVariants as stage
 use Rattle.world_base.specs.ClientTurns.{act_read, at_present, attempt_id, command_at, condition_read, condition_told, ended, ends, goes, group_count, group_told, is_yes, joined, next_op, next_stage, op_of, op_told, question, read_told, replied, snaps_known, told_at}
 use Rattle.world_gots.specs.Gots.{AreJoined, AreServed, Found, IsFound, IsGot, IsJoined, IsServedTo, IsTold, Nothing, NoneYet, OneMore, group_at, groups_asked}
 use Rattle.world_gots.specs.GotLaws.{Here, KeepsGots, ends-gots, stays}
-use Rattle.world_reads.specs.History.{History}
+use Rattle.world_attempts.specs.History.{History}
 
 -- ---- questions
 

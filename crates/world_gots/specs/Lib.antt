@@ -7,7 +7,6 @@ pub mod HearGots
 pub mod StepGots
 pub mod TurnGots
 pub mod TargetGots
-pub mod ServedLaws
 pub mod Right
 pub mod RightLaws
 pub mod FormLaws

@@ -11,7 +11,7 @@ use Rattle.world_base.specs.ClientTurns.{knows, knows_epoch}
 use Rattle.world_events.specs.Events.{or_issued}
 use Rattle.world_gots.specs.Gots.{AreJoined, AreServed, Found, IsFound, IsGot, IsServedSoFar, IsServedTo, IsTold, Nothing, NoneYet, OneMore}
 use Rattle.world_gots.specs.Remembering.{Remembers}
-use Rattle.world_reads.specs.History.{History}
+use Rattle.world_attempts.specs.History.{History}
 
 -- ---- lists
 

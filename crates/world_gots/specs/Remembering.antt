@@ -1,22 +1,23 @@
 -- Every event keeps that clients were told what was served, where what targets serve is remembered.
-use Rattle.std.specs.Prelude.{ℕ, ◌≡◌, ◌<◌, List, [], slice_get, Contains, Some, None}
+use Rattle.std.specs.Prelude.{ℕ, ◌≡◌, ◌<◌, List, [], slice_get, Option, Some, None}
 use Rattle.daos_base.specs.declared.answer.Answer.{Answer}
 use Rattle.daos_base.specs.declared.epoch.Epoch.{Epoch}
 use Rattle.daos_base.specs.declared.report.Attempt.{Attempt}
-use Rattle.daos_messages.specs.declared.actor.ActorId.{ActorId}
-use Rattle.daos_messages.specs.declared.message.Message.{Message}
+use Rattle.daos_base.specs.declared.id.AttemptId.{AttemptId}
+use Rattle.daos_laws.specs.Members.{Has}
 use Rattle.daos_messages.specs.declared.message.Message.TheVariants.{Fetched}
+use Rattle.daos_messages.specs.declared.message.Post.{Post}
 use Rattle.daos_messages.specs.declared.message.Reply.TheVariants as reply
 use Rattle.world_base.specs.declared.client.ClientState.{ClientState}
-use Rattle.world_base.specs.declared.did.Did.{Did}
-use Rattle.world_base.specs.declared.request.FetchRequest.{FetchRequest}
+use Rattle.world_base.specs.declared.target.TargetState.{TargetState}
 use Rattle.world_base.specs.declared.world.World.{World}
 use Rattle.world_clients.specs.Standing.{HasTold}
-use Rattle.world_events.specs.Events.{ByClient, ByTarget, Event, Rules, ToClient, ToTarget, client_plan}
+use Rattle.world_events.specs.Events.{ByClient, ByTarget, Event, Rules, TargetHears, ToClient, ToTarget, client_plan}
+use Rattle.world_events.specs.Letters.{client}
 use Rattle.world_gots.specs.Gots.{Gots}
-use Rattle.world_reads.specs.History.{History, Served}
-use Rattle.world_talks.specs.Asked.{fetch_of}
-use Rattle.world_talks.specs.Conversation.{Conversation}
+use Rattle.world_attempts.specs.History.{History, Served}
+use Rattle.world_reads.specs.Adds.{AreAnswered}
+use Rattle.world_talks.specs.Conversation.{Conversation, HoldsNothing}
 
 -- ---- what is kept together
 
@@ -34,19 +35,17 @@ pub record ToldServed (r : Rules) (h : History) (w : World) : Type 0 where
 
 -- all that was served is
 abbrev pub Remembers : History → History → Type 0
-Remembers h k = (q : Served) → Contains h.served q → Contains k.served q
+Remembers h k = (q : Served) → Has q h.served → Has q k.served
 
--- what a target answered to a Fetch that it heard is among the served reads
-abbrev pub HasServed : History → ℕ → Message → Did → Type 0
-HasServed h t asked did =
-    (to : ActorId) (q : FetchRequest) (e : Epoch) (b : Answer) → asked ≡ fetch_of q → Contains did.posts (record { to = to; message = Fetched q.attempt q.op q.group (Some e) (reply.Answer b) })
-    → Contains h.served (record { by = q.attempt; op = q.op; group = q.group; target = t; read = q.read; epoch = e; answer = b })
+-- of an event: the answers that a target sends where it hears a message are of reads that are served, and go to their attempts' clients
+pub record AreRemembered (r : Rules) (w v : World) (h : History) (g : TargetHears r w v) : Type 0 where
+  pub answered : AreAnswered h.served g.t g.l.message g.s.memory.member.parked g.did.posts
+  pub home : (q : Post) (x : AttemptId) (op group : ℕ) (own : Option Epoch) (b : Answer) → Has q g.did.posts → q.message ≡ Fetched x op group own (reply.Answer b) → q.to ≡ client x.client
 
--- of an event: it serves a read where a target hears a message
 abbrev pub IsRemembered : (r : Rules) (w v : World) → History → Event r w v → Type 0
 IsRemembered r w v h (ByClient g) = Unit {0}
 IsRemembered r w v h (ToClient g) = Unit {0}
-IsRemembered r w v h (ToTarget g) = HasServed h g.t g.l.message g.did
+IsRemembered r w v h (ToTarget g) = AreRemembered r w v h g
 IsRemembered r w v h (ByTarget g) = Unit {0}
 
 -- ---- the laws
@@ -65,4 +64,4 @@ pub record HasNotBegun (c : ClientState) : Type 0 where
 -- it holds where nothing is in flight, no client has begun, and there are no lines
 abbrev pub NothingIsTold : Type 0
 NothingIsTold =
-    (r : Rules) (h : History) (w : World) → w.messages ≡ [] → w.lines ≡ [] → ((n : ℕ) (c : ClientState) → slice_get w.clients n ≡ Some c → HasNotBegun c) → ToldServed r h w
+    (r : Rules) (h : History) (w : World) → w.messages ≡ [] → w.lines ≡ [] → ((t : ℕ) (s : TargetState) → slice_get w.targets t ≡ Some s → HoldsNothing s) → ((n : ℕ) (c : ClientState) → slice_get w.clients n ≡ Some c → HasNotBegun c) → ToldServed r h w

@@ -15,6 +15,7 @@ use Rattle.daos_base.specs.Placement.{ClassFits}
 use Rattle.daos_base.specs.Scripts.{IsInForm, IsOpInForm}
 use Rattle.daos_laws.specs.Decided.{taken_in}
 use Rattle.daos_laws.specs.Groups.{HasDkeys}
+use Rattle.daos_laws.specs.Members.{Has}
 use Rattle.daos_model.specs.Answers.{answer}
 use Rattle.daos_model.specs.Attempts.{snapshot_of}
 use Rattle.daos_model.specs.Opening.{Opening}
@@ -22,12 +23,13 @@ use Rattle.daos_model.specs.ReadsLegal.{AttemptReadsLegal, IsToldRight, ReadsLeg
 use Rattle.world_base.specs.declared.world.World.{World}
 use Rattle.world_events.specs.Events.{Rules}
 use Rattle.world_gots.specs.Gots.{AreServed, Gots, IsJoined, IsLineServed}
-use Rattle.world_reads.specs.History.{History, Served, transactions}
+use Rattle.world_attempts.specs.History.{History, Served}
+use Rattle.world_reads.specs.Transactions.{transactions}
 use Rattle.world_reads.specs.Reads.{IsAnsweredRight, map_then}
 
 -- all that was served was answered right
 abbrev pub AreAnsweredRight : Rules → Opening → History → Type 0
-AreAnsweredRight r o h = (q : Served) → Contains h.served q → IsAnsweredRight r o h q
+AreAnsweredRight r o h = (q : Served) → Has q h.served → IsAnsweredRight r o h q
 
 -- a read that several groups answer together: of the names of dkeys, or of whether there is a cell; else one of a dkey, which
 -- has one group

@@ -22,7 +22,7 @@ use Rattle.world_base.specs.ClientTurns.{group_asked, group_count, joined}
 use Rattle.world_events.specs.Events.{Rules}
 use Rattle.world_gots.specs.Gots.{AreJoined, IsJoined, IsServedTo, NoneYet, OneMore, group_at, groups_asked}
 use Rattle.world_gots.specs.Right.{AreAnsweredRight, IsJoinable, JoinsAreRight}
-use Rattle.world_reads.specs.History.{History}
+use Rattle.world_attempts.specs.History.{History}
 use Rattle.world_reads.specs.Reads.{IsAnsweredRight, map_then}
 
 -- ---- one group

@@ -37,7 +37,7 @@ use Rattle.world_gots.specs.MoreLaws.{all-mapped, served-more, stays-issued}
 use Rattle.world_gots.specs.Remembering.{Standing, ToldServed}
 use Rattle.world_lines.specs.FilledLaws.{tries-filled}
 use Rattle.world_lines.specs.Lines.{filled}
-use Rattle.world_reads.specs.History.{History}
+use Rattle.world_attempts.specs.History.{History}
 use Rattle.world_talks.specs.AskLaws.{move-is, waiting-rests}
 use Rattle.world_talks.specs.Asked.{ARead, ASnapshot, AnAggregation, Asked, Asking, IsMove, ItsWrites, Silent, Telling}
 use Rattle.world_talks.specs.ConversationLaws.{move-keeps}

@@ -1,18 +1,14 @@
 -- What a target answers is of what the client that waits for it asks, at the epoch that its attempt then has.
 use Rattle.std.specs.Prelude.{ℕ, ◌≡◌, ◌++◌, List, [], ◌∷◌, map, slice_get, All, Contains, Option, Some, None, refl}
-use Rattle.std.proofs.Common.{◌⊎◌, append-nil, sym, ◌∙◌, ap, subst, inl, inr, arith}
-use Rattle.std.proofs.lemmas.List.Elements.{All-nil, Contains-push_cases}
+use Rattle.std.proofs.Common.{◌⊎◌, append-nil, sym, ◌∙◌, ap, subst, inl, inr}
+use Rattle.std.proofs.lemmas.List.Elements.{All-nil}
 use Rattle.daos_base.specs.declared.answer.Answer.{Answer}
 use Rattle.daos_base.specs.declared.epoch.Epoch.{Epoch}
 use Rattle.daos_base.specs.declared.id.AttemptId.{AttemptId}
-use Rattle.daos_base.specs.declared.outcome.Cause.TheVariants as cause
-use Rattle.daos_base.specs.declared.outcome.FloorWhy.{FloorWhy}
-use Rattle.daos_base.specs.declared.outcome.Outcome.TheVariants as outcome
 use Rattle.daos_messages.specs.declared.actor.ActorId.{ActorId}
 use Rattle.daos_messages.specs.declared.message.Message.{Message}
 use Rattle.daos_messages.specs.declared.message.Message.TheVariants as message
 use Rattle.daos_messages.specs.declared.message.Post.{Post}
-use Rattle.daos_messages.specs.declared.message.Reply.{Reply}
 use Rattle.daos_messages.specs.declared.message.Reply.TheVariants as reply
 use Rattle.daos_model.specs.Attempts.{tries}
 use Rattle.daos_model.specs.Transactions.{attempt_ops, ops_or_none}
@@ -21,150 +17,77 @@ use Rattle.world_base.specs.declared.client.ClientState.{ClientState}
 use Rattle.world_base.specs.declared.client.Present.{Present}
 use Rattle.world_base.specs.declared.did.Did.{Did}
 use Rattle.world_base.specs.declared.letter.Letter.{Letter}
-use Rattle.world_base.specs.declared.request.CommitRequest.{CommitRequest}
 use Rattle.world_base.specs.declared.request.FetchRequest.{FetchRequest}
 use Rattle.world_base.specs.declared.target.TargetMemory.{TargetMemory}
 use Rattle.world_base.specs.declared.target.TargetPlan.{TargetPlan}
 use Rattle.world_base.specs.declared.world.World.{World}
 use Rattle.world_base.specs.ClientTurns.{attempt_id, is_waiting, knows_epoch}
+use Rattle.std.proofs.Common.{true≢false}
+use Rattle.std.specs.Prelude.{Bool, true, false, if◌then◌else◌}
+use Rattle.daos_base.specs.declared.entry.Entry.{Entry}
+use Rattle.daos_laws.specs.Members.{Has, contains-from_has, has-cases, has-from_contains, has-from_map}
+use Rattle.daos_laws.specs.TargetLaws.{same_number}
+use Rattle.daos_model.specs.declared.durable.Durable.{Durable}
+use Rattle.dtx_base.specs.declared.leading.Naming.{Naming}
+use Rattle.dtx_base.specs.declared.member.Parked.{Parked}
+use Rattle.dtx_base.specs.Joining.{inquired, inquiry_for, to_inquire}
+use Rattle.dtx_base.specs.Leading.{LeaderOf, batched, commit_mark, mark_with, marks_for, owed, to_target}
+use Rattle.dtx_base.specs.Members.{all_targets}
+use Rattle.dtx_base.specs.Rows.{is_empty}
+use Rattle.world_reads.specs.Adds.{Heard, IsAnswered, IsAskedIn, Waited, fetch_message, served_at}
+use Rattle.world_talks.specs.Carriers.{is_fetch_of}
+use Rattle.world_turns.specs.Idle.{AllSettled, IdleEnds, batch_of, inquiry_of}
+use Rattle.world_turns.specs.MemoryLaws.{hears-follows, idles-follows}
+use Rattle.world_turns.specs.Roles.{leader_at, member_at, with_unsettled}
 use Rattle.world_clients.specs.MoveLaws.{clients-begin}
 use Rattle.world_events.specs.Events.{ByClient, ByTarget, Rules, TargetHears, TargetIdles, ToClient, ToTarget, client_plan, kept, target_plan, with_epoch}
-use Rattle.world_events.specs.Letters.{client, letters_of, target}
+use Rattle.world_events.specs.Letters.{client, letter_of, letters_of, target}
 use Rattle.world_gots.specs.Gots.{Gots, IsLineServed, IsServedAnswer}
 use Rattle.world_gots.specs.MoreLaws.{all-more, remembered-more, served-more, stays-remembered}
-use Rattle.world_gots.specs.Remembering.{HasServed, NothingIsTold, Remembers, ServedIsTold, Standing, ToldServed}
+use Rattle.world_gots.specs.Remembering.{AreRemembered, NothingIsTold, Remembers, ServedIsTold, Standing, ToldServed}
 use Rattle.world_gots.specs.TurnGots.{client-goes-told, client-hears-told}
-use Rattle.world_reads.specs.History.{History}
-use Rattle.world_talks.specs.AnswerLaws.{IsAnsweredBy, answers-are-posted, hears-heard, idle-posts-nothing}
+use Rattle.world_attempts.specs.History.{History}
 use Rattle.world_talks.specs.AskLaws.{asked-read}
 use Rattle.world_talks.specs.Asked.{AsksRead, fetch_of}
-use Rattle.world_talks.specs.Conversation.{Answers}
+use Rattle.world_talks.specs.Conversation.{is_request}
 use Rattle.world_talks.specs.ConversationLaws.{conversations-begin, conversations-kept}
-use Rattle.world_talks.specs.InFlight.{HearsRequest, hears-request}
+use Rattle.world_talks.specs.InFlight.{hears-request, parked-is}
 use Rattle.world_talks.specs.TalkLaws.{left-is-among}
-use Rattle.world_turns.specs.Changes.{Change, Kept}
-use Rattle.world_turns.specs.Commits as commit
-use Rattle.world_turns.specs.Reads as read
-use Rattle.world_turns.specs.Requests.{request_epoch}
-use Rattle.world_turns.specs.TargetTurns.{Hears}
-use Rattle.world_turns.specs.Turns.{Here, More, Path}
+use Rattle.world_turns.specs.Changes.{Kept}
 
--- ---- the epoch of a Fetch
+-- ---- what is asked
 
--- a read's epoch is that of its request, where the request has one
-abbrev pub IsOwn : Option Epoch → read.FetchStage → Type 0
-IsOwn ep read.Asked = Unit {0}
-IsOwn ep (read.Known e) = knows_epoch ep (Some e) ≡ Some e
-IsOwn ep (read.Reading e decided) = knows_epoch ep (Some e) ≡ Some e
-
-requested : (t : TargetPlan) (m : TargetMemory) (reading : ℕ) (tracker : Epoch) (ep : Option Epoch) (e : Epoch) → request_epoch t m reading tracker ep ≡ Some e → knows_epoch ep (Some e) ≡ Some e
-requested t m reading tracker None e is = refl
-requested t m reading tracker (Some f) e is = is
-
-step-own : (t : TargetPlan) (m : TargetMemory) (reading : ℕ) (q : FetchRequest) (s u : read.FetchStage) (k : Kept) (o : Option Change) → read.FetchNext t m reading q s k o u → IsOwn q.ep s → IsOwn q.ep u
-step-own t m reading q s u k o (read.AtSnapshot k2 e snapshot has) i = ap (λ ep. knows_epoch ep (Some e)) has
-step-own t m reading q s u k o (read.HasEpoch k2 e live is) i = requested t m reading q.tracker q.ep e is
-step-own t m reading q s u k o (read.ExtendsLease k2 e lease low is) i = i
-step-own t m reading q s u k o (read.IsCovered k2 e low) i = i
-step-own t m reading q s u k o (read.SettlesOwn k2 e decided a free unsettled own) i = i
-
-path-own : (t : TargetPlan) (m : TargetMemory) (reading : ℕ) (q : FetchRequest) (k : Kept) (did : List Change) (s : read.FetchStage) (l : Kept) → Path (read.FetchNext t m reading q) read.Asked k did s l → IsOwn q.ep s
-path-own t m reading q k did s l Here = tt
-path-own t m reading q k did s l (More before u mid o v last path next steps) = step-own t m reading q u s mid o next (path-own t m reading q k before u mid path)
-
--- what one message says
-abbrev said : List Post → Option Message
-said [] = None
-said (p ∷ ps) = Some p.message
-
-said-one : (ps : List Post) (to from : ActorId) (m n : Message) → ps ≡ record { to = to; message = m } ∷ [] → ps ≡ record { to = from; message = n } ∷ [] → m ≡ n
-said-one ps to from m n h g = let e : Some m ≡ Some n = ap said (sym h ∙ g) in cc
-
--- an answer bears an epoch, which the attempt then has
-pub record IsAnsweredAt (q : FetchRequest) (own : Option Epoch) : Type 0 where
-  pub epoch : Epoch
-  pub bears : own ≡ Some epoch
-  pub agrees : knows_epoch q.ep own ≡ Some epoch
-
-ends-own : (t : TargetPlan) (m : TargetMemory) (reading : ℕ) (q : FetchRequest) (from to : ActorId) (s : read.FetchStage) (k : Kept) (left : TargetMemory × Did) (own : Option Epoch) (b : Answer)
-    → read.FetchEnds t m reading q from s k left → IsOwn q.ep s → left.1.posts ≡ record { to = to; message = message.Fetched q.attempt q.op q.group own (reply.Answer b) } ∷ [] → IsAnsweredAt q own
-ends-own t m reading q from to s k left own b (read.IsSpent k2 left2 live none says) i posts =
-    let same : message.Fetched q.attempt q.op q.group own (reply.Answer b) ≡ message.Fetched q.attempt q.op q.group None (reply.Outcome outcome.EpochsSpent) = said-one left2.1.posts to from _ _ posts (ap (λ o. o.1.posts) says) in
-    let no : ⊥ = cc (same) in absurd no
-ends-own t m reading q from to s k left own b (read.IsRefused k2 e decided c left2 why says) i posts =
-    let same : message.Fetched q.attempt q.op q.group own (reply.Answer b) ≡ message.Fetched q.attempt q.op q.group (Some e) (reply.Outcome (outcome.Restart c)) = said-one left2.1.posts to from _ _ posts (ap (λ o. o.1.posts) says) in
-    let no : ⊥ = cc (same) in absurd no
-ends-own t m reading q from to s k left own b (read.MeetsUnresolved k2 e decided a left2 free unsettled other says) i posts =
-    let same : message.Fetched q.attempt q.op q.group own (reply.Answer b) ≡ message.Fetched q.attempt q.op q.group (Some e) (reply.Outcome (outcome.Restart (cause.Unresolved a))) =
-    said-one left2.1.posts to from _ _ posts (ap (λ o. o.1.posts) says) in
-    let no : ⊥ = cc (same) in absurd no
-ends-own t m reading q from to s k left own b (read.IsServed k2 e decided b2 left2 free served says) i posts =
-    let all : message.Fetched q.attempt q.op q.group own (reply.Answer b) ≡ message.Fetched q.attempt q.op q.group (Some e) (reply.Answer b2) = said-one left2.1.posts to from _ _ posts (ap (λ o. o.1.posts) says) in
-    let same : own ≡ Some e = cc (all) in
-    record { epoch = e; bears = same; agrees = ap (knows_epoch q.ep) same ∙ i }
-
-fetch-own : (t : TargetPlan) (opening : Epoch × FloorWhy) (m : TargetMemory) (reading : ℕ) (from to : ActorId) (q : FetchRequest) (old new : Kept) (left : TargetMemory × Did) (own : Option Epoch) (b : Answer)
-    → Hears t opening m reading from (fetch_of q) old new left → left.1.posts ≡ record { to = to; message = message.Fetched q.attempt q.op q.group own (reply.Answer b) } ∷ [] → IsAnsweredAt q own
-fetch-own t opening m reading from to q old new left own b h posts = ends-own t m reading q from to h.last new left own b h.ends (path-own t m reading q old h.reached.did h.last new h.reached.path) posts
-
--- ---- a target adds no line
-
-fetch-lines : (t : TargetPlan) (m : TargetMemory) (reading : ℕ) (q : FetchRequest) (from : ActorId) (s : read.FetchStage) (k : Kept) (left : TargetMemory × Did) → read.FetchEnds t m reading q from s k left → left.1.lines ≡ []
-fetch-lines t m reading q from s k left (read.IsSpent k2 left2 live none says) = ap (λ o. o.1.lines) says
-fetch-lines t m reading q from s k left (read.IsRefused k2 e decided c left2 why says) = ap (λ o. o.1.lines) says
-fetch-lines t m reading q from s k left (read.MeetsUnresolved k2 e decided a left2 free unsettled other says) = ap (λ o. o.1.lines) says
-fetch-lines t m reading q from s k left (read.IsServed k2 e decided b left2 free served says) = ap (λ o. o.1.lines) says
-
-commit-lines : (t : TargetPlan) (opening : Epoch × FloorWhy) (m : TargetMemory) (reading : ℕ) (q : CommitRequest) (from : ActorId) (s : commit.CommitStage) (k : Kept) (left : TargetMemory × Did)
-    → commit.CommitEnds t opening m reading q from s k left → left.1.lines ≡ []
-commit-lines t opening m reading q from s k left (commit.IsSpent k2 left2 none says) = ap (λ o. o.1.lines) says
-commit-lines t opening m reading q from s k left (commit.IsRefused k2 e c left2 why says) = ap (λ o. o.1.lines) says
-commit-lines t opening m reading q from s k left (commit.HasNoSpace k2 e left2 allowed full says) = ap (λ o. o.1.lines) says
-commit-lines t opening m reading q from s k left (commit.IsDecided k2 e left2 says) = ap (λ o. o.1.lines) says
-
-hears-no-lines : (t : TargetPlan) (opening : Epoch × FloorWhy) (m : TargetMemory) (reading : ℕ) (from : ActorId) (q : Message) (old new : Kept) (left : TargetMemory × Did)
-    → Hears t opening m reading from q old new left → left.1.lines ≡ []
-hears-no-lines t opening m reading from (message.Fetch x op group ep first tracker r snapshot) old new left h =
-    fetch-lines t m reading (record { attempt = x; op = op; group = group; ep = ep; first = first; tracker = tracker; read = r; snapshot = snapshot }) from h.last new left h.ends
-hears-no-lines t opening m reading from (message.Commit x ep first tracker ws) old new left h =
-    commit-lines t opening m reading (record { attempt = x; ep = ep; first = first; tracker = tracker; writes = ws }) from h.last new left h.ends
-hears-no-lines t opening m reading from q old new left h = absurd h
-
--- ---- the answer to a read
-
--- a message that answers a request by a reply answers a Fetch
-pub record IsFetched (q m : Message) (own : Option Epoch) (b : Reply) : Type 0 where
+-- a present attempt of a client asked for this read, which was answered at an epoch: its own, where it asked with one
+pub record AnswersAsked (p : ClientPlan) (h : History) (t : ℕ) (k : Epoch) (c : ClientState) (a : Present) (q : FetchRequest) (epoch : Epoch) (b : Answer) : Type 0 where
   pub f : FetchRequest
-  pub asked : q ≡ fetch_of f
-  pub answer : m ≡ message.Fetched f.attempt f.op f.group own b
+  pub asks : AsksRead p k c a f
+  pub agrees : (own : Epoch) → f.ep ≡ Some own → own ≡ epoch
+  pub attempt : q.attempt ≡ f.attempt
+  pub op : q.op ≡ f.op
+  pub group : q.group ≡ f.group
+  pub read : q.read ≡ f.read
+  pub among : Has (served_at t q epoch b) h.served
 
-fetched-is : (q m : Message) (x : AttemptId) (op group : ℕ) (own : Option Epoch) (b : Reply) → Answers q m → m ≡ message.Fetched x op group own b → IsFetched q m own b
-fetched-is (message.Fetch y o g e first tracker r snapshot) m x op group own b k it =
-    let same : message.Fetched y o g k.0 k.1 ≡ message.Fetched x op group own b = sym k.2 ∙ it in
-    record { f = record { attempt = y; op = o; group = g; ep = e; first = first; tracker = tracker; read = r; snapshot = snapshot }; asked = refl; answer = cc (same, it) }
-fetched-is (message.Commit y e first tracker ws) m x op group own b k it = let no : ⊥ = cc (k.2, it) in absurd no
-fetched-is (message.Ask y) m x op group own b k it = let no : ⊥ = cc (k.2, it) in absurd no
-fetched-is (message.Snap y cont name tracker) m x op group own b k it = let no : ⊥ = cc (k.2, it) in absurd no
-fetched-is (message.Prune y cont tracker e) m x op group own b k it = let no : ⊥ = cc (k.2, it) in absurd no
-fetched-is q m x op group own b k it = absurd k
+known-then : (own : Option Epoch) (e : Epoch) → ((o : Epoch) → own ≡ Some o → o ≡ e) → knows_epoch own (Some e) ≡ Some e
+known-then None e agrees = refl
+known-then (Some o) e agrees = ap (λ z. Some z) (agrees o refl)
 
--- an answer to what a client has asked, at the epoch that its attempt then has, is of what it asks
-pub answer-served : (p : ClientPlan) (h : History) (t : ℕ) (k : Epoch) (c : ClientState) (a : Present) (f : FetchRequest) (own : Option Epoch) (b : Answer) → AsksRead p k c a f → (i : IsAnsweredAt f own)
-    → Contains h.served (record { by = f.attempt; op = f.op; group = f.group; target = t; read = f.read; epoch = i.epoch; answer = b }) → IsServedAnswer p h c a own b
-answer-served p h t k c a f own b asks i among = record {
-  op = asks.o;
-  read = f.read;
-  at = ap (λ o. slice_get (ops_or_none o) a.op) asks.at ∙ asks.here;
-  asks = asks.asked;
+-- so it was served to the attempt
+answer-served : (p : ClientPlan) (h : History) (t : ℕ) (k : Epoch) (c : ClientState) (a : Present) (q : FetchRequest) (epoch : Epoch) (b : Answer) → AnswersAsked p h t k c a q epoch b → IsServedAnswer p h c a (Some epoch) b
+answer-served p h t k c a q epoch b i = record {
+  op = i.asks.o;
+  read = i.f.read;
+  at = ap (λ o. slice_get (ops_or_none o) a.op) i.asks.at ∙ i.asks.here;
+  asks = i.asks.asked;
   served = record {
-    q = record { by = f.attempt; op = f.op; group = f.group; target = t; read = f.read; epoch = i.epoch; answer = b };
-    among = among;
-    of_attempt = asks.attempt;
-    of_op = asks.op;
-    of_group = asks.group;
-    asked = refl;
+    q = served_at t q epoch b;
+    among = i.among;
+    of_attempt = i.attempt ∙ i.asks.attempt;
+    of_op = i.op ∙ i.asks.op;
+    of_group = i.group ∙ i.asks.group;
+    asked = i.read;
     gave = refl;
-    at = ap (λ ep. knows_epoch ep own) (sym asks.ep) ∙ i.agrees;
+    at = known-then a.epoch epoch (λ o is. i.agrees o (i.asks.ep ∙ is));
   };
 }
 
@@ -204,9 +127,102 @@ told-remembered r h k w more t = record { conversation = t.conversation; standin
 same-standing : (r : Rules) (w v : World) → v.clients ≡ w.clients → Standing r w → Standing r v
 same-standing r w v clients k n c at = k n c (ap (λ cs. slice_get cs n) (sym clients) ∙ at)
 
--- ---- a target hears
+-- ---- a target hears a message
 
-target-hears-told : (r : Rules) (h k : History) (w v : World) → Remembers h k → ToldServed r h w → (g : TargetHears r w v) → HasServed k g.t g.l.message g.did → ToldServed r k v
+same-request : (q f : FetchRequest) → fetch_message q ≡ fetch_of f → (q.attempt ≡ f.attempt) × (q.op ≡ f.op) × (q.group ≡ f.group) × (q.ep ≡ f.ep) × (q.read ≡ f.read)
+same-request q f same = (cc (same), cc (same), cc (same), cc (same), cc (same))
+
+module _ (r : Rules) (h k : History) (w v : World) (t : ToldServed r h w) (g : TargetHears r w v) where
+  -- what answers a Fetch that was heard, or that waited, answers what a client that waits has asked
+  pub record AnswersClient (q : FetchRequest) (epoch : Epoch) (b : Answer) : Type 0 where
+    pub n : ℕ
+    pub c : ClientState
+    pub a : Present
+    pub here : slice_get w.clients n ≡ Some c
+    pub present : c.present ≡ Some a
+    pub k0 : Epoch
+    pub is : AnswersAsked (client_plan r n) k g.t k0 c a q epoch b
+
+  heard-asked : (q : FetchRequest) (epoch : Epoch) (b : Answer) → fetch_message q ≡ g.l.message → ((f : Epoch) → q.ep ≡ Some f → f ≡ epoch) → Has (served_at g.t q epoch b) k.served → AnswersClient q epoch b
+  heard-asked q epoch b it own among =
+      let i = hears-request r w g.l g.rest t.conversation g.takes (ap is_request (sym it)) in
+      let says : i.q.message ≡ fetch_of q = sym (ap (λ z. z.message) i.it) ∙ sym it in
+      record {
+        n = i.n;
+        c = i.c;
+        a = i.a;
+        here = i.here;
+        present = i.present;
+        k0 = i.k;
+        is = record { f = q; asks = asked-read (client_plan r i.n) i.k i.c i.a i.q q i.asked says; agrees = own; attempt = refl; op = refl; group = refl; read = refl; among = among };
+      }
+
+  waited-asked : (q : FetchRequest) (epoch : Epoch) (b : Answer) (p : Parked) → Has p g.s.memory.member.parked → fetch_message q ≡ p.ask → ((f : Epoch) → q.ep ≡ Some f → f ≡ epoch) → Has (served_at g.t q epoch b) k.served
+      → AnswersClient q epoch b
+  waited-asked q epoch b p i it own among =
+      let z = parked-is r w g.t g.s p q.attempt.client t.conversation g.here i (ap (is_fetch_of q.attempt.client) (sym it) ∙ same_number q.attempt.client) in
+      let same = same-request q (record z.f { ep = Some z.e }) (it ∙ z.it) in
+      record {
+        n = z.n;
+        c = z.c;
+        a = z.a;
+        here = z.here;
+        present = z.present;
+        k0 = z.k;
+        is = record {
+          f = z.f;
+          asks = z.asked;
+          agrees = λ o is. z.own o is ∙ own z.e same.3;
+          attempt = same.0;
+          op = same.1;
+          group = same.2;
+          read = same.4;
+          among = among;
+        };
+      }
+
+  asked-by : (q : FetchRequest) (epoch : Epoch) (b : Answer) → IsAskedIn g.l.message g.s.memory.member.parked (fetch_message q) → ((f : Epoch) → q.ep ≡ Some f → f ≡ epoch) → Has (served_at g.t q epoch b) k.served → AnswersClient q epoch b
+  asked-by q epoch b (Heard it) own among = heard-asked q epoch b it own among
+  asked-by q epoch b (Waited p i it) own among = waited-asked q epoch b p i it own among
+
+  -- an answer that is sent to a client is of what it asks
+  sent-answer : AreRemembered r w v k g → (n : ℕ) (c : ClientState) (a : Present) (p : Post) (x : AttemptId) (op group : ℕ) (own : Option Epoch) (b : Answer) → slice_get w.clients n ≡ Some c → c.present ≡ Some a
+      → Has p g.did.posts → p.to ≡ client n → p.message ≡ message.Fetched x op group own (reply.Answer b) → IsServedAnswer (client_plan r n) k c a own b
+  sent-answer has n c a p x op group own b here present i to it = subst (λ e. IsServedAnswer (client_plan r n) k c a e b) (sym z.told) at-client
+    where
+      z : IsAnswered k.served g.t g.l.message g.s.memory.member.parked x op group own b
+      z = has.answered p x op group own b i it
+
+      y : AnswersClient z.q z.epoch b
+      y = asked-by z.q z.epoch b z.asked z.own z.among
+
+      number : y.n ≡ n
+      number =
+          let of_it : x.client ≡ y.n = ap (λ u. u.client) (z.attempt ∙ y.is.attempt ∙ y.is.asks.attempt) in
+          let home : client n ≡ client x.client = sym to ∙ has.home p x op group own b i it in
+          sym of_it ∙ sym (ap (λ u. u.number) home)
+
+      state : y.c ≡ c
+      state = let at : slice_get w.clients n ≡ Some y.c = subst (λ j. slice_get w.clients j ≡ Some y.c) number y.here in cc (at, here)
+
+      attempt : y.a ≡ a
+      attempt = let at : c.present ≡ Some y.a = subst (λ s. s.present ≡ Some y.a) state y.present in cc (at, present)
+
+      at-client : IsServedAnswer (client_plan r n) k c a (Some z.epoch) b
+      at-client =
+          subst (λ j. IsServedAnswer (client_plan r j) k c a (Some z.epoch) b) number
+          (subst (λ s. IsServedAnswer (client_plan r y.n) k s a (Some z.epoch) b) state
+          (subst (λ u. IsServedAnswer (client_plan r y.n) k y.c u (Some z.epoch) b) attempt
+          (answer-served (client_plan r y.n) k g.t y.k0 y.c y.a z.q z.epoch b y.is)))
+
+-- what is in flight once a target did something: what was left, and what it sends
+sent-or_left : (rest : List Letter) (from : ActorId) (posts : List Post) (l : Letter) → Contains (rest ++ letters_of from posts) l → Contains rest l ⊎ ((p : Post) × Has p posts × (letter_of from p ≡ l))
+sent-or_left rest from posts l i = elim (has-cases rest (letters_of from posts) l (has-from_contains (rest ++ letters_of from posts) l i)) [
+  | inl j ↦ inl (contains-from_has rest l j)
+  | inr j ↦ inr (has-from_map (letter_of from) posts l j)
+]
+
+target-hears-told : (r : Rules) (h k : History) (w v : World) → Remembers h k → ToldServed r h w → (g : TargetHears r w v) → AreRemembered r w v k g → ToldServed r k v
 target-hears-told r h k w v more t g has = record {
   conversation = conversations-kept r w v t.conversation (ToTarget g);
   standing = same-standing r w v (ap (λ x. x.clients) g.after) t.standing;
@@ -214,71 +230,76 @@ target-hears-told r h k w v more t g has = record {
 }
   where
     lines : v.lines ≡ w.lines
-    lines = ap (λ x. x.lines) g.after
-        ∙ ap (λ ls. w.lines ++ map (with_epoch w.issued) ls) (hears-no-lines (target_plan r g.t) g.s.opening g.s.memory g.reading g.l.from g.l.message (kept g.s) g.new (g.memory, g.did) g.turn) ∙ append-nil w.lines
-
-    q : HearsRequest r w g.l g.rest
-    q = hears-request r w g.l g.rest t.conversation g.takes (hears-heard (target_plan r g.t) g.s.opening g.s.memory g.reading g.l.from g.l.message (kept g.s) g.new (g.memory, g.did) g.turn)
-
-    i : IsAnsweredBy g.l.from g.l.message g.did
-    i = answers-are-posted (target_plan r g.t) g.s.opening g.s.memory g.reading g.l.from g.l.message (kept g.s) g.new (g.memory, g.did) g.turn
-
-    new : Letter
-    new = record { from = target g.t; to = g.l.from; message = i.answer }
-
-    messages : v.messages ≡ g.rest ++ new ∷ []
-    messages = ap (λ x. x.messages) g.after ∙ ap (λ ps. g.rest ++ letters_of (target g.t) ps) i.one
-
-    -- the answer goes to the client that asked
-    to_asker : (own : Option Epoch) (b : Answer) → IsFetched g.l.message i.answer own (reply.Answer b) → IsServedAnswer (client_plan r q.n) k q.c q.a own b
-    to_asker own b f = answer-served (client_plan r q.n) k g.t q.k q.c q.a f.f own b asks at (has g.l.from f.f at.epoch b f.asked posted)
-      where
-        asks : AsksRead (client_plan r q.n) q.k q.c q.a f.f
-        asks = asked-read (client_plan r q.n) q.k q.c q.a q.q f.f q.asked (sym (ap (λ x. x.message) q.it) ∙ f.asked)
-
-        one : g.did.posts ≡ record { to = g.l.from; message = message.Fetched f.f.attempt f.f.op f.f.group own (reply.Answer b) } ∷ []
-        one = i.one ∙ ap (λ m. record { to = g.l.from; message = m } ∷ []) f.answer
-
-        at : IsAnsweredAt f.f own
-        at = fetch-own (target_plan r g.t) g.s.opening g.s.memory g.reading g.l.from g.l.from f.f (kept g.s) g.new (g.memory, g.did) own b
-            (subst (λ m. Hears (target_plan r g.t) g.s.opening g.s.memory g.reading g.l.from m (kept g.s) g.new (g.memory, g.did)) f.asked g.turn) one
-
-        posted : Contains g.did.posts (record { to = g.l.from; message = message.Fetched f.f.attempt f.f.op f.f.group (Some at.epoch) (reply.Answer b) })
-        posted = subst (λ ps. Contains ps (record { to = g.l.from; message = message.Fetched f.f.attempt f.f.op f.f.group (Some at.epoch) (reply.Answer b) }))
-            (sym (one ∙ ap (λ e. record { to = g.l.from; message = message.Fetched f.f.attempt f.f.op f.f.group e (reply.Answer b) } ∷ []) at.bears)) (0, omega arith, refl)
+    lines =
+        ap (λ x. x.lines) g.after
+        ∙ ap (λ ls. w.lines ++ map (with_epoch w.issued) ls) (hears-follows (target_plan r g.t) g.s.opening g.s.memory g.reading g.l.from g.l.message (kept g.s) g.new (g.memory, g.did) g.turn).lines ∙ append-nil w.lines
 
     flies : (n : ℕ) (c : ClientState) (a : Present) (l : Letter) (x : AttemptId) (op group : ℕ) (own : Option Epoch) (b : Answer) → slice_get w.clients n ≡ Some c → c.present ≡ Some a → Contains v.messages l
         → l.to ≡ client n → l.message ≡ message.Fetched x op group own (reply.Answer b) → IsServedAnswer (client_plan r n) k c a own b
-    flies n c a l x op group own b here present in' to it = by (Contains-push_cases g.rest new l (subst (λ ls. Contains ls l) messages in'))
+    flies n c a l x op group own b here present among to it = by (sent-or_left g.rest (target g.t) g.did.posts l (subst (λ ls. Contains ls l) (ap (λ z. z.messages) g.after) among))
       where
-        by : Contains g.rest l ⊎ (new ≡ l) → IsServedAnswer (client_plan r n) k c a own b
+        by : Contains g.rest l ⊎ ((p : Post) × Has p g.did.posts × (letter_of (target g.t) p ≡ l)) → IsServedAnswer (client_plan r n) k c a own b
         by (inl before) = answer-remembered (client_plan r n) h k c a own b more (t.gots.flying n c a l x op group own b here present (left-is-among w.messages g.l g.rest l g.takes before) to it)
-        by (inr same) =
-            let to_n : client q.n ≡ client n = sym (ap (λ z. z.from) q.it) ∙ ap (λ z. z.to) same ∙ to in
-            let number : q.n ≡ n = ap (λ z. z.number) to_n in
-            let state : q.c ≡ c = let at : slice_get w.clients n ≡ Some q.c = subst (λ j. slice_get w.clients j ≡ Some q.c) number q.here in cc in
-            let attempt : q.a ≡ a = let at : c.present ≡ Some q.a = subst (λ s. s.present ≡ Some q.a) state q.present in cc in
-            let answer : i.answer ≡ message.Fetched x op group own (reply.Answer b) = ap (λ z. z.message) same ∙ it in
-            subst (λ j. IsServedAnswer (client_plan r j) k c a own b) number
-            (subst (λ s. IsServedAnswer (client_plan r q.n) k s a own b) state
-            (subst (λ z. IsServedAnswer (client_plan r q.n) k q.c z own b) attempt
-            (to_asker own b (fetched-is g.l.message i.answer x op group own (reply.Answer b) i.answers answer))))
+        by (inr p) = sent-answer r h k w v t g has n c a p.0 x op group own b here present p.1 (ap (λ z. z.to) p.2 ∙ to) (ap (λ z. z.message) p.2 ∙ it)
 
--- ---- a target does its idle work
+-- ---- a target does its idle work, and answers no read
+
+abbrev is_answer_to_read : Message → Bool
+is_answer_to_read (message.Fetched x op group own b) = true
+is_answer_to_read m = false
+
+abbrev AnswerNone : List Post → Type 0
+AnswerNone posts = (p : Post) → Has p posts → is_answer_to_read p.message ≡ false
+
+both-none : (ps qs : List Post) → AnswerNone ps → AnswerNone qs → AnswerNone (ps ++ qs)
+both-none ps qs a b p i = elim (has-cases ps qs p i) [ inl j ↦ a p j | inr j ↦ b p j ]
+
+mark-none : (inc t : ℕ) (ids : List AttemptId) → AnswerNone (mark_with inc t ids)
+mark-none inc t ids = by (is_empty ids)
+  where
+    by : (b : Bool) → AnswerNone (if b then [] else to_target t (message.Mark inc (map commit_mark ids)) ∷ [])
+    by true p i = absurd i
+    by false p (inl same) = ap (λ z. is_answer_to_read z.message) same
+    by false p (inr i) = absurd i
+
+marks-none : (inc down : ℕ) (named : List Naming) (es : List Entry) (ts : List ℕ) → AnswerNone (marks_for inc down named es ts)
+marks-none inc down named es [] = λ p i. absurd i
+marks-none inc down named es (t ∷ ts) = both-none (mark_with inc t (owed down named es t)) (marks_for inc down named es ts) (mark-none inc t (owed down named es t)) (marks-none inc down named es ts)
+
+batch-none : (l : LeaderOf) → AnswerNone (batched l).posts
+unfolding batched
+batch-none l = marks-none l.incarnation l.memory.down l.memory.named l.entries all_targets
+
+inquiries-none : (settling : Bool) (t : TargetPlan) (m : TargetMemory) (d : Durable) → AnswerNone (inquiry_of settling t m d).freed.posts
+unfolding inquired
+inquiries-none false t m d = λ p i. absurd i
+inquiries-none true t m d = λ p i. let e = has-from_map inquiry_for (to_inquire d.entries (member_at t m)) p i in ap (λ z. is_answer_to_read z.message) (sym e.2)
+
+ends-none : (settling : Bool) (t : TargetPlan) (m : TargetMemory) (s : List AttemptId) (k : Kept) (left : TargetMemory × Did) → IdleEnds settling t m s k left → AnswerNone left.1.posts
+ends-none settling t m s k left (AllSettled j left2 is) =
+    subst (λ z. AnswerNone z.1.posts) (sym is) (both-none (batch_of t m k.durable).posts (inquiry_of settling t m k.durable).freed.posts (batch-none (leader_at t (with_unsettled [] m) k.durable)) (inquiries-none settling t m k.durable))
 
 target-idles-told : (r : Rules) (h k : History) (w v : World) → Remembers h k → ToldServed r h w → TargetIdles r w v → ToldServed r k v
 target-idles-told r h k w v more t g = record {
   conversation = conversations-kept r w v t.conversation (ByTarget g);
   standing = same-standing r w v (ap (λ x. x.clients) g.after) t.standing;
-  gots = same-clients r h k w v more (ap (λ x. x.clients) g.after) lines t.gots
-      (λ n c a l x op group own b at here in' to it. answer-remembered (client_plan r n) h k c a own b more (t.gots.flying n c a l x op group own b at here (subst (λ ls. Contains ls l) messages in') to it));
+  gots = same-clients r h k w v more (ap (λ x. x.clients) g.after) lines t.gots flies;
 }
   where
     lines : v.lines ≡ w.lines
-    lines = ap (λ x. x.lines) g.after ∙ ap (λ d. w.lines ++ map (with_epoch w.issued) d.lines) (idle-posts-nothing g.s.memory (kept g.s) g.new (g.memory, g.did) g.turn) ∙ append-nil w.lines
+    lines =
+        ap (λ x. x.lines) g.after ∙ ap (λ ls. w.lines ++ map (with_epoch w.issued) ls) (idles-follows g.settling (target_plan r g.t) g.s.memory (kept g.s) g.new (g.memory, g.did) g.turn).lines ∙ append-nil w.lines
 
-    messages : v.messages ≡ w.messages
-    messages = ap (λ x. x.messages) g.after ∙ ap (λ d. w.messages ++ letters_of (target g.t) d.posts) (idle-posts-nothing g.s.memory (kept g.s) g.new (g.memory, g.did) g.turn) ∙ append-nil w.messages
+    flies : (n : ℕ) (c : ClientState) (a : Present) (l : Letter) (x : AttemptId) (op group : ℕ) (own : Option Epoch) (b : Answer) → slice_get w.clients n ≡ Some c → c.present ≡ Some a → Contains v.messages l
+        → l.to ≡ client n → l.message ≡ message.Fetched x op group own (reply.Answer b) → IsServedAnswer (client_plan r n) k c a own b
+    flies n c a l x op group own b here present among to it = by (sent-or_left w.messages (target g.t) g.did.posts l (subst (λ ls. Contains ls l) (ap (λ z. z.messages) g.after) among))
+      where
+        by : Contains w.messages l ⊎ ((p : Post) × Has p g.did.posts × (letter_of (target g.t) p ≡ l)) → IsServedAnswer (client_plan r n) k c a own b
+        by (inl before) = answer-remembered (client_plan r n) h k c a own b more (t.gots.flying n c a l x op group own b here present before to it)
+        by (inr p) =
+            let none : is_answer_to_read p.0.message ≡ false = ends-none g.settling (target_plan r g.t) g.s.memory g.turn.last g.new (g.memory, g.did) g.turn.ends p.0 p.1 in
+            let some : is_answer_to_read p.0.message ≡ true = ap is_answer_to_read (ap (λ z. z.message) p.2 ∙ it) in
+            absurd (true≢false (sym some ∙ none))
 
 -- ---- the laws
 
@@ -290,8 +311,8 @@ served-is-told r h k w v some more t (ByTarget g) has = target-idles-told r h k 
 
 pub nothing-is-told : NothingIsTold
 unfolding tries
-nothing-is-told r h w none no_lines free = record {
-  conversation = conversations-begin r w none (λ n c at. ap is_waiting (free n c at).present);
+nothing-is-told r h w none no_lines held free = record {
+  conversation = conversations-begin r w none held (λ n c at. ap is_waiting (free n c at).present);
   standing = λ n c at. let f = free n c at in ([], clients-begin (client_plan r n) c f.place f.command f.present);
   gots = record {
     present = λ n c a at here. let no : ⊥ = cc ((free n c at).present, here) in absurd no;

@@ -24,7 +24,8 @@ use Rattle.world_gots.specs.Gots.{AreJoined, AreServed, IsGot, IsLineServed, IsT
 use Rattle.world_gots.specs.MoreLaws.{all-more, unknown-unserved}
 use Rattle.world_gots.specs.Right.{IsOfThisRun, LinesAreRight, NothingIsToldBefore, ReportsAreRight, ToldIsRight}
 use Rattle.world_gots.specs.RightLaws.{joins-right}
-use Rattle.world_reads.specs.History.{History, transactions}
+use Rattle.world_attempts.specs.History.{History}
+use Rattle.world_reads.specs.Transactions.{transactions}
 use Rattle.world_reads.specs.Reads.{map_then}
 
 -- ---- what is told is right

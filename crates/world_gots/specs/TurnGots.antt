@@ -27,7 +27,7 @@ use Rattle.world_gots.specs.HearGots.{answer-gots, ended-gots, outcome-gots}
 use Rattle.world_gots.specs.MoreLaws.{knows-more}
 use Rattle.world_gots.specs.Remembering.{ToldServed}
 use Rattle.world_gots.specs.StepGots.{AreFlying, KeepsAnswers, gots-move, here-of, is_fetched, sends-none, standing-turned, turned}
-use Rattle.world_reads.specs.History.{History}
+use Rattle.world_attempts.specs.History.{History}
 use Rattle.world_talks.specs.ConversationLaws.{count-keeps, hear-keeps}
 use Rattle.world_talks.specs.HearLaws.{answer-is, hears-answer}
 use Rattle.world_talks.specs.Hearing.{ATracker, AReply, AnEnd, IsHearing, hearing-is}

@@ -1,5 +1,4 @@
 -- What holds at each moment of a run of one client.
 pub mod LoneRuns
-pub mod Rising
 pub mod Issued
 pub mod Moments

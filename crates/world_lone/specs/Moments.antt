@@ -1,10 +1,10 @@
 -- At each moment of a run of one client, no line tells an attempt to restart.
-use Rattle.std.specs.Prelude.{◌≡◌, ◌⊎◌, ◌<◌, ◌==◌, true, false, not, is_some, ◌||◌, List, ◌∷◌, ◌++◌, length, slice_get, Option, Some, None, refl}
+use Rattle.std.specs.Prelude.{ℕ, ◌≡◌, ◌⊎◌, ◌<◌, ◌==◌, Bool, true, false, not, is_some, ◌||◌, List, [], ◌∷◌, ◌++◌, length, slice_get, Option, Some, None, refl, if◌then◌else◌}
+use Rattle.std.specs.List.{list_any}
 use Rattle.std.proofs.Common.{append_assoc, inl, inr, sym, ◌∙◌, ap, subst, arith}
 use Rattle.std.proofs.lemmas.Option.{slice_get_within}
 use Rattle.daos_base.specs.declared.epoch.Epoch.{Epoch}
 use Rattle.daos_base.specs.declared.id.AttemptId.{AttemptId}
-use Rattle.daos_base.specs.declared.outcome.Cause.{Cause}
 use Rattle.daos_base.specs.declared.outcome.Cause.TheVariants as cause
 use Rattle.daos_base.specs.declared.outcome.Outcome.{Outcome}
 use Rattle.daos_base.specs.declared.outcome.Outcome.TheVariants as outcome
@@ -12,29 +12,46 @@ use Rattle.daos_base.specs.declared.report.Attempt.{Attempt}
 use Rattle.daos_base.specs.declared.report.Line.{Line}
 use Rattle.daos_base.specs.declared.report.Line.TheVariants as line
 use Rattle.daos_laws.specs.DecidedLaws.{all-from_has, has-all}
-use Rattle.daos_laws.specs.Members.{Has, contains-from_has, has-filter, has-from_contains}
+use Rattle.daos_laws.specs.Members.{Has, any-has, contains-from_has, has-filter, has-from_contains}
 use Rattle.daos_laws.specs.TargetLaws.{same_number}
 use Rattle.daos_lone.specs.Alone.{stands-before, stands-beside, stands-there}
-use Rattle.daos_model.specs.Attempts.{has_own_epoch, is_lost, is_of_client, is_restart, is_unknown, is_unsure, tries, tries_of}
+use Rattle.daos_model.specs.Attempts.{has_own_epoch, is_lost, is_of_client, is_restart, is_unknown, is_unsure, tries, tries_of, up_to_last_of}
 use Rattle.daos_model.specs.Opening.{Opening, top}
 use Rattle.daos_model.specs.Order.{EpochIsBelow, IsAfter, IsAfterAll, told_by}
 use Rattle.daos_room.specs.Lines.{StandsAt, line-of}
 use Rattle.world_base.specs.declared.client.ClientState.{ClientState}
 use Rattle.world_base.specs.declared.client.Present.{Present}
 use Rattle.world_base.specs.declared.world.World.{World}
-use Rattle.world_causes.specs.Causes.{Causes, Dated, Shows, ShowsCause}
+use Rattle.world_causes.specs.Causes.{Causes, Shows, ShowsUnresolved, Stored}
+use Rattle.world_causes.specs.Growth.{any-of}
 use Rattle.world_ends.specs.Carried.{runs-carry}
 use Rattle.world_ends.specs.FormLaws.{no-snapshots}
-use Rattle.world_epochs.specs.Epochs.{Epochs, HasLine, InCause, IsIssued, IsPast, IsPresent, Unsnapped}
+use Rattle.world_ends.specs.SureTells.{not-own}
+use Rattle.world_epochs.specs.Epochs.{Epochs, HasLine, InCause, ItsOwn, IsIssued, IsPast, IsPresent, Unsnapped}
 use Rattle.world_events.specs.Events.{Rules, client_plan}
 use Rattle.world_lines.specs.Lines.{Lines}
 use Rattle.world_lone.specs.LoneRuns.{LoneRunsNeverRestart}
-use Rattle.world_lone.specs.Rising.{lines-rise, one-of-rising}
+use Rattle.world_lines.specs.Rising.{lines-rise, one-of-rising}
 
 number-of : {e f : Epoch} → Some e ≡ Some f → e.0 ≡ f.0
 number-of {e = e} {f = f} s = let same : e ≡ f = cc in ap (λ x. x.0) same
 
-module _ (r : Rules) (o : Opening) (v : World) (plain : Unsnapped r) (clients : length v.clients ≡ 1) (E : Epochs r (top o) v) (L : Lines r v) (decided : Dated) (C : Causes r o decided v) where
+-- lines up to the last one of a client have all that are its
+up-to-has : (c : ℕ) (lines : List Line) (b : Attempt) → Has b (tries lines) → is_of_client c b ≡ true → Has b (tries (up_to_last_of c lines))
+unfolding tries up_to_last_of
+up-to-has c [] b i its = i
+up-to-has c (l ∷ ls) b i its = by (λ j. up-to-has c ls b j its) (list_any (is_of_client c) (tries (l ∷ ls))) (any-has (is_of_client c) (tries (l ∷ ls)) b i its)
+  where
+    among : (k : Line) → Has b (tries (k ∷ ls)) → (Has b (tries ls) → Has b (tries (up_to_last_of c ls))) → Has b (tries (k ∷ up_to_last_of c ls))
+    among (line.Try a) (inl same) rest = inl same
+    among (line.Try a) (inr j) rest = inr (rest j)
+    among k j rest = rest j
+
+    by : (Has b (tries ls) → Has b (tries (up_to_last_of c ls))) → (z : Bool) → z ≡ true → Has b (tries (if z then l ∷ up_to_last_of c ls else []))
+    by rest true is = among l i rest
+    by rest false is = let no : ⊥ = cc in absurd no
+
+module _ (r : Rules) (o : Opening) (v : World) (plain : Unsnapped r) (clients : length v.clients ≡ 1) (E : Epochs r (top o) v) (L : Lines r v) (stored : Stored) (C : Causes r o stored v) where
   -- ---- the lines
 
   -- an attempt that is told of is of a client that is there
@@ -62,20 +79,24 @@ module _ (r : Rules) (o : Opening) (v : World) (plain : Unsnapped r) (clients : 
       one-of-rising (tries_of a.id.client v.lines) a b (lines-rise (client_plan r a.id.client) c.0 t.attempts (tries_of a.id.client v.lines) t.tells.told t.same)
       (has-filter (is_of_client a.id.client) (tries v.lines) a i (same_number a.id.client)) (has-filter (is_of_client a.id.client) (tries v.lines) b j (same-client a b i j)) same
 
+  -- what a line shows
+  shows-there : (a : Attempt) (i : Has a (tries v.lines)) → Shows r o stored v.issued (line-of v.lines a i).before a.id a.outcome
+  shows-there a i = let z = line-of v.lines a i in C.lines z.before a z.after z.among
+
   -- none is lost, or unknown
   is-sure : (a : Attempt) → Has a (tries v.lines) → is_unsure a ≡ false
-  is-sure a i = by a.outcome (C.lines a (contains-from_has (tries v.lines) a i))
+  is-sure a i = by a.outcome (shows-there a i)
     where
-      by : (how : Outcome) → Shows r o decided v.issued a.id how → (is_unknown how || is_lost a.id how) ≡ false
+      by : (how : Outcome) → Shows r o stored v.issued (line-of v.lines a i).before a.id how → (is_unknown how || is_lost a.id how) ≡ false
       by outcome.Committed k = refl
       by (outcome.CondFailed op) k = refl
       by (outcome.Restart (cause.ReadLater x epoch path)) k = refl
       by (outcome.Restart (cause.WriteLater x epoch path)) k = refl
-      by (outcome.Restart (cause.Unresolved x)) k = absurd k
+      by (outcome.Restart (cause.Unresolved x)) k = not-own r o stored v.issued E.one a.id x k.meets
       by (outcome.Restart (cause.Floor target epoch why)) k = absurd k
       by (outcome.NoSpace target need free) k = refl
       by outcome.EpochsSpent k = refl
-      by outcome.NoSnapshot k = refl
+      by outcome.NoSnapshot k = absurd k
       by (outcome.Unknown target) k = absurd k
 
   has-own : (a : Attempt) → has_own_epoch r.script a ≡ true
@@ -143,27 +164,58 @@ module _ (r : Rules) (o : Opening) (v : World) (plain : Unsnapped r) (clients : 
           let j = has-from_contains (tries v.lines) b.0 b.1 in
           apart b.0 b.2 b.3 j (stands-beside z.before z.after a b.0 (subst (λ ls. Has b.0 (tries ls)) z.among j))
 
-  no-cause : (a : Attempt) (c : Cause) → Has a (tries v.lines) → a.outcome ≡ outcome.Restart c → ShowsCause r v.issued a.id c → ⊥
-  no-cause a (cause.ReadLater x epoch path) i how k = not-later a k.own epoch x i k.its k.reader k.later (subst (λ y. Has epoch.0 (told_by y)) (sym how) (inl refl))
-  no-cause a (cause.WriteLater x epoch path) i how k = not-later a k.own epoch x i k.its k.writer k.later (subst (λ y. Has epoch.0 (told_by y)) (sym how) (inl refl))
-  no-cause a (cause.Unresolved x) i how k = k
-  no-cause a (cause.Floor target epoch why) i how k = k
+  -- none is told of another one that wasn't answered before
+  none-unresolved : (a : Attempt) (x : AttemptId) (i : Has a (tries v.lines)) → ShowsUnresolved r v.issued (line-of v.lines a i).before a.id x → ⊥
+  none-unresolved a x i k = by (E.line x k.meets.other k.meets.others)
+    where
+      z : StandsAt v.lines a
+      z = line-of v.lines a i
+
+      own : a.epoch ≡ Some k.meets.own
+      own = its-epoch a k.meets.own i k.meets.its
+
+      below : k.meets.other.0 < k.meets.own.0
+      below = k.meets.below
+
+      apart : (b : Attempt) → b.id ≡ x → b.epoch ≡ Some k.meets.other → Has b (tries v.lines) → Has b (tries z.before) ⊎ (b ≡ a) ⊎ Has b (tries z.after) → ⊥
+      apart b is at j (inl h) = k.unanswered (any-of (λ c. c.id ≡ x) (tries (up_to_last_of a.id.client z.before)) b (up-to-has a.id.client z.before b h (same-client a b i j)) is)
+      apart b is at j (inr (inl same)) = let equal : k.meets.other.0 ≡ k.meets.own.0 = number-of (sym at ∙ ap (λ c. c.epoch) same ∙ own) in omega (arith, below, equal)
+      apart b is at j (inr (inr h)) =
+          let y = line-of z.after b h in
+          let among : v.lines ≡ (z.before ++ line.Try a ∷ y.before) ++ line.Try b ∷ y.after = z.among ∙ ap (λ ls. z.before ++ line.Try a ∷ ls) y.among ∙ sym (append_assoc z.before (line.Try a ∷ y.before) (line.Try b ∷ y.after)) in
+          let low : k.meets.own.0 < k.meets.other.0 =
+          subst (EpochIsBelow k.meets.other.0) own ((after-earlier (z.before ++ line.Try a ∷ y.before) y.after b a k.meets.other among (stands-there z.before y.before a) at).sure (has-own a) (is-sure a i)) in
+          omega (arith, low, below)
+
+      by : IsPresent r v x ⊎ HasLine v x k.meets.other → ⊥
+      by (inl p) =
+          let within : x.client < length v.clients = slice_get_within v.clients x.client p.c p.here in
+          let here : a.id.client ≡ 0 = only-client a i in
+          let mine : a.id.client ≡ x.client = omega (arith, within, clients, here) in
+          let low : k.meets.own.0 < k.meets.other.0 = E.rises x k.meets.other k.meets.own.0 p k.meets.others (ItsOwn a (contains-from_has (tries v.lines) a i) mine k.meets.own own (has-own a) (is-sure a i) refl) in
+          omega (arith, low, below)
+      by (inr b) =
+          let j = has-from_contains (tries v.lines) b.0 b.1 in
+          apart b.0 b.2 b.3 j (stands-beside z.before z.after a b.0 (subst (λ ls. Has b.0 (tries ls)) z.among j))
 
   pub not-restarted : (a : Attempt) → Has a (tries v.lines) → is_restart a.outcome ≡ false
-  not-restarted a i = by a.outcome refl (C.lines a (contains-from_has (tries v.lines) a i))
+  not-restarted a i = by a.outcome refl (shows-there a i)
     where
-      by : (how : Outcome) → a.outcome ≡ how → Shows r o decided v.issued a.id how → is_restart how ≡ false
-      by outcome.Committed e k = refl
-      by (outcome.CondFailed op) e k = refl
-      by (outcome.Restart c) e k = absurd (no-cause a c i e k)
-      by (outcome.NoSpace target need free) e k = refl
-      by outcome.EpochsSpent e k = refl
-      by outcome.NoSnapshot e k = refl
-      by (outcome.Unknown target) e k = refl
+      by : (how : Outcome) → a.outcome ≡ how → Shows r o stored v.issued (line-of v.lines a i).before a.id how → is_restart how ≡ false
+      by outcome.Committed how k = refl
+      by (outcome.CondFailed op) how k = refl
+      by (outcome.Restart (cause.ReadLater x epoch path)) how k = absurd (not-later a k.own epoch x i k.its k.reader k.later (subst (λ y. Has epoch.0 (told_by y)) (sym how) (inl refl)))
+      by (outcome.Restart (cause.WriteLater x epoch path)) how k = absurd (not-later a k.own epoch x i k.its k.writer k.later (subst (λ y. Has epoch.0 (told_by y)) (sym how) (inl refl)))
+      by (outcome.Restart (cause.Unresolved x)) how k = absurd (none-unresolved a x i k)
+      by (outcome.Restart (cause.Floor target epoch why)) how k = absurd k
+      by (outcome.NoSpace target need free) how k = refl
+      by outcome.EpochsSpent how k = refl
+      by outcome.NoSnapshot how k = absurd k
+      by (outcome.Unknown target) how k = absurd k
 
 pub lone-runs-never-restart : LoneRunsNeverRestart
 lone-runs-never-restart r o w v A b run one =
     let k = runs-carry r o w v A b run in
     let f = k.carried.whole.all.facts in
     all-from_has (λ a. is_restart a.outcome ≡ false) (tries v.lines)
-    (not-restarted r o v f.unsnapped (k.carried.whole.addressed.clients ∙ one) f.judged.epochs f.judged.spoken.lines k.decided k.carried.causes)
+    (not-restarted r o v f.unsnapped (f.addressed.clients ∙ one) f.judged.epochs f.judged.spoken.lines k.stored k.carried.causes)

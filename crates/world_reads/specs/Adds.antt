@@ -1,54 +1,72 @@
--- What a target adds to the history in a turn is what it tells.
-use Rattle.std.specs.Prelude.{ℕ, ◌≡◌, ◌⊎◌, List, [], ◌∷◌, Contains, Option, Some, refl}
-use Rattle.std.proofs.Common.{sym, ◌∙◌, ap, subst, inl, inr}
+-- Each answer that a target sends in a turn is that of a read which it served.
+use Rattle.std.specs.Prelude.{ℕ, ◌≡◌, Bool, true, false, List, Option, Some}
+use Rattle.std.proofs.Common.{ap}
 use Rattle.daos_base.specs.declared.answer.Answer.{Answer}
 use Rattle.daos_base.specs.declared.epoch.Epoch.{Epoch}
 use Rattle.daos_base.specs.declared.id.AttemptId.{AttemptId}
-use Rattle.daos_base.specs.declared.outcome.Outcome.TheVariants.{Committed}
 use Rattle.daos_laws.specs.Members.{Has}
-use Rattle.daos_messages.specs.declared.actor.ActorId.{ActorId}
 use Rattle.daos_messages.specs.declared.message.Message.{Message}
 use Rattle.daos_messages.specs.declared.message.Message.TheVariants as message
 use Rattle.daos_messages.specs.declared.message.Post.{Post}
+use Rattle.daos_messages.specs.declared.message.Reply.{Reply}
 use Rattle.daos_messages.specs.declared.message.Reply.TheVariants as reply
+use Rattle.daos_model.specs.BoolLaws.{clash}
+use Rattle.dtx_base.specs.declared.member.Parked.{Parked}
+use Rattle.world_attempts.specs.History.{Served}
 use Rattle.world_base.specs.declared.request.FetchRequest.{FetchRequest}
-use Rattle.world_reads.specs.History.{History}
-
--- a post to the one who asked tells that an attempt is committed
-abbrev pub TellsCommit : ActorId → List Post → AttemptId → Epoch → Type 0
-TellsCommit from posts x e = Has (record { to = from; message = message.Ended x (Some e) Committed }) posts
-
--- what is decided in a turn is told as committed, and only that
-pub record AddsDecided (h later : History) (from : ActorId) (posts : List Post) : Type 0 where
-  pub new : (x : AttemptId) (e : Epoch) → Contains later.decided (x, e) → Contains h.decided (x, e) ⊎ TellsCommit from posts x e
-  pub told : (q : Post) (x : AttemptId) (own : Option Epoch) → Has q posts → q.message ≡ message.Ended x own Committed → (e : Epoch) × (own ≡ Some e) × Contains later.decided (x, e)
 
 abbrev pub fetch_message : FetchRequest → Message
 fetch_message q = message.Fetch q.attempt q.op q.group q.ep q.first q.tracker q.read q.snapshot
 
--- an answer that is sent to a Fetch is of a read that was served
-abbrev pub AddsServed : History → ℕ → Message → List Post → Type 0
-AddsServed later t asked posts =
-    (to : ActorId) (q : FetchRequest) (e : Epoch) (b : Answer) → asked ≡ fetch_message q → Has (record { to = to; message = message.Fetched q.attempt q.op q.group (Some e) (reply.Answer b) }) posts
-    → Contains later.served (record { by = q.attempt; op = q.op; group = q.group; target = t; read = q.read; epoch = e; answer = b })
+-- ---- what messages tell
 
--- both, of a turn in which a message was heard
-pub record Adds (h later : History) (t : ℕ) (from : ActorId) (asked : Message) (posts : List Post) : Type 0 where
-  pub decided : AddsDecided h later from posts
-  pub served : AddsServed later t asked posts
+abbrev pub is_answer_reply : Reply → Bool
+is_answer_reply (reply.Answer b) = true
+is_answer_reply r = false
 
--- ---- a turn that adds nothing
+-- the answer of a read
+abbrev pub is_answer : Message → Bool
+is_answer (message.Fetched x op group own r) = is_answer_reply r
+is_answer m = false
 
--- a message that tells of no commit, and answers no read
-pub record IsPlain (m : Message) : Type 0 where
-  pub no_commit : (x : AttemptId) (own : Option Epoch) → m ≡ message.Ended x own Committed → ⊥
-  pub no_answer : (x : AttemptId) (op group : ℕ) (own : Option Epoch) (b : Answer) → m ≡ message.Fetched x op group own (reply.Answer b) → ⊥
+-- the end of an attempt
+abbrev pub is_end : Message → Bool
+is_end (message.Ended x own how) = true
+is_end m = false
 
-pub adds-nothing : (h : History) (t : ℕ) (from : ActorId) (asked m : Message) (posts : List Post) → posts ≡ record { to = from; message = m } ∷ [] → IsPlain m → Adds h h t from asked posts
-adds-nothing h t from asked m posts one plain = record {
-  decided = record { new = λ x e i. inl i; told = λ q x own i says. absurd (plain.no_commit x own (only q i says)) };
-  served = λ to q e b is i. absurd (plain.no_answer q.attempt q.op q.group (Some e) b (only (record { to = to; message = message.Fetched q.attempt q.op q.group (Some e) (reply.Answer b) }) i refl));
-}
-  where
-    only : (q : Post) {n : Message} → Has q posts → q.message ≡ n → m ≡ n
-    only q i says = elim (subst (Has q) one i) [ inl same ↦ sym (ap (λ z. z.message) same) ∙ says | inr j ↦ absurd j ]
+-- no message that is sent passes a test
+abbrev pub NoneIs : (Message → Bool) → List Post → Type 0
+NoneIs test posts = (p : Post) → Has p posts → test p.message ≡ false
+
+-- ---- what was asked
+
+-- a Fetch that a turn may answer: the one that it hears, or one that waited till then
+pub data IsAskedIn (heard : Message) (parked : List Parked) (ask : Message) : Type 0 where
+  Heard : ask ≡ heard → IsAskedIn heard parked ask
+  Waited : (p : Parked) → Has p parked → ask ≡ p.ask → IsAskedIn heard parked ask
+
+-- a served read as what is answered to a Fetch
+abbrev pub served_at : ℕ → FetchRequest → Epoch → Answer → Served
+served_at t q e b = record { by = q.attempt; op = q.op; group = q.group; target = t; read = q.read; epoch = e; answer = b }
+
+-- an answer was served at the epoch that is told, to a Fetch that the turn may answer, at the client that it is of
+pub record IsAnswered (served : List Served) (t : ℕ) (heard : Message) (parked : List Parked) (x : AttemptId) (op group : ℕ) (said : Option Epoch) (b : Answer) : Type 0 where
+  pub q : FetchRequest
+  pub asked : IsAskedIn heard parked (fetch_message q)
+  pub attempt : x ≡ q.attempt
+  pub of_op : op ≡ q.op
+  pub of_group : group ≡ q.group
+  pub epoch : Epoch
+  pub told : said ≡ Some epoch
+  -- a request that has an epoch is answered at that
+  pub own : (f : Epoch) → q.ep ≡ Some f → f ≡ epoch
+  pub among : Has (served_at t q epoch b) served
+
+-- so is each one that is sent
+abbrev pub AreAnswered : List Served → ℕ → Message → List Parked → List Post → Type 0
+AreAnswered served t heard parked posts =
+    (p : Post) (x : AttemptId) (op group : ℕ) (own : Option Epoch) (b : Answer) → Has p posts → p.message ≡ message.Fetched x op group own (reply.Answer b)
+    → IsAnswered served t heard parked x op group own b
+
+pub none-answered : (served : List Served) (t : ℕ) (heard : Message) (parked : List Parked) (posts : List Post) → NoneIs is_answer posts → AreAnswered served t heard parked posts
+none-answered served t heard parked posts none p x op group own b i says = clash (is_answer p.message) (ap is_answer says) (none p i)

@@ -1,29 +1,76 @@
 -- Each change of what a target keeps leaves its versions standing for the decided transactions.
-use Rattle.std.specs.Prelude.{ℕ, ◌≡◌, ◌⊎◌, ◌<◌, ◌≤◌, ◌/◌, ◌^◌, Bool, true, false, ◌||◌, List, map, Contains, Some, refl, if◌then◌else◌}
+use Rattle.std.specs.Prelude.{ℕ, ◌≡◌, ◌⊎◌, ◌<◌, ◌≤◌, ◌/◌, ◌^◌, Bool, true, false, ◌||◌, ◌&&◌, not, bit_or, List, map, filter, Contains, Option, Some, None, refl, if◌then◌else◌}
 use Rattle.std.proofs.Common.{sym, ◌∙◌, ap, subst, inl, inr, arith}
+use Rattle.std.specs.Option.{option_map}
 use Rattle.daos_base.specs.declared.entry.Entry.{Entry}
-use Rattle.daos_base.specs.declared.entry.Settle.TheVariants.{Commit}
+use Rattle.daos_base.specs.declared.entry.Settle.TheVariants.{Abort, Commit, Confirm}
 use Rattle.daos_base.specs.declared.epoch.Epoch.{Epoch}
 use Rattle.daos_base.specs.declared.id.AttemptId.{AttemptId}
-use Rattle.daos_base.specs.declared.id.ContId.{ContId}
 use Rattle.daos_base.specs.declared.operation.MinorWrite.{MinorWrite}
 use Rattle.daos_base.specs.Placement.{path_members}
-use Rattle.daos_laws.specs.Matches.{Matches}
-use Rattle.daos_laws.specs.MatchLaws.{commits-keep, same-keep}
-use Rattle.daos_laws.specs.Members.{Has, contains-from_has, has-from_contains, has-from_map, has-map}
+use Rattle.daos_laws.specs.EntryLaws.{found-has, found-passes, pairs-map, same-attempt, same-itself}
+use Rattle.daos_laws.specs.DecidingLaws.{aborting-keeps, settling-keeps}
+use Rattle.daos_laws.specs.Members.{Has, any-has, contains-from_has, has-any, has-filter, has-from_contains, has-from_filter, has-from_map, has-map}
 use Rattle.daos_laws.specs.Targets.{ArePlaced}
-use Rattle.std.specs.Option.{option_map}
-use Rattle.daos_laws.specs.EntryLaws.{find-map, found-passes, is-entry-committed, pairs-map, same-attempt}
+use Rattle.daos_laws.specs.VersionLaws.{rising-from_single}
 use Rattle.daos_model.specs.declared.durable.Durable.{Durable}
 use Rattle.daos_model.specs.declared.durable.Version.{Version}
-use Rattle.daos_model.specs.Changes.{committed_at, leased, settled}
+use Rattle.daos_model.specs.BoolLaws.{clash, not_true}
+use Rattle.daos_model.specs.Changes.{committed_at, confirmed_at, is_other, leased, settled}
 use Rattle.daos_model.specs.Durables.{entry_of, is_entry_of, row_of, same_attempt, version_key}
 use Rattle.daos_model.specs.FormLaws.{leased-in_form, settled-in_form}
 use Rattle.daos_model.specs.Opening.{Opening}
-use Rattle.daos_model.specs.Versions.{done_by, version_of, version_path}
+use Rattle.daos_model.specs.OrderLaws.{rising-filter}
+use Rattle.daos_model.specs.Versions.{done_by, is_not_pending, is_pending, version_of, version_path}
+use Rattle.world_attempts.specs.History.{Decided, History, is_attempt, is_decided}
 use Rattle.world_events.specs.Events.{Rules}
-use Rattle.world_reads.specs.History.{History, counts_by, is_decided, transactions}
-use Rattle.world_reads.specs.Versions.{IsWriteAt, VersionsStand, is_own_in, mark_of}
+use Rattle.world_turns.specs.EntryLaws.{entry-aborted, entry-aborted_other, entry-committed, entry-confirmed}
+use Rattle.world_reads.specs.ListLaws.{pairs-from_rising}
+use Rattle.world_reads.specs.Transactions.{counts_by, transactions}
+use Rattle.world_reads.specs.Versions.{IsPreparedAt, IsVersionOf, IsWriteAt, VersionsStand, is_own_in, mark_of}
+
+-- ---- what was decided
+
+-- an attempt was decided, at whichever epoch
+abbrev pub WasDecided : History → AttemptId → Type 0
+WasDecided h x = (e : Epoch) × Decided h x e
+
+pub decided-has : (h : History) (x : AttemptId) → is_decided h x ≡ true → WasDecided h x
+decided-has h x is = let z = has-any (is_attempt x) h.decided is in (z.0.1, subst (λ y. Decided h y z.0.1) (same-attempt z.0.0 x z.2) z.1)
+
+pub has-decided : (h : History) (x : AttemptId) (e : Epoch) → Decided h x e → is_decided h x ≡ true
+has-decided h x e i = any-has (is_attempt x) h.decided (x, e) i (same-itself x)
+
+-- ---- entries
+
+-- an entry found for an attempt is that attempt's
+pub entry-of-it : (d : Durable) (x : AttemptId) (e : Entry) → entry_of d x ≡ Some e → same_attempt e.attempt x ≡ true
+unfolding entry_of
+entry-of-it d x e found = found-passes (is_entry_of x) d.entries e found
+
+pub entry-is-its : (d : Durable) (x : AttemptId) (e : Entry) → entry_of d x ≡ Some e → e.attempt ≡ x
+entry-is-its d x e found = same-attempt e.attempt x (entry-of-it d x e found)
+
+pub entry-among : (d : Durable) (x : AttemptId) (k : Entry) → entry_of d x ≡ Some k → Contains d.entries k
+unfolding entry_of
+entry-among d x k found = contains-from_has d.entries k (found-has (is_entry_of x) d.entries k found)
+
+pub committed-open : (a : AttemptId) (e : Entry) → (committed_at a e).committed ≡ false → same_attempt e.attempt a ≡ false
+committed-open a e h = by (same_attempt e.attempt a) refl h
+  where
+    by : (b : Bool) → same_attempt e.attempt a ≡ b → (if b then record e { committed = true } else e).committed ≡ false → same_attempt e.attempt a ≡ false
+    by true s f = let no : ⊥ = cc in absurd no
+    by false s f = s
+
+pub other-entry : (a : AttemptId) (e : Entry) → same_attempt e.attempt a ≡ false → committed_at a e ≡ e
+other-entry a e s = ap (λ b. if b then record e { committed = true } else e) s
+
+pub entry-settled : (d : Durable) (a x : AttemptId) → entry_of (settled a Commit d) x ≡ option_map (committed_at a) (entry_of d x)
+entry-settled d a x = entry-committed a d x
+
+-- the attempts differ where one is a's and the other isn't
+pub apart-of : (x y a : AttemptId) → x ≡ y → same_attempt y a ≡ false → same_attempt x a ≡ false
+apart-of x y a e s = ap (λ z. same_attempt z a) e ∙ s
 
 -- ---- the lease is extended
 
@@ -35,15 +82,17 @@ extends-stands r o held h t d ticks more last k = record {
   single = k.single;
   placed = k.placed;
   done = k.done;
-  unsettled = k.unsettled;
-  whole = k.whole;
+  unsettled = λ v i f. let z = k.unsettled v i f in record { entry = z.entry; found = z.found; open' = z.open'; epoch = z.epoch };
   only = k.only;
+  whole = k.whole;
+  settled = k.settled;
+  epochs = k.epochs;
   matches = k.matches;
   leased = λ v i. let low : v.epoch.0 / 256 ≤ d.lease = k.leased v i in omega (arith, low, more);
   unpruned = k.unpruned;
 }
 
--- ---- an attempt that is decided is settled
+-- ---- a decided attempt is settled
 
 -- a version of another attempt stays as it is
 pub other-stays : (a : AttemptId) (v : Version) → same_attempt v.by a ≡ false → done_by a v ≡ v
@@ -91,41 +140,19 @@ same-key-done : (a : AttemptId) (v : Version) → version_key (done_by a v) ≡ 
 unfolding done_by
 same-key-done a v = refl
 
--- an entry found for an attempt is that attempt's
-pub entry-of-it : (d : Durable) (x : AttemptId) (e : Entry) → entry_of d x ≡ Some e → same_attempt e.attempt x ≡ true
-unfolding entry_of
-entry-of-it d x e found = found-passes (is_entry_of x) d.entries e found
-
-pub committed-open : (a : AttemptId) (e : Entry) → (committed_at a e).committed ≡ false → same_attempt e.attempt a ≡ false
-committed-open a e h = by (same_attempt e.attempt a) refl h
-  where
-    by : (b : Bool) → same_attempt e.attempt a ≡ b → (if b then record e { committed = true } else e).committed ≡ false → same_attempt e.attempt a ≡ false
-    by true s f = let no : ⊥ = cc in absurd no
-    by false s f = s
-
-pub other-entry : (a : AttemptId) (e : Entry) → same_attempt e.attempt a ≡ false → committed_at a e ≡ e
-other-entry a e s = ap (λ b. if b then record e { committed = true } else e) s
-
-pub entry-settled : (d : Durable) (a x : AttemptId) → entry_of (settled a Commit d) x ≡ option_map (committed_at a) (entry_of d x)
-unfolding settled entry_of
-entry-settled d a x = find-map (is_entry_of x) (committed_at a) d.entries (is-entry-committed x a)
-
--- the attempts differ where one is a's and the other isn't
-pub apart-of : (x y a : AttemptId) → x ≡ y → same_attempt y a ≡ false → same_attempt x a ≡ false
-apart-of x y a e s = ap (λ z. same_attempt z a) e ∙ s
-
-pub settles-stands : (r : Rules) (o : Opening) (held : List Version) (h : History) (t : ℕ) (d : Durable) (a : AttemptId) (e : Epoch) (k : Entry) → Contains h.decided (a, e) → is_decided h a ≡ true
-    → entry_of d a ≡ Some k → k.epoch ≡ e → VersionsStand r o held h t d → VersionsStand r o held h t (settled a Commit d)
+pub settles-stands : (r : Rules) (o : Opening) (held : List Version) (h : History) (t : ℕ) (d : Durable) (a : AttemptId) → WasDecided h a → VersionsStand r o held h t d → VersionsStand r o held h t (settled a Commit d)
 unfolding settled row_of done_by
-settles-stands r o held h t d a e k among decided here epoch s = record {
+settles-stands r o held h t d a decided s = record {
   form = settled-in_form a Commit d s.form;
   single = record { in_order = (settled-in_form a Commit d s.form).versions; single = pairs-map version_key (done_by a) d.versions (same-key-done a) s.single.single };
   placed = placed;
   done = done;
   unsettled = unsettled;
-  whole = whole;
   only = only;
-  matches = matches;
+  whole = whole;
+  settled = settled-before;
+  epochs = epochs;
+  matches = λ cont. settling-keeps (is_own_in r.script.targets t cont) a (counts_by h) d.versions o.stand (transactions r.script h) (mark_of o d cont) (λ v i. counts-done h a v (has-decided h a decided.0 decided.1)) (s.matches cont);
   leased = leased';
   unpruned = s.unpruned;
 }
@@ -140,25 +167,25 @@ settles-stands r o held h t d a e k among decided here epoch s = record {
         place u j = s.placed u j
 
     Done : Version → Type 0
-    Done v = Contains held v ⊎ (Contains h.decided (v.by, v.epoch) × (m : MinorWrite) × IsWriteAt r v.by t m × (v.minor ≡ m.minor) × (v.write ≡ m.write))
+    Done v = Contains held v ⊎ (Decided h v.by v.epoch × IsVersionOf r t v)
 
     was-done : (u : Version) → Contains d.versions u → u.done ≡ true → Done (done_by a u)
     was-done u j f = subst Done (sym (done-stays a u f)) (s.done u j f)
 
     open-now : (u : Version) → Contains d.versions u → u.done ≡ false → same_attempt u.by a ≡ true → Done (done_by a u)
-    open-now u j f own = inr (decided-here, (s.only u j f).0, (s.only u j f).1, (s.only u j f).2, (s.only u j f).3)
+    open-now u j f own = let its = s.only u j f in inr (decided-here, record { write = its.write; at = its.at; minor = its.minor; same = its.same })
       where
         by-it : u.by ≡ a
         by-it = same-attempt u.by a own
 
-        found : (z : Entry) × (entry_of d u.by ≡ Some z) × (z.committed ≡ false) × (z.epoch ≡ u.epoch)
+        found : IsPreparedAt d u.by u.epoch
         found = s.unsettled u j f
 
-        same : found.0 ≡ k
-        same = let q : Some found.0 ≡ Some k = sym found.1 ∙ ap (entry_of d) by-it ∙ here in cc
+        epoch : found.entry.epoch ≡ decided.0
+        epoch = s.epochs a found.entry decided.0 (ap (entry_of d) (sym by-it) ∙ found.found) decided.1
 
-        decided-here : Contains h.decided (u.by, u.epoch)
-        decided-here = subst (λ x. Contains h.decided x) (ap (λ x. (x, e)) (sym by-it) ∙ ap (λ x. (u.by, x)) (sym epoch ∙ ap (λ z. z.epoch) (sym same) ∙ found.3)) among
+        decided-here : Decided h u.by u.epoch
+        decided-here = subst (λ x. Decided h x u.epoch) (sym by-it) (subst (Decided h a) (sym epoch ∙ found.epoch) decided.1)
 
     done-of : (u : Version) → Contains d.versions u → (done_by a u).done ≡ true → Done (done_by a u)
     done-of u j f = by u.done refl (now-done a u f)
@@ -172,13 +199,13 @@ settles-stands r o held h t d a e k among decided here epoch s = record {
     done v i f = let u = old v i in subst Done u.2 (done-of u.0 u.1 (ap (λ x. x.done) u.2 ∙ f))
 
     Open : Version → Type 0
-    Open v = (z : Entry) × (entry_of (settled a Commit d) v.by ≡ Some z) × (z.committed ≡ false) × (z.epoch ≡ v.epoch)
+    Open v = IsPreparedAt (settled a Commit d) v.by v.epoch
 
     open-of : (u : Version) → Contains d.versions u → u.done ≡ false → same_attempt u.by a ≡ false → Open u
     open-of u j f other =
         let z = s.unsettled u j f in
-        let apart : same_attempt z.0.attempt a ≡ false = apart-of z.0.attempt u.by a (same-attempt z.0.attempt u.by (entry-of-it d u.by z.0 z.1)) other in
-        (z.0, entry-settled d a u.by ∙ ap (option_map (committed_at a)) z.1 ∙ ap (λ x. Some x) (other-entry a z.0 apart), z.2, z.3)
+        let apart : same_attempt z.entry.attempt a ≡ false = apart-of z.entry.attempt u.by a (entry-is-its d u.by z.entry z.found) other in
+        record { entry = z.entry; found = entry-settled d a u.by ∙ ap (option_map (committed_at a)) z.found ∙ ap (λ x. Some x) (other-entry a z.entry apart); open' = z.open'; epoch = z.epoch }
 
     unsettled : (v : Version) → Contains (map (done_by a) d.versions) v → v.done ≡ false → Open v
     unsettled v i f =
@@ -195,22 +222,169 @@ settles-stands r o held h t d a e k among decided here epoch s = record {
         let mapped : Has (done_by a (version_of z m)) (map (done_by a) d.versions) = has-map (done_by a) d.versions (version_of z m) (has-from_contains d.versions (version_of z m) was) in
         contains-from_has (map (done_by a) d.versions) (version_of z m) (subst (λ x. Has x (map (done_by a) d.versions)) (other-stays a (version_of z m) (sym (ap (λ x. same_attempt x.attempt a) same) ∙ other)) mapped)
 
-    Only : Version → Type 0
-    Only v = (m : MinorWrite) × IsWriteAt r v.by t m × (v.minor ≡ m.minor) × (v.write ≡ m.write)
-
-    only : (v : Version) → Contains (map (done_by a) d.versions) v → v.done ≡ false → Only v
+    only : (v : Version) → Contains (map (done_by a) d.versions) v → v.done ≡ false → IsVersionOf r t v
     only v i f =
         let u = old v i in
         let was = still-open a u.0 (ap (λ x. x.done) u.2 ∙ f) in
-        subst Only (sym (other-stays a u.0 was.1) ∙ u.2) (s.only u.0 u.1 was.0)
+        subst (IsVersionOf r t) (sym (other-stays a u.0 was.1) ∙ u.2) (s.only u.0 u.1 was.0)
 
-    matches : (cont : ContId) → Matches (is_own_in r.script.targets t cont) (counts_by h) (map (done_by a) d.versions) o.stand (transactions r.script h) (mark_of o d cont)
-    matches cont =
-        same-keep (is_own_in r.script.targets t cont) (counts_by h) (counts_by h) d.versions (map (done_by a) d.versions) o.stand (transactions r.script h) (mark_of o d cont)
-        (commits-keep a (counts_by h) (counts_by h) d.versions (λ v i. counts-done h a v decided)) (s.matches cont)
+    -- an entry that is found was there, of the same epoch
+    before : (x : AttemptId) (z : Entry) → entry_of (settled a Commit d) x ≡ Some z → (y : Entry) × (entry_of d x ≡ Some y) × (committed_at a y ≡ z)
+    before x z found = by (entry_of d x) refl (sym (entry-settled d a x) ∙ found)
+      where
+        by : (e : Option Entry) → entry_of d x ≡ e → option_map (committed_at a) e ≡ Some z → (y : Entry) × (entry_of d x ≡ Some y) × (committed_at a y ≡ z)
+        by None e f = let no : ⊥ = cc in absurd no
+        by (Some y) e f = (y, e, cc)
+
+    same-epoch : (y : Entry) → (committed_at a y).epoch ≡ y.epoch
+    same-epoch y = by (same_attempt y.attempt a)
+      where
+        by : (b : Bool) → (if b then record y { committed = true } else y).epoch ≡ y.epoch
+        by true = refl
+        by false = refl
+
+    settled-before : (x : AttemptId) (z : Entry) → entry_of (settled a Commit d) x ≡ Some z → z.committed ≡ true → Decided h x z.epoch
+    settled-before x z found is =
+        let y = before x z found in
+        subst (Decided h x) (sym (same-epoch y.0) ∙ ap (λ e. e.epoch) y.2) (by y.0 y.1 (same_attempt y.0.attempt a) refl (ap (λ e. e.committed) y.2 ∙ is))
+      where
+        by : (y : Entry) → entry_of d x ≡ Some y → (b : Bool) → same_attempt y.attempt a ≡ b → (committed_at a y).committed ≡ true → Decided h x y.epoch
+        by y here true own f =
+            let same : x ≡ a = sym (entry-is-its d x y here) ∙ same-attempt y.attempt a own in
+            let at : y.epoch ≡ decided.0 = s.epochs x y decided.0 here (subst (λ z. Decided h z decided.0) (sym same) decided.1) in
+            subst (λ z. Decided h z y.epoch) (sym same) (subst (Decided h a) (sym at) decided.1)
+        by y here false other f = s.settled x y here (ap (λ e. e.committed) (sym (other-entry a y other)) ∙ f)
+
+    epochs : (x : AttemptId) (z : Entry) (f : Epoch) → entry_of (settled a Commit d) x ≡ Some z → Decided h x f → z.epoch ≡ f
+    epochs x z f found is = let y = before x z found in ap (λ e. e.epoch) (sym y.2) ∙ same-epoch y.0 ∙ s.epochs x y.0 f y.1 is
 
     leased' : (v : Version) → Contains (map (done_by a) d.versions) v → v.epoch.0 / 256 ≤ d.lease
     leased' v i = let u = old v i in subst (λ x. x.epoch.0 / 256 ≤ d.lease) u.2 (low u.0 u.1)
       where
         low : (u : Version) → Contains d.versions u → (done_by a u).epoch.0 / 256 ≤ d.lease
         low u j = s.leased u j
+
+-- ---- an attempt is aborted
+
+-- a version that stays, and isn't settled, is of another attempt
+pub open-other : (a : AttemptId) (v : Version) → is_not_pending a v ≡ true → v.done ≡ false → same_attempt v.by a ≡ false
+unfolding is_pending
+open-other a v stays open' = by (same_attempt v.by a) refl
+  where
+    by : (b : Bool) → same_attempt v.by a ≡ b → same_attempt v.by a ≡ false
+    by true own = let no : ⊥ = clash (same_attempt v.by a && not v.done) (ap (λ b. b && not v.done) own ∙ ap not open') (not_true (same_attempt v.by a && not v.done) stays) in absurd no
+    by false other = other
+
+pub other-not-pending : (a : AttemptId) (v : Version) → same_attempt v.by a ≡ false → is_not_pending a v ≡ true
+unfolding is_pending
+other-not-pending a v other = ap (λ b. not (b && not v.done)) other
+
+-- none of its versions counted
+pub pending-off : (h : History) (a : AttemptId) (v : Version) → (WasDecided h a → ⊥) → is_pending a v ≡ true → counts_by h v ≡ false
+unfolding is_pending
+pending-off h a v none is = by (same_attempt v.by a) v.done refl refl is
+  where
+    by : (b c : Bool) → same_attempt v.by a ≡ b → v.done ≡ c → (b && not c) ≡ true → (v.done || is_decided h v.by) ≡ false
+    by true true f g e = let no : ⊥ = cc in absurd no
+    by false c f g e = let no : ⊥ = cc in absurd no
+    by true false f g e = ap (λ c. c || is_decided h v.by) g ∙ off (is_decided h v.by) refl
+      where
+        off : (b : Bool) → is_decided h v.by ≡ b → is_decided h v.by ≡ false
+        off true e = absurd (none (subst (WasDecided h) (same-attempt v.by a f) (decided-has h v.by e)))
+        off false e = e
+
+-- entries of other attempts stay, and its own goes
+entry-left : (d : Durable) (a x : AttemptId) → same_attempt x a ≡ false → entry_of (settled a Abort d) x ≡ entry_of d x
+entry-left d a x other = entry-aborted_other a d x (λ same. clash (same_attempt x a) (ap (λ y. same_attempt y a) same ∙ same-itself a) other)
+
+left-before : (d : Durable) (a x : AttemptId) (z : Entry) → entry_of (settled a Abort d) x ≡ Some z → entry_of d x ≡ Some z
+left-before d a x z found = by (same_attempt x a) refl
+  where
+    by : (b : Bool) → same_attempt x a ≡ b → entry_of d x ≡ Some z
+    by true same = let gone : entry_of (settled a Abort d) x ≡ None = ap (entry_of (settled a Abort d)) (same-attempt x a same) ∙ entry-aborted a d in let no : ⊥ = cc (gone, found) in absurd no
+    by false other = sym (entry-left d a x other) ∙ found
+
+pub aborts-stands : (r : Rules) (o : Opening) (held : List Version) (h : History) (t : ℕ) (d : Durable) (a : AttemptId) → (WasDecided h a → ⊥) → VersionsStand r o held h t d → VersionsStand r o held h t (settled a Abort d)
+unfolding settled row_of
+aborts-stands r o held h t d a none s = record {
+  form = settled-in_form a Abort d s.form;
+  single = record {
+    in_order = (settled-in_form a Abort d s.form).versions;
+    single = pairs-from_rising version_key (filter (is_not_pending a) d.versions) (rising-filter version_key (is_not_pending a) d.versions (rising-from_single version_key d.versions s.single.in_order s.single.single));
+  };
+  placed = λ v i. s.placed v (old v i).0;
+  done = λ v i f. s.done v (old v i).0 f;
+  unsettled = λ v i f. unsettled v (old v i) f;
+  only = λ v i f. s.only v (old v i).0 f;
+  whole = whole;
+  settled = λ x z found is. s.settled x z (left-before d a x z found) is;
+  epochs = λ x z f found is. s.epochs x z f (left-before d a x z found) is;
+  matches = λ cont. aborting-keeps (is_own_in r.script.targets t cont) a (counts_by h) d.versions o.stand (transactions r.script h) (mark_of o d cont) (λ v i is. pending-off h a v none is) (s.matches cont);
+  leased = λ v i. s.leased v (old v i).0;
+  unpruned = s.unpruned;
+}
+  where
+    old : (v : Version) → Contains (filter (is_not_pending a) d.versions) v → Contains d.versions v × (is_not_pending a v ≡ true)
+    old v i = let z = has-from_filter (is_not_pending a) d.versions v (has-from_contains (filter (is_not_pending a) d.versions) v i) in (contains-from_has d.versions v z.0, z.1)
+
+    unsettled : (v : Version) → Contains d.versions v × (is_not_pending a v ≡ true) → v.done ≡ false → IsPreparedAt (settled a Abort d) v.by v.epoch
+    unsettled v i f =
+        let z = s.unsettled v i.0 f in
+        record { entry = z.entry; found = entry-left d a v.by (open-other a v i.1 f) ∙ z.found; open' = z.open'; epoch = z.epoch }
+
+    whole : (z : Entry) (m : MinorWrite) → Contains (filter (is_other a) d.entries) z → z.committed ≡ false → IsWriteAt r z.attempt t m → Contains (filter (is_not_pending a) d.versions) (version_of z m)
+    whole z m i f at =
+        let y = has-from_filter (is_other a) d.entries z (has-from_contains (filter (is_other a) d.entries) z i) in
+        let was = s.whole z m (contains-from_has d.entries z y.0) f at in
+        contains-from_has (filter (is_not_pending a) d.versions) (version_of z m)
+        (has-filter (is_not_pending a) d.versions (version_of z m) (has-from_contains d.versions (version_of z m) was) (other-not-pending a (version_of z m) (not_true (same_attempt z.attempt a) y.1)))
+
+-- ---- a member confirms
+
+-- it is the same entry, but for who confirmed it
+record IsSameEntry (k j : Entry) : Type 0 where
+  attempt : j.attempt ≡ k.attempt
+  epoch : j.epoch ≡ k.epoch
+  committed : j.committed ≡ k.committed
+
+same-confirmed : (a : AttemptId) (n : ℕ) (k : Entry) → IsSameEntry k (confirmed_at a n k)
+same-confirmed a n k = by (same_attempt k.attempt a)
+  where
+    by : (b : Bool) → IsSameEntry k (if b then record k { confirmed = bit_or k.confirmed (2 ^ n) } else k)
+    by true = record { attempt = refl; epoch = refl; committed = refl }
+    by false = record { attempt = refl; epoch = refl; committed = refl }
+
+pub confirms-stands : (r : Rules) (o : Opening) (held : List Version) (h : History) (t : ℕ) (d : Durable) (a : AttemptId) (n : ℕ) → VersionsStand r o held h t d → VersionsStand r o held h t (settled a (Confirm n) d)
+unfolding settled row_of
+confirms-stands r o held h t d a n s = record {
+  form = settled-in_form a (Confirm n) d s.form;
+  single = s.single;
+  placed = s.placed;
+  done = s.done;
+  unsettled = λ v i f. unsettled v (s.unsettled v i f);
+  only = s.only;
+  whole = λ z m i f at. let y = has-from_map (confirmed_at a n) d.entries z (has-from_contains (map (confirmed_at a n) d.entries) z i) in whole z m f at y.0 (contains-from_has d.entries y.0 y.1) (subst (IsSameEntry y.0) y.2 (same-confirmed a n y.0));
+  settled = λ x z found is. let y = before x z found in subst (Decided h x) (sym y.2.epoch) (s.settled x y.0 y.1 (sym y.2.committed ∙ is));
+  epochs = λ x z f found is. let y = before x z found in y.2.epoch ∙ s.epochs x y.0 f y.1 is;
+  matches = s.matches;
+  leased = s.leased;
+  unpruned = s.unpruned;
+}
+  where
+    before : (x : AttemptId) (z : Entry) → entry_of (settled a (Confirm n) d) x ≡ Some z → (y : Entry) × (entry_of d x ≡ Some y) × IsSameEntry y z
+    before x z found = by (entry_of d x) refl (sym (entry-confirmed a n d x) ∙ found)
+      where
+        by : (e : Option Entry) → entry_of d x ≡ e → option_map (confirmed_at a n) e ≡ Some z → (y : Entry) × (entry_of d x ≡ Some y) × IsSameEntry y z
+        by None e f = let no : ⊥ = cc in absurd no
+        by (Some y) e f = let same : confirmed_at a n y ≡ z = cc in (y, e, subst (IsSameEntry y) same (same-confirmed a n y))
+
+    unsettled : (v : Version) → IsPreparedAt d v.by v.epoch → IsPreparedAt (settled a (Confirm n) d) v.by v.epoch
+    unsettled v z =
+        let k = same-confirmed a n z.entry in
+        record { entry = confirmed_at a n z.entry; found = entry-confirmed a n d v.by ∙ ap (option_map (confirmed_at a n)) z.found; open' = k.committed ∙ z.open'; epoch = k.epoch ∙ z.epoch }
+
+    whole : (z : Entry) (m : MinorWrite) → z.committed ≡ false → IsWriteAt r z.attempt t m → (y : Entry) → Contains d.entries y → IsSameEntry y z → Contains d.versions (version_of z m)
+    whole z m f at y i k =
+        subst (λ e. Contains d.versions (record { epoch = e; minor = m.minor; by = z.attempt; done = false; write = m.write })) (sym k.epoch)
+        (subst (λ x. Contains d.versions (record { epoch = y.epoch; minor = m.minor; by = x; done = false; write = m.write })) (sym k.attempt)
+        (s.whole y m i (sym k.committed ∙ f) (subst (λ x. IsWriteAt r x t m) k.attempt at)))

@@ -1,242 +1,273 @@
--- A turn in which a target hears a Commit leaves what it keeps and serves sound, and so does idle work.
-use Rattle.std.specs.Prelude.{ℕ, ◌≡◌, ◌≢◌, ◌⊎◌, ◌≤◌, ◌/◌, ◌++◌, true, false, List, [], ◌∷◌, Contains, Option, Some, refl, None}
+-- A turn in which a target stores an attempt's writes leaves what it keeps and serves sound: one that hears a Commit, or a Prepare.
+use Rattle.std.specs.Prelude.{ℕ, ◌≡◌, ◌≢◌, ◌≤◌, ◌<◌, ◌/◌, ◌++◌, Bool, true, false, List, [], ◌∷◌, filter, find, map, Contains, Option, Some, None, refl, if◌then◌else◌}
+use Rattle.std.specs.List.{list_any}
 use Rattle.std.proofs.Common.{sym, ◌∙◌, ap, subst, inl, inr}
+use Rattle.std.proofs.lemmas.List.Elements.{Contains-append_left, Contains-push}
 use Rattle.daos_base.specs.declared.entry.Entry.{Entry}
 use Rattle.daos_base.specs.declared.epoch.Epoch.{Epoch}
 use Rattle.daos_base.specs.declared.id.AttemptId.{AttemptId}
 use Rattle.daos_base.specs.declared.operation.MinorWrite.{MinorWrite}
-use Rattle.daos_base.specs.declared.outcome.FloorWhy.{FloorWhy}
-use Rattle.daos_base.specs.declared.outcome.Outcome.{Outcome}
-use Rattle.daos_base.specs.declared.outcome.Outcome.TheVariants as outcome
-use Rattle.daos_messages.specs.declared.message.Message.{Message}
-use Rattle.daos_messages.specs.declared.message.Message.TheVariants as message
-use Rattle.daos_messages.specs.declared.message.Message.TheVariants.{Ended, Fetched}
-use Rattle.daos_messages.specs.declared.message.Post.{Post}
-use Rattle.daos_messages.specs.declared.message.Reply.TheVariants as reply
+use Rattle.daos_base.specs.declared.outcome.Outcome.TheVariants.{Committed}
+use Rattle.daos_base.specs.Epochs.{lease_for}
 use Rattle.daos_base.specs.Operations.{write_path}
-use Rattle.daos_base.specs.Placement.{path_members, writes_leader}
-use Rattle.daos_laws.specs.Members.{Has, any-has, contains-from_has, has-any, has-filter, has-from_contains, has-from_filter}
+use Rattle.daos_base.specs.Placement.{path_members}
+use Rattle.daos_laws.specs.Members.{Has, any-has, contains-from_has, has-any, has-filter, has-from_contains, has-from_filter, has-from_map}
 use Rattle.daos_laws.specs.TargetLaws.{number_same, same_number}
 use Rattle.daos_messages.specs.declared.actor.ActorId.{ActorId}
+use Rattle.daos_messages.specs.declared.message.Message.{Message}
+use Rattle.daos_messages.specs.declared.message.Message.TheVariants.{Ended}
+use Rattle.daos_messages.specs.declared.message.Post.{Post}
 use Rattle.daos_model.specs.declared.durable.Durable.{Durable}
 use Rattle.daos_model.specs.declared.durable.Version.{Version}
-use Rattle.daos_model.specs.Accesses.{minor_writes}
-use Rattle.daos_model.specs.BoolLaws.{clash}
-use Rattle.daos_model.specs.Changes.{prepared}
-use Rattle.daos_model.specs.Durables.{attempt_key, same_attempt}
+use Rattle.daos_model.specs.Changes.{leased}
+use Rattle.daos_model.specs.Durables.{entry_of, is_entry_of}
 use Rattle.daos_model.specs.Forms.{AreWritesInForm}
 use Rattle.daos_model.specs.Opening.{Opening, top}
-use Rattle.daos_model.specs.Ordered.{put}
-use Rattle.daos_model.specs.Transactions.{attempt_ops}
+use Rattle.dtx_base.specs.Leading.{LeaderOf, begun, begun_alone, begun_with_others, prepare_to}
+use Rattle.dtx_base.specs.Members.{is_written_at, other_members, writes_at}
+use Rattle.dtx_base.specs.Rows.{is_empty}
+use Rattle.world_attempts.specs.Attempts.{first_entry, writes_of}
+use Rattle.world_attempts.specs.History.{Decided, History}
 use Rattle.world_base.specs.declared.did.Did.{Did}
 use Rattle.world_base.specs.declared.request.CommitRequest.{CommitRequest}
+use Rattle.world_base.specs.declared.request.PrepareRequest.{PrepareRequest}
 use Rattle.world_base.specs.declared.target.TargetMemory.{TargetMemory}
+use Rattle.world_base.specs.declared.target.TargetState.{TargetState}
 use Rattle.world_base.specs.declared.world.World.{World}
-use Rattle.world_events.specs.Events.{Rules, listed, target_plan}
-use Rattle.world_reads.specs.DecideLaws.{AreItsOwn, IsNewEntry, no-entry, old-decided}
-use Rattle.daos_laws.specs.EntryLaws.{same-itself}
-use Rattle.world_reads.specs.FetchLaws.{issued-now, nothing-told}
+use Rattle.world_events.specs.Events.{Rules, kept, listed, target_plan}
+use Rattle.world_reads.specs.Adds.{NoneIs, is_answer, is_end, none-answered}
+use Rattle.world_reads.specs.Beginning.{TurnBegins}
+use Rattle.world_reads.specs.ChangeLaws.{WasDecided}
+use Rattle.world_reads.specs.DecideLaws.{MayBeDecided}
 use Rattle.world_reads.specs.Given.{IsCommitRight, IsItsEpoch}
-use Rattle.world_reads.specs.History.{History, Served, decides}
-use Rattle.world_reads.specs.HoldLaws.{decides-holds, decides-open, settles-holds}
+use Rattle.world_reads.specs.Growing.{NoneMore, OneMore, committed_in}
+use Rattle.world_reads.specs.GrowLaws.{none-committed}
 use Rattle.world_reads.specs.ListLaws.{some-in_form}
-use Rattle.world_reads.specs.Adds.{AddsServed, IsPlain, TellsCommit}
-use Rattle.world_reads.specs.Midway.{Holds, Shows, Sound, TurnLeaves, TurnTold}
-use Rattle.world_reads.specs.ShowLaws.{decides-shows, settles-shows}
-use Rattle.world_reads.specs.StepLaws.{extends-sound, path-keeps}
+use Rattle.world_reads.specs.Midway.{Sound, TurnLeaves}
+use Rattle.world_reads.specs.StepLaws.{extends-sound, stores-sound}
+use Rattle.world_reads.specs.StoreLaws.{AreItsOwn, IsNewEntry, epoch-alone}
 use Rattle.world_reads.specs.Versions.{IsWriteAt}
+use Rattle.world_turns.specs.ChangeLaws.{entries-leased}
 use Rattle.world_turns.specs.Changes.{Change, Kept, Steps}
 use Rattle.world_turns.specs.Commits as commit
-use Rattle.world_turns.specs.Idle.{AllSettled, IdleEnds, IdleNext, SettlesFirst}
-use Rattle.world_turns.specs.Requests.{request_epoch}
-use Rattle.world_turns.specs.TargetTurns.{IdlesWhole}
+use Rattle.world_turns.specs.PathLaws.{reached-keeps}
+use Rattle.world_turns.specs.Prepares as prepare
+use Rattle.world_turns.specs.Requests.{issued_for, request_epoch, sends, with_ticks}
+use Rattle.world_turns.specs.Roles.{leader_at, leads_on}
 use Rattle.world_turns.specs.Turns.{Whole}
-
-abbrev pub commit_message : CommitRequest → Message
-commit_message q = message.Commit q.attempt q.ep q.first q.tracker q.writes
-
-ended-plain : (q : CommitRequest) (own : Option Epoch) (how : Outcome) → ((how ≡ outcome.Committed) → ⊥) → IsPlain (Ended q.attempt own how)
-ended-plain q own how other = record { no_commit = λ x f e. other (let same : how ≡ outcome.Committed = cc in same); no_answer = λ x op group f b e. let no : ⊥ = cc in no }
 
 -- ---- the writes that a target holds
 
--- those that it stores are an attempt's writes of its groups
-own-writes : (r : Rules) (x : AttemptId) (t : ℕ) (ws : List MinorWrite) → ws ≡ minor_writes 0 (attempt_ops r.script x) → AreWritesInForm ws → AreItsOwn r x t (commit.own_writes (target_plan r t) ws)
-own-writes r x t ws its form = record {
-  from = λ m i. from m (has-from_filter (commit.is_own (target_plan r t)) ws m i);
-  all = λ m at. has-filter (commit.is_own (target_plan r t)) ws m (subst (Has m) (sym its) (has-from_contains (minor_writes 0 (attempt_ops r.script x)) m at.of_it)) (own m at);
-  form = some-in_form (commit.is_own (target_plan r t)) ws form;
+-- those of a list that a test finds to be of the target's groups are its own, where the list is what the attempt writes
+own-by : (r : Rules) (x : AttemptId) (t : ℕ) (test : MinorWrite → Bool) → ((m : MinorWrite) → test m ≡ list_any (commit.is_number t) (path_members (write_path m.write) r.script.targets)) → AreWritesInForm (writes_of r x)
+    → AreItsOwn r x t (filter test (writes_of r x))
+own-by r x t test is form = record {
+  from = λ m i. from m (has-from_filter test (writes_of r x) m i);
+  all = λ m at. has-filter test (writes_of r x) m (has-from_contains (writes_of r x) m at.of_it)
+      (is m ∙ any-has (commit.is_number t) (path_members (write_path m.write) r.script.targets) t (has-from_contains (path_members (write_path m.write) r.script.targets) t at.here) (same_number t));
+  form = some-in_form test (writes_of r x) form;
 }
   where
-    from : (m : MinorWrite) → Has m ws × (commit.is_own (target_plan r t) m ≡ true) → IsWriteAt r x t m
+    from : (m : MinorWrite) → Has m (writes_of r x) × (test m ≡ true) → IsWriteAt r x t m
     from m i =
-        let u = has-any (commit.is_number t) (path_members (write_path m.write) r.script.targets) i.1 in
+        let u = has-any (commit.is_number t) (path_members (write_path m.write) r.script.targets) (sym (is m) ∙ i.1) in
         record {
-          of_it = contains-from_has (minor_writes 0 (attempt_ops r.script x)) m (subst (Has m) its i.0);
+          of_it = contains-from_has (writes_of r x) m i.0;
           here = contains-from_has (path_members (write_path m.write) r.script.targets) t (subst (λ n. Has n (path_members (write_path m.write) r.script.targets)) (number_same u.0 t u.2) u.1);
         }
 
-    own : (m : MinorWrite) → IsWriteAt r x t m → commit.is_own (target_plan r t) m ≡ true
-    own m at = any-has (commit.is_number t) (path_members (write_path m.write) r.script.targets) t (has-from_contains (path_members (write_path m.write) r.script.targets) t at.here) (same_number t)
+prepare-own : (r : Rules) (x : AttemptId) (t : ℕ) → AreWritesInForm (writes_of r x) → AreItsOwn r x t (writes_at r.script.targets t (writes_of r x))
+unfolding is_written_at
+prepare-own r x t form = own-by r x t (is_written_at r.script.targets t) (λ m. refl) form
 
--- ---- stages of a Commit
+commit-own : (r : Rules) (x : AttemptId) (t : ℕ) → AreWritesInForm (writes_of r x) → AreItsOwn r x t (commit.own_writes (target_plan r t) (writes_of r x))
+commit-own r x t form = own-by r x t (commit.is_own (target_plan r t)) (λ m. refl) form
 
-abbrev Mid : (r : Rules) (o : Opening) (held : List Version) (h : History) (opening : Epoch × FloorWhy) (t : ℕ) (m : TargetMemory) (reading : ℕ) (q : CommitRequest) → commit.CommitStage → Kept → Type 0
-Mid r o held h opening t m reading q commit.Asked k = Sound r o held h opening t k.durable m.decided m.stamps
-Mid r o held h opening t m reading q (commit.Known e) k = Sound r o held h opening t k.durable m.decided m.stamps × (request_epoch (target_plan r t) m reading q.tracker q.ep ≡ Some e)
-Mid r o held h opening t m reading q (commit.Checking e) k =
-    Sound r o held h opening t k.durable m.decided m.stamps × (request_epoch (target_plan r t) m reading q.tracker q.ep ≡ Some e) × (e.0 / 256 ≤ k.durable.lease)
-Mid r o held h opening t m reading q (commit.Stored e) k =
-    Sound r o held (decides h q.attempt e) opening t k.durable (put attempt_key q.attempt m.decided) m.stamps × (request_epoch (target_plan r t) m reading q.tracker q.ep ≡ Some e)
+-- ---- what may be stored
 
--- what a Commit is heard with: it is right, its epoch is its own, what was decided was issued, and what was served was served here
-pub record HearsCommit (r : Rules) (o : Opening) (held : List Version) (h : History) (w : World) (t : ℕ) (m : TargetMemory) (reading : ℕ) (q : CommitRequest) : Type 0 where
-  pub right : IsCommitRight r h t q.attempt q.writes
-  pub epochs : (e : Epoch) → request_epoch (target_plan r t) m reading q.tracker q.ep ≡ Some e → IsItsEpoch o w q.attempt q.ep e
-  pub issued : (y : AttemptId) (f : Epoch) → Contains h.decided (y, f) → Contains w.issued (y, f)
-  pub before : (v : Version) → Contains held v → v.epoch.0 ≤ top o
-  pub here : (z : Served) → Contains h.served z → z.target ≡ t
+-- an attempt may be stored: it has no entry here and isn't decided, and its epoch is its own
+pub record MayBeStored (o : Opening) (h : History) (w : World) (s : TargetState) (x : AttemptId) (e : Epoch) : Type 0 where
+  pub absent : entry_of s.durable x ≡ None
+  pub undecided : WasDecided h x → ⊥
+  pub above : top o < e.0
+  pub alone : (y : AttemptId) (f : Epoch) → Contains w.issued (y, f) → f.0 ≡ e.0 → y ≡ x
 
-module _ (r : Rules) (o : Opening) (held : List Version) (h : History) (w : World) (opening : Epoch × FloorWhy) (t : ℕ) (m : TargetMemory) (reading : ℕ) (q : CommitRequest) (from : ActorId) where
-  commit-stores : HearsCommit r o held h w t m reading q → (e : Epoch) (d : Durable) → request_epoch (target_plan r t) m reading q.tracker q.ep ≡ Some e → e.0 / 256 ≤ d.lease
-      → commit.IsAllowed (target_plan r t) opening q.first e d m.stamps (commit.own_writes (target_plan r t) q.writes) → Sound r o held h opening t d m.decided m.stamps
-      → Sound r o held (decides h q.attempt e) opening t (prepared (commit.led_entry (target_plan r t) q e) (commit.own_writes (target_plan r t) q.writes) d) (put attempt_key q.attempt m.decided) m.stamps
-  commit-stores c e d has covered allowed k = record {
-    holds = decides-holds r o held h t d m.decided entry (commit.own_writes (target_plan r t) q.writes) new own k.holds;
-    unsettled = decides-open t d m.decided entry (commit.own_writes (target_plan r t) q.writes) refl refl (no-entry h d q.attempt c.right.undecided k.holds.entries) k.unsettled;
-    shows = decides-shows r o held h opening t d m.stamps entry (commit.own_writes (target_plan r t) q.writes) (target_plan r t) q.first new own allowed k.holds.apart c.here k.shows;
+entries-same : (d f : Durable) (x : AttemptId) → f.entries ≡ d.entries → entry_of f x ≡ entry_of d x
+unfolding entry_of
+entries-same d f x same = ap (λ es. find (is_entry_of x) es) same
+
+-- in the middle of a turn, the entries are those of its beginning
+module _ (r : Rules) (o : Opening) (held : List Version) (h : History) (w : World) (t : ℕ) (s : TargetState) (b : TurnBegins r o held h w t s) where
+  abbrev SoundAt : Durable → Type 0
+  SoundAt d = Sound r o held h h.served s.opening t d s.memory.stamps
+
+  abbrev MidAt : Durable → Type 0
+  MidAt d = SoundAt d × (d.entries ≡ s.durable.entries)
+
+  leases-at : (d : Durable) (n ticks : ℕ) → d.lease < n → lease_for n ≡ Some ticks → MidAt d → MidAt (leased ticks d)
+  leases-at d n ticks low is k = (extends-sound r o held h h.served s.opening t s.memory.stamps d n ticks low is k.0, entries-leased ticks d ∙ k.1)
+
+  -- so what may be stored is new then
+  new-at : (d : Durable) (k : Entry) → k.committed ≡ false → MayBeStored o h w s k.attempt k.epoch → k.epoch.0 / 256 ≤ d.lease → MidAt d → IsNewEntry h d k
+  new-at d k open' may covered mid = record {
+    open' = open';
+    absent = entries-same s.durable d k.attempt mid.1 ∙ may.absent;
+    undecided = may.undecided;
+    alone = epoch-alone r o held h w t d k.attempt k.epoch b.before b.decided (λ x e found. b.issued x e (sym (entries-same s.durable d x mid.1) ∙ found)) may.above may.alone may.undecided
+        (entries-same s.durable d k.attempt mid.1 ∙ may.absent) mid.0.stand;
+    covered = covered;
   }
-    where
-      entry : Entry
-      entry = commit.led_entry (target_plan r t) q e
 
-      its : IsItsEpoch o w q.attempt q.ep e
-      its = c.epochs e has
+  -- ---- a Prepare
 
-      own : AreItsOwn r q.attempt t (commit.own_writes (target_plan r t) q.writes)
-      own = own-writes r q.attempt t q.writes c.right.its c.right.form
+  abbrev PrepareMid : PrepareRequest → prepare.PrepareStage → Kept → Type 0
+  PrepareMid q prepare.Heard k = MidAt k.durable
+  PrepareMid q prepare.Checking k = MidAt k.durable × (q.entry.epoch.0 / 256 ≤ k.durable.lease)
+  PrepareMid q prepare.Stored k = SoundAt k.durable
 
-      new : IsNewEntry r o held h d (commit.led_entry (target_plan r t) q e)
-      new = record {
-        open' = refl;
-        leader = c.right.leads ∙ ap (λ ws. writes_leader ws r.script.targets) c.right.its;
-        undecided = c.right.undecided;
-        alone = λ y f i same. c.right.undecided f (subst (λ x. Contains h.decided (x, f)) (its.alone y f (c.issued y f i) same) i);
-        above = its.above;
-        before = c.before;
-        covered = covered;
-        numbered = subst AreWritesInForm c.right.its c.right.form;
-        fits = λ w i. c.right.fits w (subst (λ ws. Contains ws w) (sym c.right.its) i);
-      }
+  prepare-step : (q : PrepareRequest) → q.entry.committed ≡ false → AreItsOwn r q.entry.attempt t q.writes → MayBeStored o h w s q.entry.attempt q.entry.epoch
+      → (g : prepare.PrepareStage) (k : Kept) (c : Option Change) (u : prepare.PrepareStage) (l : Kept) → prepare.PrepareNext (target_plan r t) s.opening s.memory q g k c u → Steps c k l → PrepareMid q g k → PrepareMid q u l
+  prepare-step q open' own may g k c u l (prepare.ExtendsLease k' lease low is) steps p = subst MidAt (sym steps.0) (leases-at k.durable (q.entry.epoch.0 / 256) lease low is p)
+  prepare-step q open' own may g k c u l (prepare.IsCovered k' le) steps p = (subst (λ n. MidAt n.durable) (sym steps) p, subst (λ n. q.entry.epoch.0 / 256 ≤ n.durable.lease) (sym steps) le)
+  prepare-step q open' own may g k c u l (prepare.Stores k' allowed space) steps p =
+      subst SoundAt (sym steps.0)
+      (stores-sound r o held h h.served s.opening t s.memory.stamps k.durable q.entry q.writes (target_plan r t) q.first (new-at k.durable q.entry open' may p.1 p.0) own allowed p.0.0)
 
-  commit-step : HearsCommit r o held h w t m reading q → (s : commit.CommitStage) (k : Kept) (c : Option Change) (u : commit.CommitStage) (l : Kept) → commit.CommitNext (target_plan r t) opening m reading q s k c u
-      → Steps c k l → Mid r o held h opening t m reading q s k → Mid r o held h opening t m reading q u l
-  commit-step given s k c u l (commit.HasEpoch k' e its) steps p = (subst (λ n. Sound r o held h opening t n.durable m.decided m.stamps) (sym steps) p, its)
-  commit-step given s k c u l (commit.ExtendsLease k' e lease low is) steps p =
-      (subst (λ d. Sound r o held h opening t d m.decided m.stamps) (sym steps.0) (extends-sound r o held h opening t k.durable m.decided m.stamps (e.0 / 256) lease low is p.0), p.1)
-  commit-step given s k c u l (commit.IsCovered k' e le) steps p =
-      (subst (λ n. Sound r o held h opening t n.durable m.decided m.stamps) (sym steps) p.0, p.1, subst (λ n. e.0 / 256 ≤ n.durable.lease) (sym steps) le)
-  commit-step given s k c u l (commit.Stores k' e allowed space) steps p = (
-    subst (λ d. Sound r o held (decides h q.attempt e) opening t d (put attempt_key q.attempt m.decided) m.stamps) (sym steps.0) (commit-stores given e k.durable p.1 p.2 allowed p.0),
-    p.1,
-  )
+  -- nothing is decided or served
+  pub leaves-quiet : (m : Message) (k : Kept) (n : TargetMemory) (did : Did) → n.stamps ≡ s.memory.stamps → NoneIs is_answer did.posts → committed_in did.posts ≡ [] → SoundAt k.durable
+      → TurnLeaves r o held h w s.opening t m s.memory.member.parked k (n, did)
+  leaves-quiet m k n did same silent none sound = record {
+    more = [];
+    right = λ q i. absurd i;
+    sound = subst (Sound r o held h h.served s.opening t k.durable) (sym same) sound;
+    answered = none-answered h.served t m s.memory.member.parked did.posts silent;
+    told = [];
+    decides = NoneMore none;
+  }
 
-  commit-ends : HearsCommit r o held h w t m reading q → (s : commit.CommitStage) (k : Kept) (left : TargetMemory × Did) → commit.CommitEnds (target_plan r t) opening m reading q from s k left
-      → Mid r o held h opening t m reading q s k → TurnTold r o held h w opening t k left from (commit_message q)
-  commit-ends c s k left (commit.IsSpent k' left' none is) p =
-      nothing-told r o held h w opening t k left from (commit_message q) _ (ap (λ n. n.1.posts) is) (ended-plain q None outcome.EpochsSpent (λ c. let no : ⊥ = cc in no)) (subst (λ n. Sound r o held h opening t k.durable n.0.decided n.0.stamps) (sym is) p)
-  commit-ends c s k left (commit.IsRefused k' e why left' by is) p =
-      nothing-told r o held h w opening t k left from (commit_message q) _ (ap (λ n. n.1.posts) is) (ended-plain q (Some e) (outcome.Restart why) (λ c. let no : ⊥ = cc in no)) (subst (λ n. Sound r o held h opening t k.durable n.0.decided n.0.stamps) (sym is) p.0)
-  commit-ends c s k left (commit.HasNoSpace k' e left' allowed few is) p =
-      nothing-told r o held h w opening t k left from (commit_message q) _ (ap (λ n. n.1.posts) is) (ended-plain q (Some e) (outcome.NoSpace _ _ _) (λ c. let no : ⊥ = cc in no)) (subst (λ n. Sound r o held h opening t k.durable n.0.decided n.0.stamps) (sym is) p.0)
-  commit-ends c s k left (commit.IsDecided k' e left' is) p = record { leaves = leaves; adds = record { decided = record { new = λ x f i. tells x f (has-from_contains ((q.attempt, e) ∷ h.decided) (x, f) i); told = told }; served = no-answer } }
-    where
-      own : (f : Epoch) → q.ep ≡ Some f → f ≡ e
-      own f has = let same : Some f ≡ Some e = sym (ap (λ ep. request_epoch (target_plan r t) m reading q.tracker ep) has) ∙ p.1 in cc
+  -- one message is sent, which is no answer
+  pub only-one : (p : Post) → is_answer p.message ≡ false → NoneIs is_answer (p ∷ [])
+  only-one p silent q (inl same) = ap (λ z. is_answer z.message) same ∙ silent
+  only-one p silent q (inr i) = absurd i
 
-      issued : Contains (w.issued ++ listed left.1.issued) (q.attempt, e)
-      issued = subst (λ n. Contains (w.issued ++ listed n.1.issued) (q.attempt, e)) (sym is) (issued-now w o q.attempt q.ep e (c.epochs e p.1) own)
-
-      some : minor_writes 0 (attempt_ops r.script q.attempt) ≢ []
-      some none = c.right.some (c.right.its ∙ none)
-
-      by : (x : AttemptId) (f : Epoch) → Has (x, f) ((q.attempt, e) ∷ h.decided)
-          → Contains h.decided (x, f) ⊎ (Contains (w.issued ++ listed left.1.issued) (x, f) × (minor_writes 0 (attempt_ops r.script x) ≢ []))
-      by x f (inl same) =
-          inr (subst (Contains (w.issued ++ listed left.1.issued)) (sym same) issued, subst (λ y. minor_writes 0 (attempt_ops r.script y) ≢ []) (sym (ap (λ i. i.0) same)) some)
-      by x f (inr i) = inl (contains-from_has h.decided (x, f) i)
-
-      leaves : TurnLeaves r o held h w opening t k left
-      leaves = record {
-        later = decides h q.attempt e;
-        grew = record { decided = old-decided h q.attempt e; served = λ z j. j };
-        sound = subst (λ n. Sound r o held (decides h q.attempt e) opening t k.durable n.0.decided n.0.stamps) (sym is) p.0;
-        decided = λ x f i. by x f (has-from_contains ((q.attempt, e) ∷ h.decided) (x, f) i);
-        served = λ z i. inl i;
-      }
-
-      posts : left.1.posts ≡ record { to = from; message = Ended q.attempt (Some e) outcome.Committed } ∷ []
-      posts = ap (λ n. n.1.posts) is
-
-      tells : (x : AttemptId) (f : Epoch) → Has (x, f) ((q.attempt, e) ∷ h.decided) → Contains h.decided (x, f) ⊎ TellsCommit from left.1.posts x f
-      tells x f (inl same) =
-          inr (subst (Has (record { to = from; message = Ended x (Some f) outcome.Committed })) (sym posts)
-          (inl (ap (λ y. record { to = from; message = Ended y (Some f) outcome.Committed }) (ap (λ i. i.0) same) ∙ ap (λ y. record { to = from; message = Ended q.attempt (Some y) outcome.Committed }) (ap (λ i. i.1) same))))
-      tells x f (inr i) = inl (contains-from_has h.decided (x, f) i)
-
-      told : (z : Post) (x : AttemptId) (f : Option Epoch) → Has z left.1.posts → z.message ≡ Ended x f outcome.Committed → (g : Epoch) × (f ≡ Some g) × Contains (decides h q.attempt e).decided (x, g)
-      told z x f i says = elim (subst (Has z) posts i) [
-        | inl same ↦ it x f (sym says ∙ ap (λ y. y.message) same)
-        | inr j ↦ absurd j
-      ]
-        where
-          it : (x : AttemptId) (f : Option Epoch) → Ended x f outcome.Committed ≡ Ended q.attempt (Some e) outcome.Committed → (g : Epoch) × (f ≡ Some g) × Contains (decides h q.attempt e).decided (x, g)
-          it x f same =
-              let h1 : x ≡ q.attempt = cc in
-              let h2 : f ≡ Some e = cc in
-              (e, h2, contains-from_has ((q.attempt, e) ∷ h.decided) (x, e) (inl (ap (λ y. (y, e)) h1)))
-
-      no-answer : AddsServed (decides h q.attempt e) t (commit_message q) left.1.posts
-      no-answer to z f c asked i = elim (subst (Has (record { to = to; message = Fetched z.attempt z.op z.group (Some f) (reply.Answer c) })) posts i) [
-        | inl same ↦ absurd (let bad : Fetched z.attempt z.op z.group (Some f) (reply.Answer c) ≡ Ended q.attempt (Some e) outcome.Committed = ap (λ y. y.message) same in let no : ⊥ = cc in no)
-        | inr j ↦ absurd j
-      ]
+  prepare-ends : (q : PrepareRequest) (m : Message) (g : prepare.PrepareStage) (k : Kept) (left : TargetMemory × Did) → prepare.PrepareEnds (target_plan r t) s.opening s.memory q g k left → PrepareMid q g k
+      → TurnLeaves r o held h w s.opening t m s.memory.member.parked k left
+  prepare-ends q m g k left (prepare.IsRefused k' c z why is) p = subst (TurnLeaves r o held h w s.opening t m s.memory.member.parked k) (sym is) (leaves-quiet m k _ _ refl (only-one _ refl) refl p.0.0)
+  prepare-ends q m g k left (prepare.HasNoSpace k' z allowed few is) p = subst (TurnLeaves r o held h w s.opening t m s.memory.member.parked k) (sym is) (leaves-quiet m k _ _ refl (only-one _ refl) refl p.0.0)
+  prepare-ends q m g k left (prepare.IsPrepared k' z is) p = subst (TurnLeaves r o held h w s.opening t m s.memory.member.parked k) (sym is) (leaves-quiet m k _ _ refl (only-one _ refl) refl p)
 
   -- the whole turn
-  pub commit-sound : HearsCommit r o held h w t m reading q → (old new : Kept) (left : TargetMemory × Did)
-      → Whole (commit.CommitNext (target_plan r t) opening m reading q) (commit.CommitEnds (target_plan r t) opening m reading q from) commit.Asked old new left
-      → Sound r o held h opening t old.durable m.decided m.stamps → TurnTold r o held h w opening t new left from (commit_message q)
-  commit-sound c old new left turn k =
-      commit-ends c turn.last new left turn.ends
-      (path-keeps (commit.CommitNext (target_plan r t) opening m reading q) (Mid r o held h opening t m reading q) (commit-step c) commit.Asked old turn.reached.did turn.last new turn.reached.path k)
+  pub prepare-sound : (q : PrepareRequest) (m : Message) → q.entry ≡ first_entry r q.entry.attempt q.entry.epoch → q.writes ≡ writes_at r.script.targets t (writes_of r q.entry.attempt) → MayBeStored o h w s q.entry.attempt q.entry.epoch
+      → (new : Kept) (left : TargetMemory × Did) → Whole (prepare.PrepareNext (target_plan r t) s.opening s.memory q) (prepare.PrepareEnds (target_plan r t) s.opening s.memory q) prepare.Heard (kept s) new left
+      → TurnLeaves r o held h w s.opening t m s.memory.member.parked new left
+  prepare-sound q m entry writes may new left turn =
+      prepare-ends q m turn.last new left turn.ends
+      (reached-keeps (prepare.PrepareNext (target_plan r t) s.opening s.memory q) (PrepareMid q)
+      (prepare-step q (ap (λ e. e.committed) entry) (subst (AreItsOwn r q.entry.attempt t) (sym writes) (prepare-own r q.entry.attempt t (b.forms q.entry.attempt))) may)
+      prepare.Heard (kept s) turn.last new turn.reached (b.sound, refl))
 
--- ---- idle work
+  -- ---- a Commit
 
--- what holds while it is done; of an attempt that is left it doesn't matter whether it is settled
-abbrev Idling : (r : Rules) (o : Opening) (held : List Version) (h : History) (opening : Epoch × FloorWhy) (t : ℕ) (m : TargetMemory) → List AttemptId → Kept → Type 0
-Idling r o held h opening t m left k = Holds r o held h t k.durable left × Shows r o h opening t k.durable m.stamps
+  -- what a Commit is heard with
+  pub record HearsCommit (q : CommitRequest) (reading : ℕ) : Type 0 where
+    pub right : IsCommitRight r t q.attempt q.writes
+    pub epochs : (e : Epoch) → request_epoch (target_plan r t) s.memory reading q.tracker q.ep ≡ Some e → IsItsEpoch o w q.attempt q.ep e
+    pub absent : entry_of s.durable q.attempt ≡ None
+    pub undecided : WasDecided h q.attempt → ⊥
 
-module _ (r : Rules) (o : Opening) (held : List Version) (h : History) (opening : Epoch × FloorWhy) (t : ℕ) (m : TargetMemory) where
-  idle-step : (s : List AttemptId) (k : Kept) (c : Option Change) (u : List AttemptId) (l : Kept) → IdleNext s k c u → Steps c k l → Idling r o held h opening t m s k → Idling r o held h opening t m u l
-  idle-step s k c u l (SettlesFirst k' a rest) steps p =
-      subst (λ d. Holds r o held h t d rest × Shows r o h opening t d m.stamps) (sym steps.0)
-      (settles-holds r o held h t k.durable (a ∷ rest) rest a (contains-from_has (a ∷ rest) a (inl refl)) others fewer p.0, settles-shows r o h opening t k.durable m.stamps a p.1)
-    where
-      others : (x : AttemptId) → Contains (a ∷ rest) x → same_attempt x a ≡ false → Contains rest x
-      others x i apart = by (has-from_contains (a ∷ rest) x i)
-        where
-          by : Has x (a ∷ rest) → Contains rest x
-          by (inl same) = clash (same_attempt x a) (ap (λ y. same_attempt y a) same ∙ same-itself a) apart
-          by (inr j) = contains-from_has rest x j
+  module _ (q : CommitRequest) (reading : ℕ) (c : HearsCommit q reading) where
+    abbrev HasEpoch : Epoch → Type 0
+    HasEpoch e = request_epoch (target_plan r t) s.memory reading q.tracker q.ep ≡ Some e
 
-      fewer : (x : AttemptId) → Contains rest x → Contains (a ∷ rest) x
-      fewer x i = contains-from_has (a ∷ rest) x (inr (has-from_contains rest x i))
+    abbrev CommitMid : commit.CommitStage → Kept → Type 0
+    CommitMid commit.Asked k = MidAt k.durable
+    CommitMid (commit.Known e) k = MidAt k.durable × HasEpoch e
+    CommitMid (commit.Checking e) k = MidAt k.durable × HasEpoch e × (e.0 / 256 ≤ k.durable.lease)
+    CommitMid (commit.Stored e) k = SoundAt k.durable × HasEpoch e
 
-  idle-ends : (s : List AttemptId) (k : Kept) (left : TargetMemory × Did) → IdleEnds m s k left → Idling r o held h opening t m s k → Sound r o held h opening t k.durable left.0.decided left.0.stamps
-  idle-ends s k left (AllSettled k' left' is) p =
-      subst (λ n. Sound r o held h opening t k.durable n.0.decided n.0.stamps) (sym is) (record { holds = p.0; unsettled = λ x i. absurd (has-from_contains [] x i); shows = p.1 })
+    may-store : (e : Epoch) → HasEpoch e → MayBeStored o h w s q.attempt e
+    may-store e has = let its = c.epochs e has in record { absent = c.absent; undecided = c.undecided; above = its.above; alone = its.alone }
 
-  -- the whole of it
-  pub idle-sound : (old new : Kept) (left : TargetMemory × Did) → IdlesWhole m old new left → Sound r o held h opening t old.durable m.decided m.stamps → Sound r o held h opening t new.durable left.0.decided left.0.stamps
-  idle-sound old new left turn k =
-      idle-ends turn.last new left turn.ends (path-keeps IdleNext (Idling r o held h opening t m) idle-step m.decided old turn.reached.did turn.last new turn.reached.path (k.holds, k.shows))
+    own : AreItsOwn r q.attempt t (commit.own_writes (target_plan r t) q.writes)
+    own = subst (λ ws. AreItsOwn r q.attempt t (commit.own_writes (target_plan r t) ws)) (sym c.right.its) (commit-own r q.attempt t (b.forms q.attempt))
+
+    commit-step : (g : commit.CommitStage) (k : Kept) (n : Option Change) (u : commit.CommitStage) (l : Kept) → commit.CommitNext (target_plan r t) s.opening s.memory reading q g k n u → Steps n k l → CommitMid g k → CommitMid u l
+    commit-step g k n u l (commit.HasEpoch k' e its) steps p = (subst (λ j. MidAt j.durable) (sym steps) p, its)
+    commit-step g k n u l (commit.ExtendsLease k' e lease low is) steps p = (subst MidAt (sym steps.0) (leases-at k.durable (e.0 / 256) lease low is p.0), p.1)
+    commit-step g k n u l (commit.IsCovered k' e le) steps p = (subst (λ j. MidAt j.durable) (sym steps) p.0, p.1, subst (λ j. e.0 / 256 ≤ j.durable.lease) (sym steps) le)
+    commit-step g k n u l (commit.Stores k' e allowed space) steps p = (
+      subst SoundAt (sym steps.0)
+          (stores-sound r o held h h.served s.opening t s.memory.stamps k.durable (commit.led_entry (target_plan r t) q e) (commit.own_writes (target_plan r t) q.writes) (target_plan r t) q.first
+          (new-at k.durable (commit.led_entry (target_plan r t) q e) refl (may-store e p.1) p.2 p.0) own allowed p.0.0),
+      p.1,
+    )
+
+    -- the epoch of the request was issued, or is now
+    issued-now : (e : Epoch) → HasEpoch e → Contains (w.issued ++ listed (issued_for q.attempt q.ep e)) (q.attempt, e)
+    issued-now e has = by q.ep refl
+      where
+        by : (ep : Option Epoch) → q.ep ≡ ep → Contains (w.issued ++ listed (issued_for q.attempt ep e)) (q.attempt, e)
+        by None is = Contains-push w.issued (q.attempt, e)
+        by (Some f) is =
+            let one : Some f ≡ Some e = sym (ap (λ ep. request_epoch (target_plan r t) s.memory reading q.tracker ep) is) ∙ has in
+            Contains-append_left w.issued [] (q.attempt, e) ((c.epochs e has).own e (is ∙ one))
+
+    may-decide : (e : Epoch) → HasEpoch e → MayBeDecided r o h q.attempt e
+    may-decide e has =
+        let its = c.epochs e has in
+        record { undecided = c.undecided; alone = alone its; above = its.above; form = b.forms q.attempt; fits = b.fits q.attempt }
+      where
+        alone : IsItsEpoch o w q.attempt q.ep e → (y : AttemptId) (f : Epoch) → Decided h y f → f.0 ≢ e.0
+        alone its y f is same = c.undecided (f, subst (λ x. Decided h x f) (its.alone y f (b.decided y f is) same) is)
+
+    writes-some : writes_of r q.attempt ≢ []
+    writes-some none = c.right.some (c.right.its ∙ none)
+
+    -- the attempt begins: it is decided at once where it has no other member
+    begin-leaves : (from : ActorId) (m : Message) (k : Kept) (e : Epoch) (others : Bool) → HasEpoch e → SoundAt k.durable → (l : LeaderOf)
+        → TurnLeaves r o held h w s.opening t m s.memory.member.parked k (
+          leads_on (if others then begun_alone (commit.led_entry (target_plan r t) q e) from l else begun_with_others (commit.led_entry (target_plan r t) q e) q.first from q.writes l) (with_ticks e s.memory),
+          sends (if others then begun_alone (commit.led_entry (target_plan r t) q e) from l else begun_with_others (commit.led_entry (target_plan r t) q e) q.first from q.writes l).posts (issued_for q.attempt q.ep e),
+        )
+    begin-leaves from m k e true has sound l = record {
+      more = [];
+      right = λ z i. absurd i;
+      sound = sound;
+      answered = none-answered h.served t m s.memory.member.parked (committed ∷ []) (only-one committed refl);
+      told = (q.attempt, e) ∷ [];
+      decides = OneMore q.attempt e refl (may-decide e has) (issued-now e has) writes-some;
+    }
+      where
+        committed : Post
+        committed = record { to = from; message = Ended q.attempt (Some e) Committed }
+    begin-leaves from m k e false has sound l = leaves-quiet m k _ _ refl silent (none-committed _ endless) sound
+      where
+        prepares : List Post
+        prepares = map (prepare_to l.targets l.incarnation (commit.led_entry (target_plan r t) q e) q.first q.writes) (other_members (commit.led_entry (target_plan r t) q e))
+
+        silent : NoneIs is_answer prepares
+        silent p i =
+            let z = has-from_map (prepare_to l.targets l.incarnation (commit.led_entry (target_plan r t) q e) q.first q.writes) (other_members (commit.led_entry (target_plan r t) q e)) p i in
+            ap (λ y. is_answer y.message) (sym z.2)
+
+        endless : NoneIs is_end prepares
+        endless p i =
+            let z = has-from_map (prepare_to l.targets l.incarnation (commit.led_entry (target_plan r t) q e) q.first q.writes) (other_members (commit.led_entry (target_plan r t) q e)) p i in
+            ap (λ y. is_end y.message) (sym z.2)
+
+    commit-ends : (from : ActorId) (m : Message) (g : commit.CommitStage) (k : Kept) (left : TargetMemory × Did) → commit.CommitEnds (target_plan r t) s.opening s.memory reading q from g k left → CommitMid g k
+        → TurnLeaves r o held h w s.opening t m s.memory.member.parked k left
+    unfolding begun
+    commit-ends from m g k left (commit.IsSpent k' z none is) p = subst (TurnLeaves r o held h w s.opening t m s.memory.member.parked k) (sym is) (leaves-quiet m k _ _ refl (only-one _ refl) refl p.0)
+    commit-ends from m g k left (commit.IsRefused k' e why z by is) p = subst (TurnLeaves r o held h w s.opening t m s.memory.member.parked k) (sym is) (leaves-quiet m k _ _ refl (only-one _ refl) refl p.0.0)
+    commit-ends from m g k left (commit.HasNoSpace k' e z allowed few is) p = subst (TurnLeaves r o held h w s.opening t m s.memory.member.parked k) (sym is) (leaves-quiet m k _ _ refl (only-one _ refl) refl p.0.0)
+    commit-ends from m g k left (commit.HasBegun k' e z is) p =
+        subst (TurnLeaves r o held h w s.opening t m s.memory.member.parked k) (sym is)
+        (begin-leaves from m k e (is_empty (other_members (commit.led_entry (target_plan r t) q e))) p.1 p.0 (leader_at (target_plan r t) (with_ticks e s.memory) k.durable))
+
+    -- the whole turn
+    pub commit-sound : (from : ActorId) (m : Message) (new : Kept) (left : TargetMemory × Did)
+        → Whole (commit.CommitNext (target_plan r t) s.opening s.memory reading q) (commit.CommitEnds (target_plan r t) s.opening s.memory reading q from) commit.Asked (kept s) new left
+        → TurnLeaves r o held h w s.opening t m s.memory.member.parked new left
+    commit-sound from m new left turn =
+        commit-ends from m turn.last new left turn.ends (reached-keeps (commit.CommitNext (target_plan r t) s.opening s.memory reading q) CommitMid commit-step commit.Asked (kept s) turn.last new turn.reached (b.sound, refl))

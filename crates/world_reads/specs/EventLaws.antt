@@ -1,25 +1,33 @@
 -- Every turn keeps the facts of versions and reads.
-use Rattle.std.specs.Prelude.{ℕ, ◌≡◌, ◌≢◌, ◌⊎◌, ◌≤◌, ◌/◌, ◌++◌, ◌==◌, Bool, true, false, List, [], ◌∷◌, Contains, slice_get, Some, refl}
+use Rattle.std.specs.Prelude.{ℕ, ◌≡◌, ◌⊎◌, ◌≤◌, ◌/◌, ◌++◌, ◌==◌, ◌||◌, Bool, true, false, List, [], ◌∷◌, Contains, slice_get, Some, None, refl}
 use Rattle.std.proofs.Common.{sym, ◌∙◌, ap, subst, inl, inr}
 use Rattle.std.proofs.Math.ListN.{set}
-use Rattle.std.proofs.Math.Nat.{mod-one}
 use Rattle.std.proofs.lemmas.List.Elements.{Contains-append_left}
-use Rattle.daos_base.specs.declared.entry.Entry.{Entry}
+use Rattle.daos_base.specs.declared.entry.Verdict.{Verdict}
+use Rattle.daos_base.specs.declared.entry.Verdict.TheVariants as fate
 use Rattle.daos_base.specs.declared.epoch.Epoch.{Epoch}
 use Rattle.daos_base.specs.declared.id.AttemptId.{AttemptId}
-use Rattle.daos_base.specs.Operations.{read_path}
-use Rattle.daos_laws.specs.Members.{contains-from_has, has-right}
+use Rattle.daos_base.specs.declared.operation.MinorWrite.{MinorWrite}
+use Rattle.daos_base.specs.declared.shown.Shown.{Shown}
+use Rattle.daos_laws.specs.Members.{Has, any-has, contains-from_has, has-cases, has-from_contains, has-right}
 use Rattle.daos_laws.specs.TargetLaws.{number_same, same_number}
-use Rattle.daos_messages.specs.declared.actor.ActorId.{ActorId}
 use Rattle.daos_messages.specs.declared.message.Message.{Message}
 use Rattle.daos_messages.specs.declared.message.Message.TheVariants as message
 use Rattle.daos_model.specs.declared.durable.Version.{Version}
-use Rattle.daos_model.specs.Accesses.{asked_member, minor_writes}
-use Rattle.daos_model.specs.BoolLaws.{clash}
-use Rattle.daos_model.specs.CausesShown.{leader_of_attempt}
-use Rattle.daos_model.specs.Durables.{entry_of}
+use Rattle.daos_model.specs.BoolLaws.{both, clash}
+use Rattle.daos_model.specs.Durables.{entry_of, same_attempt}
+use Rattle.daos_model.specs.Forms.{is_read_in_form}
 use Rattle.daos_model.specs.Opening.{Opening}
-use Rattle.daos_model.specs.Transactions.{attempt_ops}
+use Rattle.dtx_base.specs.declared.leading.Undecided.{Undecided}
+use Rattle.dtx_base.specs.declared.member.Parked.{Parked}
+use Rattle.dtx_base.specs.Leading.{undecided_attempt}
+use Rattle.dtx_base.specs.Members.{writes_at}
+use Rattle.dtx_base.specs.Rows.{is_attempt, row_of}
+use Rattle.world_attempts.specs.Attempts as letters
+use Rattle.world_attempts.specs.Attempts.{Attempts, IsMarkRight, IsMarkTrue, IsOther, IsPrepareRight, IsTrueOf, IsVerdictTrue, is_answered_by, is_asked_by, entry_at, entry_in, is_asking, is_known_at, is_known_in, is_prepare_to, leader_of, row_at, row_in, writes_of}
+use Rattle.world_attempts.specs.Counting.{none-counted}
+use Rattle.world_attempts.specs.History.{Aborted, GrowsBy, History, Served}
+use Rattle.world_attempts.specs.Keeping.{AttemptsAreKept, NoneIsBoth}
 use Rattle.world_base.specs.declared.client.ClientState.{ClientState}
 use Rattle.world_base.specs.declared.did.Did.{Did}
 use Rattle.world_base.specs.declared.letter.Letter.{Letter}
@@ -27,178 +35,344 @@ use Rattle.world_base.specs.declared.target.Life.TheVariants.{Running}
 use Rattle.world_base.specs.declared.target.TargetMemory.{TargetMemory}
 use Rattle.world_base.specs.declared.target.TargetState.{TargetState}
 use Rattle.world_base.specs.declared.world.World.{World}
-use Rattle.world_events.specs.Events.{ClientGoes, ClientHears, Rules, after_turn, kept, listed, target_after, target_plan, with_client, with_target}
+use Rattle.world_events.specs.Events.{ClientGoes, ClientHears, Rules, TargetHears, ToTarget, after_turn, kept, listed, target_after, target_plan, with_client, with_target}
 use Rattle.world_events.specs.Letters.{Takes, client, target}
 use Rattle.world_events.specs.StepLaws.{set-here, set-there}
-use Rattle.world_reads.specs.CommitLaws.{commit-sound, idle-sound}
-use Rattle.world_reads.specs.FetchLaws.{fetch-sound}
-use Rattle.world_reads.specs.Given.{Given, IsMessageRight}
-use Rattle.world_reads.specs.History.{History, Served}
-use Rattle.world_reads.specs.Keeping.{ClientsKeepReads, GoOn, HearingKeepsReads, IdlingKeepsReads, OthersKeepReads}
-use Rattle.world_reads.specs.Midway.{Sound, TurnLeaves, TurnTold}
-use Rattle.world_reads.specs.Reads.{IsGuarded, Reads}
+use Rattle.world_reads.specs.AckLaws.{ack-sound}
+use Rattle.world_reads.specs.AnswerLaws.{IsBarred}
+use Rattle.world_reads.specs.Beginning.{HasOpenRow, TurnBegins}
+use Rattle.world_reads.specs.ChangeLaws.{WasDecided}
+use Rattle.world_reads.specs.CommitLaws.{HearsCommit, MayBeStored, commit-sound, prepare-sound}
+use Rattle.world_reads.specs.Given.{Given, IsMessageRight, IsParkedRight}
+use Rattle.world_reads.specs.Growing.{grown, refused_in}
+use Rattle.world_reads.specs.GrowLaws.{decides-told, grown-grows, none-grows}
+use Rattle.world_reads.specs.LaterLaws.{grown-answers, grown-apart, grown-issued, grown-stands, grown-written}
+use Rattle.world_reads.specs.Keeping.{Before, ClientsKeepReads, GoOn, HearingKeepsReads, IdlingKeepsReads, OthersKeepReads}
+use Rattle.world_reads.specs.MarkLaws.{IdleSound, IsFateRight, idle-sound, mark-sound, marked-sound, query-sound}
+use Rattle.world_reads.specs.MemberLaws.{writes-member}
+use Rattle.daos_laws.specs.EntryLaws.{same-itself}
+use Rattle.world_reads.specs.Midway.{IsServedRight, IsStampOf, Sound, TurnLeaves}
+use Rattle.world_reads.specs.Reads.{IsAnsweredRight, IsGuarded, IsOfAttempt, Reads}
+use Rattle.world_reads.specs.VerdictLaws.{IsVerdictRight, fetch-sound, verdict-sound}
 use Rattle.world_reads.specs.Versions.{IsWriteAt, Versions, VersionsStand}
 use Rattle.world_turns.specs.Changes.{Kept}
-use Rattle.world_turns.specs.TargetTurns.{Hears}
+use Rattle.world_turns.specs.TargetTurns.{Hears, commit_request, fetch_request, prepare_request}
 
 -- ---- before a turn
 
 -- what is in flight until it is taken
-taken-among : (letters : List Letter) (l : Letter) (rest : List Letter) → Takes letters l rest → Contains letters l
-taken-among letters l rest k = subst (λ ls. Contains ls l) (sym k.among) (contains-from_has (k.before ++ l ∷ k.after) l (has-right k.before (l ∷ k.after) l (inl refl)))
-
--- every served read was served by target 0
-served-here : (r : Rules) (o : Opening) (h : History) (w : World) (t : ℕ) → r.script.targets ≡ 1 → t ≡ 0 → Reads r o h w → (q : Served) → Contains h.served q → q.target ≡ t
-served-here r o h w t one zero k q i =
-    let a = k.asked q i in
-    a.member ∙ ap (λ n. asked_member a.obj q.by.command n q.group) one ∙ mod-one _ ∙ sym zero
+taken-among : (letters : List Letter) (l : Letter) (rest : List Letter) → Takes letters l rest → Has l letters
+taken-among letters l rest k = subst (Has l) (sym k.among) (has-right k.before (l ∷ k.after) l (inl refl))
 
 -- a target before its turn
-turn-begins : (r : Rules) (o : Opening) (held : ℕ → List Version) (h : History) (w : World) (t : ℕ) (s : TargetState) → slice_get w.targets t ≡ Some s → s.life ≡ Running
-    → Versions r o held h w → Reads r o h w → Sound r o (held t) h s.opening t s.durable s.memory.decided s.memory.stamps
-turn-begins r o held h w t s here runs k l = record {
-  holds = record {
-    stand = k.stand t s here;
-    apart = k.apart;
-    held_by = λ x e m i at. k.held_by x e t s m i here at;
-    entries = λ e i. k.entries t s e here i;
-    led = λ e i f at. k.led t s e here i f at;
-    leaders = λ e i. k.leaders t s e here i;
-    listed = λ x i. let z = k.leading t s x here i in (z.0, z.1);
-  };
-  unsettled = λ x i. k.leading t s x here i;
-  shows = record {
-    asked = l.asked;
-    form = l.form;
-    answers = l.answers;
-    guarded = λ q i at. l.guarded q s i (there q at) runs;
-    leased = λ q i at. l.leased q s i (there q at);
-    barred = λ q v i at j f over. l.barred q s v i (there q at) j f over;
-    stamped = λ z i. l.stamps t s z here runs i;
-  };
-}
-  where
-    there : (q : Served) → q.target ≡ t → slice_get w.targets q.target ≡ Some s
-    there q at = subst (λ n. slice_get w.targets n ≡ Some s) (sym at) here
+module _ (r : Rules) (o : Opening) (held : ℕ → List Version) (h : History) (w : World) (b : Before r o held h w) (t : ℕ) (s : TargetState) (here : slice_get w.targets t ≡ Some s) (runs : s.life ≡ Running) where
+  -- the entry that is found at the target
+  entry-here : (x : AttemptId) → entry_at w t x ≡ entry_of s.durable x
+  entry-here x = ap (λ z. entry_in z x) here
+
+  there : (q : Served) → q.target ≡ t → slice_get w.targets q.target ≡ Some s
+  there q at = subst (λ n. slice_get w.targets n ≡ Some s) (sym at) here
+
+  row-here : (x : AttemptId) (u : Undecided) → row_of undecided_attempt x s.memory.leader.undecided ≡ Some u → HasOpenRow r h w t s x
+  row-here x u row =
+      let z = (b.attempts.each x).rows.undecided t u (ap (λ y. row_in y x) here ∙ row) in
+      let k = (b.attempts.each x).entries.one t z.here.entry z.here.found in
+      record {
+        undecided = λ d. z.undecided d.0 d.1;
+        entry = z.here.entry;
+        found = sym (entry-here x) ∙ z.here.found;
+        leads = k.leader ∙ sym z.here.leads;
+        members = k.members;
+        issued = contains-from_has w.issued (x, z.here.entry.epoch) k.issued;
+      }
+
+  known-here : (a : AttemptId) → Contains s.memory.leader.decided a → WasDecided h a
+  known-here a i =
+      let z = (b.attempts.each a).rows.unsettled t (ap (λ y. is_known_in y a) here ∙ any-has (is_attempt a) s.memory.leader.decided a (has-from_contains s.memory.leader.decided a i) (same-itself a)) in
+      (z.here.entry.epoch, z.decided)
+
+  turn-begins : TurnBegins r o (held t) h w t s
+  turn-begins = record {
+    sound = record {
+      stand = b.versions.stand t s here;
+      shows = record {
+        guarded = λ q i at. b.reads.guarded q s i (there q at) runs;
+        leased = λ q i at. b.reads.leased q s i (there q at);
+        barred = λ q v i at j f over. b.reads.barred q s v i (there q at) j f over;
+        stamped = λ z i. let q = b.reads.stamps t s z here runs i in (q.0, q.1, q.2, (q.3, q.4, q.5));
+      };
+    };
+    apart = b.versions.apart;
+    decided = b.versions.issued;
+    before = b.given.before t;
+    above = b.given.above;
+    alone = b.given.apart;
+    forms = b.given.forms;
+    fits = b.given.fits;
+    issued = λ x e found. contains-from_has w.issued (x, e.epoch) ((b.attempts.each x).entries.one t e (entry-here x ∙ found)).issued;
+    known = known-here;
+    rows = row-here;
+  }
+
+  -- an attempt without an entry at its leader isn't decided
+  unheld : (x : AttemptId) → t ≡ leader_of r x → entry_of s.durable x ≡ None → WasDecided h x → ⊥
+  unheld x leads absent d =
+      let z = (b.attempts.each x).entries.held_by_leader d.0 d.1 in
+      let no : ⊥ = cc (sym z.found ∙ ap (λ n. entry_at w n x) (sym leads) ∙ entry-here x ∙ absent) in no
+
+-- ---- what a target hears
+
+-- a letter that asks a member to prepare
+asked-prepares : (x : AttemptId) (m : ℕ) (l : Letter) → is_asked_by x m l.to l.message ≡ true → is_prepare_to x m l ≡ true
+unfolding is_prepare_to
+asked-prepares x m l is = is
+
+asked-asks : (x : AttemptId) (m : ℕ) (l : Letter) → is_asked_by x m l.to l.message ≡ true → is_asking x m l ≡ true
+unfolding is_asking
+asked-asks x m l is = ap (λ c. c || is_answered_by x m l.from l.message) is
+
+module _ (both-not : NoneIsBoth) (r : Rules) (o : Opening) (held : ℕ → List Version) (h : History) (w : World) (b : Before r o held h w) (t : ℕ) (s : TargetState) (here : slice_get w.targets t ≡ Some s) (runs : s.life ≡ Running)
+    (reading : ℕ) (new : Kept) (left : TargetMemory × Did) (l : Letter) (among : Has l w.messages) (to_it : l.to ≡ target t) where
+  begins : TurnBegins r o (held t) h w t s
+  begins = turn-begins r o held h w b t s here runs
+
+  -- what is aborted isn't decided
+  undecided : (x : AttemptId) → Aborted h x → WasDecided h x → ⊥
+  undecided x gone d = both-not r h w x d.0 b.attempts d.1 gone
+
+  mark-right : (x : AttemptId) (c : Bool) → IsMarkTrue h x c → IsFateRight h x c
+  mark-right x true k = k
+  mark-right x false k = undecided x k
+
+  verdict-right : (x : AttemptId) (v : Verdict) → IsVerdictTrue h x v → IsVerdictRight r o (held t) h w t s begins v x
+  verdict-right x fate.Committed k = k
+  verdict-right x fate.Aborted k = undecided x k
+  verdict-right x fate.Undecided k = tt
+
+  parked-right : (p : Parked) → Has p s.memory.member.parked → IsParkedRight r o w t p.ask
+  parked-right p i = b.given.waiting t s p here runs i
+
+  right : (m : Message) → l.message ≡ m → IsMessageRight r o w t s m
+  right m is = subst (IsMessageRight r o w t s) is (b.given.asked l t s (contains-from_has w.messages l among) to_it here runs)
+
+  hears-sound : (m : Message) → l.message ≡ m → Hears (target_plan r t) s.opening s.memory reading l.from m (kept s) new left → TurnLeaves r o (held t) h w s.opening t m s.memory.member.parked new left
+  hears-sound (message.Fetch x op group ep first tracker read snapshot) is turn =
+      let ok = right (message.Fetch x op group ep first tracker read snapshot) is in
+      fetch-sound r o (held t) h w t s begins reading (fetch_request x op group ep first tracker read snapshot) l.from ok.0 (ok.1 reading) new left turn
+  hears-sound (message.Commit x ep first tracker ws) is turn = commit-sound r o (held t) h w t s begins (commit_request x ep first tracker ws) reading hears l.from (message.Commit x ep first tracker ws) new left turn
+    where
+      hears : HearsCommit r o (held t) h w t s begins (commit_request x ep first tracker ws) reading
+      hears =
+          let ok = right (message.Commit x ep first tracker ws) is in
+          let absent = sym (entry-here r o held h w b t s here runs x) ∙ ap (λ n. entry_at w n x) ok.0.leads ∙ (b.right.commits l x ep first tracker ws among is).unstored in
+          record { right = ok.0; epochs = ok.1 reading; absent = absent; undecided = unheld r o held h w b t s here runs x ok.0.leads absent }
+  hears-sound (message.Prepare e first ws inc) is turn =
+      prepare-sound r o (held t) h w t s begins (prepare_request e first ws inc) (message.Prepare e first ws inc) z.entry (z.writes ∙ ap (λ n. writes_at r.script.targets n (writes_of r e.attempt)) it) may new left turn
+    where
+      z : IsPrepareRight r h w l.from l.to e ws inc
+      z = subst (IsTrueOf r h w l.from l.to) is (b.attempts.letters l among)
+
+      it : z.way.member ≡ t
+      it = ap (λ a. a.number) (sym z.way.receiver ∙ to_it)
+
+      other : IsOther r e.attempt t
+      other = subst (IsOther r e.attempt) it z.way.other
+
+      asks : is_asked_by e.attempt t l.to l.message ≡ true
+      asks = ap (λ a. is_asked_by e.attempt t a l.message) to_it ∙ ap (is_asked_by e.attempt t (target t)) is ∙ both (same_attempt e.attempt e.attempt) (t == t) (same-itself e.attempt) (same_number t)
+
+      issued : Contains w.issued (e.attempt, e.epoch)
+      issued = contains-from_has w.issued (e.attempt, e.epoch) z.issued
+
+      may : MayBeStored o h w s e.attempt e.epoch
+      may = record {
+        absent = sym (entry-here r o held h w b t s here runs e.attempt) ∙ (b.attempts.each e.attempt).awaited.before t l among (asked-prepares e.attempt t l asks);
+        undecided = λ d. none-counted (is_asking e.attempt t) w.messages l ((b.attempts.each e.attempt).awaited.none t d.0 other d.1) among (asked-asks e.attempt t l asks);
+        above = b.given.above e.attempt e.epoch issued;
+        alone = λ y f i same. b.given.apart y e.attempt f e.epoch i issued same;
+      }
+  hears-sound (message.Ack x inc refusal) is turn = ack-sound r o (held t) h w t s begins l.from.number x inc refusal (message.Ack x inc refusal) (right (message.Ack x inc refusal) is) new left turn
+  hears-sound (message.Mark inc marks) is turn = mark-sound r o (held t) h w t s begins l.from inc marks (message.Mark inc marks) (λ x c i. mark-right x c (marks-true x c i).fate) new left turn
+    where
+      marks-true : (x : AttemptId) (c : Bool) → Has (x, c) marks → IsMarkRight r h w l.from l.to x inc c
+      marks-true = subst (IsTrueOf r h w l.from l.to) is (b.attempts.letters l among)
+  hears-sound (message.Marked inc ids) is turn = marked-sound r o (held t) h w t s begins l.from.number inc ids (message.Marked inc ids) new left turn
+  hears-sound (message.Query x ask) is turn = query-sound r o (held t) h w t s begins l.from x ask (message.Query x ask) new left turn
+  hears-sound (message.Verdict x ask inc v) is turn =
+      verdict-sound r o (held t) h w t s begins reading x ask v (message.Verdict x ask inc v) (verdict-right x v z.fate) parked-right new left turn
+    where
+      z : letters.IsVerdictRight r h w l.from l.to x v
+      z = subst (IsTrueOf r h w l.from l.to) is (b.attempts.letters l among)
+  hears-sound m is turn = absurd turn
 
 -- ---- after it
 
--- the target of the turn is the only one
-only-here : (targets : List TargetState) (t : ℕ) (s new : TargetState) → ((u : ℕ) (z : TargetState) → slice_get targets u ≡ Some z → u ≡ 0) → slice_get targets t ≡ Some s
-    → (P : ℕ → TargetState → Type 0) → P t new → (u : ℕ) (z : TargetState) → slice_get (set targets t new) u ≡ Some z → P u z
-only-here targets t s new alone here P p u z at = by (u == t) refl
+-- of the targets after a turn, one is new, and the others are as they were
+at-or-there : (targets : List TargetState) (t : ℕ) (s new : TargetState) → slice_get targets t ≡ Some s → (u : ℕ) (z : TargetState) → slice_get (set targets t new) u ≡ Some z
+    → ((u ≡ t) × (z ≡ new)) ⊎ ((u ≡ t → ⊥) × (slice_get targets u ≡ Some z))
+at-or-there targets t s new here u z at = by (u == t) refl
   where
-    same-number : (u == t) ≡ true → P u z
-    same-number e =
+    by : (b : Bool) → (u == t) ≡ b → ((u ≡ t) × (z ≡ new)) ⊎ ((u ≡ t → ⊥) × (slice_get targets u ≡ Some z))
+    by true e =
         let same : u ≡ t = number_same u t e in
         let found : slice_get (set targets t new) t ≡ Some z = subst (λ n. slice_get (set targets t new) n ≡ Some z) same at in
         let now : Some new ≡ Some z = sym (set-here targets t s new here) ∙ found in
         let is : new ≡ z = cc in
-        subst (λ n. P n z) (sym same) (subst (P t) is p)
-
-    by : (b : Bool) → (u == t) ≡ b → P u z
-    by true e = same-number e
+        inl (same, sym is)
     by false e =
         let apart : u ≡ t → ⊥ = λ same. clash (u == t) (ap (λ n. n == t) same ∙ same_number t) e in
-        absurd (apart (alone u z (sym (set-there targets t u new apart) ∙ at) ∙ sym (alone t s here)))
+        inr (apart, sym (set-there targets t u new apart) ∙ at)
 
 abbrev After : World → ℕ → TargetState → Kept → TargetMemory × Did → List Letter → World
 After w t s new left rest = with_target t (target_after s new left.0) (after_turn w (target t) left.1 rest)
 
-module _ (r : Rules) (o : Opening) (held : ℕ → List Version) (h : History) (w : World) (t : ℕ) (s : TargetState) (new : Kept) (left : TargetMemory × Did) (rest : List Letter) where
-  versions-after : ((u : ℕ) (z : TargetState) → slice_get w.targets u ≡ Some z → u ≡ 0) → slice_get w.targets t ≡ Some s → Versions r o held h w → (k : TurnLeaves r o (held t) h w s.opening t new left)
-      → Versions r o held k.later (After w t s new left rest)
-  versions-after alone here before k = record {
-    stand = only (λ u z. VersionsStand r o (held u) k.later u z.durable) k.sound.holds.stand;
-    apart = k.sound.holds.apart;
-    issued = λ x e i. issued x e (k.decided x e i);
-    written = λ x e i. written x e (k.decided x e i);
-    held_by = λ x e u z m i at its. only (λ n y. IsWriteAt r x n m → (a : Entry) × (entry_of y.durable x ≡ Some a) × (a.epoch ≡ e)) (k.sound.holds.held_by x e m i) u z at its;
-    entries = λ u z e at i. only (λ n y. Contains y.durable.entries e → Contains k.later.decided (e.attempt, e.epoch)) (k.sound.holds.entries e) u z at i;
-    led = λ u z e at i f is. only (λ n y. Contains y.durable.entries e → e.committed ≡ false → e.leader ≡ n → Contains y.memory.decided e.attempt) (k.sound.holds.led e) u z at i f is;
-    leaders = λ u z e at i. only (λ n y. Contains y.durable.entries e → e.leader ≡ leader_of_attempt r.script e.attempt) (k.sound.holds.leaders e) u z at i;
-    leading = λ u z x at i. only (λ n y. Contains y.memory.decided x → (e : Entry) × (entry_of y.durable x ≡ Some e) × (e.committed ≡ false) × (e.leader ≡ n)) (k.sound.unsettled x) u z at i;
+-- what a turn left is sound of these reads, of which some are served in it
+module _ (r : Rules) (o : Opening) (held : ℕ → List Version) (h : History) (w : World) (b : Before r o held h w) (t : ℕ) (s : TargetState) (new : Kept) (left : TargetMemory × Did) (rest : List Letter) (here : slice_get w.targets t ≡ Some s)
+    (more : List Served) (right : (q : Served) → Has q more → IsServedRight r o h t (w.issued ++ listed left.1.issued) q) (sound : Sound r o (held t) h (more ++ h.served) s.opening t new.durable left.0.stamps) where
+  abbrev Now : World
+  Now = After w t s new left rest
+
+  placed : (u : ℕ) (z : TargetState) → slice_get (set w.targets t (target_after s new left.0)) u ≡ Some z → ((u ≡ t) × (z ≡ target_after s new left.0)) ⊎ ((u ≡ t → ⊥) × (slice_get w.targets u ≡ Some z))
+  placed u z at = at-or-there w.targets t s (target_after s new left.0) here u z at
+
+  -- what each target keeps stands for what was decided before
+  stand-now : (u : ℕ) (z : TargetState) → slice_get Now.targets u ≡ Some z → VersionsStand r o (held u) h u z.durable
+  stand-now u z at = elim (placed u z at) [
+    | inl k ↦ subst (λ n. VersionsStand r o (held n) h n z.durable) (sym k.0) (subst (λ y. VersionsStand r o (held t) h t y.durable) (sym k.1) sound.stand)
+    | inr k ↦ b.versions.stand u z k.1
+  ]
+
+  -- a read that was served elsewhere was served before
+  old : (q : Served) → Has q (more ++ h.served) → (q.target ≡ t → ⊥) → Has q h.served
+  old q i apart = elim (has-cases more h.served q i) [ inl j ↦ absurd (apart (right q j).here) | inr j ↦ j ]
+
+  barred-now : (q : Served) → Has q (more ++ h.served) → (z : TargetState) → slice_get Now.targets q.target ≡ Some z → IsBarred z.durable q
+  barred-now q i z at v j f over = elim (placed q.target z at) [
+    | inl k ↦ sound.shows.barred q v i k.0 (subst (λ y. Contains y.durable.versions v) k.1 j) f over
+    | inr k ↦ b.reads.barred q z v (old q i k.0) k.1 j f over
+  ]
+
+  asked-now : (q : Served) → Has q (more ++ h.served) → IsOfAttempt r q
+  asked-now q i = elim (has-cases more h.served q i) [ inl j ↦ (right q j).asked | inr j ↦ b.reads.asked q j ]
+
+  form-now : (q : Served) → Has q (more ++ h.served) → is_read_in_form q.read ≡ true
+  form-now q i = elim (has-cases more h.served q i) [ inl j ↦ (right q j).form | inr j ↦ b.reads.form q j ]
+
+  right-now : (q : Served) → Has q (more ++ h.served) → IsAnsweredRight r o h q
+  right-now q i = elim (has-cases more h.served q i) [ inl j ↦ (right q j).right | inr j ↦ b.reads.answers q j ]
+
+  issued-now : (q : Served) → Has q (more ++ h.served) → Contains (w.issued ++ listed left.1.issued) (q.by, q.epoch)
+  issued-now q i = elim (has-cases more h.served q i) [ inl j ↦ (right q j).its | inr j ↦ Contains-append_left w.issued (listed left.1.issued) (q.by, q.epoch) (b.reads.issued q j) ]
+
+  -- the facts of reads, of a history in which just these were served
+  reads-now : (g : History) → g.served ≡ more ++ h.served → ((q : Served) → Has q (more ++ h.served) → IsAnsweredRight r o g q) → Reads r o g Now
+  reads-now g same answers = record {
+    asked = λ q i. asked-now q (of q i);
+    form = λ q i. form-now q (of q i);
+    issued = λ q i. issued-now q (of q i);
+    answers = λ q i. answers q (of q i);
+    guarded = λ q z i at runs. elim (placed q.target z at) [
+      | inl k ↦ subst (λ y. IsGuarded y q) (sym k.1) (sound.shows.guarded q (of q i) k.0)
+      | inr k ↦ b.reads.guarded q z (old q (of q i) k.0) k.1 runs
+    ];
+    leased = λ q z i at. elim (placed q.target z at) [
+      | inl k ↦ subst (λ y. q.epoch.0 / 256 ≤ y.durable.lease) (sym k.1) (sound.shows.leased q (of q i) k.0)
+      | inr k ↦ b.reads.leased q z (old q (of q i) k.0) k.1
+    ];
+    barred = λ q z v i at j f over. barred-now q (of q i) z at v j f over;
+    stamps = λ u z y at runs i. let q = stamp u z y at runs i in (q.0, q.1, q.2, q.3.0, q.3.1, q.3.2);
   }
     where
-      only : (P : ℕ → TargetState → Type 0) → P t (target_after s new left.0) → (u : ℕ) (z : TargetState) → slice_get (set w.targets t (target_after s new left.0)) u ≡ Some z → P u z
-      only P p u z at = only-here w.targets t s (target_after s new left.0) alone here P p u z at
+      of : (q : Served) → Has q g.served → Has q (more ++ h.served)
+      of q i = subst (Has q) same i
 
-      issued : (x : AttemptId) (e : Epoch) → Contains h.decided (x, e) ⊎ (Contains (w.issued ++ listed left.1.issued) (x, e) × (minor_writes 0 (attempt_ops r.script x) ≢ [])) → Contains (w.issued ++ listed left.1.issued) (x, e)
-      issued x e (inl i) = Contains-append_left w.issued (listed left.1.issued) (x, e) (before.issued x e i)
-      issued x e (inr i) = i.0
+      stamp-here : (u : ℕ) (y : Shown) → u ≡ t → (q : Served) × Has q (more ++ h.served) × (q.target ≡ t) × IsStampOf y q → (q : Served) × Has q g.served × (q.target ≡ u) × IsStampOf y q
+      stamp-here u y at z = (z.0, subst (Has z.0) (sym same) z.1, z.2 ∙ sym at, z.3)
 
-      written : (x : AttemptId) (e : Epoch) → Contains h.decided (x, e) ⊎ (Contains (w.issued ++ listed left.1.issued) (x, e) × (minor_writes 0 (attempt_ops r.script x) ≢ [])) → minor_writes 0 (attempt_ops r.script x) ≢ []
-      written x e (inl i) = before.written x e i
-      written x e (inr i) = i.1
+      stamp : (u : ℕ) (z : TargetState) (y : Shown) → slice_get Now.targets u ≡ Some z → z.life ≡ Running → Contains z.memory.stamps y → (q : Served) × Has q g.served × (q.target ≡ u) × IsStampOf y q
+      stamp u z y at runs i = elim (placed u z at) [
+        | inl k ↦ stamp-here u y k.0 (sound.shows.stamped y (subst (λ n. Contains n.memory.stamps y) k.1 i))
+        | inr k ↦ let q = b.reads.stamps u z y k.1 runs i in (q.0, subst (Has q.0) (sym same) (has-right more h.served q.0 q.1), q.2, (q.3, q.4, q.5))
+      ]
 
-  reads-after : ((u : ℕ) (z : TargetState) → slice_get w.targets u ≡ Some z → u ≡ 0) → slice_get w.targets t ≡ Some s → Reads r o h w → (k : TurnLeaves r o (held t) h w s.opening t new left)
-      → Reads r o k.later (After w t s new left rest)
-  reads-after alone here before k = record {
-    asked = k.sound.shows.asked;
-    form = k.sound.shows.form;
-    issued = λ q i. issued q (k.served q i);
-    answers = k.sound.shows.answers;
-    guarded = λ q z i at runs. only (λ n y. q.target ≡ n → IsGuarded y q) (k.sound.shows.guarded q i) q.target z at refl;
-    leased = λ q z i at. only (λ n y. q.target ≡ n → q.epoch.0 / 256 ≤ y.durable.lease) (k.sound.shows.leased q i) q.target z at refl;
-    barred = λ q z v i at j f over.
-        only (λ n y. q.target ≡ n → Contains y.durable.versions v → q.epoch.0 ≤ v.epoch.0) (λ is among. k.sound.shows.barred q v i is among f over) q.target z at refl j;
-    stamps = λ u z y at runs i.
-        only (λ n a. Contains a.memory.stamps y → (q : Served) × Contains k.later.served q × (q.target ≡ n) × (q.by ≡ y.by) × (q.epoch ≡ y.epoch) × (read_path q.read ≡ y.path)) (k.sound.shows.stamped y) u z at i;
-  }
-    where
-      only : (P : ℕ → TargetState → Type 0) → P t (target_after s new left.0) → (u : ℕ) (z : TargetState) → slice_get (set w.targets t (target_after s new left.0)) u ≡ Some z → P u z
-      only P p u z at = only-here w.targets t s (target_after s new left.0) alone here P p u z at
-
-      issued : (q : Served) → Contains h.served q ⊎ Contains (w.issued ++ listed left.1.issued) (q.by, q.epoch) → Contains (w.issued ++ listed left.1.issued) (q.by, q.epoch)
-      issued q (inl i) = Contains-append_left w.issued (listed left.1.issued) (q.by, q.epoch) (before.issued q i)
-      issued q (inr i) = i
-
-  goes-on : (v : World) → v ≡ After w t s new left rest → ((u : ℕ) (z : TargetState) → slice_get w.targets u ≡ Some z → u ≡ 0) → slice_get w.targets t ≡ Some s → Versions r o held h w → Reads r o h w
-      → TurnLeaves r o (held t) h w s.opening t new left → GoOn r o held h v
-  goes-on v after alone here versions reads k = record {
-    later = k.later;
-    grew = k.grew;
-    versions = subst (Versions r o held k.later) (sym after) (versions-after alone here versions k);
-    reads = subst (Reads r o k.later) (sym after) (reads-after alone here reads k);
-  }
+-- the members of an attempt are where it writes
+its-members : (r : Rules) (o : Opening) (held : ℕ → List Version) (w : World) → Given r o held w → (x : AttemptId) (m : MinorWrite) (u : ℕ) → IsWriteAt r x u m → (u ≡ leader_of r x) ⊎ IsOther r x u
+its-members r o held w given x m u at = writes-member r x u m given.few (given.fits x m at.of_it) at
 
 -- ---- turns
 
-hears-sound : (r : Rules) (o : Opening) (held : ℕ → List Version) (h : History) (w : World) (t : ℕ) (s : TargetState) (reading : ℕ) (from : ActorId) (m : Message) (new : Kept) (left : TargetMemory × Did)
-    → Given r o held h w → Versions r o held h w → Reads r o h w → slice_get w.targets t ≡ Some s → s.life ≡ Running → IsMessageRight r o h w t s m
-    → Hears (target_plan r t) s.opening s.memory reading from m (kept s) new left → TurnTold r o (held t) h w s.opening t new left from m
-hears-sound r o held h w t s reading from (message.Fetch x op group ep first tracker read snapshot) new left given versions reads here runs right turn =
-    fetch-sound r o (held t) h w s.opening t s.memory reading (record { attempt = x; op = op; group = group; ep = ep; first = first; tracker = tracker; read = read; snapshot = snapshot }) from
-    right.0 (right.1 reading) (kept s) new left turn (turn-begins r o held h w t s here runs versions reads)
-hears-sound r o held h w t s reading from (message.Commit x ep first tracker ws) new left given versions reads here runs right turn =
-    commit-sound r o (held t) h w s.opening t s.memory reading (record { attempt = x; ep = ep; first = first; tracker = tracker; writes = ws }) from
-    (record { right = right.0; epochs = right.1 reading; issued = versions.issued; before = given.before t; here = served-here r o h w t given.one (given.alone t s here) reads })
-    (kept s) new left turn (turn-begins r o held h w t s here runs versions reads)
-hears-sound r o held h w t s reading from other new left given versions reads here runs right turn = absurd turn
+module _ (attempts-kept : AttemptsAreKept) (both-not : NoneIsBoth) where
+  -- a target that hears a message, in the world that follows
+  hearing-on : (r : Rules) (o : Opening) (held : ℕ → List Version) (h : History) (w v : World) (b : Before r o held h w) (g : TargetHears r w v) → GoOn r o held h w v g
+  hearing-on r o held h w v b g = record {
+    later = later;
+    grows = grows;
+    served = λ q i. has-right k.more h.served q i;
+    answered = k.answered;
+    versions = subst (Versions r o held later) (sym g.after) (record {
+      stand = grown-stands r o held h now issued (refused_in g.did.posts ++ h.aborted) (k.more ++ h.served) members b.versions.apart stand g.did.posts k.told k.decides attempts;
+      apart = grown-apart r o held h now issued (refused_in g.did.posts ++ h.aborted) (k.more ++ h.served) members b.versions.apart stand g.did.posts k.told k.decides;
+      issued = grown-issued r o held h now issued (refused_in g.did.posts ++ h.aborted) (k.more ++ h.served) members b.versions.apart stand g.did.posts k.told k.decides
+          (λ x e i. Contains-append_left w.issued (listed g.did.issued) (x, e) (b.versions.issued x e i));
+      written = grown-written r o held h now issued (refused_in g.did.posts ++ h.aborted) (k.more ++ h.served) members b.versions.apart stand g.did.posts k.told k.decides b.versions.written;
+    });
+    reads = subst (Reads r o later) (sym g.after) (reads-now r o held h w b g.t g.s g.new (g.memory, g.did) g.rest g.here k.more k.right k.sound later refl answers);
+  }
+    where
+      k : TurnLeaves r o (held g.t) h w g.s.opening g.t g.l.message g.s.memory.member.parked g.new (g.memory, g.did)
+      k = hears-sound both-not r o held h w b g.t g.s g.here g.runs g.reading g.new (g.memory, g.did) g.l (taken-among w.messages g.l g.rest g.takes) g.to_it g.l.message refl g.turn
 
-pub hearing-keeps : HearingKeepsReads
-unfolding goes-on
-hearing-keeps r o held h w v given versions reads e = record { on = goes-on r o held h w e.t e.s e.new (e.memory, e.did) e.rest v e.after given.alone e.here versions reads told.leaves; adds = told.adds }
-  where
-    told : TurnTold r o (held e.t) h w e.s.opening e.t e.new (e.memory, e.did) e.l.from e.l.message
-    told = hears-sound r o held h w e.t e.s e.reading e.l.from e.l.message e.new (e.memory, e.did) given versions reads e.here e.runs
-        (given.asked e.l e.t e.s (taken-among w.messages e.l e.rest e.takes) e.to_it e.here e.runs) e.turn
+      later : History
+      later = grown h k.told g.did.posts k.more
+
+      now : World
+      now = After w g.t g.s g.new (g.memory, g.did) g.rest
+
+      issued : List (AttemptId × Epoch)
+      issued = w.issued ++ listed g.did.issued
+
+      grows : GrowsBy h g.did.posts later
+      grows = grown-grows h k.told g.did.posts k.more (decides-told r o h issued g.did.posts k.told k.decides)
+
+      attempts : Attempts r later now
+      attempts = subst (Attempts r later) g.after (attempts-kept r h later w v b.right b.attempts (ToTarget g) grows)
+
+      members : (x : AttemptId) (m : MinorWrite) (u : ℕ) → IsWriteAt r x u m → (u ≡ leader_of r x) ⊎ IsOther r x u
+      members = its-members r o held w b.given
+
+      stand : (u : ℕ) (z : TargetState) → slice_get now.targets u ≡ Some z → VersionsStand r o (held u) h u z.durable
+      stand = stand-now r o held h w b g.t g.s g.new (g.memory, g.did) g.rest g.here k.more k.right k.sound
+
+      answers : (q : Served) → Has q (k.more ++ h.served) → IsAnsweredRight r o later q
+      answers q i =
+          grown-answers r o held h now issued (refused_in g.did.posts ++ h.aborted) (k.more ++ h.served) members b.versions.apart stand g.did.posts k.told k.decides attempts q
+          (barred-now r o held h w b g.t g.s g.new (g.memory, g.did) g.rest g.here k.more k.right k.sound q i)
+          (asked-now r o held h w b g.t g.s g.new (g.memory, g.did) g.rest g.here k.more k.right k.sound q i)
+          (form-now r o held h w b g.t g.s g.new (g.memory, g.did) g.rest g.here k.more k.right k.sound q i)
+          (right-now r o held h w b g.t g.s g.new (g.memory, g.did) g.rest g.here k.more k.right k.sound q i)
+
+  pub hearing-keeps : HearingKeepsReads
+  hearing-keeps = hearing-on
 
 pub idling-keeps : IdlingKeepsReads
-unfolding goes-on
-idling-keeps r o held h w v given versions reads e = (on.versions, on.reads)
+idling-keeps r o held h w v b g = (none-grows h g.did.posts k.endless, subst (Versions r o held h) (sym g.after) versions, subst (Reads r o h) (sym g.after) reads)
   where
-    nothing : TurnLeaves r o (held e.t) h w e.s.opening e.t e.new (e.memory, e.did)
-    nothing = record {
-      later = h;
-      grew = record { decided = λ i j. j; served = λ q j. j };
-      sound = idle-sound r o (held e.t) h e.s.opening e.t e.s.memory (kept e.s) e.new (e.memory, e.did) e.turn (turn-begins r o held h w e.t e.s e.here e.runs versions reads);
-      decided = λ x f i. inl i;
-      served = λ q i. inl i;
+    k : IdleSound r o (held g.t) h w g.t g.s (turn-begins r o held h w b g.t g.s g.here g.runs) g.new (g.memory, g.did)
+    k = idle-sound r o (held g.t) h w g.t g.s (turn-begins r o held h w b g.t g.s g.here g.runs) g.settling g.new (g.memory, g.did) g.turn
+
+    none : (q : Served) → Has q [] → IsServedRight r o h g.t (w.issued ++ listed g.did.issued) q
+    none q i = absurd i
+
+    versions : Versions r o held h (After w g.t g.s g.new (g.memory, g.did) w.messages)
+    versions = record {
+      stand = stand-now r o held h w b g.t g.s g.new (g.memory, g.did) w.messages g.here [] none k.sound;
+      apart = b.versions.apart;
+      issued = λ x e i. Contains-append_left w.issued (listed g.did.issued) (x, e) (b.versions.issued x e i);
+      written = b.versions.written;
     }
 
-    on : GoOn r o held h v
-    on = goes-on r o held h w e.t e.s e.new (e.memory, e.did) w.messages v e.after given.alone e.here versions reads nothing
+    reads : Reads r o h (After w g.t g.s g.new (g.memory, g.did) w.messages)
+    reads = reads-now r o held h w b g.t g.s g.new (g.memory, g.did) w.messages g.here [] none k.sound h refl b.reads.answers
 
 -- ---- where no target changes
 
@@ -209,11 +383,6 @@ others-keep r o held h w v same more k l = (
     apart = k.apart;
     issued = λ x e i. more (x, e) (k.issued x e i);
     written = k.written;
-    held_by = λ x e t s m i at its. k.held_by x e t s m i (back t s at) its;
-    entries = λ t s e at i. k.entries t s e (back t s at) i;
-    led = λ t s e at i f is. k.led t s e (back t s at) i f is;
-    leaders = λ t s e at i. k.leaders t s e (back t s at) i;
-    leading = λ t s x at i. k.leading t s x (back t s at) i;
   },
   record {
     asked = l.asked;

@@ -1,91 +1,95 @@
--- A turn in which a target hears a Fetch leaves what it keeps and serves sound.
-use Rattle.std.specs.Prelude.{ℕ, ◌≡◌, ◌⊎◌, ◌≤◌, ◌/◌, ◌++◌, Bool, true, false, List, [], ◌∷◌, filter, Contains, Option, Some, None, refl, if◌then◌else◌}
+-- A turn in which a target answers a Fetch leaves what it keeps and serves sound.
+use Rattle.std.specs.Prelude.{ℕ, ◌≡◌, ◌<◌, ◌≤◌, ◌/◌, ◌++◌, Bool, true, false, List, [], ◌∷◌, filter, Contains, Option, Some, refl, if◌then◌else◌}
 use Rattle.std.proofs.Common.{sym, ◌∙◌, ap, subst, inl, inr}
-use Rattle.std.proofs.lemmas.List.Elements.{Contains-append_left, Contains-push}
+use Rattle.daos_base.specs.declared.answer.Answer.{Answer}
 use Rattle.daos_base.specs.declared.epoch.Epoch.{Epoch}
 use Rattle.daos_base.specs.declared.id.AttemptId.{AttemptId}
 use Rattle.daos_base.specs.declared.outcome.FloorWhy.{FloorWhy}
-use Rattle.daos_base.specs.declared.answer.Answer.{Answer}
-use Rattle.daos_base.specs.declared.outcome.Outcome.{Outcome}
-use Rattle.daos_base.specs.declared.outcome.Outcome.TheVariants as outcome
-use Rattle.daos_messages.specs.declared.message.Message.{Message}
-use Rattle.daos_messages.specs.declared.message.Message.TheVariants.{Ended, Fetched}
+use Rattle.daos_base.specs.declared.shown.Shown.{Shown}
+use Rattle.daos_base.specs.Operations.{read_path}
+use Rattle.daos_laws.specs.Decided.{AreDecided}
+use Rattle.daos_laws.specs.Members.{Has, contains-from_has, has-from_contains, has-from_filter}
+use Rattle.daos_messages.specs.declared.actor.ActorId.{ActorId}
+use Rattle.daos_messages.specs.declared.message.Message.TheVariants.{Fetched}
 use Rattle.daos_messages.specs.declared.message.Post.{Post}
 use Rattle.daos_messages.specs.declared.message.Reply.TheVariants as reply
-use Rattle.daos_base.specs.declared.operation.Read.{Read}
-use Rattle.daos_base.specs.declared.outcome.Cause.TheVariants as cause
-use Rattle.daos_base.specs.Operations.{read_path}
-use Rattle.daos_laws.specs.Members.{Has, contains-from_has, has-from_contains}
-use Rattle.daos_messages.specs.declared.actor.ActorId.{ActorId}
+use Rattle.daos_model.specs.declared.durable.Durable.{Durable}
 use Rattle.daos_model.specs.declared.durable.Version.{Version}
 use Rattle.daos_model.specs.BoolLaws.{clash}
-use Rattle.daos_model.specs.Opening.{Opening}
+use Rattle.daos_model.specs.Opening.{Opening, top}
+use Rattle.daos_base.specs.declared.entry.Settle.TheVariants.{Commit}
+use Rattle.world_attempts.specs.History.{History, Served}
 use Rattle.world_base.specs.declared.did.Did.{Did}
 use Rattle.world_base.specs.declared.request.FetchRequest.{FetchRequest}
 use Rattle.world_base.specs.declared.target.TargetMemory.{TargetMemory}
-use Rattle.world_base.specs.declared.world.World.{World}
-use Rattle.world_events.specs.Events.{Rules, listed, target_plan}
-use Rattle.world_reads.specs.Given.{IsFetchRight, IsItsEpoch}
-use Rattle.world_reads.specs.History.{History, Served, serves}
-use Rattle.world_reads.specs.Adds.{AddsServed, IsPlain, adds-nothing, fetch_message}
-use Rattle.world_reads.specs.Midway.{Sound, TurnLeaves, TurnTold}
-use Rattle.world_reads.specs.ServedLaws.{free-read, holds-served, serves-shows}
-use Rattle.world_reads.specs.StepLaws.{extends-sound, lease-settled, path-keeps, settles-sound}
+use Rattle.world_events.specs.Events.{Rules, target_plan}
+use Rattle.world_reads.specs.Adds.{NoneIs, is_answer, is_end, served_at}
+use Rattle.world_reads.specs.ChangeLaws.{WasDecided}
+use Rattle.world_reads.specs.Given.{IsFetchRight}
+use Rattle.world_reads.specs.Midway.{Shows, Sound}
+use Rattle.world_reads.specs.Reads.{IsAnsweredRight}
+use Rattle.world_reads.specs.ServedLaws.{IsFree, answers-right, free-read, serves-shows}
+use Rattle.world_reads.specs.StepLaws.{commits-sound, extends-sound}
+use Rattle.world_reads.specs.Transactions.{transactions}
+use Rattle.world_turns.specs.ChangeLaws.{lease-settled}
 use Rattle.world_turns.specs.Changes.{Change, Kept, Steps}
+use Rattle.world_turns.specs.PathLaws.{reached-keeps}
 use Rattle.world_turns.specs.Reads as read
 use Rattle.world_turns.specs.Requests.{is_other_attempt, issued_for, request_epoch, with_ticks}
 use Rattle.world_turns.specs.Turns.{Whole}
 
--- ---- epochs of requests
+-- these attempts were decided
+abbrev pub AreKnown : History → List AttemptId → Type 0
+AreKnown h xs = (a : AttemptId) → Contains xs a → WasDecided h a
 
--- the epoch of a request was issued, or is now
-pub issued-now : (w : World) (o : Opening) (x : AttemptId) (ep : Option Epoch) (e : Epoch) → IsItsEpoch o w x ep e → ((f : Epoch) → ep ≡ Some f → f ≡ e) → Contains (w.issued ++ listed (issued_for x ep e)) (x, e)
-issued-now w o x None e is same = Contains-push w.issued (x, e)
-issued-now w o x (Some f) e is same = Contains-append_left w.issued [] (x, e) (subst (λ g. Contains w.issued (x, g)) (same f refl) (is.own f refl))
+-- a read that a Fetch's turn serves: at the epoch of the request, which is issued then where the request had none
+pub record IsServedTo (r : Rules) (o : Opening) (h : History) (t : ℕ) (m : TargetMemory) (reading : ℕ) (q : FetchRequest) (did : Did) (z : Served) : Type 0 where
+  pub epoch : Epoch
+  pub answer : Answer
+  pub same : z ≡ served_at t q epoch answer
+  pub its : request_epoch (target_plan r t) m reading q.tracker q.ep ≡ Some epoch
+  pub issued : did.issued ≡ issued_for q.attempt q.ep epoch
+  pub right : IsAnsweredRight r o h z
 
--- nothing more is decided or served
-pub nothing-new : (r : Rules) (o : Opening) (held : List Version) (h : History) (w : World) (opening : Epoch × FloorWhy) (t : ℕ) (new : Kept) (left : TargetMemory × Did)
-    → Sound r o held h opening t new.durable left.0.decided left.0.stamps → TurnLeaves r o held h w opening t new left
-nothing-new r o held h w opening t new left k = record {
-  later = h;
-  grew = record { decided = λ i j. j; served = λ q j. j };
-  sound = k;
-  decided = λ x e i. inl i;
-  served = λ q i. inl i;
-}
+-- an answer that is sent is that of a served read, at the epoch of the request where that has one
+pub record IsTold (t : ℕ) (q : FetchRequest) (more : List Served) (p : Post) : Type 0 where
+  pub epoch : Epoch
+  pub answer : Answer
+  pub says : p.message ≡ Fetched q.attempt q.op q.group (Some epoch) (reply.Answer answer)
+  pub own : (f : Epoch) → q.ep ≡ Some f → f ≡ epoch
+  pub among : Has (served_at t q epoch answer) more
 
--- and nothing but a refusal is told
-pub nothing-told : (r : Rules) (o : Opening) (held : List Version) (h : History) (w : World) (opening : Epoch × FloorWhy) (t : ℕ) (new : Kept) (left : TargetMemory × Did) (from : ActorId) (asked m : Message)
-    → left.1.posts ≡ record { to = from; message = m } ∷ [] → IsPlain m → Sound r o held h opening t new.durable left.0.decided left.0.stamps → TurnTold r o held h w opening t new left from asked
-nothing-told r o held h w opening t new left from asked m one plain k = record { leaves = record { later = h; grew = record { decided = λ i j. j; served = λ q j. j }; sound = k; decided = λ x e i. inl i; served = λ q i. inl i }; adds = adds-nothing h t from asked m left.1.posts one plain }
+-- what a Fetch's turn leaves, where these reads were served before it
+pub record FetchLeaves (r : Rules) (o : Opening) (held : List Version) (h : History) (served : List Served) (opening : Epoch × FloorWhy) (t : ℕ) (m : TargetMemory) (reading : ℕ) (q : FetchRequest) (new : Kept) (left : TargetMemory × Did) : Type 0 where
+  pub more : List Served
+  pub each : (z : Served) → Has z more → IsServedTo r o h t m reading q left.1 z
+  pub sound : Sound r o held h (more ++ served) opening t new.durable left.0.stamps
+  pub known : AreKnown h left.0.leader.decided
+  pub told : (p : Post) → Has p left.1.posts → is_answer p.message ≡ true → IsTold t q more p
+  pub endless : NoneIs is_end left.1.posts
 
-fetched-plain : (q : FetchRequest) (own : Option Epoch) (how : Outcome) → IsPlain (read.fetched_message q own (reply.Outcome how))
-fetched-plain q own how = record { no_commit = λ x f e. let no : ⊥ = cc in no; no_answer = λ x op group f b e. let no : ⊥ = cc in no }
+module _ (r : Rules) (o : Opening) (held : List Version) (h : History) (served : List Served) (opening : Epoch × FloorWhy) (t : ℕ) (m : TargetMemory) (reading : ℕ) (q : FetchRequest) where
+  abbrev SoundAt : Durable → List Shown → Type 0
+  SoundAt d stamps = Sound r o held h served opening t d stamps
 
-abbrev made-served : AttemptId → ℕ → ℕ → ℕ → Read → Epoch → Answer → Served
-made-served x op group t read e b = record { by = x; op = op; group = group; target = t; read = read; epoch = e; answer = b }
+  -- what holds at a stage
+  abbrev Mid : read.FetchStage → Kept → Type 0
+  Mid read.Asked k = SoundAt k.durable m.stamps
+  Mid (read.Known e) k = SoundAt k.durable m.stamps × (request_epoch (target_plan r t) m reading q.tracker q.ep ≡ Some e)
+  Mid (read.Reading e decided) k = SoundAt k.durable m.stamps × (request_epoch (target_plan r t) m reading q.tracker q.ep ≡ Some e) × (e.0 / 256 ≤ k.durable.lease) × AreKnown h decided
 
--- ---- stages of a Fetch
-
-abbrev Mid : (r : Rules) (o : Opening) (held : List Version) (h : History) (opening : Epoch × FloorWhy) (t : ℕ) (m : TargetMemory) (reading : ℕ) (q : FetchRequest) → read.FetchStage → Kept → Type 0
-Mid r o held h opening t m reading q read.Asked k = Sound r o held h opening t k.durable m.decided m.stamps
-Mid r o held h opening t m reading q (read.Known e) k = Sound r o held h opening t k.durable m.decided m.stamps × (request_epoch (target_plan r t) m reading q.tracker q.ep ≡ Some e)
-Mid r o held h opening t m reading q (read.Reading e decided) k =
-    Sound r o held h opening t k.durable decided m.stamps × (request_epoch (target_plan r t) m reading q.tracker q.ep ≡ Some e) × (e.0 / 256 ≤ k.durable.lease)
-
-module _ (r : Rules) (o : Opening) (held : List Version) (h : History) (w : World) (opening : Epoch × FloorWhy) (t : ℕ) (m : TargetMemory) (reading : ℕ) (q : FetchRequest) (from : ActorId) where
-  fetch-step : q.snapshot ≡ false → (s : read.FetchStage) (k : Kept) (c : Option Change) (u : read.FetchStage) (l : Kept) → read.FetchNext (target_plan r t) m reading q s k c u → Steps c k l
-      → Mid r o held h opening t m reading q s k → Mid r o held h opening t m reading q u l
-  fetch-step now s k c u l (read.AtSnapshot k' e at its) steps p = clash q.snapshot at now
-  fetch-step now s k c u l (read.HasEpoch k' e at its) steps p = (subst (λ n. Sound r o held h opening t n.durable m.decided m.stamps) (sym steps) p, its)
-  fetch-step now s k c u l (read.ExtendsLease k' e lease low is) steps p =
-      (subst (λ d. Sound r o held h opening t d m.decided m.stamps) (sym steps.0) (extends-sound r o held h opening t k.durable m.decided m.stamps (e.0 / 256) lease low is p.0), p.1)
-  fetch-step now s k c u l (read.IsCovered k' e le) steps p =
-      (subst (λ n. Sound r o held h opening t n.durable m.decided m.stamps) (sym steps) p.0, p.1, subst (λ n. e.0 / 256 ≤ n.durable.lease) (sym steps) le)
-  fetch-step now s k c u l (read.SettlesOwn k' e decided a none is among) steps p = (
-    subst (λ d. Sound r o held h opening t d (filter (is_other_attempt a) decided) m.stamps) (sym steps.0) (settles-sound r o held h opening t k.durable decided m.stamps a among p.0),
+  fetch-step : q.snapshot ≡ false → AreKnown h m.leader.decided → (s : read.FetchStage) (k : Kept) (c : Option Change) (u : read.FetchStage) (l : Kept) → read.FetchNext (target_plan r t) m reading q s k c u → Steps c k l → Mid s k → Mid u l
+  fetch-step now known s k c u l (read.AtSnapshot k' e at its) steps p = clash q.snapshot at now
+  fetch-step now known s k c u l (read.HasEpoch k' e at its) steps p = (subst (λ n. SoundAt n.durable m.stamps) (sym steps) p, its)
+  fetch-step now known s k c u l (read.ExtendsLease k' e lease low is) steps p =
+      (subst (λ d. SoundAt d m.stamps) (sym steps.0) (extends-sound r o held h served opening t m.stamps k.durable (e.0 / 256) lease low is p.0), p.1)
+  fetch-step now known s k c u l (read.IsCovered k' e le) steps p =
+      (subst (λ n. SoundAt n.durable m.stamps) (sym steps) p.0, p.1, subst (λ n. e.0 / 256 ≤ n.durable.lease) (sym steps) le, known)
+  fetch-step now known s k c u l (read.SettlesOwn k' e decided a none is among) steps p = (
+    subst (λ d. SoundAt d m.stamps) (sym steps.0) (commits-sound r o held h served opening t m.stamps k.durable a (p.3 a among) p.0),
     p.1,
-    subst (λ n. e.0 / 256 ≤ n) (sym (ap (λ d. d.lease) steps.0 ∙ lease-settled a k.durable)) p.2,
+    subst (λ n. e.0 / 256 ≤ n) (sym (ap (λ d. d.lease) steps.0 ∙ lease-settled a Commit k.durable)) p.2,
+    λ b i. p.3 b (contains-from_has decided b (has-from_filter (is_other_attempt a) decided b (has-from_contains (filter (is_other_attempt a) decided) b i)).0),
   )
 
   stamps-then : (e : Epoch) (decided : List AttemptId) → (read.memory_then q e decided m).stamps ≡ m.stamps
@@ -95,82 +99,77 @@ module _ (r : Rules) (o : Opening) (held : List Version) (h : History) (w : Worl
       by true = refl
       by false = refl
 
-  fetch-ends : IsFetchRight r t q.attempt q.op q.group q.read q.snapshot → ((e : Epoch) → request_epoch (target_plan r t) m reading q.tracker q.ep ≡ Some e → IsItsEpoch o w q.attempt q.ep e)
-      → (s : read.FetchStage) (k : Kept) (left : TargetMemory × Did) → read.FetchEnds (target_plan r t) m reading q from s k left → Mid r o held h opening t m reading q s k
-      → TurnTold r o held h w opening t k left from (fetch_message q)
-  fetch-ends asks epochs s k left (read.IsSpent k' left' at none is) p =
-      nothing-told r o held h w opening t k left from (fetch_message q) _ (ap (λ n. n.1.posts) is) (fetched-plain q None outcome.EpochsSpent) (subst (λ n. Sound r o held h opening t k.durable n.0.decided n.0.stamps) (sym is) p)
-  fetch-ends asks epochs s k left (read.IsRefused k' e decided c left' why is) p =
-      nothing-told r o held h w opening t k left from (fetch_message q) _ (ap (λ n. n.1.posts) is) (fetched-plain q (Some e) (outcome.Restart c))
-      (subst (λ n. Sound r o held h opening t k.durable n.0.decided n.0.stamps) (sym is) (subst (λ n. Sound r o held h opening t k.durable decided n) (sym (stamps-then e decided)) p.0))
-  fetch-ends asks epochs s k left (read.MeetsUnresolved k' e decided a left' none at apart is) p =
-      nothing-told r o held h w opening t k left from (fetch_message q) _ (ap (λ n. n.1.posts) is) (fetched-plain q (Some e) (outcome.Restart (cause.Unresolved a)))
-      (subst (λ n. Sound r o held h opening t k.durable n.0.decided n.0.stamps) (sym is) (subst (λ n. Sound r o held h opening t k.durable decided n) (sym (stamps-then e decided)) p.0))
-  fetch-ends asks epochs s k left (read.IsServed k' e decided b left' none is-read is) p = record { leaves = leaves; adds = record { decided = record { new = λ x f i. inl i; told = no-commit }; served = serves-it } }
+  -- nothing is served
+  leaves-none : (k : Kept) (n : TargetMemory) (did : Did) (p : Post) → did.posts ≡ p ∷ [] → is_answer p.message ≡ false → is_end p.message ≡ false → AreKnown h n.leader.decided → SoundAt k.durable n.stamps
+      → FetchLeaves r o held h served opening t m reading q k (n, did)
+  leaves-none k n did p one quiet endless known sound = record {
+    more = [];
+    each = λ z i. absurd i;
+    sound = sound;
+    known = known;
+    told = λ z i is. clash (is_answer z.message) is (only (λ y. is_answer y.message ≡ false) quiet z i);
+    endless = only (λ y. is_end y.message ≡ false) endless;
+  }
     where
-      one : Served
-      one = record { by = q.attempt; op = q.op; group = q.group; target = t; read = q.read; epoch = e; answer = b }
+      only : (P : Post → Type 0) → P p → (z : Post) → Has z did.posts → P z
+      only P is z i = elim (subst (Has z) one i) [ inl same ↦ subst P (sym same) is | inr j ↦ absurd j ]
 
-      its : IsItsEpoch o w q.attempt q.ep e
-      its = epochs e p.1
-
+  -- a read is served at its epoch
+  leaves-one : IsFetchRight r t q.attempt q.op q.group q.read q.snapshot → AreDecided (transactions r.script h) → (k : Kept) (e : Epoch) (decided : List AttemptId) (b : Answer) (from : ActorId) (left : TargetMemory × Did)
+      → top o < e.0 → Mid (read.Reading e decided) k → IsFree q.read e k.durable b → left ≡ (record (read.memory_then q e decided m) { stamps = read.stamps_with q e m.stamps }, read.tells q from e (reply.Answer b))
+      → FetchLeaves r o held h served opening t m reading q k left
+  leaves-one asks apart k e decided b from left above p free is = subst (FetchLeaves r o held h served opening t m reading q k) (sym is) (record {
+    more = served_at t q e b ∷ [];
+    each = λ z i. each z i;
+    sound = record { stand = p.0.stand; shows = subst (Shows (served_at t q e b ∷ served) opening t k.durable) (sym stamps) (serves-shows served opening t k.durable m.stamps q e b p.2 free p.0.shows) };
+    known = p.3;
+    told = λ z i is. told z i;
+    endless = λ z i. ended z i;
+  })
+    where
       stamps : read.stamps_with q e m.stamps ≡ m.stamps ++ record { by = q.attempt; epoch = e; path = read_path q.read } ∷ []
       stamps = ap (λ c. if c then m.stamps else m.stamps ++ record { by = q.attempt; epoch = e; path = read_path q.read } ∷ []) asks.now
 
-      served : Sound r o held (serves h one) opening t k.durable decided (m.stamps ++ record { by = q.attempt; epoch = e; path = read_path q.read } ∷ [])
-      served = record {
-        holds = holds-served r o held h one t k.durable decided p.0.holds;
-        unsettled = p.0.unsettled;
-        shows = serves-shows r o held h opening t k.durable decided m.stamps q.attempt q.op q.group q.read q.snapshot e b asks its.above p.2 (free-read q.read e k.durable b is-read) p.0.holds p.0.shows;
+      each : (z : Served) → Has z (served_at t q e b ∷ []) → IsServedTo r o h t m reading q (read.tells q from e (reply.Answer b)) z
+      each z (inl same) = record {
+        epoch = e;
+        answer = b;
+        same = same;
+        its = p.1;
+        issued = refl;
+        right = subst (IsAnsweredRight r o h) (sym same) (answers-right r o held h t k.durable q e b asks above free apart p.0.stand);
       }
+      each z (inr i) = absurd i
 
       own : (f : Epoch) → q.ep ≡ Some f → f ≡ e
       own f has = let same : Some f ≡ Some e = sym (ap (λ ep. request_epoch (target_plan r t) m reading q.tracker ep) has) ∙ p.1 in cc
 
-      issued : Contains (w.issued ++ listed left.1.issued) (q.attempt, e)
-      issued = subst (λ n. Contains (w.issued ++ listed n.1.issued) (q.attempt, e)) (sym is) (issued-now w o q.attempt q.ep e its own)
+      told : (z : Post) → Has z (record { to = from; message = read.fetched_message q (Some e) (reply.Answer b) } ∷ []) → IsTold t q (served_at t q e b ∷ []) z
+      told z (inl same) = record { epoch = e; answer = b; says = ap (λ y. y.message) same; own = own; among = inl refl }
+      told z (inr i) = absurd i
 
-      by : (z : Served) → Has z (one ∷ h.served) → Contains h.served z ⊎ Contains (w.issued ++ listed left.1.issued) (z.by, z.epoch)
-      by z (inl same) = inr (subst (λ y. Contains (w.issued ++ listed left.1.issued) (y.by, y.epoch)) (sym same) issued)
-      by z (inr j) = inl (contains-from_has h.served z j)
+      ended : (z : Post) → Has z (record { to = from; message = read.fetched_message q (Some e) (reply.Answer b) } ∷ []) → is_end z.message ≡ false
+      ended z (inl same) = ap (λ y. is_end y.message) same
+      ended z (inr i) = absurd i
 
-      leaves : TurnLeaves r o held h w opening t k left
-      leaves = record {
-        later = serves h one;
-        grew = record { decided = λ i j. j; served = λ z j. contains-from_has (one ∷ h.served) z (inr (has-from_contains h.served z j)) };
-        sound = subst (λ n. Sound r o held (serves h one) opening t k.durable n.0.decided n.0.stamps) (sym is) (subst (λ n. Sound r o held (serves h one) opening t k.durable decided n) (sym stamps) served);
-        decided = λ x f i. inl i;
-        served = λ z i. by z (has-from_contains (one ∷ h.served) z i);
-      }
-
-      posts : left.1.posts ≡ record { to = from; message = read.fetched_message q (Some e) (reply.Answer b) } ∷ []
-      posts = ap (λ n. n.1.posts) is
-
-      no-commit : (z : Post) (x : AttemptId) (f : Option Epoch) → Has z left.1.posts → z.message ≡ Ended x f outcome.Committed → (g : Epoch) × (f ≡ Some g) × Contains (serves h one).decided (x, g)
-      no-commit z x f i says = elim (subst (Has z) posts i) [ inl same ↦ absurd (let no : ⊥ = cc (sym says ∙ ap (λ y. y.message) same) in no) | inr j ↦ absurd j ]
-
-      one-same : (z : FetchRequest) (f : Epoch) (c : Answer) → fetch_message q ≡ fetch_message z → Fetched z.attempt z.op z.group (Some f) (reply.Answer c) ≡ read.fetched_message q (Some e) (reply.Answer b)
-          → record { by = z.attempt; op = z.op; group = z.group; target = t; read = z.read; epoch = f; answer = c } ≡ one
-      one-same z f c asked told =
-          let h1 : z.attempt ≡ q.attempt = cc in
-          let h2 : z.op ≡ q.op = cc in
-          let h3 : z.group ≡ q.group = cc in
-          let h4 : f ≡ e = cc in
-          let h5 : c ≡ b = cc in
-          let h6 : q.read ≡ z.read = cc in
-          ap (λ x. made-served x z.op z.group t z.read f c) h1 ∙ ap (λ x. made-served q.attempt x z.group t z.read f c) h2 ∙ ap (λ x. made-served q.attempt q.op x t z.read f c) h3
-          ∙ ap (λ x. made-served q.attempt q.op q.group t x f c) (sym h6) ∙ ap (λ x. made-served q.attempt q.op q.group t q.read x c) h4 ∙ ap (λ x. made-served q.attempt q.op q.group t q.read e x) h5
-
-      serves-it : AddsServed (serves h one) t (fetch_message q) left.1.posts
-      serves-it to z f c asked i = elim (subst (Has (record { to = to; message = Fetched z.attempt z.op z.group (Some f) (reply.Answer c) })) posts i) [
-        | inl same ↦ contains-from_has (one ∷ h.served) (record { by = z.attempt; op = z.op; group = z.group; target = t; read = z.read; epoch = f; answer = c }) (inl (one-same z f c asked (ap (λ y. y.message) same)))
-        | inr j ↦ absurd j
-      ]
+  fetch-ends : IsFetchRight r t q.attempt q.op q.group q.read q.snapshot → AreDecided (transactions r.script h) → ((e : Epoch) → request_epoch (target_plan r t) m reading q.tracker q.ep ≡ Some e → top o < e.0)
+      → AreKnown h m.leader.decided → (from : ActorId) (s : read.FetchStage) (k : Kept) (left : TargetMemory × Did) → read.FetchEnds (target_plan r t) m reading q from s k left → Mid s k → FetchLeaves r o held h served opening t m reading q k left
+  fetch-ends asks apart above known from s k left (read.IsSpent k' left' at none is) p =
+      subst (FetchLeaves r o held h served opening t m reading q k) (sym is) (leaves-none k _ _ _ refl refl refl known p)
+  fetch-ends asks apart above known from s k left (read.IsRefused k' e decided c left' why is) p =
+      subst (FetchLeaves r o held h served opening t m reading q k) (sym is) (leaves-none k _ _ _ refl refl refl p.3 (subst (SoundAt k.durable) (sym (stamps-then e decided)) p.0))
+  fetch-ends asks apart above known from s k left (read.MeetsUnresolved k' e decided a left' none at other own is) p =
+      subst (FetchLeaves r o held h served opening t m reading q k) (sym is) (leaves-none k _ _ _ refl refl refl p.3 (subst (SoundAt k.durable) (sym (stamps-then e decided)) p.0))
+  fetch-ends asks apart above known from s k left (read.IsParked k' e decided a leader left' none at other is) p =
+      subst (FetchLeaves r o held h served opening t m reading q k) (sym is) (leaves-none k _ _ _ refl refl refl p.3 (subst (SoundAt k.durable) (sym (stamps-then e decided)) p.0))
+  fetch-ends asks apart above known from s k left (read.IsServed k' e decided b left' none is-read is) p =
+      leaves-one asks apart k e decided b from left (above e p.1) p (free-read q.read e k.durable b is-read) is
 
   -- the whole turn
-  pub fetch-sound : IsFetchRight r t q.attempt q.op q.group q.read q.snapshot → ((e : Epoch) → request_epoch (target_plan r t) m reading q.tracker q.ep ≡ Some e → IsItsEpoch o w q.attempt q.ep e)
-      → (old new : Kept) (left : TargetMemory × Did) → Whole (read.FetchNext (target_plan r t) m reading q) (read.FetchEnds (target_plan r t) m reading q from) read.Asked old new left
-      → Sound r o held h opening t old.durable m.decided m.stamps → TurnTold r o held h w opening t new left from (fetch_message q)
-  fetch-sound asks epochs old new left turn k =
-      fetch-ends asks epochs turn.last new left turn.ends
-      (path-keeps (read.FetchNext (target_plan r t) m reading q) (Mid r o held h opening t m reading q) (fetch-step asks.now) read.Asked old turn.reached.did turn.last new turn.reached.path k)
+  pub fetch-leaves : IsFetchRight r t q.attempt q.op q.group q.read q.snapshot → AreDecided (transactions r.script h) → ((e : Epoch) → request_epoch (target_plan r t) m reading q.tracker q.ep ≡ Some e → top o < e.0)
+      → AreKnown h m.leader.decided → (from : ActorId) (old new : Kept) (left : TargetMemory × Did)
+      → Whole (read.FetchNext (target_plan r t) m reading q) (read.FetchEnds (target_plan r t) m reading q from) read.Asked old new left → Sound r o held h served opening t old.durable m.stamps
+      → FetchLeaves r o held h served opening t m reading q new left
+  fetch-leaves asks apart above known from old new left turn k =
+      fetch-ends asks apart above known from turn.last new left turn.ends
+      (reached-keeps (read.FetchNext (target_plan r t) m reading q) Mid (fetch-step asks.now known) read.Asked old turn.last new turn.reached k)

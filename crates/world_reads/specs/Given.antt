@@ -1,5 +1,5 @@
 -- What else holds of the world, of which the facts of versions and reads make use. Other crates prove it.
-use Rattle.std.specs.Prelude.{ℕ, ◌≡◌, ◌≢◌, ◌≤◌, ◌<◌, Bool, true, false, List, [], Contains, slice_get, Option, Some}
+use Rattle.std.specs.Prelude.{ℕ, ◌≡◌, ◌≢◌, ◌≤◌, ◌<◌, Bool, false, true, List, [], Contains, slice_get, Option, Some, None}
 use Rattle.daos_base.specs.declared.answer.Answer.{Answer}
 use Rattle.daos_base.specs.declared.epoch.Epoch.{Epoch}
 use Rattle.daos_base.specs.declared.id.AttemptId.{AttemptId}
@@ -7,22 +7,24 @@ use Rattle.daos_base.specs.declared.id.ObjId.{ObjId}
 use Rattle.daos_base.specs.declared.operation.MinorWrite.{MinorWrite}
 use Rattle.daos_base.specs.declared.operation.Read.{Read}
 use Rattle.daos_base.specs.declared.operation.Write.{Write}
+use Rattle.daos_base.specs.declared.outcome.Outcome.{Outcome}
+use Rattle.daos_base.specs.declared.outcome.Outcome.TheVariants.{Committed}
 use Rattle.daos_base.specs.Operations.{read_path, write_path}
-use Rattle.daos_base.specs.Placement.{ClassFits, groups, writes_leader}
+use Rattle.daos_base.specs.Placement.{ClassFits, groups}
+use Rattle.daos_laws.specs.Members.{Has}
 use Rattle.daos_messages.specs.declared.message.Message.{Message}
 use Rattle.daos_messages.specs.declared.message.Message.TheVariants as message
 use Rattle.daos_model.specs.declared.durable.Version.{Version}
-use Rattle.daos_model.specs.Accesses.{minor_writes}
 use Rattle.daos_model.specs.Forms.{AreWritesInForm, is_read_in_form}
 use Rattle.daos_model.specs.Opening.{Opening, top}
-use Rattle.daos_model.specs.Transactions.{attempt_ops}
+use Rattle.dtx_base.specs.declared.member.Parked.{Parked}
+use Rattle.world_attempts.specs.Attempts.{leader_of, writes_of}
 use Rattle.world_base.specs.declared.letter.Letter.{Letter}
 use Rattle.world_base.specs.declared.target.TargetState.{TargetState}
 use Rattle.world_base.specs.declared.target.Life.TheVariants.{Running}
 use Rattle.world_base.specs.declared.world.World.{World}
 use Rattle.world_events.specs.Events.{Rules, target_plan}
 use Rattle.world_events.specs.Letters.{target}
-use Rattle.world_reads.specs.History.{History}
 use Rattle.world_reads.specs.Reads.{IsOfAttempt}
 use Rattle.world_turns.specs.Requests.{request_epoch}
 
@@ -40,14 +42,11 @@ HasItsEpoch r o w t s x ep tracker = (reading : ℕ) (e : Epoch) → request_epo
 abbrev pub FitsTargets : Rules → Write → Type 0
 FitsTargets r w = (obj : ObjId) × ((write_path w).obj ≡ Some obj) × ClassFits obj.class r.script.targets
 
--- what a target is asked to commit: an attempt's writes, of which there are some, and which it leads; the attempt isn't decided
-pub record IsCommitRight (r : Rules) (h : History) (t : ℕ) (x : AttemptId) (ws : List MinorWrite) : Type 0 where
-  pub its : ws ≡ minor_writes 0 (attempt_ops r.script x)
+-- what a target is asked to commit: an attempt's writes, of which there are some, and which it leads
+pub record IsCommitRight (r : Rules) (t : ℕ) (x : AttemptId) (ws : List MinorWrite) : Type 0 where
+  pub its : ws ≡ writes_of r x
   pub some : ws ≢ []
-  pub leads : t ≡ writes_leader ws r.script.targets
-  pub form : AreWritesInForm ws
-  pub fits : (m : MinorWrite) → Contains ws m → FitsTargets r m.write
-  pub undecided : (e : Epoch) → Contains h.decided (x, e) → ⊥
+  pub leads : t ≡ leader_of r x
 
 -- what is asked of a target: what an operation of the attempt asks there, of a group of an object; and not at a snapshot
 pub record IsFetchRight (r : Rules) (t : ℕ) (x : AttemptId) (op group : ℕ) (read : Read) (snapshot : Bool) : Type 0 where
@@ -59,15 +58,37 @@ pub record IsFetchRight (r : Rules) (t : ℕ) (x : AttemptId) (op group : ℕ) (
   pub fits : ClassFits obj.class r.script.targets
   pub within : group < groups obj.class r.script.targets
 
-abbrev pub IsMessageRight : Rules → Opening → History → World → ℕ → TargetState → Message → Type 0
-IsMessageRight r o h w t s (message.Fetch x op group ep first tracker read snapshot) = IsFetchRight r t x op group read snapshot × HasItsEpoch r o w t s x ep tracker
-IsMessageRight r o h w t s (message.Commit x ep first tracker ws) = IsCommitRight r h t x ws × HasItsEpoch r o w t s x ep tracker
-IsMessageRight r o h w t s m = Unit {0}
+-- a refusal isn't that an attempt is committed
+abbrev pub IsRefusalRight : Option Outcome → Type 0
+IsRefusalRight None = Unit {0}
+IsRefusalRight (Some how) = how ≢ Committed
 
--- target 0 is there alone; the opening's versions are below the run; and every message to a running target is right
-pub record Given (r : Rules) (o : Opening) (held : ℕ → List Version) (h : History) (w : World) : Type 0 where
-  pub one : r.script.targets ≡ 1
-  pub alone : (t : ℕ) (s : TargetState) → slice_get w.targets t ≡ Some s → t ≡ 0
+-- what a target is asked, or answered; what else letters between targets say is so (`Attempts`)
+abbrev pub IsMessageRight : Rules → Opening → World → ℕ → TargetState → Message → Type 0
+IsMessageRight r o w t s (message.Fetch x op group ep first tracker read snapshot) = IsFetchRight r t x op group read snapshot × HasItsEpoch r o w t s x ep tracker
+IsMessageRight r o w t s (message.Commit x ep first tracker ws) = IsCommitRight r t x ws × HasItsEpoch r o w t s x ep tracker
+IsMessageRight r o w t s (message.Ack x inc refusal) = IsRefusalRight refusal
+IsMessageRight r o w t s m = Unit {0}
+
+-- a Fetch that waits at a target: it is right, and has an epoch, which is its attempt's
+pub record IsWaitingRight (r : Rules) (o : Opening) (w : World) (t : ℕ) (x : AttemptId) (op group : ℕ) (ep : Option Epoch) (read : Read) (snapshot : Bool) : Type 0 where
+  pub right : IsFetchRight r t x op group read snapshot
+  pub epoch : Epoch
+  pub has : ep ≡ Some epoch
+  pub its : IsItsEpoch o w x ep epoch
+
+abbrev pub IsParkedRight : Rules → Opening → World → ℕ → Message → Type 0
+IsParkedRight r o w t (message.Fetch x op group ep first tracker read snapshot) = IsWaitingRight r o w t x op group ep read snapshot
+IsParkedRight r o w t m = ⊥
+
+-- The opening's versions are below the run, and what is issued above it, to one attempt each; the writes of attempts are in form, of
+-- objects for which there are targets enough; and all that a running target is asked is right, also what waits there.
+pub record Given (r : Rules) (o : Opening) (held : ℕ → List Version) (w : World) : Type 0 where
   pub before : (t : ℕ) (v : Version) → Contains (held t) v → v.epoch.0 ≤ top o
-  pub asked : (l : Letter) (t : ℕ) (s : TargetState) → Contains w.messages l → l.to ≡ target t → slice_get w.targets t ≡ Some s → s.life ≡ Running
-      → IsMessageRight r o h w t s l.message
+  pub above : (x : AttemptId) (e : Epoch) → Contains w.issued (x, e) → top o < e.0
+  pub apart : (x y : AttemptId) (e f : Epoch) → Contains w.issued (x, e) → Contains w.issued (y, f) → e.0 ≡ f.0 → x ≡ y
+  pub forms : (x : AttemptId) → AreWritesInForm (writes_of r x)
+  pub fits : (x : AttemptId) (m : MinorWrite) → Contains (writes_of r x) m → FitsTargets r m.write
+  pub few : r.script.targets ≤ 64
+  pub asked : (l : Letter) (t : ℕ) (s : TargetState) → Contains w.messages l → l.to ≡ target t → slice_get w.targets t ≡ Some s → s.life ≡ Running → IsMessageRight r o w t s l.message
+  pub waiting : (t : ℕ) (s : TargetState) (p : Parked) → slice_get w.targets t ≡ Some s → s.life ≡ Running → Has p s.memory.member.parked → IsParkedRight r o w t p.ask

@@ -2,37 +2,45 @@
 use Rattle.std.specs.Prelude.{ℕ, ◌≡◌, ◌⊎◌, List, Contains}
 use Rattle.daos_base.specs.declared.epoch.Epoch.{Epoch}
 use Rattle.daos_base.specs.declared.id.AttemptId.{AttemptId}
+use Rattle.daos_laws.specs.Members.{Has}
 use Rattle.daos_model.specs.declared.durable.Version.{Version}
 use Rattle.daos_model.specs.Opening.{Opening}
+use Rattle.world_attempts.specs.Asked.{AskedRight}
+use Rattle.world_attempts.specs.Attempts.{Attempts}
+use Rattle.world_attempts.specs.History.{GrowsBy, History, Served}
 use Rattle.world_base.specs.declared.world.World.{World}
 use Rattle.world_events.specs.Events.{ClientGoes, ClientHears, Rules, TargetHears, TargetIdles}
-use Rattle.world_reads.specs.Adds.{Adds}
+use Rattle.world_reads.specs.Adds.{AreAnswered}
 use Rattle.world_reads.specs.Given.{Given}
-use Rattle.world_reads.specs.History.{Grew, History}
 use Rattle.world_reads.specs.Reads.{Reads}
 use Rattle.world_reads.specs.Versions.{Versions}
 
--- the facts hold of what was decided and served by now, which is all that was before, and perhaps more
-pub record GoOn (r : Rules) (o : Opening) (held : ℕ → List Version) (h : History) (v : World) : Type 0 where
+-- all that holds before a turn
+pub record Before (r : Rules) (o : Opening) (held : ℕ → List Version) (h : History) (w : World) : Type 0 where
+  pub given : Given r o held w
+  pub right : AskedRight r h w
+  pub attempts : Attempts r h w
+  pub versions : Versions r o held h w
+  pub reads : Reads r o h w
+
+-- The facts hold of what was decided and served by now: of what was before, of what is told as decided or aborted, and perhaps of
+-- more reads, each of which is answered.
+pub record GoOn (r : Rules) (o : Opening) (held : ℕ → List Version) (h : History) (w v : World) (g : TargetHears r w v) : Type 0 where
   pub later : History
-  pub grew : Grew h later
+  pub grows : GrowsBy h g.did.posts later
+  pub served : (q : Served) → Has q h.served → Has q later.served
+  pub answered : AreAnswered later.served g.t g.l.message g.s.memory.member.parked g.did.posts
   pub versions : Versions r o held later v
   pub reads : Reads r o later v
 
--- and what is more is what the target told the one whose message it heard
-pub record GoOnTold (r : Rules) (o : Opening) (held : ℕ → List Version) (h : History) (w v : World) (g : TargetHears r w v) : Type 0 where
-  pub on : GoOn r o held h v
-  pub adds : Adds h on.later g.t g.l.from g.l.message g.did.posts
-
--- a target that hears a message keeps them: it decides an attempt, or serves a read, or neither
+-- a target that hears a message keeps them
 abbrev pub HearingKeepsReads : Type 0
-HearingKeepsReads =
-    (r : Rules) (o : Opening) (held : ℕ → List Version) (h : History) (w v : World) → Given r o held h w → Versions r o held h w → Reads r o h w → (g : TargetHears r w v) → GoOnTold r o held h w v g
+HearingKeepsReads = (r : Rules) (o : Opening) (held : ℕ → List Version) (h : History) (w v : World) → Before r o held h w → (g : TargetHears r w v) → GoOn r o held h w v g
 
--- so does a target that does its idle work, which decides and serves nothing more
+-- so does a target that does its idle work, which decides, aborts and serves nothing more
 abbrev pub IdlingKeepsReads : Type 0
 IdlingKeepsReads =
-    (r : Rules) (o : Opening) (held : ℕ → List Version) (h : History) (w v : World) → Given r o held h w → Versions r o held h w → Reads r o h w → TargetIdles r w v → Versions r o held h v × Reads r o h v
+    (r : Rules) (o : Opening) (held : ℕ → List Version) (h : History) (w v : World) → Before r o held h w → (g : TargetIdles r w v) → GrowsBy h g.did.posts h × Versions r o held h v × Reads r o h v
 
 -- where no target changes, they stay as they are
 abbrev pub OthersKeepReads : Type 0

@@ -8,6 +8,7 @@ use Rattle.daos_base.specs.Operations.{read_path}
 use Rattle.daos_base.specs.Paths.{overlaps}
 use Rattle.daos_laws.specs.Decided.{taken_in}
 use Rattle.daos_laws.specs.Groups.{IsPartUnder}
+use Rattle.daos_laws.specs.Members.{Has}
 use Rattle.daos_model.specs.declared.cell.CellValue.{CellValue}
 use Rattle.daos_model.specs.declared.durable.Version.{Version}
 use Rattle.daos_model.specs.Accesses.{asked_member}
@@ -18,13 +19,14 @@ use Rattle.daos_model.specs.Opening.{Opening}
 use Rattle.daos_model.specs.Transactions.{attempt_ops}
 use Rattle.daos_model.specs.Versions.{version_path}
 use Rattle.vos_store.specs.Answers.{floor_of}
+use Rattle.world_attempts.specs.History.{History, Served}
 use Rattle.world_base.specs.declared.client.Stage.{Stage}
 use Rattle.world_base.specs.declared.target.TargetState.{TargetState}
 use Rattle.world_base.specs.declared.target.Life.TheVariants.{Running}
 use Rattle.world_base.specs.declared.world.World.{World}
 use Rattle.world_base.specs.ClientTurns.{question}
 use Rattle.world_events.specs.Events.{Rules}
-use Rattle.world_reads.specs.History.{History, Served, transactions}
+use Rattle.world_reads.specs.Transactions.{transactions}
 
 -- the map as of an epoch, of what was decided
 abbrev pub map_then : Rules → Opening → History → Epoch → List CellValue
@@ -53,15 +55,15 @@ abbrev pub IsGuarded : TargetState → Served → Type 0
 IsGuarded s q = (q.epoch.0 ≤ (floor_of s.opening s.durable (read_path q.read).cont).0.0) ⊎ Contains s.memory.stamps (record { by = q.by; epoch = q.epoch; path = read_path q.read })
 
 pub record Reads (r : Rules) (o : Opening) (h : History) (w : World) : Type 0 where
-  pub asked : (q : Served) → Contains h.served q → IsOfAttempt r q
-  pub form : (q : Served) → Contains h.served q → is_read_in_form q.read ≡ true
-  pub issued : (q : Served) → Contains h.served q → Contains w.issued (q.by, q.epoch)
-  pub answers : (q : Served) → Contains h.served q → IsAnsweredRight r o h q
-  pub guarded : (q : Served) (s : TargetState) → Contains h.served q → slice_get w.targets q.target ≡ Some s → s.life ≡ Running → IsGuarded s q
-  pub leased : (q : Served) (s : TargetState) → Contains h.served q → slice_get w.targets q.target ≡ Some s → q.epoch.0 / 256 ≤ s.durable.lease
+  pub asked : (q : Served) → Has q h.served → IsOfAttempt r q
+  pub form : (q : Served) → Has q h.served → is_read_in_form q.read ≡ true
+  pub issued : (q : Served) → Has q h.served → Contains w.issued (q.by, q.epoch)
+  pub answers : (q : Served) → Has q h.served → IsAnsweredRight r o h q
+  pub guarded : (q : Served) (s : TargetState) → Has q h.served → slice_get w.targets q.target ≡ Some s → s.life ≡ Running → IsGuarded s q
+  pub leased : (q : Served) (s : TargetState) → Has q h.served → slice_get w.targets q.target ≡ Some s → q.epoch.0 / 256 ≤ s.durable.lease
   -- no unsettled version of the target lies below it on an overlapping path
-  pub barred : (q : Served) (s : TargetState) (v : Version) → Contains h.served q → slice_get w.targets q.target ≡ Some s → Contains s.durable.versions v → v.done ≡ false
+  pub barred : (q : Served) (s : TargetState) (v : Version) → Has q h.served → slice_get w.targets q.target ≡ Some s → Contains s.durable.versions v → v.done ≡ false
       → overlaps (version_path v) (read_path q.read) ≡ true → q.epoch.0 ≤ v.epoch.0
   -- each timestamp is of a served read
   pub stamps : (t : ℕ) (s : TargetState) (z : Shown) → slice_get w.targets t ≡ Some s → s.life ≡ Running → Contains s.memory.stamps z
-      → (q : Served) × Contains h.served q × (q.target ≡ t) × (q.by ≡ z.by) × (q.epoch ≡ z.epoch) × (read_path q.read ≡ z.path)
+      → (q : Served) × Has q h.served × (q.target ≡ t) × (q.by ≡ z.by) × (q.epoch ≡ z.epoch) × (read_path q.read ≡ z.path)

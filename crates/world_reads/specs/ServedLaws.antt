@@ -6,7 +6,6 @@ use Rattle.std.proofs.lemmas.Bool.Decides.{nat_tests}
 use Rattle.std.proofs.lemmas.List.Elements.{Contains-append_left, Contains-push, Contains-push_cases}
 use Rattle.daos_base.specs.declared.answer.Answer.{Answer}
 use Rattle.daos_base.specs.declared.epoch.Epoch.{Epoch}
-use Rattle.daos_base.specs.declared.id.AttemptId.{AttemptId}
 use Rattle.daos_base.specs.declared.operation.Read.{Read}
 use Rattle.daos_base.specs.declared.outcome.FloorWhy.{FloorWhy}
 use Rattle.daos_base.specs.declared.shown.Shown.{Shown}
@@ -15,6 +14,7 @@ use Rattle.daos_base.specs.Paths.{overlaps}
 use Rattle.daos_base.specs.PathLaws.{overlaps-comm}
 use Rattle.daos_base.specs.Placement.{members}
 use Rattle.daos_laws.specs.Dated.{map_of}
+use Rattle.daos_laws.specs.Decided.{AreDecided}
 use Rattle.daos_laws.specs.Matches.{GivesAsOf, counts_under}
 use Rattle.daos_laws.specs.MatchLaws.{matches-give}
 use Rattle.daos_laws.specs.Members.{Has, contains-from_has, has-from_contains}
@@ -27,50 +27,22 @@ use Rattle.daos_model.specs.Accesses.{asked_member}
 use Rattle.daos_model.specs.Answers.{answer}
 use Rattle.daos_model.specs.BoolLaws.{both, clash}
 use Rattle.daos_model.specs.Durables.{row_of}
-use Rattle.daos_model.specs.Forms.{is_read_in_form}
 use Rattle.daos_model.specs.Opening.{Opening, top}
 use Rattle.daos_model.specs.Versions.{blocks_read, first_blocking, map_below, version_path}
 use Rattle.vos_store.specs.declared.refusal.FetchNo.TheVariants as fetch
 use Rattle.vos_store.specs.Answers.{answer_unless, fetched, is_past}
+use Rattle.world_attempts.specs.History.{History, Served, is_decided}
+use Rattle.world_base.specs.declared.request.FetchRequest.{FetchRequest}
 use Rattle.world_events.specs.Events.{Rules}
+use Rattle.world_reads.specs.Adds.{served_at}
 use Rattle.world_reads.specs.DecideLaws.{mark-low}
 use Rattle.world_reads.specs.Given.{IsFetchRight}
-use Rattle.world_reads.specs.History.{History, Served, counts_by, is_decided, serves, transactions}
+use Rattle.world_reads.specs.Transactions.{counts_by, transactions}
 use Rattle.world_reads.specs.ListLaws.{none-found}
-use Rattle.world_reads.specs.Midway.{Holds, IsGuardedBy, Shows}
-use Rattle.world_reads.specs.PlaceLaws.{asked-member}
+use Rattle.world_reads.specs.Midway.{IsGuardedBy, IsStampOf, Shows}
+use Rattle.daos_laws.specs.PlaceLaws.{asked-member}
 use Rattle.world_reads.specs.Reads.{IsAnsweredRight, IsOfAttempt}
 use Rattle.world_reads.specs.Versions.{VersionsStand, is_own_in, mark_of}
-
--- ---- one more read is served, and the same is decided
-
-stands-served : (r : Rules) (o : Opening) (held : List Version) (h : History) (q : Served) (t : ℕ) (d : Durable) → VersionsStand r o held h t d → VersionsStand r o held (serves h q) t d
-stands-served r o held h q t d k = record {
-  form = k.form;
-  single = k.single;
-  placed = k.placed;
-  done = k.done;
-  unsettled = k.unsettled;
-  whole = k.whole;
-  only = k.only;
-  matches = k.matches;
-  leased = k.leased;
-  unpruned = k.unpruned;
-}
-
-pub holds-served : (r : Rules) (o : Opening) (held : List Version) (h : History) (q : Served) (t : ℕ) (d : Durable) (left : List AttemptId) → Holds r o held h t d left → Holds r o held (serves h q) t d left
-holds-served r o held h q t d left k = record {
-  stand = stands-served r o held h q t d k.stand;
-  apart = k.apart;
-  held_by = k.held_by;
-  entries = k.entries;
-  led = k.led;
-  leaders = k.leaders;
-  listed = k.listed;
-}
-
-answered-served : (r : Rules) (o : Opening) (h : History) (q p : Served) → IsAnsweredRight r o h p → IsAnsweredRight r o (serves h q) p
-answered-served r o h q p a = record { obj = a.obj; of_object = a.of_object; part = a.part; is_part = a.is_part; right = a.right }
 
 -- ---- what a read is answered
 
@@ -108,100 +80,72 @@ lies-above read e v off open' over = by (cases_lt v.epoch.0 e.0)
 -- ---- the answer is right
 
 -- from the opening on the versions that count give the map as of an epoch
-pub holds-give : (r : Rules) (o : Opening) (held : List Version) (h : History) (t : ℕ) (d : Durable) (left : List AttemptId) (e : ℕ) → top o < e → Holds r o held h t d left
+pub stands-give : (r : Rules) (o : Opening) (held : List Version) (h : History) (t : ℕ) (d : Durable) (e : ℕ) → top o < e → AreDecided (transactions r.script h) → VersionsStand r o held h t d
     → GivesAsOf (is_own r.script.targets t) (counts_by h) d.versions o.stand (transactions r.script h) e
-holds-give r o held h t d left e above k c own =
-    matches-give (is_own_in r.script.targets t c.path.cont) (counts_by h) d.versions o.stand (transactions r.script h) (mark_of o d c.path.cont) e k.stand.single k.apart (k.stand.matches c.path.cont)
-    (mark-low (top o) (row_of d c.path.cont).aggregated.0 e (k.stand.unpruned c.path.cont) above) c
+stands-give r o held h t d e above apart k c own =
+    matches-give (is_own_in r.script.targets t c.path.cont) (counts_by h) d.versions o.stand (transactions r.script h) (mark_of o d c.path.cont) e k.single apart (k.matches c.path.cont)
+    (mark-low (top o) (row_of d c.path.cont).aggregated.0 e (k.unpruned c.path.cont) above) c
     (both (is_own r.script.targets t c) (c.path.cont.0 == c.path.cont.0) own (same_number c.path.cont.0))
 
-pub answers-right : (r : Rules) (o : Opening) (held : List Version) (h : History) (t : ℕ) (d : Durable) (left : List AttemptId) (x : AttemptId) (op group : ℕ) (read : Read) (snapshot : Bool) (e : Epoch) (b : Answer)
-    → IsFetchRight r t x op group read snapshot → top o < e.0 → IsFree read e d b → Holds r o held h t d left
-    → IsAnsweredRight r o h (record { by = x; op = op; group = group; target = t; read = read; epoch = e; answer = b })
-answers-right r o held h t d left x op group read snapshot e b asks above free k = record {
+pub answers-right : (r : Rules) (o : Opening) (held : List Version) (h : History) (t : ℕ) (d : Durable) (q : FetchRequest) (e : Epoch) (b : Answer) → IsFetchRight r t q.attempt q.op q.group q.read q.snapshot → top o < e.0
+    → IsFree q.read e d b → AreDecided (transactions r.script h) → VersionsStand r o held h t d → IsAnsweredRight r o h (served_at t q e b)
+answers-right r o held h t d q e b asks above free apart k = record {
   obj = asks.obj;
   of_object = asks.of_object;
   part = map_of (counts_under (counts_by h) e.0) d.versions;
   is_part =
-      members-parts asks.obj group r.script.targets t (read_path read) (counts_by h) d.versions o.stand (transactions r.script h) e.0 asks.fits asks.within
-      (contains-from_has (members asks.obj group r.script.targets) t member) asks.of_object k.stand.single k.stand.form.writes k.stand.placed (holds-give r o held h t d left e.0 above k);
+      members-parts asks.obj q.group r.script.targets t (read_path q.read) (counts_by h) d.versions o.stand (transactions r.script h) e.0 asks.fits asks.within
+      (contains-from_has (members asks.obj q.group r.script.targets) t member) asks.of_object k.single k.form.writes k.placed (stands-give r o held h t d e.0 above apart k);
   right =
       free.right
-      ∙ served-all read (counts_by h) d.versions e.0 k.stand.single k.stand.form.writes asks.form (λ v done. ap (λ c. c || is_decided h v.by) done) (unblocked read e d.versions free.free);
+      ∙ served-all q.read (counts_by h) d.versions e.0 k.single k.form.writes asks.form (λ v done. ap (λ c. c || is_decided h v.by) done) (unblocked q.read e d.versions free.free);
 }
   where
-    its : IsOfAttempt r (record { by = x; op = op; group = group; target = t; read = read; epoch = e; answer = b })
+    its : IsOfAttempt r (served_at t q e b)
     its = asks.asked e b
 
     same : its.obj ≡ asks.obj
     same = let f : Some its.obj ≡ Some asks.obj = sym its.of_object ∙ asks.of_object in cc
 
-    member : Has t (members asks.obj group r.script.targets)
+    member : Has t (members asks.obj q.group r.script.targets)
     member =
-        subst (λ u. Has u (members asks.obj group r.script.targets)) (sym its.member)
-        (subst (λ y. Has (asked_member its.obj x.command r.script.targets group) (members y group r.script.targets)) same (asked-member its.obj x.command r.script.targets group))
+        subst (λ u. Has u (members asks.obj q.group r.script.targets)) (sym its.member)
+        (subst (λ y. Has (asked_member its.obj q.attempt.command r.script.targets q.group) (members y q.group r.script.targets)) same (asked-member its.obj q.attempt.command r.script.targets q.group))
 
--- ---- and stays so
+-- ---- and is guarded from then on
 
-pub serves-shows : (r : Rules) (o : Opening) (held : List Version) (h : History) (opening : Epoch × FloorWhy) (t : ℕ) (d : Durable) (left : List AttemptId) (stamps : List Shown)
-    (x : AttemptId) (op group : ℕ) (read : Read) (snapshot : Bool) (e : Epoch) (b : Answer)
-    → IsFetchRight r t x op group read snapshot → top o < e.0 → e.0 / 256 ≤ d.lease → IsFree read e d b → Holds r o held h t d left → Shows r o h opening t d stamps
-    → Shows r o (serves h (record { by = x; op = op; group = group; target = t; read = read; epoch = e; answer = b })) opening t d (stamps ++ record { by = x; epoch = e; path = read_path read } ∷ [])
-serves-shows r o held h opening t d left stamps x op group read snapshot e b asks above covered free k s = record {
-  asked = λ q i. asked q (cases q i);
-  form = λ q i. form q (cases q i);
-  answers = λ q i. answers q (cases q i);
-  guarded = λ q i at. guarded q at (cases q i);
-  leased = λ q i at. leased q at (cases q i);
-  barred = λ q v i at j f over. barred q v at j f over (cases q i);
+pub serves-shows : (served : List Served) (opening : Epoch × FloorWhy) (t : ℕ) (d : Durable) (stamps : List Shown) (q : FetchRequest) (e : Epoch) (b : Answer) → e.0 / 256 ≤ d.lease → IsFree q.read e d b
+    → Shows served opening t d stamps → Shows (served_at t q e b ∷ served) opening t d (stamps ++ record { by = q.attempt; epoch = e; path = read_path q.read } ∷ [])
+serves-shows served opening t d stamps x e b covered free s = record {
+  guarded = guarded;
+  leased = leased;
+  barred = barred;
   stamped = λ z i. stamped z (Contains-push_cases stamps new z i);
 }
   where
     one : Served
-    one = record { by = x; op = op; group = group; target = t; read = read; epoch = e; answer = b }
-
-    now : History
-    now = serves h (record { by = x; op = op; group = group; target = t; read = read; epoch = e; answer = b })
+    one = served_at t x e b
 
     new : Shown
-    new = record { by = x; epoch = e; path = read_path read }
+    new = record { by = x.attempt; epoch = e; path = read_path x.read }
 
-    cases : (q : Served) → Contains now.served q → (q ≡ one) ⊎ Contains h.served q
-    cases q i = by (has-from_contains now.served q i)
-      where
-        by : Has q (one ∷ h.served) → (q ≡ one) ⊎ Contains h.served q
-        by (inl same) = inl same
-        by (inr j) = inr (contains-from_has h.served q j)
+    guarded : (q : Served) → (q ≡ one) ⊎ Has q served → q.target ≡ t → IsGuardedBy opening d (stamps ++ new ∷ []) q
+    guarded q (inl same) at = subst (IsGuardedBy opening d (stamps ++ new ∷ [])) (sym same) (inr (Contains-push stamps new))
+    guarded q (inr i) at = elim (s.guarded q i at) [ inl low ↦ inl low | inr j ↦ inr (Contains-append_left stamps (new ∷ []) (record { by = q.by; epoch = q.epoch; path = read_path q.read }) j) ]
 
-    asked : (q : Served) → (q ≡ one) ⊎ Contains h.served q → IsOfAttempt r q
-    asked q (inl same) = subst (IsOfAttempt r) (sym same) (asks.asked e b)
-    asked q (inr i) = s.asked q i
+    leased : (q : Served) → (q ≡ one) ⊎ Has q served → q.target ≡ t → q.epoch.0 / 256 ≤ d.lease
+    leased q (inl same) at = subst (λ p. p.epoch.0 / 256 ≤ d.lease) (sym same) covered
+    leased q (inr i) at = s.leased q i at
 
-    form : (q : Served) → (q ≡ one) ⊎ Contains h.served q → is_read_in_form q.read ≡ true
-    form q (inl same) = ap (λ p. is_read_in_form p.read) same ∙ asks.form
-    form q (inr i) = s.form q i
-
-    answers : (q : Served) → (q ≡ one) ⊎ Contains h.served q → IsAnsweredRight r o now q
-    answers q (inl same) = subst (IsAnsweredRight r o now) (sym same) (answered-served r o h one one (answers-right r o held h t d left x op group read snapshot e b asks above free k))
-    answers q (inr i) = answered-served r o h one q (s.answers q i)
-
-    guarded : (q : Served) → q.target ≡ t → (q ≡ one) ⊎ Contains h.served q → IsGuardedBy opening d (stamps ++ new ∷ []) q
-    guarded q at (inl same) = subst (IsGuardedBy opening d (stamps ++ new ∷ [])) (sym same) (inr (Contains-push stamps new))
-    guarded q at (inr i) = elim (s.guarded q i at) [ inl low ↦ inl low | inr j ↦ inr (Contains-append_left stamps (new ∷ []) (record { by = q.by; epoch = q.epoch; path = read_path q.read }) j) ]
-
-    leased : (q : Served) → q.target ≡ t → (q ≡ one) ⊎ Contains h.served q → q.epoch.0 / 256 ≤ d.lease
-    leased q at (inl same) = subst (λ p. p.epoch.0 / 256 ≤ d.lease) (sym same) covered
-    leased q at (inr i) = s.leased q i at
-
-    barred : (q : Served) (v : Version) → q.target ≡ t → Contains d.versions v → v.done ≡ false → overlaps (version_path v) (read_path q.read) ≡ true → (q ≡ one) ⊎ Contains h.served q → q.epoch.0 ≤ v.epoch.0
-    barred q v at j f over (inl same) =
+    barred : (q : Served) (v : Version) → (q ≡ one) ⊎ Has q served → q.target ≡ t → Contains d.versions v → v.done ≡ false → overlaps (version_path v) (read_path q.read) ≡ true → q.epoch.0 ≤ v.epoch.0
+    barred q v (inl same) at j f over =
         subst (λ p. p.epoch.0 ≤ v.epoch.0) (sym same)
-        (lies-above read e v (unblocked read e d.versions free.free v j) f (ap (λ p. overlaps (version_path v) (read_path p.read)) (sym same) ∙ over))
-    barred q v at j f over (inr i) = s.barred q v i at j f over
+        (lies-above x.read e v (unblocked x.read e d.versions free.free v j) f (ap (λ p. overlaps (version_path v) (read_path p.read)) (sym same) ∙ over))
+    barred q v (inr i) at j f over = s.barred q v i at j f over
 
     Stamped : Shown → Type 0
-    Stamped z = (q : Served) × Contains now.served q × (q.target ≡ t) × (q.by ≡ z.by) × (q.epoch ≡ z.epoch) × (read_path q.read ≡ z.path)
+    Stamped z = (q : Served) × Has q (one ∷ served) × (q.target ≡ t) × IsStampOf z q
 
     stamped : (z : Shown) → Contains stamps z ⊎ (new ≡ z) → Stamped z
-    stamped z (inl i) = let y = s.stamped z i in (y.0, contains-from_has now.served y.0 (inr (has-from_contains h.served y.0 y.1)), y.2, y.3, y.4, y.5)
-    stamped z (inr same) = subst Stamped same (one, contains-from_has now.served one (inl refl), refl, refl, refl, refl)
+    stamped z (inl i) = let y = s.stamped z i in (y.0, inr y.1, y.2, y.3)
+    stamped z (inr same) = subst Stamped same (one, inl refl, refl, (refl, refl, refl))

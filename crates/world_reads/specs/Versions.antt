@@ -14,16 +14,15 @@ use Rattle.daos_laws.specs.Targets.{ArePlaced, is_own}
 use Rattle.daos_model.specs.declared.cell.Cell.{Cell}
 use Rattle.daos_model.specs.declared.durable.Durable.{Durable}
 use Rattle.daos_model.specs.declared.durable.Version.{Version}
-use Rattle.daos_model.specs.Accesses.{minor_writes}
-use Rattle.daos_model.specs.CausesShown.{leader_of_attempt}
 use Rattle.daos_model.specs.Durables.{IsInForm, entry_of, row_of}
 use Rattle.daos_model.specs.Opening.{Opening, top}
-use Rattle.daos_model.specs.Transactions.{attempt_ops}
 use Rattle.daos_model.specs.Versions.{version_of}
+use Rattle.world_attempts.specs.Attempts.{writes_of}
+use Rattle.world_attempts.specs.History.{Decided, History}
 use Rattle.world_base.specs.declared.target.TargetState.{TargetState}
 use Rattle.world_base.specs.declared.world.World.{World}
 use Rattle.world_events.specs.Events.{Rules}
-use Rattle.world_reads.specs.History.{History, counts_by, transactions}
+use Rattle.world_reads.specs.Transactions.{counts_by, transactions}
 
 -- a target's own cells of a container
 abbrev pub is_own_in : ℕ → ℕ → ContId → Cell → Bool
@@ -35,8 +34,22 @@ mark_of o d cont = max (top o) (row_of d cont).aggregated.0 + 1
 
 -- a write of an attempt that a target of so many holds
 pub record IsWriteAt (r : Rules) (x : AttemptId) (t : ℕ) (w : MinorWrite) : Type 0 where
-  pub of_it : Contains (minor_writes 0 (attempt_ops r.script x)) w
+  pub of_it : Contains (writes_of r x) w
   pub here : Contains (path_members (write_path w.write) r.script.targets) t
+
+-- a version is of one of its attempt's writes at a target
+pub record IsVersionOf (r : Rules) (t : ℕ) (v : Version) : Type 0 where
+  pub write : MinorWrite
+  pub at : IsWriteAt r v.by t write
+  pub minor : v.minor ≡ write.minor
+  pub same : v.write ≡ write.write
+
+-- an entry that is found for an attempt isn't committed, and is of this epoch
+pub record IsPreparedAt (d : Durable) (x : AttemptId) (e : Epoch) : Type 0 where
+  pub entry : Entry
+  pub found : entry_of d x ≡ Some entry
+  pub open' : entry.committed ≡ false
+  pub epoch : entry.epoch ≡ e
 
 -- what holds of what one target keeps
 pub record VersionsStand (r : Rules) (o : Opening) (held : List Version) (h : History) (t : ℕ) (d : Durable) : Type 0 where
@@ -44,12 +57,15 @@ pub record VersionsStand (r : Rules) (o : Opening) (held : List Version) (h : Hi
   pub single : AreSingleInOrder d.versions
   pub placed : ArePlaced r.script.targets t d.versions
   -- a done version is of the opening, or of a decided attempt, and then one of its writes
-  pub done : (v : Version) → Contains d.versions v → v.done ≡ true → Contains held v ⊎ (Contains h.decided (v.by, v.epoch) × (m : MinorWrite) × IsWriteAt r v.by t m × (v.minor ≡ m.minor) × (v.write ≡ m.write))
-  -- an unsettled one belongs to a prepared entry here
-  pub unsettled : (v : Version) → Contains d.versions v → v.done ≡ false → (e : Entry) × (entry_of d v.by ≡ Some e) × (e.committed ≡ false) × (e.epoch ≡ v.epoch)
+  pub done : (v : Version) → Contains d.versions v → v.done ≡ true → Contains held v ⊎ (Decided h v.by v.epoch × IsVersionOf r t v)
+  -- an unsettled one belongs to a prepared entry here, and is one of its attempt's writes
+  pub unsettled : (v : Version) → Contains d.versions v → v.done ≡ false → IsPreparedAt d v.by v.epoch
+  pub only : (v : Version) → Contains d.versions v → v.done ≡ false → IsVersionOf r t v
   -- a prepared entry has exactly the attempt's writes of this target's groups
   pub whole : (e : Entry) (m : MinorWrite) → Contains d.entries e → e.committed ≡ false → IsWriteAt r e.attempt t m → Contains d.versions (version_of e m)
-  pub only : (v : Version) → Contains d.versions v → v.done ≡ false → (m : MinorWrite) × IsWriteAt r v.by t m × (v.minor ≡ m.minor) × (v.write ≡ m.write)
+  -- a committed entry is of a decided attempt, and that of a decided attempt has its epoch
+  pub settled : (x : AttemptId) (e : Entry) → entry_of d x ≡ Some e → e.committed ≡ true → Decided h x e.epoch
+  pub epochs : (x : AttemptId) (e : Entry) (f : Epoch) → entry_of d x ≡ Some e → Decided h x f → e.epoch ≡ f
   -- the versions that count stand for the decided transactions, in each container
   pub matches : (cont : ContId) → Matches (is_own_in r.script.targets t cont) (counts_by h) d.versions o.stand (transactions r.script h) (mark_of o d cont)
   pub leased : (v : Version) → Contains d.versions v → v.epoch.0 / 256 ≤ d.lease
@@ -61,14 +77,6 @@ pub record Versions (r : Rules) (o : Opening) (held : ℕ → List Version) (h :
   pub stand : (t : ℕ) (s : TargetState) → slice_get w.targets t ≡ Some s → VersionsStand r o (held t) h t s.durable
   -- no two that are decided have one epoch
   pub apart : AreDecided (transactions r.script h)
-  -- what is decided was issued, and its leader and all its members hold it
-  pub issued : (x : AttemptId) (e : Epoch) → Contains h.decided (x, e) → Contains w.issued (x, e)
-  pub written : (x : AttemptId) (e : Epoch) → Contains h.decided (x, e) → minor_writes 0 (attempt_ops r.script x) ≢ []
-  pub held_by : (x : AttemptId) (e : Epoch) (t : ℕ) (s : TargetState) (m : MinorWrite) → Contains h.decided (x, e) → slice_get w.targets t ≡ Some s → IsWriteAt r x t m
-      → (k : Entry) × (entry_of s.durable x ≡ Some k) × (k.epoch ≡ e)
-  -- an entry is of a decided attempt, and one that isn't settled is known to its leader as decided
-  pub entries : (t : ℕ) (s : TargetState) (e : Entry) → slice_get w.targets t ≡ Some s → Contains s.durable.entries e → Contains h.decided (e.attempt, e.epoch)
-  pub led : (t : ℕ) (s : TargetState) (e : Entry) → slice_get w.targets t ≡ Some s → Contains s.durable.entries e → e.committed ≡ false → e.leader ≡ t → Contains s.memory.decided e.attempt
-  -- an entry names the leader of its attempt
-  pub leaders : (t : ℕ) (s : TargetState) (e : Entry) → slice_get w.targets t ≡ Some s → Contains s.durable.entries e → e.leader ≡ leader_of_attempt r.script e.attempt
-  pub leading : (t : ℕ) (s : TargetState) (x : AttemptId) → slice_get w.targets t ≡ Some s → Contains s.memory.decided x → (e : Entry) × (entry_of s.durable x ≡ Some e) × (e.committed ≡ false) × (e.leader ≡ t)
+  -- what is decided was issued, and writes something
+  pub issued : (x : AttemptId) (e : Epoch) → Decided h x e → Contains w.issued (x, e)
+  pub written : (x : AttemptId) (e : Epoch) → Decided h x e → writes_of r x ≢ []

@@ -1,12 +1,13 @@
 // What every turn keeps of versions and reads.
 ghost use Rattle.world_reads.specs.Keeping.{ClientsKeepReads, HearingKeepsReads, IdlingKeepsReads, OthersKeepReads};
 
-/// Says what turns keep of a run of one target in which nothing stops. Of the transactions that were
-/// decided and the reads that were served: each version belongs to a decided one, and those that count
-/// stand for them, one by one above the opening; each read was answered by what they give as of its
-/// epoch, and is guarded from then on. A target that hears a message may decide one more and serve one
-/// more; idle work and turns of clients leave them as they are. What else is asked of the world before
-/// is given.
+/// Says what turns keep of a run in which nothing stops. Of the transactions that were decided and the
+/// reads that were served: each version belongs to a decided one or to one that is prepared, and those
+/// that count stand for the decided ones at each target, one by one above the opening; each read was
+/// answered by what they give as of its epoch, and is guarded from then on. A turn in which a target
+/// hears a message may decide one more, which then counts at every target, and may serve more reads;
+/// idle work and turns of clients leave them as they are. What else is asked of the world before is
+/// given.
 pub fn laws_of_turns()
     ensures hear { HearingKeepsReads }
     ensures idle { IdlingKeepsReads }

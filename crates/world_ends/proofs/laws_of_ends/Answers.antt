@@ -1,12 +1,10 @@
-use Rattle.world_ends.specs.Carried.{runs-carry}
 use Rattle.world_ends.specs.Decisions.{took-same_map}
-use Rattle.world_ends.specs.FromBeginning.{runs-from-the-beginning, runs-give-the-headline}
 use Rattle.world_ends.specs.LastReads.{reads-legal}
 use Rattle.world_ends.specs.LastStand.{stands-last}
 use Rattle.world_ends.specs.Laws.{reports-legal}
 use Rattle.world_ends.specs.Outcomes.{outcomes-legal}
 use Rattle.world_ends.specs.Runs.{runs-report-legally}
-use Rattle.world_ends.specs.SureTells.{events-tell-surely}
+use Rattle.world_ends.specs.SureTells.{tells-plain}
 use Rattle.world_ends.proofs.laws_of_ends.Goals as goal
 
 pub returns : goal.returns
@@ -17,8 +15,5 @@ returns c = record {
   stands = stands-last;
   reports = reports-legal;
   runs = runs-report-legally;
-  sure = events-tell-surely;
-  carried = runs-carry;
-  runs_from_the_beginning = runs-from-the-beginning;
-  headline = runs-give-the-headline;
+  sure = tells-plain;
 }

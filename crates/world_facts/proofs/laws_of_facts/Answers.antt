@@ -1,4 +1,4 @@
-use Rattle.world_facts.specs.FactLaws.{above-at-each-moment, carriers-at-each-moment, entries-at-each-moment, epochs-at-each-moment, leases-at-each-moment, messages-at-each-moment, reads-at-each-moment, signs-at-each-moment, snapshots-at-each-moment, stands-at-each-moment, timestamps-at-each-moment, versions-at-each-moment}
+use Rattle.world_facts.specs.FactLaws.{above-at-each-moment, carriers-at-each-moment, counted-at-each-moment, entries-at-each-moment, epochs-at-each-moment, history-at-each-moment, known-at-each-moment, leases-at-each-moment, messages-at-each-moment, signs-at-each-moment, snapshots-at-each-moment, versions-at-each-moment}
 use Rattle.world_facts.proofs.laws_of_facts.Goals as goal
 
 pub returns : goal.returns
@@ -10,9 +10,9 @@ returns c = record {
   leases = leases-at-each-moment;
   signs = signs-at-each-moment;
   entries = entries-at-each-moment;
+  counted = counted-at-each-moment;
   owners = versions-at-each-moment;
-  as_of = stands-at-each-moment;
-  reads = reads-at-each-moment;
-  timestamps = timestamps-at-each-moment;
+  history = history-at-each-moment;
+  outcomes = known-at-each-moment;
   snapshots = snapshots-at-each-moment;
 }

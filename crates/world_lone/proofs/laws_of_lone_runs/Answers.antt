@@ -1,6 +1,6 @@
-use Rattle.world_lone.specs.Issued.{the-target-issues}
+use Rattle.world_lone.specs.Issued.{epochs-rise, first-targets-issue, targets-issue}
 use Rattle.world_lone.specs.Moments.{lone-runs-never-restart}
 use Rattle.world_lone.proofs.laws_of_lone_runs.Goals as goal
 
 pub returns : goal.returns
-returns c = record { issued = the-target-issues; never_restarted = lone-runs-never-restart }
+returns c = record { issued = targets-issue; first = first-targets-issue; rise = epochs-rise; never_restarted = lone-runs-never-restart }

@@ -1,9 +1,10 @@
+use Rattle.world_attempts.specs.EventLaws.{attempts-kept, none-is-both}
 use Rattle.world_reads.specs.EventLaws.{clients-keep, hearing-keeps, idling-keeps, others-keep}
 use Rattle.world_reads.proofs.reads.laws_of_turns.Goals as goal
 
 pub returns : goal.returns
 returns c = record {
-  hear = hearing-keeps;
+  hear = hearing-keeps attempts-kept none-is-both;
   idle = idling-keeps;
   others = others-keep;
   clients = clients-keep;
