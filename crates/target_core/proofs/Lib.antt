@@ -1,17 +1,2 @@
-pub mod Cover
-pub mod OwnEpochs
-pub mod Later
-pub mod Fetching
-pub mod Settling
-pub mod Turning
-pub mod Serving
-pub mod Writing
-pub mod Alone
-pub mod Committing
-pub mod IdleSteps
-pub mod Ending
-pub mod Readying
-pub mod Paths
-pub mod Replying
-pub mod WholeTurns
-pub mod Messages
+mod VerdictHeard
+mod Posting

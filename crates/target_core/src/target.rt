@@ -1,32 +1,37 @@
 // A target of a run.
-ghost use Rattle.std.specs.Prelude.{◌≡◌, ◌≤◌, ◌==◌, ℕ, [], length, not, IfOk, IfErr, IfSome, Some, true, false};
+ghost use Rattle.std.specs.Prelude.{◌≡◌, ◌≤◌, ◌<◌, ℕ, [], IfOk, IfErr, IfSome, Some, true, false};
 ghost use Rattle.std.specs.Option.{ForSome};
 ghost use Rattle.daos_model.specs.declared.durable.Durable.{Durable};
+ghost use Rattle.dtx_base.specs.Leading.{first_memory};
+ghost use Rattle.dtx_base.specs.Joining.{first_member};
 ghost use Rattle.vos_store.specs.Refusals.{says};
-ghost use Rattle.target_core.specs.Asked.{message_of};
-ghost use Rattle.target_core.specs.Parts.{Runs};
-ghost use Rattle.target_core.specs.Stops.{stop_foreign, stop_store};
-ghost use Rattle.target_core.specs.Targets.{CanHear, HasForm, HearsOrStops, IdlesOrStops, IsAnswered, IsHeard, has_epoch};
+ghost use Rattle.world_turns.specs.Idle.{has_idle};
+ghost use Rattle.world_posts.specs.Forms.{PostsInForm};
+ghost use Rattle.target_parts.specs.Knowing.{IsHeard};
+ghost use Rattle.target_parts.specs.Parts.{Runs};
+ghost use Rattle.target_parts.specs.Stops.{stop_foreign, stop_store};
+ghost use Rattle.target_core.specs.Targets.{CanHear, HasForm, HearsOrStops, IdlesOrStops, has_epoch, is_of_client};
 
-use crate::asked::{Asked, asked_by};
-use crate::hearing::{hear_commit, hear_fetch};
-use crate::idle::idle_work;
-use crate::knows::Knows;
-use crate::stop::TargetStop;
+use crate::hearing::hear_message;
 use daos_base::epoch::TargetId;
 use daos_hlc::clock::Hlc;
 use daos_messages::actor::ActorId;
 use daos_messages::message::Message;
 use daos_outside::clock::Clock;
+use dtx_leader::leader::Leader;
+use dtx_member::member::Member;
 use std::alloc::Global;
 use std::marker::Model;
+use target_dtx::idle::{has_idle_work, idle_work};
+use target_parts::knows::Knows;
+use target_parts::stop::TargetStop;
 use vos_stamp::stamps::Stamps;
 use vos_store::store::Store;
 use world_base::did::Did;
 use world_base::target::TargetPlan;
 
-/// A target, the only one: its store, its clock, and what it knows until it stops. Unless its store is
-/// stopped, the attempts that it decided can be committed there, no version there is later than its
+/// A target: its store, its clock, and what it knows until it stops. Unless its store is stopped, the
+/// attempts that it has to decide or to settle are prepared there, no version there is later than its
 /// ticks, and the lease covers them.
 #[derive(Drop)]
 pub struct Target<S: Store, C: Clock> {
@@ -38,9 +43,14 @@ pub struct Target<S: Store, C: Clock> {
 }
 
 impl<S: Store, C: Clock> Model for Target<S, C> {
-    ghost use Rattle.target_core.specs.Targets.{IsTarget, TargetOf, memory_of};
+    ghost use Rattle.daos_messages.specs.contracts.message.Message as message;
+    ghost use Rattle.std.specs.Coded.{codes};
+    ghost use Rattle.target_core.specs.Targets.{IsTarget, TargetOf};
+    ghost use Rattle.target_parts.specs.Knowing.{memory_of};
 
     ghost Value = { TargetOf S C };
+
+    ghost coded = { Prim.hlevel (codes, message.the_row.coded) };
 
     ghost view = { λ t. record { plan = t.plan; store = t.store; clock = t.clock; memory = memory_of t.knows } };
 
@@ -54,10 +64,27 @@ pub struct TargetNew<S, C> {
     pub clock: C,
 }
 
+// What a target knows that has just opened, over a store with this lease and without entries.
+fn first_knows(alloc: Global, me: TargetId, targets: u8, lease: u64) -> Result<Knows, TargetStop>
+    ensures clock { IfOk result (λ k. k.hlc ≡ record { target = me; ticks = lease }) }
+    ensures stamps { IfOk result (λ k. k.stamps ≡ []) }
+    ensures entries { IfOk result (λ k. k.entries.items ≡ []) }
+    ensures leader { IfOk result (λ k. k.leader ≡ first_memory []) }
+    ensures member { IfOk result (λ k. k.member ≡ first_member me) }
+{
+    Ok(Knows {
+        hlc: Hlc::new(me, lease),
+        stamps: Stamps::new(alloc)?,
+        entries: Vec::new(alloc),
+        leader: Leader::new(alloc, me, &[])?,
+        member: Member::new(alloc, me, targets)?,
+    })
+}
+
 impl<S: Store, C: Clock> Target<S, C> {
-    /// A target that has just opened, with this number among so many targets; so far it is the only
-    /// one. Its ticks begin at the lease, which covers every version. It served no read and decided no
-    /// attempt. Up to `epsilon` ticks its clocks leave open which of two epochs was first.
+    /// A target that has just opened, with this number among so many targets, over a store without
+    /// entries. Its ticks begin at the lease, which covers every version. It served no read and
+    /// remembers no attempt. Up to `epsilon` ticks its clocks leave open which of two epochs was first.
     ///
     /// # Errors
     ///
@@ -70,72 +97,39 @@ impl<S: Store, C: Clock> Target<S, C> {
         store: S,
         clock: C,
     ) -> Result<Self, TargetNew<S, C>>
-        requires first { me ≡ 0 }
-        requires only { targets ≡ 1 }
-        requires made { 1 ≤ (S.state store).targets }
+        requires one { me < targets }
+        requires few { targets ≤ 64 }
+        requires made { targets ≤ (S.state store).targets }
         requires running { (S.state store).stopped ≡ false }
         requires opened { ForSome (S.durable store) (λ d. IsHeard d.lease d) }
+        requires empty { ForSome (S.durable store) (λ d. d.entries ≡ []) }
         ensures plan { IfOk result (λ t. t.plan ≡ record { me = me; targets = targets; epsilon = epsilon }) }
         ensures store { IfOk result (λ t. t.store ≡ store) }
         ensures clock { IfOk result (λ t. t.clock ≡ clock) }
         ensures ticks { IfOk result (λ t. ForSome (S.durable store) (λ d. t.memory.ticks ≡ d.lease)) }
         ensures unread { IfOk result (λ t. t.memory.stamps ≡ []) }
-        ensures undecided { IfOk result (λ t. t.memory.decided ≡ []) }
+        ensures leader { IfOk result (λ t. t.memory.leader ≡ first_memory []) }
+        ensures member { IfOk result (λ t. t.memory.member ≡ (first_member me).memory) }
         ensures handed_back { IfErr result (λ parts. parts ≡ record { store = store; clock = clock }) }
     {
-        let Ok(stamps) = Stamps::new(alloc) else {
-            return Err(TargetNew { store, clock });
-        };
-        let hlc = Hlc::new(me, store.lease());
-        Ok(Target {
-            alloc,
-            plan: TargetPlan {
-                me,
-                targets,
-                epsilon,
-            },
-            store,
-            clock,
-            knows: Knows {
-                hlc,
-                stamps,
-                decided: Vec::new(alloc),
-            },
-        })
-    }
-
-    // It does what it is asked.
-    fn answer(&mut self, from: ActorId, asked: &Asked) -> Result<Did, TargetStop>
-        requires running { (S.state self.old.store).stopped ≡ false }
-        requires form { HasForm (message_of asked.now) }
-        requires here { ForSome (S.durable self.old.store) (CanHear (message_of asked.now)) }
-        ensures plan { self.new.plan ≡ self.old.plan }
-        ensures runs { Runs stop_store result (S.state self.old.store) (S.state self.new.store) (S.durable self.old.store) (S.durable self.new.store) }
-        ensures turn { (reading : ℕ) × IfSome (C.next self.old.clock) (λ r. r ≡ reading) × ((d : Durable) → S.durable self.old.store ≡ Some d
-            → HearsOrStops self.old.plan self.old.memory reading from (message_of asked.now) d (S.state self.old.store)
-            (S.durable self.new.store) (S.state self.new.store) (S.may self.new.store) self.new.memory result) }
-        ensures posts { IfOk result (λ did. IsAnswered from did.posts) }
-        ensures native { says stop_foreign result ≡ false }
-        ensures unread { has_epoch (message_of asked.now) ≡ true → self.new.clock ≡ self.old.clock }
-    {
-        let Target {
-            alloc,
-            plan,
-            store,
-            clock,
-            knows,
-        } = self;
-        match asked {
-            Asked::Fetch(request) => hear_fetch(*alloc, *plan, store, clock, knows, from, request),
-            Asked::Commit(request) => hear_commit(
-                *alloc, *plan, store, clock, knows, from, request,
-            ),
+        match first_knows(alloc, me, targets, store.lease()) {
+            Ok(knows) => Ok(Target {
+                alloc,
+                plan: TargetPlan {
+                    me,
+                    targets,
+                    epsilon,
+                },
+                store,
+                clock,
+                knows,
+            }),
+            Err(_memory) => Err(TargetNew { store, clock }),
         }
     }
 
-    /// It hears a message, a Fetch or a Commit so far, and tells what follows: one answer, to the one
-    /// who asked. Its clock is read only where an epoch is issued. The number is one drawn for this
-    /// turn, which none of these uses.
+    /// It hears a message, and tells what follows. Its clock is read only where an epoch is issued. The
+    /// number is one drawn for this turn, which none of the messages so far uses.
     ///
     /// # Errors
     ///
@@ -147,50 +141,61 @@ impl<S: Store, C: Clock> Target<S, C> {
         number: Option<u32>,
     ) -> Result<Did, TargetStop>
         requires running { (S.state self.old.store).stopped ≡ false }
-        requires form { HasForm message }
-        requires here { ForSome (S.durable self.old.store) (CanHear message) }
+        requires form { HasForm self.old.plan from message }
+        requires here { ForSome (S.durable self.old.store) (CanHear self.old.plan message) }
         ensures plan { self.new.plan ≡ self.old.plan }
         ensures runs { Runs stop_store result (S.state self.old.store) (S.state self.new.store) (S.durable self.old.store) (S.durable self.new.store) }
         ensures turn { (reading : ℕ) × IfSome (C.next self.old.clock) (λ r. r ≡ reading) × ((d : Durable) → S.durable self.old.store ≡ Some d
             → HearsOrStops self.old.plan self.old.memory reading from message d (S.state self.old.store)
             (S.durable self.new.store) (S.state self.new.store) (S.may self.new.store) self.new.memory result) }
-        ensures posts { IfOk result (λ did. IsAnswered from did.posts) }
         ensures native { says stop_foreign result ≡ false }
         ensures unread { has_epoch message ≡ true → self.new.clock ≡ self.old.clock }
+        ensures posts { is_of_client message ≡ from.client → IfOk result (λ did. PostsInForm self.old.plan.targets self.old.memory.leader self.new.memory.leader did.posts) }
     {
         let _number = number;
-        let asked = asked_by(message);
-        self.answer(from, &asked)
+        let Target {
+            alloc,
+            plan,
+            store,
+            clock,
+            knows,
+        } = self;
+        hear_message(*alloc, *plan, store, clock, knows, from, message)
     }
 
-    /// It does its idle work: it settles the attempts that it decided, and sends nothing. A settling
-    /// phase asks no more of it so far.
+    /// It does its idle work: it settles the attempts that it decided, tells the other members of what is
+    /// committed, and in the settling phase asks other leaders what became of what is prepared here.
     ///
     /// # Errors
     ///
-    /// `Store` where the store stopped, and then the turn was cut short. It takes no memory.
+    /// `Store` where the store stopped, and then the turn was cut short; else for want of memory.
     pub fn idle(&mut self, settling: bool) -> Result<Did, TargetStop>
         requires running { (S.state self.old.store).stopped ≡ false }
         ensures plan { self.new.plan ≡ self.old.plan }
         ensures clock { self.new.clock ≡ self.old.clock }
         ensures runs { Runs stop_store result (S.state self.old.store) (S.state self.new.store) (S.durable self.old.store) (S.durable self.new.store) }
         ensures turn { (d : Durable) → S.durable self.old.store ≡ Some d
-            → IdlesOrStops self.old.memory d (S.state self.old.store)
+            → IdlesOrStops settling self.old.plan self.old.memory d (S.state self.old.store)
             (S.durable self.new.store) (S.state self.new.store) (S.may self.new.store) self.new.memory result }
-        ensures posts { IfOk result (λ did. did.posts ≡ []) }
         ensures native { says stop_foreign result ≡ false }
+        ensures posts { IfOk result (λ did. PostsInForm self.old.plan.targets self.old.memory.leader self.new.memory.leader did.posts) }
     {
-        let _settling = settling;
-        idle_work(self.alloc, &mut self.store, &mut self.knows)
+        idle_work(
+            self.alloc,
+            self.plan,
+            &mut self.store,
+            &mut self.knows,
+            settling,
+        )
     }
 
-    /// Whether it has idle work: attempts that it decided aren't settled. A settling phase adds none so
-    /// far.
+    /// Whether it has idle work: attempts that it decided aren't settled, another member is to be told of
+    /// a commit, or, in the settling phase, a leader is to be asked.
     pub fn has_idle(&self, settling: bool) -> bool
-        ensures { result ≡ not (length self.now.memory.decided == 0) }
+        requires running { (S.state self.now.store).stopped ≡ false }
+        ensures { (d : Durable) → S.durable self.now.store ≡ Some d → result ≡ has_idle settling self.now.plan self.now.memory d }
     {
-        let _settling = settling;
-        !self.knows.decided.is_empty()
+        has_idle_work(self.plan, &self.store, &self.knows, settling)
     }
 
     /// The store and the clock; what the target knows is gone.

@@ -1,0 +1,21 @@
+-- What is posted has its form.
+use Rattle.std.proofs.Common.{ℕ, ◌≡◌, [], ap, subst, sym, List, Result, Ok, Err}
+use Rattle.std.specs.Prelude.{IfOk}
+use Rattle.daos_base.specs.declared.entry.Entry.{Entry}
+use Rattle.daos_messages.specs.declared.message.Post.{Post}
+use Rattle.dtx_base.specs.declared.leading.LeaderMemory.{LeaderMemory}
+use Rattle.dtx_base.specs.Joining.{MemberOf, inquired, member_step}
+use Rattle.target_parts.specs.declared.stop.TargetStop.{TargetStop}
+use Rattle.world_base.specs.declared.did.Did.{Did}
+use Rattle.world_posts.specs.Forms.{PostsInForm, TargetPosts}
+use Rattle.world_posts.specs.Posting.{goes-on, inquiries-are-in-form}
+
+-- the Queries of idle work
+pub inquired-posts : (targets : ℕ) (es : List Entry) (s new : MemberOf) (posts : List Post) → member_step new (record { posts = posts; again = [] }) ≡ inquired es s → TargetPosts targets posts
+inquired-posts targets es s new posts is = subst (TargetPosts targets) (sym (ap (λ z. z.freed.posts) is)) (inquiries-are-in-form targets es s)
+
+-- what idle work ends with, after what it settles
+pub settled-posts : (targets : ℕ) (old mid new : LeaderMemory) (result : Result Did TargetStop) → mid.undecided ≡ old.undecided → IfOk result (λ did. PostsInForm targets mid new did.posts)
+    → IfOk result (λ did. PostsInForm targets old new did.posts)
+settled-posts targets old mid new (Ok did) same k = goes-on targets old mid new did.posts same k
+settled-posts targets old mid new (Err stop) same k = k

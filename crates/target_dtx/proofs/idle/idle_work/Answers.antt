@@ -1,0 +1,23 @@
+use Rattle.std.proofs.Common.{ap}
+use Rattle.target_parts.specs.Knowing.{memory_of}
+use Rattle.target_parts.specs.KnowsLaws.{memory-beside, own-beside}
+use Rattle.target_parts.specs.Parts.{kept}
+use Rattle.target_dtx.proofs.Idling.{idles-told}
+use Rattle.target_dtx.proofs.Posting.{settled-posts}
+use Rattle.target_dtx.proofs.idle.idle_work.Goals as goal
+
+pub returns-in-Err-clause-own : goal.returns-in-Err-clause-own
+returns-in-Err-clause-own g c = own-beside c.args.plan c.args.knows.now c.settle_all.new.knows c.in-Err.ensures.beside c.requires.own
+
+pub tell-requires-clause-own : goal.tell-requires-clause-own
+tell-requires-clause-own g c = own-beside c.args.plan c.args.knows.now c.settle_all.new.knows c.in_default.ensures.beside c.requires.own
+
+pub returns-clause-turn : goal.returns-clause-turn
+returns-clause-turn g c d at =
+    idles-told c.args.settling c.args.plan (memory_of c.args.knows.now) (memory_of c.settle_all.new.knows) (memory_of c.tell.new.knows) (kept d (g.S.Store.state c.args.store.now)) (g.S.Store.state c.settle_all.new.store)
+    (g.S.Store.durable c.settle_all.new.store) (g.S.Store.may c.settle_all.new.store) c.tell.result (memory-beside c.args.knows.now c.settle_all.new.knows _ c.in_default.ensures.beside c.in_default.ensures.leader)
+    (c.in_default.ensures.settled d at) c.tell.ensures.memory c.tell.ensures.told c.tell.ensures.wanting
+
+pub returns-clause-posts : goal.returns-clause-posts
+returns-clause-posts g c =
+    settled-posts c.args.plan.targets c.args.knows.now.leader c.settle_all.new.knows.leader c.tell.new.knows.leader c.tell.result (ap (λ m. m.undecided) c.in_default.ensures.leader) c.tell.ensures.posts

@@ -1,0 +1,36 @@
+use Rattle.std.proofs.Common.{◌∙◌, ap, refl, subst, sym}
+use Rattle.dtx_base.specs.Leading.{batched}
+use Rattle.dtx_posts.specs.Seats.{leader_of}
+use Rattle.target_dtx.proofs.Telling.{asks-leave, batch-named, leads-told, nothing-asked, own-told}
+use Rattle.world_posts.specs.Forms.{PostsInForm}
+use Rattle.world_posts.specs.Posting.{and-more, batches-post-in-form, posted-by}
+use Rattle.target_dtx.proofs.idle.tell.Goals as goal
+
+pub returns-in_err-asks-clause-leads : goal.returns-in_err-asks-clause-leads
+returns-in_err-asks-clause-leads g c d at =
+    leads-told c.args.plan c.args.knows.now (record c.args.knows.now { leader = c.batch.new.self; member = c.inquiries.new.member }) refl (nothing-asked c.args.knows.now.member c.inquiries.new.member c.in_err-asks.ensures.kept) d _ (batch-named (leader_of c.seat_of-seat.result c.deref.result.now c.args.knows.now.leader) c.batch.new.self c.in_ok-posts.posts c.in_ok-posts.ensures.ok) refl (c.requires.leads d at)
+
+pub returns-in_err-asks-clause-own : goal.returns-in_err-asks-clause-own
+returns-in_err-asks-clause-own g c = own-told c.args.plan c.args.knows.now (record c.args.knows.now { leader = c.batch.new.self; member = c.inquiries.new.member }) refl (nothing-asked c.args.knows.now.member c.inquiries.new.member c.in_err-asks.ensures.kept) c.requires.own
+
+pub returns-in_err-push_all-clause-leads : goal.returns-in_err-push_all-clause-leads
+returns-in_err-push_all-clause-leads g c d at =
+    leads-told c.args.plan c.args.knows.now (record c.args.knows.now { leader = c.batch.new.self; member = c.inquiries.new.member }) refl (asks-leave c.args.settling c.deref-2.result.now c.args.knows.now.member c.inquiries.new.member _ c.in_ok-asks.ensures.asked) d _ (batch-named (leader_of c.seat_of-seat.result c.deref.result.now c.args.knows.now.leader) c.batch.new.self c.in_ok-posts.posts c.in_ok-posts.ensures.ok) refl (c.requires.leads d at)
+
+pub returns-in_err-push_all-clause-own : goal.returns-in_err-push_all-clause-own
+returns-in_err-push_all-clause-own g c = own-told c.args.plan c.args.knows.now (record c.args.knows.now { leader = c.batch.new.self; member = c.inquiries.new.member }) refl (asks-leave c.args.settling c.deref-2.result.now c.args.knows.now.member c.inquiries.new.member _ c.in_ok-asks.ensures.asked) c.requires.own
+
+pub returns-clause-leads : goal.returns-clause-leads
+returns-clause-leads g c d at =
+    leads-told c.args.plan c.args.knows.now (record c.args.knows.now { leader = c.batch.new.self; member = c.inquiries.new.member }) refl (asks-leave c.args.settling c.deref-2.result.now c.args.knows.now.member c.inquiries.new.member _ c.in_ok-asks.ensures.asked) d _ (batch-named (leader_of c.seat_of-seat.result c.deref.result.now c.args.knows.now.leader) c.batch.new.self c.in_ok-posts.posts c.in_ok-posts.ensures.ok) refl (c.requires.leads d at)
+
+pub returns-clause-own : goal.returns-clause-own
+returns-clause-own g c = own-told c.args.plan c.args.knows.now (record c.args.knows.now { leader = c.batch.new.self; member = c.inquiries.new.member }) refl (asks-leave c.args.settling c.deref-2.result.now c.args.knows.now.member c.inquiries.new.member _ c.in_ok-asks.ensures.asked) c.requires.own
+
+pub returns-clause-posts : goal.returns-clause-posts
+returns-clause-posts g c =
+    let leader = leader_of c.seat_of-seat.result c.deref.result.now c.args.knows.now.leader in
+    subst (PostsInForm c.args.plan.targets c.args.knows.now.leader c.batch.new.self) (sym (ap (λ did. did.posts) c.sends.ensures ∙ c.in_ok-push_all.ensures))
+    (and-more c.args.plan.targets c.args.knows.now.leader c.batch.new.self c.in_ok-posts.posts c.in_ok-asks.asks
+    (posted-by c.args.plan.targets (batched leader) c.args.knows.now.leader c.batch.new.self c.batch.new.self c.in_ok-posts.posts c.in_ok-posts.posts (batches-post-in-form c.args.plan.targets leader) c.in_ok-posts.ensures.ok refl refl)
+    (c.in_ok-asks.ensures.posts c.args.plan.targets))

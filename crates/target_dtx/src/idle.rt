@@ -1,0 +1,139 @@
+// A target does its idle work.
+ghost use Rattle.std.specs.Prelude.{◌≡◌, ℕ, [], IfOk, IfErr, OnOk, OnErr, Some, false};
+ghost use Rattle.std.specs.Option.{ForSome};
+ghost use Rattle.daos_model.specs.declared.durable.Durable.{Durable};
+ghost use Rattle.dtx_base.specs.Joining.{member_step};
+ghost use Rattle.vos_store.specs.Refusals.{always_stop, says};
+ghost use Rattle.world_turns.specs.Idle.{IdleEnds, IdleNext, has_idle, idle_memory, idle_told};
+ghost use Rattle.world_turns.specs.Turns.{Whole};
+ghost use Rattle.world_posts.specs.Forms.{PostsInForm, TargetPosts};
+ghost use Rattle.target_parts.specs.Knowing.{IsBeside, IsOwn, LeadsWell, memory_of};
+ghost use Rattle.target_parts.specs.Parts.{Runs, kept};
+ghost use Rattle.target_parts.specs.Stops.{Turn, stop_foreign, stop_memory, stop_store};
+ghost use Rattle.target_dtx.specs.Dtx.{GoesThrough, asks_if, never};
+
+use daos_base::entry::Entry;
+use daos_base::items::Items;
+use daos_messages::message::Posts;
+use dtx_member::member::Member;
+use std::alloc::Global;
+use target_parts::halt::Halt;
+use target_parts::kept::{seat_of, settle_decided};
+use target_parts::knows::Knows;
+use target_parts::stop::{TargetStop, stop_of};
+use target_parts::telling::{push_all, sends};
+use vos_store::refusal::Stopped;
+use vos_store::store::Store;
+use world_base::did::Did;
+use world_base::target::TargetPlan;
+
+// Settles the decided attempts, in their order.
+fn settle_all<S: Store>(store: &mut S, plan: TargetPlan, knows: &mut Knows) -> Result<(), Stopped>
+    requires running { (S.state store.old).stopped ≡ false }
+    requires leads { ForSome (S.durable store.old) (LeadsWell plan (memory_of knows.old) knows.old.entries.items) }
+    ensures runs { Runs always_stop result (S.state store.old) (S.state store.new) (S.durable store.old) (S.durable store.new) }
+    ensures settled { (d : Durable) → S.durable store.old ≡ Some d
+        → GoesThrough IdleNext knows.old.leader.decided d (S.state store.old) (S.durable store.new) (S.state store.new) (S.may store.new) result }
+    ensures beside { IsBeside knows.old knows.new }
+    ensures leader { OnOk result (knows.new.leader ≡ record knows.old.leader { decided = [] }) }
+    ensures leads { OnOk result (ForSome (S.durable store.new) (LeadsWell plan (memory_of knows.new) knows.new.entries.items)) }
+{
+    while !knows.leader.decided().is_empty() {
+        let attempt = knows.leader.decided()[0];
+        settle_decided(store, plan, knows, attempt)?;
+    }
+    Ok(())
+}
+
+// The Queries of the settling phase.
+fn inquiries(
+    alloc: Global,
+    member: &mut Member,
+    entries: &[Entry],
+    settling: bool,
+) -> Result<Posts, TargetStop>
+    ensures asked { IfOk result (λ posts. member_step member.new (record { posts = posts; again = [] }) ≡ asks_if settling entries.now member.old) }
+    ensures wanting { IfErr result (λ stop. stop ≡ stop_memory) }
+    ensures kept { OnErr result (member.new ≡ member.old) }
+    ensures posts { (targets : ℕ) → IfOk result (λ posts. TargetPosts targets posts) }
+{
+    if !settling {
+        return Ok(Items::new(alloc));
+    }
+    Ok(member.inquire(entries)?)
+}
+
+// What it tells and asks, once all that it decided is settled.
+fn tell<S: Store>(
+    alloc: Global,
+    plan: TargetPlan,
+    store: &S,
+    knows: &mut Knows,
+    settling: bool,
+) -> Result<Did, TargetStop>
+    requires running { (S.state store.now).stopped ≡ false }
+    requires own { IsOwn plan knows.old }
+    requires leads { ForSome (S.durable store.now) (LeadsWell plan (memory_of knows.old) knows.old.entries.items) }
+    requires settled { knows.old.leader.decided ≡ [] }
+    ensures memory { ForSome (S.durable store.now) (λ d. OnOk result (memory_of knows.new ≡ idle_memory settling plan (memory_of knows.old) d)) }
+    ensures told { ForSome (S.durable store.now) (λ d. IfOk result (λ did. did ≡ idle_told settling plan (memory_of knows.old) d)) }
+    ensures wanting { IfErr result (λ stop. stop ≡ stop_memory) }
+    ensures leads { ForSome (S.durable store.now) (LeadsWell plan (memory_of knows.new) knows.new.entries.items) }
+    ensures own { IsOwn plan knows.new }
+    ensures posts { IfOk result (λ did. PostsInForm plan.targets knows.old.leader knows.new.leader did.posts) }
+{
+    let seat = seat_of(plan, store);
+    let mut posts = knows.leader.batch(seat, &knows.entries)?;
+    let asks = inquiries(alloc, &mut knows.member, &knows.entries, settling)?;
+    push_all(&mut posts, asks)?;
+    Ok(sends(alloc, posts, None))
+}
+
+/// It settles the attempts that it decided, tells the other members of what is committed, and in the
+/// settling phase asks other leaders what became of what is prepared here.
+///
+/// # Errors
+///
+/// `Store` where the store stopped, and then the turn was cut short; else for want of memory.
+pub fn idle_work<S: Store>(
+    alloc: Global,
+    plan: TargetPlan,
+    store: &mut S,
+    knows: &mut Knows,
+    settling: bool,
+) -> Result<Did, TargetStop>
+    requires running { (S.state store.old).stopped ≡ false }
+    requires own { IsOwn plan knows.old }
+    requires leads { ForSome (S.durable store.old) (LeadsWell plan (memory_of knows.old) knows.old.entries.items) }
+    ensures runs { Runs stop_store result (S.state store.old) (S.state store.new) (S.durable store.old) (S.durable store.new) }
+    ensures turn { (d : Durable) → S.durable store.old ≡ Some d
+        → Turn IdleNext never knows.old.leader.decided (kept d (S.state store.old))
+        (λ did l. Whole IdleNext (IdleEnds settling plan (memory_of knows.old)) knows.old.leader.decided (kept d (S.state store.old)) l (memory_of knows.new, did))
+        (S.durable store.new) (S.state store.new) (S.may store.new) result }
+    ensures leads { says stop_store result ≡ false → ForSome (S.durable store.new) (LeadsWell plan (memory_of knows.new) knows.new.entries.items) }
+    ensures own { IsOwn plan knows.new }
+    ensures native { says stop_foreign result ≡ false }
+    ensures posts { IfOk result (λ did. PostsInForm plan.targets knows.old.leader knows.new.leader did.posts) }
+{
+    if let Err(Stopped) = settle_all(store, plan, knows) {
+        return Err(stop_of(alloc, Halt::Stopped, None));
+    }
+    tell(alloc, plan, store, knows, settling)
+}
+
+/// Whether there is idle work: an attempt that it decided isn't settled, another member is to be told of
+/// a commit, or, in the settling phase, a leader is to be asked.
+pub fn has_idle_work<S: Store>(plan: TargetPlan, store: &S, knows: &Knows, settling: bool) -> bool
+    requires running { (S.state store.now).stopped ≡ false }
+    requires own { IsOwn plan knows.now }
+    requires leads { ForSome (S.durable store.now) (LeadsWell plan (memory_of knows.now) knows.now.entries.items) }
+    ensures { (d : Durable) → S.durable store.now ≡ Some d → result ≡ has_idle settling plan (memory_of knows.now) d }
+{
+    if !knows.leader.decided().is_empty() {
+        return true;
+    }
+    if knows.leader.has_batch(seat_of(plan, store), &knows.entries) {
+        return true;
+    }
+    settling && knows.member.has_inquiry(&knows.entries)
+}

@@ -1,0 +1,59 @@
+// A leader hears a Query.
+ghost use Rattle.std.specs.Prelude.{◌≡◌, IfOk, Some, false};
+ghost use Rattle.std.specs.Option.{ForSome};
+ghost use Rattle.daos_model.specs.declared.durable.Durable.{Durable};
+ghost use Rattle.vos_store.specs.Refusals.{says};
+ghost use Rattle.world_turns.specs.Turns.{Whole};
+ghost use Rattle.world_turns.specs.Verdicts.{QueryEnds, QueryNext, QueryStage};
+ghost use Rattle.world_posts.specs.Forms.{TargetPosts};
+ghost use Rattle.target_parts.specs.Knowing.{LeadsWell, memory_of};
+ghost use Rattle.target_parts.specs.Parts.{kept};
+ghost use Rattle.target_parts.specs.Stops.{Turn, stop_foreign, stop_store};
+ghost use Rattle.target_dtx.specs.Dtx.{never};
+
+use daos_base::id::AttemptId;
+use daos_messages::actor::ActorId;
+use daos_messages::message::Message;
+use std::alloc::Global;
+use target_parts::kept::seat_of;
+use target_parts::knows::Knows;
+use target_parts::stop::TargetStop;
+use target_parts::telling::says;
+use vos_store::store::Store;
+use world_base::did::Did;
+use world_base::target::TargetPlan;
+
+/// It hears a Query, and answers what it knows of the attempt.
+///
+/// # Errors
+///
+/// For want of memory alone.
+pub fn hear_query<S: Store>(
+    alloc: Global,
+    plan: TargetPlan,
+    store: &S,
+    knows: &Knows,
+    from: ActorId,
+    attempt: AttemptId,
+    ask: Option<AttemptId>,
+) -> Result<Did, TargetStop>
+    requires running { (S.state store.now).stopped ≡ false }
+    requires leads { ForSome (S.durable store.now) (LeadsWell plan (memory_of knows.now) knows.now.entries.items) }
+    ensures turn { (d : Durable) → S.durable store.now ≡ Some d
+        → Turn QueryNext never QueryStage.IsAsked (kept d (S.state store.now))
+        (λ did l. Whole QueryNext (QueryEnds plan (memory_of knows.now) from attempt ask) QueryStage.IsAsked (kept d (S.state store.now)) l (memory_of knows.now, did))
+        (S.durable store.now) (S.state store.now) (S.may store.now) result }
+    ensures whole { says stop_store result ≡ false }
+    ensures native { says stop_foreign result ≡ false }
+    ensures posts { from.client ≡ false → IfOk result (λ did. TargetPosts plan.targets did.posts) }
+{
+    let seat = seat_of(plan, store);
+    let verdict = knows.leader.answer_query(seat, &knows.entries, attempt);
+    let answer = Message::Verdict {
+        attempt,
+        ask,
+        inc: seat.incarnation,
+        verdict,
+    };
+    says(alloc, from, answer, None)
+}

@@ -1,0 +1,2 @@
+mod OwnEpochs
+mod Prepared

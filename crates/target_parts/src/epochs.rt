@@ -1,0 +1,93 @@
+// The epoch of a request, and the lease that covers it.
+ghost use Rattle.std.specs.Prelude.{◌≡◌, ◌^◌, ◌<◌, ◌/◌, ℕ, IfOk, IfSome, Some, is_some, true, false};
+ghost use Rattle.daos_model.specs.declared.durable.Durable.{Durable};
+ghost use Rattle.vos_store.specs.Refusals.{always_stop};
+ghost use Rattle.target_parts.specs.Covers.{CoversOrCut, ReadiesOrCut, epoch_for, heard_of};
+ghost use Rattle.target_parts.specs.Parts.{Runs};
+
+use daos_base::epoch::Epoch;
+use daos_hlc::clock::Hlc;
+use daos_hlc::lease::lease_for;
+use daos_outside::clock::Clock;
+use vos_store::refusal::Stopped;
+use vos_store::store::Store;
+
+/// The epoch of a request: its own, which is heard, or one that is issued at the clock's reading. None
+/// where no ticks are left. The clock is read only where an epoch is issued.
+pub fn request_epoch<C: Clock>(
+    clock: &mut C,
+    hlc: &mut Hlc,
+    tracker: Epoch,
+    ep: Option<Epoch>,
+) -> Option<Epoch>
+    ensures epoch { (reading : ℕ) × IfSome (C.next clock.old) (λ r. r ≡ reading) × (result ≡ epoch_for hlc.old reading tracker ep) }
+    ensures heard { hlc.new ≡ heard_of result hlc.old }
+    ensures unread { is_some ep ≡ true → clock.new ≡ clock.old }
+{
+    match ep {
+        Some(epoch) => {
+            hlc.hear(epoch);
+            Some(epoch)
+        }
+        None => hlc.issue(clock.now(), tracker).ok(),
+    }
+}
+
+/// Extends the lease where it doesn't cover the ticks.
+pub fn cover<S: Store>(store: &mut S, ticks: u64) -> Result<(), Stopped>
+    requires ticks { ticks < 2 ^ 56 }
+    requires running { (S.state store.old).stopped ≡ false }
+    ensures runs { Runs always_stop result (S.state store.old) (S.state store.new) (S.durable store.old) (S.durable store.new) }
+    ensures covered { (d : Durable) → S.durable store.old ≡ Some d
+        → CoversOrCut ticks d (S.state store.old) (S.durable store.new) (S.state store.new) (S.may store.new) result }
+{
+    match lease_for(ticks) {
+        Some(lease) if store.lease() < ticks => store.extend_lease(lease),
+        _ => Ok(()),
+    }
+}
+
+/// The epoch of a request, issued or heard, which the lease then covers; none where no ticks are left.
+///
+/// # Errors
+///
+/// `Stopped` where the store stopped.
+pub fn ready<S: Store, C: Clock>(
+    store: &mut S,
+    clock: &mut C,
+    hlc: &mut Hlc,
+    tracker: Epoch,
+    ep: Option<Epoch>,
+) -> Result<Option<Epoch>, Stopped>
+    requires running { (S.state store.old).stopped ≡ false }
+    ensures runs { Runs always_stop result (S.state store.old) (S.state store.new) (S.durable store.old) (S.durable store.new) }
+    ensures ready { (reading : ℕ) × IfSome (C.next clock.old) (λ r. r ≡ reading) × ((d : Durable) → S.durable store.old ≡ Some d
+        → ReadiesOrCut (epoch_for hlc.old reading tracker ep) d (S.state store.old) (S.durable store.new) (S.state store.new) (S.may store.new) result) }
+    ensures heard { IfOk result (λ epoch. hlc.new ≡ heard_of epoch hlc.old) }
+    ensures own { hlc.new.target ≡ hlc.old.target }
+    ensures unread { is_some ep ≡ true → clock.new ≡ clock.old }
+{
+    match request_epoch(clock, hlc, tracker, ep) {
+        Some(epoch) => {
+            cover(store, epoch.ticks())?;
+            Ok(Some(epoch))
+        }
+        None => Ok(None),
+    }
+}
+
+/// An epoch is heard of, which the lease then covers.
+///
+/// # Errors
+///
+/// `Stopped` where the store stopped.
+pub fn hear<S: Store>(store: &mut S, hlc: &mut Hlc, epoch: Epoch) -> Result<(), Stopped>
+    requires running { (S.state store.old).stopped ≡ false }
+    ensures runs { Runs always_stop result (S.state store.old) (S.state store.new) (S.durable store.old) (S.durable store.new) }
+    ensures covered { (d : Durable) → S.durable store.old ≡ Some d
+        → CoversOrCut (epoch.0 / 256) d (S.state store.old) (S.durable store.new) (S.state store.new) (S.may store.new) result }
+    ensures heard { hlc.new ≡ heard_of (Some epoch) hlc.old }
+{
+    hlc.hear(epoch);
+    cover(store, epoch.ticks())
+}

@@ -1,0 +1,147 @@
+// The entries that a store keeps, as a target knows them, and the steps of attempts.
+ghost use Rattle.std.specs.Prelude.{◌≡◌, OnOk, Some, false};
+ghost use Rattle.std.specs.Option.{ForSome};
+ghost use Rattle.daos_base.specs.declared.entry.Settle.TheVariants as settle;
+ghost use Rattle.daos_laws.specs.Members.{Has};
+ghost use Rattle.daos_model.specs.declared.durable.Durable.{Durable};
+ghost use Rattle.dtx_base.specs.Rows.{itself, without_row};
+ghost use Rattle.dtx_table.specs.Tables.{entries_settled, entry_in};
+ghost use Rattle.vos_store.specs.Conditions.{CanSettle, IsStep};
+ghost use Rattle.vos_store.specs.Refusals.{always_stop};
+ghost use Rattle.world_turns.specs.Changes.{Settles};
+ghost use Rattle.world_turns.specs.Roles.{is_open_entry, is_prepared, other_leader_of};
+ghost use Rattle.target_parts.specs.Keeping.{IsEnding, MadeIf, MadeOrCut};
+ghost use Rattle.target_parts.specs.Knowing.{IsApart, IsBeside, LeadsWell, memory_of};
+ghost use Rattle.target_parts.specs.Parts.{Runs};
+
+use crate::knows::Knows;
+use daos_base::entry::{Entry, Settle};
+use daos_base::epoch::TargetId;
+use daos_base::id::AttemptId;
+use dtx_posts::seat::Seat;
+use dtx_table::rows::find;
+use dtx_table::table::settle_rows;
+use vos_store::refusal::Stopped;
+use vos_store::store::Store;
+use world_base::target::TargetPlan;
+
+/// A step of an attempt, in the store and among the entries that are known.
+///
+/// # Errors
+///
+/// `Stopped` where the store stopped.
+pub fn settle<S: Store>(
+    store: &mut S,
+    entries: &mut Vec<Entry>,
+    attempt: AttemptId,
+    step: Settle,
+) -> Result<(), Stopped>
+    requires step { IsStep step }
+    requires running { (S.state store.old).stopped ≡ false }
+    requires can { ForSome (S.durable store.old) (CanSettle attempt step) }
+    ensures runs { Runs always_stop result (S.state store.old) (S.state store.new) (S.durable store.old) (S.durable store.new) }
+    ensures made { (d : Durable) → S.durable store.old ≡ Some d
+        → MadeOrCut (Settles attempt step) d (S.state store.old) (S.durable store.new) (S.state store.new) (S.may store.new) result }
+    ensures entries { OnOk result (entries.new.items ≡ entries_settled attempt step entries.old.items) }
+{
+    store.settle(attempt, step)?;
+    settle_rows(entries, attempt, step);
+    Ok(())
+}
+
+/// Whether an attempt is prepared here: it has an entry that isn't committed.
+pub fn is_prepared(entries: &[Entry], attempt: AttemptId) -> bool
+    ensures { result ≡ is_open_entry (entry_in entries.now attempt) }
+{
+    match find(entries, attempt) {
+        None => false,
+        Some(entry) => !entry.committed,
+    }
+}
+
+/// The other target that leads an attempt which has an entry here.
+pub fn other_leader(me: TargetId, entries: &[Entry], attempt: AttemptId) -> Option<TargetId>
+    ensures { result ≡ other_leader_of me (entry_in entries.now attempt) }
+{
+    match find(entries, attempt) {
+        None => None,
+        Some(entry) => {
+            if entry.leader == me {
+                None
+            } else {
+                Some(entry.leader)
+            }
+        }
+    }
+}
+
+/// Where a target is as a leader.
+pub fn seat_of<S: Store>(plan: TargetPlan, store: &S) -> Seat
+    requires running { (S.state store.now).stopped ≡ false }
+    ensures me { result.me ≡ plan.me }
+    ensures targets { result.targets ≡ plan.targets }
+    ensures incarnation { ForSome (S.durable store.now) (λ d. result.incarnation ≡ d.incarnation) }
+{
+    Seat {
+        me: plan.me,
+        targets: plan.targets,
+        incarnation: store.incarnation(),
+    }
+}
+
+/// A decided attempt is committed in the store, and then is no more among those that are to be settled.
+///
+/// # Errors
+///
+/// `Stopped` where the store stopped.
+pub fn settle_decided<S: Store>(
+    store: &mut S,
+    plan: TargetPlan,
+    knows: &mut Knows,
+    attempt: AttemptId,
+) -> Result<(), Stopped>
+    requires running { (S.state store.old).stopped ≡ false }
+    requires decided { Has attempt knows.old.leader.decided }
+    requires leads { ForSome (S.durable store.old) (LeadsWell plan (memory_of knows.old) knows.old.entries.items) }
+    ensures runs { Runs always_stop result (S.state store.old) (S.state store.new) (S.durable store.old) (S.durable store.new) }
+    ensures made { (d : Durable) → S.durable store.old ≡ Some d
+        → MadeOrCut (Settles attempt settle.Commit) d (S.state store.old) (S.durable store.new) (S.state store.new) (S.may store.new) result }
+    ensures beside { IsBeside knows.old knows.new }
+    ensures leader { OnOk result (knows.new.leader ≡ record knows.old.leader { decided = without_row itself attempt knows.old.leader.decided }) }
+    ensures leads { OnOk result (ForSome (S.durable store.new) (LeadsWell plan (memory_of knows.new) knows.new.entries.items)) }
+{
+    let _plan = plan;
+    settle(store, &mut knows.entries, attempt, Settle::Commit)?;
+    knows.leader.settled(attempt);
+    Ok(())
+}
+
+/// An attempt that another target leads is committed or aborted, where it is still prepared here.
+///
+/// # Errors
+///
+/// `Stopped` where the store stopped.
+pub fn settle_prepared<S: Store>(
+    store: &mut S,
+    plan: TargetPlan,
+    knows: &mut Knows,
+    attempt: AttemptId,
+    step: Settle,
+) -> Result<(), Stopped>
+    requires step { IsEnding step }
+    requires running { (S.state store.old).stopped ≡ false }
+    requires apart { ForSome (S.durable store.old) (λ _. IsApart attempt knows.old.leader) }
+    requires leads { ForSome (S.durable store.old) (LeadsWell plan (memory_of knows.old) knows.old.entries.items) }
+    ensures runs { Runs always_stop result (S.state store.old) (S.state store.new) (S.durable store.old) (S.durable store.new) }
+    ensures made { (d : Durable) → S.durable store.old ≡ Some d
+        → MadeIf (is_prepared attempt d) (Settles attempt step) d (S.state store.old) (S.durable store.new) (S.state store.new) (S.may store.new) result }
+    ensures beside { IsBeside knows.old knows.new }
+    ensures leader { knows.new.leader ≡ knows.old.leader }
+    ensures leads { OnOk result (ForSome (S.durable store.new) (LeadsWell plan (memory_of knows.new) knows.new.entries.items)) }
+{
+    let _plan = plan;
+    if !is_prepared(&knows.entries, attempt) {
+        return Ok(());
+    }
+    settle(store, &mut knows.entries, attempt, step)
+}

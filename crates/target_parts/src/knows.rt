@@ -1,0 +1,17 @@
+// What a target knows until it stops.
+use daos_base::entry::Entry;
+use daos_hlc::clock::Hlc;
+use dtx_leader::leader::Leader;
+use dtx_member::member::Member;
+use vos_stamp::stamps::Stamps;
+
+/// The clock of a target's epochs, the reads that it served, the entries that its store keeps, in the
+/// order of attempts, and what it remembers as a leader and as a member.
+#[derive(Drop)]
+pub struct Knows {
+    pub hlc: Hlc,
+    pub stamps: Stamps,
+    pub entries: Vec<Entry>,
+    pub leader: Leader,
+    pub member: Member,
+}

@@ -1,0 +1,7 @@
+pub mod Fetching
+pub mod Serving
+pub mod Retrying
+pub mod FetchTurns
+pub mod Parking
+pub mod Verdicts
+mod Posting

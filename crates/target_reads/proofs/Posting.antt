@@ -1,0 +1,55 @@
+-- What is posted has its form.
+use Rattle.std.proofs.Common.{ℕ, ◌≡◌, ◌∙◌, ap, refl, subst, sym, true, Option, Result, Ok, Err}
+use Rattle.std.specs.Prelude.{IfOk}
+use Rattle.daos_base.specs.declared.entry.Verdict.{Verdict}
+use Rattle.daos_base.specs.declared.epoch.Epoch.{Epoch}
+use Rattle.daos_base.specs.declared.id.AttemptId.{AttemptId}
+use Rattle.daos_messages.specs.declared.actor.ActorId.{ActorId}
+use Rattle.daos_messages.specs.declared.message.Reply.{Reply}
+use Rattle.dtx_base.specs.declared.leading.LeaderMemory.{LeaderMemory}
+use Rattle.dtx_base.specs.declared.member.Freed.{Freed}
+use Rattle.dtx_base.specs.Joining.{MemberOf, member_step, verdict_heard}
+use Rattle.target_parts.specs.declared.stop.TargetStop.{TargetStop}
+use Rattle.world_base.specs.declared.did.Did.{Did}
+use Rattle.world_base.specs.declared.request.FetchRequest.{FetchRequest}
+use Rattle.world_base.specs.declared.target.TargetMemory.{TargetMemory}
+use Rattle.world_base.specs.declared.target.TargetPlan.{TargetPlan}
+use Rattle.world_turns.specs.Reads.{fetch_at, tells}
+use Rattle.world_posts.specs.Forms.{PostsInForm, TargetPosts}
+use Rattle.world_posts.specs.Posting.{one-posted, queries-are-in-form, to-client, verdicts-post-in-form, waits-on}
+use Rattle.target_reads.specs.declared.reads.Served.{Served}
+use Rattle.target_reads.specs.declared.reads.Served.TheVariants as served
+use Rattle.target_reads.specs.Meets.{told_of}
+
+-- a client is told what its read got
+told-posts : (t : TargetPlan) (q : FetchRequest) (from : ActorId) (e : Epoch) (reply : Reply) → from.client ≡ true → TargetPosts t.targets (tells q from e reply).posts
+told-posts t q from e reply client = one-posted t.targets _ (to-client t.targets from _ client refl)
+
+-- what follows from what a read came to
+served-form : (t : TargetPlan) (q : FetchRequest) (from : ActorId) (e : Epoch) (s : Served) (n : TargetMemory) → from.client ≡ true → TargetPosts t.targets (told_of t q from e s n).1.posts
+served-form t q from e (served.Answer b) n client = told-posts t q from e _ client
+served-form t q from e (served.Refused c) n client = told-posts t q from e _ client
+served-form t q from e (served.Unresolved a) n client = told-posts t q from e _ client
+served-form t q from e (served.Waits a leader) n client = queries-are-in-form t.targets (fetch_at q e) a leader
+
+-- and the same clients wait
+served-waits : (t : TargetPlan) (q : FetchRequest) (from : ActorId) (e : Epoch) (s : Served) (n : TargetMemory) → (told_of t q from e s n).0.leader ≡ n.leader
+served-waits t q from e (served.Answer b) n = refl
+served-waits t q from e (served.Refused c) n = refl
+served-waits t q from e (served.Unresolved a) n = refl
+served-waits t q from e (served.Waits a leader) n = refl
+
+pub served-posts : (t : TargetPlan) (q : FetchRequest) (from : ActorId) (e : Epoch) (s : Served) (old : LeaderMemory) (n left : TargetMemory) (result : Result Did TargetStop) → from.client ≡ true → n.leader.undecided ≡ old.undecided
+    → IfOk result (λ did. (left, did) ≡ told_of t q from e s n) → IfOk result (λ did. PostsInForm t.targets old left.leader did.posts)
+served-posts t q from e s old n left (Ok did) client same told =
+    subst (λ (x : TargetMemory × Did). PostsInForm t.targets old x.0.leader x.1.posts) (sym told)
+    (waits-on t.targets old (told_of t q from e s n).0.leader (told_of t q from e s n).1.posts (ap (λ m. m.undecided) (served-waits t q from e s n) ∙ same) (served-form t q from e s n client))
+served-posts t q from e s old n left (Err stop) client same told = told
+
+-- what a Verdict frees
+pub freed-posts : (targets : ℕ) (a : AttemptId) (ask : Option AttemptId) (v : Verdict) (old new : MemberOf) (freed : Freed) → member_step new freed ≡ verdict_heard a ask v old → TargetPosts targets freed.posts
+freed-posts targets a ask v old new freed is = subst (λ (x : Freed). TargetPosts targets x.posts) (sym (ap (λ s. s.freed) is)) (verdicts-post-in-form targets a ask v old)
+
+-- what follows a settled attempt
+pub later-posts : (targets : ℕ) (old mid new : LeaderMemory) (result : Result Did TargetStop) → mid ≡ old → IfOk result (λ did. PostsInForm targets mid new did.posts) → IfOk result (λ did. PostsInForm targets old new did.posts)
+later-posts targets old mid new result same k = subst (λ m. IfOk result (λ did. PostsInForm targets m new did.posts)) same k

@@ -1,0 +1,102 @@
+use Rattle.std.proofs.Common.{◌≡◌, ◌<◌, Err, arith, inl, inr, length, refl, rules, subst, sym}
+use Rattle.daos_laws.specs.Members.{Has}
+use Rattle.world_turns.specs.Turns.{Reached, Whole}
+use Rattle.world_turns.specs.Verdicts.{Freed, VerdictEnds, VerdictNext}
+use Rattle.target_parts.specs.Ending.{turn_wanting}
+use Rattle.target_parts.specs.Knowing.{memory_of}
+use Rattle.target_parts.specs.Parts.{Now, kept}
+use Rattle.target_parts.specs.Running.{for_some_on, runs_first, runs_on, still_runs}
+use Rattle.target_parts.specs.Stops.{Turn, stop_memory, stop_store}
+use Rattle.target_parts.specs.Turning.{reached_none}
+use Rattle.target_reads.specs.Again.{AreHere, AreParkable, never}
+use Rattle.target_reads.proofs.Verdicts.{first-removed, partway-from, tried-all, tried-here, tried-stops, tried-whole}
+use Rattle.world_posts.specs.Forms.{PostsInForm}
+use Rattle.world_posts.specs.Posting.{then-posts, waits-on}
+use Rattle.target_reads.proofs.again.try_again.Goals as goal
+
+pub loop-plan-init : goal.loop-plan-init
+loop-plan-init g c = record {
+  runs = runs_first _ _ c.requires.running;
+  own = c.requires.own;
+  parkable = subst AreParkable (sym c.into_vec-rest.ensures) c.requires.parkable;
+  here = λ d at. subst (λ xs. AreHere xs d) (sym c.into_vec-rest.ensures) (c.requires.here d at);
+  leads = c.requires.leads;
+  posts = waits-on c.args.plan.targets c.args.knows.now.leader c.args.knows.now.leader c.args.posts refl c.requires.sent;
+  reached = λ d at m reading a ask v. record {
+    durable = d;
+    kept_is = at;
+    holds = subst (λ xs. Reached (VerdictNext c.args.plan m reading a ask v) (Freed c.args.asks (memory_of c.args.knows.now) c.args.posts) (kept d (g.S.Store.state c.args.store.now)) (Freed xs (memory_of c.args.knows.now) c.args.posts) (kept d (g.S.Store.state c.args.store.now)))
+        (sym c.into_vec-rest.ensures) (reached_none _ _ _);
+  };
+}
+
+pub hear_again-requires-clause-parkable : goal.hear_again-requires-clause-parkable
+hear_again-requires-clause-parkable g c =
+    let is = first-removed c.loop-plan.rest.items c.remove.new.self.items c.remove.result (omega (arith, c.loop-plan.rest.ok.0, c.remove.ensures.len)) c.remove.ensures.value c.remove.ensures.items in
+    c.loop-plan.invariant.parkable c.remove.result (subst (Has c.remove.result) (sym is) (inl refl))
+
+pub hear_again-requires-clause-here : goal.hear_again-requires-clause-here
+hear_again-requires-clause-here g c x at =
+    let is = first-removed c.loop-plan.rest.items c.remove.new.self.items c.remove.result (omega (arith, c.loop-plan.rest.ok.0, c.remove.ensures.len)) c.remove.ensures.value c.remove.ensures.items in
+    c.loop-plan.invariant.here x at c.remove.result (subst (Has c.remove.result) (sym is) (inl refl))
+
+pub returns-in_err-did-clause-turn : goal.returns-in_err-did-clause-turn
+returns-in_err-did-clause-turn g c d at m reading a ask v =
+    let removed = first-removed c.loop-plan.rest.items c.remove.new.self.items c.remove.result (omega (arith, c.loop-plan.rest.ok.0, c.remove.ensures.len)) c.remove.ensures.value c.remove.ensures.items in
+    let old = kept d (g.S.Store.state c.args.store.now) in
+    let start = Freed c.args.asks (memory_of c.args.knows.now) c.args.posts in
+    let now = c.loop-plan.invariant.reached d at m reading a ask v in
+    let is : c.from_residual.result ≡ Err c.in_err-did.field-0.0 = search rules in
+    subst (λ r. Turn (VerdictNext c.args.plan m reading a ask v) never start old (λ did l. Whole (VerdictNext c.args.plan m reading a ask v) VerdictEnds start old l (memory_of c.hear_again.new.knows, did)) (g.S.Store.durable c.hear_again.new.store) (g.S.Store.state c.hear_again.new.store) (g.S.Store.may c.hear_again.new.store) r)
+    (sym is)
+    (tried-stops c.args.plan m reading a ask v start old (memory_of c.loop-plan.knows) c.remove.result c.loop-plan.rest.items c.remove.new.self.items c.loop-plan.posts now.durable (g.S.Store.state c.loop-plan.store) (g.S.Store.state c.hear_again.new.store)
+    (g.S.Store.durable c.hear_again.new.store) (g.S.Store.may c.hear_again.new.store) (memory_of c.hear_again.new.knows) removed now.holds (λ did l. Whole (VerdictNext c.args.plan m reading a ask v) VerdictEnds start old l (memory_of c.hear_again.new.knows, did)) c.in_err-did.field-0.0 (c.in_err-did.ensures.turn now.durable now.kept_is reading))
+
+pub returns-in_err-push_all-clause-turn : goal.returns-in_err-push_all-clause-turn
+returns-in_err-push_all-clause-turn g c d at m reading a ask v =
+    let removed = first-removed c.loop-plan.rest.items c.remove.new.self.items c.remove.result (omega (arith, c.loop-plan.rest.ok.0, c.remove.ensures.len)) c.remove.ensures.value c.remove.ensures.items in
+    let old = kept d (g.S.Store.state c.args.store.now) in
+    let start = Freed c.args.asks (memory_of c.args.knows.now) c.args.posts in
+    let now = c.loop-plan.invariant.reached d at m reading a ask v in
+    let is : c.from_residual-in_err-push_all.result ≡ Err stop_memory = search rules in
+    turn_wanting (VerdictNext c.args.plan m reading a ask v) never start old (g.S.Store.durable c.hear_again.new.store) (g.S.Store.state c.hear_again.new.store) (g.S.Store.may c.hear_again.new.store)
+    (λ did l. Whole (VerdictNext c.args.plan m reading a ask v) VerdictEnds start old l (memory_of c.hear_again.new.knows, did)) _ is
+    (partway-from c.args.plan m reading a ask v start old _ (g.S.Store.state c.hear_again.new.store) (g.S.Store.durable c.hear_again.new.store)
+    (tried-whole c.args.plan m reading a ask v start old (memory_of c.loop-plan.knows) c.remove.result c.loop-plan.rest.items c.remove.new.self.items c.loop-plan.posts now.durable (g.S.Store.state c.loop-plan.store) (g.S.Store.state c.hear_again.new.store)
+    (g.S.Store.durable c.hear_again.new.store) (g.S.Store.may c.hear_again.new.store) (memory_of c.hear_again.new.knows) removed now.holds c.in_ok-did.did (c.in_ok-did.ensures.turn now.durable now.kept_is reading)))
+
+pub loop-plan-smaller : goal.loop-plan-smaller
+loop-plan-smaller g c =
+    let is = first-removed c.loop-plan.rest.items c.remove.new.self.items c.remove.result (omega (arith, c.loop-plan.rest.ok.0, c.remove.ensures.len)) c.remove.ensures.value c.remove.ensures.items in
+    subst (λ xs. length c.remove.new.self.items < length xs) (sym is) (omega arith)
+
+pub loop-plan-preserved : goal.loop-plan-preserved
+loop-plan-preserved g c =
+    let removed = first-removed c.loop-plan.rest.items c.remove.new.self.items c.remove.result (omega (arith, c.loop-plan.rest.ok.0, c.remove.ensures.len)) c.remove.ensures.value c.remove.ensures.items in
+    let inv = c.loop-plan.invariant in
+    let one = c.in_ok-did.ensures in
+    record {
+      runs = still_runs stop_store _ _ _ _ _ refl (runs_on stop_store _ _ _ _ _ _ _ inv.runs one.runs);
+      own = one.own;
+      parkable = λ x i. inv.parkable x (subst (Has x) (sym removed) (inr i));
+      here = for_some_on (g.S.Store.durable c.loop-plan.store) _ (AreHere c.remove.new.self.items) one.runs.told (λ d at.
+          tried-here c.args.plan (memory_of c.loop-plan.knows) 0 c.remove.result c.loop-plan.rest.items c.remove.new.self.items d (g.S.Store.state c.loop-plan.store) (g.S.Store.state c.hear_again.new.store) (g.S.Store.durable c.hear_again.new.store)
+          (g.S.Store.may c.hear_again.new.store) (memory_of c.hear_again.new.knows) c.in_ok-did.did removed (one.turn d at 0) (inv.here d at));
+      leads = one.leads refl;
+      posts = subst (PostsInForm c.args.plan.targets c.args.knows.now.leader c.hear_again.new.knows.leader) (sym c.in_ok-push_all.ensures)
+          (then-posts c.args.plan.targets c.args.knows.now.leader c.loop-plan.knows.leader c.hear_again.new.knows.leader c.loop-plan.posts c.in_ok-did.did.posts inv.posts one.posts);
+      reached = λ d at m reading a ask v.
+          let now = inv.reached d at m reading a ask v in
+          let old = kept d (g.S.Store.state c.args.store.now) in
+          let start = Freed c.args.asks (memory_of c.args.knows.now) c.args.posts in
+          subst (λ posts. Now (g.S.Store.durable c.hear_again.new.store) (g.S.Store.state c.hear_again.new.store) (λ l. Reached (VerdictNext c.args.plan m reading a ask v) start old (Freed c.remove.new.self.items (memory_of c.hear_again.new.knows) posts) l))
+          (sym c.in_ok-push_all.ensures)
+          (tried-whole c.args.plan m reading a ask v start old (memory_of c.loop-plan.knows) c.remove.result c.loop-plan.rest.items c.remove.new.self.items c.loop-plan.posts now.durable (g.S.Store.state c.loop-plan.store) (g.S.Store.state c.hear_again.new.store)
+          (g.S.Store.durable c.hear_again.new.store) (g.S.Store.may c.hear_again.new.store) (memory_of c.hear_again.new.knows) removed now.holds c.in_ok-did.did (one.turn now.durable now.kept_is reading));
+    }
+
+pub returns-clause-turn : goal.returns-clause-turn
+returns-clause-turn g c d at m reading a ask v =
+    let none : length c.loop-plan.rest.items ≡ 0 = search rules in
+    tried-all c.args.plan m reading a ask v _ _ (memory_of c.loop-plan.knows) c.loop-plan.rest.items c.loop-plan.posts (g.S.Store.state c.loop-plan.store) (g.S.Store.durable c.loop-plan.store) c.sends.result none c.sends.ensures
+    (c.loop-plan.invariant.reached d at m reading a ask v)

@@ -1,0 +1,194 @@
+// A target hears a Verdict, and tries those Fetches again that waited for it.
+ghost use Rattle.std.specs.Prelude.{◌≡◌, ℕ, [], IfOk, OnOk, Option, Some, is_some, true, false};
+ghost use Rattle.std.specs.Option.{ForSome};
+ghost use Rattle.daos_base.specs.declared.entry.Verdict.{Verdict as VerdictOf};
+ghost use Rattle.daos_base.specs.declared.id.AttemptId.{AttemptId as Attempt};
+ghost use Rattle.daos_model.specs.declared.durable.Durable.{Durable};
+ghost use Rattle.vos_store.specs.Refusals.{always_stop, says};
+ghost use Rattle.world_base.specs.declared.target.TargetMemory.{TargetMemory};
+ghost use Rattle.world_turns.specs.Verdicts.{VerdictStage, fetcher, settles_by, settling_change};
+ghost use Rattle.world_posts.specs.Forms.{PostsInForm, TargetPosts};
+ghost use Rattle.target_parts.specs.Knowing.{IsApart, IsAskHere, IsBeside, IsOwn, IsParkable, LeadsWell, memory_of};
+ghost use Rattle.target_parts.specs.Parts.{Runs};
+ghost use Rattle.target_parts.specs.Stops.{stop_foreign, stop_store};
+ghost use Rattle.target_reads.specs.Again.{AreHere, AreParkable, MadeSome, TriedTurn, VerdictTurn, message_of};
+
+use crate::fetches::hear_known;
+use daos_base::entry::{Settle, Verdict};
+use daos_base::id::AttemptId;
+use daos_messages::actor::ActorId;
+use daos_messages::message::{Message, Messages, Posts};
+use dtx_base::member::Freed;
+use std::alloc::Global;
+use target_parts::halt::Halt;
+use target_parts::kept::settle_prepared;
+use target_parts::knows::Knows;
+use target_parts::stop::{TargetStop, stop_of};
+use target_parts::telling::{push_all, sends};
+use vos_store::refusal::Stopped;
+use vos_store::store::Store;
+use world_base::did::Did;
+use world_base::request::FetchRequest;
+use world_base::target::TargetPlan;
+
+/// What a Fetch that waited asks for.
+fn fetch_of(message: Message) -> FetchRequest
+    requires { IsParkable message }
+    ensures asks { message_of result ≡ message }
+    ensures known { is_some result.ep ≡ true }
+{
+    match message {
+        Message::Fetch {
+            attempt,
+            op,
+            group,
+            ep,
+            first,
+            tracker,
+            read,
+            snapshot,
+        } => FetchRequest {
+            attempt,
+            op,
+            group,
+            ep,
+            first,
+            tracker,
+            read,
+            snapshot,
+        },
+        _ => unreachable!(),
+    }
+}
+
+// The client that a Fetch came from.
+fn fetcher(request: &FetchRequest) -> ActorId
+    ensures { result ≡ fetcher request.now }
+{
+    ActorId {
+        client: true,
+        number: request.attempt.client,
+    }
+}
+
+// A Fetch that waited is heard again.
+fn hear_again<S: Store>(
+    alloc: Global,
+    plan: TargetPlan,
+    store: &mut S,
+    knows: &mut Knows,
+    ask: Message,
+) -> Result<Did, TargetStop>
+    requires parkable { IsParkable ask }
+    requires running { (S.state store.old).stopped ≡ false }
+    requires own { IsOwn plan knows.old }
+    requires here { ForSome (S.durable store.old) (IsAskHere ask) }
+    requires leads { ForSome (S.durable store.old) (LeadsWell plan (memory_of knows.old) knows.old.entries.items) }
+    ensures runs { Runs stop_store result (S.state store.old) (S.state store.new) (S.durable store.old) (S.durable store.new) }
+    ensures turn { (d : Durable) → S.durable store.old ≡ Some d → (reading : ℕ)
+        → TriedTurn plan (memory_of knows.old) reading ask d (S.state store.old)
+        (S.durable store.new) (S.state store.new) (S.may store.new) (memory_of knows.new) result }
+    ensures leads { says stop_store result ≡ false → ForSome (S.durable store.new) (LeadsWell plan (memory_of knows.new) knows.new.entries.items) }
+    ensures own { IsOwn plan knows.new }
+    ensures native { says stop_foreign result ≡ false }
+    ensures posts { IfOk result (λ did. PostsInForm plan.targets knows.old.leader knows.new.leader did.posts) }
+{
+    let request = fetch_of(ask);
+    let from = fetcher(&request);
+    let epoch = request.ep.unwrap();
+    hear_known(alloc, plan, store, knows, from, &request, epoch)
+}
+
+// Fetches that waited are tried again, one after another; what follows from them follows other messages.
+fn try_again<S: Store>(
+    alloc: Global,
+    plan: TargetPlan,
+    store: &mut S,
+    knows: &mut Knows,
+    posts: Posts,
+    asks: Messages,
+) -> Result<Did, TargetStop>
+    requires sent { TargetPosts plan.targets posts }
+    requires running { (S.state store.old).stopped ≡ false }
+    requires own { IsOwn plan knows.old }
+    requires parkable { AreParkable asks }
+    requires here { ForSome (S.durable store.old) (AreHere asks) }
+    requires leads { ForSome (S.durable store.old) (LeadsWell plan (memory_of knows.old) knows.old.entries.items) }
+    ensures runs { Runs stop_store result (S.state store.old) (S.state store.new) (S.durable store.old) (S.durable store.new) }
+    ensures turn { (d : Durable) → S.durable store.old ≡ Some d → (m : TargetMemory) (reading : ℕ) (a : Attempt) (ask : Option Attempt) (v : VerdictOf)
+        → VerdictTurn plan m reading a ask v (VerdictStage.Freed asks (memory_of knows.old) posts) d (S.state store.old)
+        (S.durable store.new) (S.state store.new) (S.may store.new) (memory_of knows.new) result }
+    ensures leads { says stop_store result ≡ false → ForSome (S.durable store.new) (LeadsWell plan (memory_of knows.new) knows.new.entries.items) }
+    ensures own { IsOwn plan knows.new }
+    ensures native { says stop_foreign result ≡ false }
+    ensures posts { IfOk result (λ did. PostsInForm plan.targets knows.old.leader knows.new.leader did.posts) }
+{
+    let mut posts = posts;
+    let mut rest = asks.into_vec();
+    while !rest.is_empty() {
+        let did = hear_again(alloc, plan, store, knows, rest.remove(0))?;
+        push_all(&mut posts, did.posts)?;
+    }
+    Ok(sends(alloc, posts, None))
+}
+
+// An attempt is settled by a Verdict on it, where it is still prepared here.
+fn settle_by<S: Store>(
+    store: &mut S,
+    plan: TargetPlan,
+    knows: &mut Knows,
+    attempt: AttemptId,
+    verdict: Verdict,
+) -> Result<(), Stopped>
+    requires running { (S.state store.old).stopped ≡ false }
+    requires apart { ForSome (S.durable store.old) (λ _. IsApart attempt knows.old.leader) }
+    requires leads { ForSome (S.durable store.old) (LeadsWell plan (memory_of knows.old) knows.old.entries.items) }
+    ensures runs { Runs always_stop result (S.state store.old) (S.state store.new) (S.durable store.old) (S.durable store.new) }
+    ensures made { (d : Durable) → S.durable store.old ≡ Some d
+        → MadeSome (settling_change attempt (settles_by verdict attempt d)) d (S.state store.old) (S.durable store.new) (S.state store.new) (S.may store.new) result }
+    ensures beside { IsBeside knows.old knows.new }
+    ensures leader { knows.new.leader ≡ knows.old.leader }
+    ensures leads { OnOk result (ForSome (S.durable store.new) (LeadsWell plan (memory_of knows.new) knows.new.entries.items)) }
+{
+    match verdict {
+        Verdict::Committed => settle_prepared(store, plan, knows, attempt, Settle::Commit),
+        Verdict::Aborted => settle_prepared(store, plan, knows, attempt, Settle::Abort),
+        Verdict::Undecided => Ok(()),
+    }
+}
+
+/// It hears a Verdict: the attempt is settled, where it is still prepared here, and the Fetches that
+/// wait for it are tried again, in the order in which they were parked. It isn't one that this target
+/// leads and has to settle itself.
+///
+/// # Errors
+///
+/// `Store` where the store stopped, and then the turn was cut short; else for want of memory.
+pub fn hear_verdict<S: Store>(
+    alloc: Global,
+    plan: TargetPlan,
+    store: &mut S,
+    knows: &mut Knows,
+    attempt: AttemptId,
+    ask: Option<AttemptId>,
+    verdict: Verdict,
+) -> Result<Did, TargetStop>
+    requires running { (S.state store.old).stopped ≡ false }
+    requires own { IsOwn plan knows.old }
+    requires apart { ForSome (S.durable store.old) (λ _. IsApart attempt knows.old.leader) }
+    requires leads { ForSome (S.durable store.old) (LeadsWell plan (memory_of knows.old) knows.old.entries.items) }
+    ensures runs { Runs stop_store result (S.state store.old) (S.state store.new) (S.durable store.old) (S.durable store.new) }
+    ensures turn { (d : Durable) → S.durable store.old ≡ Some d → (reading : ℕ)
+        → VerdictTurn plan (memory_of knows.old) reading attempt ask verdict VerdictStage.Heard d (S.state store.old)
+        (S.durable store.new) (S.state store.new) (S.may store.new) (memory_of knows.new) result }
+    ensures leads { says stop_store result ≡ false → ForSome (S.durable store.new) (LeadsWell plan (memory_of knows.new) knows.new.entries.items) }
+    ensures own { IsOwn plan knows.new }
+    ensures native { says stop_foreign result ≡ false }
+    ensures posts { IfOk result (λ did. PostsInForm plan.targets knows.old.leader knows.new.leader did.posts) }
+{
+    let Freed { posts, again } = knows.member.hear_verdict(attempt, ask, verdict)?;
+    match settle_by(store, plan, knows, attempt, verdict) {
+        Ok(()) => try_again(alloc, plan, store, knows, posts, again),
+        Err(Stopped) => Err(stop_of(alloc, Halt::Stopped, None)),
+    }
+}

@@ -1,0 +1,43 @@
+-- Members are below 64 where there are so few targets, which all classes fit.
+use Rattle.std.proofs.Common.{ℕ, ◌<◌, ◌≤◌, List, [], ◌∷◌, All, Option, Some, None, arith}
+use Rattle.std.specs.Prelude.{IfSome}
+use Rattle.std.proofs.lemmas.List.Elements.{All-append, All-head, All-tail}
+use Rattle.daos_base.specs.declared.id.Class.{Class}
+use Rattle.daos_base.specs.declared.id.Class.TheVariants.{S1, S2, S4, SX, RP2G1, RP2GX, RP3G1, RP3GX}
+use Rattle.daos_base.specs.declared.id.ObjId.{ObjId}
+use Rattle.daos_base.specs.declared.operation.MinorWrite.{MinorWrite}
+use Rattle.daos_base.specs.declared.path.Path.{Path}
+use Rattle.daos_base.specs.Operations.{write_path}
+use Rattle.daos_base.specs.Placement.{ClassFits, object_members, path_members, targets_needed, writes_members}
+use Rattle.target_writes.proofs.Owning.{object-within}
+
+needs-some : (c : Class) → 0 < targets_needed c
+needs-some S1 = omega arith
+needs-some S2 = omega arith
+needs-some S4 = omega arith
+needs-some SX = omega arith
+needs-some RP2G1 = omega arith
+needs-some RP2GX = omega arith
+needs-some RP3G1 = omega arith
+needs-some RP3GX = omega arith
+
+fits-some : (c : Class) (n : ℕ) → ClassFits c n → 0 < n
+fits-some c n fits = let some = needs-some c in omega (arith, some, fits)
+
+object-few : (n : ℕ) (o : Option ObjId) (k : Option (List ℕ)) → n ≤ 64 → IfSome o (λ x. ClassFits x.class n) → All (λ t. t < 64) (object_members o k n)
+object-few n None k few fits = λ i d lt. absurd (omega arith)
+object-few n (Some o) k few fits =
+    let within = object-within n (Some o) k (fits-some o.class n fits) in
+    λ i d lt. let small = within i d lt in omega (arith, small, few)
+
+path-few : (n : ℕ) (p : Path) → n ≤ 64 → IfSome p.obj (λ o. ClassFits o.class n) → All (λ t. t < 64) (path_members p n)
+unfolding path_members
+path-few n p few fits = object-few n p.obj p.dkey few fits
+
+-- where there are no targets, no class fits, and there are no members
+pub members-few : (n : ℕ) (ws : List MinorWrite) → n ≤ 64 → All (λ w. IfSome (write_path w.write).obj (λ o. ClassFits o.class n)) ws → All (λ t. t < 64) (writes_members ws n)
+unfolding writes_members
+members-few n [] few fit = λ i d lt. absurd (omega arith)
+members-few n (w ∷ ws) few fit =
+    All-append (λ t. t < 64) (path_members (write_path w.write) n) (writes_members ws n) (path-few n (write_path w.write) few (All-head (λ x. IfSome (write_path x.write).obj (λ o. ClassFits o.class n)) w ws fit))
+    (members-few n ws few (All-tail (λ x. IfSome (write_path x.write).obj (λ o. ClassFits o.class n)) w ws fit))

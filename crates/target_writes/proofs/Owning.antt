@@ -1,0 +1,109 @@
+-- The writes of a target's own groups, and the entry of an attempt that it leads.
+use Rattle.std.proofs.Common.{ℕ, suc, zero, ◌≡◌, ◌<◌, ◌≤◌, ◌+◌, ◌^◌, inl, inr, refl, subst, Bool, true, false, List, [], ◌∷◌, map, filter, All, Option, Some, None, arith}
+use Rattle.std.specs.Prelude.{AllPairs, if◌then◌else◌}
+use Rattle.std.specs.List.Sorted.{IsStrictlyIncreasing}
+use Rattle.std.proofs.lemmas.List.Elements.{All-append, All-filter, All-head, All-tail}
+use Rattle.std.proofs.lemmas.List.Kept.{AllPairs-cons, AllPairs-from_increasing}
+use Rattle.std.proofs.lemmas.Bool.{cases_eq}
+use Rattle.std.proofs.lemmas.Nat.{or_lt}
+use Rattle.std.proofs.Math.Pow.{pow-lt}
+use Rattle.daos_base.specs.declared.epoch.Epoch.{Epoch}
+use Rattle.daos_base.specs.declared.id.ObjId.{ObjId}
+use Rattle.daos_base.specs.declared.operation.MinorWrite.{MinorWrite}
+use Rattle.daos_base.specs.declared.path.Path.{Path}
+use Rattle.daos_base.specs.Operations.{write_path}
+use Rattle.daos_base.specs.Placement.{dkey_groups, groups_members, members, object_members, path_members, writes_members}
+use Rattle.daos_base.specs.PlacementLaws.{members-within}
+use Rattle.daos_laws.specs.DecidedLaws.{all-from_has}
+use Rattle.daos_laws.specs.Members.{Has, has-from_filter, has-from_map, has-map}
+use Rattle.daos_laws.specs.VersionLaws.{pairs-head, pairs-tail}
+use Rattle.daos_model.specs.declared.durable.Durable.{Durable}
+use Rattle.daos_model.specs.Durables.{is_enlisted}
+use Rattle.daos_model.specs.FormLaws.{length-filter}
+use Rattle.daos_model.specs.Forms.{AreWritesInForm, is_write_in_form, minor_of}
+use Rattle.vos_store.specs.Calls.{State}
+use Rattle.vos_store.specs.Conditions.{IsPreparable}
+use Rattle.world_base.specs.declared.request.CommitRequest.{CommitRequest}
+use Rattle.world_base.specs.declared.target.TargetPlan.{TargetPlan}
+use Rattle.world_turns.specs.Commits.{bits_of, led_entry, own_writes}
+use Rattle.target_writes.specs.Checks.{AreEnlisted, AreWrites, IsPlaced}
+
+-- ---- members
+
+groups-within : (n : ℕ) (o : ObjId) (gs : List ℕ) → 0 < n → All (λ t. t < n) (groups_members o gs n)
+groups-within n o [] some = λ k d lt. absurd (omega arith)
+groups-within n o (g ∷ gs) some = All-append (λ t. t < n) (members o g n) (groups_members o gs n) (members-within o g n some) (groups-within n o gs some)
+
+pub object-within : (n : ℕ) (o : Option ObjId) (k : Option (List ℕ)) → 0 < n → All (λ t. t < n) (object_members o k n)
+object-within n None k some = λ i d lt. absurd (omega arith)
+object-within n (Some o) k some = groups-within n o (dkey_groups o k n) some
+
+path-within : (n : ℕ) (p : Path) → 0 < n → All (λ t. t < n) (path_members p n)
+unfolding path_members
+path-within n p some = object-within n p.obj p.dkey some
+
+-- the members of an attempt are targets
+pub writes-within : (n : ℕ) (ws : List MinorWrite) → 0 < n → All (λ t. t < n) (writes_members ws n)
+unfolding writes_members
+writes-within n [] some = λ i d lt. absurd (omega arith)
+writes-within n (w ∷ ws) some = All-append (λ t. t < n) (path_members (write_path w.write) n) (writes_members ws n) (path-within n (write_path w.write) some) (writes-within n ws some)
+
+pub bits-below : (n : ℕ) (ts : List ℕ) → All (λ t. t < n) ts → bits_of ts < 2 ^ n
+unfolding bits_of
+bits-below n [] within = pow-positive n
+  where
+    pow-positive : (n : ℕ) → 0 < 2 ^ n
+    pow-positive zero = omega arith
+    pow-positive (suc n) = let less : 2 ^ n < 2 ^ suc n = pow-lt {i = n} {j = suc n} (omega arith) in let some = pow-positive n in omega arith
+bits-below n (t ∷ ts) within = or_lt n (2 ^ t) (bits_of ts) (pow-lt {i = t} {j = n} (All-head (λ x. x < n) t ts within)) (bits-below n ts (All-tail (λ x. x < n) t ts within))
+
+-- fewer bits are fewer
+pub below-more : (n k l : ℕ) → n < 2 ^ k → k ≤ l → n < 2 ^ l
+below-more n k l lt le = elim (cases_eq k l) [
+  | inl same ↦ subst (λ x. n < 2 ^ x) same lt
+  | inr apart ↦ (let more : 2 ^ k < 2 ^ l = pow-lt {i = k} {j = l} (omega (arith, le, apart)) in omega (arith, lt, more))
+]
+
+-- ---- own writes
+
+pairs-kept : (p : MinorWrite → Bool) (ws : List MinorWrite) → AllPairs (λ m n. m < n) (map minor_of ws) → AllPairs (λ m n. m < n) (map minor_of (filter p ws))
+pairs-kept p [] all = all
+pairs-kept p (w ∷ ws) all = by (pairs-kept p ws (pairs-tail alone (λ m n. m < n) w.minor (map minor_of ws) all)) (p w)
+  where
+    alone : ℕ → List ℕ
+    alone n = n ∷ []
+
+    above : (n : ℕ) → Has n (map minor_of (filter p ws)) → w.minor < n
+    above n i =
+        let z = has-from_map minor_of (filter p ws) n i in
+        subst (λ m. w.minor < m) z.2 (pairs-head alone (λ m n. m < n) w.minor (map minor_of ws) z.0.minor all (has-map minor_of ws z.0 (has-from_filter p ws z.0 z.1).0))
+
+    by : AllPairs (λ m n. m < n) (map minor_of (filter p ws)) → (b : Bool) → AllPairs (λ m n. m < n) (map minor_of (if b then w ∷ filter p ws else filter p ws))
+    by rest true = AllPairs-cons (λ m n. m < n) w.minor (map minor_of (filter p ws)) (all-from_has (λ n. w.minor < n) (map minor_of (filter p ws)) above) rest
+    by rest false = rest
+
+increasing-pairs : (xs : List ℕ) → AllPairs (λ m n. m < n) xs → IsStrictlyIncreasing xs
+increasing-pairs xs all k lt = all k (k + 1) 0 (omega arith) lt
+
+-- some of the writes of a transaction are in form
+pub some-in_form : (p : MinorWrite → Bool) (ws : List MinorWrite) → AreWritesInForm ws → AreWritesInForm (filter p ws)
+some-in_form p ws f = record {
+  count = let few = length-filter p ws in let most = f.count in omega (arith, few, most);
+  each = All-filter p (λ w. is_write_in_form w.write ≡ true) ws f.each;
+  rising = increasing-pairs (map minor_of (filter p ws)) (pairs-kept p ws (AllPairs-from_increasing (map minor_of ws) f.rising));
+  minors = All-filter p (λ w. w.minor < 64) ws f.minors;
+}
+
+pub own-enlisted : (t : TargetPlan) (ws : List MinorWrite) (d : Durable) → AreEnlisted ws d → AreEnlisted (own_writes t ws) d
+own-enlisted t ws d all = All-filter _ (λ w. is_enlisted d (write_path w.write).cont ≡ true) ws all
+
+-- the entry of an attempt and its own writes may be asked to be prepared
+pub led-preparable : (t : TargetPlan) (s : State) (q : CommitRequest) (e : Epoch) → IsPlaced t s → AreWrites t q.writes → IsPreparable s (led_entry t q e) (own_writes t q.writes)
+led-preparable t s q e placed are = record {
+  undecided = refl;
+  unconfirmed = refl;
+  leader = (let a = placed.me in let b = placed.made in omega (arith, a, b));
+  members = below-more (bits_of (writes_members q.writes t.targets)) t.targets s.targets (bits-below t.targets (writes_members q.writes t.targets) (writes-within t.targets q.writes (let a = placed.me in omega (arith, a)))) placed.made;
+  some = are.some;
+  form = some-in_form _ q.writes are.form;
+}

@@ -1,0 +1,53 @@
+-- What is posted has its form.
+use Rattle.std.proofs.Common.{ℕ, ◌≡◌, ◌<◌, ap, refl, subst, sym, true, List, Option, Result, Ok, Err}
+use Rattle.std.specs.Prelude.{IfOk}
+use Rattle.daos_base.specs.declared.entry.Entry.{Entry}
+use Rattle.daos_base.specs.declared.epoch.Epoch.{Epoch}
+use Rattle.daos_base.specs.declared.id.AttemptId.{AttemptId}
+use Rattle.daos_base.specs.declared.outcome.Outcome.{Outcome}
+use Rattle.daos_messages.specs.declared.actor.ActorId.{ActorId}
+use Rattle.daos_messages.specs.declared.message.Message.{Message}
+use Rattle.daos_messages.specs.declared.message.Post.{Post}
+use Rattle.dtx_base.specs.declared.leading.LeaderMemory.{LeaderMemory}
+use Rattle.dtx_base.specs.Leading.{LeaderOf, begun}
+use Rattle.world_base.specs.declared.did.Did.{Did}
+use Rattle.world_base.specs.declared.request.CommitRequest.{CommitRequest}
+use Rattle.world_base.specs.declared.request.PrepareRequest.{PrepareRequest}
+use Rattle.world_base.specs.declared.target.TargetPlan.{TargetPlan}
+use Rattle.world_turns.specs.Commits.{led_entry}
+use Rattle.world_turns.specs.Prepares.{acks}
+use Rattle.world_turns.specs.Requests.{says}
+use Rattle.world_posts.specs.Forms.{AreWrites, PostsInForm, TargetPosts, is_told}
+use Rattle.world_posts.specs.Posting.{IsBeginning, beginnings-post-in-form, one-posted, posted-by, to-client, to-other, waits-on}
+use Rattle.target_parts.specs.declared.stop.TargetStop.{TargetStop}
+
+-- an attempt begins that a client asked for
+pub begun-posts : (t : TargetPlan) (q : CommitRequest) (from : ActorId) (e : Epoch) (entry : Entry) (l : LeaderOf) (new : LeaderMemory) (posts sent : List Post) → entry ≡ led_entry t q e → l.targets ≡ t.targets
+    → AreWrites t q.writes → t.me < t.targets → from.client ≡ true → ◌≡◌ {A = LeaderMemory × List Post} (new, posts) ((begun entry q.first from q.writes l).leader.memory, (begun entry q.first from q.writes l).posts) → sent ≡ posts
+    → PostsInForm t.targets l.memory new sent
+begun-posts t q from e entry l new posts sent is many ws placed client came said =
+    posted-by t.targets (begun entry q.first from q.writes l) l.memory new new posts sent
+    (subst (λ n. PostsInForm n l.memory (begun entry q.first from q.writes l).leader.memory (begun entry q.first from q.writes l).posts) many (beginnings-post-in-form entry q.first from q.writes l beginning client)) came refl said
+  where
+    led : IsBeginning t.targets (led_entry t q e) q.writes
+    led = record { undecided = refl; unconfirmed = refl; leader = placed; members = refl; form = ws.form }
+
+    beginning : IsBeginning l.targets entry q.writes
+    beginning = subst (λ n. IsBeginning n entry q.writes) (sym many) (subst (λ x. IsBeginning t.targets x q.writes) (sym is) led)
+
+-- what follows where the same clients wait
+pub later-posts : (targets : ℕ) (old mid new : LeaderMemory) (result : Result Did TargetStop) → mid ≡ old → IfOk result (λ did. PostsInForm targets mid new did.posts) → IfOk result (λ did. PostsInForm targets old new did.posts)
+later-posts targets old mid new result same k = subst (λ m. IfOk result (λ did. PostsInForm targets m new did.posts)) same k
+
+-- a client is told
+pub client-posts : (targets : ℕ) (old new : LeaderMemory) (from : ActorId) (m : Message) (issued : Option (AttemptId × Epoch)) (result : Result Did TargetStop) → from.client ≡ true → is_told m ≡ true → new ≡ old → IfOk result (λ did. did ≡ says from m issued)
+    → IfOk result (λ did. PostsInForm targets old new did.posts)
+client-posts targets old new from m issued (Ok did) client told same is =
+    waits-on targets old new did.posts (ap (λ x. x.undecided) same) (subst (TargetPosts targets) (sym (ap (λ x. x.posts) is)) (one-posted targets _ (to-client targets from m client told)))
+client-posts targets old new from m issued (Err stop) client told same is = is
+
+-- the leader is told how a Prepare went
+pub ack-posts : (targets : ℕ) (old new : LeaderMemory) (q : PrepareRequest) (refusal : Option Outcome) (result : Result Did TargetStop) → new ≡ old → IfOk result (λ did. did ≡ acks q refusal) → IfOk result (λ did. PostsInForm targets old new did.posts)
+ack-posts targets old new q refusal (Ok did) same is =
+    waits-on targets old new did.posts (ap (λ x. x.undecided) same) (subst (TargetPosts targets) (sym (ap (λ x. x.posts) is)) (one-posted targets _ (to-other targets _ _ refl tt)))
+ack-posts targets old new q refusal (Err stop) same is = is

@@ -1,0 +1,80 @@
+use Rattle.std.proofs.Common.{◌≡◌, ◌∙◌, ◌/◌, ◌<◌, None, Some, ap, arith, refl, sym}
+use Rattle.daos_model.specs.Changes.{leased}
+use Rattle.world_turns.specs.Commits.{led_entry}
+use Rattle.world_turns.specs.Requests as asked
+use Rattle.target_parts.specs.Covers.{heard_of}
+use Rattle.target_parts.specs.EpochLaws.{epoch-known}
+use Rattle.target_parts.specs.Knowing.{LeadsWell, memory_of}
+use Rattle.target_parts.specs.Readying.{leads-covered, leases}
+use Rattle.target_parts.specs.Running.{for_some_on}
+use Rattle.target_writes.specs.Checks.{CanStore}
+use Rattle.target_writes.proofs.CommitTurns.{can-leased, commit-cut, commit-on, commit-spent, readied, request-unused, with_clock}
+use Rattle.target_writes.proofs.commits.hear_commit.Goals as goal
+
+pub commit_at-requires-clause-can : goal.commit_at-requires-clause-can
+commit_at-requires-clause-can g c =
+    let ready = c.in-Ok-Some.ensures.ready in
+    let led = led_entry c.args.plan c.args.request.now c.in-Ok-Some.epoch in
+    for_some_on (g.S.Store.durable c.args.store.now) _ (CanStore led c.args.request.now.writes) c.in-Ok-Some.ensures.runs.told (λ d at.
+    let said = readied c.args.knows.now.hlc ready.0 c.args.request.now.tracker c.args.request.now.ep d _ _ _ (g.S.Store.may c.ready.new.store) _ c.in-Ok-Some.field-0-is (ready.2 d at) in
+    let lease = leases (c.in-Ok-Some.epoch.0 / 256) d (g.S.Store.state c.args.store.now) _ (g.S.Store.state c.ready.new.store) said.1 in
+    let here = c.requires.here d at in
+    let small : c.args.knows.now.hlc.target < 256 = (let own = c.requires.own.clock in let me = c.requires.placed.me in let few = c.requires.few in omega (arith, own, me, few)) in (
+      leased lease.lease d,
+      lease.kept_is,
+      can-leased led c.args.request.now.writes lease.lease d here.absent here.enlisted
+          (request-unused c.args.knows.now.hlc ready.0 c.args.request.now.tracker c.in-Ok-Some.epoch c.args.request.now.ep d small (c.requires.leads d at).heard here.unused said.0) lease.covers,
+    ))
+
+pub commit_at-requires-clause-leads : goal.commit_at-requires-clause-leads
+commit_at-requires-clause-leads g c =
+    let ready = c.in-Ok-Some.ensures.ready in
+    let heard : c.ready.new.hlc ≡ heard_of (Some c.in-Ok-Some.epoch) c.args.knows.now.hlc = c.in-Ok-Some.ensures.heard ∙ ap (λ o. heard_of o c.args.knows.now.hlc) c.in-Ok-Some.field-0-is in
+    for_some_on (g.S.Store.durable c.args.store.now) _ (LeadsWell c.args.plan (memory_of (with_clock c.ready.new.hlc c.args.knows.now)) c.args.knows.now.entries.items) c.in-Ok-Some.ensures.runs.told (λ d at.
+    let said = readied c.args.knows.now.hlc ready.0 c.args.request.now.tracker c.args.request.now.ep d _ _ _ (g.S.Store.may c.ready.new.store) _ c.in-Ok-Some.field-0-is (ready.2 d at) in
+    let lease = leases (c.in-Ok-Some.epoch.0 / 256) d (g.S.Store.state c.args.store.now) _ (g.S.Store.state c.ready.new.store) said.1 in (
+      leased lease.lease d,
+      lease.kept_is,
+      leads-covered c.args.plan lease.lease d (memory_of c.args.knows.now) (memory_of (with_clock c.ready.new.hlc c.args.knows.now)) c.args.knows.now.entries.items c.in-Ok-Some.epoch lease.rises lease.covers (ap (λ x. x.ticks) heard) refl refl (c.requires.leads d at),
+    ))
+
+pub returns-in-Ok-Some-clause-turn : goal.returns-in-Ok-Some-clause-turn
+returns-in-Ok-Some-clause-turn g c =
+    let ready = c.in-Ok-Some.ensures.ready in
+    let heard : c.ready.new.hlc ≡ heard_of (Some c.in-Ok-Some.epoch) c.args.knows.now.hlc = c.in-Ok-Some.ensures.heard ∙ ap (λ o. heard_of o c.args.knows.now.hlc) c.in-Ok-Some.field-0-is in (
+      ready.0,
+      ready.1,
+      λ d at.
+          let said = readied c.args.knows.now.hlc ready.0 c.args.request.now.tracker c.args.request.now.ep d _ _ _ (g.S.Store.may c.ready.new.store) _ c.in-Ok-Some.field-0-is (ready.2 d at) in
+          commit-on c.args.plan (g.S.Store.state c.args.store.now).opening (memory_of c.args.knows.now) ready.0 c.args.request.now c.args.from d (g.S.Store.state c.args.store.now) (g.S.Store.state c.commit_at.new.store) _ _ _ _ c.in-Ok-Some.epoch
+          (g.S.Store.durable c.ready.new.store) (g.S.Store.state c.ready.new.store) (g.S.Store.state c.ready.new.store).opening c.in-Ok-Some.ensures.runs.opening
+          (epoch-known c.args.plan (memory_of c.args.knows.now) c.args.knows.now.hlc ready.0 c.args.request.now.tracker c.args.request.now.ep c.requires.own.clock refl ∙ said.0) said.1
+          (λ x here. c.commit_at.ensures.turn x here (memory_of c.args.knows.now) ready.0 (sym (ap (λ x. memory_of (with_clock x c.args.knows.now)) heard))),
+    )
+
+pub returns-in-Ok-None-clause-turn : goal.returns-in-Ok-None-clause-turn
+returns-in-Ok-None-clause-turn g c =
+    let ready = c.in-Ok-None.ensures.ready in
+    let heard : c.ready.new.hlc ≡ c.args.knows.now.hlc = c.in-Ok-None.ensures.heard ∙ ap (λ o. heard_of o c.args.knows.now.hlc) c.in-Ok-None.field-0-is in (
+      ready.0,
+      ready.1,
+      λ d at.
+          let said = readied c.args.knows.now.hlc ready.0 c.args.request.now.tracker c.args.request.now.ep d _ _ _ (g.S.Store.may c.ready.new.store) _ c.in-Ok-None.field-0-is (ready.2 d at) in
+          commit-spent c.args.plan (g.S.Store.state c.args.store.now).opening (memory_of c.args.knows.now) ready.0 c.args.request.now c.args.from d (g.S.Store.state c.args.store.now) (g.S.Store.state c.ready.new.store) _ _ _ _
+          (asked.says c.args.from c.ended-message.result None)
+          (epoch-known c.args.plan (memory_of c.args.knows.now) c.args.knows.now.hlc ready.0 c.args.request.now.tracker c.args.request.now.ep c.requires.own.clock refl ∙ said.0) said.1
+          (ap (λ x. memory_of (with_clock x c.args.knows.now)) heard)
+          (ap (λ x. asked.says c.args.from x None) c.ended-message.ensures) c.says.ensures.did c.says.ensures.wanting,
+    )
+
+pub returns-in-Err-clause-turn : goal.returns-in-Err-clause-turn
+returns-in-Err-clause-turn g c =
+    let ready = c.in-Err.ensures.ready in (
+      ready.0,
+      ready.1,
+      λ d at.
+          let said = ready.2 d at in
+          commit-cut c.args.plan (g.S.Store.state c.args.store.now).opening (memory_of c.args.knows.now) ready.0 c.args.request.now c.args.from d (g.S.Store.state c.args.store.now) (g.S.Store.state c.ready.new.store) (g.S.Store.durable c.ready.new.store) (g.S.Store.may c.ready.new.store)
+          (memory_of (with_clock c.ready.new.hlc c.args.knows.now)) said.0 _
+          (epoch-known c.args.plan (memory_of c.args.knows.now) c.args.knows.now.hlc ready.0 c.args.request.now.tracker c.args.request.now.ep c.requires.own.clock refl ∙ said.1) said.2 c.stop_of.ensures,
+    )

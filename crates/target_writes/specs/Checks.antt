@@ -1,0 +1,91 @@
+-- Whether writes are allowed, and what storing them comes to.
+use Rattle.std.specs.Prelude.{ℕ, ◌≡◌, ◌≤◌, ◌<◌, ◌⊎◌, true, All, List, Option, Some, None, Result, Ok, Err}
+use Rattle.daos_base.specs.declared.entry.Entry.{Entry}
+use Rattle.daos_base.specs.declared.epoch.Epoch.{Epoch}
+use Rattle.daos_base.specs.declared.id.AttemptId.{AttemptId}
+use Rattle.daos_base.specs.declared.operation.MinorWrite.{MinorWrite}
+use Rattle.daos_base.specs.declared.outcome.Cause.{Cause}
+use Rattle.daos_base.specs.declared.outcome.FloorWhy.{FloorWhy}
+use Rattle.daos_base.specs.declared.outcome.Outcome.{Outcome}
+use Rattle.daos_base.specs.declared.outcome.Outcome.TheVariants as outcome
+use Rattle.daos_base.specs.declared.shown.Shown.{Shown}
+use Rattle.daos_base.specs.Operations.{write_path}
+use Rattle.daos_model.specs.declared.durable.Durable.{Durable}
+use Rattle.daos_model.specs.Blocks.{blocks}
+use Rattle.daos_model.specs.Durables.{entry_key, entry_of, is_enlisted}
+use Rattle.daos_model.specs.Ordered.{put}
+use Rattle.vos_store.specs.Calls.{State}
+use Rattle.vos_store.specs.Conditions.{IsLeased}
+use Rattle.world_base.specs.declared.target.TargetPlan.{TargetPlan}
+use Rattle.world_turns.specs.Changes.{Prepares}
+use Rattle.world_turns.specs.Commits.{FirstRead, IsAllowed, IsRefusedBy, NoReads}
+pub use Rattle.world_posts.specs.Forms.{AreWrites}
+use Rattle.target_parts.specs.declared.halt.Halt.{Halt}
+use Rattle.target_parts.specs.declared.halt.Halt.TheVariants as halt
+use Rattle.target_parts.specs.Parts.{Did, Stays, WasAsked, WasCut}
+
+-- the first write's later read, or none stands against the writes
+abbrev pub AnswersReads : Epoch → List Shown → List MinorWrite → Option Shown → Type 0
+AnswersReads e stamps ws None = NoReads e stamps ws
+AnswersReads e stamps ws (Some r) = FirstRead e stamps ws r
+
+-- writes are refused, or allowed
+abbrev pub Checks : TargetPlan → Epoch × FloorWhy → Option Epoch → Epoch → Durable → List Shown → List MinorWrite → Option Cause → Type 0
+Checks t opening first e d stamps ws (Some c) = IsRefusedBy t opening first e d stamps ws c
+Checks t opening first e d stamps ws None = IsAllowed t opening first e d stamps ws
+
+-- the containers of writes are here
+abbrev pub AreEnlisted : List MinorWrite → Durable → Type 0
+AreEnlisted ws d = All (λ w. is_enlisted d (write_path w.write).cont ≡ true) ws
+
+-- no version has this epoch
+abbrev pub IsUnusedEpoch : Epoch → Durable → Type 0
+IsUnusedEpoch e d = All (λ v. v.epoch.0 ≡ e.0 → ⊥) d.versions
+
+-- an entry and its writes can be stored, unless they are refused: the attempt has no entry here, its containers are here, no version has
+-- its epoch, and the lease covers that
+pub record CanStore (e : Entry) (ws : List MinorWrite) (d : Durable) : Type 0 where
+  pub absent : entry_of d e.attempt ≡ None
+  pub enlisted : AreEnlisted ws d
+  pub unused : IsUnusedEpoch e.epoch d
+  pub leased : IsLeased e.epoch d
+
+-- why writes aren't stored: a cause refuses them, or there is no space for them
+pub data IsRefusal (t : TargetPlan) (opening : Epoch × FloorWhy) (first : Option Epoch) (e : Epoch) (d : Durable) (stamps : List Shown) (ws : List MinorWrite) (free : ℕ) (how : Outcome) : Type 0 where
+  ByCause : (c : Cause) → IsRefusedBy t opening first e d stamps ws c → how ≡ outcome.Restart c → IsRefusal t opening first e d stamps ws free how
+  BySpace : IsAllowed t opening first e d stamps ws → free < blocks ws → how ≡ outcome.NoSpace t.me (blocks ws) free → IsRefusal t opening first e d stamps ws free how
+
+-- they were allowed, and there was space for them
+pub record FindsSpace (t : TargetPlan) (opening : Epoch × FloorWhy) (first : Option Epoch) (e : Epoch) (d : Durable) (stamps : List Shown) (ws : List MinorWrite) (free : ℕ) : Type 0 where
+  pub allowed : IsAllowed t opening first e d stamps ws
+  pub space : blocks ws ≤ free
+
+-- Writes were stored with their entry; or refused; or the store stopped at a check or as it stored them; or memory was wanting.
+abbrev pub PreparesOrNot : TargetPlan → Epoch × FloorWhy → Option Epoch → List Shown → Entry → List MinorWrite → Durable → State → Option Durable → State → (Durable → Type 0) → Result (Option Outcome) Halt → Type 0
+PreparesOrNot t opening first stamps e ws d h new k finds (Ok None) = FindsSpace t opening first e.epoch d stamps ws h.free × Did (Prepares e ws) d h new k
+PreparesOrNot t opening first stamps e ws d h new k finds (Ok (Some how)) = IsRefusal t opening first e.epoch d stamps ws h.free how × Stays d h new k
+PreparesOrNot t opening first stamps e ws d h new k finds (Err halt.Stopped) = WasAsked d finds ⊎ (FindsSpace t opening first e.epoch d stamps ws h.free × WasCut (Prepares e ws) d finds)
+PreparesOrNot t opening first stamps e ws d h new k finds (Err halt.Memory) = Stays d h new k
+
+-- the entries that are known once writes were stored or not
+abbrev pub entries_then : Entry → Option Outcome → List Entry → List Entry
+entries_then e None es = put entry_key e es
+entries_then e (Some how) es = es
+
+-- ---- a target among others
+
+-- a target is one of so many, which its store was made for
+pub record IsPlaced (t : TargetPlan) (s : State) : Type 0 where
+  pub me : t.me < t.targets
+  pub made : t.targets ≤ s.targets
+
+-- no version has this epoch, if it is known
+abbrev pub IsUnused : Option Epoch → Durable → Type 0
+IsUnused None d = Unit {0}
+IsUnused (Some e) d = IsUnusedEpoch e d
+
+-- an attempt's writes can be committed: their containers are here, and the attempt has nothing here
+pub record CanCommit (x : AttemptId) (ep : Option Epoch) (ws : List MinorWrite) (d : Durable) : Type 0 where
+  pub enlisted : AreEnlisted ws d
+  pub absent : entry_of d x ≡ None
+  pub unused : IsUnused ep d

@@ -1,0 +1,205 @@
+// A target checks writes, and stores them.
+ghost use Rattle.std.specs.Prelude.{◌≡◌, ◌/◌, ◌≤◌, ◌<◌, All, List, Option, IfOk, OnErr, Some, None, true, false, vec_len, vec_capacity};
+ghost use Rattle.std.specs.Option.{ForSome};
+ghost use Rattle.daos_base.specs.declared.epoch.Epoch.{Epoch as EpochOf};
+ghost use Rattle.daos_base.specs.declared.outcome.Outcome.TheVariants as outcome;
+ghost use Rattle.daos_base.specs.declared.shown.Shown.{Shown as ShownOf};
+ghost use Rattle.daos_model.specs.declared.durable.Durable.{Durable};
+ghost use Rattle.daos_model.specs.Forms.{is_write_in_form};
+ghost use Rattle.vos_store.specs.Conditions.{IsPreparable};
+ghost use Rattle.vos_store.specs.Refusals.{says};
+ghost use Rattle.world_turns.specs.Commits.{IsAllowed, first_floor, first_later};
+ghost use Rattle.target_parts.specs.Halts.{halt_stop};
+ghost use Rattle.target_parts.specs.Knowing.{HasEpochs, IsBeside, LeadsWell, memory_of};
+ghost use Rattle.target_parts.specs.Parts.{Asks, Runs};
+ghost use Rattle.target_writes.specs.Checks.{AnswersReads, AreEnlisted, CanStore, Checks, PreparesOrNot, entries_then};
+
+use daos_base::entry::Entry;
+use daos_base::epoch::{Epoch, TargetId};
+use daos_base::items::Memory;
+use daos_base::operation::MinorWrite;
+use daos_base::outcome::{Cause, Outcome};
+use daos_base::shown::Shown;
+use daos_model::blocks::blocks;
+use dtx_table::rows::put;
+use target_parts::halt::Halt;
+use target_parts::knows::Knows;
+use target_parts::later::later_write;
+use vos_stamp::stamps::Stamps;
+use vos_store::refusal::PrepareNo;
+use vos_store::store::Store;
+use world_base::target::TargetPlan;
+
+// The cause of the first floor that a write isn't above.
+fn floor_cause<S: Store>(
+    store: &S,
+    plan: TargetPlan,
+    epoch: Epoch,
+    writes: &[MinorWrite],
+) -> Option<Cause>
+    requires running { (S.state store.now).stopped ≡ false }
+    requires enlisted { ForSome (S.durable store.now) (AreEnlisted writes.now) }
+    ensures { ForSome (S.durable store.now) (λ d. result ≡ first_floor plan (S.state store.now).opening epoch d writes.now) }
+{
+    for write in writes {
+        let (at, why) = store.floor(write.write.path().cont);
+        if epoch.0 <= at.0 {
+            return Some(Cause::Floor {
+                target: plan.me,
+                epoch: at,
+                why,
+            });
+        }
+    }
+    None
+}
+
+// A later read of the first write that one stands against.
+fn later_read(stamps: &Stamps, epoch: Epoch, writes: &[MinorWrite]) -> Result<Option<Shown>, Memory>
+    ensures { IfOk result (AnswersReads epoch stamps.now writes.now) }
+{
+    for write in writes {
+        if let Some(read) = stamps.later_read(write.write.path(), epoch) {
+            return Ok(Some(read.copy()?));
+        }
+    }
+    Ok(None)
+}
+
+// A later write of the first write that one refuses.
+fn first_later<S: Store>(
+    store: &mut S,
+    plan: TargetPlan,
+    first: Option<Epoch>,
+    epoch: Epoch,
+    writes: &[MinorWrite],
+) -> Result<Option<Shown>, Halt>
+    requires form { All (λ w. is_write_in_form w.write ≡ true) writes.now }
+    requires running { (S.state store.old).stopped ≡ false }
+    requires enlisted { ForSome (S.durable store.old) (AreEnlisted writes.now) }
+    requires epochs { ForSome (S.durable store.old) HasEpochs }
+    ensures runs { Runs halt_stop result (S.state store.old) (S.state store.new) (S.durable store.old) (S.durable store.new) }
+    ensures later { (d : Durable) → S.durable store.old ≡ Some d
+        → Asks (λ later. later ≡ first_later plan first epoch d writes.now) d (S.state store.old) (S.durable store.new) (S.state store.new) (S.may store.new) result }
+{
+    for write in writes {
+        let later = later_write(store, plan, first, epoch, write.write.path())?;
+        if later.is_some() {
+            return Ok(later);
+        }
+    }
+    Ok(None)
+}
+
+// Why writes are refused, if they are: by a floor, else by a later read, else by a later write.
+fn refusal<S: Store>(
+    store: &mut S,
+    stamps: &Stamps,
+    plan: TargetPlan,
+    first: Option<Epoch>,
+    epoch: Epoch,
+    writes: &[MinorWrite],
+) -> Result<Option<Cause>, Halt>
+    requires form { All (λ w. is_write_in_form w.write ≡ true) writes.now }
+    requires running { (S.state store.old).stopped ≡ false }
+    requires enlisted { ForSome (S.durable store.old) (AreEnlisted writes.now) }
+    requires epochs { ForSome (S.durable store.old) HasEpochs }
+    ensures runs { Runs halt_stop result (S.state store.old) (S.state store.new) (S.durable store.old) (S.durable store.new) }
+    ensures checked { (d : Durable) → S.durable store.old ≡ Some d
+        → Asks (Checks plan (S.state store.old).opening first epoch d stamps.now writes.now) d
+        (S.state store.old) (S.durable store.new) (S.state store.new) (S.may store.new) result }
+{
+    if let Some(cause) = floor_cause(store, plan, epoch, writes) {
+        return Ok(Some(cause));
+    }
+    if let Some(read) = later_read(stamps, epoch, writes)? {
+        return Ok(Some(Cause::ReadLater {
+            by: read.by,
+            epoch: read.epoch,
+            path: read.path,
+        }));
+    }
+    match first_later(store, plan, first, epoch, writes)? {
+        Some(write) => Ok(Some(Cause::WriteLater {
+            by: write.by,
+            epoch: write.epoch,
+            path: write.path,
+        })),
+        None => Ok(None),
+    }
+}
+
+// There is no space.
+fn no_space(target: TargetId, need: u32, free: u32) -> Outcome
+    ensures { result ≡ outcome.NoSpace target need free }
+{
+    Outcome::NoSpace { target, need, free }
+}
+
+// Stores writes with their entry, unless there is no space for them.
+fn store_writes<S: Store>(
+    store: &mut S,
+    plan: TargetPlan,
+    entries: &mut Vec<Entry>,
+    entry: &Entry,
+    writes: &[MinorWrite],
+) -> Result<Option<Outcome>, Halt>
+    requires form { IsPreparable (S.state store.old) entry.now writes.now }
+    requires running { (S.state store.old).stopped ≡ false }
+    requires can { ForSome (S.durable store.old) (CanStore entry.now writes.now) }
+    requires floors { ForSome (S.durable store.old) (λ d. first_floor plan (S.state store.old).opening entry.now.epoch d writes.now ≡ None) }
+    ensures runs { Runs halt_stop result (S.state store.old) (S.state store.new) (S.durable store.old) (S.durable store.new) }
+    ensures stored { (d : Durable) → S.durable store.old ≡ Some d → (first : Option EpochOf) (stamps : List ShownOf)
+        → IsAllowed plan (S.state store.old).opening first entry.now.epoch d stamps writes.now
+        → PreparesOrNot plan (S.state store.old).opening first stamps entry.now writes.now d (S.state store.old) (S.durable store.new) (S.state store.new) (S.may store.new) result }
+    ensures entries { IfOk result (λ how. entries.new.items ≡ entries_then entry.now how entries.old.items) }
+    ensures kept { OnErr result (entries.new.items ≡ entries.old.items) }
+{
+    let need = blocks(writes);
+    let free = store.free();
+    if free < need {
+        return Ok(Some(no_space(plan.me, need, free)));
+    }
+    entries.reserve(1)?;
+    match store.prepare(entry, writes) {
+        Ok(()) => {
+            put(entries, *entry);
+            Ok(None)
+        }
+        Err(PrepareNo::NoSpace { .. }) => unreachable!(),
+        Err(PrepareNo::Stopped) => Err(Halt::Stopped),
+        Err(PrepareNo::Memory) => Err(Halt::Memory),
+    }
+}
+
+/// Checks writes at the epoch of their entry, which the lease covers, and stores them with it; or tells
+/// why they are refused.
+///
+/// # Errors
+///
+/// `Stopped` where the store stopped; else for want of memory.
+pub fn prepare<S: Store>(
+    store: &mut S,
+    plan: TargetPlan,
+    knows: &mut Knows,
+    entry: &Entry,
+    first: Option<Epoch>,
+    writes: &[MinorWrite],
+) -> Result<Option<Outcome>, Halt>
+    requires form { IsPreparable (S.state store.old) entry.now writes.now }
+    requires running { (S.state store.old).stopped ≡ false }
+    requires heard { entry.now.epoch.0 / 256 ≤ knows.old.hlc.ticks }
+    requires can { ForSome (S.durable store.old) (CanStore entry.now writes.now) }
+    requires leads { ForSome (S.durable store.old) (LeadsWell plan (memory_of knows.old) knows.old.entries.items) }
+    ensures runs { Runs halt_stop result (S.state store.old) (S.state store.new) (S.durable store.old) (S.durable store.new) }
+    ensures prepared { (d : Durable) → S.durable store.old ≡ Some d
+        → PreparesOrNot plan (S.state store.old).opening first knows.old.stamps entry.now writes.now d (S.state store.old) (S.durable store.new) (S.state store.new) (S.may store.new) result }
+    ensures beside { IsBeside knows.old knows.new }
+    ensures leader { knows.new.leader ≡ knows.old.leader }
+    ensures leads { says halt_stop result ≡ false → ForSome (S.durable store.new) (LeadsWell plan (memory_of knows.new) knows.new.entries.items) }
+{
+    match refusal(store, &knows.stamps, plan, first, entry.epoch, writes)? {
+        Some(cause) => Ok(Some(Outcome::Restart(cause))),
+        None => store_writes(store, plan, &mut knows.entries, entry, writes),
+    }
+}

@@ -1,0 +1,186 @@
+// A target hears a Commit: whole turns.
+ghost use Rattle.std.specs.Prelude.{◌≡◌, ◌/◌, ◌<◌, ◌≤◌, ℕ, IfOk, IfErr, IfSome, Some, None, is_some, true, false};
+ghost use Rattle.std.specs.Option.{ForSome};
+ghost use Rattle.daos_messages.specs.declared.message.Message.TheVariants as message;
+ghost use Rattle.daos_model.specs.declared.durable.Durable.{Durable};
+ghost use Rattle.vos_store.specs.Refusals.{says};
+ghost use Rattle.world_base.specs.declared.target.TargetMemory.{TargetMemory};
+ghost use Rattle.world_turns.specs.Commits as commit;
+ghost use Rattle.world_turns.specs.Requests as asked;
+ghost use Rattle.world_posts.specs.Forms.{PostsInForm};
+ghost use Rattle.target_parts.specs.Knowing.{IsApart, IsOpenHere, IsOwn, LeadsWell, memory_of};
+ghost use Rattle.target_parts.specs.Parts.{Runs};
+ghost use Rattle.target_parts.specs.Stops.{stop_foreign, stop_memory, stop_store};
+ghost use Rattle.target_writes.specs.Checks.{AreWrites, CanCommit, CanStore, IsPlaced};
+ghost use Rattle.target_writes.specs.Turns.{CommitTurn, begun_of};
+
+use crate::checks::prepare;
+use crate::members::members_of;
+use daos_base::entry::Entry;
+use daos_base::epoch::Epoch;
+use daos_base::id::AttemptId;
+use daos_base::items::Memory;
+use daos_base::outcome::Outcome;
+use daos_messages::actor::ActorId;
+use daos_messages::message::Message;
+use daos_outside::clock::Clock;
+use dtx_posts::written::writes_at;
+use std::alloc::Global;
+use target_parts::epochs::ready;
+use target_parts::halt::Halt;
+use target_parts::kept::seat_of;
+use target_parts::knows::Knows;
+use target_parts::stop::{TargetStop, stop_of};
+use target_parts::telling::{issued_for, says, sends};
+use vos_store::refusal::Stopped;
+use vos_store::store::Store;
+use world_base::did::Did;
+use world_base::request::CommitRequest;
+use world_base::target::TargetPlan;
+
+// An attempt ended.
+fn ended(attempt: AttemptId, ep: Option<Epoch>, outcome: Outcome) -> Message
+    ensures { result ≡ message.Ended attempt ep outcome }
+{
+    Message::Ended {
+        attempt,
+        ep,
+        outcome,
+    }
+}
+
+// The entry of an attempt that this target leads.
+fn led_entry(
+    alloc: Global,
+    plan: TargetPlan,
+    request: &CommitRequest,
+    epoch: Epoch,
+) -> Result<Entry, Memory>
+    requires few { plan.targets ≤ 64 }
+    requires writes { AreWrites plan request.now.writes }
+    ensures { IfOk result (λ entry. entry ≡ commit.led_entry plan request.now epoch) }
+{
+    let members = members_of(alloc, request.writes.as_slice(), plan.targets)?;
+    Ok(Entry {
+        attempt: request.attempt,
+        epoch,
+        leader: plan.me,
+        members,
+        confirmed: 0,
+        committed: false,
+    })
+}
+
+// An attempt begins, whose own writes are stored.
+fn begin<S: Store>(
+    alloc: Global,
+    plan: TargetPlan,
+    store: &S,
+    knows: &mut Knows,
+    from: ActorId,
+    request: &CommitRequest,
+    entry: &Entry,
+) -> Result<Did, TargetStop>
+    requires writes { AreWrites plan request.now.writes }
+    requires running { (S.state store.now).stopped ≡ false }
+    requires own { IsOwn plan knows.old }
+    requires entry { entry.now ≡ commit.led_entry plan request.now entry.now.epoch }
+    requires here { ForSome (S.durable store.now) (IsOpenHere plan.me request.now.attempt) }
+    requires apart { ForSome (S.durable store.now) (λ _. IsApart request.now.attempt knows.old.leader) }
+    requires leads { ForSome (S.durable store.now) (LeadsWell plan (memory_of knows.old) knows.old.entries.items) }
+    ensures begun { ForSome (S.durable store.now) (λ d. IfOk result (λ did. (memory_of knows.new, did) ≡ begun_of plan (memory_of knows.old) request.now from entry.now.epoch d)) }
+    ensures wanting { IfErr result (λ stop. stop ≡ stop_memory) }
+    ensures leads { ForSome (S.durable store.now) (LeadsWell plan (memory_of knows.new) knows.new.entries.items) }
+    ensures own { IsOwn plan knows.new }
+    ensures posts { plan.me < plan.targets → from.client ≡ true → IfOk result (λ did. PostsInForm plan.targets knows.old.leader knows.new.leader did.posts) }
+{
+    let seat = seat_of(plan, store);
+    let posts = knows.leader.begin(seat, entry, request.first, from, request.writes.as_slice())?;
+    let issued = issued_for(request.attempt, request.ep, entry.epoch);
+    Ok(sends(alloc, posts, issued))
+}
+
+// It commits an attempt's writes at an epoch that the lease covers.
+fn commit_at<S: Store>(
+    alloc: Global,
+    plan: TargetPlan,
+    store: &mut S,
+    knows: &mut Knows,
+    from: ActorId,
+    request: &CommitRequest,
+    epoch: Epoch,
+) -> Result<Did, TargetStop>
+    requires placed { IsPlaced plan (S.state store.old) }
+    requires few { plan.targets ≤ 64 }
+    requires writes { AreWrites plan request.now.writes }
+    requires running { (S.state store.old).stopped ≡ false }
+    requires own { IsOwn plan knows.old }
+    requires heard { epoch.0 / 256 ≤ knows.old.hlc.ticks }
+    requires can { ForSome (S.durable store.old) (CanStore (commit.led_entry plan request.now epoch) request.now.writes) }
+    requires leads { ForSome (S.durable store.old) (LeadsWell plan (memory_of knows.old) knows.old.entries.items) }
+    ensures runs { Runs stop_store result (S.state store.old) (S.state store.new) (S.durable store.old) (S.durable store.new) }
+    ensures turn { (d : Durable) → S.durable store.old ≡ Some d → (m : TargetMemory) (reading : ℕ) → asked.with_ticks epoch m ≡ memory_of knows.old
+        → CommitTurn plan (S.state store.old).opening m reading request.now from (commit.CommitStage.Checking epoch) d (S.state store.old)
+        (S.durable store.new) (S.state store.new) (S.may store.new) (memory_of knows.new) result }
+    ensures leads { says stop_store result ≡ false → ForSome (S.durable store.new) (LeadsWell plan (memory_of knows.new) knows.new.entries.items) }
+    ensures own { IsOwn plan knows.new }
+    ensures native { says stop_foreign result ≡ false }
+    ensures posts { from.client ≡ true → IfOk result (λ did. PostsInForm plan.targets knows.old.leader knows.new.leader did.posts) }
+{
+    let issued = issued_for(request.attempt, request.ep, epoch);
+    let entry = led_entry(alloc, plan, request, epoch)?;
+    let own = writes_at(alloc, request.writes.as_slice(), plan.targets, plan.me)?;
+    match prepare(store, plan, knows, &entry, request.first, own.as_slice()) {
+        Ok(None) => begin(alloc, plan, store, knows, from, request, &entry),
+        Ok(Some(outcome)) => says(
+            alloc,
+            from,
+            ended(request.attempt, Some(epoch), outcome),
+            issued,
+        ),
+        Err(halt) => Err(stop_of(alloc, halt, issued)),
+    }
+}
+
+/// It hears a Commit: an epoch is issued or heard, which the lease is to cover, and the writes of its
+/// groups are checked and stored at it; then the attempt begins. Its clock is read only where an epoch
+/// is issued.
+///
+/// # Errors
+///
+/// `Store` where the store stopped, and then the turn was cut short; else for want of memory.
+pub fn hear_commit<S: Store, C: Clock>(
+    alloc: Global,
+    plan: TargetPlan,
+    store: &mut S,
+    clock: &mut C,
+    knows: &mut Knows,
+    from: ActorId,
+    request: &CommitRequest,
+) -> Result<Did, TargetStop>
+    requires placed { IsPlaced plan (S.state store.old) }
+    requires few { plan.targets ≤ 64 }
+    requires writes { AreWrites plan request.now.writes }
+    requires running { (S.state store.old).stopped ≡ false }
+    requires own { IsOwn plan knows.old }
+    requires here { ForSome (S.durable store.old) (CanCommit request.now.attempt request.now.ep request.now.writes) }
+    requires leads { ForSome (S.durable store.old) (LeadsWell plan (memory_of knows.old) knows.old.entries.items) }
+    ensures runs { Runs stop_store result (S.state store.old) (S.state store.new) (S.durable store.old) (S.durable store.new) }
+    ensures turn { (reading : ℕ) × IfSome (C.next clock.old) (λ r. r ≡ reading) × ((d : Durable) → S.durable store.old ≡ Some d
+        → CommitTurn plan (S.state store.old).opening (memory_of knows.old) reading request.now from commit.CommitStage.Asked d (S.state store.old)
+        (S.durable store.new) (S.state store.new) (S.may store.new) (memory_of knows.new) result) }
+    ensures leads { says stop_store result ≡ false → ForSome (S.durable store.new) (LeadsWell plan (memory_of knows.new) knows.new.entries.items) }
+    ensures own { IsOwn plan knows.new }
+    ensures native { says stop_foreign result ≡ false }
+    ensures unread { is_some request.now.ep ≡ true → clock.new ≡ clock.old }
+    ensures posts { from.client ≡ true → IfOk result (λ did. PostsInForm plan.targets knows.old.leader knows.new.leader did.posts) }
+{
+    match ready(store, clock, &mut knows.hlc, request.tracker, request.ep) {
+        Ok(Some(epoch)) => commit_at(alloc, plan, store, knows, from, request, epoch),
+        Ok(None) => {
+            let message = ended(request.attempt, None, Outcome::EpochsSpent);
+            says(alloc, from, message, None)
+        }
+        Err(Stopped) => Err(stop_of(alloc, Halt::Stopped, None)),
+    }
+}
