@@ -1,5 +1,6 @@
 -- What the program writes, and what its answers stand for.
 use Rattle.std.specs.Prelude.{ℕ, ◌≡◌, List, Option, Some, None, Ok}
+use Rattle.daos_base.specs.declared.fault.ScriptFault.{ScriptFault}
 use Rattle.daos_base.specs.declared.job.Job.{Job}
 use Rattle.daos_base.specs.declared.report.Report.{Report}
 use Rattle.daos_base.specs.declared.script.Script.{Script}
@@ -16,18 +17,18 @@ use Rattle.daos_run.specs.Opens.{FollowsOrder, IsLegal}
 use Rattle.daos_status.specs.declared.status.Status.{Status}
 use Rattle.daos_status.specs.declared.status.Status.TheVariants as status
 use Rattle.daos_summary.specs.Summaries.{summary_text}
-use Rattle.world_lone.specs.LoneRuns.{AreIssuedBy}
+use Rattle.world_lone.specs.LoneRuns.{AreIssuedThere}
 
 -- ---- what is written
 
 -- What the report of a run is: legal for the script by the headline, over regions of zeros that nothing disturbs, and in the form in
--- which a text determines its report. It tells of turns in the order asked; target 0 issued all epochs; where there is room for all that
--- the script writes, no attempt is refused for want of it; and a client that is alone is never told to restart.
+-- which a text determines its report. It tells of turns in the order asked; the targets of the run issued all epochs; where there is room for
+-- all that the script writes, no attempt is refused for want of it; and a client that is alone is never told to restart.
 pub record IsRunReport (g : Given) (q : Report) : Type 0 where
   pub form : IsReportOf g.script q
   pub legal : IsLegal g q
   pub ordered : FollowsOrder g q
-  pub issued : AreIssuedBy 0 q
+  pub issued : AreIssuedThere q
   pub room : HasRoom g.script g.job.attempts g.opening.free → FindsRoom q
   pub lone : HasOneClient g.script → IsOfLoneClient g q
 
@@ -43,10 +44,10 @@ pub record IsSummed (job : Job) (count : ℕ) (text : List ℕ) : Type 0 where
   pub of_run : IsRunReport (fresh (script_of job.targets count) job) report
   pub told : text ≡ summary_text report count
 
--- what a run tells: the source was read to its end, and the text is that of one report for the script that was read
+-- what a run tells: the source was read to its end, and the text is that of one report for the script that was read, for the targets asked
 pub record IsRun (job : Job) (left left_now : Option (List ℕ)) (text : List ℕ) : Type 0 where
   pub script : Script
-  pub read : IsRead left left_now script
+  pub read : IsRead job.targets left left_now script
   pub reported : IsReported job script text
 
 -- what a job tells: a run its report, a load the summary of its report
@@ -108,15 +109,21 @@ IsAnswerOfLoad status.Memory = Unit {0}
 IsAnswerOfLoad (status.Down target) = ⊥
 IsAnswerOfLoad (status.Shape target what found asked) = ⊥
 
--- why nothing is written, before the sink is asked: a script is refused for the bytes read
-abbrev pub IsRefusal : Option (List ℕ) → Option (List ℕ) → Status → Type 0
-IsRefusal left left_now status.Done = ⊥
-IsRefusal left left_now (status.Words fault) = Unit {0}
-IsRefusal left left_now (status.Script fault) = IsRefused left left_now fault
-IsRefusal left left_now status.ReadFault = Unit {0}
-IsRefusal left left_now status.WriteFault = ⊥
-IsRefusal left left_now (status.RackFault target) = ⊥
-IsRefusal left left_now (status.Foreign target at byte) = ⊥
-IsRefusal left left_now status.Memory = Unit {0}
-IsRefusal left left_now (status.Down target) = ⊥
-IsRefusal left left_now (status.Shape target what found asked) = ⊥
+-- words ask for a job, and the bytes read are refused as a script for its targets
+pub record RefusesScript (words : List (List ℕ)) (left left_now : Option (List ℕ)) (fault : ScriptFault) : Type 0 where
+  pub job : Job
+  pub asked : run_job_of words ≡ Ok job
+  pub why : IsRefused job.targets left left_now fault
+
+-- why nothing is written, before the sink is asked; a script is refused for such a fault
+abbrev pub IsRefusal : (ScriptFault → Type 0) → Status → Type 0
+IsRefusal refuses status.Done = ⊥
+IsRefusal refuses (status.Words fault) = Unit {0}
+IsRefusal refuses (status.Script fault) = refuses fault
+IsRefusal refuses status.ReadFault = Unit {0}
+IsRefusal refuses status.WriteFault = ⊥
+IsRefusal refuses (status.RackFault target) = ⊥
+IsRefusal refuses (status.Foreign target at byte) = ⊥
+IsRefusal refuses status.Memory = Unit {0}
+IsRefusal refuses (status.Down target) = ⊥
+IsRefusal refuses (status.Shape target what found asked) = ⊥

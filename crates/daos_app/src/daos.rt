@@ -5,8 +5,7 @@ ghost use Rattle.daos_base.specs.declared.fault.ScriptFault.{ScriptFault};
 ghost use Rattle.daos_base.specs.declared.fault.WordFault.{WordFault};
 ghost use Rattle.daos_outside.specs.Causes.{Rose};
 ghost use Rattle.daos_outside.specs.Transfers.{AppendsPrefix};
-ghost use Rattle.daos_app.specs.Answers.{AsksLoad, IsAnswerOfLoad, IsAnswerSoFar, IsBeforeRun, IsTold};
-ghost use Rattle.daos_input.specs.Inputs.{IsRefused};
+ghost use Rattle.daos_app.specs.Answers.{AsksLoad, IsAnswerOfLoad, IsAnswerSoFar, IsBeforeRun, IsTold, RefusesScript};
 ghost use Rattle.daos_input.specs.Words.{run_job_of};
 
 use crate::output::write_text;
@@ -42,9 +41,9 @@ pub fn run_daos<R: Threads + Wait + Sync, S: Source, K: Sink, B: Rack, G: Gate +
     // what isn't run so far, where `NotYet` is told.
     ensures words { (fault : WordFault) → (result ≡ Status.Words fault) ↔ (run_job_of (map string_bytes words.now) ≡ Err fault) }
 
-    // A script is refused exactly where the bytes read have a first fault, which is told, or have none
-    // but aren't run so far.
-    ensures script { (fault : ScriptFault) → result ≡ Status.Script fault → IsRefused (S.left source.old) (S.left source.new) fault }
+    // A script is refused exactly where the bytes read have, as a script for the targets asked, a first
+    // fault, which is told, or have none but aren't run so far.
+    ensures script { (fault : ScriptFault) → result ≡ Status.Script fault → RefusesScript (map string_bytes words.now) (S.left source.old) (S.left source.new) fault }
 
     // Faults come only where the outside shows them.
     ensures read { result ≡ Status.ReadFault → Rose (S.count source.old) (S.count source.new) }

@@ -19,7 +19,7 @@ use std::alloc::{AllocError, Global};
 use std::sync::Wait;
 use std::thread::Threads;
 
-/// Runs a script for one target, and makes the text of its report.
+/// Runs a script for the targets of a job, and makes the text of its report.
 ///
 /// # Errors
 ///
@@ -32,9 +32,8 @@ pub fn run_text<R: Threads + Wait + Sync, B: Rack, G: Gate + Sync>(
     rack: &mut B,
     gate: &G,
 ) -> Result<Vec<u8>, RunStop>
-    requires one { job.now.targets ≡ 1 }
     requires job { IsInForm job.now }
-    requires script { IsRunnable 1 script.now }
+    requires script { IsRunnable job.now.targets script.now }
     requires keys { ScriptHasKeys script.now }
     ensures reported { IfOk result (λ text. IsReported job.now script.now text.items) }
     ensures refusals { IsOkUnless result RunStop.Memory }
@@ -44,8 +43,8 @@ pub fn run_text<R: Threads + Wait + Sync, B: Rack, G: Gate + Sync>(
     Ok(report_text(alloc, &report, script)?)
 }
 
-/// Runs the generated script of so many commands, 1 to 10,000, for one target, and makes the summary
-/// of its report.
+/// Runs the generated script of so many commands, 1 to 10,000, for the targets of a job, and makes the
+/// summary of its report.
 ///
 /// # Errors
 ///
@@ -58,7 +57,6 @@ pub fn load_text<R: Threads + Wait + Sync, B: Rack, G: Gate + Sync>(
     rack: &mut B,
     gate: &G,
 ) -> Result<Vec<u8>, RunStop>
-    requires one { job.now.targets ≡ 1 }
     requires job { IsInForm job.now }
     requires some { 0 < count }
     requires few { count ≤ 10000 }
@@ -66,7 +64,7 @@ pub fn load_text<R: Threads + Wait + Sync, B: Rack, G: Gate + Sync>(
     ensures refusals { IsOkUnless result RunStop.Memory }
     ensures rack { B.count rack.new ≡ B.count rack.old }
 {
-    let script = load_script(alloc, count)?;
+    let script = load_script(alloc, count, job.targets)?;
     let report = run_script(rt, alloc, job, &script, rack, gate)?;
     Ok(summary_text(alloc, &report, count)?)
 }

@@ -2,7 +2,8 @@
 ghost use Rattle.std.specs.Prelude.{◌≡◌, ◌≤◌, ◌<◌, ◌↔◌, Err, Some, map, string_bytes, IfErr, IfOk, IsErrOf};
 ghost use Rattle.daos_base.specs.declared.fault.WordFault.{WordFault};
 ghost use Rattle.daos_outside.specs.Causes.{Rose};
-ghost use Rattle.daos_app.specs.Answers.{AsksLoad, IsAnswerOfLoad, IsBeforeRun, IsRefusal, IsRun, IsSummed, IsTold};
+ghost use Rattle.daos_app.specs.Answers.{AsksLoad, IsAnswerOfLoad, IsBeforeRun, IsRefusal, IsRun, IsSummed, IsTold, RefusesScript};
+ghost use Rattle.daos_input.specs.Inputs.{IsRefused};
 ghost use Rattle.daos_input.specs.Words.{run_job_of};
 ghost use Rattle.daos_words.specs.Laws.{IsInForm};
 
@@ -28,17 +29,16 @@ fn report_text_of<R: Threads + Wait + Sync, S: Source, B: Rack, G: Gate + Sync>(
     rack: &mut B,
     gate: &G,
 ) -> Result<Vec<u8>, Status>
-    requires one { job.now.targets ≡ 1 }
     requires job { IsInForm job.now }
     ensures text { IfOk result (λ text. IsRun job.now (S.left source.old) (S.left source.new) text.items) }
-    ensures refused { IfErr result (IsRefusal (S.left source.old) (S.left source.new)) }
+    ensures refused { IfErr result (IsRefusal (IsRefused job.now.targets (S.left source.old) (S.left source.new))) }
     ensures no_words { (fault : WordFault) → IsErrOf result (Status.Words fault) → ⊥ }
     ensures fault { IsErrOf result Status.ReadFault → Rose (S.count source.old) (S.count source.new) }
     ensures unasked { IfErr result (λ status. IsBeforeRun status → rack.new ≡ rack.old) }
     ensures later { S.count source.old ≤ S.count source.new }
     ensures rack { B.count rack.new ≡ B.count rack.old }
 {
-    let script = match read_input(alloc, source) {
+    let script = match read_input(alloc, source, job.targets) {
         Ok(script) => script,
         Err(InputNo::Fault) => return Err(Status::ReadFault),
         Err(InputNo::Refused(fault)) => return Err(Status::Script(fault)),
@@ -59,7 +59,6 @@ fn summary_text_of<R: Threads + Wait + Sync, B: Rack, G: Gate + Sync>(
     rack: &mut B,
     gate: &G,
 ) -> Result<Vec<u8>, Status>
-    requires one { job.now.targets ≡ 1 }
     requires job { IsInForm job.now }
     requires load { job.now.load ≡ Some count }
     ensures text { IfOk result (λ text. IsSummed job.now count text.items) }
@@ -79,6 +78,7 @@ fn summary_text_of<R: Threads + Wait + Sync, B: Rack, G: Gate + Sync>(
 ///
 /// `Words`, then `ReadFault`, then `Script`; and `Memory` at any place. A load reads nothing, and has
 /// no error behind the words but `Memory`.
+#[tactic(auto, using(crate::proofs::Refusals::all_refused_for))]
 pub fn text_of<R: Threads + Wait + Sync, S: Source, B: Rack, G: Gate + Sync>(
     rt: &R,
     alloc: Global,
@@ -88,7 +88,7 @@ pub fn text_of<R: Threads + Wait + Sync, S: Source, B: Rack, G: Gate + Sync>(
     gate: &G,
 ) -> Result<Vec<u8>, Status>
     ensures text { IfOk result (λ text. IsTold (map string_bytes words.now) (S.left source.old) (S.left source.new) text.items) }
-    ensures refused { IfErr result (IsRefusal (S.left source.old) (S.left source.new)) }
+    ensures refused { IfErr result (IsRefusal (RefusesScript (map string_bytes words.now) (S.left source.old) (S.left source.new))) }
     ensures words { (fault : WordFault) → IsErrOf result (Status.Words fault) ↔ (run_job_of (map string_bytes words.now) ≡ Err fault) }
     ensures fault { IsErrOf result Status.ReadFault → Rose (S.count source.old) (S.count source.new) }
     ensures unread { (fault : WordFault) → IsErrOf result (Status.Words fault) → source.new ≡ source.old }

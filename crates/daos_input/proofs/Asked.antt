@@ -10,7 +10,7 @@ use Rattle.daos_words.specs.Words.{answered, job_of}
 use Rattle.daos_input.specs.Words.{IsRefusedFor, is_run, place_of_more, run_job_of, run_or_not_yet}
 
 abbrev not_yet : List (List ℕ) → Job → Result Job WordFault
-not_yet ws j = Err (record { place = place_of_more j ws; kind = NotYet })
+not_yet ws j = Err (record { place = place_of_more ws; kind = NotYet })
 
 answered_ok : (r : Result Job WordFault) (j : Job) → answered r ≡ Ok j → r ≡ Ok j
 answered_ok (Ok i) j e = let same : i ≡ j = cc in ap (λ x. Ok x) same
@@ -25,7 +25,7 @@ unfolding run_job_of
 run_is_asked ws j e h = ap (λ r. r >>= run_or_not_yet ws) (answered_ok (job_of ws) j e) ∙ ap (λ b. cond b (Ok j) (not_yet ws j)) h
 
 -- one that isn't
-pub more_is_asked : (ws : List (List ℕ)) (j : Job) → answered (job_of ws) ≡ Ok j → is_run j ≡ false → run_job_of ws ≡ Err (record { place = place_of_more j ws; kind = NotYet })
+pub more_is_asked : (ws : List (List ℕ)) (j : Job) → answered (job_of ws) ≡ Ok j → is_run j ≡ false → run_job_of ws ≡ Err (record { place = place_of_more ws; kind = NotYet })
 unfolding run_job_of
 more_is_asked ws j e h = ap (λ r. r >>= run_or_not_yet ws) (answered_ok (job_of ws) j e) ∙ ap (λ b. cond b (Ok j) (not_yet ws j)) h
 

@@ -13,36 +13,36 @@ use Rattle.daos_script.specs.Grammar.{HasFault, IsScriptText}
 abbrev pub script_not_yet : ScriptFault
 script_not_yet = record { line = 0; why = NotYet }
 
--- the bytes read, to the source's end, are a text of the script, which is run so far
-pub record IsRead (left left_now : Option (List ℕ)) (script : Script) : Type 0 where
+-- the bytes read, to the source's end, are a text of the script for so many targets, which is run so far
+pub record IsRead (targets : ℕ) (left left_now : Option (List ℕ)) (script : Script) : Type 0 where
   pub bytes : List ℕ
   pub consumed : Consumes left left_now bytes
   pub at_end : IsAtEnd left_now
-  pub grammar : IsScriptText 1 bytes script
+  pub grammar : IsScriptText targets bytes script
   pub run : runs script ≡ true
 
 -- a text of a script that isn't run so far
-pub record IsNotYetRun (bytes : List ℕ) (fault : ScriptFault) : Type 0 where
+pub record IsNotYetRun (targets : ℕ) (bytes : List ℕ) (fault : ScriptFault) : Type 0 where
   pub script : Script
-  pub grammar : IsScriptText 1 bytes script
+  pub grammar : IsScriptText targets bytes script
   pub not_run : runs script ≡ false
   pub not_yet : fault ≡ script_not_yet
 
 -- the bytes read are all that there were, or one more than 16 MiB; they have this first fault, or none, but are not run so far
-pub record IsRefused (left left_now : Option (List ℕ)) (fault : ScriptFault) : Type 0 where
+pub record IsRefused (targets : ℕ) (left left_now : Option (List ℕ)) (fault : ScriptFault) : Type 0 where
   pub bytes : List ℕ
   pub consumed : Consumes left left_now bytes
   pub all : (length bytes ≡ 16777217) ⊎ IsAtEnd left_now
-  pub why : HasFault 1 bytes fault ⊎ IsNotYetRun bytes fault
+  pub why : HasFault targets bytes fault ⊎ IsNotYetRun targets bytes fault
 
 -- a text is refused for its first fault, or because it isn't run so far
-abbrev pub IsScriptRefused : List ℕ → InputNo → Type 0
-IsScriptRefused bytes Fault = ⊥
-IsScriptRefused bytes (Refused fault) = HasFault 1 bytes fault ⊎ IsNotYetRun bytes fault
-IsScriptRefused bytes Memory = Unit {0}
+abbrev pub IsScriptRefused : ℕ → List ℕ → InputNo → Type 0
+IsScriptRefused targets bytes Fault = ⊥
+IsScriptRefused targets bytes (Refused fault) = HasFault targets bytes fault ⊎ IsNotYetRun targets bytes fault
+IsScriptRefused targets bytes Memory = Unit {0}
 
 -- the bytes that were read are
-abbrev pub RefusesFor : Option (List ℕ) → Option (List ℕ) → InputNo → Type 0
-RefusesFor left left_now Fault = Unit {0}
-RefusesFor left left_now (Refused fault) = IsRefused left left_now fault
-RefusesFor left left_now Memory = Unit {0}
+abbrev pub RefusesFor : ℕ → Option (List ℕ) → Option (List ℕ) → InputNo → Type 0
+RefusesFor targets left left_now Fault = Unit {0}
+RefusesFor targets left left_now (Refused fault) = IsRefused targets left left_now fault
+RefusesFor targets left left_now Memory = Unit {0}

@@ -35,17 +35,19 @@ pub enum InputNo {
 }
 
 // The script of a text, where the program runs it.
-fn runnable(alloc: Global, bytes: &[u8]) -> Result<Script, InputNo>
-    ensures grammar { IfOk result (λ script. IsScriptText 1 bytes.now script) }
+fn runnable(alloc: Global, bytes: &[u8], targets: u8) -> Result<Script, InputNo>
+    requires some { 1 ≤ targets }
+    requires few { targets ≤ 64 }
+    ensures grammar { IfOk result (λ script. IsScriptText targets bytes.now script) }
     ensures run { IfOk result (λ script. runs script ≡ true) }
-    ensures form { IfOk result (λ script. IsRunnable 1 script) }
+    ensures form { IfOk result (λ script. IsRunnable targets script) }
     ensures keys { IfOk result (λ script. ScriptHasKeys script) }
-    ensures refused { IfErr result (IsScriptRefused bytes.now) }
+    ensures refused { IfErr result (IsScriptRefused targets bytes.now) }
     ensures short { IfOk result (λ script. length bytes.now ≤ 16777216) }
 {
     laws_of_keys();
     texts_are_short();
-    match read_script(alloc, bytes, 1) {
+    match read_script(alloc, bytes, targets) {
         Ok(script) if runs(&script) => Ok(script),
         Ok(_) => Err(InputNo::Refused(ScriptFault {
             line: 0,
@@ -56,7 +58,7 @@ fn runnable(alloc: Global, bytes: &[u8]) -> Result<Script, InputNo>
     }
 }
 
-/// Reads a source to its end, and the script for one target that its bytes are, where the program
+/// Reads a source to its end, and the script for so many targets that its bytes are, where the program
 /// runs it.
 ///
 /// # Errors
@@ -64,11 +66,13 @@ fn runnable(alloc: Global, bytes: &[u8]) -> Result<Script, InputNo>
 /// `Fault` only where the source's count of faults rose in this call. `Refused` exactly where the
 /// bytes, to the source's end or to 16,777,217 of them, are no script, with the first fault, or
 /// are one that the program doesn't run yet, with `NotYet` at line 0.
-pub fn read_input<S: Source>(alloc: Global, source: &mut S) -> Result<Script, InputNo>
-    ensures script { IfOk result (λ script. IsRead (S.left source.old) (S.left source.new) script) }
-    ensures form { IfOk result (λ script. IsRunnable 1 script) }
+pub fn read_input<S: Source>(alloc: Global, source: &mut S, targets: u8) -> Result<Script, InputNo>
+    requires some { 1 ≤ targets }
+    requires few { targets ≤ 64 }
+    ensures script { IfOk result (λ script. IsRead targets (S.left source.old) (S.left source.new) script) }
+    ensures form { IfOk result (λ script. IsRunnable targets script) }
     ensures keys { IfOk result (λ script. ScriptHasKeys script) }
-    ensures refused { IfErr result (RefusesFor (S.left source.old) (S.left source.new)) }
+    ensures refused { IfErr result (RefusesFor targets (S.left source.old) (S.left source.new)) }
     ensures fault { IsErrOf result InputNo.Fault → Rose (S.count source.old) (S.count source.new) }
     ensures later { S.count source.old ≤ S.count source.new }
 {
@@ -77,5 +81,5 @@ pub fn read_input<S: Source>(alloc: Global, source: &mut S) -> Result<Script, In
         Err(ReadNo::Fault) => return Err(InputNo::Fault),
         Err(ReadNo::TooLong | ReadNo::Memory) => return Err(InputNo::Memory),
     };
-    runnable(alloc, &bytes)
+    runnable(alloc, &bytes, targets)
 }

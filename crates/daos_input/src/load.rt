@@ -10,18 +10,20 @@ use daos_gen::script::make_script;
 use daos_gen_keys::laws_of_loads;
 use std::alloc::Global;
 
-/// The generated script of a load of so many commands, 1 to 10,000, on one target.
+/// The generated script of a load of so many commands, 1 to 10,000, on so many targets.
 ///
 /// # Errors
 ///
 /// For want of memory alone.
-pub fn load_script(alloc: Global, count: u32) -> Result<Script, Memory>
+pub fn load_script(alloc: Global, count: u32, targets: u8) -> Result<Script, Memory>
     requires some { 0 < count }
     requires few { count ≤ 10000 }
-    ensures exact { IfOk result (λ script. script ≡ script_of 1 count) }
-    ensures form { IfOk result (λ script. IsRunnable 1 script) }
+    requires some_targets { 1 ≤ targets }
+    requires few_targets { targets ≤ 64 }
+    ensures exact { IfOk result (λ script. script ≡ script_of targets count) }
+    ensures form { IfOk result (λ script. IsRunnable targets script) }
     ensures keys { IfOk result (λ script. ScriptHasKeys script) }
 {
     laws_of_loads();
-    make_script(alloc, count, 1)
+    make_script(alloc, count, targets)
 }

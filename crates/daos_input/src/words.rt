@@ -10,14 +10,11 @@ use daos_words::fault::WordNo;
 use daos_words::words::{read_words, words_are_jobs};
 use std::alloc::Global;
 
-// The targets that are run so far.
-const TARGETS: u8 = 1;
-
 // Whether a job is run so far.
 fn is_run(job: &Job) -> bool
     ensures { result ≡ is_run job.now }
 {
-    job.targets == TARGETS && !job.threads
+    !job.threads
 }
 
 // Whether a word is this option, with or without its value.
@@ -28,38 +25,34 @@ fn is_option(word: &[u8], name: &[u8]) -> bool
 }
 
 // Whether a word asks for what isn't run so far.
-fn asks_more(job: &Job, word: &[u8]) -> bool
-    ensures { result ≡ asks_more job.now word.now }
+fn asks_more(word: &[u8]) -> bool
+    ensures { result ≡ asks_more word.now }
 {
-    is_option(word, b"--threads") || job.targets != TARGETS && is_option(word, b"--targets")
+    is_option(word, b"--threads")
 }
 
-// The place that a job that isn't run yet is told at: that of the first such word, or that behind the
-// last word.
-fn place_of_more(job: &Job, words: &[String]) -> usize
-    ensures exact { result ≡ place_of_more job.now (map string_bytes words.now) }
+// The place that a job that isn't run yet is told at: that of the first such word.
+fn place_of_more(words: &[String]) -> usize
+    ensures exact { result ≡ place_of_more (map string_bytes words.now) }
     ensures within { result ≤ length words.now }
 {
     for (place, word) in words.iter().enumerate() {
-        if asks_more(job, word.as_bytes()) {
+        if asks_more(word.as_bytes()) {
             return place;
         }
     }
     words.len()
 }
 
-/// The job that words ask for, where it is run so far: a script or a load, on one target and without
-/// threads.
+/// The job that words ask for, where it is run so far: a script or a load, without threads.
 ///
 /// # Errors
 ///
-/// The first fault of the words. Where they have none but ask for more than is run, `NotYet`: at
-/// the first option that does; behind the words where the number of targets is left out. `Memory`
-/// never comes.
+/// The first fault of the words. Where they have none but ask for threads, `NotYet` at that option.
+/// `Memory` never comes.
 pub fn run_job(alloc: Global, words: &[String]) -> Result<Job, WordNo>
     ensures job { IfOk result (λ job. run_job_of (map string_bytes words.now) ≡ Ok job) }
     ensures refused { IfErr result (IsRefusedFor (map string_bytes words.now)) }
-    ensures one { IfOk result (λ job. job.targets ≡ 1) }
     ensures form { IfOk result IsInForm }
 {
     words_are_jobs();
@@ -68,7 +61,7 @@ pub fn run_job(alloc: Global, words: &[String]) -> Result<Job, WordNo>
         return Ok(job);
     }
     Err(WordNo::Fault(WordFault {
-        place: place_of_more(&job, words) as u32,
+        place: place_of_more(words) as u32,
         kind: WordKind::NotYet,
     }))
 }

@@ -29,7 +29,7 @@ fn run<R: Threads + Wait + Sync, S: Source, K: Sink>(
     let Ok(words) = args.skip(1).collect::<Vec<String>>(alloc) else {
         return Status::Memory;
     };
-    match SureRack::new(alloc, 1, REGION_SIZE) {
+    match SureRack::new(alloc, 64, REGION_SIZE) {
         Ok(mut rack) => run_daos(rt, alloc, &words, source, sink, &mut rack, &FreeGate),
         Err(_) => Status::Memory,
     }

@@ -1,11 +1,12 @@
 -- The clients of a script, made one after another.
 use Rattle.std.specs.Prelude.{ℕ, ◌≡◌, ◌+◌, List, [], ◌∷◌, ◌++◌, length, slice_get, Some, refl}
-use Rattle.std.proofs.Common.{zero, suc, ◌∙◌, ap, sym, subst, arith}
+use Rattle.std.proofs.Common.{◌∙◌, ap, sym}
 use Rattle.client_core.specs.Clients.{ClientNow}
 use Rattle.daos_base.specs.declared.epoch.Epoch.{Epoch}
 use Rattle.daos_base.specs.declared.script.Command.{Command}
 use Rattle.daos_base.specs.declared.script.Script.{Script}
 use Rattle.daos_run.specs.Opens.{AreFirst}
+use Rattle.daos_run.proofs.Slots.{at-end, length-end}
 use Rattle.world_base.specs.ClientTurns.{at_first, plan_of}
 
 -- those of the lists with numbers below this
@@ -23,17 +24,6 @@ none-yet s attempts tracker cs none = record {
   where
     nowhere : (k : ℕ) (c : ClientNow) → slice_get cs k ≡ Some c → ⊥
     nowhere k c at = let bad : slice_get [] k ≡ Some c = ap (λ xs. slice_get xs k) (sym none) ∙ at in let no : ⊥ = cc in no
-
-length-end : {T : Type 0} (xs : List T) (x : T) → length (xs ++ x ∷ []) ≡ length xs + 1
-length-end [] x = refl
-length-end (y ∷ ys) x = let k : length (ys ++ x ∷ []) ≡ length ys + 1 = length-end ys x in ap suc k ∙ (let e : suc (length ys + 1) ≡ suc (length ys) + 1 = omega arith in e)
-
--- an element of a list with one more is an old one, or the new one at its end
-at-end : {T : Type 0} (P : ℕ → T → Type 0) (xs : List T) (x : T) → ((k : ℕ) (y : T) → slice_get xs k ≡ Some y → P k y) → P (length xs) x → (k : ℕ) (y : T) → slice_get (xs ++ x ∷ []) k ≡ Some y → P k y
-at-end P [] x old new zero y at = let same : x ≡ y = cc in subst (P 0) same new
-at-end P [] x old new (suc k) y at = let no : ⊥ = cc in absurd no
-at-end P (z ∷ zs) x old new zero y at = old 0 y at
-at-end P (z ∷ zs) x old new (suc k) y at = at-end (λ n. P (suc n)) zs x (λ n w h. old (suc n) w h) new k y at
 
 pub one-more : (s : Script) (attempts : ℕ) (tracker : Epoch) (cs cs' : List ClientNow) (n : ℕ) (c : ClientNow) (list : List Command) → AreSoFar s attempts tracker cs n → cs' ≡ cs ++ c ∷ [] → slice_get s.clients n ≡ Some list → c.plan ≡ plan_of s n attempts list
     → c.state ≡ at_first s [] tracker → AreSoFar s attempts tracker cs' (n + 1)

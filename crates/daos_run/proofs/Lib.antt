@@ -1,7 +1,9 @@
 pub mod Begun
-pub mod OneStore
+pub mod Stores
+pub mod Started
 pub mod Reported
+pub mod Whole
+pub mod Plain
 pub mod Slots
 pub mod Firsts
 pub mod Lone
-pub mod Handed

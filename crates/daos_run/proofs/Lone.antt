@@ -43,31 +43,31 @@ no-stops : (s : Script) → runs s ≡ true → s.stops ≡ []
 unfolding runs
 no-stops s h = none-there s.stops (and_right (length s.olds == 0) (length s.stops == 0) (and_left ((length s.olds == 0) && (length s.stops == 0)) (list_all are_run s.clients) h))
 
-pub only-transactions : (s : Script) → IsRunnable 1 s → OnlyTransactions s
-only-transactions s F = lists-of-transactions s is_run transaction-if-run (lists-run s F.run)
+pub only-transactions : (n : ℕ) (s : Script) → IsRunnable n s → OnlyTransactions s
+only-transactions n s F = lists-of-transactions s is_run transaction-if-run (lists-run s F.run)
 
-pub is-lone : (s : Script) → IsRunnable 1 s → HasOneClient s → IsLone s undisturbed
-is-lone s F one = record { one = one; plain = only-transactions s F; no_stops = no-stops s F.run; undisturbed = λ t. refl }
+pub is-lone : (n : ℕ) (s : Script) → IsRunnable n s → HasOneClient s → IsLone s undisturbed
+is-lone n s F one = record { one = one; plain = only-transactions n s F; no_stops = no-stops s F.run; undisturbed = λ t. refl }
 
 -- whichever attempts are taken as resolved
 nobody : AttemptId → Bool
 nobody x = false
 
-some-targets : (n : ℕ) → n ≡ 1 → 0 < n
-some-targets n one = omega (arith, one)
+some-targets : (m n : ℕ) → m ≡ n → 1 ≤ n → 0 < m
+some-targets m n same some = omega (arith, same, some)
 
-pub room-found : (s : Script) (j : Job) (free : ℕ) (q : Report) → IsRunnable 1 s → 1 ≤ j.attempts → IsLegal (given s j free) q → HasRoom s j.attempts (given s j free).opening.free → FindsRoom q
-room-found s j free q F least legal room =
-    transactions-find-room (given s j free) undisturbed nobody q (some-targets s.targets F.form.read_for) least room (only-transactions s F) (legal nobody)
+pub room-found : (s : Script) (j : Job) (free : ℕ → ℕ) (q : Report) → IsRunnable j.targets s → 1 ≤ j.targets → 1 ≤ j.attempts → IsLegal (given s j free) q → HasRoom s j.attempts (given s j free).opening.free → FindsRoom q
+room-found s j free q F some least legal room =
+    transactions-find-room (given s j free) undisturbed nobody q (some-targets s.targets j.targets F.form.read_for some) least room (only-transactions j.targets s F) (legal nobody)
 
-pub of-lone-client : (s : Script) (j : Job) (free : ℕ) (q : Report) → IsRunnable 1 s → 1 ≤ j.attempts → IsLegal (given s j free) q → HasOneClient s → IsOfLoneClient (given s j free) q
-of-lone-client s j free q F least legal one =
+pub of-lone-client : (s : Script) (j : Job) (free : ℕ → ℕ) (q : Report) → IsRunnable j.targets s → 1 ≤ j.targets → 1 ≤ j.attempts → IsLegal (given s j free) q → HasOneClient s → IsOfLoneClient (given s j free) q
+of-lone-client s j free q F some least legal one =
     let g = given s j free in
-    let lone = is-lone s F one in
+    let lone = is-lone j.targets s F one in
     record {
       never_restarted = never-restart g undisturbed nobody q lone (legal nobody);
       one_attempt = try-once g undisturbed nobody q lone (legal nobody);
       rising = (rise g undisturbed nobody q lone (legal nobody)).0;
       plainly = end-plainly g undisturbed nobody q lone (legal nobody);
-      committed = λ free' room. commit g undisturbed nobody q lone (legal nobody) (some-targets s.targets F.form.read_for) least room free' (fresh-ticks 1 s j F.form one);
+      committed = λ free' room. commit g undisturbed nobody q lone (legal nobody) (some-targets s.targets j.targets F.form.read_for some) least room free' (fresh-ticks j.targets s j F.form one);
     }

@@ -1,19 +1,145 @@
--- Places of which none is set.
-use Rattle.std.specs.Prelude.{ℕ, ◌≡◌, ◌≤◌, List, [], ◌∷◌, ◌++◌, replicate, Option, Some, None, slice_get, Result, Ok, is_ok, if◌then◌else◌}
-use Rattle.std.proofs.Common.{◌∙◌, ap, sym}
+-- Places of targets: of which none is set, in which one is set, and to which stores come back.
+use Rattle.std.specs.Prelude.{ℕ, zero, suc, ◌≡◌, ◌≤◌, ◌<◌, ◌+◌, List, [], ◌∷◌, ◌++◌, length, replicate, set, Option, Some, None, slice_get, refl}
+use Rattle.std.proofs.Common.{inl, inr, sym, ◌∙◌, ap, subst, arith}
+use Rattle.std.proofs.lemmas.Bool.{cases_eq}
+use Rattle.std.proofs.lemmas.Option.{slice_get_within}
+use Rattle.daos_run.specs.Slots.{AreBack, HaveStores, IsAt}
+use Rattle.run_actors.specs.ListLaws.{length-set}
+use Rattle.target_core.specs.Targets.{TargetOf}
+use Rattle.world_events.specs.StepLaws.{set-here, set-there}
 
 -- so many places without anything; there is room for these
 pub record AreNone {T : Type 0} (slots : List (Option T)) (count room cap : ℕ) : Type 0 where
   pub none : slots ≡ replicate count None
   pub room_is : room ≤ cap
 
--- what a list holds that was empty and to which one was added
-pub pushed : {T U E : Type 0} (r : Result U E) (u : U) (xs new other : List T) (x : T) → new ≡ (if is_ok r then xs ++ x ∷ [] else other) → r ≡ Ok u → xs ≡ [] → new ≡ x ∷ []
-pushed r u xs new other x h ok none = h ∙ ap (λ q. if is_ok q then xs ++ x ∷ [] else other) ok ∙ ap (λ ys. ys ++ x ∷ []) none
+-- ---- places that are set, one after another
 
--- what the only place holds
-pub taken-is : {T : Type 0} (slots : List (Option T)) (x y : T) → slots ≡ Some x ∷ [] → slice_get slots 0 ≡ Some (Some y) → y ≡ x
-taken-is slots x y only at = let e : Some (Some y) ≡ Some (Some x) = sym at ∙ ap (λ zs. slice_get zs 0) only in cc
+-- so many of the places have a store, which is so, and a clock; the others have nothing yet
+pub record AreSetSoFar {S C : Type 0} (P : S → Type 0) (targets n : ℕ) (slots : List (Option (S × C))) : Type 0 where
+  pub many : length slots ≡ targets
+  pub are : (t : ℕ) → t < n → (x : S × C) × IsAt slots t x × P x.0
+  pub unset : (t : ℕ) → n ≤ t → t < targets → slice_get slots t ≡ Some None
 
-pub told-is : {T : Type 0} (p d e : T) → p ≡ e → Some p ≡ Some d → d ≡ e
-told-is p d e is told = let same : p ≡ d = cc in sym same ∙ is
+at-replicate : {T : Type 0} (n t : ℕ) (x : T) → t < n → slice_get (replicate n x) t ≡ Some x
+at-replicate zero t x low = absurd (omega (arith, low))
+at-replicate (suc n) zero x low = refl
+at-replicate (suc n) (suc t) x low = at-replicate n t x (omega (arith, low))
+
+length-replicate : {T : Type 0} (n : ℕ) (x : T) → length (replicate n x) ≡ n
+length-replicate zero x = refl
+length-replicate (suc n) x = ap suc (length-replicate n x)
+
+module _ {S C : Type 0} (P : S → Type 0) where
+  pub none-set : (targets : ℕ) (slots : List (Option (S × C))) → slots ≡ replicate targets None → AreSetSoFar P targets 0 slots
+  none-set targets slots none = record {
+    many = ap length none ∙ length-replicate targets None;
+    are = λ t low. absurd (omega (arith, low));
+    unset = λ t high low. ap (λ l. slice_get l t) none ∙ at-replicate targets t None low;
+  }
+
+  pub one-set : (targets n : ℕ) (slots slots' : List (Option (S × C))) (store : S) (clock : C) → AreSetSoFar P targets n slots → n < targets → slots' ≡ set slots n (Some (store, clock)) → P store → AreSetSoFar P targets (n + 1) slots'
+  one-set targets n slots slots' store clock k within is new = record {
+    many = ap length is ∙ length-set slots n (Some (store, clock)) ∙ k.many;
+    are = λ t low. elim (cases_eq t n) [
+      | inl same ↦ ((store, clock), ap (slice_get slots') same ∙ ap (λ l. slice_get l n) is ∙ set-here slots n None (Some (store, clock)) (k.unset n (omega arith) within), new)
+      | inr apart ↦
+          let x = k.are t (omega (arith, low, apart)) in
+          (x.0, ap (λ l. slice_get l t) is ∙ set-there slots n t (Some (store, clock)) apart ∙ x.1, x.2)
+    ];
+    unset = λ t high low. ap (λ l. slice_get l t) is ∙ set-there slots n t (Some (store, clock)) (λ same. omega (arith, high, same)) ∙ k.unset t (omega (arith, high)) low;
+  }
+
+  pub all-are-set : (targets n : ℕ) (slots : List (Option (S × C))) → AreSetSoFar P targets n slots → n ≡ targets → HaveStores (λ t store. P store) targets slots
+  all-are-set targets n slots k done = record {
+    set = record { many = k.many; each = λ t within. (let x = k.are t (omega (arith, within, done)) in (x.0, x.1)) };
+    each = λ t x at.
+        let low : t < targets = subst (λ m. t < m) k.many (slice_get_within slots t (Some x) at) in
+        let y = k.are t (omega (arith, low, done)) in
+        let same : y.0 ≡ x = (let e : Some (Some y.0) ≡ Some (Some x) = sym y.1 ∙ at in cc) in
+        subst (λ z. P z.0) same y.2;
+  }
+
+-- ---- lists with one more at the end
+
+pub length-end : {T : Type 0} (xs : List T) (x : T) → length (xs ++ x ∷ []) ≡ length xs + 1
+length-end [] x = refl
+length-end (y ∷ ys) x = let k : length (ys ++ x ∷ []) ≡ length ys + 1 = length-end ys x in ap suc k ∙ (let e : suc (length ys + 1) ≡ suc (length ys) + 1 = omega arith in e)
+
+pub at-last : {T : Type 0} (xs : List T) (x : T) → slice_get (xs ++ x ∷ []) (length xs) ≡ Some x
+at-last [] x = refl
+at-last (y ∷ ys) x = at-last ys x
+
+pub before-end : {T : Type 0} (xs : List T) (x : T) (n : ℕ) (y : T) → slice_get xs n ≡ Some y → slice_get (xs ++ x ∷ []) n ≡ Some y
+before-end [] x n y at = let no : ⊥ = cc in absurd no
+before-end (z ∷ zs) x zero y at = at
+before-end (z ∷ zs) x (suc n) y at = before-end zs x n y at
+
+-- an element of a list with one more is an old one, or the new one at its end
+pub at-end : {T : Type 0} (P : ℕ → T → Type 0) (xs : List T) (x : T) → ((k : ℕ) (y : T) → slice_get xs k ≡ Some y → P k y) → P (length xs) x → (k : ℕ) (y : T) → slice_get (xs ++ x ∷ []) k ≡ Some y → P k y
+at-end P [] x old new zero y at = let same : x ≡ y = cc in subst (P 0) same new
+at-end P [] x old new (suc k) y at = let no : ⊥ = cc in absurd no
+at-end P (z ∷ zs) x old new zero y at = old 0 y at
+at-end P (z ∷ zs) x old new (suc k) y at = at-end (λ n. P (suc n)) zs x (λ n w h. old (suc n) w h) new k y at
+
+pub same-at : {T : Type 0} (xs : List T) (t : ℕ) (x y : T) → slice_get xs t ≡ Some x → slice_get xs t ≡ Some y → x ≡ y
+same-at xs t x y at to = let e : Some x ≡ Some y = sym at ∙ to in cc
+
+-- a place isn't both set and without anything
+pub set-not-none : {T : Type 0} (slots : List (Option T)) (t : ℕ) (x : T) → slice_get slots t ≡ Some (Some x) → slice_get slots t ≡ Some None → ⊥
+set-not-none slots t x at none = let e : Some (Some x) ≡ Some None = sym at ∙ none in let no : ⊥ = cc in no
+
+-- ---- stores that come back
+
+-- The stores of the last so many targets are in their places again; those of the first are still to come back to places without anything.
+pub record AreBackSoFar {S C : Type 0} (all left : List (TargetOf S C)) (old now : List (Option (S × C))) (n : ℕ) : Type 0 where
+  pub so_many : length left + n ≡ length all
+  pub first : (t : ℕ) (x : TargetOf S C) → slice_get left t ≡ Some x → slice_get all t ≡ Some x
+  pub many : length now ≡ length old
+  pub back : (t : ℕ) (x : TargetOf S C) → length left ≤ t → slice_get all t ≡ Some x → (clock : C) × IsAt now t (x.store, clock)
+  pub waits : (t : ℕ) → t < length left → slice_get now t ≡ Some None
+  pub others : (t : ℕ) → length all ≤ t → slice_get now t ≡ slice_get old t
+
+beyond : {T : Type 0} (xs : List T) (n : ℕ) (x : T) → length xs ≤ n → slice_get xs n ≡ Some x → ⊥
+beyond [] n x le at = let no : ⊥ = cc in no
+beyond (y ∷ ys) zero x le at = omega (arith, le)
+beyond (y ∷ ys) (suc n) x le at = beyond ys n x (omega (arith, le)) at
+
+module _ {S C : Type 0} where
+  pub none-back : (all : List (TargetOf S C)) (old : List (Option (S × C))) → ((t : ℕ) → t < length all → slice_get old t ≡ Some None) → AreBackSoFar all all old old 0
+  none-back all old taken = record {
+    so_many = omega arith;
+    first = λ t x at. at;
+    many = refl;
+    back = λ t x past at. absurd (beyond all t x past at);
+    waits = taken;
+    others = λ t past. refl;
+  }
+
+  pub one-back : (all left left' : List (TargetOf S C)) (old now now' : List (Option (S × C))) (n : ℕ) (x : TargetOf S C) (clock : C) → AreBackSoFar all left old now n → left ≡ left' ++ x ∷ [] → now' ≡ set now (length left') (Some (x.store, clock))
+      → AreBackSoFar all left' old now' (n + 1)
+  one-back all left left' old now now' n x clock k more is =
+      let longer : length left ≡ length left' + 1 = ap length more ∙ length-end left' x in
+      let many = k.so_many in
+      let its : slice_get all (length left') ≡ Some x = k.first (length left') x (ap (λ l. slice_get l (length left')) more ∙ at-last left' x) in
+      record {
+        so_many = omega (arith, longer, many);
+        first = λ t y at. k.first t y (ap (λ l. slice_get l t) more ∙ before-end left' x t y at);
+        many = ap length is ∙ length-set now (length left') (Some (x.store, clock)) ∙ k.many;
+        back = λ t y past at. elim (cases_eq t (length left')) [
+          | inl same ↦
+              let here : slice_get now' t ≡ Some (Some (x.store, clock)) = ap (λ m. slice_get now' m) same ∙ ap (λ l. slice_get l (length left')) is ∙ set-here now (length left') None (Some (x.store, clock)) (k.waits (length left') (omega (arith, longer))) in
+              let x-is-y : x ≡ y = same-at all (length left') x y its (ap (λ m. slice_get all m) (sym same) ∙ at) in
+              (clock, subst (λ z. IsAt now' t (z.store, clock)) x-is-y here)
+          | inr apart ↦
+              let old-one = k.back t y (omega (arith, longer, past, apart)) at in
+              (old-one.0, ap (λ l. slice_get l t) is ∙ set-there now (length left') t (Some (x.store, clock)) apart ∙ old-one.1)
+        ];
+        waits = λ t low. ap (λ l. slice_get l t) is ∙ set-there now (length left') t (Some (x.store, clock)) (λ same. omega (arith, low, same)) ∙ k.waits t (omega (arith, longer, low));
+        others = λ t past. ap (λ l. slice_get l t) is ∙ set-there now (length left') t (Some (x.store, clock)) (λ same. omega (arith, past, same, longer, many)) ∙ k.others t past;
+      }
+
+  pub all-back : (all left : List (TargetOf S C)) (old now : List (Option (S × C))) (n : ℕ) → AreBackSoFar all left old now n → n ≡ length all → AreBack all old now
+  all-back all left old now n k done =
+      let many = k.so_many in
+      record { many = k.many; back = λ t x at. k.back t x (omega (arith, many, done)) at; left = k.others }

@@ -2,5 +2,6 @@
 pub mod Runnable
 pub mod Slots
 pub mod Opens
+pub mod Starts
 pub mod Stops
 pub mod Alone

@@ -1,5 +1,5 @@
 -- What a run begins with, and what it comes to.
-use Rattle.std.specs.Prelude.{ℕ, ◌≡◌, ◌≤◌, Bool, true, false, List, [], ◌∷◌, length, slice_get, Contains, Option, Some, None}
+use Rattle.std.specs.Prelude.{ℕ, ◌≡◌, ◌≤◌, Bool, true, false, List, [], length, slice_get, Contains, Option, Some, None}
 use Rattle.std.specs.Option.{ForSome}
 use Rattle.client_core.specs.Clients.{ClientNow}
 use Rattle.daos_base.specs.declared.entry.Entry.{Entry}
@@ -18,37 +18,42 @@ use Rattle.daos_model.specs.Finals.{HeadlineOver}
 use Rattle.daos_model.specs.Headline.{Headline}
 use Rattle.daos_model.specs.Opening.{Given, undisturbed}
 use Rattle.daos_report.specs.Forms.{IsReportOf}
+use Rattle.dtx_base.specs.Joining.{first_member}
+use Rattle.dtx_base.specs.Leading.{first_memory}
+use Rattle.dtx_base.specs.Members.{has_target}
 use Rattle.target_core.specs.Targets.{TargetOf}
 use Rattle.vos_store.specs.Calls.{State}
+use Rattle.world_attempts.specs.Attempts.{IsOther}
 use Rattle.world_base.specs.ClientTurns.{at_first, plan_of}
 use Rattle.run_picks.specs.Orders.{InOrder}
 use Rattle.world_base.specs.declared.target.TargetState.{TargetState}
 use Rattle.world_base.specs.declared.world.World.{World}
+use Rattle.daos_run.specs.Slots.{IsAt}
 use Rattle.world_begins.specs.Begins.{IsBegun, declared_conts}
-use Rattle.world_ends.specs.Ends.{rules_of}
+use Rattle.world_ends.specs.Ends.{durables_of, rules_of}
 use Rattle.world_forms.specs.Keyed.{ScriptHasKeys}
-use Rattle.world_lone.specs.LoneRuns.{AreIssuedBy}
+use Rattle.world_lone.specs.LoneRuns.{AreIssuedThere}
 
 -- a run of a script over regions that stand for nothing, with so many blocks free on each
-abbrev pub given : Script → Job → ℕ → Given
-given s j free = record { script = s; job = j; opening = record { stand = empty_stand; lease = 0; free = λ t. free } }
+abbrev pub given : Script → Job → (ℕ → ℕ) → Given
+given s j free = record { script = s; job = j; opening = record { stand = empty_stand; lease = 0; free = free } }
 
--- a store that runs, was made for a target at least, and whose last opening set no floor above that of a lease of 0
-pub record IsFreshState (h : State) : Type 0 where
+-- a store that runs, was made for so many targets, and whose last opening set no floor above that of a lease of 0
+pub record IsFreshState (targets : ℕ) (h : State) : Type 0 where
   pub running : h.stopped ≡ false
-  pub made : 1 ≤ h.targets
+  pub made : targets ≤ h.targets
   pub floor : h.opening.0.0 ≤ 255
 
-module _ {S : Type 0} (durable : S → Option Durable) (state : S → State) where
+module _ {S : Type 0} (durable : S → Option Durable) (state : S → State) (targets : ℕ) where
   -- a store that was never used, as far as it tells what it keeps
   pub record IsEmpty (store : S) : Type 0 where
-    pub fresh : IsFreshState (state store)
+    pub fresh : IsFreshState targets (state store)
     pub incarnation : ℕ
     pub kept : ForSome (durable store) (λ d. d ≡ empty_durable incarnation)
 
   -- one to which the containers of a script were added
   pub record IsOpened (s : Script) (store : S) : Type 0 where
-    pub fresh : IsFreshState (state store)
+    pub fresh : IsFreshState targets (state store)
     pub incarnation : ℕ
     pub kept : ForSome (durable store) (λ d. d ≡ enlisted (declared_conts s) (empty_durable incarnation))
 
@@ -56,59 +61,65 @@ module _ {S : Type 0} (durable : S → Option Durable) (state : S → State) whe
 abbrev pub report_of : Script → List Line → Report
 report_of s lines = record { targets = s.targets; lines = lines; down = None }
 
--- In the end a store stands for what a report tells, by the headline, and nothing is left to settle.
-pub record Stands {S : Type 0} (durable : S → Option Durable) (g : Given) (q : Report) (store : S) : Type 0 where
-  pub last : Durable
-  pub kept : durable store ≡ Some last
-  pub headline : HeadlineOver g undisturbed (last ∷ []) q
-  pub settled : (e : Entry) → Contains last.entries e → e.committed ≡ true
+-- what the stores of the targets keep, in their order
+pub record AreKept {S C : Type 0} (durable : S → Option Durable) (slots : List (Option (S × C))) (lasts : List Durable) : Type 0 where
+  pub many : length lasts ≡ length slots
+  pub each : (t : ℕ) (x : S × C) (d : Durable) → IsAt slots t x → slice_get lasts t ≡ Some d → durable x.0 ≡ Some d
+
+-- In the end the stores stand for what a report tells, by the headline, where replicas agree; and nothing is left to settle: each entry is
+-- committed, and where its leader keeps it, each other member has confirmed that it is committed there too.
+pub record Stand {S C : Type 0} (durable : S → Option Durable) (g : Given) (q : Report) (slots : List (Option (S × C))) : Type 0 where
+  pub lasts : List Durable
+  pub kept : AreKept durable slots lasts
+  pub headline : HeadlineOver g undisturbed lasts q
+  pub settled : (t : ℕ) (d : Durable) (e : Entry) → slice_get lasts t ≡ Some d → Contains d.entries e → e.committed ≡ true
+  pub confirmed : (t : ℕ) (d : Durable) (e : Entry) → slice_get lasts t ≡ Some d → Contains d.entries e → e.leader ≡ t → (m : ℕ) → IsOther (rules_of g) e.attempt m → has_target e.confirmed m ≡ true
 
 -- the report is legal, whichever attempts are taken as resolved: it tells of each what became of it
 abbrev pub IsLegal : Given → Report → Type 0
 IsLegal g q = (resolved : AttemptId → Bool) → Headline g undisturbed resolved q
 
+-- the containers of a script were added to what was never used
+pub record HasConts (s : Script) (d : Durable) : Type 0 where
+  pub incarnation : ℕ
+  pub kept : d ≡ enlisted (declared_conts s) (empty_durable incarnation)
+
 -- A report's lines are those of a run of the world in the order that the job names, to where that order ends: turn by turn, those of the
--- actor and the message that it picks. It begins where no client had a turn, and the only target keeps the script's containers alone.
+-- actor and the message that it picks. It begins where no client had a turn, and each target keeps the script's containers alone.
 pub record FollowsOrder (g : Given) (q : Report) : Type 0 where
   pub first : World
   pub begun : IsBegun (rules_of g) g.opening first
-  pub start : TargetState
-  pub alone : first.targets ≡ start ∷ []
-  pub incarnation : ℕ
-  pub opened : start.durable ≡ enlisted (declared_conts g.script) (empty_durable incarnation)
+  pub opened : (t : ℕ) (s : TargetState) → slice_get first.targets t ≡ Some s → HasConts g.script s.durable
   pub last : World
   pub run : InOrder (rules_of g) g.job.order first last
   pub lines : q.lines ≡ last.lines
 
--- and a store keeps what the target of that run keeps in the end
-pub record IsOrdered {S : Type 0} (durable : S → Option Durable) (g : Given) (q : Report) (store : S) : Type 0 where
+-- and the stores keep what the targets of that run keep in the end
+pub record IsOrdered {S C : Type 0} (durable : S → Option Durable) (g : Given) (q : Report) (slots : List (Option (S × C))) : Type 0 where
   pub follows : FollowsOrder g q
-  pub target : TargetState
-  pub only : slice_get follows.last.targets 0 ≡ Some target
-  pub kept : durable store ≡ Some target.durable
+  pub kept : AreKept durable slots (durables_of follows.last)
 
--- What a run comes to: the report is legal, and in form where names and keys are keys; target 0 issued its epochs; it tells of turns in
--- the order asked; and the store stands for what it tells.
-pub record Reports {S : Type 0} (durable : S → Option Durable) (g : Given) (q : Report) (store : S) : Type 0 where
-  pub stands : Stands durable g q store
+-- What a run comes to: the report is legal, and in form where names and keys are keys; it tells of turns in the order asked, and of
+-- epochs that the targets issued; and the stores stand for what it tells.
+pub record Reports {S C : Type 0} (durable : S → Option Durable) (g : Given) (q : Report) (slots : List (Option (S × C))) : Type 0 where
+  pub stand : Stand durable g q slots
   pub legal : IsLegal g q
   pub form : ScriptHasKeys g.script → IsReportOf g.script q
-  pub issued : AreIssuedBy 0 q
-  pub ordered : IsOrdered durable g q store
+  pub ordered : IsOrdered durable g q slots
+  pub issued : AreIssuedThere q
 
--- the only target, which has just opened this store
-pub record IsNew {S C : Type 0} (durable : S → Option Durable) (store : S) (epsilon : ℕ) (x : TargetOf S C) : Type 0 where
-  pub plan : x.plan ≡ record { me = 0; targets = 1; epsilon = epsilon }
-  pub over : x.store ≡ store
-  pub ticks : (d : Durable) → durable store ≡ Some d → x.memory.ticks ≡ d.lease
+-- a target of this number among so many, which has just opened a store
+pub record IsNew {S C : Type 0} (durable : S → Option Durable) (targets epsilon t : ℕ) (x : TargetOf S C) : Type 0 where
+  pub plan : x.plan ≡ record { me = t; targets = targets; epsilon = epsilon }
+  pub ticks : (d : Durable) → durable x.store ≡ Some d → x.memory.ticks ≡ d.lease
   pub unread : x.memory.stamps ≡ []
-  pub undecided : x.memory.decided ≡ []
+  pub leads : x.memory.leader ≡ first_memory []
+  pub joins : x.memory.member ≡ (first_member t).memory
 
--- such a target alone
-pub record IsOnlyNew {S C : Type 0} (durable : S → Option Durable) (store : S) (epsilon : ℕ) (xs : List (TargetOf S C)) : Type 0 where
-  pub target : TargetOf S C
-  pub only : xs ≡ target ∷ []
-  pub new : IsNew durable store epsilon target
+-- such a target over a store to which the containers of a script were added
+pub record IsStarted {S C : Type 0} (durable : S → Option Durable) (state : S → State) (s : Script) (targets epsilon t : ℕ) (x : TargetOf S C) : Type 0 where
+  pub new : IsNew durable targets epsilon t x
+  pub opened : IsOpened durable state targets s x.store
 
 -- the clients of a script before their first turns
 pub record AreFirst (s : Script) (attempts : ℕ) (tracker : Epoch) (clients : List ClientNow) : Type 0 where

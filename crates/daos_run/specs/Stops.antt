@@ -1,6 +1,5 @@
 -- Why a run gives no report.
-use Rattle.std.specs.Prelude.{ℕ, ◌≡◌, Bool, true, false, Option, None}
-use Rattle.daos_model.specs.declared.durable.Durable.{Durable}
+use Rattle.std.specs.Prelude.{ℕ, ◌≡◌, ◌<◌, ◌==◌, Bool, true, false, Result, Err}
 use Rattle.daos_status.specs.declared.part.Part.TheVariants.{Containers}
 use Rattle.daos_run.specs.declared.stop.RunStop.{RunStop}
 use Rattle.daos_run.specs.declared.stop.RunStop.TheVariants as stop
@@ -19,17 +18,22 @@ enlist_stopped target (enlist.TooMany together) = stop.Shape target Containers t
 enlist_stopped target enlist.Stopped = stop.RackFault target
 enlist_stopped target enlist.Memory = stop.Memory
 
--- it is the fault of a target's store
-abbrev pub is_fault : RunStop → Bool
-is_fault (stop.RackFault target) = true
-is_fault (stop.Foreign target at byte) = false
-is_fault (stop.Shape target what found asked) = false
-is_fault stop.Memory = false
+-- What may stop a run on the stores of so many targets, where each tells what it keeps or none does: a fault of the store of a target; the
+-- containers of a store, with those of the script, are more than it has places for, which an empty store that tells what it keeps never
+-- answers; or memory was wanting.
+abbrev pub MayStop : (tells : Bool) → ℕ → RunStop → Type 0
+MayStop tells targets (stop.RackFault target) = target < targets
+MayStop tells targets (stop.Foreign target at byte) = ⊥
+MayStop tells targets (stop.Shape target what found asked) = (tells ≡ false) × (target < targets) × (what ≡ Containers) × (asked ≡ 256)
+MayStop tells targets stop.Memory = Unit {0}
 
--- What may stop a run on the store of target 0, which tells this of what it keeps: a fault of the store; its containers, with those of the
--- script, are too many, which an empty store that tells what it keeps never answers; or memory was wanting.
-abbrev pub MayStop : Option Durable → RunStop → Type 0
-MayStop told (stop.RackFault target) = target ≡ 0
-MayStop told (stop.Foreign target at byte) = ⊥
-MayStop told (stop.Shape target what found asked) = (told ≡ None) × (target ≡ 0) × (what ≡ Containers) × (asked ≡ 256)
-MayStop told stop.Memory = Unit {0}
+-- it is the fault of this target's store
+abbrev pub is_fault_of : ℕ → RunStop → Bool
+is_fault_of t (stop.RackFault target) = t == target
+is_fault_of t (stop.Foreign target at byte) = false
+is_fault_of t (stop.Shape target what found asked) = false
+is_fault_of t stop.Memory = false
+
+-- nothing was run, for this reason
+abbrev pub not_started : RunStop → Result (Unit {0}) RunStop
+not_started stop = Err stop

@@ -6,4 +6,5 @@ pub mod parts;
 pub mod run;
 pub mod run_on;
 pub mod runnable;
+mod starting;
 pub mod stop;

@@ -1,9 +1,9 @@
-// A run begins: a store gets the script's containers, and the clients are made.
-ghost use Rattle.std.specs.Prelude.{◌≡◌, ◌≤◌, length, IfErr, IfOk, OnOk};
+// A run begins: each store gets the script's containers, and the clients are made.
+ghost use Rattle.std.specs.Prelude.{◌≡◌, ◌≤◌, ◌<◌, ℕ, length, is_some, true, IfErr, IfOk, OnOk};
 ghost use Rattle.daos_base.specs.Scripts.{IsInForm};
 ghost use Rattle.daos_run.specs.Opens.{AreFirst, IsEmpty, IsOpened};
-ghost use Rattle.daos_run.specs.Stops.{MayStop, enlist_stopped, is_fault};
-ghost use Rattle.target_core.specs.Parts.{Runs};
+ghost use Rattle.daos_run.specs.Stops.{MayStop, enlist_stopped, is_fault_of};
+ghost use Rattle.target_parts.specs.Parts.{Runs};
 ghost use Rattle.world_begins.specs.Begins.{declared_conts};
 
 use crate::stop::{Part, RunStop};
@@ -43,19 +43,30 @@ fn enlist_stop(target: TargetId, no: EnlistNo) -> RunStop
     }
 }
 
-/// Opens an empty store for a run of a script: its containers are added.
-pub fn open<S: Store>(alloc: Global, script: &Script, store: &mut S) -> Result<(), RunStop>
+/// Opens the empty store of a target for a run of a script: its containers are added.
+///
+/// # Errors
+///
+/// `RackFault` where the store stopped; `Shape` where it has no place for the containers; and `Memory`.
+pub fn open<S: Store>(
+    alloc: Global,
+    script: &Script,
+    target: TargetId,
+    store: &mut S,
+) -> Result<(), RunStop>
     requires few { length script.now.conts ≤ 256 }
-    requires empty { IsEmpty S.durable S.state store.old }
-    ensures opened { OnOk result (IsOpened S.durable S.state script.now store.new) }
+    requires one { target < script.now.targets }
+    requires empty { IsEmpty S.durable S.state script.now.targets store.old }
+    ensures opened { OnOk result (IsOpened S.durable S.state script.now.targets script.now store.new) }
     ensures free { (S.state store.old).free ≤ (S.state store.new).free }
-    ensures runs { Runs is_fault result (S.state store.old) (S.state store.new) (S.durable store.old) (S.durable store.new) }
-    ensures refusals { IfErr result (MayStop (S.durable store.old)) }
+    ensures runs { Runs (is_fault_of target) result (S.state store.old) (S.state store.new) (S.durable store.old) (S.durable store.new) }
+    ensures refusals { IfErr result (MayStop (is_some (S.durable store.old)) script.now.targets) }
+    ensures own { (t : ℕ) → IfErr result (λ stop. is_fault_of t stop ≡ true → t ≡ target) }
 {
     let conts = conts_of(alloc, script)?;
     match store.enlist(&conts) {
         Ok(()) => Ok(()),
-        Err(no) => Err(enlist_stop(0, no)),
+        Err(no) => Err(enlist_stop(target, no)),
     }
 }
 

@@ -1,18 +1,21 @@
 // Runs a script on targets.
-ghost use Rattle.std.specs.Prelude.{◌≡◌, ◌≤◌, IfOk, IsOkUnless, None};
+ghost use Rattle.std.specs.Prelude.{◌≡◌, ◌≤◌, replicate, IfOk, IsOkUnless, None, OnOk};
 ghost use Rattle.daos_model.specs.Opening.{fresh};
 ghost use Rattle.daos_report.specs.Forms.{IsReportOf};
 ghost use Rattle.daos_lone.specs.Lone.{HasOneClient};
 ghost use Rattle.daos_room.specs.Rooms.{FindsRoom, HasRoom};
 ghost use Rattle.daos_run.specs.Alone.{IsOfLoneClient};
 ghost use Rattle.daos_run.specs.Opens.{FollowsOrder, IsLegal};
-ghost use Rattle.world_lone.specs.LoneRuns.{AreIssuedBy};
 ghost use Rattle.daos_run.specs.Runnable.{IsRunnable};
+ghost use Rattle.daos_run.specs.Slots.{HaveStores};
+ghost use Rattle.daos_run.specs.Starts.{IsNewStore};
 ghost use Rattle.world_forms.specs.Keyed.{ScriptHasKeys};
+ghost use Rattle.world_lone.specs.LoneRuns.{AreIssuedThere};
 
 use crate::parts::Parts;
 use crate::run_on::run_on;
 use crate::stop::RunStop;
+use daos_base::items::Memory;
 use daos_base::job::Job;
 use daos_base::report::Report;
 use daos_base::script::Script;
@@ -23,13 +26,33 @@ use std::sync::Wait;
 use std::thread::Threads;
 use vos_plain::store::PlainStore;
 
-/// Runs a script and reports what became of its commands. So far it runs on one target, whose store is
-/// a list in memory: the rack gives its clock alone.
+// Each target gets an empty store in memory, and the clock that the rack has for it.
+fn set_all<B: Rack>(
+    alloc: Global,
+    job: &Job,
+    rack: &mut B,
+    parts: &mut Parts<PlainStore, B::Clock>,
+) -> Result<(), Memory>
+    requires least_size { 2 ≤ job.now.size_mib }
+    requires most_size { job.now.size_mib ≤ 32 }
+    requires unset { parts.old ≡ replicate job.now.targets None }
+    ensures set { OnOk result (HaveStores (λ t store. IsNewStore job.now.size_mib store) job.now.targets parts.new) }
+    ensures rack { B.count rack.new ≡ B.count rack.old }
+{
+    for t in 0..job.targets {
+        let store = PlainStore::new(alloc, job.size_mib, &[])?;
+        parts.set(t, store, rack.clock(t));
+    }
+    Ok(())
+}
+
+/// Runs a script and reports what became of its commands. So far the store of each target is a list in
+/// memory: the rack gives its clock alone.
 ///
 /// # Errors
 ///
-/// `Memory` alone. A store in memory that no plan stops and that has no fuse stops at nothing else; did
-/// it, `Memory` would be told.
+/// `Memory` alone. Stores in memory that no plan stops and that have no fuse stop at nothing else; did
+/// one, `Memory` would be told.
 pub fn run_script<R: Threads + Wait + Sync, B: Rack, G: Gate + Sync>(
     rt: &R,
     alloc: Global,
@@ -38,25 +61,25 @@ pub fn run_script<R: Threads + Wait + Sync, B: Rack, G: Gate + Sync>(
     rack: &mut B,
     gate: &G,
 ) -> Result<Report, RunStop>
-    requires one { job.now.targets ≡ 1 }
+    requires least_targets { 1 ≤ job.now.targets }
+    requires most_targets { job.now.targets ≤ 64 }
     requires least_size { 2 ≤ job.now.size_mib }
     requires most_size { job.now.size_mib ≤ 32 }
     requires least { 1 ≤ job.now.attempts }
     requires most { job.now.attempts ≤ 100 }
-    requires script { IsRunnable 1 script.now }
+    requires script { IsRunnable job.now.targets script.now }
     ensures legal { IfOk result (λ report. IsLegal (fresh script.now job.now) report) }
     ensures form { ScriptHasKeys script.now → IfOk result (λ report. IsReportOf script.now report) }
     ensures ordered { IfOk result (FollowsOrder (fresh script.now job.now)) }
-    ensures issued { IfOk result (AreIssuedBy 0) }
+    ensures issued { IfOk result AreIssuedThere }
     ensures none_down { IfOk result (λ report. report.down ≡ None) }
     ensures room { HasRoom script.now job.now.attempts (fresh script.now job.now).opening.free → IfOk result FindsRoom }
     ensures lone { HasOneClient script.now → IfOk result (IsOfLoneClient (fresh script.now job.now)) }
     ensures refusals { IsOkUnless result RunStop.Memory }
     ensures rack { B.count rack.new ≡ B.count rack.old }
 {
-    let clock = rack.clock(0);
-    let mut parts = Parts::new(alloc, 1)?;
-    parts.set(0, PlainStore::new(alloc, job.size_mib, &[])?, clock);
+    let mut parts = Parts::new(alloc, job.targets)?;
+    set_all(alloc, job, rack, &mut parts)?;
     match run_on(rt, alloc, job, script, &mut parts, gate) {
         Ok(report) => Ok(report),
         Err(_stop) => Err(RunStop::Memory),

@@ -1,107 +1,107 @@
 -- Actors that can go on can go on after a turn.
-use Rattle.std.specs.Prelude.{ℕ, ◌≡◌, ◌++◌, true, false, List, [], slice_get, Contains, Option, Some, None, is_some, refl}
-use Rattle.std.proofs.Common.{inl, inr, sym, ◌∙◌, ap, subst}
+use Rattle.std.specs.Prelude.{ℕ, ◌≡◌, ◌≤◌, ◌<◌, ◌++◌, true, false, Bool, List, length, slice_get, Contains, Option, Some, None, is_some, refl}
+use Rattle.std.proofs.Common.{inl, inr, sym, ◌∙◌, ap, subst, arith}
 use Rattle.std.proofs.Math.ListN.{set}
 use Rattle.std.proofs.lemmas.Bool.{cases_eq, true≢false}
+use Rattle.std.proofs.lemmas.Option.{slice_get_within}
 use Rattle.client_core.specs.Clients.{ClientNow}
 use Rattle.daos_laws.specs.Members.{Has, contains-from_has, has-cases, has-from_contains, has-from_map}
 use Rattle.daos_messages.specs.declared.actor.ActorId.{ActorId}
-use Rattle.daos_messages.specs.declared.message.Message.{Message}
-use Rattle.daos_messages.specs.declared.message.Message.TheVariants as message
 use Rattle.daos_messages.specs.declared.message.Post.{Post}
 use Rattle.daos_model.specs.declared.durable.Durable.{Durable}
 use Rattle.run_actors.specs.CanGo.{CanGo, IsInForm}
-use Rattle.run_actors.specs.ListLaws.{get-set, set-is}
+use Rattle.run_actors.specs.ListLaws.{get-set, length-set, set-is}
 use Rattle.run_actors.specs.Shows.{IsGoing, Shows, Steps}
 use Rattle.run_actors.proofs.Turns.{Follows, picked-takes}
 use Rattle.run_letters.specs.Letters.{BetweenNow, IsPicked}
 use Rattle.run_picks.specs.OrderLaws.{turn-event}
-use Rattle.target_core.specs.Parts.{StillRuns}
-use Rattle.target_core.specs.Targets.{IsAnswered, TargetOf, is_answer}
+use Rattle.target_core.specs.Targets.{TargetOf}
+use Rattle.target_parts.specs.Parts.{StillRuns}
 use Rattle.vos_store.specs.Calls.{State}
 use Rattle.world_base.specs.declared.did.Did.{Did}
 use Rattle.world_base.specs.declared.letter.Letter.{Letter}
 use Rattle.world_base.specs.declared.world.World.{World}
 use Rattle.world_base.specs.ClientTurns.{HearTurn, NextTurn}
-use Rattle.world_begins.specs.Begins.{IsAlone}
-use Rattle.world_core.specs.Posting.{ArePostsInForm, IsPlainScript, clients-post-in-form, hearers-post-in-form, is_told}
-use Rattle.world_events.specs.Events.{Goes, Rules, client_plan}
+use Rattle.world_begins.specs.Begins.{IsSimple}
+use Rattle.world_core.specs.Posting.{IsPlainScript, clients-post-in-form, hearers-post-in-form}
+use Rattle.world_events.specs.Events.{Goes, Rules, client_plan, target_plan}
 use Rattle.world_events.specs.Letters.{client, letter_of, letters_of, target}
 use Rattle.world_events.specs.StepLaws.{set-there}
+use Rattle.world_posts.specs.FormLaws.{asked-is-heard, asked-of_client, between-is-heard, between-of_target}
+use Rattle.world_posts.specs.Forms as posted
+use Rattle.world_posts.specs.Forms.{ClientPosts, ClientsWait, PostsInForm, TargetPosts}
 use Rattle.world_talks.specs.TalkLaws.{left-is-among, taken-is-among}
 
 -- ---- letters
 
-plain : (r : Rules) → IsAlone r → IsPlainScript r
-plain r k = record { one = k.one; form = k.form; unsnapped = k.unsnapped }
-
-abbrev pub AreInForm : List Letter → Type 0
-AreInForm letters = (l : Letter) → Contains letters l → IsInForm l
+abbrev pub AreInForm : Rules → List Letter → Type 0
+AreInForm r letters = (l : Letter) → Contains letters l → IsInForm r l
 
 -- what is left of letters in form beside one that was taken
-pub rest-in-form : (letters : List Letter) (a : ActorId) (n : ℕ) (l : Letter) (rest : List Letter) → IsPicked letters a n l rest → AreInForm letters → AreInForm rest
-rest-in-form letters a n l rest picked k m i = k m (left-is-among letters l rest m (picked-takes letters n l rest a picked) i)
+pub rest-in-form : (r : Rules) (letters : List Letter) (a : ActorId) (n : ℕ) (l : Letter) (rest : List Letter) → IsPicked letters a n l rest → AreInForm r letters → AreInForm r rest
+rest-in-form r letters a n l rest picked k m i = k m (left-is-among letters l rest m (picked-takes letters n l rest a picked) i)
 
 -- and the one that was taken
-pub taken-in-form : (letters : List Letter) (a : ActorId) (n : ℕ) (l : Letter) (rest : List Letter) → IsPicked letters a n l rest → AreInForm letters → IsInForm l
-taken-in-form letters a n l rest picked k = k l (taken-is-among letters l rest (picked-takes letters n l rest a picked))
+pub taken-in-form : (r : Rules) (letters : List Letter) (a : ActorId) (n : ℕ) (l : Letter) (rest : List Letter) → IsPicked letters a n l rest → AreInForm r letters → IsInForm r l
+taken-in-form r letters a n l rest picked k = k l (taken-is-among letters l rest (picked-takes letters n l rest a picked))
 
 -- letters that an actor sends beside others
-sent-in-form : (a : ActorId) (rest : List Letter) (posts : List Post) → AreInForm rest → ((q : Post) → Contains posts q → IsInForm (letter_of a q)) → AreInForm (rest ++ letters_of a posts)
-sent-in-form a rest posts old new l i = elim (has-cases rest (letters_of a posts) l (has-from_contains (rest ++ letters_of a posts) l i)) [
+sent-in-form : (r : Rules) (a : ActorId) (rest : List Letter) (posts : List Post) → AreInForm r rest → ((q : Post) → Has q posts → IsInForm r (letter_of a q)) → AreInForm r (rest ++ letters_of a posts)
+sent-in-form r a rest posts old new l i = elim (has-cases rest (letters_of a posts) l (has-from_contains (rest ++ letters_of a posts) l i)) [
   | inl j ↦ old l (contains-from_has rest l j)
-  | inr j ↦ let q = has-from_map (letter_of a) posts l j in subst IsInForm q.2 (new q.0 (contains-from_has posts q.0 q.1))
+  | inr j ↦ let q = has-from_map (letter_of a) posts l j in subst (IsInForm r) q.2 (new q.0 q.1)
 ]
 
 -- a client sends what is in form
-by-client : (n : ℕ) (posts : List Post) → ArePostsInForm posts → (q : Post) → Contains posts q → IsInForm (letter_of (client n) q)
-by-client n posts k q i = record { form = k q i; asker = λ to. refl }
+by-client : (r : Rules) (n : ℕ) (posts : List Post) → ClientPosts (target_plan r) posts → (q : Post) → Has q posts → IsInForm r (letter_of (client n) q)
+by-client r n posts k q i = record {
+  asked = λ to. asked-is-heard (target_plan r q.to.number) (client n) q.message ((k q i).asked to);
+  told = (k q i).told;
+  kind = λ to. asked-of_client (target_plan r q.to.number) q.message ((k q i).asked to);
+}
 
-answer-told : (m : Message) → is_answer m ≡ true → is_told m ≡ true
-answer-told (message.Fetched x op group ep reply) h = refl
-answer-told (message.Ended x ep how) h = refl
-answer-told m h = let no : ⊥ = cc in absurd no
+-- and so does a target
+by-target : (r : Rules) (t : ℕ) (posts : List Post) → t < 64 → TargetPosts r.script.targets posts → (q : Post) → Has q posts → IsInForm r (letter_of (target t) q)
+by-target r t posts few k q i = record {
+  asked = λ to. between-is-heard (target_plan r q.to.number) (target t) q.message ((k q i).between to) few;
+  told = (k q i).told;
+  kind = λ to. between-of_target r.script.targets q.message ((k q i).between to);
+}
 
--- an answer to a client is in form
-by-target : (t : ℕ) (from : ActorId) (posts : List Post) → from.client ≡ true → IsAnswered from posts → (q : Post) → Contains posts q → IsInForm (letter_of (target t) q)
-by-target t from posts asker k q i = elim (subst (Has q) k.one (has-from_contains posts q i)) [
-  | inl same ↦ subst (λ x. IsInForm (letter_of (target t) x)) (sym same) (record {
-    form = record { asked = λ to. absurd (true≢false (sym asker ∙ to)); told = λ to. answer-told k.answer k.kind };
-    asker = λ to. absurd (true≢false (sym asker ∙ to));
-  })
-  | inr j ↦ absurd j
-]
-
-nothing-sent : (t : ℕ) (posts : List Post) → posts ≡ [] → (q : Post) → Contains posts q → IsInForm (letter_of (target t) q)
-nothing-sent t posts none q i = absurd (has-from_contains [] q (subst (λ ps. Contains ps q) none i))
+-- a run of a script in form is plain
+plain : (r : Rules) → IsSimple r → IsPlainScript r
+plain r k = record { form = k.form; unsnapped = k.unsnapped }
 
 -- ---- turns
 
 module _ {S C : Type 0} (durable : S → Option Durable) (state : S → State) where
   -- what was reached before a turn is reached on
-  pub keeps-going : (a : ActorId) (k : ℕ) (cs : List ClientNow) (xs : List (TargetOf S C)) (b : BetweenNow) (cs' : List ClientNow) (xs' : List (TargetOf S C)) (b' : BetweenNow)
-      → IsGoing durable state cs xs b → ((r : Rules) (w : World) → Shows durable state r cs xs b w → Steps durable state r a k w cs' xs' b') → IsGoing durable state cs' xs' b'
-  keeps-going a k cs xs b cs' xs' b' g steps =
+  pub keeps-going : (settling : Bool) (a : ActorId) (k : ℕ) (cs : List ClientNow) (xs : List (TargetOf S C)) (b : BetweenNow) (cs' : List ClientNow) (xs' : List (TargetOf S C)) (b' : BetweenNow)
+      → IsGoing durable state cs xs b → ((r : Rules) (w : World) → Shows durable state r cs xs b w → Steps durable state settling r a k w cs' xs' b') → IsGoing durable state cs' xs' b'
+  keeps-going settling a k cs xs b cs' xs' b' g steps =
       let n = steps g.rules g.reached.now g.reached.shows in
       record {
         rules = g.rules;
         opening = g.opening;
         first = g.first;
-        alone = g.alone;
+        simple = g.simple;
         begun = g.begun;
-        reached = record { now = n.next; run = Goes g.reached.now n.next g.reached.run (turn-event g.rules a k g.reached.now n.next n.turn); shows = n.shows };
+        reached = record { now = n.next; run = Goes g.reached.now n.next g.reached.run (turn-event settling g.rules a k g.reached.now n.next n.turn); shows = n.shows };
       }
 
   module _ (cs : List ClientNow) (xs : List (TargetOf S C)) (b b' : BetweenNow) (k : CanGo durable state cs xs b) where
     -- a client had its turn
-    client-on : (n : ℕ) (c d : ClientNow) (did : Did) (rest : List Letter) (cs' : List ClientNow) → slice_get cs n ≡ Some c → d.plan ≡ c.plan → AreInForm rest → ArePostsInForm did.posts
+    client-on : (n : ℕ) (c d : ClientNow) (did : Did) (rest : List Letter) (cs' : List ClientNow) → slice_get cs n ≡ Some c → d.plan ≡ c.plan → AreInForm k.rules rest → ClientPosts (target_plan k.rules) did.posts
         → Follows b (client n) did rest b' → cs' ≡ set cs n d → (IsGoing durable state cs xs b → IsGoing durable state cs' xs b') → CanGo durable state cs' xs b'
     client-on n c d did rest cs' at plan' left posts f set' on = record {
       rules = k.rules;
-      alone = k.alone;
+      simple = k.simple;
       plans = λ m x is. get-set (λ j y. y.plan ≡ client_plan k.rules j) cs n d (plan' ∙ k.plans n c at) k.plans m x (ap (λ zs. slice_get zs m) (sym set') ∙ is);
+      made = k.made;
+      many = k.many;
       running = k.running;
-      letters = subst AreInForm (sym f.messages) (sent-in-form (client n) rest did.posts left (by-client n did.posts posts));
+      waiting = k.waiting;
+      letters = subst (AreInForm k.rules) (sym f.messages) (sent-in-form k.rules (client n) rest did.posts left (by-client k.rules n did.posts posts));
       told = λ t x e here is. on (k.told t x e here is);
     }
 
@@ -109,31 +109,41 @@ module _ {S C : Type 0} (durable : S → Option Durable) (state : S → State) w
         → Follows b (client n) did b.messages b' → cs' ≡ set cs n d → (IsGoing durable state cs xs b → IsGoing durable state cs' xs b') → CanGo durable state cs' xs b'
     client-went-on n c d did cs' at plan' turn f set' on =
         client-on n c d did b.messages cs' at plan' k.letters
-        (clients-post-in-form k.rules n c.state d.state did (plain k.rules k.alone) (subst (λ p. NextTurn p c.state did d.state) (k.plans n c at) turn)) f set' on
+        (clients-post-in-form k.rules n c.state d.state did (plain k.rules k.simple) (subst (λ p. NextTurn p c.state did d.state) (k.plans n c at) turn)) f set' on
 
     pub client-heard : (n number : ℕ) (c d : ClientNow) (did : Did) (l : Letter) (rest : List Letter) (cs' : List ClientNow) → slice_get cs n ≡ Some c → d.plan ≡ c.plan → IsPicked b.messages (client n) number l rest → HearTurn c.plan c.state l.message did d.state
         → Follows b (client n) did rest b' → cs' ≡ set cs n d → (IsGoing durable state cs xs b → IsGoing durable state cs' xs b') → CanGo durable state cs' xs b'
     client-heard n number c d did l rest cs' at plan' picked turn f set' on =
-        client-on n c d did rest cs' at plan' (rest-in-form b.messages (client n) number l rest picked k.letters)
-        (hearers-post-in-form k.rules n c.state d.state l.message did (plain k.rules k.alone) ((taken-in-form b.messages (client n) number l rest picked k.letters).form.told (ap (λ z. z.client) picked.to_it))
+        client-on n c d did rest cs' at plan' (rest-in-form k.rules b.messages (client n) number l rest picked k.letters)
+        (hearers-post-in-form k.rules n c.state d.state l.message did (plain k.rules k.simple) ((taken-in-form k.rules b.messages (client n) number l rest picked k.letters).told (ap (λ z. z.client) picked.to_it))
         (subst (λ p. HearTurn p c.state l.message did d.state) (k.plans n c at) turn)) f set' on
 
     some-told : (o o' : Option Durable) (d : Durable) → is_some o' ≡ is_some o → o' ≡ Some d → (e : Durable) × (o ≡ Some e)
     some-told None o' d same is = let bad : is_some o' ≡ true = ap is_some is in absurd (true≢false (sym bad ∙ same))
     some-told (Some e) o' d same is = (e, refl)
 
+    below-64 : (t : ℕ) (x : TargetOf S C) → slice_get xs t ≡ Some x → t < 64
+    below-64 t x at = let within : t < length xs = slice_get_within xs t x at in let many : length xs ≡ k.rules.script.targets = k.many in let few : k.rules.script.targets ≤ 64 = k.simple.few_targets in omega (arith, within, many, few)
+
     -- a target had its turn
-    target-on : (t : ℕ) (x y : TargetOf S C) (did : Did) (rest : List Letter) (xs' : List (TargetOf S C)) → slice_get xs t ≡ Some x → StillRuns (state x.store) (state y.store) (durable x.store) (durable y.store) → AreInForm rest
-        → ((q : Post) → Contains did.posts q → IsInForm (letter_of (target t) q)) → Follows b (target t) did rest b' → xs' ≡ set xs t y → (IsGoing durable state cs xs b → IsGoing durable state cs xs' b') → CanGo durable state cs xs' b'
-    target-on t x y did rest xs' at runs left posts f set' on = record {
+    pub target-on : (t : ℕ) (x y : TargetOf S C) (did : Did) (rest : List Letter) (xs' : List (TargetOf S C)) → slice_get xs t ≡ Some x → y.plan ≡ x.plan → StillRuns (state x.store) (state y.store) (durable x.store) (durable y.store) → AreInForm k.rules rest
+        → PostsInForm x.plan.targets x.memory.leader y.memory.leader did.posts → Follows b (target t) did rest b' → xs' ≡ set xs t y → (IsGoing durable state cs xs b → IsGoing durable state cs xs' b') → CanGo durable state cs xs' b'
+    target-on t x y did rest xs' at plan' runs left posts f set' on = record {
       rules = k.rules;
-      alone = k.alone;
+      simple = k.simple;
       plans = k.plans;
+      made = λ u z is. get-set (λ j q. q.plan ≡ target_plan k.rules j) xs t y (plan' ∙ k.made t x at) k.made u z (ap (λ zs. slice_get zs u) (sym set') ∙ is);
+      many = ap length set' ∙ length-set xs t y ∙ k.many;
       running = λ u z is. get-set (λ j q. (state q.store).stopped ≡ false) xs t y runs.stops k.running u z (ap (λ zs. slice_get zs u) (sym set') ∙ is);
-      letters = subst AreInForm (sym f.messages) (sent-in-form (target t) rest did.posts left posts);
+      waiting = λ u z is. get-set (λ j q. ClientsWait q.memory.leader) xs t y sent.waiting k.waiting u z (ap (λ zs. slice_get zs u) (sym set') ∙ is);
+      letters = subst (AreInForm k.rules) (sym f.messages) (sent-in-form k.rules (target t) rest did.posts left
+          (by-target k.rules t did.posts (below-64 t x at) (subst (λ n. TargetPosts n did.posts) (ap (λ p. p.targets) (k.made t x at)) sent.form)));
       told = λ u z d here is. on (before u z d (ap (λ zs. slice_get zs u) (sym set') ∙ here) is);
     }
       where
+        sent : posted.Follows x.plan.targets y.memory.leader did.posts
+        sent = posts (k.waiting t x at)
+
         before : (u : ℕ) (z : TargetOf S C) (d : Durable) → slice_get (set xs t y) u ≡ Some z → durable z.store ≡ Some d → IsGoing durable state cs xs b
         before u z d here is = elim (cases_eq u t) [
           | inl same ↦
@@ -142,13 +152,3 @@ module _ {S C : Type 0} (durable : S → Option Durable) (state : S → State) w
               k.told t x e.0 at e.1
           | inr apart ↦ k.told u z d (sym (set-there xs t u y apart) ∙ here) is
         ]
-
-    pub target-heard : (t number : ℕ) (x y : TargetOf S C) (did : Did) (l : Letter) (rest : List Letter) (xs' : List (TargetOf S C)) → slice_get xs t ≡ Some x → StillRuns (state x.store) (state y.store) (durable x.store) (durable y.store)
-        → IsPicked b.messages (target t) number l rest → IsAnswered l.from did.posts → Follows b (target t) did rest b' → xs' ≡ set xs t y → (IsGoing durable state cs xs b → IsGoing durable state cs xs' b') → CanGo durable state cs xs' b'
-    target-heard t number x y did l rest xs' at runs picked answered f set' on =
-        target-on t x y did rest xs' at runs (rest-in-form b.messages (target t) number l rest picked k.letters)
-        (by-target t l.from did.posts ((taken-in-form b.messages (target t) number l rest picked k.letters).asker (ap (λ z. z.client) picked.to_it)) answered) f set' on
-
-    pub target-idled : (t : ℕ) (x y : TargetOf S C) (did : Did) (xs' : List (TargetOf S C)) → slice_get xs t ≡ Some x → StillRuns (state x.store) (state y.store) (durable x.store) (durable y.store)
-        → did.posts ≡ [] → Follows b (target t) did b.messages b' → xs' ≡ set xs t y → (IsGoing durable state cs xs b → IsGoing durable state cs xs' b') → CanGo durable state cs xs' b'
-    target-idled t x y did xs' at runs none f set' on = target-on t x y did b.messages xs' at runs k.letters (nothing-sent t did.posts none) f set' on

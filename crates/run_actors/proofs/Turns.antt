@@ -1,5 +1,5 @@
 -- A turn of an actor leads from a world that the actors show to one that they show then.
-use Rattle.std.specs.Prelude.{ℕ, ◌≡◌, List, [], ◌∷◌, ◌++◌, length, map, slice_get, false, Option, Some, None, refl}
+use Rattle.std.specs.Prelude.{ℕ, ◌≡◌, List, [], ◌∷◌, ◌++◌, length, map, slice_get, Bool, false, Option, Some, None, refl}
 use Rattle.std.proofs.Common.{zero, suc, inl, inr, sym, ◌∙◌, ap, subst, arith}
 use Rattle.std.proofs.Math.ListN.{set}
 use Rattle.std.proofs.lemmas.Bool.{cases_eq}
@@ -32,7 +32,7 @@ pub record Follows (b : BetweenNow) (actor : _) (did : Did) (rest : List Letter)
   pub lines : b'.lines ≡ b.lines ++ map (with_epoch b.issued) did.lines
   pub issued : b'.issued ≡ b.issued ++ listed did.issued
 
-module _ {S C : Type 0} (durable : S → Option Durable) (state : S → State) (r : Rules) (clients : List ClientNow) (targets : List (TargetOf S C)) (b : BetweenNow) where
+module _ {S C : Type 0} (durable : S → Option Durable) (state : S → State) (settling : Bool) (r : Rules) (clients : List ClientNow) (targets : List (TargetOf S C)) (b : BetweenNow) where
   -- ---- clients
 
   module _ (n : ℕ) (c d : ClientNow) (did : Did) (rest : List Letter) (b' : BetweenNow) (clients' : List ClientNow) where
@@ -56,7 +56,7 @@ module _ {S C : Type 0} (durable : S → Option Durable) (state : S → State) (
 
     -- a client heard a message
     pub client-hears : (w : World) → Shows durable state r clients targets b w → slice_get clients n ≡ Some c → c.state.skip ≡ 0 → (number : ℕ) (l : Letter) → IsPicked b.messages (client n) number l rest
-        → HearTurn c.plan c.state l.message did d.state → d.plan ≡ c.plan → Follows b (client n) did rest b' → clients' ≡ set clients n d → Steps durable state r (client n) number w clients' targets b'
+        → HearTurn c.plan c.state l.message did d.state → d.plan ≡ c.plan → Follows b (client n) did rest b' → clients' ≡ set clients n d → Steps durable state settling r (client n) number w clients' targets b'
     client-hears w k at awake number l picked turn plan f set' = record {
       next = client-after w;
       turn = Hearing (record {
@@ -78,7 +78,7 @@ module _ {S C : Type 0} (durable : S → Option Durable) (state : S → State) (
 
     -- a client went on without a message
     pub client-goes : (number : ℕ) (w : World) → Shows durable state r clients targets b w → slice_get clients n ≡ Some c → heard_awake c.state (count_to (client n) b.messages) ≡ 0 → rest ≡ b.messages
-        → NextTurn c.plan c.state did d.state → d.plan ≡ c.plan → Follows b (client n) did rest b' → clients' ≡ set clients n d → Steps durable state r (client n) number w clients' targets b'
+        → NextTurn c.plan c.state did d.state → d.plan ≡ c.plan → Follows b (client n) did rest b' → clients' ≡ set clients n d → Steps durable state settling r (client n) number w clients' targets b'
     client-goes number w k at none all turn plan f set' = record {
       next = client-after w;
       turn = Going (record {
@@ -151,7 +151,7 @@ module _ {S C : Type 0} (durable : S → Option Durable) (state : S → State) (
     pub target-hears : (w : World) → Shows durable state r clients targets b w → slice_get targets t ≡ Some x → (number reading : ℕ) (l : Letter) → IsPicked b.messages (target t) number l rest → (d new : Durable) → durable x.store ≡ Some d
         → durable y.store ≡ Some new → Hears x.plan (state x.store).opening x.memory reading l.from l.message (record { durable = d; free = (state x.store).free }) (record { durable = new; free = (state y.store).free }) (y.memory, did)
         → y.plan ≡ x.plan → (state y.store).opening ≡ (state x.store).opening → (state y.store).stopped ≡ false → Follows b (target t) did rest b' → targets' ≡ set targets t y
-        → Steps durable state r (target t) number w clients targets' b'
+        → Steps durable state settling r (target t) number w clients targets' b'
     target-hears w k at number reading l picked d new had told turn plan opening running f set' =
         let s = there w k at in
         let same : d ≡ s.0.durable = let e : Some d ≡ Some s.0.durable = sym had ∙ s.2.told in cc in
@@ -181,15 +181,16 @@ module _ {S C : Type 0} (durable : S → Option Durable) (state : S → State) (
 
     -- a target did its idle work
     pub target-idles : (number : ℕ) (w : World) → Shows durable state r clients targets b w → slice_get targets t ≡ Some x → count_to (target t) b.messages ≡ 0 → rest ≡ b.messages → (d new : Durable) → durable x.store ≡ Some d
-        → durable y.store ≡ Some new → IdlesWhole x.memory (record { durable = d; free = (state x.store).free }) (record { durable = new; free = (state y.store).free }) (y.memory, did)
+        → durable y.store ≡ Some new → IdlesWhole settling x.plan x.memory (record { durable = d; free = (state x.store).free }) (record { durable = new; free = (state y.store).free }) (y.memory, did)
         → y.plan ≡ x.plan → (state y.store).opening ≡ (state x.store).opening → (state y.store).stopped ≡ false → Follows b (target t) did rest b' → targets' ≡ set targets t y
-        → Steps durable state r (target t) number w clients targets' b'
+        → Steps durable state settling r (target t) number w clients targets' b'
     target-idles number w k at none all d new had told turn plan opening running f set' =
         let s = there w k at in
         let same : d ≡ s.0.durable = let e : Some d ≡ Some s.0.durable = sym had ∙ s.2.told in cc in
         record {
           next = target-after w s.0 new;
           turn = Idling (record {
+            settling = settling;
             t = t;
             s = s.0;
             new = record { durable = new; free = (state y.store).free };
@@ -197,9 +198,10 @@ module _ {S C : Type 0} (durable : S → Option Durable) (state : S → State) (
             did = did;
             here = s.1;
             runs = s.2.runs;
-            turn = subst (λ m. IdlesWhole m (kept s.0) (record { durable = new; free = (state y.store).free }) (y.memory, did)) s.2.knows
-                (subst (λ q. IdlesWhole x.memory q (record { durable = new; free = (state y.store).free }) (y.memory, did)) (kept-is (state x.store) s.0 d same s.2.free) turn);
+            turn = subst (λ m. IdlesWhole settling (target_plan r t) m (kept s.0) (record { durable = new; free = (state y.store).free }) (y.memory, did)) s.2.knows
+                (subst (λ p. IdlesWhole settling p x.memory (kept s.0) (record { durable = new; free = (state y.store).free }) (y.memory, did)) s.2.made
+                (subst (λ q. IdlesWhole settling x.plan x.memory q (record { durable = new; free = (state y.store).free }) (y.memory, did)) (kept-is (state x.store) s.0 d same s.2.free) turn));
             after = ap (λ ls. with_target t (target_after s.0 (record { durable = new; free = (state y.store).free }) y.memory) (after_turn w (target t) did ls)) (all ∙ k.messages);
-          }) refl (ap (count_to (target t)) (sym k.messages) ∙ none);
+          }) refl refl (ap (count_to (target t)) (sym k.messages) ∙ none);
           shows = target-shown w s.0 new k s.2 plan told opening running f set';
         }

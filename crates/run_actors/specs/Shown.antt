@@ -1,21 +1,22 @@
 -- Which actors have something to do, and what they hear, is that of the world that they show.
-use Rattle.std.specs.Prelude.{ℕ, ◌≡◌, ◌<◌, ◌++◌, Bool, true, false, List, [], ◌∷◌, filter, length, map, slice_get, Option, Some, None, if◌then◌else◌, refl}
+use Rattle.std.specs.Prelude.{ℕ, ◌≡◌, ◌<◌, ◌++◌, Bool, true, false, ◌||◌, nat_lt, List, [], ◌∷◌, filter, length, map, slice_get, Option, Some, None, refl}
 use Rattle.std.proofs.Common.{zero, suc, sym, ◌∙◌, ap, subst, arith}
-use Rattle.std.proofs.lemmas.List.Elements.{filter-append}
 use Rattle.client_core.specs.Clients.{ClientNow}
 use Rattle.daos_messages.specs.declared.actor.ActorId.{ActorId}
 use Rattle.daos_model.specs.declared.durable.Durable.{Durable}
 use Rattle.run_letters.specs.Letters.{BetweenNow}
-use Rattle.run_actors.specs.Due.{due_actors, due_below, is_due_client, is_due_target, one_if}
+use Rattle.run_actors.specs.Due.{AllAreDue, is_due_client}
 use Rattle.run_actors.specs.ListLaws.{map-get, there-is}
 use Rattle.run_actors.specs.Shows.{IsTargetOf, Shows, state_of}
-use Rattle.run_picks.specs.Picks.{count_to, due, heard, heard_awake, heard_by_client, if_client_due, if_target_due, is_client_due, is_due, is_target_due, numbered}
+use Rattle.run_picks.specs.Picks as picks
+use Rattle.run_picks.specs.Picks.{count_to, heard, heard_awake, heard_by_client, if_client_due, if_target_due, is_client_due, is_due, numbered}
 use Rattle.target_core.specs.Targets.{TargetOf}
 use Rattle.vos_store.specs.Calls.{State}
 use Rattle.world_base.specs.declared.target.TargetState.{TargetState}
 use Rattle.world_base.specs.declared.world.World.{World}
 use Rattle.world_events.specs.Events.{Rules, client_plan, target_plan}
 use Rattle.world_events.specs.Letters.{client, target}
+use Rattle.world_turns.specs.Idle.{has_idle}
 
 -- ---- targets
 
@@ -51,18 +52,6 @@ named-client a n kind named = ap (actor true) named ∙ ap (λ k. actor k a.numb
 pub named-target : (a : ActorId) (n : ℕ) → a.client ≡ false → n ≡ a.number → target n ≡ a
 named-target a n kind named = ap (actor false) named ∙ ap (λ k. actor k a.number) (sym kind)
 
--- those below a number for which a test holds, one by one
-below-is-filter : (test : ActorId → Bool) (name : ℕ → ActorId) (passes : ℕ → Bool) (n : ℕ) → ((k : ℕ) → k < n → passes k ≡ test (name k)) → due_below name passes n ≡ filter test (numbered name n)
-below-is-filter test name passes zero same = refl
-below-is-filter test name passes (suc n) same =
-    ap (λ as'. as' ++ one_if (passes n) (name n)) (below-is-filter test name passes n (λ k within. same k (omega (arith, within))))
-    ∙ ap (λ as'. filter test (numbered name n) ++ as') (ap (λ b. one_if b (name n)) (same n (omega arith)) ∙ one (test (name n)))
-    ∙ sym (filter-append test (numbered name n) (name n ∷ []))
-  where
-    one : (b : Bool) → one_if b (name n) ≡ (if b then name n ∷ [] else [])
-    one true = refl
-    one false = refl
-
 pub length-map : {A B : Type 0} (f : A → B) (xs : List A) → length (map f xs) ≡ length xs
 length-map f [] = refl
 length-map f (x ∷ xs) = ap suc (length-map f xs)
@@ -74,32 +63,31 @@ module _ {S C : Type 0} (durable : S → Option Durable) (state : S → State) (
   client-here : (n : ℕ) (c : ClientNow) → slice_get clients n ≡ Some c → slice_get w.clients n ≡ Some c.state
   client-here n c at = ap (λ cs. slice_get cs n) k.clients ∙ map-get state_of clients n c at
 
-  pub client-due-shown : (n : ℕ) → n < length clients → is_due_client b.messages n (slice_get clients n) ≡ is_due r w (client n)
-  client-due-shown n within =
+  pub client-due-shown : (settling : Bool) (n : ℕ) → n < length clients → is_due_client b.messages n (slice_get clients n) ≡ is_due settling r w (client n)
+  client-due-shown settling n within =
       let c = there-is clients n within in
       ap (is_due_client b.messages n) c.1
       ∙ ap (λ p. is_client_due p c.0.state (count_to (client n) b.messages)) (k.plans n c.0 c.1)
       ∙ ap (λ ls. is_client_due (client_plan r n) c.0.state (count_to (client n) ls)) k.messages
       ∙ ap (if_client_due (client_plan r n) (count_to (client n) w.messages)) (sym (client-here n c.0 c.1))
 
-  pub target-due-shown : (t : ℕ) → t < length targets → is_due_target b.messages t (slice_get targets t) ≡ is_due r w (target t)
-  target-due-shown t within =
-      let x = there-is targets t within in
-      let s = target-there durable state r clients targets b w t x.0 k x.1 in
-      ap (is_due_target b.messages t) x.1
-      ∙ ap (λ m. is_target_due m.decided (count_to (target t) b.messages)) s.is.knows
-      ∙ ap (λ ls. is_target_due s.s.memory.decided (count_to (target t) ls)) k.messages
-      ∙ ap (if_target_due (count_to (target t) w.messages)) (sym s.here)
+  -- a target's idle work is that of the target in the world
+  pub target-due-shown : (settling : Bool) (t : ℕ) (x : TargetOf S C) (due : Bool) → slice_get targets t ≡ Some x
+      → ((d : Durable) → durable x.store ≡ Some d → due ≡ (nat_lt 0 (count_to (target t) b.messages) || has_idle settling x.plan x.memory d)) → due ≡ is_due settling r w (target t)
+  target-due-shown settling t x due at is =
+      let s = target-there durable state r clients targets b w t x k at in
+      is s.s.durable s.is.told
+      ∙ ap (λ ls. nat_lt 0 (count_to (target t) ls) || has_idle settling x.plan x.memory s.s.durable) k.messages
+      ∙ ap (λ p. nat_lt 0 (count_to (target t) w.messages) || has_idle settling p x.memory s.s.durable) s.is.made
+      ∙ ap (λ m. nat_lt 0 (count_to (target t) w.messages) || has_idle settling (target_plan r t) m s.s.durable) s.is.knows
+      ∙ ap (if_target_due settling (target_plan r t) (count_to (target t) w.messages)) (sym s.here)
 
-  pub due-shown : due_actors b.messages clients targets ≡ due r w
-  due-shown =
-      ap (λ as'. as' ++ due_below target (λ j. is_due_target b.messages j (slice_get targets j)) (length targets))
-      (below-is-filter (is_due r w) client (λ j. is_due_client b.messages j (slice_get clients j)) (length clients) client-due-shown)
-      ∙ ap (λ as'. filter (is_due r w) (numbered client (length clients)) ++ as')
-      (below-is-filter (is_due r w) target (λ j. is_due_target b.messages j (slice_get targets j)) (length targets) target-due-shown)
-      ∙ sym (filter-append (is_due r w) (numbered client (length clients)) (numbered target (length targets)))
-      ∙ ap (λ n. filter (is_due r w) (numbered client n ++ numbered target (length targets))) (sym many-clients)
-      ∙ ap (λ n. filter (is_due r w) (numbered client (length w.clients) ++ numbered target n)) (sym k.many)
+  -- those that are due of all actors are those that are due in the world
+  pub due-shown : (settling : Bool) (due : List ActorId) → AllAreDue durable state settling clients targets b due → due ≡ picks.due settling r w
+  due-shown settling due all =
+      all.shown r w k
+      ∙ ap (λ n. filter (is_due settling r w) (numbered client n ++ numbered target (length targets))) (sym many-clients)
+      ∙ ap (λ n. filter (is_due settling r w) (numbered client (length w.clients) ++ numbered target n)) (sym k.many)
 
   -- what a client hears, by its number
   pub client-heard-shown : (a : ActorId) (n many : ℕ) → a.client ≡ true → n ≡ a.number → n < length clients

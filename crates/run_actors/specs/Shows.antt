@@ -1,5 +1,5 @@
 -- The actors of a run, and what lies between them, as a world that a run has reached.
-use Rattle.std.specs.Prelude.{ℕ, ◌≡◌, false, List, length, map, slice_get, Option, Some}
+use Rattle.std.specs.Prelude.{ℕ, ◌≡◌, Bool, false, List, length, map, slice_get, Option, Some}
 use Rattle.client_core.specs.Clients.{ClientNow}
 use Rattle.daos_messages.specs.declared.actor.ActorId.{ActorId}
 use Rattle.daos_model.specs.declared.durable.Durable.{Durable}
@@ -13,11 +13,15 @@ use Rattle.world_base.specs.declared.target.Life.TheVariants.{Running}
 use Rattle.world_base.specs.declared.target.TargetPlan.{TargetPlan}
 use Rattle.world_base.specs.declared.target.TargetState.{TargetState}
 use Rattle.world_base.specs.declared.world.World.{World}
-use Rattle.world_begins.specs.Begins.{IsAlone, IsBegun}
+use Rattle.world_begins.specs.Begins.{IsBegun, IsSimple}
 use Rattle.world_events.specs.Events.{Rules, Run, client_plan, target_plan}
 
 abbrev pub state_of : ClientNow → ClientState
 state_of c = c.state
+
+-- no store of these targets is stopped
+abbrev pub AreRunning : {S C : Type 0} → (S → State) → List (TargetOf S C) → Type 0
+AreRunning {S} {C} state xs = (t : ℕ) (x : TargetOf S C) → slice_get xs t ≡ Some x → (state x.store).stopped ≡ false
 
 module _ {S C : Type 0} (durable : S → Option Durable) (state : S → State) where
   -- A target of this plan is so in the world: its store runs and tells what it keeps.
@@ -41,9 +45,9 @@ module _ {S C : Type 0} (durable : S → Option Durable) (state : S → State) w
     pub lines : b.lines ≡ w.lines
 
   -- From this world, a turn of an actor has led to one that the actors show; the letter that it heard, if it heard one, had this number.
-  pub record Steps (r : Rules) (actor : ActorId) (number : ℕ) (w : World) (clients : List ClientNow) (targets : List (TargetOf S C)) (b : BetweenNow) : Type 0 where
+  pub record Steps (settling : Bool) (r : Rules) (actor : ActorId) (number : ℕ) (w : World) (clients : List ClientNow) (targets : List (TargetOf S C)) (b : BetweenNow) : Type 0 where
     pub next : World
-    pub turn : TurnOf r actor number w next
+    pub turn : TurnOf settling r actor number w next
     pub shows : Shows r clients targets b next
 
   -- a run from this world has reached one that the actors show
@@ -52,11 +56,11 @@ module _ {S C : Type 0} (durable : S → Option Durable) (state : S → State) w
     pub run : Run r w now
     pub shows : Shows r clients targets b now
 
-  -- the actors are those of a run of one target that was begun
+  -- The actors are those of a run that was begun: of a script in form, for some targets, without stops, snapshots and aggregation.
   pub record IsGoing (clients : List ClientNow) (targets : List (TargetOf S C)) (b : BetweenNow) : Type 0 where
     pub rules : Rules
     pub opening : Opening
     pub first : World
-    pub alone : IsAlone rules
+    pub simple : IsSimple rules
     pub begun : IsBegun rules opening first
     pub reached : IsReached rules first clients targets b

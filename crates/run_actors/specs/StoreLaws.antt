@@ -7,11 +7,12 @@ use Rattle.std.proofs.lemmas.Bool.Decides.{nat_tests}
 use Rattle.std.proofs.lemmas.Option.{slice_get_within}
 use Rattle.daos_model.specs.declared.durable.Durable.{Durable}
 use Rattle.run_actors.specs.ListLaws.{length-set, set-is, there-is}
+use Rattle.run_actors.specs.Shows.{AreRunning}
 use Rattle.run_actors.specs.Stores.{AllRun, StoresRun, stops_at}
-use Rattle.target_core.specs.declared.stop.TargetStop.{TargetStop}
-use Rattle.target_core.specs.Parts.{Runs, StillRuns}
-use Rattle.target_core.specs.Running.{runs_as, runs_first, runs_on}
-use Rattle.target_core.specs.Stops.{stop_store}
+use Rattle.target_parts.specs.declared.stop.TargetStop.{TargetStop}
+use Rattle.target_parts.specs.Parts.{Runs, StillRuns}
+use Rattle.target_parts.specs.Running.{runs_as, runs_first, runs_on}
+use Rattle.target_parts.specs.Stops.{stop_store}
 use Rattle.target_core.specs.Targets.{TargetOf}
 use Rattle.vos_store.specs.Calls.{State}
 use Rattle.vos_store.specs.Refusals.{always_stop, says}
@@ -26,12 +27,8 @@ says-none t u (Ok x) apart = refl
 says-none t u (Err e) apart = ap (λ b. b && stop_store e) (let is : (u == t) ≡ false = grind (arith, nat_tests) in is)
 
 module _ {S C : Type 0} (durable : S → Option Durable) (state : S → State) where
-  -- all of these run
-  abbrev pub AreRunning : List (TargetOf S C) → Type 0
-  AreRunning xs = (t : ℕ) (x : TargetOf S C) → slice_get xs t ≡ Some x → (state x.store).stopped ≡ false
-
   -- before any turn
-  pub run-first : (xs : List (TargetOf S C)) → AreRunning xs → AllRun durable state xs xs
+  pub run-first : (xs : List (TargetOf S C)) → AreRunning state xs → AllRun durable state xs xs
   run-first xs running = record {
     many = refl;
     each = λ t x y at here. let same : x ≡ y = let e : Some x ≡ Some y = sym at ∙ here in cc in subst (λ z. StillRuns (state x.store) (state z.store) (durable x.store) (durable z.store)) same (runs_first (state x.store) (durable x.store) (running t x at));
@@ -55,7 +52,7 @@ module _ {S C : Type 0} (durable : S → Option Durable) (state : S → State) w
   }
 
   -- a turn of one target leaves the others alone
-  pub run-one : {T : Type 0} (result : Result T TargetStop) (xs : List (TargetOf S C)) (t : ℕ) (x y : TargetOf S C) → AreRunning xs → slice_get xs t ≡ Some x → Runs stop_store result (state x.store) (state y.store) (durable x.store) (durable y.store)
+  pub run-one : {T : Type 0} (result : Result T TargetStop) (xs : List (TargetOf S C)) (t : ℕ) (x y : TargetOf S C) → AreRunning state xs → slice_get xs t ≡ Some x → Runs stop_store result (state x.store) (state y.store) (durable x.store) (durable y.store)
       → StoresRun durable state (stops_at t) result xs (set xs t y)
   run-one result xs t x y running at runs = record {
     many = length-set xs t y;
@@ -79,14 +76,14 @@ module _ {S C : Type 0} (durable : S → Option Durable) (state : S → State) w
           (subst (λ z. StillRuns (state p.store) (state z.store) (durable p.store) (durable z.store)) same (runs_first (state p.store) (durable p.store) (running u p here)))
 
   -- a turn of one target that isn't whole, for this reason
-  pub run-stopped : {T U : Type 0} (e : TargetStop) (said : Result U TargetStop) (xs : List (TargetOf S C)) (t : ℕ) (x y : TargetOf S C) → AreRunning xs → slice_get xs t ≡ Some x → said ≡ Err e
+  pub run-stopped : {T U : Type 0} (e : TargetStop) (said : Result U TargetStop) (xs : List (TargetOf S C)) (t : ℕ) (x y : TargetOf S C) → AreRunning state xs → slice_get xs t ≡ Some x → said ≡ Err e
       → Runs {T = T} stop_store (Err e) (state x.store) (state y.store) (durable x.store) (durable y.store) → StoresRun durable state (stops_at t) said xs (set xs t y)
   run-stopped {T} {U} e said xs t x y running at is runs =
       subst (λ r. StoresRun durable state (stops_at t) r xs (set xs t y)) (sym is)
       (run-one (Err e) xs t x y running at (runs_as {T = T} {E = TargetStop} {U = U} {F = TargetStop} stop_store (Err e) stop_store (Err e) (state x.store) (state y.store) (durable x.store) (durable y.store) refl runs))
 
   -- a whole one, and what came after it stopped no store
-  pub run-whole : {T U : Type 0} (d : T) (said : Result U TargetStop) (xs ys : List (TargetOf S C)) (t : ℕ) (x y : TargetOf S C) → AreRunning xs → slice_get xs t ≡ Some x → says stop_store said ≡ false → ys ≡ set xs t y
+  pub run-whole : {T U : Type 0} (d : T) (said : Result U TargetStop) (xs ys : List (TargetOf S C)) (t : ℕ) (x y : TargetOf S C) → AreRunning state xs → slice_get xs t ≡ Some x → says stop_store said ≡ false → ys ≡ set xs t y
       → Runs stop_store (Ok d) (state x.store) (state y.store) (durable x.store) (durable y.store) → StoresRun durable state (stops_at t) said xs ys
   run-whole d said xs ys t x y running at none set' runs =
       subst (StoresRun durable state (stops_at t) said xs) (sym set')

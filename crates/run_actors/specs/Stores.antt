@@ -1,9 +1,9 @@
 -- What turns leave of the stores of targets.
 use Rattle.std.specs.Prelude.{ℕ, ◌≡◌, ◌==◌, ◌&&◌, Bool, List, length, slice_get, Option, Some, Result, Ok}
 use Rattle.daos_model.specs.declared.durable.Durable.{Durable}
-use Rattle.target_core.specs.declared.stop.TargetStop.{TargetStop}
-use Rattle.target_core.specs.Parts.{Runs}
-use Rattle.target_core.specs.Stops.{stop_store}
+use Rattle.target_parts.specs.declared.stop.TargetStop.{TargetStop}
+use Rattle.target_parts.specs.Parts.{Runs}
+use Rattle.target_parts.specs.Stops.{stop_store}
 use Rattle.target_core.specs.Targets.{TargetOf}
 use Rattle.vos_store.specs.Calls.{State}
 use Rattle.vos_store.specs.Refusals.{always_stop}

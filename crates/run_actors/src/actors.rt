@@ -1,12 +1,11 @@
 // The actors of a run, and their turns.
-ghost use Rattle.std.specs.Prelude.{◌≡◌, ◌≤◌, ◌<◌, max, length, slice_get, IfOk, OnOk, Some};
+ghost use Rattle.std.specs.Prelude.{◌≡◌, ◌≤◌, ◌<◌, Bool, max, length, slice_get, IfOk, OnOk, Some};
 ghost use Rattle.client_core.specs.Clients.{ClientNow};
-ghost use Rattle.target_core.specs.Targets.{TargetOf};
-ghost use Rattle.run_actors.specs.Due.{due_actors, is_due_client, is_due_target};
+ghost use Rattle.run_actors.specs.Due.{AllAreDue, is_due_client};
 ghost use Rattle.run_actors.specs.CanGo.{CanGo};
-ghost use Rattle.run_actors.specs.Shows.{Shows, Steps};
+ghost use Rattle.run_actors.specs.Shows.{AreRunning, Shows, Steps};
 ghost use Rattle.run_actors.specs.Stores.{StoresRun, stops_at};
-ghost use Rattle.run_picks.specs.Picks.{count_to, heard_awake, is_client_due, is_target_due};
+ghost use Rattle.run_picks.specs.Picks.{count_to, heard_awake, is_due};
 ghost use Rattle.world_base.specs.declared.world.World.{World};
 ghost use Rattle.world_events.specs.Events.{Rules};
 ghost use Rattle.world_events.specs.Letters.{client, target};
@@ -17,8 +16,8 @@ use daos_messages::actor::ActorId;
 use daos_outside::clock::Clock;
 use run_letters::between::Between;
 use std::alloc::Global;
-use target_core::stop::TargetStop;
 use target_core::target::Target;
+use target_parts::stop::TargetStop;
 use vos_store::store::Store;
 
 /// The clients and the targets of a run, in the order of their numbers, and what lies between them.
@@ -87,11 +86,12 @@ impl<S: Store, C: Clock> Actors<S, C> {
             || !(client.waits() || client.done())
     }
 
-    /// Whether a target has something to do.
+    /// Whether a target has something to do, in the settling phase or before it.
     pub fn is_target_due(&self, t: usize, settling: bool) -> bool
         requires within { t < length self.now.targets.items }
         requires few { t < 65536 }
-        ensures { result ≡ is_due_target self.now.between.messages t (slice_get self.now.targets.items t) }
+        requires running { AreRunning S.state self.now.targets.items }
+        ensures { (r : Rules) (w : World) → Shows S.durable S.state r self.now.clients.items self.now.targets.items self.now.between w → result ≡ is_due settling r w (target t) }
     {
         self.between.count_to(target_id(t)) > 0 || self.targets[t].has_idle(settling)
     }
@@ -107,8 +107,8 @@ impl<S: Store, C: Clock> Actors<S, C> {
         requires within { n < length self.old.clients.items }
         requires few { n < 65536 }
         requires number { number < max 1 (count_to (client n) self.old.between.messages) }
-        ensures steps { (r : Rules) (w : World) → Shows S.durable S.state r self.old.clients.items self.old.targets.items self.old.between w
-            → OnOk result (Steps S.durable S.state r (client n) number w self.new.clients.items self.new.targets.items self.new.between) }
+        ensures steps { (settling : Bool) (r : Rules) (w : World) → Shows S.durable S.state r self.old.clients.items self.old.targets.items self.old.between w
+            → OnOk result (Steps S.durable S.state settling r (client n) number w self.new.clients.items self.new.targets.items self.new.between) }
         ensures going { OnOk result (CanGo S.durable S.state self.new.clients.items self.new.targets.items self.new.between) }
         ensures many_clients { length self.new.clients.items ≡ length self.old.clients.items }
         ensures targets { self.new.targets.items ≡ self.old.targets.items }
@@ -140,7 +140,7 @@ impl<S: Store, C: Clock> Actors<S, C> {
         requires few { t < 65536 }
         requires number { number < max 1 (count_to (target t) self.old.between.messages) }
         ensures steps { (r : Rules) (w : World) → Shows S.durable S.state r self.old.clients.items self.old.targets.items self.old.between w
-            → OnOk result (Steps S.durable S.state r (target t) number w self.new.clients.items self.new.targets.items self.new.between) }
+            → OnOk result (Steps S.durable S.state settling r (target t) number w self.new.clients.items self.new.targets.items self.new.between) }
         ensures going { OnOk result (CanGo S.durable S.state self.new.clients.items self.new.targets.items self.new.between) }
         ensures many_clients { length self.new.clients.items ≡ length self.old.clients.items }
         ensures stores { StoresRun S.durable S.state (stops_at t) result self.old.targets.items self.new.targets.items }
@@ -164,11 +164,13 @@ impl<S: Store, C: Clock> Actors<S, C> {
         }
     }
 
-    /// The actors that have something to do, in the order of their numbers, clients first.
+    /// The actors that have something to do, in the settling phase or before it, in the order of their
+    /// numbers, clients first.
     pub fn due(&self, alloc: Global, settling: bool) -> Result<Vec<ActorId>, Memory>
         requires few_clients { length self.now.clients.items ≤ 65535 }
         requires few_targets { length self.now.targets.items ≤ 255 }
-        ensures { IfOk result (λ due. due.items ≡ due_actors self.now.between.messages self.now.clients.items self.now.targets.items) }
+        requires running { AreRunning S.state self.now.targets.items }
+        ensures { IfOk result (λ due. AllAreDue S.durable S.state settling self.now.clients.items self.now.targets.items self.now.between due.items) }
     {
         let mut due = Vec::new(alloc);
         for n in 0..self.clients.len() {

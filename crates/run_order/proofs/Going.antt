@@ -1,5 +1,5 @@
 -- Turns of actors one after another.
-use Rattle.std.specs.Prelude.{ℕ, ◌≡◌, List, length, Option, refl}
+use Rattle.std.specs.Prelude.{ℕ, ◌≡◌, Bool, List, length, Option, refl}
 use Rattle.std.proofs.Common.{◌∙◌}
 use Rattle.client_core.specs.Clients.{ClientNow}
 use Rattle.daos_messages.specs.declared.actor.ActorId.{ActorId}
@@ -51,10 +51,10 @@ module _ {S C : Type 0} (durable : S → Option Durable) (state : S → State) w
   }
 
   -- a turn
-  pub goes-turn : (a : ActorId) (k : ℕ) (cs : List ClientNow) (xs : List (TargetOf S C)) (b : BetweenNow) (cs' : List ClientNow) (xs' : List (TargetOf S C)) (b' : BetweenNow)
-      → ((r : Rules) (w : World) → Shows durable state r cs xs b w → Steps durable state r a k w cs' xs' b') → CanGo durable state cs' xs' b' → length cs' ≡ length cs → AllRun durable state xs xs'
-      → GoesOn (λ r w v. TurnOf r a k w v) cs xs b cs' xs' b'
-  goes-turn a k cs xs b cs' xs' b' steps going clients stores = record {
+  pub goes-turn : (settling : Bool) (a : ActorId) (k : ℕ) (cs : List ClientNow) (xs : List (TargetOf S C)) (b : BetweenNow) (cs' : List ClientNow) (xs' : List (TargetOf S C)) (b' : BetweenNow)
+      → ((r : Rules) (w : World) → Shows durable state r cs xs b w → Steps durable state settling r a k w cs' xs' b') → CanGo durable state cs' xs' b' → length cs' ≡ length cs → AllRun durable state xs xs'
+      → GoesOn (λ r w v. TurnOf settling r a k w v) cs xs b cs' xs' b'
+  goes-turn settling a k cs xs b cs' xs' b' steps going clients stores = record {
     led = λ r w s. let n = steps r w s in record { now = n.next; is = n.turn; shows = n.shows };
     going = going;
     clients = clients;

@@ -2,11 +2,12 @@
 use Rattle.std.specs.Prelude.{ℕ, ◌≡◌, ◌<◌, IfErr, List, length, Option, Result, Ok, Err, refl}
 use Rattle.std.proofs.Common.{sym, ◌∙◌, ap, subst}
 use Rattle.daos_model.specs.declared.durable.Durable.{Durable}
+use Rattle.run_actors.specs.Shows.{AreRunning}
 use Rattle.run_actors.specs.Stores.{AllRun, StoresRun, stops_at}
-use Rattle.run_actors.specs.StoreLaws.{AreRunning, run-as, run-first, run-then}
+use Rattle.run_actors.specs.StoreLaws.{run-as, run-first, run-then}
 use Rattle.run_order.specs.declared.halted.Halted.{Halted}
 use Rattle.run_order.specs.Halts.{ComesOf, IsOneOf, Leaves, stopped_at, wanting}
-use Rattle.target_core.specs.declared.stop.TargetStop.{TargetStop}
+use Rattle.target_parts.specs.declared.stop.TargetStop.{TargetStop}
 use Rattle.target_core.specs.Targets.{TargetOf}
 use Rattle.vos_store.specs.Calls.{State}
 
@@ -35,7 +36,7 @@ module _ {S C : Type 0} (durable : S → Option Durable) (state : S → State) w
   all-run x xs ys k = run-as durable state stopped_at (Ok x) _ _ xs ys (λ t. refl) k.stores
 
   -- a turn of a client leaves them as they were
-  pub same-stores : (xs ys : List (TargetOf S C)) → ys ≡ xs → AreRunning durable state xs → AllRun durable state xs ys
+  pub same-stores : (xs ys : List (TargetOf S C)) → ys ≡ xs → AreRunning state xs → AllRun durable state xs ys
   same-stores xs ys same running = subst (AllRun durable state xs) (sym same) (run-first durable state xs running)
 
   -- a turn of a target that came whole

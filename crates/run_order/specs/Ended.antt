@@ -1,5 +1,5 @@
 -- Where a run of the actors ends.
-use Rattle.std.specs.Prelude.{ℕ, ◌≡◌, List, [], length, slice_get, Option, Some}
+use Rattle.std.specs.Prelude.{ℕ, ◌≡◌, true, List, [], length, slice_get, Option, Some}
 use Rattle.client_core.specs.Clients.{ClientNow}
 use Rattle.daos_base.specs.declared.report.Line.{Line}
 use Rattle.daos_model.specs.declared.durable.Durable.{Durable}
@@ -11,7 +11,7 @@ use Rattle.target_core.specs.Targets.{TargetOf}
 use Rattle.vos_store.specs.Calls.{State}
 use Rattle.world_base.specs.declared.target.TargetState.{TargetState}
 use Rattle.world_base.specs.declared.world.World.{World}
-use Rattle.world_ends.specs.FromBeginning.{HasEnded}
+use Rattle.world_events.specs.Ended.{HasEnded}
 use Rattle.world_events.specs.Events.{Rules, target_plan}
 
 -- nothing lies between actors before their first turns
@@ -28,7 +28,7 @@ pub record IsShown {S C : Type 0} (durable : S → Option Durable) (state : S �
 pub record HasRun {S C : Type 0} (durable : S → Option Durable) (state : S → State) (r : Rules) (order : ℕ) (first : World) (xs : List (TargetOf S C)) (lines : List Line) : Type 0 where
   pub last : World
   pub run : InOrder r order first last
-  pub quiet : due r last ≡ []
+  pub quiet : due true r last ≡ []
   pub ended : HasEnded r last
   pub told : lines ≡ last.lines
   pub many : length last.targets ≡ length xs

@@ -4,7 +4,7 @@ use Rattle.daos_model.specs.declared.durable.Durable.{Durable}
 use Rattle.run_actors.specs.Stores.{StoresRun, stops_at}
 use Rattle.run_order.specs.declared.halted.Halted.{Halted}
 use Rattle.run_order.specs.declared.halted.Halted.TheVariants as halted
-use Rattle.target_core.specs.declared.stop.TargetStop.{TargetStop}
+use Rattle.target_parts.specs.declared.stop.TargetStop.{TargetStop}
 use Rattle.target_core.specs.Targets.{TargetOf}
 use Rattle.vos_store.specs.Calls.{State}
 

@@ -1,5 +1,5 @@
 // The order of turns.
-ghost use Rattle.std.specs.Prelude.{◌≡◌, ◌≤◌, ◌<◌, max, length, IfOk, OnOk};
+ghost use Rattle.std.specs.Prelude.{◌≡◌, ◌≤◌, ◌<◌, Bool, max, length, IfOk, OnOk};
 ghost use Rattle.run_actors.specs.Due.{IsActor};
 ghost use Rattle.run_order.specs.Halts.{ComesOf, Leaves};
 ghost use Rattle.run_order.specs.Ended.{HasRun, IsShown, nothing};
@@ -9,7 +9,7 @@ ghost use Rattle.run_picks.specs.Orders.{InDraws, InOrder, InRounds, RoundOf, af
 ghost use Rattle.run_picks.specs.Picks.{count_to, heard};
 ghost use Rattle.world_base.specs.declared.world.World.{World};
 ghost use Rattle.daos_model.specs.Opening.{Opening};
-ghost use Rattle.world_begins.specs.Begins.{IsAlone, IsBegun};
+ghost use Rattle.world_begins.specs.Begins.{IsBegun, IsSimple};
 ghost use Rattle.world_events.specs.Events.{Rules};
 
 use crate::halted::Halted;
@@ -24,8 +24,8 @@ use run_actors::actors::Actors;
 use run_letters::between::Between;
 use std::alloc::Global;
 use std::sync::Wait;
-use target_core::stop::TargetStop;
 use target_core::target::Target;
+use target_parts::stop::TargetStop;
 use vos_store::store::Store;
 
 // Of how many messages an actor hears one in its next turn.
@@ -67,7 +67,7 @@ fn turn<S: Store, C: Clock>(
     requires few_targets { length actors.old.targets.items ≤ 255 }
     requires message { message < max 1 (count_to actor actors.old.between.messages) }
     ensures steps { (r : Rules) (w : World) → Shows S.durable S.state r actors.old.clients.items actors.old.targets.items actors.old.between w
-        → OnOk result (Steps S.durable S.state r actor message w actors.new.clients.items actors.new.targets.items actors.new.between) }
+        → OnOk result (Steps S.durable S.state settling r actor message w actors.new.clients.items actors.new.targets.items actors.new.between) }
     ensures going { OnOk result (CanGo S.durable S.state actors.new.clients.items actors.new.targets.items actors.new.between) }
     ensures many_clients { length actors.new.clients.items ≡ length actors.old.clients.items }
     ensures stores { Leaves S.durable S.state result actors.old.targets.items actors.new.targets.items }
@@ -95,7 +95,7 @@ fn round<S: Store, C: Clock, G: Gate>(
     requires few_clients { length actors.old.clients.items ≤ 65535 }
     requires few_targets { length actors.old.targets.items ≤ 255 }
     ensures round { (r : Rules) (w : World) → Shows S.durable S.state r actors.old.clients.items actors.old.targets.items actors.old.between w
-        → OnOk result (IsShown S.durable S.state r (RoundOf r w) actors.new.clients.items actors.new.targets.items actors.new.between) }
+        → OnOk result (IsShown S.durable S.state r (RoundOf settling r w) actors.new.clients.items actors.new.targets.items actors.new.between) }
     ensures going { OnOk result (CanGo S.durable S.state actors.new.clients.items actors.new.targets.items actors.new.between) }
     ensures many_clients { length actors.new.clients.items ≡ length actors.old.clients.items }
     ensures stores { Leaves S.durable S.state result actors.old.targets.items actors.new.targets.items }
@@ -130,7 +130,7 @@ fn go_round<R: Wait, S: Store, C: Clock, G: Gate>(
     requires few_clients { length actors.old.clients.items ≤ 65535 }
     requires few_targets { length actors.old.targets.items ≤ 255 }
     ensures rounds { (r : Rules) (w : World) → Shows S.durable S.state r actors.old.clients.items actors.old.targets.items actors.old.between w
-        → OnOk result (IsShown S.durable S.state r (InRounds r w) actors.new.clients.items actors.new.targets.items actors.new.between) }
+        → OnOk result (IsShown S.durable S.state r (InRounds settling r w) actors.new.clients.items actors.new.targets.items actors.new.between) }
     ensures going { OnOk result (CanGo S.durable S.state actors.new.clients.items actors.new.targets.items actors.new.between) }
     ensures many_clients { length actors.new.clients.items ≡ length actors.old.clients.items }
     ensures stores { Leaves S.durable S.state result actors.old.targets.items actors.new.targets.items }
@@ -172,7 +172,7 @@ fn go_drawn<R: Wait, S: Store, C: Clock, G: Gate>(
     requires few_clients { length actors.old.clients.items ≤ 65535 }
     requires few_targets { length actors.old.targets.items ≤ 255 }
     ensures draws { (r : Rules) (w : World) → Shows S.durable S.state r actors.old.clients.items actors.old.targets.items actors.old.between w
-        → OnOk result (IsShown S.durable S.state r (λ v. InDraws r x.old w x.new v) actors.new.clients.items actors.new.targets.items actors.new.between) }
+        → OnOk result (IsShown S.durable S.state r (λ v. InDraws settling r x.old w x.new v) actors.new.clients.items actors.new.targets.items actors.new.between) }
     ensures going { OnOk result (CanGo S.durable S.state actors.new.clients.items actors.new.targets.items actors.new.between) }
     ensures many_clients { length actors.new.clients.items ≡ length actors.old.clients.items }
     ensures stores { Leaves S.durable S.state result actors.old.targets.items actors.new.targets.items }
@@ -235,7 +235,7 @@ pub fn run_in_order<R: Wait, S: Store, C: Clock, G: Gate>(
     requires going { CanGo S.durable S.state clients.items targets.items nothing }
     requires few_clients { length clients.items ≤ 65535 }
     requires few_targets { length targets.items ≤ 255 }
-    ensures run { (r : Rules) (w : World) (o : Opening) → IsAlone r → IsBegun r o w → Shows S.durable S.state r clients.items targets.items nothing w
+    ensures run { (r : Rules) (w : World) (o : Opening) → IsSimple r → IsBegun r o w → Shows S.durable S.state r clients.items targets.items nothing w
         → IfOk result.1 (λ lines. HasRun S.durable S.state r order w result.0.items lines) }
     ensures stores { Leaves S.durable S.state result.1 targets.items result.0.items }
 {

@@ -1,5 +1,5 @@
 -- An ordered run is a run of events, and at its end no actor has anything to do.
-use Rattle.std.specs.Prelude.{ℕ, ◌≡◌, ◌⊎◌, ◌<◌, List, [], slice_get, Some, if◌then◌else◌, nat_lt, false}
+use Rattle.std.specs.Prelude.{ℕ, ◌≡◌, ◌⊎◌, ◌<◌, List, [], slice_get, Some, if◌then◌else◌, nat_lt, Bool, true, false}
 use Rattle.std.proofs.Common.{inl, inr, sym, ◌∙◌, ap, subst, arith}
 use Rattle.std.proofs.lemmas.Bool.Decides.{nat_tests}
 use Rattle.daos_messages.specs.declared.actor.ActorId.{ActorId}
@@ -20,11 +20,11 @@ OrdersAreRuns = (r : Rules) (order : ℕ) (w v : World) → InOrder r order w v 
 
 -- it ends where no actor has anything to do
 abbrev pub OrdersEndQuiet : Type 0
-OrdersEndQuiet = (r : Rules) (order : ℕ) (w v : World) → InOrder r order w v → due r v ≡ []
+OrdersEndQuiet = (r : Rules) (order : ℕ) (w v : World) → InOrder r order w v → due true r v ≡ []
 
 -- in a turn no letter is heard, or one of those that the actor hears one of
 abbrev pub TurnsHear : Type 0
-TurnsHear = (r : Rules) (a : ActorId) (k : ℕ) (w v : World) → TurnOf r a k w v → (heard w a ≡ 0) ⊎ (k < heard w a)
+TurnsHear = (settling : Bool) (r : Rules) (a : ActorId) (k : ℕ) (w v : World) → TurnOf settling r a k w v → (heard w a ≡ 0) ⊎ (k < heard w a)
 
 -- ---- runs
 
@@ -32,34 +32,34 @@ pub run-then : (r : Rules) (w u v : World) → Run r w u → Run r u v → Run r
 run-then r w u v k Begins = k
 run-then r w u v k (Goes x y l e) = Goes x y (run-then r w u x k l) e
 
-pub turn-event : (r : Rules) (a : ActorId) (k : ℕ) (w v : World) → TurnOf r a k w v → Event r w v
-turn-event r a k w v (Going g is none) = ByClient g
-turn-event r a k w v (Hearing g is picked) = ToClient g
-turn-event r a k w v (Serving g is picked) = ToTarget g
-turn-event r a k w v (Idling g is none) = ByTarget g
+pub turn-event : (settling : Bool) (r : Rules) (a : ActorId) (k : ℕ) (w v : World) → TurnOf settling r a k w v → Event r w v
+turn-event settling r a k w v (Going g is none) = ByClient g
+turn-event settling r a k w v (Hearing g is picked) = ToClient g
+turn-event settling r a k w v (Serving g is picked) = ToTarget g
+turn-event settling r a k w v (Idling g phase is none) = ByTarget g
 
-pub turn-run : (r : Rules) (a : ActorId) (k : ℕ) (w v : World) → TurnOf r a k w v → Run r w v
-turn-run r a k w v t = Goes w v Begins (turn-event r a k w v t)
+pub turn-run : (settling : Bool) (r : Rules) (a : ActorId) (k : ℕ) (w v : World) → TurnOf settling r a k w v → Run r w v
+turn-run settling r a k w v t = Goes w v Begins (turn-event settling r a k w v t)
 
-one-run : (r : Rules) (a : ActorId) (w v : World) → OneTurn r a w v → Run r w v
-one-run r a w v (HasIt is t) = turn-run r a 0 w v t
-one-run r a w v (HasNone is same) = subst (λ x. Run r w x) (sym same) Begins
+one-run : (settling : Bool) (r : Rules) (a : ActorId) (w v : World) → OneTurn settling r a w v → Run r w v
+one-run settling r a w v (HasIt is t) = turn-run settling r a 0 w v t
+one-run settling r a w v (HasNone is same) = subst (λ x. Run r w x) (sym same) Begins
 
-pub in_turn-run : (r : Rules) (w : World) (as' : List ActorId) (v : World) → InTurn r w as' v → Run r w v
-in_turn-run r w as' v Nobody = Begins
-in_turn-run r w as' v (AndThen before a u x k t) = run-then r w u x (in_turn-run r w before u k) (one-run r a u x t)
+pub in_turn-run : (settling : Bool) (r : Rules) (w : World) (as' : List ActorId) (v : World) → InTurn settling r w as' v → Run r w v
+in_turn-run settling r w as' v Nobody = Begins
+in_turn-run settling r w as' v (AndThen before a u x k t) = run-then r w u x (in_turn-run settling r w before u k) (one-run settling r a u x t)
 
-pub rounds-run : (r : Rules) (w v : World) → Rounds r w v → Run r w v
-rounds-run r w v NoRound = Begins
-rounds-run r w v (OneRound u x k some round) = run-then r w u x (rounds-run r w u k) (in_turn-run r u (actors u) x round)
+pub rounds-run : (settling : Bool) (r : Rules) (w v : World) → Rounds settling r w v → Run r w v
+rounds-run settling r w v NoRound = Begins
+rounds-run settling r w v (OneRound u x k some round) = run-then r w u x (rounds-run settling r w u k) (in_turn-run settling r u (actors u) x round)
 
-pub draws-run : (r : Rules) (x : ℕ) (w : World) (y : ℕ) (v : World) → Draws r x w y v → Run r w v
-draws-run r x w y v NoDraw = Begins
-draws-run r x w y v (OneDraw z a u b k t) = run-then r w u b (draws-run r x w z u k) (turn-run r t.actor _ u b t.turn)
+pub draws-run : (settling : Bool) (r : Rules) (x : ℕ) (w : World) (y : ℕ) (v : World) → Draws settling r x w y v → Run r w v
+draws-run settling r x w y v NoDraw = Begins
+draws-run settling r x w y v (OneDraw z a u b k t) = run-then r w u b (draws-run settling r x w z u k) (turn-run settling r t.actor _ u b t.turn)
 
 pub orders-are-runs : OrdersAreRuns
-orders-are-runs r order w v (ByRounds is u k l) = run-then r w u v (rounds-run r w u k.rounds) (rounds-run r u v l.rounds)
-orders-are-runs r order w v (ByDraws is x y u k l) = run-then r w u v (draws-run r order w x u k.draws) (draws-run r x u y v l.draws)
+orders-are-runs r order w v (ByRounds is u k l) = run-then r w u v (rounds-run false r w u k.rounds) (rounds-run true r u v l.rounds)
+orders-are-runs r order w v (ByDraws is x y u k l) = run-then r w u v (draws-run false r order w x u k.draws) (draws-run true r x u y v l.draws)
 
 pub orders-end-quiet : OrdersEndQuiet
 orders-end-quiet r order w v (ByRounds is u k l) = l.over
@@ -74,10 +74,10 @@ all-heard w n c here awake =
     ap (heard_by_client (count_to (client n) w.messages)) here ∙ ap (λ b. if b then 0 else count_to (client n) w.messages) asleep
 
 pub turns-hear : TurnsHear
-turns-hear r a k w v (Going g is none) = inl none
-turns-hear r a k w v (Idling g is none) = inl none
-turns-hear r a k w v (Hearing g is picked) =
+turns-hear settling r a k w v (Going g is none) = inl none
+turns-hear settling r a k w v (Idling g phase is none) = inl none
+turns-hear settling r a k w v (Hearing g is picked) =
     let own : k < count_to (client g.n) w.messages = picked-is-counted (client g.n) w.messages k g.l g.rest (subst (λ x. IsPicked w.messages x k g.l g.rest) is picked) in
     inr (subst (λ x. k < heard w x) (sym is) (subst (λ m. k < m) (sym (all-heard w g.n g.c g.here g.awake)) own))
-turns-hear r a k w v (Serving g is picked) =
+turns-hear settling r a k w v (Serving g is picked) =
     inr (subst (λ x. k < heard w x) (sym is) (picked-is-counted _ w.messages k g.l g.rest (subst (λ x. IsPicked w.messages x k g.l g.rest) is picked)))

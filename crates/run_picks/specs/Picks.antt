@@ -1,16 +1,17 @@
 -- Which actors have something to do, and what a turn of an actor is.
 use Rattle.std.specs.Prelude.{ℕ, zero, suc, ◌≡◌, ◌++◌, Bool, false, ◌||◌, ◌==◌, not, nat_lt, List, [], ◌∷◌, filter, length, slice_get, Option, Some, None, if◌then◌else◌}
-use Rattle.daos_base.specs.declared.id.AttemptId.{AttemptId}
 use Rattle.daos_messages.specs.declared.actor.ActorId.{ActorId}
 use Rattle.run_letters.specs.Letters.{IsPicked, letters_to}
 use Rattle.world_base.specs.declared.client.ClientPlan.{ClientPlan}
 use Rattle.world_base.specs.declared.client.ClientState.{ClientState}
 use Rattle.world_base.specs.declared.letter.Letter.{Letter}
+use Rattle.world_base.specs.declared.target.TargetPlan.{TargetPlan}
 use Rattle.world_base.specs.declared.target.TargetState.{TargetState}
 use Rattle.world_base.specs.declared.world.World.{World}
 use Rattle.world_base.specs.ClientTurns.{is_done, waits}
-use Rattle.world_events.specs.Events.{ClientGoes, ClientHears, Rules, TargetHears, TargetIdles, client_plan}
+use Rattle.world_events.specs.Events.{ClientGoes, ClientHears, Rules, TargetHears, TargetIdles, client_plan, target_plan}
 use Rattle.world_events.specs.Letters.{client, target}
+use Rattle.world_turns.specs.Idle.{has_idle}
 
 -- ---- actors
 
@@ -47,35 +48,34 @@ heard w a = if a.client then heard_by_client (count_to a w.messages) (slice_get 
 abbrev pub is_client_due : ClientPlan → ClientState → ℕ → Bool
 is_client_due p c count = nat_lt 0 c.skip || nat_lt 0 count || not (waits c || is_done p c)
 
--- a target has something to do: a letter is in flight to it, or it has decided attempts to settle; so far of targets that run and lead
--- all their attempts, which have no more to do while they settle
-abbrev pub is_target_due : List AttemptId → ℕ → Bool
-is_target_due decided count = nat_lt 0 count || not (length decided == 0)
+-- a target has something to do: a letter is in flight to it, or it has idle work, which isn't the same in the settling phase
+abbrev pub is_target_due : Bool → TargetPlan → TargetState → ℕ → Bool
+is_target_due settling t s count = nat_lt 0 count || has_idle settling t s.memory s.durable
 
 abbrev pub if_client_due : ClientPlan → ℕ → Option ClientState → Bool
 if_client_due p count None = false
 if_client_due p count (Some c) = is_client_due p c count
 
-abbrev pub if_target_due : ℕ → Option TargetState → Bool
-if_target_due count None = false
-if_target_due count (Some s) = is_target_due s.memory.decided count
+abbrev pub if_target_due : Bool → TargetPlan → ℕ → Option TargetState → Bool
+if_target_due settling t count None = false
+if_target_due settling t count (Some s) = is_target_due settling t s count
 
--- an actor has something to do
-abbrev pub is_due : Rules → World → ActorId → Bool
-is_due r w a =
+-- an actor has something to do, in the settling phase or before it
+abbrev pub is_due : Bool → Rules → World → ActorId → Bool
+is_due settling r w a =
     if a.client then if_client_due (client_plan r a.number) (count_to a w.messages) (slice_get w.clients a.number)
-    else if_target_due (count_to a w.messages) (slice_get w.targets a.number)
+    else if_target_due settling (target_plan r a.number) (count_to a w.messages) (slice_get w.targets a.number)
 
 -- the actors that have something to do, clients first, each kind in order of number
-abbrev pub due : Rules → World → List ActorId
-due r w = filter (is_due r w) (actors w)
+abbrev pub due : Bool → Rules → World → List ActorId
+due settling r w = filter (is_due settling r w) (actors w)
 
 -- ---- turns
 
 -- A turn of an actor, from one world to the next. Where it hears a letter in it, that is the one of number k, from 0 and in order of
 -- sending, among those in flight to it; where it hears none, a client goes on or counts a skip, and a target does its idle work.
-pub data TurnOf (r : Rules) (a : ActorId) (k : ℕ) (w v : World) : Type 0 where
-  Going : (g : ClientGoes r w v) → a ≡ client g.n → heard w a ≡ 0 → TurnOf r a k w v
-  Hearing : (g : ClientHears r w v) → a ≡ client g.n → IsPicked w.messages a k g.l g.rest → TurnOf r a k w v
-  Serving : (g : TargetHears r w v) → a ≡ target g.t → IsPicked w.messages a k g.l g.rest → TurnOf r a k w v
-  Idling : (g : TargetIdles r w v) → a ≡ target g.t → heard w a ≡ 0 → TurnOf r a k w v
+pub data TurnOf (settling : Bool) (r : Rules) (a : ActorId) (k : ℕ) (w v : World) : Type 0 where
+  Going : (g : ClientGoes r w v) → a ≡ client g.n → heard w a ≡ 0 → TurnOf settling r a k w v
+  Hearing : (g : ClientHears r w v) → a ≡ client g.n → IsPicked w.messages a k g.l g.rest → TurnOf settling r a k w v
+  Serving : (g : TargetHears r w v) → a ≡ target g.t → IsPicked w.messages a k g.l g.rest → TurnOf settling r a k w v
+  Idling : (g : TargetIdles r w v) → g.settling ≡ settling → a ≡ target g.t → heard w a ≡ 0 → TurnOf settling r a k w v

@@ -12,8 +12,8 @@ pub fn laws_of_orders()
     ensures hear { TurnsHear }
 {}
 
-/// Says what holds where no actor has anything to do: nothing is in flight to a client or to target 0,
-/// each client waits or is done, no target knows of a decided attempt that is left to settle, and no
+/// Says what holds where no actor has anything to do in the settling phase: nothing is in flight to an actor,
+/// each client waits or is done, no target has idle work, and, in either phase, no
 /// client skips.
 pub fn laws_of_quiet()
     ensures ended { QuietHasEnded }

@@ -1,20 +1,20 @@
-use Rattle.std.specs.Prelude.{◌≡◌, [], Err, Ok, refl}
-use Rattle.std.proofs.Common.{◌∙◌, ap, rules, subst, sym}
+use Rattle.std.specs.Prelude.{Err, Ok, refl}
+use Rattle.std.proofs.Common.{◌≡◌, ◌∙◌, ap, rules, subst, sym}
 use Rattle.run_letters.specs.Letters.{IsPicked}
 use Rattle.run_actors.specs.ListLaws.{at-index}
 use Rattle.run_actors.specs.Shown.{target-there}
 use Rattle.run_actors.specs.StoreLaws.{run-stopped, run-whole}
 use Rattle.run_actors.proofs.Dues.{none-heard}
 use Rattle.run_actors.proofs.Follow.{followed}
-use Rattle.run_actors.proofs.Going.{keeps-going, target-heard, target-idled}
+use Rattle.run_actors.proofs.Going.{keeps-going, rest-in-form, target-on}
 use Rattle.run_actors.proofs.Hearing.{hearable}
 use Rattle.run_actors.proofs.Turns.{target-hears, target-idles}
 use Rattle.run_picks.specs.Picks.{count_to}
-use Rattle.target_core.specs.Parts.{Runs, kept}
-use Rattle.target_core.specs.Running.{still_runs}
-use Rattle.target_core.specs.Stops.{stop_memory, stop_store}
-use Rattle.target_core.specs.Targets.{IsAnswered}
+use Rattle.target_parts.specs.Parts.{Runs, kept}
+use Rattle.target_parts.specs.Running.{still_runs}
+use Rattle.target_parts.specs.Stops.{stop_memory, stop_store}
 use Rattle.world_events.specs.Letters.{target}
+use Rattle.world_posts.specs.Forms.{PostsInForm}
 use Rattle.world_turns.specs.TargetTurns.{Hears, IdlesWhole}
 use Rattle.run_actors.proofs.actors.Actors.target_turn.Goals as goal
 use Rattle.run_actors.proofs.actors.Actors.target_turn.Goals.{then-hears+in_ok-did, else-hears+in_ok-did-2}
@@ -52,7 +52,7 @@ returns-in-Ok-clause-steps g c r w k = elim c.if-hears.branch [
       let now = turn.2 s.s.durable s.is.told in
       let f = followed c.args.self.now.between c.if-hears.between c.if-hears.did b.take-letter.new.self.messages c.target_id-2.result (target c.args.t) c.follow.new.self (ap (λ z. z.messages) b.between-is) (ap (λ z. z.lines) b.between-is ∙ b.take-letter.ensures.lines)
       (ap (λ z. z.issued) b.between-is ∙ b.take-letter.ensures.issued) c.target_id-2.ensures c.in-Ok.ensures.messages c.in-Ok.ensures.lines c.in-Ok.ensures.issued in
-      target-hears g.S.Store.durable g.S.Store.state r c.args.self.now.clients.items c.args.self.now.targets.items c.args.self.now.between c.args.t x y c.if-hears.did b.take-letter.new.self.messages c.follow.new.self c.if-hears.self.1.1.0.items
+      target-hears g.S.Store.durable g.S.Store.state c.args.settling r c.args.self.now.clients.items c.args.self.now.targets.items c.args.self.now.between c.args.t x y c.if-hears.did b.take-letter.new.self.messages c.follow.new.self c.if-hears.self.1.1.0.items
       w k at c.args.number turn.0 b.take-letter.result (subst (λ a. IsPicked c.args.self.now.between.messages a c.args.number b.take-letter.result b.take-letter.new.self.messages) b.target_id.ensures b.take-letter.ensures.picked) s.s.durable now.durable s.is.told now.kept_is
       (subst (λ z. Hears x.plan (g.S.Store.state x.store).opening x.memory turn.0 b.take-letter.result.from b.take-letter.result.message (kept s.s.durable (g.S.Store.state x.store)) (kept now.durable (g.S.Store.state y.store)) (y.memory, z)) (sym b.did-is) now.holds)
       b.in_ok-did.ensures.plan b.in_ok-did.ensures.runs.opening b.in_ok-did.ensures.runs.stops f (ap (λ z. z.1.1.0.items) b.self-is)
@@ -64,46 +64,38 @@ returns-in-Ok-clause-steps g c r w k = elim c.if-hears.branch [
       let now = b.in_ok-did-2.ensures.turn s.s.durable s.is.told in
       let f = followed c.args.self.now.between c.if-hears.between c.if-hears.did c.args.self.now.between.messages c.target_id-2.result (target c.args.t) c.follow.new.self (ap (λ z. z.messages) b.between-is) (ap (λ z. z.lines) b.between-is)
       (ap (λ z. z.issued) b.between-is) c.target_id-2.ensures c.in-Ok.ensures.messages c.in-Ok.ensures.lines c.in-Ok.ensures.issued in
-      target-idles g.S.Store.durable g.S.Store.state r c.args.self.now.clients.items c.args.self.now.targets.items c.args.self.now.between c.args.t x y c.if-hears.did c.args.self.now.between.messages c.follow.new.self c.if-hears.self.1.1.0.items
-      c.args.number w k at (none-heard (count_to (target c.args.t) c.args.self.now.between.messages) c.heard_by_target-hears.result c.heard_by_target-hears.ensures b.if-hears.false) refl s.s.durable now.durable s.is.told now.kept_is (subst (λ z. IdlesWhole x.memory (kept s.s.durable (g.S.Store.state x.store)) (kept now.durable (g.S.Store.state y.store)) (y.memory, z)) (sym b.did-is) now.holds)
+      target-idles g.S.Store.durable g.S.Store.state c.args.settling r c.args.self.now.clients.items c.args.self.now.targets.items c.args.self.now.between c.args.t x y c.if-hears.did c.args.self.now.between.messages c.follow.new.self c.if-hears.self.1.1.0.items
+      c.args.number w k at (none-heard (count_to (target c.args.t) c.args.self.now.between.messages) c.heard_by_target-hears.result c.heard_by_target-hears.ensures b.if-hears.false) refl s.s.durable now.durable s.is.told now.kept_is (subst (λ z. IdlesWhole c.args.settling x.plan x.memory (kept s.s.durable (g.S.Store.state x.store)) (kept now.durable (g.S.Store.state y.store)) (y.memory, z)) (sym b.did-is) now.holds)
       b.in_ok-did-2.ensures.plan b.in_ok-did-2.ensures.runs.opening b.in_ok-did-2.ensures.runs.stops f (ap (λ z. z.1.1.0.items) b.self-is)
 ]
 
 pub returns-in-Ok-clause-going : goal.returns-in-Ok-clause-going
 returns-in-Ok-clause-going g c = elim c.if-hears.branch [
   | then-hears+in_ok-did b ↦
+      let now = c.args.self.now in
       let x = c.index_mut-target.result.now in
       let y = b.hear.new.self in
-      let at = at-index c.args.self.now.targets.items c.args.t x c.requires.within c.index_mut-target.ensures.value in
-      let turn = b.in_ok-did.ensures.turn in
-      let f = followed c.args.self.now.between c.if-hears.between c.if-hears.did b.take-letter.new.self.messages c.target_id-2.result (target c.args.t) c.follow.new.self (ap (λ z. z.messages) b.between-is) (ap (λ z. z.lines) b.between-is ∙ b.take-letter.ensures.lines)
+      let at = at-index now.targets.items c.args.t x c.requires.within c.index_mut-target.ensures.value in
+      let picked = subst (λ a. IsPicked now.between.messages a c.args.number b.take-letter.result b.take-letter.new.self.messages) b.target_id.ensures b.take-letter.ensures.picked in
+      let f = followed now.between c.if-hears.between c.if-hears.did b.take-letter.new.self.messages c.target_id-2.result (target c.args.t) c.follow.new.self (ap (λ z. z.messages) b.between-is) (ap (λ z. z.lines) b.between-is ∙ b.take-letter.ensures.lines)
       (ap (λ z. z.issued) b.between-is ∙ b.take-letter.ensures.issued) c.target_id-2.ensures c.in-Ok.ensures.messages c.in-Ok.ensures.lines c.in-Ok.ensures.issued in
-      target-heard g.S.Store.durable g.S.Store.state c.args.self.now.clients.items c.args.self.now.targets.items c.args.self.now.between c.follow.new.self c.requires.going c.args.t c.args.number x y c.if-hears.did b.take-letter.result b.take-letter.new.self.messages c.if-hears.self.1.1.0.items at
-      (still_runs stop_store (Ok c.if-hears.did) (g.S.Store.state x.store) (g.S.Store.state y.store) (g.S.Store.durable x.store) (g.S.Store.durable y.store) refl (subst (λ z. Runs stop_store (Ok z) (g.S.Store.state x.store) (g.S.Store.state y.store) (g.S.Store.durable x.store) (g.S.Store.durable y.store)) (sym b.did-is) b.in_ok-did.ensures.runs))
-      (subst (λ a. IsPicked c.args.self.now.between.messages a c.args.number b.take-letter.result b.take-letter.new.self.messages) b.target_id.ensures b.take-letter.ensures.picked)
-      (subst (λ z. IsAnswered b.take-letter.result.from z.posts) (sym b.did-is) b.in_ok-did.ensures.posts) f (ap (λ z. z.1.1.0.items) b.self-is)
-      (λ on. keeps-going g.S.Store.durable g.S.Store.state (target c.args.t) c.args.number c.args.self.now.clients.items c.args.self.now.targets.items c.args.self.now.between c.args.self.now.clients.items c.if-hears.self.1.1.0.items c.follow.new.self on (λ r w k.
-      let s = target-there g.S.Store.durable g.S.Store.state r c.args.self.now.clients.items c.args.self.now.targets.items c.args.self.now.between w c.args.t x k at in
-      let now = turn.2 s.s.durable s.is.told in
-      target-hears g.S.Store.durable g.S.Store.state r c.args.self.now.clients.items c.args.self.now.targets.items c.args.self.now.between c.args.t x y c.if-hears.did b.take-letter.new.self.messages c.follow.new.self c.if-hears.self.1.1.0.items
-      w k at c.args.number turn.0 b.take-letter.result (subst (λ a. IsPicked c.args.self.now.between.messages a c.args.number b.take-letter.result b.take-letter.new.self.messages) b.target_id.ensures b.take-letter.ensures.picked) s.s.durable now.durable s.is.told now.kept_is
-      (subst (λ z. Hears x.plan (g.S.Store.state x.store).opening x.memory turn.0 b.take-letter.result.from b.take-letter.result.message (kept s.s.durable (g.S.Store.state x.store)) (kept now.durable (g.S.Store.state y.store)) (y.memory, z)) (sym b.did-is) now.holds)
-      b.in_ok-did.ensures.plan b.in_ok-did.ensures.runs.opening b.in_ok-did.ensures.runs.stops f (ap (λ z. z.1.1.0.items) b.self-is)))
+      target-on g.S.Store.durable g.S.Store.state now.clients.items now.targets.items now.between c.follow.new.self c.requires.going c.args.t x y c.if-hears.did b.take-letter.new.self.messages c.if-hears.self.1.1.0.items at b.in_ok-did.ensures.plan
+      (still_runs stop_store (Ok b.in_ok-did.did) (g.S.Store.state x.store) (g.S.Store.state y.store) (g.S.Store.durable x.store) (g.S.Store.durable y.store) refl b.in_ok-did.ensures.runs)
+      (rest-in-form c.requires.going.rules now.between.messages (target c.args.t) c.args.number b.take-letter.result b.take-letter.new.self.messages picked c.requires.going.letters)
+      (subst (λ z. PostsInForm x.plan.targets x.memory.leader y.memory.leader z.posts) (sym b.did-is) (b.in_ok-did.ensures.posts (hearable g.S.Store.durable g.S.Store.state now.clients.items now.targets.items now.between c.args.t c.args.number x b.take-letter.result b.take-letter.new.self.messages c.requires.going at picked).kind)) f (ap (λ z. z.1.1.0.items) b.self-is)
+      (λ on. keeps-going g.S.Store.durable g.S.Store.state c.args.settling (target c.args.t) c.args.number now.clients.items now.targets.items now.between now.clients.items c.if-hears.self.1.1.0.items c.follow.new.self on (returns-in-Ok-clause-steps g c))
   | else-hears+in_ok-did-2 b ↦
+      let now = c.args.self.now in
       let x = c.index_mut-target.result.now in
       let y = b.idle.new.self in
-      let at = at-index c.args.self.now.targets.items c.args.t x c.requires.within c.index_mut-target.ensures.value in
-      let f = followed c.args.self.now.between c.if-hears.between c.if-hears.did c.args.self.now.between.messages c.target_id-2.result (target c.args.t) c.follow.new.self (ap (λ z. z.messages) b.between-is) (ap (λ z. z.lines) b.between-is)
+      let at = at-index now.targets.items c.args.t x c.requires.within c.index_mut-target.ensures.value in
+      let f = followed now.between c.if-hears.between c.if-hears.did now.between.messages c.target_id-2.result (target c.args.t) c.follow.new.self (ap (λ z. z.messages) b.between-is) (ap (λ z. z.lines) b.between-is)
       (ap (λ z. z.issued) b.between-is) c.target_id-2.ensures c.in-Ok.ensures.messages c.in-Ok.ensures.lines c.in-Ok.ensures.issued in
-      target-idled g.S.Store.durable g.S.Store.state c.args.self.now.clients.items c.args.self.now.targets.items c.args.self.now.between c.follow.new.self c.requires.going c.args.t x y c.if-hears.did c.if-hears.self.1.1.0.items at
-      (still_runs stop_store (Ok c.if-hears.did) (g.S.Store.state x.store) (g.S.Store.state y.store) (g.S.Store.durable x.store) (g.S.Store.durable y.store) refl (subst (λ z. Runs stop_store (Ok z) (g.S.Store.state x.store) (g.S.Store.state y.store) (g.S.Store.durable x.store) (g.S.Store.durable y.store)) (sym b.did-is) b.in_ok-did-2.ensures.runs))
-      (subst (λ z. z.posts ≡ []) (sym b.did-is) b.in_ok-did-2.ensures.posts) f (ap (λ z. z.1.1.0.items) b.self-is)
-      (λ on. keeps-going g.S.Store.durable g.S.Store.state (target c.args.t) c.args.number c.args.self.now.clients.items c.args.self.now.targets.items c.args.self.now.between c.args.self.now.clients.items c.if-hears.self.1.1.0.items c.follow.new.self on (λ r w k.
-      let s = target-there g.S.Store.durable g.S.Store.state r c.args.self.now.clients.items c.args.self.now.targets.items c.args.self.now.between w c.args.t x k at in
-      let now = b.in_ok-did-2.ensures.turn s.s.durable s.is.told in
-      target-idles g.S.Store.durable g.S.Store.state r c.args.self.now.clients.items c.args.self.now.targets.items c.args.self.now.between c.args.t x y c.if-hears.did c.args.self.now.between.messages c.follow.new.self c.if-hears.self.1.1.0.items
-      c.args.number w k at (none-heard (count_to (target c.args.t) c.args.self.now.between.messages) c.heard_by_target-hears.result c.heard_by_target-hears.ensures b.if-hears.false) refl s.s.durable now.durable s.is.told now.kept_is (subst (λ z. IdlesWhole x.memory (kept s.s.durable (g.S.Store.state x.store)) (kept now.durable (g.S.Store.state y.store)) (y.memory, z)) (sym b.did-is) now.holds)
-      b.in_ok-did-2.ensures.plan b.in_ok-did-2.ensures.runs.opening b.in_ok-did-2.ensures.runs.stops f (ap (λ z. z.1.1.0.items) b.self-is)))
+      target-on g.S.Store.durable g.S.Store.state now.clients.items now.targets.items now.between c.follow.new.self c.requires.going c.args.t x y c.if-hears.did now.between.messages c.if-hears.self.1.1.0.items at b.in_ok-did-2.ensures.plan
+      (still_runs stop_store (Ok b.in_ok-did-2.did) (g.S.Store.state x.store) (g.S.Store.state y.store) (g.S.Store.durable x.store) (g.S.Store.durable y.store) refl b.in_ok-did-2.ensures.runs)
+      c.requires.going.letters
+      (subst (λ z. PostsInForm x.plan.targets x.memory.leader y.memory.leader z.posts) (sym b.did-is) b.in_ok-did-2.ensures.posts) f (ap (λ z. z.1.1.0.items) b.self-is)
+      (λ on. keeps-going g.S.Store.durable g.S.Store.state c.args.settling (target c.args.t) c.args.number now.clients.items now.targets.items now.between now.clients.items c.if-hears.self.1.1.0.items c.follow.new.self on (returns-in-Ok-clause-steps g c))
 ]
 
 pub returns-in_err-did-clause-stores : goal.returns-in_err-did-clause-stores

@@ -1,0 +1,29 @@
+-- The targets of a run before their first turns.
+use Rattle.std.specs.Prelude.{ℕ, ◌≡◌, ◌≤◌, ◌*◌, ◌-◌, List, length, slice_get, Option, Some}
+use Rattle.daos_base.specs.declared.job.Job.{Job}
+use Rattle.daos_base.specs.declared.script.Script.{Script}
+use Rattle.daos_model.specs.declared.durable.Durable.{Durable}
+use Rattle.daos_model.specs.Durables.{empty_durable}
+use Rattle.daos_run.specs.Opens.{IsStarted}
+use Rattle.daos_run.specs.Slots.{IsAt}
+use Rattle.target_core.specs.Targets.{TargetOf}
+use Rattle.target_parts.specs.Parts.{StillRuns}
+use Rattle.vos_plain.specs.Plain.{new_state, plain_durable, plain_state}
+use Rattle.vos_plain.specs.declared.store.PlainStore.{PlainStore}
+use Rattle.vos_store.specs.Calls.{State}
+
+-- a target started over this store, of which it took no block and which still runs
+pub record StartsOver {S C : Type 0} (durable : S → Option Durable) (state : S → State) (s : Script) (j : Job) (t : ℕ) (store : S) (x : TargetOf S C) : Type 0 where
+  pub started : IsStarted durable state s j.targets j.epsilon t x
+  pub runs : StillRuns (state store) (state x.store) (durable store) (durable x.store)
+  pub free : (state store).free ≤ (state x.store).free
+
+-- so many targets started over the stores in their places
+pub record AreStarted {S C : Type 0} (durable : S → Option Durable) (state : S → State) (s : Script) (j : Job) (n : ℕ) (slots : List (Option (S × C))) (xs : List (TargetOf S C)) : Type 0 where
+  pub many : length xs ≡ n
+  pub each : (t : ℕ) (x : TargetOf S C) (pair : S × C) → slice_get xs t ≡ Some x → IsAt slots t pair → StartsOver durable state s j t pair.0 x
+
+-- an empty store in memory, of so many MiB
+pub record IsNewStore (size_mib : ℕ) (store : PlainStore) : Type 0 where
+  pub kept : plain_durable store ≡ empty_durable 1
+  pub state : plain_state store ≡ new_state (size_mib * 4096 - 1264)
