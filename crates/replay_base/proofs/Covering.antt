@@ -12,7 +12,7 @@ use Rattle.replay_base.specs.Onward.{FreeAfter, Iff, Onward, keeps}
 use Rattle.replay_base.proofs.Starts.{AtOnce, First, Later, change_first, durable_is, first, free_least, free_more, silent_first}
 
 abbrev pub covered_as : Durable → Bool → Covered
-covered_as d extended = record { durable = d; extended = extended }
+covered_as d changed = record { durable = d; changed = changed }
 
 -- a step where the lease is to cover ticks: it is extended, or covers them already
 pub data CoverStep {S : Type 0} (ticks : ℕ) (known onto : S) (k : Kept) : Option Change → S → Type 0 where
@@ -101,21 +101,17 @@ module _ {S R : Type 0} (Next : S → Kept → Option Change → S → Type 0) (
       by (Later o u m next taken rest) = step o u (step_is (keeps d w.blocks) o u next)
 
   -- as it is computed
-  pub cover_decides : (d : Durable) (free : ℕ) (new : Kept) (r : R) (c : Covered) → IsCovered ticks d (Some c) → (test : Bool) → Decides test (Onward Next Ends onto c.durable c.extended free new r) → Decides test (Onward Next Ends known d false free new r)
-  cover_decides d free new r c is test same = by is
-    where
-      on : (x : Covered) → x ≡ c → Iff (Onward Next Ends known d false free new r) (Onward Next Ends onto x.durable x.extended free new r) → Decides test (Onward Next Ends known d false free new r)
-      on x at iff =
-          let there : Iff (Onward Next Ends known d false free new r) (Onward Next Ends onto c.durable c.extended free new r) =
-          subst (λ y. Iff (Onward Next Ends known d false free new r) (Onward Next Ends onto y.durable y.extended free new r)) at iff in
-          (λ h. there.1 (same.0 h), λ p. same.1 (there.0 p))
+  pub cover_iff : (d : Durable) (changed : Bool) (c : Covered) (free : ℕ) (new : Kept) (r : R) → IsCovered ticks d changed (Some c)
+      → Iff (Onward Next Ends known d changed free new r) (Onward Next Ends onto c.durable c.changed free new r)
+  cover_iff d changed c free new r (Already le at) =
+      let here : covered_as d changed ≡ c = cc in
+      subst (λ y. Iff (Onward Next Ends known d changed free new r) (Onward Next Ends onto y.durable y.changed free new r)) here (covered_already d changed free new r le)
+  cover_iff d changed c free new r (Extended lease low at covers there) =
+      let here : covered_as (leased lease d) true ≡ c = cc in
+      subst (λ y. Iff (Onward Next Ends known d changed free new r) (Onward Next Ends onto y.durable y.changed free new r)) here (covered_by d changed free new r lease low at covers)
+  cover_iff d changed c free new r (Never low none at) = (let bad : ⊥ = cc in absurd bad)
 
-      by : IsCovered ticks d (Some c) → Decides test (Onward Next Ends known d false free new r)
-      by (Already le at) = (let here : covered_as d false ≡ c = cc in on (covered_as d false) here (covered_already d false free new r le))
-      by (Extended lease low at covers there) = (let here : covered_as (leased lease d) true ≡ c = cc in on (covered_as (leased lease d) true) here (covered_by d false free new r lease low at covers))
-      by (Never low none at) = (let bad : ⊥ = cc in absurd bad)
-
-  pub cover_none : (d : Durable) (free : ℕ) (new : Kept) (r : R) → IsCovered ticks d None → Onward Next Ends known d false free new r → ⊥
-  cover_none d free new r (Already le at) w = (let bad : ⊥ = cc in bad)
-  cover_none d free new r (Extended lease low at covers there) w = (let bad : ⊥ = cc in bad)
-  cover_none d free new r (Never low none at) w = covered_never d false free new r low none w
+  pub cover_none : (d : Durable) (changed : Bool) (free : ℕ) (new : Kept) (r : R) → IsCovered ticks d changed None → Onward Next Ends known d changed free new r → ⊥
+  cover_none d changed free new r (Already le at) w = (let bad : ⊥ = cc in bad)
+  cover_none d changed free new r (Extended lease low at covers there) w = (let bad : ⊥ = cc in bad)
+  cover_none d changed free new r (Never low none at) w = covered_never d changed free new r low none w

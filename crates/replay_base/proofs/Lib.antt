@@ -1,5 +1,6 @@
 pub mod Starts
 pub mod Covering
 pub mod Asking
-pub mod Idling
+pub mod Chains
+pub mod Leaders
 pub mod Issuing

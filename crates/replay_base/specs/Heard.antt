@@ -1,31 +1,62 @@
--- What a lone target can hear.
-use Rattle.std.specs.Prelude.{◌≡◌, true, List}
+-- What a target can hear, as a turn in which it hears it is made again.
+use Rattle.std.specs.Prelude.{ℕ, ◌≡◌, ◌≤◌, ◌<◌, Bool, true, false, is_none, is_some, IfSome, All, List}
 use Rattle.std.specs.List.{list_all}
+use Rattle.daos_base.specs.declared.id.AttemptId.{AttemptId}
 use Rattle.daos_base.specs.declared.operation.MinorWrite.{MinorWrite}
+use Rattle.daos_base.specs.Operations.{write_path}
+use Rattle.daos_base.specs.Placement.{ClassFits}
+use Rattle.daos_messages.specs.declared.actor.ActorId.{ActorId}
 use Rattle.daos_messages.specs.declared.message.Message.{Message}
-use Rattle.daos_messages.specs.declared.message.Message.TheVariants.{Fetch, Commit}
+use Rattle.daos_messages.specs.declared.message.Message.TheVariants.{Ack, Commit, Fetch, Mark, Marked, Prepare, Query, Verdict}
 use Rattle.daos_model.specs.declared.durable.Durable.{Durable}
 use Rattle.daos_model.specs.Durables.{is_version_in_form}
-use Rattle.target_core.specs.Checks.{AreWrites}
+use Rattle.daos_model.specs.Forms.{AreWritesInForm}
+use Rattle.dtx_base.specs.declared.member.Parked.{Parked}
+use Rattle.world_base.specs.declared.target.TargetMemory.{TargetMemory}
 use Rattle.world_base.specs.declared.target.TargetPlan.{TargetPlan}
+use Rattle.world_turns.specs.Roles.{other_leader}
 
--- a target is the only one, of number 0
-pub record IsLone (t : TargetPlan) : Type 0 where
-  pub me : t.me ≡ 0
-  pub targets : t.targets ≡ 1
+-- no other target leads an attempt
+unfoldable pub is_led_here : TargetPlan → Durable → AttemptId → Bool
+is_led_here t d a = is_none (other_leader t a d)
 
--- it can read where the versions that it keeps are in form
-pub record CanRead (t : TargetPlan) (d : Durable) : Type 0 where
-  pub lone : IsLone t
+-- none does one of the attempts that a target decided and hasn't settled
+abbrev pub AreLedHere : TargetPlan → List AttemptId → Durable → Type 0
+AreLedHere t decided d = list_all (is_led_here t d) decided ≡ true
+
+-- it can read where the versions that it keeps are in form, and it leads what it decided
+pub record CanRead (t : TargetPlan) (d : Durable) (decided : List AttemptId) : Type 0 where
   pub versions : list_all is_version_in_form d.versions ≡ true
+  pub led : AreLedHere t decided d
 
--- and commit writes that a lone target can be asked to commit
+-- it can commit writes in form, of objects that fit its targets, of which there are at most 64
 pub record CanCommit (t : TargetPlan) (ws : List MinorWrite) : Type 0 where
-  pub lone : IsLone t
-  pub writes : AreWrites ws
+  pub few : t.targets ≤ 64
+  pub form : AreWritesInForm ws
+  pub fit : All (λ w. IfSome (write_path w.write).obj (λ o. ClassFits o.class t.targets)) ws
 
--- a message that it can hear over what it keeps, in form as every one is that goes to the target of a run
-abbrev pub CanHear : TargetPlan → Durable → Message → Type 0
-CanHear t d (Fetch x op group ep first tracker r snapshot) = CanRead t d
-CanHear t d (Commit x ep first tracker ws) = CanCommit t ws
-CanHear t d m = ⊥
+-- a Fetch that goes with its epoch
+abbrev pub is_timed : Message → Bool
+is_timed (Fetch x op group ep first tracker r snapshot) = is_some ep
+is_timed m = false
+
+abbrev pub is_timed_ask : Parked → Bool
+is_timed_ask p = is_timed p.ask
+
+-- it can try again what waits, where that are Fetches with their epochs
+pub record CanTryAgain (t : TargetPlan) (d : Durable) (m : TargetMemory) : Type 0 where
+  pub read : CanRead t d m.leader.decided
+  pub timed : list_all is_timed_ask m.member.parked ≡ true
+
+-- A message that a target can hear, with what it keeps and knows. Where a run has come from its beginning, each that goes to a target
+-- is one.
+abbrev pub CanHear : TargetPlan → Durable → TargetMemory → ActorId → Message → Type 0
+CanHear t d m from (Fetch x op group ep first tracker r snapshot) = CanRead t d m.leader.decided
+CanHear t d m from (Commit x ep first tracker ws) = CanCommit t ws
+CanHear t d m from (Prepare e first ws inc) = AreWritesInForm ws
+CanHear t d m from (Ack x inc refusal) = from.number < t.targets
+CanHear t d m from (Mark inc marks) = Unit {0}
+CanHear t d m from (Marked inc ids) = from.number < t.targets
+CanHear t d m from (Query x ask) = Unit {0}
+CanHear t d m from (Verdict x ask inc v) = CanTryAgain t d m
+CanHear t d m from q = ⊥

@@ -4,4 +4,4 @@ pub mod Requested
 pub mod Issuing
 pub mod Leases
 pub mod Heard
-pub mod Idles
+pub mod Leaving

@@ -1,15 +1,16 @@
 // What a target keeps, again, and with an attempt settled.
-ghost use Rattle.std.specs.Prelude.{◌≡◌, IfOk};
-ghost use Rattle.daos_base.specs.declared.entry.Settle.TheVariants.{Commit};
+ghost use Rattle.std.specs.Prelude.{◌≡◌, ◌<◌, IfOk};
+ghost use Rattle.daos_base.specs.declared.entry.Settle.TheVariants.{Abort, Commit, Confirm};
 ghost use Rattle.daos_model.specs.Changes.{settled};
 
+use daos_base::epoch::TargetId;
 use daos_base::id::AttemptId;
 use daos_base::items::{Items, Memory};
-use daos_base::shown::Shown;
 use daos_model::durable::Durable;
 use std::alloc::Global;
 use vos_plain::rows::settle_all;
-use vos_plain::tables::{commit, copied};
+use vos_plain::sweeps::{remove_entry, remove_pending};
+use vos_plain::tables::{commit, confirm, copied};
 
 /// The same again.
 pub fn copy_kept(alloc: Global, durable: &Durable) -> Result<Durable, Memory>
@@ -27,7 +28,7 @@ pub fn copy_kept(alloc: Global, durable: &Durable) -> Result<Durable, Memory>
 
 /// What is kept once an attempt is committed.
 #[tactic(auto, unfolding(daos_model::specs::Changes::settled))]
-pub fn settled(durable: Durable, attempt: AttemptId) -> Durable
+pub fn committed(durable: Durable, attempt: AttemptId) -> Durable
     ensures { result ≡ settled attempt Commit durable }
 {
     let Durable {
@@ -52,13 +53,55 @@ pub fn settled(durable: Durable, attempt: AttemptId) -> Durable
     }
 }
 
-/// The same reads again.
-pub fn copy_reads(alloc: Global, reads: &[Shown]) -> Result<Items<Shown>, Memory>
-    ensures { IfOk result (λ copy. copy ≡ reads.now) }
+/// What is kept once it is aborted.
+#[tactic(auto, unfolding(daos_model::specs::Changes::settled))]
+pub fn aborted(durable: Durable, attempt: AttemptId) -> Durable
+    ensures { result ≡ settled attempt Abort durable }
 {
-    let mut copy = Vec::with_capacity(alloc, reads.len())?;
-    for read in reads {
-        copy.push(read.copy()?)?;
+    let Durable {
+        versions,
+        entries,
+        conts,
+        snaps,
+        lease,
+        incarnation,
+    } = durable;
+    let mut versions = versions.into_vec();
+    remove_pending(&mut versions, attempt);
+    let mut entries = entries.into_vec();
+    remove_entry(&mut entries, attempt);
+    Durable {
+        versions: Items::from_vec(versions),
+        entries: Items::from_vec(entries),
+        conts,
+        snaps,
+        lease,
+        incarnation,
     }
-    Ok(Items::from_vec(copy))
+}
+
+/// What is kept once a member confirmed it.
+#[tactic(auto, unfolding(daos_model::specs::Changes::settled))]
+pub fn confirmed(durable: Durable, attempt: AttemptId, member: TargetId) -> Durable
+    requires { member < 64 }
+    ensures { result ≡ settled attempt (Confirm member) durable }
+{
+    let Durable {
+        versions,
+        entries,
+        conts,
+        snaps,
+        lease,
+        incarnation,
+    } = durable;
+    let mut entries = entries.into_vec();
+    confirm(&mut entries, attempt, member);
+    Durable {
+        versions,
+        entries: Items::from_vec(entries),
+        conts,
+        snaps,
+        lease,
+        incarnation,
+    }
 }

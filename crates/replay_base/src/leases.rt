@@ -6,11 +6,11 @@ ghost use Rattle.replay_base.specs.Leases.{IsCovered};
 use daos_hlc::lease::lease_for;
 use daos_model::durable::Durable;
 
-/// What a target keeps once its lease covers an epoch, and whether the lease was extended for that.
+/// What a target keeps once its lease covers an epoch, and whether anything was changed by then.
 #[derive(Debug, Drop)]
 pub struct Covered {
     pub durable: Durable,
-    pub extended: bool,
+    pub changed: bool,
 }
 
 // With this lease.
@@ -21,20 +21,18 @@ fn leased(durable: Durable, lease: u64) -> Durable
     Durable { lease, ..durable }
 }
 
-/// What a target keeps once its lease covers these ticks; none where no lease covers them.
-pub fn cover(durable: Durable, ticks: u64) -> Option<Covered>
-    ensures { IsCovered ticks durable result }
+/// What a target keeps once its lease covers these ticks, where something was changed before or wasn't;
+/// none where no lease covers them.
+pub fn cover(durable: Durable, changed: bool, ticks: u64) -> Option<Covered>
+    ensures { IsCovered ticks durable changed result }
 {
     if ticks <= durable.lease {
-        return Some(Covered {
-            durable,
-            extended: false,
-        });
+        return Some(Covered { durable, changed });
     }
     match lease_for(ticks) {
         Some(lease) => Some(Covered {
             durable: leased(durable, lease),
-            extended: true,
+            changed: true,
         }),
         None => None,
     }

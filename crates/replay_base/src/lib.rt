@@ -2,9 +2,10 @@
 // what is told.
 #![tactic(auto)]
 
+pub mod entries;
 pub mod epochs;
 pub mod free;
-pub mod idle;
 pub mod kept;
 pub mod leases;
+pub mod memories;
 pub mod told;

@@ -1,6 +1,7 @@
 // What follows from a turn that answers one who asked, and the comparison with what is told.
 ghost use Rattle.std.specs.Prelude.{◌≡◌, None, IfOk, Decides};
-ghost use Rattle.replay_base.specs.Onward.{FreeAfter, keeps};
+ghost use Rattle.replay_base.specs.Leaving.{IsLeft, IsLeftIf};
+ghost use Rattle.replay_base.specs.Onward.{keeps};
 ghost use Rattle.replay_base.specs.Requested.{SpentSo};
 ghost use Rattle.world_base.specs.declared.did.Did.{Did};
 ghost use Rattle.world_base.specs.declared.target.TargetMemory.{TargetMemory};
@@ -12,7 +13,7 @@ use daos_base::epoch::Epoch;
 use daos_base::id::AttemptId;
 use daos_base::items::{Items, Memory};
 use daos_messages::actor::ActorId;
-use daos_messages::message::{Message, Post};
+use daos_messages::message::{Message, Post, Posts};
 use daos_model::durable::Durable;
 use std::alloc::Global;
 use world_base::did::Did;
@@ -88,31 +89,42 @@ pub fn is_spent_so(
         && is_left(&after.memory, did, &before.memory, told)
 }
 
-/// Nothing follows.
-pub fn nothing(alloc: Global) -> Did
-    ensures { result ≡ asked.nothing_follows }
+/// These messages are what follows, and perhaps an epoch.
+pub fn sends(alloc: Global, posts: Posts, issued: Option<(AttemptId, Epoch)>) -> Did
+    ensures { result ≡ asked.sends posts issued }
 {
     Did {
-        posts: Items::new(alloc),
+        posts,
         lines: Items::new(alloc),
-        issued: None,
+        issued,
     }
 }
 
-/// Whether a target was left with this, after changes that take no free blocks or after none, and this
-/// followed.
-pub fn is_left_with(
-    before: &TargetState,
-    after: &TargetState,
-    did: &Did,
-    durable: &Durable,
-    changed: bool,
-    memory: &TargetMemory,
-    told: &Did,
-) -> bool
-    ensures { Decides result ((after.now.durable ≡ durable.now) × (FreeAfter changed before.now.free after.now.free × (◌≡◌ {A = TargetMemory × Did} (after.now.memory, did.now) (memory.now, told.now)))) }
+/// What a turn leaves: what is kept, whether anything of that was changed, what is known, and what
+/// follows.
+#[derive(Debug, Drop)]
+pub struct Left {
+    pub durable: Durable,
+    pub changed: bool,
+    pub memory: TargetMemory,
+    pub did: Did,
+}
+
+// Whether a target was left with this, and this followed.
+fn is_left_so(left: &Left, before: &TargetState, after: &TargetState, did: &Did) -> bool
+    ensures { Decides result (IsLeft left.now before.now.free (keeps after.now.durable after.now.free) (after.now.memory, did.now)) }
 {
-    after.durable.is_same(durable)
-        && is_free(changed, before.free, after.free)
-        && is_left(&after.memory, did, memory, told)
+    after.durable.is_same(&left.durable)
+        && is_free(left.changed, before.free, after.free)
+        && is_left(&after.memory, did, &left.memory, &left.did)
+}
+
+/// Whether a turn left a target with this, and this followed, where it could go to its end.
+pub fn is_left_if(left: &Option<Left>, before: &TargetState, after: &TargetState, did: &Did) -> bool
+    ensures { Decides result (IsLeftIf left.now before.now.free (keeps after.now.durable after.now.free) (after.now.memory, did.now)) }
+{
+    match left {
+        Some(left) => is_left_so(left, before, after, did),
+        None => false,
+    }
 }

@@ -1,5 +1,6 @@
 -- A Fetch from its beginning on.
 use Rattle.std.proofs.Common.{ℕ, ◌≡◌, ◌/◌, refl, sym, ◌∙◌, ap, subst, List, Bool, true, false, Option, Some, None, ◌⊎◌, inl, inr}
+use Rattle.std.specs.Prelude.{if◌then◌else◌}
 use Rattle.std.specs.Bool.{Decides}
 use Rattle.daos_base.specs.declared.epoch.Epoch.{Epoch}
 use Rattle.daos_base.specs.declared.id.AttemptId.{AttemptId}
@@ -11,16 +12,26 @@ use Rattle.world_base.specs.declared.request.FetchRequest.{FetchRequest}
 use Rattle.world_base.specs.declared.target.TargetMemory.{TargetMemory}
 use Rattle.world_base.specs.declared.target.TargetPlan.{TargetPlan}
 use Rattle.world_turns.specs.Changes.{Change, Kept, Steps}
-use Rattle.world_turns.specs.Reads.{Asked, AtSnapshot, ExtendsLease, FetchEnds, FetchNext, FetchStage, HasEpoch, IsCovered, IsSpent, Known, Reading}
+use Rattle.world_turns.specs.Reads.{Asked, AtSnapshot, ExtendsLease, FetchEnds, FetchNext, FetchStage, HasEpoch, IsCovered, IsSpent, Known, Reading, memory_then}
 use Rattle.world_turns.specs.Requests.{issued_for, request_epoch}
 use Rattle.world_turns.specs.Turns.{Whole}
 use Rattle.replay_base.specs.Leases as lease
-use Rattle.replay_base.specs.Onward.{Onward, keeps}
+use Rattle.replay_base.specs.declared.told.Left.{Left}
+use Rattle.replay_base.specs.Leaving.{IsLeftIf}
+use Rattle.replay_base.specs.Onward.{Iff, Onward, keeps}
 use Rattle.replay_base.specs.Requested.{AsksAt, IsToldEpoch, SpentSo, TellsEpoch}
 use Rattle.replay_base.specs.declared.leases.Covered.{Covered}
 use Rattle.replay_base.proofs.Asking.{Begins, keeps_on, known_decides, known_not, spent_decides}
-use Rattle.replay_base.proofs.Covering.{CoverStep, Covering, Extending, cover_decides, cover_none}
-use Rattle.replay_base.proofs.Starts.{AtOnce, First, Later, first, silent_first, whole_onward}
+use Rattle.replay_base.proofs.Chains.{OneStep, comes_whole, decides_on, silent_iff}
+use Rattle.replay_base.proofs.Covering.{CoverStep, Covering, Extending, cover_iff, cover_none}
+use Rattle.replay_base.proofs.Starts.{AtOnce, First, Later, first, iff_both}
+use Rattle.replay_fetch.specs.Fetched.{FetchLeaves, FetchesSo, begins_at}
+use Rattle.daos_messages.specs.declared.message.Reply.TheVariants as reply
+use Rattle.replay_fetch.specs.Met.{left_by}
+use Rattle.replay_fetch.specs.declared.meets.Ending.{Ending}
+use Rattle.replay_fetch.specs.declared.meets.Ending.TheVariants as ending
+use Rattle.replay_fetch.specs.declared.reads.Work.{Work}
+use Rattle.world_base.specs.declared.target.TargetState.{TargetState}
 use Rattle.replay_fetch.proofs.Stages.{EndsAt, ends_at, NextAt, next_at, spent}
 
 -- the epoch of a stage
@@ -29,8 +40,14 @@ IsAt e Asked = ⊥
 IsAt e (Known f) = f ≡ e
 IsAt e (Reading f decided) = f ≡ e
 
+-- the epoch that is issued, whatever a read ends with
+issued_by : (t : TargetPlan) (q : FetchRequest) (from : ActorId) (e : Epoch) (r : Ending) (n : TargetMemory) → (left_by t q from e r n).1.issued ≡ issued_for q.attempt q.ep e
+issued_by t q from e (ending.Replies (reply.Answer b)) n = refl
+issued_by t q from e (ending.Replies (reply.Outcome o)) n = refl
+issued_by t q from e (ending.Parks a leader) n = refl
+
 module _ (t : TargetPlan) (m : TargetMemory) (reading : ℕ) (q : FetchRequest) (from : ActorId) where
-  cover_at : (e f : Epoch) (k : Kept) (o : Option Change) (u : FetchStage) → f ≡ e → CoverStep (f.0 / 256) (Known f) (Reading f m.decided) k o u → IsAt e u
+  cover_at : (e f : Epoch) (k : Kept) (o : Option Change) (u : FetchStage) → f ≡ e → CoverStep (f.0 / 256) (Known f) (Reading f m.leader.decided) k o u → IsAt e u
   cover_at e f k o u at (Extending lease low is) = at
   cover_at e f k o u at (Covering le) = at
 
@@ -48,22 +65,88 @@ module _ (t : TargetPlan) (m : TargetMemory) (reading : ℕ) (q : FetchRequest) 
       by : (s : FetchStage) → IsAt e s → EndsAt t m reading q from s new r → r.1.issued ≡ issued_for q.attempt q.ep e
       by Asked at end = absurd at
       by (Known f) at end = absurd end
-      by (Reading f decided) at end = ap (λ l. l.1.issued) end.left_is ∙ ap (issued_for q.attempt q.ep) at
+      by (Reading f decided) at end = ap (λ l. l.1.issued) end.left_is ∙ issued_by t q from f end.r (memory_then q f decided m) ∙ ap (issued_for q.attempt q.ep) at
 
-  cover_is : (e : Epoch) (k : Kept) (o : Option Change) (u : FetchStage) → CoverStep (e.0 / 256) (Known e) (Reading e m.decided) k o u → FetchNext t m reading q (Known e) k o u
+  cover_is : (e : Epoch) (k : Kept) (o : Option Change) (u : FetchStage) → CoverStep (e.0 / 256) (Known e) (Reading e m.leader.decided) k o u → FetchNext t m reading q (Known e) k o u
   cover_is e k o u (Extending lease low is) = ExtendsLease k e lease low is
   cover_is e k o u (Covering le) = IsCovered k e le
 
   -- from where the epoch is known, a turn goes on where the lease covers it
-  pub covered_decides : (e : Epoch) (d : Durable) (free : ℕ) (new : Kept) (left : TargetMemory × Did) (c : Covered) → lease.IsCovered (e.0 / 256) d (Some c) → (test : Bool)
-      → Decides test (Onward (FetchNext t m reading q) (FetchEnds t m reading q from) (Reading e m.decided) c.durable c.extended free new left)
-      → Decides test (Onward (FetchNext t m reading q) (FetchEnds t m reading q from) (Known e) d false free new left)
-  covered_decides e = cover_decides (FetchNext t m reading q) (FetchEnds t m reading q from) (e.0 / 256) (Known e) (Reading e m.decided) (λ k o u n. next_at t m reading q from (Known e) k o u n) (cover_is e)
+  covered_iff : (e : Epoch) (d : Durable) (changed : Bool) (c : Covered) (free : ℕ) (new : Kept) (left : TargetMemory × Did) → lease.IsCovered (e.0 / 256) d changed (Some c)
+      → Iff (Onward (FetchNext t m reading q) (FetchEnds t m reading q from) (Known e) d changed free new left)
+      (Onward (FetchNext t m reading q) (FetchEnds t m reading q from) (Reading e m.leader.decided) c.durable c.changed free new left)
+  covered_iff e = cover_iff (FetchNext t m reading q) (FetchEnds t m reading q from) (e.0 / 256) (Known e) (Reading e m.leader.decided) (λ k o u n. next_at t m reading q from (Known e) k o u n) (cover_is e)
       (λ k r end. ends_at t m reading q from (Known e) k r end)
 
-  pub uncovered_none : (e : Epoch) (d : Durable) (free : ℕ) (new : Kept) (left : TargetMemory × Did) → lease.IsCovered (e.0 / 256) d None → Onward (FetchNext t m reading q) (FetchEnds t m reading q from) (Known e) d false free new left → ⊥
-  uncovered_none e = cover_none (FetchNext t m reading q) (FetchEnds t m reading q from) (e.0 / 256) (Known e) (Reading e m.decided) (λ k o u n. next_at t m reading q from (Known e) k o u n) (cover_is e)
+  uncovered_none : (e : Epoch) (d : Durable) (changed : Bool) (free : ℕ) (new : Kept) (left : TargetMemory × Did) → lease.IsCovered (e.0 / 256) d changed None
+      → Onward (FetchNext t m reading q) (FetchEnds t m reading q from) (Known e) d changed free new left → ⊥
+  uncovered_none e = cover_none (FetchNext t m reading q) (FetchEnds t m reading q from) (e.0 / 256) (Known e) (Reading e m.leader.decided) (λ k o u n. next_at t m reading q from (Known e) k o u n) (cover_is e)
       (λ k r end. ends_at t m reading q from (Known e) k r end)
+
+  -- a Fetch with its own epoch begins with that
+  begins_so : (e : Epoch) (d : Durable) → q.ep ≡ Some e → OneStep (FetchNext t m reading q) (FetchEnds t m reading q from) Asked d None (begins_at q e m)
+  begins_so e d own = by q.snapshot refl
+    where
+      its : request_epoch t m reading q.tracker q.ep ≡ Some e
+      its = ap (request_epoch t m reading q.tracker) own
+
+      known : (p : Option Change) (u : FetchStage) → Begins (request_epoch t m reading q.tracker q.ep) Known p u → (p ≡ None) × (u ≡ Known e)
+      known p u b = (let asked = b.asked in let same : b.epoch ≡ e = cc in (b.silent, b.there ∙ ap Known same))
+
+      goes : (free : ℕ) (r : TargetMemory × Did) → FetchEnds t m reading q from Asked (keeps d free) r → ⊥
+      goes free r end = (let none = (ends_at t m reading q from Asked (keeps d free) r end).1.0 in let bad : ⊥ = cc in bad)
+
+      at_snapshot : (free : ℕ) (p : Option Change) (u : FetchStage) → q.snapshot ≡ true → NextAt t m reading q from Asked (keeps d free) p u → (p ≡ None) × (u ≡ Reading e m.leader.decided)
+      at_snapshot free p u snapshot (inl s) = (let owns = s.own in let same : s.epoch ≡ e = cc in (s.silent, s.there ∙ ap (λ x. Reading x m.leader.decided) same))
+      at_snapshot free p u snapshot (inr b) = clash q.snapshot snapshot b.0
+
+      at_now : (free : ℕ) (p : Option Change) (u : FetchStage) → q.snapshot ≡ false → NextAt t m reading q from Asked (keeps d free) p u → (p ≡ None) × (u ≡ Known e)
+      at_now free p u now (inl s) = clash q.snapshot s.snapshot now
+      at_now free p u now (inr b) = known p u b.1
+
+      by : (b : Bool) → q.snapshot ≡ b → OneStep (FetchNext t m reading q) (FetchEnds t m reading q from) Asked d None (begins_at q e m)
+      by true is = record {
+        there = λ free. subst (λ (b : Bool). FetchNext t m reading q Asked (keeps d free) None (if b then Reading e m.leader.decided else Known e)) (sym is) (AtSnapshot (keeps d free) e is own);
+        alone = λ free p u next. subst (λ (b : Bool). (p ≡ None) × (u ≡ (if b then Reading e m.leader.decided else Known e))) (sym is) (at_snapshot free p u is (next_at t m reading q from Asked (keeps d free) p u next));
+        goes = goes;
+      }
+      by false is = record {
+        there = λ free. subst (λ (b : Bool). FetchNext t m reading q Asked (keeps d free) None (if b then Reading e m.leader.decided else Known e)) (sym is) (HasEpoch (keeps d free) e is its);
+        alone = λ free p u next. subst (λ (b : Bool). (p ≡ None) × (u ≡ (if b then Reading e m.leader.decided else Known e))) (sym is) (at_now free p u is (next_at t m reading q from Asked (keeps d free) p u next));
+        goes = goes;
+      }
+
+-- ---- as the code says it
+
+module _ (t : TargetPlan) (from : ActorId) (q : FetchRequest) where
+  pub snapshot_leaves : (e : Epoch) (m : TargetMemory) (d : Durable) (changed : Bool) (o : Option Left) → q.snapshot ≡ true → FetchLeaves t from q m (Reading e m.leader.decided) d changed o → FetchLeaves t from q m (begins_at q e m) d changed o
+  snapshot_leaves e m d changed o snapshot l = subst (λ (b : Bool). FetchLeaves t from q m (if b then Reading e m.leader.decided else Known e) d changed o) (sym snapshot) l
+
+  now_leaves : (e : Epoch) (m : TargetMemory) (d : Durable) (changed : Bool) (o : Option Left) → q.snapshot ≡ false → FetchLeaves t from q m (Known e) d changed o → FetchLeaves t from q m (begins_at q e m) d changed o
+  now_leaves e m d changed o now l = subst (λ (b : Bool). FetchLeaves t from q m (if b then Reading e m.leader.decided else Known e) d changed o) (sym now) l
+
+  pub covered_leaves : (e : Epoch) (m : TargetMemory) (d : Durable) (changed : Bool) (c : Covered) (o : Option Left) → q.snapshot ≡ false → lease.IsCovered (e.0 / 256) d changed (Some c)
+      → FetchLeaves t from q m (Reading e m.leader.decided) c.durable c.changed o → FetchLeaves t from q m (begins_at q e m) d changed o
+  covered_leaves e m d changed c o now is l = now_leaves e m d changed o now (record { comes = λ reading free new left. iff_both (covered_iff t m reading q from e d changed c free new left is) (l.comes reading free new left); read = l.read })
+
+  pub uncovered_leaves : (e : Epoch) (m : TargetMemory) (d : Durable) (changed : Bool) → q.snapshot ≡ false → lease.IsCovered (e.0 / 256) d changed None → FetchLeaves t from q m (begins_at q e m) d changed None
+  uncovered_leaves e m d changed now is = now_leaves e m d changed None now (record { comes = λ reading free new left. (λ w. uncovered_none t m reading q from e d changed free new left is w, λ bad. absurd bad); read = tt })
+
+  pub own_leaves : (e : Epoch) (m : TargetMemory) (d : Durable) (changed : Bool) (o : Option Left) → q.ep ≡ Some e → FetchLeaves t from q m (begins_at q e m) d changed o → FetchLeaves t from q m Asked d changed o
+  own_leaves e m d changed o own l = record {
+    comes = λ reading free new left. iff_both (silent_iff (FetchNext t m reading q) (FetchEnds t m reading q from) Asked (begins_at q e m) d (begins_so t m reading q from e d own) changed free new left) (l.comes reading free new left);
+    read = l.read;
+  }
+
+  pub own_decides : (w : Work) (o : Option Left) (s new : TargetState) (did : Did) (test : Bool) → w ≡ record { durable = s.durable; changed = false; memory = s.memory } → FetchLeaves t from q w.memory Asked w.durable w.changed o
+      → Decides test (IsLeftIf o s.free (keeps new.durable new.free) (new.memory, did)) → Decides test (FetchesSo t from q s new did)
+  own_decides w o s new did test is l same = (λ h. (0, (at 0).0 h), λ x. (at x.0).1 x.1)
+    where
+      leaves : FetchLeaves t from q s.memory Asked s.durable false o
+      leaves = subst (λ x. FetchLeaves t from q x.memory Asked x.durable x.changed o) is l
+
+      at : (reading : ℕ) → Decides test (Whole (FetchNext t s.memory reading q) (FetchEnds t s.memory reading q from) Asked (keeps s.durable s.free) (keeps new.durable new.free) (new.memory, did))
+      at reading = decides_on test (comes_whole (FetchNext t s.memory reading q) (FetchEnds t s.memory reading q from) Asked s.durable o s.free (keeps new.durable new.free) (new.memory, did) (leaves.comes reading)) same
 
 -- ---- from the beginning on
 
@@ -109,43 +192,25 @@ module _ (t : TargetPlan) (m : TargetMemory) (q : FetchRequest) (from : ActorId)
         (subst (λ x. Decides test (SpentSo (λ reading. request_epoch t m reading q.tracker x) k new (spent t m 0 q from) (memory, did))) (sym none.0)
         (subst (λ x. Decides test (SpentSo (λ reading. request_epoch t m reading q.tracker None) k new (m, x) (memory, did))) says same))
 
-  -- at a snapshot
-  module _ (snapshot : q.snapshot ≡ true) where
-    from_snapshot : (k new : Kept) (r : TargetMemory × Did) (reading : ℕ) → Whole (FetchNext t m reading q) (FetchEnds t m reading q from) Asked k new r
-        → (e : Epoch) × ((q.ep ≡ Some e) × Whole (FetchNext t m reading q) (FetchEnds t m reading q from) (Reading e m.decided) k new r)
-    from_snapshot k new r reading w = by (first (FetchNext t m reading q) (FetchEnds t m reading q from) Asked k new r w)
+    pub asked_decides : (e : Epoch) (w : Work) (o : Option Left) (s new : TargetState) (did : Did) (test : Bool) → m ≡ s.memory → w ≡ record { durable = s.durable; changed = false; memory = s.memory } → IsToldEpoch q.ep did.issued e → AsksAt request e
+        → FetchLeaves t from q w.memory (begins_at q e w.memory) w.durable w.changed o → Decides test (IsLeftIf o s.free (keeps new.durable new.free) (new.memory, did)) → Decides test (HearsSo (keeps s.durable s.free) (keeps new.durable new.free) (new.memory, did))
+    asked_decides e w o s new did test here is told asks l same =
+        fetch_known e (keeps s.durable s.free) (keeps new.durable new.free) (new.memory, did) test told asks (λ reading. decides_on test (leaves.comes reading s.free (keeps new.durable new.free) (new.memory, did)) same)
       where
-        step : (o : Option Change) (u : FetchStage) (n : Kept) → NextAt t m reading q from Asked k o u → Steps o k n → Whole (FetchNext t m reading q) (FetchEnds t m reading q from) u n new r
-            → (e : Epoch) × ((q.ep ≡ Some e) × Whole (FetchNext t m reading q) (FetchEnds t m reading q from) (Reading e m.decided) k new r)
-        step o u n (inl s) taken rest =
-            let still : n ≡ k = subst (λ y. Steps y k n) s.silent taken in
-            (s.epoch, (s.own, subst (λ y. Whole (FetchNext t m reading q) (FetchEnds t m reading q from) (Reading s.epoch m.decided) y new r) still (subst (λ y. Whole (FetchNext t m reading q) (FetchEnds t m reading q from) y n new r) s.there rest)))
-        step o u n (inr b) taken rest = clash q.snapshot snapshot b.0
+        leaves : FetchLeaves t from q m (Known e) s.durable false o
+        leaves =
+            subst (λ x. FetchLeaves t from q x (Known e) s.durable false o) (sym here)
+            (subst (λ (b : Bool). FetchLeaves t from q s.memory (if b then Reading e s.memory.leader.decided else Known e) s.durable false o) now
+            (subst (λ x. FetchLeaves t from q x.memory (begins_at q e x.memory) x.durable x.changed o) is l))
 
-        by : First (FetchNext t m reading q) (FetchEnds t m reading q from) Asked k new r → (e : Epoch) × ((q.ep ≡ Some e) × Whole (FetchNext t m reading q) (FetchEnds t m reading q from) (Reading e m.decided) k new r)
-        by (AtOnce same end) = clash q.snapshot snapshot (ends_at t m reading q from Asked k r end).0
-        by (Later o u n next taken rest) = step o u n (next_at t m reading q from Asked k o u next) taken rest
+  -- at a snapshot there is none without an epoch
+  pub snapshot_none : (k new : Kept) (r : TargetMemory × Did) → q.snapshot ≡ true → q.ep ≡ None → HearsSo k new r → ⊥
+  snapshot_none k new r snapshot none w = by (first (FetchNext t m w.0 q) (FetchEnds t m w.0 q from) Asked k new r w.1)
+    where
+      step : (o : Option Change) (u : FetchStage) → NextAt t m w.0 q from Asked k o u → ⊥
+      step o u (inl s) = (let own = s.own in let bad : ⊥ = cc in bad)
+      step o u (inr b) = clash q.snapshot snapshot b.0
 
-    pub snapshot_decides : (e : Epoch) (k new : Kept) (r : TargetMemory × Did) (test : Bool) → q.ep ≡ Some e
-        → ((reading : ℕ) → Decides test (Onward (FetchNext t m reading q) (FetchEnds t m reading q from) (Reading e m.decided) k.durable false k.free new r)) → Decides test (HearsSo k new r)
-    snapshot_decides e k new r test own at = (
-      λ h. (
-        0,
-        silent_first (FetchNext t m 0 q) (FetchEnds t m 0 q from) Asked (Reading e m.decided) k new r (AtSnapshot k e snapshot own)
-            ((whole_onward (FetchNext t m 0 q) (FetchEnds t m 0 q from) (Reading e m.decided) k new r).1 ((at 0).0 h)),
-      ),
-      λ w.
-          let s = from_snapshot k new r w.0 w.1 in
-          let here = s.1.0 in
-          let same : s.0 ≡ e = cc in
-          (at w.0).1 ((whole_onward (FetchNext t m w.0 q) (FetchEnds t m w.0 q from) (Reading e m.decided) k new r).0
-          (subst (λ y. Whole (FetchNext t m w.0 q) (FetchEnds t m w.0 q from) (Reading y m.decided) k new r) same s.1.1)),
-    )
-
-    pub snapshot_at : (e : Epoch) (d d' : Durable) (free : ℕ) (new : Kept) (r : TargetMemory × Did) (test : Bool) → q.ep ≡ Some e → d ≡ d'
-        → ((reading : ℕ) → Decides test (Onward (FetchNext t m reading q) (FetchEnds t m reading q from) (Reading e m.decided) d false free new r)) → Decides test (HearsSo (keeps d' free) new r)
-    snapshot_at e d d' free new r test own same at =
-        snapshot_decides e (keeps d' free) new r test own (λ reading. subst (λ x. Decides test (Onward (FetchNext t m reading q) (FetchEnds t m reading q from) (Reading e m.decided) x false free new r)) same (at reading))
-
-    pub snapshot_none : (k new : Kept) (r : TargetMemory × Did) → q.ep ≡ None → HearsSo k new r → ⊥
-    snapshot_none k new r none w = (let s = from_snapshot k new r w.0 w.1 in let here = s.1.0 in let bad : ⊥ = cc in bad)
+      by : First (FetchNext t m w.0 q) (FetchEnds t m w.0 q from) Asked k new r → ⊥
+      by (AtOnce same end) = clash q.snapshot snapshot (ends_at t m w.0 q from Asked k r end).0
+      by (Later o u n next taken rest) = step o u (next_at t m w.0 q from Asked k o u next)

@@ -1,7 +1,6 @@
 -- What a read meets, and the form of what it reads.
 use Rattle.std.proofs.Common.{◌≡◌, ℕ, ◌∙◌, refl, sym, ap, subst, Bool, true, false, Option, Some, None, Ok, Err, List, Contains}
 use Rattle.std.specs.Prelude.{if◌then◌else◌}
-use Rattle.std.specs.Bool.{Decides}
 use Rattle.std.specs.List.{list_all}
 use Rattle.daos_base.specs.declared.answer.Answer.{Answer}
 use Rattle.daos_base.specs.declared.entry.Settle.TheVariants.{Commit}
@@ -9,13 +8,9 @@ use Rattle.daos_base.specs.declared.epoch.Epoch.{Epoch}
 use Rattle.daos_base.specs.declared.id.AttemptId.{AttemptId}
 use Rattle.daos_base.specs.declared.operation.Read.{Read}
 use Rattle.daos_base.specs.declared.outcome.Cause.{Cause}
-use Rattle.daos_base.specs.declared.outcome.Cause.TheVariants as cause
-use Rattle.daos_base.specs.declared.outcome.Outcome.TheVariants as outcome
 use Rattle.daos_base.specs.declared.path.Path.{Path}
 use Rattle.daos_base.specs.Operations.{read_path}
-use Rattle.daos_messages.specs.declared.message.Reply.{Reply}
 use Rattle.daos_messages.specs.declared.message.Reply.TheVariants as reply
-use Rattle.daos_model.specs.BoolLaws.{clash}
 use Rattle.daos_model.specs.declared.durable.Durable.{Durable}
 use Rattle.daos_model.specs.declared.durable.Version.{Version}
 use Rattle.daos_model.specs.Answers.{answer}
@@ -29,7 +24,12 @@ use Rattle.vos_store.specs.declared.refusal.FetchNo.TheVariants as no
 use Rattle.world_base.specs.declared.request.FetchRequest.{FetchRequest}
 use Rattle.world_base.specs.declared.target.TargetPlan.{TargetPlan}
 use Rattle.world_turns.specs.Reads.{fetch_cause}
-use Rattle.replay_fetch.specs.Met.{IsAnswered, IsReply, IsUnresolved}
+use Rattle.replay_fetch.specs.Met.{AsOpen, AsOthers, AsOwn, IsAnswered, IsEnding, IsMet, IsParked, IsUnresolved, MeetsAttempt}
+use Rattle.replay_fetch.specs.declared.meets.Ending.TheVariants as ending
+use Rattle.replay_fetch.specs.declared.meets.Met.{Met}
+use Rattle.replay_base.specs.Heard.{CanRead}
+use Rattle.replay_base.proofs.Covering.{covered_as}
+use Rattle.replay_base.proofs.Leaders.{led_leased}
 use Rattle.replay_base.specs.Leases.{Already, Extended, IsCovered, Never}
 use Rattle.replay_base.specs.declared.leases.Covered.{Covered}
 
@@ -47,14 +47,15 @@ leased-in_form : (lease : ℕ) (d : Durable) → list_all is_version_in_form d.v
 unfolding leased
 leased-in_form lease d h = h
 
-pub covered-in_form : (ticks : ℕ) (d : Durable) (c : Covered) → IsCovered ticks d (Some c) → list_all is_version_in_form d.versions ≡ true → list_all is_version_in_form c.durable.versions ≡ true
-covered-in_form ticks d c (Already le at) h =
-    let same : (record { durable = d; extended = false }) ≡ c = cc in
-    subst (λ (x : Covered). list_all is_version_in_form x.durable.versions ≡ true) same h
-covered-in_form ticks d c (Extended lease low at covers here) h =
-    let same : (record { durable = leased lease d; extended = true }) ≡ c = cc in
-    subst (λ (x : Covered). list_all is_version_in_form x.durable.versions ≡ true) same (leased-in_form lease d h)
-covered-in_form ticks d c (Never low none at) h = let bad : ⊥ = cc in absurd bad
+-- what can be read can be read once the lease covers an epoch
+pub covered-read : (t : TargetPlan) (decided : List AttemptId) (ticks : ℕ) (d : Durable) (changed : Bool) (c : Covered) → IsCovered ticks d changed (Some c) → CanRead t d decided → CanRead t c.durable decided
+covered-read t decided ticks d changed c (Already le at) h =
+    let same : covered_as d changed ≡ c = cc in
+    subst (λ (x : Covered). CanRead t x.durable decided) same h
+covered-read t decided ticks d changed c (Extended lease low at covers here) h =
+    let same : covered_as (leased lease d) true ≡ c = cc in
+    subst (λ (x : Covered). CanRead t x.durable decided) same (record { versions = leased-in_form lease d h.versions; led = led_leased t decided lease d h.led })
+covered-read t decided ticks d changed c (Never low none at) h = let bad : ⊥ = cc in absurd bad
 
 -- ---- what is fetched, case by case
 
@@ -86,10 +87,17 @@ module _ (t : TargetPlan) (q : FetchRequest) (e : Epoch) (d : Durable) (decided 
   here-blocking : first_blocking (read_path q.read) e.0 d.versions ≡ o
   here-blocking = sym (blocking ∙ ap (λ x. first_blocking x e.0 rows) path_is ∙ ap (first_blocking (read_path q.read) e.0) rows_are)
 
-  pub answer_met : (b : Answer) → o ≡ None → b ≡ answer q.read (map_below rows e.0) → IsReply t q e d decided (reply.Answer b)
+  pub answer_met : (b : Answer) → o ≡ None → b ≡ answer q.read (map_below rows e.0) → IsEnding t q e d decided (ending.Replies (reply.Answer b))
   answer_met b none answered =
       IsAnswered b (sym cause_is ∙ free) (fetched-answer q.read e d b here-past (here-blocking ∙ none) (answered ∙ ap (λ x. answer q.read (map_below x e.0)) rows_are)) refl
 
-  pub unresolved_met : (v : Version) (among : Bool) (r : Reply) → o ≡ Some v → Decides among (Contains decided v.by) → among ≡ false → r ≡ reply.Outcome (outcome.Restart (cause.Unresolved v.by)) → IsReply t q e d decided r
-  unresolved_met v among r some own other is =
-      IsUnresolved v.by (sym cause_is ∙ free) (fetched-blocked q.read e d v here-past (here-blocking ∙ some)) (λ c. clash among (own.1 c) other) is
+  pub attempt_met : (v : Version) (r : Met) → o ≡ Some v → MeetsAttempt t d decided v.by r → IsMet t q e d decided r
+  attempt_met v r some m = by m
+    where
+      unsettled : fetched q.read e d ≡ Err (no.Unsettled v.by)
+      unsettled = fetched-blocked q.read e d v here-past (here-blocking ∙ some)
+
+      by : MeetsAttempt t d decided v.by r → IsMet t q e d decided r
+      by (AsOwn own is) = subst (IsMet t q e d decided) (sym is) (record { free = sym cause_is ∙ free; meets = unsettled; own = own })
+      by (AsOthers leader other is) = subst (IsMet t q e d decided) (sym is) (IsParked v.by leader (sym cause_is ∙ free) unsettled other refl)
+      by (AsOpen apart ours is) = subst (IsMet t q e d decided) (sym is) (IsUnresolved v.by (sym cause_is ∙ free) unsettled apart ours refl)

@@ -1,16 +1,14 @@
 // A target hears a Fetch.
-ghost use Rattle.std.specs.Prelude.{◌≡◌, true, false, ℕ, None, IfOk, Decides};
-ghost use Rattle.std.specs.List.{list_all};
+ghost use Rattle.std.specs.Prelude.{◌≡◌, true, false, None, IfOk, Decides, is_some};
 ghost use Rattle.daos_base.specs.declared.outcome.Outcome.TheVariants as outcome;
 ghost use Rattle.daos_messages.specs.declared.message.Reply.TheVariants as reply;
-ghost use Rattle.daos_model.specs.Durables.{is_version_in_form};
-ghost use Rattle.replay_base.specs.Onward.{Onward, keeps};
+ghost use Rattle.replay_base.specs.Heard.{CanRead};
 ghost use Rattle.replay_base.specs.Requested.{IsToldEpoch, TellsEpoch};
-ghost use Rattle.replay_fetch.specs.Fetched.{FetchesSo};
-ghost use Rattle.world_turns.specs.Reads.{FetchEnds, FetchNext, FetchStage, fetched_message};
+ghost use Rattle.replay_fetch.specs.Fetched.{FetchLeaves, FetchesSo, begins_at};
+ghost use Rattle.world_turns.specs.Reads.{FetchStage, fetched_message};
 ghost use Rattle.world_turns.specs.Requests as asked;
 
-use crate::reads::{Work, reads_so};
+use crate::reads::{Work, read_from};
 use daos_base::epoch::Epoch;
 use daos_base::items::Memory;
 use daos_base::outcome::Outcome;
@@ -18,87 +16,93 @@ use daos_messages::actor::ActorId;
 use daos_messages::message::{Message, Reply};
 use replay_base::epochs::{asks_at, told_epoch};
 use replay_base::kept::copy_kept;
-use replay_base::leases::{Covered, cover};
-use replay_base::told::{is_spent_so, says};
+use replay_base::leases::cover;
+use replay_base::memories::copy_memory;
+use replay_base::told::{Left, is_left_if, is_spent_so, says};
 use std::alloc::Global;
-use vos_plain::tables::copied;
 use world_base::did::Did;
 use world_base::request::FetchRequest;
 use world_base::target::{TargetPlan, TargetState};
 
-// Whether a read from here on, where none of the decided attempts was settled, leads to this state, and
-// this follows.
-fn read_from(
+// What a target leaves that hears a Fetch of this epoch.
+fn known_from(
     alloc: Global,
     plan: TargetPlan,
     from: ActorId,
     request: &FetchRequest,
     epoch: Epoch,
-    start: Covered,
-    before: &TargetState,
-    after: &TargetState,
-    did: &Did,
-) -> Result<bool, Memory>
-    requires { list_all is_version_in_form start.durable.versions ≡ true }
-    ensures { IfOk result (λ yes. (reading : ℕ)
-        → Decides yes (Onward (FetchNext plan before.now.memory reading request.now) (FetchEnds plan before.now.memory reading request.now from)
-        (FetchStage.Reading epoch before.now.memory.decided) start.durable start.extended before.now.free (keeps after.now.durable after.now.free) (after.now.memory, did.now))) }
+    work: Work,
+) -> Result<Option<Left>, Memory>
+    requires { CanRead plan work.durable work.memory.leader.decided }
+    ensures { IfOk result (FetchLeaves plan from request.now work.memory (begins_at request.now epoch work.memory) work.durable work.changed) }
 {
-    let Covered { durable, extended } = start;
-    let work = Work {
+    if request.snapshot {
+        return read_from(alloc, plan, from, request, epoch, work);
+    }
+    let Work {
         durable,
-        decided: copied(alloc, before.memory.decided.as_slice())?,
-        changed: extended,
-    };
-    reads_so(alloc, plan, from, request, epoch, work, before, after, did)
-}
-
-// The same from where the epoch is known, which the lease is to cover.
-fn known_so(
-    alloc: Global,
-    plan: TargetPlan,
-    from: ActorId,
-    request: &FetchRequest,
-    epoch: Epoch,
-    before: &TargetState,
-    after: &TargetState,
-    did: &Did,
-) -> Result<bool, Memory>
-    requires { list_all is_version_in_form before.now.durable.versions ≡ true }
-    ensures { IfOk result (λ yes. (reading : ℕ)
-        → Decides yes (Onward (FetchNext plan before.now.memory reading request.now) (FetchEnds plan before.now.memory reading request.now from)
-        (FetchStage.Known epoch) before.now.durable false before.now.free (keeps after.now.durable after.now.free) (after.now.memory, did.now))) }
-{
-    match cover(copy_kept(alloc, &before.durable)?, epoch.ticks()) {
-        Some(start) => read_from(alloc, plan, from, request, epoch, start, before, after, did),
-        None => Ok(false),
+        changed,
+        memory,
+    } = work;
+    match cover(durable, changed, epoch.ticks()) {
+        Some(start) => {
+            let work = Work {
+                durable: start.durable,
+                changed: start.changed,
+                memory,
+            };
+            read_from(alloc, plan, from, request, epoch, work)
+        }
+        None => Ok(None),
     }
 }
 
-// The same of a read at a snapshot, which has the epoch of that.
-fn snapshot_so(
+/// What a target leaves that tries a Fetch with its own epoch.
+pub fn fetch_again(
     alloc: Global,
     plan: TargetPlan,
     from: ActorId,
     request: &FetchRequest,
-    before: &TargetState,
-    after: &TargetState,
-    did: &Did,
-) -> Result<bool, Memory>
-    requires snapshot { request.now.snapshot ≡ true }
-    requires form { list_all is_version_in_form before.now.durable.versions ≡ true }
-    ensures { IfOk result (λ yes. Decides yes (FetchesSo plan from request.now before.now after.now did.now)) }
+    work: Work,
+) -> Result<Option<Left>, Memory>
+    requires timed { is_some request.now.ep ≡ true }
+    requires read { CanRead plan work.durable work.memory.leader.decided }
+    ensures { IfOk result (FetchLeaves plan from request.now work.memory FetchStage.Asked work.durable work.changed) }
 {
     match request.ep {
-        Some(epoch) => {
-            let start = Covered {
-                durable: copy_kept(alloc, &before.durable)?,
-                extended: false,
-            };
-            read_from(alloc, plan, from, request, epoch, start, before, after, did)
-        }
-        None => Ok(false),
+        Some(epoch) => known_from(alloc, plan, from, request, epoch, work),
+        None => Ok(None),
     }
+}
+
+// Where a target begins.
+fn start_of(alloc: Global, before: &TargetState) -> Result<Work, Memory>
+    ensures { IfOk result (λ work. work ≡ record { durable = before.now.durable; changed = false; memory = before.now.memory }) }
+{
+    Ok(Work {
+        durable: copy_kept(alloc, &before.durable)?,
+        changed: false,
+        memory: copy_memory(alloc, &before.memory)?,
+    })
+}
+
+// Whether a Fetch with its own epoch leads to this state, and this follows.
+fn own_so(
+    alloc: Global,
+    plan: TargetPlan,
+    from: ActorId,
+    request: &FetchRequest,
+    before: &TargetState,
+    after: &TargetState,
+    did: &Did,
+) -> Result<bool, Memory>
+    requires timed { is_some request.now.ep ≡ true }
+    requires read { CanRead plan before.now.durable before.now.memory.leader.decided }
+    ensures { IfOk result (λ yes. Decides yes (FetchesSo plan from request.now before.now after.now did.now)) }
+{
+    let work = start_of(alloc, before)?;
+    let left = fetch_again(alloc, plan, from, request, work)?;
+    Ok(is_left_if(&left, before, after, did))
 }
 
 // What follows where no ticks are left.
@@ -134,7 +138,7 @@ fn spent_so(
     Ok(is_spent_so(plan, request.tracker, before, after, did, &told))
 }
 
-// Whether a Fetch of this epoch, its own or the one that was issued, leads to this state.
+// Whether a Fetch of this epoch, which was issued, leads to this state.
 fn asked_so(
     alloc: Global,
     plan: TargetPlan,
@@ -147,11 +151,13 @@ fn asked_so(
 ) -> Result<bool, Memory>
     requires now { request.now.snapshot ≡ false }
     requires told { IsToldEpoch request.now.ep did.now.issued epoch }
-    requires form { list_all is_version_in_form before.now.durable.versions ≡ true }
+    requires read { CanRead plan before.now.durable before.now.memory.leader.decided }
     ensures { IfOk result (λ yes. Decides yes (FetchesSo plan from request.now before.now after.now did.now)) }
 {
     if asks_at(plan, &before.memory, request.tracker, request.ep, epoch) {
-        known_so(alloc, plan, from, request, epoch, before, after, did)
+        let work = start_of(alloc, before)?;
+        let left = known_from(alloc, plan, from, request, epoch, work)?;
+        Ok(is_left_if(&left, before, after, did))
     } else {
         Ok(false)
     }
@@ -168,12 +174,33 @@ fn now_so(
     did: &Did,
 ) -> Result<bool, Memory>
     requires now { request.now.snapshot ≡ false }
-    requires form { list_all is_version_in_form before.now.durable.versions ≡ true }
+    requires read { CanRead plan before.now.durable before.now.memory.leader.decided }
     ensures { IfOk result (λ yes. Decides yes (FetchesSo plan from request.now before.now after.now did.now)) }
 {
     match told_epoch(request.ep, did) {
         Some(epoch) => asked_so(alloc, plan, from, request, epoch, before, after, did),
         None => spent_so(alloc, plan, from, request, before, after, did),
+    }
+}
+
+// The same of one without an epoch, which is none at a snapshot.
+fn unknown_so(
+    alloc: Global,
+    plan: TargetPlan,
+    from: ActorId,
+    request: &FetchRequest,
+    before: &TargetState,
+    after: &TargetState,
+    did: &Did,
+) -> Result<bool, Memory>
+    requires unknown { request.now.ep ≡ None }
+    requires read { CanRead plan before.now.durable before.now.memory.leader.decided }
+    ensures { IfOk result (λ yes. Decides yes (FetchesSo plan from request.now before.now after.now did.now)) }
+{
+    if request.snapshot {
+        Ok(false)
+    } else {
+        now_so(alloc, plan, from, request, before, after, did)
     }
 }
 
@@ -188,12 +215,11 @@ pub fn fetches_so(
     after: &TargetState,
     did: &Did,
 ) -> Result<bool, Memory>
-    requires { list_all is_version_in_form before.now.durable.versions ≡ true }
+    requires { CanRead plan before.now.durable before.now.memory.leader.decided }
     ensures { IfOk result (λ yes. Decides yes (FetchesSo plan from request.now before.now after.now did.now)) }
 {
-    if request.snapshot {
-        snapshot_so(alloc, plan, from, request, before, after, did)
-    } else {
-        now_so(alloc, plan, from, request, before, after, did)
+    match request.ep {
+        Some(_own) => own_so(alloc, plan, from, request, before, after, did),
+        None => unknown_so(alloc, plan, from, request, before, after, did),
     }
 }

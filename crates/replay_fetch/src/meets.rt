@@ -1,35 +1,42 @@
 // What a read meets in what a target keeps.
-ghost use Rattle.std.specs.Prelude.{◌≡◌, true, IfOk};
-ghost use Rattle.std.specs.List.{list_all};
+ghost use Rattle.std.specs.Prelude.{◌≡◌, Contains, Decides, IfOk};
 ghost use Rattle.daos_base.specs.declared.outcome.Outcome.TheVariants as outcome;
 ghost use Rattle.daos_base.specs.Operations.{read_path};
 ghost use Rattle.daos_messages.specs.declared.message.Reply.TheVariants as reply;
-ghost use Rattle.daos_model.specs.Durables.{is_version_in_form};
+ghost use Rattle.replay_base.specs.Heard.{CanRead};
+ghost use Rattle.replay_fetch.specs.declared.meets.Ending.TheVariants as ending;
 ghost use Rattle.world_turns.specs.Reads.{fetch_cause, later_of, later_unless};
-ghost use Rattle.replay_fetch.specs.Met.{IsMet};
+ghost use Rattle.replay_fetch.specs.Met.{IsMet, MeetsAttempt};
 
 use crate::later::{aggregated_above, is_past, later_of};
-use daos_base::epoch::Epoch;
+use daos_base::epoch::{Epoch, TargetId};
 use daos_base::id::AttemptId;
 use daos_base::items::Memory;
 use daos_base::outcome::{Cause, Outcome};
 use daos_base::shown::Shown;
 use daos_messages::message::Reply;
 use daos_model::durable::Durable;
+use replay_base::entries::other_leader;
 use std::alloc::Global;
-use target_core::decided::is_among;
 use vos_plain::reads::answer_below;
 use vos_plain::rows::first_blocking;
 use vos_stamp::checks::check_read;
 use world_base::request::FetchRequest;
 use world_base::target::TargetPlan;
 
-/// What a read meets: a decided attempt, which is settled first; a reply; or nothing that it could
+/// What a read ends with: a reply; or it waits for what becomes of an attempt that another target leads.
+#[derive(Debug, Drop)]
+pub enum Ending {
+    Replies(Reply),
+    Parks(AttemptId, TargetId),
+}
+
+/// What a read meets: a decided attempt, which is settled first; its ending; or nothing that it could
 /// end with.
 #[derive(Debug, Drop)]
 pub enum Met {
     Settles(AttemptId),
-    Replies(Reply),
+    Ends(Ending),
     Stuck,
 }
 
@@ -63,10 +70,35 @@ fn fetch_cause(
 }
 
 // The attempt is to restart.
-fn restarts(cause: Cause) -> Reply
-    ensures { result ≡ reply.Outcome (outcome.Restart cause) }
+fn restarts(cause: Cause) -> Ending
+    ensures { result ≡ ending.Replies (reply.Outcome (outcome.Restart cause)) }
 {
-    Reply::Outcome(Outcome::Restart(cause))
+    Ending::Replies(Reply::Outcome(Outcome::Restart(cause)))
+}
+
+// Whether an attempt is among others.
+fn is_one(attempts: &[AttemptId], attempt: AttemptId) -> bool
+    ensures { Decides result (Contains attempts.now attempt) }
+{
+    attempts.contains(&attempt)
+}
+
+// What a read meets where this attempt stands in its way.
+fn meet_attempt(
+    plan: TargetPlan,
+    durable: &Durable,
+    decided: &[AttemptId],
+    attempt: AttemptId,
+) -> Met
+    ensures { MeetsAttempt plan durable.now decided.now attempt result }
+{
+    if is_one(decided, attempt) {
+        return Met::Settles(attempt);
+    }
+    match other_leader(plan, durable, attempt) {
+        Some(leader) => Met::Ends(Ending::Parks(attempt, leader)),
+        None => Met::Ends(restarts(Cause::Unresolved { by: attempt })),
+    }
 }
 
 /// What a read meets at an epoch, while these decided attempts aren't settled.
@@ -79,11 +111,11 @@ pub fn meet(
     durable: &Durable,
     decided: &[AttemptId],
 ) -> Result<Met, Memory>
-    requires { list_all is_version_in_form durable.now.versions ≡ true }
+    requires { CanRead plan durable.now decided.now }
     ensures { IfOk result (IsMet plan request.now epoch durable.now decided.now) }
 {
     if let Some(cause) = fetch_cause(plan, request, epoch, durable)? {
-        return Ok(Met::Replies(restarts(cause)));
+        return Ok(Met::Ends(restarts(cause)));
     }
     let path = request.read.path();
     if is_past(durable, path.cont, epoch) {
@@ -92,10 +124,7 @@ pub fn meet(
     let rows = durable.versions.as_slice();
     let Some(version) = first_blocking(rows, path, epoch) else {
         let answer = answer_below(alloc, rows, &request.read, epoch)?;
-        return Ok(Met::Replies(Reply::Answer(answer)));
+        return Ok(Met::Ends(Ending::Replies(Reply::Answer(answer))));
     };
-    if is_among(decided, version.by) {
-        return Ok(Met::Settles(version.by));
-    }
-    Ok(Met::Replies(restarts(Cause::Unresolved { by: version.by })))
+    Ok(meet_attempt(plan, durable, decided, version.by))
 }

@@ -1,66 +1,95 @@
-// A read goes on from attempt to attempt until it comes to its reply.
-ghost use Rattle.std.specs.Prelude.{◌≡◌, true, ℕ, IfOk, Decides};
-ghost use Rattle.std.specs.List.{list_all};
+// A read, made again from where its epoch is covered.
+ghost use Rattle.std.specs.Prelude.{◌≡◌, IfOk};
 ghost use Rattle.daos_base.specs.Operations.{read_path};
-ghost use Rattle.daos_model.specs.Durables.{is_version_in_form};
-ghost use Rattle.target_core.specs.Meets.{memory_replied, stamps_replied};
-ghost use Rattle.replay_base.specs.Onward.{keeps};
-ghost use Rattle.replay_fetch.specs.Fetched.{RepliesSo};
-ghost use Rattle.replay_fetch.specs.Met.{ComesTo, IsSettled, ReadsFrom, ReadsOn, ticks_after};
+ghost use Rattle.replay_base.specs.Heard.{CanRead};
+ghost use Rattle.replay_fetch.specs.Fetched.{FetchLeaves};
+ghost use Rattle.replay_fetch.specs.Met.{HasRead, IsSettled, left_by};
+ghost use Rattle.replay_fetch.specs.Left.{left_of, memory_replied, without};
+ghost use Rattle.replay_fetch.specs.declared.meets.Ending.TheVariants as ending;
 ghost use Rattle.world_turns.specs.Reads as fetch;
+ghost use Rattle.world_turns.specs.Reads.{FetchStage};
 
-use crate::meets::{Met, meet};
-use daos_base::epoch::Epoch;
+use crate::meets::{Ending, Met, meet};
+use daos_base::epoch::{Epoch, TargetId};
 use daos_base::id::AttemptId;
 use daos_base::items::{Items, Memory};
 use daos_base::shown::Shown;
 use daos_messages::actor::ActorId;
 use daos_messages::message::{Message, Reply};
 use daos_model::durable::Durable;
-use replay_base::kept::{copy_reads, settled};
-use replay_base::told::{is_left_with, issued_for, says};
+use dtx_base::leading::LeaderMemory;
+use dtx_member::member::Member;
+use dtx_table::rows::remove;
+use replay_base::kept::committed;
+use replay_base::told::{Left, issued_for, says, sends};
 use std::alloc::Global;
-use target_core::decided::remove;
 use world_base::did::Did;
 use world_base::request::FetchRequest;
-use world_base::target::{TargetMemory, TargetPlan, TargetState};
+use world_base::target::{TargetMemory, TargetPlan};
 
-/// How far a read came: what is kept, the decided attempts that aren't settled, and whether anything
-/// was changed.
+/// How far a turn came: what is kept, whether anything was changed, and what is known.
 #[derive(Drop)]
 pub struct Work {
     pub durable: Durable,
-    pub decided: Vec<AttemptId>,
     pub changed: bool,
+    pub memory: TargetMemory,
 }
 
-/// Where a read comes to, and its reply, if it comes to one.
+/// Where a read comes to, and its ending, if it comes to one.
 #[derive(Drop)]
 pub struct End {
     pub work: Work,
-    pub reply: Option<Reply>,
+    pub ending: Option<Ending>,
+}
+
+// An attempt goes from the list of the decided ones.
+fn without(memory: TargetMemory, attempt: AttemptId) -> TargetMemory
+    ensures { result ≡ without attempt memory }
+{
+    let TargetMemory {
+        ticks,
+        stamps,
+        leader,
+        member,
+    } = memory;
+    let LeaderMemory {
+        undecided,
+        decided,
+        named,
+        down,
+    } = leader;
+    let mut decided = decided.into_vec();
+    remove(&mut decided, attempt);
+    TargetMemory {
+        ticks,
+        stamps,
+        leader: LeaderMemory {
+            undecided,
+            decided: Items::from_vec(decided),
+            named,
+            down,
+        },
+        member,
+    }
 }
 
 // A decided attempt is settled, and goes from the list of those.
 fn settle_first(work: Work, attempt: AttemptId) -> Work
-    requires { list_all is_version_in_form work.durable.versions ≡ true }
-    ensures work { IsSettled attempt work result }
-    ensures form { list_all is_version_in_form result.durable.versions ≡ true }
+    ensures { IsSettled attempt work result }
 {
     let Work {
         durable,
-        mut decided,
         changed: _changed,
+        memory,
     } = work;
-    remove(&mut decided, attempt);
     Work {
-        durable: settled(durable, attempt),
-        decided,
+        durable: committed(durable, attempt),
         changed: true,
+        memory: without(memory, attempt),
     }
 }
 
-// Decided attempts that stand in a read's way are settled, until it comes to its reply.
+// Decided attempts that stand in a read's way are settled, until it comes to its ending.
 fn read_on(
     alloc: Global,
     plan: TargetPlan,
@@ -68,70 +97,34 @@ fn read_on(
     epoch: Epoch,
     work: Work,
 ) -> Result<End, Memory>
-    requires { list_all is_version_in_form work.durable.versions ≡ true }
-    ensures on { IfOk result (λ end. ReadsOn plan request.now epoch work end.work) }
-    ensures reply { IfOk result (λ end. ComesTo plan request.now epoch end.work.durable end.work.decided.items end.reply) }
+    requires { CanRead plan work.durable work.memory.leader.decided }
+    ensures { IfOk result (HasRead plan request.now epoch work) }
 {
     let mut work = work;
     loop {
-        match meet(alloc, plan, request, epoch, &work.durable, &work.decided)? {
+        let decided = work.memory.leader.decided.as_slice();
+        match meet(alloc, plan, request, epoch, &work.durable, decided)? {
             Met::Settles(attempt) => work = settle_first(work, attempt),
-            Met::Replies(reply) => {
+            Met::Ends(ending) => {
                 return Ok(End {
                     work,
-                    reply: Some(reply),
+                    ending: Some(ending),
                 });
             }
-            Met::Stuck => return Ok(End { work, reply: None }),
+            Met::Stuck => return Ok(End { work, ending: None }),
         }
     }
 }
 
-// A target's ticks once it replied to a Fetch.
-fn ticks_known(request: &FetchRequest, epoch: Epoch, ticks: u64) -> u64
-    ensures { result ≡ ticks_after request.now epoch ticks }
+// What a target knows with a read's epoch.
+fn ticks_known(request: &FetchRequest, epoch: Epoch, memory: TargetMemory) -> TargetMemory
+    ensures { result ≡ fetch.ticks_known request.now epoch memory }
 {
     if request.snapshot {
-        ticks
-    } else {
-        ticks.max(epoch.ticks())
+        return memory;
     }
-}
-
-// The timestamps once a target replied to a Fetch.
-fn stamps_replied(
-    alloc: Global,
-    request: &FetchRequest,
-    epoch: Epoch,
-    reply: &Reply,
-    stamps: &[Shown],
-) -> Result<Items<Shown>, Memory>
-    ensures { IfOk result (λ after. after ≡ stamps_replied request.now epoch reply.now stamps.now) }
-{
-    let mut after = copy_reads(alloc, stamps)?;
-    if matches!(reply, Reply::Answer(_)) && !request.snapshot {
-        after.push(read_of(request, epoch)?)?;
-    }
-    Ok(after)
-}
-
-// What a target knows once it replied to a Fetch.
-fn memory_replied(
-    alloc: Global,
-    request: &FetchRequest,
-    epoch: Epoch,
-    decided: Vec<AttemptId>,
-    reply: &Reply,
-    memory: &TargetMemory,
-) -> Result<TargetMemory, Memory>
-    ensures { IfOk result (λ after. after ≡ memory_replied request.now epoch decided.items reply.now memory.now) }
-{
-    let stamps = stamps_replied(alloc, request, epoch, reply, memory.stamps.as_slice())?;
-    Ok(TargetMemory {
-        ticks: ticks_known(request, epoch, memory.ticks),
-        stamps,
-        decided: Items::from_vec(decided),
-    })
+    let ticks = memory.ticks.max(epoch.ticks());
+    TargetMemory { ticks, ..memory }
 }
 
 // The read, as it is raised among the timestamps.
@@ -142,6 +135,48 @@ fn read_of(request: &FetchRequest, epoch: Epoch) -> Result<Shown, Memory>
         by: request.attempt,
         epoch,
         path: request.read.path().copy()?,
+    })
+}
+
+// The timestamps with the read.
+fn stamps_with(
+    request: &FetchRequest,
+    epoch: Epoch,
+    stamps: Items<Shown>,
+) -> Result<Items<Shown>, Memory>
+    ensures { IfOk result (λ after. after ≡ fetch.stamps_with request.now epoch stamps) }
+{
+    let mut stamps = stamps;
+    if !request.snapshot {
+        stamps.push(read_of(request, epoch)?)?;
+    }
+    Ok(stamps)
+}
+
+// What a target knows once it replied.
+fn memory_replied(
+    request: &FetchRequest,
+    epoch: Epoch,
+    reply: &Reply,
+    memory: TargetMemory,
+) -> Result<TargetMemory, Memory>
+    ensures { IfOk result (λ after. after ≡ memory_replied request.now epoch reply.now memory) }
+{
+    let TargetMemory {
+        ticks,
+        stamps,
+        leader,
+        member,
+    } = memory;
+    let stamps = match reply {
+        Reply::Answer(_) => stamps_with(request, epoch, stamps)?,
+        Reply::Outcome(_) => stamps,
+    };
+    Ok(TargetMemory {
+        ticks,
+        stamps,
+        leader,
+        member,
     })
 }
 
@@ -170,50 +205,140 @@ fn tells(
     )
 }
 
-// Whether a read ends so with this reply.
-fn replies_so(
-    alloc: Global,
-    from: ActorId,
-    request: &FetchRequest,
-    epoch: Epoch,
-    work: Work,
-    reply: &Reply,
-    before: &TargetState,
-    after: &TargetState,
-    did: &Did,
-) -> Result<bool, Memory>
-    ensures { IfOk result (λ yes. Decides yes (RepliesSo from request.now epoch work reply.now before.now after.now did.now)) }
-{
-    let told = tells(alloc, from, request, epoch, reply)?;
-    let Work {
-        durable,
-        decided,
-        changed,
-    } = work;
-    let memory = memory_replied(alloc, request, epoch, decided, reply, &before.memory)?;
-    Ok(is_left_with(before, after, did, &durable, changed, &memory, &told))
-}
-
-/// Whether a target that reads from here on comes to this state, and this follows.
-pub fn reads_so(
+// A Fetch ends with this reply.
+fn replies(
     alloc: Global,
     plan: TargetPlan,
     from: ActorId,
     request: &FetchRequest,
     epoch: Epoch,
     work: Work,
-    before: &TargetState,
-    after: &TargetState,
-    did: &Did,
-) -> Result<bool, Memory>
-    requires { list_all is_version_in_form work.durable.versions ≡ true }
-    ensures { IfOk result (λ yes. (reading : ℕ) → Decides yes (ReadsFrom plan request.now epoch before.now.memory from work before.now.free reading (keeps after.now.durable after.now.free) (after.now.memory, did.now))) }
+    reply: Reply,
+) -> Result<Left, Memory>
+    ensures { IfOk result (λ left. left ≡ left_of work (left_by plan request.now from epoch (ending.Replies reply) work.memory)) }
 {
-    let End { work, reply } = read_on(alloc, plan, request, epoch, work)?;
-    match reply {
-        Some(reply) => replies_so(
-            alloc, from, request, epoch, work, &reply, before, after, did,
-        ),
-        None => Ok(false),
+    let _plan = plan;
+    let did = tells(alloc, from, request, epoch, &reply)?;
+    let Work {
+        durable,
+        changed,
+        memory,
+    } = work;
+    let memory = memory_replied(request, epoch, &reply, memory)?;
+    Ok(Left {
+        durable,
+        changed,
+        memory,
+        did,
+    })
+}
+
+// A Fetch that is to be tried again at its epoch.
+fn fetch_at(request: &FetchRequest, epoch: Epoch) -> Result<Message, Memory>
+    ensures { IfOk result (λ ask. ask ≡ fetch.fetch_at request.now epoch) }
+{
+    Ok(Message::Fetch {
+        attempt: request.attempt,
+        op: request.op,
+        group: request.group,
+        ep: Some(epoch),
+        first: request.first,
+        tracker: request.tracker,
+        read: request.read.copy()?,
+        snapshot: request.snapshot,
+    })
+}
+
+// A Fetch waits for what becomes of an attempt that another target leads.
+fn parks(
+    alloc: Global,
+    plan: TargetPlan,
+    from: ActorId,
+    request: &FetchRequest,
+    epoch: Epoch,
+    work: Work,
+    attempt: AttemptId,
+    leader: TargetId,
+) -> Result<Left, Memory>
+    ensures { IfOk result (λ left. left ≡ left_of work (left_by plan request.now from epoch (ending.Parks attempt leader) work.memory)) }
+{
+    let _from = from;
+    let Work {
+        durable,
+        changed,
+        memory,
+    } = work;
+    let TargetMemory {
+        ticks,
+        stamps,
+        leader: led,
+        member,
+    } = memory;
+    let mut member = Member::remembering(alloc, plan.me, member);
+    let posts = member.park(fetch_at(request, epoch)?, attempt, leader)?;
+    let did = sends(alloc, posts, issued_for(request.attempt, request.ep, epoch));
+    Ok(Left {
+        durable,
+        changed,
+        memory: TargetMemory {
+            ticks,
+            stamps,
+            leader: led,
+            member: member.into_memory(),
+        },
+        did,
+    })
+}
+
+// A Fetch ends so.
+fn finish(
+    alloc: Global,
+    plan: TargetPlan,
+    from: ActorId,
+    request: &FetchRequest,
+    epoch: Epoch,
+    work: Work,
+    ending: Ending,
+) -> Result<Left, Memory>
+    ensures { IfOk result (λ left. left ≡ left_of work (left_by plan request.now from epoch ending (fetch.ticks_known request.now epoch work.memory))) }
+{
+    let Work {
+        durable,
+        changed,
+        memory,
+    } = work;
+    let work = Work {
+        durable,
+        changed,
+        memory: ticks_known(request, epoch, memory),
+    };
+    match ending {
+        Ending::Replies(reply) => replies(alloc, plan, from, request, epoch, work, reply),
+        Ending::Parks(attempt, leader) => {
+            parks(alloc, plan, from, request, epoch, work, attempt, leader)
+        }
+    }
+}
+
+/// What a target leaves that reads from here on, where none of the attempts that it decided was settled
+/// so far.
+pub fn read_from(
+    alloc: Global,
+    plan: TargetPlan,
+    from: ActorId,
+    request: &FetchRequest,
+    epoch: Epoch,
+    work: Work,
+) -> Result<Option<Left>, Memory>
+    requires { CanRead plan work.durable work.memory.leader.decided }
+    ensures { IfOk result (FetchLeaves plan from request.now work.memory (FetchStage.Reading epoch work.memory.leader.decided) work.durable work.changed) }
+{
+    let End { work, ending } = read_on(alloc, plan, request, epoch, work)?;
+    match ending {
+        Some(ending) => {
+            let left = finish(alloc, plan, from, request, epoch, work, ending)?;
+            Ok(Some(left))
+        }
+        None => Ok(None),
     }
 }

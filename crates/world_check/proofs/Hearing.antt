@@ -1,20 +1,27 @@
--- A target hears a Fetch or a Commit, or no message that it can hear.
+-- A target hears a message of some kind, or none that it can hear.
 use Rattle.std.proofs.Common.{ℕ, ◌≡◌, ◌∙◌, refl, sym, ap, subst, Bool, true, false, Option, Some, None}
 use Rattle.std.specs.Bool.{Decides}
 use Rattle.daos_messages.specs.declared.actor.ActorId.{ActorId}
 use Rattle.daos_messages.specs.declared.message.Message.{Message}
 use Rattle.daos_messages.specs.declared.message.Message.TheVariants as message
 use Rattle.daos_model.specs.declared.durable.Durable.{Durable}
+use Rattle.daos_model.specs.Forms.{AreWritesInForm}
+use Rattle.replay_base.specs.declared.told.Left.{Left}
 use Rattle.replay_base.specs.Heard.{CanCommit, CanHear, CanRead}
+use Rattle.replay_base.specs.Leaving.{HearsAs, IsLeftIf}
+use Rattle.replay_base.specs.Onward.{keeps}
 use Rattle.replay_base.proofs.Starts.{none_so}
-use Rattle.replay_commit.specs.Committed.{CommitsSo}
+use Rattle.replay_writes.specs.Committed.{CommitsSo, PreparesSo}
 use Rattle.replay_fetch.specs.Fetched.{FetchesSo}
 use Rattle.world_base.specs.declared.did.Did.{Did}
 use Rattle.world_base.specs.declared.request.CommitRequest.{CommitRequest}
 use Rattle.world_base.specs.declared.request.FetchRequest.{FetchRequest}
+use Rattle.world_base.specs.declared.request.PrepareRequest.{PrepareRequest}
+use Rattle.world_base.specs.declared.target.TargetMemory.{TargetMemory}
 use Rattle.world_base.specs.declared.target.TargetPlan.{TargetPlan}
 use Rattle.world_base.specs.declared.target.TargetState.{TargetState}
-use Rattle.world_check.specs.Turned.{HearsSo, commit_in, fetch_in}
+use Rattle.replay_verdict.specs.Tried.{fetch_in}
+use Rattle.world_check.specs.Turned.{HearsSo, commit_in, prepare_in}
 
 -- ---- requests as messages
 
@@ -38,10 +45,15 @@ is_commit (message.Commit x ep first tracker ws) q is =
     ap (λ (y : CommitRequest). message.Commit y.attempt y.ep y.first y.tracker y.writes) same
 is_commit m q is = let bad : ⊥ = cc in absurd bad
 
-neither : (t : TargetPlan) (d : Durable) (m : Message) → fetch_in m ≡ None → commit_in m ≡ None → CanHear t d m → ⊥
-neither t d (message.Fetch x op group ep first tracker r snapshot) no_fetch no_commit h = let bad : ⊥ = cc in bad
-neither t d (message.Commit x ep first tracker ws) no_fetch no_commit h = let bad : ⊥ = cc in bad
-neither t d m no_fetch no_commit h = h
+prepare_of : PrepareRequest → Message
+prepare_of q = message.Prepare q.entry q.first q.writes q.inc
+
+is_prepare : (m : Message) (q : PrepareRequest) → prepare_in m ≡ Some q → m ≡ prepare_of q
+unfolding prepare_of
+is_prepare (message.Prepare e first ws inc) q is =
+    let same : (record { entry = e; first = first; writes = ws; inc = inc }) ≡ q = cc in
+    ap (λ (y : PrepareRequest). message.Prepare y.entry y.first y.writes y.inc) same
+is_prepare m q is = let bad : ⊥ = cc in absurd bad
 
 -- ---- as the code tests it
 
@@ -52,7 +64,7 @@ pub first_fails : {P Q : Type 0} → (P → ⊥) → Decides false (P × Q)
 first_fails never = none_so (λ b. never b.0)
 
 module _ (t : TargetPlan) (from : ActorId) (m : Message) (s new : TargetState) (did : Did) where
-  pub fetch_heard : (q : FetchRequest) (o o' : Option FetchRequest) (test : Bool) → o ≡ fetch_in m → o ≡ o' → o' ≡ Some q → Decides test (CanRead t s.durable × FetchesSo t from q s new did) → Decides test (HearsSo t from m s new did)
+  pub fetch_heard : (q : FetchRequest) (o o' : Option FetchRequest) (test : Bool) → o ≡ fetch_in m → o ≡ o' → o' ≡ Some q → Decides test (CanRead t s.durable s.memory.leader.decided × FetchesSo t from q s new did) → Decides test (HearsSo t from m s new did)
   unfolding fetch_of
   fetch_heard q o o' test is same_o some same =
       subst (λ x. Decides test (HearsSo t from x s new did)) (sym (is_fetch m q (sym is ∙ same_o ∙ some)))
@@ -64,5 +76,19 @@ module _ (t : TargetPlan) (from : ActorId) (m : Message) (s new : TargetState) (
       subst (λ x. Decides test (HearsSo t from x s new did)) (sym (is_commit m q (sym is ∙ same_o ∙ some)))
       (λ h. (let p = same.0 h in record { form = p.0; turn = p.1 }), λ h. same.1 (h.form, h.turn))
 
-  pub none_heard : (o o' : Option CommitRequest) → fetch_in m ≡ None → o ≡ commit_in m → o ≡ o' → o' ≡ None → Decides false (HearsSo t from m s new did)
-  none_heard o o' no_fetch is same_o none = none_so (λ h. neither t s.durable m no_fetch (sym is ∙ same_o ∙ none) h.form)
+  pub prepare_heard : (q : PrepareRequest) (o o' : Option PrepareRequest) (test : Bool) → o ≡ prepare_in m → o ≡ o' → o' ≡ Some q → Decides test (AreWritesInForm q.writes × PreparesSo t q s new did) → Decides test (HearsSo t from m s new did)
+  unfolding prepare_of
+  prepare_heard q o o' test is same_o some same =
+      subst (λ x. Decides test (HearsSo t from x s new did)) (sym (is_prepare m q (sym is ∙ same_o ∙ some)))
+      (λ h. (let p = same.0 h in record { form = p.0; turn = (0, p.1) }), λ h. same.1 (h.form, h.turn.1))
+
+  -- a message of which the turn was made again, which it can hear
+  pub made_heard : (o : Option Left) (test : Bool) → CanHear t s.durable s.memory from m → HearsAs t from m s o → Decides test (IsLeftIf o s.free (keeps new.durable new.free) (new.memory, did)) → Decides test (HearsSo t from m s new did)
+  made_heard o test form made same = (
+    λ h. record { form = form; turn = (0, (made 0 (keeps new.durable new.free) (new.memory, did)).1 (same.0 h)) },
+    λ h. same.1 ((made h.turn.0 (keeps new.durable new.free) (new.memory, did)).0 h.turn.1),
+  )
+
+  -- or which it can't hear
+  pub never_heard : (CanHear t s.durable s.memory from m → ⊥) → Decides false (HearsSo t from m s new did)
+  never_heard never = none_so (λ h. never h.form)

@@ -1,5 +1,5 @@
 -- What followed from a target's turn is told by the world after it.
-use Rattle.std.proofs.Common.{ℕ, suc, zero, ◌≡◌, ◌+◌, ◌++◌, ◌<◌, ◌-◌, refl, sym, ◌∙◌, ap, subst, List, [], ◌∷◌, length, get_or, slice_get, Option, Some, None, arith}
+use Rattle.std.proofs.Common.{ℕ, suc, zero, ◌≡◌, ◌+◌, ◌++◌, ◌-◌, refl, sym, ◌∙◌, ap, subst, map, drop, List, [], ◌∷◌, length, slice_get, Bool, Option, Some, None, arith}
 use Rattle.daos_base.specs.declared.epoch.Epoch.{Epoch}
 use Rattle.daos_base.specs.declared.id.AttemptId.{AttemptId}
 use Rattle.daos_base.specs.declared.outcome.FloorWhy.{FloorWhy}
@@ -12,51 +12,94 @@ use Rattle.world_base.specs.declared.did.Did.{Did}
 use Rattle.world_base.specs.declared.letter.Letter.{Letter}
 use Rattle.world_base.specs.declared.request.CommitRequest.{CommitRequest}
 use Rattle.world_base.specs.declared.request.FetchRequest.{FetchRequest}
+use Rattle.world_base.specs.declared.request.PrepareRequest.{PrepareRequest}
 use Rattle.world_base.specs.declared.target.TargetMemory.{TargetMemory}
 use Rattle.world_base.specs.declared.target.TargetPlan.{TargetPlan}
 use Rattle.world_base.specs.declared.world.World.{World}
 use Rattle.world_events.specs.Events.{listed}
-use Rattle.world_events.specs.Letters.{letter_of, letters_of}
+use Rattle.world_events.specs.Letters.{Takes, letter_of, letters_of}
+use Rattle.world_turns.specs.Acks as ack
 use Rattle.world_turns.specs.Changes.{Kept}
 use Rattle.world_turns.specs.Commits as commit
+use Rattle.world_turns.specs.Idle.{AllSettled, IdleEnds}
+use Rattle.world_turns.specs.Marks as mark
+use Rattle.world_turns.specs.Prepares as prepare
 use Rattle.world_turns.specs.Reads as read
-use Rattle.world_turns.specs.TargetTurns.{Hears}
-use Rattle.world_check.specs.Told.{did_told, post_of, posts_told}
+use Rattle.world_turns.specs.TargetTurns.{Hears, IdlesWhole, commit_request, fetch_request, prepare_request}
+use Rattle.world_turns.specs.Verdicts as verdict
+use Rattle.world_check.specs.Told.{did_told, post_of}
 
--- one message is sent, and no line is added
-pub record SaysOne (did : Did) : Type 0 where
-  pub post : Post
-  pub posts : did.posts ≡ post ∷ []
-  pub lines : did.lines ≡ []
+-- ---- no line is added
 
-says-one : (did : Did) (post : Post) (issued : Option (AttemptId × Epoch)) → did ≡ record { posts = post ∷ []; lines = []; issued = issued } → SaysOne did
-says-one did post issued is = record { post = post; posts = ap (λ x. x.posts) is; lines = ap (λ x. x.lines) is }
+fetch_lines : (t : TargetPlan) (m : TargetMemory) (reading : ℕ) (q : FetchRequest) (from : ActorId) (s : read.FetchStage) (k : Kept) (left : TargetMemory × Did) → read.FetchEnds t m reading q from s k left → left.1.lines ≡ []
+fetch_lines t m reading q from s k left (read.IsSpent j l now none is) = ap (λ x. x.1.lines) is
+fetch_lines t m reading q from s k left (read.IsRefused j e decided c l why is) = ap (λ x. x.1.lines) is
+fetch_lines t m reading q from s k left (read.MeetsUnresolved j e decided a l none unsettled apart ours is) = ap (λ x. x.1.lines) is
+fetch_lines t m reading q from s k left (read.IsParked j e decided a leader l none unsettled other is) = ap (λ x. x.1.lines) is
+fetch_lines t m reading q from s k left (read.IsServed j e decided b l none answer is) = ap (λ x. x.1.lines) is
 
-fetch_says : (t : TargetPlan) (m : TargetMemory) (reading : ℕ) (q : FetchRequest) (from : ActorId) (s : read.FetchStage) (k : Kept) (left : TargetMemory × Did) → read.FetchEnds t m reading q from s k left → SaysOne left.1
-fetch_says t m reading q from s k left (read.IsSpent j l now none is) = says-one left.1 _ _ (ap (λ x. x.1) is)
-fetch_says t m reading q from s k left (read.IsRefused j e decided c l why is) = says-one left.1 _ _ (ap (λ x. x.1) is)
-fetch_says t m reading q from s k left (read.MeetsUnresolved j e decided a l none unsettled apart is) = says-one left.1 _ _ (ap (λ x. x.1) is)
-fetch_says t m reading q from s k left (read.IsServed j e decided b l none answer is) = says-one left.1 _ _ (ap (λ x. x.1) is)
+commit_lines : (t : TargetPlan) (opening : Epoch × FloorWhy) (m : TargetMemory) (reading : ℕ) (q : CommitRequest) (from : ActorId) (s : commit.CommitStage) (k : Kept) (left : TargetMemory × Did) → commit.CommitEnds t opening m reading q from s k left → left.1.lines ≡ []
+commit_lines t opening m reading q from s k left (commit.IsSpent j l none is) = ap (λ x. x.1.lines) is
+commit_lines t opening m reading q from s k left (commit.IsRefused j e c l why is) = ap (λ x. x.1.lines) is
+commit_lines t opening m reading q from s k left (commit.HasNoSpace j e l allowed lacks is) = ap (λ x. x.1.lines) is
+commit_lines t opening m reading q from s k left (commit.HasBegun j e l is) = ap (λ x. x.1.lines) is
 
-commit_says : (t : TargetPlan) (opening : Epoch × FloorWhy) (m : TargetMemory) (reading : ℕ) (q : CommitRequest) (from : ActorId) (s : commit.CommitStage) (k : Kept) (left : TargetMemory × Did) → commit.CommitEnds t opening m reading q from s k left → SaysOne left.1
-commit_says t opening m reading q from s k left (commit.IsSpent j l none is) = says-one left.1 _ _ (ap (λ x. x.1) is)
-commit_says t opening m reading q from s k left (commit.IsRefused j e c l why is) = says-one left.1 _ _ (ap (λ x. x.1) is)
-commit_says t opening m reading q from s k left (commit.HasNoSpace j e l allowed lacks is) = says-one left.1 _ _ (ap (λ x. x.1) is)
-commit_says t opening m reading q from s k left (commit.IsDecided j e l is) = says-one left.1 _ _ (ap (λ x. x.1) is)
+prepare_lines : (t : TargetPlan) (opening : Epoch × FloorWhy) (m : TargetMemory) (q : PrepareRequest) (s : prepare.PrepareStage) (k : Kept) (left : TargetMemory × Did) → prepare.PrepareEnds t opening m q s k left → left.1.lines ≡ []
+prepare_lines t opening m q s k left (prepare.IsRefused j c l why is) = ap (λ x. x.1.lines) is
+prepare_lines t opening m q s k left (prepare.HasNoSpace j l allowed lacks is) = ap (λ x. x.1.lines) is
+prepare_lines t opening m q s k left (prepare.IsPrepared j l is) = ap (λ x. x.1.lines) is
 
-pub one_answer : (t : TargetPlan) (opening : Epoch × FloorWhy) (m : TargetMemory) (reading : ℕ) (from : ActorId) (l : Message) (old new : Kept) (left : TargetMemory × Did) → Hears t opening m reading from l old new left → SaysOne left.1
-one_answer t opening m reading from (message.Fetch x op group ep first tracker r snapshot) old new left h =
-    fetch_says t m reading (record { attempt = x; op = op; group = group; ep = ep; first = first; tracker = tracker; read = r; snapshot = snapshot }) from h.last new left h.ends
-one_answer t opening m reading from (message.Commit x ep first tracker ws) old new left h =
-    commit_says t opening m reading (record { attempt = x; ep = ep; first = first; tracker = tracker; writes = ws }) from h.last new left h.ends
-one_answer t opening m reading from l old new left h = absurd h
+ack_lines : (m : TargetMemory) (s : ack.AckStage) (k : Kept) (left : TargetMemory × Did) → ack.AckEnds m s k left → left.1.lines ≡ []
+ack_lines m s k left (ack.IsFollowed j z l is) = ap (λ x. x.1.lines) is
+
+mark_lines : (m : TargetMemory) (from : ActorId) (inc : ℕ) (marks s : List (AttemptId × Bool)) (k : Kept) (left : TargetMemory × Did) → mark.MarkEnds m from inc marks s k left → left.1.lines ≡ []
+mark_lines m from inc marks s k left (mark.AllMarked j l is) = ap (λ x. x.1.lines) is
+
+marked_lines : (t : TargetPlan) (m : TargetMemory) (member inc : ℕ) (ids s : List AttemptId) (k : Kept) (left : TargetMemory × Did) → ack.MarkedEnds t m member inc ids s k left → left.1.lines ≡ []
+marked_lines t m member inc ids s k left (ack.AllConfirmed j l is) = ap (λ x. x.1.lines) is
+
+query_lines : (t : TargetPlan) (m : TargetMemory) (from : ActorId) (a : AttemptId) (ask : Option AttemptId) (s : verdict.QueryStage) (k : Kept) (left : TargetMemory × Did) → verdict.QueryEnds t m from a ask s k left → left.1.lines ≡ []
+query_lines t m from a ask s k left (verdict.IsTold j l is) = ap (λ x. x.1.lines) is
+
+verdict_lines : (s : verdict.VerdictStage) (k : Kept) (left : TargetMemory × Did) → verdict.VerdictEnds s k left → left.1.lines ≡ []
+verdict_lines s k left (verdict.AllTried j n posts l is) = ap (λ x. x.1.lines) is
+
+pub hears_lines : (t : TargetPlan) (opening : Epoch × FloorWhy) (m : TargetMemory) (reading : ℕ) (from : ActorId) (l : Message) (old new : Kept) (left : TargetMemory × Did) → Hears t opening m reading from l old new left → left.1.lines ≡ []
+hears_lines t opening m reading from (message.Fetch x op group ep first tracker r snapshot) old new left h = fetch_lines t m reading (fetch_request x op group ep first tracker r snapshot) from h.last new left h.ends
+hears_lines t opening m reading from (message.Commit x ep first tracker ws) old new left h = commit_lines t opening m reading (commit_request x ep first tracker ws) from h.last new left h.ends
+hears_lines t opening m reading from (message.Prepare e first ws inc) old new left h = prepare_lines t opening m (prepare_request e first ws inc) h.last new left h.ends
+hears_lines t opening m reading from (message.Ack x inc refusal) old new left h = ack_lines m h.last new left h.ends
+hears_lines t opening m reading from (message.Mark inc marks) old new left h = mark_lines m from inc marks h.last new left h.ends
+hears_lines t opening m reading from (message.Marked inc ids) old new left h = marked_lines t m from.number inc ids h.last new left h.ends
+hears_lines t opening m reading from (message.Query x ask) old new left h = query_lines t m from x ask h.last new left h.ends
+hears_lines t opening m reading from (message.Verdict x ask inc v) old new left h = verdict_lines h.last new left h.ends
+hears_lines t opening m reading from l old new left h = absurd h
+
+idle_ends_lines : (settling : Bool) (t : TargetPlan) (m : TargetMemory) (s : List AttemptId) (k : Kept) (left : TargetMemory × Did) → IdleEnds settling t m s k left → left.1.lines ≡ []
+idle_ends_lines settling t m s k left (AllSettled j l is) = ap (λ x. x.1.lines) is
+
+pub idles_lines : (settling : Bool) (t : TargetPlan) (m : TargetMemory) (old new : Kept) (left : TargetMemory × Did) → IdlesWhole settling t m old new left → left.1.lines ≡ []
+idles_lines settling t m old new left h = idle_ends_lines settling t m h.last new left h.ends
 
 -- ---- read back
 
-last_told : (rest : List Letter) (l : Letter) → posts_told (rest ++ l ∷ []) ≡ post_of l ∷ []
-last_told [] l = refl
-last_told (x ∷ []) l = refl
-last_told (x ∷ y ∷ rest) l = last_told (y ∷ rest) l
+pub taken_length : (letters rest : List Letter) (l : Letter) → Takes letters l rest → length letters - 1 ≡ length rest
+taken_length letters rest l k = ap (λ xs. length xs - 1) k.among ∙ shorter k.before k.after l ∙ ap length (sym k.left)
+  where
+    longer : (xs ys : List Letter) (z : Letter) → length (xs ++ z ∷ ys) ≡ length (xs ++ ys) + 1
+    longer [] ys z = omega arith
+    longer (x ∷ xs) ys z = let more = longer xs ys z in omega (arith, more)
+
+    shorter : (xs ys : List Letter) (z : Letter) → length (xs ++ z ∷ ys) - 1 ≡ length (xs ++ ys)
+    shorter xs ys z = let more = longer xs ys z in omega (arith, more)
+
+behind_all : (rest others : List Letter) → drop (length rest) (rest ++ others) ≡ others
+behind_all [] others = refl
+behind_all (x ∷ rest) others = behind_all rest others
+
+posts_back : (a : ActorId) (posts : List Post) → map post_of (letters_of a posts) ≡ posts
+posts_back a [] = refl
+posts_back a (p ∷ posts) = ap (λ ps. p ∷ ps) (posts_back a posts)
 
 issue_behind : (xs : List (AttemptId × Epoch)) (o : Option (AttemptId × Epoch)) → slice_get (xs ++ listed o) (length xs) ≡ o
 issue_behind [] None = refl
@@ -66,21 +109,9 @@ issue_behind (x ∷ xs) o = issue_behind xs o
 abbrev did_of : List Post → List Line → Option (AttemptId × Epoch) → Did
 did_of posts lines issued = record { posts = posts; lines = lines; issued = issued }
 
-pub did_is : (w v : World) (a : ActorId) (did : Did) (rest : List Letter) → SaysOne did → v.messages ≡ rest ++ letters_of a did.posts → v.issued ≡ w.issued ++ listed did.issued → did_told w v ≡ did
-did_is w v a did rest one messages issued =
-    let posts : posts_told v.messages ≡ did.posts =
-    ap posts_told (messages ∙ ap (λ ps. rest ++ letters_of a ps) one.posts) ∙ last_told rest (letter_of a one.post) ∙ sym one.posts in
+pub did_is : (w v : World) (a : ActorId) (did : Did) (rest : List Letter) (kept : ℕ) → did.lines ≡ [] → kept ≡ length rest → v.messages ≡ rest ++ letters_of a did.posts → v.issued ≡ w.issued ++ listed did.issued → did_told kept w v ≡ did
+did_is w v a did rest kept lines many messages issued =
+    let posts : map post_of (drop kept v.messages) ≡ did.posts =
+    ap (λ n. map post_of (drop n v.messages)) many ∙ ap (λ xs. map post_of (drop (length rest) xs)) messages ∙ ap (map post_of) (behind_all rest (letters_of a did.posts)) ∙ posts_back a did.posts in
     let issue : slice_get v.issued (length w.issued) ≡ did.issued = ap (λ xs. slice_get xs (length w.issued)) issued ∙ issue_behind w.issued did.issued in
-    ap (λ ps. did_of ps [] (slice_get v.issued (length w.issued))) posts ∙ ap (λ o. did_of did.posts [] o) issue ∙ ap (λ ls. did_of did.posts ls did.issued) (sym one.lines)
-
--- the last of some letters
-told_at : (ls : List Letter) (j : ℕ) (l : Letter) → j + 1 ≡ length ls → l ≡ get_or ls j l → posts_told ls ≡ post_of l ∷ []
-told_at [] j l end is = let bad : ⊥ = omega (arith, end) in absurd bad
-told_at (x ∷ []) zero l end is = ap (λ y. post_of y ∷ []) (sym is)
-told_at (x ∷ []) (suc j) l end is = let bad : ⊥ = omega (arith, end) in absurd bad
-told_at (x ∷ y ∷ ls) zero l end is = let bad : ⊥ = omega (arith, end) in absurd bad
-told_at (x ∷ y ∷ ls) (suc j) l end is = told_at (y ∷ ls) j l (omega (arith, end)) is
-
-pub told_pushed : (letters : List Letter) (new old : List Post) (l : Letter) (p : Post) → new ≡ old ++ p ∷ [] → old ≡ [] → p ≡ post_of l → 0 < length letters → l ≡ get_or letters (length letters - 1) l → new ≡ posts_told letters
-told_pushed letters new old l p made none post some is =
-    made ∙ ap (λ xs. xs ++ p ∷ []) none ∙ ap (λ x. x ∷ []) post ∙ sym (told_at letters (length letters - 1) l (omega (arith, some)) is)
+    ap (λ ps. did_of ps [] (slice_get v.issued (length w.issued))) posts ∙ ap (λ o. did_of did.posts [] o) issue ∙ ap (λ ls. did_of did.posts ls did.issued) (sym lines)

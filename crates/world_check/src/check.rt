@@ -46,7 +46,7 @@ fn leads_to(alloc: Global, events: &Events, before: &World, event: &Event) -> Re
             hears(alloc, events, before, event.actor, letter, &event.after)
         }
         (EventKind::GoOn, None) => { client_goes(alloc, events, before, event.actor, &event.after) }
-        (EventKind::Idle, None) => target_idles(alloc, before, event.actor, &event.after),
+        (EventKind::Idle, None) => target_idles(alloc, events, before, event.actor, &event.after),
         _ => Ok(false),
     }
 }

@@ -1,7 +1,6 @@
 // What followed from a target's turn, as the world after it tells.
-ghost use Rattle.std.specs.Prelude.{◌≡◌, length, slice_get, IfOk};
-ghost use Rattle.std.specs.Option.{option_copied};
-ghost use Rattle.world_check.specs.Told.{did_told, post_of, posts_told};
+ghost use Rattle.std.specs.Prelude.{◌≡◌, drop, length, map, slice_get, IfOk};
+ghost use Rattle.world_check.specs.Told.{did_told, post_of};
 
 use daos_base::epoch::Epoch;
 use daos_base::id::AttemptId;
@@ -22,15 +21,24 @@ fn post_of(letter: &Letter) -> Result<Post, Memory>
     })
 }
 
-// The last letter as what was sent.
-fn posts_told(alloc: Global, letters: &[Letter]) -> Result<Posts, Memory>
-    ensures { IfOk result (λ posts. posts ≡ posts_told letters.now) }
+// The letters behind so many.
+fn behind(letters: &[Letter], kept: usize) -> &[Letter]
+    ensures { result.now ≡ drop kept letters.now }
+{
+    if kept >= letters.len() {
+        return &letters[letters.len()..];
+    }
+    &letters[kept..]
+}
+
+// Letters as what was sent.
+fn posts_of(alloc: Global, letters: &[Letter]) -> Result<Posts, Memory>
+    ensures { IfOk result (λ posts. posts ≡ map post_of letters.now) }
 {
     let mut posts = Items::new(alloc);
-    if letters.is_empty() {
-        return Ok(posts);
+    for letter in letters {
+        posts.push(post_of(letter)?)?;
     }
-    posts.push(post_of(&letters[letters.len() - 1])?)?;
     Ok(posts)
 }
 
@@ -41,13 +49,13 @@ fn issue_told(before: &World, after: &World) -> Option<(AttemptId, Epoch)>
     after.issued.as_slice().get(before.issued.len()).copied()
 }
 
-/// What followed from a turn in which a target answered, as the world after it tells: the last letter,
-/// and the first epoch behind those that were issued before.
-pub fn did_told(alloc: Global, before: &World, after: &World) -> Result<Did, Memory>
-    ensures { IfOk result (λ did. did ≡ did_told before.now after.now) }
+/// What followed from a target's turn, as the world after it tells: the letters behind so many, and the
+/// first epoch behind those that were issued before.
+pub fn did_told(alloc: Global, before: &World, after: &World, kept: usize) -> Result<Did, Memory>
+    ensures { IfOk result (λ did. did ≡ did_told kept before.now after.now) }
 {
     Ok(Did {
-        posts: posts_told(alloc, after.messages.as_slice())?,
+        posts: posts_of(alloc, behind(after.messages.as_slice(), kept))?,
         lines: Items::new(alloc),
         issued: issue_told(before, after),
     })

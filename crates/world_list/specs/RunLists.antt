@@ -1,5 +1,5 @@
 -- Which lists of events are runs.
-use Rattle.std.specs.Prelude.{◌≡◌, ◌⊎◌, List, [], ◌∷◌, Option, Some, None}
+use Rattle.std.specs.Prelude.{◌≡◌, ◌<◌, ◌⊎◌, List, [], ◌∷◌, Option, Some, None}
 use Rattle.daos_messages.specs.declared.actor.ActorId.{ActorId}
 use Rattle.world_base.specs.declared.letter.Letter.{Letter}
 use Rattle.world_base.specs.declared.world.World.{World}
@@ -25,18 +25,20 @@ pub record ClientHearsAs (r : Rules) (w : World) (a : ActorId) (l : Letter) (v :
   pub by : a ≡ client event.n
   pub letter : l ≡ event.l
 
--- A target hears this letter, which is one that it can hear: in a run of one target from its beginning every letter is that
--- goes to it.
+-- One of the script's targets hears this letter, which is one that it can hear: in a run from its beginning every letter is that goes
+-- to it.
 pub record TargetHearsAs (r : Rules) (w : World) (a : ActorId) (l : Letter) (v : World) : Type 0 where
   pub event : TargetHears r w v
   pub by : a ≡ target event.t
   pub letter : l ≡ event.l
-  pub form : CanHear (target_plan r event.t) event.s.durable l.message
+  pub placed : event.t < r.script.targets
+  pub form : CanHear (target_plan r event.t) event.s.durable event.s.memory l.from l.message
 
--- a target does its idle work
+-- one of them does its idle work
 pub record IdlesAs (r : Rules) (w : World) (a : ActorId) (v : World) : Type 0 where
   pub event : TargetIdles r w v
   pub by : a ≡ target event.t
+  pub placed : event.t < r.script.targets
 
 -- From a world to the one after an event. A letter is heard exactly in a turn that hears. Turns that are cut, openings and
 -- targets given up come with stops: so far none of these is an event of a run. The numbers of restarts and aggregations

@@ -1,5 +1,7 @@
 -- Every run from its beginning is a list of events.
-use Rattle.std.specs.Prelude.{ℕ, ◌≡◌, ◌≤◌, ◌<◌, ◌++◌, All, count_by, List, [], ◌∷◌, length, slice_get, Option, Some, None, refl}
+use Rattle.std.specs.Prelude.{ℕ, ◌≡◌, ◌≤◌, ◌<◌, ◌++◌, ◌==◌, All, Bool, true, false, count_by, is_none, is_some, List, [], ◌∷◌, length, slice_get, Option, Some, None, refl, if◌then◌else◌}
+use Rattle.std.specs.List.{list_all}
+use Rattle.std.proofs.lemmas.Bool.Decides.{nat_tests}
 use Rattle.std.specs.Option.{option_map}
 use Rattle.std.proofs.Common.{inl, inr, sym, ◌∙◌, ap, subst, arith}
 use Rattle.std.proofs.lemmas.List.Elements.{All-nil}
@@ -8,19 +10,34 @@ use Rattle.client_core.proofs.Plans.{first_place, plan_fits}
 use Rattle.client_core.specs.Clients.{CommandFits, IsInPlace, PlanFits}
 use Rattle.daos_base.specs.declared.script.Command.{Command}
 use Rattle.daos_base.specs.Scripts.{is_numbered}
+use Rattle.daos_base.specs.declared.entry.Entry.{Entry}
+use Rattle.daos_base.specs.declared.id.AttemptId.{AttemptId}
+use Rattle.daos_laws.specs.Members.{Has}
+use Rattle.daos_messages.specs.declared.actor.ActorId.{ActorId}
 use Rattle.daos_messages.specs.declared.message.Message.{Message}
 use Rattle.daos_messages.specs.declared.message.Message.TheVariants as message
 use Rattle.daos_model.specs.declared.durable.Durable.{Durable}
+use Rattle.daos_model.specs.BoolLaws.{both}
+use Rattle.daos_model.specs.Durables.{entry_of}
 use Rattle.daos_model.specs.Opening.{Opening}
 use Rattle.replay_base.specs.Heard as replay
+use Rattle.replay_base.specs.Heard.{is_led_here}
 use Rattle.world_base.specs.declared.client.ClientState.{ClientState}
+use Rattle.world_base.specs.declared.target.TargetMemory.{TargetMemory}
+use Rattle.world_base.specs.declared.target.TargetPlan.{TargetPlan}
 use Rattle.world_base.specs.declared.target.TargetState.{TargetState}
 use Rattle.world_base.specs.declared.world.World.{World}
 use Rattle.world_base.specs.ClientTurns.{plan_of}
 use Rattle.world_begins.specs.BeginLaws.{get-map}
-use Rattle.world_begins.specs.Begins.{IsAlone, IsBegun, first_client, first_tracker}
+use Rattle.world_begins.specs.Begins.{IsBegun, IsSimple, first_client, first_tracker, held_at}
 use Rattle.world_begins.specs.Hearable.{CanHear}
-use Rattle.world_begins.specs.Whole.{Whole, runs-can-be-heard, runs-stay-whole}
+use Rattle.world_attempts.specs.Attempts.{entry_in, is_known_at, is_known_in}
+use Rattle.world_attempts.specs.History.{History}
+use Rattle.world_attempts.specs.Stored.{among-has}
+use Rattle.world_begins.specs.Whole.{Whole, held-before, runs-can-be-heard, runs-stay-whole}
+use Rattle.world_core.specs.Asking.{requests-are-right}
+use Rattle.world_reads.specs.Given.{IsParkedRight}
+use Rattle.world_turns.specs.Roles.{other_leader, other_leader_of}
 use Rattle.world_events.specs.Events.{Begins, ByClient, ByTarget, Event, Goes, Rules, Run, ToClient, ToTarget, client_plan, commands_or_none, target_plan}
 use Rattle.world_events.specs.Letters.{client, target}
 use Rattle.world_list.specs.Fitting.{AreInPlace, PlansFit, StartsWell}
@@ -40,9 +57,9 @@ pub record IsListed (r : Rules) (w v : World) : Type 0 where
   pub last : last_world events.start events.list ≡ v
   pub runs : IsRunList events
 
--- every run of one target from its beginning, without snapshots and aggregation, has such a list
+-- every run from its beginning, of any number of targets, without snapshots and aggregation, has such a list
 abbrev pub RunsHaveLists : Type 0
-RunsHaveLists = (r : Rules) (o : Opening) (w v : World) → IsAlone r → IsBegun r o w → Run r w v → IsListed r w v
+RunsHaveLists = (r : Rules) (o : Opening) (w v : World) → IsSimple r → IsBegun r o w → Run r w v → IsListed r w v
 
 -- ---- lists
 
@@ -64,10 +81,34 @@ run-more r w (x ∷ es) e run leads = (run.0, run-more r x.after es e run.1 lead
 
 -- ---- what a target hears
 
-can-hear : (r : Rules) (t : ℕ) (d : Durable) (m : Message) → replay.IsLone (target_plan r t) → replay.CanRead (target_plan r t) d → CanHear d m → replay.CanHear (target_plan r t) d m
-can-hear r t d (message.Fetch x op group ep first tracker q snapshot) lone read k = read
-can-hear r t d (message.Commit x ep first tracker ws) lone read k = record { lone = lone; writes = record { form = k.form; some = k.some; fit = k.fit } }
-can-hear r t d m lone read k = absurd k
+all-of : {T : Type 0} (t : T → Bool) (xs : List T) → ((x : T) → Has x xs → t x ≡ true) → list_all t xs ≡ true
+all-of t [] h = refl
+all-of t (x ∷ xs) h = both (t x) (list_all t xs) (h x (inl refl)) (all-of t xs (λ y i. h y (inr i)))
+
+can-hear : (r : Rules) (t : ℕ) (d : Durable) (m : TargetMemory) (from : ActorId) (q : Message) → r.script.targets ≤ 64 → replay.CanTryAgain (target_plan r t) d m → CanHear r t d from q → replay.CanHear (target_plan r t) d m from q
+can-hear r t d m from (message.Fetch x op group ep first tracker q snapshot) few can k = can.read
+can-hear r t d m from (message.Commit x ep first tracker ws) few can k = record { few = few; form = k.store.form; fit = k.fit }
+can-hear r t d m from (message.Prepare e first ws inc) few can k = k.store.form
+can-hear r t d m from (message.Ack x inc refusal) few can k = k
+can-hear r t d m from (message.Mark inc marks) few can k = tt
+can-hear r t d m from (message.Marked inc ids) few can k = k
+can-hear r t d m from (message.Query x ask) few can k = tt
+can-hear r t d m from (message.Verdict x ask inc v) few can k = can
+can-hear r t d m from q few can k = absurd k
+
+-- a Fetch that waits goes with its epoch
+parked-timed : (r : Rules) (o : Opening) (w : World) (t : ℕ) (q : Message) → IsParkedRight r o w t q → replay.is_timed q ≡ true
+parked-timed r o w t (message.Fetch x op group ep first tracker read snapshot) k = ap is_some k.has
+parked-timed r o w t q k = absurd k
+
+-- a target leads what it decided
+led-here : (p : TargetPlan) (d : Durable) (x : AttemptId) (e : Entry) → entry_of d x ≡ Some e → e.leader ≡ p.me → replay.is_led_here p d x ≡ true
+unfolding is_led_here other_leader
+led-here p d x e found led = ap (λ z. is_none (other_leader_of p.me z)) found ∙ by (e.leader == p.me) (let same : (e.leader == p.me) ≡ true = grind (arith, nat_tests) in same)
+  where
+    by : (b : Bool) → b ≡ true → is_none (if b then None else Some e.leader) ≡ true
+    by true is = refl
+    by false is = let bad : ⊥ = cc in absurd bad
 
 -- ---- the beginning
 
@@ -77,48 +118,67 @@ fits-none r n none = record {
   few = subst (λ cs. count_by is_numbered cs ≤ 100000) (sym (ap commands_or_none none)) (omega arith);
 }
 
-fits-some : (r : Rules) (n : ℕ) (list : List Command) → IsAlone r → slice_get r.script.clients n ≡ Some list → PlanFits (client_plan r n)
+fits-some : (r : Rules) (n : ℕ) (list : List Command) → IsSimple r → slice_get r.script.clients n ≡ Some list → PlanFits (client_plan r n)
 fits-some r n list A is = subst (λ cs. PlanFits (plan_of r.script n r.attempts cs)) (sym (ap commands_or_none is)) (plan_fits r.script n r.attempts list A.form is)
 
-plans-fit : (r : Rules) → IsAlone r → PlansFit r
+plans-fit : (r : Rules) → IsSimple r → PlansFit r
 plans-fit r A n = by (slice_get r.script.clients n) refl
   where
     by : (o : Option (List Command)) → slice_get r.script.clients n ≡ o → PlanFits (client_plan r n)
     by None is = fits-none r n is
     by (Some list) is = fits-some r n list A is
 
-in-place : (r : Rules) (o : Opening) (w : World) → IsAlone r → IsBegun r o w → AreInPlace r w
-in-place r o w A B n c here = by (slice_get r.script.clients n) (sym (get-map (first_client r.script B.s.durable.snaps o) r.script.clients n) ∙ ap (λ cs. slice_get cs n) (sym B.clients) ∙ here)
+in-place : (r : Rules) (o : Opening) (w : World) → IsSimple r → IsBegun r o w → AreInPlace r w
+in-place r o w A B n c here = by (slice_get r.script.clients n) (sym (get-map (first_client r.script o) r.script.clients n) ∙ ap (λ cs. slice_get cs n) (sym B.clients) ∙ here)
   where
-    by : (list : Option (List Command)) → option_map (first_client r.script B.s.durable.snaps o) list ≡ Some c → IsInPlace (client_plan r n) c
+    by : (list : Option (List Command)) → option_map (first_client r.script o) list ≡ Some c → IsInPlace (client_plan r n) c
     by None e = let no : ⊥ = cc in absurd no
     by (Some list) e =
-        let same : first_client r.script B.s.durable.snaps o list ≡ c = cc in
-        subst (IsInPlace (client_plan r n)) same (first_place (client_plan r n) (first_tracker o) (first_client r.script B.s.durable.snaps o list).known (plans-fit r A n))
+        let same : first_client r.script o list ≡ c = cc in
+        subst (IsInPlace (client_plan r n)) same (first_place (client_plan r n) (first_tracker o) (first_client r.script o list).known (plans-fit r A n))
 
 -- ---- the law
 
-module _ (r : Rules) (o : Opening) (w : World) (A : IsAlone r) (B : IsBegun r o w) where
-  -- what holds at each moment of the run: the only target is number 0, and its versions are in form
+module _ (r : Rules) (o : Opening) (w : World) (A : IsSimple r) (B : IsBegun r o w) where
+  -- what holds at each moment of the run
   module _ (u : World) (run : Run r w u) where
-    whole : Whole r o (λ t. B.s.durable.versions) (runs-stay-whole r o w u A B run).0 u
+    abbrev history : History
+    history = (runs-stay-whole r o w u A B run).0
+
+    whole : Whole r o (held_at w) history u
     whole = (runs-stay-whole r o w u A B run).1
 
-    lone : (t : ℕ) (s : TargetState) → slice_get u.targets t ≡ Some s → replay.IsLone (target_plan r t)
-    lone t s here = record {
-      me = let within : t < length u.targets = slice_get_within u.targets t s here in let one : length u.targets ≡ 1 = whole.all.facts.one.alone in omega (arith, within, one);
-      targets = A.one;
+    placed : (t : ℕ) (s : TargetState) → slice_get u.targets t ≡ Some s → t < r.script.targets
+    placed t s here = let within : t < length u.targets = slice_get_within u.targets t s here in let many : length u.targets ≡ r.script.targets = whole.all.facts.addressed.targets in omega (arith, within, many)
+
+    decided-led : (t : ℕ) (s : TargetState) → slice_get u.targets t ≡ Some s → (x : AttemptId) → Has x s.memory.leader.decided → replay.is_led_here (target_plan r t) s.durable x ≡ true
+    decided-led t s here x i =
+        let known : is_known_at u t x ≡ true = ap (λ z. is_known_in z x) here ∙ among-has x s.memory.leader.decided i in
+        let held = ((whole.all.facts.attempts.each x).rows.unsettled t known).here in
+        let its = (whole.all.facts.attempts.each x).entries.one t held.entry held.found in
+        led-here (target_plan r t) s.durable x held.entry (sym (ap (λ z. entry_in z x) here) ∙ held.found) (its.leader ∙ sym held.leads)
+
+    can-read : (t : ℕ) (s : TargetState) → slice_get u.targets t ≡ Some s → replay.CanRead (target_plan r t) s.durable s.memory.leader.decided
+    can-read t s here = record {
+      versions = (whole.all.versions.stand t s here).form.writes;
+      led = all-of (replay.is_led_here (target_plan r t) s.durable) s.memory.leader.decided (decided-led t s here);
+    }
+
+    can-try : (t : ℕ) (s : TargetState) → slice_get u.targets t ≡ Some s → replay.CanTryAgain (target_plan r t) s.durable s.memory
+    can-try t s here = record {
+      read = can-read t s here;
+      timed = all-of replay.is_timed_ask s.memory.member.parked (λ p i. parked-timed r o u t p.ask ((requests-are-right r o (held_at w) history u whole.all.facts (held-before r o w B)).waiting t s p here (whole.running t s here) i));
     }
 
     leads : (x : World) (e : Event r u x) → LeadsTo r u (listed_event r u x e).kind (listed_event r u x e).actor (listed_event r u x e).heard x
     leads x (ByClient g) = record { event = g; by = refl }
     leads x (ToClient g) = inl (record { event = g; by = refl; letter = refl })
-    leads x (ByTarget g) = record { event = g; by = refl }
-    leads x (ToTarget g) = inr (record { event = g; by = refl; letter = refl; form = form })
+    leads x (ByTarget g) = record { event = g; by = refl; placed = placed g.t g.s g.here }
+    leads x (ToTarget g) = inr (record { event = g; by = refl; letter = refl; placed = placed g.t g.s g.here; form = form })
       where
-        form : replay.CanHear (target_plan r g.t) g.s.durable g.l.message
+        form : replay.CanHear (target_plan r g.t) g.s.durable g.s.memory g.l.from g.l.message
         form =
-            can-hear r g.t g.s.durable g.l.message (lone g.t g.s g.here) (record { lone = lone g.t g.s g.here; versions = (whole.all.versions.stand g.t g.s g.here).form.writes })
+            can-hear r g.t g.s.durable g.s.memory g.l.from g.l.message A.few_targets (can-try g.t g.s g.here)
             (runs-can-be-heard r o w u g.l g.t g.s A B run (taken-is-among u.messages g.l g.rest g.takes) g.to_it g.here)
 
   abbrev list_of : (v : World) → Run r w v → List listed.Event

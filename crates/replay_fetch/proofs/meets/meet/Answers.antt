@@ -1,7 +1,7 @@
 use Rattle.std.proofs.Common.{◌∙◌, ap, sym}
 use Rattle.std.specs.Option.{option_copied}
 use Rattle.replay_fetch.specs.Met.{IsRefused}
-use Rattle.replay_fetch.proofs.Meeting.{answer_met, unresolved_met}
+use Rattle.replay_fetch.proofs.Meeting.{answer_met, attempt_met}
 use Rattle.replay_fetch.proofs.meets.meet.Goals as goal
 
 pub returns-in-Some : goal.returns-in-Some
@@ -14,6 +14,6 @@ returns-in_default-first_blocking c =
 
 pub returns : goal.returns
 returns c =
-    unresolved_met c.args.plan c.args.request.now c.args.epoch c.args.durable.now c.args.decided.now c.path-path.result.now c.as_slice-rows.result.now c.in_ok-cause.field-0 c.is_past.result (option_copied c.first_blocking.result)
-    c.path-path.ensures c.as_slice-rows.ensures c.in_ok-cause.ensures c.in_default.is c.is_past.ensures c.if-is_past.false c.first_blocking.ensures c.in-Some-first_blocking.version.now c.is_among.result c.restarts-2.result
-    (ap option_copied c.in-Some-first_blocking.is) c.is_among.ensures c.if-is_among.false c.restarts-2.ensures
+    attempt_met c.args.plan c.args.request.now c.args.epoch c.args.durable.now c.args.decided.now c.path-path.result.now c.as_slice-rows.result.now c.in_ok-cause.field-0 c.is_past.result (option_copied c.first_blocking.result)
+    c.path-path.ensures c.as_slice-rows.ensures c.in_ok-cause.ensures c.in_default.is c.is_past.ensures c.if-is_past.false c.first_blocking.ensures c.in-Some-first_blocking.version.now c.meet_attempt.result
+    (ap option_copied c.in-Some-first_blocking.is) c.meet_attempt.ensures

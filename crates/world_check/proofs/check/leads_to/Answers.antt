@@ -13,8 +13,8 @@ returns-in-GoOn-None-clause-turn c =
 
 pub returns-in-Idle-None-clause-turn : goal.returns-in-Idle-None-clause-turn
 returns-in-Idle-None-clause-turn c =
-    if_ok _ _ c.target_idles.result (λ test same. led_idles (rules_of c.args.events.now) c.args.before.now c.args.event.now test c.in-Idle-None.is-0 c.in-Idle-None.is-1 same) (c.target_idles.ensures (rules_of c.args.events.now))
+    if_ok _ _ c.target_idles.result (λ test same. led_idles (rules_of c.args.events.now) c.args.before.now c.args.event.now test c.in-Idle-None.is-0 c.in-Idle-None.is-1 same) c.target_idles.ensures
 
 pub returns-in-Idle-None-clause-places : goal.returns-in-Idle-None-clause-places
 returns-in-Idle-None-clause-places c =
-    if_ok _ _ c.target_idles.result (λ test same h. idle_places (rules_of c.args.events.now) c.args.before.now c.args.event.now.after c.args.event.now.actor c.requires.places (same.0 h)) (c.target_idles.ensures (rules_of c.args.events.now))
+    if_ok _ _ c.target_idles.result (λ test same h. idle_places (rules_of c.args.events.now) c.args.before.now c.args.event.now.after c.args.event.now.actor c.requires.places (same.0 h)) c.target_idles.ensures

@@ -1,10 +1,13 @@
+use Rattle.std.proofs.Common.{subst}
+use Rattle.std.specs.Bool.{Decides}
+use Rattle.replay_base.specs.Heard.{CanCommit}
 use Rattle.std.proofs.lemmas.Bool.Decides.{not_from_Decides}
 use Rattle.replay_base.proofs.Starts.{if_ok}
 use Rattle.world_check.proofs.Hearing.{both_hold, first_fails}
 use Rattle.world_check.proofs.hears.hears_commit.Goals as goal
 
-pub returns-then-is_asked : goal.returns-then-is_asked
-returns-then-is_asked c = if_ok _ _ c.commits_so.result (λ test same. both_hold test (c.is_asked.ensures.0 c.if-is_asked.true) same) c.commits_so.ensures
+pub returns-then-can_commit : goal.returns-then-can_commit
+returns-then-can_commit c = if_ok _ _ c.commits_so.result (λ test same. both_hold test ((subst (λ xs. Decides c.can_commit.result (CanCommit c.args.plan xs)) c.as_slice.ensures c.can_commit.ensures).0 c.if-can_commit.true) same) c.commits_so.ensures
 
-pub returns-else-is_asked : goal.returns-else-is_asked
-returns-else-is_asked c = first_fails (not_from_Decides c.is_asked.result c.is_asked.ensures c.if-is_asked.false)
+pub returns-else-can_commit : goal.returns-else-can_commit
+returns-else-can_commit c = first_fails (not_from_Decides c.can_commit.result (subst (λ xs. Decides c.can_commit.result (CanCommit c.args.plan xs)) c.as_slice.ensures c.can_commit.ensures) c.if-can_commit.false)

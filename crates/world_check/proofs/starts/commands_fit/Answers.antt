@@ -1,7 +1,7 @@
 use Rattle.client_core.specs.Clients.{CommandFits}
 use Rattle.replay_base.proofs.Starts.{all_so, none_so}
-use Rattle.target_core.proofs.Writing.{all_more, all_taken}
-use Rattle.replay_commit.proofs.Reading.{not_all}
+use Rattle.replay_writes.proofs.Writing.{all_more, all_taken}
+use Rattle.replay_writes.proofs.Reading.{not_all}
 use Rattle.world_check.proofs.starts.commands_fit.Goals as goal
 
 pub returns-then-not-command_fits : goal.returns-then-not-command_fits

@@ -1,6 +1,6 @@
 use Rattle.std.proofs.Common.{subst}
 use Rattle.client_core.specs.Clients.{ObjFits, OpFits}
-use Rattle.target_core.proofs.Writing.{all_more, all_taken}
+use Rattle.replay_writes.proofs.Writing.{all_more, all_taken}
 use Rattle.world_check.proofs.Starting.{ops_decide}
 use Rattle.world_check.proofs.starts.ops_fit.Goals as goal
 

@@ -1,6 +1,0 @@
-use Rattle.std.proofs.Common.{◌≡◌, drop}
-use Rattle.world_turns.specs.Commits.{first_floor}
-use Rattle.replay_commit.proofs.checks.first_floor.Given as goal
-
-abbrev pub invariant-loop-write : goal.invariant-loop-write
-invariant-loop-write l = first_floor l.plan l.opening l.epoch l.durable l.writes ≡ first_floor l.plan l.opening l.epoch l.durable (drop l.write-index l.writes)

@@ -1,6 +1,0 @@
-use Rattle.std.proofs.Common.{◌≡◌, drop}
-use Rattle.world_turns.specs.Commits.{first_later}
-use Rattle.replay_commit.proofs.checks.first_later.Given as goal
-
-abbrev pub invariant-loop-write : goal.invariant-loop-write
-invariant-loop-write l = first_later l.plan l.first l.epoch l.durable l.writes ≡ first_later l.plan l.first l.epoch l.durable (drop l.write-index l.writes)

@@ -1,6 +1,0 @@
-use Rattle.std.proofs.Common.{All, take}
-use Rattle.replay_commit.specs.Committed.{IsOne}
-use Rattle.replay_commit.proofs.forms.are_ones.Given as goal
-
-abbrev pub invariant-loop-write : goal.invariant-loop-write
-invariant-loop-write l = All IsOne (take l.write-index l.writes)

@@ -1,5 +1,0 @@
-use Rattle.replay_commit.proofs.Reading.{RisesTo}
-use Rattle.replay_commit.proofs.forms.are_rising.Given as goal
-
-abbrev pub invariant-loop-i : goal.invariant-loop-i
-invariant-loop-i l = RisesTo l.writes l.i

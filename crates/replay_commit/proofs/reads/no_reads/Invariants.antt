@@ -1,6 +1,0 @@
-use Rattle.std.proofs.Common.{take}
-use Rattle.world_turns.specs.Commits.{NoReads}
-use Rattle.replay_commit.proofs.reads.no_reads.Given as goal
-
-abbrev pub invariant-loop-write : goal.invariant-loop-write
-invariant-loop-write l = NoReads l.epoch l.stamps (take l.write-index l.writes)

@@ -1,0 +1,2 @@
+-- What a target leaves that hears a Verdict.
+pub mod Tried

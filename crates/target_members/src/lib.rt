@@ -1,0 +1,4 @@
+// The members of an attempt, by its writes.
+#![tactic(auto)]
+
+pub mod members;

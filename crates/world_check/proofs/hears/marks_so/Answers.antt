@@ -1,0 +1,7 @@
+use Rattle.std.proofs.Common.{Some}
+use Rattle.daos_messages.specs.declared.message.Message.TheVariants as message
+use Rattle.world_check.proofs.Hearing.{made_heard}
+use Rattle.world_check.proofs.hears.marks_so.Goals as goal
+
+pub returns : goal.returns
+returns c = made_heard c.args.plan c.args.from (message.Mark c.args.inc c.args.marks.now) c.args.before.now c.args.after.now c.args.did.now (Some c.in_ok-left.left) c.is_left_if.result tt c.in_ok-left.ensures c.is_left_if.ensures
