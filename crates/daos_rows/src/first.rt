@@ -115,7 +115,7 @@ fn ends<R: Threads + Wait + Sync>(
 #[test]
 fn words_that_are_not_run_are_refused(rt: HostRuntime) -> Result<(), Fail> {
     let alloc = rt.alloc();
-    let table: [(&[&str], u32, WordKind, &str); 9] = [
+    let table: [(&[&str], u32, WordKind, &str); 7] = [
         (
             &["run", "--targets", "0"],
             2,
@@ -129,12 +129,11 @@ fn words_that_are_not_run_are_refused(rt: HostRuntime) -> Result<(), Fail> {
             "daos: word 2: Clash",
         ),
         (&[], 0, WordKind::NoJob, "daos: word 0: NoJob"),
-        (&["run"], 1, WordKind::NotYet, "daos: word 1: NotYet"),
         (
-            &["--targets=2", "run"],
-            0,
+            &["run", "--threads"],
+            1,
             WordKind::NotYet,
-            "daos: word 0: NotYet",
+            "daos: word 1: NotYet",
         ),
         (
             &["run", "--attempts", "3", "--threads", "--targets", "2"],
@@ -143,12 +142,11 @@ fn words_that_are_not_run_are_refused(rt: HostRuntime) -> Result<(), Fail> {
             "daos: word 3: NotYet",
         ),
         (
-            &["run", "--order=5", "--size", "8"],
-            4,
+            &["load", "5", "--threads"],
+            2,
             WordKind::NotYet,
-            "daos: word 4: NotYet",
+            "daos: word 2: NotYet",
         ),
-        (&["load", "5"], 2, WordKind::NotYet, "daos: word 2: NotYet"),
         (
             &["run", "--targets", "2", "--"],
             3,

@@ -13,3 +13,5 @@ mod first;
 mod planned;
 #[cfg(test)]
 mod slow;
+#[cfg(test)]
+mod targets;

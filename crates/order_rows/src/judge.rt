@@ -1,4 +1,4 @@
-// Whether a report of one target is legal, as the slow functions of the definitions find it. Scripts
+// Whether a report is legal, as the slow functions of the definitions find it. Scripts
 // whose clients run transactions alone, which put and get single values, without conditions, stops,
 // snapshots and aggregation, skip no turns and tell no trackers.
 ghost use Rattle.std.specs.Prelude.{All, IfOk};
@@ -203,11 +203,11 @@ fn told_by(attempt: &Attempt) -> Option<Epoch> {
     }
 }
 
-// Whether each attempt has an epoch that target 0 issued above all of before, no two have the same, and
-// those of a client rise above all that it was told.
-fn epochs_are_right(attempts: &[&Attempt]) -> bool {
+// Whether each attempt has an epoch that one of so many targets issued above all of before, no two have
+// the same, and those of a client rise above all that it was told.
+fn epochs_are_right(targets: u8, attempts: &[&Attempt]) -> bool {
     let above = |attempt: &Attempt| match attempt.epoch {
-        Some(epoch) => epoch > Epoch(255) && epoch.issuer() == 0,
+        Some(epoch) => epoch > Epoch(255) && epoch.issuer() < targets,
         None => false,
     };
     attempts.iter().all(|attempt| above(attempt))
@@ -251,7 +251,7 @@ pub fn is_legal(alloc: Global, script: &Script, report: &Report, limit: u8) -> R
     Ok(
         all_come_in_turn(script, &attempts, limit)
             && ends
-            && epochs_are_right(&attempts)
+            && epochs_are_right(script.targets, &attempts)
             && answers_are_right(alloc, script, &attempts)?,
     )
 }

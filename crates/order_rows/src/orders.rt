@@ -29,19 +29,17 @@ client
 get o d a
 ";
 
-// The words of a run on one target, with these further ones.
+// The words of a run, with these further ones.
 fn words_of(alloc: Global, options: &[&str]) -> Result<Vec<String>, Fail> {
     let mut words = Vec::new(alloc);
-    for word in ["run", "--targets", "1"] {
-        words.push(String::from_str(alloc, word)?)?;
-    }
+    words.push(String::from_str(alloc, "run")?)?;
     for word in options {
         words.push(String::from_str(alloc, word)?)?;
     }
     Ok(words)
 }
 
-// The report that a script gives on one target with these further words; the text must be there.
+// The report that a script gives with these further words; the text must be there.
 fn report_of<R: Threads + Wait + Sync>(
     rt: &R,
     alloc: Global,
@@ -51,7 +49,7 @@ fn report_of<R: Threads + Wait + Sync>(
     let words = words_of(alloc, options)?;
     let mut source = SureSource::new(alloc, script)?;
     let mut sink = SureSink::new(alloc, 1_000_000)?;
-    let mut rack = SureRack::new(alloc, 1, 4096)?;
+    let mut rack = SureRack::new(alloc, 4, 4096)?;
     let status = run_daos(
         rt,
         alloc,
@@ -72,15 +70,18 @@ fn restarts(report: &Report) -> bool {
     })
 }
 
-// What a run in an order comes to: none where it gives no legal report; else whether an attempt was told
-// to restart.
+// What a run of a text's script on so many targets in an order comes to: none where it gives no legal
+// report; else whether an attempt was told to restart.
 fn judged<R: Threads + Wait + Sync>(
     rt: &R,
     alloc: Global,
+    text: &[u8],
     script: &Script,
+    targets: &str,
     order: &str,
 ) -> Result<Option<bool>, Fail> {
-    let (status, sink) = report_of(rt, alloc, WRITE_BELOW_A_LATER_READ, &["--order", order])?;
+    let options = ["--targets", targets, "--order", order];
+    let (status, sink) = report_of(rt, alloc, text, &options)?;
     let report = read_report(alloc, sink.bytes(), script)?;
     if status != Status::Done || !is_legal(alloc, script, &report, 8)? {
         return Ok(None);
@@ -95,7 +96,14 @@ fn drawn_orders_give_legal_reports(rt: HostRuntime) -> Result<(), Fail> {
     let mut restarted: usize = 0;
     for order in 1..201 {
         let order = format!(in alloc; "{order}")?;
-        let restarts = judged(&rt, alloc, &script, order.as_str())?;
+        let restarts = judged(
+            &rt,
+            alloc,
+            WRITE_BELOW_A_LATER_READ,
+            &script,
+            "1",
+            order.as_str(),
+        )?;
         assert!(rt; restarts.is_some(), "order {order}");
         if restarts == Some(true) {
             restarted = restarted.wrapping_add(1);
@@ -151,7 +159,12 @@ fn fills<R: Threads + Wait + Sync>(
     puts: usize,
 ) -> Result<(usize, bool), Fail> {
     let text = puts_and_a_get(alloc, puts)?;
-    let (_status, sink) = report_of(rt, alloc, text.as_bytes(), &["--size", "2"])?;
+    let (_status, sink) = report_of(
+        rt,
+        alloc,
+        text.as_bytes(),
+        &["--targets", "1", "--size", "2"],
+    )?;
     let script = read_script(alloc, text.as_bytes(), 1)?;
     let report = read_report(alloc, sink.bytes(), &script)?;
     let fit = puts_that_fit(&report, puts).unwrap_or(0);

@@ -27,7 +27,8 @@ use Rattle.world_turns.specs.Commits.{CommitNext, CommitStage}
 use Rattle.world_turns.specs.Reads as read
 use Rattle.world_turns.specs.Reads.{FetchNext, FetchStage}
 use Rattle.world_turns.specs.Turns.{Here, More, Path}
-use Rattle.target_core.specs.Targets.{HearsOrStops, IsHeard}
+use Rattle.target_core.specs.Targets.{HearsOrStops}
+use Rattle.target_parts.specs.Knowing.{IsHeard}
 use Rattle.target_rows.specs.Rows.{IsBlank, IsHere, commit, cont, fetch}
 
 -- ---- a fact that each change of a turn keeps

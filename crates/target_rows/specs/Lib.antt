@@ -1,2 +1,3 @@
 -- What the rows name.
+pub mod Overtaken
 pub mod Rows

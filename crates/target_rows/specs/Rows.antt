@@ -13,6 +13,7 @@ use Rattle.daos_messages.specs.declared.message.Message.TheVariants.{Fetch, Comm
 use Rattle.daos_model.specs.declared.durable.Durable.{Durable}
 use Rattle.daos_model.specs.Durables.{is_enlisted}
 use Rattle.vos_store.specs.Calls.{State}
+use Rattle.world_base.specs.declared.target.TargetPlan.{TargetPlan}
 
 abbrev pub cont : ContId
 cont = record { 0 = 1 }
@@ -20,6 +21,10 @@ cont = record { 0 = 1 }
 -- an akey of the object of class S1 and number 0, under the dkey d
 abbrev pub akey : List ℕ → Path
 akey name = record { cont = cont; obj = Some (record { class = S1; number = 0 }); dkey = Some (100 ∷ []); akey = Some name }
+
+-- the only target
+abbrev pub lone : TargetPlan
+lone = record { me = 0; targets = 1; epsilon = 0 }
 
 -- a read of an akey by an attempt that has no epoch yet
 abbrev pub fetch : AttemptId → List ℕ → Message

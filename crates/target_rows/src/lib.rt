@@ -1,6 +1,7 @@
 // Rows over targets: several turns in a row.
 #![tactic(auto)]
 
+pub mod overtaken;
 pub mod rows;
 pub mod steps;
 #[cfg(test)]

@@ -1,12 +1,12 @@
 // The steps of the rows, over any store and clock.
-ghost use Rattle.std.specs.Prelude.{◌≡◌, IfOk, OnOk, None, false};
+ghost use Rattle.std.specs.Prelude.{◌≡◌, ◌<◌, ◌≤◌, IfOk, OnOk, None, false};
 ghost use Rattle.std.specs.Option.{ForSome};
 ghost use Rattle.daos_base.specs.declared.id.AttemptId.{AttemptId};
 ghost use Rattle.daos_model.specs.Durables.{entry_of, same_attempt};
-ghost use Rattle.target_core.specs.Targets.{IsUnused};
-ghost use Rattle.target_rows.specs.Rows.{IsBlank, IsHere, IsNeverUsed, akey, commit, fetch};
+ghost use Rattle.target_rows.specs.Rows.{IsBlank, IsHere, IsNeverUsed, akey, commit, fetch, lone};
+ghost use Rattle.target_writes.specs.Checks.{IsUnused};
 
-use daos_base::epoch::Epoch;
+use daos_base::epoch::{Epoch, TargetId};
 use daos_base::id::{AttemptId, Class, ContId, ObjId};
 use daos_base::items::{Items, bytes_of};
 use daos_base::key::{Key, KeyNo};
@@ -16,8 +16,8 @@ use daos_messages::actor::ActorId;
 use daos_messages::message::Message;
 use daos_outside::clock::Clock;
 use std::alloc::{AllocError, AllocFailed, Global};
-use target_core::stop::TargetStop;
 use target_core::target::Target;
+use target_parts::stop::TargetStop;
 use thiserror::Error;
 use vos_store::refusal::EnlistNo;
 use vos_store::store::Store;
@@ -105,34 +105,57 @@ fn client_of(by: AttemptId) -> ActorId {
     }
 }
 
-/// A target over a store that was never used, which enlists the container.
-pub fn start<S: Store + Drop, C: Clock + Drop>(
+/// A target of this number among so many, over a store that was never used, which enlists the container.
+pub fn start_at<S: Store + Drop, C: Clock + Drop>(
     alloc: Global,
+    me: TargetId,
+    targets: u8,
     store: S,
     clock: C,
 ) -> Result<Target<S, C>, StepNo>
-    requires { IsNeverUsed (S.state store) (S.durable store) }
+    requires one { me < targets }
+    requires few { targets ≤ 64 }
+    requires made { targets ≤ (S.state store).targets }
+    requires new { IsNeverUsed (S.state store) (S.durable store) }
+    ensures plan { IfOk result (λ t. t.plan ≡ record { me = me; targets = targets; epsilon = 0 }) }
     ensures runs { IfOk result (λ t. (S.state t.store).stopped ≡ false) }
     ensures here { IfOk result (λ t. ForSome (S.durable t.store) IsHere) }
     ensures blank { IfOk result (λ t. ForSome (S.durable t.store) IsBlank) }
 {
     let mut store = store;
     store.enlist(&[ContId(1)])?;
-    match Target::new(alloc, 0, 1, 0, store, clock) {
+    match Target::new(alloc, me, targets, 0, store, clock) {
         Ok(target) => Ok(target),
         Err(_parts) => Err(StepNo::Memory),
     }
 }
 
-/// An attempt reads an akey. Where nothing was written, nothing is after it.
+/// The only target, over a store that was never used, which enlists the container.
+pub fn start<S: Store + Drop, C: Clock + Drop>(
+    alloc: Global,
+    store: S,
+    clock: C,
+) -> Result<Target<S, C>, StepNo>
+    requires { IsNeverUsed (S.state store) (S.durable store) }
+    ensures plan { IfOk result (λ t. t.plan ≡ lone) }
+    ensures runs { IfOk result (λ t. (S.state t.store).stopped ≡ false) }
+    ensures here { IfOk result (λ t. ForSome (S.durable t.store) IsHere) }
+    ensures blank { IfOk result (λ t. ForSome (S.durable t.store) IsBlank) }
+{
+    start_at(alloc, 0, 1, store, clock)
+}
+
+/// An attempt reads an akey of the only target. Where nothing was written, nothing is after it.
 pub fn read<S: Store, C: Clock>(
     alloc: Global,
     target: &mut Target<S, C>,
     by: AttemptId,
     key: &[u8],
 ) -> Result<Did, StepNo>
+    requires plan { target.old.plan ≡ lone }
     requires runs { (S.state target.old.store).stopped ≡ false }
     requires here { ForSome (S.durable target.old.store) IsHere }
+    ensures plan { OnOk result (target.new.plan ≡ lone) }
     ensures runs { OnOk result ((S.state target.new.store).stopped ≡ false) }
     ensures here { OnOk result (ForSome (S.durable target.new.store) IsHere) }
     ensures blank { OnOk result (ForSome (S.durable target.old.store) IsBlank → ForSome (S.durable target.new.store) IsBlank) }
@@ -141,7 +164,7 @@ pub fn read<S: Store, C: Clock>(
     Ok(target.hear(client_of(by), message, None)?)
 }
 
-/// An attempt writes an akey. Other attempts that have no entry have none after it.
+/// An attempt writes an akey of the only target. Other attempts that have no entry have none after it.
 pub fn write<S: Store, C: Clock>(
     alloc: Global,
     target: &mut Target<S, C>,
@@ -149,10 +172,12 @@ pub fn write<S: Store, C: Clock>(
     ep: Option<Epoch>,
     key: &[u8],
 ) -> Result<Did, StepNo>
+    requires plan { target.old.plan ≡ lone }
     requires runs { (S.state target.old.store).stopped ≡ false }
     requires here { ForSome (S.durable target.old.store) IsHere }
     requires absent { ForSome (S.durable target.old.store) (λ d. entry_of d by ≡ None) }
     requires unused { ForSome (S.durable target.old.store) (IsUnused ep) }
+    ensures plan { OnOk result (target.new.plan ≡ lone) }
     ensures runs { OnOk result ((S.state target.new.store).stopped ≡ false) }
     ensures here { OnOk result (ForSome (S.durable target.new.store) IsHere) }
     ensures others { OnOk result ((x : AttemptId) → same_attempt by x ≡ false → ForSome (S.durable target.old.store) (λ d. entry_of d x ≡ None)

@@ -1,4 +1,5 @@
 // Rows over targets, with what follows from their turns.
+use crate::overtaken::{LEADER, READER, mark_before_prepare, reader, writer};
 use crate::rows::{attempt, read_unsettled, write_below_read};
 use crate::steps::akey;
 use daos_base::answer::Answer;
@@ -76,6 +77,60 @@ fn a_read_settles_what_was_decided(rt: HostRuntime) -> Result<(), Fail> {
             assert_eq!(rt; bytes.as_slice(), b"1".as_slice());
         }
         _ => assert!(rt; false, "the read isn't answered by a value"),
+    }
+    Ok(())
+}
+
+#[test]
+fn a_mark_overtakes_its_prepare(rt: HostRuntime) -> Result<(), Fail> {
+    let alloc = rt.alloc();
+    let store = PlainStore::new(alloc, 4, &[])?;
+    let row = mark_before_prepare(alloc, store, CountClock::new())?;
+    match row.marked.posts.as_slice() {
+        [post] => match &post.message {
+            Message::Marked { inc, attempts } => {
+                assert_eq!(rt; (post.to, *inc), (LEADER, 1));
+                assert_eq!(rt; attempts.as_slice(), [writer()].as_slice());
+            }
+            _ => assert!(rt; false, "the Mark isn't answered by a Marked"),
+        },
+        _ => assert!(rt; false, "the Mark isn't answered by one message"),
+    }
+    match row.prepared.posts.as_slice() {
+        [post] => match &post.message {
+            Message::Ack {
+                attempt,
+                inc,
+                refusal: None,
+            } => assert_eq!(rt; (post.to, *attempt, *inc), (LEADER, writer(), 1)),
+            _ => assert!(rt; false, "the Prepare isn't answered by Ok"),
+        },
+        _ => assert!(rt; false, "the Prepare isn't answered by one message"),
+    }
+    assert_eq!(rt; row.parked.issued, Some((reader(), Epoch(513))));
+    match row.parked.posts.as_slice() {
+        [post] => match &post.message {
+            Message::Query { attempt, ask } => {
+                assert_eq!(rt;
+                    (post.to, *attempt, *ask),
+                    (LEADER, writer(), Some(reader()))
+                );
+            }
+            _ => assert!(rt; false, "the leader isn't asked"),
+        },
+        _ => assert!(rt; false, "the read isn't followed by one message"),
+    }
+    match row.resolved.posts.as_slice() {
+        [post] => match &post.message {
+            Message::Fetched {
+                attempt,
+                epoch: Some(epoch),
+                reply: Reply::Answer(Answer::Absent),
+                ..
+            } => assert_eq!(rt; (post.to, *attempt, *epoch), (READER, reader(), Epoch(513))),
+            _ => assert!(rt; false, "the read isn't answered"),
+        },
+        _ => assert!(rt; false, "the Verdict isn't followed by one message"),
     }
     Ok(())
 }

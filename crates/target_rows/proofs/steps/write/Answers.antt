@@ -1,13 +1,15 @@
 use Rattle.std.proofs.Common.{◌≡◌, false, None, subst, sym}
 use Rattle.daos_model.specs.Durables.{entry_of, same_attempt}
 use Rattle.target_core.specs.Targets.{HasForm}
-use Rattle.target_rows.specs.Rows.{IsHere}
+use Rattle.target_rows.specs.Rows.{IsHere, lone}
 use Rattle.target_rows.proofs.Asking.{commit_in_form}
 use Rattle.target_rows.proofs.Keeping.{absent_leased, absent_prepared, for_some_on, here_leased, here_prepared, write_keeps}
 use Rattle.target_rows.proofs.steps.write.Goals as goal
 
 pub hear-requires-clause-form : goal.hear-requires-clause-form
-hear-requires-clause-form g c = subst HasForm (sym c.in_ok-message.ensures) (commit_in_form c.args.by c.args.ep c.args.key.now)
+hear-requires-clause-form g c =
+    subst (λ t. HasForm t c.client_of.result c.in_ok-message.message) (sym c.requires.plan)
+    (subst (HasForm lone c.client_of.result) (sym c.in_ok-message.ensures) (commit_in_form c.client_of.result c.args.by c.args.ep c.args.key.now))
 
 pub returns-clause-here : goal.returns-clause-here
 returns-clause-here g c =

@@ -1,0 +1,109 @@
+// Runs that are told truly are accepted, and none where one thing is changed.
+use crate::{below_read, two_targets};
+use std::test::Fail;
+use world_check::check::check_list;
+
+const BELOW: below_read::Told = below_read::Told {
+    read: 512,
+    yes: false,
+    cause: 512,
+    free: 15_109,
+};
+
+const TWO: two_targets::Told = two_targets::Told {
+    read: 513,
+    absent: false,
+    inc: 1,
+    confirmed: 2,
+    stays: false,
+};
+
+#[test]
+fn a_write_below_a_later_read(rt: HostRuntime) -> Result<(), Fail> {
+    let alloc = rt.alloc();
+    let told = |read, yes, cause, free| below_read::Told {
+        read,
+        yes,
+        cause,
+        free,
+    };
+    let rows = [
+        (true, BELOW, "as it was"),
+        (
+            true,
+            told(1_280, false, 1_280, 15_109),
+            "a later reading of the clock",
+        ),
+        (true, told(512, false, 512, 15_115), "fewer blocks taken"),
+        (
+            false,
+            told(513, false, 513, 15_109),
+            "an epoch of another target",
+        ),
+        (
+            false,
+            told(256, false, 256, 15_109),
+            "an epoch that was issued before",
+        ),
+        (false, told(512, true, 512, 15_109), "another answer"),
+        (false, told(512, false, 256, 15_109), "another cause"),
+        (false, told(512, false, 512, 15_108), "more blocks taken"),
+    ];
+    for (accepted, told, what) in rows {
+        let events = below_read::events_without(alloc, told, 0)?;
+        assert_eq!(rt; check_list(alloc, &events)?, accepted, "{what}");
+    }
+    Ok(())
+}
+
+#[test]
+fn replicas_and_a_read_that_waits(rt: HostRuntime) -> Result<(), Fail> {
+    let alloc = rt.alloc();
+    let told = |read, absent, inc, confirmed, stays| two_targets::Told {
+        read,
+        absent,
+        inc,
+        confirmed,
+        stays,
+    };
+    let rows = [
+        (true, TWO, "as it was"),
+        (
+            true,
+            told(1_281, false, 1, 2, false),
+            "a later reading of the clock",
+        ),
+        (
+            false,
+            told(512, false, 1, 2, false),
+            "an epoch of another target",
+        ),
+        (false, told(513, true, 1, 2, false), "another answer"),
+        (false, told(513, false, 2, 2, false), "another incarnation"),
+        (false, told(513, false, 1, 0, false), "no member confirmed"),
+        (
+            false,
+            told(513, false, 1, 2, true),
+            "an Ack that stays in flight",
+        ),
+    ];
+    for (accepted, told, what) in rows {
+        let events = two_targets::events_without(alloc, told, 0)?;
+        assert_eq!(rt; check_list(alloc, &events)?, accepted, "{what}");
+    }
+    Ok(())
+}
+
+#[test]
+fn a_turn_is_not_left_out(rt: HostRuntime) -> Result<(), Fail> {
+    let alloc = rt.alloc();
+    for turn in 1..below_read::TURNS {
+        let events = below_read::events_without(alloc, BELOW, turn)?;
+        assert!(rt; !check_list(alloc, &events)?, "turn {turn} on one target");
+    }
+    for turn in 1..two_targets::TURNS {
+        let events = two_targets::events_without(alloc, TWO, turn)?;
+        assert!(rt; !check_list(alloc, &events)?, "turn {turn} on two targets");
+    }
+    Ok(())
+}

@@ -1,0 +1,17 @@
+use Rattle.std.proofs.Common.{subst, sym}
+use Rattle.std.specs.Option.{ForSome}
+use Rattle.target_core.specs.Targets.{CanHear}
+use Rattle.target_rows.specs.Overtaken.{IsNew, second}
+use Rattle.target_rows.proofs.Keeping.{for_some_on}
+use Rattle.target_rows.proofs.Overtaking.{can_mark, mark_turn}
+use Rattle.target_rows.proofs.overtaken.hear_mark.Goals as goal
+
+pub hear-requires-clause-here : goal.hear-requires-clause-here
+hear-requires-clause-here g c =
+    subst (λ t. ForSome (g.S.Store.durable c.args.target.now.store) (CanHear t c.in_ok-message.message)) (sym c.requires.plan)
+    (subst (λ x. ForSome (g.S.Store.durable c.args.target.now.store) (CanHear second x)) (sym c.in_ok-message.ensures) (λ d at. can_mark d (c.requires.new d at)))
+
+pub returns-clause-new : goal.returns-clause-new
+returns-clause-new g c =
+    for_some_on (g.S.Store.durable c.args.target.now.store) _ IsNew c.in_ok-hear.ensures.runs.told
+    (λ d at. mark_turn _ _ _ _ _ d (g.S.Store.state c.args.target.now.store) (g.S.Store.state c.hear.new.self.store) (g.S.Store.durable c.hear.new.self.store) (g.S.Store.may c.hear.new.self.store) _ _ c.in_ok-message.ensures (c.in_ok-hear.ensures.turn.2 d at) (c.requires.new d at))
