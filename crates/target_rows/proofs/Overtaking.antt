@@ -64,7 +64,7 @@ others_new d n = record { here = n.here; led = λ e at is. let none = blank_abse
 
 pub can_mark : (d : Durable) → IsNew d → CanHear second mark d
 can_mark d n x (inl is) = subst (λ y. IsLedElsewhere 1 y.0 d) (sym is) (others_new d n).led
-can_mark d n x (inr no) = absurd no
+can_mark d n x (inr none) = absurd none
 
 pub can_prepare : (d : Durable) → IsNew d → CanHear second prepare d
 can_prepare d n = record {
@@ -130,7 +130,7 @@ pub prepare_turn : (t : TargetPlan) (m : TargetMemory) (reading : ℕ) (from : A
     → message ≡ prepare → HearsOrStops t m reading from message d h new k finds left (Ok did) → IsNew d → (x : Durable) × (new ≡ Some x) × IsOthers x
 prepare_turn t m reading from message d h k new finds left did is turn n =
     let now = subst (λ x. HearsOrStops t m reading from x d h new k finds left (Ok did)) is turn in
-    (now.durable, now.kept_is, others_standing _ _ (reached-keeps (PrepareNext t h.opening m the_request) Standing (next_prepare t h.opening m) _ _ _ _ now.holds.reached n))
+    (now.durable, now.kept_is, others_standing now.holds.last (record { durable = now.durable; free = k.free }) (reached-keeps (PrepareNext t h.opening m the_request) Standing (next_prepare t h.opening m) _ _ _ _ now.holds.reached n))
 
 -- ---- a Fetch
 

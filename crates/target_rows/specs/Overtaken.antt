@@ -1,5 +1,5 @@
 -- What the second of two targets hears where a Mark overtakes the Prepare of its attempt, and what it keeps meanwhile.
-use Rattle.std.specs.Prelude.{◌≡◌, false, [], ◌∷◌, Some, None}
+use Rattle.std.specs.Prelude.{◌≡◌, true, false, [], ◌∷◌, Some, None}
 use Rattle.daos_base.specs.declared.entry.Entry.{Entry}
 use Rattle.daos_base.specs.declared.entry.Verdict.TheVariants.{Aborted}
 use Rattle.daos_base.specs.declared.id.AttemptId.{AttemptId}
@@ -8,6 +8,7 @@ use Rattle.daos_base.specs.declared.operation.MinorWrite.{MinorWrite}
 use Rattle.daos_base.specs.declared.operation.Read.TheVariants as read
 use Rattle.daos_base.specs.declared.operation.Write.TheVariants as write
 use Rattle.daos_base.specs.declared.path.Path.{Path}
+use Rattle.daos_messages.specs.declared.actor.ActorId.{ActorId}
 use Rattle.daos_messages.specs.declared.message.Message.{Message}
 use Rattle.daos_messages.specs.declared.message.Message.TheVariants.{Fetch, Mark, Prepare, Verdict}
 use Rattle.daos_model.specs.declared.durable.Durable.{Durable}
@@ -18,6 +19,13 @@ use Rattle.world_base.specs.declared.target.TargetPlan.{TargetPlan}
 -- the second of two targets
 abbrev pub second : TargetPlan
 second = record { me = 1; targets = 2; epsilon = 0 }
+
+-- the first target, and the client that reads
+abbrev pub leader : ActorId
+leader = record { client = false; number = 0 }
+
+abbrev pub client : ActorId
+client = record { client = true; number = 1 }
 
 -- the attempt that writes, and the one that reads
 abbrev pub writer : AttemptId

@@ -1,12 +1,12 @@
 use Rattle.std.proofs.Common.{subst, sym}
 use Rattle.target_core.specs.Targets.{HasForm}
-use Rattle.target_rows.specs.Overtaken.{IsOthers}
+use Rattle.target_rows.specs.Overtaken.{IsOthers, client}
 use Rattle.target_rows.proofs.Keeping.{for_some_on}
 use Rattle.target_rows.proofs.Overtaking.{fetch_in_form, fetch_turn}
 use Rattle.target_rows.proofs.overtaken.hear_fetch.Goals as goal
 
 pub hear-requires-clause-form : goal.hear-requires-clause-form
-hear-requires-clause-form g c = subst (HasForm c.args.target.now.plan _) (sym c.in_ok-message.ensures) (fetch_in_form c.args.target.now.plan _)
+hear-requires-clause-form g c = subst (HasForm c.args.target.now.plan client) (sym c.in_ok-message.ensures) (fetch_in_form c.args.target.now.plan client)
 
 pub returns-clause-others : goal.returns-clause-others
 returns-clause-others g c =

@@ -1,14 +1,14 @@
 use Rattle.std.proofs.Common.{subst, sym}
 use Rattle.std.specs.Option.{ForSome}
 use Rattle.target_core.specs.Targets.{CanHear, HasForm}
-use Rattle.target_rows.specs.Overtaken.{IsOthers, second}
+use Rattle.target_rows.specs.Overtaken.{IsOthers, leader, second}
 use Rattle.target_rows.proofs.Keeping.{for_some_on}
 use Rattle.target_rows.proofs.Overtaking.{can_prepare, prepare_in_form, prepare_turn}
 use Rattle.target_rows.proofs.overtaken.hear_prepare.Goals as goal
 
 pub hear-requires-clause-form : goal.hear-requires-clause-form
 hear-requires-clause-form g c =
-    subst (λ t. HasForm t _ c.in_ok-message.message) (sym c.requires.plan) (subst (HasForm second _) (sym c.in_ok-message.ensures) (prepare_in_form _))
+    subst (λ t. HasForm t leader c.in_ok-message.message) (sym c.requires.plan) (subst (HasForm second leader) (sym c.in_ok-message.ensures) (prepare_in_form leader))
 
 pub hear-requires-clause-here : goal.hear-requires-clause-here
 hear-requires-clause-here g c =
