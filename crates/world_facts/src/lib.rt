@@ -1,6 +1,7 @@
 // The facts of the world at each moment of a run.
 #![tactic(auto)]
 
+ghost use Rattle.world_addresses.specs.Staying.{EventsKeepTargets, RunsKeepTargets};
 ghost use Rattle.world_facts.specs.Facts.{AtEachMoment, ClientsCarried, CountedOnce, DecidedIsHeld, EpochsAboveTop, LeaseCovers, NoneIsFrozen, NoneIsUnknown, NoneStops, OfAHistory, OneEpoch, OneVerdict, StandsForHistory, VersionsOwned};
 ghost use Rattle.world_facts.specs.Resolved.{KeepResolved};
 ghost use Rattle.world_facts.specs.Settled.{EndedRunsCommitAtAll};
@@ -46,4 +47,11 @@ pub fn laws_of_kept_states()
 /// at all its members, those that the entry names and those by the script.
 pub fn laws_of_last_entries()
     ensures committed { EndedRunsCommitAtAll }
+{}
+
+/// Says what every event leaves of a target, and so a run: whether it runs, the floor of its opening, the
+/// containers and snapshots that it keeps, its incarnation, and its lease, which may rise.
+pub fn laws_of_targets()
+    ensures targets { EventsKeepTargets }
+    ensures runs { RunsKeepTargets }
 {}
