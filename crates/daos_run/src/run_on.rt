@@ -6,7 +6,7 @@ ghost use Rattle.daos_room.specs.Rooms.{FindsRoom, HasRoom};
 ghost use Rattle.daos_run.specs.Alone.{IsOfLoneClient};
 ghost use Rattle.daos_run.specs.Opens.{IsEmpty, IsLegal, IsOrdered, Stand, given};
 ghost use Rattle.daos_run.specs.Runnable.{IsRunnable};
-ghost use Rattle.daos_run.specs.Slots.{AllTell, AreFree, AreSet, EachStore, FromTo, HaveStores, TellAlike};
+ghost use Rattle.daos_run.specs.Slots.{AllTell, AreFree, AreSet, EachStore, FromTo, HaveStores};
 ghost use Rattle.daos_run.specs.Stops.{MayStop, is_fault_of};
 ghost use Rattle.target_parts.specs.Parts.{Runs};
 ghost use Rattle.world_forms.specs.Keyed.{ScriptHasKeys};
@@ -33,8 +33,8 @@ use vos_store::store::Store;
 pub const FIRST_TRACKER: Epoch = Epoch(255);
 
 /// Runs a script on the empty stores of its targets, and reports what became of its commands. The
-/// stores and the clocks are set again at every ending. Either every store tells what it keeps, or none
-/// does: then the report isn't bound; the run is safe, and errors are told as of any others.
+/// stores and the clocks are set again at every ending. Where the stores tell nothing of what they keep,
+/// the report isn't bound; the run is safe, and errors are told as of any others.
 ///
 /// # Errors
 ///
@@ -55,7 +55,6 @@ pub fn run_on<R: Threads + Wait + Sync, S: Store + Send, C: Clock + Send, G: Gat
     requires most { job.now.attempts ≤ 100 }
     requires script { IsRunnable job.now.targets script.now }
     requires stores { HaveStores (λ t store. IsEmpty S.durable S.state job.now.targets store) job.now.targets parts.old }
-    requires alike { TellAlike S.durable parts.old }
     ensures legal { AllTell S.durable parts.old → (free : ℕ → ℕ) → AreFree S.state parts.old free → IfOk result (IsLegal (given script.now job.now free)) }
     ensures form { AllTell S.durable parts.old → ScriptHasKeys script.now → IfOk result (IsReportOf script.now) }
     ensures stands { AllTell S.durable parts.old → (free : ℕ → ℕ) → AreFree S.state parts.old free → IfOk result (λ report.

@@ -1,7 +1,7 @@
 // The targets of a run start over their stores, and hand these back.
 ghost use Rattle.std.specs.Prelude.{◌≡◌, ◌≤◌, ◌<◌, ℕ, Bool, length, slice_get, is_some, true, IfErr, IfOk, None, Some};
 ghost use Rattle.daos_run.specs.Opens.{IsEmpty};
-ghost use Rattle.daos_run.specs.Slots.{AreBack, AreSet, AreTaken, EachStore, FromTo, HaveStores};
+ghost use Rattle.daos_run.specs.Slots.{AreBack, AreSet, AreTaken, EachStore, FromTo, HaveStores, TellAlike};
 ghost use Rattle.daos_run.specs.Starts.{AreStarted, StartsOver};
 ghost use Rattle.daos_run.specs.Stops.{MayStop, is_fault_of, not_started};
 ghost use Rattle.target_parts.specs.Parts.{Runs};
@@ -92,6 +92,7 @@ pub fn start_all<S: Store, C: Clock>(
     requires same { script.now.targets ≡ job.now.targets }
     requires stores { HaveStores (λ t store. IsEmpty S.durable S.state job.now.targets store) job.now.targets parts.old }
     ensures started { IfOk result (λ targets. AreStarted S.durable S.state script.now job.now job.now.targets parts.old targets.items) }
+    ensures alike { IfOk result (λ targets. TellAlike S.durable parts.old) }
     ensures taken { IfOk result (λ targets. AreTaken job.now.targets parts.old parts.new) }
     ensures set { IfErr result (λ stop. AreSet job.now.targets parts.new) }
     ensures runs { IfErr result (λ stop. FromTo parts.old parts.new (λ t old new. Runs (is_fault_of t) (not_started stop) (S.state old) (S.state new) (S.durable old) (S.durable new))) }

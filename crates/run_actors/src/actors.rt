@@ -3,7 +3,7 @@ ghost use Rattle.std.specs.Prelude.{◌≡◌, ◌≤◌, ◌<◌, Bool, max, le
 ghost use Rattle.client_core.specs.Clients.{ClientNow};
 ghost use Rattle.run_actors.specs.Due.{AllAreDue, is_due_client};
 ghost use Rattle.run_actors.specs.CanGo.{CanGo};
-ghost use Rattle.run_actors.specs.Shows.{AreRunning, Shows, Steps};
+ghost use Rattle.run_actors.specs.Shows.{Shows, Steps};
 ghost use Rattle.run_actors.specs.Stores.{StoresRun, stops_at};
 ghost use Rattle.run_picks.specs.Picks.{count_to, heard_awake, is_due};
 ghost use Rattle.world_base.specs.declared.world.World.{World};
@@ -90,7 +90,6 @@ impl<S: Store, C: Clock> Actors<S, C> {
     pub fn is_target_due(&self, t: usize, settling: bool) -> bool
         requires within { t < length self.now.targets.items }
         requires few { t < 65536 }
-        requires running { AreRunning S.state self.now.targets.items }
         ensures { (r : Rules) (w : World) → Shows S.durable S.state r self.now.clients.items self.now.targets.items self.now.between w → result ≡ is_due settling r w (target t) }
     {
         self.between.count_to(target_id(t)) > 0 || self.targets[t].has_idle(settling)
@@ -169,7 +168,6 @@ impl<S: Store, C: Clock> Actors<S, C> {
     pub fn due(&self, alloc: Global, settling: bool) -> Result<Vec<ActorId>, Memory>
         requires few_clients { length self.now.clients.items ≤ 65535 }
         requires few_targets { length self.now.targets.items ≤ 255 }
-        requires running { AreRunning S.state self.now.targets.items }
         ensures { IfOk result (λ due. AllAreDue S.durable S.state settling self.now.clients.items self.now.targets.items self.now.between due.items) }
     {
         let mut due = Vec::new(alloc);

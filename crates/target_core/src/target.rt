@@ -190,10 +190,10 @@ impl<S: Store, C: Clock> Target<S, C> {
     }
 
     /// Whether it has idle work: attempts that it decided aren't settled, another member is to be told of
-    /// a commit, or, in the settling phase, a leader is to be asked.
+    /// a commit, or, in the settling phase, a leader is to be asked. While its store is stopped this says
+    /// nothing.
     pub fn has_idle(&self, settling: bool) -> bool
-        requires running { (S.state self.now.store).stopped ≡ false }
-        ensures { (d : Durable) → S.durable self.now.store ≡ Some d → result ≡ has_idle settling self.now.plan self.now.memory d }
+        ensures { (S.state self.now.store).stopped ≡ false → (d : Durable) → S.durable self.now.store ≡ Some d → result ≡ has_idle settling self.now.plan self.now.memory d }
     {
         has_idle_work(self.plan, &self.store, &self.knows, settling)
     }

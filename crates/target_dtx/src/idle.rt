@@ -122,12 +122,12 @@ pub fn idle_work<S: Store>(
 }
 
 /// Whether there is idle work: an attempt that it decided isn't settled, another member is to be told of
-/// a commit, or, in the settling phase, a leader is to be asked.
+/// a commit, or, in the settling phase, a leader is to be asked. While the store is stopped this says
+/// nothing.
 pub fn has_idle_work<S: Store>(plan: TargetPlan, store: &S, knows: &Knows, settling: bool) -> bool
-    requires running { (S.state store.now).stopped ≡ false }
     requires own { IsOwn plan knows.now }
-    requires leads { ForSome (S.durable store.now) (LeadsWell plan (memory_of knows.now) knows.now.entries.items) }
-    ensures { (d : Durable) → S.durable store.now ≡ Some d → result ≡ has_idle settling plan (memory_of knows.now) d }
+    requires leads { (S.state store.now).stopped ≡ false → ForSome (S.durable store.now) (LeadsWell plan (memory_of knows.now) knows.now.entries.items) }
+    ensures { (S.state store.now).stopped ≡ false → (d : Durable) → S.durable store.now ≡ Some d → result ≡ has_idle settling plan (memory_of knows.now) d }
 {
     if !knows.leader.decided().is_empty() {
         return true;

@@ -77,10 +77,9 @@ pub fn other_leader(me: TargetId, entries: &[Entry], attempt: AttemptId) -> Opti
 
 /// Where a target is as a leader.
 pub fn seat_of<S: Store>(plan: TargetPlan, store: &S) -> Seat
-    requires running { (S.state store.now).stopped ≡ false }
     ensures me { result.me ≡ plan.me }
     ensures targets { result.targets ≡ plan.targets }
-    ensures incarnation { ForSome (S.durable store.now) (λ d. result.incarnation ≡ d.incarnation) }
+    ensures incarnation { (S.state store.now).stopped ≡ false → ForSome (S.durable store.now) (λ d. result.incarnation ≡ d.incarnation) }
 {
     Seat {
         me: plan.me,

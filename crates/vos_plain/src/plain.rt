@@ -1,5 +1,5 @@
 // The calls of a store over lists.
-ghost use Rattle.std.specs.Prelude.{◌≡◌, ◌+◌, ◌-◌, ◌*◌, ◌≤◌, IfOk, Some};
+ghost use Rattle.std.specs.Prelude.{◌≡◌, ◌+◌, ◌-◌, ◌*◌, ◌≤◌, IfOk, Some, refl};
 ghost use Rattle.daos_model.specs.Durables.{empty_durable};
 ghost use Rattle.vos_store.specs.Answers.{later_floor};
 ghost use Rattle.vos_plain.specs.Contents.{contents_of};
@@ -274,6 +274,8 @@ impl Store for PlainStore {
     }
 
     ghost steady = { λ s d x runs is m. plain_steady d x (contents_of s.contents) is m };
+
+    ghost alike = { λ s t tells. refl };
 
     ghost formed = { λ s runs d is. plain_formed (contents_of s.contents) d s.contents.formed is };
 }

@@ -1,5 +1,5 @@
 // The trait of a target's store.
-ghost use Rattle.std.specs.Prelude.{◌≡◌, ◌≤◌, ◌+◌, ◌^◌, ◌<◌, true, false, Option, Some, Ok, IfOk, OnOk, IsSome, IfSome, MatchResult};
+ghost use Rattle.std.specs.Prelude.{◌≡◌, ◌≤◌, ◌+◌, ◌^◌, ◌<◌, true, false, Option, Some, Ok, IfOk, OnOk, IsSome, IfSome, MatchResult, is_some};
 ghost use Rattle.std.specs.Option.{ForSome};
 ghost use Rattle.daos_base.specs.Epochs.{restart_floor};
 ghost use Rattle.daos_base.specs.Operations.{read_path};
@@ -258,6 +258,9 @@ pub trait Store {
 
     /// A store that isn't stopped opens with what it keeps.
     ghost steady: { (s : Self) (d x : Durable) → (state s).stopped ≡ false → durable s ≡ Some d → may s x → x ≡ d };
+
+    /// Whether what is kept is told is the same of all stores of a type.
+    ghost alike: { (s t : Self) → is_some (durable s) ≡ true → is_some (durable t) ≡ true };
 
     /// What a store that isn't stopped keeps is in order, and in form.
     ghost formed: { (s : Self) → (state s).stopped ≡ false → ForSome (durable s) IsInForm };

@@ -26,7 +26,7 @@ returns-in_err-targets-clause-refusals g c tells each =
 
 pub run_in_order-targets-requires-clause-going : goal.run_in_order-targets-requires-clause-going
 run_in_order-targets-requires-clause-going g c =
-    can-run g.S.Store.durable g.S.Store.state c.args.script.now c.args.job.now c.args.parts.now c.in_ok-clients.clients.items c.in_ok-targets.targets.items c.requires.script c.requires.least_targets c.requires.most_targets c.requires.least c.in_ok-clients.ensures c.requires.stores c.in_ok-targets.ensures.started c.requires.alike
+    can-run g.S.Store.durable g.S.Store.state c.args.script.now c.args.job.now c.args.parts.now c.in_ok-clients.clients.items c.in_ok-targets.targets.items c.requires.script c.requires.least_targets c.requires.most_targets c.requires.least c.in_ok-clients.ensures c.requires.stores c.in_ok-targets.ensures.started c.in_ok-targets.ensures.alike
 
 pub returns-in-Ok-clause-legal : goal.returns-in-Ok-clause-legal
 returns-in-Ok-clause-legal g c all free room =

@@ -26,15 +26,15 @@ returns-in_err-posts-clause-turn g c d at =
 pub abort_if-requires-clause-can : goal.abort_if-requires-clause-can
 abort_if-requires-clause-can g c d at refused =
     let seat = c.seat_of-seat.ensures in
-    let known = leader-known c.args.plan (memory_of c.args.knows.now) c.seat_of-seat.result c.deref.result.now d seat.me seat.targets (seat.incarnation d at) (c.deref.ensures.value ∙ (c.requires.leads d at).entries) in
+    let known = leader-known c.args.plan (memory_of c.args.knows.now) c.seat_of-seat.result c.deref.result.now d seat.me seat.targets (seat.incarnation c.requires.running d at) (c.deref.ensures.value ∙ (c.requires.leads d at).entries) in
     refused-can c.args.plan (memory_of c.args.knows.now) c.args.member c.args.attempt c.args.inc c.args.refusal.now d (c.requires.leads d at).rows
     (sym (c.is_refusing-refuses.ensures ∙ ap (is_refusing c.args.member c.args.attempt c.args.inc c.args.refusal.now) known) ∙ refused)
 
 pub abort_if-requires-clause-apart : goal.abort_if-requires-clause-apart
 abort_if-requires-clause-apart g c d at refused =
     let seat = c.seat_of-seat.ensures in
-    let known = leader-known c.args.plan (memory_of c.args.knows.now) c.seat_of-seat.result c.deref.result.now d seat.me seat.targets (seat.incarnation d at) (c.deref.ensures.value ∙ (c.requires.leads d at).entries) in
-    let known_too = leader-known c.args.plan (memory_of c.args.knows.now) c.seat_of-seat.result c.deref-2.result.now d seat.me seat.targets (seat.incarnation d at) (c.deref-2.ensures.value ∙ (c.requires.leads d at).entries) in
+    let known = leader-known c.args.plan (memory_of c.args.knows.now) c.seat_of-seat.result c.deref.result.now d seat.me seat.targets (seat.incarnation c.requires.running d at) (c.deref.ensures.value ∙ (c.requires.leads d at).entries) in
+    let known_too = leader-known c.args.plan (memory_of c.args.knows.now) c.seat_of-seat.result c.deref-2.result.now d seat.me seat.targets (seat.incarnation c.requires.running d at) (c.deref-2.ensures.value ∙ (c.requires.leads d at).entries) in
     let came = stepped c.args.plan (memory_of c.args.knows.now) c.args.member c.args.attempt c.args.inc c.args.refusal.now d _ c.hear_ack.new.self _ known_too c.in_ok-posts.ensures.ok in
     subst (IsApart c.args.attempt) (sym came.0)
     (refused-apart c.args.plan (memory_of c.args.knows.now) c.args.member c.args.attempt c.args.inc c.args.refusal.now d (c.requires.leads d at).rows
@@ -43,7 +43,7 @@ abort_if-requires-clause-apart g c d at refused =
 pub abort_if-requires-clause-leads : goal.abort_if-requires-clause-leads
 abort_if-requires-clause-leads g c d at =
     let seat = c.seat_of-seat.ensures in
-    let known_too = leader-known c.args.plan (memory_of c.args.knows.now) c.seat_of-seat.result c.deref-2.result.now d seat.me seat.targets (seat.incarnation d at) (c.deref-2.ensures.value ∙ (c.requires.leads d at).entries) in
+    let known_too = leader-known c.args.plan (memory_of c.args.knows.now) c.seat_of-seat.result c.deref-2.result.now d seat.me seat.targets (seat.incarnation c.requires.running d at) (c.deref-2.ensures.value ∙ (c.requires.leads d at).entries) in
     let came = stepped c.args.plan (memory_of c.args.knows.now) c.args.member c.args.attempt c.args.inc c.args.refusal.now d _ c.hear_ack.new.self _ known_too c.in_ok-posts.ensures.ok in
     leads-same c.args.plan (leads_on (step c.args.plan (memory_of c.args.knows.now) c.args.member c.args.attempt c.args.inc c.args.refusal.now d) (memory_of c.args.knows.now)) _ c.args.knows.now.entries.items _ d
     (ap (λ l. record (memory_of c.args.knows.now) { leader = l }) came.0) refl
@@ -52,8 +52,8 @@ abort_if-requires-clause-leads g c d at =
 pub returns-in-Ok-clause-turn : goal.returns-in-Ok-clause-turn
 returns-in-Ok-clause-turn g c d at =
     let seat = c.seat_of-seat.ensures in
-    let known = leader-known c.args.plan (memory_of c.args.knows.now) c.seat_of-seat.result c.deref.result.now d seat.me seat.targets (seat.incarnation d at) (c.deref.ensures.value ∙ (c.requires.leads d at).entries) in
-    let known_too = leader-known c.args.plan (memory_of c.args.knows.now) c.seat_of-seat.result c.deref-2.result.now d seat.me seat.targets (seat.incarnation d at) (c.deref-2.ensures.value ∙ (c.requires.leads d at).entries) in
+    let known = leader-known c.args.plan (memory_of c.args.knows.now) c.seat_of-seat.result c.deref.result.now d seat.me seat.targets (seat.incarnation c.requires.running d at) (c.deref.ensures.value ∙ (c.requires.leads d at).entries) in
+    let known_too = leader-known c.args.plan (memory_of c.args.knows.now) c.seat_of-seat.result c.deref-2.result.now d seat.me seat.targets (seat.incarnation c.requires.running d at) (c.deref-2.ensures.value ∙ (c.requires.leads d at).entries) in
     let came = stepped c.args.plan (memory_of c.args.knows.now) c.args.member c.args.attempt c.args.inc c.args.refusal.now d _ c.hear_ack.new.self _ known_too c.in_ok-posts.ensures.ok in
     let beside = c.in-Ok.ensures.beside in
     ack-done c.args.plan (memory_of c.args.knows.now) c.args.member c.args.attempt c.args.inc c.args.refusal.now d (g.S.Store.state c.args.store.now) _ _ c.is_refusing-refuses.result (g.S.Store.may c.abort_if.new.store)
@@ -68,7 +68,7 @@ returns-in-Ok-clause-own g c =
 pub returns-in-Err-clause-turn : goal.returns-in-Err-clause-turn
 returns-in-Err-clause-turn g c d at =
     let seat = c.seat_of-seat.ensures in
-    let known = leader-known c.args.plan (memory_of c.args.knows.now) c.seat_of-seat.result c.deref.result.now d seat.me seat.targets (seat.incarnation d at) (c.deref.ensures.value ∙ (c.requires.leads d at).entries) in
+    let known = leader-known c.args.plan (memory_of c.args.knows.now) c.seat_of-seat.result c.deref.result.now d seat.me seat.targets (seat.incarnation c.requires.running d at) (c.deref.ensures.value ∙ (c.requires.leads d at).entries) in
     turn_cut (AckNext c.args.plan (memory_of c.args.knows.now) c.args.member c.args.attempt c.args.inc c.args.refusal.now) never Heard (kept d (g.S.Store.state c.args.store.now))
     (g.S.Store.durable c.abort_if.new.store) (g.S.Store.state c.abort_if.new.store) (g.S.Store.may c.abort_if.new.store)
     (λ did l. Whole (AckNext c.args.plan (memory_of c.args.knows.now) c.args.member c.args.attempt c.args.inc c.args.refusal.now) (AckEnds (memory_of c.args.knows.now)) Heard (kept d (g.S.Store.state c.args.store.now)) l (memory_of c.abort_if.new.knows, did)) (Err c.stop_of.result) (λ s. refl) (ap (λ e. Err e) c.stop_of.ensures)

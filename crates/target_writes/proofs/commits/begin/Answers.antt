@@ -12,7 +12,7 @@ returns-clause-begun g c x at =
     begun-told c.args.plan (memory_of c.args.knows.now) c.args.request.now c.args.from c.args.entry.now.epoch x c.begin.new.self c.in_ok-posts.posts c.sends.result
     (begun-here c.args.plan (memory_of c.args.knows.now) c.args.request.now c.args.from c.args.entry.now x c.seat_of-seat.result c.args.knows.now.entries.items c.begin.new.self c.in_ok-posts.posts
     (c.in_ok-posts.ensures.ok ∙ ap (λ ws. came (begun c.args.entry.now c.args.request.now.first c.args.from ws (leader_of c.seat_of-seat.result [] c.args.knows.now.leader))) c.as_slice.ensures)
-    c.seat_of-seat.ensures.me c.seat_of-seat.ensures.targets (c.seat_of-seat.ensures.incarnation x at) (c.requires.leads x at).entries c.requires.entry)
+    c.seat_of-seat.ensures.me c.seat_of-seat.ensures.targets (c.seat_of-seat.ensures.incarnation c.requires.running x at) (c.requires.leads x at).entries c.requires.entry)
     (c.sends.ensures ∙ ap (sends c.in_ok-posts.posts) c.issued_for-issued.ensures)
 
 pub returns-clause-leads : goal.returns-clause-leads
