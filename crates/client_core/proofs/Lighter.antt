@@ -1,11 +1,10 @@
 -- A client that goes on comes nearer to the end of its commands.
-use Rattle.std.proofs.Common.{◌≡◌, ℕ, ◌+◌, ◌-◌, ◌*◌, ◌<◌, ◌≤◌, Bool, true, false, List, [], ◌∷◌, length, slice_get, is_some, Option, None, Some, All, refl, sym, ◌∙◌, ap, subst, arith, ◌⊎◌, inl, inr}
+use Rattle.std.proofs.Common.{◌≡◌, ℕ, ◌+◌, ◌-◌, ◌*◌, ◌<◌, ◌≤◌, Bool, true, false, List, [], ◌∷◌, length, slice_get, is_some, Option, None, Some, refl, ◌∙◌, ap, subst, arith, ◌⊎◌, inl, inr}
 use Rattle.std.proofs.lemmas.Option.{slice_get_within}
 use Rattle.daos_base.specs.declared.epoch.Epoch.{Epoch}
 use Rattle.daos_base.specs.declared.operation.MinorWrite.{MinorWrite}
 use Rattle.daos_base.specs.declared.operation.Op.{Op}
 use Rattle.daos_base.specs.declared.operation.Read.{Read}
-use Rattle.daos_base.specs.declared.outcome.Outcome.{Outcome}
 use Rattle.daos_base.specs.declared.outcome.Outcome.TheVariants as outcome
 use Rattle.daos_base.specs.declared.script.Command.{Command}
 use Rattle.daos_base.specs.declared.script.Command.TheVariants.{Run, Snap, Aggregate, Tell, Skip}
@@ -15,7 +14,7 @@ use Rattle.world_base.specs.declared.client.ClientState.{ClientState}
 use Rattle.world_base.specs.declared.client.Present.{Present}
 use Rattle.world_base.specs.declared.client.Stage.{Stage}
 use Rattle.world_base.specs.declared.client.Stage.TheVariants as stage
-use Rattle.world_base.specs.ClientTurns.{Move, after_end, asks_or_goes, attempt_moves, begins_at, begun, command_at, command_moves, commits, ends, first_epoch, goes, at_present, moved, next_stage, op_moves, question, run_moves, waits}
+use Rattle.world_base.specs.ClientTurns.{Move, after_end, asks_or_goes, attempt_moves, begins_at, command_at, command_moves, commits, ends, first_epoch, moved, next_stage, op_moves, question, run_moves, waits}
 use Rattle.client_core.specs.Clients.{CommandFits, OpsFit, PlanFits}
 use Rattle.client_core.proofs.Places.{command_fits, moved_begins, moved_done, moved_on, moved_waits, op_within}
 

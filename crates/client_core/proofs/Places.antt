@@ -1,5 +1,5 @@
 -- Where a client is.
-use Rattle.std.proofs.Common.{◌≡◌, ℕ, ◌+◌, ◌-◌, ◌^◌, ◌<◌, ◌≤◌, Bool, true, false, List, [], ◌∷◌, length, get_or, slice_get, drop, count_by, is_some, Option, None, Some, All, refl, sym, ◌∙◌, ap, subst, arith, cond, zero-add, if◌then◌else◌}
+use Rattle.std.proofs.Common.{◌≡◌, ℕ, ◌+◌, ◌-◌, ◌^◌, ◌<◌, true, false, List, ◌∷◌, length, slice_get, drop, count_by, is_some, Option, None, Some, refl, sym, ◌∙◌, ap, arith, cond, zero-add, if◌then◌else◌}
 use Rattle.std.proofs.lemmas.Option.{get_or_from_slice_get, slice_get_within}
 use Rattle.std.proofs.lemmas.List.{drop_more}
 use Rattle.std.proofs.lemmas.List.Sums.{sum_by-cons}
@@ -11,18 +11,16 @@ use Rattle.world_base.specs.declared.client.ClientState.{ClientState}
 use Rattle.world_base.specs.declared.client.Present.{Present}
 use Rattle.world_base.specs.ClientTurns.{attempt_moves, command_at, command_moves, moved, moves_at, rests, waits}
 use Rattle.client_core.specs.Clients.{CommandFits, IsAt, IsInPlace, OpFits, OpsFit, PlanFits, has_number}
-
-pub all_get : {A : Type 0} (P : A → Type 0) (xs : List A) (i : ℕ) (x : A) → All P xs → slice_get xs i ≡ Some x → P x
-all_get P xs i x all is = subst P (get_or_from_slice_get xs i x x is) (all i x (slice_get_within xs i x is))
+use Rattle.daos_laws.specs.Lists.{all-at}
 
 pub op_within : (targets : ℕ) (ops : List Op) (i : ℕ) (op : Op) → OpsFit targets ops → slice_get ops i ≡ Some op → i < 64
 op_within targets ops i op fits is = omega (arith, fits.few, slice_get_within ops i op is)
 
 pub op_fits : (targets : ℕ) (ops : List Op) (i : ℕ) (op : Op) → OpsFit targets ops → slice_get ops i ≡ Some op → OpFits targets op
-op_fits targets ops i op fits is = all_get (OpFits targets) ops i op fits.objs is
+op_fits targets ops i op fits is = all-at (OpFits targets) ops i op fits.objs is
 
 pub command_fits : (p : ClientPlan) (c : ClientState) (d : Command) → PlanFits p → command_at p c ≡ Some d → CommandFits p.targets d
-command_fits p c d fits is = all_get (CommandFits p.targets) p.commands c.place d fits.commands is
+command_fits p c d fits is = all-at (CommandFits p.targets) p.commands c.place d fits.commands is
 
 pub count_numbered : (d : Command) (ds : List Command) → is_numbered d ≡ true → count_by is_numbered (d ∷ ds) ≡ 1 + count_by is_numbered ds
 count_numbered d ds numbered = sum_by-cons (λ x. cond (is_numbered x) 1 0) d ds ∙ ap (λ b. cond b 1 0 + count_by is_numbered ds) numbered

@@ -1,10 +1,9 @@
 -- What a script in form tells a client to do can be done.
-use Rattle.std.proofs.Common.{◌≡◌, ℕ, zero, suc, ◌+◌, ◌≤◌, ◌<◌, Bool, true, false, List, [], ◌∷◌, ◌++◌, length, get_or, slice_get, drop, count_by, is_some, Option, None, Some, All, refl, sym, ◌∙◌, ap, subst, arith, map}
+use Rattle.std.proofs.Common.{◌≡◌, ℕ, zero, suc, ◌+◌, ◌≤◌, List, [], ◌∷◌, ◌++◌, get_or, slice_get, count_by, None, Some, All, ap, subst, arith, map}
 use Rattle.std.proofs.lemmas.List.Elements.{All-nil, All-cons}
 use Rattle.daos_base.specs.declared.epoch.Epoch.{Epoch}
 use Rattle.daos_base.specs.declared.operation.Act.{Act}
 use Rattle.daos_base.specs.declared.operation.Act.TheVariants.{Fetch, Change}
-use Rattle.daos_base.specs.declared.operation.Op.{Op}
 use Rattle.daos_base.specs.declared.operation.Read.{Read}
 use Rattle.daos_base.specs.declared.operation.Read.TheVariants as read
 use Rattle.daos_base.specs.declared.operation.Write.{Write}
@@ -17,12 +16,12 @@ use Rattle.daos_base.specs.declared.script.ObjDecl.{ObjDecl}
 use Rattle.daos_base.specs.declared.script.Script.{Script}
 use Rattle.daos_base.specs.Operations.{act_path, read_path, write_path}
 use Rattle.daos_base.specs.Placement.{ClassFits}
-use Rattle.daos_base.specs.Scripts.{AreCommands, IsActInForm, IsCommand, IsInForm, IsOfObject, IsOpInForm, IsReadInForm, IsWriteInForm, SnapName, count_numbered, is_numbered, old_snap, snap_of}
+use Rattle.daos_base.specs.Scripts.{AreCommands, IsActInForm, IsCommand, IsInForm, IsOfObject, IsReadInForm, IsWriteInForm, SnapName, count_numbered, is_numbered, old_snap, snap_of}
 use Rattle.world_base.specs.declared.client.ClientPlan.{ClientPlan}
 use Rattle.world_base.specs.declared.client.KnownSnap.{KnownSnap}
 use Rattle.world_base.specs.ClientTurns.{plan_of}
 use Rattle.client_core.specs.Clients.{CommandFits, IsInPlace, ObjFits, OpFits, PlanFits}
-use Rattle.client_core.proofs.Places.{all_get}
+use Rattle.daos_laws.specs.Lists.{all-at}
 
 abbrev AllFit : ℕ → List ObjDecl → Type 0
 AllFit targets objs = All (λ o. ClassFits o.id.class targets) objs
@@ -73,7 +72,7 @@ count_one (l ∷ ls) (suc n) list is = omega (arith, count_one ls n list is)
 pub plan_fits : (s : Script) (n attempts : ℕ) (commands : List Command) → IsInForm s.targets s → slice_get s.clients n ≡ Some commands → PlanFits (plan_of s n attempts commands)
 plan_fits s n attempts commands form is = record {
   commands = commands_form s.targets s.conts s.objs (map old_snap s.olds) commands form.classes
-      (all_get (λ list. AreCommands s.conts s.objs (map old_snap s.olds) list) s.clients n commands form.commands is);
+      (all-at (λ list. AreCommands s.conts s.objs (map old_snap s.olds) list) s.clients n commands form.commands is);
   few = omega (arith, form.few, count_one s.clients n commands is);
 }
 

@@ -1,12 +1,12 @@
 -- A turn, move by move.
-use Rattle.std.proofs.Common.{◌≡◌, ◌++◌, List, [], Option, None, true, false, refl, sym, ◌∙◌, ap, subst, append_assoc, ◌<◌, rules, Result, Ok, Err, IfOk}
+use Rattle.std.proofs.Common.{◌≡◌, ◌++◌, List, [], None, true, false, refl, sym, ◌∙◌, ap, subst, append_assoc, ◌<◌, rules, Result, Ok, Err, IfOk}
 use Rattle.daos_base.specs.declared.report.Line.{Line}
 use Rattle.daos_messages.specs.declared.message.Message.{Message}
 use Rattle.daos_messages.specs.declared.message.Post.{Post}
 use Rattle.world_base.specs.declared.client.ClientPlan.{ClientPlan}
 use Rattle.world_base.specs.declared.client.ClientState.{ClientState}
 use Rattle.world_base.specs.declared.did.Did.{Did}
-use Rattle.world_base.specs.ClientTurns.{ClientDid, HearTurn, Ended_by, Heard_on, Move, Moves, None_yet, One_more, heard, listed, moved, with_first}
+use Rattle.world_base.specs.ClientTurns.{ClientDid, HearTurn, Ended_by, Heard_on, Move, Moves, None_yet, One_more, heard, listed, moved}
 use Rattle.client_core.specs.declared.turns.Turn.{Turn}
 use Rattle.client_core.specs.Clients.{GoesOnFrom, IsInPlace, PlanFits}
 use Rattle.client_core.proofs.Kept.{heard_kept, moved_kept}

@@ -21,6 +21,7 @@ use Rattle.daos_gen.specs.Commands.{act_of, akey_path, command_drawn, command_of
 use Rattle.daos_gen.specs.Scripts.{clients_of, conts_of_load, objs_of_load, obj_named, script_of}
 use Rattle.daos_gen.proofs.Declared.{declared_from}
 use Rattle.daos_draw.specs.Draws.{drawn_after}
+use Rattle.std.proofs.lemmas.List.FromFn.{length-range_with_len}
 
 -- ---- classes
 
@@ -38,10 +39,6 @@ classes_fit targets some =
 range_low : (a n m : ℕ) → a + n ≤ m → AllByRecursion (λ i. i < m) (range_with_len a n)
 range_low a zero m le = tt
 range_low a (suc n) m le = (omega (arith, le), range_low (a + 1) n m (omega (arith, le)))
-
-range_length : (a n : ℕ) → length (range_with_len a n) ≡ n
-range_length a zero = refl
-range_length a (suc n) = ap suc (range_length (a + 1) n)
 
 filter_kept : (P : ℕ → Type 0) (p : ℕ → Bool) (is : List ℕ) → AllByRecursion P is → AllByRecursion P (filter p is)
 filter_kept P p [] h = tt
@@ -176,7 +173,7 @@ module _ (targets : ℕ) where
           count_by-le-length is_numbered (commands_of targets count client),
           length-map (numbers client) (command_of targets),
           filter_shorter (goes_to client) (range_with_len 0 count),
-          range_length 0 count,
+          length-range_with_len 0 count,
         )
 
     told_apart : (own client : ℕ) → All (IsTold 4 own) (commands_of targets count client)

@@ -12,7 +12,7 @@ use Rattle.daos_base.specs.declared.operation.Read.TheVariants as read
 use Rattle.daos_base.specs.declared.operation.Write.TheVariants as write
 use Rattle.daos_base.specs.declared.script.Command.{Command}
 use Rattle.daos_draw.specs.Draws.{drawn_after}
-use Rattle.daos_gen.specs.Commands.{act_of, akey_path, command_drawn, command_of, commands_of, goes_to, lone, numbered, obj_path, op_of, picked_path, transfer}
+use Rattle.daos_gen.specs.Commands.{act_of, akey_path, command_drawn, command_of, goes_to, lone, numbered, obj_path, op_of, picked_path, transfer}
 use Rattle.daos_gen.specs.Scripts.{clients_of, conts_of_load, objs_of_load, script_of}
 use Rattle.world_forms.specs.Keyed.{CommandHasKeys, HasKeys, OpHasKeys, ScriptHasKeys}
 

@@ -1,6 +1,6 @@
 -- A generated script is one that is run.
 use Rattle.std.proofs.Common.{◌≡◌, ℕ, ◌+◌, ◌%◌, Bool, true, false, ◌&&◌, cond, eqb, List, [], ◌∷◌, map, filter, refl, ap, ◌∙◌}
-use Rattle.std.specs.List.{list_all, range_with_len}
+use Rattle.std.specs.List.{range_with_len}
 use Rattle.daos_draw.specs.Draws.{drawn_after}
 use Rattle.daos_gen.specs.Commands.{act_of, command_drawn, command_of, goes_to, lone, transfer}
 use Rattle.daos_gen.specs.Scripts.{script_of}

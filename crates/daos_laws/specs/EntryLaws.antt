@@ -6,14 +6,14 @@ use Rattle.daos_base.specs.declared.entry.Entry.{Entry}
 use Rattle.daos_base.specs.declared.id.AttemptId.{AttemptId}
 use Rattle.daos_model.specs.Answers.{is_before}
 use Rattle.daos_model.specs.Changes.{committed_at}
-use Rattle.daos_model.specs.Durables.{is_entry_of, same_attempt}
+use Rattle.daos_model.specs.Durables.{attempt_key, is_entry_of, same_attempt}
 use Rattle.daos_model.specs.Ordered.{put, puts}
 use Rattle.daos_laws.specs.DecidedLaws.{all-from_has}
 use Rattle.daos_laws.specs.Members.{Has, has-from_map}
 use Rattle.daos_laws.specs.VersionLaws.{pairs-head, pairs-tail}
 use Rattle.std.proofs.lemmas.List.Kept.{AllPairs-cons}
-use Rattle.daos_laws.specs.TargetLaws.{number_same, same_number}
-use Rattle.daos_model.specs.BoolLaws.{and_left, and_right, both}
+use Rattle.daos_laws.specs.TargetLaws.{number_same}
+use Rattle.daos_model.specs.BoolLaws.{and_left, and_right}
 
 -- ---- attempts
 
@@ -32,9 +32,13 @@ same-attempt a b e =
     three : a.client ≡ b.client → a.command ≡ b.command → a.attempt ≡ b.attempt → a ≡ b
     three c d n = ap (λ k. made k a.command a.attempt) c ∙ ap (λ k. made b.client k a.attempt) d ∙ ap (λ k. made b.client b.command k) n
 
-pub same-itself : (a : AttemptId) → same_attempt a a ≡ true
-unfolding same_attempt
-same-itself a = both ((a.client == a.client) && (a.command == a.command)) (a.attempt == a.attempt) (both (a.client == a.client) (a.command == a.command) (same_number a.client) (same_number a.command)) (same_number a.attempt)
+-- attempts with one key are one
+pub key-is : (a b : AttemptId) → attempt_key a ≡ attempt_key b → a ≡ b
+key-is a b same =
+    let client : a.client ≡ b.client = cc in
+    let command : a.command ≡ b.command = cc in
+    let attempt : a.attempt ≡ b.attempt = cc in
+    ap (λ k. made k a.command a.attempt) client ∙ ap (λ k. made b.client k a.attempt) command ∙ ap (λ k. made b.client b.command k) attempt
 
 -- ---- what is put among others
 

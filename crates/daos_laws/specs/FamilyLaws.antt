@@ -1,7 +1,7 @@
 -- Cells without an object hold nothing, and a family of targets stands for what each of them gives at its own cells.
 use Rattle.std.specs.Prelude.{ℕ, zero, suc, ◌≡◌, ◌<◌, ◌&&◌, ◌+◌, ◌⊎◌, All, Bool, true, false, is_some, nat_lt, ◌^◌, List, [], ◌∷◌, length, filter, slice_get, Contains, Option, Some, None, refl, if◌then◌else◌}
 use Rattle.std.specs.List.{list_all, list_any}
-use Rattle.std.proofs.Common.{sym, ◌∙◌, ap, subst, inl, inr, arith}
+use Rattle.std.proofs.Common.{sym, ◌∙◌, ap, subst, inl, inr}
 use Rattle.daos_base.specs.declared.id.ObjId.{ObjId}
 use Rattle.daos_base.specs.declared.operation.Write.{Write}
 use Rattle.daos_base.specs.declared.operation.Write.TheVariants as write
@@ -13,6 +13,7 @@ use Rattle.daos_laws.specs.Dated.{Dated, after_all}
 use Rattle.daos_laws.specs.Decided.{Decided, dated_at, taken_in}
 use Rattle.daos_laws.specs.DecidedLaws.{as_of-dated, has-all, has-from_dated, has-from_ordered, ordered}
 use Rattle.daos_laws.specs.Groups.{is_dkey_of_group}
+use Rattle.daos_laws.specs.Lists.{at-within}
 use Rattle.daos_laws.specs.Members.{Has, any-has, contains-from_has, has-from_contains, has-from_filter, has-from_map}
 use Rattle.daos_laws.specs.ServeLaws.{all-has}
 use Rattle.daos_laws.specs.TargetLaws.{families-dkeys, family-leaders, same_number}
@@ -132,11 +133,6 @@ leader-within p n some = by p.obj
     by (Some o) =
         has-all (λ t. t < n) (members o (leading_group o p.dkey n) n) (leader_of o (leading_group o p.dkey n) n) (members-within o (leading_group o p.dkey n) n some)
         (has-from_contains (members o (leading_group o p.dkey n) n) (leader_of o (leading_group o p.dkey n) n) (leader_of-member o (leading_group o p.dkey n) n))
-
-pub at-within : {T : Type 0} (xs : List T) (n : ℕ) → n < length xs → (x : T) × (slice_get xs n ≡ Some x)
-at-within [] n within = absurd (omega (arith, within))
-at-within (x ∷ xs) zero within = (x, refl)
-at-within (x ∷ xs) (suc n) within = at-within xs n (omega (arith, within))
 
 at-has : {T : Type 0} (xs : List T) (n : ℕ) (x : T) → slice_get xs n ≡ Some x → Contains xs x
 at-has [] n x at = let no : ⊥ = cc in absurd no

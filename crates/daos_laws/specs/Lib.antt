@@ -1,4 +1,5 @@
 pub mod Members
+pub mod Lists
 pub mod RisingLaws
 pub mod NameLaws
 pub mod ReadLaws

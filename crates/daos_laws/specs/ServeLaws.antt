@@ -28,6 +28,7 @@ use Rattle.daos_laws.specs.Members.{Has, contains-from_has, has-from_contains}
 use Rattle.daos_laws.specs.ReadLaws.{answer-same}
 use Rattle.daos_laws.specs.TouchLaws.{punch-path, update-path}
 use Rattle.daos_laws.specs.VersionLaws.{maps-same}
+use Rattle.std.proofs.lemmas.Bool.{or_right}
 
 -- ---- paths that lead to one cell overlap
 
@@ -96,16 +97,12 @@ no_further-leads p q r h k less =
     (and_right (cont_test p r && obj_test p r && dkey_test p r) (akey_test p r) h)
     (and_right (cont_test q r && obj_test q r && dkey_test q r) (akey_test q r) k) less.akey)
 
-or_true : (a b : Bool) → b ≡ true → (a || b) ≡ true
-or_true true b e = refl
-or_true false b e = e
-
 prefixes-overlap : (p q r : Path) → IsChain p → IsChain q → leads_to p r ≡ true → leads_to q r ≡ true → overlaps p q ≡ true
 unfolding overlaps
 prefixes-overlap p q r f g h k =
     elim (shorter (is_some p.obj) (is_some p.dkey) (is_some p.akey) (is_some q.obj) (is_some q.dkey) (is_some q.akey) f.dkey f.akey g.dkey g.akey) [
       | inl less ↦ ap (λ b. b || leads_to q p) (no_further-leads p q r h k (record { obj = less.0; dkey = less.1; akey = less.2 }))
-      | inr less ↦ or_true (leads_to p q) (leads_to q p) (no_further-leads q p r k h (record { obj = less.0; dkey = less.1; akey = less.2 }))
+      | inr less ↦ or_right (leads_to p q) (leads_to q p) (no_further-leads q p r k h (record { obj = less.0; dkey = less.1; akey = less.2 }))
     ]
 
 -- ---- paths in form

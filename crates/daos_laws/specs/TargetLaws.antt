@@ -42,6 +42,7 @@ use Rattle.daos_laws.specs.Targets.{AgreeingTargetsHoldTheMap, AsOfHasDkeys, AsO
 use Rattle.daos_laws.specs.TouchLaws.{Newest, NewestAt, Untouched, newest-of, punch-path, punch-values, update-path}
 use Rattle.daos_laws.specs.VersionLaws.{rising-from_single}
 use Rattle.daos_laws.specs.JoinLaws.{effect-dkeys, has-range, leads_to-dkey, writes-dkeys}
+use Rattle.daos_laws.specs.Lists.{at-within}
 use Rattle.daos_laws.specs.WriteLaws.{after_write, value-effect}
 
 -- ---- the order of decisions doesn't matter
@@ -227,12 +228,6 @@ joined-at targets t (suc k) p (f ∷ ds) c d at is =
 pub family-leaders : FamilyMapIsOfLeaders
 family-leaders F p c d is = joined-at (length F) 0 (path_leader c.path (length F)) p F c d (omega arith) is
 
--- a target that is there
-there-is : {T : Type 0} (xs : List T) (k : ℕ) → k < length xs → (x : T) × (slice_get xs k ≡ Some x)
-there-is [] k lt = absurd (omega arith)
-there-is (x ∷ xs) zero lt = (x, refl)
-there-is (x ∷ xs) (suc k) lt = there-is xs k (omega arith)
-
 -- the leader of a cell with members is one of them, and a target
 record HasLeader (c : Cell) (targets : ℕ) : Type 0 where
   member : Contains (path_members c.path targets) (path_leader c.path targets)
@@ -263,7 +258,7 @@ leader-there c targets t some own = by c.path.obj c.path.dkey refl refl
 pub agreeing-hold : AgreeingTargetsHoldTheMap
 agreeing-hold F p t d c agree at own =
     let leader = leader-there c (length F) t (let lt = slice_get_within F t d at in omega (arith, lt)) own in
-    let f = there-is F (path_leader c.path (length F)) leader.within in
+    let f = at-within F (path_leader c.path (length F)) leader.within in
     let m = has-any (is_target t) (path_members c.path (length F)) (and_right (is_some c.path.dkey) (list_any (is_target t) (path_members c.path (length F))) own) in
     agree c t (path_leader c.path (length F)) d f.0 (and_left (is_some c.path.dkey) (list_any (is_target t) (path_members c.path (length F))) own)
     (contains-from_has (path_members c.path (length F)) t (subst (λ u. Has u (path_members c.path (length F))) (number_same m.0 t m.2) m.1)) leader.member at f.1
@@ -272,7 +267,7 @@ agreeing-hold F p t d c agree at own =
 pub families-give : FamiliesGiveAsOf
 families-give F p opening all e c gives own some =
     let leader = leader-there c (length F) (path_leader c.path (length F)) some own in
-    let f = there-is F (path_leader c.path (length F)) leader.within in
+    let f = at-within F (path_leader c.path (length F)) leader.within in
     family-leaders F (counts_under p e) c f.0 f.1 ∙ gives (path_leader c.path (length F)) f.0 f.1 c own
 
 -- a member of a cell with a dkey has it as its own

@@ -1,6 +1,6 @@
 -- The lines of a client that is alone: all attempts are its own, each reads at no snapshot, and it is known what became of each.
-use Rattle.std.specs.Prelude.{ℕ, ◌≡◌, ◌⊎◌, ◌≤◌, ◌<◌, ◌==◌, Bool, true, false, ◌||◌, is_none, Any, List, [], ◌∷◌, ◌++◌, length, slice_get, Option, Some, None, refl}
-use Rattle.std.proofs.Common.{zero, suc, append_assoc, sym, ◌∙◌, ap, subst, arith, inl, inr}
+use Rattle.std.specs.Prelude.{ℕ, ◌≡◌, ◌⊎◌, ◌<◌, ◌==◌, Bool, true, false, ◌||◌, is_none, Any, List, [], ◌∷◌, ◌++◌, length, Option, Some, None, refl}
+use Rattle.std.proofs.Common.{append_assoc, sym, ◌∙◌, ap, subst, arith, inl, inr}
 use Rattle.std.proofs.lemmas.Bool.{cases_lt}
 use Rattle.daos_base.specs.declared.epoch.Epoch.{Epoch}
 use Rattle.daos_base.specs.declared.id.AttemptId.{AttemptId}
@@ -30,13 +30,9 @@ use Rattle.daos_room.specs.Lines.{StandsAt, line-of, one-of-any}
 use Rattle.daos_room.specs.Rooms.{OnlyTransactions, is_transaction}
 use Rattle.daos_lone.specs.Lone.{IsLone}
 use Rattle.daos_lone.specs.Stopless as stopless
+use Rattle.std.proofs.lemmas.Option.{slice_get_past}
 
 -- ---- lists
-
-beyond : {T : Type 0} (xs : List T) (n : ℕ) → length xs ≤ n → slice_get xs n ≡ None
-beyond [] n le = refl
-beyond (x ∷ xs) zero le = absurd (omega (arith, le))
-beyond (x ∷ xs) (suc n) le = beyond xs n (omega (arith, le))
 
 -- an attempt stands before another one, is it, or stands behind it
 pub stands-beside : (before after : List Line) (a b : Attempt) → Has b (tries (before ++ line.Try a ∷ after)) → Has b (tries before) ⊎ (b ≡ a) ⊎ Has b (tries after)
@@ -98,7 +94,7 @@ module _ (g : Given) (o : Outside) (resolved : AttemptId → Bool) (q : Report) 
   -- ---- the only client
 
   no-commands : (n : ℕ) → 0 < n → client_commands g.script n ≡ []
-  no-commands n more = ap commands_or_none (beyond g.script.clients n (let one : length g.script.clients ≡ 1 = L.one in omega (arith, more, one)))
+  no-commands n more = ap commands_or_none (slice_get_past g.script.clients n (let one : length g.script.clients ≡ 1 = L.one in omega (arith, more, one)))
 
   pub only-client : (a : Attempt) → Has a (tries q.lines) → a.id.client ≡ 0
   only-client a i = elim (cases_lt 0 a.id.client) [

@@ -1,7 +1,7 @@
 -- How the attempts of a client that is alone end.
 use Rattle.std.specs.Prelude.{ℕ, ◌+◌, ◌*◌, ◌^◌, ◌≡◌, ◌≤◌, ◌<◌, Bool, true, false, max, List, [], ◌∷◌, length, slice_get, Option, Some, None, refl, count_by, filter}
 use Rattle.std.specs.List.{range_with_len}
-use Rattle.std.proofs.Common.{zero, suc, sym, ◌∙◌, ap, subst, arith, inl, inr}
+use Rattle.std.proofs.Common.{sym, ◌∙◌, ap, subst, arith}
 use Rattle.daos_base.specs.declared.id.AttemptId.{AttemptId}
 use Rattle.daos_base.specs.declared.operation.Cond.{Cond}
 use Rattle.daos_base.specs.declared.operation.Cond.TheVariants.{Free}
@@ -15,6 +15,7 @@ use Rattle.daos_base.specs.Epochs.{last_ticks}
 use Rattle.daos_base.specs.Scripts.{count_numbered, is_numbered}
 use Rattle.std.proofs.lemmas.List.Sums.{length-filter}
 use Rattle.daos_laws.specs.DecidedLaws.{all-from_has, has-all}
+use Rattle.daos_laws.specs.Lists.{has-at}
 use Rattle.daos_laws.specs.Members.{Has, contains-from_has}
 use Rattle.daos_model.specs.Attempts.{is_lost, is_restart, is_unknown, tries, tries_of}
 use Rattle.daos_model.specs.BoolLaws.{clash, or_left}
@@ -35,15 +36,7 @@ use Rattle.daos_lone.specs.Lone.{HasNoConditions, HasTicks, IsLone, FreshRunsHav
 use Rattle.daos_lone.specs.Once.{try-once}
 use Rattle.daos_lone.specs.Restarts.{not-restarted}
 use Rattle.daos_lone.specs.Stopless.{no-restarts}
-
-has-at : {T : Type 0} (xs : List T) (n : ℕ) (x : T) → slice_get xs n ≡ Some x → Has x xs
-has-at [] n x h = let no : ⊥ = cc in absurd no
-has-at (y ∷ ys) zero x h = let e : y ≡ x = cc in inl (sym e)
-has-at (y ∷ ys) (suc n) x h = inr (has-at ys n x h)
-
-length-range : (n k : ℕ) → length (range_with_len n k) ≡ k
-length-range n zero = refl
-length-range n (suc k) = ap suc (length-range (n + 1) k)
+use Rattle.std.proofs.lemmas.List.FromFn.{length-range_with_len}
 
 module _ (g : Given) (o : Outside) (resolved : AttemptId → Bool) (q : Report) (L : IsLone g.script o) (h : Headline g o resolved q) where
   -- no name stands for a missing snapshot
@@ -86,7 +79,7 @@ module _ (g : Given) (o : Outside) (resolved : AttemptId → Bool) (q : Report) 
       many : length (tries q.lines) ≡ length (client_commands g.script 0)
       many =
           sym (length-map (λ (a : Attempt). a.id) (tries q.lines)) ∙ ap length (try-once g o resolved q L h)
-          ∙ length-map first_attempt (range_with_len 0 (length (client_commands g.script 0))) ∙ length-range 0 (length (client_commands g.script 0))
+          ∙ length-map first_attempt (range_with_len 0 (length (client_commands g.script 0))) ∙ length-range_with_len 0 (length (client_commands g.script 0))
 
       by : (lease restarts attempts last : ℕ) → restarts ≡ 0 → attempts ≡ length (client_commands g.script 0) → lease + length (client_commands g.script 0) ≤ last → last < lease + 65536 * restarts + attempts → ⊥
       by lease restarts attempts last a b c d = omega (arith, a, b, c, d)

@@ -1,5 +1,5 @@
 -- Each command of a client that is alone is attempted once, and epochs rise with the lines.
-use Rattle.std.specs.Prelude.{ℕ, ◌+◌, ◌≡◌, ◌<◌, Bool, true, false, List, [], ◌∷◌, ◌++◌, filter, length, map, Some, refl, if◌then◌else◌}
+use Rattle.std.specs.Prelude.{ℕ, ◌+◌, ◌≡◌, ◌<◌, Bool, true, false, List, [], ◌∷◌, ◌++◌, length, map, Some, refl, if◌then◌else◌}
 use Rattle.std.specs.List.{range_with_len}
 use Rattle.std.proofs.Common.{sym, ◌∙◌, ap, subst, inl, inr}
 use Rattle.daos_base.specs.declared.epoch.Epoch.{Epoch}
@@ -8,6 +8,7 @@ use Rattle.daos_base.specs.declared.report.Attempt.{Attempt}
 use Rattle.daos_base.specs.declared.script.Command.{Command}
 use Rattle.daos_base.specs.declared.script.Script.{Script}
 use Rattle.daos_laws.specs.DecidedLaws.{has-all}
+use Rattle.daos_laws.specs.Lists.{filter-all}
 use Rattle.daos_laws.specs.Members.{Has, has-from_contains, has-from_filter, has-left, has-right}
 use Rattle.daos_laws.specs.TargetLaws.{same_number}
 use Rattle.daos_model.specs.Attempts.{epoch_or_none, has_own_epoch, is_of_client, is_restart, own_epochs, tries, tries_of}
@@ -38,10 +39,6 @@ tried-once limit client n (c ∷ cs) xs none k =
     ∙ one-attempt limit client n k.0 k.1 (λ a i. none a (subst (Has a) (sym k.2) (has-left k.0 k.1 a i))) k.3
     ∙ ap (λ ys. record { client = client; command = n; attempt = 0 } ∷ ys) (tried-once limit client (n + 1) cs k.1 (λ a i. none a (subst (Has a) (sym k.2) (has-right k.0 k.1 a i))) k.4)
 
-all-pass : {T : Type 0} (t : T → Bool) (xs : List T) → ((x : T) → Has x xs → t x ≡ true) → filter t xs ≡ xs
-all-pass t [] each = refl
-all-pass t (x ∷ xs) each = ap (λ b. if b then x ∷ filter t xs else filter t xs) (each x (inl refl)) ∙ ap (λ ys. x ∷ ys) (all-pass t xs (λ y i. each y (inr i)))
-
 -- an epoch of an attempt that reads at no snapshot is among those
 epoch-among : (s : Script) (xs : List Attempt) (a : Attempt) (e : Epoch) → ((b : Attempt) → has_own_epoch s b ≡ true) → Has a xs → a.epoch ≡ Some e → Has e.0 (own_epochs s xs)
 unfolding own_epochs
@@ -57,7 +54,7 @@ epoch-among s (b ∷ xs) a e own (inr i) at = has-right (if has_own_epoch s b th
 
 pub try-once : LoneClientsTryOnce
 try-once g o resolved q L h =
-    sym (ap ids (all-pass (is_of_client 0) (tries q.lines) (λ a i. subst (λ c. is_of_client c a ≡ true) (only-client g o resolved q L h a i) (same_number a.id.client))))
+    sym (ap ids (filter-all (is_of_client 0) (tries q.lines) (λ a i. subst (λ c. is_of_client c a ≡ true) (only-client g o resolved q L h a i) (same_number a.id.client))))
     ∙ tried-once g.job.attempts 0 0 (client_commands g.script 0) (tries_of 0 q.lines) none (h.outcomes.in_turn 0)
   where
     none : (a : Attempt) → Has a (tries_of 0 q.lines) → is_restart a.outcome ≡ false

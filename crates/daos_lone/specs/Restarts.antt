@@ -18,7 +18,8 @@ use Rattle.daos_base.specs.declared.report.Report.{Report}
 use Rattle.daos_base.specs.declared.script.Command.{Command}
 use Rattle.daos_base.specs.declared.script.Command.TheVariants.{Snap, Aggregate}
 use Rattle.daos_laws.specs.DecidedLaws.{all-from_has, has-all}
-use Rattle.daos_laws.specs.Members.{Has, any-has, contains-from_has, has-cases, has-left, has-right}
+use Rattle.daos_laws.specs.Lists.{any-of}
+use Rattle.daos_laws.specs.Members.{Has, any-has, has-cases, has-left, has-right}
 use Rattle.daos_model.specs.Accesses.{attempt_targets}
 use Rattle.daos_model.specs.Attempts.{has_own_epoch, is_lost, is_of_client, is_restart, is_unknown, tried, tries, up_to_last_of}
 use Rattle.daos_model.specs.BoolLaws.{clash, or_left}
@@ -33,9 +34,6 @@ use Rattle.daos_room.specs.Lines.{StandsAt, line-of, one-of-any}
 use Rattle.daos_room.specs.Rooms.{is_transaction}
 use Rattle.daos_lone.specs.Alone.{above-earlier, above-later, is-sure, never-opens, none-stops, same-client, stands-before, stands-beside}
 use Rattle.daos_lone.specs.Lone.{IsLone, LoneClientsNeverRestart}
-
-any-of : {T : Type 0} (P : T → Type 0) (xs : List T) (x : T) → Has x xs → P x → Any P xs
-any-of P xs x i p = let c = contains-from_has xs x i in (c.0, x, c.1, c.2, p)
 
 -- up to the last line of a client are all of its lines
 up-to-last : (client : ℕ) (ls : List Line) (b : Attempt) → ((x : Attempt) → Has x (tries ls) → is_of_client client x ≡ true) → Has b (tries ls) → Has b (tries (up_to_last_of client ls))

@@ -1,5 +1,5 @@
 -- Attempts among the lines of a report.
-use Rattle.std.proofs.Common.{◌≡◌, inl, inr, ◌++◌, List, [], ◌∷◌, All, Any, ap, sym, subst, refl}
+use Rattle.std.proofs.Common.{◌≡◌, inl, inr, List, [], ◌∷◌}
 use Rattle.daos_base.specs.declared.report.Attempt.{Attempt}
 use Rattle.daos_base.specs.declared.report.Line.{Line}
 use Rattle.daos_base.specs.declared.report.Line.TheVariants as line
@@ -24,13 +24,3 @@ try-among (line.Aggregate n t cont upto ∷ lines) a (inl same) = let no : ⊥ =
 try-among (line.Aggregate n t cont upto ∷ lines) a (inr i) = try-among lines a i
 try-among (line.Down t ∷ lines) a (inl same) = let no : ⊥ = cc in absurd no
 try-among (line.Down t ∷ lines) a (inr i) = try-among lines a i
-
--- the lines before one of them, and those after it
-pub cut-at : (lines : List Line) (l : Line) → Has l lines → (before : List Line) × (after : List Line) × (lines ≡ before ++ l ∷ after)
-cut-at [] l i = absurd i
-cut-at (m ∷ lines) l (inl same) = ([], lines, ap (λ x. x ∷ lines) (sym same))
-cut-at (m ∷ lines) l (inr i) = let k = cut-at lines l i in (m ∷ k.0, k.1, ap (λ ls. m ∷ ls) k.2)
-
--- what is so of all is so of one that is shown
-pub any-all : {T : Type 0} (P Q : T → Type 0) (xs : List T) → All P xs → (i : Any Q xs) → P i.1
-any-all P Q xs all i = subst P i.3 (all i.0 i.1 i.2)

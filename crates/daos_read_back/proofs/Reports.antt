@@ -1,5 +1,5 @@
 -- A legal report tells of what its script has, and is read back.
-use Rattle.std.proofs.Common.{◌≡◌, inl, inr, ℕ, ◌+◌, ◌<◌, ◌++◌, Bool, true, false, List, [], ◌∷◌, All, Any, Option, Some, None, Ok, refl, sym, ap, subst, ◌∙◌, arith}
+use Rattle.std.proofs.Common.{◌≡◌, inl, ℕ, ◌+◌, ◌<◌, ◌++◌, Bool, true, false, List, [], ◌∷◌, All, refl, sym, ap, subst, ◌∙◌, arith}
 use Rattle.std.specs.Prelude.{nat_lt, length}
 use Rattle.std.proofs.lemmas.Bool.Decides.{nat_tests}
 use Rattle.std.proofs.lemmas.Option.{slice_get_within}
@@ -17,7 +17,6 @@ use Rattle.daos_base.specs.declared.report.Attempt.{Attempt}
 use Rattle.daos_base.specs.declared.report.Line.{Line}
 use Rattle.daos_base.specs.declared.report.Line.TheVariants as line
 use Rattle.daos_base.specs.declared.report.Report.{Report}
-use Rattle.daos_base.specs.declared.script.Script.{Script}
 use Rattle.daos_laws.specs.DecidedLaws.{all-from_has, has-all}
 use Rattle.daos_laws.specs.Members.{Has, has-from_contains, has-left, has-right}
 use Rattle.daos_model.specs.Attempts.{tries}
@@ -27,25 +26,25 @@ use Rattle.daos_model.specs.Durables.{same_attempt}
 use Rattle.daos_model.specs.Headline.{Headline}
 use Rattle.daos_model.specs.Opening.{Given, Outside}
 use Rattle.daos_model.specs.ReadsLegal.{AttemptReadsLegal, IsToldRight, map_read}
-use Rattle.daos_model.specs.Snapshots.{ComesFrom, MakesSnapshot}
+use Rattle.daos_model.specs.Snapshots.{ComesFrom}
 use Rattle.daos_model.specs.Stops.{AreCounted, HasTarget, stop_numbers}
 use Rattle.daos_model.specs.TookEffect.{took}
 use Rattle.daos_model.specs.Transactions.{attempt_ops}
 use Rattle.daos_report.specs.Forms.{IsReportOf}
-use Rattle.daos_report.specs.Reports.{report_text}
 use Rattle.daos_report_fits.specs.Marks as marks
 use Rattle.daos_report_fits.specs.Marks.{table_of}
-use Rattle.daos_report_fits.specs.Told.{cause_fits, has_attempt, is_target, outcome_fits, outcome_fits_in}
-use Rattle.daos_report_reader.specs.Law.{IsAttemptIn, IsGotIn, IsLineIn, IsReportFor, ReadsTexts, StopsFrom}
-use Rattle.daos_report_reader.specs.Reading.{asked, report_of}
+use Rattle.daos_report_fits.specs.Told.{cause_fits, has_attempt, outcome_fits, outcome_fits_in}
+use Rattle.daos_report_reader.specs.Law.{IsAttemptIn, IsGotIn, IsLineIn, IsReportFor, StopsFrom}
+use Rattle.daos_report_reader.specs.Reading.{asked}
 use Rattle.daos_read_back.specs.Laws.{IsSpelled, IsToldWell}
 use Rattle.daos_read_back.proofs.InOrder.{in-order}
-use Rattle.daos_read_back.proofs.Lines.{any-all, cut-at, try-among}
+use Rattle.daos_read_back.proofs.Lines.{try-among}
 use Rattle.daos_read_back.proofs.Marks.{command-ops, has-attempt, is-asked, is-read}
 use Rattle.daos_read_back.proofs.Snaps.{is-snap}
 use Rattle.daos_read_back.proofs.Space.{lacks-within}
 use Rattle.daos_read_back.proofs.Tries.{cond-asks, got-reads, is-of-command}
 use Rattle.daos_laws.specs.EntryLaws.{same-attempt}
+use Rattle.daos_laws.specs.Lists.{any-all, has-cut}
 
 -- ---- numbers
 
@@ -130,7 +129,7 @@ module _ (g : Given) (o : Outside) (resolved : AttemptId → Bool) (q : Report) 
   ends-in : (a : Attempt) → Has (line.Try a) q.lines → Has a (tries q.lines) → outcome_fits_in g.script (table_of g.script) (marks.ops_of (table_of g.script) a.id) a.outcome ≡ true
   ends-in a i among =
       let c = is-of-command g.job.attempts g.script q.lines a legal.outcomes.in_turn among in
-      let cut = cut-at q.lines (line.Try a) i in
+      let cut = has-cut q.lines (line.Try a) i in
       let how = how-fits cut.0 cut.1 a a.outcome cut.2 among (has-all (ConditionsLegal g.script) (tries q.lines) a legal.outcomes.conditions among) (legal.causes cut.0 a cut.1 cut.2) in
       ap (λ ops. outcome_fits_in g.script (table_of g.script) ops a.outcome) (command-ops g.script a.id c.0 c.1) ∙ how
 

@@ -1,5 +1,5 @@
 -- What a legal report tells of an attempt: it is one of a command, and its answers and conditions are those of operations that have such.
-use Rattle.std.proofs.Common.{◌≡◌, ◌⊎◌, inl, inr, ℕ, zero, suc, ◌+◌, ◌<◌, Bool, true, List, [], ◌∷◌, length, slice_get, Option, Some, None, refl, sym, ap, subst, ◌∙◌, arith, All}
+use Rattle.std.proofs.Common.{◌≡◌, ◌⊎◌, inl, inr, ℕ, suc, ◌+◌, ◌<◌, Bool, true, List, [], ◌∷◌, length, slice_get, Option, Some, None, refl, ap, subst, ◌∙◌, arith}
 use Rattle.daos_base.specs.declared.answer.Answer.{Answer}
 use Rattle.daos_base.specs.declared.operation.Op.{Op}
 use Rattle.daos_base.specs.declared.operation.Read.{Read}
@@ -8,6 +8,7 @@ use Rattle.daos_base.specs.declared.report.Line.{Line}
 use Rattle.daos_base.specs.declared.script.Command.{Command}
 use Rattle.daos_base.specs.declared.script.Script.{Script}
 use Rattle.daos_laws.specs.DecidedLaws.{has-all}
+use Rattle.daos_laws.specs.Lists.{at-within}
 use Rattle.daos_laws.specs.Members.{Has, has-cases, has-filter}
 use Rattle.daos_laws.specs.TargetLaws.{same_number}
 use Rattle.daos_model.specs.declared.cell.CellValue.{CellValue}
@@ -36,11 +37,6 @@ in-turn limit client n (c ∷ cs) xs a k i = by (has-cases k.0 k.1 a (subst (Has
     by (inl j) rest = let e : a.id.command ≡ n = of-command limit client n 0 k.0 a k.3 j in omega (arith, e)
     by (inr j) rest = let low : a.id.command < n + 1 + length cs = rest j in omega (arith, low)
 
-there-is : {T : Type 0} (xs : List T) (k : ℕ) → k < length xs → (x : T) × (slice_get xs k ≡ Some x)
-there-is [] k lt = absurd (omega (arith, lt))
-there-is (x ∷ xs) zero lt = (x, refl)
-there-is (x ∷ xs) (suc k) lt = there-is xs k (omega (arith, lt))
-
 -- an attempt that a line tells of is one of a command
 pub is-of-command : (limit : ℕ) (s : Script) (lines : List Line) (a : Attempt) → AllInTurn limit s lines → Has a (tries lines) → (c : Command) × (command_of s a.id ≡ Some c)
 unfolding command_of
@@ -56,7 +52,7 @@ is-of-command limit s lines a turn i = by (slice_get s.clients a.id.client) refl
         absurd (omega (arith, within, none))
     by (Some list) e =
         let count : length (client_commands s a.id.client) ≡ length (numbered list) = ap (λ o. length (commands_or_none o)) e in
-        let here = there-is (numbered list) a.id.command (omega (arith, within, count)) in
+        let here = at-within (numbered list) a.id.command (omega (arith, within, count)) in
         (here.0, ap (numbered_at a.id.command) e ∙ here.1)
 
 -- ---- what it was told

@@ -9,6 +9,7 @@ use Rattle.daos_base.specs.declared.report.Line.TheVariants as line
 use Rattle.daos_base.specs.declared.script.Command.{Command}
 use Rattle.daos_base.specs.declared.script.Script.{Script}
 use Rattle.daos_base.specs.Scripts.{is_numbered}
+use Rattle.daos_laws.specs.Lists.{passes-at}
 use Rattle.daos_laws.specs.Members.{Has, has-from_contains}
 use Rattle.daos_model.specs.Attempts.{tries}
 use Rattle.daos_model.specs.BoolLaws.{and_left, and_right}
@@ -53,11 +54,6 @@ command-at s x client n c own number at = by (slice_get s.clients client) refl a
 
 -- ---- commands of lists that pass a test
 
-all-at : {T : Type 0} (t : T → Bool) (xs : List T) (n : ℕ) (x : T) → list_all t xs ≡ true → slice_get xs n ≡ Some x → t x ≡ true
-all-at t [] n x all at = let no : ⊥ = cc in absurd no
-all-at t (y ∷ ys) zero x all at = let same : y ≡ x = cc in subst (λ z. t z ≡ true) same (and_left (t y) (list_all t ys) all)
-all-at t (y ∷ ys) (suc n) x all at = all-at t ys n x (and_right (t y) (list_all t ys) all) at
-
 -- what stands among those that pass a second test passes both
 filtered-at : {T : Type 0} (t u : T → Bool) (xs : List T) (n : ℕ) (x : T) → list_all t xs ≡ true → slice_get (filter u xs) n ≡ Some x → (t x ≡ true) × (u x ≡ true)
 filtered-at t u [] n x all at = let no : ⊥ = cc in absurd no
@@ -74,4 +70,4 @@ lists-of-transactions s t only all x c at = by (slice_get s.clients x.client) re
   where
     by : (o : Option (List Command)) → slice_get s.clients x.client ≡ o → numbered_at x.command o ≡ Some c → is_transaction c ≡ true
     by None e h = let no : ⊥ = cc in absurd no
-    by (Some list) e h = let k = filtered-at t is_numbered list x.command c (all-at (list_all t) s.clients x.client list all e) h in only c k.0 k.1
+    by (Some list) e h = let k = filtered-at t is_numbered list x.command c (passes-at (list_all t) s.clients x.client list all e) h in only c k.0 k.1

@@ -15,7 +15,6 @@ use Rattle.daos_laws.specs.HoldingLaws.{held-blocks, holder-within}
 use Rattle.daos_laws.specs.Members.{Has}
 use Rattle.daos_model.specs.Accesses.{minor_writes}
 use Rattle.daos_model.specs.Attempts.{tries}
-use Rattle.daos_model.specs.Blocks.{blocks}
 use Rattle.daos_model.specs.CausesShown.{LacksBlocks, LacksPlace, LacksSpace, ShowsWhy, blocks_at, blocks_of_others, blocks_of_some, is_snap, lacks_space_at, other_snaps, writes_at}
 use Rattle.daos_model.specs.Durables.{same_attempt}
 use Rattle.daos_model.specs.EntryLaws.{same_attempt-itself}

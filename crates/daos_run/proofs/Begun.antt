@@ -1,8 +1,8 @@
 -- The world that a run begins with.
-use Rattle.std.specs.Prelude.{ℕ, ◌≡◌, ◌≤◌, ◌<◌, ◌/◌, ◌&&◌, All, Bool, true, false, List, [], ◌∷◌, length, map, slice_get, Option, Some, None, is_some, refl}
+use Rattle.std.specs.Prelude.{ℕ, ◌≡◌, ◌≤◌, ◌/◌, All, true, false, List, [], ◌∷◌, length, map, slice_get, Option, Some, None, is_some, refl}
 use Rattle.std.specs.List.{list_all}
 use Rattle.std.proofs.Common.{zero, suc, sym, ◌∙◌, ap, subst, arith}
-use Rattle.std.proofs.lemmas.Bool.{true≢false}
+use Rattle.std.proofs.lemmas.Bool.{and_parts, true≢false}
 use Rattle.std.proofs.lemmas.List.Elements.{All-nil}
 use Rattle.client_core.specs.Clients.{ClientNow}
 use Rattle.daos_base.specs.Scripts.{IsInForm}
@@ -10,19 +10,17 @@ use Rattle.daos_base.specs.declared.job.Job.{Job}
 use Rattle.daos_base.specs.declared.script.Command.{Command}
 use Rattle.daos_base.specs.declared.script.Command.TheVariants.{Aggregate, Run, Skip, Snap, Tell}
 use Rattle.daos_base.specs.declared.script.Script.{Script}
+use Rattle.daos_laws.specs.Lists.{passes-at}
 use Rattle.daos_laws.specs.Members.{has-from_contains}
 use Rattle.daos_model.specs.declared.durable.Durable.{Durable}
 use Rattle.daos_model.specs.Changes.{enlisted}
 use Rattle.daos_model.specs.Durables.{empty_durable}
-use Rattle.daos_model.specs.Opening.{Given, fresh_opening}
+use Rattle.daos_model.specs.Opening.{fresh_opening}
 use Rattle.daos_run.specs.Opens.{AreFirst, IsOpened, IsStarted, given}
 use Rattle.daos_run.specs.Runnable.{IsRunnable, are_run, is_run, runs}
-use Rattle.dtx_base.specs.declared.leading.Undecided.{Undecided}
-use Rattle.daos_laws.specs.Members.{Has}
-use Rattle.daos_messages.specs.declared.actor.ActorId.{ActorId}
+use Rattle.daos_model.specs.FormLaws.{length-map}
 use Rattle.run_order.specs.Ended.{nothing}
 use Rattle.run_actors.specs.CanGo.{CanGo}
-use Rattle.run_actors.specs.ListLaws.{map-get, there-is}
 use Rattle.run_actors.specs.Shows.{IsGoing, IsTargetOf, Shows, state_of}
 use Rattle.target_core.specs.Targets.{TargetOf}
 use Rattle.target_parts.specs.Knowing.{IsHeard}
@@ -30,7 +28,7 @@ use Rattle.vos_store.specs.Calls.{State}
 use Rattle.world_base.specs.declared.target.Life.TheVariants.{Running}
 use Rattle.world_base.specs.declared.target.TargetState.{TargetState}
 use Rattle.world_base.specs.declared.world.World.{World}
-use Rattle.world_base.specs.ClientTurns.{at_first, plan_of}
+use Rattle.world_base.specs.ClientTurns.{plan_of}
 use Rattle.world_begins.specs.Begins.{AreEnlisted, IsBegun, IsSimple, OpensWith, StartsWith, declared_conts, first_client}
 use Rattle.world_begins.specs.Fresh.{fresh-opens}
 use Rattle.world_ends.specs.Ends.{rules_of}
@@ -39,15 +37,6 @@ use Rattle.world_events.specs.Events.{Begins, client_plan, commands_or_none, tar
 use Rattle.world_posts.specs.Forms.{ClientsWait}
 
 -- ---- scripts
-
-both : (a b : Bool) → a && b ≡ true → (a ≡ true) × (b ≡ true)
-both true b h = (refl, h)
-both false b h = let no : ⊥ = cc in absurd no
-
-one-of : {T : Type 0} (t : T → Bool) (xs : List T) (n : ℕ) (x : T) → list_all t xs ≡ true → slice_get xs n ≡ Some x → t x ≡ true
-one-of t [] n x all at = let no : ⊥ = cc in absurd no
-one-of t (y ∷ ys) zero x all at = let same : y ≡ x = cc in subst (λ z. t z ≡ true) same (both (t y) (list_all t ys) all).0
-one-of t (y ∷ ys) (suc n) x all at = one-of t ys n x (both (t y) (list_all t ys) all).1 at
 
 -- a command that is run reads at no snapshot, makes none, and doesn't aggregate
 unsnapped-if-run : (d : Command) → is_run d ≡ true → is_unsnapped d ≡ true
@@ -58,9 +47,9 @@ unsnapped-if-run (Aggregate cont) h = let no : ⊥ = cc in absurd no
 unsnapped-if-run (Tell client) h = refl
 unsnapped-if-run (Skip turns) h = refl
 
-lists-run : (s : Script) → runs s ≡ true → list_all are_run s.clients ≡ true
+pub lists-run : (s : Script) → runs s ≡ true → list_all are_run s.clients ≡ true
 unfolding runs
-lists-run s h = (both _ (list_all are_run s.clients) h).1
+lists-run s h = (and_parts _ (list_all are_run s.clients) h).1
 
 unsnapped : (s : Script) (lists : List (List Command)) (n k : ℕ) (d : Command) → list_all are_run lists ≡ true → slice_get (commands_or_none (slice_get lists n)) k ≡ Some d → is_unsnapped d ≡ true
 unsnapped s lists n k d all at = by (slice_get lists n) refl
@@ -69,7 +58,7 @@ unsnapped s lists n k d all at = by (slice_get lists n) refl
     by None none = let bad : slice_get (commands_or_none None) k ≡ Some d = ap (λ o. slice_get (commands_or_none o) k) (sym none) ∙ at in let no : ⊥ = cc in absurd no
     by (Some list) is =
         let there : slice_get list k ≡ Some d = ap (λ o. slice_get (commands_or_none o) k) (sym is) ∙ at in
-        unsnapped-if-run d (one-of is_run list k d (one-of are_run lists n list all is) there)
+        unsnapped-if-run d (passes-at is_run list k d (passes-at are_run lists n list all is) there)
 
 -- a run of such a script is simple
 pub is-simple : (s : Script) (j : Job) (free : ℕ → ℕ) → IsRunnable j.targets s → 1 ≤ j.targets → j.targets ≤ 64 → 1 ≤ j.attempts → IsSimple (rules_of (given s j free))
@@ -88,10 +77,6 @@ same-lists [] [] h each = refl
 same-lists [] (y ∷ ys) h each = absurd (omega (arith, h))
 same-lists (x ∷ xs) [] h each = absurd (omega (arith, h))
 same-lists (x ∷ xs) (y ∷ ys) h each = ap (λ z. z ∷ xs) (each 0 x y refl refl) ∙ ap (λ zs. y ∷ zs) (same-lists xs ys (omega (arith, h)) (λ n u v a b. each (suc n) u v a b))
-
-pub length-map : {A B : Type 0} (f : A → B) (xs : List A) → length (map f xs) ≡ length xs
-length-map f [] = refl
-length-map f (x ∷ xs) = ap suc (length-map f xs)
 
 -- an element of a mapped list is that of another
 pub record IsMapped {A B : Type 0} (f : A → B) (xs : List A) (n : ℕ) (y : B) : Type 0 where

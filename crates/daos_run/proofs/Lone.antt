@@ -20,6 +20,7 @@ use Rattle.daos_model.specs.Opening.{undisturbed}
 use Rattle.daos_room.specs.Lines.{lists-of-transactions}
 use Rattle.daos_room.specs.RoomLaws.{transactions-find-room}
 use Rattle.daos_room.specs.Rooms.{FindsRoom, HasRoom, OnlyTransactions, is_transaction}
+use Rattle.daos_run.proofs.Begun.{lists-run}
 use Rattle.daos_run.specs.Alone.{IsOfLoneClient}
 use Rattle.daos_run.specs.Opens.{IsLegal, given}
 use Rattle.daos_run.specs.Runnable.{IsRunnable, are_run, is_run, runs}
@@ -34,10 +35,6 @@ transaction-if-run (Skip turns) run number = number
 none-there : {T : Type 0} (xs : List T) → (length xs == 0) ≡ true → xs ≡ []
 none-there [] h = refl
 none-there (x ∷ xs) h = let none : length (x ∷ xs) ≡ 0 = number_same (length (x ∷ xs)) 0 h in absurd (omega (arith, none))
-
-lists-run : (s : Script) → runs s ≡ true → list_all are_run s.clients ≡ true
-unfolding runs
-lists-run s h = and_right ((length s.olds == 0) && (length s.stops == 0)) (list_all are_run s.clients) h
 
 no-stops : (s : Script) → runs s ≡ true → s.stops ≡ []
 unfolding runs

@@ -1,11 +1,11 @@
 -- Empty stores in memory.
 use Rattle.std.specs.Prelude.{ℕ, ◌≡◌, ◌≤◌, ◌*◌, ◌-◌, List, Option, Some, refl}
-use Rattle.std.proofs.Common.{ap, arith, subst, sym}
+use Rattle.std.proofs.Common.{arith, subst, sym}
 use Rattle.daos_model.specs.declared.durable.Durable.{Durable}
 use Rattle.daos_run.specs.Opens.{IsEmpty, IsFreshState}
 use Rattle.daos_run.specs.Slots.{AllTell, AreFree, HaveStores}
 use Rattle.daos_run.specs.Starts.{IsNewStore}
-use Rattle.vos_plain.specs.Plain.{new_state, plain_durable, plain_state}
+use Rattle.vos_plain.specs.Plain.{plain_durable, plain_state}
 use Rattle.vos_plain.specs.declared.store.PlainStore.{PlainStore}
 
 -- it tells what it keeps

@@ -1,24 +1,24 @@
 -- What a run of the actors gives.
-use Rattle.std.specs.Prelude.{ℕ, ◌≡◌, ◌≤◌, ◌<◌, List, [], length, slice_get, Contains, Option, Some}
+use Rattle.std.specs.Prelude.{ℕ, ◌≡◌, ◌≤◌, ◌<◌, List, length, slice_get, Contains, Option, Some}
 use Rattle.std.proofs.lemmas.List.Elements.{All-nil}
 use Rattle.std.proofs.lemmas.Option.{slice_get_within}
 use Rattle.std.proofs.Common.{sym, ◌∙◌, ap, subst, arith}
-use Rattle.client_core.specs.Clients.{ClientNow}
 use Rattle.daos_base.specs.declared.job.Job.{Job}
 use Rattle.daos_base.specs.declared.report.Line.{Line}
 use Rattle.daos_base.specs.declared.script.Script.{Script}
+use Rattle.daos_laws.specs.Lists.{at-within}
 use Rattle.daos_laws.specs.Members.{has-from_contains}
 use Rattle.daos_model.specs.declared.durable.Durable.{Durable}
 use Rattle.daos_model.specs.Finals.{HeadlineOver}
+use Rattle.daos_model.specs.FormLaws.{length-map}
 use Rattle.daos_model.specs.Headline.{Headline}
-use Rattle.daos_model.specs.Opening.{Given, undisturbed}
+use Rattle.daos_model.specs.Opening.{undisturbed}
 use Rattle.daos_report.specs.Forms.{IsReportOf}
 use Rattle.daos_run.specs.Opens.{AreKept, HasConts, Reports, given, report_of}
 use Rattle.daos_run.specs.Runnable.{IsRunnable}
 use Rattle.daos_run.specs.Slots.{IsAt}
-use Rattle.daos_run.proofs.Begun.{from-map, is-simple, length-map}
+use Rattle.daos_run.proofs.Begun.{from-map, is-simple}
 use Rattle.run_order.specs.Ended.{HasRun}
-use Rattle.run_actors.specs.ListLaws.{there-is}
 use Rattle.run_picks.specs.OrderLaws.{orders-are-runs}
 use Rattle.target_core.specs.Targets.{TargetOf}
 use Rattle.vos_store.specs.Calls.{State}
@@ -43,7 +43,7 @@ module _ {S C : Type 0} (durable : S → Option Durable) (state : S → State) (
     many = length-map durable_of K.last.targets ∙ K.many ∙ sym many;
     each = λ t x d at here.
         let z = from-map durable_of K.last.targets t d here in
-        let y = there-is ys t (subst (λ n. t < n) K.many (slice_get_within K.last.targets t z.of_it z.at)) in
+        let y = at-within ys t (subst (λ n. t < n) K.many (slice_get_within K.last.targets t z.of_it z.at)) in
         ap durable (its t x y.0 at y.1) ∙ (K.targets t y.0 z.of_it y.1 z.at).told ∙ ap (λ e. Some e) (sym z.is);
   }
 

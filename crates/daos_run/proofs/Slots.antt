@@ -3,6 +3,7 @@ use Rattle.std.specs.Prelude.{ℕ, zero, suc, ◌≡◌, ◌≤◌, ◌<◌, ◌
 use Rattle.std.proofs.Common.{inl, inr, sym, ◌∙◌, ap, subst, arith}
 use Rattle.std.proofs.lemmas.Bool.{cases_eq}
 use Rattle.std.proofs.lemmas.Option.{slice_get_within}
+use Rattle.daos_laws.specs.Lists.{length-replicate}
 use Rattle.daos_run.specs.Slots.{AreBack, HaveStores, IsAt}
 use Rattle.run_actors.specs.ListLaws.{length-set}
 use Rattle.target_core.specs.Targets.{TargetOf}
@@ -25,10 +26,6 @@ at-replicate : {T : Type 0} (n t : ℕ) (x : T) → t < n → slice_get (replica
 at-replicate zero t x low = absurd (omega (arith, low))
 at-replicate (suc n) zero x low = refl
 at-replicate (suc n) (suc t) x low = at-replicate n t x (omega (arith, low))
-
-length-replicate : {T : Type 0} (n : ℕ) (x : T) → length (replicate n x) ≡ n
-length-replicate zero x = refl
-length-replicate (suc n) x = ap suc (length-replicate n x)
 
 module _ {S C : Type 0} (P : S → Type 0) where
   pub none-set : (targets : ℕ) (slots : List (Option (S × C))) → slots ≡ replicate targets None → AreSetSoFar P targets 0 slots

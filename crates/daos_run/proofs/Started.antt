@@ -1,10 +1,11 @@
 -- Targets that start over their stores, one after another; and their stores in the end.
-use Rattle.std.specs.Prelude.{ℕ, zero, suc, ◌≡◌, ◌≤◌, ◌<◌, ◌+◌, ◌==◌, Bool, true, false, List, [], ◌∷◌, ◌++◌, length, set, slice_get, Option, Some, None, is_some, Result, Ok, Err, refl}
+use Rattle.std.specs.Prelude.{ℕ, ◌≡◌, ◌≤◌, ◌<◌, ◌+◌, Bool, true, false, List, [], ◌∷◌, ◌++◌, length, set, slice_get, Option, Some, None, Result, Ok, Err, refl}
 use Rattle.std.proofs.Common.{inl, inr, sym, ◌∙◌, ap, subst, arith}
-use Rattle.std.proofs.lemmas.Bool.{cases_eq, cases_lt, true≢false}
+use Rattle.std.proofs.lemmas.Bool.{cases_eq, cases_lt}
 use Rattle.std.proofs.lemmas.Option.{slice_get_within}
 use Rattle.daos_base.specs.declared.job.Job.{Job}
 use Rattle.daos_base.specs.declared.script.Script.{Script}
+use Rattle.daos_laws.specs.Lists.{at-within}
 use Rattle.daos_model.specs.declared.durable.Durable.{Durable}
 use Rattle.daos_run.specs.declared.stop.RunStop.{RunStop}
 use Rattle.daos_run.specs.declared.stop.RunStop.TheVariants.{Memory as NoMemory}
@@ -12,9 +13,9 @@ use Rattle.daos_run.specs.Opens.{IsEmpty}
 use Rattle.daos_run.specs.Slots.{AreBack, AreSet, AreTaken, FromTo, HaveStores, IsAt}
 use Rattle.daos_run.specs.Starts.{AreStarted, StartsOver}
 use Rattle.daos_run.specs.Stops.{is_fault_of, not_started, stop_of}
-use Rattle.daos_run.proofs.Slots.{at-end, length-end, same-at}
+use Rattle.daos_run.proofs.Slots.{at-end, length-end}
 use Rattle.daos_run.proofs.Stores.{fault-at}
-use Rattle.run_actors.specs.ListLaws.{length-set, there-is}
+use Rattle.run_actors.specs.ListLaws.{length-set}
 use Rattle.run_order.specs.declared.halted.Halted.{Halted}
 use Rattle.run_order.specs.Halts.{Leaves, stopped_at}
 use Rattle.target_core.specs.Targets.{TargetOf}
@@ -92,7 +93,7 @@ module _ {S C : Type 0} (durable : S → Option Durable) (state : S → State) (
       many = B.many ∙ ap length again ∙ length-set slots1 t (Some (store, clock)) ∙ ap length taken ∙ length-set slots t None ∙ T.many ∙ E.set.many;
       each = λ u within. elim (cases_lt u t) [
         | inl low ↦
-            let x = there-is xs u (subst (λ n. u < n) (sym A.many) low) in
+            let x = at-within xs u (subst (λ n. u < n) (sym A.many) low) in
             let k = B.back u x.0 x.1 in
             ((x.0.store, k.0), k.1)
         | inr high ↦ elim (cases_eq u t) [
@@ -118,7 +119,7 @@ module _ {S C : Type 0} (durable : S → Option Durable) (state : S → State) (
         → FromTo old new (λ u a b. Runs (is_fault_of u) (not_started stop) (state a) (state b) (durable a) (durable b))
     failed-runs runs own u x z here there = elim (cases_lt u t) [
       | inl low ↦
-          let y = there-is xs u (subst (λ n. u < n) (sym A.many) low) in
+          let y = at-within xs u (subst (λ n. u < n) (sym A.many) low) in
           let k = B.back u y.0 y.1 in
           let same : (y.0.store, k.0) ≡ z = (let e : Some (Some (y.0.store, k.0)) ≡ Some (Some z) = sym k.1 ∙ there in cc) in
           subst (λ q. Runs (is_fault_of u) (not_started stop) (state x.0) (state q.0) (durable x.0) (durable q.0)) same
@@ -150,7 +151,7 @@ module _ {S C : Type 0} (durable : S → Option Durable) (state : S → State) (
     all-set = record {
       many = B.many ∙ T.many ∙ E.set.many;
       each = λ t within.
-          let y = there-is ys t (subst (λ n. t < n) (sym (many ∙ A.many)) within) in
+          let y = at-within ys t (subst (λ n. t < n) (sym (many ∙ A.many)) within) in
           let k = B.back t y.0 y.1 in
           ((y.0.store, k.0), k.1);
     }
@@ -168,8 +169,8 @@ module _ {S C : Type 0} (durable : S → Option Durable) (state : S → State) (
         → FromTo old new (λ u a b. Runs (is_fault_of u) said (state a) (state b) (durable a) (durable b))
     all-run result said same k t x z at to =
         let within : t < j.targets = subst (λ n. t < n) E.set.many (slice_get_within old t (Some x) at) in
-        let a = there-is xs t (subst (λ n. t < n) (sym A.many) within) in
-        let b = there-is ys t (subst (λ n. t < n) (sym (many ∙ A.many)) within) in
+        let a = at-within xs t (subst (λ n. t < n) (sym A.many) within) in
+        let b = at-within ys t (subst (λ n. t < n) (sym (many ∙ A.many)) within) in
         runs_as (stopped_at t) result (is_fault_of t) said (state x.0) (state z.0) (durable x.0) (durable z.0) (same t)
         (subst (λ q. Runs (stopped_at t) result (state x.0) (state q) (durable x.0) (durable q)) (sym (its t z b.0 to b.1))
         (runs_on (stopped_at t) result (state x.0) (state a.0.store) (state b.0.store) (durable x.0) (durable a.0.store) (durable b.0.store) (A.each t a.0 x a.1 at).runs (k.stores.each t a.0 b.0 a.1 b.1)))

@@ -9,8 +9,6 @@ use Rattle.daos_laws.specs.TargetLaws.{number_same}
 use Rattle.daos_model.specs.declared.durable.Durable.{Durable}
 use Rattle.daos_model.specs.Changes.{enlisted}
 use Rattle.daos_model.specs.Durables.{empty_durable}
-use Rattle.daos_run.specs.declared.stop.RunStop.{RunStop}
-use Rattle.daos_run.specs.declared.stop.RunStop.TheVariants as stop
 use Rattle.daos_run.specs.Stops.{MayStop, enlist_stopped, is_fault_of, stop_of}
 use Rattle.run_order.specs.declared.halted.Halted.{Halted}
 use Rattle.run_order.specs.declared.halted.Halted.TheVariants as halted

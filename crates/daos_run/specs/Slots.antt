@@ -1,5 +1,5 @@
 -- The stores and the clocks that a run is given and hands back.
-use Rattle.std.specs.Prelude.{ℕ, ◌≡◌, ◌≤◌, ◌<◌, Bool, true, is_some, List, length, slice_get, Option, Some, None}
+use Rattle.std.specs.Prelude.{ℕ, ◌≡◌, ◌≤◌, ◌<◌, true, is_some, List, length, slice_get, Option, Some, None}
 use Rattle.daos_model.specs.declared.durable.Durable.{Durable}
 use Rattle.target_core.specs.Targets.{TargetOf}
 use Rattle.vos_store.specs.Calls.{State}

@@ -1,16 +1,14 @@
 -- A turn begins with the epoch of its request, which is its own or one that some reading of the clock leads to.
-use Rattle.std.proofs.Common.{ℕ, ◌≡◌, refl, sym, ◌∙◌, ap, subst, List, Bool, true, false, Option, Some, None, ◌⊎◌, inl, inr}
+use Rattle.std.proofs.Common.{ℕ, ◌≡◌, sym, ◌∙◌, ap, subst, List, Bool, false, Option, Some, None, inl, inr}
 use Rattle.std.specs.Bool.{Decides}
 use Rattle.daos_base.specs.declared.epoch.Epoch.{Epoch}
 use Rattle.daos_base.specs.declared.id.AttemptId.{AttemptId}
-use Rattle.daos_model.specs.declared.durable.Durable.{Durable}
-use Rattle.daos_model.specs.BoolLaws.{clash}
 use Rattle.world_base.specs.declared.did.Did.{Did}
 use Rattle.world_base.specs.declared.target.TargetMemory.{TargetMemory}
 use Rattle.world_turns.specs.Changes.{Change, Kept, Steps}
 use Rattle.world_turns.specs.Requests.{issued_for}
 use Rattle.world_turns.specs.Turns.{Here, More, Path, Whole}
-use Rattle.replay_base.specs.Onward.{Iff, Onward}
+use Rattle.replay_base.specs.Onward.{Onward}
 use Rattle.replay_base.specs.Requested.{AsksAt, IsToldEpoch, SpentSo}
 use Rattle.replay_base.proofs.Starts.{AtOnce, First, Later, at_once, first, silent_first, whole_onward}
 

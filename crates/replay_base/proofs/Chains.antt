@@ -7,7 +7,7 @@ use Rattle.world_base.specs.declared.target.TargetMemory.{TargetMemory}
 use Rattle.world_turns.specs.Changes.{Change, Kept, Steps, cost, made}
 use Rattle.world_turns.specs.Turns.{Whole}
 use Rattle.replay_base.specs.declared.told.Left.{Left}
-use Rattle.replay_base.specs.Leaving.{Comes, IsLeft, IsLeftIf}
+use Rattle.replay_base.specs.Leaving.{Comes, IsLeftIf}
 use Rattle.replay_base.specs.Onward.{FreeAfter, Iff, Onward, keeps}
 use Rattle.replay_base.proofs.Starts.{AtOnce, First, Later, at_once, change_first, durable_is, first, free_least, free_more, iff_both, silent_first, whole_onward}
 

@@ -1,6 +1,5 @@
 -- The lease is extended where it doesn't cover an epoch, and then the turn goes on.
-use Rattle.std.proofs.Common.{ℕ, ◌≡◌, ◌≤◌, ◌<◌, ◌+◌, refl, sym, ◌∙◌, ap, subst, Bool, true, false, Option, Some, None, arith}
-use Rattle.std.specs.Bool.{Decides}
+use Rattle.std.proofs.Common.{ℕ, ◌≡◌, ◌≤◌, ◌<◌, ◌+◌, refl, sym, ◌∙◌, ap, subst, Bool, true, Option, Some, None, arith}
 use Rattle.daos_base.specs.Epochs.{lease_for}
 use Rattle.daos_model.specs.declared.durable.Durable.{Durable}
 use Rattle.daos_model.specs.Changes.{leased}
@@ -8,7 +7,7 @@ use Rattle.world_turns.specs.Changes.{Change, Extends, Kept, Steps}
 use Rattle.world_turns.specs.Turns.{Whole}
 use Rattle.replay_base.specs.declared.leases.Covered.{Covered}
 use Rattle.replay_base.specs.Leases.{Already, Extended, IsCovered, Never}
-use Rattle.replay_base.specs.Onward.{FreeAfter, Iff, Onward, keeps}
+use Rattle.replay_base.specs.Onward.{Iff, Onward, keeps}
 use Rattle.replay_base.proofs.Starts.{AtOnce, First, Later, change_first, durable_is, first, free_least, free_more, silent_first}
 
 abbrev pub covered_as : Durable → Bool → Covered

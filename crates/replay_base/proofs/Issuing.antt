@@ -1,6 +1,6 @@
 -- Which ticks a clock can issue, whatever it reads.
-use Rattle.std.proofs.Common.{ℕ, ◌≡◌, ◌≤◌, ◌<◌, ◌+◌, ◌*◌, ◌/◌, ◌%◌, ◌^◌, refl, sym, ◌∙◌, ap, subst, Bool, true, false, nat_le, Option, Some, None, ◌⊎◌, inl, inr, arith}
-use Rattle.std.specs.Prelude.{if◌then◌else◌, max, min}
+use Rattle.std.proofs.Common.{ℕ, ◌≡◌, ◌≤◌, ◌<◌, ◌+◌, ◌/◌, ◌%◌, ◌^◌, refl, sym, ◌∙◌, ap, subst, Bool, true, false, nat_le, Option, Some, None, ◌⊎◌, inl, inr, arith}
+use Rattle.std.specs.Prelude.{if◌then◌else◌, max}
 use Rattle.std.specs.Bool.{Decides}
 use Rattle.std.specs.Option.{option_map}
 use Rattle.std.proofs.lemmas.Bool.Decides.{nat_tests}
@@ -12,7 +12,8 @@ use Rattle.world_base.specs.declared.target.TargetMemory.{TargetMemory}
 use Rattle.world_base.specs.declared.target.TargetPlan.{TargetPlan}
 use Rattle.world_turns.specs.Requests.{epoch_of_ticks, request_epoch}
 use Rattle.replay_base.specs.Issuing.{CanIssue, least_ticks}
-use Rattle.replay_base.specs.Requested.{AsksAt, TellsEpoch, epoch_of_issue}
+use Rattle.replay_base.specs.Requested.{AsksAt, TellsEpoch}
+use Rattle.world_events.specs.Events.{epoch_of_issue}
 
 -- ---- ticks within the last ones
 

@@ -1,9 +1,7 @@
 -- A target leads what it decided, after each change.
 use Rattle.std.proofs.Common.{ℕ, ◌≡◌, refl, sym, ◌∙◌, ap, subst, Bool, true, false, Option, Some, None, List, [], ◌∷◌, Contains}
-use Rattle.std.specs.Prelude.{◌&&◌, filter, is_none, if◌then◌else◌}
+use Rattle.std.specs.Prelude.{filter, is_none, if◌then◌else◌}
 use Rattle.std.specs.List.{list_all}
-use Rattle.std.specs.Option.{option_map}
-use Rattle.daos_base.specs.declared.entry.Entry.{Entry}
 use Rattle.daos_base.specs.declared.entry.Settle.TheVariants.{Abort, Commit}
 use Rattle.daos_base.specs.declared.id.AttemptId.{AttemptId}
 use Rattle.daos_model.specs.declared.durable.Durable.{Durable}
@@ -12,36 +10,12 @@ use Rattle.daos_laws.specs.ServeLaws.{all-has}
 use Rattle.daos_model.specs.BoolLaws.{and_left, and_right, both, clash}
 use Rattle.daos_model.specs.EntryLaws.{same_attempt-itself}
 use Rattle.dtx_base.specs.LeaderLaws.{same-is}
-use Rattle.daos_model.specs.Changes.{committed_at, leased, settled}
-use Rattle.daos_model.specs.Durables.{entry_of, same_attempt}
+use Rattle.daos_model.specs.Changes.{leased, settled}
+use Rattle.daos_model.specs.Durables.{same_attempt}
 use Rattle.world_base.specs.declared.target.TargetPlan.{TargetPlan}
-use Rattle.world_turns.specs.EntryLaws.{entry-aborted, entry-aborted_other, entry-committed, entry-leased}
-use Rattle.world_turns.specs.Roles.{other_leader, other_leader_of}
+use Rattle.world_turns.specs.EntryLaws.{leader-aborted, leader-aborted_other, leader-committed, leader-leased}
+use Rattle.world_turns.specs.Roles.{other_leader}
 use Rattle.replay_base.specs.Heard.{AreLedHere, is_led_here}
-
-same_leader : (a : AttemptId) (me : ℕ) (o : Option Entry) → other_leader_of me (option_map (committed_at a) o) ≡ other_leader_of me o
-same_leader a me None = refl
-same_leader a me (Some e) = by (same_attempt e.attempt a)
-  where
-    by : (b : Bool) → other_leader_of me (Some (if b then record e { committed = true } else e)) ≡ other_leader_of me (Some e)
-    by true = refl
-    by false = refl
-
-pub leader_committed : (t : TargetPlan) (a x : AttemptId) (d : Durable) → other_leader t x (settled a Commit d) ≡ other_leader t x d
-unfolding other_leader
-leader_committed t a x d = ap (other_leader_of t.me) (entry-committed a d x) ∙ same_leader a t.me (entry_of d x)
-
-leader_aborted_other : (t : TargetPlan) (a x : AttemptId) (d : Durable) → (x ≡ a → ⊥) → other_leader t x (settled a Abort d) ≡ other_leader t x d
-unfolding other_leader
-leader_aborted_other t a x d apart = ap (other_leader_of t.me) (entry-aborted_other a d x apart)
-
-leader_aborted : (t : TargetPlan) (a : AttemptId) (d : Durable) → other_leader t a (settled a Abort d) ≡ None
-unfolding other_leader
-leader_aborted t a d = ap (other_leader_of t.me) (entry-aborted a d)
-
-pub leader_leased : (t : TargetPlan) (n : ℕ) (x : AttemptId) (d : Durable) → other_leader t x (leased n d) ≡ other_leader t x d
-unfolding other_leader
-leader_leased t n x d = ap (other_leader_of t.me) (entry-leased n d x)
 
 -- ---- all of a list
 
@@ -78,18 +52,18 @@ pub led_fewer : (t : TargetPlan) (decided : List AttemptId) (d : Durable) (test 
 led_fewer t decided d test h = all_fewer (is_led_here t d) test decided h
 
 pub led_committed : (t : TargetPlan) (decided : List AttemptId) (a : AttemptId) (d : Durable) → AreLedHere t decided d → AreLedHere t decided (settled a Commit d)
-led_committed t decided a d h = all_as (is_led_here t d) (is_led_here t (settled a Commit d)) (λ x. led_same t d (settled a Commit d) x (leader_committed t a x d)) decided h
+led_committed t decided a d h = all_as (is_led_here t d) (is_led_here t (settled a Commit d)) (λ x. led_same t d (settled a Commit d) x (leader-committed t a x d)) decided h
 
 pub led_leased : (t : TargetPlan) (decided : List AttemptId) (n : ℕ) (d : Durable) → AreLedHere t decided d → AreLedHere t decided (leased n d)
-led_leased t decided n d h = all_as (is_led_here t d) (is_led_here t (leased n d)) (λ x. led_same t d (leased n d) x (leader_leased t n x d)) decided h
+led_leased t decided n d h = all_as (is_led_here t d) (is_led_here t (leased n d)) (λ x. led_same t d (leased n d) x (leader-leased t n x d)) decided h
 
 leader_aborted_any : (t : TargetPlan) (a x : AttemptId) (d : Durable) → is_led_here t d x ≡ true → is_led_here t (settled a Abort d) x ≡ true
 unfolding is_led_here
 leader_aborted_any t a x d h = by (same_attempt x a) refl
   where
     by : (b : Bool) → same_attempt x a ≡ b → is_none (other_leader t x (settled a Abort d)) ≡ true
-    by true is = ap is_none (subst (λ y. other_leader t y (settled a Abort d) ≡ None) (sym (same-is x a is)) (leader_aborted t a d))
-    by false is = ap is_none (leader_aborted_other t a x d (λ same. clash (same_attempt x a) (ap (λ y. same_attempt x y) (sym same) ∙ same_attempt-itself x) is)) ∙ h
+    by true is = ap is_none (subst (λ y. other_leader t y (settled a Abort d) ≡ None) (sym (same-is x a is)) (leader-aborted t a d))
+    by false is = ap is_none (leader-aborted_other t a x d (λ same. clash (same_attempt x a) (ap (λ y. same_attempt x y) (sym same) ∙ same_attempt-itself x) is)) ∙ h
 
 pub led_aborted : (t : TargetPlan) (decided : List AttemptId) (a : AttemptId) (d : Durable) → AreLedHere t decided d → AreLedHere t decided (settled a Abort d)
 led_aborted t decided a d h = all_as (is_led_here t d) (is_led_here t (settled a Abort d)) (λ x. leader_aborted_any t a x d) decided h

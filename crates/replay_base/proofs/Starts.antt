@@ -1,26 +1,16 @@
 -- A turn from its first step on.
-use Rattle.std.proofs.Common.{Ok, Err, Result, ℕ, ◌≡◌, ◌≤◌, ◌+◌, ◌++◌, refl, sym, ap, subst, append_assoc, append-nil, List, [], Bool, true, false, Option, Some, None, ◌∙◌, arith}
+use Rattle.std.proofs.Common.{Ok, Err, Result, ℕ, ◌≡◌, ◌≤◌, ◌+◌, refl, ap, subst, List, [], Bool, true, false, Option, Some, None, arith}
 use Rattle.std.specs.Prelude.{IfOk}
 use Rattle.std.specs.Bool.{Decides}
 use Rattle.daos_model.specs.declared.durable.Durable.{Durable}
 use Rattle.world_turns.specs.Changes.{Change, Kept, Steps, cost, made}
-use Rattle.world_turns.specs.PathLaws.{reached-here, reached-more}
-use Rattle.world_turns.specs.Turns.{Here, More, Path, Reached, Whole, listed}
+use Rattle.world_turns.specs.PathLaws.{reached-here, reached-more, whole-on}
+use Rattle.world_turns.specs.Turns.{Here, More, Path, Reached, Whole}
 use Rattle.replay_base.specs.Leases.{IsCovered}
 use Rattle.replay_base.specs.declared.leases.Covered.{Covered}
 use Rattle.replay_base.specs.Onward.{FreeAfter, Iff, Onward, keeps}
 
 -- ---- steps after steps
-
-path_on : {S : Type 0} (Next : S → Kept → Option Change → S → Type 0) (s : S) (k : Kept) (before : List Change) (t : S) (l : Kept) (after : List Change) (u : S) (m : Kept)
-    → Path Next s k before t l → Path Next t l after u m → Path Next s k (before ++ after) u m
-path_on Next s k before t l after u m p Here = subst (λ did. Path Next s k did u m) (sym (append-nil before)) p
-path_on Next s k before t l after u m p (More did v n o w z rest next steps) =
-    subst (λ all. Path Next s k all u m) (append_assoc before did (listed o)) (More (before ++ did) v n o u m (path_on Next s k before t l did v n p rest) next steps)
-
-pub whole_on : {S R : Type 0} (Next : S → Kept → Option Change → S → Type 0) (Ends : S → Kept → R → Type 0) (s t : S) (k l m : Kept) (r : R)
-    → Reached Next s k t l → Whole Next Ends t l m r → Whole Next Ends s k m r
-whole_on Next Ends s t k l m r a w = record { last = w.last; reached = record { did = _; path = path_on Next s k a.did t l w.reached.did w.last m a.path w.reached.path }; ends = w.ends }
 
 -- ---- the first step
 
@@ -58,11 +48,11 @@ pub at_once : {S R : Type 0} (Next : S → Kept → Option Change → S → Type
 at_once Next Ends s k r ends = record { last = s; reached = reached-here Next s k; ends = ends }
 
 pub silent_first : {S R : Type 0} (Next : S → Kept → Option Change → S → Type 0) (Ends : S → Kept → R → Type 0) (s u : S) (k new : Kept) (r : R) → Next s k None u → Whole Next Ends u k new r → Whole Next Ends s k new r
-silent_first Next Ends s u k new r next w = whole_on Next Ends s u k k new r (reached-more Next s k s k None u k (reached-here Next s k) next refl) w
+silent_first Next Ends s u k new r next w = whole-on Next Ends s u k k new r (reached-more Next s k s k None u k (reached-here Next s k) next refl) w
 
 pub change_first : {S R : Type 0} (Next : S → Kept → Option Change → S → Type 0) (Ends : S → Kept → R → Type 0) (s u : S) (k m new : Kept) (r : R) (c : Change)
     → Next s k (Some c) u → m.durable ≡ made c k.durable → k.free ≤ m.free + cost c → Whole Next Ends u m new r → Whole Next Ends s k new r
-change_first Next Ends s u k m new r c next durable free w = whole_on Next Ends s u k m new r (reached-more Next s k s k (Some c) u m (reached-here Next s k) next (durable, free)) w
+change_first Next Ends s u k m new r c next durable free w = whole-on Next Ends s u k m new r (reached-more Next s k s k (Some c) u m (reached-here Next s k) next (durable, free)) w
 
 -- ---- free blocks
 

@@ -1,5 +1,5 @@
 -- What a target can hear, as a turn in which it hears it is made again.
-use Rattle.std.specs.Prelude.{ℕ, ◌≡◌, ◌≤◌, ◌<◌, Bool, true, false, is_none, is_some, IfSome, All, List}
+use Rattle.std.specs.Prelude.{◌≡◌, ◌≤◌, ◌<◌, Bool, true, false, is_none, is_some, IfSome, All, List}
 use Rattle.std.specs.List.{list_all}
 use Rattle.daos_base.specs.declared.id.AttemptId.{AttemptId}
 use Rattle.daos_base.specs.declared.operation.MinorWrite.{MinorWrite}

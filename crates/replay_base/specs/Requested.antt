@@ -14,10 +14,6 @@ IsToldEpoch ep issued e = (ep ≡ Some e) ⊎ ((ep ≡ None) × ((x : AttemptId)
 abbrev pub AsksAt : (ℕ → Option Epoch) → Epoch → Type 0
 AsksAt request e = (reading : ℕ) × (request reading ≡ Some e)
 
-abbrev pub epoch_of_issue : Option (AttemptId × Epoch) → Option Epoch
-epoch_of_issue None = None
-epoch_of_issue (Some i) = Some i.1
-
 -- what is told of a turn tells the epoch of its request, or that there was none
 abbrev pub TellsEpoch : Option Epoch → Option (AttemptId × Epoch) → Option Epoch → Type 0
 TellsEpoch ep issued None = (ep ≡ None) × (issued ≡ None)

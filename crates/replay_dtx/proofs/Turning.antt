@@ -11,7 +11,7 @@ use Rattle.daos_messages.specs.declared.message.Post.{Post}
 use Rattle.daos_model.specs.declared.durable.Durable.{Durable}
 use Rattle.daos_model.specs.BoolLaws.{clash}
 use Rattle.daos_model.specs.Changes.{settled}
-use Rattle.dtx_base.specs.Leading.{LeaderStep, ack_heard, attempts_of, entry_led, marked_heard, may_confirm}
+use Rattle.dtx_base.specs.Leading.{LeaderStep, ack_heard, attempts_of, marked_heard, may_confirm}
 use Rattle.world_base.specs.declared.did.Did.{Did}
 use Rattle.world_base.specs.declared.target.TargetMemory.{TargetMemory}
 use Rattle.world_base.specs.declared.target.TargetPlan.{TargetPlan}
@@ -28,9 +28,9 @@ use Rattle.replay_base.specs.declared.told.Left.{Left}
 use Rattle.replay_base.specs.Leaving.{Comes, HearsAs, IdlesAs, IsLeftIf}
 use Rattle.world_turns.specs.Turns.{Whole}
 use Rattle.replay_base.specs.Onward.{Iff, keeps}
-use Rattle.replay_base.proofs.Chains.{OneEnd, OneStep, change_iff, comes_whole, end_comes, silent_iff}
+use Rattle.replay_base.proofs.Chains.{OneStep, change_iff, comes_whole, end_comes, silent_iff}
 use Rattle.replay_base.proofs.Starts.{iff_both}
-use Rattle.replay_dtx.specs.Dtx.{all_confirmed, all_marked, all_settled, answered_memory, changed_to, confirmed_one, leads, led_in, marked_one}
+use Rattle.replay_dtx.specs.Dtx.{all_confirmed, all_marked, all_settled, answered_memory, changed_to, leads, led_in}
 
 -- what is kept, and this is known and follows
 abbrev pub left_at : Covered → TargetMemory × Did → Left

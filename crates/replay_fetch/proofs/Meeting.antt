@@ -1,5 +1,5 @@
 -- What a read meets, and the form of what it reads.
-use Rattle.std.proofs.Common.{◌≡◌, ℕ, ◌∙◌, refl, sym, ap, subst, Bool, true, false, Option, Some, None, Ok, Err, List, Contains}
+use Rattle.std.proofs.Common.{◌≡◌, ℕ, ◌∙◌, refl, sym, ap, subst, Bool, true, false, Option, Some, None, Ok, Err, List}
 use Rattle.std.specs.Prelude.{if◌then◌else◌}
 use Rattle.std.specs.List.{list_all}
 use Rattle.daos_base.specs.declared.answer.Answer.{Answer}
@@ -19,7 +19,6 @@ use Rattle.daos_model.specs.Durables.{is_version_in_form, row_of}
 use Rattle.daos_model.specs.FormLaws.{all-kept}
 use Rattle.daos_model.specs.Versions.{done_by, first_blocking, map_below}
 use Rattle.vos_store.specs.Answers.{answer_unless, fetched, is_past}
-use Rattle.vos_store.specs.declared.refusal.FetchNo.{FetchNo}
 use Rattle.vos_store.specs.declared.refusal.FetchNo.TheVariants as no
 use Rattle.world_base.specs.declared.request.FetchRequest.{FetchRequest}
 use Rattle.world_base.specs.declared.target.TargetPlan.{TargetPlan}

@@ -1,7 +1,6 @@
 -- A read goes on from one decided attempt to the next, and comes to its ending.
-use Rattle.std.proofs.Common.{ℕ, ◌≡◌, ◌<◌, ◌≤◌, refl, sym, ◌∙◌, ap, subst, zero, suc, not, List, [], ◌∷◌, length, slice_index_or, Bool, true, false, Option, Some, None, Contains, arith}
+use Rattle.std.proofs.Common.{ℕ, ◌≡◌, refl, sym, ◌∙◌, ap, subst, List, Bool, true, false, Option, Some, None}
 use Rattle.std.specs.Prelude.{filter, if◌then◌else◌}
-use Rattle.std.specs.List.{list_all}
 use Rattle.daos_base.specs.declared.entry.Settle.TheVariants.{Commit}
 use Rattle.daos_base.specs.declared.epoch.Epoch.{Epoch}
 use Rattle.daos_base.specs.declared.id.AttemptId.{AttemptId}
@@ -9,7 +8,6 @@ use Rattle.daos_messages.specs.declared.actor.ActorId.{ActorId}
 use Rattle.daos_messages.specs.declared.message.Reply.TheVariants as reply
 use Rattle.daos_model.specs.declared.durable.Durable.{Durable}
 use Rattle.daos_model.specs.Changes.{settled}
-use Rattle.daos_model.specs.EntryLaws.{same_attempt-itself}
 use Rattle.world_base.specs.declared.did.Did.{Did}
 use Rattle.world_base.specs.declared.request.FetchRequest.{FetchRequest}
 use Rattle.world_base.specs.declared.target.TargetMemory.{TargetMemory}
@@ -27,7 +25,7 @@ use Rattle.replay_base.proofs.Leaders.{led_committed, led_fewer}
 use Rattle.replay_base.proofs.Starts.{iff_both}
 use Rattle.replay_fetch.specs.Fetched.{FetchLeaves}
 use Rattle.replay_fetch.specs.Left.{left_of}
-use Rattle.replay_fetch.specs.Met.{ComesTo, HasGone, HasRead, IsEnding, IsInTheWay, IsMet, IsSettled, IsStuck, ReadsFrom, ReadsOn, left_by}
+use Rattle.replay_fetch.specs.Met.{ComesTo, HasGone, HasRead, IsEnding, IsInTheWay, IsMet, IsSettled, IsStuck, ReadsFrom, left_by}
 use Rattle.replay_fetch.specs.declared.meets.Ending.{Ending}
 use Rattle.replay_fetch.specs.declared.meets.Ending.TheVariants as ending
 use Rattle.replay_fetch.specs.declared.meets.Met.{Met}
@@ -35,7 +33,7 @@ use Rattle.replay_fetch.specs.declared.meets.Met.TheVariants as met
 use Rattle.replay_fetch.specs.declared.reads.End.{End}
 use Rattle.replay_fetch.specs.declared.reads.Work.{Work}
 use Rattle.replay_fetch.proofs.Meeting.{settled-in_form}
-use Rattle.replay_fetch.proofs.Stages.{SettlesOne, ended, ends_at, ends_with, next_at, one_ending, stuck_unended, way_unended}
+use Rattle.replay_fetch.proofs.Stages.{ended, ends_at, ends_with, next_at, one_ending, stuck_unended, way_unended}
 
 module _ (t : TargetPlan) (m : TargetMemory) (reading : ℕ) (q : FetchRequest) (from : ActorId) where
   abbrev Next : FetchStage → Kept → Option Change → FetchStage → Type 0
@@ -164,17 +162,3 @@ stuck_leaves t q from e old x o h at_ending none = record { comes = λ reading f
         (stuck_none t old.memory reading q from e x.work.memory.leader.decided x.work.durable (subst (ComesTo t q e x.work.durable x.work.memory.leader.decided) (sym at_ending ∙ none) h.comes))
 
 -- ---- one decided attempt fewer
-
-shorter : {T : Type 0} (t : T → Bool) (xs : List T) (k : ℕ) (d : T) → k < length xs → t (slice_index_or xs k d) ≡ false → length (filter t xs) < length xs
-shorter t [] k d lt gone = absurd (omega arith)
-shorter t (x ∷ xs) zero d lt gone = subst (λ (b : Bool). length (if b then x ∷ filter t xs else filter t xs) < length (x ∷ xs)) (sym gone) (omega (arith, at_most t xs))
-  where
-    at_most : {T : Type 0} (t : T → Bool) (us : List T) → length (filter t us) ≤ length us
-    at_most t [] = omega arith
-    at_most t (u ∷ us) = elim (t u) as (λ b. length (if b then u ∷ filter t us else filter t us) ≤ length (u ∷ us)) [ true ↦ omega (arith, at_most t us) | false ↦ omega (arith, at_most t us) ]
-shorter t (x ∷ xs) (suc k) d lt gone =
-    let less : length (filter t xs) < length xs = shorter t xs k d (omega arith) gone in
-    elim (t x) as (λ b. length (if b then x ∷ filter t xs else filter t xs) < length (x ∷ xs)) [ true ↦ omega arith | false ↦ omega arith ]
-
-pub fewer : (a : AttemptId) (decided : List AttemptId) → Contains decided a → length (filter (is_other_attempt a) decided) < length decided
-fewer a decided among = shorter (is_other_attempt a) decided among.0 a among.1 (ap (λ x. is_other_attempt a x) among.2 ∙ ap not (same_attempt-itself a))

@@ -1,5 +1,5 @@
 -- The steps and the ends of a Fetch, stage by stage.
-use Rattle.std.proofs.Common.{ℕ, ◌≡◌, ◌≤◌, ◌<◌, ◌/◌, refl, sym, ◌∙◌, ap, subst, List, Bool, true, false, Option, Some, None, ◌⊎◌, inl, inr, Ok, Err, Contains}
+use Rattle.std.proofs.Common.{ℕ, ◌≡◌, ◌/◌, refl, sym, ◌∙◌, ap, subst, List, Bool, true, false, Option, Some, None, ◌⊎◌, inl, inr, Contains}
 use Rattle.std.specs.Prelude.{filter, if◌then◌else◌}
 use Rattle.daos_base.specs.declared.answer.Answer.{Answer}
 use Rattle.daos_base.specs.declared.entry.Settle.TheVariants.{Commit}
@@ -9,14 +9,12 @@ use Rattle.daos_base.specs.declared.outcome.Cause.TheVariants as cause
 use Rattle.daos_base.specs.declared.outcome.Outcome.TheVariants as outcome
 use Rattle.daos_messages.specs.declared.actor.ActorId.{ActorId}
 use Rattle.daos_messages.specs.declared.message.Reply.TheVariants as reply
-use Rattle.vos_store.specs.Answers.{fetched}
-use Rattle.vos_store.specs.declared.refusal.FetchNo.TheVariants.{Unsettled}
 use Rattle.world_base.specs.declared.did.Did.{Did}
 use Rattle.world_base.specs.declared.request.FetchRequest.{FetchRequest}
 use Rattle.world_base.specs.declared.target.TargetMemory.{TargetMemory}
 use Rattle.world_base.specs.declared.target.TargetPlan.{TargetPlan}
 use Rattle.world_turns.specs.Changes.{Change, Kept, Settles}
-use Rattle.world_turns.specs.Reads.{Asked, AtSnapshot, ExtendsLease, FetchEnds, FetchNext, FetchStage, HasEpoch, IsCovered, IsParked, IsRefused, IsServed, IsSpent, Known, MeetsUnresolved, Reading, SettlesOwn, asks_leader, fetch_at, fetch_cause, fetched_message, memory_parked, memory_then, stamps_with, tells, ticks_known}
+use Rattle.world_turns.specs.Reads.{Asked, AtSnapshot, ExtendsLease, FetchEnds, FetchNext, FetchStage, HasEpoch, IsCovered, IsParked, IsRefused, IsServed, IsSpent, Known, MeetsUnresolved, Reading, SettlesOwn, asks_leader, fetch_at, fetched_message, memory_parked, memory_then, stamps_with, tells}
 use Rattle.world_turns.specs.Requests.{is_other_attempt, request_epoch, says, with_ticks}
 use Rattle.world_turns.specs.Roles.{joins_on, other_leader}
 use Rattle.dtx_base.specs.Joining.{parking}

@@ -1,9 +1,9 @@
 -- A Verdict's turn as a whole.
-use Rattle.std.proofs.Common.{ℕ, ◌≡◌, refl, sym, ◌∙◌, ap, subst, List, [], ◌∷◌, map, filter, Bool, true, false, Option, Some, None}
+use Rattle.std.proofs.Common.{ℕ, ◌≡◌, refl, sym, ◌∙◌, ap, subst, List, map, filter, Bool, true, false, Option, Some, None}
 use Rattle.std.specs.List.{list_all}
 use Rattle.std.proofs.lemmas.List.Folds.{list_all-map}
 use Rattle.daos_base.specs.declared.entry.Settle.{Settle}
-use Rattle.daos_base.specs.declared.entry.Settle.TheVariants.{Abort, Commit}
+use Rattle.daos_base.specs.declared.entry.Settle.TheVariants.{Abort}
 use Rattle.daos_base.specs.declared.entry.Verdict.{Verdict}
 use Rattle.daos_base.specs.declared.entry.Verdict.TheVariants as judged
 use Rattle.daos_base.specs.declared.id.AttemptId.{AttemptId}
@@ -29,7 +29,7 @@ use Rattle.world_turns.specs.Verdicts.{VerdictEnds, VerdictNext, VerdictStage, f
 use Rattle.world_turns.specs.Roles.{is_prepared}
 use Rattle.replay_base.specs.declared.leases.Covered.{Covered}
 use Rattle.replay_base.specs.declared.told.Left.{Left}
-use Rattle.replay_base.specs.Heard.{AreLedHere, CanRead, CanTryAgain, is_timed, is_timed_ask}
+use Rattle.replay_base.specs.Heard.{CanRead, CanTryAgain, is_timed, is_timed_ask}
 use Rattle.replay_base.specs.Leaving.{Comes, HearsAs, IsLeftIf}
 use Rattle.replay_base.specs.Onward.{Iff, Onward, keeps}
 use Rattle.replay_base.proofs.Chains.{OneStep, change_iff, comes_whole, silent_iff}
@@ -37,8 +37,8 @@ use Rattle.replay_base.proofs.Leaders.{all_fewer, led_aborted, led_committed}
 use Rattle.replay_base.proofs.Starts.{iff_both}
 use Rattle.replay_fetch.proofs.Meeting.{settled-in_form}
 use Rattle.replay_verdict.specs.declared.again.Trial.{Trial}
-use Rattle.replay_verdict.specs.Tried.{AllTried, TriesTo, heard_by, left_by, settled_by, settled_so}
-use Rattle.replay_verdict.proofs.Trying.{NextAt, ends_at, next_at, none_left}
+use Rattle.replay_verdict.specs.Tried.{AllTried, heard_by, left_by, settled_by, settled_so}
+use Rattle.replay_verdict.proofs.Trying.{ends_at, next_at, none_left}
 
 -- ---- what is set free
 

@@ -19,21 +19,21 @@ use Rattle.world_base.specs.declared.request.FetchRequest.{FetchRequest}
 use Rattle.world_base.specs.declared.target.TargetMemory.{TargetMemory}
 use Rattle.world_base.specs.declared.target.TargetPlan.{TargetPlan}
 use Rattle.world_turns.specs.Changes.{Change, Kept, Steps}
-use Rattle.world_turns.specs.PathLaws.{reached-here, reached-keeps, reached-more}
+use Rattle.world_turns.specs.PathLaws.{reached-here, reached-keeps, reached-more, whole-on}
 use Rattle.world_turns.specs.Reads.{Asked, FetchEnds, FetchNext, FetchStage}
-use Rattle.world_turns.specs.Requests.{sends}
+use Rattle.world_turns.specs.Requests.{fetch_message, sends}
 use Rattle.world_turns.specs.Turns.{Here, More, Path, Reached, Whole}
 use Rattle.world_turns.specs.Verdicts as verdict
 use Rattle.world_turns.specs.Verdicts.{VerdictEnds, VerdictNext, VerdictStage, fetcher, settles_by, settling_change}
 use Rattle.replay_base.specs.declared.told.Left.{Left}
 use Rattle.replay_base.specs.Heard.{CanRead, is_timed}
-use Rattle.replay_base.specs.Leaving.{Comes, IsLeft}
-use Rattle.replay_base.specs.Onward.{FreeAfter, Iff, Onward, keeps}
+use Rattle.replay_base.specs.Leaving.{Comes}
+use Rattle.replay_base.specs.Onward.{Iff, Onward, keeps}
 use Rattle.replay_base.proofs.Chains.{OneEnd, end_comes}
-use Rattle.replay_base.proofs.Starts.{durable_is, iff_both, silent_first, whole_on}
+use Rattle.replay_base.proofs.Starts.{durable_is, iff_both, silent_first}
 use Rattle.replay_fetch.specs.Fetched.{FetchLeaves}
 use Rattle.replay_verdict.specs.declared.again.Trial.{Trial}
-use Rattle.replay_verdict.specs.Tried.{AllTried, CanStill, GoesOn, TriesAsk, TriesFrom, TriesOn, TriesTo, fetch_in, left_by, message_of}
+use Rattle.replay_verdict.specs.Tried.{AllTried, GoesOn, TriesAsk, TriesFrom, TriesOn, TriesTo, fetch_in}
 
 module _ (t : TargetPlan) (m : TargetMemory) (reading : ℕ) (a : AttemptId) (ask : Option AttemptId) (v : Verdict) where
   abbrev Next : VerdictStage → Kept → Option Change → VerdictStage → Type 0
@@ -44,7 +44,7 @@ module _ (t : TargetPlan) (m : TargetMemory) (reading : ℕ) (a : AttemptId) (as
   pub record TriesFirst (asks : List Message) (n : TargetMemory) (posts : List Post) (o : Option Change) (u : VerdictStage) : Type 0 where
     pub q : FetchRequest
     pub rest : List Message
-    pub here : asks ≡ message_of q ∷ rest
+    pub here : asks ≡ fetch_message q ∷ rest
     pub silent : o ≡ None
     pub there : u ≡ verdict.Trying q Asked rest n posts
 
@@ -94,7 +94,7 @@ module _ (t : TargetPlan) (m : TargetMemory) (reading : ℕ) (a : AttemptId) (as
     Tries l r = Whole (FetchNext t n reading q) (FetchEnds t n reading q (fetcher q)) Asked k l r
 
     abbrev start : VerdictStage
-    start = verdict.Freed (message_of q ∷ rest) n posts
+    start = verdict.Freed (fetch_message q ∷ rest) n posts
 
     abbrev behind : TargetMemory × Did → VerdictStage
     behind r = verdict.Freed rest r.0 (posts ++ r.1.posts)
@@ -105,10 +105,10 @@ module _ (t : TargetPlan) (m : TargetMemory) (reading : ℕ) (a : AttemptId) (as
       InFetch : (i : FetchStage) → s ≡ verdict.Trying q i rest n posts → Reached (FetchNext t n reading q) Asked k i l → Went s l
       Beyond : (j : Kept) (r : TargetMemory × Did) → Tries j r → Reached Next (behind r) j s l → Went s l
 
-    from_start : (l z : Kept) (o : Option Change) (u : VerdictStage) → l ≡ k → Steps o l z → TriesFirst (message_of q ∷ rest) n posts o u → Went u z
+    from_start : (l z : Kept) (o : Option Change) (u : VerdictStage) → l ≡ k → Steps o l z → TriesFirst (fetch_message q ∷ rest) n posts o u → Went u z
     from_start l z o u at steps f =
         let here = f.here in
-        let head : Some q ≡ Some f.q = ap fetch_in (let same : message_of q ≡ message_of f.q = cc in same) in
+        let head : Some q ≡ Some f.q = ap fetch_in (let same : fetch_message q ≡ fetch_message f.q = cc in same) in
         let same : f.q ≡ q = cc in
         let tail : f.rest ≡ rest = cc in
         let still : z ≡ l = subst (λ c. Steps c l z) f.silent steps in
@@ -143,7 +143,7 @@ module _ (t : TargetPlan) (m : TargetMemory) (reading : ℕ) (a : AttemptId) (as
     first_tried : (mid new : Kept) (r left : TargetMemory × Did) → Tries mid r → Whole Next VerdictEnds (behind r) mid new left → Whole Next VerdictEnds start k new left
     first_tried mid new r left tries rests =
         silent_first Next VerdictEnds start (verdict.Trying q Asked rest n posts) k new left (verdict.TriesNext k n posts rest q.attempt q.op q.group q.ep q.first q.tracker q.read q.snapshot)
-        (whole_on Next VerdictEnds (verdict.Trying q Asked rest n posts) (verdict.Trying q tries.last rest n posts) k mid new left
+        (whole-on Next VerdictEnds (verdict.Trying q Asked rest n posts) (verdict.Trying q tries.last rest n posts) k mid new left
         (record { did = tries.reached.did; path = lifts q rest n posts Asked k tries.reached.did tries.last mid tries.reached.path })
         (silent_first Next VerdictEnds (verdict.Trying q tries.last rest n posts) (behind r) mid new left (verdict.IsDone mid n posts rest q tries.last r tries.ends) rests))
 
@@ -151,7 +151,7 @@ module _ (t : TargetPlan) (m : TargetMemory) (reading : ℕ) (a : AttemptId) (as
 
   module _ (q : FetchRequest) (rest : List Message) (n : TargetMemory) (posts : List Post) (d : Durable) (changed : Bool) where
     abbrev From : ℕ → Kept → TargetMemory × Did → Type 0
-    From free new left = Onward Next VerdictEnds (verdict.Freed (message_of q ∷ rest) n posts) d changed free new left
+    From free new left = Onward Next VerdictEnds (verdict.Freed (fetch_message q ∷ rest) n posts) d changed free new left
 
     pub tries_on : (l : Left) → Comes (FetchNext t n reading q) (FetchEnds t n reading q (fetcher q)) Asked d changed (Some l) → (free : ℕ) (new : Kept) (left : TargetMemory × Did)
         → Iff (From free new left) (Onward Next VerdictEnds (verdict.Freed rest l.memory (posts ++ l.did.posts)) l.durable l.changed free new left)
@@ -189,34 +189,34 @@ module _ (t : TargetPlan) (m : TargetMemory) (reading : ℕ) (a : AttemptId) (as
 
 -- ---- as the code says it
 
-pub one_tried : (t : TargetPlan) (q : FetchRequest) (x next : Trial) (l : Left) → FetchLeaves t (fetcher q) q x.work.memory Asked x.work.durable x.work.changed (Some l) → GoesOn x.posts l next → TriesAsk t (message_of q) x (Some next)
+pub one_tried : (t : TargetPlan) (q : FetchRequest) (x next : Trial) (l : Left) → FetchLeaves t (fetcher q) q x.work.memory Asked x.work.durable x.work.changed (Some l) → GoesOn x.posts l next → TriesAsk t (fetch_message q) x (Some next)
 one_tried t q x next l leaves goes = record {
   on = λ rest m reading a ask v free new left.
-      subst (λ z. Iff (TriesFrom t m reading a ask v (message_of q ∷ rest) x free new left) (Onward (VerdictNext t m reading a ask v) VerdictEnds (verdict.Freed rest z next.posts) next.work.durable next.work.changed free new left)) (sym goes.memory)
-      (subst (λ z. Iff (TriesFrom t m reading a ask v (message_of q ∷ rest) x free new left) (Onward (VerdictNext t m reading a ask v) VerdictEnds (verdict.Freed rest l.memory z) next.work.durable next.work.changed free new left)) (sym goes.posts_are)
-      (subst (λ z. Iff (TriesFrom t m reading a ask v (message_of q ∷ rest) x free new left) (Onward (VerdictNext t m reading a ask v) VerdictEnds (verdict.Freed rest l.memory (x.posts ++ l.did.posts)) z next.work.changed free new left)) (sym goes.durable)
-      (subst (λ z. Iff (TriesFrom t m reading a ask v (message_of q ∷ rest) x free new left) (Onward (VerdictNext t m reading a ask v) VerdictEnds (verdict.Freed rest l.memory (x.posts ++ l.did.posts)) l.durable z free new left)) (sym goes.changed)
+      subst (λ z. Iff (TriesFrom t m reading a ask v (fetch_message q ∷ rest) x free new left) (Onward (VerdictNext t m reading a ask v) VerdictEnds (verdict.Freed rest z next.posts) next.work.durable next.work.changed free new left)) (sym goes.memory)
+      (subst (λ z. Iff (TriesFrom t m reading a ask v (fetch_message q ∷ rest) x free new left) (Onward (VerdictNext t m reading a ask v) VerdictEnds (verdict.Freed rest l.memory z) next.work.durable next.work.changed free new left)) (sym goes.posts_are)
+      (subst (λ z. Iff (TriesFrom t m reading a ask v (fetch_message q ∷ rest) x free new left) (Onward (VerdictNext t m reading a ask v) VerdictEnds (verdict.Freed rest l.memory (x.posts ++ l.did.posts)) z next.work.changed free new left)) (sym goes.durable)
+      (subst (λ z. Iff (TriesFrom t m reading a ask v (fetch_message q ∷ rest) x free new left) (Onward (VerdictNext t m reading a ask v) VerdictEnds (verdict.Freed rest l.memory (x.posts ++ l.did.posts)) l.durable z free new left)) (sym goes.changed)
       (tries_on t m reading a ask v q rest x.work.memory x.posts x.work.durable x.work.changed l (leaves.comes reading) free new left))));
   read = subst (λ z. CanRead t z next.work.memory.leader.decided) (sym goes.durable) (subst (λ z. CanRead t l.durable z.leader.decided) (sym goes.memory) leaves.read);
 }
 
-pub none_tried : (t : TargetPlan) (q : FetchRequest) (x : Trial) → FetchLeaves t (fetcher q) q x.work.memory Asked x.work.durable x.work.changed None → TriesAsk t (message_of q) x None
+pub none_tried : (t : TargetPlan) (q : FetchRequest) (x : Trial) → FetchLeaves t (fetcher q) q x.work.memory Asked x.work.durable x.work.changed None → TriesAsk t (fetch_message q) x None
 none_tried t q x leaves = record {
   on = λ rest m reading a ask v free new left. (tries_none t m reading a ask v q rest x.work.memory x.posts x.work.durable x.work.changed (leaves.comes reading) free new left, λ bad. absurd bad);
   read = tt;
 }
 
-pub one_found : (t : TargetPlan) (from : ActorId) (q : FetchRequest) (x next : Trial) (l : Left) (o : Option Left) → from ≡ fetcher q → o ≡ Some l → FetchLeaves t from q x.work.memory Asked x.work.durable x.work.changed o → GoesOn x.posts l next → TriesAsk t (message_of q) x (Some next)
+pub one_found : (t : TargetPlan) (from : ActorId) (q : FetchRequest) (x next : Trial) (l : Left) (o : Option Left) → from ≡ fetcher q → o ≡ Some l → FetchLeaves t from q x.work.memory Asked x.work.durable x.work.changed o → GoesOn x.posts l next → TriesAsk t (fetch_message q) x (Some next)
 one_found t from q x next l o same some leaves goes =
     one_tried t q x next l (subst (FetchLeaves t (fetcher q) q x.work.memory Asked x.work.durable x.work.changed) some (subst (λ a. FetchLeaves t a q x.work.memory Asked x.work.durable x.work.changed o) same leaves)) goes
 
-pub none_found : (t : TargetPlan) (from : ActorId) (q : FetchRequest) (x : Trial) (o : Option Left) → from ≡ fetcher q → o ≡ None → FetchLeaves t from q x.work.memory Asked x.work.durable x.work.changed o → TriesAsk t (message_of q) x None
+pub none_found : (t : TargetPlan) (from : ActorId) (q : FetchRequest) (x : Trial) (o : Option Left) → from ≡ fetcher q → o ≡ None → FetchLeaves t from q x.work.memory Asked x.work.durable x.work.changed o → TriesAsk t (fetch_message q) x None
 none_found t from q x o same none leaves =
     none_tried t q x (subst (FetchLeaves t (fetcher q) q x.work.memory Asked x.work.durable x.work.changed) none (subst (λ a. FetchLeaves t a q x.work.memory Asked x.work.durable x.work.changed o) same leaves))
 
 -- a Fetch with its epoch is the one that it asks
-pub ask_is : (ask : Message) (q : FetchRequest) → fetch_in ask ≡ Some q → message_of q ≡ ask
-ask_is (message.Fetch x op group ep first tracker r snapshot) q is = (let same : q ≡ record { attempt = x; op = op; group = group; ep = ep; first = first; tracker = tracker; read = r; snapshot = snapshot } = cc in ap message_of same)
+pub ask_is : (ask : Message) (q : FetchRequest) → fetch_in ask ≡ Some q → fetch_message q ≡ ask
+ask_is (message.Fetch x op group ep first tracker r snapshot) q is = (let same : q ≡ record { attempt = x; op = op; group = group; ep = ep; first = first; tracker = tracker; read = r; snapshot = snapshot } = cc in ap fetch_message same)
 ask_is ask q is = let bad : ⊥ = cc in absurd bad
 
 pub ask_timed : (ask : Message) (q : FetchRequest) → fetch_in ask ≡ Some q → is_timed ask ≡ true → is_some q.ep ≡ true
@@ -272,7 +272,7 @@ so_far_all t asks x next i so le = record {
   read = so.read;
 }
 
-pub ask_tried : (t : TargetPlan) (ask : Message) (q : FetchRequest) (x : Trial) (o : Option FetchRequest) (next : Option Trial) → o ≡ fetch_in ask → o ≡ Some q → TriesAsk t (message_of q) x next → TriesAsk t ask x next
+pub ask_tried : (t : TargetPlan) (ask : Message) (q : FetchRequest) (x : Trial) (o : Option FetchRequest) (next : Option Trial) → o ≡ fetch_in ask → o ≡ Some q → TriesAsk t (fetch_message q) x next → TriesAsk t ask x next
 ask_tried t ask q x o next is some tries = subst (λ z. TriesAsk t z x next) (ask_is ask q (sym is ∙ some)) tries
 
 pub so_far_none_yet : (t : TargetPlan) (asks : List Message) (x : Trial) → CanRead t x.work.durable x.work.memory.leader.decided → SoFar t asks x 0 x

@@ -1,5 +1,5 @@
 -- Fetches are tried again, one after another.
-use Rattle.std.specs.Prelude.{ℕ, ◌≡◌, ◌++◌, Bool, true, false, List, [], ◌∷◌, Option, Some, None}
+use Rattle.std.specs.Prelude.{ℕ, ◌≡◌, ◌++◌, true, false, List, [], ◌∷◌, Option, Some, None}
 use Rattle.daos_base.specs.declared.entry.Settle.{Settle}
 use Rattle.daos_base.specs.declared.entry.Verdict.{Verdict}
 use Rattle.daos_base.specs.declared.id.AttemptId.{AttemptId}
@@ -15,7 +15,7 @@ use Rattle.world_base.specs.declared.request.FetchRequest.{FetchRequest}
 use Rattle.world_base.specs.declared.target.TargetMemory.{TargetMemory}
 use Rattle.world_base.specs.declared.target.TargetPlan.{TargetPlan}
 use Rattle.world_turns.specs.Changes.{Kept}
-use Rattle.world_turns.specs.Requests.{sends}
+use Rattle.world_turns.specs.Requests.{fetch_message, sends}
 use Rattle.world_turns.specs.Roles.{joins_on, member_at}
 use Rattle.world_turns.specs.Verdicts as verdict
 use Rattle.world_turns.specs.Verdicts.{VerdictEnds, VerdictNext, settles_by}
@@ -62,12 +62,8 @@ pub record TriesAsk (t : TargetPlan) (q : Message) (x : Trial) (o : Option Trial
   pub on : (rest : List Message) → TriesOn t (q ∷ rest) x rest o
   pub read : CanStill t o
 
--- a Fetch was
-abbrev pub message_of : FetchRequest → Message
-message_of q = Fetch q.attempt q.op q.group q.ep q.first q.tracker q.read q.snapshot
-
 abbrev pub TriesOne : TargetPlan → FetchRequest → Trial → Option Trial → Type 0
-TriesOne t q x o = TriesAsk t (message_of q) x o
+TriesOne t q x o = TriesAsk t (fetch_message q) x o
 
 -- all were
 pub record AllTried (t : TargetPlan) (asks : List Message) (x : Trial) (o : Option Trial) : Type 0 where

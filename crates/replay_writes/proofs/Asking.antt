@@ -1,11 +1,10 @@
 -- A Commit from its beginning on.
-use Rattle.std.proofs.Common.{ℕ, ◌≡◌, ◌/◌, refl, sym, ◌∙◌, ap, subst, Bool, true, false, Option, Some, None}
+use Rattle.std.proofs.Common.{ℕ, ◌≡◌, ◌/◌, refl, sym, ◌∙◌, ap, subst, Bool, false, Option, Some, None}
 use Rattle.std.specs.Bool.{Decides}
 use Rattle.daos_base.specs.declared.epoch.Epoch.{Epoch}
 use Rattle.daos_base.specs.declared.outcome.FloorWhy.{FloorWhy}
 use Rattle.daos_messages.specs.declared.actor.ActorId.{ActorId}
 use Rattle.daos_model.specs.declared.durable.Durable.{Durable}
-use Rattle.daos_model.specs.Changes.{leased}
 use Rattle.world_base.specs.declared.did.Did.{Did}
 use Rattle.world_base.specs.declared.request.CommitRequest.{CommitRequest}
 use Rattle.world_base.specs.declared.target.TargetMemory.{TargetMemory}
@@ -15,7 +14,7 @@ use Rattle.world_turns.specs.Commits.{Asked, Checking, CommitEnds, CommitNext, C
 use Rattle.world_turns.specs.Requests.{issued_for, request_epoch}
 use Rattle.world_turns.specs.Turns.{Whole}
 use Rattle.replay_base.specs.Leases as lease
-use Rattle.replay_base.specs.Onward.{Iff, Onward}
+use Rattle.replay_base.specs.Onward.{Onward}
 use Rattle.replay_base.specs.Requested.{AsksAt, IsToldEpoch, SpentSo, TellsEpoch}
 use Rattle.replay_base.specs.declared.leases.Covered.{Covered}
 use Rattle.replay_base.proofs.Asking.{keeps_on, known_decides, known_not, spent_decides}

@@ -17,11 +17,10 @@ use Rattle.world_turns.specs.Changes.{Change, Kept, Prepares, Steps}
 use Rattle.world_turns.specs.Commits.{IsAllowed, IsRefusedBy}
 use Rattle.world_turns.specs.Requests.{with_ticks}
 use Rattle.world_turns.specs.Turns.{Whole}
-use Rattle.replay_base.specs.Onward.{FreeAfter, Iff, Onward, keeps}
+use Rattle.replay_base.specs.Onward.{FreeAfter, Onward, keeps}
 use Rattle.replay_base.specs.declared.leases.Covered.{Covered}
-use Rattle.replay_base.proofs.Chains.{decides_on}
 use Rattle.replay_base.proofs.Starts.{AtOnce, First, Later, at_once, change_first, durable_is, first}
-use Rattle.replay_writes.specs.Ways.{EndsAs, LacksSpaceSo, RefusesSo, StoresFree, StoresSo, is_stored, outcome_of, refusal_told}
+use Rattle.replay_writes.specs.Ways.{EndsAs, StoresFree, StoresSo, is_stored, outcome_of, refusal_told}
 use Rattle.replay_writes.specs.declared.ways.Storing.{Storing}
 use Rattle.replay_writes.specs.declared.ways.Tells.{Tells}
 use Rattle.replay_writes.specs.declared.ways.Tells.TheVariants as tells

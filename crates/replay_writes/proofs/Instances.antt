@@ -1,18 +1,14 @@
 -- The stages of a Commit and of a Prepare, as those of a turn that stores writes.
-use Rattle.std.proofs.Common.{ℕ, ◌≡◌, ◌≤◌, ◌<◌, ◌/◌, refl, sym, ◌∙◌, ap, subst, map, List, [], ◌∷◌, Bool, true, false, Option, Some, None}
+use Rattle.std.proofs.Common.{ℕ, ◌≡◌, ◌/◌, refl, sym, ◌∙◌, ap, subst, map, List, [], ◌∷◌, Bool, true, false, Option, Some, None}
 use Rattle.std.specs.Prelude.{if◌then◌else◌}
 use Rattle.std.specs.Bool.{Decides}
 use Rattle.daos_base.specs.declared.entry.Entry.{Entry}
 use Rattle.daos_base.specs.declared.epoch.Epoch.{Epoch}
 use Rattle.daos_base.specs.declared.operation.MinorWrite.{MinorWrite}
-use Rattle.daos_base.specs.declared.outcome.Cause.{Cause}
-use Rattle.daos_base.specs.declared.outcome.Outcome.TheVariants as outcome
 use Rattle.daos_messages.specs.declared.actor.ActorId.{ActorId}
-use Rattle.daos_messages.specs.declared.message.Post.{Post}
 use Rattle.daos_model.specs.declared.durable.Durable.{Durable}
-use Rattle.daos_model.specs.Blocks.{blocks}
-use Rattle.daos_model.specs.Changes.{leased, prepared}
-use Rattle.dtx_base.specs.Leading.{LeaderOf, LeaderStep, begun, begun_alone, begun_with_others, prepare_to}
+use Rattle.daos_model.specs.Changes.{prepared}
+use Rattle.dtx_base.specs.Leading.{LeaderOf, begun, begun_alone, begun_with_others, prepare_to}
 use Rattle.dtx_base.specs.Members.{other_members}
 use Rattle.dtx_base.specs.Rows.{is_empty}
 use Rattle.world_base.specs.declared.did.Did.{Did}
@@ -21,7 +17,7 @@ use Rattle.world_base.specs.declared.request.PrepareRequest.{PrepareRequest}
 use Rattle.world_base.specs.declared.target.TargetMemory.{TargetMemory}
 use Rattle.world_base.specs.declared.target.TargetPlan.{TargetPlan}
 use Rattle.world_base.specs.declared.target.TargetState.{TargetState}
-use Rattle.world_turns.specs.Changes.{Change, Kept, Prepares}
+use Rattle.world_turns.specs.Changes.{Change, Kept}
 use Rattle.world_turns.specs.Commits as commit
 use Rattle.world_turns.specs.Commits.{begins_at, led_entry, own_writes}
 use Rattle.world_turns.specs.Prepares as prepare
@@ -30,16 +26,16 @@ use Rattle.world_turns.specs.Roles.{leader_at, leads_on}
 use Rattle.world_turns.specs.Turns.{Whole}
 use Rattle.replay_base.specs.declared.leases.Covered.{Covered}
 use Rattle.replay_base.specs.Leases as lease
-use Rattle.replay_base.specs.Onward.{Iff, Onward, keeps}
+use Rattle.replay_base.specs.Onward.{Onward, keeps}
 use Rattle.replay_base.proofs.Chains.{decides_on}
 use Rattle.replay_base.proofs.Covering.{CoverStep, Covering, Extending, cover_iff, cover_none}
 use Rattle.replay_base.proofs.Starts.{iff_both, whole_onward}
 use Rattle.replay_writes.specs.Begun.{begun_by, begun_left, storing_for, storing_of}
 use Rattle.replay_writes.specs.Ways.{EndsAs, is_stored, outcome_of}
 use Rattle.replay_writes.specs.declared.ways.Storing.{Storing}
-use Rattle.replay_writes.proofs.Checking as way
 use Rattle.replay_writes.proofs.Checking.{ByRefusal, ForSpace, Stages, StoresAll, Turned, told_decides}
 use Rattle.replay_writes.proofs.Stages as at
+use Rattle.world_turns.specs.ChangeLaws.{incarnation-prepared}
 
 -- ---- an attempt begins
 
@@ -106,10 +102,6 @@ begun_done t s q from e d =
     ap (λ z. (record (with_ticks e s.memory) { leader = z }, sends (begun_by t from q (led_entry t q e) d.incarnation (with_ticks e s.memory)).posts (issued_for q.attempt q.ep e))) b.0
     ∙ ap (λ z. (leads_on (begins_at t s.memory q from e d) (with_ticks e s.memory), sends z (issued_for q.attempt q.ep e))) b.1
 
-incarnation_stored : (e : Entry) (ws : List MinorWrite) (d : Durable) → (prepared e ws d).incarnation ≡ d.incarnation
-unfolding prepared
-incarnation_stored e ws d = refl
-
 -- the target's incarnation is all of what it keeps that shows
 done_same : (t : TargetPlan) (s : TargetState) (q : CommitRequest) (from : ActorId) (e : Epoch) (d d' : Durable) → d.incarnation ≡ d'.incarnation
     → ◌≡◌ {A = TargetMemory × Did} (leads_on (begins_at t s.memory q from e d) (with_ticks e s.memory), sends (begins_at t s.memory q from e d).posts (issued_for q.attempt q.ep e))
@@ -129,7 +121,7 @@ commit_decides t s new q from e start did x ws m done test x_is ws_is m_is done_
     done_so : done ≡ at.stored t s.opening s.memory reading q from e (keeps (prepared (led_entry t q e) (own_writes t q.writes) start.durable) 0)
     done_so =
         done_is ∙ ap (λ z. begun_left t from q z.entry start.durable.incarnation m) x_is ∙ ap (begun_left t from q (led_entry t q e) start.durable.incarnation) m_is ∙ begun_done t s q from e start.durable
-        ∙ done_same t s q from e start.durable (prepared (led_entry t q e) (own_writes t q.writes) start.durable) (sym (incarnation_stored (led_entry t q e) (own_writes t q.writes) start.durable))
+        ∙ done_same t s q from e start.durable (prepared (led_entry t q e) (own_writes t q.writes) start.durable) (sym (incarnation-prepared (led_entry t q e) (own_writes t q.writes) start.durable))
 
 -- ---- a Prepare
 

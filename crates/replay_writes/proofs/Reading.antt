@@ -1,23 +1,23 @@
 -- Tests of every element of a list, and of the first read that stands against writes.
-use Rattle.std.proofs.Common.{ℕ, suc, zero, ◌≡◌, ◌<◌, ◌≤◌, ◌+◌, ◌++◌, refl, sym, ◌∙◌, ap, subst, Bool, true, false, List, [], ◌∷◌, length, take, drop, get_or, map, All, Contains, Option, Some, None, ◌⊎◌, inl, inr, not, arith, slice_index}
-use Rattle.std.specs.Prelude.{◌||◌, if◌then◌else◌}
+use Rattle.std.proofs.Common.{ℕ, suc, zero, ◌≡◌, ◌<◌, ◌≤◌, ◌+◌, ◌++◌, refl, sym, ◌∙◌, ap, subst, Bool, true, false, List, [], ◌∷◌, length, get_or, map, All, Contains, ◌⊎◌, inl, inr, not, arith, slice_index}
+use Rattle.std.specs.Prelude.{◌||◌}
 use Rattle.std.specs.Bool.{Decides}
 use Rattle.std.specs.List.{list_any}
 use Rattle.std.specs.List.Sorted.{IsStrictlyIncreasing}
 use Rattle.std.proofs.lemmas.Bool.{cases_order}
 use Rattle.std.proofs.lemmas.List.{get_or-map}
-use Rattle.std.proofs.lemmas.List.Elements.{All-cons, All-head, All-tail, All-take}
+use Rattle.std.proofs.lemmas.List.Elements.{All-cons}
 use Rattle.std.proofs.lemmas.List.Folds.{list_any_none}
 use Rattle.daos_base.specs.declared.epoch.Epoch.{Epoch}
 use Rattle.daos_base.specs.declared.operation.MinorWrite.{MinorWrite}
 use Rattle.daos_base.specs.declared.shown.Shown.{Shown}
 use Rattle.daos_base.specs.Operations.{write_path}
+use Rattle.daos_laws.specs.Lists.{item-holds}
 use Rattle.daos_model.specs.BoolLaws.{clash}
 use Rattle.daos_model.specs.FormLaws.{length-map}
 use Rattle.daos_model.specs.Forms.{minor_of}
-use Rattle.replay_writes.proofs.Writing.{all_more, all_taken, item_holds, read_found}
-use Rattle.vos_stamp.specs.Stamps.{IsShown, NoneAgainst, stands_against}
-use Rattle.world_turns.specs.Commits.{FirstRead, NoReads}
+use Rattle.vos_stamp.specs.Stamps.{IsShown, NoneAgainst}
+use Rattle.world_turns.specs.Commits.{FirstRead}
 
 -- ---- no element passes a test
 
@@ -36,7 +36,7 @@ none_decides t xs false is = (λ e. any_false t xs (sym is), λ all. refl)
 -- ---- a loop over all elements
 
 pub not_all : {X : Type 0} (P : X → Type 0) (xs : List X) (i : ℕ) (x : X) (found : Bool) → Decides found (P x) → found ≡ false → i < length xs → x ≡ get_or xs i x → All P xs → ⊥
-not_all P xs i x found same bad lt is all = clash found (same.1 (item_holds P xs i x all lt is)) bad
+not_all P xs i x found same bad lt is all = clash found (same.1 (item-holds P xs i x all lt is)) bad
 
 -- ---- a loop that looks for an element
 
@@ -99,7 +99,7 @@ module _ (e : Epoch) (stamps : List Shown) (r : Shown) where
       by : (length f.before ≡ i) ⊎ ((length f.before < i) ⊎ (i < length f.before)) → ⊥
       by (inl here) = (let less : length f.before < i + 1 = omega (arith, here) in none (length f.before) f.w less there f.shown)
       by (inr (inl earlier)) = (let less : length f.before < i + 1 = omega (arith, earlier) in none (length f.before) f.w less there f.shown)
-      by (inr (inr later)) = against (item_holds Clear f.before i x f.none_before later (item_before f.before f.w f.after i x later (subst (λ us. x ≡ get_or us i x) f.among is)))
+      by (inr (inr later)) = against (item-holds Clear f.before i x f.none_before later (item_before f.before f.w f.after i x later (subst (λ us. x ≡ get_or us i x) f.among is)))
 
   -- nor where none of all writes does
   pub never_first : (ws : List MinorWrite) (i : ℕ) → NoneYet Shows ws i → length ws ≤ i → FirstRead e stamps ws r → ⊥

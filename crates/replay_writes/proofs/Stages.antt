@@ -1,5 +1,5 @@
 -- The steps and the ends of a Commit, stage by stage.
-use Rattle.std.proofs.Common.{ℕ, ◌≡◌, ◌≤◌, ◌<◌, ◌/◌, refl, sym, ◌∙◌, ap, subst, Option, Some, None, true, false, List}
+use Rattle.std.proofs.Common.{ℕ, ◌≡◌, ◌≤◌, ◌<◌, ◌/◌, refl, Option, Some, None, List}
 use Rattle.daos_base.specs.declared.epoch.Epoch.{Epoch}
 use Rattle.daos_base.specs.declared.operation.MinorWrite.{MinorWrite}
 use Rattle.daos_base.specs.declared.outcome.Cause.{Cause}

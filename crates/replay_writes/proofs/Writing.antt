@@ -1,40 +1,23 @@
 -- The checks of writes, write by write.
-use Rattle.std.proofs.Common.{ℕ, suc, ◌≡◌, ◌<◌, ◌≤◌, ◌+◌, ◌++◌, refl, sym, ◌∙◌, ap, subst, Bool, true, false, nat_le, List, [], ◌∷◌, length, take, drop, get_or, All, Option, Some, None, is_some, arith}
+use Rattle.std.proofs.Common.{ℕ, ◌≡◌, ◌<◌, ◌≤◌, ◌+◌, refl, sym, ◌∙◌, ap, Bool, true, false, nat_le, List, length, drop, get_or, Option, Some, None, is_some, arith}
 use Rattle.std.specs.Prelude.{if◌then◌else◌}
 use Rattle.std.proofs.lemmas.Bool.Decides.{nat_tests}
-use Rattle.std.proofs.Math.Seq.{drop-cons}
 use Rattle.std.proofs.Math.ListN.{drop_of_length-le}
-use Rattle.std.proofs.lemmas.List.{take-append-drop, take_all, take_more}
-use Rattle.std.proofs.lemmas.List.Elements.{All-append, All-cons}
 use Rattle.daos_base.specs.declared.epoch.Epoch.{Epoch}
 use Rattle.daos_base.specs.declared.operation.MinorWrite.{MinorWrite}
 use Rattle.daos_base.specs.declared.outcome.Cause.TheVariants.{Floor}
 use Rattle.daos_base.specs.declared.outcome.FloorWhy.{FloorWhy}
 use Rattle.daos_base.specs.declared.shown.Shown.{Shown}
 use Rattle.daos_base.specs.Operations.{write_path}
+use Rattle.daos_laws.specs.Lists.{drop-item}
 use Rattle.daos_model.specs.declared.durable.Durable.{Durable}
-use Rattle.vos_stamp.specs.Stamps.{IsShown, floor_cause}
+use Rattle.vos_stamp.specs.Stamps.{floor_cause}
 use Rattle.vos_store.specs.Answers.{floor_of}
 use Rattle.world_base.specs.declared.target.TargetPlan.{TargetPlan}
-use Rattle.world_turns.specs.Commits.{FirstRead, NoReads, first_floor, first_later, or_else}
+use Rattle.world_turns.specs.Commits.{first_floor, first_later, or_else}
 use Rattle.world_turns.specs.Reads.{later_of}
 
 -- ---- elements of a list
-
-drop_item : {X : Type 0} (xs : List X) (i : ℕ) (x : X) → i < length xs → x ≡ get_or xs i x → drop i xs ≡ x ∷ drop (i + 1) xs
-drop_item xs i x lt is =
-    let next : suc i ≡ i + 1 = omega arith in
-    drop-cons xs i x lt ∙ ap (λ y. y ∷ drop (suc i) xs) (sym is) ∙ ap (λ n. x ∷ drop n xs) next
-
-pub item_holds : {X : Type 0} (P : X → Type 0) (xs : List X) (i : ℕ) (x : X) → All P xs → i < length xs → x ≡ get_or xs i x → P x
-item_holds P xs i x all lt is = subst P (sym is) (all i x lt)
-
-pub all_more : {X : Type 0} (P : X → Type 0) (xs : List X) (i : ℕ) (x : X) → i < length xs → x ≡ get_or xs i x → All P (take i xs) → P x → All P (take (i + 1) xs)
-all_more P xs i x lt is all p =
-    subst (All P) (sym (take_more xs i x lt ∙ ap (λ y. take i xs ++ y ∷ []) (sym is))) (All-append P (take i xs) (x ∷ []) all (All-cons P x [] p (λ k d none. absurd (omega arith))))
-
-pub all_taken : {X : Type 0} (P : X → Type 0) (xs : List X) (i : ℕ) → length xs ≤ i → All P (take i xs) → All P xs
-all_taken P xs i le all = subst (All P) (take_all i xs le) all
 
 -- ---- floors
 
@@ -43,7 +26,7 @@ module _ (t : TargetPlan) (opening : Epoch × FloorWhy) (e : Epoch) (d : Durable
       → f ≡ floor_of opening d (write_path w.write).cont → first_floor t opening e d ws ≡ or_else (floor_cause t.me e.0 f) (first_floor t opening e d (drop (i + 1) ws))
   unfolding first_floor
   floor_at i w f so_far lt is f_is =
-      so_far ∙ ap (first_floor t opening e d) (drop_item ws i w lt is) ∙ ap (λ g. or_else (floor_cause t.me e.0 g) (first_floor t opening e d (drop (i + 1) ws))) (sym f_is)
+      so_far ∙ ap (first_floor t opening e d) (drop-item ws i w lt is) ∙ ap (λ g. or_else (floor_cause t.me e.0 g) (first_floor t opening e d (drop (i + 1) ws))) (sym f_is)
 
   pub floor_refuses : (i : ℕ) (w : MinorWrite) (f : Epoch × FloorWhy) → first_floor t opening e d ws ≡ first_floor t opening e d (drop i ws) → i < length ws → w ≡ get_or ws i w
       → f ≡ floor_of opening d (write_path w.write).cont → e.0 ≤ f.0.0 → Some (Floor t.me f.0 f.1) ≡ first_floor t opening e d ws
@@ -68,7 +51,7 @@ module _ (t : TargetPlan) (first : Option Epoch) (e : Epoch) (d : Durable) (ws :
       → x ≡ later_of t first e (write_path w.write) d → first_later t first e d ws ≡ or_else x (first_later t first e d (drop (i + 1) ws))
   unfolding first_later
   later_at i w x so_far lt is x_is =
-      so_far ∙ ap (first_later t first e d) (drop_item ws i w lt is) ∙ ap (λ y. or_else y (first_later t first e d (drop (i + 1) ws))) (sym x_is)
+      so_far ∙ ap (first_later t first e d) (drop-item ws i w lt is) ∙ ap (λ y. or_else y (first_later t first e d (drop (i + 1) ws))) (sym x_is)
 
   pub later_found : (i : ℕ) (w : MinorWrite) (x : Option Shown) → first_later t first e d ws ≡ first_later t first e d (drop i ws) → i < length ws → w ≡ get_or ws i w
       → x ≡ later_of t first e (write_path w.write) d → is_some x ≡ true → x ≡ first_later t first e d ws
@@ -91,14 +74,3 @@ module _ (t : TargetPlan) (first : Option Epoch) (e : Epoch) (d : Durable) (ws :
   laters_passed i so_far le = sym (so_far ∙ ap (first_later t first e d) (drop_of_length-le ws le))
 
 -- ---- later reads
-
-pub read_found : (e : Epoch) (stamps : List Shown) (ws : List MinorWrite) (i : ℕ) (w : MinorWrite) (r : Shown) → NoReads e stamps (take i ws) → i < length ws → w ≡ get_or ws i w
-    → IsShown (write_path w.write) e.0 stamps r → FirstRead e stamps ws r
-read_found e stamps ws i w r none lt is shown = record {
-  before = take i ws;
-  w = w;
-  after = drop (i + 1) ws;
-  among = sym (take-append-drop i ws) ∙ ap (λ xs. take i ws ++ xs) (drop_item ws i w lt is);
-  none_before = none;
-  shown = shown;
-}

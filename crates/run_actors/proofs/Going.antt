@@ -10,7 +10,7 @@ use Rattle.daos_messages.specs.declared.actor.ActorId.{ActorId}
 use Rattle.daos_messages.specs.declared.message.Post.{Post}
 use Rattle.daos_model.specs.declared.durable.Durable.{Durable}
 use Rattle.run_actors.specs.CanGo.{CanGo, IsInForm}
-use Rattle.run_actors.specs.ListLaws.{get-set, length-set, set-is}
+use Rattle.run_actors.specs.ListLaws.{get-set, length-set}
 use Rattle.run_actors.specs.Shows.{IsGoing, Shows, Steps}
 use Rattle.run_actors.proofs.Turns.{Follows, picked-takes}
 use Rattle.run_letters.specs.Letters.{BetweenNow, IsPicked}
@@ -26,7 +26,7 @@ use Rattle.world_begins.specs.Begins.{IsSimple}
 use Rattle.world_core.specs.Posting.{IsPlainScript, clients-post-in-form, hearers-post-in-form}
 use Rattle.world_events.specs.Events.{Goes, Rules, client_plan, target_plan}
 use Rattle.world_events.specs.Letters.{client, letter_of, letters_of, target}
-use Rattle.world_events.specs.StepLaws.{set-there}
+use Rattle.world_events.specs.StepLaws.{set-is, set-there}
 use Rattle.world_posts.specs.FormLaws.{asked-is-heard, asked-of_client, between-is-heard, between-of_target}
 use Rattle.world_posts.specs.Forms as posted
 use Rattle.world_posts.specs.Forms.{ClientPosts, ClientsWait, PostsInForm, TargetPosts}

@@ -1,9 +1,10 @@
 -- What goes to a target of a run it can hear.
-use Rattle.std.specs.Prelude.{ℕ, ◌≡◌, true, List, slice_get, Contains, All, Option, Some, None, refl}
+use Rattle.std.specs.Prelude.{ℕ, ◌≡◌, List, slice_get, Contains, All, Option, Some, None, refl}
 use Rattle.std.specs.Option.{ForSome}
 use Rattle.std.proofs.Common.{sym, ◌∙◌, ap, subst}
 use Rattle.client_core.specs.Clients.{ClientNow}
 use Rattle.daos_base.specs.declared.epoch.Epoch.{Epoch}
+use Rattle.daos_base.specs.declared.operation.MinorWrite.{MinorWrite}
 use Rattle.daos_messages.specs.declared.actor.ActorId.{ActorId}
 use Rattle.daos_messages.specs.declared.message.Message.{Message}
 use Rattle.daos_messages.specs.declared.message.Message.TheVariants as message
@@ -16,26 +17,28 @@ use Rattle.run_actors.specs.Shown.{target-there}
 use Rattle.run_actors.proofs.Turns.{picked-takes}
 use Rattle.target_core.specs.Targets as target_core
 use Rattle.target_core.specs.Targets.{HasForm, TargetOf, is_of_client}
-use Rattle.target_writes.specs.Checks.{IsUnused}
+use Rattle.target_writes.specs.CheckLaws.{new-at}
+use Rattle.target_writes.specs.Checks.{AreNewAt}
 use Rattle.vos_store.specs.Calls.{State}
 use Rattle.world_base.specs.declared.letter.Letter.{Letter}
 use Rattle.world_begins.specs.Hearable.{CanHear}
 use Rattle.world_begins.specs.Whole.{runs-can-be-heard}
 use Rattle.world_events.specs.Events.{Rules, target_plan}
 use Rattle.world_events.specs.Letters.{target}
+use Rattle.world_turns.specs.Commits.{own_writes}
 use Rattle.world_talks.specs.TalkLaws.{taken-is-among}
 
 -- ---- messages
 
 module _ (r : Rules) (t : ℕ) (d : Durable) (from : ActorId) where
-  unused : (ep : Option Epoch) → ((e : Epoch) → ep ≡ Some e → All (λ v. v.epoch.0 ≡ e.0 → ⊥) d.versions) → IsUnused ep d
-  unused None new = tt
-  unused (Some e) new = new e refl
+  all-new : (ep : Option Epoch) (ws : List MinorWrite) → ((e : Epoch) → ep ≡ Some e → All (λ v. v.epoch.0 ≡ e.0 → ⊥) d.versions) → AreNewAt ep ws d
+  all-new None ws unused = tt
+  all-new (Some e) ws unused = new-at e ws d (unused e refl)
 
   can-hear : (m : Message) → CanHear r t d from m → target_core.CanHear (target_plan r t) m d
   can-hear (message.Fetch x op group ep first tracker read snapshot) k = k.enlisted
-  can-hear (message.Commit x ep first tracker ws) k = record { enlisted = k.store.enlisted; absent = k.store.absent; unused = unused ep k.store.new }
-  can-hear (message.Prepare e first ws inc) k = record { enlisted = k.store.enlisted; absent = k.store.absent; unused = k.store.new e.epoch refl }
+  can-hear (message.Commit x ep first tracker ws) k = record { enlisted = k.store.enlisted; absent = k.store.absent; new = all-new ep (own_writes (target_plan r t) ws) k.store.new }
+  can-hear (message.Prepare e first ws inc) k = record { enlisted = k.store.enlisted; absent = k.store.absent; new = new-at e.epoch ws d (k.store.new e.epoch refl) }
   can-hear (message.Ack x inc refusal) k = tt
   can-hear (message.Mark inc marks) k = λ x i. k x.0 x.1 i
   can-hear (message.Marked inc ids) k = tt

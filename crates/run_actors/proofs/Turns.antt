@@ -6,7 +6,7 @@ use Rattle.std.proofs.lemmas.Bool.{cases_eq}
 use Rattle.client_core.specs.Clients.{ClientNow}
 use Rattle.daos_model.specs.declared.durable.Durable.{Durable}
 use Rattle.run_letters.specs.Letters.{BetweenNow, IsPicked}
-use Rattle.run_actors.specs.ListLaws.{get-set, length-set, map-get, map-set, set-is}
+use Rattle.run_actors.specs.ListLaws.{get-set, length-set, map-get, map-set}
 use Rattle.run_actors.specs.Shows.{IsTargetOf, Shows, Steps, state_of}
 use Rattle.run_picks.specs.Picks.{Going, Hearing, Idling, Serving, count_to, heard_awake, heard_by_client}
 use Rattle.target_core.specs.Targets.{TargetOf}
@@ -18,7 +18,7 @@ use Rattle.world_base.specs.declared.world.World.{World}
 use Rattle.world_base.specs.ClientTurns.{HearTurn, NextTurn}
 use Rattle.world_events.specs.Events.{Rules, after_turn, client_plan, kept, listed, target_after, target_plan, with_client, with_epoch, with_target}
 use Rattle.world_events.specs.Letters.{Takes, client, letters_of, target}
-use Rattle.world_events.specs.StepLaws.{set-there}
+use Rattle.world_events.specs.StepLaws.{set-is, set-there}
 use Rattle.world_turns.specs.TargetTurns.{Hears, IdlesWhole}
 
 pub picked-takes : (letters : List Letter) (n : ℕ) (l : Letter) (rest : List Letter) → (a : _) → IsPicked letters a n l rest → Takes letters l rest

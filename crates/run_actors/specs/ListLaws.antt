@@ -1,19 +1,9 @@
 -- Elements of lists, and lists in which one was set.
-use Rattle.std.specs.Prelude.{ℕ, ◌≡◌, ◌<◌, List, [], ◌∷◌, length, map, slice_get, slice_index_or, Option, Some, None, refl}
-use Rattle.std.proofs.Common.{zero, suc, inl, inr, sym, ◌∙◌, ap, subst, arith}
+use Rattle.std.specs.Prelude.{ℕ, ◌≡◌, List, [], ◌∷◌, length, map, slice_get, Some, refl}
+use Rattle.std.proofs.Common.{zero, suc, inl, inr, sym, ◌∙◌, ap, subst}
 use Rattle.std.proofs.Math.ListN.{set}
 use Rattle.std.proofs.lemmas.Bool.{cases_eq}
-use Rattle.world_events.specs.StepLaws.{set-here, set-there}
-
-pub at-index : {T : Type 0} (xs : List T) (n : ℕ) (x : T) → n < length xs → x ≡ slice_index_or xs n x → slice_get xs n ≡ Some x
-at-index [] n x within is = absurd (omega (arith, within))
-at-index (y ∷ ys) zero x within is = ap (λ z. Some z) (sym is)
-at-index (y ∷ ys) (suc n) x within is = at-index ys n x (omega (arith, within)) is
-
-pub there-is : {T : Type 0} (xs : List T) (n : ℕ) → n < length xs → (x : T) × (slice_get xs n ≡ Some x)
-there-is [] n h = absurd (omega (arith, h))
-there-is (x ∷ xs) zero h = (x, refl)
-there-is (x ∷ xs) (suc n) h = there-is xs n (omega (arith, h))
+use Rattle.world_events.specs.StepLaws.{set-is, set-there}
 
 pub map-set : {A B : Type 0} (f : A → B) (xs : List A) (n : ℕ) (x : A) → map f (set xs n x) ≡ set (map f xs) n (f x)
 map-set f [] n x = refl
@@ -29,19 +19,6 @@ pub length-set : {A : Type 0} (xs : List A) (n : ℕ) (x : A) → length (set xs
 length-set [] n x = refl
 length-set (y ∷ ys) zero x = refl
 length-set (y ∷ ys) (suc n) x = ap suc (length-set ys n x)
-
-none-stays : {A : Type 0} (xs : List A) (n : ℕ) (y : A) → slice_get xs n ≡ None → slice_get (set xs n y) n ≡ None
-none-stays [] n y h = refl
-none-stays (z ∷ zs) zero y h = let no : ⊥ = cc in absurd no
-none-stays (z ∷ zs) (suc n) y h = none-stays zs n y h
-
--- what stands where an element was set is that one
-pub set-is : {A : Type 0} (xs : List A) (n : ℕ) (y x : A) → slice_get (set xs n y) n ≡ Some x → y ≡ x
-set-is xs n y x at = by (slice_get xs n) refl
-  where
-    by : (o : Option _) → slice_get xs n ≡ o → y ≡ x
-    by None h = let bad : None ≡ Some x = sym (none-stays xs n y h) ∙ at in let no : ⊥ = cc in absurd no
-    by (Some z) h = let e : Some y ≡ Some x = sym (set-here xs n z y h) ∙ at in cc
 
 -- an element of a list in which one was set is that one or an old one
 pub get-set : {A : Type 0} (P : ℕ → A → Type 0) (xs : List A) (n : ℕ) (y : A) → P n y → ((m : ℕ) (x : A) → slice_get xs m ≡ Some x → P m x) → (m : ℕ) (x : A) → slice_get (set xs n y) m ≡ Some x → P m x

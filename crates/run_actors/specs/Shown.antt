@@ -1,12 +1,14 @@
 -- Which actors have something to do, and what they hear, is that of the world that they show.
-use Rattle.std.specs.Prelude.{ℕ, ◌≡◌, ◌<◌, ◌++◌, Bool, true, false, ◌||◌, nat_lt, List, [], ◌∷◌, filter, length, map, slice_get, Option, Some, None, refl}
+use Rattle.std.specs.Prelude.{ℕ, ◌≡◌, ◌<◌, ◌++◌, Bool, true, false, ◌||◌, nat_lt, List, [], ◌∷◌, filter, length, slice_get, Option, Some, None, refl}
 use Rattle.std.proofs.Common.{zero, suc, sym, ◌∙◌, ap, subst, arith}
 use Rattle.client_core.specs.Clients.{ClientNow}
+use Rattle.daos_laws.specs.Lists.{at-within}
 use Rattle.daos_messages.specs.declared.actor.ActorId.{ActorId}
+use Rattle.daos_model.specs.FormLaws.{length-map}
 use Rattle.daos_model.specs.declared.durable.Durable.{Durable}
 use Rattle.run_letters.specs.Letters.{BetweenNow}
 use Rattle.run_actors.specs.Due.{AllAreDue, is_due_client}
-use Rattle.run_actors.specs.ListLaws.{map-get, there-is}
+use Rattle.run_actors.specs.ListLaws.{map-get}
 use Rattle.run_actors.specs.Shows.{IsTargetOf, Shows, state_of}
 use Rattle.run_picks.specs.Picks as picks
 use Rattle.run_picks.specs.Picks.{count_to, heard, heard_awake, heard_by_client, if_client_due, if_target_due, is_client_due, is_due, numbered}
@@ -52,10 +54,6 @@ named-client a n kind named = ap (actor true) named ∙ ap (λ k. actor k a.numb
 pub named-target : (a : ActorId) (n : ℕ) → a.client ≡ false → n ≡ a.number → target n ≡ a
 named-target a n kind named = ap (actor false) named ∙ ap (λ k. actor k a.number) (sym kind)
 
-pub length-map : {A B : Type 0} (f : A → B) (xs : List A) → length (map f xs) ≡ length xs
-length-map f [] = refl
-length-map f (x ∷ xs) = ap suc (length-map f xs)
-
 module _ {S C : Type 0} (durable : S → Option Durable) (state : S → State) (r : Rules) (clients : List ClientNow) (targets : List (TargetOf S C)) (b : BetweenNow) (w : World) (k : Shows durable state r clients targets b w) where
   pub many-clients : length w.clients ≡ length clients
   many-clients = ap length k.clients ∙ length-map state_of clients
@@ -65,7 +63,7 @@ module _ {S C : Type 0} (durable : S → Option Durable) (state : S → State) (
 
   pub client-due-shown : (settling : Bool) (n : ℕ) → n < length clients → is_due_client b.messages n (slice_get clients n) ≡ is_due settling r w (client n)
   client-due-shown settling n within =
-      let c = there-is clients n within in
+      let c = at-within clients n within in
       ap (is_due_client b.messages n) c.1
       ∙ ap (λ p. is_client_due p c.0.state (count_to (client n) b.messages)) (k.plans n c.0 c.1)
       ∙ ap (λ ls. is_client_due (client_plan r n) c.0.state (count_to (client n) ls)) k.messages
@@ -93,7 +91,7 @@ module _ {S C : Type 0} (durable : S → Option Durable) (state : S → State) (
   pub client-heard-shown : (a : ActorId) (n many : ℕ) → a.client ≡ true → n ≡ a.number → n < length clients
       → ((c : ClientNow) → slice_get clients n ≡ Some c → many ≡ heard_awake c.state (count_to (client n) b.messages)) → many ≡ heard w a
   client-heard-shown a n many kind named within is =
-      let c = there-is clients n within in
+      let c = at-within clients n within in
       subst (λ x. many ≡ heard w x) (named-client a n kind named)
       (is c.0 c.1 ∙ ap (λ ls. heard_awake c.0.state (count_to (client n) ls)) k.messages ∙ ap (heard_by_client (count_to (client n) w.messages)) (sym (client-here n c.0 c.1)))
 

@@ -5,8 +5,9 @@ use Rattle.std.proofs.Math.ListN.{set}
 use Rattle.std.proofs.lemmas.Bool.{cases_eq}
 use Rattle.std.proofs.lemmas.Bool.Decides.{nat_tests}
 use Rattle.std.proofs.lemmas.Option.{slice_get_within}
+use Rattle.daos_laws.specs.Lists.{at-within}
 use Rattle.daos_model.specs.declared.durable.Durable.{Durable}
-use Rattle.run_actors.specs.ListLaws.{length-set, set-is, there-is}
+use Rattle.run_actors.specs.ListLaws.{length-set}
 use Rattle.run_actors.specs.Shows.{AreRunning}
 use Rattle.run_actors.specs.Stores.{AllRun, StoresRun, stops_at}
 use Rattle.target_parts.specs.declared.stop.TargetStop.{TargetStop}
@@ -16,7 +17,7 @@ use Rattle.target_parts.specs.Stops.{stop_store}
 use Rattle.target_core.specs.Targets.{TargetOf}
 use Rattle.vos_store.specs.Calls.{State}
 use Rattle.vos_store.specs.Refusals.{always_stop, says}
-use Rattle.world_events.specs.StepLaws.{set-there}
+use Rattle.world_events.specs.StepLaws.{set-is, set-there}
 
 says-at : {T : Type 0} (t u : ℕ) (result : Result T TargetStop) → u ≡ t → says (stops_at t u) result ≡ says stop_store result
 says-at t u (Ok x) same = refl
@@ -39,7 +40,7 @@ module _ {S C : Type 0} (durable : S → Option Durable) (state : S → State) w
   run-then stops result xs ys zs k l = record {
     many = l.many ∙ k.many;
     each = λ t x z at there.
-        let y = there-is ys t (subst (λ n. t < n) (sym k.many) (slice_get_within xs t x at)) in
+        let y = at-within ys t (subst (λ n. t < n) (sym k.many) (slice_get_within xs t x at)) in
         runs_on (stops t) result (state x.store) (state y.0.store) (state z.store) (durable x.store) (durable y.0.store) (durable z.store) (k.each t x y.0 at y.1) (l.each t y.0 z y.1 there);
   }
 

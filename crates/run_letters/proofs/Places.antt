@@ -1,22 +1,18 @@
 -- The place of an actor's letter of a number.
-use Rattle.std.specs.Prelude.{ℕ, ◌≡◌, ◌≤◌, ◌<◌, ◌+◌, Bool, true, false, ◌&&◌, List, [], ◌∷◌, ◌++◌, length, take, drop, slice_get, slice_index_or, Some, refl}
+use Rattle.std.specs.Prelude.{ℕ, ◌≡◌, ◌≤◌, ◌+◌, Bool, true, false, ◌&&◌, List, [], ◌∷◌, ◌++◌, length, take, drop, slice_get, slice_index_or, Some, refl}
 use mathlib.Core.Bool.{beq}
 use Rattle.std.proofs.Common.{zero, suc, ◌∙◌, ap, sym, arith, nat_eq}
 use Rattle.std.proofs.lemmas.Bool.Decides.{nat_tests}
+use Rattle.daos_laws.specs.Lists.{cut-at}
 use Rattle.daos_messages.specs.declared.actor.ActorId.{ActorId}
 use Rattle.run_letters.specs.Letters.{IsPicked, IsPlaceOf, letters_to}
+use Rattle.std.proofs.lemmas.Bool.{and_parts}
 use Rattle.world_base.specs.declared.letter.Letter.{Letter}
 
 -- of the letters before a place so many are to the actor, no more than the number that is looked for
 pub record AreCounted (letters : List Letter) (to : ActorId) (number place before : ℕ) : Type 0 where
   pub counted : before ≡ length (letters_to to (take place letters))
   pub few : before ≤ number
-
--- a list is what stands before a place, what stands there, and what stands after it
-pub cut-at : {T : Type 0} (xs : List T) (n : ℕ) (x : T) → slice_get xs n ≡ Some x → xs ≡ take n xs ++ x ∷ drop (suc n) xs
-cut-at [] n x h = let no : ⊥ = cc in absurd no
-cut-at (y ∷ ys) zero x h = let same : y ≡ x = cc in ap (λ z. z ∷ ys) same
-cut-at (y ∷ ys) (suc n) x h = ap (λ zs. y ∷ zs) (cut-at ys n x h)
 
 pub index-is : {T : Type 0} (xs : List T) (n : ℕ) (x y : T) → slice_get xs n ≡ Some x → slice_index_or xs n y ≡ x
 index-is [] n x y h = let no : ⊥ = cc in absurd no
@@ -47,10 +43,6 @@ same-kind true false h = let no : ⊥ = cc in absurd no
 same-kind false true h = let no : ⊥ = cc in absurd no
 same-kind false false h = refl
 
-both-hold : (a b : Bool) → a && b ≡ true → (a ≡ true) × (b ≡ true)
-both-hold true b h = (refl, h)
-both-hold false b h = let no : ⊥ = cc in absurd no
-
 same-number : (m n : ℕ) → nat_eq m n ≡ true → m ≡ n
 same-number m n h = grind (arith, nat_tests)
 
@@ -60,9 +52,4 @@ actor kind n = record { client = kind; number = n }
 -- actors that test the same are the same
 pub same-actor : (a b : ActorId) → beq a.client b.client && nat_eq a.number b.number ≡ true → a ≡ b
 unfolding actor
-same-actor a b h = let k = both-hold (beq a.client b.client) (nat_eq a.number b.number) h in ap (λ x. actor x a.number) (same-kind a.client b.client k.0) ∙ ap (actor b.client) (same-number a.number b.number k.1)
-
-pub at-index : {T : Type 0} (xs : List T) (n : ℕ) (x : T) → n < length xs → x ≡ slice_index_or xs n x → slice_get xs n ≡ Some x
-at-index [] n x within is = absurd (omega (arith, within))
-at-index (y ∷ ys) zero x within is = ap (λ z. Some z) (sym is)
-at-index (y ∷ ys) (suc n) x within is = at-index ys n x (omega (arith, within)) is
+same-actor a b h = let k = and_parts (beq a.client b.client) (nat_eq a.number b.number) h in ap (λ x. actor x a.number) (same-kind a.client b.client k.0) ∙ ap (actor b.client) (same-number a.number b.number k.1)

@@ -3,7 +3,7 @@ use Rattle.std.specs.Prelude.{ℕ, ◌≡◌, ◌≤◌, ◌<◌, Bool, true, fa
 use Rattle.std.proofs.Common.{◌∙◌, ap, subst, arith}
 use Rattle.daos_messages.specs.declared.actor.ActorId.{ActorId}
 use Rattle.client_core.specs.Clients.{ClientNow}
-use Rattle.run_actors.specs.ListLaws.{there-is}
+use Rattle.daos_laws.specs.Lists.{at-within}
 use Rattle.run_actors.specs.Shown.{named-client}
 use Rattle.run_picks.specs.Picks.{count_to, heard_awake}
 use Rattle.world_base.specs.declared.client.ClientState.{ClientState}
@@ -22,5 +22,5 @@ heard-few c count heard is = by (nat_lt 0 c.skip) refl
 pub heard-by : (a : ActorId) (n heard : ℕ) (clients : List ClientNow) (letters : List Letter) → a.client ≡ true → n ≡ a.number → n < length clients
     → ((c : ClientNow) → slice_get clients n ≡ Some c → heard ≡ heard_awake c.state (count_to (client n) letters)) → heard ≤ count_to a letters
 heard-by a n heard clients letters kind named within is =
-    let c = there-is clients n within in
+    let c = at-within clients n within in
     subst (λ x. heard ≤ count_to x letters) (named-client a n kind named) (heard-few c.0.state (count_to (client n) letters) heard (is c.0 c.1))

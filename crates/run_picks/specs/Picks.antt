@@ -1,5 +1,5 @@
 -- Which actors have something to do, and what a turn of an actor is.
-use Rattle.std.specs.Prelude.{ℕ, zero, suc, ◌≡◌, ◌++◌, Bool, false, ◌||◌, ◌==◌, not, nat_lt, List, [], ◌∷◌, filter, length, slice_get, Option, Some, None, if◌then◌else◌}
+use Rattle.std.specs.Prelude.{ℕ, zero, suc, ◌≡◌, ◌++◌, Bool, false, ◌||◌, not, nat_lt, List, [], ◌∷◌, filter, length, slice_get, Option, Some, None, if◌then◌else◌}
 use Rattle.daos_messages.specs.declared.actor.ActorId.{ActorId}
 use Rattle.run_letters.specs.Letters.{IsPicked, letters_to}
 use Rattle.world_base.specs.declared.client.ClientPlan.{ClientPlan}

@@ -3,6 +3,7 @@ use Rattle.std.specs.Prelude.{ℕ, ◌≡◌, ◌⊎◌, ◌<◌, Bool, true, fa
 use Rattle.std.proofs.Common.{zero, suc, inl, inr, sym, ◌∙◌, ap, subst, arith}
 use Rattle.std.proofs.lemmas.Bool.{cases_eq}
 use Rattle.std.proofs.lemmas.Bool.Decides.{nat_tests}
+use Rattle.daos_laws.specs.Lists.{at-within}
 use Rattle.daos_laws.specs.Members.{Has, has-filter, has-left, has-right}
 use Rattle.daos_messages.specs.declared.actor.ActorId.{ActorId}
 use Rattle.daos_model.specs.declared.durable.Durable.{Durable}
@@ -53,11 +54,6 @@ within-length : {T : Type 0} (xs : List T) (n : ℕ) (x : T) → slice_get xs n 
 within-length [] n x h = let no : ⊥ = cc in absurd no
 within-length (y ∷ ys) zero x h = omega arith
 within-length (y ∷ ys) (suc n) x h = let k : n < length ys = within-length ys n x h in omega (arith, k)
-
-pub there-is : {T : Type 0} (xs : List T) (n : ℕ) → n < length xs → (x : T) × (slice_get xs n ≡ Some x)
-there-is [] n h = absurd (omega (arith, h))
-there-is (x ∷ xs) zero h = (x, refl)
-there-is (x ∷ xs) (suc n) h = there-is xs n (omega (arith, h))
 
 none-left : {T : Type 0} (xs : List T) → not (length xs == 0) ≡ false → xs ≡ []
 none-left [] h = refl
@@ -114,9 +110,9 @@ module _ (settling : Bool) (r : Rules) (w : World) (quiet : due settling r w ≡
 pub quiet-has-ended : QuietHasEnded
 quiet-has-ended r w lists quiet = record {
   to_clients = λ n l within i to.
-      let c = there-is w.clients n (subst (λ m. n < m) (sym lists) within) in
+      let c = at-within w.clients n (subst (λ m. n < m) (sym lists) within) in
       none-to (client n) w.messages (client-parts (client_plan r n) c.0 (count_to (client n) w.messages) (client-quiet true r w quiet n c.0 c.1)).1 l i to;
-  to_targets = λ t l within i to. let s = there-is w.targets t within in none-to (target t) w.messages (none-idle t s.0 s.1).0 l i to;
+  to_targets = λ t l within i to. let s = at-within w.targets t within in none-to (target t) w.messages (none-idle t s.0 s.1).0 l i to;
   clients = λ n c here. one-true (waits c) (is_done (client_plan r n) c) (client-parts (client_plan r n) c (count_to (client n) w.messages) (client-quiet true r w quiet n c here)).2;
   settled = λ t s here. none-left s.memory.leader.decided (none-idle t s here).1.settled;
   told = λ t s here. (none-idle t s here).1.told;

@@ -1,5 +1,5 @@
 -- What a target is seen as, what holds of each, and what a turn of it comes to.
-use Rattle.std.specs.Prelude.{ℕ, ◌≡◌, ◌≤◌, ◌<◌, Bool, true, false, List, [], Option, Some, None, is_some, Result, Ok, Err}
+use Rattle.std.specs.Prelude.{ℕ, ◌≡◌, ◌≤◌, Bool, true, false, List, [], Option, Some, None, is_some, Result, Ok, Err}
 use Rattle.std.specs.Option.{ForSome}
 use Rattle.daos_base.specs.declared.entry.Entry.{Entry}
 use Rattle.daos_base.specs.declared.epoch.Epoch.{Epoch}
@@ -30,12 +30,11 @@ pub use Rattle.world_posts.specs.Forms.{HasForm, is_of_client}
 use Rattle.target_parts.specs.declared.knows.Knows.{Knows}
 use Rattle.target_parts.specs.declared.stop.TargetStop.{TargetStop}
 use Rattle.target_parts.specs.declared.stop.TargetStop.TheVariants as stop
-use Rattle.target_parts.specs.Knowing.{IsOwn, IsReadAsked, LeadsWell, memory_of}
+use Rattle.target_parts.specs.Knowing.{IsOwn, LeadsWell, memory_of}
 use Rattle.target_parts.specs.Parts.{Now, Partway, kept}
-use Rattle.target_parts.specs.Stops.{CutTelling, commit_issued, fetch_issued}
-use Rattle.target_dtx.specs.Dtx.{never}
-use Rattle.target_writes.specs.Checks.{AreWrites, CanCommit, IsPlaced}
-use Rattle.target_writes.specs.Turns.{CanPrepareHere, IsPrepareInForm}
+use Rattle.target_parts.specs.Stops.{CutTelling, commit_issued, fetch_issued, never}
+use Rattle.target_writes.specs.Checks.{CanCommit, IsPlaced}
+use Rattle.target_writes.specs.Turns.{CanPrepareHere}
 
 -- ---- a target
 
@@ -63,7 +62,7 @@ IsLedElsewhere me a d = (e : Entry) → entry_of d a ≡ Some e → e.leader ≡
 -- a message can be heard with what is kept
 abbrev pub CanHear : TargetPlan → Message → Durable → Type 0
 CanHear t (Fetch x op group ep first tracker r snapshot) d = is_enlisted d (read_path r).cont ≡ true
-CanHear t (Commit x ep first tracker ws) d = CanCommit x ep ws d
+CanHear t (Commit x ep first tracker ws) d = CanCommit t x ep ws d
 CanHear t (Prepare e first ws inc) d = CanPrepareHere e ws d
 CanHear t (Mark inc marks) d = (x : AttemptId × Bool) → Has x marks → IsLedElsewhere t.me x.0 d
 CanHear t (Verdict x ask inc v) d = IsLedElsewhere t.me x d

@@ -30,7 +30,8 @@ use Rattle.target_parts.specs.KeepingLaws.{open-aborts}
 use Rattle.target_parts.specs.Knowing.{AreRowsOpen, IsApart, LeadsWell}
 use Rattle.target_parts.specs.Parts.{Now, kept}
 use Rattle.target_parts.specs.RowKeeping.{ack-rows, undecided-open, without-apart}
-use Rattle.target_parts.specs.Turning.{cut_in_change, reached_change, reached_none, reached_silent, whole}
+use Rattle.target_parts.specs.Turning.{cut_in_change, reached_change, reached_silent, whole}
+use Rattle.world_turns.specs.PathLaws.{reached-here}
 
 -- an Ack that refuses is of an attempt that is undecided here, and aborts it
 record Refuses (member : ℕ) (a : AttemptId) (inc : ℕ) (refusal : Option Outcome) (l : LeaderOf) : Type 0 where
@@ -103,7 +104,7 @@ module _ (t : TargetPlan) (m : TargetMemory) (member : ℕ) (a : AttemptId) (inc
         durable = made (Settles a Abort) d;
         kept_is = did.kept_is;
         holds = whole (AckNext t m member a inc refusal) (AckEnds m) Heard (kept d h) (kept (made (Settles a Abort) d) k) (Followed comes) (n, told)
-            (reached_change (AckNext t m member a inc refusal) Heard (kept d h) Heard (kept d h) (Settles a Abort) (Followed comes) (kept (made (Settles a Abort) d) k) (reached_none (AckNext t m member a inc refusal) Heard (kept d h)) (Aborts (kept d h) (sym is)) refl did.free)
+            (reached_change (AckNext t m member a inc refusal) Heard (kept d h) Heard (kept d h) (Settles a Abort) (Followed comes) (kept (made (Settles a Abort) d) k) (reached-here (AckNext t m member a inc refusal) Heard (kept d h)) (Aborts (kept d h) (sym is)) refl did.free)
             (IsFollowed (kept (made (Settles a Abort) d) k) comes (n, told) left);
       }
       by false is stays = record {
@@ -111,7 +112,7 @@ module _ (t : TargetPlan) (m : TargetMemory) (member : ℕ) (a : AttemptId) (inc
         kept_is = stays.kept_is;
         holds = whole (AckNext t m member a inc refusal) (AckEnds m) Heard (kept d h) (kept d k) (Followed comes) (n, told)
             (reached_silent (AckNext t m member a inc refusal) Heard (kept d h) Heard (kept d k) (Followed comes)
-            (subst (λ f. Reached (AckNext t m member a inc refusal) Heard (kept d h) Heard (record { durable = d; free = f })) (sym stays.free) (reached_none (AckNext t m member a inc refusal) Heard (kept d h)))
+            (subst (λ f. Reached (AckNext t m member a inc refusal) Heard (kept d h) Heard (record { durable = d; free = f })) (sym stays.free) (reached-here (AckNext t m member a inc refusal) Heard (kept d h)))
             (Counts (kept d k) (sym is)))
             (IsFollowed (kept d k) comes (n, told) left);
       }
@@ -119,5 +120,5 @@ module _ (t : TargetPlan) (m : TargetMemory) (member : ℕ) (a : AttemptId) (inc
   -- or that was cut
   pub ack-cut : (b : Bool) (finds : Durable → Type 0) (e : Stopped) → b ≡ is_refusing member a inc refusal (leader_at t m d) → MadeIf b (Settles a Abort) d h new k finds (Err e)
       → CutShort (AckNext t m member a inc refusal) Heard (kept d h) finds
-  ack-cut true finds e is cut = cut_in_change (AckNext t m member a inc refusal) Heard (kept d h) Heard (kept d h) (Settles a Abort) (Followed comes) finds (reached_none (AckNext t m member a inc refusal) Heard (kept d h)) (Aborts (kept d h) (sym is)) cut
+  ack-cut true finds e is cut = cut_in_change (AckNext t m member a inc refusal) Heard (kept d h) Heard (kept d h) (Settles a Abort) (Followed comes) finds (reached-here (AckNext t m member a inc refusal) Heard (kept d h)) (Aborts (kept d h) (sym is)) cut
   ack-cut false finds e is none = absurd none

@@ -14,9 +14,9 @@ use Rattle.world_turns.specs.Verdicts.{Answers, IsAnswered, IsAsked, IsTold, Que
 use Rattle.target_parts.specs.declared.stop.TargetStop.{TargetStop}
 use Rattle.target_parts.specs.Ending.{turn_said}
 use Rattle.target_parts.specs.Parts.{kept}
-use Rattle.target_parts.specs.Stops.{Turn, stop_memory}
-use Rattle.target_parts.specs.Turning.{now_partway, reached_none, reached_silent, whole}
-use Rattle.target_dtx.specs.Dtx.{never}
+use Rattle.target_parts.specs.Stops.{Turn, never, stop_memory}
+use Rattle.target_parts.specs.Turning.{now_partway, reached_silent, whole}
+use Rattle.world_turns.specs.PathLaws.{reached-here}
 
 -- what the leader knows of the attempt is told, or memory is wanting for that
 pub answers-so : (t : TargetPlan) (m : TargetMemory) (from : ActorId) (a : AttemptId) (ask : Option AttemptId) (d : Durable) (h : State) (new : Option Durable) (finds : Durable → Type 0) (r : Result Did TargetStop) → new ≡ Some d
@@ -28,7 +28,7 @@ answers-so t m from a ask d h new finds r at ok wanting =
       durable = d;
       kept_is = at;
       holds = whole QueryNext (QueryEnds t m from a ask) IsAsked (kept d h) (kept d h) IsAnswered (m, says from (verdict_message t m a ask d) None)
-          (reached_silent QueryNext IsAsked (kept d h) IsAsked (kept d h) IsAnswered (reached_none QueryNext IsAsked (kept d h)) (Answers (kept d h)))
+          (reached_silent QueryNext IsAsked (kept d h) IsAsked (kept d h) IsAnswered (reached-here QueryNext IsAsked (kept d h)) (Answers (kept d h)))
           (IsTold (kept d h) (m, says from (verdict_message t m a ask d) None) refl);
     })
     (now_partway QueryNext IsAsked d h h new (record { kept_is = at; free = refl }))

@@ -1,10 +1,11 @@
 -- Idle work, attempt by attempt.
-use Rattle.std.proofs.Common.{◌≡◌, ◌<◌, inl, inr, refl, sym, ◌∙◌, ap, subst, Bool, true, false, not, List, [], ◌∷◌, filter, length, get_or, Option, Result, Ok, Err, arith}
+use Rattle.std.proofs.Common.{◌≡◌, ◌<◌, refl, sym, ◌∙◌, ap, subst, Bool, true, false, not, List, [], ◌∷◌, length, get_or, Option, Result, Ok, Err, arith}
 use Rattle.std.specs.Prelude.{◌==◌, IfErr, IfOk, OnOk, if◌then◌else◌}
 use Rattle.std.specs.Option.{ForSome}
 use Rattle.std.proofs.lemmas.Bool.Decides.{nat_tests}
 use Rattle.daos_base.specs.declared.entry.Settle.TheVariants.{Commit}
 use Rattle.daos_base.specs.declared.id.AttemptId.{AttemptId}
+use Rattle.daos_laws.specs.Lists.{filter-all}
 use Rattle.daos_laws.specs.Members.{Has}
 use Rattle.daos_laws.specs.RisingLaws.{after-has}
 use Rattle.daos_model.specs.declared.durable.Durable.{Durable}
@@ -15,7 +16,6 @@ use Rattle.daos_model.specs.EntryLaws.{same_attempt-itself}
 use Rattle.daos_model.specs.FormLaws.{length-filter}
 use Rattle.daos_model.specs.Ordered.{all_after, is_rising}
 use Rattle.daos_model.specs.OrderLaws.{before-itself}
-use Rattle.dtx_base.specs.declared.leading.LeaderMemory.{LeaderMemory}
 use Rattle.dtx_base.specs.LeaderLaws.{same-is}
 use Rattle.dtx_base.specs.Rows.{is_other_row, itself, without_row}
 use Rattle.vos_store.specs.Calls.{State}
@@ -29,13 +29,7 @@ use Rattle.world_turns.specs.Turns.{CutShort, Reached, Whole}
 use Rattle.target_parts.specs.declared.stop.TargetStop.{TargetStop}
 use Rattle.target_parts.specs.Parts.{Did, Now, WasCut, kept}
 use Rattle.target_parts.specs.Turning.{cut_in_change, reached_change, whole}
-use Rattle.target_parts.specs.Stops.{Turn, stop_memory}
-use Rattle.target_dtx.specs.Dtx.{never}
-
-filter-all : {T : Type 0} (p : T → Bool) (xs : List T) → ((x : T) → Has x xs → p x ≡ true) → filter p xs ≡ xs
-filter-all p [] all = refl
-filter-all p (x ∷ xs) all =
-    ap (λ (b : Bool). if b then x ∷ filter p xs else filter p xs) (all x (inl refl)) ∙ ap (λ ys. x ∷ ys) (filter-all p xs (λ y i. all y (inr i)))
+use Rattle.target_parts.specs.Stops.{Turn, never, stop_memory}
 
 -- of attempts in order, those without the first are the rest
 without-first : (a : AttemptId) (rest : List AttemptId) → is_rising attempt_key (a ∷ rest) ≡ true → without_row itself a (a ∷ rest) ≡ rest
@@ -97,11 +91,6 @@ module _ (xs : List AttemptId) (a : AttemptId) (some : (length xs == 0) ≡ fals
 pub none-left : (xs : List AttemptId) → (length xs == 0) ≡ true → xs ≡ []
 none-left [] empty = refl
 none-left (x ∷ xs) empty = let none : length (x ∷ xs) ≡ 0 = grind (arith, nat_tests) in absurd (omega (arith, none))
-
--- one more is settled: what else the leader remembers stays
-pub leader-on : (old mid new : LeaderMemory) (ds : List AttemptId) → mid ≡ record old { decided = mid.decided } → new ≡ record mid { decided = ds } → new ≡ record old { decided = new.decided }
-leader-on old mid new ds before one =
-    one ∙ ap (λ x. record mid { decided = x }) (sym (ap (λ (l : LeaderMemory). l.decided) one)) ∙ ap (λ (l : LeaderMemory). record l { decided = new.decided }) before
 
 -- ---- the end
 

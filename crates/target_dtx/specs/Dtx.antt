@@ -1,7 +1,6 @@
 -- What a target does that hears of attempts from other targets.
-use Rattle.std.specs.Prelude.{Bool, true, false, List, [], Option, None, Result, Ok, Err}
+use Rattle.std.specs.Prelude.{Bool, true, false, List, [], Option, Result, Ok, Err}
 use Rattle.daos_base.specs.declared.entry.Entry.{Entry}
-use Rattle.daos_base.specs.declared.epoch.Epoch.{Epoch}
 use Rattle.daos_base.specs.declared.id.AttemptId.{AttemptId}
 use Rattle.daos_laws.specs.Members.{Has}
 use Rattle.daos_model.specs.declared.durable.Durable.{Durable}
@@ -13,10 +12,6 @@ use Rattle.world_turns.specs.Changes.{Change, Kept}
 use Rattle.world_turns.specs.Turns.{CutShort, Reached}
 use Rattle.target_parts.specs.Knowing.{IsApart}
 use Rattle.target_parts.specs.Parts.{Now, kept}
-
--- no epoch is issued
-abbrev pub never : {S : Type 0} → S → Option (AttemptId × Epoch)
-never s = None
 
 -- the attempts that a Mark names aren't among those that are remembered here
 abbrev pub AreApart : List (AttemptId × Bool) → LeaderMemory → Type 0

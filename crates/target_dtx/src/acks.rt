@@ -16,8 +16,8 @@ ghost use Rattle.world_posts.specs.Forms.{PostsInForm};
 ghost use Rattle.target_parts.specs.Keeping.{MadeIf};
 ghost use Rattle.target_parts.specs.Knowing.{IsApart, IsBeside, IsOwn, LeadsWell, memory_of};
 ghost use Rattle.target_parts.specs.Parts.{Runs, kept};
-ghost use Rattle.target_parts.specs.Stops.{Turn, stop_foreign, stop_store};
-ghost use Rattle.target_dtx.specs.Dtx.{GoesThrough, never};
+ghost use Rattle.target_parts.specs.Stops.{Turn, never, stop_foreign, stop_store};
+ghost use Rattle.target_dtx.specs.Dtx.{GoesThrough};
 
 use daos_base::entry::{Entry, Settle};
 use daos_base::epoch::TargetId;

@@ -9,8 +9,8 @@ ghost use Rattle.world_turns.specs.Turns.{Whole};
 ghost use Rattle.world_posts.specs.Forms.{PostsInForm, TargetPosts};
 ghost use Rattle.target_parts.specs.Knowing.{IsBeside, IsOwn, LeadsWell, memory_of};
 ghost use Rattle.target_parts.specs.Parts.{Runs, kept};
-ghost use Rattle.target_parts.specs.Stops.{Turn, stop_foreign, stop_memory, stop_store};
-ghost use Rattle.target_dtx.specs.Dtx.{GoesThrough, asks_if, never};
+ghost use Rattle.target_parts.specs.Stops.{Turn, never, stop_foreign, stop_memory, stop_store};
+ghost use Rattle.target_dtx.specs.Dtx.{GoesThrough, asks_if};
 
 use daos_base::entry::Entry;
 use daos_base::items::Items;

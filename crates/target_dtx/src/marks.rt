@@ -9,8 +9,8 @@ ghost use Rattle.world_posts.specs.Forms.{PostsInForm};
 ghost use Rattle.target_parts.specs.Keeping.{IsEnding};
 ghost use Rattle.target_parts.specs.Knowing.{IsBeside, IsOwn, LeadsWell, memory_of};
 ghost use Rattle.target_parts.specs.Parts.{Runs, kept};
-ghost use Rattle.target_parts.specs.Stops.{Turn, stop_foreign, stop_store};
-ghost use Rattle.target_dtx.specs.Dtx.{AreApart, GoesThrough, never};
+ghost use Rattle.target_parts.specs.Stops.{Turn, never, stop_foreign, stop_store};
+ghost use Rattle.target_dtx.specs.Dtx.{AreApart, GoesThrough};
 
 use daos_base::entry::Settle;
 use daos_base::id::AttemptId;

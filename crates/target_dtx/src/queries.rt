@@ -8,8 +8,7 @@ ghost use Rattle.world_turns.specs.Verdicts.{QueryEnds, QueryNext, QueryStage};
 ghost use Rattle.world_posts.specs.Forms.{TargetPosts};
 ghost use Rattle.target_parts.specs.Knowing.{LeadsWell, memory_of};
 ghost use Rattle.target_parts.specs.Parts.{kept};
-ghost use Rattle.target_parts.specs.Stops.{Turn, stop_foreign, stop_store};
-ghost use Rattle.target_dtx.specs.Dtx.{never};
+ghost use Rattle.target_parts.specs.Stops.{Turn, never, stop_foreign, stop_store};
 
 use daos_base::id::AttemptId;
 use daos_messages::actor::ActorId;

@@ -7,7 +7,7 @@ use Rattle.daos_base.specs.declared.id.AttemptId.{AttemptId}
 use Rattle.daos_model.specs.declared.durable.Durable.{Durable}
 use Rattle.daos_model.specs.Durables.{entry_of}
 use Rattle.dtx_table.specs.Tables as table
-use Rattle.dtx_table.specs.Tables.{entries_settled, entry_in}
+use Rattle.dtx_table.specs.Tables.{entry_in}
 use Rattle.vos_store.specs.Conditions.{CanSettle, IsStep}
 use Rattle.world_turns.specs.Roles.{is_open_entry, is_prepared}
 use Rattle.target_parts.specs.Keeping.{IsEnding}

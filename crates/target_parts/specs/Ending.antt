@@ -14,7 +14,8 @@ use Rattle.target_parts.specs.declared.stop.TargetStop.{TargetStop}
 use Rattle.target_parts.specs.declared.stop.TargetStop.TheVariants as stop
 use Rattle.target_parts.specs.Parts.{Now, Part, Partway}
 use Rattle.target_parts.specs.Stops.{Turn, stop_memory, stop_of, stop_store}
-use Rattle.target_parts.specs.Turning.{reached_on, whole_on}
+use Rattle.target_parts.specs.Turning.{reached_on}
+use Rattle.world_turns.specs.PathLaws.{whole-on}
 
 -- a clock that tells its next reading gives that; another one gives some
 pub some_reading : (next : Option ℕ) → (r : ℕ) × IfSome next (λ x. x ≡ r)
@@ -54,7 +55,7 @@ pub turn_on : {S R : Type 0} (Next : S → Kept → Option Change → S → Type
 turn_on Next issued_at Ends ending s t old mid new k finds (Ok did) reached now = record {
   durable = now.durable;
   kept_is = now.kept_is;
-  holds = whole_on Next Ends s t old mid _ (ending did) reached now.holds;
+  holds = whole-on Next Ends s t old mid _ (ending did) reached now.holds;
 }
 turn_on Next issued_at Ends ending s t old mid new k finds (Err (stop.Store issued lines)) reached cut = record {
   cut = record { last = cut.cut.last; mid = cut.cut.mid; reached = reached_on Next s old t mid cut.cut.last cut.cut.mid reached cut.cut.reached; cut = cut.cut.cut };

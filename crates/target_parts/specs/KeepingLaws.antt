@@ -25,13 +25,16 @@ use Rattle.daos_model.specs.OrderLaws.{rising-filter}
 use Rattle.daos_model.specs.Versions.{done_by, version_of, versions_of}
 use Rattle.dtx_base.specs.declared.leading.LeaderMemory.{LeaderMemory}
 use Rattle.dtx_base.specs.LeaderLaws.{same-is}
-use Rattle.dtx_base.specs.RowLaws.{row-is, row-map, row-with, row-without}
+use Rattle.dtx_base.specs.RowLaws.{row-is, row-map, row-without}
 use Rattle.dtx_base.specs.Rows.{itself, without_row}
 use Rattle.dtx_table.specs.Tables.{entries_settled}
 use Rattle.world_base.specs.declared.target.TargetMemory.{TargetMemory}
 use Rattle.world_base.specs.declared.target.TargetPlan.{TargetPlan}
 use Rattle.vos_store.specs.Conditions.{CanSettle}
 use Rattle.target_parts.specs.Knowing.{AreAsksHere, AreRowsOpen, IsApart, IsAskHere, IsHeard, IsOpenHere, LeadsWell}
+use Rattle.world_reads.specs.ChangeLaws.{other-entry}
+use Rattle.world_turns.specs.ChangeLaws.{entries-leased, lease-settled}
+use Rattle.world_turns.specs.EntryLaws.{entry-prepared_other}
 
 -- ---- entries
 
@@ -45,9 +48,6 @@ entries-settled a Commit d = refl
 entries-settled a Abort d = refl
 entries-settled a (Confirm t) d = refl
 entries-settled a Forget d = refl
-
-committed-other : (a : AttemptId) (e : Entry) → same_attempt e.attempt a ≡ false → committed_at a e ≡ e
-committed-other a e other = ap (λ (b : Bool). if b then record e { committed = true } else e) other
 
 confirmed-other : (a : AttemptId) (t : ℕ) (e : Entry) → same_attempt e.attempt a ≡ false → confirmed_at a t e ≡ e
 confirmed-other a t e other = by (same_attempt e.attempt a) other refl
@@ -77,14 +77,10 @@ confirmed-attempt a t x = by (same_attempt x.attempt a) refl
 -- the entry of an attempt stays where another one is settled
 pub entry-settled : (a b : AttemptId) (step : Settle) (d : Durable) (e : Entry) → (b ≡ a → ⊥) → entry_of d b ≡ Some e → entry_of (settled a step d) b ≡ Some e
 unfolding entry_of settled
-entry-settled a b Commit d e apart here = found-mapped (committed_at a) a b d.entries e (committed-attempt a) (committed-other a) apart here
+entry-settled a b Commit d e apart here = found-mapped (committed_at a) a b d.entries e (committed-attempt a) (other-entry a) apart here
 entry-settled a b Abort d e apart here = row-without entry_attempt b a d.entries apart ∙ here
 entry-settled a b (Confirm t) d e apart here = found-mapped (confirmed_at a t) a b d.entries e (confirmed-attempt a t) (confirmed-other a t) apart here
 entry-settled a b Forget d e apart here = row-without entry_attempt b a d.entries apart ∙ here
-
-entry-prepared : (e : Entry) (ws : List MinorWrite) (d : Durable) (b : AttemptId) → (b ≡ e.attempt → ⊥) → entry_of (prepared e ws d) b ≡ entry_of d b
-unfolding entry_of prepared
-entry-prepared e ws d b apart = row-with entry_attempt b e d.entries apart
 
 pub open-settled : (me : ℕ) (a b : AttemptId) (step : Settle) (d : Durable) → (b ≡ a → ⊥) → IsOpenHere me b d → IsOpenHere me b (settled a step d)
 open-settled me a b step d apart o = record { entry = o.entry; here = entry-settled a b step d o.entry apart o.here; unsettled = o.unsettled; led = o.led }
@@ -92,7 +88,7 @@ open-settled me a b step d apart o = record { entry = o.entry; here = entry-sett
 open-prepared : (me : ℕ) (e : Entry) (ws : List MinorWrite) (b : AttemptId) (d : Durable) → entry_of d e.attempt ≡ None → IsOpenHere me b d → IsOpenHere me b (prepared e ws d)
 open-prepared me e ws b d absent o = record {
   entry = o.entry;
-  here = entry-prepared e ws d b (λ same. let bad : None ≡ Some o.entry = sym absent ∙ (ap (entry_of d) (sym same) ∙ o.here) in let no : ⊥ = cc in no) ∙ o.here;
+  here = entry-prepared_other e ws d b (λ same. let bad : None ≡ Some o.entry = sym absent ∙ (ap (entry_of d) (sym same) ∙ o.here) in let no : ⊥ = cc in no) ∙ o.here;
   unsettled = o.unsettled;
   led = o.led;
 }
@@ -140,13 +136,6 @@ epochs-puts : (P : ℕ → Type 0) (e : Entry) (ws : List MinorWrite) (us : List
 epochs-puts P e [] us p all = all
 epochs-puts P e (w ∷ ws) us p all = epochs-put P (version_of e w) (puts version_key (versions_of e ws) us) p (epochs-puts P e ws us p all)
 
-lease-settled : (a : AttemptId) (step : Settle) (d : Durable) → (settled a step d).lease ≡ d.lease
-unfolding settled
-lease-settled a Commit d = refl
-lease-settled a Abort d = refl
-lease-settled a (Confirm t) d = refl
-lease-settled a Forget d = refl
-
 heard-settled : (n : ℕ) (a : AttemptId) (step : Settle) (d : Durable) → IsHeard n d → IsHeard n (settled a step d)
 heard-settled n a step d h = record { versions = epochs-settled (λ e. e / 256 ≤ n) a step d h.versions; leased = subst (λ x. n ≤ x) (sym (lease-settled a step d)) h.leased }
 
@@ -157,10 +146,6 @@ heard-prepared n e ws d le h = record { versions = epochs-puts (λ x. x / 256 �
 entries-prepared : (e : Entry) (ws : List MinorWrite) (d : Durable) → (prepared e ws d).entries ≡ put entry_key e d.entries
 unfolding prepared
 entries-prepared e ws d = refl
-
-entries-leased : (lease : ℕ) (d : Durable) → (leased lease d).entries ≡ d.entries
-unfolding leased
-entries-leased lease d = refl
 
 later : (old ticks x : ℕ) → old ≤ ticks → x ≤ old → x ≤ ticks
 later old ticks x a b = omega arith

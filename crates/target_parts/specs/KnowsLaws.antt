@@ -1,7 +1,9 @@
 -- What stays of what a target knows where its entries and its leader alone change.
 use Rattle.std.proofs.Common.{ℕ, ◌≡◌, sym, ◌∙◌, ap, subst, List, filter}
 use Rattle.daos_base.specs.declared.entry.Entry.{Entry}
+use Rattle.daos_base.specs.declared.id.AttemptId.{AttemptId}
 use Rattle.daos_base.specs.declared.shown.Shown.{Shown}
+use Rattle.daos_hlc.specs.Clock.{Clock}
 use Rattle.daos_model.specs.declared.durable.Durable.{Durable}
 use Rattle.dtx_base.specs.declared.leading.LeaderMemory.{LeaderMemory}
 use Rattle.dtx_base.specs.declared.member.MemberMemory.{MemberMemory}
@@ -45,3 +47,12 @@ leader-known t m s es d me targets inc entries =
     ∙ ap (λ x. leader_with t.me x s.incarnation es m.leader) targets
     ∙ ap (λ x. leader_with t.me t.targets x es m.leader) inc
     ∙ ap (λ x. leader_with t.me t.targets d.incarnation x m.leader) entries
+
+-- with another clock
+abbrev pub with_clock : Clock → Knows → Knows
+with_clock clock k = record { hlc = clock; stamps = k.stamps; entries = k.entries; leader = k.leader; member = k.member }
+
+-- of what a leader remembers only the decided attempts changed, and then changed again
+pub decided-on : (old mid new : LeaderMemory) (ds : List AttemptId) → mid ≡ record old { decided = mid.decided } → new ≡ record mid { decided = ds } → new ≡ record old { decided = new.decided }
+decided-on old mid new ds before one =
+    one ∙ ap (λ x. record mid { decided = x }) (sym (ap (λ (l : LeaderMemory). l.decided) one)) ∙ ap (λ (l : LeaderMemory). record l { decided = new.decided }) before

@@ -1,6 +1,7 @@
 -- What the parts of a target's turns say.
 pub mod Halts
 pub mod Parts
+pub mod Posting
 pub mod Running
 pub mod Turning
 pub mod Stops

@@ -1,8 +1,7 @@
 -- A turn that goes through a list, whose stages are what is left of it.
-use Rattle.std.proofs.Common.{ℕ, suc, zero, inl, inr, ◌≡◌, ◌<◌, ◌≤◌, ◌+◌, refl, sym, ◌∙◌, ap, subst, Bool, true, false, List, [], ◌∷◌, length, drop, get_or, Option, Some, None, Ok, Err, arith}
-use Rattle.std.proofs.Math.Seq.{drop-cons}
+use Rattle.std.proofs.Common.{ℕ, ◌≡◌, ◌<◌, ◌≤◌, ◌+◌, refl, subst, Bool, true, false, List, [], ◌∷◌, length, drop, get_or, Option, Some, None, Ok, Err}
 use Rattle.std.proofs.Math.ListN.{drop_of_length-le}
-use Rattle.daos_laws.specs.Members.{Has}
+use Rattle.daos_laws.specs.Lists.{drop-item}
 use Rattle.daos_model.specs.declared.durable.Durable.{Durable}
 use Rattle.vos_store.specs.Calls.{State}
 use Rattle.vos_store.specs.declared.refusal.Stopped.{Stopped}
@@ -12,16 +11,6 @@ use Rattle.target_parts.specs.Keeping.{MadeIf}
 use Rattle.target_parts.specs.Parts.{Now, kept}
 use Rattle.target_parts.specs.Turning.{cut_in_change, now_stays, reached_change, reached_silent}
 
-pub drop_item : {X : Type 0} (xs : List X) (i : ℕ) (x : X) → i < length xs → x ≡ get_or xs i x → drop i xs ≡ x ∷ drop (i + 1) xs
-drop_item xs i x lt is =
-    let next : suc i ≡ i + 1 = omega arith in
-    drop-cons xs i x lt ∙ ap (λ y. y ∷ drop (suc i) xs) (sym is) ∙ ap (λ n. x ∷ drop n xs) next
-
-pub has-item : {X : Type 0} (xs : List X) (i : ℕ) (x : X) → i < length xs → x ≡ get_or xs i x → Has x xs
-has-item [] i x lt is = absurd (omega (arith, lt))
-has-item (y ∷ xs) zero x lt is = inl is
-has-item (y ∷ xs) (suc i) x lt is = inr (has-item xs i x (omega (arith, lt)) is)
-
 module _ {T : Type 0} (Next : List T → Kept → Option Change → List T → Type 0) (xs : List T) (old : Kept) (i : ℕ) (x : T) (b : Bool) (c : Change) (d : Durable) (h k : State) (new : Option Durable) (finds : Durable → Type 0)
     (within : i < length xs) (item : x ≡ get_or xs i x)
     (changes : b ≡ true → (l : Kept) → l.durable ≡ d → Next (x ∷ drop (i + 1) xs) l (Some c) (drop (i + 1) xs))
@@ -29,7 +18,7 @@ module _ {T : Type 0} (Next : List T → Kept → Option Change → List T → T
     (reached : Reached Next xs old (drop i xs) (kept d h))
   where
     here : Reached Next xs old (x ∷ drop (i + 1) xs) (kept d h)
-    here = subst (λ ys. Reached Next xs old ys (kept d h)) (drop_item xs i x within item) reached
+    here = subst (λ ys. Reached Next xs old ys (kept d h)) (drop-item xs i x within item) reached
 
     -- one more of the list is done
     pub one_more : MadeIf b c d h new k finds (Ok tt) → Now new k (λ l. Reached Next xs old (drop (i + 1) xs) l)

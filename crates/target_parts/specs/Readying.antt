@@ -21,7 +21,8 @@ use Rattle.target_parts.specs.Parts.{kept}
 use Rattle.target_parts.specs.Stops.{CutTelling}
 use Rattle.target_parts.specs.Knowing.{LeadsWell}
 use Rattle.target_parts.specs.KeepingLaws.{leads-leased}
-use Rattle.target_parts.specs.Turning.{now_stays, reached_change, reached_none, reached_silent}
+use Rattle.target_parts.specs.Turning.{now_stays, reached_change, reached_silent}
+use Rattle.world_turns.specs.PathLaws.{reached-here}
 
 -- ---- the lease
 
@@ -85,7 +86,7 @@ module _ {S : Type 0} (Next : S → Kept → Option Change → S → Type 0) (is
     (untold : issued_at known ≡ None)
   where
     known_reached : (old : Kept) → Reached Next asked old known old
-    known_reached old = reached_silent Next asked old asked old known (reached_none Next asked old) (has old)
+    known_reached old = reached_silent Next asked old asked old known (reached-here Next asked old) (has old)
 
     -- the lease covers the ticks, and the turn goes on
     pub covers_reached : (d : Durable) (h : State) (new : Option Durable) (k : State) → Covers ticks d h new k → (x : Durable) → new ≡ Some x → Reached Next asked (kept d h) goes (kept x k)

@@ -6,7 +6,7 @@ use Rattle.daos_base.specs.declared.id.AttemptId.{AttemptId}
 use Rattle.daos_base.specs.declared.outcome.Outcome.{Outcome}
 use Rattle.daos_base.specs.declared.outcome.Outcome.TheVariants.{Committed}
 use Rattle.daos_laws.specs.DecidedLaws.{all-from_has}
-use Rattle.daos_laws.specs.EntryLaws.{found-has, has-put}
+use Rattle.daos_laws.specs.EntryLaws.{found-has, has-put, key-is}
 use Rattle.daos_laws.specs.Members.{Has, has-from_filter, has-from_map}
 use Rattle.daos_messages.specs.declared.actor.ActorId.{ActorId}
 use Rattle.daos_model.specs.declared.durable.Durable.{Durable}
@@ -27,17 +27,6 @@ use Rattle.dtx_posts.specs.Seats.{leader_of}
 use Rattle.target_parts.specs.Knowing.{AreRowsOpen, IsOpenHere}
 
 -- ---- attempts
-
-abbrev attempt_of : ℕ → ℕ → ℕ → AttemptId
-attempt_of client command attempt = record { client = client; command = command; attempt = attempt }
-
--- attempts with one key are one
-pub key-is : (a b : AttemptId) → attempt_key a ≡ attempt_key b → a ≡ b
-key-is a b same =
-    let client : a.client ≡ b.client = cc in
-    let command : a.command ≡ b.command = cc in
-    let attempt : a.attempt ≡ b.attempt = cc in
-    ap (λ x. attempt_of x a.command a.attempt) client ∙ ap (λ x. attempt_of b.client x a.attempt) command ∙ ap (λ x. attempt_of b.client b.command x) attempt
 
 -- ---- rows
 

@@ -65,3 +65,7 @@ Turn Next issued_at start old Done new k finds (Ok did) = Now new k (Done did)
 Turn Next issued_at start old Done new k finds (Err (stop.Store issued lines)) = CutTelling Next issued_at start old finds issued lines
 Turn Next issued_at start old Done new k finds (Err (stop.Foreign at byte)) = ⊥
 Turn Next issued_at start old Done new k finds (Err stop.Memory) = Now new k (Partway Next start old)
+
+-- no epoch is issued
+abbrev pub never : {S : Type 0} → S → Option (AttemptId × Epoch)
+never s = None

@@ -1,17 +1,15 @@
 -- A turn in parts: steps follow one another to an ending, or to where the turn was cut.
-use Rattle.std.proofs.Common.{◌≡◌, ◌≤◌, ◌+◌, ◌++◌, refl, sym, ap, subst, append_assoc, List, [], ◌∷◌, Option, Some, None, true, Result, Err}
+use Rattle.std.proofs.Common.{◌≡◌, ◌≤◌, ◌+◌, refl, sym, subst, Option, Some, None, true, Result, Err}
 use Rattle.daos_model.specs.declared.durable.Durable.{Durable}
 use Rattle.vos_store.specs.Calls.{Looks, State}
 use Rattle.world_turns.specs.Changes.{Change, Kept, cost, made}
-use Rattle.world_turns.specs.Turns.{CutShort, Here, InChange, InQuestion, More, Path, Reached, Whole, listed}
+use Rattle.world_turns.specs.Turns.{CutShort, InChange, InQuestion, More, Reached, Whole}
 use Rattle.target_parts.specs.declared.halt.Halt.{Halt}
 use Rattle.target_parts.specs.declared.halt.Halt.TheVariants as halt
 use Rattle.target_parts.specs.Parts.{Asks, Now, Part, Partway, Stays, WasAsked, WasCut, kept}
+use Rattle.world_turns.specs.PathLaws.{path-on, reached-here}
 
 -- ---- steps
-
-pub reached_none : {S : Type 0} (Next : S → Kept → Option Change → S → Type 0) (start : S) (old : Kept) → Reached Next start old start old
-reached_none Next start old = record { did = []; path = Here }
 
 -- a silent step more
 pub reached_silent : {S : Type 0} (Next : S → Kept → Option Change → S → Type 0) (start : S) (old : Kept) (t : S) (l : Kept) (u : S)
@@ -23,29 +21,15 @@ pub reached_change : {S : Type 0} (Next : S → Kept → Option Change → S →
     → Reached Next start old t l → Next t l (Some c) u → m.durable ≡ made c l.durable → l.free ≤ m.free + cost c → Reached Next start old u m
 reached_change Next start old t l c u m r n is free = record { did = _; path = More r.did t l (Some c) u m r.path n (is, free) }
 
-path_on : {S : Type 0} (Next : S → Kept → Option Change → S → Type 0) (s : S) (k : Kept) (before : List Change) (t : S) (l : Kept) (after : List Change) (u : S) (m : Kept)
-    → Path Next s k before t l → Path Next t l after u m → Path Next s k (before ++ after) u m
-path_on Next s k before t l after u m p Here = subst (λ did. Path Next s k did u m) (sym (append_empty before)) p
-  where
-    append_empty : (xs : List Change) → xs ++ [] ≡ xs
-    append_empty [] = refl
-    append_empty (x ∷ xs) = ap (λ ys. x ∷ ys) (append_empty xs)
-path_on Next s k before t l after u m p (More did v n o w z rest next steps) =
-    subst (λ all. Path Next s k all u m) (append_assoc before did (listed o)) (More (before ++ did) v n o u m (path_on Next s k before t l did v n p rest) next steps)
-
 pub reached_on : {S : Type 0} (Next : S → Kept → Option Change → S → Type 0) (s : S) (k : Kept) (t : S) (l : Kept) (u : S) (m : Kept)
     → Reached Next s k t l → Reached Next t l u m → Reached Next s k u m
-reached_on Next s k t l u m a b = record { did = _; path = path_on Next s k a.did t l b.did u m a.path b.path }
+reached_on Next s k t l u m a b = record { did = _; path = path-on Next s k a.did t l b.did u m a.path b.path }
 
 -- ---- endings
 
 pub whole : {S R : Type 0} (Next : S → Kept → Option Change → S → Type 0) (Ends : S → Kept → R → Type 0) (start : S) (old new : Kept) (last : S) (r : R)
     → Reached Next start old last new → Ends last new r → Whole Next Ends start old new r
 whole Next Ends start old new last r reached ends = record { last = last; reached = reached; ends = ends }
-
-pub whole_on : {S R : Type 0} (Next : S → Kept → Option Change → S → Type 0) (Ends : S → Kept → R → Type 0) (s t : S) (k l m : Kept) (r : R)
-    → Reached Next s k t l → Whole Next Ends t l m r → Whole Next Ends s k m r
-whole_on Next Ends s t k l m r a w = record { last = w.last; reached = reached_on Next s k t l w.last m a w.reached; ends = w.ends }
 
 pub cut_in_question : {S : Type 0} (Next : S → Kept → Option Change → S → Type 0) (start : S) (old : Kept) (last : S) (mid : Kept) (finds : Durable → Type 0)
     → Reached Next start old last mid → WasAsked mid.durable finds → CutShort Next start old finds
@@ -79,7 +63,7 @@ pub now_partway : {S : Type 0} (Next : S → Kept → Option Change → S → Ty
 now_partway Next start d h k new s = record {
   durable = d;
   kept_is = s.kept_is;
-  holds = record { last = start; reached = now_stays (λ l. Reached Next start (kept d h) start l) d h k new s (reached_none Next start (kept d h)) };
+  holds = record { last = start; reached = now_stays (λ l. Reached Next start (kept d h) start l) d h k new s (reached-here Next start (kept d h)) };
 }
 
 -- memory was wanting before anything more was done

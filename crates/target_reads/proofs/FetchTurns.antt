@@ -31,11 +31,12 @@ use Rattle.target_parts.specs.KnowsLaws.{memory-beside}
 use Rattle.target_parts.specs.Parts.{Now, Stays, kept}
 use Rattle.target_parts.specs.Readying.{covers_cut, covers_reached, leases}
 use Rattle.target_parts.specs.Stops.{fetch_issued, stop_memory, stop_of}
-use Rattle.target_parts.specs.Turning.{now_stays, reached_none, reached_silent, whole}
+use Rattle.target_parts.specs.Turning.{now_stays, reached_silent, whole}
 use Rattle.target_reads.specs.declared.reads.Served.{Served}
 use Rattle.target_reads.specs.Fetches.{FetchTurn}
 use Rattle.target_reads.specs.Meets.{Serves, told_of}
 use Rattle.target_reads.proofs.Serving.{served-ends}
+use Rattle.world_turns.specs.PathLaws.{reached-here}
 
 -- ---- what is known
 
@@ -43,10 +44,6 @@ use Rattle.target_reads.proofs.Serving.{served-ends}
 pub then-known : (old new : Knows) (q : FetchRequest) (e : Epoch) (m : TargetMemory) → IsBeside old new → new.leader ≡ record old.leader { decided = new.leader.decided } → ticks_known q e m ≡ memory_of old
     → memory_of new ≡ memory_then q e new.leader.decided m
 then-known old new q e m beside leader known = memory-beside old new (record old.leader { decided = new.leader.decided }) beside leader ∙ ap (with_unsettled new.leader.decided) (sym known)
-
--- with another clock
-abbrev pub with_clock : Clock → Knows → Knows
-with_clock clock k = record { hlc = clock; stamps = k.stamps; entries = k.entries; leader = k.leader; member = k.member }
 
 pub ticks-at_snapshot : (q : FetchRequest) (e : Epoch) (m : TargetMemory) → q.snapshot ≡ true → ticks_known q e m ≡ m
 ticks-at_snapshot q e m snapshot = ap (λ (b : Bool). if b then m else with_ticks e m) snapshot
@@ -126,7 +123,7 @@ module _ (t : TargetPlan) (m : TargetMemory) (reading : ℕ) (q : FetchRequest) 
   pub fetch-at_snapshot : (e : Epoch) → q.snapshot ≡ true → q.ep ≡ Some e → FetchTurn t m reading q from (read.Reading e m.leader.decided) d h new k finds left result → FetchTurn t m reading q from read.Asked d h new k finds left result
   fetch-at_snapshot e snapshot ep turn =
       turn_on (FetchNext t m reading q) (fetch_issued q) (FetchEnds t m reading q from) (λ did. (left, did)) read.Asked (read.Reading e m.leader.decided) (kept d h) (kept d h) new k finds result
-      (reached_silent (FetchNext t m reading q) read.Asked (kept d h) read.Asked (kept d h) (read.Reading e m.leader.decided) (reached_none (FetchNext t m reading q) read.Asked (kept d h)) (read.AtSnapshot (kept d h) e snapshot ep)) turn
+      (reached_silent (FetchNext t m reading q) read.Asked (kept d h) read.Asked (kept d h) (read.Reading e m.leader.decided) (reached-here (FetchNext t m reading q) read.Asked (kept d h)) (read.AtSnapshot (kept d h) e snapshot ep)) turn
 
   -- another one begins with an epoch that the lease covers
   pub fetch-on : (e : Epoch) (mid : Option Durable) (j : State) → q.snapshot ≡ false → request_epoch t m reading q.tracker q.ep ≡ Some e → Covers (e.0 / 256) d h mid j
@@ -146,7 +143,7 @@ module _ (t : TargetPlan) (m : TargetMemory) (reading : ℕ) (q : FetchRequest) 
         durable = d;
         kept_is = stays.kept_is;
         holds = whole (FetchNext t m reading q) (FetchEnds t m reading q from) read.Asked (kept d h) (kept d k) read.Asked (left, told)
-            (now_stays (λ l. Reached (FetchNext t m reading q) read.Asked (kept d h) read.Asked l) d h k new stays (reached_none (FetchNext t m reading q) read.Asked (kept d h)))
+            (now_stays (λ l. Reached (FetchNext t m reading q) read.Asked (kept d h) read.Asked l) d h k new stays (reached-here (FetchNext t m reading q) read.Asked (kept d h)))
             (read.IsSpent (kept d k) (left, told) snapshot ep (ap (λ x. (x, told)) left_is ∙ ap (λ x. (m, x)) told_is));
       } in
       turn_said (FetchNext t m reading q) (fetch_issued q) read.Asked (kept d h) new k finds (λ did l. Whole (FetchNext t m reading q) (FetchEnds t m reading q from) read.Asked (kept d h) l (left, did)) result told ok wanting done

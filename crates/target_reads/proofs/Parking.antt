@@ -8,7 +8,6 @@ use Rattle.daos_laws.specs.Members.{Has, has-cases}
 use Rattle.daos_messages.specs.declared.message.Message.{Message}
 use Rattle.daos_model.specs.declared.durable.Durable.{Durable}
 use Rattle.daos_model.specs.Durables.{is_enlisted}
-use Rattle.dtx_base.specs.declared.leading.LeaderMemory.{LeaderMemory}
 use Rattle.dtx_base.specs.declared.member.Parked.{Parked}
 use Rattle.dtx_base.specs.Joining.{MemberOf, parking}
 use Rattle.world_base.specs.declared.request.FetchRequest.{FetchRequest}
@@ -64,7 +63,3 @@ parkable-at q e asked = (record { form = asked.form; known = λ is. refl }, refl
 
 pub here-at : (q : FetchRequest) (e : Epoch) (d : Durable) → is_enlisted d (read_path q.read).cont ≡ true → IsAskHere (fetch_at q e) d
 here-at q e d here = here
-
--- of what a leader remembers only the decided attempts changed
-pub decided-on : (first old new : LeaderMemory) (left : List AttemptId) → old ≡ record first { decided = old.decided } → new ≡ record old { decided = left } → new ≡ record first { decided = new.decided }
-decided-on first old new left before now = now ∙ ap (λ (l : LeaderMemory). record l { decided = left }) before ∙ ap (λ (xs : List AttemptId). record first { decided = xs }) (sym (ap (λ (l : LeaderMemory). l.decided) now))

@@ -49,7 +49,3 @@ served-posts t q from e s old n left (Err stop) client same told = told
 -- what a Verdict frees
 pub freed-posts : (targets : ℕ) (a : AttemptId) (ask : Option AttemptId) (v : Verdict) (old new : MemberOf) (freed : Freed) → member_step new freed ≡ verdict_heard a ask v old → TargetPosts targets freed.posts
 freed-posts targets a ask v old new freed is = subst (λ (x : Freed). TargetPosts targets x.posts) (sym (ap (λ s. s.freed) is)) (verdicts-post-in-form targets a ask v old)
-
--- what follows a settled attempt
-pub later-posts : (targets : ℕ) (old mid new : LeaderMemory) (result : Result Did TargetStop) → mid ≡ old → IfOk result (λ did. PostsInForm targets mid new did.posts) → IfOk result (λ did. PostsInForm targets old new did.posts)
-later-posts targets old mid new result same k = subst (λ m. IfOk result (λ did. PostsInForm targets m new did.posts)) same k

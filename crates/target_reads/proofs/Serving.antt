@@ -1,6 +1,6 @@
 -- What a read comes to at each answer of the store.
-use Rattle.std.proofs.Common.{ℕ, suc, zero, ◌≡◌, ◌<◌, ◌≤◌, ◌+◌, ◌∙◌, refl, sym, ap, subst, Bool, true, false, List, [], ◌∷◌, Contains, filter, length, slice_index_or, Option, Some, None, arith}
-use Rattle.std.specs.Prelude.{not, if◌then◌else◌}
+use Rattle.std.proofs.Common.{ℕ, ◌≡◌, ◌≤◌, ◌+◌, ◌∙◌, refl, sym, ap, subst, Bool, true, false, List, Contains, filter, Option, Some, None}
+use Rattle.std.specs.Prelude.{if◌then◌else◌}
 use Rattle.daos_base.specs.declared.answer.Answer.{Answer}
 use Rattle.daos_base.specs.declared.entry.Entry.{Entry}
 use Rattle.daos_base.specs.declared.entry.Settle.TheVariants.{Commit}
@@ -10,7 +10,6 @@ use Rattle.daos_base.specs.declared.outcome.Cause.{Cause}
 use Rattle.daos_messages.specs.declared.actor.ActorId.{ActorId}
 use Rattle.daos_model.specs.declared.durable.Durable.{Durable}
 use Rattle.daos_model.specs.Durables.{entry_of}
-use Rattle.daos_model.specs.EntryLaws.{same_attempt-itself}
 use Rattle.dtx_table.specs.Tables.{entry_in}
 use Rattle.daos_messages.specs.declared.message.Reply.TheVariants as reply
 use Rattle.dtx_base.specs.Joining.{parking}
@@ -32,22 +31,6 @@ use Rattle.target_reads.specs.declared.reads.Served.TheVariants as served
 use Rattle.target_reads.specs.Meets.{ComesTo, Meets, Serves, beside_of, told_of}
 
 -- ---- a list without one of its elements is shorter
-
-shorter : {T : Type 0} (t : T → Bool) (xs : List T) (k : ℕ) (d : T) → k < length xs → t (slice_index_or xs k d) ≡ false → length (filter t xs) < length xs
-shorter t [] k d lt no_more = absurd (omega arith)
-shorter t (x ∷ xs) zero d lt gone =
-    subst (λ (b : Bool). length (if b then x ∷ filter t xs else filter t xs) < length (x ∷ xs)) (sym gone) (omega (arith, at_most t xs))
-  where
-    at_most : {T : Type 0} (t : T → Bool) (us : List T) → length (filter t us) ≤ length us
-    at_most t [] = omega arith
-    at_most t (u ∷ us) = elim (t u) as (λ b. length (if b then u ∷ filter t us else filter t us) ≤ length (u ∷ us)) [ true ↦ omega (arith, at_most t us) | false ↦ omega (arith, at_most t us) ]
-shorter t (x ∷ xs) (suc k) d lt gone =
-    let less : length (filter t xs) < length xs = shorter t xs k d (omega arith) gone in
-    elim (t x) as (λ b. length (if b then x ∷ filter t xs else filter t xs) < length (x ∷ xs)) [ true ↦ omega arith | false ↦ omega arith ]
-
-pub fewer : (a : AttemptId) (decided : List AttemptId) → Contains decided a → length (filter (is_other_attempt a) decided) < length decided
-fewer a decided among =
-    shorter (is_other_attempt a) decided among.0 a among.1 (ap (λ x. is_other_attempt a x) among.2 ∙ ap not (same_attempt-itself a))
 
 -- ---- one read
 

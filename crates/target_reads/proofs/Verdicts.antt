@@ -17,7 +17,7 @@ use Rattle.world_base.specs.declared.target.TargetMemory.{TargetMemory}
 use Rattle.world_base.specs.declared.target.TargetPlan.{TargetPlan}
 use Rattle.world_turns.specs.Changes.{Change, Kept, made}
 use Rattle.world_turns.specs.Reads.{Asked}
-use Rattle.world_turns.specs.Requests.{sends}
+use Rattle.world_turns.specs.Requests.{fetch_message, sends}
 use Rattle.world_turns.specs.Roles.{joins_on, member_at}
 use Rattle.world_turns.specs.Turns.{CutShort, Reached, Whole}
 use Rattle.world_turns.specs.Verdicts.{AllTried, Freed, Heard, SettlesBy, VerdictEnds, VerdictNext, VerdictStage, freed_by, settles_by, settling_change}
@@ -28,11 +28,12 @@ use Rattle.target_parts.specs.KeepingLaws.{ask-stays}
 use Rattle.target_parts.specs.Knowing.{IsAskHere, IsOwn, LeadsWell, memory_of}
 use Rattle.target_parts.specs.Knowing as knowing
 use Rattle.target_parts.specs.Parts.{Now, Partway, kept}
-use Rattle.target_parts.specs.Stops.{Turn}
-use Rattle.target_parts.specs.Turning.{cut_in_change, cut_on, now_stays, reached_change, reached_none, reached_on, reached_silent, whole}
-use Rattle.target_reads.specs.Again.{AreHere, AreParkable, MadeSome, TriedTurn, message_of, never}
+use Rattle.target_parts.specs.Stops.{Turn, never}
+use Rattle.target_parts.specs.Turning.{cut_in_change, cut_on, now_stays, reached_change, reached_on, reached_silent, whole}
+use Rattle.target_reads.specs.Again.{AreHere, AreParkable, MadeSome, TriedTurn}
 use Rattle.target_reads.specs.Fetches.{FetchTurn}
 use Rattle.target_reads.proofs.Retrying.{known-unissued, path-enlisted, tried, tried-cut, tried-partly, verdict-frees, verdict-me}
+use Rattle.world_turns.specs.PathLaws.{reached-here}
 
 -- ---- the first of those that are left
 
@@ -47,7 +48,7 @@ module _ (t : TargetPlan) (m : TargetMemory) (reading : ℕ) (a : AttemptId) (as
   module _ (all : VerdictStage) (old : Kept) (n : TargetMemory) (x : Message) (xs rest : List Message) (posts : List Post) (d : Durable) (h k : State) (new : Option Durable) (finds : Durable → Type 0) (left : TargetMemory)
       (is : xs ≡ x ∷ rest) (reached : Reached Next all old (Freed xs n posts) (kept d h))
     where
-      at : (q : FetchRequest) → message_of q ≡ x → Reached Next all old (Freed (message_of q ∷ rest) n posts) (kept d h)
+      at : (q : FetchRequest) → fetch_message q ≡ x → Reached Next all old (Freed (fetch_message q ∷ rest) n posts) (kept d h)
       at q asks = subst (λ ys. Reached Next all old (Freed ys n posts) (kept d h)) (is ∙ ap (λ y. y ∷ rest) (sym asks)) reached
 
       -- it was tried
@@ -55,7 +56,7 @@ module _ (t : TargetPlan) (m : TargetMemory) (reading : ℕ) (a : AttemptId) (as
       tried-whole did one = record {
         durable = one.turn.durable;
         kept_is = one.turn.kept_is;
-        holds = reached_on Next all old (Freed (message_of one.q ∷ rest) n posts) (kept d h) (Freed rest left (posts ++ did.posts)) (kept one.turn.durable k) (at one.q one.asks)
+        holds = reached_on Next all old (Freed (fetch_message one.q ∷ rest) n posts) (kept d h) (Freed rest left (posts ++ did.posts)) (kept one.turn.durable k) (at one.q one.asks)
             (tried t m reading a ask v n one.q rest posts (kept d h) (kept one.turn.durable k) left did one.turn.holds);
       }
 
@@ -65,7 +66,7 @@ module _ (t : TargetPlan) (m : TargetMemory) (reading : ℕ) (a : AttemptId) (as
         where
           by : (e : TargetStop) → FetchTurn t n reading one.q (record { client = true; number = one.q.attempt.client }) Asked d h new k finds left (Err e) → Turn Next never all old Done new k finds (Err e)
           by (stop.Store issued lines) cut = record {
-            cut = cut_on Next all (Freed (message_of one.q ∷ rest) n posts) old (kept d h) finds (at one.q one.asks) (tried-cut t m reading a ask v n one.q rest posts (kept d h) finds cut.cut);
+            cut = cut_on Next all (Freed (fetch_message one.q ∷ rest) n posts) old (kept d h) finds (at one.q one.asks) (tried-cut t m reading a ask v n one.q rest posts (kept d h) finds cut.cut);
             issued_is = cut.issued_is ∙ known-unissued one.q cut.cut.last one.known;
             no_lines = cut.no_lines;
           }
@@ -75,7 +76,7 @@ module _ (t : TargetPlan) (m : TargetMemory) (reading : ℕ) (a : AttemptId) (as
             kept_is = now.kept_is;
             holds = record {
               last = _;
-              reached = reached_on Next all old (Freed (message_of one.q ∷ rest) n posts) (kept d h) _ (kept now.durable k) (at one.q one.asks)
+              reached = reached_on Next all old (Freed (fetch_message one.q ∷ rest) n posts) (kept d h) _ (kept now.durable k) (at one.q one.asks)
                   (tried-partly t m reading a ask v n one.q rest posts (kept d h) now.holds.last (kept now.durable k) now.holds.reached);
             };
           }
@@ -105,12 +106,12 @@ module _ (t : TargetPlan) (m : TargetMemory) (reading : ℕ) (a : AttemptId) (as
       by None is stays = record {
         durable = d;
         kept_is = stays.kept_is;
-        holds = reached_silent Next Heard (kept d h) Heard (kept d k) freed (now_stays (λ l. Reached Next Heard (kept d h) Heard l) d h k new stays (reached_none Next Heard (kept d h))) (SettlesBy (kept d k) None is);
+        holds = reached_silent Next Heard (kept d h) Heard (kept d k) freed (now_stays (λ l. Reached Next Heard (kept d h) Heard l) d h k new stays (reached-here Next Heard (kept d h))) (SettlesBy (kept d k) None is);
       }
       by (Some c) is did = record {
         durable = made c d;
         kept_is = did.kept_is;
-        holds = reached_change Next Heard (kept d h) Heard (kept d h) c freed (kept (made c d) k) (reached_none Next Heard (kept d h)) (SettlesBy (kept d h) (Some c) is) refl did.free;
+        holds = reached_change Next Heard (kept d h) Heard (kept d h) c freed (kept (made c d) k) (reached-here Next Heard (kept d h)) (SettlesBy (kept d h) (Some c) is) refl did.free;
       }
 
   pub verdict-cut : (d : Durable) (h k : State) (new : Option Durable) (finds : Durable → Type 0) (e : Stopped) → MadeSome (settling_change a (settles_by v a d)) d h new k finds (Err e) → CutShort Next Heard (kept d h) finds
@@ -118,7 +119,7 @@ module _ (t : TargetPlan) (m : TargetMemory) (reading : ℕ) (a : AttemptId) (as
     where
       by : (o : Option Change) → o ≡ settling_change a (settles_by v a d) → MadeSome o d h new k finds (Err e) → CutShort Next Heard (kept d h) finds
       by None is none = absurd none
-      by (Some c) is cut = cut_in_change Next Heard (kept d h) Heard (kept d h) c freed finds (reached_none Next Heard (kept d h)) (SettlesBy (kept d h) (Some c) is) cut
+      by (Some c) is cut = cut_in_change Next Heard (kept d h) Heard (kept d h) c freed finds (reached-here Next Heard (kept d h)) (SettlesBy (kept d h) (Some c) is) cut
 
 -- ---- what is here stays here
 

@@ -1,10 +1,8 @@
 -- What a target does that hears a Verdict.
 use Rattle.std.specs.Prelude.{ℕ, ◌≡◌, List, true, is_some, Option, Some, None, Result}
-use Rattle.daos_base.specs.declared.epoch.Epoch.{Epoch}
 use Rattle.daos_base.specs.declared.id.AttemptId.{AttemptId}
 use Rattle.daos_laws.specs.Members.{Has}
 use Rattle.daos_messages.specs.declared.message.Message.{Message}
-use Rattle.daos_messages.specs.declared.message.Message.TheVariants.{Fetch}
 use Rattle.daos_model.specs.declared.durable.Durable.{Durable}
 use Rattle.vos_store.specs.Calls.{State}
 use Rattle.vos_store.specs.declared.refusal.Stopped.{Stopped}
@@ -21,16 +19,9 @@ use Rattle.target_parts.specs.declared.stop.TargetStop.{TargetStop}
 use Rattle.target_parts.specs.Keeping.{MadeOrCut, StaysUncut}
 use Rattle.target_parts.specs.Knowing.{IsAskHere, IsParkable}
 use Rattle.target_parts.specs.Parts.{kept}
-use Rattle.target_parts.specs.Stops.{Turn}
+use Rattle.target_parts.specs.Stops.{Turn, never}
 use Rattle.target_reads.specs.Fetches.{FetchTurn}
-
--- the message that asks for a read
-abbrev pub message_of : FetchRequest → Message
-message_of q = Fetch q.attempt q.op q.group q.ep q.first q.tracker q.read q.snapshot
-
--- no epoch is issued
-abbrev pub never : {S : Type 0} → S → Option (AttemptId × Epoch)
-never s = None
+use Rattle.world_turns.specs.Requests.{fetch_message}
 
 -- these Fetches may have waited
 abbrev pub AreParkable : List Message → Type 0
@@ -43,7 +34,7 @@ AreHere asks d = (m : Message) → Has m asks → IsAskHere m d
 -- a Fetch that waited is heard again: the turn of what it asks for, at the epoch that it has
 pub record TriedTurn (t : TargetPlan) (m : TargetMemory) (reading : ℕ) (ask : Message) (d : Durable) (h : State) (new : Option Durable) (k : State) (finds : Durable → Type 0) (left : TargetMemory) (result : Result Did TargetStop) : Type 0 where
   pub q : FetchRequest
-  pub asks : message_of q ≡ ask
+  pub asks : fetch_message q ≡ ask
   pub known : is_some q.ep ≡ true
   pub turn : FetchTurn t m reading q (fetcher q) Asked d h new k finds left result
 

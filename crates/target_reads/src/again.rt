@@ -6,12 +6,13 @@ ghost use Rattle.daos_base.specs.declared.id.AttemptId.{AttemptId as Attempt};
 ghost use Rattle.daos_model.specs.declared.durable.Durable.{Durable};
 ghost use Rattle.vos_store.specs.Refusals.{always_stop, says};
 ghost use Rattle.world_base.specs.declared.target.TargetMemory.{TargetMemory};
+ghost use Rattle.world_turns.specs.Requests.{fetch_message};
 ghost use Rattle.world_turns.specs.Verdicts.{VerdictStage, fetcher, settles_by, settling_change};
 ghost use Rattle.world_posts.specs.Forms.{PostsInForm, TargetPosts};
 ghost use Rattle.target_parts.specs.Knowing.{IsApart, IsAskHere, IsBeside, IsOwn, IsParkable, LeadsWell, memory_of};
 ghost use Rattle.target_parts.specs.Parts.{Runs};
 ghost use Rattle.target_parts.specs.Stops.{stop_foreign, stop_store};
-ghost use Rattle.target_reads.specs.Again.{AreHere, AreParkable, MadeSome, TriedTurn, VerdictTurn, message_of};
+ghost use Rattle.target_reads.specs.Again.{AreHere, AreParkable, MadeSome, TriedTurn, VerdictTurn};
 
 use crate::fetches::hear_known;
 use daos_base::entry::{Settle, Verdict};
@@ -34,7 +35,7 @@ use world_base::target::TargetPlan;
 /// What a Fetch that waited asks for.
 fn fetch_of(message: Message) -> FetchRequest
     requires { IsParkable message }
-    ensures asks { message_of result ≡ message }
+    ensures asks { fetch_message result ≡ message }
     ensures known { is_some result.ep ≡ true }
 {
     match message {

@@ -1,7 +1,6 @@
--- The messages of the rows have form.
-use Rattle.std.proofs.Common.{ℕ, ◌≡◌, ◌<◌, refl, true, List, [], ◌∷◌, All, Option, arith}
+-- The messages of the rows have form, and a write can be heard.
+use Rattle.std.proofs.Common.{ℕ, ◌≡◌, ◌<◌, refl, true, List, [], ◌∷◌, Option, Some, None, arith}
 use Rattle.std.specs.Prelude.{IfSome, length}
-use Rattle.std.proofs.lemmas.List.Elements.{All-cons}
 use Rattle.daos_base.specs.declared.epoch.Epoch.{Epoch}
 use Rattle.daos_base.specs.declared.id.AttemptId.{AttemptId}
 use Rattle.daos_base.specs.declared.operation.MinorWrite.{MinorWrite}
@@ -9,15 +8,17 @@ use Rattle.daos_base.specs.declared.operation.Write.TheVariants as write
 use Rattle.daos_base.specs.Operations.{write_path}
 use Rattle.daos_base.specs.Hash.{fnv1a}
 use Rattle.daos_base.specs.Placement.{ClassFits, group_of, members, path_members}
+use Rattle.daos_laws.specs.Lists.{all-one}
 use Rattle.daos_messages.specs.declared.actor.ActorId.{ActorId}
+use Rattle.daos_model.specs.declared.durable.Durable.{Durable}
+use Rattle.daos_model.specs.Durables.{entry_of, is_enlisted}
 use Rattle.daos_model.specs.Forms.{is_read_in_form, is_write_in_form}
-use Rattle.target_core.specs.Targets.{HasForm}
-use Rattle.target_rows.specs.Rows.{akey, commit, fetch, lone}
+use Rattle.target_core.specs.Targets.{CanHear, HasForm}
+use Rattle.target_rows.specs.Rows.{IsHere, IsUnused, akey, commit, fetch, lone}
+use Rattle.target_writes.specs.CheckLaws.{new-at}
+use Rattle.target_writes.specs.Checks.{AreNewAt}
 use Rattle.world_base.specs.declared.target.TargetPlan.{TargetPlan}
 use Rattle.world_turns.specs.Commits.{own_writes}
-
-pub one_passes : {T : Type 0} (P : T → Type 0) (x : T) → P x → All P (x ∷ [])
-one_passes P x h = All-cons P x [] h (λ k y lt. absurd (omega arith))
 
 abbrev the_write : List ℕ → MinorWrite
 the_write key = record { minor = 1; write = write.Single (akey key) (49 ∷ []) }
@@ -36,10 +37,21 @@ unfolding is_write_in_form
 commit_in_form from by ep key = record {
   form = record {
     count = omega arith;
-    each = one_passes (λ w. is_write_in_form w.write ≡ true) (the_write key) refl;
+    each = all-one (λ w. is_write_in_form w.write ≡ true) (the_write key) refl;
     rising = λ k lt. absurd (omega arith);
-    minors = one_passes (λ w. w.minor < 64) (the_write key) (omega arith);
+    minors = all-one (λ w. w.minor < 64) (the_write key) (omega arith);
   };
   some = let one = one-own key in omega (arith, one);
-  fit = one_passes (λ w. IfSome (write_path w.write).obj (λ o. ClassFits o.class 1)) (the_write key) (omega arith);
+  fit = all-one (λ w. IfSome (write_path w.write).obj (λ o. ClassFits o.class 1)) (the_write key) (omega arith);
+}
+
+all_new : (ep : Option Epoch) (ws : List MinorWrite) (d : Durable) → IsUnused ep d → AreNewAt ep ws d
+all_new None ws d unused = tt
+all_new (Some e) ws d unused = new-at e ws d unused
+
+pub can_commit : (by : AttemptId) (ep : Option Epoch) (key : List ℕ) (d : Durable) → IsHere d → entry_of d by ≡ None → IsUnused ep d → CanHear lone (commit by ep key) d
+can_commit by ep key d here absent unused = record {
+  enlisted = all-one (λ w. is_enlisted d (write_path w.write).cont ≡ true) (the_write key) here;
+  absent = absent;
+  new = all_new ep (own_writes lone (the_write key ∷ [])) d unused;
 }

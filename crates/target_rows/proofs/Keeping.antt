@@ -1,7 +1,7 @@
 -- What the turns of the rows keep.
 use Rattle.std.proofs.Common.{ℕ, ◌≡◌, refl, sym, ◌∙◌, ap, subst, true, false, List, [], ◌∷◌, map, find, Option, Some, None, Bool, Ok, arith}
-use Rattle.std.specs.Prelude.{is_some, if◌then◌else◌}
-use Rattle.std.specs.Option.{ForSome, option_map}
+use Rattle.std.specs.Prelude.{if◌then◌else◌}
+use Rattle.std.specs.Option.{option_map}
 use Rattle.daos_base.specs.declared.entry.Entry.{Entry}
 use Rattle.daos_base.specs.declared.entry.Settle.TheVariants.{Commit}
 use Rattle.daos_base.specs.declared.epoch.Epoch.{Epoch}
@@ -129,15 +129,6 @@ unfolding same_attempt
 tries_apart = refl
 
 -- ---- turns
-
--- what is told now was told before
-pub for_some_on : (old new : Option Durable) (P : Durable → Type 0) → is_some new ≡ is_some old → ((d : Durable) → old ≡ Some d → (x : Durable) × (new ≡ Some x) × P x) → ForSome new P
-for_some_on None (Some x) P told by y is = absurd (let n : ⊥ = cc in n)
-for_some_on old None P told by x is = absurd (let n : ⊥ = cc in n)
-for_some_on (Some d) (Some y) P told by x is =
-    let a = by d refl in
-    let same : a.0 ≡ x = cc in
-    subst P same a.2
 
 -- what is kept after a change was kept before it
 pub mapped : (f : Durable → Durable) (old : Option Durable) (x : Durable) → option_map f old ≡ Some x → (d : Durable) × (old ≡ Some d) × (f d ≡ x)

@@ -1,7 +1,7 @@
 -- What the second of two targets is asked where a Mark overtakes the Prepare of its attempt, and what its turns keep.
-use Rattle.std.proofs.Common.{ℕ, ◌≡◌, ◌<◌, refl, sym, ◌∙◌, ap, subst, true, false, List, [], ◌∷◌, map, filter, find, All, Option, Some, None, Bool, Ok, arith, inl, inr}
+use Rattle.std.proofs.Common.{ℕ, ◌≡◌, ◌<◌, refl, sym, ◌∙◌, ap, subst, true, false, List, [], ◌∷◌, map, filter, find, Option, Some, None, Bool, Ok, arith, inl, inr}
 use Rattle.std.specs.Prelude.{if◌then◌else◌}
-use Rattle.std.specs.Option.{ForSome, option_map}
+use Rattle.std.specs.Option.{option_map}
 use Rattle.daos_base.specs.declared.entry.Entry.{Entry}
 use Rattle.daos_base.specs.declared.entry.Settle.TheVariants.{Commit}
 use Rattle.daos_base.specs.declared.epoch.Epoch.{Epoch}
@@ -9,6 +9,7 @@ use Rattle.daos_base.specs.declared.id.AttemptId.{AttemptId}
 use Rattle.daos_base.specs.declared.operation.MinorWrite.{MinorWrite}
 use Rattle.daos_base.specs.declared.outcome.FloorWhy.{FloorWhy}
 use Rattle.daos_base.specs.Operations.{write_path}
+use Rattle.daos_laws.specs.Lists.{all-one}
 use Rattle.daos_messages.specs.declared.actor.ActorId.{ActorId}
 use Rattle.daos_messages.specs.declared.message.Message.{Message}
 use Rattle.daos_model.specs.declared.durable.Durable.{Durable}
@@ -31,8 +32,8 @@ use Rattle.world_turns.specs.Prepares as stage
 use Rattle.world_turns.specs.Prepares.{PrepareNext, PrepareStage}
 use Rattle.world_turns.specs.TargetTurns.{prepare_request}
 use Rattle.target_core.specs.Targets.{CanHear, HasForm, HearsOrStops, IsLedElsewhere}
-use Rattle.target_rows.specs.Overtaken.{IsNew, IsOthers, entry, fetch, mark, own_write, prepare, second, verdict, writer}
-use Rattle.target_rows.proofs.Asking.{one_passes}
+use Rattle.target_rows.specs.Overtaken.{IsNew, IsOthers, entry, fetch, mark, own_write, prepare, second, writer}
+use Rattle.target_writes.specs.CheckLaws.{new-at}
 use Rattle.target_rows.proofs.Keeping.{blank_absent, blank_leased, fetch_keeps, here_leased, here_prepared, here_settled}
 
 -- ---- the messages have form
@@ -47,9 +48,9 @@ prepare_in_form from = record {
   some = omega arith;
   form = record {
     count = omega arith;
-    each = one_passes (λ w. is_write_in_form w.write ≡ true) own_write refl;
+    each = all-one (λ w. is_write_in_form w.write ≡ true) own_write refl;
     rising = λ k lt. absurd (omega arith);
-    minors = one_passes (λ w. w.minor < 64) own_write (omega arith);
+    minors = all-one (λ w. w.minor < 64) own_write (omega arith);
   };
 }
 
@@ -68,9 +69,9 @@ can_mark d n x (inr none) = absurd none
 
 pub can_prepare : (d : Durable) → IsNew d → CanHear second prepare d
 can_prepare d n = record {
-  enlisted = one_passes (λ w. is_enlisted d (write_path w.write).cont ≡ true) own_write n.here;
+  enlisted = all-one (λ w. is_enlisted d (write_path w.write).cont ≡ true) own_write n.here;
   absent = blank_absent writer d n.blank;
-  unused = rw n.blank.versions (λ k v lt. absurd (omega arith));
+  new = new-at entry.epoch (own_write ∷ []) d (rw n.blank.versions (λ k v lt. absurd (omega arith)));
 }
 
 -- ---- a Mark

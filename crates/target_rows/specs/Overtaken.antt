@@ -1,5 +1,5 @@
 -- What the second of two targets hears where a Mark overtakes the Prepare of its attempt, and what it keeps meanwhile.
-use Rattle.std.specs.Prelude.{◌≡◌, true, false, [], ◌∷◌, Some, None}
+use Rattle.std.specs.Prelude.{true, false, [], ◌∷◌, Some, None}
 use Rattle.daos_base.specs.declared.entry.Entry.{Entry}
 use Rattle.daos_base.specs.declared.entry.Verdict.TheVariants.{Aborted}
 use Rattle.daos_base.specs.declared.id.AttemptId.{AttemptId}

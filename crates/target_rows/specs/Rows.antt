@@ -1,5 +1,5 @@
 -- What the rows over targets name, and what holds of the stores on their way.
-use Rattle.std.specs.Prelude.{ℕ, ◌≡◌, ◌≤◌, true, false, List, [], ◌∷◌, Option, Some, None}
+use Rattle.std.specs.Prelude.{ℕ, ◌≡◌, ◌≤◌, true, false, All, List, [], ◌∷◌, Option, Some, None}
 use Rattle.std.specs.Option.{ForSome}
 use Rattle.daos_base.specs.declared.epoch.Epoch.{Epoch}
 use Rattle.daos_base.specs.declared.id.AttemptId.{AttemptId}
@@ -37,6 +37,11 @@ commit by ep key = Commit by ep None (record { 0 = 0 }) (record { minor = 1; wri
 -- the container of the rows is here
 abbrev pub IsHere : Durable → Type 0
 IsHere d = is_enlisted d cont ≡ true
+
+-- no version has this epoch, if it is known
+abbrev pub IsUnused : Option Epoch → Durable → Type 0
+IsUnused None d = Unit {0}
+IsUnused (Some e) d = All (λ v. v.epoch.0 ≡ e.0 → ⊥) d.versions
 
 -- nothing was written
 pub record IsBlank (d : Durable) : Type 0 where

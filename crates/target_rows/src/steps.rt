@@ -3,8 +3,7 @@ ghost use Rattle.std.specs.Prelude.{◌≡◌, ◌<◌, ◌≤◌, IfOk, OnOk, N
 ghost use Rattle.std.specs.Option.{ForSome};
 ghost use Rattle.daos_base.specs.declared.id.AttemptId.{AttemptId};
 ghost use Rattle.daos_model.specs.Durables.{entry_of, same_attempt};
-ghost use Rattle.target_rows.specs.Rows.{IsBlank, IsHere, IsNeverUsed, akey, commit, fetch, lone};
-ghost use Rattle.target_writes.specs.Checks.{IsUnused};
+ghost use Rattle.target_rows.specs.Rows.{IsBlank, IsHere, IsNeverUsed, IsUnused, akey, commit, fetch, lone};
 
 use daos_base::epoch::{Epoch, TargetId};
 use daos_base::id::{AttemptId, Class, ContId, ObjId};

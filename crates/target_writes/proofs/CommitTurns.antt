@@ -1,5 +1,5 @@
 -- Whole turns in which a target hears a Commit, from their parts.
-use Rattle.std.proofs.Common.{ℕ, ◌≡◌, ◌/◌, ◌≤◌, ◌<◌, refl, sym, ◌∙◌, ap, subst, All, List, Option, Some, None, Result, Ok, Err}
+use Rattle.std.proofs.Common.{ℕ, ◌≡◌, ◌/◌, ◌≤◌, ◌<◌, refl, sym, ◌∙◌, ap, subst, List, Option, Some, None, Result, Ok, Err}
 use Rattle.std.specs.Prelude.{IfOk, IfErr}
 use Rattle.daos_base.specs.declared.entry.Entry.{Entry}
 use Rattle.daos_base.specs.declared.epoch.Epoch.{Epoch}
@@ -26,7 +26,6 @@ use Rattle.world_turns.specs.Requests.{issued_for, request_epoch, says, with_tic
 use Rattle.world_turns.specs.Turns.{Reached, Whole}
 use Rattle.target_parts.specs.declared.halt.Halt.{Halt}
 use Rattle.target_parts.specs.declared.halt.Halt.TheVariants as halt
-use Rattle.target_parts.specs.declared.knows.Knows.{Knows}
 use Rattle.target_parts.specs.declared.stop.TargetStop.{TargetStop}
 use Rattle.target_parts.specs.Covers.{CoverCut, Covers, ReadiesOrCut, epoch_for}
 use Rattle.target_parts.specs.Ending.{partway_of, turn_on, turn_said}
@@ -34,16 +33,14 @@ use Rattle.target_parts.specs.EpochLaws.{issued-unused}
 use Rattle.target_parts.specs.KeepingLaws.{enlisted-leased}
 use Rattle.target_parts.specs.Knowing.{IsHeard}
 use Rattle.target_parts.specs.Parts.{Did, Now, Stays, kept}
-use Rattle.target_parts.specs.Readying.{covers_cut, covers_reached, entry_of-leased, epochs-leased, leases}
+use Rattle.target_parts.specs.Readying.{covers_cut, covers_reached, entry_of-leased, leases}
 use Rattle.target_parts.specs.Stops.{commit_issued, stop_memory, stop_of}
-use Rattle.target_parts.specs.Turning.{now_stays, reached_none, whole}
-use Rattle.target_writes.specs.Checks.{AreEnlisted, CanStore, FindsSpace, IsRefusal, IsUnused, IsUnusedEpoch, PreparesOrNot}
+use Rattle.target_parts.specs.Turning.{now_stays, whole}
+use Rattle.target_writes.specs.Checks.{AreEnlisted, AreNew, AreNewAt, CanStore, FindsSpace, IsRefusal, PreparesOrNot}
+use Rattle.target_writes.specs.CheckLaws.{new-at}
 use Rattle.target_writes.specs.Turns.{CommitTurn, begun_of}
 use Rattle.target_writes.proofs.Committing.{prepared-goes, prepared-halted, prepared-told}
-
--- with another clock
-abbrev pub with_clock : Clock → Knows → Knows
-with_clock clock k = record { hlc = clock; stamps = k.stamps; entries = k.entries; leader = k.leader; member = k.member }
+use Rattle.world_turns.specs.PathLaws.{reached-here}
 
 -- what making an epoch ready came to
 pub readied : (clock : Clock) (reading : ℕ) (tracker : Epoch) (ep : Option Epoch) (d : Durable) (h : State) (new : Option Durable) (k : State) (finds : Durable → Type 0) (o : Option Epoch) {p : Option Epoch} → p ≡ o → ReadiesOrCut (epoch_for clock reading tracker ep) d h new k finds (Ok p)
@@ -52,19 +49,19 @@ readied clock reading tracker ep d h new k finds o is said = subst (λ x. Readie
 
 -- ---- what can be stored
 
--- no version has the epoch of a request that can be committed
-pub request-unused : (clock : Clock) (reading : ℕ) (tracker e : Epoch) (ep : Option Epoch) (d : Durable) → clock.target < 256 → IsHeard clock.ticks d → IsUnused ep d → epoch_for clock reading tracker ep ≡ Some e → IsUnusedEpoch e d
-request-unused clock reading tracker e None d small heard unused is = issued-unused clock reading tracker e d small heard is
-request-unused clock reading tracker e (Some f) d small heard unused is =
-    let one : f ≡ e = cc in subst (λ (y : Epoch). All (λ v. v.epoch.0 ≡ y.0 → ⊥) d.versions) one unused
+-- the places of a request's writes are free at its epoch
+pub request-new : (clock : Clock) (reading : ℕ) (tracker e : Epoch) (ep : Option Epoch) (ws : List MinorWrite) (d : Durable) → clock.target < 256 → IsHeard clock.ticks d → AreNewAt ep ws d → epoch_for clock reading tracker ep ≡ Some e → AreNew e ws d
+request-new clock reading tracker e None ws d small heard new is = new-at e ws d (issued-unused clock reading tracker e d small heard is)
+request-new clock reading tracker e (Some f) ws d small heard new is =
+    let one : f ≡ e = cc in subst (λ (y : Epoch). AreNew y ws d) one new
 
 -- once the lease covers the epoch
-pub can-leased : (e : Entry) (ws : List MinorWrite) (lease : ℕ) (d : Durable) → entry_of d e.attempt ≡ None → AreEnlisted ws d → IsUnusedEpoch e.epoch d → e.epoch.0 / 256 ≤ lease → CanStore e ws (leased lease d)
+pub can-leased : (e : Entry) (ws : List MinorWrite) (lease : ℕ) (d : Durable) → entry_of d e.attempt ≡ None → AreEnlisted ws d → AreNew e.epoch ws d → e.epoch.0 / 256 ≤ lease → CanStore e ws (leased lease d)
 unfolding leased
-can-leased e ws lease d absent enlisted unused covers = record {
+can-leased e ws lease d absent enlisted new covers = record {
   absent = entry_of-leased lease e.attempt d ∙ absent;
   enlisted = λ i w lt. enlisted-leased lease _ d ∙ enlisted i w lt;
-  unused = epochs-leased (λ x. x ≡ e.epoch.0 → ⊥) lease d unused;
+  new = new;
   leased = covers;
 }
 
@@ -98,7 +95,7 @@ module _ (t : TargetPlan) (opening : Epoch × FloorWhy) (m : TargetMemory) (read
         durable = d;
         kept_is = stays.kept_is;
         holds = whole (CommitNext t opening m reading q) (CommitEnds t opening m reading q from) commit.Asked (kept d h) (kept d k) commit.Asked (left, told)
-            (now_stays (λ l. Reached (CommitNext t opening m reading q) commit.Asked (kept d h) commit.Asked l) d h k new stays (reached_none (CommitNext t opening m reading q) commit.Asked (kept d h)))
+            (now_stays (λ l. Reached (CommitNext t opening m reading q) commit.Asked (kept d h) commit.Asked l) d h k new stays (reached-here (CommitNext t opening m reading q) commit.Asked (kept d h)))
             (commit.IsSpent (kept d k) (left, told) ep (ap (λ x. (x, told)) left_is ∙ ap (λ x. (m, x)) told_is));
       } in
       turn_said (CommitNext t opening m reading q) (commit_issued q) commit.Asked (kept d h) new k finds (λ did l. Whole (CommitNext t opening m reading q) (CommitEnds t opening m reading q from) commit.Asked (kept d h) l (left, did)) result told ok wanting done

@@ -1,6 +1,6 @@
 -- What checking writes and storing them comes to at each answer of the store.
-use Rattle.std.proofs.Common.{◌≡◌, ◌<◌, ◌≤◌, ◌+◌, get_or, refl, sym, ◌∙◌, ap, subst, inl, inr, List, All, Option, Some, None, Result, Ok, Err}
-use Rattle.std.specs.Prelude.{◌≢◌, IfErr, IfOk}
+use Rattle.std.proofs.Common.{◌≡◌, ◌<◌, ◌≤◌, ◌+◌, refl, sym, ◌∙◌, ap, subst, inl, inr, List, Option, Some, None, Result, Ok, Err}
+use Rattle.std.specs.Prelude.{IfErr, IfOk}
 use Rattle.daos_base.specs.declared.entry.Entry.{Entry}
 use Rattle.daos_base.specs.declared.epoch.Epoch.{Epoch}
 use Rattle.daos_base.specs.declared.id.AttemptId.{AttemptId}
@@ -13,8 +13,6 @@ use Rattle.daos_base.specs.declared.shown.Shown.{Shown}
 use Rattle.daos_model.specs.declared.durable.Durable.{Durable}
 use Rattle.daos_model.specs.Blocks.{blocks}
 use Rattle.daos_model.specs.Changes.{prepared}
-use Rattle.daos_model.specs.Durables.{version_key}
-use Rattle.daos_model.specs.Versions.{version_of}
 use Rattle.vos_stamp.specs.Stamps.{read_later, write_later}
 use Rattle.vos_store.specs.Calls.{State}
 use Rattle.vos_store.specs.Conditions.{CanPrepare}
@@ -30,9 +28,10 @@ use Rattle.target_parts.specs.declared.stop.TargetStop.{TargetStop}
 use Rattle.target_parts.specs.Ending.{partway_of, turn_said}
 use Rattle.target_parts.specs.Parts.{Did, Now, Partway, Stays, kept}
 use Rattle.target_parts.specs.Stops.{Turn, stop_memory, stop_of}
-use Rattle.target_parts.specs.Turning.{now_partway, now_stays, reached_change, reached_none, whole}
+use Rattle.target_parts.specs.Turning.{now_partway, now_stays, reached_change, whole}
 use Rattle.target_writes.specs.Checks.{AnswersReads, ByCause, BySpace, CanStore, FindsSpace, IsRefusal, PreparesOrNot}
-use Rattle.target_writes.proofs.Writing.{floors_above}
+use Rattle.target_writes.specs.Writing.{floors_above}
+use Rattle.world_turns.specs.PathLaws.{reached-here}
 
 -- ---- refusals
 
@@ -48,16 +47,13 @@ refused_by_write t opening first e d stamps ws f x y w floors none reads no_read
 
 -- ---- what `prepare` asks
 
-new_key : (e : Entry) (w : MinorWrite) (d : Durable) → All (λ v. v.epoch.0 ≡ e.epoch.0 → ⊥) d.versions → All (λ v. version_key v ≢ version_key (version_of e w)) d.versions
-new_key e w d apart = λ k v lt same. apart k v lt (let head : _ ≡ e.epoch.0 = cc in head)
-
 pub can_prepare : (t : TargetPlan) (s : State) (e : Entry) (ws : List MinorWrite) (d : Durable) → CanStore e ws d → first_floor t s.opening e.epoch d ws ≡ None → CanPrepare s e ws d
 can_prepare t s e ws d can floors = record {
   absent = can.absent;
   each = λ k w lt. record {
     enlisted = can.enlisted k w lt;
     above = floors_above t s.opening e.epoch d ws floors k w lt;
-    new = new_key e (get_or ws k w) d can.unused;
+    new = can.new k w lt;
   };
   leased = can.leased;
 }
@@ -73,7 +69,7 @@ module _ {S : Type 0} (Next : S → Kept → Option Change → S → Type 0) (En
   where
     stored-to : (k : State) → FindsSpace t opening first e.epoch d stamps ws h.free → h.free ≤ k.free + blocks ws → Reached Next checking (kept d h) stored (kept (prepared e ws d) k)
     stored-to k finds free =
-        reached_change Next checking (kept d h) checking (kept d h) (Prepares e ws) stored (kept (prepared e ws d) k) (reached_none Next checking (kept d h)) (stores (kept d h) finds.allowed finds.space) refl free
+        reached_change Next checking (kept d h) checking (kept d h) (Prepares e ws) stored (kept (prepared e ws d) k) (reached-here Next checking (kept d h)) (stores (kept d h) finds.allowed finds.space) refl free
 
     -- they were stored, and the turn ends so
     pub prepared-on : (k : State) (new : Option Durable) (left : TargetMemory × DidOf) → FindsSpace t opening first e.epoch d stamps ws h.free → Did (Prepares e ws) d h new k
@@ -98,14 +94,14 @@ module _ {S : Type 0} (Next : S → Kept → Option Change → S → Type 0) (En
       durable = d;
       kept_is = stays.kept_is;
       holds = whole Next Ends checking (kept d h) (kept d k) checking (ending how)
-          (now_stays (λ l. Reached Next checking (kept d h) checking l) d h k new stays (reached_none Next checking (kept d h)))
+          (now_stays (λ l. Reached Next checking (kept d h) checking l) d h k new stays (reached-here Next checking (kept d h)))
           (subst (λ o. Ends checking (kept d k) (ending o)) (sym is) (refused (kept d k) c by));
     }
     prepared-not k new how (BySpace allowed less is) stays = record {
       durable = d;
       kept_is = stays.kept_is;
       holds = whole Next Ends checking (kept d h) (kept d k) checking (ending how)
-          (now_stays (λ l. Reached Next checking (kept d h) checking l) d h k new stays (reached_none Next checking (kept d h)))
+          (now_stays (λ l. Reached Next checking (kept d h) checking l) d h k new stays (reached-here Next checking (kept d h)))
           (subst (λ o. Ends checking (kept d k) (ending o)) (sym (is ∙ ap (λ n. outcome.NoSpace t.me (blocks ws) n) (sym stays.free)))
           (spaceless (kept d k) allowed (subst (λ n. n < blocks ws) (sym stays.free) less)));
     }
@@ -132,9 +128,9 @@ module _ {S : Type 0} (Next : S → Kept → Option Change → S → Type 0) (En
     prepared-halted issued_at k new finds Done why issued stop known is came = subst (λ x. Turn Next issued_at checking (kept d h) Done new k finds (Err x)) (sym is) (by why came)
       where
         by : (why : Halt) → PreparesOrNot t opening first stamps e ws d h new k finds (Err why) → Turn Next issued_at checking (kept d h) Done new k finds (Err (stop_of why issued))
-        by halt.Stopped (inl asked) = record { cut = record { last = checking; mid = kept d h; reached = reached_none Next checking (kept d h); cut = InQuestion asked }; issued_is = known; no_lines = refl }
+        by halt.Stopped (inl asked) = record { cut = record { last = checking; mid = kept d h; reached = reached-here Next checking (kept d h); cut = InQuestion asked }; issued_is = known; no_lines = refl }
         by halt.Stopped (inr cut) = record {
-          cut = record { last = checking; mid = kept d h; reached = reached_none Next checking (kept d h); cut = InChange (Prepares e ws) stored (stores (kept d h) cut.0.allowed cut.0.space) cut.1 };
+          cut = record { last = checking; mid = kept d h; reached = reached-here Next checking (kept d h); cut = InChange (Prepares e ws) stored (stores (kept d h) cut.0.allowed cut.0.space) cut.1 };
           issued_is = known;
           no_lines = refl;
         }

@@ -1,8 +1,5 @@
-pub mod Writing
 pub mod Owning
-pub mod Fitting
 pub mod Committing
-pub mod Gathering
 pub mod Storing
 pub mod Beginning
 pub mod CommitTurns

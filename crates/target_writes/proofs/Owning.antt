@@ -1,42 +1,26 @@
 -- The writes of a target's own groups, and the entry of an attempt that it leads.
-use Rattle.std.proofs.Common.{ℕ, suc, zero, ◌≡◌, ◌<◌, ◌≤◌, ◌+◌, ◌^◌, inl, inr, refl, subst, Bool, true, false, List, [], ◌∷◌, map, filter, All, Option, Some, None, arith}
-use Rattle.std.specs.Prelude.{AllPairs, if◌then◌else◌}
-use Rattle.std.specs.List.Sorted.{IsStrictlyIncreasing}
+use Rattle.std.proofs.Common.{ℕ, suc, zero, ◌≡◌, ◌<◌, ◌≤◌, ◌^◌, inl, inr, refl, subst, true, List, [], ◌∷◌, All, arith}
 use Rattle.std.proofs.lemmas.List.Elements.{All-append, All-filter, All-head, All-tail}
-use Rattle.std.proofs.lemmas.List.Kept.{AllPairs-cons, AllPairs-from_increasing}
 use Rattle.std.proofs.lemmas.Bool.{cases_eq}
 use Rattle.std.proofs.lemmas.Nat.{or_lt}
 use Rattle.std.proofs.Math.Pow.{pow-lt}
 use Rattle.daos_base.specs.declared.epoch.Epoch.{Epoch}
-use Rattle.daos_base.specs.declared.id.ObjId.{ObjId}
 use Rattle.daos_base.specs.declared.operation.MinorWrite.{MinorWrite}
 use Rattle.daos_base.specs.declared.path.Path.{Path}
 use Rattle.daos_base.specs.Operations.{write_path}
-use Rattle.daos_base.specs.Placement.{dkey_groups, groups_members, members, object_members, path_members, writes_members}
-use Rattle.daos_base.specs.PlacementLaws.{members-within}
-use Rattle.daos_laws.specs.DecidedLaws.{all-from_has}
-use Rattle.daos_laws.specs.Members.{Has, has-from_filter, has-from_map, has-map}
-use Rattle.daos_laws.specs.VersionLaws.{pairs-head, pairs-tail}
+use Rattle.daos_base.specs.Placement.{members, path_members, writes_members}
 use Rattle.daos_model.specs.declared.durable.Durable.{Durable}
 use Rattle.daos_model.specs.Durables.{is_enlisted}
-use Rattle.daos_model.specs.FormLaws.{length-filter}
-use Rattle.daos_model.specs.Forms.{AreWritesInForm, is_write_in_form, minor_of}
+use Rattle.target_members.specs.Membership.{object-within}
 use Rattle.vos_store.specs.Calls.{State}
 use Rattle.vos_store.specs.Conditions.{IsPreparable}
 use Rattle.world_base.specs.declared.request.CommitRequest.{CommitRequest}
 use Rattle.world_base.specs.declared.target.TargetPlan.{TargetPlan}
 use Rattle.world_turns.specs.Commits.{bits_of, led_entry, own_writes}
 use Rattle.target_writes.specs.Checks.{AreEnlisted, AreWrites, IsPlaced}
+use Rattle.world_reads.specs.ListLaws.{some-in_form}
 
 -- ---- members
-
-groups-within : (n : ℕ) (o : ObjId) (gs : List ℕ) → 0 < n → All (λ t. t < n) (groups_members o gs n)
-groups-within n o [] some = λ k d lt. absurd (omega arith)
-groups-within n o (g ∷ gs) some = All-append (λ t. t < n) (members o g n) (groups_members o gs n) (members-within o g n some) (groups-within n o gs some)
-
-pub object-within : (n : ℕ) (o : Option ObjId) (k : Option (List ℕ)) → 0 < n → All (λ t. t < n) (object_members o k n)
-object-within n None k some = λ i d lt. absurd (omega arith)
-object-within n (Some o) k some = groups-within n o (dkey_groups o k n) some
 
 path-within : (n : ℕ) (p : Path) → 0 < n → All (λ t. t < n) (path_members p n)
 unfolding path_members
@@ -65,34 +49,6 @@ below-more n k l lt le = elim (cases_eq k l) [
 ]
 
 -- ---- own writes
-
-pairs-kept : (p : MinorWrite → Bool) (ws : List MinorWrite) → AllPairs (λ m n. m < n) (map minor_of ws) → AllPairs (λ m n. m < n) (map minor_of (filter p ws))
-pairs-kept p [] all = all
-pairs-kept p (w ∷ ws) all = by (pairs-kept p ws (pairs-tail alone (λ m n. m < n) w.minor (map minor_of ws) all)) (p w)
-  where
-    alone : ℕ → List ℕ
-    alone n = n ∷ []
-
-    above : (n : ℕ) → Has n (map minor_of (filter p ws)) → w.minor < n
-    above n i =
-        let z = has-from_map minor_of (filter p ws) n i in
-        subst (λ m. w.minor < m) z.2 (pairs-head alone (λ m n. m < n) w.minor (map minor_of ws) z.0.minor all (has-map minor_of ws z.0 (has-from_filter p ws z.0 z.1).0))
-
-    by : AllPairs (λ m n. m < n) (map minor_of (filter p ws)) → (b : Bool) → AllPairs (λ m n. m < n) (map minor_of (if b then w ∷ filter p ws else filter p ws))
-    by rest true = AllPairs-cons (λ m n. m < n) w.minor (map minor_of (filter p ws)) (all-from_has (λ n. w.minor < n) (map minor_of (filter p ws)) above) rest
-    by rest false = rest
-
-increasing-pairs : (xs : List ℕ) → AllPairs (λ m n. m < n) xs → IsStrictlyIncreasing xs
-increasing-pairs xs all k lt = all k (k + 1) 0 (omega arith) lt
-
--- some of the writes of a transaction are in form
-pub some-in_form : (p : MinorWrite → Bool) (ws : List MinorWrite) → AreWritesInForm ws → AreWritesInForm (filter p ws)
-some-in_form p ws f = record {
-  count = let few = length-filter p ws in let most = f.count in omega (arith, few, most);
-  each = All-filter p (λ w. is_write_in_form w.write ≡ true) ws f.each;
-  rising = increasing-pairs (map minor_of (filter p ws)) (pairs-kept p ws (AllPairs-from_increasing (map minor_of ws) f.rising));
-  minors = All-filter p (λ w. w.minor < 64) ws f.minors;
-}
 
 pub own-enlisted : (t : TargetPlan) (ws : List MinorWrite) (d : Durable) → AreEnlisted ws d → AreEnlisted (own_writes t ws) d
 own-enlisted t ws d all = All-filter _ (λ w. is_enlisted d (write_path w.write).cont ≡ true) ws all

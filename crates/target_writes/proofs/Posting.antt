@@ -35,10 +35,6 @@ begun-posts t q from e entry l new posts sent is many ws placed client came said
     beginning : IsBeginning l.targets entry q.writes
     beginning = subst (λ n. IsBeginning n entry q.writes) (sym many) (subst (λ x. IsBeginning t.targets x q.writes) (sym is) led)
 
--- what follows where the same clients wait
-pub later-posts : (targets : ℕ) (old mid new : LeaderMemory) (result : Result Did TargetStop) → mid ≡ old → IfOk result (λ did. PostsInForm targets mid new did.posts) → IfOk result (λ did. PostsInForm targets old new did.posts)
-later-posts targets old mid new result same k = subst (λ m. IfOk result (λ did. PostsInForm targets m new did.posts)) same k
-
 -- a client is told
 pub client-posts : (targets : ℕ) (old new : LeaderMemory) (from : ActorId) (m : Message) (issued : Option (AttemptId × Epoch)) (result : Result Did TargetStop) → from.client ≡ true → is_told m ≡ true → new ≡ old → IfOk result (λ did. did ≡ says from m issued)
     → IfOk result (λ did. PostsInForm targets old new did.posts)

@@ -27,12 +27,13 @@ use Rattle.target_parts.specs.Covers.{CoverCut, Covers, DidCover, WasExtended}
 use Rattle.target_parts.specs.Ending.{turn_cut, turn_on}
 use Rattle.target_parts.specs.Parts.{Now, kept}
 use Rattle.target_parts.specs.Readying.{lease_covers}
-use Rattle.target_parts.specs.Stops.{stop_memory, stop_of}
-use Rattle.target_parts.specs.Turning.{cut_in_change, now_stays, reached_change, reached_none, reached_silent}
+use Rattle.target_parts.specs.Stops.{never, stop_memory, stop_of}
+use Rattle.target_parts.specs.Turning.{cut_in_change, now_stays, reached_change, reached_silent}
 use Rattle.target_writes.specs.Checks.{IsPlaced, PreparesOrNot}
-use Rattle.target_writes.specs.Turns.{IsPrepareInForm, PrepareTurn, never}
+use Rattle.target_writes.specs.Turns.{IsPrepareInForm, PrepareTurn}
 use Rattle.target_writes.proofs.Committing.{prepared-goes, prepared-halted, prepared-told}
 use Rattle.target_writes.proofs.Owning.{below-more}
+use Rattle.world_turns.specs.PathLaws.{reached-here}
 
 -- what a member is asked to prepare, its store may be asked
 pub asked-preparable : (t : TargetPlan) (s : State) (e : Entry) (ws : List MinorWrite) → IsPlaced t s → IsPrepareInForm t.targets e ws → IsPreparable s e ws
@@ -56,13 +57,13 @@ module _ (t : TargetPlan) (opening : Epoch × FloorWhy) (m : TargetMemory) (q : 
     durable = d;
     kept_is = is;
     holds = now_stays (λ l. Reached Next prepare.Heard (kept d h) prepare.Checking l) d h j mid (record { kept_is = is; free = free })
-        (reached_silent Next prepare.Heard (kept d h) prepare.Heard (kept d h) prepare.Checking (reached_none Next prepare.Heard (kept d h)) (prepare.IsCovered (kept d h) covers));
+        (reached_silent Next prepare.Heard (kept d h) prepare.Heard (kept d h) prepare.Checking (reached-here Next prepare.Heard (kept d h)) (prepare.IsCovered (kept d h) covers));
   }
   prepare-covered mid j (WasExtended lease low is did) = record {
     durable = leased lease d;
     kept_is = did.kept_is;
     holds = reached_silent Next prepare.Heard (kept d h) prepare.Heard (kept (leased lease d) j) prepare.Checking
-        (reached_change Next prepare.Heard (kept d h) prepare.Heard (kept d h) (Extends lease) prepare.Heard (kept (leased lease d) j) (reached_none Next prepare.Heard (kept d h)) (prepare.ExtendsLease (kept d h) lease low is) refl did.free)
+        (reached_change Next prepare.Heard (kept d h) prepare.Heard (kept d h) (Extends lease) prepare.Heard (kept (leased lease d) j) (reached-here Next prepare.Heard (kept d h)) (prepare.ExtendsLease (kept d h) lease low is) refl did.free)
         (prepare.IsCovered (kept (leased lease d) j) (lease_covers (q.entry.epoch.0 / 256) lease is));
   }
 
@@ -77,7 +78,7 @@ module _ (t : TargetPlan) (opening : Epoch × FloorWhy) (m : TargetMemory) (q : 
   pub prepare-cut : (stop : TargetStop) → CoverCut (q.entry.epoch.0 / 256) d finds → stop ≡ stop_of halt.Stopped None → PrepareTurn t opening m q prepare.Heard d h new k finds left (Err stop)
   prepare-cut stop c is =
       turn_cut Next never prepare.Heard (kept d h) new k finds (λ did l. Whole Next (PrepareEnds t opening m q) prepare.Heard (kept d h) l (left, did)) (Err stop) (λ s. refl) (ap Err is)
-      (cut_in_change Next prepare.Heard (kept d h) prepare.Heard (kept d h) (Extends c.lease) prepare.Heard finds (reached_none Next prepare.Heard (kept d h)) (prepare.ExtendsLease (kept d h) c.lease c.low c.lease_is) c.cut)
+      (cut_in_change Next prepare.Heard (kept d h) prepare.Heard (kept d h) (Extends c.lease) prepare.Heard finds (reached-here Next prepare.Heard (kept d h)) (prepare.ExtendsLease (kept d h) c.lease c.low c.lease_is) c.cut)
 
   -- ---- from the checks on
 

@@ -1,5 +1,5 @@
 -- Whether writes are allowed, and what storing them comes to.
-use Rattle.std.specs.Prelude.{ℕ, ◌≡◌, ◌≤◌, ◌<◌, ◌⊎◌, true, All, List, Option, Some, None, Result, Ok, Err}
+use Rattle.std.specs.Prelude.{ℕ, ◌≡◌, ◌≢◌, ◌≤◌, ◌<◌, ◌⊎◌, true, All, List, ◌∷◌, Option, Some, None, Result, Ok, Err}
 use Rattle.daos_base.specs.declared.entry.Entry.{Entry}
 use Rattle.daos_base.specs.declared.epoch.Epoch.{Epoch}
 use Rattle.daos_base.specs.declared.id.AttemptId.{AttemptId}
@@ -12,13 +12,13 @@ use Rattle.daos_base.specs.declared.shown.Shown.{Shown}
 use Rattle.daos_base.specs.Operations.{write_path}
 use Rattle.daos_model.specs.declared.durable.Durable.{Durable}
 use Rattle.daos_model.specs.Blocks.{blocks}
-use Rattle.daos_model.specs.Durables.{entry_key, entry_of, is_enlisted}
+use Rattle.daos_model.specs.Durables.{entry_key, entry_of, is_enlisted, object_key, version_key}
 use Rattle.daos_model.specs.Ordered.{put}
 use Rattle.vos_store.specs.Calls.{State}
 use Rattle.vos_store.specs.Conditions.{IsLeased}
 use Rattle.world_base.specs.declared.target.TargetPlan.{TargetPlan}
 use Rattle.world_turns.specs.Changes.{Prepares}
-use Rattle.world_turns.specs.Commits.{FirstRead, IsAllowed, IsRefusedBy, NoReads}
+use Rattle.world_turns.specs.Commits.{FirstRead, IsAllowed, IsRefusedBy, NoReads, own_writes}
 pub use Rattle.world_posts.specs.Forms.{AreWrites}
 use Rattle.target_parts.specs.declared.halt.Halt.{Halt}
 use Rattle.target_parts.specs.declared.halt.Halt.TheVariants as halt
@@ -38,16 +38,20 @@ Checks t opening first e d stamps ws None = IsAllowed t opening first e d stamps
 abbrev pub AreEnlisted : List MinorWrite → Durable → Type 0
 AreEnlisted ws d = All (λ w. is_enlisted d (write_path w.write).cont ≡ true) ws
 
--- no version has this epoch
-abbrev pub IsUnusedEpoch : Epoch → Durable → Type 0
-IsUnusedEpoch e d = All (λ v. v.epoch.0 ≡ e.0 → ⊥) d.versions
+-- the place that a write takes among versions at an epoch
+abbrev pub place_of : Epoch → MinorWrite → List ℕ
+place_of e w = e.0 ∷ w.minor ∷ object_key (write_path w.write).cont (write_path w.write).obj
 
--- an entry and its writes can be stored, unless they are refused: the attempt has no entry here, its containers are here, no version has
--- its epoch, and the lease covers that
+-- no version of an object that is written has this epoch and the number of a write
+abbrev pub AreNew : Epoch → List MinorWrite → Durable → Type 0
+AreNew e ws d = All (λ w. All (λ v. version_key v ≢ place_of e w) d.versions) ws
+
+-- an entry and its writes can be stored, unless they are refused: the attempt has no entry here, its containers are here, the places of
+-- the writes are free, and the lease covers the epoch
 pub record CanStore (e : Entry) (ws : List MinorWrite) (d : Durable) : Type 0 where
   pub absent : entry_of d e.attempt ≡ None
   pub enlisted : AreEnlisted ws d
-  pub unused : IsUnusedEpoch e.epoch d
+  pub new : AreNew e.epoch ws d
   pub leased : IsLeased e.epoch d
 
 -- why writes aren't stored: a cause refuses them, or there is no space for them
@@ -79,13 +83,14 @@ pub record IsPlaced (t : TargetPlan) (s : State) : Type 0 where
   pub me : t.me < t.targets
   pub made : t.targets ≤ s.targets
 
--- no version has this epoch, if it is known
-abbrev pub IsUnused : Option Epoch → Durable → Type 0
-IsUnused None d = Unit {0}
-IsUnused (Some e) d = IsUnusedEpoch e d
+-- the places of writes are free at an epoch that is known
+abbrev pub AreNewAt : Option Epoch → List MinorWrite → Durable → Type 0
+AreNewAt None ws d = Unit {0}
+AreNewAt (Some e) ws d = AreNew e ws d
 
--- an attempt's writes can be committed: their containers are here, and the attempt has nothing here
-pub record CanCommit (x : AttemptId) (ep : Option Epoch) (ws : List MinorWrite) (d : Durable) : Type 0 where
+-- an attempt's writes can be committed by a target: their containers are here, the attempt has no entry here, and where the epoch is
+-- known, the places of those writes that belong to a group of this target are free
+pub record CanCommit (t : TargetPlan) (x : AttemptId) (ep : Option Epoch) (ws : List MinorWrite) (d : Durable) : Type 0 where
   pub enlisted : AreEnlisted ws d
   pub absent : entry_of d x ≡ None
-  pub unused : IsUnused ep d
+  pub new : AreNewAt ep (own_writes t ws) d

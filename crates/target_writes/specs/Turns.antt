@@ -2,7 +2,6 @@
 use Rattle.std.specs.Prelude.{ℕ, ◌≡◌, List, Option, None, Result}
 use Rattle.daos_base.specs.declared.entry.Entry.{Entry}
 use Rattle.daos_base.specs.declared.epoch.Epoch.{Epoch}
-use Rattle.daos_base.specs.declared.id.AttemptId.{AttemptId}
 use Rattle.daos_base.specs.declared.operation.MinorWrite.{MinorWrite}
 use Rattle.daos_base.specs.declared.outcome.FloorWhy.{FloorWhy}
 use Rattle.daos_messages.specs.declared.actor.ActorId.{ActorId}
@@ -22,8 +21,8 @@ use Rattle.world_turns.specs.Turns.{Whole}
 pub use Rattle.world_posts.specs.Forms.{IsPrepareInForm}
 use Rattle.target_parts.specs.declared.stop.TargetStop.{TargetStop}
 use Rattle.target_parts.specs.Parts.{kept}
-use Rattle.target_parts.specs.Stops.{Turn, commit_issued}
-use Rattle.target_writes.specs.Checks.{AreEnlisted, IsUnusedEpoch}
+use Rattle.target_parts.specs.Stops.{Turn, commit_issued, never}
+use Rattle.target_writes.specs.Checks.{AreEnlisted, AreNew}
 
 abbrev pub CommitTurn : TargetPlan → Epoch × FloorWhy → TargetMemory → ℕ → CommitRequest → ActorId → commit.CommitStage → Durable → State → Option Durable → State → (Durable → Type 0) → TargetMemory → Result Did TargetStop → Type 0
 CommitTurn t opening m reading q from start d h new k finds left result =
@@ -34,17 +33,13 @@ CommitTurn t opening m reading q from start d h new k finds left result =
 abbrev pub begun_of : TargetPlan → TargetMemory → CommitRequest → ActorId → Epoch → Durable → TargetMemory × Did
 begun_of t n q from e d = (leads_on (commit.begins_at t n q from e d) n, sends (commit.begins_at t n q from e d).posts (issued_for q.attempt q.ep e))
 
--- no epoch is issued
-abbrev pub never : {S : Type 0} → S → Option (AttemptId × Epoch)
-never s = None
-
 abbrev pub PrepareTurn : TargetPlan → Epoch × FloorWhy → TargetMemory → PrepareRequest → prepare.PrepareStage → Durable → State → Option Durable → State → (Durable → Type 0) → TargetMemory → Result Did TargetStop → Type 0
 PrepareTurn t opening m q start d h new k finds left result =
     Turn (prepare.PrepareNext t opening m q) never start (kept d h)
     (λ did l. Whole (prepare.PrepareNext t opening m q) (prepare.PrepareEnds t opening m q) start (kept d h) l (left, did)) new k finds result
 
--- an attempt's writes can be prepared: their containers are here, and the attempt has nothing here
+-- an attempt's writes can be prepared: their containers are here, the attempt has no entry here, and the places of the writes are free
 pub record CanPrepareHere (e : Entry) (ws : List MinorWrite) (d : Durable) : Type 0 where
   pub enlisted : AreEnlisted ws d
   pub absent : entry_of d e.attempt ≡ None
-  pub unused : IsUnusedEpoch e.epoch d
+  pub new : AreNew e.epoch ws d

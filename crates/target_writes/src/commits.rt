@@ -15,7 +15,6 @@ ghost use Rattle.target_writes.specs.Checks.{AreWrites, CanCommit, CanStore, IsP
 ghost use Rattle.target_writes.specs.Turns.{CommitTurn, begun_of};
 
 use crate::checks::prepare;
-use crate::members::members_of;
 use daos_base::entry::Entry;
 use daos_base::epoch::Epoch;
 use daos_base::id::AttemptId;
@@ -26,6 +25,7 @@ use daos_messages::message::Message;
 use daos_outside::clock::Clock;
 use dtx_posts::written::writes_at;
 use std::alloc::Global;
+use target_members::members::members_of;
 use target_parts::epochs::ready;
 use target_parts::halt::Halt;
 use target_parts::kept::seat_of;
@@ -116,7 +116,7 @@ fn commit_at<S: Store>(
     requires running { (S.state store.old).stopped ≡ false }
     requires own { IsOwn plan knows.old }
     requires heard { epoch.0 / 256 ≤ knows.old.hlc.ticks }
-    requires can { ForSome (S.durable store.old) (CanStore (commit.led_entry plan request.now epoch) request.now.writes) }
+    requires can { ForSome (S.durable store.old) (CanStore (commit.led_entry plan request.now epoch) (commit.own_writes plan request.now.writes)) }
     requires leads { ForSome (S.durable store.old) (LeadsWell plan (memory_of knows.old) knows.old.entries.items) }
     ensures runs { Runs stop_store result (S.state store.old) (S.state store.new) (S.durable store.old) (S.durable store.new) }
     ensures turn { (d : Durable) → S.durable store.old ≡ Some d → (m : TargetMemory) (reading : ℕ) → asked.with_ticks epoch m ≡ memory_of knows.old
@@ -163,7 +163,7 @@ pub fn hear_commit<S: Store, C: Clock>(
     requires writes { AreWrites plan request.now.writes }
     requires running { (S.state store.old).stopped ≡ false }
     requires own { IsOwn plan knows.old }
-    requires here { ForSome (S.durable store.old) (CanCommit request.now.attempt request.now.ep request.now.writes) }
+    requires here { ForSome (S.durable store.old) (CanCommit plan request.now.attempt request.now.ep request.now.writes) }
     requires leads { ForSome (S.durable store.old) (LeadsWell plan (memory_of knows.old) knows.old.entries.items) }
     ensures runs { Runs stop_store result (S.state store.old) (S.state store.new) (S.durable store.old) (S.durable store.new) }
     ensures turn { (reading : ℕ) × IfSome (C.next clock.old) (λ r. r ≡ reading) × ((d : Durable) → S.durable store.old ≡ Some d

@@ -3,5 +3,4 @@
 
 pub mod checks;
 pub mod commits;
-pub mod members;
 pub mod prepares;

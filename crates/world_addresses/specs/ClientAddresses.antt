@@ -1,9 +1,8 @@
 -- What clients send is addressed right.
-use Rattle.std.specs.Prelude.{ℕ, zero, suc, ◌≡◌, ◌<◌, ◌&&◌, Bool, true, false, nat_lt, All, List, [], ◌∷◌, length, slice_get, Option, Some, None, refl, if◌then◌else◌}
+use Rattle.std.specs.Prelude.{ℕ, zero, suc, ◌≡◌, ◌<◌, ◌&&◌, Bool, true, false, All, List, [], ◌∷◌, length, slice_get, Option, Some, None, refl, if◌then◌else◌}
 use Rattle.std.proofs.Common.{sym, ◌∙◌, ap, subst, inl, inr, true≢false}
 use Rattle.daos_base.specs.declared.answer.Answer.{Answer}
 use Rattle.daos_base.specs.declared.epoch.Epoch.{Epoch}
-use Rattle.daos_base.specs.declared.id.AttemptId.{AttemptId}
 use Rattle.daos_base.specs.declared.id.ObjId.{ObjId}
 use Rattle.daos_base.specs.declared.operation.Cond.{Cond}
 use Rattle.daos_base.specs.declared.operation.MinorWrite.{MinorWrite}
@@ -30,7 +29,7 @@ use Rattle.world_base.specs.declared.client.ClientState.{ClientState}
 use Rattle.world_base.specs.declared.client.Present.{Present}
 use Rattle.world_base.specs.declared.client.Stage.{Stage}
 use Rattle.world_base.specs.declared.client.Stage.TheVariants as stage
-use Rattle.world_base.specs.ClientTurns.{Move, answered, attempt_id, begins_at, command_at, condition_told, ended, ends, first_epoch, group_told, heard, heard_at, hears_epochs, is_about, about, knows, listed, member_asked, moved, moves_at, op_of, op_told, replied, rests, told_at, waits}
+use Rattle.world_base.specs.ClientTurns.{Move, answered, attempt_id, begins_at, command_at, first_epoch, heard, heard_at, hears_epochs, is_about, about, knows, listed, member_asked, moved, moves_at, op_of, op_told, replied, rests, told_at, waits}
 use Rattle.world_events.specs.Events.{Rules, client_plan, commands_or_none}
 use Rattle.world_events.specs.Letters.{client, target}
 use Rattle.world_talks.specs.AskLaws.{move-is, waiting-rests}

@@ -1,7 +1,7 @@
 -- What every event leaves of a target: whether it runs, the floor of its opening, the containers and snapshots that it keeps, its
 -- incarnation, and its lease, which may rise.
-use Rattle.std.specs.Prelude.{ℕ, ◌≡◌, ◌≤◌, ◌<◌, ◌^◌, slice_get, Option, Some, refl}
-use Rattle.std.proofs.Common.{sym, ◌∙◌, ap, subst}
+use Rattle.std.specs.Prelude.{ℕ, ◌≡◌, slice_get, Some, refl}
+use Rattle.std.proofs.Common.{sym, ◌∙◌, ap}
 use Rattle.std.proofs.Math.ListN.{set}
 use Rattle.daos_model.specs.declared.durable.Durable.{Durable}
 use Rattle.world_addresses.specs.AddressLaws.{at-place}

@@ -1,7 +1,7 @@
 -- What a target sends in a turn is addressed right, and what it keeps and knows names only who is there.
-use Rattle.std.specs.Prelude.{ℕ, ◌≡◌, ◌<◌, ◌⊎◌, ◌^◌, ◌++◌, ◌==◌, Bool, true, false, bit_or, filter, map, List, [], ◌∷◌, find, Option, Some, None, refl, if◌then◌else◌}
+use Rattle.std.specs.Prelude.{ℕ, ◌≡◌, ◌<◌, ◌^◌, ◌==◌, Bool, true, false, bit_or, filter, map, List, [], ◌∷◌, find, Option, Some, None, refl, if◌then◌else◌}
 use Rattle.std.specs.Int.{bit_at}
-use Rattle.std.proofs.Common.{sym, ◌∙◌, ap, subst, inl, inr, arith, max}
+use Rattle.std.proofs.Common.{sym, subst, inl, inr, arith, max}
 use Rattle.std.proofs.lemmas.Bool.Decides.{nat_tests}
 use Rattle.std.proofs.lemmas.Nat.Bits.{bit_at_or, bit_at-pow_other, bit_at-zero}
 use Rattle.daos_base.specs.declared.entry.Entry.{Entry}
@@ -14,24 +14,22 @@ use Rattle.daos_base.specs.declared.operation.MinorWrite.{MinorWrite}
 use Rattle.daos_base.specs.declared.outcome.FloorWhy.{FloorWhy}
 use Rattle.daos_base.specs.declared.outcome.Outcome.{Outcome}
 use Rattle.daos_base.specs.Operations.{write_path}
-use Rattle.daos_base.specs.Placement.{path_members, writes_leader, writes_members}
+use Rattle.daos_base.specs.Placement.{path_members, writes_members}
 use Rattle.daos_laws.specs.EntryLaws.{found-has, has-put}
 use Rattle.daos_laws.specs.HoldingLaws.{path-within}
 use Rattle.daos_laws.specs.Members.{Has, has-cases, has-from_filter, has-from_map}
 use Rattle.daos_messages.specs.declared.actor.ActorId.{ActorId}
 use Rattle.daos_messages.specs.declared.message.Message.{Message}
 use Rattle.daos_messages.specs.declared.message.Message.TheVariants as message
-use Rattle.daos_messages.specs.declared.message.Post.{Post}
 use Rattle.daos_model.specs.declared.durable.Durable.{Durable}
 use Rattle.daos_model.specs.BoolLaws.{clash}
 use Rattle.daos_model.specs.Changes.{committed_at, confirmed_at, is_other, leased, prepared, settled}
 use Rattle.daos_model.specs.Durables.{entry_key, entry_of, is_entry_of, same_attempt}
-use Rattle.dtx_base.specs.Joining.{parking}
 use Rattle.dtx_base.specs.Leading.{LeaderStep, is_led, marked_heard}
 use Rattle.dtx_base.specs.Members.{has_target}
-use Rattle.world_addresses.specs.Addresses.{ArePlaced, ArePosts, ComesFrom, Crowd, IsAddressed, IsAsk, IsClientOf, IsPlaced, IsTarget, KnowsWho}
+use Rattle.world_addresses.specs.Addresses.{ArePlaced, ArePosts, ComesFrom, Crowd, IsClientOf, IsPlaced, IsTarget, KnowsWho}
 use Rattle.world_addresses.specs.LeaderAddresses.{LeadsRight, ack-right, batch-right, begun-right, both-posted, none-posted, one-posted, there}
-use Rattle.world_addresses.specs.MemberAddresses.{AreAsks, AreParked, JoinsRight, inquired-right, parking-right, query-right, verdict-right}
+use Rattle.world_addresses.specs.MemberAddresses.{AreAsks, JoinsRight, inquired-right, parking-right, query-right, verdict-right}
 use Rattle.world_base.specs.declared.did.Did.{Did}
 use Rattle.world_base.specs.declared.request.CommitRequest.{CommitRequest}
 use Rattle.world_base.specs.declared.request.FetchRequest.{FetchRequest}

@@ -6,6 +6,7 @@ use Rattle.std.proofs.lemmas.Bool.Decides.{nat_tests}
 use Rattle.daos_base.specs.declared.entry.Entry.{Entry}
 use Rattle.daos_base.specs.declared.id.AttemptId.{AttemptId}
 use Rattle.daos_laws.specs.EntryLaws.{found-has, found-passes}
+use Rattle.daos_laws.specs.Lists.{all-pass}
 use Rattle.daos_laws.specs.Members.{Has, any-has, has-filter, has-from_filter}
 use Rattle.daos_model.specs.Durables.{entry_of, is_entry_of}
 use Rattle.daos_model.specs.EntryLaws.{same_attempt-itself}
@@ -19,6 +20,7 @@ use Rattle.dtx_base.specs.LeaderLaws.{same-is}
 use Rattle.dtx_base.specs.Leading.{entry_attempt, is_batch_due, is_due_to, is_led, is_named, is_owed, undecided_attempt}
 use Rattle.dtx_base.specs.Members.{all_targets, has_target, is_other_member, other_members}
 use Rattle.dtx_base.specs.Rows.{is_among, is_row_of, row_of}
+use Rattle.std.proofs.lemmas.Bool.{not-false}
 use Rattle.world_asks.specs.Asks.{Asks, ByLeader, ByMark, IsInquiryRight, IsToBeTold, IsUnconfirmed, NoneHere}
 use Rattle.world_asks.specs.AskLaws.{none-flies}
 use Rattle.world_asks.specs.Ends.{EndsSettled, IsSettledAt}
@@ -37,10 +39,6 @@ empty-of : {T : Type 0} (xs : List T) → ((x : T) → Has x xs → ⊥) → xs 
 empty-of [] none = refl
 empty-of (x ∷ xs) none = absurd (none x (inl refl))
 
-all-of : {T : Type 0} (p : T → Bool) (xs : List T) → ((x : T) → Has x xs → p x ≡ true) → list_all p xs ≡ true
-all-of p [] all = refl
-all-of p (x ∷ xs) all = rw (all x (inl refl), all-of p xs (λ y i. all y (inr i))) refl
-
 none-passes : {T : Type 0} (p : T → Bool) (xs : List T) (x : T) → list_any p xs ≡ false → Has x xs → p x ≡ false
 none-passes p xs x none i = by (p x) refl
   where
@@ -52,10 +50,6 @@ one-counted : (b : Bool) → 0 + one_if b ≡ 1 → b ≡ true
 one-counted true h = refl
 one-counted false h = absurd (omega arith)
 
-not-true : (b : Bool) → not b ≡ false → b ≡ true
-not-true true h = refl
-not-true false h = let no : ⊥ = cc in absurd no
-
 own-row : (u : Undecided) (us : List Undecided) → row_of undecided_attempt u.attempt (u ∷ us) ≡ Some u
 own-row u us = ap (λ (b : Bool). if b then Some u else row_of undecided_attempt u.attempt us) (same_attempt-itself u.attempt)
 
@@ -64,7 +58,7 @@ own-row u us = ap (λ (b : Bool). if b then Some u else row_of undecided_attempt
 owed-confirmed : (m : ℕ) (named : List Naming) (e : Entry) → is_owed m named e ≡ false → e.committed ≡ true → is_other_member e m ≡ true → named ≡ [] → has_target e.confirmed m ≡ true
 unfolding is_owed is_named
 owed-confirmed m named e owed committed other none =
-    not-true (has_target e.confirmed m)
+    not-false (has_target e.confirmed m)
     (and-last (not (has_target e.confirmed m)) (ap (λ b. b && is_other_member e m && not (has_target e.confirmed m) && not (is_named m e.attempt [])) (sym committed)
     ∙ ap (λ b. e.committed && is_other_member e m && not (has_target e.confirmed m) && b) (sym (ap (λ ns. not (is_named m e.attempt ns)) none)) ∙ owed))
   where
@@ -94,7 +88,7 @@ module _ (r : Rules) (h : History) (w : World) (A : Attempts r h w) (K : Asks r 
       there = ap (λ n. row_at w n x) (sym ((A.each x).rows.undecided t u at).here.leads) ∙ at
 
       all : list_all (has_target u.counted) (others_of r x) ≡ true
-      all = all-of (has_target u.counted) (others_of r x) (λ m i. one-counted (has_target u.counted m) (ap (λ n. n + one_if (has_target u.counted m)) (sym (nothing-asked m x)) ∙ (A.each x).awaited.once m u i there))
+      all = all-pass (has_target u.counted) (others_of r x) (λ m i. one-counted (has_target u.counted m) (ap (λ n. n + one_if (has_target u.counted m)) (sym (nothing-asked m x)) ∙ (A.each x).awaited.once m u i there))
 
       lacks : list_all (has_target u.counted) (others_of r x) ≡ false
       lacks = K.rows.lacking t x u at

@@ -7,7 +7,6 @@ use Rattle.daos_base.specs.declared.entry.Verdict.{Verdict}
 use Rattle.daos_base.specs.declared.entry.Verdict.TheVariants as verdict
 use Rattle.daos_base.specs.declared.id.AttemptId.{AttemptId}
 use Rattle.daos_laws.specs.Members.{Has}
-use Rattle.daos_messages.specs.declared.actor.ActorId.{ActorId}
 use Rattle.daos_messages.specs.declared.message.Message.{Message}
 use Rattle.daos_messages.specs.declared.message.Message.TheVariants as message
 use Rattle.daos_messages.specs.declared.message.Post.{Post}
@@ -19,15 +18,15 @@ use Rattle.dtx_base.specs.Leading.{entry_attempt, query_answer}
 use Rattle.world_asks.specs.Asks.{Flies, InquiriesAreRight, IsInquiryRight, IsQuery, IsQueryOf, IsToBeTold, IsUndecidedTold, IsVerdict, NonePrepares}
 use Rattle.world_asks.specs.InquiryLaws.{InquiryAfter, IsInquired, WasAnswered, WasThere, hears-inquired, idles-inquired, queried, undecided-kept}
 use Rattle.world_asks.specs.Moving.{ClientMoves, TargetMoves, all-stay, heard-moves, idle-moves, now-here, same-there}
-use Rattle.world_asks.specs.NamedLaws.{target-number}
 use Rattle.world_asks.specs.ParkedLaws.{IsOpenStill, asked-on, client-asked, queries-answered}
 use Rattle.world_asks.specs.Sending.{MaySend, hears-sends}
-use Rattle.world_asks.specs.Told.{LeavesTold, born-on, client-leaves, refused-told, told-on}
+use Rattle.world_asks.specs.Told.{LeavesTold, born-on, client-leaves, no-client, refused-told, told-on}
 use Rattle.world_asks.specs.ToldTurns.{AMark, AnInquiry, IsIdlySent, RefusalsRefuse, hears-leaves, idles-leave, idles-sends}
 use Rattle.world_attempts.specs.Asked.{AskedRight}
 use Rattle.world_attempts.specs.Attempts.{Attempts, IsBorn, IsHeld, IsItsEntry, IsOther, IsTrueOf, entry_at, entry_in, leader_of}
 use Rattle.world_attempts.specs.Counting.{has-taken}
 use Rattle.world_attempts.specs.History.{Aborted, GrowsBy, History}
+use Rattle.world_attempts.specs.MarkTurns.{target-is}
 use Rattle.world_attempts.specs.Stored.{row-found}
 use Rattle.world_attempts.specs.Turning.{one-or_another}
 use Rattle.world_base.specs.declared.letter.Letter.{Letter}
@@ -51,7 +50,7 @@ module _ (r : Rules) (h later : History) (w v : World) (A : Attempts r h w) (B :
   pub still-told : (m : ℕ) (x : AttemptId) → Flies w (IsUndecidedTold m x) → IsToBeTold r v m x
   still-told m x f =
       let z : IsTrueOf r h w f.0.from f.0.to (message.Verdict x None f.2.inc verdict.Undecided) = subst (IsTrueOf r h w f.0.from f.0.to) f.2.says (A.letters f.0 f.1) in
-      let other : IsOther r x m = subst (IsOther r x) (target-number z.way.member m (sym z.way.receiver ∙ f.2.to)) z.way.other in
+      let other : IsOther r x m = subst (IsOther r x) (target-is z.way.member m (sym z.way.receiver ∙ f.2.to)) z.way.other in
       told-on r h later w v B L m x other (k.heard m x other (f.0, f.1, IsVerdict f.2.inc verdict.Undecided f.2.says f.2.to)) (k.told m x f)
 
   -- an inquiry from before that isn't answered
@@ -66,9 +65,6 @@ module _ (r : Rules) (h later : History) (w v : World) (A : Attempts r h w) (B :
   }
 
 -- ---- a client's turn
-
-no-client : (n t : ℕ) (a : ActorId) → a ≡ client n → a ≡ target t → ⊥
-no-client n t a one other = let no : ⊥ = cc (ap (λ z. z.client) (sym one ∙ other)) in no
 
 pub client-inquiries : (r : Rules) (h later : History) (w v : World) → ((x : AttemptId) → Aborted h x → Aborted later x) → Attempts r h w → Attempts r later v → InquiriesAreRight r h w → ClientMoves w v → InquiriesAreRight r later v
 client-inquiries r h later w v grown A B k g = record {
@@ -149,8 +145,8 @@ module _ (r : Rules) (h later : History) (w v : World) (Q : AskedRight r h w) (A
   new-told m x l p i same u =
       let q = sent-verdict m x u.inc verdict.Undecided p i (sym (ap (λ z. z.message) same) ∙ u.says) (sym (ap (λ z. z.to) same) ∙ u.to) in
       let z : IsTrueOf r h w g.l.from g.l.to (message.Query x None) = subst (IsTrueOf r h w g.l.from g.l.to) q.0 (A.letters g.l taken) in
-      let other : IsOther r x m = subst (IsOther r x) (target-number z.way.member m (sym z.way.sender ∙ q.1)) z.way.other in
-      let leads : g.t ≡ leader_of r x = target-number g.t (leader_of r x) (sym g.to_it ∙ z.way.receiver) in
+      let other : IsOther r x m = subst (IsOther r x) (target-is z.way.member m (sym z.way.sender ∙ q.1)) z.way.other in
+      let leads : g.t ≡ leader_of r x = target-is g.t (leader_of r x) (sym g.to_it ∙ z.way.receiver) in
       let says : p.message ≡ message.Verdict x None g.s.durable.incarnation (query_answer x (leader_at (target_plan r g.t) g.s.memory g.s.durable)) =
       queried (target_plan r g.t) g.s.memory g.l.from x None (kept g.s) g.new (g.memory, g.did) (turn-of (message.Query x None) q.0) p i in
       let same_said : message.Verdict x None g.s.durable.incarnation (query_answer x (leader_at (target_plan r g.t) g.s.memory g.s.durable)) ≡ message.Verdict x None u.inc verdict.Undecided = sym says ∙ sym (ap (λ n. n.message) same) ∙ u.says in
@@ -231,7 +227,7 @@ module _ (r : Rules) (h later : History) (w v : World) (grown : (x : AttemptId) 
   asks-heard m x l p same (AnInquiry e a is) (IsQuery leader says from to) =
       let one : message.Query e.attempt None ≡ message.Query x None = sym (ap (λ z. z.message) is) ∙ sym (ap (λ z. z.message) same) ∙ says in
       let own : e.attempt ≡ x = cc in
-      let here : g.t ≡ m = target-number g.t m (sym (ap (λ z. z.from) same) ∙ from) in
+      let here : g.t ≡ m = target-is g.t m (sym (ap (λ z. z.from) same) ∙ from) in
       subst (λ n. NonePrepares v n x) here (subst (NonePrepares v g.t) own (none-prepares e a))
   asks-heard m x l p same (AnInquiry e a is) (IsVerdict inc said says to) =
       let one : message.Query e.attempt None ≡ message.Verdict x None inc said = sym (ap (λ z. z.message) is) ∙ sym (ap (λ z. z.message) same) ∙ says in let no : ⊥ = cc in absurd no

@@ -14,7 +14,7 @@ use Rattle.daos_messages.specs.declared.message.Message.{Message}
 use Rattle.daos_messages.specs.declared.message.Message.TheVariants as message
 use Rattle.daos_messages.specs.declared.message.Post.{Post}
 use Rattle.daos_model.specs.declared.durable.Durable.{Durable}
-use Rattle.daos_model.specs.BoolLaws.{and_left, and_right}
+use Rattle.daos_model.specs.BoolLaws.{and_left, and_right, not_true}
 use Rattle.daos_model.specs.Durables.{entry_of, is_entry_of, same_attempt}
 use Rattle.daos_model.specs.EntryLaws.{same_attempt-itself}
 use Rattle.dtx_base.specs.declared.member.Inquiry.{Inquiry}
@@ -120,10 +120,6 @@ rows-for (e ∷ es) qs q i = elim (rows-for es (with_row inquiry_attempt (new_in
   | inr new ↦ inr (new.0, inr new.1, new.2)
 ]
 
-not-false : (b : Bool) → not b ≡ true → b ≡ false
-not-false true h = let no : ⊥ = cc in absurd no
-not-false false h = refl
-
 pub inquired-is : (me : ℕ) (d : Durable) (s : MemberOf) (posts : List Post) (e : Entry) → s.me ≡ me → Has e (to_inquire d.entries s) → Has (inquiry_for e) posts → IsInquired me d posts e
 unfolding to_inquire is_to_inquire
 inquired-is me d s posts e own i sent =
@@ -131,8 +127,8 @@ inquired-is me d s posts e own i sent =
     let both : not e.committed && not (e.leader == s.me) ≡ true = and_left (not e.committed && not (e.leader == s.me)) (is_none (row_of inquiry_attempt e.attempt s.memory.inquiries)) k.1 in
     record {
       kept = k.0;
-      prepared = not-false e.committed (and_left (not e.committed) (not (e.leader == s.me)) both);
-      led = subst (λ n. (e.leader == n) ≡ false) own (not-false (e.leader == s.me) (and_right (not e.committed) (not (e.leader == s.me)) both));
+      prepared = not_true e.committed (and_left (not e.committed) (not (e.leader == s.me)) both);
+      led = subst (λ n. (e.leader == n) ≡ false) own (not_true (e.leader == s.me) (and_right (not e.committed) (not (e.leader == s.me)) both));
       sent = sent;
     }
 

@@ -4,6 +4,7 @@ use Rattle.std.proofs.Common.{sym, ◌∙◌, ap, subst, inl, inr}
 use Rattle.std.proofs.Math.ListN.{set}
 use Rattle.daos_laws.specs.Members.{Has, has-cases, has-from_map, has-left, has-map, has-right}
 use Rattle.daos_messages.specs.declared.message.Post.{Post}
+use Rattle.world_attempts.specs.Counting.{has-left_over}
 use Rattle.world_base.specs.declared.letter.Letter.{Letter}
 use Rattle.world_base.specs.declared.target.TargetState.{TargetState}
 use Rattle.world_base.specs.declared.world.World.{World}
@@ -19,14 +20,6 @@ heard-or_left letters l rest n k i =
       | inr (inl same) ↦ inl same
       | inr (inr j) ↦ inr (subst (Has n) (sym k.left) (has-right k.before k.after n j))
     ]
-
-left-was : (letters : List Letter) (l : Letter) (rest : List Letter) (n : Letter) → Takes letters l rest → Has n rest → Has n letters
-left-was letters l rest n k i =
-    subst (Has n) (sym k.among)
-    (elim (has-cases k.before k.after n (subst (Has n) k.left i)) [
-      | inl j ↦ has-left k.before (l ∷ k.after) n j
-      | inr j ↦ has-right k.before (l ∷ k.after) n (inr j)
-    ])
 
 -- ---- a client's turn
 
@@ -57,7 +50,7 @@ hears-moves r w v g = record {
   targets = ap (λ x. x.targets) g.after;
   stays = λ l t i to. subst (λ x. Has l x.messages) (sym g.after) (has-left g.rest (letters_of (client g.n) g.did.posts) l (left l t i to));
   comes = λ l i. elim (has-cases g.rest (letters_of (client g.n) g.did.posts) l (subst (λ x. Has l x.messages) g.after i)) [
-    | inl j ↦ inl (left-was w.messages g.l g.rest l g.takes j)
+    | inl j ↦ inl (has-left_over w.messages g.l g.rest l g.takes j)
     | inr j ↦ inr (g.n, sent-by g.n g.did.posts l j)
   ];
 }
@@ -91,7 +84,7 @@ heard-moves r w v g = record {
   ];
   posted = λ p i. subst (λ x. Has (letter_of (target g.t) p) x.messages) (sym g.after) (has-right g.rest (letters_of (target g.t) g.did.posts) (letter_of (target g.t) p) (has-map (letter_of (target g.t)) g.did.posts p i));
   comes = λ l i. elim (has-cases g.rest (letters_of (target g.t) g.did.posts) l (subst (λ x. Has l x.messages) g.after i)) [
-    | inl j ↦ inl (left-was w.messages g.l g.rest l g.takes j)
+    | inl j ↦ inl (has-left_over w.messages g.l g.rest l g.takes j)
     | inr j ↦ inr (sent-from g.t g.did.posts l j)
   ];
 }

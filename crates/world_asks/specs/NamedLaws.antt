@@ -25,6 +25,7 @@ use Rattle.world_base.specs.declared.target.TargetMemory.{TargetMemory}
 use Rattle.world_base.specs.declared.target.TargetPlan.{TargetPlan}
 use Rattle.world_asks.specs.Asks.{Flies, IsMark, IsMarked, IsNamingOf, NamedAreSent}
 use Rattle.world_asks.specs.Moving.{ClientMoves, TargetMoves, all-stay, goes-moves, heard-moves, hears-moves, idle-moves, now-here, same-there}
+use Rattle.world_attempts.specs.MarkTurns.{target-is}
 use Rattle.world_attempts.specs.Turning.{one-or_another}
 use Rattle.world_base.specs.declared.target.TargetState.{TargetState}
 use Rattle.world_base.specs.declared.world.World.{World}
@@ -223,10 +224,6 @@ module _ (w v : World) (k : NamedAreSent w) where
       flies (l, j, IsMark marks is from to names) = (l, g.stays l n.member j to, IsMark marks is from to names)
       flies (l, j, IsMarked ids is from to names) = (l, g.stays l t j to, IsMarked ids is from to names)
 
--- two targets are one whose names are
-pub target-number : (t u : ℕ) → target t ≡ target u → t ≡ u
-target-number t u same = ap (λ a. a.number) same
-
 -- a Mark that is heard is answered with all that it names
 abbrev pub MarksAreAnswered : ActorId → Message → List Post → Type 0
 MarksAreAnswered from (message.Mark inc marks) posts = Has (record { to = from; message = message.Marked inc (attempts_of marks) }) posts
@@ -253,11 +250,11 @@ module _ (w v : World) (t : ℕ) (s z : TargetState) (l : Letter) (posts : List 
   -- what it hears isn't an answer, or is one of its own naming
   heard-on : (u : ℕ) (n : Naming) → (u ≡ t → IsUnanswered l.from n l.message) → IsNamingOf u n l → Flies v (IsNamingOf u n)
   heard-on u n open' (IsMark marks is from goes names) =
-      let own : n.member ≡ t = target-number n.member t (sym goes ∙ to) in
+      let own : n.member ≡ t = target-is n.member t (sym goes ∙ to) in
       let p : Post = record { to = l.from; message = message.Marked n.inc (attempts_of marks) } in
       (letter_of (target t) p, g.posted p (subst (λ q. MarksAreAnswered l.from q posts) is answered), IsMarked (attempts_of marks) refl (ap target (sym own)) from names)
   heard-on u n open' (IsMarked ids is from goes names) =
-      let own : u ≡ t = target-number u t (sym goes ∙ to) in
+      let own : u ≡ t = target-is u t (sym goes ∙ to) in
       let none : IsUnanswered l.from n (message.Marked n.inc ids) = subst (λ q. IsUnanswered l.from n q) is (open' own) in
       absurd (none (ap (λ a. a.number) (sym from)) refl names)
 

@@ -1,5 +1,5 @@
 -- Of each Fetch that waits, the question what became of the attempt that it waits for is in flight, or the answer.
-use Rattle.std.specs.Prelude.{ℕ, ◌≡◌, ◌⊎◌, ◌&&◌, Bool, true, false, not, List, [], ◌∷◌, ◌++◌, filter, slice_get, Option, Some, None, if◌then◌else◌, refl}
+use Rattle.std.specs.Prelude.{ℕ, ◌≡◌, ◌⊎◌, ◌&&◌, Bool, true, not, List, [], ◌∷◌, ◌++◌, filter, slice_get, Option, Some, None, refl}
 use Rattle.std.proofs.Common.{sym, ◌∙◌, ap, subst, inl, inr}
 use Rattle.daos_base.specs.declared.entry.Verdict.{Verdict}
 use Rattle.daos_base.specs.declared.entry.Verdict.TheVariants as verdict
@@ -18,7 +18,7 @@ use Rattle.dtx_base.specs.Joining.{MemberOf, asker, is_asker, is_not_waiting, is
 use Rattle.dtx_base.specs.Leading.{query_answer, to_target}
 use Rattle.world_asks.specs.Asks.{Flies, IsParkedRight, IsQuery, IsQueryOf, IsVerdict, ParkedAreAsked}
 use Rattle.world_asks.specs.Moving.{ClientMoves, TargetMoves, goes-moves, heard-moves, all-stay, hears-moves, idle-moves, now-here, same-there}
-use Rattle.world_asks.specs.NamedLaws.{target-number}
+use Rattle.world_attempts.specs.MarkTurns.{target-is}
 use Rattle.world_attempts.specs.Turning.{one-or_another}
 use Rattle.world_base.specs.declared.did.Did.{Did}
 use Rattle.world_base.specs.declared.letter.Letter.{Letter}
@@ -30,9 +30,8 @@ use Rattle.world_base.specs.declared.world.World.{World}
 use Rattle.world_events.specs.Events.{ByClient, ByTarget, Event, Rules, ToClient, ToTarget, kept, target_after, target_plan}
 use Rattle.world_events.specs.Letters.{letter_of, target}
 use Rattle.world_turns.specs.Changes.{Kept}
-use Rattle.world_turns.specs.MemoryLaws.{ack-leaves, commit-leaves, idle-leaves, mark-leaves, marked-leaves, prepare-leaves, query-leaves}
+use Rattle.world_turns.specs.MemoryLaws.{ack-leaves, commit-leaves, idle-leaves, mark-leaves, marked-leaves, member-then, prepare-leaves, query-leaves}
 use Rattle.world_turns.specs.Reads as read
-use Rattle.world_turns.specs.Requests.{with_ticks}
 use Rattle.world_turns.specs.Roles.{leader_at, member_at}
 use Rattle.world_turns.specs.TargetTurns.{Hears, IdlesWhole, commit_request, fetch_request, prepare_request}
 use Rattle.world_turns.specs.Turns.{Whole}
@@ -69,23 +68,15 @@ later-asked xs ys p k = record { of = k.of; fetch = k.fetch; leader = k.leader; 
 early-asked : (xs ys : List Post) (p : Parked) → IsNewlyParked xs p → IsNewlyParked (xs ++ ys) p
 early-asked xs ys p k = record { of = k.of; fetch = k.fetch; leader = k.leader; sent = has-left xs ys (to_target k.leader (message.Query p.on (Some k.of))) k.sent }
 
--- a Fetch may be parked
-then-same : (q : FetchRequest) (e : Epoch) (decided : List AttemptId) (m : TargetMemory) → (read.memory_then q e decided m).member ≡ m.member
-then-same q e decided m = by q.snapshot
-  where
-    by : (s : Bool) → (if s then m else with_ticks e m).member ≡ m.member
-    by true = refl
-    by false = refl
-
 fetch-parks : (t : TargetPlan) (m : TargetMemory) (reading : ℕ) (q : FetchRequest) (from : ActorId) (s : read.FetchStage) (k : Kept) (left : TargetMemory × Did)
     → read.FetchEnds t m reading q from s k left → ParksAfter m.member.parked (λ p. Unit {0}) left.0 left.1.posts
 fetch-parks t m reading q from s k left (read.IsSpent j z live none is) p i = parks-same m left.0 left.1.posts (λ p. Unit {0}) (ap (λ x. x.0.member.parked) is) (λ p. tt) p i
 fetch-parks t m reading q from s k left (read.IsRefused j e decided c z why is) p i =
-    parks-same m left.0 left.1.posts (λ p. Unit {0}) (ap (λ x. x.0.member.parked) is ∙ ap (λ x. x.parked) (then-same q e decided m)) (λ p. tt) p i
+    parks-same m left.0 left.1.posts (λ p. Unit {0}) (ap (λ x. x.0.member.parked) is ∙ ap (λ x. x.parked) (member-then q e decided m)) (λ p. tt) p i
 fetch-parks t m reading q from s k left (read.MeetsUnresolved j e decided a z none unsettled other own is) p i =
-    parks-same m left.0 left.1.posts (λ p. Unit {0}) (ap (λ x. x.0.member.parked) is ∙ ap (λ x. x.parked) (then-same q e decided m)) (λ p. tt) p i
+    parks-same m left.0 left.1.posts (λ p. Unit {0}) (ap (λ x. x.0.member.parked) is ∙ ap (λ x. x.parked) (member-then q e decided m)) (λ p. tt) p i
 fetch-parks t m reading q from s k left (read.IsServed j e decided b z none ok is) p i =
-    parks-same m left.0 left.1.posts (λ p. Unit {0}) (ap (λ x. x.0.member.parked) is ∙ ap (λ x. x.parked) (then-same q e decided m)) (λ p. tt) p i
+    parks-same m left.0 left.1.posts (λ p. Unit {0}) (ap (λ x. x.0.member.parked) is ∙ ap (λ x. x.parked) (member-then q e decided m)) (λ p. tt) p i
 fetch-parks t m reading q from s k left (read.IsParked j e decided a leader z none unsettled other is) p i =
     elim (has-cases m.member.parked (record { on = a; leader = leader; ask = read.fetch_at q e } ∷ []) p (subst (λ x. Has p x.0.member.parked) is i)) [
       | inl old ↦ inl (old, tt)
@@ -201,7 +192,7 @@ module _ (w v : World) (t : ℕ) (s z : TargetState) (l : Letter) (posts : List 
       let p : Post = record { to = l.from; message = message.Verdict x ask a.0 a.1 } in
       (letter_of (target t) p, g.posted p a.2, IsVerdict a.0 a.1 refl from)
   heard-on m x ask open' (IsVerdict inc said is goes) =
-      let own : m ≡ t = target-number m t (sym goes ∙ to) in
+      let own : m ≡ t = target-is m t (sym goes ∙ to) in
       let none : IsOpenStill x ask (message.Verdict x ask inc said) = subst (λ q. IsOpenStill x ask q) is (open' own) in
       absurd (none refl refl)
 

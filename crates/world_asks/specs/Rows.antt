@@ -18,6 +18,7 @@ use Rattle.dtx_base.specs.Leading.{LeaderOf, LeaderStep, ack_heard, answer_heard
 use Rattle.dtx_base.specs.Members.{are_all_counted, has_target, is_other_member, other_members, with_target}
 use Rattle.dtx_base.specs.Rows.{is_empty, row_of, with_row, without_row}
 use Rattle.dtx_base.specs.RowLaws.{row-is, row-map, row-with, row-without}
+use Rattle.world_attempts.specs.AckTurns.{counted-same}
 use Rattle.world_attempts.specs.MemberBits.{has-none}
 use Rattle.world_attempts.specs.Stored.{row-gone, row-new}
 use Rattle.world_attempts.specs.Turning.{one-or_other}
@@ -45,13 +46,6 @@ gone-rows a rows x u at = elim (one-or_other x a) [
   | inr apart ↦ sym (row-without undecided_attempt x a rows apart) ∙ at
 ]
 
-same-counted : (a : AttemptId) (t : ℕ) (u : Undecided) → undecided_attempt (counted_at a t u) ≡ undecided_attempt u
-same-counted a t u = by (same_attempt u.attempt a)
-  where
-    by : (s : Bool) → undecided_attempt (if s then record u { counted = with_target u.counted t } else u) ≡ undecided_attempt u
-    by true = refl
-    by false = refl
-
 mapped-row : (f : Undecided → Undecided) (o : Option Undecided) (u : Undecided) → option_map f o ≡ Some u → (z : Undecided) × (o ≡ Some z) × (f z ≡ u)
 mapped-row f None u h = let no : ⊥ = cc in absurd no
 mapped-row f (Some z) u h = (z, refl, cc)
@@ -77,7 +71,7 @@ counted-rows t a e own l led row lacks = record { rows = rows; down = refl }
     rows : (x : AttemptId) (u : Undecided) → row_of undecided_attempt x (map (counted_at a t) l.memory.undecided) ≡ Some u
         → (row_of undecided_attempt x l.memory.undecided ≡ Some u) ⊎ ((e : Entry) × (entry_led x l ≡ Some e) × IsLacking e u)
     rows x u at =
-        let m = mapped-row (counted_at a t) (row_of undecided_attempt x l.memory.undecided) u (sym (row-map undecided_attempt (counted_at a t) (same-counted a t) x l.memory.undecided) ∙ at) in
+        let m = mapped-row (counted_at a t) (row_of undecided_attempt x l.memory.undecided) u (sym (row-map undecided_attempt (counted_at a t) (counted-same a t) x l.memory.undecided) ∙ at) in
         at-row x u m.0 m.1 (same_attempt m.0.attempt a) refl m.2
 
 ok-leads : (t : ℕ) (a : AttemptId) (e : Entry) (u : Undecided) (l : LeaderOf) → entry_led a l ≡ Some e → undecided_of a l ≡ Some u → LeadsOn l (ok_heard t a e u l)

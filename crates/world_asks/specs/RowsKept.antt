@@ -20,14 +20,13 @@ use Rattle.dtx_base.specs.Members.{has_target, other_members}
 use Rattle.dtx_base.specs.Rows.{row_of}
 use Rattle.world_asks.specs.Asks.{RowsWait}
 use Rattle.world_asks.specs.Moving.{ClientMoves, TargetMoves, goes-moves, heard-moves, hears-moves, idle-moves, now-here, same-there}
-use Rattle.world_asks.specs.NamedLaws.{target-number}
 use Rattle.world_asks.specs.Rows.{IsLacking, LeadsOn, ack-leads, begun-rows}
 use Rattle.world_attempts.specs.Asked.{AskedRight}
 use Rattle.world_attempts.specs.Attempts.{Attempts, entry_in, leader_of, members_of, others_of, row_at, row_in}
 use Rattle.world_attempts.specs.Beginning.{unborn-row}
 use Rattle.world_attempts.specs.Counting.{has-taken}
 use Rattle.world_attempts.specs.History.{History}
-use Rattle.world_attempts.specs.MarkTurns.{led-found}
+use Rattle.world_attempts.specs.MarkTurns.{led-found, target-is}
 use Rattle.world_attempts.specs.MemberBits.{others-same}
 use Rattle.world_attempts.specs.Turning.{one-or_another}
 use Rattle.world_base.specs.declared.did.Did.{Did}
@@ -173,7 +172,7 @@ module _ (r : Rules) (h : History) (w v : World) (Q : AskedRight r h w) (A : Att
       others-same r x e its.leader its.members
   its-others x e (message.Commit y ep first tracker ws) is new =
       let k = Q.commits g.l y ep first tracker ws (has-taken w.messages g.l g.rest g.takes) is in
-      let leads : g.t ≡ leader_of r y = target-number g.t (leader_of r y) (sym g.to_it ∙ k.receiver) in
+      let leads : g.t ≡ leader_of r y = target-is g.t (leader_of r y) (sym g.to_it ∙ k.receiver) in
       let members : bits_of (writes_members ws r.script.targets) ≡ members_of r y = ap (λ z. bits_of (writes_members z r.script.targets)) k.writes in
       others-same r x e (ap (λ z. z.leader) new.1.1 ∙ leads ∙ ap (leader_of r) (sym new.0)) (ap (λ z. z.members) new.1.1 ∙ members ∙ ap (members_of r) (sym new.0))
   its-others x e said is new = absurd new

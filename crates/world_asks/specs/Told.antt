@@ -119,7 +119,7 @@ none-still w v m x same k e at = k e (sym (entry-still w v m x same) ∙ at)
 held-still : (w v : World) (m : ℕ) (x : AttemptId) → slice_get v.targets m ≡ slice_get w.targets m → IsHeld w m x → IsHeld v m x
 held-still w v m x same k = record { entry = k.entry; found = entry-still w v m x same ∙ k.found }
 
-no-client : (n t : ℕ) (a : ActorId) → a ≡ client n → a ≡ target t → ⊥
+pub no-client : (n t : ℕ) (a : ActorId) → a ≡ client n → a ≡ target t → ⊥
 no-client n t a one other = let no : ⊥ = cc (ap (λ z. z.client) (sym one ∙ other)) in no
 
 pub client-leaves : (r : Rules) (h later : History) (w v : World) → ((x : AttemptId) → Aborted h x → Aborted later x) → Attempts r later v → ClientMoves w v → LeavesTold r h later w v

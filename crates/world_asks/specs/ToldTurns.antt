@@ -23,7 +23,6 @@ use Rattle.world_asks.specs.Entries.{BringsNot, EndsNot, IsKept, Unprepared, hea
 use Rattle.world_asks.specs.InquiryLaws.{IsInquired, inquired-is}
 use Rattle.world_asks.specs.MarkLaws.{marked-unprepared}
 use Rattle.world_asks.specs.Moving.{all-stay, heard-moves, idle-moves}
-use Rattle.world_asks.specs.NamedLaws.{target-number}
 use Rattle.world_asks.specs.Refusing.{Refuses, ack-kept, refusal-told}
 use Rattle.world_asks.specs.Sending.{IsCommitOf, MaySend, hears-sends}
 use Rattle.world_asks.specs.Told.{IsPrepareOf, IsRefused, LeavesTold, held-or, none-or, none-there, prepare-is, prepare-of}
@@ -32,7 +31,7 @@ use Rattle.world_attempts.specs.Attempts.{Attempts, IsBorn, IsHeld, IsOther, IsI
 use Rattle.world_attempts.specs.Beginning.{unborn}
 use Rattle.world_attempts.specs.Counting.{has-taken}
 use Rattle.world_attempts.specs.History.{Aborted, GrowsBy, History, Tells}
-use Rattle.world_attempts.specs.MarkTurns.{led-found}
+use Rattle.world_attempts.specs.MarkTurns.{led-found, target-is}
 use Rattle.world_attempts.specs.MemberBits.{other-no_leader, others-same}
 use Rattle.world_base.specs.declared.did.Did.{Did}
 use Rattle.world_base.specs.declared.letter.Letter.{Letter}
@@ -66,7 +65,7 @@ module _ (r : Rules) (h later : History) (w v : World) (Q : AskedRight r h w) (A
 
   -- a member of an attempt isn't its leader
   no-member : (x : AttemptId) (m : ℕ) → IsOther r x m → g.l.to ≡ target m → g.t ≡ leader_of r x → ⊥
-  no-member x m other to leads = other-no_leader r x m other (target-number m g.t (sym to ∙ g.to_it) ∙ leads)
+  no-member x m other to leads = other-no_leader r x m other (target-is m g.t (sym to ∙ g.to_it) ∙ leads)
 
   commit-new : (x : AttemptId) (ep first : Option Epoch) (tracker : Epoch) (ws : List MinorWrite) → g.l.message ≡ message.Commit x ep first tracker ws → IsCommitNew r h w g.l.to x ep ws
   commit-new x ep first tracker ws is = Q.commits g.l x ep first tracker ws taken is
@@ -149,7 +148,7 @@ module _ (r : Rules) (h later : History) (w v : World) (Q : AskedRight r h w) (A
   brings-member : (x : AttemptId) → IsOther r x g.t → NonePrepares w g.t x → (said : Message) → g.l.message ≡ said → BringsNot x said
   brings-member x other heard (message.Commit y ep first tracker ws) is = λ same.
       let new = commit-new y ep first tracker ws is in
-      other-no_leader r x g.t other (target-number g.t (leader_of r y) (sym g.to_it ∙ new.receiver) ∙ ap (leader_of r) (sym same))
+      other-no_leader r x g.t other (target-is g.t (leader_of r y) (sym g.to_it ∙ new.receiver) ∙ ap (leader_of r) (sym same))
   brings-member x other heard (message.Prepare e first ws inc) is = λ same. heard g.l taken (prepare-of g.t x g.l e first ws inc is (sym same) g.to_it)
   brings-member x other heard said is = tt
 
@@ -194,7 +193,7 @@ module _ (r : Rules) (h later : History) (w v : World) (Q : AskedRight r h w) (A
     where
       mark-taken : (m : ℕ) (x : AttemptId) → IsMarkOf m x g.l → NonePrepared v m x
       mark-taken m x k =
-          let own : m ≡ g.t = target-number m g.t (sym k.to ∙ g.to_it) in
+          let own : m ≡ g.t = target-is m g.t (sym k.to ∙ g.to_it) in
           subst (λ n. NonePrepared v n x) (sym own)
           (none-there w v g.t g.s (target_after g.s g.new g.memory) (Some g.l) g.did.posts (heard-moves r w v g) x (mark-heard x (subst (λ n. IsMarkOf n x g.l) own k)))
 

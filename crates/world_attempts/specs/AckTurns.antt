@@ -37,7 +37,7 @@ use Rattle.world_attempts.specs.MemberBits.{is-other_same, others-same}
 use Rattle.world_attempts.specs.Overs.{Over, over-asks, over-letters, over-turned}
 use Rattle.world_attempts.specs.Settling.{RowsStay, SameMail}
 use Rattle.world_attempts.specs.Stepping.{Goes, LettersCome, attempts-step}
-use Rattle.world_attempts.specs.Stored.{among-more, among-new, entry-aborted, entry-aborted_own, rising-aborted, row-gone, row-other, rows-rising, inc-settled}
+use Rattle.world_attempts.specs.Stored.{among-more, among-new, rising-aborted, row-gone, row-other, rows-rising}
 use Rattle.world_attempts.specs.Turning.{Stays, Turned, entry-elsewhere, entry-now, entry-stays, inc-stays, known-elsewhere, known-now, known-stays, one-or_another, row-elsewhere, row-now, row-stays}
 use Rattle.world_attempts.specs.Working.{AreDull, at_work, dull-no_prepare, dull-not_asking, is_dull}
 use Rattle.world_base.specs.declared.did.Did.{Did}
@@ -52,8 +52,10 @@ use Rattle.world_turns.specs.Acks.{AckEnds, AckNext, AckStage, Aborts, Counts, F
 use Rattle.world_turns.specs.Changes.{Change, Kept, Steps}
 use Rattle.world_turns.specs.Roles.{leader_at, leads_on}
 use Rattle.daos_laws.specs.ServeLaws.{all-has}
+use Rattle.world_turns.specs.ChangeLaws.{incarnation-settled}
+use Rattle.world_turns.specs.EntryLaws.{entry-aborted, entry-aborted_other}
 
-counted-same : (a : AttemptId) (t : ℕ) (u : Undecided) → undecided_attempt (counted_at a t u) ≡ undecided_attempt u
+pub counted-same : (a : AttemptId) (t : ℕ) (u : Undecided) → undecided_attempt (counted_at a t u) ≡ undecided_attempt u
 counted-same a t u = by (same_attempt u.attempt a)
   where
     by : (s : Bool) → undecided_attempt (if s then record u { counted = with_target u.counted t } else u) ≡ undecided_attempt u
@@ -429,13 +431,13 @@ module _ (r : Rules) (h later : History) (w v : World) (t : ℕ) (s : TargetStat
 
             stays : (x : AttemptId) → (x ≡ a → ⊥) → Stays (target_after s k m) z x
             stays x off = record {
-              entry = ap (λ d. entry_of d x) durable ∙ entry-aborted a k.durable x off;
+              entry = ap (λ d. entry_of d x) durable ∙ entry-aborted_other a k.durable x off;
               row = ap (row_of undecided_attempt x) undecided ∙ row-without undecided_attempt x a m.leader.undecided off;
               known = ap (is_among x) decided;
             }
 
             none-left : entry_at v (leader_of r a) a ≡ None
-            none-left = subst (λ n. entry_at v n a ≡ None) leads (entry-now (V k) v t (target_after s k m) z turn a ∙ ap (λ d. entry_of d a) durable ∙ entry-aborted_own a k.durable)
+            none-left = subst (λ n. entry_at v n a ≡ None) leads (entry-now (V k) v t (target_after s k m) z turn a ∙ ap (λ d. entry_of d a) durable ∙ entry-aborted a k.durable)
 
             no_row : (n : ℕ) (q : Undecided) → row_at v n a ≡ Some q → ⊥
             no_row n q at = elim (one-or_another n t) [
@@ -508,7 +510,7 @@ module _ (r : Rules) (h later : History) (w v : World) (t : ℕ) (s : TargetStat
   ack-done one b k p st (Refuses e u how awaited refuses on) refused same over g =
       ack-refuses b p (target_after s k (leads_on st m)) (ended u.client a e.epoch how ++ map (abort_to b.durable.incarnation a) (other_members e)) over
       (letters-dull (ended u.client a e.epoch how ++ map (abort_to b.durable.incarnation a) (other_members e)) (ended-dull u.client a e.epoch how (map (abort_to b.durable.incarnation a) (other_members e)) (aborts-dull b.durable.incarnation (other_members e))))
-      (ap (λ d. d.incarnation) (refused on) ∙ inc-settled a Abort b.durable) e u how awaited refuses g refl (refused on) refl refl
+      (ap (λ d. d.incarnation) (refused on) ∙ incarnation-settled a Abort b.durable) e u how awaited refuses g refl (refused on) refl refl
 
   pub ack-ends : ((e f : Epoch) → Has (a, e) w.issued → Has (a, f) w.issued → e ≡ f) → (stage : AckStage) (k : Kept) (after : TargetMemory × Did) → AckEnds m stage k after → AtAck stage k → Over w v t (target_after s k after.0) l rest (letters_of (target t) after.1.posts)
       → GrowsBy h after.1.posts later → Attempts r later v

@@ -29,12 +29,13 @@ use Rattle.world_base.specs.declared.world.World.{World}
 use Rattle.world_events.specs.Events.{Rules, target_after, target_plan}
 use Rattle.world_events.specs.Letters.{target}
 use Rattle.world_events.specs.StepLaws.{set-here}
+use Rattle.world_talks.specs.LeaveLaws.{marked-is}
 use Rattle.world_turns.specs.Acks.{AllConfirmed, Confirms, MarkedEnds, MarkedNext, PassesBy, to_confirm}
+use Rattle.world_turns.specs.ChangeLaws.{incarnation-settled}
 use Rattle.world_turns.specs.Changes.{Change, Kept, Steps}
 use Rattle.world_turns.specs.Requests.{nothing_follows}
 use Rattle.world_turns.specs.Roles.{leader_at, leads_on}
 use Rattle.world_turns.specs.Verdicts.{Answers, IsTold, QueryEnds, QueryNext, QueryStage, verdict_message}
-use Rattle.world_attempts.specs.Stored.{inc-settled}
 
 -- where an entry may be confirmed, there is one, and it is committed
 confirmable : (member : ℕ) (o : Option Entry) → may_confirm member o ≡ true → (e : Entry) × (o ≡ Some e) × (e.committed ≡ true)
@@ -47,10 +48,6 @@ some-to_confirm inc ids d x i = by (inc == d.incarnation) i
     by : (b : Bool) → Has x (if b then ids else []) → Has x ids
     by true j = j
     by false j = absurd j
-
-marked-undecided : (t inc : ℕ) (ids : List AttemptId) (l : LeaderOf) → (marked_heard t inc ids l).leader.memory.undecided ≡ l.memory.undecided
-unfolding marked_heard
-marked-undecided t inc ids l = refl
 
 marked-decided : (t inc : ℕ) (ids : List AttemptId) (l : LeaderOf) → (marked_heard t inc ids l).leader.memory.decided ≡ l.memory.decided
 unfolding marked_heard
@@ -108,7 +105,7 @@ module _ (r : Rules) (h : History) (w : World) (t : ℕ) (s : TargetState) (here
       ]
 
       mid : Midway (V k2) (V n) t (target_after s k2 m) (target_after s n m)
-      mid = work-mid w t s (target_after s k2 m) (target_after s n m) [] here (ap (λ d. d.incarnation) steps.0 ∙ inc-settled a (Confirm l.from.number) k2.durable)
+      mid = work-mid w t s (target_after s k2 m) (target_after s n m) [] here (ap (λ d. d.incarnation) steps.0 ∙ incarnation-settled a (Confirm l.from.number) k2.durable)
 
       on : Attempts r h (V n)
       on = own-confirms r h (V k2) (V n) t (target_after s k2 m) (target_after s n m) mid a p.on refl l.from.number steps.0 leads c.0 found c.2 settled-there
@@ -118,7 +115,7 @@ module _ (r : Rules) (h : History) (w : World) (t : ℕ) (s : TargetState) (here
   marked-ends inc ids left k after (AllConfirmed k2 after2 ends) p =
       left-is r h w t s here [] k2 (leads_on (marked_heard l.from.number inc ids (leader_at (target_plan r t) m k2.durable)) m) nothing_follows after2 ends
       (work-keeps r h w t s here (target_after s k2 m) (target_after s k2 (leads_on (marked_heard l.from.number inc ids (leader_at (target_plan r t) m k2.durable)) m)) [] refl refl
-      (marked-undecided l.from.number inc ids (leader_at (target_plan r t) m k2.durable)) (marked-decided l.from.number inc ids (leader_at (target_plan r t) m k2.durable)) p.on)
+      (marked-is l.from.number inc ids (leader_at (target_plan r t) m k2.durable)) (marked-decided l.from.number inc ids (leader_at (target_plan r t) m k2.durable)) p.on)
       (λ q i. absurd i)
 
   pub marked-begins : (inc : ℕ) (ids : List AttemptId) (k : Kept) → Attempts r h (V k) → AtMarked ids (to_confirm inc ids k.durable) k

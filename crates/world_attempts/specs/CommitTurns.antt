@@ -39,7 +39,7 @@ use Rattle.world_attempts.specs.OtherLaws.{asking-born, is_same, other-once, unb
 use Rattle.world_attempts.specs.Overs.{Over, over-asks, over-letters, over-turned, prepare-asks}
 use Rattle.world_attempts.specs.Settling.{SameMail}
 use Rattle.world_attempts.specs.Stepping.{Goes, LettersCome, attempts-step}
-use Rattle.world_attempts.specs.Stored.{among-more, among-new, entry-leased, entry-prepared, rising-prepared, row-new, rows-rising, inc-prepared}
+use Rattle.world_attempts.specs.Stored.{among-more, among-new, rising-prepared, row-new, rows-rising}
 use Rattle.world_attempts.specs.Turning.{Stays, Turned, entry-elsewhere, entry-now, entry-stays, inc-stays, known-elsewhere, known-now, known-stays, row-elsewhere, row-now, row-stays}
 use Rattle.world_attempts.specs.Working.{at_work, dull-not_asking, is_dull}
 use Rattle.world_base.specs.declared.did.Did.{Did}
@@ -50,8 +50,10 @@ use Rattle.world_base.specs.declared.world.World.{World}
 use Rattle.world_events.specs.Events.{Rules, listed, target_after, target_plan}
 use Rattle.world_events.specs.Letters.{Takes, letter_of, letters_of, target}
 use Rattle.world_events.specs.StepLaws.{set-here}
+use Rattle.world_turns.specs.ChangeLaws.{incarnation-prepared}
 use Rattle.world_turns.specs.Changes.{Change, Kept, Steps}
 use Rattle.world_turns.specs.Commits.{Asked, Checking, CommitEnds, CommitNext, CommitStage, ExtendsLease, HasBegun, HasEpoch, HasNoSpace, IsCovered, IsRefused, IsSpent, Known, Stored, Stores, begins_at, bits_of, led_entry, own_writes}
+use Rattle.world_turns.specs.EntryLaws.{entry-leased, entry-prepared_other}
 use Rattle.world_turns.specs.Requests.{issued_for, request_epoch, with_ticks}
 use Rattle.world_turns.specs.Roles.{leader_at, leads_on}
 use Rattle.world_turns.specs.TargetTurns.{commit_request}
@@ -255,7 +257,7 @@ module _ (r : Rules) (h later : History) (w v : World) (t : ℕ) (s : TargetStat
 
       module _ (e : Epoch) (from : ActorId) (issued : Has (x, e) v.issued) (durable : z.durable ≡ prepared (entry e) (own_writes (target_plan r t) ws) k.durable) where
         others-stay : (y : AttemptId) → (y ≡ x → ⊥) → entry_of z.durable y ≡ entry_of k.durable y
-        others-stay y off = ap (λ d. entry_of d y) durable ∙ entry-prepared (entry e) (own_writes (target_plan r t) ws) k.durable y off
+        others-stay y off = ap (λ d. entry_of d y) durable ∙ entry-prepared_other (entry e) (own_writes (target_plan r t) ws) k.durable y off
 
         now-leader : entry_at v (leader_of r x) x ≡ Some (first_entry r x e)
         now-leader =
@@ -430,11 +432,11 @@ module _ (r : Rules) (h later : History) (w v : World) (t : ℕ) (s : TargetStat
       → st ≡ (if c then begun_alone (entry e) from (leader_at (target_plan r t) m k.durable) else begun_with_others (entry e) first from ws (leader_at (target_plan r t) m k.durable))
       → Over w v t (target_after s k (leads_on st (with_ticks e m))) l rest (letters_of (target t) st.posts) → GrowsBy h st.posts later → Attempts r later v
   begun-done from e b k p now issued st true empty same over g =
-      commit-alone b p (target_after s k (leads_on st (with_ticks e m))) st.posts over (ap (λ d. d.incarnation) now ∙ inc-prepared (entry e) (own_writes (target_plan r t) ws) b.durable) g e from issued now empty (ap (λ i. i.posts) same)
+      commit-alone b p (target_after s k (leads_on st (with_ticks e m))) st.posts over (ap (λ d. d.incarnation) now ∙ incarnation-prepared (entry e) (own_writes (target_plan r t) ws) b.durable) g e from issued now empty (ap (λ i. i.posts) same)
       (ap (λ i. i.leader.memory.undecided) same) (ap (λ i. i.leader.memory.decided) same)
   begun-done from e b k p now issued st false some same over g =
-      commit-asks b p (target_after s k (leads_on st (with_ticks e m))) st.posts over (ap (λ d. d.incarnation) now ∙ inc-prepared (entry e) (own_writes (target_plan r t) ws) b.durable) g e from issued now
-      (ap (λ i. i.posts) same ∙ ap (λ n. map (prepare_to r.script.targets n (entry e) first ws) (other_members (entry e))) (ap (λ d. d.incarnation) now ∙ inc-prepared (entry e) (own_writes (target_plan r t) ws) b.durable))
+      commit-asks b p (target_after s k (leads_on st (with_ticks e m))) st.posts over (ap (λ d. d.incarnation) now ∙ incarnation-prepared (entry e) (own_writes (target_plan r t) ws) b.durable) g e from issued now
+      (ap (λ i. i.posts) same ∙ ap (λ n. map (prepare_to r.script.targets n (entry e) first ws) (other_members (entry e))) (ap (λ d. d.incarnation) now ∙ incarnation-prepared (entry e) (own_writes (target_plan r t) ws) b.durable))
       (ap (λ i. i.leader.memory.undecided) same) (ap (λ i. i.leader.memory.decided) same)
 
   begun-is : (from : ActorId) (e : Epoch) (k : Kept) → begins_at (target_plan r t) m (commit_request x ep first tracker ws) from e k.durable

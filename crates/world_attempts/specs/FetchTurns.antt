@@ -22,7 +22,7 @@ use Rattle.dtx_base.specs.Rows.{is_among, itself, row_key, row_of, without_row}
 use Rattle.world_attempts.specs.Attempts.{Attempts, IsItsEntry, IsOrdered, IsTrueOf, entry_in}
 use Rattle.world_attempts.specs.History.{History}
 use Rattle.world_attempts.specs.Small.{own-settles, small-quiet}
-use Rattle.world_attempts.specs.Stored.{among-has, inc-leased, inc-settled}
+use Rattle.world_attempts.specs.Stored.{among-has, inc-leased}
 use Rattle.world_attempts.specs.Working.{ArePlain, PostsTrue, at_work, is_plain, work-mid, work-sends}
 use Rattle.world_base.specs.declared.did.Did.{Did}
 use Rattle.world_base.specs.declared.request.FetchRequest.{FetchRequest}
@@ -33,6 +33,7 @@ use Rattle.world_base.specs.declared.world.World.{World}
 use Rattle.world_events.specs.Events.{Rules, target_after, target_plan}
 use Rattle.world_events.specs.Letters.{target}
 use Rattle.world_events.specs.StepLaws.{set-here}
+use Rattle.world_turns.specs.ChangeLaws.{incarnation-settled}
 use Rattle.world_turns.specs.Changes.{Change, Kept, Steps}
 use Rattle.world_turns.specs.Reads.{Asked, AtSnapshot, ExtendsLease, FetchEnds, FetchNext, FetchStage, HasEpoch, IsCovered, IsParked, IsRefused, IsServed, IsSpent, Known, MeetsUnresolved, Reading, SettlesOwn, asks_leader, memory_parked, memory_then, ticks_known}
 use Rattle.world_turns.specs.Requests.{with_ticks}
@@ -100,7 +101,7 @@ module _ (r : Rules) (h : History) (w : World) (t : ℕ) (s : TargetState) (here
   pub work-settles : (a : AttemptId) (k l : Kept) (m : TargetMemory) (decided rest : List AttemptId) (posts : List Post) → l.durable ≡ settled a Commit k.durable → rest ≡ without_row itself a decided → Has a decided
       → Attempts r h (at_work w t (target_after s k (with_unsettled decided m)) posts) → Attempts r h (at_work w t (target_after s l (with_unsettled rest m)) posts)
   work-settles a k l m decided rest posts is left among p =
-      own-settles r h (at_work w t z1 posts) (at_work w t z2 posts) t z1 z2 (work-mid w t s z1 z2 posts here (ap (λ d. d.incarnation) is ∙ inc-settled a Commit k.durable)) a p is refl left (among-has a decided among)
+      own-settles r h (at_work w t z1 posts) (at_work w t z2 posts) t z1 z2 (work-mid w t s z1 z2 posts here (ap (λ d. d.incarnation) is ∙ incarnation-settled a Commit k.durable)) a p is refl left (among-has a decided among)
     where
       z1 : TargetState
       z1 = target_after s k (with_unsettled decided m)

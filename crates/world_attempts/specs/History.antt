@@ -11,9 +11,8 @@ use Rattle.daos_laws.specs.Members.{Has}
 use Rattle.daos_messages.specs.declared.actor.ActorId.{ActorId}
 use Rattle.daos_messages.specs.declared.message.Message.TheVariants.{Ended}
 use Rattle.daos_messages.specs.declared.message.Post.{Post}
-use Rattle.daos_model.specs.Durables.{same_attempt}
 use Rattle.world_base.specs.declared.world.World.{World}
-use Rattle.world_events.specs.Events.{ByClient, ByTarget, Event, Rules, ToClient, ToTarget}
+use Rattle.world_events.specs.Events.{ByClient, ByTarget, Event, Rules, ToClient, ToTarget, is_issue_of}
 
 -- a read that a target served: for which attempt, operation and group, at which epoch, and what it answered
 pub record Served : Type 0 where
@@ -31,11 +30,8 @@ pub record History : Type 0 where
   pub aborted : List AttemptId
   pub served : List Served
 
-abbrev pub is_attempt : AttemptId → AttemptId × Epoch → Bool
-is_attempt x i = same_attempt i.0 x
-
 abbrev pub is_decided : History → AttemptId → Bool
-is_decided h x = list_any (is_attempt x) h.decided
+is_decided h x = list_any (is_issue_of x) h.decided
 
 -- one more attempt is decided, or aborted, or one more read served
 abbrev pub decides : History → AttemptId → Epoch → History

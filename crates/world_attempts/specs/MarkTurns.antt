@@ -19,7 +19,7 @@ use Rattle.world_attempts.specs.FetchTurns.{TurnLeft, answered, left-is, one-pla
 use Rattle.world_attempts.specs.History.{Aborted, History}
 use Rattle.world_attempts.specs.MemberBits.{other-no_leader}
 use Rattle.world_attempts.specs.Small.{Midway, other-aborts, other-commits, prepared-entry}
-use Rattle.world_attempts.specs.Stored.{entry-aborted, entry-committed, entry-committed_own, row-found, inc-settled}
+use Rattle.world_attempts.specs.Stored.{entry-committed, entry-committed_own, row-found}
 use Rattle.world_attempts.specs.Turning.{one-or_other}
 use Rattle.world_attempts.specs.Working.{at_work, work-mid}
 use Rattle.world_base.specs.declared.did.Did.{Did}
@@ -35,6 +35,8 @@ use Rattle.world_turns.specs.Changes.{Change, Kept, Steps}
 use Rattle.world_turns.specs.Marks.{AllMarked, MarkEnds, MarkNext, PassesBy, SettlesMarked, marked_step}
 use Rattle.world_turns.specs.Roles.{is_open_entry, is_prepared, leader_at}
 use Rattle.daos_laws.specs.EntryLaws.{found-has}
+use Rattle.world_turns.specs.ChangeLaws.{incarnation-settled}
+use Rattle.world_turns.specs.EntryLaws.{entry-aborted_other}
 
 -- ---- entries as a leader finds them
 
@@ -121,7 +123,7 @@ module _ (r : Rules) (h : History) (w : World) (t : ℕ) (s : TargetState) (here
     where
       stays : (c : Bool) → (x ≡ a → ⊥) → entry_of (settled a (marked_step c) d) x ≡ entry_of d x
       stays true apart = entry-committed a d x apart
-      stays false apart = entry-aborted a d x apart
+      stays false apart = entry-aborted_other a d x apart
 
   pub mark-step : (inc : ℕ) (marks : List (AttemptId × Bool)) → l.message ≡ message.Mark inc marks → (left : List (AttemptId × Bool)) (k : Kept) (o : Option Change) (next : List (AttemptId × Bool)) (n : Kept)
       → MarkNext left k o next → Steps o k n → AtMark marks left k → AtMark marks next n
@@ -136,7 +138,7 @@ module _ (r : Rules) (h : History) (w : World) (t : ℕ) (s : TargetState) (here
   }
     where
       mid : Midway (V k2) (V n) t (target_after s k2 m) (target_after s n m)
-      mid = work-mid w t s (target_after s k2 m) (target_after s n m) [] here (ap (λ d. d.incarnation) steps.0 ∙ inc-settled a (marked_step c) k2.durable)
+      mid = work-mid w t s (target_after s k2 m) (target_after s n m) [] here (ap (λ d. d.incarnation) steps.0 ∙ incarnation-settled a (marked_step c) k2.durable)
 
       by : (c : Bool) → Has (a, c) marks → n.durable ≡ settled a (marked_step c) k2.durable → Attempts r h (V n)
       by true i same =

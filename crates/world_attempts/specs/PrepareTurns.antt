@@ -27,7 +27,7 @@ use Rattle.world_attempts.specs.MemberBits.{other-no_leader}
 use Rattle.world_attempts.specs.Overs.{Over, ack-no_prepare, answer-asks, over-asks, over-letters, over-turned, prepare-asks, prepare-to}
 use Rattle.world_attempts.specs.Settling.{RowsStay, SameMail}
 use Rattle.world_attempts.specs.Stepping.{LettersCome, attempts-quiet, attempts-step}
-use Rattle.world_attempts.specs.Stored.{entry-prepared, rising-prepared, inc-prepared}
+use Rattle.world_attempts.specs.Stored.{rising-prepared}
 use Rattle.world_attempts.specs.Turning.{Stays, Turned, entry-elsewhere, entry-now, entry-stays, inc-stays, known-stays, row-stays}
 use Rattle.world_attempts.specs.Working.{at_work}
 use Rattle.world_base.specs.declared.did.Did.{Did}
@@ -38,7 +38,9 @@ use Rattle.world_base.specs.declared.world.World.{World}
 use Rattle.world_events.specs.Events.{Rules, target_after, target_plan}
 use Rattle.world_events.specs.Letters.{Takes, letters_of, target}
 use Rattle.world_events.specs.StepLaws.{set-here}
+use Rattle.world_turns.specs.ChangeLaws.{incarnation-prepared}
 use Rattle.world_turns.specs.Changes.{Change, Kept, Steps}
+use Rattle.world_turns.specs.EntryLaws.{entry-prepared_other}
 use Rattle.world_turns.specs.Prepares.{Checking, ExtendsLease, HasNoSpace, Heard, IsCovered, IsPrepared, IsRefused, PrepareEnds, PrepareNext, PrepareStage, Stored, Stores, acks}
 use Rattle.world_turns.specs.Requests.{with_ticks}
 use Rattle.world_turns.specs.TargetTurns.{prepare_request}
@@ -165,7 +167,7 @@ module _ (r : Rules) (h later : History) (w v : World) (t : ℕ) (s : TargetStat
         where
           stays : (x : AttemptId) → (x ≡ e.attempt → ⊥) → Stays (target_after s k m) z x
           stays x off = record {
-            entry = ap (λ d. entry_of d x) durable ∙ entry-prepared e ws k.durable x off;
+            entry = ap (λ d. entry_of d x) durable ∙ entry-prepared_other e ws k.durable x off;
             row = ap (λ q. row_of undecided_attempt x q.undecided) leader;
             known = ap (λ q. is_among x q.decided) leader;
           }
@@ -234,4 +236,4 @@ module _ (r : Rules) (h later : History) (w v : World) (t : ℕ) (s : TargetStat
       (subst (λ i. Over w v t (target_after s k2 i.0) l rest (letters_of (target t) i.1.posts)) ends over) (subst (λ i. GrowsBy h i.1.posts later) ends g) refl _ (λ same. let no : ⊥ = cc in no) refl refl refl
   prepare-ends opening stage k after (IsPrepared k2 after2 ends) p over g =
       prepare-stored p.before p.on (target_after s k2 (with_ticks e.epoch m)) None
-      (subst (λ i. Over w v t (target_after s k2 i.0) l rest (letters_of (target t) i.1.posts)) ends over) (subst (λ i. GrowsBy h i.1.posts later) ends g) (ap (λ d. d.incarnation) p.now ∙ inc-prepared e ws p.before.durable) refl p.now refl
+      (subst (λ i. Over w v t (target_after s k2 i.0) l rest (letters_of (target t) i.1.posts)) ends over) (subst (λ i. GrowsBy h i.1.posts later) ends g) (ap (λ d. d.incarnation) p.now ∙ incarnation-prepared e ws p.before.durable) refl p.now refl

@@ -20,11 +20,12 @@ use Rattle.world_attempts.specs.Frames.{same-itself}
 use Rattle.world_attempts.specs.History.{Aborted, Decided, History}
 use Rattle.world_attempts.specs.Settling.{GoesOn, RowsStay, SameMail, held-on, leader-confirms, leader-settles, member-aborts, member-goes_on, settled-on}
 use Rattle.world_attempts.specs.Stepping.{Goes, LettersCome, Spared, attempts-quiet, attempts-step}
-use Rattle.world_attempts.specs.Stored.{among-gone, among-other, entry-aborted, entry-aborted_own, entry-committed, entry-committed_own, entry-confirmed, entry-confirmed_own, rising-aborted, rising-committed, rising-confirmed}
+use Rattle.world_attempts.specs.Stored.{among-gone, among-other, entry-committed, entry-committed_own, entry-confirmed, entry-confirmed_own, rising-aborted, rising-committed, rising-confirmed}
 use Rattle.world_attempts.specs.Turning.{Stays, Turned, entry-before, entry-elsewhere, entry-now, known-before, known-elsewhere, known-now, known-stays, one-or_another, row-stays}
 use Rattle.world_base.specs.declared.target.TargetState.{TargetState}
 use Rattle.world_base.specs.declared.world.World.{World}
 use Rattle.world_events.specs.Events.{Rules}
+use Rattle.world_turns.specs.EntryLaws.{entry-aborted, entry-aborted_other}
 use Rattle.world_turns.specs.Roles.{is_open_entry, is_prepared}
 
 -- a step changes what one target keeps and knows
@@ -184,9 +185,9 @@ module _ (r : Rules) (h : History) (w v : World) (t : ℕ) (s z : TargetState) (
       -- another member takes its entry away
       pub other-aborts : z.durable ≡ settled a Abort s.durable → Aborted h a → Attempts r h v
       other-aborts durable gone =
-          attempts-step r h h w v t s z mid.turn a (λ x off. spared x (others-stay x (ap (λ d. entry_of d x) durable ∙ entry-aborted a s.durable x off)))
+          attempts-step r h h w v t s z mid.turn a (λ x off. spared x (others-stay x (ap (λ d. entry_of d x) durable ∙ entry-aborted_other a s.durable x off)))
           (record { decided = λ own d. d; aborted = λ own. own; held = λ u i. inr gone; settled = λ u i. inr gone })
-          (member-aborts r h h w v a t gone (same-itself h a) (mail a) rows-stay (entry-now w v t s z mid.turn a ∙ ap (λ d. entry_of d a) durable ∙ entry-aborted_own a s.durable) (entry-elsewhere w v t s z mid.turn a) (k.each a))
+          (member-aborts r h h w v a t gone (same-itself h a) (mail a) rows-stay (entry-now w v t s z mid.turn a ∙ ap (λ d. entry_of d a) durable ∙ entry-aborted a s.durable) (entry-elsewhere w v t s z mid.turn a) (k.each a))
           come (stays-ordered (subst (λ d. is_rising entry_key d.entries ≡ true) (sym durable) (rising-aborted a s.durable (k.ordered t s mid.turn.here).entries))) k
 
       -- its leader, which has committed it, confirms that a member has

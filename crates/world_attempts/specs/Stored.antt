@@ -3,11 +3,11 @@ use Rattle.std.specs.Prelude.{ℕ, ◌≡◌, ◌≢◌, Bool, true, false, ◌|
 use Rattle.std.specs.Option.{option_map}
 use Rattle.std.proofs.Common.{sym, ◌∙◌, ap, subst, inl, inr}
 use Rattle.daos_base.specs.declared.entry.Entry.{Entry}
-use Rattle.daos_base.specs.declared.entry.Settle.{Settle}
-use Rattle.daos_base.specs.declared.entry.Settle.TheVariants.{Commit, Abort, Confirm, Forget}
+use Rattle.daos_base.specs.declared.entry.Settle.TheVariants.{Commit, Abort, Confirm}
 use Rattle.daos_base.specs.declared.id.AttemptId.{AttemptId}
 use Rattle.daos_base.specs.declared.operation.MinorWrite.{MinorWrite}
 use Rattle.daos_laws.specs.DecidedLaws.{all-from_has}
+use Rattle.daos_laws.specs.EntryLaws.{key-is}
 use Rattle.daos_laws.specs.Members.{Has, any-has, has-any}
 use Rattle.daos_laws.specs.RisingLaws.{after-has}
 use Rattle.daos_model.specs.declared.durable.Durable.{Durable}
@@ -20,8 +20,9 @@ use Rattle.daos_model.specs.Ordered.{all_after, is_rising}
 use Rattle.daos_model.specs.OrderLaws.{before-itself, rising-filter, rising-map, rising-put}
 use Rattle.dtx_base.specs.LeaderLaws.{same-is}
 use Rattle.dtx_base.specs.Leading.{entry_attempt}
-use Rattle.dtx_base.specs.RowLaws.{other-is_not, row-is, row-map, row-with, row-without}
+use Rattle.dtx_base.specs.RowLaws.{other-is_not, row-is, row-map}
 use Rattle.dtx_base.specs.Rows.{is_among, is_attempt, itself, row_key, row_of, with_row, without_row}
+use Rattle.world_turns.specs.EntryLaws.{same-committed, same-confirmed}
 
 -- ---- rows of any kind
 
@@ -69,25 +70,6 @@ module _ {T : Type 0} (of : T → AttemptId) where
       by : (row_of of a rows ≡ None → ⊥) → (s : Bool) → same_attempt (of y) a ≡ s → ⊥
       by rest true own = let one : Some y ≡ None = sym (ap (λ (c : Bool). if c then Some y else row_of of a rows) own) ∙ none in (let no : ⊥ = cc in no)
       by rest false own = rest (sym (ap (λ (c : Bool). if c then Some y else row_of of a rows) own) ∙ none)
-
-abbrev first : List ℕ → ℕ
-first [] = 0
-first (n ∷ ns) = n
-
-abbrev second : List ℕ → ℕ
-second [] = 0
-second (n ∷ ns) = first ns
-
-abbrev third : List ℕ → ℕ
-third [] = 0
-third (n ∷ ns) = second ns
-
-abbrev made : ℕ → ℕ → ℕ → AttemptId
-made c d n = record { client = c; command = d; attempt = n }
-
--- attempts of one key are one
-pub key-is : (a b : AttemptId) → attempt_key a ≡ attempt_key b → a ≡ b
-key-is a b same = ap (λ c. made c a.command a.attempt) (ap first same) ∙ ap (λ d. made b.client d a.attempt) (ap second same) ∙ ap (λ n. made b.client b.command n) (ap third same)
 
 -- rows stay in order where one comes that wasn't there
 pub rows-rising : {T : Type 0} (of : T → AttemptId) (r : T) (rows : List T) → row_of of (of r) rows ≡ None → is_rising (row_key of) rows ≡ true → is_rising (row_key of) (with_row of r rows) ≡ true
@@ -164,65 +146,24 @@ pub inc-leased : (ticks : ℕ) (d : Durable) → (leased ticks d).incarnation �
 unfolding leased
 inc-leased ticks d = refl
 
-pub inc-prepared : (e : Entry) (ws : List MinorWrite) (d : Durable) → (prepared e ws d).incarnation ≡ d.incarnation
-unfolding prepared
-inc-prepared e ws d = refl
-
-pub inc-settled : (a : AttemptId) (step : Settle) (d : Durable) → (settled a step d).incarnation ≡ d.incarnation
-unfolding settled
-inc-settled a Commit d = refl
-inc-settled a Abort d = refl
-inc-settled a (Confirm t) d = refl
-inc-settled a Forget d = refl
-
-pub entry-leased : (ticks : ℕ) (d : Durable) (x : AttemptId) → entry_of (leased ticks d) x ≡ entry_of d x
-unfolding entry_of leased
-entry-leased ticks d x = refl
-
-pub entry-prepared : (e : Entry) (ws : List MinorWrite) (d : Durable) (x : AttemptId) → (x ≡ e.attempt → ⊥) → entry_of (prepared e ws d) x ≡ entry_of d x
-unfolding entry_of prepared
-entry-prepared e ws d x apart = row-with entry_attempt x e d.entries apart
-
-committed-same : (b : AttemptId) (e : Entry) → entry_attempt (committed_at b e) ≡ entry_attempt e
-committed-same b e = by (same_attempt e.attempt b)
-  where
-    by : (s : Bool) → entry_attempt (if s then record e { committed = true } else e) ≡ entry_attempt e
-    by true = refl
-    by false = refl
-
-confirmed-same : (b : AttemptId) (t : ℕ) (e : Entry) → entry_attempt (confirmed_at b t e) ≡ entry_attempt e
-confirmed-same b t e = by (same_attempt e.attempt b)
-  where
-    by : (s : Bool) → entry_attempt (if s then record e { confirmed = bit_or e.confirmed (2 ^ t) } else e) ≡ entry_attempt e
-    by true = refl
-    by false = refl
-
 pub entry-committed : (a : AttemptId) (d : Durable) (x : AttemptId) → (x ≡ a → ⊥) → entry_of (settled a Commit d) x ≡ entry_of d x
 unfolding entry_of settled
-entry-committed a d x apart = row-other entry_attempt (committed_at a) (committed-same a) x a (λ e off. ap (λ (b : Bool). if b then record e { committed = true } else e) off) apart d.entries
+entry-committed a d x apart = row-other entry_attempt (committed_at a) (same-committed a) x a (λ e off. ap (λ (b : Bool). if b then record e { committed = true } else e) off) apart d.entries
 
 pub entry-committed_own : (a : AttemptId) (d : Durable) (e : Entry) → entry_of d a ≡ Some e → entry_of (settled a Commit d) a ≡ Some (record e { committed = true })
 unfolding entry_of settled
 entry-committed_own a d e found =
-    row-map entry_attempt (committed_at a) (committed-same a) a d.entries ∙ ap (option_map (committed_at a)) found
+    row-map entry_attempt (committed_at a) (same-committed a) a d.entries ∙ ap (option_map (committed_at a)) found
     ∙ ap (λ (b : Bool). Some (if b then record e { committed = true } else e)) (row-is entry_attempt a d.entries e found)
-
-pub entry-aborted : (a : AttemptId) (d : Durable) (x : AttemptId) → (x ≡ a → ⊥) → entry_of (settled a Abort d) x ≡ entry_of d x
-unfolding entry_of settled
-entry-aborted a d x apart = row-without entry_attempt x a d.entries apart
-
-pub entry-aborted_own : (a : AttemptId) (d : Durable) → entry_of (settled a Abort d) a ≡ None
-unfolding entry_of settled
-entry-aborted_own a d = row-gone entry_attempt a d.entries
 
 pub entry-confirmed : (a : AttemptId) (t : ℕ) (d : Durable) (x : AttemptId) → (x ≡ a → ⊥) → entry_of (settled a (Confirm t) d) x ≡ entry_of d x
 unfolding entry_of settled
-entry-confirmed a t d x apart = row-other entry_attempt (confirmed_at a t) (confirmed-same a t) x a (λ e off. ap (λ (b : Bool). if b then record e { confirmed = bit_or e.confirmed (2 ^ t) } else e) off) apart d.entries
+entry-confirmed a t d x apart = row-other entry_attempt (confirmed_at a t) (same-confirmed a t) x a (λ e off. ap (λ (b : Bool). if b then record e { confirmed = bit_or e.confirmed (2 ^ t) } else e) off) apart d.entries
 
 pub entry-confirmed_own : (a : AttemptId) (t : ℕ) (d : Durable) (e : Entry) → entry_of d a ≡ Some e → entry_of (settled a (Confirm t) d) a ≡ Some (record e { confirmed = bit_or e.confirmed (2 ^ t) })
 unfolding entry_of settled
 entry-confirmed_own a t d e found =
-    row-map entry_attempt (confirmed_at a t) (confirmed-same a t) a d.entries ∙ ap (option_map (confirmed_at a t)) found
+    row-map entry_attempt (confirmed_at a t) (same-confirmed a t) a d.entries ∙ ap (option_map (confirmed_at a t)) found
     ∙ ap (λ (b : Bool). Some (if b then record e { confirmed = bit_or e.confirmed (2 ^ t) } else e)) (row-is entry_attempt a d.entries e found)
 
 -- entries stay in order
@@ -232,11 +173,11 @@ rising-prepared e ws d none rises = rows-rising entry_attempt e d.entries none r
 
 pub rising-committed : (a : AttemptId) (d : Durable) → is_rising entry_key d.entries ≡ true → is_rising entry_key (settled a Commit d).entries ≡ true
 unfolding settled
-rising-committed a d rises = rising-map entry_key (committed_at a) (λ e. ap attempt_key (committed-same a e)) d.entries ∙ rises
+rising-committed a d rises = rising-map entry_key (committed_at a) (λ e. ap attempt_key (same-committed a e)) d.entries ∙ rises
 
 pub rising-confirmed : (a : AttemptId) (t : ℕ) (d : Durable) → is_rising entry_key d.entries ≡ true → is_rising entry_key (settled a (Confirm t) d).entries ≡ true
 unfolding settled
-rising-confirmed a t d rises = rising-map entry_key (confirmed_at a t) (λ e. ap attempt_key (confirmed-same a t e)) d.entries ∙ rises
+rising-confirmed a t d rises = rising-map entry_key (confirmed_at a t) (λ e. ap attempt_key (same-confirmed a t e)) d.entries ∙ rises
 
 pub rising-aborted : (a : AttemptId) (d : Durable) → is_rising entry_key d.entries ≡ true → is_rising entry_key (settled a Abort d).entries ≡ true
 unfolding settled

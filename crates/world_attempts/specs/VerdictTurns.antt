@@ -25,10 +25,10 @@ use Rattle.world_base.specs.declared.target.TargetState.{TargetState}
 use Rattle.world_base.specs.declared.world.World.{World}
 use Rattle.world_events.specs.Events.{Rules, target_after, target_plan}
 use Rattle.world_events.specs.Letters.{target}
+use Rattle.world_turns.specs.ChangeLaws.{incarnation-settled}
 use Rattle.world_turns.specs.Changes.{Change, Kept, Steps}
 use Rattle.world_turns.specs.Roles.{is_prepared, joins_on, member_at}
 use Rattle.world_turns.specs.Verdicts.{AllTried, Freed, GoesOn, Heard, IsDone, SettlesBy, TriesNext, Trying, VerdictEnds, VerdictNext, VerdictStage, fetcher, settles_by, settling_change, step_by, step_if}
-use Rattle.world_attempts.specs.Stored.{inc-settled}
 
 -- ---- what a Verdict sets free
 
@@ -91,10 +91,10 @@ module _ (r : Rules) (h : History) (w : World) (t : ℕ) (s : TargetState) (here
         by true prepared verdict.Undecided z same = subst (λ i. Attempts r h (V i)) (sym same) p
         by true prepared verdict.Committed z made =
             let other : IsOther r a t = subst (λ q. IsOther r a q) (target-is z.way.member t (sym z.way.receiver ∙ to_it)) z.way.other in
-            other-commits r h (V k) (V n) t (target_after s k m) (target_after s n m) (work-mid w t s (target_after s k m) (target_after s n m) [] here (ap (λ d. d.incarnation) made.0 ∙ inc-settled a Commit k.durable)) a p refl made.0 other
+            other-commits r h (V k) (V n) t (target_after s k m) (target_after s n m) (work-mid w t s (target_after s k m) (target_after s n m) [] here (ap (λ d. d.incarnation) made.0 ∙ incarnation-settled a Commit k.durable)) a p refl made.0 other
             (λ same. other-no_leader r a t other (sym same)) z.fate.0 z.fate.1 prepared
         by true prepared verdict.Aborted z made =
-            other-aborts r h (V k) (V n) t (target_after s k m) (target_after s n m) (work-mid w t s (target_after s k m) (target_after s n m) [] here (ap (λ d. d.incarnation) made.0 ∙ inc-settled a Abort k.durable)) a p refl made.0 z.fate
+            other-aborts r h (V k) (V n) t (target_after s k m) (target_after s n m) (work-mid w t s (target_after s k m) (target_after s n m) [] here (ap (λ d. d.incarnation) made.0 ∙ incarnation-settled a Abort k.durable)) a p refl made.0 z.fate
 
     pub verdict-step : (reading : ℕ) (stage : VerdictStage) (k : Kept) (o : Option Change) (next : VerdictStage) (n : Kept) → VerdictNext (target_plan r t) m reading a ask v stage k o next → Steps o k n → AtVerdict stage k → AtVerdict next n
     verdict-step reading stage k o next n (SettlesBy k2 o2 by') steps p = (

@@ -1,6 +1,6 @@
 -- What a client does in a turn.
 use Rattle.std.specs.List.{list_any}
-use Rattle.std.specs.Prelude.{ℕ, map, filter, ◌≡◌, ◌+◌, ◌++◌, ◌-◌, Bool, true, false, ◌&&◌, not, nat_lt, nat_le, max, List, [], ◌∷◌, length, find, slice_get, slice_index_or, Option, Some, None, is_some, if◌then◌else◌}
+use Rattle.std.specs.Prelude.{ℕ, map, filter, ◌≡◌, ◌+◌, ◌++◌, ◌-◌, Bool, true, false, ◌&&◌, nat_lt, nat_le, max, List, [], ◌∷◌, length, find, slice_get, slice_index_or, Option, Some, None, is_some, if◌then◌else◌}
 use Rattle.daos_base.specs.declared.answer.Answer.{Answer}
 use Rattle.daos_base.specs.declared.answer.Answer.TheVariants as answer
 use Rattle.daos_base.specs.declared.epoch.Epoch.{Epoch}
@@ -18,7 +18,6 @@ use Rattle.daos_base.specs.declared.operation.Read.TheVariants.{Exists}
 use Rattle.daos_base.specs.declared.outcome.Cause.TheVariants.{Unresolved}
 use Rattle.daos_base.specs.declared.outcome.Outcome.{Outcome}
 use Rattle.daos_base.specs.declared.outcome.Outcome.TheVariants as outcome
-use Rattle.daos_base.specs.declared.path.Path.{Path}
 use Rattle.daos_base.specs.declared.report.Line.{Line}
 use Rattle.daos_base.specs.declared.report.Line.TheVariants.{Try}
 use Rattle.daos_base.specs.declared.script.Command.{Command}
@@ -30,7 +29,6 @@ use Rattle.daos_base.specs.Keys.{same_key}
 use Rattle.daos_base.specs.Operations.{read_path}
 use Rattle.daos_base.specs.Placement.{group_of, groups, writes_leader}
 use Rattle.daos_laws.specs.Groups.{join_two}
-use Rattle.daos_messages.specs.declared.actor.ActorId.{ActorId}
 use Rattle.daos_messages.specs.declared.message.Message.{Message, more_of-Message}
 use Rattle.daos_messages.specs.declared.message.Message.TheVariants as message
 use Rattle.daos_messages.specs.declared.message.Post.{Post}

@@ -1,17 +1,17 @@
 -- All that holds between any two events of a run holds at its beginning.
-use Rattle.std.specs.Prelude.{ℕ, zero, suc, ◌≡◌, ◌≤◌, ◌+◌, ◌||◌, ◌==◌, Bool, true, max, nat_le, nat_lt, List, [], ◌∷◌, map, filter, length, slice_get, Contains, All, Option, Some, None, refl}
+use Rattle.std.specs.Prelude.{ℕ, zero, suc, ◌≡◌, ◌≤◌, ◌+◌, ◌||◌, ◌==◌, true, max, nat_le, nat_lt, List, [], ◌∷◌, map, filter, length, slice_get, Contains, All, Some, None, refl}
 use Rattle.std.specs.List.{find}
 use Rattle.std.specs.Option.{option_map}
-use Rattle.std.proofs.Common.{inl, inr, sym, ◌∙◌, ap, subst, arith}
+use Rattle.std.proofs.Common.{inl, sym, ◌∙◌, ap, subst, arith}
 use Rattle.std.proofs.lemmas.Bool.Decides.{nat_tests}
 use Rattle.std.proofs.lemmas.List.Elements.{All-nil}
 use Rattle.daos_base.specs.declared.entry.Entry.{Entry}
-use Rattle.daos_base.specs.declared.epoch.Epoch.{Epoch}
 use Rattle.daos_base.specs.declared.id.AttemptId.{AttemptId}
 use Rattle.daos_base.specs.declared.id.ContId.{ContId}
 use Rattle.daos_base.specs.declared.report.Attempt.{Attempt}
 use Rattle.daos_base.specs.declared.script.Command.{Command}
 use Rattle.daos_laws.specs.Dated.{Dated, dated, dated_of, is_from}
+use Rattle.daos_laws.specs.Lists.{filter-all, none-in}
 use Rattle.daos_laws.specs.Matches.{Matches, counts_under}
 use Rattle.daos_laws.specs.Members.{Has, contains-from_has, has-from_contains, has-from_filter, has-from_map}
 use Rattle.daos_laws.specs.Targets.{is_own}
@@ -48,6 +48,7 @@ use Rattle.world_addresses.specs.AddressLaws.{addresses-begin}
 use Rattle.world_reads.specs.Transactions.{counts_by, transactions}
 use Rattle.world_verdicts.specs.TurnLaws.{verdicts-begin}
 use Rattle.daos_model.specs.FormLaws.{length-map}
+use Rattle.world_asks.specs.Entries.{mapped}
 use Rattle.world_reads.specs.Reads.{Reads}
 use Rattle.world_reads.specs.Versions.{Versions, VersionsStand, is_own_in, mark_of}
 use Rattle.world_talks.specs.ConversationLaws.{conversations-begin}
@@ -55,21 +56,10 @@ use Rattle.world_begins.specs.Begins.{IsBegun, IsSimple, OpensWith, first_client
 
 -- ---- lists
 
-none-in : {T : Type 0} (xs : List T) (x : T) → xs ≡ [] → Contains xs x → ⊥
-none-in xs x none i = has-from_contains [] x (subst (λ ys. Contains ys x) none i)
-
-pub filter-all : {T : Type 0} (t : T → Bool) (xs : List T) → ((x : T) → Has x xs → t x ≡ true) → filter t xs ≡ xs
-filter-all t [] all = refl
-filter-all t (x ∷ xs) all = rw (all x (inl refl)) (ap (λ ys. x ∷ ys) (filter-all t xs (λ y i. all y (inr i))))
-
 pub get-map : {T U : Type 0} (f : T → U) (xs : List T) (n : ℕ) → slice_get (map f xs) n ≡ option_map f (slice_get xs n)
 get-map f [] n = refl
 get-map f (x ∷ xs) zero = refl
 get-map f (x ∷ xs) (suc n) = get-map f xs n
-
-from-map : {T U : Type 0} (f : T → U) (o : Option T) (y : U) → option_map f o ≡ Some y → (x : T) × (o ≡ Some x) × (f x ≡ y)
-from-map f None y h = let no : ⊥ = cc in absurd no
-from-map f (Some x) y h = (x, refl, let same : f x ≡ y = cc in same)
 
 -- ---- what the target keeps
 
@@ -146,7 +136,7 @@ module _ (r : Rules) (o : Opening) (w : World) (A : IsSimple r) (B : IsBegun r o
   -- each client is at its beginning
   client-is : (n : ℕ) (c : ClientState) → slice_get w.clients n ≡ Some c → (list : List Command) × (first_client r.script o list ≡ c)
   client-is n c here =
-      let x = from-map (first_client r.script o) (slice_get r.script.clients n) c (sym (get-map (first_client r.script o) r.script.clients n) ∙ ap (λ cs. slice_get cs n) (sym B.clients) ∙ here) in
+      let x = mapped (first_client r.script o) (slice_get r.script.clients n) c (sym (get-map (first_client r.script o) r.script.clients n) ∙ ap (λ cs. slice_get cs n) (sym B.clients) ∙ here) in
       (x.0, x.2)
 
   idle : (n : ℕ) (c : ClientState) → slice_get w.clients n ≡ Some c → c.present ≡ None

@@ -1,7 +1,7 @@
 -- A store that was never used is one with which a run may begin, and so is each such store once containers were enlisted.
 use Rattle.std.specs.Prelude.{ℕ, zero, suc, ◌≡◌, ◌⊎◌, ◌≤◌, ◌+◌, ◌-◌, ◌*◌, Bool, true, false, List, [], ◌∷◌, map, find, length, replicate, slice_get, Some, None, refl, if◌then◌else◌}
 use Rattle.std.specs.List.{list_any}
-use Rattle.std.proofs.Common.{inl, inr, sym, ap, subst, arith}
+use Rattle.std.proofs.Common.{inl, inr, sym, subst, arith}
 use Rattle.daos_base.specs.declared.id.ContId.{ContId}
 use Rattle.daos_base.specs.declared.outcome.FloorWhy.TheVariants as why
 use Rattle.daos_base.specs.declared.script.ContDecl.{ContDecl}
@@ -17,6 +17,7 @@ use Rattle.daos_model.specs.FormLaws.{enlisted-in_form, length-map, length-put}
 use Rattle.daos_model.specs.Opening.{Opening, fresh_opening, top}
 use Rattle.daos_model.specs.Ordered.{put}
 use Rattle.daos_laws.specs.EntryLaws.{put-has}
+use Rattle.daos_laws.specs.Lists.{length-replicate}
 use Rattle.world_base.specs.declared.target.TargetState.{TargetState}
 use Rattle.world_base.specs.declared.target.Life.TheVariants.{Running}
 use Rattle.world_base.specs.declared.world.World.{World}
@@ -203,10 +204,6 @@ fresh_world s size incarnation = record {
 -- it is a beginning of a run
 abbrev pub FreshWorldsAreBegun : Type 0
 FreshWorldsAreBegun = (r : Rules) (size incarnation : ℕ) → length r.script.conts ≤ 256 → IsBegun r (fresh_opening size) (fresh_world r.script size incarnation)
-
-length-replicate : {T : Type 0} (n : ℕ) (x : T) → length (replicate n x) ≡ n
-length-replicate zero x = refl
-length-replicate (suc n) x = ap suc (length-replicate n x)
 
 at-replicate : {T : Type 0} (n : ℕ) (x : T) (k : ℕ) (y : T) → slice_get (replicate n x) k ≡ Some y → x ≡ y
 at-replicate zero x k y at = let no : ⊥ = cc in absurd no

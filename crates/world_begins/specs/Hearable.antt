@@ -1,5 +1,5 @@
 -- What a target is asked, and told by other targets, it can hear.
-use Rattle.std.specs.Prelude.{ℕ, ◌≡◌, ◌⊎◌, ◌≤◌, ◌<◌, ◌^◌, Bool, true, false, IfSome, List, [], ◌∷◌, filter, length, slice_get, Contains, All, Any, Option, Some, None, refl}
+use Rattle.std.specs.Prelude.{ℕ, ◌≡◌, ◌≤◌, ◌<◌, ◌^◌, Bool, true, false, IfSome, List, length, slice_get, Contains, All, Any, Option, Some, None, refl}
 use Rattle.std.proofs.Common.{inl, inr, sym, ◌∙◌, ap, subst, arith}
 use Rattle.daos_base.specs.declared.answer.Answer.TheVariants as answer
 use Rattle.daos_base.specs.declared.entry.Entry.{Entry}
@@ -15,6 +15,7 @@ use Rattle.daos_base.specs.Operations.{read_path, write_path}
 use Rattle.daos_base.specs.Placement.{ClassFits}
 use Rattle.daos_base.specs.Scripts.{IsInForm, IsOfObject, IsOpInForm}
 use Rattle.daos_laws.specs.DecidedLaws.{all-from_has}
+use Rattle.daos_laws.specs.Lists.{all-at}
 use Rattle.daos_laws.specs.Members.{Has, contains-from_has, has-from_contains, has-from_filter, has-map}
 use Rattle.daos_messages.specs.declared.actor.ActorId.{ActorId}
 use Rattle.daos_messages.specs.declared.message.Message.{Message}
@@ -42,7 +43,7 @@ use Rattle.world_core.specs.Everything.{AreBefore, Everything}
 use Rattle.world_core.specs.ScriptForm.{writes-declared}
 use Rattle.world_events.specs.Events.{Rules, target_plan}
 use Rattle.world_events.specs.Letters.{client, target}
-use Rattle.world_gots.specs.FormLaws.{all-at, ops-form, read-declared, write-declared}
+use Rattle.world_gots.specs.FormLaws.{ops-form, read-declared, write-declared}
 use Rattle.world_reads.specs.Given.{FitsTargets, Given, IsFetchRight, IsItsEpoch, IsMessageRight}
 use Rattle.world_reads.specs.ListLaws.{some-in_form}
 use Rattle.world_reads.specs.Reads.{IsOfAttempt}

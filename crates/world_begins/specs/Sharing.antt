@@ -1,41 +1,28 @@
 -- A leader has some of the writes of what it leads, and so has each other member; members' bits are below those of all targets.
-use Rattle.std.specs.Prelude.{ℕ, zero, suc, ◌≡◌, ◌≢◌, ◌<◌, ◌^◌, ◌==◌, Bool, true, not, List, [], ◌∷◌, filter, length, refl}
-use Rattle.std.proofs.Common.{inl, inr, sym, ap, subst, arith}
-use Rattle.std.proofs.lemmas.Nat.{or_lt}
-use Rattle.std.proofs.Math.Pow.{pow-lt}
+use Rattle.std.specs.Prelude.{ℕ, ◌≡◌, ◌≢◌, ◌<◌, ◌^◌, ◌==◌, Bool, true, not, List, [], ◌∷◌, filter, length, refl}
+use Rattle.std.proofs.Common.{inl, sym, ap, subst}
 use Rattle.daos_base.specs.declared.id.AttemptId.{AttemptId}
 use Rattle.daos_base.specs.declared.operation.MinorWrite.{MinorWrite}
 use Rattle.daos_base.specs.Operations.{write_path}
 use Rattle.daos_base.specs.Placement.{path_leader, path_members, writes_leader, writes_members}
 use Rattle.daos_base.specs.PlacementLaws.{path_leader-member}
-use Rattle.daos_laws.specs.Members.{Has, any-has, has-cases, has-filter, has-from_contains, has-from_filter}
+use Rattle.daos_laws.specs.Lists.{has-some}
+use Rattle.daos_laws.specs.Members.{Has, any-has, has-filter, has-from_contains, has-from_filter}
 use Rattle.daos_laws.specs.TargetLaws.{same_number}
 use Rattle.daos_model.specs.BoolLaws.{and_left}
 use Rattle.dtx_base.specs.Members.{all_targets, has_target, is_other_member, is_written_at, other_members, writes_at}
 use Rattle.world_addresses.specs.TurnAddresses.{bit-of, writes-within}
 use Rattle.world_attempts.specs.Attempts.{IsOther, first_entry, leader_of, members_of, writes_of}
 use Rattle.world_events.specs.Events.{Rules, target_plan}
+use Rattle.world_posts.specs.Posting.{bits-below, one-of_them}
 use Rattle.world_reads.specs.Given.{FitsTargets}
 use Rattle.world_turns.specs.Commits as commit
 
 -- ---- lists
 
-has-some : {T : Type 0} (xs : List T) (x : T) → Has x xs → 0 < length xs
-has-some [] x i = absurd i
-has-some (y ∷ xs) x i = omega arith
-
 -- one that passes a test is among those that do
 some-pass : {T : Type 0} (test : T → Bool) (xs : List T) (x : T) → Has x xs → test x ≡ true → 0 < length (filter test xs)
 some-pass test xs x i passes = has-some (filter test xs) x (has-filter test xs x i passes)
-
--- a member of writes is a member of the group of one of them
-one-of_them : (ws : List MinorWrite) (n t : ℕ) → Has t (writes_members ws n) → (w : MinorWrite) × Has w ws × Has t (path_members (write_path w.write) n)
-unfolding writes_members
-one-of_them [] n t i = absurd i
-one-of_them (w ∷ ws) n t i = elim (has-cases (path_members (write_path w.write) n) (writes_members ws n) t i) [
-  | inl j ↦ (w, inl refl, j)
-  | inr j ↦ (let rest = one-of_them ws n t j in (rest.0, inr rest.1, rest.2))
-]
 
 -- ---- members
 
@@ -71,15 +58,6 @@ leader-writes r x fits some = by (writes_of r x) refl
             (has-from_contains (path_members (write_path w.write) r.script.targets) (path_leader (write_path w.write) r.script.targets) (path_leader-member (write_path w.write) f.0 r.script.targets f.1 f.2))
 
 -- ---- bits
-
-bits-below : (n : ℕ) (ts : List ℕ) → ((t : ℕ) → Has t ts → t < n) → commit.bits_of ts < 2 ^ n
-unfolding commit.bits_of
-bits-below n [] within = pow-positive n
-  where
-    pow-positive : (n : ℕ) → 0 < 2 ^ n
-    pow-positive zero = omega arith
-    pow-positive (suc n) = let less : 2 ^ n < 2 ^ suc n = pow-lt {i = n} {j = suc n} (omega arith) in let some = pow-positive n in omega arith
-bits-below n (t ∷ ts) within = or_lt n (2 ^ t) (commit.bits_of ts) (pow-lt {i = t} {j = n} (within t (inl refl))) (bits-below n ts (λ u i. within u (inr i)))
 
 -- the members of an attempt are targets
 pub members-below : (r : Rules) (x : AttemptId) → 0 < r.script.targets → members_of r x < 2 ^ r.script.targets

@@ -1,10 +1,11 @@
 -- Every event keeps that outcomes show their causes, and so it is at the beginning.
-use Rattle.std.specs.Prelude.{ℕ, ◌≡◌, ◌≤◌, ◌<◌, ◌+◌, ◌++◌, ◌/◌, ◌^◌, max, List, [], ◌∷◌, length, Contains, slice_get, Some}
+use Rattle.std.specs.Prelude.{ℕ, ◌≡◌, ◌≤◌, ◌<◌, ◌+◌, ◌++◌, ◌/◌, ◌^◌, max, List, [], ◌∷◌, length, slice_get, Some}
 use Rattle.std.proofs.Common.{subst, arith}
 use Rattle.daos_base.specs.declared.report.Attempt.{Attempt}
 use Rattle.daos_base.specs.declared.report.Line.{Line}
 use Rattle.daos_base.specs.declared.report.Line.TheVariants as line
-use Rattle.daos_laws.specs.Members.{Has, has-from_contains}
+use Rattle.daos_laws.specs.Lists.{none-in}
+use Rattle.daos_laws.specs.Members.{Has}
 use Rattle.daos_model.specs.Opening.{Opening, top}
 use Rattle.world_attempts.specs.History.{History}
 use Rattle.world_base.specs.declared.client.ClientState.{ClientState}
@@ -77,9 +78,6 @@ pub causes-kept : CausesAreKept
 causes-kept r o h stored w v G C g = event-keeps r o stored G.some G.unsnapped G.plain h w v G C g
 
 -- ---- the beginning
-
-none-in : {T : Type 0} (xs : List T) (x : T) → xs ≡ [] → Contains xs x → ⊥
-none-in xs x none i = has-from_contains [] x (subst (λ ys. Contains ys x) none i)
 
 lease-within : (o : Opening) (w : World) (n : ℕ) → n ≤ o.lease → n ≤ limit o w.issued
 lease-within o w n low = by (2 ^ 55) (length w.issued)

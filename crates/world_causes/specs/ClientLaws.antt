@@ -40,7 +40,7 @@ use Rattle.world_base.specs.declared.world.World.{World}
 use Rattle.world_base.specs.ClientTurns.{Move, after_end, asks_or_goes, at_present, attempt_id, attempt_moves, begins_at, begun, command_at, command_moves, commits, condition_told, ended, ends, first_epoch, goes, greatest, group_count, group_told, heard, hears_epochs, is_yes, joined, knows, listed, moved, moves_at, next_command, next_stage, op_moves, op_of, op_told, question, replied, rests, run_moves, snaps_known, told_at, told_by_message, waits}
 use Rattle.world_epochs.specs.Epochs.{Epochs, IsPresent}
 use Rattle.world_epochs.specs.Lists.{each-push, tries-push}
-use Rattle.world_epochs.specs.Talking.{TalksOnce, silent-not, silent-unless, talks-to}
+use Rattle.world_epochs.specs.Talking.{TalksOnce, silent-unless}
 use Rattle.world_events.specs.Events.{Rules, client_plan, with_client, with_epoch}
 use Rattle.world_events.specs.Letters.{Takes, client, is_tell, letter_of, letters_of, talk_of}
 use Rattle.world_events.specs.Steps.{after_client, after_move, without}
@@ -50,7 +50,7 @@ use Rattle.world_talks.specs.Asked.{ARead, ASnapshot, AnAggregation, Asked, Aski
 use Rattle.world_talks.specs.Conversation.{Conversation}
 use Rattle.world_talks.specs.HearLaws.{replied-silent}
 use Rattle.world_talks.specs.Hearing.{ATracker, AReply, AnEnd, IsHearing, hearing-is}
-use Rattle.world_talks.specs.TalkLaws.{left-is-among, taken-is-among}
+use Rattle.world_talks.specs.TalkLaws.{got-is-talk, left-is-among, none-among, taken-is-among}
 use Rattle.world_causes.specs.Causes.{Causes, Dated, EndsOf, IsAskedFor, IsUnanswered, IsUndecidedFor, MessageShows, ReplyShows, Shows, Stored, epochs_told, is_try, limit}
 use Rattle.world_causes.specs.Growth.{at-set, message-more}
 use Rattle.world_causes.specs.ReadTurns.{none-told}
@@ -427,7 +427,7 @@ move-posts o issued p c low = by (waits c) refl
     by true h = nothing (moved p c) (ap (λ m. m.post) (waiting-rests p c h))
     by false h = is-a (move-is p c h)
 
-ends-no_tell : (m : Message) (x : AttemptId) → EndsOf m x → is_tell m ≡ false
+pub ends-no_tell : (m : Message) (x : AttemptId) → EndsOf m x → is_tell m ≡ false
 ends-no_tell (message.Tell k) x u = absurd u
 ends-no_tell m x u = refl
 
@@ -435,7 +435,7 @@ pub causes-by-moves : (r : Rules) (o : Opening) (stored : Stored) (w : World) (n
     → Causes r o stored w → Causes r o stored (after_move w n (moved (client_plan r n) c))
 causes-by-moves r o stored w n c now talk E F here C =
     did-causes r o stored w n c (moved p c).state w.messages (listed (moved p c).post) (moved p c).line C
-    (record { here = here; among = λ l i. i; clients = refl; lines = refl; before = E; after = F; own = k.own; silent = λ a is z x i ends same. silent-not n w.messages z (silent-unless w n c talk here (idle a is)) i (talks-to n z (ends-no_tell z.message x ends) (C.waiting.own z x i ends ∙ ap client same)) })
+    (record { here = here; among = λ l i. i; clients = refl; lines = refl; before = E; after = F; own = k.own; silent = λ a is z x i ends same. none-among n w.messages z (silent-unless w n c talk here (idle a is)) i (got-is-talk n z (ends-no_tell z.message x ends) (C.waiting.own z x i ends ∙ ap client same)) })
     (subst (λ e. e.0 / 256 ≤ limit o w.issued) (sym k.tracker) (C.bounded.trackers n c here))
     (move-posts o w.issued p c (C.bounded.trackers n c here)) (quiet-line r o stored w.issued w.lines (moved p c).line k.quiet)
   where
@@ -539,7 +539,7 @@ causes-by-hearing r o stored w n c l rest talk once E F here takes to C =
     answered a is z x i ends same = by hearing
       where
         left : talk_of n rest ≡ [] → ⊥
-        left none = silent-not n rest z none i (talks-to n z (ends-no_tell z.message x ends) (C.waiting.own z x (left-is-among w.messages l rest z takes i) ends ∙ ap client same))
+        left none = none-among n rest z none i (got-is-talk n z (ends-no_tell z.message x ends) (C.waiting.own z x (left-is-among w.messages l rest z takes i) ends ∙ ap client same))
 
         by : IsHearing r n c l rest → ⊥
         by (ATracker e says it) = let none : m.line ≡ None = ap (λ y. y.line) it in cc

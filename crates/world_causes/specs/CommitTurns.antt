@@ -49,7 +49,7 @@ use Rattle.world_causes.specs.Floors.{below-stays, first-later-is, no-first-floo
 use Rattle.world_causes.specs.Growth.{blocks-more, refusal-shows, refuses-more}
 use Rattle.world_causes.specs.Paths.{CommitSoFar, commit-path}
 use Rattle.world_causes.specs.Premises.{AreOfReads, AreWritten, IsRequest}
-use Rattle.world_causes.specs.ReadTurns.{IsTarget, issue-within, meet-more, none-told, told-one}
+use Rattle.world_causes.specs.ReadTurns.{IsTarget, issue-within, meet-more, none-told, told-one, up}
 use Rattle.world_causes.specs.Turns.{AllMeet, AllShow, Leaves, PostShows, all-map}
 use Rattle.world_causes.specs.Writes.{IsWriteShown, write-access, write-shown}
 
@@ -115,9 +115,6 @@ space-same s t stored old new low = let k : blocks_of_stored s t stored ≤ bloc
 pub record IsWriting (r : Rules) (o : Opening) (issued : Dated) (x : AttemptId) (ep first : Option Epoch) (e : Epoch) (ws : List MinorWrite) : Type 0 where
   pub dated : IsDated o issued x ep first e
   pub its : (w : MinorWrite) → Has w ws → Has w (minor_writes 0 (attempt_ops r.script x))
-
-up : {a b c : ℕ} → a ≤ b → b ≤ c → a ≤ c
-up p q = omega (arith, p, q)
 
 -- why they are refused, and which epochs that tells
 pub record RefusalShows (r : Rules) (o : Opening) (stored : Stored) (issued now : Dated) (x : AttemptId) (how : Outcome) : Type 0 where

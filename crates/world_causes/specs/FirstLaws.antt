@@ -27,7 +27,7 @@ use Rattle.world_epochs.specs.Carried.{talks-once}
 use Rattle.world_epochs.specs.Epochs.{BearsEpoch, ClientsStand, Epochs, IsIssued, Unsnapped}
 use Rattle.world_epochs.specs.EventLaws as epochs
 use Rattle.world_events.specs.Events as events
-use Rattle.world_events.specs.Events.{ByClient, ByTarget, Event, Rules, TargetHears, TargetIdles, ToClient, ToTarget, after_turn, client_plan, kept, target_after, target_plan, with_target}
+use Rattle.world_events.specs.Events.{ByClient, ByTarget, Rules, TargetHears, TargetIdles, ToClient, ToTarget, after_turn, client_plan, kept, target_after, target_plan, with_target}
 use Rattle.world_events.specs.Letters.{client, letter_of, letters_of, target}
 use Rattle.world_events.specs.StepLaws.{by-hearing, by-next}
 use Rattle.world_events.specs.Steps.{KeptByCounting, KeptByHearing, KeptByMoves}

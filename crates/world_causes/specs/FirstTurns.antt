@@ -39,11 +39,11 @@ use Rattle.world_turns.specs.MemoryLaws as memory
 use Rattle.world_turns.specs.PathLaws.{path-keeps}
 use Rattle.world_turns.specs.Prepares as prepare
 use Rattle.world_turns.specs.Reads as read
-use Rattle.world_turns.specs.Requests.{with_ticks}
+use Rattle.world_turns.specs.Requests.{fetch_message, with_ticks}
 use Rattle.world_turns.specs.Roles.{joins_on, leader_at, member_at, with_unsettled}
 use Rattle.world_turns.specs.TargetTurns.{Hears, IdlesWhole, commit_request, fetch_request, prepare_request}
 use Rattle.world_turns.specs.Turns.{Whole}
-use Rattle.world_turns.specs.VerdictLaws.{Tries, tried, verdict-keeps}
+use Rattle.world_turns.specs.VerdictLaws.{Tries, verdict-keeps}
 use Rattle.world_turns.specs.Verdicts as verdict
 use Rattle.world_causes.specs.Causes.{Dated}
 use Rattle.world_causes.specs.Premises.{IsFirst, MessageKnows}
@@ -245,9 +245,9 @@ module _ (issued : Dated) where
       → ((p : Parked) → Has p m.member.parked → HasEpoch p.ask) → Whole (verdict.VerdictNext t m reading a ask v) verdict.VerdictEnds verdict.Heard old new left → Knows left
   verdict-knows t m reading a ask v old new left parked dated w = record { posts = done.says; parked = done.parked }
     where
-      goes : (q : FetchRequest) (rest : List Message) (n : TargetMemory) (posts : List Post) (k l : Kept) (z : TargetMemory × Did) → Frees (tried q ∷ rest) n posts → Tries t reading n q k l z → Frees rest z.0 (posts ++ z.1.posts)
+      goes : (q : FetchRequest) (rest : List Message) (n : TargetMemory) (posts : List Post) (k l : Kept) (z : TargetMemory × Did) → Frees (fetch_message q ∷ rest) n posts → Tries t reading n q k l z → Frees rest z.0 (posts ++ z.1.posts)
       goes q rest n posts k l z h y =
-          let e = fetch-knows t n reading q (verdict.fetcher q) y.last l z (h.waiting (tried q) (inl refl)) h.parked y.ends in
+          let e = fetch-knows t n reading q (verdict.fetcher q) y.last l z (h.waiting (fetch_message q) (inl refl)) h.parked y.ends in
           record { waiting = λ m i. h.waiting m (inr i); parked = e.parked; says = both-know posts z.1.posts h.says e.posts }
 
       done : Frees [] left.0 left.1.posts

@@ -153,7 +153,7 @@ meets-open r e opening d a below h = by (find (blocks_read (read_path r) e.0) d.
 
 -- ---- rows that stay
 
-row-stays : (d x : Durable) (cont : ContId) → x.conts ≡ d.conts → row_of x cont ≡ row_of d cont
+pub row-stays : (d x : Durable) (cont : ContId) → x.conts ≡ d.conts → row_of x cont ≡ row_of d cont
 unfolding row_of
 row-stays d x cont same = ap (λ rows. row_or_new cont (find (is_row_of cont) rows)) same
 

@@ -1,6 +1,6 @@
 -- What an outcome shows it goes on to show, and what holds of lists where one element changed.
-use Rattle.std.specs.Prelude.{ℕ, ◌≡◌, ◌≤◌, ◌+◌, ◌⊎◌, ◌++◌, Any, true, ◌||◌, List, [], ◌∷◌, slice_get, Option, Some, None, refl}
-use Rattle.std.proofs.Common.{zero, suc, sym, ◌∙◌, ap, subst, inl, inr, arith}
+use Rattle.std.specs.Prelude.{ℕ, ◌≡◌, ◌≤◌, ◌+◌, ◌⊎◌, ◌++◌, true, ◌||◌, List, [], ◌∷◌, slice_get, Option, Some, None, refl}
+use Rattle.std.proofs.Common.{sym, ◌∙◌, ap, subst, inl, inr, arith}
 use Rattle.std.proofs.Math.Bool.{or-true}
 use Rattle.std.proofs.Math.ListN.{set}
 use Rattle.std.proofs.lemmas.Bool.{cases_eq}
@@ -21,7 +21,6 @@ use Rattle.daos_base.specs.declared.path.Path.{Path}
 use Rattle.daos_base.specs.declared.report.Line.{Line}
 use Rattle.daos_base.specs.declared.script.Script.{Script}
 use Rattle.daos_base.specs.Operations.{act_path, read_path}
-use Rattle.daos_laws.specs.Members.{Has, contains-from_has}
 use Rattle.daos_messages.specs.declared.message.Message.{Message}
 use Rattle.daos_messages.specs.declared.message.Message.TheVariants as message
 use Rattle.daos_messages.specs.declared.message.Reply.{Reply}
@@ -49,14 +48,6 @@ at-set xs n x y P here own others m z at = by (cases_eq m n)
         let is : y ≡ z = cc in
         subst (λ k. P k z) (sym same) (subst (P n) is own)
     by (inr off) = others m z (sym (set-there xs n m y off) ∙ at)
-
-pub has-at : {T : Type 0} (xs : List T) (n : ℕ) (x : T) → slice_get xs n ≡ Some x → Has x xs
-has-at [] n x h = let no : ⊥ = cc in absurd no
-has-at (y ∷ ys) zero x h = let e : y ≡ x = cc in inl (sym e)
-has-at (y ∷ ys) (suc n) x h = inr (has-at ys n x h)
-
-pub any-of : {T : Type 0} (P : T → Type 0) (xs : List T) (x : T) → Has x xs → P x → Any P xs
-any-of P xs x i p = let c = contains-from_has xs x i in (c.0, x, c.1, c.2, p)
 
 -- ---- what is shown stays shown
 

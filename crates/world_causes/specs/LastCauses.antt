@@ -1,6 +1,6 @@
 -- When all attempts have their lines, every line shows its cause in the whole list of lines.
 use Rattle.std.specs.Prelude.{ℕ, ◌≡◌, ◌≢◌, ◌≤◌, ◌<◌, ◌+◌, ◌*◌, ◌^◌, ◌⊎◌, ◌++◌, ◌==◌, Bool, true, false, ◌||◌, not, max, Any, List, [], ◌∷◌, length, map, Contains, slice_get, is_some, Option, Some, None, refl, if◌then◌else◌}
-use Rattle.std.proofs.Common.{zero, suc, sym, ◌∙◌, ap, subst, inl, inr, arith}
+use Rattle.std.proofs.Common.{sym, ◌∙◌, ap, subst, inl, inr, arith}
 use Rattle.daos_base.specs.declared.epoch.Epoch.{Epoch}
 use Rattle.daos_base.specs.declared.id.AttemptId.{AttemptId}
 use Rattle.daos_base.specs.declared.outcome.Cause.TheVariants as cause
@@ -17,6 +17,8 @@ use Rattle.daos_base.specs.Epochs.{last_ticks}
 use Rattle.daos_base.specs.Operations.{write_path}
 use Rattle.daos_base.specs.Paths.{overlaps}
 use Rattle.daos_base.specs.Scripts.{is_numbered}
+use Rattle.daos_laws.specs.EntryLaws.{same-attempt}
+use Rattle.daos_laws.specs.Lists.{any-of, has-at, has-cut, place-of}
 use Rattle.daos_laws.specs.TargetLaws.{number_same, same_number}
 use Rattle.daos_laws.specs.Members.{Has, contains-from_has, has-cases, has-from_contains, has-from_filter, has-from_map, has-left, has-map, has-right}
 use Rattle.daos_model.specs.Accesses.{access_paths, minor_writes}
@@ -27,14 +29,11 @@ use Rattle.daos_model.specs.CausesShown as shown
 use Rattle.daos_model.specs.Durables.{same_attempt}
 use Rattle.daos_model.specs.Laws.{tries-append}
 use Rattle.daos_model.specs.Opening as model
-use Rattle.daos_model.specs.Opening.{Opening}
 use Rattle.daos_model.specs.Stops.{restart_numbers}
 use Rattle.daos_model.specs.Transactions.{attempt_ops, command_of, numbered, numbered_at, ops_or_none}
 use Rattle.world_base.specs.declared.world.World.{World}
 use Rattle.world_events.specs.Events.{Rules, commands_or_none}
-use Rattle.world_epochs.specs.Lists.{same-attempt}
 use Rattle.world_causes.specs.Causes.{Causes, Dated, MeetsOther, Shows, ShowsLack, ShowsRead, ShowsSpent, ShowsUnresolved, ShowsWrite, Stored, blocks_if, blocks_of_stored, zeroth}
-use Rattle.world_causes.specs.Growth.{any-of, has-at}
 use Rattle.world_causes.specs.Premises.{IsPlain}
 use Rattle.world_causes.specs.Storing.{AreApart, HasItsLine, StoredOnce, dated_ids}
 
@@ -84,11 +83,6 @@ stored-are-told stored w S lines t x i =
 
 -- ---- lists
 
-cut-at : {T : Type 0} (xs : List T) (x : T) → Has x xs → (us : List T) × (vs : List T) × (xs ≡ us ++ x ∷ vs)
-cut-at [] x i = absurd i
-cut-at (y ∷ ys) x (inl same) = ([], ys, ap (λ z. z ∷ ys) (sym same))
-cut-at (y ∷ ys) x (inr i) = let k = cut-at ys x i in (y ∷ k.0, k.1, ap (λ zs. y ∷ zs) k.2)
-
 beside : {T : Type 0} (us vs : List T) (x z : T) → Has z (us ++ x ∷ vs) → (z ≡ x) ⊎ Has z (us ++ vs)
 beside us vs x z i = by (has-cases us (x ∷ vs) z i)
   where
@@ -132,7 +126,7 @@ count-within (y ∷ ys) xs k lines =
     own = lines y (inl refl)
 
     cut : (us : List Attempt) × (vs : List Attempt) × (xs ≡ us ++ own.0 ∷ vs)
-    cut = cut-at xs own.0 own.1
+    cut = has-cut xs own.0 own.1
 
     us : List Attempt
     us = cut.0
@@ -193,7 +187,7 @@ blocks-within s t x (d ∷ ds) xs k lines = by (λ ys told. blocks-within s t x 
         own = (lines d (inl refl) here).1
 
         cut : (us : List Attempt) × (vs : List Attempt) × (xs ≡ us ++ own.0 ∷ vs)
-        cut = cut-at xs own.0 own.1
+        cut = has-cut xs own.0 own.1
 
         us : List Attempt
         us = cut.0
@@ -226,11 +220,6 @@ blocks-within s t x (d ∷ ds) xs k lines = by (λ ys told. blocks-within s t x 
     by rest false is = let low : blocks_of_stored s t ds ≤ blocks_of_others s t x xs = rest xs (λ i j. lines i (inr j)) in omega (arith, low)
 
 -- ---- commands
-
-place-of : {T : Type 0} (xs : List T) (x : T) → Has x xs → (k : ℕ) × (slice_get xs k ≡ Some x)
-place-of [] x i = absurd i
-place-of (y ∷ ys) x (inl same) = (zero, ap (λ z. Some z) (sym same))
-place-of (y ∷ ys) x (inr i) = let k = place-of ys x i in (suc k.0, k.1)
 
 -- no attempt reads at a snapshot
 own-epoch : (r : Rules) (a : Attempt) → IsPlain r → has_own_epoch r.script a ≡ true

@@ -1,10 +1,8 @@
 -- What the steps of a turn leave: the rows of containers, the free blocks but for what writes take, and what isn't settled.
-use Rattle.std.specs.Option.{option_map}
 use Rattle.std.specs.Prelude.{ℕ, ◌≡◌, ◌≤◌, ◌<◌, ◌+◌, Bool, true, false, not, List, [], ◌∷◌, map, filter, Option, Some, None, refl, if◌then◌else◌}
 use Rattle.std.proofs.Common.{inl, inr, sym, ◌∙◌, ap, subst, arith}
 use Rattle.daos_base.specs.declared.entry.Entry.{Entry}
-use Rattle.daos_base.specs.declared.entry.Settle.{Settle}
-use Rattle.daos_base.specs.declared.entry.Settle.TheVariants.{Abort, Commit, Confirm, Forget}
+use Rattle.daos_base.specs.declared.entry.Settle.TheVariants.{Abort, Commit}
 use Rattle.daos_base.specs.declared.epoch.Epoch.{Epoch}
 use Rattle.daos_base.specs.declared.id.AttemptId.{AttemptId}
 use Rattle.daos_base.specs.declared.operation.MinorWrite.{MinorWrite}
@@ -15,9 +13,9 @@ use Rattle.daos_model.specs.declared.durable.Durable.{Durable}
 use Rattle.daos_model.specs.declared.durable.Version.{Version}
 use Rattle.daos_model.specs.Answers.{is_before}
 use Rattle.daos_model.specs.Blocks.{blocks}
-use Rattle.daos_model.specs.BoolLaws.{or_left, or_right}
-use Rattle.daos_model.specs.Changes.{committed_at, leased, prepared, settled}
-use Rattle.daos_model.specs.Durables.{entry_key, entry_of, same_attempt}
+use Rattle.daos_model.specs.Changes.{leased, prepared, settled}
+use Rattle.daos_model.specs.Durables.{entry_key, same_attempt}
+use Rattle.daos_model.specs.EntryLaws.{same_attempt-itself}
 use Rattle.daos_model.specs.Ordered.{put}
 use Rattle.daos_model.specs.Versions.{done_by, is_not_pending, is_pending}
 use Rattle.world_base.specs.declared.request.CommitRequest.{CommitRequest}
@@ -25,30 +23,20 @@ use Rattle.world_base.specs.declared.request.FetchRequest.{FetchRequest}
 use Rattle.world_base.specs.declared.request.PrepareRequest.{PrepareRequest}
 use Rattle.world_base.specs.declared.target.TargetMemory.{TargetMemory}
 use Rattle.world_base.specs.declared.target.TargetPlan.{TargetPlan}
-use Rattle.world_epochs.specs.Lists.{same-self}
 use Rattle.world_turns.specs.Changes.{Change, Extends, Kept, Settles, Steps, cost}
 use Rattle.world_turns.specs.Commits as commit
-use Rattle.world_turns.specs.EntryLaws.{entry-aborted_other, entry-committed, entry-leased}
+use Rattle.world_turns.specs.EntryLaws.{leader-aborted_other, leader-committed, leader-leased}
 use Rattle.world_turns.specs.PathLaws.{path-keeps}
 use Rattle.world_turns.specs.Prepares as prepare
 use Rattle.world_turns.specs.Reads as read
 use Rattle.world_turns.specs.Requests.{is_other_attempt, request_epoch}
-use Rattle.world_turns.specs.Roles.{other_leader, other_leader_of}
+use Rattle.world_turns.specs.Roles.{other_leader}
 use Rattle.world_turns.specs.Turns.{Path}
 use Rattle.world_causes.specs.Turns.{HasNoLine}
+use Rattle.world_reads.specs.ChangeLaws.{still-open}
+use Rattle.world_turns.specs.ChangeLaws.{conts-settled, versions-leased}
 
 -- ---- changes
-
-versions-leased : (n : ℕ) (d : Durable) → (leased n d).versions ≡ d.versions
-unfolding leased
-versions-leased n d = refl
-
-conts-settled : (a : AttemptId) (step : Settle) (d : Durable) → (settled a step d).conts ≡ d.conts
-unfolding settled
-conts-settled a Commit d = refl
-conts-settled a Abort d = refl
-conts-settled a (Confirm t) d = refl
-conts-settled a Forget d = refl
 
 conts-leased : (n : ℕ) (d : Durable) → (leased n d).conts ≡ d.conts
 unfolding leased
@@ -122,40 +110,16 @@ pub record IsOpen (t : TargetPlan) (lines : List Line) (top : ℕ) (d : Durable)
 abbrev pub AreOpen : TargetPlan → List Line → ℕ → Durable → List AttemptId → Type 0
 AreOpen t lines top d left = (v : Version) → Has v d.versions → v.done ≡ false → IsOpen t lines top d left v
 
-same-leader : (a : AttemptId) (me : ℕ) (o : Option Entry) → other_leader_of me (option_map (committed_at a) o) ≡ other_leader_of me o
-same-leader a me None = refl
-same-leader a me (Some e) = by (same_attempt e.attempt a)
-  where
-    by : (b : Bool) → other_leader_of me (Some (if b then record e { committed = true } else e)) ≡ other_leader_of me (Some e)
-    by true = refl
-    by false = refl
-
-leader-committed : (t : TargetPlan) (a x : AttemptId) (d : Durable) → other_leader t x (settled a Commit d) ≡ other_leader t x d
-unfolding other_leader
-leader-committed t a x d = ap (other_leader_of t.me) (entry-committed a d x) ∙ same-leader a t.me (entry_of d x)
-
-leader-aborted : (t : TargetPlan) (a x : AttemptId) (d : Durable) → (x ≡ a → ⊥) → other_leader t x (settled a Abort d) ≡ other_leader t x d
-unfolding other_leader
-leader-aborted t a x d off = ap (other_leader_of t.me) (entry-aborted_other a d x off)
-
-leader-leased : (t : TargetPlan) (n : ℕ) (x : AttemptId) (d : Durable) → other_leader t x (leased n d) ≡ other_leader t x d
-unfolding other_leader
-leader-leased t n x d = ap (other_leader_of t.me) (entry-leased n d x)
-
 met-by : (t : TargetPlan) (lines : List Line) (d e : Durable) (left more : List AttemptId) (a : AttemptId) → (Has a left → Has a more) → other_leader t a e ≡ other_leader t a d → IsMet t lines d left a → IsMet t lines e more a
 met-by t lines d e left more a known same (IsKnown i) = IsKnown (known i)
 met-by t lines d e left more a known same (IsOthers leader is) = IsOthers leader (same ∙ is)
 met-by t lines d e left more a known same (IsUnended none) = IsUnended none
 
-open-before : (a : AttemptId) (u : Version) → (done_by a u).done ≡ false → (u.done ≡ false) × (same_attempt u.by a ≡ false)
-unfolding done_by
-open-before a u h = (or_left u.done (same_attempt u.by a) h, or_right u.done (same_attempt u.by a) h)
-
 -- once an attempt is committed the others are left
 open-committed : (t : TargetPlan) (lines : List Line) (top : ℕ) (a : AttemptId) (d : Durable) (left : List AttemptId) → AreOpen t lines top d left → AreOpen t lines top (settled a Commit d) (filter (is_other_attempt a) left)
 open-committed t lines top a d left k v i open' =
     let u = has-from_map (done_by a) d.versions v (subst (Has v) (versions-committed a d) i) in
-    let was = open-before a u.0 (ap (λ z. z.done) u.2 ∙ open') in
+    let was = still-open a u.0 (ap (λ z. z.done) u.2 ∙ open') in
     let s = same-done a u.0 in
     let own : u.0.by ≡ v.by = sym s.0 ∙ ap (λ z. z.by) u.2 in
     let is = k u.0 u.1 was.0 in
@@ -168,7 +132,7 @@ open-committed t lines top a d left k v i open' =
 not-its : (a : AttemptId) (v : Version) → v.done ≡ false → is_not_pending a v ≡ true → v.by ≡ a → ⊥
 unfolding is_pending
 not-its a v open' other same =
-    let its : same_attempt v.by a ≡ true = subst (λ x. same_attempt v.by x ≡ true) same (same-self v.by) in
+    let its : same_attempt v.by a ≡ true = subst (λ x. same_attempt v.by x ≡ true) same (same_attempt-itself v.by) in
     let no : ⊥ = cc in no
 
 -- and once it is aborted
@@ -176,7 +140,7 @@ open-aborted : (t : TargetPlan) (lines : List Line) (top : ℕ) (a : AttemptId) 
 open-aborted t lines top a d left k v i open' =
     let u = has-from_filter (is_not_pending a) d.versions v (subst (Has v) (versions-aborted a d) i) in
     let is = k v u.0 open' in
-    record { met = met-by t lines d (settled a Abort d) left left v.by (λ j. j) (leader-aborted t a v.by d (λ same. not-its a v open' u.1 same)) is.met; above = is.above }
+    record { met = met-by t lines d (settled a Abort d) left left v.by (λ j. j) (leader-aborted_other t a v.by d (λ same. not-its a v open' u.1 same)) is.met; above = is.above }
 
 -- ---- a turn that reads
 

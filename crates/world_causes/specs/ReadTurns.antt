@@ -17,6 +17,7 @@ use Rattle.daos_base.specs.declared.shown.Shown.{Shown}
 use Rattle.daos_base.specs.Epochs.{last_ticks}
 use Rattle.daos_base.specs.Operations.{read_path, write_path}
 use Rattle.daos_base.specs.Paths.{overlaps}
+use Rattle.daos_laws.specs.Lists.{any-of}
 use Rattle.daos_laws.specs.Members.{Has, contains-from_has, has-cases, has-from_contains, has-left, has-right}
 use Rattle.daos_messages.specs.declared.actor.ActorId.{ActorId}
 use Rattle.daos_messages.specs.declared.message.Message.TheVariants as message
@@ -46,7 +47,7 @@ use Rattle.world_turns.specs.Roles.{other_leader}
 use Rattle.world_causes.specs.Causes.{Dated, IsUnanswered, MeetsOther, ReplyShows, Stored, limit}
 use Rattle.world_causes.specs.Dates.{IsDated, heard-within, limit-rises, request-dated, request-spent}
 use Rattle.world_causes.specs.Floors.{AreBelow, IsInTheWay, below-stays, meets-open, read-refused}
-use Rattle.world_causes.specs.Growth.{any-of, meets-more}
+use Rattle.world_causes.specs.Growth.{meets-more}
 use Rattle.world_causes.specs.Paths.{IsKnown, IsMet, IsOthers, IsUnended, Lasts, ReadSoFar}
 use Rattle.world_causes.specs.Premises.{AreWritten, IsRequest}
 use Rattle.world_causes.specs.Turns.{AllMeet, AllShow, HasNoLine, ParkedMeets}
@@ -110,7 +111,7 @@ pub record FetchLeft (r : Rules) (o : Opening) (stored : Stored) (issued : Dated
   pub dated : (x : AttemptId) (e : Epoch) → left.1.issued ≡ Some (x, e) → e.0 / 256 ≤ limit o (issued ++ listed left.1.issued)
   pub parked : AllMeet r (issued ++ listed left.1.issued) left.0.member.parked
 
-up : {a b c : ℕ} → a ≤ b → b ≤ c → a ≤ c
+pub up : {a b c : ℕ} → a ≤ b → b ≤ c → a ≤ c
 up p q = omega (arith, p, q)
 
 -- what waits goes on to wait for what is in its way

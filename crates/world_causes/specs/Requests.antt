@@ -14,7 +14,9 @@ use Rattle.daos_base.specs.declared.operation.Read.{Read}
 use Rattle.daos_base.specs.declared.script.Command.TheVariants as command
 use Rattle.daos_base.specs.Operations.{read_path, write_path}
 use Rattle.daos_base.specs.Placement.{path_leader, path_members, writes_leader, writes_members}
-use Rattle.daos_laws.specs.Members.{Has, any-has, contains-from_has, has-any, has-cases, has-filter, has-from_contains, has-from_filter, has-map}
+use Rattle.daos_laws.specs.EntryLaws.{same-attempt}
+use Rattle.daos_laws.specs.Lists.{any-of, has-at}
+use Rattle.daos_laws.specs.Members.{Has, any-has, contains-from_has, has-cases, has-filter, has-from_contains, has-from_filter, has-map}
 use Rattle.daos_laws.specs.TargetLaws.{same_number}
 use Rattle.daos_messages.specs.declared.message.Message.{Message}
 use Rattle.daos_messages.specs.declared.message.Message.TheVariants as message
@@ -26,6 +28,7 @@ use Rattle.daos_model.specs.Blocks.{blocks}
 use Rattle.daos_model.specs.BoolLaws.{and_left}
 use Rattle.daos_model.specs.CausesShown.{AsksAt, blocks_at, blocks_of_some}
 use Rattle.daos_model.specs.Durables.{entry_of}
+use Rattle.daos_model.specs.EntryLaws.{same_attempt-itself}
 use Rattle.daos_model.specs.Opening.{Opening, top}
 use Rattle.daos_model.specs.Transactions.{attempt_ops, ops_or_none}
 use Rattle.dtx_base.specs.declared.leading.Undecided.{Undecided}
@@ -33,13 +36,14 @@ use Rattle.dtx_base.specs.declared.member.Parked.{Parked}
 use Rattle.dtx_base.specs.Leading.{undecided_attempt}
 use Rattle.dtx_base.specs.Members as members
 use Rattle.dtx_base.specs.Members.{all_targets, has_target, is_other_member, other_members}
-use Rattle.dtx_base.specs.Rows.{is_among, is_attempt, is_row_of, row_of}
+use Rattle.dtx_base.specs.Rows.{is_row_of, row_of}
 use Rattle.world_addresses.specs.Addresses.{AreAddressed, IsAsk, crowd}
 use Rattle.world_addresses.specs.TurnAddresses.{bit-of}
 use Rattle.world_attempts.specs.Asked.{AskedRight, IsCommitNew}
 use Rattle.world_attempts.specs.Attempts.{Attempts, IsItsEntry, IsOther, IsPrepareRight, IsTrueOf, entry_at, entry_in, first_entry, is_asked_by, is_known_at, is_known_in, is_prepare_to, is_target, leader_of, members_of, row_at, row_in, writes_of}
 use Rattle.world_attempts.specs.History.{History, Served}
 use Rattle.world_attempts.specs.MemberBits.{other-no_leader}
+use Rattle.world_attempts.specs.Stored.{among-is}
 use Rattle.world_base.specs.declared.client.ClientState.{ClientState}
 use Rattle.world_base.specs.declared.client.Present.{Present}
 use Rattle.world_base.specs.declared.client.Stage.{Stage}
@@ -54,12 +58,11 @@ use Rattle.world_base.specs.declared.world.World.{World}
 use Rattle.world_base.specs.ClientTurns.{attempt_id, command_at, question}
 use Rattle.world_epochs.specs.Asking.{ops-at}
 use Rattle.world_epochs.specs.Epochs.{AsksEpoch, BearsEpoch, BearsIssued, ClientsStand, Epochs, IsPast, IsPresent, Unsnapped}
-use Rattle.world_epochs.specs.Lists.{same-attempt, same-self}
 use Rattle.world_events.specs.Events.{Rules, client_plan, target_plan}
 use Rattle.world_events.specs.Letters.{Takes, client, target}
 use Rattle.world_reads.specs.Reads.{Reads}
 use Rattle.world_reads.specs.Versions.{IsPreparedAt}
-use Rattle.world_talks.specs.Asked.{ARead, ASnapshot, AnAggregation, Asked, AsksCommit, AsksRead, ItsWrites, commit_of, fetch_of}
+use Rattle.world_talks.specs.Asked.{ARead, ASnapshot, AnAggregation, Asked, AsksCommit, AsksRead, ItsWrites, commit_of}
 use Rattle.world_talks.specs.AskLaws.{asked-commit, asked-read}
 use Rattle.world_talks.specs.Carriers.{is_fetch_of}
 use Rattle.world_talks.specs.Conversation.{Conversation, is_request}
@@ -71,13 +74,14 @@ use Rattle.world_turns.specs.Roles.{other_leader, other_leader_of}
 use Rattle.world_turns.specs.TargetTurns.{fetch_request}
 use Rattle.world_causes.specs.Causes.{Bounded, Causes, MeetsOther, Stored, limit}
 use Rattle.world_causes.specs.CommitTurns.{IsCommit, blocks-some, own-is}
-use Rattle.world_causes.specs.Growth.{any-of, has-at, question-asks}
+use Rattle.world_causes.specs.Growth.{question-asks}
 use Rattle.world_causes.specs.Paths.{AreOpen, IsKnown, IsMet, IsOthers, IsUnended}
 use Rattle.world_causes.specs.Premises.{AreOfReads, FirstsAreKnown, IsFirst, IsPlain, IsRequest, MessageKnows, VersionsAreWritten}
 use Rattle.world_causes.specs.PrepareTurns.{IsPrepare}
 use Rattle.world_causes.specs.ReadTurns.{IsFetch, IsTarget}
 use Rattle.world_causes.specs.Turns.{HasNoLine}
 use Rattle.world_causes.specs.VerdictTurns.{IsAskFit}
+use Rattle.world_turns.specs.Requests.{fetch_message}
 
 -- what is known of a world beside causes, each by the crate whose word it is
 pub record Given (r : Rules) (o : Opening) (h : History) (w : World) : Type 0 where
@@ -148,9 +152,6 @@ found-row x (v ∷ us) u f = by (found-row x us u) (is_row_of undecided_attempt 
     by rest true is f = let same : v ≡ u = cc in (inl (sym same), ap (λ z. z.attempt) (sym same) ∙ same-attempt v.attempt x is)
     by rest false is f = let k = rest f in (inr k.0, k.1)
 
-found-among : (x : AttemptId) (ids : List AttemptId) → is_among x ids ≡ true → Has x ids
-found-among x ids h = let k = has-any (is_attempt x) ids h in subst (λ y. Has y ids) (same-attempt k.0 x k.2) k.1
-
 leader-found : (t : TargetPlan) (d : Durable) (x : AttemptId) (e : Entry) → entry_of d x ≡ Some e → other_leader t x d ≡ other_leader_of t.me (Some e)
 unfolding other_leader
 leader-found t d x e found = ap (other_leader_of t.me) found
@@ -163,7 +164,7 @@ module _ (r : Rules) (o : Opening) (h : History) (w : World) (G : Given r o h w)
   pub open-at-leader : (x : AttemptId) (e : Entry) → t ≡ leader_of r x → entry_of s.durable x ≡ Some e → e.committed ≡ false → Has x s.memory.leader.decided ⊎ HasNoLine w.lines x
   open-at-leader x e leads found open' =
       elim ((G.attempts.each x).rows.either e (subst (λ u. entry_at w u x ≡ Some e) leads (at-here x (Some e) found)) open') [
-        | inl known ↦ inl (found-among x s.memory.leader.decided (sym (ap (λ z. is_known_in z x) here) ∙ subst (λ u. is_known_at w u x ≡ true) (sym leads) known))
+        | inl known ↦ inl (among-is x s.memory.leader.decided (sym (ap (λ z. is_known_in z x) here) ∙ subst (λ u. is_known_at w u x ≡ true) (sym leads) known))
         | inr row ↦ let k = found-row x s.memory.leader.undecided row.0 (sym (ap (λ z. row_in z x) here) ∙ subst (λ u. row_at w u x ≡ Some row.0) (sym leads) row.1) in
             inr (subst (HasNoLine w.lines) k.1 (undecided-unended r o h w t s row.0 G here k.0))
       ]
@@ -358,7 +359,7 @@ module _ (r : Rules) (o : Opening) (h : History) (w : World) (G : Given r o h w)
     among = taken-is-among w.messages l rest takes
 
     -- a Fetch
-    pub hears-fetch : (q : FetchRequest) → l.message ≡ fetch_of q → IsFetch r o w.issued (target_plan r t) q × (l.from ≡ client q.attempt.client)
+    pub hears-fetch : (q : FetchRequest) → l.message ≡ fetch_message q → IsFetch r o w.issued (target_plan r t) q × (l.from ≡ client q.attempt.client)
     hears-fetch q is = (
       record {
         few = few;
@@ -452,7 +453,7 @@ module _ (r : Rules) (o : Opening) (h : History) (w : World) (G : Given r o h w)
         member-is = ap (λ z. z.number) (sym k.way.receiver ∙ to)
 
         to-it : is_prepare_to q.entry.attempt t l ≡ true
-        to-it = asked-by q.entry.attempt t l ∙ ap (is_asked_by q.entry.attempt t l.to) is ∙ ap (λ b. b && is_target t l.to) (same-self q.entry.attempt) ∙ ap (is_target t) to ∙ eq-eqb t t refl
+        to-it = asked-by q.entry.attempt t l ∙ ap (is_asked_by q.entry.attempt t l.to) is ∙ ap (λ b. b && is_target t l.to) (same_attempt-itself q.entry.attempt) ∙ ap (is_target t) to ∙ eq-eqb t t refl
 
         written : q.writes ≡ members.writes_at r.script.targets t (writes_of r q.entry.attempt)
         written = k.writes ∙ ap (λ u. members.writes_at r.script.targets u (writes_of r q.entry.attempt)) member-is

@@ -18,6 +18,7 @@ use Rattle.daos_model.specs.Answers.{is_before}
 use Rattle.daos_model.specs.Attempts.{tries}
 use Rattle.daos_model.specs.BoolLaws.{and_left, and_right, both, clash}
 use Rattle.daos_model.specs.Durables.{attempt_key, entry_key, entry_of, is_entry_of, same_attempt}
+use Rattle.daos_model.specs.EntryLaws.{same_attempt-itself}
 use Rattle.daos_model.specs.Opening.{Opening}
 use Rattle.daos_model.specs.Ordered.{all_after, is_rising}
 use Rattle.daos_model.specs.OrderLaws.{before-itself}
@@ -33,20 +34,19 @@ use Rattle.world_base.specs.declared.request.CommitRequest.{CommitRequest}
 use Rattle.world_base.specs.declared.target.TargetState.{TargetState}
 use Rattle.world_base.specs.declared.world.World.{World}
 use Rattle.world_base.specs.ClientTurns.{attempt_id}
-use Rattle.world_epochs.specs.Lists.{same-self}
-use Rattle.world_epochs.specs.Talking.{silent-not, talks-to}
 use Rattle.world_events.specs.Events.{ByClient, ByTarget, Event, Rules, TargetHears, TargetIdles, ToClient, ToTarget, client_plan, kept, target_after, target_plan}
 use Rattle.world_events.specs.Events as events
-use Rattle.world_events.specs.Letters.{Takes, client, is_tell, letter_of, letters_of, target}
+use Rattle.world_events.specs.Letters.{client, letter_of, letters_of, target}
 use Rattle.world_events.specs.StepLaws.{set-here}
 use Rattle.world_talks.specs.AskLaws.{asked-commit}
 use Rattle.world_talks.specs.Asked.{AsksCommit, commit_of}
 use Rattle.world_talks.specs.Conversation.{is_request}
 use Rattle.world_talks.specs.InFlight.{HearsRequest, hears-request}
-use Rattle.world_talks.specs.TalkLaws.{left-is-among, taken-is-among}
+use Rattle.world_talks.specs.TalkLaws.{got-is-talk, left-is-among, left-or-it, none-among, taken-is-among}
 use Rattle.world_turns.specs.Changes.{Kept}
 use Rattle.world_turns.specs.MemoryLaws.{hears-follows, idles-follows}
 use Rattle.world_causes.specs.Causes.{Causes, EndsOf, Stored, is_new_to, stored_as, stored_by, stored_in}
+use Rattle.world_causes.specs.ClientLaws.{ends-no_tell}
 use Rattle.world_causes.specs.Requests.{Given, present-unended}
 use Rattle.world_causes.specs.Storing.{AreApart, HasItsLine, IsAskedAt, IsPrepareOf, IsRefusedAt, IsTold, RefusesAt, Storing}
 use Rattle.world_causes.specs.StoringClients.{client-hears-keeps-stored, going-keeps-stored}
@@ -92,7 +92,7 @@ found-some x (k ∷ es) e i same = by (λ j. found-some x es e j same) (is_entry
     by : (Has e es → (f : Entry) × (find (is_entry_of x) es ≡ Some f)) → (b : Bool) → is_entry_of x k ≡ b → (f : Entry) × ((if b then Some k else find (is_entry_of x) es) ≡ Some f)
     by rest true is = (k, refl)
     by rest false is = elim i [
-      | inl first ↦ clash (is_entry_of x k) (subst (λ y. same_attempt y x ≡ true) (sym same ∙ ap (λ z. z.attempt) first) (same-self x)) is
+      | inl first ↦ clash (is_entry_of x k) (subst (λ y. same_attempt y x ≡ true) (sym same ∙ ap (λ z. z.attempt) first) (same_attempt-itself x)) is
       | inr j ↦ rest j
     ]
 
@@ -102,22 +102,6 @@ none-is (Some x) h = let no : ⊥ = cc in absurd no
 
 some-not_none : {T : Type 0} (o : Option T) (x : T) → o ≡ Some x → o ≡ None → ⊥
 some-not_none o x h k = cc
-
--- a letter among others is the one that is taken, or is left
-taken-or_left : (letters : List Letter) (l : Letter) (rest : List Letter) (m : Letter) → Takes letters l rest → Contains letters m → (m ≡ l) ⊎ Contains rest m
-taken-or_left letters l rest m takes i = elim (has-cases takes.before (l ∷ takes.after) m (subst (Has m) takes.among (has-from_contains letters m i))) [
-  | inl j ↦ inr (contains-from_has rest m (subst (Has m) (sym takes.left) (left takes.before takes.after j)))
-  | inr j ↦ elim j [ inl same ↦ inl same | inr k ↦ inr (contains-from_has rest m (subst (Has m) (sym takes.left) (right takes.before takes.after k))) ]
-]
-  where
-    left : (xs ys : List Letter) → Has m xs → Has m (xs ++ ys)
-    left [] ys j = absurd j
-    left (x ∷ xs) ys (inl same) = inl same
-    left (x ∷ xs) ys (inr j) = inr (left xs ys j)
-
-    right : (xs ys : List Letter) → Has m ys → Has m (xs ++ ys)
-    right [] ys j = j
-    right (x ∷ xs) ys j = inr (right xs ys j)
 
 -- ---- messages
 
@@ -141,10 +125,6 @@ commit-no_end : (m : Message) (x y : AttemptId) → IsCommitOf m x → EndsOf m 
 commit-no_end (message.Commit z ep first tracker ws) x y k p = p
 commit-no_end m x y k p = k
 
-ends-no_tell : (m : Message) (x : AttemptId) → EndsOf m x → is_tell m ≡ false
-ends-no_tell (message.Tell k) x u = absurd u
-ends-no_tell m x u = refl
-
 -- ---- what letters between targets say
 
 -- a Prepare is of its leader, to another member
@@ -163,7 +143,7 @@ prepare-other r h w l x t A i p to = let k = (prepare-says r h w l x A i p).0 in
 prepare-asking : (l : Letter) (m : Message) (x : AttemptId) (t : ℕ) → l.message ≡ m → IsPrepareOf m x → l.to ≡ target t → is_asking x t l ≡ true
 unfolding is_asking
 prepare-asking l (message.Prepare e first ws inc) x t is p to =
-    ap (λ z. attempts.is_asked_by x t l.to z || attempts.is_answered_by x t l.from z) is ∙ ap (λ b. b || false) (ap (λ z. same_attempt e.attempt x && attempts.is_target t z) to ∙ both (same_attempt e.attempt x) (attempts.is_target t (target t)) (subst (λ y. same_attempt y x ≡ true) (sym p) (same-self x)) (same_number t))
+    ap (λ z. attempts.is_asked_by x t l.to z || attempts.is_answered_by x t l.from z) is ∙ ap (λ b. b || false) (ap (λ z. same_attempt e.attempt x && attempts.is_target t z) to ∙ both (same_attempt e.attempt x) (attempts.is_target t (target t)) (subst (λ y. same_attempt y x ≡ true) (sym p) (same_attempt-itself x)) (same_number t))
 prepare-asking l m x t is p to = absurd p
 
 -- ---- a Commit that is heard
@@ -201,9 +181,9 @@ module _ (r : Rules) (o : Opening) (h : History) (stored : Stored) (w v : World)
 
     -- nothing else goes to the client
     not-told : (l : Letter) → Contains w.messages l → EndsOf l.message x → ⊥
-    not-told l i ends = elim (taken-or_left w.messages g.l g.rest l g.takes i) [
+    not-told l i ends = elim (left-or-it w.messages g.l g.rest l g.takes i) [
       | inl same ↦ commit-no_end g.l.message x x k (subst (λ z. EndsOf z.message x) same ends)
-      | inr left ↦ silent-not a.n g.rest l a.none_else left (talks-to a.n l (ends-no_tell l.message x ends) (C.waiting.own l x i ends ∙ ap client (sym (ap (λ y. y.client) own))))
+      | inr left ↦ none-among a.n g.rest l a.none_else left (got-is-talk a.n l (ends-no_tell l.message x ends) (C.waiting.own l x i ends ∙ ap client (sym (ap (λ y. y.client) own))))
     ]
 
     told-at : (u : ℕ) (l : Letter) (m : Message) → l.message ≡ m → Contains w.messages l → RefusesAt m u x → ⊥

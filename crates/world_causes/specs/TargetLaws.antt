@@ -11,6 +11,7 @@ use Rattle.daos_base.specs.declared.epoch.Epoch.{Epoch}
 use Rattle.daos_base.specs.declared.id.AttemptId.{AttemptId}
 use Rattle.daos_base.specs.declared.id.ContId.{ContId}
 use Rattle.daos_base.specs.declared.outcome.Outcome.{Outcome}
+use Rattle.daos_laws.specs.EntryLaws.{same-attempt}
 use Rattle.daos_laws.specs.Members.{Has, any-has, contains-from_has, has-cases, has-from_contains, has-from_filter, has-from_map}
 use Rattle.daos_messages.specs.declared.actor.ActorId.{ActorId}
 use Rattle.daos_messages.specs.declared.message.Message.{Message}
@@ -18,6 +19,7 @@ use Rattle.daos_messages.specs.declared.message.Message.TheVariants as message
 use Rattle.daos_messages.specs.declared.message.Post.{Post}
 use Rattle.daos_model.specs.BoolLaws.{and_left, and_right}
 use Rattle.daos_model.specs.Durables.{entry_of, is_entry_of, row_of, same_attempt}
+use Rattle.daos_model.specs.EntryLaws.{same_attempt-itself}
 use Rattle.daos_model.specs.Opening.{Opening, top}
 use Rattle.dtx_base.specs.declared.member.Parked.{Parked}
 use Rattle.dtx_base.specs.Joining.{is_asker, is_waiting}
@@ -35,10 +37,8 @@ use Rattle.world_base.specs.declared.target.TargetState.{TargetState}
 use Rattle.world_base.specs.declared.target.Life.TheVariants.{Running}
 use Rattle.world_base.specs.declared.world.World.{World}
 use Rattle.world_epochs.specs.Epochs.{IsPresent}
-use Rattle.world_epochs.specs.Lists.{same-attempt, same-self}
 use Rattle.world_events.specs.Events.{Rules, TargetHears, TargetIdles, after_turn, kept, listed, target_after, target_plan, with_epoch, with_target}
 use Rattle.world_events.specs.Letters.{client, letter_of, letters_of, target}
-use Rattle.world_talks.specs.Asked.{fetch_of}
 use Rattle.world_talks.specs.InFlight.{OpenIs, open-is}
 use Rattle.world_talks.specs.TalkLaws.{left-is-among, taken-is-among}
 use Rattle.world_turns.specs.Acks as ack
@@ -61,6 +61,7 @@ use Rattle.world_causes.specs.ReadTurns.{FetchLeft, fetch-ends, unended-unanswer
 use Rattle.world_causes.specs.Requests.{Given, found-row, hears-commit, hears-fetch, hears-prepare, open-at-leader, opens-here, parked-fit, parked-meets, parked-present, stamps-of-reads, target-is}
 use Rattle.world_causes.specs.Turns.{AllMeet, HasNoLine, Leaves, all-each}
 use Rattle.world_causes.specs.VerdictTurns.{IsAskFit, IsVerdict, verdict-leaves}
+use Rattle.world_turns.specs.Requests.{fetch_message}
 
 -- what a Fetch waits for, and for whom
 waits-on : (a x : AttemptId) (p : Parked) → is_waiting a x p ≡ true → (same_attempt p.on a && is_asker x p.ask) ≡ true
@@ -212,7 +213,7 @@ module _ (r : Rules) (o : Opening) (h : History) (stored : Stored) (w : World) (
           open' true is c dec g = let no : ⊥ = cc in absurd no
           open' false is_open true dec g = let no : ⊥ = cc in absurd no
           open' false is_open false dec g = elim (open-at-leader r o h w G t s here a k leads found is_open) [
-            | inl known ↦ let is : is_among a s.memory.leader.decided ≡ true = any-has (is_attempt a) s.memory.leader.decided a known (same-self a) in let no : ⊥ = cc in absurd no
+            | inl known ↦ let is : is_among a s.memory.leader.decided ≡ true = any-has (is_attempt a) s.memory.leader.decided a known (same_attempt-itself a) in let no : ⊥ = cc in absurd no
             | inr none ↦ none
           ]
             where
@@ -251,7 +252,7 @@ hears-leaves r o h stored w v G C g said is turn = by said is turn
     meet : AllMeet r w.issued g.s.memory.member.parked
     meet = meet-here r o h stored w G C g.t g.s g.here
 
-    fetch : (q : FetchRequest) → g.l.message ≡ fetch_of q → Whole (read.FetchNext (target_plan r g.t) g.s.memory g.reading q) (read.FetchEnds (target_plan r g.t) g.s.memory g.reading q g.l.from) read.Asked (kept g.s) g.new (g.memory, g.did)
+    fetch : (q : FetchRequest) → g.l.message ≡ fetch_message q → Whole (read.FetchNext (target_plan r g.t) g.s.memory g.reading q) (read.FetchEnds (target_plan r g.t) g.s.memory g.reading q g.l.from) read.Asked (kept g.s) g.new (g.memory, g.did)
         → Leaves r o stored w.issued w.lines g.t (kept g.s) g.new (g.memory, g.did)
     fetch q is w' =
         let f = hears-fetch r o h w G stored C g.t g.s g.here g.l g.rest g.takes q is in

@@ -4,6 +4,7 @@ use Rattle.std.proofs.Common.{ap, arith, inl, inr, subst, sym}
 use Rattle.daos_base.specs.declared.epoch.Epoch.{Epoch}
 use Rattle.daos_base.specs.declared.id.AttemptId.{AttemptId}
 use Rattle.daos_base.specs.Operations.{write_path}
+use Rattle.daos_laws.specs.Lists.{any-of}
 use Rattle.daos_laws.specs.Members.{contains-from_has, has-from_contains}
 use Rattle.daos_model.specs.declared.durable.Version.{Version}
 use Rattle.daos_model.specs.Accesses.{minor_writes}
@@ -18,7 +19,6 @@ use Rattle.world_epochs.specs.Epochs.{Epochs}
 use Rattle.world_epochs.specs.Sayings.{known-all, known-found}
 use Rattle.world_events.specs.Events.{Rules}
 use Rattle.world_reads.specs.Versions.{IsPreparedAt, IsVersionOf, Versions}
-use Rattle.world_causes.specs.Growth.{any-of}
 use Rattle.world_causes.specs.Premises.{VersionsAreWritten}
 
 -- where the opening's versions are at or below its top

@@ -13,6 +13,7 @@ use Rattle.daos_base.specs.declared.shown.Shown.{Shown}
 use Rattle.daos_base.specs.Operations.{act_path, write_path}
 use Rattle.daos_base.specs.PathLaws.{near-from_overlaps}
 use Rattle.daos_base.specs.Paths.{near}
+use Rattle.daos_laws.specs.Lists.{any-of}
 use Rattle.daos_laws.specs.Members.{Has, has-cases}
 use Rattle.daos_model.specs.declared.durable.Durable.{Durable}
 use Rattle.daos_model.specs.declared.durable.Version.{Version}
@@ -27,7 +28,6 @@ use Rattle.world_turns.specs.Requests.{issued_for}
 use Rattle.world_causes.specs.Causes.{Dated, ShowsWrite}
 use Rattle.world_causes.specs.Dates.{IsDated}
 use Rattle.world_causes.specs.Floors.{IsLater, later-is}
-use Rattle.world_causes.specs.Growth.{any-of}
 use Rattle.world_causes.specs.Paths.{AreOld}
 use Rattle.world_causes.specs.Premises.{AreWritten}
 

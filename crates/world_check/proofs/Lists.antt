@@ -1,19 +1,14 @@
 -- A list of events, event by event.
-use Rattle.std.proofs.Common.{ℕ, suc, zero, ◌≡◌, ◌<◌, ◌≤◌, ◌+◌, refl, sym, ◌∙◌, ap, subst, Bool, true, false, List, [], ◌∷◌, length, take, drop, get_or, arith}
+use Rattle.std.proofs.Common.{ℕ, suc, zero, ◌≡◌, ◌<◌, ◌≤◌, ◌+◌, sym, ◌∙◌, ap, subst, Bool, false, List, [], ◌∷◌, length, take, drop, get_or, arith}
 use Rattle.std.specs.Bool.{Decides}
 use Rattle.daos_model.specs.BoolLaws.{clash}
 use Rattle.replay_base.specs.Onward.{Iff}
 use Rattle.std.proofs.Math.ListN.{drop_of_length-le}
-use Rattle.std.proofs.Math.Seq.{drop-cons}
+use Rattle.daos_laws.specs.Lists.{drop-item}
 use Rattle.world_base.specs.declared.world.World.{World}
 use Rattle.world_events.specs.Events.{Rules}
 use Rattle.world_list.specs.RunLists.{IsRunFrom, LeadsTo, last_world}
 use Rattle.world_list.specs.declared.events.Event.{Event}
-
-drop_item : {X : Type 0} (xs : List X) (i : ℕ) (x : X) → i < length xs → x ≡ get_or xs i x → drop i xs ≡ x ∷ drop (i + 1) xs
-drop_item xs i x lt is =
-    let next : suc i ≡ i + 1 = omega arith in
-    drop-cons xs i x lt ∙ ap (λ y. y ∷ drop (suc i) xs) (sym is) ∙ ap (λ n. x ∷ drop n xs) next
 
 last_next : (w : World) (es : List Event) (i : ℕ) (e : Event) → i < length es → e ≡ get_or es i e → last_world w (take (suc i) es) ≡ e.after
 last_next w [] i e lt is = let bad : ⊥ = omega (arith, lt) in absurd bad
@@ -29,10 +24,10 @@ module _ (r : Rules) (start w : World) (list : List Event) (i : ℕ) (e : Event)
   Rest = IsRunFrom r w (drop i list)
 
   here : Rest → LeadsTo r w e.kind e.actor e.heard e.after × IsRunFrom r e.after (drop (i + 1) list)
-  here h = subst (IsRunFrom r w) (drop_item list i e lt is) h
+  here h = subst (IsRunFrom r w) (drop-item list i e lt is) h
 
   back : LeadsTo r w e.kind e.actor e.heard e.after × IsRunFrom r e.after (drop (i + 1) list) → Rest
-  back h = subst (IsRunFrom r w) (sym (drop_item list i e lt is)) h
+  back h = subst (IsRunFrom r w) (sym (drop-item list i e lt is)) h
 
   -- the event leads on, so that the rest is what counts
   pub leads_on : (next : World) → next ≡ e.after → LeadsTo r w e.kind e.actor e.heard e.after → Iff (IsRunFrom r start list) Rest → Iff (IsRunFrom r start list) (IsRunFrom r next (drop (i + 1) list))

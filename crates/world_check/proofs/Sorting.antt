@@ -1,5 +1,5 @@
 -- Which kind of turn an event is, and whose clients stay in their places.
-use Rattle.std.proofs.Common.{ℕ, ◌≡◌, ◌<◌, ◌+◌, refl, sym, ◌∙◌, ap, subst, Bool, true, false, ◌⊎◌, inl, inr, List, Some, None, length, take, get_or, slice_get}
+use Rattle.std.proofs.Common.{ℕ, ◌≡◌, ◌<◌, ◌+◌, sym, ◌∙◌, ap, subst, Bool, true, false, ◌⊎◌, inl, inr, List, Some, None, length, take, get_or, slice_get}
 use Rattle.std.specs.Bool.{Decides}
 use Rattle.daos_messages.specs.declared.actor.ActorId.{ActorId}
 use Rattle.daos_model.specs.BoolLaws.{clash}

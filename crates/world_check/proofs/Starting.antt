@@ -1,5 +1,5 @@
 -- Whether a list of events starts well, as the code tests it.
-use Rattle.std.proofs.Common.{ℕ, suc, zero, ◌≡◌, ◌<◌, ◌≤◌, ◌+◌, refl, sym, ◌∙◌, ap, subst, Bool, true, false, List, [], ◌∷◌, length, drop, get_or, slice_get, Option, Some, None, All, arith, ◌⊎◌, inl, inr, ◌&&◌, nat_le}
+use Rattle.std.proofs.Common.{ℕ, suc, zero, ◌≡◌, ◌<◌, ◌≤◌, ◌+◌, sym, ◌∙◌, ap, subst, Bool, true, List, [], ◌∷◌, length, drop, get_or, slice_get, Some, None, All, arith, ◌⊎◌, inl, inr, ◌&&◌, nat_le}
 use Rattle.std.specs.Prelude.{count_by, is_some}
 use Rattle.std.specs.Bool.{Decides}
 use Rattle.std.proofs.lemmas.Bool.Decides.{Decides-and, nat_tests}
@@ -8,6 +8,7 @@ use Rattle.client_core.specs.Clients.{CommandFits, IsInPlace, OpFits, OpsFit, Pl
 use Rattle.daos_base.specs.declared.operation.Op.{Op}
 use Rattle.daos_base.specs.declared.script.Command.{Command}
 use Rattle.daos_base.specs.Scripts.{is_numbered}
+use Rattle.std.proofs.lemmas.Option.{slice_get_past}
 use Rattle.world_base.specs.declared.client.ClientState.{ClientState}
 use Rattle.world_base.specs.declared.world.World.{World}
 use Rattle.world_events.specs.Events.{Rules, client_plan, commands_or_none}
@@ -22,12 +23,6 @@ ops_decide targets ops all = (λ h. record { few = grind (arith, nat_tests); obj
 plan_fits : (r : Rules) (n : ℕ) → All (CommandFits r.script.targets) (commands_of r.script n) → count_by is_numbered (commands_of r.script n) ≤ 100000 → PlanFits (client_plan r n)
 plan_fits r n commands few = record { commands = commands; few = few }
 
--- behind the last list of the script a client has nothing to do
-none_there : {A : Type 0} (xs : List A) (n : ℕ) → length xs ≤ n → slice_get xs n ≡ None
-none_there [] n le = refl
-none_there (x ∷ xs) zero le = let bad : ⊥ = omega (arith, le) in absurd bad
-none_there (x ∷ xs) (suc n) le = none_there xs n (omega arith)
-
 nothing_fits : (r : Rules) (n : ℕ) → slice_get r.script.clients n ≡ None → PlanFits (client_plan r n)
 nothing_fits r n none =
     plan_fits r n (subst (All (CommandFits r.script.targets)) (sym (ap commands_or_none none)) (λ k d lt. absurd (omega arith)))
@@ -37,9 +32,9 @@ pub all_fit : (r : Rules) (i : ℕ) → ((k : ℕ) → k < i → PlanFits (clien
 all_fit r i before le n = by (cases_order n i)
   where
     by : (n ≡ i) ⊎ ((n < i) ⊎ (i < n)) → PlanFits (client_plan r n)
-    by (inl here) = (let past : length r.script.clients ≤ n = omega (arith, le, here) in nothing_fits r n (none_there r.script.clients n past))
+    by (inl here) = (let past : length r.script.clients ≤ n = omega (arith, le, here) in nothing_fits r n (slice_get_past r.script.clients n past))
     by (inr (inl less)) = before n less
-    by (inr (inr more)) = (let past : length r.script.clients ≤ n = omega (arith, le, more) in nothing_fits r n (none_there r.script.clients n past))
+    by (inr (inr more)) = (let past : length r.script.clients ≤ n = omega (arith, le, more) in nothing_fits r n (slice_get_past r.script.clients n past))
 
 pub fit_more : (r : Rules) (i : ℕ) (commands : List Command) → commands ≡ commands_of r.script i → All (CommandFits r.script.targets) commands → count_by is_numbered commands ≤ 100000 → ((k : ℕ) → k < i → PlanFits (client_plan r k))
     → (k : ℕ) → k < i + 1 → PlanFits (client_plan r k)
@@ -106,7 +101,7 @@ pub places_all : (r : Rules) (w : World) (clients : List ClientState) (i : ℕ) 
 places_all r w clients i same le before n c there = by (cases_order n i)
   where
     none : length clients ≤ n → ⊥
-    none past = (let gone : slice_get w.clients n ≡ None = subst (λ xs. slice_get xs n ≡ None) same (none_there clients n past) in let bad : ⊥ = cc in bad)
+    none past = (let gone : slice_get w.clients n ≡ None = subst (λ xs. slice_get xs n ≡ None) same (slice_get_past clients n past) in let bad : ⊥ = cc in bad)
 
     by : (n ≡ i) ⊎ ((n < i) ⊎ (i < n)) → IsInPlace (client_plan r n) c
     by (inl here) = absurd (none (omega (arith, le, here)))

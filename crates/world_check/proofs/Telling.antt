@@ -1,5 +1,5 @@
 -- What followed from a target's turn is told by the world after it.
-use Rattle.std.proofs.Common.{ℕ, suc, zero, ◌≡◌, ◌+◌, ◌++◌, ◌-◌, refl, sym, ◌∙◌, ap, subst, map, drop, List, [], ◌∷◌, length, slice_get, Bool, Option, Some, None, arith}
+use Rattle.std.proofs.Common.{ℕ, ◌≡◌, ◌+◌, ◌++◌, ◌-◌, refl, sym, ◌∙◌, ap, map, drop, List, [], ◌∷◌, length, slice_get, Bool, Option, Some, None, arith}
 use Rattle.daos_base.specs.declared.epoch.Epoch.{Epoch}
 use Rattle.daos_base.specs.declared.id.AttemptId.{AttemptId}
 use Rattle.daos_base.specs.declared.outcome.FloorWhy.{FloorWhy}
@@ -10,39 +10,23 @@ use Rattle.daos_messages.specs.declared.message.Message.TheVariants as message
 use Rattle.daos_messages.specs.declared.message.Post.{Post}
 use Rattle.world_base.specs.declared.did.Did.{Did}
 use Rattle.world_base.specs.declared.letter.Letter.{Letter}
-use Rattle.world_base.specs.declared.request.CommitRequest.{CommitRequest}
-use Rattle.world_base.specs.declared.request.FetchRequest.{FetchRequest}
 use Rattle.world_base.specs.declared.request.PrepareRequest.{PrepareRequest}
 use Rattle.world_base.specs.declared.target.TargetMemory.{TargetMemory}
 use Rattle.world_base.specs.declared.target.TargetPlan.{TargetPlan}
 use Rattle.world_base.specs.declared.world.World.{World}
 use Rattle.world_events.specs.Events.{listed}
-use Rattle.world_events.specs.Letters.{Takes, letter_of, letters_of}
+use Rattle.world_events.specs.Letters.{Takes, letters_of}
 use Rattle.world_turns.specs.Acks as ack
 use Rattle.world_turns.specs.Changes.{Kept}
-use Rattle.world_turns.specs.Commits as commit
 use Rattle.world_turns.specs.Idle.{AllSettled, IdleEnds}
 use Rattle.world_turns.specs.Marks as mark
 use Rattle.world_turns.specs.Prepares as prepare
-use Rattle.world_turns.specs.Reads as read
 use Rattle.world_turns.specs.TargetTurns.{Hears, IdlesWhole, commit_request, fetch_request, prepare_request}
 use Rattle.world_turns.specs.Verdicts as verdict
 use Rattle.world_check.specs.Told.{did_told, post_of}
+use Rattle.world_turns.specs.MemoryLaws.{commit-follows, fetch-follows}
 
 -- ---- no line is added
-
-fetch_lines : (t : TargetPlan) (m : TargetMemory) (reading : ℕ) (q : FetchRequest) (from : ActorId) (s : read.FetchStage) (k : Kept) (left : TargetMemory × Did) → read.FetchEnds t m reading q from s k left → left.1.lines ≡ []
-fetch_lines t m reading q from s k left (read.IsSpent j l now none is) = ap (λ x. x.1.lines) is
-fetch_lines t m reading q from s k left (read.IsRefused j e decided c l why is) = ap (λ x. x.1.lines) is
-fetch_lines t m reading q from s k left (read.MeetsUnresolved j e decided a l none unsettled apart ours is) = ap (λ x. x.1.lines) is
-fetch_lines t m reading q from s k left (read.IsParked j e decided a leader l none unsettled other is) = ap (λ x. x.1.lines) is
-fetch_lines t m reading q from s k left (read.IsServed j e decided b l none answer is) = ap (λ x. x.1.lines) is
-
-commit_lines : (t : TargetPlan) (opening : Epoch × FloorWhy) (m : TargetMemory) (reading : ℕ) (q : CommitRequest) (from : ActorId) (s : commit.CommitStage) (k : Kept) (left : TargetMemory × Did) → commit.CommitEnds t opening m reading q from s k left → left.1.lines ≡ []
-commit_lines t opening m reading q from s k left (commit.IsSpent j l none is) = ap (λ x. x.1.lines) is
-commit_lines t opening m reading q from s k left (commit.IsRefused j e c l why is) = ap (λ x. x.1.lines) is
-commit_lines t opening m reading q from s k left (commit.HasNoSpace j e l allowed lacks is) = ap (λ x. x.1.lines) is
-commit_lines t opening m reading q from s k left (commit.HasBegun j e l is) = ap (λ x. x.1.lines) is
 
 prepare_lines : (t : TargetPlan) (opening : Epoch × FloorWhy) (m : TargetMemory) (q : PrepareRequest) (s : prepare.PrepareStage) (k : Kept) (left : TargetMemory × Did) → prepare.PrepareEnds t opening m q s k left → left.1.lines ≡ []
 prepare_lines t opening m q s k left (prepare.IsRefused j c l why is) = ap (λ x. x.1.lines) is
@@ -65,8 +49,8 @@ verdict_lines : (s : verdict.VerdictStage) (k : Kept) (left : TargetMemory × Di
 verdict_lines s k left (verdict.AllTried j n posts l is) = ap (λ x. x.1.lines) is
 
 pub hears_lines : (t : TargetPlan) (opening : Epoch × FloorWhy) (m : TargetMemory) (reading : ℕ) (from : ActorId) (l : Message) (old new : Kept) (left : TargetMemory × Did) → Hears t opening m reading from l old new left → left.1.lines ≡ []
-hears_lines t opening m reading from (message.Fetch x op group ep first tracker r snapshot) old new left h = fetch_lines t m reading (fetch_request x op group ep first tracker r snapshot) from h.last new left h.ends
-hears_lines t opening m reading from (message.Commit x ep first tracker ws) old new left h = commit_lines t opening m reading (commit_request x ep first tracker ws) from h.last new left h.ends
+hears_lines t opening m reading from (message.Fetch x op group ep first tracker r snapshot) old new left h = fetch-follows t m reading (fetch_request x op group ep first tracker r snapshot) from h.last new left h.ends
+hears_lines t opening m reading from (message.Commit x ep first tracker ws) old new left h = commit-follows t opening m reading (commit_request x ep first tracker ws) from h.last new left h.ends
 hears_lines t opening m reading from (message.Prepare e first ws inc) old new left h = prepare_lines t opening m (prepare_request e first ws inc) h.last new left h.ends
 hears_lines t opening m reading from (message.Ack x inc refusal) old new left h = ack_lines m h.last new left h.ends
 hears_lines t opening m reading from (message.Mark inc marks) old new left h = mark_lines m from inc marks h.last new left h.ends

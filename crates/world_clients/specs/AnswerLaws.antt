@@ -1,7 +1,7 @@
 -- Each move of a client keeps that its attempts end as they were answered.
 use Rattle.std.specs.Prelude.{ℕ, ◌≡◌, ◌≤◌, ◌<◌, ◌+◌, ◌++◌, Bool, true, false, nat_lt, ◌&&◌, List, [], ◌∷◌, length, map, take, drop, filter, slice_get, is_some, All, Option, Some, None, refl, if◌then◌else◌}
-use Rattle.std.proofs.Common.{zero, suc, append-nil, ◌⊎◌, sym, ◌∙◌, ap, subst, inl, inr, arith}
-use Rattle.std.proofs.lemmas.List.{take_all}
+use Rattle.std.proofs.Common.{suc, append-nil, ◌⊎◌, sym, ◌∙◌, ap, subst, inl, inr, arith}
+use Rattle.std.proofs.lemmas.List.{map_push, take_all}
 use Rattle.std.proofs.lemmas.List.Elements.{All-append, All-cons, All-nil, filter-append}
 use Rattle.daos_base.specs.declared.answer.Answer.{Answer}
 use Rattle.daos_base.specs.declared.epoch.Epoch.{Epoch}
@@ -19,12 +19,13 @@ use Rattle.daos_base.specs.declared.script.Command.{Command}
 use Rattle.daos_base.specs.declared.script.Command.TheVariants.{Run, Snap, Aggregate, Tell, Skip}
 use Rattle.daos_base.specs.Scripts.{is_numbered}
 use Rattle.daos_base.specs.declared.outcome.Cause.TheVariants.{Unresolved}
+use Rattle.daos_laws.specs.Lists.{cut-at}
 use Rattle.daos_messages.specs.declared.message.Message.{Message, more_of-Message}
 use Rattle.daos_messages.specs.declared.message.Message.TheVariants as message
 use Rattle.daos_messages.specs.declared.message.Reply.{Reply}
 use Rattle.daos_messages.specs.declared.message.Reply.TheVariants as reply
 use Rattle.daos_model.specs.Accesses.{is_condition, minor_writes, op_path}
-use Rattle.daos_model.specs.Attempts.{is_restart, snapshot_of_command, tries}
+use Rattle.daos_model.specs.Attempts.{is_restart, snapshot_of_command}
 use Rattle.daos_model.specs.Conditions.{AllHold, Holds, condition_numbers, holds_where, op_holds_where}
 use Rattle.daos_model.specs.Transactions.{number_of_read, numbered, ops_of, ops_or_none, read_numbers}
 use Rattle.world_base.specs.declared.client.ClientPlan.{ClientPlan}
@@ -32,19 +33,14 @@ use Rattle.world_base.specs.declared.client.ClientState.{ClientState}
 use Rattle.world_base.specs.declared.client.Present.{Present}
 use Rattle.world_base.specs.declared.client.Stage.{Stage}
 use Rattle.world_base.specs.declared.client.Stage.TheVariants as stage
-use Rattle.world_base.specs.ClientTurns.{about, answered, asks_again, ended, group_count, group_told, heard, heard_at, hears_epochs, is_about, is_yes, joined, knows, op_of, op_told, replied, reset, reset_by, snaps_known, told_at, condition_told, read_told, next_place, Move, act_read, after_end, asks_or_goes, at_present, attempt_id, attempt_moves, begins_at, begun, command_at, command_moves, commits, condition_read, ends, first_epoch, goes, listed, moved, moves_at, next_command, next_op, next_stage, op_moves, question, rests, run_moves, waits}
+use Rattle.world_base.specs.ClientTurns.{about, answered, asks_again, ended, group_count, group_told, heard, heard_at, hears_epochs, is_about, is_yes, joined, knows, op_of, op_told, replied, reset, reset_by, snaps_known, told_at, condition_told, read_told, next_place, Move, act_read, after_end, asks_or_goes, at_present, attempt_id, attempt_moves, begins_at, begun, command_at, command_moves, commits, condition_read, ends, first_epoch, goes, moved, moves_at, next_command, next_op, next_stage, op_moves, question, rests, run_moves, waits}
 use Rattle.world_clients.specs.Answered.{IsAsking, IsFit, IsFitHere, IsReplyFit, is_refusal, AreAnswered, EndsAsAnswered, EndsWell, IsAnswered, IsAnsweredHere, IsAnsweredWhole, conditions_due, ops_here, ops_numbered}
 use Rattle.world_clients.specs.AnsweredLaws.{condition_number, conditions-next, past-end, reads-next, take-past}
-use Rattle.world_clients.specs.MoveLaws.{IsAt, is-at, known-more, told_end, tells-end}
+use Rattle.world_clients.specs.MoveLaws.{IsAt, is-at, known-more, tells-end, tells-nothing, told_end}
 use Rattle.world_clients.specs.Standing.{HasTold, Stands, number_of, tells}
 use Rattle.world_clients.specs.StandingLaws.{stands-begins}
 
 -- ---- the command of a number
-
-split-at : {T : Type 0} (xs : List T) (n : ℕ) (x : T) → slice_get xs n ≡ Some x → xs ≡ take n xs ++ x ∷ drop (suc n) xs
-split-at [] n x h = let no : ⊥ = cc in absurd no
-split-at (y ∷ ys) zero x h = let e : y ≡ x = cc in ap (λ z. z ∷ ys) e
-split-at (y ∷ ys) (suc n) x h = ap (λ zs. y ∷ zs) (split-at ys n x h)
 
 get-middle : {T : Type 0} (xs ys : List T) (x : T) → slice_get (xs ++ x ∷ ys) (length xs) ≡ Some x
 get-middle [] ys x = refl
@@ -61,7 +57,7 @@ first-numbered d ds h = by (is_numbered d) h
 pub numbered-here : (p : ClientPlan) (place : ℕ) (d : Command) → slice_get p.commands place ≡ Some d → is_numbered d ≡ true → slice_get (numbered p.commands) (length (numbered (take place p.commands))) ≡ Some d
 numbered-here p place d at n =
     let split : numbered p.commands ≡ numbered (take place p.commands) ++ d ∷ numbered (drop (suc place) p.commands) =
-    ap numbered (split-at p.commands place d at) ∙ filter-append is_numbered (take place p.commands) (d ∷ drop (suc place) p.commands)
+    ap numbered (cut-at p.commands place d at) ∙ filter-append is_numbered (take place p.commands) (d ∷ drop (suc place) p.commands)
     ∙ ap (λ z. numbered (take place p.commands) ++ z) (first-numbered d (drop (suc place) p.commands) n) in
     ap (λ cs. slice_get cs (length (numbered (take place p.commands)))) split ∙ get-middle (numbered (take place p.commands)) (numbered (drop (suc place) p.commands)) d
 
@@ -97,10 +93,6 @@ ends-answered p c d a how attempts k told well =
     here = subst (λ o. IsAnsweredHere (ops_here p (after_end p c o a how)) (after_end p c o a how).present) (sym k.at) (by (is_restart how && nat_lt (a.attempt + 1) p.attempts))
 
 -- ---- moves that end no attempt
-
-tells-nothing : (m : Move) → m.line ≡ None → tells m ≡ []
-unfolding tries
-tells-nothing m e = ap (λ o. tries (listed o)) e
 
 -- a move without a line
 pub answered-silent : (p : ClientPlan) (attempts : List Attempt) (m : Move) → m.line ≡ None → AreAnswered p m.state attempts → KeepsAnswers p attempts m
@@ -264,10 +256,6 @@ refusal-well ops a (outcome.Unknown target) r h = h
 refused-answered : (p : ClientPlan) (c : ClientState) (d : Command) (a : Present) (how : Outcome) (attempts : List Attempt) → Here p c d a attempts → is_refusal how ≡ true → KeepsAnswers p attempts (ends p c a how)
 refused-answered p c d a how attempts k r = ends-answered p c d a how attempts k.at k.ended (refusal-well (ops_of d) (told_end p c a how) how r k.answered.hold)
 
-map-more : {A B : Type 0} (f : A → B) (xs : List A) (x : A) → map f (xs ++ x ∷ []) ≡ map f xs ++ f x ∷ []
-map-more f [] x = refl
-map-more f (y ∷ ys) x = ap (λ zs. f y ∷ zs) (map-more f ys x)
-
 -- an operation has a condition where it is asked one
 asked-condition : (op : Op) (cond : Cond) (r : Read) → condition_read op cond ≡ Some r → is_condition cond ≡ true
 asked-condition op Free r e = let no : ⊥ = cc in absurd no
@@ -278,7 +266,7 @@ asked-condition op MustNot r e = refl
 conditions-more : (ops : List Op) (a : Present) (op : Op) (there : Bool) → a.stage ≡ stage.Cond → slice_get ops a.op ≡ Some op → is_condition op.cond ≡ true → IsAnswered ops a
     → map (λ told. told.0) (a.conds ++ (a.op, there) ∷ []) ≡ condition_numbers 0 (take (a.op + 1) ops)
 conditions-more ops a op there st at cond k =
-    map-more (λ told. told.0) a.conds (a.op, there) ∙ ap (λ ns. ns ++ a.op ∷ []) (k.asked ∙ ap (conditions_due ops a.op) st)
+    map_push (λ told. told.0) a.conds (a.op, there) ∙ ap (λ ns. ns ++ a.op ∷ []) (k.asked ∙ ap (conditions_due ops a.op) st)
     ∙ ap (λ ns. condition_numbers 0 (take a.op ops) ++ ns) (sym (ap (λ b. if b then a.op ∷ [] else []) cond)) ∙ sym (conditions-next a.op ops op at)
 
 condition-answered : (p : ClientPlan) (c : ClientState) (d : Command) (a : Present) (attempts : List Attempt) (op : Op) (there : Bool) → Here p c d a attempts → a.stage ≡ stage.Cond
@@ -310,7 +298,7 @@ read-answered p c d a attempts op r b k st at fetch =
     (record { asked = k.answered.asked ∙ ap (conditions_due (ops_of d) a.op) st; answered = due; hold = k.answered.hold })
   where
     due : map (λ got. got.0) (a.gots ++ (a.op, b) ∷ []) ≡ read_numbers 0 (take (a.op + 1) (ops_of d))
-    due = map-more (λ got. got.0) a.gots (a.op, b) ∙ ap (λ ns. ns ++ a.op ∷ []) k.answered.answered
+    due = map_push (λ got. got.0) a.gots (a.op, b) ∙ ap (λ ns. ns ++ a.op ∷ []) k.answered.answered
         ∙ ap (λ x. read_numbers 0 (take a.op (ops_of d)) ++ number_of_read a.op x) (sym fetch) ∙ sym (reads-next a.op (ops_of d) op at)
 
 fetched-act : (x : Act) (r : Read) → act_read x ≡ Some r → x ≡ act.Fetch r

@@ -81,7 +81,7 @@ ends-keeps p c d a how attempts k =
 -- ---- moves that end no attempt
 
 -- nothing is told where there is no line
-tells-nothing : (m : Move) → m.line ≡ None → tells m ≡ []
+pub tells-nothing : (m : Move) → m.line ≡ None → tells m ≡ []
 unfolding tries
 tells-nothing m e = ap (λ o. tries (listed o)) e
 

@@ -23,6 +23,7 @@ use Rattle.daos_base.specs.Operations.{act_path, read_path, write_path}
 use Rattle.daos_base.specs.Placement.{ClassFits, groups, writes_leader}
 use Rattle.daos_base.specs.PlacementLaws.{group_of-within, groups-positive}
 use Rattle.daos_base.specs.Scripts.{IsActInForm, IsAkeyOf, IsDkeyOf, IsInForm, IsObjectOf, IsOpInForm, IsPathOf, IsReadInForm, IsWriteInForm}
+use Rattle.daos_laws.specs.Lists.{all-at}
 use Rattle.daos_laws.specs.Members.{Has, contains-from_has, has-from_contains}
 use Rattle.daos_laws.specs.TargetLaws.{same_number}
 use Rattle.daos_messages.specs.declared.message.Message.{Message}
@@ -55,15 +56,15 @@ use Rattle.world_events.specs.Events.{Rules, client_plan, target_plan}
 use Rattle.world_events.specs.Letters.{Takes, target}
 use Rattle.world_clients.specs.Answered.{ops_here}
 use Rattle.world_core.specs.ScriptForm.{ops-few, read-in-form, writes-declared, writes-in-form}
-use Rattle.world_gots.specs.FormLaws.{all-at, fit-object, ops-form, read-declared, write-declared}
+use Rattle.world_gots.specs.FormLaws.{fit-object, ops-form, read-declared, write-declared}
 use Rattle.world_gots.specs.Gots.{Found, Gots, IsFound, Nothing, groups_asked}
 use Rattle.world_reads.specs.Given.{FitsTargets, Given, HasItsEpoch, IsCommitRight, IsFetchRight, IsItsEpoch, IsMessageRight, IsParkedRight, IsRefusalRight}
 use Rattle.world_talks.specs.AskLaws.{asked-commit, asked-read, sent-is-asked}
 use Rattle.world_talks.specs.Carriers.{is_fetch_of}
 use Rattle.world_talks.specs.Conversation.{is_request}
-use Rattle.world_talks.specs.Asked.{ARead, ASnapshot, AnAggregation, Asked, AsksCommit, AsksRead, ItsWrites, commit_of, fetch_of, group_of_read}
+use Rattle.world_talks.specs.Asked.{ARead, ASnapshot, AnAggregation, Asked, AsksCommit, AsksRead, ItsWrites, commit_of, group_of_read}
 use Rattle.world_talks.specs.InFlight.{HearsRequest, hears-request, parked-is}
-use Rattle.world_turns.specs.Requests.{request_epoch}
+use Rattle.world_turns.specs.Requests.{fetch_message, request_epoch}
 use Rattle.world_turns.specs.Reads.{fetch_at}
 use Rattle.world_verdicts.specs.TurnLaws.{attempt-ops-here, told-of}
 
@@ -80,7 +81,7 @@ takes-one (m ∷ ms) l (inr i) = let t = takes-one ms l i in (m ∷ t.0, record 
 epoch_of : ℕ → Epoch
 epoch_of n = record { 0 = n }
 
-same-epoch : (e f : Epoch) → e.0 ≡ f.0 → e ≡ f
+pub same-epoch : (e f : Epoch) → e.0 ≡ f.0 → e ≡ f
 unfolding epoch_of
 same-epoch e f h = ap epoch_of h
 
@@ -137,9 +138,9 @@ pub record Facts (r : Rules) (o : Opening) (h : History) (w : World) : Type 0 wh
 -- ---- what is read
 
 -- the target that is asked
-read-member : (p : ClientPlan) (k : Epoch) (c : ClientState) (a : Present) (q : Post) (f : FetchRequest) → Asked p k c a q → q.message ≡ fetch_of f → q.to ≡ target (member_asked (read_path f.read).obj c.command p.targets f.group)
+read-member : (p : ClientPlan) (k : Epoch) (c : ClientState) (a : Present) (q : Post) (f : FetchRequest) → Asked p k c a q → q.message ≡ fetch_message f → q.to ≡ target (member_asked (read_path f.read).obj c.command p.targets f.group)
 read-member p k c a q f (ARead ops turns snapshot op r at is asked says) it =
-    let same : message.Fetch (attempt_id p c a) a.op (group_of_read p a (read_path r)) a.epoch a.first k r (is_some snapshot) ≡ fetch_of f = sym (ap (λ x. x.message) says) ∙ it in
+    let same : message.Fetch (attempt_id p c a) a.op (group_of_read p a (read_path r)) a.epoch a.first k r (is_some snapshot) ≡ fetch_message f = sym (ap (λ x. x.message) says) ∙ it in
     let the_read : r ≡ f.read = cc (same) in
     let the_group : group_of_read p a (read_path r) ≡ f.group = cc (same) in
     ap (λ x. x.to) says ∙ ap (λ g. target (member_asked (read_path r).obj c.command p.targets g)) the_group ∙ ap (λ z. target (member_asked (read_path z).obj c.command p.targets f.group)) the_read
@@ -229,7 +230,7 @@ pub record ReadIsAsked (r : Rules) (w : World) (t : ℕ) (f : FetchRequest) : Ty
   pub k : Epoch
   pub q : Post
   pub asked : Asked (client_plan r n) k c a q
-  pub says : q.message ≡ fetch_of f
+  pub says : q.message ≡ fetch_message f
   pub to : q.to ≡ target t
 
 pub fetch-right : (r : Rules) (o : Opening) (h : History) (w : World) (t : ℕ) (f : FetchRequest) → Facts r o h w → ReadIsAsked r w t f → f.snapshot ≡ false → IsFetchRight r t f.attempt f.op f.group f.read f.snapshot

@@ -35,9 +35,8 @@ use Rattle.world_talks.specs.Asked.{commit_of}
 use Rattle.world_talks.specs.Carriers.{InFlight, carriers, carriers_of, held_from, in_flight, is_carrier_of, open_at}
 use Rattle.world_talks.specs.Conversation.{is_request}
 use Rattle.world_talks.specs.InFlight.{HearsRequest, OpenIs, hears-request, of-letter}
-use Rattle.world_talks.specs.TalkLaws.{got-is-talk, sent-is-talk, taken-is-among}
+use Rattle.world_talks.specs.TalkLaws.{got-is-talk, left-or-it, sent-is-talk, taken-is-among}
 use Rattle.world_verdicts.specs.OpenLaws.{open-are-awaited}
-use Rattle.world_verdicts.specs.VerdictLaws.{left-or-it}
 use Rattle.world_verdicts.specs.Verdicts.{IsOnItsWay, IsRefusedOnItsWay, IsToldCommitted, IsToldRefused}
 
 module _ (r : Rules) (o : Opening) (h : History) (w : World) (k : Facts r o h w) (l : Letter) (rest : List Letter) (takes : Takes w.messages l rest) (f : CommitRequest) (i : HearsRequest r w l rest) (it : l.message ≡ commit_of f)

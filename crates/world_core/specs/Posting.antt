@@ -14,6 +14,7 @@ use Rattle.daos_base.specs.Operations.{write_path}
 use Rattle.daos_base.specs.Placement.{ClassFits, writes_leader}
 use Rattle.daos_base.specs.Scripts.{AreCommands, IsCommand, IsInForm, IsOpInForm, IsWriteInForm, SnapName, old_snap, snap_of}
 use Rattle.daos_laws.specs.DecidedLaws.{all-from_has}
+use Rattle.daos_laws.specs.Lists.{all-at}
 use Rattle.daos_laws.specs.Members.{Has, has-cases}
 use Rattle.daos_messages.specs.declared.message.Message.{Message}
 use Rattle.daos_messages.specs.declared.message.Message.TheVariants as message
@@ -30,7 +31,7 @@ use Rattle.world_core.specs.ScriptForm.{read-in-form, writes-declared, writes-in
 use Rattle.world_epochs.specs.Epochs.{Unsnapped, is_unsnapped}
 use Rattle.world_events.specs.Events.{Rules, client_plan, commands_or_none, target_plan}
 use Rattle.world_events.specs.Letters.{target}
-use Rattle.world_gots.specs.FormLaws.{all-at, fit-object, write-declared}
+use Rattle.world_gots.specs.FormLaws.{fit-object, write-declared}
 use Rattle.world_posts.specs.Forms.{AreWrites, ClientPosts, IsAsked, IsOfClient, IsReadAsked, is_told}
 use Rattle.world_posts.specs.Posting.{leader-writes}
 use Rattle.world_talks.specs.AskLaws.{move-is, waiting-rests}

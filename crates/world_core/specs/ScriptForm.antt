@@ -21,40 +21,37 @@ use Rattle.daos_base.specs.declared.script.ObjDecl.{ObjDecl}
 use Rattle.daos_base.specs.declared.script.Script.{Script}
 use Rattle.daos_base.specs.Scripts.{AreCommands, IsCommand, IsInForm, SnapName, is_numbered, old_snap, snap_of, IsActInForm, IsAkeyOf, IsDkeyOf, IsLength, IsObjectOf, IsOfObject, IsOpInForm, IsPathOf, IsReadInForm, IsWriteInForm}
 use Rattle.daos_laws.specs.DecidedLaws.{all-from_has}
+use Rattle.daos_laws.specs.Lists.{all-at}
 use Rattle.daos_laws.specs.Members.{Has, has-cases, has-from_map}
 use Rattle.daos_model.specs.Accesses.{minor_write, minor_writes}
 use Rattle.daos_model.specs.Transactions.{attempt_ops, command_of, numbered, ops_of, ops_or_none}
-use Rattle.world_gots.specs.FormLaws.{all-at}
 use Rattle.world_reads.specs.ListLaws.{increasing-pairs}
 use Rattle.daos_model.specs.BoolLaws.{both}
 use Rattle.daos_model.specs.Forms.{AreWritesInForm, minor_of, ends_at_akey, ends_at_dkey, ends_at_object, is_length, is_path_in_form, is_read_in_form, is_write_in_form}
+use Rattle.std.proofs.lemmas.Bool.{or_right}
 
 -- ---- paths
 
 of-object : (objs : List ObjDecl) (p : Path) → IsOfObject objs p → is_some p.obj ≡ true
 of-object objs p i = ap is_some (sym i.4.0)
 
-at-akey : (objs : List ObjDecl) (p : Path) → IsAkeyOf objs p → ends_at_akey p ≡ true
+pub at-akey : (objs : List ObjDecl) (p : Path) → IsAkeyOf objs p → ends_at_akey p ≡ true
 at-akey objs p k = both (is_some p.obj && is_some p.dkey) (is_some p.akey) (both (is_some p.obj) (is_some p.dkey) (of-object objs p k.declared) (ap is_some k.dkey.1)) (ap is_some k.akey.1)
 
-at-dkey : (objs : List ObjDecl) (p : Path) → IsDkeyOf objs p → ends_at_dkey p ≡ true
+pub at-dkey : (objs : List ObjDecl) (p : Path) → IsDkeyOf objs p → ends_at_dkey p ≡ true
 at-dkey objs p k = both (is_some p.obj && is_some p.dkey) (is_none p.akey) (both (is_some p.obj) (is_some p.dkey) (of-object objs p k.declared) (ap is_some k.dkey.1)) (ap is_none k.no_akey)
 
-at-object : (objs : List ObjDecl) (p : Path) → IsObjectOf objs p → ends_at_object p ≡ true
+pub at-object : (objs : List ObjDecl) (p : Path) → IsObjectOf objs p → ends_at_object p ≡ true
 at-object objs p k = both (is_some p.obj && is_none p.dkey) (is_none p.akey) (both (is_some p.obj) (is_none p.dkey) (of-object objs p k.declared) (ap is_none k.no_dkey)) (ap is_none k.no_akey)
 
-or-right : (a b : Bool) → b ≡ true → (a || b) ≡ true
-or-right true b h = refl
-or-right false b h = h
-
 any-path : (objs : List ObjDecl) (p : Path) → IsPathOf objs p → is_path_in_form p ≡ true
-any-path objs p k = both (is_none p.dkey || is_some p.obj) (is_none p.akey || is_some p.dkey) (or-right (is_none p.dkey) (is_some p.obj) (of-object objs p k.declared)) (by p.dkey refl)
+any-path objs p k = both (is_none p.dkey || is_some p.obj) (is_none p.akey || is_some p.dkey) (or_right (is_none p.dkey) (is_some p.obj) (of-object objs p k.declared)) (by p.dkey refl)
   where
     by : (d : Option (List ℕ)) → p.dkey ≡ d → (is_none p.akey || is_some p.dkey) ≡ true
     by None e = ap (λ a. is_none a || is_some p.dkey) (k.no_akey e)
-    by (Some key) e = or-right (is_none p.akey) (is_some p.dkey) (ap is_some e)
+    by (Some key) e = or_right (is_none p.akey) (is_some p.dkey) (ap is_some e)
 
-of-length : (n : ℕ) → IsLength n → is_length n ≡ true
+pub of-length : (n : ℕ) → IsLength n → is_length n ≡ true
 of-length n k = both (nat_le 1 n) (nat_le n 1024) (low n k.0) (high n k.1)
   where
     low : (n : ℕ) → 0 < n → nat_le 1 n ≡ true
@@ -63,7 +60,7 @@ of-length n k = both (nat_le 1 n) (nat_le n 1024) (low n k.0) (high n k.1)
     high : (n : ℕ) → n ≤ 1024 → nat_le n 1024 ≡ true
     high n h = grind (arith, nat_tests)
 
-of-end : (n m : ℕ) → n < m → nat_lt n m ≡ true
+pub of-end : (n m : ℕ) → n < m → nat_lt n m ≡ true
 of-end n m h = grind (arith, nat_tests)
 
 -- ---- reads and writes

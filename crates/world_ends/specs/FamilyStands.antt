@@ -1,7 +1,6 @@
 -- A family of targets, each of which keeps done versions alone and stands for what was decided, stands for that together.
 use Rattle.std.specs.Prelude.{ℕ, suc, ◌≡◌, ◌<◌, ◌≤◌, ◌+◌, ◌*◌, ◌/◌, ◌^◌, ◌&&◌, ◌||◌, ◌==◌, Bool, true, false, max, nat_lt, List, [], ◌∷◌, filter, length, map, slice_get, All, Contains, Some, refl}
 use Rattle.std.proofs.Common.{sym, ◌∙◌, ap, subst, inl, inr, arith}
-use Rattle.std.proofs.lemmas.Bool.Decides.{nat_tests}
 use Rattle.std.proofs.lemmas.List.Elements.{All-nil}
 use Rattle.daos_laws.specs.Decided.{AreDecided, Decided, taken_in}
 use Rattle.daos_laws.specs.Matches.{GivesAsOf, counts_under}
@@ -27,21 +26,19 @@ use Rattle.world_attempts.specs.History.{History, is_decided}
 use Rattle.world_reads.specs.Transactions.{counts_by, transactions}
 use Rattle.world_reads.specs.Versions.{VersionsStand, is_own_in, mark_of}
 use Rattle.daos_laws.specs.FamilyLaws.{EachGivesOwn, HasNoneUnowned, IsFamilyInForm, as_of-objects, families-agree, families-stand_for}
+use Rattle.world_core.specs.ScriptForm.{of-end}
 
 -- epochs that a lease covers are below a bound
-below-lease : (x l n : ℕ) → x / 256 ≤ l → l < n → x < n * 256
+pub below-lease : (x l n : ℕ) → x / 256 ≤ l → l < n → x < n * 256
 below-lease x l n a b = omega (arith, a, b)
 
-mark-below : (t a l n : ℕ) → t ≡ l * 256 + 255 → a ≤ t → l < n → max t a + 1 ≤ n * 256
+pub mark-below : (t a l n : ℕ) → t ≡ l * 256 + 255 → a ≤ t → l < n → max t a + 1 ≤ n * 256
 mark-below t a l n e b c = omega (arith, e, b, c)
 
 counted : (done a b lt : Bool) → done ≡ true → lt ≡ true → (done || a) ≡ ((done || b) && lt)
 counted true a b true e f = refl
 counted true a b false e f = let no : ⊥ = cc in absurd no
 counted false a b lt e f = let no : ⊥ = cc in absurd no
-
-below-is : (m n : ℕ) → m < n → nat_lt m n ≡ true
-below-is m n lt = grind (arith, nat_tests)
 
 -- ---- the statement
 
@@ -93,7 +90,7 @@ module _ (r : Rules) (o : Opening) (held : ℕ → List Version) (h : History) (
       filter_on (counts F) (counts_under (counts_by h) (2 ^ 64)) d.versions
       (λ v i. let j = contains-from_has d.versions v i in
       counted v.done (resolved F v.by) (is_decided h v.by) (nat_lt v.epoch.0 (2 ^ 64)) (k.done t d v at j)
-      (below-is v.epoch.0 (2 ^ 64) (below-lease v.epoch.0 d.lease (2 ^ 56) ((k.stand t d at).leased v j) (k.stand t d at).form.lease)))
+      (of-end v.epoch.0 (2 ^ 64) (below-lease v.epoch.0 d.lease (2 ^ 56) ((k.stand t d at).leased v j) (k.stand t d at).form.lease)))
 
   own-gives : (t : ℕ) (d : Durable) → slice_get F t ≡ Some d → GivesAsOf (is_own r.script.targets t) (counts_by h) d.versions o.stand (transactions r.script h) (2 ^ 64)
   own-gives t d at c own =

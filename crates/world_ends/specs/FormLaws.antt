@@ -1,61 +1,32 @@
 -- What the commands of a script in form are, where it makes no snapshot and reads at none.
-use Rattle.std.specs.Prelude.{ℕ, zero, suc, ◌≡◌, ◌≢◌, ◌<◌, ◌+◌, Bool, true, false, not, is_none, is_some, nat_le, nat_lt, ◌&&◌, ◌^◌, ◌++◌, List, [], ◌∷◌, filter, length, map, slice_get, All, Option, Some, None, refl, if◌then◌else◌}
+use Rattle.std.specs.Prelude.{ℕ, zero, suc, ◌≡◌, ◌≢◌, ◌<◌, ◌+◌, Bool, true, false, ◌++◌, List, [], ◌∷◌, filter, length, map, slice_get, All, Option, Some, None, refl, if◌then◌else◌}
 use Rattle.std.proofs.Common.{sym, ◌∙◌, ap, subst, arith}
-use Rattle.std.proofs.lemmas.Bool.Decides.{nat_tests}
 use Rattle.std.proofs.lemmas.List.Elements.{All-append, All-cons, All-head, All-nil, All-tail}
 use Rattle.daos_base.specs.declared.id.AttemptId.{AttemptId}
 use Rattle.daos_base.specs.declared.operation.Act.{Act}
 use Rattle.daos_base.specs.declared.operation.Act.TheVariants.{Fetch, Change}
 use Rattle.daos_base.specs.declared.operation.MinorWrite.{MinorWrite}
 use Rattle.daos_base.specs.declared.operation.Op.{Op}
-use Rattle.daos_base.specs.declared.operation.Write.{Write}
 use Rattle.daos_base.specs.declared.operation.Write.TheVariants as write
-use Rattle.daos_base.specs.declared.path.Path.{Path}
 use Rattle.daos_base.specs.declared.script.Command.{Command}
 use Rattle.daos_base.specs.declared.script.Command.TheVariants.{Run, Snap, Aggregate, Tell, Skip}
 use Rattle.daos_base.specs.declared.script.ContDecl.{ContDecl}
 use Rattle.daos_base.specs.declared.script.ObjDecl.{ObjDecl}
 use Rattle.daos_base.specs.declared.script.Script.{Script}
-use Rattle.daos_base.specs.Scripts.{AreCommands, IsActInForm, IsAkeyOf, IsCommand, IsDkeyOf, IsInForm, IsLength, IsObjectOf, IsOpInForm, IsWriteInForm, SnapName, is_numbered, old_snap, snap_of}
+use Rattle.daos_base.specs.Scripts.{AreCommands, IsActInForm, IsCommand, IsInForm, IsOpInForm, SnapName, is_numbered, old_snap, snap_of}
+use Rattle.daos_laws.specs.Lists.{all-at}
 use Rattle.daos_model.specs.Accesses.{minor_write, minor_writes}
-use Rattle.daos_model.specs.Attempts.{snapshot_of_command, snapshot_or_none}
-use Rattle.daos_model.specs.BoolLaws.{both}
-use Rattle.daos_model.specs.Forms.{ends_at_akey, ends_at_dkey, ends_at_object, is_length, is_write_in_form}
+use Rattle.daos_model.specs.Attempts.{snapshot_or_none}
+use Rattle.daos_model.specs.Forms.{is_write_in_form}
 use Rattle.daos_model.specs.Transactions.{attempt_ops, command_of, numbered_at, ops_of, read_numbers}
+use Rattle.world_core.specs.ScriptForm.{write-in-form}
 use Rattle.world_epochs.specs.Epochs.{Unsnapped, is_unsnapped}
 use Rattle.world_events.specs.Events.{Rules, commands_or_none}
-use Rattle.world_gots.specs.FormLaws.{all-at, ops-form}
+use Rattle.world_gots.specs.FormLaws.{ops-form}
 use Rattle.world_ends.specs.Decisions.{NoSnapshots}
+use Rattle.world_ends.specs.PlainCauses.{reads-now}
 
 -- ---- writes
-
-akey-ends : (objs : List ObjDecl) (p : Path) → IsAkeyOf objs p → ends_at_akey p ≡ true
-akey-ends objs p k =
-    both (is_some p.obj && is_some p.dkey) (is_some p.akey) (both (is_some p.obj) (is_some p.dkey) (ap is_some (sym k.declared.4.0)) (ap is_some k.dkey.1)) (ap is_some k.akey.1)
-
-dkey-ends : (objs : List ObjDecl) (p : Path) → IsDkeyOf objs p → ends_at_dkey p ≡ true
-dkey-ends objs p k =
-    both (is_some p.obj && is_some p.dkey) (is_none p.akey) (both (is_some p.obj) (is_some p.dkey) (ap is_some (sym k.declared.4.0)) (ap is_some k.dkey.1)) (ap is_none k.no_akey)
-
-object-ends : (objs : List ObjDecl) (p : Path) → IsObjectOf objs p → ends_at_object p ≡ true
-object-ends objs p k =
-    both (is_some p.obj && is_none p.dkey) (is_none p.akey) (both (is_some p.obj) (is_none p.dkey) (ap is_some (sym k.declared.4.0)) (ap is_none k.no_dkey)) (ap is_none k.no_akey)
-
-length-is : (n : ℕ) → IsLength n → is_length n ≡ true
-length-is n k = let low : 0 < n = k.0 in let high = k.1 in both (nat_le 1 n) (nat_le n 1024) (grind (arith, nat_tests)) (grind (arith, nat_tests))
-
-below-is : (m n : ℕ) → m < n → nat_lt m n ≡ true
-below-is m n lt = grind (arith, nat_tests)
-
-pub write-form : (objs : List ObjDecl) (w : Write) → IsWriteInForm objs w → is_write_in_form w ≡ true
-unfolding is_write_in_form
-write-form objs (write.Single p bytes) k = both (ends_at_akey p) (is_length (length bytes)) (akey-ends objs p k.0) (length-is (length bytes) k.1)
-write-form objs (write.Extent p low bytes) k =
-    both (ends_at_akey p && is_length (length bytes)) (nat_lt (low + length bytes) (2 ^ 32))
-    (both (ends_at_akey p) (is_length (length bytes)) (akey-ends objs p k.0) (length-is (length bytes) k.1)) (below-is (low + length bytes) (2 ^ 32) k.2)
-write-form objs (write.PunchObject p) k = object-ends objs p k
-write-form objs (write.PunchDkey p) k = dkey-ends objs p k
-write-form objs (write.PunchAkey p) k = akey-ends objs p k
 
 abbrev pub IsMinorInForm : MinorWrite → Type 0
 IsMinorInForm w = is_write_in_form w.write ≡ true
@@ -68,7 +39,7 @@ minors-form objs n (op ∷ ops) forms =
   where
     one : (act : Act) → IsActInForm objs act → All IsMinorInForm (minor_write n act)
     one (Fetch r) k = All-nil IsMinorInForm
-    one (Change w) k = All-cons IsMinorInForm (record { minor = n; write = w }) [] (write-form objs w k) (All-nil IsMinorInForm)
+    one (Change w) k = All-cons IsMinorInForm (record { minor = n; write = w }) [] (write-in-form objs w k) (All-nil IsMinorInForm)
 
 -- the writes of an attempt are in form
 pub attempt-writes-form : (targets : ℕ) (s : Script) (x : AttemptId) → IsInForm targets s → All IsMinorInForm (minor_writes 0 (attempt_ops s x))
@@ -108,24 +79,13 @@ command-plain r x d plain at = by (slice_get r.script.clients x.client) refl at
         let f = filter-at is_numbered list x.command d h in
         (plain x.client f.0 d (ap (λ o. slice_get (commands_or_none o) f.0) e ∙ f.1), f.2)
 
-plain-reads : (d : Command) → is_unsnapped d ≡ true → snapshot_of_command d ≡ None
-plain-reads (Run ops skips snapshot) e = by snapshot e
-  where
-    by : (o : Option (List ℕ)) → not (is_some o) ≡ true → o ≡ None
-    by None h = refl
-    by (Some name) h = let no : ⊥ = cc in absurd no
-plain-reads (Snap name cont) e = refl
-plain-reads (Aggregate cont) e = refl
-plain-reads (Tell client) e = refl
-plain-reads (Skip turns) e = refl
-
 -- no attempt reads at a snapshot
 pub no-snapshots : (r : Rules) → Unsnapped r → NoSnapshots r.script
 no-snapshots r plain x = by (command_of r.script x) refl
   where
     by : (o : Option Command) → command_of r.script x ≡ o → snapshot_or_none (command_of r.script x) ≡ None
     by None e = ap snapshot_or_none e
-    by (Some d) e = ap snapshot_or_none e ∙ plain-reads d (command-plain r x d plain e).0
+    by (Some d) e = ap snapshot_or_none e ∙ reads-now d (command-plain r x d plain e).0
 
 -- and none makes one
 pub no-snaps : (r : Rules) (x : AttemptId) (d : Command) → Unsnapped r → command_of r.script x ≡ Some d → is_unsnapped d ≡ false → ⊥

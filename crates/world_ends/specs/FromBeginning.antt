@@ -16,6 +16,7 @@ use Rattle.daos_model.specs.Finals.{HeadlineOver}
 use Rattle.daos_model.specs.Headline.{Headline}
 use Rattle.daos_model.specs.Opening.{Given, Opening, undisturbed}
 use Rattle.daos_model.specs.Order.{AllInTurn}
+use Rattle.std.proofs.lemmas.Option.{slice_get_past}
 use Rattle.world_addresses.specs.Addresses.{Crowd, GoesTo, IsClient, IsTarget, crowd}
 use Rattle.world_asks.specs.EndLaws.{ends-settled}
 use Rattle.world_asks.specs.Ends.{IsSettledAt}
@@ -109,11 +110,6 @@ outside [] n none = omega arith
 outside (x ∷ xs) zero none = let no : ⊥ = cc in absurd no
 outside (x ∷ xs) (suc n) none = let k : length xs ≤ n = outside xs n none in omega (arith, k)
 
-beyond : {T : Type 0} (xs : List T) (n : ℕ) → length xs ≤ n → slice_get xs n ≡ None
-beyond [] n le = refl
-beyond (x ∷ xs) zero le = absurd (omega (arith, le))
-beyond (x ∷ xs) (suc n) le = beyond xs n (omega (arith, le))
-
 past-end : (m n : ℕ) → nat_le m n ≡ true → m ≤ n
 past-end m n h = grind (arith, nat_tests)
 
@@ -124,7 +120,7 @@ at-none p c attempts done k = by c.present refl k.at_present
     by : (o : Option Present) → c.present ≡ o → AreOfPresent p c.place c.command k.begun (number_of o) → o ≡ None
     by None at here = refl
     by (Some a) at here =
-        let none : slice_get p.commands c.place ≡ None = beyond p.commands c.place (past-end (length p.commands) c.place done) in
+        let none : slice_get p.commands c.place ≡ None = slice_get_past p.commands c.place (past-end (length p.commands) c.place done) in
         let bad : false ≡ true = sym (ap has_number none) ∙ here.2 in
         let no : ⊥ = cc in absurd no
 
@@ -156,7 +152,7 @@ module _ (r : Rules) (o : Opening) (held : ℕ → List Version) (v : World) (k 
       ]
 
   has-clients : HasClients r v
-  has-clients n none = beyond r.script.clients n (subst (λ m. m ≤ n) k.carried.whole.all.facts.addressed.clients (outside v.clients n none))
+  has-clients n none = slice_get_past r.script.clients n (subst (λ m. m ≤ n) k.carried.whole.all.facts.addressed.clients (outside v.clients n none))
 
   pub is-over : IsOver r v
   is-over = record {

@@ -22,7 +22,7 @@ use Rattle.daos_model.specs.declared.durable.Version.{Version}
 use Rattle.daos_model.specs.declared.stand.Stand.{Stand}
 use Rattle.daos_model.specs.declared.stand.Taken.{Taken}
 use Rattle.daos_model.specs.Accesses.{op_path}
-use Rattle.daos_model.specs.Answers.{has_cell_below, yes_or_no}
+use Rattle.daos_model.specs.Answers.{has_cell_below}
 use Rattle.daos_model.specs.AsOf.{as_of}
 use Rattle.daos_model.specs.Attempts.{is_unknown, snapshot_of, tries}
 use Rattle.daos_model.specs.Finals.{SameMap}
@@ -38,7 +38,7 @@ use Rattle.world_events.specs.Events.{Rules}
 use Rattle.world_gots.specs.Gots.{IsLineServed}
 use Rattle.world_gots.specs.MoreLaws.{all-more}
 use Rattle.world_gots.specs.Right.{IsOfThisRun}
-use Rattle.world_gots.specs.ToldLaws.{lines-right}
+use Rattle.world_gots.specs.ToldLaws.{lines-right, yes-is}
 use Rattle.world_attempts.specs.History.{History}
 use Rattle.world_reads.specs.Transactions.{decided_of, transactions}
 use Rattle.world_ends.specs.Decisions.{DecisionsTold, took-same_map}
@@ -84,10 +84,6 @@ pub then-dkeys : (r : Rules) (o : Opening) (h : History) (targets : ℕ) (e : �
 then-dkeys r o h targets e form opens = as_of-dkeys o.stand (transactions r.script h) e (opening-dkeys o opens) (decided-form r h targets form)
 
 -- ---- maps that hold the same
-
-yes-is : (b : Bool) → is_yes (yes_or_no b) ≡ b
-yes-is true = refl
-yes-is false = refl
 
 right-same : (ops : List Op) (m n : List CellValue) (a : Attempt) → SameMap m n → IsToldRight ops (Some m) a → IsToldRight ops (Some n) a
 right-same ops m n a same k = (all-more (IsRightAnswer ops m) (IsRightAnswer ops n) a.gots got k.0, all-more (IsRightCondition ops m) (IsRightCondition ops n) a.conds told k.1)

@@ -1,6 +1,6 @@
 -- When a run is over, the targets stand for exactly what took effect.
-use Rattle.std.specs.Prelude.{ℕ, zero, suc, ◌≡◌, ◌^◌, ◌⊎◌, Bool, true, false, List, [], ◌∷◌, length, map, slice_get, All, Contains, Some, refl}
-use Rattle.std.proofs.Common.{sym, ◌∙◌, ap, subst}
+use Rattle.std.specs.Prelude.{ℕ, zero, suc, ◌≡◌, ◌^◌, ◌⊎◌, Bool, true, false, List, [], ◌∷◌, map, slice_get, All, Contains, Some, refl}
+use Rattle.std.proofs.Common.{sym, ◌∙◌, subst}
 use Rattle.std.proofs.lemmas.List.Elements.{All-nil}
 use Rattle.daos_base.specs.declared.report.Attempt.{Attempt}
 use Rattle.daos_base.specs.declared.script.Command.TheVariants.{Snap}
@@ -23,6 +23,7 @@ use Rattle.world_epochs.specs.Epochs.{Unsnapped}
 use Rattle.world_begins.specs.Begins.{IsOpeningPlain}
 use Rattle.world_events.specs.Events.{Rules}
 use Rattle.daos_laws.specs.EntryLaws.{found-has}
+use Rattle.daos_model.specs.FormLaws.{length-map}
 use Rattle.world_attempts.specs.History.{History}
 use Rattle.world_reads.specs.Versions.{VersionsStand}
 use Rattle.world_ends.specs.Decisions.{took-same_map}
@@ -61,10 +62,6 @@ pub from-durables : (ss : List TargetState) (t : ℕ) (d : Durable) → slice_ge
 from-durables [] t d at = let no : ⊥ = cc in absurd no
 from-durables (s ∷ ss) zero d at = (s, refl, let same : s.durable ≡ d = cc in same)
 from-durables (s ∷ ss) (suc t) d at = from-durables ss t d at
-
-pub length-map : {A B : Type 0} (f : A → B) (xs : List A) → length (map f xs) ≡ length xs
-length-map f [] = refl
-length-map f (x ∷ xs) = ap suc (length-map f xs)
 
 pub stands-last : (g : Given) (held : ℕ → List Version) (h : History) (w : World) → IsPlain (rules_of g) w → IsOpeningPlain g.opening → Facts (rules_of g) g.opening held h w → IsOver (rules_of g) w → TellsPlain w
     → StandInTheEnd g (durables_of w) (report_of (rules_of g) w)

@@ -1,18 +1,19 @@
 -- What a run leaves that has ended, the next one may begin with.
-use Rattle.std.specs.Prelude.{ℕ, zero, suc, ◌≡◌, ◌≤◌, ◌<◌, ◌^◌, true, false, List, [], ◌∷◌, find, length, map, slice_get, Contains, Some, refl}
+use Rattle.std.specs.Prelude.{ℕ, zero, suc, ◌≡◌, ◌≤◌, ◌<◌, ◌^◌, true, false, List, [], ◌∷◌, length, map, slice_get, Contains, Some, refl}
 use Rattle.std.proofs.Common.{sym, ◌∙◌, ap, subst, arith}
 use Rattle.std.proofs.lemmas.Option.{slice_get_within}
 use Rattle.daos_base.specs.declared.entry.Entry.{Entry}
 use Rattle.daos_base.specs.declared.id.ContId.{ContId}
-use Rattle.daos_laws.specs.FamilyLaws.{at-within}
+use Rattle.daos_laws.specs.Lists.{at-within}
 use Rattle.daos_laws.specs.Members.{has-from_contains}
 use Rattle.daos_laws.specs.Targets.{ArePlaced}
 use Rattle.daos_model.specs.declared.durable.Durable.{Durable}
 use Rattle.daos_model.specs.declared.durable.Version.{Version}
 use Rattle.daos_model.specs.AsOf.{as_of}
-use Rattle.daos_model.specs.Durables.{entry_of, is_row_of, row_of, row_or_new}
+use Rattle.daos_model.specs.Durables.{entry_of, row_of}
 use Rattle.daos_model.specs.Family.{greatest_lease, resolved, stand, top_of}
 use Rattle.daos_model.specs.Finals.{SameMap, opening_of}
+use Rattle.daos_model.specs.FormLaws.{length-map}
 use Rattle.daos_model.specs.Opening.{Given, Opening, top}
 use Rattle.daos_model.specs.TookEffect.{took}
 use Rattle.world_addresses.specs.Staying.{StaysAs, runs-keep-targets}
@@ -20,13 +21,14 @@ use Rattle.world_attempts.specs.History.{History}
 use Rattle.world_base.specs.declared.target.TargetState.{TargetState}
 use Rattle.world_base.specs.declared.world.World.{World}
 use Rattle.world_begins.specs.Begins.{IsBegun, IsSimple, held_at}
+use Rattle.world_causes.specs.Floors.{row-stays}
 use Rattle.world_ends.specs.Carried.{CarriedBy}
 use Rattle.world_ends.specs.Decisions.{took-same_map}
 use Rattle.world_ends.specs.Ends.{Facts, IsPlain, durable_of, durables_of, rules_of}
 use Rattle.world_ends.specs.FamilyStands.{StandTogether, StandsFor, families-stand_for_decided}
 use Rattle.world_ends.specs.FromBeginning.{carried, over, tells}
 use Rattle.world_ends.specs.LastReads.{decided-form, last-told}
-use Rattle.world_ends.specs.LastStand.{from-durables, length-map, settled-done}
+use Rattle.world_ends.specs.LastStand.{from-durables, settled-done}
 use Rattle.world_ends.specs.Runs.{at-the-end, plain-then}
 use Rattle.world_ends.specs.Settled.{AreSettled, IsSettled, OpenTogether, floors-rise, lease-within, leases-below, open-together}
 use Rattle.world_events.specs.Ended.{HasEnded}
@@ -87,13 +89,8 @@ forgotten-stands r o held h t d k done = record {
     settled : (v : Version) → v.done ≡ true → v.done ≡ false → ⊥
     settled v is not = cc
 
--- the row of a container depends on the rows alone
-same-rows : (d e : Durable) (cont : ContId) → e.conts ≡ d.conts → row_of e cont ≡ row_of d cont
-unfolding row_of
-same-rows d e cont same = ap (λ rows. row_or_new cont (find (is_row_of cont) rows)) same
-
 forgotten-row : (d : Durable) (cont : ContId) → row_of (forgotten d) cont ≡ row_of d cont
-forgotten-row d cont = same-rows d (forgotten d) cont refl
+forgotten-row d cont = row-stays d (forgotten d) cont refl
 
 -- ---- all targets
 
@@ -171,7 +168,7 @@ module _ (g : Given) (w v : World) (A : IsSimple (rules_of g)) (b : IsBegun (rul
   settled-at t s here =
       let k = stand-then t s here in
       let z = was t s here in
-      let row : (cont : ContId) → row_of (forgotten s.durable) cont ≡ row_of z.0.durable cont = λ cont. forgotten-row s.durable cont ∙ same-rows z.0.durable s.durable cont z.2.keeps.conts in
+      let row : (cont : ContId) → row_of (forgotten s.durable) cont ≡ row_of z.0.durable cont = λ cont. forgotten-row s.durable cont ∙ row-stays z.0.durable s.durable cont z.2.keeps.conts in
       let floors = (b.starts t z.0 z.1).opens.floors in
       record {
         form = k.form;

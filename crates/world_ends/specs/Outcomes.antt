@@ -2,7 +2,6 @@
 use Rattle.std.specs.Prelude.{ℕ, suc, ◌≡◌, ◌≢◌, ◌+◌, ◌++◌, ◌⊎◌, true, false, is_some, List, [], ◌∷◌, map, slice_get, Option, Some, None, refl}
 use Rattle.std.proofs.Common.{sym, ◌∙◌, ap, subst, inl, inr, arith}
 use Rattle.daos_base.specs.declared.epoch.Epoch.{Epoch}
-use Rattle.daos_base.specs.declared.id.AttemptId.{AttemptId}
 use Rattle.daos_base.specs.declared.operation.MinorWrite.{MinorWrite}
 use Rattle.daos_base.specs.declared.operation.Op.{Op}
 use Rattle.daos_base.specs.declared.outcome.Outcome.{Outcome}
@@ -29,7 +28,7 @@ use Rattle.daos_model.specs.Snapshots.{ComesFrom, NoneLegal, SnapshotsLegal}
 use Rattle.daos_model.specs.Transactions.{attempt_ops, command_of, numbered_at}
 use Rattle.world_base.specs.declared.client.ClientState.{ClientState}
 use Rattle.world_base.specs.declared.world.World.{World}
-use Rattle.world_clients.specs.Answered.{EndsAsAnswered, EndsWell, IsAnsweredWhole, ops_numbered}
+use Rattle.world_clients.specs.Answered.{EndsAsAnswered, EndsWell, IsAnsweredWhole}
 use Rattle.world_events.specs.Events.{Rules, client_plan}
 use Rattle.world_gots.specs.Gots.{AreServed, IsLineServed}
 use Rattle.world_gots.specs.ToldLaws.{nothing-told}
@@ -41,6 +40,7 @@ use Rattle.world_ends.specs.Ends.{Facts, IsOver, IsPlain, TellsPlain, is_sure, r
 use Rattle.world_ends.specs.FormLaws.{no-ops, no-snaps, no-snapshots, some-op}
 use Rattle.world_ends.specs.StopLaws.{each-line, tries-undisturbed, try-comes}
 use Rattle.world_epochs.specs.Epochs.{Unsnapped}
+use Rattle.world_gots.specs.StepGots.{ops-of-attempt}
 
 -- ---- commands of attempts
 
@@ -85,14 +85,6 @@ has-command limit s lines a turn i = by (slice_get s.clients a.id.client) refl
 
 -- ---- conditions
 
-ops-of_attempt : (r : Rules) (x : AttemptId) → ops_numbered (client_plan r x.client) x.command ≡ attempt_ops r.script x
-unfolding command_of
-ops-of_attempt r x = by (slice_get r.script.clients x.client) refl
-  where
-    by : (o : Option (List Command)) → slice_get r.script.clients x.client ≡ o → ops_numbered (client_plan r x.client) x.command ≡ attempt_ops r.script x
-    by None e = rw e refl
-    by (Some list) e = rw e refl
-
 -- an attempt of the lines ended as it was answered
 ended-well : (r : Rules) (w : World) (a : Attempt) → Lines r w → Has a (tries w.lines) → EndsWell (attempt_ops r.script a.id) a a.outcome
 ended-well r w a k i = by (slice_get w.clients a.id.client) refl
@@ -103,7 +95,7 @@ ended-well r w a k i = by (slice_get w.clients a.id.client) refl
     by : (o : Option ClientState) → slice_get w.clients a.id.client ≡ o → EndsWell (attempt_ops r.script a.id) a a.outcome
     by None e = absurd (subst (Has a) (k.nobody a.id.client e) mine)
     by (Some c) e =
-        subst (λ ops. EndsWell ops a a.outcome) (ops-of_attempt r a.id)
+        subst (λ ops. EndsWell ops a a.outcome) (ops-of-attempt r a.id)
         (has-all (EndsAsAnswered (client_plan r a.id.client)) (tries_of a.id.client w.lines) a (lines-answered r w a.id.client c k e) mine)
 
 -- an attempt that was answered something has an epoch, and so has one whose writes are committed

@@ -18,7 +18,7 @@ use Rattle.world_epochs.specs.Epochs.{Unsnapped, is_unsnapped}
 use Rattle.world_events.specs.Events.{Rules}
 use Rattle.world_gots.specs.FormLaws.{fit-object, ops-form, write-declared}
 
-reads-now : (d : Command) → is_unsnapped d ≡ true → snapshot_of_command d ≡ None
+pub reads-now : (d : Command) → is_unsnapped d ≡ true → snapshot_of_command d ≡ None
 reads-now (Run ops turns None) plain = refl
 reads-now (Run ops turns (Some name)) plain = let no : ⊥ = cc in absurd no
 reads-now (Snap name cont) plain = refl

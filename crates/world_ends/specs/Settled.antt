@@ -6,7 +6,8 @@ use Rattle.daos_base.specs.declared.id.ContId.{ContId}
 use Rattle.daos_base.specs.Epochs.{restart_floor}
 use Rattle.daos_base.specs.Placement.{path_leader}
 use Rattle.daos_laws.specs.Dated.{AreSingleInOrder}
-use Rattle.daos_laws.specs.FamilyLaws.{at-within, leader-within, versions-objects}
+use Rattle.daos_laws.specs.FamilyLaws.{leader-within, versions-objects}
+use Rattle.daos_laws.specs.Lists.{at-within, filter-all}
 use Rattle.daos_laws.specs.Members.{contains-from_has}
 use Rattle.daos_laws.specs.TargetLaws.{agreeing-hold, families-dkeys, family-leaders}
 use Rattle.daos_laws.specs.Targets.{ArePlaced, is_own}
@@ -20,7 +21,6 @@ use Rattle.daos_model.specs.Family.{Agree, counts, greatest_lease, resolved, sna
 use Rattle.daos_model.specs.Finals.{opening_of}
 use Rattle.daos_model.specs.Opening.{Opening}
 use Rattle.daos_model.specs.Versions.{writes_in}
-use Rattle.world_begins.specs.BeginLaws.{filter-all}
 use Rattle.world_begins.specs.Begins.{IsOpeningPlain, OpensWith}
 use Rattle.world_ends.specs.FamilyStands.{at-has, none-created}
 

@@ -9,6 +9,7 @@ use Rattle.daos_base.specs.declared.outcome.Outcome.TheVariants as outcome
 use Rattle.daos_base.specs.declared.report.Attempt.{Attempt}
 use Rattle.daos_base.specs.declared.report.Line.{Line}
 use Rattle.daos_laws.specs.DecidedLaws.{all-from_has}
+use Rattle.daos_laws.specs.EntryLaws.{same-attempt}
 use Rattle.daos_laws.specs.Members.{Has}
 use Rattle.daos_room.specs.Lines.{line-of}
 use Rattle.daos_model.specs.Attempts.{is_lost, tries}
@@ -17,7 +18,6 @@ use Rattle.daos_model.specs.Durables.{same_attempt}
 use Rattle.daos_model.specs.Opening.{Opening}
 use Rattle.world_base.specs.declared.world.World.{World}
 use Rattle.world_causes.specs.Causes.{Causes, Dated, MeetsOther, Shows, Stored, is_try}
-use Rattle.world_epochs.specs.Lists.{same-attempt}
 use Rattle.world_events.specs.Events.{Rules}
 use Rattle.world_ends.specs.Ends.{TellsPlain, is_sure}
 

@@ -1,7 +1,6 @@
 -- A client whose conversation is in order has at most one letter in flight, and none where it doesn't wait.
-use Rattle.std.specs.Prelude.{ℕ, ◌≡◌, ◌++◌, Bool, true, false, List, [], ◌∷◌, filter, map, slice_get, Some, refl}
+use Rattle.std.specs.Prelude.{◌≡◌, ◌++◌, Bool, true, false, List, [], ◌∷◌, filter, map, refl}
 use Rattle.std.proofs.Common.{sym, ◌∙◌}
-use Rattle.world_base.specs.declared.client.ClientState.{ClientState}
 use Rattle.world_base.specs.declared.letter.Letter.{Letter}
 use Rattle.world_base.specs.declared.world.World.{World}
 use Rattle.world_base.specs.ClientTurns.{waits}

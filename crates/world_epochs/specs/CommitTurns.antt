@@ -1,6 +1,6 @@
 -- What a target does with epochs that hears a Commit: as with a Fetch; and the entry that it stores has the epoch.
-use Rattle.std.specs.Prelude.{ℕ, ◌≡◌, ◌≤◌, ◌<◌, ◌/◌, Bool, true, false, map, List, [], ◌∷◌, Option, Some, None, refl, if◌then◌else◌}
-use Rattle.std.proofs.Common.{sym, ◌∙◌, ap, subst, arith}
+use Rattle.std.specs.Prelude.{ℕ, ◌≡◌, ◌≤◌, ◌<◌, ◌/◌, Bool, true, false, List, [], Option, Some, None, refl, if◌then◌else◌}
+use Rattle.std.proofs.Common.{sym, ap, subst, arith}
 use Rattle.daos_base.specs.declared.entry.Entry.{Entry}
 use Rattle.daos_base.specs.declared.epoch.Epoch.{Epoch}
 use Rattle.daos_base.specs.declared.operation.MinorWrite.{MinorWrite}
@@ -9,7 +9,6 @@ use Rattle.daos_base.specs.declared.outcome.Outcome.{Outcome}
 use Rattle.daos_base.specs.declared.outcome.Outcome.TheVariants as outcome
 use Rattle.daos_base.specs.Epochs.{heard_ticks}
 use Rattle.daos_messages.specs.declared.actor.ActorId.{ActorId}
-use Rattle.daos_messages.specs.declared.message.Message.TheVariants as message
 use Rattle.daos_messages.specs.declared.message.Post.{Post}
 use Rattle.daos_model.specs.Blocks.{blocks}
 use Rattle.dtx_base.specs.Leading.{LeaderOf, begun, begun_alone, begun_with_others, prepare_to}
@@ -25,8 +24,9 @@ use Rattle.world_turns.specs.PathLaws.{path-keeps}
 use Rattle.world_turns.specs.Requests.{issued_for, request_epoch}
 use Rattle.world_turns.specs.Roles.{leader_at}
 use Rattle.world_turns.specs.Turns.{Path, Whole}
-use Rattle.world_epochs.specs.FetchTurns.{Covers, Dates, IsDated, IsSpent, heard-up, lease-covers}
+use Rattle.world_epochs.specs.FetchTurns.{Covers, Dates, IsDated, IsSpent, lease-covers}
 use Rattle.world_epochs.specs.Sayings.{AreParkedKnown, Known, Leaves, Says, SaysAll, Spent, Stays, says-map, step-stays}
+use Rattle.world_turns.specs.MemoryLaws.{heard-up}
 
 -- ---- the steps
 

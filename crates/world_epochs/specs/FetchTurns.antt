@@ -1,6 +1,6 @@
 -- What a target does with epochs that hears a Fetch: it issues one where the Fetch has none, its lease and ticks cover it, and what
 -- it says bears it.
-use Rattle.std.specs.Prelude.{ℕ, ◌≡◌, ◌≤◌, ◌<◌, ◌*◌, ◌/◌, Bool, true, false, min, max, nat_le, List, [], ◌∷◌, Option, Some, None, refl, if◌then◌else◌}
+use Rattle.std.specs.Prelude.{ℕ, ◌≡◌, ◌≤◌, ◌<◌, ◌*◌, ◌/◌, true, false, min, nat_le, List, Option, Some, None, refl, if◌then◌else◌}
 use Rattle.std.specs.Int.{div_ceil}
 use Rattle.std.proofs.Common.{sym, ◌∙◌, ap, subst, arith}
 use Rattle.std.proofs.lemmas.Bool.Decides.{nat_tests}
@@ -26,6 +26,7 @@ use Rattle.world_turns.specs.Requests.{issued_for, request_epoch, with_ticks}
 use Rattle.world_turns.specs.Turns.{Path, Whole}
 use Rattle.world_epochs.specs.Epochs.{BearsEpoch}
 use Rattle.world_epochs.specs.Sayings.{AreParkedKnown, Known, Leaves, SaysAll, Spent, Stays, parked-push, step-stays}
+use Rattle.world_turns.specs.MemoryLaws.{heard-up, member-then}
 
 -- ---- leases and ticks
 
@@ -44,13 +45,6 @@ lease-of n last l h =
 -- a lease covers the ticks that it is stored for
 pub lease-covers : (n l : ℕ) → lease_for n ≡ Some l → n ≤ l
 lease-covers n l h = lease-of n last_ticks l h
-
--- ticks that hear of an epoch cover it, and don't go down
-pub heard-up : (n e : ℕ) → (n ≤ heard_ticks n e) × (e / 256 ≤ heard_ticks n e)
-heard-up n e = up n (e / 256)
-  where
-    up : (a b : ℕ) → (a ≤ max a b) × (b ≤ max a b)
-    up a b = (omega arith, omega arith)
 
 -- ---- what a turn found
 
@@ -104,13 +98,6 @@ module _ (P : Known) (low : ℕ) (t : TargetPlan) (m : TargetMemory) (reading : 
 
 ticks-then : (q : FetchRequest) (e : Epoch) (decided : List AttemptId) (m : TargetMemory) → q.snapshot ≡ false → (read.memory_then q e decided m).ticks ≡ heard_ticks m.ticks e.0
 ticks-then q e decided m plain = ap (λ b. (if b then m else with_ticks e m).ticks) plain
-
-member-then : (q : FetchRequest) (e : Epoch) (decided : List AttemptId) (m : TargetMemory) → (read.memory_then q e decided m).member ≡ m.member
-member-then q e decided m = by q.snapshot
-  where
-    by : (b : Bool) → (if b then m else with_ticks e m).member ≡ m.member
-    by true = refl
-    by false = refl
 
 -- ---- what it ends with
 

@@ -31,18 +31,14 @@ use Rattle.world_epochs.specs.ClientLaws.{IsQuiet, quiet-keeps, same-id}
 use Rattle.world_epochs.specs.Epochs.{AsksFirst, Epochs, IsIssued, IsUnissued, Unsnapped}
 use Rattle.world_epochs.specs.Lists.{contains-cons, contains-none}
 use Rattle.world_epochs.specs.MoveLaws.{AtWork, Keeps, ends-keeps, goes-keeps, quiet-goes, quiet-same, sends-nothing, sure-ends, unsaid-keeps}
+use Rattle.world_talks.specs.HearLaws.{greatest-above}
 
 -- ---- trackers
-
-pub greatest-up : (t : ℕ) (es : List ℕ) → t ≤ greatest t es
-unfolding greatest
-greatest-up t [] = omega arith
-greatest-up t (e ∷ es) = let k : max t e ≤ greatest (max t e) es = greatest-up (max t e) es in omega (arith, k)
 
 pub greatest-has : (t : ℕ) (es : List ℕ) (e : ℕ) → Contains es e → e ≤ greatest t es
 unfolding greatest
 greatest-has t [] e h = absurd (contains-none e h)
-greatest-has t (f ∷ es) e h = by (greatest-up (max t f) es) (λ k. greatest-has (max t f) es e k) (contains-cons f es e h)
+greatest-has t (f ∷ es) e h = by (greatest-above (max t f) es) (λ k. greatest-has (max t f) es e k) (contains-cons f es e h)
   where
     by : max t f ≤ greatest (max t f) es → (Contains es e → e ≤ greatest (max t f) es) → (f ≡ e) ⊎ Contains es e → e ≤ greatest (max t f) es
     by up ih (inl same) = omega (arith, up, same)

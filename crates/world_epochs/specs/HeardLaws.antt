@@ -9,13 +9,16 @@ use Rattle.daos_base.specs.declared.id.AttemptId.{AttemptId}
 use Rattle.daos_base.specs.declared.outcome.Cause.TheVariants.{Unresolved}
 use Rattle.daos_base.specs.declared.outcome.Outcome.{Outcome}
 use Rattle.daos_base.specs.declared.outcome.Outcome.TheVariants as outcome
+use Rattle.daos_laws.specs.EntryLaws.{same-attempt}
 use Rattle.daos_messages.specs.declared.message.Message.{Message, more_of-Message}
 use Rattle.daos_messages.specs.declared.message.Message.TheVariants as message
 use Rattle.daos_messages.specs.declared.message.Reply.{Reply}
 use Rattle.daos_messages.specs.declared.message.Reply.TheVariants as reply
 use Rattle.daos_model.specs.Attempts.{is_lost, is_unknown}
 use Rattle.daos_model.specs.Durables.{same_attempt}
+use Rattle.daos_model.specs.EntryLaws.{same_attempt-itself}
 use Rattle.daos_model.specs.Order.{told_by}
+use Rattle.std.proofs.lemmas.Bool.{and_parts}
 use Rattle.world_base.specs.declared.client.ClientState.{ClientState}
 use Rattle.world_base.specs.declared.client.Present.{Present}
 use Rattle.world_base.specs.declared.letter.Letter.{Letter}
@@ -27,10 +30,12 @@ use Rattle.world_events.specs.Steps.{without}
 use Rattle.world_epochs.specs.Asking.{ops-at}
 use Rattle.world_epochs.specs.ClientLaws.{IsQuiet, fewer-keeps}
 use Rattle.world_epochs.specs.Epochs.{BearsEpoch, ClientsStand, Epochs, IsIssued, IsUnissued, LacksEpoch, Unsnapped, answers_undated}
-use Rattle.world_epochs.specs.HearLaws.{IsAtOps, again-keeps, at-work, greatest-has, greatest-up, lost-keeps, ops-stay, quiet-knows, replied-keeps, twice-keeps}
-use Rattle.world_epochs.specs.Lists.{contains-none, same-attempt, same-self}
+use Rattle.world_epochs.specs.HearLaws.{IsAtOps, again-keeps, at-work, greatest-has, lost-keeps, ops-stay, quiet-knows, replied-keeps, twice-keeps}
+use Rattle.world_epochs.specs.Lists.{contains-none}
 use Rattle.world_epochs.specs.MoveLaws.{Keeps, quiet-same, sure-ends, unsaid-keeps}
-use Rattle.world_epochs.specs.Talking.{TalksOnce, rest-among, taken-among, taken-silent, talks-to}
+use Rattle.world_epochs.specs.Talking.{TalksOnce, taken-silent}
+use Rattle.world_talks.specs.HearLaws.{greatest-above}
+use Rattle.world_talks.specs.TalkLaws.{got-is-talk, left-is-among, taken-is-among}
 
 -- a client at an attempt, which waited for a message that was taken
 record WasTold (r : Rules) (top : ℕ) (w : World) (n : ℕ) (c : ClientState) (a : Present) (m : Message) : Type 0 where
@@ -46,7 +51,7 @@ record WasTold (r : Rules) (top : ℕ) (w : World) (n : ℕ) (c : ClientState) (
   ops : IsAtOps r top w n c a
 
 tracker-up : (c : ClientState) (m : Message) → c.tracker.0 ≤ (hears_epochs m c).tracker.0
-tracker-up c m = greatest-up c.tracker.0 (told_by_message m)
+tracker-up c m = greatest-above c.tracker.0 (told_by_message m)
 
 -- the tracker covers the epoch that an answer bears, and those that it tells besides
 told-some : (t : ℕ) (o : Option Epoch) (later : List ℕ) (f : Epoch) → o ≡ Some f → f.0 ≤ greatest t (told_by_some o ++ later)
@@ -122,7 +127,7 @@ module _ (r : Rules) (top : ℕ) (w : World) (n : ℕ) where
 
   -- a request is lost
   unsure-lost : (c : ClientState) (a : Present) (x : AttemptId) → x ≡ attempt_id (client_plan r n) c a → is_unknown (outcome.Restart (Unresolved (attempt_id (client_plan r n) c a))) || is_lost x (outcome.Restart (Unresolved (attempt_id (client_plan r n) c a))) ≡ true
-  unsure-lost c a x same = subst (λ y. same_attempt (attempt_id (client_plan r n) c a) y ≡ true) (sym same) (same-self (attempt_id (client_plan r n) c a))
+  unsure-lost c a x same = subst (λ y. same_attempt (attempt_id (client_plan r n) c a) y ≡ true) (sym same) (same_attempt-itself (attempt_id (client_plan r n) c a))
 
   is-lost : (c : ClientState) (a : Present) (m : Message) → WasTold r top w n c a m → is_tell m ≡ false → Keeps r top w n (lost (client_plan r n) (hears_epochs m c) (record a { waits = false }))
   is-lost c a m T talks =
@@ -149,10 +154,6 @@ module _ (r : Rules) (top : ℕ) (w : World) (n : ℕ) where
   answered-keeps c a (message.Reset' target down place (more_of-Message q row)) T is = reset-by-keeps c a (message.Reset' target down place (more_of-Message q row)) target down q T refl
   answered-keeps c a m T is = goes-on c m T.epochs T.here
 
-both : (a b : Bool) → (a && b) ≡ true → (a ≡ true) × (b ≡ true)
-both true b h = (refl, h)
-both false b h = let no : ⊥ = cc in absurd no
-
 -- a client hears a message
 pub heard-keeps : (r : Rules) (top : ℕ) (w : World) (n : ℕ) (c : ClientState) (l : Letter) (rest : List Letter) → Unsnapped r → TalksOnce w → ClientsStand r w → Epochs r top w → slice_get w.clients n ≡ Some c → Takes w.messages l rest
     → l.to ≡ client n → Keeps r top (without w rest) n (heard (client_plan r n) c l.message)
@@ -160,10 +161,10 @@ unfolding heard
 heard-keeps r top w n c l rest U v S E here takes to = by c.present refl
   where
     fewer : Epochs r top (without w rest)
-    fewer = fewer-keeps r top w rest (λ m h. rest-among w.messages l rest m takes h) E
+    fewer = fewer-keeps r top w rest (λ m h. left-is-among w.messages l rest m takes h) E
 
     among : Contains w.messages l
-    among = taken-among w.messages l rest takes
+    among = taken-is-among w.messages l rest takes
 
     by : (o : Option Present) → c.present ≡ o → Keeps r top (without w rest) n (heard_at (client_plan r n) (hears_epochs l.message c) l.message o)
     by None at = goes-on r top (without w rest) n c l.message fewer here
@@ -173,14 +174,14 @@ heard-keeps r top w n c l rest U v S E here takes to = by c.present refl
             → Keeps r top (without w rest) n (if b then answered (client_plan r n) (hears_epochs l.message c) a l.message else goes (hears_epochs l.message c))
         waited false e = goes-on r top (without w rest) n c l.message fewer here
         waited true e =
-            let k : (a.waits ≡ true) × (is_about (attempt_id (client_plan r n) c a) (about l.message) ≡ true) = both a.waits (is_about (attempt_id (client_plan r n) c a) (about l.message)) e in
+            let k : (a.waits ≡ true) × (is_about (attempt_id (client_plan r n) c a) (about l.message) ≡ true) = and_parts a.waits (is_about (attempt_id (client_plan r n) c a) (about l.message)) e in
             answered-keeps r top (without w rest) n c a l.message (record {
               unsnapped = U;
               epochs = fewer;
               here = here;
               at = at;
               waiting = k.0;
-              silent = λ talks. taken-silent w n c l rest v here takes (talks-to n l talks to);
+              silent = λ talks. taken-silent w n c l rest v here takes (got-is-talk n l talks to);
               bears = λ x f h. E.borne l x f among h;
               lacks = λ x h. (E.lacking l x among h).1;
               dated = E.dated l among;

@@ -2,15 +2,17 @@
 use Rattle.std.specs.Prelude.{ℕ, ◌≡◌, ◌≢◌, ◌<◌, ◌++◌, ◌⊎◌, Bool, true, false, List, [], ◌∷◌, filter, find, Contains, All, slice_get, Option, Some, None, refl, if◌then◌else◌}
 use Rattle.std.proofs.Common.{sym, ◌∙◌, ap, subst, inl, inr, ⊎_elim, arith}
 use Rattle.std.proofs.Math.ListN.{set}
-use Rattle.std.proofs.lemmas.Bool.Decides.{eqb_tells, nat_tests}
+use Rattle.std.proofs.lemmas.Bool.Decides.{eqb_tells}
 use Rattle.std.proofs.lemmas.List.Elements.{All-contains_itself, All-weaker, Contains-append_cases, Contains-append_left, Contains-append_right, Contains-push, Contains-push_cases, filter-append}
 use Rattle.daos_base.specs.declared.epoch.Epoch.{Epoch}
 use Rattle.daos_base.specs.declared.id.AttemptId.{AttemptId}
 use Rattle.daos_base.specs.declared.report.Attempt.{Attempt}
 use Rattle.daos_base.specs.declared.report.Line.{Line}
 use Rattle.daos_base.specs.declared.report.Line.TheVariants as line
+use Rattle.daos_laws.specs.EntryLaws.{same-attempt}
 use Rattle.daos_model.specs.Attempts.{EachTry, tries}
 use Rattle.daos_model.specs.Durables.{same_attempt}
+use Rattle.daos_model.specs.EntryLaws.{same_attempt-itself}
 use Rattle.daos_model.specs.Laws.{tries-append}
 use Rattle.world_events.specs.Events.{epoch_issued, epoch_of_issue, is_issue_of}
 use Rattle.world_events.specs.StepLaws.{set-here, set-there}
@@ -90,24 +92,6 @@ taken-alone p before after x z e t = filter-append p before after ∙ both-empty
 
 -- ---- attempts
 
-pub same-attempt : (a b : AttemptId) → same_attempt a b ≡ true → a ≡ b
-unfolding same_attempt
-same-attempt a b h =
-    let k : a.client ≡ b.client = grind (arith, nat_tests, h) in
-    let l : a.command ≡ b.command = grind (arith, nat_tests, h) in
-    let m : a.attempt ≡ b.attempt = grind (arith, nat_tests, h) in
-    parts k l m
-  where
-    made : ℕ → ℕ → ℕ → AttemptId
-    made c d e = record { client = c; command = d; attempt = e }
-
-    parts : a.client ≡ b.client → a.command ≡ b.command → a.attempt ≡ b.attempt → a ≡ b
-    parts k l m = ap (λ z. made z a.command a.attempt) k ∙ ap (λ z. made b.client z a.attempt) l ∙ ap (λ z. made b.client b.command z) m
-
-pub same-self : (a : AttemptId) → same_attempt a a ≡ true
-unfolding same_attempt
-same-self a = grind (arith, nat_tests)
-
 -- the epoch that was issued to an attempt is found where there is one
 pub epoch-found : (issued : List (AttemptId × Epoch)) (x : AttemptId)
     → ((epoch_issued issued x ≡ None) × ((e : Epoch) → Contains issued (x, e) → ⊥)) ⊎ ((f : Epoch) × (epoch_issued issued x ≡ Some f) × Contains issued (x, f))
@@ -118,7 +102,7 @@ epoch-found (i ∷ is) x = by (same_attempt i.0 x) refl (epoch-found is x)
         → ((epoch_issued is x ≡ None) × ((e : Epoch) → Contains is (x, e) → ⊥)) ⊎ ((f : Epoch) × (epoch_issued is x ≡ Some f) × Contains is (x, f))
         → ((epoch_of_issue (if b then Some i else find (is_issue_of x) is) ≡ None) × ((e : Epoch) → Contains (i ∷ is) (x, e) → ⊥)) ⊎ ((f : Epoch) × (epoch_of_issue (if b then Some i else find (is_issue_of x) is) ≡ Some f) × Contains (i ∷ is) (x, f))
     by true e k = inr (i.1, refl, subst (λ y. Contains (i ∷ is) (y, i.1)) (same-attempt i.0 x e) (Contains-append_left (i ∷ []) is i (Contains-push [] i)))
-    by false e (inl k) = inl (k.0, λ f h. ⊎_elim (λ same. let own : i.0 ≡ x = ap (λ j. j.0) same in let yes : same_attempt i.0 x ≡ true = subst (λ y. same_attempt i.0 y ≡ true) own (same-self i.0) in let no : ⊥ = cc in no) (λ later. k.1 f later) (contains-cons i is (x, f) h))
+    by false e (inl k) = inl (k.0, λ f h. ⊎_elim (λ same. let own : i.0 ≡ x = ap (λ j. j.0) same in let yes : same_attempt i.0 x ≡ true = subst (λ y. same_attempt i.0 y ≡ true) own (same_attempt-itself i.0) in let no : ⊥ = cc in no) (λ later. k.1 f later) (contains-cons i is (x, f) h))
     by false e (inr k) = inr (k.0, k.1, Contains-append_right (i ∷ []) is (x, k.0) k.2)
 
 -- ---- one line more

@@ -1,5 +1,5 @@
 -- What a target does with epochs that hears another target: what it says and stores bears epochs that it heard, or keeps.
-use Rattle.std.specs.Prelude.{ℕ, ◌≡◌, ◌≤◌, ◌<◌, ◌/◌, ◌++◌, ◌==◌, Bool, true, false, map, List, [], ◌∷◌, Option, Some, None, refl, if◌then◌else◌}
+use Rattle.std.specs.Prelude.{ℕ, ◌≡◌, ◌≤◌, ◌<◌, ◌/◌, ◌==◌, Bool, true, false, map, List, [], ◌∷◌, Option, Some, None, refl, if◌then◌else◌}
 use Rattle.std.proofs.Common.{sym, ◌∙◌, ap, subst, arith}
 use Rattle.daos_base.specs.declared.entry.Entry.{Entry}
 use Rattle.daos_base.specs.declared.epoch.Epoch.{Epoch}
@@ -9,15 +9,13 @@ use Rattle.daos_base.specs.declared.outcome.Outcome.{Outcome}
 use Rattle.daos_base.specs.declared.outcome.Outcome.TheVariants as outcome
 use Rattle.daos_base.specs.Epochs.{heard_ticks}
 use Rattle.daos_messages.specs.declared.actor.ActorId.{ActorId}
-use Rattle.daos_messages.specs.declared.message.Message.{Message}
 use Rattle.daos_messages.specs.declared.message.Message.TheVariants as message
-use Rattle.daos_messages.specs.declared.message.Post.{Post}
 use Rattle.daos_model.specs.Blocks.{blocks}
 use Rattle.daos_model.specs.declared.durable.Durable.{Durable}
 use Rattle.dtx_base.specs.declared.leading.Undecided.{Undecided}
 use Rattle.dtx_base.specs.declared.leading.Naming.{Naming}
 use Rattle.dtx_base.specs.Joining as member
-use Rattle.dtx_base.specs.Leading.{LeaderOf, LeaderStep, abort_to, ack_heard, aborted, answer_if_awaited, batched, answer_heard, attempts_of, commit_mark, decided, counted_at, ended, entry_led, is_led, mark_with, marks_for, ok_heard, owed, quietly, refusal_heard, to_target, undecided_of, with_undecided}
+use Rattle.dtx_base.specs.Leading.{LeaderOf, abort_to, ack_heard, answer_if_awaited, batched, answer_heard, attempts_of, commit_mark, decided, counted_at, ended, entry_led, is_led, mark_with, marks_for, ok_heard, owed, quietly, refusal_heard, to_target, undecided_of, with_undecided}
 use Rattle.dtx_base.specs.Members.{all_targets, are_all_counted, is_other_member, other_members, with_target}
 use Rattle.dtx_base.specs.Rows.{is_empty}
 use Rattle.world_base.specs.declared.did.Did.{Did}
@@ -34,8 +32,9 @@ use Rattle.world_turns.specs.Roles.{leader_at, member_at, with_unsettled}
 use Rattle.world_turns.specs.TargetTurns.{IdlesWhole}
 use Rattle.world_turns.specs.Turns.{Path, Whole}
 use Rattle.world_turns.specs.Verdicts as verdict
-use Rattle.world_epochs.specs.FetchTurns.{heard-up, lease-covers}
-use Rattle.world_epochs.specs.Sayings.{AreKnown, AreParkedKnown, Known, Leaves, Says, SaysAll, Spent, Stays, StepFits, known-led, says-both, says-map, step-stays}
+use Rattle.world_epochs.specs.FetchTurns.{lease-covers}
+use Rattle.world_epochs.specs.Sayings.{AreParkedKnown, Known, Leaves, Says, SaysAll, Spent, Stays, StepFits, known-led, says-both, says-map, step-stays}
+use Rattle.world_turns.specs.MemoryLaws.{heard-up}
 
 -- ---- a turn that issues nothing
 

@@ -37,8 +37,9 @@ use Rattle.world_epochs.specs.Asking.{asks-first, asks-nothing, begins-first, go
 use Rattle.world_epochs.specs.ClientLaws.{ByAttempt, ByCommand, IsEnding, IsNext, IsQuiet, Sends, SendsSome, ending-keeps, quiet-keeps, same-id}
 use Rattle.world_epochs.specs.Epochs.{AsksEpoch, AsksFirst, BearsEpoch, ClientsStand, Epochs, IsAt, IsIssued, IsPast, IsTold, IsUnissued, LacksEpoch, Unsnapped, answers_undated, first_question, is_unsnapped, issuer_of, left_to_ask, reads_snapshot}
 use Rattle.world_epochs.specs.Lists.{contains-none, epoch-found}
-use Rattle.world_epochs.specs.Talking.{asks-no_tell, silent-not, talks-from}
+use Rattle.world_epochs.specs.Talking.{asks-no_tell}
 use Rattle.world_epochs.specs.TargetLaws.{issued-behind}
+use Rattle.world_talks.specs.TalkLaws.{none-among, sent-is-talk}
 
 -- what is said of epochs stands after a move
 abbrev pub Keeps : Rules → ℕ → World → ℕ → Move → Type 0
@@ -262,7 +263,7 @@ module _ (r : Rules) (top : ℕ) (w : World) (n : ℕ) where
       ending = record {
         here = K.here;
         at = refl;
-        silent = λ l y k h q same. silent-not n w.messages l K.silent h (talks-from n l (asks-no_tell l.message y k q) (K.epochs.asker l y k h q ∙ ap (λ m. client m) same));
+        silent = λ l y k h q same. none-among n w.messages l K.silent h (sent-is-talk n l (asks-no_tell l.message y k q) (K.epochs.asker l y k h q ∙ ap (λ m. client m) same));
         shown = λ e h. shown a.epoch e refl h;
         whole = λ e h. whole a.epoch e refl h;
         sure = λ e h known. sure a.epoch e refl h known;

@@ -7,7 +7,7 @@ use Rattle.daos_base.specs.declared.entry.Settle.{Settle}
 use Rattle.daos_base.specs.declared.entry.Settle.TheVariants.{Abort, Commit, Confirm, Forget}
 use Rattle.daos_base.specs.declared.epoch.Epoch.{Epoch}
 use Rattle.daos_base.specs.declared.id.AttemptId.{AttemptId}
-use Rattle.daos_base.specs.declared.operation.MinorWrite.{MinorWrite}
+use Rattle.daos_laws.specs.EntryLaws.{same-attempt}
 use Rattle.daos_messages.specs.declared.actor.ActorId.{ActorId}
 use Rattle.daos_messages.specs.declared.message.Message.{Message}
 use Rattle.daos_messages.specs.declared.message.Post.{Post}
@@ -21,7 +21,8 @@ use Rattle.world_base.specs.declared.did.Did.{Did}
 use Rattle.world_base.specs.declared.target.TargetMemory.{TargetMemory}
 use Rattle.world_turns.specs.Changes.{Change, Extends, Kept, Prepares, Settles, Steps, made}
 use Rattle.world_epochs.specs.Epochs.{AsksEpoch, BearsEpoch, LacksEpoch, answers_undated, reads_snapshot}
-use Rattle.world_epochs.specs.Lists.{contains-cons, contains-none, same-attempt}
+use Rattle.world_epochs.specs.Lists.{contains-cons, contains-none}
+use Rattle.world_turns.specs.ChangeLaws.{lease-settled}
 
 -- pairs of an attempt and its epoch that are known
 abbrev pub Known : Type 1
@@ -141,13 +142,6 @@ known-settled P a Commit d h = known-map P (committed_at a) (committed-same a) d
 known-settled P a Abort d h = known-filter P (is_other a) d.entries h
 known-settled P a (Confirm t) d h = known-map P (confirmed_at a t) (confirmed-same a t) d.entries h
 known-settled P a Forget d h = known-filter P (is_other a) d.entries h
-
-lease-settled : (a : AttemptId) (step : Settle) (d : Durable) → (settled a step d).lease ≡ d.lease
-unfolding settled
-lease-settled a Commit d = refl
-lease-settled a Abort d = refl
-lease-settled a (Confirm t) d = refl
-lease-settled a Forget d = refl
 
 made-stays : (P : Known) (low : ℕ) (c : Change) (k l : Kept) → ChangeFits P k c → l.durable ≡ made c k.durable → Stays P low k → Stays P low l × (k.durable.lease ≤ l.durable.lease)
 unfolding leased prepared

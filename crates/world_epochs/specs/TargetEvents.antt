@@ -1,5 +1,5 @@
 -- The events of a target keep what is said of epochs.
-use Rattle.std.specs.Prelude.{ℕ, ◌≡◌, ◌≤◌, ◌<◌, ◌+◌, ◌*◌, ◌/◌, ◌%◌, ◌^◌, ◌++◌, ◌⊎◌, Bool, true, false, min, max, nat_le, List, [], ◌∷◌, length, map, Contains, slice_get, Option, Some, None, refl}
+use Rattle.std.specs.Prelude.{ℕ, ◌≡◌, ◌≤◌, ◌<◌, ◌+◌, ◌*◌, ◌/◌, ◌%◌, ◌^◌, ◌++◌, ◌⊎◌, true, false, min, max, nat_le, List, [], ◌∷◌, length, map, Contains, slice_get, Option, Some, None, refl}
 use Rattle.std.specs.Option.{option_map}
 use Rattle.std.proofs.Common.{append-nil, sym, ◌∙◌, ap, subst, inl, inr, ⊎_elim, arith}
 use Rattle.std.proofs.Math.ListN.{set}
@@ -20,7 +20,6 @@ use Rattle.daos_messages.specs.declared.message.Message.TheVariants as message
 use Rattle.daos_messages.specs.declared.message.Post.{Post}
 use Rattle.dtx_base.specs.declared.member.Parked.{Parked}
 use Rattle.world_base.specs.declared.client.ClientState.{ClientState}
-use Rattle.world_base.specs.declared.client.Present.{Present}
 use Rattle.world_base.specs.declared.did.Did.{Did}
 use Rattle.world_base.specs.declared.letter.Letter.{Letter}
 use Rattle.world_base.specs.declared.request.CommitRequest.{CommitRequest}
@@ -37,13 +36,14 @@ use Rattle.world_turns.specs.Changes.{Kept}
 use Rattle.world_turns.specs.Requests.{epoch_of_ticks, issued_for, request_epoch}
 use Rattle.world_turns.specs.TargetTurns.{Hears, commit_request, fetch_request, prepare_request}
 use Rattle.world_epochs.specs.CommitTurns.{IsKnownCommit, commit-leaves}
-use Rattle.world_epochs.specs.Epochs.{AsksEpoch, BearsEpoch, Epochs, IsIssued, IsPresent, IsTold, IsUnissued, LacksEpoch, answers_undated, reads_snapshot}
+use Rattle.world_epochs.specs.Epochs.{AsksEpoch, BearsEpoch, Epochs, IsPresent, IsTold, IsUnissued, LacksEpoch, answers_undated, reads_snapshot}
 use Rattle.world_epochs.specs.FetchTurns.{Covers, Dates, IsDated, IsKnownFetch, IsSpent, fetch-leaves}
 use Rattle.world_epochs.specs.MemberTurns.{GoesOn, ack-leaves, idle-leaves, mark-leaves, marked-leaves, prepare-leaves, query-leaves}
 use Rattle.world_epochs.specs.Sayings.{AreKnown, AreParkedKnown, Known, Leaves, Says, Spent, Stays, known-all, parked-all, says-each}
-use Rattle.world_epochs.specs.Talking.{TalksOnce, asks-no_tell, lacks-no_tell, rest-among, silent-not, taken-among, taken-silent, talking, talks-from, talks-to}
-use Rattle.world_epochs.specs.TargetLaws.{IsNew, TargetDid, issued_then, listed-has, target-keeps}
+use Rattle.world_epochs.specs.Talking.{TalksOnce, asks-no_tell, lacks-no_tell, taken-silent, talking}
+use Rattle.world_epochs.specs.TargetLaws.{IsNew, issued_then, listed-has, target-keeps}
 use Rattle.world_epochs.specs.VerdictTurns.{verdict-leaves}
+use Rattle.world_talks.specs.TalkLaws.{got-is-talk, left-is-among, none-among, sent-is-talk, taken-is-among}
 
 -- ---- an epoch that is issued
 
@@ -345,10 +345,10 @@ hears-kept r top w v talk E g =
     (λ x e is. may-issue x e k.issuing is) k.leaves k.stays)
   where
     among : Contains w.messages g.l
-    among = taken-among w.messages g.l g.rest g.takes
+    among = taken-is-among w.messages g.l g.rest g.takes
 
     in-rest : (l : Letter) → Contains g.rest l → Contains w.messages l
-    in-rest l h = rest-among w.messages g.l g.rest l g.takes h
+    in-rest l h = left-is-among w.messages g.l g.rest l g.takes h
 
     P : Known
     P = issued_then w g.did.issued
@@ -382,18 +382,18 @@ hears-kept r top w v talk E g =
     -- the asking client has no other letter in flight
     alone : (x : AttemptId) (c : ClientState) → Asks x → slice_get w.clients x.client ≡ Some c → (waits c ≡ true) × (talk_of x.client g.rest ≡ [])
     alone x c a here =
-        let talks : is_talk_of x.client g.l ≡ true = talks-from x.client g.l (asks-no_tell g.l.message x a.0 a.1) (E.asker g.l x a.0 among a.1) in
+        let talks : is_talk_of x.client g.l ≡ true = sent-is-talk x.client g.l (asks-no_tell g.l.message x a.0 a.1) (E.asker g.l x a.0 among a.1) in
         ((talking w x.client c g.l talk here among talks).0, taken-silent w x.client c g.l g.rest talk here g.takes talks)
 
     other-asks : (l : Letter) (x : AttemptId) (t : Epoch) → Contains g.rest l → AsksEpoch l.message x t → Asks x → ⊥
     other-asks l x t h a own =
         let p = (E.fresh g.l x own.0 among own.1).0 in
-        silent-not x.client g.rest l (alone x p.c own p.here).1 h (talks-from x.client l (asks-no_tell l.message x t a) (E.asker l x t (in-rest l h) a))
+        none-among x.client g.rest l (alone x p.c own p.here).1 h (sent-is-talk x.client l (asks-no_tell l.message x t a) (E.asker l x t (in-rest l h) a))
 
     other-lacks : (l : Letter) (x : AttemptId) → Contains g.rest l → LacksEpoch l.message x → Asks x → ⊥
     other-lacks l x h a own =
         let p = (E.fresh g.l x own.0 among own.1).0 in
-        silent-not x.client g.rest l (alone x p.c own p.here).1 h (talks-to x.client l (lacks-no_tell l.message x a) (E.lacking l x (in-rest l h) a).0)
+        none-among x.client g.rest l (alone x p.c own p.here).1 h (got-is-talk x.client l (lacks-no_tell l.message x a) (E.lacking l x (in-rest l h) a).0)
 
     few : g.t < 256
     few = let p : g.t < length w.targets = slice_get_within w.targets g.t g.s g.here in let q : length w.targets ≤ 256 = E.few in omega (arith, p, q)

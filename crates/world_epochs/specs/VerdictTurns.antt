@@ -1,6 +1,6 @@
 -- What a target does with epochs that hears a Verdict: each Fetch that it sets free has its epoch, and is heard with it.
-use Rattle.std.specs.Prelude.{ℕ, ◌≡◌, ◌≤◌, ◌++◌, Bool, true, false, filter, map, List, [], ◌∷◌, Option, Some, None, refl, if◌then◌else◌}
-use Rattle.std.proofs.Common.{sym, ◌∙◌, ap, subst, arith}
+use Rattle.std.specs.Prelude.{ℕ, ◌≡◌, ◌≤◌, Bool, true, false, filter, map, List, [], ◌∷◌, Option, Some, None, refl}
+use Rattle.std.proofs.Common.{sym, ap, subst, arith}
 use Rattle.daos_base.specs.declared.entry.Settle.{Settle}
 use Rattle.daos_base.specs.declared.entry.Verdict.{Verdict}
 use Rattle.daos_base.specs.declared.entry.Verdict.TheVariants as verdict

@@ -1,5 +1,5 @@
 -- Where a run has ended.
-use Rattle.std.specs.Prelude.{ℕ, ◌≡◌, ◌⊎◌, ◌<◌, false, true, List, [], length, slice_get, Some, Contains}
+use Rattle.std.specs.Prelude.{ℕ, ◌≡◌, ◌⊎◌, ◌<◌, false, true, [], length, slice_get, Some, Contains}
 use Rattle.dtx_base.specs.Joining.{is_inquiry_due}
 use Rattle.dtx_base.specs.Leading.{is_batch_due}
 use Rattle.world_base.specs.declared.client.ClientState.{ClientState}

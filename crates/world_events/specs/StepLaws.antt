@@ -1,8 +1,8 @@
 -- What each move of a client keeps, every turn of a client keeps.
-use Rattle.std.specs.Prelude.{ℕ, ◌≡◌, ◌-◌, List, [], ◌∷◌, ◌++◌, map, slice_get, Some, refl}
+use Rattle.std.specs.Prelude.{◌++◌, ◌-◌, ◌∷◌, ◌≡◌, List, None, Option, Some, [], ℕ, map, refl, slice_get}
 use Rattle.std.proofs.Common.{zero, suc, append-nil, sym, ◌∙◌, ap, subst}
 use Rattle.std.proofs.Math.ListN.{set}
-use Rattle.std.proofs.lemmas.List.{append_assoc}
+use Rattle.std.proofs.lemmas.List.{append_assoc, map-append}
 use Rattle.daos_base.specs.declared.report.Line.{Line}
 use Rattle.daos_messages.specs.declared.message.Post.{Post}
 use Rattle.world_base.specs.declared.client.ClientState.{ClientState}
@@ -37,10 +37,6 @@ set-same (z ∷ zs) zero x h = let e : z ≡ x = cc in ap (λ w. w ∷ zs) (sym 
 set-same (z ∷ zs) (suc n) x h = ap (λ ws. z ∷ ws) (set-same zs n x h)
 
 -- ---- moves, one after another
-
-map-append : {A B : Type 0} (f : A → B) (xs ys : List A) → map f (xs ++ ys) ≡ map f xs ++ map f ys
-map-append f [] ys = refl
-map-append f (x ∷ xs) ys = ap (λ zs. f x ∷ zs) (map-append f xs ys)
 
 -- two things that a client did, one after the other
 pub after-both : (w : World) (n : ℕ) (posts posts2 : List Post) (lines lines2 : List Line) (d e : ClientState)
@@ -106,3 +102,16 @@ module _ (r : Rules) (P : World → Type 0) where
           rw (says, did.issued, append-nil w.issued)
           (subst P (after-both (without w g.rest) g.n (listed first.post) rest.posts (listed first.line) rest.lines first.state g.d)
           (by-going keep (after_move (without w g.rest) g.n first) g.n first.state g.d rest.posts rest.lines (set-here w.clients g.n g.c first.state g.here) begun did.goes_on))
+
+none-stays : {A : Type 0} (xs : List A) (n : ℕ) (y : A) → slice_get xs n ≡ None → slice_get (set xs n y) n ≡ None
+none-stays [] n y h = refl
+none-stays (z ∷ zs) zero y h = let no : ⊥ = cc in absurd no
+none-stays (z ∷ zs) (suc n) y h = none-stays zs n y h
+
+-- what stands where an element was set is that one
+pub set-is : {A : Type 0} (xs : List A) (n : ℕ) (y x : A) → slice_get (set xs n y) n ≡ Some x → y ≡ x
+set-is xs n y x at = by (slice_get xs n) refl
+  where
+    by : (o : Option _) → slice_get xs n ≡ o → y ≡ x
+    by None h = let bad : None ≡ Some x = sym (none-stays xs n y h) ∙ at in let no : ⊥ = cc in absurd no
+    by (Some z) h = let e : Some y ≡ Some x = sym (set-here xs n z y h) ∙ at in cc

@@ -14,7 +14,7 @@ use Rattle.daos_base.specs.declared.outcome.Outcome.{Outcome}
 use Rattle.daos_base.specs.declared.outcome.Outcome.TheVariants as outcome
 use Rattle.daos_base.specs.declared.report.Attempt.{Attempt}
 use Rattle.daos_laws.specs.EntryLaws.{found-passes, same-attempt}
-use Rattle.daos_laws.specs.FamilyLaws.{at-within}
+use Rattle.daos_laws.specs.Lists.{at-within}
 use Rattle.daos_laws.specs.MatchLaws.{matches-give}
 use Rattle.daos_laws.specs.Members.{Has, any-has, has-filter, has-from_contains}
 use Rattle.daos_laws.specs.TargetLaws.{same_number}

@@ -10,13 +10,14 @@ use Rattle.std.proofs.lemmas.Nat.Bits.{and_pow, bit_at-lt}
 use Rattle.daos_base.specs.declared.entry.Entry.{Entry}
 use Rattle.daos_base.specs.declared.epoch.Epoch.{Epoch}
 use Rattle.daos_base.specs.declared.id.AttemptId.{AttemptId}
-use Rattle.daos_laws.specs.FamilyLaws.{at-within}
 use Rattle.daos_laws.specs.JoinLaws.{has-range}
+use Rattle.daos_laws.specs.Lists.{at-within, has-at, place-of}
 use Rattle.daos_laws.specs.Members.{Has, any-has, has-any, has-from_contains}
 use Rattle.daos_model.specs.declared.durable.Durable.{Durable}
 use Rattle.daos_model.specs.BoolLaws.{and_left, and_right, both, clash, or_from_right}
 use Rattle.daos_model.specs.Durables.{entry_of}
 use Rattle.daos_model.specs.Family.{all_hold_from, holds, is_in_field, is_resolved_entry, is_within, resolved}
+use Rattle.daos_model.specs.FormLaws.{length-map}
 use Rattle.daos_model.specs.Opening.{Opening}
 use Rattle.dtx_base.specs.Members.{all_targets, has_target, is_other_member}
 use Rattle.world_addresses.specs.Addresses.{IsPlaced, crowd}
@@ -28,8 +29,9 @@ use Rattle.world_base.specs.declared.world.World.{World}
 use Rattle.world_begins.specs.BeginLaws.{get-map}
 use Rattle.world_begins.specs.Sharing.{members-below}
 use Rattle.world_core.specs.Asking.{Facts}
+use Rattle.world_core.specs.ScriptForm.{of-end}
 use Rattle.world_ends.specs.Ends.{durable_of, durables_of}
-use Rattle.world_ends.specs.LastStand.{from-durables, length-map}
+use Rattle.world_ends.specs.LastStand.{from-durables}
 use Rattle.world_events.specs.Events.{Rules}
 use Rattle.world_reads.specs.ChangeLaws.{entry-among}
 use Rattle.world_facts.specs.Resolved.{IsResolved}
@@ -53,18 +55,6 @@ field-is field t = by (bit_at field t) refl
     by (suc (suc n)) is = let low : bit_at field t < 2 = bit_at-lt field t in absurd (omega (arith, is, low))
 
 -- ---- lists
-
--- one of some stands at a place
-pub place-of : {T : Type 0} (xs : List T) (x : T) → Has x xs → (n : ℕ) × (slice_get xs n ≡ Some x)
-place-of [] x i = absurd i
-place-of (y ∷ xs) x (inl same) = (0, ap (λ z. Some z) (sym same))
-place-of (y ∷ xs) x (inr j) = let k = place-of xs x j in (suc k.0, k.1)
-
--- and one at a place is among them
-pub at-place : {T : Type 0} (xs : List T) (n : ℕ) (x : T) → slice_get xs n ≡ Some x → Has x xs
-at-place [] n x at = let no : ⊥ = cc in absurd no
-at-place (y ∷ xs) zero x at = let same : y ≡ x = cc in inl (sym same)
-at-place (y ∷ xs) (suc n) x at = inr (at-place xs n x at)
 
 -- ---- who holds an attempt
 
@@ -109,9 +99,6 @@ all-hold t e (d ∷ ds) each =
     both (holds e.attempt d || not (is_named e t)) (all_hold_from (t + 1) e ds)
     (to-test (holds e.attempt d) (is_named e t) (λ named. let here : t ≡ t + 0 = omega arith in each 0 d refl (subst (λ n. is_named e n ≡ true) here named)))
     (all-hold (t + 1) e ds (λ i c at named. let next : t + 1 + i ≡ t + suc i = omega arith in each (suc i) c at (subst (λ n. is_named e n ≡ true) next named)))
-
-below-is : (m n : ℕ) → m < n → nat_lt m n ≡ true
-below-is m n lt = grind (arith, nat_tests)
 
 -- an attempt's leader and each other member hold it
 pub record AreHeld (r : Rules) (w : World) (x : AttemptId) : Type 0 where
@@ -219,8 +206,8 @@ module _ (r : Rules) (o : Opening) (h : History) (v : World) (f : Facts r o h v)
       where
         within : is_within (durables_of v) e ≡ true
         within = both (nat_lt e.leader (length (durables_of v))) (nat_lt e.members (2 ^ length (durables_of v)))
-            (below-is e.leader (length (durables_of v)) (subst (λ n. e.leader < n) (sym many) placed.leader))
-            (below-is e.members (2 ^ length (durables_of v)) (subst (λ n. e.members < 2 ^ n) (sym many) (subst (λ n. n < 2 ^ r.script.targets) (sym its.members) (members-below r x f.some))))
+            (of-end e.leader (length (durables_of v)) (subst (λ n. e.leader < n) (sym many) placed.leader))
+            (of-end e.members (2 ^ length (durables_of v)) (subst (λ n. e.members < 2 ^ n) (sym many) (subst (λ n. n < 2 ^ r.script.targets) (sym its.members) (members-below r x f.some))))
 
         all : all_hold_from 0 e (durables_of v) ≡ true
         all = all-hold 0 e (durables_of v) (λ i d at named.
@@ -255,5 +242,5 @@ module _ (r : Rules) (o : Opening) (h : History) (v : World) (f : Facts r o h v)
       by None none = let no : ⊥ = cc (sym k.leader.found ∙ ap (λ z. entry_in z x) none) in absurd no
       by (Some s) here =
           let found : entry_of s.durable x ≡ Some k.leader.entry = sym (ap (λ z. entry_in z x) here) ∙ k.leader.found in
-          any-has (λ d. is_resolved_entry (durables_of v) (entry_of d x)) (durables_of v) s.durable (at-place (durables_of v) (leader_of r x) s.durable (durable-at (leader_of r x) s here))
+          any-has (λ d. is_resolved_entry (durables_of v) (entry_of d x)) (durables_of v) s.durable (has-at (durables_of v) (leader_of r x) s.durable (durable-at (leader_of r x) s here))
           (ap (is_resolved_entry (durables_of v)) found ∙ held-entry x (leader_of r x) s here k.leader.entry found k)

@@ -1,5 +1,5 @@
 -- A Verdict in flight names the incarnation of the target that sent it, as it is.
-use Rattle.std.specs.Prelude.{ℕ, zero, suc, ◌≡◌, ◌++◌, ◌==◌, Bool, true, false, List, [], ◌∷◌, filter, map, slice_get, Contains, Option, Some, None, refl, if◌then◌else◌}
+use Rattle.std.specs.Prelude.{ℕ, ◌≡◌, ◌++◌, ◌==◌, Bool, true, false, List, [], ◌∷◌, filter, map, slice_get, Contains, Option, Some, None, refl, if◌then◌else◌}
 use Rattle.std.proofs.Common.{inl, inr, sym, ◌∙◌, ap, subst}
 use Rattle.std.proofs.Math.ListN.{set}
 use Rattle.daos_base.specs.declared.entry.Entry.{Entry}
@@ -38,6 +38,7 @@ use Rattle.world_base.specs.declared.world.World.{World}
 use Rattle.world_begins.specs.Begins.{IsBegun}
 use Rattle.world_events.specs.Events.{Begins, ByClient, ByTarget, Event, Goes, Rules, Run, ToClient, ToTarget, kept, target_after, target_plan}
 use Rattle.world_events.specs.Letters.{client, letter_of, letters_of, target}
+use Rattle.world_events.specs.StepLaws.{set-is}
 use Rattle.world_talks.specs.TalkLaws.{left-is-among}
 use Rattle.world_turns.specs.Acks as ack
 use Rattle.world_turns.specs.Changes.{Change, Kept, Steps}
@@ -265,19 +266,13 @@ client-names n t inc l posts i from =
     let no : ⊥ = cc in
     absurd no
 
--- what was set at a place is there then
-set-here : {T : Type 0} (xs : List T) (n : ℕ) (z y : T) → slice_get (set xs n z) n ≡ Some y → z ≡ y
-set-here [] n z y at = let no : ⊥ = cc in absurd no
-set-here (x ∷ xs) zero z y at = cc
-set-here (x ∷ xs) (suc n) z y at = set-here xs n z y at
-
 -- a target's posts name its incarnation
 target-names : (w v : World) (u : ℕ) (z : TargetState) (new : Kept) (memory : TargetMemory) (posts : List Post) (l : Letter) (t : ℕ) (s : TargetState) → PostsName new.durable.incarnation posts → Has l (letters_of (target u) posts)
     → v.targets ≡ set w.targets u (target_after z new memory) → l.from ≡ target t → slice_get v.targets t ≡ Some s → NamesIt s.durable.incarnation l.message
 target-names w v u z new memory posts l t s k i targets from here =
     let q = has-from_map (letter_of (target u)) posts l i in
     let same : t ≡ u = ap (λ a. a.number) (sym from ∙ sym (ap (λ x. x.from) q.2)) in
-    let now : target_after z new memory ≡ s = set-here w.targets u (target_after z new memory) s (subst (λ n. slice_get (set w.targets u (target_after z new memory)) n ≡ Some s) same (ap (λ ts. slice_get ts t) (sym targets) ∙ here)) in
+    let now : target_after z new memory ≡ s = set-is w.targets u (target_after z new memory) s (subst (λ n. slice_get (set w.targets u (target_after z new memory)) n ≡ Some s) same (ap (λ ts. slice_get ts t) (sym targets) ∙ here)) in
     subst (λ y. NamesIt y.durable.incarnation l.message) now (subst (λ x. NamesIt new.durable.incarnation x.message) q.2 (k q.0 q.1))
 
 -- letters in flight after a turn are those that were left, and those that are sent

@@ -1,14 +1,14 @@
 -- At each moment of a run the targets keep what the opening and the resolved attempts give.
-use Rattle.std.specs.Prelude.{ℕ, ◌≡◌, ◌<◌, ◌≤◌, ◌+◌, ◌*◌, ◌/◌, ◌^◌, ◌&&◌, ◌||◌, ◌==◌, ◌++◌, Bool, true, false, max, nat_lt, List, [], ◌∷◌, filter, map, slice_get, All, Contains, Option, Some, None, refl}
+use Rattle.std.specs.Prelude.{ℕ, ◌≡◌, ◌<◌, ◌+◌, ◌^◌, ◌&&◌, ◌||◌, ◌==◌, ◌++◌, Bool, true, false, nat_lt, List, [], ◌∷◌, filter, map, slice_get, All, Contains, Option, Some, None, refl}
 use Rattle.std.specs.List.{list_all}
-use Rattle.std.proofs.Common.{inl, inr, sym, ◌∙◌, ap, subst, arith}
-use Rattle.std.proofs.lemmas.Bool.Decides.{nat_tests}
+use Rattle.std.proofs.Common.{inl, inr, sym, ◌∙◌, ap, subst}
 use Rattle.std.proofs.lemmas.List.Elements.{All-nil}
 use Rattle.daos_base.specs.declared.entry.Entry.{Entry}
 use Rattle.daos_base.specs.declared.epoch.Epoch.{Epoch}
 use Rattle.daos_base.specs.declared.id.AttemptId.{AttemptId}
 use Rattle.daos_laws.specs.Decided as decided
 use Rattle.daos_laws.specs.FamilyLaws.{EachGivesOwn, HasNoneUnowned, IsFamilyInForm, as_of-objects, families-agree, families-stand_for}
+use Rattle.daos_laws.specs.Lists.{has-at, place-of}
 use Rattle.daos_laws.specs.MatchLaws.{filter_on, matches-give}
 use Rattle.daos_laws.specs.Matches.{GivesAsOf, counts_under}
 use Rattle.daos_laws.specs.Members.{Has, contains-from_has, has-cases, has-from_contains, has-from_map, has-left, has-right}
@@ -28,17 +28,20 @@ use Rattle.daos_model.specs.Opening.{Opening, top}
 use Rattle.daos_model.specs.Versions.{writes_in}
 use Rattle.world_attempts.specs.Attempts.{entry_at, entry_in, leader_of}
 use Rattle.world_attempts.specs.History.{Decided, History, decides, is_decided}
+use Rattle.world_attempts.specs.MarkTurns.{found-attempt}
 use Rattle.world_base.specs.declared.target.TargetState.{TargetState}
 use Rattle.world_base.specs.declared.world.World.{World}
 use Rattle.world_begins.specs.Begins.{IsOpeningPlain, held_at}
 use Rattle.world_begins.specs.Whole.{Whole, held-before, runs-stay-whole}
-use Rattle.world_core.specs.Asking.{Facts, requests-are-right}
+use Rattle.world_core.specs.Asking.{Facts, requests-are-right, same-epoch}
 use Rattle.world_core.specs.Everything.{AreBefore}
+use Rattle.world_core.specs.ScriptForm.{of-end}
 use Rattle.world_ends.specs.Ends.{durables_of}
+use Rattle.world_ends.specs.FamilyStands.{below-lease, mark-below}
 use Rattle.world_ends.specs.LastStand.{from-durables}
 use Rattle.world_epochs.specs.Epochs.{IsIssued}
 use Rattle.world_events.specs.Events.{Rules}
-use Rattle.world_reads.specs.ChangeLaws.{WasDecided, decided-has, entry-among, entry-is-its, has-decided}
+use Rattle.world_reads.specs.ChangeLaws.{WasDecided, decided-has, entry-among, has-decided}
 use Rattle.world_reads.specs.DecideLaws.{Elsewhere, Held, IsHeldOrElsewhere, MayBeDecided, decides-stands, stays-apart}
 use Rattle.world_reads.specs.Given.{Given}
 use Rattle.world_reads.specs.MemberLaws.{writes-member}
@@ -46,7 +49,7 @@ use Rattle.world_reads.specs.Transactions.{counts_by, decided_of, transactions}
 use Rattle.world_reads.specs.Versions.{IsPreparedAt, VersionsStand, is_own_in, mark_of}
 use Rattle.world_facts.specs.Facts.{AtEachMoment, HasAbortedSign, HasVersion}
 use Rattle.world_facts.specs.FactLaws.{decided-of, signs-are-apart, there-at-first}
-use Rattle.world_facts.specs.HoldingLaws.{AreHeld, at-place, decided-held, durable-at, held-at, held-resolved, many, place-of, resolved-held}
+use Rattle.world_facts.specs.HoldingLaws.{AreHeld, decided-held, durable-at, held-at, held-resolved, many, resolved-held}
 use Rattle.world_facts.specs.Resolved.{IsResolved, KeepResolved}
 
 -- ---- plain lemmas
@@ -58,22 +61,6 @@ same-bool false b there back = sym (false_of b (λ is. let no : false ≡ true =
 and-true : (a b : Bool) → b ≡ true → a ≡ (a && b)
 and-true true b is = sym is
 and-true false b is = refl
-
-below-is : (m n : ℕ) → m < n → nat_lt m n ≡ true
-below-is m n lt = grind (arith, nat_tests)
-
--- epochs that a lease covers are below a bound
-below-lease : (x l n : ℕ) → x / 256 ≤ l → l < n → x < n * 256
-below-lease x l n a b = omega (arith, a, b)
-
-mark-below : (t a l n : ℕ) → t ≡ l * 256 + 255 → a ≤ t → l < n → max t a + 1 ≤ n * 256
-mark-below t a l n e b c = omega (arith, e, b, c)
-
-epoch-is : (e f : Epoch) → e.0 ≡ f.0 → e ≡ f
-epoch-is e f same = ap (λ n. epoch_of n) same
-  where
-    epoch_of : ℕ → Epoch
-    epoch_of n = record { 0 = n }
 
 -- the entries of all targets
 abbrev all_entries : List Durable → List Entry
@@ -129,7 +116,7 @@ module _ (r : Rules) (o : Opening) (held : ℕ → List Version) (h : History) (
     }
       where
         other : (y : AttemptId) (z : Epoch) → Decided later y z → z.0 ≡ e.0 → y ≡ x
-        other y z d same = f.judged.epochs.apart y x z (g.only y z d).1 (subst (IsIssued v x) (sym (epoch-is z e same)) issued)
+        other y z d same = f.judged.epochs.apart y x z (g.only y z d).1 (subst (IsIssued v x) (sym (same-epoch z e same)) issued)
 
     here-or_not : (t : ℕ) (s : TargetState) → slice_get v.targets t ≡ Some s → IsHeldOrElsewhere r x e t s.durable
     here-or_not t s here = by (entry_of s.durable x) refl
@@ -198,8 +185,8 @@ module _ (r : Rules) (o : Opening) (held : ℕ → List Version) (h : History) (
   -- an attempt that a target holds is decided by it where it is resolved
   held-same : (t : ℕ) (s : TargetState) (x : AttemptId) (e : Entry) → slice_get v.targets t ≡ Some s → entry_of s.durable x ≡ Some e → IsResolved v x → is_decided all.later x ≡ true
   held-same t s x e here found is =
-      let its : e.attempt ≡ x = entry-is-its s.durable x e found in
-      let among : Has e (all_entries (durables_of v)) = among-all (durables_of v) s.durable e (at-place (durables_of v) t s.durable (durable-at r o h v f t s here)) (has-from_contains s.durable.entries e (entry-among s.durable x e found)) in
+      let its : e.attempt ≡ x = found-attempt s.durable x e found in
+      let among : Has e (all_entries (durables_of v)) = among-all (durables_of v) s.durable e (has-at (durables_of v) t s.durable (durable-at r o h v f t s here)) (has-from_contains s.durable.entries e (entry-among s.durable x e found)) in
       subst (λ y. is_decided all.later y ≡ true) its (all.covers e among (subst (IsResolved v) (sym its) is))
 
   decided-only : (x : AttemptId) → is_decided all.later x ≡ true → IsResolved v x
@@ -226,7 +213,7 @@ module _ (r : Rules) (o : Opening) (held : ℕ → List Version) (h : History) (
           same-bool (resolved (durables_of v) u.by) (is_decided all.later u.by) (held-same t s u.by z.entry here z.found) (decided-only u.by)
 
   below-all : (t : ℕ) (s : TargetState) (u : Version) → slice_get v.targets t ≡ Some s → Contains s.durable.versions u → nat_lt u.epoch.0 (2 ^ 64) ≡ true
-  below-all t s u here i = below-is u.epoch.0 (2 ^ 64) (below-lease u.epoch.0 s.durable.lease (2 ^ 56) ((all.goes.stand t s here).leased u i) (all.goes.stand t s here).form.lease)
+  below-all t s u here i = of-end u.epoch.0 (2 ^ 64) (below-lease u.epoch.0 s.durable.lease (2 ^ 56) ((all.goes.stand t s here).leased u i) (all.goes.stand t s here).form.lease)
 
   counted-same : (t : ℕ) (s : TargetState) → slice_get v.targets t ≡ Some s → filter (counts (durables_of v)) s.durable.versions ≡ filter (counts_under (counts_by all.later) (2 ^ 64)) s.durable.versions
   counted-same t s here =

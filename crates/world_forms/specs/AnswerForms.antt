@@ -15,13 +15,13 @@ use Rattle.daos_base.specs.declared.path.Path.{Path}
 use Rattle.daos_base.specs.declared.report.Attempt.{Attempt}
 use Rattle.daos_base.specs.declared.script.ObjDecl.{ObjDecl}
 use Rattle.daos_base.specs.Scripts.{IsActInForm, IsOpInForm, IsReadInForm}
+use Rattle.daos_laws.specs.Lists.{all-at}
 use Rattle.daos_model.specs.declared.cell.CellValue.{CellValue}
 use Rattle.daos_model.specs.Answers.{answer, has_cell_below, hole_before, index_before, pieces, value_answer, yes_or_no}
 use Rattle.daos_model.specs.Cells.{index_cell, single_cell, value_at}
 use Rattle.daos_model.specs.ReadsLegal.{IsRightAnswer, IsRightCondition, IsToldRight}
 use Rattle.daos_model.specs.Transactions.{read_of, read_of_op}
 use Rattle.daos_report.specs.Forms.{IsAnswer, IsCond, IsGot, IsPiece}
-use Rattle.world_gots.specs.FormLaws.{all-at}
 use Rattle.world_forms.specs.Keyed.{MapHasKeys}
 use Rattle.world_forms.specs.KeyLaws.{akey-names, dkey-names}
 

@@ -17,6 +17,7 @@ use Rattle.daos_base.specs.Keys.{IsKey}
 use Rattle.daos_base.specs.Operations.{act_path}
 use Rattle.daos_base.specs.Paths.{leads_to}
 use Rattle.daos_base.specs.Scripts.{is_numbered}
+use Rattle.daos_laws.specs.Lists.{all-at}
 use Rattle.daos_model.specs.declared.cell.CellValue.{CellValue}
 use Rattle.daos_model.specs.declared.stand.Stand.{Stand}
 use Rattle.daos_model.specs.declared.stand.Taken.{Taken}
@@ -26,7 +27,6 @@ use Rattle.daos_model.specs.Attempts.{tries}
 use Rattle.daos_model.specs.Effect.{effect, effects, extent_cells, index_value, without}
 use Rattle.daos_model.specs.TookEffect.{all_taken, taken_at, taken_by, took, took_effect}
 use Rattle.daos_model.specs.Transactions.{attempt_ops, command_of, numbered, ops_or_none, writes_of, written}
-use Rattle.world_gots.specs.FormLaws.{all-at}
 use Rattle.world_forms.specs.Keyed.{CellHasKeys, CommandHasKeys, HasKeys, IsKeyOrNone, MapHasKeys, OpHasKeys, ScriptHasKeys, TakenHasKeys, WriteHasKeys}
 
 -- ---- attempts

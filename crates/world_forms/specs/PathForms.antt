@@ -1,5 +1,5 @@
 -- Where the operations of a script in form have their accesses, it names containers and objects.
-use Rattle.std.specs.Prelude.{ℕ, ◌≡◌, ◌+◌, List, [], ◌∷◌, All, Any, Option, Some, None, refl}
+use Rattle.std.specs.Prelude.{ℕ, ◌≡◌, ◌+◌, List, [], ◌∷◌, All, Option, Some, None, refl}
 use Rattle.std.proofs.Common.{sym, ◌∙◌, subst}
 use Rattle.std.proofs.lemmas.List.Elements.{All-append, All-cons, All-head, All-nil, All-tail}
 use Rattle.daos_base.specs.declared.id.AttemptId.{AttemptId}
@@ -17,7 +17,7 @@ use Rattle.daos_base.specs.declared.script.ObjDecl.{ObjDecl}
 use Rattle.daos_base.specs.declared.script.Script.{Script}
 use Rattle.daos_base.specs.Operations.{act_path, read_path, write_path}
 use Rattle.daos_base.specs.Scripts as scripts
-use Rattle.daos_base.specs.Scripts.{AreDeclared, IsActInForm, IsAkeyOf, IsDkeyOf, IsInForm, IsObjectOf, IsOfObject, IsOpInForm, IsReadInForm, IsWriteInForm}
+use Rattle.daos_base.specs.Scripts.{AreDeclared, IsActInForm, IsAkeyOf, IsDkeyOf, IsInForm, IsObjectOf, IsOpInForm, IsReadInForm, IsWriteInForm}
 use Rattle.daos_model.specs.Accesses.{minor_write, minor_writes, op_path}
 use Rattle.daos_model.specs.Transactions.{attempt_ops}
 use Rattle.daos_report.specs.Forms.{HasNames, IsBelowOf, IsContOf, IsObjOf, IsPathOf}
@@ -26,9 +26,6 @@ use Rattle.world_forms.specs.Keyed.{HasKeys, IsKeyOrNone, OpHasKeys, ScriptHasKe
 use Rattle.world_forms.specs.KeyLaws.{attempt-keys}
 
 -- ---- what is so of all is so of one that is shown
-
-pub any-all : {T : Type 0} (P Q : T → Type 0) (xs : List T) → All P xs → (i : Any Q xs) → P i.1
-any-all P Q xs all i = subst P i.3 (all i.0 i.1 i.2)
 
 -- ---- shapes
 

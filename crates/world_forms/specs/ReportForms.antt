@@ -1,5 +1,5 @@
 -- A legal report of attempts alone is in the form in which its text determines it.
-use Rattle.std.specs.Prelude.{ℕ, ◌≡◌, ◌≤◌, ◌<◌, ◌^◌, ◌++◌, Bool, true, List, [], ◌∷◌, All, Option, Some, None, refl}
+use Rattle.std.specs.Prelude.{ℕ, ◌≡◌, ◌≤◌, ◌<◌, ◌^◌, Bool, true, List, [], ◌∷◌, All, Option, Some, None, refl}
 use Rattle.std.proofs.Common.{inl, inr, sym, ◌∙◌, ap, subst}
 use Rattle.std.proofs.lemmas.List.Elements.{All-head, All-tail}
 use Rattle.daos_base.specs.declared.epoch.Epoch.{Epoch}
@@ -11,6 +11,7 @@ use Rattle.daos_base.specs.declared.report.Report.{Report}
 use Rattle.daos_base.specs.declared.script.Script.{Script}
 use Rattle.daos_base.specs.Scripts.{IsInForm}
 use Rattle.daos_laws.specs.DecidedLaws.{all-from_has, has-all}
+use Rattle.daos_laws.specs.Lists.{has-cut}
 use Rattle.daos_laws.specs.Members.{Has}
 use Rattle.daos_model.specs.declared.cell.CellValue.{CellValue}
 use Rattle.daos_model.specs.declared.stand.Stand.{Stand}
@@ -78,12 +79,6 @@ try-among (line.Aggregate n t cont upto ∷ lines) a (inr i) = try-among lines a
 try-among (line.Down t ∷ lines) a (inl same) = let no : ⊥ = cc in absurd no
 try-among (line.Down t ∷ lines) a (inr i) = try-among lines a i
 
--- the lines before one of them, and those after it
-cut-at : (lines : List Line) (l : Line) → Has l lines → (before : List Line) × (after : List Line) × (lines ≡ before ++ l ∷ after)
-cut-at [] l i = absurd i
-cut-at (m ∷ lines) l (inl same) = ([], lines, ap (λ x. x ∷ lines) (sym same))
-cut-at (m ∷ lines) l (inr i) = let k = cut-at lines l i in (m ∷ k.0, k.1, ap (λ ls. m ∷ ls) k.2)
-
 none-down : (lines : List Line) → All (λ l. is_try l ≡ true) lines → least_down lines ≡ None
 none-down [] k = refl
 none-down (l ∷ lines) k = by l (All-head (λ m. is_try m ≡ true) l lines k) (none-down lines (All-tail (λ m. is_try m ≡ true) l lines k))
@@ -129,7 +124,7 @@ module _ (g : Given) (o : Outside) (resolved : AttemptId → Bool) (q : Report) 
   attempt-form : (a : Attempt) → Has (line.Try a) q.lines → IsAttemptOf g.script a
   attempt-form a i =
       let among = try-among q.lines a i in
-      let cut = cut-at q.lines (line.Try a) i in
+      let cut = has-cut q.lines (line.Try a) i in
       let t = told a among in
       record {
         id = plain.ids a among;

@@ -1,7 +1,7 @@
 -- The operations of a script in form ask what groups can answer.
 use Rattle.std.specs.Prelude.{ℕ, zero, suc, ◌≡◌, Bool, true, false, ◌++◌, List, [], ◌∷◌, map, slice_get, All, Option, Some, None, refl, if◌then◌else◌}
 use Rattle.std.proofs.Common.{sym, ◌∙◌, ap, subst}
-use Rattle.std.proofs.lemmas.List.Elements.{All-head, All-nil, All-tail}
+use Rattle.std.proofs.lemmas.List.Elements.{All-nil}
 use Rattle.daos_base.specs.declared.id.AttemptId.{AttemptId}
 use Rattle.daos_base.specs.declared.id.ObjId.{ObjId}
 use Rattle.daos_base.specs.declared.operation.Act.{Act}
@@ -20,15 +20,10 @@ use Rattle.daos_base.specs.declared.script.Script.{Script}
 use Rattle.daos_base.specs.Operations.{act_path, read_path, write_path}
 use Rattle.daos_base.specs.Placement.{ClassFits}
 use Rattle.daos_base.specs.Scripts.{AreCommands, IsActInForm, IsCommand, IsInForm, IsOfObject, IsOpInForm, IsReadInForm, IsWriteInForm, SnapName, is_numbered, old_snap, snap_of}
+use Rattle.daos_laws.specs.Lists.{all-at}
 use Rattle.daos_model.specs.Accesses.{op_path}
 use Rattle.daos_model.specs.Transactions.{attempt_ops, command_of, numbered, ops_of, ops_or_none, read_at, read_of, read_of_op}
 use Rattle.world_gots.specs.Right.{IsAskable, IsJoinable}
-
--- what holds of all holds of one
-pub all-at : {T : Type 0} (P : T → Type 0) (xs : List T) (n : ℕ) (x : T) → All P xs → slice_get xs n ≡ Some x → P x
-all-at P [] n x all at = let no : ⊥ = cc in absurd no
-all-at P (y ∷ ys) zero x all at = let same : y ≡ x = cc in subst P same (All-head P y ys all)
-all-at P (y ∷ ys) (suc n) x all at = all-at P ys n x (All-tail P y ys all) at
 
 -- ---- paths
 

@@ -13,17 +13,17 @@ use Rattle.daos_base.specs.declared.report.Attempt.{Attempt}
 use Rattle.daos_base.specs.declared.script.Command.{Command}
 use Rattle.daos_base.specs.declared.script.Command.TheVariants.{Run, Snap, Aggregate, Tell, Skip}
 use Rattle.daos_model.specs.Accesses.{minor_writes}
-use Rattle.daos_model.specs.Attempts.{is_restart, snapshot_of_command, tries}
+use Rattle.daos_model.specs.Attempts.{is_restart, snapshot_of_command}
 use Rattle.daos_model.specs.Transactions.{ops_of, ops_or_none}
 use Rattle.world_base.specs.declared.client.ClientPlan.{ClientPlan}
 use Rattle.world_base.specs.declared.client.ClientState.{ClientState}
 use Rattle.world_base.specs.declared.client.Present.{Present}
 use Rattle.world_base.specs.declared.client.Stage.{Stage}
 use Rattle.world_base.specs.declared.client.Stage.TheVariants as stage
-use Rattle.world_base.specs.ClientTurns.{Move, after_end, asks_or_goes, at_present, attempt_id, attempt_moves, begins_at, begun, command_at, command_moves, commits, ends, first_epoch, listed, moved, moves_at, next_command, next_place, next_stage, op_moves, question, rests, run_moves, waits}
+use Rattle.world_base.specs.ClientTurns.{Move, after_end, asks_or_goes, at_present, attempt_id, attempt_moves, begins_at, begun, command_at, command_moves, commits, ends, first_epoch, moved, moves_at, next_command, next_place, next_stage, op_moves, question, rests, run_moves, waits}
 use Rattle.world_clients.specs.Answered.{ops_here, ops_numbered}
 use Rattle.world_clients.specs.AnswerLaws.{ops-here}
-use Rattle.world_clients.specs.MoveLaws.{is-at, tells-end, told_end}
+use Rattle.world_clients.specs.MoveLaws.{is-at, tells-end, tells-nothing, told_end}
 use Rattle.world_clients.specs.Standing.{HasTold, tells}
 use Rattle.world_gots.specs.Gots.{AreServed, Found, IsFound, IsGot, IsServedSoFar, IsTold, Nothing}
 use Rattle.world_attempts.specs.History.{History}
@@ -44,10 +44,6 @@ pub record IsToldServed (h : History) (p : ClientPlan) (a : Attempt) : Type 0 wh
 pub record KeepsGots (h : History) (p : ClientPlan) (m : Move) : Type 0 where
   pub here : IsServedHere h p m.state m.state.present
   pub told : All (IsToldServed h p) (tells m)
-
-tells-nothing : (m : Move) → m.line ≡ None → tells m ≡ []
-unfolding tries
-tells-nothing m e = ap (λ o. tries (listed o)) e
 
 -- a move without a line
 pub silent-gots : (h : History) (p : ClientPlan) (m : Move) → m.line ≡ None → IsServedHere h p m.state m.state.present → KeepsGots h p m

@@ -1,5 +1,5 @@
 -- What follows from that clients were told what was served: where that was answered right, so was what they were told.
-use Rattle.std.specs.Prelude.{ℕ, ◌≡◌, List, All, Contains, find, Option, Some, None}
+use Rattle.std.specs.Prelude.{ℕ, ◌≡◌, List, All, find, Option, Some, None}
 use Rattle.daos_base.specs.declared.answer.Answer.{Answer}
 use Rattle.daos_base.specs.declared.epoch.Epoch.{Epoch}
 use Rattle.daos_base.specs.declared.id.AttemptId.{AttemptId}

@@ -18,6 +18,7 @@ use Rattle.daos_laws.specs.ReadLaws.{answer-same}
 use Rattle.daos_model.specs.declared.cell.CellValue.{CellValue}
 use Rattle.daos_model.specs.Answers.{answer}
 use Rattle.daos_model.specs.Opening.{Opening}
+use Rattle.std.proofs.lemmas.List.{map_push}
 use Rattle.world_base.specs.ClientTurns.{group_asked, group_count, joined}
 use Rattle.world_events.specs.Events.{Rules}
 use Rattle.world_gots.specs.Gots.{AreJoined, IsJoined, IsServedTo, NoneYet, OneMore, group_at, groups_asked}
@@ -87,10 +88,6 @@ range-next n =
     let z : 0 + n ≡ n = omega arith in
     ap (range_with_len 0) s ∙ range-suc 0 n ∙ ap (λ k. range_with_len 0 n ++ k ∷ []) z
 
-map-push : {A B : Type 0} (f : A → B) (xs : List A) (x : A) → map f (xs ++ x ∷ []) ≡ map f xs ++ f x ∷ []
-map-push f [] x = refl
-map-push f (y ∷ ys) x = ap (λ zs. f y ∷ zs) (map-push f ys x)
-
 map-same : {A B : Type 0} (f g : A → B) (xs : List A) → ((x : A) → f x ≡ g x) → map f xs ≡ map g xs
 map-same f g [] same = refl
 map-same f g (x ∷ xs) same = ap (λ y. y ∷ map f xs) (same x) ∙ ap (λ ys. g x ∷ ys) (map-same f g xs same)
@@ -103,7 +100,7 @@ joined-right r o h x op q e obj n found all of_object NoneYet = refl
 joined-right r o h x op q e obj n found all of_object (OneMore m before b j s) =
     ap (λ z. Some (joined z b)) (joined-right r o h x op q e obj m before all of_object j)
     ∙ ap (λ z. Some (joined (join_some (map f (range_with_len 0 m))) z)) (one-right r o h x op (group_at q r.script.targets m) q b e obj all of_object s)
-    ∙ some-next (map f (range_with_len 0 m)) (f m) ∙ ap join_some (sym (map-push f (range_with_len 0 m) m)) ∙ ap (λ ns. join_some (map f ns)) (sym (range-next m))
+    ∙ some-next (map f (range_with_len 0 m)) (f m) ∙ ap join_some (sym (map_push f (range_with_len 0 m) m)) ∙ ap (λ ns. join_some (map f ns)) (sym (range-next m))
   where
     f : ℕ → Answer
     f k = part_answer obj.class r.script.targets q (map_then r o h e) (group_at q r.script.targets k)

@@ -90,7 +90,7 @@ moved-sends p c letters n = by (waits c) refl
 -- ---- lines
 
 -- the operations of an attempt, by the number of its command
-ops-of-attempt : (r : Rules) (x : AttemptId) → ops_numbered (client_plan r x.client) x.command ≡ attempt_ops r.script x
+pub ops-of-attempt : (r : Rules) (x : AttemptId) → ops_numbered (client_plan r x.client) x.command ≡ attempt_ops r.script x
 unfolding command_of
 ops-of-attempt r x = by (slice_get r.script.clients x.client) refl
   where

@@ -6,7 +6,6 @@ use Rattle.daos_base.specs.declared.answer.Answer.{Answer}
 use Rattle.daos_base.specs.declared.epoch.Epoch.{Epoch}
 use Rattle.daos_base.specs.declared.id.AttemptId.{AttemptId}
 use Rattle.daos_messages.specs.declared.actor.ActorId.{ActorId}
-use Rattle.daos_messages.specs.declared.message.Message.{Message}
 use Rattle.daos_messages.specs.declared.message.Message.TheVariants as message
 use Rattle.daos_messages.specs.declared.message.Post.{Post}
 use Rattle.daos_messages.specs.declared.message.Reply.TheVariants as reply
@@ -34,7 +33,7 @@ use Rattle.dtx_base.specs.Joining.{inquired, inquiry_for, to_inquire}
 use Rattle.dtx_base.specs.Leading.{LeaderOf, batched, commit_mark, mark_with, marks_for, owed, to_target}
 use Rattle.dtx_base.specs.Members.{all_targets}
 use Rattle.dtx_base.specs.Rows.{is_empty}
-use Rattle.world_reads.specs.Adds.{Heard, IsAnswered, IsAskedIn, Waited, fetch_message, served_at}
+use Rattle.world_reads.specs.Adds.{Heard, IsAnswered, IsAskedIn, Waited, served_at}
 use Rattle.world_talks.specs.Carriers.{is_fetch_of}
 use Rattle.world_turns.specs.Idle.{AllSettled, IdleEnds, batch_of, inquiry_of}
 use Rattle.world_turns.specs.MemoryLaws.{hears-follows, idles-follows}
@@ -47,13 +46,15 @@ use Rattle.world_gots.specs.MoreLaws.{all-more, remembered-more, served-more, st
 use Rattle.world_gots.specs.Remembering.{AreRemembered, NothingIsTold, Remembers, ServedIsTold, Standing, ToldServed}
 use Rattle.world_gots.specs.TurnGots.{client-goes-told, client-hears-told}
 use Rattle.world_attempts.specs.History.{History}
+use Rattle.world_gots.specs.StepGots.{is_fetched}
 use Rattle.world_talks.specs.AskLaws.{asked-read}
-use Rattle.world_talks.specs.Asked.{AsksRead, fetch_of}
+use Rattle.world_talks.specs.Asked.{AsksRead}
 use Rattle.world_talks.specs.Conversation.{is_request}
 use Rattle.world_talks.specs.ConversationLaws.{conversations-begin, conversations-kept}
 use Rattle.world_talks.specs.InFlight.{hears-request, parked-is}
 use Rattle.world_talks.specs.TalkLaws.{left-is-among}
 use Rattle.world_turns.specs.Changes.{Kept}
+use Rattle.world_turns.specs.Requests.{fetch_message}
 
 -- ---- what is asked
 
@@ -129,7 +130,7 @@ same-standing r w v clients k n c at = k n c (ap (λ cs. slice_get cs n) (sym cl
 
 -- ---- a target hears a message
 
-same-request : (q f : FetchRequest) → fetch_message q ≡ fetch_of f → (q.attempt ≡ f.attempt) × (q.op ≡ f.op) × (q.group ≡ f.group) × (q.ep ≡ f.ep) × (q.read ≡ f.read)
+same-request : (q f : FetchRequest) → fetch_message q ≡ fetch_message f → (q.attempt ≡ f.attempt) × (q.op ≡ f.op) × (q.group ≡ f.group) × (q.ep ≡ f.ep) × (q.read ≡ f.read)
 same-request q f same = (cc (same), cc (same), cc (same), cc (same), cc (same))
 
 module _ (r : Rules) (h k : History) (w v : World) (t : ToldServed r h w) (g : TargetHears r w v) where
@@ -146,7 +147,7 @@ module _ (r : Rules) (h k : History) (w v : World) (t : ToldServed r h w) (g : T
   heard-asked : (q : FetchRequest) (epoch : Epoch) (b : Answer) → fetch_message q ≡ g.l.message → ((f : Epoch) → q.ep ≡ Some f → f ≡ epoch) → Has (served_at g.t q epoch b) k.served → AnswersClient q epoch b
   heard-asked q epoch b it own among =
       let i = hears-request r w g.l g.rest t.conversation g.takes (ap is_request (sym it)) in
-      let says : i.q.message ≡ fetch_of q = sym (ap (λ z. z.message) i.it) ∙ sym it in
+      let says : i.q.message ≡ fetch_message q = sym (ap (λ z. z.message) i.it) ∙ sym it in
       record {
         n = i.n;
         c = i.c;
@@ -244,12 +245,8 @@ target-hears-told r h k w v more t g has = record {
 
 -- ---- a target does its idle work, and answers no read
 
-abbrev is_answer_to_read : Message → Bool
-is_answer_to_read (message.Fetched x op group own b) = true
-is_answer_to_read m = false
-
 abbrev AnswerNone : List Post → Type 0
-AnswerNone posts = (p : Post) → Has p posts → is_answer_to_read p.message ≡ false
+AnswerNone posts = (p : Post) → Has p posts → is_fetched p.message ≡ false
 
 both-none : (ps qs : List Post) → AnswerNone ps → AnswerNone qs → AnswerNone (ps ++ qs)
 both-none ps qs a b p i = elim (has-cases ps qs p i) [ inl j ↦ a p j | inr j ↦ b p j ]
@@ -259,7 +256,7 @@ mark-none inc t ids = by (is_empty ids)
   where
     by : (b : Bool) → AnswerNone (if b then [] else to_target t (message.Mark inc (map commit_mark ids)) ∷ [])
     by true p i = absurd i
-    by false p (inl same) = ap (λ z. is_answer_to_read z.message) same
+    by false p (inl same) = ap (λ z. is_fetched z.message) same
     by false p (inr i) = absurd i
 
 marks-none : (inc down : ℕ) (named : List Naming) (es : List Entry) (ts : List ℕ) → AnswerNone (marks_for inc down named es ts)
@@ -273,7 +270,7 @@ batch-none l = marks-none l.incarnation l.memory.down l.memory.named l.entries a
 inquiries-none : (settling : Bool) (t : TargetPlan) (m : TargetMemory) (d : Durable) → AnswerNone (inquiry_of settling t m d).freed.posts
 unfolding inquired
 inquiries-none false t m d = λ p i. absurd i
-inquiries-none true t m d = λ p i. let e = has-from_map inquiry_for (to_inquire d.entries (member_at t m)) p i in ap (λ z. is_answer_to_read z.message) (sym e.2)
+inquiries-none true t m d = λ p i. let e = has-from_map inquiry_for (to_inquire d.entries (member_at t m)) p i in ap (λ z. is_fetched z.message) (sym e.2)
 
 ends-none : (settling : Bool) (t : TargetPlan) (m : TargetMemory) (s : List AttemptId) (k : Kept) (left : TargetMemory × Did) → IdleEnds settling t m s k left → AnswerNone left.1.posts
 ends-none settling t m s k left (AllSettled j left2 is) =
@@ -297,8 +294,8 @@ target-idles-told r h k w v more t g = record {
         by : Contains w.messages l ⊎ ((p : Post) × Has p g.did.posts × (letter_of (target g.t) p ≡ l)) → IsServedAnswer (client_plan r n) k c a own b
         by (inl before) = answer-remembered (client_plan r n) h k c a own b more (t.gots.flying n c a l x op group own b here present before to it)
         by (inr p) =
-            let none : is_answer_to_read p.0.message ≡ false = ends-none g.settling (target_plan r g.t) g.s.memory g.turn.last g.new (g.memory, g.did) g.turn.ends p.0 p.1 in
-            let some : is_answer_to_read p.0.message ≡ true = ap is_answer_to_read (ap (λ z. z.message) p.2 ∙ it) in
+            let none : is_fetched p.0.message ≡ false = ends-none g.settling (target_plan r g.t) g.s.memory g.turn.last g.new (g.memory, g.did) g.turn.ends p.0 p.1 in
+            let some : is_fetched p.0.message ≡ true = ap is_fetched (ap (λ z. z.message) p.2 ∙ it) in
             absurd (true≢false (sym some ∙ none))
 
 -- ---- the laws

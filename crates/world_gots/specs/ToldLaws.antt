@@ -30,7 +30,7 @@ use Rattle.world_reads.specs.Reads.{map_then}
 
 -- ---- what is told is right
 
-yes-is : (b : Bool) → is_yes (yes_or_no b) ≡ b
+pub yes-is : (b : Bool) → is_yes (yes_or_no b) ≡ b
 yes-is true = refl
 yes-is false = refl
 

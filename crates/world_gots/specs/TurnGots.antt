@@ -14,7 +14,7 @@ use Rattle.world_base.specs.declared.client.ClientState.{ClientState}
 use Rattle.world_base.specs.declared.client.Present.{Present}
 use Rattle.world_base.specs.declared.letter.Letter.{Letter}
 use Rattle.world_base.specs.declared.world.World.{World}
-use Rattle.world_base.specs.ClientTurns.{Move, about, attempt_id, goes, heard, hears_epochs, knows, listed, replied, rests}
+use Rattle.world_base.specs.ClientTurns.{Move, attempt_id, goes, heard, hears_epochs, knows, listed, replied, rests}
 use Rattle.world_clients.specs.MoveLaws.{heard-keeps}
 use Rattle.world_clients.specs.Standing.{HasTold}
 use Rattle.world_events.specs.Events.{ClientGoes, ClientHears, Rules, client_plan, with_client}
@@ -28,8 +28,8 @@ use Rattle.world_gots.specs.MoreLaws.{knows-more}
 use Rattle.world_gots.specs.Remembering.{ToldServed}
 use Rattle.world_gots.specs.StepGots.{AreFlying, KeepsAnswers, gots-move, here-of, is_fetched, sends-none, standing-turned, turned}
 use Rattle.world_attempts.specs.History.{History}
+use Rattle.world_lines.specs.EndingLaws.{heard-silent}
 use Rattle.world_talks.specs.ConversationLaws.{count-keeps, hear-keeps}
-use Rattle.world_talks.specs.HearLaws.{answer-is, hears-answer}
 use Rattle.world_talks.specs.Hearing.{ATracker, AReply, AnEnd, IsHearing, hearing-is}
 use Rattle.world_talks.specs.InFlight.{GetsAnswer}
 use Rattle.world_talks.specs.TalkLaws.{got-is-talk, left-is-among, none-among, taken-is-among}
@@ -46,17 +46,9 @@ same-answer h p c e a own b place command s = record { op = s.op; read = s.read;
 
 -- ---- a client hears
 
--- what is heard is answered by nothing
-heard-sends-none : (r : Rules) (n : ℕ) (c : ClientState) (l : Letter) (rest : List Letter) → IsHearing r n c l rest → (heard (client_plan r n) c l.message).post ≡ None
-heard-sends-none r n c l rest (ATracker k it e) = ap (λ m. m.post) e
-heard-sends-none r n c l rest (AReply g group own b it e) =
-    ap (λ m. m.post) (hears-answer (client_plan r n) c g.a l.message g.present g.waiting (ap about it)) ∙ ((answer-is g.q.message l.message g.answers).ends_waiting (client_plan r n) (hears_epochs l.message c) g.a).no_post
-heard-sends-none r n c l rest (AnEnd g own how it e) =
-    ap (λ m. m.post) (hears-answer (client_plan r n) c g.a l.message g.present g.waiting (ap about it)) ∙ ((answer-is g.q.message l.message g.answers).ends_waiting (client_plan r n) (hears_epochs l.message c) g.a).no_post
-
 -- what is left of the letters was in flight
 letters-left : (r : Rules) (w : World) (n : ℕ) (c : ClientState) (l : Letter) (rest : List Letter) → IsHearing r n c l rest → KeepsAnswers rest (rest ++ letters_of (client n) (listed (heard (client_plan r n) c l.message).post))
-letters-left r w n c l rest hearing = sends-none rest n (heard (client_plan r n) c l.message).post (heard-sends-none r n c l rest hearing)
+letters-left r w n c l rest hearing = sends-none rest n (heard (client_plan r n) c l.message).post (heard-silent r n c l rest hearing)
 
 -- the attempt that waits, once it knows its epoch
 known-here : (h : History) (p : ClientPlan) (c e : ClientState) (d : Command) (a : Present) (own : Option Epoch) → e.place ≡ c.place → e.command ≡ c.command → Here h p c d a → Here h p e d (knows own a)

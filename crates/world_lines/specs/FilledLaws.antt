@@ -13,6 +13,7 @@ use Rattle.daos_laws.specs.TargetLaws.{number_same, same_number}
 use Rattle.daos_model.specs.Attempts.{is_of_client, tried, tries, tries_of}
 use Rattle.daos_model.specs.Laws.{tries-append}
 use Rattle.daos_model.specs.Order.{AreAttempts, AreInTurn}
+use Rattle.std.proofs.lemmas.List.{map-append}
 use Rattle.world_base.specs.declared.client.ClientPlan.{ClientPlan}
 use Rattle.world_clients.specs.Standing.{AreOfPresent, AreTriedAgain, Stands}
 use Rattle.world_events.specs.Events.{with_epoch}
@@ -40,10 +41,6 @@ one-filled issued (line.Freeze t cont e) = refl
 one-filled issued (line.Snapshot name cont e) = refl
 one-filled issued (line.Aggregate n t cont upto) = refl
 one-filled issued (line.Down t) = refl
-
-map-append : {A B : Type 0} (f : A → B) (xs ys : List A) → map f (xs ++ ys) ≡ map f xs ++ map f ys
-map-append f [] ys = refl
-map-append f (x ∷ xs) ys = ap (λ zs. f x ∷ zs) (map-append f xs ys)
 
 pub tries-filled : (issued : List (AttemptId × Epoch)) (ls : List Line) → tries (map (with_epoch issued) ls) ≡ map (filled issued) (tries ls)
 unfolding tries

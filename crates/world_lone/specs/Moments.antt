@@ -12,6 +12,7 @@ use Rattle.daos_base.specs.declared.report.Attempt.{Attempt}
 use Rattle.daos_base.specs.declared.report.Line.{Line}
 use Rattle.daos_base.specs.declared.report.Line.TheVariants as line
 use Rattle.daos_laws.specs.DecidedLaws.{all-from_has, has-all}
+use Rattle.daos_laws.specs.Lists.{any-of}
 use Rattle.daos_laws.specs.Members.{Has, any-has, contains-from_has, has-filter, has-from_contains}
 use Rattle.daos_laws.specs.TargetLaws.{same_number}
 use Rattle.daos_lone.specs.Alone.{stands-before, stands-beside, stands-there}
@@ -23,7 +24,6 @@ use Rattle.world_base.specs.declared.client.ClientState.{ClientState}
 use Rattle.world_base.specs.declared.client.Present.{Present}
 use Rattle.world_base.specs.declared.world.World.{World}
 use Rattle.world_causes.specs.Causes.{Causes, Shows, ShowsUnresolved, Stored}
-use Rattle.world_causes.specs.Growth.{any-of}
 use Rattle.world_ends.specs.Carried.{runs-carry}
 use Rattle.world_ends.specs.FormLaws.{no-snapshots}
 use Rattle.world_ends.specs.SureTells.{not-own}

@@ -16,6 +16,7 @@ use Rattle.daos_base.specs.Operations.{write_path}
 use Rattle.daos_base.specs.Placement.{ClassFits, path_leader, path_members, writes_leader, writes_members}
 use Rattle.daos_base.specs.PlacementLaws.{path_leader-member}
 use Rattle.daos_laws.specs.EntryLaws.{found-has, has-put}
+use Rattle.daos_laws.specs.Lists.{has-some}
 use Rattle.daos_laws.specs.Members.{Has, any-has, has-cases, has-filter, has-from_contains, has-from_filter, has-from_map}
 use Rattle.daos_laws.specs.TargetLaws.{same_number}
 use Rattle.daos_messages.specs.declared.actor.ActorId.{ActorId}
@@ -113,12 +114,8 @@ ended-told targets (Some x) a e how k = one-posted targets (record { to = x; mes
 
 -- ---- an attempt begins
 
-has-some : {T : Type 0} (xs : List T) (x : T) → Has x xs → 0 < length xs
-has-some [] x i = absurd i
-has-some (y ∷ xs) x i = omega arith
-
 -- a member of writes is a member of the group of one of them
-one-of_them : (ws : List MinorWrite) (n t : ℕ) → Has t (writes_members ws n) → (w : MinorWrite) × Has w ws × Has t (path_members (write_path w.write) n)
+pub one-of_them : (ws : List MinorWrite) (n t : ℕ) → Has t (writes_members ws n) → (w : MinorWrite) × Has w ws × Has t (path_members (write_path w.write) n)
 unfolding writes_members
 one-of_them [] n t i = absurd i
 one-of_them (w ∷ ws) n t i = elim (has-cases (path_members (write_path w.write) n) (writes_members ws n) t i) [

@@ -14,9 +14,7 @@ use Rattle.daos_model.specs.BoolLaws.{clash}
 use Rattle.dtx_base.specs.declared.member.Parked.{Parked}
 use Rattle.world_attempts.specs.History.{Served}
 use Rattle.world_base.specs.declared.request.FetchRequest.{FetchRequest}
-
-abbrev pub fetch_message : FetchRequest → Message
-fetch_message q = message.Fetch q.attempt q.op q.group q.ep q.first q.tracker q.read q.snapshot
+use Rattle.world_turns.specs.Requests.{fetch_message}
 
 -- ---- what messages tell
 

@@ -28,9 +28,10 @@ use Rattle.world_attempts.specs.Attempts.{writes_of}
 use Rattle.world_attempts.specs.History.{History, Served, decides}
 use Rattle.world_events.specs.Events.{Rules}
 use Rattle.world_reads.specs.AsOfLaws.{as_of-more}
-use Rattle.world_reads.specs.ChangeLaws.{entry-among, entry-is-its}
+use Rattle.world_reads.specs.ChangeLaws.{entry-among}
 use Rattle.world_reads.specs.DecideLaws.{Elsewhere, Held, IsHeldOrElsewhere, MayBeDecided, is-added, stays-apart}
 use Rattle.daos_laws.specs.PlaceLaws.{asked-member, group-own, leads-object}
+use Rattle.world_attempts.specs.MarkTurns.{found-attempt}
 use Rattle.world_reads.specs.Reads.{IsAnsweredRight, IsOfAttempt, map_then}
 use Rattle.world_reads.specs.Transactions.{decided_of, transactions}
 use Rattle.world_reads.specs.Versions.{IsWriteAt, VersionsStand}
@@ -43,7 +44,7 @@ IsBarred d q = (v : Version) → Contains d.versions v → v.done ≡ false → 
 pub not-below : (r : Rules) (o : Opening) (held : List Version) (h : History) (t : ℕ) (d : Durable) (x : AttemptId) (e : Epoch) (q : Served) (m : MinorWrite) → MayBeDecided r o h x e → VersionsStand r o held h t d
     → IsHeldOrElsewhere r x e t d → IsBarred d q → IsWriteAt r x t m → overlaps (write_path m.write) (read_path q.read) ≡ true → q.epoch.0 ≤ e.0
 not-below r o held h t d x e q m may s (Held k found at) bar here over =
-    let its : k.attempt ≡ x = entry-is-its d x k found in
+    let its : k.attempt ≡ x = found-attempt d x k found in
     subst (λ f. q.epoch.0 ≤ f.0) at (bar (version_of k m) (s.whole k m (entry-among d x k found) (open' k.committed refl) (subst (λ y. IsWriteAt r y t m) (sym its) here)) refl over)
   where
     open' : (b : Bool) → k.committed ≡ b → k.committed ≡ false

@@ -8,7 +8,7 @@ use Rattle.daos_base.specs.declared.epoch.Epoch.{Epoch}
 use Rattle.daos_base.specs.declared.id.AttemptId.{AttemptId}
 use Rattle.daos_base.specs.declared.operation.MinorWrite.{MinorWrite}
 use Rattle.daos_base.specs.Placement.{path_members}
-use Rattle.daos_laws.specs.EntryLaws.{found-has, found-passes, pairs-map, same-attempt, same-itself}
+use Rattle.daos_laws.specs.EntryLaws.{found-has, found-passes, pairs-map, same-attempt}
 use Rattle.daos_laws.specs.DecidingLaws.{aborting-keeps, settling-keeps}
 use Rattle.daos_laws.specs.Members.{Has, any-has, contains-from_has, has-any, has-filter, has-from_contains, has-from_filter, has-from_map, has-map}
 use Rattle.daos_laws.specs.Targets.{ArePlaced}
@@ -18,12 +18,14 @@ use Rattle.daos_model.specs.declared.durable.Version.{Version}
 use Rattle.daos_model.specs.BoolLaws.{clash, not_true}
 use Rattle.daos_model.specs.Changes.{committed_at, confirmed_at, is_other, leased, settled}
 use Rattle.daos_model.specs.Durables.{entry_of, is_entry_of, row_of, same_attempt, version_key}
+use Rattle.daos_model.specs.EntryLaws.{same_attempt-itself}
 use Rattle.daos_model.specs.FormLaws.{leased-in_form, settled-in_form}
 use Rattle.daos_model.specs.Opening.{Opening}
 use Rattle.daos_model.specs.OrderLaws.{rising-filter}
 use Rattle.daos_model.specs.Versions.{done_by, is_not_pending, is_pending, version_of, version_path}
-use Rattle.world_attempts.specs.History.{Decided, History, is_attempt, is_decided}
-use Rattle.world_events.specs.Events.{Rules}
+use Rattle.world_attempts.specs.History.{Decided, History, is_decided}
+use Rattle.world_attempts.specs.MarkTurns.{found-attempt}
+use Rattle.world_events.specs.Events.{Rules, is_issue_of}
 use Rattle.world_turns.specs.EntryLaws.{entry-aborted, entry-aborted_other, entry-committed, entry-confirmed}
 use Rattle.world_reads.specs.ListLaws.{pairs-from_rising}
 use Rattle.world_reads.specs.Transactions.{counts_by, transactions}
@@ -36,10 +38,10 @@ abbrev pub WasDecided : History → AttemptId → Type 0
 WasDecided h x = (e : Epoch) × Decided h x e
 
 pub decided-has : (h : History) (x : AttemptId) → is_decided h x ≡ true → WasDecided h x
-decided-has h x is = let z = has-any (is_attempt x) h.decided is in (z.0.1, subst (λ y. Decided h y z.0.1) (same-attempt z.0.0 x z.2) z.1)
+decided-has h x is = let z = has-any (is_issue_of x) h.decided is in (z.0.1, subst (λ y. Decided h y z.0.1) (same-attempt z.0.0 x z.2) z.1)
 
 pub has-decided : (h : History) (x : AttemptId) (e : Epoch) → Decided h x e → is_decided h x ≡ true
-has-decided h x e i = any-has (is_attempt x) h.decided (x, e) i (same-itself x)
+has-decided h x e i = any-has (is_issue_of x) h.decided (x, e) i (same_attempt-itself x)
 
 -- ---- entries
 
@@ -47,9 +49,6 @@ has-decided h x e i = any-has (is_attempt x) h.decided (x, e) i (same-itself x)
 pub entry-of-it : (d : Durable) (x : AttemptId) (e : Entry) → entry_of d x ≡ Some e → same_attempt e.attempt x ≡ true
 unfolding entry_of
 entry-of-it d x e found = found-passes (is_entry_of x) d.entries e found
-
-pub entry-is-its : (d : Durable) (x : AttemptId) (e : Entry) → entry_of d x ≡ Some e → e.attempt ≡ x
-entry-is-its d x e found = same-attempt e.attempt x (entry-of-it d x e found)
 
 pub entry-among : (d : Durable) (x : AttemptId) (k : Entry) → entry_of d x ≡ Some k → Contains d.entries k
 unfolding entry_of
@@ -204,7 +203,7 @@ settles-stands r o held h t d a decided s = record {
     open-of : (u : Version) → Contains d.versions u → u.done ≡ false → same_attempt u.by a ≡ false → Open u
     open-of u j f other =
         let z = s.unsettled u j f in
-        let apart : same_attempt z.entry.attempt a ≡ false = apart-of z.entry.attempt u.by a (entry-is-its d u.by z.entry z.found) other in
+        let apart : same_attempt z.entry.attempt a ≡ false = apart-of z.entry.attempt u.by a (found-attempt d u.by z.entry z.found) other in
         record { entry = z.entry; found = entry-settled d a u.by ∙ ap (option_map (committed_at a)) z.found ∙ ap (λ x. Some x) (other-entry a z.entry apart); open' = z.open'; epoch = z.epoch }
 
     unsettled : (v : Version) → Contains (map (done_by a) d.versions) v → v.done ≡ false → Open v
@@ -250,7 +249,7 @@ settles-stands r o held h t d a decided s = record {
       where
         by : (y : Entry) → entry_of d x ≡ Some y → (b : Bool) → same_attempt y.attempt a ≡ b → (committed_at a y).committed ≡ true → Decided h x y.epoch
         by y here true own f =
-            let same : x ≡ a = sym (entry-is-its d x y here) ∙ same-attempt y.attempt a own in
+            let same : x ≡ a = sym (found-attempt d x y here) ∙ same-attempt y.attempt a own in
             let at : y.epoch ≡ decided.0 = s.epochs x y decided.0 here (subst (λ z. Decided h z decided.0) (sym same) decided.1) in
             subst (λ z. Decided h z y.epoch) (sym same) (subst (Decided h a) (sym at) decided.1)
         by y here false other f = s.settled x y here (ap (λ e. e.committed) (sym (other-entry a y other)) ∙ f)
@@ -295,7 +294,7 @@ pending-off h a v none is = by (same_attempt v.by a) v.done refl refl is
 
 -- entries of other attempts stay, and its own goes
 entry-left : (d : Durable) (a x : AttemptId) → same_attempt x a ≡ false → entry_of (settled a Abort d) x ≡ entry_of d x
-entry-left d a x other = entry-aborted_other a d x (λ same. clash (same_attempt x a) (ap (λ y. same_attempt y a) same ∙ same-itself a) other)
+entry-left d a x other = entry-aborted_other a d x (λ same. clash (same_attempt x a) (ap (λ y. same_attempt y a) same ∙ same_attempt-itself a) other)
 
 left-before : (d : Durable) (a x : AttemptId) (z : Entry) → entry_of (settled a Abort d) x ≡ Some z → entry_of d x ≡ Some z
 left-before d a x z found = by (same_attempt x a) refl

@@ -28,8 +28,10 @@ use Rattle.daos_model.specs.Versions.{version_of}
 use Rattle.world_attempts.specs.Attempts.{writes_of}
 use Rattle.world_attempts.specs.History.{Decided, History, decides, is_decided}
 use Rattle.world_events.specs.Events.{Rules}
-use Rattle.world_reads.specs.ChangeLaws.{WasDecided, entry-among, entry-is-its}
-use Rattle.daos_laws.specs.EntryLaws.{same-attempt, same-itself}
+use Rattle.world_reads.specs.ChangeLaws.{WasDecided, entry-among}
+use Rattle.daos_laws.specs.EntryLaws.{same-attempt}
+use Rattle.daos_model.specs.EntryLaws.{same_attempt-itself}
+use Rattle.world_attempts.specs.MarkTurns.{found-attempt}
 use Rattle.world_reads.specs.Given.{FitsTargets}
 use Rattle.world_reads.specs.Transactions.{counts_by, decided_of, transactions}
 use Rattle.world_reads.specs.Versions.{IsPreparedAt, IsVersionOf, IsWriteAt, VersionsStand, is_own_in, mark_of}
@@ -148,8 +150,8 @@ module _ (r : Rules) (o : Opening) (held : List Version) (h : History) (t : ℕ)
       → Contains (decided.dated_by (decided_of r.script (x, e))) y → is_about c y ≡ true → HoldsWrite (counts_by (decides h x e)) d.versions y
   holds-its k found at cont c y own i about =
       let m = own-write cont c y own i about in
-      let its : k.attempt ≡ x = entry-is-its d x k found in
-      (version_of k m.0, s.whole k m.0 (entry-among d x k found) (entry-open k found) (subst (λ z. IsWriteAt r z t m.0) (sym its) m.1), ap (λ b. b || is_decided h k.attempt) (ap (same_attempt x) its ∙ same-itself x), ap (λ z. record { epoch = z.0; minor = m.0.minor; write = m.0.write }) at ∙ m.2)
+      let its : k.attempt ≡ x = found-attempt d x k found in
+      (version_of k m.0, s.whole k m.0 (entry-among d x k found) (entry-open k found) (subst (λ z. IsWriteAt r z t m.0) (sym its) m.1), ap (λ b. b || is_decided h k.attempt) (ap (same_attempt x) its ∙ same_attempt-itself x), ap (λ z. record { epoch = z.0; minor = m.0.minor; write = m.0.write }) at ∙ m.2)
 
   -- a version of it elsewhere counts already
   none-open : entry_of d x ≡ None → (v : Version) → Contains d.versions v → v.by ≡ x → counts_by h v ≡ true

@@ -1,5 +1,5 @@
 -- Every turn keeps the facts of versions and reads.
-use Rattle.std.specs.Prelude.{ℕ, ◌≡◌, ◌⊎◌, ◌≤◌, ◌/◌, ◌++◌, ◌==◌, ◌||◌, Bool, true, false, List, [], ◌∷◌, Contains, slice_get, Some, None, refl}
+use Rattle.std.specs.Prelude.{ℕ, ◌≡◌, ◌⊎◌, ◌≤◌, ◌/◌, ◌++◌, ◌==◌, ◌||◌, Bool, true, false, List, [], Contains, slice_get, Some, None, refl}
 use Rattle.std.proofs.Common.{sym, ◌∙◌, ap, subst, inl, inr}
 use Rattle.std.proofs.Math.ListN.{set}
 use Rattle.std.proofs.lemmas.List.Elements.{Contains-append_left}
@@ -16,6 +16,7 @@ use Rattle.daos_messages.specs.declared.message.Message.TheVariants as message
 use Rattle.daos_model.specs.declared.durable.Version.{Version}
 use Rattle.daos_model.specs.BoolLaws.{both, clash}
 use Rattle.daos_model.specs.Durables.{entry_of, same_attempt}
+use Rattle.daos_model.specs.EntryLaws.{same_attempt-itself}
 use Rattle.daos_model.specs.Forms.{is_read_in_form}
 use Rattle.daos_model.specs.Opening.{Opening}
 use Rattle.dtx_base.specs.declared.leading.Undecided.{Undecided}
@@ -24,8 +25,8 @@ use Rattle.dtx_base.specs.Leading.{undecided_attempt}
 use Rattle.dtx_base.specs.Members.{writes_at}
 use Rattle.dtx_base.specs.Rows.{is_attempt, row_of}
 use Rattle.world_attempts.specs.Attempts as letters
-use Rattle.world_attempts.specs.Attempts.{Attempts, IsMarkRight, IsMarkTrue, IsOther, IsPrepareRight, IsTrueOf, IsVerdictTrue, is_answered_by, is_asked_by, entry_at, entry_in, is_asking, is_known_at, is_known_in, is_prepare_to, leader_of, row_at, row_in, writes_of}
-use Rattle.world_attempts.specs.Counting.{none-counted}
+use Rattle.world_attempts.specs.Attempts.{Attempts, IsMarkRight, IsMarkTrue, IsOther, IsPrepareRight, IsTrueOf, IsVerdictTrue, is_answered_by, is_asked_by, entry_at, entry_in, is_asking, is_known_in, is_prepare_to, leader_of, row_in, writes_of}
+use Rattle.world_attempts.specs.Counting.{has-taken, none-counted}
 use Rattle.world_attempts.specs.History.{Aborted, GrowsBy, History, Served}
 use Rattle.world_attempts.specs.Keeping.{AttemptsAreKept, NoneIsBoth}
 use Rattle.world_base.specs.declared.client.ClientState.{ClientState}
@@ -36,7 +37,7 @@ use Rattle.world_base.specs.declared.target.TargetMemory.{TargetMemory}
 use Rattle.world_base.specs.declared.target.TargetState.{TargetState}
 use Rattle.world_base.specs.declared.world.World.{World}
 use Rattle.world_events.specs.Events.{ClientGoes, ClientHears, Rules, TargetHears, ToTarget, after_turn, kept, listed, target_after, target_plan, with_client, with_target}
-use Rattle.world_events.specs.Letters.{Takes, client, target}
+use Rattle.world_events.specs.Letters.{client, target}
 use Rattle.world_events.specs.StepLaws.{set-here, set-there}
 use Rattle.world_reads.specs.AckLaws.{ack-sound}
 use Rattle.world_reads.specs.AnswerLaws.{IsBarred}
@@ -50,7 +51,6 @@ use Rattle.world_reads.specs.LaterLaws.{grown-answers, grown-apart, grown-issued
 use Rattle.world_reads.specs.Keeping.{Before, ClientsKeepReads, GoOn, HearingKeepsReads, IdlingKeepsReads, OthersKeepReads}
 use Rattle.world_reads.specs.MarkLaws.{IdleSound, IsFateRight, idle-sound, mark-sound, marked-sound, query-sound}
 use Rattle.world_reads.specs.MemberLaws.{writes-member}
-use Rattle.daos_laws.specs.EntryLaws.{same-itself}
 use Rattle.world_reads.specs.Midway.{IsServedRight, IsStampOf, Sound, TurnLeaves}
 use Rattle.world_reads.specs.Reads.{IsAnsweredRight, IsGuarded, IsOfAttempt, Reads}
 use Rattle.world_reads.specs.VerdictLaws.{IsVerdictRight, fetch-sound, verdict-sound}
@@ -59,10 +59,6 @@ use Rattle.world_turns.specs.Changes.{Kept}
 use Rattle.world_turns.specs.TargetTurns.{Hears, commit_request, fetch_request, prepare_request}
 
 -- ---- before a turn
-
--- what is in flight until it is taken
-taken-among : (letters : List Letter) (l : Letter) (rest : List Letter) → Takes letters l rest → Has l letters
-taken-among letters l rest k = subst (Has l) (sym k.among) (has-right k.before (l ∷ k.after) l (inl refl))
 
 -- a target before its turn
 module _ (r : Rules) (o : Opening) (held : ℕ → List Version) (h : History) (w : World) (b : Before r o held h w) (t : ℕ) (s : TargetState) (here : slice_get w.targets t ≡ Some s) (runs : s.life ≡ Running) where
@@ -88,7 +84,7 @@ module _ (r : Rules) (o : Opening) (held : ℕ → List Version) (h : History) (
 
   known-here : (a : AttemptId) → Contains s.memory.leader.decided a → WasDecided h a
   known-here a i =
-      let z = (b.attempts.each a).rows.unsettled t (ap (λ y. is_known_in y a) here ∙ any-has (is_attempt a) s.memory.leader.decided a (has-from_contains s.memory.leader.decided a i) (same-itself a)) in
+      let z = (b.attempts.each a).rows.unsettled t (ap (λ y. is_known_in y a) here ∙ any-has (is_attempt a) s.memory.leader.decided a (has-from_contains s.memory.leader.decided a i) (same_attempt-itself a)) in
       (z.here.entry.epoch, z.decided)
 
   turn-begins : TurnBegins r o (held t) h w t s
@@ -179,7 +175,7 @@ module _ (both-not : NoneIsBoth) (r : Rules) (o : Opening) (held : ℕ → List 
       other = subst (IsOther r e.attempt) it z.way.other
 
       asks : is_asked_by e.attempt t l.to l.message ≡ true
-      asks = ap (λ a. is_asked_by e.attempt t a l.message) to_it ∙ ap (is_asked_by e.attempt t (target t)) is ∙ both (same_attempt e.attempt e.attempt) (t == t) (same-itself e.attempt) (same_number t)
+      asks = ap (λ a. is_asked_by e.attempt t a l.message) to_it ∙ ap (is_asked_by e.attempt t (target t)) is ∙ both (same_attempt e.attempt e.attempt) (t == t) (same_attempt-itself e.attempt) (same_number t)
 
       issued : Contains w.issued (e.attempt, e.epoch)
       issued = contains-from_has w.issued (e.attempt, e.epoch) z.issued
@@ -320,7 +316,7 @@ module _ (attempts-kept : AttemptsAreKept) (both-not : NoneIsBoth) where
   }
     where
       k : TurnLeaves r o (held g.t) h w g.s.opening g.t g.l.message g.s.memory.member.parked g.new (g.memory, g.did)
-      k = hears-sound both-not r o held h w b g.t g.s g.here g.runs g.reading g.new (g.memory, g.did) g.l (taken-among w.messages g.l g.rest g.takes) g.to_it g.l.message refl g.turn
+      k = hears-sound both-not r o held h w b g.t g.s g.here g.runs g.reading g.new (g.memory, g.did) g.l (has-taken w.messages g.l g.rest g.takes) g.to_it g.l.message refl g.turn
 
       later : History
       later = grown h k.told g.did.posts k.more

@@ -1,7 +1,6 @@
 -- A target where an attempt writes is the attempt's leader, or another member of it.
-use Rattle.std.specs.Prelude.{ℕ, zero, suc, ◌≡◌, ◌⊎◌, ◌^◌, ◌+◌, ◌<◌, ◌≤◌, ◌==◌, Bool, true, false, not, List, [], ◌∷◌, refl}
+use Rattle.std.specs.Prelude.{ℕ, ◌≡◌, ◌⊎◌, ◌^◌, ◌<◌, ◌≤◌, ◌==◌, Bool, true, false, not, List, [], ◌∷◌, refl}
 use Rattle.std.specs.Int.{bit_at}
-use Rattle.std.specs.List.{range_with_len}
 use Rattle.std.proofs.Common.{sym, ap, subst, arith, inl, inr, max}
 use Rattle.std.proofs.lemmas.Bool.Decides.{nat_tests}
 use Rattle.std.proofs.lemmas.Nat.Bits.{bit_at_or, bit_at-lt, bit_at-pow_same}
@@ -12,6 +11,7 @@ use Rattle.daos_base.specs.declared.operation.MinorWrite.{MinorWrite}
 use Rattle.daos_base.specs.Operations.{write_path}
 use Rattle.daos_base.specs.Placement.{ClassFits, path_members, writes_members}
 use Rattle.daos_laws.specs.HoldingLaws.{path-within}
+use Rattle.daos_laws.specs.JoinLaws.{has-range}
 use Rattle.daos_laws.specs.Members.{Has, has-filter, has-from_contains, has-left, has-right}
 use Rattle.daos_laws.specs.TargetLaws.{number_same}
 use Rattle.daos_model.specs.BoolLaws.{both}
@@ -51,14 +51,6 @@ some-targets RP2GX targets fits = omega (arith, fits)
 some-targets RP3G1 targets fits = omega (arith, fits)
 some-targets RP3GX targets fits = omega (arith, fits)
 
-numbers-have : (from count u : ℕ) → from ≤ u → u < from + count → Has u (range_with_len from count)
-numbers-have from zero u low up = absurd (omega (arith, low, up))
-numbers-have from (suc count) u low up = by (numbers-have (from + 1) count u) (u == from) refl
-  where
-    by : (from + 1 ≤ u → u < from + 1 + count → Has u (range_with_len (from + 1) count)) → (b : Bool) → (u == from) ≡ b → Has u (from ∷ range_with_len (from + 1) count)
-    by rest true is = inl (number_same u from is)
-    by rest false other = inr (rest (let apart : (u == from) ≡ false = other in grind (arith, nat_tests)) (omega (arith, up)))
-
 -- ---- members
 
 all-members : (ws : List MinorWrite) (targets u : ℕ) (w : MinorWrite) → Has w ws → Has u (path_members (write_path w.write) targets) → Has u (writes_members ws targets)
@@ -79,7 +71,7 @@ writes-member r x u m few fits at = by (u == leader_of r x) refl
     bit = bits-has (writes_members (writes_of r x) r.script.targets) u (all-members (writes_of r x) r.script.targets u m (has-from_contains (writes_of r x) m at.of_it) here)
 
     among : Has u all_targets
-    among = let lt = path-within (write_path m.write) r.script.targets u (some-targets fits.0.class r.script.targets fits.2) here in numbers-have 0 64 u (omega arith) (omega (arith, lt, few))
+    among = let lt = path-within (write_path m.write) r.script.targets u (some-targets fits.0.class r.script.targets fits.2) here in has-range 0 64 u (omega arith) (omega (arith, lt, few))
 
     by : (b : Bool) → (u == leader_of r x) ≡ b → (u ≡ leader_of r x) ⊎ IsOther r x u
     by true is = inl (number_same u (leader_of r x) is)

@@ -7,7 +7,7 @@ use Rattle.daos_base.specs.declared.epoch.Epoch.{Epoch}
 use Rattle.daos_base.specs.declared.id.AttemptId.{AttemptId}
 use Rattle.daos_base.specs.declared.operation.MinorWrite.{MinorWrite}
 use Rattle.daos_base.specs.Placement.{path_members}
-use Rattle.daos_laws.specs.EntryLaws.{find-new, has-put, has-puts, puts-has, same-attempt, same-itself}
+use Rattle.daos_laws.specs.EntryLaws.{has-put, has-puts, puts-has, same-attempt}
 use Rattle.daos_laws.specs.DecidingLaws.{stores-keep}
 use Rattle.daos_laws.specs.Members.{Has, contains-from_has, has-from_contains, has-from_map, has-map}
 use Rattle.daos_laws.specs.VersionLaws.{rising-from_single}
@@ -15,7 +15,8 @@ use Rattle.daos_model.specs.declared.durable.Durable.{Durable}
 use Rattle.daos_model.specs.declared.durable.Version.{Version}
 use Rattle.daos_model.specs.BoolLaws.{clash, false_of}
 use Rattle.daos_model.specs.Changes.{prepared}
-use Rattle.daos_model.specs.Durables.{IsInForm, entry_key, entry_of, is_entry_of, row_of, same_attempt, version_key}
+use Rattle.daos_model.specs.Durables.{IsInForm, entry_key, entry_of, row_of, same_attempt, version_key}
+use Rattle.daos_model.specs.EntryLaws.{entry_of-prepared, same_attempt-itself}
 use Rattle.daos_model.specs.FormLaws.{prepared-in_form}
 use Rattle.daos_model.specs.Forms.{AreWritesInForm, minor_of}
 use Rattle.daos_model.specs.Opening.{Opening, top}
@@ -70,10 +71,6 @@ epoch-alone r o held h w t d x f before issued entries above alone undecided abs
 
 -- ---- entries
 
-pub entry-new : (k : Entry) (ws : List MinorWrite) (d : Durable) → entry_of d k.attempt ≡ None → entry_of (prepared k ws d) k.attempt ≡ Some k
-unfolding prepared entry_of
-entry-new k ws d none = find-new entry_key (is_entry_of k.attempt) k d.entries (same-itself k.attempt) none
-
 -- one that is found then is the new one, or was there
 pub entry-stored : (k : Entry) (ws : List MinorWrite) (d : Durable) (x : AttemptId) (z : Entry) → entry_of d k.attempt ≡ None → entry_of (prepared k ws d) x ≡ Some z
     → ((x ≡ k.attempt) × (z ≡ k)) ⊎ (entry_of d x ≡ Some z)
@@ -82,9 +79,9 @@ entry-stored k ws d x z none found = by (same_attempt x k.attempt) refl
     by : (b : Bool) → same_attempt x k.attempt ≡ b → ((x ≡ k.attempt) × (z ≡ k)) ⊎ (entry_of d x ≡ Some z)
     by true is =
         let same : x ≡ k.attempt = same-attempt x k.attempt is in
-        let new : entry_of (prepared k ws d) x ≡ Some k = ap (entry_of (prepared k ws d)) same ∙ entry-new k ws d none in
+        let new : entry_of (prepared k ws d) x ≡ Some k = ap (entry_of (prepared k ws d)) same ∙ entry_of-prepared k ws d none in
         inl (same, cc (new, found))
-    by false other = inr (sym (entry-prepared_other k ws d x (λ same. clash (same_attempt x k.attempt) (ap (λ y. same_attempt y k.attempt) same ∙ same-itself k.attempt) other)) ∙ found)
+    by false other = inr (sym (entry-prepared_other k ws d x (λ same. clash (same_attempt x k.attempt) (ap (λ y. same_attempt y k.attempt) same ∙ same_attempt-itself k.attempt) other)) ∙ found)
 
 -- and one that was found stays
 pub entry-kept : (k : Entry) (ws : List MinorWrite) (d : Durable) (y : AttemptId) (z : Entry) → entry_of d k.attempt ≡ None → entry_of d y ≡ Some z → entry_of (prepared k ws d) y ≡ Some z
@@ -156,7 +153,7 @@ stores-stands r o held h t d k ws new own s = record {
     Open v = IsPreparedAt (prepared k ws d) v.by v.epoch
 
     unsettled : (v : Version) → v.done ≡ false → New v → Open v
-    unsettled v f (inl z) = subst Open z.2 (record { entry = k; found = entry-new k ws d new.absent; open' = new.open'; epoch = refl })
+    unsettled v f (inl z) = subst Open z.2 (record { entry = k; found = entry_of-prepared k ws d new.absent; open' = new.open'; epoch = refl })
     unsettled v f (inr i) = let z = s.unsettled v (contains-from_has d.versions v i) f in record { entry = z.entry; found = entry-kept k ws d v.by z.entry new.absent z.found; open' = z.open'; epoch = z.epoch }
 
     only : (v : Version) → v.done ≡ false → New v → IsVersionOf r t v

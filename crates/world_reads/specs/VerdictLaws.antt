@@ -28,7 +28,7 @@ use Rattle.world_base.specs.declared.target.TargetMemory.{TargetMemory}
 use Rattle.world_base.specs.declared.target.TargetState.{TargetState}
 use Rattle.world_base.specs.declared.world.World.{World}
 use Rattle.world_events.specs.Events.{Rules, kept, listed, target_plan}
-use Rattle.world_reads.specs.Adds.{AreAnswered, Heard, IsAnswered, IsAskedIn, NoneIs, Waited, fetch_message, is_answer, is_end, none-answered, served_at}
+use Rattle.world_reads.specs.Adds.{AreAnswered, Heard, IsAnswered, IsAskedIn, NoneIs, Waited, is_answer, is_end, none-answered, served_at}
 use Rattle.world_reads.specs.Beginning.{TurnBegins}
 use Rattle.world_reads.specs.ChangeLaws.{WasDecided}
 use Rattle.world_reads.specs.FetchLaws.{AreKnown, FetchLeaves, IsServedTo, IsTold, fetch-leaves}
@@ -40,10 +40,10 @@ use Rattle.world_reads.specs.Reads.{IsOfAttempt}
 use Rattle.world_reads.specs.StepLaws.{aborts-sound, commits-sound}
 use Rattle.world_turns.specs.Changes.{Kept, Steps}
 use Rattle.world_turns.specs.Reads as read
-use Rattle.world_turns.specs.Requests.{issued_for, request_epoch}
+use Rattle.world_turns.specs.Requests.{fetch_message, issued_for, request_epoch}
 use Rattle.world_turns.specs.Roles.{is_prepared, joins_on, member_at}
 use Rattle.world_turns.specs.Turns.{Whole}
-use Rattle.world_turns.specs.VerdictLaws.{Tries, tried, verdict-keeps}
+use Rattle.world_turns.specs.VerdictLaws.{Tries, verdict-keeps}
 use Rattle.world_turns.specs.Verdicts as verdict
 
 -- ---- what is answered
@@ -192,7 +192,7 @@ module _ (r : Rules) (o : Opening) (held : List Version) (h : History) (w : Worl
       endless = plain is_end (λ y op group ep how. refl) v ask;
     }
 
-    goes : (q : FetchRequest) (rest : List Message) (n : TargetMemory) (posts : List Post) (k l : Kept) (left : TargetMemory × Did) → VerdictMid heard (tried q ∷ rest) n posts k → Tries (target_plan r t) reading n q k l left
+    goes : (q : FetchRequest) (rest : List Message) (n : TargetMemory) (posts : List Post) (k l : Kept) (left : TargetMemory × Did) → VerdictMid heard (fetch_message q ∷ rest) n posts k → Tries (target_plan r t) reading n q k l left
         → VerdictMid heard rest left.0 (posts ++ left.1.posts) l
     goes q rest n posts k l left mid tries = record {
       more = f.more ++ mid.more;
@@ -204,8 +204,8 @@ module _ (r : Rules) (o : Opening) (held : List Version) (h : History) (w : Worl
       endless = λ p i. elim (has-cases posts left.1.posts p i) [ inl j ↦ mid.endless p j | inr j ↦ f.endless p j ];
     }
       where
-        from : (p : Parked) × Has p s.memory.member.parked × (tried q ≡ p.ask)
-        from = mid.waited (tried q) (inl refl)
+        from : (p : Parked) × Has p s.memory.member.parked × (fetch_message q ≡ p.ask)
+        from = mid.waited (fetch_message q) (inl refl)
 
         ok : IsWaitingRight r o w t q.attempt q.op q.group q.ep q.read q.snapshot
         ok = subst (IsParkedRight r o w t) (sym from.2) (parked from.0 from.1)

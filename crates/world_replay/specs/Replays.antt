@@ -1,6 +1,5 @@
 -- Every run from its beginning is a list of events.
 use Rattle.std.specs.Prelude.{ℕ, ◌≡◌, ◌≤◌, ◌<◌, ◌++◌, ◌==◌, All, Bool, true, false, count_by, is_none, is_some, List, [], ◌∷◌, length, slice_get, Option, Some, None, refl, if◌then◌else◌}
-use Rattle.std.specs.List.{list_all}
 use Rattle.std.proofs.lemmas.Bool.Decides.{nat_tests}
 use Rattle.std.specs.Option.{option_map}
 use Rattle.std.proofs.Common.{inl, inr, sym, ◌∙◌, ap, subst, arith}
@@ -12,17 +11,16 @@ use Rattle.daos_base.specs.declared.script.Command.{Command}
 use Rattle.daos_base.specs.Scripts.{is_numbered}
 use Rattle.daos_base.specs.declared.entry.Entry.{Entry}
 use Rattle.daos_base.specs.declared.id.AttemptId.{AttemptId}
+use Rattle.daos_laws.specs.Lists.{all-pass}
 use Rattle.daos_laws.specs.Members.{Has}
 use Rattle.daos_messages.specs.declared.actor.ActorId.{ActorId}
 use Rattle.daos_messages.specs.declared.message.Message.{Message}
 use Rattle.daos_messages.specs.declared.message.Message.TheVariants as message
 use Rattle.daos_model.specs.declared.durable.Durable.{Durable}
-use Rattle.daos_model.specs.BoolLaws.{both}
 use Rattle.daos_model.specs.Durables.{entry_of}
 use Rattle.daos_model.specs.Opening.{Opening}
 use Rattle.replay_base.specs.Heard as replay
 use Rattle.replay_base.specs.Heard.{is_led_here}
-use Rattle.world_base.specs.declared.client.ClientState.{ClientState}
 use Rattle.world_base.specs.declared.target.TargetMemory.{TargetMemory}
 use Rattle.world_base.specs.declared.target.TargetPlan.{TargetPlan}
 use Rattle.world_base.specs.declared.target.TargetState.{TargetState}
@@ -40,7 +38,7 @@ use Rattle.world_reads.specs.Given.{IsParkedRight}
 use Rattle.world_turns.specs.Roles.{other_leader, other_leader_of}
 use Rattle.world_events.specs.Events.{Begins, ByClient, ByTarget, Event, Goes, Rules, Run, ToClient, ToTarget, client_plan, commands_or_none, target_plan}
 use Rattle.world_events.specs.Letters.{client, target}
-use Rattle.world_list.specs.Fitting.{AreInPlace, PlansFit, StartsWell}
+use Rattle.world_list.specs.Fitting.{AreInPlace, PlansFit}
 use Rattle.world_list.specs.RunLists.{IsRunFrom, IsRunList, LeadsTo, last_world, rules_of}
 use Rattle.world_list.specs.declared.events.Event as listed
 use Rattle.world_list.specs.declared.events.EventKind.TheVariants as kind
@@ -80,10 +78,6 @@ run-more r w [] e run leads = (leads, tt)
 run-more r w (x ∷ es) e run leads = (run.0, run-more r x.after es e run.1 leads)
 
 -- ---- what a target hears
-
-all-of : {T : Type 0} (t : T → Bool) (xs : List T) → ((x : T) → Has x xs → t x ≡ true) → list_all t xs ≡ true
-all-of t [] h = refl
-all-of t (x ∷ xs) h = both (t x) (list_all t xs) (h x (inl refl)) (all-of t xs (λ y i. h y (inr i)))
 
 can-hear : (r : Rules) (t : ℕ) (d : Durable) (m : TargetMemory) (from : ActorId) (q : Message) → r.script.targets ≤ 64 → replay.CanTryAgain (target_plan r t) d m → CanHear r t d from q → replay.CanHear (target_plan r t) d m from q
 can-hear r t d m from (message.Fetch x op group ep first tracker q snapshot) few can k = can.read
@@ -161,13 +155,13 @@ module _ (r : Rules) (o : Opening) (w : World) (A : IsSimple r) (B : IsBegun r o
     can-read : (t : ℕ) (s : TargetState) → slice_get u.targets t ≡ Some s → replay.CanRead (target_plan r t) s.durable s.memory.leader.decided
     can-read t s here = record {
       versions = (whole.all.versions.stand t s here).form.writes;
-      led = all-of (replay.is_led_here (target_plan r t) s.durable) s.memory.leader.decided (decided-led t s here);
+      led = all-pass (replay.is_led_here (target_plan r t) s.durable) s.memory.leader.decided (decided-led t s here);
     }
 
     can-try : (t : ℕ) (s : TargetState) → slice_get u.targets t ≡ Some s → replay.CanTryAgain (target_plan r t) s.durable s.memory
     can-try t s here = record {
       read = can-read t s here;
-      timed = all-of replay.is_timed_ask s.memory.member.parked (λ p i. parked-timed r o u t p.ask ((requests-are-right r o (held_at w) history u whole.all.facts (held-before r o w B)).waiting t s p here (whole.running t s here) i));
+      timed = all-pass replay.is_timed_ask s.memory.member.parked (λ p i. parked-timed r o u t p.ask ((requests-are-right r o (held_at w) history u whole.all.facts (held-before r o w B)).waiting t s p here (whole.running t s here) i));
     }
 
     leads : (x : World) (e : Event r u x) → LeadsTo r u (listed_event r u x e).kind (listed_event r u x e).actor (listed_event r u x e).heard x

@@ -23,8 +23,9 @@ use Rattle.world_base.specs.declared.request.CommitRequest.{CommitRequest}
 use Rattle.world_base.specs.declared.request.FetchRequest.{FetchRequest}
 use Rattle.world_base.specs.ClientTurns.{after_end, asks_or_goes, at_present, attempt_id, attempt_moves, begins_at, begun, command_at, command_moves, commits, ends, first_epoch, is_waiting, moved, moves_at, next_command, next_stage, op_moves, question, request_of, rests, run_moves, waits}
 use Rattle.world_events.specs.Letters.{client, is_tell, target}
-use Rattle.world_talks.specs.Asked.{ARead, ASnapshot, AnAggregation, Asked, AsksCommit, AsksRead, commit_of, fetch_of, Asking, IsMove, ItsWrites, Silent, Telling, group_of_read}
+use Rattle.world_talks.specs.Asked.{ARead, ASnapshot, AnAggregation, Asked, AsksCommit, AsksRead, commit_of, Asking, IsMove, ItsWrites, Silent, Telling, group_of_read}
 use Rattle.world_talks.specs.Conversation.{before_waiting, request_sent}
+use Rattle.world_turns.specs.Requests.{fetch_message}
 
 -- ---- an attempt ends
 
@@ -136,9 +137,9 @@ asked-is-request p k c a q (ASnapshot name cont at says) = rw says (record { to_
 asked-is-request p k c a q (AnAggregation cont at says) = rw says (record { to_target = refl; of_attempt = refl; no_tell = refl })
 
 -- what was asked by a Fetch
-pub asked-read : (p : ClientPlan) (k : Epoch) (c : ClientState) (a : Present) (s : Post) (q : FetchRequest) → Asked p k c a s → s.message ≡ fetch_of q → AsksRead p k c a q
+pub asked-read : (p : ClientPlan) (k : Epoch) (c : ClientState) (a : Present) (s : Post) (q : FetchRequest) → Asked p k c a s → s.message ≡ fetch_message q → AsksRead p k c a q
 asked-read p k c a s q (ARead ops turns snapshot op r at here asked says) it =
-    let same : message.Fetch (attempt_id p c a) a.op (group_of_read p a (read_path r)) a.epoch a.first k r (is_some snapshot) ≡ fetch_of q = sym (ap (λ x. x.message) says) ∙ it in
+    let same : message.Fetch (attempt_id p c a) a.op (group_of_read p a (read_path r)) a.epoch a.first k r (is_some snapshot) ≡ fetch_message q = sym (ap (λ x. x.message) says) ∙ it in
     let the_read : q.read ≡ r = cc (same) in
     record {
       attempt = cc (same);

@@ -74,10 +74,6 @@ pub record AsksCommit (p : ClientPlan) (k : Epoch) (c : ClientState) (a : Presen
   pub last : slice_get ops a.op ≡ None
   pub writes : q.writes ≡ minor_writes 0 ops
 
--- these requests as messages
-abbrev pub fetch_of : FetchRequest → Message
-fetch_of q = message.Fetch q.attempt q.op q.group q.ep q.first q.tracker q.read q.snapshot
-
 abbrev pub commit_of : CommitRequest → Message
 commit_of q = message.Commit q.attempt q.ep q.first q.tracker q.writes
 

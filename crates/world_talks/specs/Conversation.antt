@@ -20,9 +20,10 @@ use Rattle.world_base.specs.declared.world.World.{World}
 use Rattle.world_base.specs.ClientTurns.{moved, waits}
 use Rattle.world_events.specs.Events.{Event, Rules, client_plan}
 use Rattle.world_events.specs.Letters.{client, letter_of, target}
-use Rattle.world_talks.specs.Asked.{commit_of, fetch_of}
+use Rattle.world_talks.specs.Asked.{commit_of}
 use Rattle.world_talks.specs.Carriers.{Carrier, InFlight, OpenAt, ParkedAt, carriers_of}
 use Rattle.world_turns.specs.Reads.{fetch_at}
+use Rattle.world_turns.specs.Requests.{fetch_message}
 
 abbrev pub before_waiting : Option Present → Option Present
 before_waiting None = None
@@ -55,7 +56,7 @@ pub record IsParked (p : ClientPlan) (c : ClientState) (t : ℕ) (ask : Message)
   pub sent : request_sent p k c ≡ Some q
   pub at : q.to ≡ target t
   pub f : FetchRequest
-  pub asked : q.message ≡ fetch_of f
+  pub asked : q.message ≡ fetch_message f
   pub e : Epoch
   pub own : (o : Epoch) → f.ep ≡ Some o → o ≡ e
   pub it : ask ≡ fetch_at f e

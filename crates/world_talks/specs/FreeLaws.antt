@@ -22,7 +22,6 @@ use Rattle.world_base.specs.declared.target.TargetPlan.{TargetPlan}
 use Rattle.world_base.specs.declared.world.World.{World}
 use Rattle.world_events.specs.Events.{Rules}
 use Rattle.world_events.specs.Letters.{client, letter_of, letters_of, target}
-use Rattle.world_talks.specs.Asked.{fetch_of}
 use Rattle.world_talks.specs.CarrierLaws.{bit, count, count-append, count-cons, count-parts, has-filter_map}
 use Rattle.world_talks.specs.Carriers.{Carrier, InFlight, ParkedAt, held, in_flight, is_carrier_of, open_at, parked_at}
 use Rattle.world_talks.specs.LeaveLaws.{HasOwn, NoRequests, fetch-leaves, fetch-plain, own-goes}
@@ -30,6 +29,7 @@ use Rattle.world_talks.specs.Conversation.{is_request}
 use Rattle.world_talks.specs.TurnLaws.{AllOwned, AsMany, Hands, MayHand, Owns, fetch-of, hands-fetch, parked-hands, reply-of, reply_to, told}
 use Rattle.world_turns.specs.Changes.{Change, Kept, Steps}
 use Rattle.world_turns.specs.PathLaws.{path-keeps}
+use Rattle.world_turns.specs.Requests.{fetch_message}
 use Rattle.world_turns.specs.Roles.{joins_on, member_at}
 use Rattle.world_turns.specs.Turns.{Whole}
 use Rattle.world_turns.specs.Verdicts.{AllTried, Freed, GoesOn, Heard, IsDone, SettlesBy, Trying, TriesNext, VerdictEnds, VerdictNext, VerdictStage}
@@ -48,7 +48,7 @@ in_turn t posts asks m = told t posts ++ (map (ask_at t) asks ++ held t m)
 abbrev pub held_then : ℕ → TargetMemory → VerdictStage → List Carrier
 held_then t m Heard = held t m
 held_then t m (Freed asks n posts) = in_turn t posts asks n
-held_then t m (Trying q s asks n posts) = in_turn t posts (fetch_of q ∷ asks) n
+held_then t m (Trying q s asks n posts) = in_turn t posts (fetch_message q ∷ asks) n
 
 abbrev pub HasOwnThen : VerdictStage → Type 0
 HasOwnThen Heard = Unit {0}
@@ -107,7 +107,7 @@ answered-count i t a (message.Fetch x op group ep first tracker r snapshot) =
     omega (
       arith,
       count-cons (is_carrier_of i) (InFlight (reply_to t x.client q ep (reply.Outcome (outcome.Restart (cause.Unresolved a))))) [],
-      count-cons (is_carrier_of i) (ParkedAt t (fetch_of q)) [],
+      count-cons (is_carrier_of i) (ParkedAt t (fetch_message q)) [],
       ap bit (reply-of i t x.client q ep (reply.Outcome (outcome.Restart (cause.Unresolved a)))),
       ap bit (fetch-of i t q),
     )
@@ -130,8 +130,8 @@ answered-owned r w t a (message.Fetch x op group ep first tracker rd snapshot) a
     let q : FetchRequest = record { attempt = x; op = op; group = group; ep = ep; first = first; tracker = tracker; read = rd; snapshot = snapshot } in
     let b = reply.Outcome (outcome.Restart (cause.Unresolved a)) in
     let same : x.client ≡ i = number_same x.client i (sym (reply-of i t x.client q ep b) ∙ ap (is_carrier_of i) (sym it) ∙ mine) in
-    let own : Owns r w i (ParkedAt t (fetch_of q)) = all i (ParkedAt t (fetch_of q)) (inl refl) (fetch-of i t q ∙ sym (reply-of i t x.client q ep b) ∙ ap (is_carrier_of i) (sym it) ∙ mine) in
-    let may : MayHand r w t x.client q (ParkedAt t (fetch_of q)) = parked-hands r w t q (subst (λ k. Owns r w k (ParkedAt t (fetch_of q))) (sym same) own) in
+    let own : Owns r w i (ParkedAt t (fetch_message q)) = all i (ParkedAt t (fetch_message q)) (inl refl) (fetch-of i t q ∙ sym (reply-of i t x.client q ep b) ∙ ap (is_carrier_of i) (sym it) ∙ mine) in
+    let may : MayHand r w t x.client q (ParkedAt t (fetch_message q)) = parked-hands r w t q (subst (λ k. Owns r w k (ParkedAt t (fetch_message q))) (sym same) own) in
     subst (λ k. Owns r w k y) same (subst (Owns r w x.client) (sym it) (may.replied ep b))
 answered-owned r w t a (message.Fetch x op group ep first tracker rd snapshot) all i y (inr none) mine = absurd none
 answered-owned r w t a m all i y h mine = absurd h
@@ -199,7 +199,7 @@ pub record HandsThen (r : Rules) (w : World) (t : ℕ) (m : TargetMemory) (s : V
   pub own : HasOwnThen s
 
 done-hands : (r : Rules) (w : World) (t : ℕ) (q : FetchRequest) (before : List Carrier) (asks : List Message) (n : TargetMemory) (posts : List Post) (left : TargetMemory × Did)
-    → Hands r w before (in_turn t posts (fetch_of q ∷ asks) n) → Hands r w (ParkedAt t (fetch_of q) ∷ held t n) (told t left.1.posts ++ held t left.0)
+    → Hands r w before (in_turn t posts (fetch_message q ∷ asks) n) → Hands r w (ParkedAt t (fetch_message q) ∷ held t n) (told t left.1.posts ++ held t left.0)
     → Hands r w before (in_turn t (posts ++ left.1.posts) asks left.0)
 done-hands r w t q before asks n posts left h d = record { counts = counts; owned = owned }
   where
@@ -220,20 +220,20 @@ done-hands r w t q before asks n posts left h d = record { counts = counts; owne
           count-append (P i) (told t (posts ++ left.1.posts)) (xs ++ held t left.0),
           count-append (P i) xs (held t left.0),
           count-append (P i) (told t left.1.posts) (held t left.0),
-          count-append (P i) (told t posts) (ParkedAt t (fetch_of q) ∷ xs ++ held t n),
-          count-cons (P i) (ParkedAt t (fetch_of q)) (xs ++ held t n),
+          count-append (P i) (told t posts) (ParkedAt t (fetch_message q) ∷ xs ++ held t n),
+          count-cons (P i) (ParkedAt t (fetch_message q)) (xs ++ held t n),
           count-append (P i) xs (held t n),
-          count-cons (P i) (ParkedAt t (fetch_of q)) (held t n),
+          count-cons (P i) (ParkedAt t (fetch_message q)) (held t n),
         )
 
     owned : AllOwned r w (in_turn t (posts ++ left.1.posts) asks left.0)
     owned i y k mine = elim (has-cases (told t (posts ++ left.1.posts)) (xs ++ held t left.0) y k) [
       | inl b ↦ elim (has-cases (told t posts) (told t left.1.posts) y (subst (Has y) (told-append t posts left.1.posts) b)) [
-        | inl c ↦ h.owned i y (has-left (told t posts) (ParkedAt t (fetch_of q) ∷ xs ++ held t n) y c) mine
+        | inl c ↦ h.owned i y (has-left (told t posts) (ParkedAt t (fetch_message q) ∷ xs ++ held t n) y c) mine
         | inr c ↦ d.owned i y (has-left (told t left.1.posts) (held t left.0) y c) mine
       ]
       | inr b ↦ elim (has-cases xs (held t left.0) y b) [
-        | inl c ↦ h.owned i y (has-right (told t posts) (ParkedAt t (fetch_of q) ∷ xs ++ held t n) y (inr (has-left xs (held t n) y c))) mine
+        | inl c ↦ h.owned i y (has-right (told t posts) (ParkedAt t (fetch_message q) ∷ xs ++ held t n) y (inr (has-left xs (held t n) y c))) mine
         | inr c ↦ d.owned i y (has-right (told t left.1.posts) (held t left.0) y c) mine
       ]
     ]
@@ -244,7 +244,7 @@ step-hands r w p t m reading a ask v all s k o u l (SettlesBy k2 o2 says) steps 
 step-hands r w p t m reading a ask v all s k o u l (TriesNext k2 n posts rest x op group ep first tracker rd snapshot) steps h = record { hands = h.hands; own = tt }
 step-hands r w p t m reading a ask v all s k o u l (GoesOn k2 n posts rest q f g o2 next) steps h = record { hands = h.hands; own = own-goes p n reading q f g k2 o2 next h.own }
 step-hands r w p t m reading a ask v all s k o u l (IsDone k2 n posts rest q f left ends) steps h =
-    let x : Carrier = ParkedAt t (fetch_of q) in
+    let x : Carrier = ParkedAt t (fetch_message q) in
     let j : ℕ = q.attempt.client in
     let tail : List Carrier = map (ask_at t) rest ++ held t n in
     let own : Owns r w j x = h.hands.owned j x (has-right (told t posts) (x ∷ tail) x (inl refl)) (fetch-of j t q ∙ same_number j) in

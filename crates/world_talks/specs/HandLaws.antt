@@ -25,7 +25,7 @@ use Rattle.world_base.specs.ClientTurns.{attempt_id, is_waiting, request_of, wai
 use Rattle.world_events.specs.Events.{Rules, TargetHears, TargetIdles, client_plan, kept, target_plan}
 use Rattle.world_events.specs.Letters.{Takes, client, is_talk_of, is_tell, letter_of, letters_of, target}
 use Rattle.world_talks.specs.AskLaws.{IsRequest, asked-is-request}
-use Rattle.world_talks.specs.Asked.{commit_of, fetch_of}
+use Rattle.world_talks.specs.Asked.{commit_of}
 use Rattle.world_talks.specs.CarrierLaws.{bit-false, count, count-append, count-cons, count-none, held-count, held-has, held-set}
 use Rattle.world_talks.specs.Carriers.{Carrier, InFlight, carriers, carriers_of, held, held_from, in_flight, is_carrier_of}
 use Rattle.world_talks.specs.Conversation.{Carries, Conversation, IsAsked, Talks, is_request}
@@ -39,6 +39,7 @@ use Rattle.world_turns.specs.Acks as ack
 use Rattle.world_turns.specs.Changes.{Change, Kept, Steps}
 use Rattle.world_turns.specs.Reads as read
 use Rattle.world_turns.specs.PathLaws.{path-keeps}
+use Rattle.world_turns.specs.Requests.{fetch_message}
 use Rattle.world_turns.specs.Roles.{leader_at}
 use Rattle.world_turns.specs.TargetTurns.{Hears, commit_request, fetch_request, prepare_request}
 
@@ -251,7 +252,7 @@ module _ (r : Rules) (w v : World) (k : Conversation r w) (g : TargetHears r w v
     quiet : ToTargets g.did.posts → HoldsOn g.s.memory g.memory → Conversation r v
     quiet to same = by-letter [] taken-other (hands-nothing r w g.t g.s.memory g.memory g.did.posts to same owned-here) (λ q i. (to q i).1)
 
-  fetch-case : (q : FetchRequest) → g.l.message ≡ fetch_of q → Hears p g.s.opening g.s.memory g.reading g.l.from (fetch_of q) (kept g.s) g.new (g.memory, g.did) → Conversation r v
+  fetch-case : (q : FetchRequest) → g.l.message ≡ fetch_message q → Hears p g.s.opening g.s.memory g.reading g.l.from (fetch_message q) (kept g.s) g.new (g.memory, g.did) → Conversation r v
   fetch-case q is turn = by-letter (InFlight g.l ∷ []) (letter-taken w g.l g.rest g.takes) hands (fetch-plain q (client h.n) g.s.memory (g.memory, g.did) leaves)
     where
       h : HearsRequest r w g.l g.rest

@@ -1,7 +1,6 @@
 -- What a client hears: a tracker is raised, or what it waits for has come.
-use Rattle.std.specs.Prelude.{ℕ, ◌≡◌, ◌≤◌, ◌+◌, ◌++◌, ◌==◌, max, Bool, true, false, ◌&&◌, nat_lt, List, [], ◌∷◌, slice_get, is_some, Option, Some, None, refl, if◌then◌else◌}
+use Rattle.std.specs.Prelude.{ℕ, ◌≡◌, ◌≤◌, ◌+◌, ◌++◌, max, Bool, true, false, ◌&&◌, nat_lt, List, [], ◌∷◌, slice_get, is_some, Option, Some, None, refl, if◌then◌else◌}
 use Rattle.std.proofs.Common.{sym, ◌∙◌, ap, arith}
-use Rattle.std.proofs.lemmas.Bool.{eq-eqb}
 use Rattle.daos_base.specs.declared.answer.Answer.{Answer}
 use Rattle.daos_base.specs.declared.epoch.Epoch.{Epoch}
 use Rattle.daos_base.specs.declared.id.AttemptId.{AttemptId}
@@ -19,7 +18,7 @@ use Rattle.daos_messages.specs.declared.message.Reply.{Reply}
 use Rattle.daos_messages.specs.declared.message.Reply.TheVariants as reply
 use Rattle.daos_model.specs.Accesses.{minor_writes, op_path}
 use Rattle.daos_model.specs.Conditions.{holds_where}
-use Rattle.daos_model.specs.Durables.{same_attempt}
+use Rattle.daos_model.specs.EntryLaws.{same_attempt-itself}
 use Rattle.world_base.specs.declared.client.ClientPlan.{ClientPlan}
 use Rattle.world_base.specs.declared.client.ClientState.{ClientState}
 use Rattle.world_base.specs.declared.client.Present.{Present}
@@ -123,19 +122,13 @@ answer-is q m k = absurd k
 
 -- ---- what is heard
 
-same-itself : (x : AttemptId) → same_attempt x x ≡ true
-unfolding same_attempt
-same-itself x =
-    ap (λ b. b && (x.command == x.command) && (x.attempt == x.attempt)) (eq-eqb x.client x.client refl)
-    ∙ ap (λ b. b && (x.attempt == x.attempt)) (eq-eqb x.command x.command refl) ∙ eq-eqb x.attempt x.attempt refl
-
 -- a client that waits hears what it waits for
 pub hears-answer : (p : ClientPlan) (c : ClientState) (a : Present) (m : Message) → c.present ≡ Some a → a.waits ≡ true → about m ≡ Some (attempt_id p c a) → heard p c m ≡ answered p (hears_epochs m c) a m
 unfolding heard
 hears-answer p c a m here h of_it =
     ap (heard_at p (hears_epochs m c) m) here ∙ ap (λ b. if b && is_about (attempt_id p c a) (about m) then answered p (hears_epochs m c) a m else goes (hears_epochs m c)) h
     ∙ ap (λ o. if is_about (attempt_id p c a) o then answered p (hears_epochs m c) a m else goes (hears_epochs m c)) of_it
-    ∙ ap (λ b. if b then answered p (hears_epochs m c) a m else goes (hears_epochs m c)) (same-itself (attempt_id p c a))
+    ∙ ap (λ b. if b then answered p (hears_epochs m c) a m else goes (hears_epochs m c)) (same_attempt-itself (attempt_id p c a))
 
 tell-at : (p : ClientPlan) (c : ClientState) (k : Epoch) (present : Option Present) → heard_at p c (message.Tell k) present ≡ goes c
 tell-at p c k None = refl

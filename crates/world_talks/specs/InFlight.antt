@@ -23,12 +23,13 @@ use Rattle.world_events.specs.Events.{Rules, TargetHears, client_plan, kept, tar
 use Rattle.world_events.specs.Letters.{Takes, client, is_talk_of, is_tell, letter_of, talk_of, target}
 use Rattle.world_talks.specs.AnswerLaws.{answer-not-heard, heard-no-tell, hears-heard, request-is_heard}
 use Rattle.world_talks.specs.AskLaws.{IsRequest, asked-commit, asked-is-request, asked-read, sent-is-asked}
-use Rattle.world_talks.specs.Asked.{ARead, ASnapshot, AnAggregation, Asked, AsksCommit, AsksRead, ItsWrites, commit_of, fetch_of}
+use Rattle.world_talks.specs.Asked.{ARead, ASnapshot, AnAggregation, Asked, AsksCommit, AsksRead, ItsWrites, commit_of}
 use Rattle.world_talks.specs.CarrierLaws.{held-has}
 use Rattle.world_talks.specs.Carriers.{Carrier, InFlight, carriers, carriers_of, held, held_from, in_flight, is_carrier_of, is_fetch_of, open_at, parked_at}
 use Rattle.world_talks.specs.Conversation.{Answers, Carries, Conversation, IsAnswered, IsAsked, IsOpen, IsParked, IsTalk, Talks, is_request, request_sent}
 use Rattle.world_talks.specs.TalkLaws.{got-is-talk, sent-is-talk, taken-is-among, talk-only}
 use Rattle.world_turns.specs.Reads.{fetch_at}
+use Rattle.world_turns.specs.Requests.{fetch_message}
 use Rattle.world_turns.specs.TargetTurns.{is_heard}
 
 -- ---- letters
@@ -80,7 +81,7 @@ pub record ParkedIs (r : Rules) (w : World) (t : ℕ) (p : Parked) : Type 0 wher
   pub low : k.0 ≤ c.tracker.0
   pub sent : request_sent (client_plan r n) k c ≡ Some q
   pub at : q.to ≡ target t
-  pub says : q.message ≡ fetch_of f
+  pub says : q.message ≡ fetch_message f
   pub asked : AsksRead (client_plan r n) k c a f
   pub own : (o : Epoch) → f.ep ≡ Some o → o ≡ e
   pub it : p.ask ≡ fetch_at f e

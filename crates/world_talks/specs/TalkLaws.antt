@@ -1,8 +1,9 @@
 -- Which letters belong to a client's conversation, and what is left of one.
 use Rattle.std.specs.Prelude.{ℕ, ◌≡◌, ◌<◌, length, slice_index_or, ◌==◌, ◌++◌, Bool, true, false, ◌&&◌, ◌||◌, not, List, [], ◌∷◌, filter, Contains, refl}
 use Rattle.std.proofs.Common.{◌⊎◌, sym, ◌∙◌, ap, subst, inl, inr, append-nil, arith, cond, zero, suc}
-use Rattle.std.proofs.lemmas.Bool.{eq-eqb, ne_eqb}
+use Rattle.std.proofs.lemmas.Bool.{eq-eqb, ne_eqb, or_right}
 use Rattle.std.proofs.lemmas.List.Elements.{Contains-append_cases, Contains-append_left, Contains-append_right, Contains-push, filter-append}
+use Rattle.daos_laws.specs.Members.{Has, contains-from_has, has-cases, has-from_contains, has-left, has-right}
 use Rattle.daos_messages.specs.declared.actor.ActorId.{ActorId}
 use Rattle.world_base.specs.declared.letter.Letter.{Letter}
 use Rattle.world_events.specs.Letters.{Takes, client, is_client, is_talk_of, is_tell, talk_of}
@@ -89,10 +90,6 @@ of-both : (t f o : Bool) → f ≡ false → o ≡ false → (not t && (f || o))
 of-both true f o hf ho = refl
 of-both false f o hf ho = ap (λ b. b || o) hf ∙ ho
 
-or-right : (f o : Bool) → o ≡ true → (f || o) ≡ true
-or-right true o h = refl
-or-right false o h = h
-
 or-false : (b : Bool) → (b || false) ≡ b
 or-false true = refl
 or-false false = refl
@@ -120,7 +117,7 @@ sent-is-talk n l isnt from = ap (λ b. not b && (is_client n l.from || is_client
 -- and so is what it gets
 pub got-is-talk : (n : ℕ) (l : Letter) → is_tell l.message ≡ false → l.to ≡ client n → is_talk_of n l ≡ true
 unfolding is_talk_of
-got-is-talk n l isnt to = ap (λ b. not b && (is_client n l.from || is_client n l.to)) isnt ∙ or-right (is_client n l.from) (is_client n l.to) (is-itself n l.to to)
+got-is-talk n l isnt to = ap (λ b. not b && (is_client n l.from || is_client n l.to)) isnt ∙ or_right (is_client n l.from) (is_client n l.to) (is-itself n l.to to)
 
 -- ---- a letter more
 
@@ -148,3 +145,15 @@ got-is-of n j l isnt from to =
 pub between-is-of : (n : ℕ) (l : Letter) → l.from.client ≡ false → l.to.client ≡ false → is_talk_of n l ≡ false
 unfolding is_talk_of
 between-is-of n l from to = of-both (is_tell l.message) (is_client n l.from) (is_client n l.to) (is-no-client n l.from from) (is-no-client n l.to to)
+
+-- another letter than the one that is taken is left
+pub left-or-it : (letters : List Letter) (l : Letter) (rest : List Letter) (m : Letter) → Takes letters l rest → Contains letters m → (m ≡ l) ⊎ Contains rest m
+left-or-it letters l rest m t i = by (has-cases t.before (l ∷ t.after) m (subst (Has m) t.among (has-from_contains letters m i)))
+  where
+    there : Has m (t.before ++ t.after) → Contains rest m
+    there j = contains-from_has rest m (subst (Has m) (sym t.left) j)
+
+    by : Has m t.before ⊎ Has m (l ∷ t.after) → (m ≡ l) ⊎ Contains rest m
+    by (inl j) = inr (there (has-left t.before t.after m j))
+    by (inr (inl e)) = inl e
+    by (inr (inr j)) = inr (there (has-right t.before t.after m j))

@@ -23,7 +23,7 @@ use Rattle.world_base.specs.declared.world.World.{World}
 use Rattle.world_base.specs.ClientTurns.{waits}
 use Rattle.world_events.specs.Events.{Rules, client_plan}
 use Rattle.world_events.specs.Letters.{client, letter_of, letters_of, target}
-use Rattle.world_talks.specs.Asked.{commit_of, fetch_of}
+use Rattle.world_talks.specs.Asked.{commit_of}
 use Rattle.world_talks.specs.CarrierLaws.{bit, count, count-append, count-cons, count-put, count-zero, has-put}
 use Rattle.world_talks.specs.Carriers.{Carrier, InFlight, ParkedAt, held, in_flight, is_carrier_of, open_at, parked_at}
 use Rattle.world_talks.specs.Conversation.{Answers, Carries, IsAnswered, IsAsked, IsOpen, IsParked, IsTalk, is_request}
@@ -31,6 +31,7 @@ use Rattle.world_talks.specs.InFlight.{of-letter, of-open}
 use Rattle.world_talks.specs.LeaveLaws.{CommitLeaves, FetchLeaves, HasBegun, HoldsOn, IsEnded, IsKept, IsReplied, ToTargets}
 use Rattle.world_talks.specs.TalkLaws.{between-is-of, got-is-of}
 use Rattle.world_turns.specs.Reads.{fetch_at}
+use Rattle.world_turns.specs.Requests.{fetch_message}
 
 -- a carrier of a client that waits
 pub record Owns (r : Rules) (w : World) (n : ℕ) (x : Carrier) : Type 0 where
@@ -99,7 +100,7 @@ reply_to t j q own b = record { from = target t; to = client j; message = messag
 pub reply-of : (n t j : ℕ) (q : FetchRequest) (own : Option Epoch) (b : Reply) → is_carrier_of n (InFlight (reply_to t j q own b)) ≡ (j == n)
 reply-of n t j q own b = of-letter n (reply_to t j q own b) ∙ got-is-of n j (reply_to t j q own b) refl refl refl
 
-pub fetch-of : (n t : ℕ) (q : FetchRequest) → is_carrier_of n (ParkedAt t (fetch_of q)) ≡ (q.attempt.client == n)
+pub fetch-of : (n t : ℕ) (q : FetchRequest) → is_carrier_of n (ParkedAt t (fetch_message q)) ≡ (q.attempt.client == n)
 unfolding is_carrier_of
 fetch-of n t q = refl
 
@@ -191,7 +192,7 @@ answered-by r w t j l answer s answers = record { c = s.owns.c; here = s.owns.he
     by (IsAnswered k q low sent from to answers2) = absurd (true≢false (sym (ap (λ x. x.client) to) ∙ ap (λ x. x.client) s.to))
 
 -- a Fetch that comes from a client may be handed on
-pub sent-hands : (r : Rules) (w : World) (t j : ℕ) (l : Letter) (q : FetchRequest) → IsSent r w t j l → l.message ≡ fetch_of q → q.attempt.client ≡ j → ((n : ℕ) → is_carrier_of n (InFlight l) ≡ (j == n))
+pub sent-hands : (r : Rules) (w : World) (t j : ℕ) (l : Letter) (q : FetchRequest) → IsSent r w t j l → l.message ≡ fetch_message q → q.attempt.client ≡ j → ((n : ℕ) → is_carrier_of n (InFlight l) ≡ (j == n))
     → MayHand r w t j q (InFlight l)
 sent-hands r w t j l q s it own of_it = record {
   own = own;
@@ -216,7 +217,7 @@ sent-hands r w t j l q s it own of_it = record {
     by e has (IsAnswered k p low sent from to answers) = absurd (true≢false (sym (ap (λ x. x.client) to) ∙ ap (λ x. x.client) s.to))
 
 -- and so may one that was parked
-pub parked-hands : (r : Rules) (w : World) (t : ℕ) (q : FetchRequest) → Owns r w q.attempt.client (ParkedAt t (fetch_of q)) → MayHand r w t q.attempt.client q (ParkedAt t (fetch_of q))
+pub parked-hands : (r : Rules) (w : World) (t : ℕ) (q : FetchRequest) → Owns r w q.attempt.client (ParkedAt t (fetch_message q)) → MayHand r w t q.attempt.client q (ParkedAt t (fetch_message q))
 parked-hands r w t q s = record {
   own = refl;
   of_it = λ n. fetch-of n t q;
@@ -227,14 +228,14 @@ parked-hands r w t q s = record {
     j : ℕ
     j = q.attempt.client
 
-    replied : (e : Option Epoch) (b : Reply) → IsParked (client_plan r j) s.c t (fetch_of q) → IsTalk (client_plan r j) j s.c (reply_to t j q e b)
+    replied : (e : Option Epoch) (b : Reply) → IsParked (client_plan r j) s.c t (fetch_message q) → IsTalk (client_plan r j) j s.c (reply_to t j q e b)
     replied e b p =
-        let same : fetch_of q ≡ fetch_at p.f p.e = p.it in
+        let same : fetch_message q ≡ fetch_at p.f p.e = p.it in
         IsAnswered p.k p.q p.low p.sent (sym p.at) refl (subst (λ m. Answers m (message.Fetched q.attempt q.op q.group e b)) (sym p.asked) (e, b, cc (same)))
 
-    kept : (e : Epoch) → ((o : Epoch) → q.ep ≡ Some o → o ≡ e) → IsParked (client_plan r j) s.c t (fetch_of q) → IsParked (client_plan r j) s.c t (fetch_at q e)
+    kept : (e : Epoch) → ((o : Epoch) → q.ep ≡ Some o → o ≡ e) → IsParked (client_plan r j) s.c t (fetch_message q) → IsParked (client_plan r j) s.c t (fetch_at q e)
     kept e has p =
-        let same : fetch_of q ≡ fetch_at p.f p.e = p.it in
+        let same : fetch_message q ≡ fetch_at p.f p.e = p.it in
         let its : q.ep ≡ Some p.e = cc (same) in
         let one : p.e ≡ e = has p.e its in
         record { k = p.k; q = p.q; low = p.low; sent = p.sent; at = p.at; f = p.f; asked = p.asked; e = p.e; own = p.own; it = ap (λ x. fetch_at q x) (sym one) ∙ cc (same) }

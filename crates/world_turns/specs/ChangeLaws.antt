@@ -16,7 +16,7 @@ use Rattle.world_turns.specs.Changes.{Change, Extends, Kept, Prepares, Settles, 
 
 -- ---- one change
 
-conts-settled : (a : AttemptId) (step : Settle) (d : Durable) → (settled a step d).conts ≡ d.conts
+pub conts-settled : (a : AttemptId) (step : Settle) (d : Durable) → (settled a step d).conts ≡ d.conts
 unfolding settled
 conts-settled a Commit d = refl
 conts-settled a Abort d = refl
@@ -30,7 +30,7 @@ snaps-settled a Abort d = refl
 snaps-settled a (Confirm t) d = refl
 snaps-settled a Forget d = refl
 
-incarnation-settled : (a : AttemptId) (step : Settle) (d : Durable) → (settled a step d).incarnation ≡ d.incarnation
+pub incarnation-settled : (a : AttemptId) (step : Settle) (d : Durable) → (settled a step d).incarnation ≡ d.incarnation
 unfolding settled
 incarnation-settled a Commit d = refl
 incarnation-settled a Abort d = refl
@@ -59,6 +59,10 @@ entries-leased n d = refl
 pub versions-leased : (n : ℕ) (d : Durable) → (leased n d).versions ≡ d.versions
 unfolding leased
 versions-leased n d = refl
+
+pub incarnation-prepared : (e : Entry) (ws : List MinorWrite) (d : Durable) → (prepared e ws d).incarnation ≡ d.incarnation
+unfolding prepared
+incarnation-prepared e ws d = refl
 
 -- no change touches the containers, the snapshots or the incarnation
 pub conts-made : (c : Change) (d : Durable) → (made c d).conts ≡ d.conts

@@ -1,9 +1,11 @@
 -- What each settling of a Mark, each confirmation of a Marked and each settling of idle work keeps, the turn keeps.
-use Rattle.std.specs.Prelude.{ℕ, ◌≡◌, Bool, true, List, ◌∷◌, Option, Some, refl}
-use Rattle.std.proofs.Common.{sym, subst, inl, inr}
+use Rattle.std.specs.Prelude.{◌<◌, ◌∷◌, ◌≡◌, Bool, Contains, List, Option, Some, ℕ, filter, length, not, refl, true}
+use Rattle.std.proofs.Common.{◌∙◌, ap, inl, inr, subst, sym}
 use Rattle.daos_base.specs.declared.entry.Settle.TheVariants.{Commit, Confirm}
 use Rattle.daos_base.specs.declared.id.AttemptId.{AttemptId}
+use Rattle.daos_laws.specs.Lists.{filter-shorter}
 use Rattle.daos_laws.specs.Members.{Has}
+use Rattle.daos_model.specs.EntryLaws.{same_attempt-itself}
 use Rattle.dtx_base.specs.Leading.{entry_led, may_confirm}
 use Rattle.world_base.specs.declared.target.TargetMemory.{TargetMemory}
 use Rattle.world_base.specs.declared.target.TargetPlan.{TargetPlan}
@@ -12,6 +14,7 @@ use Rattle.world_turns.specs.Changes.{Change, Kept, Settles, Steps}
 use Rattle.world_turns.specs.Idle.{IdleNext, SettlesFirst}
 use Rattle.world_turns.specs.Marks.{MarkNext, PassesBy, SettlesMarked, marked_step}
 use Rattle.world_turns.specs.PathLaws.{reached-keeps}
+use Rattle.world_turns.specs.Requests.{is_other_attempt}
 use Rattle.world_turns.specs.Roles.{is_prepared, leader_at}
 use Rattle.world_turns.specs.Turns.{Reached}
 
@@ -62,3 +65,8 @@ module _ (P : Kept → Type 0) where
 
   pub settles-keep : (decided : List AttemptId) → SettlingKeeps decided → (old new : Kept) (last : List AttemptId) → Reached IdleNext decided old last new → P old → P new
   settles-keep decided keeps old new last r p = (reached-keeps IdleNext (Leaves P decided) (idle-step decided keeps) decided old last new r (record { holds = p; left = λ x i. i })).holds
+
+-- without one of them attempts are fewer
+pub one-fewer : (a : AttemptId) (decided : List AttemptId) → Contains decided a → length (filter (is_other_attempt a) decided) < length decided
+one-fewer a decided among =
+    filter-shorter (is_other_attempt a) decided among.0 a among.1 (ap (λ x. is_other_attempt a x) among.2 ∙ ap not (same_attempt-itself a))

@@ -234,7 +234,7 @@ fetch-follows t m reading q from s k left (read.MeetsUnresolved j e decided a z 
 fetch-follows t m reading q from s k left (read.IsParked j e decided a leader z none unsettled other is) = ap (λ x. x.1.lines) is
 fetch-follows t m reading q from s k left (read.IsServed j e decided b z none ok is) = ap (λ x. x.1.lines) is
 
-commit-follows : (t : TargetPlan) (opening : Epoch × FloorWhy) (m : TargetMemory) (reading : ℕ) (q : CommitRequest) (from : ActorId) (s : commit.CommitStage) (k : Kept) (left : TargetMemory × Did)
+pub commit-follows : (t : TargetPlan) (opening : Epoch × FloorWhy) (m : TargetMemory) (reading : ℕ) (q : CommitRequest) (from : ActorId) (s : commit.CommitStage) (k : Kept) (left : TargetMemory × Did)
     → commit.CommitEnds t opening m reading q from s k left → left.1.lines ≡ []
 commit-follows t opening m reading q from s k left (commit.IsSpent j z none is) = ap (λ x. x.1.lines) is
 commit-follows t opening m reading q from s k left (commit.IsRefused j e c z why is) = ap (λ x. x.1.lines) is
@@ -329,3 +329,11 @@ hears-issues-none t opening m reading from q old new left h quiet = absurd h
 
 pub idles-issue-none : (settling : Bool) (t : TargetPlan) (m : TargetMemory) (old new : Kept) (left : TargetMemory × Did) → IdlesWhole settling t m old new left → left.1.issued ≡ None
 idles-issue-none settling t m old new left h = (idle-follows settling t m h.last new left h.ends).1
+
+-- a read at an epoch leaves what the target knows as a member
+pub member-then : (q : FetchRequest) (e : Epoch) (decided : List AttemptId) (m : TargetMemory) → (read.memory_then q e decided m).member ≡ m.member
+member-then q e decided m = by q.snapshot
+  where
+    by : (b : Bool) → (if b then m else with_ticks e m).member ≡ m.member
+    by true = refl
+    by false = refl

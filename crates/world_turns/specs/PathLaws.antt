@@ -1,9 +1,9 @@
 -- What each step of a turn keeps, every path keeps.
-use Rattle.std.specs.Prelude.{◌≡◌, ◌+◌, ℕ, List, [], ◌∷◌, Option, Some, None, refl}
-use Rattle.std.proofs.Common.{◌∙◌, ap}
+use Rattle.std.specs.Prelude.{◌++◌, ◌+◌, ◌∷◌, ◌≡◌, List, None, Option, Some, [], ℕ, refl}
+use Rattle.std.proofs.Common.{◌∙◌, ap, append-nil, append_assoc, subst, sym}
 use Rattle.daos_model.specs.declared.durable.Durable.{Durable}
 use Rattle.world_turns.specs.Changes.{Change, Kept, Steps, cost, made}
-use Rattle.world_turns.specs.Turns.{Here, More, Path, Reached, Whole}
+use Rattle.world_turns.specs.Turns.{Here, More, Path, Reached, Whole, listed}
 
 module _ {S : Type 0} (Next : S → Kept → Option Change → S → Type 0) (P : S → Kept → Type 0) where
   pub path-keeps : ((s : S) (k : Kept) (o : Option Change) (t : S) (l : Kept) → Next s k o t → Steps o k l → P s k → P t l) → (s : S) (k : Kept) (did : List Change) (t : S) (l : Kept)
@@ -22,6 +22,17 @@ reached-more Next s k t l o u m r next steps = record { did = _; path = More r.d
 
 pub reached-here : {S : Type 0} (Next : S → Kept → Option Change → S → Type 0) (s : S) (k : Kept) → Reached Next s k s k
 reached-here Next s k = record { did = []; path = Here }
+
+-- steps after steps
+pub path-on : {S : Type 0} (Next : S → Kept → Option Change → S → Type 0) (s : S) (k : Kept) (before : List Change) (t : S) (l : Kept) (after : List Change) (u : S) (m : Kept)
+    → Path Next s k before t l → Path Next t l after u m → Path Next s k (before ++ after) u m
+path-on Next s k before t l after u m p Here = subst (λ did. Path Next s k did u m) (sym (append-nil before)) p
+path-on Next s k before t l after u m p (More did v n o w z rest next steps) =
+    subst (λ all. Path Next s k all u m) (append_assoc before did (listed o)) (More (before ++ did) v n o u m (path-on Next s k before t l did v n p rest) next steps)
+
+pub whole-on : {S R : Type 0} (Next : S → Kept → Option Change → S → Type 0) (Ends : S → Kept → R → Type 0) (s t : S) (k l m : Kept) (r : R)
+    → Reached Next s k t l → Whole Next Ends t l m r → Whole Next Ends s k m r
+whole-on Next Ends s t k l m r a w = record { last = w.last; reached = record { did = _; path = path-on Next s k a.did t l w.reached.did w.last m a.path w.reached.path }; ends = w.ends }
 
 -- ---- a part of what is kept that no change touches
 

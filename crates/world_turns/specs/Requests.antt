@@ -7,9 +7,11 @@ use Rattle.daos_base.specs.Epochs.{epoch_at, heard_ticks}
 use Rattle.daos_hlc.specs.Clock.{next_ticks}
 use Rattle.daos_model.specs.Durables.{same_attempt}
 use Rattle.daos_messages.specs.declared.actor.ActorId.{ActorId}
+use Rattle.daos_messages.specs.declared.message.Message.TheVariants.{Fetch}
 use Rattle.daos_messages.specs.declared.message.Message.{Message}
 use Rattle.daos_messages.specs.declared.message.Post.{Post}
 use Rattle.world_base.specs.declared.did.Did.{Did}
+use Rattle.world_base.specs.declared.request.FetchRequest.{FetchRequest}
 use Rattle.world_base.specs.declared.target.TargetMemory.{TargetMemory}
 use Rattle.world_base.specs.declared.target.TargetPlan.{TargetPlan}
 
@@ -37,6 +39,10 @@ says to m issued = record { posts = record { to = to; message = m } ∷ []; line
 -- these messages are what follows, and perhaps an epoch
 abbrev pub sends : List Post → Option (AttemptId × Epoch) → Did
 sends posts issued = record { posts = posts; lines = []; issued = issued }
+
+-- the message of a request for a read
+abbrev pub fetch_message : FetchRequest → Message
+fetch_message q = Fetch q.attempt q.op q.group q.ep q.first q.tracker q.read q.snapshot
 
 -- any other attempt
 abbrev pub is_other_attempt : AttemptId → AttemptId → Bool

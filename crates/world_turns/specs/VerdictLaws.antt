@@ -14,14 +14,10 @@ use Rattle.world_base.specs.declared.target.TargetPlan.{TargetPlan}
 use Rattle.world_turns.specs.Changes.{Change, Kept, Steps}
 use Rattle.world_turns.specs.PathLaws.{reached-here, reached-keeps, reached-more}
 use Rattle.world_turns.specs.Reads.{Asked, FetchEnds, FetchNext}
-use Rattle.world_turns.specs.Requests.{sends}
+use Rattle.world_turns.specs.Requests.{fetch_message, sends}
 use Rattle.world_turns.specs.Roles.{joins_on, member_at}
 use Rattle.world_turns.specs.Turns.{Reached, Whole}
 use Rattle.world_turns.specs.Verdicts.{AllTried, Freed, GoesOn, Heard, IsDone, SettlesBy, TriesNext, Trying, VerdictEnds, VerdictNext, VerdictStage, fetcher, settles_by, settling_change}
-
--- the Fetch that is tried
-abbrev pub tried : FetchRequest → Message
-tried q = Fetch q.attempt q.op q.group q.ep q.first q.tracker q.read q.snapshot
 
 -- one Fetch is tried, at the client that it came from
 abbrev pub Tries : TargetPlan → ℕ → TargetMemory → FetchRequest → Kept → Kept → TargetMemory × Did → Type 0
@@ -36,13 +32,13 @@ module _ (t : TargetPlan) (m : TargetMemory) (reading : ℕ) (a : AttemptId) (as
 
   -- and each Fetch's turn keeps it
   abbrev pub GoesOnSo : Type 0
-  GoesOnSo = (q : FetchRequest) (rest : List Message) (n : TargetMemory) (posts : List Post) (k l : Kept) (left : TargetMemory × Did) → P (tried q ∷ rest) n posts k → Tries t reading n q k l left → P rest left.0 (posts ++ left.1.posts) l
+  GoesOnSo = (q : FetchRequest) (rest : List Message) (n : TargetMemory) (posts : List Post) (k l : Kept) (left : TargetMemory × Did) → P (fetch_message q ∷ rest) n posts k → Tries t reading n q k l left → P rest left.0 (posts ++ left.1.posts) l
 
   -- what holds at a stage
   abbrev Stands : VerdictStage → Kept → Type 0
   Stands Heard k = k ≡ old
   Stands (Freed asks n posts) k = P asks n posts k
-  Stands (Trying q s rest n posts) k = (j : Kept) × P (tried q ∷ rest) n posts j × Reached (FetchNext t n reading q) Asked j s k
+  Stands (Trying q s rest n posts) k = (j : Kept) × P (fetch_message q ∷ rest) n posts j × Reached (FetchNext t n reading q) Asked j s k
 
   step-stands : BeginsSo → GoesOnSo → (s : VerdictStage) (k : Kept) (o : Option Change) (u : VerdictStage) (l : Kept) → VerdictNext t m reading a ask v s k o u → Steps o k l → Stands s k → Stands u l
   step-stands begins goes s k o u l (SettlesBy j p is) steps h = begins l (subst (λ x. Steps (settling_change a (settles_by v a x.durable)) x l) h (subst (λ c. Steps c k l) is steps))

@@ -39,10 +39,10 @@ use Rattle.world_talks.specs.Conversation.{Conversation}
 use Rattle.world_talks.specs.HearLaws.{ended-silent, replied-silent}
 use Rattle.world_talks.specs.Hearing.{ATracker, AReply, AnEnd, IsHearing, hearing-is}
 use Rattle.world_talks.specs.InFlight.{GetsAnswer}
-use Rattle.world_talks.specs.TalkLaws.{left-is-among, taken-is-among}
+use Rattle.world_talks.specs.TalkLaws.{left-is-among, left-or-it, taken-is-among}
 use Rattle.world_turns.specs.TargetTurns.{is_heard}
 use Rattle.world_verdicts.specs.TellLaws.{AllRead, Fails, Goes, MoveTells, NoSnap, Nothing, ReplyTells, moved-tells, replied-tells}
-use Rattle.world_verdicts.specs.VerdictLaws.{EndNothing, StillRefused, StillTold, TellDecided, client-did, left-or-it, told-new}
+use Rattle.world_verdicts.specs.VerdictLaws.{EndNothing, StillRefused, StillTold, TellDecided, client-did, told-new}
 use Rattle.world_verdicts.specs.Verdicts.{Agrees, HasWrites, IsOnItsWay, IsRefusedOnItsWay, IsToldCommitted, IsToldRefused, Verdicts}
 
 -- ---- what a client sends ends nothing

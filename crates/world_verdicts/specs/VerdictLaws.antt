@@ -1,5 +1,5 @@
 -- Every event keeps that decided attempts are exactly those that are told as committed.
-use Rattle.std.specs.Prelude.{ℕ, ◌≡◌, ◌≢◌, ◌⊎◌, ◌++◌, true, List, ◌∷◌, map, Contains, Option, Some}
+use Rattle.std.specs.Prelude.{ℕ, ◌≡◌, ◌≢◌, ◌⊎◌, ◌++◌, true, List, map, Contains, Option, Some}
 use Rattle.std.proofs.Common.{sym, ◌∙◌, ap, subst, inl, inr}
 use Rattle.daos_base.specs.declared.epoch.Epoch.{Epoch}
 use Rattle.daos_base.specs.declared.id.AttemptId.{AttemptId}
@@ -16,7 +16,7 @@ use Rattle.world_base.specs.declared.client.ClientState.{ClientState}
 use Rattle.world_base.specs.declared.letter.Letter.{Letter}
 use Rattle.world_base.specs.declared.world.World.{World}
 use Rattle.world_events.specs.Events.{Rules, with_epoch}
-use Rattle.world_events.specs.Letters.{Takes, client, letter_of, letters_of}
+use Rattle.world_events.specs.Letters.{client, letter_of, letters_of}
 use Rattle.world_events.specs.Steps.{after_client, without}
 use Rattle.world_lines.specs.FilledLaws.{tries-filled}
 use Rattle.world_lines.specs.Lines.{filled}
@@ -60,18 +60,6 @@ told-new issued lines more b i =
     let all : tries (lines ++ map (with_epoch issued) more) ≡ tries lines ++ map (filled issued) (tries more) = tries-append lines (map (with_epoch issued) more) ∙ ap (λ ts. tries lines ++ ts) (tries-filled issued more) in
     contains-from_has (tries (lines ++ map (with_epoch issued) more)) (filled issued b)
     (subst (Has (filled issued b)) (sym all) (has-right (tries lines) (map (filled issued) (tries more)) (filled issued b) (has-map (filled issued) (tries more) b i)))
-
--- another letter than the one that is taken is left
-pub left-or-it : (letters : List Letter) (l : Letter) (rest : List Letter) (m : Letter) → Takes letters l rest → Contains letters m → (m ≡ l) ⊎ Contains rest m
-left-or-it letters l rest m t i = by (has-cases t.before (l ∷ t.after) m (subst (Has m) t.among (has-from_contains letters m i)))
-  where
-    there : Has m (t.before ++ t.after) → Contains rest m
-    there j = contains-from_has rest m (subst (Has m) (sym t.left) j)
-
-    by : Has m t.before ⊎ Has m (l ∷ t.after) → (m ≡ l) ⊎ Contains rest m
-    by (inl j) = inr (there (has-left t.before t.after m j))
-    by (inr (inl e)) = inl e
-    by (inr (inr j)) = inr (there (has-right t.before t.after m j))
 
 way-more : (letters more : List Letter) (x : AttemptId) (e : Epoch) → IsOnItsWay letters x e → IsOnItsWay (letters ++ more) x e
 way-more letters more x e k = record { l = k.l; among = contains-from_has (letters ++ more) k.l (has-left letters more k.l (has-from_contains letters k.l k.among)); says = k.says; to_it = k.to_it }

@@ -1,4 +1,4 @@
-use Rattle.std.proofs.Common.{sym, ◌∙◌, ap, ◌++◌, take}
+use Rattle.std.proofs.Common.{sym, ◌∙◌, ap, ◌++◌}
 use Rattle.daos_model.specs.Accesses.{minor_write}
 use Rattle.client_core.proofs.Writes.{writes_more, writes_none}
 use Rattle.client_core.proofs.asks.minor_writes.Goals as goal

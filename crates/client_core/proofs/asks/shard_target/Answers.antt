@@ -1,4 +1,3 @@
-use Rattle.std.proofs.Common.{◌∙◌}
 use Rattle.std.proofs.Math.Nat.{mod-add-mod}
 use Rattle.client_core.proofs.asks.shard_target.Goals as goal
 

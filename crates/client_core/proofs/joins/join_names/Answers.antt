@@ -1,4 +1,4 @@
-use Rattle.std.proofs.Common.{◌≡◌, ◌∙◌, ℕ, ◌+◌, ◌-◌, ◌++◌, length, drop, sym, ap, arith}
+use Rattle.std.proofs.Common.{◌≡◌, ◌∙◌, ◌+◌, ◌-◌, ◌++◌, length, drop, sym, ap, arith}
 use Rattle.daos_model.specs.Answers.{in_byte_order}
 use Rattle.std.proofs.lemmas.List.{drop_all}
 use Rattle.client_core.proofs.NameSteps.{in_order-none, one_more_behind, one_more_before}

@@ -1,5 +1,5 @@
 use Rattle.world_base.specs.ClientTurns.{HearTurn}
-use Rattle.client_core.specs.Clients.{GoesOnFrom, move_of}
+use Rattle.client_core.specs.Clients.{move_of}
 use Rattle.client_core.proofs.TurnSteps.{hear_went_on, if_ok_more, kept_heard}
 use Rattle.client_core.proofs.turns.hears.Goals as goal
 

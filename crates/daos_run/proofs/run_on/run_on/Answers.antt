@@ -1,5 +1,5 @@
 use Rattle.std.specs.Prelude.{◌≡◌, Err, IfErr, None, Ok, Result, refl}
-use Rattle.std.proofs.Common.{◌∙◌, ap, arith, rules, subst, sym}
+use Rattle.std.proofs.Common.{ap, arith, rules, subst, sym}
 use Rattle.daos_run.proofs.Lone.{of-lone-client, room-found}
 use Rattle.daos_run.proofs.Started.{all-run, all-set, as-said, said-ok, said-so, unchanged}
 use Rattle.daos_run.proofs.Whole.{can-run, come-to}

@@ -1,6 +1,6 @@
 use Rattle.std.specs.Prelude.{◌≡◌, Some, length, set}
 use Rattle.std.proofs.Common.{◌∙◌, ap, arith}
-use Rattle.daos_run.proofs.Slots.{all-back, none-back, one-back}
+use Rattle.daos_run.proofs.Slots.{none-back, one-back}
 use Rattle.daos_run.proofs.starting.hand_back.Goals as goal
 
 pub loop-init : goal.loop-init

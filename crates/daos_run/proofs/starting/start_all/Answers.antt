@@ -1,4 +1,4 @@
-use Rattle.std.specs.Prelude.{◌≡◌, ◌≤◌, ◌∷◌, ◌++◌, [], Err, IfErr, None, Some, if◌then◌else◌, is_ok, is_some, length, slice_get}
+use Rattle.std.specs.Prelude.{◌≡◌, ◌≤◌, ◌∷◌, ◌++◌, [], Err, IfErr, None, Some, if◌then◌else◌, is_ok, length, slice_get}
 use Rattle.std.proofs.Common.{◌∙◌, ap, arith, rules, subst, sym}
 use Rattle.daos_run.proofs.Slots.{set-not-none}
 use Rattle.daos_run.proofs.Started.{failed-runs, failed-set, one-started, taken-before, unchanged}

@@ -1,4 +1,4 @@
-use Rattle.replay_base.proofs.Issuing.{asks_issued, asks_own}
+use Rattle.replay_base.proofs.Issuing.{asks_issued}
 use Rattle.replay_base.proofs.epochs.asks_at.Goals as goal
 
 pub returns-in-None : goal.returns-in-None

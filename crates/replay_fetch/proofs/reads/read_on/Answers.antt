@@ -1,6 +1,7 @@
 use Rattle.std.proofs.Common.{◌<◌, length, subst, sym}
-use Rattle.replay_fetch.proofs.Reading.{fewer, gone_more, gone_none, met_ending, met_stuck, met_way}
+use Rattle.replay_fetch.proofs.Reading.{gone_more, gone_none, met_ending, met_stuck, met_way}
 use Rattle.replay_fetch.proofs.reads.read_on.Goals as goal
+use Rattle.world_turns.specs.LoopLaws.{one-fewer}
 
 pub loop-work-init : goal.loop-work-init
 loop-work-init c = gone_none c.args.plan c.args.request.now c.args.epoch c.args.work c.requires
@@ -8,7 +9,7 @@ loop-work-init c = gone_none c.args.plan c.args.request.now c.args.epoch c.args.
 pub loop-work-smaller : goal.loop-work-smaller
 loop-work-smaller c =
     let way = met_way c.args.plan c.args.request.now c.args.epoch _ _ c.loop-work.work.memory.leader.decided _ c.in-Settles.attempt c.as_slice-decided.ensures c.in_ok-attempt.ensures c.in-Settles.is in
-    let less = fewer c.in-Settles.attempt c.loop-work.work.memory.leader.decided way.own in
+    let less = one-fewer c.in-Settles.attempt c.loop-work.work.memory.leader.decided way.own in
     subst (λ m. length m.leader.decided < length c.loop-work.work.memory.leader.decided) (sym c.settle_first-work.ensures.memory) less
 
 pub loop-work-preserved : goal.loop-work-preserved

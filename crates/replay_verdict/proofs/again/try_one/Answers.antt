@@ -1,4 +1,3 @@
-use Rattle.std.proofs.Common.{refl}
 use Rattle.replay_verdict.proofs.Trying.{none_found, one_found}
 use Rattle.replay_verdict.proofs.again.try_one.Goals as goal
 

@@ -1,4 +1,4 @@
-use Rattle.std.proofs.Common.{refl, Some, None, false}
+use Rattle.std.proofs.Common.{Some, None, false}
 use Rattle.replay_base.proofs.Starts.{covered_of, if_ok, none_so}
 use Rattle.replay_writes.proofs.Asking.{covered_decides, uncovered_none}
 use Rattle.replay_writes.proofs.commit.known_so.Goals as goal

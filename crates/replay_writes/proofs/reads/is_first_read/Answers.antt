@@ -2,11 +2,12 @@ use Rattle.std.proofs.Common.{subst}
 use Rattle.std.specs.Bool.{Decides}
 use Rattle.std.proofs.lemmas.Bool.Decides.{not_from_Decides}
 use Rattle.daos_base.specs.Operations.{write_path}
+use Rattle.daos_laws.specs.Lists.{all-more}
 use Rattle.replay_base.proofs.Starts.{all_so, none_so}
-use Rattle.replay_writes.proofs.Writing.{all_more, read_found}
 use Rattle.vos_stamp.specs.Stamps.{IsShown, NoneAgainst}
 use Rattle.replay_writes.proofs.Reading.{Shows, never_first, none_more, not_first}
 use Rattle.replay_writes.proofs.reads.is_first_read.Goals as goal
+use Rattle.target_writes.specs.Writing.{read_found}
 
 pub returns-then-is_shown : goal.returns-then-is_shown
 returns-then-is_shown c =
@@ -23,7 +24,7 @@ returns-then-not-none_against c =
 
 pub loop-write-preserved : goal.loop-write-preserved
 loop-write-preserved c = record {
-  reads = all_more (λ w. NoneAgainst (write_path w.write) c.args.epoch.0 c.args.stamps.now) c.args.writes.now c.loop-write.write-index c.write-item.result c.loop-write-test.true c.write-item.is c.loop-write.invariant.reads
+  reads = all-more (λ w. NoneAgainst (write_path w.write) c.args.epoch.0 c.args.stamps.now) c.args.writes.now c.loop-write.write-index c.write-item.result c.loop-write-test.true c.write-item.is c.loop-write.invariant.reads
       (subst (λ p. NoneAgainst p c.args.epoch.0 c.args.stamps.now) c.path-path.ensures (c.none_against.ensures.0 c.if-not-none_against.false));
   none = none_more (Shows c.args.epoch c.args.stamps.now c.args.read.now) c.args.writes.now c.loop-write.write-index c.write-item.result c.is_shown.result
       (subst (λ p. Decides c.is_shown.result (IsShown p c.args.epoch.0 c.args.stamps.now c.args.read.now)) c.path-path.ensures c.is_shown.ensures) c.if-is_shown.false c.loop-write-test.true c.write-item.is c.loop-write.invariant.none;

@@ -1,4 +1,4 @@
-use Rattle.std.proofs.Common.{◌≡◌, Contains, ◌∙◌, get_or, refl, subst, sym}
+use Rattle.std.proofs.Common.{◌≡◌, Contains, ◌∙◌, subst, sym}
 use Rattle.std.proofs.lemmas.List.Elements.{Contains-get_or}
 use Rattle.replay_base.proofs.Starts.{all_so, none_so}
 use Rattle.replay_writes.proofs.Reading.{never_there, none_more, nothing_yet}

@@ -1,8 +1,8 @@
 use Rattle.std.proofs.Common.{subst}
 use Rattle.std.specs.Bool.{Decides}
 use Rattle.daos_base.specs.Operations.{write_path}
+use Rattle.daos_laws.specs.Lists.{all-more, all-taken}
 use Rattle.replay_base.proofs.Starts.{all_so, none_so}
-use Rattle.replay_writes.proofs.Writing.{all_more, all_taken}
 use Rattle.vos_stamp.specs.Stamps.{NoneAgainst}
 use Rattle.replay_writes.proofs.Reading.{not_all}
 use Rattle.replay_writes.proofs.reads.no_reads.Goals as goal
@@ -14,8 +14,8 @@ returns-then-not-none_against c =
 
 pub loop-write-preserved : goal.loop-write-preserved
 loop-write-preserved c =
-    all_more (λ w. NoneAgainst (write_path w.write) c.args.epoch.0 c.args.stamps.now) c.args.writes.now c.loop-write.write-index c.write-item.result c.loop-write-test.true c.write-item.is c.loop-write.invariant
+    all-more (λ w. NoneAgainst (write_path w.write) c.args.epoch.0 c.args.stamps.now) c.args.writes.now c.loop-write.write-index c.write-item.result c.loop-write-test.true c.write-item.is c.loop-write.invariant
     (subst (λ p. NoneAgainst p c.args.epoch.0 c.args.stamps.now) c.path.ensures (c.none_against.ensures.0 c.if-not-none_against.false))
 
 pub returns : goal.returns
-returns c = all_so (all_taken (λ w. NoneAgainst (write_path w.write) c.args.epoch.0 c.args.stamps.now) c.args.writes.now c.loop-write.write-index c.loop-write-test.false c.loop-write.invariant)
+returns c = all_so (all-taken (λ w. NoneAgainst (write_path w.write) c.args.epoch.0 c.args.stamps.now) c.args.writes.now c.loop-write.write-index c.loop-write-test.false c.loop-write.invariant)

@@ -1,4 +1,4 @@
-use Rattle.std.proofs.Common.{◌≡◌, ◌∙◌, sym, ap, arith}
+use Rattle.std.proofs.Common.{◌∙◌, sym, ap, arith}
 use Rattle.daos_model.specs.Durables.{version_key}
 use Rattle.daos_model.specs.Ordered.{puts}
 use Rattle.vos_plain.proofs.Places.{puts-last}

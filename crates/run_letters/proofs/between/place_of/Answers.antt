@@ -1,5 +1,6 @@
 use Rattle.std.proofs.Common.{◌∙◌, sym}
-use Rattle.run_letters.proofs.Places.{at-index, same-actor}
+use Rattle.daos_laws.specs.Lists.{at-index}
+use Rattle.run_letters.proofs.Places.{same-actor}
 use Rattle.run_letters.proofs.between.place_of.Goals as goal
 
 pub returns-then-before-number-clause-place : goal.returns-then-before-number-clause-place

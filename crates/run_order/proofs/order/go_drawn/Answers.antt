@@ -3,7 +3,7 @@ use Rattle.std.proofs.Common.{◌∙◌, ap, rules, subst, sym}
 use Rattle.std.proofs.lemmas.List.Elements.{All-get_or}
 use Rattle.run_actors.specs.Due.{IsActor}
 use Rattle.daos_draw.specs.Draws.{drawn}
-use Rattle.run_actors.specs.ListLaws.{at-index}
+use Rattle.daos_laws.specs.Lists.{at-index}
 use Rattle.run_order.proofs.Ends.{one-of}
 use Rattle.run_order.proofs.Going.{goes-none}
 use Rattle.run_order.proofs.Leaving.{all-run, leaves-ok, leaves-so, leaves-wanting}

@@ -3,10 +3,10 @@ use Rattle.vos_store.specs.Refusals.{always_stop}
 use Rattle.world_turns.specs.Acks.{MarkedNext}
 use Rattle.target_parts.specs.Listing.{none_left}
 use Rattle.target_parts.specs.Running.{runs_first, runs_on, still_runs}
-use Rattle.target_parts.specs.Turning.{reached_none}
 use Rattle.target_dtx.specs.Dtx.{GoesThrough}
 use Rattle.target_dtx.proofs.Confirming.{confirms-cut, confirms-on, none_marked}
 use Rattle.target_dtx.proofs.acks.confirm_all.Goals as goal
+use Rattle.world_turns.specs.PathLaws.{reached-here}
 
 pub loop-attempt-init : goal.loop-attempt-init
 loop-attempt-init g c = record {
@@ -14,7 +14,7 @@ loop-attempt-init g c = record {
   leads = c.requires.leads;
   beside = record { hlc = refl; stamps = refl; member = refl };
   leader = refl;
-  reached = λ m d at. record { durable = d; kept_is = at; holds = reached_none _ _ _ };
+  reached = λ m d at. record { durable = d; kept_is = at; holds = reached-here _ _ _ };
 }
 
 pub returns-in_err-confirm-clause-confirmed : goal.returns-in_err-confirm-clause-confirmed

@@ -7,9 +7,8 @@ use Rattle.target_parts.specs.Knowing.{IsApart, memory_of}
 use Rattle.target_parts.specs.KeepingLaws.{leads-same}
 use Rattle.target_parts.specs.KnowsLaws.{leader-known, memory-beside, own-beside}
 use Rattle.target_parts.specs.Parts.{kept}
-use Rattle.target_parts.specs.Stops.{stop_memory}
+use Rattle.target_parts.specs.Stops.{never, stop_memory}
 use Rattle.target_parts.specs.Turning.{now_partway}
-use Rattle.target_dtx.specs.Dtx.{never}
 use Rattle.target_dtx.proofs.Acking.{ack-cut, ack-done, leads-acked, refused-apart, refused-can, step, stepped}
 use Rattle.dtx_base.specs.Leading.{ack_heard}
 use Rattle.dtx_posts.specs.Seats.{leader_of}

@@ -7,9 +7,8 @@ use Rattle.target_parts.specs.Knowing.{memory_of}
 use Rattle.target_parts.specs.KeepingLaws.{leads-same}
 use Rattle.target_parts.specs.KnowsLaws.{memory-beside, own-beside}
 use Rattle.target_parts.specs.Parts.{kept}
-use Rattle.target_parts.specs.Stops.{stop_memory}
+use Rattle.target_parts.specs.Stops.{never, stop_memory}
 use Rattle.target_parts.specs.Turning.{now_partway}
-use Rattle.target_dtx.specs.Dtx.{never}
 use Rattle.target_dtx.proofs.Confirming.{confirms-done, leads-marked}
 use Rattle.world_posts.specs.Forms.{TargetPosts}
 use Rattle.world_posts.specs.Posting.{none-posted, waits-on}

@@ -5,10 +5,11 @@ use Rattle.world_turns.specs.Idle.{IdleNext}
 use Rattle.world_turns.specs.Turns.{Reached}
 use Rattle.target_parts.specs.Parts.{Now, kept}
 use Rattle.target_parts.specs.Running.{runs_first, runs_on, still_runs}
-use Rattle.target_parts.specs.Turning.{reached_none}
 use Rattle.target_dtx.specs.Dtx.{GoesThrough}
-use Rattle.target_dtx.proofs.Idling.{fewer, idles-more, idles-stop, leader-on, none-left, none_decided}
+use Rattle.target_dtx.proofs.Idling.{fewer, idles-more, idles-stop, none-left, none_decided}
 use Rattle.target_dtx.proofs.idle.settle_all.Goals as goal
+use Rattle.target_parts.specs.KnowsLaws.{decided-on}
+use Rattle.world_turns.specs.PathLaws.{reached-here}
 
 pub loop-plan-init : goal.loop-plan-init
 loop-plan-init g c = record {
@@ -16,7 +17,7 @@ loop-plan-init g c = record {
   leads = c.requires.leads;
   beside = record { hlc = refl; stamps = refl; member = refl };
   leader = refl;
-  reached = λ d at. record { durable = d; kept_is = at; holds = reached_none _ _ _ };
+  reached = λ d at. record { durable = d; kept_is = at; holds = reached-here _ _ _ };
 }
 
 pub loop-plan-smaller : goal.loop-plan-smaller
@@ -44,7 +45,7 @@ loop-plan-preserved g c =
       runs = still_runs always_stop _ _ _ _ _ refl (runs_on always_stop _ _ _ _ _ _ _ inv.runs one.runs);
       leads = one.leads;
       beside = record { hlc = one.beside.hlc ∙ inv.beside.hlc; stamps = one.beside.stamps ∙ inv.beside.stamps; member = one.beside.member ∙ inv.beside.member };
-      leader = leader-on c.args.knows.now.leader c.loop-plan.knows.leader c.settle_decided.new.knows.leader _ inv.leader one.leader;
+      leader = decided-on c.args.knows.now.leader c.loop-plan.knows.leader c.settle_decided.new.knows.leader _ inv.leader one.leader;
       reached = λ d at.
           let now = inv.reached d at in
           subst (λ xs. Now (g.S.Store.durable c.settle_decided.new.store) (g.S.Store.state c.settle_decided.new.store) (λ k. Reached IdleNext c.args.knows.now.leader.decided (kept d (g.S.Store.state c.args.store.now)) xs k))

@@ -6,9 +6,8 @@ use Rattle.target_parts.specs.Ending.{turn_wanting}
 use Rattle.target_parts.specs.Knowing.{memory_of}
 use Rattle.target_parts.specs.KnowsLaws.{memory-same, own-beside}
 use Rattle.target_parts.specs.Parts.{kept}
-use Rattle.target_parts.specs.Stops.{stop_memory}
+use Rattle.target_parts.specs.Stops.{never, stop_memory}
 use Rattle.target_parts.specs.Turning.{now_partway}
-use Rattle.target_dtx.specs.Dtx.{never}
 use Rattle.target_dtx.proofs.Marking.{marks-done}
 use Rattle.world_posts.specs.Forms.{TargetPosts}
 use Rattle.world_posts.specs.Posting.{one-posted, to-other, waits-on}

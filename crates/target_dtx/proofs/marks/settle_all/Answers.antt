@@ -1,14 +1,15 @@
 use Rattle.std.proofs.Common.{◌≡◌, ◌∙◌, Err, refl, rules, slice_index_or, subst, sym}
+use Rattle.daos_laws.specs.Lists.{has-item}
 use Rattle.vos_store.specs.Refusals.{always_stop}
 use Rattle.world_turns.specs.Marks.{MarkNext}
 use Rattle.target_parts.specs.Knowing.{IsApart}
-use Rattle.target_parts.specs.Listing.{has-item, none_left}
+use Rattle.target_parts.specs.Listing.{none_left}
 use Rattle.target_parts.specs.Running.{runs_first, runs_on, still_runs, told-before}
-use Rattle.target_parts.specs.Turning.{reached_none}
 use Rattle.target_dtx.specs.Dtx.{GoesThrough}
 use Rattle.target_dtx.proofs.Items.{item-itself}
 use Rattle.target_dtx.proofs.Marking.{marks-cut, marks-on, none_marked}
 use Rattle.target_dtx.proofs.marks.settle_all.Goals as goal
+use Rattle.world_turns.specs.PathLaws.{reached-here}
 
 pub loop-mark-init : goal.loop-mark-init
 loop-mark-init g c = record {
@@ -16,7 +17,7 @@ loop-mark-init g c = record {
   leads = c.requires.leads;
   beside = record { hlc = refl; stamps = refl; member = refl };
   leader = refl;
-  reached = λ d at. record { durable = d; kept_is = at; holds = reached_none _ _ _ };
+  reached = λ d at. record { durable = d; kept_is = at; holds = reached-here _ _ _ };
 }
 
 pub settle_prepared-requires-clause-apart : goal.settle_prepared-requires-clause-apart

@@ -5,13 +5,14 @@ use Rattle.target_parts.specs.Ending.{turn_cut, turn_on, turn_wanting}
 use Rattle.target_parts.specs.Knowing.{memory_of}
 use Rattle.target_parts.specs.KnowsLaws.{memory-same}
 use Rattle.target_parts.specs.Parts.{kept}
+use Rattle.target_parts.specs.Posting.{later-posts}
 use Rattle.target_parts.specs.Running.{for_some_on}
-use Rattle.target_parts.specs.Stops.{stop_memory}
+use Rattle.target_parts.specs.Stops.{never, stop_memory}
 use Rattle.target_parts.specs.Turning.{now_partway}
-use Rattle.target_reads.specs.Again.{AreHere, never}
+use Rattle.target_reads.specs.Again.{AreHere}
 use Rattle.target_reads.proofs.Parking.{own-as_before}
 use Rattle.target_reads.proofs.Verdicts.{freed-is, frees-here, frees-parkable, leads-frees, own-frees, settled-here, verdict-cut, verdict-settles, with_member}
-use Rattle.target_reads.proofs.Posting.{freed-posts, later-posts}
+use Rattle.target_reads.proofs.Posting.{freed-posts}
 use Rattle.target_reads.proofs.again.hear_verdict.Goals as goal
 
 pub returns-in_err-posts-clause-turn : goal.returns-in_err-posts-clause-turn

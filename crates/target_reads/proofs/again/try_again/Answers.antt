@@ -6,13 +6,13 @@ use Rattle.target_parts.specs.Ending.{turn_wanting}
 use Rattle.target_parts.specs.Knowing.{memory_of}
 use Rattle.target_parts.specs.Parts.{Now, kept}
 use Rattle.target_parts.specs.Running.{for_some_on, runs_first, runs_on, still_runs}
-use Rattle.target_parts.specs.Stops.{Turn, stop_memory, stop_store}
-use Rattle.target_parts.specs.Turning.{reached_none}
-use Rattle.target_reads.specs.Again.{AreHere, AreParkable, never}
+use Rattle.target_parts.specs.Stops.{Turn, never, stop_memory, stop_store}
+use Rattle.target_reads.specs.Again.{AreHere, AreParkable}
 use Rattle.target_reads.proofs.Verdicts.{first-removed, partway-from, tried-all, tried-here, tried-stops, tried-whole}
 use Rattle.world_posts.specs.Forms.{PostsInForm}
 use Rattle.world_posts.specs.Posting.{then-posts, waits-on}
 use Rattle.target_reads.proofs.again.try_again.Goals as goal
+use Rattle.world_turns.specs.PathLaws.{reached-here}
 
 pub loop-plan-init : goal.loop-plan-init
 loop-plan-init g c = record {
@@ -26,7 +26,7 @@ loop-plan-init g c = record {
     durable = d;
     kept_is = at;
     holds = subst (λ xs. Reached (VerdictNext c.args.plan m reading a ask v) (Freed c.args.asks (memory_of c.args.knows.now) c.args.posts) (kept d (g.S.Store.state c.args.store.now)) (Freed xs (memory_of c.args.knows.now) c.args.posts) (kept d (g.S.Store.state c.args.store.now)))
-        (sym c.into_vec-rest.ensures) (reached_none _ _ _);
+        (sym c.into_vec-rest.ensures) (reached-here _ _ _);
   };
 }
 

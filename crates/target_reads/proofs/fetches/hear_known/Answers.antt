@@ -4,9 +4,10 @@ use Rattle.daos_model.specs.Changes.{leased}
 use Rattle.daos_model.specs.Durables.{is_enlisted}
 use Rattle.target_parts.specs.KeepingLaws.{enlisted-leased}
 use Rattle.target_parts.specs.Knowing.{LeadsWell, memory_of}
+use Rattle.target_parts.specs.KnowsLaws.{with_clock}
 use Rattle.target_parts.specs.Readying.{leads-covered, leases}
 use Rattle.target_parts.specs.Running.{for_some_on}
-use Rattle.target_reads.proofs.FetchTurns.{fetch-at_snapshot, fetch-cut, fetch-on, own-epoch, ticks-at_snapshot, ticks-heard, with_clock}
+use Rattle.target_reads.proofs.FetchTurns.{fetch-at_snapshot, fetch-cut, fetch-on, own-epoch, ticks-at_snapshot, ticks-heard}
 use Rattle.target_reads.proofs.fetches.hear_known.Goals as goal
 
 pub returns-then-request-clause-turn : goal.returns-then-request-clause-turn

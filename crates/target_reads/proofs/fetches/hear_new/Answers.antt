@@ -6,9 +6,10 @@ use Rattle.world_turns.specs.Requests as asked
 use Rattle.target_parts.specs.Covers.{heard_of}
 use Rattle.target_parts.specs.KeepingLaws.{enlisted-leased}
 use Rattle.target_parts.specs.Knowing.{LeadsWell, memory_of}
+use Rattle.target_parts.specs.KnowsLaws.{with_clock}
 use Rattle.target_parts.specs.Readying.{leads-covered, leases}
 use Rattle.target_parts.specs.Running.{for_some_on}
-use Rattle.target_reads.proofs.FetchTurns.{fetch-cut, fetch-on, fetch-spent, new-known, new-unfrozen, readied, ticks-heard, with_clock}
+use Rattle.target_reads.proofs.FetchTurns.{fetch-cut, fetch-on, fetch-spent, new-known, new-unfrozen, readied, ticks-heard}
 use Rattle.target_reads.proofs.fetches.hear_new.Goals as goal
 
 pub read_at-requires-clause-enlisted : goal.read_at-requires-clause-enlisted

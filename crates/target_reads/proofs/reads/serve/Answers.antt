@@ -15,13 +15,15 @@ use Rattle.target_parts.specs.KeepingLaws.{enlisted-settled}
 use Rattle.target_parts.specs.Knowing.{LeadsWell, memory_of}
 use Rattle.target_parts.specs.Parts.{Now, StillRuns, kept}
 use Rattle.target_parts.specs.Running.{for_some_on, runs_first, runs_on, still_runs}
-use Rattle.target_parts.specs.Turning.{part_asked, part_cut, reached_none}
+use Rattle.target_parts.specs.Turning.{part_asked, part_cut}
 use Rattle.dtx_table.specs.Tables.{entry_in}
+use Rattle.target_parts.specs.KnowsLaws.{decided-on}
 use Rattle.world_turns.specs.Roles.{other_leader_of}
 use Rattle.target_reads.specs.Meets.{Meets, beside_of}
-use Rattle.target_reads.proofs.Parking.{decided-on}
-use Rattle.target_reads.proofs.Serving.{fewer, other-known, serves_answer, serves_beside, serves_cut, serves_on, serves_refusal}
+use Rattle.target_reads.proofs.Serving.{other-known, serves_answer, serves_beside, serves_cut, serves_on, serves_refusal}
 use Rattle.target_reads.proofs.reads.serve.Goals as goal
+use Rattle.world_turns.specs.LoopLaws.{one-fewer}
+use Rattle.world_turns.specs.PathLaws.{reached-here}
 
 pub loop-answer-init : goal.loop-answer-init
 loop-answer-init g c = record {
@@ -30,7 +32,7 @@ loop-answer-init g c = record {
   leads = c.requires.leads;
   beside = record { hlc = refl; stamps = refl; member = refl };
   leader = refl;
-  reached = λ d at m reading. record { durable = d; kept_is = at; holds = reached_none _ _ _ };
+  reached = λ d at m reading. record { durable = d; kept_is = at; holds = reached-here _ _ _ };
 }
 
 pub returns-in_err-answer-clause-served : goal.returns-in_err-answer-clause-served
@@ -82,7 +84,7 @@ returns-in_err-settle_decided-in-Unsettled-clause-served g c d at m reading =
 pub loop-answer-smaller : goal.loop-answer-smaller
 loop-answer-smaller g c =
     let among : Contains c.loop-answer.knows.leader.decided c.in-Unsettled.other = subst (λ xs. Contains xs c.in-Unsettled.other) c.decided.ensures (c.is_one.ensures.0 c.if-not-is_one.false) in
-    subst (λ l. length l.decided < length c.loop-answer.knows.leader.decided) (sym c.in_ok-settle_decided-in-Unsettled.ensures.leader) (fewer c.in-Unsettled.other c.loop-answer.knows.leader.decided among)
+    subst (λ l. length l.decided < length c.loop-answer.knows.leader.decided) (sym c.in_ok-settle_decided-in-Unsettled.ensures.leader) (one-fewer c.in-Unsettled.other c.loop-answer.knows.leader.decided among)
 
 pub loop-answer-preserved : goal.loop-answer-preserved
 loop-answer-preserved g c =

@@ -1,7 +1,7 @@
 use Rattle.std.proofs.Common.{subst, sym}
 use Rattle.target_core.specs.Targets.{HasForm}
+use Rattle.target_parts.specs.Running.{for_some_on}
 use Rattle.target_rows.specs.Overtaken.{IsOthers, client}
-use Rattle.target_rows.proofs.Keeping.{for_some_on}
 use Rattle.target_rows.proofs.Overtaking.{fetch_in_form, fetch_turn}
 use Rattle.target_rows.proofs.overtaken.hear_fetch.Goals as goal
 

@@ -1,8 +1,8 @@
 use Rattle.std.proofs.Common.{subst, sym}
 use Rattle.std.specs.Option.{ForSome}
 use Rattle.target_core.specs.Targets.{CanHear}
+use Rattle.target_parts.specs.Running.{for_some_on}
 use Rattle.target_rows.specs.Overtaken.{IsNew, second}
-use Rattle.target_rows.proofs.Keeping.{for_some_on}
 use Rattle.target_rows.proofs.Overtaking.{can_mark, mark_turn}
 use Rattle.target_rows.proofs.overtaken.hear_mark.Goals as goal
 

@@ -1,8 +1,9 @@
 use Rattle.std.proofs.Common.{subst, sym}
 use Rattle.target_core.specs.Targets.{HasForm}
+use Rattle.target_parts.specs.Running.{for_some_on}
 use Rattle.target_rows.specs.Rows.{IsBlank, IsHere}
 use Rattle.target_rows.proofs.Asking.{fetch_in_form}
-use Rattle.target_rows.proofs.Keeping.{blank_leased, blank_settled, for_some_on, here_leased, here_settled, read_keeps}
+use Rattle.target_rows.proofs.Keeping.{blank_leased, blank_settled, here_leased, here_settled, read_keeps}
 use Rattle.target_rows.proofs.steps.read.Goals as goal
 
 pub hear-requires-clause-form : goal.hear-requires-clause-form

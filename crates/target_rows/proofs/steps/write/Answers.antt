@@ -1,15 +1,23 @@
 use Rattle.std.proofs.Common.{◌≡◌, false, None, subst, sym}
+use Rattle.std.specs.Option.{ForSome}
 use Rattle.daos_model.specs.Durables.{entry_of, same_attempt}
-use Rattle.target_core.specs.Targets.{HasForm}
+use Rattle.target_core.specs.Targets.{CanHear, HasForm}
+use Rattle.target_parts.specs.Running.{for_some_on}
 use Rattle.target_rows.specs.Rows.{IsHere, lone}
-use Rattle.target_rows.proofs.Asking.{commit_in_form}
-use Rattle.target_rows.proofs.Keeping.{absent_leased, absent_prepared, for_some_on, here_leased, here_prepared, write_keeps}
+use Rattle.target_rows.proofs.Asking.{can_commit, commit_in_form}
+use Rattle.target_rows.proofs.Keeping.{absent_leased, absent_prepared, here_leased, here_prepared, write_keeps}
 use Rattle.target_rows.proofs.steps.write.Goals as goal
 
 pub hear-requires-clause-form : goal.hear-requires-clause-form
 hear-requires-clause-form g c =
     subst (λ t. HasForm t c.client_of.result c.in_ok-message.message) (sym c.requires.plan)
     (subst (HasForm lone c.client_of.result) (sym c.in_ok-message.ensures) (commit_in_form c.client_of.result c.args.by c.args.ep c.args.key.now))
+
+pub hear-requires-clause-here : goal.hear-requires-clause-here
+hear-requires-clause-here g c =
+    subst (λ t. ForSome (g.S.Store.durable c.args.target.now.store) (CanHear t c.in_ok-message.message)) (sym c.requires.plan)
+    (subst (λ x. ForSome (g.S.Store.durable c.args.target.now.store) (CanHear lone x)) (sym c.in_ok-message.ensures)
+    (λ d at. can_commit c.args.by c.args.ep c.args.key.now d (c.requires.here d at) (c.requires.absent d at) (c.requires.unused d at)))
 
 pub returns-clause-here : goal.returns-clause-here
 returns-clause-here g c =

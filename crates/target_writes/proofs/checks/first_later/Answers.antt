@@ -1,15 +1,16 @@
 use Rattle.std.proofs.Common.{◌≡◌, ◌∙◌, ap, refl, rules, subst, sym, true}
+use Rattle.daos_laws.specs.Lists.{item-holds}
 use Rattle.daos_model.specs.FormLaws.{path-in_form}
 use Rattle.daos_model.specs.Forms.{is_path_in_form, is_write_in_form}
 use Rattle.world_turns.specs.Reads.{later_of}
 use Rattle.target_parts.specs.Halts.{halt_stop}
 use Rattle.target_parts.specs.Running.{runs_on, still_runs}
-use Rattle.target_writes.proofs.Writing.{item_holds, later_found, later_passes, laters_passed}
+use Rattle.target_writes.specs.Writing.{later_found, later_passes, laters_passed}
 use Rattle.target_writes.proofs.checks.first_later.Goals as goal
 
 pub later_write-requires-clause-form : goal.later_write-requires-clause-form
 later_write-requires-clause-form g c =
-    let form = item_holds (λ w. is_write_in_form w.write ≡ true) c.args.writes.now c.loop-write.write-index c.write-item.result c.requires.form c.loop-write-test.true c.write-item.is in
+    let form = item-holds (λ w. is_write_in_form w.write ≡ true) c.args.writes.now c.loop-write.write-index c.write-item.result c.requires.form c.loop-write-test.true c.write-item.is in
     subst (λ p. is_path_in_form p ≡ true) (sym c.path.ensures) (path-in_form c.write-item.result.write form)
 
 pub returns-then-is_some-clause-later : goal.returns-then-is_some-clause-later

@@ -1,6 +1,6 @@
 use Rattle.std.proofs.Common.{ap, ◌∙◌}
 use Rattle.vos_store.specs.Answers.{floor_of}
-use Rattle.target_writes.proofs.Writing.{floor_passes, floor_refuses, floors_passed}
+use Rattle.target_writes.specs.Writing.{floor_passes, floor_refuses, floors_passed}
 use Rattle.target_writes.proofs.checks.floor_cause.Goals as goal
 
 pub returns-then-epoch-at : goal.returns-then-epoch-at

@@ -1,7 +1,8 @@
 use Rattle.std.proofs.Common.{sym, subst, rules}
 use Rattle.daos_base.specs.Operations.{write_path}
+use Rattle.daos_laws.specs.Lists.{all-more, all-taken}
 use Rattle.vos_stamp.specs.Stamps.{IsShown, NoneAgainst}
-use Rattle.target_writes.proofs.Writing.{all_more, all_taken, read_found}
+use Rattle.target_writes.specs.Writing.{read_found}
 use Rattle.target_writes.proofs.checks.later_read.Goals as goal
 
 pub returns-in-Some : goal.returns-in-Some
@@ -13,8 +14,8 @@ returns-in-Some c =
 pub loop-write-preserved : goal.loop-write-preserved
 loop-write-preserved c =
     let none : NoneAgainst c.path.result.now c.args.epoch.0 c.args.stamps.now = c.in_default.ensures in
-    all_more (λ w. NoneAgainst (write_path w.write) c.args.epoch.0 c.args.stamps.now) c.args.writes.now c.loop-write.write-index c.write-item.result c.loop-write-test.true c.write-item.is c.loop-write.invariant
+    all-more (λ w. NoneAgainst (write_path w.write) c.args.epoch.0 c.args.stamps.now) c.args.writes.now c.loop-write.write-index c.write-item.result c.loop-write-test.true c.write-item.is c.loop-write.invariant
     (subst (λ p. NoneAgainst p c.args.epoch.0 c.args.stamps.now) c.path.ensures none)
 
 pub returns : goal.returns
-returns c = all_taken (λ w. NoneAgainst (write_path w.write) c.args.epoch.0 c.args.stamps.now) c.args.writes.now c.loop-write.write-index c.loop-write-test.false c.loop-write.invariant
+returns c = all-taken (λ w. NoneAgainst (write_path w.write) c.args.epoch.0 c.args.stamps.now) c.args.writes.now c.loop-write.write-index c.loop-write-test.false c.loop-write.invariant

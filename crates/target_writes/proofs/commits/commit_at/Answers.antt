@@ -12,6 +12,7 @@ use Rattle.target_parts.specs.KeepingLaws.{elsewhere-apart, open-new}
 use Rattle.target_parts.specs.Knowing.{IsApart, IsOpenHere, memory_of}
 use Rattle.target_parts.specs.KnowsLaws.{memory-same, own-beside}
 use Rattle.target_parts.specs.Parts.{kept}
+use Rattle.target_parts.specs.Posting.{later-posts}
 use Rattle.target_parts.specs.Running.{for_some_on, told-before}
 use Rattle.target_parts.specs.Stops.{commit_issued, stop_memory}
 use Rattle.target_parts.specs.Turning.{now_partway}
@@ -19,9 +20,9 @@ use Rattle.target_writes.specs.Checks.{CanStore}
 use Rattle.target_writes.specs.Turns.{begun_of}
 use Rattle.target_writes.proofs.Beginning.{writes-own}
 use Rattle.target_writes.proofs.CommitTurns.{commit-goes, commit-halted, commit-told, prepares-as}
-use Rattle.target_writes.proofs.Owning.{led-preparable, own-enlisted}
+use Rattle.target_writes.proofs.Owning.{led-preparable}
 use Rattle.world_posts.specs.Forms.{is_told}
-use Rattle.target_writes.proofs.Posting.{client-posts, later-posts}
+use Rattle.target_writes.proofs.Posting.{client-posts}
 use Rattle.target_writes.proofs.commits.commit_at.Goals as goal
 
 pub returns-in_err-entry-clause-turn : goal.returns-in_err-entry-clause-turn
@@ -51,11 +52,9 @@ prepare-requires-clause-form g c =
 
 pub prepare-requires-clause-can : goal.prepare-requires-clause-can
 prepare-requires-clause-can g c x at =
-    let can = c.requires.can x at in
     let writes = c.as_slice-2.ensures ∙ c.in_ok-own.ensures ∙ ap (writes_at c.args.plan.targets c.args.plan.me) c.as_slice.ensures ∙ writes-own c.args.plan c.args.request.now.writes in
     subst (λ e. CanStore e c.as_slice-2.result.now x) (sym c.in_ok-entry.ensures)
-    (subst (λ ws. CanStore (led_entry c.args.plan c.args.request.now c.args.epoch) ws x) (sym writes)
-    (record { absent = can.absent; enlisted = own-enlisted c.args.plan c.args.request.now.writes x can.enlisted; unused = can.unused; leased = can.leased }))
+    (subst (λ ws. CanStore (led_entry c.args.plan c.args.request.now c.args.epoch) ws x) (sym writes) (c.requires.can x at))
 
 pub begin-requires-clause-own : goal.begin-requires-clause-own
 begin-requires-clause-own g c = own-beside c.args.plan c.args.knows.now c.prepare.new.knows c.in-Ok-None.ensures.beside c.requires.own

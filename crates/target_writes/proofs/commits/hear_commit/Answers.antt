@@ -1,29 +1,32 @@
 use Rattle.std.proofs.Common.{◌≡◌, ◌∙◌, ◌/◌, ◌<◌, None, Some, ap, arith, refl, sym}
 use Rattle.daos_model.specs.Changes.{leased}
-use Rattle.world_turns.specs.Commits.{led_entry}
+use Rattle.world_turns.specs.Commits.{led_entry, own_writes}
 use Rattle.world_turns.specs.Requests as asked
 use Rattle.target_parts.specs.Covers.{heard_of}
 use Rattle.target_parts.specs.EpochLaws.{epoch-known}
 use Rattle.target_parts.specs.Knowing.{LeadsWell, memory_of}
+use Rattle.target_parts.specs.KnowsLaws.{with_clock}
 use Rattle.target_parts.specs.Readying.{leads-covered, leases}
 use Rattle.target_parts.specs.Running.{for_some_on}
 use Rattle.target_writes.specs.Checks.{CanStore}
-use Rattle.target_writes.proofs.CommitTurns.{can-leased, commit-cut, commit-on, commit-spent, readied, request-unused, with_clock}
+use Rattle.target_writes.proofs.CommitTurns.{can-leased, commit-cut, commit-on, commit-spent, readied, request-new}
+use Rattle.target_writes.proofs.Owning.{own-enlisted}
 use Rattle.target_writes.proofs.commits.hear_commit.Goals as goal
 
 pub commit_at-requires-clause-can : goal.commit_at-requires-clause-can
 commit_at-requires-clause-can g c =
     let ready = c.in-Ok-Some.ensures.ready in
     let led = led_entry c.args.plan c.args.request.now c.in-Ok-Some.epoch in
-    for_some_on (g.S.Store.durable c.args.store.now) _ (CanStore led c.args.request.now.writes) c.in-Ok-Some.ensures.runs.told (λ d at.
+    let own = own_writes c.args.plan c.args.request.now.writes in
+    for_some_on (g.S.Store.durable c.args.store.now) _ (CanStore led own) c.in-Ok-Some.ensures.runs.told (λ d at.
     let said = readied c.args.knows.now.hlc ready.0 c.args.request.now.tracker c.args.request.now.ep d _ _ _ (g.S.Store.may c.ready.new.store) _ c.in-Ok-Some.field-0-is (ready.2 d at) in
     let lease = leases (c.in-Ok-Some.epoch.0 / 256) d (g.S.Store.state c.args.store.now) _ (g.S.Store.state c.ready.new.store) said.1 in
     let here = c.requires.here d at in
     let small : c.args.knows.now.hlc.target < 256 = (let own = c.requires.own.clock in let me = c.requires.placed.me in let few = c.requires.few in omega (arith, own, me, few)) in (
       leased lease.lease d,
       lease.kept_is,
-      can-leased led c.args.request.now.writes lease.lease d here.absent here.enlisted
-          (request-unused c.args.knows.now.hlc ready.0 c.args.request.now.tracker c.in-Ok-Some.epoch c.args.request.now.ep d small (c.requires.leads d at).heard here.unused said.0) lease.covers,
+      can-leased led own lease.lease d here.absent (own-enlisted c.args.plan c.args.request.now.writes d here.enlisted)
+          (request-new c.args.knows.now.hlc ready.0 c.args.request.now.tracker c.in-Ok-Some.epoch c.args.request.now.ep own d small (c.requires.leads d at).heard here.new said.0) lease.covers,
     ))
 
 pub commit_at-requires-clause-leads : goal.commit_at-requires-clause-leads

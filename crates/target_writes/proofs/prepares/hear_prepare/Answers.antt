@@ -1,10 +1,11 @@
 use Rattle.std.proofs.Common.{◌/◌, ap, refl, sym}
 use Rattle.daos_model.specs.Changes.{leased}
 use Rattle.target_parts.specs.Knowing.{LeadsWell, memory_of}
+use Rattle.target_parts.specs.KnowsLaws.{with_clock}
 use Rattle.target_parts.specs.Readying.{leads-covered, leases}
 use Rattle.target_parts.specs.Running.{for_some_on}
 use Rattle.target_writes.specs.Checks.{CanStore}
-use Rattle.target_writes.proofs.CommitTurns.{can-leased, with_clock}
+use Rattle.target_writes.proofs.CommitTurns.{can-leased}
 use Rattle.target_writes.proofs.PrepareTurns.{prepare-cut, prepare-on}
 use Rattle.target_writes.proofs.prepares.hear_prepare.Goals as goal
 
@@ -13,7 +14,7 @@ prepare_at-requires-clause-can g c =
     for_some_on (g.S.Store.durable c.args.store.now) _ (CanStore c.args.request.now.entry c.args.request.now.writes) c.in-Ok.ensures.runs.told (λ d at.
     let lease = leases (c.args.request.now.entry.epoch.0 / 256) d (g.S.Store.state c.args.store.now) _ (g.S.Store.state c.hear.new.store) (c.in-Ok.ensures.covered d at) in
     let here = c.requires.here d at in
-    (leased lease.lease d, lease.kept_is, can-leased c.args.request.now.entry c.args.request.now.writes lease.lease d here.absent here.enlisted here.unused lease.covers))
+    (leased lease.lease d, lease.kept_is, can-leased c.args.request.now.entry c.args.request.now.writes lease.lease d here.absent here.enlisted here.new lease.covers))
 
 pub prepare_at-requires-clause-leads : goal.prepare_at-requires-clause-leads
 prepare_at-requires-clause-leads g c =

@@ -1,8 +1,8 @@
 use Rattle.std.proofs.Common.{subst, sym}
-use Rattle.replay_base.proofs.Starts.{all_so, none_so}
+use Rattle.replay_base.proofs.Starts.{none_so}
 use Rattle.world_list.specs.Fitting.{AreInPlace}
-use Rattle.world_list.specs.RunLists.{last_world, rules_of}
-use Rattle.world_check.proofs.Lists.{at_end, event_not, event_on, places_on}
+use Rattle.world_list.specs.RunLists.{rules_of}
+use Rattle.world_check.proofs.Lists.{event_not, event_on, places_on}
 use Rattle.world_check.proofs.check.goes_on.Goals as goal
 
 pub loop-i-init : goal.loop-i-init

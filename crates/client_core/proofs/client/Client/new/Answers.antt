@@ -1,4 +1,4 @@
-use Rattle.std.proofs.Common.{◌≡◌, refl, sym, ◌∙◌, ap, slice_get, get_or, length, Some}
+use Rattle.std.proofs.Common.{◌≡◌, refl, sym, ◌∙◌, ap, get_or, length, Some}
 use Rattle.std.proofs.lemmas.Option.{slice_get_read}
 use Rattle.client_core.proofs.Plans.{first_place, plan_fits}
 use Rattle.client_core.proofs.client.Client.new.Goals as goal

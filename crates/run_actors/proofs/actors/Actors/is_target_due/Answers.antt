@@ -1,5 +1,5 @@
 use Rattle.std.proofs.Common.{◌∙◌, ap}
-use Rattle.run_actors.specs.ListLaws.{at-index}
+use Rattle.daos_laws.specs.Lists.{at-index}
 use Rattle.run_actors.specs.Shown.{target-due-shown, target-there}
 use Rattle.run_actors.proofs.Dues.{idle-due}
 use Rattle.run_picks.specs.Picks.{count_to}

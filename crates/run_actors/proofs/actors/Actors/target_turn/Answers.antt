@@ -1,7 +1,7 @@
 use Rattle.std.specs.Prelude.{Err, Ok, refl}
 use Rattle.std.proofs.Common.{◌≡◌, ◌∙◌, ap, rules, subst, sym}
+use Rattle.daos_laws.specs.Lists.{at-index}
 use Rattle.run_letters.specs.Letters.{IsPicked}
-use Rattle.run_actors.specs.ListLaws.{at-index}
 use Rattle.run_actors.specs.Shown.{target-there}
 use Rattle.run_actors.specs.StoreLaws.{run-stopped, run-whole}
 use Rattle.run_actors.proofs.Dues.{none-heard}

@@ -1,0 +1,2 @@
+-- Laws of the members of an attempt.
+pub mod Membership

@@ -1,7 +1,0 @@
-use Rattle.std.specs.Prelude.{◌≡◌, ◌-◌, ◌++◌}
-use Rattle.std.specs.List.{range_with_len}
-use Rattle.daos_base.specs.Placement.{groups_members}
-use Rattle.target_writes.proofs.members.push_object.Given as goal
-
-abbrev pub invariant-loop-group : goal.invariant-loop-group
-invariant-loop-group l = l.all.items ++ groups_members l.obj (range_with_len l.group (l.count - l.group)) l.targets ≡ l.fn.all.items ++ groups_members l.obj (range_with_len 0 l.count) l.targets

@@ -1,6 +1,0 @@
-use Rattle.std.specs.Prelude.{◌≡◌, ◌++◌, drop}
-use Rattle.daos_base.specs.Placement.{writes_members}
-use Rattle.target_writes.proofs.members.writes_members.Given as goal
-
-abbrev pub invariant-loop-write : goal.invariant-loop-write
-invariant-loop-write l = l.all.items ++ writes_members (drop l.write-index l.writes) l.targets ≡ writes_members l.writes l.targets
