@@ -1,9 +1,9 @@
 // Runs a script and makes the text that is told of its report.
 ghost use Rattle.std.specs.Prelude.{◌≡◌, ◌<◌, ◌≤◌, IfOk, IsOkUnless};
 ghost use Rattle.daos_app.specs.Answers.{IsReported, IsSummed};
-ghost use Rattle.daos_run.specs.Runnable.{IsRunnable};
+ghost use Rattle.daos_runnable.specs.Runnable.{IsRunnable};
 ghost use Rattle.daos_words.specs.Laws.{IsInForm};
-ghost use Rattle.world_forms.specs.Keyed.{ScriptHasKeys};
+ghost use Rattle.daos_runnable.specs.Keyed.{ScriptHasKeys};
 
 use daos_base::items::Memory;
 use daos_base::job::Job;

@@ -14,7 +14,7 @@ use Rattle.daos_base.specs.declared.script.Command.{Command}
 use Rattle.daos_draw.specs.Draws.{drawn_after}
 use Rattle.daos_gen.specs.Commands.{act_of, akey_path, command_drawn, command_of, goes_to, lone, numbered, obj_path, op_of, picked_path, transfer}
 use Rattle.daos_gen.specs.Scripts.{clients_of, conts_of_load, objs_of_load, script_of}
-use Rattle.world_forms.specs.Keyed.{CommandHasKeys, HasKeys, OpHasKeys, ScriptHasKeys}
+use Rattle.daos_runnable.specs.Keyed.{CommandHasKeys, HasKeys, OpHasKeys, ScriptHasKeys}
 
 -- ---- keys: a letter, and a number of one or two digits
 

@@ -4,7 +4,7 @@ use Rattle.std.specs.List.{range_with_len}
 use Rattle.daos_draw.specs.Draws.{drawn_after}
 use Rattle.daos_gen.specs.Commands.{act_of, command_drawn, command_of, goes_to, lone, transfer}
 use Rattle.daos_gen.specs.Scripts.{script_of}
-use Rattle.daos_run.specs.Runnable.{are_run, is_run, runs}
+use Rattle.daos_runnable.specs.Runnable.{are_run, is_run, runs}
 
 module _ (targets : ℕ) where
   drawn-is-run : (i x : ℕ) → is_run (command_drawn targets i x) ≡ true

@@ -1,8 +1,8 @@
 -- What holds of every generated script.
 use Rattle.std.specs.Prelude.{ℕ, ◌≡◌, true}
 use Rattle.daos_gen.specs.Scripts.{script_of}
-use Rattle.daos_run.specs.Runnable.{runs}
-use Rattle.world_forms.specs.Keyed.{ScriptHasKeys}
+use Rattle.daos_runnable.specs.Runnable.{runs}
+use Rattle.daos_runnable.specs.Keyed.{ScriptHasKeys}
 
 -- its names and its keys are keys
 abbrev pub GeneratedScriptsHaveKeys : Type 0

@@ -3,8 +3,8 @@ use Rattle.std.proofs.Common.{◌≡◌, ℕ, true, Result, Ok, Err, IfOk, sym, 
 use Rattle.daos_base.specs.declared.script.Script.{Script}
 use Rattle.daos_base.specs.Scripts.{IsInForm}
 use Rattle.daos_gen.specs.Scripts.{script_of}
-use Rattle.daos_run.specs.Runnable.{IsRunnable, runs}
-use Rattle.world_forms.specs.Keyed.{ScriptHasKeys}
+use Rattle.daos_runnable.specs.Runnable.{IsRunnable, runs}
+use Rattle.daos_runnable.specs.Keyed.{ScriptHasKeys}
 
 pub generated_has_keys : {E : Type 0} (targets count : ℕ) (made : Result Script E) → IfOk made (λ s. s ≡ script_of targets count) → ScriptHasKeys (script_of targets count) → IfOk made ScriptHasKeys
 generated_has_keys targets count (Ok s) is keys = subst ScriptHasKeys (sym is) keys

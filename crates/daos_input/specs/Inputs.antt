@@ -6,7 +6,7 @@ use Rattle.daos_base.specs.declared.fault.Why.TheVariants.{NotYet}
 use Rattle.daos_base.specs.declared.script.Script.{Script}
 use Rattle.daos_input.specs.declared.input.InputNo.{InputNo}
 use Rattle.daos_input.specs.declared.input.InputNo.TheVariants.{Fault, Refused, Memory}
-use Rattle.daos_run.specs.Runnable.{runs}
+use Rattle.daos_runnable.specs.Runnable.{runs}
 use Rattle.daos_script.specs.Grammar.{HasFault, IsScriptText}
 
 -- what is told of a script without a fault that the program doesn't run yet

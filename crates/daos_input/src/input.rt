@@ -2,14 +2,14 @@
 ghost use Rattle.std.specs.Prelude.{◌≡◌, ◌≤◌, true, IfOk, IfErr, IsErrOf, length};
 ghost use Rattle.daos_outside.specs.Causes.{Rose};
 ghost use Rattle.daos_input.specs.Inputs.{IsRead, IsScriptRefused, RefusesFor};
-ghost use Rattle.daos_run.specs.Runnable.{IsRunnable, runs};
+ghost use Rattle.daos_runnable.specs.Runnable.{IsRunnable, runs};
 ghost use Rattle.daos_script.specs.Grammar.{IsScriptText};
-ghost use Rattle.world_forms.specs.Keyed.{ScriptHasKeys};
+ghost use Rattle.daos_runnable.specs.Keyed.{ScriptHasKeys};
 
 use daos_base::fault::{ScriptFault, Why};
 use daos_base::script::Script;
 use daos_outside::source::{ReadNo, Source, read_most};
-use daos_run::runnable::runs;
+use daos_runnable::runnable::runs;
 use daos_script::fault::ScriptNo;
 use daos_script::laws::texts_are_short;
 use daos_script::script::read_script;

@@ -1,8 +1,8 @@
 // Generates the script of a load.
 ghost use Rattle.std.specs.Prelude.{◌≡◌, ◌<◌, ◌≤◌, IfOk};
 ghost use Rattle.daos_gen.specs.Scripts.{script_of};
-ghost use Rattle.daos_run.specs.Runnable.{IsRunnable};
-ghost use Rattle.world_forms.specs.Keyed.{ScriptHasKeys};
+ghost use Rattle.daos_runnable.specs.Runnable.{IsRunnable};
+ghost use Rattle.daos_runnable.specs.Keyed.{ScriptHasKeys};
 
 use daos_base::items::Memory;
 use daos_base::script::Script;

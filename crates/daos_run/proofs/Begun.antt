@@ -17,7 +17,7 @@ use Rattle.daos_model.specs.Changes.{enlisted}
 use Rattle.daos_model.specs.Durables.{empty_durable}
 use Rattle.daos_model.specs.Opening.{fresh_opening}
 use Rattle.daos_run.specs.Opens.{AreFirst, IsOpened, IsStarted, given}
-use Rattle.daos_run.specs.Runnable.{IsRunnable, are_run, is_run, runs}
+use Rattle.daos_runnable.specs.Runnable.{IsRunnable, are_run, is_run, runs}
 use Rattle.daos_model.specs.FormLaws.{length-map}
 use Rattle.run_order.specs.Ended.{nothing}
 use Rattle.run_actors.specs.CanGo.{CanGo}
@@ -29,11 +29,11 @@ use Rattle.world_base.specs.declared.target.Life.TheVariants.{Running}
 use Rattle.world_base.specs.declared.target.TargetState.{TargetState}
 use Rattle.world_base.specs.declared.world.World.{World}
 use Rattle.world_base.specs.ClientTurns.{plan_of}
-use Rattle.world_begins.specs.Begins.{AreEnlisted, IsBegun, IsSimple, OpensWith, StartsWith, declared_conts, first_client}
-use Rattle.world_begins.specs.Fresh.{fresh-opens}
+use Rattle.world_core.specs.Begins.{AreEnlisted, IsBegun, IsSimple, OpensWith, StartsWith, declared_conts, first_client}
+use Rattle.world_core.specs.Fresh.{fresh-opens}
 use Rattle.world_ends.specs.Ends.{rules_of}
 use Rattle.world_epochs.specs.Epochs.{is_unsnapped}
-use Rattle.world_events.specs.Events.{Begins, client_plan, commands_or_none, target_plan}
+use Rattle.world_base.specs.Events.{Begins, client_plan, commands_or_none, target_plan}
 use Rattle.world_posts.specs.Forms.{ClientsWait}
 
 -- ---- scripts

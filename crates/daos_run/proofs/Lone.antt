@@ -23,7 +23,7 @@ use Rattle.daos_room.specs.Rooms.{FindsRoom, HasRoom, OnlyTransactions, is_trans
 use Rattle.daos_run.proofs.Begun.{lists-run}
 use Rattle.daos_run.specs.Alone.{IsOfLoneClient}
 use Rattle.daos_run.specs.Opens.{IsLegal, given}
-use Rattle.daos_run.specs.Runnable.{IsRunnable, are_run, is_run, runs}
+use Rattle.daos_runnable.specs.Runnable.{IsRunnable, are_run, is_run, runs}
 
 transaction-if-run : (c : Command) → is_run c ≡ true → is_numbered c ≡ true → is_transaction c ≡ true
 transaction-if-run (Run ops skips snapshot) run number = run

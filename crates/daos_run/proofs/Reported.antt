@@ -15,7 +15,7 @@ use Rattle.daos_model.specs.Headline.{Headline}
 use Rattle.daos_model.specs.Opening.{undisturbed}
 use Rattle.daos_report.specs.Forms.{IsReportOf}
 use Rattle.daos_run.specs.Opens.{AreKept, HasConts, Reports, given, report_of}
-use Rattle.daos_run.specs.Runnable.{IsRunnable}
+use Rattle.daos_runnable.specs.Runnable.{IsRunnable}
 use Rattle.daos_run.specs.Slots.{IsAt}
 use Rattle.daos_run.proofs.Begun.{from-map, is-simple}
 use Rattle.run_order.specs.Ended.{HasRun}
@@ -24,10 +24,10 @@ use Rattle.target_core.specs.Targets.{TargetOf}
 use Rattle.vos_store.specs.Calls.{State}
 use Rattle.world_base.specs.declared.target.TargetState.{TargetState}
 use Rattle.world_base.specs.declared.world.World.{World}
-use Rattle.world_begins.specs.Begins.{IsBegun}
+use Rattle.world_core.specs.Begins.{IsBegun}
 use Rattle.world_ends.specs.Ends.{durable_of, durables_of, rules_of}
 use Rattle.world_ends.specs.FromBeginning.{ended-runs-are-settled, over, runs-from-the-beginning, runs-give-the-headline}
-use Rattle.world_forms.specs.Keyed.{CellHasKeys}
+use Rattle.daos_runnable.specs.Keyed.{CellHasKeys}
 use Rattle.world_forms.specs.RunForms.{runs-report-in-form}
 use Rattle.world_lone.specs.Issued.{targets-issue}
 use Rattle.world_lone.specs.LoneRuns.{AreIssuedThere}

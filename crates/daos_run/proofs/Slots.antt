@@ -7,7 +7,7 @@ use Rattle.daos_laws.specs.Lists.{length-replicate}
 use Rattle.daos_run.specs.Slots.{AreBack, HaveStores, IsAt}
 use Rattle.run_actors.specs.ListLaws.{length-set}
 use Rattle.target_core.specs.Targets.{TargetOf}
-use Rattle.world_events.specs.StepLaws.{set-here, set-there}
+use Rattle.world_base.specs.StepLaws.{set-here, set-there}
 
 -- so many places without anything; there is room for these
 pub record AreNone {T : Type 0} (slots : List (Option T)) (count room cap : ℕ) : Type 0 where

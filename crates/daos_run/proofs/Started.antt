@@ -23,7 +23,7 @@ use Rattle.target_parts.specs.Parts.{Runs, StillRuns}
 use Rattle.target_parts.specs.Running.{runs_as, runs_first, runs_on}
 use Rattle.vos_store.specs.Calls.{State}
 use Rattle.vos_store.specs.Refusals.{always_stop, says}
-use Rattle.world_events.specs.StepLaws.{set-here, set-there}
+use Rattle.world_base.specs.StepLaws.{set-here, set-there}
 
 module _ {S C : Type 0} (durable : S → Option Durable) (state : S → State) (s : Script) (j : Job) where
   -- ---- so many started

@@ -9,7 +9,7 @@ use Rattle.daos_base.specs.declared.script.Script.{Script}
 use Rattle.daos_model.specs.declared.durable.Durable.{Durable}
 use Rattle.daos_model.specs.Opening.{Opening}
 use Rattle.daos_run.specs.Opens.{AreFirst, HasConts, IsEmpty, IsStarted, Reports, given, report_of}
-use Rattle.daos_run.specs.Runnable.{IsRunnable}
+use Rattle.daos_runnable.specs.Runnable.{IsRunnable}
 use Rattle.daos_run.specs.Slots.{AllTell, AreBack, AreFree, AreTaken, HaveStores, IsAt, TellAlike}
 use Rattle.daos_run.specs.Starts.{AreStarted, StartsOver}
 use Rattle.daos_run.proofs.Begun.{can-go, first, from-map, incarnation, is-begun, is-shown, is-simple, state_now}
@@ -23,9 +23,9 @@ use Rattle.target_core.specs.Targets.{TargetOf}
 use Rattle.vos_store.specs.Calls.{State}
 use Rattle.world_base.specs.declared.target.TargetState.{TargetState}
 use Rattle.world_base.specs.declared.world.World.{World}
-use Rattle.world_begins.specs.Begins.{IsBegun, IsSimple}
+use Rattle.world_core.specs.Begins.{IsBegun, IsSimple}
 use Rattle.world_ends.specs.Ends.{rules_of}
-use Rattle.world_events.specs.Events.{Rules}
+use Rattle.world_base.specs.Events.{Rules}
 
 module _ {S C : Type 0} (durable : S → Option Durable) (state : S → State) (s : Script) (j : Job) (old : List (Option (S × C))) (cs : List ClientNow) (xs : List (TargetOf S C))
     (F : IsRunnable j.targets s) (some : 1 ≤ j.targets) (few : j.targets ≤ 64) (least : 1 ≤ j.attempts) (K : AreFirst s j.attempts (record { 0 = 255 }) cs) (E : HaveStores (λ u x. IsEmpty durable state j.targets x) j.targets old)

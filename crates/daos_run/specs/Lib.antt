@@ -1,5 +1,4 @@
 -- What a run says.
-pub mod Runnable
 pub mod Slots
 pub mod Opens
 pub mod Starts

@@ -29,9 +29,9 @@ use Rattle.run_picks.specs.Orders.{InOrder}
 use Rattle.world_base.specs.declared.target.TargetState.{TargetState}
 use Rattle.world_base.specs.declared.world.World.{World}
 use Rattle.daos_run.specs.Slots.{IsAt}
-use Rattle.world_begins.specs.Begins.{IsBegun, declared_conts}
+use Rattle.world_core.specs.Begins.{IsBegun, declared_conts}
 use Rattle.world_ends.specs.Ends.{durables_of, rules_of}
-use Rattle.world_forms.specs.Keyed.{ScriptHasKeys}
+use Rattle.daos_runnable.specs.Keyed.{ScriptHasKeys}
 use Rattle.world_lone.specs.LoneRuns.{AreIssuedThere}
 
 -- a run of a script over regions that stand for nothing, with so many blocks free on each

@@ -5,6 +5,5 @@ mod opening;
 pub mod parts;
 pub mod run;
 pub mod run_on;
-pub mod runnable;
 mod starting;
 pub mod stop;

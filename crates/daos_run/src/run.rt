@@ -6,10 +6,10 @@ ghost use Rattle.daos_lone.specs.Lone.{HasOneClient};
 ghost use Rattle.daos_room.specs.Rooms.{FindsRoom, HasRoom};
 ghost use Rattle.daos_run.specs.Alone.{IsOfLoneClient};
 ghost use Rattle.daos_run.specs.Opens.{FollowsOrder, IsLegal};
-ghost use Rattle.daos_run.specs.Runnable.{IsRunnable};
+ghost use Rattle.daos_runnable.specs.Runnable.{IsRunnable};
 ghost use Rattle.daos_run.specs.Slots.{HaveStores};
 ghost use Rattle.daos_run.specs.Starts.{IsNewStore};
-ghost use Rattle.world_forms.specs.Keyed.{ScriptHasKeys};
+ghost use Rattle.daos_runnable.specs.Keyed.{ScriptHasKeys};
 ghost use Rattle.world_lone.specs.LoneRuns.{AreIssuedThere};
 
 use crate::parts::Parts;

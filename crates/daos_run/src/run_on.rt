@@ -5,11 +5,11 @@ ghost use Rattle.daos_lone.specs.Lone.{HasOneClient};
 ghost use Rattle.daos_room.specs.Rooms.{FindsRoom, HasRoom};
 ghost use Rattle.daos_run.specs.Alone.{IsOfLoneClient};
 ghost use Rattle.daos_run.specs.Opens.{IsEmpty, IsLegal, IsOrdered, Stand, given};
-ghost use Rattle.daos_run.specs.Runnable.{IsRunnable};
+ghost use Rattle.daos_runnable.specs.Runnable.{IsRunnable};
 ghost use Rattle.daos_run.specs.Slots.{AllTell, AreFree, AreSet, EachStore, FromTo, HaveStores};
 ghost use Rattle.daos_run.specs.Stops.{MayStop, is_fault_of};
 ghost use Rattle.target_parts.specs.Parts.{Runs};
-ghost use Rattle.world_forms.specs.Keyed.{ScriptHasKeys};
+ghost use Rattle.daos_runnable.specs.Keyed.{ScriptHasKeys};
 ghost use Rattle.world_lone.specs.LoneRuns.{AreIssuedThere};
 
 use crate::opening::clients_of;

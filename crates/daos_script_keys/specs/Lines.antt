@@ -19,7 +19,7 @@ use Rattle.daos_script_words.specs.Lookups.{has_cont, has_obj}
 use Rattle.daos_script_words.specs.Words.{class_at, cont_at, new_cont_at, new_obj_at, new_snap_at, nothing_at, number_at, snap_at, target_at, uuid_at}
 use Rattle.daos_script_keys.specs.Reading.{OnRead, on-bind, on-then, on-unless}
 use Rattle.daos_script_keys.specs.Words.{ActHasKeys, First, OnTaken, act-by, new-cont-at, new-obj-at}
-use Rattle.world_forms.specs.Keyed.{OpHasKeys}
+use Rattle.daos_runnable.specs.Keyed.{OpHasKeys}
 
 -- the name that a line declares, and the keys of the operation that it says
 abbrev pub LineHasKeys : Line → Type 0

@@ -38,7 +38,7 @@ use Rattle.daos_script_words.specs.declared.decls.Decls.{Decls}
 use Rattle.daos_script_words.specs.Decls.{room, with_cont, with_obj, with_old, with_own, with_stop}
 use Rattle.daos_script_keys.specs.Lines.{LineHasKeys, line-at}
 use Rattle.daos_script_keys.specs.Reading.{OnRead, on-bind, on-then, on-unless}
-use Rattle.world_forms.specs.Keyed.{CommandHasKeys, OpHasKeys, ScriptHasKeys}
+use Rattle.daos_runnable.specs.Keyed.{CommandHasKeys, OpHasKeys, ScriptHasKeys}
 
 -- ---- what has keys
 

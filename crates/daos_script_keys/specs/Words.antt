@@ -19,7 +19,7 @@ use Rattle.daos_script_words.specs.Lookups.{cont_named, obj_named}
 use Rattle.daos_script_words.specs.Reads.{Taken}
 use Rattle.daos_script_words.specs.Words.{key_at, key_of, more_key_at, name_of, new_cont_at, new_obj_at, obj_at, value_at, word_at}
 use Rattle.daos_script_keys.specs.Reading.{OnRead, on-bind, on-then, on-unless}
-use Rattle.world_forms.specs.Keyed.{HasKeys, IsKeyOrNone}
+use Rattle.daos_runnable.specs.Keyed.{HasKeys, IsKeyOrNone}
 
 -- ---- keys and names
 

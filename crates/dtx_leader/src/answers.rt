@@ -13,7 +13,7 @@ use daos_messages::message::Posts;
 use daos_model::durable::is_same_attempt;
 use dtx_base::leading::Undecided;
 use dtx_marks::marks::{names_to, unanswered};
-use dtx_posts::bits::{are_all_counted, is_other_member, other_members, with_target};
+use dtx_posts::bits::{are_all_counted, is_other_number, other_members, with_target};
 use dtx_posts::led::find_led;
 use dtx_posts::posts::{ended, none, push_aborts};
 use dtx_posts::seat::Seat;
@@ -101,9 +101,9 @@ impl Leader {
         Ok(posts)
     }
 
-    /// A member answers a Prepare: the Ack counts it, or the attempt is aborted. One of another
-    /// incarnation changes nothing; nor does one of an attempt that isn't undecided here, or of a
-    /// target that is no other member of it.
+    /// The actor of this number answers a Prepare: the Ack counts it as a member, or the attempt is
+    /// aborted. One of another incarnation changes nothing; nor does one of an attempt that isn't
+    /// undecided here, or of a number that isn't that of another member of it.
     ///
     /// # Errors
     ///
@@ -113,7 +113,7 @@ impl Leader {
         &mut self,
         seat: Seat,
         entries: &[Entry],
-        from: TargetId,
+        from: u16,
         attempt: AttemptId,
         inc: u64,
         refusal: &Option<Outcome>,
@@ -130,26 +130,24 @@ impl Leader {
         let Some(undecided) = find(&self.undecided, attempt) else {
             return Ok(none(self.alloc));
         };
-        if !is_other_member(&entry, from) {
+        if !is_other_number(&entry, from) {
             return Ok(none(self.alloc));
         }
         match refusal {
-            None => self.hear_ok(seat, entries, from, attempt, &entry, &undecided),
+            None => {
+                let member = from as TargetId;
+                self.hear_ok(seat, entries, member, attempt, &entry, &undecided)
+            }
             Some(outcome) => self.hear_refusal(seat, entries, attempt, outcome, &entry, &undecided),
         }
     }
 
-    /// A member answers a Mark, which is then no more without an answer.
+    /// The actor of this number answers a Mark, which is then no more without an answer.
     ///
     /// # Errors
     ///
     /// For want of memory; the leader is then as it was.
-    pub fn hear_marked(
-        &mut self,
-        from: TargetId,
-        inc: u64,
-        attempts: &[AttemptId],
-    ) -> Result<(), Memory>
+    pub fn hear_marked(&mut self, from: u16, inc: u64, attempts: &[AttemptId]) -> Result<(), Memory>
         ensures ok { OnOk result (self.new ≡ record self.old { named = answered from inc attempts.now self.old.named }) }
         ensures err { OnErr result (self.new ≡ self.old) }
     {

@@ -119,7 +119,7 @@ impl Leader {
         let _seat = seat;
         let _kept = entries;
         let attempts = attempts_of(self.alloc, marks.as_slice())?;
-        let mut named = unanswered(self.alloc, &self.named, target, inc, &attempts)?;
+        let mut named = unanswered(self.alloc, &self.named, u16::from(target), inc, &attempts)?;
         if down {
             self.named = named;
             return Ok(none(self.alloc));

@@ -15,17 +15,18 @@ use std::alloc::Global;
 // Whether a Mark of this incarnation to this member, which names these attempts, isn't the one that
 // names an attempt.
 #[tactic(auto, unfolding(dtx_base::specs::Leading::is_named_in))]
-fn is_not_named_in(naming: &Naming, member: TargetId, inc: u64, attempts: &[AttemptId]) -> bool
+fn is_not_named_in(naming: &Naming, member: u16, inc: u64, attempts: &[AttemptId]) -> bool
     ensures { result ≡ is_not_named_in member inc attempts.now naming.now }
 {
-    !(naming.member == member && naming.inc == inc && is_among(attempts, naming.attempt))
+    !(u16::from(naming.member) == member && naming.inc == inc && is_among(attempts, naming.attempt))
 }
 
-/// What is still named once the Mark that named these attempts to a member got its answer.
+/// What is still named once the Mark that named these attempts to a member got its answer. The member
+/// is told by its number, which may be one that no target bears: then all is.
 pub fn unanswered(
     alloc: Global,
     named: &[Naming],
-    member: TargetId,
+    member: u16,
     inc: u64,
     attempts: &[AttemptId],
 ) -> Result<Vec<Naming>, Memory>

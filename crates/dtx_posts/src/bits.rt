@@ -16,6 +16,14 @@ pub fn has_target(set: u64, target: TargetId) -> bool
     target < 64 && (set >> target) & 1 == 1
 }
 
+/// Whether the bit of this number is set, which may be one that no target bears.
+pub fn has_number(set: u64, number: u16) -> bool
+    ensures has { result ≡ has_target set number }
+    ensures within { IsTrue result → number < 64 }
+{
+    number < 64 && has_target(set, number as u8)
+}
+
 /// These targets and one more.
 pub fn with_target(set: u64, target: TargetId) -> u64
     requires { target < 64 }
@@ -31,6 +39,15 @@ pub fn is_other_member(entry: &Entry, target: TargetId) -> bool
     ensures within { IsTrue result → target < 64 }
 {
     has_target(entry.members, target) && target != entry.leader
+}
+
+/// Whether this number, which may be one that no target bears, is that of a member that isn't the leader.
+#[tactic(auto, unfolding(dtx_base::specs::Members::is_other_member))]
+pub fn is_other_number(entry: &Entry, number: u16) -> bool
+    ensures is { result ≡ is_other_member entry.now number }
+    ensures within { IsTrue result → number < 64 }
+{
+    has_number(entry.members, number) && number != u16::from(entry.leader)
 }
 
 /// The members but the leader, in the order of their numbers.

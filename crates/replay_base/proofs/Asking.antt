@@ -5,9 +5,9 @@ use Rattle.daos_base.specs.declared.epoch.Epoch.{Epoch}
 use Rattle.daos_base.specs.declared.id.AttemptId.{AttemptId}
 use Rattle.world_base.specs.declared.did.Did.{Did}
 use Rattle.world_base.specs.declared.target.TargetMemory.{TargetMemory}
-use Rattle.world_turns.specs.Changes.{Change, Kept, Steps}
-use Rattle.world_turns.specs.Requests.{issued_for}
-use Rattle.world_turns.specs.Turns.{Here, More, Path, Whole}
+use Rattle.world_base.specs.Changes.{Change, Kept, Steps}
+use Rattle.world_base.specs.Requests.{issued_for}
+use Rattle.world_base.specs.Turns.{Here, More, Path, Whole}
 use Rattle.replay_base.specs.Onward.{Onward}
 use Rattle.replay_base.specs.Requested.{AsksAt, IsToldEpoch, SpentSo}
 use Rattle.replay_base.proofs.Starts.{AtOnce, First, Later, at_once, first, silent_first, whole_onward}

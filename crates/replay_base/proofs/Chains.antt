@@ -4,8 +4,8 @@ use Rattle.std.specs.Bool.{Decides}
 use Rattle.daos_model.specs.declared.durable.Durable.{Durable}
 use Rattle.world_base.specs.declared.did.Did.{Did}
 use Rattle.world_base.specs.declared.target.TargetMemory.{TargetMemory}
-use Rattle.world_turns.specs.Changes.{Change, Kept, Steps, cost, made}
-use Rattle.world_turns.specs.Turns.{Whole}
+use Rattle.world_base.specs.Changes.{Change, Kept, Steps, cost, made}
+use Rattle.world_base.specs.Turns.{Whole}
 use Rattle.replay_base.specs.declared.told.Left.{Left}
 use Rattle.replay_base.specs.Leaving.{Comes, IsLeftIf}
 use Rattle.replay_base.specs.Onward.{FreeAfter, Iff, Onward, keeps}

@@ -3,8 +3,8 @@ use Rattle.std.proofs.Common.{ℕ, ◌≡◌, ◌≤◌, ◌<◌, ◌+◌, refl,
 use Rattle.daos_base.specs.Epochs.{lease_for}
 use Rattle.daos_model.specs.declared.durable.Durable.{Durable}
 use Rattle.daos_model.specs.Changes.{leased}
-use Rattle.world_turns.specs.Changes.{Change, Extends, Kept, Steps}
-use Rattle.world_turns.specs.Turns.{Whole}
+use Rattle.world_base.specs.Changes.{Change, Extends, Kept, Steps}
+use Rattle.world_base.specs.Turns.{Whole}
 use Rattle.replay_base.specs.declared.leases.Covered.{Covered}
 use Rattle.replay_base.specs.Leases.{Already, Extended, IsCovered, Never}
 use Rattle.replay_base.specs.Onward.{Iff, Onward, keeps}

@@ -10,10 +10,10 @@ use Rattle.daos_base.specs.Epochs.{epoch_at, issued_ticks, last_ticks}
 use Rattle.daos_hlc.specs.Clock.{next_ticks, within_last}
 use Rattle.world_base.specs.declared.target.TargetMemory.{TargetMemory}
 use Rattle.world_base.specs.declared.target.TargetPlan.{TargetPlan}
-use Rattle.world_turns.specs.Requests.{epoch_of_ticks, request_epoch}
+use Rattle.world_base.specs.Requests.{epoch_of_ticks, request_epoch}
 use Rattle.replay_base.specs.Issuing.{CanIssue, least_ticks}
 use Rattle.replay_base.specs.Requested.{AsksAt, TellsEpoch}
-use Rattle.world_events.specs.Events.{epoch_of_issue}
+use Rattle.world_base.specs.Events.{epoch_of_issue}
 
 -- ---- ticks within the last ones
 

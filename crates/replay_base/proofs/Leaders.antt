@@ -13,8 +13,8 @@ use Rattle.dtx_base.specs.LeaderLaws.{same-is}
 use Rattle.daos_model.specs.Changes.{leased, settled}
 use Rattle.daos_model.specs.Durables.{same_attempt}
 use Rattle.world_base.specs.declared.target.TargetPlan.{TargetPlan}
-use Rattle.world_turns.specs.EntryLaws.{leader-aborted, leader-aborted_other, leader-committed, leader-leased}
-use Rattle.world_turns.specs.Roles.{other_leader}
+use Rattle.world_base.specs.EntryLaws.{leader-aborted, leader-aborted_other, leader-committed, leader-leased}
+use Rattle.world_base.specs.Roles.{other_leader}
 use Rattle.replay_base.specs.Heard.{AreLedHere, is_led_here}
 
 -- ---- all of a list

@@ -3,9 +3,9 @@ use Rattle.std.proofs.Common.{Ok, Err, Result, ℕ, ◌≡◌, ◌≤◌, ◌+�
 use Rattle.std.specs.Prelude.{IfOk}
 use Rattle.std.specs.Bool.{Decides}
 use Rattle.daos_model.specs.declared.durable.Durable.{Durable}
-use Rattle.world_turns.specs.Changes.{Change, Kept, Steps, cost, made}
-use Rattle.world_turns.specs.PathLaws.{reached-here, reached-more, whole-on}
-use Rattle.world_turns.specs.Turns.{Here, More, Path, Reached, Whole}
+use Rattle.world_base.specs.Changes.{Change, Kept, Steps, cost, made}
+use Rattle.world_base.specs.PathLaws.{reached-here, reached-more, whole-on}
+use Rattle.world_base.specs.Turns.{Here, More, Path, Reached, Whole}
 use Rattle.replay_base.specs.Leases.{IsCovered}
 use Rattle.replay_base.specs.declared.leases.Covered.{Covered}
 use Rattle.replay_base.specs.Onward.{FreeAfter, Iff, Onward, keeps}

@@ -1,11 +1,10 @@
 -- What a target can hear, as a turn in which it hears it is made again.
-use Rattle.std.specs.Prelude.{◌≡◌, ◌≤◌, ◌<◌, Bool, true, false, is_none, is_some, IfSome, All, List}
+use Rattle.std.specs.Prelude.{◌≡◌, ◌≤◌, Bool, true, false, is_none, is_some, IfSome, All, List}
 use Rattle.std.specs.List.{list_all}
 use Rattle.daos_base.specs.declared.id.AttemptId.{AttemptId}
 use Rattle.daos_base.specs.declared.operation.MinorWrite.{MinorWrite}
 use Rattle.daos_base.specs.Operations.{write_path}
 use Rattle.daos_base.specs.Placement.{ClassFits}
-use Rattle.daos_messages.specs.declared.actor.ActorId.{ActorId}
 use Rattle.daos_messages.specs.declared.message.Message.{Message}
 use Rattle.daos_messages.specs.declared.message.Message.TheVariants.{Ack, Commit, Fetch, Mark, Marked, Prepare, Query, Verdict}
 use Rattle.daos_model.specs.declared.durable.Durable.{Durable}
@@ -14,7 +13,7 @@ use Rattle.daos_model.specs.Forms.{AreWritesInForm}
 use Rattle.dtx_base.specs.declared.member.Parked.{Parked}
 use Rattle.world_base.specs.declared.target.TargetMemory.{TargetMemory}
 use Rattle.world_base.specs.declared.target.TargetPlan.{TargetPlan}
-use Rattle.world_turns.specs.Roles.{other_leader}
+use Rattle.world_base.specs.Roles.{other_leader}
 
 -- no other target leads an attempt
 unfoldable pub is_led_here : TargetPlan → Durable → AttemptId → Bool
@@ -50,13 +49,13 @@ pub record CanTryAgain (t : TargetPlan) (d : Durable) (m : TargetMemory) : Type 
 
 -- A message that a target can hear, with what it keeps and knows. Where a run has come from its beginning, each that goes to a target
 -- is one.
-abbrev pub CanHear : TargetPlan → Durable → TargetMemory → ActorId → Message → Type 0
-CanHear t d m from (Fetch x op group ep first tracker r snapshot) = CanRead t d m.leader.decided
-CanHear t d m from (Commit x ep first tracker ws) = CanCommit t ws
-CanHear t d m from (Prepare e first ws inc) = AreWritesInForm ws
-CanHear t d m from (Ack x inc refusal) = from.number < t.targets
-CanHear t d m from (Mark inc marks) = Unit {0}
-CanHear t d m from (Marked inc ids) = from.number < t.targets
-CanHear t d m from (Query x ask) = Unit {0}
-CanHear t d m from (Verdict x ask inc v) = CanTryAgain t d m
-CanHear t d m from q = ⊥
+abbrev pub CanHear : TargetPlan → Durable → TargetMemory → Message → Type 0
+CanHear t d m (Fetch x op group ep first tracker r snapshot) = CanRead t d m.leader.decided
+CanHear t d m (Commit x ep first tracker ws) = CanCommit t ws
+CanHear t d m (Prepare e first ws inc) = AreWritesInForm ws
+CanHear t d m (Ack x inc refusal) = Unit {0}
+CanHear t d m (Mark inc marks) = Unit {0}
+CanHear t d m (Marked inc ids) = Unit {0}
+CanHear t d m (Query x ask) = Unit {0}
+CanHear t d m (Verdict x ask inc v) = CanTryAgain t d m
+CanHear t d m q = ⊥

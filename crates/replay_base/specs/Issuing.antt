@@ -3,7 +3,7 @@ use Rattle.std.specs.Prelude.{ℕ, ◌≡◌, ◌+◌, ◌/◌, max, Option, Som
 use Rattle.std.specs.Option.{option_map}
 use Rattle.daos_base.specs.declared.epoch.Epoch.{Epoch}
 use Rattle.daos_hlc.specs.Clock.{next_ticks, within_last}
-use Rattle.world_turns.specs.Requests.{epoch_of_ticks}
+use Rattle.world_base.specs.Requests.{epoch_of_ticks}
 
 -- some reading of the clock of this target, with these ticks and after this tracker, leads to this epoch
 abbrev pub CanIssue : ℕ → ℕ → Epoch → Epoch → Type 0

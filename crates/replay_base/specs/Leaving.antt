@@ -7,8 +7,8 @@ use Rattle.world_base.specs.declared.did.Did.{Did}
 use Rattle.world_base.specs.declared.target.TargetMemory.{TargetMemory}
 use Rattle.world_base.specs.declared.target.TargetPlan.{TargetPlan}
 use Rattle.world_base.specs.declared.target.TargetState.{TargetState}
-use Rattle.world_turns.specs.Changes.{Change, Kept}
-use Rattle.world_turns.specs.TargetTurns.{Hears, IdlesWhole}
+use Rattle.world_base.specs.Changes.{Change, Kept}
+use Rattle.world_base.specs.TargetTurns.{Hears, IdlesWhole}
 use Rattle.replay_base.specs.Onward.{FreeAfter, Iff, Onward, keeps}
 use Rattle.replay_base.specs.declared.told.Left.{Left}
 

@@ -1,8 +1,8 @@
 -- A target's turn from some stage on, where its free blocks so far aren't told.
 use Rattle.std.specs.Prelude.{ℕ, ◌≡◌, ◌≤◌, Bool, true, false, Option}
 use Rattle.daos_model.specs.declared.durable.Durable.{Durable}
-use Rattle.world_turns.specs.Changes.{Change, Kept}
-use Rattle.world_turns.specs.Turns.{Whole}
+use Rattle.world_base.specs.Changes.{Change, Kept}
+use Rattle.world_base.specs.Turns.{Whole}
 
 -- each of two facts follows from the other one
 abbrev pub Iff : Type 0 → Type 0 → Type 0

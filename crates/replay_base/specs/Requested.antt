@@ -4,7 +4,7 @@ use Rattle.daos_base.specs.declared.epoch.Epoch.{Epoch}
 use Rattle.daos_base.specs.declared.id.AttemptId.{AttemptId}
 use Rattle.world_base.specs.declared.did.Did.{Did}
 use Rattle.world_base.specs.declared.target.TargetMemory.{TargetMemory}
-use Rattle.world_turns.specs.Changes.{Kept}
+use Rattle.world_base.specs.Changes.{Kept}
 
 -- it is the request's own; or the request has none, and this one was issued
 abbrev pub IsToldEpoch : Option Epoch → Option (AttemptId × Epoch) → Epoch → Type 0

@@ -1,9 +1,9 @@
 // Which epochs a target's clock can issue, whatever it reads.
 ghost use Rattle.std.specs.Prelude.{◌≡◌, ◌<◌, ◌≤◌, ◌⊎◌, ◌/◌, ◌%◌, ◌^◌, ℕ, None, Decides};
 ghost use Rattle.replay_base.specs.Issuing.{CanIssue, least_ticks};
-ghost use Rattle.world_events.specs.Events.{epoch_of_issue};
+ghost use Rattle.world_base.specs.Events.{epoch_of_issue};
 ghost use Rattle.replay_base.specs.Requested.{AsksAt, TellsEpoch};
-ghost use Rattle.world_turns.specs.Requests.{request_epoch};
+ghost use Rattle.world_base.specs.Requests.{request_epoch};
 
 use daos_base::epoch::{Epoch, TargetId};
 use daos_base::id::AttemptId;

@@ -5,7 +5,7 @@ ghost use Rattle.replay_base.specs.Onward.{keeps};
 ghost use Rattle.replay_base.specs.Requested.{SpentSo};
 ghost use Rattle.world_base.specs.declared.did.Did.{Did};
 ghost use Rattle.world_base.specs.declared.target.TargetMemory.{TargetMemory};
-ghost use Rattle.world_turns.specs.Requests as asked;
+ghost use Rattle.world_base.specs.Requests as asked;
 
 use crate::epochs::is_spent;
 use crate::free::is_free;

@@ -1,16 +1,15 @@
 // A leader hears an Ack.
-ghost use Rattle.std.specs.Prelude.{◌≡◌, ◌<◌, Some, None, IfOk, if◌then◌else◌};
+ghost use Rattle.std.specs.Prelude.{◌≡◌, Some, None, IfOk, if◌then◌else◌};
 ghost use Rattle.daos_base.specs.declared.entry.Settle.TheVariants.{Abort};
 ghost use Rattle.daos_messages.specs.declared.message.Message.TheVariants as message;
 ghost use Rattle.daos_model.specs.Changes.{settled};
 ghost use Rattle.dtx_base.specs.Leading.{ack_heard};
 ghost use Rattle.replay_base.specs.Leaving.{HearsAs};
 ghost use Rattle.replay_dtx.specs.Dtx.{leads};
-ghost use Rattle.world_turns.specs.Acks as ack;
-ghost use Rattle.world_turns.specs.Roles.{leader_at};
+ghost use Rattle.world_base.specs.Acks as ack;
+ghost use Rattle.world_base.specs.Roles.{leader_at};
 
-use crate::seats::{member_of, seat_at};
-use daos_base::epoch::TargetId;
+use crate::seats::seat_at;
 use daos_base::id::AttemptId;
 use daos_base::items::Memory;
 use daos_base::outcome::Outcome;
@@ -18,7 +17,7 @@ use daos_messages::actor::ActorId;
 use daos_messages::message::Posts;
 use daos_model::durable::Durable;
 use dtx_leader::leader::Leader;
-use dtx_posts::bits::is_other_member;
+use dtx_posts::bits::is_other_number;
 use dtx_posts::led::find_led;
 use dtx_table::rows::find;
 use replay_base::kept::{aborted, copy_kept};
@@ -28,11 +27,11 @@ use std::alloc::Global;
 use world_base::target::{TargetMemory, TargetPlan, TargetState};
 
 // Whether a target waits for the Ack of a member.
-#[tactic(auto, unfolding(world_turns::specs::Acks::is_awaited))]
+#[tactic(auto, unfolding(world_base::specs::Acks::is_awaited))]
 fn is_awaited(
     plan: TargetPlan,
     state: &TargetState,
-    member: TargetId,
+    member: u16,
     attempt: AttemptId,
     inc: u64,
 ) -> bool
@@ -45,7 +44,7 @@ fn is_awaited(
         return false;
     };
     match find(state.memory.leader.undecided.as_slice(), attempt) {
-        Some(_undecided) => is_other_member(&entry, member),
+        Some(_undecided) => is_other_number(&entry, member),
         None => false,
     }
 }
@@ -54,7 +53,7 @@ fn is_awaited(
 fn is_refusing(
     plan: TargetPlan,
     state: &TargetState,
-    member: TargetId,
+    member: u16,
     attempt: AttemptId,
     inc: u64,
     refusal: &Option<Outcome>,
@@ -68,7 +67,7 @@ fn is_refusing(
 fn heard(
     alloc: Global,
     plan: TargetPlan,
-    member: TargetId,
+    member: u16,
     attempt: AttemptId,
     inc: u64,
     refusal: &Option<Outcome>,
@@ -116,10 +115,9 @@ pub fn hears_ack(
     refusal: &Option<Outcome>,
     before: &TargetState,
 ) -> Result<Left, Memory>
-    requires { from.number < plan.targets }
     ensures { IfOk result (λ left. HearsAs plan from (message.Ack attempt inc refusal.now) before.now (Some left)) }
 {
-    let member = member_of(plan, from);
+    let member = from.number;
     let (memory, posts) = heard(alloc, plan, member, attempt, inc, refusal, before)?;
     let refused = is_refusing(plan, before, member, attempt, inc, refusal);
     Ok(Left {

@@ -3,8 +3,8 @@ ghost use Rattle.std.specs.Prelude.{◌≡◌, Some, None, ◌++◌, IfOk, OnOk}
 ghost use Rattle.replay_base.specs.Leaving.{IdlesAs};
 ghost use Rattle.replay_dtx.specs.Dtx.{all_settled, leads};
 ghost use Rattle.dtx_base.specs.Joining.{inquired};
-ghost use Rattle.world_turns.specs.Idle as idle;
-ghost use Rattle.world_turns.specs.Roles.{joins_on, member_at};
+ghost use Rattle.world_base.specs.Idle as idle;
+ghost use Rattle.world_base.specs.Roles.{joins_on, member_at};
 
 use crate::marks::start_of;
 use crate::seats::seat_at;

@@ -1,21 +1,20 @@
 // A member hears a Mark, and a leader a Marked.
-ghost use Rattle.std.specs.Prelude.{◌≡◌, ◌<◌, false, Some, IfOk};
+ghost use Rattle.std.specs.Prelude.{◌≡◌, false, Some, IfOk};
 ghost use Rattle.daos_messages.specs.declared.message.Message.TheVariants as message;
 ghost use Rattle.dtx_base.specs.Leading.{attempts_of};
 ghost use Rattle.replay_base.specs.Leaving.{HearsAs};
 ghost use Rattle.replay_dtx.specs.Dtx.{all_confirmed, all_marked, answered_memory, confirmed_one, marked_one};
-ghost use Rattle.world_turns.specs.Acks.{to_confirm};
+ghost use Rattle.world_base.specs.Acks.{to_confirm};
 
-use crate::seats::member_of;
 use daos_base::epoch::TargetId;
 use daos_base::id::AttemptId;
 use daos_base::items::{Items, Memory};
 use daos_messages::actor::ActorId;
 use daos_messages::message::{AttemptIds, Message};
 use dtx_leader::leader::Leader;
-use dtx_posts::bits::has_target;
+use dtx_posts::bits::has_number;
 use dtx_posts::led::find_led;
-use replay_base::entries::is_prepared;
+use replay_base::entries::is_in_doubt;
 use replay_base::kept::{aborted, committed, confirmed, copy_kept};
 use replay_base::leases::Covered;
 use replay_base::memories::copy_memory;
@@ -33,11 +32,11 @@ pub fn start_of(alloc: Global, state: &TargetState) -> Result<Covered, Memory>
     })
 }
 
-// An attempt that a Mark names is settled, where it is prepared here.
-fn marked_one(start: Covered, attempt: AttemptId, commits: bool) -> Covered
-    ensures { result ≡ marked_one (attempt, commits) start }
+// An attempt that a Mark names is settled, where it is in doubt here.
+fn marked_one(me: TargetId, start: Covered, attempt: AttemptId, commits: bool) -> Covered
+    ensures { result ≡ marked_one me (attempt, commits) start }
 {
-    if !is_prepared(&start.durable, attempt) {
+    if !is_in_doubt(me, &start.durable, attempt) {
         return start;
     }
     let durable = if commits {
@@ -52,12 +51,12 @@ fn marked_one(start: Covered, attempt: AttemptId, commits: bool) -> Covered
 }
 
 // All that it names are.
-fn all_marked(start: Covered, marks: &[(AttemptId, bool)]) -> Covered
-    ensures { result ≡ all_marked marks.now start }
+fn all_marked(me: TargetId, start: Covered, marks: &[(AttemptId, bool)]) -> Covered
+    ensures { result ≡ all_marked me marks.now start }
 {
     let mut start = start;
     for mark in marks {
-        start = marked_one(start, mark.0, mark.1);
+        start = marked_one(me, start, mark.0, mark.1);
     }
     start
 }
@@ -84,8 +83,8 @@ pub fn hears_mark(
 ) -> Result<Left, Memory>
     ensures { IfOk result (λ left. HearsAs plan from (message.Mark inc marks.now) before.now (Some left)) }
 {
-    let _plan = plan;
-    let Covered { durable, changed } = all_marked(start_of(alloc, before)?, marks);
+    let start = start_of(alloc, before)?;
+    let Covered { durable, changed } = all_marked(plan.me, start, marks);
     let answer = Message::Marked {
         inc,
         attempts: attempts_of(alloc, marks)?,
@@ -100,15 +99,15 @@ pub fn hears_mark(
 
 // An attempt's commit is confirmed by a member, where it is committed and led here, and that is one of its
 // members.
-fn confirmed_one(plan: TargetPlan, member: TargetId, start: Covered, attempt: AttemptId) -> Covered
+fn confirmed_one(plan: TargetPlan, member: u16, start: Covered, attempt: AttemptId) -> Covered
     ensures { result ≡ confirmed_one plan member attempt start }
 {
     let Some(entry) = find_led(start.durable.entries.as_slice(), plan.me, attempt) else {
         return start;
     };
-    if entry.committed && has_target(entry.members, member) {
+    if entry.committed && has_number(entry.members, member) {
         Covered {
-            durable: confirmed(start.durable, attempt, member),
+            durable: confirmed(start.durable, attempt, member as TargetId),
             changed: true,
         }
     } else {
@@ -117,12 +116,7 @@ fn confirmed_one(plan: TargetPlan, member: TargetId, start: Covered, attempt: At
 }
 
 // All of these are.
-fn all_confirmed(
-    plan: TargetPlan,
-    member: TargetId,
-    start: Covered,
-    attempts: &[AttemptId],
-) -> Covered
+fn all_confirmed(plan: TargetPlan, member: u16, start: Covered, attempts: &[AttemptId]) -> Covered
     ensures { result ≡ all_confirmed plan member attempts.now start }
 {
     let mut start = start;
@@ -135,7 +129,7 @@ fn all_confirmed(
 // What a leader knows once a Mark of it got its answer.
 fn answered_memory(
     alloc: Global,
-    member: TargetId,
+    member: u16,
     inc: u64,
     attempts: &[AttemptId],
     memory: &TargetMemory,
@@ -161,7 +155,7 @@ fn answered_memory(
 // What is kept once a member answered a Mark.
 fn all_confirmed_if(
     plan: TargetPlan,
-    member: TargetId,
+    member: u16,
     inc: u64,
     start: Covered,
     attempts: &[AttemptId],
@@ -184,10 +178,9 @@ pub fn hears_marked(
     attempts: &[AttemptId],
     before: &TargetState,
 ) -> Result<Left, Memory>
-    requires { from.number < plan.targets }
     ensures { IfOk result (λ left. HearsAs plan from (message.Marked inc attempts.now) before.now (Some left)) }
 {
-    let member = member_of(plan, from);
+    let member = from.number;
     let start = start_of(alloc, before)?;
     let Covered { durable, changed } = all_confirmed_if(plan, member, inc, start, attempts);
     Ok(Left {

@@ -2,7 +2,7 @@
 ghost use Rattle.std.specs.Prelude.{◌≡◌, Some, IfOk};
 ghost use Rattle.daos_messages.specs.declared.message.Message.TheVariants as message;
 ghost use Rattle.replay_base.specs.Leaving.{HearsAs};
-ghost use Rattle.world_turns.specs.Verdicts.{verdict_message};
+ghost use Rattle.world_base.specs.Verdicts.{verdict_message};
 
 use crate::marks::start_of;
 use crate::seats::seat_at;

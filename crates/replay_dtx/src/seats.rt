@@ -1,9 +1,7 @@
-// Where a target is as a leader, and which one tells it.
-ghost use Rattle.std.specs.Prelude.{◌≡◌, ◌<◌};
+// Where a target is as a leader.
+ghost use Rattle.std.specs.Prelude.{◌≡◌};
 ghost use Rattle.replay_dtx.specs.Dtx.{seat_at};
 
-use daos_base::epoch::TargetId;
-use daos_messages::actor::ActorId;
 use daos_model::durable::Durable;
 use dtx_posts::seat::Seat;
 use world_base::target::TargetPlan;
@@ -17,12 +15,4 @@ pub fn seat_at(plan: TargetPlan, durable: &Durable) -> Seat
         targets: plan.targets,
         incarnation: durable.incarnation,
     }
-}
-
-/// The target that tells something, one of those that are there.
-pub fn member_of(plan: TargetPlan, from: ActorId) -> TargetId
-    requires { from.number < plan.targets }
-    ensures { result ≡ from.number }
-{
-    from.number as TargetId
 }

@@ -10,10 +10,10 @@ use Rattle.world_base.specs.declared.did.Did.{Did}
 use Rattle.world_base.specs.declared.request.FetchRequest.{FetchRequest}
 use Rattle.world_base.specs.declared.target.TargetMemory.{TargetMemory}
 use Rattle.world_base.specs.declared.target.TargetPlan.{TargetPlan}
-use Rattle.world_turns.specs.Changes.{Change, Kept}
-use Rattle.world_turns.specs.Reads.{Asked, AtSnapshot, ExtendsLease, FetchEnds, FetchNext, FetchStage, HasEpoch, IsCovered, IsSpent, Known, Reading, memory_then}
-use Rattle.world_turns.specs.Requests.{issued_for, request_epoch}
-use Rattle.world_turns.specs.Turns.{Whole}
+use Rattle.world_base.specs.Changes.{Change, Kept}
+use Rattle.world_base.specs.Reads.{Asked, AtSnapshot, ExtendsLease, FetchEnds, FetchNext, FetchStage, HasEpoch, IsCovered, IsSpent, Known, Reading, memory_then}
+use Rattle.world_base.specs.Requests.{issued_for, request_epoch}
+use Rattle.world_base.specs.Turns.{Whole}
 use Rattle.replay_base.specs.Leases as lease
 use Rattle.replay_base.specs.declared.told.Left.{Left}
 use Rattle.replay_base.specs.Leaving.{IsLeftIf}

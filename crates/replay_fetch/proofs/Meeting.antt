@@ -22,7 +22,7 @@ use Rattle.vos_store.specs.Answers.{answer_unless, fetched, is_past}
 use Rattle.vos_store.specs.declared.refusal.FetchNo.TheVariants as no
 use Rattle.world_base.specs.declared.request.FetchRequest.{FetchRequest}
 use Rattle.world_base.specs.declared.target.TargetPlan.{TargetPlan}
-use Rattle.world_turns.specs.Reads.{fetch_cause}
+use Rattle.world_base.specs.Reads.{fetch_cause}
 use Rattle.replay_fetch.specs.Met.{AsOpen, AsOthers, AsOwn, IsAnswered, IsEnding, IsMet, IsParked, IsUnresolved, MeetsAttempt}
 use Rattle.replay_fetch.specs.declared.meets.Ending.TheVariants as ending
 use Rattle.replay_fetch.specs.declared.meets.Met.{Met}

@@ -12,10 +12,10 @@ use Rattle.world_base.specs.declared.did.Did.{Did}
 use Rattle.world_base.specs.declared.request.FetchRequest.{FetchRequest}
 use Rattle.world_base.specs.declared.target.TargetMemory.{TargetMemory}
 use Rattle.world_base.specs.declared.target.TargetPlan.{TargetPlan}
-use Rattle.world_turns.specs.Changes.{Change, Kept, Settles}
-use Rattle.world_turns.specs.Reads.{FetchEnds, FetchNext, FetchStage, Reading, SettlesOwn, memory_then, ticks_known}
-use Rattle.world_turns.specs.Requests.{is_other_attempt, with_ticks}
-use Rattle.world_turns.specs.Roles.{with_unsettled}
+use Rattle.world_base.specs.Changes.{Change, Kept, Settles}
+use Rattle.world_base.specs.Reads.{FetchEnds, FetchNext, FetchStage, Reading, SettlesOwn, memory_then, ticks_known}
+use Rattle.world_base.specs.Requests.{is_other_attempt, with_ticks}
+use Rattle.world_base.specs.Roles.{with_unsettled}
 use Rattle.replay_base.specs.declared.told.Left.{Left}
 use Rattle.replay_base.specs.Heard.{AreLedHere, CanRead}
 use Rattle.replay_base.specs.Leaving.{Comes}

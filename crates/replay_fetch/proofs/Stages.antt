@@ -13,10 +13,10 @@ use Rattle.world_base.specs.declared.did.Did.{Did}
 use Rattle.world_base.specs.declared.request.FetchRequest.{FetchRequest}
 use Rattle.world_base.specs.declared.target.TargetMemory.{TargetMemory}
 use Rattle.world_base.specs.declared.target.TargetPlan.{TargetPlan}
-use Rattle.world_turns.specs.Changes.{Change, Kept, Settles}
-use Rattle.world_turns.specs.Reads.{Asked, AtSnapshot, ExtendsLease, FetchEnds, FetchNext, FetchStage, HasEpoch, IsCovered, IsParked, IsRefused, IsServed, IsSpent, Known, MeetsUnresolved, Reading, SettlesOwn, asks_leader, fetch_at, fetched_message, memory_parked, memory_then, stamps_with, tells}
-use Rattle.world_turns.specs.Requests.{is_other_attempt, request_epoch, says, with_ticks}
-use Rattle.world_turns.specs.Roles.{joins_on, other_leader}
+use Rattle.world_base.specs.Changes.{Change, Kept, Settles}
+use Rattle.world_base.specs.Reads.{Asked, AtSnapshot, ExtendsLease, FetchEnds, FetchNext, FetchStage, HasEpoch, IsCovered, IsParked, IsRefused, IsServed, IsSpent, Known, MeetsUnresolved, Reading, SettlesOwn, asks_leader, fetch_at, fetched_message, memory_parked, memory_then, stamps_with, tells}
+use Rattle.world_base.specs.Requests.{is_other_attempt, request_epoch, says, with_ticks}
+use Rattle.world_base.specs.Roles.{joins_on, other_leader}
 use Rattle.dtx_base.specs.Joining.{parking}
 use Rattle.dtx_base.specs.declared.member.MemberMemory.{MemberMemory}
 use Rattle.daos_base.specs.declared.shown.Shown.{Shown}

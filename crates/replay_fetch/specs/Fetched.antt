@@ -8,8 +8,8 @@ use Rattle.world_base.specs.declared.request.FetchRequest.{FetchRequest}
 use Rattle.world_base.specs.declared.target.TargetMemory.{TargetMemory}
 use Rattle.world_base.specs.declared.target.TargetPlan.{TargetPlan}
 use Rattle.world_base.specs.declared.target.TargetState.{TargetState}
-use Rattle.world_turns.specs.Reads.{Asked, FetchEnds, FetchNext, FetchStage, Known, Reading}
-use Rattle.world_turns.specs.Turns.{Whole}
+use Rattle.world_base.specs.Reads.{Asked, FetchEnds, FetchNext, FetchStage, Known, Reading}
+use Rattle.world_base.specs.Turns.{Whole}
 use Rattle.replay_base.specs.declared.told.Left.{Left}
 use Rattle.replay_base.specs.Heard.{CanRead}
 use Rattle.replay_base.specs.Leaving.{Comes}

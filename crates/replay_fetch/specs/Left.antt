@@ -7,9 +7,9 @@ use Rattle.daos_messages.specs.declared.message.Reply.TheVariants as reply
 use Rattle.world_base.specs.declared.did.Did.{Did}
 use Rattle.world_base.specs.declared.request.FetchRequest.{FetchRequest}
 use Rattle.world_base.specs.declared.target.TargetMemory.{TargetMemory}
-use Rattle.world_turns.specs.Reads.{stamps_with}
-use Rattle.world_turns.specs.Requests.{is_other_attempt}
-use Rattle.world_turns.specs.Roles.{with_unsettled}
+use Rattle.world_base.specs.Reads.{stamps_with}
+use Rattle.world_base.specs.Requests.{is_other_attempt}
+use Rattle.world_base.specs.Roles.{with_unsettled}
 use Rattle.replay_base.specs.declared.told.Left.{Left}
 use Rattle.replay_fetch.specs.declared.reads.Work.{Work}
 

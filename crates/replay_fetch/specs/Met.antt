@@ -18,10 +18,10 @@ use Rattle.world_base.specs.declared.did.Did.{Did}
 use Rattle.world_base.specs.declared.request.FetchRequest.{FetchRequest}
 use Rattle.world_base.specs.declared.target.TargetMemory.{TargetMemory}
 use Rattle.world_base.specs.declared.target.TargetPlan.{TargetPlan}
-use Rattle.world_turns.specs.Changes.{Kept}
-use Rattle.world_turns.specs.Reads.{FetchEnds, FetchNext, Reading, asks_leader, fetch_at, fetch_cause, stamps_with, tells}
-use Rattle.world_turns.specs.Requests.{is_other_attempt}
-use Rattle.world_turns.specs.Roles.{joins_on, member_at, other_leader, with_unsettled}
+use Rattle.world_base.specs.Changes.{Kept}
+use Rattle.world_base.specs.Reads.{FetchEnds, FetchNext, Reading, asks_leader, fetch_at, fetch_cause, stamps_with, tells}
+use Rattle.world_base.specs.Requests.{is_other_attempt}
+use Rattle.world_base.specs.Roles.{joins_on, member_at, other_leader, with_unsettled}
 use Rattle.replay_base.specs.Heard.{CanRead}
 use Rattle.replay_base.specs.Onward.{Iff, Onward}
 use Rattle.replay_fetch.specs.declared.meets.Ending.{Ending}

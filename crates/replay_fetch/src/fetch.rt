@@ -5,8 +5,8 @@ ghost use Rattle.daos_messages.specs.declared.message.Reply.TheVariants as reply
 ghost use Rattle.replay_base.specs.Heard.{CanRead};
 ghost use Rattle.replay_base.specs.Requested.{IsToldEpoch, TellsEpoch};
 ghost use Rattle.replay_fetch.specs.Fetched.{FetchLeaves, FetchesSo, begins_at};
-ghost use Rattle.world_turns.specs.Reads.{FetchStage, fetched_message};
-ghost use Rattle.world_turns.specs.Requests as asked;
+ghost use Rattle.world_base.specs.Reads.{FetchStage, fetched_message};
+ghost use Rattle.world_base.specs.Requests as asked;
 
 use crate::reads::{Work, read_from};
 use daos_base::epoch::Epoch;

@@ -4,7 +4,7 @@ ghost use Rattle.std.specs.Option.{option_copied};
 ghost use Rattle.daos_model.specs.Durables.{row_of, row_or_new};
 ghost use Rattle.daos_model.specs.Versions.{first_between, is_between};
 ghost use Rattle.vos_store.specs.Answers.{is_past, shown_or_none};
-ghost use Rattle.world_turns.specs.Reads.{aggregated_above, later_of, uncertain_to};
+ghost use Rattle.world_base.specs.Reads.{aggregated_above, later_of, uncertain_to};
 
 use daos_base::epoch::Epoch;
 use daos_base::id::ContId;

@@ -5,7 +5,7 @@ ghost use Rattle.daos_base.specs.Operations.{read_path};
 ghost use Rattle.daos_messages.specs.declared.message.Reply.TheVariants as reply;
 ghost use Rattle.replay_base.specs.Heard.{CanRead};
 ghost use Rattle.replay_fetch.specs.declared.meets.Ending.TheVariants as ending;
-ghost use Rattle.world_turns.specs.Reads.{fetch_cause, later_of, later_unless};
+ghost use Rattle.world_base.specs.Reads.{fetch_cause, later_of, later_unless};
 ghost use Rattle.replay_fetch.specs.Met.{IsMet, MeetsAttempt};
 
 use crate::later::{aggregated_above, is_past, later_of};

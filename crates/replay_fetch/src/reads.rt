@@ -6,8 +6,8 @@ ghost use Rattle.replay_fetch.specs.Fetched.{FetchLeaves};
 ghost use Rattle.replay_fetch.specs.Met.{HasRead, IsSettled, left_by};
 ghost use Rattle.replay_fetch.specs.Left.{left_of, memory_replied, without};
 ghost use Rattle.replay_fetch.specs.declared.meets.Ending.TheVariants as ending;
-ghost use Rattle.world_turns.specs.Reads as fetch;
-ghost use Rattle.world_turns.specs.Reads.{FetchStage};
+ghost use Rattle.world_base.specs.Reads as fetch;
+ghost use Rattle.world_base.specs.Reads.{FetchStage};
 
 use crate::meets::{Ending, Met, meet};
 use daos_base::epoch::{Epoch, TargetId};

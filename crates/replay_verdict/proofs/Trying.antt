@@ -13,18 +13,18 @@ use Rattle.daos_messages.specs.declared.message.Post.{Post}
 use Rattle.daos_model.specs.declared.durable.Durable.{Durable}
 use Rattle.daos_model.specs.BoolLaws.{clash}
 use Rattle.dtx_base.specs.Joining.{verdict_heard}
-use Rattle.world_turns.specs.Roles.{member_at}
+use Rattle.world_base.specs.Roles.{member_at}
 use Rattle.world_base.specs.declared.did.Did.{Did}
 use Rattle.world_base.specs.declared.request.FetchRequest.{FetchRequest}
 use Rattle.world_base.specs.declared.target.TargetMemory.{TargetMemory}
 use Rattle.world_base.specs.declared.target.TargetPlan.{TargetPlan}
-use Rattle.world_turns.specs.Changes.{Change, Kept, Steps}
-use Rattle.world_turns.specs.PathLaws.{reached-here, reached-keeps, reached-more, whole-on}
-use Rattle.world_turns.specs.Reads.{Asked, FetchEnds, FetchNext, FetchStage}
-use Rattle.world_turns.specs.Requests.{fetch_message, sends}
-use Rattle.world_turns.specs.Turns.{Here, More, Path, Reached, Whole}
-use Rattle.world_turns.specs.Verdicts as verdict
-use Rattle.world_turns.specs.Verdicts.{VerdictEnds, VerdictNext, VerdictStage, fetcher, settles_by, settling_change}
+use Rattle.world_base.specs.Changes.{Change, Kept, Steps}
+use Rattle.world_base.specs.PathLaws.{reached-here, reached-keeps, reached-more, whole-on}
+use Rattle.world_base.specs.Reads.{Asked, FetchEnds, FetchNext, FetchStage}
+use Rattle.world_base.specs.Requests.{fetch_message, sends}
+use Rattle.world_base.specs.Turns.{Here, More, Path, Reached, Whole}
+use Rattle.world_base.specs.Verdicts as verdict
+use Rattle.world_base.specs.Verdicts.{VerdictEnds, VerdictNext, VerdictStage, fetcher, settles_by, settling_change}
 use Rattle.replay_base.specs.declared.told.Left.{Left}
 use Rattle.replay_base.specs.Heard.{CanRead, is_timed}
 use Rattle.replay_base.specs.Leaving.{Comes}
@@ -60,7 +60,7 @@ module _ (t : TargetPlan) (m : TargetMemory) (reading : ℕ) (a : AttemptId) (as
     pub there : u ≡ verdict.Freed rest left.0 (posts ++ left.1.posts)
 
   abbrev pub NextAt : VerdictStage → Kept → Option Change → VerdictStage → Type 0
-  NextAt verdict.Heard k o u = (o ≡ settling_change a (settles_by v a k.durable)) × (u ≡ verdict.freed_by (verdict_heard a ask v (member_at t m)) m)
+  NextAt verdict.Heard k o u = (o ≡ settling_change a (settles_by t.me v a k.durable)) × (u ≡ verdict.freed_by (verdict_heard a ask v (member_at t m)) m)
   NextAt (verdict.Freed asks n posts) k o u = TriesFirst asks n posts o u
   NextAt (verdict.Trying q s rest n posts) k o u = Further q s rest n posts k o u ⊎ Done q s rest n posts k o u
 

@@ -14,11 +14,11 @@ use Rattle.world_base.specs.declared.did.Did.{Did}
 use Rattle.world_base.specs.declared.request.FetchRequest.{FetchRequest}
 use Rattle.world_base.specs.declared.target.TargetMemory.{TargetMemory}
 use Rattle.world_base.specs.declared.target.TargetPlan.{TargetPlan}
-use Rattle.world_turns.specs.Changes.{Kept}
-use Rattle.world_turns.specs.Requests.{fetch_message, sends}
-use Rattle.world_turns.specs.Roles.{joins_on, member_at}
-use Rattle.world_turns.specs.Verdicts as verdict
-use Rattle.world_turns.specs.Verdicts.{VerdictEnds, VerdictNext, settles_by}
+use Rattle.world_base.specs.Changes.{Kept}
+use Rattle.world_base.specs.Requests.{fetch_message, sends}
+use Rattle.world_base.specs.Roles.{joins_on, member_at}
+use Rattle.world_base.specs.Verdicts as verdict
+use Rattle.world_base.specs.Verdicts.{VerdictEnds, VerdictNext, settles_by}
 use Rattle.replay_base.specs.declared.leases.Covered.{Covered}
 use Rattle.replay_base.specs.declared.told.Left.{Left}
 use Rattle.replay_base.specs.Heard.{CanRead}
@@ -80,9 +80,9 @@ abbrev pub settled_so : AttemptId → Option Settle → Durable → Covered
 settled_so a None d = record { durable = d; changed = false }
 settled_so a (Some step) d = record { durable = settled a step d; changed = true }
 
--- what is kept once an attempt is settled by a Verdict, where it is still prepared
-abbrev pub settled_by : Verdict → AttemptId → Durable → Covered
-settled_by v a d = settled_so a (settles_by v a d) d
+-- what is kept once an attempt is settled by a Verdict, where it is still in doubt
+abbrev pub settled_by : ℕ → Verdict → AttemptId → Durable → Covered
+settled_by me v a d = settled_so a (settles_by me v a d) d
 
 -- ---- and behind them
 

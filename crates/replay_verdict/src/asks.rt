@@ -1,7 +1,7 @@
 // What a Fetch asks.
 ghost use Rattle.std.specs.Prelude.{◌≡◌, true, IfOk};
 ghost use Rattle.replay_verdict.specs.Tried.{fetch_in};
-ghost use Rattle.world_turns.specs.Verdicts.{fetcher};
+ghost use Rattle.world_base.specs.Verdicts.{fetcher};
 
 use daos_base::items::Memory;
 use daos_messages::actor::ActorId;

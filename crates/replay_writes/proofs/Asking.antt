@@ -9,10 +9,10 @@ use Rattle.world_base.specs.declared.did.Did.{Did}
 use Rattle.world_base.specs.declared.request.CommitRequest.{CommitRequest}
 use Rattle.world_base.specs.declared.target.TargetMemory.{TargetMemory}
 use Rattle.world_base.specs.declared.target.TargetPlan.{TargetPlan}
-use Rattle.world_turns.specs.Changes.{Change, Kept}
-use Rattle.world_turns.specs.Commits.{Asked, Checking, CommitEnds, CommitNext, CommitStage, ExtendsLease, HasEpoch, IsCovered, IsSpent, Known, Stored}
-use Rattle.world_turns.specs.Requests.{issued_for, request_epoch}
-use Rattle.world_turns.specs.Turns.{Whole}
+use Rattle.world_base.specs.Changes.{Change, Kept}
+use Rattle.world_base.specs.Commits.{Asked, Checking, CommitEnds, CommitNext, CommitStage, ExtendsLease, HasEpoch, IsCovered, IsSpent, Known, Stored}
+use Rattle.world_base.specs.Requests.{issued_for, request_epoch}
+use Rattle.world_base.specs.Turns.{Whole}
 use Rattle.replay_base.specs.Leases as lease
 use Rattle.replay_base.specs.Onward.{Onward}
 use Rattle.replay_base.specs.Requested.{AsksAt, IsToldEpoch, SpentSo, TellsEpoch}

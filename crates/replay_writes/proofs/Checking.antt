@@ -13,10 +13,10 @@ use Rattle.world_base.specs.declared.did.Did.{Did}
 use Rattle.world_base.specs.declared.target.TargetMemory.{TargetMemory}
 use Rattle.world_base.specs.declared.target.TargetPlan.{TargetPlan}
 use Rattle.world_base.specs.declared.target.TargetState.{TargetState}
-use Rattle.world_turns.specs.Changes.{Change, Kept, Prepares, Steps}
-use Rattle.world_turns.specs.Commits.{IsAllowed, IsRefusedBy}
-use Rattle.world_turns.specs.Requests.{with_ticks}
-use Rattle.world_turns.specs.Turns.{Whole}
+use Rattle.world_base.specs.Changes.{Change, Kept, Prepares, Steps}
+use Rattle.world_base.specs.Commits.{IsAllowed, IsRefusedBy}
+use Rattle.world_base.specs.Requests.{with_ticks}
+use Rattle.world_base.specs.Turns.{Whole}
 use Rattle.replay_base.specs.Onward.{FreeAfter, Onward, keeps}
 use Rattle.replay_base.specs.declared.leases.Covered.{Covered}
 use Rattle.replay_base.proofs.Starts.{AtOnce, First, Later, at_once, change_first, durable_is, first}

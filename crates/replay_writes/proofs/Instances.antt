@@ -17,13 +17,13 @@ use Rattle.world_base.specs.declared.request.PrepareRequest.{PrepareRequest}
 use Rattle.world_base.specs.declared.target.TargetMemory.{TargetMemory}
 use Rattle.world_base.specs.declared.target.TargetPlan.{TargetPlan}
 use Rattle.world_base.specs.declared.target.TargetState.{TargetState}
-use Rattle.world_turns.specs.Changes.{Change, Kept}
-use Rattle.world_turns.specs.Commits as commit
-use Rattle.world_turns.specs.Commits.{begins_at, led_entry, own_writes}
-use Rattle.world_turns.specs.Prepares as prepare
-use Rattle.world_turns.specs.Requests.{issued_for, sends, with_ticks}
-use Rattle.world_turns.specs.Roles.{leader_at, leads_on}
-use Rattle.world_turns.specs.Turns.{Whole}
+use Rattle.world_base.specs.Changes.{Change, Kept}
+use Rattle.world_base.specs.Commits as commit
+use Rattle.world_base.specs.Commits.{begins_at, led_entry, own_writes}
+use Rattle.world_base.specs.Prepares as prepare
+use Rattle.world_base.specs.Requests.{issued_for, sends, with_ticks}
+use Rattle.world_base.specs.Roles.{leader_at, leads_on}
+use Rattle.world_base.specs.Turns.{Whole}
 use Rattle.replay_base.specs.declared.leases.Covered.{Covered}
 use Rattle.replay_base.specs.Leases as lease
 use Rattle.replay_base.specs.Onward.{Onward, keeps}
@@ -35,7 +35,7 @@ use Rattle.replay_writes.specs.Ways.{EndsAs, is_stored, outcome_of}
 use Rattle.replay_writes.specs.declared.ways.Storing.{Storing}
 use Rattle.replay_writes.proofs.Checking.{ByRefusal, ForSpace, Stages, StoresAll, Turned, told_decides}
 use Rattle.replay_writes.proofs.Stages as at
-use Rattle.world_turns.specs.ChangeLaws.{incarnation-prepared}
+use Rattle.world_base.specs.ChangeLaws.{incarnation-prepared}
 
 -- ---- an attempt begins
 

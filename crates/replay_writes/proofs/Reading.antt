@@ -17,7 +17,7 @@ use Rattle.daos_model.specs.BoolLaws.{clash}
 use Rattle.daos_model.specs.FormLaws.{length-map}
 use Rattle.daos_model.specs.Forms.{minor_of}
 use Rattle.vos_stamp.specs.Stamps.{IsShown, NoneAgainst}
-use Rattle.world_turns.specs.Commits.{FirstRead}
+use Rattle.world_base.specs.Commits.{FirstRead}
 
 -- ---- no element passes a test
 

@@ -17,8 +17,8 @@ use Rattle.world_base.specs.declared.did.Did.{Did}
 use Rattle.world_base.specs.declared.target.TargetMemory.{TargetMemory}
 use Rattle.world_base.specs.declared.target.TargetPlan.{TargetPlan}
 use Rattle.world_base.specs.declared.target.TargetState.{TargetState}
-use Rattle.world_turns.specs.Commits.{ByFloor, ByRead, ByWrite, IsAllowed, IsRefusedBy, first_floor}
-use Rattle.world_turns.specs.Requests.{with_ticks}
+use Rattle.world_base.specs.Commits.{ByFloor, ByRead, ByWrite, IsAllowed, IsRefusedBy, first_floor}
+use Rattle.world_base.specs.Requests.{with_ticks}
 use Rattle.replay_base.specs.Onward.{FreeAfter}
 use Rattle.replay_base.specs.declared.leases.Covered.{Covered}
 use Rattle.replay_writes.specs.Refused.{IsRefusedAbove}

@@ -12,10 +12,10 @@ use Rattle.world_base.specs.declared.did.Did.{Did}
 use Rattle.world_base.specs.declared.request.CommitRequest.{CommitRequest}
 use Rattle.world_base.specs.declared.target.TargetMemory.{TargetMemory}
 use Rattle.world_base.specs.declared.target.TargetPlan.{TargetPlan}
-use Rattle.world_turns.specs.Changes.{Change, Kept, Prepares}
-use Rattle.world_turns.specs.Commits.{Asked, Checking, CommitEnds, CommitNext, CommitStage, ExtendsLease, HasEpoch, HasBegun, HasNoSpace, IsAllowed, IsCovered, IsRefused, IsRefusedBy, IsSpent, Known, Stored, Stores, ends_at, led_entry, begins_at, own_writes}
-use Rattle.world_turns.specs.Requests.{issued_for, request_epoch, says, sends, with_ticks}
-use Rattle.world_turns.specs.Roles.{leads_on}
+use Rattle.world_base.specs.Changes.{Change, Kept, Prepares}
+use Rattle.world_base.specs.Commits.{Asked, Checking, CommitEnds, CommitNext, CommitStage, ExtendsLease, HasEpoch, HasBegun, HasNoSpace, IsAllowed, IsCovered, IsRefused, IsRefusedBy, IsSpent, Known, Stored, Stores, ends_at, led_entry, begins_at, own_writes}
+use Rattle.world_base.specs.Requests.{issued_for, request_epoch, says, sends, with_ticks}
+use Rattle.world_base.specs.Roles.{leads_on}
 use Rattle.replay_base.proofs.Asking.{Begins}
 use Rattle.replay_base.proofs.Covering.{CoverStep, Covering, Extending}
 

@@ -14,8 +14,8 @@ use Rattle.daos_model.specs.declared.durable.Durable.{Durable}
 use Rattle.vos_stamp.specs.Stamps.{floor_cause}
 use Rattle.vos_store.specs.Answers.{floor_of}
 use Rattle.world_base.specs.declared.target.TargetPlan.{TargetPlan}
-use Rattle.world_turns.specs.Commits.{first_floor, first_later, or_else}
-use Rattle.world_turns.specs.Reads.{later_of}
+use Rattle.world_base.specs.Commits.{first_floor, first_later, or_else}
+use Rattle.world_base.specs.Reads.{later_of}
 
 -- ---- elements of a list
 

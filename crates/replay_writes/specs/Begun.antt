@@ -12,9 +12,9 @@ use Rattle.world_base.specs.declared.request.CommitRequest.{CommitRequest}
 use Rattle.world_base.specs.declared.request.PrepareRequest.{PrepareRequest}
 use Rattle.world_base.specs.declared.target.TargetMemory.{TargetMemory}
 use Rattle.world_base.specs.declared.target.TargetPlan.{TargetPlan}
-use Rattle.world_turns.specs.Commits.{led_entry}
-use Rattle.world_turns.specs.Requests.{issued_for, sends}
-use Rattle.world_turns.specs.Roles.{leads_on}
+use Rattle.world_base.specs.Commits.{led_entry}
+use Rattle.world_base.specs.Requests.{issued_for, sends}
+use Rattle.world_base.specs.Roles.{leads_on}
 
 -- an attempt that this target leads; its client is told of a refusal
 abbrev pub storing_of : TargetPlan → ActorId → CommitRequest → Epoch → Storing

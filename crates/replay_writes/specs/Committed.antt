@@ -10,9 +10,9 @@ use Rattle.world_base.specs.declared.request.CommitRequest.{CommitRequest}
 use Rattle.world_base.specs.declared.request.PrepareRequest.{PrepareRequest}
 use Rattle.world_base.specs.declared.target.TargetPlan.{TargetPlan}
 use Rattle.world_base.specs.declared.target.TargetState.{TargetState}
-use Rattle.world_turns.specs.Commits.{Asked, CommitEnds, CommitNext}
-use Rattle.world_turns.specs.Prepares as prepare
-use Rattle.world_turns.specs.Turns.{Whole}
+use Rattle.world_base.specs.Commits.{Asked, CommitEnds, CommitNext}
+use Rattle.world_base.specs.Prepares as prepare
+use Rattle.world_base.specs.Turns.{Whole}
 use Rattle.replay_base.specs.Onward.{keeps}
 
 -- at some reading of its clock it comes from one state to another by a Commit, and this follows

@@ -7,7 +7,7 @@ use Rattle.daos_base.specs.declared.outcome.Cause.TheVariants.{ReadLater, WriteL
 use Rattle.daos_base.specs.declared.shown.Shown.{Shown}
 use Rattle.daos_model.specs.declared.durable.Durable.{Durable}
 use Rattle.world_base.specs.declared.target.TargetPlan.{TargetPlan}
-use Rattle.world_turns.specs.Commits.{FirstRead, NoReads, first_later}
+use Rattle.world_base.specs.Commits.{FirstRead, NoReads, first_later}
 
 -- a later read is shown for the first write that one stands against; else a later write for the first that one refuses
 abbrev pub IsRefusedAbove : TargetPlan → Option Epoch → Epoch → Durable → List Shown → List MinorWrite → Cause → Type 0

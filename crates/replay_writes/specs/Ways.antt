@@ -19,8 +19,8 @@ use Rattle.world_base.specs.declared.did.Did.{Did}
 use Rattle.world_base.specs.declared.target.TargetMemory.{TargetMemory}
 use Rattle.world_base.specs.declared.target.TargetPlan.{TargetPlan}
 use Rattle.world_base.specs.declared.target.TargetState.{TargetState}
-use Rattle.world_turns.specs.Commits.{IsAllowed, IsRefusedBy}
-use Rattle.world_turns.specs.Requests.{says, sends, with_ticks}
+use Rattle.world_base.specs.Commits.{IsAllowed, IsRefusedBy}
+use Rattle.world_base.specs.Requests.{says, sends, with_ticks}
 
 -- ---- who is told what
 

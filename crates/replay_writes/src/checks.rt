@@ -3,7 +3,7 @@ ghost use Rattle.std.specs.Prelude.{◌≡◌, Some, IfOk, Decides};
 ghost use Rattle.daos_base.specs.declared.outcome.Cause.TheVariants.{Floor};
 ghost use Rattle.vos_store.specs.Answers.{floor_of};
 ghost use Rattle.replay_writes.specs.Refused.{IsRefusedAbove};
-ghost use Rattle.world_turns.specs.Commits.{FirstRead, IsAllowed, IsRefusedBy, NoReads, first_floor, first_later};
+ghost use Rattle.world_base.specs.Commits.{FirstRead, IsAllowed, IsRefusedBy, NoReads, first_floor, first_later};
 
 use crate::reads::{is_first_read, no_reads};
 use daos_base::epoch::{Epoch, TargetId};

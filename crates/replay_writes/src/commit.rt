@@ -7,8 +7,8 @@ ghost use Rattle.replay_base.specs.Onward.{Onward, keeps};
 ghost use Rattle.replay_base.specs.Requested.{IsToldEpoch, TellsEpoch};
 ghost use Rattle.replay_writes.specs.Committed.{CommitsSo};
 ghost use Rattle.replay_writes.specs.Begun.{begun_left, storing_of};
-ghost use Rattle.world_turns.specs.Commits.{CommitEnds, CommitNext, CommitStage, own_writes};
-ghost use Rattle.world_turns.specs.Requests as asked;
+ghost use Rattle.world_base.specs.Commits.{CommitEnds, CommitNext, CommitStage, own_writes};
+ghost use Rattle.world_base.specs.Requests as asked;
 
 use crate::ways::{Storing, Tells, ends_so, with_ticks};
 use daos_base::entry::Entry;

@@ -3,8 +3,8 @@ ghost use Rattle.std.specs.Prelude.{◌≡◌, None, IfOk, Decides};
 ghost use Rattle.daos_model.specs.Forms.{AreWritesInForm};
 ghost use Rattle.replay_writes.specs.Begun.{storing_for};
 ghost use Rattle.replay_writes.specs.Committed.{PreparesSo};
-ghost use Rattle.world_turns.specs.Prepares as prepare;
-ghost use Rattle.world_turns.specs.Requests as asked;
+ghost use Rattle.world_base.specs.Prepares as prepare;
+ghost use Rattle.world_base.specs.Requests as asked;
 
 use crate::ways::{Storing, Tells, ends_so, with_ticks};
 use daos_base::items::Memory;

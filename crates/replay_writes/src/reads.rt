@@ -2,7 +2,7 @@
 ghost use Rattle.std.specs.Prelude.{◌≡◌, Contains, Decides};
 ghost use Rattle.std.specs.List.{list_any};
 ghost use Rattle.vos_stamp.specs.Stamps.{IsShown, NoneAgainst, stands_against};
-ghost use Rattle.world_turns.specs.Commits.{FirstRead, NoReads};
+ghost use Rattle.world_base.specs.Commits.{FirstRead, NoReads};
 
 use daos_base::epoch::Epoch;
 use daos_base::operation::MinorWrite;

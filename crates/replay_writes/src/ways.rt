@@ -8,8 +8,8 @@ ghost use Rattle.replay_base.specs.Onward.{FreeAfter};
 ghost use Rattle.replay_writes.specs.Ways.{EndsAs, LacksSpaceSo, RefusesSo, StoresFree, StoresSo, ended_of, is_no_space, outcome_of, refusal_told, restart_of};
 ghost use Rattle.world_base.specs.declared.did.Did.{Did};
 ghost use Rattle.world_base.specs.declared.target.TargetMemory.{TargetMemory};
-ghost use Rattle.world_turns.specs.Commits as commit;
-ghost use Rattle.world_turns.specs.Requests as asked;
+ghost use Rattle.world_base.specs.Commits as commit;
+ghost use Rattle.world_base.specs.Requests as asked;
 
 use crate::checks::{is_allowed, is_refused_by};
 use crate::stored::prepared;

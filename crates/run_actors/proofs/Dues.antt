@@ -15,8 +15,8 @@ use Rattle.target_core.specs.Targets.{TargetOf}
 use Rattle.vos_store.specs.Calls.{State}
 use Rattle.world_base.specs.declared.client.ClientState.{ClientState}
 use Rattle.world_base.specs.declared.world.World.{World}
-use Rattle.world_events.specs.Events.{Rules}
-use Rattle.world_events.specs.Letters.{client, target}
+use Rattle.world_base.specs.Events.{Rules}
+use Rattle.world_base.specs.Letters.{client, target}
 
 -- a client that hears one of these messages is awake, and the number is that of one of them
 pub record Hears (c : ClientState) (count number : ℕ) : Type 0 where

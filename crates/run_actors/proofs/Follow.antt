@@ -6,8 +6,8 @@ use Rattle.run_letters.specs.Letters.{BetweenNow}
 use Rattle.run_actors.proofs.Turns.{Follows}
 use Rattle.world_base.specs.declared.did.Did.{Did}
 use Rattle.world_base.specs.declared.letter.Letter.{Letter}
-use Rattle.world_events.specs.Events.{listed, with_epoch}
-use Rattle.world_events.specs.Letters.{letters_of}
+use Rattle.world_base.specs.Events.{listed, with_epoch}
+use Rattle.world_base.specs.Letters.{letters_of}
 
 -- what followed a turn in which these letters were left in flight
 pub followed : (b mid : BetweenNow) (did : Did) (rest : List Letter) (name actor : ActorId) (b' : BetweenNow) → mid.messages ≡ rest → mid.lines ≡ b.lines → mid.issued ≡ b.issued → name ≡ actor

@@ -22,11 +22,11 @@ use Rattle.world_base.specs.declared.did.Did.{Did}
 use Rattle.world_base.specs.declared.letter.Letter.{Letter}
 use Rattle.world_base.specs.declared.world.World.{World}
 use Rattle.world_base.specs.ClientTurns.{HearTurn, NextTurn}
-use Rattle.world_begins.specs.Begins.{IsSimple}
+use Rattle.world_core.specs.Begins.{IsSimple}
 use Rattle.world_core.specs.Posting.{IsPlainScript, clients-post-in-form, hearers-post-in-form}
-use Rattle.world_events.specs.Events.{Goes, Rules, client_plan, target_plan}
-use Rattle.world_events.specs.Letters.{client, letter_of, letters_of, target}
-use Rattle.world_events.specs.StepLaws.{set-is, set-there}
+use Rattle.world_base.specs.Events.{Goes, Rules, client_plan, target_plan}
+use Rattle.world_base.specs.Letters.{client, letter_of, letters_of, target}
+use Rattle.world_base.specs.StepLaws.{set-is, set-there}
 use Rattle.world_posts.specs.FormLaws.{asked-is-heard, asked-of_client, between-is-heard, between-of_target}
 use Rattle.world_posts.specs.Forms as posted
 use Rattle.world_posts.specs.Forms.{ClientPosts, ClientsWait, PostsInForm, TargetPosts}
@@ -55,15 +55,15 @@ sent-in-form r a rest posts old new l i = elim (has-cases rest (letters_of a pos
 -- a client sends what is in form
 by-client : (r : Rules) (n : ℕ) (posts : List Post) → ClientPosts (target_plan r) posts → (q : Post) → Has q posts → IsInForm r (letter_of (client n) q)
 by-client r n posts k q i = record {
-  asked = λ to. asked-is-heard (target_plan r q.to.number) (client n) q.message ((k q i).asked to);
+  asked = λ to. asked-is-heard (target_plan r q.to.number) q.message ((k q i).asked to);
   told = (k q i).told;
   kind = λ to. asked-of_client (target_plan r q.to.number) q.message ((k q i).asked to);
 }
 
 -- and so does a target
-by-target : (r : Rules) (t : ℕ) (posts : List Post) → t < 64 → TargetPosts r.script.targets posts → (q : Post) → Has q posts → IsInForm r (letter_of (target t) q)
-by-target r t posts few k q i = record {
-  asked = λ to. between-is-heard (target_plan r q.to.number) (target t) q.message ((k q i).between to) few;
+by-target : (r : Rules) (t : ℕ) (posts : List Post) → TargetPosts r.script.targets posts → (q : Post) → Has q posts → IsInForm r (letter_of (target t) q)
+by-target r t posts k q i = record {
+  asked = λ to. between-is-heard (target_plan r q.to.number) q.message ((k q i).between to);
   told = (k q i).told;
   kind = λ to. between-of_target r.script.targets q.message ((k q i).between to);
 }
@@ -122,9 +122,6 @@ module _ {S C : Type 0} (durable : S → Option Durable) (state : S → State) w
     some-told None o' d same is = let bad : is_some o' ≡ true = ap is_some is in absurd (true≢false (sym bad ∙ same))
     some-told (Some e) o' d same is = (e, refl)
 
-    below-64 : (t : ℕ) (x : TargetOf S C) → slice_get xs t ≡ Some x → t < 64
-    below-64 t x at = let within : t < length xs = slice_get_within xs t x at in let many : length xs ≡ k.rules.script.targets = k.many in let few : k.rules.script.targets ≤ 64 = k.simple.few_targets in omega (arith, within, many, few)
-
     -- a target had its turn
     pub target-on : (t : ℕ) (x y : TargetOf S C) (did : Did) (rest : List Letter) (xs' : List (TargetOf S C)) → slice_get xs t ≡ Some x → y.plan ≡ x.plan → StillRuns (state x.store) (state y.store) (durable x.store) (durable y.store) → AreInForm k.rules rest
         → PostsInForm x.plan.targets x.memory.leader y.memory.leader did.posts → Follows b (target t) did rest b' → xs' ≡ set xs t y → (IsGoing durable state cs xs b → IsGoing durable state cs xs' b') → CanGo durable state cs xs' b'
@@ -137,7 +134,7 @@ module _ {S C : Type 0} (durable : S → Option Durable) (state : S → State) w
       running = λ u z is. get-set (λ j q. (state q.store).stopped ≡ false) xs t y runs.stops k.running u z (ap (λ zs. slice_get zs u) (sym set') ∙ is);
       waiting = λ u z is. get-set (λ j q. ClientsWait q.memory.leader) xs t y sent.waiting k.waiting u z (ap (λ zs. slice_get zs u) (sym set') ∙ is);
       letters = subst (AreInForm k.rules) (sym f.messages) (sent-in-form k.rules (target t) rest did.posts left
-          (by-target k.rules t did.posts (below-64 t x at) (subst (λ n. TargetPosts n did.posts) (ap (λ p. p.targets) (k.made t x at)) sent.form)));
+          (by-target k.rules t did.posts (subst (λ n. TargetPosts n did.posts) (ap (λ p. p.targets) (k.made t x at)) sent.form)));
       told = λ u z d here is. on (before u z d (ap (λ zs. slice_get zs u) (sym set') ∙ here) is);
     }
       where

@@ -5,7 +5,6 @@ use Rattle.std.proofs.Common.{sym, ◌∙◌, ap, subst}
 use Rattle.client_core.specs.Clients.{ClientNow}
 use Rattle.daos_base.specs.declared.epoch.Epoch.{Epoch}
 use Rattle.daos_base.specs.declared.operation.MinorWrite.{MinorWrite}
-use Rattle.daos_messages.specs.declared.actor.ActorId.{ActorId}
 use Rattle.daos_messages.specs.declared.message.Message.{Message}
 use Rattle.daos_messages.specs.declared.message.Message.TheVariants as message
 use Rattle.daos_model.specs.declared.durable.Durable.{Durable}
@@ -21,36 +20,36 @@ use Rattle.target_writes.specs.CheckLaws.{new-at}
 use Rattle.target_writes.specs.Checks.{AreNewAt}
 use Rattle.vos_store.specs.Calls.{State}
 use Rattle.world_base.specs.declared.letter.Letter.{Letter}
-use Rattle.world_begins.specs.Hearable.{CanHear}
-use Rattle.world_begins.specs.Whole.{runs-can-be-heard}
-use Rattle.world_events.specs.Events.{Rules, target_plan}
-use Rattle.world_events.specs.Letters.{target}
-use Rattle.world_turns.specs.Commits.{own_writes}
+use Rattle.world_core.specs.Hearable.{CanHear}
+use Rattle.world_core.specs.Whole.{runs-can-be-heard}
+use Rattle.world_base.specs.Events.{Rules, target_plan}
+use Rattle.world_base.specs.Letters.{target}
+use Rattle.world_base.specs.Commits.{own_writes}
 use Rattle.world_talks.specs.TalkLaws.{taken-is-among}
 
 -- ---- messages
 
-module _ (r : Rules) (t : ℕ) (d : Durable) (from : ActorId) where
+module _ (r : Rules) (t : ℕ) (d : Durable) where
   all-new : (ep : Option Epoch) (ws : List MinorWrite) → ((e : Epoch) → ep ≡ Some e → All (λ v. v.epoch.0 ≡ e.0 → ⊥) d.versions) → AreNewAt ep ws d
   all-new None ws unused = tt
   all-new (Some e) ws unused = new-at e ws d (unused e refl)
 
-  can-hear : (m : Message) → CanHear r t d from m → target_core.CanHear (target_plan r t) m d
+  can-hear : (m : Message) → CanHear r t d m → target_core.CanHear (target_plan r t) m d
   can-hear (message.Fetch x op group ep first tracker read snapshot) k = k.enlisted
   can-hear (message.Commit x ep first tracker ws) k = record { enlisted = k.store.enlisted; absent = k.store.absent; new = all-new ep (own_writes (target_plan r t) ws) k.store.new }
   can-hear (message.Prepare e first ws inc) k = record { enlisted = k.store.enlisted; absent = k.store.absent; new = new-at e.epoch ws d (k.store.new e.epoch refl) }
   can-hear (message.Ack x inc refusal) k = tt
-  can-hear (message.Mark inc marks) k = λ x i. k x.0 x.1 i
+  can-hear (message.Mark inc marks) k = tt
   can-hear (message.Marked inc ids) k = tt
   can-hear (message.Query x ask) k = tt
-  can-hear (message.Verdict x ask inc v) k = k
+  can-hear (message.Verdict x ask inc v) k = tt
   can-hear m k = absurd k
 
 -- ---- letters
 
 -- a target can hear a letter
 pub record IsHearable {S C : Type 0} (durable : S → Option Durable) (x : TargetOf S C) (l : Letter) : Type 0 where
-  pub form : HasForm x.plan l.from l.message
+  pub form : HasForm x.plan l.message
   pub kind : is_of_client l.message ≡ l.from.client
   pub here : ForSome (durable x.store) (target_core.CanHear x.plan l.message)
 
@@ -66,12 +65,12 @@ module _ {S C : Type 0} (durable : S → Option Durable) (state : S → State) (
       let among : Contains g.reached.now.messages l = subst (λ ls. Contains ls l) g.reached.shows.messages (taken-is-among b.messages l rest (picked-takes b.messages number l rest (target t) picked)) in
       let heard = runs-can-be-heard g.rules g.opening g.first g.reached.now l t s.s g.simple g.begun g.reached.run among picked.to_it s.here in
       let same : s.s.durable ≡ d = let e : Some s.s.durable ≡ Some d = sym s.is.told ∙ told in cc in
-      subst (λ z. target_core.CanHear x.plan l.message z) same (subst (λ p. target_core.CanHear p l.message s.s.durable) (sym s.is.made) (can-hear g.rules t s.s.durable l.from l.message heard))
+      subst (λ z. target_core.CanHear x.plan l.message z) same (subst (λ p. target_core.CanHear p l.message s.s.durable) (sym s.is.made) (can-hear g.rules t s.s.durable l.message heard.can))
 
   -- the letter that is picked for a target can be heard there
   pub hearable : IsHearable durable x l
   hearable = record {
-    form = subst (λ p. HasForm p l.from l.message) (ap (λ a. target_plan k.rules a.number) picked.to_it ∙ sym (k.made t x at)) (its.asked (ap (λ a. a.client) picked.to_it));
+    form = subst (λ p. HasForm p l.message) (ap (λ a. target_plan k.rules a.number) picked.to_it ∙ sym (k.made t x at)) (its.asked (ap (λ a. a.client) picked.to_it));
     kind = its.kind (ap (λ a. a.client) picked.to_it);
     here = λ d told. can d told (k.told t x d at told);
   }

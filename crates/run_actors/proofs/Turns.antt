@@ -16,10 +16,10 @@ use Rattle.world_base.specs.declared.letter.Letter.{Letter}
 use Rattle.world_base.specs.declared.target.TargetState.{TargetState}
 use Rattle.world_base.specs.declared.world.World.{World}
 use Rattle.world_base.specs.ClientTurns.{HearTurn, NextTurn}
-use Rattle.world_events.specs.Events.{Rules, after_turn, client_plan, kept, listed, target_after, target_plan, with_client, with_epoch, with_target}
-use Rattle.world_events.specs.Letters.{Takes, client, letters_of, target}
-use Rattle.world_events.specs.StepLaws.{set-is, set-there}
-use Rattle.world_turns.specs.TargetTurns.{Hears, IdlesWhole}
+use Rattle.world_base.specs.Events.{Rules, after_turn, client_plan, kept, listed, target_after, target_plan, with_client, with_epoch, with_target}
+use Rattle.world_base.specs.Letters.{Takes, client, letters_of, target}
+use Rattle.world_base.specs.StepLaws.{set-is, set-there}
+use Rattle.world_base.specs.TargetTurns.{Hears, IdlesWhole}
 
 pub picked-takes : (letters : List Letter) (n : ℕ) (l : Letter) (rest : List Letter) → (a : _) → IsPicked letters a n l rest → Takes letters l rest
 picked-takes letters n l rest a k = record { before = k.before; after = k.after; among = k.among; left = k.left }

@@ -7,14 +7,14 @@ use Rattle.run_letters.specs.Letters.{BetweenNow}
 use Rattle.target_core.specs.Targets.{TargetOf}
 use Rattle.vos_store.specs.Calls.{State}
 use Rattle.world_base.specs.declared.letter.Letter.{Letter}
-use Rattle.world_begins.specs.Begins.{IsSimple}
-use Rattle.world_events.specs.Events.{Rules, client_plan, target_plan}
+use Rattle.world_core.specs.Begins.{IsSimple}
+use Rattle.world_base.specs.Events.{Rules, client_plan, target_plan}
 use Rattle.world_posts.specs.Forms.{ClientsWait, HasForm, is_of_client, is_told}
 
 -- A letter to a client has the form of what clients are told. One to a target has the form of what that hears; it comes from a client where
 -- it is what clients ask, and else from a target.
 pub record IsInForm (r : Rules) (l : Letter) : Type 0 where
-  pub asked : l.to.client ≡ false → HasForm (target_plan r l.to.number) l.from l.message
+  pub asked : l.to.client ≡ false → HasForm (target_plan r l.to.number) l.message
   pub told : l.to.client ≡ true → is_told l.message ≡ true
   pub kind : l.to.client ≡ false → is_of_client l.message ≡ l.from.client
 

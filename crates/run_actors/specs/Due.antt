@@ -10,8 +10,8 @@ use Rattle.target_core.specs.Targets.{TargetOf}
 use Rattle.vos_store.specs.Calls.{State}
 use Rattle.world_base.specs.declared.letter.Letter.{Letter}
 use Rattle.world_base.specs.declared.world.World.{World}
-use Rattle.world_events.specs.Events.{Rules}
-use Rattle.world_events.specs.Letters.{client, target}
+use Rattle.world_base.specs.Events.{Rules}
+use Rattle.world_base.specs.Letters.{client, target}
 
 -- the client of this number has something to do
 abbrev pub is_due_client : List Letter → ℕ → Option ClientNow → Bool

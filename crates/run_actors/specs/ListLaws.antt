@@ -3,7 +3,7 @@ use Rattle.std.specs.Prelude.{ℕ, ◌≡◌, List, [], ◌∷◌, length, map, 
 use Rattle.std.proofs.Common.{zero, suc, inl, inr, sym, ◌∙◌, ap, subst}
 use Rattle.std.proofs.Math.ListN.{set}
 use Rattle.std.proofs.lemmas.Bool.{cases_eq}
-use Rattle.world_events.specs.StepLaws.{set-is, set-there}
+use Rattle.world_base.specs.StepLaws.{set-is, set-there}
 
 pub map-set : {A B : Type 0} (f : A → B) (xs : List A) (n : ℕ) (x : A) → map f (set xs n x) ≡ set (map f xs) n (f x)
 map-set f [] n x = refl

@@ -16,9 +16,9 @@ use Rattle.target_core.specs.Targets.{TargetOf}
 use Rattle.vos_store.specs.Calls.{State}
 use Rattle.world_base.specs.declared.target.TargetState.{TargetState}
 use Rattle.world_base.specs.declared.world.World.{World}
-use Rattle.world_events.specs.Events.{Rules, client_plan, target_plan}
-use Rattle.world_events.specs.Letters.{client, target}
-use Rattle.world_turns.specs.Idle.{has_idle}
+use Rattle.world_base.specs.Events.{Rules, client_plan, target_plan}
+use Rattle.world_base.specs.Letters.{client, target}
+use Rattle.world_base.specs.Idle.{has_idle}
 
 -- ---- targets
 

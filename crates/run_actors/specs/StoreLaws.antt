@@ -17,7 +17,7 @@ use Rattle.target_parts.specs.Stops.{stop_store}
 use Rattle.target_core.specs.Targets.{TargetOf}
 use Rattle.vos_store.specs.Calls.{State}
 use Rattle.vos_store.specs.Refusals.{always_stop, says}
-use Rattle.world_events.specs.StepLaws.{set-is, set-there}
+use Rattle.world_base.specs.StepLaws.{set-is, set-there}
 
 says-at : {T : Type 0} (t u : ℕ) (result : Result T TargetStop) → u ≡ t → says (stops_at t u) result ≡ says stop_store result
 says-at t u (Ok x) same = refl

@@ -7,8 +7,8 @@ ghost use Rattle.run_actors.specs.Shows.{Shows, Steps};
 ghost use Rattle.run_actors.specs.Stores.{StoresRun, stops_at};
 ghost use Rattle.run_picks.specs.Picks.{count_to, heard_awake, is_due};
 ghost use Rattle.world_base.specs.declared.world.World.{World};
-ghost use Rattle.world_events.specs.Events.{Rules};
-ghost use Rattle.world_events.specs.Letters.{client, target};
+ghost use Rattle.world_base.specs.Events.{Rules};
+ghost use Rattle.world_base.specs.Letters.{client, target};
 
 use client_core::client::Client;
 use daos_base::items::Memory;

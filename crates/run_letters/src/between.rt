@@ -1,8 +1,8 @@
 // What lies between the actors of a run.
 ghost use Rattle.std.specs.Prelude.{◌≡◌, ◌<◌, ◌++◌, [], length, map, OnOk};
 ghost use Rattle.run_letters.specs.Letters.{IsPicked, IsPlaceOf, letters_to};
-ghost use Rattle.world_events.specs.Events.{listed, with_epoch};
-ghost use Rattle.world_events.specs.Letters.{letters_of};
+ghost use Rattle.world_base.specs.Events.{listed, with_epoch};
+ghost use Rattle.world_base.specs.Letters.{letters_of};
 
 use crate::lines::with_epoch;
 use daos_base::epoch::Epoch;

@@ -1,6 +1,6 @@
 // A line as it is added to the report.
 ghost use Rattle.std.specs.Prelude.{◌≡◌};
-ghost use Rattle.world_events.specs.Events.{epoch_issued, with_epoch};
+ghost use Rattle.world_base.specs.Events.{epoch_issued, with_epoch};
 
 use daos_base::epoch::Epoch;
 use daos_base::id::AttemptId;

@@ -8,7 +8,7 @@ use Rattle.run_actors.specs.Shown.{named-client}
 use Rattle.run_picks.specs.Picks.{count_to, heard_awake}
 use Rattle.world_base.specs.declared.client.ClientState.{ClientState}
 use Rattle.world_base.specs.declared.letter.Letter.{Letter}
-use Rattle.world_events.specs.Letters.{client}
+use Rattle.world_base.specs.Letters.{client}
 
 -- a client hears one of those to it, or none
 pub heard-few : (c : ClientState) (count heard : ℕ) → heard ≡ heard_awake c count → heard ≤ count

@@ -13,9 +13,9 @@ use Rattle.run_picks.specs.Quiet.{quiet-has-ended}
 use Rattle.target_core.specs.Targets.{TargetOf}
 use Rattle.vos_store.specs.Calls.{State}
 use Rattle.world_base.specs.declared.world.World.{World}
-use Rattle.world_begins.specs.Begins.{IsBegun, IsSimple}
-use Rattle.world_begins.specs.Whole.{runs-stay-whole}
-use Rattle.world_events.specs.Events.{Rules}
+use Rattle.world_core.specs.Begins.{IsBegun, IsSimple}
+use Rattle.world_core.specs.Whole.{runs-stay-whole}
+use Rattle.world_base.specs.Events.{Rules}
 
 -- ---- the end
 

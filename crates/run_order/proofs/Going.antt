@@ -14,7 +14,7 @@ use Rattle.run_picks.specs.Picks.{TurnOf}
 use Rattle.target_core.specs.Targets.{TargetOf}
 use Rattle.vos_store.specs.Calls.{State}
 use Rattle.world_base.specs.declared.world.World.{World}
-use Rattle.world_events.specs.Events.{Rules}
+use Rattle.world_base.specs.Events.{Rules}
 
 module _ {S C : Type 0} (durable : S → Option Durable) (state : S → State) where
   -- From each world that these showed, those have come to one that they show, in this way; they are those of a begun run, and as many.

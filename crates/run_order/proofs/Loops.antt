@@ -20,8 +20,8 @@ use Rattle.run_picks.specs.Picks.{TurnOf, heard, is_due, numbered}
 use Rattle.target_core.specs.Targets.{TargetOf}
 use Rattle.vos_store.specs.Calls.{State}
 use Rattle.world_base.specs.declared.world.World.{World}
-use Rattle.world_events.specs.Events.{Rules}
-use Rattle.world_events.specs.Letters.{client, target}
+use Rattle.world_base.specs.Events.{Rules}
+use Rattle.world_base.specs.Letters.{client, target}
 
 -- these actors have had their turns in a round
 abbrev pub turned : Bool → List ActorId → Rules → World → World → Type 0

@@ -11,8 +11,8 @@ use Rattle.target_core.specs.Targets.{TargetOf}
 use Rattle.vos_store.specs.Calls.{State}
 use Rattle.world_base.specs.declared.target.TargetState.{TargetState}
 use Rattle.world_base.specs.declared.world.World.{World}
-use Rattle.world_events.specs.Ended.{HasEnded}
-use Rattle.world_events.specs.Events.{Rules, target_plan}
+use Rattle.world_base.specs.Ended.{HasEnded}
+use Rattle.world_base.specs.Events.{Rules, target_plan}
 
 -- nothing lies between actors before their first turns
 abbrev pub nothing : BetweenNow

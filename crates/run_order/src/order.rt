@@ -9,8 +9,8 @@ ghost use Rattle.run_picks.specs.Orders.{InDraws, InOrder, InRounds, RoundOf, af
 ghost use Rattle.run_picks.specs.Picks.{count_to, heard};
 ghost use Rattle.world_base.specs.declared.world.World.{World};
 ghost use Rattle.daos_model.specs.Opening.{Opening};
-ghost use Rattle.world_begins.specs.Begins.{IsBegun, IsSimple};
-ghost use Rattle.world_events.specs.Events.{Rules};
+ghost use Rattle.world_core.specs.Begins.{IsBegun, IsSimple};
+ghost use Rattle.world_base.specs.Events.{Rules};
 
 use crate::halted::Halted;
 use client_core::client::Client;

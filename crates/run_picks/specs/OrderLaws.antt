@@ -9,8 +9,8 @@ use Rattle.run_picks.specs.Orders.{AndThen, ByDraws, ByRounds, Draws, HasIt, Has
 use Rattle.run_picks.specs.Picks.{Going, Hearing, Idling, Serving, TurnOf, actors, count_to, due, heard, heard_by_client}
 use Rattle.world_base.specs.declared.client.ClientState.{ClientState}
 use Rattle.world_base.specs.declared.world.World.{World}
-use Rattle.world_events.specs.Events.{Begins, ByClient, ByTarget, Event, Goes, Rules, Run, ToClient, ToTarget}
-use Rattle.world_events.specs.Letters.{client}
+use Rattle.world_base.specs.Events.{Begins, ByClient, ByTarget, Event, Goes, Rules, Run, ToClient, ToTarget}
+use Rattle.world_base.specs.Letters.{client}
 
 -- ---- the statements
 

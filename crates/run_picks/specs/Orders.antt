@@ -4,7 +4,7 @@ use Rattle.daos_draw.specs.Draws.{drawn}
 use Rattle.daos_messages.specs.declared.actor.ActorId.{ActorId}
 use Rattle.run_picks.specs.Picks.{TurnOf, actors, due, heard, is_due}
 use Rattle.world_base.specs.declared.world.World.{World}
-use Rattle.world_events.specs.Events.{Rules}
+use Rattle.world_base.specs.Events.{Rules}
 
 -- ---- rounds
 

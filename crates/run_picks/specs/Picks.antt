@@ -9,9 +9,9 @@ use Rattle.world_base.specs.declared.target.TargetPlan.{TargetPlan}
 use Rattle.world_base.specs.declared.target.TargetState.{TargetState}
 use Rattle.world_base.specs.declared.world.World.{World}
 use Rattle.world_base.specs.ClientTurns.{is_done, waits}
-use Rattle.world_events.specs.Events.{ClientGoes, ClientHears, Rules, TargetHears, TargetIdles, client_plan, target_plan}
-use Rattle.world_events.specs.Letters.{client, target}
-use Rattle.world_turns.specs.Idle.{has_idle}
+use Rattle.world_base.specs.Events.{ClientGoes, ClientHears, Rules, TargetHears, TargetIdles, client_plan, target_plan}
+use Rattle.world_base.specs.Letters.{client, target}
+use Rattle.world_base.specs.Idle.{has_idle}
 
 -- ---- actors
 

@@ -18,11 +18,11 @@ use Rattle.world_base.specs.declared.target.TargetPlan.{TargetPlan}
 use Rattle.world_base.specs.declared.target.TargetState.{TargetState}
 use Rattle.world_base.specs.declared.world.World.{World}
 use Rattle.world_base.specs.ClientTurns.{is_done, waits}
-use Rattle.world_events.specs.Ended.{HasEnded}
-use Rattle.world_events.specs.Events.{Rules, client_plan, target_plan}
-use Rattle.world_events.specs.Letters.{client, target}
-use Rattle.world_turns.specs.Idle.{has_idle}
-use Rattle.world_turns.specs.Roles.{leader_at, member_at}
+use Rattle.world_base.specs.Ended.{HasEnded}
+use Rattle.world_base.specs.Events.{Rules, client_plan, target_plan}
+use Rattle.world_base.specs.Letters.{client, target}
+use Rattle.world_base.specs.Idle.{has_idle}
+use Rattle.world_base.specs.Roles.{leader_at, member_at}
 
 -- ---- the statements
 

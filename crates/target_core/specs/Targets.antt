@@ -1,31 +1,29 @@
 -- What a target is seen as, what holds of each, and what a turn of it comes to.
 use Rattle.std.specs.Prelude.{ℕ, ◌≡◌, ◌≤◌, Bool, true, false, List, [], Option, Some, None, is_some, Result, Ok, Err}
 use Rattle.std.specs.Option.{ForSome}
-use Rattle.daos_base.specs.declared.entry.Entry.{Entry}
 use Rattle.daos_base.specs.declared.epoch.Epoch.{Epoch}
 use Rattle.daos_base.specs.declared.id.AttemptId.{AttemptId}
 use Rattle.daos_base.specs.declared.outcome.FloorWhy.{FloorWhy}
 use Rattle.daos_base.specs.declared.report.Line.{Line}
 use Rattle.daos_base.specs.Operations.{read_path}
-use Rattle.daos_laws.specs.Members.{Has}
 use Rattle.daos_messages.specs.declared.actor.ActorId.{ActorId}
 use Rattle.daos_messages.specs.declared.message.Message.{Message}
 use Rattle.daos_messages.specs.declared.message.Message.TheVariants.{Ack, Commit, Fetch, Mark, Marked, Prepare, Query, Verdict}
 use Rattle.daos_model.specs.declared.durable.Durable.{Durable}
-use Rattle.daos_model.specs.Durables.{entry_of, is_enlisted}
+use Rattle.daos_model.specs.Durables.{is_enlisted}
 use Rattle.vos_store.specs.Calls.{State}
 use Rattle.world_base.specs.declared.did.Did.{Did}
 use Rattle.world_base.specs.declared.target.TargetMemory.{TargetMemory}
 use Rattle.world_base.specs.declared.target.TargetPlan.{TargetPlan}
-use Rattle.world_turns.specs.Acks as ack
-use Rattle.world_turns.specs.Changes.{Kept}
-use Rattle.world_turns.specs.Commits as commit
-use Rattle.world_turns.specs.Idle.{IdleNext}
-use Rattle.world_turns.specs.Marks.{MarkNext}
-use Rattle.world_turns.specs.Prepares as prepare
-use Rattle.world_turns.specs.Reads as read
-use Rattle.world_turns.specs.TargetTurns.{Hears, IdlesCut, IdlesWhole, commit_request, fetch_request, prepare_request}
-use Rattle.world_turns.specs.Verdicts as verdict
+use Rattle.world_base.specs.Acks as ack
+use Rattle.world_base.specs.Changes.{Kept}
+use Rattle.world_base.specs.Commits as commit
+use Rattle.world_base.specs.Idle.{IdleNext}
+use Rattle.world_base.specs.Marks.{MarkNext}
+use Rattle.world_base.specs.Prepares as prepare
+use Rattle.world_base.specs.Reads as read
+use Rattle.world_base.specs.TargetTurns.{Hears, IdlesCut, IdlesWhole, commit_request, fetch_request, prepare_request}
+use Rattle.world_base.specs.Verdicts as verdict
 pub use Rattle.world_posts.specs.Forms.{HasForm, is_of_client}
 use Rattle.target_parts.specs.declared.knows.Knows.{Knows}
 use Rattle.target_parts.specs.declared.stop.TargetStop.{TargetStop}
@@ -55,17 +53,11 @@ pub record IsTarget (t : TargetPlan) (h : State) (old : Option Durable) (k : Kno
 
 -- ---- what a target is asked
 
--- where an attempt has an entry here, another target leads it
-abbrev pub IsLedElsewhere : ℕ → AttemptId → Durable → Type 0
-IsLedElsewhere me a d = (e : Entry) → entry_of d a ≡ Some e → e.leader ≡ me → ⊥
-
--- a message can be heard with what is kept
+-- A message can be heard with what is kept: the container that is read is here; and writes can be stored.
 abbrev pub CanHear : TargetPlan → Message → Durable → Type 0
 CanHear t (Fetch x op group ep first tracker r snapshot) d = is_enlisted d (read_path r).cont ≡ true
 CanHear t (Commit x ep first tracker ws) d = CanCommit t x ep ws d
 CanHear t (Prepare e first ws inc) d = CanPrepareHere e ws d
-CanHear t (Mark inc marks) d = (x : AttemptId × Bool) → Has x marks → IsLedElsewhere t.me x.0 d
-CanHear t (Verdict x ask inc v) d = IsLedElsewhere t.me x d
 CanHear t m d = Unit {0}
 
 -- a message for which no epoch is issued
@@ -85,7 +77,7 @@ HearsCutTelling t opening m reading from (Commit x ep first tracker ws) old find
 HearsCutTelling t opening m reading from (Prepare e first ws inc) old finds issued lines =
     CutTelling (prepare.PrepareNext t opening m (prepare_request e first ws inc)) never prepare.Heard old finds issued lines
 HearsCutTelling t opening m reading from (Ack x inc refusal) old finds issued lines = CutTelling (ack.AckNext t m from.number x inc refusal) never ack.Heard old finds issued lines
-HearsCutTelling t opening m reading from (Mark inc marks) old finds issued lines = CutTelling MarkNext never marks old finds issued lines
+HearsCutTelling t opening m reading from (Mark inc marks) old finds issued lines = CutTelling (MarkNext t.me) never marks old finds issued lines
 HearsCutTelling t opening m reading from (Marked inc ids) old finds issued lines = CutTelling (ack.MarkedNext t m from.number) never (ack.to_confirm inc ids old.durable) old finds issued lines
 HearsCutTelling t opening m reading from (Query x ask) old finds issued lines = CutTelling verdict.QueryNext never verdict.IsAsked old finds issued lines
 HearsCutTelling t opening m reading from (Verdict x ask inc v) old finds issued lines = CutTelling (verdict.VerdictNext t m reading x ask v) never verdict.Heard old finds issued lines
@@ -97,7 +89,7 @@ HearsPartway t opening m reading from (Fetch x op group ep first tracker r snaps
 HearsPartway t opening m reading from (Commit x ep first tracker ws) old mid = Partway (commit.CommitNext t opening m reading (commit_request x ep first tracker ws)) commit.Asked old mid
 HearsPartway t opening m reading from (Prepare e first ws inc) old mid = Partway (prepare.PrepareNext t opening m (prepare_request e first ws inc)) prepare.Heard old mid
 HearsPartway t opening m reading from (Ack x inc refusal) old mid = Partway (ack.AckNext t m from.number x inc refusal) ack.Heard old mid
-HearsPartway t opening m reading from (Mark inc marks) old mid = Partway MarkNext marks old mid
+HearsPartway t opening m reading from (Mark inc marks) old mid = Partway (MarkNext t.me) marks old mid
 HearsPartway t opening m reading from (Marked inc ids) old mid = Partway (ack.MarkedNext t m from.number) (ack.to_confirm inc ids old.durable) old mid
 HearsPartway t opening m reading from (Query x ask) old mid = Partway verdict.QueryNext verdict.IsAsked old mid
 HearsPartway t opening m reading from (Verdict x ask inc v) old mid = Partway (verdict.VerdictNext t m reading x ask v) verdict.Heard old mid

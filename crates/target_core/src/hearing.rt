@@ -43,7 +43,7 @@ fn hear_client<S: Store, C: Clock>(
     requires running { (S.state store.old).stopped ≡ false }
     requires own { IsOwn plan knows.old }
     requires client { is_of_client message ≡ true }
-    requires form { HasForm plan from message }
+    requires form { HasForm plan message }
     requires here { ForSome (S.durable store.old) (CanHear plan message) }
     requires leads { ForSome (S.durable store.old) (LeadsWell plan (memory_of knows.old) knows.old.entries.items) }
     ensures runs { Runs stop_store result (S.state store.old) (S.state store.new) (S.durable store.old) (S.durable store.new) }
@@ -112,7 +112,7 @@ fn hear_target<S: Store>(
     requires running { (S.state store.old).stopped ≡ false }
     requires own { IsOwn plan knows.old }
     requires target { is_of_client message ≡ false }
-    requires form { HasForm plan from message }
+    requires form { HasForm plan message }
     requires here { ForSome (S.durable store.old) (CanHear plan message) }
     requires leads { ForSome (S.durable store.old) (LeadsWell plan (memory_of knows.old) knows.old.entries.items) }
     ensures runs { Runs stop_store result (S.state store.old) (S.state store.new) (S.durable store.old) (S.durable store.new) }
@@ -143,16 +143,29 @@ fn hear_target<S: Store>(
             attempt,
             inc,
             refusal,
-        } => {
-            let member = from.number as u8;
-            hear_ack(alloc, plan, store, knows, member, attempt, inc, &refusal)
-        }
+        } => hear_ack(
+            alloc,
+            plan,
+            store,
+            knows,
+            from.number,
+            attempt,
+            inc,
+            &refusal,
+        ),
         Message::Mark { inc, marks } => {
             hear_mark(alloc, plan, store, knows, from, inc, marks.as_slice())
         }
         Message::Marked { inc, attempts } => {
-            let member = from.number as u8;
-            hear_marked(alloc, plan, store, knows, member, inc, attempts.as_slice())
+            hear_marked(
+                alloc,
+                plan,
+                store,
+                knows,
+                from.number,
+                inc,
+                attempts.as_slice(),
+            )
         }
         Message::Query { attempt, ask } => {
             hear_query(alloc, plan, store, knows, from, attempt, ask)
@@ -188,7 +201,7 @@ pub(crate) fn hear_message<S: Store, C: Clock>(
     requires few { plan.targets ≤ 64 }
     requires running { (S.state store.old).stopped ≡ false }
     requires own { IsOwn plan knows.old }
-    requires form { HasForm plan from message }
+    requires form { HasForm plan message }
     requires here { ForSome (S.durable store.old) (CanHear plan message) }
     requires leads { ForSome (S.durable store.old) (LeadsWell plan (memory_of knows.old) knows.old.entries.items) }
     ensures runs { Runs stop_store result (S.state store.old) (S.state store.new) (S.durable store.old) (S.durable store.new) }

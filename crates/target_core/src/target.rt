@@ -5,7 +5,7 @@ ghost use Rattle.daos_model.specs.declared.durable.Durable.{Durable};
 ghost use Rattle.dtx_base.specs.Leading.{first_memory};
 ghost use Rattle.dtx_base.specs.Joining.{first_member};
 ghost use Rattle.vos_store.specs.Refusals.{says};
-ghost use Rattle.world_turns.specs.Idle.{has_idle};
+ghost use Rattle.world_base.specs.Idle.{has_idle};
 ghost use Rattle.world_posts.specs.Forms.{PostsInForm};
 ghost use Rattle.target_parts.specs.Knowing.{IsHeard};
 ghost use Rattle.target_parts.specs.Parts.{Runs};
@@ -141,7 +141,7 @@ impl<S: Store, C: Clock> Target<S, C> {
         number: Option<u32>,
     ) -> Result<Did, TargetStop>
         requires running { (S.state self.old.store).stopped ≡ false }
-        requires form { HasForm self.old.plan from message }
+        requires form { HasForm self.old.plan message }
         requires here { ForSome (S.durable self.old.store) (CanHear self.old.plan message) }
         ensures plan { self.new.plan ≡ self.old.plan }
         ensures runs { Runs stop_store result (S.state self.old.store) (S.state self.new.store) (S.durable self.old.store) (S.durable self.new.store) }

@@ -20,18 +20,18 @@ use Rattle.vos_store.specs.declared.refusal.Stopped.{Stopped}
 use Rattle.world_base.specs.declared.did.Did.{Did as DidOf}
 use Rattle.world_base.specs.declared.target.TargetMemory.{TargetMemory}
 use Rattle.world_base.specs.declared.target.TargetPlan.{TargetPlan}
-use Rattle.world_turns.specs.Acks.{Aborts, AckEnds, AckNext, Counts, Followed, Heard, IsFollowed, is_awaited, is_awaited_of, is_refusing}
-use Rattle.world_turns.specs.Changes.{Settles, made}
-use Rattle.world_turns.specs.Requests.{sends}
-use Rattle.world_turns.specs.Roles.{leader_at, leads_on}
-use Rattle.world_turns.specs.Turns.{CutShort, Reached, Whole}
+use Rattle.world_base.specs.Acks.{Aborts, AckEnds, AckNext, Counts, Followed, Heard, IsFollowed, is_awaited, is_awaited_of, is_refusing}
+use Rattle.world_base.specs.Changes.{Settles, made}
+use Rattle.world_base.specs.Requests.{sends}
+use Rattle.world_base.specs.Roles.{leader_at, leads_on}
+use Rattle.world_base.specs.Turns.{CutShort, Reached, Whole}
 use Rattle.target_parts.specs.Keeping.{MadeIf}
 use Rattle.target_parts.specs.KeepingLaws.{open-aborts}
 use Rattle.target_parts.specs.Knowing.{AreRowsOpen, IsApart, LeadsWell}
 use Rattle.target_parts.specs.Parts.{Now, kept}
 use Rattle.target_parts.specs.RowKeeping.{ack-rows, undecided-open, without-apart}
 use Rattle.target_parts.specs.Turning.{cut_in_change, reached_change, reached_silent, whole}
-use Rattle.world_turns.specs.PathLaws.{reached-here}
+use Rattle.world_base.specs.PathLaws.{reached-here}
 
 -- an Ack that refuses is of an attempt that is undecided here, and aborts it
 record Refuses (member : ℕ) (a : AttemptId) (inc : ℕ) (refusal : Option Outcome) (l : LeaderOf) : Type 0 where

@@ -8,15 +8,15 @@ use Rattle.vos_store.specs.Calls.{State}
 use Rattle.world_base.specs.declared.did.Did.{Did}
 use Rattle.world_base.specs.declared.target.TargetMemory.{TargetMemory}
 use Rattle.world_base.specs.declared.target.TargetPlan.{TargetPlan}
-use Rattle.world_turns.specs.Requests.{says}
-use Rattle.world_turns.specs.Turns.{Whole}
-use Rattle.world_turns.specs.Verdicts.{Answers, IsAnswered, IsAsked, IsTold, QueryEnds, QueryNext, verdict_message}
+use Rattle.world_base.specs.Requests.{says}
+use Rattle.world_base.specs.Turns.{Whole}
+use Rattle.world_base.specs.Verdicts.{Answers, IsAnswered, IsAsked, IsTold, QueryEnds, QueryNext, verdict_message}
 use Rattle.target_parts.specs.declared.stop.TargetStop.{TargetStop}
 use Rattle.target_parts.specs.Ending.{turn_said}
 use Rattle.target_parts.specs.Parts.{kept}
 use Rattle.target_parts.specs.Stops.{Turn, never, stop_memory}
 use Rattle.target_parts.specs.Turning.{now_partway, reached_silent, whole}
-use Rattle.world_turns.specs.PathLaws.{reached-here}
+use Rattle.world_base.specs.PathLaws.{reached-here}
 
 -- what the leader knows of the attempt is told, or memory is wanting for that
 pub answers-so : (t : TargetPlan) (m : TargetMemory) (from : ActorId) (a : AttemptId) (ask : Option AttemptId) (d : Durable) (h : State) (new : Option Durable) (finds : Durable → Type 0) (r : Result Did TargetStop) → new ≡ Some d

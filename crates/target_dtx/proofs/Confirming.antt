@@ -26,11 +26,11 @@ use Rattle.vos_store.specs.declared.refusal.Stopped.{Stopped}
 use Rattle.world_base.specs.declared.did.Did.{Did as DidOf}
 use Rattle.world_base.specs.declared.target.TargetMemory.{TargetMemory}
 use Rattle.world_base.specs.declared.target.TargetPlan.{TargetPlan}
-use Rattle.world_turns.specs.Acks.{AllConfirmed, Confirms, MarkedEnds, MarkedNext, PassesBy, to_confirm}
-use Rattle.world_turns.specs.Changes.{Kept, Settles}
-use Rattle.world_turns.specs.Requests.{nothing_follows}
-use Rattle.world_turns.specs.Roles.{leader_at}
-use Rattle.world_turns.specs.Turns.{CutShort, Reached, Whole}
+use Rattle.world_base.specs.Acks.{AllConfirmed, Confirms, MarkedEnds, MarkedNext, PassesBy, to_confirm}
+use Rattle.world_base.specs.Changes.{Kept, Settles}
+use Rattle.world_base.specs.Requests.{nothing_follows}
+use Rattle.world_base.specs.Roles.{leader_at}
+use Rattle.world_base.specs.Turns.{CutShort, Reached, Whole}
 use Rattle.target_parts.specs.Keeping.{MadeIf}
 use Rattle.target_parts.specs.KeepingLaws.{apart-unless}
 use Rattle.target_parts.specs.Knowing.{AreRowsOpen, IsApart, LeadsWell}

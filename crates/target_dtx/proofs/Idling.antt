@@ -22,10 +22,10 @@ use Rattle.vos_store.specs.Calls.{State}
 use Rattle.world_base.specs.declared.did.Did.{Did as DidOf}
 use Rattle.world_base.specs.declared.target.TargetMemory.{TargetMemory}
 use Rattle.world_base.specs.declared.target.TargetPlan.{TargetPlan}
-use Rattle.world_turns.specs.Changes.{Kept, Settles, made}
-use Rattle.world_turns.specs.Idle.{AllSettled, IdleEnds, IdleNext, SettlesFirst, idle_memory, idle_told}
-use Rattle.world_turns.specs.Roles.{with_unsettled}
-use Rattle.world_turns.specs.Turns.{CutShort, Reached, Whole}
+use Rattle.world_base.specs.Changes.{Kept, Settles, made}
+use Rattle.world_base.specs.Idle.{AllSettled, IdleEnds, IdleNext, SettlesFirst, idle_memory, idle_told}
+use Rattle.world_base.specs.Roles.{with_unsettled}
+use Rattle.world_base.specs.Turns.{CutShort, Reached, Whole}
 use Rattle.target_parts.specs.declared.stop.TargetStop.{TargetStop}
 use Rattle.target_parts.specs.Parts.{Did, Now, WasCut, kept}
 use Rattle.target_parts.specs.Turning.{cut_in_change, reached_change, whole}

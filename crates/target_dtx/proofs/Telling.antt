@@ -14,8 +14,8 @@ use Rattle.dtx_base.specs.Leading.{LeaderOf, batched, is_batch_due}
 use Rattle.dtx_posts.specs.Seats.{came}
 use Rattle.world_base.specs.declared.target.TargetMemory.{TargetMemory}
 use Rattle.world_base.specs.declared.target.TargetPlan.{TargetPlan}
-use Rattle.world_turns.specs.Idle.{has_idle}
-use Rattle.world_turns.specs.Roles.{leader_at, member_at}
+use Rattle.world_base.specs.Idle.{has_idle}
+use Rattle.world_base.specs.Roles.{leader_at, member_at}
 use Rattle.target_parts.specs.declared.knows.Knows.{Knows}
 use Rattle.target_parts.specs.Knowing.{AreRowsOpen, IsHeard, IsOwn, LeadsWell, memory_of}
 use Rattle.target_parts.specs.RowKeeping.{rows-named}

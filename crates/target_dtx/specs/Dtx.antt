@@ -1,21 +1,13 @@
 -- What a target does that hears of attempts from other targets.
 use Rattle.std.specs.Prelude.{Bool, true, false, List, [], Option, Result, Ok, Err}
 use Rattle.daos_base.specs.declared.entry.Entry.{Entry}
-use Rattle.daos_base.specs.declared.id.AttemptId.{AttemptId}
-use Rattle.daos_laws.specs.Members.{Has}
 use Rattle.daos_model.specs.declared.durable.Durable.{Durable}
-use Rattle.dtx_base.specs.declared.leading.LeaderMemory.{LeaderMemory}
 use Rattle.dtx_base.specs.Joining.{MemberOf, MemberStep, inquired, quietly}
 use Rattle.vos_store.specs.Calls.{State}
 use Rattle.vos_store.specs.declared.refusal.Stopped.{Stopped}
-use Rattle.world_turns.specs.Changes.{Change, Kept}
-use Rattle.world_turns.specs.Turns.{CutShort, Reached}
-use Rattle.target_parts.specs.Knowing.{IsApart}
+use Rattle.world_base.specs.Changes.{Change, Kept}
+use Rattle.world_base.specs.Turns.{CutShort, Reached}
 use Rattle.target_parts.specs.Parts.{Now, kept}
-
--- the attempts that a Mark names aren't among those that are remembered here
-abbrev pub AreApart : List (AttemptId × Bool) → LeaderMemory → Type 0
-AreApart marks m = (x : AttemptId × Bool) → Has x marks → IsApart x.0 m
 
 -- a list was gone through, or that was cut
 abbrev pub GoesThrough : {T : Type 0} → (List T → Kept → Option Change → List T → Type 0) → List T → Durable → State → Option Durable → State → (Durable → Type 0) → Result (Unit {0}) Stopped → Type 0

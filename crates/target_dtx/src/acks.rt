@@ -8,10 +8,10 @@ ghost use Rattle.dtx_posts.specs.Seats.{leader_of};
 ghost use Rattle.vos_store.specs.Conditions.{CanSettle};
 ghost use Rattle.vos_store.specs.Refusals.{always_stop, says};
 ghost use Rattle.world_base.specs.declared.target.TargetMemory.{TargetMemory};
-ghost use Rattle.world_turns.specs.Acks as ack;
-ghost use Rattle.world_turns.specs.Changes.{Settles};
-ghost use Rattle.world_turns.specs.Roles.{leader_at};
-ghost use Rattle.world_turns.specs.Turns.{Whole};
+ghost use Rattle.world_base.specs.Acks as ack;
+ghost use Rattle.world_base.specs.Changes.{Settles};
+ghost use Rattle.world_base.specs.Roles.{leader_at};
+ghost use Rattle.world_base.specs.Turns.{Whole};
 ghost use Rattle.world_posts.specs.Forms.{PostsInForm};
 ghost use Rattle.target_parts.specs.Keeping.{MadeIf};
 ghost use Rattle.target_parts.specs.Knowing.{IsApart, IsBeside, IsOwn, LeadsWell, memory_of};
@@ -25,7 +25,7 @@ use daos_base::id::AttemptId;
 use daos_base::items::Items;
 use daos_base::outcome::Outcome;
 use dtx_leader::leader::Leader;
-use dtx_posts::bits::{has_target, is_other_member};
+use dtx_posts::bits::{has_number, is_other_number};
 use dtx_posts::led::find_led;
 use dtx_posts::seat::Seat;
 use std::alloc::Global;
@@ -41,12 +41,12 @@ use world_base::target::TargetPlan;
 
 // Whether an Ack counts, and refuses: it is of this incarnation, of an attempt that is undecided here,
 // and of another member of it.
-#[tactic(auto, unfolding(world_turns::specs::Acks::is_awaited))]
+#[tactic(auto, unfolding(world_base::specs::Acks::is_awaited))]
 fn is_refusing(
     leader: &Leader,
     seat: Seat,
     entries: &[Entry],
-    member: TargetId,
+    member: u16,
     attempt: AttemptId,
     inc: u64,
     refusal: &Option<Outcome>,
@@ -62,7 +62,7 @@ fn is_refusing(
     if leader.undecided(attempt).is_none() {
         return false;
     }
-    is_other_member(&entry, member) && refusal.is_some()
+    is_other_number(&entry, member) && refusal.is_some()
 }
 
 // An attempt is aborted in the store, where that is so.
@@ -91,7 +91,8 @@ fn abort_if<S: Store>(
     settle(store, &mut knows.entries, attempt, Settle::Abort)
 }
 
-/// It hears an Ack: the attempt that it refuses is aborted.
+/// It hears an Ack of the actor of this number: the attempt that it refuses is aborted. One of no other member
+/// changes nothing.
 ///
 /// # Errors
 ///
@@ -101,7 +102,7 @@ pub fn hear_ack<S: Store>(
     plan: TargetPlan,
     store: &mut S,
     knows: &mut Knows,
-    member: TargetId,
+    member: u16,
     attempt: AttemptId,
     inc: u64,
     refusal: &Option<Outcome>,
@@ -136,7 +137,7 @@ fn confirm<S: Store>(
     store: &mut S,
     plan: TargetPlan,
     knows: &mut Knows,
-    member: TargetId,
+    member: u16,
     attempt: AttemptId,
 ) -> Result<(), Stopped>
     requires running { (S.state store.old).stopped ≡ false }
@@ -151,8 +152,9 @@ fn confirm<S: Store>(
     let Some(entry) = find_led(&knows.entries, plan.me, attempt) else {
         return Ok(());
     };
-    if entry.committed && has_target(entry.members, member) {
-        return settle(store, &mut knows.entries, attempt, Settle::Confirm(member));
+    if entry.committed && has_number(entry.members, member) {
+        let step = Settle::Confirm(member as TargetId);
+        return settle(store, &mut knows.entries, attempt, step);
     }
     Ok(())
 }
@@ -162,7 +164,7 @@ fn confirm_all<S: Store>(
     store: &mut S,
     plan: TargetPlan,
     knows: &mut Knows,
-    member: TargetId,
+    member: u16,
     attempts: &[AttemptId],
 ) -> Result<(), Stopped>
     requires running { (S.state store.old).stopped ≡ false }
@@ -187,8 +189,8 @@ fn to_confirm<'a>(incarnation: u64, inc: u64, attempts: &'a [AttemptId]) -> &'a 
     if inc == incarnation { attempts } else { &[] }
 }
 
-/// It hears a Marked: the Mark got its answer, and the sender confirms each commit of which it is a
-/// member; none where it answers an older incarnation.
+/// It hears a Marked of the actor of this number: the Mark got its answer, and the sender confirms each
+/// commit of which it is a member; none where it answers an older incarnation.
 ///
 /// # Errors
 ///
@@ -198,7 +200,7 @@ pub fn hear_marked<S: Store>(
     plan: TargetPlan,
     store: &mut S,
     knows: &mut Knows,
-    member: TargetId,
+    member: u16,
     inc: u64,
     attempts: &[AttemptId],
 ) -> Result<Did, TargetStop>

@@ -3,14 +3,14 @@ ghost use Rattle.std.specs.Prelude.{◌≡◌, IfOk, OnOk, Some, false};
 ghost use Rattle.std.specs.Option.{ForSome};
 ghost use Rattle.daos_model.specs.declared.durable.Durable.{Durable};
 ghost use Rattle.vos_store.specs.Refusals.{always_stop, says};
-ghost use Rattle.world_turns.specs.Marks.{MarkEnds, MarkNext, marked_step};
-ghost use Rattle.world_turns.specs.Turns.{Whole};
+ghost use Rattle.world_base.specs.Marks.{MarkEnds, MarkNext, marked_step};
+ghost use Rattle.world_base.specs.Turns.{Whole};
 ghost use Rattle.world_posts.specs.Forms.{PostsInForm};
 ghost use Rattle.target_parts.specs.Keeping.{IsEnding};
 ghost use Rattle.target_parts.specs.Knowing.{IsBeside, IsOwn, LeadsWell, memory_of};
 ghost use Rattle.target_parts.specs.Parts.{Runs, kept};
 ghost use Rattle.target_parts.specs.Stops.{Turn, never, stop_foreign, stop_store};
-ghost use Rattle.target_dtx.specs.Dtx.{AreApart, GoesThrough};
+ghost use Rattle.target_dtx.specs.Dtx.{GoesThrough};
 
 use daos_base::entry::Settle;
 use daos_base::id::AttemptId;
@@ -20,7 +20,7 @@ use daos_messages::message::Message;
 use dtx_marks::marks::attempts_of;
 use std::alloc::Global;
 use target_parts::halt::Halt;
-use target_parts::kept::settle_prepared;
+use target_parts::kept::settle_in_doubt;
 use target_parts::knows::Knows;
 use target_parts::stop::{TargetStop, stop_of};
 use target_parts::telling::says;
@@ -49,23 +49,22 @@ fn settle_all<S: Store>(
     marks: &[(AttemptId, bool)],
 ) -> Result<(), Stopped>
     requires running { (S.state store.old).stopped ≡ false }
-    requires apart { ForSome (S.durable store.old) (λ _. AreApart marks.now knows.old.leader) }
     requires leads { ForSome (S.durable store.old) (LeadsWell plan (memory_of knows.old) knows.old.entries.items) }
     ensures runs { Runs always_stop result (S.state store.old) (S.state store.new) (S.durable store.old) (S.durable store.new) }
     ensures settled { (d : Durable) → S.durable store.old ≡ Some d
-        → GoesThrough MarkNext marks.now d (S.state store.old) (S.durable store.new) (S.state store.new) (S.may store.new) result }
+        → GoesThrough (MarkNext plan.me) marks.now d (S.state store.old) (S.durable store.new) (S.state store.new) (S.may store.new) result }
     ensures beside { IsBeside knows.old knows.new }
     ensures leader { knows.new.leader ≡ knows.old.leader }
     ensures leads { OnOk result (ForSome (S.durable store.new) (LeadsWell plan (memory_of knows.new) knows.new.entries.items)) }
 {
     for mark in marks {
-        settle_prepared(store, plan, knows, mark.0, step_of(mark.1))?;
+        settle_in_doubt(store, plan, knows, mark.0, step_of(mark.1))?;
     }
     Ok(())
 }
 
-/// It hears a Mark: it settles the attempts that it names, and tells so of all. None of them is one
-/// that it leads and has to settle itself.
+/// It hears a Mark: it settles the attempts in doubt that it names, and tells so of all. What it leads
+/// itself it passes by.
 ///
 /// # Errors
 ///
@@ -81,12 +80,11 @@ pub fn hear_mark<S: Store>(
 ) -> Result<Did, TargetStop>
     requires running { (S.state store.old).stopped ≡ false }
     requires own { IsOwn plan knows.old }
-    requires apart { ForSome (S.durable store.old) (λ _. AreApart marks.now knows.old.leader) }
     requires leads { ForSome (S.durable store.old) (LeadsWell plan (memory_of knows.old) knows.old.entries.items) }
     ensures runs { Runs stop_store result (S.state store.old) (S.state store.new) (S.durable store.old) (S.durable store.new) }
     ensures turn { (d : Durable) → S.durable store.old ≡ Some d
-        → Turn MarkNext never marks.now (kept d (S.state store.old))
-        (λ did l. Whole MarkNext (MarkEnds (memory_of knows.old) from inc marks.now) marks.now (kept d (S.state store.old)) l (memory_of knows.new, did))
+        → Turn (MarkNext plan.me) never marks.now (kept d (S.state store.old))
+        (λ did l. Whole (MarkNext plan.me) (MarkEnds (memory_of knows.old) from inc marks.now) marks.now (kept d (S.state store.old)) l (memory_of knows.new, did))
         (S.durable store.new) (S.state store.new) (S.may store.new) result }
     ensures leads { says stop_store result ≡ false → ForSome (S.durable store.new) (LeadsWell plan (memory_of knows.new) knows.new.entries.items) }
     ensures own { IsOwn plan knows.new }

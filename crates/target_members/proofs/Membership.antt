@@ -10,7 +10,7 @@ use Rattle.daos_base.specs.declared.operation.MinorWrite.{MinorWrite}
 use Rattle.daos_base.specs.Operations.{write_path}
 use Rattle.daos_base.specs.Placement.{groups_members, members, path_members, writes_members}
 use Rattle.dtx_posts.specs.Ranges.{from_one, none_left}
-use Rattle.world_turns.specs.Commits.{bits_of}
+use Rattle.world_base.specs.Commits.{bits_of}
 use Rattle.daos_laws.specs.Lists.{drop-item}
 
 -- ---- groups

@@ -3,7 +3,7 @@ ghost use Rattle.std.specs.Prelude.{◌≡◌, ◌<◌, ◌≤◌, ◌++◌, All
 ghost use Rattle.std.specs.List.{range_with_len};
 ghost use Rattle.daos_base.specs.Operations.{write_path};
 ghost use Rattle.daos_base.specs.Placement.{ClassFits, groups, groups_members, members, path_members, writes_members};
-ghost use Rattle.world_turns.specs.Commits as commit;
+ghost use Rattle.world_base.specs.Commits as commit;
 
 use daos_base::epoch::TargetId;
 use daos_base::id::ObjId;

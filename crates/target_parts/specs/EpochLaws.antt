@@ -10,7 +10,7 @@ use Rattle.daos_model.specs.declared.durable.Durable.{Durable}
 use Rattle.daos_model.specs.Durables.{IsInForm}
 use Rattle.world_base.specs.declared.target.TargetMemory.{TargetMemory}
 use Rattle.world_base.specs.declared.target.TargetPlan.{TargetPlan}
-use Rattle.world_turns.specs.Requests.{epoch_of_ticks, request_epoch}
+use Rattle.world_base.specs.Requests.{epoch_of_ticks, request_epoch}
 use Rattle.target_parts.specs.Covers.{epoch_for}
 use Rattle.target_parts.specs.Knowing.{HasEpochs, IsHeard, LeadsWell}
 

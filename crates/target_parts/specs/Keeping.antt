@@ -5,7 +5,7 @@ use Rattle.daos_base.specs.declared.entry.Settle.TheVariants.{Commit, Abort, Con
 use Rattle.daos_model.specs.declared.durable.Durable.{Durable}
 use Rattle.vos_store.specs.Calls.{State}
 use Rattle.vos_store.specs.declared.refusal.Stopped.{Stopped}
-use Rattle.world_turns.specs.Changes.{Change}
+use Rattle.world_base.specs.Changes.{Change}
 use Rattle.target_parts.specs.Parts.{Did, Stays, WasCut}
 
 -- a change was made, or was cut

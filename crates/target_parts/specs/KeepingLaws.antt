@@ -33,8 +33,9 @@ use Rattle.world_base.specs.declared.target.TargetPlan.{TargetPlan}
 use Rattle.vos_store.specs.Conditions.{CanSettle}
 use Rattle.target_parts.specs.Knowing.{AreAsksHere, AreRowsOpen, IsApart, IsAskHere, IsHeard, IsOpenHere, LeadsWell}
 use Rattle.world_reads.specs.ChangeLaws.{other-entry}
-use Rattle.world_turns.specs.ChangeLaws.{entries-leased, lease-settled}
-use Rattle.world_turns.specs.EntryLaws.{entry-prepared_other}
+use Rattle.world_base.specs.ChangeLaws.{entries-leased, lease-settled}
+use Rattle.world_base.specs.DoubtLaws.{IsLedElsewhere}
+use Rattle.world_base.specs.EntryLaws.{entry-prepared_other}
 
 -- ---- entries
 
@@ -281,5 +282,5 @@ module _ (t : TargetPlan) where
   leads-same m n es fs d memory entries k = subst (λ x. LeadsWell t x fs d) (sym memory) (subst (λ xs. LeadsWell t m xs d) (sym entries) k)
 
   -- an attempt that isn't prepared here under this target is apart
-  pub elsewhere-apart : (a : AttemptId) (m : TargetMemory) (es : List Entry) (d : Durable) → LeadsWell t m es d → ((e : Entry) → entry_of d a ≡ Some e → e.leader ≡ t.me → ⊥) → IsApart a m.leader
+  pub elsewhere-apart : (a : AttemptId) (m : TargetMemory) (es : List Entry) (d : Durable) → LeadsWell t m es d → IsLedElsewhere t.me a d → IsApart a m.leader
   elsewhere-apart a m es d k other = apart-unless a m.leader d k.rows (λ o. other o.entry o.here o.led)

@@ -12,7 +12,7 @@ use Rattle.dtx_posts.specs.declared.seat.Seat.{Seat}
 use Rattle.dtx_posts.specs.Seats.{leader_of}
 use Rattle.world_base.specs.declared.target.TargetMemory.{TargetMemory}
 use Rattle.world_base.specs.declared.target.TargetPlan.{TargetPlan}
-use Rattle.world_turns.specs.Roles.{leader_at}
+use Rattle.world_base.specs.Roles.{leader_at}
 use Rattle.target_parts.specs.declared.knows.Knows.{Knows}
 use Rattle.target_parts.specs.Knowing.{AreParkable, IsBeside, IsOwn, memory_of}
 

@@ -5,8 +5,8 @@ use Rattle.daos_laws.specs.Lists.{drop-item}
 use Rattle.daos_model.specs.declared.durable.Durable.{Durable}
 use Rattle.vos_store.specs.Calls.{State}
 use Rattle.vos_store.specs.declared.refusal.Stopped.{Stopped}
-use Rattle.world_turns.specs.Changes.{Change, Kept, made}
-use Rattle.world_turns.specs.Turns.{CutShort, Reached}
+use Rattle.world_base.specs.Changes.{Change, Kept, made}
+use Rattle.world_base.specs.Turns.{CutShort, Reached}
 use Rattle.target_parts.specs.Keeping.{MadeIf}
 use Rattle.target_parts.specs.Parts.{Now, kept}
 use Rattle.target_parts.specs.Turning.{cut_in_change, now_stays, reached_change, reached_silent}

@@ -12,7 +12,7 @@ use Rattle.vos_store.specs.Calls.{State}
 use Rattle.vos_store.specs.declared.refusal.Stopped.{Stopped}
 use Rattle.world_base.specs.declared.target.TargetMemory.{TargetMemory}
 use Rattle.world_base.specs.declared.target.TargetPlan.{TargetPlan}
-use Rattle.world_turns.specs.Changes.{Change, Settles}
+use Rattle.world_base.specs.Changes.{Change, Settles}
 use Rattle.target_parts.specs.Keeping.{MadeIf, MadeOrCut}
 use Rattle.target_parts.specs.KeepingLaws.{leads-same, leads-settled}
 use Rattle.target_parts.specs.Knowing.{IsApart, LeadsWell}

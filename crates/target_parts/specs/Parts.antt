@@ -4,8 +4,8 @@ use Rattle.daos_model.specs.declared.durable.Durable.{Durable}
 use Rattle.vos_store.specs.Calls.{Ailed, Fires, State}
 use Rattle.vos_store.specs.Refusals.{always_stop, says}
 use Rattle.vos_store.specs.declared.refusal.Stopped.{Stopped}
-use Rattle.world_turns.specs.Changes.{Change, Cut, Kept, cost, made}
-use Rattle.world_turns.specs.Turns.{CutShort, Reached}
+use Rattle.world_base.specs.Changes.{Change, Cut, Kept, cost, made}
+use Rattle.world_base.specs.Turns.{CutShort, Reached}
 use Rattle.target_parts.specs.declared.halt.Halt.{Halt}
 use Rattle.target_parts.specs.declared.halt.Halt.TheVariants as halt
 

@@ -8,11 +8,11 @@ use Rattle.vos_store.specs.Calls.{State}
 use Rattle.world_base.specs.declared.did.Did.{Did}
 use Rattle.world_base.specs.declared.request.CommitRequest.{CommitRequest}
 use Rattle.world_base.specs.declared.request.FetchRequest.{FetchRequest}
-use Rattle.world_turns.specs.Changes.{Change, Kept}
-use Rattle.world_turns.specs.Commits as commit
-use Rattle.world_turns.specs.Reads as read
-use Rattle.world_turns.specs.Requests.{issued_for}
-use Rattle.world_turns.specs.Turns.{CutShort}
+use Rattle.world_base.specs.Changes.{Change, Kept}
+use Rattle.world_base.specs.Commits as commit
+use Rattle.world_base.specs.Reads as read
+use Rattle.world_base.specs.Requests.{issued_for}
+use Rattle.world_base.specs.Turns.{CutShort}
 use Rattle.target_parts.specs.declared.halt.Halt.{Halt}
 use Rattle.target_parts.specs.declared.halt.Halt.TheVariants as halt
 use Rattle.target_parts.specs.declared.stop.TargetStop.{TargetStop}

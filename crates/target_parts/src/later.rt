@@ -4,7 +4,7 @@ ghost use Rattle.std.specs.Option.{ForSome};
 ghost use Rattle.daos_model.specs.declared.durable.Durable.{Durable};
 ghost use Rattle.daos_model.specs.Durables.{is_enlisted};
 ghost use Rattle.daos_model.specs.Forms.{is_path_in_form};
-ghost use Rattle.world_turns.specs.Reads.{later_of, uncertain_to};
+ghost use Rattle.world_base.specs.Reads.{later_of, uncertain_to};
 ghost use Rattle.target_parts.specs.Halts.{halt_stop};
 ghost use Rattle.target_parts.specs.Knowing.{HasEpochs};
 ghost use Rattle.target_parts.specs.Parts.{Asks, Runs};

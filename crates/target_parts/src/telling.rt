@@ -1,6 +1,6 @@
 // What follows from a turn.
 ghost use Rattle.std.specs.Prelude.{◌≡◌, ◌++◌, IfOk, IfErr, OnOk, OnErr};
-ghost use Rattle.world_turns.specs.Requests as asked;
+ghost use Rattle.world_base.specs.Requests as asked;
 ghost use Rattle.target_parts.specs.Stops.{stop_memory};
 
 use crate::stop::TargetStop;

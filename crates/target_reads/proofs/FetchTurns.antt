@@ -14,12 +14,12 @@ use Rattle.world_base.specs.declared.did.Did.{Did}
 use Rattle.world_base.specs.declared.request.FetchRequest.{FetchRequest}
 use Rattle.world_base.specs.declared.target.TargetMemory.{TargetMemory}
 use Rattle.world_base.specs.declared.target.TargetPlan.{TargetPlan}
-use Rattle.world_turns.specs.Changes.{Change, Kept}
-use Rattle.world_turns.specs.Reads as read
-use Rattle.world_turns.specs.Reads.{FetchEnds, FetchNext, FetchStage, fetched_message, memory_then, ticks_known}
-use Rattle.world_turns.specs.Requests.{issued_for, request_epoch, says, with_ticks}
-use Rattle.world_turns.specs.Roles.{with_unsettled}
-use Rattle.world_turns.specs.Turns.{Here, More, Path, Reached, Whole}
+use Rattle.world_base.specs.Changes.{Change, Kept}
+use Rattle.world_base.specs.Reads as read
+use Rattle.world_base.specs.Reads.{FetchEnds, FetchNext, FetchStage, fetched_message, memory_then, ticks_known}
+use Rattle.world_base.specs.Requests.{issued_for, request_epoch, says, with_ticks}
+use Rattle.world_base.specs.Roles.{with_unsettled}
+use Rattle.world_base.specs.Turns.{Here, More, Path, Reached, Whole}
 use Rattle.target_parts.specs.declared.halt.Halt.TheVariants as halt
 use Rattle.target_parts.specs.declared.knows.Knows.{Knows}
 use Rattle.target_parts.specs.declared.stop.TargetStop.{TargetStop}
@@ -36,7 +36,7 @@ use Rattle.target_reads.specs.declared.reads.Served.{Served}
 use Rattle.target_reads.specs.Fetches.{FetchTurn}
 use Rattle.target_reads.specs.Meets.{Serves, told_of}
 use Rattle.target_reads.proofs.Serving.{served-ends}
-use Rattle.world_turns.specs.PathLaws.{reached-here}
+use Rattle.world_base.specs.PathLaws.{reached-here}
 
 -- ---- what is known
 

@@ -24,7 +24,7 @@ use Rattle.vos_store.specs.declared.refusal.FetchNo.{FetchNo}
 use Rattle.vos_store.specs.declared.refusal.FetchNo.TheVariants as no
 use Rattle.world_base.specs.declared.request.FetchRequest.{FetchRequest}
 use Rattle.world_base.specs.declared.target.TargetPlan.{TargetPlan}
-use Rattle.world_turns.specs.Reads.{aggregated_above, aggregated_unless, fetch_cause, later_of, later_unless}
+use Rattle.world_base.specs.Reads.{aggregated_above, aggregated_unless, fetch_cause, later_of, later_unless}
 
 akey-in_form : {A B C : Type 0} (o : Option A) (k : Option B) (l : Option C) → (is_some o && is_some k && is_some l) ≡ true → ((is_none k || is_some o) && (is_none l || is_some k)) ≡ true
 akey-in_form None k l h = absurd (let n : ⊥ = cc in n)

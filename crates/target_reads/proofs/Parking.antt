@@ -13,8 +13,8 @@ use Rattle.dtx_base.specs.Joining.{MemberOf, parking}
 use Rattle.world_base.specs.declared.request.FetchRequest.{FetchRequest}
 use Rattle.world_base.specs.declared.target.TargetMemory.{TargetMemory}
 use Rattle.world_base.specs.declared.target.TargetPlan.{TargetPlan}
-use Rattle.world_turns.specs.Reads.{fetch_at}
-use Rattle.world_turns.specs.Roles.{joins_on}
+use Rattle.world_base.specs.Reads.{fetch_at}
+use Rattle.world_base.specs.Roles.{joins_on}
 use Rattle.target_parts.specs.declared.knows.Knows.{Knows}
 use Rattle.target_parts.specs.Knowing.{AreParkable, IsAskHere, IsOwn, IsParkable, IsReadAsked, LeadsWell}
 

@@ -14,7 +14,7 @@ use Rattle.world_base.specs.declared.did.Did.{Did}
 use Rattle.world_base.specs.declared.request.FetchRequest.{FetchRequest}
 use Rattle.world_base.specs.declared.target.TargetMemory.{TargetMemory}
 use Rattle.world_base.specs.declared.target.TargetPlan.{TargetPlan}
-use Rattle.world_turns.specs.Reads.{fetch_at, tells}
+use Rattle.world_base.specs.Reads.{fetch_at, tells}
 use Rattle.world_posts.specs.Forms.{PostsInForm, TargetPosts}
 use Rattle.world_posts.specs.Posting.{one-posted, queries-are-in-form, to-client, verdicts-post-in-form, waits-on}
 use Rattle.target_reads.specs.declared.reads.Served.{Served}

@@ -16,16 +16,16 @@ use Rattle.world_base.specs.declared.did.Did.{Did}
 use Rattle.world_base.specs.declared.request.FetchRequest.{FetchRequest}
 use Rattle.world_base.specs.declared.target.TargetMemory.{TargetMemory}
 use Rattle.world_base.specs.declared.target.TargetPlan.{TargetPlan}
-use Rattle.world_turns.specs.Changes.{Change, Extends, Kept, Prepares, Settles, Steps, made}
-use Rattle.world_turns.specs.Reads as read
-use Rattle.world_turns.specs.Reads.{FetchEnds, FetchNext, FetchStage}
-use Rattle.world_turns.specs.Requests.{fetch_message, issued_for}
-use Rattle.world_turns.specs.Turns.{CutAt, CutShort, Here, InChange, InQuestion, More, Path, Reached, Whole}
-use Rattle.world_turns.specs.Verdicts.{Freed, GoesOn, IsDone, TriesNext, Trying, VerdictNext, VerdictStage, fetcher}
+use Rattle.world_base.specs.Changes.{Change, Extends, Kept, Prepares, Settles, Steps, made}
+use Rattle.world_base.specs.Reads as read
+use Rattle.world_base.specs.Reads.{FetchEnds, FetchNext, FetchStage}
+use Rattle.world_base.specs.Requests.{fetch_message, issued_for}
+use Rattle.world_base.specs.Turns.{CutAt, CutShort, Here, InChange, InQuestion, More, Path, Reached, Whole}
+use Rattle.world_base.specs.Verdicts.{Freed, GoesOn, IsDone, TriesNext, Trying, VerdictNext, VerdictStage, fetcher}
 use Rattle.target_parts.specs.KeepingLaws.{enlisted-leased, enlisted-prepared, enlisted-settled}
 use Rattle.target_parts.specs.Stops.{fetch_issued}
 use Rattle.target_parts.specs.Turning.{reached_on, reached_silent}
-use Rattle.world_turns.specs.PathLaws.{reached-here}
+use Rattle.world_base.specs.PathLaws.{reached-here}
 
 -- ---- what every turn leaves
 

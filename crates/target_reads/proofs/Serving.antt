@@ -17,11 +17,11 @@ use Rattle.vos_store.specs.Calls.{State}
 use Rattle.world_base.specs.declared.request.FetchRequest.{FetchRequest}
 use Rattle.world_base.specs.declared.target.TargetMemory.{TargetMemory}
 use Rattle.world_base.specs.declared.target.TargetPlan.{TargetPlan}
-use Rattle.world_turns.specs.Changes.{Kept, Settles, made}
-use Rattle.world_turns.specs.Reads.{FetchEnds, FetchNext, IsParked, IsRefused, IsServed, MeetsUnresolved, Reading, SettlesOwn, asks_leader, fetch_at, memory_then, stamps_with, tells}
-use Rattle.world_turns.specs.Requests.{is_other_attempt, with_ticks}
-use Rattle.world_turns.specs.Roles.{joins_on, other_leader, other_leader_of}
-use Rattle.world_turns.specs.Turns.{CutShort, Reached}
+use Rattle.world_base.specs.Changes.{Kept, Settles, made}
+use Rattle.world_base.specs.Reads.{FetchEnds, FetchNext, IsParked, IsRefused, IsServed, MeetsUnresolved, Reading, SettlesOwn, asks_leader, fetch_at, memory_then, stamps_with, tells}
+use Rattle.world_base.specs.Requests.{is_other_attempt, with_ticks}
+use Rattle.world_base.specs.Roles.{joins_on, other_leader, other_leader_of}
+use Rattle.world_base.specs.Turns.{CutShort, Reached}
 use Rattle.target_parts.specs.Parts.{Answered, Now, WasCut, kept}
 use Rattle.target_parts.specs.Turning.{cut_in_change, now_stays, reached_change}
 use Rattle.target_reads.specs.declared.reads.Met.{Met}

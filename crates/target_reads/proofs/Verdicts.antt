@@ -15,12 +15,12 @@ use Rattle.world_base.specs.declared.did.Did.{Did}
 use Rattle.world_base.specs.declared.request.FetchRequest.{FetchRequest}
 use Rattle.world_base.specs.declared.target.TargetMemory.{TargetMemory}
 use Rattle.world_base.specs.declared.target.TargetPlan.{TargetPlan}
-use Rattle.world_turns.specs.Changes.{Change, Kept, made}
-use Rattle.world_turns.specs.Reads.{Asked}
-use Rattle.world_turns.specs.Requests.{fetch_message, sends}
-use Rattle.world_turns.specs.Roles.{joins_on, member_at}
-use Rattle.world_turns.specs.Turns.{CutShort, Reached, Whole}
-use Rattle.world_turns.specs.Verdicts.{AllTried, Freed, Heard, SettlesBy, VerdictEnds, VerdictNext, VerdictStage, freed_by, settles_by, settling_change}
+use Rattle.world_base.specs.Changes.{Change, Kept, made}
+use Rattle.world_base.specs.Reads.{Asked}
+use Rattle.world_base.specs.Requests.{fetch_message, sends}
+use Rattle.world_base.specs.Roles.{joins_on, member_at}
+use Rattle.world_base.specs.Turns.{CutShort, Reached, Whole}
+use Rattle.world_base.specs.Verdicts.{AllTried, Freed, Heard, SettlesBy, VerdictEnds, VerdictNext, VerdictStage, freed_by, settles_by, settling_change}
 use Rattle.target_parts.specs.declared.knows.Knows.{Knows}
 use Rattle.target_parts.specs.declared.stop.TargetStop.{TargetStop}
 use Rattle.target_parts.specs.declared.stop.TargetStop.TheVariants as stop
@@ -33,7 +33,7 @@ use Rattle.target_parts.specs.Turning.{cut_in_change, cut_on, now_stays, reached
 use Rattle.target_reads.specs.Again.{AreHere, AreParkable, MadeSome, TriedTurn}
 use Rattle.target_reads.specs.Fetches.{FetchTurn}
 use Rattle.target_reads.proofs.Retrying.{known-unissued, path-enlisted, tried, tried-cut, tried-partly, verdict-frees, verdict-me}
-use Rattle.world_turns.specs.PathLaws.{reached-here}
+use Rattle.world_base.specs.PathLaws.{reached-here}
 
 -- ---- the first of those that are left
 
@@ -99,10 +99,10 @@ module _ (t : TargetPlan) (m : TargetMemory) (reading : ℕ) (a : AttemptId) (as
   abbrev freed : VerdictStage
   freed = freed_by (verdict_heard a ask v (member_at t m)) m
 
-  pub verdict-settles : (d : Durable) (h k : State) (new : Option Durable) (finds : Durable → Type 0) → MadeSome (settling_change a (settles_by v a d)) d h new k finds (Ok tt) → Now new k (λ l. Reached Next Heard (kept d h) freed l)
-  verdict-settles d h k new finds done = by (settling_change a (settles_by v a d)) refl done
+  pub verdict-settles : (d : Durable) (h k : State) (new : Option Durable) (finds : Durable → Type 0) → MadeSome (settling_change a (settles_by t.me v a d)) d h new k finds (Ok tt) → Now new k (λ l. Reached Next Heard (kept d h) freed l)
+  verdict-settles d h k new finds done = by (settling_change a (settles_by t.me v a d)) refl done
     where
-      by : (o : Option Change) → o ≡ settling_change a (settles_by v a d) → MadeSome o d h new k finds (Ok tt) → Now new k (λ l. Reached Next Heard (kept d h) freed l)
+      by : (o : Option Change) → o ≡ settling_change a (settles_by t.me v a d) → MadeSome o d h new k finds (Ok tt) → Now new k (λ l. Reached Next Heard (kept d h) freed l)
       by None is stays = record {
         durable = d;
         kept_is = stays.kept_is;
@@ -114,10 +114,10 @@ module _ (t : TargetPlan) (m : TargetMemory) (reading : ℕ) (a : AttemptId) (as
         holds = reached_change Next Heard (kept d h) Heard (kept d h) c freed (kept (made c d) k) (reached-here Next Heard (kept d h)) (SettlesBy (kept d h) (Some c) is) refl did.free;
       }
 
-  pub verdict-cut : (d : Durable) (h k : State) (new : Option Durable) (finds : Durable → Type 0) (e : Stopped) → MadeSome (settling_change a (settles_by v a d)) d h new k finds (Err e) → CutShort Next Heard (kept d h) finds
-  verdict-cut d h k new finds e done = by (settling_change a (settles_by v a d)) refl done
+  pub verdict-cut : (d : Durable) (h k : State) (new : Option Durable) (finds : Durable → Type 0) (e : Stopped) → MadeSome (settling_change a (settles_by t.me v a d)) d h new k finds (Err e) → CutShort Next Heard (kept d h) finds
+  verdict-cut d h k new finds e done = by (settling_change a (settles_by t.me v a d)) refl done
     where
-      by : (o : Option Change) → o ≡ settling_change a (settles_by v a d) → MadeSome o d h new k finds (Err e) → CutShort Next Heard (kept d h) finds
+      by : (o : Option Change) → o ≡ settling_change a (settles_by t.me v a d) → MadeSome o d h new k finds (Err e) → CutShort Next Heard (kept d h) finds
       by None is none = absurd none
       by (Some c) is cut = cut_in_change Next Heard (kept d h) Heard (kept d h) c freed finds (reached-here Next Heard (kept d h)) (SettlesBy (kept d h) (Some c) is) cut
 

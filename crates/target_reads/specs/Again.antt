@@ -11,17 +11,17 @@ use Rattle.world_base.specs.declared.request.FetchRequest.{FetchRequest}
 use Rattle.world_base.specs.declared.target.TargetMemory.{TargetMemory}
 use Rattle.world_base.specs.declared.target.TargetPlan.{TargetPlan}
 use Rattle.daos_base.specs.declared.entry.Verdict.{Verdict}
-use Rattle.world_turns.specs.Changes.{Change}
-use Rattle.world_turns.specs.Reads.{Asked}
-use Rattle.world_turns.specs.Turns.{Whole}
-use Rattle.world_turns.specs.Verdicts.{VerdictEnds, VerdictNext, VerdictStage, fetcher}
+use Rattle.world_base.specs.Changes.{Change}
+use Rattle.world_base.specs.Reads.{Asked}
+use Rattle.world_base.specs.Turns.{Whole}
+use Rattle.world_base.specs.Verdicts.{VerdictEnds, VerdictNext, VerdictStage, fetcher}
 use Rattle.target_parts.specs.declared.stop.TargetStop.{TargetStop}
 use Rattle.target_parts.specs.Keeping.{MadeOrCut, StaysUncut}
 use Rattle.target_parts.specs.Knowing.{IsAskHere, IsParkable}
 use Rattle.target_parts.specs.Parts.{kept}
 use Rattle.target_parts.specs.Stops.{Turn, never}
 use Rattle.target_reads.specs.Fetches.{FetchTurn}
-use Rattle.world_turns.specs.Requests.{fetch_message}
+use Rattle.world_base.specs.Requests.{fetch_message}
 
 -- these Fetches may have waited
 abbrev pub AreParkable : List Message → Type 0

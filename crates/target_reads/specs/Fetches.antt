@@ -7,8 +7,8 @@ use Rattle.world_base.specs.declared.did.Did.{Did}
 use Rattle.world_base.specs.declared.request.FetchRequest.{FetchRequest}
 use Rattle.world_base.specs.declared.target.TargetMemory.{TargetMemory}
 use Rattle.world_base.specs.declared.target.TargetPlan.{TargetPlan}
-use Rattle.world_turns.specs.Reads as read
-use Rattle.world_turns.specs.Turns.{Whole}
+use Rattle.world_base.specs.Reads as read
+use Rattle.world_base.specs.Turns.{Whole}
 use Rattle.target_parts.specs.declared.stop.TargetStop.{TargetStop}
 use Rattle.target_parts.specs.Parts.{kept}
 use Rattle.target_parts.specs.Stops.{Turn, fetch_issued}

@@ -14,10 +14,10 @@ use Rattle.world_base.specs.declared.did.Did.{Did}
 use Rattle.world_base.specs.declared.request.FetchRequest.{FetchRequest}
 use Rattle.world_base.specs.declared.target.TargetMemory.{TargetMemory}
 use Rattle.world_base.specs.declared.target.TargetPlan.{TargetPlan}
-use Rattle.world_turns.specs.Changes.{Kept}
-use Rattle.world_turns.specs.Reads.{FetchNext, Reading, asks_leader, fetch_at, fetch_cause, stamps_with, tells}
-use Rattle.world_turns.specs.Roles.{joins_on, member_at, other_leader}
-use Rattle.world_turns.specs.Turns.{Reached}
+use Rattle.world_base.specs.Changes.{Kept}
+use Rattle.world_base.specs.Reads.{FetchNext, Reading, asks_leader, fetch_at, fetch_cause, stamps_with, tells}
+use Rattle.world_base.specs.Roles.{joins_on, member_at, other_leader}
+use Rattle.world_base.specs.Turns.{Reached}
 use Rattle.target_reads.specs.declared.reads.Met.{Met}
 use Rattle.target_reads.specs.declared.reads.Met.TheVariants as met
 use Rattle.target_reads.specs.declared.reads.Served.{Served}

@@ -6,10 +6,10 @@ ghost use Rattle.daos_base.specs.declared.id.AttemptId.{AttemptId as Attempt};
 ghost use Rattle.daos_model.specs.declared.durable.Durable.{Durable};
 ghost use Rattle.vos_store.specs.Refusals.{always_stop, says};
 ghost use Rattle.world_base.specs.declared.target.TargetMemory.{TargetMemory};
-ghost use Rattle.world_turns.specs.Requests.{fetch_message};
-ghost use Rattle.world_turns.specs.Verdicts.{VerdictStage, fetcher, settles_by, settling_change};
+ghost use Rattle.world_base.specs.Requests.{fetch_message};
+ghost use Rattle.world_base.specs.Verdicts.{VerdictStage, fetcher, settles_by, settling_change};
 ghost use Rattle.world_posts.specs.Forms.{PostsInForm, TargetPosts};
-ghost use Rattle.target_parts.specs.Knowing.{IsApart, IsAskHere, IsBeside, IsOwn, IsParkable, LeadsWell, memory_of};
+ghost use Rattle.target_parts.specs.Knowing.{IsAskHere, IsBeside, IsOwn, IsParkable, LeadsWell, memory_of};
 ghost use Rattle.target_parts.specs.Parts.{Runs};
 ghost use Rattle.target_parts.specs.Stops.{stop_foreign, stop_store};
 ghost use Rattle.target_reads.specs.Again.{AreHere, AreParkable, MadeSome, TriedTurn, VerdictTurn};
@@ -22,7 +22,7 @@ use daos_messages::message::{Message, Messages, Posts};
 use dtx_base::member::Freed;
 use std::alloc::Global;
 use target_parts::halt::Halt;
-use target_parts::kept::settle_prepared;
+use target_parts::kept::settle_in_doubt;
 use target_parts::knows::Knows;
 use target_parts::stop::{TargetStop, stop_of};
 use target_parts::telling::{push_all, sends};
@@ -133,7 +133,7 @@ fn try_again<S: Store>(
     Ok(sends(alloc, posts, None))
 }
 
-// An attempt is settled by a Verdict on it, where it is still prepared here.
+// An attempt is settled by a Verdict on it, where it is still in doubt here.
 fn settle_by<S: Store>(
     store: &mut S,
     plan: TargetPlan,
@@ -142,25 +142,23 @@ fn settle_by<S: Store>(
     verdict: Verdict,
 ) -> Result<(), Stopped>
     requires running { (S.state store.old).stopped ≡ false }
-    requires apart { ForSome (S.durable store.old) (λ _. IsApart attempt knows.old.leader) }
     requires leads { ForSome (S.durable store.old) (LeadsWell plan (memory_of knows.old) knows.old.entries.items) }
     ensures runs { Runs always_stop result (S.state store.old) (S.state store.new) (S.durable store.old) (S.durable store.new) }
     ensures made { (d : Durable) → S.durable store.old ≡ Some d
-        → MadeSome (settling_change attempt (settles_by verdict attempt d)) d (S.state store.old) (S.durable store.new) (S.state store.new) (S.may store.new) result }
+        → MadeSome (settling_change attempt (settles_by plan.me verdict attempt d)) d (S.state store.old) (S.durable store.new) (S.state store.new) (S.may store.new) result }
     ensures beside { IsBeside knows.old knows.new }
     ensures leader { knows.new.leader ≡ knows.old.leader }
     ensures leads { OnOk result (ForSome (S.durable store.new) (LeadsWell plan (memory_of knows.new) knows.new.entries.items)) }
 {
     match verdict {
-        Verdict::Committed => settle_prepared(store, plan, knows, attempt, Settle::Commit),
-        Verdict::Aborted => settle_prepared(store, plan, knows, attempt, Settle::Abort),
+        Verdict::Committed => settle_in_doubt(store, plan, knows, attempt, Settle::Commit),
+        Verdict::Aborted => settle_in_doubt(store, plan, knows, attempt, Settle::Abort),
         Verdict::Undecided => Ok(()),
     }
 }
 
-/// It hears a Verdict: the attempt is settled, where it is still prepared here, and the Fetches that
-/// wait for it are tried again, in the order in which they were parked. It isn't one that this target
-/// leads and has to settle itself.
+/// It hears a Verdict: the attempt is settled, where it is still in doubt here, and the Fetches that
+/// wait for it are tried again, in the order in which they were parked.
 ///
 /// # Errors
 ///
@@ -176,7 +174,6 @@ pub fn hear_verdict<S: Store>(
 ) -> Result<Did, TargetStop>
     requires running { (S.state store.old).stopped ≡ false }
     requires own { IsOwn plan knows.old }
-    requires apart { ForSome (S.durable store.old) (λ _. IsApart attempt knows.old.leader) }
     requires leads { ForSome (S.durable store.old) (LeadsWell plan (memory_of knows.old) knows.old.entries.items) }
     ensures runs { Runs stop_store result (S.state store.old) (S.state store.new) (S.durable store.old) (S.durable store.new) }
     ensures turn { (d : Durable) → S.durable store.old ≡ Some d → (reading : ℕ)

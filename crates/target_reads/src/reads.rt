@@ -7,12 +7,12 @@ ghost use Rattle.daos_model.specs.Durables.{is_enlisted};
 ghost use Rattle.daos_model.specs.Forms.{is_read_in_form};
 ghost use Rattle.vos_store.specs.Refusals.{says};
 ghost use Rattle.world_base.specs.declared.target.TargetMemory.{TargetMemory};
-ghost use Rattle.world_turns.specs.Reads.{FetchNext, FetchStage, later_of, later_unless};
+ghost use Rattle.world_base.specs.Reads.{FetchNext, FetchStage, later_of, later_unless};
 ghost use Rattle.target_parts.specs.Halts.{halt_stop};
 ghost use Rattle.target_parts.specs.Knowing.{HasEpochs, IsBeside, LeadsWell, memory_of};
 ghost use Rattle.target_parts.specs.Parts.{Asks, Part, Runs, kept};
 ghost use Rattle.dtx_table.specs.Tables.{entry_in};
-ghost use Rattle.world_turns.specs.Roles.{other_leader_of};
+ghost use Rattle.world_base.specs.Roles.{other_leader_of};
 ghost use Rattle.target_reads.specs.Meets.{Meets, Serves, beside_of};
 
 use daos_base::answer::Answer;

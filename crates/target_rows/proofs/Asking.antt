@@ -9,7 +9,6 @@ use Rattle.daos_base.specs.Operations.{write_path}
 use Rattle.daos_base.specs.Hash.{fnv1a}
 use Rattle.daos_base.specs.Placement.{ClassFits, group_of, members, path_members}
 use Rattle.daos_laws.specs.Lists.{all-one}
-use Rattle.daos_messages.specs.declared.actor.ActorId.{ActorId}
 use Rattle.daos_model.specs.declared.durable.Durable.{Durable}
 use Rattle.daos_model.specs.Durables.{entry_of, is_enlisted}
 use Rattle.daos_model.specs.Forms.{is_read_in_form, is_write_in_form}
@@ -18,23 +17,23 @@ use Rattle.target_rows.specs.Rows.{IsHere, IsUnused, akey, commit, fetch, lone}
 use Rattle.target_writes.specs.CheckLaws.{new-at}
 use Rattle.target_writes.specs.Checks.{AreNewAt}
 use Rattle.world_base.specs.declared.target.TargetPlan.{TargetPlan}
-use Rattle.world_turns.specs.Commits.{own_writes}
+use Rattle.world_base.specs.Commits.{own_writes}
 
 abbrev the_write : List ℕ → MinorWrite
 the_write key = record { minor = 1; write = write.Single (akey key) (49 ∷ []) }
 
-pub fetch_in_form : (t : TargetPlan) (from : ActorId) (by : AttemptId) (key : List ℕ) → HasForm t from (fetch by key)
+pub fetch_in_form : (t : TargetPlan) (by : AttemptId) (key : List ℕ) → HasForm t (fetch by key)
 unfolding is_read_in_form
-fetch_in_form t from by key = record { form = refl; known = λ no. absurd (let n : ⊥ = cc in n) }
+fetch_in_form t by key = record { form = refl; known = λ no. absurd (let n : ⊥ = cc in n) }
 
 -- the only target is a member of every group
 one-own : (key : List ℕ) → length (own_writes lone (the_write key ∷ [])) ≡ 1
 unfolding path_members members group_of fnv1a
 one-own key = refl
 
-pub commit_in_form : (from : ActorId) (by : AttemptId) (ep : Option Epoch) (key : List ℕ) → HasForm lone from (commit by ep key)
+pub commit_in_form : (by : AttemptId) (ep : Option Epoch) (key : List ℕ) → HasForm lone (commit by ep key)
 unfolding is_write_in_form
-commit_in_form from by ep key = record {
+commit_in_form by ep key = record {
   form = record {
     count = omega arith;
     each = all-one (λ w. is_write_in_form w.write ≡ true) (the_write key) refl;

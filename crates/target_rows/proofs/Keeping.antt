@@ -21,12 +21,12 @@ use Rattle.world_base.specs.declared.request.CommitRequest.{CommitRequest}
 use Rattle.world_base.specs.declared.request.FetchRequest.{FetchRequest}
 use Rattle.world_base.specs.declared.target.TargetMemory.{TargetMemory}
 use Rattle.world_base.specs.declared.target.TargetPlan.{TargetPlan}
-use Rattle.world_turns.specs.Changes.{Change, Kept, Steps}
-use Rattle.world_turns.specs.Commits as commits
-use Rattle.world_turns.specs.Commits.{CommitNext, CommitStage}
-use Rattle.world_turns.specs.Reads as read
-use Rattle.world_turns.specs.Reads.{FetchNext, FetchStage}
-use Rattle.world_turns.specs.Turns.{Here, More, Path}
+use Rattle.world_base.specs.Changes.{Change, Kept, Steps}
+use Rattle.world_base.specs.Commits as commits
+use Rattle.world_base.specs.Commits.{CommitNext, CommitStage}
+use Rattle.world_base.specs.Reads as read
+use Rattle.world_base.specs.Reads.{FetchNext, FetchStage}
+use Rattle.world_base.specs.Turns.{Here, More, Path}
 use Rattle.target_core.specs.Targets.{HearsOrStops}
 use Rattle.target_parts.specs.Knowing.{IsHeard}
 use Rattle.target_rows.specs.Rows.{IsBlank, IsHere, commit, cont, fetch}

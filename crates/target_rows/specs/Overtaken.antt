@@ -12,7 +12,6 @@ use Rattle.daos_messages.specs.declared.actor.ActorId.{ActorId}
 use Rattle.daos_messages.specs.declared.message.Message.{Message}
 use Rattle.daos_messages.specs.declared.message.Message.TheVariants.{Fetch, Mark, Prepare, Verdict}
 use Rattle.daos_model.specs.declared.durable.Durable.{Durable}
-use Rattle.target_core.specs.Targets.{IsLedElsewhere}
 use Rattle.target_rows.specs.Rows.{IsBlank, IsHere, cont}
 use Rattle.world_base.specs.declared.target.TargetPlan.{TargetPlan}
 
@@ -65,8 +64,3 @@ verdict = Verdict writer (Some reader) 1 Aborted
 pub record IsNew (d : Durable) : Type 0 where
   pub here : IsHere d
   pub blank : IsBlank d
-
--- after it: the container is here, and where the attempt has an entry, another target leads it
-pub record IsOthers (d : Durable) : Type 0 where
-  pub here : IsHere d
-  pub led : IsLedElsewhere 1 writer d

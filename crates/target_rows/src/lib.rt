@@ -2,6 +2,7 @@
 #![tactic(auto)]
 
 pub mod overtaken;
+pub mod own;
 pub mod rows;
 pub mod steps;
 #[cfg(test)]

@@ -1,8 +1,8 @@
 // A row over the second of two targets: a Mark overtakes the Prepare of its attempt.
 ghost use Rattle.std.specs.Prelude.{◌≡◌, ◌≤◌, IfOk, OnOk, false};
 ghost use Rattle.std.specs.Option.{ForSome};
-ghost use Rattle.target_rows.specs.Overtaken.{IsNew, IsOthers, akey, entry, fetch, mark, prepare, reader, second, verdict, writer};
-ghost use Rattle.target_rows.specs.Rows.{IsNeverUsed};
+ghost use Rattle.target_rows.specs.Overtaken.{IsNew, akey, entry, fetch, mark, prepare, reader, second, verdict, writer};
+ghost use Rattle.target_rows.specs.Rows.{IsHere, IsNeverUsed};
 
 use crate::steps::{StepNo, start_at};
 use daos_base::entry::{Entry, Verdict};
@@ -156,14 +156,13 @@ fn hear_mark<S: Store, C: Clock>(alloc: Global, target: &mut Target<S, C>) -> Re
     Ok(target.hear(LEADER, message, None)?)
 }
 
-// It hears the Prepare. The attempt has an entry there at most of the first target.
+// It hears the Prepare.
 fn hear_prepare<S: Store, C: Clock>(alloc: Global, target: &mut Target<S, C>) -> Result<Did, StepNo>
     requires plan { target.old.plan ≡ second }
     requires runs { (S.state target.old.store).stopped ≡ false }
     requires new { ForSome (S.durable target.old.store) IsNew }
-    ensures plan { OnOk result (target.new.plan ≡ second) }
     ensures runs { OnOk result ((S.state target.new.store).stopped ≡ false) }
-    ensures others { OnOk result (ForSome (S.durable target.new.store) IsOthers) }
+    ensures here { OnOk result (ForSome (S.durable target.new.store) IsHere) }
 {
     let message = prepare(alloc)?;
     Ok(target.hear(LEADER, message, None)?)
@@ -171,12 +170,9 @@ fn hear_prepare<S: Store, C: Clock>(alloc: Global, target: &mut Target<S, C>) ->
 
 // It hears the read.
 fn hear_fetch<S: Store, C: Clock>(alloc: Global, target: &mut Target<S, C>) -> Result<Did, StepNo>
-    requires plan { target.old.plan ≡ second }
     requires runs { (S.state target.old.store).stopped ≡ false }
-    requires others { ForSome (S.durable target.old.store) IsOthers }
-    ensures plan { OnOk result (target.new.plan ≡ second) }
+    requires here { ForSome (S.durable target.old.store) IsHere }
     ensures runs { OnOk result ((S.state target.new.store).stopped ≡ false) }
-    ensures others { OnOk result (ForSome (S.durable target.new.store) IsOthers) }
 {
     let message = fetch(alloc)?;
     Ok(target.hear(READER, message, None)?)
@@ -184,9 +180,7 @@ fn hear_fetch<S: Store, C: Clock>(alloc: Global, target: &mut Target<S, C>) -> R
 
 // It hears the Verdict.
 fn hear_verdict<S: Store, C: Clock>(target: &mut Target<S, C>) -> Result<Did, StepNo>
-    requires plan { target.old.plan ≡ second }
     requires runs { (S.state target.old.store).stopped ≡ false }
-    requires others { ForSome (S.durable target.old.store) IsOthers }
 {
     Ok(target.hear(LEADER, verdict(), None)?)
 }

@@ -1,10 +1,13 @@
 // Rows over targets, with what follows from their turns.
 use crate::overtaken::{LEADER, READER, mark_before_prepare, reader, writer};
+use crate::own::{CLIENT, MEMBER, led, told_of_own};
 use crate::rows::{attempt, read_unsettled, write_below_read};
 use crate::steps::akey;
 use daos_base::answer::Answer;
+use daos_base::entry::Verdict;
 use daos_base::epoch::Epoch;
 use daos_base::outcome::{Cause, Outcome};
+use daos_messages::actor::ActorId;
 use daos_messages::message::{Message, Reply};
 use daos_outside::count_clock::CountClock;
 use std::test::Fail;
@@ -131,6 +134,58 @@ fn a_mark_overtakes_its_prepare(rt: HostRuntime) -> Result<(), Fail> {
             _ => assert!(rt; false, "the read isn't answered"),
         },
         _ => assert!(rt; false, "the Verdict isn't followed by one message"),
+    }
+    Ok(())
+}
+
+// What follows is one message to this actor.
+fn only_post<'a>(did: &'a Did, to: ActorId) -> Option<&'a Message> {
+    match did.posts.as_slice() {
+        [post] if post.to == to => Some(&post.message),
+        _ => None,
+    }
+}
+
+#[test]
+fn nobody_tells_a_leader_of_what_it_leads(rt: HostRuntime) -> Result<(), Fail> {
+    let alloc = rt.alloc();
+    let store = PlainStore::new(alloc, 4, &[])?;
+    let row = told_of_own(alloc, store, CountClock::new())?;
+    match only_post(&row.begun, MEMBER) {
+        Some(Message::Prepare { entry, inc, .. }) => {
+            assert_eq!(rt; (entry.attempt, entry.epoch), (led(), Epoch(256)));
+            assert_eq!(rt; (entry.leader, entry.members, *inc), (0, 3, 1));
+        }
+        _ => assert!(rt; false, "the other member isn't asked to prepare"),
+    }
+    match only_post(&row.marked, MEMBER) {
+        Some(Message::Marked { inc, attempts }) => {
+            assert_eq!(rt; *inc, 1);
+            assert_eq!(rt; attempts.as_slice(), [led()].as_slice());
+        }
+        _ => assert!(rt; false, "the Mark isn't answered by a Marked"),
+    }
+    assert!(rt; row.resolved.posts.as_slice().is_empty());
+    match only_post(&row.asked, MEMBER) {
+        Some(
+            Message::Verdict {
+                attempt,
+                verdict,
+                ..
+            },
+        ) => assert_eq!(rt; (*attempt, *verdict), (led(), Verdict::Undecided)),
+        _ => assert!(rt; false, "the question isn't answered by a Verdict"),
+    }
+    assert!(rt; row.unknown.posts.as_slice().is_empty());
+    match only_post(&row.ended, CLIENT) {
+        Some(
+            Message::Ended {
+                attempt,
+                ep: Some(epoch),
+                outcome: Outcome::Committed,
+            },
+        ) => assert_eq!(rt; (*attempt, *epoch), (led(), Epoch(256))),
+        _ => assert!(rt; false, "the client isn't told that it is committed"),
     }
     Ok(())
 }

@@ -17,9 +17,9 @@ use Rattle.world_base.specs.declared.did.Did.{Did}
 use Rattle.world_base.specs.declared.request.CommitRequest.{CommitRequest}
 use Rattle.world_base.specs.declared.target.TargetMemory.{TargetMemory}
 use Rattle.world_base.specs.declared.target.TargetPlan.{TargetPlan}
-use Rattle.world_turns.specs.Commits.{begins_at, led_entry, own_writes}
-use Rattle.world_turns.specs.Requests.{issued_for, sends}
-use Rattle.world_turns.specs.Roles.{leader_at}
+use Rattle.world_base.specs.Commits.{begins_at, led_entry, own_writes}
+use Rattle.world_base.specs.Requests.{issued_for, sends}
+use Rattle.world_base.specs.Roles.{leader_at}
 use Rattle.target_parts.specs.Knowing.{AreRowsOpen, IsApart, IsOpenHere}
 use Rattle.target_parts.specs.KnowsLaws.{leader-known}
 use Rattle.target_parts.specs.RowKeeping.{rows-begun, rows-decided}

@@ -19,11 +19,11 @@ use Rattle.world_base.specs.declared.did.Did.{Did as DidOf}
 use Rattle.world_base.specs.declared.request.CommitRequest.{CommitRequest}
 use Rattle.world_base.specs.declared.target.TargetMemory.{TargetMemory}
 use Rattle.world_base.specs.declared.target.TargetPlan.{TargetPlan}
-use Rattle.world_turns.specs.Changes.{Prepares}
-use Rattle.world_turns.specs.Commits as commit
-use Rattle.world_turns.specs.Commits.{CommitEnds, CommitNext, ends_at, led_entry, own_writes}
-use Rattle.world_turns.specs.Requests.{issued_for, request_epoch, says, with_ticks}
-use Rattle.world_turns.specs.Turns.{Reached, Whole}
+use Rattle.world_base.specs.Changes.{Prepares}
+use Rattle.world_base.specs.Commits as commit
+use Rattle.world_base.specs.Commits.{CommitEnds, CommitNext, ends_at, led_entry, own_writes}
+use Rattle.world_base.specs.Requests.{issued_for, request_epoch, says, with_ticks}
+use Rattle.world_base.specs.Turns.{Reached, Whole}
 use Rattle.target_parts.specs.declared.halt.Halt.{Halt}
 use Rattle.target_parts.specs.declared.halt.Halt.TheVariants as halt
 use Rattle.target_parts.specs.declared.stop.TargetStop.{TargetStop}
@@ -40,7 +40,7 @@ use Rattle.target_writes.specs.Checks.{AreEnlisted, AreNew, AreNewAt, CanStore, 
 use Rattle.target_writes.specs.CheckLaws.{new-at}
 use Rattle.target_writes.specs.Turns.{CommitTurn, begun_of}
 use Rattle.target_writes.proofs.Committing.{prepared-goes, prepared-halted, prepared-told}
-use Rattle.world_turns.specs.PathLaws.{reached-here}
+use Rattle.world_base.specs.PathLaws.{reached-here}
 
 -- what making an epoch ready came to
 pub readied : (clock : Clock) (reading : ℕ) (tracker : Epoch) (ep : Option Epoch) (d : Durable) (h : State) (new : Option Durable) (k : State) (finds : Durable → Type 0) (o : Option Epoch) {p : Option Epoch} → p ≡ o → ReadiesOrCut (epoch_for clock reading tracker ep) d h new k finds (Ok p)

@@ -19,9 +19,9 @@ use Rattle.vos_store.specs.Conditions.{CanPrepare}
 use Rattle.world_base.specs.declared.did.Did.{Did as DidOf}
 use Rattle.world_base.specs.declared.target.TargetMemory.{TargetMemory}
 use Rattle.world_base.specs.declared.target.TargetPlan.{TargetPlan}
-use Rattle.world_turns.specs.Changes.{Change, Kept, Prepares}
-use Rattle.world_turns.specs.Commits.{ByRead, ByWrite, IsAllowed, IsRefusedBy, first_floor, first_later}
-use Rattle.world_turns.specs.Turns.{InChange, InQuestion, Reached, Whole}
+use Rattle.world_base.specs.Changes.{Change, Kept, Prepares}
+use Rattle.world_base.specs.Commits.{ByRead, ByWrite, IsAllowed, IsRefusedBy, first_floor, first_later}
+use Rattle.world_base.specs.Turns.{InChange, InQuestion, Reached, Whole}
 use Rattle.target_parts.specs.declared.halt.Halt.{Halt}
 use Rattle.target_parts.specs.declared.halt.Halt.TheVariants as halt
 use Rattle.target_parts.specs.declared.stop.TargetStop.{TargetStop}
@@ -31,7 +31,7 @@ use Rattle.target_parts.specs.Stops.{Turn, stop_memory, stop_of}
 use Rattle.target_parts.specs.Turning.{now_partway, now_stays, reached_change, whole}
 use Rattle.target_writes.specs.Checks.{AnswersReads, ByCause, BySpace, CanStore, FindsSpace, IsRefusal, PreparesOrNot}
 use Rattle.target_writes.specs.Writing.{floors_above}
-use Rattle.world_turns.specs.PathLaws.{reached-here}
+use Rattle.world_base.specs.PathLaws.{reached-here}
 
 -- ---- refusals
 

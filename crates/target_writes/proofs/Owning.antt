@@ -16,7 +16,7 @@ use Rattle.vos_store.specs.Calls.{State}
 use Rattle.vos_store.specs.Conditions.{IsPreparable}
 use Rattle.world_base.specs.declared.request.CommitRequest.{CommitRequest}
 use Rattle.world_base.specs.declared.target.TargetPlan.{TargetPlan}
-use Rattle.world_turns.specs.Commits.{bits_of, led_entry, own_writes}
+use Rattle.world_base.specs.Commits.{bits_of, led_entry, own_writes}
 use Rattle.target_writes.specs.Checks.{AreEnlisted, AreWrites, IsPlaced}
 use Rattle.world_reads.specs.ListLaws.{some-in_form}
 

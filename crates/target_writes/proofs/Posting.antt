@@ -14,9 +14,9 @@ use Rattle.world_base.specs.declared.did.Did.{Did}
 use Rattle.world_base.specs.declared.request.CommitRequest.{CommitRequest}
 use Rattle.world_base.specs.declared.request.PrepareRequest.{PrepareRequest}
 use Rattle.world_base.specs.declared.target.TargetPlan.{TargetPlan}
-use Rattle.world_turns.specs.Commits.{led_entry}
-use Rattle.world_turns.specs.Prepares.{acks}
-use Rattle.world_turns.specs.Requests.{says}
+use Rattle.world_base.specs.Commits.{led_entry}
+use Rattle.world_base.specs.Prepares.{acks}
+use Rattle.world_base.specs.Requests.{says}
 use Rattle.world_posts.specs.Forms.{AreWrites, PostsInForm, TargetPosts, is_told}
 use Rattle.world_posts.specs.Posting.{IsBeginning, beginnings-post-in-form, one-posted, posted-by, to-client, to-other, waits-on}
 use Rattle.target_parts.specs.declared.stop.TargetStop.{TargetStop}

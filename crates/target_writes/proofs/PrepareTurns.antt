@@ -15,11 +15,11 @@ use Rattle.world_base.specs.declared.did.Did.{Did as DidOf}
 use Rattle.world_base.specs.declared.request.PrepareRequest.{PrepareRequest}
 use Rattle.world_base.specs.declared.target.TargetMemory.{TargetMemory}
 use Rattle.world_base.specs.declared.target.TargetPlan.{TargetPlan}
-use Rattle.world_turns.specs.Changes.{Change, Extends, Kept}
-use Rattle.world_turns.specs.Prepares as prepare
-use Rattle.world_turns.specs.Prepares.{PrepareEnds, PrepareNext, acks}
-use Rattle.world_turns.specs.Requests.{with_ticks}
-use Rattle.world_turns.specs.Turns.{Reached, Whole}
+use Rattle.world_base.specs.Changes.{Change, Extends, Kept}
+use Rattle.world_base.specs.Prepares as prepare
+use Rattle.world_base.specs.Prepares.{PrepareEnds, PrepareNext, acks}
+use Rattle.world_base.specs.Requests.{with_ticks}
+use Rattle.world_base.specs.Turns.{Reached, Whole}
 use Rattle.target_parts.specs.declared.halt.Halt.{Halt}
 use Rattle.target_parts.specs.declared.halt.Halt.TheVariants as halt
 use Rattle.target_parts.specs.declared.stop.TargetStop.{TargetStop}
@@ -33,7 +33,7 @@ use Rattle.target_writes.specs.Checks.{IsPlaced, PreparesOrNot}
 use Rattle.target_writes.specs.Turns.{IsPrepareInForm, PrepareTurn}
 use Rattle.target_writes.proofs.Committing.{prepared-goes, prepared-halted, prepared-told}
 use Rattle.target_writes.proofs.Owning.{below-more}
-use Rattle.world_turns.specs.PathLaws.{reached-here}
+use Rattle.world_base.specs.PathLaws.{reached-here}
 
 -- what a member is asked to prepare, its store may be asked
 pub asked-preparable : (t : TargetPlan) (s : State) (e : Entry) (ws : List MinorWrite) → IsPlaced t s → IsPrepareInForm t.targets e ws → IsPreparable s e ws

@@ -17,8 +17,8 @@ use Rattle.daos_model.specs.Ordered.{put}
 use Rattle.vos_store.specs.Calls.{State}
 use Rattle.vos_store.specs.Conditions.{IsLeased}
 use Rattle.world_base.specs.declared.target.TargetPlan.{TargetPlan}
-use Rattle.world_turns.specs.Changes.{Prepares}
-use Rattle.world_turns.specs.Commits.{FirstRead, IsAllowed, IsRefusedBy, NoReads, own_writes}
+use Rattle.world_base.specs.Changes.{Prepares}
+use Rattle.world_base.specs.Commits.{FirstRead, IsAllowed, IsRefusedBy, NoReads, own_writes}
 pub use Rattle.world_posts.specs.Forms.{AreWrites}
 use Rattle.target_parts.specs.declared.halt.Halt.{Halt}
 use Rattle.target_parts.specs.declared.halt.Halt.TheVariants as halt

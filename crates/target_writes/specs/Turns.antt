@@ -13,11 +13,11 @@ use Rattle.world_base.specs.declared.request.CommitRequest.{CommitRequest}
 use Rattle.world_base.specs.declared.request.PrepareRequest.{PrepareRequest}
 use Rattle.world_base.specs.declared.target.TargetMemory.{TargetMemory}
 use Rattle.world_base.specs.declared.target.TargetPlan.{TargetPlan}
-use Rattle.world_turns.specs.Commits as commit
-use Rattle.world_turns.specs.Prepares as prepare
-use Rattle.world_turns.specs.Requests.{issued_for, sends}
-use Rattle.world_turns.specs.Roles.{leads_on}
-use Rattle.world_turns.specs.Turns.{Whole}
+use Rattle.world_base.specs.Commits as commit
+use Rattle.world_base.specs.Prepares as prepare
+use Rattle.world_base.specs.Requests.{issued_for, sends}
+use Rattle.world_base.specs.Roles.{leads_on}
+use Rattle.world_base.specs.Turns.{Whole}
 pub use Rattle.world_posts.specs.Forms.{IsPrepareInForm}
 use Rattle.target_parts.specs.declared.stop.TargetStop.{TargetStop}
 use Rattle.target_parts.specs.Parts.{kept}

@@ -8,7 +8,7 @@ ghost use Rattle.daos_model.specs.declared.durable.Durable.{Durable};
 ghost use Rattle.daos_model.specs.Forms.{is_write_in_form};
 ghost use Rattle.vos_store.specs.Conditions.{IsPreparable};
 ghost use Rattle.vos_store.specs.Refusals.{says};
-ghost use Rattle.world_turns.specs.Commits.{IsAllowed, first_floor, first_later};
+ghost use Rattle.world_base.specs.Commits.{IsAllowed, first_floor, first_later};
 ghost use Rattle.target_parts.specs.Halts.{halt_stop};
 ghost use Rattle.target_parts.specs.Knowing.{HasEpochs, IsBeside, LeadsWell, memory_of};
 ghost use Rattle.target_parts.specs.Parts.{Asks, Runs};

@@ -5,8 +5,8 @@ ghost use Rattle.daos_messages.specs.declared.message.Message.TheVariants as mes
 ghost use Rattle.daos_model.specs.declared.durable.Durable.{Durable};
 ghost use Rattle.vos_store.specs.Refusals.{says};
 ghost use Rattle.world_base.specs.declared.target.TargetMemory.{TargetMemory};
-ghost use Rattle.world_turns.specs.Commits as commit;
-ghost use Rattle.world_turns.specs.Requests as asked;
+ghost use Rattle.world_base.specs.Commits as commit;
+ghost use Rattle.world_base.specs.Requests as asked;
 ghost use Rattle.world_posts.specs.Forms.{PostsInForm};
 ghost use Rattle.target_parts.specs.Knowing.{IsApart, IsOpenHere, IsOwn, LeadsWell, memory_of};
 ghost use Rattle.target_parts.specs.Parts.{Runs};

@@ -17,11 +17,11 @@ use Rattle.world_base.specs.declared.target.TargetMemory.{TargetMemory}
 use Rattle.world_base.specs.declared.target.TargetState.{TargetState}
 use Rattle.world_base.specs.declared.world.World.{World}
 use Rattle.world_base.specs.ClientTurns.{heard, listed, moved}
-use Rattle.world_events.specs.Events.{ByClient, ByTarget, Rules, TargetHears, TargetIdles, ToClient, ToTarget, client_plan, kept, target_after, target_plan}
-use Rattle.world_events.specs.Letters.{Takes, client, letter_of, letters_of, target}
-use Rattle.world_events.specs.StepLaws.{by-hearing, by-next}
-use Rattle.world_events.specs.Steps.{KeptByCounting, KeptByHearing, KeptByMoves}
-use Rattle.world_turns.specs.Changes.{Kept}
+use Rattle.world_base.specs.Events.{ByClient, ByTarget, Rules, TargetHears, TargetIdles, ToClient, ToTarget, client_plan, kept, target_after, target_plan}
+use Rattle.world_base.specs.Letters.{Takes, client, letter_of, letters_of, target}
+use Rattle.world_base.specs.StepLaws.{by-hearing, by-next}
+use Rattle.world_base.specs.Steps.{KeptByCounting, KeptByHearing, KeptByMoves}
+use Rattle.world_base.specs.Changes.{Kept}
 
 -- ---- letters
 

@@ -18,8 +18,8 @@ use Rattle.world_base.specs.declared.letter.Letter.{Letter}
 use Rattle.world_base.specs.declared.target.TargetMemory.{TargetMemory}
 use Rattle.world_base.specs.declared.target.TargetState.{TargetState}
 use Rattle.world_base.specs.declared.world.World.{World}
-use Rattle.world_events.specs.Events.{Event, Rules, commands_or_none}
-use Rattle.world_events.specs.Letters.{client, target}
+use Rattle.world_base.specs.Events.{Event, Rules, commands_or_none}
+use Rattle.world_base.specs.Letters.{client, target}
 
 -- ---- who is there
 

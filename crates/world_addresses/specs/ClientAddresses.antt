@@ -30,8 +30,8 @@ use Rattle.world_base.specs.declared.client.Present.{Present}
 use Rattle.world_base.specs.declared.client.Stage.{Stage}
 use Rattle.world_base.specs.declared.client.Stage.TheVariants as stage
 use Rattle.world_base.specs.ClientTurns.{Move, answered, attempt_id, begins_at, command_at, first_epoch, heard, heard_at, hears_epochs, is_about, about, knows, listed, member_asked, moved, moves_at, op_of, op_told, replied, rests, told_at, waits}
-use Rattle.world_events.specs.Events.{Rules, client_plan, commands_or_none}
-use Rattle.world_events.specs.Letters.{client, target}
+use Rattle.world_base.specs.Events.{Rules, client_plan, commands_or_none}
+use Rattle.world_base.specs.Letters.{client, target}
 use Rattle.world_talks.specs.AskLaws.{move-is, waiting-rests}
 use Rattle.world_talks.specs.Asked.{ARead, ASnapshot, AnAggregation, Asked, Asking, IsMove, ItsWrites, Silent, Telling, group_of_read, tells_tracker}
 

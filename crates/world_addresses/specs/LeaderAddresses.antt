@@ -20,7 +20,7 @@ use Rattle.dtx_base.specs.Leading.{LeaderOf, LeaderStep, abort_to, ack_heard, an
 use Rattle.dtx_base.specs.Members.{all_targets, are_all_counted, has_target, is_other_member, other_members, with_target}
 use Rattle.dtx_base.specs.Rows.{is_empty, is_row_of, row_key, without_row}
 use Rattle.world_addresses.specs.Addresses.{ArePlaced, ArePosts, Crowd, IsAddressed, IsClientOf, IsPlaced, IsTarget, IsWaiting}
-use Rattle.world_events.specs.Letters.{client, target}
+use Rattle.world_base.specs.Letters.{client, target}
 
 -- ---- members
 

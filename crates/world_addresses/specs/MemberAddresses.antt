@@ -12,7 +12,7 @@ use Rattle.dtx_base.specs.declared.member.Parked.{Parked}
 use Rattle.dtx_base.specs.Joining.{MemberOf, MemberStep, all_unresolved_told, inquired, inquiry_for, is_not_waiting, is_parked_elsewhere, is_parked_on, is_to_inquire, is_waiting, parked_ask, parking, query_for, resolved, to_inquire, undecided_heard, unresolved, unresolved_told, verdict_heard}
 use Rattle.world_addresses.specs.Addresses.{ArePlaced, ArePosts, Crowd, IsAsk, IsParkedRight}
 use Rattle.world_addresses.specs.LeaderAddresses.{both-posted, each-posted, none-posted, one-posted, there}
-use Rattle.world_events.specs.Letters.{target}
+use Rattle.world_base.specs.Letters.{target}
 
 -- the Fetches that wait are of clients that are there
 abbrev pub AreParked : Crowd → List Parked → Type 0

@@ -8,10 +8,10 @@ use Rattle.world_addresses.specs.AddressLaws.{at-place}
 use Rattle.world_base.specs.declared.target.TargetMemory.{TargetMemory}
 use Rattle.world_base.specs.declared.target.TargetState.{TargetState}
 use Rattle.world_base.specs.declared.world.World.{World}
-use Rattle.world_events.specs.Events.{Begins, ByClient, ByTarget, Event, Goes, Run, Rules, ToClient, ToTarget, kept, target_after, target_plan}
-use Rattle.world_turns.specs.ChangeLaws.{lease-same, lease-then}
-use Rattle.world_turns.specs.Changes.{Kept}
-use Rattle.world_turns.specs.TurnLaws.{KeepsAs, hears-keeps, idles-keeps}
+use Rattle.world_base.specs.Events.{Begins, ByClient, ByTarget, Event, Goes, Run, Rules, ToClient, ToTarget, kept, target_after, target_plan}
+use Rattle.world_base.specs.ChangeLaws.{lease-same, lease-then}
+use Rattle.world_base.specs.Changes.{Kept}
+use Rattle.world_base.specs.TurnLaws.{KeepsAs, hears-keeps, idles-keeps}
 
 -- ---- the statement
 

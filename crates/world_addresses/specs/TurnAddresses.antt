@@ -36,20 +36,20 @@ use Rattle.world_base.specs.declared.request.FetchRequest.{FetchRequest}
 use Rattle.world_base.specs.declared.request.PrepareRequest.{PrepareRequest}
 use Rattle.world_base.specs.declared.target.TargetMemory.{TargetMemory}
 use Rattle.world_base.specs.declared.target.TargetPlan.{TargetPlan}
-use Rattle.world_events.specs.Letters.{client, target}
-use Rattle.world_turns.specs.Acks as ack
-use Rattle.world_turns.specs.Changes.{Change, Kept, Steps}
-use Rattle.world_turns.specs.Commits as commit
-use Rattle.world_turns.specs.Idle.{AllSettled, IdleEnds, IdleNext, SettlesFirst, batch_of, inquiry_of}
-use Rattle.world_turns.specs.Marks as mark
-use Rattle.world_turns.specs.PathLaws.{path-keeps}
-use Rattle.world_turns.specs.Prepares as prepare
-use Rattle.world_turns.specs.Reads as read
-use Rattle.world_turns.specs.Requests.{with_ticks}
-use Rattle.world_turns.specs.Roles.{leader_at, leads_on, member_at, other_leader, other_leader_of, with_unsettled}
-use Rattle.world_turns.specs.TargetTurns.{Hears, IdlesWhole, commit_request, fetch_request, prepare_request}
-use Rattle.world_turns.specs.Turns.{Whole}
-use Rattle.world_turns.specs.Verdicts as verdict
+use Rattle.world_base.specs.Letters.{client, target}
+use Rattle.world_base.specs.Acks as ack
+use Rattle.world_base.specs.Changes.{Change, Kept, Steps}
+use Rattle.world_base.specs.Commits as commit
+use Rattle.world_base.specs.Idle.{AllSettled, IdleEnds, IdleNext, SettlesFirst, batch_of, inquiry_of}
+use Rattle.world_base.specs.Marks as mark
+use Rattle.world_base.specs.PathLaws.{path-keeps}
+use Rattle.world_base.specs.Prepares as prepare
+use Rattle.world_base.specs.Reads as read
+use Rattle.world_base.specs.Requests.{with_ticks}
+use Rattle.world_base.specs.Roles.{leader_at, leads_on, member_at, other_leader, other_leader_of, with_unsettled}
+use Rattle.world_base.specs.TargetTurns.{Hears, IdlesWhole, commit_request, fetch_request, prepare_request}
+use Rattle.world_base.specs.Turns.{Whole}
+use Rattle.world_base.specs.Verdicts as verdict
 
 -- ---- entries
 
@@ -268,7 +268,7 @@ module _ (n : Crowd) (t : TargetPlan) (some : 0 < n.targets) (plan : t.targets �
 
   -- ---- a Mark, and a Query
 
-  mark-step : (s u : List (AttemptId × Bool)) (k l : Kept) (o : Option Change) → mark.MarkNext s k o u → Steps o k l → ArePlaced n k.durable.entries → ArePlaced n l.durable.entries
+  mark-step : (s u : List (AttemptId × Bool)) (k l : Kept) (o : Option Change) → mark.MarkNext t.me s k o u → Steps o k l → ArePlaced n k.durable.entries → ArePlaced n l.durable.entries
   mark-step s u k l o (mark.SettlesMarked j a committed rest is) st p = moves n k l (settled a (mark.marked_step committed) k.durable) st.0 (settled-placed n a (mark.marked_step committed) k.durable p)
   mark-step s u k l o (mark.PassesBy j a committed rest is) st p = stays n k l st p
 
@@ -298,7 +298,7 @@ module _ (n : Crowd) (t : TargetPlan) (some : 0 < n.targets) (plan : t.targets �
       → verdict.VerdictNext t m reading x ask v s k o u → Steps o k l → verdict-state s k → verdict-state u l
   verdict-step m reading x ask v w s u k l o (verdict.SettlesBy j o2 is) st p =
       let go = verdict-right n t.me here (member_at t m) w.parked x ask v in
-      (by-verdict v x k l (verdict.settles_by v x k.durable) (subst (λ z. Steps z k l) is st) p, go.again, record { rows = w.rows; parked = go.parked }, go.posts)
+      (by-verdict v x k l (verdict.settles_by t.me v x k.durable) (subst (λ z. Steps z k l) is st) p, go.again, record { rows = w.rows; parked = go.parked }, go.posts)
   verdict-step m reading x ask v w s u k l o (verdict.TriesNext j m2 posts rest y op group ep first tracker r snapshot) st p =
       (stays n k l st p.0, λ z i. p.1 z (inr i), p.2, p.3, p.1 (message.Fetch y op group ep first tracker r snapshot) (inl refl))
   verdict-step m reading x ask v w s u k l o (verdict.GoesOn j m2 posts rest q f g o2 next) st p = (fetch-step m2 reading q f g k l o next st p.0, p.1, p.2, p.3, p.4)

@@ -22,7 +22,7 @@ use Rattle.world_attempts.specs.History.{GrowsBy, History, target_posts}
 use Rattle.world_base.specs.declared.letter.Letter.{Letter}
 use Rattle.world_base.specs.declared.target.TargetState.{TargetState}
 use Rattle.world_base.specs.declared.world.World.{World}
-use Rattle.world_events.specs.Events.{ByClient, ByTarget, Event, Rules, ToClient, ToTarget}
+use Rattle.world_base.specs.Events.{ByClient, ByTarget, Event, Rules, ToClient, ToTarget}
 
 -- what refuses is no commit
 refusal-of : (r : Rules) (h : History) (w : World) (from to : ActorId) (n : Message) → IsTrueOf r h w from to n → IsRefusal n

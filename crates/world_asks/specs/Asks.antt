@@ -22,8 +22,8 @@ use Rattle.world_attempts.specs.History.{GrowsBy, History, target_posts}
 use Rattle.world_base.specs.declared.letter.Letter.{Letter}
 use Rattle.world_base.specs.declared.target.TargetState.{TargetState}
 use Rattle.world_base.specs.declared.world.World.{World}
-use Rattle.world_events.specs.Events.{Event, Rules}
-use Rattle.world_events.specs.Letters.{target}
+use Rattle.world_base.specs.Events.{Event, Rules}
+use Rattle.world_base.specs.Letters.{target}
 
 -- a letter of this kind is in flight
 abbrev pub Flies : World → (Letter → Type 0) → Type 0

@@ -30,8 +30,8 @@ use Rattle.world_attempts.specs.MemberBits.{has-none, is-other_same, other-no_le
 use Rattle.world_attempts.specs.Stored.{row-found}
 use Rattle.world_base.specs.declared.target.TargetState.{TargetState}
 use Rattle.world_base.specs.declared.world.World.{World}
-use Rattle.world_events.specs.Ended.{HasEnded}
-use Rattle.world_events.specs.Events.{Rules}
+use Rattle.world_base.specs.Ended.{HasEnded}
+use Rattle.world_base.specs.Events.{Rules}
 
 -- ---- lists
 

@@ -8,8 +8,8 @@ use Rattle.world_attempts.specs.Attempts.{Attempts, IsOther}
 use Rattle.world_attempts.specs.History.{History}
 use Rattle.world_base.specs.declared.target.TargetState.{TargetState}
 use Rattle.world_base.specs.declared.world.World.{World}
-use Rattle.world_events.specs.Ended.{HasEnded}
-use Rattle.world_events.specs.Events.{Rules}
+use Rattle.world_base.specs.Ended.{HasEnded}
+use Rattle.world_base.specs.Events.{Rules}
 
 -- Nothing is left to settle at a target: each entry that it keeps is committed, and confirmed by each other member where the target leads
 -- it; it leads no attempt that is undecided; and no Fetch waits.

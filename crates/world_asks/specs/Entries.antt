@@ -25,20 +25,20 @@ use Rattle.world_base.specs.declared.request.FetchRequest.{FetchRequest}
 use Rattle.world_base.specs.declared.request.PrepareRequest.{PrepareRequest}
 use Rattle.world_base.specs.declared.target.TargetMemory.{TargetMemory}
 use Rattle.world_base.specs.declared.target.TargetPlan.{TargetPlan}
-use Rattle.world_turns.specs.Acks as ack
-use Rattle.world_turns.specs.Changes.{Change, Extends, Kept, Prepares, Settles, Steps}
-use Rattle.world_turns.specs.Commits as commit
-use Rattle.world_turns.specs.EntryLaws.{entry-aborted, entry-aborted_other, entry-committed, entry-confirmed, entry-leased, entry-prepared_other}
-use Rattle.world_turns.specs.Idle.{IdleNext, SettlesFirst}
-use Rattle.world_turns.specs.LoopLaws.{marks-keep}
-use Rattle.world_turns.specs.Marks as mark
-use Rattle.world_turns.specs.PathLaws.{reached-keeps}
-use Rattle.world_turns.specs.Prepares as prepare
-use Rattle.world_turns.specs.Reads as read
-use Rattle.world_turns.specs.Roles.{is_prepared}
-use Rattle.world_turns.specs.TargetTurns.{Hears, IdlesWhole, commit_request, fetch_request, prepare_request}
-use Rattle.world_turns.specs.Turns.{Whole}
-use Rattle.world_turns.specs.Verdicts as verdict
+use Rattle.world_base.specs.Acks as ack
+use Rattle.world_base.specs.Changes.{Change, Extends, Kept, Prepares, Settles, Steps}
+use Rattle.world_base.specs.Commits as commit
+use Rattle.world_base.specs.EntryLaws.{entry-aborted, entry-aborted_other, entry-committed, entry-confirmed, entry-leased, entry-prepared_other}
+use Rattle.world_base.specs.Idle.{IdleNext, SettlesFirst}
+use Rattle.world_base.specs.LoopLaws.{marks-keep}
+use Rattle.world_base.specs.Marks as mark
+use Rattle.world_base.specs.PathLaws.{reached-keeps}
+use Rattle.world_base.specs.Prepares as prepare
+use Rattle.world_base.specs.Reads as read
+use Rattle.world_base.specs.Roles.{is_in_doubt}
+use Rattle.world_base.specs.TargetTurns.{Hears, IdlesWhole, commit_request, fetch_request, prepare_request}
+use Rattle.world_base.specs.Turns.{Whole}
+use Rattle.world_base.specs.Verdicts as verdict
 
 -- ---- entries
 
@@ -175,9 +175,9 @@ marking-spares : (x a : AttemptId) (committed : Bool) → (x ≡ a → ⊥) → 
 marking-spares x a true apart = tt
 marking-spares x a false apart = apart
 
-mark-stores_not : (x : AttemptId) (s : List (AttemptId × Bool)) (k : Kept) (o : Option Change) (u : List (AttemptId × Bool)) → mark.MarkNext s k o u → StoresNot x o
-mark-stores_not x s k o u (mark.SettlesMarked j a committed rest is) = marking-stores_not x a committed
-mark-stores_not x s k o u (mark.PassesBy j a committed rest is) = tt
+mark-stores_not : (me : ℕ) (x : AttemptId) (s : List (AttemptId × Bool)) (k : Kept) (o : Option Change) (u : List (AttemptId × Bool)) → mark.MarkNext me s k o u → StoresNot x o
+mark-stores_not me x s k o u (mark.SettlesMarked j a committed rest is) = marking-stores_not x a committed
+mark-stores_not me x s k o u (mark.PassesBy j a committed rest is) = tt
 
 query-spares : (x : AttemptId) (s : verdict.QueryStage) (k : Kept) (o : Option Change) (u : verdict.QueryStage) → verdict.QueryNext s k o u → Spares x o × StoresNot x o
 query-spares x s k o u (verdict.Answers j) = (tt, tt)
@@ -197,14 +197,14 @@ step-spares x a said.Undecided true apart = tt
 
 verdict-stores_not : (t : TargetPlan) (m : TargetMemory) (reading : ℕ) (a : AttemptId) (ask : Option AttemptId) (v : Verdict) (x : AttemptId) (s : verdict.VerdictStage) (k : Kept) (o : Option Change) (u : verdict.VerdictStage)
     → verdict.VerdictNext t m reading a ask v s k o u → StoresNot x o
-verdict-stores_not t m reading a ask v x s k o u (verdict.SettlesBy j p is) = subst (StoresNot x) (sym is) (step-stores_not x a v (is_prepared a k.durable))
+verdict-stores_not t m reading a ask v x s k o u (verdict.SettlesBy j p is) = subst (StoresNot x) (sym is) (step-stores_not x a v (is_in_doubt t.me a k.durable))
 verdict-stores_not t m reading a ask v x s k o u (verdict.TriesNext j n posts rest y op group ep first tracker r snapshot) = tt
 verdict-stores_not t m reading a ask v x s k o u (verdict.GoesOn j n posts rest q i z p next) = (fetch-spares t n reading q x i k o z next).1
 verdict-stores_not t m reading a ask v x s k o u (verdict.IsDone j n posts rest q i left ends) = tt
 
 verdict-spares : (t : TargetPlan) (m : TargetMemory) (reading : ℕ) (a : AttemptId) (ask : Option AttemptId) (v : Verdict) (x : AttemptId) → (x ≡ a → ⊥) → (s : verdict.VerdictStage) (k : Kept) (o : Option Change) (u : verdict.VerdictStage)
     → verdict.VerdictNext t m reading a ask v s k o u → Spares x o
-verdict-spares t m reading a ask v x apart s k o u (verdict.SettlesBy j p is) = subst (Spares x) (sym is) (step-spares x a v (is_prepared a k.durable) apart)
+verdict-spares t m reading a ask v x apart s k o u (verdict.SettlesBy j p is) = subst (Spares x) (sym is) (step-spares x a v (is_in_doubt t.me a k.durable) apart)
 verdict-spares t m reading a ask v x apart s k o u (verdict.TriesNext j n posts rest y op group ep first tracker r snapshot) = tt
 verdict-spares t m reading a ask v x apart s k o u (verdict.GoesOn j n posts rest q i z p next) = (fetch-spares t n reading q x i k o z next).0
 verdict-spares t m reading a ask v x apart s k o u (verdict.IsDone j n posts rest q i left ends) = tt
@@ -229,7 +229,7 @@ hears-unprepared t opening m reading from (message.Commit y ep first tracker ws)
 hears-unprepared t opening m reading from (message.Prepare e first ws inc) old new left x h spares =
     whole-unprepared _ _ _ old new left x h (λ s k o u next. (prepare-spares t opening m (prepare_request e first ws inc) x spares s k o u next).1)
 hears-unprepared t opening m reading from (message.Ack y inc refusal) old new left x h spares = whole-unprepared _ _ _ old new left x h (ack-stores_not t m from.number y inc refusal x)
-hears-unprepared t opening m reading from (message.Mark inc marks) old new left x h spares = whole-unprepared _ _ _ old new left x h (mark-stores_not x)
+hears-unprepared t opening m reading from (message.Mark inc marks) old new left x h spares = whole-unprepared _ _ _ old new left x h (mark-stores_not t.me x)
 hears-unprepared t opening m reading from (message.Marked inc ids) old new left x h spares = whole-unprepared _ _ _ old new left x h (λ s k o u next. (marked-spares t m from.number x s k o u next).1)
 hears-unprepared t opening m reading from (message.Query y ask) old new left x h spares = whole-unprepared _ _ _ old new left x h (λ s k o u next. (query-spares x s k o u next).1)
 hears-unprepared t opening m reading from (message.Verdict y ask inc v) old new left x h spares = whole-unprepared _ _ _ old new left x h (verdict-stores_not t m reading y ask v x)
@@ -257,7 +257,7 @@ hears-kept t opening m reading from (message.Prepare e first ws inc) old new lef
     whole-kept _ _ _ old new left x h (λ s k o u next. (prepare-spares t opening m (prepare_request e first ws inc) x brings s k o u next).0)
 hears-kept t opening m reading from (message.Ack y inc refusal) old new left x h brings ends = absurd ends
 hears-kept t opening m reading from (message.Mark inc marks) old new left x h brings ends =
-    marks-keep (λ k. IsKept k.durable x) marks
+    marks-keep (λ k. IsKept k.durable x) t.me marks
     (λ k l a committed among is steps z. kept-step x (Some (Settles a (mark.marked_step committed))) k l steps
     (marking-spares x a committed (λ same. ends (subst (λ y. Has y (attempts_of marks)) (sym same) (has-map marked_attempt marks (a, committed) among)))) z)
     old new h.last h.reached

@@ -31,10 +31,10 @@ use Rattle.world_attempts.specs.Stored.{row-found}
 use Rattle.world_attempts.specs.Turning.{one-or_another}
 use Rattle.world_base.specs.declared.letter.Letter.{Letter}
 use Rattle.world_base.specs.declared.world.World.{World}
-use Rattle.world_events.specs.Events.{Rules, TargetHears, TargetIdles, kept, target_after, target_plan}
-use Rattle.world_events.specs.Letters.{client, letter_of, target}
-use Rattle.world_turns.specs.Roles.{leader_at}
-use Rattle.world_turns.specs.TargetTurns.{Hears}
+use Rattle.world_base.specs.Events.{Rules, TargetHears, TargetIdles, kept, target_after, target_plan}
+use Rattle.world_base.specs.Letters.{client, letter_of, target}
+use Rattle.world_base.specs.Roles.{leader_at}
+use Rattle.world_base.specs.TargetTurns.{Hears}
 
 -- ---- what a letter that is there already says stays
 

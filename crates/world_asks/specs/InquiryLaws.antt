@@ -27,15 +27,15 @@ use Rattle.world_asks.specs.ParkedLaws.{IsOpenStill}
 use Rattle.world_base.specs.declared.did.Did.{Did}
 use Rattle.world_base.specs.declared.target.TargetMemory.{TargetMemory}
 use Rattle.world_base.specs.declared.target.TargetPlan.{TargetPlan}
-use Rattle.world_turns.specs.Changes.{Change, Kept, Steps}
-use Rattle.world_turns.specs.Idle.{AllSettled, IdleEnds, batch_of, inquiry_of}
-use Rattle.world_turns.specs.MemoryLaws.{ack-leaves, commit-leaves, fetch-leaves, mark-leaves, marked-leaves, prepare-leaves, query-leaves}
-use Rattle.world_turns.specs.PathLaws.{reached-keeps}
-use Rattle.world_turns.specs.Roles.{leader_at, member_at}
-use Rattle.world_turns.specs.TargetTurns.{Hears, IdlesWhole, commit_request, fetch_request, prepare_request}
-use Rattle.world_turns.specs.Turns.{Whole}
-use Rattle.world_turns.specs.VerdictLaws.{verdict-keeps}
-use Rattle.world_turns.specs.Verdicts as verdicts
+use Rattle.world_base.specs.Changes.{Change, Kept, Steps}
+use Rattle.world_base.specs.Idle.{AllSettled, IdleEnds, batch_of, inquiry_of}
+use Rattle.world_base.specs.MemoryLaws.{ack-leaves, commit-leaves, fetch-leaves, mark-leaves, marked-leaves, prepare-leaves, query-leaves}
+use Rattle.world_base.specs.PathLaws.{reached-keeps}
+use Rattle.world_base.specs.Roles.{leader_at, member_at}
+use Rattle.world_base.specs.TargetTurns.{Hears, IdlesWhole, commit_request, fetch_request, prepare_request}
+use Rattle.world_base.specs.Turns.{Whole}
+use Rattle.world_base.specs.VerdictLaws.{verdict-keeps}
+use Rattle.world_base.specs.Verdicts as verdicts
 
 -- ---- a turn that hears a message
 

@@ -8,9 +8,9 @@ use Rattle.world_attempts.specs.Counting.{has-left_over}
 use Rattle.world_base.specs.declared.letter.Letter.{Letter}
 use Rattle.world_base.specs.declared.target.TargetState.{TargetState}
 use Rattle.world_base.specs.declared.world.World.{World}
-use Rattle.world_events.specs.Events.{ClientGoes, ClientHears, Rules, TargetHears, TargetIdles, target_after}
-use Rattle.world_events.specs.Letters.{Takes, client, letter_of, letters_of, target}
-use Rattle.world_events.specs.StepLaws.{set-here, set-there}
+use Rattle.world_base.specs.Events.{ClientGoes, ClientHears, Rules, TargetHears, TargetIdles, target_after}
+use Rattle.world_base.specs.Letters.{Takes, client, letter_of, letters_of, target}
+use Rattle.world_base.specs.StepLaws.{set-here, set-there}
 
 -- a letter that is taken is the one that is heard, or is left
 pub heard-or_left : (letters : List Letter) (l : Letter) (rest : List Letter) (n : Letter) → Takes letters l rest → Has n letters → (n ≡ l) ⊎ Has n rest

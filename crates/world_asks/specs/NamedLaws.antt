@@ -29,16 +29,16 @@ use Rattle.world_attempts.specs.MarkTurns.{target-is}
 use Rattle.world_attempts.specs.Turning.{one-or_another}
 use Rattle.world_base.specs.declared.target.TargetState.{TargetState}
 use Rattle.world_base.specs.declared.world.World.{World}
-use Rattle.world_events.specs.Events.{ByClient, ByTarget, Event, Rules, ToClient, ToTarget, kept, target_after, target_plan}
-use Rattle.world_events.specs.Letters.{letter_of, target}
-use Rattle.world_turns.specs.Acks as ack
-use Rattle.world_turns.specs.Changes.{Change, Kept, Steps}
-use Rattle.world_turns.specs.Idle.{AllSettled, IdleEnds, batch_of, inquiry_of}
-use Rattle.world_turns.specs.Marks as mark
-use Rattle.world_turns.specs.MemoryLaws.{commit-leaves, fetch-leaves, mark-leaves, prepare-leaves, query-leaves, verdict-leaves}
-use Rattle.world_turns.specs.PathLaws.{reached-keeps}
-use Rattle.world_turns.specs.Roles.{leader_at, with_unsettled}
-use Rattle.world_turns.specs.TargetTurns.{Hears, IdlesWhole, commit_request, fetch_request, prepare_request}
+use Rattle.world_base.specs.Events.{ByClient, ByTarget, Event, Rules, ToClient, ToTarget, kept, target_after, target_plan}
+use Rattle.world_base.specs.Letters.{letter_of, target}
+use Rattle.world_base.specs.Acks as ack
+use Rattle.world_base.specs.Changes.{Change, Kept, Steps}
+use Rattle.world_base.specs.Idle.{AllSettled, IdleEnds, batch_of, inquiry_of}
+use Rattle.world_base.specs.Marks as mark
+use Rattle.world_base.specs.MemoryLaws.{commit-leaves, fetch-leaves, mark-leaves, prepare-leaves, query-leaves, verdict-leaves}
+use Rattle.world_base.specs.PathLaws.{reached-keeps}
+use Rattle.world_base.specs.Roles.{leader_at, with_unsettled}
+use Rattle.world_base.specs.TargetTurns.{Hears, IdlesWhole, commit_request, fetch_request, prepare_request}
 
 -- ---- what a leader's steps name
 

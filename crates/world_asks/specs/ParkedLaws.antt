@@ -27,16 +27,16 @@ use Rattle.world_base.specs.declared.target.TargetMemory.{TargetMemory}
 use Rattle.world_base.specs.declared.target.TargetPlan.{TargetPlan}
 use Rattle.world_base.specs.declared.target.TargetState.{TargetState}
 use Rattle.world_base.specs.declared.world.World.{World}
-use Rattle.world_events.specs.Events.{ByClient, ByTarget, Event, Rules, ToClient, ToTarget, kept, target_after, target_plan}
-use Rattle.world_events.specs.Letters.{letter_of, target}
-use Rattle.world_turns.specs.Changes.{Kept}
-use Rattle.world_turns.specs.MemoryLaws.{ack-leaves, commit-leaves, idle-leaves, mark-leaves, marked-leaves, member-then, prepare-leaves, query-leaves}
-use Rattle.world_turns.specs.Reads as read
-use Rattle.world_turns.specs.Roles.{leader_at, member_at}
-use Rattle.world_turns.specs.TargetTurns.{Hears, IdlesWhole, commit_request, fetch_request, prepare_request}
-use Rattle.world_turns.specs.Turns.{Whole}
-use Rattle.world_turns.specs.VerdictLaws.{Tries, verdict-keeps}
-use Rattle.world_turns.specs.Verdicts as verdicts
+use Rattle.world_base.specs.Events.{ByClient, ByTarget, Event, Rules, ToClient, ToTarget, kept, target_after, target_plan}
+use Rattle.world_base.specs.Letters.{letter_of, target}
+use Rattle.world_base.specs.Changes.{Kept}
+use Rattle.world_base.specs.MemoryLaws.{ack-leaves, commit-leaves, idle-leaves, mark-leaves, marked-leaves, member-then, prepare-leaves, query-leaves}
+use Rattle.world_base.specs.Reads as read
+use Rattle.world_base.specs.Roles.{leader_at, member_at}
+use Rattle.world_base.specs.TargetTurns.{Hears, IdlesWhole, commit_request, fetch_request, prepare_request}
+use Rattle.world_base.specs.Turns.{Whole}
+use Rattle.world_base.specs.VerdictLaws.{Tries, verdict-keeps}
+use Rattle.world_base.specs.Verdicts as verdicts
 
 -- ---- what turns leave parked
 

@@ -16,11 +16,11 @@ use Rattle.world_attempts.specs.Turning.{one-or_other}
 use Rattle.world_base.specs.declared.did.Did.{Did}
 use Rattle.world_base.specs.declared.target.TargetMemory.{TargetMemory}
 use Rattle.world_base.specs.declared.target.TargetPlan.{TargetPlan}
-use Rattle.world_turns.specs.Acks.{AckEnds, AckNext, AckStage, Aborts, Counts, Followed, Heard, IsFollowed, is_awaited, is_awaited_of, is_refusing}
-use Rattle.world_turns.specs.Changes.{Change, Kept, Settles, Steps}
-use Rattle.world_turns.specs.PathLaws.{reached-keeps}
-use Rattle.world_turns.specs.Roles.{leader_at}
-use Rattle.world_turns.specs.Turns.{Whole}
+use Rattle.world_base.specs.Acks.{AckEnds, AckNext, AckStage, Aborts, Counts, Followed, Heard, IsFollowed, is_awaited, is_awaited_of, is_refusing}
+use Rattle.world_base.specs.Changes.{Change, Kept, Settles, Steps}
+use Rattle.world_base.specs.PathLaws.{reached-keeps}
+use Rattle.world_base.specs.Roles.{leader_at}
+use Rattle.world_base.specs.Turns.{Whole}
 
 -- an Ack refuses an attempt that is undecided here: its client, if one waits, is told the refusal, and each other member that it is aborted
 pub record Refuses (l : LeaderOf) (a : AttemptId) (refusal : Option Outcome) (posts : List Post) : Type 0 where

@@ -36,15 +36,15 @@ use Rattle.world_base.specs.declared.target.TargetMemory.{TargetMemory}
 use Rattle.world_base.specs.declared.target.TargetPlan.{TargetPlan}
 use Rattle.world_base.specs.declared.target.TargetState.{TargetState}
 use Rattle.world_base.specs.declared.world.World.{World}
-use Rattle.world_events.specs.Events.{ByClient, ByTarget, Event, Rules, TargetHears, ToClient, ToTarget, kept, target_after, target_plan}
-use Rattle.world_turns.specs.Acks as ack
-use Rattle.world_turns.specs.Changes.{Change, Kept, Steps}
-use Rattle.world_turns.specs.Commits as commit
-use Rattle.world_turns.specs.Commits.{bits_of}
-use Rattle.world_turns.specs.MemoryLaws.{commit-leaves, fetch-leaves, idle-leaves, mark-leaves, marked-leaves, prepare-leaves, query-leaves, verdict-leaves}
-use Rattle.world_turns.specs.PathLaws.{reached-keeps}
-use Rattle.world_turns.specs.Roles.{leader_at}
-use Rattle.world_turns.specs.TargetTurns.{Hears, commit_request, fetch_request, prepare_request}
+use Rattle.world_base.specs.Events.{ByClient, ByTarget, Event, Rules, TargetHears, ToClient, ToTarget, kept, target_after, target_plan}
+use Rattle.world_base.specs.Acks as ack
+use Rattle.world_base.specs.Changes.{Change, Kept, Steps}
+use Rattle.world_base.specs.Commits as commit
+use Rattle.world_base.specs.Commits.{bits_of}
+use Rattle.world_base.specs.MemoryLaws.{commit-leaves, fetch-leaves, idle-leaves, mark-leaves, marked-leaves, prepare-leaves, query-leaves, verdict-leaves}
+use Rattle.world_base.specs.PathLaws.{reached-keeps}
+use Rattle.world_base.specs.Roles.{leader_at}
+use Rattle.world_base.specs.TargetTurns.{Hears, commit_request, fetch_request, prepare_request}
 
 -- ---- a turn
 

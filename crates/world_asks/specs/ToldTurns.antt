@@ -38,12 +38,13 @@ use Rattle.world_base.specs.declared.letter.Letter.{Letter}
 use Rattle.world_base.specs.declared.target.TargetMemory.{TargetMemory}
 use Rattle.world_base.specs.declared.target.TargetPlan.{TargetPlan}
 use Rattle.world_base.specs.declared.world.World.{World}
-use Rattle.world_events.specs.Events.{Rules, TargetHears, TargetIdles, kept, target_after, target_plan}
-use Rattle.world_events.specs.Letters.{letter_of, target}
-use Rattle.world_turns.specs.Changes.{Kept}
-use Rattle.world_turns.specs.Idle.{AllSettled, IdleEnds, batch_of, inquiry_of}
-use Rattle.world_turns.specs.Roles.{leader_at, member_at, with_unsettled}
-use Rattle.world_turns.specs.TargetTurns.{Hears, IdlesWhole}
+use Rattle.world_base.specs.Events.{Rules, TargetHears, TargetIdles, kept, target_after, target_plan}
+use Rattle.world_base.specs.Letters.{letter_of, target}
+use Rattle.world_base.specs.Changes.{Kept}
+use Rattle.world_base.specs.DoubtLaws.{IsLedElsewhere}
+use Rattle.world_base.specs.Idle.{AllSettled, IdleEnds, batch_of, inquiry_of}
+use Rattle.world_base.specs.Roles.{leader_at, member_at, with_unsettled}
+use Rattle.world_base.specs.TargetTurns.{Hears, IdlesWhole}
 
 -- what refuses is no commit
 abbrev pub IsRefusal : Message → Type 0
@@ -167,8 +168,17 @@ module _ (r : Rules) (h later : History) (w v : World) (Q : AskedRight r h w) (A
   -- a Mark that it hears settles what it names
   mark-heard : (x : AttemptId) (k : IsMarkOf g.t x g.l) → Unprepared g.new.durable x
   mark-heard x k =
-      marked-unprepared g.s.memory g.l.from k.inc k.marks (kept g.s) g.new (g.memory, g.did) x
-      (subst (λ q. Hears (target_plan r g.t) g.s.opening g.s.memory g.reading g.l.from q (kept g.s) g.new (g.memory, g.did)) k.mark g.turn) k.names
+      marked-unprepared g.t g.s.memory g.l.from k.inc k.marks (kept g.s) g.new (g.memory, g.did) x
+      (subst (λ q. Hears (target_plan r g.t) g.s.opening g.s.memory g.reading g.l.from q (kept g.s) g.new (g.memory, g.did)) k.mark g.turn) k.names elsewhere
+    where
+      named : (q : AttemptId × Bool) × Has q k.marks × (marked_attempt q ≡ x)
+      named = has-from_map marked_attempt k.marks x k.names
+
+      elsewhere : IsLedElsewhere g.t x g.s.durable
+      elsewhere e found mine =
+          let tells = heard-true (message.Mark k.inc k.marks) k.mark named.0.0 named.0.1 named.1 in
+          let its = (A.each x).entries.one g.t e (ap (λ o. entry_in o x) g.here ∙ found) in
+          no-member named.0.0 tells.way.member tells.way.other tells.way.receiver (sym mine ∙ its.leader ∙ ap (leader_of r) (sym named.2))
 
   pub hears-leaves : LeavesTold r h later w v
   hears-leaves = record {

@@ -45,15 +45,15 @@ use Rattle.world_base.specs.declared.letter.Letter.{Letter}
 use Rattle.world_base.specs.declared.target.TargetMemory.{TargetMemory}
 use Rattle.world_base.specs.declared.target.TargetState.{TargetState}
 use Rattle.world_base.specs.declared.world.World.{World}
-use Rattle.world_events.specs.Events.{Rules, target_after, target_plan}
-use Rattle.world_events.specs.Letters.{Takes, letter_of, letters_of, target}
-use Rattle.world_events.specs.StepLaws.{set-here}
-use Rattle.world_turns.specs.Acks.{AckEnds, AckNext, AckStage, Aborts, Counts, Followed, Heard, IsFollowed, is_refusing}
-use Rattle.world_turns.specs.Changes.{Change, Kept, Steps}
-use Rattle.world_turns.specs.Roles.{leader_at, leads_on}
+use Rattle.world_base.specs.Events.{Rules, target_after, target_plan}
+use Rattle.world_base.specs.Letters.{Takes, letter_of, letters_of, target}
+use Rattle.world_base.specs.StepLaws.{set-here}
+use Rattle.world_base.specs.Acks.{AckEnds, AckNext, AckStage, Aborts, Counts, Followed, Heard, IsFollowed, is_refusing}
+use Rattle.world_base.specs.Changes.{Change, Kept, Steps}
+use Rattle.world_base.specs.Roles.{leader_at, leads_on}
 use Rattle.daos_laws.specs.ServeLaws.{all-has}
-use Rattle.world_turns.specs.ChangeLaws.{incarnation-settled}
-use Rattle.world_turns.specs.EntryLaws.{entry-aborted, entry-aborted_other}
+use Rattle.world_base.specs.ChangeLaws.{incarnation-settled}
+use Rattle.world_base.specs.EntryLaws.{entry-aborted, entry-aborted_other}
 
 pub counted-same : (a : AttemptId) (t : ℕ) (u : Undecided) → undecided_attempt (counted_at a t u) ≡ undecided_attempt u
 counted-same a t u = by (same_attempt u.attempt a)

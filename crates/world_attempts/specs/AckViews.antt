@@ -9,7 +9,7 @@ use Rattle.daos_base.specs.declared.outcome.Outcome.TheVariants.{Committed}
 use Rattle.dtx_base.specs.declared.leading.Undecided.{Undecided}
 use Rattle.dtx_base.specs.Leading.{LeaderOf, LeaderStep, ack_heard, answer_heard, answer_if_awaited, counted_at, decided, ended, entry_led, ok_heard, quietly, refusal_heard, undecided_of, with_undecided}
 use Rattle.dtx_base.specs.Members.{are_all_counted, has_target, is_other_member, other_members, with_target}
-use Rattle.world_turns.specs.Acks.{is_awaited, is_awaited_of, is_refusing}
+use Rattle.world_base.specs.Acks.{is_awaited, is_awaited_of, is_refusing}
 
 -- an attempt has an entry and a row at a leader
 pub record IsAwaited (a : AttemptId) (l : LeaderOf) (e : Entry) (u : Undecided) : Type 0 where

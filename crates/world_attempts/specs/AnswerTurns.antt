@@ -26,16 +26,16 @@ use Rattle.world_base.specs.declared.letter.Letter.{Letter}
 use Rattle.world_base.specs.declared.target.TargetMemory.{TargetMemory}
 use Rattle.world_base.specs.declared.target.TargetState.{TargetState}
 use Rattle.world_base.specs.declared.world.World.{World}
-use Rattle.world_events.specs.Events.{Rules, target_after, target_plan}
-use Rattle.world_events.specs.Letters.{target}
-use Rattle.world_events.specs.StepLaws.{set-here}
+use Rattle.world_base.specs.Events.{Rules, target_after, target_plan}
+use Rattle.world_base.specs.Letters.{target}
+use Rattle.world_base.specs.StepLaws.{set-here}
 use Rattle.world_talks.specs.LeaveLaws.{marked-is}
-use Rattle.world_turns.specs.Acks.{AllConfirmed, Confirms, MarkedEnds, MarkedNext, PassesBy, to_confirm}
-use Rattle.world_turns.specs.ChangeLaws.{incarnation-settled}
-use Rattle.world_turns.specs.Changes.{Change, Kept, Steps}
-use Rattle.world_turns.specs.Requests.{nothing_follows}
-use Rattle.world_turns.specs.Roles.{leader_at, leads_on}
-use Rattle.world_turns.specs.Verdicts.{Answers, IsTold, QueryEnds, QueryNext, QueryStage, verdict_message}
+use Rattle.world_base.specs.Acks.{AllConfirmed, Confirms, MarkedEnds, MarkedNext, PassesBy, to_confirm}
+use Rattle.world_base.specs.ChangeLaws.{incarnation-settled}
+use Rattle.world_base.specs.Changes.{Change, Kept, Steps}
+use Rattle.world_base.specs.Requests.{nothing_follows}
+use Rattle.world_base.specs.Roles.{leader_at, leads_on}
+use Rattle.world_base.specs.Verdicts.{Answers, IsTold, QueryEnds, QueryNext, QueryStage, verdict_message}
 
 -- where an entry may be confirmed, there is one, and it is committed
 confirmable : (member : ℕ) (o : Option Entry) → may_confirm member o ≡ true → (e : Entry) × (o ≡ Some e) × (e.committed ≡ true)

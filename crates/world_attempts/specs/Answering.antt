@@ -15,7 +15,7 @@ use Rattle.world_attempts.specs.Settling.{RowsStay, attempt-gone, rows-there}
 use Rattle.world_attempts.specs.Turning.{one-or_another}
 use Rattle.world_base.specs.declared.letter.Letter.{Letter}
 use Rattle.world_base.specs.declared.world.World.{World}
-use Rattle.world_events.specs.Events.{Rules}
+use Rattle.world_base.specs.Events.{Rules}
 
 -- ---- a member stores what it is asked to prepare
 

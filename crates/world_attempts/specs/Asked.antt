@@ -10,8 +10,8 @@ use Rattle.world_attempts.specs.Attempts.{entry_at, leader_of, writes_of}
 use Rattle.world_attempts.specs.History.{Aborted, History}
 use Rattle.world_base.specs.declared.letter.Letter.{Letter}
 use Rattle.world_base.specs.declared.world.World.{World}
-use Rattle.world_events.specs.Events.{Rules}
-use Rattle.world_events.specs.Letters.{target}
+use Rattle.world_base.specs.Events.{Rules}
+use Rattle.world_base.specs.Letters.{target}
 
 -- A Commit in flight: it brings an attempt's writes to its leader, at an epoch that was issued to it where it has
 -- one. Nothing became of the attempt yet: its leader has no entry of it, and it isn't aborted.

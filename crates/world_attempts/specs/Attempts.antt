@@ -26,9 +26,9 @@ use Rattle.world_attempts.specs.History.{Aborted, Decided, History}
 use Rattle.world_base.specs.declared.letter.Letter.{Letter}
 use Rattle.world_base.specs.declared.target.TargetState.{TargetState}
 use Rattle.world_base.specs.declared.world.World.{World}
-use Rattle.world_events.specs.Events.{Rules}
-use Rattle.world_events.specs.Letters.{target}
-use Rattle.world_turns.specs.Commits.{bits_of}
+use Rattle.world_base.specs.Events.{Rules}
+use Rattle.world_base.specs.Letters.{target}
+use Rattle.world_base.specs.Commits.{bits_of}
 
 -- ---- what the script says of an attempt
 

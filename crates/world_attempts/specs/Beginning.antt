@@ -16,7 +16,7 @@ use Rattle.world_attempts.specs.Settling.{attempt-gone}
 use Rattle.world_attempts.specs.Turning.{one-or_another}
 use Rattle.world_base.specs.declared.letter.Letter.{Letter}
 use Rattle.world_base.specs.declared.world.World.{World}
-use Rattle.world_events.specs.Events.{Rules}
+use Rattle.world_base.specs.Events.{Rules}
 
 -- ---- an attempt of which nothing became yet
 

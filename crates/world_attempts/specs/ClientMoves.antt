@@ -18,10 +18,10 @@ use Rattle.world_base.specs.declared.client.Present.{Present}
 use Rattle.world_base.specs.declared.letter.Letter.{Letter}
 use Rattle.world_base.specs.declared.world.World.{World}
 use Rattle.world_base.specs.ClientTurns.{Move, about, answered, ended, hears_epochs, heard, heard_at, is_about, knows, listed, moved, replied, request_of, reset_by, rests, waits, attempt_id, goes}
-use Rattle.world_events.specs.Events.{ClientGoes, ClientHears, Rules, client_plan, with_client}
-use Rattle.world_events.specs.Letters.{Takes, client, letter_of, letters_of}
-use Rattle.world_events.specs.StepLaws.{by-hearing, by-next}
-use Rattle.world_events.specs.Steps.{after_move, without}
+use Rattle.world_base.specs.Events.{ClientGoes, ClientHears, Rules, client_plan, with_client}
+use Rattle.world_base.specs.Letters.{Takes, client, letter_of, letters_of}
+use Rattle.world_base.specs.StepLaws.{by-hearing, by-next}
+use Rattle.world_base.specs.Steps.{after_move, without}
 use Rattle.world_talks.specs.AskLaws.{asked-is-request, move-is, waiting-rests}
 use Rattle.world_talks.specs.Asked.{Asking, IsMove, Silent, Telling}
 use Rattle.world_talks.specs.HearLaws.{ended-silent, replied-silent}

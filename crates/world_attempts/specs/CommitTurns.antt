@@ -47,16 +47,16 @@ use Rattle.world_base.specs.declared.letter.Letter.{Letter}
 use Rattle.world_base.specs.declared.target.TargetMemory.{TargetMemory}
 use Rattle.world_base.specs.declared.target.TargetState.{TargetState}
 use Rattle.world_base.specs.declared.world.World.{World}
-use Rattle.world_events.specs.Events.{Rules, listed, target_after, target_plan}
-use Rattle.world_events.specs.Letters.{Takes, letter_of, letters_of, target}
-use Rattle.world_events.specs.StepLaws.{set-here}
-use Rattle.world_turns.specs.ChangeLaws.{incarnation-prepared}
-use Rattle.world_turns.specs.Changes.{Change, Kept, Steps}
-use Rattle.world_turns.specs.Commits.{Asked, Checking, CommitEnds, CommitNext, CommitStage, ExtendsLease, HasBegun, HasEpoch, HasNoSpace, IsCovered, IsRefused, IsSpent, Known, Stored, Stores, begins_at, bits_of, led_entry, own_writes}
-use Rattle.world_turns.specs.EntryLaws.{entry-leased, entry-prepared_other}
-use Rattle.world_turns.specs.Requests.{issued_for, request_epoch, with_ticks}
-use Rattle.world_turns.specs.Roles.{leader_at, leads_on}
-use Rattle.world_turns.specs.TargetTurns.{commit_request}
+use Rattle.world_base.specs.Events.{Rules, listed, target_after, target_plan}
+use Rattle.world_base.specs.Letters.{Takes, letter_of, letters_of, target}
+use Rattle.world_base.specs.StepLaws.{set-here}
+use Rattle.world_base.specs.ChangeLaws.{incarnation-prepared}
+use Rattle.world_base.specs.Changes.{Change, Kept, Steps}
+use Rattle.world_base.specs.Commits.{Asked, Checking, CommitEnds, CommitNext, CommitStage, ExtendsLease, HasBegun, HasEpoch, HasNoSpace, IsCovered, IsRefused, IsSpent, Known, Stored, Stores, begins_at, bits_of, led_entry, own_writes}
+use Rattle.world_base.specs.EntryLaws.{entry-leased, entry-prepared_other}
+use Rattle.world_base.specs.Requests.{issued_for, request_epoch, with_ticks}
+use Rattle.world_base.specs.Roles.{leader_at, leads_on}
+use Rattle.world_base.specs.TargetTurns.{commit_request}
 
 abbrev pub issue : AttemptId → Epoch → AttemptId × Epoch
 issue x e = (x, e)

@@ -4,7 +4,7 @@ use Rattle.std.proofs.Common.{sym, ◌∙◌, ap, subst, arith, inl, inr}
 use Rattle.daos_laws.specs.Members.{Has, has-cases, has-left, has-right}
 use Rattle.world_attempts.specs.Attempts.{count, one_if}
 use Rattle.world_base.specs.declared.letter.Letter.{Letter}
-use Rattle.world_events.specs.Letters.{Takes}
+use Rattle.world_base.specs.Letters.{Takes}
 
 pub count-append : {T : Type 0} (p : T → Bool) (xs ys : List T) → count p (xs ++ ys) ≡ count p xs + count p ys
 count-append p [] ys = omega arith

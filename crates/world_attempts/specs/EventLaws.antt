@@ -34,17 +34,17 @@ use Rattle.world_attempts.specs.Working.{at_work, attempts-there, idle-over, is_
 use Rattle.world_base.specs.declared.request.FetchRequest.{FetchRequest}
 use Rattle.world_base.specs.declared.target.TargetState.{TargetState}
 use Rattle.world_base.specs.declared.world.World.{World}
-use Rattle.world_events.specs.Events.{ByClient, ByTarget, Rules, TargetHears, TargetIdles, ToClient, ToTarget, kept, listed, target_after, target_plan}
-use Rattle.world_events.specs.Letters.{letters_of, target}
-use Rattle.world_turns.specs.Acks.{AckNext, Heard, MarkedNext, to_confirm}
-use Rattle.world_turns.specs.Commits as commits
-use Rattle.world_turns.specs.Idle.{IdleNext}
-use Rattle.world_turns.specs.Marks.{MarkNext}
-use Rattle.world_turns.specs.PathLaws.{path-keeps}
-use Rattle.world_turns.specs.Prepares as prepares
-use Rattle.world_turns.specs.Reads.{Asked, FetchNext}
-use Rattle.world_turns.specs.TargetTurns.{Hears, commit_request, fetch_request, prepare_request}
-use Rattle.world_turns.specs.Verdicts as verdicts
+use Rattle.world_base.specs.Events.{ByClient, ByTarget, Rules, TargetHears, TargetIdles, ToClient, ToTarget, kept, listed, target_after, target_plan}
+use Rattle.world_base.specs.Letters.{letters_of, target}
+use Rattle.world_base.specs.Acks.{AckNext, Heard, MarkedNext, to_confirm}
+use Rattle.world_base.specs.Commits as commits
+use Rattle.world_base.specs.Idle.{IdleNext}
+use Rattle.world_base.specs.Marks.{MarkNext}
+use Rattle.world_base.specs.PathLaws.{path-keeps}
+use Rattle.world_base.specs.Prepares as prepares
+use Rattle.world_base.specs.Reads.{Asked, FetchNext}
+use Rattle.world_base.specs.TargetTurns.{Hears, commit_request, fetch_request, prepare_request}
+use Rattle.world_base.specs.Verdicts as verdicts
 
 -- nothing is found where nothing is stored
 nothing-stored : (s : TargetState) (x : AttemptId) → s.durable.entries ≡ [] → entry_of s.durable x ≡ None
@@ -109,7 +109,7 @@ module _ (r : Rules) (h later : History) (w v : World) (right : AskedRight r h w
   by-kind (message.Mark inc marks) is turn =
       ends (ap is_dull is)
       (mark.mark-ends r h w g.t g.s g.here g.s.memory g.l flies g.to_it inc marks is turn.last g.new (g.memory, g.did) turn.ends
-      (path-keeps MarkNext (mark.AtMark r h w g.t g.s g.here g.s.memory g.l flies g.to_it marks) (mark.mark-step r h w g.t g.s g.here g.s.memory g.l flies g.to_it inc marks is) marks (kept g.s) turn.reached.did turn.last g.new turn.reached.path
+      (path-keeps (MarkNext g.t) (mark.AtMark r h w g.t g.s g.here g.s.memory g.l flies g.to_it marks) (mark.mark-step r h w g.t g.s g.here g.s.memory g.l flies g.to_it inc marks is) marks (kept g.s) turn.reached.did turn.last g.new turn.reached.path
       (record { on = begins; left_of = λ x c i. i; done = λ x i. inl i })))
   by-kind (message.Marked inc ids) is turn =
       ends (ap is_dull is)

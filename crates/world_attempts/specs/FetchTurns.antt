@@ -30,14 +30,14 @@ use Rattle.world_base.specs.declared.target.TargetMemory.{TargetMemory}
 use Rattle.world_base.specs.declared.target.TargetPlan.{TargetPlan}
 use Rattle.world_base.specs.declared.target.TargetState.{TargetState}
 use Rattle.world_base.specs.declared.world.World.{World}
-use Rattle.world_events.specs.Events.{Rules, target_after, target_plan}
-use Rattle.world_events.specs.Letters.{target}
-use Rattle.world_events.specs.StepLaws.{set-here}
-use Rattle.world_turns.specs.ChangeLaws.{incarnation-settled}
-use Rattle.world_turns.specs.Changes.{Change, Kept, Steps}
-use Rattle.world_turns.specs.Reads.{Asked, AtSnapshot, ExtendsLease, FetchEnds, FetchNext, FetchStage, HasEpoch, IsCovered, IsParked, IsRefused, IsServed, IsSpent, Known, MeetsUnresolved, Reading, SettlesOwn, asks_leader, memory_parked, memory_then, ticks_known}
-use Rattle.world_turns.specs.Requests.{with_ticks}
-use Rattle.world_turns.specs.Roles.{other_leader, other_leader_of, with_unsettled}
+use Rattle.world_base.specs.Events.{Rules, target_after, target_plan}
+use Rattle.world_base.specs.Letters.{target}
+use Rattle.world_base.specs.StepLaws.{set-here}
+use Rattle.world_base.specs.ChangeLaws.{incarnation-settled}
+use Rattle.world_base.specs.Changes.{Change, Kept, Steps}
+use Rattle.world_base.specs.Reads.{Asked, AtSnapshot, ExtendsLease, FetchEnds, FetchNext, FetchStage, HasEpoch, IsCovered, IsParked, IsRefused, IsServed, IsSpent, Known, MeetsUnresolved, Reading, SettlesOwn, asks_leader, memory_parked, memory_then, ticks_known}
+use Rattle.world_base.specs.Requests.{with_ticks}
+use Rattle.world_base.specs.Roles.{other_leader, other_leader_of, with_unsettled}
 
 -- what a target knows at a stage of a Fetch
 abbrev pub fetch_memory : TargetMemory → FetchStage → TargetMemory

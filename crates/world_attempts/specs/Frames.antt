@@ -16,7 +16,7 @@ use Rattle.world_attempts.specs.Attempts.{AreTrue, Attempt, Awaited, Entries, Ho
 use Rattle.world_attempts.specs.History.{Aborted, Decided, GrowsBy, History, Tells}
 use Rattle.world_base.specs.declared.letter.Letter.{Letter}
 use Rattle.world_base.specs.declared.world.World.{World}
-use Rattle.world_events.specs.Events.{Rules}
+use Rattle.world_base.specs.Events.{Rules}
 
 -- ---- what became of an attempt
 

@@ -30,12 +30,12 @@ use Rattle.world_base.specs.declared.did.Did.{Did}
 use Rattle.world_base.specs.declared.target.TargetMemory.{TargetMemory}
 use Rattle.world_base.specs.declared.target.TargetState.{TargetState}
 use Rattle.world_base.specs.declared.world.World.{World}
-use Rattle.world_events.specs.Events.{Rules, target_after, target_plan}
-use Rattle.world_events.specs.Letters.{target}
-use Rattle.world_events.specs.StepLaws.{set-here}
-use Rattle.world_turns.specs.Changes.{Change, Kept, Steps}
-use Rattle.world_turns.specs.Idle.{AllSettled, IdleEnds, IdleNext, SettlesFirst, batch_of, idle_memory, idle_told, inquiry_of}
-use Rattle.world_turns.specs.Roles.{leader_at, member_at, with_unsettled}
+use Rattle.world_base.specs.Events.{Rules, target_after, target_plan}
+use Rattle.world_base.specs.Letters.{target}
+use Rattle.world_base.specs.StepLaws.{set-here}
+use Rattle.world_base.specs.Changes.{Change, Kept, Steps}
+use Rattle.world_base.specs.Idle.{AllSettled, IdleEnds, IdleNext, SettlesFirst, batch_of, idle_memory, idle_told, inquiry_of}
+use Rattle.world_base.specs.Roles.{leader_at, member_at, with_unsettled}
 use Rattle.daos_laws.specs.TargetLaws.{number_same}
 
 number-off : (a b : ℕ) → (a == b) ≡ false → a ≡ b → ⊥

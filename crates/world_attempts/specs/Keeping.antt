@@ -7,7 +7,7 @@ use Rattle.world_attempts.specs.Attempts.{Attempts}
 use Rattle.world_attempts.specs.History.{Aborted, Decided, GrowsBy, History, target_posts}
 use Rattle.world_base.specs.declared.target.TargetState.{TargetState}
 use Rattle.world_base.specs.declared.world.World.{World}
-use Rattle.world_events.specs.Events.{Event, Rules}
+use Rattle.world_base.specs.Events.{Event, Rules}
 
 -- a target that keeps no entry and leads no attempt
 pub record IsUnused (s : TargetState) : Type 0 where

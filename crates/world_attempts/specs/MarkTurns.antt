@@ -28,15 +28,16 @@ use Rattle.world_base.specs.declared.target.TargetMemory.{TargetMemory}
 use Rattle.world_base.specs.declared.target.TargetPlan.{TargetPlan}
 use Rattle.world_base.specs.declared.target.TargetState.{TargetState}
 use Rattle.world_base.specs.declared.world.World.{World}
-use Rattle.world_events.specs.Events.{Rules, target_after}
-use Rattle.world_events.specs.Letters.{target}
-use Rattle.world_events.specs.StepLaws.{set-here}
-use Rattle.world_turns.specs.Changes.{Change, Kept, Steps}
-use Rattle.world_turns.specs.Marks.{AllMarked, MarkEnds, MarkNext, PassesBy, SettlesMarked, marked_step}
-use Rattle.world_turns.specs.Roles.{is_open_entry, is_prepared, leader_at}
+use Rattle.world_base.specs.Events.{Rules, target_after}
+use Rattle.world_base.specs.Letters.{target}
+use Rattle.world_base.specs.StepLaws.{set-here}
+use Rattle.world_base.specs.Changes.{Change, Kept, Steps}
+use Rattle.world_base.specs.Marks.{AllMarked, MarkEnds, MarkNext, PassesBy, SettlesMarked, marked_step}
+use Rattle.world_base.specs.DoubtLaws.{IsLedElsewhere, in_doubt-prepared, undoubted-closed}
+use Rattle.world_base.specs.Roles.{is_in_doubt, is_open_entry, is_prepared, leader_at}
 use Rattle.daos_laws.specs.EntryLaws.{found-has}
-use Rattle.world_turns.specs.ChangeLaws.{incarnation-settled}
-use Rattle.world_turns.specs.EntryLaws.{entry-aborted_other}
+use Rattle.world_base.specs.ChangeLaws.{incarnation-settled}
+use Rattle.world_base.specs.EntryLaws.{entry-aborted_other}
 
 -- ---- entries as a leader finds them
 
@@ -70,16 +71,16 @@ found-led p m d a e rises at leads =
 pub target-is : (t u : ℕ) → target t ≡ target u → t ≡ u
 target-is t u same = ap (λ a. a.number) same
 
--- an entry of what isn't prepared is committed
-closed-committed : (a : AttemptId) (d : Durable) (e : Entry) → entry_of d a ≡ Some e → is_prepared a d ≡ false → e.committed ≡ true
+-- an entry of what another target leads and isn't in doubt is committed
+closed-committed : (me : ℕ) (a : AttemptId) (d : Durable) (e : Entry) → entry_of d a ≡ Some e → IsLedElsewhere me a d → is_in_doubt me a d ≡ false → e.committed ≡ true
 unfolding is_prepared
-closed-committed a d e found closed = by e.committed refl
+closed-committed me a d e found elsewhere sure = by e.committed refl
   where
     by : (b : Bool) → e.committed ≡ b → e.committed ≡ true
     by true is = is
     by false is =
         let opened : is_open_entry (entry_of d a) ≡ true = ap is_open_entry found ∙ ap not is in
-        let no : ⊥ = cc (opened, closed) in
+        let no : ⊥ = cc (opened, undoubted-closed me a d elsewhere sure) in
         absurd no
 
 -- ---- a Mark
@@ -126,8 +127,8 @@ module _ (r : Rules) (h : History) (w : World) (t : ℕ) (s : TargetState) (here
       stays false apart = entry-aborted_other a d x apart
 
   pub mark-step : (inc : ℕ) (marks : List (AttemptId × Bool)) → l.message ≡ message.Mark inc marks → (left : List (AttemptId × Bool)) (k : Kept) (o : Option Change) (next : List (AttemptId × Bool)) (n : Kept)
-      → MarkNext left k o next → Steps o k n → AtMark marks left k → AtMark marks next n
-  mark-step inc marks is left k o next n (SettlesMarked k2 a c rest prepared) steps p = record {
+      → MarkNext t left k o next → Steps o k n → AtMark marks left k → AtMark marks next n
+  mark-step inc marks is left k o next n (SettlesMarked k2 a c rest doubt) steps p = record {
     on = by c (p.left_of a c (inl refl)) steps.0;
     left_of = λ x b i. p.left_of x b (inr i);
     done = λ x i. elim (p.done x i) [
@@ -137,6 +138,9 @@ module _ (r : Rules) (h : History) (w : World) (t : ℕ) (s : TargetState) (here
     ];
   }
     where
+      prepared : is_prepared a k2.durable ≡ true
+      prepared = in_doubt-prepared t a k2.durable doubt
+
       mid : Midway (V k2) (V n) t (target_after s k2 m) (target_after s n m)
       mid = work-mid w t s (target_after s k2 m) (target_after s n m) [] here (ap (λ d. d.incarnation) steps.0 ∙ incarnation-settled a (marked_step c) k2.durable)
 
@@ -152,7 +156,7 @@ module _ (r : Rules) (h : History) (w : World) (t : ℕ) (s : TargetState) (here
       now true {x = x} same yes' is =
           let open' = prepared-entry a k2.durable prepared in
           record { entry = record open'.0 { committed = true }; found = ap (entry_of n.durable) same ∙ ap (λ d. entry_of d a) is ∙ entry-committed_own a k2.durable open'.0 open'.1; committed = refl }
-  mark-step inc marks is left k o next n (PassesBy k2 a c rest closed) steps p = record {
+  mark-step inc marks is left k o next n (PassesBy k2 a c rest sure) steps p = record {
     on = subst (λ i. Attempts r h (V i)) (sym steps) p.on;
     left_of = λ x b i. p.left_of x b (inr i);
     done = λ x i. subst (λ q. Has (x, true) rest ⊎ IsDone q.durable x) (sym steps) (elim (p.done x i) [
@@ -167,7 +171,7 @@ module _ (r : Rules) (h : History) (w : World) (t : ℕ) (s : TargetState) (here
       now true {x = x} same yes' i = record {
         entry = held.entry;
         found = ap (entry_of k2.durable) same ∙ found;
-        committed = closed-committed a k2.durable held.entry found closed;
+        committed = closed-committed t a k2.durable held.entry found elsewhere sure;
       }
         where
           z : IsMarkRight r h (V k2) l.from l.to a inc true
@@ -175,6 +179,11 @@ module _ (r : Rules) (h : History) (w : World) (t : ℕ) (s : TargetState) (here
 
           held : HoldsAt (V k2) t a z.fate.0
           held = (p.on.each a).entries.held_by_others z.fate.0 t z.fate.1 (mark-other k2 inc a true z)
+
+          elsewhere : IsLedElsewhere t a k2.durable
+          elsewhere e at mine =
+              let its = (p.on.each a).entries.one t e (ap (λ i. entry_in i a) (set-here w.targets t s (target_after s k2 m) here) ∙ at) in
+              other-no_leader r a t (mark-other k2 inc a true z) (sym mine ∙ its.leader)
 
           found : entry_of k2.durable a ≡ Some held.entry
           found = sym (ap (λ i. entry_in i a) (set-here w.targets t s (target_after s k2 m) here)) ∙ held.found

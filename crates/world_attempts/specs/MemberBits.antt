@@ -10,7 +10,7 @@ use Rattle.daos_laws.specs.Members.{Has, has-filter, has-from_filter}
 use Rattle.daos_model.specs.BoolLaws.{and_right, clash, not_true}
 use Rattle.dtx_base.specs.Members.{all_targets, has_target, is_other_member, other_members, with_target}
 use Rattle.world_attempts.specs.Attempts.{IsOther, first_entry, leader_of, members_of, others_of}
-use Rattle.world_events.specs.Events.{Rules}
+use Rattle.world_base.specs.Events.{Rules}
 
 -- an entry's other members are those of its attempt
 pub others-same : (r : Rules) (x : AttemptId) (e : Entry) → e.leader ≡ leader_of r x → e.members ≡ members_of r x → other_members e ≡ others_of r x

@@ -17,7 +17,7 @@ use Rattle.world_attempts.specs.Counting.{count-none, count-some}
 use Rattle.world_attempts.specs.History.{History}
 use Rattle.world_base.specs.declared.letter.Letter.{Letter}
 use Rattle.world_base.specs.declared.world.World.{World}
-use Rattle.world_events.specs.Events.{Rules}
+use Rattle.world_base.specs.Events.{Rules}
 
 abbrev pub is_same : ℕ → ℕ → Bool
 is_same n u = u == n

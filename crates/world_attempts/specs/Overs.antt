@@ -21,8 +21,8 @@ use Rattle.world_attempts.specs.Working.{at_work}
 use Rattle.world_base.specs.declared.letter.Letter.{Letter}
 use Rattle.world_base.specs.declared.target.TargetState.{TargetState}
 use Rattle.world_base.specs.declared.world.World.{World}
-use Rattle.world_events.specs.Letters.{Takes, target}
-use Rattle.world_events.specs.StepLaws.{set-here, set-twice}
+use Rattle.world_base.specs.Letters.{Takes, target}
+use Rattle.world_base.specs.StepLaws.{set-here, set-twice}
 
 -- a turn ends so: the letter that was heard is taken, and these letters come
 pub record Over (w v : World) (t : ℕ) (z : TargetState) (l : Letter) (rest ls : List Letter) : Type 0 where

@@ -35,15 +35,15 @@ use Rattle.world_base.specs.declared.letter.Letter.{Letter}
 use Rattle.world_base.specs.declared.target.TargetMemory.{TargetMemory}
 use Rattle.world_base.specs.declared.target.TargetState.{TargetState}
 use Rattle.world_base.specs.declared.world.World.{World}
-use Rattle.world_events.specs.Events.{Rules, target_after, target_plan}
-use Rattle.world_events.specs.Letters.{Takes, letters_of, target}
-use Rattle.world_events.specs.StepLaws.{set-here}
-use Rattle.world_turns.specs.ChangeLaws.{incarnation-prepared}
-use Rattle.world_turns.specs.Changes.{Change, Kept, Steps}
-use Rattle.world_turns.specs.EntryLaws.{entry-prepared_other}
-use Rattle.world_turns.specs.Prepares.{Checking, ExtendsLease, HasNoSpace, Heard, IsCovered, IsPrepared, IsRefused, PrepareEnds, PrepareNext, PrepareStage, Stored, Stores, acks}
-use Rattle.world_turns.specs.Requests.{with_ticks}
-use Rattle.world_turns.specs.TargetTurns.{prepare_request}
+use Rattle.world_base.specs.Events.{Rules, target_after, target_plan}
+use Rattle.world_base.specs.Letters.{Takes, letters_of, target}
+use Rattle.world_base.specs.StepLaws.{set-here}
+use Rattle.world_base.specs.ChangeLaws.{incarnation-prepared}
+use Rattle.world_base.specs.Changes.{Change, Kept, Steps}
+use Rattle.world_base.specs.EntryLaws.{entry-prepared_other}
+use Rattle.world_base.specs.Prepares.{Checking, ExtendsLease, HasNoSpace, Heard, IsCovered, IsPrepared, IsRefused, PrepareEnds, PrepareNext, PrepareStage, Stored, Stores, acks}
+use Rattle.world_base.specs.Requests.{with_ticks}
+use Rattle.world_base.specs.TargetTurns.{prepare_request}
 
 module _ (r : Rules) (h later : History) (w v : World) (t : ℕ) (s : TargetState) (here : slice_get w.targets t ≡ Some s) (m : TargetMemory) (l : Letter) (rest : List Letter) (takes : Takes w.messages l rest) (to_it : l.to ≡ target t)
     (e : Entry) (first : Option Epoch) (ws : List MinorWrite) (inc : ℕ) (is : l.message ≡ message.Prepare e first ws inc) where

@@ -13,7 +13,7 @@ use Rattle.world_attempts.specs.History.{Aborted, Decided, History}
 use Rattle.world_attempts.specs.Turning.{one-or_another}
 use Rattle.world_base.specs.declared.letter.Letter.{Letter}
 use Rattle.world_base.specs.declared.world.World.{World}
-use Rattle.world_events.specs.Events.{Rules}
+use Rattle.world_base.specs.Events.{Rules}
 
 -- ---- the same is in flight
 

@@ -24,9 +24,9 @@ use Rattle.world_attempts.specs.Stored.{among-gone, among-other, entry-committed
 use Rattle.world_attempts.specs.Turning.{Stays, Turned, entry-before, entry-elsewhere, entry-now, known-before, known-elsewhere, known-now, known-stays, one-or_another, row-stays}
 use Rattle.world_base.specs.declared.target.TargetState.{TargetState}
 use Rattle.world_base.specs.declared.world.World.{World}
-use Rattle.world_events.specs.Events.{Rules}
-use Rattle.world_turns.specs.EntryLaws.{entry-aborted, entry-aborted_other}
-use Rattle.world_turns.specs.Roles.{is_open_entry, is_prepared}
+use Rattle.world_base.specs.Events.{Rules}
+use Rattle.world_base.specs.EntryLaws.{entry-aborted, entry-aborted_other}
+use Rattle.world_base.specs.Roles.{is_open_entry, is_prepared}
 
 -- a step changes what one target keeps and knows
 pub record Midway (w v : World) (t : ℕ) (s z : TargetState) : Type 0 where

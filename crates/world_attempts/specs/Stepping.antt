@@ -12,7 +12,7 @@ use Rattle.world_attempts.specs.Turning.{Stays, Turned, entry-stays, inc-stays, 
 use Rattle.world_base.specs.declared.letter.Letter.{Letter}
 use Rattle.world_base.specs.declared.target.TargetState.{TargetState}
 use Rattle.world_base.specs.declared.world.World.{World}
-use Rattle.world_events.specs.Events.{Rules}
+use Rattle.world_base.specs.Events.{Rules}
 
 -- what a change leaves of an attempt that it doesn't concern
 pub record Spared (h later : History) (w v : World) (s z : TargetState) (x : AttemptId) : Type 0 where

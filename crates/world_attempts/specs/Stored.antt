@@ -22,7 +22,7 @@ use Rattle.dtx_base.specs.LeaderLaws.{same-is}
 use Rattle.dtx_base.specs.Leading.{entry_attempt}
 use Rattle.dtx_base.specs.RowLaws.{other-is_not, row-is, row-map}
 use Rattle.dtx_base.specs.Rows.{is_among, is_attempt, itself, row_key, row_of, with_row, without_row}
-use Rattle.world_turns.specs.EntryLaws.{same-committed, same-confirmed}
+use Rattle.world_base.specs.EntryLaws.{same-committed, same-confirmed}
 
 -- ---- rows of any kind
 

@@ -14,7 +14,7 @@ use Rattle.dtx_base.specs.Rows.{is_among, row_of}
 use Rattle.world_attempts.specs.Attempts.{IsOrdered, entry_at, entry_in, inc_at, inc_in, is_known_at, is_known_in, row_at, row_in}
 use Rattle.world_base.specs.declared.target.TargetState.{TargetState}
 use Rattle.world_base.specs.declared.world.World.{World}
-use Rattle.world_events.specs.StepLaws.{set-here, set-there}
+use Rattle.world_base.specs.StepLaws.{set-here, set-there}
 
 -- two attempts are one, or they aren't
 pub one-or_other : (x a : AttemptId) → (x ≡ a) ⊎ (x ≡ a → ⊥)

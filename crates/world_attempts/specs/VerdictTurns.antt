@@ -23,12 +23,13 @@ use Rattle.world_base.specs.declared.letter.Letter.{Letter}
 use Rattle.world_base.specs.declared.target.TargetMemory.{TargetMemory}
 use Rattle.world_base.specs.declared.target.TargetState.{TargetState}
 use Rattle.world_base.specs.declared.world.World.{World}
-use Rattle.world_events.specs.Events.{Rules, target_after, target_plan}
-use Rattle.world_events.specs.Letters.{target}
-use Rattle.world_turns.specs.ChangeLaws.{incarnation-settled}
-use Rattle.world_turns.specs.Changes.{Change, Kept, Steps}
-use Rattle.world_turns.specs.Roles.{is_prepared, joins_on, member_at}
-use Rattle.world_turns.specs.Verdicts.{AllTried, Freed, GoesOn, Heard, IsDone, SettlesBy, TriesNext, Trying, VerdictEnds, VerdictNext, VerdictStage, fetcher, settles_by, settling_change, step_by, step_if}
+use Rattle.world_base.specs.Events.{Rules, target_after, target_plan}
+use Rattle.world_base.specs.Letters.{target}
+use Rattle.world_base.specs.ChangeLaws.{incarnation-settled}
+use Rattle.world_base.specs.Changes.{Change, Kept, Steps}
+use Rattle.world_base.specs.DoubtLaws.{in_doubt-prepared}
+use Rattle.world_base.specs.Roles.{is_in_doubt, joins_on, member_at}
+use Rattle.world_base.specs.Verdicts.{AllTried, Freed, GoesOn, Heard, IsDone, SettlesBy, TriesNext, Trying, VerdictEnds, VerdictNext, VerdictStage, fetcher, settles_by, settling_change, step_by, step_if}
 
 -- ---- what a Verdict sets free
 
@@ -83,17 +84,17 @@ module _ (r : Rules) (h : History) (w : World) (t : ℕ) (s : TargetState) (here
   AtVerdict (Trying q stage asks n posts) k = AtFetch r h w t s here n posts stage k × ArePlain posts
 
   module _ (a : AttemptId) (ask : Option AttemptId) (inc : ℕ) (v : Verdict) (is : l.message ≡ message.Verdict a ask inc v) where
-    settles : (k n : Kept) (o : Option Change) → o ≡ settling_change a (settles_by v a k.durable) → Steps o k n → Attempts r h (V k) → Attempts r h (V n)
-    settles k n o by' steps p = by (is_prepared a k.durable) refl v (subst (λ q. IsTrueOf r h (V k) l.from l.to q) is (p.letters l (has-left w.messages [] l flies))) (subst (λ c. Steps c k n) by' steps)
+    settles : (k n : Kept) (o : Option Change) → o ≡ settling_change a (settles_by t v a k.durable) → Steps o k n → Attempts r h (V k) → Attempts r h (V n)
+    settles k n o by' steps p = by (is_in_doubt t a k.durable) refl v (subst (λ q. IsTrueOf r h (V k) l.from l.to q) is (p.letters l (has-left w.messages [] l flies))) (subst (λ c. Steps c k n) by' steps)
       where
-        by : (b : Bool) → is_prepared a k.durable ≡ b → (c : Verdict) → IsVerdictRight r h (V k) l.from l.to a c → Steps (settling_change a (step_if b (step_by c))) k n → Attempts r h (V n)
-        by false closed c z same = subst (λ i. Attempts r h (V i)) (sym same) p
-        by true prepared verdict.Undecided z same = subst (λ i. Attempts r h (V i)) (sym same) p
-        by true prepared verdict.Committed z made =
+        by : (b : Bool) → is_in_doubt t a k.durable ≡ b → (c : Verdict) → IsVerdictRight r h (V k) l.from l.to a c → Steps (settling_change a (step_if b (step_by c))) k n → Attempts r h (V n)
+        by false sure c z same = subst (λ i. Attempts r h (V i)) (sym same) p
+        by true doubt verdict.Undecided z same = subst (λ i. Attempts r h (V i)) (sym same) p
+        by true doubt verdict.Committed z made =
             let other : IsOther r a t = subst (λ q. IsOther r a q) (target-is z.way.member t (sym z.way.receiver ∙ to_it)) z.way.other in
             other-commits r h (V k) (V n) t (target_after s k m) (target_after s n m) (work-mid w t s (target_after s k m) (target_after s n m) [] here (ap (λ d. d.incarnation) made.0 ∙ incarnation-settled a Commit k.durable)) a p refl made.0 other
-            (λ same. other-no_leader r a t other (sym same)) z.fate.0 z.fate.1 prepared
-        by true prepared verdict.Aborted z made =
+            (λ same. other-no_leader r a t other (sym same)) z.fate.0 z.fate.1 (in_doubt-prepared t a k.durable doubt)
+        by true doubt verdict.Aborted z made =
             other-aborts r h (V k) (V n) t (target_after s k m) (target_after s n m) (work-mid w t s (target_after s k m) (target_after s n m) [] here (ap (λ d. d.incarnation) made.0 ∙ incarnation-settled a Abort k.durable)) a p refl made.0 z.fate
 
     pub verdict-step : (reading : ℕ) (stage : VerdictStage) (k : Kept) (o : Option Change) (next : VerdictStage) (n : Kept) → VerdictNext (target_plan r t) m reading a ask v stage k o next → Steps o k n → AtVerdict stage k → AtVerdict next n

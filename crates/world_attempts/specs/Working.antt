@@ -20,9 +20,9 @@ use Rattle.world_attempts.specs.Stepping.{LettersCome}
 use Rattle.world_base.specs.declared.letter.Letter.{Letter}
 use Rattle.world_base.specs.declared.target.TargetState.{TargetState}
 use Rattle.world_base.specs.declared.world.World.{World}
-use Rattle.world_events.specs.Events.{Rules}
-use Rattle.world_events.specs.Letters.{Takes, letter_of, letters_of, target}
-use Rattle.world_events.specs.StepLaws.{set-here, set-same, set-twice}
+use Rattle.world_base.specs.Events.{Rules}
+use Rattle.world_base.specs.Letters.{Takes, letter_of, letters_of, target}
+use Rattle.world_base.specs.StepLaws.{set-here, set-same, set-twice}
 use Rattle.std.proofs.lemmas.List.{append_assoc}
 
 -- the world while a target is in the middle of a turn, in this state and with these messages sent

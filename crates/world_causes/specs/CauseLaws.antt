@@ -14,9 +14,9 @@ use Rattle.world_base.specs.declared.world.World.{World}
 use Rattle.world_epochs.specs.Carried.{talks-once}
 use Rattle.world_epochs.specs.Epochs.{ClientsStand, Epochs, Unsnapped}
 use Rattle.world_epochs.specs.EventLaws as epochs
-use Rattle.world_events.specs.Events.{ByClient, ByTarget, Event, Rules, ToClient, ToTarget}
-use Rattle.world_events.specs.StepLaws.{by-hearing, by-next}
-use Rattle.world_events.specs.Steps.{KeptByCounting, KeptByHearing, KeptByMoves}
+use Rattle.world_base.specs.Events.{ByClient, ByTarget, Event, Rules, ToClient, ToTarget}
+use Rattle.world_base.specs.StepLaws.{by-hearing, by-next}
+use Rattle.world_base.specs.Steps.{KeptByCounting, KeptByHearing, KeptByMoves}
 use Rattle.world_talks.specs.Conversation.{Conversation}
 use Rattle.world_talks.specs.ConversationLaws.{count-keeps, hear-keeps, move-keeps}
 use Rattle.world_causes.specs.Causes.{Causes, Dated, LowFloors, Shows, Stored, limit, stored_in}

@@ -38,8 +38,8 @@ use Rattle.world_base.specs.declared.target.Life.TheVariants.{Running}
 use Rattle.world_base.specs.declared.world.World.{World}
 use Rattle.world_base.specs.ClientTurns.{told_by_message}
 use Rattle.world_epochs.specs.Epochs.{BearsEpoch, IsPresent}
-use Rattle.world_events.specs.Events.{ByClient, ByTarget, Event, Rules, ToClient, ToTarget}
-use Rattle.world_events.specs.Letters.{client}
+use Rattle.world_base.specs.Events.{ByClient, ByTarget, Event, Rules, ToClient, ToTarget}
+use Rattle.world_base.specs.Letters.{client}
 
 -- attempts with the epochs that were issued to them
 abbrev pub Dated : Type 0

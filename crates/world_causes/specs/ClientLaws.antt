@@ -41,9 +41,9 @@ use Rattle.world_base.specs.ClientTurns.{Move, after_end, asks_or_goes, at_prese
 use Rattle.world_epochs.specs.Epochs.{Epochs, IsPresent}
 use Rattle.world_epochs.specs.Lists.{each-push, tries-push}
 use Rattle.world_epochs.specs.Talking.{TalksOnce, silent-unless}
-use Rattle.world_events.specs.Events.{Rules, client_plan, with_client, with_epoch}
-use Rattle.world_events.specs.Letters.{Takes, client, is_tell, letter_of, letters_of, talk_of}
-use Rattle.world_events.specs.Steps.{after_client, after_move, without}
+use Rattle.world_base.specs.Events.{Rules, client_plan, with_client, with_epoch}
+use Rattle.world_base.specs.Letters.{Takes, client, is_tell, letter_of, letters_of, talk_of}
+use Rattle.world_base.specs.Steps.{after_client, after_move, without}
 use Rattle.world_lines.specs.Lines.{filled}
 use Rattle.world_talks.specs.AskLaws.{move-is, waiting-rests}
 use Rattle.world_talks.specs.Asked.{ARead, ASnapshot, AnAggregation, Asked, Asking, IsMove, ItsWrites, Silent, Telling}

@@ -35,14 +35,14 @@ use Rattle.dtx_base.specs.Rows.{is_empty}
 use Rattle.world_base.specs.declared.did.Did.{Did}
 use Rattle.world_base.specs.declared.request.CommitRequest.{CommitRequest}
 use Rattle.world_base.specs.declared.target.TargetMemory.{TargetMemory}
-use Rattle.world_events.specs.Events.{Rules, listed, target_plan}
-use Rattle.world_events.specs.Letters.{client}
-use Rattle.world_turns.specs.Changes.{Kept}
-use Rattle.world_turns.specs.Commits as commit
-use Rattle.world_turns.specs.Reads.{later_of}
-use Rattle.world_turns.specs.Requests.{issued_for, request_epoch, with_ticks}
-use Rattle.world_turns.specs.Roles.{leader_at}
-use Rattle.world_turns.specs.Turns.{Whole}
+use Rattle.world_base.specs.Events.{Rules, listed, target_plan}
+use Rattle.world_base.specs.Letters.{client}
+use Rattle.world_base.specs.Changes.{Kept}
+use Rattle.world_base.specs.Commits as commit
+use Rattle.world_base.specs.Reads.{later_of}
+use Rattle.world_base.specs.Requests.{issued_for, request_epoch, with_ticks}
+use Rattle.world_base.specs.Roles.{leader_at}
+use Rattle.world_base.specs.Turns.{Whole}
 use Rattle.world_causes.specs.Causes.{Dated, Refuses, ShowsRead, Stored, blocks_if, blocks_of_stored, is_new_to, limit, stored_as, stored_by}
 use Rattle.world_causes.specs.Dates.{IsDated, heard-within, limit-rises, request-dated, request-spent}
 use Rattle.world_causes.specs.Floors.{below-stays, first-later-is, no-first-floor}

@@ -11,9 +11,9 @@ use Rattle.daos_base.specs.Epochs.{heard_ticks, issued_ticks, last_ticks}
 use Rattle.daos_model.specs.Opening.{Opening, top}
 use Rattle.world_base.specs.declared.target.TargetMemory.{TargetMemory}
 use Rattle.world_base.specs.declared.target.TargetPlan.{TargetPlan}
-use Rattle.world_events.specs.Events.{listed}
-use Rattle.world_turns.specs.Reads.{uncertain_from}
-use Rattle.world_turns.specs.Requests.{epoch_of_ticks, issued_for, request_epoch}
+use Rattle.world_base.specs.Events.{listed}
+use Rattle.world_base.specs.Reads.{uncertain_from}
+use Rattle.world_base.specs.Requests.{epoch_of_ticks, issued_for, request_epoch}
 use Rattle.world_causes.specs.Causes.{Dated, limit, zeroth}
 use Rattle.world_causes.specs.Premises.{IsFirst, IsRequest}
 

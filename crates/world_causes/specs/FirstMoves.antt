@@ -25,7 +25,7 @@ use Rattle.world_base.specs.declared.client.Stage.{Stage}
 use Rattle.world_base.specs.declared.client.Stage.TheVariants as stage
 use Rattle.world_base.specs.ClientTurns.{after_end, asks_or_goes, at_present, attempt_moves, begun, command_at, command_moves, commits, condition_told, ended, ends, first_epoch, goes, group_count, group_told, is_yes, joined, moved, moves_at, next_command, next_op, next_place, next_stage, op_moves, op_of, op_told, question, replied, rests, run_moves, skip_at, snaps_known, told_at, waits}
 use Rattle.world_epochs.specs.Epochs.{Unsnapped, is_unsnapped}
-use Rattle.world_events.specs.Events.{Rules, client_plan}
+use Rattle.world_base.specs.Events.{Rules, client_plan}
 
 -- ---- from one state of a client to another
 

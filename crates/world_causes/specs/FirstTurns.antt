@@ -30,21 +30,21 @@ use Rattle.world_base.specs.declared.request.PrepareRequest.{PrepareRequest}
 use Rattle.world_base.specs.declared.target.TargetMemory.{TargetMemory}
 use Rattle.world_base.specs.declared.target.TargetPlan.{TargetPlan}
 use Rattle.world_epochs.specs.Epochs.{BearsEpoch}
-use Rattle.world_turns.specs.Acks as ack
-use Rattle.world_turns.specs.Changes.{Change, Kept, Steps}
-use Rattle.world_turns.specs.Commits as commit
-use Rattle.world_turns.specs.Idle.{AllSettled, IdleEnds, batch_of, inquiry_of}
-use Rattle.world_turns.specs.Marks as mark
-use Rattle.world_turns.specs.MemoryLaws as memory
-use Rattle.world_turns.specs.PathLaws.{path-keeps}
-use Rattle.world_turns.specs.Prepares as prepare
-use Rattle.world_turns.specs.Reads as read
-use Rattle.world_turns.specs.Requests.{fetch_message, with_ticks}
-use Rattle.world_turns.specs.Roles.{joins_on, leader_at, member_at, with_unsettled}
-use Rattle.world_turns.specs.TargetTurns.{Hears, IdlesWhole, commit_request, fetch_request, prepare_request}
-use Rattle.world_turns.specs.Turns.{Whole}
-use Rattle.world_turns.specs.VerdictLaws.{Tries, verdict-keeps}
-use Rattle.world_turns.specs.Verdicts as verdict
+use Rattle.world_base.specs.Acks as ack
+use Rattle.world_base.specs.Changes.{Change, Kept, Steps}
+use Rattle.world_base.specs.Commits as commit
+use Rattle.world_base.specs.Idle.{AllSettled, IdleEnds, batch_of, inquiry_of}
+use Rattle.world_base.specs.Marks as mark
+use Rattle.world_base.specs.MemoryLaws as memory
+use Rattle.world_base.specs.PathLaws.{path-keeps}
+use Rattle.world_base.specs.Prepares as prepare
+use Rattle.world_base.specs.Reads as read
+use Rattle.world_base.specs.Requests.{fetch_message, with_ticks}
+use Rattle.world_base.specs.Roles.{joins_on, leader_at, member_at, with_unsettled}
+use Rattle.world_base.specs.TargetTurns.{Hears, IdlesWhole, commit_request, fetch_request, prepare_request}
+use Rattle.world_base.specs.Turns.{Whole}
+use Rattle.world_base.specs.VerdictLaws.{Tries, verdict-keeps}
+use Rattle.world_base.specs.Verdicts as verdict
 use Rattle.world_causes.specs.Causes.{Dated}
 use Rattle.world_causes.specs.Premises.{IsFirst, MessageKnows}
 

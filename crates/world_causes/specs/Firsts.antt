@@ -4,7 +4,7 @@ use Rattle.world_base.specs.declared.client.ClientState.{ClientState}
 use Rattle.world_base.specs.declared.client.Present.{Present}
 use Rattle.world_base.specs.declared.world.World.{World}
 use Rattle.world_epochs.specs.Epochs.{ClientsStand, Epochs, Unsnapped}
-use Rattle.world_events.specs.Events.{Event, Rules}
+use Rattle.world_base.specs.Events.{Event, Rules}
 use Rattle.world_talks.specs.Conversation.{Conversation}
 use Rattle.world_causes.specs.Causes.{Dated}
 use Rattle.world_causes.specs.Premises.{FirstsAreKnown, IsFirstKnown}

@@ -28,8 +28,8 @@ use Rattle.vos_store.specs.Answers.{answer_unless, fetched, floor_of, is_past, l
 use Rattle.world_base.specs.declared.request.FetchRequest.{FetchRequest}
 use Rattle.world_base.specs.declared.target.TargetPlan.{TargetPlan}
 use Rattle.daos_laws.specs.EntryLaws.{found-has, found-passes}
-use Rattle.world_turns.specs.Commits.{first_floor, first_later, or_else}
-use Rattle.world_turns.specs.Reads.{fetch_cause, later_of, uncertain_from, uncertain_to}
+use Rattle.world_base.specs.Commits.{first_floor, first_later, or_else}
+use Rattle.world_base.specs.Reads.{fetch_cause, later_of, uncertain_from, uncertain_to}
 
 -- floors of a target, and what it aggregated to, are at or below an epoch
 pub record AreBelow (opening : Epoch × FloorWhy) (d : Durable) (e : ℕ) : Type 0 where

@@ -31,8 +31,8 @@ use Rattle.daos_model.specs.Opening.{Opening}
 use Rattle.world_base.specs.declared.client.Stage.{Stage}
 use Rattle.world_base.specs.declared.client.Stage.TheVariants as stage
 use Rattle.world_base.specs.ClientTurns.{act_read, condition_read, question}
-use Rattle.world_events.specs.Events.{Rules}
-use Rattle.world_events.specs.StepLaws.{set-here, set-there}
+use Rattle.world_base.specs.Events.{Rules}
+use Rattle.world_base.specs.StepLaws.{set-here, set-there}
 use Rattle.world_causes.specs.Causes.{Dated, EndsOf, IsUnanswered, MeetsOther, MessageShows, Refuses, RefusesBy, ReplyShows, Shows, Stored, blocks_of_stored, zeroth}
 
 -- ---- one element among others

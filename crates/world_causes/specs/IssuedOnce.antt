@@ -15,16 +15,16 @@ use Rattle.world_base.specs.declared.target.TargetMemory.{TargetMemory}
 use Rattle.world_base.specs.declared.target.TargetPlan.{TargetPlan}
 use Rattle.world_base.specs.declared.world.World.{World}
 use Rattle.world_epochs.specs.Epochs.{AsksEpoch, Epochs, IsUnissued}
-use Rattle.world_events.specs.Events as events
-use Rattle.world_events.specs.Events.{ByClient, ByTarget, Event, Rules, TargetHears, TargetIdles, ToClient, ToTarget, kept, target_plan}
-use Rattle.world_events.specs.StepLaws.{by-hearing, by-next}
+use Rattle.world_base.specs.Events as events
+use Rattle.world_base.specs.Events.{ByClient, ByTarget, Event, Rules, TargetHears, TargetIdles, ToClient, ToTarget, kept, target_plan}
+use Rattle.world_base.specs.StepLaws.{by-hearing, by-next}
 use Rattle.world_talks.specs.TalkLaws.{taken-is-among}
-use Rattle.world_turns.specs.Changes.{Kept}
-use Rattle.world_turns.specs.Commits as commit
-use Rattle.world_turns.specs.MemoryLaws.{hears-issues-none, idles-issue-none}
-use Rattle.world_turns.specs.Reads as read
-use Rattle.world_turns.specs.Requests.{issued_for}
-use Rattle.world_turns.specs.TargetTurns.{Hears}
+use Rattle.world_base.specs.Changes.{Kept}
+use Rattle.world_base.specs.Commits as commit
+use Rattle.world_base.specs.MemoryLaws.{hears-issues-none, idles-issue-none}
+use Rattle.world_base.specs.Reads as read
+use Rattle.world_base.specs.Requests.{issued_for}
+use Rattle.world_base.specs.TargetTurns.{Hears}
 use Rattle.world_causes.specs.Causes.{Dated}
 use Rattle.world_causes.specs.Storing.{AreApart, dated_ids}
 

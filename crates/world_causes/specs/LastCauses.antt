@@ -32,7 +32,7 @@ use Rattle.daos_model.specs.Opening as model
 use Rattle.daos_model.specs.Stops.{restart_numbers}
 use Rattle.daos_model.specs.Transactions.{attempt_ops, command_of, numbered, numbered_at, ops_or_none}
 use Rattle.world_base.specs.declared.world.World.{World}
-use Rattle.world_events.specs.Events.{Rules, commands_or_none}
+use Rattle.world_base.specs.Events.{Rules, commands_or_none}
 use Rattle.world_causes.specs.Causes.{Causes, Dated, MeetsOther, Shows, ShowsLack, ShowsRead, ShowsSpent, ShowsUnresolved, ShowsWrite, Stored, blocks_if, blocks_of_stored, zeroth}
 use Rattle.world_causes.specs.Premises.{IsPlain}
 use Rattle.world_causes.specs.Storing.{AreApart, HasItsLine, StoredOnce, dated_ids}

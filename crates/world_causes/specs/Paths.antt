@@ -23,18 +23,18 @@ use Rattle.world_base.specs.declared.request.FetchRequest.{FetchRequest}
 use Rattle.world_base.specs.declared.request.PrepareRequest.{PrepareRequest}
 use Rattle.world_base.specs.declared.target.TargetMemory.{TargetMemory}
 use Rattle.world_base.specs.declared.target.TargetPlan.{TargetPlan}
-use Rattle.world_turns.specs.Changes.{Change, Extends, Kept, Settles, Steps, cost}
-use Rattle.world_turns.specs.Commits as commit
-use Rattle.world_turns.specs.EntryLaws.{leader-aborted_other, leader-committed, leader-leased}
-use Rattle.world_turns.specs.PathLaws.{path-keeps}
-use Rattle.world_turns.specs.Prepares as prepare
-use Rattle.world_turns.specs.Reads as read
-use Rattle.world_turns.specs.Requests.{is_other_attempt, request_epoch}
-use Rattle.world_turns.specs.Roles.{other_leader}
-use Rattle.world_turns.specs.Turns.{Path}
+use Rattle.world_base.specs.Changes.{Change, Extends, Kept, Settles, Steps, cost}
+use Rattle.world_base.specs.Commits as commit
+use Rattle.world_base.specs.EntryLaws.{leader-aborted_other, leader-committed, leader-leased}
+use Rattle.world_base.specs.PathLaws.{path-keeps}
+use Rattle.world_base.specs.Prepares as prepare
+use Rattle.world_base.specs.Reads as read
+use Rattle.world_base.specs.Requests.{is_other_attempt, request_epoch}
+use Rattle.world_base.specs.Roles.{other_leader}
+use Rattle.world_base.specs.Turns.{Path}
 use Rattle.world_causes.specs.Turns.{HasNoLine}
 use Rattle.world_reads.specs.ChangeLaws.{still-open}
-use Rattle.world_turns.specs.ChangeLaws.{conts-settled, versions-leased}
+use Rattle.world_base.specs.ChangeLaws.{conts-settled, versions-leased}
 
 -- ---- changes
 

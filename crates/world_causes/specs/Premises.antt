@@ -23,7 +23,7 @@ use Rattle.daos_model.specs.Versions.{version_path}
 use Rattle.world_base.specs.declared.letter.Letter.{Letter}
 use Rattle.world_base.specs.declared.target.TargetState.{TargetState}
 use Rattle.world_base.specs.declared.world.World.{World}
-use Rattle.world_events.specs.Events.{Rules, client_plan}
+use Rattle.world_base.specs.Events.{Rules, client_plan}
 use Rattle.world_causes.specs.Causes.{Dated, limit, zeroth}
 
 -- ---- the run

@@ -18,11 +18,11 @@ use Rattle.daos_model.specs.Transactions.{attempt_ops}
 use Rattle.world_base.specs.declared.did.Did.{Did}
 use Rattle.world_base.specs.declared.request.PrepareRequest.{PrepareRequest}
 use Rattle.world_base.specs.declared.target.TargetMemory.{TargetMemory}
-use Rattle.world_events.specs.Events.{Rules, target_plan}
-use Rattle.world_turns.specs.Changes.{Kept}
-use Rattle.world_turns.specs.Prepares as prepare
-use Rattle.world_turns.specs.Requests.{with_ticks}
-use Rattle.world_turns.specs.Turns.{Whole}
+use Rattle.world_base.specs.Events.{Rules, target_plan}
+use Rattle.world_base.specs.Changes.{Kept}
+use Rattle.world_base.specs.Prepares as prepare
+use Rattle.world_base.specs.Requests.{with_ticks}
+use Rattle.world_base.specs.Turns.{Whole}
 use Rattle.world_causes.specs.Causes.{Dated, Refuses, Stored, blocks_of_stored, limit, stored_by}
 use Rattle.world_causes.specs.CommitTurns.{IsWriting, RefusalShows, lack-shows, refused-shows, space-same, space-stored}
 use Rattle.world_causes.specs.Dates.{begun-first, heard-within}

@@ -38,12 +38,12 @@ use Rattle.world_base.specs.declared.target.TargetMemory.{TargetMemory}
 use Rattle.world_base.specs.declared.target.TargetPlan.{TargetPlan}
 use Rattle.world_base.specs.ClientTurns.{told_by_reply}
 use Rattle.world_epochs.specs.Epochs.{BearsEpoch}
-use Rattle.world_events.specs.Events.{Rules, listed}
-use Rattle.world_events.specs.Letters.{client}
-use Rattle.world_turns.specs.Changes.{Kept}
-use Rattle.world_turns.specs.Reads as read
-use Rattle.world_turns.specs.Requests.{issued_for, request_epoch, with_ticks}
-use Rattle.world_turns.specs.Roles.{other_leader}
+use Rattle.world_base.specs.Events.{Rules, listed}
+use Rattle.world_base.specs.Letters.{client}
+use Rattle.world_base.specs.Changes.{Kept}
+use Rattle.world_base.specs.Reads as read
+use Rattle.world_base.specs.Requests.{issued_for, request_epoch, with_ticks}
+use Rattle.world_base.specs.Roles.{other_leader}
 use Rattle.world_causes.specs.Causes.{Dated, IsUnanswered, MeetsOther, ReplyShows, Stored, limit}
 use Rattle.world_causes.specs.Dates.{IsDated, heard-within, limit-rises, request-dated, request-spent}
 use Rattle.world_causes.specs.Floors.{AreBelow, IsInTheWay, below-stays, meets-open, read-refused}

@@ -58,8 +58,8 @@ use Rattle.world_base.specs.declared.world.World.{World}
 use Rattle.world_base.specs.ClientTurns.{attempt_id, command_at, question}
 use Rattle.world_epochs.specs.Asking.{ops-at}
 use Rattle.world_epochs.specs.Epochs.{AsksEpoch, BearsEpoch, BearsIssued, ClientsStand, Epochs, IsPast, IsPresent, Unsnapped}
-use Rattle.world_events.specs.Events.{Rules, client_plan, target_plan}
-use Rattle.world_events.specs.Letters.{Takes, client, target}
+use Rattle.world_base.specs.Events.{Rules, client_plan, target_plan}
+use Rattle.world_base.specs.Letters.{Takes, client, target}
 use Rattle.world_reads.specs.Reads.{Reads}
 use Rattle.world_reads.specs.Versions.{IsPreparedAt}
 use Rattle.world_talks.specs.Asked.{ARead, ASnapshot, AnAggregation, Asked, AsksCommit, AsksRead, ItsWrites, commit_of}
@@ -68,10 +68,10 @@ use Rattle.world_talks.specs.Carriers.{is_fetch_of}
 use Rattle.world_talks.specs.Conversation.{Conversation, is_request}
 use Rattle.world_talks.specs.InFlight.{HearsRequest, OpenIs, ParkedIs, hears-request, open-is, parked-is}
 use Rattle.world_talks.specs.TalkLaws.{taken-is-among}
-use Rattle.world_turns.specs.Commits as commit
-use Rattle.world_turns.specs.Reads.{fetch_at}
-use Rattle.world_turns.specs.Roles.{other_leader, other_leader_of}
-use Rattle.world_turns.specs.TargetTurns.{fetch_request}
+use Rattle.world_base.specs.Commits as commit
+use Rattle.world_base.specs.Reads.{fetch_at}
+use Rattle.world_base.specs.Roles.{other_leader, other_leader_of}
+use Rattle.world_base.specs.TargetTurns.{fetch_request}
 use Rattle.world_causes.specs.Causes.{Bounded, Causes, MeetsOther, Stored, limit}
 use Rattle.world_causes.specs.CommitTurns.{IsCommit, blocks-some, own-is}
 use Rattle.world_causes.specs.Growth.{question-asks}
@@ -81,7 +81,7 @@ use Rattle.world_causes.specs.PrepareTurns.{IsPrepare}
 use Rattle.world_causes.specs.ReadTurns.{IsFetch, IsTarget}
 use Rattle.world_causes.specs.Turns.{HasNoLine}
 use Rattle.world_causes.specs.VerdictTurns.{IsAskFit}
-use Rattle.world_turns.specs.Requests.{fetch_message}
+use Rattle.world_base.specs.Requests.{fetch_message}
 
 -- what is known of a world beside causes, each by the crate whose word it is
 pub record Given (r : Rules) (o : Opening) (h : History) (w : World) : Type 0 where

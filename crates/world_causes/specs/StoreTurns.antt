@@ -35,19 +35,19 @@ use Rattle.world_base.specs.declared.request.FetchRequest.{FetchRequest}
 use Rattle.world_base.specs.declared.request.PrepareRequest.{PrepareRequest}
 use Rattle.world_base.specs.declared.target.TargetMemory.{TargetMemory}
 use Rattle.world_base.specs.declared.target.TargetPlan.{TargetPlan}
-use Rattle.world_turns.specs.Acks as ack
-use Rattle.world_turns.specs.Changes.{Change, Extends, Kept, Prepares, Settles, Steps, made}
-use Rattle.world_turns.specs.Commits as commit
-use Rattle.world_turns.specs.EntryLaws.{entry-aborted, entry-aborted_other, entry-committed, entry-confirmed, entry-leased, entry-prepared_other}
-use Rattle.world_turns.specs.Idle.{AllSettled, IdleEnds, IdleNext, SettlesFirst, batch_of, inquiry_of}
-use Rattle.world_turns.specs.Marks as mark
-use Rattle.world_turns.specs.PathLaws.{reached-keeps}
-use Rattle.world_turns.specs.Prepares as prepare
-use Rattle.world_turns.specs.Reads as read
-use Rattle.world_turns.specs.Roles.{leader_at, member_at, with_unsettled}
-use Rattle.world_turns.specs.TargetTurns.{Hears, IdlesWhole, commit_request, fetch_request, prepare_request}
-use Rattle.world_turns.specs.Turns.{Reached}
-use Rattle.world_turns.specs.Verdicts as verdict
+use Rattle.world_base.specs.Acks as ack
+use Rattle.world_base.specs.Changes.{Change, Extends, Kept, Prepares, Settles, Steps, made}
+use Rattle.world_base.specs.Commits as commit
+use Rattle.world_base.specs.EntryLaws.{entry-aborted, entry-aborted_other, entry-committed, entry-confirmed, entry-leased, entry-prepared_other}
+use Rattle.world_base.specs.Idle.{AllSettled, IdleEnds, IdleNext, SettlesFirst, batch_of, inquiry_of}
+use Rattle.world_base.specs.Marks as mark
+use Rattle.world_base.specs.PathLaws.{reached-keeps}
+use Rattle.world_base.specs.Prepares as prepare
+use Rattle.world_base.specs.Reads as read
+use Rattle.world_base.specs.Roles.{leader_at, member_at, with_unsettled}
+use Rattle.world_base.specs.TargetTurns.{Hears, IdlesWhole, commit_request, fetch_request, prepare_request}
+use Rattle.world_base.specs.Turns.{Reached}
+use Rattle.world_base.specs.Verdicts as verdict
 use Rattle.world_causes.specs.Storing.{IsPrepareOf, RefusesAt}
 
 -- ---- what a message asks for
@@ -382,7 +382,7 @@ module _ (old : Durable) where
 
     verdict-fits : (P : AttemptId → Type 0) (p : TargetPlan) (n : TargetMemory) (reading : ℕ) (a : AttemptId) (ask : Option AttemptId) (v : Verdict) (s : verdict.VerdictStage) (j : Kept) (o : Option Change) (u : verdict.VerdictStage)
         → verdict.VerdictNext p n reading a ask v s j o u → Fits P o
-    verdict-fits P p n reading a ask v s j o u (verdict.SettlesBy i c is) = subst (Fits P) (sym is) (settling-fits P a (verdict.settles_by v a j.durable))
+    verdict-fits P p n reading a ask v s j o u (verdict.SettlesBy i c is) = subst (Fits P) (sym is) (settling-fits P a (verdict.settles_by p.me v a j.durable))
     verdict-fits P p n reading a ask v s j o u (verdict.TriesNext i z posts rest x op group ep first tracker rd snapshot) = tt
     verdict-fits P p n reading a ask v s j o u (verdict.GoesOn i z posts rest q f g c next) = fetch-fits P p z reading q f i c g next
     verdict-fits P p n reading a ask v s j o u (verdict.IsDone i z posts rest q f left ends) = tt
@@ -392,9 +392,9 @@ module _ (old : Durable) where
     ack-fits P p n member a inc refusal s j o u (ack.Aborts i is) = tt
     ack-fits P p n member a inc refusal s j o u (ack.Counts i is) = tt
 
-    mark-fits : (P : AttemptId → Type 0) (s : List (AttemptId × Bool)) (j : Kept) (o : Option Change) (u : List (AttemptId × Bool)) → mark.MarkNext s j o u → Fits P o
-    mark-fits P s j o u (mark.SettlesMarked i a committed rest prepared) = tt
-    mark-fits P s j o u (mark.PassesBy i a committed rest prepared) = tt
+    mark-fits : (P : AttemptId → Type 0) (me : ℕ) (s : List (AttemptId × Bool)) (j : Kept) (o : Option Change) (u : List (AttemptId × Bool)) → mark.MarkNext me s j o u → Fits P o
+    mark-fits P me s j o u (mark.SettlesMarked i a committed rest prepared) = tt
+    mark-fits P me s j o u (mark.PassesBy i a committed rest prepared) = tt
 
     marked-fits : (P : AttemptId → Type 0) (p : TargetPlan) (n : TargetMemory) (member : ℕ) (s : List AttemptId) (j : Kept) (o : Option Change) (u : List AttemptId) → ack.MarkedNext p n member s j o u → Fits P o
     marked-fits P p n member s j o u (ack.Confirms i a rest may) = tt
@@ -432,7 +432,7 @@ module _ (old : Durable) where
         }
     hears-stores p opening n reading from (message.Mark inc marks) new left h =
         let m = message.Mark inc marks in
-        record { only = steps-only mark.MarkNext (AsksFor m) (mark-fits (AsksFor m)) marks k h.last new h.reached (begins-so (AsksFor m)); said = mark-said p.me m new n from inc marks h.last new left h.ends }
+        record { only = steps-only (mark.MarkNext p.me) (AsksFor m) (mark-fits (AsksFor m) p.me) marks k h.last new h.reached (begins-so (AsksFor m)); said = mark-said p.me m new n from inc marks h.last new left h.ends }
     hears-stores p opening n reading from (message.Marked inc names) new left h =
         let m = message.Marked inc names in
         record {

@@ -13,8 +13,8 @@ use Rattle.world_attempts.specs.Attempts.{IsBorn}
 use Rattle.world_attempts.specs.History.{History}
 use Rattle.world_base.specs.declared.letter.Letter.{Letter}
 use Rattle.world_base.specs.declared.world.World.{World}
-use Rattle.world_events.specs.Events.{Rules}
-use Rattle.world_events.specs.Letters.{target}
+use Rattle.world_base.specs.Events.{Rules}
+use Rattle.world_base.specs.Letters.{target}
 use Rattle.world_causes.specs.Causes.{Dated, Stored}
 
 -- none stands there twice

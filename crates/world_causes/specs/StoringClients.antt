@@ -21,10 +21,10 @@ use Rattle.world_base.specs.declared.client.Present.{Present}
 use Rattle.world_base.specs.declared.letter.Letter.{Letter}
 use Rattle.world_base.specs.declared.world.World.{World}
 use Rattle.world_base.specs.ClientTurns.{Move, attempt_id, command_at, heard, hears_epochs, knows, listed, moved, op_of, replied, waits}
-use Rattle.world_events.specs.Events.{ClientGoes, ClientHears, Rules, client_plan, with_client, with_epoch}
-use Rattle.world_events.specs.Letters.{client, letter_of, letters_of}
-use Rattle.world_events.specs.StepLaws.{by-hearing, by-next}
-use Rattle.world_events.specs.Steps.{KeptByCounting, KeptByHearing, KeptByMoves, after_client, without}
+use Rattle.world_base.specs.Events.{ClientGoes, ClientHears, Rules, client_plan, with_client, with_epoch}
+use Rattle.world_base.specs.Letters.{client, letter_of, letters_of}
+use Rattle.world_base.specs.StepLaws.{by-hearing, by-next}
+use Rattle.world_base.specs.Steps.{KeptByCounting, KeptByHearing, KeptByMoves, after_client, without}
 use Rattle.world_talks.specs.AskLaws.{move-is, waiting-rests}
 use Rattle.world_talks.specs.Asked.{ARead, ASnapshot, AnAggregation, Asked, Asking, IsMove, ItsWrites, Silent, Telling}
 use Rattle.world_talks.specs.Conversation.{Conversation}

@@ -34,17 +34,17 @@ use Rattle.world_base.specs.declared.request.CommitRequest.{CommitRequest}
 use Rattle.world_base.specs.declared.target.TargetState.{TargetState}
 use Rattle.world_base.specs.declared.world.World.{World}
 use Rattle.world_base.specs.ClientTurns.{attempt_id}
-use Rattle.world_events.specs.Events.{ByClient, ByTarget, Event, Rules, TargetHears, TargetIdles, ToClient, ToTarget, client_plan, kept, target_after, target_plan}
-use Rattle.world_events.specs.Events as events
-use Rattle.world_events.specs.Letters.{client, letter_of, letters_of, target}
-use Rattle.world_events.specs.StepLaws.{set-here}
+use Rattle.world_base.specs.Events.{ByClient, ByTarget, Event, Rules, TargetHears, TargetIdles, ToClient, ToTarget, client_plan, kept, target_after, target_plan}
+use Rattle.world_base.specs.Events as events
+use Rattle.world_base.specs.Letters.{client, letter_of, letters_of, target}
+use Rattle.world_base.specs.StepLaws.{set-here}
 use Rattle.world_talks.specs.AskLaws.{asked-commit}
 use Rattle.world_talks.specs.Asked.{AsksCommit, commit_of}
 use Rattle.world_talks.specs.Conversation.{is_request}
 use Rattle.world_talks.specs.InFlight.{HearsRequest, hears-request}
 use Rattle.world_talks.specs.TalkLaws.{got-is-talk, left-is-among, left-or-it, none-among, taken-is-among}
-use Rattle.world_turns.specs.Changes.{Kept}
-use Rattle.world_turns.specs.MemoryLaws.{hears-follows, idles-follows}
+use Rattle.world_base.specs.Changes.{Kept}
+use Rattle.world_base.specs.MemoryLaws.{hears-follows, idles-follows}
 use Rattle.world_causes.specs.Causes.{Causes, EndsOf, Stored, is_new_to, stored_as, stored_by, stored_in}
 use Rattle.world_causes.specs.ClientLaws.{ends-no_tell}
 use Rattle.world_causes.specs.Requests.{Given, present-unended}

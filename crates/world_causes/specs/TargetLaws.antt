@@ -37,18 +37,18 @@ use Rattle.world_base.specs.declared.target.TargetState.{TargetState}
 use Rattle.world_base.specs.declared.target.Life.TheVariants.{Running}
 use Rattle.world_base.specs.declared.world.World.{World}
 use Rattle.world_epochs.specs.Epochs.{IsPresent}
-use Rattle.world_events.specs.Events.{Rules, TargetHears, TargetIdles, after_turn, kept, listed, target_after, target_plan, with_epoch, with_target}
-use Rattle.world_events.specs.Letters.{client, letter_of, letters_of, target}
+use Rattle.world_base.specs.Events.{Rules, TargetHears, TargetIdles, after_turn, kept, listed, target_after, target_plan, with_epoch, with_target}
+use Rattle.world_base.specs.Letters.{client, letter_of, letters_of, target}
 use Rattle.world_talks.specs.InFlight.{OpenIs, open-is}
 use Rattle.world_talks.specs.TalkLaws.{left-is-among, taken-is-among}
-use Rattle.world_turns.specs.Acks as ack
-use Rattle.world_turns.specs.Changes.{Kept}
-use Rattle.world_turns.specs.MemoryLaws.{hears-follows, idles-follows}
-use Rattle.world_turns.specs.Reads as read
-use Rattle.world_turns.specs.Roles.{leader_at}
-use Rattle.world_turns.specs.TargetTurns.{Hears, commit_request, fetch_request, prepare_request}
-use Rattle.world_turns.specs.TurnLaws.{hears-keeps, idles-keeps}
-use Rattle.world_turns.specs.Turns.{Whole}
+use Rattle.world_base.specs.Acks as ack
+use Rattle.world_base.specs.Changes.{Kept}
+use Rattle.world_base.specs.MemoryLaws.{hears-follows, idles-follows}
+use Rattle.world_base.specs.Reads as read
+use Rattle.world_base.specs.Roles.{leader_at}
+use Rattle.world_base.specs.TargetTurns.{Hears, commit_request, fetch_request, prepare_request}
+use Rattle.world_base.specs.TurnLaws.{hears-keeps, idles-keeps}
+use Rattle.world_base.specs.Turns.{Whole}
 use Rattle.world_causes.specs.Causes.{Causes, Dated, EndsOf, IsAskedFor, IsUnanswered, IsUndecidedFor, MeetsOther, MessageShows, Stored, blocks_of_stored, epochs_told, limit, stored_by}
 use Rattle.world_causes.specs.CommitTurns.{commit-leaves, space-same}
 use Rattle.world_causes.specs.Dates.{limit-rises}
@@ -61,7 +61,7 @@ use Rattle.world_causes.specs.ReadTurns.{FetchLeft, fetch-ends, unended-unanswer
 use Rattle.world_causes.specs.Requests.{Given, found-row, hears-commit, hears-fetch, hears-prepare, open-at-leader, opens-here, parked-fit, parked-meets, parked-present, stamps-of-reads, target-is}
 use Rattle.world_causes.specs.Turns.{AllMeet, HasNoLine, Leaves, all-each}
 use Rattle.world_causes.specs.VerdictTurns.{IsAskFit, IsVerdict, verdict-leaves}
-use Rattle.world_turns.specs.Requests.{fetch_message}
+use Rattle.world_base.specs.Requests.{fetch_message}
 
 -- what a Fetch waits for, and for whom
 waits-on : (a x : AttemptId) (p : Parked) → is_waiting a x p ≡ true → (same_attempt p.on a && is_asker x p.ask) ≡ true

@@ -14,9 +14,9 @@ use Rattle.dtx_base.specs.declared.member.Parked.{Parked}
 use Rattle.world_base.specs.declared.did.Did.{Did}
 use Rattle.world_base.specs.declared.target.TargetMemory.{TargetMemory}
 use Rattle.world_epochs.specs.Epochs.{BearsEpoch}
-use Rattle.world_events.specs.Events.{Rules, listed}
-use Rattle.world_events.specs.Letters.{client}
-use Rattle.world_turns.specs.Changes.{Kept}
+use Rattle.world_base.specs.Events.{Rules, listed}
+use Rattle.world_base.specs.Letters.{client}
+use Rattle.world_base.specs.Changes.{Kept}
 use Rattle.world_causes.specs.Causes.{Dated, EndsOf, IsAskedFor, IsUnanswered, IsUndecidedFor, MeetsOther, MessageShows, Stored, blocks_of_stored, epochs_told, limit, stored_by}
 use Rattle.world_causes.specs.Dates.{limit-rises}
 use Rattle.world_causes.specs.Growth.{message-more}

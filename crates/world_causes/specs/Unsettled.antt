@@ -17,7 +17,7 @@ use Rattle.world_base.specs.declared.target.TargetState.{TargetState}
 use Rattle.world_base.specs.declared.world.World.{World}
 use Rattle.world_epochs.specs.Epochs.{Epochs}
 use Rattle.world_epochs.specs.Sayings.{known-all, known-found}
-use Rattle.world_events.specs.Events.{Rules}
+use Rattle.world_base.specs.Events.{Rules}
 use Rattle.world_reads.specs.Versions.{IsPreparedAt, IsVersionOf, Versions}
 use Rattle.world_causes.specs.Premises.{VersionsAreWritten}
 

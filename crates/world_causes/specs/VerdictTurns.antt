@@ -22,16 +22,16 @@ use Rattle.world_base.specs.declared.request.FetchRequest.{FetchRequest}
 use Rattle.world_base.specs.declared.target.TargetMemory.{TargetMemory}
 use Rattle.world_base.specs.declared.target.TargetPlan.{TargetPlan}
 use Rattle.world_base.specs.ClientTurns.{told_by_some}
-use Rattle.world_events.specs.Events.{Rules, listed}
-use Rattle.world_events.specs.Letters.{client}
-use Rattle.world_turns.specs.Changes.{Change, Kept, Steps}
-use Rattle.world_turns.specs.PathLaws.{path-keeps}
-use Rattle.world_turns.specs.Reads as read
-use Rattle.world_turns.specs.Requests.{is_other_attempt, issued_for}
-use Rattle.world_turns.specs.Roles.{is_prepared, joins_on, member_at}
-use Rattle.world_turns.specs.TargetTurns.{fetch_request}
-use Rattle.world_turns.specs.Turns.{Whole}
-use Rattle.world_turns.specs.Verdicts as turn
+use Rattle.world_base.specs.Events.{Rules, listed}
+use Rattle.world_base.specs.Letters.{client}
+use Rattle.world_base.specs.Changes.{Change, Kept, Steps}
+use Rattle.world_base.specs.PathLaws.{path-keeps}
+use Rattle.world_base.specs.Reads as read
+use Rattle.world_base.specs.Requests.{is_other_attempt, issued_for}
+use Rattle.world_base.specs.Roles.{is_in_doubt, joins_on, member_at}
+use Rattle.world_base.specs.TargetTurns.{fetch_request}
+use Rattle.world_base.specs.Turns.{Whole}
+use Rattle.world_base.specs.Verdicts as turn
 use Rattle.world_causes.specs.Causes.{Dated, IsUnanswered, MeetsOther, Stored, limit, stored_by}
 use Rattle.world_causes.specs.CommitTurns.{space-same}
 use Rattle.world_causes.specs.Paths.{AreOpen, Lasts, ReadSoFar, lasts-aborted, lasts-committed, lasts-here, lasts-known, lasts-rests, left_at, read-step}
@@ -141,18 +141,18 @@ module _ (r : Rules) (o : Opening) (stored : Stored) (issued : Dated) (lines : L
   VerdictSoFar (turn.Freed again n posts) k = Frees again n posts × Lasts t lines (top o) old n.leader.decided k
   VerdictSoFar (turn.Trying q s again n posts) k = Tries q s k again n posts
 
-  settles : (s : Option Settle) (k l : Kept) → s ≡ turn.settles_by v a k.durable → Steps (turn.settling_change a s) k l → Lasts t lines (top o) old m.leader.decided k → Lasts t lines (top o) old m.leader.decided l
+  settles : (s : Option Settle) (k l : Kept) → s ≡ turn.settles_by t.me v a k.durable → Steps (turn.settling_change a s) k l → Lasts t lines (top o) old m.leader.decided k → Lasts t lines (top o) old m.leader.decided l
   settles None k l is st h = lasts-rests t lines (top o) old m.leader.decided k l st h
   settles (Some Commit) k l is st h = lasts-known t lines (top o) old (filter (is_other_attempt a) m.leader.decided) m.leader.decided l (λ b i. (has-from_filter (is_other_attempt a) m.leader.decided b i).0) (lasts-committed t lines (top o) old m.leader.decided a k l st h)
   settles (Some Abort) k l is st h = lasts-aborted t lines (top o) old m.leader.decided a k l st h
-  settles (Some (Confirm u)) k l is st h = absurd (no-confirm v (is_prepared a k.durable) u is)
+  settles (Some (Confirm u)) k l is st h = absurd (no-confirm v (is_in_doubt t.me a k.durable) u is)
     where
       no-confirm : (w : Verdict) (b : Bool) (u : ℕ) → Some (Confirm u) ≡ turn.step_if b (turn.step_by w) → ⊥
       no-confirm w false u e = cc
       no-confirm verdict.Committed true u e = cc
       no-confirm verdict.Aborted true u e = cc
       no-confirm verdict.Undecided true u e = cc
-  settles (Some Forget) k l is st h = absurd (no-forget v (is_prepared a k.durable) is)
+  settles (Some Forget) k l is st h = absurd (no-forget v (is_in_doubt t.me a k.durable) is)
     where
       no-forget : (w : Verdict) (b : Bool) → Some Forget ≡ turn.step_if b (turn.step_by w) → ⊥
       no-forget w false e = cc
@@ -205,7 +205,7 @@ module _ (r : Rules) (o : Opening) (stored : Stored) (issued : Dated) (lines : L
           parts x op group ep first k y b x2 op2 group2 ep2 first2 k2 y2 b2 e1 e2 e3 e4 e5 e6 e7 e8 = rw (e1, e2, e3, e4, e5, e6, e7, e8) refl
 
   verdict-step : (s : turn.VerdictStage) (k : Kept) (c : Option Change) (u : turn.VerdictStage) (l : Kept) → turn.VerdictNext t m reading a ask v s k c u → Steps c k l → VerdictSoFar s k → VerdictSoFar u l
-  verdict-step s k c u l (turn.SettlesBy j d is) st h = (frees v refl, settles (turn.settles_by v a k.durable) k l refl (subst (λ z. Steps z k l) is st) h)
+  verdict-step s k c u l (turn.SettlesBy j d is) st h = (frees v refl, settles (turn.settles_by t.me v a k.durable) k l refl (subst (λ z. Steps z k l) is st) h)
   verdict-step s k c u l (turn.TriesNext j n posts rest x op group ep first tracker y snapshot) st h =
       let q : FetchRequest = record { attempt = x; op = op; group = group; ep = ep; first = first; tracker = tracker; read = y; snapshot = snapshot } in
       let z = tries q (message.Fetch x op group ep first tracker y snapshot) refl (h.0.fit (message.Fetch x op group ep first tracker y snapshot) (inl refl)) in

@@ -22,9 +22,9 @@ use Rattle.daos_model.specs.Opening.{Opening, top}
 use Rattle.daos_model.specs.Transactions.{attempt_ops}
 use Rattle.daos_model.specs.Versions.{version_path}
 use Rattle.world_base.specs.declared.target.TargetPlan.{TargetPlan}
-use Rattle.world_events.specs.Events.{Rules, listed}
-use Rattle.world_turns.specs.Reads.{later_of, uncertain_from}
-use Rattle.world_turns.specs.Requests.{issued_for}
+use Rattle.world_base.specs.Events.{Rules, listed}
+use Rattle.world_base.specs.Reads.{later_of, uncertain_from}
+use Rattle.world_base.specs.Requests.{issued_for}
 use Rattle.world_causes.specs.Causes.{Dated, ShowsWrite}
 use Rattle.world_causes.specs.Dates.{IsDated}
 use Rattle.world_causes.specs.Floors.{IsLater, later-is}

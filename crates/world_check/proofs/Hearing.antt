@@ -81,12 +81,12 @@ module _ (t : TargetPlan) (from : ActorId) (m : Message) (s new : TargetState) (
       (λ h. (let p = same.0 h in record { form = p.0; turn = (0, p.1) }), λ h. same.1 (h.form, h.turn.1))
 
   -- a message of which the turn was made again, which it can hear
-  pub made_heard : (o : Option Left) (test : Bool) → CanHear t s.durable s.memory from m → HearsAs t from m s o → Decides test (IsLeftIf o s.free (keeps new.durable new.free) (new.memory, did)) → Decides test (HearsSo t from m s new did)
+  pub made_heard : (o : Option Left) (test : Bool) → CanHear t s.durable s.memory m → HearsAs t from m s o → Decides test (IsLeftIf o s.free (keeps new.durable new.free) (new.memory, did)) → Decides test (HearsSo t from m s new did)
   made_heard o test form made same = (
     λ h. record { form = form; turn = (0, (made 0 (keeps new.durable new.free) (new.memory, did)).1 (same.0 h)) },
     λ h. same.1 ((made h.turn.0 (keeps new.durable new.free) (new.memory, did)).0 h.turn.1),
   )
 
   -- or which it can't hear
-  pub never_heard : (CanHear t s.durable s.memory from m → ⊥) → Decides false (HearsSo t from m s new did)
+  pub never_heard : (CanHear t s.durable s.memory m → ⊥) → Decides false (HearsSo t from m s new did)
   never_heard never = none_so (λ h. never h.form)

@@ -6,7 +6,7 @@ use Rattle.replay_base.specs.Onward.{Iff}
 use Rattle.std.proofs.Math.ListN.{drop_of_length-le}
 use Rattle.daos_laws.specs.Lists.{drop-item}
 use Rattle.world_base.specs.declared.world.World.{World}
-use Rattle.world_events.specs.Events.{Rules}
+use Rattle.world_base.specs.Events.{Rules}
 use Rattle.world_list.specs.RunLists.{IsRunFrom, LeadsTo, last_world}
 use Rattle.world_list.specs.declared.events.Event.{Event}
 

@@ -5,7 +5,7 @@ use Rattle.daos_messages.specs.declared.actor.ActorId.{ActorId}
 use Rattle.daos_model.specs.BoolLaws.{clash}
 use Rattle.world_base.specs.declared.letter.Letter.{Letter}
 use Rattle.world_base.specs.declared.world.World.{World}
-use Rattle.world_events.specs.Events.{Rules}
+use Rattle.world_base.specs.Events.{Rules}
 use Rattle.world_list.specs.Fitting.{AreInPlace}
 use Rattle.world_list.specs.RunLists.{ClientHearsAs, GoesAs, IdlesAs, LeadsTo, TargetHearsAs, last_world}
 use Rattle.world_list.specs.declared.events.Event.{Event}

@@ -11,7 +11,7 @@ use Rattle.daos_base.specs.Scripts.{is_numbered}
 use Rattle.std.proofs.lemmas.Option.{slice_get_past}
 use Rattle.world_base.specs.declared.client.ClientState.{ClientState}
 use Rattle.world_base.specs.declared.world.World.{World}
-use Rattle.world_events.specs.Events.{Rules, client_plan, commands_or_none}
+use Rattle.world_base.specs.Events.{Rules, client_plan, commands_or_none}
 use Rattle.world_list.specs.Fitting.{AreInPlace, PlansFit}
 use Rattle.world_check.specs.Starting.{HasPlace, commands_of}
 

@@ -14,17 +14,17 @@ use Rattle.world_base.specs.declared.request.PrepareRequest.{PrepareRequest}
 use Rattle.world_base.specs.declared.target.TargetMemory.{TargetMemory}
 use Rattle.world_base.specs.declared.target.TargetPlan.{TargetPlan}
 use Rattle.world_base.specs.declared.world.World.{World}
-use Rattle.world_events.specs.Events.{listed}
-use Rattle.world_events.specs.Letters.{Takes, letters_of}
-use Rattle.world_turns.specs.Acks as ack
-use Rattle.world_turns.specs.Changes.{Kept}
-use Rattle.world_turns.specs.Idle.{AllSettled, IdleEnds}
-use Rattle.world_turns.specs.Marks as mark
-use Rattle.world_turns.specs.Prepares as prepare
-use Rattle.world_turns.specs.TargetTurns.{Hears, IdlesWhole, commit_request, fetch_request, prepare_request}
-use Rattle.world_turns.specs.Verdicts as verdict
+use Rattle.world_base.specs.Events.{listed}
+use Rattle.world_base.specs.Letters.{Takes, letters_of}
+use Rattle.world_base.specs.Acks as ack
+use Rattle.world_base.specs.Changes.{Kept}
+use Rattle.world_base.specs.Idle.{AllSettled, IdleEnds}
+use Rattle.world_base.specs.Marks as mark
+use Rattle.world_base.specs.Prepares as prepare
+use Rattle.world_base.specs.TargetTurns.{Hears, IdlesWhole, commit_request, fetch_request, prepare_request}
+use Rattle.world_base.specs.Verdicts as verdict
 use Rattle.world_check.specs.Told.{did_told, post_of}
-use Rattle.world_turns.specs.MemoryLaws.{commit-follows, fetch-follows}
+use Rattle.world_base.specs.MemoryLaws.{commit-follows, fetch-follows}
 
 -- ---- no line is added
 

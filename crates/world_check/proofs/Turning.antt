@@ -20,11 +20,11 @@ use Rattle.world_base.specs.declared.target.TargetMemory.{TargetMemory}
 use Rattle.world_base.specs.declared.target.TargetPlan.{TargetPlan}
 use Rattle.world_base.specs.declared.target.TargetState.{TargetState}
 use Rattle.world_base.specs.declared.world.World.{World}
-use Rattle.world_events.specs.Events.{Rules, after_turn, target_after, target_plan, with_target}
-use Rattle.world_events.specs.Letters.{Takes, target}
-use Rattle.world_events.specs.StepLaws.{set-here}
-use Rattle.world_turns.specs.Changes.{Kept}
-use Rattle.world_turns.specs.TargetTurns.{Hears, IdlesWhole}
+use Rattle.world_base.specs.Events.{Rules, after_turn, target_after, target_plan, with_target}
+use Rattle.world_base.specs.Letters.{Takes, target}
+use Rattle.world_base.specs.StepLaws.{set-here}
+use Rattle.world_base.specs.Changes.{Kept}
+use Rattle.world_base.specs.TargetTurns.{Hears, IdlesWhole}
 use Rattle.world_list.specs.Following.{FollowIs}
 use Rattle.world_list.specs.RunLists.{IdlesAs, TargetHearsAs}
 use Rattle.world_list.specs.Taken.{IsTaken}
@@ -84,7 +84,7 @@ record HearsAt (r : Rules) (w : World) (n : ℕ) (l : Letter) (v : World) : Type
   here : slice_get w.targets n ≡ Some s
   runs : s.life ≡ Running
   placed : n < r.script.targets
-  form : CanHear (target_plan r n) s.durable s.memory l.from l.message
+  form : CanHear (target_plan r n) s.durable s.memory l.message
   takes : Takes w.messages l rest
   turn : Hears (target_plan r n) s.opening s.memory reading l.from l.message (keeps s.durable s.free) new (memory, did)
   after : v ≡ with_target n (target_after s new memory) (after_turn w (target n) did rest)
@@ -102,7 +102,7 @@ hears_at r w n l v to h =
       here = h.event.here;
       runs = h.event.runs;
       placed = h.placed;
-      form = subst (λ (x : Letter). CanHear (target_plan r h.event.t) h.event.s.durable h.event.s.memory x.from x.message) h.letter h.form;
+      form = subst (λ (x : Letter). CanHear (target_plan r h.event.t) h.event.s.durable h.event.s.memory x.message) h.letter h.form;
       takes = h.event.takes;
       turn = h.event.turn;
       after = h.event.after;
@@ -155,7 +155,7 @@ found r w v n l s next here there h =
     let memory_same : h.memory ≡ next.memory = sym (ap (λ x. x.memory) next_same) in
     record {
       hears = record {
-        form = subst (λ x. CanHear (target_plan r n) x.durable x.memory l.from l.message) state h.form;
+        form = subst (λ x. CanHear (target_plan r n) x.durable x.memory l.message) state h.form;
         turn = (
           h.reading,
           subst (λ x. Hears (target_plan r n) x.opening x.memory h.reading l.from l.message (keeps x.durable x.free) (keeps next.durable next.free) (next.memory, did_told (length w.messages - 1) w v)) state

@@ -5,7 +5,7 @@ use Rattle.daos_base.specs.declared.script.Command.{Command}
 use Rattle.daos_base.specs.declared.script.Script.{Script}
 use Rattle.daos_base.specs.Scripts.{is_numbered}
 use Rattle.world_base.specs.declared.client.ClientState.{ClientState}
-use Rattle.world_events.specs.Events.{commands_or_none}
+use Rattle.world_base.specs.Events.{commands_or_none}
 
 -- the commands of a client
 abbrev pub commands_of : Script → ℕ → List Command

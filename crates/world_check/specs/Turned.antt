@@ -13,11 +13,11 @@ use Rattle.world_base.specs.declared.target.TargetState.{TargetState}
 use Rattle.world_base.specs.declared.world.World.{World}
 use Rattle.world_list.specs.Following.{IsTold}
 use Rattle.world_list.specs.declared.follow.Follow.{Follow}
-use Rattle.world_turns.specs.TargetTurns.{Hears, IdlesWhole}
+use Rattle.world_base.specs.TargetTurns.{Hears, IdlesWhole}
 
 -- at some reading of its clock a target comes from one state to another by a message that it can hear, and this follows
 pub record HearsSo (t : TargetPlan) (from : ActorId) (m : Message) (s new : TargetState) (did : Did) : Type 0 where
-  pub form : CanHear t s.durable s.memory from m
+  pub form : CanHear t s.durable s.memory m
   pub turn : (reading : ℕ) × Hears t s.opening s.memory reading from m (keeps s.durable s.free) (keeps new.durable new.free) (new.memory, did)
 
 -- by its idle work, in the settling phase or before it, it comes from one state to another, and this follows

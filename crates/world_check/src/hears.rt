@@ -177,14 +177,7 @@ fn hears_prepare(
     }
 }
 
-// Whether someone is one of the targets.
-fn is_target(plan: TargetPlan, from: ActorId) -> bool
-    ensures { Decides result (from.number < plan.targets) }
-{
-    from.number < u16::from(plan.targets)
-}
-
-// Whether a target hears an Ack so, from one of the targets.
+// Whether a target hears an Ack so.
 fn acks_so(
     alloc: Global,
     plan: TargetPlan,
@@ -198,15 +191,11 @@ fn acks_so(
 ) -> Result<bool, Memory>
     ensures { IfOk result (λ yes. Decides yes (HearsSo plan from (message.Ack attempt inc refusal.now) before.now after.now did.now)) }
 {
-    if is_target(plan, from) {
-        let left = hears_ack(alloc, plan, from, attempt, inc, refusal, before)?;
-        Ok(is_left_if(&Some(left), before, after, did))
-    } else {
-        Ok(false)
-    }
+    let left = hears_ack(alloc, plan, from, attempt, inc, refusal, before)?;
+    Ok(is_left_if(&Some(left), before, after, did))
 }
 
-// Whether a target hears a Marked so, from one of the targets.
+// Whether a target hears a Marked so.
 fn marked_so(
     alloc: Global,
     plan: TargetPlan,
@@ -219,12 +208,8 @@ fn marked_so(
 ) -> Result<bool, Memory>
     ensures { IfOk result (λ yes. Decides yes (HearsSo plan from (message.Marked inc attempts.now) before.now after.now did.now)) }
 {
-    if is_target(plan, from) {
-        let left = hears_marked(alloc, plan, from, inc, attempts, before)?;
-        Ok(is_left_if(&Some(left), before, after, did))
-    } else {
-        Ok(false)
-    }
+    let left = hears_marked(alloc, plan, from, inc, attempts, before)?;
+    Ok(is_left_if(&Some(left), before, after, did))
 }
 
 // Whether a target hears a Mark so.

@@ -2,7 +2,7 @@
 ghost use Rattle.std.specs.Prelude.{◌≡◌, ◌<◌, ◌-◌, ◌||◌, length, slice_get, false, Some, IfOk, Decides};
 ghost use Rattle.world_base.specs.declared.target.Life.TheVariants.{Running};
 ghost use Rattle.world_check.specs.Turned.{IdlesSo, IsAfterTarget, StaysOpen};
-ghost use Rattle.world_events.specs.Events.{target_plan};
+ghost use Rattle.world_base.specs.Events.{target_plan};
 ghost use Rattle.world_list.specs.RunLists.{IdlesAs, TargetHearsAs, rules_of};
 
 use crate::hears::hears_so;

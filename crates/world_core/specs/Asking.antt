@@ -52,8 +52,8 @@ use Rattle.world_base.specs.ClientTurns.{attempt_id, command_at, group_asked, gr
 use Rattle.world_core.specs.Judged.{Judged}
 use Rattle.world_epochs.specs.Epochs.{AsksEpoch, BearsEpoch, BearsIssued, Epochs, IsIssued, IsPast, Unsnapped, reads_snapshot}
 use Rattle.world_epochs.specs.TargetEvents.{issued-ticks}
-use Rattle.world_events.specs.Events.{Rules, client_plan, target_plan}
-use Rattle.world_events.specs.Letters.{Takes, target}
+use Rattle.world_base.specs.Events.{Rules, client_plan, target_plan}
+use Rattle.world_base.specs.Letters.{Takes, target}
 use Rattle.world_clients.specs.Answered.{ops_here}
 use Rattle.world_core.specs.ScriptForm.{ops-few, read-in-form, writes-declared, writes-in-form}
 use Rattle.world_gots.specs.FormLaws.{fit-object, ops-form, read-declared, write-declared}
@@ -64,8 +64,8 @@ use Rattle.world_talks.specs.Carriers.{is_fetch_of}
 use Rattle.world_talks.specs.Conversation.{is_request}
 use Rattle.world_talks.specs.Asked.{ARead, ASnapshot, AnAggregation, Asked, AsksCommit, AsksRead, ItsWrites, commit_of, group_of_read}
 use Rattle.world_talks.specs.InFlight.{HearsRequest, hears-request, parked-is}
-use Rattle.world_turns.specs.Requests.{fetch_message, request_epoch}
-use Rattle.world_turns.specs.Reads.{fetch_at}
+use Rattle.world_base.specs.Requests.{fetch_message, request_epoch}
+use Rattle.world_base.specs.Reads.{fetch_at}
 use Rattle.world_verdicts.specs.TurnLaws.{attempt-ops-here, told-of}
 
 -- ---- letters

@@ -28,8 +28,8 @@ use Rattle.world_base.specs.ClientTurns.{attempt_id}
 use Rattle.world_core.specs.Asking.{Facts, commit-right, present-not-past, takes-one}
 use Rattle.world_epochs.specs.Epochs.{BearsEpoch, IsPast}
 use Rattle.world_epochs.specs.Lists.{nothing-passes}
-use Rattle.world_events.specs.Events.{Rules, client_plan}
-use Rattle.world_events.specs.Letters.{Takes, client, is_talk_of, is_tell, target}
+use Rattle.world_base.specs.Events.{Rules, client_plan}
+use Rattle.world_base.specs.Letters.{Takes, client, is_talk_of, is_tell, target}
 use Rattle.world_talks.specs.AskLaws.{asked-commit}
 use Rattle.world_talks.specs.Asked.{commit_of}
 use Rattle.world_talks.specs.Carriers.{InFlight, carriers, carriers_of, held_from, in_flight, is_carrier_of, open_at}

@@ -26,8 +26,8 @@ use Rattle.world_core.specs.Commits.{commits-are-new}
 use Rattle.world_core.specs.Judged.{DecidedIssued, Judged, clients-keep-judged, lines-stand}
 use Rattle.world_epochs.specs.EpochLaws.{epochs-kept}
 use Rattle.world_epochs.specs.Epochs.{Unsnapped}
-use Rattle.world_events.specs.Events.{Begins, ByClient, ByTarget, ClientGoes, ClientHears, Event, Goes, Rules, Run, TargetHears, TargetIdles, ToClient, ToTarget}
-use Rattle.world_events.specs.Letters.{client, letter_of, letters_of, target}
+use Rattle.world_base.specs.Events.{Begins, ByClient, ByTarget, ClientGoes, ClientHears, Event, Goes, Rules, Run, TargetHears, TargetIdles, ToClient, ToTarget}
+use Rattle.world_base.specs.Letters.{client, letter_of, letters_of, target}
 use Rattle.world_gots.specs.Remembering.{AreRemembered, IsRemembered, ToldServed}
 use Rattle.world_gots.specs.TargetGots.{served-is-told}
 use Rattle.world_lines.specs.EndingLaws.{spoken-kept}

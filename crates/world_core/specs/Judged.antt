@@ -9,9 +9,9 @@ use Rattle.world_base.specs.ClientTurns.{attempt_id}
 use Rattle.world_epochs.specs.Carried.{talks-once}
 use Rattle.world_epochs.specs.Epochs.{ClientsStand, Epochs, Unsnapped}
 use Rattle.world_epochs.specs.EventLaws.{counting-keeps, hearing-keeps, moves-keep}
-use Rattle.world_events.specs.Events.{ClientGoes, ClientHears, Rules, client_plan}
-use Rattle.world_events.specs.StepLaws.{by-hearing, by-next}
-use Rattle.world_events.specs.Steps.{KeptByCounting, KeptByHearing, KeptByMoves}
+use Rattle.world_base.specs.Events.{ClientGoes, ClientHears, Rules, client_plan}
+use Rattle.world_base.specs.StepLaws.{by-hearing, by-next}
+use Rattle.world_base.specs.Steps.{KeptByCounting, KeptByHearing, KeptByMoves}
 use Rattle.world_lines.specs.EndingLaws.{Spoken, spoken-by-counting, spoken-by-hearing, spoken-by-moves}
 use Rattle.world_lines.specs.Lines.{Lines}
 use Rattle.world_talks.specs.Conversation.{Conversation}

@@ -5,3 +5,10 @@ pub mod Asking
 pub mod Commits
 pub mod Posting
 pub mod Everything
+-- What a run begins with, and what follows from there.
+pub mod Begins
+pub mod BeginLaws
+pub mod Fresh
+pub mod Sharing
+pub mod Hearable
+pub mod Whole

@@ -29,8 +29,8 @@ use Rattle.world_base.specs.ClientTurns.{ClientDid, Ended_by, Heard_on, HearTurn
 use Rattle.world_core.specs.Asking.{question-form}
 use Rattle.world_core.specs.ScriptForm.{read-in-form, writes-declared, writes-in-form}
 use Rattle.world_epochs.specs.Epochs.{Unsnapped, is_unsnapped}
-use Rattle.world_events.specs.Events.{Rules, client_plan, commands_or_none, target_plan}
-use Rattle.world_events.specs.Letters.{target}
+use Rattle.world_base.specs.Events.{Rules, client_plan, commands_or_none, target_plan}
+use Rattle.world_base.specs.Letters.{target}
 use Rattle.world_gots.specs.FormLaws.{fit-object, write-declared}
 use Rattle.world_posts.specs.Forms.{AreWrites, ClientPosts, IsAsked, IsOfClient, IsReadAsked, is_told}
 use Rattle.world_posts.specs.Posting.{leader-writes}

@@ -1,11 +1,15 @@
-// What holds between any two turns of a run, and what a script in form gives.
+// What a run begins with, what holds between any two turns of it, and what a script in form gives.
 #![tactic(auto)]
 
 ghost use Rattle.world_core.specs.Asking.{RequestsAreRight};
+ghost use Rattle.world_core.specs.BeginLaws.{RunsBeginWithEverything};
 ghost use Rattle.world_core.specs.Everything.{EventsKeepEverything, RunsKeepEverything};
+ghost use Rattle.world_core.specs.Fresh.{EmptyStoresOpen, EnlistedOpensToo, FreshStoresOpen, FreshWorldsAreBegun};
+ghost use Rattle.world_core.specs.Hearable.{RequestsCanBeHeard};
 ghost use Rattle.world_core.specs.Judged.{ClientsKeepJudged};
 ghost use Rattle.world_core.specs.Posting.{ClientsPostInForm, HearersPostInForm};
 ghost use Rattle.world_core.specs.ScriptForm.{ReadsAreInForm, WritesAreInForm};
+ghost use Rattle.world_core.specs.Whole.{RunsBeginWhole, RunsCanBeHeard, RunsStayWhole};
 
 /// Says that every turn of a client keeps, all together, what goes about and what lines tell, what
 /// holds of epochs, that each decided attempt was issued its epoch, and that decided attempts are exactly
@@ -39,4 +43,35 @@ pub fn laws_of_forms()
 pub fn laws_of_runs()
     ensures events { EventsKeepEverything }
     ensures runs { RunsKeepEverything }
+{}
+
+/// Says that stores with which a run may begin are those that were never used, once the containers of
+/// the script were enlisted; and that such a store stays one where more are. So there is a world
+/// before the first event of a run over regions of zeros.
+pub fn laws_of_stores()
+    ensures empty { EmptyStoresOpen }
+    ensures enlisted { EnlistedOpensToo }
+    ensures fresh { FreshStoresOpen }
+    ensures begun { FreshWorldsAreBegun }
+{}
+
+/// Says that a run of a script in form, without snapshots and aggregation, begins with all that every
+/// event keeps: nothing is decided, aborted, served, issued, in flight or told of, and the targets'
+/// versions stand for what the opening says.
+pub fn laws_of_beginnings()
+    ensures everything { RunsBeginWithEverything }
+    ensures whole { RunsBeginWhole }
+{}
+
+/// Says that at each moment of such a run all that events keep holds, of what was decided, aborted and
+/// served by then. So a target can hear each message that goes to it: a read in form, in a container that
+/// it knows, not at a snapshot; writes to commit or to prepare, in form, in containers that it knows, some of
+/// them its own, of an attempt that has no entry here, at an epoch that no version has; an answer of
+/// another target; what became of attempts; or a question. Nothing else goes to it. And it is rightly told: it
+/// is one of the targets that answers, and what became of an attempt that a target leads itself no other one
+/// tells it.
+pub fn laws_of_hearing()
+    ensures requests { RequestsCanBeHeard }
+    ensures whole { RunsStayWhole }
+    ensures runs { RunsCanBeHeard }
 {}

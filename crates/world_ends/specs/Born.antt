@@ -22,8 +22,8 @@ use Rattle.world_attempts.specs.Working.{attempts-there, dull-no_prepare, dull-n
 use Rattle.world_base.specs.declared.letter.Letter.{Letter}
 use Rattle.world_base.specs.declared.world.World.{World}
 use Rattle.world_clients.specs.Answered.{is_refusal}
-use Rattle.world_events.specs.Events.{ByClient, ByTarget, Event, Rules, ToClient, ToTarget}
-use Rattle.world_events.specs.Letters.{letter_of, letters_of, target}
+use Rattle.world_base.specs.Events.{ByClient, ByTarget, Event, Rules, ToClient, ToTarget}
+use Rattle.world_base.specs.Letters.{letter_of, letters_of, target}
 use Rattle.world_lines.specs.Lines.{Endings, TellsEnd}
 use Rattle.world_reads.specs.Growing.{committed_in, grown}
 use Rattle.world_reads.specs.GrowLaws.{grown-grows}

@@ -22,7 +22,7 @@ use Rattle.daos_model.specs.Opening.{Opening}
 use Rattle.daos_model.specs.TookEffect.{took}
 use Rattle.daos_model.specs.Transactions.{attempt_ops}
 use Rattle.world_base.specs.declared.world.World.{World}
-use Rattle.world_events.specs.Events.{Rules}
+use Rattle.world_base.specs.Events.{Rules}
 use Rattle.world_attempts.specs.History.{History}
 use Rattle.world_reads.specs.Transactions.{decided_of, transactions}
 use Rattle.world_verdicts.specs.Verdicts.{HasWrites, IsOnItsWay, IsToldCommitted, Verdicts}

@@ -14,7 +14,7 @@ use Rattle.world_base.specs.declared.target.TargetState.{TargetState}
 use Rattle.world_base.specs.declared.world.World.{World}
 use Rattle.world_causes.specs.Causes.{is_try}
 use Rattle.world_epochs.specs.Epochs.{Epochs, Unsnapped}
-use Rattle.world_events.specs.Events.{Rules}
+use Rattle.world_base.specs.Events.{Rules}
 use Rattle.world_gots.specs.Gots.{Gots}
 use Rattle.world_lines.specs.EndingLaws.{Spoken}
 use Rattle.world_lines.specs.LastLines.{AreDone, HasClients}

@@ -21,7 +21,7 @@ use Rattle.daos_model.specs.Finals.{SameMap}
 use Rattle.daos_model.specs.Forms.{is_write_in_form}
 use Rattle.daos_model.specs.Opening.{Opening, top}
 use Rattle.daos_model.specs.Versions.{writes_in}
-use Rattle.world_events.specs.Events.{Rules}
+use Rattle.world_base.specs.Events.{Rules}
 use Rattle.world_attempts.specs.History.{History, is_decided}
 use Rattle.world_reads.specs.Transactions.{counts_by, transactions}
 use Rattle.world_reads.specs.Versions.{VersionsStand, is_own_in, mark_of}

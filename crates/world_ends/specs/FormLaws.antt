@@ -21,7 +21,7 @@ use Rattle.daos_model.specs.Forms.{is_write_in_form}
 use Rattle.daos_model.specs.Transactions.{attempt_ops, command_of, numbered_at, ops_of, read_numbers}
 use Rattle.world_core.specs.ScriptForm.{write-in-form}
 use Rattle.world_epochs.specs.Epochs.{Unsnapped, is_unsnapped}
-use Rattle.world_events.specs.Events.{Rules, commands_or_none}
+use Rattle.world_base.specs.Events.{Rules, commands_or_none}
 use Rattle.world_gots.specs.FormLaws.{ops-form}
 use Rattle.world_ends.specs.Decisions.{NoSnapshots}
 use Rattle.world_ends.specs.PlainCauses.{reads-now}

@@ -27,7 +27,7 @@ use Rattle.world_base.specs.declared.letter.Letter.{Letter}
 use Rattle.world_base.specs.declared.target.TargetState.{TargetState}
 use Rattle.world_base.specs.declared.world.World.{World}
 use Rattle.world_base.specs.ClientTurns.{is_done}
-use Rattle.world_begins.specs.Begins.{IsBegun, IsSimple, held_at}
+use Rattle.world_core.specs.Begins.{IsBegun, IsSimple, held_at}
 use Rattle.world_causes.specs.LastCauses.{AllAreTold, causes-shown, stored-are-told}
 use Rattle.world_clients.specs.Standing.{AreOfPresent, HasTold, has_number, number_of}
 use Rattle.world_ends.specs.Carried.{CarriedBy, runs-carry}
@@ -41,8 +41,8 @@ use Rattle.world_ends.specs.Runs.{at-the-end, plain-then}
 use Rattle.world_ends.specs.StopLaws.{no-restarts}
 use Rattle.world_ends.specs.SureTells.{line-shows, not-lost, tells-plain}
 use Rattle.world_epochs.specs.Epochs.{HasLine, IsPresent}
-use Rattle.world_events.specs.Ended.{HasEnded}
-use Rattle.world_events.specs.Events.{Rules, Run, client_plan}
+use Rattle.world_base.specs.Ended.{HasEnded}
+use Rattle.world_base.specs.Events.{Rules, Run, client_plan}
 use Rattle.world_lines.specs.LastLines.{AreDone, HasClients, lines-in-turn}
 use Rattle.world_talks.specs.Carriers.{carriers_of, held, held_from, in_flight, is_carrier_of, open_at, parked_at}
 use Rattle.world_talks.specs.InFlight.{one-carried}

@@ -12,8 +12,8 @@ use Rattle.daos_model.specs.OutcomesLegal.{OutcomesLegal}
 use Rattle.daos_model.specs.ReadsLegal.{ReadsLegal}
 use Rattle.daos_model.specs.TookEffect.{took}
 use Rattle.world_base.specs.declared.world.World.{World}
-use Rattle.world_begins.specs.Begins.{IsOpeningPlain}
-use Rattle.world_events.specs.Events.{Rules}
+use Rattle.world_core.specs.Begins.{IsOpeningPlain}
+use Rattle.world_base.specs.Events.{Rules}
 use Rattle.world_attempts.specs.History.{History}
 use Rattle.world_reads.specs.Transactions.{transactions}
 use Rattle.world_ends.specs.Decisions.{DecisionsTold}

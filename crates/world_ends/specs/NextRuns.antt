@@ -20,7 +20,7 @@ use Rattle.world_addresses.specs.Staying.{StaysAs, runs-keep-targets}
 use Rattle.world_attempts.specs.History.{History}
 use Rattle.world_base.specs.declared.target.TargetState.{TargetState}
 use Rattle.world_base.specs.declared.world.World.{World}
-use Rattle.world_begins.specs.Begins.{IsBegun, IsSimple, held_at}
+use Rattle.world_core.specs.Begins.{IsBegun, IsSimple, held_at}
 use Rattle.world_causes.specs.Floors.{row-stays}
 use Rattle.world_ends.specs.Carried.{CarriedBy}
 use Rattle.world_ends.specs.Decisions.{took-same_map}
@@ -31,8 +31,8 @@ use Rattle.world_ends.specs.LastReads.{decided-form, last-told}
 use Rattle.world_ends.specs.LastStand.{from-durables, settled-done}
 use Rattle.world_ends.specs.Runs.{at-the-end, plain-then}
 use Rattle.world_ends.specs.Settled.{AreSettled, IsSettled, OpenTogether, floors-rise, lease-within, leases-below, open-together}
-use Rattle.world_events.specs.Ended.{HasEnded}
-use Rattle.world_events.specs.Events.{Rules, Run}
+use Rattle.world_base.specs.Ended.{HasEnded}
+use Rattle.world_base.specs.Events.{Rules, Run}
 use Rattle.world_reads.specs.Versions.{VersionsStand}
 
 -- ---- the statement

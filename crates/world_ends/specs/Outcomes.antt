@@ -29,7 +29,7 @@ use Rattle.daos_model.specs.Transactions.{attempt_ops, command_of, numbered_at}
 use Rattle.world_base.specs.declared.client.ClientState.{ClientState}
 use Rattle.world_base.specs.declared.world.World.{World}
 use Rattle.world_clients.specs.Answered.{EndsAsAnswered, EndsWell, IsAnsweredWhole}
-use Rattle.world_events.specs.Events.{Rules, client_plan}
+use Rattle.world_base.specs.Events.{Rules, client_plan}
 use Rattle.world_gots.specs.Gots.{AreServed, IsLineServed}
 use Rattle.world_gots.specs.ToldLaws.{nothing-told}
 use Rattle.world_lines.specs.LastLines.{lines-answered, lines-in-turn}

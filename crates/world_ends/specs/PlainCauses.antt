@@ -15,7 +15,7 @@ use Rattle.daos_model.specs.Transactions.{attempt_ops}
 use Rattle.world_causes.specs.Premises.{IsPlain}
 use Rattle.world_core.specs.ScriptForm.{writes-declared}
 use Rattle.world_epochs.specs.Epochs.{Unsnapped, is_unsnapped}
-use Rattle.world_events.specs.Events.{Rules}
+use Rattle.world_base.specs.Events.{Rules}
 use Rattle.world_gots.specs.FormLaws.{fit-object, ops-form, write-declared}
 
 pub reads-now : (d : Command) → is_unsnapped d ≡ true → snapshot_of_command d ≡ None

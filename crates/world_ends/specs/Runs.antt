@@ -7,8 +7,8 @@ use Rattle.daos_model.specs.Opening.{Given, Opening, top, undisturbed}
 use Rattle.world_base.specs.declared.target.TargetState.{TargetState}
 use Rattle.world_base.specs.declared.world.World.{World}
 use Rattle.world_core.specs.Everything.{Everything, runs-keep-everything}
-use Rattle.world_begins.specs.Begins.{IsOpeningPlain}
-use Rattle.world_events.specs.Events.{Rules, Run}
+use Rattle.world_core.specs.Begins.{IsOpeningPlain}
+use Rattle.world_base.specs.Events.{Rules, Run}
 use Rattle.world_attempts.specs.History.{History}
 use Rattle.world_ends.specs.Ends.{Facts, IsOver, IsPlain, TellsPlain, durables_of, report_of, rules_of}
 use Rattle.world_ends.specs.Laws.{reports-legal}

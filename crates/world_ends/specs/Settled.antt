@@ -21,7 +21,7 @@ use Rattle.daos_model.specs.Family.{Agree, counts, greatest_lease, resolved, sna
 use Rattle.daos_model.specs.Finals.{opening_of}
 use Rattle.daos_model.specs.Opening.{Opening}
 use Rattle.daos_model.specs.Versions.{writes_in}
-use Rattle.world_begins.specs.Begins.{IsOpeningPlain, OpensWith}
+use Rattle.world_core.specs.Begins.{IsOpeningPlain, OpensWith}
 use Rattle.world_ends.specs.FamilyStands.{at-has, none-created}
 
 -- ---- the statement

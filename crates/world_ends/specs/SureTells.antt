@@ -18,7 +18,7 @@ use Rattle.daos_model.specs.Durables.{same_attempt}
 use Rattle.daos_model.specs.Opening.{Opening}
 use Rattle.world_base.specs.declared.world.World.{World}
 use Rattle.world_causes.specs.Causes.{Causes, Dated, MeetsOther, Shows, Stored, is_try}
-use Rattle.world_events.specs.Events.{Rules}
+use Rattle.world_base.specs.Events.{Rules}
 use Rattle.world_ends.specs.Ends.{TellsPlain, is_sure}
 
 -- ---- the statement

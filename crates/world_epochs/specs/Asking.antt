@@ -20,8 +20,8 @@ use Rattle.world_base.specs.ClientTurns.{act_read, attempt_id, begun, command_at
 use Rattle.world_clients.specs.AnswerLaws.{ops-here}
 use Rattle.world_clients.specs.MoveLaws.{is-at}
 use Rattle.world_clients.specs.Standing.{HasTold}
-use Rattle.world_events.specs.Events.{Rules, client_plan, commands_or_none}
-use Rattle.world_turns.specs.Commits.{or_else}
+use Rattle.world_base.specs.Events.{Rules, client_plan, commands_or_none}
+use Rattle.world_base.specs.Commits.{or_else}
 use Rattle.world_epochs.specs.Epochs.{AsksFirst, behind_condition, first_question, first_target, issuer_of, left_to_ask}
 
 -- ---- the operations of an attempt

@@ -4,8 +4,8 @@ use Rattle.std.proofs.Common.{sym, ◌∙◌}
 use Rattle.world_base.specs.declared.letter.Letter.{Letter}
 use Rattle.world_base.specs.declared.world.World.{World}
 use Rattle.world_base.specs.ClientTurns.{waits}
-use Rattle.world_events.specs.Events.{Rules, client_plan}
-use Rattle.world_events.specs.Letters.{talk_of}
+use Rattle.world_base.specs.Events.{Rules, client_plan}
+use Rattle.world_base.specs.Letters.{talk_of}
 use Rattle.world_talks.specs.Carriers.{Carrier, InFlight, carriers_of, held_from, in_flight, is_carrier_of}
 use Rattle.world_talks.specs.Conversation.{Conversation, Talks}
 use Rattle.world_talks.specs.InFlight.{carriers-are}

@@ -18,10 +18,10 @@ use Rattle.world_base.specs.declared.client.Present.{Present}
 use Rattle.world_base.specs.declared.letter.Letter.{Letter}
 use Rattle.world_base.specs.declared.world.World.{World}
 use Rattle.world_base.specs.ClientTurns.{attempt_id, listed}
-use Rattle.world_events.specs.Events.{Rules, client_plan}
-use Rattle.world_events.specs.Letters.{client, letter_of, letters_of, target}
-use Rattle.world_events.specs.StepLaws.{set-here, set-there}
-use Rattle.world_events.specs.Steps.{without}
+use Rattle.world_base.specs.Events.{Rules, client_plan}
+use Rattle.world_base.specs.Letters.{client, letter_of, letters_of, target}
+use Rattle.world_base.specs.StepLaws.{set-here, set-there}
+use Rattle.world_base.specs.Steps.{without}
 use Rattle.world_epochs.specs.Epochs.{AsksEpoch, AsksFirst, BearsEpoch, Epochs, InCause, IsAt, IsIssued, IsPast, IsPresent, IsTold, IsUnissued, ItsOwn, LacksEpoch, Told, answers_undated, issuer_of, reads_snapshot}
 use Rattle.world_epochs.specs.IssuedLists.{issued-push}
 use Rattle.world_epochs.specs.Lists.{all-each, at-set, contains-filter, contains-none, contains-one, each-push, one-value, same-number, tries-push}

@@ -18,15 +18,15 @@ use Rattle.world_base.specs.declared.did.Did.{Did}
 use Rattle.world_base.specs.declared.request.CommitRequest.{CommitRequest}
 use Rattle.world_base.specs.declared.target.TargetMemory.{TargetMemory}
 use Rattle.world_base.specs.declared.target.TargetPlan.{TargetPlan}
-use Rattle.world_turns.specs.Changes.{Change, Kept, Steps}
-use Rattle.world_turns.specs.Commits as commit
-use Rattle.world_turns.specs.PathLaws.{path-keeps}
-use Rattle.world_turns.specs.Requests.{issued_for, request_epoch}
-use Rattle.world_turns.specs.Roles.{leader_at}
-use Rattle.world_turns.specs.Turns.{Path, Whole}
+use Rattle.world_base.specs.Changes.{Change, Kept, Steps}
+use Rattle.world_base.specs.Commits as commit
+use Rattle.world_base.specs.PathLaws.{path-keeps}
+use Rattle.world_base.specs.Requests.{issued_for, request_epoch}
+use Rattle.world_base.specs.Roles.{leader_at}
+use Rattle.world_base.specs.Turns.{Path, Whole}
 use Rattle.world_epochs.specs.FetchTurns.{Covers, Dates, IsDated, IsSpent, lease-covers}
 use Rattle.world_epochs.specs.Sayings.{AreParkedKnown, Known, Leaves, Says, SaysAll, Spent, Stays, says-map, step-stays}
-use Rattle.world_turns.specs.MemoryLaws.{heard-up}
+use Rattle.world_base.specs.MemoryLaws.{heard-up}
 
 -- ---- the steps
 

@@ -1,7 +1,7 @@
 -- Every event of a run keeps what is said of epochs, and it holds at the beginning.
 use Rattle.std.specs.Prelude.{ℕ, ◌<◌}
 use Rattle.world_base.specs.declared.world.World.{World}
-use Rattle.world_events.specs.Events.{Begins, Event, Goes, Rules, Run}
+use Rattle.world_base.specs.Events.{Begins, Event, Goes, Rules, Run}
 use Rattle.world_talks.specs.Conversation.{Conversation}
 use Rattle.world_talks.specs.ConversationLaws.{conversations-stay, hear-keeps, move-keeps}
 use Rattle.world_epochs.specs.Carried.{talks-once}

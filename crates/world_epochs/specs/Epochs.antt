@@ -32,9 +32,9 @@ use Rattle.world_base.specs.declared.target.Life.TheVariants.{Running}
 use Rattle.world_base.specs.declared.world.World.{World}
 use Rattle.world_base.specs.ClientTurns.{act_read, attempt_id, condition_read, group_asked, member_asked}
 use Rattle.world_clients.specs.Standing.{HasTold}
-use Rattle.world_events.specs.Events.{Rules, client_plan, commands_or_none}
-use Rattle.world_events.specs.Letters.{client, target}
-use Rattle.world_turns.specs.Commits.{or_else}
+use Rattle.world_base.specs.Events.{Rules, client_plan, commands_or_none}
+use Rattle.world_base.specs.Letters.{client, target}
+use Rattle.world_base.specs.Commits.{or_else}
 
 -- ---- the runs that this speaks of
 

@@ -12,10 +12,10 @@ use Rattle.world_base.specs.declared.world.World.{World}
 use Rattle.world_base.specs.ClientTurns.{NextTurn, Skipped, Went_on, heard, moved}
 use Rattle.world_clients.specs.MoveLaws as clients
 use Rattle.world_clients.specs.Standing.{HasTold, tells}
-use Rattle.world_events.specs.Events.{ByClient, ByTarget, ClientGoes, Event, Rules, ToClient, ToTarget, after_turn, client_plan, with_client}
-use Rattle.world_events.specs.Letters.{client}
-use Rattle.world_events.specs.StepLaws.{by-going, by-hearing, by-next}
-use Rattle.world_events.specs.Steps.{KeptByCounting, KeptByHearing, KeptByMoves}
+use Rattle.world_base.specs.Events.{ByClient, ByTarget, ClientGoes, Event, Rules, ToClient, ToTarget, after_turn, client_plan, with_client}
+use Rattle.world_base.specs.Letters.{client}
+use Rattle.world_base.specs.StepLaws.{by-going, by-hearing, by-next}
+use Rattle.world_base.specs.Steps.{KeptByCounting, KeptByHearing, KeptByMoves}
 use Rattle.world_epochs.specs.Epochs.{ClientsStand, Epochs, InCause, IsTold, ItsOwn, Unsnapped}
 use Rattle.world_epochs.specs.HeardLaws.{heard-keeps}
 use Rattle.world_epochs.specs.HearLaws.{quiet-client}

@@ -19,14 +19,14 @@ use Rattle.world_base.specs.declared.did.Did.{Did}
 use Rattle.world_base.specs.declared.request.FetchRequest.{FetchRequest}
 use Rattle.world_base.specs.declared.target.TargetMemory.{TargetMemory}
 use Rattle.world_base.specs.declared.target.TargetPlan.{TargetPlan}
-use Rattle.world_turns.specs.Changes.{Change, Kept, Steps}
-use Rattle.world_turns.specs.PathLaws.{path-keeps}
-use Rattle.world_turns.specs.Reads as read
-use Rattle.world_turns.specs.Requests.{issued_for, request_epoch, with_ticks}
-use Rattle.world_turns.specs.Turns.{Path, Whole}
+use Rattle.world_base.specs.Changes.{Change, Kept, Steps}
+use Rattle.world_base.specs.PathLaws.{path-keeps}
+use Rattle.world_base.specs.Reads as read
+use Rattle.world_base.specs.Requests.{issued_for, request_epoch, with_ticks}
+use Rattle.world_base.specs.Turns.{Path, Whole}
 use Rattle.world_epochs.specs.Epochs.{BearsEpoch}
 use Rattle.world_epochs.specs.Sayings.{AreParkedKnown, Known, Leaves, SaysAll, Spent, Stays, parked-push, step-stays}
-use Rattle.world_turns.specs.MemoryLaws.{heard-up, member-then}
+use Rattle.world_base.specs.MemoryLaws.{heard-up, member-then}
 
 -- ---- leases and ticks
 

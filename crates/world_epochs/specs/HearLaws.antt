@@ -24,9 +24,9 @@ use Rattle.world_base.specs.declared.client.Stage.{Stage}
 use Rattle.world_base.specs.declared.client.Stage.TheVariants as stage
 use Rattle.world_base.specs.declared.world.World.{World}
 use Rattle.world_base.specs.ClientTurns.{Move, asks_again, at_present, attempt_id, command_at, condition_told, ends, goes, greatest, group_count, group_told, is_yes, joined, knows, knows_epoch, listed, next_op, next_stage, op_of, op_told, replied, told_at, told_by_reply}
-use Rattle.world_events.specs.Events.{Rules, client_plan, with_client, with_epoch}
-use Rattle.world_events.specs.Letters.{client, letters_of, talk_of, target}
-use Rattle.world_events.specs.StepLaws.{set-here, set-twice}
+use Rattle.world_base.specs.Events.{Rules, client_plan, with_client, with_epoch}
+use Rattle.world_base.specs.Letters.{client, letters_of, talk_of, target}
+use Rattle.world_base.specs.StepLaws.{set-here, set-twice}
 use Rattle.world_epochs.specs.ClientLaws.{IsQuiet, quiet-keeps, same-id}
 use Rattle.world_epochs.specs.Epochs.{AsksFirst, Epochs, IsIssued, IsUnissued, Unsnapped}
 use Rattle.world_epochs.specs.Lists.{contains-cons, contains-none}

@@ -24,9 +24,9 @@ use Rattle.world_base.specs.declared.client.Present.{Present}
 use Rattle.world_base.specs.declared.letter.Letter.{Letter}
 use Rattle.world_base.specs.declared.world.World.{World}
 use Rattle.world_base.specs.ClientTurns.{about, answered, at_present, attempt_id, command_at, ended, ends, goes, greatest, heard, heard_at, hears_epochs, is_about, knows, knows_epoch, lost, replied, reset, reset_by, snaps_known, told_by_message, told_by_reply, told_by_some}
-use Rattle.world_events.specs.Events.{Rules, client_plan, with_client}
-use Rattle.world_events.specs.Letters.{Takes, client, is_tell, talk_of}
-use Rattle.world_events.specs.Steps.{without}
+use Rattle.world_base.specs.Events.{Rules, client_plan, with_client}
+use Rattle.world_base.specs.Letters.{Takes, client, is_tell, talk_of}
+use Rattle.world_base.specs.Steps.{without}
 use Rattle.world_epochs.specs.Asking.{ops-at}
 use Rattle.world_epochs.specs.ClientLaws.{IsQuiet, fewer-keeps}
 use Rattle.world_epochs.specs.Epochs.{BearsEpoch, ClientsStand, Epochs, IsIssued, IsUnissued, LacksEpoch, Unsnapped, answers_undated}

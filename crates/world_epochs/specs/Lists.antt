@@ -14,8 +14,8 @@ use Rattle.daos_model.specs.Attempts.{EachTry, tries}
 use Rattle.daos_model.specs.Durables.{same_attempt}
 use Rattle.daos_model.specs.EntryLaws.{same_attempt-itself}
 use Rattle.daos_model.specs.Laws.{tries-append}
-use Rattle.world_events.specs.Events.{epoch_issued, epoch_of_issue, is_issue_of}
-use Rattle.world_events.specs.StepLaws.{set-here, set-there}
+use Rattle.world_base.specs.Events.{epoch_issued, epoch_of_issue, is_issue_of}
+use Rattle.world_base.specs.StepLaws.{set-here, set-there}
 
 -- one value, where there is one
 pub one-value : {T : Type 0} (o : Option T) (x y : T) → o ≡ Some x → o ≡ Some y → x ≡ y

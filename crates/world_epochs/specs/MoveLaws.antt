@@ -29,10 +29,10 @@ use Rattle.world_base.specs.declared.client.Stage.{Stage}
 use Rattle.world_base.specs.declared.client.Stage.TheVariants as stage
 use Rattle.world_base.specs.declared.world.World.{World}
 use Rattle.world_base.specs.ClientTurns.{Move, after_end, asks, asks_or_goes, at_present, attempt_id, attempt_moves, begins_at, begun, command_at, command_moves, commits, ends, first_epoch, goes, group_asked, is_waiting, listed, member_asked, moved, moves_at, next_command, next_place, next_stage, op_moves, question, rests, run_moves, skip_at, waits}
-use Rattle.world_events.specs.Events.{Rules, client_plan, epoch_issued, or_issued, with_epoch}
-use Rattle.world_events.specs.Letters.{client, letters_of, talk_of, target}
-use Rattle.world_events.specs.StepLaws.{set-here}
-use Rattle.world_events.specs.Steps.{after_client, after_move}
+use Rattle.world_base.specs.Events.{Rules, client_plan, epoch_issued, or_issued, with_epoch}
+use Rattle.world_base.specs.Letters.{client, letters_of, talk_of, target}
+use Rattle.world_base.specs.StepLaws.{set-here}
+use Rattle.world_base.specs.Steps.{after_client, after_move}
 use Rattle.world_epochs.specs.Asking.{asks-first, asks-nothing, begins-first, goes-first, issuer-asked, issuer-leads, ops-at}
 use Rattle.world_epochs.specs.ClientLaws.{ByAttempt, ByCommand, IsEnding, IsNext, IsQuiet, Sends, SendsSome, ending-keeps, quiet-keeps, same-id}
 use Rattle.world_epochs.specs.Epochs.{AsksEpoch, AsksFirst, BearsEpoch, ClientsStand, Epochs, IsAt, IsIssued, IsPast, IsTold, IsUnissued, LacksEpoch, Unsnapped, answers_undated, first_question, is_unsnapped, issuer_of, left_to_ask, reads_snapshot}

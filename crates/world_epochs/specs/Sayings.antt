@@ -19,10 +19,10 @@ use Rattle.daos_model.specs.Ordered.{put}
 use Rattle.dtx_base.specs.declared.member.Parked.{Parked}
 use Rattle.world_base.specs.declared.did.Did.{Did}
 use Rattle.world_base.specs.declared.target.TargetMemory.{TargetMemory}
-use Rattle.world_turns.specs.Changes.{Change, Extends, Kept, Prepares, Settles, Steps, made}
+use Rattle.world_base.specs.Changes.{Change, Extends, Kept, Prepares, Settles, Steps, made}
 use Rattle.world_epochs.specs.Epochs.{AsksEpoch, BearsEpoch, LacksEpoch, answers_undated, reads_snapshot}
 use Rattle.world_epochs.specs.Lists.{contains-cons, contains-none}
-use Rattle.world_turns.specs.ChangeLaws.{lease-settled}
+use Rattle.world_base.specs.ChangeLaws.{lease-settled}
 
 -- pairs of an attempt and its epoch that are known
 abbrev pub Known : Type 1

@@ -9,7 +9,7 @@ use Rattle.world_base.specs.declared.client.ClientState.{ClientState}
 use Rattle.world_base.specs.declared.letter.Letter.{Letter}
 use Rattle.world_base.specs.declared.world.World.{World}
 use Rattle.world_base.specs.ClientTurns.{waits}
-use Rattle.world_events.specs.Letters.{Takes, is_talk_of, is_tell, talk_of}
+use Rattle.world_base.specs.Letters.{Takes, is_talk_of, is_tell, talk_of}
 use Rattle.world_epochs.specs.Epochs.{AsksEpoch, LacksEpoch}
 use Rattle.world_epochs.specs.Lists.{nothing-passes, taken-alone}
 use Rattle.world_talks.specs.TalkLaws.{taken-is-among}

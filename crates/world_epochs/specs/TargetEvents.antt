@@ -29,12 +29,12 @@ use Rattle.world_base.specs.declared.target.TargetPlan.{TargetPlan}
 use Rattle.world_base.specs.declared.target.TargetState.{TargetState}
 use Rattle.world_base.specs.declared.world.World.{World}
 use Rattle.world_base.specs.ClientTurns.{is_waiting, waits}
-use Rattle.world_events.specs.Events.{Rules, TargetHears, TargetIdles, after_turn, kept, listed, target_after, target_plan, with_epoch, with_target}
-use Rattle.world_events.specs.Letters.{client, is_talk_of, letter_of, letters_of, talk_of, target}
-use Rattle.world_turns.specs.Acks as ack
-use Rattle.world_turns.specs.Changes.{Kept}
-use Rattle.world_turns.specs.Requests.{epoch_of_ticks, issued_for, request_epoch}
-use Rattle.world_turns.specs.TargetTurns.{Hears, commit_request, fetch_request, prepare_request}
+use Rattle.world_base.specs.Events.{Rules, TargetHears, TargetIdles, after_turn, kept, listed, target_after, target_plan, with_epoch, with_target}
+use Rattle.world_base.specs.Letters.{client, is_talk_of, letter_of, letters_of, talk_of, target}
+use Rattle.world_base.specs.Acks as ack
+use Rattle.world_base.specs.Changes.{Kept}
+use Rattle.world_base.specs.Requests.{epoch_of_ticks, issued_for, request_epoch}
+use Rattle.world_base.specs.TargetTurns.{Hears, commit_request, fetch_request, prepare_request}
 use Rattle.world_epochs.specs.CommitTurns.{IsKnownCommit, commit-leaves}
 use Rattle.world_epochs.specs.Epochs.{AsksEpoch, BearsEpoch, Epochs, IsPresent, IsTold, IsUnissued, LacksEpoch, answers_undated, reads_snapshot}
 use Rattle.world_epochs.specs.FetchTurns.{Covers, Dates, IsDated, IsKnownFetch, IsSpent, fetch-leaves}
@@ -246,7 +246,7 @@ module _ (P : Known) (L : Spent) (t : TargetPlan) (opening : Epoch × FloorWhy) 
   hears-turns (message.Ack x inc refusal) plain K h =
       goes-on P L t m reading (message.Ack x inc refusal) old new left (ack-leaves P L t m from.number x inc refusal old.durable.lease old new left K.parked h (stands (message.Ack x inc refusal) K))
   hears-turns (message.Mark inc marks) plain K h =
-      goes-on P L t m reading (message.Mark inc marks) old new left (mark-leaves P L m from inc marks old.durable.lease old new left K.parked h (stands (message.Mark inc marks) K))
+      goes-on P L t m reading (message.Mark inc marks) old new left (mark-leaves P L t.me m from inc marks old.durable.lease old new left K.parked h (stands (message.Mark inc marks) K))
   hears-turns (message.Marked inc ids) plain K h =
       goes-on P L t m reading (message.Marked inc ids) old new left
       (marked-leaves P L t m from.number inc ids (ack.to_confirm inc ids old.durable) old.durable.lease old new left K.parked h (stands (message.Marked inc ids) K))

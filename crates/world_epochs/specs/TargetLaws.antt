@@ -16,9 +16,9 @@ use Rattle.world_base.specs.declared.target.TargetState.{TargetState}
 use Rattle.world_base.specs.declared.target.Life.TheVariants.{Running}
 use Rattle.world_base.specs.declared.world.World.{World}
 use Rattle.world_base.specs.ClientTurns.{attempt_id}
-use Rattle.world_events.specs.Events.{Rules, client_plan, listed}
-use Rattle.world_events.specs.Letters.{client}
-use Rattle.world_events.specs.StepLaws.{set-here, set-there}
+use Rattle.world_base.specs.Events.{Rules, client_plan, listed}
+use Rattle.world_base.specs.Letters.{client}
+use Rattle.world_base.specs.StepLaws.{set-here, set-there}
 use Rattle.world_epochs.specs.Epochs.{AsksEpoch, BearsEpoch, BearsIssued, Epochs, HasLine, IsIssued, IsPast, IsPresent, IsTold, IsUnissued, LacksEpoch, answers_undated, issuer_of, reads_snapshot}
 use Rattle.world_epochs.specs.Lists.{at-set, contains-none, contains-one, one-value, same-number}
 use Rattle.world_epochs.specs.Sayings.{AreKnown, AreParkedKnown, Known, known-each, parked-each}

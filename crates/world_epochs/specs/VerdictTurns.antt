@@ -16,13 +16,13 @@ use Rattle.world_base.specs.declared.did.Did.{Did}
 use Rattle.world_base.specs.declared.request.FetchRequest.{FetchRequest}
 use Rattle.world_base.specs.declared.target.TargetMemory.{TargetMemory}
 use Rattle.world_base.specs.declared.target.TargetPlan.{TargetPlan}
-use Rattle.world_turns.specs.Changes.{Change, Kept, Steps}
-use Rattle.world_turns.specs.PathLaws.{path-keeps}
-use Rattle.world_turns.specs.Reads as read
-use Rattle.world_turns.specs.Requests.{request_epoch}
-use Rattle.world_turns.specs.Roles.{joins_on, member_at}
-use Rattle.world_turns.specs.Turns.{Whole}
-use Rattle.world_turns.specs.Verdicts as turn
+use Rattle.world_base.specs.Changes.{Change, Kept, Steps}
+use Rattle.world_base.specs.PathLaws.{path-keeps}
+use Rattle.world_base.specs.Reads as read
+use Rattle.world_base.specs.Requests.{request_epoch}
+use Rattle.world_base.specs.Roles.{joins_on, member_at}
+use Rattle.world_base.specs.Turns.{Whole}
+use Rattle.world_base.specs.Verdicts as turn
 use Rattle.world_epochs.specs.FetchTurns.{FetchStands, IsKnownFetch, fetch-ends, fetch-step}
 use Rattle.world_epochs.specs.MemberTurns.{GoesOn}
 use Rattle.world_epochs.specs.Sayings.{AreParkedKnown, IsKnownAsk, Known, SaysAll, Spent, Stays, StepFits, parked-filter, says-both, step-stays}
@@ -117,7 +117,7 @@ module _ (P : Known) (L : Spent) (low : ℕ) (t : TargetPlan) (m : TargetMemory)
 
   verdict-step : (s : turn.VerdictStage) (k : Kept) (o : Option Change) (u : turn.VerdictStage) (l : Kept) → turn.VerdictNext t m reading a ask v s k o u → Steps o k l → VerdictSoFar s k → VerdictSoFar u l
   verdict-step s k o u l (turn.SettlesBy j c is) st h =
-      ((step-stays P low o k l (subst (StepFits P k) (sym is) (settling-fits k (turn.settles_by v a k.durable))) st h).0, verdict-frees P L t m a ask v parked)
+      ((step-stays P low o k l (subst (StepFits P k) (sym is) (settling-fits k (turn.settles_by t.me v a k.durable))) st h).0, verdict-frees P L t m a ask v parked)
   verdict-step s k o u l (turn.TriesNext j n posts rest x op group ep first tracker r snapshot) st h =
       let f : FreedKnown P L m.ticks (message.Fetch x op group ep first tracker r snapshot ∷ rest) n posts = h.1 in (
         (step-stays P low None k l tt st h.0).0,

@@ -43,8 +43,8 @@ use Rattle.world_base.specs.declared.letter.Letter.{Letter}
 use Rattle.world_base.specs.declared.target.TargetState.{TargetState}
 use Rattle.world_base.specs.declared.world.World.{World}
 use Rattle.world_base.specs.ClientTurns.{about, attempt_id, request_of}
-use Rattle.world_begins.specs.Begins.{held_at, versions_in}
-use Rattle.world_begins.specs.Whole.{Whole, held-before, runs-stay-whole}
+use Rattle.world_core.specs.Begins.{held_at, versions_in}
+use Rattle.world_core.specs.Whole.{Whole, held-before, runs-stay-whole}
 use Rattle.world_causes.specs.Causes.{MessageShows}
 use Rattle.world_clients.specs.Answered.{is_refusal}
 use Rattle.world_core.specs.Asking.{Facts}
@@ -53,8 +53,8 @@ use Rattle.world_core.specs.Everything.{AreBefore}
 use Rattle.world_ends.specs.Carried.{runs-carry}
 use Rattle.world_ends.specs.SureTells.{tells-plain}
 use Rattle.world_epochs.specs.Epochs.{IsIssued, IsPast, IsPresent}
-use Rattle.world_events.specs.Events.{Rules, client_plan}
-use Rattle.world_events.specs.Letters.{is_tell, target}
+use Rattle.world_base.specs.Events.{Rules, client_plan}
+use Rattle.world_base.specs.Letters.{is_tell, target}
 use Rattle.world_lines.specs.Lines.{HasLines, TellsEnd}
 use Rattle.world_lines.specs.Rising.{lines-rise, one-of-rising}
 use Rattle.world_reads.specs.ChangeLaws.{entry-among, entry-of-it}

@@ -35,22 +35,22 @@ use Rattle.world_base.specs.declared.target.TargetMemory.{TargetMemory}
 use Rattle.world_base.specs.declared.target.TargetPlan.{TargetPlan}
 use Rattle.world_base.specs.declared.target.TargetState.{TargetState}
 use Rattle.world_base.specs.declared.world.World.{World}
-use Rattle.world_begins.specs.Begins.{IsBegun}
-use Rattle.world_events.specs.Events.{Begins, ByClient, ByTarget, Event, Goes, Rules, Run, ToClient, ToTarget, kept, target_after, target_plan}
-use Rattle.world_events.specs.Letters.{client, letter_of, letters_of, target}
-use Rattle.world_events.specs.StepLaws.{set-is}
+use Rattle.world_core.specs.Begins.{IsBegun}
+use Rattle.world_base.specs.Events.{Begins, ByClient, ByTarget, Event, Goes, Rules, Run, ToClient, ToTarget, kept, target_after, target_plan}
+use Rattle.world_base.specs.Letters.{client, letter_of, letters_of, target}
+use Rattle.world_base.specs.StepLaws.{set-is}
 use Rattle.world_talks.specs.TalkLaws.{left-is-among}
-use Rattle.world_turns.specs.Acks as ack
-use Rattle.world_turns.specs.Changes.{Change, Kept, Steps}
-use Rattle.world_turns.specs.Commits as commit
-use Rattle.world_turns.specs.Idle.{AllSettled, IdleEnds, batch_of, idle_told, inquiry_of}
-use Rattle.world_turns.specs.Marks.{AllMarked, MarkEnds}
-use Rattle.world_turns.specs.PathLaws.{path-keeps}
-use Rattle.world_turns.specs.Prepares as prepare
-use Rattle.world_turns.specs.Reads as read
-use Rattle.world_turns.specs.Roles.{leader_at, member_at, with_unsettled}
-use Rattle.world_turns.specs.TargetTurns.{Hears, commit_request, fetch_request, prepare_request}
-use Rattle.world_turns.specs.Verdicts as verdict
+use Rattle.world_base.specs.Acks as ack
+use Rattle.world_base.specs.Changes.{Change, Kept, Steps}
+use Rattle.world_base.specs.Commits as commit
+use Rattle.world_base.specs.Idle.{AllSettled, IdleEnds, batch_of, idle_told, inquiry_of}
+use Rattle.world_base.specs.Marks.{AllMarked, MarkEnds}
+use Rattle.world_base.specs.PathLaws.{path-keeps}
+use Rattle.world_base.specs.Prepares as prepare
+use Rattle.world_base.specs.Reads as read
+use Rattle.world_base.specs.Roles.{leader_at, member_at, with_unsettled}
+use Rattle.world_base.specs.TargetTurns.{Hears, commit_request, fetch_request, prepare_request}
+use Rattle.world_base.specs.Verdicts as verdict
 
 -- ---- what is sent
 

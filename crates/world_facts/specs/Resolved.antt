@@ -11,7 +11,7 @@ use Rattle.daos_model.specs.Opening.{Opening}
 use Rattle.world_base.specs.declared.world.World.{World}
 use Rattle.world_ends.specs.Ends.{durables_of}
 use Rattle.world_epochs.specs.Epochs.{IsIssued}
-use Rattle.world_events.specs.Events.{Rules}
+use Rattle.world_base.specs.Events.{Rules}
 use Rattle.world_reads.specs.Transactions.{decided_of}
 use Rattle.world_facts.specs.Facts.{HasAbortedSign, HasDecidedSign}
 

@@ -31,8 +31,8 @@ use Rattle.world_attempts.specs.History.{Decided, History, decides, is_decided}
 use Rattle.world_attempts.specs.MarkTurns.{found-attempt}
 use Rattle.world_base.specs.declared.target.TargetState.{TargetState}
 use Rattle.world_base.specs.declared.world.World.{World}
-use Rattle.world_begins.specs.Begins.{IsOpeningPlain, held_at}
-use Rattle.world_begins.specs.Whole.{Whole, held-before, runs-stay-whole}
+use Rattle.world_core.specs.Begins.{IsOpeningPlain, held_at}
+use Rattle.world_core.specs.Whole.{Whole, held-before, runs-stay-whole}
 use Rattle.world_core.specs.Asking.{Facts, requests-are-right, same-epoch}
 use Rattle.world_core.specs.Everything.{AreBefore}
 use Rattle.world_core.specs.ScriptForm.{of-end}
@@ -40,7 +40,7 @@ use Rattle.world_ends.specs.Ends.{durables_of}
 use Rattle.world_ends.specs.FamilyStands.{below-lease, mark-below}
 use Rattle.world_ends.specs.LastStand.{from-durables}
 use Rattle.world_epochs.specs.Epochs.{IsIssued}
-use Rattle.world_events.specs.Events.{Rules}
+use Rattle.world_base.specs.Events.{Rules}
 use Rattle.world_reads.specs.ChangeLaws.{WasDecided, decided-has, entry-among, has-decided}
 use Rattle.world_reads.specs.DecideLaws.{Elsewhere, Held, IsHeldOrElsewhere, MayBeDecided, decides-stands, stays-apart}
 use Rattle.world_reads.specs.Given.{Given}

@@ -5,9 +5,9 @@ use Rattle.daos_model.specs.Opening.{Opening}
 use Rattle.dtx_base.specs.Members.{has_target}
 use Rattle.world_attempts.specs.Attempts.{IsSettled}
 use Rattle.world_base.specs.declared.world.World.{World}
-use Rattle.world_begins.specs.Begins.{IsBegun, IsSimple}
-use Rattle.world_events.specs.Ended.{HasEnded}
-use Rattle.world_events.specs.Events.{Rules, Run}
+use Rattle.world_core.specs.Begins.{IsBegun, IsSimple}
+use Rattle.world_base.specs.Ended.{HasEnded}
+use Rattle.world_base.specs.Events.{Rules, Run}
 use Rattle.world_facts.specs.Facts.{HasEntry, IsMember}
 
 -- an entry names a target as the leader of its attempt, or as a member

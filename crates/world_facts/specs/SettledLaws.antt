@@ -15,12 +15,12 @@ use Rattle.world_attempts.specs.History.{History}
 use Rattle.world_attempts.specs.MemberBits.{other-from_test}
 use Rattle.world_base.specs.declared.target.TargetState.{TargetState}
 use Rattle.world_base.specs.declared.world.World.{World}
-use Rattle.world_begins.specs.Begins.{IsBegun, IsSimple, held_at}
-use Rattle.world_begins.specs.Whole.{Whole, held-before, runs-stay-whole}
+use Rattle.world_core.specs.Begins.{IsBegun, IsSimple, held_at}
+use Rattle.world_core.specs.Whole.{Whole, held-before, runs-stay-whole}
 use Rattle.world_core.specs.Asking.{Facts}
 use Rattle.world_ends.specs.FromBeginning.{ended-runs-are-settled}
-use Rattle.world_events.specs.Ended.{HasEnded}
-use Rattle.world_events.specs.Events.{Rules, Run}
+use Rattle.world_base.specs.Ended.{HasEnded}
+use Rattle.world_base.specs.Events.{Rules, Run}
 use Rattle.world_reads.specs.ChangeLaws.{entry-among}
 use Rattle.world_facts.specs.FactLaws.{entries-at-each-moment, entry-there, there-at-first}
 use Rattle.world_facts.specs.Facts.{HasEntry, IsHeldCommitted, IsMember, IsTarget}

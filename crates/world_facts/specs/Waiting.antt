@@ -15,7 +15,7 @@ use Rattle.world_attempts.specs.History.{History}
 use Rattle.world_base.specs.declared.letter.Letter.{Letter}
 use Rattle.world_base.specs.declared.target.TargetState.{TargetState}
 use Rattle.world_base.specs.declared.world.World.{World}
-use Rattle.world_events.specs.Events.{Rules}
+use Rattle.world_base.specs.Events.{Rules}
 use Rattle.world_facts.specs.Facts.{AwaitsMember}
 
 -- where not all pass, one doesn't

@@ -22,7 +22,7 @@ use Rattle.daos_model.specs.Cells.{index_cell, single_cell, value_at}
 use Rattle.daos_model.specs.ReadsLegal.{IsRightAnswer, IsRightCondition, IsToldRight}
 use Rattle.daos_model.specs.Transactions.{read_of, read_of_op}
 use Rattle.daos_report.specs.Forms.{IsAnswer, IsCond, IsGot, IsPiece}
-use Rattle.world_forms.specs.Keyed.{MapHasKeys}
+use Rattle.daos_runnable.specs.Keyed.{MapHasKeys}
 use Rattle.world_forms.specs.KeyLaws.{akey-names, dkey-names}
 
 -- ---- pieces

@@ -1,5 +1,4 @@
 -- A run that has ended gives a report in the form in which its text determines it.
-pub mod Keyed
 pub mod KeyLaws
 pub mod AnswerForms
 pub mod NumberForms

@@ -34,7 +34,7 @@ use Rattle.world_ends.specs.FormLaws.{command-plain}
 use Rattle.world_epochs.specs.Epochs.{Unsnapped, is_unsnapped}
 use Rattle.daos_laws.specs.EntryLaws.{same-attempt}
 use Rattle.daos_laws.specs.Lists.{any-all}
-use Rattle.world_forms.specs.Keyed.{ScriptHasKeys}
+use Rattle.daos_runnable.specs.Keyed.{ScriptHasKeys}
 use Rattle.world_forms.specs.PathForms.{attempt-paths, attempt-writes}
 use Rattle.world_forms.specs.SpaceForms.{space-form}
 

@@ -22,7 +22,7 @@ use Rattle.daos_model.specs.Accesses.{minor_write, minor_writes, op_path}
 use Rattle.daos_model.specs.Transactions.{attempt_ops}
 use Rattle.daos_report.specs.Forms.{HasNames, IsBelowOf, IsContOf, IsObjOf, IsPathOf}
 use Rattle.world_gots.specs.FormLaws.{ops-form}
-use Rattle.world_forms.specs.Keyed.{HasKeys, IsKeyOrNone, OpHasKeys, ScriptHasKeys}
+use Rattle.daos_runnable.specs.Keyed.{HasKeys, IsKeyOrNone, OpHasKeys, ScriptHasKeys}
 use Rattle.world_forms.specs.KeyLaws.{attempt-keys}
 
 -- ---- what is so of all is so of one that is shown

@@ -32,7 +32,7 @@ use Rattle.world_ends.specs.FormLaws.{no-snapshots}
 use Rattle.world_epochs.specs.Epochs.{Unsnapped}
 use Rattle.world_gots.specs.FormLaws.{ops-form}
 use Rattle.world_forms.specs.AnswerForms.{told-form}
-use Rattle.world_forms.specs.Keyed.{MapHasKeys, ScriptHasKeys}
+use Rattle.daos_runnable.specs.Keyed.{MapHasKeys, ScriptHasKeys}
 use Rattle.world_forms.specs.KeyLaws.{as_of-keys, took-keys}
 use Rattle.world_forms.specs.NumberForms.{id-form}
 use Rattle.world_forms.specs.OutcomeForms.{ArePlainLines, outcome-form}

@@ -14,16 +14,16 @@ use Rattle.daos_model.specs.Opening.{Given, Opening, fresh, top, undisturbed}
 use Rattle.daos_report.specs.Forms.{IsEpochOrNone, IsReportOf}
 use Rattle.world_attempts.specs.History.{History}
 use Rattle.world_base.specs.declared.world.World.{World}
-use Rattle.world_begins.specs.Begins.{IsBegun, IsSimple, held_at}
+use Rattle.world_core.specs.Begins.{IsBegun, IsSimple, held_at}
 use Rattle.world_ends.specs.Carried.{CarriedBy, runs-carry}
 use Rattle.world_ends.specs.Ends.{report_of, rules_of}
 use Rattle.world_ends.specs.FromBeginning.{runs-give-the-headline}
 use Rattle.world_ends.specs.SureTells.{tells-plain}
 use Rattle.world_epochs.specs.Epochs.{Epochs, IsIssued}
-use Rattle.world_events.specs.Ended.{HasEnded}
-use Rattle.world_events.specs.Events.{Rules, Run}
+use Rattle.world_base.specs.Ended.{HasEnded}
+use Rattle.world_base.specs.Events.{Rules, Run}
 use Rattle.world_reads.specs.Versions.{Versions}
-use Rattle.world_forms.specs.Keyed.{CellHasKeys, MapHasKeys, ScriptHasKeys}
+use Rattle.daos_runnable.specs.Keyed.{CellHasKeys, MapHasKeys, ScriptHasKeys}
 use Rattle.world_forms.specs.ReportForms.{IsPlainReport, report-form}
 
 -- ---- the statements

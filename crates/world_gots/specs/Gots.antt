@@ -22,8 +22,8 @@ use Rattle.world_base.specs.declared.letter.Letter.{Letter}
 use Rattle.world_base.specs.declared.world.World.{World}
 use Rattle.world_base.specs.ClientTurns.{attempt_id, group_asked, group_count, is_yes, joined, knows_epoch, question}
 use Rattle.world_clients.specs.Answered.{ops_here}
-use Rattle.world_events.specs.Events.{Rules, client_plan}
-use Rattle.world_events.specs.Letters.{client}
+use Rattle.world_base.specs.Events.{Rules, client_plan}
+use Rattle.world_base.specs.Letters.{client}
 use Rattle.world_attempts.specs.History.{History, Served}
 
 -- ---- one group, and several

@@ -8,7 +8,7 @@ use Rattle.daos_base.specs.declared.operation.Op.{Op}
 use Rattle.daos_base.specs.declared.operation.Read.{Read}
 use Rattle.world_base.specs.declared.client.Present.{Present}
 use Rattle.world_base.specs.ClientTurns.{knows, knows_epoch}
-use Rattle.world_events.specs.Events.{or_issued}
+use Rattle.world_base.specs.Events.{or_issued}
 use Rattle.world_gots.specs.Gots.{AreJoined, AreServed, Found, IsFound, IsGot, IsServedSoFar, IsServedTo, IsTold, Nothing, NoneYet, OneMore}
 use Rattle.world_gots.specs.Remembering.{Remembers}
 use Rattle.world_attempts.specs.History.{History}

@@ -12,8 +12,8 @@ use Rattle.world_base.specs.declared.client.ClientState.{ClientState}
 use Rattle.world_base.specs.declared.target.TargetState.{TargetState}
 use Rattle.world_base.specs.declared.world.World.{World}
 use Rattle.world_clients.specs.Standing.{HasTold}
-use Rattle.world_events.specs.Events.{ByClient, ByTarget, Event, Rules, TargetHears, ToClient, ToTarget, client_plan}
-use Rattle.world_events.specs.Letters.{client}
+use Rattle.world_base.specs.Events.{ByClient, ByTarget, Event, Rules, TargetHears, ToClient, ToTarget, client_plan}
+use Rattle.world_base.specs.Letters.{client}
 use Rattle.world_gots.specs.Gots.{Gots}
 use Rattle.world_attempts.specs.History.{History, Served}
 use Rattle.world_reads.specs.Adds.{AreAnswered}

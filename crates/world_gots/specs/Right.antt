@@ -21,7 +21,7 @@ use Rattle.daos_model.specs.Attempts.{snapshot_of}
 use Rattle.daos_model.specs.Opening.{Opening}
 use Rattle.daos_model.specs.ReadsLegal.{AttemptReadsLegal, IsToldRight, ReadsLegal, is_named}
 use Rattle.world_base.specs.declared.world.World.{World}
-use Rattle.world_events.specs.Events.{Rules}
+use Rattle.world_base.specs.Events.{Rules}
 use Rattle.world_gots.specs.Gots.{AreServed, Gots, IsJoined, IsLineServed}
 use Rattle.world_attempts.specs.History.{History, Served}
 use Rattle.world_reads.specs.Transactions.{transactions}

@@ -20,7 +20,7 @@ use Rattle.daos_model.specs.Answers.{answer}
 use Rattle.daos_model.specs.Opening.{Opening}
 use Rattle.std.proofs.lemmas.List.{map_push}
 use Rattle.world_base.specs.ClientTurns.{group_asked, group_count, joined}
-use Rattle.world_events.specs.Events.{Rules}
+use Rattle.world_base.specs.Events.{Rules}
 use Rattle.world_gots.specs.Gots.{AreJoined, IsJoined, IsServedTo, NoneYet, OneMore, group_at, groups_asked}
 use Rattle.world_gots.specs.Right.{AreAnsweredRight, IsJoinable, JoinsAreRight}
 use Rattle.world_attempts.specs.History.{History}

@@ -27,10 +27,10 @@ use Rattle.world_base.specs.ClientTurns.{Move, attempt_id, listed, moved, waits}
 use Rattle.world_clients.specs.Answered.{ops_here, ops_numbered}
 use Rattle.world_clients.specs.MoveLaws.{moved-keeps}
 use Rattle.world_clients.specs.Standing.{HasTold}
-use Rattle.world_events.specs.Events.{Rules, client_plan, with_epoch}
-use Rattle.world_events.specs.Letters.{client, is_tell, letter_of, letters_of}
-use Rattle.world_events.specs.StepLaws.{set-here, set-there}
-use Rattle.world_events.specs.Steps.{KeptByMoves, after_move}
+use Rattle.world_base.specs.Events.{Rules, client_plan, with_epoch}
+use Rattle.world_base.specs.Letters.{client, is_tell, letter_of, letters_of}
+use Rattle.world_base.specs.StepLaws.{set-here, set-there}
+use Rattle.world_base.specs.Steps.{KeptByMoves, after_move}
 use Rattle.world_gots.specs.Gots.{AreServed, Gots, IsLineServed, IsServedAnswer, IsServedSoFar}
 use Rattle.world_gots.specs.GotLaws.{IsServedHere, IsToldServed, KeepsGots, moved-gots}
 use Rattle.world_gots.specs.MoreLaws.{all-mapped, served-more, stays-issued}

@@ -35,12 +35,12 @@ use Rattle.dtx_base.specs.Members.{all_targets}
 use Rattle.dtx_base.specs.Rows.{is_empty}
 use Rattle.world_reads.specs.Adds.{Heard, IsAnswered, IsAskedIn, Waited, served_at}
 use Rattle.world_talks.specs.Carriers.{is_fetch_of}
-use Rattle.world_turns.specs.Idle.{AllSettled, IdleEnds, batch_of, inquiry_of}
-use Rattle.world_turns.specs.MemoryLaws.{hears-follows, idles-follows}
-use Rattle.world_turns.specs.Roles.{leader_at, member_at, with_unsettled}
+use Rattle.world_base.specs.Idle.{AllSettled, IdleEnds, batch_of, inquiry_of}
+use Rattle.world_base.specs.MemoryLaws.{hears-follows, idles-follows}
+use Rattle.world_base.specs.Roles.{leader_at, member_at, with_unsettled}
 use Rattle.world_clients.specs.MoveLaws.{clients-begin}
-use Rattle.world_events.specs.Events.{ByClient, ByTarget, Rules, TargetHears, TargetIdles, ToClient, ToTarget, client_plan, kept, target_plan, with_epoch}
-use Rattle.world_events.specs.Letters.{client, letter_of, letters_of, target}
+use Rattle.world_base.specs.Events.{ByClient, ByTarget, Rules, TargetHears, TargetIdles, ToClient, ToTarget, client_plan, kept, target_plan, with_epoch}
+use Rattle.world_base.specs.Letters.{client, letter_of, letters_of, target}
 use Rattle.world_gots.specs.Gots.{Gots, IsLineServed, IsServedAnswer}
 use Rattle.world_gots.specs.MoreLaws.{all-more, remembered-more, served-more, stays-remembered}
 use Rattle.world_gots.specs.Remembering.{AreRemembered, NothingIsTold, Remembers, ServedIsTold, Standing, ToldServed}
@@ -53,8 +53,8 @@ use Rattle.world_talks.specs.Conversation.{is_request}
 use Rattle.world_talks.specs.ConversationLaws.{conversations-begin, conversations-kept}
 use Rattle.world_talks.specs.InFlight.{hears-request, parked-is}
 use Rattle.world_talks.specs.TalkLaws.{left-is-among}
-use Rattle.world_turns.specs.Changes.{Kept}
-use Rattle.world_turns.specs.Requests.{fetch_message}
+use Rattle.world_base.specs.Changes.{Kept}
+use Rattle.world_base.specs.Requests.{fetch_message}
 
 -- ---- what is asked
 

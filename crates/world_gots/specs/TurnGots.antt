@@ -17,10 +17,10 @@ use Rattle.world_base.specs.declared.world.World.{World}
 use Rattle.world_base.specs.ClientTurns.{Move, attempt_id, goes, heard, hears_epochs, knows, listed, replied, rests}
 use Rattle.world_clients.specs.MoveLaws.{heard-keeps}
 use Rattle.world_clients.specs.Standing.{HasTold}
-use Rattle.world_events.specs.Events.{ClientGoes, ClientHears, Rules, client_plan, with_client}
-use Rattle.world_events.specs.Letters.{Takes, client, is_tell, letters_of, talk_of}
-use Rattle.world_events.specs.StepLaws.{by-hearing, by-next}
-use Rattle.world_events.specs.Steps.{KeptByCounting, KeptByHearing, after_move, without}
+use Rattle.world_base.specs.Events.{ClientGoes, ClientHears, Rules, client_plan, with_client}
+use Rattle.world_base.specs.Letters.{Takes, client, is_tell, letters_of, talk_of}
+use Rattle.world_base.specs.StepLaws.{by-hearing, by-next}
+use Rattle.world_base.specs.Steps.{KeptByCounting, KeptByHearing, after_move, without}
 use Rattle.world_gots.specs.Gots.{Gots, IsServedAnswer}
 use Rattle.world_gots.specs.GotLaws.{Here, IsServedHere, KeepsGots, at-command, silent-gots}
 use Rattle.world_gots.specs.HearGots.{answer-gots, ended-gots, outcome-gots}

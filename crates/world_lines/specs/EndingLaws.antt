@@ -37,10 +37,10 @@ use Rattle.world_base.specs.declared.target.TargetMemory.{TargetMemory}
 use Rattle.world_base.specs.declared.target.TargetPlan.{TargetPlan}
 use Rattle.world_base.specs.declared.world.World.{World}
 use Rattle.world_base.specs.ClientTurns.{Move, heard, hears_epochs, knows, listed, moved, waits}
-use Rattle.world_events.specs.Events.{with_epoch, ByClient, ByTarget, Event, Rules, TargetHears, TargetIdles, ToClient, ToTarget, client_plan, kept, target_plan}
-use Rattle.world_events.specs.Letters.{Takes, client, letter_of, letters_of, target}
-use Rattle.world_events.specs.StepLaws.{by-hearing, by-next}
-use Rattle.world_events.specs.Steps.{KeptByCounting, KeptByHearing, KeptByMoves, after_move, without}
+use Rattle.world_base.specs.Events.{with_epoch, ByClient, ByTarget, Event, Rules, TargetHears, TargetIdles, ToClient, ToTarget, client_plan, kept, target_plan}
+use Rattle.world_base.specs.Letters.{Takes, client, letter_of, letters_of, target}
+use Rattle.world_base.specs.StepLaws.{by-hearing, by-next}
+use Rattle.world_base.specs.Steps.{KeptByCounting, KeptByHearing, KeptByMoves, after_move, without}
 use Rattle.world_lines.specs.LineLaws.{lines-by-counting, lines-by-hearing, lines-by-moves}
 use Rattle.world_lines.specs.Lines.{Endings, HasLines, Lines, MayEnd, TellsEnd, is_member_refusal}
 use Rattle.world_talks.specs.AskLaws.{move-is, waiting-rests}
@@ -50,17 +50,17 @@ use Rattle.world_talks.specs.ConversationLaws.{conversations-kept, count-keeps, 
 use Rattle.world_talks.specs.HearLaws.{ended-silent, replied-silent}
 use Rattle.world_talks.specs.Hearing.{ATracker, AReply, AnEnd, IsHearing, hearing-is}
 use Rattle.world_talks.specs.TalkLaws.{left-is-among, taken-is-among}
-use Rattle.world_turns.specs.Acks as ack
-use Rattle.world_turns.specs.Changes.{Change, Kept, Steps}
-use Rattle.world_turns.specs.Commits as commit
-use Rattle.world_turns.specs.Idle.{AllSettled, IdleEnds, batch_of, idle_told, inquiry_of}
-use Rattle.world_turns.specs.Marks.{AllMarked, MarkEnds}
-use Rattle.world_turns.specs.PathLaws.{path-keeps}
-use Rattle.world_turns.specs.Prepares as prepare
-use Rattle.world_turns.specs.Reads as read
-use Rattle.world_turns.specs.Roles.{leader_at, member_at, with_unsettled}
-use Rattle.world_turns.specs.TargetTurns.{Hears, commit_request, fetch_request, prepare_request}
-use Rattle.world_turns.specs.Verdicts as verdict
+use Rattle.world_base.specs.Acks as ack
+use Rattle.world_base.specs.Changes.{Change, Kept, Steps}
+use Rattle.world_base.specs.Commits as commit
+use Rattle.world_base.specs.Idle.{AllSettled, IdleEnds, batch_of, idle_told, inquiry_of}
+use Rattle.world_base.specs.Marks.{AllMarked, MarkEnds}
+use Rattle.world_base.specs.PathLaws.{path-keeps}
+use Rattle.world_base.specs.Prepares as prepare
+use Rattle.world_base.specs.Reads as read
+use Rattle.world_base.specs.Roles.{leader_at, member_at, with_unsettled}
+use Rattle.world_base.specs.TargetTurns.{Hears, commit_request, fetch_request, prepare_request}
+use Rattle.world_base.specs.Verdicts as verdict
 
 -- ---- what is sent
 

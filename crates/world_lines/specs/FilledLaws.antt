@@ -16,7 +16,7 @@ use Rattle.daos_model.specs.Order.{AreAttempts, AreInTurn}
 use Rattle.std.proofs.lemmas.List.{map-append}
 use Rattle.world_base.specs.declared.client.ClientPlan.{ClientPlan}
 use Rattle.world_clients.specs.Standing.{AreOfPresent, AreTriedAgain, Stands}
-use Rattle.world_events.specs.Events.{with_epoch}
+use Rattle.world_base.specs.Events.{with_epoch}
 use Rattle.world_lines.specs.Lines.{AreTheSame, filled}
 
 -- ---- lists of the same

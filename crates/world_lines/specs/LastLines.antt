@@ -17,7 +17,7 @@ use Rattle.world_base.specs.declared.world.World.{World}
 use Rattle.world_base.specs.ClientTurns.{is_done}
 use Rattle.world_clients.specs.Answered.{EndsAsAnswered, EndsWell, ops_numbered}
 use Rattle.world_clients.specs.MoveLaws.{clients-end}
-use Rattle.world_events.specs.Events.{Rules, client_plan, commands_or_none}
+use Rattle.world_base.specs.Events.{Rules, client_plan, commands_or_none}
 use Rattle.world_lines.specs.Lines.{AreTheSame, IsTheSame, Lines}
 
 -- every client's commands are over, and it is at no attempt

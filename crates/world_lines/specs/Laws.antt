@@ -5,7 +5,7 @@ use Rattle.daos_model.specs.Order.{AllInTurn}
 use Rattle.world_base.specs.declared.client.ClientState.{ClientState}
 use Rattle.world_base.specs.declared.world.World.{World}
 use Rattle.world_clients.specs.Answered.{EndsAsAnswered}
-use Rattle.world_events.specs.Events.{Event, Rules, client_plan}
+use Rattle.world_base.specs.Events.{Event, Rules, client_plan}
 use Rattle.world_lines.specs.EndingLaws.{Spoken}
 use Rattle.world_lines.specs.LastLines.{AreDone, HasClients}
 use Rattle.world_lines.specs.Lines.{Lines}

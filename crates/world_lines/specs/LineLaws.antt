@@ -28,10 +28,10 @@ use Rattle.world_clients.specs.AnswerLaws.{Tells, heard-answered, moved-answered
 use Rattle.world_clients.specs.Answered.{IsFit, IsFitHere, IsReplyFit, is_refusal, ops_here}
 use Rattle.world_clients.specs.MoveLaws.{heard-keeps, moved-keeps}
 use Rattle.world_clients.specs.Standing.{number_of}
-use Rattle.world_events.specs.Events.{Rules, client_plan, with_client, with_epoch}
-use Rattle.world_events.specs.Letters.{Takes, client, is_tell}
-use Rattle.world_events.specs.StepLaws.{set-here, set-there}
-use Rattle.world_events.specs.Steps.{KeptByCounting, KeptByMoves, after_move, without}
+use Rattle.world_base.specs.Events.{Rules, client_plan, with_client, with_epoch}
+use Rattle.world_base.specs.Letters.{Takes, client, is_tell}
+use Rattle.world_base.specs.StepLaws.{set-here, set-there}
+use Rattle.world_base.specs.Steps.{KeptByCounting, KeptByMoves, after_move, without}
 use Rattle.world_lines.specs.FilledLaws.{AreOf, others-same, own-more, same-append, same-filled, stands-of}
 use Rattle.world_lines.specs.Lines.{AreTheSame, Endings, HasLines, IsCommitted, IsRefusalOrNone, Lines, TellsEnd, filled}
 use Rattle.world_talks.specs.Asked.{ARead, ASnapshot, AnAggregation, Asked, ItsWrites}

@@ -17,7 +17,7 @@ use Rattle.world_base.specs.declared.letter.Letter.{Letter}
 use Rattle.world_base.specs.declared.world.World.{World}
 use Rattle.world_clients.specs.AnswerLaws.{Tells}
 use Rattle.world_clients.specs.Answered.{is_refusal}
-use Rattle.world_events.specs.Events.{Rules, client_plan, or_issued}
+use Rattle.world_base.specs.Events.{Rules, client_plan, or_issued}
 
 -- an attempt as it stands in the lines: where its client knew no epoch of it, with the one that was issued
 abbrev pub filled : List (AttemptId × Epoch) → Attempt → Attempt

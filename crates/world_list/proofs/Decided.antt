@@ -18,10 +18,10 @@ use Rattle.world_base.specs.declared.target.TargetState.{TargetState}
 use Rattle.world_base.specs.declared.world.Numbers.{Numbers}
 use Rattle.world_base.specs.declared.world.World.{World}
 use Rattle.world_base.specs.ClientTurns.{HearTurn, NextTurn}
-use Rattle.world_events.specs.Events.{Rules, after_turn, client_plan, with_client}
-use Rattle.world_events.specs.StepLaws.{set-here, set-there}
+use Rattle.world_base.specs.Events.{Rules, after_turn, client_plan, with_client}
+use Rattle.world_base.specs.StepLaws.{set-here, set-there}
 use Rattle.world_list.specs.Fitting.{AreInPlace}
-use Rattle.world_events.specs.Letters.{Takes, client}
+use Rattle.world_base.specs.Letters.{Takes, client}
 use Rattle.world_list.specs.OneTurn.{OneTurn}
 use Rattle.world_list.specs.RunLists.{ClientHearsAs, GoesAs}
 use Rattle.world_list.specs.Following.{FollowIs, IsAfter}

@@ -3,7 +3,7 @@ use Rattle.std.proofs.Common.{inl, inr, List, [], ◌∷◌, Option, Some, None}
 use Rattle.daos_messages.specs.declared.actor.ActorId.{ActorId}
 use Rattle.world_base.specs.declared.letter.Letter.{Letter}
 use Rattle.world_base.specs.declared.world.World.{World}
-use Rattle.world_events.specs.Events.{Begins, ByClient, ByTarget, Event as OneEvent, Goes, Rules, Run, ToClient, ToTarget}
+use Rattle.world_base.specs.Events.{Begins, ByClient, ByTarget, Event as OneEvent, Goes, Rules, Run, ToClient, ToTarget}
 use Rattle.world_list.specs.RunLists.{IsRunFrom, LeadsTo, ListsAreRuns, last_world, rules_of}
 use Rattle.world_list.specs.declared.events.Event.{Event}
 use Rattle.world_list.specs.declared.events.EventKind.{EventKind}

@@ -3,7 +3,7 @@ use Rattle.std.specs.Prelude.{ℕ, ◌≡◌, slice_get, Some}
 use Rattle.client_core.specs.Clients.{IsInPlace, PlanFits}
 use Rattle.world_base.specs.declared.client.ClientState.{ClientState}
 use Rattle.world_base.specs.declared.world.World.{World}
-use Rattle.world_events.specs.Events.{Rules, client_plan}
+use Rattle.world_base.specs.Events.{Rules, client_plan}
 
 -- what each client has to do can be done
 abbrev pub PlansFit : Rules → Type 0

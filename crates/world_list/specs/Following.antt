@@ -4,8 +4,8 @@ use Rattle.daos_messages.specs.declared.actor.ActorId.{ActorId}
 use Rattle.world_base.specs.declared.client.ClientState.{ClientState}
 use Rattle.world_base.specs.declared.did.Did.{Did}
 use Rattle.world_base.specs.declared.world.World.{World}
-use Rattle.world_events.specs.Events.{listed, with_epoch}
-use Rattle.world_events.specs.Letters.{letters_of}
+use Rattle.world_base.specs.Events.{listed, with_epoch}
+use Rattle.world_base.specs.Letters.{letters_of}
 use Rattle.world_list.specs.declared.follow.Follow.{Follow}
 
 -- what follows from a turn of an actor

@@ -4,8 +4,8 @@ use Rattle.daos_messages.specs.declared.actor.ActorId.{ActorId}
 use Rattle.world_base.specs.declared.letter.Letter.{Letter}
 use Rattle.world_base.specs.declared.world.World.{World}
 use Rattle.replay_base.specs.Heard.{CanHear}
-use Rattle.world_events.specs.Events.{ClientGoes, ClientHears, Rules, Run, TargetHears, TargetIdles, target_plan}
-use Rattle.world_events.specs.Letters.{client, target}
+use Rattle.world_base.specs.Events.{ClientGoes, ClientHears, Rules, Run, TargetHears, TargetIdles, target_plan}
+use Rattle.world_base.specs.Letters.{client, target}
 use Rattle.world_list.specs.Fitting.{StartsWell}
 use Rattle.world_list.specs.declared.events.Event.{Event}
 use Rattle.world_list.specs.declared.events.Events.{Events}
@@ -32,7 +32,7 @@ pub record TargetHearsAs (r : Rules) (w : World) (a : ActorId) (l : Letter) (v :
   pub by : a ≡ target event.t
   pub letter : l ≡ event.l
   pub placed : event.t < r.script.targets
-  pub form : CanHear (target_plan r event.t) event.s.durable event.s.memory l.from l.message
+  pub form : CanHear (target_plan r event.t) event.s.durable event.s.memory l.message
 
 -- one of them does its idle work
 pub record IdlesAs (r : Rules) (w : World) (a : ActorId) (v : World) : Type 0 where

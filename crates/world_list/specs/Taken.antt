@@ -1,7 +1,7 @@
 -- Letters in flight once one of them was heard and others were sent.
 use Rattle.std.specs.Prelude.{ℕ, ◌≡◌, ◌+◌, ◌++◌, List, Some, slice_get, take, drop}
 use Rattle.world_base.specs.declared.letter.Letter.{Letter}
-use Rattle.world_events.specs.Letters.{Takes}
+use Rattle.world_base.specs.Letters.{Takes}
 
 -- the letter at this place was taken
 pub record IsTakenAt (after before : List Letter) (at : ℕ) (l : Letter) (sent : List Letter) : Type 0 where

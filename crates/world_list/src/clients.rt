@@ -1,6 +1,6 @@
 // A client's turn as an event: whether it leads from one world to another.
 ghost use Rattle.std.specs.Prelude.{◌≡◌, ◌<◌, length, slice_get, true, Some, IfOk, Decides};
-ghost use Rattle.world_events.specs.Events.{client_plan};
+ghost use Rattle.world_base.specs.Events.{client_plan};
 ghost use Rattle.world_list.specs.Fitting.{AreInPlace, PlansFit};
 ghost use Rattle.world_list.specs.Following.{IsAfter};
 ghost use Rattle.world_list.specs.RunLists.{ClientHearsAs, GoesAs, rules_of};

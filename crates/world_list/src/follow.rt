@@ -1,7 +1,7 @@
 // What follows from a turn, as it is added to the world.
 ghost use Rattle.std.specs.Prelude.{◌≡◌, map, IfOk, Decides};
-ghost use Rattle.world_events.specs.Events.{listed, with_epoch};
-ghost use Rattle.world_events.specs.Letters.{letters_of};
+ghost use Rattle.world_base.specs.Events.{listed, with_epoch};
+ghost use Rattle.world_base.specs.Letters.{letters_of};
 ghost use Rattle.world_list.specs.Following.{FollowIs, IsTold};
 
 use daos_base::epoch::Epoch;

@@ -10,10 +10,10 @@ use Rattle.daos_model.specs.Attempts.{tries}
 use Rattle.daos_model.specs.Opening.{Opening}
 use Rattle.daos_model.specs.Order.{AllRise}
 use Rattle.world_base.specs.declared.world.World.{World}
-use Rattle.world_begins.specs.Begins.{IsSimple, IsBegun}
+use Rattle.world_core.specs.Begins.{IsSimple, IsBegun}
 use Rattle.world_ends.specs.Ends.{report_of}
 use Rattle.world_epochs.specs.Epochs.{issuer_of}
-use Rattle.world_events.specs.Events.{Rules, Run}
+use Rattle.world_base.specs.Events.{Rules, Run}
 
 -- one of the targets issued each epoch
 abbrev pub AreIssuedThere : Report → Type 0

@@ -28,7 +28,7 @@ use Rattle.world_ends.specs.Carried.{runs-carry}
 use Rattle.world_ends.specs.FormLaws.{no-snapshots}
 use Rattle.world_ends.specs.SureTells.{not-own}
 use Rattle.world_epochs.specs.Epochs.{Epochs, HasLine, InCause, ItsOwn, IsIssued, IsPast, IsPresent, Unsnapped}
-use Rattle.world_events.specs.Events.{Rules, client_plan}
+use Rattle.world_base.specs.Events.{Rules, client_plan}
 use Rattle.world_lines.specs.Lines.{Lines}
 use Rattle.world_lone.specs.LoneRuns.{LoneRunsNeverRestart}
 use Rattle.world_lines.specs.Rising.{lines-rise, one-of-rising}

@@ -1,6 +1,5 @@
 -- What is asked and told in form, a target can hear.
-use Rattle.std.specs.Prelude.{ℕ, ◌≡◌, ◌<◌, true, false, refl}
-use Rattle.daos_messages.specs.declared.actor.ActorId.{ActorId}
+use Rattle.std.specs.Prelude.{ℕ, ◌≡◌, true, false, refl}
 use Rattle.daos_messages.specs.declared.message.Message.{Message}
 use Rattle.daos_messages.specs.declared.message.Message.TheVariants as message
 use Rattle.world_base.specs.declared.target.TargetPlan.{TargetPlan}
@@ -8,25 +7,25 @@ use Rattle.world_posts.specs.Forms.{HasForm, IsAsked, IsBetween, is_of_client}
 
 -- what a client asks has the form of what is heard
 abbrev pub AskedIsHeard : Type 0
-AskedIsHeard = (t : TargetPlan) (from : ActorId) (m : Message) → IsAsked t m → HasForm t from m
+AskedIsHeard = (t : TargetPlan) (m : Message) → IsAsked t m → HasForm t m
 
--- and so has what another target tells or asks, whose number is one that there may be
+-- and so has what another target tells or asks
 abbrev pub BetweenIsHeard : Type 0
-BetweenIsHeard = (t : TargetPlan) (from : ActorId) (m : Message) → IsBetween t.targets m → from.number < 64 → HasForm t from m
+BetweenIsHeard = (t : TargetPlan) (m : Message) → IsBetween t.targets m → HasForm t m
 
 pub asked-is-heard : AskedIsHeard
-asked-is-heard t from (message.Fetch x op group ep first tracker r snapshot) k = k
-asked-is-heard t from (message.Commit x ep first tracker ws) k = k
-asked-is-heard t from m k = absurd k
+asked-is-heard t (message.Fetch x op group ep first tracker r snapshot) k = k
+asked-is-heard t (message.Commit x ep first tracker ws) k = k
+asked-is-heard t m k = absurd k
 
 pub between-is-heard : BetweenIsHeard
-between-is-heard t from (message.Prepare e first ws inc) k few = k
-between-is-heard t from (message.Ack x inc refusal) k few = few
-between-is-heard t from (message.Mark inc marks) k few = k
-between-is-heard t from (message.Marked inc ids) k few = few
-between-is-heard t from (message.Query x ask) k few = k
-between-is-heard t from (message.Verdict x ask inc v) k few = k
-between-is-heard t from m k few = absurd k
+between-is-heard t (message.Prepare e first ws inc) k = k
+between-is-heard t (message.Ack x inc refusal) k = k
+between-is-heard t (message.Mark inc marks) k = k
+between-is-heard t (message.Marked inc ids) k = k
+between-is-heard t (message.Query x ask) k = k
+between-is-heard t (message.Verdict x ask inc v) k = k
+between-is-heard t m k = absurd k
 
 -- ---- who sent it
 

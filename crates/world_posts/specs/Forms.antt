@@ -15,7 +15,7 @@ use Rattle.daos_model.specs.Forms.{AreWritesInForm, is_read_in_form}
 use Rattle.dtx_base.specs.declared.leading.LeaderMemory.{LeaderMemory}
 use Rattle.dtx_base.specs.declared.leading.Undecided.{Undecided}
 use Rattle.world_base.specs.declared.target.TargetPlan.{TargetPlan}
-use Rattle.world_turns.specs.Commits.{own_writes}
+use Rattle.world_base.specs.Commits.{own_writes}
 
 -- ---- what a message bears
 
@@ -72,17 +72,17 @@ is_of_client (Fetch x op group ep first tracker r snapshot) = true
 is_of_client (Commit x ep first tracker ws) = true
 is_of_client m = false
 
--- a message that a target hears, and its form, whatever is kept; an answer of a member comes from a target that there may be
-abbrev pub HasForm : TargetPlan → ActorId → Message → Type 0
-HasForm t from (Fetch x op group ep first tracker r snapshot) = IsReadAsked r ep snapshot
-HasForm t from (Commit x ep first tracker ws) = AreWrites t ws
-HasForm t from (Prepare e first ws inc) = IsPrepareInForm t.targets e ws
-HasForm t from (Ack x inc refusal) = from.number < 64
-HasForm t from (Mark inc marks) = Unit {0}
-HasForm t from (Marked inc ids) = from.number < 64
-HasForm t from (Query x ask) = Unit {0}
-HasForm t from (Verdict x ask inc v) = Unit {0}
-HasForm t from m = ⊥
+-- a message that a target hears, and its form, whatever is kept and whoever sent it
+abbrev pub HasForm : TargetPlan → Message → Type 0
+HasForm t (Fetch x op group ep first tracker r snapshot) = IsReadAsked r ep snapshot
+HasForm t (Commit x ep first tracker ws) = AreWrites t ws
+HasForm t (Prepare e first ws inc) = IsPrepareInForm t.targets e ws
+HasForm t (Ack x inc refusal) = Unit {0}
+HasForm t (Mark inc marks) = Unit {0}
+HasForm t (Marked inc ids) = Unit {0}
+HasForm t (Query x ask) = Unit {0}
+HasForm t (Verdict x ask inc v) = Unit {0}
+HasForm t m = ⊥
 
 -- ---- what is posted
 

@@ -37,7 +37,7 @@ use Rattle.dtx_base.specs.Rows.{is_empty, is_other_row, is_row_of, row_key, with
 use Rattle.world_base.specs.declared.target.TargetPlan.{TargetPlan}
 use Rattle.world_addresses.specs.TurnAddresses.{bit-of, writes-within}
 use Rattle.world_reads.specs.ListLaws.{some-in_form}
-use Rattle.world_turns.specs.Commits as commit
+use Rattle.world_base.specs.Commits as commit
 use Rattle.world_posts.specs.Forms.{ClientsWait, Follows, IsBetween, IsOfTarget, PostsInForm, TargetPosts, is_told}
 
 -- ---- the statements

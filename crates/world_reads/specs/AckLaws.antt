@@ -32,7 +32,7 @@ use Rattle.world_base.specs.declared.did.Did.{Did}
 use Rattle.world_base.specs.declared.target.TargetMemory.{TargetMemory}
 use Rattle.world_base.specs.declared.target.TargetState.{TargetState}
 use Rattle.world_base.specs.declared.world.World.{World}
-use Rattle.world_events.specs.Events.{Rules, kept, target_plan}
+use Rattle.world_base.specs.Events.{Rules, kept, target_plan}
 use Rattle.world_reads.specs.Adds.{NoneIs, is_answer, is_end, none-answered}
 use Rattle.world_reads.specs.Beginning.{HasOpenRow, TurnBegins}
 use Rattle.world_reads.specs.ChangeLaws.{WasDecided}
@@ -43,13 +43,13 @@ use Rattle.world_reads.specs.Growing.{OneMore, committed_if, committed_in}
 use Rattle.world_reads.specs.GrowLaws.{none-committed}
 use Rattle.world_reads.specs.Midway.{Sound, TurnLeaves}
 use Rattle.world_reads.specs.StepLaws.{aborts-sound}
-use Rattle.world_turns.specs.Acks as ack
-use Rattle.world_turns.specs.Changes.{Change, Kept, Steps}
-use Rattle.world_turns.specs.Commits.{bits_of}
-use Rattle.world_turns.specs.PathLaws.{reached-keeps}
-use Rattle.world_turns.specs.Requests.{sends}
-use Rattle.world_turns.specs.Roles.{leader_at, leads_on}
-use Rattle.world_turns.specs.Turns.{Whole}
+use Rattle.world_base.specs.Acks as ack
+use Rattle.world_base.specs.Changes.{Change, Kept, Steps}
+use Rattle.world_base.specs.Commits.{bits_of}
+use Rattle.world_base.specs.PathLaws.{reached-keeps}
+use Rattle.world_base.specs.Requests.{sends}
+use Rattle.world_base.specs.Roles.{leader_at, leads_on}
+use Rattle.world_base.specs.Turns.{Whole}
 
 -- ---- what a leader tells
 

@@ -14,7 +14,7 @@ use Rattle.daos_model.specs.BoolLaws.{clash}
 use Rattle.dtx_base.specs.declared.member.Parked.{Parked}
 use Rattle.world_attempts.specs.History.{Served}
 use Rattle.world_base.specs.declared.request.FetchRequest.{FetchRequest}
-use Rattle.world_turns.specs.Requests.{fetch_message}
+use Rattle.world_base.specs.Requests.{fetch_message}
 
 -- ---- what messages tell
 

@@ -26,7 +26,7 @@ use Rattle.daos_model.specs.Prunes.{touches}
 use Rattle.daos_model.specs.Versions.{version_of, version_path}
 use Rattle.world_attempts.specs.Attempts.{writes_of}
 use Rattle.world_attempts.specs.History.{History, Served, decides}
-use Rattle.world_events.specs.Events.{Rules}
+use Rattle.world_base.specs.Events.{Rules}
 use Rattle.world_reads.specs.AsOfLaws.{as_of-more}
 use Rattle.world_reads.specs.ChangeLaws.{entry-among}
 use Rattle.world_reads.specs.DecideLaws.{Elsewhere, Held, IsHeldOrElsewhere, MayBeDecided, is-added, stays-apart}

@@ -16,7 +16,7 @@ use Rattle.world_attempts.specs.Attempts.{members_of, writes_of}
 use Rattle.world_attempts.specs.History.{Decided, History}
 use Rattle.world_base.specs.declared.target.TargetState.{TargetState}
 use Rattle.world_base.specs.declared.world.World.{World}
-use Rattle.world_events.specs.Events.{Rules}
+use Rattle.world_base.specs.Events.{Rules}
 use Rattle.world_reads.specs.ChangeLaws.{WasDecided}
 use Rattle.world_reads.specs.FetchLaws.{AreKnown}
 use Rattle.world_reads.specs.Given.{FitsTargets}

@@ -34,7 +34,7 @@ use Rattle.world_base.specs.declared.request.PrepareRequest.{PrepareRequest}
 use Rattle.world_base.specs.declared.target.TargetMemory.{TargetMemory}
 use Rattle.world_base.specs.declared.target.TargetState.{TargetState}
 use Rattle.world_base.specs.declared.world.World.{World}
-use Rattle.world_events.specs.Events.{Rules, kept, listed, target_plan}
+use Rattle.world_base.specs.Events.{Rules, kept, listed, target_plan}
 use Rattle.world_reads.specs.Adds.{NoneIs, is_answer, is_end, none-answered}
 use Rattle.world_reads.specs.Beginning.{TurnBegins}
 use Rattle.world_reads.specs.ChangeLaws.{WasDecided}
@@ -47,14 +47,14 @@ use Rattle.world_reads.specs.Midway.{Sound, TurnLeaves}
 use Rattle.world_reads.specs.StepLaws.{extends-sound, stores-sound}
 use Rattle.world_reads.specs.StoreLaws.{AreItsOwn, IsNewEntry, epoch-alone}
 use Rattle.world_reads.specs.Versions.{IsWriteAt}
-use Rattle.world_turns.specs.ChangeLaws.{entries-leased}
-use Rattle.world_turns.specs.Changes.{Change, Kept, Steps}
-use Rattle.world_turns.specs.Commits as commit
-use Rattle.world_turns.specs.PathLaws.{reached-keeps}
-use Rattle.world_turns.specs.Prepares as prepare
-use Rattle.world_turns.specs.Requests.{issued_for, request_epoch, sends, with_ticks}
-use Rattle.world_turns.specs.Roles.{leader_at, leads_on}
-use Rattle.world_turns.specs.Turns.{Whole}
+use Rattle.world_base.specs.ChangeLaws.{entries-leased}
+use Rattle.world_base.specs.Changes.{Change, Kept, Steps}
+use Rattle.world_base.specs.Commits as commit
+use Rattle.world_base.specs.PathLaws.{reached-keeps}
+use Rattle.world_base.specs.Prepares as prepare
+use Rattle.world_base.specs.Requests.{issued_for, request_epoch, sends, with_ticks}
+use Rattle.world_base.specs.Roles.{leader_at, leads_on}
+use Rattle.world_base.specs.Turns.{Whole}
 
 -- ---- the writes that a target holds
 

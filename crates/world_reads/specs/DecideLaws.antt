@@ -27,7 +27,7 @@ use Rattle.daos_model.specs.Opening.{Opening, top}
 use Rattle.daos_model.specs.Versions.{version_of}
 use Rattle.world_attempts.specs.Attempts.{writes_of}
 use Rattle.world_attempts.specs.History.{Decided, History, decides, is_decided}
-use Rattle.world_events.specs.Events.{Rules}
+use Rattle.world_base.specs.Events.{Rules}
 use Rattle.world_reads.specs.ChangeLaws.{WasDecided, entry-among}
 use Rattle.daos_laws.specs.EntryLaws.{same-attempt}
 use Rattle.daos_model.specs.EntryLaws.{same_attempt-itself}

@@ -36,9 +36,9 @@ use Rattle.world_base.specs.declared.target.Life.TheVariants.{Running}
 use Rattle.world_base.specs.declared.target.TargetMemory.{TargetMemory}
 use Rattle.world_base.specs.declared.target.TargetState.{TargetState}
 use Rattle.world_base.specs.declared.world.World.{World}
-use Rattle.world_events.specs.Events.{ClientGoes, ClientHears, Rules, TargetHears, ToTarget, after_turn, kept, listed, target_after, target_plan, with_client, with_target}
-use Rattle.world_events.specs.Letters.{client, target}
-use Rattle.world_events.specs.StepLaws.{set-here, set-there}
+use Rattle.world_base.specs.Events.{ClientGoes, ClientHears, Rules, TargetHears, ToTarget, after_turn, kept, listed, target_after, target_plan, with_client, with_target}
+use Rattle.world_base.specs.Letters.{client, target}
+use Rattle.world_base.specs.StepLaws.{set-here, set-there}
 use Rattle.world_reads.specs.AckLaws.{ack-sound}
 use Rattle.world_reads.specs.AnswerLaws.{IsBarred}
 use Rattle.world_reads.specs.Beginning.{HasOpenRow, TurnBegins}
@@ -55,8 +55,8 @@ use Rattle.world_reads.specs.Midway.{IsServedRight, IsStampOf, Sound, TurnLeaves
 use Rattle.world_reads.specs.Reads.{IsAnsweredRight, IsGuarded, IsOfAttempt, Reads}
 use Rattle.world_reads.specs.VerdictLaws.{IsVerdictRight, fetch-sound, verdict-sound}
 use Rattle.world_reads.specs.Versions.{IsWriteAt, Versions, VersionsStand}
-use Rattle.world_turns.specs.Changes.{Kept}
-use Rattle.world_turns.specs.TargetTurns.{Hears, commit_request, fetch_request, prepare_request}
+use Rattle.world_base.specs.Changes.{Kept}
+use Rattle.world_base.specs.TargetTurns.{Hears, commit_request, fetch_request, prepare_request}
 
 -- ---- before a turn
 

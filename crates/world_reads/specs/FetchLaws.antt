@@ -22,7 +22,7 @@ use Rattle.world_attempts.specs.History.{History, Served}
 use Rattle.world_base.specs.declared.did.Did.{Did}
 use Rattle.world_base.specs.declared.request.FetchRequest.{FetchRequest}
 use Rattle.world_base.specs.declared.target.TargetMemory.{TargetMemory}
-use Rattle.world_events.specs.Events.{Rules, target_plan}
+use Rattle.world_base.specs.Events.{Rules, target_plan}
 use Rattle.world_reads.specs.Adds.{NoneIs, is_answer, is_end, served_at}
 use Rattle.world_reads.specs.ChangeLaws.{WasDecided}
 use Rattle.world_reads.specs.Given.{IsFetchRight}
@@ -31,12 +31,12 @@ use Rattle.world_reads.specs.Reads.{IsAnsweredRight}
 use Rattle.world_reads.specs.ServedLaws.{IsFree, answers-right, free-read, serves-shows}
 use Rattle.world_reads.specs.StepLaws.{commits-sound, extends-sound}
 use Rattle.world_reads.specs.Transactions.{transactions}
-use Rattle.world_turns.specs.ChangeLaws.{lease-settled}
-use Rattle.world_turns.specs.Changes.{Change, Kept, Steps}
-use Rattle.world_turns.specs.PathLaws.{reached-keeps}
-use Rattle.world_turns.specs.Reads as read
-use Rattle.world_turns.specs.Requests.{is_other_attempt, issued_for, request_epoch, with_ticks}
-use Rattle.world_turns.specs.Turns.{Whole}
+use Rattle.world_base.specs.ChangeLaws.{lease-settled}
+use Rattle.world_base.specs.Changes.{Change, Kept, Steps}
+use Rattle.world_base.specs.PathLaws.{reached-keeps}
+use Rattle.world_base.specs.Reads as read
+use Rattle.world_base.specs.Requests.{is_other_attempt, issued_for, request_epoch, with_ticks}
+use Rattle.world_base.specs.Turns.{Whole}
 
 -- these attempts were decided
 abbrev pub AreKnown : History → List AttemptId → Type 0

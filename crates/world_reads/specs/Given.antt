@@ -23,10 +23,10 @@ use Rattle.world_base.specs.declared.letter.Letter.{Letter}
 use Rattle.world_base.specs.declared.target.TargetState.{TargetState}
 use Rattle.world_base.specs.declared.target.Life.TheVariants.{Running}
 use Rattle.world_base.specs.declared.world.World.{World}
-use Rattle.world_events.specs.Events.{Rules, target_plan}
-use Rattle.world_events.specs.Letters.{target}
+use Rattle.world_base.specs.Events.{Rules, target_plan}
+use Rattle.world_base.specs.Letters.{target}
 use Rattle.world_reads.specs.Reads.{IsOfAttempt}
-use Rattle.world_turns.specs.Requests.{request_epoch}
+use Rattle.world_base.specs.Requests.{request_epoch}
 
 -- an epoch is an attempt's: it is above the opening, no other attempt has it, and one that goes with a request was issued
 pub record IsItsEpoch (o : Opening) (w : World) (x : AttemptId) (ep : Option Epoch) (e : Epoch) : Type 0 where

@@ -12,7 +12,7 @@ use Rattle.daos_messages.specs.declared.message.Post.{Post}
 use Rattle.daos_model.specs.Opening.{Opening}
 use Rattle.world_attempts.specs.History.{GrowsBy, History, Served, Tells, TellsRefusal}
 use Rattle.world_reads.specs.Adds.{NoneIs, is_end}
-use Rattle.world_events.specs.Events.{Rules}
+use Rattle.world_base.specs.Events.{Rules}
 use Rattle.world_reads.specs.Growing.{Decides, NoneMore, OneMore, committed_by, committed_if, committed_in, grown, refused_by, refused_if, refused_in}
 
 -- ---- one message

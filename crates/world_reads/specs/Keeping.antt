@@ -9,7 +9,7 @@ use Rattle.world_attempts.specs.Asked.{AskedRight}
 use Rattle.world_attempts.specs.Attempts.{Attempts}
 use Rattle.world_attempts.specs.History.{GrowsBy, History, Served}
 use Rattle.world_base.specs.declared.world.World.{World}
-use Rattle.world_events.specs.Events.{ClientGoes, ClientHears, Rules, TargetHears, TargetIdles}
+use Rattle.world_base.specs.Events.{ClientGoes, ClientHears, Rules, TargetHears, TargetIdles}
 use Rattle.world_reads.specs.Adds.{AreAnswered}
 use Rattle.world_reads.specs.Given.{Given}
 use Rattle.world_reads.specs.Reads.{Reads}

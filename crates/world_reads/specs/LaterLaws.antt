@@ -18,7 +18,7 @@ use Rattle.world_attempts.specs.Attempts.{Attempts, HoldsAt, IsOther, entry_at, 
 use Rattle.world_attempts.specs.History.{Decided, History, Served, decides}
 use Rattle.world_base.specs.declared.target.TargetState.{TargetState}
 use Rattle.world_base.specs.declared.world.World.{World}
-use Rattle.world_events.specs.Events.{Rules}
+use Rattle.world_base.specs.Events.{Rules}
 use Rattle.world_reads.specs.AnswerLaws.{IsBarred, decides-answers, not-below}
 use Rattle.world_reads.specs.DecideLaws.{Elsewhere, Held, IsHeldOrElsewhere, decides-stands, stays-apart}
 use Rattle.world_reads.specs.Growing.{Decides, NoneMore, OneMore}

@@ -17,10 +17,10 @@ use Rattle.daos_laws.specs.TargetLaws.{number_same}
 use Rattle.daos_model.specs.BoolLaws.{both}
 use Rattle.dtx_base.specs.Members.{all_targets, has_target, is_other_member, other_members}
 use Rattle.world_attempts.specs.Attempts.{IsOther, first_entry, leader_of, members_of, writes_of}
-use Rattle.world_events.specs.Events.{Rules}
+use Rattle.world_base.specs.Events.{Rules}
 use Rattle.world_reads.specs.Given.{FitsTargets}
 use Rattle.world_reads.specs.Versions.{IsWriteAt}
-use Rattle.world_turns.specs.Commits.{bits_of}
+use Rattle.world_base.specs.Commits.{bits_of}
 
 -- ---- bits
 

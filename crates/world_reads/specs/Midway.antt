@@ -19,12 +19,12 @@ use Rattle.world_attempts.specs.History.{History, Served}
 use Rattle.world_base.specs.declared.did.Did.{Did}
 use Rattle.world_base.specs.declared.target.TargetMemory.{TargetMemory}
 use Rattle.world_base.specs.declared.world.World.{World}
-use Rattle.world_events.specs.Events.{Rules, listed}
+use Rattle.world_base.specs.Events.{Rules, listed}
 use Rattle.world_reads.specs.Adds.{AreAnswered}
 use Rattle.world_reads.specs.Growing.{Decides}
 use Rattle.world_reads.specs.Reads.{IsAnsweredRight, IsOfAttempt}
 use Rattle.world_reads.specs.Versions.{VersionsStand}
-use Rattle.world_turns.specs.Changes.{Kept}
+use Rattle.world_base.specs.Changes.{Kept}
 
 -- a write that would change what was served is refused: by the floor, or by a timestamp
 abbrev pub IsGuardedBy : Epoch × FloorWhy → Durable → List Shown → Served → Type 0

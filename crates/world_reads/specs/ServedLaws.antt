@@ -33,7 +33,7 @@ use Rattle.vos_store.specs.declared.refusal.FetchNo.TheVariants as fetch
 use Rattle.vos_store.specs.Answers.{answer_unless, fetched, is_past}
 use Rattle.world_attempts.specs.History.{History, Served, is_decided}
 use Rattle.world_base.specs.declared.request.FetchRequest.{FetchRequest}
-use Rattle.world_events.specs.Events.{Rules}
+use Rattle.world_base.specs.Events.{Rules}
 use Rattle.world_reads.specs.Adds.{served_at}
 use Rattle.world_reads.specs.DecideLaws.{mark-low}
 use Rattle.world_reads.specs.Given.{IsFetchRight}

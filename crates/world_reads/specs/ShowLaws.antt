@@ -31,7 +31,7 @@ use Rattle.world_reads.specs.ChangeLaws.{other-stays, still-open}
 use Rattle.world_reads.specs.Midway.{IsGuardedBy, Shows}
 use Rattle.daos_laws.specs.PlaceLaws.{overlaps-container}
 use Rattle.world_reads.specs.StoreLaws.{new-or-old}
-use Rattle.world_turns.specs.Commits.{IsAllowed, first_floor, or_else}
+use Rattle.world_base.specs.Commits.{IsAllowed, first_floor, or_else}
 
 module _ (served : List Served) (opening : Epoch × FloorWhy) (t : ℕ) (d : Durable) (stamps : List Shown) where
   -- the lease is extended

@@ -15,13 +15,13 @@ use Rattle.daos_model.specs.Changes.{leased, prepared, settled}
 use Rattle.daos_model.specs.Opening.{Opening}
 use Rattle.world_attempts.specs.History.{History, Served}
 use Rattle.world_base.specs.declared.target.TargetPlan.{TargetPlan}
-use Rattle.world_events.specs.Events.{Rules}
+use Rattle.world_base.specs.Events.{Rules}
 use Rattle.world_reads.specs.ChangeLaws.{WasDecided, aborts-stands, confirms-stands, extends-stands, settles-stands}
 use Rattle.world_reads.specs.Midway.{Sound}
 use Rattle.world_reads.specs.ShowLaws.{aborts-shows, confirms-shows, extends-shows, settles-shows, stores-shows}
 use Rattle.world_reads.specs.StoreLaws.{AreItsOwn, IsNewEntry, stores-stands}
-use Rattle.world_turns.specs.ChangeLaws.{lease-covers}
-use Rattle.world_turns.specs.Commits.{IsAllowed}
+use Rattle.world_base.specs.ChangeLaws.{lease-covers}
+use Rattle.world_base.specs.Commits.{IsAllowed}
 
 module _ (r : Rules) (o : Opening) (held : List Version) (h : History) (served : List Served) (opening : Epoch × FloorWhy) (t : ℕ) (stamps : List Shown) where
   -- the lease is extended to cover ticks above it

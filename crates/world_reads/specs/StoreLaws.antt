@@ -24,9 +24,9 @@ use Rattle.daos_model.specs.Ordered.{is_rising, put, puts}
 use Rattle.daos_model.specs.Versions.{version_of, version_path, versions_of}
 use Rattle.world_attempts.specs.History.{Decided, History, is_decided}
 use Rattle.world_base.specs.declared.world.World.{World}
-use Rattle.world_events.specs.Events.{Rules}
+use Rattle.world_base.specs.Events.{Rules}
 use Rattle.world_reads.specs.ChangeLaws.{WasDecided, decided-has}
-use Rattle.world_turns.specs.EntryLaws.{entry-prepared_other}
+use Rattle.world_base.specs.EntryLaws.{entry-prepared_other}
 use Rattle.world_reads.specs.ListLaws.{pairs-from_rising, rising-news}
 use Rattle.world_reads.specs.Transactions.{counts_by, transactions}
 use Rattle.world_reads.specs.Versions.{IsPreparedAt, IsVersionOf, IsWriteAt, VersionsStand, is_own_in, mark_of}

@@ -27,7 +27,7 @@ use Rattle.world_base.specs.declared.request.FetchRequest.{FetchRequest}
 use Rattle.world_base.specs.declared.target.TargetMemory.{TargetMemory}
 use Rattle.world_base.specs.declared.target.TargetState.{TargetState}
 use Rattle.world_base.specs.declared.world.World.{World}
-use Rattle.world_events.specs.Events.{Rules, kept, listed, target_plan}
+use Rattle.world_base.specs.Events.{Rules, kept, listed, target_plan}
 use Rattle.world_reads.specs.Adds.{AreAnswered, Heard, IsAnswered, IsAskedIn, NoneIs, Waited, is_answer, is_end, none-answered, served_at}
 use Rattle.world_reads.specs.Beginning.{TurnBegins}
 use Rattle.world_reads.specs.ChangeLaws.{WasDecided}
@@ -38,13 +38,13 @@ use Rattle.world_reads.specs.GrowLaws.{none-committed}
 use Rattle.world_reads.specs.Midway.{IsServedRight, Sound, TurnLeaves}
 use Rattle.world_reads.specs.Reads.{IsOfAttempt}
 use Rattle.world_reads.specs.StepLaws.{aborts-sound, commits-sound}
-use Rattle.world_turns.specs.Changes.{Kept, Steps}
-use Rattle.world_turns.specs.Reads as read
-use Rattle.world_turns.specs.Requests.{fetch_message, issued_for, request_epoch}
-use Rattle.world_turns.specs.Roles.{is_prepared, joins_on, member_at}
-use Rattle.world_turns.specs.Turns.{Whole}
-use Rattle.world_turns.specs.VerdictLaws.{Tries, verdict-keeps}
-use Rattle.world_turns.specs.Verdicts as verdict
+use Rattle.world_base.specs.Changes.{Kept, Steps}
+use Rattle.world_base.specs.Reads as read
+use Rattle.world_base.specs.Requests.{fetch_message, issued_for, request_epoch}
+use Rattle.world_base.specs.Roles.{is_in_doubt, joins_on, member_at}
+use Rattle.world_base.specs.Turns.{Whole}
+use Rattle.world_base.specs.VerdictLaws.{Tries, verdict-keeps}
+use Rattle.world_base.specs.Verdicts as verdict
 
 -- ---- what is answered
 
@@ -142,8 +142,8 @@ module _ (r : Rules) (o : Opening) (held : List Version) (h : History) (w : Worl
   module _ (reading : ℕ) (x : AttemptId) (ask : Option AttemptId) (v : Verdict) (heard : Message) (right : IsVerdictRight v x)
       (parked : (p : Parked) → Has p s.memory.member.parked → IsParkedRight r o w t p.ask) where
     -- the attempt is settled
-    settles : (k : Kept) → Steps (verdict.settling_change x (verdict.settles_by v x s.durable)) (kept s) k → Sound r o held h h.served s.opening t k.durable s.memory.stamps
-    settles k steps = by v right (is_prepared x s.durable) steps
+    settles : (k : Kept) → Steps (verdict.settling_change x (verdict.settles_by t v x s.durable)) (kept s) k → Sound r o held h h.served s.opening t k.durable s.memory.stamps
+    settles k steps = by v right (is_in_doubt t x s.durable) steps
       where
         by : (v : Verdict) → IsVerdictRight v x → (there : Bool) → Steps (verdict.settling_change x (verdict.step_if there (verdict.step_by v))) (kept s) k → Sound r o held h h.served s.opening t k.durable s.memory.stamps
         by fate.Committed ok true st = subst (λ d. Sound r o held h h.served s.opening t d s.memory.stamps) (sym st.0) (commits-sound r o held h h.served s.opening t s.memory.stamps s.durable x ok b.sound)
@@ -179,7 +179,7 @@ module _ (r : Rules) (o : Opening) (held : List Version) (h : History) (w : Worl
     plain test off fate.Undecided None p i = absurd i
     plain test off fate.Undecided (Some y) p i = unresolved-plain test off (filter (is_waiting x y) s.memory.member.parked) p i
 
-    begins : (k : Kept) → Steps (verdict.settling_change x (verdict.settles_by v x s.durable)) (kept s) k
+    begins : (k : Kept) → Steps (verdict.settling_change x (verdict.settles_by t v x s.durable)) (kept s) k
         → VerdictMid heard (verdict_heard x ask v (member_at (target_plan r t) s.memory)).freed.again (joins_on (verdict_heard x ask v (member_at (target_plan r t) s.memory)).member s.memory)
         (verdict_heard x ask v (member_at (target_plan r t) s.memory)).freed.posts k
     begins k steps = record {

@@ -26,18 +26,18 @@ use Rattle.world_base.specs.declared.target.TargetPlan.{TargetPlan}
 use Rattle.world_base.specs.declared.target.TargetState.{TargetState}
 use Rattle.world_base.specs.declared.world.World.{World}
 use Rattle.world_base.specs.ClientTurns.{plan_of}
-use Rattle.world_begins.specs.BeginLaws.{get-map}
-use Rattle.world_begins.specs.Begins.{IsBegun, IsSimple, first_client, first_tracker, held_at}
-use Rattle.world_begins.specs.Hearable.{CanHear}
+use Rattle.world_core.specs.BeginLaws.{get-map}
+use Rattle.world_core.specs.Begins.{IsBegun, IsSimple, first_client, first_tracker, held_at}
+use Rattle.world_core.specs.Hearable.{CanHear}
 use Rattle.world_attempts.specs.Attempts.{entry_in, is_known_at, is_known_in}
 use Rattle.world_attempts.specs.History.{History}
 use Rattle.world_attempts.specs.Stored.{among-has}
-use Rattle.world_begins.specs.Whole.{Whole, held-before, runs-can-be-heard, runs-stay-whole}
+use Rattle.world_core.specs.Whole.{Whole, held-before, runs-can-be-heard, runs-stay-whole}
 use Rattle.world_core.specs.Asking.{requests-are-right}
 use Rattle.world_reads.specs.Given.{IsParkedRight}
-use Rattle.world_turns.specs.Roles.{other_leader, other_leader_of}
-use Rattle.world_events.specs.Events.{Begins, ByClient, ByTarget, Event, Goes, Rules, Run, ToClient, ToTarget, client_plan, commands_or_none, target_plan}
-use Rattle.world_events.specs.Letters.{client, target}
+use Rattle.world_base.specs.Roles.{other_leader, other_leader_of}
+use Rattle.world_base.specs.Events.{Begins, ByClient, ByTarget, Event, Goes, Rules, Run, ToClient, ToTarget, client_plan, commands_or_none, target_plan}
+use Rattle.world_base.specs.Letters.{client, target}
 use Rattle.world_list.specs.Fitting.{AreInPlace, PlansFit}
 use Rattle.world_list.specs.RunLists.{IsRunFrom, IsRunList, LeadsTo, last_world, rules_of}
 use Rattle.world_list.specs.declared.events.Event as listed
@@ -79,16 +79,16 @@ run-more r w (x ∷ es) e run leads = (run.0, run-more r x.after es e run.1 lead
 
 -- ---- what a target hears
 
-can-hear : (r : Rules) (t : ℕ) (d : Durable) (m : TargetMemory) (from : ActorId) (q : Message) → r.script.targets ≤ 64 → replay.CanTryAgain (target_plan r t) d m → CanHear r t d from q → replay.CanHear (target_plan r t) d m from q
-can-hear r t d m from (message.Fetch x op group ep first tracker q snapshot) few can k = can.read
-can-hear r t d m from (message.Commit x ep first tracker ws) few can k = record { few = few; form = k.store.form; fit = k.fit }
-can-hear r t d m from (message.Prepare e first ws inc) few can k = k.store.form
-can-hear r t d m from (message.Ack x inc refusal) few can k = k
-can-hear r t d m from (message.Mark inc marks) few can k = tt
-can-hear r t d m from (message.Marked inc ids) few can k = k
-can-hear r t d m from (message.Query x ask) few can k = tt
-can-hear r t d m from (message.Verdict x ask inc v) few can k = can
-can-hear r t d m from q few can k = absurd k
+can-hear : (r : Rules) (t : ℕ) (d : Durable) (m : TargetMemory) (q : Message) → r.script.targets ≤ 64 → replay.CanTryAgain (target_plan r t) d m → CanHear r t d q → replay.CanHear (target_plan r t) d m q
+can-hear r t d m (message.Fetch x op group ep first tracker q snapshot) few can k = can.read
+can-hear r t d m (message.Commit x ep first tracker ws) few can k = record { few = few; form = k.store.form; fit = k.fit }
+can-hear r t d m (message.Prepare e first ws inc) few can k = k.store.form
+can-hear r t d m (message.Ack x inc refusal) few can k = tt
+can-hear r t d m (message.Mark inc marks) few can k = tt
+can-hear r t d m (message.Marked inc ids) few can k = tt
+can-hear r t d m (message.Query x ask) few can k = tt
+can-hear r t d m (message.Verdict x ask inc v) few can k = can
+can-hear r t d m q few can k = absurd k
 
 -- a Fetch that waits goes with its epoch
 parked-timed : (r : Rules) (o : Opening) (w : World) (t : ℕ) (q : Message) → IsParkedRight r o w t q → replay.is_timed q ≡ true
@@ -170,10 +170,10 @@ module _ (r : Rules) (o : Opening) (w : World) (A : IsSimple r) (B : IsBegun r o
     leads x (ByTarget g) = record { event = g; by = refl; placed = placed g.t g.s g.here }
     leads x (ToTarget g) = inr (record { event = g; by = refl; letter = refl; placed = placed g.t g.s g.here; form = form })
       where
-        form : replay.CanHear (target_plan r g.t) g.s.durable g.s.memory g.l.from g.l.message
+        form : replay.CanHear (target_plan r g.t) g.s.durable g.s.memory g.l.message
         form =
-            can-hear r g.t g.s.durable g.s.memory g.l.from g.l.message A.few_targets (can-try g.t g.s g.here)
-            (runs-can-be-heard r o w u g.l g.t g.s A B run (taken-is-among u.messages g.l g.rest g.takes) g.to_it g.here)
+            can-hear r g.t g.s.durable g.s.memory g.l.message A.few_targets (can-try g.t g.s g.here)
+            (runs-can-be-heard r o w u g.l g.t g.s A B run (taken-is-among u.messages g.l g.rest g.takes) g.to_it g.here).can
 
   abbrev list_of : (v : World) → Run r w v → List listed.Event
   list_of v Begins = []

@@ -9,10 +9,10 @@ use Rattle.daos_messages.specs.declared.message.Message.TheVariants as message
 use Rattle.world_base.specs.declared.did.Did.{Did}
 use Rattle.world_base.specs.declared.target.TargetMemory.{TargetMemory}
 use Rattle.world_base.specs.declared.target.TargetPlan.{TargetPlan}
-use Rattle.world_events.specs.Letters.{is_tell}
+use Rattle.world_base.specs.Letters.{is_tell}
 use Rattle.world_talks.specs.Conversation.{Answers, is_request}
-use Rattle.world_turns.specs.Changes.{Kept}
-use Rattle.world_turns.specs.TargetTurns.{Hears, is_heard}
+use Rattle.world_base.specs.Changes.{Kept}
+use Rattle.world_base.specs.TargetTurns.{Hears, is_heard}
 
 -- only these kinds of messages are heard
 pub hears-heard : (t : TargetPlan) (opening : Epoch × FloorWhy) (m : TargetMemory) (reading : ℕ) (from : ActorId) (q : Message) (old new : Kept) (left : TargetMemory × Did)

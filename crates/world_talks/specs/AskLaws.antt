@@ -22,10 +22,10 @@ use Rattle.world_base.specs.declared.client.Stage.TheVariants as stage
 use Rattle.world_base.specs.declared.request.CommitRequest.{CommitRequest}
 use Rattle.world_base.specs.declared.request.FetchRequest.{FetchRequest}
 use Rattle.world_base.specs.ClientTurns.{after_end, asks_or_goes, at_present, attempt_id, attempt_moves, begins_at, begun, command_at, command_moves, commits, ends, first_epoch, is_waiting, moved, moves_at, next_command, next_stage, op_moves, question, request_of, rests, run_moves, waits}
-use Rattle.world_events.specs.Letters.{client, is_tell, target}
+use Rattle.world_base.specs.Letters.{client, is_tell, target}
 use Rattle.world_talks.specs.Asked.{ARead, ASnapshot, AnAggregation, Asked, AsksCommit, AsksRead, commit_of, Asking, IsMove, ItsWrites, Silent, Telling, group_of_read}
 use Rattle.world_talks.specs.Conversation.{before_waiting, request_sent}
-use Rattle.world_turns.specs.Requests.{fetch_message}
+use Rattle.world_base.specs.Requests.{fetch_message}
 
 -- ---- an attempt ends
 

@@ -19,7 +19,7 @@ use Rattle.world_base.specs.declared.client.Present.{Present}
 use Rattle.world_base.specs.declared.request.CommitRequest.{CommitRequest}
 use Rattle.world_base.specs.declared.request.FetchRequest.{FetchRequest}
 use Rattle.world_base.specs.ClientTurns.{Move, at_present, attempt_id, command_at, group_asked, member_asked, question, waits}
-use Rattle.world_events.specs.Letters.{client, target}
+use Rattle.world_base.specs.Letters.{client, target}
 
 -- the group of a read's path that is asked about next
 abbrev pub group_of_read : ClientPlan → Present → Path → ℕ

@@ -10,7 +10,7 @@ use Rattle.world_base.specs.declared.letter.Letter.{Letter}
 use Rattle.world_base.specs.declared.target.TargetMemory.{TargetMemory}
 use Rattle.world_base.specs.declared.target.TargetState.{TargetState}
 use Rattle.world_base.specs.declared.world.World.{World}
-use Rattle.world_events.specs.Letters.{is_talk_of}
+use Rattle.world_base.specs.Letters.{is_talk_of}
 
 -- a letter in flight; a Fetch that waits at a target; or an attempt that is undecided at a target, with the client that is told
 -- its end, if one is

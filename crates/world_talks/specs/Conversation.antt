@@ -18,12 +18,12 @@ use Rattle.world_base.specs.declared.request.FetchRequest.{FetchRequest}
 use Rattle.world_base.specs.declared.target.TargetState.{TargetState}
 use Rattle.world_base.specs.declared.world.World.{World}
 use Rattle.world_base.specs.ClientTurns.{moved, waits}
-use Rattle.world_events.specs.Events.{Event, Rules, client_plan}
-use Rattle.world_events.specs.Letters.{client, letter_of, target}
+use Rattle.world_base.specs.Events.{Event, Rules, client_plan}
+use Rattle.world_base.specs.Letters.{client, letter_of, target}
 use Rattle.world_talks.specs.Asked.{commit_of}
 use Rattle.world_talks.specs.Carriers.{Carrier, InFlight, OpenAt, ParkedAt, carriers_of}
-use Rattle.world_turns.specs.Reads.{fetch_at}
-use Rattle.world_turns.specs.Requests.{fetch_message}
+use Rattle.world_base.specs.Reads.{fetch_at}
+use Rattle.world_base.specs.Requests.{fetch_message}
 
 abbrev pub before_waiting : Option Present → Option Present
 before_waiting None = None

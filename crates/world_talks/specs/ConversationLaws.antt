@@ -13,10 +13,10 @@ use Rattle.world_base.specs.declared.letter.Letter.{Letter}
 use Rattle.world_base.specs.declared.target.TargetState.{TargetState}
 use Rattle.world_base.specs.declared.world.World.{World}
 use Rattle.world_base.specs.ClientTurns.{Move, answered, at_present, heard, hears_epochs, listed, moved, waits}
-use Rattle.world_events.specs.Events.{Begins, ByClient, ByTarget, Goes, Rules, Run, ToClient, ToTarget, client_plan}
-use Rattle.world_events.specs.Letters.{Takes, client, is_talk_of, is_tell, letter_of, talk_of}
-use Rattle.world_events.specs.StepLaws.{after-none, by-hearing, by-next, set-here, set-there}
-use Rattle.world_events.specs.Steps.{KeptByCounting, KeptByHearing, KeptByMoves, after_client, after_move, without}
+use Rattle.world_base.specs.Events.{Begins, ByClient, ByTarget, Goes, Rules, Run, ToClient, ToTarget, client_plan}
+use Rattle.world_base.specs.Letters.{Takes, client, is_talk_of, is_tell, letter_of, talk_of}
+use Rattle.world_base.specs.StepLaws.{after-none, by-hearing, by-next, set-here, set-there}
+use Rattle.world_base.specs.Steps.{KeptByCounting, KeptByHearing, KeptByMoves, after_client, after_move, without}
 use Rattle.world_talks.specs.AskLaws.{IsRequest, asked-is-request, asks-what-it-asked, move-is, waiting-rests}
 use Rattle.world_talks.specs.Asked.{Asking, IsMove, Silent, Telling, tells_tracker}
 use Rattle.world_talks.specs.Carriers.{Carrier, InFlight, OpenAt, ParkedAt, carriers, carriers_of, held_from, in_flight, is_carrier_of, open_at, parked_at}

@@ -17,8 +17,8 @@ use Rattle.dtx_base.specs.Rows.{is_row_of, row_of, without_row}
 use Rattle.world_base.specs.declared.letter.Letter.{Letter}
 use Rattle.world_base.specs.declared.target.TargetMemory.{TargetMemory}
 use Rattle.world_base.specs.declared.world.World.{World}
-use Rattle.world_events.specs.Events.{Rules, client_plan}
-use Rattle.world_events.specs.Letters.{client, target}
+use Rattle.world_base.specs.Events.{Rules, client_plan}
+use Rattle.world_base.specs.Letters.{client, target}
 use Rattle.world_talks.specs.CarrierLaws.{bit, bit-false, bit-true, count, count-append, count-cons, count-has, count-parts, count-zero, has-filter_map}
 use Rattle.world_talks.specs.Carriers.{Carrier, InFlight, held, is_carrier_of, open_at, parked_at}
 use Rattle.world_talks.specs.Conversation.{Answers, IsAnswered, IsOpen, IsTalk}

@@ -20,19 +20,19 @@ use Rattle.world_base.specs.declared.request.FetchRequest.{FetchRequest}
 use Rattle.world_base.specs.declared.target.TargetMemory.{TargetMemory}
 use Rattle.world_base.specs.declared.target.TargetPlan.{TargetPlan}
 use Rattle.world_base.specs.declared.world.World.{World}
-use Rattle.world_events.specs.Events.{Rules}
-use Rattle.world_events.specs.Letters.{client, letter_of, letters_of, target}
+use Rattle.world_base.specs.Events.{Rules}
+use Rattle.world_base.specs.Letters.{client, letter_of, letters_of, target}
 use Rattle.world_talks.specs.CarrierLaws.{bit, count, count-append, count-cons, count-parts, has-filter_map}
 use Rattle.world_talks.specs.Carriers.{Carrier, InFlight, ParkedAt, held, in_flight, is_carrier_of, open_at, parked_at}
 use Rattle.world_talks.specs.LeaveLaws.{HasOwn, NoRequests, fetch-leaves, fetch-plain, own-goes}
 use Rattle.world_talks.specs.Conversation.{is_request}
 use Rattle.world_talks.specs.TurnLaws.{AllOwned, AsMany, Hands, MayHand, Owns, fetch-of, hands-fetch, parked-hands, reply-of, reply_to, told}
-use Rattle.world_turns.specs.Changes.{Change, Kept, Steps}
-use Rattle.world_turns.specs.PathLaws.{path-keeps}
-use Rattle.world_turns.specs.Requests.{fetch_message}
-use Rattle.world_turns.specs.Roles.{joins_on, member_at}
-use Rattle.world_turns.specs.Turns.{Whole}
-use Rattle.world_turns.specs.Verdicts.{AllTried, Freed, GoesOn, Heard, IsDone, SettlesBy, Trying, TriesNext, VerdictEnds, VerdictNext, VerdictStage}
+use Rattle.world_base.specs.Changes.{Change, Kept, Steps}
+use Rattle.world_base.specs.PathLaws.{path-keeps}
+use Rattle.world_base.specs.Requests.{fetch_message}
+use Rattle.world_base.specs.Roles.{joins_on, member_at}
+use Rattle.world_base.specs.Turns.{Whole}
+use Rattle.world_base.specs.Verdicts.{AllTried, Freed, GoesOn, Heard, IsDone, SettlesBy, Trying, TriesNext, VerdictEnds, VerdictNext, VerdictStage}
 
 -- ---- in the middle of the turn
 

@@ -22,8 +22,8 @@ use Rattle.world_base.specs.declared.target.TargetPlan.{TargetPlan}
 use Rattle.world_base.specs.declared.target.TargetState.{TargetState}
 use Rattle.world_base.specs.declared.world.World.{World}
 use Rattle.world_base.specs.ClientTurns.{attempt_id, is_waiting, request_of, waits}
-use Rattle.world_events.specs.Events.{Rules, TargetHears, TargetIdles, client_plan, kept, target_plan}
-use Rattle.world_events.specs.Letters.{Takes, client, is_talk_of, is_tell, letter_of, letters_of, target}
+use Rattle.world_base.specs.Events.{Rules, TargetHears, TargetIdles, client_plan, kept, target_plan}
+use Rattle.world_base.specs.Letters.{Takes, client, is_talk_of, is_tell, letter_of, letters_of, target}
 use Rattle.world_talks.specs.AskLaws.{IsRequest, asked-is-request}
 use Rattle.world_talks.specs.Asked.{commit_of}
 use Rattle.world_talks.specs.CarrierLaws.{bit-false, count, count-append, count-cons, count-none, held-count, held-has, held-set}
@@ -35,13 +35,13 @@ use Rattle.world_talks.specs.InFlight.{HearsRequest, IsCarried, hears-request, i
 use Rattle.world_talks.specs.LeaveLaws.{AckIs, CommitLeaves, FetchLeaves, HasOwn, HoldsOn, NoRequests, ToTargets, ack-is, ack-plain, commit-leaves, commit-plain, fetch-leaves, fetch-plain, idle-leaves, own-goes, mark-leaves, marked-leaves, prepare-leaves, query-leaves}
 use Rattle.world_talks.specs.TalkLaws.{between-is-of, left-is-among, sent-is-of}
 use Rattle.world_talks.specs.TurnLaws.{AllOwned, Hands, IsSent, Owns, hands-commit, hands-fetch, hands-nothing, sent-hands, told}
-use Rattle.world_turns.specs.Acks as ack
-use Rattle.world_turns.specs.Changes.{Change, Kept, Steps}
-use Rattle.world_turns.specs.Reads as read
-use Rattle.world_turns.specs.PathLaws.{path-keeps}
-use Rattle.world_turns.specs.Requests.{fetch_message}
-use Rattle.world_turns.specs.Roles.{leader_at}
-use Rattle.world_turns.specs.TargetTurns.{Hears, commit_request, fetch_request, prepare_request}
+use Rattle.world_base.specs.Acks as ack
+use Rattle.world_base.specs.Changes.{Change, Kept, Steps}
+use Rattle.world_base.specs.Reads as read
+use Rattle.world_base.specs.PathLaws.{path-keeps}
+use Rattle.world_base.specs.Requests.{fetch_message}
+use Rattle.world_base.specs.Roles.{leader_at}
+use Rattle.world_base.specs.TargetTurns.{Hears, commit_request, fetch_request, prepare_request}
 
 -- ---- a target's turn
 

@@ -25,7 +25,7 @@ use Rattle.world_base.specs.declared.client.Present.{Present}
 use Rattle.world_base.specs.declared.client.Stage.{Stage}
 use Rattle.world_base.specs.declared.client.Stage.TheVariants as stage
 use Rattle.world_base.specs.ClientTurns.{Move, about, answered, asks_or_goes, at_present, attempt_id, attempt_moves, begins_at, command_at, command_moves, commits, condition_told, ended, ends, first_epoch, goes, greatest, group_count, group_told, heard, heard_at, hears_epochs, is_about, is_yes, joined, knows, moved, moves_at, next_stage, op_moves, op_of, op_told, question, replied, request_of, rests, run_moves, snaps_known, told_at, told_by_message, waits}
-use Rattle.world_events.specs.Letters.{is_tell}
+use Rattle.world_base.specs.Letters.{is_tell}
 use Rattle.world_talks.specs.AskLaws.{ends-goes}
 use Rattle.world_talks.specs.Conversation.{Answers}
 

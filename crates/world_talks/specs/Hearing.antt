@@ -12,8 +12,8 @@ use Rattle.world_base.specs.declared.client.ClientState.{ClientState}
 use Rattle.world_base.specs.declared.letter.Letter.{Letter}
 use Rattle.world_base.specs.declared.world.World.{World}
 use Rattle.world_base.specs.ClientTurns.{about, answered, attempt_id, ended, goes, heard, hears_epochs, knows, replied}
-use Rattle.world_events.specs.Events.{Rules, client_plan}
-use Rattle.world_events.specs.Letters.{Takes, client, is_tell}
+use Rattle.world_base.specs.Events.{Rules, client_plan}
+use Rattle.world_base.specs.Letters.{Takes, client, is_tell}
 use Rattle.world_talks.specs.Asked.{ARead, ASnapshot, AnAggregation, Asked, ItsWrites, group_of_read}
 use Rattle.world_talks.specs.Conversation.{Answers, Conversation}
 use Rattle.world_talks.specs.HearLaws.{hears-answer, hears-tell}

@@ -19,8 +19,8 @@ use Rattle.world_base.specs.declared.request.FetchRequest.{FetchRequest}
 use Rattle.world_base.specs.declared.target.TargetState.{TargetState}
 use Rattle.world_base.specs.declared.world.World.{World}
 use Rattle.world_base.specs.ClientTurns.{is_waiting, waits}
-use Rattle.world_events.specs.Events.{Rules, TargetHears, client_plan, kept, target_plan}
-use Rattle.world_events.specs.Letters.{Takes, client, is_talk_of, is_tell, letter_of, talk_of, target}
+use Rattle.world_base.specs.Events.{Rules, TargetHears, client_plan, kept, target_plan}
+use Rattle.world_base.specs.Letters.{Takes, client, is_talk_of, is_tell, letter_of, talk_of, target}
 use Rattle.world_talks.specs.AnswerLaws.{answer-not-heard, heard-no-tell, hears-heard, request-is_heard}
 use Rattle.world_talks.specs.AskLaws.{IsRequest, asked-commit, asked-is-request, asked-read, sent-is-asked}
 use Rattle.world_talks.specs.Asked.{ARead, ASnapshot, AnAggregation, Asked, AsksCommit, AsksRead, ItsWrites, commit_of}
@@ -28,9 +28,9 @@ use Rattle.world_talks.specs.CarrierLaws.{held-has}
 use Rattle.world_talks.specs.Carriers.{Carrier, InFlight, carriers, carriers_of, held, held_from, in_flight, is_carrier_of, is_fetch_of, open_at, parked_at}
 use Rattle.world_talks.specs.Conversation.{Answers, Carries, Conversation, IsAnswered, IsAsked, IsOpen, IsParked, IsTalk, Talks, is_request, request_sent}
 use Rattle.world_talks.specs.TalkLaws.{got-is-talk, sent-is-talk, taken-is-among, talk-only}
-use Rattle.world_turns.specs.Reads.{fetch_at}
-use Rattle.world_turns.specs.Requests.{fetch_message}
-use Rattle.world_turns.specs.TargetTurns.{is_heard}
+use Rattle.world_base.specs.Reads.{fetch_at}
+use Rattle.world_base.specs.Requests.{fetch_message}
+use Rattle.world_base.specs.TargetTurns.{is_heard}
 
 -- ---- letters
 

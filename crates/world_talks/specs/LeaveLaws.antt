@@ -31,16 +31,16 @@ use Rattle.world_base.specs.declared.target.TargetMemory.{TargetMemory}
 use Rattle.world_base.specs.declared.target.TargetPlan.{TargetPlan}
 use Rattle.world_talks.specs.Carriers.{open_at}
 use Rattle.world_talks.specs.Conversation.{is_request}
-use Rattle.world_turns.specs.Acks.{MarkedEnds, AllConfirmed}
-use Rattle.world_turns.specs.Changes.{Change, Kept}
-use Rattle.world_turns.specs.Commits as commit
-use Rattle.world_turns.specs.Idle.{AllSettled, IdleEnds, batch_of, inquiry_of}
-use Rattle.world_turns.specs.Marks.{AllMarked, MarkEnds}
-use Rattle.world_turns.specs.Prepares as prepare
-use Rattle.world_turns.specs.Reads as read
-use Rattle.world_turns.specs.Requests.{request_epoch, with_ticks}
-use Rattle.world_turns.specs.Roles.{leader_at, with_unsettled}
-use Rattle.world_turns.specs.Verdicts as verdict
+use Rattle.world_base.specs.Acks.{MarkedEnds, AllConfirmed}
+use Rattle.world_base.specs.Changes.{Change, Kept}
+use Rattle.world_base.specs.Commits as commit
+use Rattle.world_base.specs.Idle.{AllSettled, IdleEnds, batch_of, inquiry_of}
+use Rattle.world_base.specs.Marks.{AllMarked, MarkEnds}
+use Rattle.world_base.specs.Prepares as prepare
+use Rattle.world_base.specs.Reads as read
+use Rattle.world_base.specs.Requests.{request_epoch, with_ticks}
+use Rattle.world_base.specs.Roles.{leader_at, with_unsettled}
+use Rattle.world_base.specs.Verdicts as verdict
 
 -- all of these posts go to targets, and none is a request
 abbrev pub ToTargets : List Post → Type 0

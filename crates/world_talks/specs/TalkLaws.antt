@@ -6,7 +6,7 @@ use Rattle.std.proofs.lemmas.List.Elements.{Contains-append_cases, Contains-appe
 use Rattle.daos_laws.specs.Members.{Has, contains-from_has, has-cases, has-from_contains, has-left, has-right}
 use Rattle.daos_messages.specs.declared.actor.ActorId.{ActorId}
 use Rattle.world_base.specs.declared.letter.Letter.{Letter}
-use Rattle.world_events.specs.Letters.{Takes, client, is_client, is_talk_of, is_tell, talk_of}
+use Rattle.world_base.specs.Letters.{Takes, client, is_client, is_talk_of, is_tell, talk_of}
 
 -- ---- lists
 

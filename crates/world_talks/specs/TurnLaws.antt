@@ -21,8 +21,8 @@ use Rattle.world_base.specs.declared.request.FetchRequest.{FetchRequest}
 use Rattle.world_base.specs.declared.target.TargetMemory.{TargetMemory}
 use Rattle.world_base.specs.declared.world.World.{World}
 use Rattle.world_base.specs.ClientTurns.{waits}
-use Rattle.world_events.specs.Events.{Rules, client_plan}
-use Rattle.world_events.specs.Letters.{client, letter_of, letters_of, target}
+use Rattle.world_base.specs.Events.{Rules, client_plan}
+use Rattle.world_base.specs.Letters.{client, letter_of, letters_of, target}
 use Rattle.world_talks.specs.Asked.{commit_of}
 use Rattle.world_talks.specs.CarrierLaws.{bit, count, count-append, count-cons, count-put, count-zero, has-put}
 use Rattle.world_talks.specs.Carriers.{Carrier, InFlight, ParkedAt, held, in_flight, is_carrier_of, open_at, parked_at}
@@ -30,8 +30,8 @@ use Rattle.world_talks.specs.Conversation.{Answers, Carries, IsAnswered, IsAsked
 use Rattle.world_talks.specs.InFlight.{of-letter, of-open}
 use Rattle.world_talks.specs.LeaveLaws.{CommitLeaves, FetchLeaves, HasBegun, HoldsOn, IsEnded, IsKept, IsReplied, ToTargets}
 use Rattle.world_talks.specs.TalkLaws.{between-is-of, got-is-of}
-use Rattle.world_turns.specs.Reads.{fetch_at}
-use Rattle.world_turns.specs.Requests.{fetch_message}
+use Rattle.world_base.specs.Reads.{fetch_at}
+use Rattle.world_base.specs.Requests.{fetch_message}
 
 -- a carrier of a client that waits
 pub record Owns (r : Rules) (w : World) (n : ℕ) (x : Carrier) : Type 0 where

@@ -9,7 +9,7 @@ use Rattle.dtx_base.specs.Rows.{is_row_of}
 use Rattle.world_attempts.specs.Attempts.{IsUnsettled, Rows, leader_of, row_in}
 use Rattle.world_base.specs.declared.target.TargetState.{TargetState}
 use Rattle.world_base.specs.declared.world.World.{World}
-use Rattle.world_events.specs.Events.{Rules}
+use Rattle.world_base.specs.Events.{Rules}
 use Rattle.world_talks.specs.Conversation.{Conversation}
 use Rattle.world_talks.specs.InFlight.{OpenIs, open-is}
 use Rattle.world_verdicts.specs.Statements.{IsOpen, OpenAreAwaited}

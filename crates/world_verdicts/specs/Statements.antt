@@ -12,9 +12,9 @@ use Rattle.world_base.specs.declared.client.ClientState.{ClientState}
 use Rattle.world_base.specs.declared.letter.Letter.{Letter}
 use Rattle.world_base.specs.declared.world.World.{World}
 use Rattle.world_base.specs.ClientTurns.{heard, moved}
-use Rattle.world_events.specs.Events.{Rules, TargetHears, TargetIdles, client_plan}
-use Rattle.world_events.specs.Letters.{Takes, client}
-use Rattle.world_events.specs.Steps.{KeptByCounting, after_move, without}
+use Rattle.world_base.specs.Events.{Rules, TargetHears, TargetIdles, client_plan}
+use Rattle.world_base.specs.Letters.{Takes, client}
+use Rattle.world_base.specs.Steps.{KeptByCounting, after_move, without}
 use Rattle.world_lines.specs.Lines.{Endings, Lines}
 use Rattle.world_talks.specs.Conversation.{Conversation}
 use Rattle.world_talks.specs.InFlight.{OpenIs}

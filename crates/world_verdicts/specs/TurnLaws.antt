@@ -26,9 +26,9 @@ use Rattle.world_clients.specs.AnswerLaws.{numbered-here}
 use Rattle.world_clients.specs.Answered.{is_refusal}
 use Rattle.world_clients.specs.MoveLaws.{IsAt, is-at}
 use Rattle.world_clients.specs.Standing.{HasTold}
-use Rattle.world_events.specs.Events.{Rules, TargetHears, TargetIdles, client_plan, commands_or_none, kept, or_issued, target_plan, with_epoch}
-use Rattle.world_events.specs.Letters.{Takes, client, letter_of, letters_of, target}
-use Rattle.world_events.specs.Steps.{KeptByCounting, after_move, without}
+use Rattle.world_base.specs.Events.{Rules, TargetHears, TargetIdles, client_plan, commands_or_none, kept, or_issued, target_plan, with_epoch}
+use Rattle.world_base.specs.Letters.{Takes, client, letter_of, letters_of, target}
+use Rattle.world_base.specs.Steps.{KeptByCounting, after_move, without}
 use Rattle.world_lines.specs.Lines.{Endings, IsCommitted, Lines, TellsEnd, filled}
 use Rattle.world_lines.specs.EndingLaws.{PostsEnd, hears-ends, idle-ends}
 use Rattle.world_attempts.specs.History.{Aborted, Decided, GrowsBy, History, Tells}
@@ -40,7 +40,7 @@ use Rattle.world_talks.specs.HearLaws.{ended-silent, replied-silent}
 use Rattle.world_talks.specs.Hearing.{ATracker, AReply, AnEnd, IsHearing, hearing-is}
 use Rattle.world_talks.specs.InFlight.{GetsAnswer}
 use Rattle.world_talks.specs.TalkLaws.{left-is-among, left-or-it, taken-is-among}
-use Rattle.world_turns.specs.TargetTurns.{is_heard}
+use Rattle.world_base.specs.TargetTurns.{is_heard}
 use Rattle.world_verdicts.specs.TellLaws.{AllRead, Fails, Goes, MoveTells, NoSnap, Nothing, ReplyTells, moved-tells, replied-tells}
 use Rattle.world_verdicts.specs.VerdictLaws.{EndNothing, StillRefused, StillTold, TellDecided, client-did, told-new}
 use Rattle.world_verdicts.specs.Verdicts.{Agrees, HasWrites, IsOnItsWay, IsRefusedOnItsWay, IsToldCommitted, IsToldRefused, Verdicts}

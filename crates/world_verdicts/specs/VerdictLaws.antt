@@ -15,9 +15,9 @@ use Rattle.daos_model.specs.Laws.{tries-append}
 use Rattle.world_base.specs.declared.client.ClientState.{ClientState}
 use Rattle.world_base.specs.declared.letter.Letter.{Letter}
 use Rattle.world_base.specs.declared.world.World.{World}
-use Rattle.world_events.specs.Events.{Rules, with_epoch}
-use Rattle.world_events.specs.Letters.{client, letter_of, letters_of}
-use Rattle.world_events.specs.Steps.{after_client, without}
+use Rattle.world_base.specs.Events.{Rules, with_epoch}
+use Rattle.world_base.specs.Letters.{client, letter_of, letters_of}
+use Rattle.world_base.specs.Steps.{after_client, without}
 use Rattle.world_lines.specs.FilledLaws.{tries-filled}
 use Rattle.world_lines.specs.Lines.{filled}
 use Rattle.world_attempts.specs.History.{Aborted, Decided, History}

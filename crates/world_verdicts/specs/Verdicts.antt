@@ -18,8 +18,8 @@ use Rattle.world_base.specs.declared.letter.Letter.{Letter}
 use Rattle.world_base.specs.declared.world.World.{World}
 use Rattle.world_base.specs.ClientTurns.{attempt_id}
 use Rattle.world_clients.specs.Answered.{is_refusal}
-use Rattle.world_events.specs.Events.{Rules, client_plan}
-use Rattle.world_events.specs.Letters.{client}
+use Rattle.world_base.specs.Events.{Rules, client_plan}
+use Rattle.world_base.specs.Letters.{client}
 
 -- ---- what is told, and will be
 

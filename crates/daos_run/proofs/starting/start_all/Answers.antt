@@ -6,7 +6,7 @@ use Rattle.daos_run.specs.Slots.{AreTaken, FromTo}
 use Rattle.daos_run.specs.Stops.{MayStop, is_fault_of, not_started}
 use Rattle.daos_run.specs.declared.stop.RunStop.TheVariants.{Memory as NoMemory}
 use Rattle.target_parts.specs.Parts.{Runs}
-use Rattle.world_events.specs.StepLaws.{set-here}
+use Rattle.world_base.specs.StepLaws.{set-here}
 use Rattle.daos_run.proofs.starting.start_all.Goals as goal
 
 pub returns-in_err-targets-clause-runs : goal.returns-in_err-targets-clause-runs

@@ -1,7 +1,7 @@
 use Rattle.std.proofs.Common.{◌<◌, length, subst, sym}
 use Rattle.replay_fetch.proofs.Reading.{gone_more, gone_none, met_ending, met_stuck, met_way}
 use Rattle.replay_fetch.proofs.reads.read_on.Goals as goal
-use Rattle.world_turns.specs.LoopLaws.{one-fewer}
+use Rattle.world_base.specs.LoopLaws.{one-fewer}
 
 pub loop-work-init : goal.loop-work-init
 loop-work-init c = gone_none c.args.plan c.args.request.now c.args.epoch c.args.work c.requires

@@ -1,5 +1,5 @@
 use Rattle.std.proofs.Common.{◌≡◌, drop}
-use Rattle.world_turns.specs.Commits.{first_floor}
+use Rattle.world_base.specs.Commits.{first_floor}
 use Rattle.replay_writes.proofs.checks.first_floor.Given as goal
 
 abbrev pub invariant-loop-write : goal.invariant-loop-write

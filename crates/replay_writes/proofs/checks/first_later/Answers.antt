@@ -1,5 +1,5 @@
 use Rattle.std.proofs.Common.{◌≡◌, ◌∙◌, ap, rules, true}
-use Rattle.world_turns.specs.Reads.{later_of}
+use Rattle.world_base.specs.Reads.{later_of}
 use Rattle.replay_writes.proofs.Writing.{later_found, later_passes, laters_passed}
 use Rattle.replay_writes.proofs.checks.first_later.Goals as goal
 

@@ -1,5 +1,5 @@
 use Rattle.std.proofs.Common.{take}
-use Rattle.world_turns.specs.Commits.{NoReads}
+use Rattle.world_base.specs.Commits.{NoReads}
 use Rattle.replay_writes.proofs.Reading.{NoneYet, Shows}
 use Rattle.replay_writes.proofs.reads.is_first_read.Given as goal
 

@@ -1,6 +1,4 @@
 use Rattle.std.proofs.Common.{subst, sym}
-use Rattle.daos_laws.specs.Members.{Has}
-use Rattle.target_parts.specs.KeepingLaws.{elsewhere-apart}
 use Rattle.target_parts.specs.Knowing.{memory_of}
 use Rattle.target_core.specs.Targets.{CanHear, HearsOrStops}
 use Rattle.target_core.proofs.VerdictHeard.{hears-verdict}
@@ -8,15 +6,6 @@ use Rattle.target_core.proofs.hearing.hear_target.Goals as goal
 
 pub hear_prepare-requires-clause-here : goal.hear_prepare-requires-clause-here
 hear_prepare-requires-clause-here g c d at = subst (λ m. CanHear c.args.plan m d) c.in-Prepare.is (c.requires.here d at)
-
-pub hear_mark-requires-clause-apart : goal.hear_mark-requires-clause-apart
-hear_mark-requires-clause-apart g c d at x i =
-    let elsewhere = subst (λ m. CanHear c.args.plan m d) c.in-Mark.is (c.requires.here d at) in
-    elsewhere-apart c.args.plan x.0 (memory_of c.args.knows.now) c.args.knows.now.entries.items d (c.requires.leads d at) (elsewhere x (subst (λ xs. Has x xs) c.as_slice.ensures i))
-
-pub hear_verdict-requires-clause-apart : goal.hear_verdict-requires-clause-apart
-hear_verdict-requires-clause-apart g c d at =
-    elsewhere-apart c.args.plan c.in-Verdict.attempt (memory_of c.args.knows.now) c.args.knows.now.entries.items d (c.requires.leads d at) (subst (λ m. CanHear c.args.plan m d) c.in-Verdict.is (c.requires.here d at))
 
 pub returns-in-Verdict-clause-turn : goal.returns-in-Verdict-clause-turn
 returns-in-Verdict-clause-turn g c d at reading =

@@ -8,10 +8,10 @@ use Rattle.target_dtx.proofs.acks.confirm.Goals as goal
 pub settle-requires-clause-can : goal.settle-requires-clause-can
 settle-requires-clause-can g c d at =
     confirm-can c.args.plan.me c.args.member c.args.attempt c.deref.result.now d c.in-Some.entry (c.deref.ensures.value ∙ (c.requires.leads d at).entries) (g.met.S.Store.formed _ c.requires.running d at).entries
-    (sym c.find_led.ensures ∙ c.in-Some.is) c.if-entry.true (sym c.has_target.ensures.has ∙ c.if-has_target.true)
+    (sym c.find_led.ensures ∙ c.in-Some.is) c.if-entry.true (sym c.has_number.ensures.has ∙ c.if-has_number.true)
 
-pub returns-then-has_target-clause-leads : goal.returns-then-has_target-clause-leads
-returns-then-has_target-clause-leads g c =
+pub returns-then-has_number-clause-leads : goal.returns-then-has_number-clause-leads
+returns-then-has_number-clause-leads g c =
     leads-after_step c.args.plan c.args.attempt (Confirm c.args.member) (memory_of c.args.knows.now) c.args.knows.now.entries.items _ _ _ (g.S.Store.durable c.args.store.now) _ _ _
     c.settle.ensures.runs.told c.settle.ensures.entries c.settle.ensures.made
     (λ d at. confirm-apart c.args.plan.me c.args.member c.args.attempt c.deref.result.now d c.in-Some.entry (c.deref.ensures.value ∙ (c.requires.leads d at).entries) (g.met.S.Store.formed _ c.requires.running d at).entries

@@ -1,12 +1,12 @@
 use Rattle.std.proofs.Common.{◌≡◌, ◌∙◌, Err, refl, rules, subst, sym}
 use Rattle.vos_store.specs.Refusals.{always_stop}
-use Rattle.world_turns.specs.Acks.{MarkedNext}
+use Rattle.world_base.specs.Acks.{MarkedNext}
 use Rattle.target_parts.specs.Listing.{none_left}
 use Rattle.target_parts.specs.Running.{runs_first, runs_on, still_runs}
 use Rattle.target_dtx.specs.Dtx.{GoesThrough}
 use Rattle.target_dtx.proofs.Confirming.{confirms-cut, confirms-on, none_marked}
 use Rattle.target_dtx.proofs.acks.confirm_all.Goals as goal
-use Rattle.world_turns.specs.PathLaws.{reached-here}
+use Rattle.world_base.specs.PathLaws.{reached-here}
 
 pub loop-attempt-init : goal.loop-attempt-init
 loop-attempt-init g c = record {

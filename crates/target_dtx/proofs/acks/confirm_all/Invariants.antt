@@ -2,8 +2,8 @@ use Rattle.std.proofs.Common.{◌≡◌, Some, drop}
 use Rattle.std.specs.Option.{ForSome}
 use Rattle.daos_model.specs.declared.durable.Durable.{Durable}
 use Rattle.world_base.specs.declared.target.TargetMemory.{TargetMemory}
-use Rattle.world_turns.specs.Acks.{MarkedNext}
-use Rattle.world_turns.specs.Turns.{Reached}
+use Rattle.world_base.specs.Acks.{MarkedNext}
+use Rattle.world_base.specs.Turns.{Reached}
 use Rattle.target_parts.specs.Knowing.{IsBeside, LeadsWell, memory_of}
 use Rattle.target_parts.specs.Parts.{Now, StillRuns, kept}
 use Rattle.target_dtx.proofs.acks.confirm_all.Given as goal

@@ -1,7 +1,7 @@
 use Rattle.std.proofs.Common.{◌≡◌, ◌∙◌, Err, ap, refl, rules, subst, sym}
-use Rattle.world_turns.specs.Acks.{AckEnds, AckNext, Heard, is_refusing}
-use Rattle.world_turns.specs.Roles.{leads_on}
-use Rattle.world_turns.specs.Turns.{Whole}
+use Rattle.world_base.specs.Acks.{AckEnds, AckNext, Heard, is_refusing}
+use Rattle.world_base.specs.Roles.{leads_on}
+use Rattle.world_base.specs.Turns.{Whole}
 use Rattle.target_parts.specs.Ending.{turn_cut, turn_wanting}
 use Rattle.target_parts.specs.Knowing.{IsApart, memory_of}
 use Rattle.target_parts.specs.KeepingLaws.{leads-same}

@@ -1,7 +1,7 @@
 use Rattle.std.proofs.Common.{◌≡◌, ◌∙◌, [], Err, ap, refl, rules, subst, sym}
 use Rattle.std.specs.Prelude.{◌==◌, if◌then◌else◌}
 use Rattle.dtx_base.specs.Leading.{answered}
-use Rattle.world_turns.specs.Acks.{MarkedNext, to_confirm}
+use Rattle.world_base.specs.Acks.{MarkedNext, to_confirm}
 use Rattle.target_parts.specs.Ending.{turn_wanting}
 use Rattle.target_parts.specs.Knowing.{memory_of}
 use Rattle.target_parts.specs.KeepingLaws.{leads-same}

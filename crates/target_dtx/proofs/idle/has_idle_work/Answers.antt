@@ -2,7 +2,7 @@ use Rattle.std.proofs.Common.{◌≡◌, ◌∙◌, ◌&&◌, Bool, ap, false, l
 use Rattle.std.specs.Prelude.{◌==◌}
 use Rattle.dtx_base.specs.Joining.{is_inquiry_due}
 use Rattle.dtx_base.specs.Leading.{is_batch_due}
-use Rattle.world_turns.specs.Roles.{leader_at, member_at}
+use Rattle.world_base.specs.Roles.{leader_at, member_at}
 use Rattle.target_parts.specs.Knowing.{memory_of}
 use Rattle.target_parts.specs.KnowsLaws.{leader-known}
 use Rattle.target_dtx.proofs.Telling.{has-idle, member-known}

@@ -1,15 +1,15 @@
 use Rattle.std.proofs.Common.{◌≡◌, ◌∙◌, Err, ap, arith, false, get_or, length, refl, rules, subst, sym, true}
 use Rattle.std.specs.Prelude.{◌==◌}
 use Rattle.vos_store.specs.Refusals.{always_stop}
-use Rattle.world_turns.specs.Idle.{IdleNext}
-use Rattle.world_turns.specs.Turns.{Reached}
+use Rattle.world_base.specs.Idle.{IdleNext}
+use Rattle.world_base.specs.Turns.{Reached}
 use Rattle.target_parts.specs.Parts.{Now, kept}
 use Rattle.target_parts.specs.Running.{runs_first, runs_on, still_runs}
 use Rattle.target_dtx.specs.Dtx.{GoesThrough}
 use Rattle.target_dtx.proofs.Idling.{fewer, idles-more, idles-stop, none-left, none_decided}
 use Rattle.target_dtx.proofs.idle.settle_all.Goals as goal
 use Rattle.target_parts.specs.KnowsLaws.{decided-on}
-use Rattle.world_turns.specs.PathLaws.{reached-here}
+use Rattle.world_base.specs.PathLaws.{reached-here}
 
 pub loop-plan-init : goal.loop-plan-init
 loop-plan-init g c = record {

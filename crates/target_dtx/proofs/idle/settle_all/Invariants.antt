@@ -1,8 +1,8 @@
 use Rattle.std.proofs.Common.{◌≡◌, Some, length}
 use Rattle.std.specs.Option.{ForSome}
 use Rattle.daos_model.specs.declared.durable.Durable.{Durable}
-use Rattle.world_turns.specs.Idle.{IdleNext}
-use Rattle.world_turns.specs.Turns.{Reached}
+use Rattle.world_base.specs.Idle.{IdleNext}
+use Rattle.world_base.specs.Turns.{Reached}
 use Rattle.target_parts.specs.Knowing.{IsBeside, LeadsWell, memory_of}
 use Rattle.target_parts.specs.Parts.{Now, StillRuns, kept}
 use Rattle.target_dtx.proofs.idle.settle_all.Given as goal

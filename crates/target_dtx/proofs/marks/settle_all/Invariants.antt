@@ -1,8 +1,8 @@
 use Rattle.std.proofs.Common.{◌≡◌, Some, drop}
 use Rattle.std.specs.Option.{ForSome}
 use Rattle.daos_model.specs.declared.durable.Durable.{Durable}
-use Rattle.world_turns.specs.Marks.{MarkNext}
-use Rattle.world_turns.specs.Turns.{Reached}
+use Rattle.world_base.specs.Marks.{MarkNext}
+use Rattle.world_base.specs.Turns.{Reached}
 use Rattle.target_parts.specs.Knowing.{IsBeside, LeadsWell, memory_of}
 use Rattle.target_parts.specs.Parts.{Now, StillRuns, kept}
 use Rattle.target_dtx.proofs.marks.settle_all.Given as goal
@@ -14,5 +14,5 @@ invariant-loop-mark g l = record {
   beside : IsBeside l.fn.knows l.knows;
   leader : l.knows.leader ≡ l.fn.knows.leader;
   reached : (d : Durable) → g.S.Store.durable l.fn.store ≡ Some d
-      → Now (g.S.Store.durable l.store) (g.S.Store.state l.store) (λ k. Reached MarkNext l.marks (kept d (g.S.Store.state l.fn.store)) (drop l.mark-index l.marks) k);
+      → Now (g.S.Store.durable l.store) (g.S.Store.state l.store) (λ k. Reached (MarkNext l.plan.me) l.marks (kept d (g.S.Store.state l.fn.store)) (drop l.mark-index l.marks) k);
 }

@@ -3,8 +3,8 @@ use Rattle.std.specs.Prelude.{IfOk}
 use Rattle.daos_messages.specs.declared.message.Message.{Message}
 use Rattle.daos_messages.specs.declared.message.Message.TheVariants.{Verdict}
 use Rattle.dtx_base.specs.Leading.{query_answer}
-use Rattle.world_turns.specs.Requests.{says}
-use Rattle.world_turns.specs.Verdicts.{verdict_message}
+use Rattle.world_base.specs.Requests.{says}
+use Rattle.world_base.specs.Verdicts.{verdict_message}
 use Rattle.target_parts.specs.Knowing.{memory_of}
 use Rattle.target_parts.specs.KnowsLaws.{leader-known}
 use Rattle.target_dtx.proofs.Answering.{answers-so}

@@ -1,5 +1,5 @@
 use Rattle.std.proofs.Common.{◌≡◌, ◌≤◌, drop, length}
-use Rattle.world_turns.specs.Commits.{bits_of}
+use Rattle.world_base.specs.Commits.{bits_of}
 use Rattle.target_members.proofs.members.bits_of.Given as goal
 
 abbrev pub invariant-loop-i : goal.invariant-loop-i

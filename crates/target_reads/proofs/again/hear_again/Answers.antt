@@ -1,5 +1,5 @@
 use Rattle.std.proofs.Common.{subst, sym}
-use Rattle.world_turns.specs.Reads.{Asked}
+use Rattle.world_base.specs.Reads.{Asked}
 use Rattle.target_parts.specs.Knowing.{IsAskHere, memory_of}
 use Rattle.target_reads.specs.Fetches.{FetchTurn}
 use Rattle.target_reads.proofs.again.hear_again.Goals as goal

@@ -1,6 +1,6 @@
 use Rattle.std.proofs.Common.{◌≡◌, Err, ap, refl, rules, subst}
-use Rattle.world_turns.specs.Turns.{Reached, Whole}
-use Rattle.world_turns.specs.Verdicts.{Freed, Heard, VerdictEnds, VerdictNext}
+use Rattle.world_base.specs.Turns.{Reached, Whole}
+use Rattle.world_base.specs.Verdicts.{Freed, Heard, VerdictEnds, VerdictNext}
 use Rattle.target_parts.specs.Ending.{turn_cut, turn_on, turn_wanting}
 use Rattle.target_parts.specs.Knowing.{memory_of}
 use Rattle.target_parts.specs.KnowsLaws.{memory-same}

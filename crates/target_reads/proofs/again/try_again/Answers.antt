@@ -1,7 +1,7 @@
 use Rattle.std.proofs.Common.{◌≡◌, ◌<◌, Err, arith, inl, inr, length, refl, rules, subst, sym}
 use Rattle.daos_laws.specs.Members.{Has}
-use Rattle.world_turns.specs.Turns.{Reached, Whole}
-use Rattle.world_turns.specs.Verdicts.{Freed, VerdictEnds, VerdictNext}
+use Rattle.world_base.specs.Turns.{Reached, Whole}
+use Rattle.world_base.specs.Verdicts.{Freed, VerdictEnds, VerdictNext}
 use Rattle.target_parts.specs.Ending.{turn_wanting}
 use Rattle.target_parts.specs.Knowing.{memory_of}
 use Rattle.target_parts.specs.Parts.{Now, kept}
@@ -12,7 +12,7 @@ use Rattle.target_reads.proofs.Verdicts.{first-removed, partway-from, tried-all,
 use Rattle.world_posts.specs.Forms.{PostsInForm}
 use Rattle.world_posts.specs.Posting.{then-posts, waits-on}
 use Rattle.target_reads.proofs.again.try_again.Goals as goal
-use Rattle.world_turns.specs.PathLaws.{reached-here}
+use Rattle.world_base.specs.PathLaws.{reached-here}
 
 pub loop-plan-init : goal.loop-plan-init
 loop-plan-init g c = record {

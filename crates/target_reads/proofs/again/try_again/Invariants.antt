@@ -4,8 +4,8 @@ use Rattle.daos_base.specs.declared.entry.Verdict.{Verdict}
 use Rattle.daos_base.specs.declared.id.AttemptId.{AttemptId}
 use Rattle.daos_model.specs.declared.durable.Durable.{Durable}
 use Rattle.world_base.specs.declared.target.TargetMemory.{TargetMemory}
-use Rattle.world_turns.specs.Turns.{Reached}
-use Rattle.world_turns.specs.Verdicts.{Freed, VerdictNext}
+use Rattle.world_base.specs.Turns.{Reached}
+use Rattle.world_base.specs.Verdicts.{Freed, VerdictNext}
 use Rattle.target_parts.specs.Knowing.{IsOwn, LeadsWell, memory_of}
 use Rattle.target_parts.specs.Parts.{Now, StillRuns, kept}
 use Rattle.world_posts.specs.Forms.{PostsInForm}

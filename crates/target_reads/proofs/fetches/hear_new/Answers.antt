@@ -2,7 +2,7 @@ use Rattle.std.proofs.Common.{◌≡◌, ◌∙◌, ◌/◌, None, Some, ap, fal
 use Rattle.daos_base.specs.Operations.{read_path}
 use Rattle.daos_model.specs.Changes.{leased}
 use Rattle.daos_model.specs.Durables.{is_enlisted}
-use Rattle.world_turns.specs.Requests as asked
+use Rattle.world_base.specs.Requests as asked
 use Rattle.target_parts.specs.Covers.{heard_of}
 use Rattle.target_parts.specs.KeepingLaws.{enlisted-leased}
 use Rattle.target_parts.specs.Knowing.{LeadsWell, memory_of}

@@ -1,8 +1,8 @@
 use Rattle.std.proofs.Common.{◌≡◌, ◌∙◌, ap, refl, sym, true}
 use Rattle.daos_base.specs.Operations.{read_path}
 use Rattle.daos_model.specs.Durables.{is_enlisted}
-use Rattle.world_turns.specs.Reads.{FetchEnds, FetchNext, Reading}
-use Rattle.world_turns.specs.Turns.{Whole}
+use Rattle.world_base.specs.Reads.{FetchEnds, FetchNext, Reading}
+use Rattle.world_base.specs.Turns.{Whole}
 use Rattle.target_parts.specs.Ending.{turn_halted}
 use Rattle.target_parts.specs.Knowing.{LeadsWell, memory_of}
 use Rattle.target_parts.specs.KnowsLaws.{own-beside}

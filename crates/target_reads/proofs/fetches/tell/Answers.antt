@@ -1,6 +1,6 @@
 use Rattle.std.proofs.Common.{◌∙◌, ap, refl}
 use Rattle.dtx_base.specs.Joining.{parking}
-use Rattle.world_turns.specs.Reads.{fetch_at}
+use Rattle.world_base.specs.Reads.{fetch_at}
 use Rattle.target_parts.specs.Knowing.{memory_of}
 use Rattle.target_reads.proofs.Parking.{here-at, leads-parks, own-as_before, own-parks, parkable-at}
 use Rattle.target_reads.proofs.fetches.tell.Goals.{in-Refused, in-Unresolved, in-Answer+in_ok-raise-in-Answer}

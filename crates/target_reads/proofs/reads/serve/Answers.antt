@@ -6,8 +6,8 @@ use Rattle.daos_model.specs.declared.durable.Durable.{Durable}
 use Rattle.daos_model.specs.Changes.{settled}
 use Rattle.daos_model.specs.Durables.{is_enlisted}
 use Rattle.vos_store.specs.Refusals.{always_stop}
-use Rattle.world_turns.specs.Reads.{FetchNext, Reading}
-use Rattle.world_turns.specs.Turns.{Reached}
+use Rattle.world_base.specs.Reads.{FetchNext, Reading}
+use Rattle.world_base.specs.Turns.{Reached}
 use Rattle.target_parts.specs.declared.halt.Halt.TheVariants as halt
 use Rattle.target_parts.specs.EpochLaws.{has-epochs}
 use Rattle.target_parts.specs.Halts.{halt_stop}
@@ -18,12 +18,12 @@ use Rattle.target_parts.specs.Running.{for_some_on, runs_first, runs_on, still_r
 use Rattle.target_parts.specs.Turning.{part_asked, part_cut}
 use Rattle.dtx_table.specs.Tables.{entry_in}
 use Rattle.target_parts.specs.KnowsLaws.{decided-on}
-use Rattle.world_turns.specs.Roles.{other_leader_of}
+use Rattle.world_base.specs.Roles.{other_leader_of}
 use Rattle.target_reads.specs.Meets.{Meets, beside_of}
 use Rattle.target_reads.proofs.Serving.{other-known, serves_answer, serves_beside, serves_cut, serves_on, serves_refusal}
 use Rattle.target_reads.proofs.reads.serve.Goals as goal
-use Rattle.world_turns.specs.LoopLaws.{one-fewer}
-use Rattle.world_turns.specs.PathLaws.{reached-here}
+use Rattle.world_base.specs.LoopLaws.{one-fewer}
+use Rattle.world_base.specs.PathLaws.{reached-here}
 
 pub loop-answer-init : goal.loop-answer-init
 loop-answer-init g c = record {

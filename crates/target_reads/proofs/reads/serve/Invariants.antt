@@ -4,8 +4,8 @@ use Rattle.daos_base.specs.Operations.{read_path}
 use Rattle.daos_model.specs.declared.durable.Durable.{Durable}
 use Rattle.daos_model.specs.Durables.{is_enlisted}
 use Rattle.world_base.specs.declared.target.TargetMemory.{TargetMemory}
-use Rattle.world_turns.specs.Reads.{FetchNext, Reading}
-use Rattle.world_turns.specs.Turns.{Reached}
+use Rattle.world_base.specs.Reads.{FetchNext, Reading}
+use Rattle.world_base.specs.Turns.{Reached}
 use Rattle.target_parts.specs.Knowing.{IsBeside, LeadsWell, memory_of}
 use Rattle.target_parts.specs.Parts.{Now, StillRuns, kept}
 use Rattle.target_reads.proofs.reads.serve.Given as goal

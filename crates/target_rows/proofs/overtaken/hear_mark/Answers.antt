@@ -2,14 +2,13 @@ use Rattle.std.proofs.Common.{subst, sym}
 use Rattle.std.specs.Option.{ForSome}
 use Rattle.target_core.specs.Targets.{CanHear}
 use Rattle.target_parts.specs.Running.{for_some_on}
-use Rattle.target_rows.specs.Overtaken.{IsNew, second}
-use Rattle.target_rows.proofs.Overtaking.{can_mark, mark_turn}
+use Rattle.target_rows.specs.Overtaken.{IsNew}
+use Rattle.target_rows.proofs.Overtaking.{mark_turn}
 use Rattle.target_rows.proofs.overtaken.hear_mark.Goals as goal
 
 pub hear-requires-clause-here : goal.hear-requires-clause-here
 hear-requires-clause-here g c =
-    subst (λ t. ForSome (g.S.Store.durable c.args.target.now.store) (CanHear t c.in_ok-message.message)) (sym c.requires.plan)
-    (subst (λ x. ForSome (g.S.Store.durable c.args.target.now.store) (CanHear second x)) (sym c.in_ok-message.ensures) (λ d at. can_mark d (c.requires.new d at)))
+    subst (λ x. ForSome (g.S.Store.durable c.args.target.now.store) (CanHear c.args.target.now.plan x)) (sym c.in_ok-message.ensures) (λ d at. tt)
 
 pub returns-clause-new : goal.returns-clause-new
 returns-clause-new g c =

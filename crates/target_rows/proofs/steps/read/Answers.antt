@@ -7,7 +7,7 @@ use Rattle.target_rows.proofs.Keeping.{blank_leased, blank_settled, here_leased,
 use Rattle.target_rows.proofs.steps.read.Goals as goal
 
 pub hear-requires-clause-form : goal.hear-requires-clause-form
-hear-requires-clause-form g c = subst (HasForm c.args.target.now.plan c.client_of.result) (sym c.in_ok-message.ensures) (fetch_in_form c.args.target.now.plan c.client_of.result c.args.by c.args.key.now)
+hear-requires-clause-form g c = subst (HasForm c.args.target.now.plan) (sym c.in_ok-message.ensures) (fetch_in_form c.args.target.now.plan c.args.by c.args.key.now)
 
 pub returns-clause-here : goal.returns-clause-here
 returns-clause-here g c =

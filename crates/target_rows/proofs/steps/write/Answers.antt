@@ -10,8 +10,8 @@ use Rattle.target_rows.proofs.steps.write.Goals as goal
 
 pub hear-requires-clause-form : goal.hear-requires-clause-form
 hear-requires-clause-form g c =
-    subst (λ t. HasForm t c.client_of.result c.in_ok-message.message) (sym c.requires.plan)
-    (subst (HasForm lone c.client_of.result) (sym c.in_ok-message.ensures) (commit_in_form c.client_of.result c.args.by c.args.ep c.args.key.now))
+    subst (λ t. HasForm t c.in_ok-message.message) (sym c.requires.plan)
+    (subst (HasForm lone) (sym c.in_ok-message.ensures) (commit_in_form c.args.by c.args.ep c.args.key.now))
 
 pub hear-requires-clause-here : goal.hear-requires-clause-here
 hear-requires-clause-here g c =

@@ -2,7 +2,7 @@ use Rattle.std.proofs.Common.{◌≡◌, ◌∙◌, ap, refl, rules, subst, sym,
 use Rattle.daos_laws.specs.Lists.{item-holds}
 use Rattle.daos_model.specs.FormLaws.{path-in_form}
 use Rattle.daos_model.specs.Forms.{is_path_in_form, is_write_in_form}
-use Rattle.world_turns.specs.Reads.{later_of}
+use Rattle.world_base.specs.Reads.{later_of}
 use Rattle.target_parts.specs.Halts.{halt_stop}
 use Rattle.target_parts.specs.Running.{runs_on, still_runs}
 use Rattle.target_writes.specs.Writing.{later_found, later_passes, laters_passed}

@@ -1,6 +1,6 @@
 use Rattle.std.proofs.Common.{◌≡◌, Some, drop}
 use Rattle.daos_model.specs.declared.durable.Durable.{Durable}
-use Rattle.world_turns.specs.Commits.{first_later}
+use Rattle.world_base.specs.Commits.{first_later}
 use Rattle.target_parts.specs.Parts.{Stays, StillRuns}
 use Rattle.target_writes.proofs.checks.first_later.Given as goal
 

@@ -1,6 +1,6 @@
 use Rattle.std.proofs.Common.{◌≡◌, drop}
 use Rattle.std.specs.Option.{ForSome}
-use Rattle.world_turns.specs.Commits.{first_floor}
+use Rattle.world_base.specs.Commits.{first_floor}
 use Rattle.target_writes.proofs.checks.floor_cause.Given as goal
 
 abbrev pub invariant-loop-write : goal.invariant-loop-write

@@ -1,5 +1,5 @@
 use Rattle.std.proofs.Common.{take}
-use Rattle.world_turns.specs.Commits.{NoReads}
+use Rattle.world_base.specs.Commits.{NoReads}
 use Rattle.target_writes.proofs.checks.later_read.Given as goal
 
 abbrev pub invariant-loop-write : goal.invariant-loop-write

@@ -1,5 +1,5 @@
 use Rattle.std.proofs.Common.{◌∙◌, refl, subst, sym}
-use Rattle.world_turns.specs.Commits.{IsAllowed}
+use Rattle.world_base.specs.Commits.{IsAllowed}
 use Rattle.target_parts.specs.EpochLaws.{has-epochs}
 use Rattle.target_parts.specs.Knowing.{LeadsWell, memory_of}
 use Rattle.target_parts.specs.Running.{for_some_on}

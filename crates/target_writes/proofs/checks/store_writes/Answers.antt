@@ -5,7 +5,7 @@ use Rattle.daos_base.specs.declared.outcome.Outcome.TheVariants as outcome
 use Rattle.daos_model.specs.Blocks.{blocks}
 use Rattle.daos_model.specs.Changes.{prepared}
 use Rattle.vos_store.specs.Refusals.{prepare_stop}
-use Rattle.world_turns.specs.Changes.{Prepares}
+use Rattle.world_base.specs.Changes.{Prepares}
 use Rattle.target_parts.specs.declared.halt.Halt.TheVariants as halt
 use Rattle.target_parts.specs.Cover.{was_cut}
 use Rattle.target_writes.specs.Checks.{BySpace, PreparesOrNot}

@@ -1,7 +1,7 @@
 use Rattle.std.proofs.Common.{◌∙◌, [], ap, subst, sym}
 use Rattle.dtx_base.specs.Leading.{begun}
 use Rattle.dtx_posts.specs.Seats.{came, leader_of}
-use Rattle.world_turns.specs.Requests.{sends}
+use Rattle.world_base.specs.Requests.{sends}
 use Rattle.target_parts.specs.Knowing.{AreRowsOpen, IsApart, IsOpenHere, memory_of}
 use Rattle.target_writes.proofs.Beginning.{begun-here, begun-rows, begun-told}
 use Rattle.target_writes.proofs.Posting.{begun-posts}

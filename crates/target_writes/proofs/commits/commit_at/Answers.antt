@@ -4,9 +4,9 @@ use Rattle.daos_messages.specs.declared.message.Message.TheVariants as message
 use Rattle.daos_model.specs.Changes.{prepared}
 use Rattle.dtx_base.specs.Members.{writes_at}
 use Rattle.vos_store.specs.Conditions.{IsPreparable}
-use Rattle.world_turns.specs.Commits.{Checking, CommitEnds, CommitNext, led_entry, own_writes}
-use Rattle.world_turns.specs.Requests as asked
-use Rattle.world_turns.specs.Turns.{Whole}
+use Rattle.world_base.specs.Commits.{Checking, CommitEnds, CommitNext, led_entry, own_writes}
+use Rattle.world_base.specs.Requests as asked
+use Rattle.world_base.specs.Turns.{Whole}
 use Rattle.target_parts.specs.Ending.{turn_wanting}
 use Rattle.target_parts.specs.KeepingLaws.{elsewhere-apart, open-new}
 use Rattle.target_parts.specs.Knowing.{IsApart, IsOpenHere, memory_of}

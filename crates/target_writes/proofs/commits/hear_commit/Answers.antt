@@ -1,7 +1,7 @@
 use Rattle.std.proofs.Common.{◌≡◌, ◌∙◌, ◌/◌, ◌<◌, None, Some, ap, arith, refl, sym}
 use Rattle.daos_model.specs.Changes.{leased}
-use Rattle.world_turns.specs.Commits.{led_entry, own_writes}
-use Rattle.world_turns.specs.Requests as asked
+use Rattle.world_base.specs.Commits.{led_entry, own_writes}
+use Rattle.world_base.specs.Requests as asked
 use Rattle.target_parts.specs.Covers.{heard_of}
 use Rattle.target_parts.specs.EpochLaws.{epoch-known}
 use Rattle.target_parts.specs.Knowing.{LeadsWell, memory_of}

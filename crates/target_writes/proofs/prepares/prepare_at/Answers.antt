@@ -1,6 +1,6 @@
 use Rattle.std.proofs.Common.{◌∙◌, Err, Ok, ap, refl, subst, sym}
 use Rattle.vos_store.specs.Conditions.{IsPreparable}
-use Rattle.world_turns.specs.Prepares.{acks}
+use Rattle.world_base.specs.Prepares.{acks}
 use Rattle.target_parts.specs.Knowing.{memory_of}
 use Rattle.target_parts.specs.KnowsLaws.{memory-same, own-beside}
 use Rattle.target_writes.specs.Checks.{CanStore}

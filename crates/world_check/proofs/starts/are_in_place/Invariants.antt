@@ -1,7 +1,7 @@
 use Rattle.std.proofs.Common.{ℕ, ◌≡◌, ◌<◌, Some, slice_get}
 use Rattle.client_core.specs.Clients.{IsInPlace}
 use Rattle.world_base.specs.declared.client.ClientState.{ClientState}
-use Rattle.world_events.specs.Events.{client_plan}
+use Rattle.world_base.specs.Events.{client_plan}
 use Rattle.world_list.specs.RunLists.{rules_of}
 use Rattle.world_check.proofs.starts.are_in_place.Given as goal
 

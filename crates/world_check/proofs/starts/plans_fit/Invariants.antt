@@ -1,6 +1,6 @@
 use Rattle.std.proofs.Common.{ℕ, ◌<◌}
 use Rattle.client_core.specs.Clients.{PlanFits}
-use Rattle.world_events.specs.Events.{client_plan}
+use Rattle.world_base.specs.Events.{client_plan}
 use Rattle.world_list.specs.RunLists.{rules_of}
 use Rattle.world_check.proofs.starts.plans_fit.Given as goal
 

@@ -1,7 +1,7 @@
 use Rattle.std.proofs.Common.{◌-◌, ◌∙◌, ap, length, subst}
 use Rattle.std.specs.Bool.{Decides}
 use Rattle.replay_base.proofs.Starts.{none_so}
-use Rattle.world_events.specs.Events.{target_plan}
+use Rattle.world_base.specs.Events.{target_plan}
 use Rattle.world_list.proofs.Decided.{Falls, Stands, taken_of}
 use Rattle.world_list.specs.RunLists.{rules_of}
 use Rattle.world_list.specs.Following.{FollowIs}

@@ -2,7 +2,7 @@ use Rattle.std.proofs.Common.{◌∙◌, length, subst}
 use Rattle.std.specs.Bool.{Decides}
 use Rattle.replay_base.proofs.Starts.{none_so}
 use Rattle.world_list.proofs.Decided.{Falls, Stands, joined_of}
-use Rattle.world_events.specs.Events.{target_plan}
+use Rattle.world_base.specs.Events.{target_plan}
 use Rattle.world_list.specs.RunLists.{rules_of}
 use Rattle.world_check.specs.Turned.{IdlesSo, IsAfterTarget, StaysOpen}
 use Rattle.world_check.proofs.Turning.{idles_decides, idles_none, told_at}

@@ -1,5 +1,5 @@
 use Rattle.std.proofs.Common.{◌≡◌}
-use Rattle.world_events.specs.Letters.{letters_of}
+use Rattle.world_base.specs.Letters.{letters_of}
 use Rattle.world_list.proofs.follow.letters_of.Given as goal
 
 -- the posts so far are letters

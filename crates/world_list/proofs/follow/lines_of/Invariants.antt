@@ -1,5 +1,5 @@
 use Rattle.std.proofs.Common.{◌≡◌, map}
-use Rattle.world_events.specs.Events.{with_epoch}
+use Rattle.world_base.specs.Events.{with_epoch}
 use Rattle.world_list.proofs.follow.lines_of.Given as goal
 
 -- the lines so far were added

@@ -8,7 +8,7 @@ use Rattle.run_actors.proofs.Follow.{follows}
 use Rattle.run_actors.proofs.Going.{client-heard, client-went-on, keeps-going}
 use Rattle.run_actors.proofs.Turns.{client-goes, client-hears}
 use Rattle.world_base.specs.ClientTurns.{HearTurn, NextTurn}
-use Rattle.world_events.specs.Letters.{client}
+use Rattle.world_base.specs.Letters.{client}
 use Rattle.run_actors.proofs.actors.Actors.client_turn.Goals as goal
 use Rattle.run_actors.proofs.actors.Actors.client_turn.Goals.{then-hears+in_ok-did, else-hears+in_ok-did-2}
 

@@ -1,7 +1,7 @@
 use Rattle.std.specs.Prelude.{length}
 use Rattle.run_actors.specs.Due.{AreDue, first_targets}
 use Rattle.run_picks.specs.Picks.{numbered}
-use Rattle.world_events.specs.Letters.{client}
+use Rattle.world_base.specs.Letters.{client}
 use Rattle.run_actors.proofs.actors.Actors.due.Given as goal
 
 -- the clients so far that have something to do

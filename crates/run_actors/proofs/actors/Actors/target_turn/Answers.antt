@@ -13,9 +13,9 @@ use Rattle.run_picks.specs.Picks.{count_to}
 use Rattle.target_parts.specs.Parts.{Runs, kept}
 use Rattle.target_parts.specs.Running.{still_runs}
 use Rattle.target_parts.specs.Stops.{stop_memory, stop_store}
-use Rattle.world_events.specs.Letters.{target}
+use Rattle.world_base.specs.Letters.{target}
 use Rattle.world_posts.specs.Forms.{PostsInForm}
-use Rattle.world_turns.specs.TargetTurns.{Hears, IdlesWhole}
+use Rattle.world_base.specs.TargetTurns.{Hears, IdlesWhole}
 use Rattle.run_actors.proofs.actors.Actors.target_turn.Goals as goal
 use Rattle.run_actors.proofs.actors.Actors.target_turn.Goals.{then-hears+in_ok-did, else-hears+in_ok-did-2}
 

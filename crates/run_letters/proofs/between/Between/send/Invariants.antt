@@ -1,4 +1,4 @@
-use Rattle.world_events.specs.Letters.{letters_of}
+use Rattle.world_base.specs.Letters.{letters_of}
 use Rattle.run_letters.proofs.Sent.{Adds}
 use Rattle.run_letters.proofs.between.Between.send.Given as goal
 

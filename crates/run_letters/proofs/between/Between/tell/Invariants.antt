@@ -1,5 +1,5 @@
 use Rattle.std.proofs.Common.{map}
-use Rattle.world_events.specs.Events.{with_epoch}
+use Rattle.world_base.specs.Events.{with_epoch}
 use Rattle.run_letters.proofs.Sent.{Adds}
 use Rattle.run_letters.proofs.between.Between.tell.Given as goal
 

@@ -1,0 +1,55 @@
+-- An attempt that is in doubt here, by the entries that are known.
+use Rattle.std.proofs.Common.{ℕ, ◌≡◌, refl, sym, ◌∙◌, ap, Bool, true, false, not, List, Option, Some, None}
+use Rattle.daos_base.specs.declared.entry.Entry.{Entry}
+use Rattle.daos_base.specs.declared.entry.Settle.{Settle}
+use Rattle.daos_base.specs.declared.entry.Settle.TheVariants.{Commit, Abort, Confirm, Forget}
+use Rattle.daos_base.specs.declared.id.AttemptId.{AttemptId}
+use Rattle.daos_model.specs.declared.durable.Durable.{Durable}
+use Rattle.daos_model.specs.Durables.{entry_of}
+use Rattle.dtx_table.specs.Tables as table
+use Rattle.dtx_table.specs.Tables.{entry_in}
+use Rattle.vos_store.specs.Conditions.{CanSettle, IsStep}
+use Rattle.world_base.specs.DoubtLaws.{in_doubt-prepared}
+use Rattle.world_base.specs.Roles.{is_entry_in_doubt, is_in_doubt, is_open_entry, is_prepared}
+use Rattle.target_parts.specs.Keeping.{IsEnding}
+
+-- what the entries that are known tell is so of those that are kept
+pub doubt-known : (me : ℕ) (a : AttemptId) (es : List Entry) (d : Durable) (b : Bool) → es ≡ d.entries → b ≡ is_entry_in_doubt me (entry_in es a) → is_in_doubt me a d ≡ b
+unfolding is_in_doubt entry_of
+doubt-known me a es d b same is = ap (λ xs. is_entry_in_doubt me (entry_in xs a)) (sym same) ∙ sym is
+
+-- it can be ended then
+pub doubt-ends : (me : ℕ) (a : AttemptId) (step : Settle) (d : Durable) → IsEnding step → is_in_doubt me a d ≡ true → CanSettle a step d
+unfolding is_prepared
+doubt-ends me a step d ends doubt = by (entry_of d a) refl (in_doubt-prepared me a d doubt)
+  where
+    fits : (e : Entry) (step : Settle) → IsEnding step → not e.committed ≡ true → entry_of d a ≡ Some e → CanSettle a step d
+    fits e Commit ends unsettled here = record { entry = e; here = here; fits = not-open e.committed unsettled }
+      where
+        not-open : (b : Bool) → not b ≡ true → b ≡ false
+        not-open true h = let no : ⊥ = cc in absurd no
+        not-open false h = refl
+    fits e Abort ends unsettled here = record { entry = e; here = here; fits = not-open e.committed unsettled }
+      where
+        not-open : (b : Bool) → not b ≡ true → b ≡ false
+        not-open true h = let no : ⊥ = cc in absurd no
+        not-open false h = refl
+    fits e (Confirm t) ends unsettled here = absurd ends
+    fits e Forget ends unsettled here = absurd ends
+
+    by : (o : Option Entry) → entry_of d a ≡ o → is_open_entry o ≡ true → CanSettle a step d
+    by None here unsettled = let no : ⊥ = cc in absurd no
+    by (Some e) here unsettled = fits e step ends unsettled here
+
+pub ending-is_step : (step : Settle) → IsEnding step → IsStep step
+ending-is_step Commit ends = tt
+ending-is_step Abort ends = tt
+ending-is_step (Confirm t) ends = absurd ends
+ending-is_step Forget ends = absurd ends
+
+-- a step that a store may be asked for is one of a table
+pub step-of_table : (step : Settle) → IsStep step → table.IsStep step
+step-of_table Commit h = h
+step-of_table Abort h = h
+step-of_table (Confirm t) h = h
+step-of_table Forget h = h

@@ -1,0 +1,185 @@
+// A row over the first of two targets: it is told of an attempt that it leads itself.
+ghost use Rattle.std.specs.Prelude.{◌≡◌, ◌≤◌, IfOk, OnOk, false};
+ghost use Rattle.std.specs.Option.{ForSome};
+ghost use Rattle.target_rows.specs.Overtaken.{IsNew};
+ghost use Rattle.target_rows.specs.Own.{IsOfBegun, first, led, request, shared};
+ghost use Rattle.target_rows.specs.Rows.{IsNeverUsed};
+
+use crate::steps::{StepNo, start_at};
+use daos_base::entry::Verdict;
+use daos_base::epoch::Epoch;
+use daos_base::id::{AttemptId, Class, ContId, ObjId};
+use daos_base::items::{Items, bytes_of};
+use daos_base::key::{Key, KeyNo};
+use daos_base::operation::{MinorWrite, Write};
+use daos_base::path::Path;
+use daos_messages::actor::ActorId;
+use daos_messages::message::Message;
+use daos_outside::clock::Clock;
+use std::alloc::Global;
+use target_core::target::Target;
+use vos_store::store::Store;
+use world_base::did::Did;
+
+/// What follows on the first of two targets, turn by turn: of a Commit, which it leads; of a Mark and of a Verdict
+/// that tell that this attempt is aborted; of a question what became of it; of an Ack from no target; and of
+/// the Ack of the other member.
+#[derive(Debug, Drop)]
+pub struct Told {
+    pub begun: Did,
+    pub marked: Did,
+    pub resolved: Did,
+    pub asked: Did,
+    pub unknown: Did,
+    pub ended: Did,
+}
+
+/// The attempt that it leads.
+pub fn led() -> AttemptId
+    ensures { result ≡ led }
+{
+    AttemptId {
+        client: 0,
+        command: 0,
+        attempt: 0,
+    }
+}
+
+// An akey under the dkey d of the object of class RP_2G1 and number 0, which both targets hold.
+fn shared(alloc: Global) -> Result<Path, KeyNo>
+    ensures { IfOk result (λ path. path ≡ shared) }
+{
+    Ok(Path {
+        cont: ContId(1),
+        obj: Some(ObjId {
+            class: Class::RP2G1,
+            number: 0,
+        }),
+        dkey: Some(Key::new(alloc, b"d")?),
+        akey: Some(Key::new(alloc, b"a")?),
+    })
+}
+
+fn request(alloc: Global) -> Result<Message, StepNo>
+    ensures { IfOk result (λ message. message ≡ request) }
+{
+    let mut writes = Items::new(alloc);
+    writes.push(MinorWrite {
+        minor: 0,
+        write: Write::Single(shared(alloc)?, bytes_of(alloc, b"1")?),
+    })?;
+    Ok(Message::Commit {
+        attempt: led(),
+        ep: None,
+        first: None,
+        tracker: Epoch(0),
+        writes,
+    })
+}
+
+fn mark(alloc: Global) -> Result<Message, StepNo>
+    ensures { IfOk result IsOfBegun }
+{
+    let mut marks = Items::new(alloc);
+    marks.push((led(), false))?;
+    Ok(Message::Mark { inc: 1, marks })
+}
+
+fn verdict() -> Message
+    ensures { IsOfBegun result }
+{
+    Message::Verdict {
+        attempt: led(),
+        ask: None,
+        inc: 1,
+        verdict: Verdict::Aborted,
+    }
+}
+
+fn query() -> Message
+    ensures { IsOfBegun result }
+{
+    Message::Query {
+        attempt: led(),
+        ask: None,
+    }
+}
+
+fn ack() -> Message
+    ensures { IsOfBegun result }
+{
+    Message::Ack {
+        attempt: led(),
+        inc: 1,
+        refusal: None,
+    }
+}
+
+/// The client of the attempt.
+pub const CLIENT: ActorId = ActorId {
+    client: true,
+    number: 0,
+};
+
+/// The other member.
+pub const MEMBER: ActorId = ActorId {
+    client: false,
+    number: 1,
+};
+
+/// An actor whose number no target bears; modulo 256 it is that of the other member.
+pub const STRANGER: ActorId = ActorId {
+    client: false,
+    number: 257,
+};
+
+// The first target hears the Commit before anything else.
+fn hear_request<S: Store, C: Clock>(alloc: Global, target: &mut Target<S, C>) -> Result<Did, StepNo>
+    requires plan { target.old.plan ≡ first }
+    requires runs { (S.state target.old.store).stopped ≡ false }
+    requires new { ForSome (S.durable target.old.store) IsNew }
+    ensures runs { OnOk result ((S.state target.new.store).stopped ≡ false) }
+{
+    let message = request(alloc)?;
+    Ok(target.hear(CLIENT, message, None)?)
+}
+
+// It hears what is told or asked of attempts that were begun, whatever it keeps.
+fn hear_told<S: Store, C: Clock>(
+    target: &mut Target<S, C>,
+    from: ActorId,
+    message: Message,
+) -> Result<Did, StepNo>
+    requires runs { (S.state target.old.store).stopped ≡ false }
+    requires told { IsOfBegun message }
+    ensures runs { OnOk result ((S.state target.new.store).stopped ≡ false) }
+{
+    Ok(target.hear(from, message, None)?)
+}
+
+/// The first target begins an attempt, and is told that it is aborted, which nobody but itself can say; it is
+/// answered Ok by an actor that is no target, and by the other member.
+pub fn told_of_own<S: Store + Drop, C: Clock + Drop>(
+    alloc: Global,
+    store: S,
+    clock: C,
+) -> Result<Told, StepNo>
+    requires made { 2 ≤ (S.state store).targets }
+    requires new { IsNeverUsed (S.state store) (S.durable store) }
+{
+    let mut target = start_at(alloc, 0, 2, store, clock)?;
+    let begun = hear_request(alloc, &mut target)?;
+    let marked = hear_told(&mut target, MEMBER, mark(alloc)?)?;
+    let resolved = hear_told(&mut target, MEMBER, verdict())?;
+    let asked = hear_told(&mut target, MEMBER, query())?;
+    let unknown = hear_told(&mut target, STRANGER, ack())?;
+    let ended = hear_told(&mut target, MEMBER, ack())?;
+    Ok(Told {
+        begun,
+        marked,
+        resolved,
+        asked,
+        unknown,
+        ended,
+    })
+}

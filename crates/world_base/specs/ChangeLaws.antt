@@ -1,0 +1,139 @@
+-- What each change leaves of what a target keeps.
+use Rattle.std.specs.Prelude.{ℕ, ◌≡◌, ◌≤◌, ◌<◌, ◌*◌, ◌^◌, min, nat_le, Bool, true, false, Option, Some, None, List, refl, if◌then◌else◌}
+use Rattle.std.specs.Int.{div_ceil}
+use Rattle.std.proofs.Common.{sym, ◌∙◌, ap, subst, arith}
+use Rattle.std.proofs.lemmas.Bool.Decides.{nat_tests}
+use Rattle.std.proofs.lemmas.Grind.{div_ceil_times}
+use Rattle.daos_base.specs.declared.entry.Entry.{Entry}
+use Rattle.daos_base.specs.declared.entry.Settle.{Settle}
+use Rattle.daos_base.specs.declared.entry.Settle.TheVariants.{Abort, Commit, Confirm, Forget}
+use Rattle.daos_base.specs.declared.id.AttemptId.{AttemptId}
+use Rattle.daos_base.specs.declared.operation.MinorWrite.{MinorWrite}
+use Rattle.daos_base.specs.Epochs.{last_ticks, lease_for}
+use Rattle.daos_model.specs.declared.durable.Durable.{Durable}
+use Rattle.daos_model.specs.Changes.{leased, prepared, settled}
+use Rattle.world_base.specs.Changes.{Change, Extends, Kept, Prepares, Settles, Steps, made}
+
+-- ---- one change
+
+pub conts-settled : (a : AttemptId) (step : Settle) (d : Durable) → (settled a step d).conts ≡ d.conts
+unfolding settled
+conts-settled a Commit d = refl
+conts-settled a Abort d = refl
+conts-settled a (Confirm t) d = refl
+conts-settled a Forget d = refl
+
+snaps-settled : (a : AttemptId) (step : Settle) (d : Durable) → (settled a step d).snaps ≡ d.snaps
+unfolding settled
+snaps-settled a Commit d = refl
+snaps-settled a Abort d = refl
+snaps-settled a (Confirm t) d = refl
+snaps-settled a Forget d = refl
+
+pub incarnation-settled : (a : AttemptId) (step : Settle) (d : Durable) → (settled a step d).incarnation ≡ d.incarnation
+unfolding settled
+incarnation-settled a Commit d = refl
+incarnation-settled a Abort d = refl
+incarnation-settled a (Confirm t) d = refl
+incarnation-settled a Forget d = refl
+
+pub lease-settled : (a : AttemptId) (step : Settle) (d : Durable) → (settled a step d).lease ≡ d.lease
+unfolding settled
+lease-settled a Commit d = refl
+lease-settled a Abort d = refl
+lease-settled a (Confirm t) d = refl
+lease-settled a Forget d = refl
+
+pub lease-prepared : (e : Entry) (ws : List MinorWrite) (d : Durable) → (prepared e ws d).lease ≡ d.lease
+unfolding prepared
+lease-prepared e ws d = refl
+
+pub lease-leased : (n : ℕ) (d : Durable) → (leased n d).lease ≡ n
+unfolding leased
+lease-leased n d = refl
+
+pub entries-leased : (n : ℕ) (d : Durable) → (leased n d).entries ≡ d.entries
+unfolding leased
+entries-leased n d = refl
+
+pub versions-leased : (n : ℕ) (d : Durable) → (leased n d).versions ≡ d.versions
+unfolding leased
+versions-leased n d = refl
+
+pub incarnation-prepared : (e : Entry) (ws : List MinorWrite) (d : Durable) → (prepared e ws d).incarnation ≡ d.incarnation
+unfolding prepared
+incarnation-prepared e ws d = refl
+
+-- no change touches the containers, the snapshots or the incarnation
+pub conts-made : (c : Change) (d : Durable) → (made c d).conts ≡ d.conts
+unfolding leased prepared
+conts-made (Extends ticks) d = refl
+conts-made (Prepares e ws) d = refl
+conts-made (Settles a step) d = conts-settled a step d
+
+pub snaps-made : (c : Change) (d : Durable) → (made c d).snaps ≡ d.snaps
+unfolding leased prepared
+snaps-made (Extends ticks) d = refl
+snaps-made (Prepares e ws) d = refl
+snaps-made (Settles a step) d = snaps-settled a step d
+
+pub incarnation-made : (c : Change) (d : Durable) → (made c d).incarnation ≡ d.incarnation
+unfolding leased prepared
+incarnation-made (Extends ticks) d = refl
+incarnation-made (Prepares e ws) d = refl
+incarnation-made (Settles a step) d = incarnation-settled a step d
+
+-- ---- the lease
+
+covers-of : (n last l : ℕ) → (if nat_le n last then Some (min last (div_ceil n 65536 * 65536)) else None) ≡ Some l → (n ≤ l) × (l ≤ last)
+covers-of n last l h = by (nat_le n last) refl h
+  where
+    up : n ≤ div_ceil n 65536 * 65536
+    up = (div_ceil_times n 65536 (omega arith)).0
+
+    least : (a b : ℕ) → n ≤ a → n ≤ b → min a b ≡ l → (n ≤ l) × (l ≤ a)
+    least a b p q e = (omega arith, omega arith)
+
+    by : (b : Bool) → nat_le n last ≡ b → (if b then Some (min last (div_ceil n 65536 * 65536)) else None) ≡ Some l → (n ≤ l) × (l ≤ last)
+    by true is f =
+        let low : n ≤ last = grind (arith, nat_tests) in
+        let same : min last (div_ceil n 65536 * 65536) ≡ l = cc in
+        least last (div_ceil n 65536 * 65536) low up same
+    by false is f = absurd (let no : ⊥ = cc in no)
+
+-- a lease that is stored covers the ticks that it is stored for, and is within a clock's
+pub lease-covers : (n l : ℕ) → lease_for n ≡ Some l → (n ≤ l) × (l < 2 ^ 56)
+lease-covers n l h = let c = covers-of n last_ticks l h in (c.0, within c.1)
+  where
+    within : l ≤ last_ticks → l < 2 ^ 56
+    within le = omega (arith, le)
+
+-- a change of the lease is upwards, and within a clock's ticks
+abbrev pub Raises : Durable → Option Change → Type 0
+Raises d None = Unit {0}
+Raises d (Some (Extends ticks)) = (d.lease ≤ ticks) × (ticks < 2 ^ 56)
+Raises d (Some (Prepares e ws)) = Unit {0}
+Raises d (Some (Settles a step)) = Unit {0}
+
+-- a lease is no lower than before, and within a clock's ticks where it was so before
+pub record LeaseRises (d e : Durable) : Type 0 where
+  pub rises : d.lease ≤ e.lease
+  pub within : d.lease < 2 ^ 56 → e.lease < 2 ^ 56
+
+pub lease-same : (d e : Durable) → e.lease ≡ d.lease → LeaseRises d e
+lease-same d e same = record { rises = omega (arith, same); within = λ low. subst (λ n. n < 2 ^ 56) (sym same) low }
+
+pub lease-then : (d e f : Durable) → LeaseRises d e → LeaseRises e f → LeaseRises d f
+lease-then d e f k l = record { rises = let p : d.lease ≤ e.lease = k.rises in let q : e.lease ≤ f.lease = l.rises in omega (arith, p, q); within = λ low. l.within (k.within low) }
+
+pub lease-steps : (o : Option Change) (k l : Kept) → Steps o k l → Raises k.durable o → LeaseRises k.durable l.durable
+lease-steps None k l same up = lease-same k.durable l.durable (ap (λ x. x.durable.lease) same)
+lease-steps (Some (Extends ticks)) k l st up =
+    let now : l.durable.lease ≡ ticks = ap (λ d. d.lease) st.0 ∙ lease-leased ticks k.durable in
+    record { rises = subst (λ n. k.durable.lease ≤ n) (sym now) up.0; within = λ low. subst (λ n. n < 2 ^ 56) (sym now) up.1 }
+lease-steps (Some (Prepares e ws)) k l st up = lease-same k.durable l.durable (ap (λ d. d.lease) st.0 ∙ lease-prepared e ws k.durable)
+lease-steps (Some (Settles a step)) k l st up = lease-same k.durable l.durable (ap (λ d. d.lease) st.0 ∙ lease-settled a step k.durable)
+
+-- the lease that a turn extends to covers ticks above it
+pub extends-raises : (d : Durable) (n ticks : ℕ) → d.lease < n → lease_for n ≡ Some ticks → Raises d (Some (Extends ticks))
+extends-raises d n ticks low is = let c = lease-covers n ticks is in (let up : n ≤ ticks = c.0 in omega (arith, low, up), c.1)

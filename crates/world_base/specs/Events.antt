@@ -1,0 +1,162 @@
+-- The events of a run: what the world is after an actor's turn.
+use Rattle.std.specs.Prelude.{ℕ, ◌≡◌, List, [], ◌∷◌, ◌++◌, map, find, slice_get, Option, Some, None, Bool}
+use Rattle.std.proofs.Math.ListN.{set}
+use Rattle.daos_base.specs.declared.epoch.Epoch.{Epoch}
+use Rattle.daos_base.specs.declared.id.AttemptId.{AttemptId}
+use Rattle.daos_base.specs.declared.report.Line.{Line}
+use Rattle.daos_base.specs.declared.report.Line.TheVariants as line
+use Rattle.daos_base.specs.declared.script.Command.{Command}
+use Rattle.daos_base.specs.declared.script.Script.{Script}
+use Rattle.daos_messages.specs.declared.actor.ActorId.{ActorId}
+use Rattle.daos_model.specs.Durables.{same_attempt}
+use Rattle.world_base.specs.declared.client.ClientPlan.{ClientPlan}
+use Rattle.world_base.specs.declared.client.ClientState.{ClientState}
+use Rattle.world_base.specs.declared.did.Did.{Did}
+use Rattle.world_base.specs.declared.letter.Letter.{Letter}
+use Rattle.world_base.specs.declared.target.TargetMemory.{TargetMemory}
+use Rattle.world_base.specs.declared.target.TargetPlan.{TargetPlan}
+use Rattle.world_base.specs.declared.target.TargetState.{TargetState}
+use Rattle.world_base.specs.declared.target.Life.TheVariants.{Running}
+use Rattle.world_base.specs.declared.world.World.{World}
+use Rattle.world_base.specs.ClientTurns.{HearTurn, NextTurn, plan_of}
+use Rattle.world_base.specs.Letters.{Takes, client, letters_of, target}
+use Rattle.world_base.specs.Changes.{Kept}
+use Rattle.world_base.specs.TargetTurns.{Hears, IdlesWhole}
+
+-- what a run is given: its script, how many attempts a command has, and what its clocks leave uncertain, in ticks
+pub record Rules : Type 0 where
+  pub script : Script
+  pub attempts : ℕ
+  pub epsilon : ℕ
+
+abbrev pub commands_or_none : Option (List Command) → List Command
+commands_or_none None = []
+commands_or_none (Some list) = list
+
+-- what the client of this number has to do
+abbrev pub client_plan : Rules → ℕ → ClientPlan
+client_plan r n = plan_of r.script n r.attempts (commands_or_none (slice_get r.script.clients n))
+
+abbrev pub target_plan : Rules → ℕ → TargetPlan
+target_plan r t = record { me = t; targets = r.script.targets; epsilon = r.epsilon }
+
+-- ---- what follows from a turn
+
+abbrev pub is_issue_of : AttemptId → AttemptId × Epoch → Bool
+is_issue_of x i = same_attempt i.0 x
+
+abbrev pub epoch_of_issue : Option (AttemptId × Epoch) → Option Epoch
+epoch_of_issue None = None
+epoch_of_issue (Some i) = Some i.1
+
+-- the epoch that was issued to an attempt, if one was
+abbrev pub epoch_issued : List (AttemptId × Epoch) → AttemptId → Option Epoch
+epoch_issued issued x = epoch_of_issue (find (is_issue_of x) issued)
+
+abbrev pub or_issued : List (AttemptId × Epoch) → AttemptId → Option Epoch → Option Epoch
+or_issued issued x None = epoch_issued issued x
+or_issued issued x (Some e) = Some e
+
+-- a line as it is added: where a client knows no epoch of its attempt, the line has the one that was issued
+abbrev pub with_epoch : List (AttemptId × Epoch) → Line → Line
+with_epoch issued (line.Try a) = line.Try (record a { epoch = or_issued issued a.id a.epoch })
+with_epoch issued (line.Stop n t) = line.Stop n t
+with_epoch issued (line.Restart n t incarnation floor) = line.Restart n t incarnation floor
+with_epoch issued (line.Freeze t cont e) = line.Freeze t cont e
+with_epoch issued (line.Snapshot name cont e) = line.Snapshot name cont e
+with_epoch issued (line.Aggregate n t cont upto) = line.Aggregate n t cont upto
+with_epoch issued (line.Down t) = line.Down t
+
+abbrev pub listed : Option (AttemptId × Epoch) → List (AttemptId × Epoch)
+listed None = []
+listed (Some i) = i ∷ []
+
+-- the world once an actor did something, where these letters were left in flight
+abbrev pub after_turn : World → ActorId → Did → List Letter → World
+after_turn w actor did rest = record w {
+  messages = rest ++ letters_of actor did.posts;
+  issued = w.issued ++ listed did.issued;
+  lines = w.lines ++ map (with_epoch w.issued) did.lines;
+}
+
+abbrev pub with_client : ℕ → ClientState → World → World
+with_client n c w = record w { clients = set w.clients n c }
+
+abbrev pub with_target : ℕ → TargetState → World → World
+with_target t s w = record w { targets = set w.targets t s }
+
+-- ---- events
+
+-- a client's turn without a message
+pub record ClientGoes (r : Rules) (w v : World) : Type 0 where
+  pub n : ℕ
+  pub c : ClientState
+  pub d : ClientState
+  pub did : Did
+  pub here : slice_get w.clients n ≡ Some c
+  pub turn : NextTurn (client_plan r n) c did d
+  pub after : v ≡ with_client n d (after_turn w (client n) did w.messages)
+
+-- a client hears a message; one that skips turns hears none
+pub record ClientHears (r : Rules) (w v : World) : Type 0 where
+  pub n : ℕ
+  pub c : ClientState
+  pub d : ClientState
+  pub did : Did
+  pub l : Letter
+  pub rest : List Letter
+  pub here : slice_get w.clients n ≡ Some c
+  pub awake : c.skip ≡ 0
+  pub takes : Takes w.messages l rest
+  pub to_it : l.to ≡ client n
+  pub turn : HearTurn (client_plan r n) c l.message did d
+  pub after : v ≡ with_client n d (after_turn w (client n) did rest)
+
+abbrev pub kept : TargetState → Kept
+kept s = record { durable = s.durable; free = s.free }
+
+-- a target after a turn
+abbrev pub target_after : TargetState → Kept → TargetMemory → TargetState
+target_after s k m = record s { durable = k.durable; free = k.free; memory = m }
+
+-- a running target hears a message, at a reading of its clock
+pub record TargetHears (r : Rules) (w v : World) : Type 0 where
+  pub t : ℕ
+  pub s : TargetState
+  pub new : Kept
+  pub memory : TargetMemory
+  pub did : Did
+  pub reading : ℕ
+  pub l : Letter
+  pub rest : List Letter
+  pub here : slice_get w.targets t ≡ Some s
+  pub runs : s.life ≡ Running
+  pub takes : Takes w.messages l rest
+  pub to_it : l.to ≡ target t
+  pub turn : Hears (target_plan r t) s.opening s.memory reading l.from l.message (kept s) new (memory, did)
+  pub after : v ≡ with_target t (target_after s new memory) (after_turn w (target t) did rest)
+
+-- a running target does its idle work, in the settling phase or before it
+pub record TargetIdles (r : Rules) (w v : World) : Type 0 where
+  pub settling : Bool
+  pub t : ℕ
+  pub s : TargetState
+  pub new : Kept
+  pub memory : TargetMemory
+  pub did : Did
+  pub here : slice_get w.targets t ≡ Some s
+  pub runs : s.life ≡ Running
+  pub turn : IdlesWhole settling (target_plan r t) s.memory (kept s) new (memory, did)
+  pub after : v ≡ with_target t (target_after s new memory) (after_turn w (target t) did w.messages)
+
+-- one actor's turn
+pub data Event (r : Rules) (w v : World) : Type 0 where
+  ByClient : ClientGoes r w v → Event r w v
+  ToClient : ClientHears r w v → Event r w v
+  ToTarget : TargetHears r w v → Event r w v
+  ByTarget : TargetIdles r w v → Event r w v
+
+-- one event after another
+pub data Run (r : Rules) (w : World) : World → Type 0 where
+  Begins : Run r w w
+  Goes : (u v : World) → Run r w u → Event r u v → Run r w v

@@ -1,0 +1,74 @@
+-- What each settling of a Mark, each confirmation of a Marked and each settling of idle work keeps, the turn keeps.
+use Rattle.std.specs.Prelude.{◌<◌, ◌∷◌, ◌≡◌, Bool, Contains, List, Option, Some, ℕ, filter, length, not, refl, true}
+use Rattle.std.proofs.Common.{◌∙◌, ap, inl, inr, subst, sym}
+use Rattle.daos_base.specs.declared.entry.Settle.TheVariants.{Commit, Confirm}
+use Rattle.daos_base.specs.declared.id.AttemptId.{AttemptId}
+use Rattle.daos_laws.specs.Lists.{filter-shorter}
+use Rattle.daos_laws.specs.Members.{Has}
+use Rattle.daos_model.specs.EntryLaws.{same_attempt-itself}
+use Rattle.dtx_base.specs.Leading.{entry_led, may_confirm}
+use Rattle.world_base.specs.declared.target.TargetMemory.{TargetMemory}
+use Rattle.world_base.specs.declared.target.TargetPlan.{TargetPlan}
+use Rattle.world_base.specs.Acks as ack
+use Rattle.world_base.specs.Changes.{Change, Kept, Settles, Steps}
+use Rattle.world_base.specs.DoubtLaws.{in_doubt-prepared}
+use Rattle.world_base.specs.Idle.{IdleNext, SettlesFirst}
+use Rattle.world_base.specs.Marks.{MarkNext, PassesBy, SettlesMarked, marked_step}
+use Rattle.world_base.specs.PathLaws.{reached-keeps}
+use Rattle.world_base.specs.Requests.{is_other_attempt}
+use Rattle.world_base.specs.Roles.{is_prepared, leader_at}
+use Rattle.world_base.specs.Turns.{Reached}
+
+-- what is left of a list is of the list
+abbrev IsLeftOf : {T : Type 0} → List T → List T → Type 0
+IsLeftOf {T} all rest = (x : T) → Has x rest → Has x all
+
+-- what holds while these are left
+record Leaves {T : Type 0} (P : Kept → Type 0) (all rest : List T) (k : Kept) : Type 0 where
+  holds : P k
+  left : IsLeftOf all rest
+
+fewer : {T : Type 0} (P : Kept → Type 0) (all : List T) (x : T) (rest : List T) (k l : Kept) → P l → Leaves P all (x ∷ rest) k → Leaves P all rest l
+fewer P all x rest k l holds s = record { holds = holds; left = λ y i. s.left y (inr i) }
+
+module _ (P : Kept → Type 0) where
+  -- a Mark settles what it names and is prepared here
+  abbrev pub MarkingKeeps : List (AttemptId × Bool) → Type 0
+  MarkingKeeps marks = (k l : Kept) (a : AttemptId) (committed : Bool) → Has (a, committed) marks → is_prepared a k.durable ≡ true → Steps (Some (Settles a (marked_step committed))) k l → P k → P l
+
+  mark-step : (me : ℕ) (marks : List (AttemptId × Bool)) → MarkingKeeps marks → (s : List (AttemptId × Bool)) (k : Kept) (o : Option Change) (u : List (AttemptId × Bool)) (l : Kept) → MarkNext me s k o u → Steps o k l
+      → Leaves P marks s k → Leaves P marks u l
+  mark-step me marks keeps s k o u l (SettlesMarked j a committed rest is) steps h =
+      fewer P marks (a, committed) rest k l (keeps k l a committed (h.left (a, committed) (inl refl)) (in_doubt-prepared me a k.durable is) steps h.holds) h
+  mark-step me marks keeps s k o u l (PassesBy j a committed rest is) steps h = fewer P marks (a, committed) rest k l (subst P (sym steps) h.holds) h
+
+  pub marks-keep : (me : ℕ) (marks : List (AttemptId × Bool)) → MarkingKeeps marks → (old new : Kept) (last : List (AttemptId × Bool)) → Reached (MarkNext me) marks old last new → P old → P new
+  marks-keep me marks keeps old new last r p = (reached-keeps (MarkNext me) (Leaves P marks) (mark-step me marks keeps) marks old last new r (record { holds = p; left = λ x i. i })).holds
+
+  -- a Marked confirms what it names, where it is committed here and the sender a member
+  abbrev pub ConfirmingKeeps : TargetPlan → TargetMemory → ℕ → List AttemptId → Type 0
+  ConfirmingKeeps t m member ids = (k l : Kept) (a : AttemptId) → Has a ids → may_confirm member (entry_led a (leader_at t m k.durable)) ≡ true → Steps (Some (Settles a (Confirm member))) k l → P k → P l
+
+  marked-step : (t : TargetPlan) (m : TargetMemory) (member : ℕ) (ids : List AttemptId) → ConfirmingKeeps t m member ids → (s : List AttemptId) (k : Kept) (o : Option Change) (u : List AttemptId) (l : Kept)
+      → ack.MarkedNext t m member s k o u → Steps o k l → Leaves P ids s k → Leaves P ids u l
+  marked-step t m member ids keeps s k o u l (ack.Confirms j a rest is) steps h = fewer P ids a rest k l (keeps k l a (h.left a (inl refl)) is steps h.holds) h
+  marked-step t m member ids keeps s k o u l (ack.PassesBy j a rest is) steps h = fewer P ids a rest k l (subst P (sym steps) h.holds) h
+
+  pub confirms-keep : (t : TargetPlan) (m : TargetMemory) (member : ℕ) (ids : List AttemptId) → ConfirmingKeeps t m member ids → (old new : Kept) (last : List AttemptId)
+      → Reached (ack.MarkedNext t m member) ids old last new → P old → P new
+  confirms-keep t m member ids keeps old new last r p = (reached-keeps (ack.MarkedNext t m member) (Leaves P ids) (marked-step t m member ids keeps) ids old last new r (record { holds = p; left = λ x i. i })).holds
+
+  -- idle work settles what is decided
+  abbrev pub SettlingKeeps : List AttemptId → Type 0
+  SettlingKeeps decided = (k l : Kept) (a : AttemptId) → Has a decided → Steps (Some (Settles a Commit)) k l → P k → P l
+
+  idle-step : (decided : List AttemptId) → SettlingKeeps decided → (s : List AttemptId) (k : Kept) (o : Option Change) (u : List AttemptId) (l : Kept) → IdleNext s k o u → Steps o k l → Leaves P decided s k → Leaves P decided u l
+  idle-step decided keeps s k o u l (SettlesFirst j a rest) steps h = fewer P decided a rest k l (keeps k l a (h.left a (inl refl)) steps h.holds) h
+
+  pub settles-keep : (decided : List AttemptId) → SettlingKeeps decided → (old new : Kept) (last : List AttemptId) → Reached IdleNext decided old last new → P old → P new
+  settles-keep decided keeps old new last r p = (reached-keeps IdleNext (Leaves P decided) (idle-step decided keeps) decided old last new r (record { holds = p; left = λ x i. i })).holds
+
+-- without one of them attempts are fewer
+pub one-fewer : (a : AttemptId) (decided : List AttemptId) → Contains decided a → length (filter (is_other_attempt a) decided) < length decided
+one-fewer a decided among =
+    filter-shorter (is_other_attempt a) decided among.0 a among.1 (ap (λ x. is_other_attempt a x) among.2 ∙ ap not (same_attempt-itself a))

@@ -1,0 +1,93 @@
+-- The turns of a target: it hears a message, or does idle work; whole, or cut short.
+use Rattle.std.specs.Prelude.{ℕ, Bool, true, false, List, Option}
+use Rattle.daos_base.specs.declared.entry.Entry.{Entry}
+use Rattle.daos_base.specs.declared.epoch.Epoch.{Epoch}
+use Rattle.daos_base.specs.declared.id.AttemptId.{AttemptId}
+use Rattle.daos_base.specs.declared.operation.MinorWrite.{MinorWrite}
+use Rattle.daos_base.specs.declared.operation.Read.{Read}
+use Rattle.daos_base.specs.declared.outcome.FloorWhy.{FloorWhy}
+use Rattle.daos_messages.specs.declared.actor.ActorId.{ActorId}
+use Rattle.daos_messages.specs.declared.message.Message.{Message}
+use Rattle.daos_messages.specs.declared.message.Message.TheVariants.{Ack, Commit, Fetch, Mark, Marked, Prepare, Query, Verdict}
+use Rattle.daos_model.specs.declared.durable.Durable.{Durable}
+use Rattle.world_base.specs.declared.did.Did.{Did}
+use Rattle.world_base.specs.declared.request.CommitRequest.{CommitRequest}
+use Rattle.world_base.specs.declared.request.FetchRequest.{FetchRequest}
+use Rattle.world_base.specs.declared.request.PrepareRequest.{PrepareRequest}
+use Rattle.world_base.specs.declared.target.TargetMemory.{TargetMemory}
+use Rattle.world_base.specs.declared.target.TargetPlan.{TargetPlan}
+use Rattle.world_base.specs.Acks as ack
+use Rattle.world_base.specs.Changes.{Kept}
+use Rattle.world_base.specs.Commits as commit
+use Rattle.world_base.specs.Idle.{IdleEnds, IdleNext}
+use Rattle.world_base.specs.Marks.{MarkEnds, MarkNext}
+use Rattle.world_base.specs.Prepares as prepare
+use Rattle.world_base.specs.Reads as read
+use Rattle.world_base.specs.Turns.{CutShort, Whole}
+use Rattle.world_base.specs.Verdicts as verdict
+
+-- a message that a target hears so far
+abbrev pub is_heard : Message → Bool
+is_heard (Fetch x op group ep first tracker r snapshot) = true
+is_heard (Commit x ep first tracker ws) = true
+is_heard (Prepare e first ws inc) = true
+is_heard (Ack x inc refusal) = true
+is_heard (Mark inc marks) = true
+is_heard (Marked inc ids) = true
+is_heard (Query x ask) = true
+is_heard (Verdict x ask inc v) = true
+is_heard m = false
+
+-- ---- what is asked
+
+abbrev pub fetch_request : AttemptId → ℕ → ℕ → Option Epoch → Option Epoch → Epoch → Read → Bool → FetchRequest
+fetch_request x op group ep first tracker r snapshot = record { attempt = x; op = op; group = group; ep = ep; first = first; tracker = tracker; read = r; snapshot = snapshot }
+
+abbrev pub commit_request : AttemptId → Option Epoch → Option Epoch → Epoch → List MinorWrite → CommitRequest
+commit_request x ep first tracker ws = record { attempt = x; ep = ep; first = first; tracker = tracker; writes = ws }
+
+abbrev pub prepare_request : Entry → Option Epoch → List MinorWrite → ℕ → PrepareRequest
+prepare_request e first ws inc = record { entry = e; first = first; writes = ws; inc = inc }
+
+-- ---- hearing
+
+-- a target hears a message: what it then keeps and knows, and what follows
+abbrev pub Hears : TargetPlan → Epoch × FloorWhy → TargetMemory → ℕ → ActorId → Message → Kept → Kept → TargetMemory × Did → Type 0
+Hears t opening m reading from (Fetch x op group ep first tracker r snapshot) old new left =
+    Whole (read.FetchNext t m reading (fetch_request x op group ep first tracker r snapshot)) (read.FetchEnds t m reading (fetch_request x op group ep first tracker r snapshot) from)
+    read.Asked old new left
+Hears t opening m reading from (Commit x ep first tracker ws) old new left =
+    Whole (commit.CommitNext t opening m reading (commit_request x ep first tracker ws)) (commit.CommitEnds t opening m reading (commit_request x ep first tracker ws) from)
+    commit.Asked old new left
+Hears t opening m reading from (Prepare e first ws inc) old new left =
+    Whole (prepare.PrepareNext t opening m (prepare_request e first ws inc)) (prepare.PrepareEnds t opening m (prepare_request e first ws inc)) prepare.Heard old new left
+Hears t opening m reading from (Ack x inc refusal) old new left = Whole (ack.AckNext t m from.number x inc refusal) (ack.AckEnds m) ack.Heard old new left
+Hears t opening m reading from (Mark inc marks) old new left = Whole (MarkNext t.me) (MarkEnds m from inc marks) marks old new left
+Hears t opening m reading from (Marked inc ids) old new left =
+    Whole (ack.MarkedNext t m from.number) (ack.MarkedEnds t m from.number inc ids) (ack.to_confirm inc ids old.durable) old new left
+Hears t opening m reading from (Query x ask) old new left = Whole verdict.QueryNext (verdict.QueryEnds t m from x ask) verdict.IsAsked old new left
+Hears t opening m reading from (Verdict x ask inc v) old new left = Whole (verdict.VerdictNext t m reading x ask v) verdict.VerdictEnds verdict.Heard old new left
+Hears t opening m reading from other old new left = ⊥
+
+-- a turn in which a target hears a message was cut short
+abbrev pub HearsCut : TargetPlan → Epoch × FloorWhy → TargetMemory → ℕ → ActorId → Message → Kept → (Durable → Type 0) → Type 0
+HearsCut t opening m reading from (Fetch x op group ep first tracker r snapshot) old finds =
+    CutShort (read.FetchNext t m reading (fetch_request x op group ep first tracker r snapshot)) read.Asked old finds
+HearsCut t opening m reading from (Commit x ep first tracker ws) old finds =
+    CutShort (commit.CommitNext t opening m reading (commit_request x ep first tracker ws)) commit.Asked old finds
+HearsCut t opening m reading from (Prepare e first ws inc) old finds = CutShort (prepare.PrepareNext t opening m (prepare_request e first ws inc)) prepare.Heard old finds
+HearsCut t opening m reading from (Ack x inc refusal) old finds = CutShort (ack.AckNext t m from.number x inc refusal) ack.Heard old finds
+HearsCut t opening m reading from (Mark inc marks) old finds = CutShort (MarkNext t.me) marks old finds
+HearsCut t opening m reading from (Marked inc ids) old finds = CutShort (ack.MarkedNext t m from.number) (ack.to_confirm inc ids old.durable) old finds
+HearsCut t opening m reading from (Query x ask) old finds = CutShort verdict.QueryNext verdict.IsAsked old finds
+HearsCut t opening m reading from (Verdict x ask inc v) old finds = CutShort (verdict.VerdictNext t m reading x ask v) verdict.Heard old finds
+HearsCut t opening m reading from other old finds = ⊥
+
+-- ---- idle work
+
+-- a target does its idle work, in the settling phase or before it
+abbrev pub IdlesWhole : Bool → TargetPlan → TargetMemory → Kept → Kept → TargetMemory × Did → Type 0
+IdlesWhole settling t m old new left = Whole IdleNext (IdleEnds settling t m) m.leader.decided old new left
+
+abbrev pub IdlesCut : TargetMemory → Kept → (Durable → Type 0) → Type 0
+IdlesCut m old finds = CutShort IdleNext m.leader.decided old finds

@@ -1,0 +1,142 @@
+-- What every turn of a target leaves of what it keeps: its containers, its snapshots and its incarnation; its lease doesn't go down.
+use Rattle.std.specs.Prelude.{ℕ, ◌≡◌, ◌/◌, Bool, Option, Some, None, refl}
+use Rattle.std.proofs.Common.{sym, subst}
+use Rattle.daos_base.specs.declared.epoch.Epoch.{Epoch}
+use Rattle.daos_base.specs.declared.id.AttemptId.{AttemptId}
+use Rattle.daos_base.specs.declared.entry.Settle.{Settle}
+use Rattle.daos_base.specs.declared.entry.Verdict.{Verdict}
+use Rattle.daos_base.specs.declared.outcome.FloorWhy.{FloorWhy}
+use Rattle.daos_base.specs.declared.outcome.Outcome.{Outcome}
+use Rattle.daos_messages.specs.declared.actor.ActorId.{ActorId}
+use Rattle.daos_messages.specs.declared.message.Message.{Message}
+use Rattle.daos_messages.specs.declared.message.Message.TheVariants as message
+use Rattle.daos_model.specs.declared.durable.Durable.{Durable}
+use Rattle.world_base.specs.declared.did.Did.{Did}
+use Rattle.world_base.specs.declared.request.CommitRequest.{CommitRequest}
+use Rattle.world_base.specs.declared.request.FetchRequest.{FetchRequest}
+use Rattle.world_base.specs.declared.request.PrepareRequest.{PrepareRequest}
+use Rattle.world_base.specs.declared.target.TargetMemory.{TargetMemory}
+use Rattle.world_base.specs.declared.target.TargetPlan.{TargetPlan}
+use Rattle.world_base.specs.Acks as ack
+use Rattle.world_base.specs.ChangeLaws.{LeaseRises, Raises, conts-made, extends-raises, incarnation-made, lease-same, lease-steps, lease-then, snaps-made}
+use Rattle.world_base.specs.Changes.{Change, Kept, made}
+use Rattle.world_base.specs.Commits as commit
+use Rattle.world_base.specs.Idle.{IdleNext, SettlesFirst}
+use Rattle.world_base.specs.Marks as mark
+use Rattle.world_base.specs.PathLaws.{reached-keeps, whole-leaves}
+use Rattle.world_base.specs.Prepares as prepare
+use Rattle.world_base.specs.Reads as read
+use Rattle.world_base.specs.TargetTurns.{Hears, IdlesWhole, commit_request, fetch_request, prepare_request}
+use Rattle.world_base.specs.Turns.{Whole}
+use Rattle.world_base.specs.Verdicts as verdict
+
+-- ---- a part that no change touches
+
+module _ {T : Type 0} (part : Durable → T) (leaves : (c : Change) (d : Durable) → part (made c d) ≡ part d) where
+  hears-leaves : (t : TargetPlan) (opening : Epoch × FloorWhy) (m : TargetMemory) (reading : ℕ) (from : ActorId) (q : Message) (old new : Kept) (left : TargetMemory × Did)
+      → Hears t opening m reading from q old new left → part new.durable ≡ part old.durable
+  hears-leaves t opening m reading from (message.Fetch x op group ep first tracker r snapshot) old new left h = whole-leaves part leaves _ _ _ old new left h
+  hears-leaves t opening m reading from (message.Commit x ep first tracker ws) old new left h = whole-leaves part leaves _ _ _ old new left h
+  hears-leaves t opening m reading from (message.Prepare e first ws inc) old new left h = whole-leaves part leaves _ _ _ old new left h
+  hears-leaves t opening m reading from (message.Ack x inc refusal) old new left h = whole-leaves part leaves _ _ _ old new left h
+  hears-leaves t opening m reading from (message.Mark inc marks) old new left h = whole-leaves part leaves _ _ _ old new left h
+  hears-leaves t opening m reading from (message.Marked inc ids) old new left h = whole-leaves part leaves _ _ _ old new left h
+  hears-leaves t opening m reading from (message.Query x ask) old new left h = whole-leaves part leaves _ _ _ old new left h
+  hears-leaves t opening m reading from (message.Verdict x ask inc v) old new left h = whole-leaves part leaves _ _ _ old new left h
+  hears-leaves t opening m reading from q old new left h = absurd h
+
+-- ---- the lease
+
+abbrev RaisesAll : {S : Type 0} → (S → Kept → Option Change → S → Type 0) → Type 0
+RaisesAll {S} Next = (s : S) (k : Kept) (o : Option Change) (u : S) → Next s k o u → Raises k.durable o
+
+-- where each step raises the lease or leaves it, a turn does
+pub whole-raises : {S R : Type 0} (Next : S → Kept → Option Change → S → Type 0) (Ends : S → Kept → R → Type 0) (start : S) (old new : Kept) (result : R)
+    → RaisesAll Next → Whole Next Ends start old new result → LeaseRises old.durable new.durable
+whole-raises Next Ends start old new result raises w =
+    reached-keeps Next (λ s k. LeaseRises old.durable k.durable) (λ s k o u l next steps so_far. lease-then old.durable k.durable l.durable so_far (lease-steps o k l steps (raises s k o u next)))
+    start old w.last new w.reached (lease-same old.durable old.durable refl)
+
+pub fetch-raises : (t : TargetPlan) (m : TargetMemory) (reading : ℕ) (q : FetchRequest) → RaisesAll (read.FetchNext t m reading q)
+fetch-raises t m reading q s k o u (read.AtSnapshot j e at is) = tt
+fetch-raises t m reading q s k o u (read.HasEpoch j e at is) = tt
+fetch-raises t m reading q s k o u (read.ExtendsLease j e lease low is) = extends-raises k.durable (e.0 / 256) lease low is
+fetch-raises t m reading q s k o u (read.IsCovered j e low) = tt
+fetch-raises t m reading q s k o u (read.SettlesOwn j e decided a none unsettled among) = tt
+
+commit-raises : (t : TargetPlan) (opening : Epoch × FloorWhy) (m : TargetMemory) (reading : ℕ) (q : CommitRequest) → RaisesAll (commit.CommitNext t opening m reading q)
+commit-raises t opening m reading q s k o u (commit.HasEpoch j e is) = tt
+commit-raises t opening m reading q s k o u (commit.ExtendsLease j e lease low is) = extends-raises k.durable (e.0 / 256) lease low is
+commit-raises t opening m reading q s k o u (commit.IsCovered j e low) = tt
+commit-raises t opening m reading q s k o u (commit.Stores j e allowed space) = tt
+
+prepare-raises : (t : TargetPlan) (opening : Epoch × FloorWhy) (m : TargetMemory) (q : PrepareRequest) → RaisesAll (prepare.PrepareNext t opening m q)
+prepare-raises t opening m q s k o u (prepare.ExtendsLease j lease low is) = extends-raises k.durable (q.entry.epoch.0 / 256) lease low is
+prepare-raises t opening m q s k o u (prepare.IsCovered j low) = tt
+prepare-raises t opening m q s k o u (prepare.Stores j allowed space) = tt
+
+ack-raises : (t : TargetPlan) (m : TargetMemory) (member : ℕ) (a : AttemptId) (inc : ℕ) (refusal : Option Outcome) → RaisesAll (ack.AckNext t m member a inc refusal)
+ack-raises t m member a inc refusal s k o u (ack.Aborts j is) = tt
+ack-raises t m member a inc refusal s k o u (ack.Counts j is) = tt
+
+mark-raises : (me : ℕ) → RaisesAll (mark.MarkNext me)
+mark-raises me s k o u (mark.SettlesMarked j a committed rest is) = tt
+mark-raises me s k o u (mark.PassesBy j a committed rest is) = tt
+
+marked-raises : (t : TargetPlan) (m : TargetMemory) (member : ℕ) → RaisesAll (ack.MarkedNext t m member)
+marked-raises t m member s k o u (ack.Confirms j a rest is) = tt
+marked-raises t m member s k o u (ack.PassesBy j a rest is) = tt
+
+query-raises : RaisesAll verdict.QueryNext
+query-raises s k o u (verdict.Answers j) = tt
+
+settling-raises : (a : AttemptId) (d : Durable) (step : Option Settle) → Raises d (verdict.settling_change a step)
+settling-raises a d None = tt
+settling-raises a d (Some step) = tt
+
+verdict-raises : (t : TargetPlan) (m : TargetMemory) (reading : ℕ) (a : AttemptId) (ask : Option AttemptId) (v : Verdict) → RaisesAll (verdict.VerdictNext t m reading a ask v)
+verdict-raises t m reading a ask v s k o u (verdict.SettlesBy j p is) = subst (Raises k.durable) (sym is) (settling-raises a k.durable (verdict.settles_by t.me v a k.durable))
+verdict-raises t m reading a ask v s k o u (verdict.TriesNext j n posts rest x op group ep first tracker r snapshot) = tt
+verdict-raises t m reading a ask v s k o u (verdict.GoesOn j n posts rest q i z p next) = fetch-raises t n reading q i k o z next
+verdict-raises t m reading a ask v s k o u (verdict.IsDone j n posts rest q i left ends) = tt
+
+idle-raises : RaisesAll IdleNext
+idle-raises s k o u (SettlesFirst j a rest) = tt
+
+hears-raises : (t : TargetPlan) (opening : Epoch × FloorWhy) (m : TargetMemory) (reading : ℕ) (from : ActorId) (q : Message) (old new : Kept) (left : TargetMemory × Did)
+    → Hears t opening m reading from q old new left → LeaseRises old.durable new.durable
+hears-raises t opening m reading from (message.Fetch x op group ep first tracker r snapshot) old new left h = whole-raises _ _ _ old new left (fetch-raises t m reading (fetch_request x op group ep first tracker r snapshot)) h
+hears-raises t opening m reading from (message.Commit x ep first tracker ws) old new left h = whole-raises _ _ _ old new left (commit-raises t opening m reading (commit_request x ep first tracker ws)) h
+hears-raises t opening m reading from (message.Prepare e first ws inc) old new left h = whole-raises _ _ _ old new left (prepare-raises t opening m (prepare_request e first ws inc)) h
+hears-raises t opening m reading from (message.Ack x inc refusal) old new left h = whole-raises _ _ _ old new left (ack-raises t m from.number x inc refusal) h
+hears-raises t opening m reading from (message.Mark inc marks) old new left h = whole-raises _ _ _ old new left (mark-raises t.me) h
+hears-raises t opening m reading from (message.Marked inc ids) old new left h = whole-raises _ _ _ old new left (marked-raises t m from.number) h
+hears-raises t opening m reading from (message.Query x ask) old new left h = whole-raises _ _ _ old new left query-raises h
+hears-raises t opening m reading from (message.Verdict x ask inc v) old new left h = whole-raises _ _ _ old new left (verdict-raises t m reading x ask v) h
+hears-raises t opening m reading from q old new left h = absurd h
+
+-- ---- every turn
+
+-- the same containers, snapshots and incarnation are kept, and a lease no lower
+pub record KeepsAs (d e : Durable) : Type 0 where
+  pub conts : e.conts ≡ d.conts
+  pub snaps : e.snaps ≡ d.snaps
+  pub incarnation : e.incarnation ≡ d.incarnation
+  pub lease : LeaseRises d e
+
+pub hears-keeps : (t : TargetPlan) (opening : Epoch × FloorWhy) (m : TargetMemory) (reading : ℕ) (from : ActorId) (q : Message) (old new : Kept) (left : TargetMemory × Did)
+    → Hears t opening m reading from q old new left → KeepsAs old.durable new.durable
+hears-keeps t opening m reading from q old new left h = record {
+  conts = hears-leaves (λ d. d.conts) conts-made t opening m reading from q old new left h;
+  snaps = hears-leaves (λ d. d.snaps) snaps-made t opening m reading from q old new left h;
+  incarnation = hears-leaves (λ d. d.incarnation) incarnation-made t opening m reading from q old new left h;
+  lease = hears-raises t opening m reading from q old new left h;
+}
+
+pub idles-keeps : (settling : Bool) (t : TargetPlan) (m : TargetMemory) (old new : Kept) (left : TargetMemory × Did) → IdlesWhole settling t m old new left → KeepsAs old.durable new.durable
+idles-keeps settling t m old new left h = record {
+  conts = whole-leaves (λ d. d.conts) conts-made _ _ _ old new left h;
+  snaps = whole-leaves (λ d. d.snaps) snaps-made _ _ _ old new left h;
+  incarnation = whole-leaves (λ d. d.incarnation) incarnation-made _ _ _ old new left h;
+  lease = whole-raises _ _ _ old new left idle-raises h;
+}

@@ -1,2 +1,0 @@
-// The events of a run: one actor's turn each.
-#![tactic(auto)]
