@@ -327,6 +327,10 @@ first_down members down = find (is_down_among members down) all_targets
 unfoldable pub settled_led : AttemptId → LeaderOf → LeaderOf
 settled_led a l = record l { entries = map (committed_at a) l.entries; memory = record l.memory { decided = without_row itself a l.memory.decided } }
 
+-- what became of an attempt is told by another target: it is no more among those that are undecided or decided here
+abbrev pub forgotten : AttemptId → LeaderMemory → LeaderMemory
+forgotten a m = record m { undecided = without_row undecided_attempt a m.undecided; decided = without_row itself a m.decided }
+
 -- ---- a leader begins
 
 abbrev pub is_led : ℕ → Entry → Bool

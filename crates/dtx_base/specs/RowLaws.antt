@@ -24,6 +24,15 @@ module _ {T : Type 0} (of : T → AttemptId) where
       by rest true is same = let one : x ≡ r = cc in ap (λ y. same_attempt (of y) a) (sym one) ∙ is
       by rest false is same = rest same
 
+  -- where an attempt has no row, none goes
+  pub without-none : (a : AttemptId) (rows : List T) → row_of of a rows ≡ None → without_row of a rows ≡ rows
+  without-none a [] none = refl
+  without-none a (x ∷ rows) none = by (without-none a rows) (same_attempt (of x) a) none
+    where
+      by : (row_of of a rows ≡ None → without_row of a rows ≡ rows) → (s : Bool) → (if s then Some x else row_of of a rows) ≡ None → (if not s then x ∷ without_row of a rows else without_row of a rows) ≡ x ∷ rows
+      by rest true none = let no : ⊥ = cc in absurd no
+      by rest false none = ap (λ ys. x ∷ ys) (rest none)
+
   -- the row of an attempt stays where another one's goes
   pub row-without : (a b : AttemptId) (rows : List T) → (a ≡ b → ⊥) → row_of of a (without_row of b rows) ≡ row_of of a rows
   row-without a b [] apart = refl
@@ -56,6 +65,15 @@ module _ {T : Type 0} (of : T → AttemptId) where
       by : (s : Bool) → (if s then Some (f x) else option_map f (row_of of a rows)) ≡ option_map f (if s then Some x else row_of of a rows)
       by true = refl
       by false = refl
+
+-- where an attempt isn't among others, none of them goes
+pub without-absent : (a : AttemptId) (ids : List AttemptId) → is_among a ids ≡ false → without_row itself a ids ≡ ids
+without-absent a [] absent = refl
+without-absent a (x ∷ ids) absent = by (without-absent a ids) (same_attempt x a) absent
+  where
+    by : (is_among a ids ≡ false → without_row itself a ids ≡ ids) → (s : Bool) → (s || is_among a ids) ≡ false → (if not s then x ∷ without_row itself a ids else without_row itself a ids) ≡ x ∷ ids
+    by rest true absent = let no : ⊥ = cc in absurd no
+    by rest false absent = ap (λ ys. x ∷ ys) (rest absent)
 
 -- an attempt that is among others stays so where one more comes
 pub among-with : (a b : AttemptId) (ids : List AttemptId) → is_among a ids ≡ true → is_among a (put (row_key itself) b ids) ≡ true

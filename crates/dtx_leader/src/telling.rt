@@ -1,6 +1,6 @@
 // What a leader tells of what it decided.
 ghost use Rattle.std.specs.Prelude.{◌≡◌, [], IfOk, OnErr};
-ghost use Rattle.dtx_base.specs.Leading.{batched, first_down, is_batch_due, query_answer, undecided_attempt};
+ghost use Rattle.dtx_base.specs.Leading.{batched, first_down, forgotten, is_batch_due, query_answer, undecided_attempt};
 ghost use Rattle.dtx_base.specs.Rows.{itself, row_of, without_row};
 ghost use Rattle.dtx_posts.specs.Seats.{came, leader_of};
 
@@ -80,6 +80,15 @@ impl Leader {
     pub fn settled(&mut self, attempt: AttemptId)
         ensures { self.new ≡ record self.old { decided = without_row itself attempt self.old.decided } }
     {
+        remove(&mut self.decided, attempt);
+    }
+
+    /// What became of an attempt is known from another target: it is neither undecided nor decided
+    /// here any more.
+    pub fn forget(&mut self, attempt: AttemptId)
+        ensures { self.new ≡ forgotten attempt self.old }
+    {
+        remove(&mut self.undecided, attempt);
         remove(&mut self.decided, attempt);
     }
 

@@ -2,7 +2,7 @@
 ghost use Rattle.std.specs.Prelude.{◌≡◌};
 ghost use Rattle.std.specs.List.{list_all};
 ghost use Rattle.replay_base.specs.Heard.{is_led_here};
-ghost use Rattle.world_base.specs.Roles.{is_in_doubt, other_leader};
+ghost use Rattle.world_base.specs.Roles.{is_prepared, other_leader};
 
 use daos_base::epoch::TargetId;
 use daos_base::id::AttemptId;
@@ -43,13 +43,13 @@ pub fn are_led_here(plan: TargetPlan, durable: &Durable, attempts: &[AttemptId])
         .all(|attempt| is_led_here(plan, durable, *attempt))
 }
 
-/// Whether an attempt is in doubt here: prepared, and led by another target.
-#[tactic(auto, unfolding(world_base::specs::Roles::is_in_doubt, daos_model::specs::Durables::entry_of))]
-pub fn is_in_doubt(me: TargetId, durable: &Durable, attempt: AttemptId) -> bool
-    ensures { result ≡ is_in_doubt me attempt durable.now }
+/// Whether an attempt is prepared here: it has an entry that isn't committed.
+#[tactic(auto, unfolding(world_base::specs::Roles::is_prepared, daos_model::specs::Durables::entry_of))]
+pub fn is_prepared(attempt: AttemptId, durable: &Durable) -> bool
+    ensures { result ≡ is_prepared attempt durable.now }
 {
     match find(durable.entries.as_slice(), attempt) {
         None => false,
-        Some(entry) => !entry.committed && entry.leader != me,
+        Some(entry) => !entry.committed,
     }
 }

@@ -8,4 +8,5 @@ pub mod free;
 pub mod kept;
 pub mod leases;
 pub mod memories;
+pub mod news;
 pub mod told;

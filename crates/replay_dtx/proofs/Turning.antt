@@ -21,7 +21,7 @@ use Rattle.world_base.specs.Changes.{Change, Kept, Settles}
 use Rattle.world_base.specs.Idle.{AllSettled, IdleEnds, IdleNext, SettlesFirst, batch_of, idle_memory, idle_told, inquiry_of}
 use Rattle.world_base.specs.Marks.{AllMarked, MarkEnds, MarkNext, PassesBy, SettlesMarked, marked_step}
 use Rattle.world_base.specs.Requests.{nothing_follows, says, sends}
-use Rattle.world_base.specs.Roles.{is_in_doubt, joins_on, leader_at, leads_on}
+use Rattle.world_base.specs.Roles.{is_prepared, joins_on, leader_at, leads_on, told_of_all}
 use Rattle.world_base.specs.Verdicts.{Answers, IsAnswered, IsAsked, IsTold, QueryEnds, QueryNext, QueryStage, verdict_message}
 use Rattle.replay_base.specs.declared.leases.Covered.{Covered}
 use Rattle.replay_base.specs.declared.told.Left.{Left}
@@ -141,7 +141,7 @@ ack_found t from a inc refusal s member r b d0 d did m same knows tested kept ab
 
 -- ---- a Mark
 
-module _ (me : ℕ) (m : TargetMemory) (from : ActorId) (inc : ℕ) (marks : List (AttemptId × Bool)) where
+module _ (m : TargetMemory) (from : ActorId) (inc : ℕ) (marks : List (AttemptId × Bool)) where
   abbrev MarkE : List (AttemptId × Bool) → Kept → TargetMemory × Did → Type 0
   MarkE = MarkEnds m from inc marks
 
@@ -149,14 +149,14 @@ module _ (me : ℕ) (m : TargetMemory) (from : ActorId) (inc : ℕ) (marks : Lis
   told = (m, says from (message.Marked inc (attempts_of marks)) None)
 
   data MarkStep (x : AttemptId × Bool) (xs : List (AttemptId × Bool)) (k : Kept) (o : Option Change) (u : List (AttemptId × Bool)) : Type 0 where
-    Names : is_in_doubt me x.0 k.durable ≡ true → o ≡ Some (Settles x.0 (marked_step x.1)) → u ≡ xs → MarkStep x xs k o u
-    Skips : is_in_doubt me x.0 k.durable ≡ false → o ≡ None → u ≡ xs → MarkStep x xs k o u
+    Names : is_prepared x.0 k.durable ≡ true → o ≡ Some (Settles x.0 (marked_step x.1)) → u ≡ xs → MarkStep x xs k o u
+    Skips : is_prepared x.0 k.durable ≡ false → o ≡ None → u ≡ xs → MarkStep x xs k o u
 
   abbrev MarkAt : List (AttemptId × Bool) → Kept → Option Change → List (AttemptId × Bool) → Type 0
   MarkAt [] k o u = ⊥
   MarkAt (x ∷ xs) k o u = MarkStep x xs k o u
 
-  mark_at : (s : List (AttemptId × Bool)) (k : Kept) (o : Option Change) (u : List (AttemptId × Bool)) → MarkNext me s k o u → MarkAt s k o u
+  mark_at : (s : List (AttemptId × Bool)) (k : Kept) (o : Option Change) (u : List (AttemptId × Bool)) → MarkNext is_prepared s k o u → MarkAt s k o u
   mark_at s k o u (SettlesMarked j a committed rest is) = Names is refl refl
   mark_at s k o u (PassesBy j a committed rest is) = Skips is refl refl
 
@@ -168,7 +168,7 @@ module _ (me : ℕ) (m : TargetMemory) (from : ActorId) (inc : ℕ) (marks : Lis
   mark_end s k left (AllMarked j l is) = is
 
   module _ (x : AttemptId × Bool) (xs : List (AttemptId × Bool)) (d : Durable) where
-    names : is_in_doubt me x.0 d ≡ true → OneStep (MarkNext me) MarkE (x ∷ xs) d (Some (Settles x.0 (marked_step x.1))) xs
+    names : is_prepared x.0 d ≡ true → OneStep (MarkNext is_prepared) MarkE (x ∷ xs) d (Some (Settles x.0 (marked_step x.1))) xs
     names is = record {
       there = λ free. SettlesMarked (keeps d free) x.0 x.1 xs is;
       alone = λ free p u next. by p u (mark_at (x ∷ xs) (keeps d free) p u next);
@@ -177,9 +177,9 @@ module _ (me : ℕ) (m : TargetMemory) (from : ActorId) (inc : ℕ) (marks : Lis
       where
         by : {free : ℕ} (p : Option Change) (u : List (AttemptId × Bool)) → MarkStep x xs (keeps d free) p u → (p ≡ Some (Settles x.0 (marked_step x.1))) × (u ≡ xs)
         by p u (Names does o_is u_is) = (o_is, u_is)
-        by p u (Skips doesnt o_is u_is) = clash (is_in_doubt me x.0 d) is doesnt
+        by p u (Skips doesnt o_is u_is) = clash (is_prepared x.0 d) is doesnt
 
-    skips : is_in_doubt me x.0 d ≡ false → OneStep (MarkNext me) MarkE (x ∷ xs) d None xs
+    skips : is_prepared x.0 d ≡ false → OneStep (MarkNext is_prepared) MarkE (x ∷ xs) d None xs
     skips is = record {
       there = λ free. PassesBy (keeps d free) x.0 x.1 xs is;
       alone = λ free p u next. by p u (mark_at (x ∷ xs) (keeps d free) p u next);
@@ -187,33 +187,34 @@ module _ (me : ℕ) (m : TargetMemory) (from : ActorId) (inc : ℕ) (marks : Lis
     }
       where
         by : {free : ℕ} (p : Option Change) (u : List (AttemptId × Bool)) → MarkStep x xs (keeps d free) p u → (p ≡ None) × (u ≡ xs)
-        by p u (Names does o_is u_is) = clash (is_in_doubt me x.0 d) does is
+        by p u (Names does o_is u_is) = clash (is_prepared x.0 d) does is
         by p u (Skips doesnt o_is u_is) = (o_is, u_is)
 
-  mark_more : (x : AttemptId × Bool) (xs : List (AttemptId × Bool)) (k : Covered) → ((l : Covered) → Comes (MarkNext me) MarkE xs l.durable l.changed (Some (left_at (all_marked me xs l) told)))
-      → (b : Bool) → is_in_doubt me x.0 k.durable ≡ b
-      → Comes (MarkNext me) MarkE (x ∷ xs) k.durable k.changed (Some (left_at (all_marked me xs (if b then changed_to (settled x.0 (marked_step x.1) k.durable) else k)) told))
+  mark_more : (x : AttemptId × Bool) (xs : List (AttemptId × Bool)) (k : Covered) → ((l : Covered) → Comes (MarkNext is_prepared) MarkE xs l.durable l.changed (Some (left_at (all_marked xs l) told)))
+      → (b : Bool) → is_prepared x.0 k.durable ≡ b
+      → Comes (MarkNext is_prepared) MarkE (x ∷ xs) k.durable k.changed (Some (left_at (all_marked xs (if b then changed_to (settled x.0 (marked_step x.1) k.durable) else k)) told))
   mark_more x xs k rest true is free new left =
-      iff_both (change_iff (MarkNext me) MarkE (x ∷ xs) xs k.durable (Settles x.0 (marked_step x.1)) refl (names x xs k.durable is) k.changed free new left) (rest (changed_to (settled x.0 (marked_step x.1) k.durable)) free new left)
-  mark_more x xs k rest false is free new left = iff_both (silent_iff (MarkNext me) MarkE (x ∷ xs) xs k.durable (skips x xs k.durable is) k.changed free new left) (rest k free new left)
+      iff_both (change_iff (MarkNext is_prepared) MarkE (x ∷ xs) xs k.durable (Settles x.0 (marked_step x.1)) refl (names x xs k.durable is) k.changed free new left) (rest (changed_to (settled x.0 (marked_step x.1) k.durable)) free new left)
+  mark_more x xs k rest false is free new left = iff_both (silent_iff (MarkNext is_prepared) MarkE (x ∷ xs) xs k.durable (skips x xs k.durable is) k.changed free new left) (rest k free new left)
 
-  mark_comes : (xs : List (AttemptId × Bool)) (k : Covered) → Comes (MarkNext me) MarkE xs k.durable k.changed (Some (left_at (all_marked me xs k) told))
-  mark_comes [] k = end_comes (MarkNext me) MarkE [] k.durable k.changed (left_at k told) refl refl (record {
+  mark_comes : (xs : List (AttemptId × Bool)) (k : Covered) → Comes (MarkNext is_prepared) MarkE xs k.durable k.changed (Some (left_at (all_marked xs k) told))
+  mark_comes [] k = end_comes (MarkNext is_prepared) MarkE [] k.durable k.changed (left_at k told) refl refl (record {
     there = λ free. AllMarked (keeps k.durable free) told refl;
     alone = λ free x ends. mark_end [] (keeps k.durable free) x ends;
     stays = λ free p u next. mark_at [] (keeps k.durable free) p u next;
   })
-  mark_comes (x ∷ xs) k = mark_more x xs k (mark_comes xs) (is_in_doubt me x.0 k.durable) refl
+  mark_comes (x ∷ xs) k = mark_more x xs k (mark_comes xs) (is_prepared x.0 k.durable) refl
 
 -- where a turn begins
 abbrev pub start : Durable → Covered
 start d = record { durable = d; changed = false }
 
 pub mark_leaves : (t : TargetPlan) (from : ActorId) (inc : ℕ) (marks : List (AttemptId × Bool)) (s : TargetState) (l : Left)
-    → l ≡ left_at (all_marked t.me marks (start s.durable)) (told t.me s.memory from inc marks) → HearsAs t from (message.Mark inc marks) s (Some l)
+    → l ≡ left_at (all_marked marks (start s.durable)) (told (told_of_all (attempts_of marks) s.memory) from inc marks) → HearsAs t from (message.Mark inc marks) s (Some l)
 mark_leaves t from inc marks s l is reading new left =
-    subst (λ x. Iff (Whole (MarkNext t.me) (MarkEnds s.memory from inc marks) marks (keeps s.durable s.free) new left) (IsLeftIf (Some x) s.free new left)) (sym is)
-    (comes_whole (MarkNext t.me) (MarkEnds s.memory from inc marks) marks s.durable (Some (left_at (all_marked t.me marks (start s.durable)) (told t.me s.memory from inc marks))) s.free new left (mark_comes t.me s.memory from inc marks marks (start s.durable)))
+    let m : TargetMemory = told_of_all (attempts_of marks) s.memory in
+    subst (λ x. Iff (Whole (MarkNext is_prepared) (MarkEnds m from inc marks) marks (keeps s.durable s.free) new left) (IsLeftIf (Some x) s.free new left)) (sym is)
+    (comes_whole (MarkNext is_prepared) (MarkEnds m from inc marks) marks s.durable (Some (left_at (all_marked marks (start s.durable)) (told m from inc marks))) s.free new left (mark_comes m from inc marks marks (start s.durable)))
 
 -- ---- a Marked
 
@@ -374,12 +375,13 @@ idle_leaves settling t s l is new left =
 
 -- ---- as the code says it
 
-pub mark_found : (t : TargetPlan) (from : ActorId) (inc : ℕ) (marks : List (AttemptId × Bool)) (s : TargetState) (k0 k : Covered) (m : TargetMemory) (ids : List AttemptId) (did : Did) → k0 ≡ start s.durable → k ≡ all_marked t.me marks k0 → m ≡ s.memory → ids ≡ attempts_of marks
-    → did ≡ says from (message.Marked inc ids) None → HearsAs t from (message.Mark inc marks) s (Some (left_parts k.durable k.changed m did))
-mark_found t from inc marks s k0 k m ids did begins is at named answers =
-    let here : k ≡ all_marked t.me marks (start s.durable) = is ∙ ap (all_marked t.me marks) begins in
+pub mark_found : (t : TargetPlan) (from : ActorId) (inc : ℕ) (marks : List (AttemptId × Bool)) (s : TargetState) (k0 k : Covered) (m0 m : TargetMemory) (ids : List AttemptId) (did : Did) → k0 ≡ start s.durable → k ≡ all_marked marks k0 → ids ≡ attempts_of marks
+    → m0 ≡ s.memory → m ≡ told_of_all ids m0 → did ≡ says from (message.Marked inc ids) None → HearsAs t from (message.Mark inc marks) s (Some (left_parts k.durable k.changed m did))
+mark_found t from inc marks s k0 k m0 m ids did begins is named at tells answers =
+    let here : k ≡ all_marked marks (start s.durable) = is ∙ ap (all_marked marks) begins in
+    let knows : m ≡ told_of_all (attempts_of marks) s.memory = tells ∙ ap (told_of_all ids) at ∙ ap (λ x. told_of_all x s.memory) named in
     mark_leaves t from inc marks s (left_parts k.durable k.changed m did)
-    (left_same k.durable _ k.changed _ m _ did _ (ap (λ x. x.durable) here) (ap (λ x. x.changed) here) at (answers ∙ ap (λ x. says from (message.Marked inc x) None) named))
+    (left_same k.durable _ k.changed _ m _ did _ (ap (λ x. x.durable) here) (ap (λ x. x.changed) here) knows (answers ∙ ap (λ x. says from (message.Marked inc x) None) named))
 
 pub marked_found : (t : TargetPlan) (from : ActorId) (inc : ℕ) (ids : List AttemptId) (s : TargetState) (member : ℕ) (k0 k : Covered) (m : TargetMemory) (did : Did) → member ≡ from.number → k0 ≡ start s.durable → k ≡ all_confirmed t member (ack.to_confirm inc ids k0.durable) k0
     → m ≡ answered_memory member inc ids s.memory → did ≡ nothing_follows → HearsAs t from (message.Marked inc ids) s (Some (left_parts k.durable k.changed m did))

@@ -12,7 +12,7 @@ use Rattle.dtx_posts.specs.declared.seat.Seat.{Seat}
 use Rattle.world_base.specs.declared.target.TargetMemory.{TargetMemory}
 use Rattle.world_base.specs.declared.target.TargetPlan.{TargetPlan}
 use Rattle.world_base.specs.Marks.{marked_step}
-use Rattle.world_base.specs.Roles.{is_in_doubt, leads_on}
+use Rattle.world_base.specs.Roles.{is_prepared, leads_on}
 use Rattle.replay_base.specs.declared.leases.Covered.{Covered}
 
 -- where a target that keeps this is as a leader
@@ -27,13 +27,13 @@ leads s m = (leads_on s m, s.posts)
 abbrev pub changed_to : Durable → Covered
 changed_to d = record { durable = d; changed = true }
 
--- an attempt that a Mark names is settled, where it is in doubt here
-abbrev pub marked_one : ℕ → AttemptId × Bool → Covered → Covered
-marked_one me x k = if is_in_doubt me x.0 k.durable then changed_to (settled x.0 (marked_step x.1) k.durable) else k
+-- an attempt that a Mark names is settled, where it is prepared here
+abbrev pub marked_one : AttemptId × Bool → Covered → Covered
+marked_one x k = if is_prepared x.0 k.durable then changed_to (settled x.0 (marked_step x.1) k.durable) else k
 
-abbrev pub all_marked : ℕ → List (AttemptId × Bool) → Covered → Covered
-all_marked me [] k = k
-all_marked me (x ∷ xs) k = all_marked me xs (marked_one me x k)
+abbrev pub all_marked : List (AttemptId × Bool) → Covered → Covered
+all_marked [] k = k
+all_marked (x ∷ xs) k = all_marked xs (marked_one x k)
 
 -- the entry of an attempt, where this target leads it
 abbrev pub led_in : TargetPlan → AttemptId → Durable → Option Entry

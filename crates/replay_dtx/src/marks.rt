@@ -1,4 +1,4 @@
-// A member hears a Mark, and a leader a Marked.
+// A target hears a Mark, and a leader a Marked.
 ghost use Rattle.std.specs.Prelude.{◌≡◌, false, Some, IfOk};
 ghost use Rattle.daos_messages.specs.declared.message.Message.TheVariants as message;
 ghost use Rattle.dtx_base.specs.Leading.{attempts_of};
@@ -14,10 +14,11 @@ use daos_messages::message::{AttemptIds, Message};
 use dtx_leader::leader::Leader;
 use dtx_posts::bits::has_number;
 use dtx_posts::led::find_led;
-use replay_base::entries::is_in_doubt;
+use replay_base::entries::is_prepared;
 use replay_base::kept::{aborted, committed, confirmed, copy_kept};
 use replay_base::leases::Covered;
 use replay_base::memories::copy_memory;
+use replay_base::news::told_of_all;
 use replay_base::told::{Left, says, sends};
 use std::alloc::Global;
 use world_base::target::{TargetMemory, TargetPlan, TargetState};
@@ -32,11 +33,11 @@ pub fn start_of(alloc: Global, state: &TargetState) -> Result<Covered, Memory>
     })
 }
 
-// An attempt that a Mark names is settled, where it is in doubt here.
-fn marked_one(me: TargetId, start: Covered, attempt: AttemptId, commits: bool) -> Covered
-    ensures { result ≡ marked_one me (attempt, commits) start }
+// An attempt that a Mark names is settled, where it is prepared here, whoever leads it.
+fn marked_one(start: Covered, attempt: AttemptId, commits: bool) -> Covered
+    ensures { result ≡ marked_one (attempt, commits) start }
 {
-    if !is_in_doubt(me, &start.durable, attempt) {
+    if !is_prepared(attempt, &start.durable) {
         return start;
     }
     let durable = if commits {
@@ -51,12 +52,12 @@ fn marked_one(me: TargetId, start: Covered, attempt: AttemptId, commits: bool) -
 }
 
 // All that it names are.
-fn all_marked(me: TargetId, start: Covered, marks: &[(AttemptId, bool)]) -> Covered
-    ensures { result ≡ all_marked me marks.now start }
+fn all_marked(start: Covered, marks: &[(AttemptId, bool)]) -> Covered
+    ensures { result ≡ all_marked marks.now start }
 {
     let mut start = start;
     for mark in marks {
-        start = marked_one(me, start, mark.0, mark.1);
+        start = marked_one(start, mark.0, mark.1);
     }
     start
 }
@@ -84,16 +85,15 @@ pub fn hears_mark(
     ensures { IfOk result (λ left. HearsAs plan from (message.Mark inc marks.now) before.now (Some left)) }
 {
     let start = start_of(alloc, before)?;
-    let Covered { durable, changed } = all_marked(plan.me, start, marks);
-    let answer = Message::Marked {
-        inc,
-        attempts: attempts_of(alloc, marks)?,
-    };
+    let Covered { durable, changed } = all_marked(start, marks);
+    let attempts = attempts_of(alloc, marks)?;
+    let memory = copy_memory(alloc, &before.memory)?;
+    let memory = told_of_all(attempts.as_slice(), memory);
     Ok(Left {
         durable,
         changed,
-        memory: copy_memory(alloc, &before.memory)?,
-        did: says(alloc, from, answer, None)?,
+        memory,
+        did: says(alloc, from, Message::Marked { inc, attempts }, None)?,
     })
 }
 

@@ -13,7 +13,7 @@ use Rattle.daos_messages.specs.declared.message.Post.{Post}
 use Rattle.daos_model.specs.declared.durable.Durable.{Durable}
 use Rattle.daos_model.specs.BoolLaws.{clash}
 use Rattle.dtx_base.specs.Joining.{verdict_heard}
-use Rattle.world_base.specs.Roles.{member_at}
+use Rattle.world_base.specs.Roles.{is_prepared, member_at}
 use Rattle.world_base.specs.declared.did.Did.{Did}
 use Rattle.world_base.specs.declared.request.FetchRequest.{FetchRequest}
 use Rattle.world_base.specs.declared.target.TargetMemory.{TargetMemory}
@@ -37,7 +37,7 @@ use Rattle.replay_verdict.specs.Tried.{AllTried, GoesOn, TriesAsk, TriesFrom, Tr
 
 module _ (t : TargetPlan) (m : TargetMemory) (reading : ℕ) (a : AttemptId) (ask : Option AttemptId) (v : Verdict) where
   abbrev Next : VerdictStage → Kept → Option Change → VerdictStage → Type 0
-  Next = VerdictNext t m reading a ask v
+  Next = VerdictNext is_prepared t m reading a ask v
 
   -- ---- the steps and the ends, stage by stage
 
@@ -60,7 +60,7 @@ module _ (t : TargetPlan) (m : TargetMemory) (reading : ℕ) (a : AttemptId) (as
     pub there : u ≡ verdict.Freed rest left.0 (posts ++ left.1.posts)
 
   abbrev pub NextAt : VerdictStage → Kept → Option Change → VerdictStage → Type 0
-  NextAt verdict.Heard k o u = (o ≡ settling_change a (settles_by t.me v a k.durable)) × (u ≡ verdict.freed_by (verdict_heard a ask v (member_at t m)) m)
+  NextAt verdict.Heard k o u = (o ≡ settling_change a (settles_by is_prepared v a k.durable)) × (u ≡ verdict.freed_by (verdict_heard a ask v (member_at t m)) m)
   NextAt (verdict.Freed asks n posts) k o u = TriesFirst asks n posts o u
   NextAt (verdict.Trying q s rest n posts) k o u = Further q s rest n posts k o u ⊎ Done q s rest n posts k o u
 
@@ -192,10 +192,10 @@ module _ (t : TargetPlan) (m : TargetMemory) (reading : ℕ) (a : AttemptId) (as
 pub one_tried : (t : TargetPlan) (q : FetchRequest) (x next : Trial) (l : Left) → FetchLeaves t (fetcher q) q x.work.memory Asked x.work.durable x.work.changed (Some l) → GoesOn x.posts l next → TriesAsk t (fetch_message q) x (Some next)
 one_tried t q x next l leaves goes = record {
   on = λ rest m reading a ask v free new left.
-      subst (λ z. Iff (TriesFrom t m reading a ask v (fetch_message q ∷ rest) x free new left) (Onward (VerdictNext t m reading a ask v) VerdictEnds (verdict.Freed rest z next.posts) next.work.durable next.work.changed free new left)) (sym goes.memory)
-      (subst (λ z. Iff (TriesFrom t m reading a ask v (fetch_message q ∷ rest) x free new left) (Onward (VerdictNext t m reading a ask v) VerdictEnds (verdict.Freed rest l.memory z) next.work.durable next.work.changed free new left)) (sym goes.posts_are)
-      (subst (λ z. Iff (TriesFrom t m reading a ask v (fetch_message q ∷ rest) x free new left) (Onward (VerdictNext t m reading a ask v) VerdictEnds (verdict.Freed rest l.memory (x.posts ++ l.did.posts)) z next.work.changed free new left)) (sym goes.durable)
-      (subst (λ z. Iff (TriesFrom t m reading a ask v (fetch_message q ∷ rest) x free new left) (Onward (VerdictNext t m reading a ask v) VerdictEnds (verdict.Freed rest l.memory (x.posts ++ l.did.posts)) l.durable z free new left)) (sym goes.changed)
+      subst (λ z. Iff (TriesFrom t m reading a ask v (fetch_message q ∷ rest) x free new left) (Onward (VerdictNext is_prepared t m reading a ask v) VerdictEnds (verdict.Freed rest z next.posts) next.work.durable next.work.changed free new left)) (sym goes.memory)
+      (subst (λ z. Iff (TriesFrom t m reading a ask v (fetch_message q ∷ rest) x free new left) (Onward (VerdictNext is_prepared t m reading a ask v) VerdictEnds (verdict.Freed rest l.memory z) next.work.durable next.work.changed free new left)) (sym goes.posts_are)
+      (subst (λ z. Iff (TriesFrom t m reading a ask v (fetch_message q ∷ rest) x free new left) (Onward (VerdictNext is_prepared t m reading a ask v) VerdictEnds (verdict.Freed rest l.memory (x.posts ++ l.did.posts)) z next.work.changed free new left)) (sym goes.durable)
+      (subst (λ z. Iff (TriesFrom t m reading a ask v (fetch_message q ∷ rest) x free new left) (Onward (VerdictNext is_prepared t m reading a ask v) VerdictEnds (verdict.Freed rest l.memory (x.posts ++ l.did.posts)) l.durable z free new left)) (sym goes.changed)
       (tries_on t m reading a ask v q rest x.work.memory x.posts x.work.durable x.work.changed l (leaves.comes reading) free new left))));
   read = subst (λ z. CanRead t z next.work.memory.leader.decided) (sym goes.durable) (subst (λ z. CanRead t l.durable z.leader.decided) (sym goes.memory) leaves.read);
 }

@@ -16,7 +16,7 @@ use Rattle.world_base.specs.declared.target.TargetMemory.{TargetMemory}
 use Rattle.world_base.specs.declared.target.TargetPlan.{TargetPlan}
 use Rattle.world_base.specs.Changes.{Kept}
 use Rattle.world_base.specs.Requests.{fetch_message, sends}
-use Rattle.world_base.specs.Roles.{joins_on, member_at}
+use Rattle.world_base.specs.Roles.{is_prepared, joins_on, member_at}
 use Rattle.world_base.specs.Verdicts as verdict
 use Rattle.world_base.specs.Verdicts.{VerdictEnds, VerdictNext, settles_by}
 use Rattle.replay_base.specs.declared.leases.Covered.{Covered}
@@ -39,7 +39,7 @@ pub record GoesOn (posts : List Post) (l : Left) (next : Trial) : Type 0 where
 
 -- a Verdict's turn from where these Fetches are left to be tried
 abbrev pub TriesFrom : TargetPlan → TargetMemory → ℕ → AttemptId → Option AttemptId → Verdict → List Message → Trial → ℕ → Kept → TargetMemory × Did → Type 0
-TriesFrom t m reading a ask v asks x free new left = Onward (VerdictNext t m reading a ask v) VerdictEnds (verdict.Freed asks x.work.memory x.posts) x.work.durable x.work.changed free new left
+TriesFrom t m reading a ask v asks x free new left = Onward (VerdictNext is_prepared t m reading a ask v) VerdictEnds (verdict.Freed asks x.work.memory x.posts) x.work.durable x.work.changed free new left
 
 -- it goes on so far, if it does
 abbrev pub TriesTo : TargetPlan → TargetMemory → ℕ → AttemptId → Option AttemptId → Verdict → List Message → Option Trial → ℕ → Kept → TargetMemory × Did → Type 0
@@ -80,9 +80,9 @@ abbrev pub settled_so : AttemptId → Option Settle → Durable → Covered
 settled_so a None d = record { durable = d; changed = false }
 settled_so a (Some step) d = record { durable = settled a step d; changed = true }
 
--- what is kept once an attempt is settled by a Verdict, where it is still in doubt
-abbrev pub settled_by : ℕ → Verdict → AttemptId → Durable → Covered
-settled_by me v a d = settled_so a (settles_by me v a d) d
+-- what is kept once an attempt is settled by a Verdict, where it is still prepared
+abbrev pub settled_by : Verdict → AttemptId → Durable → Covered
+settled_by v a d = settled_so a (settles_by is_prepared v a d) d
 
 -- ---- and behind them
 

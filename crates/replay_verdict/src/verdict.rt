@@ -1,4 +1,4 @@
-// A member hears a Verdict.
+// A target hears a Verdict.
 ghost use Rattle.std.specs.Prelude.{◌≡◌, IfOk};
 ghost use Rattle.daos_messages.specs.declared.message.Message.TheVariants as message;
 ghost use Rattle.replay_base.specs.Heard.{CanTryAgain};
@@ -7,17 +7,17 @@ ghost use Rattle.replay_verdict.specs.Tried.{heard_by, left_by, settled_by};
 
 use crate::again::{Trial, try_all};
 use daos_base::entry::Verdict;
-use daos_base::epoch::TargetId;
 use daos_base::id::AttemptId;
 use daos_base::items::Memory;
 use daos_messages::actor::ActorId;
 use daos_model::durable::Durable;
 use dtx_base::member::Freed;
 use dtx_member::member::Member;
-use replay_base::entries::is_in_doubt;
+use replay_base::entries::is_prepared;
 use replay_base::kept::{aborted, committed, copy_kept};
 use replay_base::leases::Covered;
 use replay_base::memories::copy_memory;
+use replay_base::news::told_by;
 use replay_base::told::{Left, sends};
 use replay_fetch::reads::Work;
 use std::alloc::Global;
@@ -51,11 +51,11 @@ fn heard(
     Ok((memory, freed))
 }
 
-// What is kept once an attempt is settled by a Verdict, where it is still in doubt.
-fn settled_by(me: TargetId, durable: Durable, attempt: AttemptId, verdict: Verdict) -> Covered
-    ensures { result ≡ settled_by me verdict attempt durable }
+// What is kept once an attempt is settled by a Verdict, where it is still prepared, whoever leads it.
+fn settled_by(durable: Durable, attempt: AttemptId, verdict: Verdict) -> Covered
+    ensures { result ≡ settled_by verdict attempt durable }
 {
-    if !is_in_doubt(me, &durable, attempt) {
+    if !is_prepared(attempt, &durable) {
         return Covered {
             durable,
             changed: false,
@@ -116,13 +116,10 @@ pub fn hears_verdict(
 {
     let _told = (from, inc);
     let memory = copy_memory(alloc, &before.memory)?;
+    let memory = told_by(verdict, attempt, memory);
     let (memory, freed) = heard(alloc, plan, attempt, ask, verdict, memory)?;
-    let Covered { durable, changed } = settled_by(
-        plan.me,
-        copy_kept(alloc, &before.durable)?,
-        attempt,
-        verdict,
-    );
+    let kept = copy_kept(alloc, &before.durable)?;
+    let Covered { durable, changed } = settled_by(kept, attempt, verdict);
     let trial = Trial {
         work: Work {
             durable,

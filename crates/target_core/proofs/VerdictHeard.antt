@@ -9,6 +9,7 @@ use Rattle.vos_store.specs.Calls.{State}
 use Rattle.world_base.specs.declared.did.Did.{Did}
 use Rattle.world_base.specs.declared.target.TargetMemory.{TargetMemory}
 use Rattle.world_base.specs.declared.target.TargetPlan.{TargetPlan}
+use Rattle.world_base.specs.Roles.{told_by}
 use Rattle.world_base.specs.Verdicts.{Heard}
 use Rattle.target_parts.specs.declared.stop.TargetStop.{TargetStop}
 use Rattle.target_parts.specs.declared.stop.TargetStop.TheVariants as stop
@@ -16,7 +17,7 @@ use Rattle.target_reads.specs.Again.{VerdictTurn}
 use Rattle.target_core.specs.Targets.{HearsOrStops}
 
 pub hears-verdict : (t : TargetPlan) (m : TargetMemory) (reading : ℕ) (from : ActorId) (x : AttemptId) (ask : Option AttemptId) (inc : ℕ) (v : VerdictOf) (d : Durable) (h : State) (new : Option Durable) (k : State) (finds : Durable → Type 0)
-    (left : TargetMemory) (r : Result Did TargetStop) → VerdictTurn t m reading x ask v Heard d h new k finds left r → HearsOrStops t m reading from (Verdict x ask inc v) d h new k finds left r
+    (left : TargetMemory) (r : Result Did TargetStop) → VerdictTurn t (told_by v x m) reading x ask v Heard d h new k finds left r → HearsOrStops t m reading from (Verdict x ask inc v) d h new k finds left r
 hears-verdict t m reading from x ask inc v d h new k finds left (Ok did) turn = turn
 hears-verdict t m reading from x ask inc v d h new k finds left (Err (stop.Store issued lines)) turn = turn
 hears-verdict t m reading from x ask inc v d h new k finds left (Err (stop.Foreign at byte)) turn = turn

@@ -1,5 +1,5 @@
 -- What a target is seen as, what holds of each, and what a turn of it comes to.
-use Rattle.std.specs.Prelude.{ℕ, ◌≡◌, ◌≤◌, Bool, true, false, List, [], Option, Some, None, is_some, Result, Ok, Err}
+use Rattle.std.specs.Prelude.{ℕ, ◌≡◌, ◌≤◌, Bool, true, false, List, [], Option, None, is_some, Result, Ok, Err}
 use Rattle.std.specs.Option.{ForSome}
 use Rattle.daos_base.specs.declared.epoch.Epoch.{Epoch}
 use Rattle.daos_base.specs.declared.id.AttemptId.{AttemptId}
@@ -22,6 +22,7 @@ use Rattle.world_base.specs.Idle.{IdleNext}
 use Rattle.world_base.specs.Marks.{MarkNext}
 use Rattle.world_base.specs.Prepares as prepare
 use Rattle.world_base.specs.Reads as read
+use Rattle.world_base.specs.Roles.{is_prepared, told_by}
 use Rattle.world_base.specs.TargetTurns.{Hears, IdlesCut, IdlesWhole, commit_request, fetch_request, prepare_request}
 use Rattle.world_base.specs.Verdicts as verdict
 pub use Rattle.world_posts.specs.Forms.{HasForm, is_of_client}
@@ -77,10 +78,10 @@ HearsCutTelling t opening m reading from (Commit x ep first tracker ws) old find
 HearsCutTelling t opening m reading from (Prepare e first ws inc) old finds issued lines =
     CutTelling (prepare.PrepareNext t opening m (prepare_request e first ws inc)) never prepare.Heard old finds issued lines
 HearsCutTelling t opening m reading from (Ack x inc refusal) old finds issued lines = CutTelling (ack.AckNext t m from.number x inc refusal) never ack.Heard old finds issued lines
-HearsCutTelling t opening m reading from (Mark inc marks) old finds issued lines = CutTelling (MarkNext t.me) never marks old finds issued lines
+HearsCutTelling t opening m reading from (Mark inc marks) old finds issued lines = CutTelling (MarkNext is_prepared) never marks old finds issued lines
 HearsCutTelling t opening m reading from (Marked inc ids) old finds issued lines = CutTelling (ack.MarkedNext t m from.number) never (ack.to_confirm inc ids old.durable) old finds issued lines
 HearsCutTelling t opening m reading from (Query x ask) old finds issued lines = CutTelling verdict.QueryNext never verdict.IsAsked old finds issued lines
-HearsCutTelling t opening m reading from (Verdict x ask inc v) old finds issued lines = CutTelling (verdict.VerdictNext t m reading x ask v) never verdict.Heard old finds issued lines
+HearsCutTelling t opening m reading from (Verdict x ask inc v) old finds issued lines = CutTelling (verdict.VerdictNext is_prepared t (told_by v x m) reading x ask v) never verdict.Heard old finds issued lines
 HearsCutTelling t opening m reading from other old finds issued lines = ⊥
 
 -- some of the changes of a turn in which a message is heard were made
@@ -89,10 +90,10 @@ HearsPartway t opening m reading from (Fetch x op group ep first tracker r snaps
 HearsPartway t opening m reading from (Commit x ep first tracker ws) old mid = Partway (commit.CommitNext t opening m reading (commit_request x ep first tracker ws)) commit.Asked old mid
 HearsPartway t opening m reading from (Prepare e first ws inc) old mid = Partway (prepare.PrepareNext t opening m (prepare_request e first ws inc)) prepare.Heard old mid
 HearsPartway t opening m reading from (Ack x inc refusal) old mid = Partway (ack.AckNext t m from.number x inc refusal) ack.Heard old mid
-HearsPartway t opening m reading from (Mark inc marks) old mid = Partway (MarkNext t.me) marks old mid
+HearsPartway t opening m reading from (Mark inc marks) old mid = Partway (MarkNext is_prepared) marks old mid
 HearsPartway t opening m reading from (Marked inc ids) old mid = Partway (ack.MarkedNext t m from.number) (ack.to_confirm inc ids old.durable) old mid
 HearsPartway t opening m reading from (Query x ask) old mid = Partway verdict.QueryNext verdict.IsAsked old mid
-HearsPartway t opening m reading from (Verdict x ask inc v) old mid = Partway (verdict.VerdictNext t m reading x ask v) verdict.Heard old mid
+HearsPartway t opening m reading from (Verdict x ask inc v) old mid = Partway (verdict.VerdictNext is_prepared t (told_by v x m) reading x ask v) verdict.Heard old mid
 HearsPartway t opening m reading from other old mid = ⊥
 
 -- A turn in which a target hears a message at a reading of its clock: it is whole, and these are what the target then

@@ -1,9 +1,11 @@
-// A member hears a Mark.
+// A target hears a Mark.
 ghost use Rattle.std.specs.Prelude.{◌≡◌, IfOk, OnOk, Some, false};
 ghost use Rattle.std.specs.Option.{ForSome};
 ghost use Rattle.daos_model.specs.declared.durable.Durable.{Durable};
+ghost use Rattle.dtx_base.specs.Leading.{attempts_of};
 ghost use Rattle.vos_store.specs.Refusals.{always_stop, says};
 ghost use Rattle.world_base.specs.Marks.{MarkEnds, MarkNext, marked_step};
+ghost use Rattle.world_base.specs.Roles.{is_prepared, told_of_all};
 ghost use Rattle.world_base.specs.Turns.{Whole};
 ghost use Rattle.world_posts.specs.Forms.{PostsInForm};
 ghost use Rattle.target_parts.specs.Keeping.{IsEnding};
@@ -20,7 +22,7 @@ use daos_messages::message::Message;
 use dtx_marks::marks::attempts_of;
 use std::alloc::Global;
 use target_parts::halt::Halt;
-use target_parts::kept::settle_in_doubt;
+use target_parts::kept::settle_prepared;
 use target_parts::knows::Knows;
 use target_parts::stop::{TargetStop, stop_of};
 use target_parts::telling::says;
@@ -52,19 +54,19 @@ fn settle_all<S: Store>(
     requires leads { ForSome (S.durable store.old) (LeadsWell plan (memory_of knows.old) knows.old.entries.items) }
     ensures runs { Runs always_stop result (S.state store.old) (S.state store.new) (S.durable store.old) (S.durable store.new) }
     ensures settled { (d : Durable) → S.durable store.old ≡ Some d
-        → GoesThrough (MarkNext plan.me) marks.now d (S.state store.old) (S.durable store.new) (S.state store.new) (S.may store.new) result }
+        → GoesThrough (MarkNext is_prepared) marks.now d (S.state store.old) (S.durable store.new) (S.state store.new) (S.may store.new) result }
     ensures beside { IsBeside knows.old knows.new }
-    ensures leader { knows.new.leader ≡ knows.old.leader }
+    ensures told { OnOk result (memory_of knows.new ≡ told_of_all (attempts_of marks.now) (memory_of knows.old)) }
     ensures leads { OnOk result (ForSome (S.durable store.new) (LeadsWell plan (memory_of knows.new) knows.new.entries.items)) }
 {
     for mark in marks {
-        settle_in_doubt(store, plan, knows, mark.0, step_of(mark.1))?;
+        settle_prepared(store, plan, knows, mark.0, step_of(mark.1))?;
     }
     Ok(())
 }
 
-/// It hears a Mark: it settles the attempts in doubt that it names, and tells so of all. What it leads
-/// itself it passes by.
+/// It hears a Mark: of the attempts that it names those are settled that are prepared here, whoever
+/// leads them, and it tells so of all. As a leader it then neither waits for them nor has to settle them.
 ///
 /// # Errors
 ///
@@ -83,8 +85,8 @@ pub fn hear_mark<S: Store>(
     requires leads { ForSome (S.durable store.old) (LeadsWell plan (memory_of knows.old) knows.old.entries.items) }
     ensures runs { Runs stop_store result (S.state store.old) (S.state store.new) (S.durable store.old) (S.durable store.new) }
     ensures turn { (d : Durable) → S.durable store.old ≡ Some d
-        → Turn (MarkNext plan.me) never marks.now (kept d (S.state store.old))
-        (λ did l. Whole (MarkNext plan.me) (MarkEnds (memory_of knows.old) from inc marks.now) marks.now (kept d (S.state store.old)) l (memory_of knows.new, did))
+        → Turn (MarkNext is_prepared) never marks.now (kept d (S.state store.old))
+        (λ did l. Whole (MarkNext is_prepared) (MarkEnds (told_of_all (attempts_of marks.now) (memory_of knows.old)) from inc marks.now) marks.now (kept d (S.state store.old)) l (memory_of knows.new, did))
         (S.durable store.new) (S.state store.new) (S.may store.new) result }
     ensures leads { says stop_store result ≡ false → ForSome (S.durable store.new) (LeadsWell plan (memory_of knows.new) knows.new.entries.items) }
     ensures own { IsOwn plan knows.new }

@@ -1,2 +1,2 @@
 mod OwnEpochs
-mod Doubts
+mod Prepared

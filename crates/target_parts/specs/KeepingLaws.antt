@@ -25,6 +25,7 @@ use Rattle.daos_model.specs.OrderLaws.{rising-filter}
 use Rattle.daos_model.specs.Versions.{done_by, version_of, versions_of}
 use Rattle.dtx_base.specs.declared.leading.LeaderMemory.{LeaderMemory}
 use Rattle.dtx_base.specs.LeaderLaws.{same-is}
+use Rattle.dtx_base.specs.Leading.{forgotten, undecided_attempt}
 use Rattle.dtx_base.specs.RowLaws.{row-is, row-map, row-without}
 use Rattle.dtx_base.specs.Rows.{itself, without_row}
 use Rattle.dtx_table.specs.Tables.{entries_settled}
@@ -224,12 +225,27 @@ module _ (t : TargetPlan) where
   }
 
   -- an undecided one is remembered no more
-  pub rows-without_undecided : (a : AttemptId) (m : LeaderMemory) (d : Durable) → AreRowsOpen t.me m d → AreRowsOpen t.me (record m { undecided = without_row (λ u. u.attempt) a m.undecided }) d
+  pub rows-without_undecided : (a : AttemptId) (m : LeaderMemory) (d : Durable) → AreRowsOpen t.me m d → AreRowsOpen t.me (record m { undecided = without_row undecided_attempt a m.undecided }) d
   rows-without_undecided a m d r = record {
     order = r.order;
     decided = r.decided;
     undecided = λ u i. r.undecided u (has-from_filter _ m.undecided u i).0;
     apart = λ u i j. r.apart u (has-from_filter _ m.undecided u i).0 j;
+  }
+
+  -- one of which another target tells is remembered no more
+  pub forgotten-apart : (a : AttemptId) (m l : LeaderMemory) → l ≡ forgotten a m → IsApart a l
+  forgotten-apart a m l is = subst (IsApart a) (sym is) (record {
+    decided = λ i. other-same a (has-from_filter _ m.decided a i).1;
+    undecided = λ u i same. other-same a (subst (λ x. not (same_attempt x a) ≡ true) same (has-from_filter _ m.undecided u i).1);
+  })
+
+  pub leads-forgotten : (a : AttemptId) (m : TargetMemory) (l : LeaderMemory) (es : List Entry) (d : Durable) → l ≡ forgotten a m.leader → LeadsWell t m es d → LeadsWell t (record m { leader = l }) es d
+  leads-forgotten a m l es d is k = record {
+    entries = k.entries;
+    rows = subst (λ x. AreRowsOpen t.me x d) (sym is) (rows-without_decided a (record m.leader { undecided = without_row undecided_attempt a m.leader.undecided }) d (rows-without_undecided a m.leader d k.rows));
+    heard = k.heard;
+    asks = k.asks;
   }
 
   pub decided-apart : (a : AttemptId) (m : LeaderMemory) (d : Durable) → AreRowsOpen t.me m d → Has a m.decided → IsApart a (record m { decided = without_row itself a m.decided })

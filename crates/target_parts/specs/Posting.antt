@@ -1,10 +1,51 @@
 -- What is posted has its form, from a later memory on.
-use Rattle.std.specs.Prelude.{ℕ, ◌≡◌, IfOk, Result}
+use Rattle.std.specs.Prelude.{ℕ, ◌≡◌, IfOk, List, [], ◌∷◌, Result, Ok, Err}
 use Rattle.std.proofs.Common.{subst}
+use Rattle.daos_base.specs.declared.entry.Verdict.{Verdict}
+use Rattle.daos_base.specs.declared.entry.Verdict.TheVariants.{Aborted, Committed, Undecided}
+use Rattle.daos_base.specs.declared.id.AttemptId.{AttemptId}
+use Rattle.daos_laws.specs.Members.{Has, has-from_filter}
+use Rattle.daos_messages.specs.declared.message.Post.{Post}
 use Rattle.dtx_base.specs.declared.leading.LeaderMemory.{LeaderMemory}
+use Rattle.dtx_base.specs.declared.leading.Undecided.{Undecided as UndecidedOf}
 use Rattle.world_base.specs.declared.did.Did.{Did}
-use Rattle.world_posts.specs.Forms.{PostsInForm}
+use Rattle.world_base.specs.declared.target.TargetMemory.{TargetMemory}
+use Rattle.world_base.specs.Roles.{told_by, told_of, told_of_all}
+use Rattle.world_posts.specs.Forms.{PostsInForm, TargetPosts}
 use Rattle.target_parts.specs.declared.stop.TargetStop.{TargetStop}
 
 pub later-posts : (targets : ℕ) (old mid new : LeaderMemory) (result : Result Did TargetStop) → mid ≡ old → IfOk result (λ did. PostsInForm targets mid new did.posts) → IfOk result (λ did. PostsInForm targets old new did.posts)
 later-posts targets old mid new result same k = subst (λ m. IfOk result (λ did. PostsInForm targets m new did.posts)) same k
+
+-- ---- where fewer wait
+
+-- what is undecided was so before
+abbrev pub IsFewer : LeaderMemory → LeaderMemory → Type 0
+IsFewer old new = (u : UndecidedOf) → Has u new.undecided → Has u old.undecided
+
+-- of what another target tells, nobody waits
+told-of_fewer : (a : AttemptId) (m : TargetMemory) → IsFewer m.leader (told_of a m).leader
+told-of_fewer a m u i = (has-from_filter _ m.leader.undecided u i).0
+
+pub told-fewer : (ids : List AttemptId) (m : TargetMemory) (l : LeaderMemory) → l ≡ (told_of_all ids m).leader → IsFewer m.leader l
+told-fewer ids m l is u i = all ids m u (subst (λ (x : LeaderMemory). Has u x.undecided) is i)
+  where
+    all : (ids : List AttemptId) (m : TargetMemory) → IsFewer m.leader (told_of_all ids m).leader
+    all [] m u i = i
+    all (a ∷ ids) m u i = told-of_fewer a m u (all ids (told_of a m) u i)
+
+pub judged-fewer : (v : Verdict) (a : AttemptId) (m : TargetMemory) (l : LeaderMemory) → l ≡ (told_by v a m).leader → IsFewer m.leader l
+judged-fewer v a m l is u i = by v (subst (λ (x : LeaderMemory). Has u x.undecided) is i)
+  where
+    by : (v : Verdict) → Has u (told_by v a m).leader.undecided → Has u m.leader.undecided
+    by Committed i = told-of_fewer a m u i
+    by Aborted i = told-of_fewer a m u i
+    by Undecided i = i
+
+pub fewer-wait : (targets : ℕ) (old new : LeaderMemory) (posts : List Post) → IsFewer old new → TargetPosts targets posts → PostsInForm targets old new posts
+fewer-wait targets old new posts fewer k waits = record { form = k; waiting = λ u c i is. waits u c (fewer u i) is }
+
+-- a turn goes on then
+pub fewer-posts : (targets : ℕ) (old mid new : LeaderMemory) (result : Result Did TargetStop) → IsFewer old mid → IfOk result (λ did. PostsInForm targets mid new did.posts) → IfOk result (λ did. PostsInForm targets old new did.posts)
+fewer-posts targets old mid new (Ok did) fewer k = λ waits. k (λ u c i is. waits u c (fewer u i) is)
+fewer-posts targets old mid new (Err stop) fewer k = k

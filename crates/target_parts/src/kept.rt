@@ -4,12 +4,13 @@ ghost use Rattle.std.specs.Option.{ForSome};
 ghost use Rattle.daos_base.specs.declared.entry.Settle.TheVariants as settle;
 ghost use Rattle.daos_laws.specs.Members.{Has};
 ghost use Rattle.daos_model.specs.declared.durable.Durable.{Durable};
+ghost use Rattle.dtx_base.specs.Leading.{forgotten};
 ghost use Rattle.dtx_base.specs.Rows.{itself, without_row};
 ghost use Rattle.dtx_table.specs.Tables.{entries_settled, entry_in};
 ghost use Rattle.vos_store.specs.Conditions.{CanSettle, IsStep};
 ghost use Rattle.vos_store.specs.Refusals.{always_stop};
 ghost use Rattle.world_base.specs.Changes.{Settles};
-ghost use Rattle.world_base.specs.Roles.{is_entry_in_doubt, is_in_doubt, other_leader_of};
+ghost use Rattle.world_base.specs.Roles.{is_open_entry, is_prepared, other_leader_of};
 ghost use Rattle.target_parts.specs.Keeping.{IsEnding, MadeIf, MadeOrCut};
 ghost use Rattle.target_parts.specs.Knowing.{IsBeside, LeadsWell, memory_of};
 ghost use Rattle.target_parts.specs.Parts.{Runs};
@@ -49,13 +50,13 @@ pub fn settle<S: Store>(
     Ok(())
 }
 
-/// Whether an attempt is in doubt here: it has an entry that isn't committed, and another target leads it.
-pub fn is_in_doubt(me: TargetId, entries: &[Entry], attempt: AttemptId) -> bool
-    ensures { result ≡ is_entry_in_doubt me (entry_in entries.now attempt) }
+/// Whether an attempt is prepared here: it has an entry that isn't committed.
+pub fn is_prepared(entries: &[Entry], attempt: AttemptId) -> bool
+    ensures { result ≡ is_open_entry (entry_in entries.now attempt) }
 {
     match find(entries, attempt) {
         None => false,
-        Some(entry) => !entry.committed && entry.leader != me,
+        Some(entry) => !entry.committed,
     }
 }
 
@@ -115,13 +116,13 @@ pub fn settle_decided<S: Store>(
     Ok(())
 }
 
-/// An attempt is committed or aborted, where it is still in doubt here: prepared, and led by another
-/// target. What this target leads itself stays.
+/// Another target tells what became of an attempt: it is committed or aborted, where it is prepared
+/// here, whoever leads it. As a leader this one then neither waits for it nor has to settle it.
 ///
 /// # Errors
 ///
 /// `Stopped` where the store stopped.
-pub fn settle_in_doubt<S: Store>(
+pub fn settle_prepared<S: Store>(
     store: &mut S,
     plan: TargetPlan,
     knows: &mut Knows,
@@ -133,12 +134,14 @@ pub fn settle_in_doubt<S: Store>(
     requires leads { ForSome (S.durable store.old) (LeadsWell plan (memory_of knows.old) knows.old.entries.items) }
     ensures runs { Runs always_stop result (S.state store.old) (S.state store.new) (S.durable store.old) (S.durable store.new) }
     ensures made { (d : Durable) → S.durable store.old ≡ Some d
-        → MadeIf (is_in_doubt plan.me attempt d) (Settles attempt step) d (S.state store.old) (S.durable store.new) (S.state store.new) (S.may store.new) result }
+        → MadeIf (is_prepared attempt d) (Settles attempt step) d (S.state store.old) (S.durable store.new) (S.state store.new) (S.may store.new) result }
     ensures beside { IsBeside knows.old knows.new }
-    ensures leader { knows.new.leader ≡ knows.old.leader }
+    ensures leader { knows.new.leader ≡ forgotten attempt knows.old.leader }
     ensures leads { OnOk result (ForSome (S.durable store.new) (LeadsWell plan (memory_of knows.new) knows.new.entries.items)) }
 {
-    if !is_in_doubt(plan.me, &knows.entries, attempt) {
+    let _plan = plan;
+    knows.leader.forget(attempt);
+    if !is_prepared(&knows.entries, attempt) {
         return Ok(());
     }
     settle(store, &mut knows.entries, attempt, step)

@@ -20,6 +20,7 @@ use Rattle.world_base.specs.Changes.{Change, Extends, Kept, Prepares, Settles, S
 use Rattle.world_base.specs.Reads as read
 use Rattle.world_base.specs.Reads.{FetchEnds, FetchNext, FetchStage}
 use Rattle.world_base.specs.Requests.{fetch_message, issued_for}
+use Rattle.world_base.specs.Roles.{is_prepared}
 use Rattle.world_base.specs.Turns.{CutAt, CutShort, Here, InChange, InQuestion, More, Path, Reached, Whole}
 use Rattle.world_base.specs.Verdicts.{Freed, GoesOn, IsDone, TriesNext, Trying, VerdictNext, VerdictStage, fetcher}
 use Rattle.target_parts.specs.KeepingLaws.{enlisted-leased, enlisted-prepared, enlisted-settled}
@@ -49,36 +50,36 @@ module _ (t : TargetPlan) (m : TargetMemory) (reading : ℕ) (a : AttemptId) (as
   abbrev trying : FetchStage → VerdictStage
   trying s = Trying q s rest n posts
 
-  lifted : (s : FetchStage) (k : Kept) (did : List Change) (u : FetchStage) (l : Kept) → Path (FetchNext t n reading q) s k did u l → Path (VerdictNext t m reading a ask v) (trying s) k did (trying u) l
+  lifted : (s : FetchStage) (k : Kept) (did : List Change) (u : FetchStage) (l : Kept) → Path (FetchNext t n reading q) s k did u l → Path (VerdictNext is_prepared t m reading a ask v) (trying s) k did (trying u) l
   lifted s k did u l Here = Here
   lifted s k did u l (More before w x o y z path next steps) = More before (trying w) x o (trying u) l (lifted s k before w x path) (GoesOn x n posts rest q w u o next) steps
 
-  begun : (k : Kept) → Reached (VerdictNext t m reading a ask v) (Freed (fetch_message q ∷ rest) n posts) k (trying read.Asked) k
+  begun : (k : Kept) → Reached (VerdictNext is_prepared t m reading a ask v) (Freed (fetch_message q ∷ rest) n posts) k (trying read.Asked) k
   begun k =
-      reached_silent (VerdictNext t m reading a ask v) (Freed (fetch_message q ∷ rest) n posts) k (Freed (fetch_message q ∷ rest) n posts) k (trying read.Asked)
-      (reached-here (VerdictNext t m reading a ask v) (Freed (fetch_message q ∷ rest) n posts) k)
+      reached_silent (VerdictNext is_prepared t m reading a ask v) (Freed (fetch_message q ∷ rest) n posts) k (Freed (fetch_message q ∷ rest) n posts) k (trying read.Asked)
+      (reached-here (VerdictNext is_prepared t m reading a ask v) (Freed (fetch_message q ∷ rest) n posts) k)
       (TriesNext k n posts rest q.attempt q.op q.group q.ep q.first q.tracker q.read q.snapshot)
 
-  tried-to : (k : Kept) (u : FetchStage) (l : Kept) → Reached (FetchNext t n reading q) read.Asked k u l → Reached (VerdictNext t m reading a ask v) (Freed (fetch_message q ∷ rest) n posts) k (trying u) l
-  tried-to k u l r = reached_on (VerdictNext t m reading a ask v) (Freed (fetch_message q ∷ rest) n posts) k (trying read.Asked) k (trying u) l (begun k) (record { did = r.did; path = lifted read.Asked k r.did u l r.path })
+  tried-to : (k : Kept) (u : FetchStage) (l : Kept) → Reached (FetchNext t n reading q) read.Asked k u l → Reached (VerdictNext is_prepared t m reading a ask v) (Freed (fetch_message q ∷ rest) n posts) k (trying u) l
+  tried-to k u l r = reached_on (VerdictNext is_prepared t m reading a ask v) (Freed (fetch_message q ∷ rest) n posts) k (trying read.Asked) k (trying u) l (begun k) (record { did = r.did; path = lifted read.Asked k r.did u l r.path })
 
   -- one that was tried again
   pub tried : (k l : Kept) (left : TargetMemory) (did : Did) → Whole (FetchNext t n reading q) (FetchEnds t n reading q (fetcher q)) read.Asked k l (left, did)
-      → Reached (VerdictNext t m reading a ask v) (Freed (fetch_message q ∷ rest) n posts) k (Freed rest left (posts ++ did.posts)) l
+      → Reached (VerdictNext is_prepared t m reading a ask v) (Freed (fetch_message q ∷ rest) n posts) k (Freed rest left (posts ++ did.posts)) l
   tried k l left did w =
-      reached_silent (VerdictNext t m reading a ask v) (Freed (fetch_message q ∷ rest) n posts) k (trying w.last) l (Freed rest left (posts ++ did.posts))
+      reached_silent (VerdictNext is_prepared t m reading a ask v) (Freed (fetch_message q ∷ rest) n posts) k (trying w.last) l (Freed rest left (posts ++ did.posts))
       (tried-to k w.last l w.reached) (IsDone l n posts rest q w.last (left, did) w.ends)
 
   -- one that was cut
-  pub tried-cut : (k : Kept) (finds : Durable → Type 0) → CutShort (FetchNext t n reading q) read.Asked k finds → CutShort (VerdictNext t m reading a ask v) (Freed (fetch_message q ∷ rest) n posts) k finds
+  pub tried-cut : (k : Kept) (finds : Durable → Type 0) → CutShort (FetchNext t n reading q) read.Asked k finds → CutShort (VerdictNext is_prepared t m reading a ask v) (Freed (fetch_message q ∷ rest) n posts) k finds
   tried-cut k finds c = record { last = trying c.last; mid = c.mid; reached = tried-to k c.last c.mid c.reached; cut = by c.cut }
     where
-      by : CutAt (FetchNext t n reading q) c.last c.mid finds → CutAt (VerdictNext t m reading a ask v) (trying c.last) c.mid finds
+      by : CutAt (FetchNext t n reading q) c.last c.mid finds → CutAt (VerdictNext is_prepared t m reading a ask v) (trying c.last) c.mid finds
       by (InChange x u next left) = InChange x (trying u) (GoesOn c.mid n posts rest q c.last u (Some x) next) left
       by (InQuestion left) = InQuestion left
 
   -- one for which memory was wanting
-  pub tried-partly : (k : Kept) (u : FetchStage) (l : Kept) → Reached (FetchNext t n reading q) read.Asked k u l → Reached (VerdictNext t m reading a ask v) (Freed (fetch_message q ∷ rest) n posts) k (trying u) l
+  pub tried-partly : (k : Kept) (u : FetchStage) (l : Kept) → Reached (FetchNext t n reading q) read.Asked k u l → Reached (VerdictNext is_prepared t m reading a ask v) (Freed (fetch_message q ∷ rest) n posts) k (trying u) l
   tried-partly k u l r = tried-to k u l r
 
 -- a Fetch that has an epoch is issued none

@@ -2,6 +2,7 @@
 use Rattle.std.proofs.Common.{ℕ, ◌≡◌, ◌<◌, ◌++◌, inr, refl, sym, ◌∙◌, ap, subst, List, [], ◌∷◌, length, drop, slice_index_or, true, Option, Some, None, Ok, Err, arith}
 use Rattle.daos_base.specs.declared.entry.Entry.{Entry}
 use Rattle.daos_base.specs.declared.entry.Verdict.{Verdict}
+use Rattle.daos_base.specs.declared.entry.Verdict.TheVariants as verdict
 use Rattle.daos_base.specs.declared.id.AttemptId.{AttemptId}
 use Rattle.daos_laws.specs.Members.{Has}
 use Rattle.daos_messages.specs.declared.message.Message.{Message}
@@ -18,7 +19,7 @@ use Rattle.world_base.specs.declared.target.TargetPlan.{TargetPlan}
 use Rattle.world_base.specs.Changes.{Change, Kept, made}
 use Rattle.world_base.specs.Reads.{Asked}
 use Rattle.world_base.specs.Requests.{fetch_message, sends}
-use Rattle.world_base.specs.Roles.{joins_on, member_at}
+use Rattle.world_base.specs.Roles.{is_prepared, joins_on, member_at, told_by}
 use Rattle.world_base.specs.Turns.{CutShort, Reached, Whole}
 use Rattle.world_base.specs.Verdicts.{AllTried, Freed, Heard, SettlesBy, VerdictEnds, VerdictNext, VerdictStage, freed_by, settles_by, settling_change}
 use Rattle.target_parts.specs.declared.knows.Knows.{Knows}
@@ -43,7 +44,7 @@ first-removed (z ∷ zs) ys x lt is rest = ap (λ w. w ∷ zs) (sym is) ∙ ap (
 
 module _ (t : TargetPlan) (m : TargetMemory) (reading : ℕ) (a : AttemptId) (ask : Option AttemptId) (v : Verdict) where
   abbrev Next : VerdictStage → Kept → Option Change → VerdictStage → Type 0
-  Next = VerdictNext t m reading a ask v
+  Next = VerdictNext is_prepared t m reading a ask v
 
   module _ (all : VerdictStage) (old : Kept) (n : TargetMemory) (x : Message) (xs rest : List Message) (posts : List Post) (d : Durable) (h k : State) (new : Option Durable) (finds : Durable → Type 0) (left : TargetMemory)
       (is : xs ≡ x ∷ rest) (reached : Reached Next all old (Freed xs n posts) (kept d h))
@@ -99,10 +100,10 @@ module _ (t : TargetPlan) (m : TargetMemory) (reading : ℕ) (a : AttemptId) (as
   abbrev freed : VerdictStage
   freed = freed_by (verdict_heard a ask v (member_at t m)) m
 
-  pub verdict-settles : (d : Durable) (h k : State) (new : Option Durable) (finds : Durable → Type 0) → MadeSome (settling_change a (settles_by t.me v a d)) d h new k finds (Ok tt) → Now new k (λ l. Reached Next Heard (kept d h) freed l)
-  verdict-settles d h k new finds done = by (settling_change a (settles_by t.me v a d)) refl done
+  pub verdict-settles : (d : Durable) (h k : State) (new : Option Durable) (finds : Durable → Type 0) → MadeSome (settling_change a (settles_by is_prepared v a d)) d h new k finds (Ok tt) → Now new k (λ l. Reached Next Heard (kept d h) freed l)
+  verdict-settles d h k new finds done = by (settling_change a (settles_by is_prepared v a d)) refl done
     where
-      by : (o : Option Change) → o ≡ settling_change a (settles_by t.me v a d) → MadeSome o d h new k finds (Ok tt) → Now new k (λ l. Reached Next Heard (kept d h) freed l)
+      by : (o : Option Change) → o ≡ settling_change a (settles_by is_prepared v a d) → MadeSome o d h new k finds (Ok tt) → Now new k (λ l. Reached Next Heard (kept d h) freed l)
       by None is stays = record {
         durable = d;
         kept_is = stays.kept_is;
@@ -114,10 +115,10 @@ module _ (t : TargetPlan) (m : TargetMemory) (reading : ℕ) (a : AttemptId) (as
         holds = reached_change Next Heard (kept d h) Heard (kept d h) c freed (kept (made c d) k) (reached-here Next Heard (kept d h)) (SettlesBy (kept d h) (Some c) is) refl did.free;
       }
 
-  pub verdict-cut : (d : Durable) (h k : State) (new : Option Durable) (finds : Durable → Type 0) (e : Stopped) → MadeSome (settling_change a (settles_by t.me v a d)) d h new k finds (Err e) → CutShort Next Heard (kept d h) finds
-  verdict-cut d h k new finds e done = by (settling_change a (settles_by t.me v a d)) refl done
+  pub verdict-cut : (d : Durable) (h k : State) (new : Option Durable) (finds : Durable → Type 0) (e : Stopped) → MadeSome (settling_change a (settles_by is_prepared v a d)) d h new k finds (Err e) → CutShort Next Heard (kept d h) finds
+  verdict-cut d h k new finds e done = by (settling_change a (settles_by is_prepared v a d)) refl done
     where
-      by : (o : Option Change) → o ≡ settling_change a (settles_by t.me v a d) → MadeSome o d h new k finds (Err e) → CutShort Next Heard (kept d h) finds
+      by : (o : Option Change) → o ≡ settling_change a (settles_by is_prepared v a d) → MadeSome o d h new k finds (Err e) → CutShort Next Heard (kept d h) finds
       by None is none = absurd none
       by (Some c) is cut = cut_in_change Next Heard (kept d h) Heard (kept d h) c freed finds (reached-here Next Heard (kept d h)) (SettlesBy (kept d h) (Some c) is) cut
 
@@ -131,9 +132,9 @@ tried-here t n reading x xs rest d h k new finds left did is one here = (
   λ y i. ask-stays d one.turn.durable y (λ c. path-enlisted _ Asked (kept d h) one.turn.holds.reached.did one.turn.holds.last (kept one.turn.durable k) c one.turn.holds.reached.path) (here y (subst (Has y) (sym is) (inr i))),
 )
 
-pub settled-here : (t : TargetPlan) (m : TargetMemory) (reading : ℕ) (a : AttemptId) (ask : Option AttemptId) (v : Verdict) (asks : List Message) (old new : Kept) (s : VerdictStage) → Reached (VerdictNext t m reading a ask v) Heard old s new
+pub settled-here : (t : TargetPlan) (m : TargetMemory) (reading : ℕ) (a : AttemptId) (ask : Option AttemptId) (v : Verdict) (asks : List Message) (old new : Kept) (s : VerdictStage) → Reached (VerdictNext is_prepared t m reading a ask v) Heard old s new
     → AreHere asks old.durable → AreHere asks new.durable
-settled-here t m reading a ask v asks old new s r here = λ x i. ask-stays old.durable new.durable x (λ c. path-enlisted (VerdictNext t m reading a ask v) Heard old r.did s new c r.path) (here x i)
+settled-here t m reading a ask v asks old new s r here = λ x i. ask-stays old.durable new.durable x (λ c. path-enlisted (VerdictNext is_prepared t m reading a ask v) Heard old r.did s new c r.path) (here x i)
 
 -- ---- what a target knows once it heard a Verdict
 
@@ -173,8 +174,23 @@ module _ (t : TargetPlan) (a : AttemptId) (ask : Option AttemptId) (v : Verdict)
     frees-here es d k x i =
         let p = (verdict-frees a ask v old.member).free x (subst (Has x) again-is i) in subst (λ y. IsAskHere y d) p.2 (k.asks p.0 p.1)
 
-    -- what is left to be tried again
-    pub freed-is : (n : TargetMemory) → IsOwn t old → n ≡ joins_on s (memory_of old) → freed_by (verdict_heard a ask v (member_at t (memory_of old))) (memory_of old) ≡ Freed again n posts
-    freed-is n own memory =
-        ap (λ me. freed_by (verdict_heard a ask v (record { me = me; memory = old.member.memory })) (memory_of old)) (sym own.member)
-        ∙ ap (λ x. freed_by x (memory_of old)) (sym heard) ∙ ap (λ x. Freed again x posts) (sym memory)
+    -- what is left to be tried again, where this is known of what others told
+    pub freed-is : (m n : TargetMemory) → m.member ≡ old.member.memory → IsOwn t old → n ≡ joins_on s m → freed_by (verdict_heard a ask v (member_at t m)) m ≡ Freed again n posts
+    freed-is m n member own memory =
+        ap (λ x. freed_by (verdict_heard a ask v (record { me = t.me; memory = x })) m) member
+        ∙ ap (λ me. freed_by (verdict_heard a ask v (record { me = me; memory = old.member.memory })) m) (sym own.member)
+        ∙ ap (λ x. freed_by x m) (sym heard) ∙ ap (λ x. Freed again x posts) (sym memory)
+
+-- ---- what it tells
+
+-- nothing changes by it of what is known as a member
+pub told-member : (v : Verdict) (a : AttemptId) (m : TargetMemory) → (told_by v a m).member ≡ m.member
+told-member verdict.Committed a m = refl
+told-member verdict.Aborted a m = refl
+told-member verdict.Undecided a m = refl
+
+-- so it is heard as a member first or as a leader
+pub told-joins : (v : Verdict) (a : AttemptId) (s : MemberOf) (m : TargetMemory) → record (joins_on s m) { leader = (told_by v a (joins_on s m)).leader } ≡ joins_on s (told_by v a m)
+told-joins verdict.Committed a s m = refl
+told-joins verdict.Aborted a s m = refl
+told-joins verdict.Undecided a s m = refl

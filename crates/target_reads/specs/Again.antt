@@ -13,6 +13,7 @@ use Rattle.world_base.specs.declared.target.TargetPlan.{TargetPlan}
 use Rattle.daos_base.specs.declared.entry.Verdict.{Verdict}
 use Rattle.world_base.specs.Changes.{Change}
 use Rattle.world_base.specs.Reads.{Asked}
+use Rattle.world_base.specs.Roles.{is_prepared}
 use Rattle.world_base.specs.Turns.{Whole}
 use Rattle.world_base.specs.Verdicts.{VerdictEnds, VerdictNext, VerdictStage, fetcher}
 use Rattle.target_parts.specs.declared.stop.TargetStop.{TargetStop}
@@ -46,4 +47,4 @@ MadeSome (Some c) d h new k finds result = MadeOrCut c d h new k finds result
 -- a Verdict's turn from a stage on
 abbrev pub VerdictTurn : TargetPlan → TargetMemory → ℕ → AttemptId → Option AttemptId → Verdict → VerdictStage → Durable → State → Option Durable → State → (Durable → Type 0) → TargetMemory → Result Did TargetStop → Type 0
 VerdictTurn t m reading a ask v start d h new k finds left result =
-    Turn (VerdictNext t m reading a ask v) never start (kept d h) (λ did l. Whole (VerdictNext t m reading a ask v) VerdictEnds start (kept d h) l (left, did)) new k finds result
+    Turn (VerdictNext is_prepared t m reading a ask v) never start (kept d h) (λ did l. Whole (VerdictNext is_prepared t m reading a ask v) VerdictEnds start (kept d h) l (left, did)) new k finds result

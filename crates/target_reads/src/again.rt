@@ -7,6 +7,7 @@ ghost use Rattle.daos_model.specs.declared.durable.Durable.{Durable};
 ghost use Rattle.vos_store.specs.Refusals.{always_stop, says};
 ghost use Rattle.world_base.specs.declared.target.TargetMemory.{TargetMemory};
 ghost use Rattle.world_base.specs.Requests.{fetch_message};
+ghost use Rattle.world_base.specs.Roles.{is_prepared, told_by};
 ghost use Rattle.world_base.specs.Verdicts.{VerdictStage, fetcher, settles_by, settling_change};
 ghost use Rattle.world_posts.specs.Forms.{PostsInForm, TargetPosts};
 ghost use Rattle.target_parts.specs.Knowing.{IsAskHere, IsBeside, IsOwn, IsParkable, LeadsWell, memory_of};
@@ -22,7 +23,7 @@ use daos_messages::message::{Message, Messages, Posts};
 use dtx_base::member::Freed;
 use std::alloc::Global;
 use target_parts::halt::Halt;
-use target_parts::kept::settle_in_doubt;
+use target_parts::kept::settle_prepared;
 use target_parts::knows::Knows;
 use target_parts::stop::{TargetStop, stop_of};
 use target_parts::telling::{push_all, sends};
@@ -133,7 +134,7 @@ fn try_again<S: Store>(
     Ok(sends(alloc, posts, None))
 }
 
-// An attempt is settled by a Verdict on it, where it is still in doubt here.
+// An attempt is settled by a Verdict on it, where it is prepared here.
 fn settle_by<S: Store>(
     store: &mut S,
     plan: TargetPlan,
@@ -145,20 +146,20 @@ fn settle_by<S: Store>(
     requires leads { ForSome (S.durable store.old) (LeadsWell plan (memory_of knows.old) knows.old.entries.items) }
     ensures runs { Runs always_stop result (S.state store.old) (S.state store.new) (S.durable store.old) (S.durable store.new) }
     ensures made { (d : Durable) → S.durable store.old ≡ Some d
-        → MadeSome (settling_change attempt (settles_by plan.me verdict attempt d)) d (S.state store.old) (S.durable store.new) (S.state store.new) (S.may store.new) result }
+        → MadeSome (settling_change attempt (settles_by is_prepared verdict attempt d)) d (S.state store.old) (S.durable store.new) (S.state store.new) (S.may store.new) result }
     ensures beside { IsBeside knows.old knows.new }
-    ensures leader { knows.new.leader ≡ knows.old.leader }
+    ensures leader { knows.new.leader ≡ (told_by verdict attempt (memory_of knows.old)).leader }
     ensures leads { OnOk result (ForSome (S.durable store.new) (LeadsWell plan (memory_of knows.new) knows.new.entries.items)) }
 {
     match verdict {
-        Verdict::Committed => settle_in_doubt(store, plan, knows, attempt, Settle::Commit),
-        Verdict::Aborted => settle_in_doubt(store, plan, knows, attempt, Settle::Abort),
+        Verdict::Committed => settle_prepared(store, plan, knows, attempt, Settle::Commit),
+        Verdict::Aborted => settle_prepared(store, plan, knows, attempt, Settle::Abort),
         Verdict::Undecided => Ok(()),
     }
 }
 
-/// It hears a Verdict: the attempt is settled, where it is still in doubt here, and the Fetches that
-/// wait for it are tried again, in the order in which they were parked.
+/// It hears a Verdict: the attempt is settled, where it is prepared here, whoever leads it, and the
+/// Fetches that wait for it are tried again, in the order in which they were parked.
 ///
 /// # Errors
 ///
@@ -177,7 +178,7 @@ pub fn hear_verdict<S: Store>(
     requires leads { ForSome (S.durable store.old) (LeadsWell plan (memory_of knows.old) knows.old.entries.items) }
     ensures runs { Runs stop_store result (S.state store.old) (S.state store.new) (S.durable store.old) (S.durable store.new) }
     ensures turn { (d : Durable) → S.durable store.old ≡ Some d → (reading : ℕ)
-        → VerdictTurn plan (memory_of knows.old) reading attempt ask verdict VerdictStage.Heard d (S.state store.old)
+        → VerdictTurn plan (told_by verdict attempt (memory_of knows.old)) reading attempt ask verdict VerdictStage.Heard d (S.state store.old)
         (S.durable store.new) (S.state store.new) (S.may store.new) (memory_of knows.new) result }
     ensures leads { says stop_store result ≡ false → ForSome (S.durable store.new) (LeadsWell plan (memory_of knows.new) knows.new.entries.items) }
     ensures own { IsOwn plan knows.new }

@@ -1,5 +1,5 @@
 -- What the second of two targets is asked where a Mark overtakes the Prepare of its attempt, and what its turns keep.
-use Rattle.std.proofs.Common.{ℕ, ◌≡◌, ◌<◌, refl, sym, ◌∙◌, ap, subst, true, false, List, [], ◌∷◌, map, filter, Option, Some, None, Bool, Ok, arith}
+use Rattle.std.proofs.Common.{ℕ, ◌≡◌, ◌<◌, refl, sym, ap, subst, true, false, List, [], ◌∷◌, map, filter, Option, Some, None, Bool, Ok, arith}
 use Rattle.std.specs.Prelude.{if◌then◌else◌}
 use Rattle.daos_base.specs.declared.epoch.Epoch.{Epoch}
 use Rattle.daos_base.specs.declared.id.AttemptId.{AttemptId}
@@ -24,6 +24,7 @@ use Rattle.world_base.specs.Marks.{MarkNext, marked_step}
 use Rattle.world_base.specs.PathLaws.{reached-keeps}
 use Rattle.world_base.specs.Prepares as stage
 use Rattle.world_base.specs.Prepares.{PrepareNext, PrepareStage}
+use Rattle.world_base.specs.Roles.{is_prepared}
 use Rattle.world_base.specs.TargetTurns.{prepare_request}
 use Rattle.target_core.specs.Targets.{CanHear, HasForm, HearsOrStops}
 use Rattle.target_rows.specs.Overtaken.{IsNew, entry, fetch, mark, own_write, prepare, second, writer}
@@ -69,15 +70,15 @@ unfolding settled is_enlisted
 new_marked a true d n = record { here = n.here; blank = record { versions = ap (map _) n.blank.versions; entries = ap (map (committed_at a)) n.blank.entries } }
 new_marked a false d n = record { here = n.here; blank = record { versions = ap (filter (is_not_pending a)) n.blank.versions; entries = ap (filter (is_other a)) n.blank.entries } }
 
-next_mark : (me : ℕ) (s : List (AttemptId × Bool)) (k : Kept) (o : Option Change) (u : List (AttemptId × Bool)) (l : Kept) → MarkNext me s k o u → Steps o k l → IsNew k.durable → IsNew l.durable
-next_mark me s k o u l (marks.SettlesMarked j a committed rest is) steps n = subst IsNew (sym steps.0) (new_marked a committed k.durable n)
-next_mark me s k o u l (marks.PassesBy j a committed rest is) steps n = subst (λ y. IsNew y.durable) (sym steps) n
+next_mark : (s : List (AttemptId × Bool)) (k : Kept) (o : Option Change) (u : List (AttemptId × Bool)) (l : Kept) → MarkNext is_prepared s k o u → Steps o k l → IsNew k.durable → IsNew l.durable
+next_mark s k o u l (marks.SettlesMarked j a committed rest is) steps n = subst IsNew (sym steps.0) (new_marked a committed k.durable n)
+next_mark s k o u l (marks.PassesBy j a committed rest is) steps n = subst (λ y. IsNew y.durable) (sym steps) n
 
 pub mark_turn : (t : TargetPlan) (m : TargetMemory) (reading : ℕ) (from : ActorId) (message : Message) (d : Durable) (h k : State) (new : Option Durable) (finds : Durable → Type 0) (left : TargetMemory) (did : Did)
     → message ≡ mark → HearsOrStops t m reading from message d h new k finds left (Ok did) → IsNew d → (x : Durable) × (new ≡ Some x) × IsNew x
 mark_turn t m reading from message d h k new finds left did is turn n =
     let now = subst (λ x. HearsOrStops t m reading from x d h new k finds left (Ok did)) is turn in
-    (now.durable, now.kept_is, reached-keeps (MarkNext t.me) (λ s y. IsNew y.durable) (next_mark t.me) _ _ _ _ now.holds.reached n)
+    (now.durable, now.kept_is, reached-keeps (MarkNext is_prepared) (λ s y. IsNew y.durable) next_mark _ _ _ _ now.holds.reached n)
 
 -- ---- a Prepare
 

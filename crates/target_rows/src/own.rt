@@ -1,4 +1,4 @@
-// A row over the first of two targets: it is told of an attempt that it leads itself.
+// A row over the first of two targets: it is told what became of an attempt that it leads itself.
 ghost use Rattle.std.specs.Prelude.{◌≡◌, ◌≤◌, IfOk, OnOk, false};
 ghost use Rattle.std.specs.Option.{ForSome};
 ghost use Rattle.target_rows.specs.Overtaken.{IsNew};
@@ -21,17 +21,17 @@ use target_core::target::Target;
 use vos_store::store::Store;
 use world_base::did::Did;
 
-/// What follows on the first of two targets, turn by turn: of a Commit, which it leads; of a Mark and of a Verdict
-/// that tell that this attempt is aborted; of a question what became of it; of an Ack from no target; and of
-/// the Ack of the other member.
+/// What follows on the first of two targets, turn by turn: of a Commit, which it leads; of an Ack from no
+/// target; of a message that tells what became of this attempt; of the Ack of the other member; of a
+/// question what became of it; and of idle work.
 #[derive(Debug, Drop)]
 pub struct Told {
     pub begun: Did,
-    pub marked: Did,
-    pub resolved: Did,
-    pub asked: Did,
     pub unknown: Did,
-    pub ended: Did,
+    pub told: Did,
+    pub answered: Did,
+    pub asked: Did,
+    pub idle: Did,
 }
 
 /// The attempt that it leads.
@@ -81,7 +81,7 @@ fn mark(alloc: Global) -> Result<Message, StepNo>
     ensures { IfOk result IsOfBegun }
 {
     let mut marks = Items::new(alloc);
-    marks.push((led(), false))?;
+    marks.push((led(), true))?;
     Ok(Message::Mark { inc: 1, marks })
 }
 
@@ -93,6 +93,17 @@ fn verdict() -> Message
         ask: None,
         inc: 1,
         verdict: Verdict::Aborted,
+    }
+}
+
+// A Mark tells that the attempt is committed, or a Verdict that it is aborted.
+fn ending(alloc: Global, committed: bool) -> Result<Message, StepNo>
+    ensures { IfOk result IsOfBegun }
+{
+    if committed {
+        mark(alloc)
+    } else {
+        Ok(verdict())
     }
 }
 
@@ -157,29 +168,38 @@ fn hear_told<S: Store, C: Clock>(
     Ok(target.hear(from, message, None)?)
 }
 
-/// The first target begins an attempt, and is told that it is aborted, which nobody but itself can say; it is
-/// answered Ok by an actor that is no target, and by the other member.
+// It does its idle work, before the settling phase.
+fn idle<S: Store, C: Clock>(target: &mut Target<S, C>) -> Result<Did, StepNo>
+    requires runs { (S.state target.old.store).stopped ≡ false }
+{
+    Ok(target.idle(false)?)
+}
+
+/// The first target begins an attempt, and is answered Ok by an actor that is no target. Then the other
+/// member tells by a Mark that the attempt is committed, or by a Verdict that it is aborted; it answers
+/// Ok itself, asks what became of it, and idle work follows.
 pub fn told_of_own<S: Store + Drop, C: Clock + Drop>(
     alloc: Global,
     store: S,
     clock: C,
+    committed: bool,
 ) -> Result<Told, StepNo>
     requires made { 2 ≤ (S.state store).targets }
     requires new { IsNeverUsed (S.state store) (S.durable store) }
 {
     let mut target = start_at(alloc, 0, 2, store, clock)?;
     let begun = hear_request(alloc, &mut target)?;
-    let marked = hear_told(&mut target, MEMBER, mark(alloc)?)?;
-    let resolved = hear_told(&mut target, MEMBER, verdict())?;
-    let asked = hear_told(&mut target, MEMBER, query())?;
     let unknown = hear_told(&mut target, STRANGER, ack())?;
-    let ended = hear_told(&mut target, MEMBER, ack())?;
+    let told = hear_told(&mut target, MEMBER, ending(alloc, committed)?)?;
+    let answered = hear_told(&mut target, MEMBER, ack())?;
+    let asked = hear_told(&mut target, MEMBER, query())?;
+    let idle = idle(&mut target)?;
     Ok(Told {
         begun,
-        marked,
-        resolved,
-        asked,
         unknown,
-        ended,
+        told,
+        answered,
+        asked,
+        idle,
     })
 }

@@ -1,6 +1,6 @@
 // Rows over targets, with what follows from their turns.
 use crate::overtaken::{LEADER, READER, mark_before_prepare, reader, writer};
-use crate::own::{CLIENT, MEMBER, led, told_of_own};
+use crate::own::{MEMBER, led, told_of_own};
 use crate::rows::{attempt, read_unsettled, write_below_read};
 use crate::steps::akey;
 use daos_base::answer::Answer;
@@ -146,11 +146,25 @@ fn only_post<'a>(did: &'a Did, to: ActorId) -> Option<&'a Message> {
     }
 }
 
+// What the other member is told became of the attempt that the first target leads, which is all that follows.
+fn verdict_of(did: &Did) -> Option<Verdict> {
+    match only_post(did, MEMBER) {
+        Some(
+            Message::Verdict {
+                attempt,
+                verdict,
+                ..
+            },
+        ) if *attempt == led() => Some(*verdict),
+        _ => None,
+    }
+}
+
 #[test]
-fn nobody_tells_a_leader_of_what_it_leads(rt: HostRuntime) -> Result<(), Fail> {
+fn a_leader_settles_what_a_mark_tells_it_of_its_own(rt: HostRuntime) -> Result<(), Fail> {
     let alloc = rt.alloc();
     let store = PlainStore::new(alloc, 4, &[])?;
-    let row = told_of_own(alloc, store, CountClock::new())?;
+    let row = told_of_own(alloc, store, CountClock::new(), true)?;
     match only_post(&row.begun, MEMBER) {
         Some(Message::Prepare { entry, inc, .. }) => {
             assert_eq!(rt; (entry.attempt, entry.epoch), (led(), Epoch(256)));
@@ -158,34 +172,34 @@ fn nobody_tells_a_leader_of_what_it_leads(rt: HostRuntime) -> Result<(), Fail> {
         }
         _ => assert!(rt; false, "the other member isn't asked to prepare"),
     }
-    match only_post(&row.marked, MEMBER) {
+    assert!(rt; row.unknown.posts.as_slice().is_empty());
+    match only_post(&row.told, MEMBER) {
         Some(Message::Marked { inc, attempts }) => {
             assert_eq!(rt; *inc, 1);
             assert_eq!(rt; attempts.as_slice(), [led()].as_slice());
         }
         _ => assert!(rt; false, "the Mark isn't answered by a Marked"),
     }
-    assert!(rt; row.resolved.posts.as_slice().is_empty());
-    match only_post(&row.asked, MEMBER) {
-        Some(
-            Message::Verdict {
-                attempt,
-                verdict,
-                ..
-            },
-        ) => assert_eq!(rt; (*attempt, *verdict), (led(), Verdict::Undecided)),
-        _ => assert!(rt; false, "the question isn't answered by a Verdict"),
+    assert!(rt; row.answered.posts.as_slice().is_empty());
+    assert_eq!(rt; verdict_of(&row.asked), Some(Verdict::Committed));
+    match only_post(&row.idle, MEMBER) {
+        Some(Message::Mark { inc, marks }) => {
+            assert_eq!(rt; *inc, 1);
+            assert_eq!(rt; marks.as_slice(), [(led(), true)].as_slice());
+        }
+        _ => assert!(rt; false, "the other member isn't told that it is committed"),
     }
-    assert!(rt; row.unknown.posts.as_slice().is_empty());
-    match only_post(&row.ended, CLIENT) {
-        Some(
-            Message::Ended {
-                attempt,
-                ep: Some(epoch),
-                outcome: Outcome::Committed,
-            },
-        ) => assert_eq!(rt; (*attempt, *epoch), (led(), Epoch(256))),
-        _ => assert!(rt; false, "the client isn't told that it is committed"),
-    }
+    Ok(())
+}
+
+#[test]
+fn a_leader_settles_what_a_verdict_tells_it_of_its_own(rt: HostRuntime) -> Result<(), Fail> {
+    let alloc = rt.alloc();
+    let store = PlainStore::new(alloc, 4, &[])?;
+    let row = told_of_own(alloc, store, CountClock::new(), false)?;
+    assert!(rt; row.told.posts.as_slice().is_empty());
+    assert!(rt; row.answered.posts.as_slice().is_empty());
+    assert_eq!(rt; verdict_of(&row.asked), Some(Verdict::Aborted));
+    assert!(rt; row.idle.posts.as_slice().is_empty());
     Ok(())
 }

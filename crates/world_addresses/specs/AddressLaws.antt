@@ -1,4 +1,4 @@
--- Every event keeps that messages go to who is there, and that all is named that is there.
+-- Every right event keeps that messages go to who is there, and that all is named that is there.
 use Rattle.std.specs.Prelude.{ℕ, zero, suc, ◌≡◌, ◌<◌, ◌++◌, ◌⊎◌, List, [], ◌∷◌, length, slice_get, Contains, Some, refl}
 use Rattle.std.proofs.Common.{inl, inr, sym, ◌∙◌, ap, subst}
 use Rattle.std.proofs.Math.ListN.{set}
@@ -17,7 +17,7 @@ use Rattle.world_base.specs.declared.target.TargetMemory.{TargetMemory}
 use Rattle.world_base.specs.declared.target.TargetState.{TargetState}
 use Rattle.world_base.specs.declared.world.World.{World}
 use Rattle.world_base.specs.ClientTurns.{heard, listed, moved}
-use Rattle.world_base.specs.Events.{ByClient, ByTarget, Rules, TargetHears, TargetIdles, ToClient, ToTarget, client_plan, kept, target_after, target_plan}
+use Rattle.world_base.specs.Events.{ByClient, ByTarget, Rules, TargetHearsRightly, TargetIdles, ToClient, ToTarget, client_plan, kept, target_after, target_plan}
 use Rattle.world_base.specs.Letters.{Takes, client, letter_of, letters_of, target}
 use Rattle.world_base.specs.StepLaws.{by-hearing, by-next}
 use Rattle.world_base.specs.Steps.{KeptByCounting, KeptByHearing, KeptByMoves}
@@ -97,7 +97,7 @@ module _ (r : Rules) (some : 0 < r.script.targets) (form : IsInForm r.script.tar
   there : (w : World) (t : ℕ) (s : TargetState) → AreAddressed r w → slice_get w.targets t ≡ Some s → t < r.script.targets
   there w t s k here = subst (λ m. t < m) k.targets (slice_get_within w.targets t s here)
 
-  hears : (w v : World) → AreAddressed r w → TargetHears r w v → AreAddressed r v
+  hears : (w v : World) → AreAddressed r w → TargetHearsRightly r w v → AreAddressed r v
   hears w v k g =
       let turn = hears-right (crowd r.script) (target_plan r g.t) some refl (there w g.t g.s k g.here) g.s.opening g.s.memory g.reading g.l.from g.l.message (kept g.s) g.new (g.memory, g.did)
       (taken-right (crowd r.script) w.messages g.l g.rest g.takes k.letters).comes (k.known g.t g.s g.here) (k.placed g.t g.s g.here) g.turn in

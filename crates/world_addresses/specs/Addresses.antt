@@ -18,7 +18,7 @@ use Rattle.world_base.specs.declared.letter.Letter.{Letter}
 use Rattle.world_base.specs.declared.target.TargetMemory.{TargetMemory}
 use Rattle.world_base.specs.declared.target.TargetState.{TargetState}
 use Rattle.world_base.specs.declared.world.World.{World}
-use Rattle.world_base.specs.Events.{Event, Rules, commands_or_none}
+use Rattle.world_base.specs.Events.{RightEvent, Rules, commands_or_none}
 use Rattle.world_base.specs.Letters.{client, target}
 
 -- ---- who is there
@@ -127,9 +127,9 @@ pub record AsksPlainly (r : Rules) : Type 0 where
   pub snaps : (n k : ℕ) (name : List ℕ) (cont : ContId) → slice_get (commands_or_none (slice_get r.script.clients n)) k ≡ Some (Snap name cont) → ⊥
   pub aggregates : (n k : ℕ) (cont : ContId) → slice_get (commands_or_none (slice_get r.script.clients n)) k ≡ Some (Aggregate cont) → ⊥
 
--- every event keeps it, where the script is in form, for a target at least, and no client makes a snapshot or aggregates
+-- every right event keeps it, where the script is in form, for a target at least, and no client makes a snapshot or aggregates
 abbrev pub EventsKeepAddresses : Type 0
-EventsKeepAddresses = (r : Rules) (w v : World) → 0 < r.script.targets → IsInForm r.script.targets r.script → AsksPlainly r → AreAddressed r w → Event r w v → AreAddressed r v
+EventsKeepAddresses = (r : Rules) (w v : World) → 0 < r.script.targets → IsInForm r.script.targets r.script → AsksPlainly r → AreAddressed r w → RightEvent r w v → AreAddressed r v
 
 -- at a beginning nothing is in flight, and no target keeps an entry or knows of a client
 abbrev pub AddressesBegin : Type 0

@@ -46,8 +46,9 @@ use Rattle.world_base.specs.PathLaws.{path-keeps}
 use Rattle.world_base.specs.Prepares as prepare
 use Rattle.world_base.specs.Reads as read
 use Rattle.world_base.specs.Requests.{with_ticks}
-use Rattle.world_base.specs.Roles.{leader_at, leads_on, member_at, other_leader, other_leader_of, with_unsettled}
-use Rattle.world_base.specs.TargetTurns.{Hears, IdlesWhole, commit_request, fetch_request, prepare_request}
+use Rattle.world_base.specs.RightTurns.{HearsRightly}
+use Rattle.world_base.specs.Roles.{is_in_doubt, leader_at, leads_on, member_at, other_leader, other_leader_of, with_unsettled}
+use Rattle.world_base.specs.TargetTurns.{IdlesWhole, commit_request, fetch_request, prepare_request}
 use Rattle.world_base.specs.Turns.{Whole}
 use Rattle.world_base.specs.Verdicts as verdict
 
@@ -268,7 +269,7 @@ module _ (n : Crowd) (t : TargetPlan) (some : 0 < n.targets) (plan : t.targets �
 
   -- ---- a Mark, and a Query
 
-  mark-step : (s u : List (AttemptId × Bool)) (k l : Kept) (o : Option Change) → mark.MarkNext t.me s k o u → Steps o k l → ArePlaced n k.durable.entries → ArePlaced n l.durable.entries
+  mark-step : (s u : List (AttemptId × Bool)) (k l : Kept) (o : Option Change) → mark.MarkNext (is_in_doubt t.me) s k o u → Steps o k l → ArePlaced n k.durable.entries → ArePlaced n l.durable.entries
   mark-step s u k l o (mark.SettlesMarked j a committed rest is) st p = moves n k l (settled a (mark.marked_step committed) k.durable) st.0 (settled-placed n a (mark.marked_step committed) k.durable p)
   mark-step s u k l o (mark.PassesBy j a committed rest is) st p = stays n k l st p
 
@@ -295,10 +296,10 @@ module _ (n : Crowd) (t : TargetPlan) (some : 0 < n.targets) (plan : t.targets �
   by-verdict v x k l (Some step) st p = moves n k l (settled x step k.durable) st.0 (settled-placed n x step k.durable p)
 
   verdict-step : (m : TargetMemory) (reading : ℕ) (x : AttemptId) (ask : Option AttemptId) (v : Verdict) → KnowsWho n m → (s u : verdict.VerdictStage) (k l : Kept) (o : Option Change)
-      → verdict.VerdictNext t m reading x ask v s k o u → Steps o k l → verdict-state s k → verdict-state u l
+      → verdict.VerdictNext (is_in_doubt t.me) t m reading x ask v s k o u → Steps o k l → verdict-state s k → verdict-state u l
   verdict-step m reading x ask v w s u k l o (verdict.SettlesBy j o2 is) st p =
       let go = verdict-right n t.me here (member_at t m) w.parked x ask v in
-      (by-verdict v x k l (verdict.settles_by t.me v x k.durable) (subst (λ z. Steps z k l) is st) p, go.again, record { rows = w.rows; parked = go.parked }, go.posts)
+      (by-verdict v x k l (verdict.settles_by (is_in_doubt t.me) v x k.durable) (subst (λ z. Steps z k l) is st) p, go.again, record { rows = w.rows; parked = go.parked }, go.posts)
   verdict-step m reading x ask v w s u k l o (verdict.TriesNext j m2 posts rest y op group ep first tracker r snapshot) st p =
       (stays n k l st p.0, λ z i. p.1 z (inr i), p.2, p.3, p.1 (message.Fetch y op group ep first tracker r snapshot) (inl refl))
   verdict-step m reading x ask v w s u k l o (verdict.GoesOn j m2 posts rest q f g o2 next) st p = (fetch-step m2 reading q f g k l o next st p.0, p.1, p.2, p.3, p.4)
@@ -340,7 +341,7 @@ module _ (n : Crowd) (t : TargetPlan) (some : 0 < n.targets) (plan : t.targets �
 
   -- a target hears a message that is addressed right
   pub hears-right : (opening : Epoch × FloorWhy) (m : TargetMemory) (reading : ℕ) (from : ActorId) (q : Message) (old new : Kept) (left : TargetMemory × Did) → ComesFrom n from q → KnowsWho n m → ArePlaced n old.durable.entries
-      → Hears t opening m reading from q old new left → TurnIsRight n t.me new left
+      → HearsRightly t opening m reading from q old new left → TurnIsRight n t.me new left
   hears-right opening m reading from (message.Fetch x op group ep first tracker r snapshot) old new left c w p h =
       let q = fetch_request x op group ep first tracker r snapshot in
       whole-right _ _ (λ s k. ArePlaced n k.durable.entries) read.Asked old new left (fetch-step m reading q) (λ s last e. (last, fetch-end m reading q from s new left c w last e)) p h

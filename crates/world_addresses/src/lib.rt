@@ -5,7 +5,7 @@ ghost use Rattle.world_addresses.specs.Addresses.{AddressesBegin, EventsKeepAddr
 
 /// Says who sends what to whom. Each message of a run goes to a client or a target that is there, of a
 /// kind that it hears, and comes of one; and whom entries, waiting clients and parked Fetches name is
-/// there. So it is at a beginning, and every event keeps it.
+/// there. So it is at a beginning, and every right event keeps it.
 pub fn laws_of_addresses()
     ensures begin { AddressesBegin }
     ensures kept { EventsKeepAddresses }

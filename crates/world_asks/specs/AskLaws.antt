@@ -1,4 +1,4 @@
--- Every event keeps that what is told and asked has a letter in flight, and so it is where nothing is remembered.
+-- Every right event keeps that what is told and asked has a letter in flight, and so it is where nothing is remembered.
 use Rattle.std.specs.Prelude.{ℕ, ◌≡◌, [], slice_get, Option, Some, None, refl}
 use Rattle.std.proofs.Common.{subst}
 use Rattle.daos_base.specs.declared.id.AttemptId.{AttemptId}
@@ -22,7 +22,7 @@ use Rattle.world_attempts.specs.History.{GrowsBy, History, target_posts}
 use Rattle.world_base.specs.declared.letter.Letter.{Letter}
 use Rattle.world_base.specs.declared.target.TargetState.{TargetState}
 use Rattle.world_base.specs.declared.world.World.{World}
-use Rattle.world_base.specs.Events.{ByClient, ByTarget, Event, Rules, ToClient, ToTarget}
+use Rattle.world_base.specs.Events.{ByClient, ByTarget, RightEvent, Rules, ToClient, ToTarget}
 
 -- what refuses is no commit
 refusal-of : (r : Rules) (h : History) (w : World) (from to : ActorId) (n : Message) → IsTrueOf r h w from to n → IsRefusal n
@@ -33,7 +33,7 @@ refusal-of r h w from to n k = tt
 refusals-refuse : (r : Rules) (h : History) (w : World) → Attempts r h w → RefusalsRefuse w
 refusals-refuse r h w A l i = refusal-of r h w l.from l.to l.message (A.letters l i)
 
-inquiries-kept : (r : Rules) (h later : History) (w v : World) → AskedRight r h w → Attempts r h w → (event : Event r w v) → GrowsBy h (target_posts event) later → Attempts r later v → InquiriesAreRight r h w → InquiriesAreRight r later v
+inquiries-kept : (r : Rules) (h later : History) (w v : World) → AskedRight r h w → Attempts r h w → (event : RightEvent r w v) → GrowsBy h (target_posts event) later → Attempts r later v → InquiriesAreRight r h w → InquiriesAreRight r later v
 inquiries-kept r h later w v Q A (ByClient g) G B k = client-inquiries r h later w v G.aborted A B k (goes-moves r w v g)
 inquiries-kept r h later w v Q A (ToClient g) G B k = client-inquiries r h later w v G.aborted A B k (hears-moves r w v g)
 inquiries-kept r h later w v Q A (ToTarget g) G B k = heard-inquiries r h later w v Q A B (refusals-refuse r h w A) k g G

@@ -22,7 +22,7 @@ use Rattle.world_attempts.specs.History.{GrowsBy, History, target_posts}
 use Rattle.world_base.specs.declared.letter.Letter.{Letter}
 use Rattle.world_base.specs.declared.target.TargetState.{TargetState}
 use Rattle.world_base.specs.declared.world.World.{World}
-use Rattle.world_base.specs.Events.{Event, Rules}
+use Rattle.world_base.specs.Events.{RightEvent, Rules}
 use Rattle.world_base.specs.Letters.{target}
 
 -- a letter of this kind is in flight
@@ -124,10 +124,10 @@ pub record Asks (r : Rules) (h : History) (w : World) : Type 0 where
   pub inquiries : InquiriesAreRight r h w
   pub rows : RowsWait r w
 
--- every event keeps them, beside the facts of attempts, which hold before and after it
+-- every right event keeps them, beside the facts of attempts, which hold before and after it
 abbrev pub AsksAreKept : Type 0
 AsksAreKept =
-    (r : Rules) (h later : History) (w v : World) → AskedRight r h w → Attempts r h w → (event : Event r w v) → GrowsBy h (target_posts event) later → Attempts r later v → Asks r h w → Asks r later v
+    (r : Rules) (h later : History) (w v : World) → AskedRight r h w → Attempts r h w → (event : RightEvent r w v) → GrowsBy h (target_posts event) later → Attempts r later v → Asks r h w → Asks r later v
 
 -- a target that remembers nothing
 pub record RemembersNothing (s : TargetState) : Type 0 where

@@ -28,6 +28,7 @@ use Rattle.world_base.specs.declared.target.TargetPlan.{TargetPlan}
 use Rattle.world_base.specs.Acks as ack
 use Rattle.world_base.specs.Changes.{Change, Extends, Kept, Prepares, Settles, Steps}
 use Rattle.world_base.specs.Commits as commit
+use Rattle.world_base.specs.DoubtLaws.{in_doubt-prepared}
 use Rattle.world_base.specs.EntryLaws.{entry-aborted, entry-aborted_other, entry-committed, entry-confirmed, entry-leased, entry-prepared_other}
 use Rattle.world_base.specs.Idle.{IdleNext, SettlesFirst}
 use Rattle.world_base.specs.LoopLaws.{marks-keep}
@@ -35,8 +36,9 @@ use Rattle.world_base.specs.Marks as mark
 use Rattle.world_base.specs.PathLaws.{reached-keeps}
 use Rattle.world_base.specs.Prepares as prepare
 use Rattle.world_base.specs.Reads as read
+use Rattle.world_base.specs.RightTurns.{HearsRightly}
 use Rattle.world_base.specs.Roles.{is_in_doubt}
-use Rattle.world_base.specs.TargetTurns.{Hears, IdlesWhole, commit_request, fetch_request, prepare_request}
+use Rattle.world_base.specs.TargetTurns.{IdlesWhole, commit_request, fetch_request, prepare_request}
 use Rattle.world_base.specs.Turns.{Whole}
 use Rattle.world_base.specs.Verdicts as verdict
 
@@ -175,7 +177,7 @@ marking-spares : (x a : AttemptId) (committed : Bool) → (x ≡ a → ⊥) → 
 marking-spares x a true apart = tt
 marking-spares x a false apart = apart
 
-mark-stores_not : (me : ℕ) (x : AttemptId) (s : List (AttemptId × Bool)) (k : Kept) (o : Option Change) (u : List (AttemptId × Bool)) → mark.MarkNext me s k o u → StoresNot x o
+mark-stores_not : (me : ℕ) (x : AttemptId) (s : List (AttemptId × Bool)) (k : Kept) (o : Option Change) (u : List (AttemptId × Bool)) → mark.MarkNext (is_in_doubt me) s k o u → StoresNot x o
 mark-stores_not me x s k o u (mark.SettlesMarked j a committed rest is) = marking-stores_not x a committed
 mark-stores_not me x s k o u (mark.PassesBy j a committed rest is) = tt
 
@@ -196,14 +198,14 @@ step-spares x a said.Aborted true apart = apart
 step-spares x a said.Undecided true apart = tt
 
 verdict-stores_not : (t : TargetPlan) (m : TargetMemory) (reading : ℕ) (a : AttemptId) (ask : Option AttemptId) (v : Verdict) (x : AttemptId) (s : verdict.VerdictStage) (k : Kept) (o : Option Change) (u : verdict.VerdictStage)
-    → verdict.VerdictNext t m reading a ask v s k o u → StoresNot x o
+    → verdict.VerdictNext (is_in_doubt t.me) t m reading a ask v s k o u → StoresNot x o
 verdict-stores_not t m reading a ask v x s k o u (verdict.SettlesBy j p is) = subst (StoresNot x) (sym is) (step-stores_not x a v (is_in_doubt t.me a k.durable))
 verdict-stores_not t m reading a ask v x s k o u (verdict.TriesNext j n posts rest y op group ep first tracker r snapshot) = tt
 verdict-stores_not t m reading a ask v x s k o u (verdict.GoesOn j n posts rest q i z p next) = (fetch-spares t n reading q x i k o z next).1
 verdict-stores_not t m reading a ask v x s k o u (verdict.IsDone j n posts rest q i left ends) = tt
 
 verdict-spares : (t : TargetPlan) (m : TargetMemory) (reading : ℕ) (a : AttemptId) (ask : Option AttemptId) (v : Verdict) (x : AttemptId) → (x ≡ a → ⊥) → (s : verdict.VerdictStage) (k : Kept) (o : Option Change) (u : verdict.VerdictStage)
-    → verdict.VerdictNext t m reading a ask v s k o u → Spares x o
+    → verdict.VerdictNext (is_in_doubt t.me) t m reading a ask v s k o u → Spares x o
 verdict-spares t m reading a ask v x apart s k o u (verdict.SettlesBy j p is) = subst (Spares x) (sym is) (step-spares x a v (is_in_doubt t.me a k.durable) apart)
 verdict-spares t m reading a ask v x apart s k o u (verdict.TriesNext j n posts rest y op group ep first tracker r snapshot) = tt
 verdict-spares t m reading a ask v x apart s k o u (verdict.GoesOn j n posts rest q i z p next) = (fetch-spares t n reading q x i k o z next).0
@@ -221,7 +223,7 @@ BringsNot x (message.Prepare e first ws inc) = x ≡ e.attempt → ⊥
 BringsNot x q = Unit {0}
 
 pub hears-unprepared : (t : TargetPlan) (opening : Epoch × FloorWhy) (m : TargetMemory) (reading : ℕ) (from : ActorId) (q : Message) (old new : Kept) (left : TargetMemory × Did) (x : AttemptId)
-    → Hears t opening m reading from q old new left → BringsNot x q → Unprepared old.durable x → Unprepared new.durable x
+    → HearsRightly t opening m reading from q old new left → BringsNot x q → Unprepared old.durable x → Unprepared new.durable x
 hears-unprepared t opening m reading from (message.Fetch y op group ep first tracker r snapshot) old new left x h spares =
     whole-unprepared _ _ _ old new left x h (λ s k o u next. (fetch-spares t m reading (fetch_request y op group ep first tracker r snapshot) x s k o u next).1)
 hears-unprepared t opening m reading from (message.Commit y ep first tracker ws) old new left x h spares =
@@ -248,7 +250,7 @@ EndsNot x (message.Ack y inc refusal) = ⊥
 EndsNot x q = Unit {0}
 
 pub hears-kept : (t : TargetPlan) (opening : Epoch × FloorWhy) (m : TargetMemory) (reading : ℕ) (from : ActorId) (q : Message) (old new : Kept) (left : TargetMemory × Did) (x : AttemptId)
-    → Hears t opening m reading from q old new left → BringsNot x q → EndsNot x q → IsKept old.durable x → IsKept new.durable x
+    → HearsRightly t opening m reading from q old new left → BringsNot x q → EndsNot x q → IsKept old.durable x → IsKept new.durable x
 hears-kept t opening m reading from (message.Fetch y op group ep first tracker r snapshot) old new left x h brings ends =
     whole-kept _ _ _ old new left x h (λ s k o u next. (fetch-spares t m reading (fetch_request y op group ep first tracker r snapshot) x s k o u next).0)
 hears-kept t opening m reading from (message.Commit y ep first tracker ws) old new left x h brings ends =
@@ -257,7 +259,7 @@ hears-kept t opening m reading from (message.Prepare e first ws inc) old new lef
     whole-kept _ _ _ old new left x h (λ s k o u next. (prepare-spares t opening m (prepare_request e first ws inc) x brings s k o u next).0)
 hears-kept t opening m reading from (message.Ack y inc refusal) old new left x h brings ends = absurd ends
 hears-kept t opening m reading from (message.Mark inc marks) old new left x h brings ends =
-    marks-keep (λ k. IsKept k.durable x) t.me marks
+    marks-keep (λ k. IsKept k.durable x) (is_in_doubt t.me) (in_doubt-prepared t.me) marks
     (λ k l a committed among is steps z. kept-step x (Some (Settles a (mark.marked_step committed))) k l steps
     (marking-spares x a committed (λ same. ends (subst (λ y. Has y (attempts_of marks)) (sym same) (has-map marked_attempt marks (a, committed) among)))) z)
     old new h.last h.reached

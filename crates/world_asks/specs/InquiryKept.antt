@@ -1,4 +1,4 @@
--- Every event keeps what is said of inquiries.
+-- Every right event keeps what is said of inquiries.
 use Rattle.std.specs.Prelude.{ℕ, ◌≡◌, ◌==◌, false, slice_get, Option, Some, None, refl}
 use Rattle.std.proofs.Common.{sym, ◌∙◌, ap, subst, inl, inr, arith}
 use Rattle.std.proofs.lemmas.Bool.Decides.{nat_tests}
@@ -31,10 +31,10 @@ use Rattle.world_attempts.specs.Stored.{row-found}
 use Rattle.world_attempts.specs.Turning.{one-or_another}
 use Rattle.world_base.specs.declared.letter.Letter.{Letter}
 use Rattle.world_base.specs.declared.world.World.{World}
-use Rattle.world_base.specs.Events.{Rules, TargetHears, TargetIdles, kept, target_after, target_plan}
+use Rattle.world_base.specs.Events.{Rules, TargetHearsRightly, TargetIdles, kept, target_after, target_plan}
 use Rattle.world_base.specs.Letters.{client, letter_of, target}
+use Rattle.world_base.specs.RightTurns.{HearsRightly}
 use Rattle.world_base.specs.Roles.{leader_at}
-use Rattle.world_base.specs.TargetTurns.{Hears}
 
 -- ---- what a letter that is there already says stays
 
@@ -91,7 +91,7 @@ client-inquiries r h later w v grown A B k g = record {
 
 -- ---- a target hears a message
 
-module _ (r : Rules) (h later : History) (w v : World) (Q : AskedRight r h w) (A : Attempts r h w) (B : Attempts r later v) (R : RefusalsRefuse w) (k : InquiriesAreRight r h w) (g : TargetHears r w v) (G : GrowsBy h g.did.posts later) where
+module _ (r : Rules) (h later : History) (w v : World) (Q : AskedRight r h w) (A : Attempts r h w) (B : Attempts r later v) (R : RefusalsRefuse w) (k : InquiriesAreRight r h w) (g : TargetHearsRightly r w v) (G : GrowsBy h g.did.posts later) where
   leaves : LeavesTold r h later w v
   leaves = hears-leaves r h later w v Q A R g G
 
@@ -101,8 +101,8 @@ module _ (r : Rules) (h later : History) (w v : World) (Q : AskedRight r h w) (A
   taken : Has g.l w.messages
   taken = has-taken w.messages g.l g.rest g.takes
 
-  turn-of : (said : Message) → g.l.message ≡ said → Hears (target_plan r g.t) g.s.opening g.s.memory g.reading g.l.from said (kept g.s) g.new (g.memory, g.did)
-  turn-of said is = subst (λ q. Hears (target_plan r g.t) g.s.opening g.s.memory g.reading g.l.from q (kept g.s) g.new (g.memory, g.did)) is g.turn
+  turn-of : (said : Message) → g.l.message ≡ said → HearsRightly (target_plan r g.t) g.s.opening g.s.memory g.reading g.l.from said (kept g.s) g.new (g.memory, g.did)
+  turn-of said is = subst (λ q. HearsRightly (target_plan r g.t) g.s.opening g.s.memory g.reading g.l.from q (kept g.s) g.new (g.memory, g.did)) is g.turn
 
   on : (m : ℕ) (x : AttemptId) → (m ≡ g.t → IsOpenStill x None g.l.message) → Flies w (IsQueryOf m x None) → Flies v (IsQueryOf m x None)
   on m x open' f =

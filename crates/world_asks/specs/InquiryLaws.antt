@@ -31,8 +31,9 @@ use Rattle.world_base.specs.Changes.{Change, Kept, Steps}
 use Rattle.world_base.specs.Idle.{AllSettled, IdleEnds, batch_of, inquiry_of}
 use Rattle.world_base.specs.MemoryLaws.{ack-leaves, commit-leaves, fetch-leaves, mark-leaves, marked-leaves, prepare-leaves, query-leaves}
 use Rattle.world_base.specs.PathLaws.{reached-keeps}
-use Rattle.world_base.specs.Roles.{leader_at, member_at}
-use Rattle.world_base.specs.TargetTurns.{Hears, IdlesWhole, commit_request, fetch_request, prepare_request}
+use Rattle.world_base.specs.RightTurns.{HearsRightly}
+use Rattle.world_base.specs.Roles.{is_in_doubt, leader_at, member_at}
+use Rattle.world_base.specs.TargetTurns.{IdlesWhole, commit_request, fetch_request, prepare_request}
 use Rattle.world_base.specs.Turns.{Whole}
 use Rattle.world_base.specs.VerdictLaws.{verdict-keeps}
 use Rattle.world_base.specs.Verdicts as verdicts
@@ -76,13 +77,13 @@ left-inquired a (Some x) inc verdict.Undecided s q i = WasThere i (λ same none.
 left-inquired a None inc verdict.Undecided s q i = let o = has-from_map (inquiry_at a state.Undecided) s.memory.inquiries q i in answered-at a inc s.memory.inquiries o.0 q o.1 o.2
 
 verdict-inquired : (t : TargetPlan) (m : TargetMemory) (reading : ℕ) (a : AttemptId) (ask : Option AttemptId) (inc : ℕ) (v : Verdict) (old new : Kept) (left : TargetMemory × Did)
-    → Whole (verdicts.VerdictNext t m reading a ask v) verdicts.VerdictEnds verdicts.Heard old new left → InquiriesAfter m.member.inquiries (message.Verdict a ask inc v) left.0
+    → Whole (verdicts.VerdictNext (is_in_doubt t.me) t m reading a ask v) verdicts.VerdictEnds verdicts.Heard old new left → InquiriesAfter m.member.inquiries (message.Verdict a ask inc v) left.0
 verdict-inquired t m reading a ask inc v old new left w =
-    (verdict-keeps t m reading a ask v old (λ asks n posts k. InquiriesAfter m.member.inquiries (message.Verdict a ask inc v) n) (λ k steps q i. left-inquired a ask inc v (member_at t m) q i)
+    (verdict-keeps (is_in_doubt t.me) t m reading a ask v old (λ asks n posts k. InquiriesAfter m.member.inquiries (message.Verdict a ask inc v) n) (λ k steps q i. left-inquired a ask inc v (member_at t m) q i)
     (λ q rest n posts k l z h y p i. h p (subst (Has p) (fetch-leaves t n reading q (verdicts.fetcher q) y.last l z y.ends).inquiries i)) new left w).0
 
 pub hears-inquired : (t : TargetPlan) (opening : Epoch × FloorWhy) (m : TargetMemory) (reading : ℕ) (from : ActorId) (q : Message) (old new : Kept) (left : TargetMemory × Did)
-    → Hears t opening m reading from q old new left → InquiriesAfter m.member.inquiries q left.0
+    → HearsRightly t opening m reading from q old new left → InquiriesAfter m.member.inquiries q left.0
 hears-inquired t opening m reading from (message.Fetch x op group ep first tracker r snapshot) old new left h p i =
     inquiries-same m left.0 (message.Fetch x op group ep first tracker r snapshot) (fetch-leaves t m reading (fetch_request x op group ep first tracker r snapshot) from h.last new left h.ends).inquiries (λ y. tt) p i
 hears-inquired t opening m reading from (message.Commit x ep first tracker ws) old new left h p i =

@@ -19,7 +19,7 @@ use Rattle.world_base.specs.DoubtLaws.{IsLedElsewhere, elsewhere-settled, undoub
 use Rattle.world_base.specs.EntryLaws.{entry-aborted, entry-committed}
 use Rattle.world_base.specs.Marks.{AllMarked, MarkEnds, MarkNext, PassesBy, SettlesMarked, marked_step}
 use Rattle.world_base.specs.PathLaws.{reached-keeps}
-use Rattle.world_base.specs.Roles.{is_open_entry, is_prepared}
+use Rattle.world_base.specs.Roles.{is_in_doubt, is_open_entry, is_prepared}
 use Rattle.world_base.specs.Turns.{Whole}
 
 -- an entry is its attempt's
@@ -54,7 +54,7 @@ marks-stores_not : (x a : AttemptId) (committed : Bool) (k l : Kept) → Steps (
 marks-stores_not x a true k l st h = unprepared-step x (Some (Settles a Commit)) k l st tt h
 marks-stores_not x a false k l st h = unprepared-step x (Some (Settles a Abort)) k l st tt h
 
-mark-step : (me : ℕ) (x : AttemptId) (s : List (AttemptId × Bool)) (k : Kept) (o : Option Change) (u : List (AttemptId × Bool)) (l : Kept) → MarkNext me s k o u → Steps o k l → IsToSettle me x s k → IsToSettle me x u l
+mark-step : (me : ℕ) (x : AttemptId) (s : List (AttemptId × Bool)) (k : Kept) (o : Option Change) (u : List (AttemptId × Bool)) (l : Kept) → MarkNext (is_in_doubt me) s k o u → Steps o k l → IsToSettle me x s k → IsToSettle me x u l
 mark-step me x s k o u l (SettlesMarked j a committed rest is) st (inl (inl same, elsewhere)) =
     inr (subst (λ y. Unprepared l.durable y) (sym same) (subst (λ d. Unprepared d a) (sym st.0) (settled-own a committed k.durable)))
 mark-step me x s k o u l (SettlesMarked j a committed rest is) st (inl (inr i, elsewhere)) = inl (i, subst (IsLedElsewhere me x) (sym st.0) (elsewhere-settled me x a committed k.durable elsewhere))
@@ -71,6 +71,6 @@ marks-over me m from inc marks s k left x (AllMarked j z is) (inl (i, elsewhere)
 marks-over me m from inc marks s k left x (AllMarked j z is) (inr h) = h
 
 pub marked-unprepared : (me : ℕ) (m : TargetMemory) (from : ActorId) (inc : ℕ) (marks : List (AttemptId × Bool)) (old new : Kept) (left : TargetMemory × Did) (x : AttemptId)
-    → Whole (MarkNext me) (MarkEnds m from inc marks) marks old new left → Has x (attempts_of marks) → IsLedElsewhere me x old.durable → Unprepared new.durable x
+    → Whole (MarkNext (is_in_doubt me)) (MarkEnds m from inc marks) marks old new left → Has x (attempts_of marks) → IsLedElsewhere me x old.durable → Unprepared new.durable x
 marked-unprepared me m from inc marks old new left x w i elsewhere =
-    marks-over me m from inc marks w.last new left x w.ends (reached-keeps (MarkNext me) (IsToSettle me x) (mark-step me x) marks old w.last new w.reached (inl (i, elsewhere)))
+    marks-over me m from inc marks w.last new left x w.ends (reached-keeps (MarkNext (is_in_doubt me)) (IsToSettle me x) (mark-step me x) marks old w.last new w.reached (inl (i, elsewhere)))

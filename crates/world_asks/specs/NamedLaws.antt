@@ -29,7 +29,7 @@ use Rattle.world_attempts.specs.MarkTurns.{target-is}
 use Rattle.world_attempts.specs.Turning.{one-or_another}
 use Rattle.world_base.specs.declared.target.TargetState.{TargetState}
 use Rattle.world_base.specs.declared.world.World.{World}
-use Rattle.world_base.specs.Events.{ByClient, ByTarget, Event, Rules, ToClient, ToTarget, kept, target_after, target_plan}
+use Rattle.world_base.specs.Events.{ByClient, ByTarget, RightEvent, Rules, ToClient, ToTarget, kept, target_after, target_plan}
 use Rattle.world_base.specs.Letters.{letter_of, target}
 use Rattle.world_base.specs.Acks as ack
 use Rattle.world_base.specs.Changes.{Change, Kept, Steps}
@@ -37,8 +37,9 @@ use Rattle.world_base.specs.Idle.{AllSettled, IdleEnds, batch_of, inquiry_of}
 use Rattle.world_base.specs.Marks as mark
 use Rattle.world_base.specs.MemoryLaws.{commit-leaves, fetch-leaves, mark-leaves, prepare-leaves, query-leaves, verdict-leaves}
 use Rattle.world_base.specs.PathLaws.{reached-keeps}
-use Rattle.world_base.specs.Roles.{leader_at, with_unsettled}
-use Rattle.world_base.specs.TargetTurns.{Hears, IdlesWhole, commit_request, fetch_request, prepare_request}
+use Rattle.world_base.specs.RightTurns.{HearsRightly}
+use Rattle.world_base.specs.Roles.{is_in_doubt, leader_at, with_unsettled}
+use Rattle.world_base.specs.TargetTurns.{IdlesWhole, commit_request, fetch_request, prepare_request}
 
 -- ---- what a leader's steps name
 
@@ -188,7 +189,7 @@ marked-ends t m member inc ids s k left (ack.AllConfirmed j z is) n i =
     inl ((has-from_filter (is_not_named_in member inc ids) m.leader.named n now).0, answered-goes member inc ids m.leader.named n now)
 
 pub hears-names : (t : TargetPlan) (opening : Epoch × FloorWhy) (m : TargetMemory) (reading : ℕ) (from : ActorId) (q : Message) (old new : Kept) (left : TargetMemory × Did)
-    → Hears t opening m reading from q old new left → NamesAfter m.leader.named (λ n. IsUnanswered from n q) left
+    → HearsRightly t opening m reading from q old new left → NamesAfter m.leader.named (λ n. IsUnanswered from n q) left
 hears-names t opening m reading from (message.Fetch x op group ep first tracker r snapshot) old new left h =
     names-same m left (λ n. Unit {0}) (fetch-leaves t m reading (fetch_request x op group ep first tracker r snapshot) from h.last new left h.ends).leads.named (λ n. tt)
 hears-names t opening m reading from (message.Commit x ep first tracker ws) old new left h =
@@ -200,7 +201,7 @@ hears-names t opening m reading from (message.Ack x inc refusal) old new left h 
 hears-names t opening m reading from (message.Mark inc marks) old new left h = names-same m left (λ n. Unit {0}) (ap (λ z. z.leader.named) (mark-leaves m from inc marks h.last new left h.ends)) (λ n. tt)
 hears-names t opening m reading from (message.Marked inc ids) old new left h = marked-ends t m from.number inc ids h.last new left h.ends
 hears-names t opening m reading from (message.Query x ask) old new left h = names-same m left (λ n. Unit {0}) (ap (λ z. z.leader.named) (query-leaves t m from x ask h.last new left h.ends)) (λ n. tt)
-hears-names t opening m reading from (message.Verdict x ask inc v) old new left h = names-same m left (λ n. Unit {0}) (verdict-leaves t m reading x ask v old new left h).0.leads.named (λ n. tt)
+hears-names t opening m reading from (message.Verdict x ask inc v) old new left h = names-same m left (λ n. Unit {0}) (verdict-leaves (is_in_doubt t.me) t m reading x ask v old new left h).0.leads.named (λ n. tt)
 hears-names t opening m reading from q old new left h = absurd h
 
 idle-ends : (settling : Bool) (t : TargetPlan) (m : TargetMemory) (s : List AttemptId) (k : Kept) (left : TargetMemory × Did) → IdleEnds settling t m s k left → NamesAfter m.leader.named (λ n. Unit {0}) left
@@ -234,7 +235,7 @@ mark-answers : (m : TargetMemory) (from : ActorId) (inc : ℕ) (marks s : List (
 mark-answers m from inc marks s k left (mark.AllMarked j z is) = subst (λ x. Has (record { to = from; message = message.Marked inc (attempts_of marks) }) x.1.posts) (sym is) (inl refl)
 
 pub marks-answered : (t : TargetPlan) (opening : Epoch × FloorWhy) (m : TargetMemory) (reading : ℕ) (from : ActorId) (q : Message) (old new : Kept) (left : TargetMemory × Did)
-    → Hears t opening m reading from q old new left → MarksAreAnswered from q left.1.posts
+    → HearsRightly t opening m reading from q old new left → MarksAreAnswered from q left.1.posts
 marks-answered t opening m reading from (message.Mark inc marks) old new left h = mark-answers m from inc marks h.last new left h.ends
 marks-answered t opening m reading from (message.Fetch x op group ep first tracker r snapshot) old new left h = tt
 marks-answered t opening m reading from (message.Commit x ep first tracker ws) old new left h = tt
@@ -283,7 +284,7 @@ target-named w v t s z heard posts Open g after on k u y n here i = elim (one-or
   | inr other ↦ on u n (λ e. absurd (other e)) (k u y n (sym (same-there w v t s z heard posts g u other) ∙ here) i)
 ]
 
-pub named-kept : (r : Rules) (w v : World) → NamedAreSent w → Event r w v → NamedAreSent v
+pub named-kept : (r : Rules) (w v : World) → NamedAreSent w → RightEvent r w v → NamedAreSent v
 named-kept r w v k (ByClient g) = client-named w v k (goes-moves r w v g)
 named-kept r w v k (ToClient g) = client-named w v k (hears-moves r w v g)
 named-kept r w v k (ToTarget g) =

@@ -27,13 +27,14 @@ use Rattle.world_base.specs.declared.target.TargetMemory.{TargetMemory}
 use Rattle.world_base.specs.declared.target.TargetPlan.{TargetPlan}
 use Rattle.world_base.specs.declared.target.TargetState.{TargetState}
 use Rattle.world_base.specs.declared.world.World.{World}
-use Rattle.world_base.specs.Events.{ByClient, ByTarget, Event, Rules, ToClient, ToTarget, kept, target_after, target_plan}
+use Rattle.world_base.specs.Events.{ByClient, ByTarget, RightEvent, Rules, ToClient, ToTarget, kept, target_after, target_plan}
 use Rattle.world_base.specs.Letters.{letter_of, target}
 use Rattle.world_base.specs.Changes.{Kept}
 use Rattle.world_base.specs.MemoryLaws.{ack-leaves, commit-leaves, idle-leaves, mark-leaves, marked-leaves, member-then, prepare-leaves, query-leaves}
 use Rattle.world_base.specs.Reads as read
-use Rattle.world_base.specs.Roles.{leader_at, member_at}
-use Rattle.world_base.specs.TargetTurns.{Hears, IdlesWhole, commit_request, fetch_request, prepare_request}
+use Rattle.world_base.specs.RightTurns.{HearsRightly}
+use Rattle.world_base.specs.Roles.{is_in_doubt, leader_at, member_at}
+use Rattle.world_base.specs.TargetTurns.{IdlesWhole, commit_request, fetch_request, prepare_request}
 use Rattle.world_base.specs.Turns.{Whole}
 use Rattle.world_base.specs.VerdictLaws.{Tries, verdict-keeps}
 use Rattle.world_base.specs.Verdicts as verdicts
@@ -122,9 +123,9 @@ left-open a (Some x) inc verdict.Undecided s p i = waiting-open a x inc verdict.
 left-open a None inc verdict.Undecided s p i = (i, λ of fetch on same. let no : ⊥ = cc in no)
 
 verdict-parks : (t : TargetPlan) (m : TargetMemory) (reading : ℕ) (a : AttemptId) (ask : Option AttemptId) (inc : ℕ) (v : Verdict) (old new : Kept) (left : TargetMemory × Did)
-    → Whole (verdicts.VerdictNext t m reading a ask v) verdicts.VerdictEnds verdicts.Heard old new left → ParksAfter m.member.parked (IsWaitingStill (message.Verdict a ask inc v)) left.0 left.1.posts
+    → Whole (verdicts.VerdictNext (is_in_doubt t.me) t m reading a ask v) verdicts.VerdictEnds verdicts.Heard old new left → ParksAfter m.member.parked (IsWaitingStill (message.Verdict a ask inc v)) left.0 left.1.posts
 verdict-parks t m reading a ask inc v old new left w =
-    (verdict-keeps t m reading a ask v old (λ asks n posts k. ParksAfter m.member.parked Open n posts) (λ k steps p i. inl (left-open a ask inc v (member_at t m) p i)) goes new left w).0
+    (verdict-keeps (is_in_doubt t.me) t m reading a ask v old (λ asks n posts k. ParksAfter m.member.parked Open n posts) (λ k steps p i. inl (left-open a ask inc v (member_at t m) p i)) goes new left w).0
   where
     Open : Parked → Type 0
     Open = IsWaitingStill (message.Verdict a ask inc v)
@@ -139,7 +140,7 @@ verdict-parks t m reading a ask inc v old new left w =
 -- ---- every turn
 
 pub hears-parks : (t : TargetPlan) (opening : Epoch × FloorWhy) (m : TargetMemory) (reading : ℕ) (from : ActorId) (q : Message) (old new : Kept) (left : TargetMemory × Did)
-    → Hears t opening m reading from q old new left → ParksAfter m.member.parked (IsWaitingStill q) left.0 left.1.posts
+    → HearsRightly t opening m reading from q old new left → ParksAfter m.member.parked (IsWaitingStill q) left.0 left.1.posts
 hears-parks t opening m reading from (message.Fetch x op group ep first tracker r snapshot) old new left h p i =
     elim (fetch-parks t m reading (fetch_request x op group ep first tracker r snapshot) from h.last new left h.ends p i) [ inl k ↦ inl (k.0, λ of fetch. tt) | inr k ↦ inr k ]
 hears-parks t opening m reading from (message.Commit x ep first tracker ws) old new left h p i =
@@ -169,7 +170,7 @@ query-answers : (t : TargetPlan) (m : TargetMemory) (from : ActorId) (a : Attemp
 query-answers t m from a ask s k left (verdicts.IsTold j z is) = subst (λ x. QueriesAreAnswered from (message.Query a ask) x.1.posts) (sym is) (k.durable.incarnation, query_answer a (leader_at t m k.durable), inl refl)
 
 pub queries-answered : (t : TargetPlan) (opening : Epoch × FloorWhy) (m : TargetMemory) (reading : ℕ) (from : ActorId) (q : Message) (old new : Kept) (left : TargetMemory × Did)
-    → Hears t opening m reading from q old new left → QueriesAreAnswered from q left.1.posts
+    → HearsRightly t opening m reading from q old new left → QueriesAreAnswered from q left.1.posts
 queries-answered t opening m reading from (message.Query x ask) old new left h = query-answers t m from x ask h.last new left h.ends
 queries-answered t opening m reading from (message.Fetch x op group ep first tracker r snapshot) old new left h = tt
 queries-answered t opening m reading from (message.Commit x ep first tracker ws) old new left h = tt
@@ -229,7 +230,7 @@ target-parked w v t s z heard posts q g after on k m y p here i = elim (one-or_a
       record { of = a.of; fetch = a.fetch; asked = on m p.on (Some a.of) (λ e. absurd (other e)) a.asked }
 ]
 
-pub parked-kept : (r : Rules) (w v : World) → ParkedAreAsked w → Event r w v → ParkedAreAsked v
+pub parked-kept : (r : Rules) (w v : World) → ParkedAreAsked w → RightEvent r w v → ParkedAreAsked v
 parked-kept r w v k (ByClient g) = client-parked w v k (goes-moves r w v g)
 parked-kept r w v k (ToClient g) = client-parked w v k (hears-moves r w v g)
 parked-kept r w v k (ToTarget g) =

@@ -1,4 +1,4 @@
--- Every event keeps that an undecided attempt waits for a member, and that no member is known to be down.
+-- Every right event keeps that an undecided attempt waits for a member, and that no member is known to be down.
 use Rattle.std.specs.Prelude.{ℕ, ◌≡◌, ◌⊎◌, false, List, slice_get, Option, Some, None, refl}
 use Rattle.std.specs.List.{list_all}
 use Rattle.std.proofs.Common.{sym, ◌∙◌, ap, subst, inl, inr}
@@ -36,15 +36,16 @@ use Rattle.world_base.specs.declared.target.TargetMemory.{TargetMemory}
 use Rattle.world_base.specs.declared.target.TargetPlan.{TargetPlan}
 use Rattle.world_base.specs.declared.target.TargetState.{TargetState}
 use Rattle.world_base.specs.declared.world.World.{World}
-use Rattle.world_base.specs.Events.{ByClient, ByTarget, Event, Rules, TargetHears, ToClient, ToTarget, kept, target_after, target_plan}
+use Rattle.world_base.specs.Events.{ByClient, ByTarget, RightEvent, Rules, TargetHearsRightly, ToClient, ToTarget, kept, target_after, target_plan}
 use Rattle.world_base.specs.Acks as ack
 use Rattle.world_base.specs.Changes.{Change, Kept, Steps}
 use Rattle.world_base.specs.Commits as commit
 use Rattle.world_base.specs.Commits.{bits_of}
 use Rattle.world_base.specs.MemoryLaws.{commit-leaves, fetch-leaves, idle-leaves, mark-leaves, marked-leaves, prepare-leaves, query-leaves, verdict-leaves}
 use Rattle.world_base.specs.PathLaws.{reached-keeps}
-use Rattle.world_base.specs.Roles.{leader_at}
-use Rattle.world_base.specs.TargetTurns.{Hears, commit_request, fetch_request, prepare_request}
+use Rattle.world_base.specs.RightTurns.{HearsRightly}
+use Rattle.world_base.specs.Roles.{is_in_doubt, leader_at}
+use Rattle.world_base.specs.TargetTurns.{commit_request, fetch_request, prepare_request}
 
 -- ---- a turn
 
@@ -102,7 +103,7 @@ commit-ends t opening m reading x ep first tracker ws from d s k left none (comm
     q = commit_request x ep first tracker ws
 
 pub hears-rows : (t : TargetPlan) (opening : Epoch × FloorWhy) (m : TargetMemory) (reading : ℕ) (from : ActorId) (q : Message) (old new : Kept) (left : TargetMemory × Did)
-    → Hears t opening m reading from q old new left → IsFresh m q → RowsAfter t m old.durable q left.0
+    → HearsRightly t opening m reading from q old new left → IsFresh m q → RowsAfter t m old.durable q left.0
 hears-rows t opening m reading from (message.Fetch x op group ep first tracker r snapshot) old new left h fresh =
     let k = (fetch-leaves t m reading (fetch_request x op group ep first tracker r snapshot) from h.last new left h.ends).leads in
     rows-same t m left.0 old.durable (message.Fetch x op group ep first tracker r snapshot) k.undecided k.down
@@ -120,7 +121,7 @@ hears-rows t opening m reading from (message.Marked inc ids) old new left h fres
 hears-rows t opening m reading from (message.Query x ask) old new left h fresh =
     let k = query-leaves t m from x ask h.last new left h.ends in rows-same t m left.0 old.durable (message.Query x ask) (ap (λ z. z.leader.undecided) k) (ap (λ z. z.leader.down) k)
 hears-rows t opening m reading from (message.Verdict x ask inc v) old new left h fresh =
-    let k = (verdict-leaves t m reading x ask v old new left h).0.leads in rows-same t m left.0 old.durable (message.Verdict x ask inc v) k.undecided k.down
+    let k = (verdict-leaves (is_in_doubt t.me) t m reading x ask v old new left h).0.leads in rows-same t m left.0 old.durable (message.Verdict x ask inc v) k.undecided k.down
 hears-rows t opening m reading from q old new left h fresh = absurd h
 
 -- ---- the world
@@ -152,7 +153,7 @@ target-rows r w v t s z heard posts g rows down k = record {
   ];
 }
 
-module _ (r : Rules) (h : History) (w v : World) (Q : AskedRight r h w) (A : Attempts r h w) (g : TargetHears r w v) where
+module _ (r : Rules) (h : History) (w v : World) (Q : AskedRight r h w) (A : Attempts r h w) (g : TargetHearsRightly r w v) where
   -- a Commit brings an attempt that has no row yet
   fresh-of : (said : Message) → g.l.message ≡ said → IsFresh g.s.memory said
   fresh-of (message.Commit x ep first tracker ws) is =
@@ -186,7 +187,7 @@ module _ (r : Rules) (h : History) (w v : World) (Q : AskedRight r h w) (A : Att
       a : RowsAfter (target_plan r g.t) g.s.memory g.s.durable g.l.message g.memory
       a = hears-rows (target_plan r g.t) g.s.opening g.s.memory g.reading g.l.from g.l.message (kept g.s) g.new (g.memory, g.did) g.turn (fresh-of g.l.message refl)
 
-pub rows-kept : (r : Rules) (h : History) (w v : World) → AskedRight r h w → Attempts r h w → RowsWait r w → Event r w v → RowsWait r v
+pub rows-kept : (r : Rules) (h : History) (w v : World) → AskedRight r h w → Attempts r h w → RowsWait r w → RightEvent r w v → RowsWait r v
 rows-kept r h w v Q A k (ByClient g) = client-rows r w v k (goes-moves r w v g)
 rows-kept r h w v Q A k (ToClient g) = client-rows r w v k (hears-moves r w v g)
 rows-kept r h w v Q A k (ToTarget g) = heard-rows r h w v Q A g k

@@ -34,8 +34,9 @@ use Rattle.world_base.specs.Marks as mark
 use Rattle.world_base.specs.PathLaws.{reached-keeps}
 use Rattle.world_base.specs.Prepares as prepare
 use Rattle.world_base.specs.Reads as read
-use Rattle.world_base.specs.Roles.{leader_at, member_at}
-use Rattle.world_base.specs.TargetTurns.{Hears, commit_request, fetch_request, prepare_request}
+use Rattle.world_base.specs.RightTurns.{HearsRightly}
+use Rattle.world_base.specs.Roles.{is_in_doubt, leader_at, member_at}
+use Rattle.world_base.specs.TargetTurns.{commit_request, fetch_request, prepare_request}
 use Rattle.world_base.specs.Turns.{Whole}
 use Rattle.world_base.specs.VerdictLaws.{verdict-keeps}
 use Rattle.world_base.specs.Verdicts as verdicts
@@ -176,15 +177,15 @@ freed-sent sender said a (Some x) verdict.Undecided s p i = all-told-sent sender
 freed-sent sender said a None verdict.Undecided s p i = absurd i
 
 verdict-sends : (sender : ActorId) (said : Message) (t : TargetPlan) (m : TargetMemory) (reading : ℕ) (a : AttemptId) (ask : Option AttemptId) (v : Verdict) (old new : Kept) (left : TargetMemory × Did)
-    → Whole (verdicts.VerdictNext t m reading a ask v) verdicts.VerdictEnds verdicts.Heard old new left → SendsFor sender said left.1.posts
+    → Whole (verdicts.VerdictNext (is_in_doubt t.me) t m reading a ask v) verdicts.VerdictEnds verdicts.Heard old new left → SendsFor sender said left.1.posts
 verdict-sends sender said t m reading a ask v old new left w =
-    (verdict-keeps t m reading a ask v old (λ asks n posts k. SendsFor sender said posts) (λ k steps. freed-sent sender said a ask v (member_at t m))
+    (verdict-keeps (is_in_doubt t.me) t m reading a ask v old (λ asks n posts k. SendsFor sender said posts) (λ k steps. freed-sent sender said a ask v (member_at t m))
     (λ q rest n posts k l z h y. both-sent sender said posts z.1.posts h (fetch-sends sender said t n reading q (verdicts.fetcher q) y.last l z y.ends)) new left w).0
 
 -- ---- every turn that hears a message
 
 pub hears-sends : (t : TargetPlan) (opening : Epoch × FloorWhy) (m : TargetMemory) (reading : ℕ) (from : ActorId) (q : Message) (old new : Kept) (left : TargetMemory × Did)
-    → Hears t opening m reading from q old new left → SendsFor from q left.1.posts
+    → HearsRightly t opening m reading from q old new left → SendsFor from q left.1.posts
 hears-sends t opening m reading from (message.Fetch x op group ep first tracker r snapshot) old new left h p i =
     fetch-sends from (message.Fetch x op group ep first tracker r snapshot) t m reading (fetch_request x op group ep first tracker r snapshot) from h.last new left h.ends p i
 hears-sends t opening m reading from (message.Commit x ep first tracker ws) old new left h p i =

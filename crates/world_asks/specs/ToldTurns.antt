@@ -38,13 +38,14 @@ use Rattle.world_base.specs.declared.letter.Letter.{Letter}
 use Rattle.world_base.specs.declared.target.TargetMemory.{TargetMemory}
 use Rattle.world_base.specs.declared.target.TargetPlan.{TargetPlan}
 use Rattle.world_base.specs.declared.world.World.{World}
-use Rattle.world_base.specs.Events.{Rules, TargetHears, TargetIdles, kept, target_after, target_plan}
+use Rattle.world_base.specs.Events.{Rules, TargetHearsRightly, TargetIdles, kept, target_after, target_plan}
 use Rattle.world_base.specs.Letters.{letter_of, target}
 use Rattle.world_base.specs.Changes.{Kept}
 use Rattle.world_base.specs.DoubtLaws.{IsLedElsewhere}
 use Rattle.world_base.specs.Idle.{AllSettled, IdleEnds, batch_of, inquiry_of}
+use Rattle.world_base.specs.RightTurns.{HearsRightly}
 use Rattle.world_base.specs.Roles.{leader_at, member_at, with_unsettled}
-use Rattle.world_base.specs.TargetTurns.{Hears, IdlesWhole}
+use Rattle.world_base.specs.TargetTurns.{IdlesWhole}
 
 -- what refuses is no commit
 abbrev pub IsRefusal : Message → Type 0
@@ -56,7 +57,7 @@ RefusalsRefuse w = (l : Letter) → Has l w.messages → IsRefusal l.message
 
 -- ---- a target hears a message
 
-module _ (r : Rules) (h later : History) (w v : World) (Q : AskedRight r h w) (A : Attempts r h w) (R : RefusalsRefuse w) (g : TargetHears r w v) (G : GrowsBy h g.did.posts later) where
+module _ (r : Rules) (h later : History) (w v : World) (Q : AskedRight r h w) (A : Attempts r h w) (R : RefusalsRefuse w) (g : TargetHearsRightly r w v) (G : GrowsBy h g.did.posts later) where
   taken : Has g.l w.messages
   taken = has-taken w.messages g.l g.rest g.takes
 
@@ -135,11 +136,11 @@ module _ (r : Rules) (h later : History) (w v : World) (Q : AskedRight r h w) (A
   leader-kept x leads held said is k = elim (ends-leader x leads said is) [
     | inl ends ↦
         inl (hears-kept (target_plan r g.t) g.s.opening g.s.memory g.reading g.l.from said (kept g.s) g.new (g.memory, g.did) x
-        (subst (λ q. Hears (target_plan r g.t) g.s.opening g.s.memory g.reading g.l.from q (kept g.s) g.new (g.memory, g.did)) is g.turn) (brings-leader x leads held said is) ends k)
+        (subst (λ q. HearsRightly (target_plan r g.t) g.s.opening g.s.memory g.reading g.l.from q (kept g.s) g.new (g.memory, g.did)) is g.turn) (brings-leader x leads held said is) ends k)
     | inr a ↦
         let here : g.l.message ≡ message.Ack a.2 a.0 a.1 = is ∙ a.3 in
         elim (ack-kept (target_plan r g.t) g.s.memory g.l.from.number a.2 a.0 a.1 (kept g.s) x g.new (g.memory, g.did) k
-        (subst (λ q. Hears (target_plan r g.t) g.s.opening g.s.memory g.reading g.l.from q (kept g.s) g.new (g.memory, g.did)) here g.turn)) [
+        (subst (λ q. HearsRightly (target_plan r g.t) g.s.opening g.s.memory g.reading g.l.from q (kept g.s) g.new (g.memory, g.did)) here g.turn)) [
           | inl still ↦ inl still
           | inr gone ↦ inr (refused x a.2 a.0 a.1 leads gone.0 here gone.1)
         ]
@@ -169,7 +170,7 @@ module _ (r : Rules) (h later : History) (w v : World) (Q : AskedRight r h w) (A
   mark-heard : (x : AttemptId) (k : IsMarkOf g.t x g.l) → Unprepared g.new.durable x
   mark-heard x k =
       marked-unprepared g.t g.s.memory g.l.from k.inc k.marks (kept g.s) g.new (g.memory, g.did) x
-      (subst (λ q. Hears (target_plan r g.t) g.s.opening g.s.memory g.reading g.l.from q (kept g.s) g.new (g.memory, g.did)) k.mark g.turn) k.names elsewhere
+      (subst (λ q. HearsRightly (target_plan r g.t) g.s.opening g.s.memory g.reading g.l.from q (kept g.s) g.new (g.memory, g.did)) k.mark g.turn) k.names elsewhere
     where
       named : (q : AttemptId × Bool) × Has q k.marks × (marked_attempt q ≡ x)
       named = has-from_map marked_attempt k.marks x k.names

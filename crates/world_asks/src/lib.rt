@@ -6,7 +6,7 @@ ghost use Rattle.world_asks.specs.Ends.{EndsSettled};
 
 /// Says what holds of questions between targets throughout a run. Of what a leader named to a member,
 /// of what a Fetch waits for, and of what idle work inquires, the question or the answer is in flight;
-/// one that was answered undecided is to be told by a Mark. Each event keeps it so, beside the facts of
+/// one that was answered undecided is to be told by a Mark. Each right event keeps it so, beside the facts of
 /// attempts; and so it is where nothing is remembered and nothing in flight. So where a run has ended,
 /// each entry is committed, and confirmed by all members.
 pub fn laws_of_asks()

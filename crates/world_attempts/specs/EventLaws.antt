@@ -1,4 +1,4 @@
--- Every event keeps the facts of attempts, and they hold where a run begins.
+-- Every right event keeps the facts of attempts, and they hold where a run begins.
 use Rattle.std.specs.Prelude.{ℕ, ◌≡◌, true, false, [], ◌++◌, find, slice_get, Option, Some, None, refl}
 use Rattle.std.proofs.Common.{sym, ◌∙◌, ap, subst, arith, inl}
 use Rattle.std.proofs.Math.ListN.{set}
@@ -34,7 +34,7 @@ use Rattle.world_attempts.specs.Working.{at_work, attempts-there, idle-over, is_
 use Rattle.world_base.specs.declared.request.FetchRequest.{FetchRequest}
 use Rattle.world_base.specs.declared.target.TargetState.{TargetState}
 use Rattle.world_base.specs.declared.world.World.{World}
-use Rattle.world_base.specs.Events.{ByClient, ByTarget, Rules, TargetHears, TargetIdles, ToClient, ToTarget, kept, listed, target_after, target_plan}
+use Rattle.world_base.specs.Events.{ByClient, ByTarget, Rules, TargetHearsRightly, TargetIdles, ToClient, ToTarget, kept, listed, target_after, target_plan}
 use Rattle.world_base.specs.Letters.{letters_of, target}
 use Rattle.world_base.specs.Acks.{AckNext, Heard, MarkedNext, to_confirm}
 use Rattle.world_base.specs.Commits as commits
@@ -43,7 +43,9 @@ use Rattle.world_base.specs.Marks.{MarkNext}
 use Rattle.world_base.specs.PathLaws.{path-keeps}
 use Rattle.world_base.specs.Prepares as prepares
 use Rattle.world_base.specs.Reads.{Asked, FetchNext}
-use Rattle.world_base.specs.TargetTurns.{Hears, commit_request, fetch_request, prepare_request}
+use Rattle.world_base.specs.RightTurns.{HearsRightly}
+use Rattle.world_base.specs.Roles.{is_in_doubt}
+use Rattle.world_base.specs.TargetTurns.{commit_request, fetch_request, prepare_request}
 use Rattle.world_base.specs.Verdicts as verdicts
 
 -- nothing is found where nothing is stored
@@ -53,7 +55,7 @@ nothing-stored s x none = ap (find (is_entry_of x)) none
 
 -- ---- a target hears
 
-module _ (r : Rules) (h later : History) (w v : World) (right : AskedRight r h w) (k : Attempts r h w) (g : TargetHears r w v) (grows : GrowsBy h g.did.posts later) where
+module _ (r : Rules) (h later : History) (w v : World) (right : AskedRight r h w) (k : Attempts r h w) (g : TargetHearsRightly r w v) (grows : GrowsBy h g.did.posts later) where
   flies : Has g.l w.messages
   flies = has-taken w.messages g.l g.rest g.takes
 
@@ -79,7 +81,7 @@ module _ (r : Rules) (h later : History) (w v : World) (right : AskedRight r h w
   ends : is_dull g.l.message ≡ true → TurnLeft r h w g.t g.s g.here [] g.new (g.memory, g.did) → Attempts r later v
   ends dull left = work-over r h later w v g.t (target_after g.s g.new g.memory) g.did.posts g.l g.rest g.takes dull grows left.plain targets messages issued left.on
 
-  by-kind : (m : Message) → g.l.message ≡ m → Hears (target_plan r g.t) g.s.opening g.s.memory g.reading g.l.from m (kept g.s) g.new (g.memory, g.did) → Attempts r later v
+  by-kind : (m : Message) → g.l.message ≡ m → HearsRightly (target_plan r g.t) g.s.opening g.s.memory g.reading g.l.from m (kept g.s) g.new (g.memory, g.did) → Attempts r later v
   by-kind (message.Fetch x op group ep first tracker read snapshot) is turn =
       ends (ap is_dull is)
       (fetch-ends r h w g.t g.s g.here g.s.memory g.reading q g.l.from [] turn.last g.new (g.memory, g.did) turn.ends
@@ -109,7 +111,7 @@ module _ (r : Rules) (h later : History) (w v : World) (right : AskedRight r h w
   by-kind (message.Mark inc marks) is turn =
       ends (ap is_dull is)
       (mark.mark-ends r h w g.t g.s g.here g.s.memory g.l flies g.to_it inc marks is turn.last g.new (g.memory, g.did) turn.ends
-      (path-keeps (MarkNext g.t) (mark.AtMark r h w g.t g.s g.here g.s.memory g.l flies g.to_it marks) (mark.mark-step r h w g.t g.s g.here g.s.memory g.l flies g.to_it inc marks is) marks (kept g.s) turn.reached.did turn.last g.new turn.reached.path
+      (path-keeps (MarkNext (is_in_doubt g.t)) (mark.AtMark r h w g.t g.s g.here g.s.memory g.l flies g.to_it marks) (mark.mark-step r h w g.t g.s g.here g.s.memory g.l flies g.to_it inc marks is) marks (kept g.s) turn.reached.did turn.last g.new turn.reached.path
       (record { on = begins; left_of = λ x c i. i; done = λ x i. inl i })))
   by-kind (message.Marked inc ids) is turn =
       ends (ap is_dull is)
@@ -124,7 +126,7 @@ module _ (r : Rules) (h later : History) (w v : World) (right : AskedRight r h w
   by-kind (message.Verdict x ask inc c) is turn =
       ends (ap is_dull is)
       (verdict.verdict-ends r h w g.t g.s g.here g.s.memory g.l flies g.to_it x ask inc c is turn.last g.new (g.memory, g.did) turn.ends
-      (path-keeps (verdicts.VerdictNext (target_plan r g.t) g.s.memory g.reading x ask c) (verdict.AtVerdict r h w g.t g.s g.here g.s.memory g.l flies g.to_it) (verdict.verdict-step r h w g.t g.s g.here g.s.memory g.l flies g.to_it x ask inc c is g.reading)
+      (path-keeps (verdicts.VerdictNext (is_in_doubt g.t) (target_plan r g.t) g.s.memory g.reading x ask c) (verdict.AtVerdict r h w g.t g.s g.here g.s.memory g.l flies g.to_it) (verdict.verdict-step r h w g.t g.s g.here g.s.memory g.l flies g.to_it x ask inc c is g.reading)
       verdicts.Heard (kept g.s) turn.reached.did turn.last g.new turn.reached.path begins))
   by-kind m is turn = absurd turn
 

@@ -12,7 +12,7 @@ use Rattle.daos_messages.specs.declared.actor.ActorId.{ActorId}
 use Rattle.daos_messages.specs.declared.message.Message.TheVariants.{Ended}
 use Rattle.daos_messages.specs.declared.message.Post.{Post}
 use Rattle.world_base.specs.declared.world.World.{World}
-use Rattle.world_base.specs.Events.{ByClient, ByTarget, Event, Rules, ToClient, ToTarget, is_issue_of}
+use Rattle.world_base.specs.Events.{ByClient, ByTarget, RightEvent, Rules, ToClient, ToTarget, is_issue_of}
 
 -- a read that a target served: for which attempt, operation and group, at which epoch, and what it answered
 pub record Served : Type 0 where
@@ -81,7 +81,7 @@ pub record GrowsBy (h : History) (posts : List Post) (later : History) : Type 0 
   pub only_aborted : (x : AttemptId) → Aborted later x → Aborted h x ⊎ TellsRefusal posts x
 
 -- what a target sends in an event; a client decides nothing
-abbrev pub target_posts : {r : Rules} {w v : World} → Event r w v → List Post
+abbrev pub target_posts : {r : Rules} {w v : World} → RightEvent r w v → List Post
 target_posts (ByClient g) = []
 target_posts (ToClient g) = []
 target_posts (ToTarget g) = g.did.posts

@@ -1,4 +1,4 @@
--- The facts of attempts hold where a run begins, and every event keeps them, of what is decided and aborted by its end.
+-- The facts of attempts hold where a run begins, and every right event keeps them, of what is decided and aborted by its end.
 use Rattle.std.specs.Prelude.{ℕ, ◌≡◌, [], slice_get, Some}
 use Rattle.daos_base.specs.declared.epoch.Epoch.{Epoch}
 use Rattle.daos_base.specs.declared.id.AttemptId.{AttemptId}
@@ -7,7 +7,7 @@ use Rattle.world_attempts.specs.Attempts.{Attempts}
 use Rattle.world_attempts.specs.History.{Aborted, Decided, GrowsBy, History, target_posts}
 use Rattle.world_base.specs.declared.target.TargetState.{TargetState}
 use Rattle.world_base.specs.declared.world.World.{World}
-use Rattle.world_base.specs.Events.{Event, Rules}
+use Rattle.world_base.specs.Events.{RightEvent, Rules}
 
 -- a target that keeps no entry and leads no attempt
 pub record IsUnused (s : TargetState) : Type 0 where
@@ -25,9 +25,9 @@ pub record HasNoAttempts (h : History) (w : World) : Type 0 where
 abbrev pub AttemptsBegin : Type 0
 AttemptsBegin = (r : Rules) (h : History) (w : World) → HasNoAttempts h w → Attempts r h w
 
--- every event keeps them, whichever reads are served
+-- every right event keeps them, whichever reads are served
 abbrev pub AttemptsAreKept : Type 0
-AttemptsAreKept = (r : Rules) (h later : History) (w v : World) → AskedRight r h w → Attempts r h w → (event : Event r w v) → GrowsBy h (target_posts event) later → Attempts r later v
+AttemptsAreKept = (r : Rules) (h later : History) (w v : World) → AskedRight r h w → Attempts r h w → (event : RightEvent r w v) → GrowsBy h (target_posts event) later → Attempts r later v
 
 -- no attempt is both decided and aborted
 abbrev pub NoneIsBoth : Type 0

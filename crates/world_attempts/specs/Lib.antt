@@ -27,3 +27,4 @@ pub mod OtherLaws
 pub mod CommitTurns
 pub mod ClientMoves
 pub mod EventLaws
+pub mod Rightly

@@ -127,7 +127,7 @@ module _ (r : Rules) (h : History) (w : World) (t : ℕ) (s : TargetState) (here
       stays false apart = entry-aborted_other a d x apart
 
   pub mark-step : (inc : ℕ) (marks : List (AttemptId × Bool)) → l.message ≡ message.Mark inc marks → (left : List (AttemptId × Bool)) (k : Kept) (o : Option Change) (next : List (AttemptId × Bool)) (n : Kept)
-      → MarkNext t left k o next → Steps o k n → AtMark marks left k → AtMark marks next n
+      → MarkNext (is_in_doubt t) left k o next → Steps o k n → AtMark marks left k → AtMark marks next n
   mark-step inc marks is left k o next n (SettlesMarked k2 a c rest doubt) steps p = record {
     on = by c (p.left_of a c (inl refl)) steps.0;
     left_of = λ x b i. p.left_of x b (inr i);

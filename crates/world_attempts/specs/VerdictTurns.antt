@@ -84,7 +84,7 @@ module _ (r : Rules) (h : History) (w : World) (t : ℕ) (s : TargetState) (here
   AtVerdict (Trying q stage asks n posts) k = AtFetch r h w t s here n posts stage k × ArePlain posts
 
   module _ (a : AttemptId) (ask : Option AttemptId) (inc : ℕ) (v : Verdict) (is : l.message ≡ message.Verdict a ask inc v) where
-    settles : (k n : Kept) (o : Option Change) → o ≡ settling_change a (settles_by t v a k.durable) → Steps o k n → Attempts r h (V k) → Attempts r h (V n)
+    settles : (k n : Kept) (o : Option Change) → o ≡ settling_change a (settles_by (is_in_doubt t) v a k.durable) → Steps o k n → Attempts r h (V k) → Attempts r h (V n)
     settles k n o by' steps p = by (is_in_doubt t a k.durable) refl v (subst (λ q. IsTrueOf r h (V k) l.from l.to q) is (p.letters l (has-left w.messages [] l flies))) (subst (λ c. Steps c k n) by' steps)
       where
         by : (b : Bool) → is_in_doubt t a k.durable ≡ b → (c : Verdict) → IsVerdictRight r h (V k) l.from l.to a c → Steps (settling_change a (step_if b (step_by c))) k n → Attempts r h (V n)
@@ -97,7 +97,7 @@ module _ (r : Rules) (h : History) (w : World) (t : ℕ) (s : TargetState) (here
         by true doubt verdict.Aborted z made =
             other-aborts r h (V k) (V n) t (target_after s k m) (target_after s n m) (work-mid w t s (target_after s k m) (target_after s n m) [] here (ap (λ d. d.incarnation) made.0 ∙ incarnation-settled a Abort k.durable)) a p refl made.0 z.fate
 
-    pub verdict-step : (reading : ℕ) (stage : VerdictStage) (k : Kept) (o : Option Change) (next : VerdictStage) (n : Kept) → VerdictNext (target_plan r t) m reading a ask v stage k o next → Steps o k n → AtVerdict stage k → AtVerdict next n
+    pub verdict-step : (reading : ℕ) (stage : VerdictStage) (k : Kept) (o : Option Change) (next : VerdictStage) (n : Kept) → VerdictNext (is_in_doubt t) (target_plan r t) m reading a ask v stage k o next → Steps o k n → AtVerdict stage k → AtVerdict next n
     verdict-step reading stage k o next n (SettlesBy k2 o2 by') steps p = (
       work-keeps r h w t s here (target_after s n m) (target_after s n (joins_on heard.member m)) heard.freed.posts refl refl refl refl
           (work-sends r h w t (target_after s n m) [] heard.freed.posts (freed-true r h (V n) t a ask v (member_at (target_plan r t) m)) (freed-plain a ask v (member_at (target_plan r t) m)) (settles k2 n o2 by' steps p)),

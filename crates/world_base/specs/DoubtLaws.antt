@@ -4,10 +4,10 @@ use Rattle.std.specs.Option.{option_map}
 use Rattle.std.proofs.Common.{◌∙◌, ap, arith, sym}
 use Rattle.std.proofs.lemmas.Bool.Decides.{nat_tests}
 use Rattle.daos_base.specs.declared.entry.Entry.{Entry}
-use Rattle.daos_base.specs.declared.entry.Settle.TheVariants.{Abort, Commit}
+use Rattle.daos_base.specs.declared.entry.Settle.TheVariants.{Abort}
 use Rattle.daos_base.specs.declared.id.AttemptId.{AttemptId}
 use Rattle.daos_model.specs.declared.durable.Durable.{Durable}
-use Rattle.daos_model.specs.BoolLaws.{and_left, and_right}
+use Rattle.daos_model.specs.BoolLaws.{and_left}
 use Rattle.daos_model.specs.Changes.{committed_at, settled}
 use Rattle.daos_model.specs.Durables.{entry_of, same_attempt}
 use Rattle.dtx_base.specs.LeaderLaws.{same-is}
@@ -30,18 +30,6 @@ in_doubt-prepared me a d doubt = by (entry_of d a) doubt
     by None is = let no : ⊥ = cc in absurd no
     by (Some e) is = and_left (not e.committed) (not (is_led me e)) is
 
--- and led elsewhere
-pub in_doubt-elsewhere : (me : ℕ) (a : AttemptId) (d : Durable) → is_in_doubt me a d ≡ true → IsLedElsewhere me a d
-unfolding is_in_doubt
-in_doubt-elsewhere me a d doubt e found mine =
-    let led : is_led me e ≡ true = grind (arith, nat_tests) in
-    let other : not (is_led me e) ≡ true = and_right (not e.committed) (not (is_led me e)) (ap (is_entry_in_doubt me) (sym-found) ∙ doubt) in
-    let no : ⊥ = cc (ap not led, other) in
-    no
-  where
-    sym-found : Some e ≡ entry_of d a
-    sym-found = cc
-
 -- what is prepared here and led elsewhere is in doubt
 pub undoubted-closed : (me : ℕ) (a : AttemptId) (d : Durable) → IsLedElsewhere me a d → is_in_doubt me a d ≡ false → is_prepared a d ≡ false
 unfolding is_prepared is_in_doubt
@@ -55,6 +43,14 @@ undoubted-closed me a d elsewhere sure = by (entry_of d a) (λ e found. elsewher
     by : (o : Option Entry) → ((e : Entry) → o ≡ Some e → e.leader ≡ me → ⊥) → is_entry_in_doubt me o ≡ false → is_open_entry o ≡ false
     by None apart sure = cc
     by (Some e) apart sure = open-or_not e e.committed (is_led me e) (cc) (cc) (apart e (cc)) sure
+
+-- so of what is led elsewhere, in doubt and prepared are one
+pub doubted-or_closed : (me : ℕ) (a : AttemptId) (d : Durable) → IsLedElsewhere me a d → is_in_doubt me a d ≡ is_prepared a d
+doubted-or_closed me a d elsewhere = by (is_in_doubt me a d) refl
+  where
+    by : (b : Bool) → is_in_doubt me a d ≡ b → is_in_doubt me a d ≡ is_prepared a d
+    by true doubt = doubt ∙ sym (in_doubt-prepared me a d doubt)
+    by false sure = sure ∙ sym (undoubted-closed me a d elsewhere sure)
 
 -- ---- what a Mark leaves
 

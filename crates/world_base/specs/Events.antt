@@ -21,7 +21,8 @@ use Rattle.world_base.specs.declared.world.World.{World}
 use Rattle.world_base.specs.ClientTurns.{HearTurn, NextTurn, plan_of}
 use Rattle.world_base.specs.Letters.{Takes, client, letters_of, target}
 use Rattle.world_base.specs.Changes.{Kept}
-use Rattle.world_base.specs.TargetTurns.{Hears, IdlesWhole}
+use Rattle.world_base.specs.RightTurns.{HearsRightly, TellsOfOthers, hears-rightly}
+use Rattle.world_base.specs.TargetTurns.{Hearing, Hears, IdlesWhole}
 
 -- what a run is given: its script, how many attempts a command has, and what its clocks leave uncertain, in ticks
 pub record Rules : Type 0 where
@@ -119,8 +120,8 @@ kept s = record { durable = s.durable; free = s.free }
 abbrev pub target_after : TargetState → Kept → TargetMemory → TargetState
 target_after s k m = record s { durable = k.durable; free = k.free; memory = m }
 
--- a running target hears a message, at a reading of its clock
-pub record TargetHears (r : Rules) (w v : World) : Type 0 where
+-- a running target hears a message, by such a turn, at a reading of its clock
+pub record TargetHearsBy (Turn : Hearing) (r : Rules) (w v : World) : Type 0 where
   pub t : ℕ
   pub s : TargetState
   pub new : Kept
@@ -133,7 +134,7 @@ pub record TargetHears (r : Rules) (w v : World) : Type 0 where
   pub runs : s.life ≡ Running
   pub takes : Takes w.messages l rest
   pub to_it : l.to ≡ target t
-  pub turn : Hears (target_plan r t) s.opening s.memory reading l.from l.message (kept s) new (memory, did)
+  pub turn : Turn (target_plan r t) s.opening s.memory reading l.from l.message (kept s) new (memory, did)
   pub after : v ≡ with_target t (target_after s new memory) (after_turn w (target t) did rest)
 
 -- a running target does its idle work, in the settling phase or before it
@@ -149,14 +150,62 @@ pub record TargetIdles (r : Rules) (w v : World) : Type 0 where
   pub turn : IdlesWhole settling (target_plan r t) s.memory (kept s) new (memory, did)
   pub after : v ≡ with_target t (target_after s new memory) (after_turn w (target t) did w.messages)
 
--- one actor's turn
-pub data Event (r : Rules) (w v : World) : Type 0 where
-  ByClient : ClientGoes r w v → Event r w v
-  ToClient : ClientHears r w v → Event r w v
-  ToTarget : TargetHears r w v → Event r w v
-  ByTarget : TargetIdles r w v → Event r w v
+-- one actor's turn, where targets hear messages by such turns
+pub data EventBy (Turn : Hearing) (r : Rules) (w v : World) : Type 0 where
+  ByClient : ClientGoes r w v → EventBy Turn r w v
+  ToClient : ClientHears r w v → EventBy Turn r w v
+  ToTarget : TargetHearsBy Turn r w v → EventBy Turn r w v
+  ByTarget : TargetIdles r w v → EventBy Turn r w v
+
+abbrev pub TargetHears : Rules → World → World → Type 0
+TargetHears r w v = TargetHearsBy Hears r w v
+
+abbrev pub Event : Rules → World → World → Type 0
+Event r w v = EventBy Hears r w v
+
+-- ---- right events
+
+-- A right event: of what a Mark or a Verdict names, that is settled which is in doubt where it is heard, and what the hearer knows of the
+-- attempts that it leads stays. An event in which no target is told what became of an attempt that it leads is a right one, and so, by
+-- the laws of attempts, every event of a run. So the laws of what events keep speak of right events.
+abbrev pub TargetHearsRightly : Rules → World → World → Type 0
+TargetHearsRightly r w v = TargetHearsBy HearsRightly r w v
+
+abbrev pub RightEvent : Rules → World → World → Type 0
+RightEvent r w v = EventBy HearsRightly r w v
+
+-- an event in which what a target hears tells of others' attempts alone is a right one
+pub right-event : (r : Rules) (w v : World) → ((g : TargetHears r w v) → TellsOfOthers g.t g.s.memory.leader g.s.durable g.l.message) → Event r w v → RightEvent r w v
+right-event r w v told (ByClient g) = ByClient g
+right-event r w v told (ToClient g) = ToClient g
+right-event r w v told (ByTarget g) = ByTarget g
+right-event r w v told (ToTarget g) = ToTarget (record {
+  t = g.t;
+  s = g.s;
+  new = g.new;
+  memory = g.memory;
+  did = g.did;
+  reading = g.reading;
+  l = g.l;
+  rest = g.rest;
+  here = g.here;
+  runs = g.runs;
+  takes = g.takes;
+  to_it = g.to_it;
+  turn = hears-rightly (target_plan r g.t) g.s.opening g.s.memory g.reading g.l.from g.l.message (kept g.s) g.new (g.memory, g.did) (told g) g.turn;
+  after = g.after;
+})
+
+-- ---- runs
 
 -- one event after another
-pub data Run (r : Rules) (w : World) : World → Type 0 where
-  Begins : Run r w w
-  Goes : (u v : World) → Run r w u → Event r u v → Run r w v
+pub data RunBy (Turn : Hearing) (r : Rules) (w : World) : World → Type 0 where
+  Begins : RunBy Turn r w w
+  Goes : (u v : World) → RunBy Turn r w u → EventBy Turn r u v → RunBy Turn r w v
+
+abbrev pub Run : Rules → World → World → Type 0
+Run r w v = RunBy Hears r w v
+
+-- one right event after another
+abbrev pub RightRun : Rules → World → World → Type 0
+RightRun r w v = RunBy HearsRightly r w v

@@ -20,6 +20,7 @@ pub mod VerdictLaws
 pub mod MemoryLaws
 pub mod EntryLaws
 pub mod DoubtLaws
+pub mod RightTurns
 pub mod LoopLaws
 -- The events of a run.
 pub mod Letters

@@ -5,13 +5,13 @@ use Rattle.daos_base.specs.declared.entry.Settle.TheVariants.{Commit, Confirm}
 use Rattle.daos_base.specs.declared.id.AttemptId.{AttemptId}
 use Rattle.daos_laws.specs.Lists.{filter-shorter}
 use Rattle.daos_laws.specs.Members.{Has}
+use Rattle.daos_model.specs.declared.durable.Durable.{Durable}
 use Rattle.daos_model.specs.EntryLaws.{same_attempt-itself}
 use Rattle.dtx_base.specs.Leading.{entry_led, may_confirm}
 use Rattle.world_base.specs.declared.target.TargetMemory.{TargetMemory}
 use Rattle.world_base.specs.declared.target.TargetPlan.{TargetPlan}
 use Rattle.world_base.specs.Acks as ack
 use Rattle.world_base.specs.Changes.{Change, Kept, Settles, Steps}
-use Rattle.world_base.specs.DoubtLaws.{in_doubt-prepared}
 use Rattle.world_base.specs.Idle.{IdleNext, SettlesFirst}
 use Rattle.world_base.specs.Marks.{MarkNext, PassesBy, SettlesMarked, marked_step}
 use Rattle.world_base.specs.PathLaws.{reached-keeps}
@@ -32,18 +32,18 @@ fewer : {T : Type 0} (P : Kept → Type 0) (all : List T) (x : T) (rest : List T
 fewer P all x rest k l holds s = record { holds = holds; left = λ y i. s.left y (inr i) }
 
 module _ (P : Kept → Type 0) where
-  -- a Mark settles what it names and is prepared here
+  -- a Mark settles what it names, is due, and so is prepared here
   abbrev pub MarkingKeeps : List (AttemptId × Bool) → Type 0
   MarkingKeeps marks = (k l : Kept) (a : AttemptId) (committed : Bool) → Has (a, committed) marks → is_prepared a k.durable ≡ true → Steps (Some (Settles a (marked_step committed))) k l → P k → P l
 
-  mark-step : (me : ℕ) (marks : List (AttemptId × Bool)) → MarkingKeeps marks → (s : List (AttemptId × Bool)) (k : Kept) (o : Option Change) (u : List (AttemptId × Bool)) (l : Kept) → MarkNext me s k o u → Steps o k l
+  mark-step : (is_due : AttemptId → Durable → Bool) → ((a : AttemptId) (d : Durable) → is_due a d ≡ true → is_prepared a d ≡ true) → (marks : List (AttemptId × Bool)) → MarkingKeeps marks → (s : List (AttemptId × Bool)) (k : Kept) (o : Option Change) (u : List (AttemptId × Bool)) (l : Kept) → MarkNext is_due s k o u → Steps o k l
       → Leaves P marks s k → Leaves P marks u l
-  mark-step me marks keeps s k o u l (SettlesMarked j a committed rest is) steps h =
-      fewer P marks (a, committed) rest k l (keeps k l a committed (h.left (a, committed) (inl refl)) (in_doubt-prepared me a k.durable is) steps h.holds) h
-  mark-step me marks keeps s k o u l (PassesBy j a committed rest is) steps h = fewer P marks (a, committed) rest k l (subst P (sym steps) h.holds) h
+  mark-step is_due prepared marks keeps s k o u l (SettlesMarked j a committed rest is) steps h =
+      fewer P marks (a, committed) rest k l (keeps k l a committed (h.left (a, committed) (inl refl)) (prepared a k.durable is) steps h.holds) h
+  mark-step is_due prepared marks keeps s k o u l (PassesBy j a committed rest is) steps h = fewer P marks (a, committed) rest k l (subst P (sym steps) h.holds) h
 
-  pub marks-keep : (me : ℕ) (marks : List (AttemptId × Bool)) → MarkingKeeps marks → (old new : Kept) (last : List (AttemptId × Bool)) → Reached (MarkNext me) marks old last new → P old → P new
-  marks-keep me marks keeps old new last r p = (reached-keeps (MarkNext me) (Leaves P marks) (mark-step me marks keeps) marks old last new r (record { holds = p; left = λ x i. i })).holds
+  pub marks-keep : (is_due : AttemptId → Durable → Bool) → ((a : AttemptId) (d : Durable) → is_due a d ≡ true → is_prepared a d ≡ true) → (marks : List (AttemptId × Bool)) → MarkingKeeps marks → (old new : Kept) (last : List (AttemptId × Bool)) → Reached (MarkNext is_due) marks old last new → P old → P new
+  marks-keep is_due prepared marks keeps old new last r p = (reached-keeps (MarkNext is_due) (Leaves P marks) (mark-step is_due prepared marks keeps) marks old last new r (record { holds = p; left = λ x i. i })).holds
 
   -- a Marked confirms what it names, where it is committed here and the sender a member
   abbrev pub ConfirmingKeeps : TargetPlan → TargetMemory → ℕ → List AttemptId → Type 0

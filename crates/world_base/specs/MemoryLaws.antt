@@ -34,8 +34,9 @@ use Rattle.world_base.specs.Marks as mark
 use Rattle.world_base.specs.Prepares as prepare
 use Rattle.world_base.specs.Reads as read
 use Rattle.world_base.specs.Requests.{sends, with_ticks}
-use Rattle.world_base.specs.Roles.{joins_on, leader_at, member_at, with_unsettled}
-use Rattle.world_base.specs.TargetTurns.{Hears, IdlesWhole, commit_request, fetch_request, prepare_request}
+use Rattle.world_base.specs.RightTurns.{HearsRightly}
+use Rattle.world_base.specs.Roles.{is_in_doubt, joins_on, leader_at, member_at, with_unsettled}
+use Rattle.world_base.specs.TargetTurns.{IdlesWhole, commit_request, fetch_request, prepare_request}
 use Rattle.world_base.specs.Turns.{Whole}
 use Rattle.world_base.specs.VerdictLaws.{Tries, verdict-keeps}
 use Rattle.world_base.specs.Verdicts as verdict
@@ -174,7 +175,7 @@ unfolding marked_heard
 marked-leaves t m member inc ids s k left (ack.AllConfirmed j z is) =
     subst (λ x. MarkedLeaves m x.0) (sym is) (record { rest = record { member = refl; stamps = refl; ticks = refl }; undecided = refl; decided = refl; down = refl })
 
--- a Mark and a Query leave all
+-- where what is settled is in doubt, a Mark leaves all that is known, and so does a Query
 pub mark-leaves : (m : TargetMemory) (from : ActorId) (inc : ℕ) (marks s : List (AttemptId × Bool)) (k : Kept) (left : TargetMemory × Did) → mark.MarkEnds m from inc marks s k left → left.0 ≡ m
 mark-leaves m from inc marks s k left (mark.AllMarked j z is) = ap (λ x. x.0) is
 
@@ -187,10 +188,10 @@ pub record VerdictLeaves (m n : TargetMemory) : Type 0 where
   pub leads : LeadsAsBefore m n
   pub more : KnowsMore m n
 
-pub verdict-leaves : (t : TargetPlan) (m : TargetMemory) (reading : ℕ) (a : AttemptId) (ask : Option AttemptId) (v : Verdict) (old new : Kept) (left : TargetMemory × Did)
-    → Whole (verdict.VerdictNext t m reading a ask v) verdict.VerdictEnds verdict.Heard old new left → VerdictLeaves m left.0 × (left.1 ≡ sends left.1.posts None)
-verdict-leaves t m reading a ask v old new left w =
-    verdict-keeps t m reading a ask v old (λ asks n posts k. VerdictLeaves m n) (λ k steps. begins) goes new left w
+pub verdict-leaves : (is_due : AttemptId → Durable → Bool) (t : TargetPlan) (m : TargetMemory) (reading : ℕ) (a : AttemptId) (ask : Option AttemptId) (v : Verdict) (old new : Kept) (left : TargetMemory × Did)
+    → Whole (verdict.VerdictNext is_due t m reading a ask v) verdict.VerdictEnds verdict.Heard old new left → VerdictLeaves m left.0 × (left.1 ≡ sends left.1.posts None)
+verdict-leaves is_due t m reading a ask v old new left w =
+    verdict-keeps is_due t m reading a ask v old (λ asks n posts k. VerdictLeaves m n) (λ k steps. begins) goes new left w
   where
     begins : VerdictLeaves m (joins_on (verdict_heard a ask v (member_at t m)).member m)
     begins = record { leads = record { undecided = refl; named = refl; down = refl }; more = record { ticks = omega arith; stamps = ([], sym (append-nil m.stamps)) } }
@@ -265,9 +266,9 @@ query-follows t m from a ask s k left (verdict.IsTold j z is) = (ap (λ x. x.1.l
 idle-follows : (settling : Bool) (t : TargetPlan) (m : TargetMemory) (s : List AttemptId) (k : Kept) (left : TargetMemory × Did) → IdleEnds settling t m s k left → (left.1.lines ≡ []) × (left.1.issued ≡ None)
 idle-follows settling t m s k left (AllSettled j z is) = (ap (λ x. x.1.lines) is, ap (λ x. x.1.issued) is)
 
--- every turn that hears a message
+-- every turn that hears a message, where what is settled is in doubt
 pub hears-follows : (t : TargetPlan) (opening : Epoch × FloorWhy) (m : TargetMemory) (reading : ℕ) (from : ActorId) (q : Message) (old new : Kept) (left : TargetMemory × Did)
-    → Hears t opening m reading from q old new left → Follows m left
+    → HearsRightly t opening m reading from q old new left → Follows m left
 hears-follows t opening m reading from (message.Fetch x op group ep first tracker r snapshot) old new left h = record {
   lines = fetch-follows t m reading (fetch_request x op group ep first tracker r snapshot) from h.last new left h.ends;
   more = (fetch-leaves t m reading (fetch_request x op group ep first tracker r snapshot) from h.last new left h.ends).more;
@@ -297,7 +298,7 @@ hears-follows t opening m reading from (message.Query x ask) old new left h = re
   more = subst (λ n. KnowsMore m n) (sym (query-leaves t m from x ask h.last new left h.ends)) (knows-same m m refl refl);
 }
 hears-follows t opening m reading from (message.Verdict x ask inc v) old new left h =
-    let c = verdict-leaves t m reading x ask v old new left h in
+    let c = verdict-leaves (is_in_doubt t.me) t m reading x ask v old new left h in
     record { lines = ap (λ d. d.lines) c.1; more = c.0.more }
 hears-follows t opening m reading from q old new left h = absurd h
 
@@ -316,7 +317,7 @@ may_be_issued (message.Commit x ep first tracker ws) = true
 may_be_issued m = false
 
 pub hears-issues-none : (t : TargetPlan) (opening : Epoch × FloorWhy) (m : TargetMemory) (reading : ℕ) (from : ActorId) (q : Message) (old new : Kept) (left : TargetMemory × Did)
-    → Hears t opening m reading from q old new left → may_be_issued q ≡ false → left.1.issued ≡ None
+    → HearsRightly t opening m reading from q old new left → may_be_issued q ≡ false → left.1.issued ≡ None
 hears-issues-none t opening m reading from (message.Fetch x op group ep first tracker r snapshot) old new left h quiet = let n : ⊥ = cc in absurd n
 hears-issues-none t opening m reading from (message.Commit x ep first tracker ws) old new left h quiet = let n : ⊥ = cc in absurd n
 hears-issues-none t opening m reading from (message.Prepare e first ws inc) old new left h quiet = (prepare-follows t opening m (prepare_request e first ws inc) h.last new left h.ends).1
@@ -324,7 +325,7 @@ hears-issues-none t opening m reading from (message.Ack x inc refusal) old new l
 hears-issues-none t opening m reading from (message.Mark inc marks) old new left h quiet = (mark-follows m from inc marks h.last new left h.ends).1
 hears-issues-none t opening m reading from (message.Marked inc ids) old new left h quiet = (marked-follows t m from.number inc ids h.last new left h.ends).1
 hears-issues-none t opening m reading from (message.Query x ask) old new left h quiet = (query-follows t m from x ask h.last new left h.ends).1
-hears-issues-none t opening m reading from (message.Verdict x ask inc v) old new left h quiet = ap (λ d. d.issued) (verdict-leaves t m reading x ask v old new left h).1
+hears-issues-none t opening m reading from (message.Verdict x ask inc v) old new left h quiet = ap (λ d. d.issued) (verdict-leaves (is_in_doubt t.me) t m reading x ask v old new left h).1
 hears-issues-none t opening m reading from q old new left h quiet = absurd h
 
 pub idles-issue-none : (settling : Bool) (t : TargetPlan) (m : TargetMemory) (old new : Kept) (left : TargetMemory × Did) → IdlesWhole settling t m old new left → left.1.issued ≡ None

@@ -1,11 +1,13 @@
 -- A target as a leader, and as a member.
-use Rattle.std.specs.Prelude.{ℕ, Bool, false, not, ◌&&◌, filter, List, Option, Some, None, if◌then◌else◌}
+use Rattle.std.specs.Prelude.{ℕ, Bool, false, not, ◌&&◌, filter, List, [], ◌∷◌, Option, Some, None, if◌then◌else◌}
 use Rattle.daos_base.specs.declared.entry.Entry.{Entry}
+use Rattle.daos_base.specs.declared.entry.Verdict.{Verdict}
+use Rattle.daos_base.specs.declared.entry.Verdict.TheVariants.{Aborted, Committed, Undecided}
 use Rattle.daos_base.specs.declared.id.AttemptId.{AttemptId}
 use Rattle.daos_model.specs.declared.durable.Durable.{Durable}
 use Rattle.daos_model.specs.Durables.{entry_of}
 use Rattle.dtx_base.specs.Joining.{MemberOf}
-use Rattle.dtx_base.specs.Leading.{LeaderOf, LeaderStep, is_led}
+use Rattle.dtx_base.specs.Leading.{LeaderOf, LeaderStep, forgotten, is_led}
 use Rattle.world_base.specs.declared.target.TargetMemory.{TargetMemory}
 use Rattle.world_base.specs.declared.target.TargetPlan.{TargetPlan}
 
@@ -22,6 +24,22 @@ leads_on s m = record m { leader = s.leader.memory }
 -- these are the decided attempts that it leads and hasn't settled
 abbrev pub with_unsettled : List AttemptId → TargetMemory → TargetMemory
 with_unsettled decided m = record m { leader = record m.leader { decided = decided } }
+
+-- ---- what others tell
+
+-- what a target knows once it was told what became of an attempt: as a leader it neither waits for it nor has to settle it
+abbrev pub told_of : AttemptId → TargetMemory → TargetMemory
+told_of a m = record m { leader = forgotten a m.leader }
+
+abbrev pub told_of_all : List AttemptId → TargetMemory → TargetMemory
+told_of_all [] m = m
+told_of_all (a ∷ ids) m = told_of_all ids (told_of a m)
+
+-- a Verdict tells it, unless it says that the attempt is undecided
+abbrev pub told_by : Verdict → AttemptId → TargetMemory → TargetMemory
+told_by Committed a m = told_of a m
+told_by Aborted a m = told_of a m
+told_by Undecided a m = m
 
 -- ---- a member
 
@@ -56,7 +74,6 @@ abbrev pub is_entry_in_doubt : ℕ → Option Entry → Bool
 is_entry_in_doubt me None = false
 is_entry_in_doubt me (Some e) = not e.committed && not (is_led me e)
 
--- An attempt is in doubt here: it is prepared, and another target leads it, whose word on it a member waits for. Of what a target leads
--- itself it takes nobody's word.
+-- an attempt is in doubt here: it is prepared, and another target leads it, whose word on it a member waits for
 unfoldable pub is_in_doubt : ℕ → AttemptId → Durable → Bool
 is_in_doubt me a d = is_entry_in_doubt me (entry_of d a)

@@ -10,6 +10,7 @@ use Rattle.daos_messages.specs.declared.actor.ActorId.{ActorId}
 use Rattle.daos_messages.specs.declared.message.Message.{Message}
 use Rattle.daos_messages.specs.declared.message.Message.TheVariants.{Ack, Commit, Fetch, Mark, Marked, Prepare, Query, Verdict}
 use Rattle.daos_model.specs.declared.durable.Durable.{Durable}
+use Rattle.dtx_base.specs.Leading.{attempts_of}
 use Rattle.world_base.specs.declared.did.Did.{Did}
 use Rattle.world_base.specs.declared.request.CommitRequest.{CommitRequest}
 use Rattle.world_base.specs.declared.request.FetchRequest.{FetchRequest}
@@ -23,6 +24,7 @@ use Rattle.world_base.specs.Idle.{IdleEnds, IdleNext}
 use Rattle.world_base.specs.Marks.{MarkEnds, MarkNext}
 use Rattle.world_base.specs.Prepares as prepare
 use Rattle.world_base.specs.Reads as read
+use Rattle.world_base.specs.Roles.{is_prepared, told_by, told_of_all}
 use Rattle.world_base.specs.Turns.{CutShort, Whole}
 use Rattle.world_base.specs.Verdicts as verdict
 
@@ -51,8 +53,14 @@ prepare_request e first ws inc = record { entry = e; first = first; writes = ws;
 
 -- ---- hearing
 
--- a target hears a message: what it then keeps and knows, and what follows
-abbrev pub Hears : TargetPlan → Epoch × FloorWhy → TargetMemory → ℕ → ActorId → Message → Kept → Kept → TargetMemory × Did → Type 0
+-- a turn in which a target of this plan and opening hears, knowing this, at a reading of its clock, a message of an actor: from what is
+-- kept before it to what is kept after it, and to what is known then and what follows
+abbrev pub Hearing : Type 1
+Hearing = TargetPlan → Epoch × FloorWhy → TargetMemory → ℕ → ActorId → Message → Kept → Kept → TargetMemory × Did → Type 0
+
+-- A target hears a message: what it then keeps and knows, and what follows. A Mark and a Verdict settle what is prepared here, whoever
+-- leads it.
+abbrev pub Hears : Hearing
 Hears t opening m reading from (Fetch x op group ep first tracker r snapshot) old new left =
     Whole (read.FetchNext t m reading (fetch_request x op group ep first tracker r snapshot)) (read.FetchEnds t m reading (fetch_request x op group ep first tracker r snapshot) from)
     read.Asked old new left
@@ -62,11 +70,13 @@ Hears t opening m reading from (Commit x ep first tracker ws) old new left =
 Hears t opening m reading from (Prepare e first ws inc) old new left =
     Whole (prepare.PrepareNext t opening m (prepare_request e first ws inc)) (prepare.PrepareEnds t opening m (prepare_request e first ws inc)) prepare.Heard old new left
 Hears t opening m reading from (Ack x inc refusal) old new left = Whole (ack.AckNext t m from.number x inc refusal) (ack.AckEnds m) ack.Heard old new left
-Hears t opening m reading from (Mark inc marks) old new left = Whole (MarkNext t.me) (MarkEnds m from inc marks) marks old new left
+Hears t opening m reading from (Mark inc marks) old new left =
+    Whole (MarkNext is_prepared) (MarkEnds (told_of_all (attempts_of marks) m) from inc marks) marks old new left
 Hears t opening m reading from (Marked inc ids) old new left =
     Whole (ack.MarkedNext t m from.number) (ack.MarkedEnds t m from.number inc ids) (ack.to_confirm inc ids old.durable) old new left
 Hears t opening m reading from (Query x ask) old new left = Whole verdict.QueryNext (verdict.QueryEnds t m from x ask) verdict.IsAsked old new left
-Hears t opening m reading from (Verdict x ask inc v) old new left = Whole (verdict.VerdictNext t m reading x ask v) verdict.VerdictEnds verdict.Heard old new left
+Hears t opening m reading from (Verdict x ask inc v) old new left =
+    Whole (verdict.VerdictNext is_prepared t (told_by v x m) reading x ask v) verdict.VerdictEnds verdict.Heard old new left
 Hears t opening m reading from other old new left = ⊥
 
 -- a turn in which a target hears a message was cut short
@@ -77,10 +87,11 @@ HearsCut t opening m reading from (Commit x ep first tracker ws) old finds =
     CutShort (commit.CommitNext t opening m reading (commit_request x ep first tracker ws)) commit.Asked old finds
 HearsCut t opening m reading from (Prepare e first ws inc) old finds = CutShort (prepare.PrepareNext t opening m (prepare_request e first ws inc)) prepare.Heard old finds
 HearsCut t opening m reading from (Ack x inc refusal) old finds = CutShort (ack.AckNext t m from.number x inc refusal) ack.Heard old finds
-HearsCut t opening m reading from (Mark inc marks) old finds = CutShort (MarkNext t.me) marks old finds
+HearsCut t opening m reading from (Mark inc marks) old finds = CutShort (MarkNext is_prepared) marks old finds
 HearsCut t opening m reading from (Marked inc ids) old finds = CutShort (ack.MarkedNext t m from.number) (ack.to_confirm inc ids old.durable) old finds
 HearsCut t opening m reading from (Query x ask) old finds = CutShort verdict.QueryNext verdict.IsAsked old finds
-HearsCut t opening m reading from (Verdict x ask inc v) old finds = CutShort (verdict.VerdictNext t m reading x ask v) verdict.Heard old finds
+HearsCut t opening m reading from (Verdict x ask inc v) old finds =
+    CutShort (verdict.VerdictNext is_prepared t (told_by v x m) reading x ask v) verdict.Heard old finds
 HearsCut t opening m reading from other old finds = ⊥
 
 -- ---- idle work

@@ -26,6 +26,8 @@ use Rattle.world_base.specs.Marks as mark
 use Rattle.world_base.specs.PathLaws.{reached-keeps, whole-leaves}
 use Rattle.world_base.specs.Prepares as prepare
 use Rattle.world_base.specs.Reads as read
+use Rattle.world_base.specs.RightTurns.{HearsRightly}
+use Rattle.world_base.specs.Roles.{is_in_doubt, is_prepared, told_by}
 use Rattle.world_base.specs.TargetTurns.{Hears, IdlesWhole, commit_request, fetch_request, prepare_request}
 use Rattle.world_base.specs.Turns.{Whole}
 use Rattle.world_base.specs.Verdicts as verdict
@@ -79,9 +81,9 @@ ack-raises : (t : TargetPlan) (m : TargetMemory) (member : ℕ) (a : AttemptId) 
 ack-raises t m member a inc refusal s k o u (ack.Aborts j is) = tt
 ack-raises t m member a inc refusal s k o u (ack.Counts j is) = tt
 
-mark-raises : (me : ℕ) → RaisesAll (mark.MarkNext me)
-mark-raises me s k o u (mark.SettlesMarked j a committed rest is) = tt
-mark-raises me s k o u (mark.PassesBy j a committed rest is) = tt
+mark-raises : (is_due : AttemptId → Durable → Bool) → RaisesAll (mark.MarkNext is_due)
+mark-raises is_due s k o u (mark.SettlesMarked j a committed rest is) = tt
+mark-raises is_due s k o u (mark.PassesBy j a committed rest is) = tt
 
 marked-raises : (t : TargetPlan) (m : TargetMemory) (member : ℕ) → RaisesAll (ack.MarkedNext t m member)
 marked-raises t m member s k o u (ack.Confirms j a rest is) = tt
@@ -94,11 +96,11 @@ settling-raises : (a : AttemptId) (d : Durable) (step : Option Settle) → Raise
 settling-raises a d None = tt
 settling-raises a d (Some step) = tt
 
-verdict-raises : (t : TargetPlan) (m : TargetMemory) (reading : ℕ) (a : AttemptId) (ask : Option AttemptId) (v : Verdict) → RaisesAll (verdict.VerdictNext t m reading a ask v)
-verdict-raises t m reading a ask v s k o u (verdict.SettlesBy j p is) = subst (Raises k.durable) (sym is) (settling-raises a k.durable (verdict.settles_by t.me v a k.durable))
-verdict-raises t m reading a ask v s k o u (verdict.TriesNext j n posts rest x op group ep first tracker r snapshot) = tt
-verdict-raises t m reading a ask v s k o u (verdict.GoesOn j n posts rest q i z p next) = fetch-raises t n reading q i k o z next
-verdict-raises t m reading a ask v s k o u (verdict.IsDone j n posts rest q i left ends) = tt
+verdict-raises : (is_due : AttemptId → Durable → Bool) (t : TargetPlan) (m : TargetMemory) (reading : ℕ) (a : AttemptId) (ask : Option AttemptId) (v : Verdict) → RaisesAll (verdict.VerdictNext is_due t m reading a ask v)
+verdict-raises is_due t m reading a ask v s k o u (verdict.SettlesBy j p is) = subst (Raises k.durable) (sym is) (settling-raises a k.durable (verdict.settles_by is_due v a k.durable))
+verdict-raises is_due t m reading a ask v s k o u (verdict.TriesNext j n posts rest x op group ep first tracker r snapshot) = tt
+verdict-raises is_due t m reading a ask v s k o u (verdict.GoesOn j n posts rest q i z p next) = fetch-raises t n reading q i k o z next
+verdict-raises is_due t m reading a ask v s k o u (verdict.IsDone j n posts rest q i left ends) = tt
 
 idle-raises : RaisesAll IdleNext
 idle-raises s k o u (SettlesFirst j a rest) = tt
@@ -109,10 +111,10 @@ hears-raises t opening m reading from (message.Fetch x op group ep first tracker
 hears-raises t opening m reading from (message.Commit x ep first tracker ws) old new left h = whole-raises _ _ _ old new left (commit-raises t opening m reading (commit_request x ep first tracker ws)) h
 hears-raises t opening m reading from (message.Prepare e first ws inc) old new left h = whole-raises _ _ _ old new left (prepare-raises t opening m (prepare_request e first ws inc)) h
 hears-raises t opening m reading from (message.Ack x inc refusal) old new left h = whole-raises _ _ _ old new left (ack-raises t m from.number x inc refusal) h
-hears-raises t opening m reading from (message.Mark inc marks) old new left h = whole-raises _ _ _ old new left (mark-raises t.me) h
+hears-raises t opening m reading from (message.Mark inc marks) old new left h = whole-raises _ _ _ old new left (mark-raises is_prepared) h
 hears-raises t opening m reading from (message.Marked inc ids) old new left h = whole-raises _ _ _ old new left (marked-raises t m from.number) h
 hears-raises t opening m reading from (message.Query x ask) old new left h = whole-raises _ _ _ old new left query-raises h
-hears-raises t opening m reading from (message.Verdict x ask inc v) old new left h = whole-raises _ _ _ old new left (verdict-raises t m reading x ask v) h
+hears-raises t opening m reading from (message.Verdict x ask inc v) old new left h = whole-raises _ _ _ old new left (verdict-raises is_prepared t (told_by v x m) reading x ask v) h
 hears-raises t opening m reading from q old new left h = absurd h
 
 -- ---- every turn
@@ -131,6 +133,29 @@ hears-keeps t opening m reading from q old new left h = record {
   snaps = hears-leaves (λ d. d.snaps) snaps-made t opening m reading from q old new left h;
   incarnation = hears-leaves (λ d. d.incarnation) incarnation-made t opening m reading from q old new left h;
   lease = hears-raises t opening m reading from q old new left h;
+}
+
+-- and where what is settled is in doubt
+module _ {T : Type 0} (part : Durable → T) (leaves : (c : Change) (d : Durable) → part (made c d) ≡ part d) where
+  rightly-leaves : (t : TargetPlan) (opening : Epoch × FloorWhy) (m : TargetMemory) (reading : ℕ) (from : ActorId) (q : Message) (old new : Kept) (left : TargetMemory × Did)
+      → HearsRightly t opening m reading from q old new left → part new.durable ≡ part old.durable
+  rightly-leaves t opening m reading from (message.Mark inc marks) old new left h = whole-leaves part leaves _ _ _ old new left h
+  rightly-leaves t opening m reading from (message.Verdict x ask inc v) old new left h = whole-leaves part leaves _ _ _ old new left h
+  rightly-leaves t opening m reading from q old new left h = hears-leaves part leaves t opening m reading from q old new left h
+
+rightly-raises : (t : TargetPlan) (opening : Epoch × FloorWhy) (m : TargetMemory) (reading : ℕ) (from : ActorId) (q : Message) (old new : Kept) (left : TargetMemory × Did)
+    → HearsRightly t opening m reading from q old new left → LeaseRises old.durable new.durable
+rightly-raises t opening m reading from (message.Mark inc marks) old new left h = whole-raises _ _ _ old new left (mark-raises (is_in_doubt t.me)) h
+rightly-raises t opening m reading from (message.Verdict x ask inc v) old new left h = whole-raises _ _ _ old new left (verdict-raises (is_in_doubt t.me) t m reading x ask v) h
+rightly-raises t opening m reading from q old new left h = hears-raises t opening m reading from q old new left h
+
+pub rightly-keeps : (t : TargetPlan) (opening : Epoch × FloorWhy) (m : TargetMemory) (reading : ℕ) (from : ActorId) (q : Message) (old new : Kept) (left : TargetMemory × Did)
+    → HearsRightly t opening m reading from q old new left → KeepsAs old.durable new.durable
+rightly-keeps t opening m reading from q old new left h = record {
+  conts = rightly-leaves (λ d. d.conts) conts-made t opening m reading from q old new left h;
+  snaps = rightly-leaves (λ d. d.snaps) snaps-made t opening m reading from q old new left h;
+  incarnation = rightly-leaves (λ d. d.incarnation) incarnation-made t opening m reading from q old new left h;
+  lease = rightly-raises t opening m reading from q old new left h;
 }
 
 pub idles-keeps : (settling : Bool) (t : TargetPlan) (m : TargetMemory) (old new : Kept) (left : TargetMemory × Did) → IdlesWhole settling t m old new left → KeepsAs old.durable new.durable

@@ -1,4 +1,4 @@
--- A leader hears a Query, and a member the Verdict on it.
+-- A leader hears a Query, and another target the Verdict on it.
 use Rattle.std.specs.Prelude.{ℕ, ◌≡◌, ◌++◌, Bool, true, false, List, [], ◌∷◌, Option, Some, None}
 use Rattle.daos_base.specs.declared.entry.Settle.{Settle}
 use Rattle.daos_base.specs.declared.entry.Settle.TheVariants.{Abort, Commit}
@@ -21,7 +21,7 @@ use Rattle.world_base.specs.declared.target.TargetPlan.{TargetPlan}
 use Rattle.world_base.specs.Changes.{Change, Kept, Settles}
 use Rattle.world_base.specs.Reads.{Asked, FetchEnds, FetchNext, FetchStage}
 use Rattle.world_base.specs.Requests.{says, sends}
-use Rattle.world_base.specs.Roles.{is_in_doubt, joins_on, leader_at, member_at}
+use Rattle.world_base.specs.Roles.{joins_on, leader_at, member_at}
 
 -- ---- a Query
 
@@ -52,9 +52,9 @@ abbrev pub step_if : Bool → Option Settle → Option Settle
 step_if false step = None
 step_if true step = step
 
--- an attempt is settled so, where it is still in doubt here
-abbrev pub settles_by : ℕ → Verdict → AttemptId → Durable → Option Settle
-settles_by me v a d = step_if (is_in_doubt me a d) (step_by v)
+-- an attempt is settled so, where it is due
+abbrev pub settles_by : (AttemptId → Durable → Bool) → Verdict → AttemptId → Durable → Option Settle
+settles_by is_due v a d = step_if (is_due a d) (step_by v)
 
 abbrev pub settling_change : AttemptId → Option Settle → Option Change
 settling_change a None = None
@@ -74,17 +74,18 @@ pub data VerdictStage : Type 0 where
 abbrev pub freed_by : MemberStep → TargetMemory → VerdictStage
 freed_by s m = Freed s.freed.again (joins_on s.member m) s.freed.posts
 
--- The steps of a Verdict: the attempt is settled, where it is still in doubt; then the Fetches that wait for it are tried again, in
--- the order in which they were parked, each as a Fetch at its own epoch, with what is known after the one before.
-pub data VerdictNext (t : TargetPlan) (m : TargetMemory) (reading : ℕ) (a : AttemptId) (ask : Option AttemptId) (v : Verdict) : VerdictStage → Kept → Option Change → VerdictStage → Type 0 where
-  SettlesBy : (k : Kept) (o : Option Change) → o ≡ settling_change a (settles_by t.me v a k.durable) → VerdictNext t m reading a ask v Heard k o (freed_by (verdict_heard a ask v (member_at t m)) m)
+-- The steps of a Verdict: the attempt is settled, where it is due, as of a Mark; then the Fetches that wait for it are tried again, in
+-- the order in which they were parked, each as a Fetch at its own epoch, with what is known after the one before. This is what is
+-- known once the attempt is settled.
+pub data VerdictNext (is_due : AttemptId → Durable → Bool) (t : TargetPlan) (m : TargetMemory) (reading : ℕ) (a : AttemptId) (ask : Option AttemptId) (v : Verdict) : VerdictStage → Kept → Option Change → VerdictStage → Type 0 where
+  SettlesBy : (k : Kept) (o : Option Change) → o ≡ settling_change a (settles_by is_due v a k.durable) → VerdictNext is_due t m reading a ask v Heard k o (freed_by (verdict_heard a ask v (member_at t m)) m)
   TriesNext : (k : Kept) (n : TargetMemory) (posts : List Post) (rest : List Message) (x : AttemptId) (op group : ℕ) (ep first : Option Epoch) (tracker : Epoch) (r : Read) (snapshot : Bool)
-      → VerdictNext t m reading a ask v (Freed (message.Fetch x op group ep first tracker r snapshot ∷ rest) n posts) k None
+      → VerdictNext is_due t m reading a ask v (Freed (message.Fetch x op group ep first tracker r snapshot ∷ rest) n posts) k None
       (Trying (record { attempt = x; op = op; group = group; ep = ep; first = first; tracker = tracker; read = r; snapshot = snapshot }) Asked rest n posts)
   GoesOn : (k : Kept) (n : TargetMemory) (posts : List Post) (rest : List Message) (q : FetchRequest) (s u : FetchStage) (o : Option Change) → FetchNext t n reading q s k o u
-      → VerdictNext t m reading a ask v (Trying q s rest n posts) k o (Trying q u rest n posts)
+      → VerdictNext is_due t m reading a ask v (Trying q s rest n posts) k o (Trying q u rest n posts)
   IsDone : (k : Kept) (n : TargetMemory) (posts : List Post) (rest : List Message) (q : FetchRequest) (s : FetchStage) (left : TargetMemory × Did) → FetchEnds t n reading q (fetcher q) s k left
-      → VerdictNext t m reading a ask v (Trying q s rest n posts) k None (Freed rest left.0 (posts ++ left.1.posts))
+      → VerdictNext is_due t m reading a ask v (Trying q s rest n posts) k None (Freed rest left.0 (posts ++ left.1.posts))
 
 -- a Verdict ends when no Fetch is left
 pub data VerdictEnds : VerdictStage → Kept → TargetMemory × Did → Type 0 where

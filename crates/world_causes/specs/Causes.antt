@@ -38,7 +38,7 @@ use Rattle.world_base.specs.declared.target.Life.TheVariants.{Running}
 use Rattle.world_base.specs.declared.world.World.{World}
 use Rattle.world_base.specs.ClientTurns.{told_by_message}
 use Rattle.world_epochs.specs.Epochs.{BearsEpoch, IsPresent}
-use Rattle.world_base.specs.Events.{ByClient, ByTarget, Event, Rules, ToClient, ToTarget}
+use Rattle.world_base.specs.Events.{ByClient, ByTarget, RightEvent, Rules, ToClient, ToTarget}
 use Rattle.world_base.specs.Letters.{client}
 
 -- attempts with the epochs that were issued to them
@@ -243,7 +243,7 @@ abbrev pub stored_by : ℕ → Durable → Durable → Stored
 stored_by t old new = map (stored_as t) (filter (is_new_to old) new.entries)
 
 -- which attempts an event stores, and where
-abbrev pub stored_in : (r : Rules) (w v : World) → Event r w v → Stored
+abbrev pub stored_in : (r : Rules) (w v : World) → RightEvent r w v → Stored
 stored_in r w v (ByClient g) = []
 stored_in r w v (ToClient g) = []
 stored_in r w v (ToTarget g) = stored_by g.t g.s.durable g.new.durable

@@ -1,4 +1,4 @@
--- Every event keeps that first epochs are those of attempts 0.
+-- Every right event keeps that first epochs are those of attempts 0.
 use Rattle.std.specs.Prelude.{ℕ, ◌≡◌, ◌<◌, ◌++◌, Bool, true, false, is_some, List, slice_get, Contains, Option, Some, None, refl, if◌then◌else◌}
 use Rattle.std.proofs.Common.{inl, inr, sym, ◌∙◌, ap, subst}
 use Rattle.std.proofs.Math.ListN.{set}
@@ -27,7 +27,7 @@ use Rattle.world_epochs.specs.Carried.{talks-once}
 use Rattle.world_epochs.specs.Epochs.{BearsEpoch, ClientsStand, Epochs, IsIssued, Unsnapped}
 use Rattle.world_epochs.specs.EventLaws as epochs
 use Rattle.world_base.specs.Events as events
-use Rattle.world_base.specs.Events.{ByClient, ByTarget, Rules, TargetHears, TargetIdles, ToClient, ToTarget, after_turn, client_plan, kept, target_after, target_plan, with_target}
+use Rattle.world_base.specs.Events.{ByClient, ByTarget, Rules, TargetHearsRightly, TargetIdles, ToClient, ToTarget, after_turn, client_plan, kept, target_after, target_plan, with_target}
 use Rattle.world_base.specs.Letters.{client, letter_of, letters_of, target}
 use Rattle.world_base.specs.StepLaws.{by-hearing, by-next}
 use Rattle.world_base.specs.Steps.{KeptByCounting, KeptByHearing, KeptByMoves}
@@ -239,7 +239,7 @@ target-knows w t s new did rest F here among posts parked = record {
   };
 }
 
-target-hears-keeps : (r : Rules) (top : ℕ) (w v : World) → Epochs r top w → Firsts w → TargetHears r w v → Firsts v
+target-hears-keeps : (r : Rules) (top : ℕ) (w v : World) → Epochs r top w → Firsts w → TargetHearsRightly r w v → Firsts v
 target-hears-keeps r top w v E F g = subst Firsts (sym g.after) (target-knows w g.t g.s (target_after g.s g.new g.memory) g.did g.rest F g.here (λ m i. left-is-among w.messages g.l g.rest m g.takes i) k.posts k.parked)
   where
     now : Dated

@@ -40,8 +40,9 @@ use Rattle.world_base.specs.PathLaws.{path-keeps}
 use Rattle.world_base.specs.Prepares as prepare
 use Rattle.world_base.specs.Reads as read
 use Rattle.world_base.specs.Requests.{fetch_message, with_ticks}
-use Rattle.world_base.specs.Roles.{joins_on, leader_at, member_at, with_unsettled}
-use Rattle.world_base.specs.TargetTurns.{Hears, IdlesWhole, commit_request, fetch_request, prepare_request}
+use Rattle.world_base.specs.RightTurns.{HearsRightly}
+use Rattle.world_base.specs.Roles.{is_in_doubt, joins_on, leader_at, member_at, with_unsettled}
+use Rattle.world_base.specs.TargetTurns.{IdlesWhole, commit_request, fetch_request, prepare_request}
 use Rattle.world_base.specs.Turns.{Whole}
 use Rattle.world_base.specs.VerdictLaws.{Tries, verdict-keeps}
 use Rattle.world_base.specs.Verdicts as verdict
@@ -242,7 +243,7 @@ module _ (issued : Dated) where
   verdict-frees t m a None how.Undecided parked dated = record { waiting = λ z i. absurd i; parked = parked; says = none-knows }
 
   verdict-knows : (t : TargetPlan) (m : TargetMemory) (reading : ℕ) (a : AttemptId) (ask : Option AttemptId) (v : Verdict) (old new : Kept) (left : TargetMemory × Did) → AreParked m.member.parked
-      → ((p : Parked) → Has p m.member.parked → HasEpoch p.ask) → Whole (verdict.VerdictNext t m reading a ask v) verdict.VerdictEnds verdict.Heard old new left → Knows left
+      → ((p : Parked) → Has p m.member.parked → HasEpoch p.ask) → Whole (verdict.VerdictNext (is_in_doubt t.me) t m reading a ask v) verdict.VerdictEnds verdict.Heard old new left → Knows left
   verdict-knows t m reading a ask v old new left parked dated w = record { posts = done.says; parked = done.parked }
     where
       goes : (q : FetchRequest) (rest : List Message) (n : TargetMemory) (posts : List Post) (k l : Kept) (z : TargetMemory × Did) → Frees (fetch_message q ∷ rest) n posts → Tries t reading n q k l z → Frees rest z.0 (posts ++ z.1.posts)
@@ -251,12 +252,12 @@ module _ (issued : Dated) where
           record { waiting = λ m i. h.waiting m (inr i); parked = e.parked; says = both-know posts z.1.posts h.says e.posts }
 
       done : Frees [] left.0 left.1.posts
-      done = (verdict-keeps t m reading a ask v old (λ asks n posts k. Frees asks n posts) (λ k steps. verdict-frees t m a ask v parked dated) goes new left w).0
+      done = (verdict-keeps (is_in_doubt t.me) t m reading a ask v old (λ asks n posts k. Frees asks n posts) (λ k steps. verdict-frees t m a ask v parked dated) goes new left w).0
 
   -- ---- all that a target hears
 
   pub hears-knows : (t : TargetPlan) (opening : Epoch × FloorWhy) (m : TargetMemory) (reading : ℕ) (from : ActorId) (q : Message) (old new : Kept) (left : TargetMemory × Did) → MessageKnows issued q → AreParked m.member.parked
-      → ((p : Parked) → Has p m.member.parked → HasEpoch p.ask) → Hears t opening m reading from q old new left → Knows left
+      → ((p : Parked) → Has p m.member.parked → HasEpoch p.ask) → HearsRightly t opening m reading from q old new left → Knows left
   hears-knows t opening m reading from (message.Fetch x op group ep first tracker r snapshot) old new left own parked dated h =
       fetch-knows t m reading (fetch_request x op group ep first tracker r snapshot) from h.last new left own parked h.ends
   hears-knows t opening m reading from (message.Commit x ep first tracker ws) old new left own parked dated h = commit-knows t opening m reading (commit_request x ep first tracker ws) from h.last new left own parked h.ends

@@ -4,7 +4,7 @@ use Rattle.world_base.specs.declared.client.ClientState.{ClientState}
 use Rattle.world_base.specs.declared.client.Present.{Present}
 use Rattle.world_base.specs.declared.world.World.{World}
 use Rattle.world_epochs.specs.Epochs.{ClientsStand, Epochs, Unsnapped}
-use Rattle.world_base.specs.Events.{Event, Rules}
+use Rattle.world_base.specs.Events.{RightEvent, Rules}
 use Rattle.world_talks.specs.Conversation.{Conversation}
 use Rattle.world_causes.specs.Causes.{Dated}
 use Rattle.world_causes.specs.Premises.{FirstsAreKnown, IsFirstKnown}
@@ -18,6 +18,6 @@ pub record Firsts (w : World) : Type 0 where
   pub clients : (n : ℕ) (c : ClientState) (a : Present) → slice_get w.clients n ≡ Some c → c.present ≡ Some a → KeepsFirst w.issued n c a
   pub messages : FirstsAreKnown w
 
--- in a run without snapshots every event keeps it
+-- in a run without snapshots every right event keeps it
 abbrev pub EventsKeepFirsts : Type 0
-EventsKeepFirsts = (r : Rules) (top : ℕ) (w v : World) → 0 < r.attempts → Unsnapped r → Conversation r w → ClientsStand r w → Epochs r top w → Firsts w → Event r w v → Firsts v
+EventsKeepFirsts = (r : Rules) (top : ℕ) (w v : World) → 0 < r.attempts → Unsnapped r → Conversation r w → ClientsStand r w → Epochs r top w → Firsts w → RightEvent r w v → Firsts v

@@ -16,7 +16,7 @@ use Rattle.world_base.specs.declared.target.TargetPlan.{TargetPlan}
 use Rattle.world_base.specs.declared.world.World.{World}
 use Rattle.world_epochs.specs.Epochs.{AsksEpoch, Epochs, IsUnissued}
 use Rattle.world_base.specs.Events as events
-use Rattle.world_base.specs.Events.{ByClient, ByTarget, Event, Rules, TargetHears, TargetIdles, ToClient, ToTarget, kept, target_plan}
+use Rattle.world_base.specs.Events.{ByClient, ByTarget, RightEvent, Rules, TargetHearsRightly, TargetIdles, ToClient, ToTarget, kept, target_plan}
 use Rattle.world_base.specs.StepLaws.{by-hearing, by-next}
 use Rattle.world_talks.specs.TalkLaws.{taken-is-among}
 use Rattle.world_base.specs.Changes.{Kept}
@@ -24,7 +24,7 @@ use Rattle.world_base.specs.Commits as commit
 use Rattle.world_base.specs.MemoryLaws.{hears-issues-none, idles-issue-none}
 use Rattle.world_base.specs.Reads as read
 use Rattle.world_base.specs.Requests.{issued_for}
-use Rattle.world_base.specs.TargetTurns.{Hears}
+use Rattle.world_base.specs.RightTurns.{HearsRightly}
 use Rattle.world_causes.specs.Causes.{Dated}
 use Rattle.world_causes.specs.Storing.{AreApart, dated_ids}
 
@@ -34,7 +34,7 @@ abbrev pub IssuedOnce : World → Type 0
 IssuedOnce w = AreApart (dated_ids w.issued)
 
 abbrev pub EventsKeepIssuedOnce : Type 0
-EventsKeepIssuedOnce = (r : Rules) (top : ℕ) (w v : World) → Epochs r top w → IssuedOnce w → Event r w v → IssuedOnce v
+EventsKeepIssuedOnce = (r : Rules) (top : ℕ) (w v : World) → Epochs r top w → IssuedOnce w → RightEvent r w v → IssuedOnce v
 
 -- ---- what a turn issues
 
@@ -66,7 +66,7 @@ commit-ends t opening m reading q from s k left (commit.IsRefused k2 e c left2 w
 commit-ends t opening m reading q from s k left (commit.HasNoSpace k2 e left2 allowed full says) = commit-issues q e q.ep left.1.issued (ap (λ o. o.1.issued) says)
 commit-ends t opening m reading q from s k left (commit.HasBegun k2 e left2 says) = commit-issues q e q.ep left.1.issued (ap (λ o. o.1.issued) says)
 
-hears-issues : (t : TargetPlan) (opening : Epoch × FloorWhy) (m : TargetMemory) (reading : ℕ) (from : ActorId) (q : Message) (old new : Kept) (left : TargetMemory × Did) → Hears t opening m reading from q old new left → Issues q left.1.issued
+hears-issues : (t : TargetPlan) (opening : Epoch × FloorWhy) (m : TargetMemory) (reading : ℕ) (from : ActorId) (q : Message) (old new : Kept) (left : TargetMemory × Did) → HearsRightly t opening m reading from q old new left → Issues q left.1.issued
 hears-issues t opening m reading from (message.Fetch x op group ep first tracker r snapshot) old new left h =
     fetch-ends t m reading (record { attempt = x; op = op; group = group; ep = ep; first = first; tracker = tracker; read = r; snapshot = snapshot }) from h.last new left h.ends
 hears-issues t opening m reading from (message.Commit x ep first tracker ws) old new left h =
@@ -100,7 +100,7 @@ not-among w x none i = let j = has-from_map (λ z. z.0) w.issued x i in none j.0
 
 -- ---- events
 
-hears-once : (r : Rules) (top : ℕ) (w v : World) → Epochs r top w → IssuedOnce w → TargetHears r w v → IssuedOnce v
+hears-once : (r : Rules) (top : ℕ) (w v : World) → Epochs r top w → IssuedOnce w → TargetHearsRightly r w v → IssuedOnce v
 hears-once r top w v E k g = subst (λ is. AreApart (dated_ids is)) (sym (ap (λ x. x.issued) g.after)) (by (hears-issues (target_plan r g.t) g.s.opening g.s.memory g.reading g.l.from g.l.message (kept g.s) g.new (g.memory, g.did) g.turn))
   where
     by : Issues g.l.message g.did.issued → AreApart (dated_ids (w.issued ++ events.listed g.did.issued))

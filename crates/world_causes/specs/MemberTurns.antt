@@ -31,7 +31,7 @@ use Rattle.world_base.specs.Changes.{Change, Kept, Steps}
 use Rattle.world_base.specs.Idle.{AllSettled, IdleEnds, IdleNext, SettlesFirst, batch_of, inquiry_of}
 use Rattle.world_base.specs.Marks.{AllMarked, MarkEnds, MarkNext, PassesBy, SettlesMarked}
 use Rattle.world_base.specs.PathLaws.{path-keeps}
-use Rattle.world_base.specs.Roles.{leader_at, member_at, with_unsettled}
+use Rattle.world_base.specs.Roles.{is_in_doubt, leader_at, member_at, with_unsettled}
 use Rattle.world_base.specs.TargetTurns.{IdlesWhole}
 use Rattle.world_base.specs.Turns.{Whole}
 use Rattle.world_base.specs.Verdicts as turn
@@ -207,10 +207,10 @@ module _ (r : Rules) (o : Opening) (stored : Stored) (issued : Dated) (lines : L
           quiet-leaves r o stored issued lines t m old j left (ap (λ x. x.1.issued) is) low (ap (λ x. x.0.ticks) is) within (ap (λ x. x.0.member.parked) is) meet (subst (λ x. AllShow r o stored issued lines x.1.posts) (sym is) tt)
 
   -- a Mark
-  pub mark-leaves : (from : ActorId) (inc : ℕ) (marks : List (AttemptId × Bool)) (new : Kept) (left : TargetMemory × Did) → Whole (MarkNext plan.me) (MarkEnds m from inc marks) marks old new left → Leaves r o stored issued lines t old new left
-  mark-leaves from inc marks new left w = ends w.last new left (free-path (MarkNext plan.me) cheap marks old w.reached.did w.last new w.reached.path) w.ends
+  pub mark-leaves : (from : ActorId) (inc : ℕ) (marks : List (AttemptId × Bool)) (new : Kept) (left : TargetMemory × Did) → Whole (MarkNext (is_in_doubt plan.me)) (MarkEnds m from inc marks) marks old new left → Leaves r o stored issued lines t old new left
+  mark-leaves from inc marks new left w = ends w.last new left (free-path (MarkNext (is_in_doubt plan.me)) cheap marks old w.reached.did w.last new w.reached.path) w.ends
     where
-      cheap : (s : List (AttemptId × Bool)) (j : Kept) (c : Option Change) (u : List (AttemptId × Bool)) → MarkNext plan.me s j c u → costs c ≡ 0
+      cheap : (s : List (AttemptId × Bool)) (j : Kept) (c : Option Change) (u : List (AttemptId × Bool)) → MarkNext (is_in_doubt plan.me) s j c u → costs c ≡ 0
       cheap s j c u (SettlesMarked i a committed rest prepared) = refl
       cheap s j c u (PassesBy i a committed rest prepared) = refl
 

@@ -44,8 +44,9 @@ use Rattle.world_base.specs.Marks as mark
 use Rattle.world_base.specs.PathLaws.{reached-keeps}
 use Rattle.world_base.specs.Prepares as prepare
 use Rattle.world_base.specs.Reads as read
-use Rattle.world_base.specs.Roles.{leader_at, member_at, with_unsettled}
-use Rattle.world_base.specs.TargetTurns.{Hears, IdlesWhole, commit_request, fetch_request, prepare_request}
+use Rattle.world_base.specs.RightTurns.{HearsRightly}
+use Rattle.world_base.specs.Roles.{is_in_doubt, leader_at, member_at, with_unsettled}
+use Rattle.world_base.specs.TargetTurns.{IdlesWhole, commit_request, fetch_request, prepare_request}
 use Rattle.world_base.specs.Turns.{Reached}
 use Rattle.world_base.specs.Verdicts as verdict
 use Rattle.world_causes.specs.Storing.{IsPrepareOf, RefusesAt}
@@ -252,7 +253,7 @@ module _ (old : Durable) where
     SoFarSaid (verdict.Trying q s asks n posts) = AreSaid posts
 
     verdict-next : (p : TargetPlan) (n : TargetMemory) (reading : ℕ) (a : AttemptId) (ask : Option AttemptId) (v : Verdict) (s : verdict.VerdictStage) (k : Kept) (o : Option Change) (u : verdict.VerdictStage) (l : Kept)
-        → verdict.VerdictNext p n reading a ask v s k o u → Steps o k l → SoFarSaid s → SoFarSaid u
+        → verdict.VerdictNext (is_in_doubt p.me) p n reading a ask v s k o u → Steps o k l → SoFarSaid s → SoFarSaid u
     verdict-next p n reading a ask v s k o u l (verdict.SettlesBy j c says) steps h = freed-said p a ask v n
     verdict-next p n reading a ask v s k o u l (verdict.TriesNext j i posts rest x op group ep first tracker rd snapshot) steps h = h
     verdict-next p n reading a ask v s k o u l (verdict.GoesOn j i posts rest q f g c next) steps h = h
@@ -381,8 +382,8 @@ module _ (old : Durable) where
     settling-fits P a (Some step) = tt
 
     verdict-fits : (P : AttemptId → Type 0) (p : TargetPlan) (n : TargetMemory) (reading : ℕ) (a : AttemptId) (ask : Option AttemptId) (v : Verdict) (s : verdict.VerdictStage) (j : Kept) (o : Option Change) (u : verdict.VerdictStage)
-        → verdict.VerdictNext p n reading a ask v s j o u → Fits P o
-    verdict-fits P p n reading a ask v s j o u (verdict.SettlesBy i c is) = subst (Fits P) (sym is) (settling-fits P a (verdict.settles_by p.me v a j.durable))
+        → verdict.VerdictNext (is_in_doubt p.me) p n reading a ask v s j o u → Fits P o
+    verdict-fits P p n reading a ask v s j o u (verdict.SettlesBy i c is) = subst (Fits P) (sym is) (settling-fits P a (verdict.settles_by (is_in_doubt p.me) v a j.durable))
     verdict-fits P p n reading a ask v s j o u (verdict.TriesNext i z posts rest x op group ep first tracker rd snapshot) = tt
     verdict-fits P p n reading a ask v s j o u (verdict.GoesOn i z posts rest q f g c next) = fetch-fits P p z reading q f i c g next
     verdict-fits P p n reading a ask v s j o u (verdict.IsDone i z posts rest q f left ends) = tt
@@ -392,7 +393,7 @@ module _ (old : Durable) where
     ack-fits P p n member a inc refusal s j o u (ack.Aborts i is) = tt
     ack-fits P p n member a inc refusal s j o u (ack.Counts i is) = tt
 
-    mark-fits : (P : AttemptId → Type 0) (me : ℕ) (s : List (AttemptId × Bool)) (j : Kept) (o : Option Change) (u : List (AttemptId × Bool)) → mark.MarkNext me s j o u → Fits P o
+    mark-fits : (P : AttemptId → Type 0) (me : ℕ) (s : List (AttemptId × Bool)) (j : Kept) (o : Option Change) (u : List (AttemptId × Bool)) → mark.MarkNext (is_in_doubt me) s j o u → Fits P o
     mark-fits P me s j o u (mark.SettlesMarked i a committed rest prepared) = tt
     mark-fits P me s j o u (mark.PassesBy i a committed rest prepared) = tt
 
@@ -407,7 +408,7 @@ module _ (old : Durable) where
     idle-fits P s j o u (SettlesFirst i a rest) = tt
 
     -- a target hears
-    pub hears-stores : (p : TargetPlan) (opening : Epoch × FloorWhy) (n : TargetMemory) (reading : ℕ) (from : ActorId) (m : Message) (new : Kept) (left : TargetMemory × Did) → Hears p opening n reading from m k new left → StoresAs p.me m new left.1.posts
+    pub hears-stores : (p : TargetPlan) (opening : Epoch × FloorWhy) (n : TargetMemory) (reading : ℕ) (from : ActorId) (m : Message) (new : Kept) (left : TargetMemory × Did) → HearsRightly p opening n reading from m k new left → StoresAs p.me m new left.1.posts
     hears-stores p opening n reading from (message.Fetch x op group ep first tracker r snapshot) new left h =
         let m = message.Fetch x op group ep first tracker r snapshot in
         let q = fetch_request x op group ep first tracker r snapshot in
@@ -432,7 +433,7 @@ module _ (old : Durable) where
         }
     hears-stores p opening n reading from (message.Mark inc marks) new left h =
         let m = message.Mark inc marks in
-        record { only = steps-only (mark.MarkNext p.me) (AsksFor m) (mark-fits (AsksFor m) p.me) marks k h.last new h.reached (begins-so (AsksFor m)); said = mark-said p.me m new n from inc marks h.last new left h.ends }
+        record { only = steps-only (mark.MarkNext (is_in_doubt p.me)) (AsksFor m) (mark-fits (AsksFor m) p.me) marks k h.last new h.reached (begins-so (AsksFor m)); said = mark-said p.me m new n from inc marks h.last new left h.ends }
     hears-stores p opening n reading from (message.Marked inc names) new left h =
         let m = message.Marked inc names in
         record {
@@ -445,9 +446,9 @@ module _ (old : Durable) where
     hears-stores p opening n reading from (message.Verdict x ask inc v) new left h =
         let m = message.Verdict x ask inc v in
         record {
-          only = steps-only (verdict.VerdictNext p n reading x ask v) (AsksFor m) (verdict-fits (AsksFor m) p n reading x ask v) verdict.Heard k h.last new h.reached (begins-so (AsksFor m));
+          only = steps-only (verdict.VerdictNext (is_in_doubt p.me) p n reading x ask v) (AsksFor m) (verdict-fits (AsksFor m) p n reading x ask v) verdict.Heard k h.last new h.reached (begins-so (AsksFor m));
           said = verdict-ends p.me m new h.last new left h.ends
-              (reached-keeps (verdict.VerdictNext p n reading x ask v) (λ s j. SoFarSaid p.me m new s) (verdict-next p.me m new p n reading x ask v) verdict.Heard k h.last new h.reached tt);
+              (reached-keeps (verdict.VerdictNext (is_in_doubt p.me) p n reading x ask v) (λ s j. SoFarSaid p.me m new s) (verdict-next p.me m new p n reading x ask v) verdict.Heard k h.last new h.reached tt);
         }
     hears-stores p opening n reading from m new left h = absurd h
 

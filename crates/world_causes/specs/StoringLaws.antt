@@ -1,4 +1,4 @@
--- Every event keeps that attempts are stored at most once at each target, and not where they were refused for want of space.
+-- Every right event keeps that attempts are stored at most once at each target, and not where they were refused for want of space.
 use Rattle.std.specs.Prelude.{ℕ, ◌≡◌, ◌≤◌, ◌+◌, ◌++◌, ◌⊎◌, ◌||◌, ◌&&◌, Bool, true, false, is_none, List, [], ◌∷◌, filter, find, map, Contains, slice_get, Option, Some, None, refl, if◌then◌else◌}
 use Rattle.std.proofs.Common.{append-nil, inl, inr, sym, ◌∙◌, ap, subst, arith}
 use Rattle.std.proofs.lemmas.List.Elements.{Contains-append_left}
@@ -34,7 +34,7 @@ use Rattle.world_base.specs.declared.request.CommitRequest.{CommitRequest}
 use Rattle.world_base.specs.declared.target.TargetState.{TargetState}
 use Rattle.world_base.specs.declared.world.World.{World}
 use Rattle.world_base.specs.ClientTurns.{attempt_id}
-use Rattle.world_base.specs.Events.{ByClient, ByTarget, Event, Rules, TargetHears, TargetIdles, ToClient, ToTarget, client_plan, kept, target_after, target_plan}
+use Rattle.world_base.specs.Events.{ByClient, ByTarget, RightEvent, Rules, TargetHearsRightly, TargetIdles, ToClient, ToTarget, client_plan, kept, target_after, target_plan}
 use Rattle.world_base.specs.Events as events
 use Rattle.world_base.specs.Letters.{client, letter_of, letters_of, target}
 use Rattle.world_base.specs.StepLaws.{set-here}
@@ -61,7 +61,7 @@ pub record Then (r : Rules) (h later : History) (w v : World) : Type 0 where
 
 abbrev pub EventsKeepStoring : Type 0
 EventsKeepStoring =
-    (r : Rules) (o : Opening) (h later : History) (stored : Stored) (w v : World) → Given r o h w → Causes r o stored w → Then r h later w v → Storing r h stored w → (g : Event r w v) → Storing r later (stored_in r w v g ++ stored) v
+    (r : Rules) (o : Opening) (h later : History) (stored : Stored) (w v : World) → Given r o h w → Causes r o stored w → Then r h later w v → Storing r h stored w → (g : RightEvent r w v) → Storing r later (stored_in r w v g ++ stored) v
 
 -- ---- lists
 
@@ -164,7 +164,7 @@ module _ (r : Rules) (o : Opening) (h : History) (stored : Stored) (w v : World)
       unborn (inr aborted) = new.unended aborted
 
   -- and it wasn't refused
-  module _ (g : TargetHears r w v) (x : AttemptId) (k : IsCommitOf g.l.message x) where
+  module _ (g : TargetHearsRightly r w v) (x : AttemptId) (k : IsCommitOf g.l.message x) where
     among : Contains w.messages g.l
     among = taken-is-among w.messages g.l g.rest g.takes
 
@@ -324,7 +324,7 @@ module _ (r : Rules) (h later : History) (stored : Stored) (w v : World) (T : Th
 
 -- ---- a target hears
 
-module _ (r : Rules) (o : Opening) (h later : History) (stored : Stored) (w v : World) (G : Given r o h w) (C : Causes r o stored w) (T : Then r h later w v) (S : Storing r h stored w) (g : TargetHears r w v) where
+module _ (r : Rules) (o : Opening) (h later : History) (stored : Stored) (w v : World) (G : Given r o h w) (C : Causes r o stored w) (T : Then r h later w v) (S : Storing r h stored w) (g : TargetHearsRightly r w v) where
   heard : Contains w.messages g.l
   heard = taken-is-among w.messages g.l g.rest g.takes
 

@@ -37,7 +37,7 @@ use Rattle.world_base.specs.declared.target.TargetState.{TargetState}
 use Rattle.world_base.specs.declared.target.Life.TheVariants.{Running}
 use Rattle.world_base.specs.declared.world.World.{World}
 use Rattle.world_epochs.specs.Epochs.{IsPresent}
-use Rattle.world_base.specs.Events.{Rules, TargetHears, TargetIdles, after_turn, kept, listed, target_after, target_plan, with_epoch, with_target}
+use Rattle.world_base.specs.Events.{Rules, TargetHearsRightly, TargetIdles, after_turn, kept, listed, target_after, target_plan, with_epoch, with_target}
 use Rattle.world_base.specs.Letters.{client, letter_of, letters_of, target}
 use Rattle.world_talks.specs.InFlight.{OpenIs, open-is}
 use Rattle.world_talks.specs.TalkLaws.{left-is-among, taken-is-among}
@@ -45,9 +45,10 @@ use Rattle.world_base.specs.Acks as ack
 use Rattle.world_base.specs.Changes.{Kept}
 use Rattle.world_base.specs.MemoryLaws.{hears-follows, idles-follows}
 use Rattle.world_base.specs.Reads as read
+use Rattle.world_base.specs.RightTurns.{HearsRightly}
 use Rattle.world_base.specs.Roles.{leader_at}
-use Rattle.world_base.specs.TargetTurns.{Hears, commit_request, fetch_request, prepare_request}
-use Rattle.world_base.specs.TurnLaws.{hears-keeps, idles-keeps}
+use Rattle.world_base.specs.TargetTurns.{commit_request, fetch_request, prepare_request}
+use Rattle.world_base.specs.TurnLaws.{idles-keeps, rightly-keeps}
 use Rattle.world_base.specs.Turns.{Whole}
 use Rattle.world_causes.specs.Causes.{Causes, Dated, EndsOf, IsAskedFor, IsUnanswered, IsUndecidedFor, MeetsOther, MessageShows, Stored, blocks_of_stored, epochs_told, limit, stored_by}
 use Rattle.world_causes.specs.CommitTurns.{commit-leaves, space-same}
@@ -239,8 +240,8 @@ module _ (r : Rules) (o : Opening) (h : History) (stored : Stored) (w : World) (
 
 -- ---- a target hears
 
-hears-leaves : (r : Rules) (o : Opening) (h : History) (stored : Stored) (w v : World) (G : Given r o h w) (C : Causes r o stored w) (g : TargetHears r w v) (said : Message) → g.l.message ≡ said
-    → Hears (target_plan r g.t) g.s.opening g.s.memory g.reading g.l.from said (kept g.s) g.new (g.memory, g.did) → Leaves r o stored w.issued w.lines g.t (kept g.s) g.new (g.memory, g.did)
+hears-leaves : (r : Rules) (o : Opening) (h : History) (stored : Stored) (w v : World) (G : Given r o h w) (C : Causes r o stored w) (g : TargetHearsRightly r w v) (said : Message) → g.l.message ≡ said
+    → HearsRightly (target_plan r g.t) g.s.opening g.s.memory g.reading g.l.from said (kept g.s) g.new (g.memory, g.did) → Leaves r o stored w.issued w.lines g.t (kept g.s) g.new (g.memory, g.did)
 hears-leaves r o h stored w v G C g said is turn = by said is turn
   where
     among : Contains w.messages g.l
@@ -261,7 +262,7 @@ hears-leaves r o h stored w v G C g said is turn = by said is turn
         fetch-ends r o (stored_by g.t g.s.durable g.new.durable ++ stored) w.issued w.lines (target_plan r g.t) g.s.opening g.s.memory g.reading q g.l.from (kept g.s) (target-is r o h w G stored C g.t g.s g.here) f.0 f.1 ticks meet w'.last g.new (g.memory, g.did) so w'.ends in
         record { posts = k.posts; ticks = k.ticks; dated = k.dated; space = space-same r.script g.t stored (kept g.s) g.new so.lasts.free; parked = k.parked }
 
-    by : (m : Message) → g.l.message ≡ m → Hears (target_plan r g.t) g.s.opening g.s.memory g.reading g.l.from m (kept g.s) g.new (g.memory, g.did) → Leaves r o stored w.issued w.lines g.t (kept g.s) g.new (g.memory, g.did)
+    by : (m : Message) → g.l.message ≡ m → HearsRightly (target_plan r g.t) g.s.opening g.s.memory g.reading g.l.from m (kept g.s) g.new (g.memory, g.did) → Leaves r o stored w.issued w.lines g.t (kept g.s) g.new (g.memory, g.did)
     by (message.Fetch x op group ep first tracker y snapshot) is k = fetch (fetch_request x op group ep first tracker y snapshot) is k
     by (message.Commit x ep first tracker ws) is k =
         let c = hears-commit r o h w G stored C g.t g.s g.here g.l g.rest g.takes (commit_request x ep first tracker ws) g.to_it is in
@@ -283,12 +284,12 @@ hears-leaves r o h stored w v G C g said is turn = by said is turn
         (opens-here r o h w G g.t g.s g.here) C.bounded.issued g.t g.new (g.memory, g.did) k
     by m is k = absurd k
 
-pub target-hears-keeps : (r : Rules) (o : Opening) (h : History) (stored : Stored) (w v : World) → Given r o h w → Causes r o stored w → (g : TargetHears r w v) → Causes r o (stored_by g.t g.s.durable g.new.durable ++ stored) v
+pub target-hears-keeps : (r : Rules) (o : Opening) (h : History) (stored : Stored) (w v : World) → Given r o h w → Causes r o stored w → (g : TargetHearsRightly r w v) → Causes r o (stored_by g.t g.s.durable g.new.durable ++ stored) v
 target-hears-keeps r o h stored w v G C g =
     subst (Causes r o (stored_by g.t g.s.durable g.new.durable ++ stored)) (sym g.after)
     (leaves-keep r o stored w g.t g.s g.new g.memory g.did g.rest C g.here (λ l i. left-is-among w.messages g.l g.rest l g.takes i)
     (hears-follows (target_plan r g.t) g.s.opening g.s.memory g.reading g.l.from g.l.message (kept g.s) g.new (g.memory, g.did) g.turn).lines
-    (hears-keeps (target_plan r g.t) g.s.opening g.s.memory g.reading g.l.from g.l.message (kept g.s) g.new (g.memory, g.did) g.turn).conts
+    (rightly-keeps (target_plan r g.t) g.s.opening g.s.memory g.reading g.l.from g.l.message (kept g.s) g.new (g.memory, g.did) g.turn).conts
     (hears-leaves r o h stored w v G C g g.l.message refl g.turn))
 
 -- ---- a target does its idle work

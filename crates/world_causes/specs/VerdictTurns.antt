@@ -141,7 +141,7 @@ module _ (r : Rules) (o : Opening) (stored : Stored) (issued : Dated) (lines : L
   VerdictSoFar (turn.Freed again n posts) k = Frees again n posts × Lasts t lines (top o) old n.leader.decided k
   VerdictSoFar (turn.Trying q s again n posts) k = Tries q s k again n posts
 
-  settles : (s : Option Settle) (k l : Kept) → s ≡ turn.settles_by t.me v a k.durable → Steps (turn.settling_change a s) k l → Lasts t lines (top o) old m.leader.decided k → Lasts t lines (top o) old m.leader.decided l
+  settles : (s : Option Settle) (k l : Kept) → s ≡ turn.settles_by (is_in_doubt t.me) v a k.durable → Steps (turn.settling_change a s) k l → Lasts t lines (top o) old m.leader.decided k → Lasts t lines (top o) old m.leader.decided l
   settles None k l is st h = lasts-rests t lines (top o) old m.leader.decided k l st h
   settles (Some Commit) k l is st h = lasts-known t lines (top o) old (filter (is_other_attempt a) m.leader.decided) m.leader.decided l (λ b i. (has-from_filter (is_other_attempt a) m.leader.decided b i).0) (lasts-committed t lines (top o) old m.leader.decided a k l st h)
   settles (Some Abort) k l is st h = lasts-aborted t lines (top o) old m.leader.decided a k l st h
@@ -204,8 +204,8 @@ module _ (r : Rules) (o : Opening) (stored : Stored) (issued : Dated) (lines : L
               → x ≡ x2 → op ≡ op2 → group ≡ group2 → ep ≡ ep2 → first ≡ first2 → k ≡ k2 → y ≡ y2 → b ≡ b2 → fetch_request x op group ep first k y b ≡ fetch_request x2 op2 group2 ep2 first2 k2 y2 b2
           parts x op group ep first k y b x2 op2 group2 ep2 first2 k2 y2 b2 e1 e2 e3 e4 e5 e6 e7 e8 = rw (e1, e2, e3, e4, e5, e6, e7, e8) refl
 
-  verdict-step : (s : turn.VerdictStage) (k : Kept) (c : Option Change) (u : turn.VerdictStage) (l : Kept) → turn.VerdictNext t m reading a ask v s k c u → Steps c k l → VerdictSoFar s k → VerdictSoFar u l
-  verdict-step s k c u l (turn.SettlesBy j d is) st h = (frees v refl, settles (turn.settles_by t.me v a k.durable) k l refl (subst (λ z. Steps z k l) is st) h)
+  verdict-step : (s : turn.VerdictStage) (k : Kept) (c : Option Change) (u : turn.VerdictStage) (l : Kept) → turn.VerdictNext (is_in_doubt t.me) t m reading a ask v s k c u → Steps c k l → VerdictSoFar s k → VerdictSoFar u l
+  verdict-step s k c u l (turn.SettlesBy j d is) st h = (frees v refl, settles (turn.settles_by (is_in_doubt t.me) v a k.durable) k l refl (subst (λ z. Steps z k l) is st) h)
   verdict-step s k c u l (turn.TriesNext j n posts rest x op group ep first tracker y snapshot) st h =
       let q : FetchRequest = record { attempt = x; op = op; group = group; ep = ep; first = first; tracker = tracker; read = y; snapshot = snapshot } in
       let z = tries q (message.Fetch x op group ep first tracker y snapshot) refl (h.0.fit (message.Fetch x op group ep first tracker y snapshot) (inl refl)) in
@@ -229,7 +229,7 @@ module _ (r : Rules) (o : Opening) (stored : Stored) (issued : Dated) (lines : L
   })
 
   -- a turn that hears a Verdict
-  pub verdict-leaves : (n : ℕ) (new : Kept) (left : TargetMemory × Did) → Whole (turn.VerdictNext t m reading a ask v) turn.VerdictEnds turn.Heard old new left → Leaves r o stored issued lines n old new left
+  pub verdict-leaves : (n : ℕ) (new : Kept) (left : TargetMemory × Did) → Whole (turn.VerdictNext (is_in_doubt t.me) t m reading a ask v) turn.VerdictEnds turn.Heard old new left → Leaves r o stored issued lines n old new left
   verdict-leaves n new left w =
       verdict-ends n w.last new left w.ends
-      (path-keeps (turn.VerdictNext t m reading a ask v) VerdictSoFar verdict-step turn.Heard old w.reached.did w.last new w.reached.path (lasts-here t lines (top o) old m.leader.decided opens))
+      (path-keeps (turn.VerdictNext (is_in_doubt t.me) t m reading a ask v) VerdictSoFar verdict-step turn.Heard old w.reached.did w.last new w.reached.path (lasts-here t lines (top o) old m.leader.decided opens))

@@ -14,7 +14,7 @@ ghost use Rattle.world_causes.specs.Unsettled.{VersionsWritten};
 /// first epoch, or another attempt in its way that wasn't answered before it began; a lack of space that
 /// all but the blocks that are left at a target went to attempts that were stored there; spent ticks that
 /// one epoch more than were issued would pass the last. A member's refusal shows its cause already. Nothing is
-/// told for want of a snapshot, and lines tell of attempts alone. So it is at the beginning, and each event keeps it. When each attempt with an epoch has its line, each that
+/// told for want of a snapshot, and lines tell of attempts alone. So it is at the beginning, and each right event keeps it. When each attempt with an epoch has its line, each that
 /// was stored at a target has one that tells of no lack of space there, and the lines of a command begin
 /// with its attempt 0, every line shows its cause in the whole list of lines.
 pub fn laws_of_causes()
@@ -24,7 +24,7 @@ pub fn laws_of_causes()
 {}
 
 /// Says what the causes stand on. The versions of targets above the opening are writes of attempts to which
-/// their epochs were issued. Every event of a run without snapshots keeps that the first epoch which goes
+/// their epochs were issued. Every right event of a run without snapshots keeps that the first epoch which goes
 /// with a request was issued to the attempt 0 of its command, that each attempt is issued an epoch at most
 /// once, and that each is stored at most once at each target, and not where it was refused for want of space.
 pub fn laws_of_premises()

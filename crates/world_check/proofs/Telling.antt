@@ -8,6 +8,7 @@ use Rattle.daos_messages.specs.declared.actor.ActorId.{ActorId}
 use Rattle.daos_messages.specs.declared.message.Message.{Message}
 use Rattle.daos_messages.specs.declared.message.Message.TheVariants as message
 use Rattle.daos_messages.specs.declared.message.Post.{Post}
+use Rattle.dtx_base.specs.Leading.{attempts_of}
 use Rattle.world_base.specs.declared.did.Did.{Did}
 use Rattle.world_base.specs.declared.letter.Letter.{Letter}
 use Rattle.world_base.specs.declared.request.PrepareRequest.{PrepareRequest}
@@ -21,6 +22,7 @@ use Rattle.world_base.specs.Changes.{Kept}
 use Rattle.world_base.specs.Idle.{AllSettled, IdleEnds}
 use Rattle.world_base.specs.Marks as mark
 use Rattle.world_base.specs.Prepares as prepare
+use Rattle.world_base.specs.Roles.{told_of_all}
 use Rattle.world_base.specs.TargetTurns.{Hears, IdlesWhole, commit_request, fetch_request, prepare_request}
 use Rattle.world_base.specs.Verdicts as verdict
 use Rattle.world_check.specs.Told.{did_told, post_of}
@@ -53,7 +55,7 @@ hears_lines t opening m reading from (message.Fetch x op group ep first tracker 
 hears_lines t opening m reading from (message.Commit x ep first tracker ws) old new left h = commit-follows t opening m reading (commit_request x ep first tracker ws) from h.last new left h.ends
 hears_lines t opening m reading from (message.Prepare e first ws inc) old new left h = prepare_lines t opening m (prepare_request e first ws inc) h.last new left h.ends
 hears_lines t opening m reading from (message.Ack x inc refusal) old new left h = ack_lines m h.last new left h.ends
-hears_lines t opening m reading from (message.Mark inc marks) old new left h = mark_lines m from inc marks h.last new left h.ends
+hears_lines t opening m reading from (message.Mark inc marks) old new left h = mark_lines (told_of_all (attempts_of marks) m) from inc marks h.last new left h.ends
 hears_lines t opening m reading from (message.Marked inc ids) old new left h = marked_lines t m from.number inc ids h.last new left h.ends
 hears_lines t opening m reading from (message.Query x ask) old new left h = query_lines t m from x ask h.last new left h.ends
 hears_lines t opening m reading from (message.Verdict x ask inc v) old new left h = verdict_lines h.last new left h.ends

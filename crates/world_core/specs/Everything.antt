@@ -19,6 +19,7 @@ use Rattle.world_asks.specs.AskLaws.{asks-kept}
 use Rattle.world_attempts.specs.Attempts.{Attempts, leader_of}
 use Rattle.world_attempts.specs.EventLaws.{attempts-kept, none-is-both}
 use Rattle.world_attempts.specs.History.{Grew, GrowsBy, History, Served, target_posts}
+use Rattle.world_attempts.specs.Rightly.{events-are-right}
 use Rattle.world_base.specs.declared.letter.Letter.{Letter}
 use Rattle.world_base.specs.declared.world.World.{World}
 use Rattle.world_core.specs.Asking.{Facts, requests-are-right}
@@ -26,7 +27,7 @@ use Rattle.world_core.specs.Commits.{commits-are-new}
 use Rattle.world_core.specs.Judged.{DecidedIssued, Judged, clients-keep-judged, lines-stand}
 use Rattle.world_epochs.specs.EpochLaws.{epochs-kept}
 use Rattle.world_epochs.specs.Epochs.{Unsnapped}
-use Rattle.world_base.specs.Events.{Begins, ByClient, ByTarget, ClientGoes, ClientHears, Event, Goes, Rules, Run, TargetHears, TargetIdles, ToClient, ToTarget}
+use Rattle.world_base.specs.Events.{Begins, ByClient, ByTarget, ClientGoes, ClientHears, Event, Goes, RightEvent, Rules, Run, TargetHearsRightly, TargetIdles, ToClient, ToTarget}
 use Rattle.world_base.specs.Letters.{client, letter_of, letters_of, target}
 use Rattle.world_gots.specs.Remembering.{AreRemembered, IsRemembered, ToldServed}
 use Rattle.world_gots.specs.TargetGots.{served-is-told}
@@ -100,7 +101,7 @@ module _ (r : Rules) (o : Opening) (held : ℕ → List Version) (h : History) (
   at-turn : Before r o held h w
   at-turn = record { given = requests-are-right r o held h w k.facts before; right = commits-are-new r o h w k.facts; attempts = k.facts.attempts; versions = k.versions; reads = k.reads }
 
-  addressed : Event r w v → AreAddressed r v
+  addressed : RightEvent r w v → AreAddressed r v
   addressed e = events-keep-addresses r w v k.facts.some k.facts.form (asks-plainly r k.facts.unsnapped) k.facts.addressed e
 
   same : Grew h h
@@ -118,10 +119,10 @@ module _ (r : Rules) (o : Opening) (held : ℕ → List Version) (h : History) (
   }
 
   -- what targets ask one another
-  asks-then : (later : History) (e : Event r w v) → GrowsBy h (target_posts e) later → Asks r later v
+  asks-then : (later : History) (e : RightEvent r w v) → GrowsBy h (target_posts e) later → Asks r later v
   asks-then later e grows = asks-kept r h later w v at-turn.right k.facts.attempts e grows (attempts-kept r h later w v at-turn.right k.facts.attempts e grows) k.asks
 
-  by-client : (g : ClientGoes r w v ⊎ ClientHears r w v) (e : Event r w v) → target_posts e ≡ [] → IsRemembered r w v h e → HoldsStill r o held h v
+  by-client : (g : ClientGoes r w v ⊎ ClientHears r w v) (e : RightEvent r w v) → target_posts e ≡ [] → IsRemembered r w v h e → HoldsStill r o held h v
   by-client g e none remembered =
       let kept = clients-keep r o held h w v k.versions k.reads g in
       record {
@@ -145,7 +146,7 @@ module _ (r : Rules) (o : Opening) (held : ℕ → List Version) (h : History) (
       }
 
   -- a target's turn
-  module _ (later : History) (e : Event r w v) (grows : GrowsBy h (target_posts e) later) (verdicts : AreAddressed r v → Verdicts r later v) where
+  module _ (later : History) (e : RightEvent r w v) (grows : GrowsBy h (target_posts e) later) (verdicts : AreAddressed r v → Verdicts r later v) where
     attempts-then : Attempts r later v
     attempts-then = attempts-kept r h later w v at-turn.right k.facts.attempts e grows
 
@@ -169,7 +170,7 @@ module _ (r : Rules) (o : Opening) (held : ℕ → List Version) (h : History) (
       gots = (served-is-told r h later w v some more (told-served r o h w k.facts) e remembered).gots;
     }
 
-  by-hearing : TargetHears r w v → HoldsStill r o held h v
+  by-hearing : TargetHearsRightly r w v → HoldsStill r o held h v
   by-hearing g = record {
     later = go.later;
     grew = record { decided = λ i j. go.grows.decided i.0 i.1 j; aborted = λ x j. go.grows.aborted x j; served = go.served };
@@ -204,11 +205,15 @@ module _ (r : Rules) (o : Opening) (held : ℕ → List Version) (h : History) (
         };
       }
 
+right-events-keep : (r : Rules) (o : Opening) (held : ℕ → List Version) (h : History) (w v : World) → 0 < r.attempts → AreBefore o held → Everything r o held h w → RightEvent r w v → HoldsStill r o held h v
+right-events-keep r o held h w v some before k (ByClient g) = by-client r o held h w v some before k (inl g) (ByClient g) refl tt
+right-events-keep r o held h w v some before k (ToClient g) = by-client r o held h w v some before k (inr g) (ToClient g) refl tt
+right-events-keep r o held h w v some before k (ToTarget g) = by-hearing r o held h w v some before k g
+right-events-keep r o held h w v some before k (ByTarget g) = by-idling r o held h w v some before k g
+
+-- every event is a right one
 pub events-keep-everything : EventsKeepEverything
-events-keep-everything r o held h w v some before k (ByClient g) = by-client r o held h w v some before k (inl g) (ByClient g) refl tt
-events-keep-everything r o held h w v some before k (ToClient g) = by-client r o held h w v some before k (inr g) (ToClient g) refl tt
-events-keep-everything r o held h w v some before k (ToTarget g) = by-hearing r o held h w v some before k g
-events-keep-everything r o held h w v some before k (ByTarget g) = by-idling r o held h w v some before k g
+events-keep-everything r o held h w v some before k e = right-events-keep r o held h w v some before k (events-are-right r h w v k.facts.attempts e)
 
 -- ---- runs
 

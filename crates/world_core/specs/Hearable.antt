@@ -29,10 +29,10 @@ use Rattle.daos_model.specs.Transactions.{attempt_ops}
 use Rattle.dtx_base.specs.Members.{is_written_at, writes_at}
 use Rattle.world_addresses.specs.Addresses.{ComesFrom, GoesTo, IsPlaced, IsTarget, crowd}
 use Rattle.world_attempts.specs.Asked.{IsCommitNew}
-use Rattle.world_attempts.specs.Attempts.{IsFromLeader, IsOther, IsPrepareRight, IsTrueOf, entry_at, entry_in, leader_of, writes_of}
+use Rattle.world_attempts.specs.Attempts.{IsOther, IsPrepareRight, IsTrueOf, entry_at, entry_in, leader_of, writes_of}
 use Rattle.world_attempts.specs.History.{Decided, History}
-use Rattle.world_attempts.specs.MemberBits.{other-no_leader}
 use Rattle.world_attempts.specs.Overs.{prepare-to}
+use Rattle.world_attempts.specs.Rightly.{letters-tell}
 use Rattle.world_base.specs.declared.letter.Letter.{Letter}
 use Rattle.world_base.specs.declared.target.TargetState.{TargetState}
 use Rattle.world_base.specs.declared.target.Life.TheVariants.{Running}
@@ -49,8 +49,8 @@ use Rattle.world_reads.specs.ListLaws.{some-in_form}
 use Rattle.world_reads.specs.Reads.{IsOfAttempt}
 use Rattle.world_reads.specs.Versions.{VersionsStand}
 use Rattle.world_base.specs.Commits.{own_writes}
-use Rattle.world_base.specs.DoubtLaws.{IsLedElsewhere}
 use Rattle.world_base.specs.Requests.{request_epoch}
+use Rattle.world_base.specs.RightTurns.{TellsOfOthers}
 use Rattle.world_core.specs.Begins.{AreEnlisted, declared_conts}
 use Rattle.world_core.specs.Sharing.{leader-writes, members-below, others-write}
 
@@ -100,23 +100,21 @@ CanHear r t d m = ⊥
 
 -- Who tells what: it is one of the targets that answers a Prepare or a Mark; and of an attempt that a target leads itself no other one tells
 -- it what became of it. So an attempt that is prepared where a Mark or a Verdict of it is heard is in doubt there.
-abbrev pub IsRightlyTold : Rules → ℕ → Durable → ActorId → Message → Type 0
-IsRightlyTold r t d from (message.Ack x inc refusal) = from.number < r.script.targets
-IsRightlyTold r t d from (message.Mark inc marks) = (x : AttemptId) (committed : Bool) → Has (x, committed) marks → IsLedElsewhere t x d
-IsRightlyTold r t d from (message.Marked inc ids) = from.number < r.script.targets
-IsRightlyTold r t d from (message.Verdict x ask inc v) = IsLedElsewhere t x d
-IsRightlyTold r t d from m = Unit {0}
+abbrev pub IsRightlyTold : Rules → ℕ → TargetState → ActorId → Message → Type 0
+IsRightlyTold r t s from (message.Ack x inc refusal) = from.number < r.script.targets
+IsRightlyTold r t s from (message.Marked inc ids) = from.number < r.script.targets
+IsRightlyTold r t s from m = TellsOfOthers t s.memory.leader s.durable m
 
 -- a letter to a target is one that it can hear, and is rightly told
-pub record IsHeardRight (r : Rules) (t : ℕ) (d : Durable) (l : Letter) : Type 0 where
-  pub can : CanHear r t d l.message
-  pub told : IsRightlyTold r t d l.from l.message
+pub record IsHeardRight (r : Rules) (t : ℕ) (s : TargetState) (l : Letter) : Type 0 where
+  pub can : CanHear r t s.durable l.message
+  pub told : IsRightlyTold r t s l.from l.message
 
 -- where all holds that events keep, and the declared containers are known, so is what goes to a running target
 abbrev pub RequestsCanBeHeard : Type 0
 RequestsCanBeHeard =
     (r : Rules) (o : Opening) (held : ℕ → List Version) (h : History) (w : World) (l : Letter) (t : ℕ) (s : TargetState) → AreBefore o held
-    → Everything r o held h w → AreEnlisted r.script s.durable → Contains w.messages l → l.to ≡ target t → slice_get w.targets t ≡ Some s → s.life ≡ Running → IsHeardRight r t s.durable l
+    → Everything r o held h w → AreEnlisted r.script s.durable → Contains w.messages l → l.to ≡ target t → slice_get w.targets t ≡ Some s → s.life ≡ Running → IsHeardRight r t s l
 
 -- ---- containers of declared objects
 
@@ -273,18 +271,11 @@ module _ (r : Rules) (o : Opening) (held : ℕ → List Version) (h : History) (
         a : IsOfAttempt r (record { by = x; op = op; group = group; target = t; read = read; epoch = record { 0 = 0 }; answer = answer.Absent })
         a = f.asked (record { 0 = 0 }) answer.Absent
 
-    -- where a target is another member of an attempt, an entry of it here names another leader
-    led-elsewhere : (x : AttemptId) (from to : ActorId) → to ≡ target t → IsFromLeader r x from to → IsLedElsewhere t x s.durable
-    led-elsewhere x from to at way e found mine =
-        let same : way.member ≡ t = ap (λ a. a.number) (sym way.receiver ∙ at) in
-        let its = (k.facts.attempts.each x).entries.one t e (entry-here x ∙ found) in
-        other-no_leader r x t (subst (IsOther r x) same way.other) (sym mine ∙ its.leader)
-
     from-target : (a : ActorId) → IsTarget (crowd r.script) a → a.number < r.script.targets
     from-target a it = subst (λ b. b.number < r.script.targets) (sym it.2) it.1
 
     -- a letter that goes to a target can be heard there
-    pub can-hear : (l : Letter) → Contains w.messages l → l.to ≡ target t → s.life ≡ Running → IsHeardRight r t s.durable l
+    pub can-hear : (l : Letter) → Contains w.messages l → l.to ≡ target t → s.life ≡ Running → IsHeardRight r t s l
     can-hear l among to runs = record { can = by l.message refl; told = its l.message refl }
       where
         right : (m : Message) → l.message ≡ m → IsMessageRight r o w t s m
@@ -316,12 +307,13 @@ module _ (r : Rules) (o : Opening) (held : ℕ → List Version) (h : History) (
         by (message.Tell tracker) it = let c = goes (message.Tell tracker) it in absurd (no-client c.0 c.2)
         by m it = absurd (goes m it)
 
-        its : (m : Message) → l.message ≡ m → IsRightlyTold r t s.durable l.from m
+        told : (m : Message) → l.message ≡ m → TellsOfOthers t s.memory.leader s.durable m
+        told m it = subst (TellsOfOthers t s.memory.leader s.durable) it (letters-tell r h w k.facts.attempts l t s (has-from_contains w.messages l among) to here)
+
+        its : (m : Message) → l.message ≡ m → IsRightlyTold r t s l.from m
         its (message.Ack x inc refusal) it = from-target l.from (comes (message.Ack x inc refusal) it)
-        its (message.Mark inc marks) it = λ x committed i. led-elsewhere x l.from l.to to (tells (message.Mark inc marks) it x committed i).way
         its (message.Marked inc ids) it = from-target l.from (comes (message.Marked inc ids) it)
-        its (message.Verdict x ask inc v) it = led-elsewhere x l.from l.to to (tells (message.Verdict x ask inc v) it).way
-        its m it = tt
+        its m it = told m it
 
 pub requests-can-be-heard : RequestsCanBeHeard
 requests-can-be-heard r o held h w l t s before k enlisted among to here runs = can-hear r o held h w before k t s here enlisted l among to runs

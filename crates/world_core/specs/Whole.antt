@@ -42,7 +42,7 @@ RunsStayWhole = (r : Rules) (o : Opening) (w v : World) → IsSimple r → IsBeg
 abbrev pub RunsCanBeHeard : Type 0
 RunsCanBeHeard =
     (r : Rules) (o : Opening) (w v : World) (l : Letter) (t : ℕ) (s : TargetState) → IsSimple r → IsBegun r o w → Run r w v → Contains v.messages l → l.to ≡ target t → slice_get v.targets t ≡ Some s
-    → IsHeardRight r t s.durable l
+    → IsHeardRight r t s l
 
 -- ---- proofs
 

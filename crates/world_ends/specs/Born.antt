@@ -22,7 +22,7 @@ use Rattle.world_attempts.specs.Working.{attempts-there, dull-no_prepare, dull-n
 use Rattle.world_base.specs.declared.letter.Letter.{Letter}
 use Rattle.world_base.specs.declared.world.World.{World}
 use Rattle.world_clients.specs.Answered.{is_refusal}
-use Rattle.world_base.specs.Events.{ByClient, ByTarget, Event, Rules, ToClient, ToTarget}
+use Rattle.world_base.specs.Events.{ByClient, ByTarget, RightEvent, Rules, ToClient, ToTarget}
 use Rattle.world_base.specs.Letters.{letter_of, letters_of, target}
 use Rattle.world_lines.specs.Lines.{Endings, TellsEnd}
 use Rattle.world_reads.specs.Growing.{committed_in, grown}
@@ -43,7 +43,7 @@ pub record Around (r : Rules) (h later : History) (w v : World) : Type 0 where
 
 -- every event leaves it born
 abbrev pub BornStays : Type 0
-BornStays = (r : Rules) (h later : History) (w v : World) (x : AttemptId) → Around r h later w v → Event r w v → IsBorn r h w x → IsBorn r later v x
+BornStays = (r : Rules) (h later : History) (w v : World) (x : AttemptId) → Around r h later w v → RightEvent r w v → IsBorn r h w x → IsBorn r later v x
 
 -- ---- with one question more in flight
 
@@ -96,7 +96,7 @@ module _ (r : Rules) (h : History) (w : World) (x : AttemptId) (m : ℕ) (other 
       still to y ep ws k = record { receiver = k.receiver; writes = k.writes; own = k.own; unstored = k.unstored; unended = k.unended }
 
 -- the same event, with it in flight
-with-event : (r : Rules) (w v : World) (l : Letter) → Event r w v → Event r (with_letter l w) (with_letter l v)
+with-event : (r : Rules) (w v : World) (l : Letter) → RightEvent r w v → RightEvent r (with_letter l w) (with_letter l v)
 with-event r w v l (ByClient g) = ByClient (record { n = g.n; c = g.c; d = g.d; did = g.did; here = g.here; turn = g.turn; after = ap (with_letter l) g.after })
 with-event r w v l (ToClient g) = ToClient (record {
   n = g.n;
@@ -130,7 +130,7 @@ with-event r w v l (ToTarget g) = ToTarget (record {
 })
 with-event r w v l (ByTarget g) = ByTarget (record { settling = g.settling; t = g.t; s = g.s; new = g.new; memory = g.memory; did = g.did; here = g.here; runs = g.runs; turn = g.turn; after = ap (with_letter l) g.after })
 
-same-posts : (r : Rules) (w v : World) (l : Letter) (e : Event r w v) → target_posts e ≡ target_posts (with-event r w v l e)
+same-posts : (r : Rules) (w v : World) (l : Letter) (e : RightEvent r w v) → target_posts e ≡ target_posts (with-event r w v l e)
 unfolding with-event
 same-posts r w v l (ByClient g) = refl
 same-posts r w v l (ToClient g) = refl
@@ -140,7 +140,7 @@ same-posts r w v l (ByTarget g) = refl
 -- ---- what is told as refused
 
 -- what a target posts is in flight then
-posted : (r : Rules) (w v : World) (e : Event r w v) (q : Post) → Has q (target_posts e) → (l : Letter) × Contains v.messages l × (l.message ≡ q.message)
+posted : (r : Rules) (w v : World) (e : RightEvent r w v) (q : Post) → Has q (target_posts e) → (l : Letter) × Contains v.messages l × (l.message ≡ q.message)
 posted r w v (ByClient g) q i = absurd i
 posted r w v (ToClient g) q i = absurd i
 posted r w v (ToTarget g) q i =
@@ -148,7 +148,7 @@ posted r w v (ToTarget g) q i =
 posted r w v (ByTarget g) q i =
     (letter_of (target g.t) q, contains-from_has v.messages (letter_of (target g.t) q) (subst (Has (letter_of (target g.t) q)) (sym (ap (λ z. z.messages) g.after)) (has-right w.messages (letters_of (target g.t) g.did.posts) (letter_of (target g.t) q) (has-map (letter_of (target g.t)) g.did.posts q i))), refl)
 
-module _ (r : Rules) (h later : History) (w v : World) (x : AttemptId) (K : Around r h later w v) (event : Event r w v) where
+module _ (r : Rules) (h later : History) (w v : World) (x : AttemptId) (K : Around r h later w v) (event : RightEvent r w v) where
   -- what the event's messages make of the history
   abbrev told : History
   told = grown h (committed_in (target_posts event)) (target_posts event) []

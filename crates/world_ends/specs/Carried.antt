@@ -10,6 +10,7 @@ use Rattle.daos_model.specs.Durables.{row_of}
 use Rattle.daos_model.specs.Opening.{Opening, top}
 use Rattle.vos_store.specs.Answers.{floor_of}
 use Rattle.world_attempts.specs.History.{History}
+use Rattle.world_attempts.specs.Rightly.{events-are-right}
 use Rattle.world_base.specs.declared.client.ClientState.{ClientState}
 use Rattle.world_base.specs.declared.letter.Letter.{Letter}
 use Rattle.world_base.specs.declared.target.TargetState.{TargetState}
@@ -29,7 +30,7 @@ use Rattle.world_causes.specs.Unsettled.{versions-prepared, versions-written}
 use Rattle.world_core.specs.Commits.{commits-are-new}
 use Rattle.world_core.specs.Everything.{AreBefore}
 use Rattle.world_core.specs.Judged.{lines-stand}
-use Rattle.world_base.specs.Events.{Begins, Event, Goes, Rules, Run}
+use Rattle.world_base.specs.Events.{Begins, Event, Goes, RightEvent, Rules, Run}
 use Rattle.world_ends.specs.Born.{born-stays}
 use Rattle.world_ends.specs.PlainCauses.{plain-causes}
 
@@ -141,7 +142,7 @@ module _ (r : Rules) (o : Opening) (held : ℕ → List Version) (h : History) (
   }
 
   -- attempts that were stored by their leaders stay so
-  then-born : (v : World) (e : Event r w v) (s : StaysWhole r o held h v) → Then r h s.still.later w v
+  then-born : (v : World) (e : RightEvent r w v) (s : StaysWhole r o held h v) → Then r h s.still.later w v
   then-born v e s = record {
     attempts = s.whole.all.facts.attempts;
     born = λ x. born-stays r h s.still.later w v x (record {
@@ -158,16 +159,20 @@ module _ (r : Rules) (o : Opening) (held : ℕ → List Version) (h : History) (
   event-carries : (v : World) → IsSimple r → Event r w v → CarriedBy r o held v
   event-carries v A e = record {
     h = s.still.later;
-    stored = stored_in r w v e ++ stored;
+    stored = stored_in r w v f ++ stored;
     carried = record {
       whole = s.whole;
-      firsts = events-keep-firsts r (top o) w v A.some_attempt A.unsnapped k.whole.all.facts.judged.spoken.talk G.stand k.whole.all.facts.judged.epochs k.firsts e;
-      once = events-keep-issued-once r (top o) w v k.whole.all.facts.judged.epochs k.once e;
-      storing = events-keep-storing r o h s.still.later stored w v G k.causes (then-born v e s) k.storing e;
-      causes = causes-kept r o h stored w v G k.causes e;
+      firsts = events-keep-firsts r (top o) w v A.some_attempt A.unsnapped k.whole.all.facts.judged.spoken.talk G.stand k.whole.all.facts.judged.epochs k.firsts f;
+      once = events-keep-issued-once r (top o) w v k.whole.all.facts.judged.epochs k.once f;
+      storing = events-keep-storing r o h s.still.later stored w v G k.causes (then-born v f s) k.storing f;
+      causes = causes-kept r o h stored w v G k.causes f;
     };
   }
     where
+      -- it is a right event
+      f : RightEvent r w v
+      f = events-are-right r h w v k.whole.all.facts.attempts e
+
       s : StaysWhole r o held h v
       s = whole-stays r o held h w v A before k.whole e
 

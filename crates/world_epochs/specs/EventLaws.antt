@@ -1,4 +1,4 @@
--- Every event of a run keeps what is said of epochs, where it keeps what is said of conversations; and it holds at the beginning.
+-- Every right event of a run keeps what is said of epochs, where it keeps what is said of conversations; and it holds at the beginning.
 use Rattle.std.specs.Prelude.{ℕ, ◌≡◌, ◌≤◌, ◌<◌, ◌-◌, ◌++◌, List, [], ◌∷◌, length, Contains, slice_get, Some, None, refl}
 use Rattle.std.proofs.Common.{append-nil, sym, subst, arith}
 use Rattle.daos_base.specs.declared.report.Attempt.{Attempt}
@@ -12,7 +12,7 @@ use Rattle.world_base.specs.declared.world.World.{World}
 use Rattle.world_base.specs.ClientTurns.{NextTurn, Skipped, Went_on, heard, moved}
 use Rattle.world_clients.specs.MoveLaws as clients
 use Rattle.world_clients.specs.Standing.{HasTold, tells}
-use Rattle.world_base.specs.Events.{ByClient, ByTarget, ClientGoes, Event, Rules, ToClient, ToTarget, after_turn, client_plan, with_client}
+use Rattle.world_base.specs.Events.{ByClient, ByTarget, ClientGoes, RightEvent, Rules, ToClient, ToTarget, after_turn, client_plan, with_client}
 use Rattle.world_base.specs.Letters.{client}
 use Rattle.world_base.specs.StepLaws.{by-going, by-hearing, by-next}
 use Rattle.world_base.specs.Steps.{KeptByCounting, KeptByHearing, KeptByMoves}
@@ -27,9 +27,9 @@ use Rattle.world_epochs.specs.TargetEvents.{hears-kept, idles-kept}
 
 -- ---- clients stand at their commands
 
--- every event keeps it
+-- every right event keeps it
 abbrev pub ClientsStandAreKept : Type 0
-ClientsStandAreKept = (r : Rules) (w v : World) → 0 < r.attempts → ClientsStand r w → Event r w v → ClientsStand r v
+ClientsStandAreKept = (r : Rules) (w v : World) → 0 < r.attempts → ClientsStand r w → RightEvent r w v → ClientsStand r v
 
 module _ (r : Rules) (some : 0 < r.attempts) where
   pub stands-by-moves : KeptByMoves r (ClientsStand r)
@@ -45,7 +45,7 @@ module _ (r : Rules) (some : 0 < r.attempts) where
   pub stands-by-counting : KeptByCounting (ClientsStand r)
   stands-by-counting w n k c here S = at-set w.clients n c (record c { skip = k }) (λ m z. (attempts : List Attempt) × HasTold (client_plan r m) z attempts) here (S n c here) (λ m z off at. S m z at)
 
-  pub clients-stand : (w v : World) → ClientsStand r w → Event r w v → ClientsStand r v
+  pub clients-stand : (w v : World) → ClientsStand r w → RightEvent r w v → ClientsStand r v
   clients-stand w v S (ByClient g) = by-next r (ClientsStand r) stands-by-moves stands-by-counting w v S g
   clients-stand w v S (ToClient g) = by-hearing r (ClientsStand r) stands-by-moves stands-by-hearing w v S g
   clients-stand w v S (ToTarget g) = subst (ClientsStand r) (sym g.after) S
@@ -140,7 +140,7 @@ module _ (r : Rules) (top : ℕ) (some : 0 < r.attempts) (U : Unsnapped r) (Talk
       by (Skipped skips says after) = rw (after, says, append-nil w.messages, append-nil w.issued, append-nil w.lines) (counting-keeps w g.n (g.c.skip - 1) g.c g.here p.2)
       by (Went_on runs did) = rw (did.issued, append-nil w.issued) (by-going r All moves-keep w g.n g.c g.d g.did.posts g.did.lines g.here p did.goes_on).2
 
-  pub event-kept : (w v : World) → Talk w → ClientsStand r w → Epochs r top w → Event r w v → Epochs r top v
+  pub event-kept : (w v : World) → Talk w → ClientsStand r w → Epochs r top w → RightEvent r w v → Epochs r top v
   event-kept w v talk S E (ByClient g) = goes-kept w v (talk, S, E) g
   event-kept w v talk S E (ToClient g) = (by-hearing r All moves-keep hearing-keeps w v (talk, S, E) g).2
   event-kept w v talk S E (ToTarget g) = hears-kept r top w v (once w talk) E g

@@ -28,7 +28,7 @@ use Rattle.world_base.specs.Idle.{AllSettled, IdleEnds, IdleNext, SettlesFirst, 
 use Rattle.world_base.specs.Marks.{AllMarked, MarkEnds, MarkNext, PassesBy, SettlesMarked}
 use Rattle.world_base.specs.PathLaws.{path-keeps}
 use Rattle.world_base.specs.Prepares as prepare
-use Rattle.world_base.specs.Roles.{leader_at, member_at, with_unsettled}
+use Rattle.world_base.specs.Roles.{is_in_doubt, leader_at, member_at, with_unsettled}
 use Rattle.world_base.specs.TargetTurns.{IdlesWhole}
 use Rattle.world_base.specs.Turns.{Path, Whole}
 use Rattle.world_base.specs.Verdicts as verdict
@@ -198,7 +198,7 @@ pub marked-leaves : (P : Known) (L : Spent) (t : TargetPlan) (m : TargetMemory) 
 marked-leaves P L t m member inc ids start low old new left parked w h =
     marked-ends P L t m member inc ids low w.last new left parked w.ends (steps-stay P low (ack.MarkedNext t m member) (marked-fits P t m member) start old w.reached.did w.last new w.reached.path h)
 
-mark-fits : (P : Known) (me : ℕ) (s : List (AttemptId × Bool)) (k : Kept) (o : Option Change) (u : List (AttemptId × Bool)) → MarkNext me s k o u → StepFits P k o
+mark-fits : (P : Known) (me : ℕ) (s : List (AttemptId × Bool)) (k : Kept) (o : Option Change) (u : List (AttemptId × Bool)) → MarkNext (is_in_doubt me) s k o u → StepFits P k o
 mark-fits P me s k o u (SettlesMarked j a committed rest prepared) = tt
 mark-fits P me s k o u (PassesBy j a committed rest prepared) = tt
 
@@ -208,9 +208,9 @@ mark-ends P L m from inc marks low s k left parked (AllMarked j i is) h =
     quiet-left P L m low k left parked (ap (λ z. z.0.member) is) (ap (λ z. z.0.ticks) is) (subst (λ z. SaysAll P L z.1.posts) (sym is) (marked-silent P L from inc (attempts_of marks), tt)) (ap (λ z. z.1.lines) is) (ap (λ z. z.1.issued) is) h
 
 pub mark-leaves : (P : Known) (L : Spent) (me : ℕ) (m : TargetMemory) (from : ActorId) (inc : ℕ) (marks : List (AttemptId × Bool)) (low : ℕ) (old new : Kept) (left : TargetMemory × Did) → AreParkedKnown P m.member.parked
-    → Whole (MarkNext me) (MarkEnds m from inc marks) marks old new left → Stays P low old → GoesOn P L m low new left
+    → Whole (MarkNext (is_in_doubt me)) (MarkEnds m from inc marks) marks old new left → Stays P low old → GoesOn P L m low new left
 mark-leaves P L me m from inc marks low old new left parked w h =
-    mark-ends P L m from inc marks low w.last new left parked w.ends (steps-stay P low (MarkNext me) (mark-fits P me) marks old w.reached.did w.last new w.reached.path h)
+    mark-ends P L m from inc marks low w.last new left parked w.ends (steps-stay P low (MarkNext (is_in_doubt me)) (mark-fits P me) marks old w.reached.did w.last new w.reached.path h)
 
 query-fits : (P : Known) (s : verdict.QueryStage) (k : Kept) (o : Option Change) (u : verdict.QueryStage) → verdict.QueryNext s k o u → StepFits P k o
 query-fits P s k o u (verdict.Answers j) = tt

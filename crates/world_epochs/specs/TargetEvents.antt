@@ -29,12 +29,13 @@ use Rattle.world_base.specs.declared.target.TargetPlan.{TargetPlan}
 use Rattle.world_base.specs.declared.target.TargetState.{TargetState}
 use Rattle.world_base.specs.declared.world.World.{World}
 use Rattle.world_base.specs.ClientTurns.{is_waiting, waits}
-use Rattle.world_base.specs.Events.{Rules, TargetHears, TargetIdles, after_turn, kept, listed, target_after, target_plan, with_epoch, with_target}
+use Rattle.world_base.specs.Events.{Rules, TargetHearsRightly, TargetIdles, after_turn, kept, listed, target_after, target_plan, with_epoch, with_target}
 use Rattle.world_base.specs.Letters.{client, is_talk_of, letter_of, letters_of, talk_of, target}
 use Rattle.world_base.specs.Acks as ack
 use Rattle.world_base.specs.Changes.{Kept}
 use Rattle.world_base.specs.Requests.{epoch_of_ticks, issued_for, request_epoch}
-use Rattle.world_base.specs.TargetTurns.{Hears, commit_request, fetch_request, prepare_request}
+use Rattle.world_base.specs.RightTurns.{HearsRightly}
+use Rattle.world_base.specs.TargetTurns.{commit_request, fetch_request, prepare_request}
 use Rattle.world_epochs.specs.CommitTurns.{IsKnownCommit, commit-leaves}
 use Rattle.world_epochs.specs.Epochs.{AsksEpoch, BearsEpoch, Epochs, IsPresent, IsTold, IsUnissued, LacksEpoch, answers_undated, reads_snapshot}
 use Rattle.world_epochs.specs.FetchTurns.{Covers, Dates, IsDated, IsKnownFetch, IsSpent, fetch-leaves}
@@ -161,7 +162,7 @@ goes-on P L t m reading said old new left g = record { leaves = g.leaves; stays 
 
 module _ (P : Known) (L : Spent) (t : TargetPlan) (opening : Epoch × FloorWhy) (m : TargetMemory) (reading : ℕ) (from : ActorId) (old new : Kept) (left : TargetMemory × Did) where
   fetch-turns : (x : AttemptId) (op group : ℕ) (ep first : Option Epoch) (tracker : Epoch) (r : Read) → Knows P L from (message.Fetch x op group ep first tracker r false) old m left
-      → Hears t opening m reading from (message.Fetch x op group ep first tracker r false) old new left → Turns P L t m reading (message.Fetch x op group ep first tracker r false) old new left
+      → HearsRightly t opening m reading from (message.Fetch x op group ep first tracker r false) old new left → Turns P L t m reading (message.Fetch x op group ep first tracker r false) old new left
   fetch-turns x op group ep first tracker r K h = record { leaves = k.1; stays = k.2; issuing = issuing-of t m reading said x ep tracker new.durable.lease left asking dates }
     where
       said : Message
@@ -197,7 +198,7 @@ module _ (P : Known) (L : Spent) (t : TargetPlan) (opening : Epoch × FloorWhy) 
       k = fetch-leaves P L t m reading q from old.durable.lease old new left refl h (record { lease = omega arith; entries = K.entries }) known
 
   commit-turns : (x : AttemptId) (ep first : Option Epoch) (tracker : Epoch) (ws : List MinorWrite) → Knows P L from (message.Commit x ep first tracker ws) old m left
-      → Hears t opening m reading from (message.Commit x ep first tracker ws) old new left → Turns P L t m reading (message.Commit x ep first tracker ws) old new left
+      → HearsRightly t opening m reading from (message.Commit x ep first tracker ws) old new left → Turns P L t m reading (message.Commit x ep first tracker ws) old new left
   commit-turns x ep first tracker ws K h = record { leaves = k.1; stays = k.2; issuing = issuing-of t m reading said x ep tracker new.durable.lease left asking dates }
     where
       said : Message
@@ -236,7 +237,7 @@ module _ (P : Known) (L : Spent) (t : TargetPlan) (opening : Epoch × FloorWhy) 
   stands said K = record { lease = omega arith; entries = K.entries }
 
   -- every turn in which a target hears a message
-  hears-turns : (said : Message) → reads_snapshot said ≡ false → Knows P L from said old m left → Hears t opening m reading from said old new left → Turns P L t m reading said old new left
+  hears-turns : (said : Message) → reads_snapshot said ≡ false → Knows P L from said old m left → HearsRightly t opening m reading from said old new left → Turns P L t m reading said old new left
   hears-turns (message.Fetch x op group ep first tracker r true) plain K h = let no : ⊥ = cc in absurd no
   hears-turns (message.Fetch x op group ep first tracker r false) plain K h = fetch-turns x op group ep first tracker r K h
   hears-turns (message.Commit x ep first tracker ws) plain K h = commit-turns x ep first tracker ws K h
@@ -337,7 +338,7 @@ idles-kept r top w v E g =
 
 -- ---- hearing
 
-pub hears-kept : (r : Rules) (top : ℕ) (w v : World) → TalksOnce w → Epochs r top w → TargetHears r w v → Epochs r top v
+pub hears-kept : (r : Rules) (top : ℕ) (w v : World) → TalksOnce w → Epochs r top w → TargetHearsRightly r w v → Epochs r top v
 hears-kept r top w v talk E g =
     subst (λ z. Epochs r top z) (sym g.after)
     (turn-keeps r top w g.t g.s g.new g.memory g.did g.rest E g.here

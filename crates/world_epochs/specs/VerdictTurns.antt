@@ -20,7 +20,7 @@ use Rattle.world_base.specs.Changes.{Change, Kept, Steps}
 use Rattle.world_base.specs.PathLaws.{path-keeps}
 use Rattle.world_base.specs.Reads as read
 use Rattle.world_base.specs.Requests.{request_epoch}
-use Rattle.world_base.specs.Roles.{joins_on, member_at}
+use Rattle.world_base.specs.Roles.{is_in_doubt, joins_on, member_at}
 use Rattle.world_base.specs.Turns.{Whole}
 use Rattle.world_base.specs.Verdicts as turn
 use Rattle.world_epochs.specs.FetchTurns.{FetchStands, IsKnownFetch, fetch-ends, fetch-step}
@@ -115,9 +115,9 @@ module _ (P : Known) (L : Spent) (low : ℕ) (t : TargetPlan) (m : TargetMemory)
   settling-fits k None = tt
   settling-fits k (Some step) = tt
 
-  verdict-step : (s : turn.VerdictStage) (k : Kept) (o : Option Change) (u : turn.VerdictStage) (l : Kept) → turn.VerdictNext t m reading a ask v s k o u → Steps o k l → VerdictSoFar s k → VerdictSoFar u l
+  verdict-step : (s : turn.VerdictStage) (k : Kept) (o : Option Change) (u : turn.VerdictStage) (l : Kept) → turn.VerdictNext (is_in_doubt t.me) t m reading a ask v s k o u → Steps o k l → VerdictSoFar s k → VerdictSoFar u l
   verdict-step s k o u l (turn.SettlesBy j c is) st h =
-      ((step-stays P low o k l (subst (StepFits P k) (sym is) (settling-fits k (turn.settles_by t.me v a k.durable))) st h).0, verdict-frees P L t m a ask v parked)
+      ((step-stays P low o k l (subst (StepFits P k) (sym is) (settling-fits k (turn.settles_by (is_in_doubt t.me) v a k.durable))) st h).0, verdict-frees P L t m a ask v parked)
   verdict-step s k o u l (turn.TriesNext j n posts rest x op group ep first tracker r snapshot) st h =
       let f : FreedKnown P L m.ticks (message.Fetch x op group ep first tracker r snapshot ∷ rest) n posts = h.1 in (
         (step-stays P low None k l tt st h.0).0,
@@ -148,6 +148,6 @@ module _ (P : Known) (L : Spent) (low : ℕ) (t : TargetPlan) (m : TargetMemory)
   }
 
   -- a whole turn that hears a Verdict
-  pub verdict-leaves : (old new : Kept) (left : TargetMemory × Did) → Whole (turn.VerdictNext t m reading a ask v) turn.VerdictEnds turn.Heard old new left → Stays P low old → GoesOn P L m low new left
+  pub verdict-leaves : (old new : Kept) (left : TargetMemory × Did) → Whole (turn.VerdictNext (is_in_doubt t.me) t m reading a ask v) turn.VerdictEnds turn.Heard old new left → Stays P low old → GoesOn P L m low new left
   verdict-leaves old new left w h =
-      verdict-ends w.last new left w.ends (path-keeps (turn.VerdictNext t m reading a ask v) VerdictSoFar verdict-step turn.Heard old w.reached.did w.last new w.reached.path h)
+      verdict-ends w.last new left w.ends (path-keeps (turn.VerdictNext (is_in_doubt t.me) t m reading a ask v) VerdictSoFar verdict-step turn.Heard old w.reached.did w.last new w.reached.path h)

@@ -22,7 +22,7 @@ use Rattle.dtx_base.specs.declared.leading.Naming.{Naming}
 use Rattle.dtx_base.specs.declared.leading.Undecided.{Undecided}
 use Rattle.dtx_base.specs.declared.member.Parked.{Parked}
 use Rattle.dtx_base.specs.Joining.{all_unresolved_told, inquired, inquiry_for, is_waiting, to_inquire, unresolved, unresolved_told, verdict_heard}
-use Rattle.dtx_base.specs.Leading.{LeaderOf, abort_to, ack_heard, answer_heard, answer_if_awaited, batched, begun, begun_alone, begun_with_others, commit_mark, counted_at, decided, ended, entry_led, mark_with, marks_for, ok_heard, owed, prepare_to, quietly, to_target, undecided_of, with_undecided}
+use Rattle.dtx_base.specs.Leading.{LeaderOf, abort_to, ack_heard, answer_heard, answer_if_awaited, attempts_of, batched, begun, begun_alone, begun_with_others, commit_mark, counted_at, decided, ended, entry_led, mark_with, marks_for, ok_heard, owed, prepare_to, quietly, to_target, undecided_of, with_undecided}
 use Rattle.dtx_base.specs.Members.{all_targets, are_all_counted, is_other_member, other_members, with_target}
 use Rattle.dtx_base.specs.Rows.{is_empty}
 use Rattle.world_addresses.specs.Staying.{events-keep-targets}
@@ -48,7 +48,7 @@ use Rattle.world_base.specs.Marks.{AllMarked, MarkEnds}
 use Rattle.world_base.specs.PathLaws.{path-keeps}
 use Rattle.world_base.specs.Prepares as prepare
 use Rattle.world_base.specs.Reads as read
-use Rattle.world_base.specs.Roles.{leader_at, member_at, with_unsettled}
+use Rattle.world_base.specs.Roles.{is_prepared, leader_at, member_at, told_by, told_of_all, with_unsettled}
 use Rattle.world_base.specs.TargetTurns.{Hears, commit_request, fetch_request, prepare_request}
 use Rattle.world_base.specs.Verdicts as verdict
 
@@ -187,7 +187,7 @@ module _ (n : ℕ) where
   SoFarName (verdict.Trying q s asks m posts) = PostsName n posts
 
   verdict-next : (p : TargetPlan) (m : TargetMemory) (reading : ℕ) (a : AttemptId) (ask : Option AttemptId) (c : Verdict) (s : verdict.VerdictStage) (k : Kept) (o : Option Change) (u : verdict.VerdictStage) (l : Kept)
-      → verdict.VerdictNext p m reading a ask c s k o u → Steps o k l → SoFarName s → SoFarName u
+      → verdict.VerdictNext is_prepared p m reading a ask c s k o u → Steps o k l → SoFarName s → SoFarName u
   verdict-next p m reading a ask c s k o u l (verdict.SettlesBy k2 o2 says) steps h = freed-names p a ask c m
   verdict-next p m reading a ask c s k o u l (verdict.TriesNext k2 z posts rest x op group ep first tracker rd snapshot) steps h = h
   verdict-next p m reading a ask c s k o u l (verdict.GoesOn k2 z posts rest q f g o2 next) steps h = h
@@ -237,12 +237,12 @@ hears-names t opening m reading from (message.Prepare e first ws inc) old new le
 hears-names t opening m reading from (message.Ack x inc refusal) old new left h =
     ack-ends new.durable.incarnation m h.last new left h.ends
     (path-keeps (ack.AckNext t m from.number x inc refusal) (λ s k. FollowsName new.durable.incarnation s) (ack-next new.durable.incarnation t m from.number x inc refusal) ack.Heard old h.reached.did h.last new h.reached.path tt)
-hears-names t opening m reading from (message.Mark inc marks) old new left h = mark-names new.durable.incarnation m from inc marks h.last new left h.ends
+hears-names t opening m reading from (message.Mark inc marks) old new left h = mark-names new.durable.incarnation (told_of_all (attempts_of marks) m) from inc marks h.last new left h.ends
 hears-names t opening m reading from (message.Marked inc ids) old new left h = marked-names new.durable.incarnation t m from.number inc ids h.last new left h.ends
 hears-names t opening m reading from (message.Query x ask) old new left h = query-names t m from x ask h.last new left h.ends
 hears-names t opening m reading from (message.Verdict x ask inc c) old new left h =
     verdict-ends new.durable.incarnation h.last new left h.ends
-    (path-keeps (verdict.VerdictNext t m reading x ask c) (λ s k. SoFarName new.durable.incarnation s) (verdict-next new.durable.incarnation t m reading x ask c) verdict.Heard old h.reached.did h.last new h.reached.path tt)
+    (path-keeps (verdict.VerdictNext is_prepared t (told_by c x m) reading x ask c) (λ s k. SoFarName new.durable.incarnation s) (verdict-next new.durable.incarnation t (told_by c x m) reading x ask c) verdict.Heard old h.reached.did h.last new h.reached.path tt)
 hears-names t opening m reading from q old new left h = absurd h
 
 -- ---- at each moment

@@ -1,4 +1,4 @@
--- Every event keeps that clients were told what was served, where what targets serve is remembered.
+-- Every right event keeps that clients were told what was served, where what targets serve is remembered.
 use Rattle.std.specs.Prelude.{ℕ, ◌≡◌, ◌<◌, List, [], slice_get, Option, Some, None}
 use Rattle.daos_base.specs.declared.answer.Answer.{Answer}
 use Rattle.daos_base.specs.declared.epoch.Epoch.{Epoch}
@@ -12,7 +12,7 @@ use Rattle.world_base.specs.declared.client.ClientState.{ClientState}
 use Rattle.world_base.specs.declared.target.TargetState.{TargetState}
 use Rattle.world_base.specs.declared.world.World.{World}
 use Rattle.world_clients.specs.Standing.{HasTold}
-use Rattle.world_base.specs.Events.{ByClient, ByTarget, Event, Rules, TargetHears, ToClient, ToTarget, client_plan}
+use Rattle.world_base.specs.Events.{ByClient, ByTarget, RightEvent, Rules, TargetHearsRightly, ToClient, ToTarget, client_plan}
 use Rattle.world_base.specs.Letters.{client}
 use Rattle.world_gots.specs.Gots.{Gots}
 use Rattle.world_attempts.specs.History.{History, Served}
@@ -38,11 +38,11 @@ abbrev pub Remembers : History → History → Type 0
 Remembers h k = (q : Served) → Has q h.served → Has q k.served
 
 -- of an event: the answers that a target sends where it hears a message are of reads that are served, and go to their attempts' clients
-pub record AreRemembered (r : Rules) (w v : World) (h : History) (g : TargetHears r w v) : Type 0 where
+pub record AreRemembered (r : Rules) (w v : World) (h : History) (g : TargetHearsRightly r w v) : Type 0 where
   pub answered : AreAnswered h.served g.t g.l.message g.s.memory.member.parked g.did.posts
   pub home : (q : Post) (x : AttemptId) (op group : ℕ) (own : Option Epoch) (b : Answer) → Has q g.did.posts → q.message ≡ Fetched x op group own (reply.Answer b) → q.to ≡ client x.client
 
-abbrev pub IsRemembered : (r : Rules) (w v : World) → History → Event r w v → Type 0
+abbrev pub IsRemembered : (r : Rules) (w v : World) → History → RightEvent r w v → Type 0
 IsRemembered r w v h (ByClient g) = Unit {0}
 IsRemembered r w v h (ToClient g) = Unit {0}
 IsRemembered r w v h (ToTarget g) = AreRemembered r w v h g
@@ -50,10 +50,10 @@ IsRemembered r w v h (ByTarget g) = Unit {0}
 
 -- ---- the laws
 
--- every event keeps that clients were told what was served, where all that was served stays remembered and what the event
+-- every right event keeps that clients were told what was served, where all that was served stays remembered and what the event
 -- serves is remembered too
 abbrev pub ServedIsTold : Type 0
-ServedIsTold = (r : Rules) (h k : History) (w v : World) → 0 < r.attempts → Remembers h k → ToldServed r h w → (e : Event r w v) → IsRemembered r w v k e → ToldServed r k v
+ServedIsTold = (r : Rules) (h k : History) (w v : World) → 0 < r.attempts → Remembers h k → ToldServed r h w → (e : RightEvent r w v) → IsRemembered r w v k e → ToldServed r k v
 
 -- a client is at none of its commands yet
 pub record HasNotBegun (c : ClientState) : Type 0 where

@@ -39,7 +39,7 @@ use Rattle.world_base.specs.Idle.{AllSettled, IdleEnds, batch_of, inquiry_of}
 use Rattle.world_base.specs.MemoryLaws.{hears-follows, idles-follows}
 use Rattle.world_base.specs.Roles.{leader_at, member_at, with_unsettled}
 use Rattle.world_clients.specs.MoveLaws.{clients-begin}
-use Rattle.world_base.specs.Events.{ByClient, ByTarget, Rules, TargetHears, TargetIdles, ToClient, ToTarget, client_plan, kept, target_plan, with_epoch}
+use Rattle.world_base.specs.Events.{ByClient, ByTarget, Rules, TargetHearsRightly, TargetIdles, ToClient, ToTarget, client_plan, kept, target_plan, with_epoch}
 use Rattle.world_base.specs.Letters.{client, letter_of, letters_of, target}
 use Rattle.world_gots.specs.Gots.{Gots, IsLineServed, IsServedAnswer}
 use Rattle.world_gots.specs.MoreLaws.{all-more, remembered-more, served-more, stays-remembered}
@@ -133,7 +133,7 @@ same-standing r w v clients k n c at = k n c (ap (λ cs. slice_get cs n) (sym cl
 same-request : (q f : FetchRequest) → fetch_message q ≡ fetch_message f → (q.attempt ≡ f.attempt) × (q.op ≡ f.op) × (q.group ≡ f.group) × (q.ep ≡ f.ep) × (q.read ≡ f.read)
 same-request q f same = (cc (same), cc (same), cc (same), cc (same), cc (same))
 
-module _ (r : Rules) (h k : History) (w v : World) (t : ToldServed r h w) (g : TargetHears r w v) where
+module _ (r : Rules) (h k : History) (w v : World) (t : ToldServed r h w) (g : TargetHearsRightly r w v) where
   -- what answers a Fetch that was heard, or that waited, answers what a client that waits has asked
   pub record AnswersClient (q : FetchRequest) (epoch : Epoch) (b : Answer) : Type 0 where
     pub n : ℕ
@@ -223,7 +223,7 @@ sent-or_left rest from posts l i = elim (has-cases rest (letters_of from posts) 
   | inr j ↦ inr (has-from_map (letter_of from) posts l j)
 ]
 
-target-hears-told : (r : Rules) (h k : History) (w v : World) → Remembers h k → ToldServed r h w → (g : TargetHears r w v) → AreRemembered r w v k g → ToldServed r k v
+target-hears-told : (r : Rules) (h k : History) (w v : World) → Remembers h k → ToldServed r h w → (g : TargetHearsRightly r w v) → AreRemembered r w v k g → ToldServed r k v
 target-hears-told r h k w v more t g has = record {
   conversation = conversations-kept r w v t.conversation (ToTarget g);
   standing = same-standing r w v (ap (λ x. x.clients) g.after) t.standing;

@@ -7,7 +7,7 @@ ghost use Rattle.world_gots.specs.Right.{JoinsAreRight, LinesAreRight, NothingIs
 /// Says what holds throughout a run of what clients were told. Each answer and each condition, of a
 /// present attempt or in a line, is what the groups of its path gave, in order, joined; each of them was
 /// served to that attempt, by a target, at the attempt's epoch. An answer on its way is of what the attempt
-/// that waits for it asks. Each event keeps it so, where what targets serve is remembered; and so it is
+/// that waits for it asks. Each right event keeps it so, where what targets serve is remembered; and so it is
 /// where nothing is in flight, no client has begun, and there are no lines.
 pub fn laws_of_gots()
     ensures begin { NothingIsTold }

@@ -1,4 +1,4 @@
--- Every event keeps how what is in flight ends attempts, and what the lines tell.
+-- Every right event keeps how what is in flight ends attempts, and what the lines tell.
 use Rattle.std.specs.Prelude.{ℕ, ◌≡◌, ◌⊎◌, ◌<◌, ◌++◌, ◌==◌, Bool, true, false, List, [], ◌∷◌, filter, map, slice_get, Contains, Option, Some, None, refl, if◌then◌else◌}
 use Rattle.std.proofs.Common.{append-nil, sym, ◌∙◌, ap, subst, inl, inr}
 use Rattle.daos_base.specs.declared.entry.Entry.{Entry}
@@ -37,7 +37,7 @@ use Rattle.world_base.specs.declared.target.TargetMemory.{TargetMemory}
 use Rattle.world_base.specs.declared.target.TargetPlan.{TargetPlan}
 use Rattle.world_base.specs.declared.world.World.{World}
 use Rattle.world_base.specs.ClientTurns.{Move, heard, hears_epochs, knows, listed, moved, waits}
-use Rattle.world_base.specs.Events.{with_epoch, ByClient, ByTarget, Event, Rules, TargetHears, TargetIdles, ToClient, ToTarget, client_plan, kept, target_plan}
+use Rattle.world_base.specs.Events.{ByClient, ByTarget, RightEvent, Rules, TargetHearsRightly, TargetIdles, ToClient, ToTarget, client_plan, kept, target_plan, with_epoch}
 use Rattle.world_base.specs.Letters.{Takes, client, letter_of, letters_of, target}
 use Rattle.world_base.specs.StepLaws.{by-hearing, by-next}
 use Rattle.world_base.specs.Steps.{KeptByCounting, KeptByHearing, KeptByMoves, after_move, without}
@@ -58,8 +58,9 @@ use Rattle.world_base.specs.Marks.{AllMarked, MarkEnds}
 use Rattle.world_base.specs.PathLaws.{path-keeps}
 use Rattle.world_base.specs.Prepares as prepare
 use Rattle.world_base.specs.Reads as read
-use Rattle.world_base.specs.Roles.{leader_at, member_at, with_unsettled}
-use Rattle.world_base.specs.TargetTurns.{Hears, commit_request, fetch_request, prepare_request}
+use Rattle.world_base.specs.RightTurns.{HearsRightly}
+use Rattle.world_base.specs.Roles.{is_in_doubt, leader_at, member_at, with_unsettled}
+use Rattle.world_base.specs.TargetTurns.{commit_request, fetch_request, prepare_request}
 use Rattle.world_base.specs.Verdicts as verdict
 
 -- ---- what is sent
@@ -259,7 +260,7 @@ SoFarEnd (verdict.Freed asks n posts) = PostsEnd posts
 SoFarEnd (verdict.Trying q s asks n posts) = PostsEnd posts
 
 verdict-next : (p : TargetPlan) (m : TargetMemory) (reading : ℕ) (a : AttemptId) (ask : Option AttemptId) (v : Verdict) (s : verdict.VerdictStage) (k : Kept) (o : Option Change) (u : verdict.VerdictStage) (l : Kept)
-    → verdict.VerdictNext p m reading a ask v s k o u → Steps o k l → SoFarEnd s → SoFarEnd u
+    → verdict.VerdictNext (is_in_doubt p.me) p m reading a ask v s k o u → Steps o k l → SoFarEnd s → SoFarEnd u
 verdict-next p m reading a ask v s k o u l (verdict.SettlesBy k2 o2 says) steps h = freed-end p a ask v m
 verdict-next p m reading a ask v s k o u l (verdict.TriesNext k2 n posts rest x op group ep first tracker rd snapshot) steps h = h
 verdict-next p m reading a ask v s k o u l (verdict.GoesOn k2 n posts rest q f g o2 next) steps h = h
@@ -270,7 +271,7 @@ verdict-ends s k left (verdict.AllTried k2 n posts left2 says) h = (these-end po
 
 -- a target's turn ends attempts as it may, and adds no line
 pub hears-ends : (t : TargetPlan) (opening : Epoch × FloorWhy) (m : TargetMemory) (reading : ℕ) (from : ActorId) (q : Message) (old new : Kept) (left : TargetMemory × Did) → TellsEnd q
-    → Hears t opening m reading from q old new left → PostsEnd left.1.posts × (left.1.lines ≡ [])
+    → HearsRightly t opening m reading from q old new left → PostsEnd left.1.posts × (left.1.lines ≡ [])
 hears-ends t opening m reading from (message.Fetch x op group ep first tracker r snapshot) old new left may h = fetch-ends t m reading (fetch_request x op group ep first tracker r snapshot) from h.last new left h.ends
 hears-ends t opening m reading from (message.Commit x ep first tracker ws) old new left may h = commit-ends t opening m reading (commit_request x ep first tracker ws) from h.last new left h.ends
 hears-ends t opening m reading from (message.Prepare e first ws inc) old new left may h = prepare-ends t opening m (prepare_request e first ws inc) h.last new left h.ends
@@ -282,7 +283,7 @@ hears-ends t opening m reading from (message.Marked inc ids) old new left may h 
 hears-ends t opening m reading from (message.Query x ask) old new left may h = query-ends t m from x ask h.last new left h.ends
 hears-ends t opening m reading from (message.Verdict x ask inc v) old new left may h =
     verdict-ends h.last new left h.ends
-    (path-keeps (verdict.VerdictNext t m reading x ask v) (λ s k. SoFarEnd s) (verdict-next t m reading x ask v) verdict.Heard old h.reached.did h.last new h.reached.path tt)
+    (path-keeps (verdict.VerdictNext (is_in_doubt t.me) t m reading x ask v) (λ s k. SoFarEnd s) (verdict-next t m reading x ask v) verdict.Heard old h.reached.did h.last new h.reached.path tt)
 hears-ends t opening m reading from q old new left may h = absurd h
 
 -- ---- idle work
@@ -329,7 +330,7 @@ same-lines r w v clients lines k = record {
   nobody = λ n none. ap (tries_of n) lines ∙ k.nobody n (ap (λ cs. slice_get cs n) (sym clients) ∙ none);
 }
 
-spoken-by-target : (r : Rules) (w v : World) → Spoken r w → TargetHears r w v → Conversation r v → Spoken r v
+spoken-by-target : (r : Rules) (w v : World) → Spoken r w → TargetHearsRightly r w v → Conversation r v → Spoken r v
 spoken-by-target r w v k g talk = record {
   talk = talk;
   endings = subst (λ ls. (l : Letter) → Contains ls l → TellsEnd l.message) (sym (ap (λ x. x.messages) g.after)) (sent-end (target g.t) g.rest g.did.posts (λ m i. k.endings m (left-is-among w.messages g.l g.rest m g.takes i)) ends.0);
@@ -362,8 +363,8 @@ spoken-by-hearing r w n c l rest here awake takes to k = record {
   lines = lines-by-hearing r w n c l rest k.talk k.endings k.lines here takes to;
 }
 
--- every event keeps them
-pub spoken-kept : (r : Rules) (w v : World) → 0 < r.attempts → Spoken r w → Event r w v → Spoken r v
+-- every right event keeps them
+pub spoken-kept : (r : Rules) (w v : World) → 0 < r.attempts → Spoken r w → RightEvent r w v → Spoken r v
 spoken-kept r w v some k (ByClient g) = by-next r (Spoken r) (spoken-by-moves r some) (spoken-by-counting r) w v k g
 spoken-kept r w v some k (ToClient g) = by-hearing r (Spoken r) (spoken-by-moves r some) (spoken-by-hearing r) w v k g
 spoken-kept r w v some k (ToTarget g) = spoken-by-target r w v k g (conversations-kept r w v k.talk (ToTarget g))

@@ -5,14 +5,14 @@ use Rattle.daos_model.specs.Order.{AllInTurn}
 use Rattle.world_base.specs.declared.client.ClientState.{ClientState}
 use Rattle.world_base.specs.declared.world.World.{World}
 use Rattle.world_clients.specs.Answered.{EndsAsAnswered}
-use Rattle.world_base.specs.Events.{Event, Rules, client_plan}
+use Rattle.world_base.specs.Events.{RightEvent, Rules, client_plan}
 use Rattle.world_lines.specs.EndingLaws.{Spoken}
 use Rattle.world_lines.specs.LastLines.{AreDone, HasClients}
 use Rattle.world_lines.specs.Lines.{Lines}
 
--- every event keeps what goes about and what the lines tell
+-- every right event keeps what goes about and what the lines tell
 abbrev pub EventsKeepSpoken : Type 0
-EventsKeepSpoken = (r : Rules) (w v : World) → 0 < r.attempts → Spoken r w → Event r w v → Spoken r v
+EventsKeepSpoken = (r : Rules) (w v : World) → 0 < r.attempts → Spoken r w → RightEvent r w v → Spoken r v
 
 -- the lines of each client end as they were answered
 abbrev pub LinesEndAsAnswered : Type 0

@@ -1,4 +1,4 @@
--- Every event keeps what the lines tell of each client.
+-- Every right event keeps what the lines tell of each client.
 use Rattle.std.specs.Prelude.{ℕ, ◌≡◌, ◌⊎◌, ◌<◌, ◌++◌, ◌==◌, Bool, true, false, List, [], map, slice_get, Option, Some, None, refl}
 use Rattle.std.proofs.Common.{append-nil, sym, ◌∙◌, ap, subst, inl, inr}
 use Rattle.std.proofs.Math.ListN.{set}

@@ -3,7 +3,7 @@
 
 ghost use Rattle.world_lines.specs.Laws.{EventsKeepSpoken, LastLinesAreInTurn, LinesEndAsAnswered};
 
-/// Says what holds of the lines of a run. Every event keeps that they tell of each client what it has
+/// Says what holds of the lines of a run. Every right event keeps that they tell of each client what it has
 /// told, and that what is in flight ends attempts as it may. At any moment each attempt that has a
 /// line ended as it was answered; and when all clients are done, the lines of each stand in the order
 /// of its commands and attempts, all of them.

@@ -36,7 +36,7 @@ use Rattle.world_base.specs.declared.target.Life.TheVariants.{Running}
 use Rattle.world_base.specs.declared.target.TargetMemory.{TargetMemory}
 use Rattle.world_base.specs.declared.target.TargetState.{TargetState}
 use Rattle.world_base.specs.declared.world.World.{World}
-use Rattle.world_base.specs.Events.{ClientGoes, ClientHears, Rules, TargetHears, ToTarget, after_turn, kept, listed, target_after, target_plan, with_client, with_target}
+use Rattle.world_base.specs.Events.{ClientGoes, ClientHears, Rules, TargetHearsRightly, ToTarget, after_turn, kept, listed, target_after, target_plan, with_client, with_target}
 use Rattle.world_base.specs.Letters.{client, target}
 use Rattle.world_base.specs.StepLaws.{set-here, set-there}
 use Rattle.world_reads.specs.AckLaws.{ack-sound}
@@ -56,7 +56,8 @@ use Rattle.world_reads.specs.Reads.{IsAnsweredRight, IsGuarded, IsOfAttempt, Rea
 use Rattle.world_reads.specs.VerdictLaws.{IsVerdictRight, fetch-sound, verdict-sound}
 use Rattle.world_reads.specs.Versions.{IsWriteAt, Versions, VersionsStand}
 use Rattle.world_base.specs.Changes.{Kept}
-use Rattle.world_base.specs.TargetTurns.{Hears, commit_request, fetch_request, prepare_request}
+use Rattle.world_base.specs.RightTurns.{HearsRightly}
+use Rattle.world_base.specs.TargetTurns.{commit_request, fetch_request, prepare_request}
 
 -- ---- before a turn
 
@@ -151,7 +152,7 @@ module _ (both-not : NoneIsBoth) (r : Rules) (o : Opening) (held : ℕ → List 
   right : (m : Message) → l.message ≡ m → IsMessageRight r o w t s m
   right m is = subst (IsMessageRight r o w t s) is (b.given.asked l t s (contains-from_has w.messages l among) to_it here runs)
 
-  hears-sound : (m : Message) → l.message ≡ m → Hears (target_plan r t) s.opening s.memory reading l.from m (kept s) new left → TurnLeaves r o (held t) h w s.opening t m s.memory.member.parked new left
+  hears-sound : (m : Message) → l.message ≡ m → HearsRightly (target_plan r t) s.opening s.memory reading l.from m (kept s) new left → TurnLeaves r o (held t) h w s.opening t m s.memory.member.parked new left
   hears-sound (message.Fetch x op group ep first tracker read snapshot) is turn =
       let ok = right (message.Fetch x op group ep first tracker read snapshot) is in
       fetch-sound r o (held t) h w t s begins reading (fetch_request x op group ep first tracker read snapshot) l.from ok.0 (ok.1 reading) new left turn
@@ -299,7 +300,7 @@ its-members r o held w given x m u at = writes-member r x u m given.few (given.f
 
 module _ (attempts-kept : AttemptsAreKept) (both-not : NoneIsBoth) where
   -- a target that hears a message, in the world that follows
-  hearing-on : (r : Rules) (o : Opening) (held : ℕ → List Version) (h : History) (w v : World) (b : Before r o held h w) (g : TargetHears r w v) → GoOn r o held h w v g
+  hearing-on : (r : Rules) (o : Opening) (held : ℕ → List Version) (h : History) (w v : World) (b : Before r o held h w) (g : TargetHearsRightly r w v) → GoOn r o held h w v g
   hearing-on r o held h w v b g = record {
     later = later;
     grows = grows;

@@ -9,7 +9,7 @@ use Rattle.world_attempts.specs.Asked.{AskedRight}
 use Rattle.world_attempts.specs.Attempts.{Attempts}
 use Rattle.world_attempts.specs.History.{GrowsBy, History, Served}
 use Rattle.world_base.specs.declared.world.World.{World}
-use Rattle.world_base.specs.Events.{ClientGoes, ClientHears, Rules, TargetHears, TargetIdles}
+use Rattle.world_base.specs.Events.{ClientGoes, ClientHears, Rules, TargetHearsRightly, TargetIdles}
 use Rattle.world_reads.specs.Adds.{AreAnswered}
 use Rattle.world_reads.specs.Given.{Given}
 use Rattle.world_reads.specs.Reads.{Reads}
@@ -25,7 +25,7 @@ pub record Before (r : Rules) (o : Opening) (held : ℕ → List Version) (h : H
 
 -- The facts hold of what was decided and served by now: of what was before, of what is told as decided or aborted, and perhaps of
 -- more reads, each of which is answered.
-pub record GoOn (r : Rules) (o : Opening) (held : ℕ → List Version) (h : History) (w v : World) (g : TargetHears r w v) : Type 0 where
+pub record GoOn (r : Rules) (o : Opening) (held : ℕ → List Version) (h : History) (w v : World) (g : TargetHearsRightly r w v) : Type 0 where
   pub later : History
   pub grows : GrowsBy h g.did.posts later
   pub served : (q : Served) → Has q h.served → Has q later.served
@@ -35,7 +35,7 @@ pub record GoOn (r : Rules) (o : Opening) (held : ℕ → List Version) (h : His
 
 -- a target that hears a message keeps them
 abbrev pub HearingKeepsReads : Type 0
-HearingKeepsReads = (r : Rules) (o : Opening) (held : ℕ → List Version) (h : History) (w v : World) → Before r o held h w → (g : TargetHears r w v) → GoOn r o held h w v g
+HearingKeepsReads = (r : Rules) (o : Opening) (held : ℕ → List Version) (h : History) (w v : World) → Before r o held h w → (g : TargetHearsRightly r w v) → GoOn r o held h w v g
 
 -- so does a target that does its idle work, which decides, aborts and serves nothing more
 abbrev pub IdlingKeepsReads : Type 0

@@ -35,7 +35,7 @@ use Rattle.world_base.specs.Changes.{Change, Kept, Steps}
 use Rattle.world_base.specs.Idle as idle
 use Rattle.world_base.specs.Marks as mark
 use Rattle.world_base.specs.PathLaws.{reached-keeps}
-use Rattle.world_base.specs.Roles.{leader_at, member_at, with_unsettled}
+use Rattle.world_base.specs.Roles.{is_in_doubt, leader_at, member_at, with_unsettled}
 use Rattle.world_base.specs.TargetTurns.{IdlesWhole}
 use Rattle.world_base.specs.Turns.{Whole}
 use Rattle.world_base.specs.Verdicts as verdict
@@ -87,7 +87,7 @@ module _ (r : Rules) (o : Opening) (held : List Version) (h : History) (w : Worl
   abbrev MarkMid : List (AttemptId × Bool) → Kept → Type 0
   MarkMid left k = SoundAt k.durable × ((a : AttemptId) (c : Bool) → Has (a, c) left → IsFateRight h a c)
 
-  mark-step : (g : List (AttemptId × Bool)) (k : Kept) (c : Option Change) (u : List (AttemptId × Bool)) (l : Kept) → mark.MarkNext t g k c u → Steps c k l → MarkMid g k → MarkMid u l
+  mark-step : (g : List (AttemptId × Bool)) (k : Kept) (c : Option Change) (u : List (AttemptId × Bool)) (l : Kept) → mark.MarkNext (is_in_doubt t) g k c u → Steps c k l → MarkMid g k → MarkMid u l
   mark-step g k c u l (mark.SettlesMarked k' a committed rest is) steps p = (subst SoundAt (sym steps.0) (settles-so k.durable a committed (p.1 a committed (inl refl)) p.0), λ x d i. p.1 x d (inr i))
   mark-step g k c u l (mark.PassesBy k' a committed rest is) steps p = (subst (λ n. SoundAt n.durable) (sym steps) p.0, λ x d i. p.1 x d (inr i))
 
@@ -97,9 +97,9 @@ module _ (r : Rules) (o : Opening) (held : List Version) (h : History) (w : Worl
       subst (TurnLeaves r o held h w s.opening t m s.memory.member.parked k) (sym is) (leaves-quiet r o held h w t s b m k _ _ refl (only-one r o held h w t s b _ refl) refl p.0)
 
   pub mark-sound : (from : ActorId) (inc : ℕ) (marks : List (AttemptId × Bool)) (m : Message) → ((a : AttemptId) (c : Bool) → Has (a, c) marks → IsFateRight h a c) → (new : Kept) (left : TargetMemory × Did)
-      → Whole (mark.MarkNext t) (mark.MarkEnds s.memory from inc marks) marks (kept s) new left → TurnLeaves r o held h w s.opening t m s.memory.member.parked new left
+      → Whole (mark.MarkNext (is_in_doubt t)) (mark.MarkEnds s.memory from inc marks) marks (kept s) new left → TurnLeaves r o held h w s.opening t m s.memory.member.parked new left
   mark-sound from inc marks m fate new left turn =
-      mark-ends from inc marks m turn.last new left turn.ends (reached-keeps (mark.MarkNext t) MarkMid mark-step marks (kept s) turn.last new turn.reached (b.sound, fate))
+      mark-ends from inc marks m turn.last new left turn.ends (reached-keeps (mark.MarkNext (is_in_doubt t)) MarkMid mark-step marks (kept s) turn.last new turn.reached (b.sound, fate))
 
   -- ---- a Marked
 

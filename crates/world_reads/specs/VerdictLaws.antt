@@ -142,7 +142,7 @@ module _ (r : Rules) (o : Opening) (held : List Version) (h : History) (w : Worl
   module _ (reading : ℕ) (x : AttemptId) (ask : Option AttemptId) (v : Verdict) (heard : Message) (right : IsVerdictRight v x)
       (parked : (p : Parked) → Has p s.memory.member.parked → IsParkedRight r o w t p.ask) where
     -- the attempt is settled
-    settles : (k : Kept) → Steps (verdict.settling_change x (verdict.settles_by t v x s.durable)) (kept s) k → Sound r o held h h.served s.opening t k.durable s.memory.stamps
+    settles : (k : Kept) → Steps (verdict.settling_change x (verdict.settles_by (is_in_doubt t) v x s.durable)) (kept s) k → Sound r o held h h.served s.opening t k.durable s.memory.stamps
     settles k steps = by v right (is_in_doubt t x s.durable) steps
       where
         by : (v : Verdict) → IsVerdictRight v x → (there : Bool) → Steps (verdict.settling_change x (verdict.step_if there (verdict.step_by v))) (kept s) k → Sound r o held h h.served s.opening t k.durable s.memory.stamps
@@ -179,7 +179,7 @@ module _ (r : Rules) (o : Opening) (held : List Version) (h : History) (w : Worl
     plain test off fate.Undecided None p i = absurd i
     plain test off fate.Undecided (Some y) p i = unresolved-plain test off (filter (is_waiting x y) s.memory.member.parked) p i
 
-    begins : (k : Kept) → Steps (verdict.settling_change x (verdict.settles_by t v x s.durable)) (kept s) k
+    begins : (k : Kept) → Steps (verdict.settling_change x (verdict.settles_by (is_in_doubt t) v x s.durable)) (kept s) k
         → VerdictMid heard (verdict_heard x ask v (member_at (target_plan r t) s.memory)).freed.again (joins_on (verdict_heard x ask v (member_at (target_plan r t) s.memory)).member s.memory)
         (verdict_heard x ask v (member_at (target_plan r t) s.memory)).freed.posts k
     begins k steps = record {
@@ -234,7 +234,7 @@ module _ (r : Rules) (o : Opening) (held : List Version) (h : History) (w : Worl
             ])
 
     -- the whole turn
-    pub verdict-sound : (new : Kept) (left : TargetMemory × Did) → Whole (verdict.VerdictNext (target_plan r t) s.memory reading x ask v) verdict.VerdictEnds verdict.Heard (kept s) new left
+    pub verdict-sound : (new : Kept) (left : TargetMemory × Did) → Whole (verdict.VerdictNext (is_in_doubt t) (target_plan r t) s.memory reading x ask v) verdict.VerdictEnds verdict.Heard (kept s) new left
         → TurnLeaves r o held h w s.opening t heard s.memory.member.parked new left
     verdict-sound new left turn = record {
       more = mid.more;
@@ -246,4 +246,4 @@ module _ (r : Rules) (o : Opening) (held : List Version) (h : History) (w : Worl
     }
       where
         mid : VerdictMid heard [] left.0 left.1.posts new
-        mid = (verdict-keeps (target_plan r t) s.memory reading x ask v (kept s) (VerdictMid heard) begins goes new left turn).0
+        mid = (verdict-keeps (is_in_doubt t) (target_plan r t) s.memory reading x ask v (kept s) (VerdictMid heard) begins goes new left turn).0

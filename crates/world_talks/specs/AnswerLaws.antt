@@ -12,11 +12,12 @@ use Rattle.world_base.specs.declared.target.TargetPlan.{TargetPlan}
 use Rattle.world_base.specs.Letters.{is_tell}
 use Rattle.world_talks.specs.Conversation.{Answers, is_request}
 use Rattle.world_base.specs.Changes.{Kept}
-use Rattle.world_base.specs.TargetTurns.{Hears, is_heard}
+use Rattle.world_base.specs.RightTurns.{HearsRightly}
+use Rattle.world_base.specs.TargetTurns.{is_heard}
 
 -- only these kinds of messages are heard
 pub hears-heard : (t : TargetPlan) (opening : Epoch × FloorWhy) (m : TargetMemory) (reading : ℕ) (from : ActorId) (q : Message) (old new : Kept) (left : TargetMemory × Did)
-    → Hears t opening m reading from q old new left → is_heard q ≡ true
+    → HearsRightly t opening m reading from q old new left → is_heard q ≡ true
 hears-heard t opening m reading from (message.Fetch x op group ep first tracker r snapshot) old new left h = refl
 hears-heard t opening m reading from (message.Commit x ep first tracker ws) old new left h = refl
 hears-heard t opening m reading from (message.Prepare e first ws inc) old new left h = refl

@@ -18,7 +18,7 @@ use Rattle.world_base.specs.declared.request.FetchRequest.{FetchRequest}
 use Rattle.world_base.specs.declared.target.TargetState.{TargetState}
 use Rattle.world_base.specs.declared.world.World.{World}
 use Rattle.world_base.specs.ClientTurns.{moved, waits}
-use Rattle.world_base.specs.Events.{Event, Rules, client_plan}
+use Rattle.world_base.specs.Events.{RightEvent, Rules, client_plan}
 use Rattle.world_base.specs.Letters.{client, letter_of, target}
 use Rattle.world_talks.specs.Asked.{commit_of}
 use Rattle.world_talks.specs.Carriers.{Carrier, InFlight, OpenAt, ParkedAt, carriers_of}
@@ -96,9 +96,9 @@ pub record Conversation (r : Rules) (w : World) : Type 0 where
   pub nobody : (n : ℕ) → slice_get w.clients n ≡ None → carriers_of n w ≡ []
   pub from_clients : (l : Letter) → Contains w.messages l → is_request l.message ≡ true → (n : ℕ) × (c : ClientState) × (slice_get w.clients n ≡ Some c) × (l.from ≡ client n)
 
--- every event keeps the conversations in order
+-- every right event keeps the conversations in order
 abbrev pub ConversationsAreKept : Type 0
-ConversationsAreKept = (r : Rules) (w v : World) → Conversation r w → Event r w v → Conversation r v
+ConversationsAreKept = (r : Rules) (w v : World) → Conversation r w → RightEvent r w v → Conversation r v
 
 -- no Fetch waits at a target, and no attempt is undecided there
 pub record HoldsNothing (s : TargetState) : Type 0 where

@@ -1,4 +1,4 @@
--- Every event keeps the clients' conversations in order.
+-- Every right event keeps the clients' conversations in order.
 use Rattle.std.specs.Prelude.{ℕ, ◌≡◌, ◌≤◌, ◌+◌, ◌++◌, Bool, true, false, List, [], ◌∷◌, filter, map, slice_get, Some, None, Contains, refl}
 use Rattle.std.proofs.Common.{◌⊎◌, append-nil, sym, ◌∙◌, ap, subst, inl, inr, arith, suc}
 use Rattle.std.proofs.Math.ListN.{set}
@@ -13,7 +13,7 @@ use Rattle.world_base.specs.declared.letter.Letter.{Letter}
 use Rattle.world_base.specs.declared.target.TargetState.{TargetState}
 use Rattle.world_base.specs.declared.world.World.{World}
 use Rattle.world_base.specs.ClientTurns.{Move, answered, at_present, heard, hears_epochs, listed, moved, waits}
-use Rattle.world_base.specs.Events.{Begins, ByClient, ByTarget, Goes, Rules, Run, ToClient, ToTarget, client_plan}
+use Rattle.world_base.specs.Events.{Begins, ByClient, ByTarget, Goes, RightRun, Rules, ToClient, ToTarget, client_plan}
 use Rattle.world_base.specs.Letters.{Takes, client, is_talk_of, is_tell, letter_of, talk_of}
 use Rattle.world_base.specs.StepLaws.{after-none, by-hearing, by-next, set-here, set-there}
 use Rattle.world_base.specs.Steps.{KeptByCounting, KeptByHearing, KeptByMoves, after_client, after_move, without}
@@ -230,7 +230,7 @@ conversations-kept r w v k (ToTarget g) = target-hears-keeps r w v k g
 conversations-kept r w v k (ByTarget g) = target-idles-keeps r w v k g
 
 -- and so does a run
-pub conversations-stay : (r : Rules) (w v : World) → Conversation r w → Run r w v → Conversation r v
+pub conversations-stay : (r : Rules) (w v : World) → Conversation r w → RightRun r w v → Conversation r v
 conversations-stay r w v k Begins = k
 conversations-stay r w v k (Goes u x before event) = conversations-kept r u x (conversations-stay r w u k before) event
 

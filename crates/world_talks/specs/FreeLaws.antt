@@ -30,7 +30,7 @@ use Rattle.world_talks.specs.TurnLaws.{AllOwned, AsMany, Hands, MayHand, Owns, f
 use Rattle.world_base.specs.Changes.{Change, Kept, Steps}
 use Rattle.world_base.specs.PathLaws.{path-keeps}
 use Rattle.world_base.specs.Requests.{fetch_message}
-use Rattle.world_base.specs.Roles.{joins_on, member_at}
+use Rattle.world_base.specs.Roles.{is_in_doubt, joins_on, member_at}
 use Rattle.world_base.specs.Turns.{Whole}
 use Rattle.world_base.specs.Verdicts.{AllTried, Freed, GoesOn, Heard, IsDone, SettlesBy, Trying, TriesNext, VerdictEnds, VerdictNext, VerdictStage}
 
@@ -239,7 +239,7 @@ done-hands r w t q before asks n posts left h d = record { counts = counts; owne
     ]
 
 step-hands : (r : Rules) (w : World) (p : TargetPlan) (t : ℕ) (m : TargetMemory) (reading : ℕ) (a : AttemptId) (ask : Option AttemptId) (v : Verdict) → AllOwned r w (held t m)
-    → (s : VerdictStage) (k : Kept) (o : Option Change) (u : VerdictStage) (l : Kept) → VerdictNext p m reading a ask v s k o u → Steps o k l → HandsThen r w t m s → HandsThen r w t m u
+    → (s : VerdictStage) (k : Kept) (o : Option Change) (u : VerdictStage) (l : Kept) → VerdictNext (is_in_doubt p.me) p m reading a ask v s k o u → Steps o k l → HandsThen r w t m s → HandsThen r w t m u
 step-hands r w p t m reading a ask v all s k o u l (SettlesBy k2 o2 says) steps h = record { hands = freed-hands r w p t a ask v m all; own = tt }
 step-hands r w p t m reading a ask v all s k o u l (TriesNext k2 n posts rest x op group ep first tracker rd snapshot) steps h = record { hands = h.hands; own = tt }
 step-hands r w p t m reading a ask v all s k o u l (GoesOn k2 n posts rest q f g o2 next) steps h = record { hands = h.hands; own = own-goes p n reading q f g k2 o2 next h.own }
@@ -257,9 +257,9 @@ step-hands r w p t m reading a ask v all s k o u l (IsDone k2 n posts rest q f l
 
 -- a Verdict hands each client's carrier on
 pub hands-verdict : (r : Rules) (w : World) (p : TargetPlan) (t : ℕ) (m : TargetMemory) (reading : ℕ) (a : AttemptId) (ask : Option AttemptId) (v : Verdict) (old new : Kept) (left : TargetMemory × Did)
-    → AllOwned r w (held t m) → Whole (VerdictNext p m reading a ask v) VerdictEnds Heard old new left → Hands r w (held t m) (told t left.1.posts ++ held t left.0)
+    → AllOwned r w (held t m) → Whole (VerdictNext (is_in_doubt p.me) p m reading a ask v) VerdictEnds Heard old new left → Hands r w (held t m) (told t left.1.posts ++ held t left.0)
 hands-verdict r w p t m reading a ask v old new left all h =
-    ends h.last new left h.ends (path-keeps (VerdictNext p m reading a ask v) (λ s k. HandsThen r w t m s) (step-hands r w p t m reading a ask v all) Heard old h.reached.did h.last new h.reached.path
+    ends h.last new left h.ends (path-keeps (VerdictNext (is_in_doubt p.me) p m reading a ask v) (λ s k. HandsThen r w t m s) (step-hands r w p t m reading a ask v all) Heard old h.reached.did h.last new h.reached.path
     (record { hands = record { counts = λ i. refl; owned = all }; own = tt }))
   where
     ends : (s : VerdictStage) (k : Kept) (o : TargetMemory × Did) → VerdictEnds s k o → HandsThen r w t m s → Hands r w (held t m) (told t o.1.posts ++ held t o.0)
@@ -293,7 +293,7 @@ both-plain : (ps qs : List Post) → NoRequests ps → NoRequests qs → NoReque
 both-plain ps qs f g q i = elim (has-cases ps qs q i) [ inl j ↦ f q j | inr j ↦ g q j ]
 
 step-plain : (p : TargetPlan) (m : TargetMemory) (reading : ℕ) (a : AttemptId) (ask : Option AttemptId) (v : Verdict) (s : VerdictStage) (k : Kept) (o : Option Change) (u : VerdictStage) (l : Kept)
-    → VerdictNext p m reading a ask v s k o u → Steps o k l → PlainThen s → PlainThen u
+    → VerdictNext (is_in_doubt p.me) p m reading a ask v s k o u → Steps o k l → PlainThen s → PlainThen u
 step-plain p m reading a ask v s k o u l (SettlesBy k2 o2 says) steps h = freed-plain p a ask v m
 step-plain p m reading a ask v s k o u l (TriesNext k2 n posts rest x op group ep first tracker rd snapshot) steps h = (h, tt)
 step-plain p m reading a ask v s k o u l (GoesOn k2 n posts rest q f g o2 next) steps h = (h.0, own-goes p n reading q f g k2 o2 next h.1)
@@ -301,9 +301,9 @@ step-plain p m reading a ask v s k o u l (IsDone k2 n posts rest q f left ends) 
     both-plain posts left.1.posts h.0 (fetch-plain q (client q.attempt.client) n left (fetch-leaves p n reading q (client q.attempt.client) f k2 left h.1 ends))
 
 pub verdict-plain : (p : TargetPlan) (m : TargetMemory) (reading : ℕ) (a : AttemptId) (ask : Option AttemptId) (v : Verdict) (old new : Kept) (left : TargetMemory × Did)
-    → Whole (VerdictNext p m reading a ask v) VerdictEnds Heard old new left → NoRequests left.1.posts
+    → Whole (VerdictNext (is_in_doubt p.me) p m reading a ask v) VerdictEnds Heard old new left → NoRequests left.1.posts
 verdict-plain p m reading a ask v old new left h =
-    ends h.last new left h.ends (path-keeps (VerdictNext p m reading a ask v) (λ s k. PlainThen s) (step-plain p m reading a ask v) Heard old h.reached.did h.last new h.reached.path tt)
+    ends h.last new left h.ends (path-keeps (VerdictNext (is_in_doubt p.me) p m reading a ask v) (λ s k. PlainThen s) (step-plain p m reading a ask v) Heard old h.reached.did h.last new h.reached.path tt)
   where
     ends : (s : VerdictStage) (k : Kept) (o : TargetMemory × Did) → VerdictEnds s k o → PlainThen s → NoRequests o.1.posts
     ends s k o (AllTried k2 n posts o2 says) done = subst (λ (z : TargetMemory × Did). NoRequests z.1.posts) (sym says) done

@@ -22,7 +22,7 @@ use Rattle.world_base.specs.declared.target.TargetPlan.{TargetPlan}
 use Rattle.world_base.specs.declared.target.TargetState.{TargetState}
 use Rattle.world_base.specs.declared.world.World.{World}
 use Rattle.world_base.specs.ClientTurns.{attempt_id, is_waiting, request_of, waits}
-use Rattle.world_base.specs.Events.{Rules, TargetHears, TargetIdles, client_plan, kept, target_plan}
+use Rattle.world_base.specs.Events.{Rules, TargetHearsRightly, TargetIdles, client_plan, kept, target_plan}
 use Rattle.world_base.specs.Letters.{Takes, client, is_talk_of, is_tell, letter_of, letters_of, target}
 use Rattle.world_talks.specs.AskLaws.{IsRequest, asked-is-request}
 use Rattle.world_talks.specs.Asked.{commit_of}
@@ -40,8 +40,9 @@ use Rattle.world_base.specs.Changes.{Change, Kept, Steps}
 use Rattle.world_base.specs.Reads as read
 use Rattle.world_base.specs.PathLaws.{path-keeps}
 use Rattle.world_base.specs.Requests.{fetch_message}
+use Rattle.world_base.specs.RightTurns.{HearsRightly}
 use Rattle.world_base.specs.Roles.{leader_at}
-use Rattle.world_base.specs.TargetTurns.{Hears, commit_request, fetch_request, prepare_request}
+use Rattle.world_base.specs.TargetTurns.{commit_request, fetch_request, prepare_request}
 
 -- ---- a target's turn
 
@@ -206,7 +207,7 @@ its-sent r w t l rest k takes to h = record { owns = owns; from = ap (λ x. x.fr
     owns : Owns r w h.n (InFlight l)
     owns = record { c = h.c; here = h.here; waiting = ap is_waiting h.present ∙ h.waiting; carries = IsAsked h.k h.q h.low h.sent h.it }
 
-module _ (r : Rules) (w v : World) (k : Conversation r w) (g : TargetHears r w v) where
+module _ (r : Rules) (w v : World) (k : Conversation r w) (g : TargetHearsRightly r w v) where
   abbrev z : TargetState
   z = record g.s { durable = g.new.durable; free = g.new.free; memory = g.memory }
 
@@ -252,7 +253,7 @@ module _ (r : Rules) (w v : World) (k : Conversation r w) (g : TargetHears r w v
     quiet : ToTargets g.did.posts → HoldsOn g.s.memory g.memory → Conversation r v
     quiet to same = by-letter [] taken-other (hands-nothing r w g.t g.s.memory g.memory g.did.posts to same owned-here) (λ q i. (to q i).1)
 
-  fetch-case : (q : FetchRequest) → g.l.message ≡ fetch_message q → Hears p g.s.opening g.s.memory g.reading g.l.from (fetch_message q) (kept g.s) g.new (g.memory, g.did) → Conversation r v
+  fetch-case : (q : FetchRequest) → g.l.message ≡ fetch_message q → HearsRightly p g.s.opening g.s.memory g.reading g.l.from (fetch_message q) (kept g.s) g.new (g.memory, g.did) → Conversation r v
   fetch-case q is turn = by-letter (InFlight g.l ∷ []) (letter-taken w g.l g.rest g.takes) hands (fetch-plain q (client h.n) g.s.memory (g.memory, g.did) leaves)
     where
       h : HearsRequest r w g.l g.rest
@@ -269,7 +270,7 @@ module _ (r : Rules) (w v : World) (k : Conversation r w) (g : TargetHears r w v
       hands =
           hands-fetch r w g.t h.n q g.s.memory (g.memory, g.did) (InFlight g.l) (sent-hands r w g.t h.n g.l q (sent h) is (its-own h q.attempt (ap request_of is)) (of-it h)) leaves owned-here
 
-  commit-case : (q : CommitRequest) → g.l.message ≡ commit_of q → Hears p g.s.opening g.s.memory g.reading g.l.from (commit_of q) (kept g.s) g.new (g.memory, g.did) → Conversation r v
+  commit-case : (q : CommitRequest) → g.l.message ≡ commit_of q → HearsRightly p g.s.opening g.s.memory g.reading g.l.from (commit_of q) (kept g.s) g.new (g.memory, g.did) → Conversation r v
   commit-case q is turn = by-letter (InFlight g.l ∷ []) (letter-taken w g.l g.rest g.takes) hands (commit-plain q (client h.n) g.s.memory (g.memory, g.did) leaves)
     where
       h : HearsRequest r w g.l g.rest
@@ -301,13 +302,13 @@ module _ (r : Rules) (w v : World) (k : Conversation r w) (g : TargetHears r w v
       (held-few r w g.t g.s k g.here) owned-here)
       (subst NoRequests (sym sends) (ack-plain x (leader_at p g.s.memory f.0) step it))
 
-  ack-case : (x : AttemptId) (inc : ℕ) (refusal : Option Outcome) → is_request g.l.message ≡ false → Hears p g.s.opening g.s.memory g.reading g.l.from (message.Ack x inc refusal) (kept g.s) g.new (g.memory, g.did)
+  ack-case : (x : AttemptId) (inc : ℕ) (refusal : Option Outcome) → is_request g.l.message ≡ false → HearsRightly p g.s.opening g.s.memory g.reading g.l.from (message.Ack x inc refusal) (kept g.s) g.new (g.memory, g.did)
       → Conversation r v
   ack-case x inc refusal other turn =
       ack-ends x inc refusal other turn.last g.new (g.memory, g.did) refl turn.ends
       (path-keeps (ack.AckNext p g.s.memory g.l.from.number x inc refusal) (λ s d. follows x inc refusal s) (ack-next x inc refusal) ack.Heard (kept g.s) turn.reached.did turn.last g.new turn.reached.path tt)
 
-  hears-keeps : (m : Message) → g.l.message ≡ m → Hears p g.s.opening g.s.memory g.reading g.l.from m (kept g.s) g.new (g.memory, g.did) → Conversation r v
+  hears-keeps : (m : Message) → g.l.message ≡ m → HearsRightly p g.s.opening g.s.memory g.reading g.l.from m (kept g.s) g.new (g.memory, g.did) → Conversation r v
   hears-keeps (message.Fetch x op group ep first tracker rd snapshot) is turn = fetch-case (fetch_request x op group ep first tracker rd snapshot) is turn
   hears-keeps (message.Commit x ep first tracker ws) is turn = commit-case (commit_request x ep first tracker ws) is turn
   hears-keeps (message.Prepare e first ws inc) is turn =
@@ -324,7 +325,7 @@ module _ (r : Rules) (w v : World) (k : Conversation r w) (g : TargetHears r w v
       (verdict-plain p g.s.memory g.reading x ask verdict (kept g.s) g.new (g.memory, g.did) turn)
   hears-keeps m is turn = absurd turn
 
-pub target-hears-keeps : (r : Rules) (w v : World) → Conversation r w → TargetHears r w v → Conversation r v
+pub target-hears-keeps : (r : Rules) (w v : World) → Conversation r w → TargetHearsRightly r w v → Conversation r v
 target-hears-keeps r w v k g = hears-keeps r w v k g g.l.message refl g.turn
 
 -- ---- a target does its idle work

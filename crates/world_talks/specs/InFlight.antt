@@ -19,7 +19,7 @@ use Rattle.world_base.specs.declared.request.FetchRequest.{FetchRequest}
 use Rattle.world_base.specs.declared.target.TargetState.{TargetState}
 use Rattle.world_base.specs.declared.world.World.{World}
 use Rattle.world_base.specs.ClientTurns.{is_waiting, waits}
-use Rattle.world_base.specs.Events.{Rules, TargetHears, client_plan, kept, target_plan}
+use Rattle.world_base.specs.Events.{Rules, TargetHearsRightly, client_plan, kept, target_plan}
 use Rattle.world_base.specs.Letters.{Takes, client, is_talk_of, is_tell, letter_of, talk_of, target}
 use Rattle.world_talks.specs.AnswerLaws.{answer-not-heard, heard-no-tell, hears-heard, request-is_heard}
 use Rattle.world_talks.specs.AskLaws.{IsRequest, asked-commit, asked-is-request, asked-read, sent-is-asked}
@@ -130,7 +130,7 @@ RequestsAreAsked = (r : Rules) (w : World) (l : Letter) (rest : List Letter) →
 
 -- whatever else a target hears isn't of a client
 abbrev pub OthersAreOfTargets : Type 0
-OthersAreOfTargets = (r : Rules) (w v : World) → Conversation r w → (g : TargetHears r w v) → is_request g.l.message ≡ false → g.l.from.client ≡ false
+OthersAreOfTargets = (r : Rules) (w v : World) → Conversation r w → (g : TargetHearsRightly r w v) → is_request g.l.message ≡ false → g.l.from.client ≡ false
 
 -- a Fetch that waits at a target is what a client that waits has asked
 abbrev pub ParkedAreAsked : Type 0

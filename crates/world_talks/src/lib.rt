@@ -8,7 +8,7 @@ ghost use Rattle.world_talks.specs.InFlight.{AnswersAreGot, NoneIsCarried, OneIs
 /// a client that waits has exactly one carrier: what it asked, or the answer to that, in flight; its
 /// Fetch at a target where that waits; or its attempt at a target where that is undecided. A client
 /// that doesn't wait has none; and what is to be read or committed comes from clients that are there.
-/// Each event keeps it so; and so it is where nothing is in flight, no target holds anything and no
+/// Each right event keeps it so; and so it is where nothing is in flight, no target holds anything and no
 /// client waits.
 pub fn laws_of_talks()
     ensures begin { ConversationsBegin }

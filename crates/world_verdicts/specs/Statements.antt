@@ -12,7 +12,7 @@ use Rattle.world_base.specs.declared.client.ClientState.{ClientState}
 use Rattle.world_base.specs.declared.letter.Letter.{Letter}
 use Rattle.world_base.specs.declared.world.World.{World}
 use Rattle.world_base.specs.ClientTurns.{heard, moved}
-use Rattle.world_base.specs.Events.{Rules, TargetHears, TargetIdles, client_plan}
+use Rattle.world_base.specs.Events.{Rules, TargetHearsRightly, TargetIdles, client_plan}
 use Rattle.world_base.specs.Letters.{Takes, client}
 use Rattle.world_base.specs.Steps.{KeptByCounting, after_move, without}
 use Rattle.world_lines.specs.Lines.{Endings, Lines}
@@ -35,7 +35,7 @@ HearingKeepsVerdicts = (r : Rules) (h : History) (w : World) (n : ℕ) (c : Clie
 
 -- a target's turn keeps them, of what is decided and aborted by what it tells, where messages go to whom they should
 abbrev pub TargetsKeepVerdicts : Type 0
-TargetsKeepVerdicts = (r : Rules) (h later : History) (w v : World) → Endings w → AreAddressed r v → Verdicts r h w → (g : TargetHears r w v) → GrowsBy h g.did.posts later → Verdicts r later v
+TargetsKeepVerdicts = (r : Rules) (h later : History) (w v : World) → Endings w → AreAddressed r v → Verdicts r h w → (g : TargetHearsRightly r w v) → GrowsBy h g.did.posts later → Verdicts r later v
 
 -- and so does idle work
 abbrev pub IdleWorkKeepsVerdicts : Type 0

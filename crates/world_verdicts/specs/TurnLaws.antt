@@ -26,7 +26,7 @@ use Rattle.world_clients.specs.AnswerLaws.{numbered-here}
 use Rattle.world_clients.specs.Answered.{is_refusal}
 use Rattle.world_clients.specs.MoveLaws.{IsAt, is-at}
 use Rattle.world_clients.specs.Standing.{HasTold}
-use Rattle.world_base.specs.Events.{Rules, TargetHears, TargetIdles, client_plan, commands_or_none, kept, or_issued, target_plan, with_epoch}
+use Rattle.world_base.specs.Events.{Rules, TargetHearsRightly, TargetIdles, client_plan, commands_or_none, kept, or_issued, target_plan, with_epoch}
 use Rattle.world_base.specs.Letters.{Takes, client, letter_of, letters_of, target}
 use Rattle.world_base.specs.Steps.{KeptByCounting, after_move, without}
 use Rattle.world_lines.specs.Lines.{Endings, IsCommitted, Lines, TellsEnd, filled}
@@ -400,7 +400,7 @@ heard-no-end l h x own how q = let bad : false ≡ true = sym (ap is_heard q) �
 no-lines : (w : World) (did : Did) → did.lines ≡ [] → w.lines ++ map (with_epoch w.issued) did.lines ≡ w.lines
 no-lines w did none = ap (λ ls. w.lines ++ map (with_epoch w.issued) ls) none ∙ append-nil w.lines
 
-pub verdicts-by-target : (r : Rules) (h later : History) (w v : World) → Endings w → AreAddressed r v → Verdicts r h w → (g : TargetHears r w v) → GrowsBy h g.did.posts later → Verdicts r later v
+pub verdicts-by-target : (r : Rules) (h later : History) (w v : World) → Endings w → AreAddressed r v → Verdicts r h w → (g : TargetHearsRightly r w v) → GrowsBy h g.did.posts later → Verdicts r later v
 verdicts-by-target r h later w v endings home k g grows = verdicts-by-sending r h later w v k g.t g.rest g.did.posts sent grows
   where
     ends : PostsEnd g.did.posts × (g.did.lines ≡ [])

@@ -1,4 +1,4 @@
--- Every event keeps that decided attempts are exactly those that are told as committed.
+-- Every right event keeps that decided attempts are exactly those that are told as committed.
 use Rattle.std.specs.Prelude.{ℕ, ◌≡◌, ◌≢◌, ◌⊎◌, ◌++◌, true, List, map, Contains, Option, Some}
 use Rattle.std.proofs.Common.{sym, ◌∙◌, ap, subst, inl, inr}
 use Rattle.daos_base.specs.declared.epoch.Epoch.{Epoch}

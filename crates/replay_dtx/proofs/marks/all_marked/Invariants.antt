@@ -4,4 +4,4 @@ use Rattle.replay_dtx.proofs.marks.all_marked.Given as goal
 
 -- what is left leads to the same
 abbrev pub invariant-loop-mark : goal.invariant-loop-mark
-invariant-loop-mark l = all_marked l.me (drop l.mark-index l.marks) l.start ≡ all_marked l.me l.marks l.initial.start
+invariant-loop-mark l = all_marked (drop l.mark-index l.marks) l.start ≡ all_marked l.marks l.initial.start

@@ -4,7 +4,7 @@ use Rattle.daos_model.specs.Changes.{settled}
 use Rattle.world_base.specs.Changes.{Settles}
 use Rattle.target_parts.specs.Cover.{was_cut}
 use Rattle.target_parts.specs.Keeping.{MadeOrCut}
-use Rattle.target_parts.proofs.Doubts.{step-of_table}
+use Rattle.target_parts.proofs.Prepared.{step-of_table}
 use Rattle.target_parts.proofs.kept.settle.Goals as goal
 
 pub returns-in_err-settle-clause-made : goal.returns-in_err-settle-clause-made

@@ -1,5 +1,6 @@
 use Rattle.std.proofs.Common.{◌≡◌, ◌<◌, Err, arith, inl, inr, length, refl, rules, subst, sym}
 use Rattle.daos_laws.specs.Members.{Has}
+use Rattle.world_base.specs.Roles.{is_prepared}
 use Rattle.world_base.specs.Turns.{Reached, Whole}
 use Rattle.world_base.specs.Verdicts.{Freed, VerdictEnds, VerdictNext}
 use Rattle.target_parts.specs.Ending.{turn_wanting}
@@ -25,7 +26,7 @@ loop-plan-init g c = record {
   reached = λ d at m reading a ask v. record {
     durable = d;
     kept_is = at;
-    holds = subst (λ xs. Reached (VerdictNext c.args.plan m reading a ask v) (Freed c.args.asks (memory_of c.args.knows.now) c.args.posts) (kept d (g.S.Store.state c.args.store.now)) (Freed xs (memory_of c.args.knows.now) c.args.posts) (kept d (g.S.Store.state c.args.store.now)))
+    holds = subst (λ xs. Reached (VerdictNext is_prepared c.args.plan m reading a ask v) (Freed c.args.asks (memory_of c.args.knows.now) c.args.posts) (kept d (g.S.Store.state c.args.store.now)) (Freed xs (memory_of c.args.knows.now) c.args.posts) (kept d (g.S.Store.state c.args.store.now)))
         (sym c.into_vec-rest.ensures) (reached-here _ _ _);
   };
 }
@@ -47,10 +48,10 @@ returns-in_err-did-clause-turn g c d at m reading a ask v =
     let start = Freed c.args.asks (memory_of c.args.knows.now) c.args.posts in
     let now = c.loop-plan.invariant.reached d at m reading a ask v in
     let is : c.from_residual.result ≡ Err c.in_err-did.field-0.0 = search rules in
-    subst (λ r. Turn (VerdictNext c.args.plan m reading a ask v) never start old (λ did l. Whole (VerdictNext c.args.plan m reading a ask v) VerdictEnds start old l (memory_of c.hear_again.new.knows, did)) (g.S.Store.durable c.hear_again.new.store) (g.S.Store.state c.hear_again.new.store) (g.S.Store.may c.hear_again.new.store) r)
+    subst (λ r. Turn (VerdictNext is_prepared c.args.plan m reading a ask v) never start old (λ did l. Whole (VerdictNext is_prepared c.args.plan m reading a ask v) VerdictEnds start old l (memory_of c.hear_again.new.knows, did)) (g.S.Store.durable c.hear_again.new.store) (g.S.Store.state c.hear_again.new.store) (g.S.Store.may c.hear_again.new.store) r)
     (sym is)
     (tried-stops c.args.plan m reading a ask v start old (memory_of c.loop-plan.knows) c.remove.result c.loop-plan.rest.items c.remove.new.self.items c.loop-plan.posts now.durable (g.S.Store.state c.loop-plan.store) (g.S.Store.state c.hear_again.new.store)
-    (g.S.Store.durable c.hear_again.new.store) (g.S.Store.may c.hear_again.new.store) (memory_of c.hear_again.new.knows) removed now.holds (λ did l. Whole (VerdictNext c.args.plan m reading a ask v) VerdictEnds start old l (memory_of c.hear_again.new.knows, did)) c.in_err-did.field-0.0 (c.in_err-did.ensures.turn now.durable now.kept_is reading))
+    (g.S.Store.durable c.hear_again.new.store) (g.S.Store.may c.hear_again.new.store) (memory_of c.hear_again.new.knows) removed now.holds (λ did l. Whole (VerdictNext is_prepared c.args.plan m reading a ask v) VerdictEnds start old l (memory_of c.hear_again.new.knows, did)) c.in_err-did.field-0.0 (c.in_err-did.ensures.turn now.durable now.kept_is reading))
 
 pub returns-in_err-push_all-clause-turn : goal.returns-in_err-push_all-clause-turn
 returns-in_err-push_all-clause-turn g c d at m reading a ask v =
@@ -59,8 +60,8 @@ returns-in_err-push_all-clause-turn g c d at m reading a ask v =
     let start = Freed c.args.asks (memory_of c.args.knows.now) c.args.posts in
     let now = c.loop-plan.invariant.reached d at m reading a ask v in
     let is : c.from_residual-in_err-push_all.result ≡ Err stop_memory = search rules in
-    turn_wanting (VerdictNext c.args.plan m reading a ask v) never start old (g.S.Store.durable c.hear_again.new.store) (g.S.Store.state c.hear_again.new.store) (g.S.Store.may c.hear_again.new.store)
-    (λ did l. Whole (VerdictNext c.args.plan m reading a ask v) VerdictEnds start old l (memory_of c.hear_again.new.knows, did)) _ is
+    turn_wanting (VerdictNext is_prepared c.args.plan m reading a ask v) never start old (g.S.Store.durable c.hear_again.new.store) (g.S.Store.state c.hear_again.new.store) (g.S.Store.may c.hear_again.new.store)
+    (λ did l. Whole (VerdictNext is_prepared c.args.plan m reading a ask v) VerdictEnds start old l (memory_of c.hear_again.new.knows, did)) _ is
     (partway-from c.args.plan m reading a ask v start old _ (g.S.Store.state c.hear_again.new.store) (g.S.Store.durable c.hear_again.new.store)
     (tried-whole c.args.plan m reading a ask v start old (memory_of c.loop-plan.knows) c.remove.result c.loop-plan.rest.items c.remove.new.self.items c.loop-plan.posts now.durable (g.S.Store.state c.loop-plan.store) (g.S.Store.state c.hear_again.new.store)
     (g.S.Store.durable c.hear_again.new.store) (g.S.Store.may c.hear_again.new.store) (memory_of c.hear_again.new.knows) removed now.holds c.in_ok-did.did (c.in_ok-did.ensures.turn now.durable now.kept_is reading)))
@@ -89,7 +90,7 @@ loop-plan-preserved g c =
           let now = inv.reached d at m reading a ask v in
           let old = kept d (g.S.Store.state c.args.store.now) in
           let start = Freed c.args.asks (memory_of c.args.knows.now) c.args.posts in
-          subst (λ posts. Now (g.S.Store.durable c.hear_again.new.store) (g.S.Store.state c.hear_again.new.store) (λ l. Reached (VerdictNext c.args.plan m reading a ask v) start old (Freed c.remove.new.self.items (memory_of c.hear_again.new.knows) posts) l))
+          subst (λ posts. Now (g.S.Store.durable c.hear_again.new.store) (g.S.Store.state c.hear_again.new.store) (λ l. Reached (VerdictNext is_prepared c.args.plan m reading a ask v) start old (Freed c.remove.new.self.items (memory_of c.hear_again.new.knows) posts) l))
           (sym c.in_ok-push_all.ensures)
           (tried-whole c.args.plan m reading a ask v start old (memory_of c.loop-plan.knows) c.remove.result c.loop-plan.rest.items c.remove.new.self.items c.loop-plan.posts now.durable (g.S.Store.state c.loop-plan.store) (g.S.Store.state c.hear_again.new.store)
           (g.S.Store.durable c.hear_again.new.store) (g.S.Store.may c.hear_again.new.store) (memory_of c.hear_again.new.knows) removed now.holds c.in_ok-did.did (one.turn now.durable now.kept_is reading));

@@ -4,6 +4,7 @@ use Rattle.daos_base.specs.declared.entry.Verdict.{Verdict}
 use Rattle.daos_base.specs.declared.id.AttemptId.{AttemptId}
 use Rattle.daos_model.specs.declared.durable.Durable.{Durable}
 use Rattle.world_base.specs.declared.target.TargetMemory.{TargetMemory}
+use Rattle.world_base.specs.Roles.{is_prepared}
 use Rattle.world_base.specs.Turns.{Reached}
 use Rattle.world_base.specs.Verdicts.{Freed, VerdictNext}
 use Rattle.target_parts.specs.Knowing.{IsOwn, LeadsWell, memory_of}
@@ -21,7 +22,7 @@ invariant-loop-plan g l = record {
   leads : ForSome (g.S.Store.durable l.store) (LeadsWell l.plan (memory_of l.knows) l.knows.entries.items);
   posts : PostsInForm l.plan.targets l.fn.knows.leader l.knows.leader l.posts;
   reached : (d : Durable) → g.S.Store.durable l.fn.store ≡ Some d → (m : TargetMemory) (reading : ℕ) (a : AttemptId) (ask : Option AttemptId) (v : Verdict)
-      → Now (g.S.Store.durable l.store) (g.S.Store.state l.store) (λ k. Reached (VerdictNext l.plan m reading a ask v) (Freed l.fn.asks (memory_of l.fn.knows) l.fn.posts) (kept d (g.S.Store.state l.fn.store)) (Freed l.rest.items (memory_of l.knows) l.posts) k);
+      → Now (g.S.Store.durable l.store) (g.S.Store.state l.store) (λ k. Reached (VerdictNext is_prepared l.plan m reading a ask v) (Freed l.fn.asks (memory_of l.fn.knows) l.fn.posts) (kept d (g.S.Store.state l.fn.store)) (Freed l.rest.items (memory_of l.knows) l.posts) k);
 }
 
 abbrev pub decreases-loop-plan : goal.decreases-loop-plan

@@ -1,5 +1,5 @@
--- An attempt that is in doubt here, by the entries that are known.
-use Rattle.std.proofs.Common.{ℕ, ◌≡◌, refl, sym, ◌∙◌, ap, Bool, true, false, not, List, Option, Some, None}
+-- An attempt that is prepared here, by the entries that are known.
+use Rattle.std.proofs.Common.{◌≡◌, refl, sym, ◌∙◌, ap, Bool, true, false, not, List, Option, Some, None}
 use Rattle.daos_base.specs.declared.entry.Entry.{Entry}
 use Rattle.daos_base.specs.declared.entry.Settle.{Settle}
 use Rattle.daos_base.specs.declared.entry.Settle.TheVariants.{Commit, Abort, Confirm, Forget}
@@ -9,19 +9,18 @@ use Rattle.daos_model.specs.Durables.{entry_of}
 use Rattle.dtx_table.specs.Tables as table
 use Rattle.dtx_table.specs.Tables.{entry_in}
 use Rattle.vos_store.specs.Conditions.{CanSettle, IsStep}
-use Rattle.world_base.specs.DoubtLaws.{in_doubt-prepared}
-use Rattle.world_base.specs.Roles.{is_entry_in_doubt, is_in_doubt, is_open_entry, is_prepared}
+use Rattle.world_base.specs.Roles.{is_open_entry, is_prepared}
 use Rattle.target_parts.specs.Keeping.{IsEnding}
 
 -- what the entries that are known tell is so of those that are kept
-pub doubt-known : (me : ℕ) (a : AttemptId) (es : List Entry) (d : Durable) (b : Bool) → es ≡ d.entries → b ≡ is_entry_in_doubt me (entry_in es a) → is_in_doubt me a d ≡ b
-unfolding is_in_doubt entry_of
-doubt-known me a es d b same is = ap (λ xs. is_entry_in_doubt me (entry_in xs a)) (sym same) ∙ sym is
+pub prepared-known : (a : AttemptId) (es : List Entry) (d : Durable) (b : Bool) → es ≡ d.entries → b ≡ is_open_entry (entry_in es a) → is_prepared a d ≡ b
+unfolding is_prepared entry_of
+prepared-known a es d b same is = ap (λ xs. is_open_entry (entry_in xs a)) (sym same) ∙ sym is
 
 -- it can be ended then
-pub doubt-ends : (me : ℕ) (a : AttemptId) (step : Settle) (d : Durable) → IsEnding step → is_in_doubt me a d ≡ true → CanSettle a step d
+pub prepared-ends : (a : AttemptId) (step : Settle) (d : Durable) → IsEnding step → is_prepared a d ≡ true → CanSettle a step d
 unfolding is_prepared
-doubt-ends me a step d ends doubt = by (entry_of d a) refl (in_doubt-prepared me a d doubt)
+prepared-ends a step d ends here = by (entry_of d a) refl here
   where
     fits : (e : Entry) (step : Settle) → IsEnding step → not e.committed ≡ true → entry_of d a ≡ Some e → CanSettle a step d
     fits e Commit ends unsettled here = record { entry = e; here = here; fits = not-open e.committed unsettled }
