@@ -4,6 +4,7 @@
 
 pub mod below_read;
 pub mod names;
+pub mod own_attempt;
 pub mod parts;
 #[cfg(test)]
 mod tests;

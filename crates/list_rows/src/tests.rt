@@ -1,5 +1,5 @@
 // Runs that are told truly are accepted, and none where one thing is changed.
-use crate::{below_read, two_targets};
+use crate::{below_read, own_attempt, two_targets};
 use std::test::Fail;
 use world_check::check::check_list;
 
@@ -89,6 +89,52 @@ fn replicas_and_a_read_that_waits(rt: HostRuntime) -> Result<(), Fail> {
     ];
     for (accepted, told, what) in rows {
         let events = two_targets::events_without(alloc, told, 0)?;
+        assert_eq!(rt; check_list(alloc, &events)?, accepted, "{what}");
+    }
+    Ok(())
+}
+
+#[test]
+fn a_leader_settles_what_it_is_told_of_its_own_attempt(rt: HostRuntime) -> Result<(), Fail> {
+    let alloc = rt.alloc();
+    let told = |marks, commits, settles, forgets| own_attempt::Told {
+        marks,
+        commits,
+        settles,
+        forgets,
+    };
+    let rows = [
+        (true, told(true, true, true, true), "a Mark of a commit"),
+        (true, told(true, false, true, true), "a Mark of an abort"),
+        (true, told(false, true, true, true), "a Verdict of a commit"),
+        (
+            true,
+            told(false, false, true, true),
+            "a Verdict of an abort",
+        ),
+        (
+            false,
+            told(true, true, false, true),
+            "a Mark that settles nothing",
+        ),
+        (
+            false,
+            told(false, false, false, true),
+            "a Verdict that settles nothing",
+        ),
+        (
+            false,
+            told(true, true, true, false),
+            "a leader that goes on waiting",
+        ),
+        (
+            false,
+            told(false, false, false, false),
+            "a leader that passes it by",
+        ),
+    ];
+    for (accepted, told, what) in rows {
+        let events = own_attempt::events(alloc, told)?;
         assert_eq!(rt; check_list(alloc, &events)?, accepted, "{what}");
     }
     Ok(())

@@ -43,7 +43,8 @@ pub struct Told {
     pub stays: bool,
 }
 
-const WRITER: AttemptId = AttemptId {
+/// The attempt that writes.
+pub const WRITER: AttemptId = AttemptId {
     client: 0,
     command: 0,
     attempt: 0,
@@ -69,8 +70,8 @@ pub fn row_script(alloc: Global) -> Result<Script, RowNo> {
     Ok(script(alloc, 2, clients))
 }
 
-// A client that waits in its command of this number, for the end of an attempt or else a read.
-fn waits(over: u8, tracker: u64, asks: bool) -> ClientAt {
+/// A client that waits in its command of this number, for the end of an attempt or else a read.
+pub fn waits(over: u8, tracker: u64, asks: bool) -> ClientAt {
     ClientAt {
         over,
         tracker: Epoch(tracker),
@@ -95,7 +96,8 @@ fn the_client(turn: u8, told: Told) -> ClientAt {
     }
 }
 
-fn versions(alloc: Global, there: bool, done: bool) -> Result<Versions, RowNo> {
+/// What a target keeps of the write, once it is there, and whether it is done.
+pub fn versions(alloc: Global, there: bool, done: bool) -> Result<Versions, RowNo> {
     let mut versions = Items::new(alloc);
     if there {
         versions.push(Version {
@@ -109,8 +111,8 @@ fn versions(alloc: Global, there: bool, done: bool) -> Result<Versions, RowNo> {
     Ok(versions)
 }
 
-// The write's entry, committed or not, with those who confirmed it.
-fn entry(committed: bool, confirmed: u64) -> Entry {
+/// The write's entry, committed or not, with those who confirmed it.
+pub fn entry(committed: bool, confirmed: u64) -> Entry {
     Entry {
         attempt: WRITER,
         epoch: Epoch(256),
@@ -121,15 +123,15 @@ fn entry(committed: bool, confirmed: u64) -> Entry {
     }
 }
 
-// The write alone.
-fn the_write(alloc: Global) -> Result<AttemptIds, RowNo> {
+/// The write alone.
+pub fn the_write(alloc: Global) -> Result<AttemptIds, RowNo> {
     let mut ids = Items::new(alloc);
     ids.push(WRITER)?;
     Ok(ids)
 }
 
-// The leader while it waits for the Ack.
-fn undecided(alloc: Global) -> Result<LeaderMemory, RowNo> {
+/// The leader while it waits for the Ack.
+pub fn undecided(alloc: Global) -> Result<LeaderMemory, RowNo> {
     let mut memory = decided(alloc, Items::new(alloc));
     memory.undecided.push(Undecided {
         attempt: WRITER,
