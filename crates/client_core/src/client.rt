@@ -18,7 +18,7 @@ use world_base::client::{ClientPlan, ClientState, KnownSnap, KnownSnaps};
 use world_base::did::Did;
 
 /// A client of a run, seen as what it has to do and how far it came.
-#[derive(Debug, Drop)]
+#[derive(Drop)]
 pub struct Client {
     alloc: Global,
     plan: ClientPlan,

@@ -12,7 +12,7 @@ use world_base::client::{ClientPlan, ClientState, Present};
 
 /// What a client does next: the message that it sends and the line that it adds, if any; whether
 /// its turn is over; and what it then is.
-#[derive(Debug, Drop)]
+#[derive(Drop)]
 pub struct Move {
     pub post: Option<Post>,
     pub line: Option<Line>,

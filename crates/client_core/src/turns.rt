@@ -14,7 +14,7 @@ use world_base::client::{ClientPlan, ClientState};
 use world_base::did::Did;
 
 /// What follows from a client's turn so far, and what the client then is.
-#[derive(Debug, Drop)]
+#[derive(Drop)]
 pub struct Turn {
     pub did: Did,
     pub state: ClientState,

@@ -33,9 +33,10 @@ same_key-Decides a b = slice_eq-Decides Decides-eqb a b (same_key a b) refl
 pub same_object-Decides : (a b : ObjId) → Decides (same_object a b) (a ≡ b)
 same_object-Decides a b =
     Decides-like (same_object a b)
-    (λ h. let class = class_number-injective a.class b.class h.0 in let number = h.1 in λ i. record { class = class i; number = number i })
-    (λ e. (ap (λ o. class_number o.class) e, ap (λ o. o.number) e))
-    (Decides-and _ _ (Decides-eqb (class_number a.class) (class_number b.class)) (Decides-eqb a.number b.number))
+    (λ h. let class = class_number-injective a.class b.class h.0.0 in let number = h.0.1 in let unit = h.1 in
+    λ i. record { class = class i; number = number i; unit = unit i })
+    (λ e. ((ap (λ o. class_number o.class) e, ap (λ o. o.number) e), ap (λ o. o.unit) e))
+    (Decides-and _ _ (Decides-and _ _ (Decides-eqb (class_number a.class) (class_number b.class)) (Decides-eqb a.number b.number)) (Decides-eqb a.unit b.unit))
 
 option_eq-Decides : {T : Type 0} (same : T → T → Bool) → ((a b : T) → Decides (same a b) (a ≡ b)) → (x y : Option T) → Decides (option_eq same x y) (x ≡ y)
 option_eq-Decides same each None None = (λ h. refl, λ e. refl)

@@ -23,9 +23,18 @@ class_number RP2GX = 6
 class_number RP3G1 = 7
 class_number RP3GX = 8
 
--- objects of one container are the same where class and number are
+-- objects of one container are the same where class, number and record size are
 abbrev pub same_object : ObjId → ObjId → Bool
-same_object a b = (class_number a.class == class_number b.class) && (a.number == b.number)
+same_object a b = (class_number a.class == class_number b.class) && (a.number == b.number) && (a.unit == b.unit)
+
+-- the record size of an object that a path may name: 1 where it names none
+abbrev pub unit_of : Option ObjId → ℕ
+unit_of None = 1
+unit_of (Some o) = o.unit
+
+-- the record size of the arrays under a path
+abbrev pub record_size : Path → ℕ
+record_size p = unit_of p.obj
 
 -- how far a path goes
 abbrev pub level_of : Path → Level
@@ -72,10 +81,10 @@ cont_bytes c = to_be_bytes w128 c.0
 unfoldable pub number_bytes : ℕ → List ℕ
 number_bytes n = to_be_bytes w64 n
 
--- the class number and the object number, if there is an object
+-- the class number, the record size and the object number, if there is an object
 abbrev pub object_bytes : Option ObjId → List ℕ
 object_bytes None = []
-object_bytes (Some o) = class_number o.class ∷ number_bytes o.number
+object_bytes (Some o) = class_number o.class ∷ o.unit ∷ number_bytes o.number
 
 abbrev pub dkey_bytes : Option (List ℕ) → List ℕ
 dkey_bytes None = []

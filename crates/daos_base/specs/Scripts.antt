@@ -1,9 +1,7 @@
--- What a script is that a text stands for, and which of them are run so far.
-use Rattle.std.specs.Prelude.{ℕ, suc, Bool, true, false, ◌≡◌, ◌≤◌, ◌<◌, ◌+◌, ◌^◌, ◌&&◌, ◌==◌, nat_eq, List, [], ◌∷◌, ◌++◌, length, map, count_by, All, Any, Option, Some, None}
+-- What a script is that a text stands for.
+use Rattle.std.specs.Prelude.{ℕ, suc, Bool, true, false, ◌≡◌, ◌≤◌, ◌<◌, ◌+◌, ◌*◌, ◌/◌, ◌%◌, ◌^◌, ◌&&◌, ◌==◌, nat_eq, List, [], ◌∷◌, ◌++◌, length, map, count_by, All, Any, Option, Some, None}
 use Rattle.std.specs.List.{IsDistinct, list_all}
 use Rattle.daos_base.specs.declared.epoch.Epoch.{Epoch}
-use Rattle.daos_base.specs.declared.id.Class.{Class}
-use Rattle.daos_base.specs.declared.id.Class.TheVariants.{S1}
 use Rattle.daos_base.specs.declared.id.ContId.{ContId}
 use Rattle.daos_base.specs.declared.path.Path.{Path}
 use Rattle.daos_base.specs.declared.operation.Act.{Act}
@@ -24,7 +22,7 @@ use Rattle.daos_base.specs.declared.script.StopDecl.{StopDecl}
 use Rattle.daos_base.specs.declared.script.Script.{Script}
 use Rattle.daos_base.specs.Keys.{same_key}
 use Rattle.daos_base.specs.Operations.{act_path}
-use Rattle.daos_base.specs.Paths.{class_number, same_object}
+use Rattle.daos_base.specs.Paths.{record_size, same_object}
 use Rattle.daos_base.specs.Placement.{ClassFits}
 
 -- ---- what is declared
@@ -46,6 +44,10 @@ same_declared a b = (a.cont.0 == b.cont.0) && same_object a.id b.id
 abbrev pub IsContOf : List ContDecl → ContId → Type 0
 IsContOf conts id = Any (λ c. c.id ≡ id) conts
 
+-- a record size: from 1 to 64 bytes
+abbrev pub IsUnit : ℕ → Type 0
+IsUnit size = (0 < size) × (size ≤ 64)
+
 -- what is declared: containers with names and identities of their own, and objects in them likewise
 pub record AreDeclared (s : Script) : Type 0 where
   pub conts : length s.conts ≤ 256
@@ -55,6 +57,7 @@ pub record AreDeclared (s : Script) : Type 0 where
   pub obj_names : IsDistinct same_key (map obj_name s.objs)
   pub obj_ids : IsDistinct same_declared s.objs
   pub obj_conts : All (λ o. IsContOf s.conts o.cont) s.objs
+  pub obj_units : All (λ o. IsUnit o.id.unit) s.objs
 
 -- the K-th write of a target's region may be told to fail for K from 1 to 1,000,000
 pub record IsStop (targets : ℕ) (d : StopDecl) : Type 0 where
@@ -95,18 +98,22 @@ pub record IsPathOf (objs : List ObjDecl) (p : Path) : Type 0 where
 abbrev pub IsLength : ℕ → Type 0
 IsLength len = (0 < len) × (len ≤ 1024)
 
--- a read whose path ends at its level, whose length is from 1 to 1,024 and whose end is at most 2^32 - 1
+-- bytes that are whole records of a size
+abbrev pub AreRecords : ℕ → List ℕ → Type 0
+AreRecords size bytes = length bytes % size ≡ 0
+
+-- a read whose path ends at its level; records that it asks for have 1 to 1,024 bytes, and end at the index 2^32 - 1 at most
 abbrev pub IsReadInForm : List ObjDecl → Read → Type 0
 IsReadInForm objs (read.Single p) = IsAkeyOf objs p
-IsReadInForm objs (read.Extent p low len) = IsAkeyOf objs p × IsLength len × (low + len < 2 ^ 32)
+IsReadInForm objs (read.Extent p low len) = IsAkeyOf objs p × IsLength (len * record_size p) × (low + len < 2 ^ 32)
 IsReadInForm objs (read.Dkeys p) = IsObjectOf objs p
 IsReadInForm objs (read.Akeys p) = IsDkeyOf objs p
 IsReadInForm objs (read.Exists p) = IsPathOf objs p
 
--- a write likewise
+-- a write likewise; to an array it writes whole records, and a value has 1 to 1,024 bytes
 abbrev pub IsWriteInForm : List ObjDecl → Write → Type 0
 IsWriteInForm objs (write.Single p bytes) = IsAkeyOf objs p × IsLength (length bytes)
-IsWriteInForm objs (write.Extent p low bytes) = IsAkeyOf objs p × IsLength (length bytes) × (low + length bytes < 2 ^ 32)
+IsWriteInForm objs (write.Extent p low bytes) = IsAkeyOf objs p × IsLength (length bytes) × AreRecords (record_size p) bytes × (low + length bytes / record_size p < 2 ^ 32)
 IsWriteInForm objs (write.PunchObject p) = IsObjectOf objs p
 IsWriteInForm objs (write.PunchDkey p) = IsDkeyOf objs p
 IsWriteInForm objs (write.PunchAkey p) = IsAkeyOf objs p
@@ -120,7 +127,7 @@ abbrev pub is_fetch : Act → Bool
 is_fetch (Fetch r) = true
 is_fetch (Change w) = false
 
--- all but the question whether there is a cell may be asked to find one
+-- all but the question whether there is a cell may be asked to find one, or to find none
 abbrev pub may_read_must : Read → Bool
 may_read_must (read.Single p) = true
 may_read_must (read.Extent p low len) = true
@@ -132,23 +139,11 @@ abbrev pub may_must : Act → Bool
 may_must (Fetch r) = may_read_must r
 may_must (Change w) = true
 
--- what sets a value or an extent may be asked to find no cell
-abbrev pub may_write_must_not : Write → Bool
-may_write_must_not (write.Single p bytes) = true
-may_write_must_not (write.Extent p low bytes) = true
-may_write_must_not (write.PunchObject p) = false
-may_write_must_not (write.PunchDkey p) = false
-may_write_must_not (write.PunchAkey p) = false
-
-abbrev pub may_must_not : Act → Bool
-may_must_not (Fetch r) = false
-may_must_not (Change w) = may_write_must_not w
-
 -- a condition that an act may have
 abbrev pub may_have : Cond → Act → Bool
 may_have Free act = true
 may_have Must act = may_must act
-may_have MustNot act = may_must_not act
+may_have MustNot act = may_must act
 
 pub record IsOpInForm (objs : List ObjDecl) (op : Op) : Type 0 where
   pub act : IsActInForm objs op.act
@@ -245,6 +240,8 @@ pub record IsInForm (targets : ℕ) (s : Script) : Type 0 where
   pub classes : All (λ o. ClassFits o.id.class targets) s.objs
   pub olds : length s.olds ≤ 256
   pub old_conts : All (λ d. IsContOf s.conts d.cont) s.olds
+  pub drops : All (λ name. Any (λ d. d.name ≡ name) s.olds) s.drops
+  pub drops_once : IsDistinct same_key s.drops
   pub snap_names : IsDistinct same_key (map (λ (k : SnapName). k.0) (map old_snap s.olds ++ all_snaps s.clients))
   pub stops : length s.stops ≤ 64
   pub stops_fit : All (IsStop targets) s.stops
@@ -252,48 +249,3 @@ pub record IsInForm (targets : ℕ) (s : Script) : Type 0 where
   pub few : count_numbered s.clients ≤ 100000
   pub commands : All (λ list. AreCommands s.conts s.objs (map old_snap s.olds) list) s.clients
   pub told : AreTold (length s.clients) 0 s.clients
-
--- ---- what is run so far
-
--- a single value is put or got at an akey of a declared object; a value has 1 to 1,024 bytes
-abbrev pub IsSingleRead : List ObjDecl → Read → Type 0
-IsSingleRead objs (read.Single p) = IsAkeyOf objs p
-IsSingleRead objs (read.Extent p low len) = ⊥
-IsSingleRead objs (read.Dkeys p) = ⊥
-IsSingleRead objs (read.Akeys p) = ⊥
-IsSingleRead objs (read.Exists p) = ⊥
-
-abbrev pub IsSingleWrite : List ObjDecl → Write → Type 0
-IsSingleWrite objs (write.Single p bytes) = IsAkeyOf objs p × (0 < length bytes) × (length bytes ≤ 1024)
-IsSingleWrite objs (write.Extent p low bytes) = ⊥
-IsSingleWrite objs (write.PunchObject p) = ⊥
-IsSingleWrite objs (write.PunchDkey p) = ⊥
-IsSingleWrite objs (write.PunchAkey p) = ⊥
-
-abbrev pub IsSingleAct : List ObjDecl → Act → Type 0
-IsSingleAct objs (Fetch r) = IsSingleRead objs r
-IsSingleAct objs (Change w) = IsSingleWrite objs w
-
--- a transaction of one operation, which has no condition: a put or a get of a single value
-abbrev pub IsPutOrGet : List ObjDecl → Command → Type 0
-IsPutOrGet objs (Run ops skips snapshot) =
-    ((op : Op) × (ops ≡ op ∷ []) × (op.cond ≡ Free) × IsSingleAct objs op.act) × (skips ≡ 0 ∷ 0 ∷ []) × (snapshot ≡ None)
-IsPutOrGet objs (Snap name cont) = ⊥
-IsPutOrGet objs (Aggregate cont) = ⊥
-IsPutOrGet objs (Tell client) = ⊥
-IsPutOrGet objs (Skip turns) = ⊥
-
--- a script of at most one client, which puts and gets single values of objects of class S1
-pub record IsRunSoFar (s : Script) : Type 0 where
-  pub classes : All (λ o. o.id.class ≡ S1) s.objs
-  pub olds : s.olds ≡ []
-  pub stops : s.stops ≡ []
-  pub clients : length s.clients ≤ 1
-  pub few : All (λ list. length list ≤ 100000) s.clients
-  pub commands : All (λ list. All (λ c. IsPutOrGet s.objs c) list) s.clients
-
--- a script that a run for so many targets can be given so far
-pub record IsRunnable (targets : ℕ) (s : Script) : Type 0 where
-  pub read_for : s.targets ≡ targets
-  pub declared : AreDeclared s
-  pub run_so_far : IsRunSoFar s

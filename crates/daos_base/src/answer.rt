@@ -4,8 +4,8 @@ ghost use Rattle.std.specs.Prelude.{◌≡◌, IfOk};
 use crate::items::{Items, Memory, TryCopy, Vec8};
 use crate::key::Key;
 
-/// A run of an array: its bytes, or a hole of so many indexes.
-#[derive(Clone, Debug, Drop)]
+/// A run of an array: the bytes of its records, or a hole of so many records.
+#[derive(Drop)]
 pub enum Piece {
     Bytes(Vec8),
     Hole(u32),
@@ -28,7 +28,7 @@ pub type Keys = Items<Key>;
 
 /// What a read is answered: the bytes of a single value or that there are none, the pieces of an
 /// array, the names that have a cell, or whether there is a cell.
-#[derive(Clone, Debug, Drop)]
+#[derive(Drop)]
 pub enum Answer {
     Bytes(Vec8),
     Parts(Pieces),

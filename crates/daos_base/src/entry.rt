@@ -6,7 +6,7 @@ use crate::items::{Items, Memory, TryCopy};
 /// An entry: the attempt, the epoch of its writes, its leader, its members and those of them that
 /// confirmed the commit, one bit for each target from the lowest on, and whether it is committed
 /// or still prepared.
-#[derive(Clone, Copy, Debug, PartialEq, Eq)]
+#[derive(Clone, Copy)]
 pub struct Entry {
     pub attempt: AttemptId,
     pub epoch: Epoch,
@@ -27,7 +27,7 @@ pub type Entries = Items<Entry>;
 
 /// A step of an entry: a prepared one is committed, or aborted and so removed; a committed one has
 /// a further confirmed member, or is forgotten.
-#[derive(Clone, Copy, Debug, PartialEq, Eq)]
+#[derive(Clone, Copy)]
 pub enum Settle {
     Commit,
     Abort,
@@ -37,7 +37,7 @@ pub enum Settle {
 
 /// What a member answers its leader of an attempt: its entry is prepared or committed, or it has
 /// none.
-#[derive(Clone, Copy, Debug, PartialEq, Eq)]
+#[derive(Clone, Copy)]
 pub enum EntryState {
     Prepared,
     Committed,
@@ -45,7 +45,7 @@ pub enum EntryState {
 }
 
 /// What a leader answers a member of an attempt.
-#[derive(Clone, Copy, Debug, PartialEq, Eq)]
+#[derive(Clone, Copy)]
 pub enum Verdict {
     Committed,
     Aborted,

@@ -1,7 +1,7 @@
 // What is wrong with words and scripts.
 
 /// What is wrong with a line of a script.
-#[derive(Clone, Copy, Debug, PartialEq, Eq, PartialOrd, Ord)]
+#[derive(Clone, Copy, Debug)]
 pub enum Why {
     /// A byte other than 32 to 126.
     NotAscii,
@@ -23,6 +23,8 @@ pub enum Why {
     BadName,
     /// No class, or one that doesn't fit the targets.
     BadClass,
+    /// A value that isn't made of whole records of its object.
+    BadRecord,
     /// A line that may not stand there.
     BadBlock,
     /// One more than there may be.
@@ -34,16 +36,16 @@ pub enum Why {
 }
 
 /// The first line with a fault, counted from 1, or 0 where no line is told.
-#[derive(Clone, Copy, Debug, PartialEq, Eq, PartialOrd, Ord)]
+#[derive(Clone, Copy, Debug)]
 pub struct ScriptFault {
     pub line: u32,
     pub why: Why,
 }
 
 /// What is wrong with a word of the command line.
-#[derive(Clone, Copy, Debug, PartialEq, Eq, PartialOrd, Ord)]
+#[derive(Clone, Copy, Debug)]
 pub enum WordKind {
-    /// Neither `run` nor `load`.
+    /// None of `run`, `load`, `rebuild`, `dfs` and `audit`.
     BadJob,
     /// No count from 1 to 10,000 after `load`.
     BadCount,
@@ -63,12 +65,16 @@ pub enum WordKind {
     NoJob,
     /// `load` without its count.
     NoCount,
+    /// A target to rebuild that isn't from 1 to the number of targets less one.
+    BadTarget,
+    /// `rebuild` without its target.
+    NoTarget,
     /// Nothing: the program doesn't run such a job yet.
     NotYet,
 }
 
 /// The first word with a fault, counted from 0 after the program's name.
-#[derive(Clone, Copy, Debug, PartialEq, Eq, PartialOrd, Ord)]
+#[derive(Clone, Copy, Debug)]
 pub struct WordFault {
     pub place: u32,
     pub kind: WordKind,

@@ -5,12 +5,12 @@ ghost use Rattle.daos_base.specs.Paths.{class_number, same_object};
 use crate::items::{Memory, TryCopy};
 
 /// A container, by its UUID as a number.
-#[derive(Clone, Copy, Debug, PartialEq, Eq, PartialOrd, Ord)]
+#[derive(Clone, Copy, Debug)]
 pub struct ContId(pub u128);
 
 /// An attempt to run a command. Clients, a client's commands and a command's attempts are each
 /// numbered from 0.
-#[derive(Clone, Copy, Debug, PartialEq, Eq, PartialOrd, Ord)]
+#[derive(Clone, Copy, Debug, PartialEq, Eq)]
 pub struct AttemptId {
     pub client: u16,
     pub command: u32,
@@ -31,7 +31,7 @@ impl TryCopy for (AttemptId, bool) {
 
 /// How an object is spread over targets: S classes keep one replica in 1, 2, 4 or all groups; RP
 /// classes keep 2 or 3 replicas in one or all groups.
-#[derive(Clone, Copy, Debug, PartialEq, Eq, PartialOrd, Ord)]
+#[derive(Clone, Copy)]
 pub enum Class {
     S1,
     S2,
@@ -61,11 +61,13 @@ impl Class {
     }
 }
 
-/// An object of a container: its class and its number.
-#[derive(Clone, Copy, Debug, PartialEq, Eq, PartialOrd, Ord)]
+/// An object of a container: its class, its number, and its record size in bytes, 1 to 64: each
+/// array of the object has records of that size, and offsets, lengths and holes count them.
+#[derive(Clone, Copy)]
 pub struct ObjId {
     pub class: Class,
     pub number: u64,
+    pub unit: u8,
 }
 
 impl ObjId {
@@ -73,6 +75,8 @@ impl ObjId {
     pub fn same(self, other: ObjId) -> bool
         ensures { result ≡ same_object self other }
     {
-        self.class.number() == other.class.number() && self.number == other.number
+        self.class.number() == other.class.number()
+            && self.number == other.number
+            && self.unit == other.unit
     }
 }

@@ -8,7 +8,7 @@ use std::marker::Model;
 pub type Memory = AllocError;
 
 /// A list of values. It is made from a vector and gives it back.
-#[derive(Clone, Debug, Drop)]
+#[derive(Drop)]
 pub struct Items<T> {
     vec: Vec<T>,
 }

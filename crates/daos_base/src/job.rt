@@ -1,10 +1,25 @@
 // What the words of the command line ask for.
+use crate::epoch::TargetId;
 
-/// A job: to run a script, or to generate and run one of `load` commands.
-#[derive(Clone, Copy, Debug, PartialEq, Eq)]
+/// What a job does.
+#[derive(Clone, Copy)]
+pub enum Task {
+    /// Runs the script that the source holds.
+    Run,
+    /// Generates a script of so many commands, 1 to 10,000, and runs it.
+    Load(u32),
+    /// Fills this target, from 1 on, from the replicas on the others.
+    Rebuild(TargetId),
+    /// Runs the file commands that the source holds.
+    Dfs,
+    /// Judges the report that the source holds behind its script.
+    Audit,
+}
+
+/// A job: a task, and the options of the run that it makes or judges.
+#[derive(Clone, Copy)]
 pub struct Job {
-    /// The commands to generate, 1 to 10,000; none where a script is read.
-    pub load: Option<u32>,
+    pub task: Task,
     /// Targets, 1 to 64.
     pub targets: u8,
     /// The size of each target's region in MiB, 2 to 32.

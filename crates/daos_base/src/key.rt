@@ -14,7 +14,7 @@ pub const KEY_MAX: usize = 64;
 
 /// Why bytes are no key: there are none, there are more than 64, or the first bad one stands at
 /// the place given, counted from 0.
-#[derive(Clone, Copy, Debug, PartialEq, Eq, Error)]
+#[derive(Clone, Copy, Debug, Error)]
 pub enum KeyNo {
     #[error("empty")]
     Empty,
@@ -50,7 +50,7 @@ fn first_bad_byte(bytes: &[u8]) -> Option<usize>
 }
 
 /// A dkey, an akey, or a name in a script: 1 to 64 letters, digits, `.`, `_` or `-`.
-#[derive(Clone, Debug, Drop)]
+#[derive(Drop)]
 pub struct Key {
     bytes: Vec8,
 }
@@ -98,7 +98,9 @@ impl Key {
     pub fn copy(&self) -> Result<Key, Memory>
         ensures { IfOk result (λ key. key ≡ self.now) }
     {
-        self.clone()
+        Ok(Key {
+            bytes: self.bytes.copy()?,
+        })
     }
 
     /// Whether two keys have the same bytes.

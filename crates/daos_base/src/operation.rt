@@ -5,10 +5,11 @@ ghost use Rattle.daos_base.specs.Operations.{act_path, read_path, write_path};
 use crate::items::{Items, Memory, TryCopy, Vec8};
 use crate::path::Path;
 
-/// A change. A path ends at the level of its change: an akey for `Single`, `Extent` (its first
-/// index and its bytes) and `PunchAkey`, a dkey for `PunchDkey`, an object for `PunchObject`.
-/// Values and extents have 1 to 1,024 bytes, and an extent ends at 2^32 - 1 at most.
-#[derive(Clone, Debug, Drop)]
+/// A change. A path ends at the level of its change: an akey for `Single`, `Extent` (the index of
+/// its first record and its bytes) and `PunchAkey`, a dkey for `PunchDkey`, an object for
+/// `PunchObject`. Values and extents have 1 to 1,024 bytes; those of an extent are whole records of
+/// its object, and it ends at the index 2^32 - 1 at most.
+#[derive(Drop)]
 pub enum Write {
     Single(Path, Vec8),
     Extent(Path, u32, Vec8),
@@ -47,10 +48,10 @@ impl Write {
     }
 }
 
-/// A question. A path ends at the level of its question: an akey for `Single` and `Extent` (its
-/// first index and its length, 1 to 1,024), a dkey for `Akeys`, an object for `Dkeys`, any level
-/// for `Exists`.
-#[derive(Clone, Debug, Drop)]
+/// A question. A path ends at the level of its question: an akey for `Single` and `Extent` (the
+/// index of its first record and how many, from 1 on and 1,024 bytes at most), a dkey for `Akeys`,
+/// an object for `Dkeys`, any level for `Exists`.
+#[derive(Drop)]
 pub enum Read {
     Single(Path),
     Extent(Path, u32, u32),
@@ -89,7 +90,7 @@ impl Read {
 
 /// What is asked of the state before an operation: nothing, that its path has a cell, or that it
 /// has none.
-#[derive(Clone, Copy, Debug, PartialEq, Eq, PartialOrd, Ord)]
+#[derive(Clone, Copy)]
 pub enum Cond {
     Free,
     Must,
@@ -97,7 +98,7 @@ pub enum Cond {
 }
 
 /// What an operation does.
-#[derive(Clone, Debug, Drop)]
+#[derive(Drop)]
 pub enum Act {
     Fetch(Read),
     Change(Write),
@@ -126,7 +127,7 @@ impl Act {
 }
 
 /// An operation of a transaction.
-#[derive(Clone, Debug, Drop)]
+#[derive(Drop)]
 pub struct Op {
     pub act: Act,
     pub cond: Cond,
@@ -145,7 +146,7 @@ impl TryCopy for Op {
 pub type Ops = Items<Op>;
 
 /// A write with its number in the transaction, below 64.
-#[derive(Clone, Debug, Drop)]
+#[derive(Drop)]
 pub struct MinorWrite {
     pub minor: u8,
     pub write: Write,

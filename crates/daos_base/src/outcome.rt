@@ -9,7 +9,7 @@ use crate::path::Path;
 /// What set a floor, the epoch at or below which no write is taken: it stands from before this
 /// run, or it is that of the restart of this number, of the snapshot of this epoch, or of the
 /// aggregation of this number.
-#[derive(Clone, Copy, Debug, PartialEq, Eq, PartialOrd, Ord)]
+#[derive(Clone, Copy)]
 pub enum FloorWhy {
     Opening,
     Restart(u32),
@@ -18,7 +18,7 @@ pub enum FloorWhy {
 }
 
 /// Why an attempt was told to restart.
-#[derive(Clone, Debug, Drop)]
+#[derive(Drop)]
 pub enum Cause {
     /// Another attempt read, at a later epoch, where this one writes.
     ReadLater {
@@ -71,7 +71,7 @@ impl Cause {
 }
 
 /// How an attempt ended.
-#[derive(Clone, Debug, Drop)]
+#[derive(Drop)]
 pub enum Outcome {
     /// It took effect, or it has no write and all its reads were answered.
     Committed,

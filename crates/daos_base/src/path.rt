@@ -5,11 +5,11 @@ ghost use Rattle.daos_base.specs.Keys.{same_key};
 ghost use Rattle.daos_base.specs.Paths.{depth, leads_to, level_of, overlaps, same_object, same_path};
 
 use crate::id::{ContId, ObjId};
-use crate::items::Memory;
+use crate::items::{Memory, TryCopy};
 use crate::key::Key;
 
 /// How far a path goes.
-#[derive(Clone, Copy, Debug, PartialEq, Eq, PartialOrd, Ord)]
+#[derive(Clone, Copy)]
 pub enum Level {
     Cont,
     Obj,
@@ -19,7 +19,7 @@ pub enum Level {
 
 /// The path of a container, or of an object, a dkey or an akey in it. It has a dkey only with an
 /// object, and an akey only with a dkey.
-#[derive(Clone, Debug, Drop)]
+#[derive(Drop)]
 pub struct Path {
     pub cont: ContId,
     pub obj: Option<ObjId>,
@@ -83,7 +83,12 @@ impl Path {
     pub fn copy(&self) -> Result<Path, Memory>
         ensures { IfOk result (λ path. path ≡ self.now) }
     {
-        self.clone()
+        Ok(Path {
+            cont: self.cont,
+            obj: self.obj,
+            dkey: self.dkey.copy()?,
+            akey: self.akey.copy()?,
+        })
     }
 
     /// Whether the other path goes on from this one, or is it.

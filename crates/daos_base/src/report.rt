@@ -14,7 +14,7 @@ pub type Gots = Items<(u8, Answer)>;
 
 /// An attempt of a command: the epoch that a target issued to it, if any, the conditions and reads
 /// that were answered, and how it ended.
-#[derive(Clone, Debug, Drop)]
+#[derive(Drop)]
 pub struct Attempt {
     pub id: AttemptId,
     pub epoch: Option<Epoch>,
@@ -24,7 +24,7 @@ pub struct Attempt {
 }
 
 /// A line of a report.
-#[derive(Clone, Debug, Drop)]
+#[derive(Drop)]
 pub enum Line {
     /// An attempt ended.
     Try(Attempt),
@@ -69,7 +69,7 @@ pub enum Line {
 pub type Lines = Items<Line>;
 
 /// A report: the number of targets, its lines, and the least target that is down, if any.
-#[derive(Clone, Debug, Drop)]
+#[derive(Drop)]
 pub struct Report {
     pub targets: u8,
     pub lines: Lines,

@@ -6,14 +6,14 @@ use crate::key::Key;
 use crate::operation::Ops;
 
 /// A container and its name.
-#[derive(Clone, Debug, Drop)]
+#[derive(Drop)]
 pub struct ContDecl {
     pub name: Key,
     pub id: ContId,
 }
 
 /// An object, its name and its container.
-#[derive(Clone, Debug, Drop)]
+#[derive(Drop)]
 pub struct ObjDecl {
     pub name: Key,
     pub cont: ContId,
@@ -21,7 +21,7 @@ pub struct ObjDecl {
 }
 
 /// A snapshot that an earlier run created, and the name that the script gives it.
-#[derive(Clone, Debug, Drop)]
+#[derive(Drop)]
 pub struct OldDecl {
     pub name: Key,
     pub cont: ContId,
@@ -29,7 +29,7 @@ pub struct OldDecl {
 }
 
 /// A write of a target's region that is to fail, counted from the target's opening.
-#[derive(Clone, Copy, Debug, PartialEq, Eq, PartialOrd, Ord)]
+#[derive(Clone, Copy)]
 pub struct StopDecl {
     pub target: TargetId,
     pub write: u32,
@@ -44,6 +44,9 @@ pub type Objs = Items<ObjDecl>;
 /// The snapshots of earlier runs that a script names; at most 256.
 pub type Olds = Items<OldDecl>;
 
+/// The names of snapshots of earlier runs that are dropped before the run begins, each once.
+pub type Drops = Items<Key>;
+
 /// The writes that are to fail; at most 64.
 pub type Stops = Items<StopDecl>;
 
@@ -53,7 +56,7 @@ pub type Skips = Items<u64>;
 
 /// What a client does next. Commands are numbered from 0 in each client's list; `Tell` and `Skip`
 /// have no number.
-#[derive(Clone, Debug, Drop)]
+#[derive(Drop)]
 pub enum Command {
     /// Runs a transaction, or, where it names a snapshot, reads as of that.
     Run {
@@ -109,13 +112,15 @@ pub type Commands = Items<Command>;
 /// What each client does, in order of the clients' numbers; at most 64.
 pub type ClientLists = Items<Commands>;
 
-/// A script: for how many targets it was read, its declarations, and the commands of each client.
-#[derive(Clone, Debug, Drop)]
+/// A script: for how many targets it was read, its declarations, what it drops, and the commands of
+/// each client.
+#[derive(Drop)]
 pub struct Script {
     pub targets: u8,
     pub conts: Conts,
     pub objs: Objs,
     pub olds: Olds,
+    pub drops: Drops,
     pub stops: Stops,
     pub clients: ClientLists,
 }

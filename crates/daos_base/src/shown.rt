@@ -7,7 +7,7 @@ use crate::items::Memory;
 use crate::path::Path;
 
 /// A read or a write: the attempt, its epoch, and the path.
-#[derive(Clone, Debug, Drop)]
+#[derive(Drop)]
 pub struct Shown {
     pub by: AttemptId,
     pub epoch: Epoch,

@@ -18,7 +18,7 @@ impl ContId {
     }
 }
 
-// The hash with the object's class and number more.
+// The hash with the object's class, record size and number more.
 #[tactic(auto, unfolding(crate::specs::Paths::number_bytes))]
 fn hash_object(hash: u64, obj: Option<ObjId>) -> u64
     ensures { result ≡ hash_on hash (object_bytes obj) }
@@ -26,8 +26,8 @@ fn hash_object(hash: u64, obj: Option<ObjId>) -> u64
     match obj {
         None => hash,
         Some(obj) => {
-            let class = hash_on(hash, &[obj.class.number()]);
-            hash_on(class, &obj.number.to_be_bytes())
+            let kind = hash_on(hash, &[obj.class.number(), obj.unit]);
+            hash_on(kind, &obj.number.to_be_bytes())
         }
     }
 }

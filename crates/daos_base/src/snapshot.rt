@@ -4,7 +4,7 @@ use crate::id::ContId;
 use crate::items::Items;
 
 /// A snapshot of a container as of an epoch: frozen here, and created once every target froze it.
-#[derive(Clone, Copy, Debug, PartialEq, Eq)]
+#[derive(Clone, Copy)]
 pub struct Snap {
     pub cont: ContId,
     pub epoch: Epoch,

@@ -10,12 +10,12 @@ use daos_base::key::Key;
 use thiserror::Error;
 
 /// The bytes are no class word.
-#[derive(Clone, Copy, Debug, PartialEq, Eq, Error)]
+#[derive(Clone, Copy, Debug, Error)]
 #[error("unknown class")]
 pub struct UnknownClass;
 
 /// There are fewer targets than the class needs.
-#[derive(Clone, Copy, Debug, PartialEq, Eq, Error)]
+#[derive(Clone, Copy, Debug, Error)]
 #[error("{have} targets, and the class needs {need}")]
 pub struct TooFewTargets {
     pub need: u8,

@@ -14,12 +14,12 @@ pub const LAST_TICKS: u64 = 72_057_594_037_927_935;
 pub const READING_MAX: u64 = 36_028_797_018_963_968;
 
 /// The ticks would pass 2^56 - 1.
-#[derive(Clone, Copy, Debug, PartialEq, Eq, Error)]
+#[derive(Clone, Copy, Debug, Error)]
 #[error("no ticks are left")]
 pub struct Spent;
 
 /// The clock of a target: the ticks of the greatest epoch that it issued or heard of.
-#[derive(Debug, Drop)]
+#[derive(Drop)]
 pub struct Hlc {
     target: TargetId,
     ticks: u64,

@@ -21,7 +21,7 @@ use thiserror::Error;
 const READ_MAX: usize = 16 * 1024 * 1024 + 1;
 
 /// Why no script was read.
-#[derive(Clone, Copy, Debug, PartialEq, Eq, Error)]
+#[derive(Clone, Copy, Debug, Error)]
 pub enum InputNo {
     /// The source failed.
     #[error("read fault")]

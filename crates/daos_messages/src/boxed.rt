@@ -5,7 +5,7 @@ use std::alloc::{AllocFailed, Global};
 use std::marker::Model;
 
 /// A value on the heap.
-#[derive(Debug, Drop)]
+#[derive(Drop)]
 pub struct Boxed<T> {
     inner: Box<T>,
 }

@@ -13,7 +13,7 @@ use daos_base::operation::{MinorWrites, Read};
 use daos_base::outcome::Outcome;
 
 /// What a read got: its answer, or how its attempt ended instead.
-#[derive(Debug, Drop)]
+#[derive(Drop)]
 pub enum Reply {
     Answer(Answer),
     Outcome(Outcome),
@@ -41,7 +41,7 @@ pub type AttemptIds = Items<AttemptId>;
 /// first epoch issued to its command that its client heard of; `tracker` the greatest epoch that
 /// the sender heard of; `inc` the leader's incarnation; `ask` the attempt whose Fetch a Query was
 /// sent for; `refusal` the outcome that was met, or none where all is well.
-#[derive(Debug, Drop)]
+#[derive(Drop)]
 pub enum Message {
     /// A client asks a target to read a group's part of an operation's path.
     Fetch {
@@ -220,7 +220,7 @@ impl TryCopy for Message {
 pub type Messages = Items<Message>;
 
 /// A message to an actor.
-#[derive(Debug, Drop)]
+#[derive(Drop)]
 pub struct Post {
     pub to: ActorId,
     pub message: Message,

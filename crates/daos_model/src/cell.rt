@@ -6,14 +6,14 @@ use daos_base::items::{Memory, Vec8};
 use daos_base::path::Path;
 
 /// A cell: the single value of an akey, or one index of its array. Its path ends at the akey.
-#[derive(Clone, Debug, Drop)]
+#[derive(Drop)]
 pub struct Cell {
     pub path: Path,
     pub index: Option<u32>,
 }
 
 /// A cell and what it holds: the bytes of a single value, or the one byte of an index.
-#[derive(Clone, Debug, Drop)]
+#[derive(Drop)]
 pub struct CellValue {
     pub cell: Cell,
     pub bytes: Vec8,

@@ -12,7 +12,7 @@ use daos_base::snapshot::Snaps;
 
 /// A write that a target keeps: the epoch of its transaction, its number in it, the attempt, and
 /// whether it is done or still unsettled.
-#[derive(Clone, Debug, Drop)]
+#[derive(Drop)]
 pub struct Version {
     pub epoch: Epoch,
     pub minor: u8,
@@ -38,7 +38,7 @@ impl TryCopy for Version {
 
 /// What a target keeps of a container beside its versions: the floor that it stored and what set
 /// it, and the aggregated-to epoch with the number of its aggregation; both epochs begin at 0.
-#[derive(Clone, Copy, Debug, PartialEq, Eq)]
+#[derive(Clone, Copy)]
 pub struct ContRow {
     pub cont: ContId,
     pub floor: Epoch,
@@ -52,7 +52,7 @@ pub type ContRows = Items<ContRow>;
 
 /// What a target keeps. Entries stand in the order of attempts, snapshots in that of containers and
 /// epochs. The lease is in ticks; the incarnation counts the openings.
-#[derive(Debug, Drop)]
+#[derive(Drop)]
 pub struct Durable {
     pub versions: Versions,
     pub entries: Entries,

@@ -14,7 +14,7 @@ use std::marker::Model;
 
 /// A map from cells to bytes, seen as a list of cells with their bytes, of which the first of a
 /// cell counts.
-#[derive(Debug, Drop)]
+#[derive(Drop)]
 pub struct Map {
     newest_last: Vec<CellValue>,
 }

@@ -6,7 +6,7 @@ use daos_base::items::Items;
 use daos_base::operation::Write;
 
 /// A created snapshot of a container: what the container's cells held below the epoch.
-#[derive(Debug, Drop)]
+#[derive(Drop)]
 pub struct SnapMap {
     pub cont: ContId,
     pub epoch: Epoch,
@@ -14,14 +14,14 @@ pub struct SnapMap {
 }
 
 /// What regions stand for: the map now, and that of each created snapshot.
-#[derive(Debug, Drop)]
+#[derive(Drop)]
 pub struct Stand {
     pub now: Map,
     pub snaps: Items<SnapMap>,
 }
 
 /// A transaction that took effect: its epoch, and its writes in their order.
-#[derive(Clone, Debug, Drop)]
+#[derive(Drop)]
 pub struct Taken {
     pub epoch: Epoch,
     pub writes: Items<Write>,

@@ -6,7 +6,7 @@ use crate::clock::Clock;
 use std::marker::Model;
 
 /// A clock that gives 0, 1, 2 and so on, and stays at 2^64 - 1. Clauses see it as its next reading.
-#[derive(Clone, Copy, Debug, PartialEq, Eq)]
+#[derive(Clone, Copy)]
 pub struct CountClock {
     reading: u64,
 }

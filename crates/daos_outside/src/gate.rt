@@ -9,7 +9,7 @@ pub trait Gate {
 }
 
 /// A gate that does nothing.
-#[derive(Clone, Copy, Debug, PartialEq, Eq)]
+#[derive(Clone, Copy)]
 pub struct FreeGate;
 
 impl Gate for FreeGate {

@@ -22,7 +22,7 @@ pub mod sure_source;
 use std::alloc::AllocError;
 
 /// A call of the outside failed.
-#[derive(Clone, Copy, Debug, PartialEq, Eq)]
+#[derive(Clone, Copy)]
 pub struct Failed;
 
 /// The number of a target, from 0.

@@ -37,7 +37,7 @@ pub trait Sink {
 }
 
 /// Why not all of some bytes were written.
-#[derive(Clone, Copy, Debug, PartialEq, Eq, Error)]
+#[derive(Clone, Copy, Debug, Error)]
 pub enum WriteNo {
     /// A write failed.
     #[error("write fault")]

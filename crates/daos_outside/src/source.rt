@@ -35,7 +35,7 @@ pub trait Source {
 }
 
 /// Why a source was not read to its end.
-#[derive(Clone, Copy, Debug, PartialEq, Eq, Error)]
+#[derive(Clone, Copy, Debug, Error)]
 pub enum ReadNo {
     /// A read failed.
     #[error("read fault")]

@@ -6,7 +6,7 @@ use std::alloc::AllocError;
 use thiserror::Error;
 
 /// Why a text is no report: its first bad line, counted from 1, or want of memory.
-#[derive(Clone, Copy, Debug, PartialEq, Eq, Error)]
+#[derive(Clone, Copy, Debug, Error)]
 pub enum ReportNo {
     /// The first line that is none of the format; 2^32 - 1 also where that is a later one.
     #[error("bad line {0}")]

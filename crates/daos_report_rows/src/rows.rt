@@ -18,7 +18,7 @@ use daos_text::parts::Parts;
 use std::alloc::Global;
 
 /// What a row tells: an attempt, a condition or an answer of the attempt above it, or another line.
-#[derive(Debug, Drop)]
+#[derive(Drop)]
 pub enum Told {
     Try(Attempt),
     Cond((u8, bool)),

@@ -5,7 +5,7 @@ ghost use Rattle.daos_report_words.specs.declared.fault.RowNo.TheVariants.{Memor
 use std::alloc::{AllocError, AllocFailed};
 
 /// Why words say nothing: they are none of a row, or want of memory.
-#[derive(Clone, Copy, Debug, PartialEq, Eq)]
+#[derive(Clone, Copy)]
 pub enum RowNo {
     Bad,
     Memory,

@@ -9,7 +9,7 @@ use daos_outside::sure_region::SureRegion;
 use daos_outside::{Failed, TargetId};
 
 /// A clock that gives three readings, and then 0.
-#[derive(Clone, Copy, Debug)]
+#[derive(Clone, Copy)]
 pub struct PlannedClock {
     pub readings: [u64; 3],
     pub given: usize,

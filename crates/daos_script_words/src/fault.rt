@@ -6,7 +6,7 @@ use daos_base::fault::Why;
 use std::alloc::{AllocError, AllocFailed};
 
 /// Why a line says nothing.
-#[derive(Debug, Drop)]
+#[derive(Drop)]
 pub enum LineNo {
     /// What is wrong with the line.
     Fault(Why),

@@ -1,7 +1,7 @@
 // The measures of a region.
 
 /// What a region was made for in another measure than the one asked.
-#[derive(Clone, Copy, Debug, PartialEq, Eq)]
+#[derive(Clone, Copy, Debug)]
 pub enum Part {
     /// Its size in bytes.
     Bytes,

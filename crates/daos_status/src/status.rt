@@ -9,7 +9,7 @@ use daos_base::items::Memory;
 use std::alloc::Global;
 
 /// How the program ended. The number of a status is that of its place here, from 0.
-#[derive(Clone, Copy, Debug, PartialEq, Eq)]
+#[derive(Clone, Copy)]
 pub enum Status {
     /// The run ended, and no target is down.
     Done,

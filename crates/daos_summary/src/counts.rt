@@ -10,7 +10,7 @@ use std::alloc::Global;
 use std::collections::HashSet;
 
 /// How an attempt ended, and for a restart why.
-#[derive(Clone, Copy, Debug, PartialEq, Eq)]
+#[derive(Clone, Copy)]
 pub enum Ending {
     Committed,
     CondFailed,

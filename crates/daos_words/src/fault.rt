@@ -3,7 +3,7 @@ use daos_base::fault::WordFault;
 use thiserror::Error;
 
 /// Why words are no job: the first fault in them, or want of memory.
-#[derive(Clone, Copy, Debug, PartialEq, Eq, Error)]
+#[derive(Clone, Copy, Debug, Error)]
 pub enum WordNo {
     /// The place of the first word with a fault, and what is wrong with it.
     #[error("fault at word {}", .0.place)]

@@ -9,7 +9,7 @@ use daos_base::job::Job;
 use daos_text::number::number_in;
 
 /// The first word that is no option.
-#[derive(Clone, Copy, Debug, PartialEq, Eq)]
+#[derive(Clone, Copy)]
 pub enum JobWord {
     /// To run a script.
     Run,
@@ -18,7 +18,7 @@ pub enum JobWord {
 }
 
 /// An option that has a value.
-#[derive(Clone, Copy, Debug, PartialEq, Eq)]
+#[derive(Clone, Copy)]
 pub enum Setting {
     Targets,
     Size,
@@ -28,7 +28,7 @@ pub enum Setting {
 }
 
 /// What the words gave so far.
-#[derive(Clone, Copy, Debug)]
+#[derive(Clone, Copy)]
 pub struct Given {
     pub job: Option<JobWord>,
     pub count: Option<u32>,

@@ -7,7 +7,7 @@ use daos_messages::message::AttemptIds;
 
 /// An attempt that isn't decided: the client that waits for its end, if one does, and the members
 /// whose Ok was counted, one bit for each target from the lowest on.
-#[derive(Clone, Copy, Debug)]
+#[derive(Clone, Copy)]
 pub struct Undecided {
     pub attempt: AttemptId,
     pub client: Option<ActorId>,
@@ -16,7 +16,7 @@ pub struct Undecided {
 
 /// An attempt that a Mark names which is without an answer: the member that the Mark went to, and
 /// the incarnation that it bears.
-#[derive(Clone, Copy, Debug)]
+#[derive(Clone, Copy)]
 pub struct Naming {
     pub member: TargetId,
     pub inc: u64,
@@ -32,7 +32,7 @@ pub type Namings = Items<Naming>;
 /// What a leader remembers until it stops: the attempts that it hasn't decided, and those that it
 /// has decided and not settled yet, both in the order of attempts; what the Marks name that are
 /// without an answer; and the targets that it knows to be down, one bit for each.
-#[derive(Debug, Drop)]
+#[derive(Drop)]
 pub struct LeaderMemory {
     pub undecided: Undecideds,
     pub decided: AttemptIds,

@@ -5,7 +5,7 @@ use daos_base::items::Items;
 use daos_messages::message::{Message, Messages, Posts};
 
 /// A Fetch that waits until what became of an attempt is known, which another target leads.
-#[derive(Debug, Drop)]
+#[derive(Drop)]
 pub struct Parked {
     pub on: AttemptId,
     pub leader: TargetId,
@@ -14,7 +14,7 @@ pub struct Parked {
 
 /// What came of a Query that idle work sent: nothing yet, the answer that the attempt is undecided,
 /// or that its leader is down.
-#[derive(Clone, Copy, Debug)]
+#[derive(Clone, Copy)]
 pub enum QueryState {
     Unanswered,
     Undecided,
@@ -22,7 +22,7 @@ pub enum QueryState {
 }
 
 /// A Query that idle work sent for a prepared entry, and what came of it.
-#[derive(Clone, Copy, Debug)]
+#[derive(Clone, Copy)]
 pub struct Inquiry {
     pub attempt: AttemptId,
     pub state: QueryState,
@@ -37,7 +37,7 @@ pub type Inquiries = Items<Inquiry>;
 /// What a member remembers until it stops: the Fetches that wait, in the order in which they were
 /// parked, and the Queries that its idle work sent, in the order of attempts. For an attempt with
 /// such a Query idle work sends no other.
-#[derive(Debug, Drop)]
+#[derive(Drop)]
 pub struct MemberMemory {
     pub parked: ParkedFetches,
     pub inquiries: Inquiries,
@@ -45,7 +45,7 @@ pub struct MemberMemory {
 
 /// What a Verdict sets free: messages to send, and Fetches that are to be tried again, in the order
 /// in which they were parked.
-#[derive(Debug, Drop)]
+#[derive(Drop)]
 pub struct Freed {
     pub posts: Posts,
     pub again: Messages,

@@ -3,7 +3,7 @@ use daos_base::epoch::TargetId;
 
 /// Where a leader is: the number of its target, the number of targets, and the incarnation of its
 /// target.
-#[derive(Clone, Copy, Debug)]
+#[derive(Clone, Copy)]
 pub struct Seat {
     pub me: TargetId,
     pub targets: u8,

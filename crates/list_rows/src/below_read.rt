@@ -32,7 +32,7 @@ pub const TURNS: u8 = 13;
 /// What is told of the run: the epoch of client 1's read, whether that is answered that there is such a
 /// key, the epoch of the read that refuses the write, and the blocks that are free once the write is
 /// stored.
-#[derive(Clone, Copy, Debug)]
+#[derive(Clone, Copy)]
 pub struct Told {
     pub read: u64,
     pub yes: bool,

@@ -16,7 +16,7 @@ use world_list::events::{Event, EventKind, EventList, Events};
 
 /// What is told of the turn: whether a Mark is heard or else a Verdict, whether it tells of a commit or else of
 /// an abort, whether the attempt is then settled, and whether the leader then waits for it no more.
-#[derive(Clone, Copy, Debug)]
+#[derive(Clone, Copy)]
 pub struct Told {
     pub marks: bool,
     pub commits: bool,

@@ -22,7 +22,7 @@ use world_base::target::{Life, Reads, TargetMemory, TargetState};
 /// How far an attempt came whose client waits: its number, the first epoch of its command and its own,
 /// the operation, whether that is asked or the attempt is at its end, and whether operation 0 was a read
 /// that was answered, by nothing.
-#[derive(Clone, Copy, Debug)]
+#[derive(Clone, Copy)]
 pub struct PresentAt {
     pub attempt: u8,
     pub first: Option<Epoch>,
@@ -33,7 +33,7 @@ pub struct PresentAt {
 }
 
 /// How far a client came: how many commands are over, its tracker, and its attempt.
-#[derive(Clone, Copy, Debug)]
+#[derive(Clone, Copy)]
 pub struct ClientAt {
     pub over: u8,
     pub tracker: Epoch,

@@ -34,7 +34,7 @@ pub const TURNS: u8 = 12;
 /// What is told of the run: the epoch of the read, whether it is answered by nothing, the incarnation
 /// that the Mark bears, the members that confirmed the write in the end, and whether the Ack stays in
 /// flight once it was heard.
-#[derive(Clone, Copy, Debug)]
+#[derive(Clone, Copy)]
 pub struct Told {
     pub read: u64,
     pub absent: bool,

@@ -7,7 +7,7 @@ use daos_hlc::lease::lease_for;
 use daos_model::durable::Durable;
 
 /// What a target keeps once its lease covers an epoch, and whether anything was changed by then.
-#[derive(Debug, Drop)]
+#[derive(Drop)]
 pub struct Covered {
     pub durable: Durable,
     pub changed: bool,

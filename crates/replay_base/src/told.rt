@@ -102,7 +102,7 @@ pub fn sends(alloc: Global, posts: Posts, issued: Option<(AttemptId, Epoch)>) ->
 
 /// What a turn leaves: what is kept, whether anything of that was changed, what is known, and what
 /// follows.
-#[derive(Debug, Drop)]
+#[derive(Drop)]
 pub struct Left {
     pub durable: Durable,
     pub changed: bool,

@@ -25,7 +25,7 @@ use world_base::request::FetchRequest;
 use world_base::target::TargetPlan;
 
 /// What a read ends with: a reply; or it waits for what becomes of an attempt that another target leads.
-#[derive(Debug, Drop)]
+#[derive(Drop)]
 pub enum Ending {
     Replies(Reply),
     Parks(AttemptId, TargetId),
@@ -33,7 +33,7 @@ pub enum Ending {
 
 /// What a read meets: a decided attempt, which is settled first; its ending; or nothing that it could
 /// end with.
-#[derive(Debug, Drop)]
+#[derive(Drop)]
 pub enum Met {
     Settles(AttemptId),
     Ends(Ending),

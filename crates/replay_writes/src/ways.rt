@@ -34,7 +34,7 @@ use world_base::target::{TargetMemory, TargetPlan, TargetState};
 use world_same::same::Same;
 
 /// Who is told how it ends: the client whose attempt it is, or the attempt's leader.
-#[derive(Clone, Copy, Debug)]
+#[derive(Clone, Copy)]
 pub enum Tells {
     Client {
         to: ActorId,
@@ -50,7 +50,7 @@ pub enum Tells {
 }
 
 /// What writes are to be stored for: the first epoch of the command, the entry, and who is told.
-#[derive(Clone, Copy, Debug)]
+#[derive(Clone, Copy)]
 pub struct Storing {
     pub first: Option<Epoch>,
     pub entry: Entry,

@@ -18,7 +18,7 @@ use world_base::letter::Letter;
 
 /// What lies between the actors of a run: the messages in flight in the order in which they were
 /// sent, the epochs that were issued, and the lines of the report so far.
-#[derive(Debug, Drop)]
+#[derive(Drop)]
 pub struct Between {
     messages: Vec<Letter>,
     issued: Vec<(AttemptId, Epoch)>,

@@ -6,7 +6,7 @@ use daos_base::epoch::TargetId;
 use std::alloc::{AllocError, AllocFailed};
 
 /// The store of a target stopped, or memory was wanting.
-#[derive(Clone, Copy, Debug, PartialEq, Eq)]
+#[derive(Clone, Copy)]
 pub enum Halted {
     Stopped(TargetId),
     Memory,

@@ -6,7 +6,7 @@ use std::alloc::{AllocError, AllocFailed};
 use vos_store::refusal::{LaterNo, Stopped};
 
 /// The store is stopped, or memory was wanting.
-#[derive(Clone, Copy, Debug, PartialEq, Eq)]
+#[derive(Clone, Copy)]
 pub enum Halt {
     Stopped,
     Memory,

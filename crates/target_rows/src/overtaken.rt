@@ -22,7 +22,7 @@ use world_base::did::Did;
 
 /// What follows on the second of two targets, turn by turn: of a Mark that tells of an attempt that it is
 /// aborted, of the Prepare of that attempt, of a read where it writes, and of the Verdict on it.
-#[derive(Debug, Drop)]
+#[derive(Drop)]
 pub struct Overtaken {
     pub marked: Did,
     pub prepared: Did,

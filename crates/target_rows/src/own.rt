@@ -24,7 +24,7 @@ use world_base::did::Did;
 /// What follows on the first of two targets, turn by turn: of a Commit, which it leads; of an Ack from no
 /// target; of a message that tells what became of this attempt; of the Ack of the other member; of a
 /// question what became of it; and of idle work.
-#[derive(Debug, Drop)]
+#[derive(Drop)]
 pub struct Told {
     pub begun: Did,
     pub unknown: Did,

@@ -23,7 +23,7 @@ pub fn attempt(client: u16, attempt: u8) -> AttemptId
 
 /// What follows where a client reads an akey, and another one then commits a write there at an earlier
 /// epoch, and tries again.
-#[derive(Debug, Drop)]
+#[derive(Drop)]
 pub struct Refused {
     pub read: Did,
     pub refused: Did,
@@ -52,7 +52,7 @@ pub fn write_below_read<S: Store + Drop, C: Clock + Drop>(
 
 /// What follows where a client reads what another one committed and the target hasn't settled, and
 /// whether there was idle work before and after it.
-#[derive(Debug, Drop)]
+#[derive(Drop)]
 pub struct Settled {
     pub before: bool,
     pub read: Did,

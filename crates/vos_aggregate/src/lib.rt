@@ -16,7 +16,7 @@ use std::alloc::{AllocError, AllocFailed, Global};
 use thiserror::Error;
 
 /// Why there is no plan: a version at or below the epoch isn't settled, that of this attempt.
-#[derive(Clone, Copy, Debug, PartialEq, Eq, Error)]
+#[derive(Clone, Copy, Debug, Error)]
 pub enum PruneNo {
     #[error("{0:?} isn't settled")]
     OpenBelow(AttemptId),

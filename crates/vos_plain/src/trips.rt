@@ -4,7 +4,7 @@ ghost use Rattle.std.specs.List.{list_any};
 ghost use Rattle.vos_plain.specs.Trips.{Struck, is_number, signs_of, stop_of, strike_of};
 
 /// What becomes of a change.
-#[derive(Clone, Copy, Debug, PartialEq, Eq)]
+#[derive(Clone, Copy)]
 pub enum Strike {
     /// It is made.
     Made,
@@ -17,7 +17,7 @@ pub enum Strike {
 /// The changes that stop a store: by a plan, which has their numbers from 1, and by a fuse, which
 /// stops it at the last of so many changes, once; `left` of them are left, and none where no fuse is
 /// set.
-#[derive(Debug, Drop)]
+#[derive(Drop)]
 pub struct Trips {
     pub plan: Vec<u32>,
     pub count: u64,

@@ -13,7 +13,7 @@ use vos_store::store::Store;
 
 /// What a store with two values at one akey, at 256 and 512, shows: the later write above 256, and,
 /// once it is pruned to 600, what is read below 513 and below 601.
-#[derive(Debug, Drop)]
+#[derive(Drop)]
 pub struct Pruned {
     pub later: Option<Shown>,
     pub past: Result<Answer, FetchNo>,

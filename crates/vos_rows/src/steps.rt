@@ -22,7 +22,7 @@ use vos_store::store::Store;
 pub const CONT: ContId = ContId(1);
 
 /// Why a step isn't made.
-#[derive(Clone, Copy, Debug, PartialEq, Eq, Error)]
+#[derive(Clone, Copy, Debug, Error)]
 pub enum StepNo {
     #[error("{0}")]
     Key(#[from] KeyNo),

@@ -14,7 +14,7 @@ use std::marker::Model;
 /// The read timestamps of a target: a list of the reads that were raised, each with its attempt,
 /// epoch and path. A read stands at its path and counts as one of the whole subtree there. They are
 /// in memory and lost at a stop.
-#[derive(Debug, Drop)]
+#[derive(Drop)]
 pub struct Stamps {
     reads: Items<Shown>,
 }

@@ -5,12 +5,12 @@ use daos_base::id::AttemptId;
 use thiserror::Error;
 
 /// The store is stopped.
-#[derive(Clone, Copy, Debug, PartialEq, Eq, Error)]
+#[derive(Clone, Copy, Debug, Error)]
 #[error("stopped")]
 pub struct Stopped;
 
 /// Why containers aren't enlisted: with those that are there they are more than 256.
-#[derive(Clone, Copy, Debug, PartialEq, Eq, Error)]
+#[derive(Clone, Copy, Debug, Error)]
 pub enum EnlistNo {
     #[error("stopped")]
     Stopped,
@@ -21,7 +21,7 @@ pub enum EnlistNo {
 }
 
 /// Why nothing is prepared: fewer blocks are free than the writes may take.
-#[derive(Clone, Copy, Debug, PartialEq, Eq, Error)]
+#[derive(Clone, Copy, Debug, Error)]
 pub enum PrepareNo {
     #[error("stopped")]
     Stopped,
@@ -33,7 +33,7 @@ pub enum PrepareNo {
 
 /// Why nothing is frozen: the epoch is at or below the aggregated-to epoch, which is shown with the
 /// number of its aggregation; or 256 other places are used.
-#[derive(Clone, Copy, Debug, PartialEq, Eq, Error)]
+#[derive(Clone, Copy, Debug, Error)]
 pub enum FreezeNo {
     #[error("stopped")]
     Stopped,
@@ -44,7 +44,7 @@ pub enum FreezeNo {
 }
 
 /// Why nothing is discarded: a version in the range isn't settled, that of this attempt.
-#[derive(Clone, Copy, Debug, PartialEq, Eq, Error)]
+#[derive(Clone, Copy, Debug, Error)]
 pub enum DiscardNo {
     #[error("stopped")]
     Stopped,
@@ -56,7 +56,7 @@ pub enum DiscardNo {
 
 /// Why a read isn't answered: a version in its way isn't settled, that of this attempt; or the
 /// versions below its epoch were aggregated, up to this epoch by the aggregation of this number.
-#[derive(Clone, Copy, Debug, PartialEq, Eq, Error)]
+#[derive(Clone, Copy, Debug, Error)]
 pub enum FetchNo {
     #[error("stopped")]
     Stopped,
@@ -69,7 +69,7 @@ pub enum FetchNo {
 }
 
 /// Why a question isn't answered.
-#[derive(Clone, Copy, Debug, PartialEq, Eq, Error)]
+#[derive(Clone, Copy, Debug, Error)]
 pub enum LaterNo {
     #[error("stopped")]
     Stopped,
@@ -78,7 +78,7 @@ pub enum LaterNo {
 }
 
 /// Why a store isn't opened again: this byte at this place of its region isn't of the layout.
-#[derive(Clone, Copy, Debug, PartialEq, Eq, Error)]
+#[derive(Clone, Copy, Debug, Error)]
 pub enum ReopenNo {
     #[error("stopped")]
     Stopped,

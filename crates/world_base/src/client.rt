@@ -8,7 +8,7 @@ use daos_base::script::Commands;
 
 /// What a client has to do: its number, the number of targets, how many attempts a command has
 /// (1 to 100), and its commands.
-#[derive(Debug, Drop)]
+#[derive(Drop)]
 pub struct ClientPlan {
     pub number: u16,
     pub targets: u8,
@@ -18,7 +18,7 @@ pub struct ClientPlan {
 
 /// What comes next of an operation: the turns to skip before it, its condition, or itself. Behind
 /// the last operation the same stages lead to the end of the transaction.
-#[derive(Clone, Copy, Debug, PartialEq, Eq)]
+#[derive(Clone, Copy)]
 pub enum Stage {
     Skip,
     Cond,
@@ -26,7 +26,7 @@ pub enum Stage {
 }
 
 /// An attempt that has begun and hasn't ended.
-#[derive(Debug, Drop)]
+#[derive(Drop)]
 pub struct Present {
     /// Its number among the attempts of its command.
     pub attempt: u8,
@@ -50,7 +50,7 @@ pub struct Present {
 }
 
 /// A snapshot that a client may read, by its name in the script.
-#[derive(Debug, Drop)]
+#[derive(Drop)]
 pub struct KnownSnap {
     pub name: Key,
     pub epoch: Epoch,
@@ -60,7 +60,7 @@ pub struct KnownSnap {
 pub type KnownSnaps = Items<KnownSnap>;
 
 /// How far a client came.
-#[derive(Debug, Drop)]
+#[derive(Drop)]
 pub struct ClientState {
     /// How many of its commands are over.
     pub place: u64,

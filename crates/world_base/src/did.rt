@@ -10,7 +10,7 @@ pub type Issues = Items<(AttemptId, Epoch)>;
 
 /// What follows from an actor's turn: the messages that it sends, the lines of the report that it
 /// adds, and the epoch that it issued, with its attempt, if it issued one.
-#[derive(Debug, Drop)]
+#[derive(Drop)]
 pub struct Did {
     pub posts: Posts,
     pub lines: Lines,

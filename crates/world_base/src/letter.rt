@@ -5,7 +5,7 @@ use daos_messages::actor::ActorId;
 use daos_messages::message::Message;
 
 /// A message on its way from one actor to another.
-#[derive(Debug, Drop)]
+#[derive(Drop)]
 pub struct Letter {
     pub from: ActorId,
     pub to: ActorId,

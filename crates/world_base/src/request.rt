@@ -5,7 +5,7 @@ use daos_base::id::AttemptId;
 use daos_base::operation::{MinorWrites, Read};
 
 /// A read of a group's part of an operation's path.
-#[derive(Debug, Drop)]
+#[derive(Drop)]
 pub struct FetchRequest {
     pub attempt: AttemptId,
     pub op: u8,
@@ -18,7 +18,7 @@ pub struct FetchRequest {
 }
 
 /// An attempt's writes, which their leader is to commit.
-#[derive(Debug, Drop)]
+#[derive(Drop)]
 pub struct CommitRequest {
     pub attempt: AttemptId,
     pub ep: Option<Epoch>,
@@ -29,7 +29,7 @@ pub struct CommitRequest {
 
 /// An attempt's writes, which a member is to prepare: the entry of its leader, the first epoch issued
 /// to its command, the writes of the member's groups, and the leader's incarnation.
-#[derive(Debug, Drop)]
+#[derive(Drop)]
 pub struct PrepareRequest {
     pub entry: Entry,
     pub first: Option<Epoch>,

@@ -9,7 +9,7 @@ use dtx_base::member::MemberMemory;
 
 /// What a target is made for: its number, the number of targets, and what the clocks leave
 /// uncertain, in ticks.
-#[derive(Clone, Copy, Debug, PartialEq, Eq)]
+#[derive(Clone, Copy)]
 pub struct TargetPlan {
     pub me: TargetId,
     pub targets: u8,
@@ -17,7 +17,7 @@ pub struct TargetPlan {
 }
 
 /// Whether a target runs, is stopped, or is given up.
-#[derive(Clone, Copy, Debug, PartialEq, Eq)]
+#[derive(Clone, Copy)]
 pub enum Life {
     Running,
     Stopped,
@@ -29,7 +29,7 @@ pub type Reads = Items<Shown>;
 
 /// What a target knows until it stops: its clock's ticks, the reads that it served, what it
 /// remembers of the attempts that it leads, and what of those that it is another's member of.
-#[derive(Debug, Drop)]
+#[derive(Drop)]
 pub struct TargetMemory {
     pub ticks: u64,
     pub stamps: Reads,
@@ -38,7 +38,7 @@ pub struct TargetMemory {
 }
 
 /// A target: what it keeps, its free blocks, whether it runs, and what it knows while it does.
-#[derive(Debug, Drop)]
+#[derive(Drop)]
 pub struct TargetState {
     pub durable: Durable,
     pub free: u32,

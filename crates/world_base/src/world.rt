@@ -13,7 +13,7 @@ pub type TargetStates = Items<TargetState>;
 pub type ClientStates = Items<ClientState>;
 
 /// The numbers of the restart and the aggregation that come next.
-#[derive(Clone, Copy, Debug, PartialEq, Eq)]
+#[derive(Clone, Copy)]
 pub struct Numbers {
     pub restarts: u32,
     pub aggregates: u32,
@@ -21,7 +21,7 @@ pub struct Numbers {
 
 /// All that a run has at a moment: its targets, its clients, the messages in flight in the order in
 /// which they were sent, the epochs issued, the numbers that come next, and the lines so far.
-#[derive(Debug, Drop)]
+#[derive(Drop)]
 pub struct World {
     pub targets: TargetStates,
     pub clients: ClientStates,

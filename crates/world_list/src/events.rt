@@ -7,7 +7,7 @@ use world_base::world::World;
 
 /// What kind of turn an event is: an actor hears a message, a client goes on without one, a target
 /// does its idle work, a target's turn is cut short, it opens again, or it is given up.
-#[derive(Clone, Copy, Debug, PartialEq, Eq)]
+#[derive(Clone, Copy)]
 pub enum EventKind {
     Hear,
     GoOn,
@@ -19,7 +19,7 @@ pub enum EventKind {
 
 /// An event: its kind, the actor whose turn it is, the letter that it hears, if it hears one, and
 /// the world after it.
-#[derive(Debug, Drop)]
+#[derive(Drop)]
 pub struct Event {
     pub kind: EventKind,
     pub actor: ActorId,
@@ -32,7 +32,7 @@ pub type EventList = Items<Event>;
 
 /// A list of events: the script that is run, how many attempts a command has (1 to 100), what the
 /// clocks leave uncertain, in ticks, the world that the list starts from, and the events.
-#[derive(Debug, Drop)]
+#[derive(Drop)]
 pub struct Events {
     pub script: Script,
     pub attempts: u8,

@@ -19,7 +19,7 @@ use world_same::lists::is_joined;
 use world_same::same::Same;
 
 /// The letters that are sent, the lines that are added and the epochs that are issued in a turn.
-#[derive(Debug, Drop)]
+#[derive(Drop)]
 pub struct Follow {
     pub letters: Letters,
     pub issued: Issues,
