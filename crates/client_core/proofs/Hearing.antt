@@ -1,8 +1,8 @@
 -- A group's answer is the last one, and what a client hears.
 use Rattle.std.proofs.Common.{◌≡◌, ◌+◌, nat_lt, true, false, Option, None, Some, refl, sym, ◌∙◌, ap, subst, is_some, if◌then◌else◌}
-use Rattle.daos_base.specs.declared.answer.Answer.{Answer}
-use Rattle.daos_base.specs.declared.operation.Op.{Op}
-use Rattle.daos_messages.specs.declared.message.Message.{Message}
+use Rattle.base_types.specs.declared.answer.Answer.{Answer}
+use Rattle.base_types.specs.declared.operation.Op.{Op}
+use Rattle.base_messages.specs.declared.message.Message.{Message}
 use Rattle.daos_model.specs.Accesses.{op_path}
 use Rattle.world_base.specs.declared.client.ClientPlan.{ClientPlan}
 use Rattle.world_base.specs.declared.client.ClientState.{ClientState}

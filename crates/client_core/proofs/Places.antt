@@ -3,15 +3,15 @@ use Rattle.std.proofs.Common.{◌≡◌, ℕ, ◌+◌, ◌-◌, ◌^◌, ◌<◌
 use Rattle.std.proofs.lemmas.Option.{get_or_from_slice_get, slice_get_within}
 use Rattle.std.proofs.lemmas.List.{drop_more}
 use Rattle.std.proofs.lemmas.List.Sums.{sum_by-cons}
-use Rattle.daos_base.specs.declared.operation.Op.{Op}
-use Rattle.daos_base.specs.declared.script.Command.{Command}
-use Rattle.daos_base.specs.Scripts.{is_numbered}
+use Rattle.base_types.specs.declared.operation.Op.{Op}
+use Rattle.base_types.specs.declared.script.Command.{Command}
+use Rattle.base_types.specs.Scripts.{is_numbered}
 use Rattle.world_base.specs.declared.client.ClientPlan.{ClientPlan}
 use Rattle.world_base.specs.declared.client.ClientState.{ClientState}
 use Rattle.world_base.specs.declared.client.Present.{Present}
 use Rattle.world_base.specs.ClientTurns.{attempt_moves, command_at, command_moves, moved, moves_at, rests, waits}
 use Rattle.client_core.specs.Clients.{CommandFits, IsAt, IsInPlace, OpFits, OpsFit, PlanFits, has_number}
-use Rattle.daos_laws.specs.Lists.{all-at}
+use Rattle.model_laws.specs.Lists.{all-at}
 
 pub op_within : (targets : ℕ) (ops : List Op) (i : ℕ) (op : Op) → OpsFit targets ops → slice_get ops i ≡ Some op → i < 64
 op_within targets ops i op fits is = omega (arith, fits.few, slice_get_within ops i op is)

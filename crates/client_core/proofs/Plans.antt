@@ -1,27 +1,27 @@
 -- What a script in form tells a client to do can be done.
 use Rattle.std.proofs.Common.{◌≡◌, ℕ, zero, suc, ◌+◌, ◌≤◌, List, [], ◌∷◌, ◌++◌, get_or, slice_get, count_by, None, Some, All, ap, subst, arith, map}
 use Rattle.std.proofs.lemmas.List.Elements.{All-nil, All-cons}
-use Rattle.daos_base.specs.declared.epoch.Epoch.{Epoch}
-use Rattle.daos_base.specs.declared.operation.Act.{Act}
-use Rattle.daos_base.specs.declared.operation.Act.TheVariants.{Fetch, Change}
-use Rattle.daos_base.specs.declared.operation.Read.{Read}
-use Rattle.daos_base.specs.declared.operation.Read.TheVariants as read
-use Rattle.daos_base.specs.declared.operation.Write.{Write}
-use Rattle.daos_base.specs.declared.operation.Write.TheVariants as write
-use Rattle.daos_base.specs.declared.path.Path.{Path}
-use Rattle.daos_base.specs.declared.script.Command.{Command}
-use Rattle.daos_base.specs.declared.script.Command.TheVariants.{Run, Snap, Aggregate, Tell, Skip}
-use Rattle.daos_base.specs.declared.script.ContDecl.{ContDecl}
-use Rattle.daos_base.specs.declared.script.ObjDecl.{ObjDecl}
-use Rattle.daos_base.specs.declared.script.Script.{Script}
-use Rattle.daos_base.specs.Operations.{act_path, read_path, write_path}
-use Rattle.daos_base.specs.Placement.{ClassFits}
-use Rattle.daos_base.specs.Scripts.{AreCommands, IsActInForm, IsCommand, IsInForm, IsOfObject, IsReadInForm, IsWriteInForm, SnapName, count_numbered, is_numbered, old_snap, snap_of}
+use Rattle.base_types.specs.declared.epoch.Epoch.{Epoch}
+use Rattle.base_types.specs.declared.operation.Act.{Act}
+use Rattle.base_types.specs.declared.operation.Act.TheVariants.{Fetch, Change}
+use Rattle.base_types.specs.declared.operation.Read.{Read}
+use Rattle.base_types.specs.declared.operation.Read.TheVariants as read
+use Rattle.base_types.specs.declared.operation.Write.{Write}
+use Rattle.base_types.specs.declared.operation.Write.TheVariants as write
+use Rattle.base_types.specs.declared.path.Path.{Path}
+use Rattle.base_types.specs.declared.script.Command.{Command}
+use Rattle.base_types.specs.declared.script.Command.TheVariants.{Run, Snap, Aggregate, Tell, Skip}
+use Rattle.base_types.specs.declared.script.ContDecl.{ContDecl}
+use Rattle.base_types.specs.declared.script.ObjDecl.{ObjDecl}
+use Rattle.base_types.specs.declared.script.Script.{Script}
+use Rattle.base_types.specs.Operations.{act_path, read_path, write_path}
+use Rattle.base_types.specs.Placement.{ClassFits}
+use Rattle.base_types.specs.Scripts.{AreCommands, IsActInForm, IsCommand, IsInForm, IsOfObject, IsReadInForm, IsWriteInForm, SnapName, count_numbered, is_numbered, old_snap, snap_of}
 use Rattle.world_base.specs.declared.client.ClientPlan.{ClientPlan}
 use Rattle.world_base.specs.declared.client.KnownSnap.{KnownSnap}
 use Rattle.world_base.specs.ClientTurns.{plan_of}
 use Rattle.client_core.specs.Clients.{CommandFits, IsInPlace, ObjFits, OpFits, PlanFits}
-use Rattle.daos_laws.specs.Lists.{all-at}
+use Rattle.model_laws.specs.Lists.{all-at}
 
 abbrev AllFit : ℕ → List ObjDecl → Type 0
 AllFit targets objs = All (λ o. ClassFits o.id.class targets) objs

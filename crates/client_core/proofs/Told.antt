@@ -1,13 +1,13 @@
 -- What a message tells a client.
 use Rattle.std.proofs.Common.{◌≡◌, ℕ, Bool, true, false, List, [], ◌∷◌, ◌++◌, max, Option, refl, sym, ◌∙◌, ap}
-use Rattle.daos_base.specs.declared.epoch.Epoch.{Epoch}
-use Rattle.daos_base.specs.declared.id.AttemptId.{AttemptId}
-use Rattle.daos_base.specs.declared.outcome.Outcome.{Outcome}
-use Rattle.daos_messages.specs.declared.message.Message.{Message, Reset, end_of-Message, more_of-Message}
-use Rattle.daos_messages.specs.declared.message.Message as own
-use Rattle.daos_messages.specs.declared.message.Message.TheBlock as block
-use Rattle.daos_messages.specs.declared.message.Message.TheVariants as message
-use Rattle.daos_messages.specs.declared.message.Reply.{Reply}
+use Rattle.base_types.specs.declared.epoch.Epoch.{Epoch}
+use Rattle.base_types.specs.declared.id.AttemptId.{AttemptId}
+use Rattle.base_types.specs.declared.outcome.Outcome.{Outcome}
+use Rattle.base_messages.specs.declared.message.Message.{Message, Reset, end_of-Message, more_of-Message}
+use Rattle.base_messages.specs.declared.message.Message as own
+use Rattle.base_messages.specs.declared.message.Message.TheBlock as block
+use Rattle.base_messages.specs.declared.message.Message.TheVariants as message
+use Rattle.base_messages.specs.declared.message.Reply.{Reply}
 use Rattle.client_core.specs.Clients.{is_asked_again}
 use Rattle.world_base.specs.ClientTurns.{about, answered, asks_again, goes, greatest, lost, request_of, reset, reset_by, told_by_message}
 use Rattle.world_base.specs.declared.client.ClientPlan.{ClientPlan}

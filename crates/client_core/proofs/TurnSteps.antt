@@ -1,8 +1,8 @@
 -- A turn, move by move.
 use Rattle.std.proofs.Common.{◌≡◌, ◌++◌, List, [], None, true, false, refl, sym, ◌∙◌, ap, subst, append_assoc, ◌<◌, rules, Result, Ok, Err, IfOk}
-use Rattle.daos_base.specs.declared.report.Line.{Line}
-use Rattle.daos_messages.specs.declared.message.Message.{Message}
-use Rattle.daos_messages.specs.declared.message.Post.{Post}
+use Rattle.base_types.specs.declared.report.Line.{Line}
+use Rattle.base_messages.specs.declared.message.Message.{Message}
+use Rattle.base_messages.specs.declared.message.Post.{Post}
 use Rattle.world_base.specs.declared.client.ClientPlan.{ClientPlan}
 use Rattle.world_base.specs.declared.client.ClientState.{ClientState}
 use Rattle.world_base.specs.declared.did.Did.{Did}

@@ -1,14 +1,14 @@
 -- What is true of every client, and its move as the definition has it.
 use Rattle.std.specs.Prelude.{ℕ, Bool, true, false, ◌≡◌, ◌≤◌, ◌<◌, ◌+◌, ◌++◌, drop, length, count_by, is_some, slice_get, ◌^◌, ◌-◌, All, List, [], ◌∷◌, Option, Some, None}
-use Rattle.daos_base.specs.declared.id.ObjId.{ObjId}
-use Rattle.daos_base.specs.declared.operation.MinorWrite.{MinorWrite}
-use Rattle.daos_base.specs.declared.operation.Op.{Op}
-use Rattle.daos_base.specs.declared.script.Command.{Command}
-use Rattle.daos_base.specs.Operations.{write_path}
-use Rattle.daos_base.specs.Placement.{ClassFits}
-use Rattle.daos_base.specs.Scripts.{is_numbered}
-use Rattle.daos_messages.specs.declared.message.Message.{Message}
-use Rattle.daos_messages.specs.declared.message.Message.TheVariants as message
+use Rattle.base_types.specs.declared.id.ObjId.{ObjId}
+use Rattle.base_types.specs.declared.operation.MinorWrite.{MinorWrite}
+use Rattle.base_types.specs.declared.operation.Op.{Op}
+use Rattle.base_types.specs.declared.script.Command.{Command}
+use Rattle.base_types.specs.Operations.{write_path}
+use Rattle.base_types.specs.Placement.{ClassFits}
+use Rattle.base_types.specs.Scripts.{is_numbered}
+use Rattle.base_messages.specs.declared.message.Message.{Message}
+use Rattle.base_messages.specs.declared.message.Message.TheVariants as message
 use Rattle.daos_model.specs.Accesses.{op_path}
 use Rattle.daos_model.specs.Transactions.{ops_of}
 use Rattle.world_base.specs.ClientTurns.{command_at}

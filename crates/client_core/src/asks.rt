@@ -1,20 +1,20 @@
 // What a client asks, and which targets.
 ghost use Rattle.std.specs.Prelude.{◌≡◌, ◌≤◌, ◌<◌, ◌^◌, ◌++◌, length, IfOk, IfSome, OnOk};
-ghost use Rattle.daos_base.specs.Operations.{act_path, read_path};
-ghost use Rattle.daos_base.specs.Placement.{ClassFits, path_leader, shard_target};
+ghost use Rattle.base_types.specs.Operations.{act_path, read_path};
+ghost use Rattle.base_types.specs.Placement.{ClassFits, path_leader, shard_target};
 ghost use Rattle.daos_model.specs.Accesses.{asked_member, minor_write, minor_writes, op_path};
 ghost use Rattle.client_core.specs.Clients.{ObjFits, move_of};
 ghost use Rattle.world_base.specs.ClientTurns.{act_read, asks_read, condition_read, group_asked, group_count, member_asked, question};
 
 use crate::step::{Move, attempt_id};
-use daos_base::epoch::TargetId;
-use daos_base::id::ObjId;
-use daos_base::items::{Items, Memory};
-use daos_base::operation::{Act, Cond, MinorWrite, MinorWrites, Op, Read};
-use daos_base::path::Path;
+use base_types::epoch::TargetId;
+use base_types::id::ObjId;
+use base_types::items::{Items, Memory};
+use base_types::operation::{Act, Cond, MinorWrite, MinorWrites, Op, Read};
+use base_types::path::Path;
 use daos_class::class::Placed;
 use daos_class::place::leader_of;
-use daos_messages::message::Message;
+use base_messages::message::Message;
 use std::alloc::Global;
 use world_base::client::{ClientPlan, ClientState, Present, Stage};
 
@@ -158,7 +158,7 @@ pub(crate) fn minor_writes(alloc: Global, ops: &[Op]) -> Result<MinorWrites, Mem
 }
 
 // The leader of the group that leads a path.
-#[tactic(auto, unfolding(daos_base::specs::Placement::path_leader))]
+#[tactic(auto, unfolding(base_types::specs::Placement::path_leader))]
 pub(crate) fn path_leader(path: &Path, targets: u8) -> TargetId
     requires { ObjFits targets path.now.obj }
     ensures { result ≡ path_leader path.now targets }

@@ -1,9 +1,9 @@
 // A client's state again, so that a turn for which memory is wanting leaves the client as it was.
 ghost use Rattle.std.specs.Prelude.{◌≡◌, IfOk};
 
-use daos_base::answer::Answer;
-use daos_base::items::{Items, Memory};
-use daos_base::report::{Conds, Gots};
+use base_types::answer::Answer;
+use base_types::items::{Items, Memory};
+use base_types::report::{Conds, Gots};
 use std::alloc::Global;
 use world_base::client::{ClientState, KnownSnap, KnownSnaps, Present};
 

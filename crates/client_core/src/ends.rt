@@ -6,12 +6,12 @@ ghost use Rattle.client_core.specs.Clients.{IsAt, move_of};
 ghost use Rattle.world_base.specs.ClientTurns.{after_end, begins, begun, ends, first_epoch, known_epoch, next_command, next_place};
 
 use crate::step::{Move, at_present, attempt_id};
-use daos_base::epoch::Epoch;
-use daos_base::items::Items;
-use daos_base::key::Key;
-use daos_base::outcome::Outcome;
-use daos_base::report::{Attempt, Line};
-use daos_base::script::Command;
+use base_types::epoch::Epoch;
+use base_types::items::Items;
+use base_types::key::Key;
+use base_types::outcome::Outcome;
+use base_types::report::{Attempt, Line};
+use base_types::script::Command;
 use std::alloc::Global;
 use world_base::client::{ClientPlan, ClientState, KnownSnaps, Present, Stage};
 

@@ -1,7 +1,7 @@
 // A client's next move.
 ghost use Rattle.std.specs.Prelude.{◌≡◌, ◌<◌, ◌-◌, ◌^◌, true, slice_get, IfOk, IfSome};
 ghost use Rattle.std.specs.Option.{option_copied};
-ghost use Rattle.daos_base.specs.Scripts.{is_numbered};
+ghost use Rattle.base_types.specs.Scripts.{is_numbered};
 ghost use Rattle.client_core.specs.Clients.{CommandFits, FirstFits, IsAt, IsInPlace, OpFits, OpsFit, PlanFits, move_of};
 ghost use Rattle.world_base.specs.ClientTurns.{asks_or_goes, attempt_moves, command_at, command_moves, commits, moved, next_op, next_stage, op_moves, question, run_moves, skip_at, waits};
 ghost use Rattle.world_base.specs.declared.client.ClientPlan.{ClientPlan};
@@ -11,15 +11,15 @@ use crate::asks::{asks_read, minor_writes, path_leader, question};
 use crate::copies::copy_present;
 use crate::ends::{begins, ends, next_place};
 use crate::step::{Move, at_present, attempt_id};
-use daos_base::epoch::Epoch;
-use daos_base::id::{AttemptId, ContId};
-use daos_base::items::Memory;
-use daos_base::key::Key;
-use daos_base::operation::{MinorWrites, Op, Ops};
-use daos_base::outcome::Outcome;
-use daos_base::script::{Command, Skips};
-use daos_messages::actor::ActorId;
-use daos_messages::message::{Message, Post};
+use base_types::epoch::Epoch;
+use base_types::id::{AttemptId, ContId};
+use base_types::items::Memory;
+use base_types::key::Key;
+use base_types::operation::{MinorWrites, Op, Ops};
+use base_types::outcome::Outcome;
+use base_types::script::{Command, Skips};
+use base_messages::actor::ActorId;
+use base_messages::message::{Message, Post};
 use std::alloc::Global;
 use world_base::client::{ClientPlan, ClientState, Present, Stage};
 

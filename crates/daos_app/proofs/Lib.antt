@@ -1,2 +1,4 @@
+pub mod Asked
+pub mod Generated
 pub mod Loads
 pub mod Refusals

@@ -1,8 +1,8 @@
 -- The summary of a load.
 use Rattle.std.proofs.Common.{◌≡◌, ℕ, List, subst}
-use Rattle.daos_base.specs.declared.job.Job.{Job}
-use Rattle.daos_base.specs.declared.report.Report.{Report}
-use Rattle.daos_base.specs.declared.script.Script.{Script}
+use Rattle.base_types.specs.declared.job.Job.{Job}
+use Rattle.base_types.specs.declared.report.Report.{Report}
+use Rattle.base_types.specs.declared.script.Script.{Script}
 use Rattle.daos_gen.specs.Scripts.{script_of}
 use Rattle.daos_model.specs.Opening.{fresh}
 use Rattle.daos_summary.specs.Summaries.{summary_text}

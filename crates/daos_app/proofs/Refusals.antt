@@ -2,9 +2,9 @@
 use Rattle.std.specs.Prelude.{List, ℕ, Option, IfErr, Result}
 use Rattle.std.proofs.Common.{◌≡◌, Ok, Err}
 use Rattle.daos_app.specs.Answers.{IsRefusal, RefusesScript}
-use Rattle.daos_base.specs.declared.job.Job.{Job}
-use Rattle.daos_input.specs.Inputs.{IsRefused}
-use Rattle.daos_input.specs.Words.{run_job_of}
+use Rattle.base_types.specs.declared.job.Job.{Job}
+use Rattle.daos_app.specs.Inputs.{IsRefused}
+use Rattle.daos_app.specs.Words.{run_job_of}
 use Rattle.daos_status.specs.declared.status.Status.{Status}
 use Rattle.daos_status.specs.declared.status.Status.TheVariants as status
 

@@ -1,17 +1,17 @@
 -- What the program writes, and what its answers stand for.
 use Rattle.std.specs.Prelude.{ℕ, ◌≡◌, List, Option, Some, None, Ok}
-use Rattle.daos_base.specs.declared.fault.ScriptFault.{ScriptFault}
-use Rattle.daos_base.specs.declared.job.Job.{Job}
-use Rattle.daos_base.specs.declared.report.Report.{Report}
-use Rattle.daos_base.specs.declared.script.Script.{Script}
+use Rattle.base_types.specs.declared.fault.ScriptFault.{ScriptFault}
+use Rattle.base_types.specs.declared.job.Job.{Job}
+use Rattle.base_types.specs.declared.report.Report.{Report}
+use Rattle.base_types.specs.declared.script.Script.{Script}
 use Rattle.daos_gen.specs.Scripts.{script_of}
-use Rattle.daos_input.specs.Inputs.{IsRead, IsRefused}
-use Rattle.daos_input.specs.Words.{run_job_of}
-use Rattle.daos_lone.specs.Lone.{HasOneClient}
+use Rattle.daos_app.specs.Inputs.{IsRead, IsRefused}
+use Rattle.daos_app.specs.Words.{run_job_of}
+use Rattle.model_reports.specs.Lone.{HasOneClient}
 use Rattle.daos_model.specs.Opening.{Given, fresh}
 use Rattle.daos_report.specs.Forms.{IsReportOf}
 use Rattle.daos_report.specs.Reports.{report_text}
-use Rattle.daos_room.specs.Rooms.{FindsRoom, HasRoom}
+use Rattle.model_reports.specs.Rooms.{FindsRoom, HasRoom}
 use Rattle.daos_run.specs.Alone.{IsOfLoneClient}
 use Rattle.daos_run.specs.Opens.{FollowsOrder, IsLegal}
 use Rattle.daos_status.specs.declared.status.Status.{Status}

@@ -1,12 +1,12 @@
 // The top call.
 ghost use Rattle.std.specs.Prelude.{◌≡◌, ◌≢◌, ◌≤◌, ◌↔◌, ◌⊎◌, ℕ, List, Err, map, string_bytes};
 ghost use Rattle.std.specs.Io.KnownBytes.{Appends};
-ghost use Rattle.daos_base.specs.declared.fault.ScriptFault.{ScriptFault};
-ghost use Rattle.daos_base.specs.declared.fault.WordFault.{WordFault};
+ghost use Rattle.base_types.specs.declared.fault.ScriptFault.{ScriptFault};
+ghost use Rattle.base_types.specs.declared.fault.WordFault.{WordFault};
 ghost use Rattle.daos_outside.specs.Causes.{Rose};
 ghost use Rattle.daos_outside.specs.Transfers.{AppendsPrefix};
 ghost use Rattle.daos_app.specs.Answers.{AsksLoad, IsAnswerOfLoad, IsAnswerSoFar, IsBeforeRun, IsTold, RefusesScript};
-ghost use Rattle.daos_input.specs.Words.{run_job_of};
+ghost use Rattle.daos_app.specs.Words.{run_job_of};
 
 use crate::output::write_text;
 use crate::text::text_of;

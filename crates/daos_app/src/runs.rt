@@ -1,14 +1,14 @@
 // Runs a script and makes the text that is told of its report.
 ghost use Rattle.std.specs.Prelude.{◌≡◌, ◌<◌, ◌≤◌, IfOk, IsOkUnless};
 ghost use Rattle.daos_app.specs.Answers.{IsReported, IsSummed};
-ghost use Rattle.daos_runnable.specs.Runnable.{IsRunnable};
+ghost use Rattle.script_runnable.specs.Runnable.{IsRunnable};
 ghost use Rattle.daos_words.specs.Laws.{IsInForm};
-ghost use Rattle.daos_runnable.specs.Keyed.{ScriptHasKeys};
+ghost use Rattle.script_runnable.specs.Keyed.{ScriptHasKeys};
 
-use daos_base::items::Memory;
-use daos_base::job::Job;
-use daos_base::script::Script;
-use daos_input::load::load_script;
+use crate::load::load_script;
+use base_types::items::Memory;
+use base_types::job::Job;
+use base_types::script::Script;
 use daos_outside::gate::Gate;
 use daos_outside::rack::Rack;
 use daos_report::text::report_text;

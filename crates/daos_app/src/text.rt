@@ -1,16 +1,16 @@
 // The text that the program writes: of a run its report, of a load its summary.
 ghost use Rattle.std.specs.Prelude.{◌≡◌, ◌≤◌, ◌<◌, ◌↔◌, Err, Some, map, string_bytes, IfErr, IfOk, IsErrOf};
-ghost use Rattle.daos_base.specs.declared.fault.WordFault.{WordFault};
+ghost use Rattle.base_types.specs.declared.fault.WordFault.{WordFault};
 ghost use Rattle.daos_outside.specs.Causes.{Rose};
 ghost use Rattle.daos_app.specs.Answers.{AsksLoad, IsAnswerOfLoad, IsBeforeRun, IsRefusal, IsRun, IsSummed, IsTold, RefusesScript};
-ghost use Rattle.daos_input.specs.Inputs.{IsRefused};
-ghost use Rattle.daos_input.specs.Words.{run_job_of};
+ghost use Rattle.daos_app.specs.Inputs.{IsRefused};
+ghost use Rattle.daos_app.specs.Words.{run_job_of};
 ghost use Rattle.daos_words.specs.Laws.{IsInForm};
 
+use crate::input::{InputNo, read_input};
 use crate::runs::{load_text, run_text};
-use daos_base::job::Job;
-use daos_input::input::{InputNo, read_input};
-use daos_input::words::run_job;
+use crate::words::run_job;
+use base_types::job::Job;
 use daos_outside::gate::Gate;
 use daos_outside::rack::Rack;
 use daos_outside::source::Source;

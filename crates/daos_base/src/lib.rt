@@ -1,20 +1,24 @@
-// The plain types that every crate of the store shares: names, paths, operations, scripts, reports.
+// The plain types of the store under one name, whatever crate holds them.
 #![tactic(auto)]
 
-pub mod answer;
-pub mod entry;
-pub mod epoch;
-pub mod fault;
-pub mod hash;
-pub mod id;
-pub mod items;
-pub mod job;
-pub mod key;
-pub mod operation;
-pub mod outcome;
-pub mod path;
-pub mod report;
-pub mod script;
-pub mod shown;
-pub mod slot;
-pub mod snapshot;
+pub use base_messages::actor::ActorId;
+pub use base_messages::message::{Message, Post};
+pub use base_types::answer::{Answer, Keys, Piece, Pieces};
+pub use base_types::entry::{Entries, Entry, EntryState, Settle, Verdict};
+pub use base_types::epoch::{Epoch, TargetId, Targets};
+pub use base_types::fault::{ScriptFault, Why, WordFault, WordKind};
+pub use base_types::hash::fnv1a;
+pub use base_types::id::{AttemptId, Class, ContId, ObjId};
+pub use base_types::items::{Items, Memory, TryCopy, Vec8, bytes_of};
+pub use base_types::job::{Job, Task};
+pub use base_types::key::{Key, KeyNo};
+pub use base_types::operation::{Act, Cond, MinorWrite, MinorWrites, Op, Ops, Read, Write};
+pub use base_types::outcome::{Cause, FloorWhy, Outcome};
+pub use base_types::path::{Level, Path};
+pub use base_types::report::{Attempt, Conds, Gots, Line, Lines, Report};
+pub use base_types::script::{
+    ClientLists, Command, Commands, ContDecl, Conts, Drops, ObjDecl, Objs, OldDecl, Olds, Script,
+    Skips, StopDecl, Stops,
+};
+pub use base_types::shown::Shown;
+pub use base_types::snapshot::{Snap, Snaps};

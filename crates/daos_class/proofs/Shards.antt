@@ -1,7 +1,7 @@
 -- The targets of shards are found one by one.
 use Rattle.std.proofs.Common.{ℕ, zero, suc, ◌+◌, ◌-◌, ◌≡◌, ◌≤◌, ◌<◌, List, [], ◌∷◌, ◌++◌, sym, ◌∙◌, ap, append_assoc, arith}
 use Rattle.std.proofs.lemmas.List.{append-nil}
-use Rattle.daos_base.specs.Placement.{shard_target, shard_targets}
+use Rattle.base_types.specs.Placement.{shard_target, shard_targets}
 
 -- the first shard and those after it
 shard_targets-first : (number shard left n : ℕ) → 0 < left → shard_targets number shard left n ≡ shard_target number shard n ∷ shard_targets number (shard + 1) (left - 1) n

@@ -1,7 +1,7 @@
 -- The words that name classes.
 use Rattle.std.specs.Prelude.{ℕ, List, codes}
-use Rattle.daos_base.specs.declared.id.Class.{Class}
-use Rattle.daos_base.specs.declared.id.Class.TheVariants.{S1, S2, S4, SX, RP2G1, RP2GX, RP3G1, RP3GX}
+use Rattle.base_types.specs.declared.id.Class.{Class}
+use Rattle.base_types.specs.declared.id.Class.TheVariants.{S1, S2, S4, SX, RP2G1, RP2GX, RP3G1, RP3GX}
 
 -- the word of a class
 abbrev pub class_word : Class → List ℕ

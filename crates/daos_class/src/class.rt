@@ -1,12 +1,12 @@
 // What a class says: its word, its replicas, its groups.
 ghost use Rattle.std.specs.Prelude.{ℕ, List, ◌≡◌, ◌≢◌, ◌<◌, IfOk, OnErr, OnOk, IfErr};
-ghost use Rattle.daos_base.specs.declared.id.Class.{Class};
-ghost use Rattle.daos_base.specs.Placement.{ClassFits, group_of, groups, replicas, targets_needed};
+ghost use Rattle.base_types.specs.declared.id.Class.{Class};
+ghost use Rattle.base_types.specs.Placement.{ClassFits, group_of, groups, replicas, targets_needed};
 ghost use Rattle.daos_class.specs.Words.{class_word};
 
-use daos_base::hash::fnv1a;
-use daos_base::id::Class;
-use daos_base::key::Key;
+use base_types::hash::fnv1a;
+use base_types::id::Class;
+use base_types::key::Key;
 use thiserror::Error;
 
 /// The bytes are no class word.
@@ -112,7 +112,7 @@ impl Placed for Class {
         }
     }
 
-    #[tactic(auto, unfolding(daos_base::specs::Placement::group_of))]
+    #[tactic(auto, unfolding(base_types::specs::Placement::group_of))]
     fn group_of(self, dkey: &Key, n: u8) -> u8 {
         let groups = self.groups(n);
         (fnv1a(dkey.bytes()) % u64::from(groups)) as u8

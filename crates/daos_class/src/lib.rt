@@ -4,4 +4,4 @@
 pub mod class;
 pub mod place;
 
-pub use daos_base::hash::fnv1a;
+pub use base_types::hash::fnv1a;

@@ -1,11 +1,11 @@
 // Where the groups of an object are.
 ghost use Rattle.std.specs.Prelude.{◌≡◌, ◌<◌, IfOk};
-ghost use Rattle.daos_base.specs.Placement.{ClassFits, first_shard, groups, leader_of, members, shard_target, shard_targets};
+ghost use Rattle.base_types.specs.Placement.{ClassFits, first_shard, groups, leader_of, members, shard_target, shard_targets};
 
 use crate::class::Placed;
-use daos_base::epoch::{TargetId, Targets};
-use daos_base::id::ObjId;
-use daos_base::items::{Items, Memory};
+use base_types::epoch::{TargetId, Targets};
+use base_types::id::ObjId;
+use base_types::items::{Items, Memory};
 use std::alloc::Global;
 
 // The target of a shard of the object of this number.
@@ -34,7 +34,7 @@ pub fn members(alloc: Global, obj: ObjId, group: u8, n: u8) -> Result<Targets, M
 }
 
 /// The target that leads a group of an object: its first member.
-#[tactic(auto, unfolding(daos_base::specs::Placement::leader_of))]
+#[tactic(auto, unfolding(base_types::specs::Placement::leader_of))]
 pub fn leader_of(obj: ObjId, group: u8, n: u8) -> TargetId
     requires fits { ClassFits obj.class n }
     requires within { group < groups obj.class n }

@@ -2,13 +2,13 @@
 use Rattle.std.proofs.Common.{◌≡◌, ℕ, ◌≤◌, Bool, true, false, ◌&&◌, eqb, List, map, length, refl, sym, subst, rules, lit≤, All, Any}
 use Rattle.std.specs.Prelude.{nat_eq}
 use Rattle.std.specs.List.{IsDistinct}
-use Rattle.daos_base.specs.declared.id.Class.{Class}
-use Rattle.daos_base.specs.declared.script.ContDecl.{ContDecl}
-use Rattle.daos_base.specs.declared.script.ObjDecl.{ObjDecl}
-use Rattle.daos_base.specs.declared.script.Script.{Script}
-use Rattle.daos_base.specs.Keys.{same_key}
-use Rattle.daos_base.specs.Paths.{class_number, same_object}
-use Rattle.daos_base.specs.Scripts.{AreDeclared, cont_name, cont_number, obj_name, same_declared}
+use Rattle.base_types.specs.declared.id.Class.{Class}
+use Rattle.base_types.specs.declared.script.ContDecl.{ContDecl}
+use Rattle.base_types.specs.declared.script.ObjDecl.{ObjDecl}
+use Rattle.base_types.specs.declared.script.Script.{Script}
+use Rattle.base_types.specs.Keys.{same_key}
+use Rattle.base_types.specs.Paths.{class_number, same_object}
+use Rattle.base_types.specs.Scripts.{AreDeclared, cont_name, cont_number, obj_name, same_declared}
 use Rattle.daos_gen.specs.Commands.{class_of}
 use Rattle.daos_gen.specs.Scripts.{conts_of_load, objs_of_load}
 

@@ -6,21 +6,21 @@ use Rattle.std.proofs.lemmas.Fmt.{length-decimal-le}
 use Rattle.std.proofs.lemmas.List.{length-map}
 use Rattle.std.proofs.lemmas.List.Elements.{All-from_recursion}
 use Rattle.std.proofs.lemmas.List.Sums.{count_by-le-length}
-use Rattle.daos_base.specs.declared.id.Class.{Class}
-use Rattle.daos_base.specs.declared.id.Class.TheVariants.{S1, RP2G1, RP2GX}
-use Rattle.daos_base.specs.declared.operation.Act.{Act}
-use Rattle.daos_base.specs.declared.operation.Act.TheVariants.{Fetch, Change}
-use Rattle.daos_base.specs.declared.operation.Read.TheVariants as read
-use Rattle.daos_base.specs.declared.operation.Write.TheVariants as write
-use Rattle.daos_base.specs.declared.script.Command.{Command}
-use Rattle.daos_base.specs.declared.script.ObjDecl.{ObjDecl}
-use Rattle.daos_base.specs.Keys.{same_key}
-use Rattle.daos_base.specs.Placement.{ClassFits, targets_needed}
-use Rattle.daos_base.specs.Scripts.{AreCommands, IsActInForm, IsAkeyOf, IsCommand, IsInForm, IsLength, IsObjectOf, IsOpInForm, IsTold, IsTransaction, SnapName, all_snaps, is_numbered, snap_of, snaps_of}
+use Rattle.base_types.specs.declared.id.Class.{Class}
+use Rattle.base_types.specs.declared.id.Class.TheVariants.{S1, RP2G1, RP2GX}
+use Rattle.base_types.specs.declared.operation.Act.{Act}
+use Rattle.base_types.specs.declared.operation.Act.TheVariants.{Fetch, Change}
+use Rattle.base_types.specs.declared.operation.Read.TheVariants as read
+use Rattle.base_types.specs.declared.operation.Write.TheVariants as write
+use Rattle.base_types.specs.declared.script.Command.{Command}
+use Rattle.base_types.specs.declared.script.ObjDecl.{ObjDecl}
+use Rattle.base_types.specs.Keys.{same_key}
+use Rattle.base_types.specs.Placement.{ClassFits, targets_needed}
+use Rattle.base_types.specs.Scripts.{AreCommands, IsActInForm, IsAkeyOf, IsCommand, IsInForm, IsLength, IsObjectOf, IsOpInForm, IsTold, IsTransaction, SnapName, all_snaps, is_numbered, snap_of, snaps_of}
 use Rattle.daos_gen.specs.Commands.{act_of, akey_path, command_drawn, command_of, commands_of, goes_to, load_cont, lone, numbered, obj_of, obj_path, op_of, picked_path, transfer}
 use Rattle.daos_gen.specs.Scripts.{clients_of, conts_of_load, objs_of_load, obj_named, script_of}
 use Rattle.daos_gen.proofs.Declared.{declared_from}
-use Rattle.daos_draw.specs.Draws.{drawn_after}
+use Rattle.base_random.specs.Draws.{drawn_after}
 use Rattle.std.proofs.lemmas.List.FromFn.{length-range_with_len}
 
 -- ---- classes

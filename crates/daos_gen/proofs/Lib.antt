@@ -1,3 +1,5 @@
 pub mod Declared
 pub mod InForm
+pub mod Keys
 pub mod More
+pub mod Runs

@@ -4,7 +4,7 @@ use Rattle.std.specs.List.{range_with_len}
 use Rattle.std.proofs.lemmas.Bool.Decides.{nat_tests}
 use Rattle.std.proofs.lemmas.List.{map-append}
 use Rattle.std.proofs.lemmas.List.Elements.{filter-append}
-use Rattle.daos_base.specs.declared.script.Command.{Command}
+use Rattle.base_types.specs.declared.script.Command.{Command}
 use Rattle.daos_gen.specs.Commands.{command_of, commands_of, goes_to}
 
 range-more : (a n : ℕ) → range_with_len a (suc n) ≡ range_with_len a n ++ (a + n) ∷ []

@@ -1,9 +1,9 @@
 -- The script of a load.
 use Rattle.std.specs.Prelude.{ℕ, List, [], ◌∷◌, codes}
-use Rattle.daos_base.specs.declared.script.Command.{Command}
-use Rattle.daos_base.specs.declared.script.ContDecl.{ContDecl}
-use Rattle.daos_base.specs.declared.script.ObjDecl.{ObjDecl}
-use Rattle.daos_base.specs.declared.script.Script.{Script}
+use Rattle.base_types.specs.declared.script.Command.{Command}
+use Rattle.base_types.specs.declared.script.ContDecl.{ContDecl}
+use Rattle.base_types.specs.declared.script.ObjDecl.{ObjDecl}
+use Rattle.base_types.specs.declared.script.Script.{Script}
 use Rattle.daos_gen.specs.Commands.{load_cont, obj_of, commands_of}
 
 abbrev pub conts_of_load : List ContDecl

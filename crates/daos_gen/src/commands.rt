@@ -3,10 +3,10 @@ ghost use Rattle.std.specs.Prelude.{◌≡◌, ◌∷◌, [], IfOk};
 ghost use Rattle.daos_gen.specs.Commands.{act_of, command_drawn, commands_of, lone, numbered, transfer};
 
 use crate::places::{akey_path, numbered, obj_path};
-use daos_base::items::{Items, Memory, Vec8};
-use daos_base::operation::{Act, Cond, Op, Ops, Read, Write};
-use daos_base::script::{Command, Commands};
-use daos_draw::draw::drawn;
+use base_random::draw::drawn;
+use base_types::items::{Items, Memory, Vec8};
+use base_types::operation::{Act, Cond, Op, Ops, Read, Write};
+use base_types::script::{Command, Commands};
 use std::alloc::Global;
 
 // A value: a letter, and the number of the command.

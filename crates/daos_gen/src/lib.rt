@@ -1,6 +1,7 @@
-// The script of a load: generated commands of four clients.
+// Makes the script of a load.
 #![tactic(auto)]
 
 mod commands;
+pub mod loads;
 mod places;
 pub mod script;

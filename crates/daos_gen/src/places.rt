@@ -2,10 +2,10 @@
 ghost use Rattle.std.specs.Prelude.{◌≡◌, ◌∷◌, IfOk, decimal, Some};
 ghost use Rattle.daos_gen.specs.Commands.{akey_path, class_of, load_cont, numbered, obj_of, obj_path};
 
-use daos_base::id::{Class, ContId, ObjId};
-use daos_base::items::Memory;
-use daos_base::key::Key;
-use daos_base::path::Path;
+use base_types::id::{Class, ContId, ObjId};
+use base_types::items::Memory;
+use base_types::key::Key;
+use base_types::path::Path;
 use itoa::Buffer;
 use std::alloc::{AllocError, Global};
 
@@ -34,6 +34,7 @@ pub fn obj_of(targets: u8, number: u64) -> ObjId
     ObjId {
         class: class_of(targets, number),
         number,
+        unit: 1,
     }
 }
 

@@ -1,13 +1,13 @@
 // The script of a load.
 ghost use Rattle.std.specs.Prelude.{◌≡◌, ◌∷◌, ◌<◌, ◌≤◌, [], IfOk, codes};
-ghost use Rattle.daos_base.specs.Scripts.{IsInForm};
+ghost use Rattle.base_types.specs.Scripts.{IsInForm};
 ghost use Rattle.daos_gen.specs.Scripts.{clients_of, conts_of_load, obj_named, objs_of_load, script_of};
 
 use crate::commands::commands_of;
 use crate::places::{LOAD, obj_of};
-use daos_base::items::{Items, Memory};
-use daos_base::key::Key;
-use daos_base::script::{ClientLists, ContDecl, Conts, ObjDecl, Objs, Script};
+use base_types::items::{Items, Memory};
+use base_types::key::Key;
+use base_types::script::{ClientLists, ContDecl, Conts, ObjDecl, Objs, Script};
 use std::alloc::{AllocError, Global};
 
 // A name. These bytes are a key, so that memory alone may be wanting.
@@ -85,6 +85,7 @@ pub fn make_script(alloc: Global, count: u32, targets: u8) -> Result<Script, Mem
         conts: conts_of_load(alloc)?,
         objs: objs_of_load(alloc, targets)?,
         olds: Items::new(alloc),
+        drops: Items::new(alloc),
         stops: Items::new(alloc),
         clients: clients_of(alloc, targets, count)?,
     })

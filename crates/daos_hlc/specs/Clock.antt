@@ -1,6 +1,6 @@
 -- What a clock holds, and what it issues next.
 use Rattle.std.specs.Prelude.{ℕ, nat_le, Option, Some, None, if◌then◌else◌}
-use Rattle.daos_base.specs.Epochs.{issued_ticks, last_ticks}
+use Rattle.base_types.specs.Epochs.{issued_ticks, last_ticks}
 
 -- the target that issues, and the greatest ticks so far
 pub record Clock : Type 0 where

@@ -1,9 +1,9 @@
 // A target's clock: its ticks rise with each epoch issued, and are never behind what was heard.
 ghost use Rattle.std.specs.Prelude.{◌≡◌, ◌<◌, ◌/◌, ◌%◌, IfOk, OnErr, Some, None};
-ghost use Rattle.daos_base.specs.Epochs.{epoch_at, heard_ticks};
+ghost use Rattle.base_types.specs.Epochs.{epoch_at, heard_ticks};
 ghost use Rattle.daos_hlc.specs.Clock.{next_ticks};
 
-use daos_base::epoch::{Epoch, TargetId};
+use base_types::epoch::{Epoch, TargetId};
 use std::marker::Model;
 use thiserror::Error;
 

@@ -1,6 +1,6 @@
 // The lease that is stored before a target uses ticks above the one so far.
 ghost use Rattle.std.specs.Prelude.{ℕ, ◌≡◌, ◌≤◌, ◌%◌, IfSome};
-ghost use Rattle.daos_base.specs.Epochs.{last_ticks, lease_for};
+ghost use Rattle.base_types.specs.Epochs.{last_ticks, lease_for};
 
 use crate::clock::LAST_TICKS;
 

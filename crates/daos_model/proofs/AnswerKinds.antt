@@ -4,14 +4,14 @@ use Rattle.std.specs.Prelude.{◌==◌, nat_eq, nat_le, filter, is_none, if◌th
 use Rattle.std.specs.List.{list_all}
 use Rattle.std.specs.Option.{option_eq}
 use Rattle.std.proofs.lemmas.Bool.Decides.{nat_tests}
-use Rattle.daos_base.specs.declared.answer.Piece.{Piece}
-use Rattle.daos_base.specs.declared.answer.Piece.TheVariants as piece
-use Rattle.daos_base.specs.declared.operation.Read.{Read}
-use Rattle.daos_base.specs.declared.operation.Read.TheVariants as read
-use Rattle.daos_base.specs.declared.operation.Write.{Write}
-use Rattle.daos_base.specs.declared.operation.Write.TheVariants as write
-use Rattle.daos_base.specs.declared.path.Path.{Path}
-use Rattle.daos_base.specs.Paths.{leads_to, same_path}
+use Rattle.base_types.specs.declared.answer.Piece.{Piece}
+use Rattle.base_types.specs.declared.answer.Piece.TheVariants as piece
+use Rattle.base_types.specs.declared.operation.Read.{Read}
+use Rattle.base_types.specs.declared.operation.Read.TheVariants as read
+use Rattle.base_types.specs.declared.operation.Write.{Write}
+use Rattle.base_types.specs.declared.operation.Write.TheVariants as write
+use Rattle.base_types.specs.declared.path.Path.{Path}
+use Rattle.base_types.specs.Paths.{leads_to, same_path}
 use Rattle.daos_model.specs.declared.cell.CellValue.{CellValue}
 use Rattle.daos_model.specs.declared.durable.Version.{Version}
 use Rattle.daos_model.specs.Answers.{answer, byte_before, has_cell_below, hole_before, index_before, pieces, value_answer, yes_or_no}

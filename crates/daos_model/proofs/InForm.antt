@@ -2,9 +2,9 @@
 use Rattle.std.proofs.Common.{◌≡◌, ℕ, ◌+◌, ◌≤◌, ◌^◌, true, ◌&&◌, List, length, arith}
 use Rattle.std.specs.Prelude.{nat_le, nat_lt}
 use Rattle.std.proofs.lemmas.Bool.Decides.{nat_tests}
-use Rattle.daos_base.specs.declared.operation.Write.{Write}
-use Rattle.daos_base.specs.declared.operation.Write.TheVariants.{Single, Extent, PunchObject, PunchDkey, PunchAkey}
-use Rattle.daos_base.specs.declared.path.Path.{Path}
+use Rattle.base_types.specs.declared.operation.Write.{Write}
+use Rattle.base_types.specs.declared.operation.Write.TheVariants.{Single, Extent, PunchObject, PunchDkey, PunchAkey}
+use Rattle.base_types.specs.declared.path.Path.{Path}
 use Rattle.daos_model.specs.Effect.{EndsInArray}
 use Rattle.daos_model.specs.Forms.{ends_at_akey, is_length, is_write_in_form}
 use Rattle.daos_model.specs.BoolLaws.{and_left, and_right}
@@ -18,14 +18,14 @@ single_within p bytes h = length_within (length bytes) (and_right (ends_at_akey 
 
 pub extent_within : (p : Path) (low : ℕ) (bytes : List ℕ) → is_write_in_form (Extent p low bytes) ≡ true → length bytes ≤ 1024
 unfolding is_write_in_form
-extent_within p low bytes h = length_within (length bytes) (and_right (ends_at_akey p) (is_length (length bytes)) (and_left (ends_at_akey p && is_length (length bytes)) (nat_lt (low + length bytes) (2 ^ 32)) h))
+extent_within p low bytes h = length_within (length bytes) (and_right (ends_at_akey p) (is_length (length bytes)) (and_left (ends_at_akey p && is_length (length bytes)) (fits_records (record_size p) low (length bytes)) h))
 
 -- an extent in form ends within an array
 pub ends_in_array : (w : Write) → is_write_in_form w ≡ true → EndsInArray w
 unfolding is_write_in_form
 ends_in_array (Single p bytes) h = tt
 ends_in_array (Extent p low bytes) h =
-    let e : nat_lt (low + length bytes) (2 ^ 32) ≡ true = and_right (ends_at_akey p && is_length (length bytes)) (nat_lt (low + length bytes) (2 ^ 32)) h in
+    let e : fits_records (record_size p) low (length bytes) ≡ true = and_right (ends_at_akey p && is_length (length bytes)) (fits_records (record_size p) low (length bytes)) h in
     grind (arith, nat_tests)
 ends_in_array (PunchObject p) h = tt
 ends_in_array (PunchDkey p) h = tt

@@ -2,10 +2,10 @@
 use Rattle.std.proofs.Common.{◌≡◌, ℕ, zero, suc, ◌+◌, ◌-◌, ◌<◌, ◌≤◌, Bool, true, false, List, [], ◌∷◌, ◌++◌, length, get_or, set, take, replicate, reverse, Option, Some, None, nat_eq, ◌&&◌, inl, inr, refl, sym, ◌∙◌, ap, if◌then◌else◌, arith}
 use Rattle.std.proofs.lemmas.Bool.Decides.{leb_tells, nat_tests}
 use Rattle.std.specs.Option.{option_eq}
-use Rattle.daos_base.specs.Paths.{same_path}
-use Rattle.daos_base.specs.declared.answer.Piece.{Piece}
-use Rattle.daos_base.specs.declared.answer.Piece.TheVariants.{Bytes, Hole}
-use Rattle.daos_base.specs.declared.path.Path.{Path}
+use Rattle.base_types.specs.Paths.{same_path}
+use Rattle.base_types.specs.declared.answer.Piece.{Piece}
+use Rattle.base_types.specs.declared.answer.Piece.TheVariants.{Bytes, Hole}
+use Rattle.base_types.specs.declared.path.Path.{Path}
 use Rattle.daos_model.specs.declared.cell.CellValue.{CellValue}
 use Rattle.daos_model.specs.Answers.{index_before, pieces}
 use Rattle.daos_model.specs.Cells.{index_cell, same_cell, value_at}

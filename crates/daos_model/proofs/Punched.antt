@@ -1,8 +1,8 @@
 -- A punch in place: what stands outside a path, newest last and newest first.
 use Rattle.std.proofs.Common.{◌≡◌, true, false, not, List, [], ◌∷◌, ◌++◌, filter, reverse, refl, sym, ◌∙◌, ap, if◌then◌else◌}
 use Rattle.std.proofs.lemmas.List.{reverse-append}
-use Rattle.daos_base.specs.Paths.{leads_to}
-use Rattle.daos_base.specs.declared.path.Path.{Path}
+use Rattle.base_types.specs.Paths.{leads_to}
+use Rattle.base_types.specs.declared.path.Path.{Path}
 use Rattle.daos_model.specs.declared.cell.CellValue.{CellValue}
 use Rattle.daos_model.specs.Effect.{is_outside, without}
 

@@ -4,10 +4,10 @@ use Rattle.std.specs.Prelude.{is_none, nat_eq}
 use Rattle.std.specs.List.{list_any}
 use Rattle.std.specs.Option.{option_eq}
 use Rattle.std.proofs.lemmas.Bool.Decides.{nat_tests}
-use Rattle.daos_base.specs.Paths.{same_path}
-use Rattle.daos_base.specs.declared.operation.Write.{Write}
-use Rattle.daos_base.specs.declared.operation.Write.TheVariants.{Single, Extent}
-use Rattle.daos_base.specs.declared.path.Path.{Path}
+use Rattle.base_types.specs.Paths.{same_path}
+use Rattle.base_types.specs.declared.operation.Write.{Write}
+use Rattle.base_types.specs.declared.operation.Write.TheVariants.{Single, Extent}
+use Rattle.base_types.specs.declared.path.Path.{Path}
 use Rattle.daos_model.specs.declared.cell.Cell.{Cell}
 use Rattle.daos_model.specs.declared.cell.CellValue.{CellValue}
 use Rattle.daos_model.specs.Cells.{is_of, same_cell, single_cell}

@@ -1,20 +1,20 @@
 -- Where the operations of a command have their accesses, and at which targets.
 use Rattle.std.specs.Prelude.{ℕ, ◌+◌, ◌%◌, Bool, true, false, ◌||◌, List, [], ◌∷◌, ◌++◌, Option, Some, None, map, if◌then◌else◌}
 use Rattle.std.specs.List.{range_with_len}
-use Rattle.daos_base.specs.declared.id.AttemptId.{AttemptId}
-use Rattle.daos_base.specs.declared.id.ObjId.{ObjId}
-use Rattle.daos_base.specs.declared.operation.Act.{Act}
-use Rattle.daos_base.specs.declared.operation.Act.TheVariants.{Fetch, Change}
-use Rattle.daos_base.specs.declared.operation.Cond.{Cond}
-use Rattle.daos_base.specs.declared.operation.Cond.TheVariants.{Free, Must, MustNot}
-use Rattle.daos_base.specs.declared.operation.MinorWrite.{MinorWrite}
-use Rattle.daos_base.specs.declared.operation.Op.{Op}
-use Rattle.daos_base.specs.declared.path.Path.{Path}
-use Rattle.daos_base.specs.declared.script.Command.{Command}
-use Rattle.daos_base.specs.declared.script.Command.TheVariants.{Run, Snap, Aggregate, Tell, Skip}
-use Rattle.daos_base.specs.declared.script.Script.{Script}
-use Rattle.daos_base.specs.Operations.{act_path}
-use Rattle.daos_base.specs.Placement.{dkey_groups, first_shard, replicas, shard_target, writes_members}
+use Rattle.base_types.specs.declared.id.AttemptId.{AttemptId}
+use Rattle.base_types.specs.declared.id.ObjId.{ObjId}
+use Rattle.base_types.specs.declared.operation.Act.{Act}
+use Rattle.base_types.specs.declared.operation.Act.TheVariants.{Fetch, Change}
+use Rattle.base_types.specs.declared.operation.Cond.{Cond}
+use Rattle.base_types.specs.declared.operation.Cond.TheVariants.{Free, Must, MustNot}
+use Rattle.base_types.specs.declared.operation.MinorWrite.{MinorWrite}
+use Rattle.base_types.specs.declared.operation.Op.{Op}
+use Rattle.base_types.specs.declared.path.Path.{Path}
+use Rattle.base_types.specs.declared.script.Command.{Command}
+use Rattle.base_types.specs.declared.script.Command.TheVariants.{Run, Snap, Aggregate, Tell, Skip}
+use Rattle.base_types.specs.declared.script.Script.{Script}
+use Rattle.base_types.specs.Operations.{act_path}
+use Rattle.base_types.specs.Placement.{dkey_groups, first_shard, replicas, shard_target, writes_members}
 use Rattle.daos_model.specs.Transactions.{command_of}
 
 -- where an operation reads, asks or writes

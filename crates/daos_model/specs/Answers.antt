@@ -1,13 +1,13 @@
 -- What a read is answered on a map.
-use Rattle.std.specs.Prelude.{ℕ, zero, suc, ◌+◌, Bool, true, false, ◌||◌, ◌&&◌, ◌==◌, nat_lt, List, [], ◌∷◌, Option, Some, None, if◌then◌else◌}
-use Rattle.daos_base.specs.Paths.{leads_to}
-use Rattle.daos_base.specs.declared.path.Path.{Path}
-use Rattle.daos_base.specs.declared.operation.Read.{Read}
-use Rattle.daos_base.specs.declared.operation.Read.TheVariants as read
-use Rattle.daos_base.specs.declared.answer.Piece.{Piece}
-use Rattle.daos_base.specs.declared.answer.Piece.TheVariants as piece
-use Rattle.daos_base.specs.declared.answer.Answer.{Answer}
-use Rattle.daos_base.specs.declared.answer.Answer.TheVariants.{Bytes, Parts, Names, Yes, No, Absent}
+use Rattle.std.specs.Prelude.{ℕ, zero, suc, ◌+◌, Bool, true, false, ◌||◌, ◌&&◌, ◌==◌, nat_lt, List, [], ◌∷◌, ◌++◌, length, Option, Some, None, if◌then◌else◌}
+use Rattle.base_types.specs.Paths.{leads_to, record_size}
+use Rattle.base_types.specs.declared.path.Path.{Path}
+use Rattle.base_types.specs.declared.operation.Read.{Read}
+use Rattle.base_types.specs.declared.operation.Read.TheVariants as read
+use Rattle.base_types.specs.declared.answer.Piece.{Piece}
+use Rattle.base_types.specs.declared.answer.Piece.TheVariants as piece
+use Rattle.base_types.specs.declared.answer.Answer.{Answer}
+use Rattle.base_types.specs.declared.answer.Answer.TheVariants.{Bytes, Parts, Names, Yes, No, Absent}
 use Rattle.daos_model.specs.declared.cell.CellValue.{CellValue}
 use Rattle.daos_model.specs.Cells.{value_at, single_cell, index_cell}
 
@@ -29,26 +29,34 @@ has_cell_below p [] = false
 has_cell_below p (v ∷ m) = leads_to p v.cell.path || has_cell_below p m
 
 -- the pieces of an array: neighbours of one kind are one piece
-abbrev pub byte_before : ℕ → List Piece → List Piece
-byte_before b [] = piece.Bytes (b ∷ []) ∷ []
-byte_before b (piece.Bytes bytes ∷ ps) = piece.Bytes (b ∷ bytes) ∷ ps
-byte_before b (piece.Hole n ∷ ps) = piece.Bytes (b ∷ []) ∷ piece.Hole n ∷ ps
+abbrev pub record_before : List ℕ → List Piece → List Piece
+record_before r [] = piece.Bytes r ∷ []
+record_before r (piece.Bytes bytes ∷ ps) = piece.Bytes (r ++ bytes) ∷ ps
+record_before r (piece.Hole n ∷ ps) = piece.Bytes r ∷ piece.Hole n ∷ ps
 
 abbrev pub hole_before : List Piece → List Piece
 hole_before [] = piece.Hole 1 ∷ []
 hole_before (piece.Bytes bytes ∷ ps) = piece.Hole 1 ∷ piece.Bytes bytes ∷ ps
 hole_before (piece.Hole n ∷ ps) = piece.Hole (n + 1) ∷ ps
 
--- an index of the array, before the pieces after it: its byte, or a hole where it has no cell
+-- an index of the array, before the pieces after it: its record, or a hole where it has no cell
 abbrev pub index_before : Option (List ℕ) → List Piece → List Piece
 index_before None ps = hole_before ps
-index_before (Some []) ps = hole_before ps
-index_before (Some (b ∷ bytes)) ps = byte_before b ps
+index_before (Some r) ps = record_before r ps
+
+-- the record that bytes are, if they have its size: no cell of an index holds others
+abbrev pub record_of : ℕ → Option (List ℕ) → Option (List ℕ)
+record_of size None = None
+record_of size (Some bytes) = if length bytes == size then Some bytes else None
+
+-- the record at an index of an akey's array, if it has a cell
+abbrev pub record_at : Path → ℕ → List CellValue → Option (List ℕ)
+record_at p i m = record_of (record_size p) (value_at m (index_cell p i))
 
 -- so many indexes of an akey's array, from one on
 unfoldable pub pieces : Path → ℕ → ℕ → List CellValue → List Piece
 pieces p i zero m = []
-pieces p i (suc n) m = index_before (value_at m (index_cell p i)) (pieces p (i + 1) n m)
+pieces p i (suc n) m = index_before (record_at p i m) (pieces p (i + 1) n m)
 
 -- the keys of the cells under a path, at the level below it
 abbrev pub option_before : Option (List ℕ) → List (List ℕ) → List (List ℕ)

@@ -1,18 +1,18 @@
 -- The attempts that a report tells of, and when they stand before one another.
 use Rattle.std.specs.Prelude.{ℕ, ◌≡◌, ◌==◌, Bool, true, false, ◌||◌, not, List, [], ◌∷◌, ◌++◌, Option, Some, None, filter, is_some, if◌then◌else◌}
 use Rattle.std.specs.List.{list_any}
-use Rattle.daos_base.specs.declared.epoch.Epoch.{Epoch}
-use Rattle.daos_base.specs.declared.id.AttemptId.{AttemptId}
-use Rattle.daos_base.specs.declared.outcome.Cause.{Cause}
-use Rattle.daos_base.specs.declared.outcome.Cause.TheVariants as cause
-use Rattle.daos_base.specs.declared.outcome.Outcome.{Outcome}
-use Rattle.daos_base.specs.declared.outcome.Outcome.TheVariants as outcome
-use Rattle.daos_base.specs.declared.report.Attempt.{Attempt}
-use Rattle.daos_base.specs.declared.report.Line.{Line}
-use Rattle.daos_base.specs.declared.report.Line.TheVariants as line
-use Rattle.daos_base.specs.declared.script.Command.{Command}
-use Rattle.daos_base.specs.declared.script.Command.TheVariants.{Run, Snap, Aggregate, Tell, Skip}
-use Rattle.daos_base.specs.declared.script.Script.{Script}
+use Rattle.base_types.specs.declared.epoch.Epoch.{Epoch}
+use Rattle.base_types.specs.declared.id.AttemptId.{AttemptId}
+use Rattle.base_types.specs.declared.outcome.Cause.{Cause}
+use Rattle.base_types.specs.declared.outcome.Cause.TheVariants as cause
+use Rattle.base_types.specs.declared.outcome.Outcome.{Outcome}
+use Rattle.base_types.specs.declared.outcome.Outcome.TheVariants as outcome
+use Rattle.base_types.specs.declared.report.Attempt.{Attempt}
+use Rattle.base_types.specs.declared.report.Line.{Line}
+use Rattle.base_types.specs.declared.report.Line.TheVariants as line
+use Rattle.base_types.specs.declared.script.Command.{Command}
+use Rattle.base_types.specs.declared.script.Command.TheVariants.{Run, Snap, Aggregate, Tell, Skip}
+use Rattle.base_types.specs.declared.script.Script.{Script}
 use Rattle.daos_model.specs.Durables.{same_attempt}
 use Rattle.daos_model.specs.Transactions.{command_of}
 

@@ -1,8 +1,8 @@
 -- What a map of cells holds.
 use Rattle.std.specs.Prelude.{ℕ, Bool, ◌&&◌, nat_eq, List, [], ◌∷◌, Option, Some, None, if◌then◌else◌}
 use Rattle.std.specs.Option.{option_eq}
-use Rattle.daos_base.specs.Paths.{same_path}
-use Rattle.daos_base.specs.declared.path.Path.{Path}
+use Rattle.base_types.specs.Paths.{same_path}
+use Rattle.base_types.specs.declared.path.Path.{Path}
 use Rattle.daos_model.specs.declared.cell.Cell.{Cell}
 use Rattle.daos_model.specs.declared.cell.CellValue.{CellValue}
 

@@ -1,16 +1,16 @@
 -- What a target keeps: keys of its parts, and where they are found.
 use Rattle.std.specs.Prelude.{ℕ, Bool, true, false, ◌≡◌, ◌≤◌, ◌^◌, ◌<◌, ◌&&◌, ◌||◌, ◌==◌, List, [], ◌∷◌, find, length, Option, Some, None}
 use Rattle.std.specs.List.{list_any, list_all}
-use Rattle.daos_base.specs.declared.entry.Entry.{Entry}
-use Rattle.daos_base.specs.declared.epoch.Epoch.{Epoch}
-use Rattle.daos_base.specs.declared.id.AttemptId.{AttemptId}
-use Rattle.daos_base.specs.declared.id.ContId.{ContId}
-use Rattle.daos_base.specs.declared.id.ObjId.{ObjId}
-use Rattle.daos_base.specs.declared.outcome.FloorWhy.{FloorWhy}
-use Rattle.daos_base.specs.declared.outcome.FloorWhy.TheVariants.{Opening, Restart, Snapshot, Aggregate}
-use Rattle.daos_base.specs.declared.snapshot.Snap.{Snap}
-use Rattle.daos_base.specs.Operations.{write_path}
-use Rattle.daos_base.specs.Paths.{class_number}
+use Rattle.base_types.specs.declared.entry.Entry.{Entry}
+use Rattle.base_types.specs.declared.epoch.Epoch.{Epoch}
+use Rattle.base_types.specs.declared.id.AttemptId.{AttemptId}
+use Rattle.base_types.specs.declared.id.ContId.{ContId}
+use Rattle.base_types.specs.declared.id.ObjId.{ObjId}
+use Rattle.base_types.specs.declared.outcome.FloorWhy.{FloorWhy}
+use Rattle.base_types.specs.declared.outcome.FloorWhy.TheVariants.{Opening, Restart, Snapshot, Aggregate}
+use Rattle.base_types.specs.declared.snapshot.Snap.{Snap}
+use Rattle.base_types.specs.Operations.{write_path}
+use Rattle.base_types.specs.Paths.{class_number}
 use Rattle.daos_model.specs.declared.durable.ContRow.{ContRow}
 use Rattle.daos_model.specs.declared.durable.Durable.{Durable}
 use Rattle.daos_model.specs.declared.durable.Version.{Version}

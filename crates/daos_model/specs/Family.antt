@@ -1,12 +1,12 @@
 -- What the durable states of all targets stand for together. A family is the list of them, by the number of the target.
 use Rattle.std.specs.Prelude.{ℕ, ◌+◌, ◌^◌, ◌≡◌, ◌==◌, Bool, true, false, ◌&&◌, ◌||◌, not, max, bit_and, nat_lt, List, [], ◌∷◌, ◌++◌, Option, Some, None, All, Contains, filter, map, slice_get, length, is_some}
 use Rattle.std.specs.List.{list_any}
-use Rattle.daos_base.specs.declared.entry.Entry.{Entry}
-use Rattle.daos_base.specs.declared.id.AttemptId.{AttemptId}
-use Rattle.daos_base.specs.declared.id.ContId.{ContId}
-use Rattle.daos_base.specs.declared.snapshot.Snap.{Snap}
-use Rattle.daos_base.specs.Epochs.{restart_floor}
-use Rattle.daos_base.specs.Placement.{path_leader, path_members}
+use Rattle.base_types.specs.declared.entry.Entry.{Entry}
+use Rattle.base_types.specs.declared.id.AttemptId.{AttemptId}
+use Rattle.base_types.specs.declared.id.ContId.{ContId}
+use Rattle.base_types.specs.declared.snapshot.Snap.{Snap}
+use Rattle.base_types.specs.Epochs.{restart_floor}
+use Rattle.base_types.specs.Placement.{path_leader, path_members}
 use Rattle.daos_model.specs.declared.cell.Cell.{Cell}
 use Rattle.daos_model.specs.declared.cell.CellValue.{CellValue}
 use Rattle.daos_model.specs.declared.durable.Durable.{Durable}

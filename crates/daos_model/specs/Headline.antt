@@ -2,8 +2,8 @@
 -- the regions stood for at opening; outcomes go with what stands beside them; each restart shows a later access, a floor or an
 -- unresolved transaction.
 use Rattle.std.specs.Prelude.{Bool}
-use Rattle.daos_base.specs.declared.id.AttemptId.{AttemptId}
-use Rattle.daos_base.specs.declared.report.Report.{Report}
+use Rattle.base_types.specs.declared.id.AttemptId.{AttemptId}
+use Rattle.base_types.specs.declared.report.Report.{Report}
 use Rattle.daos_model.specs.CausesShown.{CausesShown}
 use Rattle.daos_model.specs.Opening.{Given, Outside}
 use Rattle.daos_model.specs.OutcomesLegal.{OutcomesLegal}

@@ -1,9 +1,12 @@
 -- What a run begins with.
-use Rattle.std.specs.Prelude.{ℕ, ◌-◌, ◌*◌, ◌==◌, Bool, true, false, ◌&&◌, List, [], ◌∷◌, Option, Some, None, if◌then◌else◌}
-use Rattle.daos_base.specs.declared.id.ContId.{ContId}
-use Rattle.daos_base.specs.declared.job.Job.{Job}
-use Rattle.daos_base.specs.declared.script.Script.{Script}
-use Rattle.daos_base.specs.Epochs.{restart_floor}
+use Rattle.std.specs.Prelude.{ℕ, ◌-◌, ◌*◌, ◌==◌, Bool, true, false, not, ◌&&◌, List, [], ◌∷◌, filter, Option, Some, None, if◌then◌else◌}
+use Rattle.std.specs.List.{list_any}
+use Rattle.base_types.specs.declared.id.ContId.{ContId}
+use Rattle.base_types.specs.declared.job.Job.{Job}
+use Rattle.base_types.specs.declared.script.OldDecl.{OldDecl}
+use Rattle.base_types.specs.declared.script.Script.{Script}
+use Rattle.base_types.specs.Epochs.{restart_floor}
+use Rattle.base_types.specs.Keys.{same_key}
 use Rattle.daos_model.specs.declared.cell.CellValue.{CellValue}
 use Rattle.daos_model.specs.declared.stand.SnapMap.{SnapMap}
 use Rattle.daos_model.specs.declared.stand.Stand.{Stand}
@@ -44,6 +47,18 @@ pub record Outside : Type 0 where
 abbrev pub kept_map : ContId → ℕ → List SnapMap → Option (List CellValue)
 kept_map c e [] = None
 kept_map c e (k ∷ ks) = if (k.cont.0 == c.0) && (k.epoch.0 == e) then Some k.map else kept_map c e ks
+
+-- a line of a script that declares a snapshot of an earlier run names this one, and a line drops that name
+abbrev pub drops_by : List (List ℕ) → SnapMap → OldDecl → Bool
+drops_by drops k d = (d.cont.0 == k.cont.0) && (d.epoch.0 == k.epoch.0) && list_any (same_key d.name) drops
+
+-- a script keeps a snapshot: it drops it by no name
+abbrev pub is_kept : Script → SnapMap → Bool
+is_kept s k = not (list_any (drops_by s.drops k) s.olds)
+
+-- what the regions stood for, without the snapshots that a script drops
+abbrev pub kept : Script → Stand → Stand
+kept s b = record { now = b.now; snaps = filter (is_kept s) b.snaps }
 
 -- the outside failed no region
 abbrev pub undisturbed : Outside

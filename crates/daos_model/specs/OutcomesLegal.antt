@@ -1,7 +1,7 @@
 -- Which attempts a report has, under which epochs, how they end, and which lines tell of snapshots, aggregations, stops and
 -- restarts.
 use Rattle.std.specs.Prelude.{◌≡◌, All}
-use Rattle.daos_base.specs.declared.report.Report.{Report}
+use Rattle.base_types.specs.declared.report.Report.{Report}
 use Rattle.daos_model.specs.Attempts.{tries}
 use Rattle.daos_model.specs.Conditions.{ConditionsLegal}
 use Rattle.daos_model.specs.Opening.{Given, Outside, top}

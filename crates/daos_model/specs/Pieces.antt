@@ -1,9 +1,9 @@
 -- How the pieces of an array are made: its bytes by index first, then piece by piece.
 use Rattle.std.specs.Prelude.{ℕ, zero, suc, ◌+◌, ◌-◌, nat_le, slice_set, List, [], ◌∷◌, ◌++◌, Option, Some, None, if◌then◌else◌}
-use Rattle.daos_base.specs.declared.answer.Piece.{Piece}
-use Rattle.daos_base.specs.declared.answer.Piece.TheVariants.{Bytes, Hole}
-use Rattle.daos_base.specs.Paths.{same_path}
-use Rattle.daos_base.specs.declared.path.Path.{Path}
+use Rattle.base_types.specs.declared.answer.Piece.{Piece}
+use Rattle.base_types.specs.declared.answer.Piece.TheVariants.{Bytes, Hole}
+use Rattle.base_types.specs.Paths.{same_path}
+use Rattle.base_types.specs.declared.path.Path.{Path}
 use Rattle.daos_model.specs.declared.cell.CellValue.{CellValue}
 use Rattle.daos_model.specs.Answers.{byte_before, hole_before}
 use Rattle.daos_model.specs.Cells.{index_cell, same_cell, value_at}

@@ -1,14 +1,14 @@
 -- How snapshots and aggregations go with the lines that tell of them.
 use Rattle.std.specs.Prelude.{ℕ, ◌≡◌, ◌≤◌, ◌↔◌, true, List, Option, Some, None, Any, Contains, All, find, is_some}
-use Rattle.daos_base.specs.declared.epoch.Epoch.{Epoch}
-use Rattle.daos_base.specs.declared.id.ContId.{ContId}
-use Rattle.daos_base.specs.declared.outcome.Outcome.TheVariants as outcome
-use Rattle.daos_base.specs.declared.report.Attempt.{Attempt}
-use Rattle.daos_base.specs.declared.report.Line.{Line}
-use Rattle.daos_base.specs.declared.report.Line.TheVariants as line
-use Rattle.daos_base.specs.declared.script.Command.TheVariants.{Snap, Aggregate}
-use Rattle.daos_base.specs.declared.script.OldDecl.{OldDecl}
-use Rattle.daos_base.specs.declared.script.Script.{Script}
+use Rattle.base_types.specs.declared.epoch.Epoch.{Epoch}
+use Rattle.base_types.specs.declared.id.ContId.{ContId}
+use Rattle.base_types.specs.declared.outcome.Outcome.TheVariants as outcome
+use Rattle.base_types.specs.declared.report.Attempt.{Attempt}
+use Rattle.base_types.specs.declared.report.Line.{Line}
+use Rattle.base_types.specs.declared.report.Line.TheVariants as line
+use Rattle.base_types.specs.declared.script.Command.TheVariants.{Snap, Aggregate}
+use Rattle.base_types.specs.declared.script.OldDecl.{OldDecl}
+use Rattle.base_types.specs.declared.script.Script.{Script}
 use Rattle.daos_model.specs.declared.stand.Stand.{Stand}
 use Rattle.daos_model.specs.Attempts.{EachTry, snapshot_of, tries, tries_of}
 use Rattle.daos_model.specs.Opening.{kept_map}

@@ -1,8 +1,8 @@
 -- When the durable states of all targets are such as runs leave behind.
 use Rattle.std.specs.Prelude.{ℕ, ◌≡◌, ◌≤◌, true, false, List, Some, All, AllPairs, Contains, ◌≢◌, slice_get, length}
-use Rattle.daos_base.specs.declared.entry.Entry.{Entry}
-use Rattle.daos_base.specs.Epochs.{restart_floor}
-use Rattle.daos_base.specs.Placement.{path_members}
+use Rattle.base_types.specs.declared.entry.Entry.{Entry}
+use Rattle.base_types.specs.Epochs.{restart_floor}
+use Rattle.base_types.specs.Placement.{path_members}
 use Rattle.daos_model.specs.declared.durable.Durable.{Durable}
 use Rattle.daos_model.specs.declared.durable.Version.{Version}
 use Rattle.daos_model.specs.Durables.{entry_of, is_frozen, version_key}

@@ -7,9 +7,9 @@ use crate::cell::Cell;
 use crate::map::Map;
 use crate::names::{akeys_below, dkeys_below};
 use crate::pieces::pieces;
-use daos_base::answer::Answer;
-use daos_base::items::{Items, Memory, Vec8};
-use daos_base::operation::Read;
+use base_types::answer::Answer;
+use base_types::items::{Items, Memory, Vec8};
+use base_types::operation::Read;
 use std::alloc::Global;
 
 // The answer to whether there is something.

@@ -4,7 +4,7 @@ ghost use Rattle.std.specs.Int.{div_ceil};
 ghost use Rattle.daos_model.specs.Blocks.{blocks, write_blocks};
 ghost use Rattle.daos_model.specs.Forms.{AreWritesInForm, is_write_in_form};
 
-use daos_base::operation::{MinorWrite, Write};
+use base_types::operation::{MinorWrite, Write};
 
 // The blocks that bytes of an update take.
 fn update_blocks(len: usize) -> u32

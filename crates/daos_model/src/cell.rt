@@ -2,8 +2,8 @@
 ghost use Rattle.std.specs.Prelude.{◌≡◌, IfOk};
 ghost use Rattle.daos_model.specs.Cells.{index_cell, same_cell, single_cell};
 
-use daos_base::items::{Memory, Vec8};
-use daos_base::path::Path;
+use base_types::items::{Memory, Vec8};
+use base_types::path::Path;
 
 /// A cell: the single value of an akey, or one index of its array. Its path ends at the akey.
 #[derive(Drop)]

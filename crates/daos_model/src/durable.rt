@@ -2,13 +2,13 @@
 ghost use Rattle.std.specs.Prelude.{◌≡◌, IfOk};
 ghost use Rattle.daos_model.specs.Durables.{same_attempt};
 
-use daos_base::entry::Entries;
-use daos_base::epoch::Epoch;
-use daos_base::id::{AttemptId, ContId};
-use daos_base::items::{Items, Memory, TryCopy};
-use daos_base::operation::Write;
-use daos_base::outcome::FloorWhy;
-use daos_base::snapshot::Snaps;
+use base_types::entry::Entries;
+use base_types::epoch::Epoch;
+use base_types::id::{AttemptId, ContId};
+use base_types::items::{Items, Memory, TryCopy};
+use base_types::operation::Write;
+use base_types::outcome::FloorWhy;
+use base_types::snapshot::Snaps;
 
 /// A write that a target keeps: the epoch of its transaction, its number in it, the attempt, and
 /// whether it is done or still unsettled.

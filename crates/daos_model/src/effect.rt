@@ -4,9 +4,9 @@ ghost use Rattle.daos_model.specs.Effect.{EndsInArray, effect, extent_cells, ind
 
 use crate::cell::{Cell, CellValue};
 use crate::map::Map;
-use daos_base::items::{Memory, bytes_of};
-use daos_base::operation::Write;
-use daos_base::path::Path;
+use base_types::items::{Memory, bytes_of};
+use base_types::operation::Write;
+use base_types::path::Path;
 use std::alloc::Global;
 
 // An index of an array with its byte.

@@ -7,8 +7,8 @@ ghost use Rattle.daos_model.specs.Cells.{held_bytes, is_of, value_at};
 ghost use Rattle.daos_model.specs.Effect.{is_outside, without};
 
 use crate::cell::{Cell, CellValue};
-use daos_base::items::{Memory, Vec8};
-use daos_base::path::Path;
+use base_types::items::{Memory, Vec8};
+use base_types::path::Path;
 use std::alloc::Global;
 use std::marker::Model;
 

@@ -4,9 +4,9 @@ ghost use Rattle.daos_model.specs.Answers.{pieces};
 ghost use Rattle.daos_model.specs.Pieces.{after_last, first_byte, hole_length, index_after, index_in, last_hole, lone_piece, pieces_of, window, with_index};
 
 use crate::cell::CellValue;
-use daos_base::answer::Piece;
-use daos_base::items::{Memory, bytes_of};
-use daos_base::path::Path;
+use base_types::answer::Piece;
+use base_types::items::{Memory, bytes_of};
+use base_types::path::Path;
 use std::alloc::Global;
 
 // The index of an akey's array that a value is of, if it is of one.

@@ -1,7 +1,7 @@
 // Which versions a prune removes.
 ghost use Rattle.std.specs.Prelude.{◌≡◌, ◌&&◌, is_none};
 ghost use Rattle.std.specs.List.{list_any};
-ghost use Rattle.daos_base.specs.Paths.{same_path};
+ghost use Rattle.base_types.specs.Paths.{same_path};
 ghost use Rattle.daos_model.specs.Answers.{is_before};
 ghost use Rattle.daos_model.specs.Cells.{cell_at};
 ghost use Rattle.daos_model.specs.Durables.{object_key, object_rest, version_key};
@@ -10,11 +10,11 @@ ghost use Rattle.daos_model.specs.Prunes.{hides, is_going, is_hidden, is_idle, i
 ghost use Rattle.daos_model.specs.Versions.{sees};
 
 use crate::durable::Version;
-use daos_base::epoch::Epoch;
-use daos_base::id::{ContId, ObjId};
-use daos_base::operation::Write;
-use daos_base::path::Path;
-use daos_base::snapshot::Snap;
+use base_types::epoch::Epoch;
+use base_types::id::{ContId, ObjId};
+use base_types::operation::Write;
+use base_types::path::Path;
+use base_types::snapshot::Snap;
 
 // Whether one object of a container stands before another; none stands before all.
 fn is_object_before(one: Option<ObjId>, other: Option<ObjId>) -> bool

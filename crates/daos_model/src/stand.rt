@@ -1,9 +1,9 @@
 // What regions stand for, and the transactions that changed it.
 use crate::map::Map;
-use daos_base::epoch::Epoch;
-use daos_base::id::ContId;
-use daos_base::items::Items;
-use daos_base::operation::Write;
+use base_types::epoch::Epoch;
+use base_types::id::ContId;
+use base_types::items::Items;
+use base_types::operation::Write;
 
 /// A created snapshot of a container: what the container's cells held below the epoch.
 #[derive(Drop)]

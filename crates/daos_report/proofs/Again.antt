@@ -8,27 +8,27 @@ use Rattle.std.proofs.lemmas.List.{append-nil}
 use Rattle.std.proofs.lemmas.List.Elements.{recursion_from_All}
 use Rattle.std.proofs.lemmas.Slice.Eq.{bytes_eq-Decides}
 use Rattle.std.proofs.Math.Nat.{div-add-mod}
-use Rattle.daos_base.specs.declared.answer.Answer.{Answer}
-use Rattle.daos_base.specs.declared.answer.Answer.TheVariants as answer
-use Rattle.daos_base.specs.declared.answer.Piece.{Piece}
-use Rattle.daos_base.specs.declared.answer.Piece.TheVariants as piece
-use Rattle.daos_base.specs.declared.epoch.Epoch.{Epoch}
-use Rattle.daos_base.specs.declared.id.AttemptId.{AttemptId}
-use Rattle.daos_base.specs.declared.id.ContId.{ContId}
-use Rattle.daos_base.specs.declared.outcome.Cause.{Cause}
-use Rattle.daos_base.specs.declared.outcome.Cause.TheVariants as cause
-use Rattle.daos_base.specs.declared.outcome.FloorWhy.{FloorWhy}
-use Rattle.daos_base.specs.declared.outcome.FloorWhy.TheVariants as floor
-use Rattle.daos_base.specs.declared.outcome.Outcome.{Outcome}
-use Rattle.daos_base.specs.declared.outcome.Outcome.TheVariants as outcome
-use Rattle.daos_base.specs.declared.path.Path.{Path}
-use Rattle.daos_base.specs.declared.report.Attempt.{Attempt}
-use Rattle.daos_base.specs.declared.report.Line.{Line}
-use Rattle.daos_base.specs.declared.report.Line.TheVariants as line
-use Rattle.daos_base.specs.declared.script.Script.{Script}
-use Rattle.daos_text.specs.Number.{number_in}
-use Rattle.daos_text.specs.NumberLaws.{numbers_are_decimals}
-use Rattle.daos_text.specs.Rows.{Words}
+use Rattle.base_types.specs.declared.answer.Answer.{Answer}
+use Rattle.base_types.specs.declared.answer.Answer.TheVariants as answer
+use Rattle.base_types.specs.declared.answer.Piece.{Piece}
+use Rattle.base_types.specs.declared.answer.Piece.TheVariants as piece
+use Rattle.base_types.specs.declared.epoch.Epoch.{Epoch}
+use Rattle.base_types.specs.declared.id.AttemptId.{AttemptId}
+use Rattle.base_types.specs.declared.id.ContId.{ContId}
+use Rattle.base_types.specs.declared.outcome.Cause.{Cause}
+use Rattle.base_types.specs.declared.outcome.Cause.TheVariants as cause
+use Rattle.base_types.specs.declared.outcome.FloorWhy.{FloorWhy}
+use Rattle.base_types.specs.declared.outcome.FloorWhy.TheVariants as floor
+use Rattle.base_types.specs.declared.outcome.Outcome.{Outcome}
+use Rattle.base_types.specs.declared.outcome.Outcome.TheVariants as outcome
+use Rattle.base_types.specs.declared.path.Path.{Path}
+use Rattle.base_types.specs.declared.report.Attempt.{Attempt}
+use Rattle.base_types.specs.declared.report.Line.{Line}
+use Rattle.base_types.specs.declared.report.Line.TheVariants as line
+use Rattle.base_types.specs.declared.script.Script.{Script}
+use Rattle.base_text.specs.Number.{number_in}
+use Rattle.base_text.specs.NumberLaws.{numbers_are_decimals}
+use Rattle.base_text.specs.Rows.{Words}
 use Rattle.daos_report.specs.Answers.{answer_words, piece_word}
 use Rattle.daos_report.specs.Forms.{IsEpoch, IsEpochOrNone, IsAttemptId, IsCond, IsFloorWhy, IsPiece, IsAnswer, IsGot, IsAccessOf, IsCauseOf, IsOutcomeOf, IsAttemptOf, IsRestart, IsFreezeOf, IsSnapshotOf, IsAggregateOf, IsLineOf}
 use Rattle.daos_report.specs.Names.{cont_word, path_word}

@@ -2,8 +2,8 @@
 use Rattle.std.proofs.Common.{◌≡◌, ℕ, ◌+◌, ◌<◌, Bool, List, [], ◌∷◌, ◌++◌, length, map, flat_map, drop, get_or, refl, sym, ap, ◌∙◌, append_assoc, drop-cons, add-one}
 use Rattle.std.specs.List.{join_with_byte}
 use Rattle.std.proofs.lemmas.List.{append-nil}
-use Rattle.daos_text.specs.Rows.{Words, row_line, lines_text, rows_text}
-use Rattle.daos_base.specs.declared.answer.Answer.{Answer}
+use Rattle.base_text.specs.Rows.{Words, row_line, lines_text, rows_text}
+use Rattle.base_types.specs.declared.answer.Answer.{Answer}
 use Rattle.daos_report.specs.Reports.{cond_row, got_row, conds_until, conds_after, detail_rows}
 use Rattle.daos_report.specs.Words.{spaced}
 

@@ -4,10 +4,10 @@ use Rattle.std.specs.List.{list_all, prefix_len, AllByRecursion}
 use Rattle.std.specs.Option.{option_map}
 use Rattle.std.proofs.lemmas.Bool.{and_parts, and_from}
 use Rattle.std.proofs.lemmas.Bool.Decides.{nat_tests}
-use Rattle.daos_base.specs.declared.key.KeyNo.TheVariants.{Empty, TooLong, BadByte}
-use Rattle.daos_base.specs.Keys.{IsKey, is_key_byte, first_bad_byte}
-use Rattle.daos_text.specs.Rows.{IsWord}
-use Rattle.daos_text.specs.RowLaws.{IsWord-from_high}
+use Rattle.base_types.specs.declared.key.KeyNo.TheVariants.{Empty, TooLong, BadByte}
+use Rattle.base_types.specs.Keys.{IsKey, is_key_byte, first_bad_byte}
+use Rattle.base_text.specs.Rows.{IsWord}
+use Rattle.base_text.specs.RowLaws.{IsWord-from_high}
 
 key_byte_bounds : (b : ℕ) → is_key_byte b ≡ true → (leb 33 b ≡ true) × (eqb b 47 ≡ false)
 key_byte_bounds b e = (grind (arith, nat_tests), grind (arith, nat_tests))

@@ -4,13 +4,13 @@ use Rattle.std.specs.Fmt.{decimal}
 use Rattle.std.specs.List.{AllByRecursion}
 use Rattle.std.proofs.lemmas.List.{same_from_push}
 use Rattle.std.proofs.lemmas.List.Elements.{recursion_from_All}
-use Rattle.daos_base.specs.declared.report.Line.{Line}
-use Rattle.daos_base.specs.declared.report.Report.{Report}
-use Rattle.daos_base.specs.declared.script.Script.{Script}
-use Rattle.daos_text.specs.Number.{number_in}
-use Rattle.daos_text.specs.Parts.{parts_of}
-use Rattle.daos_text.specs.RowLaws.{rows_are_texts}
-use Rattle.daos_text.specs.Rows.{Words, IsRow, row_line, line_words, rows_text}
+use Rattle.base_types.specs.declared.report.Line.{Line}
+use Rattle.base_types.specs.declared.report.Report.{Report}
+use Rattle.base_types.specs.declared.script.Script.{Script}
+use Rattle.base_text.specs.Number.{number_in}
+use Rattle.base_text.specs.Parts.{parts_of}
+use Rattle.base_text.specs.RowLaws.{rows_are_texts}
+use Rattle.base_text.specs.Rows.{Words, IsRow, row_line, line_words, rows_text}
 use Rattle.daos_report.specs.Forms.{IsLineOf, IsReportOf, least_down, TextsDetermineReports}
 use Rattle.daos_report.specs.Reports.{end_row, line_rows, report_rows, report_text}
 use Rattle.daos_report.proofs.Again.{u8_again, lines_again}

@@ -8,18 +8,18 @@ use Rattle.std.proofs.lemmas.List.Elements.{All-from_recursion, recursion_from_A
 use Rattle.std.proofs.lemmas.List.Splits.{slice_split_at, slice_split_none}
 use Rattle.std.proofs.lemmas.Map.Keys.{IsDistinct-head, IsDistinct-tail}
 use lib.Pointwise.{bytes_decides}
-use Rattle.daos_base.specs.declared.id.Class.{Class}
-use Rattle.daos_base.specs.declared.id.Class.TheVariants.{S1, S2, S4, SX, RP2G1, RP2GX, RP3G1, RP3GX}
-use Rattle.daos_base.specs.declared.id.ContId.{ContId}
-use Rattle.daos_base.specs.declared.id.ObjId.{ObjId}
-use Rattle.daos_base.specs.declared.path.Path.{Path}
-use Rattle.daos_base.specs.declared.script.ContDecl.{ContDecl}
-use Rattle.daos_base.specs.declared.script.ObjDecl.{ObjDecl}
-use Rattle.daos_base.specs.declared.script.Script.{Script}
-use Rattle.daos_base.specs.Keys.{IsKey, same_key}
-use Rattle.daos_base.specs.Paths.{class_number, same_object}
-use Rattle.daos_base.specs.Scripts.{cont_name, obj_name}
-use Rattle.daos_text.specs.Parts.{parts_of}
+use Rattle.base_types.specs.declared.id.Class.{Class}
+use Rattle.base_types.specs.declared.id.Class.TheVariants.{S1, S2, S4, SX, RP2G1, RP2GX, RP3G1, RP3GX}
+use Rattle.base_types.specs.declared.id.ContId.{ContId}
+use Rattle.base_types.specs.declared.id.ObjId.{ObjId}
+use Rattle.base_types.specs.declared.path.Path.{Path}
+use Rattle.base_types.specs.declared.script.ContDecl.{ContDecl}
+use Rattle.base_types.specs.declared.script.ObjDecl.{ObjDecl}
+use Rattle.base_types.specs.declared.script.Script.{Script}
+use Rattle.base_types.specs.Keys.{IsKey, same_key}
+use Rattle.base_types.specs.Paths.{class_number, same_object}
+use Rattle.base_types.specs.Scripts.{cont_name, obj_name}
+use Rattle.base_text.specs.Parts.{parts_of}
 use Rattle.daos_report.specs.Forms.{HasNames, IsContOf, IsObjOf, IsBelowOf, IsPathOf}
 use Rattle.daos_report.specs.Names.{cont_word, obj_word, obj_part, key_part, path_word}
 use Rattle.daos_report.proofs.Keys.{key_unslashed}

@@ -4,13 +4,13 @@ use Rattle.std.specs.List.{list_all, AllByRecursion}
 use Rattle.std.specs.Str.{bytes_eq}
 use Rattle.std.proofs.lemmas.Bool.{and_parts}
 use Rattle.std.proofs.lemmas.Bool.Decides.{nat_tests}
-use Rattle.daos_base.specs.declared.answer.Answer.{Answer}
-use Rattle.daos_base.specs.declared.report.Line.{Line}
-use Rattle.daos_base.specs.declared.report.Line.TheVariants as line
-use Rattle.daos_base.specs.declared.report.Report.{Report}
-use Rattle.daos_base.specs.declared.script.Script.{Script}
-use Rattle.daos_text.specs.RowLaws.{rows_are_texts}
-use Rattle.daos_text.specs.Rows.{Words, IsLine, IsRow, is_line_byte, row_line, line_words, rows_text}
+use Rattle.base_types.specs.declared.answer.Answer.{Answer}
+use Rattle.base_types.specs.declared.report.Line.{Line}
+use Rattle.base_types.specs.declared.report.Line.TheVariants as line
+use Rattle.base_types.specs.declared.report.Report.{Report}
+use Rattle.base_types.specs.declared.script.Script.{Script}
+use Rattle.base_text.specs.RowLaws.{rows_are_texts}
+use Rattle.base_text.specs.Rows.{Words, IsLine, IsRow, is_line_byte, row_line, line_words, rows_text}
 use Rattle.daos_report.specs.Forms.{IsReportOf}
 use Rattle.daos_report.specs.Reports.{cond_row, conds_after, conds_until, detail_rows, end_row, got_row, line_rows, report_rows, report_text}
 use Rattle.daos_report.proofs.Inner.{all_append, report_inner}

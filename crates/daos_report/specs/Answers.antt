@@ -1,11 +1,11 @@
 -- What a read was answered, in words.
 use Rattle.std.specs.Prelude.{ℕ, List, [], ◌∷◌, map, codes}
 use Rattle.std.specs.Fmt.{decimal}
-use Rattle.daos_base.specs.declared.answer.Answer.{Answer}
-use Rattle.daos_base.specs.declared.answer.Answer.TheVariants as answer
-use Rattle.daos_base.specs.declared.answer.Piece.{Piece}
-use Rattle.daos_base.specs.declared.answer.Piece.TheVariants as piece
-use Rattle.daos_text.specs.Rows.{Words}
+use Rattle.base_types.specs.declared.answer.Answer.{Answer}
+use Rattle.base_types.specs.declared.answer.Answer.TheVariants as answer
+use Rattle.base_types.specs.declared.answer.Piece.{Piece}
+use Rattle.base_types.specs.declared.answer.Piece.TheVariants as piece
+use Rattle.base_text.specs.Rows.{Words}
 use Rattle.daos_report.specs.Values.{value_word}
 
 -- a run of an array: a value, or the length of a hole behind `~`

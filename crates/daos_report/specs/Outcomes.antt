@@ -1,17 +1,17 @@
 -- How an attempt ended, in words.
 use Rattle.std.specs.Prelude.{[], ◌∷◌, ◌++◌, codes}
 use Rattle.std.specs.Fmt.{decimal}
-use Rattle.daos_base.specs.declared.epoch.Epoch.{Epoch}
-use Rattle.daos_base.specs.declared.id.AttemptId.{AttemptId}
-use Rattle.daos_base.specs.declared.path.Path.{Path}
-use Rattle.daos_base.specs.declared.outcome.Cause.{Cause}
-use Rattle.daos_base.specs.declared.outcome.Cause.TheVariants as cause
-use Rattle.daos_base.specs.declared.outcome.FloorWhy.{FloorWhy}
-use Rattle.daos_base.specs.declared.outcome.FloorWhy.TheVariants as floor
-use Rattle.daos_base.specs.declared.outcome.Outcome.{Outcome}
-use Rattle.daos_base.specs.declared.outcome.Outcome.TheVariants as outcome
-use Rattle.daos_base.specs.declared.script.Script.{Script}
-use Rattle.daos_text.specs.Rows.{Words}
+use Rattle.base_types.specs.declared.epoch.Epoch.{Epoch}
+use Rattle.base_types.specs.declared.id.AttemptId.{AttemptId}
+use Rattle.base_types.specs.declared.path.Path.{Path}
+use Rattle.base_types.specs.declared.outcome.Cause.{Cause}
+use Rattle.base_types.specs.declared.outcome.Cause.TheVariants as cause
+use Rattle.base_types.specs.declared.outcome.FloorWhy.{FloorWhy}
+use Rattle.base_types.specs.declared.outcome.FloorWhy.TheVariants as floor
+use Rattle.base_types.specs.declared.outcome.Outcome.{Outcome}
+use Rattle.base_types.specs.declared.outcome.Outcome.TheVariants as outcome
+use Rattle.base_types.specs.declared.script.Script.{Script}
+use Rattle.base_text.specs.Rows.{Words}
 use Rattle.daos_report.specs.Names.{path_word}
 use Rattle.daos_report.specs.Words.{attempt_words}
 

@@ -5,9 +5,9 @@ ghost use Rattle.daos_report.specs.Words.{spaced};
 
 use crate::values::push_value;
 use crate::words::push_word;
-use daos_base::answer::{Answer, Piece};
-use daos_base::items::Memory;
-use daos_base::key::Key;
+use base_types::answer::{Answer, Piece};
+use base_types::items::Memory;
+use base_types::key::Key;
 use itoa::Buffer;
 
 // Adds a space and a run of an array.

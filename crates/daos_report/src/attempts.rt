@@ -1,15 +1,15 @@
 // The rows of an attempt.
 ghost use Rattle.std.specs.Prelude.{◌≡◌, ◌++◌, ◌∷◌, [], OnOk, IfOk, map};
-ghost use Rattle.daos_text.specs.Rows.{rows_text};
+ghost use Rattle.base_text.specs.Rows.{rows_text};
 ghost use Rattle.daos_report.specs.Reports.{attempt_rows, cond_row, conds_after, conds_until, detail_rows, got_row, try_row, yes_word};
 
 use crate::answers::push_answer;
 use crate::outcomes::push_outcome;
 use crate::words::{push_attempt_id, push_epoch, push_number, push_word};
-use daos_base::answer::Answer;
-use daos_base::items::Memory;
-use daos_base::report::Attempt;
-use daos_base::script::Script;
+use base_types::answer::Answer;
+use base_types::items::Memory;
+use base_types::report::Attempt;
+use base_types::script::Script;
 
 /// Adds the row of how an attempt ended.
 #[tactic(auto, using(crate::proofs::Joins::joins))]

@@ -1,17 +1,17 @@
 // The rows of a line.
 ghost use Rattle.std.specs.Prelude.{◌≡◌, ◌++◌, ◌∷◌, [], OnOk, decimal};
-ghost use Rattle.daos_text.specs.Rows.{rows_text};
+ghost use Rattle.base_text.specs.Rows.{rows_text};
 ghost use Rattle.daos_report.specs.Names.{cont_word};
 ghost use Rattle.daos_report.specs.Reports.{aggregate_row, down_row, freeze_row, line_rows, restart_row, snapshot_row, stop_row};
 
 use crate::attempts::push_attempt;
 use crate::names::push_cont;
 use crate::words::{push_number, push_word};
-use daos_base::epoch::{Epoch, TargetId};
-use daos_base::id::ContId;
-use daos_base::items::Memory;
-use daos_base::report::Line;
-use daos_base::script::Script;
+use base_types::epoch::{Epoch, TargetId};
+use base_types::id::ContId;
+use base_types::items::Memory;
+use base_types::report::Line;
+use base_types::script::Script;
 
 // Adds the name of a container and an epoch, and ends the row.
 fn push_cont_epoch(

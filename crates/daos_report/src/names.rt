@@ -2,11 +2,11 @@
 ghost use Rattle.std.specs.Prelude.{◌≡◌, ◌++◌, ◌∷◌, OnOk};
 ghost use Rattle.daos_report.specs.Names.{cont_word, key_part, obj_part, obj_word, path_word};
 
-use daos_base::id::{ContId, ObjId};
-use daos_base::items::Memory;
-use daos_base::key::Key;
-use daos_base::path::Path;
-use daos_base::script::{ContDecl, ObjDecl, Script};
+use base_types::id::{ContId, ObjId};
+use base_types::items::Memory;
+use base_types::key::Key;
+use base_types::path::Path;
+use base_types::script::{ContDecl, ObjDecl, Script};
 
 /// Adds the name of a container.
 pub fn push_cont(out: &mut Vec<u8>, decls: &[ContDecl], cont: ContId) -> Result<(), Memory>

@@ -5,12 +5,12 @@ ghost use Rattle.daos_report.specs.Words.{spaced};
 
 use crate::names::push_path;
 use crate::words::{push_attempt_id, push_number, push_word};
-use daos_base::epoch::Epoch;
-use daos_base::id::AttemptId;
-use daos_base::items::Memory;
-use daos_base::outcome::{Cause, FloorWhy, Outcome};
-use daos_base::path::Path;
-use daos_base::script::Script;
+use base_types::epoch::Epoch;
+use base_types::id::AttemptId;
+use base_types::items::Memory;
+use base_types::outcome::{Cause, FloorWhy, Outcome};
+use base_types::path::Path;
+use base_types::script::Script;
 
 // Adds another attempt's access.
 fn push_access(

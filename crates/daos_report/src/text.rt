@@ -1,15 +1,15 @@
 // The text of a report.
 ghost use Rattle.std.specs.Prelude.{◌≡◌, ◌++◌, ◌∷◌, [], OnOk, IfOk, flat_map};
-ghost use Rattle.daos_text.specs.Rows.{rows_text};
+ghost use Rattle.base_text.specs.Rows.{rows_text};
 ghost use Rattle.daos_report.specs.Forms.{TextsDetermineReports};
 ghost use Rattle.daos_report.specs.Reports.{end_row, head_row, line_rows, report_text};
 
 use crate::lines::push_line;
 use crate::words::push_number;
-use daos_base::epoch::TargetId;
-use daos_base::items::Memory;
-use daos_base::report::{Line, Report};
-use daos_base::script::Script;
+use base_types::epoch::TargetId;
+use base_types::items::Memory;
+use base_types::report::{Line, Report};
+use base_types::script::Script;
 use std::alloc::Global;
 
 // Adds the number of targets.

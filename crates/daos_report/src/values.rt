@@ -3,7 +3,7 @@ ghost use Rattle.std.specs.Prelude.{◌≡◌, ◌++◌, ◌∷◌, ◌<◌, OnO
 ghost use Rattle.std.specs.List.{list_all};
 ghost use Rattle.daos_report.specs.Values.{hex_byte, hex_digit, is_printable, value_word};
 
-use daos_base::items::Memory;
+use base_types::items::Memory;
 
 // Whether all bytes are printable and no space.
 fn is_printable(bytes: &[u8]) -> bool

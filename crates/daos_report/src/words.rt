@@ -2,9 +2,9 @@
 ghost use Rattle.std.specs.Prelude.{◌≡◌, ◌++◌, ◌∷◌, OnOk, decimal};
 ghost use Rattle.daos_report.specs.Words.{attempt_words, epoch_word, spaced};
 
-use daos_base::epoch::Epoch;
-use daos_base::id::AttemptId;
-use daos_base::items::Memory;
+use base_types::epoch::Epoch;
+use base_types::id::AttemptId;
+use base_types::items::Memory;
 use itoa::Buffer;
 
 /// Adds a space and a word.

@@ -5,19 +5,19 @@ use Rattle.std.proofs.Common.{zero, suc, sym, ◌∙◌, ap, subst, arith}
 use Rattle.std.proofs.lemmas.Bool.{and_parts, true≢false}
 use Rattle.std.proofs.lemmas.List.Elements.{All-nil}
 use Rattle.client_core.specs.Clients.{ClientNow}
-use Rattle.daos_base.specs.Scripts.{IsInForm}
-use Rattle.daos_base.specs.declared.job.Job.{Job}
-use Rattle.daos_base.specs.declared.script.Command.{Command}
-use Rattle.daos_base.specs.declared.script.Command.TheVariants.{Aggregate, Run, Skip, Snap, Tell}
-use Rattle.daos_base.specs.declared.script.Script.{Script}
-use Rattle.daos_laws.specs.Lists.{passes-at}
-use Rattle.daos_laws.specs.Members.{has-from_contains}
+use Rattle.base_types.specs.Scripts.{IsInForm}
+use Rattle.base_types.specs.declared.job.Job.{Job}
+use Rattle.base_types.specs.declared.script.Command.{Command}
+use Rattle.base_types.specs.declared.script.Command.TheVariants.{Aggregate, Run, Skip, Snap, Tell}
+use Rattle.base_types.specs.declared.script.Script.{Script}
+use Rattle.model_laws.specs.Lists.{passes-at}
+use Rattle.model_laws.specs.Members.{has-from_contains}
 use Rattle.daos_model.specs.declared.durable.Durable.{Durable}
 use Rattle.daos_model.specs.Changes.{enlisted}
 use Rattle.daos_model.specs.Durables.{empty_durable}
 use Rattle.daos_model.specs.Opening.{fresh_opening}
 use Rattle.daos_run.specs.Opens.{AreFirst, IsOpened, IsStarted, given}
-use Rattle.daos_runnable.specs.Runnable.{IsRunnable, are_run, is_run, runs}
+use Rattle.script_runnable.specs.Runnable.{IsRunnable, are_run, is_run, runs}
 use Rattle.daos_model.specs.FormLaws.{length-map}
 use Rattle.run_order.specs.Ended.{nothing}
 use Rattle.run_actors.specs.CanGo.{CanGo}

@@ -2,9 +2,9 @@
 use Rattle.std.specs.Prelude.{ℕ, ◌≡◌, ◌+◌, List, [], ◌∷◌, ◌++◌, length, slice_get, Some}
 use Rattle.std.proofs.Common.{◌∙◌, ap, sym}
 use Rattle.client_core.specs.Clients.{ClientNow}
-use Rattle.daos_base.specs.declared.epoch.Epoch.{Epoch}
-use Rattle.daos_base.specs.declared.script.Command.{Command}
-use Rattle.daos_base.specs.declared.script.Script.{Script}
+use Rattle.base_types.specs.declared.epoch.Epoch.{Epoch}
+use Rattle.base_types.specs.declared.script.Command.{Command}
+use Rattle.base_types.specs.declared.script.Script.{Script}
 use Rattle.daos_run.specs.Opens.{AreFirst}
 use Rattle.daos_run.proofs.Slots.{at-end, length-end}
 use Rattle.world_base.specs.ClientTurns.{at_first, plan_of}

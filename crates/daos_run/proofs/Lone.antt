@@ -3,27 +3,27 @@
 use Rattle.std.specs.Prelude.{ℕ, ◌≡◌, ◌≤◌, ◌<◌, ◌==◌, ◌&&◌, Bool, true, false, List, [], ◌∷◌, length, refl}
 use Rattle.std.specs.List.{list_all}
 use Rattle.std.proofs.Common.{arith}
-use Rattle.daos_base.specs.declared.id.AttemptId.{AttemptId}
-use Rattle.daos_base.specs.declared.job.Job.{Job}
-use Rattle.daos_base.specs.declared.report.Report.{Report}
-use Rattle.daos_base.specs.declared.script.Command.{Command}
-use Rattle.daos_base.specs.declared.script.Command.TheVariants.{Run, Snap, Aggregate, Tell, Skip}
-use Rattle.daos_base.specs.declared.script.Script.{Script}
-use Rattle.daos_base.specs.Scripts.{is_numbered}
-use Rattle.daos_laws.specs.TargetLaws.{number_same}
-use Rattle.daos_lone.specs.Ends.{commit, end-plainly, fresh-ticks}
-use Rattle.daos_lone.specs.Lone.{HasOneClient, IsLone}
-use Rattle.daos_lone.specs.Once.{rise, try-once}
-use Rattle.daos_lone.specs.Restarts.{never-restart}
+use Rattle.base_types.specs.declared.id.AttemptId.{AttemptId}
+use Rattle.base_types.specs.declared.job.Job.{Job}
+use Rattle.base_types.specs.declared.report.Report.{Report}
+use Rattle.base_types.specs.declared.script.Command.{Command}
+use Rattle.base_types.specs.declared.script.Command.TheVariants.{Run, Snap, Aggregate, Tell, Skip}
+use Rattle.base_types.specs.declared.script.Script.{Script}
+use Rattle.base_types.specs.Scripts.{is_numbered}
+use Rattle.model_laws.specs.TargetLaws.{number_same}
+use Rattle.model_reports.specs.Ends.{commit, end-plainly, fresh-ticks}
+use Rattle.model_reports.specs.Lone.{HasOneClient, IsLone}
+use Rattle.model_reports.specs.Once.{rise, try-once}
+use Rattle.model_reports.specs.Restarts.{never-restart}
 use Rattle.daos_model.specs.BoolLaws.{and_left, and_right}
 use Rattle.daos_model.specs.Opening.{undisturbed}
-use Rattle.daos_room.specs.Lines.{lists-of-transactions}
-use Rattle.daos_room.specs.RoomLaws.{transactions-find-room}
-use Rattle.daos_room.specs.Rooms.{FindsRoom, HasRoom, OnlyTransactions, is_transaction}
+use Rattle.model_reports.specs.Lines.{lists-of-transactions}
+use Rattle.model_reports.specs.RoomLaws.{transactions-find-room}
+use Rattle.model_reports.specs.Rooms.{FindsRoom, HasRoom, OnlyTransactions, is_transaction}
 use Rattle.daos_run.proofs.Begun.{lists-run}
 use Rattle.daos_run.specs.Alone.{IsOfLoneClient}
 use Rattle.daos_run.specs.Opens.{IsLegal, given}
-use Rattle.daos_runnable.specs.Runnable.{IsRunnable, are_run, is_run, runs}
+use Rattle.script_runnable.specs.Runnable.{IsRunnable, are_run, is_run, runs}
 
 transaction-if-run : (c : Command) → is_run c ≡ true → is_numbered c ≡ true → is_transaction c ≡ true
 transaction-if-run (Run ops skips snapshot) run number = run

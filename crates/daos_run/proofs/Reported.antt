@@ -3,11 +3,11 @@ use Rattle.std.specs.Prelude.{ℕ, ◌≡◌, ◌≤◌, ◌<◌, List, length, 
 use Rattle.std.proofs.lemmas.List.Elements.{All-nil}
 use Rattle.std.proofs.lemmas.Option.{slice_get_within}
 use Rattle.std.proofs.Common.{sym, ◌∙◌, ap, subst, arith}
-use Rattle.daos_base.specs.declared.job.Job.{Job}
-use Rattle.daos_base.specs.declared.report.Line.{Line}
-use Rattle.daos_base.specs.declared.script.Script.{Script}
-use Rattle.daos_laws.specs.Lists.{at-within}
-use Rattle.daos_laws.specs.Members.{has-from_contains}
+use Rattle.base_types.specs.declared.job.Job.{Job}
+use Rattle.base_types.specs.declared.report.Line.{Line}
+use Rattle.base_types.specs.declared.script.Script.{Script}
+use Rattle.model_laws.specs.Lists.{at-within}
+use Rattle.model_laws.specs.Members.{has-from_contains}
 use Rattle.daos_model.specs.declared.durable.Durable.{Durable}
 use Rattle.daos_model.specs.Finals.{HeadlineOver}
 use Rattle.daos_model.specs.FormLaws.{length-map}
@@ -15,11 +15,11 @@ use Rattle.daos_model.specs.Headline.{Headline}
 use Rattle.daos_model.specs.Opening.{undisturbed}
 use Rattle.daos_report.specs.Forms.{IsReportOf}
 use Rattle.daos_run.specs.Opens.{AreKept, HasConts, Reports, given, report_of}
-use Rattle.daos_runnable.specs.Runnable.{IsRunnable}
+use Rattle.script_runnable.specs.Runnable.{IsRunnable}
 use Rattle.daos_run.specs.Slots.{IsAt}
 use Rattle.daos_run.proofs.Begun.{from-map, is-simple}
 use Rattle.run_order.specs.Ended.{HasRun}
-use Rattle.run_picks.specs.OrderLaws.{orders-are-runs}
+use Rattle.run_base.specs.OrderLaws.{orders-are-runs}
 use Rattle.target_core.specs.Targets.{TargetOf}
 use Rattle.vos_store.specs.Calls.{State}
 use Rattle.world_base.specs.declared.target.TargetState.{TargetState}
@@ -27,7 +27,7 @@ use Rattle.world_base.specs.declared.world.World.{World}
 use Rattle.world_core.specs.Begins.{IsBegun}
 use Rattle.world_ends.specs.Ends.{durable_of, durables_of, rules_of}
 use Rattle.world_ends.specs.FromBeginning.{ended-runs-are-settled, over, runs-from-the-beginning, runs-give-the-headline}
-use Rattle.daos_runnable.specs.Keyed.{CellHasKeys}
+use Rattle.script_runnable.specs.Keyed.{CellHasKeys}
 use Rattle.world_forms.specs.RunForms.{runs-report-in-form}
 use Rattle.world_lone.specs.Issued.{targets-issue}
 use Rattle.world_lone.specs.LoneRuns.{AreIssuedThere}

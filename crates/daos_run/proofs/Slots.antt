@@ -3,7 +3,7 @@ use Rattle.std.specs.Prelude.{ℕ, zero, suc, ◌≡◌, ◌≤◌, ◌<◌, ◌
 use Rattle.std.proofs.Common.{inl, inr, sym, ◌∙◌, ap, subst, arith}
 use Rattle.std.proofs.lemmas.Bool.{cases_eq}
 use Rattle.std.proofs.lemmas.Option.{slice_get_within}
-use Rattle.daos_laws.specs.Lists.{length-replicate}
+use Rattle.model_laws.specs.Lists.{length-replicate}
 use Rattle.daos_run.specs.Slots.{AreBack, HaveStores, IsAt}
 use Rattle.run_actors.specs.ListLaws.{length-set}
 use Rattle.target_core.specs.Targets.{TargetOf}

@@ -4,8 +4,8 @@ use Rattle.std.specs.Option.{ForSome}
 use Rattle.std.proofs.Common.{sym, ◌∙◌, ap, arith}
 use Rattle.std.proofs.lemmas.Bool.{true≢false}
 use Rattle.std.proofs.lemmas.Bool.Decides.{nat_tests}
-use Rattle.daos_base.specs.declared.script.Script.{Script}
-use Rattle.daos_laws.specs.TargetLaws.{number_same}
+use Rattle.base_types.specs.declared.script.Script.{Script}
+use Rattle.model_laws.specs.TargetLaws.{number_same}
 use Rattle.daos_model.specs.declared.durable.Durable.{Durable}
 use Rattle.daos_model.specs.Changes.{enlisted}
 use Rattle.daos_model.specs.Durables.{empty_durable}

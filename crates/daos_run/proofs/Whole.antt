@@ -3,13 +3,13 @@ use Rattle.std.specs.Prelude.{ℕ, ◌≡◌, ◌≤◌, ◌<◌, true, IfOk, Li
 use Rattle.std.proofs.Common.{sym, ◌∙◌, ap, subst, arith}
 use Rattle.std.proofs.lemmas.Option.{slice_get_within}
 use Rattle.client_core.specs.Clients.{ClientNow}
-use Rattle.daos_base.specs.declared.job.Job.{Job}
-use Rattle.daos_base.specs.declared.report.Line.{Line}
-use Rattle.daos_base.specs.declared.script.Script.{Script}
+use Rattle.base_types.specs.declared.job.Job.{Job}
+use Rattle.base_types.specs.declared.report.Line.{Line}
+use Rattle.base_types.specs.declared.script.Script.{Script}
 use Rattle.daos_model.specs.declared.durable.Durable.{Durable}
 use Rattle.daos_model.specs.Opening.{Opening}
 use Rattle.daos_run.specs.Opens.{AreFirst, HasConts, IsEmpty, IsStarted, Reports, given, report_of}
-use Rattle.daos_runnable.specs.Runnable.{IsRunnable}
+use Rattle.script_runnable.specs.Runnable.{IsRunnable}
 use Rattle.daos_run.specs.Slots.{AllTell, AreBack, AreFree, AreTaken, HaveStores, IsAt, TellAlike}
 use Rattle.daos_run.specs.Starts.{AreStarted, StartsOver}
 use Rattle.daos_run.proofs.Begun.{can-go, first, from-map, incarnation, is-begun, is-shown, is-simple, state_now}

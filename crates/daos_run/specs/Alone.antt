@@ -1,8 +1,8 @@
 -- What a report tells of a client that is alone.
-use Rattle.daos_base.specs.declared.report.Report.{Report}
-use Rattle.daos_lone.specs.Lone.{AllAreCommitted, EachIsTriedOnce, EndsPlainly, EpochsRise, HasNoConditions, NeverRestarts}
+use Rattle.base_types.specs.declared.report.Report.{Report}
+use Rattle.model_reports.specs.Lone.{AllAreCommitted, EachIsTriedOnce, EndsPlainly, EpochsRise, HasNoConditions, NeverRestarts}
 use Rattle.daos_model.specs.Opening.{Given}
-use Rattle.daos_room.specs.Rooms.{HasRoom}
+use Rattle.model_reports.specs.Rooms.{HasRoom}
 
 -- A client that is alone is never told to restart: each of its commands has one attempt, in the order of the script, epochs rise in the
 -- order of the lines, and it is known what became of each; each is committed where there are no conditions, and room.

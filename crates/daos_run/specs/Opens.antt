@@ -2,14 +2,14 @@
 use Rattle.std.specs.Prelude.{ℕ, ◌≡◌, ◌≤◌, Bool, true, false, List, [], length, slice_get, Contains, Option, Some, None}
 use Rattle.std.specs.Option.{ForSome}
 use Rattle.client_core.specs.Clients.{ClientNow}
-use Rattle.daos_base.specs.declared.entry.Entry.{Entry}
-use Rattle.daos_base.specs.declared.epoch.Epoch.{Epoch}
-use Rattle.daos_base.specs.declared.job.Job.{Job}
-use Rattle.daos_base.specs.declared.id.AttemptId.{AttemptId}
-use Rattle.daos_base.specs.declared.report.Line.{Line}
-use Rattle.daos_base.specs.declared.report.Report.{Report}
-use Rattle.daos_base.specs.declared.script.Command.{Command}
-use Rattle.daos_base.specs.declared.script.Script.{Script}
+use Rattle.base_types.specs.declared.entry.Entry.{Entry}
+use Rattle.base_types.specs.declared.epoch.Epoch.{Epoch}
+use Rattle.base_types.specs.declared.job.Job.{Job}
+use Rattle.base_types.specs.declared.id.AttemptId.{AttemptId}
+use Rattle.base_types.specs.declared.report.Line.{Line}
+use Rattle.base_types.specs.declared.report.Report.{Report}
+use Rattle.base_types.specs.declared.script.Command.{Command}
+use Rattle.base_types.specs.declared.script.Script.{Script}
 use Rattle.daos_model.specs.declared.durable.Durable.{Durable}
 use Rattle.daos_model.specs.AsOf.{empty_stand}
 use Rattle.daos_model.specs.Changes.{enlisted}
@@ -25,13 +25,13 @@ use Rattle.target_core.specs.Targets.{TargetOf}
 use Rattle.vos_store.specs.Calls.{State}
 use Rattle.world_attempts.specs.Attempts.{IsOther}
 use Rattle.world_base.specs.ClientTurns.{at_first, plan_of}
-use Rattle.run_picks.specs.Orders.{InOrder}
+use Rattle.run_base.specs.Orders.{InOrder}
 use Rattle.world_base.specs.declared.target.TargetState.{TargetState}
 use Rattle.world_base.specs.declared.world.World.{World}
 use Rattle.daos_run.specs.Slots.{IsAt}
 use Rattle.world_core.specs.Begins.{IsBegun, declared_conts}
 use Rattle.world_ends.specs.Ends.{durables_of, rules_of}
-use Rattle.daos_runnable.specs.Keyed.{ScriptHasKeys}
+use Rattle.script_runnable.specs.Keyed.{ScriptHasKeys}
 use Rattle.world_lone.specs.LoneRuns.{AreIssuedThere}
 
 -- a run of a script over regions that stand for nothing, with so many blocks free on each

@@ -1,6 +1,6 @@
 // A run begins: each store gets the script's containers, and the clients are made.
 ghost use Rattle.std.specs.Prelude.{◌≡◌, ◌≤◌, ◌<◌, ℕ, length, is_some, true, IfErr, IfOk, OnOk};
-ghost use Rattle.daos_base.specs.Scripts.{IsInForm};
+ghost use Rattle.base_types.specs.Scripts.{IsInForm};
 ghost use Rattle.daos_run.specs.Opens.{AreFirst, IsEmpty, IsOpened};
 ghost use Rattle.daos_run.specs.Stops.{MayStop, enlist_stopped, is_fault_of};
 ghost use Rattle.target_parts.specs.Parts.{Runs};
@@ -8,10 +8,10 @@ ghost use Rattle.world_core.specs.Begins.{declared_conts};
 
 use crate::stop::{Part, RunStop};
 use client_core::client::Client;
-use daos_base::epoch::{Epoch, TargetId};
-use daos_base::id::ContId;
-use daos_base::items::{Items, Memory};
-use daos_base::script::Script;
+use base_types::epoch::{Epoch, TargetId};
+use base_types::id::ContId;
+use base_types::items::{Items, Memory};
+use base_types::script::Script;
 use std::alloc::Global;
 use vos_store::refusal::EnlistNo;
 use vos_store::store::Store;

@@ -1,8 +1,8 @@
 // The stores and the clocks of a run's targets.
 ghost use Rattle.std.specs.Prelude.{◌≡◌, ◌<◌, length, slice_get, slice_set, replicate, IfOk, None, Some};
 
-use daos_base::epoch::TargetId;
-use daos_base::items::Memory;
+use base_types::epoch::TargetId;
+use base_types::items::Memory;
 use daos_outside::clock::Clock;
 use std::alloc::Global;
 use std::marker::Model;

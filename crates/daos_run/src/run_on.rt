@@ -1,25 +1,25 @@
 // Runs a script on stores.
 ghost use Rattle.std.specs.Prelude.{◌≡◌, ◌≤◌, ℕ, Bool, IfErr, IfOk, None, is_some};
 ghost use Rattle.daos_report.specs.Forms.{IsReportOf};
-ghost use Rattle.daos_lone.specs.Lone.{HasOneClient};
-ghost use Rattle.daos_room.specs.Rooms.{FindsRoom, HasRoom};
+ghost use Rattle.model_reports.specs.Lone.{HasOneClient};
+ghost use Rattle.model_reports.specs.Rooms.{FindsRoom, HasRoom};
 ghost use Rattle.daos_run.specs.Alone.{IsOfLoneClient};
 ghost use Rattle.daos_run.specs.Opens.{IsEmpty, IsLegal, IsOrdered, Stand, given};
-ghost use Rattle.daos_runnable.specs.Runnable.{IsRunnable};
+ghost use Rattle.script_runnable.specs.Runnable.{IsRunnable};
 ghost use Rattle.daos_run.specs.Slots.{AllTell, AreFree, AreSet, EachStore, FromTo, HaveStores};
 ghost use Rattle.daos_run.specs.Stops.{MayStop, is_fault_of};
 ghost use Rattle.target_parts.specs.Parts.{Runs};
-ghost use Rattle.daos_runnable.specs.Keyed.{ScriptHasKeys};
+ghost use Rattle.script_runnable.specs.Keyed.{ScriptHasKeys};
 ghost use Rattle.world_lone.specs.LoneRuns.{AreIssuedThere};
 
 use crate::opening::clients_of;
 use crate::parts::Parts;
 use crate::starting::{hand_back, start_all};
 use crate::stop::RunStop;
-use daos_base::epoch::Epoch;
-use daos_base::job::Job;
-use daos_base::report::Report;
-use daos_base::script::Script;
+use base_types::epoch::Epoch;
+use base_types::job::Job;
+use base_types::report::Report;
+use base_types::script::Script;
 use daos_outside::clock::Clock;
 use daos_outside::gate::Gate;
 use run_order::order::run_in_order;

@@ -3,7 +3,7 @@ ghost use Rattle.std.specs.Prelude.{◌≡◌};
 ghost use Rattle.daos_run.specs.declared.stop.RunStop.TheVariants.{Memory as NoMemory};
 ghost use Rattle.daos_run.specs.Stops.{stop_of};
 
-use daos_base::epoch::TargetId;
+use base_types::epoch::TargetId;
 pub use daos_status::part::Part;
 use run_order::halted::Halted;
 use std::alloc::{AllocError, AllocFailed};

@@ -1,13 +1,13 @@
 -- Steps that did not fail.
 use Rattle.std.proofs.Common.{◌≡◌, ℕ, ◌<◌, Bool, true, false, cond, leb, Option, Some, None, Result, Ok, Err, refl, sym, ◌+◌, is_some, arith}
 use Rattle.std.proofs.lemmas.Bool.Decides.{nat_tests}
-use Rattle.daos_base.specs.declared.fault.Why.{Why}
-use Rattle.daos_base.specs.declared.fault.Why.TheVariants.{TooMany}
-use Rattle.daos_text.specs.Results.{◌>>=◌}
-use Rattle.daos_script_words.specs.Decls.{room}
-use Rattle.daos_script_words.specs.Reads.{Read}
-use Rattle.daos_script_lists.specs.declared.client.Client.{Client}
-use Rattle.daos_script_lists.specs.Steps.{begun, counted}
+use Rattle.base_types.specs.declared.fault.Why.{Why}
+use Rattle.base_types.specs.declared.fault.Why.TheVariants.{TooMany}
+use Rattle.base_text.specs.Results.{◌>>=◌}
+use Rattle.script_words.specs.Decls.{room}
+use Rattle.script_words.specs.Reads.{Read}
+use Rattle.daos_script.specs.declared.client.Client.{Client}
+use Rattle.daos_script.specs.Steps.{begun, counted}
 
 -- the value of a step, and what the next one made of it
 pub bind_ok : {A B F : Type 0} (r : Result A F) (f : A → Result B F) (y : B) → (r >>= f) ≡ Ok y → (x : A) × (r ≡ Ok x) × (f x ≡ Ok y)

@@ -3,20 +3,20 @@ use Rattle.std.proofs.Common.{◌≡◌, ◌≤◌, ◌<◌, ◌^◌, ℕ, ◌+�
 use Rattle.std.specs.List.{IsDistinct}
 use Rattle.std.proofs.lemmas.List.{length-append}
 use Rattle.std.proofs.lemmas.List.Elements.{All-from_recursion}
-use Rattle.daos_base.specs.Keys.{same_key}
-use Rattle.daos_base.specs.Scripts.{AreCommands, IsInForm, old_snap}
-use Rattle.daos_base.specs.declared.id.ContId.{ContId}
-use Rattle.daos_script_lines.specs.declared.line.Line.{Line}
-use Rattle.daos_script_lines.specs.declared.line.Line.TheVariants as line
-use Rattle.daos_script_lines.specs.Fits.{LineFits}
+use Rattle.base_types.specs.Keys.{same_key}
+use Rattle.base_types.specs.Scripts.{AreCommands, IsInForm, old_snap}
+use Rattle.base_types.specs.declared.id.ContId.{ContId}
+use Rattle.script_lines.specs.declared.line.Line.{Line}
+use Rattle.script_lines.specs.declared.line.Line.TheVariants as line
+use Rattle.script_lines.specs.Fits.{LineFits}
 use Rattle.daos_script.specs.News.{IsNew}
-use Rattle.daos_names.specs.Names.{named}
-use Rattle.daos_script_words.specs.declared.decls.Decls.{Decls}
-use Rattle.daos_script_words.specs.Lookups.{old_named}
-use Rattle.daos_script_words.specs.Snaps.{is_snap}
-use Rattle.daos_script_lists.specs.declared.client.Client.{Client}
-use Rattle.daos_script_lists.specs.Lists.{all_lists, lists_of, pending}
-use Rattle.daos_script_lists.specs.Steps.{within_of}
+use Rattle.base_names.specs.Names.{named}
+use Rattle.script_words.specs.declared.decls.Decls.{Decls}
+use Rattle.script_words.specs.Lookups.{old_named}
+use Rattle.script_words.specs.Snaps.{is_snap}
+use Rattle.daos_script.specs.declared.client.Client.{Client}
+use Rattle.daos_script.specs.Lists.{all_lists, lists_of, pending}
+use Rattle.daos_script.specs.Steps.{within_of}
 use Rattle.daos_script.specs.declared.reading.Reading.{Reading}
 use Rattle.daos_script.specs.Puts.{add_line, nothing_read}
 use Rattle.daos_script.specs.Readings.{bad_tell, script_with}

@@ -4,23 +4,23 @@ use Rattle.std.specs.List.{IsDistinct}
 use Rattle.std.proofs.lemmas.Bool.{or_parts}
 use Rattle.std.proofs.lemmas.List.{length-append, map-append}
 use Rattle.std.proofs.lemmas.List.Elements.{All-push}
-use Rattle.daos_base.specs.Keys.{same_key}
-use Rattle.daos_base.specs.Scripts.{IsContOf, IsStop, SnapName, all_snaps, cont_name, cont_number, obj_name, old_snap, same_declared}
-use Rattle.daos_base.specs.Placement.{ClassFits}
-use Rattle.daos_base.specs.declared.fault.Why.TheVariants.{BadBlock}
-use Rattle.daos_base.specs.declared.script.Command.{Command}
-use Rattle.daos_base.specs.declared.script.ContDecl.{ContDecl}
-use Rattle.daos_base.specs.declared.script.ObjDecl.{ObjDecl}
-use Rattle.daos_base.specs.declared.script.OldDecl.{OldDecl}
-use Rattle.daos_base.specs.declared.script.StopDecl.{StopDecl}
-use Rattle.daos_names.specs.Names.{named}
-use Rattle.daos_text.specs.Results.{◌>>=◌}
-use Rattle.daos_script_words.specs.Decls.{with_cont, with_obj, with_old, with_stop}
-use Rattle.daos_script_words.specs.Lookups.{old_named}
-use Rattle.daos_script_words.specs.Snaps.{is_snap}
-use Rattle.daos_script_lines.specs.Fits.{ContFits, ObjFits, OldFits}
-use Rattle.daos_script_lists.specs.declared.client.Client.{Client}
-use Rattle.daos_script_lists.specs.Lists.{lists_of}
+use Rattle.base_types.specs.Keys.{same_key}
+use Rattle.base_types.specs.Scripts.{IsContOf, IsStop, SnapName, all_snaps, cont_name, cont_number, obj_name, old_snap, same_declared}
+use Rattle.base_types.specs.Placement.{ClassFits}
+use Rattle.base_types.specs.declared.fault.Why.TheVariants.{BadBlock}
+use Rattle.base_types.specs.declared.script.Command.{Command}
+use Rattle.base_types.specs.declared.script.ContDecl.{ContDecl}
+use Rattle.base_types.specs.declared.script.ObjDecl.{ObjDecl}
+use Rattle.base_types.specs.declared.script.OldDecl.{OldDecl}
+use Rattle.base_types.specs.declared.script.StopDecl.{StopDecl}
+use Rattle.base_names.specs.Names.{named}
+use Rattle.base_text.specs.Results.{◌>>=◌}
+use Rattle.script_words.specs.Decls.{with_cont, with_obj, with_old, with_stop}
+use Rattle.script_words.specs.Lookups.{old_named}
+use Rattle.script_words.specs.Snaps.{is_snap}
+use Rattle.script_lines.specs.Fits.{ContFits, ObjFits, OldFits}
+use Rattle.daos_script.specs.declared.client.Client.{Client}
+use Rattle.daos_script.specs.Lists.{lists_of}
 use Rattle.daos_script.specs.declared.reading.Reading.{Reading}
 use Rattle.daos_script.specs.Puts.{put_cont, put_obj, put_old, put_stop}
 use Rattle.daos_script.specs.SoFar.{IsBody, IsStateAt, snap_name}

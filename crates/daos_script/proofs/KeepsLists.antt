@@ -6,39 +6,39 @@ use Rattle.std.proofs.lemmas.Bool.Decides.{nat_tests}
 use Rattle.std.proofs.lemmas.List.{length-append, map-append}
 use Rattle.std.proofs.lemmas.List.Sums.{sum_by-append}
 use Rattle.std.proofs.lemmas.List.Elements.{All-from_recursion}
-use Rattle.daos_base.specs.Keys.{same_key}
-use Rattle.daos_base.specs.Scripts.{AreCommands, IsCommand, IsContOf, IsOpInForm, IsPlainReadIn, IsTransaction, ReadsAt, SnapName, all_snaps, is_fetch, is_numbered, old_snap, snap_of, snaps_of}
-use Rattle.daos_base.specs.Operations.{act_path}
-use Rattle.daos_base.specs.declared.fault.Why.TheVariants.{BadBlock}
-use Rattle.daos_base.specs.declared.id.ContId.{ContId}
-use Rattle.daos_base.specs.declared.operation.Cond.{Cond}
-use Rattle.daos_base.specs.declared.operation.Cond.TheVariants.{Free, Must, MustNot}
-use Rattle.daos_base.specs.declared.operation.Op.{Op}
-use Rattle.daos_base.specs.declared.script.Command.{Command}
-use Rattle.daos_base.specs.declared.script.Command.TheVariants as command
-use Rattle.daos_base.specs.declared.script.ContDecl.{ContDecl}
-use Rattle.daos_base.specs.declared.script.ObjDecl.{ObjDecl}
-use Rattle.daos_names.specs.Names.{named}
-use Rattle.daos_text.specs.Results.{◌>>=◌}
-use Rattle.daos_script_words.specs.declared.decls.Decls.{Decls}
-use Rattle.daos_script_words.specs.Decls.{room, with_own}
-use Rattle.daos_script_words.specs.Lookups.{old_named}
-use Rattle.daos_script_words.specs.Snaps.{is_snap, or_else, snap_named}
-use Rattle.daos_script_words.proofs.Known.{entry_named, old_is_known}
-use Rattle.daos_script_lines.specs.declared.line.At.{At}
-use Rattle.daos_script_lines.specs.Ops.{PathFits}
-use Rattle.daos_script_lines.specs.Fits.{AtFits, DoAtFits, OpFits, SnapFits}
-use Rattle.daos_script_lists.specs.declared.client.Client.{Client}
-use Rattle.daos_script_lists.specs.declared.lists.Lists.{Lists}
-use Rattle.daos_script_lists.specs.declared.lists.Told.{Told}
-use Rattle.daos_script_lists.specs.declared.present.Present.{Present}
-use Rattle.daos_script_lists.specs.declared.present.Step.{Step}
-use Rattle.daos_script_lists.specs.declared.present.Step.TheVariants as step
-use Rattle.daos_script_lists.specs.declared.tx.Tx.{Tx}
+use Rattle.base_types.specs.Keys.{same_key}
+use Rattle.base_types.specs.Scripts.{AreCommands, IsCommand, IsContOf, IsOpInForm, IsPlainReadIn, IsTransaction, ReadsAt, SnapName, all_snaps, is_fetch, is_numbered, old_snap, snap_of, snaps_of}
+use Rattle.base_types.specs.Operations.{act_path}
+use Rattle.base_types.specs.declared.fault.Why.TheVariants.{BadBlock}
+use Rattle.base_types.specs.declared.id.ContId.{ContId}
+use Rattle.base_types.specs.declared.operation.Cond.{Cond}
+use Rattle.base_types.specs.declared.operation.Cond.TheVariants.{Free, Must, MustNot}
+use Rattle.base_types.specs.declared.operation.Op.{Op}
+use Rattle.base_types.specs.declared.script.Command.{Command}
+use Rattle.base_types.specs.declared.script.Command.TheVariants as command
+use Rattle.base_types.specs.declared.script.ContDecl.{ContDecl}
+use Rattle.base_types.specs.declared.script.ObjDecl.{ObjDecl}
+use Rattle.base_names.specs.Names.{named}
+use Rattle.base_text.specs.Results.{◌>>=◌}
+use Rattle.script_words.specs.declared.decls.Decls.{Decls}
+use Rattle.script_words.specs.Decls.{room, with_own}
+use Rattle.script_words.specs.Lookups.{old_named}
+use Rattle.script_words.specs.Snaps.{is_snap, or_else, snap_named}
+use Rattle.script_words.proofs.Known.{entry_named, old_is_known}
+use Rattle.script_lines.specs.declared.line.At.{At}
+use Rattle.script_lines.specs.Ops.{PathFits}
+use Rattle.script_lines.specs.Fits.{AtFits, DoAtFits, OpFits, SnapFits}
+use Rattle.daos_script.specs.declared.client.Client.{Client}
+use Rattle.daos_script.specs.declared.lists.Lists.{Lists}
+use Rattle.daos_script.specs.declared.lists.Told.{Told}
+use Rattle.daos_script.specs.declared.present.Present.{Present}
+use Rattle.daos_script.specs.declared.present.Step.{Step}
+use Rattle.daos_script.specs.declared.present.Step.TheVariants as step
+use Rattle.daos_script.specs.declared.tx.Tx.{Tx}
 use Rattle.daos_script.specs.declared.reading.Reading.{Reading}
-use Rattle.daos_script_lists.specs.Clients.{client_command, client_end, client_op, client_skip, client_tx, command_in, command_of, cont_of, ended_tx, is_barred, is_free, lone, may_add, name_of, op_in, skip_in, skip_open, tx_begun, tx_in, tx_op, tx_pushed, within_tx}
-use Rattle.daos_script_lists.specs.Lists.{lists_of, next_client, next_list, one_step, told_by, with_tell}
-use Rattle.daos_script_lists.specs.Steps.{begun, counted, step_command, step_end, step_op, step_skip, step_tx, tx_of, with_step, within_of}
+use Rattle.daos_script.specs.Clients.{client_command, client_end, client_op, client_skip, client_tx, command_in, command_of, cont_of, ended_tx, is_barred, is_free, lone, may_add, name_of, op_in, skip_in, skip_open, tx_begun, tx_in, tx_op, tx_pushed, within_tx}
+use Rattle.daos_script.specs.Lists.{lists_of, next_client, next_list, one_step, told_by, with_tell}
+use Rattle.daos_script.specs.Steps.{begun, counted, step_command, step_end, step_op, step_skip, step_tx, tx_of, with_step, within_of}
 use Rattle.daos_script.specs.Puts.{put_client, put_do_at, put_snap, put_step, put_tell}
 use Rattle.daos_script.specs.SoFar.{IsKept, IsBody, IsOpen, IsStateAt, IsState, IsTx, TxReads, count_open, snap_name}
 use Rattle.daos_script.proofs.Binds.{begun_ok, bind_ok, counted_ok, none_of, ok_is, room_left, room_ok, unless_ok}

@@ -4,5 +4,5 @@ pub mod KeepsHeads
 pub mod KeepsLists
 pub mod Lists
 pub mod Loop
-pub mod TextLaws
 pub mod Tells
+pub mod TextLaws

@@ -5,16 +5,16 @@ use Rattle.std.specs.Str.{bytes_eq}
 use Rattle.std.proofs.lemmas.Bool.{or_parts}
 use Rattle.std.proofs.lemmas.List.{get_or_append_left, length-append, map-append}
 use Rattle.std.proofs.lemmas.Slice.Eq.{bytes_eq-Decides}
-use Rattle.daos_base.specs.Keys.{same_key}
-use Rattle.daos_base.specs.Paths.{same_object}
-use Rattle.daos_base.specs.Scripts.{AreCommands, SnapName, all_snaps, cont_name, cont_number, count_numbered, is_numbered, obj_name, old_snap, same_declared, snap_of, snaps_of}
-use Rattle.daos_base.specs.declared.id.ContId.{ContId}
-use Rattle.daos_base.specs.declared.script.Command.{Command}
-use Rattle.daos_base.specs.declared.script.ContDecl.{ContDecl}
-use Rattle.daos_base.specs.declared.script.ObjDecl.{ObjDecl}
-use Rattle.daos_base.specs.declared.script.OldDecl.{OldDecl}
-use Rattle.daos_names.specs.Names.{named}
-use Rattle.daos_script_words.specs.Lookups.{name_of_cont, name_of_obj, name_of_old, cont_named, obj_named, old_named, has_cont, has_obj}
+use Rattle.base_types.specs.Keys.{same_key}
+use Rattle.base_types.specs.Paths.{same_object}
+use Rattle.base_types.specs.Scripts.{AreCommands, SnapName, all_snaps, cont_name, cont_number, count_numbered, is_numbered, obj_name, old_snap, same_declared, snap_of, snaps_of}
+use Rattle.base_types.specs.declared.id.ContId.{ContId}
+use Rattle.base_types.specs.declared.script.Command.{Command}
+use Rattle.base_types.specs.declared.script.ContDecl.{ContDecl}
+use Rattle.base_types.specs.declared.script.ObjDecl.{ObjDecl}
+use Rattle.base_types.specs.declared.script.OldDecl.{OldDecl}
+use Rattle.base_names.specs.Names.{named}
+use Rattle.script_words.specs.Lookups.{name_of_cont, name_of_obj, name_of_old, cont_named, obj_named, old_named, has_cont, has_obj}
 use Rattle.daos_script.specs.SoFar.{snap_name}
 
 -- ---- lists

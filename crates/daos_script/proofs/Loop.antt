@@ -4,21 +4,21 @@ use Rattle.std.proofs.lemmas.Bool.Decides.{nat_tests}
 use Rattle.std.proofs.lemmas.List.{length-take}
 use Rattle.std.proofs.lemmas.List.Splits.{length-slice_split}
 use Rattle.std.proofs.lemmas.List.Sums.{count_by-le-length}
-use Rattle.daos_base.specs.Scripts.{IsInForm}
-use Rattle.daos_base.specs.declared.fault.ScriptFault.{ScriptFault}
-use Rattle.daos_base.specs.declared.fault.Why.TheVariants.{TooLong}
-use Rattle.daos_base.specs.declared.script.Command.{Command}
-use Rattle.daos_base.specs.declared.script.Script.{Script}
-use Rattle.daos_text.specs.Parts.{parts_of}
-use Rattle.daos_text.specs.Results.{◌>>=◌}
-use Rattle.daos_text.specs.Steps.{steps, steps-nil, steps-cons_err, steps-cons_ok}
+use Rattle.base_types.specs.Scripts.{IsInForm}
+use Rattle.base_types.specs.declared.fault.ScriptFault.{ScriptFault}
+use Rattle.base_types.specs.declared.fault.Why.TheVariants.{TooLong}
+use Rattle.base_types.specs.declared.script.Command.{Command}
+use Rattle.base_types.specs.declared.script.Script.{Script}
+use Rattle.base_text.specs.Parts.{parts_of}
+use Rattle.base_text.specs.Results.{◌>>=◌}
+use Rattle.base_text.specs.Steps.{steps, steps-nil, steps-cons_err, steps-cons_ok}
 use Rattle.daos_script.specs.declared.fault.ScriptNo.{ScriptNo}
 use Rattle.daos_script.specs.declared.fault.ScriptNo.TheVariants as whole
 use Rattle.daos_script.specs.declared.reading.Reading.{Reading}
 use Rattle.daos_script.specs.Located.{FailsAt}
-use Rattle.daos_script_lists.specs.declared.lists.Lists.{Lists}
-use Rattle.daos_script_lists.specs.Lists.{all_lists}
-use Rattle.daos_script_lists.specs.Steps.{tx_of}
+use Rattle.daos_script.specs.declared.lists.Lists.{Lists}
+use Rattle.daos_script.specs.Lists.{all_lists}
+use Rattle.daos_script.specs.Steps.{tx_of}
 use Rattle.daos_script.specs.Puts.{nothing_read}
 use Rattle.daos_script.specs.Readings.{bad_tell, ended, ended_lists, long_line, open_line, script_of, script_with, text_lines, unless_bad, unless_open, with_line}
 use Rattle.daos_script.specs.SoFar.{IsSoFar}

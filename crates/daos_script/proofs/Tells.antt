@@ -5,10 +5,10 @@ use Rattle.std.specs.Option.{option_map}
 use Rattle.std.proofs.lemmas.Bool.{or_parts}
 use Rattle.std.proofs.lemmas.Bool.Decides.{nat_tests}
 use Rattle.std.proofs.lemmas.List.Elements.{All-from_recursion}
-use Rattle.daos_base.specs.Scripts.{AreTold, IsTold, is_numbered}
-use Rattle.daos_base.specs.declared.script.Command.{Command}
-use Rattle.daos_base.specs.declared.script.Command.TheVariants as command
-use Rattle.daos_script_lists.specs.declared.lists.Told.{Told}
+use Rattle.base_types.specs.Scripts.{AreTold, IsTold, is_numbered}
+use Rattle.base_types.specs.declared.script.Command.{Command}
+use Rattle.base_types.specs.declared.script.Command.TheVariants as command
+use Rattle.daos_script.specs.declared.lists.Told.{Told}
 use Rattle.daos_script.specs.Readings.{bad_tell, is_bad}
 use Rattle.daos_script.specs.SoFar.{AreKept, IsKept}
 use Rattle.daos_script.proofs.Lists.{any_after, any_more}

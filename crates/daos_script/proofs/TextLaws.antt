@@ -3,11 +3,11 @@ use Rattle.std.proofs.Common.{◌≡◌, ◌≢◌, ◌≤◌, ◌<◌, ℕ, ◌
 use Rattle.std.proofs.lemmas.Bool.Decides.{nat_tests}
 use Rattle.std.proofs.lemmas.List.{take_all}
 use Rattle.std.proofs.lemmas.List.Splits.{length-slice_split}
-use Rattle.daos_base.specs.declared.fault.ScriptFault.{ScriptFault}
-use Rattle.daos_base.specs.declared.fault.Why.TheVariants.{TooLong}
-use Rattle.daos_text.specs.Parts.{parts_of}
-use Rattle.daos_text.specs.Results.{◌>>=◌}
-use Rattle.daos_text.specs.Steps.{steps}
+use Rattle.base_types.specs.declared.fault.ScriptFault.{ScriptFault}
+use Rattle.base_types.specs.declared.fault.Why.TheVariants.{TooLong}
+use Rattle.base_text.specs.Parts.{parts_of}
+use Rattle.base_text.specs.Results.{◌>>=◌}
+use Rattle.base_text.specs.Steps.{steps}
 use Rattle.daos_script.specs.declared.reading.Reading.{Reading}
 use Rattle.daos_script.specs.Grammar.{FaultsStand, CommentsSayNothing, TextsAreShort}
 use Rattle.daos_script.specs.Located.{located}

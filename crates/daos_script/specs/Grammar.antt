@@ -1,9 +1,9 @@
 -- The grammar of scripts: which texts stand for which scripts, and what is wrong with the others.
 use Rattle.std.specs.Prelude.{◌≡◌, ℕ, ◌≤◌, true, List, ◌∷◌, ◌++◌, length, Ok, Err}
-use Rattle.daos_base.specs.declared.fault.ScriptFault.{ScriptFault}
-use Rattle.daos_base.specs.declared.script.Script.{Script}
-use Rattle.daos_text.specs.Parts.{parts_of}
-use Rattle.daos_text.specs.Steps.{steps}
+use Rattle.base_types.specs.declared.fault.ScriptFault.{ScriptFault}
+use Rattle.base_types.specs.declared.script.Script.{Script}
+use Rattle.base_text.specs.Parts.{parts_of}
+use Rattle.base_text.specs.Steps.{steps}
 use Rattle.daos_script.specs.declared.reading.Reading.{Reading}
 use Rattle.daos_script.specs.Puts.{nothing_read}
 use Rattle.daos_script.specs.Readings.{is_passed, script_of, with_line}

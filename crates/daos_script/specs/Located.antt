@@ -1,9 +1,9 @@
 -- What a reader of lines gives: a value, or the first fault with its line.
 use Rattle.std.specs.Prelude.{◌≡◌, ℕ, Result, Ok, Err}
-use Rattle.daos_base.specs.declared.fault.ScriptFault.{ScriptFault}
-use Rattle.daos_script_words.specs.declared.fault.LineNo.{LineNo}
-use Rattle.daos_script_words.specs.declared.fault.LineNo.TheVariants as no
-use Rattle.daos_script_words.specs.Reads.{Read}
+use Rattle.base_types.specs.declared.fault.ScriptFault.{ScriptFault}
+use Rattle.script_words.specs.declared.fault.LineNo.{LineNo}
+use Rattle.script_words.specs.declared.fault.LineNo.TheVariants as no
+use Rattle.script_words.specs.Reads.{Read}
 use Rattle.daos_script.specs.declared.fault.ScriptNo.{ScriptNo}
 use Rattle.daos_script.specs.declared.fault.ScriptNo.TheVariants as whole
 

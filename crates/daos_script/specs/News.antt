@@ -1,10 +1,10 @@
 -- What a line declares has a new name.
 use Rattle.std.specs.Prelude.{◌≡◌, ℕ, List, None}
-use Rattle.daos_names.specs.Names.{named}
-use Rattle.daos_script_words.specs.declared.decls.Decls.{Decls}
-use Rattle.daos_script_words.specs.Lookups.{cont_named, obj_named, old_named}
-use Rattle.daos_script_lines.specs.declared.line.Line.{Line}
-use Rattle.daos_script_lines.specs.declared.line.Line.TheVariants as line
+use Rattle.base_names.specs.Names.{named}
+use Rattle.script_words.specs.declared.decls.Decls.{Decls}
+use Rattle.script_words.specs.Lookups.{cont_named, obj_named, old_named}
+use Rattle.script_lines.specs.declared.line.Line.{Line}
+use Rattle.script_lines.specs.declared.line.Line.TheVariants as line
 
 -- no snapshot that a client makes has this name
 pub record IsNewSnap (decls : Decls) (name : List ℕ) : Type 0 where

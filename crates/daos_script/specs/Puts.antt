@@ -1,23 +1,23 @@
 -- What a line adds to the script so far, or why it may not stand there.
 use Rattle.std.specs.Prelude.{ℕ, is_some, List, [], Some, None, Ok, Err, if◌then◌else◌}
-use Rattle.daos_base.specs.declared.fault.Why.TheVariants.{BadBlock}
-use Rattle.daos_base.specs.declared.id.ContId.{ContId}
-use Rattle.daos_base.specs.declared.operation.Op.{Op}
-use Rattle.daos_base.specs.declared.script.Command.TheVariants as command
-use Rattle.daos_base.specs.declared.script.ContDecl.{ContDecl}
-use Rattle.daos_base.specs.declared.script.ObjDecl.{ObjDecl}
-use Rattle.daos_base.specs.declared.script.OldDecl.{OldDecl}
-use Rattle.daos_base.specs.declared.script.StopDecl.{StopDecl}
-use Rattle.daos_text.specs.Results.{◌>>=◌}
-use Rattle.daos_script_lines.specs.declared.line.At.{At}
-use Rattle.daos_script_lines.specs.declared.line.Line.{Line}
-use Rattle.daos_script_lines.specs.declared.line.Line.TheVariants as line
-use Rattle.daos_script_words.specs.Decls.{nothing_declared, with_cont, with_obj, with_old, with_own, with_stop}
-use Rattle.daos_script_words.specs.Reads.{Read}
-use Rattle.daos_script_lists.specs.declared.present.Step.{Step}
-use Rattle.daos_script_lists.specs.declared.present.Step.TheVariants as step
-use Rattle.daos_script_lists.specs.Clients.{lone}
-use Rattle.daos_script_lists.specs.Lists.{next_list, nothing_listed, one_step, with_tell}
+use Rattle.base_types.specs.declared.fault.Why.TheVariants.{BadBlock}
+use Rattle.base_types.specs.declared.id.ContId.{ContId}
+use Rattle.base_types.specs.declared.operation.Op.{Op}
+use Rattle.base_types.specs.declared.script.Command.TheVariants as command
+use Rattle.base_types.specs.declared.script.ContDecl.{ContDecl}
+use Rattle.base_types.specs.declared.script.ObjDecl.{ObjDecl}
+use Rattle.base_types.specs.declared.script.OldDecl.{OldDecl}
+use Rattle.base_types.specs.declared.script.StopDecl.{StopDecl}
+use Rattle.base_text.specs.Results.{◌>>=◌}
+use Rattle.script_lines.specs.declared.line.At.{At}
+use Rattle.script_lines.specs.declared.line.Line.{Line}
+use Rattle.script_lines.specs.declared.line.Line.TheVariants as line
+use Rattle.script_words.specs.Decls.{nothing_declared, with_cont, with_obj, with_old, with_own, with_stop}
+use Rattle.script_words.specs.Reads.{Read}
+use Rattle.daos_script.specs.declared.present.Step.{Step}
+use Rattle.daos_script.specs.declared.present.Step.TheVariants as step
+use Rattle.daos_script.specs.Clients.{lone}
+use Rattle.daos_script.specs.Lists.{next_list, nothing_listed, one_step, with_tell}
 use Rattle.daos_script.specs.declared.reading.Reading.{Reading}
 
 -- nothing is read yet, of a script for so many targets

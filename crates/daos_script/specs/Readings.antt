@@ -2,22 +2,22 @@
 use Rattle.std.specs.Prelude.{ℕ, ◌+◌, Bool, true, ◌&&◌, ◌||◌, ◌==◌, nat_le, nat_lt, List, [], ◌∷◌, length, take, count_by, find, Option, Some, None, Result, Ok, Err, if◌then◌else◌}
 use Rattle.std.specs.List.{list_all}
 use Rattle.std.specs.Option.{option_map}
-use Rattle.daos_base.specs.declared.fault.Why.TheVariants.{BadBlock, BadName, NotAscii, TooLong}
-use Rattle.daos_base.specs.declared.fault.ScriptFault.{ScriptFault}
-use Rattle.daos_base.specs.declared.script.Script.{Script}
-use Rattle.daos_text.specs.Parts.{parts_of}
-use Rattle.daos_text.specs.Results.{◌>>=◌}
-use Rattle.daos_text.specs.Steps.{steps}
-use Rattle.daos_script_lines.specs.declared.line.Line.{Line}
-use Rattle.daos_script_lines.specs.Lines.{line_at}
-use Rattle.daos_script_words.specs.Reads.{Read}
-use Rattle.daos_base.specs.declared.script.Command.{Command}
-use Rattle.daos_script_words.specs.declared.decls.Decls.{Decls}
-use Rattle.daos_script_lists.specs.declared.lists.Lists.{Lists}
-use Rattle.daos_script_lists.specs.declared.lists.Told.{Told}
-use Rattle.daos_script_lists.specs.declared.tx.Tx.{Tx}
-use Rattle.daos_script_lists.specs.Lists.{all_lists}
-use Rattle.daos_script_lists.specs.Steps.{tx_of, within_of}
+use Rattle.base_types.specs.declared.fault.Why.TheVariants.{BadBlock, BadName, NotAscii, TooLong}
+use Rattle.base_types.specs.declared.fault.ScriptFault.{ScriptFault}
+use Rattle.base_types.specs.declared.script.Script.{Script}
+use Rattle.base_text.specs.Parts.{parts_of}
+use Rattle.base_text.specs.Results.{◌>>=◌}
+use Rattle.base_text.specs.Steps.{steps}
+use Rattle.script_lines.specs.declared.line.Line.{Line}
+use Rattle.script_lines.specs.Lines.{line_at}
+use Rattle.script_words.specs.Reads.{Read}
+use Rattle.base_types.specs.declared.script.Command.{Command}
+use Rattle.script_words.specs.declared.decls.Decls.{Decls}
+use Rattle.daos_script.specs.declared.lists.Lists.{Lists}
+use Rattle.daos_script.specs.declared.lists.Told.{Told}
+use Rattle.daos_script.specs.declared.tx.Tx.{Tx}
+use Rattle.daos_script.specs.Lists.{all_lists}
+use Rattle.daos_script.specs.Steps.{tx_of, within_of}
 use Rattle.daos_script.specs.declared.reading.Reading.{Reading}
 use Rattle.daos_script.specs.Located.{located}
 use Rattle.daos_script.specs.Puts.{add_line, nothing_read}

@@ -1,24 +1,24 @@
 -- What holds of what was read before a line: it is a script in form so far, and its counts and names are kept beside it.
 use Rattle.std.specs.Prelude.{◌≡◌, ℕ, suc, ◌+◌, ◌*◌, ◌<◌, ◌≤◌, nat_eq, List, [], ◌∷◌, ◌++◌, length, map, All, Any, Option, Some, None}
 use Rattle.std.specs.List.{IsDistinct, AllByRecursion}
-use Rattle.daos_base.specs.Keys.{same_key}
-use Rattle.daos_base.specs.Placement.{ClassFits}
-use Rattle.daos_base.specs.Scripts.{AreCommands, IsContOf, IsOpInForm, IsPlainReadIn, IsStop, SnapName, all_snaps, cont_name, cont_number, count_numbered, obj_name, old_snap, same_declared, snaps_of}
-use Rattle.daos_base.specs.declared.operation.Op.{Op}
-use Rattle.daos_base.specs.declared.script.Command.{Command}
-use Rattle.daos_base.specs.declared.script.Command.TheVariants as command
-use Rattle.daos_base.specs.declared.script.ContDecl.{ContDecl}
-use Rattle.daos_base.specs.declared.script.ObjDecl.{ObjDecl}
-use Rattle.daos_base.specs.declared.script.OldDecl.{OldDecl}
-use Rattle.daos_base.specs.declared.script.StopDecl.{StopDecl}
-use Rattle.daos_script_lines.specs.declared.line.At.{At}
-use Rattle.daos_script_words.specs.declared.decls.Decls.{Decls}
-use Rattle.daos_script_lists.specs.declared.client.Client.{Client}
-use Rattle.daos_script_lists.specs.declared.lists.Told.{Told}
-use Rattle.daos_script_lists.specs.declared.tx.Tx.{Tx}
-use Rattle.daos_script_lists.specs.Clients.{skip_open}
-use Rattle.daos_script_lists.specs.Lists.{lists_of}
-use Rattle.daos_script_lists.specs.Steps.{tx_of}
+use Rattle.base_types.specs.Keys.{same_key}
+use Rattle.base_types.specs.Placement.{ClassFits}
+use Rattle.base_types.specs.Scripts.{AreCommands, IsContOf, IsOpInForm, IsPlainReadIn, IsStop, SnapName, all_snaps, cont_name, cont_number, count_numbered, obj_name, old_snap, same_declared, snaps_of}
+use Rattle.base_types.specs.declared.operation.Op.{Op}
+use Rattle.base_types.specs.declared.script.Command.{Command}
+use Rattle.base_types.specs.declared.script.Command.TheVariants as command
+use Rattle.base_types.specs.declared.script.ContDecl.{ContDecl}
+use Rattle.base_types.specs.declared.script.ObjDecl.{ObjDecl}
+use Rattle.base_types.specs.declared.script.OldDecl.{OldDecl}
+use Rattle.base_types.specs.declared.script.StopDecl.{StopDecl}
+use Rattle.script_lines.specs.declared.line.At.{At}
+use Rattle.script_words.specs.declared.decls.Decls.{Decls}
+use Rattle.daos_script.specs.declared.client.Client.{Client}
+use Rattle.daos_script.specs.declared.lists.Told.{Told}
+use Rattle.daos_script.specs.declared.tx.Tx.{Tx}
+use Rattle.daos_script.specs.Clients.{skip_open}
+use Rattle.daos_script.specs.Lists.{lists_of}
+use Rattle.daos_script.specs.Steps.{tx_of}
 use Rattle.daos_script.specs.declared.reading.Reading.{Reading}
 
 abbrev pub snap_name : SnapName → List ℕ

@@ -2,7 +2,7 @@
 ghost use Rattle.std.specs.Prelude.{◌≡◌};
 ghost use Rattle.daos_script.specs.declared.fault.ScriptNo.TheVariants.{Memory as NoMemory};
 
-use daos_base::fault::ScriptFault;
+use base_types::fault::ScriptFault;
 use std::alloc::AllocError;
 use thiserror::Error;
 

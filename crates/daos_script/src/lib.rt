@@ -1,7 +1,12 @@
 // Reads the script of a run: what it declares, and the commands of its clients.
 #![tactic(auto)]
 
+pub mod client;
 pub mod fault;
+pub mod keys;
 pub mod laws;
+pub mod lists;
+pub mod present;
 mod reading;
 pub mod script;
+pub mod tx;

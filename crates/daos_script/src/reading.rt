@@ -1,23 +1,23 @@
 // What was read of a script so far.
 ghost use Rattle.std.specs.Prelude.{◌≡◌, ◌<◌, ◌^◌, None};
-ghost use Rattle.daos_names.specs.Names.{named};
-ghost use Rattle.daos_script_words.specs.Lookups.{cont_named, obj_named, old_named};
-ghost use Rattle.daos_script_words.specs.Reads.{Gives};
-ghost use Rattle.daos_script_lists.specs.Lists.{pending};
+ghost use Rattle.base_names.specs.Names.{named};
+ghost use Rattle.script_words.specs.Lookups.{cont_named, obj_named, old_named};
+ghost use Rattle.script_words.specs.Reads.{Gives};
+ghost use Rattle.daos_script.specs.Lists.{pending};
 ghost use Rattle.daos_script.specs.News.{IsNew};
 ghost use Rattle.daos_script.specs.Puts.{add_line, nothing_read, put_client, put_cont, put_do_at, put_obj, put_old, put_snap, put_step, put_stop, put_tell};
 
-use daos_base::fault::Why;
-use daos_base::id::ContId;
-use daos_base::key::Key;
-use daos_base::operation::Op;
-use daos_base::script::{Command, ContDecl, ObjDecl, OldDecl, StopDecl};
-use daos_script_lines::line::{At, Line};
-use daos_script_lists::lists::Lists;
-use daos_script_lists::present::Step;
-use daos_script_lists::tx::lone;
-use daos_script_words::decls::Decls;
-use daos_script_words::fault::LineNo;
+use crate::lists::Lists;
+use crate::present::Step;
+use crate::tx::lone;
+use base_types::fault::Why;
+use base_types::id::ContId;
+use base_types::key::Key;
+use base_types::operation::Op;
+use base_types::script::{Command, ContDecl, ObjDecl, OldDecl, StopDecl};
+use script_lines::line::{At, Line};
+use script_words::decls::Decls;
+use script_words::fault::LineNo;
 use std::alloc::Global;
 
 /// What was read so far: what is declared, and the lists of the clients. After an error nothing is said

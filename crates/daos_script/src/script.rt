@@ -1,25 +1,25 @@
 // Reads a script.
 ghost use Rattle.std.specs.Prelude.{◌≡◌, ◌≤◌, ◌+◌, IfOk, OnOk, length, take};
 ghost use Rattle.std.specs.List.{list_all};
-ghost use Rattle.daos_base.specs.Scripts.{IsInForm};
-ghost use Rattle.daos_script_words.specs.Reads.{Gives};
+ghost use Rattle.base_types.specs.Scripts.{IsInForm};
+ghost use Rattle.script_words.specs.Reads.{Gives};
 ghost use Rattle.daos_script.specs.Located.{GivesAt};
-ghost use Rattle.daos_script_lists.specs.Steps.{tx_of, within_of};
-ghost use Rattle.daos_script_lines.specs.Fits.{LineFits};
+ghost use Rattle.daos_script.specs.Steps.{tx_of, within_of};
+ghost use Rattle.script_lines.specs.Fits.{LineFits};
 ghost use Rattle.daos_script.specs.Readings.{bad_tell, ended, ended_lists, is_bad, is_passed, is_shown, long_line, open_line, read_line, said, script_of, script_with, with_line};
 ghost use Rattle.daos_script.specs.SoFar.{IsSoFar};
 
+use crate::client::Client;
 use crate::fault::ScriptNo;
+use crate::lists::{Lists, Told};
 use crate::reading::Reading;
-use daos_base::fault::{ScriptFault, Why};
-use daos_base::script::{ClientLists, Script};
-use daos_script_lines::line::Line;
-use daos_script_lines::lines::line_at;
-use daos_script_lists::client::Client;
-use daos_script_lists::lists::{Lists, Told};
-use daos_script_words::decls::Decls;
-use daos_script_words::fault::LineNo;
-use daos_text::parts::Parts;
+use base_text::parts::Parts;
+use base_types::fault::{ScriptFault, Why};
+use base_types::script::{ClientLists, Script};
+use script_lines::line::Line;
+use script_lines::lines::line_at;
+use script_words::decls::Decls;
+use script_words::fault::LineNo;
 use std::alloc::Global;
 
 /// The most bytes that a script has: 16 MiB.

@@ -1,12 +1,12 @@
 -- What is told of a status.
 use Rattle.std.specs.Prelude.{ℕ, ◌++◌, List, [], codes}
 use Rattle.std.specs.Fmt.{decimal}
-use Rattle.daos_base.specs.declared.fault.ScriptFault.{ScriptFault}
-use Rattle.daos_base.specs.declared.fault.WordFault.{WordFault}
-use Rattle.daos_base.specs.declared.fault.Why.{Why}
-use Rattle.daos_base.specs.declared.fault.Why.TheVariants as why
-use Rattle.daos_base.specs.declared.fault.WordKind.{WordKind}
-use Rattle.daos_base.specs.declared.fault.WordKind.TheVariants as kind
+use Rattle.base_types.specs.declared.fault.ScriptFault.{ScriptFault}
+use Rattle.base_types.specs.declared.fault.WordFault.{WordFault}
+use Rattle.base_types.specs.declared.fault.Why.{Why}
+use Rattle.base_types.specs.declared.fault.Why.TheVariants as why
+use Rattle.base_types.specs.declared.fault.WordKind.{WordKind}
+use Rattle.base_types.specs.declared.fault.WordKind.TheVariants as kind
 use Rattle.daos_status.specs.declared.part.Part.{Part}
 use Rattle.daos_status.specs.declared.part.Part.TheVariants as part
 use Rattle.daos_status.specs.declared.status.Status.{Status}

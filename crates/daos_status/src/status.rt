@@ -3,9 +3,9 @@ ghost use Rattle.std.specs.Prelude.{◌≡◌, IfOk, string_bytes};
 ghost use Rattle.daos_status.specs.Statuses.{down_text, foreign_text, kind_text, part_text, rack_text, script_text, shape_text, status_number, status_text, why_text, words_text};
 
 use crate::part::Part;
-use daos_base::epoch::TargetId;
-use daos_base::fault::{ScriptFault, Why, WordFault, WordKind};
-use daos_base::items::Memory;
+use base_types::epoch::TargetId;
+use base_types::fault::{ScriptFault, Why, WordFault, WordKind};
+use base_types::items::Memory;
 use std::alloc::Global;
 
 /// How the program ended. The number of a status is that of its place here, from 0.

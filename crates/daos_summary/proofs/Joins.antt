@@ -2,7 +2,7 @@
 use Rattle.std.proofs.Common.{◌≡◌, ℕ, ◌+◌, List, [], ◌∷◌, ◌++◌, map, refl, sym, ap, ◌∙◌, append_assoc, append-nil, arith}
 use Rattle.std.specs.List.{range_with_len}
 use Rattle.std.proofs.lemmas.List.FromFn.{map-range_with_len_more}
-use Rattle.daos_text.specs.Rows.{Words, row_line, lines_text, rows_text}
+use Rattle.base_text.specs.Rows.{Words, row_line, lines_text, rows_text}
 
 -- the rows of two lists, one after the other
 pub rows_append : (rs ss : List Words) → lines_text (map row_line (rs ++ ss)) ≡ lines_text (map row_line rs) ++ lines_text (map row_line ss)

@@ -2,7 +2,7 @@
 use Rattle.std.proofs.Common.{◌≡◌, ℕ, ◌+◌, ◌<◌, Bool, true, false, cond, not, ◌||◌, ◌&&◌, eqb, List, [], ◌∷◌, ◌++◌, length, drop, get_or, Some, None, refl, sym, ap, ◌∙◌, arith, drop-cons, add-one}
 use Rattle.std.specs.List.{list_any, filter_map}
 use Rattle.std.proofs.lemmas.Bool.Decides.{nat_tests}
-use Rattle.daos_base.specs.declared.report.Line.{Line}
+use Rattle.base_types.specs.declared.report.Line.{Line}
 use Rattle.daos_summary.specs.Counts.{Numbered, same_command, command_of, count_new, commands_of}
 
 -- a set has the commands so far, and their number and that of the new ones behind are all

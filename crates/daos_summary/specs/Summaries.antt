@@ -2,9 +2,9 @@
 use Rattle.std.specs.Prelude.{ℕ, List, [], ◌∷◌, ◌++◌, map, codes, count_by, Option, Some, None}
 use Rattle.std.specs.Fmt.{decimal}
 use Rattle.std.specs.List.{range_with_len}
-use Rattle.daos_base.specs.declared.report.Line.{Line}
-use Rattle.daos_base.specs.declared.report.Report.{Report}
-use Rattle.daos_text.specs.Rows.{Words, rows_text}
+use Rattle.base_types.specs.declared.report.Line.{Line}
+use Rattle.base_types.specs.declared.report.Report.{Report}
+use Rattle.base_text.specs.Rows.{Words, rows_text}
 use Rattle.daos_summary.specs.declared.counts.Ending.{Ending}
 use Rattle.daos_summary.specs.declared.counts.Ending.TheVariants as ending
 use Rattle.daos_summary.specs.Counts.{commands_of, ends_so, is_issued_by, is_try}

@@ -2,10 +2,10 @@
 ghost use Rattle.std.specs.Prelude.{◌≡◌, count_by, IfOk};
 ghost use Rattle.daos_summary.specs.Counts.{command_of, commands_of, ending_of, ends_so, is_issued_by, is_try, number_of};
 
-use daos_base::epoch::TargetId;
-use daos_base::items::Memory;
-use daos_base::outcome::{Cause, Outcome};
-use daos_base::report::Line;
+use base_types::epoch::TargetId;
+use base_types::items::Memory;
+use base_types::outcome::{Cause, Outcome};
+use base_types::report::Line;
 use std::alloc::Global;
 use std::collections::HashSet;
 

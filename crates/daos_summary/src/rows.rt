@@ -1,12 +1,12 @@
 // The rows of a summary.
 ghost use Rattle.std.specs.Prelude.{◌≡◌, ◌++◌, ◌∷◌, [], OnOk, decimal, map};
-ghost use Rattle.daos_text.specs.Rows.{rows_text};
+ghost use Rattle.base_text.specs.Rows.{rows_text};
 ghost use Rattle.daos_summary.specs.Summaries.{count_row, end_row, ending_row, ending_word, head_row, issued_row, issued_rows};
 
 use crate::counts::{Ending, ended, issued};
-use daos_base::epoch::TargetId;
-use daos_base::items::Memory;
-use daos_base::report::Line;
+use base_types::epoch::TargetId;
+use base_types::items::Memory;
+use base_types::report::Line;
 use itoa::Buffer;
 
 // Adds a space and a number.

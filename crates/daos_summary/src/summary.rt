@@ -4,8 +4,8 @@ ghost use Rattle.daos_summary.specs.Summaries.{summary_text};
 
 use crate::counts::{ENDINGS, attempts, commands};
 use crate::rows::{push_count, push_end, push_endings, push_head, push_issued};
-use daos_base::items::Memory;
-use daos_base::report::Report;
+use base_types::items::Memory;
+use base_types::report::Report;
 use std::alloc::Global;
 
 /// The summary of the report of a load of so many commands: how many commands were tried, how many

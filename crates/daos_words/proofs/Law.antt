@@ -1,12 +1,12 @@
 -- The laws of words.
 use Rattle.std.proofs.Common.{◌≡◌, ◌≢◌, ℕ, ◌+◌, ◌*◌, ◌<◌, ◌≤◌, Bool, true, false, List, [], ◌∷◌, ◌++◌, length, Option, Some, None, Result, Ok, Err, refl, ap, ◌∙◌, subst, arith}
 use Rattle.std.specs.Prelude.{unwrap_or, IfSome}
-use Rattle.daos_base.specs.declared.fault.WordFault.{WordFault}
-use Rattle.daos_base.specs.declared.fault.WordKind.{WordKind}
-use Rattle.daos_base.specs.declared.fault.WordKind.TheVariants.{NoValue, NoJob, NoCount}
-use Rattle.daos_base.specs.declared.job.Job.{Job}
-use Rattle.daos_text.specs.Results.{◌>>=◌}
-use Rattle.daos_text.specs.Steps.{steps}
+use Rattle.base_types.specs.declared.fault.WordFault.{WordFault}
+use Rattle.base_types.specs.declared.fault.WordKind.{WordKind}
+use Rattle.base_types.specs.declared.fault.WordKind.TheVariants.{NoValue, NoJob, NoCount}
+use Rattle.base_types.specs.declared.job.Job.{Job}
+use Rattle.base_text.specs.Results.{◌>>=◌}
+use Rattle.base_text.specs.Steps.{steps}
 use Rattle.daos_words.specs.declared.given.Given.{Given}
 use Rattle.daos_words.specs.declared.given.JobWord.{JobWord}
 use Rattle.daos_words.specs.declared.given.JobWord.TheVariants.{Run, Load}

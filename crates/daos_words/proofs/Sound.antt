@@ -2,10 +2,10 @@
 use Rattle.std.proofs.Common.{◌≡◌, ℕ, ◌+◌, ◌*◌, ◌^◌, ◌<◌, ◌≤◌, Bool, true, false, cond, ◌&&◌, List, take, drop, position, eqb, codes, get_or, Option, Some, None, Result, Ok, refl, sym, ap, ◌∙◌, subst, arith, is_some, lit<}
 use Rattle.std.specs.Prelude.{IfSome}
 use Rattle.std.specs.Str.{bytes_eq}
-use Rattle.daos_base.specs.declared.fault.WordFault.{WordFault}
-use Rattle.daos_base.specs.declared.fault.WordKind.TheVariants.{BadJob, Twice, Clash}
-use Rattle.daos_text.specs.Number.{number_in}
-use Rattle.daos_text.specs.NumberLaws.{numbers_are_decimals}
+use Rattle.base_types.specs.declared.fault.WordFault.{WordFault}
+use Rattle.base_types.specs.declared.fault.WordKind.TheVariants.{BadJob, Twice, Clash}
+use Rattle.base_text.specs.Number.{number_in}
+use Rattle.base_text.specs.NumberLaws.{numbers_are_decimals}
 use Rattle.daos_words.specs.declared.given.Given.{Given}
 use Rattle.daos_words.specs.declared.given.JobWord.{JobWord}
 use Rattle.daos_words.specs.declared.given.JobWord.TheVariants.{Run, Load}

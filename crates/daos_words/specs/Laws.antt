@@ -1,8 +1,8 @@
 -- What holds of every list of words.
 use Rattle.std.specs.Prelude.{◌≡◌, ◌≢◌, ℕ, ◌≤◌, ◌<◌, true, List, ◌++◌, length, IfSome, Ok, Err}
-use Rattle.daos_base.specs.declared.fault.WordFault.{WordFault}
-use Rattle.daos_base.specs.declared.fault.WordKind.TheVariants.{NoValue}
-use Rattle.daos_base.specs.declared.job.Job.{Job}
+use Rattle.base_types.specs.declared.fault.WordFault.{WordFault}
+use Rattle.base_types.specs.declared.fault.WordKind.TheVariants.{NoValue}
+use Rattle.base_types.specs.declared.job.Job.{Job}
 use Rattle.daos_words.specs.Words.{job_of}
 
 -- a number lies in a range

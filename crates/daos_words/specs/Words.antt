@@ -2,13 +2,13 @@
 -- words before it gave; places are counted from 0.
 use Rattle.std.specs.Prelude.{ℕ, ◌+◌, Bool, true, false, ◌&&◌, ◌==◌, is_some, List, length, take, drop, position, codes, slice_index, Option, Some, None, Result, Ok, Err, if◌then◌else◌, unwrap_or}
 use Rattle.std.specs.Str.{bytes_eq}
-use Rattle.daos_base.specs.declared.fault.WordFault.{WordFault}
-use Rattle.daos_base.specs.declared.fault.WordKind.{WordKind}
-use Rattle.daos_base.specs.declared.fault.WordKind.TheVariants.{BadJob, BadCount, ExtraWord, UnknownOption, Twice, Clash, NoValue, BadValue, NoJob, NoCount}
-use Rattle.daos_base.specs.declared.job.Job.{Job}
-use Rattle.daos_text.specs.Number.{number_in}
-use Rattle.daos_text.specs.Results.{◌>>=◌}
-use Rattle.daos_text.specs.Steps.{steps}
+use Rattle.base_types.specs.declared.fault.WordFault.{WordFault}
+use Rattle.base_types.specs.declared.fault.WordKind.{WordKind}
+use Rattle.base_types.specs.declared.fault.WordKind.TheVariants.{BadJob, BadCount, ExtraWord, UnknownOption, Twice, Clash, NoValue, BadValue, NoJob, NoCount}
+use Rattle.base_types.specs.declared.job.Job.{Job}
+use Rattle.base_text.specs.Number.{number_in}
+use Rattle.base_text.specs.Results.{◌>>=◌}
+use Rattle.base_text.specs.Steps.{steps}
 use Rattle.daos_words.specs.declared.fault.WordNo.{WordNo}
 use Rattle.daos_words.specs.declared.fault.WordNo.TheVariants.{Fault}
 use Rattle.daos_words.specs.declared.given.Given.{Given}

@@ -1,5 +1,5 @@
 // Why words are no job.
-use daos_base::fault::WordFault;
+use base_types::fault::WordFault;
 use thiserror::Error;
 
 /// Why words are no job: the first fault in them, or want of memory.

@@ -1,12 +1,12 @@
 // What the words gave so far, and what one more word gives.
 ghost use Rattle.std.specs.Prelude.{◌≡◌, ◌≤◌, ◌<◌, ◌==◌, length, position, ok_or, IfOk, IfSome, Err};
 ghost use Rattle.std.specs.Option.{option_copied};
-ghost use Rattle.daos_text.specs.Number.{number_in};
+ghost use Rattle.base_text.specs.Number.{number_in};
 ghost use Rattle.daos_words.specs.Words.{ended, holds, is_order, setting_named, with_name, with_option, with_plain, with_threads, with_value, with_word};
 
-use daos_base::fault::{WordFault, WordKind};
-use daos_base::job::Job;
-use daos_text::number::number_in;
+use base_types::fault::{WordFault, WordKind};
+use base_types::job::Job;
+use base_text::number::number_in;
 
 /// The first word that is no option.
 #[derive(Clone, Copy)]

@@ -5,8 +5,8 @@ ghost use Rattle.daos_words.specs.Laws.{WordsLaw};
 
 use crate::fault::WordNo;
 use crate::given::Given;
-use daos_base::fault::WordFault;
-use daos_base::job::Job;
+use base_types::fault::WordFault;
+use base_types::job::Job;
 use std::alloc::Global;
 
 // The job of the words, or the first fault in them.

@@ -1,8 +1,8 @@
 -- What holds of every step of a member.
 use Rattle.std.specs.Prelude.{◌≡◌, Bool, true, false, not, filter, map, All, List, [], ◌∷◌, if◌then◌else◌, refl}
 use Rattle.std.proofs.lemmas.List.Elements.{filter_passes}
-use Rattle.daos_base.specs.declared.id.AttemptId.{AttemptId}
-use Rattle.daos_messages.specs.declared.message.Message.{Message}
+use Rattle.base_types.specs.declared.id.AttemptId.{AttemptId}
+use Rattle.base_messages.specs.declared.message.Message.{Message}
 use Rattle.dtx_base.specs.declared.member.Parked.{Parked}
 use Rattle.dtx_base.specs.Joining.{MemberOf, all_unresolved_told, is_not_waiting, is_parked_elsewhere, is_parked_on, is_waiting, parked_ask, resolved, unresolved}
 

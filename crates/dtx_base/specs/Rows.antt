@@ -1,7 +1,7 @@
 -- Rows, each of an attempt, in the order of attempts.
 use Rattle.std.specs.Prelude.{ℕ, Bool, ◌==◌, not, find, filter, length, List, Option}
 use Rattle.std.specs.List.{list_any}
-use Rattle.daos_base.specs.declared.id.AttemptId.{AttemptId}
+use Rattle.base_types.specs.declared.id.AttemptId.{AttemptId}
 use Rattle.daos_model.specs.Durables.{attempt_key, same_attempt}
 use Rattle.daos_model.specs.Ordered.{put}
 

@@ -1,22 +1,22 @@
 // What members answer.
 ghost use Rattle.std.specs.Prelude.{◌≡◌, ◌<◌, IfOk, OnErr, OnOk, map};
 ghost use Rattle.dtx_base.specs.Leading.{ack_heard, answered, counted_at, ok_heard, refusal_heard};
-ghost use Rattle.dtx_posts.specs.Seats.{came, leader_of};
+ghost use Rattle.dtx_table.specs.Seats.{came, leader_of};
 
 use crate::leader::Leader;
-use daos_base::entry::Entry;
-use daos_base::epoch::TargetId;
-use daos_base::id::AttemptId;
-use daos_base::items::Memory;
-use daos_base::outcome::Outcome;
-use daos_messages::message::Posts;
+use base_types::entry::Entry;
+use base_types::epoch::TargetId;
+use base_types::id::AttemptId;
+use base_types::items::Memory;
+use base_types::outcome::Outcome;
+use base_messages::message::Posts;
 use daos_model::durable::is_same_attempt;
 use dtx_base::leading::Undecided;
-use dtx_marks::marks::{names_to, unanswered};
-use dtx_posts::bits::{are_all_counted, is_other_number, other_members, with_target};
-use dtx_posts::led::find_led;
-use dtx_posts::posts::{ended, none, push_aborts};
-use dtx_posts::seat::Seat;
+use dtx_table::marks::{names_to, unanswered};
+use dtx_table::bits::{are_all_counted, is_other_number, other_members, with_target};
+use dtx_table::led::find_led;
+use dtx_table::posts::{ended, none, push_aborts};
+use dtx_table::seat::Seat;
 use dtx_table::rows::{find, put, remove};
 
 // One more member of an attempt counts as Ok.

@@ -2,11 +2,11 @@
 ghost use Rattle.std.specs.Prelude.{◌≡◌, filter, map, IfOk};
 ghost use Rattle.dtx_base.specs.Leading.{entry_attempt, is_open, is_open_alone, reopened_undecided};
 
-use daos_base::entry::Entry;
-use daos_base::id::AttemptId;
-use daos_base::items::Memory;
+use base_types::entry::Entry;
+use base_types::id::AttemptId;
+use base_types::items::Memory;
 use dtx_base::leading::Undecided;
-use dtx_posts::bits::other_members;
+use dtx_table::bits::other_members;
 use std::alloc::Global;
 
 // Whether an entry isn't committed, and there are others to ask.

@@ -1,22 +1,22 @@
 // Resets: messages that got no answer, since the target stopped or is down.
 ghost use Rattle.std.specs.Prelude.{◌≡◌, ◌<◌, IfOk, OnErr, map};
 ghost use Rattle.dtx_base.specs.Leading.{down_told, entry_led, mark_reset, prepare_reset, reset_heard, reset_of, status_asked, undecided_of, unwaited_at};
-ghost use Rattle.dtx_posts.specs.Seats.{came, leader_of};
+ghost use Rattle.dtx_table.specs.Seats.{came, leader_of};
 
 use crate::leader::Leader;
-use daos_base::entry::Entry;
-use daos_base::epoch::TargetId;
-use daos_base::id::AttemptId;
-use daos_base::items::Memory;
-use daos_base::outcome::Outcome;
-use daos_messages::message::{Marks, Message, Posts};
+use base_types::entry::Entry;
+use base_types::epoch::TargetId;
+use base_types::id::AttemptId;
+use base_types::items::Memory;
+use base_types::outcome::Outcome;
+use base_messages::message::{Marks, Message, Posts};
 use daos_model::durable::is_same_attempt;
 use dtx_base::leading::Undecided;
-use dtx_marks::marks::{attempts_of, name, unanswered};
-use dtx_posts::bits::with_target;
-use dtx_posts::led::find_led;
-use dtx_posts::posts::{ended, none, one, to_target};
-use dtx_posts::seat::Seat;
+use dtx_table::marks::{attempts_of, name, unanswered};
+use dtx_table::bits::with_target;
+use dtx_table::led::find_led;
+use dtx_table::posts::{ended, none, one, to_target};
+use dtx_table::seat::Seat;
 use dtx_table::rows::find;
 
 // No client waits any more for the end of an attempt.

@@ -2,19 +2,19 @@
 ghost use Rattle.std.specs.Prelude.{◌≡◌, [], IfOk, OnErr};
 ghost use Rattle.dtx_base.specs.Leading.{batched, first_down, forgotten, is_batch_due, query_answer, undecided_attempt};
 ghost use Rattle.dtx_base.specs.Rows.{itself, row_of, without_row};
-ghost use Rattle.dtx_posts.specs.Seats.{came, leader_of};
+ghost use Rattle.dtx_table.specs.Seats.{came, leader_of};
 
 use crate::leader::Leader;
-use daos_base::entry::{Entry, Verdict};
-use daos_base::epoch::TargetId;
-use daos_base::id::AttemptId;
-use daos_base::items::Memory;
-use daos_messages::message::Posts;
+use base_types::entry::{Entry, Verdict};
+use base_types::epoch::TargetId;
+use base_types::id::AttemptId;
+use base_types::items::Memory;
+use base_messages::message::Posts;
 use dtx_base::leading::Undecided;
-use dtx_marks::batch::{batch_of, is_due};
-use dtx_posts::bits::first_down;
-use dtx_posts::led::{find_led, led_by};
-use dtx_posts::seat::Seat;
+use dtx_table::batch::{batch_of, is_due};
+use dtx_table::bits::first_down;
+use dtx_table::led::{find_led, led_by};
+use dtx_table::seat::Seat;
 use dtx_table::rows::{find, is_among, remove};
 
 impl Leader {

@@ -1,16 +1,16 @@
 // Entries by attempt.
 ghost use Rattle.std.specs.Prelude.{◌≡◌, ◌<◌, [], true, map, OnErr, OnOk, IfOk};
-ghost use Rattle.daos_base.specs.declared.entry.Entry.{Entry};
+ghost use Rattle.base_types.specs.declared.entry.Entry.{Entry};
 ghost use Rattle.daos_model.specs.Changes.{committed_at, confirmed_at};
 ghost use Rattle.daos_model.specs.Durables.{entry_key};
 ghost use Rattle.daos_model.specs.Ordered.{is_rising, put};
 ghost use Rattle.dtx_table.specs.Tables.{IsStep, entry_in, entries_settled};
 
 use crate::rows::{find, put, remove};
-use daos_base::entry::{Entry, Settle};
-use daos_base::epoch::TargetId;
-use daos_base::id::AttemptId;
-use daos_base::items::Memory;
+use base_types::entry::{Entry, Settle};
+use base_types::epoch::TargetId;
+use base_types::id::AttemptId;
+use base_types::items::Memory;
 use daos_model::durable::is_same_attempt;
 use std::alloc::Global;
 use std::marker::Model;
@@ -23,7 +23,7 @@ pub struct Table {
 
 impl Model for Table {
     ghost use Rattle.std.specs.Prelude.{List};
-    ghost use Rattle.daos_base.specs.declared.entry.Entry.{Entry};
+    ghost use Rattle.base_types.specs.declared.entry.Entry.{Entry};
 
     ghost Value = { List Entry };
 

@@ -1,6 +1,6 @@
 -- The lease is extended where it doesn't cover an epoch, and then the turn goes on.
 use Rattle.std.proofs.Common.{ℕ, ◌≡◌, ◌≤◌, ◌<◌, ◌+◌, refl, sym, ◌∙◌, ap, subst, Bool, true, Option, Some, None, arith}
-use Rattle.daos_base.specs.Epochs.{lease_for}
+use Rattle.base_types.specs.Epochs.{lease_for}
 use Rattle.daos_model.specs.declared.durable.Durable.{Durable}
 use Rattle.daos_model.specs.Changes.{leased}
 use Rattle.world_base.specs.Changes.{Change, Extends, Kept, Steps}

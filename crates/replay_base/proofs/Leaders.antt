@@ -2,11 +2,11 @@
 use Rattle.std.proofs.Common.{ℕ, ◌≡◌, refl, sym, ◌∙◌, ap, subst, Bool, true, false, Option, Some, None, List, [], ◌∷◌, Contains}
 use Rattle.std.specs.Prelude.{filter, is_none, if◌then◌else◌}
 use Rattle.std.specs.List.{list_all}
-use Rattle.daos_base.specs.declared.entry.Settle.TheVariants.{Abort, Commit}
-use Rattle.daos_base.specs.declared.id.AttemptId.{AttemptId}
+use Rattle.base_types.specs.declared.entry.Settle.TheVariants.{Abort, Commit}
+use Rattle.base_types.specs.declared.id.AttemptId.{AttemptId}
 use Rattle.daos_model.specs.declared.durable.Durable.{Durable}
-use Rattle.daos_laws.specs.Members.{has-from_contains}
-use Rattle.daos_laws.specs.ServeLaws.{all-has}
+use Rattle.model_laws.specs.Members.{has-from_contains}
+use Rattle.model_laws.specs.ServeLaws.{all-has}
 use Rattle.daos_model.specs.BoolLaws.{and_left, and_right, both, clash}
 use Rattle.daos_model.specs.EntryLaws.{same_attempt-itself}
 use Rattle.dtx_base.specs.LeaderLaws.{same-is}

@@ -1,7 +1,7 @@
 -- Which epochs a clock can issue, whatever it reads.
 use Rattle.std.specs.Prelude.{ℕ, ◌≡◌, ◌+◌, ◌/◌, max, Option, Some}
 use Rattle.std.specs.Option.{option_map}
-use Rattle.daos_base.specs.declared.epoch.Epoch.{Epoch}
+use Rattle.base_types.specs.declared.epoch.Epoch.{Epoch}
 use Rattle.daos_hlc.specs.Clock.{next_ticks, within_last}
 use Rattle.world_base.specs.Requests.{epoch_of_ticks}
 

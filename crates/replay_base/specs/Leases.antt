@@ -1,6 +1,6 @@
 -- What a target keeps once its lease covers an epoch.
 use Rattle.std.specs.Prelude.{ℕ, ◌≡◌, ◌≤◌, ◌<◌, Bool, true, Option, Some, None}
-use Rattle.daos_base.specs.Epochs.{lease_for}
+use Rattle.base_types.specs.Epochs.{lease_for}
 use Rattle.daos_model.specs.declared.durable.Durable.{Durable}
 use Rattle.daos_model.specs.Changes.{leased}
 use Rattle.replay_base.specs.declared.leases.Covered.{Covered}

@@ -1,7 +1,7 @@
 -- The epoch of a request, as it is told of a turn.
 use Rattle.std.specs.Prelude.{ℕ, ◌≡◌, ◌⊎◌, Option, Some, None}
-use Rattle.daos_base.specs.declared.epoch.Epoch.{Epoch}
-use Rattle.daos_base.specs.declared.id.AttemptId.{AttemptId}
+use Rattle.base_types.specs.declared.epoch.Epoch.{Epoch}
+use Rattle.base_types.specs.declared.id.AttemptId.{AttemptId}
 use Rattle.world_base.specs.declared.did.Did.{Did}
 use Rattle.world_base.specs.declared.target.TargetMemory.{TargetMemory}
 use Rattle.world_base.specs.Changes.{Kept}

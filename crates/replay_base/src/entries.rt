@@ -4,8 +4,8 @@ ghost use Rattle.std.specs.List.{list_all};
 ghost use Rattle.replay_base.specs.Heard.{is_led_here};
 ghost use Rattle.world_base.specs.Roles.{is_prepared, other_leader};
 
-use daos_base::epoch::TargetId;
-use daos_base::id::AttemptId;
+use base_types::epoch::TargetId;
+use base_types::id::AttemptId;
 use daos_model::durable::Durable;
 use dtx_table::rows::find;
 use world_base::target::TargetPlan;

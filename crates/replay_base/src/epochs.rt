@@ -5,8 +5,8 @@ ghost use Rattle.world_base.specs.Events.{epoch_of_issue};
 ghost use Rattle.replay_base.specs.Requested.{AsksAt, TellsEpoch};
 ghost use Rattle.world_base.specs.Requests.{request_epoch};
 
-use daos_base::epoch::{Epoch, TargetId};
-use daos_base::id::AttemptId;
+use base_types::epoch::{Epoch, TargetId};
+use base_types::id::AttemptId;
 use daos_hlc::clock::{LAST_TICKS, READING_MAX};
 use world_base::did::Did;
 use world_base::target::{TargetMemory, TargetPlan};

@@ -1,11 +1,11 @@
 // What a target keeps, again, and with an attempt settled.
 ghost use Rattle.std.specs.Prelude.{◌≡◌, ◌<◌, IfOk};
-ghost use Rattle.daos_base.specs.declared.entry.Settle.TheVariants.{Abort, Commit, Confirm};
+ghost use Rattle.base_types.specs.declared.entry.Settle.TheVariants.{Abort, Commit, Confirm};
 ghost use Rattle.daos_model.specs.Changes.{settled};
 
-use daos_base::epoch::TargetId;
-use daos_base::id::AttemptId;
-use daos_base::items::{Items, Memory};
+use base_types::epoch::TargetId;
+use base_types::id::AttemptId;
+use base_types::items::{Items, Memory};
 use daos_model::durable::Durable;
 use std::alloc::Global;
 use vos_plain::rows::settle_all;

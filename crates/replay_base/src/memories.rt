@@ -1,8 +1,8 @@
 // What a target knows, again.
 ghost use Rattle.std.specs.Prelude.{◌≡◌, IfOk};
 
-use daos_base::items::{Items, Memory};
-use daos_base::shown::Shown;
+use base_types::items::{Items, Memory};
+use base_types::shown::Shown;
 use dtx_base::leading::LeaderMemory;
 use dtx_base::member::{MemberMemory, Parked};
 use std::alloc::Global;

@@ -3,9 +3,9 @@ ghost use Rattle.std.specs.Prelude.{◌≡◌};
 ghost use Rattle.dtx_base.specs.Leading.{forgotten};
 ghost use Rattle.world_base.specs.Roles.{told_by, told_of, told_of_all};
 
-use daos_base::entry::Verdict;
-use daos_base::id::AttemptId;
-use daos_base::items::Items;
+use base_types::entry::Verdict;
+use base_types::id::AttemptId;
+use base_types::items::Items;
 use dtx_base::leading::LeaderMemory;
 use dtx_table::rows::remove;
 use world_base::target::TargetMemory;

@@ -1,14 +1,14 @@
 -- What a target keeps and knows, step by step.
 use Rattle.std.specs.Prelude.{ℕ, Bool, true, find, filter, List, [], ◌∷◌, Option, if◌then◌else◌}
-use Rattle.daos_base.specs.declared.entry.Entry.{Entry}
-use Rattle.daos_base.specs.declared.entry.Settle.TheVariants.{Commit, Confirm}
-use Rattle.daos_base.specs.declared.id.AttemptId.{AttemptId}
-use Rattle.daos_messages.specs.declared.message.Post.{Post}
+use Rattle.base_types.specs.declared.entry.Entry.{Entry}
+use Rattle.base_types.specs.declared.entry.Settle.TheVariants.{Commit, Confirm}
+use Rattle.base_types.specs.declared.id.AttemptId.{AttemptId}
+use Rattle.base_messages.specs.declared.message.Post.{Post}
 use Rattle.daos_model.specs.declared.durable.Durable.{Durable}
 use Rattle.daos_model.specs.Changes.{settled}
 use Rattle.daos_model.specs.Durables.{is_entry_of}
 use Rattle.dtx_base.specs.Leading.{LeaderStep, answered, is_led, may_confirm}
-use Rattle.dtx_posts.specs.declared.seat.Seat.{Seat}
+use Rattle.dtx_table.specs.declared.seat.Seat.{Seat}
 use Rattle.world_base.specs.declared.target.TargetMemory.{TargetMemory}
 use Rattle.world_base.specs.declared.target.TargetPlan.{TargetPlan}
 use Rattle.world_base.specs.Marks.{marked_step}

@@ -1,7 +1,7 @@
 // A leader hears an Ack.
 ghost use Rattle.std.specs.Prelude.{◌≡◌, Some, None, IfOk, if◌then◌else◌};
-ghost use Rattle.daos_base.specs.declared.entry.Settle.TheVariants.{Abort};
-ghost use Rattle.daos_messages.specs.declared.message.Message.TheVariants as message;
+ghost use Rattle.base_types.specs.declared.entry.Settle.TheVariants.{Abort};
+ghost use Rattle.base_messages.specs.declared.message.Message.TheVariants as message;
 ghost use Rattle.daos_model.specs.Changes.{settled};
 ghost use Rattle.dtx_base.specs.Leading.{ack_heard};
 ghost use Rattle.replay_base.specs.Leaving.{HearsAs};
@@ -10,15 +10,15 @@ ghost use Rattle.world_base.specs.Acks as ack;
 ghost use Rattle.world_base.specs.Roles.{leader_at};
 
 use crate::seats::seat_at;
-use daos_base::id::AttemptId;
-use daos_base::items::Memory;
-use daos_base::outcome::Outcome;
-use daos_messages::actor::ActorId;
-use daos_messages::message::Posts;
+use base_types::id::AttemptId;
+use base_types::items::Memory;
+use base_types::outcome::Outcome;
+use base_messages::actor::ActorId;
+use base_messages::message::Posts;
 use daos_model::durable::Durable;
 use dtx_leader::leader::Leader;
-use dtx_posts::bits::is_other_number;
-use dtx_posts::led::find_led;
+use dtx_table::bits::is_other_number;
+use dtx_table::led::find_led;
 use dtx_table::rows::find;
 use replay_base::kept::{aborted, copy_kept};
 use replay_base::memories::copy_memory;

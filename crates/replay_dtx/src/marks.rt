@@ -1,19 +1,19 @@
 // A target hears a Mark, and a leader a Marked.
 ghost use Rattle.std.specs.Prelude.{◌≡◌, false, Some, IfOk};
-ghost use Rattle.daos_messages.specs.declared.message.Message.TheVariants as message;
+ghost use Rattle.base_messages.specs.declared.message.Message.TheVariants as message;
 ghost use Rattle.dtx_base.specs.Leading.{attempts_of};
 ghost use Rattle.replay_base.specs.Leaving.{HearsAs};
 ghost use Rattle.replay_dtx.specs.Dtx.{all_confirmed, all_marked, answered_memory, confirmed_one, marked_one};
 ghost use Rattle.world_base.specs.Acks.{to_confirm};
 
-use daos_base::epoch::TargetId;
-use daos_base::id::AttemptId;
-use daos_base::items::{Items, Memory};
-use daos_messages::actor::ActorId;
-use daos_messages::message::{AttemptIds, Message};
+use base_types::epoch::TargetId;
+use base_types::id::AttemptId;
+use base_types::items::{Items, Memory};
+use base_messages::actor::ActorId;
+use base_messages::message::{AttemptIds, Message};
 use dtx_leader::leader::Leader;
-use dtx_posts::bits::has_number;
-use dtx_posts::led::find_led;
+use dtx_table::bits::has_number;
+use dtx_table::led::find_led;
 use replay_base::entries::is_prepared;
 use replay_base::kept::{aborted, committed, confirmed, copy_kept};
 use replay_base::leases::Covered;

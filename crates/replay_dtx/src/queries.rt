@@ -1,15 +1,15 @@
 // A leader hears a Query.
 ghost use Rattle.std.specs.Prelude.{◌≡◌, Some, IfOk};
-ghost use Rattle.daos_messages.specs.declared.message.Message.TheVariants as message;
+ghost use Rattle.base_messages.specs.declared.message.Message.TheVariants as message;
 ghost use Rattle.replay_base.specs.Leaving.{HearsAs};
 ghost use Rattle.world_base.specs.Verdicts.{verdict_message};
 
 use crate::marks::start_of;
 use crate::seats::seat_at;
-use daos_base::id::AttemptId;
-use daos_base::items::Memory;
-use daos_messages::actor::ActorId;
-use daos_messages::message::Message;
+use base_types::id::AttemptId;
+use base_types::items::Memory;
+use base_messages::actor::ActorId;
+use base_messages::message::Message;
 use dtx_leader::leader::Leader;
 use replay_base::leases::Covered;
 use replay_base::memories::copy_memory;

@@ -3,7 +3,7 @@ ghost use Rattle.std.specs.Prelude.{◌≡◌};
 ghost use Rattle.replay_dtx.specs.Dtx.{seat_at};
 
 use daos_model::durable::Durable;
-use dtx_posts::seat::Seat;
+use dtx_table::seat::Seat;
 use world_base::target::TargetPlan;
 
 /// Where a target that keeps this is as a leader.

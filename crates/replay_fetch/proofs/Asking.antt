@@ -2,8 +2,8 @@
 use Rattle.std.proofs.Common.{ℕ, ◌≡◌, ◌/◌, refl, sym, ◌∙◌, ap, subst, Bool, true, false, Option, Some, None, inl, inr}
 use Rattle.std.specs.Prelude.{if◌then◌else◌}
 use Rattle.std.specs.Bool.{Decides}
-use Rattle.daos_base.specs.declared.epoch.Epoch.{Epoch}
-use Rattle.daos_messages.specs.declared.actor.ActorId.{ActorId}
+use Rattle.base_types.specs.declared.epoch.Epoch.{Epoch}
+use Rattle.base_messages.specs.declared.actor.ActorId.{ActorId}
 use Rattle.daos_model.specs.declared.durable.Durable.{Durable}
 use Rattle.daos_model.specs.BoolLaws.{clash}
 use Rattle.world_base.specs.declared.did.Did.{Did}
@@ -25,7 +25,7 @@ use Rattle.replay_base.proofs.Chains.{OneStep, comes_whole, decides_on, silent_i
 use Rattle.replay_base.proofs.Covering.{CoverStep, Covering, Extending, cover_iff, cover_none}
 use Rattle.replay_base.proofs.Starts.{AtOnce, First, Later, first, iff_both}
 use Rattle.replay_fetch.specs.Fetched.{FetchLeaves, FetchesSo, begins_at}
-use Rattle.daos_messages.specs.declared.message.Reply.TheVariants as reply
+use Rattle.base_messages.specs.declared.message.Reply.TheVariants as reply
 use Rattle.replay_fetch.specs.Met.{left_by}
 use Rattle.replay_fetch.specs.declared.meets.Ending.{Ending}
 use Rattle.replay_fetch.specs.declared.meets.Ending.TheVariants as ending

@@ -1,11 +1,11 @@
 -- A read goes on from one decided attempt to the next, and comes to its ending.
 use Rattle.std.proofs.Common.{ℕ, ◌≡◌, refl, sym, ◌∙◌, ap, subst, List, Bool, true, false, Option, Some, None}
 use Rattle.std.specs.Prelude.{filter, if◌then◌else◌}
-use Rattle.daos_base.specs.declared.entry.Settle.TheVariants.{Commit}
-use Rattle.daos_base.specs.declared.epoch.Epoch.{Epoch}
-use Rattle.daos_base.specs.declared.id.AttemptId.{AttemptId}
-use Rattle.daos_messages.specs.declared.actor.ActorId.{ActorId}
-use Rattle.daos_messages.specs.declared.message.Reply.TheVariants as reply
+use Rattle.base_types.specs.declared.entry.Settle.TheVariants.{Commit}
+use Rattle.base_types.specs.declared.epoch.Epoch.{Epoch}
+use Rattle.base_types.specs.declared.id.AttemptId.{AttemptId}
+use Rattle.base_messages.specs.declared.actor.ActorId.{ActorId}
+use Rattle.base_messages.specs.declared.message.Reply.TheVariants as reply
 use Rattle.daos_model.specs.declared.durable.Durable.{Durable}
 use Rattle.daos_model.specs.Changes.{settled}
 use Rattle.world_base.specs.declared.did.Did.{Did}

@@ -1,7 +1,7 @@
 // A target hears a Fetch.
 ghost use Rattle.std.specs.Prelude.{◌≡◌, true, false, None, IfOk, Decides, is_some};
-ghost use Rattle.daos_base.specs.declared.outcome.Outcome.TheVariants as outcome;
-ghost use Rattle.daos_messages.specs.declared.message.Reply.TheVariants as reply;
+ghost use Rattle.base_types.specs.declared.outcome.Outcome.TheVariants as outcome;
+ghost use Rattle.base_messages.specs.declared.message.Reply.TheVariants as reply;
 ghost use Rattle.replay_base.specs.Heard.{CanRead};
 ghost use Rattle.replay_base.specs.Requested.{IsToldEpoch, TellsEpoch};
 ghost use Rattle.replay_fetch.specs.Fetched.{FetchLeaves, FetchesSo, begins_at};
@@ -9,11 +9,11 @@ ghost use Rattle.world_base.specs.Reads.{FetchStage, fetched_message};
 ghost use Rattle.world_base.specs.Requests as asked;
 
 use crate::reads::{Work, read_from};
-use daos_base::epoch::Epoch;
-use daos_base::items::Memory;
-use daos_base::outcome::Outcome;
-use daos_messages::actor::ActorId;
-use daos_messages::message::{Message, Reply};
+use base_types::epoch::Epoch;
+use base_types::items::Memory;
+use base_types::outcome::Outcome;
+use base_messages::actor::ActorId;
+use base_messages::message::{Message, Reply};
 use replay_base::epochs::{asks_at, told_epoch};
 use replay_base::kept::copy_kept;
 use replay_base::leases::cover;

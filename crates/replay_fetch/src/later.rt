@@ -6,11 +6,11 @@ ghost use Rattle.daos_model.specs.Versions.{first_between, is_between};
 ghost use Rattle.vos_store.specs.Answers.{is_past, shown_or_none};
 ghost use Rattle.world_base.specs.Reads.{aggregated_above, later_of, uncertain_to};
 
-use daos_base::epoch::Epoch;
-use daos_base::id::ContId;
-use daos_base::items::Memory;
-use daos_base::path::Path;
-use daos_base::shown::Shown;
+use base_types::epoch::Epoch;
+use base_types::id::ContId;
+use base_types::items::Memory;
+use base_types::path::Path;
+use base_types::shown::Shown;
 use daos_model::durable::{ContRow, Durable, Version};
 use vos_plain::tables::{has_snap, new_row, row_of};
 use world_base::target::TargetPlan;

@@ -1,20 +1,20 @@
 // What a read meets in what a target keeps.
 ghost use Rattle.std.specs.Prelude.{◌≡◌, Contains, Decides, IfOk};
-ghost use Rattle.daos_base.specs.declared.outcome.Outcome.TheVariants as outcome;
-ghost use Rattle.daos_base.specs.Operations.{read_path};
-ghost use Rattle.daos_messages.specs.declared.message.Reply.TheVariants as reply;
+ghost use Rattle.base_types.specs.declared.outcome.Outcome.TheVariants as outcome;
+ghost use Rattle.base_types.specs.Operations.{read_path};
+ghost use Rattle.base_messages.specs.declared.message.Reply.TheVariants as reply;
 ghost use Rattle.replay_base.specs.Heard.{CanRead};
 ghost use Rattle.replay_fetch.specs.declared.meets.Ending.TheVariants as ending;
 ghost use Rattle.world_base.specs.Reads.{fetch_cause, later_of, later_unless};
 ghost use Rattle.replay_fetch.specs.Met.{IsMet, MeetsAttempt};
 
 use crate::later::{aggregated_above, is_past, later_of};
-use daos_base::epoch::{Epoch, TargetId};
-use daos_base::id::AttemptId;
-use daos_base::items::Memory;
-use daos_base::outcome::{Cause, Outcome};
-use daos_base::shown::Shown;
-use daos_messages::message::Reply;
+use base_types::epoch::{Epoch, TargetId};
+use base_types::id::AttemptId;
+use base_types::items::Memory;
+use base_types::outcome::{Cause, Outcome};
+use base_types::shown::Shown;
+use base_messages::message::Reply;
 use daos_model::durable::Durable;
 use replay_base::entries::other_leader;
 use std::alloc::Global;

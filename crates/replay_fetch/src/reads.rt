@@ -1,6 +1,6 @@
 // A read, made again from where its epoch is covered.
 ghost use Rattle.std.specs.Prelude.{◌≡◌, IfOk};
-ghost use Rattle.daos_base.specs.Operations.{read_path};
+ghost use Rattle.base_types.specs.Operations.{read_path};
 ghost use Rattle.replay_base.specs.Heard.{CanRead};
 ghost use Rattle.replay_fetch.specs.Fetched.{FetchLeaves};
 ghost use Rattle.replay_fetch.specs.Met.{HasRead, IsSettled, left_by};
@@ -10,12 +10,12 @@ ghost use Rattle.world_base.specs.Reads as fetch;
 ghost use Rattle.world_base.specs.Reads.{FetchStage};
 
 use crate::meets::{Ending, Met, meet};
-use daos_base::epoch::{Epoch, TargetId};
-use daos_base::id::AttemptId;
-use daos_base::items::{Items, Memory};
-use daos_base::shown::Shown;
-use daos_messages::actor::ActorId;
-use daos_messages::message::{Message, Reply};
+use base_types::epoch::{Epoch, TargetId};
+use base_types::id::AttemptId;
+use base_types::items::{Items, Memory};
+use base_types::shown::Shown;
+use base_messages::actor::ActorId;
+use base_messages::message::{Message, Reply};
 use daos_model::durable::Durable;
 use dtx_base::leading::LeaderMemory;
 use dtx_member::member::Member;

@@ -1,15 +1,15 @@
 // A target hears a Verdict.
 ghost use Rattle.std.specs.Prelude.{◌≡◌, IfOk};
-ghost use Rattle.daos_messages.specs.declared.message.Message.TheVariants as message;
+ghost use Rattle.base_messages.specs.declared.message.Message.TheVariants as message;
 ghost use Rattle.replay_base.specs.Heard.{CanTryAgain};
 ghost use Rattle.replay_base.specs.Leaving.{HearsAs};
 ghost use Rattle.replay_verdict.specs.Tried.{heard_by, left_by, settled_by};
 
 use crate::again::{Trial, try_all};
-use daos_base::entry::Verdict;
-use daos_base::id::AttemptId;
-use daos_base::items::Memory;
-use daos_messages::actor::ActorId;
+use base_types::entry::Verdict;
+use base_types::id::AttemptId;
+use base_types::items::Memory;
+use base_messages::actor::ActorId;
 use daos_model::durable::Durable;
 use dtx_base::member::Freed;
 use dtx_member::member::Member;

@@ -1,8 +1,8 @@
 -- What a Commit stores, and what is known and follows then.
 use Rattle.std.specs.Prelude.{ℕ, []}
-use Rattle.daos_base.specs.declared.entry.Entry.{Entry}
-use Rattle.daos_base.specs.declared.epoch.Epoch.{Epoch}
-use Rattle.daos_messages.specs.declared.actor.ActorId.{ActorId}
+use Rattle.base_types.specs.declared.entry.Entry.{Entry}
+use Rattle.base_types.specs.declared.epoch.Epoch.{Epoch}
+use Rattle.base_messages.specs.declared.actor.ActorId.{ActorId}
 use Rattle.dtx_base.specs.declared.leading.LeaderMemory.{LeaderMemory}
 use Rattle.dtx_base.specs.Leading.{LeaderOf, LeaderStep, begun}
 use Rattle.replay_writes.specs.declared.ways.Storing.{Storing}

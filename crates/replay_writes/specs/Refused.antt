@@ -1,10 +1,10 @@
 -- Why writes are refused that are above their floors.
 use Rattle.std.specs.Prelude.{◌≡◌, List, Option, Some}
-use Rattle.daos_base.specs.declared.epoch.Epoch.{Epoch}
-use Rattle.daos_base.specs.declared.operation.MinorWrite.{MinorWrite}
-use Rattle.daos_base.specs.declared.outcome.Cause.{Cause}
-use Rattle.daos_base.specs.declared.outcome.Cause.TheVariants.{ReadLater, WriteLater, Unresolved, Floor}
-use Rattle.daos_base.specs.declared.shown.Shown.{Shown}
+use Rattle.base_types.specs.declared.epoch.Epoch.{Epoch}
+use Rattle.base_types.specs.declared.operation.MinorWrite.{MinorWrite}
+use Rattle.base_types.specs.declared.outcome.Cause.{Cause}
+use Rattle.base_types.specs.declared.outcome.Cause.TheVariants.{ReadLater, WriteLater, Unresolved, Floor}
+use Rattle.base_types.specs.declared.shown.Shown.{Shown}
 use Rattle.daos_model.specs.declared.durable.Durable.{Durable}
 use Rattle.world_base.specs.declared.target.TargetPlan.{TargetPlan}
 use Rattle.world_base.specs.Commits.{FirstRead, NoReads, first_later}

@@ -1,18 +1,18 @@
 // Whether writes are refused, or allowed.
 ghost use Rattle.std.specs.Prelude.{◌≡◌, Some, IfOk, Decides};
-ghost use Rattle.daos_base.specs.declared.outcome.Cause.TheVariants.{Floor};
+ghost use Rattle.base_types.specs.declared.outcome.Cause.TheVariants.{Floor};
 ghost use Rattle.vos_store.specs.Answers.{floor_of};
 ghost use Rattle.replay_writes.specs.Refused.{IsRefusedAbove};
 ghost use Rattle.world_base.specs.Commits.{FirstRead, IsAllowed, IsRefusedBy, NoReads, first_floor, first_later};
 
 use crate::reads::{is_first_read, no_reads};
-use daos_base::epoch::{Epoch, TargetId};
-use daos_base::id::{AttemptId, ContId};
-use daos_base::items::Memory;
-use daos_base::operation::MinorWrite;
-use daos_base::outcome::{Cause, FloorWhy};
-use daos_base::path::Path;
-use daos_base::shown::Shown;
+use base_types::epoch::{Epoch, TargetId};
+use base_types::id::{AttemptId, ContId};
+use base_types::items::Memory;
+use base_types::operation::MinorWrite;
+use base_types::outcome::{Cause, FloorWhy};
+use base_types::path::Path;
+use base_types::shown::Shown;
 use daos_model::durable::Durable;
 use replay_fetch::later::{later_of, row};
 use world_base::target::TargetPlan;

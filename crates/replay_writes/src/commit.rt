@@ -1,7 +1,7 @@
 // A target hears a Commit.
 ghost use Rattle.std.specs.Prelude.{◌≡◌, false, ℕ, None, IfOk, Decides};
-ghost use Rattle.daos_base.specs.declared.outcome.Outcome.TheVariants as outcome;
-ghost use Rattle.daos_messages.specs.declared.message.Message.TheVariants as message;
+ghost use Rattle.base_types.specs.declared.outcome.Outcome.TheVariants as outcome;
+ghost use Rattle.base_messages.specs.declared.message.Message.TheVariants as message;
 ghost use Rattle.replay_base.specs.Heard.{CanCommit};
 ghost use Rattle.replay_base.specs.Onward.{Onward, keeps};
 ghost use Rattle.replay_base.specs.Requested.{IsToldEpoch, TellsEpoch};
@@ -11,16 +11,16 @@ ghost use Rattle.world_base.specs.Commits.{CommitEnds, CommitNext, CommitStage, 
 ghost use Rattle.world_base.specs.Requests as asked;
 
 use crate::ways::{Storing, Tells, ends_so, with_ticks};
-use daos_base::entry::Entry;
-use daos_base::epoch::Epoch;
-use daos_base::items::Memory;
-use daos_base::operation::{MinorWrite, MinorWrites};
-use daos_base::outcome::Outcome;
-use daos_messages::actor::ActorId;
-use daos_messages::message::Message;
+use base_types::entry::Entry;
+use base_types::epoch::Epoch;
+use base_types::items::Memory;
+use base_types::operation::{MinorWrite, MinorWrites};
+use base_types::outcome::Outcome;
+use base_messages::actor::ActorId;
+use base_messages::message::Message;
 use dtx_leader::leader::Leader;
-use dtx_posts::seat::Seat;
-use dtx_posts::written::writes_at;
+use dtx_table::seat::Seat;
+use dtx_table::written::writes_at;
 use replay_base::epochs::{asks_at, told_epoch};
 use replay_base::kept::copy_kept;
 use replay_base::leases::{Covered, cover};

@@ -5,8 +5,8 @@ ghost use Rattle.daos_model.specs.Forms.{AreWritesInForm, ends_at_akey, ends_at_
 ghost use Rattle.replay_base.specs.Heard.{CanCommit};
 ghost use Rattle.replay_writes.specs.Committed.{FitsIn, IsOne};
 
-use daos_base::operation::{MinorWrite, Write};
-use daos_base::path::Path;
+use base_types::operation::{MinorWrite, Write};
+use base_types::path::Path;
 use daos_class::class::Placed;
 use world_base::target::TargetPlan;
 

@@ -7,9 +7,9 @@ ghost use Rattle.world_base.specs.Prepares as prepare;
 ghost use Rattle.world_base.specs.Requests as asked;
 
 use crate::ways::{Storing, Tells, ends_so, with_ticks};
-use daos_base::items::Memory;
-use daos_messages::message::Message;
-use dtx_posts::posts::{one, to_target};
+use base_types::items::Memory;
+use base_messages::message::Message;
+use dtx_table::posts::{one, to_target};
 use replay_base::kept::copy_kept;
 use replay_base::leases::cover;
 use replay_base::told::sends;

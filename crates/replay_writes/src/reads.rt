@@ -4,10 +4,10 @@ ghost use Rattle.std.specs.List.{list_any};
 ghost use Rattle.vos_stamp.specs.Stamps.{IsShown, NoneAgainst, stands_against};
 ghost use Rattle.world_base.specs.Commits.{FirstRead, NoReads};
 
-use daos_base::epoch::Epoch;
-use daos_base::operation::MinorWrite;
-use daos_base::path::Path;
-use daos_base::shown::Shown;
+use base_types::epoch::Epoch;
+use base_types::operation::MinorWrite;
+use base_types::path::Path;
+use base_types::shown::Shown;
 use world_same::same::Same;
 
 // Whether a read stands against a write on a path at an epoch.

@@ -5,9 +5,9 @@ ghost use Rattle.daos_model.specs.Durables.{version_key};
 ghost use Rattle.daos_model.specs.Forms.{AreWritesInForm};
 ghost use Rattle.daos_model.specs.Ordered.{puts};
 
-use daos_base::entry::Entry;
-use daos_base::items::{Items, Memory};
-use daos_base::operation::MinorWrite;
+use base_types::entry::Entry;
+use base_types::items::{Items, Memory};
+use base_types::operation::MinorWrite;
 use daos_model::durable::{Durable, Version};
 use std::alloc::Global;
 use vos_plain::keyed::put_in;

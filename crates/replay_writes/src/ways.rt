@@ -2,7 +2,7 @@
 // ways, by the outcome that is told.
 ghost use Rattle.std.specs.Prelude.{◌≡◌, ◌&&◌, Some, IfOk, Decides};
 ghost use Rattle.std.specs.Option.{option_copied};
-ghost use Rattle.daos_base.specs.declared.outcome.Outcome.TheVariants as outcome;
+ghost use Rattle.base_types.specs.declared.outcome.Outcome.TheVariants as outcome;
 ghost use Rattle.daos_model.specs.Forms.{AreWritesInForm};
 ghost use Rattle.replay_base.specs.Onward.{FreeAfter};
 ghost use Rattle.replay_writes.specs.Ways.{EndsAs, LacksSpaceSo, RefusesSo, StoresFree, StoresSo, ended_of, is_no_space, outcome_of, refusal_told, restart_of};
@@ -13,17 +13,17 @@ ghost use Rattle.world_base.specs.Requests as asked;
 
 use crate::checks::{is_allowed, is_refused_by};
 use crate::stored::prepared;
-use daos_base::entry::Entry;
-use daos_base::epoch::{Epoch, TargetId};
-use daos_base::id::AttemptId;
-use daos_base::items::Memory;
-use daos_base::operation::MinorWrite;
-use daos_base::outcome::{Cause, Outcome};
-use daos_messages::actor::ActorId;
-use daos_messages::message::{Message, Post};
+use base_types::entry::Entry;
+use base_types::epoch::{Epoch, TargetId};
+use base_types::id::AttemptId;
+use base_types::items::Memory;
+use base_types::operation::MinorWrite;
+use base_types::outcome::{Cause, Outcome};
+use base_messages::actor::ActorId;
+use base_messages::message::{Message, Post};
 use daos_model::blocks::blocks;
 use daos_model::durable::Durable;
-use dtx_posts::posts::{one, to_target};
+use dtx_table::posts::{one, to_target};
 use replay_base::free::is_free;
 use replay_base::leases::Covered;
 use replay_base::memories::copy_memory;

@@ -5,12 +5,12 @@ use Rattle.std.proofs.lemmas.Bool.Decides.{nat_tests}
 use Rattle.std.proofs.lemmas.List.{append-nil}
 use Rattle.std.proofs.lemmas.List.Elements.{All-append, All-cons, All-nil, filter-append}
 use Rattle.client_core.specs.Clients.{ClientNow}
-use Rattle.daos_messages.specs.declared.actor.ActorId.{ActorId}
+use Rattle.base_messages.specs.declared.actor.ActorId.{ActorId}
 use Rattle.daos_model.specs.declared.durable.Durable.{Durable}
 use Rattle.run_actors.specs.Due.{AreDue, IsActor}
 use Rattle.run_actors.specs.Shows.{Shows}
-use Rattle.run_letters.specs.Letters.{BetweenNow}
-use Rattle.run_picks.specs.Picks.{heard_awake, is_due}
+use Rattle.run_base.specs.Letters.{BetweenNow}
+use Rattle.run_base.specs.Picks.{heard_awake, is_due}
 use Rattle.target_core.specs.Targets.{TargetOf}
 use Rattle.vos_store.specs.Calls.{State}
 use Rattle.world_base.specs.declared.client.ClientState.{ClientState}

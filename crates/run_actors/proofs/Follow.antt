@@ -1,8 +1,8 @@
 -- What follows from a turn, where it came about.
 use Rattle.std.specs.Prelude.{◌≡◌, List, ◌++◌, map, Result, Ok, Err, OnOk}
 use Rattle.std.proofs.Common.{◌∙◌, ap}
-use Rattle.daos_messages.specs.declared.actor.ActorId.{ActorId}
-use Rattle.run_letters.specs.Letters.{BetweenNow}
+use Rattle.base_messages.specs.declared.actor.ActorId.{ActorId}
+use Rattle.run_base.specs.Letters.{BetweenNow}
 use Rattle.run_actors.proofs.Turns.{Follows}
 use Rattle.world_base.specs.declared.did.Did.{Did}
 use Rattle.world_base.specs.declared.letter.Letter.{Letter}

@@ -5,16 +5,16 @@ use Rattle.std.proofs.Math.ListN.{set}
 use Rattle.std.proofs.lemmas.Bool.{cases_eq, true≢false}
 use Rattle.std.proofs.lemmas.Option.{slice_get_within}
 use Rattle.client_core.specs.Clients.{ClientNow}
-use Rattle.daos_laws.specs.Members.{Has, contains-from_has, has-cases, has-from_contains, has-from_map}
-use Rattle.daos_messages.specs.declared.actor.ActorId.{ActorId}
-use Rattle.daos_messages.specs.declared.message.Post.{Post}
+use Rattle.model_laws.specs.Members.{Has, contains-from_has, has-cases, has-from_contains, has-from_map}
+use Rattle.base_messages.specs.declared.actor.ActorId.{ActorId}
+use Rattle.base_messages.specs.declared.message.Post.{Post}
 use Rattle.daos_model.specs.declared.durable.Durable.{Durable}
 use Rattle.run_actors.specs.CanGo.{CanGo, IsInForm}
 use Rattle.run_actors.specs.ListLaws.{get-set, length-set}
 use Rattle.run_actors.specs.Shows.{IsGoing, Shows, Steps}
 use Rattle.run_actors.proofs.Turns.{Follows, picked-takes}
-use Rattle.run_letters.specs.Letters.{BetweenNow, IsPicked}
-use Rattle.run_picks.specs.OrderLaws.{turn-event}
+use Rattle.run_base.specs.Letters.{BetweenNow, IsPicked}
+use Rattle.run_base.specs.OrderLaws.{turn-event}
 use Rattle.target_core.specs.Targets.{TargetOf}
 use Rattle.target_parts.specs.Parts.{StillRuns}
 use Rattle.vos_store.specs.Calls.{State}

@@ -5,10 +5,10 @@ use Rattle.std.proofs.Math.ListN.{set}
 use Rattle.std.proofs.lemmas.Bool.{cases_eq}
 use Rattle.client_core.specs.Clients.{ClientNow}
 use Rattle.daos_model.specs.declared.durable.Durable.{Durable}
-use Rattle.run_letters.specs.Letters.{BetweenNow, IsPicked}
+use Rattle.run_base.specs.Letters.{BetweenNow, IsPicked}
 use Rattle.run_actors.specs.ListLaws.{get-set, length-set, map-get, map-set}
 use Rattle.run_actors.specs.Shows.{IsTargetOf, Shows, Steps, state_of}
-use Rattle.run_picks.specs.Picks.{Going, Hearing, Idling, Serving, count_to, heard_awake, heard_by_client}
+use Rattle.run_base.specs.Picks.{Going, Hearing, Idling, Serving, count_to, heard_awake, heard_by_client}
 use Rattle.target_core.specs.Targets.{TargetOf}
 use Rattle.vos_store.specs.Calls.{State}
 use Rattle.world_base.specs.declared.did.Did.{Did}

@@ -1,11 +1,11 @@
 -- Which actors have something to do.
 use Rattle.std.specs.Prelude.{ℕ, ◌≡◌, ◌<◌, ◌++◌, Bool, true, false, All, List, filter, length, Option, Some, None}
 use Rattle.client_core.specs.Clients.{ClientNow}
-use Rattle.daos_messages.specs.declared.actor.ActorId.{ActorId}
+use Rattle.base_messages.specs.declared.actor.ActorId.{ActorId}
 use Rattle.daos_model.specs.declared.durable.Durable.{Durable}
 use Rattle.run_actors.specs.Shows.{Shows}
-use Rattle.run_letters.specs.Letters.{BetweenNow}
-use Rattle.run_picks.specs.Picks.{count_to, is_client_due, is_due, numbered}
+use Rattle.run_base.specs.Letters.{BetweenNow}
+use Rattle.run_base.specs.Picks.{count_to, is_client_due, is_due, numbered}
 use Rattle.target_core.specs.Targets.{TargetOf}
 use Rattle.vos_store.specs.Calls.{State}
 use Rattle.world_base.specs.declared.letter.Letter.{Letter}

@@ -2,16 +2,16 @@
 use Rattle.std.specs.Prelude.{ℕ, ◌≡◌, ◌<◌, ◌++◌, Bool, true, false, ◌||◌, nat_lt, List, [], ◌∷◌, filter, length, slice_get, Option, Some, None, refl}
 use Rattle.std.proofs.Common.{zero, suc, sym, ◌∙◌, ap, subst, arith}
 use Rattle.client_core.specs.Clients.{ClientNow}
-use Rattle.daos_laws.specs.Lists.{at-within}
-use Rattle.daos_messages.specs.declared.actor.ActorId.{ActorId}
+use Rattle.model_laws.specs.Lists.{at-within}
+use Rattle.base_messages.specs.declared.actor.ActorId.{ActorId}
 use Rattle.daos_model.specs.FormLaws.{length-map}
 use Rattle.daos_model.specs.declared.durable.Durable.{Durable}
-use Rattle.run_letters.specs.Letters.{BetweenNow}
+use Rattle.run_base.specs.Letters.{BetweenNow}
 use Rattle.run_actors.specs.Due.{AllAreDue, is_due_client}
 use Rattle.run_actors.specs.ListLaws.{map-get}
 use Rattle.run_actors.specs.Shows.{IsTargetOf, Shows, state_of}
-use Rattle.run_picks.specs.Picks as picks
-use Rattle.run_picks.specs.Picks.{count_to, heard, heard_awake, heard_by_client, if_client_due, if_target_due, is_client_due, is_due, numbered}
+use Rattle.run_base.specs.Picks as picks
+use Rattle.run_base.specs.Picks.{count_to, heard, heard_awake, heard_by_client, if_client_due, if_target_due, is_client_due, is_due, numbered}
 use Rattle.target_core.specs.Targets.{TargetOf}
 use Rattle.vos_store.specs.Calls.{State}
 use Rattle.world_base.specs.declared.target.TargetState.{TargetState}

@@ -1,11 +1,11 @@
 -- The actors of a run, and what lies between them, as a world that a run has reached.
 use Rattle.std.specs.Prelude.{ℕ, ◌≡◌, Bool, false, List, length, map, slice_get, Option, Some}
 use Rattle.client_core.specs.Clients.{ClientNow}
-use Rattle.daos_messages.specs.declared.actor.ActorId.{ActorId}
+use Rattle.base_messages.specs.declared.actor.ActorId.{ActorId}
 use Rattle.daos_model.specs.declared.durable.Durable.{Durable}
 use Rattle.daos_model.specs.Opening.{Opening}
-use Rattle.run_letters.specs.Letters.{BetweenNow}
-use Rattle.run_picks.specs.Picks.{TurnOf}
+use Rattle.run_base.specs.Letters.{BetweenNow}
+use Rattle.run_base.specs.Picks.{TurnOf}
 use Rattle.target_core.specs.Targets.{TargetOf}
 use Rattle.vos_store.specs.Calls.{State}
 use Rattle.world_base.specs.declared.client.ClientState.{ClientState}

@@ -5,7 +5,7 @@ use Rattle.std.proofs.Math.ListN.{set}
 use Rattle.std.proofs.lemmas.Bool.{cases_eq}
 use Rattle.std.proofs.lemmas.Bool.Decides.{nat_tests}
 use Rattle.std.proofs.lemmas.Option.{slice_get_within}
-use Rattle.daos_laws.specs.Lists.{at-within}
+use Rattle.model_laws.specs.Lists.{at-within}
 use Rattle.daos_model.specs.declared.durable.Durable.{Durable}
 use Rattle.run_actors.specs.ListLaws.{length-set}
 use Rattle.run_actors.specs.Shows.{AreRunning}

@@ -1,11 +1,11 @@
 -- Of how many messages an actor hears one.
 use Rattle.std.specs.Prelude.{ℕ, ◌≡◌, ◌≤◌, ◌<◌, Bool, true, false, nat_lt, List, length, slice_get, Some, refl, if◌then◌else◌}
 use Rattle.std.proofs.Common.{◌∙◌, ap, subst, arith}
-use Rattle.daos_messages.specs.declared.actor.ActorId.{ActorId}
+use Rattle.base_messages.specs.declared.actor.ActorId.{ActorId}
 use Rattle.client_core.specs.Clients.{ClientNow}
-use Rattle.daos_laws.specs.Lists.{at-within}
+use Rattle.model_laws.specs.Lists.{at-within}
 use Rattle.run_actors.specs.Shown.{named-client}
-use Rattle.run_picks.specs.Picks.{count_to, heard_awake}
+use Rattle.run_base.specs.Picks.{count_to, heard_awake}
 use Rattle.world_base.specs.declared.client.ClientState.{ClientState}
 use Rattle.world_base.specs.declared.letter.Letter.{Letter}
 use Rattle.world_base.specs.Letters.{client}

@@ -5,11 +5,11 @@ use Rattle.std.proofs.lemmas.Bool.Decides.{nat_tests}
 use Rattle.client_core.specs.Clients.{ClientNow}
 use Rattle.daos_model.specs.declared.durable.Durable.{Durable}
 use Rattle.daos_model.specs.Opening.{Opening}
-use Rattle.run_letters.specs.Letters.{BetweenNow}
+use Rattle.run_base.specs.Letters.{BetweenNow}
 use Rattle.run_order.specs.Ended.{HasRun, IsShown, nothing}
-use Rattle.run_picks.specs.OrderLaws.{orders-are-runs, orders-end-quiet}
-use Rattle.run_picks.specs.Orders.{InOrder}
-use Rattle.run_picks.specs.Quiet.{quiet-has-ended}
+use Rattle.run_base.specs.OrderLaws.{orders-are-runs, orders-end-quiet}
+use Rattle.run_base.specs.Orders.{InOrder}
+use Rattle.run_base.specs.Quiet.{quiet-has-ended}
 use Rattle.target_core.specs.Targets.{TargetOf}
 use Rattle.vos_store.specs.Calls.{State}
 use Rattle.world_base.specs.declared.world.World.{World}

@@ -2,15 +2,15 @@
 use Rattle.std.specs.Prelude.{ℕ, ◌≡◌, Bool, List, length, Option, refl}
 use Rattle.std.proofs.Common.{◌∙◌}
 use Rattle.client_core.specs.Clients.{ClientNow}
-use Rattle.daos_messages.specs.declared.actor.ActorId.{ActorId}
+use Rattle.base_messages.specs.declared.actor.ActorId.{ActorId}
 use Rattle.daos_model.specs.declared.durable.Durable.{Durable}
-use Rattle.run_letters.specs.Letters.{BetweenNow}
+use Rattle.run_base.specs.Letters.{BetweenNow}
 use Rattle.run_order.specs.Ended.{IsShown}
 use Rattle.run_actors.specs.CanGo.{CanGo}
 use Rattle.run_actors.specs.Stores.{AllRun}
 use Rattle.run_actors.specs.StoreLaws.{run-first, run-then}
 use Rattle.run_actors.specs.Shows.{Shows, Steps}
-use Rattle.run_picks.specs.Picks.{TurnOf}
+use Rattle.run_base.specs.Picks.{TurnOf}
 use Rattle.target_core.specs.Targets.{TargetOf}
 use Rattle.vos_store.specs.Calls.{State}
 use Rattle.world_base.specs.declared.world.World.{World}

@@ -4,10 +4,10 @@ use Rattle.std.proofs.Common.{zero, suc, sym, ◌∙◌, ap, subst, arith}
 use Rattle.std.proofs.lemmas.Bool.Decides.{nat_tests}
 use Rattle.std.proofs.lemmas.List.{append_assoc}
 use Rattle.client_core.specs.Clients.{ClientNow}
-use Rattle.daos_draw.specs.Draws.{drawn}
-use Rattle.daos_messages.specs.declared.actor.ActorId.{ActorId}
+use Rattle.base_random.specs.Draws.{drawn}
+use Rattle.base_messages.specs.declared.actor.ActorId.{ActorId}
 use Rattle.daos_model.specs.declared.durable.Durable.{Durable}
-use Rattle.run_letters.specs.Letters.{BetweenNow}
+use Rattle.run_base.specs.Letters.{BetweenNow}
 use Rattle.run_actors.specs.Due.{AllAreDue, first_targets, is_due_client}
 use Rattle.run_order.specs.Ended.{IsShown}
 use Rattle.run_actors.specs.CanGo.{CanGo}
@@ -15,8 +15,8 @@ use Rattle.run_actors.specs.Stores.{AllRun}
 use Rattle.run_actors.specs.Shows.{Shows, Steps}
 use Rattle.run_order.proofs.Going.{GoesOn, goes-as, goes-then, goes-turn}
 use Rattle.run_actors.specs.Shown.{client-due-shown, due-shown, many-clients}
-use Rattle.run_picks.specs.Orders.{AndThen, Draws, HasIt, HasNone, InDraws, InRounds, InTurn, OneDraw, OneRound, RoundOf, Rounds, after_pick, pick}
-use Rattle.run_picks.specs.Picks.{TurnOf, heard, is_due, numbered}
+use Rattle.run_base.specs.Orders.{AndThen, Draws, HasIt, HasNone, InDraws, InRounds, InTurn, OneDraw, OneRound, RoundOf, Rounds, after_pick, pick}
+use Rattle.run_base.specs.Picks.{TurnOf, heard, is_due, numbered}
 use Rattle.target_core.specs.Targets.{TargetOf}
 use Rattle.vos_store.specs.Calls.{State}
 use Rattle.world_base.specs.declared.world.World.{World}

@@ -1,12 +1,12 @@
 -- Where a run of the actors ends.
 use Rattle.std.specs.Prelude.{ℕ, ◌≡◌, true, List, [], length, slice_get, Option, Some}
 use Rattle.client_core.specs.Clients.{ClientNow}
-use Rattle.daos_base.specs.declared.report.Line.{Line}
+use Rattle.base_types.specs.declared.report.Line.{Line}
 use Rattle.daos_model.specs.declared.durable.Durable.{Durable}
-use Rattle.run_letters.specs.Letters.{BetweenNow}
+use Rattle.run_base.specs.Letters.{BetweenNow}
 use Rattle.run_actors.specs.Shows.{IsTargetOf, Shows}
-use Rattle.run_picks.specs.Orders.{InOrder}
-use Rattle.run_picks.specs.Picks.{due}
+use Rattle.run_base.specs.Orders.{InOrder}
+use Rattle.run_base.specs.Picks.{due}
 use Rattle.target_core.specs.Targets.{TargetOf}
 use Rattle.vos_store.specs.Calls.{State}
 use Rattle.world_base.specs.declared.target.TargetState.{TargetState}

@@ -2,7 +2,7 @@
 ghost use Rattle.std.specs.Prelude.{◌≡◌};
 ghost use Rattle.run_order.specs.Halts.{wanting};
 
-use daos_base::epoch::TargetId;
+use base_types::epoch::TargetId;
 use std::alloc::{AllocError, AllocFailed};
 
 /// The store of a target stopped, or memory was wanting.

@@ -1,9 +1,9 @@
 -- A Verdict as a message that a target hears.
 use Rattle.std.proofs.Common.{ℕ, Option, Result, Ok, Err}
-use Rattle.daos_base.specs.declared.entry.Verdict.{Verdict as VerdictOf}
-use Rattle.daos_base.specs.declared.id.AttemptId.{AttemptId}
-use Rattle.daos_messages.specs.declared.actor.ActorId.{ActorId}
-use Rattle.daos_messages.specs.declared.message.Message.TheVariants.{Verdict}
+use Rattle.base_types.specs.declared.entry.Verdict.{Verdict as VerdictOf}
+use Rattle.base_types.specs.declared.id.AttemptId.{AttemptId}
+use Rattle.base_messages.specs.declared.actor.ActorId.{ActorId}
+use Rattle.base_messages.specs.declared.message.Message.TheVariants.{Verdict}
 use Rattle.daos_model.specs.declared.durable.Durable.{Durable}
 use Rattle.vos_store.specs.Calls.{State}
 use Rattle.world_base.specs.declared.did.Did.{Did}

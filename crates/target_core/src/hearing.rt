@@ -10,8 +10,8 @@ ghost use Rattle.target_parts.specs.Stops.{stop_foreign, stop_store};
 ghost use Rattle.target_writes.specs.Checks.{IsPlaced};
 ghost use Rattle.target_core.specs.Targets.{CanHear, HasForm, HearsOrStops, has_epoch, is_of_client};
 
-use daos_messages::actor::ActorId;
-use daos_messages::message::Message;
+use base_messages::actor::ActorId;
+use base_messages::message::Message;
 use daos_outside::clock::Clock;
 use std::alloc::Global;
 use target_dtx::acks::{hear_ack, hear_marked};

@@ -13,10 +13,10 @@ ghost use Rattle.target_parts.specs.Stops.{stop_foreign, stop_store};
 ghost use Rattle.target_core.specs.Targets.{CanHear, HasForm, HearsOrStops, IdlesOrStops, has_epoch, is_of_client};
 
 use crate::hearing::hear_message;
-use daos_base::epoch::TargetId;
+use base_types::epoch::TargetId;
 use daos_hlc::clock::Hlc;
-use daos_messages::actor::ActorId;
-use daos_messages::message::Message;
+use base_messages::actor::ActorId;
+use base_messages::message::Message;
 use daos_outside::clock::Clock;
 use dtx_leader::leader::Leader;
 use dtx_member::member::Member;
@@ -43,7 +43,7 @@ pub struct Target<S: Store, C: Clock> {
 }
 
 impl<S: Store, C: Clock> Model for Target<S, C> {
-    ghost use Rattle.daos_messages.specs.contracts.message.Message as message;
+    ghost use Rattle.base_messages.specs.contracts.message.Message as message;
     ghost use Rattle.std.specs.Coded.{codes};
     ghost use Rattle.target_core.specs.Targets.{IsTarget, TargetOf};
     ghost use Rattle.target_parts.specs.Knowing.{memory_of};

@@ -1,19 +1,19 @@
 -- What an Ack comes to.
 use Rattle.std.proofs.Common.{ℕ, ◌≡◌, refl, sym, ◌∙◌, ap, subst, Bool, true, false, ◌&&◌, List, Option, Some, None, Ok, Err}
 use Rattle.std.specs.Prelude.{◌==◌, if◌then◌else◌}
-use Rattle.daos_base.specs.declared.entry.Entry.{Entry}
-use Rattle.daos_base.specs.declared.entry.Settle.TheVariants.{Abort}
-use Rattle.daos_base.specs.declared.id.AttemptId.{AttemptId}
-use Rattle.daos_base.specs.declared.outcome.Outcome.{Outcome}
-use Rattle.daos_messages.specs.declared.message.Post.{Post}
+use Rattle.base_types.specs.declared.entry.Entry.{Entry}
+use Rattle.base_types.specs.declared.entry.Settle.TheVariants.{Abort}
+use Rattle.base_types.specs.declared.id.AttemptId.{AttemptId}
+use Rattle.base_types.specs.declared.outcome.Outcome.{Outcome}
+use Rattle.base_messages.specs.declared.message.Post.{Post}
 use Rattle.daos_model.specs.declared.durable.Durable.{Durable}
 use Rattle.daos_model.specs.BoolLaws.{and_left, and_right}
 use Rattle.dtx_base.specs.declared.leading.LeaderMemory.{LeaderMemory}
 use Rattle.dtx_base.specs.declared.leading.Undecided.{Undecided}
 use Rattle.dtx_base.specs.Leading.{LeaderOf, LeaderStep, ack_heard, answer_heard, answer_if_awaited, entry_led, quietly, refusal_heard, undecided_of}
 use Rattle.dtx_base.specs.Members.{is_other_member}
-use Rattle.dtx_posts.specs.declared.seat.Seat.{Seat}
-use Rattle.dtx_posts.specs.Seats.{came}
+use Rattle.dtx_table.specs.declared.seat.Seat.{Seat}
+use Rattle.dtx_table.specs.Seats.{came}
 use Rattle.vos_store.specs.Calls.{State}
 use Rattle.vos_store.specs.Conditions.{CanSettle}
 use Rattle.vos_store.specs.declared.refusal.Stopped.{Stopped}

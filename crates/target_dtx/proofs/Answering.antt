@@ -1,8 +1,8 @@
 -- What a Query comes to.
 use Rattle.std.proofs.Common.{◌≡◌, refl, Option, Some, None, Result}
 use Rattle.std.specs.Prelude.{IfOk, IfErr}
-use Rattle.daos_base.specs.declared.id.AttemptId.{AttemptId}
-use Rattle.daos_messages.specs.declared.actor.ActorId.{ActorId}
+use Rattle.base_types.specs.declared.id.AttemptId.{AttemptId}
+use Rattle.base_messages.specs.declared.actor.ActorId.{ActorId}
 use Rattle.daos_model.specs.declared.durable.Durable.{Durable}
 use Rattle.vos_store.specs.Calls.{State}
 use Rattle.world_base.specs.declared.did.Did.{Did}

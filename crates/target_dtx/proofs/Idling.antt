@@ -3,11 +3,11 @@ use Rattle.std.proofs.Common.{◌≡◌, ◌<◌, refl, sym, ◌∙◌, ap, subs
 use Rattle.std.specs.Prelude.{◌==◌, IfErr, IfOk, OnOk, if◌then◌else◌}
 use Rattle.std.specs.Option.{ForSome}
 use Rattle.std.proofs.lemmas.Bool.Decides.{nat_tests}
-use Rattle.daos_base.specs.declared.entry.Settle.TheVariants.{Commit}
-use Rattle.daos_base.specs.declared.id.AttemptId.{AttemptId}
-use Rattle.daos_laws.specs.Lists.{filter-all}
-use Rattle.daos_laws.specs.Members.{Has}
-use Rattle.daos_laws.specs.RisingLaws.{after-has}
+use Rattle.base_types.specs.declared.entry.Settle.TheVariants.{Commit}
+use Rattle.base_types.specs.declared.id.AttemptId.{AttemptId}
+use Rattle.model_laws.specs.Lists.{filter-all}
+use Rattle.model_laws.specs.Members.{Has}
+use Rattle.model_laws.specs.RisingLaws.{after-has}
 use Rattle.daos_model.specs.declared.durable.Durable.{Durable}
 use Rattle.daos_model.specs.Answers.{is_before}
 use Rattle.daos_model.specs.BoolLaws.{and_left, clash, false_of}

@@ -1,11 +1,11 @@
 -- A Mark, attempt by attempt.
 use Rattle.std.proofs.Common.{ℕ, ◌≡◌, ◌<◌, ◌≤◌, ◌+◌, ◌∙◌, sym, ap, subst, Bool, true, false, List, [], ◌∷◌, length, drop, get_or, Option, Some, None, Ok, Err}
 use Rattle.std.proofs.Math.ListN.{drop_of_length-le}
-use Rattle.daos_base.specs.declared.entry.Settle.{Settle}
-use Rattle.daos_base.specs.declared.id.AttemptId.{AttemptId}
-use Rattle.daos_laws.specs.Lists.{drop-item}
-use Rattle.daos_messages.specs.declared.actor.ActorId.{ActorId}
-use Rattle.daos_messages.specs.declared.message.Message.TheVariants.{Marked}
+use Rattle.base_types.specs.declared.entry.Settle.{Settle}
+use Rattle.base_types.specs.declared.id.AttemptId.{AttemptId}
+use Rattle.model_laws.specs.Lists.{drop-item}
+use Rattle.base_messages.specs.declared.actor.ActorId.{ActorId}
+use Rattle.base_messages.specs.declared.message.Message.TheVariants.{Marked}
 use Rattle.daos_model.specs.declared.durable.Durable.{Durable}
 use Rattle.dtx_base.specs.Leading.{attempts_of}
 use Rattle.vos_store.specs.Calls.{State}

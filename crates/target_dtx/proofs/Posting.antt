@@ -1,8 +1,8 @@
 -- What is posted has its form.
 use Rattle.std.proofs.Common.{ℕ, ◌≡◌, [], ap, subst, sym, List, Result, Ok, Err}
 use Rattle.std.specs.Prelude.{IfOk}
-use Rattle.daos_base.specs.declared.entry.Entry.{Entry}
-use Rattle.daos_messages.specs.declared.message.Post.{Post}
+use Rattle.base_types.specs.declared.entry.Entry.{Entry}
+use Rattle.base_messages.specs.declared.message.Post.{Post}
 use Rattle.dtx_base.specs.declared.leading.LeaderMemory.{LeaderMemory}
 use Rattle.dtx_base.specs.Joining.{MemberOf, inquired, member_step}
 use Rattle.target_parts.specs.declared.stop.TargetStop.{TargetStop}

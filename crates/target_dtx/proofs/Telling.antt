@@ -1,9 +1,9 @@
 -- What a target tells and asks once all that it decided is settled leaves of what it remembers.
 use Rattle.std.proofs.Common.{ℕ, ◌≡◌, ◌∙◌, ap, sym, subst, Bool, true, false, not, ◌&&◌, List, length}
 use Rattle.std.specs.Prelude.{◌==◌, ◌||◌}
-use Rattle.daos_base.specs.declared.entry.Entry.{Entry}
-use Rattle.daos_laws.specs.Members.{Has}
-use Rattle.daos_messages.specs.declared.message.Post.{Post}
+use Rattle.base_types.specs.declared.entry.Entry.{Entry}
+use Rattle.model_laws.specs.Members.{Has}
+use Rattle.base_messages.specs.declared.message.Post.{Post}
 use Rattle.daos_model.specs.declared.durable.Durable.{Durable}
 use Rattle.dtx_base.specs.declared.leading.LeaderMemory.{LeaderMemory}
 use Rattle.dtx_base.specs.declared.leading.Naming.{Naming}
@@ -11,7 +11,7 @@ use Rattle.dtx_base.specs.declared.member.Freed.{Freed}
 use Rattle.dtx_base.specs.declared.member.MemberMemory.{MemberMemory}
 use Rattle.dtx_base.specs.Joining.{MemberOf, MemberStep, inquired, is_inquiry_due, member_step}
 use Rattle.dtx_base.specs.Leading.{LeaderOf, batched, is_batch_due}
-use Rattle.dtx_posts.specs.Seats.{came}
+use Rattle.dtx_table.specs.Seats.{came}
 use Rattle.world_base.specs.declared.target.TargetMemory.{TargetMemory}
 use Rattle.world_base.specs.declared.target.TargetPlan.{TargetPlan}
 use Rattle.world_base.specs.Idle.{has_idle}

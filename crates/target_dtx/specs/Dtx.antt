@@ -1,6 +1,6 @@
 -- What a target does that hears of attempts from other targets.
 use Rattle.std.specs.Prelude.{Bool, true, false, List, [], Option, Result, Ok, Err}
-use Rattle.daos_base.specs.declared.entry.Entry.{Entry}
+use Rattle.base_types.specs.declared.entry.Entry.{Entry}
 use Rattle.daos_model.specs.declared.durable.Durable.{Durable}
 use Rattle.dtx_base.specs.Joining.{MemberOf, MemberStep, inquired, quietly}
 use Rattle.vos_store.specs.Calls.{State}

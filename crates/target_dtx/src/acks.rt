@@ -1,10 +1,10 @@
 // A leader hears what members answer.
 ghost use Rattle.std.specs.Prelude.{◌≡◌, ◌==◌, [], if◌then◌else◌, IfOk, OnOk, Some, true, false};
 ghost use Rattle.std.specs.Option.{ForSome};
-ghost use Rattle.daos_base.specs.declared.entry.Settle.TheVariants as step;
+ghost use Rattle.base_types.specs.declared.entry.Settle.TheVariants as step;
 ghost use Rattle.daos_model.specs.declared.durable.Durable.{Durable};
 ghost use Rattle.dtx_base.specs.Leading.{entry_led, may_confirm};
-ghost use Rattle.dtx_posts.specs.Seats.{leader_of};
+ghost use Rattle.dtx_table.specs.Seats.{leader_of};
 ghost use Rattle.vos_store.specs.Conditions.{CanSettle};
 ghost use Rattle.vos_store.specs.Refusals.{always_stop, says};
 ghost use Rattle.world_base.specs.declared.target.TargetMemory.{TargetMemory};
@@ -19,15 +19,15 @@ ghost use Rattle.target_parts.specs.Parts.{Runs, kept};
 ghost use Rattle.target_parts.specs.Stops.{Turn, never, stop_foreign, stop_store};
 ghost use Rattle.target_dtx.specs.Dtx.{GoesThrough};
 
-use daos_base::entry::{Entry, Settle};
-use daos_base::epoch::TargetId;
-use daos_base::id::AttemptId;
-use daos_base::items::Items;
-use daos_base::outcome::Outcome;
+use base_types::entry::{Entry, Settle};
+use base_types::epoch::TargetId;
+use base_types::id::AttemptId;
+use base_types::items::Items;
+use base_types::outcome::Outcome;
 use dtx_leader::leader::Leader;
-use dtx_posts::bits::{has_number, is_other_number};
-use dtx_posts::led::find_led;
-use dtx_posts::seat::Seat;
+use dtx_table::bits::{has_number, is_other_number};
+use dtx_table::led::find_led;
+use dtx_table::seat::Seat;
 use std::alloc::Global;
 use target_parts::halt::Halt;
 use target_parts::kept::{seat_of, settle};

@@ -5,13 +5,13 @@ use Rattle.std.specs.List.{range_with_len}
 use Rattle.std.proofs.Math.ListN.{drop_of_length-le}
 use Rattle.std.proofs.Math.Seq.{drop-cons}
 use Rattle.std.proofs.lemmas.Nat.{or_comm}
-use Rattle.daos_base.specs.declared.id.ObjId.{ObjId}
-use Rattle.daos_base.specs.declared.operation.MinorWrite.{MinorWrite}
-use Rattle.daos_base.specs.Operations.{write_path}
-use Rattle.daos_base.specs.Placement.{groups_members, members, path_members, writes_members}
-use Rattle.dtx_posts.specs.Ranges.{from_one, none_left}
+use Rattle.base_types.specs.declared.id.ObjId.{ObjId}
+use Rattle.base_types.specs.declared.operation.MinorWrite.{MinorWrite}
+use Rattle.base_types.specs.Operations.{write_path}
+use Rattle.base_types.specs.Placement.{groups_members, members, path_members, writes_members}
+use Rattle.dtx_table.specs.Ranges.{from_one, none_left}
 use Rattle.world_base.specs.Commits.{bits_of}
-use Rattle.daos_laws.specs.Lists.{drop-item}
+use Rattle.model_laws.specs.Lists.{drop-item}
 
 -- ---- groups
 

@@ -1,18 +1,18 @@
 // The members of an attempt, by its writes.
 ghost use Rattle.std.specs.Prelude.{◌≡◌, ◌<◌, ◌≤◌, ◌++◌, All, IfOk, IfSome, OnOk};
 ghost use Rattle.std.specs.List.{range_with_len};
-ghost use Rattle.daos_base.specs.Operations.{write_path};
-ghost use Rattle.daos_base.specs.Placement.{ClassFits, groups, groups_members, members, path_members, writes_members};
+ghost use Rattle.base_types.specs.Operations.{write_path};
+ghost use Rattle.base_types.specs.Placement.{ClassFits, groups, groups_members, members, path_members, writes_members};
 ghost use Rattle.world_base.specs.Commits as commit;
 
-use daos_base::epoch::TargetId;
-use daos_base::id::ObjId;
-use daos_base::items::Memory;
-use daos_base::operation::MinorWrite;
-use daos_base::path::Path;
+use base_types::epoch::TargetId;
+use base_types::id::ObjId;
+use base_types::items::Memory;
+use base_types::operation::MinorWrite;
+use base_types::path::Path;
 use daos_class::class::Placed;
 use daos_class::place::members;
-use dtx_posts::bits::with_target;
+use dtx_table::bits::with_target;
 use std::alloc::Global;
 
 // The members of a group of an object follow other targets.
@@ -50,7 +50,7 @@ fn push_object(
 }
 
 // The members of the groups that a path touches do.
-#[tactic(auto, unfolding(daos_base::specs::Placement::path_members))]
+#[tactic(auto, unfolding(base_types::specs::Placement::path_members))]
 fn push_path(alloc: Global, all: &mut Vec<TargetId>, path: &Path, targets: u8) -> Result<(), Memory>
     requires fits { IfSome path.now.obj (λ o. ClassFits o.class targets) }
     ensures { OnOk result (all.new.items ≡ all.old.items ++ path_members path.now targets) }

@@ -1,7 +1,7 @@
 -- The epoch of a request.
 use Rattle.std.proofs.Common.{ℕ, ◌≡◌, refl, sym, subst, Option, Some, None}
 use Rattle.std.specs.Prelude.{IfSome}
-use Rattle.daos_base.specs.declared.epoch.Epoch.{Epoch}
+use Rattle.base_types.specs.declared.epoch.Epoch.{Epoch}
 use Rattle.daos_hlc.specs.Clock.{Clock}
 use Rattle.target_parts.specs.Covers.{epoch_for}
 

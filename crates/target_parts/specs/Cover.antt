@@ -1,7 +1,7 @@
 -- What the calls of the store give, over plain variables.
 use Rattle.std.proofs.Common.{ℕ, ◌≡◌, ◌<◌, ◌⊎◌, inl, inr, refl, ◌∙◌, ap, subst, Bool, false, Option, Some, Result, Ok, Err}
 use Rattle.std.specs.Option.{option_map}
-use Rattle.daos_base.specs.Epochs.{lease_for}
+use Rattle.base_types.specs.Epochs.{lease_for}
 use Rattle.daos_model.specs.declared.durable.Durable.{Durable}
 use Rattle.daos_model.specs.Changes.{leased}
 use Rattle.vos_store.specs.Calls.{Makes, State, Turns}

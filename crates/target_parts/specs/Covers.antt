@@ -1,8 +1,8 @@
 -- The lease is stored before what it is to cover.
 use Rattle.std.specs.Prelude.{◌/◌, ℕ, ◌≡◌, ◌≤◌, ◌<◌, Option, Some, None, Result, Ok, Err}
 use Rattle.std.specs.Option.{option_map}
-use Rattle.daos_base.specs.declared.epoch.Epoch.{Epoch}
-use Rattle.daos_base.specs.Epochs.{heard_ticks, lease_for}
+use Rattle.base_types.specs.declared.epoch.Epoch.{Epoch}
+use Rattle.base_types.specs.Epochs.{heard_ticks, lease_for}
 use Rattle.daos_hlc.specs.Clock.{Clock, next_ticks}
 use Rattle.daos_model.specs.declared.durable.Durable.{Durable}
 use Rattle.vos_store.specs.Calls.{State}

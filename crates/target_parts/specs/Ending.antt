@@ -1,8 +1,8 @@
 -- What a whole turn comes to, once its parts are done.
 use Rattle.std.proofs.Common.{ℕ, ◌≡◌, refl, sym, ap, subst, true, false, Option, Some, None, Result, Ok, Err}
 use Rattle.std.specs.Prelude.{IfOk, IfErr, IfSome}
-use Rattle.daos_base.specs.declared.epoch.Epoch.{Epoch}
-use Rattle.daos_base.specs.declared.id.AttemptId.{AttemptId}
+use Rattle.base_types.specs.declared.epoch.Epoch.{Epoch}
+use Rattle.base_types.specs.declared.id.AttemptId.{AttemptId}
 use Rattle.daos_model.specs.declared.durable.Durable.{Durable}
 use Rattle.vos_store.specs.Calls.{State}
 use Rattle.world_base.specs.declared.did.Did.{Did}

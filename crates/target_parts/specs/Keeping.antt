@@ -1,7 +1,7 @@
 -- A change that is made of what a target keeps.
 use Rattle.std.specs.Prelude.{Bool, true, false, Option, Result, Ok, Err}
-use Rattle.daos_base.specs.declared.entry.Settle.{Settle}
-use Rattle.daos_base.specs.declared.entry.Settle.TheVariants.{Commit, Abort, Confirm, Forget}
+use Rattle.base_types.specs.declared.entry.Settle.{Settle}
+use Rattle.base_types.specs.declared.entry.Settle.TheVariants.{Commit, Abort, Confirm, Forget}
 use Rattle.daos_model.specs.declared.durable.Durable.{Durable}
 use Rattle.vos_store.specs.Calls.{State}
 use Rattle.vos_store.specs.declared.refusal.Stopped.{Stopped}

@@ -1,15 +1,15 @@
 -- What stays of what a target knows where its entries and its leader alone change.
 use Rattle.std.proofs.Common.{ℕ, ◌≡◌, sym, ◌∙◌, ap, subst, List, filter}
-use Rattle.daos_base.specs.declared.entry.Entry.{Entry}
-use Rattle.daos_base.specs.declared.id.AttemptId.{AttemptId}
-use Rattle.daos_base.specs.declared.shown.Shown.{Shown}
+use Rattle.base_types.specs.declared.entry.Entry.{Entry}
+use Rattle.base_types.specs.declared.id.AttemptId.{AttemptId}
+use Rattle.base_types.specs.declared.shown.Shown.{Shown}
 use Rattle.daos_hlc.specs.Clock.{Clock}
 use Rattle.daos_model.specs.declared.durable.Durable.{Durable}
 use Rattle.dtx_base.specs.declared.leading.LeaderMemory.{LeaderMemory}
 use Rattle.dtx_base.specs.declared.member.MemberMemory.{MemberMemory}
 use Rattle.dtx_base.specs.Leading.{LeaderOf, is_led}
-use Rattle.dtx_posts.specs.declared.seat.Seat.{Seat}
-use Rattle.dtx_posts.specs.Seats.{leader_of}
+use Rattle.dtx_table.specs.declared.seat.Seat.{Seat}
+use Rattle.dtx_table.specs.Seats.{leader_of}
 use Rattle.world_base.specs.declared.target.TargetMemory.{TargetMemory}
 use Rattle.world_base.specs.declared.target.TargetPlan.{TargetPlan}
 use Rattle.world_base.specs.Roles.{leader_at}

@@ -1,7 +1,7 @@
 -- A turn that goes through a list, whose stages are what is left of it.
 use Rattle.std.proofs.Common.{ℕ, ◌≡◌, ◌<◌, ◌≤◌, ◌+◌, refl, subst, Bool, true, false, List, [], ◌∷◌, length, drop, get_or, Option, Some, None, Ok, Err}
 use Rattle.std.proofs.Math.ListN.{drop_of_length-le}
-use Rattle.daos_laws.specs.Lists.{drop-item}
+use Rattle.model_laws.specs.Lists.{drop-item}
 use Rattle.daos_model.specs.declared.durable.Durable.{Durable}
 use Rattle.vos_store.specs.Calls.{State}
 use Rattle.vos_store.specs.declared.refusal.Stopped.{Stopped}

@@ -1,11 +1,11 @@
 -- What is posted has its form, from a later memory on.
 use Rattle.std.specs.Prelude.{ℕ, ◌≡◌, IfOk, List, [], ◌∷◌, Result, Ok, Err}
 use Rattle.std.proofs.Common.{subst}
-use Rattle.daos_base.specs.declared.entry.Verdict.{Verdict}
-use Rattle.daos_base.specs.declared.entry.Verdict.TheVariants.{Aborted, Committed, Undecided}
-use Rattle.daos_base.specs.declared.id.AttemptId.{AttemptId}
-use Rattle.daos_laws.specs.Members.{Has, has-from_filter}
-use Rattle.daos_messages.specs.declared.message.Post.{Post}
+use Rattle.base_types.specs.declared.entry.Verdict.{Verdict}
+use Rattle.base_types.specs.declared.entry.Verdict.TheVariants.{Aborted, Committed, Undecided}
+use Rattle.base_types.specs.declared.id.AttemptId.{AttemptId}
+use Rattle.model_laws.specs.Members.{Has, has-from_filter}
+use Rattle.base_messages.specs.declared.message.Post.{Post}
 use Rattle.dtx_base.specs.declared.leading.LeaderMemory.{LeaderMemory}
 use Rattle.dtx_base.specs.declared.leading.Undecided.{Undecided as UndecidedOf}
 use Rattle.world_base.specs.declared.did.Did.{Did}

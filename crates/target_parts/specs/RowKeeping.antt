@@ -1,14 +1,14 @@
 -- The attempts that a leader remembers stay prepared here and led by it, whatever it begins, hears and tells.
 use Rattle.std.proofs.Common.{ℕ, ◌≡◌, inl, inr, refl, sym, ◌∙◌, ap, subst, Bool, true, false, not, List, ◌++◌, map, Option, Some, None}
 use Rattle.std.specs.Prelude.{◌==◌, ◌≢◌, if◌then◌else◌}
-use Rattle.daos_base.specs.declared.entry.Entry.{Entry}
-use Rattle.daos_base.specs.declared.id.AttemptId.{AttemptId}
-use Rattle.daos_base.specs.declared.outcome.Outcome.{Outcome}
-use Rattle.daos_base.specs.declared.outcome.Outcome.TheVariants.{Committed}
-use Rattle.daos_laws.specs.DecidedLaws.{all-from_has}
-use Rattle.daos_laws.specs.EntryLaws.{found-has, has-put, key-is}
-use Rattle.daos_laws.specs.Members.{Has, has-from_filter, has-from_map}
-use Rattle.daos_messages.specs.declared.actor.ActorId.{ActorId}
+use Rattle.base_types.specs.declared.entry.Entry.{Entry}
+use Rattle.base_types.specs.declared.id.AttemptId.{AttemptId}
+use Rattle.base_types.specs.declared.outcome.Outcome.{Outcome}
+use Rattle.base_types.specs.declared.outcome.Outcome.TheVariants.{Committed}
+use Rattle.model_laws.specs.DecidedLaws.{all-from_has}
+use Rattle.model_laws.specs.EntryLaws.{found-has, has-put, key-is}
+use Rattle.model_laws.specs.Members.{Has, has-from_filter, has-from_map}
+use Rattle.base_messages.specs.declared.actor.ActorId.{ActorId}
 use Rattle.daos_model.specs.declared.durable.Durable.{Durable}
 use Rattle.daos_model.specs.BoolLaws.{clash}
 use Rattle.daos_model.specs.Durables.{attempt_key, same_attempt}
@@ -22,8 +22,8 @@ use Rattle.dtx_base.specs.Leading.{LeaderOf, LeaderStep, ack_heard, answer_heard
 use Rattle.dtx_base.specs.Members.{are_all_counted, is_other_member, other_members, with_target}
 use Rattle.dtx_base.specs.RowLaws.{row-is}
 use Rattle.dtx_base.specs.Rows.{is_row_of, itself, row_key, with_row, without_row}
-use Rattle.dtx_posts.specs.declared.seat.Seat.{Seat}
-use Rattle.dtx_posts.specs.Seats.{leader_of}
+use Rattle.dtx_table.specs.declared.seat.Seat.{Seat}
+use Rattle.dtx_table.specs.Seats.{leader_of}
 use Rattle.target_parts.specs.Knowing.{AreRowsOpen, IsOpenHere}
 
 -- ---- attempts

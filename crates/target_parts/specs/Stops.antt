@@ -1,8 +1,8 @@
 -- Why a turn isn't whole, and what then stands.
 use Rattle.std.specs.Prelude.{◌≡◌, Bool, true, false, List, [], Option, None, Result, Ok, Err}
-use Rattle.daos_base.specs.declared.epoch.Epoch.{Epoch}
-use Rattle.daos_base.specs.declared.id.AttemptId.{AttemptId}
-use Rattle.daos_base.specs.declared.report.Line.{Line}
+use Rattle.base_types.specs.declared.epoch.Epoch.{Epoch}
+use Rattle.base_types.specs.declared.id.AttemptId.{AttemptId}
+use Rattle.base_types.specs.declared.report.Line.{Line}
 use Rattle.daos_model.specs.declared.durable.Durable.{Durable}
 use Rattle.vos_store.specs.Calls.{State}
 use Rattle.world_base.specs.declared.did.Did.{Did}

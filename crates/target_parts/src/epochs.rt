@@ -5,7 +5,7 @@ ghost use Rattle.vos_store.specs.Refusals.{always_stop};
 ghost use Rattle.target_parts.specs.Covers.{CoversOrCut, ReadiesOrCut, epoch_for, heard_of};
 ghost use Rattle.target_parts.specs.Parts.{Runs};
 
-use daos_base::epoch::Epoch;
+use base_types::epoch::Epoch;
 use daos_hlc::clock::Hlc;
 use daos_hlc::lease::lease_for;
 use daos_outside::clock::Clock;

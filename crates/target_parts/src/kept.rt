@@ -1,8 +1,8 @@
 // The entries that a store keeps, as a target knows them, and the steps of attempts.
 ghost use Rattle.std.specs.Prelude.{◌≡◌, OnOk, Some, false};
 ghost use Rattle.std.specs.Option.{ForSome};
-ghost use Rattle.daos_base.specs.declared.entry.Settle.TheVariants as settle;
-ghost use Rattle.daos_laws.specs.Members.{Has};
+ghost use Rattle.base_types.specs.declared.entry.Settle.TheVariants as settle;
+ghost use Rattle.model_laws.specs.Members.{Has};
 ghost use Rattle.daos_model.specs.declared.durable.Durable.{Durable};
 ghost use Rattle.dtx_base.specs.Leading.{forgotten};
 ghost use Rattle.dtx_base.specs.Rows.{itself, without_row};
@@ -16,10 +16,10 @@ ghost use Rattle.target_parts.specs.Knowing.{IsBeside, LeadsWell, memory_of};
 ghost use Rattle.target_parts.specs.Parts.{Runs};
 
 use crate::knows::Knows;
-use daos_base::entry::{Entry, Settle};
-use daos_base::epoch::TargetId;
-use daos_base::id::AttemptId;
-use dtx_posts::seat::Seat;
+use base_types::entry::{Entry, Settle};
+use base_types::epoch::TargetId;
+use base_types::id::AttemptId;
+use dtx_table::seat::Seat;
 use dtx_table::rows::find;
 use dtx_table::table::settle_rows;
 use vos_store::refusal::Stopped;

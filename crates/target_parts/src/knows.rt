@@ -1,5 +1,5 @@
 // What a target knows until it stops.
-use daos_base::entry::Entry;
+use base_types::entry::Entry;
 use daos_hlc::clock::Hlc;
 use dtx_leader::leader::Leader;
 use dtx_member::member::Member;

@@ -10,9 +10,9 @@ ghost use Rattle.target_parts.specs.Knowing.{HasEpochs};
 ghost use Rattle.target_parts.specs.Parts.{Asks, Runs};
 
 use crate::halt::Halt;
-use daos_base::epoch::Epoch;
-use daos_base::path::Path;
-use daos_base::shown::Shown;
+use base_types::epoch::Epoch;
+use base_types::path::Path;
+use base_types::shown::Shown;
 use vos_store::store::Store;
 use world_base::target::TargetPlan;
 

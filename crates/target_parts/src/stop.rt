@@ -3,10 +3,10 @@ ghost use Rattle.std.specs.Prelude.{◌≡◌};
 ghost use Rattle.target_parts.specs.Stops.{stop_memory, stop_of};
 
 use crate::halt::Halt;
-use daos_base::epoch::Epoch;
-use daos_base::id::AttemptId;
-use daos_base::items::Items;
-use daos_base::report::Lines;
+use base_types::epoch::Epoch;
+use base_types::id::AttemptId;
+use base_types::items::Items;
+use base_types::report::Lines;
 use std::alloc::{AllocError, AllocFailed, Global};
 use thiserror::Error;
 

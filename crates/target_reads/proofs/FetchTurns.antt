@@ -1,12 +1,12 @@
 -- Whole turns in which a target hears a Fetch, from their parts.
 use Rattle.std.proofs.Common.{ℕ, ◌≡◌, ◌/◌, refl, sym, ◌∙◌, ap, subst, Bool, true, false, List, Option, Some, None, Result, Ok, Err}
 use Rattle.std.specs.Prelude.{IfOk, IfErr, is_some, if◌then◌else◌}
-use Rattle.daos_base.specs.declared.epoch.Epoch.{Epoch}
-use Rattle.daos_base.specs.declared.id.AttemptId.{AttemptId}
-use Rattle.daos_base.specs.declared.outcome.Outcome.TheVariants as outcome
+use Rattle.base_types.specs.declared.epoch.Epoch.{Epoch}
+use Rattle.base_types.specs.declared.id.AttemptId.{AttemptId}
+use Rattle.base_types.specs.declared.outcome.Outcome.TheVariants as outcome
 use Rattle.daos_hlc.specs.Clock.{Clock}
-use Rattle.daos_messages.specs.declared.actor.ActorId.{ActorId}
-use Rattle.daos_messages.specs.declared.message.Reply.TheVariants as reply
+use Rattle.base_messages.specs.declared.actor.ActorId.{ActorId}
+use Rattle.base_messages.specs.declared.message.Reply.TheVariants as reply
 use Rattle.daos_model.specs.declared.durable.Durable.{Durable}
 use Rattle.daos_model.specs.Changes.{leased}
 use Rattle.vos_store.specs.Calls.{State}

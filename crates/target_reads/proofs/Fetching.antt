@@ -1,15 +1,15 @@
 -- What a read meets, of what the store answers.
 use Rattle.std.proofs.Common.{ℕ, ◌≡◌, refl, sym, ◌∙◌, ap, subst, Bool, true, false, ◌&&◌, ◌||◌, nat_lt, nat_le, ◌+◌, ◌^◌, Option, Some, None, Result, Ok, Err}
 use Rattle.std.specs.Prelude.{not, is_none, is_some, if◌then◌else◌}
-use Rattle.daos_base.specs.declared.answer.Answer.{Answer}
-use Rattle.daos_base.specs.declared.epoch.Epoch.{Epoch}
-use Rattle.daos_base.specs.declared.outcome.Cause.{Cause}
-use Rattle.daos_base.specs.declared.outcome.Cause.TheVariants.{Floor}
-use Rattle.daos_base.specs.declared.outcome.FloorWhy.TheVariants.{Aggregate}
-use Rattle.daos_base.specs.declared.operation.Read.{Read}
-use Rattle.daos_base.specs.declared.operation.Read.TheVariants as read
-use Rattle.daos_base.specs.declared.shown.Shown.{Shown}
-use Rattle.daos_base.specs.Operations.{read_path}
+use Rattle.base_types.specs.declared.answer.Answer.{Answer}
+use Rattle.base_types.specs.declared.epoch.Epoch.{Epoch}
+use Rattle.base_types.specs.declared.outcome.Cause.{Cause}
+use Rattle.base_types.specs.declared.outcome.Cause.TheVariants.{Floor}
+use Rattle.base_types.specs.declared.outcome.FloorWhy.TheVariants.{Aggregate}
+use Rattle.base_types.specs.declared.operation.Read.{Read}
+use Rattle.base_types.specs.declared.operation.Read.TheVariants as read
+use Rattle.base_types.specs.declared.shown.Shown.{Shown}
+use Rattle.base_types.specs.Operations.{read_path}
 use Rattle.daos_model.specs.declared.durable.ContRow.{ContRow}
 use Rattle.daos_model.specs.declared.durable.Durable.{Durable}
 use Rattle.daos_model.specs.declared.durable.Version.{Version}
@@ -49,7 +49,7 @@ pub read-in_form : (r : Read) → is_read_in_form r ≡ true → is_path_in_form
 unfolding is_read_in_form
 read-in_form (read.Single p) h = akey-in_form p.obj p.dkey p.akey h
 read-in_form (read.Extent p low len) h =
-    akey-in_form p.obj p.dkey p.akey (and_left (ends_at_akey p) (is_length len) (and_left (ends_at_akey p && is_length len) (nat_lt (low + len) (2 ^ 32)) h))
+    akey-in_form p.obj p.dkey p.akey (and_left (ends_at_akey p) (is_length (len * record_size p)) (and_left (ends_at_akey p && is_length (len * record_size p)) (fits_array (record_size p) low len) h))
 read-in_form (read.Dkeys p) h = object-in_form p.obj p.dkey p.akey h
 read-in_form (read.Akeys p) h = dkey-in_form p.obj p.dkey p.akey h
 read-in_form (read.Exists p) h = h

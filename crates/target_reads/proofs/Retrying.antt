@@ -1,13 +1,13 @@
 -- Fetches that are tried again in a Verdict's turn.
 use Rattle.std.proofs.Common.{ℕ, ◌≡◌, ◌++◌, refl, ◌∙◌, ap, true, List, ◌∷◌, Option, Some, None, is_some}
-use Rattle.daos_base.specs.declared.entry.Verdict.{Verdict}
-use Rattle.daos_base.specs.declared.entry.Verdict.TheVariants as verdict
-use Rattle.daos_base.specs.declared.epoch.Epoch.{Epoch}
-use Rattle.daos_base.specs.declared.id.AttemptId.{AttemptId}
-use Rattle.daos_base.specs.declared.id.ContId.{ContId}
-use Rattle.daos_laws.specs.Members.{Has, has-from_filter, has-from_map}
-use Rattle.daos_messages.specs.declared.message.Message.{Message}
-use Rattle.daos_messages.specs.declared.message.Post.{Post}
+use Rattle.base_types.specs.declared.entry.Verdict.{Verdict}
+use Rattle.base_types.specs.declared.entry.Verdict.TheVariants as verdict
+use Rattle.base_types.specs.declared.epoch.Epoch.{Epoch}
+use Rattle.base_types.specs.declared.id.AttemptId.{AttemptId}
+use Rattle.base_types.specs.declared.id.ContId.{ContId}
+use Rattle.model_laws.specs.Members.{Has, has-from_filter, has-from_map}
+use Rattle.base_messages.specs.declared.message.Message.{Message}
+use Rattle.base_messages.specs.declared.message.Post.{Post}
 use Rattle.daos_model.specs.declared.durable.Durable.{Durable}
 use Rattle.daos_model.specs.Durables.{is_enlisted}
 use Rattle.dtx_base.specs.declared.member.Parked.{Parked}

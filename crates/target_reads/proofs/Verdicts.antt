@@ -1,12 +1,12 @@
 -- What a Verdict comes to: the attempt is settled, and the Fetches that waited are tried again one by one.
 use Rattle.std.proofs.Common.{ℕ, ◌≡◌, ◌<◌, ◌++◌, inr, refl, sym, ◌∙◌, ap, subst, List, [], ◌∷◌, length, drop, slice_index_or, true, Option, Some, None, Ok, Err, arith}
-use Rattle.daos_base.specs.declared.entry.Entry.{Entry}
-use Rattle.daos_base.specs.declared.entry.Verdict.{Verdict}
-use Rattle.daos_base.specs.declared.entry.Verdict.TheVariants as verdict
-use Rattle.daos_base.specs.declared.id.AttemptId.{AttemptId}
-use Rattle.daos_laws.specs.Members.{Has}
-use Rattle.daos_messages.specs.declared.message.Message.{Message}
-use Rattle.daos_messages.specs.declared.message.Post.{Post}
+use Rattle.base_types.specs.declared.entry.Entry.{Entry}
+use Rattle.base_types.specs.declared.entry.Verdict.{Verdict}
+use Rattle.base_types.specs.declared.entry.Verdict.TheVariants as verdict
+use Rattle.base_types.specs.declared.id.AttemptId.{AttemptId}
+use Rattle.model_laws.specs.Members.{Has}
+use Rattle.base_messages.specs.declared.message.Message.{Message}
+use Rattle.base_messages.specs.declared.message.Post.{Post}
 use Rattle.daos_model.specs.declared.durable.Durable.{Durable}
 use Rattle.dtx_base.specs.declared.member.Parked.{Parked}
 use Rattle.dtx_base.specs.Joining.{MemberOf, member_step, verdict_heard}

@@ -1,8 +1,8 @@
 -- What a target does that hears a Verdict.
 use Rattle.std.specs.Prelude.{ℕ, ◌≡◌, List, true, is_some, Option, Some, None, Result}
-use Rattle.daos_base.specs.declared.id.AttemptId.{AttemptId}
-use Rattle.daos_laws.specs.Members.{Has}
-use Rattle.daos_messages.specs.declared.message.Message.{Message}
+use Rattle.base_types.specs.declared.id.AttemptId.{AttemptId}
+use Rattle.model_laws.specs.Members.{Has}
+use Rattle.base_messages.specs.declared.message.Message.{Message}
 use Rattle.daos_model.specs.declared.durable.Durable.{Durable}
 use Rattle.vos_store.specs.Calls.{State}
 use Rattle.vos_store.specs.declared.refusal.Stopped.{Stopped}
@@ -10,7 +10,7 @@ use Rattle.world_base.specs.declared.did.Did.{Did}
 use Rattle.world_base.specs.declared.request.FetchRequest.{FetchRequest}
 use Rattle.world_base.specs.declared.target.TargetMemory.{TargetMemory}
 use Rattle.world_base.specs.declared.target.TargetPlan.{TargetPlan}
-use Rattle.daos_base.specs.declared.entry.Verdict.{Verdict}
+use Rattle.base_types.specs.declared.entry.Verdict.{Verdict}
 use Rattle.world_base.specs.Changes.{Change}
 use Rattle.world_base.specs.Reads.{Asked}
 use Rattle.world_base.specs.Roles.{is_prepared}

@@ -1,6 +1,6 @@
 -- A turn in which a Fetch is heard, from a stage on.
 use Rattle.std.specs.Prelude.{ℕ, Option, Result}
-use Rattle.daos_messages.specs.declared.actor.ActorId.{ActorId}
+use Rattle.base_messages.specs.declared.actor.ActorId.{ActorId}
 use Rattle.daos_model.specs.declared.durable.Durable.{Durable}
 use Rattle.vos_store.specs.Calls.{State}
 use Rattle.world_base.specs.declared.did.Did.{Did}

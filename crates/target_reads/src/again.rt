@@ -1,8 +1,8 @@
 // A target hears a Verdict, and tries those Fetches again that waited for it.
 ghost use Rattle.std.specs.Prelude.{◌≡◌, ℕ, [], IfOk, OnOk, Option, Some, is_some, true, false};
 ghost use Rattle.std.specs.Option.{ForSome};
-ghost use Rattle.daos_base.specs.declared.entry.Verdict.{Verdict as VerdictOf};
-ghost use Rattle.daos_base.specs.declared.id.AttemptId.{AttemptId as Attempt};
+ghost use Rattle.base_types.specs.declared.entry.Verdict.{Verdict as VerdictOf};
+ghost use Rattle.base_types.specs.declared.id.AttemptId.{AttemptId as Attempt};
 ghost use Rattle.daos_model.specs.declared.durable.Durable.{Durable};
 ghost use Rattle.vos_store.specs.Refusals.{always_stop, says};
 ghost use Rattle.world_base.specs.declared.target.TargetMemory.{TargetMemory};
@@ -16,10 +16,10 @@ ghost use Rattle.target_parts.specs.Stops.{stop_foreign, stop_store};
 ghost use Rattle.target_reads.specs.Again.{AreHere, AreParkable, MadeSome, TriedTurn, VerdictTurn};
 
 use crate::fetches::hear_known;
-use daos_base::entry::{Settle, Verdict};
-use daos_base::id::AttemptId;
-use daos_messages::actor::ActorId;
-use daos_messages::message::{Message, Messages, Posts};
+use base_types::entry::{Settle, Verdict};
+use base_types::id::AttemptId;
+use base_messages::actor::ActorId;
+use base_messages::message::{Message, Messages, Posts};
 use dtx_base::member::Freed;
 use std::alloc::Global;
 use target_parts::halt::Halt;

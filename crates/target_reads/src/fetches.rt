@@ -1,7 +1,7 @@
 // A target hears a Fetch: whole turns.
 ghost use Rattle.std.specs.Prelude.{◌≡◌, ◌/◌, ◌≤◌, ℕ, IfOk, IfErr, IfSome, OnOk, Some, None, is_some, true, false};
 ghost use Rattle.std.specs.Option.{ForSome};
-ghost use Rattle.daos_base.specs.Operations.{read_path};
+ghost use Rattle.base_types.specs.Operations.{read_path};
 ghost use Rattle.daos_model.specs.declared.durable.Durable.{Durable};
 ghost use Rattle.daos_model.specs.Durables.{is_enlisted};
 ghost use Rattle.daos_model.specs.Forms.{is_read_in_form};
@@ -17,12 +17,12 @@ ghost use Rattle.target_reads.specs.Fetches.{FetchTurn};
 ghost use Rattle.target_reads.specs.Meets.{told_of};
 
 use crate::reads::{Served, serve};
-use daos_base::epoch::Epoch;
-use daos_base::id::AttemptId;
-use daos_base::items::Memory;
-use daos_base::outcome::{Cause, Outcome};
-use daos_messages::actor::ActorId;
-use daos_messages::message::{Message, Reply};
+use base_types::epoch::Epoch;
+use base_types::id::AttemptId;
+use base_types::items::Memory;
+use base_types::outcome::{Cause, Outcome};
+use base_messages::actor::ActorId;
+use base_messages::message::{Message, Reply};
 use daos_outside::clock::Clock;
 use std::alloc::Global;
 use target_parts::epochs::{hear, ready};

@@ -1,7 +1,7 @@
 // A target answers a read.
 ghost use Rattle.std.specs.Prelude.{◌≡◌, ℕ, Decides, Contains, IfOk, Some, true, false};
 ghost use Rattle.std.specs.Option.{ForSome};
-ghost use Rattle.daos_base.specs.Operations.{read_path};
+ghost use Rattle.base_types.specs.Operations.{read_path};
 ghost use Rattle.daos_model.specs.declared.durable.Durable.{Durable};
 ghost use Rattle.daos_model.specs.Durables.{is_enlisted};
 ghost use Rattle.daos_model.specs.Forms.{is_read_in_form};
@@ -15,12 +15,12 @@ ghost use Rattle.dtx_table.specs.Tables.{entry_in};
 ghost use Rattle.world_base.specs.Roles.{other_leader_of};
 ghost use Rattle.target_reads.specs.Meets.{Meets, Serves, beside_of};
 
-use daos_base::answer::Answer;
-use daos_base::entry::Entry;
-use daos_base::epoch::{Epoch, TargetId};
-use daos_base::id::AttemptId;
-use daos_base::outcome::{Cause, FloorWhy};
-use daos_base::shown::Shown;
+use base_types::answer::Answer;
+use base_types::entry::Entry;
+use base_types::epoch::{Epoch, TargetId};
+use base_types::id::AttemptId;
+use base_types::outcome::{Cause, FloorWhy};
+use base_types::shown::Shown;
 use target_parts::halt::Halt;
 use target_parts::kept::{other_leader, settle_decided};
 use target_parts::knows::Knows;

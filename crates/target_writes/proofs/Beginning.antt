@@ -1,18 +1,18 @@
 -- An attempt begins, whose own writes are stored.
 use Rattle.std.proofs.Common.{ℕ, ◌≡◌, refl, ◌∙◌, ap, Bool, true, false, List, [], Option, Some}
 use Rattle.std.specs.Prelude.{if◌then◌else◌}
-use Rattle.daos_base.specs.declared.entry.Entry.{Entry}
-use Rattle.daos_base.specs.declared.epoch.Epoch.{Epoch}
-use Rattle.daos_base.specs.declared.operation.MinorWrite.{MinorWrite}
-use Rattle.daos_messages.specs.declared.actor.ActorId.{ActorId}
-use Rattle.daos_messages.specs.declared.message.Post.{Post}
+use Rattle.base_types.specs.declared.entry.Entry.{Entry}
+use Rattle.base_types.specs.declared.epoch.Epoch.{Epoch}
+use Rattle.base_types.specs.declared.operation.MinorWrite.{MinorWrite}
+use Rattle.base_messages.specs.declared.actor.ActorId.{ActorId}
+use Rattle.base_messages.specs.declared.message.Post.{Post}
 use Rattle.daos_model.specs.declared.durable.Durable.{Durable}
 use Rattle.dtx_base.specs.declared.leading.LeaderMemory.{LeaderMemory}
 use Rattle.dtx_base.specs.Leading.{LeaderOf, LeaderStep, begun, begun_alone, begun_with_others}
 use Rattle.dtx_base.specs.Members.{is_written_at, other_members, writes_at}
 use Rattle.dtx_base.specs.Rows.{is_empty}
-use Rattle.dtx_posts.specs.declared.seat.Seat.{Seat}
-use Rattle.dtx_posts.specs.Seats.{came, leader_of}
+use Rattle.dtx_table.specs.declared.seat.Seat.{Seat}
+use Rattle.dtx_table.specs.Seats.{came, leader_of}
 use Rattle.world_base.specs.declared.did.Did.{Did}
 use Rattle.world_base.specs.declared.request.CommitRequest.{CommitRequest}
 use Rattle.world_base.specs.declared.target.TargetMemory.{TargetMemory}

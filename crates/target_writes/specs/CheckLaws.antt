@@ -1,7 +1,7 @@
 -- Where an epoch is unused, all places at it are free.
 use Rattle.std.specs.Prelude.{◌≡◌, All, List}
-use Rattle.daos_base.specs.declared.epoch.Epoch.{Epoch}
-use Rattle.daos_base.specs.declared.operation.MinorWrite.{MinorWrite}
+use Rattle.base_types.specs.declared.epoch.Epoch.{Epoch}
+use Rattle.base_types.specs.declared.operation.MinorWrite.{MinorWrite}
 use Rattle.daos_model.specs.declared.durable.Durable.{Durable}
 use Rattle.target_writes.specs.Checks.{AreNew}
 

@@ -1,9 +1,9 @@
 // A target checks writes, and stores them.
 ghost use Rattle.std.specs.Prelude.{◌≡◌, ◌/◌, ◌≤◌, ◌<◌, All, List, Option, IfOk, OnErr, Some, None, true, false, vec_len, vec_capacity};
 ghost use Rattle.std.specs.Option.{ForSome};
-ghost use Rattle.daos_base.specs.declared.epoch.Epoch.{Epoch as EpochOf};
-ghost use Rattle.daos_base.specs.declared.outcome.Outcome.TheVariants as outcome;
-ghost use Rattle.daos_base.specs.declared.shown.Shown.{Shown as ShownOf};
+ghost use Rattle.base_types.specs.declared.epoch.Epoch.{Epoch as EpochOf};
+ghost use Rattle.base_types.specs.declared.outcome.Outcome.TheVariants as outcome;
+ghost use Rattle.base_types.specs.declared.shown.Shown.{Shown as ShownOf};
 ghost use Rattle.daos_model.specs.declared.durable.Durable.{Durable};
 ghost use Rattle.daos_model.specs.Forms.{is_write_in_form};
 ghost use Rattle.vos_store.specs.Conditions.{IsPreparable};
@@ -14,12 +14,12 @@ ghost use Rattle.target_parts.specs.Knowing.{HasEpochs, IsBeside, LeadsWell, mem
 ghost use Rattle.target_parts.specs.Parts.{Asks, Runs};
 ghost use Rattle.target_writes.specs.Checks.{AnswersReads, AreEnlisted, CanStore, Checks, PreparesOrNot, entries_then};
 
-use daos_base::entry::Entry;
-use daos_base::epoch::{Epoch, TargetId};
-use daos_base::items::Memory;
-use daos_base::operation::MinorWrite;
-use daos_base::outcome::{Cause, Outcome};
-use daos_base::shown::Shown;
+use base_types::entry::Entry;
+use base_types::epoch::{Epoch, TargetId};
+use base_types::items::Memory;
+use base_types::operation::MinorWrite;
+use base_types::outcome::{Cause, Outcome};
+use base_types::shown::Shown;
 use daos_model::blocks::blocks;
 use dtx_table::rows::put;
 use target_parts::halt::Halt;

@@ -1,7 +1,7 @@
 // A target hears a Commit: whole turns.
 ghost use Rattle.std.specs.Prelude.{◌≡◌, ◌/◌, ◌<◌, ◌≤◌, ℕ, IfOk, IfErr, IfSome, Some, None, is_some, true, false};
 ghost use Rattle.std.specs.Option.{ForSome};
-ghost use Rattle.daos_messages.specs.declared.message.Message.TheVariants as message;
+ghost use Rattle.base_messages.specs.declared.message.Message.TheVariants as message;
 ghost use Rattle.daos_model.specs.declared.durable.Durable.{Durable};
 ghost use Rattle.vos_store.specs.Refusals.{says};
 ghost use Rattle.world_base.specs.declared.target.TargetMemory.{TargetMemory};
@@ -15,15 +15,15 @@ ghost use Rattle.target_writes.specs.Checks.{AreWrites, CanCommit, CanStore, IsP
 ghost use Rattle.target_writes.specs.Turns.{CommitTurn, begun_of};
 
 use crate::checks::prepare;
-use daos_base::entry::Entry;
-use daos_base::epoch::Epoch;
-use daos_base::id::AttemptId;
-use daos_base::items::Memory;
-use daos_base::outcome::Outcome;
-use daos_messages::actor::ActorId;
-use daos_messages::message::Message;
+use base_types::entry::Entry;
+use base_types::epoch::Epoch;
+use base_types::id::AttemptId;
+use base_types::items::Memory;
+use base_types::outcome::Outcome;
+use base_messages::actor::ActorId;
+use base_messages::message::Message;
 use daos_outside::clock::Clock;
-use dtx_posts::written::writes_at;
+use dtx_table::written::writes_at;
 use std::alloc::Global;
 use target_members::members::members_of;
 use target_parts::epochs::ready;

@@ -7,9 +7,9 @@ ghost use Rattle.daos_model.specs.Prunes.{is_going};
 ghost use Rattle.vos_aggregate.specs.declared.PruneNo.TheVariants.{Memory as NoMemory};
 ghost use Rattle.vos_aggregate.specs.Opens.{PlanWhy, is_open_below};
 
-use daos_base::epoch::Epoch;
-use daos_base::id::{AttemptId, ContId};
-use daos_base::items::{Items, TryCopy};
+use base_types::epoch::Epoch;
+use base_types::id::{AttemptId, ContId};
+use base_types::items::{Items, TryCopy};
 use daos_model::durable::{Durable, Version, Versions};
 use daos_model::prunes::Plan;
 use std::alloc::{AllocError, AllocFailed, Global};

@@ -2,13 +2,13 @@
 use Rattle.std.proofs.Common.{◌≡◌, ℕ, ◌+◌, ◌≤◌, Bool, true, false, not, List, [], ◌∷◌, None, length, map, refl, sym, ◌∙◌, ap, subst, arith}
 use Rattle.std.specs.Prelude.{filter, if◌then◌else◌}
 use Rattle.std.specs.List.{list_all, list_any}
-use Rattle.daos_base.specs.declared.entry.Entry.{Entry}
-use Rattle.daos_base.specs.declared.entry.Settle.TheVariants.{Commit, Abort, Confirm, Forget}
-use Rattle.daos_base.specs.declared.epoch.Epoch.{Epoch}
-use Rattle.daos_base.specs.declared.id.AttemptId.{AttemptId}
-use Rattle.daos_base.specs.declared.id.ContId.{ContId}
-use Rattle.daos_base.specs.declared.outcome.FloorWhy.TheVariants.{Snapshot}
-use Rattle.daos_base.specs.declared.snapshot.Snap.{Snap}
+use Rattle.base_types.specs.declared.entry.Entry.{Entry}
+use Rattle.base_types.specs.declared.entry.Settle.TheVariants.{Commit, Abort, Confirm, Forget}
+use Rattle.base_types.specs.declared.epoch.Epoch.{Epoch}
+use Rattle.base_types.specs.declared.id.AttemptId.{AttemptId}
+use Rattle.base_types.specs.declared.id.ContId.{ContId}
+use Rattle.base_types.specs.declared.outcome.FloorWhy.TheVariants.{Snapshot}
+use Rattle.base_types.specs.declared.snapshot.Snap.{Snap}
 use Rattle.daos_model.specs.declared.durable.ContRow.{ContRow}
 use Rattle.daos_model.specs.declared.durable.Durable.{Durable}
 use Rattle.daos_model.specs.declared.durable.Version.{Version}
@@ -24,8 +24,8 @@ use Rattle.daos_model.specs.BoolLaws.{and_left, and_right}
 use Rattle.vos_plain.specs.Costs.{taken_blocks, version_blocks, versions_blocks}
 use Rattle.vos_plain.specs.Steps.{with_entry}
 use Rattle.vos_plain.specs.Sweeps.{unmarked}
-use Rattle.daos_base.specs.declared.operation.Write.{Write}
-use Rattle.daos_base.specs.declared.operation.Write.TheVariants.{Single, Extent, PunchObject, PunchDkey, PunchAkey}
+use Rattle.base_types.specs.declared.operation.Write.{Write}
+use Rattle.base_types.specs.declared.operation.Write.TheVariants.{Single, Extent, PunchObject, PunchDkey, PunchAkey}
 use Rattle.daos_model.specs.Blocks.{write_blocks}
 
 -- ---- blocks

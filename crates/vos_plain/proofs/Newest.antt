@@ -5,11 +5,11 @@ use Rattle.std.specs.List.{list_any}
 use Rattle.std.proofs.lemmas.List.{reverse-append}
 use Rattle.std.proofs.lemmas.List.Folds.{find-append}
 use Rattle.std.specs.Option.{option_or}
-use Rattle.daos_base.specs.declared.operation.Read.TheVariants as read
-use Rattle.daos_base.specs.declared.operation.Write.{Write}
-use Rattle.daos_base.specs.declared.operation.Write.TheVariants.{Single, Extent, PunchObject, PunchDkey, PunchAkey}
-use Rattle.daos_base.specs.declared.path.Path.{Path}
-use Rattle.daos_base.specs.Paths.{same_path}
+use Rattle.base_types.specs.declared.operation.Read.TheVariants as read
+use Rattle.base_types.specs.declared.operation.Write.{Write}
+use Rattle.base_types.specs.declared.operation.Write.TheVariants.{Single, Extent, PunchObject, PunchDkey, PunchAkey}
+use Rattle.base_types.specs.declared.path.Path.{Path}
+use Rattle.base_types.specs.Paths.{same_path}
 use Rattle.daos_model.specs.declared.cell.Cell.{Cell}
 use Rattle.daos_model.specs.declared.durable.Version.{Version}
 use Rattle.daos_model.specs.Answers.{answer, value_answer}

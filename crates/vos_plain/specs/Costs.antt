@@ -1,6 +1,6 @@
 -- The blocks that a store over lists counts as taken.
 use Rattle.std.specs.Prelude.{ℕ, ◌+◌, ◌*◌, List, [], ◌∷◌, length}
-use Rattle.daos_base.specs.declared.entry.Entry.{Entry}
+use Rattle.base_types.specs.declared.entry.Entry.{Entry}
 use Rattle.daos_model.specs.declared.durable.Version.{Version}
 use Rattle.daos_model.specs.Blocks.{write_blocks}
 

@@ -1,6 +1,6 @@
 -- What a store over lists says of itself.
 use Rattle.std.specs.Prelude.{ℕ, false, true}
-use Rattle.daos_base.specs.declared.outcome.FloorWhy.TheVariants.{Opening}
+use Rattle.base_types.specs.declared.outcome.FloorWhy.TheVariants.{Opening}
 use Rattle.daos_model.specs.declared.durable.Durable.{Durable}
 use Rattle.vos_store.specs.Calls.{State}
 use Rattle.vos_plain.specs.declared.store.PlainStore.{PlainStore}

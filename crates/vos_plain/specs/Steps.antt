@@ -1,6 +1,6 @@
 -- What the changes of the contents of a store over lists make of what they stand for.
 use Rattle.std.specs.Prelude.{List}
-use Rattle.daos_base.specs.declared.entry.Entry.{Entry}
+use Rattle.base_types.specs.declared.entry.Entry.{Entry}
 use Rattle.daos_model.specs.declared.durable.Durable.{Durable}
 use Rattle.daos_model.specs.declared.durable.Version.{Version}
 use Rattle.daos_model.specs.Durables.{entry_key, version_key}

@@ -11,15 +11,15 @@ use crate::contents::Contents;
 use crate::reads::answer_below;
 use crate::rows::{blocks_of, first_between, first_blocking, first_open_in};
 use crate::tables::{copied, has_snap, new_row, row_of};
-use daos_base::answer::Answer;
-use daos_base::entry::{Entries, Entry};
-use daos_base::epoch::Epoch;
-use daos_base::id::ContId;
-use daos_base::items::{Items, Memory};
-use daos_base::operation::Read;
-use daos_base::path::Path;
-use daos_base::shown::Shown;
-use daos_base::snapshot::Snaps;
+use base_types::answer::Answer;
+use base_types::entry::{Entries, Entry};
+use base_types::epoch::Epoch;
+use base_types::id::ContId;
+use base_types::items::{Items, Memory};
+use base_types::operation::Read;
+use base_types::path::Path;
+use base_types::shown::Shown;
+use base_types::snapshot::Snaps;
 use daos_model::durable::{ContRow, Version};
 use std::alloc::Global;
 use vos_store::refusal::{DiscardNo, FetchNo, FreezeNo};
@@ -73,7 +73,7 @@ impl Contents {
     ghost use Rattle.daos_model.specs.Durables.{is_frozen, row_of};
     ghost use Rattle.vos_store.specs.Answers.{discards, fetched, freezes, is_past, later_write};
     ghost use Rattle.vos_store.specs.Refusals.{discard_stop, fetch_open, fetch_stop, freeze_stop, says};
-    ghost use Rattle.daos_base.specs.Epochs.{restart_floor};
+    ghost use Rattle.base_types.specs.Epochs.{restart_floor};
     ghost use Rattle.vos_plain.specs.Contents.{contents_of, free_of};
 
     /// What is kept of a container.

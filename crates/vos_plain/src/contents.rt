@@ -3,8 +3,8 @@ ghost use Rattle.std.specs.Prelude.{◌≡◌, ◌+◌, ◌<◌, ◌≤◌, vec_
 ghost use Rattle.daos_model.specs.Durables.{IsInForm};
 ghost use Rattle.vos_plain.specs.Costs.{taken_blocks};
 
-use daos_base::entry::Entry;
-use daos_base::snapshot::Snap;
+use base_types::entry::Entry;
+use base_types::snapshot::Snap;
 use daos_model::durable::{ContRow, Version};
 use std::alloc::Global;
 

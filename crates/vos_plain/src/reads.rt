@@ -8,11 +8,11 @@ ghost use Rattle.daos_model.specs.Durables.{is_version_in_form};
 ghost use Rattle.daos_model.specs.Versions.{map_below};
 ghost use Rattle.vos_plain.specs.Newest.{says_at, single_of};
 
-use daos_base::answer::Answer;
-use daos_base::epoch::Epoch;
-use daos_base::items::Memory;
-use daos_base::operation::{Read, Write};
-use daos_base::path::Path;
+use base_types::answer::Answer;
+use base_types::epoch::Epoch;
+use base_types::items::Memory;
+use base_types::operation::{Read, Write};
+use base_types::path::Path;
 use daos_model::answers::answer_of;
 use daos_model::durable::Version;
 use daos_model::effect::apply_write;

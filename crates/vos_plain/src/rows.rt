@@ -12,12 +12,12 @@ ghost use Rattle.vos_store.specs.Answers.{is_open_in};
 ghost use Rattle.vos_plain.specs.Costs.{version_blocks, versions_blocks};
 
 use crate::keyed::put_late;
-use daos_base::entry::Entry;
-use daos_base::epoch::Epoch;
-use daos_base::id::{AttemptId, ContId};
-use daos_base::items::{Memory, TryCopy};
-use daos_base::operation::MinorWrite;
-use daos_base::path::Path;
+use base_types::entry::Entry;
+use base_types::epoch::Epoch;
+use base_types::id::{AttemptId, ContId};
+use base_types::items::{Memory, TryCopy};
+use base_types::operation::MinorWrite;
+use base_types::path::Path;
 use daos_model::blocks::write_blocks;
 use daos_model::durable::{Version, is_same_attempt};
 use std::alloc::Global;

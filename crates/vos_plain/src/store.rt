@@ -3,8 +3,8 @@ ghost use Rattle.std.specs.Prelude.{◌+◌, ◌*◌, ◌≤◌};
 
 use crate::contents::Contents;
 use crate::trips::Trips;
-use daos_base::epoch::Epoch;
-use daos_base::outcome::FloorWhy;
+use base_types::epoch::Epoch;
+use base_types::outcome::FloorWhy;
 
 /// A store over lists in memory, made for 64 targets. It stops at the changes that a plan or a fuse
 /// says.

@@ -7,10 +7,10 @@ ghost use Rattle.vos_plain.specs.Sweeps.{unmarked};
 
 use crate::rows::{is_in_range, is_pending};
 use crate::tables::{is_entry_of, is_snap_at};
-use daos_base::entry::Entry;
-use daos_base::epoch::Epoch;
-use daos_base::id::{AttemptId, ContId};
-use daos_base::snapshot::Snap;
+use base_types::entry::Entry;
+use base_types::epoch::Epoch;
+use base_types::id::{AttemptId, ContId};
+use base_types::snapshot::Snap;
 use daos_model::durable::Version;
 use daos_model::prunes::Plan;
 

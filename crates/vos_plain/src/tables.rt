@@ -2,17 +2,17 @@
 ghost use Rattle.std.specs.Prelude.{◌≡◌, ◌<◌, find, map, IfOk, OnOk, vec_capacity};
 ghost use Rattle.std.specs.List.{list_any};
 ghost use Rattle.std.specs.Option.{option_copied};
-ghost use Rattle.daos_base.specs.declared.outcome.FloorWhy.{FloorWhy};
+ghost use Rattle.base_types.specs.declared.outcome.FloorWhy.{FloorWhy};
 ghost use Rattle.daos_model.specs.Changes.{aggregated_to, committed_at, confirmed_at, created_at, marked_at, raised, raised_at, with_cont, with_conts};
 ghost use Rattle.daos_model.specs.Durables.{is_entry_of, is_row_of, is_snap_at, new_row};
 
 use crate::keyed::put_in;
-use daos_base::entry::Entry;
-use daos_base::epoch::{Epoch, TargetId};
-use daos_base::id::{AttemptId, ContId};
-use daos_base::items::Memory;
-use daos_base::outcome::FloorWhy;
-use daos_base::snapshot::Snap;
+use base_types::entry::Entry;
+use base_types::epoch::{Epoch, TargetId};
+use base_types::id::{AttemptId, ContId};
+use base_types::items::Memory;
+use base_types::outcome::FloorWhy;
+use base_types::snapshot::Snap;
 use daos_model::durable::{ContRow, is_same_attempt};
 use std::alloc::Global;
 

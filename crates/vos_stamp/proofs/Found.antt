@@ -4,10 +4,10 @@ use Rattle.std.specs.Prelude.{All, Contains, find, nat_lt, if◌then◌else◌}
 use Rattle.std.specs.List.{AllByRecursion}
 use Rattle.std.proofs.lemmas.Bool.Decides.{nat_tests}
 use Rattle.std.proofs.lemmas.List.Elements.{All-from_recursion, recursion_from_All}
-use Rattle.daos_base.specs.declared.path.Path.{Path}
-use Rattle.daos_base.specs.declared.shown.Shown.{Shown}
-use Rattle.daos_base.specs.PathLaws.{near-from_overlaps}
-use Rattle.daos_base.specs.Paths.{overlaps}
+use Rattle.base_types.specs.declared.path.Path.{Path}
+use Rattle.base_types.specs.declared.shown.Shown.{Shown}
+use Rattle.base_types.specs.PathLaws.{near-from_overlaps}
+use Rattle.base_types.specs.Paths.{overlaps}
 use Rattle.vos_stamp.specs.Stamps.{AnswersLater, IsShown, NoneAgainst, stands_against}
 
 both : (a b : Bool) → (a && b) ≡ true → (a ≡ true) × (b ≡ true)

@@ -1,14 +1,14 @@
 // The checks of a target's reads and writes.
 ghost use Rattle.std.specs.Prelude.{◌≡◌, ◌<◌, OnOk, IfOk};
-ghost use Rattle.daos_base.specs.declared.outcome.FloorWhy.TheVariants.{Opening};
+ghost use Rattle.base_types.specs.declared.outcome.FloorWhy.TheVariants.{Opening};
 ghost use Rattle.vos_stamp.specs.Stamps.{AnswersWrite, ReadThenWrite, floor_cause, later_cause, read_cause, read_later, write_later};
 
 use crate::stamps::Stamps;
-use daos_base::epoch::{Epoch, TargetId};
-use daos_base::items::Memory;
-use daos_base::outcome::{Cause, FloorWhy};
-use daos_base::path::Path;
-use daos_base::shown::Shown;
+use base_types::epoch::{Epoch, TargetId};
+use base_types::items::Memory;
+use base_types::outcome::{Cause, FloorWhy};
+use base_types::path::Path;
+use base_types::shown::Shown;
 
 // The cause of a floor, where the epoch isn't above it.
 fn at_floor(epoch: Epoch, floor: (Epoch, FloorWhy), me: TargetId) -> Option<Cause>

@@ -3,11 +3,11 @@ ghost use Rattle.std.specs.Prelude.{◌≡◌, ◌++◌, [], ◌∷◌, find, On
 ghost use Rattle.std.specs.Option.{option_copied};
 ghost use Rattle.vos_stamp.specs.Stamps.{AnswersLater, stands_against};
 
-use daos_base::epoch::Epoch;
-use daos_base::id::AttemptId;
-use daos_base::items::{Items, Memory};
-use daos_base::path::Path;
-use daos_base::shown::Shown;
+use base_types::epoch::Epoch;
+use base_types::id::AttemptId;
+use base_types::items::{Items, Memory};
+use base_types::path::Path;
+use base_types::shown::Shown;
 use std::alloc::Global;
 use std::marker::Model;
 
@@ -21,7 +21,7 @@ pub struct Stamps {
 
 impl Model for Stamps {
     ghost use Rattle.std.specs.Prelude.{List};
-    ghost use Rattle.daos_base.specs.declared.shown.Shown.{Shown};
+    ghost use Rattle.base_types.specs.declared.shown.Shown.{Shown};
 
     ghost Value = { List Shown };
 

@@ -1,9 +1,9 @@
 -- What every call of a store says: when it answers Stopped, what then stands, and what stays.
 use Rattle.std.specs.Prelude.{◌≡◌, ℕ, ◌+◌, ◌≤◌, ◌⊎◌, ◌<◌, Bool, true, false, ◌&&◌, nat_lt, filter, length, Option, Some, Result, OnOk, is_some, is_err, List}
 use Rattle.std.specs.Option.{option_map}
-use Rattle.daos_base.specs.declared.epoch.Epoch.{Epoch}
-use Rattle.daos_base.specs.declared.id.ContId.{ContId}
-use Rattle.daos_base.specs.declared.outcome.FloorWhy.{FloorWhy}
+use Rattle.base_types.specs.declared.epoch.Epoch.{Epoch}
+use Rattle.base_types.specs.declared.id.ContId.{ContId}
+use Rattle.base_types.specs.declared.outcome.FloorWhy.{FloorWhy}
 use Rattle.daos_model.specs.declared.durable.Durable.{Durable}
 use Rattle.daos_model.specs.declared.durable.Version.{Version}
 use Rattle.daos_model.specs.Changes.{is_in_range, marked, reopened, with_versions}

@@ -1,7 +1,7 @@
 // Why a store doesn't do what it is asked. `Stopped` is in each: see `Store`.
 
-use daos_base::epoch::Epoch;
-use daos_base::id::AttemptId;
+use base_types::epoch::Epoch;
+use base_types::id::AttemptId;
 use thiserror::Error;
 
 /// The store is stopped.

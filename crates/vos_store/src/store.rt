@@ -1,9 +1,9 @@
 // The trait of a target's store.
 ghost use Rattle.std.specs.Prelude.{◌≡◌, ◌≤◌, ◌+◌, ◌^◌, ◌<◌, true, false, Option, Some, Ok, IfOk, OnOk, IsSome, IfSome, MatchResult, is_some};
 ghost use Rattle.std.specs.Option.{ForSome};
-ghost use Rattle.daos_base.specs.Epochs.{restart_floor};
-ghost use Rattle.daos_base.specs.Operations.{read_path};
-ghost use Rattle.daos_base.specs.declared.outcome.FloorWhy.{FloorWhy};
+ghost use Rattle.base_types.specs.Epochs.{restart_floor};
+ghost use Rattle.base_types.specs.Operations.{read_path};
+ghost use Rattle.base_types.specs.declared.outcome.FloorWhy.{FloorWhy};
 ghost use Rattle.daos_model.specs.declared.durable.Durable.{Durable};
 ghost use Rattle.daos_model.specs.Blocks.{blocks};
 ghost use Rattle.daos_model.specs.Changes.{created, discarded, enlisted, frozen, leased, prepared, pruned, settled, thawed};
@@ -18,16 +18,16 @@ ghost use Rattle.vos_store.specs.Refusals.{always_stop, discard_open, discard_st
 use crate::refusal::{
     DiscardNo, EnlistNo, FetchNo, FreezeNo, LaterNo, PrepareNo, ReopenNo, Stopped,
 };
-use daos_base::answer::Answer;
-use daos_base::entry::{Entries, Entry, Settle};
-use daos_base::epoch::Epoch;
-use daos_base::id::{AttemptId, ContId};
-use daos_base::items::Memory;
-use daos_base::operation::{MinorWrite, Read};
-use daos_base::outcome::FloorWhy;
-use daos_base::path::Path;
-use daos_base::shown::Shown;
-use daos_base::snapshot::Snaps;
+use base_types::answer::Answer;
+use base_types::entry::{Entries, Entry, Settle};
+use base_types::epoch::Epoch;
+use base_types::id::{AttemptId, ContId};
+use base_types::items::Memory;
+use base_types::operation::{MinorWrite, Read};
+use base_types::outcome::FloorWhy;
+use base_types::path::Path;
+use base_types::shown::Shown;
+use base_types::snapshot::Snaps;
 
 /// What a target keeps: versions, entries, containers with their floors and aggregated-to epochs,
 /// snapshots, a lease and an incarnation.

@@ -4,10 +4,10 @@ use Rattle.std.proofs.Common.{inl, inr, sym, ◌∙◌, ap, subst}
 use Rattle.std.proofs.Math.ListN.{set}
 use Rattle.std.proofs.lemmas.List.{length-set}
 use Rattle.std.proofs.lemmas.Option.{slice_get_within}
-use Rattle.daos_base.specs.Scripts.{IsInForm}
-use Rattle.daos_laws.specs.Members.{Has, contains-from_has, has-cases, has-from_contains, has-from_map, has-left, has-right}
-use Rattle.daos_messages.specs.declared.actor.ActorId.{ActorId}
-use Rattle.daos_messages.specs.declared.message.Post.{Post}
+use Rattle.base_types.specs.Scripts.{IsInForm}
+use Rattle.model_laws.specs.Members.{Has, contains-from_has, has-cases, has-from_contains, has-from_map, has-left, has-right}
+use Rattle.base_messages.specs.declared.actor.ActorId.{ActorId}
+use Rattle.base_messages.specs.declared.message.Post.{Post}
 use Rattle.world_addresses.specs.Addresses.{AddressesBegin, AreAddressed, ArePlaced, ArePosts, AsksPlainly, Crowd, EventsKeepAddresses, GoesTo, IsAddressed, KnowsWho, crowd}
 use Rattle.world_addresses.specs.ClientAddresses.{heard-silent, move-right}
 use Rattle.world_addresses.specs.TurnAddresses.{hears-right, idles-right}

@@ -1,27 +1,27 @@
 -- What clients send is addressed right.
 use Rattle.std.specs.Prelude.{ℕ, zero, suc, ◌≡◌, ◌<◌, ◌&&◌, Bool, true, false, All, List, [], ◌∷◌, length, slice_get, Option, Some, None, refl, if◌then◌else◌}
 use Rattle.std.proofs.Common.{sym, ◌∙◌, ap, subst, inl, inr, true≢false}
-use Rattle.daos_base.specs.declared.answer.Answer.{Answer}
-use Rattle.daos_base.specs.declared.epoch.Epoch.{Epoch}
-use Rattle.daos_base.specs.declared.id.ObjId.{ObjId}
-use Rattle.daos_base.specs.declared.operation.Cond.{Cond}
-use Rattle.daos_base.specs.declared.operation.MinorWrite.{MinorWrite}
-use Rattle.daos_base.specs.declared.operation.Op.{Op}
-use Rattle.daos_base.specs.declared.script.Command.{Command}
-use Rattle.daos_base.specs.declared.script.Command.TheVariants.{Run, Snap, Aggregate, Tell, Skip}
-use Rattle.daos_base.specs.Operations.{read_path, write_path}
-use Rattle.daos_base.specs.Placement.{members, writes_leader}
-use Rattle.daos_base.specs.PlacementLaws.{members-within}
-use Rattle.daos_base.specs.Scripts.{AreTold, IsInForm, IsTold}
-use Rattle.daos_laws.specs.DecidedLaws.{has-all}
-use Rattle.daos_laws.specs.FamilyLaws.{leader-within}
-use Rattle.daos_laws.specs.Members.{Has}
-use Rattle.daos_laws.specs.PlaceLaws.{asked-member}
-use Rattle.daos_messages.specs.declared.message.Message.{Message}
-use Rattle.daos_messages.specs.declared.message.Message.TheVariants as message
-use Rattle.daos_messages.specs.declared.message.Post.{Post}
-use Rattle.daos_messages.specs.declared.message.Reply.{Reply}
-use Rattle.daos_messages.specs.declared.message.Reply.TheVariants as reply
+use Rattle.base_types.specs.declared.answer.Answer.{Answer}
+use Rattle.base_types.specs.declared.epoch.Epoch.{Epoch}
+use Rattle.base_types.specs.declared.id.ObjId.{ObjId}
+use Rattle.base_types.specs.declared.operation.Cond.{Cond}
+use Rattle.base_types.specs.declared.operation.MinorWrite.{MinorWrite}
+use Rattle.base_types.specs.declared.operation.Op.{Op}
+use Rattle.base_types.specs.declared.script.Command.{Command}
+use Rattle.base_types.specs.declared.script.Command.TheVariants.{Run, Snap, Aggregate, Tell, Skip}
+use Rattle.base_types.specs.Operations.{read_path, write_path}
+use Rattle.base_types.specs.Placement.{members, writes_leader}
+use Rattle.base_types.specs.PlacementLaws.{members-within}
+use Rattle.base_types.specs.Scripts.{AreTold, IsInForm, IsTold}
+use Rattle.model_laws.specs.DecidedLaws.{has-all}
+use Rattle.model_laws.specs.FamilyLaws.{leader-within}
+use Rattle.model_laws.specs.Members.{Has}
+use Rattle.model_laws.specs.PlaceLaws.{asked-member}
+use Rattle.base_messages.specs.declared.message.Message.{Message}
+use Rattle.base_messages.specs.declared.message.Message.TheVariants as message
+use Rattle.base_messages.specs.declared.message.Post.{Post}
+use Rattle.base_messages.specs.declared.message.Reply.{Reply}
+use Rattle.base_messages.specs.declared.message.Reply.TheVariants as reply
 use Rattle.world_addresses.specs.Addresses.{ArePosts, AsksPlainly, Crowd, GoesTo, IsAddressed, crowd}
 use Rattle.world_addresses.specs.LeaderAddresses.{none-posted, one-posted}
 use Rattle.world_base.specs.declared.client.ClientPlan.{ClientPlan}

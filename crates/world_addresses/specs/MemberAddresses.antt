@@ -1,13 +1,13 @@
 -- What a member sends is addressed right.
 use Rattle.std.specs.Prelude.{ℕ, ◌<◌, Bool, filter, map, List, [], ◌∷◌, Option, Some, None, refl}
 use Rattle.std.proofs.Common.{sym, subst, inl, inr}
-use Rattle.daos_base.specs.declared.entry.Entry.{Entry}
-use Rattle.daos_base.specs.declared.entry.Verdict.{Verdict}
-use Rattle.daos_base.specs.declared.entry.Verdict.TheVariants as verdict
-use Rattle.daos_base.specs.declared.id.AttemptId.{AttemptId}
-use Rattle.daos_laws.specs.Members.{Has, has-cases, has-from_filter, has-from_map}
-use Rattle.daos_messages.specs.declared.message.Message.{Message}
-use Rattle.daos_messages.specs.declared.message.Message.TheVariants as message
+use Rattle.base_types.specs.declared.entry.Entry.{Entry}
+use Rattle.base_types.specs.declared.entry.Verdict.{Verdict}
+use Rattle.base_types.specs.declared.entry.Verdict.TheVariants as verdict
+use Rattle.base_types.specs.declared.id.AttemptId.{AttemptId}
+use Rattle.model_laws.specs.Members.{Has, has-cases, has-from_filter, has-from_map}
+use Rattle.base_messages.specs.declared.message.Message.{Message}
+use Rattle.base_messages.specs.declared.message.Message.TheVariants as message
 use Rattle.dtx_base.specs.declared.member.Parked.{Parked}
 use Rattle.dtx_base.specs.Joining.{MemberOf, MemberStep, all_unresolved_told, inquired, inquiry_for, is_not_waiting, is_parked_elsewhere, is_parked_on, is_to_inquire, is_waiting, parked_ask, parking, query_for, resolved, to_inquire, undecided_heard, unresolved, unresolved_told, verdict_heard}
 use Rattle.world_addresses.specs.Addresses.{ArePlaced, ArePosts, Crowd, IsAsk, IsParkedRight}

@@ -2,12 +2,12 @@
 -- idle work inquires.
 use Rattle.std.specs.Prelude.{ℕ, ◌≡◌, Bool, true, false, List, [], slice_get, Option, Some, None}
 use Rattle.std.specs.List.{list_all}
-use Rattle.daos_base.specs.declared.entry.Entry.{Entry}
-use Rattle.daos_base.specs.declared.entry.Verdict.{Verdict}
-use Rattle.daos_base.specs.declared.entry.Verdict.TheVariants as verdict
-use Rattle.daos_base.specs.declared.id.AttemptId.{AttemptId}
-use Rattle.daos_laws.specs.Members.{Has}
-use Rattle.daos_messages.specs.declared.message.Message.TheVariants.{Mark, Marked, Query, Verdict as Verdict_message}
+use Rattle.base_types.specs.declared.entry.Entry.{Entry}
+use Rattle.base_types.specs.declared.entry.Verdict.{Verdict}
+use Rattle.base_types.specs.declared.entry.Verdict.TheVariants as verdict
+use Rattle.base_types.specs.declared.id.AttemptId.{AttemptId}
+use Rattle.model_laws.specs.Members.{Has}
+use Rattle.base_messages.specs.declared.message.Message.TheVariants.{Mark, Marked, Query, Verdict as Verdict_message}
 use Rattle.dtx_base.specs.declared.leading.Naming.{Naming}
 use Rattle.dtx_base.specs.declared.leading.Undecided.{Undecided}
 use Rattle.dtx_base.specs.declared.member.Inquiry.{Inquiry}

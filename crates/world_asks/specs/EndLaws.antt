@@ -3,11 +3,11 @@ use Rattle.std.specs.Prelude.{ℕ, ◌≡◌, ◌+◌, ◌==◌, ◌&&◌, not, 
 use Rattle.std.specs.List.{list_all, list_any}
 use Rattle.std.proofs.Common.{sym, ◌∙◌, ap, subst, inl, inr, arith}
 use Rattle.std.proofs.lemmas.Bool.Decides.{nat_tests}
-use Rattle.daos_base.specs.declared.entry.Entry.{Entry}
-use Rattle.daos_base.specs.declared.id.AttemptId.{AttemptId}
-use Rattle.daos_laws.specs.EntryLaws.{found-has, found-passes}
-use Rattle.daos_laws.specs.Lists.{all-pass}
-use Rattle.daos_laws.specs.Members.{Has, any-has, has-filter, has-from_filter}
+use Rattle.base_types.specs.declared.entry.Entry.{Entry}
+use Rattle.base_types.specs.declared.id.AttemptId.{AttemptId}
+use Rattle.model_laws.specs.EntryLaws.{found-has, found-passes}
+use Rattle.model_laws.specs.Lists.{all-pass}
+use Rattle.model_laws.specs.Members.{Has, any-has, has-filter, has-from_filter}
 use Rattle.daos_model.specs.Durables.{entry_of, is_entry_of}
 use Rattle.daos_model.specs.EntryLaws.{same_attempt-itself}
 use Rattle.dtx_base.specs.declared.leading.Naming.{Naming}

@@ -1,7 +1,7 @@
 -- Where a run has ended, everything is settled.
 use Rattle.std.specs.Prelude.{ℕ, ◌≡◌, true, [], slice_get, Some}
-use Rattle.daos_base.specs.declared.entry.Entry.{Entry}
-use Rattle.daos_laws.specs.Members.{Has}
+use Rattle.base_types.specs.declared.entry.Entry.{Entry}
+use Rattle.model_laws.specs.Members.{Has}
 use Rattle.dtx_base.specs.Members.{has_target}
 use Rattle.world_asks.specs.Asks.{Asks}
 use Rattle.world_attempts.specs.Attempts.{Attempts, IsOther}

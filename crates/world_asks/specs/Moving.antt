@@ -2,8 +2,8 @@
 use Rattle.std.specs.Prelude.{ℕ, ◌≡◌, ◌⊎◌, List, ◌∷◌, slice_get, Option, Some, None}
 use Rattle.std.proofs.Common.{sym, ◌∙◌, ap, subst, inl, inr}
 use Rattle.std.proofs.Math.ListN.{set}
-use Rattle.daos_laws.specs.Members.{Has, has-cases, has-from_map, has-left, has-map, has-right}
-use Rattle.daos_messages.specs.declared.message.Post.{Post}
+use Rattle.model_laws.specs.Members.{Has, has-cases, has-from_map, has-left, has-map, has-right}
+use Rattle.base_messages.specs.declared.message.Post.{Post}
 use Rattle.world_attempts.specs.Counting.{has-left_over}
 use Rattle.world_base.specs.declared.letter.Letter.{Letter}
 use Rattle.world_base.specs.declared.target.TargetState.{TargetState}

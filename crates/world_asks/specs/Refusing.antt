@@ -1,12 +1,12 @@
 -- A turn that hears an Ack: an entry stays, or the Ack refuses its attempt, of which the client and the other members are told.
 use Rattle.std.specs.Prelude.{ℕ, ◌≡◌, ◌⊎◌, ◌==◌, ◌&&◌, Bool, true, false, is_some, map, List, ◌++◌, Option, Some, None, refl, if◌then◌else◌}
 use Rattle.std.proofs.Common.{sym, ◌∙◌, subst, inl, inr}
-use Rattle.daos_base.specs.declared.entry.Entry.{Entry}
-use Rattle.daos_base.specs.declared.entry.Settle.TheVariants.{Abort}
-use Rattle.daos_base.specs.declared.id.AttemptId.{AttemptId}
-use Rattle.daos_base.specs.declared.outcome.Outcome.{Outcome}
-use Rattle.daos_laws.specs.Members.{Has, has-map, has-right}
-use Rattle.daos_messages.specs.declared.message.Post.{Post}
+use Rattle.base_types.specs.declared.entry.Entry.{Entry}
+use Rattle.base_types.specs.declared.entry.Settle.TheVariants.{Abort}
+use Rattle.base_types.specs.declared.id.AttemptId.{AttemptId}
+use Rattle.base_types.specs.declared.outcome.Outcome.{Outcome}
+use Rattle.model_laws.specs.Members.{Has, has-map, has-right}
+use Rattle.base_messages.specs.declared.message.Post.{Post}
 use Rattle.daos_model.specs.BoolLaws.{and_left, and_right}
 use Rattle.dtx_base.specs.declared.leading.Undecided.{Undecided}
 use Rattle.dtx_base.specs.Leading.{LeaderOf, abort_to, ack_heard, answer_heard, answer_if_awaited, ended, entry_led, quietly, undecided_of}

@@ -5,16 +5,16 @@ use Rattle.std.specs.Option.{option_map}
 use Rattle.std.proofs.Common.{sym, ◌∙◌, ap, subst, arith, inl, inr}
 use Rattle.std.proofs.Math.ListN.{set}
 use Rattle.std.proofs.lemmas.Bool.Decides.{nat_tests}
-use Rattle.daos_base.specs.declared.entry.Entry.{Entry}
-use Rattle.daos_base.specs.declared.entry.Settle.TheVariants.{Abort}
-use Rattle.daos_base.specs.declared.epoch.Epoch.{Epoch}
-use Rattle.daos_base.specs.declared.id.AttemptId.{AttemptId}
-use Rattle.daos_base.specs.declared.outcome.Outcome.{Outcome}
-use Rattle.daos_base.specs.declared.outcome.Outcome.TheVariants.{Committed}
-use Rattle.daos_laws.specs.Members.{Has, has-from_map, has-left}
-use Rattle.daos_messages.specs.declared.actor.ActorId.{ActorId}
-use Rattle.daos_messages.specs.declared.message.Message.TheVariants as message
-use Rattle.daos_messages.specs.declared.message.Post.{Post}
+use Rattle.base_types.specs.declared.entry.Entry.{Entry}
+use Rattle.base_types.specs.declared.entry.Settle.TheVariants.{Abort}
+use Rattle.base_types.specs.declared.epoch.Epoch.{Epoch}
+use Rattle.base_types.specs.declared.id.AttemptId.{AttemptId}
+use Rattle.base_types.specs.declared.outcome.Outcome.{Outcome}
+use Rattle.base_types.specs.declared.outcome.Outcome.TheVariants.{Committed}
+use Rattle.model_laws.specs.Members.{Has, has-from_map, has-left}
+use Rattle.base_messages.specs.declared.actor.ActorId.{ActorId}
+use Rattle.base_messages.specs.declared.message.Message.TheVariants as message
+use Rattle.base_messages.specs.declared.message.Post.{Post}
 use Rattle.daos_model.specs.BoolLaws.{both, false_of}
 use Rattle.daos_model.specs.Changes.{settled}
 use Rattle.daos_model.specs.Durables.{entry_key, entry_of, same_attempt}
@@ -51,7 +51,7 @@ use Rattle.world_base.specs.StepLaws.{set-here}
 use Rattle.world_base.specs.Acks.{AckEnds, AckNext, AckStage, Aborts, Counts, Followed, Heard, IsFollowed, is_refusing}
 use Rattle.world_base.specs.Changes.{Change, Kept, Steps}
 use Rattle.world_base.specs.Roles.{leader_at, leads_on}
-use Rattle.daos_laws.specs.ServeLaws.{all-has}
+use Rattle.model_laws.specs.ServeLaws.{all-has}
 use Rattle.world_base.specs.ChangeLaws.{incarnation-settled}
 use Rattle.world_base.specs.EntryLaws.{entry-aborted, entry-aborted_other}
 

@@ -1,11 +1,11 @@
 -- What else holds of the world, of which the facts of attempts make use. Other crates prove it.
 use Rattle.std.specs.Prelude.{◌≡◌, List, Option, Some, None}
-use Rattle.daos_base.specs.declared.epoch.Epoch.{Epoch}
-use Rattle.daos_base.specs.declared.id.AttemptId.{AttemptId}
-use Rattle.daos_base.specs.declared.operation.MinorWrite.{MinorWrite}
-use Rattle.daos_laws.specs.Members.{Has}
-use Rattle.daos_messages.specs.declared.actor.ActorId.{ActorId}
-use Rattle.daos_messages.specs.declared.message.Message.TheVariants.{Commit}
+use Rattle.base_types.specs.declared.epoch.Epoch.{Epoch}
+use Rattle.base_types.specs.declared.id.AttemptId.{AttemptId}
+use Rattle.base_types.specs.declared.operation.MinorWrite.{MinorWrite}
+use Rattle.model_laws.specs.Members.{Has}
+use Rattle.base_messages.specs.declared.actor.ActorId.{ActorId}
+use Rattle.base_messages.specs.declared.message.Message.TheVariants.{Commit}
 use Rattle.world_attempts.specs.Attempts.{entry_at, leader_of, writes_of}
 use Rattle.world_attempts.specs.History.{Aborted, History}
 use Rattle.world_base.specs.declared.letter.Letter.{Letter}

@@ -1,18 +1,18 @@
 -- The facts of one attempt between its leader, each other member and the letters between them.
 use Rattle.std.specs.Prelude.{ℕ, ◌≡◌, ◌≢◌, ◌⊎◌, ◌+◌, ◌≤◌, Bool, true, false, ◌&&◌, ◌||◌, ◌==◌, not, List, [], ◌∷◌, slice_get, Option, Some, None}
-use Rattle.daos_base.specs.declared.entry.Entry.{Entry}
-use Rattle.daos_base.specs.declared.entry.Verdict.{Verdict}
-use Rattle.daos_base.specs.declared.entry.Verdict.TheVariants as verdict
-use Rattle.daos_base.specs.declared.epoch.Epoch.{Epoch}
-use Rattle.daos_base.specs.declared.id.AttemptId.{AttemptId}
-use Rattle.daos_base.specs.declared.operation.MinorWrite.{MinorWrite}
-use Rattle.daos_base.specs.declared.outcome.Outcome.{Outcome}
-use Rattle.daos_base.specs.declared.outcome.Outcome.TheVariants.{Committed}
-use Rattle.daos_base.specs.Placement.{writes_members}
-use Rattle.daos_laws.specs.Members.{Has}
-use Rattle.daos_messages.specs.declared.actor.ActorId.{ActorId}
-use Rattle.daos_messages.specs.declared.message.Message.{Message}
-use Rattle.daos_messages.specs.declared.message.Message.TheVariants as message
+use Rattle.base_types.specs.declared.entry.Entry.{Entry}
+use Rattle.base_types.specs.declared.entry.Verdict.{Verdict}
+use Rattle.base_types.specs.declared.entry.Verdict.TheVariants as verdict
+use Rattle.base_types.specs.declared.epoch.Epoch.{Epoch}
+use Rattle.base_types.specs.declared.id.AttemptId.{AttemptId}
+use Rattle.base_types.specs.declared.operation.MinorWrite.{MinorWrite}
+use Rattle.base_types.specs.declared.outcome.Outcome.{Outcome}
+use Rattle.base_types.specs.declared.outcome.Outcome.TheVariants.{Committed}
+use Rattle.base_types.specs.Placement.{writes_members}
+use Rattle.model_laws.specs.Members.{Has}
+use Rattle.base_messages.specs.declared.actor.ActorId.{ActorId}
+use Rattle.base_messages.specs.declared.message.Message.{Message}
+use Rattle.base_messages.specs.declared.message.Message.TheVariants as message
 use Rattle.daos_model.specs.Accesses.{minor_writes}
 use Rattle.daos_model.specs.CausesShown.{leader_of_attempt}
 use Rattle.daos_model.specs.Durables.{entry_key, entry_of, same_attempt}

@@ -1,12 +1,12 @@
 -- What clients send and hear is no letter between targets, so their turns keep the facts of attempts.
 use Rattle.std.specs.Prelude.{ℕ, ◌≡◌, ◌⊎◌, Bool, true, false, ◌&&◌, List, [], ◌++◌, Option, Some, None, refl, if◌then◌else◌}
 use Rattle.std.proofs.Common.{append-nil, sym, ◌∙◌, ap, subst, inl, inr}
-use Rattle.daos_base.specs.declared.id.AttemptId.{AttemptId}
-use Rattle.daos_laws.specs.Members.{Has, has-cases, has-from_map}
-use Rattle.daos_messages.specs.declared.actor.ActorId.{ActorId}
-use Rattle.daos_messages.specs.declared.message.Message.{Message, more_of-Message}
-use Rattle.daos_messages.specs.declared.message.Message.TheVariants as message
-use Rattle.daos_messages.specs.declared.message.Post.{Post}
+use Rattle.base_types.specs.declared.id.AttemptId.{AttemptId}
+use Rattle.model_laws.specs.Members.{Has, has-cases, has-from_map}
+use Rattle.base_messages.specs.declared.actor.ActorId.{ActorId}
+use Rattle.base_messages.specs.declared.message.Message.{Message, more_of-Message}
+use Rattle.base_messages.specs.declared.message.Message.TheVariants as message
+use Rattle.base_messages.specs.declared.message.Post.{Post}
 use Rattle.world_attempts.specs.Attempts.{Attempts, IsTrueOf}
 use Rattle.world_attempts.specs.Counting.{has-left_over, has-taken}
 use Rattle.world_attempts.specs.Frames.{same-itself}

@@ -1,7 +1,7 @@
 -- How many of some pass a test, once one was taken out or others came.
 use Rattle.std.specs.Prelude.{◌≡◌, ◌+◌, ◌≤◌, Bool, true, false, List, [], ◌∷◌, ◌++◌, refl}
 use Rattle.std.proofs.Common.{sym, ◌∙◌, ap, subst, arith, inl, inr}
-use Rattle.daos_laws.specs.Members.{Has, has-cases, has-left, has-right}
+use Rattle.model_laws.specs.Members.{Has, has-cases, has-left, has-right}
 use Rattle.world_attempts.specs.Attempts.{count, one_if}
 use Rattle.world_base.specs.declared.letter.Letter.{Letter}
 use Rattle.world_base.specs.Letters.{Takes}

@@ -3,11 +3,11 @@ use Rattle.std.specs.Prelude.{ℕ, ◌≡◌, Bool, true, false, ◌&&◌, ◌==
 use Rattle.std.proofs.Common.{sym, ◌∙◌, ap, subst, arith, inl, inr}
 use Rattle.std.proofs.Math.ListN.{set}
 use Rattle.std.proofs.lemmas.Bool.Decides.{nat_tests}
-use Rattle.daos_base.specs.declared.entry.Entry.{Entry}
-use Rattle.daos_base.specs.declared.id.AttemptId.{AttemptId}
-use Rattle.daos_laws.specs.Members.{Has, has-cases, has-from_filter, has-from_map}
-use Rattle.daos_messages.specs.declared.message.Message.TheVariants as message
-use Rattle.daos_messages.specs.declared.message.Post.{Post}
+use Rattle.base_types.specs.declared.entry.Entry.{Entry}
+use Rattle.base_types.specs.declared.id.AttemptId.{AttemptId}
+use Rattle.model_laws.specs.Members.{Has, has-cases, has-from_filter, has-from_map}
+use Rattle.base_messages.specs.declared.message.Message.TheVariants as message
+use Rattle.base_messages.specs.declared.message.Post.{Post}
 use Rattle.daos_model.specs.Answers.{is_before}
 use Rattle.daos_model.specs.BoolLaws.{and_left, and_right, clash, false_of, not_true}
 use Rattle.daos_model.specs.Durables.{attempt_key, entry_key, entry_of, same_attempt}
@@ -36,7 +36,7 @@ use Rattle.world_base.specs.StepLaws.{set-here}
 use Rattle.world_base.specs.Changes.{Change, Kept, Steps}
 use Rattle.world_base.specs.Idle.{AllSettled, IdleEnds, IdleNext, SettlesFirst, batch_of, idle_memory, idle_told, inquiry_of}
 use Rattle.world_base.specs.Roles.{leader_at, member_at, with_unsettled}
-use Rattle.daos_laws.specs.TargetLaws.{number_same}
+use Rattle.model_laws.specs.TargetLaws.{number_same}
 
 number-off : (a b : ℕ) → (a == b) ≡ false → a ≡ b → ⊥
 number-off a b off same = let no : ⊥ = grind (arith, nat_tests) in no

@@ -1,7 +1,7 @@
 -- The facts of attempts hold where a run begins, and every right event keeps them, of what is decided and aborted by its end.
 use Rattle.std.specs.Prelude.{ℕ, ◌≡◌, [], slice_get, Some}
-use Rattle.daos_base.specs.declared.epoch.Epoch.{Epoch}
-use Rattle.daos_base.specs.declared.id.AttemptId.{AttemptId}
+use Rattle.base_types.specs.declared.epoch.Epoch.{Epoch}
+use Rattle.base_types.specs.declared.id.AttemptId.{AttemptId}
 use Rattle.world_attempts.specs.Asked.{AskedRight}
 use Rattle.world_attempts.specs.Attempts.{Attempts}
 use Rattle.world_attempts.specs.History.{Aborted, Decided, GrowsBy, History, target_posts}

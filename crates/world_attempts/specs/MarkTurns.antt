@@ -2,10 +2,10 @@
 use Rattle.std.specs.Prelude.{ℕ, ◌≡◌, ◌⊎◌, Bool, true, false, ◌==◌, not, List, [], filter, find, slice_get, Option, Some, refl}
 use Rattle.std.proofs.Common.{sym, ◌∙◌, ap, subst, arith, inl, inr}
 use Rattle.std.proofs.lemmas.Bool.Decides.{nat_tests}
-use Rattle.daos_base.specs.declared.entry.Entry.{Entry}
-use Rattle.daos_base.specs.declared.id.AttemptId.{AttemptId}
-use Rattle.daos_laws.specs.Members.{Has, has-filter, has-from_filter, has-from_map, has-left}
-use Rattle.daos_messages.specs.declared.message.Message.TheVariants as message
+use Rattle.base_types.specs.declared.entry.Entry.{Entry}
+use Rattle.base_types.specs.declared.id.AttemptId.{AttemptId}
+use Rattle.model_laws.specs.Members.{Has, has-filter, has-from_filter, has-from_map, has-left}
+use Rattle.base_messages.specs.declared.message.Message.TheVariants as message
 use Rattle.daos_model.specs.declared.durable.Durable.{Durable}
 use Rattle.daos_model.specs.Changes.{settled}
 use Rattle.daos_model.specs.Durables.{entry_key, entry_of, is_entry_of}
@@ -35,7 +35,7 @@ use Rattle.world_base.specs.Changes.{Change, Kept, Steps}
 use Rattle.world_base.specs.Marks.{AllMarked, MarkEnds, MarkNext, PassesBy, SettlesMarked, marked_step}
 use Rattle.world_base.specs.DoubtLaws.{IsLedElsewhere, in_doubt-prepared, undoubted-closed}
 use Rattle.world_base.specs.Roles.{is_in_doubt, is_open_entry, is_prepared, leader_at}
-use Rattle.daos_laws.specs.EntryLaws.{found-has}
+use Rattle.model_laws.specs.EntryLaws.{found-has}
 use Rattle.world_base.specs.ChangeLaws.{incarnation-settled}
 use Rattle.world_base.specs.EntryLaws.{entry-aborted_other}
 

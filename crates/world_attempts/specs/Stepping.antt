@@ -1,9 +1,9 @@
 -- A change at one target that concerns one attempt, or none, keeps the facts of all.
 use Rattle.std.specs.Prelude.{ℕ, ◌≡◌, ◌⊎◌}
 use Rattle.std.proofs.Common.{sym, ◌∙◌, subst, inl, inr}
-use Rattle.daos_base.specs.declared.epoch.Epoch.{Epoch}
-use Rattle.daos_base.specs.declared.id.AttemptId.{AttemptId}
-use Rattle.daos_laws.specs.Members.{Has}
+use Rattle.base_types.specs.declared.epoch.Epoch.{Epoch}
+use Rattle.base_types.specs.declared.id.AttemptId.{AttemptId}
+use Rattle.model_laws.specs.Members.{Has}
 use Rattle.world_attempts.specs.Attempts.{Attempt, Attempts, IsBorn, IsHeld, IsOrdered, IsSettled, IsTrueOf, leader_of}
 use Rattle.world_attempts.specs.Frames.{Grows, SameFate, Unchanged, letters-on, untouched}
 use Rattle.world_attempts.specs.History.{Aborted, Decided, History}

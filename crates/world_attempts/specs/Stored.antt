@@ -2,14 +2,14 @@
 use Rattle.std.specs.Prelude.{ℕ, ◌≡◌, ◌≢◌, Bool, true, false, ◌||◌, not, bit_or, ◌^◌, map, List, [], ◌∷◌, Option, Some, None, refl, if◌then◌else◌}
 use Rattle.std.specs.Option.{option_map}
 use Rattle.std.proofs.Common.{sym, ◌∙◌, ap, subst, inl, inr}
-use Rattle.daos_base.specs.declared.entry.Entry.{Entry}
-use Rattle.daos_base.specs.declared.entry.Settle.TheVariants.{Commit, Abort, Confirm}
-use Rattle.daos_base.specs.declared.id.AttemptId.{AttemptId}
-use Rattle.daos_base.specs.declared.operation.MinorWrite.{MinorWrite}
-use Rattle.daos_laws.specs.DecidedLaws.{all-from_has}
-use Rattle.daos_laws.specs.EntryLaws.{key-is}
-use Rattle.daos_laws.specs.Members.{Has, any-has, has-any}
-use Rattle.daos_laws.specs.RisingLaws.{after-has}
+use Rattle.base_types.specs.declared.entry.Entry.{Entry}
+use Rattle.base_types.specs.declared.entry.Settle.TheVariants.{Commit, Abort, Confirm}
+use Rattle.base_types.specs.declared.id.AttemptId.{AttemptId}
+use Rattle.base_types.specs.declared.operation.MinorWrite.{MinorWrite}
+use Rattle.model_laws.specs.DecidedLaws.{all-from_has}
+use Rattle.model_laws.specs.EntryLaws.{key-is}
+use Rattle.model_laws.specs.Members.{Has, any-has, has-any}
+use Rattle.model_laws.specs.RisingLaws.{after-has}
 use Rattle.daos_model.specs.declared.durable.Durable.{Durable}
 use Rattle.daos_model.specs.Answers.{is_before}
 use Rattle.daos_model.specs.BoolLaws.{and_left, and_right, clash, false_of, or_from_right}

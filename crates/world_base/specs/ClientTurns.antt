@@ -1,39 +1,39 @@
 -- What a client does in a turn.
 use Rattle.std.specs.List.{list_any}
 use Rattle.std.specs.Prelude.{ℕ, map, filter, ◌≡◌, ◌+◌, ◌++◌, ◌-◌, Bool, true, false, ◌&&◌, nat_lt, nat_le, max, List, [], ◌∷◌, length, find, slice_get, slice_index_or, Option, Some, None, is_some, if◌then◌else◌}
-use Rattle.daos_base.specs.declared.answer.Answer.{Answer}
-use Rattle.daos_base.specs.declared.answer.Answer.TheVariants as answer
-use Rattle.daos_base.specs.declared.epoch.Epoch.{Epoch}
-use Rattle.daos_base.specs.declared.id.AttemptId.{AttemptId}
-use Rattle.daos_base.specs.declared.id.ContId.{ContId}
-use Rattle.daos_base.specs.declared.id.ObjId.{ObjId}
-use Rattle.daos_base.specs.declared.operation.Act.TheVariants as act
-use Rattle.daos_base.specs.declared.operation.Act.{Act}
-use Rattle.daos_base.specs.declared.operation.Cond.{Cond}
-use Rattle.daos_base.specs.declared.operation.Cond.TheVariants.{Free, Must, MustNot}
-use Rattle.daos_base.specs.declared.operation.MinorWrite.{MinorWrite}
-use Rattle.daos_base.specs.declared.operation.Op.{Op}
-use Rattle.daos_base.specs.declared.operation.Read.{Read}
-use Rattle.daos_base.specs.declared.operation.Read.TheVariants.{Exists}
-use Rattle.daos_base.specs.declared.outcome.Cause.TheVariants.{Unresolved}
-use Rattle.daos_base.specs.declared.outcome.Outcome.{Outcome}
-use Rattle.daos_base.specs.declared.outcome.Outcome.TheVariants as outcome
-use Rattle.daos_base.specs.declared.report.Line.{Line}
-use Rattle.daos_base.specs.declared.report.Line.TheVariants.{Try}
-use Rattle.daos_base.specs.declared.script.Command.{Command}
-use Rattle.daos_base.specs.declared.script.Command.TheVariants.{Run, Snap, Aggregate, Tell, Skip}
-use Rattle.daos_base.specs.declared.script.OldDecl.{OldDecl}
-use Rattle.daos_base.specs.declared.script.Script.{Script}
-use Rattle.daos_base.specs.declared.snapshot.Snap as frozen
-use Rattle.daos_base.specs.Keys.{same_key}
-use Rattle.daos_base.specs.Operations.{read_path}
-use Rattle.daos_base.specs.Placement.{group_of, groups, writes_leader}
-use Rattle.daos_laws.specs.Groups.{join_two}
-use Rattle.daos_messages.specs.declared.message.Message.{Message, more_of-Message}
-use Rattle.daos_messages.specs.declared.message.Message.TheVariants as message
-use Rattle.daos_messages.specs.declared.message.Post.{Post}
-use Rattle.daos_messages.specs.declared.message.Reply.{Reply}
-use Rattle.daos_messages.specs.declared.message.Reply.TheVariants as reply
+use Rattle.base_types.specs.declared.answer.Answer.{Answer}
+use Rattle.base_types.specs.declared.answer.Answer.TheVariants as answer
+use Rattle.base_types.specs.declared.epoch.Epoch.{Epoch}
+use Rattle.base_types.specs.declared.id.AttemptId.{AttemptId}
+use Rattle.base_types.specs.declared.id.ContId.{ContId}
+use Rattle.base_types.specs.declared.id.ObjId.{ObjId}
+use Rattle.base_types.specs.declared.operation.Act.TheVariants as act
+use Rattle.base_types.specs.declared.operation.Act.{Act}
+use Rattle.base_types.specs.declared.operation.Cond.{Cond}
+use Rattle.base_types.specs.declared.operation.Cond.TheVariants.{Free, Must, MustNot}
+use Rattle.base_types.specs.declared.operation.MinorWrite.{MinorWrite}
+use Rattle.base_types.specs.declared.operation.Op.{Op}
+use Rattle.base_types.specs.declared.operation.Read.{Read}
+use Rattle.base_types.specs.declared.operation.Read.TheVariants.{Exists}
+use Rattle.base_types.specs.declared.outcome.Cause.TheVariants.{Unresolved}
+use Rattle.base_types.specs.declared.outcome.Outcome.{Outcome}
+use Rattle.base_types.specs.declared.outcome.Outcome.TheVariants as outcome
+use Rattle.base_types.specs.declared.report.Line.{Line}
+use Rattle.base_types.specs.declared.report.Line.TheVariants.{Try}
+use Rattle.base_types.specs.declared.script.Command.{Command}
+use Rattle.base_types.specs.declared.script.Command.TheVariants.{Run, Snap, Aggregate, Tell, Skip}
+use Rattle.base_types.specs.declared.script.OldDecl.{OldDecl}
+use Rattle.base_types.specs.declared.script.Script.{Script}
+use Rattle.base_types.specs.declared.snapshot.Snap as frozen
+use Rattle.base_types.specs.Keys.{same_key}
+use Rattle.base_types.specs.Operations.{read_path}
+use Rattle.base_types.specs.Placement.{group_of, groups, writes_leader}
+use Rattle.model_laws.specs.Groups.{join_two}
+use Rattle.base_messages.specs.declared.message.Message.{Message, more_of-Message}
+use Rattle.base_messages.specs.declared.message.Message.TheVariants as message
+use Rattle.base_messages.specs.declared.message.Post.{Post}
+use Rattle.base_messages.specs.declared.message.Reply.{Reply}
+use Rattle.base_messages.specs.declared.message.Reply.TheVariants as reply
 use Rattle.daos_model.specs.Accesses.{asked_member, minor_writes, op_path}
 use Rattle.daos_model.specs.Attempts.{is_restart, snapshot_of_command}
 use Rattle.daos_model.specs.Conditions.{holds_where}

@@ -1,19 +1,19 @@
 -- A target hears a Commit: it stores an attempt's writes, and decides.
 use Rattle.std.specs.Prelude.{ℕ, ◌≡◌, ◌^◌, ◌/◌, ◌≤◌, ◌<◌, ◌++◌, ◌==◌, Bool, false, bit_or, List, [], ◌∷◌, filter, Option, Some, None, All}
 use Rattle.std.specs.List.{list_any}
-use Rattle.daos_base.specs.declared.entry.Entry.{Entry}
-use Rattle.daos_base.specs.declared.epoch.Epoch.{Epoch}
-use Rattle.daos_base.specs.declared.operation.MinorWrite.{MinorWrite}
-use Rattle.daos_base.specs.declared.outcome.Cause.{Cause}
-use Rattle.daos_base.specs.declared.outcome.FloorWhy.{FloorWhy}
-use Rattle.daos_base.specs.declared.outcome.Outcome.{Outcome}
-use Rattle.daos_base.specs.declared.outcome.Outcome.TheVariants.{Restart, NoSpace, EpochsSpent}
-use Rattle.daos_base.specs.declared.shown.Shown.{Shown}
-use Rattle.daos_base.specs.Epochs.{lease_for}
-use Rattle.daos_base.specs.Operations.{write_path}
-use Rattle.daos_base.specs.Placement.{path_members, writes_members}
-use Rattle.daos_messages.specs.declared.actor.ActorId.{ActorId}
-use Rattle.daos_messages.specs.declared.message.Message.TheVariants.{Ended}
+use Rattle.base_types.specs.declared.entry.Entry.{Entry}
+use Rattle.base_types.specs.declared.epoch.Epoch.{Epoch}
+use Rattle.base_types.specs.declared.operation.MinorWrite.{MinorWrite}
+use Rattle.base_types.specs.declared.outcome.Cause.{Cause}
+use Rattle.base_types.specs.declared.outcome.FloorWhy.{FloorWhy}
+use Rattle.base_types.specs.declared.outcome.Outcome.{Outcome}
+use Rattle.base_types.specs.declared.outcome.Outcome.TheVariants.{Restart, NoSpace, EpochsSpent}
+use Rattle.base_types.specs.declared.shown.Shown.{Shown}
+use Rattle.base_types.specs.Epochs.{lease_for}
+use Rattle.base_types.specs.Operations.{write_path}
+use Rattle.base_types.specs.Placement.{path_members, writes_members}
+use Rattle.base_messages.specs.declared.actor.ActorId.{ActorId}
+use Rattle.base_messages.specs.declared.message.Message.TheVariants.{Ended}
 use Rattle.daos_model.specs.declared.durable.Durable.{Durable}
 use Rattle.daos_model.specs.Blocks.{blocks}
 use Rattle.dtx_base.specs.Leading.{LeaderStep, begun}

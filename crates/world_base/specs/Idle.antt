@@ -1,8 +1,8 @@
 -- A target does its idle work: it settles the decided attempts that it leads, in their order, tells the other members of what is
 -- committed, and in the settling phase asks other leaders what became of what is prepared here.
 use Rattle.std.specs.Prelude.{◌≡◌, ◌++◌, ◌==◌, Bool, true, false, ◌&&◌, ◌||◌, not, length, List, [], ◌∷◌, Option, Some, None}
-use Rattle.daos_base.specs.declared.entry.Settle.TheVariants.{Commit}
-use Rattle.daos_base.specs.declared.id.AttemptId.{AttemptId}
+use Rattle.base_types.specs.declared.entry.Settle.TheVariants.{Commit}
+use Rattle.base_types.specs.declared.id.AttemptId.{AttemptId}
 use Rattle.daos_model.specs.declared.durable.Durable.{Durable}
 use Rattle.dtx_base.specs.Joining as member
 use Rattle.dtx_base.specs.Leading.{LeaderStep, batched, is_batch_due}

@@ -1,9 +1,9 @@
 -- Letters in flight, and the conversation of a client.
 use Rattle.std.specs.Prelude.{ℕ, ◌≡◌, ◌==◌, Bool, true, false, ◌&&◌, ◌||◌, not, List, ◌∷◌, ◌++◌, filter, map}
-use Rattle.daos_messages.specs.declared.actor.ActorId.{ActorId}
-use Rattle.daos_messages.specs.declared.message.Message.{Message}
-use Rattle.daos_messages.specs.declared.message.Message.TheVariants as message
-use Rattle.daos_messages.specs.declared.message.Post.{Post}
+use Rattle.base_messages.specs.declared.actor.ActorId.{ActorId}
+use Rattle.base_messages.specs.declared.message.Message.{Message}
+use Rattle.base_messages.specs.declared.message.Message.TheVariants as message
+use Rattle.base_messages.specs.declared.message.Post.{Post}
 use Rattle.world_base.specs.declared.letter.Letter.{Letter}
 
 abbrev pub client : ℕ → ActorId

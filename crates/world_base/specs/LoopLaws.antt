@@ -1,10 +1,10 @@
 -- What each settling of a Mark, each confirmation of a Marked and each settling of idle work keeps, the turn keeps.
 use Rattle.std.specs.Prelude.{◌<◌, ◌∷◌, ◌≡◌, Bool, Contains, List, Option, Some, ℕ, filter, length, not, refl, true}
 use Rattle.std.proofs.Common.{◌∙◌, ap, inl, inr, subst, sym}
-use Rattle.daos_base.specs.declared.entry.Settle.TheVariants.{Commit, Confirm}
-use Rattle.daos_base.specs.declared.id.AttemptId.{AttemptId}
-use Rattle.daos_laws.specs.Lists.{filter-shorter}
-use Rattle.daos_laws.specs.Members.{Has}
+use Rattle.base_types.specs.declared.entry.Settle.TheVariants.{Commit, Confirm}
+use Rattle.base_types.specs.declared.id.AttemptId.{AttemptId}
+use Rattle.model_laws.specs.Lists.{filter-shorter}
+use Rattle.model_laws.specs.Members.{Has}
 use Rattle.daos_model.specs.declared.durable.Durable.{Durable}
 use Rattle.daos_model.specs.EntryLaws.{same_attempt-itself}
 use Rattle.dtx_base.specs.Leading.{entry_led, may_confirm}

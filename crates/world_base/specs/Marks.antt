@@ -1,10 +1,10 @@
 -- A target hears a Mark: it settles the attempts that it names.
 use Rattle.std.specs.Prelude.{ℕ, ◌≡◌, Bool, true, false, List, [], ◌∷◌, Option, Some, None}
-use Rattle.daos_base.specs.declared.entry.Settle.{Settle}
-use Rattle.daos_base.specs.declared.entry.Settle.TheVariants.{Abort, Commit}
-use Rattle.daos_base.specs.declared.id.AttemptId.{AttemptId}
-use Rattle.daos_messages.specs.declared.actor.ActorId.{ActorId}
-use Rattle.daos_messages.specs.declared.message.Message.TheVariants.{Marked}
+use Rattle.base_types.specs.declared.entry.Settle.{Settle}
+use Rattle.base_types.specs.declared.entry.Settle.TheVariants.{Abort, Commit}
+use Rattle.base_types.specs.declared.id.AttemptId.{AttemptId}
+use Rattle.base_messages.specs.declared.actor.ActorId.{ActorId}
+use Rattle.base_messages.specs.declared.message.Message.TheVariants.{Marked}
 use Rattle.daos_model.specs.declared.durable.Durable.{Durable}
 use Rattle.dtx_base.specs.Leading.{attempts_of}
 use Rattle.world_base.specs.declared.did.Did.{Did}

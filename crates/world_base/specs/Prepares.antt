@@ -1,12 +1,12 @@
 -- A target hears a Prepare: it stores the writes of its groups of an attempt that another target leads.
 use Rattle.std.specs.Prelude.{ℕ, ◌≡◌, ◌/◌, ◌≤◌, ◌<◌, [], ◌∷◌, Option, Some, None}
-use Rattle.daos_base.specs.declared.epoch.Epoch.{Epoch}
-use Rattle.daos_base.specs.declared.outcome.Cause.{Cause}
-use Rattle.daos_base.specs.declared.outcome.FloorWhy.{FloorWhy}
-use Rattle.daos_base.specs.declared.outcome.Outcome.{Outcome}
-use Rattle.daos_base.specs.declared.outcome.Outcome.TheVariants.{Restart, NoSpace}
-use Rattle.daos_base.specs.Epochs.{lease_for}
-use Rattle.daos_messages.specs.declared.message.Message.TheVariants.{Ack}
+use Rattle.base_types.specs.declared.epoch.Epoch.{Epoch}
+use Rattle.base_types.specs.declared.outcome.Cause.{Cause}
+use Rattle.base_types.specs.declared.outcome.FloorWhy.{FloorWhy}
+use Rattle.base_types.specs.declared.outcome.Outcome.{Outcome}
+use Rattle.base_types.specs.declared.outcome.Outcome.TheVariants.{Restart, NoSpace}
+use Rattle.base_types.specs.Epochs.{lease_for}
+use Rattle.base_messages.specs.declared.message.Message.TheVariants.{Ack}
 use Rattle.daos_model.specs.Blocks.{blocks}
 use Rattle.dtx_base.specs.Leading.{to_target}
 use Rattle.world_base.specs.declared.did.Did.{Did}

@@ -2,15 +2,15 @@
 -- others' attempts alone.
 use Rattle.std.specs.Prelude.{ℕ, ◌≡◌, Bool, false, List, [], ◌∷◌, Option, None, refl}
 use Rattle.std.proofs.Common.{◌∙◌, ap, inl, inr, subst, sym}
-use Rattle.daos_base.specs.declared.entry.Verdict.{Verdict as VerdictOf}
-use Rattle.daos_base.specs.declared.entry.Verdict.TheVariants as verdicts
-use Rattle.daos_base.specs.declared.epoch.Epoch.{Epoch}
-use Rattle.daos_base.specs.declared.id.AttemptId.{AttemptId}
-use Rattle.daos_base.specs.declared.outcome.FloorWhy.{FloorWhy}
-use Rattle.daos_laws.specs.Members.{Has}
-use Rattle.daos_messages.specs.declared.actor.ActorId.{ActorId}
-use Rattle.daos_messages.specs.declared.message.Message.{Message}
-use Rattle.daos_messages.specs.declared.message.Message.TheVariants.{Mark, Verdict}
+use Rattle.base_types.specs.declared.entry.Verdict.{Verdict as VerdictOf}
+use Rattle.base_types.specs.declared.entry.Verdict.TheVariants as verdicts
+use Rattle.base_types.specs.declared.epoch.Epoch.{Epoch}
+use Rattle.base_types.specs.declared.id.AttemptId.{AttemptId}
+use Rattle.base_types.specs.declared.outcome.FloorWhy.{FloorWhy}
+use Rattle.model_laws.specs.Members.{Has}
+use Rattle.base_messages.specs.declared.actor.ActorId.{ActorId}
+use Rattle.base_messages.specs.declared.message.Message.{Message}
+use Rattle.base_messages.specs.declared.message.Message.TheVariants.{Mark, Verdict}
 use Rattle.daos_model.specs.declared.durable.Durable.{Durable}
 use Rattle.dtx_base.specs.declared.leading.LeaderMemory.{LeaderMemory}
 use Rattle.dtx_base.specs.Leading.{attempts_of, forgotten, undecided_attempt}

@@ -1,9 +1,9 @@
 -- A target as a leader, and as a member.
 use Rattle.std.specs.Prelude.{ℕ, Bool, false, not, ◌&&◌, filter, List, [], ◌∷◌, Option, Some, None, if◌then◌else◌}
-use Rattle.daos_base.specs.declared.entry.Entry.{Entry}
-use Rattle.daos_base.specs.declared.entry.Verdict.{Verdict}
-use Rattle.daos_base.specs.declared.entry.Verdict.TheVariants.{Aborted, Committed, Undecided}
-use Rattle.daos_base.specs.declared.id.AttemptId.{AttemptId}
+use Rattle.base_types.specs.declared.entry.Entry.{Entry}
+use Rattle.base_types.specs.declared.entry.Verdict.{Verdict}
+use Rattle.base_types.specs.declared.entry.Verdict.TheVariants.{Aborted, Committed, Undecided}
+use Rattle.base_types.specs.declared.id.AttemptId.{AttemptId}
 use Rattle.daos_model.specs.declared.durable.Durable.{Durable}
 use Rattle.daos_model.specs.Durables.{entry_of}
 use Rattle.dtx_base.specs.Joining.{MemberOf}

@@ -1,7 +1,7 @@
 -- A client's turn as steps of the world, one for each move.
 use Rattle.std.specs.Prelude.{ℕ, ◌≡◌, List, ◌++◌, map, slice_get, Some}
-use Rattle.daos_base.specs.declared.report.Line.{Line}
-use Rattle.daos_messages.specs.declared.message.Post.{Post}
+use Rattle.base_types.specs.declared.report.Line.{Line}
+use Rattle.base_messages.specs.declared.message.Post.{Post}
 use Rattle.world_base.specs.declared.client.ClientState.{ClientState}
 use Rattle.world_base.specs.declared.letter.Letter.{Letter}
 use Rattle.world_base.specs.declared.world.World.{World}

@@ -1,11 +1,11 @@
 -- A Verdict's turn is the settling of its attempt, and then the turn of a Fetch for each that is freed, one after another.
 use Rattle.std.specs.Prelude.{ℕ, ◌≡◌, Bool, ◌++◌, List, [], ◌∷◌, Option, None, refl}
 use Rattle.std.proofs.Common.{sym, subst}
-use Rattle.daos_base.specs.declared.entry.Verdict.{Verdict}
-use Rattle.daos_base.specs.declared.id.AttemptId.{AttemptId}
-use Rattle.daos_messages.specs.declared.message.Message.{Message}
-use Rattle.daos_messages.specs.declared.message.Message.TheVariants.{Fetch}
-use Rattle.daos_messages.specs.declared.message.Post.{Post}
+use Rattle.base_types.specs.declared.entry.Verdict.{Verdict}
+use Rattle.base_types.specs.declared.id.AttemptId.{AttemptId}
+use Rattle.base_messages.specs.declared.message.Message.{Message}
+use Rattle.base_messages.specs.declared.message.Message.TheVariants.{Fetch}
+use Rattle.base_messages.specs.declared.message.Post.{Post}
 use Rattle.daos_model.specs.declared.durable.Durable.{Durable}
 use Rattle.dtx_base.specs.Joining.{verdict_heard}
 use Rattle.world_base.specs.declared.did.Did.{Did}

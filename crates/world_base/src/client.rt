@@ -1,10 +1,10 @@
 // What a client is at a moment: what it has to do, and how far it came.
-use daos_base::answer::Answer;
-use daos_base::epoch::Epoch;
-use daos_base::items::Items;
-use daos_base::key::Key;
-use daos_base::report::{Conds, Gots};
-use daos_base::script::Commands;
+use base_types::answer::Answer;
+use base_types::epoch::Epoch;
+use base_types::items::Items;
+use base_types::key::Key;
+use base_types::report::{Conds, Gots};
+use base_types::script::Commands;
 
 /// What a client has to do: its number, the number of targets, how many attempts a command has
 /// (1 to 100), and its commands.

@@ -1,8 +1,8 @@
 // What is asked of a target, as the target hears it.
-use daos_base::entry::Entry;
-use daos_base::epoch::Epoch;
-use daos_base::id::AttemptId;
-use daos_base::operation::{MinorWrites, Read};
+use base_types::entry::Entry;
+use base_types::epoch::Epoch;
+use base_types::id::AttemptId;
+use base_types::operation::{MinorWrites, Read};
 
 /// A read of a group's part of an operation's path.
 #[derive(Drop)]

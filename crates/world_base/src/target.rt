@@ -1,8 +1,8 @@
 // What a target is at a moment.
-use daos_base::epoch::{Epoch, TargetId};
-use daos_base::items::Items;
-use daos_base::outcome::FloorWhy;
-use daos_base::shown::Shown;
+use base_types::epoch::{Epoch, TargetId};
+use base_types::items::Items;
+use base_types::outcome::FloorWhy;
+use base_types::shown::Shown;
 use daos_model::durable::Durable;
 use dtx_base::leading::LeaderMemory;
 use dtx_base::member::MemberMemory;

@@ -3,8 +3,8 @@ use crate::client::ClientState;
 use crate::did::Issues;
 use crate::letter::Letters;
 use crate::target::TargetState;
-use daos_base::items::Items;
-use daos_base::report::Lines;
+use base_types::items::Items;
+use base_types::report::Lines;
 
 /// The targets, in the order of their numbers.
 pub type TargetStates = Items<TargetState>;

@@ -1,11 +1,11 @@
 -- Every right event keeps that outcomes show their causes, and so it is at the beginning.
 use Rattle.std.specs.Prelude.{ℕ, ◌≡◌, ◌≤◌, ◌<◌, ◌+◌, ◌++◌, ◌/◌, ◌^◌, max, List, [], ◌∷◌, length, slice_get, Some}
 use Rattle.std.proofs.Common.{subst, arith}
-use Rattle.daos_base.specs.declared.report.Attempt.{Attempt}
-use Rattle.daos_base.specs.declared.report.Line.{Line}
-use Rattle.daos_base.specs.declared.report.Line.TheVariants as line
-use Rattle.daos_laws.specs.Lists.{none-in}
-use Rattle.daos_laws.specs.Members.{Has}
+use Rattle.base_types.specs.declared.report.Attempt.{Attempt}
+use Rattle.base_types.specs.declared.report.Line.{Line}
+use Rattle.base_types.specs.declared.report.Line.TheVariants as line
+use Rattle.model_laws.specs.Lists.{none-in}
+use Rattle.model_laws.specs.Members.{Has}
 use Rattle.daos_model.specs.Opening.{Opening, top}
 use Rattle.world_attempts.specs.History.{History}
 use Rattle.world_base.specs.declared.client.ClientState.{ClientState}

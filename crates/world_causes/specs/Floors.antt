@@ -2,20 +2,20 @@
 use Rattle.std.specs.Prelude.{ℕ, ◌≡◌, ◌≤◌, ◌<◌, ◌+◌, ◌*◌, true, false, ◌&&◌, not, nat_le, nat_lt, List, [], ◌∷◌, find, Option, Some, None, Err, refl, if◌then◌else◌}
 use Rattle.std.proofs.Common.{inl, inr, sym, ◌∙◌, ap, subst, arith}
 use Rattle.std.proofs.lemmas.Bool.Decides.{nat_tests}
-use Rattle.daos_base.specs.declared.epoch.Epoch.{Epoch}
-use Rattle.daos_base.specs.declared.id.AttemptId.{AttemptId}
-use Rattle.daos_base.specs.declared.id.ContId.{ContId}
-use Rattle.daos_base.specs.declared.operation.MinorWrite.{MinorWrite}
-use Rattle.daos_base.specs.declared.operation.Read.{Read}
-use Rattle.daos_base.specs.declared.outcome.Cause.{Cause}
-use Rattle.daos_base.specs.declared.outcome.Cause.TheVariants.{Floor}
-use Rattle.daos_base.specs.declared.outcome.FloorWhy.{FloorWhy}
-use Rattle.daos_base.specs.declared.path.Path.{Path}
-use Rattle.daos_base.specs.declared.shown.Shown.{Shown}
-use Rattle.daos_base.specs.Operations.{read_path, write_path}
-use Rattle.daos_base.specs.Paths.{overlaps}
-use Rattle.daos_laws.specs.EntryLaws.{found-has, found-passes}
-use Rattle.daos_laws.specs.Members.{Has}
+use Rattle.base_types.specs.declared.epoch.Epoch.{Epoch}
+use Rattle.base_types.specs.declared.id.AttemptId.{AttemptId}
+use Rattle.base_types.specs.declared.id.ContId.{ContId}
+use Rattle.base_types.specs.declared.operation.MinorWrite.{MinorWrite}
+use Rattle.base_types.specs.declared.operation.Read.{Read}
+use Rattle.base_types.specs.declared.outcome.Cause.{Cause}
+use Rattle.base_types.specs.declared.outcome.Cause.TheVariants.{Floor}
+use Rattle.base_types.specs.declared.outcome.FloorWhy.{FloorWhy}
+use Rattle.base_types.specs.declared.path.Path.{Path}
+use Rattle.base_types.specs.declared.shown.Shown.{Shown}
+use Rattle.base_types.specs.Operations.{read_path, write_path}
+use Rattle.base_types.specs.Paths.{overlaps}
+use Rattle.model_laws.specs.EntryLaws.{found-has, found-passes}
+use Rattle.model_laws.specs.Members.{Has}
 use Rattle.daos_model.specs.declared.durable.Durable.{Durable}
 use Rattle.daos_model.specs.declared.durable.Version.{Version}
 use Rattle.daos_model.specs.Answers.{answer}
@@ -27,7 +27,7 @@ use Rattle.vos_store.specs.declared.refusal.FetchNo.TheVariants as fetch
 use Rattle.vos_store.specs.Answers.{answer_unless, fetched, floor_of, is_past, later_floor, later_write, shown_or_none, shown_version}
 use Rattle.world_base.specs.declared.request.FetchRequest.{FetchRequest}
 use Rattle.world_base.specs.declared.target.TargetPlan.{TargetPlan}
-use Rattle.daos_laws.specs.EntryLaws.{found-has, found-passes}
+use Rattle.model_laws.specs.EntryLaws.{found-has, found-passes}
 use Rattle.world_base.specs.Commits.{first_floor, first_later, or_else}
 use Rattle.world_base.specs.Reads.{fetch_cause, later_of, uncertain_from, uncertain_to}
 

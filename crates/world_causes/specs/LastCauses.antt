@@ -1,26 +1,26 @@
 -- When all attempts have their lines, every line shows its cause in the whole list of lines.
 use Rattle.std.specs.Prelude.{ℕ, ◌≡◌, ◌≢◌, ◌≤◌, ◌<◌, ◌+◌, ◌*◌, ◌^◌, ◌⊎◌, ◌++◌, ◌==◌, Bool, true, false, ◌||◌, not, max, Any, List, [], ◌∷◌, length, map, Contains, slice_get, is_some, Option, Some, None, refl, if◌then◌else◌}
 use Rattle.std.proofs.Common.{sym, ◌∙◌, ap, subst, inl, inr, arith}
-use Rattle.daos_base.specs.declared.epoch.Epoch.{Epoch}
-use Rattle.daos_base.specs.declared.id.AttemptId.{AttemptId}
-use Rattle.daos_base.specs.declared.outcome.Cause.TheVariants as cause
-use Rattle.daos_base.specs.declared.outcome.Outcome.{Outcome}
-use Rattle.daos_base.specs.declared.outcome.Outcome.TheVariants as outcome
-use Rattle.daos_base.specs.declared.path.Path.{Path}
-use Rattle.daos_base.specs.declared.report.Attempt.{Attempt}
-use Rattle.daos_base.specs.declared.report.Line.{Line}
-use Rattle.daos_base.specs.declared.report.Line.TheVariants as line
-use Rattle.daos_base.specs.declared.script.Command.{Command}
-use Rattle.daos_base.specs.declared.script.Command.TheVariants.{Run, Snap, Aggregate, Tell, Skip}
-use Rattle.daos_base.specs.declared.script.Script.{Script}
-use Rattle.daos_base.specs.Epochs.{last_ticks}
-use Rattle.daos_base.specs.Operations.{write_path}
-use Rattle.daos_base.specs.Paths.{overlaps}
-use Rattle.daos_base.specs.Scripts.{is_numbered}
-use Rattle.daos_laws.specs.EntryLaws.{same-attempt}
-use Rattle.daos_laws.specs.Lists.{any-of, has-at, has-cut, place-of}
-use Rattle.daos_laws.specs.TargetLaws.{number_same, same_number}
-use Rattle.daos_laws.specs.Members.{Has, contains-from_has, has-cases, has-from_contains, has-from_filter, has-from_map, has-left, has-map, has-right}
+use Rattle.base_types.specs.declared.epoch.Epoch.{Epoch}
+use Rattle.base_types.specs.declared.id.AttemptId.{AttemptId}
+use Rattle.base_types.specs.declared.outcome.Cause.TheVariants as cause
+use Rattle.base_types.specs.declared.outcome.Outcome.{Outcome}
+use Rattle.base_types.specs.declared.outcome.Outcome.TheVariants as outcome
+use Rattle.base_types.specs.declared.path.Path.{Path}
+use Rattle.base_types.specs.declared.report.Attempt.{Attempt}
+use Rattle.base_types.specs.declared.report.Line.{Line}
+use Rattle.base_types.specs.declared.report.Line.TheVariants as line
+use Rattle.base_types.specs.declared.script.Command.{Command}
+use Rattle.base_types.specs.declared.script.Command.TheVariants.{Run, Snap, Aggregate, Tell, Skip}
+use Rattle.base_types.specs.declared.script.Script.{Script}
+use Rattle.base_types.specs.Epochs.{last_ticks}
+use Rattle.base_types.specs.Operations.{write_path}
+use Rattle.base_types.specs.Paths.{overlaps}
+use Rattle.base_types.specs.Scripts.{is_numbered}
+use Rattle.model_laws.specs.EntryLaws.{same-attempt}
+use Rattle.model_laws.specs.Lists.{any-of, has-at, has-cut, place-of}
+use Rattle.model_laws.specs.TargetLaws.{number_same, same_number}
+use Rattle.model_laws.specs.Members.{Has, contains-from_has, has-cases, has-from_contains, has-from_filter, has-from_map, has-left, has-map, has-right}
 use Rattle.daos_model.specs.Accesses.{access_paths, minor_writes}
 use Rattle.daos_model.specs.Attempts.{EachTry, has_own_epoch, snapshot_or_none, tries}
 use Rattle.daos_model.specs.CausesShown.{AreSpent, AttemptShows, IsLaterRead, IsLaterWrite, LacksBlocks, LacksSpace, ShowsWhy, WasAnswered, blocks_at, blocks_of_others, blocks_of_some, first_epoch, is_snap, lacks_space_at, writes_at}

@@ -5,21 +5,21 @@ use Rattle.std.specs.List.{list_any}
 use Rattle.std.proofs.Common.{inl, inr, sym, ◌∙◌, ap, subst, arith}
 use Rattle.std.proofs.lemmas.Bool.{eq-eqb, eqb-true}
 use Rattle.std.proofs.lemmas.Option.{slice_get_within}
-use Rattle.daos_base.specs.declared.entry.Entry.{Entry}
-use Rattle.daos_base.specs.declared.epoch.Epoch.{Epoch}
-use Rattle.daos_base.specs.declared.id.AttemptId.{AttemptId}
-use Rattle.daos_base.specs.declared.operation.MinorWrite.{MinorWrite}
-use Rattle.daos_base.specs.declared.operation.Op.{Op}
-use Rattle.daos_base.specs.declared.operation.Read.{Read}
-use Rattle.daos_base.specs.declared.script.Command.TheVariants as command
-use Rattle.daos_base.specs.Operations.{read_path, write_path}
-use Rattle.daos_base.specs.Placement.{path_leader, path_members, writes_leader, writes_members}
-use Rattle.daos_laws.specs.EntryLaws.{same-attempt}
-use Rattle.daos_laws.specs.Lists.{any-of, has-at}
-use Rattle.daos_laws.specs.Members.{Has, any-has, contains-from_has, has-cases, has-filter, has-from_contains, has-from_filter, has-map}
-use Rattle.daos_laws.specs.TargetLaws.{same_number}
-use Rattle.daos_messages.specs.declared.message.Message.{Message}
-use Rattle.daos_messages.specs.declared.message.Message.TheVariants as message
+use Rattle.base_types.specs.declared.entry.Entry.{Entry}
+use Rattle.base_types.specs.declared.epoch.Epoch.{Epoch}
+use Rattle.base_types.specs.declared.id.AttemptId.{AttemptId}
+use Rattle.base_types.specs.declared.operation.MinorWrite.{MinorWrite}
+use Rattle.base_types.specs.declared.operation.Op.{Op}
+use Rattle.base_types.specs.declared.operation.Read.{Read}
+use Rattle.base_types.specs.declared.script.Command.TheVariants as command
+use Rattle.base_types.specs.Operations.{read_path, write_path}
+use Rattle.base_types.specs.Placement.{path_leader, path_members, writes_leader, writes_members}
+use Rattle.model_laws.specs.EntryLaws.{same-attempt}
+use Rattle.model_laws.specs.Lists.{any-of, has-at}
+use Rattle.model_laws.specs.Members.{Has, any-has, contains-from_has, has-cases, has-filter, has-from_contains, has-from_filter, has-map}
+use Rattle.model_laws.specs.TargetLaws.{same_number}
+use Rattle.base_messages.specs.declared.message.Message.{Message}
+use Rattle.base_messages.specs.declared.message.Message.TheVariants as message
 use Rattle.daos_model.specs.declared.durable.Durable.{Durable}
 use Rattle.daos_model.specs.declared.durable.Version.{Version}
 use Rattle.daos_model.specs.Accesses.{access_paths, minor_writes, op_path}

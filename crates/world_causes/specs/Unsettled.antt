@@ -1,11 +1,11 @@
 -- Versions above the opening are writes of attempts to which their epochs were issued.
 use Rattle.std.specs.Prelude.{ℕ, ◌≡◌, ◌≤◌, Any, Bool, true, false, List, Contains, Some, slice_get, refl}
 use Rattle.std.proofs.Common.{ap, arith, inl, inr, subst, sym}
-use Rattle.daos_base.specs.declared.epoch.Epoch.{Epoch}
-use Rattle.daos_base.specs.declared.id.AttemptId.{AttemptId}
-use Rattle.daos_base.specs.Operations.{write_path}
-use Rattle.daos_laws.specs.Lists.{any-of}
-use Rattle.daos_laws.specs.Members.{contains-from_has, has-from_contains}
+use Rattle.base_types.specs.declared.epoch.Epoch.{Epoch}
+use Rattle.base_types.specs.declared.id.AttemptId.{AttemptId}
+use Rattle.base_types.specs.Operations.{write_path}
+use Rattle.model_laws.specs.Lists.{any-of}
+use Rattle.model_laws.specs.Members.{contains-from_has, has-from_contains}
 use Rattle.daos_model.specs.declared.durable.Version.{Version}
 use Rattle.daos_model.specs.Accesses.{minor_writes}
 use Rattle.daos_model.specs.Durables.{entry_of}

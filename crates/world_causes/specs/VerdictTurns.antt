@@ -1,19 +1,19 @@
 -- A target that hears a Verdict answers the Fetches that it sets free, and shows what each meets.
 use Rattle.std.specs.Prelude.{ℕ, ◌≡◌, ◌≤◌, ◌/◌, ◌++◌, Bool, true, false, filter, map, List, [], ◌∷◌, Contains, Option, Some, None, refl}
 use Rattle.std.proofs.Common.{append-nil, inl, inr, sym, ◌∙◌, ap, subst}
-use Rattle.daos_base.specs.declared.entry.Settle.{Settle}
-use Rattle.daos_base.specs.declared.entry.Settle.TheVariants.{Abort, Commit, Confirm, Forget}
-use Rattle.daos_base.specs.declared.entry.Verdict.{Verdict}
-use Rattle.daos_base.specs.declared.entry.Verdict.TheVariants as verdict
-use Rattle.daos_base.specs.declared.epoch.Epoch.{Epoch}
-use Rattle.daos_base.specs.declared.id.AttemptId.{AttemptId}
-use Rattle.daos_base.specs.declared.operation.Read.{Read}
-use Rattle.daos_base.specs.declared.outcome.FloorWhy.{FloorWhy}
-use Rattle.daos_base.specs.declared.report.Line.{Line}
-use Rattle.daos_laws.specs.Members.{Has, has-from_filter, has-from_map}
-use Rattle.daos_messages.specs.declared.message.Message.{Message}
-use Rattle.daos_messages.specs.declared.message.Message.TheVariants as message
-use Rattle.daos_messages.specs.declared.message.Post.{Post}
+use Rattle.base_types.specs.declared.entry.Settle.{Settle}
+use Rattle.base_types.specs.declared.entry.Settle.TheVariants.{Abort, Commit, Confirm, Forget}
+use Rattle.base_types.specs.declared.entry.Verdict.{Verdict}
+use Rattle.base_types.specs.declared.entry.Verdict.TheVariants as verdict
+use Rattle.base_types.specs.declared.epoch.Epoch.{Epoch}
+use Rattle.base_types.specs.declared.id.AttemptId.{AttemptId}
+use Rattle.base_types.specs.declared.operation.Read.{Read}
+use Rattle.base_types.specs.declared.outcome.FloorWhy.{FloorWhy}
+use Rattle.base_types.specs.declared.report.Line.{Line}
+use Rattle.model_laws.specs.Members.{Has, has-from_filter, has-from_map}
+use Rattle.base_messages.specs.declared.message.Message.{Message}
+use Rattle.base_messages.specs.declared.message.Message.TheVariants as message
+use Rattle.base_messages.specs.declared.message.Post.{Post}
 use Rattle.daos_model.specs.Opening.{Opening, top}
 use Rattle.dtx_base.specs.declared.member.Parked.{Parked}
 use Rattle.dtx_base.specs.Joining.{all_unresolved_told, is_not_waiting, is_parked_elsewhere, is_parked_on, is_waiting, parked_ask, unresolved, unresolved_told, verdict_heard}

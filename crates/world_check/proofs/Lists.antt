@@ -4,7 +4,7 @@ use Rattle.std.specs.Bool.{Decides}
 use Rattle.daos_model.specs.BoolLaws.{clash}
 use Rattle.replay_base.specs.Onward.{Iff}
 use Rattle.std.proofs.Math.ListN.{drop_of_length-le}
-use Rattle.daos_laws.specs.Lists.{drop-item}
+use Rattle.model_laws.specs.Lists.{drop-item}
 use Rattle.world_base.specs.declared.world.World.{World}
 use Rattle.world_base.specs.Events.{Rules}
 use Rattle.world_list.specs.RunLists.{IsRunFrom, LeadsTo, last_world}

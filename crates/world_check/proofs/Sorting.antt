@@ -1,7 +1,7 @@
 -- Which kind of turn an event is, and whose clients stay in their places.
 use Rattle.std.proofs.Common.{ℕ, ◌≡◌, ◌<◌, ◌+◌, sym, ◌∙◌, ap, subst, Bool, true, false, ◌⊎◌, inl, inr, List, Some, None, length, take, get_or, slice_get}
 use Rattle.std.specs.Bool.{Decides}
-use Rattle.daos_messages.specs.declared.actor.ActorId.{ActorId}
+use Rattle.base_messages.specs.declared.actor.ActorId.{ActorId}
 use Rattle.daos_model.specs.BoolLaws.{clash}
 use Rattle.world_base.specs.declared.letter.Letter.{Letter}
 use Rattle.world_base.specs.declared.world.World.{World}

@@ -5,9 +5,9 @@ use Rattle.std.specs.Bool.{Decides}
 use Rattle.std.proofs.lemmas.Bool.Decides.{Decides-and, nat_tests}
 use Rattle.std.proofs.lemmas.Bool.{cases_order}
 use Rattle.client_core.specs.Clients.{CommandFits, IsInPlace, OpFits, OpsFit, PlanFits, has_number}
-use Rattle.daos_base.specs.declared.operation.Op.{Op}
-use Rattle.daos_base.specs.declared.script.Command.{Command}
-use Rattle.daos_base.specs.Scripts.{is_numbered}
+use Rattle.base_types.specs.declared.operation.Op.{Op}
+use Rattle.base_types.specs.declared.script.Command.{Command}
+use Rattle.base_types.specs.Scripts.{is_numbered}
 use Rattle.std.proofs.lemmas.Option.{slice_get_past}
 use Rattle.world_base.specs.declared.client.ClientState.{ClientState}
 use Rattle.world_base.specs.declared.world.World.{World}

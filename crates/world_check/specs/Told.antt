@@ -1,6 +1,6 @@
 -- What followed from a target's turn, as the world after it tells.
 use Rattle.std.specs.Prelude.{ℕ, [], drop, length, map, slice_get}
-use Rattle.daos_messages.specs.declared.message.Post.{Post}
+use Rattle.base_messages.specs.declared.message.Post.{Post}
 use Rattle.world_base.specs.declared.did.Did.{Did}
 use Rattle.world_base.specs.declared.letter.Letter.{Letter}
 use Rattle.world_base.specs.declared.world.World.{World}

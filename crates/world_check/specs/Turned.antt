@@ -1,8 +1,8 @@
 -- A target's turn in which it hears a message, and a world after a target's turn.
 use Rattle.std.specs.Prelude.{ℕ, ◌≡◌, Bool, ◌+◌, ◌++◌, ◌∷◌, take, drop, Option, Some, None}
-use Rattle.daos_messages.specs.declared.actor.ActorId.{ActorId}
-use Rattle.daos_messages.specs.declared.message.Message.{Message}
-use Rattle.daos_messages.specs.declared.message.Message.TheVariants.{Commit, Prepare}
+use Rattle.base_messages.specs.declared.actor.ActorId.{ActorId}
+use Rattle.base_messages.specs.declared.message.Message.{Message}
+use Rattle.base_messages.specs.declared.message.Message.TheVariants.{Commit, Prepare}
 use Rattle.replay_base.specs.Heard.{CanHear}
 use Rattle.replay_base.specs.Onward.{keeps}
 use Rattle.world_base.specs.declared.did.Did.{Did}

@@ -5,8 +5,8 @@ ghost use Rattle.world_list.specs.RunLists.{IsRunFrom, IsRunList, LeadsTo, Targe
 
 use crate::starts::starts_well;
 use crate::targets::{target_hears, target_idles};
-use daos_base::items::Memory;
-use daos_messages::actor::ActorId;
+use base_types::items::Memory;
+use base_messages::actor::ActorId;
 use std::alloc::Global;
 use world_base::letter::Letter;
 use world_base::world::World;

@@ -1,7 +1,7 @@
 // A target hears a message.
 ghost use Rattle.std.specs.Prelude.{◌≡◌, ◌<◌, None, IfOk, Decides};
 ghost use Rattle.std.specs.List.{list_all};
-ghost use Rattle.daos_messages.specs.declared.message.Message.TheVariants as message;
+ghost use Rattle.base_messages.specs.declared.message.Message.TheVariants as message;
 ghost use Rattle.daos_model.specs.Durables.{is_version_in_form};
 ghost use Rattle.daos_model.specs.Forms.{AreWritesInForm};
 ghost use Rattle.replay_base.specs.Heard.{CanCommit, CanRead, CanTryAgain, is_timed, is_timed_ask};
@@ -10,12 +10,12 @@ ghost use Rattle.replay_verdict.specs.Tried.{fetch_in};
 ghost use Rattle.replay_writes.specs.Committed.{CommitsSo, PreparesSo};
 ghost use Rattle.world_check.specs.Turned.{HearsSo, commit_in, prepare_in};
 
-use daos_base::entry::Verdict;
-use daos_base::id::AttemptId;
-use daos_base::items::Memory;
-use daos_base::outcome::Outcome;
-use daos_messages::actor::ActorId;
-use daos_messages::message::Message;
+use base_types::entry::Verdict;
+use base_types::id::AttemptId;
+use base_types::items::Memory;
+use base_types::outcome::Outcome;
+use base_messages::actor::ActorId;
+use base_messages::message::Message;
 use daos_model::durable::{Durable, Version};
 use dtx_base::member::Parked;
 use replay_base::entries::are_led_here;

@@ -2,14 +2,14 @@
 // its numbers say.
 ghost use Rattle.std.specs.Prelude.{◌≡◌, ◌≤◌, ◌+◌, ◌&&◌, All, count_by, drop, slice_get, true, Decides};
 ghost use Rattle.client_core.specs.Clients.{CommandFits, ObjFits, OpsFit, has_number};
-ghost use Rattle.daos_base.specs.Scripts.{is_numbered};
+ghost use Rattle.base_types.specs.Scripts.{is_numbered};
 ghost use Rattle.world_check.specs.Starting.{HasPlace, commands_of};
 ghost use Rattle.world_list.specs.Fitting.{AreInPlace, PlansFit, StartsWell};
 ghost use Rattle.world_list.specs.RunLists.{rules_of};
 
-use daos_base::id::ObjId;
-use daos_base::operation::Op;
-use daos_base::script::Command;
+use base_types::id::ObjId;
+use base_types::operation::Op;
+use base_types::script::Command;
 use daos_class::class::Placed;
 use world_base::client::ClientState;
 use world_list::events::Events;

@@ -2,7 +2,7 @@
 use Rattle.std.specs.Prelude.{ℕ, ◌≡◌, ◌≤◌, ◌+◌, ◌++◌, List, [], ◌∷◌, length, take, slice_get, Some, None, if◌then◌else◌}
 use Rattle.std.proofs.Common.{zero, suc, append-nil, sym, ◌∙◌, ap, arith}
 use Rattle.std.proofs.lemmas.List.{append_assoc, take_all}
-use Rattle.daos_base.specs.declared.operation.Op.{Op}
+use Rattle.base_types.specs.declared.operation.Op.{Op}
 use Rattle.daos_model.specs.Accesses.{is_condition}
 use Rattle.daos_model.specs.Conditions.{condition_numbers}
 use Rattle.daos_model.specs.Transactions.{number_of_read, read_numbers}

@@ -1,7 +1,7 @@
 -- What holds of every turn of a client, whatever it hears.
 use Rattle.std.specs.Prelude.{◌≡◌, ◌<◌, ◌++◌, true, List, None}
-use Rattle.daos_base.specs.declared.report.Attempt.{Attempt}
-use Rattle.daos_messages.specs.declared.message.Message.{Message}
+use Rattle.base_types.specs.declared.report.Attempt.{Attempt}
+use Rattle.base_messages.specs.declared.message.Message.{Message}
 use Rattle.daos_model.specs.Attempts.{tries}
 use Rattle.daos_model.specs.Order.{AreInTurn}
 use Rattle.daos_model.specs.Transactions.{numbered}

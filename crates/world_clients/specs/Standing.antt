@@ -1,8 +1,8 @@
 -- How far a client's lines have told of its commands.
 use Rattle.std.specs.Prelude.{ℕ, ◌≡◌, ◌≤◌, ◌<◌, ◌+◌, ◌++◌, Bool, true, false, List, [], ◌∷◌, length, take, slice_get, Option, Some, None}
-use Rattle.daos_base.specs.declared.report.Attempt.{Attempt}
-use Rattle.daos_base.specs.declared.script.Command.{Command}
-use Rattle.daos_base.specs.Scripts.{is_numbered}
+use Rattle.base_types.specs.declared.report.Attempt.{Attempt}
+use Rattle.base_types.specs.declared.script.Command.{Command}
+use Rattle.base_types.specs.Scripts.{is_numbered}
 use Rattle.daos_model.specs.Attempts.{is_restart, tries}
 use Rattle.daos_model.specs.Order.{AreInTurn, IsNumbered}
 use Rattle.daos_model.specs.Transactions.{numbered}

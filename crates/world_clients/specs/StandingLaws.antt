@@ -5,9 +5,9 @@ use Rattle.std.proofs.lemmas.Grind.{common_steps}
 use Rattle.std.proofs.lemmas.List.{append_assoc, length-append}
 use Rattle.std.proofs.lemmas.List.Elements.{filter-append}
 use Rattle.std.proofs.lemmas.Option.{slice_get_within}
-use Rattle.daos_base.specs.declared.report.Attempt.{Attempt}
-use Rattle.daos_base.specs.declared.script.Command.{Command}
-use Rattle.daos_base.specs.Scripts.{is_numbered}
+use Rattle.base_types.specs.declared.report.Attempt.{Attempt}
+use Rattle.base_types.specs.declared.script.Command.{Command}
+use Rattle.base_types.specs.Scripts.{is_numbered}
 use Rattle.daos_model.specs.Attempts.{is_restart}
 use Rattle.daos_model.specs.Order.{AreAttempts, AreInTurn, IsNumbered}
 use Rattle.daos_model.specs.Transactions.{numbered}

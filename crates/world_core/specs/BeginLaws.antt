@@ -5,16 +5,16 @@ use Rattle.std.specs.Option.{option_map}
 use Rattle.std.proofs.Common.{inl, sym, ◌∙◌, ap, subst, arith}
 use Rattle.std.proofs.lemmas.Bool.Decides.{nat_tests}
 use Rattle.std.proofs.lemmas.List.Elements.{All-nil}
-use Rattle.daos_base.specs.declared.entry.Entry.{Entry}
-use Rattle.daos_base.specs.declared.id.AttemptId.{AttemptId}
-use Rattle.daos_base.specs.declared.id.ContId.{ContId}
-use Rattle.daos_base.specs.declared.report.Attempt.{Attempt}
-use Rattle.daos_base.specs.declared.script.Command.{Command}
-use Rattle.daos_laws.specs.Dated.{Dated, dated, dated_of, is_from}
-use Rattle.daos_laws.specs.Lists.{filter-all, none-in}
-use Rattle.daos_laws.specs.Matches.{Matches, counts_under}
-use Rattle.daos_laws.specs.Members.{Has, contains-from_has, has-from_contains, has-from_filter, has-from_map}
-use Rattle.daos_laws.specs.Targets.{is_own}
+use Rattle.base_types.specs.declared.entry.Entry.{Entry}
+use Rattle.base_types.specs.declared.id.AttemptId.{AttemptId}
+use Rattle.base_types.specs.declared.id.ContId.{ContId}
+use Rattle.base_types.specs.declared.report.Attempt.{Attempt}
+use Rattle.base_types.specs.declared.script.Command.{Command}
+use Rattle.model_laws.specs.Dated.{Dated, dated, dated_of, is_from}
+use Rattle.model_laws.specs.Lists.{filter-all, none-in}
+use Rattle.model_laws.specs.Matches.{Matches, counts_under}
+use Rattle.model_laws.specs.Members.{Has, contains-from_has, has-from_contains, has-from_filter, has-from_map}
+use Rattle.model_laws.specs.Targets.{is_own}
 use Rattle.daos_model.specs.declared.durable.Durable.{Durable}
 use Rattle.daos_model.specs.declared.durable.Version.{Version}
 use Rattle.daos_model.specs.AsOf.{as_of}

@@ -1,13 +1,13 @@
 -- What a run begins with.
 use Rattle.std.specs.Prelude.{ℕ, ◌≡◌, ◌≤◌, ◌<◌, ◌/◌, ◌^◌, true, List, [], length, map, slice_get, Contains, Option, Some, None}
-use Rattle.daos_base.specs.declared.epoch.Epoch.{Epoch}
-use Rattle.daos_base.specs.declared.id.ContId.{ContId}
-use Rattle.daos_base.specs.declared.script.Command.{Command}
-use Rattle.daos_base.specs.declared.script.Script.{Script}
-use Rattle.daos_base.specs.Scripts.{IsInForm as IsScriptInForm}
-use Rattle.daos_laws.specs.Dated.{AreSingleInOrder}
-use Rattle.daos_laws.specs.FamilyLaws.{HasNoneUnowned}
-use Rattle.daos_laws.specs.Targets.{ArePlaced, is_own}
+use Rattle.base_types.specs.declared.epoch.Epoch.{Epoch}
+use Rattle.base_types.specs.declared.id.ContId.{ContId}
+use Rattle.base_types.specs.declared.script.Command.{Command}
+use Rattle.base_types.specs.declared.script.Script.{Script}
+use Rattle.base_types.specs.Scripts.{IsInForm as IsScriptInForm}
+use Rattle.model_laws.specs.Dated.{AreSingleInOrder}
+use Rattle.model_laws.specs.FamilyLaws.{HasNoneUnowned}
+use Rattle.model_laws.specs.Targets.{ArePlaced, is_own}
 use Rattle.daos_model.specs.declared.cell.Cell.{Cell}
 use Rattle.daos_model.specs.declared.durable.Durable.{Durable}
 use Rattle.daos_model.specs.declared.durable.Version.{Version}

@@ -1,16 +1,16 @@
 -- What a Commit in flight brings is new: nothing became of its attempt yet.
 use Rattle.std.specs.Prelude.{ℕ, ◌≡◌, ◌⊎◌, true, List, [], ◌∷◌, map, slice_get, Contains, Option, Some, None, refl}
 use Rattle.std.proofs.Common.{inl, inr, sym, ◌∙◌, ap, subst}
-use Rattle.daos_base.specs.declared.entry.Entry.{Entry}
-use Rattle.daos_base.specs.declared.epoch.Epoch.{Epoch}
-use Rattle.daos_base.specs.declared.id.AttemptId.{AttemptId}
-use Rattle.daos_base.specs.declared.operation.MinorWrite.{MinorWrite}
-use Rattle.daos_base.specs.declared.outcome.Outcome.{Outcome}
-use Rattle.daos_base.specs.declared.outcome.Outcome.TheVariants.{Committed}
-use Rattle.daos_base.specs.declared.report.Attempt.{Attempt}
-use Rattle.daos_laws.specs.EntryLaws.{found-passes, same-attempt}
-use Rattle.daos_laws.specs.Members.{Has, contains-from_has, has-filter, has-from_contains, has-left, has-map}
-use Rattle.daos_messages.specs.declared.message.Message.TheVariants as message
+use Rattle.base_types.specs.declared.entry.Entry.{Entry}
+use Rattle.base_types.specs.declared.epoch.Epoch.{Epoch}
+use Rattle.base_types.specs.declared.id.AttemptId.{AttemptId}
+use Rattle.base_types.specs.declared.operation.MinorWrite.{MinorWrite}
+use Rattle.base_types.specs.declared.outcome.Outcome.{Outcome}
+use Rattle.base_types.specs.declared.outcome.Outcome.TheVariants.{Committed}
+use Rattle.base_types.specs.declared.report.Attempt.{Attempt}
+use Rattle.model_laws.specs.EntryLaws.{found-passes, same-attempt}
+use Rattle.model_laws.specs.Members.{Has, contains-from_has, has-filter, has-from_contains, has-left, has-map}
+use Rattle.base_messages.specs.declared.message.Message.TheVariants as message
 use Rattle.daos_model.specs.Attempts.{tries}
 use Rattle.daos_model.specs.Opening.{Opening}
 use Rattle.dtx_base.specs.declared.leading.Undecided.{Undecided}

@@ -1,15 +1,15 @@
 -- Every event of a run keeps all that holds between events, of what is decided, aborted and served by then.
 use Rattle.std.specs.Prelude.{ℕ, ◌≡◌, ◌⊎◌, ◌≤◌, ◌<◌, ◌++◌, List, [], Contains, Option, refl}
 use Rattle.std.proofs.Common.{inl, inr, sym, ap, subst, true≢false}
-use Rattle.daos_base.specs.declared.answer.Answer.{Answer}
-use Rattle.daos_base.specs.declared.epoch.Epoch.{Epoch}
-use Rattle.daos_base.specs.declared.id.AttemptId.{AttemptId}
-use Rattle.daos_base.specs.declared.script.Command.TheVariants.{Aggregate, Snap}
-use Rattle.daos_laws.specs.Members.{Has, contains-from_has, has-map, has-right}
-use Rattle.daos_messages.specs.declared.actor.ActorId.{ActorId}
-use Rattle.daos_messages.specs.declared.message.Message.TheVariants as message
-use Rattle.daos_messages.specs.declared.message.Post.{Post}
-use Rattle.daos_messages.specs.declared.message.Reply.TheVariants as reply
+use Rattle.base_types.specs.declared.answer.Answer.{Answer}
+use Rattle.base_types.specs.declared.epoch.Epoch.{Epoch}
+use Rattle.base_types.specs.declared.id.AttemptId.{AttemptId}
+use Rattle.base_types.specs.declared.script.Command.TheVariants.{Aggregate, Snap}
+use Rattle.model_laws.specs.Members.{Has, contains-from_has, has-map, has-right}
+use Rattle.base_messages.specs.declared.actor.ActorId.{ActorId}
+use Rattle.base_messages.specs.declared.message.Message.TheVariants as message
+use Rattle.base_messages.specs.declared.message.Post.{Post}
+use Rattle.base_messages.specs.declared.message.Reply.TheVariants as reply
 use Rattle.daos_model.specs.declared.durable.Version.{Version}
 use Rattle.daos_model.specs.Opening.{Opening, top}
 use Rattle.world_addresses.specs.Addresses.{AreAddressed, AsksPlainly, GoesTo, crowd}

@@ -2,12 +2,12 @@
 use Rattle.std.specs.Prelude.{ℕ, zero, suc, ◌≡◌, ◌⊎◌, ◌≤◌, ◌+◌, ◌-◌, ◌*◌, Bool, true, false, List, [], ◌∷◌, map, find, length, replicate, slice_get, Some, None, refl, if◌then◌else◌}
 use Rattle.std.specs.List.{list_any}
 use Rattle.std.proofs.Common.{inl, inr, sym, subst, arith}
-use Rattle.daos_base.specs.declared.id.ContId.{ContId}
-use Rattle.daos_base.specs.declared.outcome.FloorWhy.TheVariants as why
-use Rattle.daos_base.specs.declared.script.ContDecl.{ContDecl}
-use Rattle.daos_base.specs.declared.script.Script.{Script}
-use Rattle.daos_laws.specs.Members.{Has, any-has, has-any, has-from_contains}
-use Rattle.daos_laws.specs.TargetLaws.{same_number}
+use Rattle.base_types.specs.declared.id.ContId.{ContId}
+use Rattle.base_types.specs.declared.outcome.FloorWhy.TheVariants as why
+use Rattle.base_types.specs.declared.script.ContDecl.{ContDecl}
+use Rattle.base_types.specs.declared.script.Script.{Script}
+use Rattle.model_laws.specs.Members.{Has, any-has, has-any, has-from_contains}
+use Rattle.model_laws.specs.TargetLaws.{same_number}
 use Rattle.daos_model.specs.declared.durable.ContRow.{ContRow}
 use Rattle.daos_model.specs.declared.durable.Durable.{Durable}
 use Rattle.daos_model.specs.Answers.{is_before}
@@ -16,8 +16,8 @@ use Rattle.daos_model.specs.Durables.{cont_key, empty_durable, is_enlisted, is_r
 use Rattle.daos_model.specs.FormLaws.{enlisted-in_form, length-map, length-put}
 use Rattle.daos_model.specs.Opening.{Opening, fresh_opening, top}
 use Rattle.daos_model.specs.Ordered.{put}
-use Rattle.daos_laws.specs.EntryLaws.{put-has}
-use Rattle.daos_laws.specs.Lists.{length-replicate}
+use Rattle.model_laws.specs.EntryLaws.{put-has}
+use Rattle.model_laws.specs.Lists.{length-replicate}
 use Rattle.world_base.specs.declared.target.TargetState.{TargetState}
 use Rattle.world_base.specs.declared.target.Life.TheVariants.{Running}
 use Rattle.world_base.specs.declared.world.World.{World}

@@ -1,8 +1,8 @@
 -- Every turn of a client keeps that attempts are decided and aborted exactly as it is told of them.
 use Rattle.std.specs.Prelude.{ℕ, ◌⊎◌, ◌<◌, Contains}
 use Rattle.std.proofs.Common.{inl, inr}
-use Rattle.daos_base.specs.declared.epoch.Epoch.{Epoch}
-use Rattle.daos_base.specs.declared.id.AttemptId.{AttemptId}
+use Rattle.base_types.specs.declared.epoch.Epoch.{Epoch}
+use Rattle.base_types.specs.declared.id.AttemptId.{AttemptId}
 use Rattle.world_attempts.specs.History.{Decided, History}
 use Rattle.world_base.specs.declared.world.World.{World}
 use Rattle.world_base.specs.ClientTurns.{attempt_id}

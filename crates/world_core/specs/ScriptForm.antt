@@ -4,25 +4,25 @@ use Rattle.std.proofs.Common.{inl, inr, zero, suc, sym, ap, subst, arith}
 use Rattle.std.proofs.lemmas.Bool.Decides.{nat_tests}
 use Rattle.std.proofs.lemmas.List.Elements.{All-head, All-tail}
 use Rattle.std.proofs.lemmas.List.Kept.{AllPairs-cons}
-use Rattle.daos_base.specs.declared.operation.Act.{Act}
-use Rattle.daos_base.specs.declared.operation.Act.TheVariants as act
-use Rattle.daos_base.specs.declared.operation.MinorWrite.{MinorWrite}
-use Rattle.daos_base.specs.declared.operation.Op.{Op}
-use Rattle.daos_base.specs.declared.operation.Read.{Read}
-use Rattle.daos_base.specs.declared.operation.Read.TheVariants as read
-use Rattle.daos_base.specs.declared.operation.Write.{Write}
-use Rattle.daos_base.specs.declared.operation.Write.TheVariants as write
-use Rattle.daos_base.specs.declared.path.Path.{Path}
-use Rattle.daos_base.specs.declared.id.AttemptId.{AttemptId}
-use Rattle.daos_base.specs.declared.script.Command.{Command}
-use Rattle.daos_base.specs.declared.script.Command.TheVariants.{Run, Snap, Aggregate, Tell, Skip}
-use Rattle.daos_base.specs.declared.script.ContDecl.{ContDecl}
-use Rattle.daos_base.specs.declared.script.ObjDecl.{ObjDecl}
-use Rattle.daos_base.specs.declared.script.Script.{Script}
-use Rattle.daos_base.specs.Scripts.{AreCommands, IsCommand, IsInForm, SnapName, is_numbered, old_snap, snap_of, IsActInForm, IsAkeyOf, IsDkeyOf, IsLength, IsObjectOf, IsOfObject, IsOpInForm, IsPathOf, IsReadInForm, IsWriteInForm}
-use Rattle.daos_laws.specs.DecidedLaws.{all-from_has}
-use Rattle.daos_laws.specs.Lists.{all-at}
-use Rattle.daos_laws.specs.Members.{Has, has-cases, has-from_map}
+use Rattle.base_types.specs.declared.operation.Act.{Act}
+use Rattle.base_types.specs.declared.operation.Act.TheVariants as act
+use Rattle.base_types.specs.declared.operation.MinorWrite.{MinorWrite}
+use Rattle.base_types.specs.declared.operation.Op.{Op}
+use Rattle.base_types.specs.declared.operation.Read.{Read}
+use Rattle.base_types.specs.declared.operation.Read.TheVariants as read
+use Rattle.base_types.specs.declared.operation.Write.{Write}
+use Rattle.base_types.specs.declared.operation.Write.TheVariants as write
+use Rattle.base_types.specs.declared.path.Path.{Path}
+use Rattle.base_types.specs.declared.id.AttemptId.{AttemptId}
+use Rattle.base_types.specs.declared.script.Command.{Command}
+use Rattle.base_types.specs.declared.script.Command.TheVariants.{Run, Snap, Aggregate, Tell, Skip}
+use Rattle.base_types.specs.declared.script.ContDecl.{ContDecl}
+use Rattle.base_types.specs.declared.script.ObjDecl.{ObjDecl}
+use Rattle.base_types.specs.declared.script.Script.{Script}
+use Rattle.base_types.specs.Scripts.{AreCommands, IsCommand, IsInForm, SnapName, is_numbered, old_snap, snap_of, IsActInForm, IsAkeyOf, IsDkeyOf, IsLength, IsObjectOf, IsOfObject, IsOpInForm, IsPathOf, IsReadInForm, IsWriteInForm}
+use Rattle.model_laws.specs.DecidedLaws.{all-from_has}
+use Rattle.model_laws.specs.Lists.{all-at}
+use Rattle.model_laws.specs.Members.{Has, has-cases, has-from_map}
 use Rattle.daos_model.specs.Accesses.{minor_write, minor_writes}
 use Rattle.daos_model.specs.Transactions.{attempt_ops, command_of, numbered, ops_of, ops_or_none}
 use Rattle.world_reads.specs.ListLaws.{increasing-pairs}
@@ -68,7 +68,7 @@ of-end n m h = grind (arith, nat_tests)
 pub read-in-form : (objs : List ObjDecl) (q : Read) → IsReadInForm objs q → is_read_in_form q ≡ true
 unfolding is_read_in_form
 read-in-form objs (read.Single p) k = at-akey objs p k
-read-in-form objs (read.Extent p low len) k = both (ends_at_akey p && is_length len) (nat_lt (low + len) (2 ^ 32)) (both (ends_at_akey p) (is_length len) (at-akey objs p k.0) (of-length len k.1)) (of-end (low + len) (2 ^ 32) k.2)
+read-in-form objs (read.Extent p low len) k = both (ends_at_akey p && is_length (len * record_size p)) (fits_array (record_size p) low len) (both (ends_at_akey p) (is_length (len * record_size p)) (at-akey objs p k.0) (of-length len k.1)) (of-end (low + len) (2 ^ 32) k.2)
 read-in-form objs (read.Dkeys p) k = at-object objs p k
 read-in-form objs (read.Akeys p) k = at-dkey objs p k
 read-in-form objs (read.Exists p) k = any-path objs p k
@@ -77,7 +77,7 @@ pub write-in-form : (objs : List ObjDecl) (w : Write) → IsWriteInForm objs w �
 unfolding is_write_in_form
 write-in-form objs (write.Single p bytes) k = both (ends_at_akey p) (is_length (length bytes)) (at-akey objs p k.0) (of-length (length bytes) k.1)
 write-in-form objs (write.Extent p low bytes) k =
-    both (ends_at_akey p && is_length (length bytes)) (nat_lt (low + length bytes) (2 ^ 32)) (both (ends_at_akey p) (is_length (length bytes)) (at-akey objs p k.0) (of-length (length bytes) k.1)) (of-end (low + length bytes) (2 ^ 32) k.2)
+    both (ends_at_akey p && is_length (length bytes)) (fits_records (record_size p) low (length bytes)) (both (ends_at_akey p) (is_length (length bytes)) (at-akey objs p k.0) (of-length (length bytes) k.1)) (of-end (low + length bytes) (2 ^ 32) k.2)
 write-in-form objs (write.PunchObject p) k = at-object objs p k
 write-in-form objs (write.PunchDkey p) k = at-dkey objs p k
 write-in-form objs (write.PunchAkey p) k = at-akey objs p k

@@ -1,14 +1,14 @@
 -- A leader has some of the writes of what it leads, and so has each other member; members' bits are below those of all targets.
 use Rattle.std.specs.Prelude.{ℕ, ◌≡◌, ◌≢◌, ◌<◌, ◌^◌, ◌==◌, Bool, true, not, List, [], ◌∷◌, filter, length, refl}
 use Rattle.std.proofs.Common.{inl, sym, ap, subst}
-use Rattle.daos_base.specs.declared.id.AttemptId.{AttemptId}
-use Rattle.daos_base.specs.declared.operation.MinorWrite.{MinorWrite}
-use Rattle.daos_base.specs.Operations.{write_path}
-use Rattle.daos_base.specs.Placement.{path_leader, path_members, writes_leader, writes_members}
-use Rattle.daos_base.specs.PlacementLaws.{path_leader-member}
-use Rattle.daos_laws.specs.Lists.{has-some}
-use Rattle.daos_laws.specs.Members.{Has, any-has, has-filter, has-from_contains, has-from_filter}
-use Rattle.daos_laws.specs.TargetLaws.{same_number}
+use Rattle.base_types.specs.declared.id.AttemptId.{AttemptId}
+use Rattle.base_types.specs.declared.operation.MinorWrite.{MinorWrite}
+use Rattle.base_types.specs.Operations.{write_path}
+use Rattle.base_types.specs.Placement.{path_leader, path_members, writes_leader, writes_members}
+use Rattle.base_types.specs.PlacementLaws.{path_leader-member}
+use Rattle.model_laws.specs.Lists.{has-some}
+use Rattle.model_laws.specs.Members.{Has, any-has, has-filter, has-from_contains, has-from_filter}
+use Rattle.model_laws.specs.TargetLaws.{same_number}
 use Rattle.daos_model.specs.BoolLaws.{and_left}
 use Rattle.dtx_base.specs.Members.{all_targets, has_target, is_other_member, is_written_at, other_members, writes_at}
 use Rattle.world_addresses.specs.TurnAddresses.{bit-of, writes-within}

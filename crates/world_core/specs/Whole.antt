@@ -2,8 +2,8 @@
 use Rattle.std.specs.Prelude.{ℕ, ◌≡◌, ◌≤◌, true, List, [], slice_get, Contains, Option, Some, None, refl}
 use Rattle.std.specs.List.{list_any}
 use Rattle.std.proofs.Common.{◌∙◌, ap}
-use Rattle.daos_laws.specs.Members.{has-from_contains}
-use Rattle.daos_base.specs.declared.id.ContId.{ContId}
+use Rattle.model_laws.specs.Members.{has-from_contains}
+use Rattle.base_types.specs.declared.id.ContId.{ContId}
 use Rattle.daos_model.specs.declared.durable.Durable.{Durable}
 use Rattle.daos_model.specs.declared.durable.Version.{Version}
 use Rattle.daos_model.specs.Durables.{is_enlisted, is_row_of}

@@ -5,15 +5,15 @@ use Rattle.std.proofs.Common.{sym, ◌∙◌, ap, subst, inl, inr, arith}
 use Rattle.std.proofs.lemmas.Bool.Decides.{nat_tests}
 use Rattle.std.proofs.lemmas.List.Elements.{All-from_recursion}
 use Rattle.std.proofs.lemmas.List.Kept.{AllPairs-cons}
-use Rattle.daos_base.specs.declared.epoch.Epoch.{Epoch}
-use Rattle.daos_base.specs.declared.id.AttemptId.{AttemptId}
-use Rattle.daos_base.specs.declared.operation.MinorWrite.{MinorWrite}
-use Rattle.daos_base.specs.declared.report.Attempt.{Attempt}
-use Rattle.daos_base.specs.declared.script.Script.{Script}
-use Rattle.daos_laws.specs.Decided.{AreDecided, Decided, IsNumbered, taken_in}
-use Rattle.daos_laws.specs.DecidedLaws.{all-from_has, has-all}
-use Rattle.daos_laws.specs.Members.{Has, contains-from_has, has-from_contains, has-from_map, has-left, has-map, has-right}
-use Rattle.daos_laws.specs.TargetLaws.{as_of-set}
+use Rattle.base_types.specs.declared.epoch.Epoch.{Epoch}
+use Rattle.base_types.specs.declared.id.AttemptId.{AttemptId}
+use Rattle.base_types.specs.declared.operation.MinorWrite.{MinorWrite}
+use Rattle.base_types.specs.declared.report.Attempt.{Attempt}
+use Rattle.base_types.specs.declared.script.Script.{Script}
+use Rattle.model_laws.specs.Decided.{AreDecided, Decided, IsNumbered, taken_in}
+use Rattle.model_laws.specs.DecidedLaws.{all-from_has, has-all}
+use Rattle.model_laws.specs.Members.{Has, contains-from_has, has-from_contains, has-from_map, has-left, has-map, has-right}
+use Rattle.model_laws.specs.TargetLaws.{as_of-set}
 use Rattle.daos_model.specs.Accesses.{minor_writes}
 use Rattle.daos_model.specs.AsOf.{as_of}
 use Rattle.daos_model.specs.Attempts.{epoch_or_none, is_unknown, own_epochs, snapshot_of, tries}

@@ -2,12 +2,12 @@
 use Rattle.std.specs.Prelude.{ℕ, suc, ◌≡◌, ◌<◌, ◌≤◌, ◌+◌, ◌*◌, ◌/◌, ◌^◌, ◌&&◌, ◌||◌, ◌==◌, Bool, true, false, max, nat_lt, List, [], ◌∷◌, filter, length, map, slice_get, All, Contains, Some, refl}
 use Rattle.std.proofs.Common.{sym, ◌∙◌, ap, subst, inl, inr, arith}
 use Rattle.std.proofs.lemmas.List.Elements.{All-nil}
-use Rattle.daos_laws.specs.Decided.{AreDecided, Decided, taken_in}
-use Rattle.daos_laws.specs.Matches.{GivesAsOf, counts_under}
-use Rattle.daos_laws.specs.MatchLaws.{filter_on, matches-give}
-use Rattle.daos_laws.specs.Members.{Has, contains-from_has, has-from_contains}
-use Rattle.daos_laws.specs.TargetLaws.{as_of-dkeys, same_number}
-use Rattle.daos_laws.specs.Targets.{is_own}
+use Rattle.model_laws.specs.Decided.{AreDecided, Decided, taken_in}
+use Rattle.model_laws.specs.Matches.{GivesAsOf, counts_under}
+use Rattle.model_laws.specs.MatchLaws.{filter_on, matches-give}
+use Rattle.model_laws.specs.Members.{Has, contains-from_has, has-from_contains}
+use Rattle.model_laws.specs.TargetLaws.{as_of-dkeys, same_number}
+use Rattle.model_laws.specs.Targets.{is_own}
 use Rattle.daos_model.specs.declared.cell.CellValue.{CellValue}
 use Rattle.daos_model.specs.declared.durable.Durable.{Durable}
 use Rattle.daos_model.specs.declared.durable.Version.{Version}
@@ -25,7 +25,7 @@ use Rattle.world_base.specs.Events.{Rules}
 use Rattle.world_attempts.specs.History.{History, is_decided}
 use Rattle.world_reads.specs.Transactions.{counts_by, transactions}
 use Rattle.world_reads.specs.Versions.{VersionsStand, is_own_in, mark_of}
-use Rattle.daos_laws.specs.FamilyLaws.{EachGivesOwn, HasNoneUnowned, IsFamilyInForm, as_of-objects, families-agree, families-stand_for}
+use Rattle.model_laws.specs.FamilyLaws.{EachGivesOwn, HasNoneUnowned, IsFamilyInForm, as_of-objects, families-agree, families-stand_for}
 use Rattle.world_core.specs.ScriptForm.{of-end}
 
 -- epochs that a lease covers are below a bound

@@ -1,22 +1,22 @@
 -- When a run is over, what its lines tell of reads is legal.
 use Rattle.std.specs.Prelude.{ℕ, ◌≡◌, Bool, true, false, List, All, Contains, Option, Some, None, refl}
 use Rattle.std.proofs.Common.{inl, sym, ◌∙◌, ap, subst}
-use Rattle.daos_base.specs.declared.answer.Answer.{Answer}
-use Rattle.daos_base.specs.declared.epoch.Epoch.{Epoch}
-use Rattle.daos_base.specs.declared.id.AttemptId.{AttemptId}
-use Rattle.daos_base.specs.declared.operation.Op.{Op}
-use Rattle.daos_base.specs.declared.operation.Read.TheVariants as read
-use Rattle.daos_base.specs.declared.outcome.Outcome.{Outcome}
-use Rattle.daos_base.specs.declared.outcome.Outcome.TheVariants as outcome
-use Rattle.daos_base.specs.declared.report.Attempt.{Attempt}
-use Rattle.daos_base.specs.declared.script.Script.{Script}
-use Rattle.daos_base.specs.Scripts.{IsInForm}
-use Rattle.daos_laws.specs.Decided.{Decided, taken_in}
-use Rattle.daos_laws.specs.DecidedLaws.{all-from_has, has-all}
-use Rattle.daos_laws.specs.Groups.{HasDkeys}
-use Rattle.daos_laws.specs.Members.{Has, has-from_contains, has-from_map}
-use Rattle.daos_laws.specs.ReadLaws.{answer-same_map}
-use Rattle.daos_laws.specs.TargetLaws.{as_of-dkeys}
+use Rattle.base_types.specs.declared.answer.Answer.{Answer}
+use Rattle.base_types.specs.declared.epoch.Epoch.{Epoch}
+use Rattle.base_types.specs.declared.id.AttemptId.{AttemptId}
+use Rattle.base_types.specs.declared.operation.Op.{Op}
+use Rattle.base_types.specs.declared.operation.Read.TheVariants as read
+use Rattle.base_types.specs.declared.outcome.Outcome.{Outcome}
+use Rattle.base_types.specs.declared.outcome.Outcome.TheVariants as outcome
+use Rattle.base_types.specs.declared.report.Attempt.{Attempt}
+use Rattle.base_types.specs.declared.script.Script.{Script}
+use Rattle.base_types.specs.Scripts.{IsInForm}
+use Rattle.model_laws.specs.Decided.{Decided, taken_in}
+use Rattle.model_laws.specs.DecidedLaws.{all-from_has, has-all}
+use Rattle.model_laws.specs.Groups.{HasDkeys}
+use Rattle.model_laws.specs.Members.{Has, has-from_contains, has-from_map}
+use Rattle.model_laws.specs.ReadLaws.{answer-same_map}
+use Rattle.model_laws.specs.TargetLaws.{as_of-dkeys}
 use Rattle.daos_model.specs.declared.cell.CellValue.{CellValue}
 use Rattle.daos_model.specs.declared.durable.Version.{Version}
 use Rattle.daos_model.specs.declared.stand.Stand.{Stand}

@@ -2,10 +2,10 @@
 use Rattle.std.specs.Prelude.{ℕ, zero, suc, ◌≡◌, ◌^◌, ◌⊎◌, Bool, true, false, List, [], ◌∷◌, map, slice_get, All, Contains, Some, refl}
 use Rattle.std.proofs.Common.{sym, ◌∙◌, subst}
 use Rattle.std.proofs.lemmas.List.Elements.{All-nil}
-use Rattle.daos_base.specs.declared.report.Attempt.{Attempt}
-use Rattle.daos_base.specs.declared.script.Command.TheVariants.{Snap}
-use Rattle.daos_laws.specs.DecidedLaws.{all-from_has}
-use Rattle.daos_laws.specs.Members.{contains-from_has}
+use Rattle.base_types.specs.declared.report.Attempt.{Attempt}
+use Rattle.base_types.specs.declared.script.Command.TheVariants.{Snap}
+use Rattle.model_laws.specs.DecidedLaws.{all-from_has}
+use Rattle.model_laws.specs.Members.{contains-from_has}
 use Rattle.daos_model.specs.declared.durable.Durable.{Durable}
 use Rattle.daos_model.specs.declared.durable.Version.{Version}
 use Rattle.daos_model.specs.declared.stand.SnapMap.{SnapMap}
@@ -22,7 +22,7 @@ use Rattle.world_base.specs.declared.world.World.{World}
 use Rattle.world_epochs.specs.Epochs.{Unsnapped}
 use Rattle.world_core.specs.Begins.{IsOpeningPlain}
 use Rattle.world_base.specs.Events.{Rules}
-use Rattle.daos_laws.specs.EntryLaws.{found-has}
+use Rattle.model_laws.specs.EntryLaws.{found-has}
 use Rattle.daos_model.specs.FormLaws.{length-map}
 use Rattle.world_attempts.specs.History.{History}
 use Rattle.world_reads.specs.Versions.{VersionsStand}

@@ -1,7 +1,7 @@
 -- What the facts of a run say when it is over.
 use Rattle.std.specs.Prelude.{ℕ, Bool, List}
-use Rattle.daos_base.specs.declared.id.AttemptId.{AttemptId}
-use Rattle.daos_laws.specs.Decided.{taken_in}
+use Rattle.base_types.specs.declared.id.AttemptId.{AttemptId}
+use Rattle.model_laws.specs.Decided.{taken_in}
 use Rattle.daos_model.specs.declared.durable.Version.{Version}
 use Rattle.daos_model.specs.AsOf.{as_of}
 use Rattle.daos_model.specs.CausesShown.{CausesShown}

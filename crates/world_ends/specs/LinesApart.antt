@@ -2,13 +2,13 @@
 use Rattle.std.specs.Prelude.{ℕ, ◌≡◌, ◌⊎◌, ◌≤◌, ◌+◌, ◌++◌, ◌==◌, ◌&&◌, not, Bool, true, false, List, [], ◌∷◌, filter, find, Some, refl, if◌then◌else◌}
 use Rattle.std.proofs.Common.{inl, inr, sym, ◌∙◌, ap, subst, arith}
 use Rattle.std.proofs.lemmas.Bool.{eq-eqb}
-use Rattle.daos_base.specs.declared.id.AttemptId.{AttemptId}
-use Rattle.daos_base.specs.declared.report.Attempt.{Attempt}
-use Rattle.daos_base.specs.declared.report.Line.{Line}
-use Rattle.daos_base.specs.declared.script.Command.{Command}
-use Rattle.daos_base.specs.declared.script.Script.{Script}
-use Rattle.daos_laws.specs.Members.{Has, has-cases, has-filter, has-from_filter, has-from_map, has-left, has-map, has-right}
-use Rattle.daos_laws.specs.TargetLaws.{number_same, same_number}
+use Rattle.base_types.specs.declared.id.AttemptId.{AttemptId}
+use Rattle.base_types.specs.declared.report.Attempt.{Attempt}
+use Rattle.base_types.specs.declared.report.Line.{Line}
+use Rattle.base_types.specs.declared.script.Command.{Command}
+use Rattle.base_types.specs.declared.script.Script.{Script}
+use Rattle.model_laws.specs.Members.{Has, has-cases, has-filter, has-from_filter, has-from_map, has-left, has-map, has-right}
+use Rattle.model_laws.specs.TargetLaws.{number_same, same_number}
 use Rattle.daos_model.specs.Attempts.{is_lost, is_of_client, tries}
 use Rattle.daos_model.specs.BoolLaws.{and_left, and_right, both, clash, false_of}
 use Rattle.daos_model.specs.CausesShown.{epoch_of_attempt, first_epoch, starts_command}

@@ -2,11 +2,11 @@
 use Rattle.std.specs.Prelude.{ℕ, zero, suc, ◌≡◌, ◌≤◌, ◌<◌, ◌^◌, true, false, List, [], ◌∷◌, length, map, slice_get, Contains, Some, refl}
 use Rattle.std.proofs.Common.{sym, ◌∙◌, ap, subst, arith}
 use Rattle.std.proofs.lemmas.Option.{slice_get_within}
-use Rattle.daos_base.specs.declared.entry.Entry.{Entry}
-use Rattle.daos_base.specs.declared.id.ContId.{ContId}
-use Rattle.daos_laws.specs.Lists.{at-within}
-use Rattle.daos_laws.specs.Members.{has-from_contains}
-use Rattle.daos_laws.specs.Targets.{ArePlaced}
+use Rattle.base_types.specs.declared.entry.Entry.{Entry}
+use Rattle.base_types.specs.declared.id.ContId.{ContId}
+use Rattle.model_laws.specs.Lists.{at-within}
+use Rattle.model_laws.specs.Members.{has-from_contains}
+use Rattle.model_laws.specs.Targets.{ArePlaced}
 use Rattle.daos_model.specs.declared.durable.Durable.{Durable}
 use Rattle.daos_model.specs.declared.durable.Version.{Version}
 use Rattle.daos_model.specs.AsOf.{as_of}

@@ -1,20 +1,20 @@
 -- When a run is over, the outcomes that its lines tell are legal.
 use Rattle.std.specs.Prelude.{ℕ, suc, ◌≡◌, ◌≢◌, ◌+◌, ◌++◌, ◌⊎◌, true, false, is_some, List, [], ◌∷◌, map, slice_get, Option, Some, None, refl}
 use Rattle.std.proofs.Common.{sym, ◌∙◌, ap, subst, inl, inr, arith}
-use Rattle.daos_base.specs.declared.epoch.Epoch.{Epoch}
-use Rattle.daos_base.specs.declared.operation.MinorWrite.{MinorWrite}
-use Rattle.daos_base.specs.declared.operation.Op.{Op}
-use Rattle.daos_base.specs.declared.outcome.Outcome.{Outcome}
-use Rattle.daos_base.specs.declared.outcome.Outcome.TheVariants as outcome
-use Rattle.daos_base.specs.declared.report.Attempt.{Attempt}
-use Rattle.daos_base.specs.declared.report.Line.{Line}
-use Rattle.daos_base.specs.declared.report.Line.TheVariants as line
-use Rattle.daos_base.specs.declared.script.Command.{Command}
-use Rattle.daos_base.specs.declared.script.Command.TheVariants.{Snap}
-use Rattle.daos_base.specs.declared.script.Script.{Script}
-use Rattle.daos_laws.specs.DecidedLaws.{all-from_has, has-all}
-use Rattle.daos_laws.specs.Members.{Has, contains-from_has, has-cases, has-filter, has-right}
-use Rattle.daos_laws.specs.TargetLaws.{same_number}
+use Rattle.base_types.specs.declared.epoch.Epoch.{Epoch}
+use Rattle.base_types.specs.declared.operation.MinorWrite.{MinorWrite}
+use Rattle.base_types.specs.declared.operation.Op.{Op}
+use Rattle.base_types.specs.declared.outcome.Outcome.{Outcome}
+use Rattle.base_types.specs.declared.outcome.Outcome.TheVariants as outcome
+use Rattle.base_types.specs.declared.report.Attempt.{Attempt}
+use Rattle.base_types.specs.declared.report.Line.{Line}
+use Rattle.base_types.specs.declared.report.Line.TheVariants as line
+use Rattle.base_types.specs.declared.script.Command.{Command}
+use Rattle.base_types.specs.declared.script.Command.TheVariants.{Snap}
+use Rattle.base_types.specs.declared.script.Script.{Script}
+use Rattle.model_laws.specs.DecidedLaws.{all-from_has, has-all}
+use Rattle.model_laws.specs.Members.{Has, contains-from_has, has-cases, has-filter, has-right}
+use Rattle.model_laws.specs.TargetLaws.{same_number}
 use Rattle.daos_model.specs.declared.stand.Stand.{Stand}
 use Rattle.daos_model.specs.declared.durable.Version.{Version}
 use Rattle.daos_model.specs.Accesses.{minor_writes}

@@ -1,14 +1,14 @@
 -- A script in form that reads at no snapshot gives what the facts of causes ask of a run.
 use Rattle.std.specs.Prelude.{◌≡◌, true, Contains, Some, None, refl}
-use Rattle.daos_base.specs.declared.id.AttemptId.{AttemptId}
-use Rattle.daos_base.specs.declared.operation.MinorWrite.{MinorWrite}
-use Rattle.daos_base.specs.declared.script.Command.{Command}
-use Rattle.daos_base.specs.declared.script.Command.TheVariants.{Run, Snap, Aggregate, Tell, Skip}
-use Rattle.daos_base.specs.Operations.{write_path}
-use Rattle.daos_base.specs.Placement.{path_leader, path_members}
-use Rattle.daos_base.specs.PlacementLaws.{path_leader-member}
-use Rattle.daos_base.specs.Scripts.{IsInForm}
-use Rattle.daos_laws.specs.Members.{has-from_contains}
+use Rattle.base_types.specs.declared.id.AttemptId.{AttemptId}
+use Rattle.base_types.specs.declared.operation.MinorWrite.{MinorWrite}
+use Rattle.base_types.specs.declared.script.Command.{Command}
+use Rattle.base_types.specs.declared.script.Command.TheVariants.{Run, Snap, Aggregate, Tell, Skip}
+use Rattle.base_types.specs.Operations.{write_path}
+use Rattle.base_types.specs.Placement.{path_leader, path_members}
+use Rattle.base_types.specs.PlacementLaws.{path_leader-member}
+use Rattle.base_types.specs.Scripts.{IsInForm}
+use Rattle.model_laws.specs.Members.{has-from_contains}
 use Rattle.daos_model.specs.Accesses.{minor_writes}
 use Rattle.daos_model.specs.Attempts.{snapshot_of_command}
 use Rattle.daos_model.specs.Transactions.{attempt_ops}

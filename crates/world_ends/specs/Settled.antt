@@ -2,15 +2,15 @@
 use Rattle.std.specs.Prelude.{ℕ, zero, suc, ◌≡◌, ◌⊎◌, ◌≤◌, ◌<◌, ◌/◌, ◌^◌, ◌-◌, ◌||◌, max, true, List, [], ◌∷◌, filter, length, map, slice_get, Contains, Some, None, refl}
 use Rattle.std.specs.List.{list_all}
 use Rattle.std.proofs.Common.{inl, inr, sym, ◌∙◌, ap, arith}
-use Rattle.daos_base.specs.declared.id.ContId.{ContId}
-use Rattle.daos_base.specs.Epochs.{restart_floor}
-use Rattle.daos_base.specs.Placement.{path_leader}
-use Rattle.daos_laws.specs.Dated.{AreSingleInOrder}
-use Rattle.daos_laws.specs.FamilyLaws.{leader-within, versions-objects}
-use Rattle.daos_laws.specs.Lists.{at-within, filter-all}
-use Rattle.daos_laws.specs.Members.{contains-from_has}
-use Rattle.daos_laws.specs.TargetLaws.{agreeing-hold, families-dkeys, family-leaders}
-use Rattle.daos_laws.specs.Targets.{ArePlaced, is_own}
+use Rattle.base_types.specs.declared.id.ContId.{ContId}
+use Rattle.base_types.specs.Epochs.{restart_floor}
+use Rattle.base_types.specs.Placement.{path_leader}
+use Rattle.model_laws.specs.Dated.{AreSingleInOrder}
+use Rattle.model_laws.specs.FamilyLaws.{leader-within, versions-objects}
+use Rattle.model_laws.specs.Lists.{at-within, filter-all}
+use Rattle.model_laws.specs.Members.{contains-from_has}
+use Rattle.model_laws.specs.TargetLaws.{agreeing-hold, families-dkeys, family-leaders}
+use Rattle.model_laws.specs.Targets.{ArePlaced, is_own}
 use Rattle.daos_model.specs.declared.cell.Cell.{Cell}
 use Rattle.daos_model.specs.declared.durable.Durable.{Durable}
 use Rattle.daos_model.specs.declared.durable.Version.{Version}

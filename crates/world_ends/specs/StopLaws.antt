@@ -4,11 +4,11 @@ use Rattle.std.specs.List.{IsDistinct}
 use Rattle.std.specs.List.Sorted.{IsNonDecreasing, IsStrictlyIncreasing}
 use Rattle.std.proofs.Common.{sym, ◌∙◌, ap, subst, inl, arith}
 use Rattle.std.proofs.lemmas.List.Elements.{All-cons, All-head, All-nil, All-tail}
-use Rattle.daos_base.specs.declared.report.Attempt.{Attempt}
-use Rattle.daos_base.specs.declared.report.Line.{Line}
-use Rattle.daos_base.specs.declared.report.Line.TheVariants as line
-use Rattle.daos_base.specs.declared.script.Script.{Script}
-use Rattle.daos_laws.specs.Members.{has-from_contains}
+use Rattle.base_types.specs.declared.report.Attempt.{Attempt}
+use Rattle.base_types.specs.declared.report.Line.{Line}
+use Rattle.base_types.specs.declared.report.Line.TheVariants as line
+use Rattle.base_types.specs.declared.script.Script.{Script}
+use Rattle.model_laws.specs.Members.{has-from_contains}
 use Rattle.daos_model.specs.Opening.{undisturbed}
 use Rattle.daos_model.specs.Snapshots.{ComesFrom}
 use Rattle.daos_model.specs.Stops.{AreCounted, AreNumbered, Down, Running, after_all, least, HasTarget, StopsLegal, StopsLegalAt, aggregate_numbers, aggregated_number, down_targets, floors, given_up, incarnations, is_at, is_stop_at, lines_at, restart_numbers, restarted_number, stop_numbers, stopped_number}

@@ -1,17 +1,17 @@
 -- In a run without stops and snapshots, all that lines tell of are attempts, and it is known what became of each.
 use Rattle.std.specs.Prelude.{◌≡◌, ◌<◌, true, false, List, Contains, refl}
 use Rattle.std.proofs.Common.{ap, arith, subst}
-use Rattle.daos_base.specs.declared.epoch.Epoch.{Epoch}
-use Rattle.daos_base.specs.declared.id.AttemptId.{AttemptId}
-use Rattle.daos_base.specs.declared.outcome.Cause.TheVariants as cause
-use Rattle.daos_base.specs.declared.outcome.Outcome.{Outcome}
-use Rattle.daos_base.specs.declared.outcome.Outcome.TheVariants as outcome
-use Rattle.daos_base.specs.declared.report.Attempt.{Attempt}
-use Rattle.daos_base.specs.declared.report.Line.{Line}
-use Rattle.daos_laws.specs.DecidedLaws.{all-from_has}
-use Rattle.daos_laws.specs.EntryLaws.{same-attempt}
-use Rattle.daos_laws.specs.Members.{Has}
-use Rattle.daos_room.specs.Lines.{line-of}
+use Rattle.base_types.specs.declared.epoch.Epoch.{Epoch}
+use Rattle.base_types.specs.declared.id.AttemptId.{AttemptId}
+use Rattle.base_types.specs.declared.outcome.Cause.TheVariants as cause
+use Rattle.base_types.specs.declared.outcome.Outcome.{Outcome}
+use Rattle.base_types.specs.declared.outcome.Outcome.TheVariants as outcome
+use Rattle.base_types.specs.declared.report.Attempt.{Attempt}
+use Rattle.base_types.specs.declared.report.Line.{Line}
+use Rattle.model_laws.specs.DecidedLaws.{all-from_has}
+use Rattle.model_laws.specs.EntryLaws.{same-attempt}
+use Rattle.model_laws.specs.Members.{Has}
+use Rattle.model_reports.specs.Lines.{line-of}
 use Rattle.daos_model.specs.Attempts.{is_lost, tries}
 use Rattle.daos_model.specs.BoolLaws.{false_of}
 use Rattle.daos_model.specs.Durables.{same_attempt}

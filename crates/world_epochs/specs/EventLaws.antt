@@ -1,9 +1,9 @@
 -- Every right event of a run keeps what is said of epochs, where it keeps what is said of conversations; and it holds at the beginning.
 use Rattle.std.specs.Prelude.{ℕ, ◌≡◌, ◌≤◌, ◌<◌, ◌-◌, ◌++◌, List, [], ◌∷◌, length, Contains, slice_get, Some, None, refl}
 use Rattle.std.proofs.Common.{append-nil, sym, subst, arith}
-use Rattle.daos_base.specs.declared.report.Attempt.{Attempt}
-use Rattle.daos_base.specs.declared.report.Line.{Line}
-use Rattle.daos_base.specs.declared.script.Script.{Script}
+use Rattle.base_types.specs.declared.report.Attempt.{Attempt}
+use Rattle.base_types.specs.declared.report.Line.{Line}
+use Rattle.base_types.specs.declared.script.Script.{Script}
 use Rattle.daos_model.specs.Attempts.{tries}
 use Rattle.daos_model.specs.Order.{AllRise}
 use Rattle.world_base.specs.declared.client.ClientState.{ClientState}

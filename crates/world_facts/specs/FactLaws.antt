@@ -2,26 +2,26 @@
 use Rattle.std.specs.Prelude.{length, ℕ, ◌≡◌, ◌⊎◌, ◌≤◌, ◌<◌, ◌%◌, ◌==◌, Bool, true, false, List, [], slice_get, is_some, Contains, Option, Some, None, refl}
 use Rattle.std.specs.List.{list_any}
 use Rattle.std.proofs.Common.{inl, inr, sym, ◌∙◌, ap, subst, arith}
-use Rattle.daos_base.specs.declared.entry.Entry.{Entry}
-use Rattle.daos_base.specs.declared.entry.Verdict.{Verdict}
-use Rattle.daos_base.specs.declared.entry.Verdict.TheVariants as verdict
-use Rattle.daos_base.specs.declared.epoch.Epoch.{Epoch}
-use Rattle.daos_base.specs.declared.id.AttemptId.{AttemptId}
-use Rattle.daos_base.specs.declared.operation.MinorWrite.{MinorWrite}
-use Rattle.daos_base.specs.declared.operation.Write.{Write}
-use Rattle.daos_base.specs.Placement.{path_members}
-use Rattle.daos_base.specs.declared.outcome.Outcome.{Outcome}
-use Rattle.daos_base.specs.declared.outcome.Outcome.TheVariants as outcome
-use Rattle.daos_base.specs.declared.report.Attempt.{Attempt}
-use Rattle.daos_laws.specs.EntryLaws.{found-passes, same-attempt}
-use Rattle.daos_laws.specs.Lists.{at-within}
-use Rattle.daos_laws.specs.MatchLaws.{matches-give}
-use Rattle.daos_laws.specs.Members.{Has, any-has, has-filter, has-from_contains}
-use Rattle.daos_laws.specs.TargetLaws.{same_number}
-use Rattle.daos_laws.specs.Targets.{is_own, is_target}
-use Rattle.daos_messages.specs.declared.actor.ActorId.{ActorId}
-use Rattle.daos_messages.specs.declared.message.Message.{Message}
-use Rattle.daos_messages.specs.declared.message.Message.TheVariants as message
+use Rattle.base_types.specs.declared.entry.Entry.{Entry}
+use Rattle.base_types.specs.declared.entry.Verdict.{Verdict}
+use Rattle.base_types.specs.declared.entry.Verdict.TheVariants as verdict
+use Rattle.base_types.specs.declared.epoch.Epoch.{Epoch}
+use Rattle.base_types.specs.declared.id.AttemptId.{AttemptId}
+use Rattle.base_types.specs.declared.operation.MinorWrite.{MinorWrite}
+use Rattle.base_types.specs.declared.operation.Write.{Write}
+use Rattle.base_types.specs.Placement.{path_members}
+use Rattle.base_types.specs.declared.outcome.Outcome.{Outcome}
+use Rattle.base_types.specs.declared.outcome.Outcome.TheVariants as outcome
+use Rattle.base_types.specs.declared.report.Attempt.{Attempt}
+use Rattle.model_laws.specs.EntryLaws.{found-passes, same-attempt}
+use Rattle.model_laws.specs.Lists.{at-within}
+use Rattle.model_laws.specs.MatchLaws.{matches-give}
+use Rattle.model_laws.specs.Members.{Has, any-has, has-filter, has-from_contains}
+use Rattle.model_laws.specs.TargetLaws.{same_number}
+use Rattle.model_laws.specs.Targets.{is_own, is_target}
+use Rattle.base_messages.specs.declared.actor.ActorId.{ActorId}
+use Rattle.base_messages.specs.declared.message.Message.{Message}
+use Rattle.base_messages.specs.declared.message.Message.TheVariants as message
 use Rattle.daos_model.specs.declared.durable.Version.{Version}
 use Rattle.daos_model.specs.Attempts.{is_of_client, tries, tries_of}
 use Rattle.daos_model.specs.BoolLaws.{both, clash}

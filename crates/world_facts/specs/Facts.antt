@@ -1,22 +1,22 @@
 -- The facts of the world that hold at each moment of a run, without stops, snapshots and aggregation.
 use Rattle.std.specs.Prelude.{ℕ, ◌≡◌, ◌⊎◌, ◌≤◌, ◌<◌, ◌+◌, ◌/◌, ◌%◌, Bool, true, false, List, [], slice_get, is_some, Contains, Option, Some, None}
-use Rattle.daos_base.specs.declared.entry.Entry.{Entry}
-use Rattle.daos_base.specs.declared.entry.Verdict.TheVariants as verdict
-use Rattle.daos_base.specs.declared.epoch.Epoch.{Epoch}
-use Rattle.daos_base.specs.declared.id.AttemptId.{AttemptId}
-use Rattle.daos_base.specs.declared.operation.MinorWrite.{MinorWrite}
-use Rattle.daos_base.specs.declared.outcome.Outcome.{Outcome}
-use Rattle.daos_base.specs.declared.outcome.Outcome.TheVariants as outcome
-use Rattle.daos_base.specs.declared.report.Attempt.{Attempt}
-use Rattle.daos_base.specs.declared.shown.Shown.{Shown}
-use Rattle.daos_base.specs.Operations.{read_path}
-use Rattle.daos_base.specs.Paths.{overlaps}
-use Rattle.daos_base.specs.Placement.{path_members}
-use Rattle.daos_laws.specs.Matches.{GivesAsOf, counts_under}
-use Rattle.daos_laws.specs.Members.{Has}
-use Rattle.daos_laws.specs.Targets.{is_own}
-use Rattle.daos_messages.specs.declared.message.Message.{Message}
-use Rattle.daos_messages.specs.declared.message.Message.TheVariants as message
+use Rattle.base_types.specs.declared.entry.Entry.{Entry}
+use Rattle.base_types.specs.declared.entry.Verdict.TheVariants as verdict
+use Rattle.base_types.specs.declared.epoch.Epoch.{Epoch}
+use Rattle.base_types.specs.declared.id.AttemptId.{AttemptId}
+use Rattle.base_types.specs.declared.operation.MinorWrite.{MinorWrite}
+use Rattle.base_types.specs.declared.outcome.Outcome.{Outcome}
+use Rattle.base_types.specs.declared.outcome.Outcome.TheVariants as outcome
+use Rattle.base_types.specs.declared.report.Attempt.{Attempt}
+use Rattle.base_types.specs.declared.shown.Shown.{Shown}
+use Rattle.base_types.specs.Operations.{read_path}
+use Rattle.base_types.specs.Paths.{overlaps}
+use Rattle.base_types.specs.Placement.{path_members}
+use Rattle.model_laws.specs.Matches.{GivesAsOf, counts_under}
+use Rattle.model_laws.specs.Members.{Has}
+use Rattle.model_laws.specs.Targets.{is_own}
+use Rattle.base_messages.specs.declared.message.Message.{Message}
+use Rattle.base_messages.specs.declared.message.Message.TheVariants as message
 use Rattle.daos_model.specs.declared.cell.Cell.{Cell}
 use Rattle.daos_model.specs.declared.durable.Version.{Version}
 use Rattle.daos_model.specs.Attempts.{tries}

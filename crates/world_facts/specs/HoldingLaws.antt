@@ -7,12 +7,12 @@ use Rattle.std.proofs.lemmas.Bool.Decides.{nat_tests}
 use Rattle.std.proofs.lemmas.Nat.{pow_pos}
 use Rattle.std.proofs.lemmas.Option.{slice_get_within}
 use Rattle.std.proofs.lemmas.Nat.Bits.{and_pow, bit_at-lt}
-use Rattle.daos_base.specs.declared.entry.Entry.{Entry}
-use Rattle.daos_base.specs.declared.epoch.Epoch.{Epoch}
-use Rattle.daos_base.specs.declared.id.AttemptId.{AttemptId}
-use Rattle.daos_laws.specs.JoinLaws.{has-range}
-use Rattle.daos_laws.specs.Lists.{at-within, has-at, place-of}
-use Rattle.daos_laws.specs.Members.{Has, any-has, has-any, has-from_contains}
+use Rattle.base_types.specs.declared.entry.Entry.{Entry}
+use Rattle.base_types.specs.declared.epoch.Epoch.{Epoch}
+use Rattle.base_types.specs.declared.id.AttemptId.{AttemptId}
+use Rattle.model_laws.specs.JoinLaws.{has-range}
+use Rattle.model_laws.specs.Lists.{at-within, has-at, place-of}
+use Rattle.model_laws.specs.Members.{Has, any-has, has-any, has-from_contains}
 use Rattle.daos_model.specs.declared.durable.Durable.{Durable}
 use Rattle.daos_model.specs.BoolLaws.{and_left, and_right, both, clash, or_from_right}
 use Rattle.daos_model.specs.Durables.{entry_of}

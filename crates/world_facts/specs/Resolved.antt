@@ -1,9 +1,9 @@
 -- What all targets keep at a moment of a run, taken together: what is left of it where all of them stop there.
 use Rattle.std.specs.Prelude.{◌≡◌, ◌^◌, true, false, List, [], map}
-use Rattle.daos_base.specs.declared.epoch.Epoch.{Epoch}
-use Rattle.daos_base.specs.declared.id.AttemptId.{AttemptId}
-use Rattle.daos_laws.specs.Decided.{taken_in}
-use Rattle.daos_laws.specs.Members.{Has}
+use Rattle.base_types.specs.declared.epoch.Epoch.{Epoch}
+use Rattle.base_types.specs.declared.id.AttemptId.{AttemptId}
+use Rattle.model_laws.specs.Decided.{taken_in}
+use Rattle.model_laws.specs.Members.{Has}
 use Rattle.daos_model.specs.AsOf.{as_of}
 use Rattle.daos_model.specs.Family.{Agree, resolved, stand}
 use Rattle.daos_model.specs.Finals.{SameMap}

@@ -3,17 +3,17 @@ use Rattle.std.specs.Prelude.{ℕ, ◌≡◌, ◌<◌, ◌+◌, ◌^◌, ◌&&�
 use Rattle.std.specs.List.{list_all}
 use Rattle.std.proofs.Common.{inl, inr, sym, ◌∙◌, ap, subst}
 use Rattle.std.proofs.lemmas.List.Elements.{All-nil}
-use Rattle.daos_base.specs.declared.entry.Entry.{Entry}
-use Rattle.daos_base.specs.declared.epoch.Epoch.{Epoch}
-use Rattle.daos_base.specs.declared.id.AttemptId.{AttemptId}
-use Rattle.daos_laws.specs.Decided as decided
-use Rattle.daos_laws.specs.FamilyLaws.{EachGivesOwn, HasNoneUnowned, IsFamilyInForm, as_of-objects, families-agree, families-stand_for}
-use Rattle.daos_laws.specs.Lists.{has-at, place-of}
-use Rattle.daos_laws.specs.MatchLaws.{filter_on, matches-give}
-use Rattle.daos_laws.specs.Matches.{GivesAsOf, counts_under}
-use Rattle.daos_laws.specs.Members.{Has, contains-from_has, has-cases, has-from_contains, has-from_map, has-left, has-right}
-use Rattle.daos_laws.specs.TargetLaws.{as_of-dkeys, same_number}
-use Rattle.daos_laws.specs.Targets.{is_own}
+use Rattle.base_types.specs.declared.entry.Entry.{Entry}
+use Rattle.base_types.specs.declared.epoch.Epoch.{Epoch}
+use Rattle.base_types.specs.declared.id.AttemptId.{AttemptId}
+use Rattle.model_laws.specs.Decided as decided
+use Rattle.model_laws.specs.FamilyLaws.{EachGivesOwn, HasNoneUnowned, IsFamilyInForm, as_of-objects, families-agree, families-stand_for}
+use Rattle.model_laws.specs.Lists.{has-at, place-of}
+use Rattle.model_laws.specs.MatchLaws.{filter_on, matches-give}
+use Rattle.model_laws.specs.Matches.{GivesAsOf, counts_under}
+use Rattle.model_laws.specs.Members.{Has, contains-from_has, has-cases, has-from_contains, has-from_map, has-left, has-right}
+use Rattle.model_laws.specs.TargetLaws.{as_of-dkeys, same_number}
+use Rattle.model_laws.specs.Targets.{is_own}
 use Rattle.daos_model.specs.declared.cell.CellValue.{CellValue}
 use Rattle.daos_model.specs.declared.durable.Durable.{Durable}
 use Rattle.daos_model.specs.declared.durable.Version.{Version}

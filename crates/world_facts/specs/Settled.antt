@@ -1,6 +1,6 @@
 -- Where a run has ended, each attempt that a target keeps an entry of is committed at all its members.
 use Rattle.std.specs.Prelude.{ℕ, ◌≡◌, ◌⊎◌, true}
-use Rattle.daos_base.specs.declared.entry.Entry.{Entry}
+use Rattle.base_types.specs.declared.entry.Entry.{Entry}
 use Rattle.daos_model.specs.Opening.{Opening}
 use Rattle.dtx_base.specs.Members.{has_target}
 use Rattle.world_attempts.specs.Attempts.{IsSettled}

@@ -2,10 +2,10 @@
 use Rattle.std.specs.Prelude.{ℕ, ◌≡◌, ◌≤◌, ◌<◌, ◌==◌, Bool, true, false, not, slice_get, Contains, Option, Some, None, refl}
 use Rattle.std.proofs.Common.{inl, inr, sym, ◌∙◌, ap, arith}
 use Rattle.std.proofs.lemmas.Bool.Decides.{nat_tests}
-use Rattle.daos_base.specs.declared.entry.Entry.{Entry}
-use Rattle.daos_base.specs.declared.id.AttemptId.{AttemptId}
-use Rattle.daos_laws.specs.JoinLaws.{has-range}
-use Rattle.daos_laws.specs.Members.{Has, has-from_contains}
+use Rattle.base_types.specs.declared.entry.Entry.{Entry}
+use Rattle.base_types.specs.declared.id.AttemptId.{AttemptId}
+use Rattle.model_laws.specs.JoinLaws.{has-range}
+use Rattle.model_laws.specs.Members.{Has, has-from_contains}
 use Rattle.daos_model.specs.BoolLaws.{both}
 use Rattle.daos_model.specs.Opening.{Opening}
 use Rattle.dtx_base.specs.Members.{all_targets, has_target, is_other_member}

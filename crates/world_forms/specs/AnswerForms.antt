@@ -3,26 +3,26 @@ use Rattle.std.specs.Prelude.{ℕ, zero, suc, ◌≡◌, ◌≤◌, ◌<◌, ◌
 use Rattle.std.proofs.Common.{sym, ◌∙◌, ap, subst, arith}
 use Rattle.std.proofs.lemmas.List.Elements.{All-cons, All-head, All-nil, All-tail, All-weaker}
 use Rattle.std.proofs.lemmas.Option.{slice_get_within}
-use Rattle.daos_base.specs.declared.answer.Answer.{Answer}
-use Rattle.daos_base.specs.declared.answer.Piece.{Piece}
-use Rattle.daos_base.specs.declared.answer.Piece.TheVariants as piece
-use Rattle.daos_base.specs.declared.operation.Act.{Act}
-use Rattle.daos_base.specs.declared.operation.Act.TheVariants.{Fetch, Change}
-use Rattle.daos_base.specs.declared.operation.Op.{Op}
-use Rattle.daos_base.specs.declared.operation.Read.{Read}
-use Rattle.daos_base.specs.declared.operation.Read.TheVariants as read
-use Rattle.daos_base.specs.declared.path.Path.{Path}
-use Rattle.daos_base.specs.declared.report.Attempt.{Attempt}
-use Rattle.daos_base.specs.declared.script.ObjDecl.{ObjDecl}
-use Rattle.daos_base.specs.Scripts.{IsActInForm, IsOpInForm, IsReadInForm}
-use Rattle.daos_laws.specs.Lists.{all-at}
+use Rattle.base_types.specs.declared.answer.Answer.{Answer}
+use Rattle.base_types.specs.declared.answer.Piece.{Piece}
+use Rattle.base_types.specs.declared.answer.Piece.TheVariants as piece
+use Rattle.base_types.specs.declared.operation.Act.{Act}
+use Rattle.base_types.specs.declared.operation.Act.TheVariants.{Fetch, Change}
+use Rattle.base_types.specs.declared.operation.Op.{Op}
+use Rattle.base_types.specs.declared.operation.Read.{Read}
+use Rattle.base_types.specs.declared.operation.Read.TheVariants as read
+use Rattle.base_types.specs.declared.path.Path.{Path}
+use Rattle.base_types.specs.declared.report.Attempt.{Attempt}
+use Rattle.base_types.specs.declared.script.ObjDecl.{ObjDecl}
+use Rattle.base_types.specs.Scripts.{IsActInForm, IsOpInForm, IsReadInForm}
+use Rattle.model_laws.specs.Lists.{all-at}
 use Rattle.daos_model.specs.declared.cell.CellValue.{CellValue}
 use Rattle.daos_model.specs.Answers.{answer, has_cell_below, hole_before, index_before, pieces, value_answer, yes_or_no}
 use Rattle.daos_model.specs.Cells.{index_cell, single_cell, value_at}
 use Rattle.daos_model.specs.ReadsLegal.{IsRightAnswer, IsRightCondition, IsToldRight}
 use Rattle.daos_model.specs.Transactions.{read_of, read_of_op}
 use Rattle.daos_report.specs.Forms.{IsAnswer, IsCond, IsGot, IsPiece}
-use Rattle.daos_runnable.specs.Keyed.{MapHasKeys}
+use Rattle.script_runnable.specs.Keyed.{MapHasKeys}
 use Rattle.world_forms.specs.KeyLaws.{akey-names, dkey-names}
 
 -- ---- pieces

@@ -1,23 +1,23 @@
 -- What a script with keys writes leaves keys in a map, so what is read there as names are keys.
 use Rattle.std.specs.Prelude.{ℕ, ◌≡◌, ◌+◌, Bool, true, false, nat_le, nat_lt, List, [], ◌∷◌, slice_get, All, Option, Some, None, refl, if◌then◌else◌}
 use Rattle.std.proofs.lemmas.List.Elements.{All-append, All-cons, All-filter, All-head, All-nil, All-tail}
-use Rattle.daos_base.specs.declared.epoch.Epoch.{Epoch}
-use Rattle.daos_base.specs.declared.id.AttemptId.{AttemptId}
-use Rattle.daos_base.specs.declared.operation.Act.{Act}
-use Rattle.daos_base.specs.declared.operation.Act.TheVariants.{Fetch, Change}
-use Rattle.daos_base.specs.declared.operation.Op.{Op}
-use Rattle.daos_base.specs.declared.operation.Write.{Write}
-use Rattle.daos_base.specs.declared.operation.Write.TheVariants as write
-use Rattle.daos_base.specs.declared.path.Path.{Path}
-use Rattle.daos_base.specs.declared.report.Attempt.{Attempt}
-use Rattle.daos_base.specs.declared.report.Line.{Line}
-use Rattle.daos_base.specs.declared.script.Command.{Command}
-use Rattle.daos_base.specs.declared.script.Script.{Script}
-use Rattle.daos_base.specs.Keys.{IsKey}
-use Rattle.daos_base.specs.Operations.{act_path}
-use Rattle.daos_base.specs.Paths.{leads_to}
-use Rattle.daos_base.specs.Scripts.{is_numbered}
-use Rattle.daos_laws.specs.Lists.{all-at}
+use Rattle.base_types.specs.declared.epoch.Epoch.{Epoch}
+use Rattle.base_types.specs.declared.id.AttemptId.{AttemptId}
+use Rattle.base_types.specs.declared.operation.Act.{Act}
+use Rattle.base_types.specs.declared.operation.Act.TheVariants.{Fetch, Change}
+use Rattle.base_types.specs.declared.operation.Op.{Op}
+use Rattle.base_types.specs.declared.operation.Write.{Write}
+use Rattle.base_types.specs.declared.operation.Write.TheVariants as write
+use Rattle.base_types.specs.declared.path.Path.{Path}
+use Rattle.base_types.specs.declared.report.Attempt.{Attempt}
+use Rattle.base_types.specs.declared.report.Line.{Line}
+use Rattle.base_types.specs.declared.script.Command.{Command}
+use Rattle.base_types.specs.declared.script.Script.{Script}
+use Rattle.base_types.specs.Keys.{IsKey}
+use Rattle.base_types.specs.Operations.{act_path}
+use Rattle.base_types.specs.Paths.{leads_to}
+use Rattle.base_types.specs.Scripts.{is_numbered}
+use Rattle.model_laws.specs.Lists.{all-at}
 use Rattle.daos_model.specs.declared.cell.CellValue.{CellValue}
 use Rattle.daos_model.specs.declared.stand.Stand.{Stand}
 use Rattle.daos_model.specs.declared.stand.Taken.{Taken}
@@ -27,7 +27,7 @@ use Rattle.daos_model.specs.Attempts.{tries}
 use Rattle.daos_model.specs.Effect.{effect, effects, extent_cells, index_value, without}
 use Rattle.daos_model.specs.TookEffect.{all_taken, taken_at, taken_by, took, took_effect}
 use Rattle.daos_model.specs.Transactions.{attempt_ops, command_of, numbered, ops_or_none, writes_of, written}
-use Rattle.daos_runnable.specs.Keyed.{CellHasKeys, CommandHasKeys, HasKeys, IsKeyOrNone, MapHasKeys, OpHasKeys, ScriptHasKeys, TakenHasKeys, WriteHasKeys}
+use Rattle.script_runnable.specs.Keyed.{CellHasKeys, CommandHasKeys, HasKeys, IsKeyOrNone, MapHasKeys, OpHasKeys, ScriptHasKeys, TakenHasKeys, WriteHasKeys}
 
 -- ---- attempts
 

@@ -3,13 +3,13 @@ use Rattle.std.specs.Prelude.{ℕ, zero, suc, ◌≡◌, ◌≤◌, ◌<◌, ◌
 use Rattle.std.proofs.Common.{inl, inr, ◌∙◌, ap, subst, arith}
 use Rattle.std.proofs.lemmas.List.Sums.{length-filter}
 use Rattle.std.proofs.lemmas.Option.{slice_get_within}
-use Rattle.daos_base.specs.declared.report.Attempt.{Attempt}
-use Rattle.daos_base.specs.declared.report.Line.{Line}
-use Rattle.daos_base.specs.declared.script.Command.{Command}
-use Rattle.daos_base.specs.declared.script.Script.{Script}
-use Rattle.daos_base.specs.Scripts.{IsInForm, count_numbered, is_numbered}
-use Rattle.daos_laws.specs.Members.{Has, has-cases, has-filter}
-use Rattle.daos_laws.specs.TargetLaws.{same_number}
+use Rattle.base_types.specs.declared.report.Attempt.{Attempt}
+use Rattle.base_types.specs.declared.report.Line.{Line}
+use Rattle.base_types.specs.declared.script.Command.{Command}
+use Rattle.base_types.specs.declared.script.Script.{Script}
+use Rattle.base_types.specs.Scripts.{IsInForm, count_numbered, is_numbered}
+use Rattle.model_laws.specs.Members.{Has, has-cases, has-filter}
+use Rattle.model_laws.specs.TargetLaws.{same_number}
 use Rattle.daos_model.specs.Attempts.{is_of_client, tries, tries_of}
 use Rattle.daos_model.specs.Order.{AllInTurn, AreAttempts, AreInTurn, client_commands, commands_or_none}
 use Rattle.daos_model.specs.Transactions.{numbered}

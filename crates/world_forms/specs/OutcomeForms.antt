@@ -1,25 +1,25 @@
 -- An outcome that shows its cause is such as a report's text determines.
 use Rattle.std.specs.Prelude.{ℕ, ◌≡◌, ◌<◌, ◌^◌, ◌++◌, Bool, true, false, List, [], ◌∷◌, All, Any, Option, Some, None, refl}
 use Rattle.std.proofs.Common.{inl, sym, ap, subst, arith}
-use Rattle.daos_base.specs.declared.epoch.Epoch.{Epoch}
-use Rattle.daos_base.specs.declared.id.AttemptId.{AttemptId}
-use Rattle.daos_base.specs.declared.id.ContId.{ContId}
-use Rattle.daos_base.specs.declared.outcome.Cause.{Cause}
-use Rattle.daos_base.specs.declared.outcome.Cause.TheVariants as cause
-use Rattle.daos_base.specs.declared.outcome.FloorWhy.{FloorWhy}
-use Rattle.daos_base.specs.declared.outcome.FloorWhy.TheVariants as why
-use Rattle.daos_base.specs.declared.outcome.Outcome.{Outcome}
-use Rattle.daos_base.specs.declared.outcome.Outcome.TheVariants as outcome
-use Rattle.daos_base.specs.declared.path.Path.{Path}
-use Rattle.daos_base.specs.declared.report.Attempt.{Attempt}
-use Rattle.daos_base.specs.declared.report.Line.{Line}
-use Rattle.daos_base.specs.declared.report.Line.TheVariants as line
-use Rattle.daos_base.specs.declared.script.Command.{Command}
-use Rattle.daos_base.specs.declared.script.Command.TheVariants.{Run, Snap, Aggregate, Tell, Skip}
-use Rattle.daos_base.specs.Operations.{write_path}
-use Rattle.daos_base.specs.Scripts.{IsInForm}
-use Rattle.daos_laws.specs.DecidedLaws.{has-all}
-use Rattle.daos_laws.specs.Members.{Has, has-from_contains, has-left, has-right}
+use Rattle.base_types.specs.declared.epoch.Epoch.{Epoch}
+use Rattle.base_types.specs.declared.id.AttemptId.{AttemptId}
+use Rattle.base_types.specs.declared.id.ContId.{ContId}
+use Rattle.base_types.specs.declared.outcome.Cause.{Cause}
+use Rattle.base_types.specs.declared.outcome.Cause.TheVariants as cause
+use Rattle.base_types.specs.declared.outcome.FloorWhy.{FloorWhy}
+use Rattle.base_types.specs.declared.outcome.FloorWhy.TheVariants as why
+use Rattle.base_types.specs.declared.outcome.Outcome.{Outcome}
+use Rattle.base_types.specs.declared.outcome.Outcome.TheVariants as outcome
+use Rattle.base_types.specs.declared.path.Path.{Path}
+use Rattle.base_types.specs.declared.report.Attempt.{Attempt}
+use Rattle.base_types.specs.declared.report.Line.{Line}
+use Rattle.base_types.specs.declared.report.Line.TheVariants as line
+use Rattle.base_types.specs.declared.script.Command.{Command}
+use Rattle.base_types.specs.declared.script.Command.TheVariants.{Run, Snap, Aggregate, Tell, Skip}
+use Rattle.base_types.specs.Operations.{write_path}
+use Rattle.base_types.specs.Scripts.{IsInForm}
+use Rattle.model_laws.specs.DecidedLaws.{has-all}
+use Rattle.model_laws.specs.Members.{Has, has-from_contains, has-left, has-right}
 use Rattle.daos_model.specs.Accesses.{minor_writes, op_path}
 use Rattle.daos_model.specs.Attempts.{tries}
 use Rattle.daos_model.specs.CausesShown.{AsksAt, LacksBlocks, LacksSpace, ShowsCause, ShowsFloor, ShowsUnresolved, ShowsWhy, is_snap}
@@ -32,9 +32,9 @@ use Rattle.world_causes.specs.Causes.{is_try}
 use Rattle.world_ends.specs.Ends.{rules_of}
 use Rattle.world_ends.specs.FormLaws.{command-plain}
 use Rattle.world_epochs.specs.Epochs.{Unsnapped, is_unsnapped}
-use Rattle.daos_laws.specs.EntryLaws.{same-attempt}
-use Rattle.daos_laws.specs.Lists.{any-all}
-use Rattle.daos_runnable.specs.Keyed.{ScriptHasKeys}
+use Rattle.model_laws.specs.EntryLaws.{same-attempt}
+use Rattle.model_laws.specs.Lists.{any-all}
+use Rattle.script_runnable.specs.Keyed.{ScriptHasKeys}
 use Rattle.world_forms.specs.PathForms.{attempt-paths, attempt-writes}
 use Rattle.world_forms.specs.SpaceForms.{space-form}
 

@@ -2,27 +2,27 @@
 use Rattle.std.specs.Prelude.{ℕ, ◌≡◌, ◌+◌, List, [], ◌∷◌, All, Option, Some, None, refl}
 use Rattle.std.proofs.Common.{sym, ◌∙◌, subst}
 use Rattle.std.proofs.lemmas.List.Elements.{All-append, All-cons, All-head, All-nil, All-tail}
-use Rattle.daos_base.specs.declared.id.AttemptId.{AttemptId}
-use Rattle.daos_base.specs.declared.id.ObjId.{ObjId}
-use Rattle.daos_base.specs.declared.operation.Act.{Act}
-use Rattle.daos_base.specs.declared.operation.Act.TheVariants.{Fetch, Change}
-use Rattle.daos_base.specs.declared.operation.MinorWrite.{MinorWrite}
-use Rattle.daos_base.specs.declared.operation.Op.{Op}
-use Rattle.daos_base.specs.declared.operation.Read.{Read}
-use Rattle.daos_base.specs.declared.operation.Read.TheVariants as read
-use Rattle.daos_base.specs.declared.operation.Write.{Write}
-use Rattle.daos_base.specs.declared.operation.Write.TheVariants as write
-use Rattle.daos_base.specs.declared.path.Path.{Path}
-use Rattle.daos_base.specs.declared.script.ObjDecl.{ObjDecl}
-use Rattle.daos_base.specs.declared.script.Script.{Script}
-use Rattle.daos_base.specs.Operations.{act_path, read_path, write_path}
-use Rattle.daos_base.specs.Scripts as scripts
-use Rattle.daos_base.specs.Scripts.{AreDeclared, IsActInForm, IsAkeyOf, IsDkeyOf, IsInForm, IsObjectOf, IsOpInForm, IsReadInForm, IsWriteInForm}
+use Rattle.base_types.specs.declared.id.AttemptId.{AttemptId}
+use Rattle.base_types.specs.declared.id.ObjId.{ObjId}
+use Rattle.base_types.specs.declared.operation.Act.{Act}
+use Rattle.base_types.specs.declared.operation.Act.TheVariants.{Fetch, Change}
+use Rattle.base_types.specs.declared.operation.MinorWrite.{MinorWrite}
+use Rattle.base_types.specs.declared.operation.Op.{Op}
+use Rattle.base_types.specs.declared.operation.Read.{Read}
+use Rattle.base_types.specs.declared.operation.Read.TheVariants as read
+use Rattle.base_types.specs.declared.operation.Write.{Write}
+use Rattle.base_types.specs.declared.operation.Write.TheVariants as write
+use Rattle.base_types.specs.declared.path.Path.{Path}
+use Rattle.base_types.specs.declared.script.ObjDecl.{ObjDecl}
+use Rattle.base_types.specs.declared.script.Script.{Script}
+use Rattle.base_types.specs.Operations.{act_path, read_path, write_path}
+use Rattle.base_types.specs.Scripts as scripts
+use Rattle.base_types.specs.Scripts.{AreDeclared, IsActInForm, IsAkeyOf, IsDkeyOf, IsInForm, IsObjectOf, IsOpInForm, IsReadInForm, IsWriteInForm}
 use Rattle.daos_model.specs.Accesses.{minor_write, minor_writes, op_path}
 use Rattle.daos_model.specs.Transactions.{attempt_ops}
 use Rattle.daos_report.specs.Forms.{HasNames, IsBelowOf, IsContOf, IsObjOf, IsPathOf}
 use Rattle.world_gots.specs.FormLaws.{ops-form}
-use Rattle.daos_runnable.specs.Keyed.{HasKeys, IsKeyOrNone, OpHasKeys, ScriptHasKeys}
+use Rattle.script_runnable.specs.Keyed.{HasKeys, IsKeyOrNone, OpHasKeys, ScriptHasKeys}
 use Rattle.world_forms.specs.KeyLaws.{attempt-keys}
 
 -- ---- what is so of all is so of one that is shown

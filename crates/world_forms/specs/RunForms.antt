@@ -2,12 +2,12 @@
 use Rattle.std.specs.Prelude.{ℕ, ◌≡◌, ◌≤◌, ◌<◌, ◌/◌, ◌%◌, ◌^◌, false, List, All, Option, Some, None, refl}
 use Rattle.std.proofs.Common.{arith}
 use Rattle.std.proofs.lemmas.List.Elements.{All-nil}
-use Rattle.daos_base.specs.declared.epoch.Epoch.{Epoch}
-use Rattle.daos_base.specs.declared.job.Job.{Job}
-use Rattle.daos_base.specs.declared.report.Attempt.{Attempt}
-use Rattle.daos_base.specs.declared.script.Script.{Script}
-use Rattle.daos_laws.specs.DecidedLaws.{all-from_has}
-use Rattle.daos_laws.specs.Members.{Has, contains-from_has}
+use Rattle.base_types.specs.declared.epoch.Epoch.{Epoch}
+use Rattle.base_types.specs.declared.job.Job.{Job}
+use Rattle.base_types.specs.declared.report.Attempt.{Attempt}
+use Rattle.base_types.specs.declared.script.Script.{Script}
+use Rattle.model_laws.specs.DecidedLaws.{all-from_has}
+use Rattle.model_laws.specs.Members.{Has, contains-from_has}
 use Rattle.daos_model.specs.declared.durable.Version.{Version}
 use Rattle.daos_model.specs.Attempts.{tries}
 use Rattle.daos_model.specs.Opening.{Given, Opening, fresh, top, undisturbed}
@@ -23,7 +23,7 @@ use Rattle.world_epochs.specs.Epochs.{Epochs, IsIssued}
 use Rattle.world_base.specs.Ended.{HasEnded}
 use Rattle.world_base.specs.Events.{Rules, Run}
 use Rattle.world_reads.specs.Versions.{Versions}
-use Rattle.daos_runnable.specs.Keyed.{CellHasKeys, MapHasKeys, ScriptHasKeys}
+use Rattle.script_runnable.specs.Keyed.{CellHasKeys, MapHasKeys, ScriptHasKeys}
 use Rattle.world_forms.specs.ReportForms.{IsPlainReport, report-form}
 
 -- ---- the statements

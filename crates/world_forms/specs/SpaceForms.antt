@@ -5,13 +5,13 @@ use Rattle.std.proofs.Common.{arith}
 use Rattle.std.proofs.lemmas.Bool.Decides.{nat_tests}
 use Rattle.std.proofs.lemmas.Grind.{div_ceil_times}
 use Rattle.std.proofs.lemmas.List.Elements.{All-head, All-tail}
-use Rattle.daos_base.specs.declared.id.AttemptId.{AttemptId}
-use Rattle.daos_base.specs.declared.operation.MinorWrite.{MinorWrite}
-use Rattle.daos_base.specs.declared.operation.Write.{Write}
-use Rattle.daos_base.specs.declared.operation.Write.TheVariants as write
-use Rattle.daos_base.specs.declared.script.Script.{Script}
-use Rattle.daos_base.specs.Scripts.{IsInForm}
-use Rattle.daos_laws.specs.HoldingLaws.{holder-within, some-blocks}
+use Rattle.base_types.specs.declared.id.AttemptId.{AttemptId}
+use Rattle.base_types.specs.declared.operation.MinorWrite.{MinorWrite}
+use Rattle.base_types.specs.declared.operation.Write.{Write}
+use Rattle.base_types.specs.declared.operation.Write.TheVariants as write
+use Rattle.base_types.specs.declared.script.Script.{Script}
+use Rattle.base_types.specs.Scripts.{IsInForm}
+use Rattle.model_laws.specs.HoldingLaws.{holder-within, some-blocks}
 use Rattle.daos_model.specs.Accesses.{minor_writes}
 use Rattle.daos_model.specs.Blocks.{blocks, sum_of_blocks, write_blocks}
 use Rattle.daos_model.specs.BoolLaws.{and_left, and_right}
@@ -38,7 +38,7 @@ write-few : (w : Write) → is_write_in_form w ≡ true → write_blocks w ≤ 1
 unfolding is_write_in_form
 write-few (write.Single p bytes) h = let few = few-blocks (length bytes) (and_right (ends_at_akey p) (is_length (length bytes)) h) in omega (arith, few)
 write-few (write.Extent p low bytes) h =
-    let few = few-blocks (length bytes) (and_right (ends_at_akey p) (is_length (length bytes)) (and_left (ends_at_akey p && is_length (length bytes)) (nat_lt (low + length bytes) (2 ^ 32)) h)) in
+    let few = few-blocks (length bytes) (and_right (ends_at_akey p) (is_length (length bytes)) (and_left (ends_at_akey p && is_length (length bytes)) (fits_records (record_size p) low (length bytes)) h)) in
     omega (arith, few)
 write-few (write.PunchObject p) h = omega arith
 write-few (write.PunchDkey p) h = omega arith

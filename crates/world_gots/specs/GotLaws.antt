@@ -2,16 +2,16 @@
 use Rattle.std.specs.Prelude.{ℕ, ◌≡◌, ◌+◌, Bool, true, false, ◌&&◌, nat_lt, List, [], ◌∷◌, slice_get, is_some, All, Option, Some, None, refl, if◌then◌else◌}
 use Rattle.std.proofs.Common.{sym, ◌∙◌, ap, subst}
 use Rattle.std.proofs.lemmas.List.Elements.{All-cons, All-nil}
-use Rattle.daos_base.specs.declared.epoch.Epoch.{Epoch}
-use Rattle.daos_base.specs.declared.id.AttemptId.{AttemptId}
-use Rattle.daos_base.specs.declared.operation.MinorWrite.{MinorWrite}
-use Rattle.daos_base.specs.declared.operation.Op.{Op}
-use Rattle.daos_base.specs.declared.operation.Read.{Read}
-use Rattle.daos_base.specs.declared.outcome.Outcome.{Outcome}
-use Rattle.daos_base.specs.declared.outcome.Outcome.TheVariants as outcome
-use Rattle.daos_base.specs.declared.report.Attempt.{Attempt}
-use Rattle.daos_base.specs.declared.script.Command.{Command}
-use Rattle.daos_base.specs.declared.script.Command.TheVariants.{Run, Snap, Aggregate, Tell, Skip}
+use Rattle.base_types.specs.declared.epoch.Epoch.{Epoch}
+use Rattle.base_types.specs.declared.id.AttemptId.{AttemptId}
+use Rattle.base_types.specs.declared.operation.MinorWrite.{MinorWrite}
+use Rattle.base_types.specs.declared.operation.Op.{Op}
+use Rattle.base_types.specs.declared.operation.Read.{Read}
+use Rattle.base_types.specs.declared.outcome.Outcome.{Outcome}
+use Rattle.base_types.specs.declared.outcome.Outcome.TheVariants as outcome
+use Rattle.base_types.specs.declared.report.Attempt.{Attempt}
+use Rattle.base_types.specs.declared.script.Command.{Command}
+use Rattle.base_types.specs.declared.script.Command.TheVariants.{Run, Snap, Aggregate, Tell, Skip}
 use Rattle.daos_model.specs.Accesses.{minor_writes}
 use Rattle.daos_model.specs.Attempts.{is_restart, snapshot_of_command}
 use Rattle.daos_model.specs.Transactions.{ops_of, ops_or_none}

@@ -1,21 +1,21 @@
 -- What follows from that clients were told what was served: where that was answered right, so was what they were told.
 use Rattle.std.specs.Prelude.{ℕ, ◌≡◌, List, All, find, Option, Some, None}
-use Rattle.daos_base.specs.declared.answer.Answer.{Answer}
-use Rattle.daos_base.specs.declared.epoch.Epoch.{Epoch}
-use Rattle.daos_base.specs.declared.id.AttemptId.{AttemptId}
-use Rattle.daos_base.specs.declared.id.ObjId.{ObjId}
-use Rattle.daos_base.specs.declared.operation.Op.{Op}
-use Rattle.daos_base.specs.declared.operation.Read.{Read}
-use Rattle.daos_base.specs.declared.operation.Read.TheVariants as read
-use Rattle.daos_base.specs.declared.report.Attempt.{Attempt}
-use Rattle.daos_base.specs.declared.report.Report.{Report}
-use Rattle.daos_base.specs.declared.script.Script.{Script}
-use Rattle.daos_base.specs.Operations.{read_path}
-use Rattle.daos_base.specs.Placement.{ClassFits}
-use Rattle.daos_base.specs.Scripts.{IsInForm, IsOpInForm}
-use Rattle.daos_laws.specs.Decided.{taken_in}
-use Rattle.daos_laws.specs.Groups.{HasDkeys}
-use Rattle.daos_laws.specs.Members.{Has}
+use Rattle.base_types.specs.declared.answer.Answer.{Answer}
+use Rattle.base_types.specs.declared.epoch.Epoch.{Epoch}
+use Rattle.base_types.specs.declared.id.AttemptId.{AttemptId}
+use Rattle.base_types.specs.declared.id.ObjId.{ObjId}
+use Rattle.base_types.specs.declared.operation.Op.{Op}
+use Rattle.base_types.specs.declared.operation.Read.{Read}
+use Rattle.base_types.specs.declared.operation.Read.TheVariants as read
+use Rattle.base_types.specs.declared.report.Attempt.{Attempt}
+use Rattle.base_types.specs.declared.report.Report.{Report}
+use Rattle.base_types.specs.declared.script.Script.{Script}
+use Rattle.base_types.specs.Operations.{read_path}
+use Rattle.base_types.specs.Placement.{ClassFits}
+use Rattle.base_types.specs.Scripts.{IsInForm, IsOpInForm}
+use Rattle.model_laws.specs.Decided.{taken_in}
+use Rattle.model_laws.specs.Groups.{HasDkeys}
+use Rattle.model_laws.specs.Members.{Has}
 use Rattle.daos_model.specs.Answers.{answer}
 use Rattle.daos_model.specs.Attempts.{snapshot_of}
 use Rattle.daos_model.specs.Opening.{Opening}

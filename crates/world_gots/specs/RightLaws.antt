@@ -2,19 +2,19 @@
 use Rattle.std.specs.Prelude.{ℕ, zero, suc, ◌≡◌, ◌<◌, ◌+◌, ◌++◌, max, List, [], ◌∷◌, map, Option, Some, None, refl}
 use Rattle.std.specs.List.{range_with_len}
 use Rattle.std.proofs.Common.{sym, ◌∙◌, ap, subst, arith}
-use Rattle.daos_base.specs.declared.answer.Answer.{Answer}
-use Rattle.daos_base.specs.declared.epoch.Epoch.{Epoch}
-use Rattle.daos_base.specs.declared.id.AttemptId.{AttemptId}
-use Rattle.daos_base.specs.declared.id.Class.{Class}
-use Rattle.daos_base.specs.declared.id.ObjId.{ObjId}
-use Rattle.daos_base.specs.declared.operation.Read.{Read}
-use Rattle.daos_base.specs.declared.operation.Read.TheVariants as read
-use Rattle.daos_base.specs.Operations.{read_path}
-use Rattle.daos_base.specs.Placement.{ClassFits, group_of, groups}
-use Rattle.daos_base.specs.PlacementLaws.{groups-positive}
-use Rattle.daos_laws.specs.Groups.{IsPartUnder, group_part, join_all, join_more, join_two}
-use Rattle.daos_laws.specs.JoinLaws.{dkey-one_group, dkeys-joined, exists-joined, group_part-is}
-use Rattle.daos_laws.specs.ReadLaws.{answer-same}
+use Rattle.base_types.specs.declared.answer.Answer.{Answer}
+use Rattle.base_types.specs.declared.epoch.Epoch.{Epoch}
+use Rattle.base_types.specs.declared.id.AttemptId.{AttemptId}
+use Rattle.base_types.specs.declared.id.Class.{Class}
+use Rattle.base_types.specs.declared.id.ObjId.{ObjId}
+use Rattle.base_types.specs.declared.operation.Read.{Read}
+use Rattle.base_types.specs.declared.operation.Read.TheVariants as read
+use Rattle.base_types.specs.Operations.{read_path}
+use Rattle.base_types.specs.Placement.{ClassFits, group_of, groups}
+use Rattle.base_types.specs.PlacementLaws.{groups-positive}
+use Rattle.model_laws.specs.Groups.{IsPartUnder, group_part, join_all, join_more, join_two}
+use Rattle.model_laws.specs.JoinLaws.{dkey-one_group, dkeys-joined, exists-joined, group_part-is}
+use Rattle.model_laws.specs.ReadLaws.{answer-same}
 use Rattle.daos_model.specs.declared.cell.CellValue.{CellValue}
 use Rattle.daos_model.specs.Answers.{answer}
 use Rattle.daos_model.specs.Opening.{Opening}

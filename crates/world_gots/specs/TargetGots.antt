@@ -2,13 +2,13 @@
 use Rattle.std.specs.Prelude.{ℕ, ◌≡◌, ◌++◌, List, [], ◌∷◌, map, slice_get, All, Contains, Option, Some, None, refl}
 use Rattle.std.proofs.Common.{◌⊎◌, append-nil, sym, ◌∙◌, ap, subst, inl, inr}
 use Rattle.std.proofs.lemmas.List.Elements.{All-nil}
-use Rattle.daos_base.specs.declared.answer.Answer.{Answer}
-use Rattle.daos_base.specs.declared.epoch.Epoch.{Epoch}
-use Rattle.daos_base.specs.declared.id.AttemptId.{AttemptId}
-use Rattle.daos_messages.specs.declared.actor.ActorId.{ActorId}
-use Rattle.daos_messages.specs.declared.message.Message.TheVariants as message
-use Rattle.daos_messages.specs.declared.message.Post.{Post}
-use Rattle.daos_messages.specs.declared.message.Reply.TheVariants as reply
+use Rattle.base_types.specs.declared.answer.Answer.{Answer}
+use Rattle.base_types.specs.declared.epoch.Epoch.{Epoch}
+use Rattle.base_types.specs.declared.id.AttemptId.{AttemptId}
+use Rattle.base_messages.specs.declared.actor.ActorId.{ActorId}
+use Rattle.base_messages.specs.declared.message.Message.TheVariants as message
+use Rattle.base_messages.specs.declared.message.Post.{Post}
+use Rattle.base_messages.specs.declared.message.Reply.TheVariants as reply
 use Rattle.daos_model.specs.Attempts.{tries}
 use Rattle.daos_model.specs.Transactions.{attempt_ops, ops_or_none}
 use Rattle.world_base.specs.declared.client.ClientPlan.{ClientPlan}
@@ -23,9 +23,9 @@ use Rattle.world_base.specs.declared.world.World.{World}
 use Rattle.world_base.specs.ClientTurns.{attempt_id, is_waiting, knows_epoch}
 use Rattle.std.proofs.Common.{true≢false}
 use Rattle.std.specs.Prelude.{Bool, true, false, if◌then◌else◌}
-use Rattle.daos_base.specs.declared.entry.Entry.{Entry}
-use Rattle.daos_laws.specs.Members.{Has, contains-from_has, has-cases, has-from_contains, has-from_map}
-use Rattle.daos_laws.specs.TargetLaws.{same_number}
+use Rattle.base_types.specs.declared.entry.Entry.{Entry}
+use Rattle.model_laws.specs.Members.{Has, contains-from_has, has-cases, has-from_contains, has-from_map}
+use Rattle.model_laws.specs.TargetLaws.{same_number}
 use Rattle.daos_model.specs.declared.durable.Durable.{Durable}
 use Rattle.dtx_base.specs.declared.leading.Naming.{Naming}
 use Rattle.dtx_base.specs.declared.member.Parked.{Parked}

@@ -1,15 +1,15 @@
 -- What the lines of a run tell of each client's commands.
 use Rattle.std.specs.Prelude.{ℕ, ◌≡◌, ◌⊎◌, Bool, true, false, List, [], ◌∷◌, Contains, slice_get, Option, Some, None}
-use Rattle.daos_base.specs.declared.epoch.Epoch.{Epoch}
-use Rattle.daos_base.specs.declared.id.AttemptId.{AttemptId}
-use Rattle.daos_base.specs.declared.outcome.Outcome.{Outcome}
-use Rattle.daos_base.specs.declared.outcome.Outcome.TheVariants.{Committed, NoSpace, Restart}
-use Rattle.daos_base.specs.declared.report.Attempt.{Attempt}
-use Rattle.daos_base.specs.declared.report.Line.{Line}
-use Rattle.daos_messages.specs.declared.message.Message.{Message}
-use Rattle.daos_messages.specs.declared.message.Message.TheVariants.{Ack, Fetched, Ended}
-use Rattle.daos_messages.specs.declared.message.Reply.{Reply}
-use Rattle.daos_messages.specs.declared.message.Reply.TheVariants as reply
+use Rattle.base_types.specs.declared.epoch.Epoch.{Epoch}
+use Rattle.base_types.specs.declared.id.AttemptId.{AttemptId}
+use Rattle.base_types.specs.declared.outcome.Outcome.{Outcome}
+use Rattle.base_types.specs.declared.outcome.Outcome.TheVariants.{Committed, NoSpace, Restart}
+use Rattle.base_types.specs.declared.report.Attempt.{Attempt}
+use Rattle.base_types.specs.declared.report.Line.{Line}
+use Rattle.base_messages.specs.declared.message.Message.{Message}
+use Rattle.base_messages.specs.declared.message.Message.TheVariants.{Ack, Fetched, Ended}
+use Rattle.base_messages.specs.declared.message.Reply.{Reply}
+use Rattle.base_messages.specs.declared.message.Reply.TheVariants as reply
 use Rattle.daos_model.specs.Attempts.{tries_of}
 use Rattle.world_base.specs.declared.client.ClientPlan.{ClientPlan}
 use Rattle.world_base.specs.declared.client.ClientState.{ClientState}

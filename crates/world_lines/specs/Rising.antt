@@ -1,10 +1,10 @@
 -- Attempts that a client has told of rise: command after command, and attempt after attempt. So no two of them are of one number.
 use Rattle.std.specs.Prelude.{ℕ, ◌+◌, ◌≡◌, ◌≤◌, ◌<◌, List, [], ◌∷◌, ◌++◌, length, take, Option, Some, None, refl}
 use Rattle.std.proofs.Common.{inl, inr, sym, ◌∙◌, ap, subst, arith}
-use Rattle.daos_base.specs.declared.id.AttemptId.{AttemptId}
-use Rattle.daos_base.specs.declared.report.Attempt.{Attempt}
-use Rattle.daos_base.specs.declared.script.Command.{Command}
-use Rattle.daos_laws.specs.Members.{Has, has-cases}
+use Rattle.base_types.specs.declared.id.AttemptId.{AttemptId}
+use Rattle.base_types.specs.declared.report.Attempt.{Attempt}
+use Rattle.base_types.specs.declared.script.Command.{Command}
+use Rattle.model_laws.specs.Members.{Has, has-cases}
 use Rattle.daos_model.specs.Order.{AreAttempts, AreInTurn, IsNumbered}
 use Rattle.daos_model.specs.Transactions.{numbered}
 use Rattle.world_base.specs.declared.client.ClientPlan.{ClientPlan}

@@ -4,12 +4,12 @@ use Rattle.std.specs.Bool.{Decides}
 use Rattle.std.proofs.Math.ListN.{drop, set, take}
 use Rattle.std.proofs.lemmas.Bool.{cases_order}
 use Rattle.client_core.specs.Clients.{IsInPlace}
-use Rattle.daos_base.specs.declared.epoch.Epoch.{Epoch}
-use Rattle.daos_base.specs.declared.id.AttemptId.{AttemptId}
-use Rattle.daos_base.specs.declared.report.Line.{Line}
-use Rattle.daos_messages.specs.declared.actor.ActorId.{ActorId}
+use Rattle.base_types.specs.declared.epoch.Epoch.{Epoch}
+use Rattle.base_types.specs.declared.id.AttemptId.{AttemptId}
+use Rattle.base_types.specs.declared.report.Line.{Line}
+use Rattle.base_messages.specs.declared.actor.ActorId.{ActorId}
 use Rattle.daos_model.specs.BoolLaws.{clash}
-use Rattle.daos_messages.specs.declared.message.Message.{Message}
+use Rattle.base_messages.specs.declared.message.Message.{Message}
 use Rattle.world_base.specs.declared.client.ClientPlan.{ClientPlan}
 use Rattle.world_base.specs.declared.client.ClientState.{ClientState}
 use Rattle.world_base.specs.declared.did.Did.{Did}

@@ -1,6 +1,6 @@
 -- A list of events that is a run is one of events, one after another.
 use Rattle.std.proofs.Common.{inl, inr, List, [], ◌∷◌, Option, Some, None}
-use Rattle.daos_messages.specs.declared.actor.ActorId.{ActorId}
+use Rattle.base_messages.specs.declared.actor.ActorId.{ActorId}
 use Rattle.world_base.specs.declared.letter.Letter.{Letter}
 use Rattle.world_base.specs.declared.world.World.{World}
 use Rattle.world_base.specs.Events.{Begins, ByClient, ByTarget, Event as OneEvent, Goes, Rules, Run, ToClient, ToTarget}

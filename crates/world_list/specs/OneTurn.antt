@@ -1,6 +1,6 @@
 -- A client's turn is determined by what it has to do, its state and what it hears.
 use Rattle.std.specs.Prelude.{◌≡◌}
-use Rattle.daos_messages.specs.declared.message.Message.{Message}
+use Rattle.base_messages.specs.declared.message.Message.{Message}
 use Rattle.world_base.specs.declared.client.ClientPlan.{ClientPlan}
 use Rattle.world_base.specs.declared.client.ClientState.{ClientState}
 use Rattle.world_base.specs.declared.did.Did.{Did}

@@ -1,11 +1,11 @@
 -- At each moment of a run of one client, no line tells an attempt to restart; and every epoch of a run is issued by the first target that
 -- its attempt's command asks, and those of a client rise.
 use Rattle.std.specs.Prelude.{◌%◌, ◌≡◌, ◌<◌, Contains, Some}
-use Rattle.daos_base.specs.declared.epoch.Epoch.{Epoch}
-use Rattle.daos_base.specs.declared.report.Attempt.{Attempt}
-use Rattle.daos_base.specs.declared.report.Report.{Report}
-use Rattle.daos_base.specs.declared.script.Script.{Script}
-use Rattle.daos_lone.specs.Lone.{HasOneClient, NeverRestarts}
+use Rattle.base_types.specs.declared.epoch.Epoch.{Epoch}
+use Rattle.base_types.specs.declared.report.Attempt.{Attempt}
+use Rattle.base_types.specs.declared.report.Report.{Report}
+use Rattle.base_types.specs.declared.script.Script.{Script}
+use Rattle.model_reports.specs.Lone.{HasOneClient, NeverRestarts}
 use Rattle.daos_model.specs.Attempts.{tries}
 use Rattle.daos_model.specs.Opening.{Opening}
 use Rattle.daos_model.specs.Order.{AllRise}

@@ -3,23 +3,23 @@ use Rattle.std.specs.Prelude.{ℕ, ◌≡◌, ◌⊎◌, ◌<◌, ◌==◌, Bool
 use Rattle.std.specs.List.{list_any}
 use Rattle.std.proofs.Common.{append_assoc, inl, inr, sym, ◌∙◌, ap, subst, arith}
 use Rattle.std.proofs.lemmas.Option.{slice_get_within}
-use Rattle.daos_base.specs.declared.epoch.Epoch.{Epoch}
-use Rattle.daos_base.specs.declared.id.AttemptId.{AttemptId}
-use Rattle.daos_base.specs.declared.outcome.Cause.TheVariants as cause
-use Rattle.daos_base.specs.declared.outcome.Outcome.{Outcome}
-use Rattle.daos_base.specs.declared.outcome.Outcome.TheVariants as outcome
-use Rattle.daos_base.specs.declared.report.Attempt.{Attempt}
-use Rattle.daos_base.specs.declared.report.Line.{Line}
-use Rattle.daos_base.specs.declared.report.Line.TheVariants as line
-use Rattle.daos_laws.specs.DecidedLaws.{all-from_has, has-all}
-use Rattle.daos_laws.specs.Lists.{any-of}
-use Rattle.daos_laws.specs.Members.{Has, any-has, contains-from_has, has-filter, has-from_contains}
-use Rattle.daos_laws.specs.TargetLaws.{same_number}
-use Rattle.daos_lone.specs.Alone.{stands-before, stands-beside, stands-there}
+use Rattle.base_types.specs.declared.epoch.Epoch.{Epoch}
+use Rattle.base_types.specs.declared.id.AttemptId.{AttemptId}
+use Rattle.base_types.specs.declared.outcome.Cause.TheVariants as cause
+use Rattle.base_types.specs.declared.outcome.Outcome.{Outcome}
+use Rattle.base_types.specs.declared.outcome.Outcome.TheVariants as outcome
+use Rattle.base_types.specs.declared.report.Attempt.{Attempt}
+use Rattle.base_types.specs.declared.report.Line.{Line}
+use Rattle.base_types.specs.declared.report.Line.TheVariants as line
+use Rattle.model_laws.specs.DecidedLaws.{all-from_has, has-all}
+use Rattle.model_laws.specs.Lists.{any-of}
+use Rattle.model_laws.specs.Members.{Has, any-has, contains-from_has, has-filter, has-from_contains}
+use Rattle.model_laws.specs.TargetLaws.{same_number}
+use Rattle.model_reports.specs.Alone.{stands-before, stands-beside, stands-there}
 use Rattle.daos_model.specs.Attempts.{has_own_epoch, is_lost, is_of_client, is_restart, is_unknown, is_unsure, tries, tries_of, up_to_last_of}
 use Rattle.daos_model.specs.Opening.{Opening, top}
 use Rattle.daos_model.specs.Order.{EpochIsBelow, IsAfter, IsAfterAll, told_by}
-use Rattle.daos_room.specs.Lines.{StandsAt, line-of}
+use Rattle.model_reports.specs.Lines.{StandsAt, line-of}
 use Rattle.world_base.specs.declared.client.ClientState.{ClientState}
 use Rattle.world_base.specs.declared.client.Present.{Present}
 use Rattle.world_base.specs.declared.world.World.{World}

@@ -1,7 +1,7 @@
 -- What is asked and told in form, a target can hear.
 use Rattle.std.specs.Prelude.{ℕ, ◌≡◌, true, false, refl}
-use Rattle.daos_messages.specs.declared.message.Message.{Message}
-use Rattle.daos_messages.specs.declared.message.Message.TheVariants as message
+use Rattle.base_messages.specs.declared.message.Message.{Message}
+use Rattle.base_messages.specs.declared.message.Message.TheVariants as message
 use Rattle.world_base.specs.declared.target.TargetPlan.{TargetPlan}
 use Rattle.world_posts.specs.Forms.{HasForm, IsAsked, IsBetween, is_of_client}
 

@@ -1,16 +1,16 @@
 -- The form of messages: what clients ask of targets, what targets tell each other, and what clients are told.
 use Rattle.std.specs.Prelude.{ℕ, ◌≡◌, ◌<◌, ◌^◌, Bool, true, false, IfSome, All, length, List, Option, Some, is_some}
-use Rattle.daos_base.specs.declared.entry.Entry.{Entry}
-use Rattle.daos_base.specs.declared.epoch.Epoch.{Epoch}
-use Rattle.daos_base.specs.declared.operation.MinorWrite.{MinorWrite}
-use Rattle.daos_base.specs.declared.operation.Read.{Read}
-use Rattle.daos_base.specs.Operations.{write_path}
-use Rattle.daos_base.specs.Placement.{ClassFits}
-use Rattle.daos_laws.specs.Members.{Has}
-use Rattle.daos_messages.specs.declared.actor.ActorId.{ActorId}
-use Rattle.daos_messages.specs.declared.message.Message.{Message}
-use Rattle.daos_messages.specs.declared.message.Message.TheVariants.{Ack, Commit, Ended, Fetch, Fetched, Mark, Marked, Prepare, Query, Tell, Verdict}
-use Rattle.daos_messages.specs.declared.message.Post.{Post}
+use Rattle.base_types.specs.declared.entry.Entry.{Entry}
+use Rattle.base_types.specs.declared.epoch.Epoch.{Epoch}
+use Rattle.base_types.specs.declared.operation.MinorWrite.{MinorWrite}
+use Rattle.base_types.specs.declared.operation.Read.{Read}
+use Rattle.base_types.specs.Operations.{write_path}
+use Rattle.base_types.specs.Placement.{ClassFits}
+use Rattle.model_laws.specs.Members.{Has}
+use Rattle.base_messages.specs.declared.actor.ActorId.{ActorId}
+use Rattle.base_messages.specs.declared.message.Message.{Message}
+use Rattle.base_messages.specs.declared.message.Message.TheVariants.{Ack, Commit, Ended, Fetch, Fetched, Mark, Marked, Prepare, Query, Tell, Verdict}
+use Rattle.base_messages.specs.declared.message.Post.{Post}
 use Rattle.daos_model.specs.Forms.{AreWritesInForm, is_read_in_form}
 use Rattle.dtx_base.specs.declared.leading.LeaderMemory.{LeaderMemory}
 use Rattle.dtx_base.specs.declared.leading.Undecided.{Undecided}

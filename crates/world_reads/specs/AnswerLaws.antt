@@ -1,20 +1,20 @@
 -- An attempt is decided: each read that was served stays answered right.
 use Rattle.std.specs.Prelude.{ℕ, ◌≡◌, ◌<◌, ◌≤◌, Bool, true, false, List, Contains, Some, None, refl, if◌then◌else◌}
 use Rattle.std.proofs.Common.{sym, ◌∙◌, ap, subst, arith}
-use Rattle.daos_base.specs.declared.epoch.Epoch.{Epoch}
-use Rattle.daos_base.specs.declared.id.AttemptId.{AttemptId}
-use Rattle.daos_base.specs.declared.operation.MinorWrite.{MinorWrite}
-use Rattle.daos_base.specs.Operations.{read_path, write_path}
-use Rattle.daos_base.specs.Paths.{leads_to, overlaps}
-use Rattle.daos_base.specs.PathLaws.{overlaps-comm}
-use Rattle.daos_base.specs.Placement.{members}
-use Rattle.daos_laws.specs.Dated.{Dated}
-use Rattle.daos_laws.specs.Decided as decided
-use Rattle.daos_laws.specs.DecidedLaws.{has-all}
-use Rattle.daos_laws.specs.Groups.{is_in_group}
-use Rattle.daos_laws.specs.Members.{Has, contains-from_has, has-from_map}
-use Rattle.daos_laws.specs.ServeLaws.{touches-overlaps}
-use Rattle.daos_laws.specs.TargetLaws.{own-here}
+use Rattle.base_types.specs.declared.epoch.Epoch.{Epoch}
+use Rattle.base_types.specs.declared.id.AttemptId.{AttemptId}
+use Rattle.base_types.specs.declared.operation.MinorWrite.{MinorWrite}
+use Rattle.base_types.specs.Operations.{read_path, write_path}
+use Rattle.base_types.specs.Paths.{leads_to, overlaps}
+use Rattle.base_types.specs.PathLaws.{overlaps-comm}
+use Rattle.base_types.specs.Placement.{members}
+use Rattle.model_laws.specs.Dated.{Dated}
+use Rattle.model_laws.specs.Decided as decided
+use Rattle.model_laws.specs.DecidedLaws.{has-all}
+use Rattle.model_laws.specs.Groups.{is_in_group}
+use Rattle.model_laws.specs.Members.{Has, contains-from_has, has-from_map}
+use Rattle.model_laws.specs.ServeLaws.{touches-overlaps}
+use Rattle.model_laws.specs.TargetLaws.{own-here}
 use Rattle.daos_model.specs.declared.cell.Cell.{Cell}
 use Rattle.daos_model.specs.declared.durable.Durable.{Durable}
 use Rattle.daos_model.specs.declared.durable.Version.{Version}
@@ -30,7 +30,7 @@ use Rattle.world_base.specs.Events.{Rules}
 use Rattle.world_reads.specs.AsOfLaws.{as_of-more}
 use Rattle.world_reads.specs.ChangeLaws.{entry-among}
 use Rattle.world_reads.specs.DecideLaws.{Elsewhere, Held, IsHeldOrElsewhere, MayBeDecided, is-added, stays-apart}
-use Rattle.daos_laws.specs.PlaceLaws.{asked-member, group-own, leads-object}
+use Rattle.model_laws.specs.PlaceLaws.{asked-member, group-own, leads-object}
 use Rattle.world_attempts.specs.MarkTurns.{found-attempt}
 use Rattle.world_reads.specs.Reads.{IsAnsweredRight, IsOfAttempt, map_then}
 use Rattle.world_reads.specs.Transactions.{decided_of, transactions}

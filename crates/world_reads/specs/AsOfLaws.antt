@@ -7,12 +7,12 @@ use Rattle.daos_model.specs.declared.stand.Stand.{Stand}
 use Rattle.daos_model.specs.AsOf.{as_of}
 use Rattle.daos_model.specs.Cells.{value_at}
 use Rattle.daos_model.specs.Prunes.{touches}
-use Rattle.daos_laws.specs.Dated.{Dated, is_about, is_earlier}
-use Rattle.daos_laws.specs.Decided.{AreDecided, Decided, all_dated, dated_by, taken_in}
-use Rattle.daos_laws.specs.DecidedLaws.{as_of-dated, has-dated, has-from_dated, has-from_ordered, has-ordered, ordered, rising-ordered}
-use Rattle.daos_laws.specs.Matches.{IsAdded}
-use Rattle.daos_laws.specs.Members.{Has, contains-from_has, has-from_contains}
-use Rattle.daos_laws.specs.VersionLaws.{after-same}
+use Rattle.model_laws.specs.Dated.{Dated, is_about, is_earlier}
+use Rattle.model_laws.specs.Decided.{AreDecided, Decided, all_dated, dated_by, taken_in}
+use Rattle.model_laws.specs.DecidedLaws.{as_of-dated, has-dated, has-from_dated, has-from_ordered, has-ordered, ordered, rising-ordered}
+use Rattle.model_laws.specs.Matches.{IsAdded}
+use Rattle.model_laws.specs.Members.{Has, contains-from_has, has-from_contains}
+use Rattle.model_laws.specs.VersionLaws.{after-same}
 
 -- At a cell of which none of its writes below the epoch says what it holds, one more transaction changes nothing.
 pub as_of-more : (c : Cell) (opening : Stand) (d : Decided) (all more : List Decided) (e : ℕ) → AreDecided all → AreDecided more → IsAdded d all more

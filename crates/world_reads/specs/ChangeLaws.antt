@@ -2,17 +2,17 @@
 use Rattle.std.specs.Prelude.{ℕ, ◌≡◌, ◌⊎◌, ◌<◌, ◌≤◌, ◌/◌, ◌^◌, Bool, true, false, ◌||◌, ◌&&◌, not, bit_or, List, map, filter, Contains, Option, Some, None, refl, if◌then◌else◌}
 use Rattle.std.proofs.Common.{sym, ◌∙◌, ap, subst, inl, inr, arith}
 use Rattle.std.specs.Option.{option_map}
-use Rattle.daos_base.specs.declared.entry.Entry.{Entry}
-use Rattle.daos_base.specs.declared.entry.Settle.TheVariants.{Abort, Commit, Confirm}
-use Rattle.daos_base.specs.declared.epoch.Epoch.{Epoch}
-use Rattle.daos_base.specs.declared.id.AttemptId.{AttemptId}
-use Rattle.daos_base.specs.declared.operation.MinorWrite.{MinorWrite}
-use Rattle.daos_base.specs.Placement.{path_members}
-use Rattle.daos_laws.specs.EntryLaws.{found-has, found-passes, pairs-map, same-attempt}
-use Rattle.daos_laws.specs.DecidingLaws.{aborting-keeps, settling-keeps}
-use Rattle.daos_laws.specs.Members.{Has, any-has, contains-from_has, has-any, has-filter, has-from_contains, has-from_filter, has-from_map, has-map}
-use Rattle.daos_laws.specs.Targets.{ArePlaced}
-use Rattle.daos_laws.specs.VersionLaws.{rising-from_single}
+use Rattle.base_types.specs.declared.entry.Entry.{Entry}
+use Rattle.base_types.specs.declared.entry.Settle.TheVariants.{Abort, Commit, Confirm}
+use Rattle.base_types.specs.declared.epoch.Epoch.{Epoch}
+use Rattle.base_types.specs.declared.id.AttemptId.{AttemptId}
+use Rattle.base_types.specs.declared.operation.MinorWrite.{MinorWrite}
+use Rattle.base_types.specs.Placement.{path_members}
+use Rattle.model_laws.specs.EntryLaws.{found-has, found-passes, pairs-map, same-attempt}
+use Rattle.model_laws.specs.DecidingLaws.{aborting-keeps, settling-keeps}
+use Rattle.model_laws.specs.Members.{Has, any-has, contains-from_has, has-any, has-filter, has-from_contains, has-from_filter, has-from_map, has-map}
+use Rattle.model_laws.specs.Targets.{ArePlaced}
+use Rattle.model_laws.specs.VersionLaws.{rising-from_single}
 use Rattle.daos_model.specs.declared.durable.Durable.{Durable}
 use Rattle.daos_model.specs.declared.durable.Version.{Version}
 use Rattle.daos_model.specs.BoolLaws.{clash, not_true}

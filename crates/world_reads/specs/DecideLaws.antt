@@ -3,20 +3,20 @@ use Rattle.std.specs.Prelude.{ℕ, ◌≡◌, ◌≢◌, ◌⊎◌, ◌+◌, ◌
 use Rattle.std.proofs.Common.{sym, ◌∙◌, ap, subst, inl, inr, arith}
 use Rattle.std.proofs.lemmas.List.Elements.{All-cons}
 use Rattle.std.proofs.lemmas.List.Kept.{AllPairs-cons}
-use Rattle.daos_base.specs.declared.entry.Entry.{Entry}
-use Rattle.daos_base.specs.declared.epoch.Epoch.{Epoch}
-use Rattle.daos_base.specs.declared.id.AttemptId.{AttemptId}
-use Rattle.daos_base.specs.declared.id.ContId.{ContId}
-use Rattle.daos_base.specs.declared.operation.MinorWrite.{MinorWrite}
-use Rattle.daos_laws.specs.Dated.{Dated, dated, is_about}
-use Rattle.daos_laws.specs.Decided as decided
-use Rattle.daos_laws.specs.DecidedLaws.{all-from_has}
-use Rattle.daos_laws.specs.Deciding.{CountsMore}
-use Rattle.daos_laws.specs.DecidingLaws.{holders-keep, others-keep}
-use Rattle.daos_laws.specs.Matches.{HoldsWrite, IsAdded, Matches}
-use Rattle.daos_laws.specs.Members.{Has, contains-from_has, has-from_contains, has-from_map, has-map}
-use Rattle.daos_laws.specs.TargetLaws.{own-here}
-use Rattle.daos_laws.specs.Targets.{is_own}
+use Rattle.base_types.specs.declared.entry.Entry.{Entry}
+use Rattle.base_types.specs.declared.epoch.Epoch.{Epoch}
+use Rattle.base_types.specs.declared.id.AttemptId.{AttemptId}
+use Rattle.base_types.specs.declared.id.ContId.{ContId}
+use Rattle.base_types.specs.declared.operation.MinorWrite.{MinorWrite}
+use Rattle.model_laws.specs.Dated.{Dated, dated, is_about}
+use Rattle.model_laws.specs.Decided as decided
+use Rattle.model_laws.specs.DecidedLaws.{all-from_has}
+use Rattle.model_laws.specs.Deciding.{CountsMore}
+use Rattle.model_laws.specs.DecidingLaws.{holders-keep, others-keep}
+use Rattle.model_laws.specs.Matches.{HoldsWrite, IsAdded, Matches}
+use Rattle.model_laws.specs.Members.{Has, contains-from_has, has-from_contains, has-from_map, has-map}
+use Rattle.model_laws.specs.TargetLaws.{own-here}
+use Rattle.model_laws.specs.Targets.{is_own}
 use Rattle.daos_model.specs.declared.cell.Cell.{Cell}
 use Rattle.daos_model.specs.declared.durable.Durable.{Durable}
 use Rattle.daos_model.specs.declared.durable.Version.{Version}
@@ -29,7 +29,7 @@ use Rattle.world_attempts.specs.Attempts.{writes_of}
 use Rattle.world_attempts.specs.History.{Decided, History, decides, is_decided}
 use Rattle.world_base.specs.Events.{Rules}
 use Rattle.world_reads.specs.ChangeLaws.{WasDecided, entry-among}
-use Rattle.daos_laws.specs.EntryLaws.{same-attempt}
+use Rattle.model_laws.specs.EntryLaws.{same-attempt}
 use Rattle.daos_model.specs.EntryLaws.{same_attempt-itself}
 use Rattle.world_attempts.specs.MarkTurns.{found-attempt}
 use Rattle.world_reads.specs.Given.{FitsTargets}

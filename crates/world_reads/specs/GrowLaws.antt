@@ -1,14 +1,14 @@
 -- What a turn adds to the history is what it tells.
 use Rattle.std.specs.Prelude.{◌≡◌, ◌≢◌, ◌⊎◌, false, List, [], ◌∷◌, ◌++◌, Option, Some, None, refl}
 use Rattle.std.proofs.Common.{sym, ◌∙◌, ap, subst, inl, inr}
-use Rattle.daos_base.specs.declared.epoch.Epoch.{Epoch}
-use Rattle.daos_base.specs.declared.id.AttemptId.{AttemptId}
-use Rattle.daos_base.specs.declared.outcome.Outcome.{Outcome}
-use Rattle.daos_base.specs.declared.outcome.Outcome.TheVariants.{Committed}
-use Rattle.daos_laws.specs.Members.{Has, has-cases, has-left, has-right}
-use Rattle.daos_messages.specs.declared.message.Message.{Message}
-use Rattle.daos_messages.specs.declared.message.Message.TheVariants.{Ended}
-use Rattle.daos_messages.specs.declared.message.Post.{Post}
+use Rattle.base_types.specs.declared.epoch.Epoch.{Epoch}
+use Rattle.base_types.specs.declared.id.AttemptId.{AttemptId}
+use Rattle.base_types.specs.declared.outcome.Outcome.{Outcome}
+use Rattle.base_types.specs.declared.outcome.Outcome.TheVariants.{Committed}
+use Rattle.model_laws.specs.Members.{Has, has-cases, has-left, has-right}
+use Rattle.base_messages.specs.declared.message.Message.{Message}
+use Rattle.base_messages.specs.declared.message.Message.TheVariants.{Ended}
+use Rattle.base_messages.specs.declared.message.Post.{Post}
 use Rattle.daos_model.specs.Opening.{Opening}
 use Rattle.world_attempts.specs.History.{GrowsBy, History, Served, Tells, TellsRefusal}
 use Rattle.world_reads.specs.Adds.{NoneIs, is_end}

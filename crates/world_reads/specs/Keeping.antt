@@ -1,8 +1,8 @@
 -- The facts of versions and reads are kept by every turn, of what is decided and served by its end.
 use Rattle.std.specs.Prelude.{ℕ, ◌≡◌, ◌⊎◌, List, Contains}
-use Rattle.daos_base.specs.declared.epoch.Epoch.{Epoch}
-use Rattle.daos_base.specs.declared.id.AttemptId.{AttemptId}
-use Rattle.daos_laws.specs.Members.{Has}
+use Rattle.base_types.specs.declared.epoch.Epoch.{Epoch}
+use Rattle.base_types.specs.declared.id.AttemptId.{AttemptId}
+use Rattle.model_laws.specs.Members.{Has}
 use Rattle.daos_model.specs.declared.durable.Version.{Version}
 use Rattle.daos_model.specs.Opening.{Opening}
 use Rattle.world_attempts.specs.Asked.{AskedRight}

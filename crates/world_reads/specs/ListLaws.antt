@@ -3,8 +3,8 @@ use Rattle.std.specs.Prelude.{ℕ, ◌≡◌, ◌≢◌, ◌⊎◌, ◌+◌, ◌
 use Rattle.std.specs.List.Sorted.{IsStrictlyIncreasing}
 use Rattle.std.proofs.Common.{sym, ◌∙◌, ap, subst, inl, inr, arith}
 use Rattle.std.proofs.lemmas.List.Kept.{AllPairs-cons, AllPairs-from_increasing}
-use Rattle.daos_base.specs.declared.entry.Entry.{Entry}
-use Rattle.daos_base.specs.declared.operation.MinorWrite.{MinorWrite}
+use Rattle.base_types.specs.declared.entry.Entry.{Entry}
+use Rattle.base_types.specs.declared.operation.MinorWrite.{MinorWrite}
 use Rattle.daos_model.specs.declared.durable.Version.{Version}
 use Rattle.daos_model.specs.Answers.{is_before}
 use Rattle.daos_model.specs.BoolLaws.{and_left, and_right, clash}
@@ -14,11 +14,11 @@ use Rattle.daos_model.specs.Forms.{AreWritesInForm, is_write_in_form, minor_of}
 use Rattle.daos_model.specs.OrderLaws.{before-itself, rising-put}
 use Rattle.daos_model.specs.Ordered.{all_after, is_rising, puts}
 use Rattle.daos_model.specs.Versions.{version_of, versions_of}
-use Rattle.daos_laws.specs.DecidedLaws.{all-from_has, has-all}
-use Rattle.daos_laws.specs.Members.{Has, has-from_filter, has-from_map, has-map}
-use Rattle.daos_laws.specs.RisingLaws.{after-has}
-use Rattle.daos_laws.specs.VersionLaws.{pairs-head, pairs-tail}
-use Rattle.daos_laws.specs.EntryLaws.{has-puts}
+use Rattle.model_laws.specs.DecidedLaws.{all-from_has, has-all}
+use Rattle.model_laws.specs.Members.{Has, has-from_filter, has-from_map, has-map}
+use Rattle.model_laws.specs.RisingLaws.{after-has}
+use Rattle.model_laws.specs.VersionLaws.{pairs-head, pairs-tail}
+use Rattle.model_laws.specs.EntryLaws.{has-puts}
 
 -- in a list that rises no two have one key
 pub pairs-from_rising : {T : Type 0} (key : T → List ℕ) (xs : List T) → is_rising key xs ≡ true → AllPairs (λ x y. key x ≢ key y) xs

@@ -4,16 +4,16 @@ use Rattle.std.specs.Int.{bit_at}
 use Rattle.std.proofs.Common.{sym, ap, subst, arith, inl, inr, max}
 use Rattle.std.proofs.lemmas.Bool.Decides.{nat_tests}
 use Rattle.std.proofs.lemmas.Nat.Bits.{bit_at_or, bit_at-lt, bit_at-pow_same}
-use Rattle.daos_base.specs.declared.id.Class.{Class}
-use Rattle.daos_base.specs.declared.id.Class.TheVariants.{S1, S2, S4, SX, RP2G1, RP2GX, RP3G1, RP3GX}
-use Rattle.daos_base.specs.declared.id.AttemptId.{AttemptId}
-use Rattle.daos_base.specs.declared.operation.MinorWrite.{MinorWrite}
-use Rattle.daos_base.specs.Operations.{write_path}
-use Rattle.daos_base.specs.Placement.{ClassFits, path_members, writes_members}
-use Rattle.daos_laws.specs.HoldingLaws.{path-within}
-use Rattle.daos_laws.specs.JoinLaws.{has-range}
-use Rattle.daos_laws.specs.Members.{Has, has-filter, has-from_contains, has-left, has-right}
-use Rattle.daos_laws.specs.TargetLaws.{number_same}
+use Rattle.base_types.specs.declared.id.Class.{Class}
+use Rattle.base_types.specs.declared.id.Class.TheVariants.{S1, S2, S4, SX, RP2G1, RP2GX, RP3G1, RP3GX}
+use Rattle.base_types.specs.declared.id.AttemptId.{AttemptId}
+use Rattle.base_types.specs.declared.operation.MinorWrite.{MinorWrite}
+use Rattle.base_types.specs.Operations.{write_path}
+use Rattle.base_types.specs.Placement.{ClassFits, path_members, writes_members}
+use Rattle.model_laws.specs.HoldingLaws.{path-within}
+use Rattle.model_laws.specs.JoinLaws.{has-range}
+use Rattle.model_laws.specs.Members.{Has, has-filter, has-from_contains, has-left, has-right}
+use Rattle.model_laws.specs.TargetLaws.{number_same}
 use Rattle.daos_model.specs.BoolLaws.{both}
 use Rattle.dtx_base.specs.Members.{all_targets, has_target, is_other_member, other_members}
 use Rattle.world_attempts.specs.Attempts.{IsOther, first_entry, leader_of, members_of, writes_of}

@@ -1,14 +1,14 @@
 -- What targets answered still holds: later writes that would change it are refused.
 use Rattle.std.specs.Prelude.{ℕ, ◌≡◌, ◌⊎◌, ◌≤◌, ◌/◌, true, false, List, Contains, slice_get, Some}
-use Rattle.daos_base.specs.declared.epoch.Epoch.{Epoch}
-use Rattle.daos_base.specs.declared.id.ObjId.{ObjId}
-use Rattle.daos_base.specs.declared.operation.Op.{Op}
-use Rattle.daos_base.specs.declared.shown.Shown.{Shown}
-use Rattle.daos_base.specs.Operations.{read_path}
-use Rattle.daos_base.specs.Paths.{overlaps}
-use Rattle.daos_laws.specs.Decided.{taken_in}
-use Rattle.daos_laws.specs.Groups.{IsPartUnder}
-use Rattle.daos_laws.specs.Members.{Has}
+use Rattle.base_types.specs.declared.epoch.Epoch.{Epoch}
+use Rattle.base_types.specs.declared.id.ObjId.{ObjId}
+use Rattle.base_types.specs.declared.operation.Op.{Op}
+use Rattle.base_types.specs.declared.shown.Shown.{Shown}
+use Rattle.base_types.specs.Operations.{read_path}
+use Rattle.base_types.specs.Paths.{overlaps}
+use Rattle.model_laws.specs.Decided.{taken_in}
+use Rattle.model_laws.specs.Groups.{IsPartUnder}
+use Rattle.model_laws.specs.Members.{Has}
 use Rattle.daos_model.specs.declared.cell.CellValue.{CellValue}
 use Rattle.daos_model.specs.declared.durable.Version.{Version}
 use Rattle.daos_model.specs.Accesses.{asked_member}

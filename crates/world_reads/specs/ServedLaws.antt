@@ -4,23 +4,23 @@ use Rattle.std.proofs.Common.{sym, ◌∙◌, ap, subst, inl, inr, arith}
 use Rattle.std.proofs.lemmas.Bool.{cases_lt}
 use Rattle.std.proofs.lemmas.Bool.Decides.{nat_tests}
 use Rattle.std.proofs.lemmas.List.Elements.{Contains-append_left, Contains-push, Contains-push_cases}
-use Rattle.daos_base.specs.declared.answer.Answer.{Answer}
-use Rattle.daos_base.specs.declared.epoch.Epoch.{Epoch}
-use Rattle.daos_base.specs.declared.operation.Read.{Read}
-use Rattle.daos_base.specs.declared.outcome.FloorWhy.{FloorWhy}
-use Rattle.daos_base.specs.declared.shown.Shown.{Shown}
-use Rattle.daos_base.specs.Operations.{read_path}
-use Rattle.daos_base.specs.Paths.{overlaps}
-use Rattle.daos_base.specs.PathLaws.{overlaps-comm}
-use Rattle.daos_base.specs.Placement.{members}
-use Rattle.daos_laws.specs.Dated.{map_of}
-use Rattle.daos_laws.specs.Decided.{AreDecided}
-use Rattle.daos_laws.specs.Matches.{GivesAsOf, counts_under}
-use Rattle.daos_laws.specs.MatchLaws.{matches-give}
-use Rattle.daos_laws.specs.Members.{Has, contains-from_has, has-from_contains}
-use Rattle.daos_laws.specs.ServeLaws.{served-all}
-use Rattle.daos_laws.specs.TargetLaws.{members-parts, same_number}
-use Rattle.daos_laws.specs.Targets.{is_own}
+use Rattle.base_types.specs.declared.answer.Answer.{Answer}
+use Rattle.base_types.specs.declared.epoch.Epoch.{Epoch}
+use Rattle.base_types.specs.declared.operation.Read.{Read}
+use Rattle.base_types.specs.declared.outcome.FloorWhy.{FloorWhy}
+use Rattle.base_types.specs.declared.shown.Shown.{Shown}
+use Rattle.base_types.specs.Operations.{read_path}
+use Rattle.base_types.specs.Paths.{overlaps}
+use Rattle.base_types.specs.PathLaws.{overlaps-comm}
+use Rattle.base_types.specs.Placement.{members}
+use Rattle.model_laws.specs.Dated.{map_of}
+use Rattle.model_laws.specs.Decided.{AreDecided}
+use Rattle.model_laws.specs.Matches.{GivesAsOf, counts_under}
+use Rattle.model_laws.specs.MatchLaws.{matches-give}
+use Rattle.model_laws.specs.Members.{Has, contains-from_has, has-from_contains}
+use Rattle.model_laws.specs.ServeLaws.{served-all}
+use Rattle.model_laws.specs.TargetLaws.{members-parts, same_number}
+use Rattle.model_laws.specs.Targets.{is_own}
 use Rattle.daos_model.specs.declared.durable.Durable.{Durable}
 use Rattle.daos_model.specs.declared.durable.Version.{Version}
 use Rattle.daos_model.specs.Accesses.{asked_member}
@@ -40,7 +40,7 @@ use Rattle.world_reads.specs.Given.{IsFetchRight}
 use Rattle.world_reads.specs.Transactions.{counts_by, transactions}
 use Rattle.world_reads.specs.ListLaws.{none-found}
 use Rattle.world_reads.specs.Midway.{IsGuardedBy, IsStampOf, Shows}
-use Rattle.daos_laws.specs.PlaceLaws.{asked-member}
+use Rattle.model_laws.specs.PlaceLaws.{asked-member}
 use Rattle.world_reads.specs.Reads.{IsAnsweredRight, IsOfAttempt}
 use Rattle.world_reads.specs.Versions.{VersionsStand, is_own_in, mark_of}
 

@@ -2,15 +2,15 @@
 use Rattle.std.specs.Prelude.{ℕ, ◌≡◌, ◌≢◌, ◌⊎◌, ◌≤◌, ◌<◌, ◌/◌, Bool, true, false, List, map, Contains, Some, None, refl}
 use Rattle.std.proofs.Common.{sym, ◌∙◌, ap, subst, inl, inr, arith}
 use Rattle.std.proofs.lemmas.List.Kept.{AllPairs-from_increasing}
-use Rattle.daos_base.specs.declared.entry.Entry.{Entry}
-use Rattle.daos_base.specs.declared.epoch.Epoch.{Epoch}
-use Rattle.daos_base.specs.declared.id.AttemptId.{AttemptId}
-use Rattle.daos_base.specs.declared.operation.MinorWrite.{MinorWrite}
-use Rattle.daos_base.specs.Placement.{path_members}
-use Rattle.daos_laws.specs.EntryLaws.{has-put, has-puts, puts-has, same-attempt}
-use Rattle.daos_laws.specs.DecidingLaws.{stores-keep}
-use Rattle.daos_laws.specs.Members.{Has, contains-from_has, has-from_contains, has-from_map, has-map}
-use Rattle.daos_laws.specs.VersionLaws.{rising-from_single}
+use Rattle.base_types.specs.declared.entry.Entry.{Entry}
+use Rattle.base_types.specs.declared.epoch.Epoch.{Epoch}
+use Rattle.base_types.specs.declared.id.AttemptId.{AttemptId}
+use Rattle.base_types.specs.declared.operation.MinorWrite.{MinorWrite}
+use Rattle.base_types.specs.Placement.{path_members}
+use Rattle.model_laws.specs.EntryLaws.{has-put, has-puts, puts-has, same-attempt}
+use Rattle.model_laws.specs.DecidingLaws.{stores-keep}
+use Rattle.model_laws.specs.Members.{Has, contains-from_has, has-from_contains, has-from_map, has-map}
+use Rattle.model_laws.specs.VersionLaws.{rising-from_single}
 use Rattle.daos_model.specs.declared.durable.Durable.{Durable}
 use Rattle.daos_model.specs.declared.durable.Version.{Version}
 use Rattle.daos_model.specs.BoolLaws.{clash, false_of}

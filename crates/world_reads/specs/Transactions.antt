@@ -1,9 +1,9 @@
 -- The decided attempts as transactions, and which versions count.
 use Rattle.std.specs.Prelude.{Bool, ◌||◌, List, ◌++◌, map}
-use Rattle.daos_base.specs.declared.epoch.Epoch.{Epoch}
-use Rattle.daos_base.specs.declared.id.AttemptId.{AttemptId}
-use Rattle.daos_base.specs.declared.script.Script.{Script}
-use Rattle.daos_laws.specs.Decided.{Decided}
+use Rattle.base_types.specs.declared.epoch.Epoch.{Epoch}
+use Rattle.base_types.specs.declared.id.AttemptId.{AttemptId}
+use Rattle.base_types.specs.declared.script.Script.{Script}
+use Rattle.model_laws.specs.Decided.{Decided}
 use Rattle.daos_model.specs.declared.durable.Version.{Version}
 use Rattle.daos_model.specs.Accesses.{minor_writes}
 use Rattle.daos_model.specs.Transactions.{attempt_ops}

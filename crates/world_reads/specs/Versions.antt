@@ -1,16 +1,16 @@
 -- Each version belongs to a decided attempt or to one that is prepared, and those that count stand for the decided transactions.
 use Rattle.std.specs.Prelude.{ℕ, ◌≡◌, ◌≢◌, ◌⊎◌, ◌+◌, ◌≤◌, ◌/◌, Bool, true, false, ◌&&◌, ◌==◌, max, List, [], Contains, slice_get, Some}
-use Rattle.daos_base.specs.declared.entry.Entry.{Entry}
-use Rattle.daos_base.specs.declared.epoch.Epoch.{Epoch}
-use Rattle.daos_base.specs.declared.id.AttemptId.{AttemptId}
-use Rattle.daos_base.specs.declared.id.ContId.{ContId}
-use Rattle.daos_base.specs.declared.operation.MinorWrite.{MinorWrite}
-use Rattle.daos_base.specs.Operations.{write_path}
-use Rattle.daos_base.specs.Placement.{path_members}
-use Rattle.daos_laws.specs.Dated.{AreSingleInOrder}
-use Rattle.daos_laws.specs.Decided.{AreDecided}
-use Rattle.daos_laws.specs.Matches.{Matches}
-use Rattle.daos_laws.specs.Targets.{ArePlaced, is_own}
+use Rattle.base_types.specs.declared.entry.Entry.{Entry}
+use Rattle.base_types.specs.declared.epoch.Epoch.{Epoch}
+use Rattle.base_types.specs.declared.id.AttemptId.{AttemptId}
+use Rattle.base_types.specs.declared.id.ContId.{ContId}
+use Rattle.base_types.specs.declared.operation.MinorWrite.{MinorWrite}
+use Rattle.base_types.specs.Operations.{write_path}
+use Rattle.base_types.specs.Placement.{path_members}
+use Rattle.model_laws.specs.Dated.{AreSingleInOrder}
+use Rattle.model_laws.specs.Decided.{AreDecided}
+use Rattle.model_laws.specs.Matches.{Matches}
+use Rattle.model_laws.specs.Targets.{ArePlaced, is_own}
 use Rattle.daos_model.specs.declared.cell.Cell.{Cell}
 use Rattle.daos_model.specs.declared.durable.Durable.{Durable}
 use Rattle.daos_model.specs.declared.durable.Version.{Version}

@@ -2,8 +2,8 @@
 ghost use Rattle.std.specs.Prelude.{◌≡◌, Decides};
 
 use crate::same::Same;
-use daos_base::entry::Entry;
-use daos_base::snapshot::Snap;
+use base_types::entry::Entry;
+use base_types::snapshot::Snap;
 use daos_model::durable::{ContRow, Durable, Version};
 
 impl Same for Version {

@@ -2,7 +2,7 @@
 ghost use Rattle.std.specs.Prelude.{◌≡◌, ◌<◌, ◌+◌, ◌++◌, ◌∷◌, length, take, drop, Decides};
 
 use crate::same::Same;
-use daos_base::items::Items;
+use base_types::items::Items;
 
 /// Whether two slices hold the same values in the same order.
 pub fn same_items<T: Same>(one: &[T], two: &[T]) -> bool

@@ -2,7 +2,7 @@
 ghost use Rattle.std.specs.Prelude.{◌≡◌, Decides};
 
 use crate::same::{Same, both, three};
-use daos_base::operation::{MinorWrite, Read, Write};
+use base_types::operation::{MinorWrite, Read, Write};
 
 impl Same for Write {
     fn is_same(&self, other: &Write) -> bool {

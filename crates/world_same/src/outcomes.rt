@@ -2,8 +2,8 @@
 ghost use Rattle.std.specs.Prelude.{◌≡◌, Decides};
 
 use crate::same::{Same, three};
-use daos_base::outcome::{Cause, FloorWhy, Outcome};
-use daos_base::shown::Shown;
+use base_types::outcome::{Cause, FloorWhy, Outcome};
+use base_types::shown::Shown;
 
 impl Same for FloorWhy {
     fn is_same(&self, other: &FloorWhy) -> bool {

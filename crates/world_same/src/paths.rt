@@ -2,10 +2,10 @@
 ghost use Rattle.std.specs.Prelude.{◌≡◌, Decides};
 
 use crate::same::Same;
-use daos_base::epoch::Epoch;
-use daos_base::id::{AttemptId, ContId, ObjId};
-use daos_base::key::Key;
-use daos_base::path::Path;
+use base_types::epoch::Epoch;
+use base_types::id::{AttemptId, ContId, ObjId};
+use base_types::key::Key;
+use base_types::path::Path;
 
 impl Same for Epoch {
     fn is_same(&self, other: &Epoch) -> bool {

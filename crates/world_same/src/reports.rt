@@ -2,8 +2,8 @@
 ghost use Rattle.std.specs.Prelude.{◌≡◌, Decides};
 
 use crate::same::Same;
-use daos_base::answer::{Answer, Piece};
-use daos_base::report::{Attempt, Line};
+use base_types::answer::{Answer, Piece};
+use base_types::report::{Attempt, Line};
 
 impl Same for Piece {
     fn is_same(&self, other: &Piece) -> bool {

@@ -2,7 +2,7 @@
 use Rattle.std.specs.Prelude.{ℕ, ◌≡◌, ◌≤◌, ◌+◌, ◌++◌, ◌⊎◌, Bool, true, false, not, List, [], ◌∷◌, filter, length, map, slice_get, Some, if◌then◌else◌, refl}
 use Rattle.std.proofs.Common.{zero, suc, sym, ◌∙◌, ap, subst, inl, inr, arith, cond}
 use Rattle.std.proofs.Math.ListN.{set}
-use Rattle.daos_laws.specs.Members.{Has, has-cases, has-from_filter, has-from_map, has-left, has-map, has-right}
+use Rattle.model_laws.specs.Members.{Has, has-cases, has-from_filter, has-from_map, has-left, has-map, has-right}
 use Rattle.daos_model.specs.Answers.{is_before}
 use Rattle.daos_model.specs.Ordered.{put}
 use Rattle.world_base.specs.declared.target.TargetState.{TargetState}

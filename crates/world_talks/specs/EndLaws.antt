@@ -2,12 +2,12 @@
 use Rattle.std.specs.Prelude.{ℕ, ◌≡◌, ◌≤◌, ◌++◌, ◌==◌, Bool, true, false, not, List, ◌∷◌, filter, map, Some, refl}
 use Rattle.std.proofs.Common.{sym, ◌∙◌, ap, subst, inl, inr, arith}
 use Rattle.std.proofs.lemmas.Bool.{true≢false}
-use Rattle.daos_base.specs.declared.id.AttemptId.{AttemptId}
-use Rattle.daos_laws.specs.EntryLaws.{found-has}
-use Rattle.daos_laws.specs.Members.{Has, has-cases, has-filter, has-from_filter, has-from_map, has-left, has-map, has-right}
-use Rattle.daos_laws.specs.TargetLaws.{number_same, same_number}
-use Rattle.daos_messages.specs.declared.message.Message.TheVariants as message
-use Rattle.daos_messages.specs.declared.message.Post.{Post}
+use Rattle.base_types.specs.declared.id.AttemptId.{AttemptId}
+use Rattle.model_laws.specs.EntryLaws.{found-has}
+use Rattle.model_laws.specs.Members.{Has, has-cases, has-filter, has-from_filter, has-from_map, has-left, has-map, has-right}
+use Rattle.model_laws.specs.TargetLaws.{number_same, same_number}
+use Rattle.base_messages.specs.declared.message.Message.TheVariants as message
+use Rattle.base_messages.specs.declared.message.Post.{Post}
 use Rattle.daos_model.specs.Durables.{same_attempt}
 use Rattle.dtx_base.specs.declared.leading.Undecided.{Undecided}
 use Rattle.dtx_base.specs.Leading.{LeaderOf, LeaderStep, ended, undecided_attempt}

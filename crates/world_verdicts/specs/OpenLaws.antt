@@ -1,8 +1,8 @@
 -- An attempt that isn't decided, and of which its leader keeps an entry, is undecided there.
 use Rattle.std.specs.Prelude.{ℕ, ◌≡◌, Bool, true, false, slice_get, Option, Some, None, refl}
 use Rattle.std.proofs.Common.{inl, inr}
-use Rattle.daos_base.specs.declared.id.AttemptId.{AttemptId}
-use Rattle.daos_laws.specs.EntryLaws.{found-has}
+use Rattle.base_types.specs.declared.id.AttemptId.{AttemptId}
+use Rattle.model_laws.specs.EntryLaws.{found-has}
 use Rattle.dtx_base.specs.declared.leading.Undecided.{Undecided}
 use Rattle.dtx_base.specs.Leading.{undecided_attempt}
 use Rattle.dtx_base.specs.Rows.{is_row_of}

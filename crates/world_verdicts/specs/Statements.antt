@@ -1,9 +1,9 @@
 -- Statements on verdicts: each step of a turn keeps that decided attempts are exactly those that are told as committed, and that
 -- aborted ones are told as refused.
 use Rattle.std.specs.Prelude.{ℕ, ◌≡◌, List, [], slice_get, Some}
-use Rattle.daos_base.specs.declared.entry.Entry.{Entry}
-use Rattle.daos_base.specs.declared.epoch.Epoch.{Epoch}
-use Rattle.daos_base.specs.declared.id.AttemptId.{AttemptId}
+use Rattle.base_types.specs.declared.entry.Entry.{Entry}
+use Rattle.base_types.specs.declared.epoch.Epoch.{Epoch}
+use Rattle.base_types.specs.declared.id.AttemptId.{AttemptId}
 use Rattle.dtx_base.specs.declared.leading.Undecided.{Undecided}
 use Rattle.world_addresses.specs.Addresses.{AreAddressed}
 use Rattle.world_attempts.specs.Attempts.{Attempts, entry_at, leader_of, row_at}

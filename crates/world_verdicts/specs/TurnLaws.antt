@@ -1,16 +1,16 @@
 -- Every turn keeps that decided attempts are exactly those that are told as committed.
 use Rattle.std.specs.Prelude.{ℕ, ◌≡◌, ◌≢◌, ◌⊎◌, ◌++◌, Bool, true, false, List, [], map, slice_get, Contains, Option, Some, None, refl}
 use Rattle.std.proofs.Common.{append-nil, sym, ◌∙◌, ap, subst, inl, inr}
-use Rattle.daos_base.specs.declared.epoch.Epoch.{Epoch}
-use Rattle.daos_base.specs.declared.id.AttemptId.{AttemptId}
-use Rattle.daos_base.specs.declared.outcome.Outcome.{Outcome}
-use Rattle.daos_base.specs.declared.outcome.Outcome.TheVariants as outcome
-use Rattle.daos_base.specs.declared.report.Attempt.{Attempt}
-use Rattle.daos_base.specs.declared.report.Line.{Line}
-use Rattle.daos_base.specs.declared.script.Command.{Command}
-use Rattle.daos_laws.specs.Members.{Has, contains-from_has, has-cases, has-from_contains, has-from_map, has-left, has-map, has-right}
-use Rattle.daos_messages.specs.declared.message.Message.TheVariants as message
-use Rattle.daos_messages.specs.declared.message.Post.{Post}
+use Rattle.base_types.specs.declared.epoch.Epoch.{Epoch}
+use Rattle.base_types.specs.declared.id.AttemptId.{AttemptId}
+use Rattle.base_types.specs.declared.outcome.Outcome.{Outcome}
+use Rattle.base_types.specs.declared.outcome.Outcome.TheVariants as outcome
+use Rattle.base_types.specs.declared.report.Attempt.{Attempt}
+use Rattle.base_types.specs.declared.report.Line.{Line}
+use Rattle.base_types.specs.declared.script.Command.{Command}
+use Rattle.model_laws.specs.Members.{Has, contains-from_has, has-cases, has-from_contains, has-from_map, has-left, has-map, has-right}
+use Rattle.base_messages.specs.declared.message.Message.TheVariants as message
+use Rattle.base_messages.specs.declared.message.Post.{Post}
 use Rattle.daos_model.specs.Accesses.{minor_writes}
 use Rattle.daos_model.specs.Attempts.{tries}
 use Rattle.daos_model.specs.Transactions.{attempt_ops, command_of, numbered, numbered_at, ops_of, ops_or_none}

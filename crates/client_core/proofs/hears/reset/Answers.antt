@@ -1,7 +1,7 @@
 use Rattle.std.proofs.Common.{sym, ◌∙◌, ap}
-use Rattle.daos_base.specs.declared.outcome.Cause.TheVariants.{Unresolved}
-use Rattle.daos_base.specs.declared.outcome.Outcome.TheVariants.{Restart}
-use Rattle.daos_messages.specs.declared.message.Message.TheVariants as message
+use Rattle.base_types.specs.declared.outcome.Cause.TheVariants.{Unresolved}
+use Rattle.base_types.specs.declared.outcome.Outcome.TheVariants.{Restart}
+use Rattle.base_messages.specs.declared.message.Message.TheVariants as message
 use Rattle.world_base.specs.ClientTurns.{asks, ends, reset_by}
 use Rattle.client_core.proofs.Told.{reset_again, reset_lost}
 use Rattle.client_core.proofs.hears.reset.Goals as goal

@@ -1,7 +1,7 @@
 use Rattle.std.proofs.Common.{◌≡◌, sym, ◌∙◌, ap, slice_get, Some}
 use Rattle.std.specs.Option.{option_copied}
-use Rattle.daos_base.specs.Placement.{path_leader}
-use Rattle.daos_messages.specs.declared.message.Message.TheVariants as message
+use Rattle.base_types.specs.Placement.{path_leader}
+use Rattle.base_messages.specs.declared.message.Message.TheVariants as message
 use Rattle.world_base.specs.ClientTurns.{asks}
 use Rattle.client_core.proofs.Writes.{commits_first}
 use Rattle.client_core.proofs.moves.commits.Goals as goal

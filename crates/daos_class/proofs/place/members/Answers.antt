@@ -1,5 +1,5 @@
 use Rattle.std.proofs.Common.{[], ◌∷◌, ◌++◌, ◌∙◌, ap}
-use Rattle.daos_base.specs.Placement.{members}
+use Rattle.base_types.specs.Placement.{members}
 use Rattle.daos_class.proofs.Shards.{found_all, found_more}
 use Rattle.daos_class.proofs.place.members.Goals as goal
 

@@ -1,5 +1,5 @@
 use Rattle.std.proofs.Common.{◌≡◌, ◌++◌, ◌-◌}
-use Rattle.daos_base.specs.Placement.{first_shard, replicas, shard_targets}
+use Rattle.base_types.specs.Placement.{first_shard, replicas, shard_targets}
 use Rattle.daos_class.proofs.place.members.Given as goal
 
 abbrev pub invariant-loop-shard : goal.invariant-loop-shard

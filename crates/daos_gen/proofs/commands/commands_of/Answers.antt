@@ -1,5 +1,5 @@
 use Rattle.std.proofs.Common.{◌≡◌, ◌+◌, ◌++◌, [], ◌∷◌, sym, ap, ◌∙◌, add-one}
-use Rattle.daos_draw.specs.Draws.{drawn, drawn_after}
+use Rattle.base_random.specs.Draws.{drawn, drawn_after}
 use Rattle.daos_gen.specs.Commands.{command_drawn, command_of, commands_of}
 use Rattle.daos_gen.proofs.More.{commands-then, commands-else, same_test, other_test}
 use Rattle.daos_gen.proofs.commands.commands_of.Goals as goal

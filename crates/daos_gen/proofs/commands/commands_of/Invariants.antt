@@ -1,5 +1,5 @@
 use Rattle.std.proofs.Common.{◌≡◌}
-use Rattle.daos_draw.specs.Draws.{drawn_after}
+use Rattle.base_random.specs.Draws.{drawn_after}
 use Rattle.daos_gen.specs.Commands.{commands_of}
 use Rattle.daos_gen.proofs.commands.commands_of.Given as goal
 

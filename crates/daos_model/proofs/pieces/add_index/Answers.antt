@@ -1,6 +1,6 @@
 use Rattle.std.proofs.Common.{◌≡◌, List, ◌∙◌, ap, subst, sym, arith}
 use Rattle.std.specs.Prelude.{OnOk}
-use Rattle.daos_base.specs.declared.answer.Piece.{Piece}
+use Rattle.base_types.specs.declared.answer.Piece.{Piece}
 use Rattle.daos_model.specs.Pieces.{hole_length, index_after, last_hole}
 use Rattle.daos_model.proofs.PieceSteps.{index_after-push, last_hole-push}
 use Rattle.daos_model.proofs.pieces.add_index.Goals as goal

@@ -1,6 +1,6 @@
 use Rattle.std.proofs.Common.{◌≡◌, List, subst, length, reverse, sym, ◌∙◌, ap, arith}
 use Rattle.std.specs.Prelude.{IfOk}
-use Rattle.daos_base.specs.declared.answer.Piece.{Piece}
+use Rattle.base_types.specs.declared.answer.Piece.{Piece}
 use Rattle.daos_model.specs.Pieces.{pieces_of}
 use Rattle.daos_model.proofs.PieceSteps.{length-window, pieces-window}
 use Rattle.daos_model.proofs.pieces.pieces.Goals as goal

@@ -1,6 +1,6 @@
 use Rattle.std.proofs.Common.{◌∙◌, ap}
 use Rattle.std.specs.Prelude.{◌&&◌}
-use Rattle.daos_base.specs.Paths.{same_path}
+use Rattle.base_types.specs.Paths.{same_path}
 use Rattle.daos_model.specs.Cells.{cell_at}
 use Rattle.daos_model.specs.Prunes.{is_index_in}
 use Rattle.daos_model.proofs.Sights.{touches-single, touches-extent}

@@ -1,5 +1,5 @@
 use Rattle.std.proofs.Common.{◌≡◌, ◌++◌, length, map}
-use Rattle.daos_text.specs.Rows.{rows_text}
+use Rattle.base_text.specs.Rows.{rows_text}
 use Rattle.daos_report.specs.Reports.{cond_row, conds_after, conds_until}
 use Rattle.daos_report.proofs.attempts.push_conds_until.Given as goal
 

@@ -1,5 +1,5 @@
 use Rattle.std.proofs.Common.{◌≡◌, ◌++◌, drop}
-use Rattle.daos_text.specs.Rows.{rows_text}
+use Rattle.base_text.specs.Rows.{rows_text}
 use Rattle.daos_report.specs.Reports.{detail_rows}
 use Rattle.daos_report.proofs.attempts.push_details.Given as goal
 

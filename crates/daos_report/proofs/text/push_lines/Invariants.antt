@@ -1,5 +1,5 @@
 use Rattle.std.proofs.Common.{◌≡◌, ◌++◌, drop, flat_map}
-use Rattle.daos_text.specs.Rows.{rows_text}
+use Rattle.base_text.specs.Rows.{rows_text}
 use Rattle.daos_report.specs.Reports.{line_rows}
 use Rattle.daos_report.proofs.text.push_lines.Given as goal
 

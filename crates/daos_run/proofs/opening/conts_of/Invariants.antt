@@ -1,5 +1,5 @@
 use Rattle.std.proofs.Common.{◌≡◌, map, take}
-use Rattle.daos_base.specs.declared.script.ContDecl.{ContDecl}
+use Rattle.base_types.specs.declared.script.ContDecl.{ContDecl}
 use Rattle.daos_run.proofs.opening.conts_of.Given as goal
 
 -- those of the containers so far

@@ -3,7 +3,7 @@ use Rattle.std.proofs.Common.{ap, arith, rules, subst, sym}
 use Rattle.daos_run.proofs.Lone.{of-lone-client, room-found}
 use Rattle.daos_run.proofs.Started.{all-run, all-set, as-said, said-ok, said-so, unchanged}
 use Rattle.daos_run.proofs.Whole.{can-run, come-to}
-use Rattle.daos_base.specs.declared.report.Report.{Report}
+use Rattle.base_types.specs.declared.report.Report.{Report}
 use Rattle.daos_run.specs.Stops.{MayStop, stop_of}
 use Rattle.daos_run.specs.declared.stop.RunStop.{RunStop}
 use Rattle.daos_run.specs.declared.stop.RunStop.TheVariants.{Memory as NoMemory}

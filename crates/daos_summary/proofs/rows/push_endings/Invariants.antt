@@ -1,5 +1,5 @@
 use Rattle.std.proofs.Common.{◌≡◌, ◌++◌, drop, map}
-use Rattle.daos_text.specs.Rows.{rows_text}
+use Rattle.base_text.specs.Rows.{rows_text}
 use Rattle.daos_summary.specs.Summaries.{ending_row}
 use Rattle.daos_summary.proofs.rows.push_endings.Given as goal
 

@@ -1,5 +1,5 @@
 use Rattle.std.proofs.Common.{◌≡◌, ◌++◌}
-use Rattle.daos_text.specs.Rows.{rows_text}
+use Rattle.base_text.specs.Rows.{rows_text}
 use Rattle.daos_summary.specs.Summaries.{issued_rows}
 use Rattle.daos_summary.proofs.rows.push_issued.Given as goal
 

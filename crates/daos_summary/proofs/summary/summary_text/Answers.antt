@@ -1,6 +1,6 @@
 use Rattle.std.proofs.Common.{◌≡◌, map, codes, subst, List}
-use Rattle.daos_base.specs.declared.report.Line.{Line}
-use Rattle.daos_text.specs.Rows.{rows_text}
+use Rattle.base_types.specs.declared.report.Line.{Line}
+use Rattle.base_text.specs.Rows.{rows_text}
 use Rattle.daos_summary.specs.Summaries.{head_row, count_row, ending_row, endings, issued_rows, end_row, summary_rows, summary_text}
 use Rattle.daos_summary.proofs.Joins.{whole_text}
 use Rattle.daos_summary.proofs.summary.summary_text.Goals as goal

@@ -1,7 +1,7 @@
 use Rattle.std.proofs.Common.{◌≡◌, ◌+◌, ◌∙◌, sym, ap, arith, length, string_bytes, refl, Ok, Err}
 use Rattle.std.proofs.lemmas.List.{length-map}
 use Rattle.std.proofs.lemmas.Result.{err_from_is_err_and}
-use Rattle.daos_text.specs.Steps.{steps-drop_ok, steps-drop_err, steps-drop_all}
+use Rattle.base_text.specs.Steps.{steps-drop_ok, steps-drop_err, steps-drop_all}
 use Rattle.daos_words.specs.Words.{job_of, with_word}
 use Rattle.daos_words.proofs.Sound.{few_words, word_adds}
 use Rattle.daos_words.proofs.words.job_of.Goals as goal

@@ -1,5 +1,5 @@
 use Rattle.std.proofs.Common.{◌≡◌, ◌≤◌, drop, map, string_bytes}
-use Rattle.daos_text.specs.Steps.{steps}
+use Rattle.base_text.specs.Steps.{steps}
 use Rattle.daos_words.specs.Words.{with_word, nothing_given}
 use Rattle.daos_words.proofs.Sound.{said, IsSound}
 use Rattle.daos_words.proofs.words.job_of.Given as goal

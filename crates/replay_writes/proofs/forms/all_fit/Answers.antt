@@ -1,4 +1,4 @@
-use Rattle.daos_laws.specs.Lists.{all-more, all-taken}
+use Rattle.model_laws.specs.Lists.{all-more, all-taken}
 use Rattle.replay_base.proofs.Starts.{all_so, none_so}
 use Rattle.replay_writes.specs.Committed.{FitsIn}
 use Rattle.replay_writes.proofs.Reading.{not_all}

@@ -1,8 +1,8 @@
 use Rattle.std.proofs.Common.{subst}
 use Rattle.std.specs.Bool.{Decides}
 use Rattle.std.proofs.lemmas.Bool.Decides.{not_from_Decides}
-use Rattle.daos_base.specs.Operations.{write_path}
-use Rattle.daos_laws.specs.Lists.{all-more}
+use Rattle.base_types.specs.Operations.{write_path}
+use Rattle.model_laws.specs.Lists.{all-more}
 use Rattle.replay_base.proofs.Starts.{all_so, none_so}
 use Rattle.vos_stamp.specs.Stamps.{IsShown, NoneAgainst}
 use Rattle.replay_writes.proofs.Reading.{Shows, never_first, none_more, not_first}

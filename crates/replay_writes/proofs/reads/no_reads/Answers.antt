@@ -1,7 +1,7 @@
 use Rattle.std.proofs.Common.{subst}
 use Rattle.std.specs.Bool.{Decides}
-use Rattle.daos_base.specs.Operations.{write_path}
-use Rattle.daos_laws.specs.Lists.{all-more, all-taken}
+use Rattle.base_types.specs.Operations.{write_path}
+use Rattle.model_laws.specs.Lists.{all-more, all-taken}
 use Rattle.replay_base.proofs.Starts.{all_so, none_so}
 use Rattle.vos_stamp.specs.Stamps.{NoneAgainst}
 use Rattle.replay_writes.proofs.Reading.{not_all}

@@ -1,5 +1,5 @@
 use Rattle.std.proofs.Common.{◌∙◌, ap}
-use Rattle.daos_base.specs.declared.outcome.Outcome.TheVariants as outcome
+use Rattle.base_types.specs.declared.outcome.Outcome.TheVariants as outcome
 use Rattle.replay_writes.specs.Ways.{refusal_told}
 use Rattle.replay_writes.proofs.Refusing.{refuses_decides}
 use Rattle.replay_writes.proofs.ways.refuses_so.Goals as goal

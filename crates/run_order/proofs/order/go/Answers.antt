@@ -1,7 +1,7 @@
 use Rattle.std.specs.Prelude.{true}
 use Rattle.run_order.proofs.Leaving.{all-run, leaves-then}
 use Rattle.run_order.proofs.Loops.{shown-as}
-use Rattle.run_picks.specs.Orders.{ByDraws, ByRounds, InDraws, InOrder, InRounds}
+use Rattle.run_base.specs.Orders.{ByDraws, ByRounds, InDraws, InOrder, InRounds}
 use Rattle.run_order.proofs.order.go.Goals as goal
 
 pub returns-then-order-eq0-clause-order : goal.returns-then-order-eq0-clause-order

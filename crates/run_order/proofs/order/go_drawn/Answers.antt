@@ -2,14 +2,14 @@ use Rattle.std.specs.Prelude.{◌≡◌, ◌%◌, Err, Some, length, slice_get}
 use Rattle.std.proofs.Common.{◌∙◌, ap, rules, subst, sym}
 use Rattle.std.proofs.lemmas.List.Elements.{All-get_or}
 use Rattle.run_actors.specs.Due.{IsActor}
-use Rattle.daos_draw.specs.Draws.{drawn}
-use Rattle.daos_laws.specs.Lists.{at-index}
+use Rattle.base_random.specs.Draws.{drawn}
+use Rattle.model_laws.specs.Lists.{at-index}
 use Rattle.run_order.proofs.Ends.{one-of}
 use Rattle.run_order.proofs.Going.{goes-none}
 use Rattle.run_order.proofs.Leaving.{all-run, leaves-ok, leaves-so, leaves-wanting}
 use Rattle.run_order.specs.Halts.{wanting}
 use Rattle.run_order.proofs.Loops.{draw-more, draws-over, from_draw, none-in, not-none, some-pick}
-use Rattle.run_picks.specs.Orders.{NoDraw, after_pick, pick}
+use Rattle.run_base.specs.Orders.{NoDraw, after_pick, pick}
 use Rattle.run_order.proofs.order.go_drawn.Goals as goal
 
 pub heard_by-requires-clause-actor : goal.heard_by-requires-clause-actor

@@ -2,7 +2,7 @@ use Rattle.run_order.proofs.Going.{goes-none}
 use Rattle.run_order.proofs.Leaving.{all-run, leaves-ok, leaves-so, leaves-wanting}
 use Rattle.run_order.specs.Halts.{wanting}
 use Rattle.run_order.proofs.Loops.{none-in, round-more, rounds-over, some-in}
-use Rattle.run_picks.specs.Orders.{NoRound, Rounds}
+use Rattle.run_base.specs.Orders.{NoRound, Rounds}
 use Rattle.std.specs.Prelude.{◌≡◌, Err}
 use Rattle.std.proofs.Common.{rules}
 use Rattle.run_order.proofs.order.go_round.Goals as goal

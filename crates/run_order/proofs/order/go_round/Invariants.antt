@@ -1,5 +1,5 @@
 use Rattle.run_order.proofs.Going.{GoesOn}
-use Rattle.run_picks.specs.Orders.{Rounds}
+use Rattle.run_base.specs.Orders.{Rounds}
 use Rattle.run_order.proofs.order.go_round.Given as goal
 
 -- there were some rounds

@@ -6,8 +6,8 @@ use Rattle.run_order.specs.Halts.{wanting}
 use Rattle.run_actors.specs.Stores.{AllRun}
 use Rattle.run_actors.specs.Due.{first_targets}
 use Rattle.run_order.proofs.Loops.{at-end, client-had-none, client-had-turn, round-whole, target-had-none, target-had-turn, turned, within-now}
-use Rattle.run_picks.specs.Orders.{Nobody}
-use Rattle.run_picks.specs.Picks.{numbered}
+use Rattle.run_base.specs.Orders.{Nobody}
+use Rattle.run_base.specs.Picks.{numbered}
 use Rattle.world_base.specs.Letters.{client}
 use Rattle.run_order.proofs.order.round.Goals as goal
 use Rattle.run_order.proofs.order.round.Goals.{then-is_client_due+in_ok-client_turn, else-is_client_due, then-is_target_due+in_default, else-is_target_due}

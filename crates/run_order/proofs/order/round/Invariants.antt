@@ -2,7 +2,7 @@ use Rattle.std.specs.Prelude.{length}
 use Rattle.run_order.proofs.Going.{GoesOn}
 use Rattle.run_actors.specs.Due.{first_targets}
 use Rattle.run_order.proofs.Loops.{turned}
-use Rattle.run_picks.specs.Picks.{numbered}
+use Rattle.run_base.specs.Picks.{numbered}
 use Rattle.world_base.specs.Letters.{client}
 use Rattle.run_order.proofs.order.round.Given as goal
 

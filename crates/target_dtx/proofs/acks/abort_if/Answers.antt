@@ -1,5 +1,5 @@
 use Rattle.std.proofs.Common.{rules}
-use Rattle.daos_base.specs.declared.entry.Settle.TheVariants.{Abort}
+use Rattle.base_types.specs.declared.entry.Settle.TheVariants.{Abort}
 use Rattle.target_parts.specs.Knowing.{memory_of}
 use Rattle.target_parts.specs.MadeLaws.{leads-after_step}
 use Rattle.target_dtx.proofs.acks.abort_if.Goals as goal

@@ -11,7 +11,7 @@ use Rattle.target_parts.specs.Stops.{never, stop_memory}
 use Rattle.target_parts.specs.Turning.{now_partway}
 use Rattle.target_dtx.proofs.Acking.{ack-cut, ack-done, leads-acked, refused-apart, refused-can, step, stepped}
 use Rattle.dtx_base.specs.Leading.{ack_heard}
-use Rattle.dtx_posts.specs.Seats.{leader_of}
+use Rattle.dtx_table.specs.Seats.{leader_of}
 use Rattle.world_posts.specs.Posting.{acks-post-in-form, posted-by}
 use Rattle.target_dtx.proofs.acks.hear_ack.Goals as goal
 

@@ -1,6 +1,6 @@
 use Rattle.std.proofs.Common.{◌∙◌, ap, refl, subst, sym}
 use Rattle.dtx_base.specs.Leading.{batched}
-use Rattle.dtx_posts.specs.Seats.{leader_of}
+use Rattle.dtx_table.specs.Seats.{leader_of}
 use Rattle.target_dtx.proofs.Telling.{asks-leave, batch-named, leads-told, nothing-asked, own-told}
 use Rattle.world_posts.specs.Forms.{PostsInForm}
 use Rattle.world_posts.specs.Posting.{and-more, batches-post-in-form, posted-by}

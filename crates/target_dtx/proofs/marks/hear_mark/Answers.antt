@@ -1,5 +1,5 @@
 use Rattle.std.proofs.Common.{◌≡◌, ◌∙◌, Err, None, ap, refl, rules, subst, sym}
-use Rattle.daos_messages.specs.declared.message.Message.TheVariants.{Marked}
+use Rattle.base_messages.specs.declared.message.Message.TheVariants.{Marked}
 use Rattle.dtx_base.specs.Leading.{attempts_of}
 use Rattle.world_base.specs.declared.target.TargetMemory.{TargetMemory}
 use Rattle.world_base.specs.Marks.{MarkNext}

@@ -1,7 +1,7 @@
 use Rattle.std.proofs.Common.{◌≡◌, ◌∙◌, None, ap, subst}
 use Rattle.std.specs.Prelude.{IfOk}
-use Rattle.daos_messages.specs.declared.message.Message.{Message}
-use Rattle.daos_messages.specs.declared.message.Message.TheVariants.{Verdict}
+use Rattle.base_messages.specs.declared.message.Message.{Message}
+use Rattle.base_messages.specs.declared.message.Message.TheVariants.{Verdict}
 use Rattle.dtx_base.specs.Leading.{query_answer}
 use Rattle.world_base.specs.Requests.{says}
 use Rattle.world_base.specs.Verdicts.{verdict_message}

@@ -1,6 +1,6 @@
 use Rattle.std.proofs.Common.{◌∙◌, ◌-◌, ◌+◌, ◌++◌, ap}
 use Rattle.std.specs.List.{range_with_len}
-use Rattle.daos_base.specs.Placement.{groups_members}
+use Rattle.base_types.specs.Placement.{groups_members}
 use Rattle.target_members.proofs.Membership.{group_pushed}
 use Rattle.target_members.proofs.members.push_object.Goals as goal
 

@@ -1,6 +1,6 @@
 use Rattle.std.proofs.Common.{◌≡◌, ◌-◌, ◌++◌}
 use Rattle.std.specs.List.{range_with_len}
-use Rattle.daos_base.specs.Placement.{groups_members}
+use Rattle.base_types.specs.Placement.{groups_members}
 use Rattle.target_members.proofs.members.push_object.Given as goal
 
 abbrev pub invariant-loop-group : goal.invariant-loop-group

@@ -1,5 +1,5 @@
 use Rattle.std.proofs.Common.{◌∙◌, ◌+◌, ◌++◌, ap, drop}
-use Rattle.daos_base.specs.Placement.{path_members, writes_members}
+use Rattle.base_types.specs.Placement.{path_members, writes_members}
 use Rattle.target_members.proofs.Membership.{write_pushed, writes_pushed}
 use Rattle.target_members.proofs.members.writes_members.Goals as goal
 

@@ -1,5 +1,5 @@
 use Rattle.std.proofs.Common.{◌≡◌, ◌++◌, drop}
-use Rattle.daos_base.specs.Placement.{writes_members}
+use Rattle.base_types.specs.Placement.{writes_members}
 use Rattle.target_members.proofs.members.writes_members.Given as goal
 
 abbrev pub invariant-loop-write : goal.invariant-loop-write

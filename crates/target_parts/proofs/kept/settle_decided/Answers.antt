@@ -1,5 +1,5 @@
 use Rattle.std.proofs.Common.{ap}
-use Rattle.daos_base.specs.declared.entry.Settle.TheVariants.{Commit}
+use Rattle.base_types.specs.declared.entry.Settle.TheVariants.{Commit}
 use Rattle.daos_model.specs.Changes.{settled}
 use Rattle.target_parts.specs.KeepingLaws.{leads-decided_settled, leads-same, open-commits}
 use Rattle.target_parts.specs.Knowing.{LeadsWell, memory_of}

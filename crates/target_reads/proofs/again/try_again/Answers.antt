@@ -1,5 +1,5 @@
 use Rattle.std.proofs.Common.{◌≡◌, ◌<◌, Err, arith, inl, inr, length, refl, rules, subst, sym}
-use Rattle.daos_laws.specs.Members.{Has}
+use Rattle.model_laws.specs.Members.{Has}
 use Rattle.world_base.specs.Roles.{is_prepared}
 use Rattle.world_base.specs.Turns.{Reached, Whole}
 use Rattle.world_base.specs.Verdicts.{Freed, VerdictEnds, VerdictNext}

@@ -1,5 +1,5 @@
 use Rattle.std.proofs.Common.{◌≡◌, ◌∙◌, ◌/◌, None, Some, ap, false, refl, subst, sym, true}
-use Rattle.daos_base.specs.Operations.{read_path}
+use Rattle.base_types.specs.Operations.{read_path}
 use Rattle.daos_model.specs.Changes.{leased}
 use Rattle.daos_model.specs.Durables.{is_enlisted}
 use Rattle.world_base.specs.Requests as asked

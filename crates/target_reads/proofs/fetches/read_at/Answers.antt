@@ -1,5 +1,5 @@
 use Rattle.std.proofs.Common.{◌≡◌, ◌∙◌, ap, refl, sym, true}
-use Rattle.daos_base.specs.Operations.{read_path}
+use Rattle.base_types.specs.Operations.{read_path}
 use Rattle.daos_model.specs.Durables.{is_enlisted}
 use Rattle.world_base.specs.Reads.{FetchEnds, FetchNext, Reading}
 use Rattle.world_base.specs.Turns.{Whole}

@@ -1,7 +1,7 @@
 use Rattle.std.proofs.Common.{◌≡◌, ◌∙◌, Some, Err, Contains, ap, rules, refl, sym, subst, ◌<◌, length, true}
-use Rattle.daos_base.specs.declared.entry.Settle.TheVariants.{Commit}
-use Rattle.daos_base.specs.Operations.{read_path}
-use Rattle.daos_laws.specs.Members.{has-from_contains}
+use Rattle.base_types.specs.declared.entry.Settle.TheVariants.{Commit}
+use Rattle.base_types.specs.Operations.{read_path}
+use Rattle.model_laws.specs.Members.{has-from_contains}
 use Rattle.daos_model.specs.declared.durable.Durable.{Durable}
 use Rattle.daos_model.specs.Changes.{settled}
 use Rattle.daos_model.specs.Durables.{is_enlisted}

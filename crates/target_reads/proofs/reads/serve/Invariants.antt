@@ -1,6 +1,6 @@
 use Rattle.std.specs.Prelude.{ℕ, ◌≡◌, Some, length, true}
 use Rattle.std.specs.Option.{ForSome}
-use Rattle.daos_base.specs.Operations.{read_path}
+use Rattle.base_types.specs.Operations.{read_path}
 use Rattle.daos_model.specs.declared.durable.Durable.{Durable}
 use Rattle.daos_model.specs.Durables.{is_enlisted}
 use Rattle.world_base.specs.declared.target.TargetMemory.{TargetMemory}

@@ -1,5 +1,5 @@
 use Rattle.std.proofs.Common.{◌≡◌, ◌∙◌, ap, refl, rules, subst, sym, true}
-use Rattle.daos_laws.specs.Lists.{item-holds}
+use Rattle.model_laws.specs.Lists.{item-holds}
 use Rattle.daos_model.specs.FormLaws.{path-in_form}
 use Rattle.daos_model.specs.Forms.{is_path_in_form, is_write_in_form}
 use Rattle.world_base.specs.Reads.{later_of}

@@ -1,6 +1,6 @@
 use Rattle.std.proofs.Common.{sym, subst, rules}
-use Rattle.daos_base.specs.Operations.{write_path}
-use Rattle.daos_laws.specs.Lists.{all-more, all-taken}
+use Rattle.base_types.specs.Operations.{write_path}
+use Rattle.model_laws.specs.Lists.{all-more, all-taken}
 use Rattle.vos_stamp.specs.Stamps.{IsShown, NoneAgainst}
 use Rattle.target_writes.specs.Writing.{read_found}
 use Rattle.target_writes.proofs.checks.later_read.Goals as goal

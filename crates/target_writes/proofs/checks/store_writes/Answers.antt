@@ -1,7 +1,7 @@
 use Rattle.std.proofs.Common.{ℕ, ◌≡◌, ◌∙◌, ◌<◌, ◌≤◌, Err, ap, arith, inr, refl, rules, subst, sym}
 use Rattle.std.specs.Prelude.{not}
 use Rattle.std.specs.Option.{option_map}
-use Rattle.daos_base.specs.declared.outcome.Outcome.TheVariants as outcome
+use Rattle.base_types.specs.declared.outcome.Outcome.TheVariants as outcome
 use Rattle.daos_model.specs.Blocks.{blocks}
 use Rattle.daos_model.specs.Changes.{prepared}
 use Rattle.vos_store.specs.Refusals.{prepare_stop}

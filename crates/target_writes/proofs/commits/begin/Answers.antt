@@ -1,6 +1,6 @@
 use Rattle.std.proofs.Common.{◌∙◌, [], ap, subst, sym}
 use Rattle.dtx_base.specs.Leading.{begun}
-use Rattle.dtx_posts.specs.Seats.{came, leader_of}
+use Rattle.dtx_table.specs.Seats.{came, leader_of}
 use Rattle.world_base.specs.Requests.{sends}
 use Rattle.target_parts.specs.Knowing.{AreRowsOpen, IsApart, IsOpenHere, memory_of}
 use Rattle.target_writes.proofs.Beginning.{begun-here, begun-rows, begun-told}

@@ -1,6 +1,6 @@
 use Rattle.std.proofs.Common.{◌≡◌, ◌∙◌, Err, None, Ok, Some, ap, refl, rules, subst, sym}
 use Rattle.std.specs.Prelude.{IfOk}
-use Rattle.daos_messages.specs.declared.message.Message.TheVariants as message
+use Rattle.base_messages.specs.declared.message.Message.TheVariants as message
 use Rattle.daos_model.specs.Changes.{prepared}
 use Rattle.dtx_base.specs.Members.{writes_at}
 use Rattle.vos_store.specs.Conditions.{IsPreparable}

@@ -1,5 +1,5 @@
 use Rattle.std.proofs.Common.{Some}
-use Rattle.daos_messages.specs.declared.message.Message.TheVariants as message
+use Rattle.base_messages.specs.declared.message.Message.TheVariants as message
 use Rattle.world_check.proofs.Hearing.{made_heard}
 use Rattle.world_check.proofs.hears.marks_so.Goals as goal
 

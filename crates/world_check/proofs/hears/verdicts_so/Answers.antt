@@ -1,5 +1,5 @@
 use Rattle.std.proofs.lemmas.Bool.Decides.{not_from_Decides}
-use Rattle.daos_messages.specs.declared.message.Message.TheVariants as message
+use Rattle.base_messages.specs.declared.message.Message.TheVariants as message
 use Rattle.world_check.proofs.Hearing.{made_heard, never_heard}
 use Rattle.world_check.proofs.hears.verdicts_so.Goals as goal
 

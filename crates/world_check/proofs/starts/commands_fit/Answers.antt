@@ -1,5 +1,5 @@
 use Rattle.client_core.specs.Clients.{CommandFits}
-use Rattle.daos_laws.specs.Lists.{all-more, all-taken}
+use Rattle.model_laws.specs.Lists.{all-more, all-taken}
 use Rattle.replay_base.proofs.Starts.{all_so, none_so}
 use Rattle.replay_writes.proofs.Reading.{not_all}
 use Rattle.world_check.proofs.starts.commands_fit.Goals as goal

@@ -1,6 +1,6 @@
 use Rattle.std.proofs.Common.{◌≡◌, take}
 use Rattle.std.specs.Prelude.{count_by}
-use Rattle.daos_base.specs.Scripts.{is_numbered}
+use Rattle.base_types.specs.Scripts.{is_numbered}
 use Rattle.world_check.proofs.starts.count_numbered.Given as goal
 
 abbrev pub invariant-loop-command : goal.invariant-loop-command

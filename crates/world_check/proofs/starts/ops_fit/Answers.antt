@@ -1,6 +1,6 @@
 use Rattle.std.proofs.Common.{subst}
 use Rattle.client_core.specs.Clients.{ObjFits, OpFits}
-use Rattle.daos_laws.specs.Lists.{all-more, all-taken}
+use Rattle.model_laws.specs.Lists.{all-more, all-taken}
 use Rattle.world_check.proofs.Starting.{ops_decide}
 use Rattle.world_check.proofs.starts.ops_fit.Goals as goal
 

@@ -1,4 +1,4 @@
-use Rattle.daos_script_lists.specs.Steps.{within_of}
+use Rattle.daos_script.specs.Steps.{within_of}
 use Rattle.daos_script.proofs.Keeps.{few_pending, line_keeps, new_fits}
 use Rattle.daos_script.proofs.reading.Reading.read_line.Goals as goal
 

@@ -1,8 +1,8 @@
 use Rattle.std.specs.Prelude.{false, ◌<◌, length, refl}
 use Rattle.std.proofs.Common.{◌∙◌, ap, subst, sym}
-use Rattle.daos_laws.specs.Lists.{at-index}
-use Rattle.run_letters.specs.Letters.{IsPicked, letters_to}
-use Rattle.run_picks.specs.Picks.{count_to}
+use Rattle.model_laws.specs.Lists.{at-index}
+use Rattle.run_base.specs.Letters.{IsPicked, letters_to}
+use Rattle.run_base.specs.Picks.{count_to}
 use Rattle.run_actors.proofs.Dues.{hears, silent}
 use Rattle.run_actors.proofs.Follow.{follows}
 use Rattle.run_actors.proofs.Going.{client-heard, client-went-on, keeps-going}

@@ -4,7 +4,7 @@ use Rattle.std.proofs.lemmas.List.{append_assoc}
 use Rattle.run_actors.specs.Due.{AreDue, first_targets}
 use Rattle.run_actors.specs.Shown.{client-due-shown}
 use Rattle.run_actors.proofs.Dues.{client-is-there, has-it, has-none, target-is-there, within-list}
-use Rattle.run_picks.specs.Picks.{numbered}
+use Rattle.run_base.specs.Picks.{numbered}
 use Rattle.world_base.specs.Letters.{client, target}
 use Rattle.run_actors.proofs.actors.Actors.due.Goals as goal
 use Rattle.run_actors.proofs.actors.Actors.due.Goals.{then-is_client_due+in_ok-push, else-is_client_due, then-is_target_due+in_ok-push-2, else-is_target_due}

@@ -1,6 +1,6 @@
 use Rattle.std.specs.Prelude.{length}
 use Rattle.run_actors.specs.Due.{AreDue, first_targets}
-use Rattle.run_picks.specs.Picks.{numbered}
+use Rattle.run_base.specs.Picks.{numbered}
 use Rattle.world_base.specs.Letters.{client}
 use Rattle.run_actors.proofs.actors.Actors.due.Given as goal
 

@@ -1,8 +1,8 @@
 use Rattle.std.proofs.Common.{◌∙◌, ap}
-use Rattle.daos_laws.specs.Lists.{at-index}
+use Rattle.model_laws.specs.Lists.{at-index}
 use Rattle.run_actors.specs.Shown.{target-due-shown, target-there}
 use Rattle.run_actors.proofs.Dues.{idle-due}
-use Rattle.run_picks.specs.Picks.{count_to}
+use Rattle.run_base.specs.Picks.{count_to}
 use Rattle.world_base.specs.Letters.{target}
 use Rattle.world_base.specs.Idle.{has_idle}
 use Rattle.run_actors.proofs.actors.Actors.is_target_due.Goals as goal

@@ -1,7 +1,7 @@
 use Rattle.std.specs.Prelude.{Err, Ok, refl}
 use Rattle.std.proofs.Common.{◌≡◌, ◌∙◌, ap, rules, subst, sym}
-use Rattle.daos_laws.specs.Lists.{at-index}
-use Rattle.run_letters.specs.Letters.{IsPicked}
+use Rattle.model_laws.specs.Lists.{at-index}
+use Rattle.run_base.specs.Letters.{IsPicked}
 use Rattle.run_actors.specs.Shown.{target-there}
 use Rattle.run_actors.specs.StoreLaws.{run-stopped, run-whole}
 use Rattle.run_actors.proofs.Dues.{none-heard}
@@ -9,7 +9,7 @@ use Rattle.run_actors.proofs.Follow.{followed}
 use Rattle.run_actors.proofs.Going.{keeps-going, rest-in-form, target-on}
 use Rattle.run_actors.proofs.Hearing.{hearable}
 use Rattle.run_actors.proofs.Turns.{target-hears, target-idles}
-use Rattle.run_picks.specs.Picks.{count_to}
+use Rattle.run_base.specs.Picks.{count_to}
 use Rattle.target_parts.specs.Parts.{Runs, kept}
 use Rattle.target_parts.specs.Running.{still_runs}
 use Rattle.target_parts.specs.Stops.{stop_memory, stop_store}

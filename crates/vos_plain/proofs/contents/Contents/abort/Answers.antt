@@ -6,7 +6,7 @@ use Rattle.daos_model.specs.FormLaws.{settled-in_form}
 use Rattle.vos_plain.specs.Contents.{contents_of}
 use Rattle.vos_plain.specs.Costs.{versions_blocks}
 use Rattle.vos_plain.proofs.Kept.{aborted_is, fewer, fewer_entries}
-use Rattle.daos_base.specs.declared.entry.Settle.TheVariants.{Abort}
+use Rattle.base_types.specs.declared.entry.Settle.TheVariants.{Abort}
 use Rattle.vos_plain.proofs.contents.Contents.abort.Goals as goal
 
 pub invariant_of-self-clause-formed : goal.invariant_of-self-clause-formed

@@ -4,7 +4,7 @@ use Rattle.daos_model.specs.Durables.{IsInForm}
 use Rattle.daos_model.specs.FormLaws.{settled-in_form}
 use Rattle.vos_plain.specs.Contents.{contents_of}
 use Rattle.vos_plain.proofs.Kept.{confirmed_is, same_entries}
-use Rattle.daos_base.specs.declared.entry.Settle.TheVariants.{Confirm}
+use Rattle.base_types.specs.declared.entry.Settle.TheVariants.{Confirm}
 use Rattle.vos_plain.proofs.contents.Contents.confirm.Goals as goal
 
 pub invariant_of-self-clause-formed : goal.invariant_of-self-clause-formed

@@ -1,5 +1,5 @@
 use Rattle.std.proofs.Common.{ap, ◌∙◌}
-use Rattle.daos_base.specs.declared.operation.Read.TheVariants.{Extent}
+use Rattle.base_types.specs.declared.operation.Read.TheVariants.{Extent}
 use Rattle.world_same.proofs.Parts.{by_parts}
 use Rattle.world_same.proofs.operations.ReadSame.is_same.Goals as goal
 

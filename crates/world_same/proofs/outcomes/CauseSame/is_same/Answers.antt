@@ -1,5 +1,5 @@
 use Rattle.std.proofs.Common.{ap, ◌∙◌}
-use Rattle.daos_base.specs.declared.outcome.Cause.TheVariants.{ReadLater, WriteLater}
+use Rattle.base_types.specs.declared.outcome.Cause.TheVariants.{ReadLater, WriteLater}
 use Rattle.world_same.proofs.Parts.{by_parts}
 use Rattle.world_same.proofs.outcomes.CauseSame.is_same.Goals as goal
 

@@ -1,0 +1,51 @@
+// Which paths lead to which.
+use base_types::id::{Class, ContId, ObjId};
+use base_types::key::Key;
+use base_types::path::{Level, Path};
+use std::alloc::Global;
+use std::test::Fail;
+
+fn path(alloc: Global, number: u64, keys: &[&[u8]]) -> Result<Path, Fail> {
+    let mut path = Path {
+        cont: ContId(1),
+        obj: Some(ObjId {
+            class: Class::S1,
+            number,
+        }),
+        dkey: None,
+        akey: None,
+    };
+    if let Some(dkey) = keys.first() {
+        path.dkey = Some(Key::new(alloc, dkey)?);
+    }
+    if let Some(akey) = keys.get(1) {
+        path.akey = Some(Key::new(alloc, akey)?);
+    }
+    Ok(path)
+}
+
+#[test]
+fn a_prefix_leads_to_what_goes_on(rt: HostRuntime) -> Result<(), Fail> {
+    let alloc = rt.alloc();
+    let object = path(alloc, 0, &[])?;
+    let dkey = path(alloc, 0, &[b"d"])?;
+    let akey = path(alloc, 0, &[b"d", b"a"])?;
+    let beside = path(alloc, 0, &[b"e", b"a"])?;
+    let other = path(alloc, 1, &[b"d", b"a"])?;
+    assert_eq!(rt; akey.level(), Level::Akey);
+    assert_eq!(rt; object.level(), Level::Obj);
+    let table = [
+        (&object, &akey, true, true, false),
+        (&dkey, &akey, true, true, false),
+        (&akey, &dkey, false, true, false),
+        (&akey, &akey, true, true, true),
+        (&dkey, &beside, false, false, false),
+        (&object, &other, false, false, false),
+    ];
+    for (one, two, leads, overlaps, same) in table {
+        assert_eq!(rt; one.leads_to(two), leads, "{one:?} {two:?}");
+        assert_eq!(rt; one.overlaps(two), overlaps, "{one:?} {two:?}");
+        assert_eq!(rt; one.same(two), same, "{one:?} {two:?}");
+    }
+    Ok(())
+}

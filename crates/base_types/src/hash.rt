@@ -1,0 +1,28 @@
+// The 64-bit hash FNV-1a.
+ghost use Rattle.std.specs.Prelude.{◌≡◌};
+ghost use Rattle.base_types.specs.Hash.{fnv1a, hash_on, hash_start};
+
+/// The hash of no bytes.
+pub(crate) const START: u64 = 14695981039346656037;
+
+/// What the hash is multiplied by at each byte.
+const PRIME: u64 = 1099511628211;
+
+// The hash with these bytes more.
+pub(crate) fn hash_on(start: u64, bytes: &[u8]) -> u64
+    ensures { result ≡ hash_on start bytes.now }
+{
+    let mut hash = start;
+    for byte in bytes {
+        hash = (hash ^ u64::from(*byte)).wrapping_mul(PRIME);
+    }
+    hash
+}
+
+/// The 64-bit FNV-1a hash of bytes.
+#[tactic(auto, unfolding(crate::specs::Hash::fnv1a))]
+pub fn fnv1a(bytes: &[u8]) -> u64
+    ensures { result ≡ fnv1a bytes.now }
+{
+    hash_on(START, bytes)
+}

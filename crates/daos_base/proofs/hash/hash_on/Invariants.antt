@@ -1,6 +1,0 @@
-use Rattle.std.proofs.Common.{◌≡◌, drop}
-use Rattle.daos_base.specs.Hash.{hash_on}
-use Rattle.daos_base.proofs.hash.hash_on.Given as goal
-
-abbrev pub invariant-loop-byte : goal.invariant-loop-byte
-invariant-loop-byte l = hash_on l.hash (drop l.byte-index l.bytes) ≡ hash_on l.start l.bytes

@@ -1,6 +1,0 @@
-use Rattle.daos_gen_keys.proofs.Keys.{script-keys}
-use Rattle.daos_gen_keys.proofs.Runs.{script-is-run}
-use Rattle.daos_gen_keys.proofs.laws_of_loads.Goals as goal
-
-pub returns : goal.returns
-returns c = record { keys = script-keys; run = script-is-run }

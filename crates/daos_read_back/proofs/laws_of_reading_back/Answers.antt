@@ -1,8 +1,0 @@
-use Rattle.daos_read_back.proofs.Reports.{for-script}
-use Rattle.daos_read_back.proofs.laws_of_reading_back.Goals as goal
-
-pub returns : goal.returns
-returns c = record {
-  for_script = λ g o resolved q some form legal told. for-script g o resolved q some form legal told;
-  back = λ g o resolved q some form legal told. c.reads_texts.ensures.back g.script q (for-script g o resolved q some form legal told);
-}

@@ -1,6 +1,0 @@
-use Rattle.std.proofs.Common.{◌≡◌, ◌++◌, drop, map}
-use Rattle.daos_report_fits.specs.Marks.{mark_of}
-use Rattle.daos_report_fits.proofs.marks.op_marks.Given as goal
-
-abbrev pub invariant-loop-op : goal.invariant-loop-op
-invariant-loop-op l = l.marks ++ map mark_of (drop l.op-index l.ops) ≡ map mark_of l.ops

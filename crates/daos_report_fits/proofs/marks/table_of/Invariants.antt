@@ -1,7 +1,0 @@
-use Rattle.std.proofs.Common.{◌≡◌, ◌++◌, drop, map}
-use Rattle.std.specs.List.{filter_map}
-use Rattle.daos_report_fits.specs.Marks.{marks_of}
-use Rattle.daos_report_fits.proofs.marks.table_of.Given as goal
-
-abbrev pub invariant-loop-commands : goal.invariant-loop-commands
-invariant-loop-commands l = l.table ++ map (filter_map marks_of) (drop l.commands-index l.commands-items) ≡ map (filter_map marks_of) l.commands-items

@@ -1,9 +1,0 @@
-use Rattle.std.proofs.Common.{◌≡◌, [], length}
-use Rattle.daos_report_words.specs.Answers.{hex_of}
-use Rattle.daos_report_words.proofs.answers.hex_of.Given as goal
-
-abbrev pub invariant-loop-high : goal.invariant-loop-high
-invariant-loop-high l = hex_of l.bytes l.rest ≡ hex_of [] l.digits
-
-abbrev pub decreases-loop-high : goal.decreases-loop-high
-decreases-loop-high l = length l.rest

@@ -1,6 +1,0 @@
-use Rattle.std.proofs.Common.{◌≡◌, drop}
-use Rattle.daos_report_words.specs.Names.{cont_of}
-use Rattle.daos_report_words.proofs.names.cont_of.Given as goal
-
-abbrev pub invariant-loop-decl : goal.invariant-loop-decl
-invariant-loop-decl l = cont_of (drop l.decl-index l.decls) l.name ≡ cont_of l.decls l.name

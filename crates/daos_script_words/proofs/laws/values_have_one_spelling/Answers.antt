@@ -1,5 +1,0 @@
-use Rattle.daos_script_words.proofs.Spellings.{values_have_one_spelling}
-use Rattle.daos_script_words.proofs.laws.values_have_one_spelling.Goals as goal
-
-pub returns : goal.returns
-returns c = values_have_one_spelling

@@ -1,6 +1,0 @@
-use Rattle.std.proofs.Common.{◌≡◌, ◌≤◌, drop}
-use Rattle.daos_text.specs.Number.{number_from}
-use Rattle.daos_text.proofs.number.number_from.Given as goal
-
-abbrev pub invariant-loop-byte : goal.invariant-loop-byte
-invariant-loop-byte l = (number_from l.most l.value (drop l.byte-index l.word) ≡ number_from l.most 0 l.word) × (l.value ≤ l.most)

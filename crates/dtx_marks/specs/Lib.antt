@@ -1,2 +1,0 @@
--- What a leader owes.
-pub mod Due

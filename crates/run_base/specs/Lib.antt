@@ -1,0 +1,9 @@
+pub mod Letters
+pub mod OrderLaws
+pub mod Orders
+pub mod Picked
+pub mod Picks
+pub mod Quiet
+
+-- Letters to an actor, and what lies between actors.
+-- The order of turns.

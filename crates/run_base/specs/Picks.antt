@@ -1,0 +1,81 @@
+-- Which actors have something to do, and what a turn of an actor is.
+use Rattle.std.specs.Prelude.{ℕ, zero, suc, ◌≡◌, ◌++◌, Bool, false, ◌||◌, not, nat_lt, List, [], ◌∷◌, filter, length, slice_get, Option, Some, None, if◌then◌else◌}
+use Rattle.base_messages.specs.declared.actor.ActorId.{ActorId}
+use Rattle.run_base.specs.Letters.{IsPicked, letters_to}
+use Rattle.world_base.specs.declared.client.ClientPlan.{ClientPlan}
+use Rattle.world_base.specs.declared.client.ClientState.{ClientState}
+use Rattle.world_base.specs.declared.letter.Letter.{Letter}
+use Rattle.world_base.specs.declared.target.TargetPlan.{TargetPlan}
+use Rattle.world_base.specs.declared.target.TargetState.{TargetState}
+use Rattle.world_base.specs.declared.world.World.{World}
+use Rattle.world_base.specs.ClientTurns.{is_done, waits}
+use Rattle.world_base.specs.Events.{ClientGoes, ClientHears, Rules, TargetHears, TargetIdles, client_plan, target_plan}
+use Rattle.world_base.specs.Letters.{client, target}
+use Rattle.world_base.specs.Idle.{has_idle}
+
+-- ---- actors
+
+-- the actors with numbers below n, in order
+abbrev pub numbered : (ℕ → ActorId) → ℕ → List ActorId
+numbered name zero = []
+numbered name (suc n) = numbered name n ++ name n ∷ []
+
+-- all actors, clients first
+abbrev pub actors : World → List ActorId
+actors w = numbered client (length w.clients) ++ numbered target (length w.targets)
+
+-- ---- letters
+
+-- how many letters are in flight to an actor
+abbrev pub count_to : ActorId → List Letter → ℕ
+count_to a letters = length (letters_to a letters)
+
+-- of how many a client hears one in its next turn: of none where it skips it
+abbrev pub heard_awake : ClientState → ℕ → ℕ
+heard_awake c count = if nat_lt 0 c.skip then 0 else count
+
+abbrev pub heard_by_client : ℕ → Option ClientState → ℕ
+heard_by_client count None = 0
+heard_by_client count (Some c) = heard_awake c count
+
+-- of how many letters in flight to it an actor hears one in its next turn
+abbrev pub heard : World → ActorId → ℕ
+heard w a = if a.client then heard_by_client (count_to a w.messages) (slice_get w.clients a.number) else count_to a w.messages
+
+-- ---- who has something to do
+
+-- a client has something to do: it skips, a letter is in flight to it, or it neither waits nor is done
+abbrev pub is_client_due : ClientPlan → ClientState → ℕ → Bool
+is_client_due p c count = nat_lt 0 c.skip || nat_lt 0 count || not (waits c || is_done p c)
+
+-- a target has something to do: a letter is in flight to it, or it has idle work, which isn't the same in the settling phase
+abbrev pub is_target_due : Bool → TargetPlan → TargetState → ℕ → Bool
+is_target_due settling t s count = nat_lt 0 count || has_idle settling t s.memory s.durable
+
+abbrev pub if_client_due : ClientPlan → ℕ → Option ClientState → Bool
+if_client_due p count None = false
+if_client_due p count (Some c) = is_client_due p c count
+
+abbrev pub if_target_due : Bool → TargetPlan → ℕ → Option TargetState → Bool
+if_target_due settling t count None = false
+if_target_due settling t count (Some s) = is_target_due settling t s count
+
+-- an actor has something to do, in the settling phase or before it
+abbrev pub is_due : Bool → Rules → World → ActorId → Bool
+is_due settling r w a =
+    if a.client then if_client_due (client_plan r a.number) (count_to a w.messages) (slice_get w.clients a.number)
+    else if_target_due settling (target_plan r a.number) (count_to a w.messages) (slice_get w.targets a.number)
+
+-- the actors that have something to do, clients first, each kind in order of number
+abbrev pub due : Bool → Rules → World → List ActorId
+due settling r w = filter (is_due settling r w) (actors w)
+
+-- ---- turns
+
+-- A turn of an actor, from one world to the next. Where it hears a letter in it, that is the one of number k, from 0 and in order of
+-- sending, among those in flight to it; where it hears none, a client goes on or counts a skip, and a target does its idle work.
+pub data TurnOf (settling : Bool) (r : Rules) (a : ActorId) (k : ℕ) (w v : World) : Type 0 where
+  Going : (g : ClientGoes r w v) → a ≡ client g.n → heard w a ≡ 0 → TurnOf settling r a k w v
+  Hearing : (g : ClientHears r w v) → a ≡ client g.n → IsPicked w.messages a k g.l g.rest → TurnOf settling r a k w v
+  Serving : (g : TargetHears r w v) → a ≡ target g.t → IsPicked w.messages a k g.l g.rest → TurnOf settling r a k w v
+  Idling : (g : TargetIdles r w v) → g.settling ≡ settling → a ≡ target g.t → heard w a ≡ 0 → TurnOf settling r a k w v

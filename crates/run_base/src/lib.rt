@@ -1,0 +1,6 @@
+// What lies between actors: messages in flight, issued epochs and lines; and which actor has the next turn.
+#![tactic(auto)]
+
+pub mod between;
+pub mod lines;
+pub mod schedule;

@@ -1,2 +1,0 @@
--- Letters to an actor, and what lies between actors.
-pub mod Letters

@@ -1,4 +1,0 @@
-use Rattle.target_rows.proofs.overtaken.mark_before_prepare.Goals as goal
-
-pub hear_mark-requires-clause-new : goal.hear_mark-requires-clause-new
-hear_mark-requires-clause-new g c d at = record { here = c.in_ok-target.ensures.here d at; blank = c.in_ok-target.ensures.blank d at }

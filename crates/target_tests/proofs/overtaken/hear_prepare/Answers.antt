@@ -1,0 +1,22 @@
+use Rattle.std.proofs.Common.{subst, sym}
+use Rattle.std.specs.Option.{ForSome}
+use Rattle.target_core.specs.Targets.{CanHear, HasForm}
+use Rattle.target_parts.specs.Running.{for_some_on}
+use Rattle.target_tests.specs.Overtaken.{second}
+use Rattle.target_tests.specs.Rows.{IsHere}
+use Rattle.target_tests.proofs.Overtaking.{can_prepare, prepare_in_form, prepare_turn}
+use Rattle.target_tests.proofs.overtaken.hear_prepare.Goals as goal
+
+pub hear-requires-clause-form : goal.hear-requires-clause-form
+hear-requires-clause-form g c =
+    subst (λ t. HasForm t c.in_ok-message.message) (sym c.requires.plan) (subst (HasForm second) (sym c.in_ok-message.ensures) prepare_in_form)
+
+pub hear-requires-clause-here : goal.hear-requires-clause-here
+hear-requires-clause-here g c =
+    subst (λ t. ForSome (g.S.Store.durable c.args.target.now.store) (CanHear t c.in_ok-message.message)) (sym c.requires.plan)
+    (subst (λ x. ForSome (g.S.Store.durable c.args.target.now.store) (CanHear second x)) (sym c.in_ok-message.ensures) (λ d at. can_prepare d (c.requires.new d at)))
+
+pub returns-clause-here : goal.returns-clause-here
+returns-clause-here g c =
+    for_some_on (g.S.Store.durable c.args.target.now.store) _ IsHere c.in_ok-hear.ensures.runs.told
+    (λ d at. prepare_turn _ _ _ _ _ d (g.S.Store.state c.args.target.now.store) (g.S.Store.state c.hear.new.self.store) (g.S.Store.durable c.hear.new.self.store) (g.S.Store.may c.hear.new.self.store) _ _ c.in_ok-message.ensures (c.in_ok-hear.ensures.turn.2 d at) (c.requires.new d at))

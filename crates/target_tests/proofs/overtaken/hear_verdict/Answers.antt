@@ -1,0 +1,7 @@
+use Rattle.std.proofs.Common.{subst, sym}
+use Rattle.std.specs.Option.{ForSome}
+use Rattle.target_core.specs.Targets.{CanHear}
+use Rattle.target_tests.proofs.overtaken.hear_verdict.Goals as goal
+
+pub hear-requires-clause-here : goal.hear-requires-clause-here
+hear-requires-clause-here g c = subst (λ x. ForSome (g.S.Store.durable c.args.target.now.store) (CanHear c.args.target.now.plan x)) (sym c.verdict.ensures) (λ d at. tt)

@@ -1,0 +1,209 @@
+// A row over the second of two targets: a Mark overtakes the Prepare of its attempt.
+ghost use Rattle.std.specs.Prelude.{◌≡◌, ◌≤◌, IfOk, OnOk, false};
+ghost use Rattle.std.specs.Option.{ForSome};
+ghost use Rattle.target_tests.specs.Overtaken.{IsNew, akey, entry, fetch, mark, prepare, reader, second, verdict, writer};
+ghost use Rattle.target_tests.specs.Rows.{IsHere, IsNeverUsed};
+
+use crate::steps::{StepNo, start_at};
+use base_types::entry::{Entry, Verdict};
+use base_types::epoch::Epoch;
+use base_types::id::{AttemptId, Class, ContId, ObjId};
+use base_types::items::{Items, bytes_of};
+use base_types::key::{Key, KeyNo};
+use base_types::operation::{MinorWrite, Read, Write};
+use base_types::path::Path;
+use base_messages::actor::ActorId;
+use base_messages::message::Message;
+use daos_outside::clock::Clock;
+use std::alloc::Global;
+use target_core::target::Target;
+use vos_store::store::Store;
+use world_base::did::Did;
+
+/// What follows on the second of two targets, turn by turn: of a Mark that tells of an attempt that it is
+/// aborted, of the Prepare of that attempt, of a read where it writes, and of the Verdict on it.
+#[derive(Drop)]
+pub struct Overtaken {
+    pub marked: Did,
+    pub prepared: Did,
+    pub parked: Did,
+    pub resolved: Did,
+}
+
+/// The attempt that writes, which the first target leads.
+pub fn writer() -> AttemptId
+    ensures { result ≡ writer }
+{
+    AttemptId {
+        client: 0,
+        command: 0,
+        attempt: 0,
+    }
+}
+
+/// The attempt that reads.
+pub fn reader() -> AttemptId
+    ensures { result ≡ reader }
+{
+    AttemptId {
+        client: 1,
+        command: 0,
+        attempt: 0,
+    }
+}
+
+// An akey under the dkey d of the object of class S1 and number 1, which the second of two targets has.
+fn akey(alloc: Global) -> Result<Path, KeyNo>
+    ensures { IfOk result (λ path. path ≡ akey) }
+{
+    Ok(Path {
+        cont: ContId(1),
+        obj: Some(ObjId {
+            class: Class::S1,
+            number: 1,
+        }),
+        dkey: Some(Key::new(alloc, b"d")?),
+        akey: Some(Key::new(alloc, b"a")?),
+    })
+}
+
+// The entry of the attempt that writes, of which both targets are members.
+fn entry() -> Entry
+    ensures { result ≡ entry }
+{
+    Entry {
+        attempt: writer(),
+        epoch: Epoch(256),
+        leader: 0,
+        members: 3,
+        confirmed: 0,
+        committed: false,
+    }
+}
+
+fn mark(alloc: Global) -> Result<Message, StepNo>
+    ensures { IfOk result (λ message. message ≡ mark) }
+{
+    let mut marks = Items::new(alloc);
+    marks.push((writer(), false))?;
+    Ok(Message::Mark { inc: 1, marks })
+}
+
+fn prepare(alloc: Global) -> Result<Message, StepNo>
+    ensures { IfOk result (λ message. message ≡ prepare) }
+{
+    let mut writes = Items::new(alloc);
+    writes.push(MinorWrite {
+        minor: 1,
+        write: Write::Single(akey(alloc)?, bytes_of(alloc, b"1")?),
+    })?;
+    Ok(Message::Prepare {
+        entry: entry(),
+        first: None,
+        writes,
+        inc: 1,
+    })
+}
+
+fn fetch(alloc: Global) -> Result<Message, StepNo>
+    ensures { IfOk result (λ message. message ≡ fetch) }
+{
+    Ok(Message::Fetch {
+        attempt: reader(),
+        op: 0,
+        group: 0,
+        ep: None,
+        first: None,
+        tracker: Epoch(0),
+        read: Read::Single(akey(alloc)?),
+        snapshot: false,
+    })
+}
+
+fn verdict() -> Message
+    ensures { result ≡ verdict }
+{
+    Message::Verdict {
+        attempt: writer(),
+        ask: Some(reader()),
+        inc: 1,
+        verdict: Verdict::Aborted,
+    }
+}
+
+/// The first target.
+pub const LEADER: ActorId = ActorId {
+    client: false,
+    number: 0,
+};
+
+/// The client that reads.
+pub const READER: ActorId = ActorId {
+    client: true,
+    number: 1,
+};
+
+// The second target hears the Mark before anything else: nothing is written after it.
+fn hear_mark<S: Store, C: Clock>(alloc: Global, target: &mut Target<S, C>) -> Result<Did, StepNo>
+    requires plan { target.old.plan ≡ second }
+    requires runs { (S.state target.old.store).stopped ≡ false }
+    requires new { ForSome (S.durable target.old.store) IsNew }
+    ensures plan { OnOk result (target.new.plan ≡ second) }
+    ensures runs { OnOk result ((S.state target.new.store).stopped ≡ false) }
+    ensures new { OnOk result (ForSome (S.durable target.new.store) IsNew) }
+{
+    let message = mark(alloc)?;
+    Ok(target.hear(LEADER, message, None)?)
+}
+
+// It hears the Prepare.
+fn hear_prepare<S: Store, C: Clock>(alloc: Global, target: &mut Target<S, C>) -> Result<Did, StepNo>
+    requires plan { target.old.plan ≡ second }
+    requires runs { (S.state target.old.store).stopped ≡ false }
+    requires new { ForSome (S.durable target.old.store) IsNew }
+    ensures runs { OnOk result ((S.state target.new.store).stopped ≡ false) }
+    ensures here { OnOk result (ForSome (S.durable target.new.store) IsHere) }
+{
+    let message = prepare(alloc)?;
+    Ok(target.hear(LEADER, message, None)?)
+}
+
+// It hears the read.
+fn hear_fetch<S: Store, C: Clock>(alloc: Global, target: &mut Target<S, C>) -> Result<Did, StepNo>
+    requires runs { (S.state target.old.store).stopped ≡ false }
+    requires here { ForSome (S.durable target.old.store) IsHere }
+    ensures runs { OnOk result ((S.state target.new.store).stopped ≡ false) }
+{
+    let message = fetch(alloc)?;
+    Ok(target.hear(READER, message, None)?)
+}
+
+// It hears the Verdict.
+fn hear_verdict<S: Store, C: Clock>(target: &mut Target<S, C>) -> Result<Did, StepNo>
+    requires runs { (S.state target.old.store).stopped ≡ false }
+{
+    Ok(target.hear(LEADER, verdict(), None)?)
+}
+
+/// The first target marks an attempt as aborted, and its Prepare comes after that; client 1 reads where
+/// it writes, and the first target answers that it is aborted.
+pub fn mark_before_prepare<S: Store + Drop, C: Clock + Drop>(
+    alloc: Global,
+    store: S,
+    clock: C,
+) -> Result<Overtaken, StepNo>
+    requires made { 2 ≤ (S.state store).targets }
+    requires new { IsNeverUsed (S.state store) (S.durable store) }
+{
+    let mut target = start_at(alloc, 1, 2, store, clock)?;
+    let marked = hear_mark(alloc, &mut target)?;
+    let prepared = hear_prepare(alloc, &mut target)?;
+    let parked = hear_fetch(alloc, &mut target)?;
+    let resolved = hear_verdict(&mut target)?;
+    Ok(Overtaken {
+        marked,
+        prepared,
+        parked,
+        resolved,
+    })
+}
