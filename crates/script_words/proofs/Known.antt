@@ -1,5 +1,5 @@
 -- What a name stands for was declared by that name.
-use Rattle.std.proofs.Common.{◌≡◌, ℕ, ◌+◌, true, false, Bool, cond, List, [], ◌∷◌, ◌++◌, map, Option, Some, None, refl, sym, ap, subst, ◌∙◌, All, Any, arith, add-one}
+use Rattle.std.proofs.Common.{◌≡◌, ℕ, ◌+◌, true, false, Bool, cond, is_none, List, [], ◌∷◌, ◌++◌, map, Option, Some, None, refl, sym, ap, subst, ◌∙◌, All, Any, arith, add-one}
 use Rattle.std.specs.Prelude.{IfSome}
 use Rattle.std.specs.Str.{bytes_eq}
 use Rattle.std.proofs.lemmas.List.{map-append}
@@ -77,3 +77,12 @@ module _ (objs : List ObjDecl) (name : List ℕ) (h : All HasUnit objs) where
 pub old_is_known : (olds : List OldDecl) (name : List ℕ) (cont : ContId) → old_named olds name ≡ Some cont → Any (λ x. x ≡ (name, cont)) (map name_of_old olds)
 unfolding old_named
 old_is_known olds name cont e = entry_named (map name_of_old olds) name cont e
+
+-- a snapshot of an earlier run has the name that is found
+pub old_is_named : (olds : List OldDecl) (name : List ℕ) → is_none (old_named olds name) ≡ false → Any (λ d. d.name ≡ name) olds
+unfolding old_named
+old_is_named olds name e = go (named (map name_of_old olds) name) refl e
+  where
+    go : (o : Option ContId) → named (map name_of_old olds) name ≡ o → is_none o ≡ false → Any (λ d. d.name ≡ name) olds
+    go None r e = absurd cc
+    go (Some cont) r e = any_map (λ d. name_of_old d ≡ (name, cont)) (λ d. d.name ≡ name) olds (λ d same. ap (λ (p : List ℕ × ContId). p.0) same) (named_any name_of_old name olds cont r)
