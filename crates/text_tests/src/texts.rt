@@ -17,11 +17,13 @@ const CONT: ContId = ContId(1);
 const OBJ: ObjId = ObjId {
     class: Class::S1,
     number: 0,
+    unit: 1,
 };
 
 const OTHER: ObjId = ObjId {
     class: Class::S1,
     number: 1,
+    unit: 1,
 };
 
 fn obj_decl(alloc: Global, name: &[u8], id: ObjId) -> Result<ObjDecl, Fail> {
@@ -47,6 +49,7 @@ fn script(alloc: Global) -> Result<Script, Fail> {
         conts,
         objs,
         olds: Items::new(alloc),
+        drops: Items::new(alloc),
         stops: Items::new(alloc),
         clients: Items::new(alloc),
     })
