@@ -38,7 +38,7 @@ same_object-Decides a b =
     (λ e. ((ap (λ o. class_number o.class) e, ap (λ o. o.number) e), ap (λ o. o.unit) e))
     (Decides-and _ _ (Decides-and _ _ (Decides-eqb (class_number a.class) (class_number b.class)) (Decides-eqb a.number b.number)) (Decides-eqb a.unit b.unit))
 
-option_eq-Decides : {T : Type 0} (same : T → T → Bool) → ((a b : T) → Decides (same a b) (a ≡ b)) → (x y : Option T) → Decides (option_eq same x y) (x ≡ y)
+pub option_eq-Decides : {T : Type 0} (same : T → T → Bool) → ((a b : T) → Decides (same a b) (a ≡ b)) → (x y : Option T) → Decides (option_eq same x y) (x ≡ y)
 option_eq-Decides same each None None = (λ h. refl, λ e. refl)
 option_eq-Decides same each None (Some b) = (λ h. cc, λ e. cc)
 option_eq-Decides same each (Some a) None = (λ h. cc, λ e. cc)

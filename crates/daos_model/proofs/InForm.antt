@@ -1,12 +1,13 @@
 -- What the form of a write says of its bytes.
-use Rattle.std.proofs.Common.{◌≡◌, ℕ, ◌+◌, ◌≤◌, ◌^◌, true, ◌&&◌, List, length, arith}
-use Rattle.std.specs.Prelude.{nat_le, nat_lt}
+use Rattle.std.proofs.Common.{◌≡◌, ℕ, ◌+◌, ◌/◌, ◌%◌, ◌≤◌, ◌^◌, true, ◌&&◌, List, length, arith}
+use Rattle.std.specs.Prelude.{◌==◌, nat_le, nat_lt}
 use Rattle.std.proofs.lemmas.Bool.Decides.{nat_tests}
 use Rattle.base_types.specs.declared.operation.Write.{Write}
 use Rattle.base_types.specs.declared.operation.Write.TheVariants.{Single, Extent, PunchObject, PunchDkey, PunchAkey}
 use Rattle.base_types.specs.declared.path.Path.{Path}
+use Rattle.base_types.specs.Paths.{record_size}
 use Rattle.daos_model.specs.Effect.{EndsInArray}
-use Rattle.daos_model.specs.Forms.{ends_at_akey, is_length, is_write_in_form}
+use Rattle.daos_model.specs.Forms.{ends_at_akey, fits_array, fits_records, is_length, is_unit, is_write_in_form}
 use Rattle.daos_model.specs.BoolLaws.{and_left, and_right}
 
 length_within : (n : ℕ) → is_length n ≡ true → n ≤ 1024
@@ -25,7 +26,10 @@ pub ends_in_array : (w : Write) → is_write_in_form w ≡ true → EndsInArray 
 unfolding is_write_in_form
 ends_in_array (Single p bytes) h = tt
 ends_in_array (Extent p low bytes) h =
-    let e : fits_records (record_size p) low (length bytes) ≡ true = and_right (ends_at_akey p && is_length (length bytes)) (fits_records (record_size p) low (length bytes)) h in
+    let size : ℕ = record_size p in
+    let fits : fits_records size low (length bytes) ≡ true = and_right (ends_at_akey p && is_length (length bytes)) (fits_records size low (length bytes)) h in
+    let array : fits_array size low (length bytes / size) ≡ true = and_right (length bytes % size == 0) (fits_array size low (length bytes / size)) fits in
+    let e : nat_lt (low + length bytes / size) (2 ^ 32) ≡ true = and_right (is_unit size) (nat_lt (low + length bytes / size) (2 ^ 32)) array in
     grind (arith, nat_tests)
 ends_in_array (PunchObject p) h = tt
 ends_in_array (PunchDkey p) h = tt

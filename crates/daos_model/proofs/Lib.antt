@@ -1,5 +1,6 @@
 pub mod Punched
 pub mod Lookups
+pub mod RecordSteps
 pub mod TurnSteps
 pub mod NameOrder
 pub mod PieceSteps

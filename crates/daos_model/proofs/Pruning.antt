@@ -6,14 +6,14 @@ use Rattle.base_types.specs.declared.operation.Write.{Write}
 use Rattle.base_types.specs.declared.operation.Write.TheVariants.{Single, Extent, PunchObject, PunchDkey, PunchAkey}
 use Rattle.base_types.specs.declared.path.Path.{Path}
 use Rattle.base_types.specs.Operations.{write_path}
-use Rattle.base_types.specs.Paths.{leads_to}
+use Rattle.base_types.specs.Paths.{leads_to, record_size}
 use Rattle.daos_model.specs.declared.cell.Cell.{Cell}
 use Rattle.daos_model.specs.declared.durable.Version.{Version}
 use Rattle.daos_model.specs.Answers.{is_before}
 use Rattle.daos_model.specs.BoolLaws.{and_left, and_right, clash, not_true, or_left, or_right}
 use Rattle.daos_model.specs.Cells.{is_of, same_cell, value_at}
 use Rattle.daos_model.specs.Durables.{version_key}
-use Rattle.daos_model.specs.Effect.{extent_cells}
+use Rattle.daos_model.specs.Effect.{record_cells, records_of}
 use Rattle.daos_model.specs.OrderLaws.{before-itself}
 use Rattle.daos_model.specs.Ordered.{all_from, is_in_order}
 use Rattle.daos_model.specs.Prunes.{is_punch, touches, values_of}
@@ -124,12 +124,12 @@ later_any t (f ∷ front) v back o above e =
 
 -- ---- cells of updates
 
-extent_path : (c : Cell) (p : Path) (low : ℕ) (bytes : List ℕ) → list_any (is_of c) (extent_cells p low bytes) ≡ true → c.path ≡ p
-extent_path c p low [] h = absurd (let n : ⊥ = cc in n)
-extent_path c p low (b ∷ bytes) h =
-    elim (same_cell (record { path = p; index = Some low }) c) as (λ t. same_cell (record { path = p; index = Some low }) c ≡ t → (t || list_any (is_of c) (extent_cells p (low + 1) bytes)) ≡ true → c.path ≡ p) [
+record_path : (c : Cell) (p : Path) (low : ℕ) (rs : List (List ℕ)) → list_any (is_of c) (record_cells p low rs) ≡ true → c.path ≡ p
+record_path c p low [] h = absurd (let n : ⊥ = cc in n)
+record_path c p low (r ∷ rs) h =
+    elim (same_cell (record { path = p; index = Some low }) c) as (λ t. same_cell (record { path = p; index = Some low }) c ≡ t → (t || list_any (is_of c) (record_cells p (low + 1) rs)) ≡ true → c.path ≡ p) [
       | true ↦ λ is k. sym (ap (λ (z : Cell). z.path) ((same_cell-Decides (record { path = p; index = Some low }) c).0 is))
-      | false ↦ λ is k. extent_path c p (low + 1) bytes k
+      | false ↦ λ is k. record_path c p (low + 1) rs k
     ] refl h
 
 update_path : (c : Cell) (w : Write) → is_punch w ≡ false → touches c w ≡ true → c.path ≡ write_path w
@@ -139,7 +139,7 @@ update_path c (Single p b) k h =
       | true ↦ λ is e. sym (ap (λ (z : Cell). z.path) ((same_cell-Decides (record { path = p; index = None }) c).0 is))
       | false ↦ λ is e. absurd (let n : ⊥ = cc in n)
     ] refl h
-update_path c (Extent p low b) k h = extent_path c p low b h
+update_path c (Extent p low b) k h = record_path c p low (records_of (record_size p) b) h
 update_path c (PunchObject p) k h = absurd (let n : ⊥ = cc in n)
 update_path c (PunchDkey p) k h = absurd (let n : ⊥ = cc in n)
 update_path c (PunchAkey p) k h = absurd (let n : ⊥ = cc in n)

@@ -17,10 +17,10 @@ use Rattle.daos_model.specs.declared.durable.Version.{Version}
 use Rattle.daos_model.specs.Forms.{is_write_in_form}
 use Rattle.daos_model.specs.Ordered.{is_in_order, is_rising}
 
--- an object in the order of objects: its container, and then its class and its number
+-- an object in the order of objects: its container, and then its class, its number and its record size
 abbrev pub object_rest : Option ObjId → List ℕ
 object_rest None = []
-object_rest (Some o) = class_number o.class ∷ o.number ∷ []
+object_rest (Some o) = class_number o.class ∷ o.number ∷ o.unit ∷ []
 
 abbrev pub object_key : ContId → Option ObjId → List ℕ
 object_key c o = c.0 ∷ object_rest o

@@ -49,7 +49,7 @@ effect (PunchAkey p) m = without p m
 -- an extent of records ends within an array, whose indexes end at 2^32 - 1
 abbrev pub EndsInArray : Write → Type 0
 EndsInArray (Single p bytes) = Unit {0}
-EndsInArray (Extent p low bytes) = (0 < record_size p) × (low + length bytes / record_size p < 2 ^ 32)
+EndsInArray (Extent p low bytes) = low + length bytes / record_size p < 2 ^ 32
 EndsInArray (PunchObject p) = Unit {0}
 EndsInArray (PunchDkey p) = Unit {0}
 EndsInArray (PunchAkey p) = Unit {0}

@@ -17,7 +17,7 @@ use Rattle.daos_model.specs.Attempts.{is_unsure, tries}
 use Rattle.daos_model.specs.Cells.{value_at}
 use Rattle.daos_model.specs.Family.{Agree, greatest_lease, part_of, resolved, stand}
 use Rattle.daos_model.specs.Headline.{Headline}
-use Rattle.daos_model.specs.Opening.{Given, Opening, Outside, kept_map}
+use Rattle.daos_model.specs.Opening.{Given, Opening, Outside, kept, kept_map}
 use Rattle.daos_model.specs.Snapshots.{MakesSnapshotAt}
 use Rattle.daos_model.specs.TookEffect.{took}
 
@@ -59,9 +59,9 @@ pub record StandInTheEnd (g : Given) (F : List Durable) (q : Report) : Type 0 wh
   pub snaps : SnapsInTheEnd g.script g.opening.stand (took g.script (resolved F) q.lines) (tries q.lines) (stand F).snaps
   pub agree : Agree F
 
--- what a run begins with over targets of these durable states, with so many blocks free on each
-abbrev pub opening_of : List Durable → (ℕ → ℕ) → Opening
-opening_of B free = record { stand = stand B; lease = greatest_lease B; free = free }
+-- what a run of a script begins with over targets of these durable states, with so many blocks free on each
+abbrev pub opening_of : Script → List Durable → (ℕ → ℕ) → Opening
+opening_of s B free = record { stand = kept s (stand B); lease = greatest_lease B; free = free }
 
 -- the headline, for the durable states that the regions have in the end
 pub record HeadlineOver (g : Given) (o : Outside) (F : List Durable) (q : Report) : Type 0 where

@@ -26,6 +26,7 @@ pub mod OutcomesLegal
 pub mod CausesShown
 pub mod Headline
 pub mod Finals
+pub mod KeptLaws
 pub mod Kinds
 pub mod Turns
 pub mod Sameness

@@ -12,7 +12,7 @@ pub struct Cell {
     pub index: Option<u32>,
 }
 
-/// A cell and what it holds: the bytes of a single value, or the one byte of an index.
+/// A cell and what it holds: the bytes of a single value, or the record of an index.
 #[derive(Drop)]
 pub struct CellValue {
     pub cell: Cell,

@@ -12,4 +12,5 @@ pub mod map;
 mod names;
 mod pieces;
 pub mod prunes;
+pub mod records;
 pub mod stand;

@@ -1,11 +1,13 @@
-// The pieces of an array: its bytes and its holes.
-ghost use Rattle.std.specs.Prelude.{◌≡◌, ◌+◌, ◌^◌, ◌<◌, ◌++◌, length, reverse, IfOk, OnOk};
-ghost use Rattle.daos_model.specs.Answers.{pieces};
-ghost use Rattle.daos_model.specs.Pieces.{after_last, first_byte, hole_length, index_after, index_in, last_hole, lone_piece, pieces_of, window, with_index};
+// The pieces of an array: its records and its holes.
+ghost use Rattle.std.specs.Prelude.{◌≡◌, ◌+◌, ◌^◌, ◌<◌, ◌++◌, Some, length, reverse, IfOk, OnOk};
+ghost use Rattle.std.specs.Option.{option_copied};
+ghost use Rattle.daos_model.specs.Answers.{pieces, record_of};
+ghost use Rattle.daos_model.specs.Pieces.{after_last, hole_length, index_after, index_in, last_hole, lent, lone_piece, pieces_of, window, with_index};
 
 use crate::cell::CellValue;
+use crate::records::record_size;
 use base_types::answer::Piece;
-use base_types::items::{Memory, bytes_of};
+use base_types::items::{Items, Memory, Vec8};
 use base_types::path::Path;
 use std::alloc::Global;
 
@@ -20,106 +22,102 @@ fn index_in(path: &Path, value: &CellValue) -> Option<u32>
     }
 }
 
-// The first byte, if there is one.
-fn first_byte(bytes: &[u8]) -> Option<u8>
-    ensures { result ≡ first_byte bytes.now }
-{
-    bytes.first().copied()
-}
-
-// Sets the byte of an index, if there is one, among bytes by index from one on.
-fn set_index(bytes: &mut Vec<Option<u8>>, low: u32, index: Option<u32>, byte: Option<u8>)
-    ensures { bytes.new.items ≡ with_index index low byte bytes.old.items }
+// Sets what an index, if there is one, holds, among bytes by index from one on.
+fn set_index<'a>(held: &mut Vec<Option<&'a Vec8>>, low: u32, index: Option<u32>, bytes: &'a Vec8)
+    ensures { lent held.new.items ≡ with_index index low bytes.now (lent held.old.items) }
 {
     let Some(index) = index else {
         return;
     };
     if low <= index {
         let place = (index - low) as usize;
-        if place < bytes.len() {
-            bytes[place] = byte;
+        if place < held.len() {
+            held[place] = Some(bytes);
         }
     }
 }
 
-// The bytes of so many indexes of an akey's array, from one on.
-fn window(
+// What so many indexes of an akey's array hold, from one on.
+fn window<'a>(
     alloc: Global,
-    newest_last: &[CellValue],
+    newest_last: &'a [CellValue],
     path: &Path,
     low: u32,
     len: u32,
-) -> Result<Vec<Option<u8>>, Memory>
-    ensures { IfOk result (λ bytes. bytes.items ≡ window path.now low len (reverse newest_last.now)) }
+) -> Result<Vec<Option<&'a Vec8>>, Memory>
+    ensures { IfOk result (λ held. lent held.items ≡ window path.now low len (reverse newest_last.now)) }
 {
-    let mut bytes = vec![in alloc; None; len as usize]?;
+    let mut held = vec![in alloc; None; len as usize]?;
     for value in newest_last {
-        set_index(
-            &mut bytes,
-            low,
-            index_in(path, value),
-            first_byte(value.bytes.as_slice()),
-        );
+        set_index(&mut held, low, index_in(path, value), &value.bytes);
     }
-    Ok(bytes)
+    Ok(held)
+}
+
+// The record that bytes are, if they have its size.
+fn record_of(size: u8, bytes: Option<&Vec8>) -> Option<&Vec8>
+    ensures { option_copied result ≡ record_of size (option_copied bytes.entry) }
+{
+    bytes.filter(|bytes| bytes.len() == usize::from(size))
 }
 
 // The piece of one index.
-fn lone_piece(alloc: Global, byte: Option<u8>) -> Result<Piece, Memory>
-    ensures { IfOk result (λ piece. piece ≡ lone_piece byte) }
+fn lone_piece(held: Option<&Vec8>) -> Result<Piece, Memory>
+    ensures { IfOk result (λ piece. piece ≡ lone_piece (option_copied held.entry)) }
 {
-    match byte {
-        Some(byte) => Ok(Piece::Bytes(bytes_of(alloc, &[byte])?)),
+    match held {
+        Some(bytes) => Ok(Piece::Bytes(bytes.copy()?)),
         None => Ok(Piece::Hole(1)),
     }
 }
 
-// Adds the last piece again, and an index after it.
-fn add_after(
-    alloc: Global,
-    pieces: &mut Vec<Piece>,
-    last: Piece,
-    byte: Option<u8>,
-) -> Result<(), Memory>
-    requires { hole_length last + 1 < 2 ^ 32 }
-    ensures { OnOk result (pieces.new.items ≡ pieces.old.items ++ after_last last byte) }
+// Bytes, and a record after them.
+fn joined(bytes: Vec8, more: &Vec8) -> Result<Vec8, Memory>
+    ensures { IfOk result (λ all. all ≡ bytes ++ more.now) }
 {
-    match (last, byte) {
-        (Piece::Bytes(mut bytes), Some(byte)) => {
-            bytes.push(byte)?;
-            pieces.push(Piece::Bytes(bytes))?;
-        }
+    let mut bytes = bytes.into_vec();
+    bytes.extend_from_slice(more.as_slice())?;
+    Ok(Items::from_vec(bytes))
+}
+
+// Adds the last piece again, and an index after it.
+fn add_after(pieces: &mut Vec<Piece>, last: Piece, held: Option<&Vec8>) -> Result<(), Memory>
+    requires { hole_length last + 1 < 2 ^ 32 }
+    ensures { OnOk result (pieces.new.items ≡ pieces.old.items ++ after_last last (option_copied held.entry)) }
+{
+    match (last, held) {
+        (Piece::Bytes(bytes), Some(more)) => pieces.push(Piece::Bytes(joined(bytes, more)?))?,
         (Piece::Hole(len), None) => pieces.push(Piece::Hole(len + 1))?,
-        (last, byte) => {
+        (last, held) => {
             pieces.push(last)?;
-            pieces.push(lone_piece(alloc, byte)?)?;
+            pieces.push(lone_piece(held)?)?;
         }
     }
     Ok(())
 }
 
 // Adds an index to pieces.
-fn add_index(alloc: Global, pieces: &mut Vec<Piece>, byte: Option<u8>) -> Result<(), Memory>
+fn add_index(pieces: &mut Vec<Piece>, held: Option<&Vec8>) -> Result<(), Memory>
     requires { last_hole pieces.old.items + 1 < 2 ^ 32 }
-    ensures { OnOk result (pieces.new.items ≡ index_after pieces.old.items byte) }
+    ensures { OnOk result (pieces.new.items ≡ index_after pieces.old.items (option_copied held.entry)) }
 {
     match pieces.pop() {
-        Some(last) => add_after(alloc, pieces, last, byte),
+        Some(last) => add_after(pieces, last, held),
         None => {
-            pieces.push(lone_piece(alloc, byte)?)?;
+            pieces.push(lone_piece(held)?)?;
             Ok(())
         }
     }
 }
 
-// The pieces that bytes by index make.
-fn pieces_of(alloc: Global, bytes: &[Option<u8>]) -> Result<Vec<Piece>, Memory>
-    requires { length bytes.now < 2 ^ 32 }
-    ensures { IfOk result (λ pieces. pieces.items ≡ pieces_of bytes.now) }
+// The pieces that bytes by index make, of records of a size.
+fn pieces_of(alloc: Global, size: u8, held: &[Option<&Vec8>]) -> Result<Vec<Piece>, Memory>
+    requires { length held.now < 2 ^ 32 }
+    ensures { IfOk result (λ pieces. pieces.items ≡ pieces_of size (lent held.now)) }
 {
     let mut pieces = Vec::new(alloc);
-    for byte in bytes {
-        add_index(alloc, &mut pieces, *byte)?;
+    for bytes in held {
+        add_index(&mut pieces, record_of(size, *bytes))?;
     }
     Ok(pieces)
 }
@@ -134,6 +132,6 @@ pub(crate) fn pieces(
 ) -> Result<Vec<Piece>, Memory>
     ensures { IfOk result (λ made. made.items ≡ pieces path.now low len (reverse newest_last.now)) }
 {
-    let bytes = window(alloc, newest_last, path, low, len)?;
-    pieces_of(alloc, bytes.as_slice())
+    let held = window(alloc, newest_last, path, low, len)?;
+    pieces_of(alloc, record_size(path), held.as_slice())
 }

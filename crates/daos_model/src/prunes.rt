@@ -1,5 +1,5 @@
 // Which versions a prune removes.
-ghost use Rattle.std.specs.Prelude.{◌≡◌, ◌&&◌, is_none};
+ghost use Rattle.std.specs.Prelude.{◌≡◌, ◌&&◌, [], ◌∷◌, is_none};
 ghost use Rattle.std.specs.List.{list_any};
 ghost use Rattle.base_types.specs.Paths.{same_path};
 ghost use Rattle.daos_model.specs.Answers.{is_before};
@@ -10,11 +10,19 @@ ghost use Rattle.daos_model.specs.Prunes.{hides, is_going, is_hidden, is_idle, i
 ghost use Rattle.daos_model.specs.Versions.{sees};
 
 use crate::durable::Version;
+use crate::records::count_records;
 use base_types::epoch::Epoch;
 use base_types::id::{ContId, ObjId};
 use base_types::operation::Write;
 use base_types::path::Path;
 use base_types::snapshot::Snap;
+
+// Whether one object of a class stands before another.
+fn is_number_before(one: ObjId, other: ObjId) -> bool
+    ensures { result ≡ is_before (one.number ∷ one.unit ∷ []) (other.number ∷ other.unit ∷ []) }
+{
+    one.number < other.number || (one.number == other.number && one.unit < other.unit)
+}
 
 // Whether one object of a container stands before another; none stands before all.
 fn is_object_before(one: Option<ObjId>, other: Option<ObjId>) -> bool
@@ -23,7 +31,7 @@ fn is_object_before(one: Option<ObjId>, other: Option<ObjId>) -> bool
     match (one, other) {
         (Some(one), Some(other)) => {
             let (class, limit) = (one.class.number(), other.class.number());
-            class < limit || (class == limit && one.number < other.number)
+            class < limit || (class == limit && is_number_before(one, other))
         }
         (None, Some(_)) => true,
         _ => false,
@@ -97,7 +105,9 @@ pub fn touches(write: &Write, path: &Path, index: Option<u128>) -> bool
 {
     match write {
         Write::Single(at, _) => sets_single(at, path, index),
-        Write::Extent(at, low, bytes) => sets_index(at, *low, bytes.len(), path, index),
+        Write::Extent(at, low, bytes) => {
+            sets_index(at, *low, count_records(at, bytes.len()), path, index)
+        }
         Write::PunchObject(at) | Write::PunchDkey(at) | Write::PunchAkey(at) => at.leads_to(path),
     }
 }
@@ -125,7 +135,7 @@ fn is_hidden(
         .any(|one| hides(one, sight, version, path, index))
 }
 
-// Whether below a sight an index of an extent has its byte from this version.
+// Whether below a sight an index of an extent has its record from this version.
 fn is_any_shown(
     versions: &[Version],
     sight: u128,
@@ -136,7 +146,7 @@ fn is_any_shown(
 ) -> bool
     ensures { result ≡ list_any (is_shown versions.now sight version.now) (extent_cells path.now low bytes.now) }
 {
-    for i in 0..bytes.len() {
+    for i in 0..count_records(path, bytes.len()) {
         let index = u128::from(low) + i as u128;
         if !is_hidden(versions, sight, version, path, Some(index)) {
             return true;

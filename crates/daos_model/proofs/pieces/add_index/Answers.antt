@@ -1,5 +1,6 @@
 use Rattle.std.proofs.Common.{◌≡◌, List, ◌∙◌, ap, subst, sym, arith}
 use Rattle.std.specs.Prelude.{OnOk}
+use Rattle.std.specs.Option.{option_copied}
 use Rattle.base_types.specs.declared.answer.Piece.{Piece}
 use Rattle.daos_model.specs.Pieces.{hole_length, index_after, last_hole}
 use Rattle.daos_model.proofs.PieceSteps.{index_after-push, last_hole-push}
@@ -14,4 +15,4 @@ add_after-requires c =
 pub returns-in-Some : goal.returns-in-Some
 returns-in-Some c =
     let P : List Piece → Type 0 = λ ps. OnOk c.add_after.result (c.add_after.new.pieces.items ≡ ps) in
-    subst P (sym (ap (λ ps. index_after ps c.args.byte) c.in-Some.ensures.items ∙ index_after-push c.pop.new.self.items c.in-Some.last c.args.byte)) c.add_after.ensures
+    subst P (sym (ap (λ ps. index_after ps (option_copied c.args.held)) c.in-Some.ensures.items ∙ index_after-push c.pop.new.self.items c.in-Some.last (option_copied c.args.held))) c.add_after.ensures
