@@ -1,6 +1,6 @@
 -- The answer of a read on versions in form is of the kind that the read asks for.
-use Rattle.std.proofs.Common.{◌≡◌, ℕ, zero, suc, ◌+◌, ◌*◌, ◌/◌, ◌%◌, ◌^◌, ◌<◌, Bool, true, false, ◌&&◌, List, [], ◌∷◌, ◌++◌, Option, Some, None, length, refl, sym, ◌∙◌, ap, arith}
-use Rattle.std.specs.Prelude.{◌==◌, nat_eq, nat_le, nat_lt, filter, is_none, if◌then◌else◌}
+use Rattle.std.proofs.Common.{◌≡◌, ℕ, zero, suc, ◌+◌, ◌*◌, ◌/◌, ◌%◌, ◌<◌, Bool, true, false, ◌&&◌, List, [], ◌∷◌, ◌++◌, Option, Some, None, length, refl, sym, ◌∙◌, ap, arith}
+use Rattle.std.specs.Prelude.{◌==◌, nat_eq, nat_le, filter, is_none, if◌then◌else◌}
 use Rattle.std.specs.List.{list_all}
 use Rattle.std.specs.Option.{option_eq}
 use Rattle.std.proofs.lemmas.Bool.Decides.{nat_tests}
@@ -21,7 +21,8 @@ use Rattle.daos_model.specs.BoolLaws.{and_left, and_right, both}
 use Rattle.daos_model.specs.Cells.{index_cell, same_cell, single_cell, value_at}
 use Rattle.daos_model.specs.Durables.{is_version_in_form}
 use Rattle.daos_model.specs.Effect.{effect, effects, record_cells, records_of, without}
-use Rattle.daos_model.specs.Forms.{ends_at_akey, fits_array, is_length, is_read_in_form, is_unit, is_write_in_form}
+use Rattle.daos_model.specs.ExtentForms.{read-size}
+use Rattle.daos_model.specs.Forms.{ends_at_akey, is_length, is_read_in_form, is_write_in_form}
 use Rattle.daos_model.specs.Kinds.{are_joined, are_pieces, is_of_kind, is_piece, pieces_length}
 use Rattle.daos_model.specs.Versions.{map_below, sees, writes_in}
 
@@ -217,15 +218,6 @@ are_pieces-pieces p i n m some =
     (and_left (list_all (is_piece (record_size p)) (pieces p i n m)) (are_joined (pieces p i n m)) (good_pieces p i n m some)))
     (and_right (list_all (is_piece (record_size p)) (pieces p i n m)) (are_joined (pieces p i n m)) (good_pieces p i n m some))
 
--- records that are read in form have a size
-extent_size : (p : Path) (low len : ℕ) → is_read_in_form (read.Extent p low len) ≡ true → 0 < record_size p
-unfolding is_read_in_form
-extent_size p low len h =
-    let fits : fits_array (record_size p) low len ≡ true = and_right (ends_at_akey p && is_length (len * record_size p)) (fits_array (record_size p) low len) h in
-    let unit : is_unit (record_size p) ≡ true = and_left (is_unit (record_size p)) (nat_lt (low + len) (2 ^ 32)) fits in
-    let one : nat_le 1 (record_size p) ≡ true = and_left (nat_le 1 (record_size p)) (nat_le (record_size p) 64) unit in
-    grind (arith, nat_tests)
-
 yes_kind : (p : Path) (b : Bool) → is_of_kind (read.Exists p) (yes_or_no b) ≡ true
 unfolding is_of_kind
 yes_kind p true = refl
@@ -235,7 +227,7 @@ yes_kind p false = refl
 pub kind-answer : (r : Read) (vs : List Version) (e : ℕ) → is_read_in_form r ≡ true → list_all is_version_in_form vs ≡ true → is_of_kind r (answer r (map_below vs e)) ≡ true
 unfolding is_of_kind
 kind-answer (read.Single p) vs e k f = single_kind p (value_at (map_below vs e) (single_cell p)) (single_value (map_below vs e) p (map_values vs e f))
-kind-answer (read.Extent p low len) vs e k f = are_pieces-pieces p low len (map_below vs e) (extent_size p low len k)
+kind-answer (read.Extent p low len) vs e k f = are_pieces-pieces p low len (map_below vs e) (read-size p low len k)
 kind-answer (read.Dkeys p) vs e k f = refl
 kind-answer (read.Akeys p) vs e k f = refl
 kind-answer (read.Exists p) vs e k f = yes_kind p (has_cell_below p (map_below vs e))

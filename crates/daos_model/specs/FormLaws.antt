@@ -18,7 +18,6 @@ use Rattle.base_types.specs.declared.outcome.FloorWhy.TheVariants.{Snapshot, Agg
 use Rattle.base_types.specs.declared.path.Path.{Path}
 use Rattle.base_types.specs.declared.snapshot.Snap.{Snap}
 use Rattle.base_types.specs.Operations.{write_path}
-use Rattle.base_types.specs.Paths.{record_size}
 use Rattle.daos_model.specs.declared.durable.ContRow.{ContRow}
 use Rattle.daos_model.specs.declared.durable.Durable.{Durable}
 use Rattle.daos_model.specs.declared.durable.Version.{Version}
@@ -26,7 +25,8 @@ use Rattle.daos_model.specs.Answers.{is_before}
 use Rattle.daos_model.specs.BoolLaws.{and_left, and_right, both, clash, or_from_right}
 use Rattle.daos_model.specs.Changes.{committed_at, confirmed_at, created, created_at, discarded, enlisted, frozen, is_other, is_other_snap, is_out_of_range, leased, marked, marked_at, new_snap, prepared, pruned, raised, raised_at, reopened, settled, thawed, with_cont, with_conts, with_versions}
 use Rattle.daos_model.specs.Durables.{IsInForm, attempt_key, cont_key, entry_key, entry_of, is_entry_of, is_floor_in_form, is_frozen, is_row_of, is_snap_at, is_stored_why, is_version_in_form, new_row, row_of, row_or_new, same_attempt, snap_key, version_key}
-use Rattle.daos_model.specs.Forms.{AreWritesInForm, ends_at_akey, ends_at_dkey, ends_at_object, fits_records, is_length, is_path_in_form, is_write_in_form}
+use Rattle.daos_model.specs.ExtentForms.{written-at_akey}
+use Rattle.daos_model.specs.Forms.{AreWritesInForm, ends_at_akey, ends_at_dkey, ends_at_object, is_length, is_path_in_form, is_write_in_form}
 use Rattle.daos_model.specs.OrderLaws.{in_order-filter, in_order-map, in_order-puts, rising-filter, rising-map, rising-put}
 use Rattle.daos_model.specs.Ordered.{is_rising, put, puts}
 use Rattle.daos_model.specs.Prunes.{is_staying}
@@ -462,7 +462,7 @@ pub path-in_form : (w : Write) → is_write_in_form w ≡ true → is_path_in_fo
 unfolding is_write_in_form
 path-in_form (write.Single p bytes) h = akey-in_form p (and_left (ends_at_akey p) (is_length (length bytes)) h)
 path-in_form (write.Extent p low bytes) h =
-    akey-in_form p (and_left (ends_at_akey p) (is_length (length bytes)) (and_left (ends_at_akey p && is_length (length bytes)) (fits_records (record_size p) low (length bytes)) h))
+    akey-in_form p (written-at_akey p low bytes h)
 path-in_form (write.PunchObject p) h = object-in_form p h
 path-in_form (write.PunchDkey p) h = dkey-in_form p h
 path-in_form (write.PunchAkey p) h = akey-in_form p h

@@ -6,6 +6,7 @@ pub mod Pieces
 pub mod Transactions
 pub mod Accesses
 pub mod Forms
+pub mod ExtentForms
 pub mod Ordered
 pub mod Durables
 pub mod Versions

@@ -1,5 +1,5 @@
 -- Cells whose paths don't end at an akey hold nothing, so what a family holds is the whole map as of an epoch.
-use Rattle.std.specs.Prelude.{ℕ, ◌≡◌, ◌+◌, Bool, true, false, ◌&&◌, is_some, nat_lt, ◌^◌, List, [], ◌∷◌, All, Contains, filter, length, Option, Some, None, if◌then◌else◌, refl}
+use Rattle.std.specs.Prelude.{ℕ, ◌≡◌, ◌+◌, Bool, true, false, ◌&&◌, is_some, List, [], ◌∷◌, All, Contains, filter, length, Option, Some, None, if◌then◌else◌, refl}
 use Rattle.std.specs.List.{list_all}
 use Rattle.std.proofs.Common.{sym, ◌∙◌, ap, subst, inl, inr}
 use Rattle.base_types.specs.declared.id.ObjId.{ObjId}
@@ -19,6 +19,7 @@ use Rattle.daos_model.specs.Cells.{value_at}
 use Rattle.daos_model.specs.Durables.{is_version_in_form}
 use Rattle.daos_model.specs.Effect.{effect, effects}
 use Rattle.daos_model.specs.Family.{family_map, is_led_by, joined, map_where}
+use Rattle.daos_model.specs.ExtentForms.{written-at_akey}
 use Rattle.daos_model.specs.Forms.{ends_at_akey, is_length, is_write_in_form}
 use Rattle.daos_model.specs.Prunes.{is_punch, touches, values_of}
 use Rattle.daos_model.specs.Versions.{writes_in, written_by}
@@ -37,7 +38,7 @@ use Rattle.model_laws.specs.WriteLaws.{after_write, value-effect}
 update-akey : (w : Write) → is_punch w ≡ false → is_write_in_form w ≡ true → ends_at_akey (write_path w) ≡ true
 unfolding is_write_in_form
 update-akey (write.Single p bytes) e h = and_left (ends_at_akey p) (is_length (length bytes)) h
-update-akey (write.Extent p low bytes) e h = and_left (ends_at_akey p) (is_length (length bytes)) (and_left (ends_at_akey p && is_length (length bytes)) (fits_records (record_size p) low (length bytes)) h)
+update-akey (write.Extent p low bytes) e h = written-at_akey p low bytes h
 update-akey (write.PunchObject p) e h = absurd (let n : ⊥ = cc in n)
 update-akey (write.PunchDkey p) e h = absurd (let n : ⊥ = cc in n)
 update-akey (write.PunchAkey p) e h = absurd (let n : ⊥ = cc in n)

@@ -1,5 +1,5 @@
 -- Cells without an object hold nothing, and a family of targets stands for what each of them gives at its own cells.
-use Rattle.std.specs.Prelude.{ℕ, zero, suc, ◌≡◌, ◌<◌, ◌&&◌, ◌+◌, ◌⊎◌, All, Bool, true, false, is_some, nat_lt, ◌^◌, List, [], ◌∷◌, length, filter, slice_get, Contains, Option, Some, None, refl, if◌then◌else◌}
+use Rattle.std.specs.Prelude.{ℕ, zero, suc, ◌≡◌, ◌<◌, ◌&&◌, ◌⊎◌, All, Bool, true, false, is_some, List, [], ◌∷◌, length, filter, slice_get, Contains, Option, Some, None, refl, if◌then◌else◌}
 use Rattle.std.specs.List.{list_all, list_any}
 use Rattle.std.proofs.Common.{sym, ◌∙◌, ap, subst, inl, inr}
 use Rattle.base_types.specs.declared.id.ObjId.{ObjId}
@@ -30,6 +30,7 @@ use Rattle.daos_model.specs.Cells.{value_at}
 use Rattle.daos_model.specs.Durables.{is_version_in_form}
 use Rattle.daos_model.specs.Effect.{effect, effects}
 use Rattle.daos_model.specs.Finals.{SameMap}
+use Rattle.daos_model.specs.ExtentForms.{written-at_akey}
 use Rattle.daos_model.specs.Forms.{ends_at_akey, is_length, is_write_in_form}
 use Rattle.daos_model.specs.Prunes.{is_punch, touches, values_of}
 use Rattle.daos_model.specs.Versions.{writes_in, written_by}
@@ -45,7 +46,7 @@ akey-object p h = and_left (is_some p.obj) (is_some p.dkey) (and_left (is_some p
 has-object : (w : Write) → is_write_in_form w ≡ true → is_some (write_path w).obj ≡ true
 unfolding is_write_in_form
 has-object (write.Single p bytes) form = akey-object p (and_left (ends_at_akey p) (is_length (length bytes)) form)
-has-object (write.Extent p low bytes) form = akey-object p (and_left (ends_at_akey p) (is_length (length bytes)) (and_left (ends_at_akey p && is_length (length bytes)) (fits_records (record_size p) low (length bytes)) form))
+has-object (write.Extent p low bytes) form = akey-object p (written-at_akey p low bytes form)
 has-object (write.PunchObject p) form = and_left (is_some p.obj) _ (and_left _ _ form)
 has-object (write.PunchDkey p) form = and_left (is_some p.obj) _ (and_left _ _ form)
 has-object (write.PunchAkey p) form = akey-object p form

@@ -1,5 +1,5 @@
 -- The answer on a map is the join, over groups, of the answers on their parts.
-use Rattle.std.specs.Prelude.{ℕ, zero, suc, ◌+◌, ◌≡◌, ◌<◌, ◌≤◌, ◌⊎◌, ◌==◌, Bool, true, false, ◌&&◌, ◌||◌, List, [], ◌∷◌, ◌++◌, map, Option, Some, None, is_none, is_some, nat_lt, ◌^◌, length, if◌then◌else◌, refl}
+use Rattle.std.specs.Prelude.{ℕ, zero, suc, ◌+◌, ◌≡◌, ◌<◌, ◌≤◌, ◌⊎◌, ◌==◌, Bool, true, false, ◌&&◌, ◌||◌, List, [], ◌∷◌, ◌++◌, map, Option, Some, None, is_none, is_some, length, if◌then◌else◌, refl}
 use Rattle.std.specs.List.{list_any, range_with_len}
 use Rattle.std.specs.Option.{option_eq}
 use Rattle.std.proofs.Common.{sym, ◌∙◌, ap, subst, arith, inl, inr}
@@ -14,7 +14,7 @@ use Rattle.base_types.specs.declared.operation.Write.TheVariants.{Single, Extent
 use Rattle.base_types.specs.declared.path.Path.{Path}
 use Rattle.base_types.specs.Keys.{same_key}
 use Rattle.base_types.specs.Operations.{read_path}
-use Rattle.base_types.specs.Paths.{leads_to, same_object}
+use Rattle.base_types.specs.Paths.{leads_to, record_size, same_object}
 use Rattle.base_types.specs.PathLaws.{same_key-Decides}
 use Rattle.base_types.specs.Placement.{group_of, groups}
 use Rattle.base_types.specs.PlacementLaws.{group_of-within, groups-positive}
@@ -23,7 +23,8 @@ use Rattle.daos_model.specs.declared.cell.CellValue.{CellValue}
 use Rattle.daos_model.specs.Answers.{answer, dkeys_below, has_cell_below, in_byte_order, yes_or_no}
 use Rattle.daos_model.specs.BoolLaws.{and_left, and_right, clash, false_of}
 use Rattle.daos_model.specs.Cells.{index_cell, same_cell, single_cell, value_at}
-use Rattle.daos_model.specs.Effect.{effect, extent_cells}
+use Rattle.daos_model.specs.Effect.{effect, extent_cells, record_cells, records_of}
+use Rattle.daos_model.specs.ExtentForms.{written-at_akey}
 use Rattle.daos_model.specs.Forms.{ends_at_akey, is_length, is_write_in_form}
 use Rattle.daos_model.specs.Prunes.{touches, values_of}
 use Rattle.daos_model.specs.Ordered.{is_rising}
@@ -265,11 +266,11 @@ other p c same ends e = let none : is_some p.dkey ≡ false = ap (λ q. is_some 
 akey_dkey : (p : Path) → ends_at_akey p ≡ true → is_some p.dkey ≡ true
 akey_dkey p h = and_right (is_some p.obj) (is_some p.dkey) (and_left (is_some p.obj && is_some p.dkey) (is_some p.akey) h)
 
-extent-dkeys : (p : Path) (low : ℕ) (bytes : List ℕ) (c : Cell) → is_some p.dkey ≡ true → c.path.dkey ≡ None → value_at (extent_cells p low bytes) c ≡ None
-extent-dkeys p low [] c ends e = refl
-extent-dkeys p low (b ∷ bytes) c ends e =
-    ap (λ t. if t then Some (b ∷ []) else value_at (extent_cells p (low + 1) bytes) c) (false_of (same_cell (index_cell p low) c) (λ same. other p c (ap (λ d. d.path) ((same_cell-Decides (index_cell p low) c).0 same)) ends e))
-    ∙ extent-dkeys p (low + 1) bytes c ends e
+records-dkeys : (p : Path) (low : ℕ) (rs : List (List ℕ)) (c : Cell) → is_some p.dkey ≡ true → c.path.dkey ≡ None → value_at (record_cells p low rs) c ≡ None
+records-dkeys p low [] c ends e = refl
+records-dkeys p low (r ∷ rs) c ends e =
+    ap (λ t. if t then Some r else value_at (record_cells p (low + 1) rs) c) (false_of (same_cell (index_cell p low) c) (λ same. other p c (ap (λ d. d.path) ((same_cell-Decides (index_cell p low) c).0 same)) ends e))
+    ∙ records-dkeys p (low + 1) rs c ends e
 
 pub effect-dkeys : (w : Write) (m : List CellValue) → is_write_in_form w ≡ true → HasDkeys m → HasDkeys (effect w m)
 unfolding is_write_in_form touches
@@ -288,7 +289,7 @@ effect-dkeys w m form has c e = value-effect c w m ∙ by w form
         (ap (λ t. if t then Some bytes else None) (false_of (same_cell (single_cell p) c) (λ same. other p c (ap (λ d. d.path) ((same_cell-Decides (single_cell p) c).0 same)) (akey_dkey p (and_left (ends_at_akey p) (is_length (length bytes)) form)) e)))
     by (Extent p low bytes) form =
         kept (touches c (Extent p low bytes)) (value_at (extent_cells p low bytes) c)
-        (extent-dkeys p low bytes c (akey_dkey p (and_left (ends_at_akey p) (is_length (length bytes)) (and_left (ends_at_akey p && is_length (length bytes)) (fits_records (record_size p) low (length bytes)) form))) e)
+        (records-dkeys p low (records_of (record_size p) bytes) c (akey_dkey p (written-at_akey p low bytes form)) e)
     by (PunchObject p) form = kept (touches c (PunchObject p)) None refl
     by (PunchDkey p) form = kept (touches c (PunchDkey p)) None refl
     by (PunchAkey p) form = kept (touches c (PunchAkey p)) None refl

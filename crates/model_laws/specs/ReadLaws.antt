@@ -7,10 +7,10 @@ use Rattle.base_types.specs.declared.path.Path.{Path}
 use Rattle.base_types.specs.declared.answer.Answer.TheVariants.{Names, Parts}
 use Rattle.base_types.specs.Operations.{read_path}
 use Rattle.base_types.specs.PathLaws.{leads_to-refl}
-use Rattle.base_types.specs.Paths.{leads_to}
+use Rattle.base_types.specs.Paths.{leads_to, record_size}
 use Rattle.daos_model.specs.declared.cell.Cell.{Cell}
 use Rattle.daos_model.specs.declared.cell.CellValue.{CellValue}
-use Rattle.daos_model.specs.Answers.{akey_under, akeys_below, answer, dkey_under, dkeys_below, has_cell_below, in_byte_order, index_before, option_before, pieces, value_answer, yes_or_no}
+use Rattle.daos_model.specs.Answers.{akey_under, akeys_below, answer, dkey_under, dkeys_below, has_cell_below, in_byte_order, index_before, option_before, pieces, record_at, record_of, value_answer, yes_or_no}
 use Rattle.daos_model.specs.BoolLaws.{clash}
 use Rattle.daos_model.specs.Cells.{index_cell, same_cell, single_cell, value_at}
 use Rattle.daos_model.specs.Finals.{SameMap}
@@ -178,8 +178,8 @@ pieces-same : (p : Path) (i n : ℕ) (m m' : List CellValue) → SameUnder p m m
 unfolding pieces
 pieces-same p i zero m m' same = refl
 pieces-same p i (suc n) m m' same =
-    ap (λ o. index_before o (pieces p (i + 1) n m)) (same (index_cell p i) (leads_to-refl p))
-    ∙ ap (index_before (value_at m' (index_cell p i))) (pieces-same p (i + 1) n m m' same)
+    ap (λ o. index_before (record_of (record_size p) o) (pieces p (i + 1) n m)) (same (index_cell p i) (leads_to-refl p))
+    ∙ ap (index_before (record_at p i m')) (pieces-same p (i + 1) n m m' same)
 
 -- ---- the laws
 

@@ -1,5 +1,5 @@
 -- A read that no unsettled version keeps from its answer sees all that counts.
-use Rattle.std.specs.Prelude.{◌≡◌, ◌⊎◌, ◌==◌, Bool, true, false, ◌&&◌, ◌||◌, not, nat_lt, is_none, is_some, ◌+◌, ◌^◌, List, [], ◌∷◌, Option, Some, None, Contains, Decides, refl}
+use Rattle.std.specs.Prelude.{◌≡◌, ◌⊎◌, ◌==◌, Bool, true, false, ◌&&◌, ◌||◌, not, nat_lt, is_none, is_some, List, [], ◌∷◌, Option, Some, None, Contains, Decides, refl}
 use Rattle.std.specs.Option.{option_eq}
 use Rattle.std.specs.List.{list_all}
 use Rattle.std.proofs.Common.{sym, ◌∙◌, ap, subst, inl, inr}
@@ -18,7 +18,8 @@ use Rattle.daos_model.specs.declared.cell.Cell.{Cell}
 use Rattle.daos_model.specs.declared.durable.Version.{Version}
 use Rattle.daos_model.specs.BoolLaws.{and_left, and_right, both, clash}
 use Rattle.daos_model.specs.Durables.{is_version_in_form}
-use Rattle.daos_model.specs.Forms.{ends_at_akey, ends_at_dkey, ends_at_object, is_length, is_path_in_form, is_read_in_form, is_write_in_form}
+use Rattle.daos_model.specs.ExtentForms.{read-at_akey}
+use Rattle.daos_model.specs.Forms.{ends_at_akey, ends_at_dkey, ends_at_object, is_path_in_form, is_read_in_form, is_write_in_form}
 use Rattle.daos_model.specs.Prunes.{is_punch, touches}
 use Rattle.daos_model.specs.Versions.{blocks_read, map_below, sees, version_path}
 use Rattle.model_laws.specs.Dated.{Dated, dated_of, is_about, map_of}
@@ -142,7 +143,7 @@ chain-object p h = record {
 chain-read : (r : Read) → is_read_in_form r ≡ true → IsChain (read_path r)
 unfolding is_read_in_form
 chain-read (read.Single p) h = chain-akey p h
-chain-read (read.Extent p low len) h = chain-akey p (and_left (ends_at_akey p) (is_length (len * record_size p)) (and_left (ends_at_akey p && is_length (len * record_size p)) (fits_array (record_size p) low len) h))
+chain-read (read.Extent p low len) h = chain-akey p (read-at_akey p low len h)
 chain-read (read.Dkeys p) h = chain-object p h
 chain-read (read.Akeys p) h = chain-dkey p h
 chain-read (read.Exists p) h = chain-path p h

@@ -1,5 +1,5 @@
 -- What each target holds of the map, and what all targets stand for together.
-use Rattle.std.specs.Prelude.{ℕ, zero, suc, ◌≡◌, ◌≢◌, ◌<◌, ◌+◌, ◌⊎◌, ◌==◌, ◌^◌, Bool, true, false, ◌&&◌, ◌||◌, nat_lt, is_none, is_some, List, [], ◌∷◌, ◌++◌, filter, length, Contains, slice_get, Option, Some, None, if◌then◌else◌, refl}
+use Rattle.std.specs.Prelude.{ℕ, zero, suc, ◌≡◌, ◌≢◌, ◌<◌, ◌+◌, ◌⊎◌, ◌==◌, Bool, true, false, ◌&&◌, ◌||◌, nat_lt, is_none, is_some, List, [], ◌∷◌, ◌++◌, filter, length, Contains, slice_get, Option, Some, None, if◌then◌else◌, refl}
 use Rattle.std.specs.List.{list_all, list_any, range_with_len}
 use Rattle.std.specs.Option.{option_eq}
 use Rattle.std.proofs.Common.{sym, ◌∙◌, ap, subst, arith, inl, inr}
@@ -24,6 +24,7 @@ use Rattle.daos_model.specs.Cells.{same_cell, value_at}
 use Rattle.daos_model.specs.Durables.{is_version_in_form, version_key}
 use Rattle.daos_model.specs.Effect.{effects}
 use Rattle.daos_model.specs.Family.{counts, family_map, is_led_by, joined, map_where, stand}
+use Rattle.daos_model.specs.ExtentForms.{written-at_akey}
 use Rattle.daos_model.specs.Forms.{ends_at_akey, is_length, is_write_in_form}
 use Rattle.daos_model.specs.OrderLaws.{rising-filter}
 use Rattle.daos_model.specs.Prunes.{is_punch, touches, values_of}
@@ -109,7 +110,7 @@ update-dkey (write.Single p bytes) e h = akey_ends p (and_left (ends_at_akey p) 
     akey_ends : (p : Path) → ends_at_akey p ≡ true → is_some p.dkey ≡ true
     akey_ends p h = and_right (is_some p.obj) (is_some p.dkey) (and_left (is_some p.obj && is_some p.dkey) (is_some p.akey) h)
 update-dkey (write.Extent p low bytes) e h =
-    akey_ends p (and_left (ends_at_akey p) (is_length (length bytes)) (and_left (ends_at_akey p && is_length (length bytes)) (fits_records (record_size p) low (length bytes)) h))
+    akey_ends p (written-at_akey p low bytes h)
   where
     akey_ends : (p : Path) → ends_at_akey p ≡ true → is_some p.dkey ≡ true
     akey_ends p h = and_right (is_some p.obj) (is_some p.dkey) (and_left (is_some p.obj && is_some p.dkey) (is_some p.akey) h)

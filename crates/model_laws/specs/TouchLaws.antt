@@ -6,7 +6,7 @@ use Rattle.base_types.specs.declared.operation.Write.{Write}
 use Rattle.base_types.specs.declared.operation.Write.TheVariants.{Single, Extent, PunchObject, PunchDkey, PunchAkey}
 use Rattle.base_types.specs.declared.path.Path.{Path}
 use Rattle.base_types.specs.Operations.{write_path}
-use Rattle.base_types.specs.Paths.{leads_to}
+use Rattle.base_types.specs.Paths.{leads_to, record_size}
 use Rattle.daos_model.specs.declared.cell.Cell.{Cell}
 use Rattle.daos_model.specs.declared.cell.CellValue.{CellValue}
 use Rattle.daos_model.specs.declared.durable.Version.{Version}
@@ -14,7 +14,7 @@ use Rattle.daos_model.specs.Answers.{is_before}
 use Rattle.daos_model.specs.BoolLaws.{and_left, and_right, clash}
 use Rattle.daos_model.specs.Cells.{is_of, value_at}
 use Rattle.daos_model.specs.Durables.{version_key}
-use Rattle.daos_model.specs.Effect.{effect, effects, extent_cells}
+use Rattle.daos_model.specs.Effect.{effect, effects, record_cells, records_of}
 use Rattle.daos_model.specs.OrderLaws.{before-asym, before-itself}
 use Rattle.daos_model.specs.Ordered.{all_after, is_rising}
 use Rattle.daos_model.specs.Prunes.{is_punch, touches, values_of}
@@ -26,16 +26,16 @@ use Rattle.model_laws.specs.WriteLaws.{value-effect}
 
 -- ---- updates and punches
 
-extent-path : (p : Path) (low : ℕ) (bytes : List ℕ) (x : CellValue) → Has x (extent_cells p low bytes) → p ≡ x.cell.path
-extent-path p low [] x h = absurd h
-extent-path p low (b ∷ bytes) x (inl same) = sym (ap (λ v. v.cell.path) same)
-extent-path p low (b ∷ bytes) x (inr h) = extent-path p (low + 1) bytes x h
+records-path : (p : Path) (low : ℕ) (rs : List (List ℕ)) (x : CellValue) → Has x (record_cells p low rs) → p ≡ x.cell.path
+records-path p low [] x h = absurd h
+records-path p low (r ∷ rs) x (inl same) = sym (ap (λ v. v.cell.path) same)
+records-path p low (r ∷ rs) x (inr h) = records-path p (low + 1) rs x h
 
 -- the cells that a write sets stand at its path
 pub values-path : (w : Write) (x : CellValue) → Has x (values_of w) → write_path w ≡ x.cell.path
 values-path (Single p bytes) x (inl same) = sym (ap (λ v. v.cell.path) same)
 values-path (Single p bytes) x (inr h) = absurd h
-values-path (Extent p low bytes) x h = extent-path p low bytes x h
+values-path (Extent p low bytes) x h = records-path p low (records_of (record_size p) bytes) x h
 values-path (PunchObject p) x h = absurd h
 values-path (PunchDkey p) x h = absurd h
 values-path (PunchAkey p) x h = absurd h

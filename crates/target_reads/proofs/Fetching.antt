@@ -16,6 +16,7 @@ use Rattle.daos_model.specs.declared.durable.Version.{Version}
 use Rattle.daos_model.specs.Answers.{answer}
 use Rattle.daos_model.specs.BoolLaws.{and_left}
 use Rattle.daos_model.specs.Durables.{is_frozen, row_of}
+use Rattle.daos_model.specs.ExtentForms.{read-at_akey}
 use Rattle.daos_model.specs.Forms.{ends_at_akey, is_length, is_path_in_form, is_read_in_form}
 use Rattle.daos_model.specs.Versions.{first_blocking, map_below}
 use Rattle.vos_stamp.specs.Stamps.{or_later, read_cause}
@@ -49,7 +50,7 @@ pub read-in_form : (r : Read) → is_read_in_form r ≡ true → is_path_in_form
 unfolding is_read_in_form
 read-in_form (read.Single p) h = akey-in_form p.obj p.dkey p.akey h
 read-in_form (read.Extent p low len) h =
-    akey-in_form p.obj p.dkey p.akey (and_left (ends_at_akey p) (is_length (len * record_size p)) (and_left (ends_at_akey p && is_length (len * record_size p)) (fits_array (record_size p) low len) h))
+    akey-in_form p.obj p.dkey p.akey (read-at_akey p low len h)
 read-in_form (read.Dkeys p) h = object-in_form p.obj p.dkey p.akey h
 read-in_form (read.Akeys p) h = dkey-in_form p.obj p.dkey p.akey h
 read-in_form (read.Exists p) h = h
