@@ -1,15 +1,14 @@
 // Which messages are without an answer.
-ghost use Rattle.std.specs.Prelude.{◌≡◌, position, OnOk, OnErr, IfOk};
+ghost use Rattle.std.specs.Prelude.{◌≡◌, ◌<◌, length, position, IfSome, OnOk, IfOk};
 ghost use Rattle.dtx_base.specs.Leading.{attempts_of};
 ghost use Rattle.world_base.specs.Letters.{asked_after, asked_with, is_answer_to, is_answerable, is_reply, same_actor, same_ask, same_ids, without_first};
 
 use base_messages::actor::ActorId;
 use base_messages::message::Message;
 use base_types::id::AttemptId;
-use base_types::items::{Memory, TryCopy};
+use base_types::items::{Items, Memory, TryCopy};
 use daos_model::durable::is_same_attempt;
-use std::alloc::Global;
-use world_base::letter::Letter;
+use world_base::letter::{Letter, Letters};
 
 /// Whether a message is one that is answered.
 pub fn is_answerable(message: &Message) -> bool
@@ -105,9 +104,10 @@ pub fn is_answer_to(letter: &Letter, asked: &Letter) -> bool
         && is_reply(&letter.message, &asked.message)
 }
 
-// The place of the first letter that this one answers.
+// The place of the first letter that this one answers, if there is one.
 fn first_answered(letter: &Letter, asked: &[Letter]) -> Option<usize>
-    ensures { result ≡ position (is_answer_to letter.now) asked.now }
+    ensures first { result ≡ position (is_answer_to letter.now) asked.now }
+    ensures within { IfSome result (λ place. place < length asked.now) }
 {
     asked.iter().position(|other| is_answer_to(letter, other))
 }
@@ -121,11 +121,10 @@ fn answer(asked: &mut Vec<Letter>, letter: &Letter)
     }
 }
 
-/// What is without an answer once a letter more was sent: it is one, or the first that it answers isn't any more.
+// What is without an answer once a letter more was sent: it is one, or the first that it answers isn't any more.
 #[tactic(auto, unfolding(world_base::specs::Letters::asked_with))]
-pub fn ask(asked: &mut Vec<Letter>, letter: &Letter) -> Result<(), Memory>
-    ensures ok { OnOk result (asked.new.items ≡ asked_with asked.old.items letter.now) }
-    ensures err { OnErr result (asked.new.items ≡ asked.old.items) }
+fn ask(asked: &mut Vec<Letter>, letter: &Letter) -> Result<(), Memory>
+    ensures { OnOk result (asked.new.items ≡ asked_with asked.old.items letter.now) }
 {
     if is_answerable(&letter.message) {
         asked.push(letter.copy()?)?;
@@ -135,16 +134,25 @@ pub fn ask(asked: &mut Vec<Letter>, letter: &Letter) -> Result<(), Memory>
     Ok(())
 }
 
-/// What is without an answer once these letters were sent, one after another.
-pub fn asked_after(alloc: Global, asked: &[Letter], sent: &[Letter]) -> Result<Vec<Letter>, Memory>
-    ensures { IfOk result (λ after. after.items ≡ asked_after asked.now sent.now) }
+// The same, for these letters, one after another.
+fn ask_all(asked: &mut Vec<Letter>, sent: &[Letter]) -> Result<(), Memory>
+    ensures { OnOk result (asked.new.items ≡ asked_after asked.old.items sent.now) }
 {
-    let mut after = Vec::new(alloc);
-    for letter in asked {
-        after.push(letter.copy()?)?;
-    }
     for letter in sent {
-        ask(&mut after, letter)?;
+        ask(asked, letter)?;
     }
-    Ok(after)
+    Ok(())
+}
+
+/// What is without an answer once these letters were sent, one after another.
+///
+/// # Errors
+///
+/// For want of memory.
+pub fn asked_after(asked: &Letters, sent: &[Letter]) -> Result<Letters, Memory>
+    ensures { IfOk result (λ after. after ≡ asked_after asked.now sent.now) }
+{
+    let mut after = asked.copy()?.into_vec();
+    ask_all(&mut after, sent)?;
+    Ok(Items::from_vec(after))
 }

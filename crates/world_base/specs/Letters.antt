@@ -1,5 +1,6 @@
 -- Letters in flight, and the conversation of a client.
 use Rattle.std.specs.Prelude.{ℕ, ◌≡◌, ◌==◌, Bool, true, false, ◌&&◌, ◌||◌, not, List, [], ◌∷◌, ◌++◌, filter, map, Option, Some, None, if◌then◌else◌}
+use Rattle.std.specs.List.{after_first, before_first}
 use Rattle.base_types.specs.declared.id.AttemptId.{AttemptId}
 use Rattle.daos_model.specs.Durables.{same_attempt}
 use Rattle.dtx_base.specs.Leading.{attempts_of}
@@ -105,8 +106,7 @@ is_answer_to l q = same_actor l.from q.to && same_actor l.to q.from && is_reply 
 
 -- all but the first that passes a test
 abbrev pub without_first : {T : Type 0} → (T → Bool) → List T → List T
-without_first p [] = []
-without_first p (x ∷ xs) = if p x then xs else x ∷ without_first p xs
+without_first p xs = before_first p xs ++ after_first p xs
 
 -- what is without an answer once a letter was sent: it is one, or the first that it answers isn't any more
 unfoldable pub asked_with : List Letter → Letter → List Letter

@@ -81,10 +81,10 @@ pub fn what_follows(
         issued,
     } = did;
     let letters = letters_of(alloc, from, posts)?;
-    let asked = asked_after(alloc, before.asked.as_slice(), letters.as_slice())?;
+    let asked = asked_after(&before.asked, letters.as_slice())?;
     Ok(Follow {
         letters,
-        asked: Items::from_vec(asked),
+        asked,
         issued: issues_of(alloc, issued)?,
         lines: lines_of(alloc, &before.issued, lines)?,
     })
