@@ -1,11 +1,11 @@
 // Which versions of a container an aggregation removes.
 #![tactic(auto)]
 
-ghost use Rattle.std.specs.Prelude.{◌≡◌, filter, find, None, IfErr, IfOk, MatchResult};
+ghost use Rattle.std.specs.Prelude.{◌≡◌, ◌&&◌, filter, IfErr, IfOk};
 ghost use Rattle.std.specs.Option.{option_copied};
 ghost use Rattle.daos_model.specs.Prunes.{is_going};
 ghost use Rattle.vos_aggregate.specs.declared.PruneNo.TheVariants.{Memory as NoMemory};
-ghost use Rattle.vos_aggregate.specs.Opens.{PlanWhy, is_open_below};
+ghost use Rattle.vos_aggregate.specs.Opens.{AreSettled, LeastOpen, PlanWhy, is_earlier, is_open_below};
 
 use base_types::epoch::Epoch;
 use base_types::id::{AttemptId, ContId};
@@ -47,13 +47,34 @@ fn is_open_below(version: &Version, cont: ContId, upto: Epoch) -> bool
     version.write.path().cont.0 == cont.0 && version.epoch.0 <= upto.0 && !version.done
 }
 
-// The first version of a container at or below an epoch that isn't settled.
-fn first_open(versions: &[Version], cont: ContId, upto: Epoch) -> Option<&Version>
-    ensures { option_copied result ≡ find (is_open_below cont upto) versions.now }
+// Whether a version has a lesser epoch than another, or there is no other.
+fn is_earlier(version: &Version, than: Option<&Version>) -> bool
+    ensures { result ≡ is_earlier version.now (option_copied than.entry) }
 {
-    versions
-        .iter()
-        .find(|version| is_open_below(version, cont, upto))
+    match than {
+        Some(than) => version.epoch.0 < than.epoch.0,
+        None => true,
+    }
+}
+
+// Whether a version isn't settled and has a lesser epoch than another, or there is no other.
+fn is_less(version: &Version, than: Option<&Version>, cont: ContId, upto: Epoch) -> bool
+    ensures { result ≡ (is_open_below cont upto version.now && is_earlier version.now (option_copied than.entry)) }
+{
+    is_open_below(version, cont, upto) && is_earlier(version, than)
+}
+
+// Of the versions of a container at or below an epoch that aren't settled, one of the least epoch.
+fn least_open(versions: &[Version], cont: ContId, upto: Epoch) -> Option<&Version>
+    ensures { LeastOpen cont upto versions.now (option_copied result) }
+{
+    let mut least = None;
+    for version in versions {
+        if is_less(version, least, cont, upto) {
+            least = Some(version);
+        }
+    }
+    least
 }
 
 // The versions that a plan removes.
@@ -78,7 +99,7 @@ fn removed(alloc: Global, plan: &Plan) -> Result<Vec<Version>, PruneNo>
 /// # Errors
 ///
 /// `OpenBelow` exactly where a version of the container at or below the epoch is unsettled, with the
-/// attempt of the one of the least epoch.
+/// attempt of one of the least epoch.
 pub fn plan_prune(
     alloc: Global,
     durable: &Durable,
@@ -86,10 +107,11 @@ pub fn plan_prune(
     upto: Epoch,
 ) -> Result<Versions, PruneNo>
     ensures versions { IfOk result (λ gone. gone ≡ filter (is_going cont upto durable.now.versions durable.now.snaps) durable.now.versions) }
-    ensures why { MatchResult result (λ _. find (is_open_below cont upto) durable.now.versions ≡ None) (PlanWhy (find (is_open_below cont upto) durable.now.versions)) }
+    ensures settled { IfOk result (λ _. AreSettled cont upto durable.now.versions) }
+    ensures why { IfErr result (PlanWhy cont upto durable.now.versions) }
 {
     let versions = durable.versions.as_slice();
-    if let Some(version) = first_open(versions, cont, upto) {
+    if let Some(version) = least_open(versions, cont, upto) {
         return Err(PruneNo::OpenBelow(version.by));
     }
     let plan = Plan {

@@ -89,6 +89,11 @@ pub old_is_new : (olds : List OldDecl) (name : List ℕ) → old_named olds name
 unfolding old_named
 old_is_new olds name e = subst (AllByRecursion (λ n. same_key n name ≡ false)) (sym (old_names olds)) (named_new name_of_old name olds e)
 
+-- none of a list passes a test
+pub none_found : {A : Type 0} (p : A → Bool) (xs : List A) → list_any p xs ≡ false → AllByRecursion (λ x. p x ≡ false) xs
+none_found p [] e = tt
+none_found p (x ∷ xs) e = let parts = or_parts (p x) (list_any p xs) e in (parts.0, none_found p xs parts.1)
+
 pub id_is_new : (conts : List ContDecl) (id : ContId) → has_cont conts id ≡ false → AllByRecursion (λ n. nat_eq n id.0 ≡ false) (map cont_number conts)
 unfolding has_cont
 id_is_new [] id e = tt
