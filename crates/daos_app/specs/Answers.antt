@@ -9,8 +9,8 @@ use Rattle.daos_app.specs.Inputs.{IsRead, IsRefused}
 use Rattle.daos_app.specs.Words.{run_job_of}
 use Rattle.model_reports.specs.Lone.{HasOneClient}
 use Rattle.daos_model.specs.Opening.{Given, fresh}
-use Rattle.daos_report.specs.Forms.{IsReportOf}
-use Rattle.daos_report.specs.Reports.{report_text}
+use Rattle.report_writer.specs.Forms.{IsReportOf}
+use Rattle.report_writer.specs.Reports.{report_text}
 use Rattle.model_reports.specs.Rooms.{FindsRoom, HasRoom}
 use Rattle.daos_run.specs.Alone.{IsOfLoneClient}
 use Rattle.daos_run.specs.Opens.{FollowsOrder, IsLegal}

@@ -1,10 +1,10 @@
 // A report of a script, read and written again.
 use crate::outcome::Outcome;
 use anyhow::anyhow;
-use daos_report::text::report_text;
 use daos_script::script::read_script;
 use report_reader::fault::ReportNo;
 use report_reader::report::read_report;
+use report_writer::text::report_text;
 use std::alloc::Global;
 
 // The line between a script and its report.

@@ -34,7 +34,15 @@ pub fn ran<R: Threads + Wait + Sync>(
     let mut source = SureSource::new(alloc, given)?;
     let mut sink = SureSink::new(alloc, ROOM)?;
     let mut rack = SureRack::new(alloc, 64, 4096)?;
-    let status = run_daos(rt, alloc, &words, &mut source, &mut sink, &mut rack, &FreeGate);
+    let status = run_daos(
+        rt,
+        alloc,
+        &words,
+        &mut source,
+        &mut sink,
+        &mut rack,
+        &FreeGate,
+    );
     let (number, text) = (status.number(), status_text(alloc, &status)?);
     let ends = if text.is_empty() {
         format!(in alloc; "{number}")?

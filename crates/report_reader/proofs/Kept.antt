@@ -14,9 +14,9 @@ use Rattle.base_text.specs.Parts.{parts_of}
 use Rattle.base_text.specs.Results as result
 use Rattle.base_text.specs.Rows.{row_line}
 use Rattle.base_text.specs.Steps.{steps}
-use Rattle.daos_report.specs.Forms.{IsAttemptOf, IsCond, IsGot, IsLineOf, least_down}
-use Rattle.daos_report.specs.Reports.{end_row, head_row}
-use Rattle.daos_report.proofs.Inner.{all_append}
+use Rattle.report_writer.specs.Forms.{IsAttemptOf, IsCond, IsGot, IsLineOf, least_down}
+use Rattle.report_writer.specs.Reports.{end_row, head_row}
+use Rattle.report_writer.proofs.Inner.{all_append}
 use Rattle.report_grammar.specs.declared.rows.Told.{Told}
 use Rattle.report_grammar.specs.declared.rows.Told.TheVariants.{Try, Cond, Got, Other}
 use Rattle.report_grammar.specs.Reads.{◌>>=◌}

@@ -16,7 +16,7 @@ use Rattle.base_text.specs.Results as result
 use Rattle.base_text.specs.RowLaws.{rows_are_texts}
 use Rattle.base_text.specs.Rows.{Words, row_line, lines_text, rows_text}
 use Rattle.base_text.specs.Steps.{steps}
-use Rattle.daos_report.specs.Reports.{try_row, cond_row, got_row, detail_rows, line_rows, head_row, end_row, report_rows, report_text}
+use Rattle.report_writer.specs.Reports.{try_row, cond_row, got_row, detail_rows, line_rows, head_row, end_row, report_rows, report_text}
 use Rattle.report_reader.specs.declared.reading.Open.{Open}
 use Rattle.report_reader.specs.declared.reading.Reading.{Reading}
 use Rattle.report_reader.specs.declared.report.Stage.{Stage}

@@ -12,8 +12,8 @@ use Rattle.base_types.specs.declared.report.Report.{Report}
 use Rattle.base_types.specs.declared.script.Script.{Script}
 use Rattle.base_text.specs.Parts.{parts_of}
 use Rattle.base_text.specs.Rows.{lines_text}
-use Rattle.daos_report.specs.Forms.{HasNames, IsReportOf}
-use Rattle.daos_report.specs.Reports.{report_text}
+use Rattle.report_writer.specs.Forms.{HasNames, IsReportOf}
+use Rattle.report_writer.specs.Reports.{report_text}
 use Rattle.report_reader.specs.Marks.{ops_of, table_of}
 use Rattle.report_reader.specs.declared.fault.ReportNo.{ReportNo}
 use Rattle.report_reader.specs.declared.fault.ReportNo.TheVariants as no

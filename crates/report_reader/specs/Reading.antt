@@ -12,7 +12,7 @@ use Rattle.base_text.specs.Parts.{parts_of}
 use Rattle.base_text.specs.Results as result
 use Rattle.base_text.specs.Rows.{row_line}
 use Rattle.base_text.specs.Steps.{steps}
-use Rattle.daos_report.specs.Reports.{head_row, end_row}
+use Rattle.report_writer.specs.Reports.{head_row, end_row}
 use Rattle.report_reader.specs.declared.reading.Open.{Open}
 use Rattle.report_reader.specs.declared.reading.Reading.{Reading}
 use Rattle.report_reader.specs.declared.report.Stage.{Stage}

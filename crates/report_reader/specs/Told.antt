@@ -20,7 +20,7 @@ use Rattle.base_types.specs.declared.script.Script.{Script}
 use Rattle.base_types.specs.Keys.{same_key}
 use Rattle.base_text.specs.Parts.{parts_of}
 use Rattle.base_text.specs.Rows.{rows_text}
-use Rattle.daos_report.specs.Reports.{try_row, cond_row, got_row, line_rows}
+use Rattle.report_writer.specs.Reports.{try_row, cond_row, got_row, line_rows}
 use Rattle.report_grammar.specs.declared.rows.Told.{Told}
 use Rattle.report_grammar.specs.declared.rows.Told.TheVariants.{Try, Cond, Got, Other}
 use Rattle.report_grammar.specs.Rows.{told_of}

@@ -13,10 +13,10 @@ use base_types::items::{Items, Memory};
 use base_types::outcome::{Cause, Outcome};
 use base_types::report::{Attempt, Line};
 use base_types::script::{Command, OldDecl, Script};
-use daos_report::attempts::{push_cond, push_got, push_try};
-use daos_report::lines::push_line;
 use report_grammar::fault::RowNo;
 use report_grammar::rows::{Told, told_of};
+use report_writer::attempts::{push_cond, push_got, push_try};
+use report_writer::lines::push_line;
 use std::alloc::Global;
 
 // Adds the text of what a row tells.

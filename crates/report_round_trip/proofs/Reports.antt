@@ -30,7 +30,7 @@ use Rattle.daos_model.specs.Snapshots.{ComesFrom}
 use Rattle.daos_model.specs.Stops.{AreCounted, HasTarget, stop_numbers}
 use Rattle.daos_model.specs.TookEffect.{took}
 use Rattle.daos_model.specs.Transactions.{attempt_ops}
-use Rattle.daos_report.specs.Forms.{IsReportOf}
+use Rattle.report_writer.specs.Forms.{IsReportOf}
 use Rattle.report_reader.specs.Marks as marks
 use Rattle.report_reader.specs.Marks.{table_of}
 use Rattle.report_reader.specs.Told.{cause_fits, has_attempt, outcome_fits, outcome_fits_in}

@@ -8,8 +8,8 @@ use Rattle.base_types.specs.declared.report.Report.{Report}
 use Rattle.daos_model.specs.Attempts.{tries}
 use Rattle.daos_model.specs.Headline.{Headline}
 use Rattle.daos_model.specs.Opening.{Given, Outside}
-use Rattle.daos_report.specs.Forms.{IsReportOf}
-use Rattle.daos_report.specs.Reports.{report_text}
+use Rattle.report_writer.specs.Forms.{IsReportOf}
+use Rattle.report_writer.specs.Reports.{report_text}
 use Rattle.base_types.specs.declared.script.Script.{Script}
 use Rattle.report_reader.specs.Marks.{table_of}
 use Rattle.report_reader.specs.Told.{answer_fits}

@@ -9,9 +9,9 @@ use base_types::outcome::Outcome;
 use base_types::path::Path;
 use base_types::report::{Attempt, Line, Lines, Report};
 use base_types::script::{Command, Commands, ContDecl, ObjDecl, Script};
-use daos_report::text::report_text;
 use report_reader::fault::ReportNo;
 use report_reader::report::read_report;
+use report_writer::text::report_text;
 use std::alloc::Global;
 use std::test::Fail;
 

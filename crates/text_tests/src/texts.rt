@@ -8,7 +8,7 @@ use base_types::outcome::{Cause, FloorWhy, Outcome};
 use base_types::path::Path;
 use base_types::report::{Attempt, Line, Report};
 use base_types::script::{ContDecl, ObjDecl, Script};
-use daos_report::text::report_text;
+use report_writer::text::report_text;
 use std::alloc::Global;
 use std::test::Fail;
 
