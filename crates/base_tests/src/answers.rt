@@ -1,5 +1,6 @@
 // What reads are answered, in the words of a report.
-ghost use Rattle.std.specs.Prelude.{IfOk};
+ghost use Rattle.std.specs.Prelude.{◌≡◌, IfOk};
+ghost use Rattle.base_types.specs.Paths.{record_size};
 ghost use Rattle.daos_model.specs.Effect.{AllEndInArrays, EndsInArray, WritesEndInArrays};
 
 use base_types::answer::{Answer, Piece};
@@ -16,23 +17,29 @@ use daos_model::stand::{Stand, Taken};
 use std::alloc::Global;
 use std::test::Fail;
 
-fn object() -> Path {
+// An object with records of a size.
+fn object(unit: u8) -> Path
+    ensures { record_size result ≡ unit }
+{
     Path {
         cont: ContId(1),
         obj: Some(ObjId {
             class: Class::S1,
             number: 0,
+            unit,
         }),
         dkey: None,
         akey: None,
     }
 }
 
-// An akey under the dkey `d` of the object.
-fn akey(alloc: Global, name: &[u8]) -> Result<Path, Fail> {
+// The akey `a` under the dkey `d` of the object.
+fn akey(alloc: Global, unit: u8) -> Result<Path, Fail>
+    ensures { IfOk result (λ path. record_size path ≡ unit) }
+{
     let dkey = Key::new(alloc, b"d")?;
-    let akey = Key::new(alloc, name)?;
-    let mut path = object();
+    let akey = Key::new(alloc, b"a")?;
+    let mut path = object(unit);
     path.dkey = Some(dkey);
     path.akey = Some(akey);
     Ok(path)
@@ -90,23 +97,23 @@ fn told(alloc: Global, map: &Map, read: &Read) -> Result<String, Fail> {
 }
 
 fn get(alloc: Global) -> Result<Read, Fail> {
-    Ok(Read::Single(akey(alloc, b"a")?))
+    Ok(Read::Single(akey(alloc, 1)?))
 }
 
-fn read(alloc: Global) -> Result<Read, Fail> {
-    Ok(Read::Extent(akey(alloc, b"a")?, 0, 5))
+fn read(alloc: Global, unit: u8, len: u32) -> Result<Read, Fail> {
+    Ok(Read::Extent(akey(alloc, unit)?, 0, len))
 }
 
 fn put(alloc: Global, bytes: &[u8]) -> Result<Write, Fail>
     ensures { IfOk result EndsInArray }
 {
-    Ok(Write::Single(akey(alloc, b"a")?, bytes_of(alloc, bytes)?))
+    Ok(Write::Single(akey(alloc, 1)?, bytes_of(alloc, bytes)?))
 }
 
 fn punch(alloc: Global) -> Result<Write, Fail>
     ensures { IfOk result EndsInArray }
 {
-    Ok(Write::PunchAkey(akey(alloc, b"a")?))
+    Ok(Write::PunchAkey(akey(alloc, 1)?))
 }
 
 // Two bytes from a low index on.
@@ -114,7 +121,15 @@ fn pair(alloc: Global, low: u8, bytes: [u8; 2]) -> Result<Write, Fail>
     ensures { IfOk result EndsInArray }
 {
     let bytes = bytes_of(alloc, &bytes)?;
-    Ok(Write::Extent(akey(alloc, b"a")?, u32::from(low), bytes))
+    Ok(Write::Extent(akey(alloc, 1)?, u32::from(low), bytes))
+}
+
+// Two records of four bytes from the index 1 on.
+fn records(alloc: Global) -> Result<Write, Fail>
+    ensures { IfOk result EndsInArray }
+{
+    let bytes = bytes_of(alloc, b"abcdwxyz")?;
+    Ok(Write::Extent(akey(alloc, 4)?, 1, bytes))
 }
 
 // A transaction of one write.
@@ -172,12 +187,12 @@ fn value_as_of(alloc: Global, epoch: u64) -> Result<String, Fail> {
 
 fn array_as_of(alloc: Global, epoch: u64) -> Result<String, Fail> {
     let took = arrays(alloc)?;
-    told_as_of(alloc, took.as_slice(), epoch, &read(alloc)?)
+    told_as_of(alloc, took.as_slice(), epoch, &read(alloc, 1, 5)?)
 }
 
 fn names_as_of(alloc: Global, epoch: u64) -> Result<String, Fail> {
     let took = values(alloc)?;
-    told_as_of(alloc, took.as_slice(), epoch, &Read::Dkeys(object()))
+    told_as_of(alloc, took.as_slice(), epoch, &Read::Dkeys(object(1)))
 }
 
 #[test]
@@ -204,6 +219,16 @@ fn answers_arrays_as_of_epochs(rt: HostRuntime) -> Result<(), Fail> {
         let text = array_as_of(rt.alloc(), epoch)?;
         assert_eq!(rt; text.as_str(), want);
     }
+    Ok(())
+}
+
+// An index of an object with records of four bytes holds one of them, and a hole counts records.
+#[test]
+fn answers_records(rt: HostRuntime) -> Result<(), Fail> {
+    let alloc = rt.alloc();
+    let took = with_taken(Vec::new(alloc), taken(alloc, 256, records(alloc)?)?)?;
+    let text = told_as_of(alloc, took.as_slice(), 512, &read(alloc, 4, 4)?)?;
+    assert_eq!(rt; text.as_str(), "parts ~1 =abcdwxyz ~1");
     Ok(())
 }
 

@@ -15,17 +15,17 @@ use std::test::Fail;
 
 #[test]
 fn reads_three_bytes_by_two(rt: HostRuntime) -> Result<(), Fail> {
-    let rows: [(&[u32], [Result<usize, Failed>; 4], u64); 4] = [
-        (&[], [Ok(2), Ok(1), Ok(0), Ok(0)], 0),
-        (&[1], [Err(Failed), Ok(2), Ok(1), Ok(0)], 1),
-        (&[2], [Ok(2), Err(Failed), Ok(1), Ok(0)], 1),
-        (&[1, 2], [Err(Failed), Err(Failed), Ok(2), Ok(1)], 2),
+    let rows: [(&[u32], [Option<usize>; 4], u64); 4] = [
+        (&[], [Some(2), Some(1), Some(0), Some(0)], 0),
+        (&[1], [None, Some(2), Some(1), Some(0)], 1),
+        (&[2], [Some(2), None, Some(1), Some(0)], 1),
+        (&[1, 2], [None, None, Some(2), Some(1)], 2),
     ];
     for (fails, answers, faults) in rows {
         let mut source = MemSource::new(rt.alloc(), b"abc", fails)?;
         let mut buf = [0u8; 2];
         for answer in answers {
-            assert_eq!(rt; source.read(&mut buf), answer);
+            assert_eq!(rt; source.read(&mut buf).ok(), answer);
         }
         assert_eq!(rt; source.faults(), faults);
         assert_eq!(rt; buf, [b'c', b'b']);
@@ -35,16 +35,16 @@ fn reads_three_bytes_by_two(rt: HostRuntime) -> Result<(), Fail> {
 
 #[test]
 fn takes_what_has_room(rt: HostRuntime) -> Result<(), Fail> {
-    let rows: [(&[u32], [Result<usize, Failed>; 3], &[u8]); 4] = [
-        (&[], [Ok(2), Ok(1), Ok(0)], b"aba"),
-        (&[1], [Err(Failed), Ok(2), Ok(1)], b"aba"),
-        (&[2], [Ok(2), Err(Failed), Ok(1)], b"aba"),
-        (&[1, 2], [Err(Failed), Err(Failed), Ok(2)], b"ab"),
+    let rows: [(&[u32], [Option<usize>; 3], &[u8]); 4] = [
+        (&[], [Some(2), Some(1), Some(0)], b"aba"),
+        (&[1], [None, Some(2), Some(1)], b"aba"),
+        (&[2], [Some(2), None, Some(1)], b"aba"),
+        (&[1, 2], [None, None, Some(2)], b"ab"),
     ];
     for (fails, answers, held) in rows {
         let mut sink = MemSink::new(rt.alloc(), 3, fails)?;
         for answer in answers {
-            assert_eq!(rt; sink.write(b"ab"), answer);
+            assert_eq!(rt; sink.write(b"ab").ok(), answer);
         }
         assert_eq!(rt; sink.faults(), fails.len() as u64);
         assert_eq!(rt; sink.bytes(), held);
@@ -54,20 +54,22 @@ fn takes_what_has_room(rt: HostRuntime) -> Result<(), Fail> {
 
 #[test]
 fn reads_to_the_end_or_says_why_not(rt: HostRuntime) -> Result<(), Fail> {
-    let rows: [(&[u32], usize, Result<&[u8], ReadNo>); 5] = [
-        (&[], 3, Ok(b"abc")),
-        (&[], 2, Err(ReadNo::TooLong)),
-        (&[], 0, Err(ReadNo::TooLong)),
-        (&[1], 3, Err(ReadNo::Fault)),
-        (&[2], 3, Err(ReadNo::Fault)),
+    // What fails, the limit, and whether it is too long or fails; else it is read.
+    let rows: [(&[u32], usize, bool, bool); 5] = [
+        (&[], 3, false, false),
+        (&[], 2, true, false),
+        (&[], 0, true, false),
+        (&[1], 3, false, true),
+        (&[2], 3, false, true),
     ];
-    for (fails, limit, answer) in rows {
+    for (fails, limit, long, fault) in rows {
         let mut source = MemSource::new(rt.alloc(), b"abc", fails)?;
         let read = read_all(rt.alloc(), &mut source, limit);
-        assert_eq!(rt;
-            read.as_ref().map(|bytes| bytes.as_slice()),
-            answer.as_ref().map(|bytes| *bytes)
-        );
+        assert_eq!(rt; matches!(read, Err(ReadNo::TooLong)), long);
+        assert_eq!(rt; matches!(read, Err(ReadNo::Fault)), fault);
+        if let Ok(bytes) = read {
+            assert_eq!(rt; bytes.as_slice(), b"abc".as_slice());
+        }
     }
     let mut source = SureSource::new(rt.alloc(), b"abc")?;
     assert_eq!(rt;
@@ -79,40 +81,49 @@ fn reads_to_the_end_or_says_why_not(rt: HostRuntime) -> Result<(), Fail> {
 
 #[test]
 fn writes_all_or_says_why_not(rt: HostRuntime) -> Result<(), Fail> {
-    let rows: [(&[u32], u64, Result<(), WriteNo>, &[u8]); 4] = [
-        (&[], 3, Ok(()), b"abc"),
-        (&[], 2, Err(WriteNo::Nothing), b"ab"),
-        (&[1], 3, Err(WriteNo::Fault), b""),
-        (&[2], 2, Err(WriteNo::Fault), b"ab"),
+    // What fails, the room, whether nothing was taken or it fails, and what is held.
+    let rows: [(&[u32], u64, bool, bool, &[u8]); 4] = [
+        (&[], 3, false, false, b"abc"),
+        (&[], 2, true, false, b"ab"),
+        (&[1], 3, false, true, b""),
+        (&[2], 2, false, true, b"ab"),
     ];
-    for (fails, room, answer, held) in rows {
+    for (fails, room, nothing, fault, held) in rows {
         let mut sink = MemSink::new(rt.alloc(), room, fails)?;
-        assert_eq!(rt; write_all(&mut sink, b"abc"), answer);
+        let written = write_all(&mut sink, b"abc");
+        assert_eq!(rt; matches!(written, Err(WriteNo::Nothing)), nothing);
+        assert_eq!(rt; matches!(written, Err(WriteNo::Fault)), fault);
         assert_eq!(rt; sink.bytes(), held);
     }
     let mut sink = SureSink::new(rt.alloc(), 2)?;
-    assert_eq!(rt; write_all(&mut sink, b"abc"), Err(WriteNo::Nothing));
+    let written = write_all(&mut sink, b"abc");
+    assert!(rt; matches!(written, Err(WriteNo::Nothing)));
     assert_eq!(rt; sink.bytes(), b"ab".as_slice());
     Ok(())
+}
+
+// What doesn't fail.
+fn sure<T: Drop>(answer: Result<T, Failed>) -> Result<T, ReadNo> {
+    answer.map_err(|_failed| ReadNo::Fault)
 }
 
 #[test]
 fn a_rack_hands_out_what_is_at_home(rt: HostRuntime) -> Result<(), Fail> {
     let mut rack = SureRack::new(rt.alloc(), 2, 4)?;
-    let mut region = rack.region(1, 9)?;
+    let mut region = sure(rack.region(1, 9))?;
     let mut bytes = [7u8; 4];
     assert_eq!(rt; region.size(), 4);
-    region.read(0, &mut bytes)?;
+    sure(region.read(0, &mut bytes))?;
     assert_eq!(rt; bytes, [0; 4]);
-    region.write(1, b"xy")?;
+    sure(region.write(1, b"xy"))?;
     for (target, faults) in [(1, 1), (2, 2)] {
         assert!(rt; rack.region(target, 4).is_err());
         assert_eq!(rt; rack.faults(), faults);
     }
     rack.take_back(1, region);
-    let mut again = rack.region(1, 4)?;
+    let mut again = sure(rack.region(1, 4))?;
     assert_eq!(rt; again.size(), 4);
-    again.read(0, &mut bytes)?;
+    sure(again.read(0, &mut bytes))?;
     assert_eq!(rt; bytes, [0, b'x', b'y', 0]);
     assert_eq!(rt; rack.clock(0).now(), 0);
     Ok(())

@@ -1,7 +1,7 @@
 // Which paths lead to which.
 use base_types::id::{Class, ContId, ObjId};
 use base_types::key::Key;
-use base_types::path::{Level, Path};
+use base_types::path::Path;
 use std::alloc::Global;
 use std::test::Fail;
 
@@ -11,6 +11,7 @@ fn path(alloc: Global, number: u64, keys: &[&[u8]]) -> Result<Path, Fail> {
         obj: Some(ObjId {
             class: Class::S1,
             number,
+            unit: 1,
         }),
         dkey: None,
         akey: None,
@@ -32,8 +33,14 @@ fn a_prefix_leads_to_what_goes_on(rt: HostRuntime) -> Result<(), Fail> {
     let akey = path(alloc, 0, &[b"d", b"a"])?;
     let beside = path(alloc, 0, &[b"e", b"a"])?;
     let other = path(alloc, 1, &[b"d", b"a"])?;
-    assert_eq!(rt; akey.level(), Level::Akey);
-    assert_eq!(rt; object.level(), Level::Obj);
+    let mut wide = path(alloc, 0, &[b"d", b"a"])?;
+    wide.obj = Some(ObjId {
+        class: Class::S1,
+        number: 0,
+        unit: 4,
+    });
+    assert_eq!(rt; akey.level().depth(), 3);
+    assert_eq!(rt; object.level().depth(), 1);
     let table = [
         (&object, &akey, true, true, false),
         (&dkey, &akey, true, true, false),
@@ -41,11 +48,12 @@ fn a_prefix_leads_to_what_goes_on(rt: HostRuntime) -> Result<(), Fail> {
         (&akey, &akey, true, true, true),
         (&dkey, &beside, false, false, false),
         (&object, &other, false, false, false),
+        (&object, &wide, false, false, false),
     ];
     for (one, two, leads, overlaps, same) in table {
-        assert_eq!(rt; one.leads_to(two), leads, "{one:?} {two:?}");
-        assert_eq!(rt; one.overlaps(two), overlaps, "{one:?} {two:?}");
-        assert_eq!(rt; one.same(two), same, "{one:?} {two:?}");
+        assert_eq!(rt; one.leads_to(two), leads);
+        assert_eq!(rt; one.overlaps(two), overlaps);
+        assert_eq!(rt; one.same(two), same);
     }
     Ok(())
 }

@@ -15,6 +15,7 @@ fn places_groups(rt: HostRuntime) -> Result<(), Fail> {
         let obj = ObjId {
             class: Class::RP2GX,
             number,
+            unit: 1,
         };
         assert_eq!(rt;
             members(alloc, obj, group, n)?.as_slice(),

@@ -24,6 +24,7 @@ fn path(alloc: Global, dkey: &[u8], akey: &[u8]) -> Result<Path, Fail> {
         obj: Some(ObjId {
             class: Class::S1,
             number: 0,
+            unit: 1,
         }),
         dkey: None,
         akey: None,

@@ -55,6 +55,15 @@ fn the_least_are_taken(rt: HostRuntime) -> Result<(), Fail> {
 }
 
 #[test]
+fn each_take_leaves_less_to_stage(rt: HostRuntime) -> Result<(), Fail> {
+    let mut blocks = fresh(rt.alloc(), 2097152).ok_or("memory")?;
+    assert_eq!(rt; blocks.left(), (1024, 256000));
+    assert_eq!(rt; blocks.take(3), Ok(1264));
+    assert_eq!(rt; blocks.left(), (1021, 255997));
+    Ok(())
+}
+
+#[test]
 fn what_is_dropped_is_free_again(rt: HostRuntime) -> Result<(), Fail> {
     let mut blocks = fresh(rt.alloc(), 2097152).ok_or("memory")?;
     assert_eq!(rt; blocks.take(3), Ok(1264));

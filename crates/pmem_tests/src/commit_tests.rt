@@ -88,6 +88,24 @@ fn a_cut_commit_leaves_the_old_bytes_or_the_new(rt: HostRuntime) -> Result<(), F
     Ok(())
 }
 
+// Commits with a fuse that is set through the log: whether it went well, and how often the fuse and the
+// outside failed the region.
+fn fused(alloc: Global, fuse: u32) -> Option<(bool, u64, u64)> {
+    let region = MemRegion::new(alloc, SIZE, &[], Keep::All).ok()?;
+    let mut undo = UndoRegion::format(alloc, Fused::new(region)).ok()?;
+    undo.set_fuse(fuse);
+    let done = commit(&mut undo, b"new")?;
+    Some((done, undo.region().burnt(), undo.region().faults()))
+}
+
+#[test]
+fn a_fuse_cuts_the_first_four_writes(rt: HostRuntime) -> Result<(), Fail> {
+    for (fuse, done, burnt) in [(0, true, 0), (1, false, 1), (4, false, 1), (5, true, 0)] {
+        assert_eq!(rt; fused(rt.alloc(), fuse), Some((done, burnt, 0)));
+    }
+    Ok(())
+}
+
 // Two writes, a flush, and two writes more, and what an opening leaves of them.
 fn opened(alloc: Global, keep: Keep) -> Option<[u8; 4]> {
     let mut region = match MemRegion::new(alloc, 4, &[], keep) {
