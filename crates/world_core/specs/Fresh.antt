@@ -220,6 +220,7 @@ fresh-begun r size incarnation few = record {
   enlisted = λ t s here. subst (λ z. AreEnlisted r.script z.durable) (at-replicate r.script.targets (fresh_target r.script size incarnation) t s here) (fresh-opens r.script r.script.targets t size incarnation few).1;
   clients = refl;
   messages = refl;
+  asked = refl;
   issued = refl;
   lines = refl;
 }
@@ -237,4 +238,5 @@ fresh-begun r size incarnation few = record {
       stamps = refl;
       leader = refl;
       member = refl;
+      collecting = refl;
     }
