@@ -3,8 +3,6 @@
 #![tactic(auto)]
 
 #[cfg(test)]
-mod answers;
-#[cfg(test)]
 mod classes;
 #[cfg(test)]
 mod clocks;
@@ -16,8 +14,6 @@ mod hashes;
 mod keys;
 #[cfg(test)]
 mod leases;
-#[cfg(test)]
-mod messages;
 #[cfg(test)]
 mod names;
 #[cfg(test)]

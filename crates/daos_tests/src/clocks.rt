@@ -1,7 +1,6 @@
 // Epochs that follow the clock.
 use crate::planned::PlannedRack;
 use daos_app::daos::run_daos;
-use daos_app::status::Status;
 use daos_outside::gate::FreeGate;
 use daos_outside::sure_rack::SureRack;
 use daos_outside::sure_sink::SureSink;
@@ -38,7 +37,7 @@ fn the_clock_is_read_once_an_epoch(rt: HostRuntime) -> Result<(), Fail> {
         got 0 absent\n\
         try 0 2 0 9223372036854775808 committed\n\
         end 0\n";
-    assert_eq!(rt; status, Status::Done);
+    assert_eq!(rt; status.number(), 0);
     assert_eq!(rt; sink.bytes(), wanted.as_slice());
     Ok(())
 }

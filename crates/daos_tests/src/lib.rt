@@ -1,17 +1,11 @@
-// The worked examples, run through the public calls of all crates.
+// The program over odd sources, sinks and clocks. What it makes of words and scripts is data of daos_cases.
 #![tactic(auto)]
 
 #[cfg(test)]
-mod clients;
-#[cfg(test)]
 mod clocks;
 #[cfg(test)]
-mod copies;
-#[cfg(test)]
-mod first;
+mod faults;
 #[cfg(test)]
 mod planned;
 #[cfg(test)]
 mod slow;
-#[cfg(test)]
-mod targets;

@@ -35,7 +35,7 @@ reader = record { client = 1; command = 0; attempt = 0 }
 
 -- an akey of the object of class S1 and number 1
 abbrev pub akey : Path
-akey = record { cont = cont; obj = Some (record { class = S1; number = 1 }); dkey = Some (100 ∷ []); akey = Some (97 ∷ []) }
+akey = record { cont = cont; obj = Some (record { class = S1; number = 1; unit = 1 }); dkey = Some (100 ∷ []); akey = Some (97 ∷ []) }
 
 -- the entry of the attempt that writes, which the first target leads
 abbrev pub entry : Entry

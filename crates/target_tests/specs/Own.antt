@@ -20,7 +20,7 @@ led = record { client = 0; command = 0; attempt = 0 }
 
 -- an akey of the object of class RP_2G1 and number 0, which both targets hold
 abbrev pub shared : Path
-shared = record { cont = cont; obj = Some (record { class = RP2G1; number = 0 }); dkey = Some (100 ∷ []); akey = Some (97 ∷ []) }
+shared = record { cont = cont; obj = Some (record { class = RP2G1; number = 0; unit = 1 }); dkey = Some (100 ∷ []); akey = Some (97 ∷ []) }
 
 abbrev pub write_shared : MinorWrite
 write_shared = record { minor = 0; write = write.Single shared (49 ∷ []) }

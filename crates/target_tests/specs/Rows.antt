@@ -20,7 +20,7 @@ cont = record { 0 = 1 }
 
 -- an akey of the object of class S1 and number 0, under the dkey d
 abbrev pub akey : List ℕ → Path
-akey name = record { cont = cont; obj = Some (record { class = S1; number = 0 }); dkey = Some (100 ∷ []); akey = Some name }
+akey name = record { cont = cont; obj = Some (record { class = S1; number = 0; unit = 1 }); dkey = Some (100 ∷ []); akey = Some name }
 
 -- the only target
 abbrev pub lone : TargetPlan

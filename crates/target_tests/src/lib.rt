@@ -1,9 +1,8 @@
-// Rows over targets: several turns in a row.
+// Messages that no run sends: a Mark before its Prepare, and what a leader is told of its own attempts.
 #![tactic(auto)]
 
 pub mod overtaken;
 pub mod own;
-pub mod rows;
 pub mod steps;
 #[cfg(test)]
 mod tests;

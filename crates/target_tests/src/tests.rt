@@ -1,88 +1,15 @@
-// Rows over targets, with what follows from their turns.
+// What follows from the turns.
 use crate::overtaken::{LEADER, READER, mark_before_prepare, reader, writer};
 use crate::own::{MEMBER, led, told_of_own};
-use crate::rows::{attempt, read_unsettled, write_below_read};
-use crate::steps::akey;
 use base_types::answer::Answer;
 use base_types::entry::Verdict;
 use base_types::epoch::Epoch;
-use base_types::outcome::{Cause, Outcome};
 use base_messages::actor::ActorId;
 use base_messages::message::{Message, Reply};
 use daos_outside::count_clock::CountClock;
 use std::test::Fail;
 use vos_plain::store::PlainStore;
 use world_base::did::Did;
-
-// The reply to a read and its epoch, which are all that follows.
-fn reply_of(did: &Did) -> Option<(Epoch, &Reply)> {
-    match did.posts.as_slice() {
-        [post] => match &post.message {
-            Message::Fetched {
-                epoch: Some(epoch),
-                reply,
-                ..
-            } => Some((*epoch, reply)),
-            _ => None,
-        },
-        _ => None,
-    }
-}
-
-// How an attempt ended, and its epoch, which are all that follows.
-fn end_of(did: &Did) -> Option<(Epoch, &Outcome)> {
-    match did.posts.as_slice() {
-        [post] => match &post.message {
-            Message::Ended {
-                ep: Some(epoch),
-                outcome,
-                ..
-            } => Some((*epoch, outcome)),
-            _ => None,
-        },
-        _ => None,
-    }
-}
-
-#[test]
-fn a_later_read_refuses_a_write(rt: HostRuntime) -> Result<(), Fail> {
-    let alloc = rt.alloc();
-    let store = PlainStore::new(alloc, 4, &[])?;
-    let row = write_below_read(alloc, store, CountClock::new())?;
-    match reply_of(&row.read) {
-        Some((epoch, Reply::Answer(Answer::Absent))) => assert_eq!(rt; epoch, Epoch(512)),
-        _ => assert!(rt; false, "the read isn't answered"),
-    }
-    match end_of(&row.refused) {
-        Some((at, Outcome::Restart(Cause::ReadLater { by, epoch, path }))) => {
-            assert_eq!(rt; (at, *epoch), (Epoch(256), Epoch(512)));
-            assert_eq!(rt; *by, attempt(1, 0));
-            assert!(rt; path.same(&akey(alloc, b"a")?));
-        }
-        _ => assert!(rt; false, "the write isn't refused by a later read"),
-    }
-    match end_of(&row.committed) {
-        Some((epoch, Outcome::Committed)) => assert_eq!(rt; epoch, Epoch(768)),
-        _ => assert!(rt; false, "the write isn't committed"),
-    }
-    Ok(())
-}
-
-#[test]
-fn a_read_settles_what_was_decided(rt: HostRuntime) -> Result<(), Fail> {
-    let alloc = rt.alloc();
-    let store = PlainStore::new(alloc, 4, &[])?;
-    let row = read_unsettled(alloc, store, CountClock::new())?;
-    assert_eq!(rt; (row.before, row.after), (true, false));
-    match reply_of(&row.read) {
-        Some((epoch, Reply::Answer(Answer::Bytes(bytes)))) => {
-            assert_eq!(rt; epoch, Epoch(512));
-            assert_eq!(rt; bytes.as_slice(), b"1".as_slice());
-        }
-        _ => assert!(rt; false, "the read isn't answered by a value"),
-    }
-    Ok(())
-}
 
 #[test]
 fn a_mark_overtakes_its_prepare(rt: HostRuntime) -> Result<(), Fail> {

@@ -1,15 +1,5 @@
-// Tests of the formats: scripts, reports, words, loads and their summaries.
+// The limits of scripts, whose texts are too long to be kept as data.
 #![tactic(auto)]
 
 #[cfg(test)]
-mod loads;
-#[cfg(test)]
-mod reports;
-#[cfg(test)]
-mod scripts;
-#[cfg(test)]
-mod summaries;
-#[cfg(test)]
-mod texts;
-#[cfg(test)]
-mod words;
+mod limits;
