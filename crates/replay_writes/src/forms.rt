@@ -1,13 +1,15 @@
 // Whether writes are in form, and can be asked of a target.
-ghost use Rattle.std.specs.Prelude.{◌≡◌, All, Decides, map};
+ghost use Rattle.std.specs.Prelude.{◌≡◌, ◌==◌, ◌%◌, All, Decides, map};
 ghost use Rattle.std.specs.List.Sorted.{IsStrictlyIncreasing};
-ghost use Rattle.daos_model.specs.Forms.{AreWritesInForm, ends_at_akey, ends_at_dkey, ends_at_object, is_length, is_write_in_form, minor_of};
+ghost use Rattle.base_types.specs.Paths.{record_size};
+ghost use Rattle.daos_model.specs.Forms.{AreWritesInForm, ends_at_akey, ends_at_dkey, ends_at_object, fits_array, fits_records, is_length, is_unit, is_write_in_form, minor_of};
 ghost use Rattle.replay_base.specs.Heard.{CanCommit};
 ghost use Rattle.replay_writes.specs.Committed.{FitsIn, IsOne};
 
 use base_types::operation::{MinorWrite, Write};
 use base_types::path::Path;
 use daos_class::class::Placed;
+use daos_model::records::{count_records, record_size};
 use world_base::target::TargetPlan;
 
 fn ends_at_akey(path: &Path) -> bool
@@ -34,6 +36,37 @@ fn is_length(len: usize) -> bool
     1 <= len && len <= 1024
 }
 
+fn is_unit(size: u8) -> bool
+    ensures { result ≡ is_unit size }
+{
+    1 <= size && size <= 64
+}
+
+// Whether so many records of a size, from an index on, fit an array.
+fn fits_array(size: u8, low: u32, count: usize) -> bool
+    ensures { result ≡ fits_array size low count }
+{
+    is_unit(size) && (count as u64) < 4_294_967_296 - u64::from(low)
+}
+
+// Whether so many bytes are whole records of a size.
+fn is_whole(size: u8, len: usize) -> bool
+    ensures { result ≡ (len % size == 0) }
+{
+    match size {
+        0 => len == 0,
+        size => len % usize::from(size) == 0,
+    }
+}
+
+// Whether so many bytes, from an index on, are whole records of the array under a path and fit it.
+fn fits_records(path: &Path, low: u32, len: usize) -> bool
+    ensures { result ≡ fits_records (record_size path.now) low len }
+{
+    let size = record_size(path);
+    is_whole(size, len) && fits_array(size, low, count_records(path, len))
+}
+
 /// Whether a write is in form.
 #[tactic(auto, unfolding(daos_model::specs::Forms::is_write_in_form))]
 pub fn is_write_in_form(write: &Write) -> bool
@@ -44,7 +77,7 @@ pub fn is_write_in_form(write: &Write) -> bool
         Write::Extent(path, low, bytes) => {
             ends_at_akey(path)
                 && is_length(bytes.len())
-                && u64::from(*low) + (bytes.len() as u64) < 4_294_967_296
+                && fits_records(path, *low, bytes.len())
         }
         Write::PunchObject(path) => ends_at_object(path),
         Write::PunchDkey(path) => ends_at_dkey(path),

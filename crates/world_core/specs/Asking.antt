@@ -236,7 +236,7 @@ pub record ReadIsAsked (r : Rules) (w : World) (t : ℕ) (f : FetchRequest) : Ty
 pub fetch-right : (r : Rules) (o : Opening) (h : History) (w : World) (t : ℕ) (f : FetchRequest) → Facts r o h w → ReadIsAsked r w t f → f.snapshot ≡ false → IsFetchRight r t f.attempt f.op f.group f.read f.snapshot
 fetch-right r o h w t f k i plain = record {
   now = plain;
-  form = read-in-form r.script.objs f.read in_form;
+  form = read-in-form r.script.objs f.read k.form.declared.obj_units in_form;
   asked = λ e b. record { op = asks.o; at = (f.op, refl, ops-at); stage = i.a.stage; asks = asks.asked; obj = obj.0; of_object = obj.1; member = member };
   obj = obj.0;
   of_object = obj.1;
@@ -426,7 +426,7 @@ requests-are-right r o held h w k before = record {
   before = before;
   above = λ x e i. k.judged.epochs.above x e i;
   apart = λ x y e f i j same. k.judged.epochs.apart x y e i (subst (λ z. Contains w.issued (y, z)) (sym (same-epoch e f same)) j);
-  forms = λ x. writes-in-form r.script.objs (attempt_ops r.script x) (ops-few r.script.targets r.script x k.form) (ops-form r.script.targets r.script x k.form);
+  forms = λ x. writes-in-form r.script.objs (attempt_ops r.script x) k.form.declared.obj_units (ops-few r.script.targets r.script x k.form) (ops-form r.script.targets r.script x k.form);
   fits = λ x m i. writes-fit r x m k.form (has-from_contains (minor_writes 0 (attempt_ops r.script x)) m i);
   few = k.few;
   asked = λ l t s among to here runs. message-right r o h w k l t s among to here runs;

@@ -83,7 +83,7 @@ module _ (r : Rules) (plain : IsPlainScript r) where
   asks-read : (n place : ℕ) (ops : List Op) (turns : List ℕ) (snapshot : Option (List ℕ)) (a : Present) (op : Op) (q : Read) (ep : Option Epoch) → slice_get (commands_or_none (slice_get r.script.clients n)) place ≡ Some (command.Run ops turns snapshot)
       → slice_get ops a.op ≡ Some op → question a.stage op ≡ Some q → IsReadAsked q ep (is_some snapshot)
   asks-read n place ops turns snapshot a op q ep at here asks = record {
-    form = read-in-form r.script.objs q (question-form r.script.objs a.stage op q (all-at (IsOpInForm r.script.objs) ops a.op op (command-here r n place (command.Run ops turns snapshot) plain.form at).1.0.in_form here) asks);
+    form = read-in-form r.script.objs q plain.form.declared.obj_units (question-form r.script.objs a.stage op q (all-at (IsOpInForm r.script.objs) ops a.op op (command-here r n place (command.Run ops turns snapshot) plain.form at).1.0.in_form here) asks);
     known = by snapshot (plain.unsnapped n place (command.Run ops turns snapshot) at);
   }
     where
@@ -98,7 +98,7 @@ module _ (r : Rules) (plain : IsPlainScript r) where
       let f = (command-here r n place (command.Run ops turns snapshot) plain.form at).1.0 in
       let first = fit-object r.script.targets r.script.objs (write_path w.write) plain.form.classes (write-declared r.script.objs w.write (writes-declared r.script.objs ops f.in_form w (subst (Has w) (sym all) (inl refl)))) in
       record {
-        form = subst AreWritesInForm all (writes-in-form r.script.objs ops f.few f.in_form);
+        form = subst AreWritesInForm all (writes-in-form r.script.objs ops plain.form.declared.obj_units f.few f.in_form);
         some = leader-writes (target_plan r (writes_leader (w ∷ ws) r.script.targets)) w ws first.0 refl first.1 first.2;
         fit = subst (All (λ m. IfSome (write_path m.write).obj (λ o. ClassFits o.class r.script.targets))) all
             (all-from_has (λ m. IfSome (write_path m.write).obj (λ o. ClassFits o.class r.script.targets)) (minor_writes 0 ops) (λ m i. fits-all m.write (writes-declared r.script.objs ops f.in_form m i)));

@@ -1,5 +1,5 @@
 -- What is read and written by a script in form is in form.
-use Rattle.std.specs.Prelude.{ℕ, ◌≡◌, ◌⊎◌, ◌≤◌, ◌<◌, ◌+◌, ◌++◌, ◌^◌, Bool, true, false, ◌&&◌, ◌||◌, nat_lt, nat_le, List, [], ◌∷◌, length, slice_get, map, is_some, is_none, All, AllPairs, Option, Some, None, refl, if◌then◌else◌}
+use Rattle.std.specs.Prelude.{ℕ, ◌≡◌, ◌⊎◌, ◌≤◌, ◌<◌, ◌+◌, ◌++◌, ◌*◌, ◌/◌, ◌%◌, ◌^◌, ◌==◌, Bool, true, false, ◌&&◌, ◌||◌, nat_lt, nat_le, List, [], ◌∷◌, length, slice_get, map, is_some, is_none, All, AllPairs, Option, Some, None, refl, if◌then◌else◌}
 use Rattle.std.proofs.Common.{inl, inr, zero, suc, sym, ap, subst, arith}
 use Rattle.std.proofs.lemmas.Bool.Decides.{nat_tests}
 use Rattle.std.proofs.lemmas.List.Elements.{All-head, All-tail}
@@ -19,7 +19,8 @@ use Rattle.base_types.specs.declared.script.Command.TheVariants.{Run, Snap, Aggr
 use Rattle.base_types.specs.declared.script.ContDecl.{ContDecl}
 use Rattle.base_types.specs.declared.script.ObjDecl.{ObjDecl}
 use Rattle.base_types.specs.declared.script.Script.{Script}
-use Rattle.base_types.specs.Scripts.{AreCommands, IsCommand, IsInForm, SnapName, is_numbered, old_snap, snap_of, IsActInForm, IsAkeyOf, IsDkeyOf, IsLength, IsObjectOf, IsOfObject, IsOpInForm, IsPathOf, IsReadInForm, IsWriteInForm}
+use Rattle.base_types.specs.Paths.{record_size, unit_of}
+use Rattle.base_types.specs.Scripts.{AreCommands, IsCommand, IsInForm, SnapName, is_numbered, old_snap, snap_of, IsActInForm, IsAkeyOf, IsDkeyOf, IsLength, IsObjectOf, IsOfObject, IsOpInForm, IsPathOf, IsReadInForm, IsUnit, IsWriteInForm}
 use Rattle.model_laws.specs.DecidedLaws.{all-from_has}
 use Rattle.model_laws.specs.Lists.{all-at}
 use Rattle.model_laws.specs.Members.{Has, has-cases, has-from_map}
@@ -27,7 +28,7 @@ use Rattle.daos_model.specs.Accesses.{minor_write, minor_writes}
 use Rattle.daos_model.specs.Transactions.{attempt_ops, command_of, numbered, ops_of, ops_or_none}
 use Rattle.world_reads.specs.ListLaws.{increasing-pairs}
 use Rattle.daos_model.specs.BoolLaws.{both}
-use Rattle.daos_model.specs.Forms.{AreWritesInForm, minor_of, ends_at_akey, ends_at_dkey, ends_at_object, is_length, is_path_in_form, is_read_in_form, is_write_in_form}
+use Rattle.daos_model.specs.Forms.{AreWritesInForm, minor_of, ends_at_akey, ends_at_dkey, ends_at_object, fits_array, fits_records, is_length, is_unit, is_path_in_form, is_read_in_form, is_write_in_form}
 use Rattle.std.proofs.lemmas.Bool.{or_right}
 
 -- ---- paths
@@ -65,22 +66,50 @@ of-end n m h = grind (arith, nat_tests)
 
 -- ---- reads and writes
 
-pub read-in-form : (objs : List ObjDecl) (q : Read) → IsReadInForm objs q → is_read_in_form q ≡ true
-unfolding is_read_in_form
-read-in-form objs (read.Single p) k = at-akey objs p k
-read-in-form objs (read.Extent p low len) k = both (ends_at_akey p && is_length (len * record_size p)) (fits_array (record_size p) low len) (both (ends_at_akey p) (is_length (len * record_size p)) (at-akey objs p k.0) (of-length len k.1)) (of-end (low + len) (2 ^ 32) k.2)
-read-in-form objs (read.Dkeys p) k = at-object objs p k
-read-in-form objs (read.Akeys p) k = at-dkey objs p k
-read-in-form objs (read.Exists p) k = any-path objs p k
+-- declared objects have record sizes
+abbrev pub HaveUnits : List ObjDecl → Type 0
+HaveUnits objs = All (λ d. IsUnit d.id.unit) objs
 
-pub write-in-form : (objs : List ObjDecl) (w : Write) → IsWriteInForm objs w → is_write_in_form w ≡ true
+of-unit : (n : ℕ) → IsUnit n → is_unit n ≡ true
+of-unit n k = both (nat_le 1 n) (nat_le n 64) (low n k.0) (high n k.1)
+  where
+    low : (n : ℕ) → 0 < n → nat_le 1 n ≡ true
+    low n h = grind (arith, nat_tests)
+
+    high : (n : ℕ) → n ≤ 64 → nat_le n 64 ≡ true
+    high n h = grind (arith, nat_tests)
+
+-- so the arrays under the path of one have one
+has-unit : (objs : List ObjDecl) (p : Path) → HaveUnits objs → IsOfObject objs p → is_unit (record_size p) ≡ true
+has-unit objs p units i = subst (λ o. is_unit (unit_of o) ≡ true) i.4.0 (of-unit i.1.id.unit (subst (λ (d : ObjDecl). IsUnit d.id.unit) i.3 (units i.0 i.1 i.2)))
+
+of-array : (size low count : ℕ) → is_unit size ≡ true → low + count < 2 ^ 32 → fits_array size low count ≡ true
+of-array size low count unit short = both (is_unit size) (nat_lt (low + count) (2 ^ 32)) unit (of-end (low + count) (2 ^ 32) short)
+
+of-records : (size low len : ℕ) → is_unit size ≡ true → len % size ≡ 0 → low + len / size < 2 ^ 32 → fits_records size low len ≡ true
+of-records size low len unit whole short = both (len % size == 0) (fits_array size low (len / size)) (ap (λ n. n == 0) whole) (of-array size low (len / size) unit short)
+
+pub read-in-form : (objs : List ObjDecl) (q : Read) → HaveUnits objs → IsReadInForm objs q → is_read_in_form q ≡ true
+unfolding is_read_in_form
+read-in-form objs (read.Single p) units k = at-akey objs p k
+read-in-form objs (read.Extent p low len) units k =
+    both (ends_at_akey p && is_length (len * record_size p)) (fits_array (record_size p) low len)
+    (both (ends_at_akey p) (is_length (len * record_size p)) (at-akey objs p k.0) (of-length (len * record_size p) k.1))
+    (of-array (record_size p) low len (has-unit objs p units k.0.declared) k.2)
+read-in-form objs (read.Dkeys p) units k = at-object objs p k
+read-in-form objs (read.Akeys p) units k = at-dkey objs p k
+read-in-form objs (read.Exists p) units k = any-path objs p k
+
+pub write-in-form : (objs : List ObjDecl) (w : Write) → HaveUnits objs → IsWriteInForm objs w → is_write_in_form w ≡ true
 unfolding is_write_in_form
-write-in-form objs (write.Single p bytes) k = both (ends_at_akey p) (is_length (length bytes)) (at-akey objs p k.0) (of-length (length bytes) k.1)
-write-in-form objs (write.Extent p low bytes) k =
-    both (ends_at_akey p && is_length (length bytes)) (fits_records (record_size p) low (length bytes)) (both (ends_at_akey p) (is_length (length bytes)) (at-akey objs p k.0) (of-length (length bytes) k.1)) (of-end (low + length bytes) (2 ^ 32) k.2)
-write-in-form objs (write.PunchObject p) k = at-object objs p k
-write-in-form objs (write.PunchDkey p) k = at-dkey objs p k
-write-in-form objs (write.PunchAkey p) k = at-akey objs p k
+write-in-form objs (write.Single p bytes) units k = both (ends_at_akey p) (is_length (length bytes)) (at-akey objs p k.0) (of-length (length bytes) k.1)
+write-in-form objs (write.Extent p low bytes) units k =
+    both (ends_at_akey p && is_length (length bytes)) (fits_records (record_size p) low (length bytes))
+    (both (ends_at_akey p) (is_length (length bytes)) (at-akey objs p k.0) (of-length (length bytes) k.1))
+    (of-records (record_size p) low (length bytes) (has-unit objs p units k.0.declared) k.2 k.3)
+write-in-form objs (write.PunchObject p) units k = at-object objs p k
+write-in-form objs (write.PunchDkey p) units k = at-dkey objs p k
+write-in-form objs (write.PunchAkey p) units k = at-akey objs p k
 
 -- ---- the writes of an attempt
 
@@ -142,10 +171,10 @@ minors-form objs n (op ∷ ops) forms w i = by op.act (All-head (IsOpInForm objs
     by (act.Change x) f (inl (inr j)) rest = absurd j
 
 -- the writes of a transaction of at most 64 operations in form are in form
-pub writes-in-form : (objs : List ObjDecl) (ops : List Op) → length ops ≤ 64 → All (IsOpInForm objs) ops → AreWritesInForm (minor_writes 0 ops)
-writes-in-form objs ops few forms = record {
+pub writes-in-form : (objs : List ObjDecl) (ops : List Op) → HaveUnits objs → length ops ≤ 64 → All (IsOpInForm objs) ops → AreWritesInForm (minor_writes 0 ops)
+writes-in-form objs ops units few forms = record {
   count = let k : length (minor_writes 0 ops) ≤ length ops = minors-few 0 ops in omega (arith, k, few);
-  each = all-from_has (λ w. is_write_in_form w.write ≡ true) (minor_writes 0 ops) (λ w i. write-in-form objs w.write (minors-form objs 0 ops forms w i));
+  each = all-from_has (λ w. is_write_in_form w.write ≡ true) (minor_writes 0 ops) (λ w i. write-in-form objs w.write units (minors-form objs 0 ops forms w i));
   rising = increasing-pairs (map minor_of (minor_writes 0 ops)) (minors-rise 0 ops);
   minors = all-from_has (λ w. w.minor < 64) (minor_writes 0 ops) (λ w i. let k : w.minor < 0 + length ops = (minor-from 0 ops w i).1 in omega (arith, k, few));
 }
@@ -190,13 +219,13 @@ ops-few targets s x f = by (slice_get s.clients x.client) refl
 
 -- ---- the statements
 
--- a read of a script in form is in form
+-- a read of a script in form is in form, where declared objects have record sizes
 abbrev pub ReadsAreInForm : Type 0
-ReadsAreInForm = (objs : List ObjDecl) (q : Read) → IsReadInForm objs q → is_read_in_form q ≡ true
+ReadsAreInForm = (objs : List ObjDecl) (q : Read) → HaveUnits objs → IsReadInForm objs q → is_read_in_form q ≡ true
 
 -- the writes of an attempt of at most 64 operations in form are in form, and each is as the script declares
 abbrev pub WritesAreInForm : Type 0
-WritesAreInForm = (objs : List ObjDecl) (ops : List Op) → length ops ≤ 64 → All (IsOpInForm objs) ops → AreWritesInForm (minor_writes 0 ops) × ((w : MinorWrite) → Has w (minor_writes 0 ops) → IsWriteInForm objs w.write)
+WritesAreInForm = (objs : List ObjDecl) (ops : List Op) → HaveUnits objs → length ops ≤ 64 → All (IsOpInForm objs) ops → AreWritesInForm (minor_writes 0 ops) × ((w : MinorWrite) → Has w (minor_writes 0 ops) → IsWriteInForm objs w.write)
 
 pub writes-are-in-form : WritesAreInForm
-writes-are-in-form objs ops few forms = (writes-in-form objs ops few forms, writes-declared objs ops forms)
+writes-are-in-form objs ops units few forms = (writes-in-form objs ops units few forms, writes-declared objs ops forms)

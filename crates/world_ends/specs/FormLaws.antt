@@ -19,7 +19,7 @@ use Rattle.daos_model.specs.Accesses.{minor_write, minor_writes}
 use Rattle.daos_model.specs.Attempts.{snapshot_or_none}
 use Rattle.daos_model.specs.Forms.{is_write_in_form}
 use Rattle.daos_model.specs.Transactions.{attempt_ops, command_of, numbered_at, ops_of, read_numbers}
-use Rattle.world_core.specs.ScriptForm.{write-in-form}
+use Rattle.world_core.specs.ScriptForm.{HaveUnits, write-in-form}
 use Rattle.world_epochs.specs.Epochs.{Unsnapped, is_unsnapped}
 use Rattle.world_base.specs.Events.{Rules, commands_or_none}
 use Rattle.world_gots.specs.FormLaws.{ops-form}
@@ -31,19 +31,19 @@ use Rattle.world_ends.specs.PlainCauses.{reads-now}
 abbrev pub IsMinorInForm : MinorWrite → Type 0
 IsMinorInForm w = is_write_in_form w.write ≡ true
 
-minors-form : (objs : List ObjDecl) (n : ℕ) (ops : List Op) → All (IsOpInForm objs) ops → All IsMinorInForm (minor_writes n ops)
+minors-form : (objs : List ObjDecl) (n : ℕ) (ops : List Op) → HaveUnits objs → All (IsOpInForm objs) ops → All IsMinorInForm (minor_writes n ops)
 unfolding minor_writes
-minors-form objs n [] forms = All-nil IsMinorInForm
-minors-form objs n (op ∷ ops) forms =
-    All-append IsMinorInForm (minor_write n op.act) (minor_writes (n + 1) ops) (one op.act (All-head (IsOpInForm objs) op ops forms).act) (minors-form objs (n + 1) ops (All-tail (IsOpInForm objs) op ops forms))
+minors-form objs n [] units forms = All-nil IsMinorInForm
+minors-form objs n (op ∷ ops) units forms =
+    All-append IsMinorInForm (minor_write n op.act) (minor_writes (n + 1) ops) (one op.act (All-head (IsOpInForm objs) op ops forms).act) (minors-form objs (n + 1) ops units (All-tail (IsOpInForm objs) op ops forms))
   where
     one : (act : Act) → IsActInForm objs act → All IsMinorInForm (minor_write n act)
     one (Fetch r) k = All-nil IsMinorInForm
-    one (Change w) k = All-cons IsMinorInForm (record { minor = n; write = w }) [] (write-in-form objs w k) (All-nil IsMinorInForm)
+    one (Change w) k = All-cons IsMinorInForm (record { minor = n; write = w }) [] (write-in-form objs w units k) (All-nil IsMinorInForm)
 
 -- the writes of an attempt are in form
 pub attempt-writes-form : (targets : ℕ) (s : Script) (x : AttemptId) → IsInForm targets s → All IsMinorInForm (minor_writes 0 (attempt_ops s x))
-attempt-writes-form targets s x form = minors-form s.objs 0 (attempt_ops s x) (ops-form targets s x form)
+attempt-writes-form targets s x form = minors-form s.objs 0 (attempt_ops s x) form.declared.obj_units (ops-form targets s x form)
 
 -- operations of which none writes and none reads are none
 pub no-ops : (n m : ℕ) (ops : List Op) → minor_writes n ops ≡ [] → read_numbers m ops ≡ [] → ops ≡ []

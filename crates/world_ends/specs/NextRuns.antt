@@ -4,6 +4,7 @@ use Rattle.std.proofs.Common.{sym, ◌∙◌, ap, subst, arith}
 use Rattle.std.proofs.lemmas.Option.{slice_get_within}
 use Rattle.base_types.specs.declared.entry.Entry.{Entry}
 use Rattle.base_types.specs.declared.id.ContId.{ContId}
+use Rattle.base_types.specs.declared.script.Script.{Script}
 use Rattle.model_laws.specs.Lists.{at-within}
 use Rattle.model_laws.specs.Members.{has-from_contains}
 use Rattle.model_laws.specs.Targets.{ArePlaced}
@@ -44,11 +45,11 @@ forgotten d = record d { entries = [] }
 abbrev pub all_forgotten : World → List Durable
 all_forgotten w = map forgotten (durables_of w)
 
--- Where a run has ended, all entries are committed. The next run may begin with what the targets keep, once those are forgotten; and what
+-- Where a run has ended, all entries are committed. The next run, of any script, may begin with what the targets keep, once those are forgotten; and what
 -- that stands for is what took effect by the report.
 pub record HandsOn (g : Given) (v : World) : Type 0 where
   pub committed : (t : ℕ) (s : TargetState) (e : Entry) → slice_get v.targets t ≡ Some s → Contains s.durable.entries e → e.committed ≡ true
-  pub opens : (free : ℕ → ℕ) → OpenTogether g.script.targets (all_forgotten v) (opening_of (all_forgotten v) free)
+  pub opens : (next : Script) (free : ℕ → ℕ) → OpenTogether g.script.targets (all_forgotten v) (opening_of next (all_forgotten v) free)
   pub stands : SameMap (stand (all_forgotten v)).now (as_of g.opening.stand (took g.script (resolved (durables_of v)) v.lines) (2 ^ 64))
 
 -- where the opening's lease is the greatest of those that targets have when the run begins
@@ -194,7 +195,7 @@ module _ (g : Given) (w v : World) (A : IsSimple (rules_of g)) (b : IsBegun (rul
   pub hands-on : HandsOn g v
   hands-on = record {
     committed = λ t s e here i. (over g w v A b run ended).settled t s e here i;
-    opens = λ free. subst (λ n. OpenTogether n (all_forgotten v) (opening_of (all_forgotten v) free)) many (open-together (all_forgotten v) free settled);
+    opens = λ next free. subst (λ n. OpenTogether n (all_forgotten v) (opening_of next (all_forgotten v) free)) many (open-together next (all_forgotten v) free settled);
     stands = λ cell. stands_for.now cell ∙ sym (took-same_map (rules_of g) g.opening c.h v (resolved (durables_of v)) (2 ^ 64) (last-told g (held_at w) c.h v plain facts (over g w v A b run ended) (tells g w v A b run ended)) cell);
   }
 

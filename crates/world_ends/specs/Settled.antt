@@ -5,6 +5,7 @@ use Rattle.std.proofs.Common.{inl, inr, sym, ◌∙◌, ap, arith}
 use Rattle.base_types.specs.declared.id.ContId.{ContId}
 use Rattle.base_types.specs.Epochs.{restart_floor}
 use Rattle.base_types.specs.Placement.{path_leader}
+use Rattle.base_types.specs.declared.script.Script.{Script}
 use Rattle.model_laws.specs.Dated.{AreSingleInOrder}
 use Rattle.model_laws.specs.FamilyLaws.{leader-within, versions-objects}
 use Rattle.model_laws.specs.Lists.{at-within, filter-all}
@@ -19,7 +20,7 @@ use Rattle.daos_model.specs.Durables.{IsInForm, is_version_in_form, row_of}
 use Rattle.daos_model.specs.Effect.{effects}
 use Rattle.daos_model.specs.Family.{Agree, counts, greatest_lease, resolved, snap_map, stand, top_of}
 use Rattle.daos_model.specs.Finals.{opening_of}
-use Rattle.daos_model.specs.Opening.{Opening}
+use Rattle.daos_model.specs.Opening.{Opening, is_kept, kept}
 use Rattle.daos_model.specs.Versions.{writes_in}
 use Rattle.world_core.specs.Begins.{IsOpeningPlain, OpensWith}
 use Rattle.world_ends.specs.FamilyStands.{at-has, none-created}
@@ -49,9 +50,9 @@ pub record OpenTogether (targets : ℕ) (F : List Durable) (o : Opening) : Type 
   pub plain : IsOpeningPlain o
   pub each : (t : ℕ) (d : Durable) → slice_get F t ≡ Some d → OpensWith targets t o d
 
--- a run may begin with settled stores; the opening is what they stand for
+-- a run of any script may begin with settled stores; the opening is what they stand for
 abbrev pub SettledStoresOpen : Type 0
-SettledStoresOpen = (F : List Durable) (free : ℕ → ℕ) → AreSettled F → OpenTogether (length F) F (opening_of F free)
+SettledStoresOpen = (s : Script) (F : List Durable) (free : ℕ → ℕ) → AreSettled F → OpenTogether (length F) F (opening_of s F free)
 
 -- ---- leases
 
@@ -87,7 +88,7 @@ floors-rise n low high le up = omega (arith, le, up)
 all-counted : (F : List Durable) (d : Durable) → ((v : Version) → Contains d.versions v → v.done ≡ true) → filter (counts F) d.versions ≡ d.versions
 all-counted F d done = filter-all (counts F) d.versions (λ v i. ap (λ b. b || resolved F v.by) (done v (contains-from_has d.versions v i)))
 
-module _ (F : List Durable) (free : ℕ → ℕ) (k : AreSettled F) where
+module _ (script : Script) (F : List Durable) (free : ℕ → ℕ) (k : AreSettled F) where
   forms : (d : Durable) → Contains F d → list_all is_version_in_form d.versions ≡ true
   forms d i = let n = at-has F d i in (k.each n.0 d n.1).form.writes
 
@@ -107,11 +108,12 @@ module _ (F : List Durable) (free : ℕ → ℕ) (k : AreSettled F) where
   lease-bounded : greatest_lease F < 2 ^ 56
   lease-bounded = let low : greatest_lease F ≤ 2 ^ 56 - 1 = leases-below F (2 ^ 56 - 1) (λ t d at. let lt : d.lease < 2 ^ 56 = (k.each t d at).form.lease in omega (arith, lt)) in omega (arith, low)
 
-  no-snaps : (stand F).snaps ≡ []
+  -- they keep no snapshot, so a script drops none
+  no-snaps : (kept script (stand F)).snaps ≡ []
   unfolding stand
-  no-snaps = ap (map (snap_map F)) (none-created F (λ t d at. (k.each t d at).snaps))
+  no-snaps = ap (λ s. filter (is_kept script) (map (snap_map F) s)) (none-created F (λ t d at. (k.each t d at).snaps))
 
-  pub open-together : OpenTogether (length F) F (opening_of F free)
+  pub open-together : OpenTogether (length F) F (opening_of script F free)
   open-together = record {
     plain = record { unowned = none-unowned; no_snaps = no-snaps; lease = lease-bounded };
     each = λ t d at. let s = k.each t d at in record {
@@ -129,4 +131,4 @@ module _ (F : List Durable) (free : ℕ → ℕ) (k : AreSettled F) where
   }
 
 pub settled-stores-open : SettledStoresOpen
-settled-stores-open F free k = open-together F free k
+settled-stores-open s F free k = open-together s F free k

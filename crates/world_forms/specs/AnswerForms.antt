@@ -1,5 +1,5 @@
 -- Answers of reads in form on a map with keys are such as a report's text determines.
-use Rattle.std.specs.Prelude.{ℕ, zero, suc, ◌≡◌, ◌≤◌, ◌<◌, ◌+◌, Bool, true, false, List, [], ◌∷◌, length, slice_get, All, Option, Some, None, refl}
+use Rattle.std.specs.Prelude.{ℕ, zero, suc, ◌≡◌, ◌≤◌, ◌<◌, ◌+◌, ◌^◌, Bool, true, false, List, [], ◌∷◌, ◌++◌, length, slice_get, All, Option, Some, None, refl}
 use Rattle.std.proofs.Common.{sym, ◌∙◌, ap, subst, arith}
 use Rattle.std.proofs.lemmas.List.Elements.{All-cons, All-head, All-nil, All-tail, All-weaker}
 use Rattle.std.proofs.lemmas.Option.{slice_get_within}
@@ -17,7 +17,7 @@ use Rattle.base_types.specs.declared.script.ObjDecl.{ObjDecl}
 use Rattle.base_types.specs.Scripts.{IsActInForm, IsOpInForm, IsReadInForm}
 use Rattle.model_laws.specs.Lists.{all-at}
 use Rattle.daos_model.specs.declared.cell.CellValue.{CellValue}
-use Rattle.daos_model.specs.Answers.{answer, has_cell_below, hole_before, index_before, pieces, value_answer, yes_or_no}
+use Rattle.daos_model.specs.Answers.{answer, has_cell_below, hole_before, index_before, pieces, record_at, value_answer, yes_or_no}
 use Rattle.daos_model.specs.Cells.{index_cell, single_cell, value_at}
 use Rattle.daos_model.specs.ReadsLegal.{IsRightAnswer, IsRightCondition, IsToldRight}
 use Rattle.daos_model.specs.Transactions.{read_of, read_of_op}
@@ -46,19 +46,18 @@ hole-within n (piece.Hole count ∷ ps) k =
 
 index-within : (n : ℕ) (o : Option (List ℕ)) (ps : List Piece) → All (IsWithin n) ps → All (IsWithin (suc n)) (index_before o ps)
 index-within n None ps k = hole-within n ps k
-index-within n (Some []) ps k = hole-within n ps k
-index-within n (Some (b ∷ bytes)) [] k = All-cons (IsWithin (suc n)) (piece.Bytes (b ∷ [])) [] tt (All-nil (IsWithin (suc n)))
-index-within n (Some (b ∷ bytes)) (piece.Bytes more ∷ ps) k =
-    All-cons (IsWithin (suc n)) (piece.Bytes (b ∷ more)) ps tt (All-weaker (IsWithin n) (IsWithin (suc n)) (wider n) ps (All-tail (IsWithin n) (piece.Bytes more) ps k))
-index-within n (Some (b ∷ bytes)) (piece.Hole count ∷ ps) k =
-    All-cons (IsWithin (suc n)) (piece.Bytes (b ∷ [])) (piece.Hole count ∷ ps) tt (All-weaker (IsWithin n) (IsWithin (suc n)) (wider n) (piece.Hole count ∷ ps) k)
+index-within n (Some r) [] k = All-cons (IsWithin (suc n)) (piece.Bytes r) [] tt (All-nil (IsWithin (suc n)))
+index-within n (Some r) (piece.Bytes more ∷ ps) k =
+    All-cons (IsWithin (suc n)) (piece.Bytes (r ++ more)) ps tt (All-weaker (IsWithin n) (IsWithin (suc n)) (wider n) ps (All-tail (IsWithin n) (piece.Bytes more) ps k))
+index-within n (Some r) (piece.Hole count ∷ ps) k =
+    All-cons (IsWithin (suc n)) (piece.Bytes r) (piece.Hole count ∷ ps) tt (All-weaker (IsWithin n) (IsWithin (suc n)) (wider n) (piece.Hole count ∷ ps) k)
 
 pieces-within : (p : Path) (i n : ℕ) (m : List CellValue) → All (IsWithin n) (pieces p i n m)
 unfolding pieces
 pieces-within p i zero m = All-nil (IsWithin 0)
-pieces-within p i (suc n) m = index-within n (value_at m (index_cell p i)) (pieces p (i + 1) n m) (pieces-within p (i + 1) n m)
+pieces-within p i (suc n) m = index-within n (record_at p i m) (pieces p (i + 1) n m) (pieces-within p (i + 1) n m)
 
-short-piece : (n : ℕ) → n ≤ 1024 → (p : Piece) → IsWithin n p → IsPiece p
+short-piece : (n : ℕ) → n < 2 ^ 32 → (p : Piece) → IsWithin n p → IsPiece p
 short-piece n few (piece.Bytes bytes) k = tt
 short-piece n few (piece.Hole count) k = omega (arith, k, few)
 
@@ -74,7 +73,8 @@ yes-form false = tt
 
 answer-form : (objs : List ObjDecl) (r : Read) (m : List CellValue) → IsReadInForm objs r → MapHasKeys m → IsAnswer (answer r m)
 answer-form objs (read.Single p) m f k = value-form (value_at m (single_cell p))
-answer-form objs (read.Extent p low len) m f k = All-weaker (IsWithin len) IsPiece (short-piece len f.1.1) (pieces p low len m) (pieces-within p low len m)
+answer-form objs (read.Extent p low len) m f k =
+    All-weaker (IsWithin len) IsPiece (short-piece len (let short : low + len < 2 ^ 32 = f.2 in omega (arith, short))) (pieces p low len m) (pieces-within p low len m)
 answer-form objs (read.Dkeys p) m f k = dkey-names p m k
 answer-form objs (read.Akeys p) m f k = akey-names p m k
 answer-form objs (read.Exists p) m f k = yes-form (has_cell_below p m)

@@ -15,7 +15,7 @@ use Rattle.base_types.specs.declared.script.Command.{Command}
 use Rattle.base_types.specs.declared.script.Script.{Script}
 use Rattle.base_types.specs.Keys.{IsKey}
 use Rattle.base_types.specs.Operations.{act_path}
-use Rattle.base_types.specs.Paths.{leads_to}
+use Rattle.base_types.specs.Paths.{leads_to, record_size}
 use Rattle.base_types.specs.Scripts.{is_numbered}
 use Rattle.model_laws.specs.Lists.{all-at}
 use Rattle.daos_model.specs.declared.cell.CellValue.{CellValue}
@@ -24,7 +24,7 @@ use Rattle.daos_model.specs.declared.stand.Taken.{Taken}
 use Rattle.daos_model.specs.Answers.{akey_under, akeys_below, dkey_under, dkeys_below, in_byte_order, is_before, name_among, option_before}
 use Rattle.daos_model.specs.AsOf.{as_of, below, in_order, put_in, run_all}
 use Rattle.daos_model.specs.Attempts.{tries}
-use Rattle.daos_model.specs.Effect.{effect, effects, extent_cells, index_value, without}
+use Rattle.daos_model.specs.Effect.{effect, effects, extent_cells, index_value, record_cells, records_of, without}
 use Rattle.daos_model.specs.TookEffect.{all_taken, taken_at, taken_by, took, took_effect}
 use Rattle.daos_model.specs.Transactions.{attempt_ops, command_of, numbered, ops_or_none, writes_of, written}
 use Rattle.script_runnable.specs.Keyed.{CellHasKeys, CommandHasKeys, HasKeys, IsKeyOrNone, MapHasKeys, OpHasKeys, ScriptHasKeys, TakenHasKeys, WriteHasKeys}
@@ -55,9 +55,9 @@ writes-keys (op ∷ ops) k = All-append WriteHasKeys (written op.act) (writes_of
 
 -- ---- effects
 
-extent-keys : (p : Path) (i : ℕ) (bytes : List ℕ) → HasKeys p → MapHasKeys (extent_cells p i bytes)
-extent-keys p i [] k = All-nil CellHasKeys
-extent-keys p i (b ∷ bytes) k = All-cons CellHasKeys (index_value p i b) (extent_cells p (i + 1) bytes) k (extent-keys p (i + 1) bytes k)
+records-keys : (p : Path) (i : ℕ) (rs : List (List ℕ)) → HasKeys p → MapHasKeys (record_cells p i rs)
+records-keys p i [] k = All-nil CellHasKeys
+records-keys p i (r ∷ rs) k = All-cons CellHasKeys (index_value p i r) (record_cells p (i + 1) rs) k (records-keys p (i + 1) rs k)
 
 without-keys : (p : Path) (m : List CellValue) → MapHasKeys m → MapHasKeys (without p m)
 without-keys p [] k = k
@@ -70,7 +70,7 @@ without-keys p (v ∷ m) k =
 
 effect-keys : (w : Write) (m : List CellValue) → WriteHasKeys w → MapHasKeys m → MapHasKeys (effect w m)
 effect-keys (write.Single p bytes) m h k = All-cons CellHasKeys (record { cell = record { path = p; index = None }; bytes = bytes }) m h k
-effect-keys (write.Extent p low bytes) m h k = All-append CellHasKeys (extent_cells p low bytes) m (extent-keys p low bytes h) k
+effect-keys (write.Extent p low bytes) m h k = All-append CellHasKeys (extent_cells p low bytes) m (records-keys p low (records_of (record_size p) bytes) h) k
 effect-keys (write.PunchObject p) m h k = without-keys p m k
 effect-keys (write.PunchDkey p) m h k = without-keys p m k
 effect-keys (write.PunchAkey p) m h k = without-keys p m k

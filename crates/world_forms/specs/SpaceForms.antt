@@ -16,6 +16,7 @@ use Rattle.daos_model.specs.Accesses.{minor_writes}
 use Rattle.daos_model.specs.Blocks.{blocks, sum_of_blocks, write_blocks}
 use Rattle.daos_model.specs.BoolLaws.{and_left, and_right}
 use Rattle.daos_model.specs.CausesShown.{blocks_at, blocks_of_some, writes_at}
+use Rattle.daos_model.specs.ExtentForms.{written-length}
 use Rattle.daos_model.specs.Forms.{AreWritesInForm, ends_at_akey, is_length, is_write_in_form}
 use Rattle.daos_model.specs.Transactions.{attempt_ops}
 use Rattle.daos_report.specs.Forms.{IsNoSpace}
@@ -38,7 +39,7 @@ write-few : (w : Write) → is_write_in_form w ≡ true → write_blocks w ≤ 1
 unfolding is_write_in_form
 write-few (write.Single p bytes) h = let few = few-blocks (length bytes) (and_right (ends_at_akey p) (is_length (length bytes)) h) in omega (arith, few)
 write-few (write.Extent p low bytes) h =
-    let few = few-blocks (length bytes) (and_right (ends_at_akey p) (is_length (length bytes)) (and_left (ends_at_akey p && is_length (length bytes)) (fits_records (record_size p) low (length bytes)) h)) in
+    let few = few-blocks (length bytes) (written-length p low bytes h) in
     omega (arith, few)
 write-few (write.PunchObject p) h = omega arith
 write-few (write.PunchDkey p) h = omega arith
@@ -58,7 +59,7 @@ held-sum (w ∷ ws) = omega arith
 
 blocks-low : (s : Script) (t : ℕ) (x : AttemptId) → IsInForm s.targets s → blocks_at s t x < 2 ^ 32
 blocks-low s t x form =
-    let forms : AreWritesInForm (minor_writes 0 (attempt_ops s x)) = writes-in-form s.objs (attempt_ops s x) (ops-few s.targets s x form) (ops-form s.targets s x form) in
+    let forms : AreWritesInForm (minor_writes 0 (attempt_ops s x)) = writes-in-form s.objs (attempt_ops s x) form.declared.obj_units (ops-few s.targets s x form) (ops-form s.targets s x form) in
     let all = held-sum (writes_at s.targets t (minor_writes 0 (attempt_ops s x))) in
     let fewer = some-blocks s.targets t (minor_writes 0 (attempt_ops s x)) in
     let sum = sum-few (minor_writes 0 (attempt_ops s x)) forms.each in
