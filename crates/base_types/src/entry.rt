@@ -45,7 +45,7 @@ pub enum EntryState {
 }
 
 /// What a leader answers a member of an attempt.
-#[derive(Clone, Copy)]
+#[derive(Clone, Copy, Debug, PartialEq, Eq)]
 pub enum Verdict {
     Committed,
     Aborted,

@@ -11,7 +11,7 @@ pub type Targets = Items<TargetId>;
 
 /// A moment: `ticks * 256 + issuer`. Epochs are ordered as numbers, so no two targets issue the
 /// same one.
-#[derive(Clone, Copy, Debug)]
+#[derive(Clone, Copy, Debug, PartialEq, Eq)]
 pub struct Epoch(pub u64);
 
 impl Epoch {

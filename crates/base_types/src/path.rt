@@ -2,7 +2,7 @@
 ghost use Rattle.std.specs.Prelude.{◌≡◌, IfOk};
 ghost use Rattle.std.specs.Option.{option_eq};
 ghost use Rattle.base_types.specs.Keys.{same_key};
-ghost use Rattle.base_types.specs.Paths.{depth, leads_to, level_of, overlaps, same_object, same_path};
+ghost use Rattle.base_types.specs.Paths.{depth, leads_to, level_of, overlaps, record_size, same_object, same_path};
 
 use crate::id::{ContId, ObjId};
 use crate::items::{Memory, TryCopy};
@@ -64,6 +64,17 @@ fn same_keys(one: &Option<Key>, other: &Option<Key>) -> bool
 }
 
 impl Path {
+    /// The record size of the arrays under the path, in bytes: that of its object, or 1 where it names
+    /// none.
+    pub fn record_size(&self) -> u8
+        ensures { result ≡ record_size self.now }
+    {
+        match self.obj {
+            Some(obj) => obj.unit,
+            None => 1,
+        }
+    }
+
     /// How far the path goes.
     pub fn level(&self) -> Level
         ensures { result ≡ level_of self.now }

@@ -27,6 +27,9 @@ refused_for words job left left_now (status.Foreign target at byte) asked k = k
 refused_for words job left left_now status.Memory asked k = k
 refused_for words job left left_now (status.Down target) asked k = k
 refused_for words job left left_now (status.Shape target what found asked') asked k = k
+refused_for words job left left_now (status.NotEmpty target at byte) asked k = k
+refused_for words job left left_now (status.Room target need free) asked k = k
+refused_for words job left left_now (status.BadReport line) asked k = k
 
 pub all_refused_for : {T : Type 0} (words : List (List ℕ)) (job : Job) (left left_now : Option (List ℕ)) (r : Result T Status) → run_job_of words ≡ Ok job → IfErr r (IsRefusal (IsRefused job.targets left left_now)) → IfErr r (IsRefusal (RefusesScript words left left_now))
 all_refused_for words job left left_now (Ok x) asked k = tt

@@ -1,7 +1,9 @@
 -- What the program writes, and what its answers stand for.
-use Rattle.std.specs.Prelude.{ℕ, ◌≡◌, List, Option, Some, None, Ok}
+use Rattle.std.specs.Prelude.{ℕ, ◌≡◌, List, Option, Ok}
 use Rattle.base_types.specs.declared.fault.ScriptFault.{ScriptFault}
 use Rattle.base_types.specs.declared.job.Job.{Job}
+use Rattle.base_types.specs.declared.job.Task.{Task}
+use Rattle.base_types.specs.declared.job.Task.TheVariants.{Run, Load, Rebuild, Dfs, Audit}
 use Rattle.base_types.specs.declared.report.Report.{Report}
 use Rattle.base_types.specs.declared.script.Script.{Script}
 use Rattle.daos_gen.specs.Scripts.{script_of}
@@ -9,8 +11,8 @@ use Rattle.daos_app.specs.Inputs.{IsRead, IsRefused}
 use Rattle.daos_app.specs.Words.{run_job_of}
 use Rattle.model_reports.specs.Lone.{HasOneClient}
 use Rattle.daos_model.specs.Opening.{Given, fresh}
-use Rattle.daos_report.specs.Forms.{IsReportOf}
-use Rattle.daos_report.specs.Reports.{report_text}
+use Rattle.report_writer.specs.Forms.{IsReportOf}
+use Rattle.report_writer.specs.Reports.{report_text}
 use Rattle.model_reports.specs.Rooms.{FindsRoom, HasRoom}
 use Rattle.daos_run.specs.Alone.{IsOfLoneClient}
 use Rattle.daos_run.specs.Opens.{FollowsOrder, IsLegal}
@@ -50,23 +52,26 @@ pub record IsRun (job : Job) (left left_now : Option (List ℕ)) (text : List �
   pub read : IsRead job.targets left left_now script
   pub reported : IsReported job script text
 
--- what a job tells: a run its report, a load the summary of its report
-abbrev pub IsTextOf : Job → Option ℕ → Option (List ℕ) → Option (List ℕ) → List ℕ → Type 0
-IsTextOf job None left left_now text = IsRun job left left_now text
-IsTextOf job (Some count) left left_now text = IsSummed job count text
+-- what a job tells: a run its report, a load the summary of its report; no other is run so far
+abbrev pub IsTextOf : Job → Task → Option (List ℕ) → Option (List ℕ) → List ℕ → Type 0
+IsTextOf job Run left left_now text = IsRun job left left_now text
+IsTextOf job (Load count) left left_now text = IsSummed job count text
+IsTextOf job (Rebuild target) left left_now text = ⊥
+IsTextOf job Dfs left left_now text = ⊥
+IsTextOf job Audit left left_now text = ⊥
 
 -- what the program writes for words and the bytes that were read: what the job tells that the words ask for
 pub record IsTold (words : List (List ℕ)) (left left_now : Option (List ℕ)) (text : List ℕ) : Type 0 where
   pub job : Job
   pub asked : run_job_of words ≡ Ok job
-  pub told : IsTextOf job job.load left left_now text
+  pub told : IsTextOf job job.task left left_now text
 
 -- words ask for a load that is run so far
 pub record AsksLoad (words : List (List ℕ)) : Type 0 where
   pub job : Job
   pub asked : run_job_of words ≡ Ok job
   pub count : ℕ
-  pub load : job.load ≡ Some count
+  pub load : job.task ≡ Load count
 
 -- ---- answers
 
@@ -82,6 +87,9 @@ IsAnswerSoFar (status.Foreign target at byte) = ⊥
 IsAnswerSoFar status.Memory = Unit {0}
 IsAnswerSoFar (status.Down target) = ⊥
 IsAnswerSoFar (status.Shape target what found asked) = ⊥
+IsAnswerSoFar (status.NotEmpty target at byte) = ⊥
+IsAnswerSoFar (status.Room target need free) = ⊥
+IsAnswerSoFar (status.BadReport line) = ⊥
 
 -- the answers before a run: no region was asked for
 abbrev pub IsBeforeRun : Status → Type 0
@@ -95,6 +103,9 @@ IsBeforeRun (status.Foreign target at byte) = ⊥
 IsBeforeRun status.Memory = ⊥
 IsBeforeRun (status.Down target) = ⊥
 IsBeforeRun (status.Shape target what found asked) = ⊥
+IsBeforeRun (status.NotEmpty target at byte) = ⊥
+IsBeforeRun (status.Room target need free) = ⊥
+IsBeforeRun (status.BadReport line) = ⊥
 
 -- the answers to a load: nothing is read, so no script is refused and no source fails
 abbrev pub IsAnswerOfLoad : Status → Type 0
@@ -108,6 +119,9 @@ IsAnswerOfLoad (status.Foreign target at byte) = ⊥
 IsAnswerOfLoad status.Memory = Unit {0}
 IsAnswerOfLoad (status.Down target) = ⊥
 IsAnswerOfLoad (status.Shape target what found asked) = ⊥
+IsAnswerOfLoad (status.NotEmpty target at byte) = ⊥
+IsAnswerOfLoad (status.Room target need free) = ⊥
+IsAnswerOfLoad (status.BadReport line) = ⊥
 
 -- words ask for a job, and the bytes read are refused as a script for its targets
 pub record RefusesScript (words : List (List ℕ)) (left left_now : Option (List ℕ)) (fault : ScriptFault) : Type 0 where
@@ -127,3 +141,6 @@ IsRefusal refuses (status.Foreign target at byte) = ⊥
 IsRefusal refuses status.Memory = Unit {0}
 IsRefusal refuses (status.Down target) = ⊥
 IsRefusal refuses (status.Shape target what found asked) = ⊥
+IsRefusal refuses (status.NotEmpty target at byte) = ⊥
+IsRefusal refuses (status.Room target need free) = ⊥
+IsRefusal refuses (status.BadReport line) = ⊥

@@ -1,5 +1,5 @@
 // The text that the program writes: of a run its report, of a load its summary.
-ghost use Rattle.std.specs.Prelude.{◌≡◌, ◌≤◌, ◌<◌, ◌↔◌, Err, Some, map, string_bytes, IfErr, IfOk, IsErrOf};
+ghost use Rattle.std.specs.Prelude.{◌≡◌, ◌≤◌, ◌<◌, ◌↔◌, Err, map, string_bytes, IfErr, IfOk, IsErrOf};
 ghost use Rattle.base_types.specs.declared.fault.WordFault.{WordFault};
 ghost use Rattle.daos_outside.specs.Causes.{Rose};
 ghost use Rattle.daos_app.specs.Answers.{AsksLoad, IsAnswerOfLoad, IsBeforeRun, IsRefusal, IsRun, IsSummed, IsTold, RefusesScript};
@@ -10,7 +10,7 @@ ghost use Rattle.daos_words.specs.Laws.{IsInForm};
 use crate::input::{InputNo, read_input};
 use crate::runs::{load_text, run_text};
 use crate::words::run_job;
-use base_types::job::Job;
+use base_types::job::{Job, Task};
 use daos_outside::gate::Gate;
 use daos_outside::rack::Rack;
 use daos_outside::source::Source;
@@ -60,7 +60,7 @@ fn summary_text_of<R: Threads + Wait + Sync, B: Rack, G: Gate + Sync>(
     gate: &G,
 ) -> Result<Vec<u8>, Status>
     requires job { IsInForm job.now }
-    requires load { job.now.load ≡ Some count }
+    requires load { job.now.task ≡ Task.Load count }
     ensures text { IfOk result (λ text. IsSummed job.now count text.items) }
     ensures refused { IfErr result (λ status. status ≡ Status.Memory) }
     ensures rack { B.count rack.new ≡ B.count rack.old }
@@ -103,8 +103,9 @@ pub fn text_of<R: Threads + Wait + Sync, S: Source, B: Rack, G: Gate + Sync>(
         Err(WordNo::Fault(fault)) => return Err(Status::Words(fault)),
         Err(WordNo::Memory) => return Err(Status::Memory),
     };
-    match job.load {
-        None => report_text_of(rt, alloc, &job, source, rack, gate),
-        Some(count) => summary_text_of(rt, alloc, &job, count, rack, gate),
+    match job.task {
+        Task::Run => report_text_of(rt, alloc, &job, source, rack, gate),
+        Task::Load(count) => summary_text_of(rt, alloc, &job, count, rack, gate),
+        Task::Rebuild(_) | Task::Dfs | Task::Audit => unreachable!(),
     }
 }

@@ -91,6 +91,8 @@ impl Region for FileRegion {
 
     ghost only_now = { λ _ _ _ _. tt };
 
+    ghost leaves_some = { λ _ _. (λ _. 0, tt) };
+
     ghost unburnt = { λ _ _. refl };
 
     fn size(&self) -> u64 {

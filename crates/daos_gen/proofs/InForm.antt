@@ -91,7 +91,7 @@ module _ (targets : ℕ) where
           (cond d (Fetch (read.Single (picked_path targets x))) (Fetch (read.Extent (picked_path targets x) 0 64))))))
       go true b c d = obj_path_named x
       go false true c d = (akey_named x (x / 2 ^ 24 % 4), value_length 118 i lt)
-      go false false true d = (akey_named x (x / 2 ^ 24 % 4), value_length 101 i lt, omega (arith, few_bytes 101 i lt))
+      go false false true d = (akey_named x (x / 2 ^ 24 % 4), value_length 101 i lt, omega arith, omega (arith, few_bytes 101 i lt))
       go false false false true = akey_named x (x / 2 ^ 24 % 4)
       go false false false false = (akey_named x (x / 2 ^ 24 % 4), (omega arith, omega arith), omega arith)
 
@@ -194,6 +194,8 @@ module _ (targets : ℕ) where
       classes = classes;
       olds = omega arith;
       old_conts = All-from_recursion _ [] tt;
+      drops = All-from_recursion _ [] tt;
+      drops_once = none_distinct;
       snap_names = subst (λ names. IsDistinct same_key (map (λ (k : SnapName). k.0) names)) (sym no_names) none_distinct;
       stops = omega arith;
       stops_fit = All-from_recursion _ [] tt;

@@ -27,8 +27,9 @@ load_cont = record { 0 = 15 }
 abbrev pub class_of : ℕ → ℕ → Class
 class_of targets number = if number == 0 then SX else if number == 2 || targets == 1 then S1 else if number == 1 then RP2G1 else RP2GX
 
+-- their arrays have records of one byte
 abbrev pub obj_of : ℕ → ℕ → ObjId
-obj_of targets number = record { class = class_of targets number; number = number }
+obj_of targets number = record { class = class_of targets number; number = number; unit = 1 }
 
 -- a letter, and a number behind it
 abbrev pub numbered : ℕ → ℕ → List ℕ

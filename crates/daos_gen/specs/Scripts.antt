@@ -27,6 +27,7 @@ script_of targets count = record {
   conts = conts_of_load;
   objs = objs_of_load targets;
   olds = [];
+  drops = [];
   stops = [];
   clients = clients_of targets count;
 }

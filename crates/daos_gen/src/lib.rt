@@ -5,3 +5,5 @@ mod commands;
 pub mod loads;
 mod places;
 pub mod script;
+
+pub use script::make_script;

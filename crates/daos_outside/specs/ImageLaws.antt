@@ -1,9 +1,10 @@
 -- Listed bytes and their image.
-use Rattle.std.specs.Prelude.{◌≡◌, ℕ, zero, suc, ◌+◌, ◌-◌, ◌≤◌, ◌<◌, true, false, cond, List, [], ◌∷◌, ◌++◌, length, take, drop, slice_range, slice_index, refl}
+use Rattle.std.specs.Prelude.{◌≡◌, ℕ, zero, suc, ◌+◌, ◌-◌, ◌≤◌, ◌<◌, true, false, cond, List, [], ◌∷◌, ◌++◌, length, take, drop, slice_range, slice_index, All, refl}
 use Rattle.std.proofs.Common.{get_or, sym, ap, ◌∙◌, arith, inl, inr}
 use Rattle.std.proofs.lemmas.Bool.{cases_lt}
 use Rattle.std.proofs.lemmas.Bool.Decides.{nat_tests}
-use Rattle.std.proofs.lemmas.List.{length-take-le, get_or-take, get_or_append_left, get_or-append_right, get_or-drop, length-append, length-drop, ext_get_or}
+use Rattle.std.proofs.lemmas.List.{get_or_past, length-take-le, get_or-take, get_or_append_left, get_or-append_right, get_or-drop, length-append, length-drop, ext_get_or}
+use Rattle.std.proofs.lemmas.List.Elements.{All-get_or}
 use Rattle.std.proofs.Math.Seq.{drop-cons}
 use mathlib.Core.Path.{fun_ext}
 use Rattle.daos_outside.specs.Images.{Image, Range, lies_in, over, all_over, bytes_at, image_of, Torn, Tears}
@@ -71,6 +72,15 @@ part_read xs at (suc n) fits =
 -- a part of a list is read from its image
 pub part_is_read : (xs : List ℕ) (at n : ℕ) → at + n ≤ length xs → slice_range xs at (at + n) ≡ bytes_at (image_of xs) at n
 part_is_read xs at n fits = let e : (at + n) - at ≡ n = omega arith in ap (λ k. take k (drop at xs)) e ∙ part_read xs at n fits
+
+-- the image of bytes is of bytes
+pub image_is_bytes : (xs : List ℕ) → All (λ b. b < 256) xs → (i : ℕ) → image_of xs i < 256
+unfolding image_of
+image_is_bytes xs all i =
+    elim (cases_lt i (length xs)) [
+      | inl here ↦ All-get_or (λ b. b < 256) xs i 0 here all
+      | inr past ↦ let none = get_or_past xs i 0 past in omega arith
+    ]
 
 -- an image may be left of itself
 pub torn_none : (rs : List Range) (f : Image) → Torn rs f f

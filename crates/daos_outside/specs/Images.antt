@@ -1,5 +1,5 @@
 -- The bytes of a region by their places, what its calls do to them, and what a crash may leave.
-use Rattle.std.specs.Prelude.{◌≡◌, ◌⊎◌, ℕ, zero, suc, ◌+◌, ◌-◌, ◌≤◌, Bool, true, false, cond, ◌&&◌, nat_le, nat_lt, List, [], ◌∷◌, length, slice_index, Result, OnOk, OnErr}
+use Rattle.std.specs.Prelude.{◌≡◌, ◌⊎◌, ℕ, zero, suc, ◌+◌, ◌-◌, ◌≤◌, Bool, true, false, cond, ◌&&◌, nat_le, nat_lt, IsTrue, List, [], ◌∷◌, length, slice_index, Result, OnOk, OnErr}
 
 -- the byte at each place; places past the end count as zero
 abbrev pub Image : Type 0
@@ -66,6 +66,15 @@ pub record LeavesOnly (before now : ℕ) (past since : ℕ → Image → Type 0)
   pub later : before ≤ now
   pub each : (t : ℕ) (c : Image) → t ≤ before → since t c → past t c ⊎ P c
 
+-- What is read stays, and what a crash may leave or may have left since some moment; no time goes on.
+pub record Stays (image image' : Image) (leaves leaves' : Image → Type 0) (moment moment' : ℕ) (past past' : ℕ → Image → Type 0) : Type 0 where
+  pub same_image : image' ≡ image
+  pub no_more : NoMore leaves leaves'
+  pub no_less : NoMore leaves' leaves
+  pub same_moment : moment' ≡ moment
+  pub past_no_more : (t : ℕ) → NoMore (past t) (past' t)
+  pub past_no_less : (t : ℕ) → NoMore (past' t) (past t)
+
 -- an error leaves it broken, and no call succeeds while it is broken
 pub record StaysBroken {T E : Type 0} (was is : Bool) (result : Result T E) : Type 0 where
   pub failed : OnErr result (is ≡ true)
@@ -86,3 +95,13 @@ pub data Call : Type 0 where
 abbrev pub Runs : {S : Type 0} → (S → Call → S → Type 0) → List Call → S → S → Type 0
 Runs did [] old new = old ≡ new
 Runs {S = S} did (call ∷ calls) old new = (next : S) × (did old call next × Runs did calls next new)
+
+-- All that a region tells of itself is as it was: its size, its counts, and, where it tells its bytes, what is
+-- read, what a crash leaves, whether it is broken, and what its calls make of it.
+pub record SameButFuse {R : Type 0} (extent count burns : R → ℕ) (tells : Bool) (image : R → Image) (may_leave : R → Image → Type 0) (moment : R → ℕ) (left_since : R → ℕ → Image → Type 0) (broken : R → Bool) (did : R → Call → R → Type 0) (old new : R) : Type 0 where
+  pub extent_as : extent new ≡ extent old
+  pub count_as : count new ≡ count old
+  pub burns_as : burns new ≡ burns old
+  pub stays : IsTrue tells → Stays (image old) (image new) (may_leave old) (may_leave new) (moment old) (moment new) (left_since old) (left_since new)
+  pub broken_as : IsTrue tells → broken new ≡ broken old
+  pub calls : (call : Call) (next : R) → did new call next → did old call next

@@ -3,6 +3,7 @@
 
 pub mod adapters;
 mod bounded;
+pub mod bytes;
 pub mod clock;
 pub mod count_clock;
 pub mod fault_plan;

@@ -1,7 +1,7 @@
 // Persistent ranges of bytes.
-ghost use Rattle.std.specs.Prelude.{◌≡◌, ℕ, ◌+◌, ◌≤◌, [], ◌∷◌, length, Bool, false, IsTrue, OnOk};
+ghost use Rattle.std.specs.Prelude.{◌≡◌, ℕ, ◌+◌, ◌≤◌, ◌<◌, [], ◌∷◌, length, Bool, true, false, IsTrue, OnOk};
 ghost use Rattle.daos_outside.specs.Causes.{HasEitherCause};
-ghost use Rattle.daos_outside.specs.Images.{Image, Call, over, bytes_at, Only, NoMore, Tears, Elapses, StaysBroken, Mends};
+ghost use Rattle.daos_outside.specs.Images.{Image, Call, over, bytes_at, Only, NoMore, Tears, Elapses, SameButFuse, StaysBroken, Mends};
 ghost use Rattle.daos_outside.specs.Images.Call.{Read, Write, Flush};
 
 use crate::Failed;
@@ -47,9 +47,10 @@ pub trait Region {
     /// What a call that went well makes of it.
     ghost did: { Self → Call → Self → Type 0 };
 
-    /// How many bytes it has.
+    /// How many bytes it has. Each is a number below 256.
     fn size(&self) -> u64
-        ensures { result ≡ extent self.now };
+        ensures size { result ≡ extent self.now }
+        ensures bytes { IsTrue tells → (i : ℕ) → image self.now i < 256 };
 
     /// Reads the bytes from `at` on into the whole of `buf`.
     ///
@@ -139,6 +140,21 @@ pub trait Region {
     ghost only_now: { (region : Self) (c : Image) → IsTrue tells →
         left_since region (moment region) c → may_leave region c };
 
+    /// There is an image that a crash now leaves.
+    ghost leaves_some: { (region : Self) → IsTrue tells → (c : Image) × may_leave region c };
+
     /// A region that can't have a fuse is never failed by one.
     ghost unburnt: { (region : Self) → can_burn ≡ false → burns region ≡ 0 };
+}
+
+/// A region whose fuse can be set.
+pub trait Fusible: Region {
+    /// Sets the fuse: the `k`-th write from now on fails and isn't made, and every call after it fails
+    /// until the region is opened anew. 0 sets none, and takes away one that is set. Nothing but the fuse
+    /// changes.
+    fn set_fuse(&mut self, k: u32)
+        ensures { SameButFuse Self.extent Self.count Self.burns Self.tells Self.image Self.may_leave Self.moment Self.left_since Self.broken Self.did self.old self.new };
+
+    /// Its type can have a fuse.
+    ghost can_be_fused: { Self.can_burn ≡ true };
 }

@@ -1,8 +1,9 @@
 // A region in memory that never fails.
-ghost use Rattle.std.specs.Prelude.{◌≡◌, ◌+◌, ◌≤◌, ◌++◌, [], ◌∷◌, length, take, drop, slice_range, replicate, IfOk, IsOk, true, false, refl};
+ghost use Rattle.std.specs.Prelude.{◌≡◌, ℕ, ◌<◌, ◌+◌, ◌≤◌, ◌++◌, [], ◌∷◌, length, take, drop, slice_range, replicate, IfOk, IsOk, true, false, refl};
 ghost use Rattle.daos_outside.specs.Causes.{HasEitherCause};
 ghost use Rattle.daos_outside.specs.Images.{over, bytes_at, image_of, Tears};
 
+use crate::bytes::are_below_256;
 use crate::region::Region;
 use crate::{Failed, Memory};
 use std::alloc::Global;
@@ -69,9 +70,15 @@ impl Region for SureRegion {
 
     ghost only_now = { λ _ _ _ left. left };
 
+    ghost leaves_some = { λ r _. (image_of r, refl) };
+
     ghost unburnt = { λ _ _. refl };
 
-    fn size(&self) -> u64 {
+    fn size(&self) -> u64
+        ensures size { result ≡ length self.now }
+        ensures bytes { (i : ℕ) → image_of self.now i < 256 }
+    {
+        are_below_256(&self.bytes);
         self.bytes.len() as u64
     }
 

@@ -1,5 +1,5 @@
 // A disk in memory that notes its writes.
-ghost use Rattle.std.specs.Prelude.{◌≡◌, ◌+◌, ◌≤◌, [], ◌∷◌, ◌++◌, length, drop, take, replicate, IfOk, OnOk, OnErr};
+ghost use Rattle.std.specs.Prelude.{◌≡◌, ℕ, ◌<◌, ◌+◌, ◌≤◌, [], ◌∷◌, ◌++◌, length, drop, take, replicate, IfOk, OnOk, OnErr};
 ghost use Rattle.daos_outside.specs.Images.{over, all_over, bytes_at, image_of};
 ghost use Rattle.daos_regions.specs.Periods.{ranges_of, kept_from, is_kept, read_now, AllFit};
 ghost use Rattle.daos_regions.specs.PeriodLaws.{written, after_end};
@@ -8,6 +8,7 @@ ghost use Rattle.daos_regions.specs.declared.keep.Keep.TheVariants.{All};
 use crate::keep::Keep;
 use crate::piece::{Piece, Stretch};
 use daos_outside::Memory;
+use daos_outside::bytes::are_below_256;
 use std::alloc::Global;
 use std::marker::Model;
 use std::mem;
@@ -101,10 +102,12 @@ impl Disk {
         })
     }
 
-    /// How many bytes it has.
+    /// How many bytes it has. Each is a number below 256.
     pub fn size(&self) -> u64
-        ensures { result ≡ self.now.size }
+        ensures size { result ≡ self.now.size }
+        ensures bytes { (i : ℕ) → read_now self.now i < 256 }
     {
+        are_below_256(&self.bytes);
         self.bytes.len() as u64
     }
 

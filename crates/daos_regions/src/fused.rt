@@ -1,12 +1,12 @@
 // A region with a fuse.
-ghost use Rattle.std.specs.Prelude.{◌≡◌, ◌||◌, ◌==◌, ◌+◌, ◌-◌, ◌≤◌, [], ◌∷◌, length, true, false, OnOk, IsTrue};
+ghost use Rattle.std.specs.Prelude.{◌≡◌, ◌||◌, ◌==◌, ◌+◌, ◌-◌, ◌≤◌, [], ◌∷◌, length, true, false, OnOk, IsTrue, refl};
 ghost use Rattle.daos_outside.specs.Causes.{HasEitherCause, one_more};
 ghost use Rattle.daos_outside.specs.Images.{over, bytes_at, Only, NoMore, Tears, Elapses, StaysBroken, Mends};
 ghost use Rattle.daos_outside.specs.Images.Call.{Read, Write, Flush};
 ghost use Rattle.daos_regions.specs.FusedState.{Fuses};
 
 use daos_outside::Failed;
-use daos_outside::region::Region;
+use daos_outside::region::{Fusible, Region};
 use std::marker::Model;
 
 /// A region with a fuse: the write of a chosen number fails and isn't made, and every call after it
@@ -111,6 +111,8 @@ impl<R: Region> Region for Fused<R> {
 
     ghost only_now = { λ f c tells left. R.only_now f.region c tells left };
 
+    ghost leaves_some = { λ f tells. R.leaves_some f.region tells };
+
     ghost unburnt = { λ f no. absurd (Prim.cc no) };
 
     fn size(&self) -> u64 {
@@ -209,4 +211,14 @@ impl<R: Region> Region for Fused<R> {
     fn faults(&self) -> u64 {
         self.region.faults()
     }
+}
+
+impl<R: Region> Fusible for Fused<R> {
+    fn set_fuse(&mut self, k: u32)
+        ensures fuse { self.new ≡ record self.old { left = k } }
+    {
+        self.fuse(k);
+    }
+
+    ghost can_be_fused = { refl };
 }

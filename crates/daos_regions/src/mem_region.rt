@@ -1,9 +1,10 @@
 // A region in memory whose calls fail by their numbers.
-ghost use Rattle.std.specs.Prelude.{◌≡◌, ◌⊎◌, ◌↔◌, ◌+◌, ◌≤◌, [], ◌∷◌, length, Bool, true, false, Contains, IfOk, OnOk, OnErr, IsOk, IsErr, IsTrue, if◌then◌else◌, refl};
+ghost use Rattle.std.specs.Prelude.{◌≡◌, ◌⊎◌, ◌↔◌, ℕ, ◌<◌, ◌+◌, ◌≤◌, [], ◌∷◌, length, Bool, true, false, Contains, IfOk, OnOk, OnErr, IsOk, IsErr, IsTrue, if◌then◌else◌, refl};
 ghost use Rattle.std.proofs.Common.{inr};
 ghost use Rattle.daos_outside.specs.Causes.{HasEitherCause, one_more};
 ghost use Rattle.daos_outside.specs.Images.{over, bytes_at, Only, NoMore, Tears};
-ghost use Rattle.daos_regions.specs.Periods.{read_now, MayLeave, LeftSince};
+ghost use Rattle.daos_outside.specs.ImageLaws.{torn_none};
+ghost use Rattle.daos_regions.specs.Periods.{kept, read_now, MayLeave, LeftSince};
 ghost use Rattle.daos_regions.specs.PeriodLaws.{written, after_end, left_now};
 ghost use Rattle.daos_regions.specs.MemLaws.{Does, Goes, CountsCall, CountsOpening};
 ghost use Rattle.daos_regions.specs.declared.keep.Keep.TheVariants.{All};
@@ -186,9 +187,14 @@ impl Region for MemRegion {
 
     ghost only_now = { λ m c _ left. left_now m.disk c left };
 
+    ghost leaves_some = { λ m _. (kept m.disk, torn_none m.disk.unflushed (kept m.disk)) };
+
     ghost unburnt = { λ _ _. refl };
 
-    fn size(&self) -> u64 {
+    fn size(&self) -> u64
+        ensures size { result ≡ self.now.disk.size }
+        ensures bytes { (i : ℕ) → read_now self.now.disk i < 256 }
+    {
         self.disk.size()
     }
 

@@ -1,11 +1,7 @@
-// The text of a report: a row for each line, its words apart by single spaces.
+// Reports: the text of one, its reader, and the summary of a load's.
 #![tactic(auto)]
 
-mod answers;
-pub mod attempts;
-pub mod lines;
-mod names;
-mod outcomes;
-pub mod text;
-mod values;
-mod words;
+pub use daos_summary::summary::summary_text;
+pub use report_reader::fault::ReportNo;
+pub use report_reader::report::read_report;
+pub use report_writer::text::report_text;

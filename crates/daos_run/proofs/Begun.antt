@@ -137,7 +137,7 @@ module _ {S C : Type 0} (durable : S → Option Durable) (state : S → State) w
   state_now x = record { durable = or_empty (durable x.store); free = (state x.store).free; opening = (state x.store).opening; life = Running; memory = x.memory }
 
   abbrev pub first : List ClientNow → List (TargetOf S C) → World
-  first cs xs = record { targets = map state_now xs; clients = map state_of cs; messages = []; issued = []; numbers = record { restarts = 0; aggregates = 0 }; lines = [] }
+  first cs xs = record { targets = map state_now xs; clients = map state_of cs; messages = []; asked = []; issued = []; numbers = record { restarts = 0; aggregates = 0 }; lines = [] }
 
   module _ (s : Script) (j : Job) (cs : List ClientNow) (xs : List (TargetOf S C)) (F : IsRunnable j.targets s) (K : AreFirst s j.attempts (record { 0 = 255 }) cs) (many : length xs ≡ j.targets)
       (N : (t : ℕ) (x : TargetOf S C) → slice_get xs t ≡ Some x → IsStarted durable state s j.targets j.epsilon t x) where
@@ -172,6 +172,7 @@ module _ {S C : Type 0} (durable : S → Option Durable) (state : S → State) w
             stamps = n.new.unread;
             leader = n.new.leads;
             member = n.new.joins;
+            collecting = refl;
           }
 
       first-states : map state_of cs ≡ map (first_client s (given s j free).opening) s.clients
@@ -190,6 +191,7 @@ module _ {S C : Type 0} (durable : S → Option Durable) (state : S → State) w
         enlisted = λ t z here. let x = from-map state_now xs t z here in subst (λ y. AreEnlisted s y.durable) (sym x.is) (opens t x.of_it x.at).1;
         clients = first-states;
         messages = refl;
+        asked = refl;
         issued = refl;
         lines = refl;
       }
@@ -217,6 +219,7 @@ module _ {S C : Type 0} (durable : S → Option Durable) (state : S → State) w
             let y = from-map state_now xs t z here in
             subst (IsTargetOf durable state (target_plan (rules_of (given s j free)) t) x) (ap state_now (same-target t x y.of_it at y.at) ∙ sym y.is) (the-target t x at);
         messages = refl;
+        asked = refl;
         issued = refl;
         lines = refl;
       }

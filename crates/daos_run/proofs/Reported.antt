@@ -13,7 +13,7 @@ use Rattle.daos_model.specs.Finals.{HeadlineOver}
 use Rattle.daos_model.specs.FormLaws.{length-map}
 use Rattle.daos_model.specs.Headline.{Headline}
 use Rattle.daos_model.specs.Opening.{undisturbed}
-use Rattle.daos_report.specs.Forms.{IsReportOf}
+use Rattle.report_writer.specs.Forms.{IsReportOf}
 use Rattle.daos_run.specs.Opens.{AreKept, HasConts, Reports, given, report_of}
 use Rattle.script_runnable.specs.Runnable.{IsRunnable}
 use Rattle.daos_run.specs.Slots.{IsAt}

@@ -17,7 +17,7 @@ use Rattle.daos_model.specs.Durables.{empty_durable}
 use Rattle.daos_model.specs.Finals.{HeadlineOver}
 use Rattle.daos_model.specs.Headline.{Headline}
 use Rattle.daos_model.specs.Opening.{Given, undisturbed}
-use Rattle.daos_report.specs.Forms.{IsReportOf}
+use Rattle.report_writer.specs.Forms.{IsReportOf}
 use Rattle.dtx_base.specs.Joining.{first_member}
 use Rattle.dtx_base.specs.Leading.{first_memory}
 use Rattle.dtx_base.specs.Members.{has_target}

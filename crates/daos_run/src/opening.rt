@@ -7,11 +7,11 @@ ghost use Rattle.target_parts.specs.Parts.{Runs};
 ghost use Rattle.world_core.specs.Begins.{declared_conts};
 
 use crate::stop::{Part, RunStop};
-use client_core::client::Client;
 use base_types::epoch::{Epoch, TargetId};
 use base_types::id::ContId;
 use base_types::items::{Items, Memory};
 use base_types::script::Script;
+use client_core::client::Client;
 use std::alloc::Global;
 use vos_store::refusal::EnlistNo;
 use vos_store::store::Store;

@@ -21,7 +21,7 @@ use Rattle.daos_script.specs.declared.reading.Reading.{Reading}
 use Rattle.daos_script.specs.Puts.{add_line, nothing_read}
 use Rattle.daos_script.specs.Readings.{bad_tell, script_with}
 use Rattle.daos_script.specs.SoFar.{AreHeads, IsBody, IsSoFar, IsStateAt, snap_name}
-use Rattle.daos_script.proofs.KeepsHeads.{keep_cont, keep_obj, keep_old, keep_stop, later}
+use Rattle.daos_script.proofs.KeepsHeads.{keep_cont, keep_drop, keep_obj, keep_old, keep_stop, later}
 use Rattle.daos_script.proofs.KeepsLists.{keep_aggregate, keep_client, keep_do_at, keep_end, keep_op, keep_skip, keep_snap, keep_tell, keep_tx, whole_lists}
 use Rattle.daos_script.proofs.Tells.{all_told}
 
@@ -39,8 +39,9 @@ no_snap decls name e = is_none_of (old_named decls.olds name) (named decls.made 
 -- what fits is new
 pub new_fits : (decls : Decls) (within : Option ContId) (l : Line) → LineFits decls within l → IsNew decls l
 new_fits decls within (line.Cont d) f = f.new_name
-new_fits decls within (line.Obj d) f = f.new_name
+new_fits decls within (line.Obj d) f = record { name = f.new_name; unit = f.unit }
 new_fits decls within (line.Old d) f = (no_snap decls d.name f.new_name).0
+new_fits decls within (line.Drop name) f = tt
 new_fits decls within (line.Stop d) f = tt
 new_fits decls within line.Client f = tt
 new_fits decls within (line.Do op) f = tt
@@ -58,6 +59,7 @@ state_keeps : (targets at : ℕ) (r t : Reading) (l : Line) → IsStateAt target
 state_keeps targets at r t (line.Cont d) h f e = keep_cont targets at r t d h f e
 state_keeps targets at r t (line.Obj d) h f e = keep_obj targets at r t d h f e
 state_keeps targets at r t (line.Old d) h f e = keep_old targets at r t d h f e
+state_keeps targets at r t (line.Drop name) h f e = keep_drop targets at r t name h f e
 state_keeps targets at r t (line.Stop d) h f e = keep_stop targets at r t d h f e
 state_keeps targets at r t line.Client h f e = keep_client targets at r t h e
 state_keeps targets at r t (line.Do op) h f e = keep_op targets at r t op h f e
@@ -98,7 +100,7 @@ pub few_pending : (targets at : ℕ) (r : Reading) → at ≤ 16777217 → IsSoF
 unfolding IsSoFar
 few_pending targets at r le h = few_turns targets at r le h
 
-no_heads : (targets : ℕ) → AreHeads targets [] [] [] []
+no_heads : (targets : ℕ) → AreHeads targets [] [] [] [] []
 unfolding IsDistinct
 no_heads targets = record {
   few_conts = omega arith;
@@ -108,9 +110,12 @@ no_heads targets = record {
   obj_names = tt;
   obj_ids = tt;
   obj_conts = All-from_recursion _ [] tt;
+  obj_units = All-from_recursion _ [] tt;
   classes = All-from_recursion _ [] tt;
   few_olds = omega arith;
   old_conts = All-from_recursion _ [] tt;
+  known_drops = All-from_recursion _ [] tt;
+  drops_once = tt;
   few_stops = omega arith;
   stops_fit = All-from_recursion _ [] tt;
 }
@@ -151,10 +156,13 @@ state_form targets at r h none =
         obj_names = k.obj_names;
         obj_ids = k.obj_ids;
         obj_conts = k.obj_conts;
+        obj_units = k.obj_units;
       };
       classes = k.classes;
       olds = k.few_olds;
       old_conts = k.old_conts;
+      drops = k.known_drops;
+      drops_once = k.drops_once;
       snap_names = subst (λ m. IsDistinct same_key (map snap_name (map old_snap r.decls.olds ++ m))) h.made_are h.names;
       stops = k.few_stops;
       stops_fit = k.stops_fit;

@@ -1,11 +1,11 @@
 -- Lines before the first client keep what was read a script in form so far.
-use Rattle.std.proofs.Common.{◌≡◌, ◌≤◌, ◌*◌, ℕ, ◌+◌, ◌||◌, List, [], ◌∷◌, ◌++◌, length, map, Some, None, Option, Ok, sym, ap, subst, ◌∙◌, arith, nat_eq, append-nil, is_some}
+use Rattle.std.proofs.Common.{◌≡◌, ◌≤◌, ◌*◌, ℕ, ◌+◌, ◌||◌, List, [], ◌∷◌, ◌++◌, length, map, Some, None, Option, Ok, sym, ap, subst, ◌∙◌, arith, nat_eq, append-nil, is_some, Any}
 use Rattle.std.specs.List.{IsDistinct}
 use Rattle.std.proofs.lemmas.Bool.{or_parts}
 use Rattle.std.proofs.lemmas.List.{length-append, map-append}
 use Rattle.std.proofs.lemmas.List.Elements.{All-push}
 use Rattle.base_types.specs.Keys.{same_key}
-use Rattle.base_types.specs.Scripts.{IsContOf, IsStop, SnapName, all_snaps, cont_name, cont_number, obj_name, old_snap, same_declared}
+use Rattle.base_types.specs.Scripts.{IsContOf, IsStop, IsUnit, SnapName, all_snaps, cont_name, cont_number, obj_name, old_snap, same_declared}
 use Rattle.base_types.specs.Placement.{ClassFits}
 use Rattle.base_types.specs.declared.fault.Why.TheVariants.{BadBlock}
 use Rattle.base_types.specs.declared.script.Command.{Command}
@@ -17,15 +17,16 @@ use Rattle.base_names.specs.Names.{named}
 use Rattle.base_text.specs.Results.{◌>>=◌}
 use Rattle.script_words.specs.Decls.{with_cont, with_obj, with_old, with_stop}
 use Rattle.script_words.specs.Lookups.{old_named}
-use Rattle.script_words.specs.Snaps.{is_snap}
-use Rattle.script_lines.specs.Fits.{ContFits, ObjFits, OldFits}
+use Rattle.script_words.proofs.Known.{old_is_named}
+use Rattle.script_words.specs.Snaps.{is_dropped, is_snap}
+use Rattle.script_lines.specs.Fits.{ContFits, DropFits, ObjFits, OldFits}
 use Rattle.daos_script.specs.declared.client.Client.{Client}
 use Rattle.daos_script.specs.Lists.{lists_of}
 use Rattle.daos_script.specs.declared.reading.Reading.{Reading}
-use Rattle.daos_script.specs.Puts.{put_cont, put_obj, put_old, put_stop}
+use Rattle.daos_script.specs.Puts.{put_cont, put_drop, put_obj, put_old, put_stop}
 use Rattle.daos_script.specs.SoFar.{IsBody, IsStateAt, snap_name}
 use Rattle.daos_script.proofs.Binds.{bind_ok, none_of, ok_is, room_ok, unless_ok}
-use Rattle.daos_script.proofs.Lists.{IsDistinct-push, any_more, cont_is_new, id_is_new, obj_is_new, object_is_new, old_is_new, pushed}
+use Rattle.daos_script.proofs.Pushes.{IsDistinct-push, any_more, cont_is_new, id_is_new, obj_is_new, none_found, object_is_new, old_is_new, pushed}
 
 -- ---- before the first client
 
@@ -61,9 +62,12 @@ module _ (targets at : ℕ) where
           obj_names = k.obj_names;
           obj_ids = k.obj_ids;
           obj_conts = λ i o lt. any_more (λ c. c.id ≡ _) r.decls.conts (d ∷ []) (k.obj_conts i o lt);
+          obj_units = k.obj_units;
           classes = k.classes;
           few_olds = k.few_olds;
           old_conts = λ i o lt. any_more (λ c. c.id ≡ _) r.decls.conts (d ∷ []) (k.old_conts i o lt);
+          known_drops = k.known_drops;
+          drops_once = k.drops_once;
           few_stops = k.few_stops;
           stops_fit = k.stops_fit;
         };
@@ -97,9 +101,12 @@ module _ (targets at : ℕ) where
           obj_names = pushed obj_name r.decls.objs d (λ ns. IsDistinct same_key ns) (IsDistinct-push same_key (map obj_name r.decls.objs) d.name k.obj_names (obj_is_new r.decls.objs d.name f.new_name));
           obj_ids = IsDistinct-push same_declared r.decls.objs d k.obj_ids (object_is_new r.decls.objs d f.new_object);
           obj_conts = All-push (λ o. IsContOf r.decls.conts o.cont) r.decls.objs d k.obj_conts f.declared;
+          obj_units = All-push (λ o. IsUnit o.id.unit) r.decls.objs d k.obj_units f.unit;
           classes = All-push (λ o. ClassFits o.id.class targets) r.decls.objs d k.classes (subst (λ n. ClassFits d.id.class n) h.read_for f.class);
           few_olds = k.few_olds;
           old_conts = k.old_conts;
+          known_drops = k.known_drops;
+          drops_once = k.drops_once;
           few_stops = k.few_stops;
           stops_fit = k.stops_fit;
         };
@@ -141,9 +148,12 @@ module _ (targets at : ℕ) where
           obj_names = k.obj_names;
           obj_ids = k.obj_ids;
           obj_conts = k.obj_conts;
+          obj_units = k.obj_units;
           classes = k.classes;
           few_olds = omega (arith, length-append r.decls.olds (d ∷ []), b.0);
           old_conts = All-push (λ o. IsContOf r.decls.conts o.cont) r.decls.olds d k.old_conts f.declared;
+          known_drops = λ i o lt. any_more (λ e. e.name ≡ _) r.decls.olds (d ∷ []) (k.known_drops i o lt);
+          drops_once = k.drops_once;
           few_stops = k.few_stops;
           stops_fit = k.stops_fit;
         };
@@ -151,6 +161,41 @@ module _ (targets at : ℕ) where
         own_are = h.own_are;
         names = subst (λ m. IsDistinct same_key (map snap_name m)) listed after;
         body = body_none r.decls.conts r.decls.conts r.decls.objs r.decls.objs (map old_snap r.decls.olds) (map old_snap (r.decls.olds ++ d ∷ [])) r.lists.whole r.lists.present.client none h.body;
+        counts = h.counts;
+        few = h.few;
+        skipped = later at _ h.skipped;
+        kept = h.kept;
+      })
+
+  pub keep_drop : (r t : Reading) (name : List ℕ) → IsStateAt targets at r → DropFits r.decls name → put_drop r name ≡ Ok t → IsStateAt targets (at + 1) t
+  unfolding put_drop is_dropped
+  keep_drop r t name h f e =
+      let new : Reading = record r { decls = record r.decls { drops = r.decls.drops ++ name ∷ [] } } in
+      let g = unless_ok (is_some r.lists.present.client) BadBlock (Ok new) t e in
+      let k = h.heads in
+      subst (λ t. IsStateAt targets (at + 1) t) (ok_is new t g.1) (record {
+        read_for = h.read_for;
+        heads = record {
+          few_conts = k.few_conts;
+          cont_names = k.cont_names;
+          cont_ids = k.cont_ids;
+          few_objs = k.few_objs;
+          obj_names = k.obj_names;
+          obj_ids = k.obj_ids;
+          obj_conts = k.obj_conts;
+          obj_units = k.obj_units;
+          classes = k.classes;
+          few_olds = k.few_olds;
+          old_conts = k.old_conts;
+          known_drops = All-push (λ n. Any (λ d. d.name ≡ n) r.decls.olds) r.decls.drops name k.known_drops (old_is_named r.decls.olds name f.known);
+          drops_once = IsDistinct-push same_key r.decls.drops name k.drops_once (none_found (λ n. same_key n name) r.decls.drops f.new);
+          few_stops = k.few_stops;
+          stops_fit = k.stops_fit;
+        };
+        made_are = h.made_are;
+        own_are = h.own_are;
+        names = h.names;
+        body = h.body;
         counts = h.counts;
         few = h.few;
         skipped = later at _ h.skipped;
@@ -176,9 +221,12 @@ module _ (targets at : ℕ) where
           obj_names = k.obj_names;
           obj_ids = k.obj_ids;
           obj_conts = k.obj_conts;
+          obj_units = k.obj_units;
           classes = k.classes;
           few_olds = k.few_olds;
           old_conts = k.old_conts;
+          known_drops = k.known_drops;
+          drops_once = k.drops_once;
           few_stops = omega (arith, length-append r.decls.stops (d ∷ []), b.0);
           stops_fit = All-push (IsStop targets) r.decls.stops d k.stops_fit (subst (λ n. IsStop n d) h.read_for f);
         };

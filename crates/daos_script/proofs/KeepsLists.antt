@@ -42,7 +42,7 @@ use Rattle.daos_script.specs.Steps.{begun, counted, step_command, step_end, step
 use Rattle.daos_script.specs.Puts.{put_client, put_do_at, put_snap, put_step, put_tell}
 use Rattle.daos_script.specs.SoFar.{IsKept, IsBody, IsOpen, IsStateAt, IsState, IsTx, TxReads, count_open, snap_name}
 use Rattle.daos_script.proofs.Binds.{begun_ok, bind_ok, counted_ok, none_of, ok_is, room_left, room_ok, unless_ok}
-use Rattle.daos_script.proofs.Lists.{AreCommands-append, IsDistinct-push, all_append, all_push, all_snaps-push, any_after, any_more, count_numbered-push, entry_new, old_is_new, pushed, snaps_of-append}
+use Rattle.daos_script.proofs.Pushes.{AreCommands-append, IsDistinct-push, all_append, all_push, all_snaps-push, any_after, any_more, count_numbered-push, entry_new, old_is_new, pushed, snaps_of-append}
 use Rattle.daos_script.proofs.Tells.{all_kept-parts, all_kept-push, more_kept, numbered_kept, own_kept}
 
 -- a snapshot that may be read, if one is given
@@ -81,9 +81,12 @@ module _ (targets at : ℕ) where
           obj_names = k.obj_names;
           obj_ids = k.obj_ids;
           obj_conts = k.obj_conts;
+          obj_units = k.obj_units;
           classes = k.classes;
           few_olds = k.few_olds;
           old_conts = k.old_conts;
+          known_drops = k.known_drops;
+          drops_once = k.drops_once;
           few_stops = k.few_stops;
           stops_fit = k.stops_fit;
         };
@@ -126,9 +129,12 @@ module _ (targets at : ℕ) where
           obj_names = k.obj_names;
           obj_ids = k.obj_ids;
           obj_conts = k.obj_conts;
+          obj_units = k.obj_units;
           classes = k.classes;
           few_olds = k.few_olds;
           old_conts = k.old_conts;
+          known_drops = k.known_drops;
+          drops_once = k.drops_once;
           few_stops = k.few_stops;
           stops_fit = k.stops_fit;
         };

@@ -2,7 +2,7 @@ pub mod Binds
 pub mod Keeps
 pub mod KeepsHeads
 pub mod KeepsLists
-pub mod Lists
+pub mod Pushes
 pub mod Loop
 pub mod Tells
 pub mod TextLaws

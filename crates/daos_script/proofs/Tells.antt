@@ -11,7 +11,7 @@ use Rattle.base_types.specs.declared.script.Command.TheVariants as command
 use Rattle.daos_script.specs.declared.lists.Told.{Told}
 use Rattle.daos_script.specs.Readings.{bad_tell, is_bad}
 use Rattle.daos_script.specs.SoFar.{AreKept, IsKept}
-use Rattle.daos_script.proofs.Lists.{any_after, any_more}
+use Rattle.daos_script.proofs.Pushes.{any_after, any_more}
 
 -- ---- lists of commands
 

@@ -11,12 +11,12 @@ use Rattle.script_lines.specs.declared.line.Line.TheVariants as line
 use Rattle.script_lines.specs.declared.verbs.OpVerb.{OpVerb}
 use Rattle.script_lines.specs.declared.verbs.Verb.{Verb}
 use Rattle.script_lines.specs.declared.verbs.Verb.TheVariants as verb
-use Rattle.script_lines.specs.Lines.{aggregate_line, at_by, at_line, cond_line, cont_line, do_at, line_at, line_by, obj_line, old_line, op_line, skip_line, snap_line, stop_line, tell_line}
+use Rattle.script_lines.specs.Lines.{aggregate_line, at_by, at_line, cond_line, cont_line, do_at, drop_line, line_at, line_by, obj_line, old_line, op_line, skip_line, snap_line, stop_line, tell_line}
 use Rattle.script_lines.specs.Ops.{act_by}
 use Rattle.script_lines.specs.Verbs.{cond_verb_at, is_read, verb_at}
 use Rattle.script_words.specs.declared.decls.Decls.{Decls}
 use Rattle.script_words.specs.Lookups.{has_cont, has_obj}
-use Rattle.script_words.specs.Words.{class_at, cont_at, new_cont_at, new_obj_at, new_snap_at, nothing_at, number_at, snap_at, target_at, uuid_at}
+use Rattle.script_words.specs.Words.{class_at, cont_at, drop_at, new_cont_at, new_obj_at, new_snap_at, nothing_at, number_at, snap_at, target_at, unit_at, uuid_at}
 use Rattle.daos_script.specs.Reading.{OnRead, on-bind, on-then, on-unless}
 use Rattle.daos_script.specs.Words.{ActHasKeys, First, OnTaken, act-by, new-cont-at, new-obj-at}
 use Rattle.script_runnable.specs.Keyed.{OpHasKeys}
@@ -26,6 +26,7 @@ abbrev pub LineHasKeys : Line → Type 0
 LineHasKeys (line.Cont d) = IsKey d.name
 LineHasKeys (line.Obj d) = IsKey d.name
 LineHasKeys (line.Old d) = Unit {0}
+LineHasKeys (line.Drop name) = Unit {0}
 LineHasKeys (line.Stop d) = Unit {0}
 LineHasKeys line.Client = Unit {0}
 LineHasKeys (line.Do op) = OpHasKeys op
@@ -51,11 +52,16 @@ unfolding obj_line
 obj-line decls ws =
     on-bind (First IsKey) (First LineHasKeys) (new_obj_at decls ws) _ (new-obj-at decls ws)
     (λ name k. on-then (First LineHasKeys) (cont_at decls name.1) _ (λ cont. on-then (First LineHasKeys) (class_at decls.targets cont.1) _ (λ class. on-then (First LineHasKeys) (number_at 0 18446744073709551615 class.1) _
-    (λ number. on-unless (First LineHasKeys) (has_obj decls.objs cont.0 (record { class = class.0; number = number.0 })) BadName (Ok (line.Obj (record { name = name.0; cont = cont.0; id = record { class = class.0; number = number.0 } }), number.1)) k))))
+    (λ number. on-then (First LineHasKeys) (unit_at number.1) _
+    (λ unit. on-unless (First LineHasKeys) (has_obj decls.objs cont.0 (record { class = class.0; number = number.0; unit = unit.0 })) BadName (Ok (line.Obj (record { name = name.0; cont = cont.0; id = record { class = class.0; number = number.0; unit = unit.0 } }), unit.1)) k)))))
 
 old-line : (decls : Decls) (ws : List (List ℕ)) → OnTaken LineHasKeys (old_line decls ws)
 unfolding old_line
 old-line decls ws = on-then (First LineHasKeys) (new_snap_at decls ws) _ (λ name. on-then (First LineHasKeys) (cont_at decls name.1) _ (λ cont. on-then (First LineHasKeys) (number_at 0 18446744073709551615 cont.1) _ (λ epoch. tt)))
+
+drop-line : (decls : Decls) (ws : List (List ℕ)) → OnTaken LineHasKeys (drop_line decls ws)
+unfolding drop_line
+drop-line decls ws = on-then (First LineHasKeys) (drop_at decls ws) _ (λ name. tt)
 
 stop-line : (decls : Decls) (ws : List (List ℕ)) → OnTaken LineHasKeys (stop_line decls ws)
 unfolding stop_line
@@ -79,6 +85,7 @@ at-by : (decls : Decls) (at : At) (v : Verb) (ws : List (List ℕ)) → OnTaken 
 at-by decls at verb.Cont ws = tt
 at-by decls at verb.Obj ws = tt
 at-by decls at verb.Old ws = tt
+at-by decls at verb.Drop ws = tt
 at-by decls at verb.Stop ws = tt
 at-by decls at verb.Client ws = tt
 at-by decls at (verb.Op v) ws = by (is_read v)
@@ -124,6 +131,7 @@ line-by : (decls : Decls) (within : Option ContId) (v : Verb) (ws : List (List �
 line-by decls within verb.Cont ws = cont-line decls ws
 line-by decls within verb.Obj ws = obj-line decls ws
 line-by decls within verb.Old ws = old-line decls ws
+line-by decls within verb.Drop ws = drop-line decls ws
 line-by decls within verb.Stop ws = stop-line decls ws
 line-by decls within verb.Client ws = tt
 line-by decls within (verb.Op v) ws = op-line decls within v ws

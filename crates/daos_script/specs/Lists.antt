@@ -8,7 +8,6 @@ use Rattle.script_words.specs.Decls.{room}
 use Rattle.script_words.specs.Reads.{Read}
 use Rattle.daos_script.specs.declared.client.Client.{Client}
 use Rattle.daos_script.specs.declared.lists.Lists.{Lists}
-use Rattle.daos_script.specs.declared.lists.Told.{Told}
 use Rattle.daos_script.specs.declared.present.Step.{Step}
 use Rattle.daos_script.specs.Clients.{client_command, skip_open}
 use Rattle.daos_script.specs.Steps.{begun, tx_of, with_step}

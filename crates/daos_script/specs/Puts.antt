@@ -12,7 +12,7 @@ use Rattle.base_text.specs.Results.{◌>>=◌}
 use Rattle.script_lines.specs.declared.line.At.{At}
 use Rattle.script_lines.specs.declared.line.Line.{Line}
 use Rattle.script_lines.specs.declared.line.Line.TheVariants as line
-use Rattle.script_words.specs.Decls.{nothing_declared, with_cont, with_obj, with_old, with_own, with_stop}
+use Rattle.script_words.specs.Decls.{nothing_declared, with_cont, with_drop, with_obj, with_old, with_own, with_stop}
 use Rattle.script_words.specs.Reads.{Read}
 use Rattle.daos_script.specs.declared.present.Step.{Step}
 use Rattle.daos_script.specs.declared.present.Step.TheVariants as step
@@ -34,6 +34,9 @@ put_obj r d = if is_some r.lists.present.client then Err BadBlock else (with_obj
 
 unfoldable pub put_old : Reading → OldDecl → Read Reading
 put_old r d = if is_some r.lists.present.client then Err BadBlock else (with_old r.decls d >>= λ decls. Ok (record r { decls = decls }))
+
+unfoldable pub put_drop : Reading → List ℕ → Read Reading
+put_drop r name = if is_some r.lists.present.client then Err BadBlock else Ok (record r { decls = with_drop r.decls name })
 
 unfoldable pub put_stop : Reading → StopDecl → Read Reading
 put_stop r d = if is_some r.lists.present.client then Err BadBlock else (with_stop r.decls d >>= λ decls. Ok (record r { decls = decls }))
@@ -62,6 +65,7 @@ abbrev pub add_line : ℕ → Reading → Line → Read Reading
 add_line at r (line.Cont d) = put_cont r d
 add_line at r (line.Obj d) = put_obj r d
 add_line at r (line.Old d) = put_old r d
+add_line at r (line.Drop name) = put_drop r name
 add_line at r (line.Stop d) = put_stop r d
 add_line at r line.Client = put_client r
 add_line at r (line.Do op) = put_step r (step.Do op)

@@ -84,7 +84,7 @@ ended_lists l = unless_open (open_line (tx_of l.present.client)) (unless_bad (ba
 
 -- the script of what is declared and these lists
 abbrev pub script_with : Decls → List (List Command) → Script
-script_with decls clients = record { targets = decls.targets; conts = decls.conts; objs = decls.objs; olds = decls.olds; stops = decls.stops; clients = clients }
+script_with decls clients = record { targets = decls.targets; conts = decls.conts; objs = decls.objs; olds = decls.olds; drops = decls.drops; stops = decls.stops; clients = clients }
 
 unfoldable pub ended : Reading → Result Script ScriptFault
 ended r = ended_lists r.lists >>= λ lists. Ok (script_with r.decls lists)

@@ -3,7 +3,7 @@ use Rattle.std.specs.Prelude.{◌≡◌, ℕ, suc, ◌+◌, ◌*◌, ◌<◌, �
 use Rattle.std.specs.List.{IsDistinct, AllByRecursion}
 use Rattle.base_types.specs.Keys.{same_key}
 use Rattle.base_types.specs.Placement.{ClassFits}
-use Rattle.base_types.specs.Scripts.{AreCommands, IsContOf, IsOpInForm, IsPlainReadIn, IsStop, SnapName, all_snaps, cont_name, cont_number, count_numbered, obj_name, old_snap, same_declared, snaps_of}
+use Rattle.base_types.specs.Scripts.{AreCommands, IsContOf, IsOpInForm, IsPlainReadIn, IsStop, IsUnit, SnapName, all_snaps, cont_name, cont_number, count_numbered, obj_name, old_snap, same_declared, snaps_of}
 use Rattle.base_types.specs.declared.operation.Op.{Op}
 use Rattle.base_types.specs.declared.script.Command.{Command}
 use Rattle.base_types.specs.declared.script.Command.TheVariants as command
@@ -25,7 +25,7 @@ abbrev pub snap_name : SnapName → List ℕ
 snap_name k = k.0
 
 -- the lines before the first client keep their limits, and what they declare is new and fits
-pub record AreHeads (targets : ℕ) (conts : List ContDecl) (objs : List ObjDecl) (olds : List OldDecl) (stops : List StopDecl) : Type 0 where
+pub record AreHeads (targets : ℕ) (conts : List ContDecl) (objs : List ObjDecl) (olds : List OldDecl) (drops : List (List ℕ)) (stops : List StopDecl) : Type 0 where
   pub few_conts : length conts ≤ 256
   pub cont_names : IsDistinct same_key (map cont_name conts)
   pub cont_ids : IsDistinct nat_eq (map cont_number conts)
@@ -33,9 +33,12 @@ pub record AreHeads (targets : ℕ) (conts : List ContDecl) (objs : List ObjDecl
   pub obj_names : IsDistinct same_key (map obj_name objs)
   pub obj_ids : IsDistinct same_declared objs
   pub obj_conts : All (λ o. IsContOf conts o.cont) objs
+  pub obj_units : All (λ o. IsUnit o.id.unit) objs
   pub classes : All (λ o. ClassFits o.id.class targets) objs
   pub few_olds : length olds ≤ 256
   pub old_conts : All (λ d. IsContOf conts d.cont) olds
+  pub known_drops : All (λ name. Any (λ d. d.name ≡ name) olds) drops
+  pub drops_once : IsDistinct same_key drops
   pub few_stops : length stops ≤ 64
   pub stops_fit : All (IsStop targets) stops
 
@@ -92,7 +95,7 @@ AreKept tells own (list ∷ lists) = AllByRecursion (IsKept tells own) list × A
 
 pub record IsState (targets at : ℕ) (decls : Decls) (whole : List (List Command)) (current : Option Client) (commands : ℕ) (tells : List Told) : Type 0 where
   pub read_for : decls.targets ≡ targets
-  pub heads : AreHeads targets decls.conts decls.objs decls.olds decls.stops
+  pub heads : AreHeads targets decls.conts decls.objs decls.olds decls.drops decls.stops
   pub made_are : decls.made ≡ all_snaps (lists_of whole current)
   pub own_are : decls.own ≡ snaps_now current
   pub names : IsDistinct same_key (map snap_name (map old_snap decls.olds ++ decls.made))

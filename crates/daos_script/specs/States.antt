@@ -19,7 +19,7 @@ use Rattle.base_text.specs.Steps.{steps}
 use Rattle.daos_script.specs.declared.reading.Reading.{Reading}
 use Rattle.daos_script.specs.Grammar.{IsScriptText}
 use Rattle.daos_script.specs.Located.{located}
-use Rattle.daos_script.specs.Puts.{add_line, nothing_read, put_client, put_cont, put_do_at, put_obj, put_old, put_snap, put_step, put_stop, put_tell}
+use Rattle.daos_script.specs.Puts.{add_line, nothing_read, put_client, put_cont, put_do_at, put_drop, put_obj, put_old, put_snap, put_step, put_stop, put_tell}
 use Rattle.daos_script.specs.Readings.{bad_tell, ended, ended_lists, is_passed, is_shown, long_line, open_line, read_line, said, script_of, text_lines, unless_bad, unless_open, with_line}
 use Rattle.script_lines.specs.declared.line.At.{At}
 use Rattle.script_lines.specs.declared.line.Line.{Line}
@@ -35,7 +35,7 @@ use Rattle.daos_script.specs.Clients.{client_command, may_add, client_end, clien
 use Rattle.daos_script.specs.Lists.{all_lists, lists_of, next_list, one_step, with_tell}
 use Rattle.daos_script.specs.Steps.{begun, counted, step_command, step_end, step_op, step_skip, step_tx, tx_of, with_step, within_of}
 use Rattle.script_words.specs.declared.decls.Decls.{Decls}
-use Rattle.script_words.specs.Decls.{room, with_cont, with_obj, with_old, with_own, with_stop}
+use Rattle.script_words.specs.Decls.{room, with_cont, with_drop, with_obj, with_old, with_own, with_stop}
 use Rattle.daos_script.specs.Lines.{LineHasKeys, line-at}
 use Rattle.daos_script.specs.Reading.{OnRead, on-bind, on-then, on-unless}
 use Rattle.script_runnable.specs.Keyed.{CommandHasKeys, OpHasKeys, ScriptHasKeys}
@@ -213,6 +213,12 @@ put-old r d k =
     on-unless ReadingHasKeys (is_some r.lists.present.client) BadBlock _
     (on-bind DeclsHaveKeys ReadingHasKeys (with_old r.decls d) _ (on-then DeclsHaveKeys (room 256 (length r.decls.olds)) _ (λ fits. record { conts = k.decls.conts; objs = k.decls.objs })) (λ decls m. record { decls = m; lists = k.lists }))
 
+put-drop : (r : Reading) (name : List ℕ) → ReadingHasKeys r → OnRead ReadingHasKeys (put_drop r name)
+unfolding put_drop
+put-drop r name k =
+    on-unless ReadingHasKeys (is_some r.lists.present.client) BadBlock (Ok (record r { decls = with_drop r.decls name }))
+    (record { decls = record { conts = k.decls.conts; objs = k.decls.objs }; lists = k.lists })
+
 put-stop : (r : Reading) (d : StopDecl) → ReadingHasKeys r → OnRead ReadingHasKeys (put_stop r d)
 unfolding put_stop with_stop
 put-stop r d k =
@@ -244,6 +250,7 @@ add-line : (at : ℕ) (r : Reading) (l : Line) → ReadingHasKeys r → LineHasK
 add-line at r (line.Cont d) k h = put-cont r d k h
 add-line at r (line.Obj d) k h = put-obj r d k h
 add-line at r (line.Old d) k h = put-old r d k
+add-line at r (line.Drop name) k h = put-drop r name k
 add-line at r (line.Stop d) k h = put-stop r d k
 add-line at r line.Client k h = put-client r k
 add-line at r (line.Do op) k h = put-step r (step.Do op) k h

@@ -2,6 +2,7 @@
 use Rattle.std.specs.Prelude.{ℕ, ◌≡◌, Bool, true, false, is_none, is_some, List, [], ◌∷◌, length, ◌==◌, Option, Some, None, Ok, Err, refl, if◌then◌else◌}
 use Rattle.std.proofs.Common.{sym, subst}
 use Rattle.base_types.specs.Keys.{IsKey, key_fault}
+use Rattle.base_types.specs.Paths.{record_size}
 use Rattle.base_types.specs.Operations.{act_path, write_path}
 use Rattle.base_types.specs.declared.fault.Why.{Why}
 use Rattle.base_types.specs.declared.fault.Why.TheVariants.{BadKey, BadName, MissingWord}
@@ -100,11 +101,11 @@ get-at decls within ws = on-bind (First HasKeys) (First ActHasKeys) (cell_at dec
 
 write-at : (decls : Decls) (within : Option ContId) (ws : List (List ℕ)) → OnTaken ActHasKeys (write_at decls within ws)
 unfolding write_at
-write-at decls within ws = on-bind (First HasKeys) (First ActHasKeys) (cell_at decls within ws) _ (cell-at decls within ws) (λ cell k. on-then (First ActHasKeys) (piece_at cell.1) _ (λ piece. k))
+write-at decls within ws = on-bind (First HasKeys) (First ActHasKeys) (cell_at decls within ws) _ (cell-at decls within ws) (λ cell k. on-then (First ActHasKeys) (piece_at (record_size cell.0) cell.1) _ (λ piece. k))
 
 read-at : (decls : Decls) (within : Option ContId) (ws : List (List ℕ)) → OnTaken ActHasKeys (read_at decls within ws)
 unfolding read_at
-read-at decls within ws = on-bind (First HasKeys) (First ActHasKeys) (cell_at decls within ws) _ (cell-at decls within ws) (λ cell k. on-then (First ActHasKeys) (range_at cell.1) _ (λ range. k))
+read-at decls within ws = on-bind (First HasKeys) (First ActHasKeys) (cell_at decls within ws) _ (cell-at decls within ws) (λ cell k. on-then (First ActHasKeys) (range_at (record_size cell.0) cell.1) _ (λ range. k))
 
 dkeys-at : (decls : Decls) (within : Option ContId) (ws : List (List ℕ)) → OnTaken ActHasKeys (dkeys_at decls within ws)
 unfolding dkeys_at

@@ -10,3 +10,6 @@ pub mod present;
 mod reading;
 pub mod script;
 pub mod tx;
+
+pub use fault::ScriptNo;
+pub use script::read_script;

@@ -1,11 +1,12 @@
 // What was read of a script so far.
 ghost use Rattle.std.specs.Prelude.{◌≡◌, ◌<◌, ◌^◌, None};
+ghost use Rattle.base_types.specs.Scripts.{IsUnit};
 ghost use Rattle.base_names.specs.Names.{named};
 ghost use Rattle.script_words.specs.Lookups.{cont_named, obj_named, old_named};
 ghost use Rattle.script_words.specs.Reads.{Gives};
 ghost use Rattle.daos_script.specs.Lists.{pending};
 ghost use Rattle.daos_script.specs.News.{IsNew};
-ghost use Rattle.daos_script.specs.Puts.{add_line, nothing_read, put_client, put_cont, put_do_at, put_obj, put_old, put_snap, put_step, put_stop, put_tell};
+ghost use Rattle.daos_script.specs.Puts.{add_line, nothing_read, put_client, put_cont, put_do_at, put_drop, put_obj, put_old, put_snap, put_step, put_stop, put_tell};
 
 use crate::lists::Lists;
 use crate::present::Step;
@@ -53,7 +54,8 @@ impl Reading {
 
     #[tactic(auto, unfolding(crate::specs::Puts::put_obj))]
     fn put_obj(&mut self, alloc: Global, decl: ObjDecl) -> Result<(), LineNo>
-        requires { obj_named self.old.decls.objs decl.name ≡ None }
+        requires new { obj_named self.old.decls.objs decl.name ≡ None }
+        requires unit { IsUnit decl.id.unit }
         ensures { Gives (λ done. self.new) result (put_obj self.old decl) }
     {
         if self.lists.present.client.is_some() {
@@ -72,6 +74,17 @@ impl Reading {
             return Err(LineNo::Fault(Why::BadBlock));
         }
         self.decls.add_old(alloc, decl)?;
+        Ok(())
+    }
+
+    #[tactic(auto, unfolding(crate::specs::Puts::put_drop))]
+    fn put_drop(&mut self, name: Key) -> Result<(), LineNo>
+        ensures { Gives (λ done. self.new) result (put_drop self.old name) }
+    {
+        if self.lists.present.client.is_some() {
+            return Err(LineNo::Fault(Why::BadBlock));
+        }
+        self.decls.add_drop(name)?;
         Ok(())
     }
 
@@ -145,6 +158,7 @@ impl Reading {
             Line::Cont(decl) => self.put_cont(alloc, decl),
             Line::Obj(decl) => self.put_obj(alloc, decl),
             Line::Old(decl) => self.put_old(alloc, decl),
+            Line::Drop(name) => self.put_drop(name),
             Line::Stop(decl) => self.put_stop(decl),
             Line::Client => self.put_client(alloc),
             Line::Do(op) => self.put_step(alloc, Step::Do(op)),

@@ -125,6 +125,7 @@ fn script_with(decls: Decls, clients: ClientLists) -> Script
         conts,
         objs,
         olds,
+        drops,
         stops,
         made: _made,
         own: _own,
@@ -134,6 +135,7 @@ fn script_with(decls: Decls, clients: ClientLists) -> Script
         conts: conts.into_items(),
         objs: objs.into_items(),
         olds: olds.into_items(),
+        drops,
         stops,
         clients,
     }

@@ -24,6 +24,7 @@ why_text why.BadHex = codes "BadHex"
 why_text why.BadUuid = codes "BadUuid"
 why_text why.BadName = codes "BadName"
 why_text why.BadClass = codes "BadClass"
+why_text why.BadRecord = codes "BadRecord"
 why_text why.BadBlock = codes "BadBlock"
 why_text (why.TooMany limit) = codes "TooMany " ++ decimal limit
 why_text (why.TooLong limit) = codes "TooLong " ++ decimal limit
@@ -41,6 +42,8 @@ kind_text kind.NoValue = codes "NoValue"
 kind_text kind.BadValue = codes "BadValue"
 kind_text kind.NoJob = codes "NoJob"
 kind_text kind.NoCount = codes "NoCount"
+kind_text kind.BadTarget = codes "BadTarget"
+kind_text kind.NoTarget = codes "NoTarget"
 kind_text kind.NotYet = codes "NotYet"
 
 -- what a region was made for
@@ -69,6 +72,15 @@ abbrev pub shape_text : ℕ → Part → ℕ → ℕ → List ℕ
 shape_text target what found asked =
     codes "daos: target " ++ decimal target ++ codes ": made for " ++ decimal found ++ codes " " ++ part_text what ++ codes ", asked for " ++ decimal asked
 
+abbrev pub not_empty_text : ℕ → ℕ → ℕ → List ℕ
+not_empty_text target at byte = codes "daos: target " ++ decimal target ++ codes ": byte " ++ decimal byte ++ codes " at " ++ decimal at ++ codes " is not empty"
+
+abbrev pub room_text : ℕ → ℕ → ℕ → List ℕ
+room_text target need free = codes "daos: target " ++ decimal target ++ codes ": needs " ++ decimal need ++ codes " blocks, has " ++ decimal free
+
+abbrev pub report_text : ℕ → List ℕ
+report_text line = codes "daos: report line " ++ decimal line ++ codes ": BadLine"
+
 -- the text of a status, without a line end; none where all went well
 abbrev pub status_text : Status → List ℕ
 status_text status.Done = []
@@ -81,6 +93,9 @@ status_text (status.Foreign target at byte) = foreign_text target at byte
 status_text status.Memory = codes "daos: out of memory"
 status_text (status.Down target) = down_text target
 status_text (status.Shape target what found asked) = shape_text target what found asked
+status_text (status.NotEmpty target at byte) = not_empty_text target at byte
+status_text (status.Room target need free) = room_text target need free
+status_text (status.BadReport line) = report_text line
 
 -- the number with which the program ends
 abbrev pub status_number : Status → ℕ
@@ -94,3 +109,6 @@ status_number (status.Foreign target at byte) = 6
 status_number status.Memory = 7
 status_number (status.Down target) = 8
 status_number (status.Shape target what found asked) = 9
+status_number (status.NotEmpty target at byte) = 10
+status_number (status.Room target need free) = 11
+status_number (status.BadReport line) = 12

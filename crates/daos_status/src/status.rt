@@ -1,6 +1,6 @@
 // How the program ends, and what it tells of that.
 ghost use Rattle.std.specs.Prelude.{◌≡◌, IfOk, string_bytes};
-ghost use Rattle.daos_status.specs.Statuses.{down_text, foreign_text, kind_text, part_text, rack_text, script_text, shape_text, status_number, status_text, why_text, words_text};
+ghost use Rattle.daos_status.specs.Statuses.{down_text, foreign_text, kind_text, not_empty_text, part_text, rack_text, report_text, room_text, script_text, shape_text, status_number, status_text, why_text, words_text};
 
 use crate::part::Part;
 use base_types::epoch::TargetId;
@@ -44,10 +44,26 @@ pub enum Status {
         found: u64,
         asked: u64,
     },
+    /// The region of this target was to be all zero, and this byte at this place isn't.
+    NotEmpty {
+        target: TargetId,
+        at: u64,
+        byte: u8,
+    },
+    /// What was to be written to this target needs so many blocks, and has so many free ones.
+    Room {
+        target: TargetId,
+        need: u32,
+        free: u32,
+    },
+    /// The first line of the report, counted from 1, that is none.
+    BadReport {
+        line: u32,
+    },
 }
 
 impl Status {
-    /// The number with which the program ends, 0 to 9.
+    /// The number with which the program ends, 0 to 12.
     pub fn number(&self) -> u8
         ensures { result ≡ status_number self.now }
     {
@@ -62,6 +78,9 @@ impl Status {
             Status::Memory => 7,
             Status::Down { .. } => 8,
             Status::Shape { .. } => 9,
+            Status::NotEmpty { .. } => 10,
+            Status::Room { .. } => 11,
+            Status::BadReport { .. } => 12,
         }
     }
 }
@@ -81,6 +100,7 @@ fn why_text(alloc: Global, why: Why) -> Result<String, Memory>
         Why::BadUuid => String::from_str(alloc, "BadUuid"),
         Why::BadName => String::from_str(alloc, "BadName"),
         Why::BadClass => String::from_str(alloc, "BadClass"),
+        Why::BadRecord => String::from_str(alloc, "BadRecord"),
         Why::BadBlock => String::from_str(alloc, "BadBlock"),
         Why::TooMany(limit) => format!(in alloc; "TooMany {limit}"),
         Why::TooLong(limit) => format!(in alloc; "TooLong {limit}"),
@@ -103,6 +123,8 @@ fn kind_text(kind: WordKind) -> &'static str
         WordKind::BadValue => "BadValue",
         WordKind::NoJob => "NoJob",
         WordKind::NoCount => "NoCount",
+        WordKind::BadTarget => "BadTarget",
+        WordKind::NoTarget => "NoTarget",
         WordKind::NotYet => "NotYet",
     }
 }
@@ -169,6 +191,27 @@ fn shape_text(
     format!(in alloc; "daos: target {target}: made for {found} {what}, asked for {asked}")
 }
 
+// What is told of a region that was to be all zero.
+fn not_empty_text(alloc: Global, target: TargetId, at: u64, byte: u8) -> Result<String, Memory>
+    ensures { IfOk result (λ text. string_bytes text ≡ not_empty_text target at byte) }
+{
+    format!(in alloc; "daos: target {target}: byte {byte} at {at} is not empty")
+}
+
+// What is told of a target without room.
+fn room_text(alloc: Global, target: TargetId, need: u32, free: u32) -> Result<String, Memory>
+    ensures { IfOk result (λ text. string_bytes text ≡ room_text target need free) }
+{
+    format!(in alloc; "daos: target {target}: needs {need} blocks, has {free}")
+}
+
+// What is told of a report's bad line.
+fn report_text(alloc: Global, line: u32) -> Result<String, Memory>
+    ensures { IfOk result (λ text. string_bytes text ≡ report_text line) }
+{
+    format!(in alloc; "daos: report line {line}: BadLine")
+}
+
 /// What is told of a status, without a line end: nothing where the run ended and no target is
 /// down.
 pub fn status_text(alloc: Global, status: &Status) -> Result<String, Memory>
@@ -190,5 +233,8 @@ pub fn status_text(alloc: Global, status: &Status) -> Result<String, Memory>
             found,
             asked,
         } => shape_text(alloc, *target, *what, *found, *asked),
+        Status::NotEmpty { target, at, byte } => not_empty_text(alloc, *target, *at, *byte),
+        Status::Room { target, need, free } => room_text(alloc, *target, *need, *free),
+        Status::BadReport { line } => report_text(alloc, *line),
     }
 }

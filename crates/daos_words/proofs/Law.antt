@@ -1,25 +1,28 @@
 -- The laws of words.
-use Rattle.std.proofs.Common.{◌≡◌, ◌≢◌, ℕ, ◌+◌, ◌*◌, ◌<◌, ◌≤◌, Bool, true, false, List, [], ◌∷◌, ◌++◌, length, Option, Some, None, Result, Ok, Err, refl, ap, ◌∙◌, subst, arith}
+use Rattle.std.proofs.Common.{◌≡◌, ◌≢◌, ℕ, ◌+◌, ◌*◌, ◌<◌, ◌≤◌, Bool, true, false, cond, ltb, List, [], ◌∷◌, ◌++◌, length, Option, Some, None, Result, Ok, Err, refl, ap, ◌∙◌, subst, arith}
 use Rattle.std.specs.Prelude.{unwrap_or, IfSome}
+use Rattle.std.proofs.lemmas.Bool.Decides.{nat_tests}
 use Rattle.base_types.specs.declared.fault.WordFault.{WordFault}
 use Rattle.base_types.specs.declared.fault.WordKind.{WordKind}
-use Rattle.base_types.specs.declared.fault.WordKind.TheVariants.{NoValue, NoJob, NoCount}
+use Rattle.base_types.specs.declared.fault.WordKind.TheVariants.{NoValue, NoJob, NoCount, BadTarget, NoTarget}
 use Rattle.base_types.specs.declared.job.Job.{Job}
+use Rattle.base_types.specs.declared.job.Task.{Task}
+use Rattle.base_types.specs.declared.job.Task.TheVariants as done
 use Rattle.base_text.specs.Results.{◌>>=◌}
 use Rattle.base_text.specs.Steps.{steps}
 use Rattle.daos_words.specs.declared.given.Given.{Given}
 use Rattle.daos_words.specs.declared.given.JobWord.{JobWord}
-use Rattle.daos_words.specs.declared.given.JobWord.TheVariants.{Run, Load}
+use Rattle.daos_words.specs.declared.given.JobWord.TheVariants.{Run, Load, Rebuild, Dfs, Audit}
 use Rattle.daos_words.specs.declared.given.Setting.{Setting}
-use Rattle.daos_words.specs.Laws.{IsWithin, IsInForm, WordsLaw}
-use Rattle.daos_words.specs.Words.{fault, with_word, job_with, loaded, job_after, ended_after, ended, nothing_given, job_of}
-use Rattle.daos_words.proofs.Sound.{IsSound, bit, one, one_most, said, word_adds}
+use Rattle.daos_words.specs.Laws.{IsWithin, IsInForm, IsTask, WordsLaw}
+use Rattle.daos_words.specs.Words.{fault, with_word, job_with, rebuild_if, targets_of, task_of, ended_after, ended, nothing_given, job_of}
+use Rattle.daos_words.proofs.Sound.{IsNamed, IsSound, bit, named_most, one, one_most, said, word_adds}
 
 abbrev Asked : Type 0
 Asked = Result Job WordFault
 
 pub nothing_sound : IsSound nothing_given
-nothing_sound = record { in_count = tt; in_targets = tt; in_size = tt; in_attempts = tt; in_epsilon = tt; apart = λ e. absurd cc; waits = tt }
+nothing_sound = record { in_job = tt; in_targets = tt; in_size = tt; in_attempts = tt; in_epsilon = tt; apart = λ e. absurd cc; waits = tt }
 
 steps_sound : (at : ℕ) (g t : Given) (ws : List (List ℕ)) → IsSound g → steps with_word at g ws ≡ Ok t → IsSound t
 unfolding steps
@@ -39,15 +42,43 @@ in_range lo hi d (Some n) h k = h
 no_order : (g : Given) → IsSound g → g.threads ≡ true → unwrap_or g.order 0 ≡ 0
 no_order g h e = ap (λ (o : Option ℕ). unwrap_or o 0) (h.apart e)
 
-job_in_form : (load : Option ℕ) (g : Given) → IsSound g → IfSome load (IsWithin 1 10000) → IsInForm (job_with load g)
-job_in_form load g h k = record {
-  load = k;
+job_in_form : (task : Task) (g : Given) → IsSound g → IsTask (targets_of g) task → IsInForm (job_with task g)
+job_in_form task g h k = record {
+  task = k;
   targets = in_range 1 64 4 g.targets h.in_targets (omega arith, omega arith);
   size = in_range 2 32 4 g.size h.in_size (omega arith, omega arith);
   attempts = in_range 1 100 8 g.attempts h.in_attempts (omega arith, omega arith);
   epsilon = (in_range 0 1000000 0 g.epsilon h.in_epsilon (omega arith, omega arith)).1;
   apart = no_order g h;
 }
+
+abbrev Tasked : Type 0
+Tasked = Result Task WordFault
+
+task_is : (i j : Task) → let x : Tasked = Ok i in x ≡ Ok j → i ≡ j
+task_is i j e = cc
+
+is_below : (m n : ℕ) → ltb m n ≡ true → m < n
+is_below m n e = grind (arith, nat_tests)
+
+-- the task of what is given can be done on the targets asked for
+rebuild_in_form : (at targets : ℕ) (o : Option ℕ) (task : Task) → IfSome o (IsWithin 1 63) → rebuild_if at targets o ≡ Ok task → IsTask targets task
+rebuild_in_form at targets None task h e = absurd cc
+rebuild_in_form at targets (Some target) task h e = go (ltb target targets) refl e
+  where
+    go : (b : Bool) → ltb target targets ≡ b → let x : Tasked = cond b (Ok (done.Rebuild target)) (fault at BadTarget) in x ≡ Ok task → IsTask targets task
+    go true r e = let some : 1 ≤ target = h.0 in subst (IsTask targets) (task_is (done.Rebuild target) task e) (omega (arith, some), is_below target targets r)
+    go false r e = absurd cc
+
+task_in_form : (at targets : ℕ) (o : Option JobWord) (task : Task) → IsNamed o → task_of at targets o ≡ Ok task → IsTask targets task
+task_in_form at targets None task h e = absurd cc
+task_in_form at targets (Some Run) task h e = subst (IsTask targets) (task_is _ task e) tt
+task_in_form at targets (Some (Load None)) task h e = absurd cc
+task_in_form at targets (Some (Load (Some n))) task h e = subst (IsTask targets) (task_is _ task e) h
+task_in_form at targets (Some (Rebuild None)) task h e = absurd cc
+task_in_form at targets (Some (Rebuild (Some lost))) task h e = rebuild_in_form lost.place targets lost.target task h e
+task_in_form at targets (Some Dfs) task h e = subst (IsTask targets) (task_is _ task e) tt
+task_in_form at targets (Some Audit) task h e = subst (IsTask targets) (task_is _ task e) tt
 
 same_job : (i j : Job) (x : Asked) → x ≡ Ok i → x ≡ Ok j → i ≡ j
 same_job i j x e f = cc
@@ -59,17 +90,12 @@ ended_in_form : (at : ℕ) (g : Given) (j : Job) → IsSound g → ended at g �
 unfolding ended
 ended_in_form at g j h e = go g.awaits e
   where
-    with_load : (x : Option ℕ) → IfSome x (IsWithin 1 10000) → loaded at g x ≡ Ok j → IsInForm j
-    with_load None k e = absurd cc
-    with_load (Some n) k e = asked (job_with (Some n) g) j (job_in_form (Some n) g h k) e
-
-    after : (x : Option JobWord) → job_after at g x ≡ Ok j → IsInForm j
-    after None e = absurd cc
-    after (Some Run) e = asked (job_with None g) j (job_in_form None g h tt) e
-    after (Some Load) e = with_load g.count h.in_count e
+    after : (x : Tasked) → task_of at (targets_of g) g.job ≡ x → (x >>= λ task. Ok (job_with task g)) ≡ Ok j → IsInForm j
+    after (Err f) r e = absurd cc
+    after (Ok task) r e = asked (job_with task g) j (job_in_form task g h (task_in_form at (targets_of g) g.job task h.in_job r)) e
 
     go : (x : Option (ℕ × Setting)) → ended_after at g x ≡ Ok j → IsInForm j
-    go None e = after g.job e
+    go None e = after (task_of at (targets_of g) g.job) refl e
     go (Some p) e = absurd cc
 
 form : (ws : List (List ℕ)) (j : Job) → job_of ws ≡ Ok j → IsInForm j
@@ -107,8 +133,7 @@ ended_few at g j h e = go g.awaits refl e
         omega (
           arith,
           none,
-          one_most g.job,
-          one_most g.count,
+          named_most g.job,
           one_most g.targets,
           one_most g.size,
           one_most g.attempts,
@@ -132,21 +157,38 @@ few ws j e = go (steps with_word 0 nothing_given ws) refl e
 fault_is : (at : ℕ) (kind : WordKind) (f : WordFault) → let x : Asked = fault at kind in x ≡ Err f → (f.place ≡ at) × (f.kind ≡ kind)
 fault_is at kind f e = let same : f ≡ record { place = at; kind = kind } = cc in (ap (λ (g : WordFault). g.place) same, ap (λ (g : WordFault). g.kind) same)
 
-ended_fault : (at : ℕ) (g : Given) (f : WordFault) → ended at g ≡ Err f → f.place < at → f.kind ≢ NoValue → ⊥
-unfolding ended
-ended_fault at g f e lt ne = go g.awaits e
-  where
-    with_load : (x : Option ℕ) → loaded at g x ≡ Err f → ⊥
-    with_load None e = let at_end = (fault_is at NoCount f e).0 in omega (arith, at_end)
-    with_load (Some n) e = cc
+task_fault : (at : ℕ) (kind : WordKind) (f : WordFault) → let x : Tasked = fault at kind in x ≡ Err f → (f.place ≡ at) × (f.kind ≡ kind)
+task_fault at kind f e = let same : f ≡ record { place = at; kind = kind } = cc in (ap (λ (g : WordFault). g.place) same, ap (λ (g : WordFault). g.kind) same)
 
-    after : (x : Option JobWord) → job_after at g x ≡ Err f → ⊥
-    after None e = let at_end = (fault_is at NoJob f e).0 in omega (arith, at_end)
-    after (Some Run) e = cc
-    after (Some Load) e = with_load g.count e
+rebuild_fault : (at targets : ℕ) (o : Option ℕ) (f : WordFault) → rebuild_if at targets o ≡ Err f → f.kind ≡ BadTarget
+rebuild_fault at targets None f e = (task_fault at BadTarget f e).1
+rebuild_fault at targets (Some target) f e = go (ltb target targets) e
+  where
+    go : (b : Bool) → let x : Tasked = cond b (Ok (done.Rebuild target)) (fault at BadTarget) in x ≡ Err f → f.kind ≡ BadTarget
+    go true e = absurd cc
+    go false e = (task_fault at BadTarget f e).1
+
+-- a task is told to be missing behind the last word, or its target is none
+job_fault : (at targets : ℕ) (o : Option JobWord) (f : WordFault) → task_of at targets o ≡ Err f → f.place < at → f.kind ≢ BadTarget → ⊥
+job_fault at targets None f e lt ne = let at_end = (task_fault at NoJob f e).0 in omega (arith, at_end)
+job_fault at targets (Some Run) f e lt ne = cc
+job_fault at targets (Some (Load None)) f e lt ne = let at_end = (task_fault at NoCount f e).0 in omega (arith, at_end)
+job_fault at targets (Some (Load (Some n))) f e lt ne = cc
+job_fault at targets (Some (Rebuild None)) f e lt ne = let at_end = (task_fault at NoTarget f e).0 in omega (arith, at_end)
+job_fault at targets (Some (Rebuild (Some lost))) f e lt ne = ne (rebuild_fault lost.place targets lost.target f e)
+job_fault at targets (Some Dfs) f e lt ne = cc
+job_fault at targets (Some Audit) f e lt ne = cc
+
+ended_fault : (at : ℕ) (g : Given) (f : WordFault) → ended at g ≡ Err f → f.place < at → f.kind ≢ NoValue → f.kind ≢ BadTarget → ⊥
+unfolding ended
+ended_fault at g f e lt ne no_target = go g.awaits e
+  where
+    after : (x : Tasked) → task_of at (targets_of g) g.job ≡ x → (x >>= λ task. Ok (job_with task g)) ≡ Err f → ⊥
+    after (Err k) r e = let same : k ≡ f = cc in job_fault at (targets_of g) g.job f (r ∙ ap (λ z. Err z) same) lt no_target
+    after (Ok task) r e = cc
 
     go : (x : Option (ℕ × Setting)) → ended_after at g x ≡ Err f → ⊥
-    go None e = after g.job e
+    go None e = after (task_of at (targets_of g) g.job) refl e
     go (Some p) e = ne (fault_is p.0 NoValue f e).1
 
 steps_stay : (at : ℕ) (g : Given) (ws more : List (List ℕ)) (f : WordFault) → steps with_word at g ws ≡ Err f → steps with_word at g (ws ++ more) ≡ Err f
@@ -159,12 +201,12 @@ steps_stay at g (w ∷ ws) more f e = go (with_word at g w) e (λ u. steps_stay 
     go (Err k) e ih = let same : k ≡ f = cc in ap (λ z. Err z) same
     go (Ok u) e ih = ih u e
 
-stays : (ws more : List (List ℕ)) (f : WordFault) → job_of ws ≡ Err f → f.place < length ws → f.kind ≢ NoValue → job_of (ws ++ more) ≡ Err f
+stays : (ws more : List (List ℕ)) (f : WordFault) → job_of ws ≡ Err f → f.place < length ws → f.kind ≢ NoValue → f.kind ≢ BadTarget → job_of (ws ++ more) ≡ Err f
 unfolding job_of
-stays ws more f e lt ne = go (steps with_word 0 nothing_given ws) refl e
+stays ws more f e lt ne no_target = go (steps with_word 0 nothing_given ws) refl e
   where
     go : (x : Result Given WordFault) → steps with_word 0 nothing_given ws ≡ x → (x >>= λ g. ended (length ws) g) ≡ Err f → (steps with_word 0 nothing_given (ws ++ more) >>= λ g. ended (length (ws ++ more)) g) ≡ Err f
-    go (Ok g) r e = absurd (ended_fault (length ws) g f e lt ne)
+    go (Ok g) r e = absurd (ended_fault (length ws) g f e lt ne no_target)
     go (Err k) r e = let same : k ≡ f = cc in rw (steps_stay 0 nothing_given ws more f (r ∙ ap (λ z. Err z) same)) refl
 
 pub words_law : WordsLaw

@@ -3,16 +3,17 @@ use Rattle.std.proofs.Common.{◌≡◌, ℕ, ◌+◌, ◌*◌, ◌^◌, ◌<◌
 use Rattle.std.specs.Prelude.{IfSome}
 use Rattle.std.specs.Str.{bytes_eq}
 use Rattle.base_types.specs.declared.fault.WordFault.{WordFault}
-use Rattle.base_types.specs.declared.fault.WordKind.TheVariants.{BadJob, Twice, Clash}
+use Rattle.base_types.specs.declared.fault.WordKind.TheVariants.{Twice, Clash}
 use Rattle.base_text.specs.Number.{number_in}
 use Rattle.base_text.specs.NumberLaws.{numbers_are_decimals}
 use Rattle.daos_words.specs.declared.given.Given.{Given}
 use Rattle.daos_words.specs.declared.given.JobWord.{JobWord}
-use Rattle.daos_words.specs.declared.given.JobWord.TheVariants.{Run, Load}
+use Rattle.daos_words.specs.declared.given.JobWord.TheVariants.{Run, Load, Rebuild, Dfs, Audit}
+use Rattle.daos_words.specs.declared.given.Lost.{Lost}
 use Rattle.daos_words.specs.declared.given.Setting.{Setting}
 use Rattle.daos_words.specs.declared.given.Setting.TheVariants.{Targets, Size, Attempts, Epsilon, Order}
 use Rattle.daos_words.specs.Laws.{IsWithin}
-use Rattle.daos_words.specs.Words.{fault, setting_named, lowest, highest, is_order, holds, with_number, with_value_of, with_value, with_joined, with_name, with_parts, with_threads, with_option, with_job, with_count_of, with_count, with_plain_after, with_plain, with_word_after, with_word}
+use Rattle.daos_words.specs.Words.{fault, setting_named, lowest, highest, is_order, holds, with_number, with_value_of, with_value, with_joined, with_name, with_parts, with_threads, with_option, job_named, with_job, with_count, with_more, with_plain_after, with_plain, with_word_after, with_word}
 
 abbrev pub one : {A : Type 0} → Option A → ℕ
 one None = 0
@@ -22,9 +23,31 @@ abbrev pub bit : Bool → ℕ
 bit true = 1
 bit false = 0
 
+-- how many words gave a job, and what stands behind it
+abbrev pub named : Option JobWord → ℕ
+named None = 0
+named (Some Run) = 1
+named (Some (Load count)) = 1 + one count
+named (Some (Rebuild lost)) = 1 + one lost
+named (Some Dfs) = 1
+named (Some Audit) = 1
+
+-- a target that is named is from 1 to 63
+abbrev pub IsLost : Lost → Type 0
+IsLost lost = IfSome lost.target (IsWithin 1 63)
+
+-- what stands behind a job lies in its range
+abbrev pub IsNamed : Option JobWord → Type 0
+IsNamed None = Unit {0}
+IsNamed (Some Run) = Unit {0}
+IsNamed (Some (Load count)) = IfSome count (IsWithin 1 10000)
+IsNamed (Some (Rebuild lost)) = IfSome lost IsLost
+IsNamed (Some Dfs) = Unit {0}
+IsNamed (Some Audit) = Unit {0}
+
 -- no fewer words gave this
 abbrev pub said : Given → ℕ
-said g = one g.job + one g.count + 2 * (one g.targets + one g.size + one g.attempts + one g.epsilon + one g.order) + bit g.threads + one g.awaits
+said g = named g.job + 2 * (one g.targets + one g.size + one g.attempts + one g.epsilon + one g.order) + bit g.threads + one g.awaits
 
 -- an option that waits for its value has none, and goes with what is given
 abbrev pub MayAwait : Given → Option (ℕ × Setting) → Type 0
@@ -32,7 +55,7 @@ MayAwait g None = Unit {0}
 MayAwait g (Some p) = (holds p.1 g ≡ false) × ((is_order p.1 && g.threads) ≡ false)
 
 pub record IsSound (g : Given) : Type 0 where
-  pub in_count : IfSome g.count (IsWithin 1 10000)
+  pub in_job : IsNamed g.job
   pub in_targets : IfSome g.targets (IsWithin 1 64)
   pub in_size : IfSome g.size (IsWithin 2 32)
   pub in_attempts : IfSome g.attempts (IsWithin 1 100)
@@ -49,6 +72,14 @@ pub one_most : {A : Type 0} (o : Option A) → one o ≤ 1
 one_most None = omega arith
 one_most (Some x) = omega arith
 
+pub named_most : (o : Option JobWord) → named o ≤ 2
+named_most None = omega arith
+named_most (Some Run) = omega arith
+named_most (Some (Load count)) = omega (arith, one_most count)
+named_most (Some (Rebuild lost)) = omega (arith, one_most lost)
+named_most (Some Dfs) = omega arith
+named_most (Some Audit) = omega arith
+
 bit_most : (b : Bool) → bit b ≤ 1
 bit_most true = omega arith
 bit_most false = omega arith
@@ -57,8 +88,7 @@ pub few_words : (g : Given) → said g ≤ 14
 few_words g =
     omega (
       arith,
-      one_most g.job,
-      one_most g.count,
+      named_most g.job,
       one_most g.targets,
       one_most g.size,
       one_most g.attempts,
@@ -110,7 +140,7 @@ module _ (g : Given) (h : IsSound g) (e : g.awaits ≡ None) where
 
   number_sound : (o : Setting) (n : ℕ) → (is_order o && g.threads) ≡ false → IsWithin (lowest o) (highest o) n → IsSound (with_number g o n)
   number_sound Targets n q r = record {
-    in_count = h.in_count;
+    in_job = h.in_job;
     in_targets = r;
     in_size = h.in_size;
     in_attempts = h.in_attempts;
@@ -119,7 +149,7 @@ module _ (g : Given) (h : IsSound g) (e : g.awaits ≡ None) where
     waits = nothing_awaited _;
   }
   number_sound Size n q r = record {
-    in_count = h.in_count;
+    in_job = h.in_job;
     in_targets = h.in_targets;
     in_size = r;
     in_attempts = h.in_attempts;
@@ -128,7 +158,7 @@ module _ (g : Given) (h : IsSound g) (e : g.awaits ≡ None) where
     waits = nothing_awaited _;
   }
   number_sound Attempts n q r = record {
-    in_count = h.in_count;
+    in_job = h.in_job;
     in_targets = h.in_targets;
     in_size = h.in_size;
     in_attempts = r;
@@ -137,7 +167,7 @@ module _ (g : Given) (h : IsSound g) (e : g.awaits ≡ None) where
     waits = nothing_awaited _;
   }
   number_sound Epsilon n q r = record {
-    in_count = h.in_count;
+    in_job = h.in_job;
     in_targets = h.in_targets;
     in_size = h.in_size;
     in_attempts = h.in_attempts;
@@ -146,7 +176,7 @@ module _ (g : Given) (h : IsSound g) (e : g.awaits ≡ None) where
     waits = nothing_awaited _;
   }
   number_sound Order n q r = record {
-    in_count = h.in_count;
+    in_job = h.in_job;
     in_targets = h.in_targets;
     in_size = h.in_size;
     in_attempts = h.in_attempts;
@@ -181,7 +211,7 @@ module _ (g : Given) (h : IsSound g) (e : g.awaits ≡ None) where
       added g (record g { awaits = Some (at, o) }) t f
       (record {
         sound = record {
-          in_count = h.in_count;
+          in_job = h.in_job;
           in_targets = h.in_targets;
           in_size = h.in_size;
           in_attempts = h.in_attempts;
@@ -217,7 +247,7 @@ module _ (g : Given) (h : IsSound g) (e : g.awaits ≡ None) where
           added g (record g { threads = true }) t f
           (record {
             sound = record {
-              in_count = h.in_count;
+              in_job = h.in_job;
               in_targets = h.in_targets;
               in_size = h.in_size;
               in_attempts = h.in_attempts;
@@ -238,37 +268,13 @@ module _ (g : Given) (h : IsSound g) (e : g.awaits ≡ None) where
 
   -- ---- a plain word
 
-  job_adds : (at : ℕ) (w : List ℕ) (t : Given) → g.job ≡ None → with_job at g w ≡ Ok t → Adds g t
-  job_adds at w t n f = go (bytes_eq w (codes "run")) (bytes_eq w (codes "load")) f
-    where
-      is : (j : JobWord) → Adds g (record g { job = Some j })
-      is j =
-          let none : one g.job ≡ 0 = ap one n in
-          record {
-            sound = record {
-              in_count = h.in_count;
-              in_targets = h.in_targets;
-              in_size = h.in_size;
-              in_attempts = h.in_attempts;
-              in_epsilon = h.in_epsilon;
-              apart = h.apart;
-              waits = nothing_awaited _;
-            };
-            more = omega (arith, none);
-          }
-
-      go : (b c : Bool) → cond b (Ok (record g { job = Some Run })) (cond c (Ok (record g { job = Some Load })) (fault at BadJob)) ≡ Ok t → Adds g t
-      go true c f = added g (record g { job = Some Run }) t f (is Run)
-      go false true f = added g (record g { job = Some Load }) t f (is Load)
-      go false false f = absurd cc
-
-  counted : (at n : ℕ) (t : Given) → g.count ≡ None → IsWithin 1 10000 n → given (record g { count = Some n }) ≡ Ok t → Adds g t
-  counted at n t c r f =
-      let none : one g.count ≡ 0 = ap one c in
-      added g (record g { count = Some n }) t f
+  -- the job, with one word more
+  job_is : (t : Given) (job : JobWord) → IsNamed (Some job) → named g.job + 1 ≤ named (Some job) → given (record g { job = Some job }) ≡ Ok t → Adds g t
+  job_is t job form more f =
+      added g (record g { job = Some job }) t f
       (record {
         sound = record {
-          in_count = r;
+          in_job = form;
           in_targets = h.in_targets;
           in_size = h.in_size;
           in_attempts = h.in_attempts;
@@ -276,25 +282,64 @@ module _ (g : Given) (h : IsSound g) (e : g.awaits ≡ None) where
           apart = h.apart;
           waits = nothing_awaited _;
         };
-        more = omega (arith, none);
+        more = omega (arith, more);
       })
 
-  count_adds : (at : ℕ) (x : Option ℕ) (w : List ℕ) (t : Given) → g.count ≡ x → with_count at g x w ≡ Ok t → Adds g t
-  count_adds at (Some n) w t c f = absurd cc
-  count_adds at None w t c f = go (number_in 1 10000 w) refl f
+  -- it has nothing behind it yet
+  fresh : (w : List ℕ) → IfSome (job_named w) (λ job. IsNamed (Some job) × (1 ≤ named (Some job)))
+  fresh w = go (bytes_eq w (codes "run")) (bytes_eq w (codes "load")) (bytes_eq w (codes "rebuild")) (bytes_eq w (codes "dfs")) (bytes_eq w (codes "audit"))
     where
-      go : (x : Option ℕ) → number_in 1 10000 w ≡ x → with_count_of at g x ≡ Ok t → Adds g t
+      go : (a b c d e : Bool) → IfSome (cond a (Some Run) (cond b (Some (Load None)) (cond c (Some (Rebuild None)) (cond d (Some Dfs) (cond e (Some Audit) None))))) (λ job. IsNamed (Some job) × (1 ≤ named (Some job)))
+      go true b c d e = (tt, omega arith)
+      go false true c d e = (tt, omega arith)
+      go false false true d e = (tt, omega arith)
+      go false false false true e = (tt, omega arith)
+      go false false false false true = (tt, omega arith)
+      go false false false false false = tt
+
+  job_adds : (at : ℕ) (o : Option JobWord) (t : Given) → g.job ≡ None → IfSome o (λ job. IsNamed (Some job) × (1 ≤ named (Some job))) → with_job at g o ≡ Ok t → Adds g t
+  job_adds at None t n k f = absurd cc
+  job_adds at (Some job) t n k f =
+      let none : named g.job ≡ 0 = ap named n in
+      let some : 1 ≤ named (Some job) = k.1 in
+      job_is t job k.0 (omega (arith, none, some)) f
+
+  count_adds : (at : ℕ) (w : List ℕ) (t : Given) → g.job ≡ Some (Load None) → with_count at g (number_in 1 10000 w) ≡ Ok t → Adds g t
+  count_adds at w t was f = go (number_in 1 10000 w) refl f
+    where
+      go : (x : Option ℕ) → number_in 1 10000 w ≡ x → with_count at g x ≡ Ok t → Adds g t
       go None r f = absurd cc
-      go (Some n) r f = let s = numbers_are_decimals.spelled 1 10000 n w (lit< tt) r in counted at n t c (s.1, s.2) f
+      go (Some n) r f =
+          let s = numbers_are_decimals.spelled 1 10000 n w (lit< tt) r in
+          let one_word : named g.job ≡ 1 = ap named was in
+          job_is t (Load (Some n)) (s.1, s.2) (omega (arith, one_word)) f
+
+  -- a target that is named lies in its range
+  lost_within : (w : List ℕ) → IfSome (number_in 1 63 w) (IsWithin 1 63)
+  lost_within w = go (number_in 1 63 w) refl
+    where
+      go : (x : Option ℕ) → number_in 1 63 w ≡ x → IfSome x (IsWithin 1 63)
+      go None r = tt
+      go (Some n) r = let s = numbers_are_decimals.spelled 1 63 n w (lit< tt) r in (s.1, s.2)
+
+  more_adds : (at : ℕ) (job : JobWord) (w : List ℕ) (t : Given) → g.job ≡ Some job → with_more at g job w ≡ Ok t → Adds g t
+  more_adds at Run w t n f = absurd cc
+  more_adds at (Load None) w t n f = count_adds at w t n f
+  more_adds at (Load (Some count)) w t n f = absurd cc
+  more_adds at (Rebuild None) w t n f =
+      let was : named g.job ≡ 1 = ap named n in
+      job_is t (Rebuild (Some (record { place = at; target = number_in 1 63 w }))) (lost_within w) (omega (arith, was)) f
+  more_adds at (Rebuild (Some lost)) w t n f = absurd cc
+  more_adds at Dfs w t n f = absurd cc
+  more_adds at Audit w t n f = absurd cc
 
   plain_adds : (at : ℕ) (w : List ℕ) (t : Given) → with_plain at g w ≡ Ok t → Adds g t
   unfolding with_plain
   plain_adds at w t f = go g.job refl f
     where
       go : (x : Option JobWord) → g.job ≡ x → with_plain_after at g x w ≡ Ok t → Adds g t
-      go None n f = job_adds at w t n f
-      go (Some Run) n f = absurd cc
-      go (Some Load) n f = count_adds at g.count w t refl f
+      go None n f = job_adds at (job_named w) t n (fresh w) f
+      go (Some job) n f = more_adds at job w t n f
 
 -- ---- any word
 
@@ -304,7 +349,7 @@ free g = record g { awaits = None }
 
 free_sound : (g : Given) → IsSound g → IsSound (free g)
 free_sound g h = record {
-  in_count = h.in_count;
+  in_job = h.in_job;
   in_targets = h.in_targets;
   in_size = h.in_size;
   in_attempts = h.in_attempts;

@@ -1,11 +1,13 @@
 -- What the words of a command line ask for, or the first fault in them. Words are read from the left, each with what the
 -- words before it gave; places are counted from 0.
-use Rattle.std.specs.Prelude.{ℕ, ◌+◌, Bool, true, false, ◌&&◌, ◌==◌, is_some, List, length, take, drop, position, codes, slice_index, Option, Some, None, Result, Ok, Err, if◌then◌else◌, unwrap_or}
+use Rattle.std.specs.Prelude.{ℕ, ◌+◌, Bool, true, false, ◌&&◌, ◌==◌, nat_lt, is_some, List, length, take, drop, position, codes, slice_index, Option, Some, None, Result, Ok, Err, if◌then◌else◌, unwrap_or}
 use Rattle.std.specs.Str.{bytes_eq}
 use Rattle.base_types.specs.declared.fault.WordFault.{WordFault}
 use Rattle.base_types.specs.declared.fault.WordKind.{WordKind}
-use Rattle.base_types.specs.declared.fault.WordKind.TheVariants.{BadJob, BadCount, ExtraWord, UnknownOption, Twice, Clash, NoValue, BadValue, NoJob, NoCount}
+use Rattle.base_types.specs.declared.fault.WordKind.TheVariants.{BadJob, BadCount, ExtraWord, UnknownOption, Twice, Clash, NoValue, BadValue, NoJob, NoCount, BadTarget, NoTarget}
 use Rattle.base_types.specs.declared.job.Job.{Job}
+use Rattle.base_types.specs.declared.job.Task.{Task}
+use Rattle.base_types.specs.declared.job.Task.TheVariants as task
 use Rattle.base_text.specs.Number.{number_in}
 use Rattle.base_text.specs.Results.{◌>>=◌}
 use Rattle.base_text.specs.Steps.{steps}
@@ -13,7 +15,8 @@ use Rattle.daos_words.specs.declared.fault.WordNo.{WordNo}
 use Rattle.daos_words.specs.declared.fault.WordNo.TheVariants.{Fault}
 use Rattle.daos_words.specs.declared.given.Given.{Given}
 use Rattle.daos_words.specs.declared.given.JobWord.{JobWord}
-use Rattle.daos_words.specs.declared.given.JobWord.TheVariants.{Run, Load}
+use Rattle.daos_words.specs.declared.given.JobWord.TheVariants.{Run, Load, Rebuild, Dfs, Audit}
+use Rattle.daos_words.specs.declared.given.Lost.{Lost}
 use Rattle.daos_words.specs.declared.given.Setting.{Setting}
 use Rattle.daos_words.specs.declared.given.Setting.TheVariants.{Targets, Size, Attempts, Epsilon, Order}
 
@@ -101,25 +104,35 @@ unfoldable pub with_option : ℕ → Given → List ℕ → Result Given WordFau
 with_option at g w =
     if bytes_eq w (codes "--threads") then with_threads at g else with_parts at g w (position (λ b. b == 61) w)
 
+-- the job of this name, with nothing behind it yet
+abbrev pub job_named : List ℕ → Option JobWord
+job_named w =
+    if bytes_eq w (codes "run") then Some Run else if bytes_eq w (codes "load") then Some (Load None)
+    else if bytes_eq w (codes "rebuild") then Some (Rebuild None) else if bytes_eq w (codes "dfs") then Some Dfs
+    else if bytes_eq w (codes "audit") then Some Audit else None
+
 -- the first other word is the job
-abbrev pub with_job : ℕ → Given → List ℕ → Result Given WordFault
-with_job at g w =
-    if bytes_eq w (codes "run") then Ok (record g { job = Some Run })
-    else if bytes_eq w (codes "load") then Ok (record g { job = Some Load }) else fault at BadJob
+abbrev pub with_job : ℕ → Given → Option JobWord → Result Given WordFault
+with_job at g None = fault at BadJob
+with_job at g (Some job) = Ok (record g { job = Some job })
 
-abbrev pub with_count_of : ℕ → Given → Option ℕ → Result Given WordFault
-with_count_of at g None = fault at BadCount
-with_count_of at g (Some n) = Ok (record g { count = Some n })
+abbrev pub with_count : ℕ → Given → Option ℕ → Result Given WordFault
+with_count at g None = fault at BadCount
+with_count at g (Some n) = Ok (record g { job = Some (Load (Some n)) })
 
--- the next one is the count of a load
-abbrev pub with_count : ℕ → Given → Option ℕ → List ℕ → Result Given WordFault
-with_count at g None w = with_count_of at g (number_in 1 10000 w)
-with_count at g (Some n) w = fault at ExtraWord
+-- the next one is the count of a load, or the target of a rebuild: how many targets there are may come to be known later
+abbrev pub with_more : ℕ → Given → JobWord → List ℕ → Result Given WordFault
+with_more at g Run w = fault at ExtraWord
+with_more at g (Load None) w = with_count at g (number_in 1 10000 w)
+with_more at g (Load (Some n)) w = fault at ExtraWord
+with_more at g (Rebuild None) w = Ok (record g { job = Some (Rebuild (Some (record { place = at; target = number_in 1 63 w }))) })
+with_more at g (Rebuild (Some lost)) w = fault at ExtraWord
+with_more at g Dfs w = fault at ExtraWord
+with_more at g Audit w = fault at ExtraWord
 
 abbrev pub with_plain_after : ℕ → Given → Option JobWord → List ℕ → Result Given WordFault
-with_plain_after at g None w = with_job at g w
-with_plain_after at g (Some Run) w = fault at ExtraWord
-with_plain_after at g (Some Load) w = with_count at g g.count w
+with_plain_after at g None w = with_job at g (job_named w)
+with_plain_after at g (Some job) w = with_more at g job w
 
 -- a word that does not begin with a dash
 unfoldable pub with_plain : ℕ → Given → List ℕ → Result Given WordFault
@@ -136,11 +149,34 @@ with_word at g w = with_word_after at g g.awaits w
 
 -- ---- the end
 
+-- the task to rebuild a target, which is one of so many, but not the first
+abbrev pub rebuild_if : ℕ → ℕ → Option ℕ → Result Task WordFault
+rebuild_if at targets None = fault at BadTarget
+rebuild_if at targets (Some target) = if nat_lt target targets then Ok (task.Rebuild target) else fault at BadTarget
+
+abbrev pub rebuild_of : ℕ → Lost → Result Task WordFault
+rebuild_of targets lost = rebuild_if lost.place targets lost.target
+
+-- the task of the job, on so many targets; what is missing is told behind the last word
+abbrev pub task_of : ℕ → ℕ → Option JobWord → Result Task WordFault
+task_of at targets None = fault at NoJob
+task_of at targets (Some Run) = Ok task.Run
+task_of at targets (Some (Load None)) = fault at NoCount
+task_of at targets (Some (Load (Some n))) = Ok (task.Load n)
+task_of at targets (Some (Rebuild None)) = fault at NoTarget
+task_of at targets (Some (Rebuild (Some lost))) = rebuild_of targets lost
+task_of at targets (Some Dfs) = Ok task.Dfs
+task_of at targets (Some Audit) = Ok task.Audit
+
+-- how many targets are asked for
+abbrev pub targets_of : Given → ℕ
+targets_of g = unwrap_or g.targets 4
+
 -- what is given, with the defaults of what is not
-abbrev pub job_with : Option ℕ → Given → Job
-job_with load g = record {
-  load = load;
-  targets = unwrap_or g.targets 4;
+abbrev pub job_with : Task → Given → Job
+job_with task g = record {
+  task = task;
+  targets = targets_of g;
   size_mib = unwrap_or g.size 4;
   attempts = unwrap_or g.attempts 8;
   epsilon = unwrap_or g.epsilon 0;
@@ -148,18 +184,13 @@ job_with load g = record {
   order = unwrap_or g.order 0;
 }
 
-abbrev pub loaded : ℕ → Given → Option ℕ → Result Job WordFault
-loaded at g None = fault at NoCount
-loaded at g (Some n) = Ok (job_with (Some n) g)
-
-abbrev pub job_after : ℕ → Given → Option JobWord → Result Job WordFault
-job_after at g None = fault at NoJob
-job_after at g (Some Run) = Ok (job_with None g)
-job_after at g (Some Load) = loaded at g g.count
+-- the job of what is given
+abbrev pub job_after : ℕ → Given → Result Job WordFault
+job_after at g = task_of at (targets_of g) g.job >>= λ task. Ok (job_with task g)
 
 -- an option that still waits for its value is told at its own place
 abbrev pub ended_after : ℕ → Given → Option (ℕ × Setting) → Result Job WordFault
-ended_after at g None = job_after at g g.job
+ended_after at g None = job_after at g
 ended_after at g (Some p) = fault p.0 NoValue
 
 -- no further word stands
@@ -169,7 +200,6 @@ ended at g = ended_after at g g.awaits
 abbrev pub nothing_given : Given
 nothing_given = record {
   job = None;
-  count = None;
   targets = None;
   size = None;
   attempts = None;

@@ -2,19 +2,32 @@
 ghost use Rattle.std.specs.Prelude.{◌≡◌, ◌≤◌, ◌<◌, ◌==◌, length, position, ok_or, IfOk, IfSome, Err};
 ghost use Rattle.std.specs.Option.{option_copied};
 ghost use Rattle.base_text.specs.Number.{number_in};
-ghost use Rattle.daos_words.specs.Words.{ended, holds, is_order, setting_named, with_name, with_option, with_plain, with_threads, with_value, with_word};
+ghost use Rattle.daos_words.specs.Words.{ended, holds, is_order, job_named, rebuild_of, setting_named, task_of, with_more, with_name, with_option, with_plain, with_threads, with_value, with_word};
 
-use base_types::fault::{WordFault, WordKind};
-use base_types::job::Job;
 use base_text::number::number_in;
+use base_types::fault::{WordFault, WordKind};
+use base_types::job::{Job, Task};
 
-/// The first word that is no option.
+/// The word that names the target to rebuild: its place, and its number where that is from 1 to 63.
+#[derive(Clone, Copy)]
+pub struct Lost {
+    pub place: u32,
+    pub target: Option<u64>,
+}
+
+/// The first word that is no option, and what stands behind it.
 #[derive(Clone, Copy)]
 pub enum JobWord {
     /// To run a script.
     Run,
-    /// To generate a script and run it.
-    Load,
+    /// To generate a script of so many commands and run it.
+    Load(Option<u32>),
+    /// To rebuild a target.
+    Rebuild(Option<Lost>),
+    /// To run file commands.
+    Dfs,
+    /// To judge a report.
+    Audit,
 }
 
 /// An option that has a value.
@@ -31,7 +44,6 @@ pub enum Setting {
 #[derive(Clone, Copy)]
 pub struct Given {
     pub job: Option<JobWord>,
-    pub count: Option<u32>,
     pub targets: Option<u8>,
     pub size: Option<u8>,
     pub attempts: Option<u8>,
@@ -67,6 +79,25 @@ fn setting_named(name: &[u8]) -> Option<Setting>
     }
 }
 
+// The job of this name, with nothing behind it yet.
+fn job_named(word: &[u8]) -> Option<JobWord>
+    ensures { result ≡ job_named word.now }
+{
+    if word == b"run".as_slice() {
+        Some(JobWord::Run)
+    } else if word == b"load".as_slice() {
+        Some(JobWord::Load(None))
+    } else if word == b"rebuild".as_slice() {
+        Some(JobWord::Rebuild(None))
+    } else if word == b"dfs".as_slice() {
+        Some(JobWord::Dfs)
+    } else if word == b"audit".as_slice() {
+        Some(JobWord::Audit)
+    } else {
+        None
+    }
+}
+
 // The place of the first equals sign.
 fn equals_at(word: &[u8]) -> Option<usize>
     ensures exact { result ≡ position (λ b. b == 61) word.now }
@@ -91,6 +122,34 @@ impl Setting {
         ensures { result ≡ is_order self }
     {
         matches!(self, Setting::Order)
+    }
+}
+
+impl Lost {
+    // The task to rebuild this target of so many.
+    fn task(self, targets: u8) -> Result<Task, WordFault>
+        ensures { result ≡ rebuild_of targets self }
+    {
+        match self.target {
+            Some(target) if target < u64::from(targets) => Ok(Task::Rebuild(target as u8)),
+            _ => fault(self.place, WordKind::BadTarget),
+        }
+    }
+}
+
+// The task of the job, of so many words and on so many targets; or what is missing.
+fn task_of(job: Option<JobWord>, words: u32, targets: u8) -> Result<Task, WordFault>
+    ensures { result ≡ task_of words targets job }
+{
+    match job {
+        None => return fault(words, WordKind::NoJob),
+        Some(JobWord::Run) => Ok(Task::Run),
+        Some(JobWord::Load(None)) => fault(words, WordKind::NoCount),
+        Some(JobWord::Load(Some(count))) => Ok(Task::Load(count)),
+        Some(JobWord::Rebuild(None)) => fault(words, WordKind::NoTarget),
+        Some(JobWord::Rebuild(Some(lost))) => lost.task(targets),
+        Some(JobWord::Dfs) => Ok(Task::Dfs),
+        Some(JobWord::Audit) => Ok(Task::Audit),
     }
 }
 
@@ -176,34 +235,48 @@ impl Given {
         }
     }
 
-    // Any other word: the job, or its count.
+    // A word behind the job: the count of a load, or the target of a rebuild.
+    fn with_more(self, place: u32, job: JobWord, word: &[u8]) -> Result<Given, WordFault>
+        ensures { result ≡ with_more place self job word.now }
+    {
+        let mut given = self;
+        match job {
+            JobWord::Load(None) => {
+                let Some(count) = number_in(1, 10_000, word) else {
+                    return fault(place, WordKind::BadCount);
+                };
+                given.job = Some(JobWord::Load(Some(count as u32)));
+                Ok(given)
+            }
+            JobWord::Rebuild(None) => {
+                let target = number_in(1, 63, word);
+                given.job = Some(JobWord::Rebuild(Some(Lost { place, target })));
+                Ok(given)
+            }
+            JobWord::Run
+            | JobWord::Load(Some(_))
+            | JobWord::Rebuild(Some(_))
+            | JobWord::Dfs
+            | JobWord::Audit => fault(place, WordKind::ExtraWord),
+        }
+    }
+
+    // Any other word: the job, or what stands behind it.
     #[tactic(auto, unfolding(crate::specs::Words::with_plain))]
     fn with_plain(self, place: u32, word: &[u8]) -> Result<Given, WordFault>
         ensures { result ≡ with_plain place self word.now }
     {
-        let mut given = self;
         match self.job {
             None => {
-                if word == b"run".as_slice() {
-                    given.job = Some(JobWord::Run);
-                } else if word == b"load".as_slice() {
-                    given.job = Some(JobWord::Load);
-                } else {
+                let Some(job) = job_named(word) else {
                     return fault(place, WordKind::BadJob);
-                }
-            }
-            Some(JobWord::Run) => return fault(place, WordKind::ExtraWord),
-            Some(JobWord::Load) => {
-                if self.count.is_some() {
-                    return fault(place, WordKind::ExtraWord);
-                }
-                let Some(count) = number_in(1, 10_000, word) else {
-                    return fault(place, WordKind::BadCount);
                 };
-                given.count = Some(count as u32);
+                let mut given = self;
+                given.job = Some(job);
+                Ok(given)
             }
+            Some(job) => self.with_more(place, job, word),
         }
-        Ok(given)
     }
 
     /// What is given with one more word, at this place; or the word's fault.
@@ -235,17 +308,11 @@ impl Given {
         if let Some((place, _)) = self.awaits {
             return fault(place, WordKind::NoValue);
         }
-        let load = match self.job {
-            None => return fault(words, WordKind::NoJob),
-            Some(JobWord::Run) => None,
-            Some(JobWord::Load) => match self.count {
-                None => return fault(words, WordKind::NoCount),
-                Some(count) => Some(count),
-            },
-        };
+        let targets = self.targets.unwrap_or(4);
+        let task = task_of(self.job, words, targets)?;
         Ok(Job {
-            load,
-            targets: self.targets.unwrap_or(4),
+            task,
+            targets,
             size_mib: self.size.unwrap_or(4),
             attempts: self.attempts.unwrap_or(8),
             epsilon: self.epsilon.unwrap_or(0),

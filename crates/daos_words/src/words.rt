@@ -16,7 +16,6 @@ fn job_of(words: &[String]) -> Result<Job, WordFault>
 {
     let mut given = Given {
         job: None,
-        count: None,
         targets: None,
         size: None,
         attempts: None,
@@ -34,7 +33,8 @@ fn job_of(words: &[String]) -> Result<Job, WordFault>
 }
 
 /// The job that the words after the program's name ask for:
-/// `run [OPTION..]` or `load COUNT [OPTION..]`, with options anywhere among them.
+/// `run`, `load COUNT`, `rebuild T`, `dfs` or `audit`, with options anywhere among them. COUNT is from 1
+/// to 10,000, and T from 1 to the number of targets less one.
 ///
 /// An option is `--targets` (1 to 64, default 4), `--size` (2 to 32 MiB, default 4), `--attempts`
 /// (1 to 100, default 8), `--epsilon` (0 to 1,000,000 ticks, default 0) or `--order` (any u64,
@@ -42,7 +42,8 @@ fn job_of(words: &[String]) -> Result<Job, WordFault>
 ///
 /// # Errors
 ///
-/// The first fault, at its place, counted from 0. It takes no memory, so want of it never comes.
+/// The first fault, at its place, counted from 0; that T is no such number is told after all other
+/// faults. It takes no memory, so want of it never comes.
 pub fn read_words(_alloc: Global, words: &[String]) -> Result<Job, WordNo>
     ensures { result ≡ answered (job_of (map string_bytes words.now)) }
 {
@@ -53,7 +54,7 @@ pub fn read_words(_alloc: Global, words: &[String]) -> Result<Job, WordNo>
 }
 
 /// Every job that words stand for is in form, and at most 12 words stand for one; a fault at a word
-/// stays whatever words follow.
+/// stays whatever words follow, but for a value that is missing or a target that is none of so many.
 pub fn words_are_jobs()
     ensures { WordsLaw }
 {}

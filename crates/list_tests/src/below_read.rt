@@ -209,6 +209,7 @@ fn the_target(alloc: Global, turn: u8, told: Told) -> Result<TargetState, RowNo>
         ids.push(writer(1))?;
     }
     Ok(target_state(
+        alloc,
         kept,
         free,
         ticks,
@@ -334,6 +335,28 @@ fn letters(alloc: Global, turn: u8, told: Told) -> Result<Letters, RowNo> {
     Ok(letters)
 }
 
+// The numbers of the letters that are without an answer after so many turns.
+fn unanswered(turn: u8) -> &'static [u8] {
+    match turn {
+        1 => &[0],
+        2 => &[0, 1],
+        3 => &[1],
+        4 => &[1, 3],
+        5 | 6 => &[3],
+        8 => &[6],
+        10 => &[8],
+        _ => &[],
+    }
+}
+
+fn asked(alloc: Global, turn: u8, told: Told) -> Result<Letters, RowNo> {
+    let mut letters = Items::new(alloc);
+    for number in unanswered(turn) {
+        letters.push(letter_of(alloc, *number, told)?)?;
+    }
+    Ok(letters)
+}
+
 fn issued(alloc: Global, turn: u8, told: Told) -> Result<Issues, RowNo> {
     let mut issued = Items::new(alloc);
     if turn >= 3 {
@@ -381,6 +404,7 @@ pub fn world(alloc: Global, turn: u8, told: Told) -> Result<World, RowNo> {
         targets,
         clients,
         messages: letters(alloc, turn, told)?,
+        asked: asked(alloc, turn, told)?,
         issued: issued(alloc, turn, told)?,
         numbers: Numbers {
             restarts: 0,

@@ -58,7 +58,11 @@ pub fn attempt(client: u16, command: u32, attempt: u8) -> AttemptId {
 pub fn akey(alloc: Global, class: Class, name: &[u8]) -> Result<Path, RowNo> {
     Ok(Path {
         cont: ContId(1),
-        obj: Some(ObjId { class, number: 0 }),
+        obj: Some(ObjId {
+            class,
+            number: 0,
+            unit: 1,
+        }),
         dkey: Some(Key::new(alloc, b"d")?),
         akey: Some(Key::new(alloc, name)?),
     })

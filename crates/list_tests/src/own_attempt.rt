@@ -72,7 +72,7 @@ fn leader_state(alloc: Global, over: bool, told: Told) -> Result<TargetState, Ro
         undecided(alloc)?
     };
     let stamps = Items::new(alloc);
-    Ok(target_state(kept, 15_109, 1, stamps, leader, no_member(alloc)))
+    Ok(target_state(alloc, kept, 15_109, 1, stamps, leader, no_member(alloc)))
 }
 
 // Target 1, which holds nothing.
@@ -80,7 +80,7 @@ fn other_state(alloc: Global) -> Result<TargetState, RowNo> {
     let kept = durable(alloc, versions(alloc, false, false)?, None, 0)?;
     let leader = decided(alloc, Items::new(alloc));
     let stamps = Items::new(alloc);
-    Ok(target_state(kept, 15_120, 0, stamps, leader, no_member(alloc)))
+    Ok(target_state(alloc, kept, 15_120, 0, stamps, leader, no_member(alloc)))
 }
 
 fn letters(alloc: Global, over: bool, told: Told) -> Result<Letters, RowNo> {
@@ -89,6 +89,15 @@ fn letters(alloc: Global, over: bool, told: Told) -> Result<Letters, RowNo> {
         letters.push(what_it_hears(alloc, told)?)?;
     } else if told.marks {
         letters.push(marked(alloc)?)?;
+    }
+    Ok(letters)
+}
+
+// A Mark is without an answer before the turn; a Verdict has none.
+fn asked(alloc: Global, over: bool, told: Told) -> Result<Letters, RowNo> {
+    let mut letters = Items::new(alloc);
+    if told.marks && !over {
+        letters.push(what_it_hears(alloc, told)?)?;
     }
     Ok(letters)
 }
@@ -106,6 +115,7 @@ fn world(alloc: Global, over: bool, told: Told) -> Result<World, RowNo> {
         targets,
         clients,
         messages: letters(alloc, over, told)?,
+        asked: asked(alloc, over, told)?,
         issued,
         numbers: Numbers {
             restarts: 0,

@@ -137,6 +137,7 @@ pub fn no_member(alloc: Global) -> MemberMemory {
 
 /// A target that runs.
 pub fn target_state(
+    alloc: Global,
     durable: Durable,
     free: u32,
     ticks: u64,
@@ -154,6 +155,7 @@ pub fn target_state(
             stamps,
             leader,
             member,
+            collecting: Items::new(alloc),
         },
     }
 }
@@ -216,6 +218,7 @@ pub fn script(alloc: Global, targets: u8, clients: ClientLists) -> Script {
         conts: Items::new(alloc),
         objs: Items::new(alloc),
         olds: Items::new(alloc),
+        drops: Items::new(alloc),
         stops: Items::new(alloc),
         clients,
     }

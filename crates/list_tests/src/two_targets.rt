@@ -176,7 +176,7 @@ fn leader_state(alloc: Global, turn: u8, told: Told) -> Result<TargetState, RowN
     let free = if there { 15_109 } else { 15_120 };
     let leader = leading(alloc, turn, told)?;
     let member = no_member(alloc);
-    Ok(target_state(kept, free, ticks, Items::new(alloc), leader, member))
+    Ok(target_state(alloc, kept, free, ticks, Items::new(alloc), leader, member))
 }
 
 // The read, with the epoch that it was issued or without.
@@ -233,6 +233,7 @@ fn member_state(alloc: Global, turn: u8, told: Told) -> Result<TargetState, RowN
     let leader = decided(alloc, Items::new(alloc));
     let member = joining(alloc, turn, told)?;
     Ok(target_state(
+        alloc,
         kept,
         free,
         ticks,
@@ -385,6 +386,29 @@ fn letters(alloc: Global, turn: u8, told: Told) -> Result<Letters, RowNo> {
     Ok(letters)
 }
 
+// The numbers of the letters that are without an answer after so many turns.
+fn unanswered(turn: u8) -> &'static [u8] {
+    match turn {
+        1 => &[0],
+        2 => &[0, 1],
+        3 => &[0],
+        5 => &[4],
+        6 => &[4, 5],
+        7 => &[4, 5, 6],
+        8 => &[4, 5],
+        9 | 10 => &[4],
+        _ => &[],
+    }
+}
+
+fn asked(alloc: Global, turn: u8, told: Told) -> Result<Letters, RowNo> {
+    let mut letters = Items::new(alloc);
+    for number in unanswered(turn) {
+        letters.push(letter_of(alloc, *number, told)?)?;
+    }
+    Ok(letters)
+}
+
 fn issued(alloc: Global, turn: u8, told: Told) -> Result<Issues, RowNo> {
     let mut issued = Items::new(alloc);
     if turn >= 2 {
@@ -419,6 +443,7 @@ pub fn world(alloc: Global, turn: u8, told: Told) -> Result<World, RowNo> {
         targets,
         clients,
         messages: letters(alloc, turn, told)?,
+        asked: asked(alloc, turn, told)?,
         issued: issued(alloc, turn, told)?,
         numbers: Numbers {
             restarts: 0,

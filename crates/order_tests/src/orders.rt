@@ -1,16 +1,16 @@
 // Many orders of turns, each report judged by the slow functions of the definitions.
 use crate::judge::is_legal;
-use daos_app::daos::run_daos;
-use daos_app::status::Status;
 use base_types::outcome::Outcome;
 use base_types::report::{Line, Report};
 use base_types::script::Script;
+use daos_app::daos::run_daos;
+use daos_app::status::Status;
 use daos_outside::gate::FreeGate;
 use daos_outside::sure_rack::SureRack;
 use daos_outside::sure_sink::SureSink;
 use daos_outside::sure_source::SureSource;
-use report_reader::report::read_report;
 use daos_script::script::read_script;
+use report_reader::report::read_report;
 use std::alloc::Global;
 use std::sync::Wait;
 use std::test::Fail;

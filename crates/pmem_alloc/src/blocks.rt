@@ -1,9 +1,9 @@
 // The blocks of a region: those that are free by a stored map are taken and given back.
-ghost use Rattle.std.specs.Prelude.{◌≡◌, ◌⊎◌, ◌↔◌, ℕ, ◌+◌, ◌*◌, ◌^◌, ◌<◌, ◌≤◌, [], ◌∷◌, ◌++◌, List, length, take, false, true, IfOk, IfErr, OnOk, OnErr, IsErr, IsErrOf, IsTrue, slice_get, slice_index, Some};
-ghost use Rattle.daos_outside.specs.Images.{Image, all_over, bytes_at, LeavesOnly, Runs};
+ghost use Rattle.std.specs.Prelude.{◌≡◌, ◌⊎◌, ◌↔◌, ℕ, ◌+◌, ◌-◌, ◌*◌, ◌^◌, ◌<◌, ◌≤◌, [], ◌∷◌, ◌++◌, List, length, take, false, true, IfOk, IfErr, OnOk, OnErr, IsErr, IsErrOf, IsTrue, slice_get, slice_index, Some};
+ghost use Rattle.daos_outside.specs.Images.{Image, all_over, bytes_at, LeavesOnly, Runs, SameButFuse};
 ghost use Rattle.pmem_pages.specs.Blocks.{Stops};
-ghost use Rattle.pmem_undo.specs.Layout.{IsContent, SameContent};
-ghost use Rattle.pmem_undo.specs.Settled.{IsBeforeOrAfter, OnlyLooks, reads, commit_calls};
+ghost use Rattle.pmem_undo.specs.Layout.{IsContent, SameContent, most_ranges, most_bytes, total_bytes};
+ghost use Rattle.pmem_undo.specs.Settled.{IsBeforeOrAfter, ComesFrom, OnlyLooks, reads, commit_calls};
 ghost use Rattle.pmem_undo.specs.Undo.{IsUndo, IsTooMuch, HasRoom};
 ghost use Rattle.pmem_alloc.specs.Sets.{set_to, without, count_below, AreLeast, IsLeast};
 ghost use Rattle.pmem_alloc.specs.Map.{MapState, blocks_end, free_blocks, free_of, map_byte, StandsIn};
@@ -11,13 +11,13 @@ ghost use Rattle.pmem_alloc.specs.Blocks.{IsBlocks, free_now, free_count, HasRoo
 
 use crate::MAP;
 use crate::free_map::FreeMap;
-use daos_outside::region::Region;
+use daos_outside::region::{Fusible, Region};
 use pmem_pages::refusal::{Stopped, TooMuch};
 use pmem_undo::undo_region::UndoRegion;
 use std::marker::Model;
 
 /// Fewer blocks are free than are asked for.
-#[derive(Clone, Copy, Debug, PartialEq, Eq)]
+#[derive(Clone, Copy, Debug, PartialEq)]
 pub struct NoBlock;
 
 /// The undo region that was handed in, which stopped.
@@ -185,9 +185,17 @@ impl<R: Region> Blocks<R> {
         self.last[i as usize]
     }
 
-    /// How many bytes the region has.
+    /// The region below.
+    pub fn region(&self) -> &R
+        ensures { result.now ≡ self.now.undo.region }
+    {
+        self.undo.region()
+    }
+
+    /// How many bytes the region has. Each is a number below 256.
     pub fn size(&self) -> u64
         ensures size { result ≡ R.extent self.now.undo.region }
+        ensures bytes { IsTrue R.tells → (i : ℕ) → R.image self.now.undo.region i < 256 }
         ensures undo_holds { IsUndo (R.extent self.now.undo.region) R.tells (R.image self.now.undo.region) (R.may_leave self.now.undo.region) self.now.undo.staged self.now.undo.stopped }
         ensures holds { IsBlocks (R.extent self.now.undo.region) R.tells (R.image self.now.undo.region) self.now.undo.staged self.now.undo.stopped self.now.map self.now.lasting }
     {
@@ -199,6 +207,14 @@ impl<R: Region> Blocks<R> {
         ensures { result ≡ free_count self.now }
     {
         self.map.count()
+    }
+
+    /// How many ranges are left to stage, and how many bytes.
+    pub fn left(&self) -> (u32, u32)
+        ensures ranges { result.0 ≡ most_ranges - length self.now.undo.staged }
+        ensures bytes { result.1 ≡ most_bytes - total_bytes self.now.undo.staged }
+    {
+        self.undo.left()
     }
 
     /// Gives a block back. It is staged as free.
@@ -235,7 +251,8 @@ impl<R: Region> Blocks<R> {
 
     /// Commits what is staged, takes and gives among it. At `Ok` every later crash leaves it. A crash at
     /// any moment of the call leaves an image that stands for the content before the commit, or for that
-    /// after it.
+    /// after it. Whatever a crash may leave after the call comes from an image that one could leave before
+    /// it.
     ///
     /// # Errors
     ///
@@ -247,6 +264,7 @@ impl<R: Region> Blocks<R> {
             (IsBeforeOrAfter (R.extent self.old.undo.region) (R.image self.old.undo.region) self.old.undo.staged) }
         ensures left { IsTrue R.tells → self.old.undo.stopped ≡ false → (c : Image) → R.may_leave self.new.undo.region c →
             IsBeforeOrAfter (R.extent self.old.undo.region) (R.image self.old.undo.region) self.old.undo.staged c }
+        ensures from { IsTrue R.tells → ComesFrom (R.extent self.old.undo.region) self.old.undo.staged (R.may_leave self.old.undo.region) (R.may_leave self.new.undo.region) }
         ensures calls { OnOk result ((body : List ℕ) × Runs R.did (reads (length self.old.undo.staged) ++ commit_calls body self.old.undo.staged) self.old.undo.region self.new.undo.region) }
         ensures staged { OnOk result (self.new.undo.staged ≡ []) }
         ensures kept { OnErr result (self.new.undo.staged ≡ self.old.undo.staged) }
@@ -307,5 +325,17 @@ impl<R: Region> Blocks<R> {
             many: _many,
         } = self;
         undo
+    }
+}
+
+impl<R: Fusible> Blocks<R> {
+    /// Sets the fuse of the region below: its `k`-th write from now on fails. 0 sets none, and takes away
+    /// one that is set.
+    pub fn set_fuse(&mut self, k: u32)
+        ensures fuse { SameButFuse R.extent R.count R.burns R.tells R.image R.may_leave R.moment R.left_since R.broken R.did self.old.undo.region self.new.undo.region }
+        ensures rest { self.new ≡ record self.old { undo = record self.old.undo { region = self.new.undo.region } } }
+        ensures holds { IsBlocks (R.extent self.new.undo.region) R.tells (R.image self.new.undo.region) self.new.undo.staged self.new.undo.stopped self.new.map self.new.lasting }
+    {
+        self.undo.set_fuse(k);
     }
 }

@@ -30,6 +30,7 @@ impl<R: Region> Blocks<R> {
     }
 }
 
+/// A block that isn't taken reads as zeros, and staging it or giving it back changes nothing.
 impl<R: Region> Pages for Blocks<R> {
     ghost tells = { R.tells };
 

@@ -7,8 +7,7 @@ use crate::refusal::{PageNo, Stopped, TooMuch};
 use crate::steps::Steps;
 use std::sync::ledger::Ledger;
 
-/// Blocks of 256 bytes. A type may tell the bytes of its blocks. Where it doesn't, a block that isn't
-/// taken reads as zeros, and staging it or giving it back changes nothing.
+/// Blocks of 256 bytes. A type may tell the bytes of its blocks.
 pub trait Pages {
     /// Whether the type tells its blocks.
     ghost tells: { Bool };

@@ -1,9 +1,9 @@
 -- A whole tree, as look-ups see it, and what its calls cost.
 use Rattle.std.proofs.Common.{ℕ, ◌+◌, ◌*◌, ◌≤◌, arith}
 use Rattle.pmem_pages.specs.Blocks.{Blocks}
-use Rattle.pmem_node.specs.Shape.{Shape, height, Balanced, IsTree}
-use Rattle.pmem_node.proofs.Heights.{low, never_high}
-use Rattle.pmem_tree_paths.specs.Find.{Below}
+use Rattle.pmem_pages.specs.Shape.{Shape, height, Balanced, IsTree}
+use Rattle.pmem_pages.proofs.Heights.{low, never_high}
+use Rattle.pmem_tree_base.specs.Find.{Below}
 use Rattle.pmem_tree.specs.Calls.{StepsAtMost}
 
 -- a whole tree

@@ -3,18 +3,18 @@ use Rattle.std.proofs.Common.{◌≡◌, ◌≢◌, ℕ, ◌+◌, ◌*◌, ◌^�
 use Rattle.std.proofs.lemmas.Bool.{cases_lt}
 use Rattle.std.proofs.lemmas.Bool.Decides.{eqb_tells}
 use Rattle.pmem_pages.specs.Blocks.{Blocks, Budget, IsSpent, put}
-use Rattle.pmem_owner.proofs.BlockLaws.{put_here, put_other}
-use Rattle.pmem_owner.proofs.Owning.{not_free}
-use Rattle.pmem_node.specs.declared.node.Pair.{Pair}
-use Rattle.pmem_node.specs.Node.{IsKey, IsValue}
-use Rattle.pmem_node.specs.Shape.{Entry, Shape, height, entries, count, Stands, Balanced, Rises, IsTree, entry_at}
-use Rattle.pmem_node.proofs.Lists.{count_one, count_own, count_other, count_inserted, rises_inserted}
-use Rattle.pmem_node.proofs.Shapes.{stands_on, taken_in}
-use Rattle.pmem_node.proofs.Heights.{low, never_high}
+use Rattle.pmem_pages.proofs.BlockLaws.{put_here, put_other}
+use Rattle.pmem_pages.proofs.Owning.{not_free}
+use Rattle.pmem_pages.specs.declared.node.Pair.{Pair}
+use Rattle.pmem_pages.specs.Node.{IsKey, IsValue}
+use Rattle.pmem_pages.specs.Shape.{Entry, Shape, height, entries, count, Stands, Balanced, Rises, IsTree, entry_at}
+use Rattle.pmem_pages.proofs.Lists.{count_one, count_own, count_other, count_inserted, rises_inserted}
+use Rattle.pmem_pages.proofs.Shapes.{stands_on, taken_in}
+use Rattle.pmem_pages.proofs.Heights.{low, never_high}
 use Rattle.pmem_tree_base.specs.declared.read.Sub.{Sub}
 use Rattle.pmem_tree_base.specs.Nodes.{entry_of, StandsAt}
 use Rattle.pmem_tree_base.proofs.Staged.{spent_then}
-use Rattle.pmem_tree_insert.specs.Grow.{CanGrow, Grown, GrowsCheaply}
+use Rattle.pmem_tree.specs.Grow.{CanGrow, Grown, GrowsCheaply}
 use Rattle.pmem_tree.specs.Changes.{Inserts}
 use Rattle.pmem_tree.specs.Calls.{StagesAtMost, TooFew}
 

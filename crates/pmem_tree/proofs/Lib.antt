@@ -1,3 +1,8 @@
+pub mod Growing
+pub mod GrowingRight
+pub mod Inserting
+pub mod Shrinking
+pub mod Removing
 pub mod Found
 pub mod Inserted
 pub mod Removed

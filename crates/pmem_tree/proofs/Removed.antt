@@ -2,15 +2,15 @@
 use Rattle.std.proofs.Common.{◌≡◌, ◌≢◌, ℕ, ◌+◌, ◌*◌, ◌≤◌, ◌<◌, [], ◌∷◌, Some, None, sym, ap, ◌∙◌, subst, arith, ◌⊎◌, inl, inr}
 use Rattle.std.proofs.lemmas.Bool.Decides.{eqb_tells}
 use Rattle.pmem_pages.specs.Blocks.{Blocks, Budget, IsTaken, IsSpent, put}
-use Rattle.pmem_owner.proofs.BlockLaws.{put_here, put_other}
-use Rattle.pmem_node.specs.declared.node.TreeKey.{TreeKey}
-use Rattle.pmem_node.specs.Shape.{Entry, Shape, height, entries, count, Stands, Balanced, Rises, IsTree, entry_at}
-use Rattle.pmem_node.proofs.Lists.{count_own, count_other, count_removed, rises_removed}
-use Rattle.pmem_node.proofs.Shapes.{stands_on, taken_in}
-use Rattle.pmem_node.proofs.Heights.{low, never_high}
+use Rattle.pmem_pages.proofs.BlockLaws.{put_here, put_other}
+use Rattle.pmem_pages.specs.declared.node.TreeKey.{TreeKey}
+use Rattle.pmem_pages.specs.Shape.{Entry, Shape, height, entries, count, Stands, Balanced, Rises, IsTree, entry_at}
+use Rattle.pmem_pages.proofs.Lists.{count_own, count_other, count_removed, rises_removed}
+use Rattle.pmem_pages.proofs.Shapes.{stands_on, taken_in}
+use Rattle.pmem_pages.proofs.Heights.{low, never_high}
 use Rattle.pmem_tree_base.proofs.Staged.{spent_then}
-use Rattle.pmem_tree_remove.specs.declared.shrink.Cut.{Cut}
-use Rattle.pmem_tree_remove.specs.Shrink.{CanShrink, Shrunk}
+use Rattle.pmem_tree.specs.declared.shrink.Cut.{Cut}
+use Rattle.pmem_tree.specs.Shrink.{CanShrink, Shrunk}
 use Rattle.pmem_tree.specs.Calls.{StagesAtMost, TooFew}
 use Rattle.pmem_tree.specs.Changes.{Removes}
 

@@ -1,12 +1,12 @@
 -- A value is put in the place of another, in a whole tree.
 use Rattle.std.proofs.Common.{◌≡◌, ℕ, ◌≤◌, Some, sym, ap, ◌∙◌, subst, arith}
 use Rattle.pmem_pages.specs.Blocks.{Blocks}
-use Rattle.pmem_owner.specs.Owners.{times}
-use Rattle.pmem_node.specs.declared.node.Pair.{Pair}
-use Rattle.pmem_node.specs.Node.{IsValue}
-use Rattle.pmem_node.specs.Shape.{Entry, Shape, height, entries, blocks_of, count, IsTree, Rises, entry_at}
-use Rattle.pmem_node.proofs.Lists.{blocks_valued, rises_valued}
-use Rattle.pmem_tree_paths.specs.Put.{CanPut, Put}
+use Rattle.pmem_pages.specs.Owners.{times}
+use Rattle.pmem_pages.specs.declared.node.Pair.{Pair}
+use Rattle.pmem_pages.specs.Node.{IsValue}
+use Rattle.pmem_pages.specs.Shape.{Entry, Shape, height, entries, blocks_of, count, IsTree, Rises, entry_at}
+use Rattle.pmem_pages.proofs.Lists.{blocks_valued, rises_valued}
+use Rattle.pmem_tree_base.specs.Put.{CanPut, Put}
 use Rattle.pmem_tree.specs.Changes.{Puts}
 
 -- a whole tree

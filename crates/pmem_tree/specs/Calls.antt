@@ -1,7 +1,7 @@
 -- What is said of every call of a tree, and what it costs.
 use Rattle.std.specs.Prelude.{◌⊎◌, ◌≤◌, ℕ, Bool, IsTrue, ◌<◌, ◌+◌, ◌*◌, ◌^◌, length}
 use Rattle.pmem_pages.specs.Blocks.{Blocks, Budget, IsSpent}
-use Rattle.pmem_node.specs.Shape.{Shape, IsTree, entries}
+use Rattle.pmem_pages.specs.Shape.{Shape, IsTree, entries}
 
 -- where the blocks are told, this holds of the tree of this kind below this root
 abbrev pub OfTree : Bool → Blocks → ℕ → ℕ → (Shape → Type 0) → Type 0

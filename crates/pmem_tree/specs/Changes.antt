@@ -1,11 +1,11 @@
 -- What the calls that change a tree make of it.
 use Rattle.std.specs.Prelude.{◌≡◌, ℕ, None}
 use Rattle.pmem_pages.specs.Blocks.{Blocks}
-use Rattle.pmem_owner.specs.Owners.{Changed}
-use Rattle.pmem_node.specs.declared.node.TreeKey.{TreeKey}
-use Rattle.pmem_node.specs.declared.node.Value.{Value}
-use Rattle.pmem_node.specs.Shape.{Entry, Shape, entries, IsTree, inserted, removed, valued}
-use Rattle.pmem_node.specs.Owned.{tree_owner}
+use Rattle.pmem_pages.specs.Owners.{Changed}
+use Rattle.pmem_pages.specs.declared.node.TreeKey.{TreeKey}
+use Rattle.pmem_pages.specs.declared.node.Value.{Value}
+use Rattle.pmem_pages.specs.Shape.{Entry, Shape, entries, IsTree, inserted, removed, valued}
+use Rattle.pmem_pages.specs.Owned.{tree_owner}
 
 -- The tree with one more pair, in a block that was free: the others keep their blocks.
 pub record Inserts (m : Blocks) (kind : ℕ) (t : Shape) (key : TreeKey) (value : Value) (n : Blocks) (root : ℕ) : Type 0 where

@@ -1,2 +1,4 @@
 pub mod Calls
+pub mod Grow
+pub mod Shrink
 pub mod Changes

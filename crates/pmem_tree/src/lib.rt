@@ -1,13 +1,11 @@
 // Balanced trees of byte keys, whose nodes are blocks of any pages.
 #![tactic(auto)]
 
-mod find;
 mod grow;
-mod put;
 mod shrink;
 pub mod tree;
 
-pub use pmem_node::node::{Pair, TreeKey, Value};
+pub use pmem_pages::node::{Pair, TreeKey, Value};
 pub use pmem_tree_base::refusal::TreeNo;
 
 /// No tree is higher: a higher one that is balanced has more nodes than there are block numbers.

@@ -1,11 +1,11 @@
 -- A node that was read.
 use Rattle.std.proofs.Common.{◌≡◌, ◌≢◌, ℕ, List, Some, sym, ap, ◌∙◌}
 use Rattle.pmem_pages.specs.Blocks.{Blocks, IsTaken}
-use Rattle.pmem_node.specs.declared.node.Node.{Node}
-use Rattle.pmem_node.specs.declared.node.Pair.{Pair}
-use Rattle.pmem_node.specs.Node.{node_of}
-use Rattle.pmem_node.specs.Shape.{Entry, Shape, Leaf, Fork, root_of, Stands, node_at}
-use Rattle.pmem_node.proofs.Shapes.{read_again}
+use Rattle.pmem_pages.specs.declared.node.Node.{Node}
+use Rattle.pmem_pages.specs.declared.node.Pair.{Pair}
+use Rattle.pmem_pages.specs.Node.{node_of}
+use Rattle.pmem_pages.specs.Shape.{Entry, Shape, Leaf, Fork, root_of, Stands, node_at}
+use Rattle.pmem_pages.proofs.Shapes.{read_again}
 use Rattle.pmem_tree_base.specs.Nodes.{SomeNode, IsNodeAt, entry_of}
 
 pub some_node : (m : Blocks) (kind at : ℕ) (t : Shape) → Stands m kind t → at ≡ root_of t → at ≢ 0 → SomeNode m kind at

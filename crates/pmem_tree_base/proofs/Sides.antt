@@ -2,10 +2,10 @@
 use Rattle.std.proofs.Common.{◌≡◌, List, ◌∷◌, ◌++◌, Some, refl, ◌∙◌}
 use Rattle.std.specs.declared.cmp.Ordering.TheVariants.{Equal, Greater}
 use Rattle.std.proofs.lemmas.Cmp.{tied_back}
-use Rattle.pmem_node.specs.declared.node.TreeKey.{TreeKey}
-use Rattle.pmem_node.specs.Node.{key_cmp}
-use Rattle.pmem_node.specs.Shape.{Entry, Rises, AllBelow, entry_at}
-use Rattle.pmem_node.proofs.Lists.{Rises-below, entry_at_past, AllBelow-higher, AllBelow-alike, below_flip, key_total}
+use Rattle.pmem_pages.specs.declared.node.TreeKey.{TreeKey}
+use Rattle.pmem_pages.specs.Node.{key_cmp}
+use Rattle.pmem_pages.specs.Shape.{Entry, Rises, AllBelow, entry_at}
+use Rattle.pmem_pages.proofs.Lists.{Rises-below, entry_at_past, AllBelow-higher, AllBelow-alike, below_flip, key_total}
 
 -- a key above an entry is above all before it
 pub past_left : (key : TreeKey) (l : List Entry) (e : Entry) (r : List Entry) → Rises (l ++ e ∷ r) → key_cmp key e.key ≡ Greater → AllBelow key l

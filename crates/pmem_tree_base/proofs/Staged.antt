@@ -1,12 +1,12 @@
 -- A node that was staged.
 use Rattle.std.proofs.Common.{◌≡◌, ◌≢◌, ℕ, ◌+◌, ◌≤◌, ◌<◌, max, List, Option, Some, sym, ap, ◌∙◌, subst, arith}
 use Rattle.pmem_pages.specs.Blocks.{Blocks, put, IsTaken, Budget, IsSpent}
-use Rattle.pmem_owner.proofs.BlockLaws.{put_here, put_other, taken_put}
-use Rattle.pmem_node.specs.Node.{node_bytes}
-use Rattle.pmem_node.specs.Shape.{Entry, Shape, Fork, entries, count, node_at, with_node, IsEntry, Stands, Keeps}
-use Rattle.pmem_node.proofs.Shapes.{stands_on}
-use Rattle.pmem_node.specs.declared.node.Node.{Node}
-use Rattle.pmem_node.specs.declared.node.Pair.{Pair}
+use Rattle.pmem_pages.proofs.BlockLaws.{put_here, put_other, taken_put}
+use Rattle.pmem_pages.specs.Node.{node_bytes}
+use Rattle.pmem_pages.specs.Shape.{Entry, Shape, Fork, entries, count, node_at, with_node, IsEntry, Stands, Keeps}
+use Rattle.pmem_pages.proofs.Shapes.{stands_on}
+use Rattle.pmem_pages.specs.declared.node.Node.{Node}
+use Rattle.pmem_pages.specs.declared.node.Pair.{Pair}
 use Rattle.pmem_tree_base.specs.declared.read.Sub.{Sub}
 use Rattle.pmem_tree_base.specs.Nodes.{entry_of, node_between, IsSub}
 

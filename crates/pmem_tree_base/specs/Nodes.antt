@@ -1,9 +1,9 @@
 -- A node of a tree, as the code holds it.
 use Rattle.std.specs.Prelude.{◌≡◌, ◌+◌, ℕ, max}
 use Rattle.pmem_pages.specs.Blocks.{Blocks}
-use Rattle.pmem_node.specs.declared.node.Node.{Node}
-use Rattle.pmem_node.specs.declared.node.Pair.{Pair}
-use Rattle.pmem_node.specs.Shape.{Entry, Shape, Fork, root_of, height, Stands, node_at}
+use Rattle.pmem_pages.specs.declared.node.Node.{Node}
+use Rattle.pmem_pages.specs.declared.node.Pair.{Pair}
+use Rattle.pmem_pages.specs.Shape.{Entry, Shape, Fork, root_of, height, Stands, node_at}
 use Rattle.pmem_tree_base.specs.declared.read.Opened.{Opened}
 use Rattle.pmem_tree_base.specs.declared.read.Sub.{Sub}
 

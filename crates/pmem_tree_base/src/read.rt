@@ -1,26 +1,26 @@
 // A node is read.
 ghost use Rattle.std.specs.Prelude.{◌≡◌, ◌≤◌, ◌+◌, true, IfOk, OnOk, OnErr, IsTrue};
-ghost use Rattle.pmem_node.specs.Shape.{Shape};
+ghost use Rattle.pmem_pages.specs.Shape.{Shape};
 ghost use Rattle.pmem_tree_base.specs.Calls.{Goes};
 ghost use Rattle.pmem_tree_base.specs.Nodes.{SomeNode, IsNodeAt, IsSub, StandsAt, SomeStandsAt, OpensAt};
 
-use pmem_node::codec::read_node;
-use pmem_node::node::{Node, Pair};
 use pmem_pages::BLOCK;
+use pmem_pages::codec::read_node;
+use pmem_pages::node::{Node, Pair};
 use pmem_pages::pages::Pages;
 use pmem_pages::refusal::Stopped;
 use pmem_pages::steps::Steps;
 use std::sync::ledger::Ledger;
 
 /// What the code holds of a tree below a node: its root, or 0, and its height.
-#[derive(Clone, Copy, Debug)]
+#[derive(Clone, Copy)]
 pub struct Sub {
     pub root: u32,
     pub height: u8,
 }
 
 /// The kind of a tree, and of one of its nodes the block and the pair.
-#[derive(Clone, Copy, Debug)]
+#[derive(Clone, Copy)]
 pub struct Spot {
     pub kind: u8,
     pub at: u32,
@@ -28,7 +28,7 @@ pub struct Spot {
 }
 
 /// What the code holds of a node that it opened: its pair and the trees below it.
-#[derive(Clone, Copy, Debug)]
+#[derive(Clone, Copy)]
 pub struct Opened {
     pub pair: Pair,
     pub left: Sub,

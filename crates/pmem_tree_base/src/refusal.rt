@@ -1,11 +1,15 @@
 // Why a call of a tree was refused.
 use pmem_pages::refusal::{PageNo, Stopped, TooMuch};
+use thiserror::Error;
 
 /// Why a tree wasn't changed.
-#[derive(Clone, Copy, Debug, PartialEq, Eq)]
+#[derive(Clone, Copy, Debug, Error)]
 pub enum TreeNo {
+    #[error("no block is free")]
     NoBlock,
+    #[error("more than one commit takes")]
     TooMuch,
+    #[error("stopped")]
     Stopped,
 }
 

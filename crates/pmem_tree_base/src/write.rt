@@ -1,14 +1,14 @@
 // A node is staged.
 ghost use Rattle.std.specs.Prelude.{◌≡◌, ◌⊎◌, ◌≤◌, ◌<◌, ◌+◌, max, Some, IfOk, OnOk, OnErr, IsTrue};
 ghost use Rattle.pmem_pages.specs.Blocks.{IsTaken, IsSpent, put};
-ghost use Rattle.pmem_node.specs.Node.{node_bytes};
+ghost use Rattle.pmem_pages.specs.Node.{node_bytes};
 ghost use Rattle.pmem_tree_base.specs.Calls.{Rests};
 ghost use Rattle.pmem_tree_base.specs.Nodes.{node_between};
 
 use crate::read::{Spot, Sub};
-use pmem_node::codec::write_node;
-use pmem_node::node::Node;
 use pmem_pages::BLOCK;
+use pmem_pages::codec::write_node;
+use pmem_pages::node::Node;
 use pmem_pages::pages::Pages;
 use pmem_pages::refusal::TooMuch;
 

@@ -5,13 +5,14 @@ use Rattle.std.proofs.lemmas.Bool.{cases_lt}
 use Rattle.std.proofs.lemmas.List.{length-map, map-append, length-append}
 use Rattle.std.proofs.lemmas.List.Elements.{All-push}
 use Rattle.std.proofs.Math.Seq.{drop-append_seam, take-length}
-use Rattle.daos_outside.specs.Images.{Image, Range, NoMore}
+use mathlib.Core.Path.{fun_ext}
+use Rattle.daos_outside.specs.Images.{Image, Range, all_over, NoMore}
 use Rattle.pmem_undo.specs.declared.span.Span.{Span}
-use Rattle.pmem_undo.specs.Layout.{gate, IsContent, most_ranges, most_bytes}
-use Rattle.pmem_undo.specs.Settled.{IsAtRest, IsAttachable, IsBeforeOrAfter}
+use Rattle.pmem_undo.specs.Layout.{gate, IsContent, most_ranges, most_bytes, total_bytes}
+use Rattle.pmem_undo.specs.Settled.{settled, IsAtRest, IsAttachable, IsBeforeOrAfter, ComesFrom}
 use Rattle.pmem_undo.specs.Spans.{IsSpan, range_of, ranges_of, spans_length}
 use Rattle.pmem_undo.specs.Undo.{IsUndo, HasBuffers, IsTooMuch, HasRoom}
-use Rattle.pmem_undo.proofs.Attaching.{spans_content}
+use Rattle.pmem_undo.proofs.Attaching.{spans_content, settled_shut}
 use Rattle.pmem_undo.proofs.Committing.{total_is}
 use Rattle.pmem_undo.proofs.Parsing.{ranges_front}
 
@@ -150,3 +151,21 @@ buffers_pushed size spans spans' spans_room staged staged' bytes bytes_room body
 pub staged_pushed : (size : ℕ) (staged staged' bytes : List ℕ) (spans spans' : List Span) (place : ℕ) → All (IsSpan size (length staged)) spans → spans' ≡ spans ++ record { place = place; start = length staged; length = length bytes } ∷ [] → staged' ≡ staged ++ bytes → ranges_of staged' spans' ≡ ranges_of staged spans ++ record { place = place; bytes = bytes } ∷ []
 staged_pushed size staged staged' bytes spans spans' place all e e' =
     ap (λ (z : List ℕ). ranges_of z spans') e' ∙ (ap (ranges_of (staged ++ bytes)) e ∙ staged_more size staged bytes spans place all)
+
+-- where a crash leaves what is read, all that a commit may leave comes from it
+pub comes_from : (size : ℕ) (f : Image) (ranges : List Range) (old new : Image → Type 0) → IsAtRest f old → (c : Image) × old c → ((c : Image) → new c → IsBeforeOrAfter size f ranges c) → ComesFrom size ranges old new
+comes_from size f ranges old new rest some left c here =
+    let was : old f = subst (λ (d : Image). old d) (fun_ext (rest.only some.0 some.1)) some.1 in
+    let shut : settled size f ≡ f = settled_shut size f rest.closed in
+    elim (left c here) [
+      | inl before ↦ (f, (was, inl (λ i a. before.content i a ∙ ap (λ (d : Image). d i) (sym shut))))
+      | inr after ↦ (f, (was, inr (λ i a. after.content i a ∙ ap (λ (d : Image). all_over ranges d i) (sym shut))))
+    ]
+
+-- what is left to stage, by the buffers
+pub left_told : (size : ℕ) (staged : List ℕ) (spans : List Span) (spans_room bytes_room body : ℕ) → HasBuffers size spans spans_room (length staged) bytes_room body → (most_ranges - length spans ≡ most_ranges - length (ranges_of staged spans)) × (most_bytes - length staged ≡ most_bytes - total_bytes (ranges_of staged spans))
+left_told size staged spans spans_room bytes_room body b =
+    let n = length-map spans (range_of staged) in
+    let t = total_is staged size spans b.sound in
+    let total = b.total in
+    (omega arith, omega arith)

@@ -70,3 +70,9 @@ pub record OnlyLooks (f g : Image) (may_leave may_leave_now : Image → Type 0) 
   pub image : g ≡ f
   pub crash : NoMore may_leave may_leave_now
   pub time : LeavesOnly before now past since may_leave
+
+-- Each image that may be left now is attached to with the content of one that could be left before, or with
+-- that content and the ranges over it.
+abbrev pub ComesFrom : ℕ → List Range → (Image → Type 0) → (Image → Type 0) → Type 0
+ComesFrom size ranges old new = (c : Image) → new c →
+    (d : Image) × (old d × (SameContent (settled size c) (settled size d) ⊎ SameContent (settled size c) (all_over ranges (settled size d))))

@@ -1,9 +1,9 @@
 // A region with an undo log.
-ghost use Rattle.std.specs.Prelude.{◌≡◌, ◌↔◌, ℕ, ◌+◌, ◌^◌, ◌<◌, ◌≤◌, [], ◌∷◌, ◌++◌, List, length, false, true, IfOk, IfErr, OnOk, OnErr, IsErr, IsTrue, MatchBool, vec_capacity};
-ghost use Rattle.daos_outside.specs.Images.{Image, all_over, bytes_at, LeavesOnly, Runs};
+ghost use Rattle.std.specs.Prelude.{◌≡◌, ◌↔◌, ℕ, ◌+◌, ◌-◌, ◌^◌, ◌<◌, ◌≤◌, [], ◌∷◌, ◌++◌, List, length, false, true, IfOk, IfErr, OnOk, OnErr, IsErr, IsTrue, MatchBool, vec_capacity};
+ghost use Rattle.daos_outside.specs.Images.{Image, all_over, bytes_at, LeavesOnly, Runs, SameButFuse};
 ghost use Rattle.pmem_pages.specs.Blocks.{Stops};
-ghost use Rattle.pmem_undo.specs.Layout.{IsContent, SameContent};
-ghost use Rattle.pmem_undo.specs.Settled.{IsAttachable, IsBeforeOrAfter, OnlyLooks, reads, commit_calls};
+ghost use Rattle.pmem_undo.specs.Layout.{IsContent, SameContent, most_ranges, most_bytes, total_bytes};
+ghost use Rattle.pmem_undo.specs.Settled.{IsAttachable, IsBeforeOrAfter, ComesFrom, OnlyLooks, reads, commit_calls};
 ghost use Rattle.pmem_undo.specs.Undo.{IsUndo, IsTooMuch, HasRoom};
 
 use crate::commit::commit_ranges;
@@ -11,7 +11,7 @@ use crate::show::show;
 use crate::span::Span;
 use crate::{MOST_BYTES, MOST_RANGES};
 use daos_outside::Failed;
-use daos_outside::region::Region;
+use daos_outside::region::{Fusible, Region};
 use pmem_pages::refusal::{Stopped, TooMuch};
 use std::marker::Model;
 
@@ -54,6 +54,16 @@ fn is_room(ranges: usize, bytes: usize, more: usize) -> bool
     ranges < MOST_RANGES && more <= MOST_BYTES - bytes
 }
 
+// How many ranges and bytes may be staged beside so many.
+fn left_beside(ranges: usize, bytes: usize) -> (u32, u32)
+    requires ranges { ranges ≤ 1024 }
+    requires bytes { bytes ≤ 256000 }
+    ensures ranges { result.0 ≡ 1024 - ranges }
+    ensures bytes { result.1 ≡ 256000 - bytes }
+{
+    ((MOST_RANGES - ranges) as u32, (MOST_BYTES - bytes) as u32)
+}
+
 // Puts a range behind those that are staged.
 fn push_range(spans: &mut Vec<Span>, staged: &mut Vec<u8>, place: u64, bytes: &[u8])
     requires room { length spans.old.items < vec_capacity spans.old }
@@ -75,9 +85,17 @@ fn push_range(spans: &mut Vec<Span>, staged: &mut Vec<u8>, place: u64, bytes: &[
 }
 
 impl<R: Region> UndoRegion<R> {
-    /// How many bytes the region has.
+    /// The region below.
+    pub fn region(&self) -> &R
+        ensures { result.now ≡ self.now.region }
+    {
+        &self.region
+    }
+
+    /// How many bytes the region has. Each is a number below 256.
     pub fn size(&self) -> u64
         ensures size { result ≡ R.extent self.now.region }
+        ensures bytes { IsTrue R.tells → (i : ℕ) → R.image self.now.region i < 256 }
         ensures holds { IsUndo (R.extent self.now.region) R.tells (R.image self.now.region) (R.may_leave self.now.region) self.now.staged self.now.stopped }
     {
         self.region.size()
@@ -88,6 +106,14 @@ impl<R: Region> UndoRegion<R> {
         ensures { MatchBool result (HasRoom self.now.staged bytes) (IsTooMuch self.now.staged bytes) }
     {
         is_room(self.spans.len(), self.staged.len(), bytes)
+    }
+
+    /// How many ranges are left to stage, and how many bytes.
+    pub fn left(&self) -> (u32, u32)
+        ensures ranges { result.0 ≡ most_ranges - length self.now.staged }
+        ensures bytes { result.1 ≡ most_bytes - total_bytes self.now.staged }
+    {
+        left_beside(self.spans.len(), self.staged.len())
     }
 
     /// Stages bytes for the next commit, from a place of the region on.
@@ -111,7 +137,8 @@ impl<R: Region> UndoRegion<R> {
     }
 
     /// Commits what is staged. At `Ok` every later crash leaves it. A crash at any moment of the call
-    /// leaves an image that stands for the content before the commit, or for that after it.
+    /// leaves an image that stands for the content before the commit, or for that after it. Whatever a
+    /// crash may leave after the call comes from an image that one could leave before it.
     ///
     /// # Errors
     ///
@@ -123,6 +150,7 @@ impl<R: Region> UndoRegion<R> {
             (IsBeforeOrAfter (R.extent self.old.region) (R.image self.old.region) self.old.staged) }
         ensures left { IsTrue R.tells → self.old.stopped ≡ false → (c : Image) → R.may_leave self.new.region c →
             IsBeforeOrAfter (R.extent self.old.region) (R.image self.old.region) self.old.staged c }
+        ensures from { IsTrue R.tells → ComesFrom (R.extent self.old.region) self.old.staged (R.may_leave self.old.region) (R.may_leave self.new.region) }
         ensures calls { OnOk result ((body : List ℕ) × Runs R.did (reads (length self.old.staged) ++ commit_calls body self.old.staged) self.old.region self.new.region) }
         ensures staged { OnOk result (self.new.staged ≡ []) }
         ensures kept { OnErr result (self.new.staged ≡ self.old.staged) }
@@ -199,5 +227,17 @@ impl<R: Region> UndoRegion<R> {
             stopped: _stopped,
         } = self;
         region
+    }
+}
+
+impl<R: Fusible> UndoRegion<R> {
+    /// Sets the fuse of the region below: its `k`-th write from now on fails. 0 sets none, and takes away
+    /// one that is set.
+    pub fn set_fuse(&mut self, k: u32)
+        ensures fuse { SameButFuse R.extent R.count R.burns R.tells R.image R.may_leave R.moment R.left_since R.broken R.did self.old.region self.new.region }
+        ensures rest { self.new ≡ record self.old { region = self.new.region } }
+        ensures holds { IsUndo (R.extent self.new.region) R.tells (R.image self.new.region) (R.may_leave self.new.region) self.new.staged self.new.stopped }
+    {
+        self.region.set_fuse(k);
     }
 }

@@ -91,7 +91,7 @@ pub fn asks_at(
     ensures { Decides result (AsksAt (λ reading. request_epoch plan memory.now reading tracker ep) epoch) }
 {
     match ep {
-        Some(own) => own == epoch,
+        Some(own) => own.0 == epoch.0,
         None => can_issue(plan.me, memory.ticks, tracker, epoch),
     }
 }

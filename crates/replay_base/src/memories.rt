@@ -73,5 +73,6 @@ pub fn copy_memory(alloc: Global, memory: &TargetMemory) -> Result<TargetMemory,
         stamps: copy_reads(alloc, memory.stamps.as_slice())?,
         leader: copy_leader(alloc, &memory.leader)?,
         member: copy_member(alloc, &memory.member)?,
+        collecting: memory.collecting.copy()?,
     })
 }

@@ -41,12 +41,14 @@ fn told_of(attempt: AttemptId, memory: TargetMemory) -> TargetMemory
         stamps,
         leader,
         member,
+        collecting,
     } = memory;
     TargetMemory {
         ticks,
         stamps,
         leader: forgotten(attempt, leader),
         member,
+        collecting,
     }
 }
 

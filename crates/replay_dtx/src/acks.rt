@@ -80,6 +80,7 @@ fn heard(
         stamps,
         leader,
         member: joins,
+        collecting,
     } = copy_memory(alloc, &state.memory)?;
     let mut leader = Leader::remembering(alloc, leader);
     let seat = seat_at(plan, &state.durable);
@@ -90,6 +91,7 @@ fn heard(
         stamps,
         leader: leader.into_memory(),
         member: joins,
+        collecting,
     };
     Ok((memory, posts))
 }

@@ -50,6 +50,7 @@ fn batched(
         stamps,
         leader,
         member,
+        collecting,
     } = memory;
     let LeaderMemory {
         undecided,
@@ -70,6 +71,7 @@ fn batched(
         stamps,
         leader: leader.into_memory(),
         member,
+        collecting,
     };
     Ok((memory, posts))
 }
@@ -88,6 +90,7 @@ fn inquired(
         stamps,
         leader,
         member,
+        collecting,
     } = memory;
     let mut member = Member::remembering(alloc, plan.me, member);
     let posts = member.inquire(durable.entries.as_slice())?;
@@ -96,6 +99,7 @@ fn inquired(
         stamps,
         leader,
         member: member.into_memory(),
+        collecting,
     };
     Ok((memory, posts))
 }

@@ -141,6 +141,7 @@ fn answered_memory(
         stamps,
         leader,
         member: joins,
+        collecting,
     } = copy_memory(alloc, memory)?;
     let mut leader = Leader::remembering(alloc, leader);
     leader.hear_marked(member, inc, attempts)?;
@@ -149,6 +150,7 @@ fn answered_memory(
         stamps,
         leader: leader.into_memory(),
         member: joins,
+        collecting,
     })
 }
 

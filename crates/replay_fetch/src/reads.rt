@@ -51,6 +51,7 @@ fn without(memory: TargetMemory, attempt: AttemptId) -> TargetMemory
         stamps,
         leader,
         member,
+        collecting,
     } = memory;
     let LeaderMemory {
         undecided,
@@ -70,6 +71,7 @@ fn without(memory: TargetMemory, attempt: AttemptId) -> TargetMemory
             down,
         },
         member,
+        collecting,
     }
 }
 
@@ -167,6 +169,7 @@ fn memory_replied(
         stamps,
         leader,
         member,
+        collecting,
     } = memory;
     let stamps = match reply {
         Reply::Answer(_) => stamps_with(request, epoch, stamps)?,
@@ -177,6 +180,7 @@ fn memory_replied(
         stamps,
         leader,
         member,
+        collecting,
     })
 }
 
@@ -273,6 +277,7 @@ fn parks(
         stamps,
         leader: led,
         member,
+        collecting,
     } = memory;
     let mut member = Member::remembering(alloc, plan.me, member);
     let posts = member.park(fetch_at(request, epoch)?, attempt, leader)?;
@@ -285,6 +290,7 @@ fn parks(
             stamps,
             leader: led,
             member: member.into_memory(),
+            collecting,
         },
         did,
     })

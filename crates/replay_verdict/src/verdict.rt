@@ -39,6 +39,7 @@ fn heard(
         stamps,
         leader,
         member,
+        collecting,
     } = memory;
     let mut member = Member::remembering(alloc, plan.me, member);
     let freed = member.hear_verdict(attempt, ask, verdict)?;
@@ -47,6 +48,7 @@ fn heard(
         stamps,
         leader,
         member: member.into_memory(),
+        collecting,
     };
     Ok((memory, freed))
 }

@@ -90,6 +90,7 @@ fn begun_left(
         stamps,
         leader,
         member,
+        collecting,
     } = memory;
     let mut leader = Leader::remembering(alloc, leader);
     let seat = Seat {
@@ -103,6 +104,7 @@ fn begun_left(
         stamps,
         leader: leader.into_memory(),
         member,
+        collecting,
     };
     let issued = issued_for(request.attempt, request.ep, entry.epoch);
     Ok((memory, sends(alloc, posts, issued)))

@@ -1,5 +1,5 @@
 -- What a reader of words gives: a value, or nothing where the words say none.
-use Rattle.std.specs.Prelude.{◌≡◌, ℕ, Result, Ok, Err, Option, Some, None}
+use Rattle.std.specs.Prelude.{◌≡◌, Result, Ok, Err, Option, Some, None}
 use Rattle.base_text.specs.Rows.{Words}
 use Rattle.report_grammar.specs.declared.fault.RowNo.{RowNo}
 use Rattle.report_grammar.specs.declared.fault.RowNo.TheVariants as no

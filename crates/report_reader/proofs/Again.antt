@@ -33,17 +33,17 @@ use Rattle.base_types.specs.Paths.{same_object}
 use Rattle.base_text.specs.NumberLaws.{numbers_are_decimals}
 use Rattle.base_text.specs.Parts.{parts_of}
 use Rattle.base_text.specs.Rows.{Words}
-use Rattle.daos_report.specs.Answers.{answer_words, piece_word}
-use Rattle.daos_report.specs.Forms.{IsEpoch, IsEpochOrNone, IsAttemptId, IsCond, IsFloorWhy, IsPiece, IsAnswer, IsGot, IsContOf, IsObjOf, IsBelowOf, IsPathOf, IsAccessOf, IsCauseOf, IsOutcomeOf, IsAttemptOf, IsRestart, IsFreezeOf, IsSnapshotOf, IsAggregateOf}
-use Rattle.daos_report.specs.Names.{cont_word, obj_word, obj_part, key_part, path_word}
-use Rattle.daos_report.specs.Outcomes.{access_words, cause_words, floor_words, outcome_words}
-use Rattle.daos_report.specs.Reports.{aggregate_row, cond_row, down_row, freeze_row, got_row, restart_row, snapshot_row, stop_row, try_row, yes_word}
-use Rattle.daos_report.specs.Values.{is_printable, hex_byte, hex_digit, value_word}
-use Rattle.daos_report.specs.Words.{attempt_words, epoch_word}
-use Rattle.daos_report.proofs.Again.{no_dash, u8_again, u16_again, u32_again, u64_again}
-use Rattle.daos_report.proofs.Keys.{key_unslashed}
-use Rattle.daos_report.proofs.NamesAgain.{Declares, Holds, Holds-from_Any, cont_again, differs, is_decl, keys_of_conts, keys_of_objs, last_part, next_part, not_declared, obj_word_stands, same_obj, same_self}
-use Rattle.daos_report.proofs.Reading as told
+use Rattle.report_writer.specs.Answers.{answer_words, piece_word}
+use Rattle.report_writer.specs.Forms.{IsEpoch, IsEpochOrNone, IsAttemptId, IsCond, IsFloorWhy, IsPiece, IsAnswer, IsGot, IsContOf, IsObjOf, IsBelowOf, IsPathOf, IsAccessOf, IsCauseOf, IsOutcomeOf, IsAttemptOf, IsRestart, IsFreezeOf, IsSnapshotOf, IsAggregateOf}
+use Rattle.report_writer.specs.Names.{cont_word, obj_word, obj_part, key_part, path_word}
+use Rattle.report_writer.specs.Outcomes.{access_words, cause_words, floor_words, outcome_words}
+use Rattle.report_writer.specs.Reports.{aggregate_row, cond_row, down_row, freeze_row, got_row, restart_row, snapshot_row, stop_row, try_row, yes_word}
+use Rattle.report_writer.specs.Values.{is_printable, hex_byte, hex_digit, value_word}
+use Rattle.report_writer.specs.Words.{attempt_words, epoch_word}
+use Rattle.report_writer.proofs.Again.{no_dash, u8_again, u16_again, u32_again, u64_again}
+use Rattle.report_writer.proofs.Keys.{key_unslashed}
+use Rattle.report_writer.proofs.NamesAgain.{Declares, Holds, Holds-from_Any, cont_again, differs, is_decl, keys_of_conts, keys_of_objs, last_part, next_part, not_declared, obj_word_stands, same_obj, same_self}
+use Rattle.report_writer.proofs.Reading as told
 use Rattle.report_grammar.specs.declared.rows.Told.TheVariants.{Try, Cond, Got, Other}
 use Rattle.report_grammar.specs.Answers.{answer_of, digit_of, hex_of, names_from, piece_of, pieces_from, value_of}
 use Rattle.report_grammar.specs.Names.{cont_at, cont_of, key_or_none_at, obj_of, obj_or_none_at, path_at, path_of}

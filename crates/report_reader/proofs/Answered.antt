@@ -3,7 +3,7 @@ use Rattle.std.proofs.Common.{◌≡◌, ℕ, List, Result, Ok, Err, sym, ap, �
 use Rattle.std.specs.Prelude.{IfOk}
 use Rattle.base_types.specs.declared.report.Report.{Report}
 use Rattle.base_types.specs.declared.script.Script.{Script}
-use Rattle.daos_report.specs.Reports.{report_text}
+use Rattle.report_writer.specs.Reports.{report_text}
 use Rattle.report_reader.specs.declared.fault.ReportNo.{ReportNo}
 use Rattle.report_reader.specs.declared.fault.ReportNo.TheVariants as no
 use Rattle.report_reader.specs.Law.{AreBytes, IsNamed, IsReadAs, IsReportFor, TellsFirstBad}

@@ -17,12 +17,12 @@ use Rattle.base_text.specs.Results as result
 use Rattle.base_text.specs.RowLaws.{rows_are_texts}
 use Rattle.base_text.specs.Rows.{Words, IsRow, row_line, line_words, rows_text}
 use Rattle.base_text.specs.Steps.{steps}
-use Rattle.daos_report.specs.Forms.{IsCond, IsGot, IsLineOf, IsReportOf, least_down}
-use Rattle.daos_report.specs.Forms as form
-use Rattle.daos_report.specs.Reports.{cond_row, conds_after, conds_until, detail_rows, end_row, got_row, head_row, line_rows, report_rows, report_text, try_row}
-use Rattle.daos_report.proofs.Again.{conds_after_kept, conds_until_kept, until_and_after}
-use Rattle.daos_report.proofs.Inner.{answer_inner, end_inner, line_inner, report_inner, try_inner, u8_inner, yes_inner}
-use Rattle.daos_report.proofs.Law.{same_reports}
+use Rattle.report_writer.specs.Forms.{IsCond, IsGot, IsLineOf, IsReportOf, least_down}
+use Rattle.report_writer.specs.Forms as form
+use Rattle.report_writer.specs.Reports.{cond_row, conds_after, conds_until, detail_rows, end_row, got_row, head_row, line_rows, report_rows, report_text, try_row}
+use Rattle.report_writer.proofs.Again.{conds_after_kept, conds_until_kept, until_and_after}
+use Rattle.report_writer.proofs.Inner.{answer_inner, end_inner, line_inner, report_inner, try_inner, u8_inner, yes_inner}
+use Rattle.report_writer.proofs.Law.{same_reports}
 use Rattle.report_grammar.specs.declared.rows.Told.{Told}
 use Rattle.report_grammar.specs.declared.rows.Told.TheVariants.{Try, Cond, Got, Other}
 use Rattle.report_grammar.specs.Rows.{told_of}

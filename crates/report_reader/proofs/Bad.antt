@@ -13,7 +13,7 @@ use Rattle.base_text.specs.Results as result
 use Rattle.base_text.specs.RowLaws.{rows_are_texts}
 use Rattle.base_text.specs.Rows.{IsLine, is_line_byte, lines_text, row_line}
 use Rattle.base_text.specs.Steps.{steps, steps-cons_err}
-use Rattle.daos_report.specs.Reports.{end_row, report_text}
+use Rattle.report_writer.specs.Reports.{end_row, report_text}
 use Rattle.report_reader.specs.declared.reading.Reading.{Reading}
 use Rattle.report_reader.specs.declared.report.Stage.{Stage}
 use Rattle.report_reader.specs.declared.report.Stage.TheVariants.{Start, Inside, Ended, Whole}

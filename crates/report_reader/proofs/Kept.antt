@@ -14,9 +14,9 @@ use Rattle.base_text.specs.Parts.{parts_of}
 use Rattle.base_text.specs.Results as result
 use Rattle.base_text.specs.Rows.{row_line}
 use Rattle.base_text.specs.Steps.{steps}
-use Rattle.daos_report.specs.Forms.{IsAttemptOf, IsCond, IsGot, IsLineOf, least_down}
-use Rattle.daos_report.specs.Reports.{end_row, head_row}
-use Rattle.daos_report.proofs.Inner.{all_append}
+use Rattle.report_writer.specs.Forms.{IsAttemptOf, IsCond, IsGot, IsLineOf, least_down}
+use Rattle.report_writer.specs.Reports.{end_row, head_row}
+use Rattle.report_writer.proofs.Inner.{all_append}
 use Rattle.report_grammar.specs.declared.rows.Told.{Told}
 use Rattle.report_grammar.specs.declared.rows.Told.TheVariants.{Try, Cond, Got, Other}
 use Rattle.report_grammar.specs.Reads.{◌>>=◌}
@@ -26,7 +26,7 @@ use Rattle.report_reader.specs.declared.report.Stage.{Stage}
 use Rattle.report_reader.specs.declared.report.Stage.TheVariants.{Start, Inside, Ended, Whole}
 use Rattle.report_reader.specs.Law.{AreBytes, HasWholeValues, IsAttemptIn, IsGotIn, IsLineIn, IsNamed, IsReportFor, RiseFrom, StopsFrom}
 use Rattle.report_reader.specs.Marks.{Marks, ops_of, table_of}
-use Rattle.report_reader.specs.Reading.{asked, at_end, at_head, bad_at, cond_added, down_after, finished, got_added, lines_of, next_of, nothing_read, or_bad_line, put, reads, reopened, report_of, report_read, row_of, some_open, step, stop_after, with_cond, with_cond_last, with_got, with_got_last, with_line, with_try}
+use Rattle.report_reader.specs.Reading.{asked, unit_at, at_end, at_head, bad_at, cond_added, down_after, finished, got_added, lines_of, next_of, nothing_read, or_bad_line, put, reads, reopened, report_of, report_read, row_of, some_open, step, stop_after, with_cond, with_cond_last, with_got, with_got_last, with_line, with_try}
 use Rattle.report_reader.specs.Told.{told_in, answer_fits, attempt_fits, is_bare, is_next, is_target, line_fits, outcome_fits_in}
 use Rattle.report_reader.proofs.Back.{down_is, down_of, numbered, places, stops_of}
 use Rattle.report_reader.proofs.Order.{Below, GotBelow}
@@ -251,8 +251,8 @@ module _ (s : Script) (named : IsNamed s) where
 
       go : with_got table o g ≡ Some p → IsKeptLast (Some p)
       go e =
-          let t = tested (reads table o.attempt.id g.0 && leb o.next (g.0 * 2 + 1) && answer_fits g.1) (got_added o g) p e in
-          let parts = both (reads table o.attempt.id g.0 && leb o.next (g.0 * 2 + 1)) (answer_fits g.1) t.0 in
+          let t = tested (reads table o.attempt.id g.0 && leb o.next (g.0 * 2 + 1) && answer_fits (unit_at table o.attempt.id g.0) g.1) (got_added o g) p e in
+          let parts = both (reads table o.attempt.id g.0 && leb o.next (g.0 * 2 + 1)) (answer_fits (unit_at table o.attempt.id g.0) g.1) t.0 in
           let first = both (reads table o.attempt.id g.0) (leb o.next (g.0 * 2 + 1)) parts.0 in
           let le = at_most o.next (g.0 * 2 + 1) first.1 in
           let gots = o.attempt.gots in

@@ -4,7 +4,7 @@ use Rattle.std.specs.List.{AllByRecursion}
 use Rattle.std.proofs.lemmas.Bool.Decides.{nat_tests}
 use Rattle.std.proofs.lemmas.List.{map-append}
 use Rattle.base_types.specs.declared.answer.Answer.{Answer}
-use Rattle.daos_report.specs.Reports.{cond_row, got_row, conds_until, conds_after, detail_rows}
+use Rattle.report_writer.specs.Reports.{cond_row, got_row, conds_until, conds_after, detail_rows}
 
 abbrev pub Below : ℕ → ℕ × Bool → Type 0
 Below n c = c.0 * 2 < n

@@ -16,7 +16,7 @@ use Rattle.base_text.specs.Results as result
 use Rattle.base_text.specs.RowLaws.{rows_are_texts}
 use Rattle.base_text.specs.Rows.{Words, row_line, lines_text, rows_text}
 use Rattle.base_text.specs.Steps.{steps}
-use Rattle.daos_report.specs.Reports.{try_row, cond_row, got_row, detail_rows, line_rows, head_row, end_row, report_rows, report_text}
+use Rattle.report_writer.specs.Reports.{try_row, cond_row, got_row, detail_rows, line_rows, head_row, end_row, report_rows, report_text}
 use Rattle.report_reader.specs.declared.reading.Open.{Open}
 use Rattle.report_reader.specs.declared.reading.Reading.{Reading}
 use Rattle.report_reader.specs.declared.report.Stage.{Stage}
@@ -25,7 +25,7 @@ use Rattle.report_grammar.specs.declared.rows.Told.{Told}
 use Rattle.report_grammar.specs.declared.rows.Told.TheVariants.{Try, Cond, Got, Other}
 use Rattle.report_reader.specs.Marks.{Marks, ops_of, table_of}
 use Rattle.report_grammar.specs.Reads.{◌>>=◌}
-use Rattle.report_reader.specs.Reading.{asked, reads, cond_added, got_added, with_cond, with_got, lines_of, some_open, with_try, stop_after, down_after, with_line, reopened, with_cond_last, with_got_last, put, nothing_read, at_head, report_read, at_end, row_of, next_of, bad_at, or_bad_line, step, finished, report_of}
+use Rattle.report_reader.specs.Reading.{asked, reads, unit_at, cond_added, got_added, with_cond, with_got, lines_of, some_open, with_try, stop_after, down_after, with_line, reopened, with_cond_last, with_got_last, put, nothing_read, at_head, report_read, at_end, row_of, next_of, bad_at, or_bad_line, step, finished, report_of}
 use Rattle.report_grammar.specs.Rows.{told_of}
 use Rattle.report_reader.specs.Told.{told_in, told_text, spelled, is_bare, outcome_fits_in, attempt_fits, answer_fits, line_fits}
 use Rattle.report_reader.proofs.Order.{Below, GotBelow, details-cond, details-got, all-below, all-push}
@@ -103,8 +103,8 @@ module _ (s : Script) where
   unfolding with_got
   got_more table o p g h e =
       let fits = leb o.next (g.0 * 2 + 1) in
-      let t = tested (reads table o.attempt.id g.0 && fits && answer_fits g.1) (got_added o g) p e in
-      let le = at_most o.next (g.0 * 2 + 1) (both (reads table o.attempt.id g.0) fits (both (reads table o.attempt.id g.0 && fits) (answer_fits g.1) t.0).0).1 in
+      let t = tested (reads table o.attempt.id g.0 && fits && answer_fits (unit_at table o.attempt.id g.0) g.1) (got_added o g) p e in
+      let le = at_most o.next (g.0 * 2 + 1) (both (reads table o.attempt.id g.0) fits (both (reads table o.attempt.id g.0 && fits) (answer_fits (unit_at table o.attempt.id g.0) g.1) t.0).0).1 in
       let conds = all-below (λ (d : ℕ × Bool). d.0 * 2) o.next (g.0 * 2 + 1) o.attempt.conds le h.conds in
       let more = all-below (λ (d : ℕ × Bool). d.0 * 2) (g.0 * 2 + 1) (g.0 * 2 + 2) o.attempt.conds (omega arith) conds in
       let gots = all-push (λ (k : ℕ × Answer). k.0 * 2 + 1) (g.0 * 2 + 2) o.attempt.gots g (all-below (λ (k : ℕ × Answer). k.0 * 2 + 1) o.next (g.0 * 2 + 2) o.attempt.gots (omega (arith, le)) h.gots) (omega arith) in

@@ -32,9 +32,9 @@ use Rattle.base_text.specs.Number.{number_in}
 use Rattle.base_text.specs.NumberLaws.{numbers_are_decimals}
 use Rattle.base_text.specs.Parts.{parts_of}
 use Rattle.base_text.specs.Rows.{Words}
-use Rattle.daos_report.specs.Forms.{HasNames, IsAccessOf, IsAnswer, IsAttemptId, IsAttemptOf, IsCauseOf, IsCond, IsContOf, IsEpoch, IsEpochOrNone, IsFloorWhy, IsGot, IsLineOf, IsObjOf, IsOutcomeOf, IsPathOf, IsPiece}
-use Rattle.daos_report.proofs.Inner.{all_append}
-use Rattle.daos_report.proofs.NamesAgain.{same_cont}
+use Rattle.report_writer.specs.Forms.{HasNames, IsAccessOf, IsAnswer, IsAttemptId, IsAttemptOf, IsCauseOf, IsCond, IsContOf, IsEpoch, IsEpochOrNone, IsFloorWhy, IsGot, IsLineOf, IsObjOf, IsOutcomeOf, IsPathOf, IsPiece}
+use Rattle.report_writer.proofs.Inner.{all_append}
+use Rattle.report_writer.proofs.NamesAgain.{same_cont}
 use Rattle.report_grammar.specs.declared.rows.Told.{Told}
 use Rattle.report_grammar.specs.declared.rows.Told.TheVariants.{Try, Cond, Got, Other}
 use Rattle.report_grammar.specs.Answers.{answer_of, digit_of, hex_of, names_from, piece_of, pieces_from, plain_answer, plain_of, value_answer, value_of}

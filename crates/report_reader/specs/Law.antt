@@ -12,12 +12,12 @@ use Rattle.base_types.specs.declared.report.Report.{Report}
 use Rattle.base_types.specs.declared.script.Script.{Script}
 use Rattle.base_text.specs.Parts.{parts_of}
 use Rattle.base_text.specs.Rows.{lines_text}
-use Rattle.daos_report.specs.Forms.{HasNames, IsReportOf}
-use Rattle.daos_report.specs.Reports.{report_text}
+use Rattle.report_writer.specs.Forms.{HasNames, IsReportOf}
+use Rattle.report_writer.specs.Reports.{report_text}
 use Rattle.report_reader.specs.Marks.{ops_of, table_of}
 use Rattle.report_reader.specs.declared.fault.ReportNo.{ReportNo}
 use Rattle.report_reader.specs.declared.fault.ReportNo.TheVariants as no
-use Rattle.report_reader.specs.Reading.{asked, reads, report_of}
+use Rattle.report_reader.specs.Reading.{asked, reads, report_of, unit_at}
 use Rattle.report_reader.specs.Reads.{told_line}
 use Rattle.report_reader.specs.Told.{answer_fits, is_snap, outcome_fits_in}
 
@@ -32,7 +32,7 @@ RiseFrom n (m ∷ ms) = (n ≤ m) × RiseFrom (m + 1) ms
 abbrev pub AreBytes : List ℕ → Type 0
 AreBytes bytes = All (λ b. b < 2 ^ 8) bytes
 
--- a run of an array: bytes, or a hole that has an index at least
+-- a run of an array: bytes, or a hole that has a record at least
 abbrev pub IsWholePiece : Piece → Type 0
 IsWholePiece (piece.Bytes bytes) = AreBytes bytes
 IsWholePiece (piece.Hole count) = 0 < count
@@ -45,10 +45,10 @@ HasWholeValues answer.Yes = Unit {0}
 HasWholeValues answer.No = Unit {0}
 HasWholeValues answer.Absent = Unit {0}
 
--- the answer of an operation of the attempt, which reads
+-- the answer of an operation of the attempt, which reads: what it tells of an array is whole records of its object
 pub record IsGotIn (s : Script) (id : AttemptId) (got : ℕ × Answer) : Type 0 where
   pub reads : reads (table_of s) id got.0 ≡ true
-  pub fits : answer_fits got.1 ≡ true
+  pub fits : answer_fits (unit_at (table_of s) id got.0) got.1 ≡ true
   pub values : HasWholeValues got.1
 
 -- an attempt of a command of the script: it ended as that can, and tells of its operations in order

@@ -11,10 +11,13 @@ use Rattle.base_types.specs.declared.operation.Op.{Op}
 use Rattle.base_types.specs.declared.script.Command.{Command}
 use Rattle.base_types.specs.declared.script.Command.TheVariants.{Run, Snap, Aggregate, Tell, Skip}
 use Rattle.base_types.specs.declared.script.Script.{Script}
+use Rattle.base_types.specs.Operations.{act_path}
+use Rattle.base_types.specs.Paths.{record_size}
+use Rattle.report_reader.specs.declared.marks.Mark.{Mark}
 
--- for each operation whether it has a condition, and whether it reads
+-- for each operation whether it has a condition, whether it reads, and the record size of its object
 abbrev pub Marks : Type 0
-Marks = List (Bool × Bool)
+Marks = List Mark
 
 abbrev pub has_cond : Cond → Bool
 has_cond Free = false
@@ -25,8 +28,8 @@ abbrev pub is_read : Act → Bool
 is_read (Fetch r) = true
 is_read (Change w) = false
 
-abbrev pub mark_of : Op → Bool × Bool
-mark_of op = (has_cond op.cond, is_read op.act)
+abbrev pub mark_of : Op → Mark
+mark_of op = record { asked = has_cond op.cond; reads = is_read op.act; unit = record_size (act_path op.act) }
 
 abbrev pub some_marks : Marks → Option Marks
 some_marks marks = Some marks
@@ -48,7 +51,7 @@ abbrev pub marks_at : List (List Marks) → AttemptId → Option Marks
 marks_at table id = option_and_then (λ commands. slice_get commands id.command) (slice_get table id.client)
 
 -- the mark of an operation, if there is such a one
-abbrev pub mark_at : List (List Marks) → AttemptId → ℕ → Option (Bool × Bool)
+abbrev pub mark_at : List (List Marks) → AttemptId → ℕ → Option Mark
 mark_at table id op = option_and_then (λ marks. slice_get marks op) (marks_at table id)
 
 -- how many operations there are

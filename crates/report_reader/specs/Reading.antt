@@ -12,26 +12,31 @@ use Rattle.base_text.specs.Parts.{parts_of}
 use Rattle.base_text.specs.Results as result
 use Rattle.base_text.specs.Rows.{row_line}
 use Rattle.base_text.specs.Steps.{steps}
-use Rattle.daos_report.specs.Reports.{head_row, end_row}
+use Rattle.report_writer.specs.Reports.{head_row, end_row}
 use Rattle.report_reader.specs.declared.reading.Open.{Open}
 use Rattle.report_reader.specs.declared.reading.Reading.{Reading}
 use Rattle.report_reader.specs.declared.report.Stage.{Stage}
 use Rattle.report_reader.specs.declared.report.Stage.TheVariants.{Start, Inside, Ended, Whole}
 use Rattle.report_grammar.specs.declared.rows.Told.{Told}
 use Rattle.report_grammar.specs.declared.rows.Told.TheVariants.{Try, Cond, Got, Other}
+use Rattle.report_reader.specs.declared.marks.Mark.{Mark}
 use Rattle.report_reader.specs.Marks.{Marks, mark_at, table_of}
 use Rattle.report_grammar.specs.Reads.{◌>>=◌}
 use Rattle.report_reader.specs.Told.{told_in, attempt_fits, answer_fits, line_fits}
 
 -- ---- the rows of an attempt
 
-abbrev pub asked_in : Option (Bool × Bool) → Bool
+abbrev pub asked_in : Option Mark → Bool
 asked_in None = false
-asked_in (Some mark) = mark.0
+asked_in (Some mark) = mark.asked
 
-abbrev pub reads_in : Option (Bool × Bool) → Bool
+abbrev pub reads_in : Option Mark → Bool
 reads_in None = false
-reads_in (Some mark) = mark.1
+reads_in (Some mark) = mark.reads
+
+abbrev pub unit_in : Option Mark → ℕ
+unit_in None = 1
+unit_in (Some mark) = mark.unit
 
 -- an operation that has a condition, and one that reads
 abbrev pub asked : List (List Marks) → AttemptId → ℕ → Bool
@@ -39,6 +44,10 @@ asked table id op = asked_in (mark_at table id op)
 
 abbrev pub reads : List (List Marks) → AttemptId → ℕ → Bool
 reads table id op = reads_in (mark_at table id op)
+
+-- the record size of the object that an operation is on
+abbrev pub unit_at : List (List Marks) → AttemptId → ℕ → ℕ
+unit_at table id op = unit_in (mark_at table id op)
 
 abbrev pub cond_added : Open → ℕ × Bool → Open
 cond_added o cond = record { attempt = record o.attempt { conds = o.attempt.conds ++ cond ∷ [] }; next = cond.0 * 2 + 1 }
@@ -53,9 +62,9 @@ takes_cond table o op = asked table o.attempt.id op && nat_le o.next (op * 2)
 unfoldable pub with_cond : List (List Marks) → Open → ℕ × Bool → Option Open
 with_cond table o cond = if takes_cond table o cond.0 then Some (cond_added o cond) else None
 
--- an answer of an operation that reads
+-- an answer of an operation that reads, which fits its object
 abbrev pub takes_got : List (List Marks) → Open → ℕ × Answer → Bool
-takes_got table o got = reads table o.attempt.id got.0 && nat_le o.next (got.0 * 2 + 1) && answer_fits got.1
+takes_got table o got = reads table o.attempt.id got.0 && nat_le o.next (got.0 * 2 + 1) && answer_fits (unit_at table o.attempt.id got.0) got.1
 
 unfoldable pub with_got : List (List Marks) → Open → ℕ × Answer → Option Open
 with_got table o got =

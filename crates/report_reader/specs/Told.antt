@@ -1,5 +1,5 @@
 -- What may be told of a script, and how it is spelled.
-use Rattle.std.specs.Prelude.{ℕ, Bool, true, false, ◌&&◌, ◌==◌, not, nat_le, nat_lt, is_some, List, [], ◌∷◌, ◌++◌, length, Option, Some, None, if◌then◌else◌}
+use Rattle.std.specs.Prelude.{ℕ, Bool, true, false, ◌&&◌, ◌==◌, ◌%◌, not, nat_le, nat_lt, is_some, List, [], ◌∷◌, ◌++◌, length, Option, Some, None, if◌then◌else◌}
 use Rattle.std.specs.Str.{bytes_eq}
 use Rattle.base_types.specs.declared.answer.Answer.{Answer}
 use Rattle.base_types.specs.declared.answer.Answer.TheVariants as answer
@@ -20,7 +20,7 @@ use Rattle.base_types.specs.declared.script.Script.{Script}
 use Rattle.base_types.specs.Keys.{same_key}
 use Rattle.base_text.specs.Parts.{parts_of}
 use Rattle.base_text.specs.Rows.{rows_text}
-use Rattle.daos_report.specs.Reports.{try_row, cond_row, got_row, line_rows}
+use Rattle.report_writer.specs.Reports.{try_row, cond_row, got_row, line_rows}
 use Rattle.report_grammar.specs.declared.rows.Told.{Told}
 use Rattle.report_grammar.specs.declared.rows.Told.TheVariants.{Try, Cond, Got, Other}
 use Rattle.report_grammar.specs.Rows.{told_of}
@@ -87,6 +87,10 @@ attempt_fits s table a = is_bare a && outcome_fits_in s table (ops_of table a.id
 abbrev pub is_length : ℕ → Bool
 is_length len = nat_le 1 len && nat_le len 1024
 
+-- so many bytes are whole records of a size
+abbrev pub is_whole : ℕ → ℕ → Bool
+is_whole unit len = len % unit == 0
+
 abbrev pub is_hole : Piece → Bool
 is_hole (piece.Bytes bytes) = false
 is_hole (piece.Hole count) = true
@@ -100,22 +104,23 @@ abbrev pub is_other : Option Bool → Bool → Bool
 is_other None hole = true
 is_other (Some last) hole = differs last hole
 
-abbrev pub piece_fits : Option Bool → Piece → Bool
-piece_fits last (piece.Bytes bytes) = is_length (length bytes) && is_other last false
-piece_fits last (piece.Hole count) = is_other last true
+abbrev pub piece_fits : ℕ → Option Bool → Piece → Bool
+piece_fits unit last (piece.Bytes bytes) = is_length (length bytes) && is_whole unit (length bytes) && is_other last false
+piece_fits unit last (piece.Hole count) = is_other last true
 
--- runs of an array, of which neighbours are of two kinds
-abbrev pub pieces_fit : Option Bool → List Piece → Bool
-pieces_fit last [] = true
-pieces_fit last (p ∷ ps) = piece_fits last p && pieces_fit (Some (is_hole p)) ps
+-- runs of an array with records of a size, of which neighbours are of two kinds
+abbrev pub pieces_fit : ℕ → Option Bool → List Piece → Bool
+pieces_fit unit last [] = true
+pieces_fit unit last (p ∷ ps) = piece_fits unit last p && pieces_fit unit (Some (is_hole p)) ps
 
-abbrev pub answer_fits : Answer → Bool
-answer_fits (answer.Bytes bytes) = is_length (length bytes)
-answer_fits (answer.Parts pieces) = not (length pieces == 0) && pieces_fit None pieces
-answer_fits (answer.Names keys) = true
-answer_fits answer.Yes = true
-answer_fits answer.No = true
-answer_fits answer.Absent = true
+-- what may be told of a read of an object whose arrays have records of this size
+abbrev pub answer_fits : ℕ → Answer → Bool
+answer_fits unit (answer.Bytes bytes) = is_length (length bytes)
+answer_fits unit (answer.Parts pieces) = not (length pieces == 0) && pieces_fit unit None pieces
+answer_fits unit (answer.Names keys) = true
+answer_fits unit answer.Yes = true
+answer_fits unit answer.No = true
+answer_fits unit answer.Absent = true
 
 -- ---- other lines
 

@@ -1,7 +1,7 @@
 // The operations of a script's commands, as far as a report tells of them.
 ghost use Rattle.std.specs.Prelude.{◌≡◌, IfOk, length, map};
 ghost use Rattle.std.specs.List.{filter_map};
-ghost use Rattle.report_reader.specs.Marks.{mark_at, mark_of, marks_of, ops_of, table_of};
+ghost use Rattle.report_reader.specs.Marks.{has_cond, is_read, mark_at, mark_of, marks_of, ops_of, table_of};
 
 use base_types::id::AttemptId;
 use base_types::items::{Items, Memory};
@@ -9,23 +9,46 @@ use base_types::operation::{Act, Cond, Op};
 use base_types::script::{Command, Script};
 use std::alloc::Global;
 
-/// For each operation whether it has a condition, and whether it reads.
-pub type Marks = Items<(bool, bool)>;
+/// What a report tells of an operation goes by: whether it has a condition, whether it reads, and the
+/// record size of its object.
+#[derive(Clone, Copy)]
+pub struct Mark {
+    pub asked: bool,
+    pub reads: bool,
+    pub unit: u8,
+}
+
+/// The mark of each operation.
+pub type Marks = Items<Mark>;
 
 /// The marks of each numbered command of each client.
 pub type Table = Items<Items<Marks>>;
 
-fn mark_of(op: &Op) -> (bool, bool)
+fn has_cond(cond: Cond) -> bool
+    ensures { result ≡ has_cond cond }
+{
+    match cond {
+        Cond::Free => false,
+        Cond::Must | Cond::MustNot => true,
+    }
+}
+
+fn is_read(act: &Act) -> bool
+    ensures { result ≡ is_read act.now }
+{
+    match act {
+        Act::Fetch(_) => true,
+        Act::Change(_) => false,
+    }
+}
+
+fn mark_of(op: &Op) -> Mark
     ensures { result ≡ mark_of op.now }
 {
-    let asked = match op.cond {
-        Cond::Free => false,
-        Cond::Must => true,
-        Cond::MustNot => true,
-    };
-    match &op.act {
-        Act::Fetch(_) => (asked, true),
-        Act::Change(_) => (asked, false),
+    Mark {
+        asked: has_cond(op.cond),
+        reads: is_read(&op.act),
+        unit: op.act.path().record_size(),
     }
 }
 
@@ -79,7 +102,7 @@ pub fn table_of(alloc: Global, script: &Script) -> Result<Table, Memory>
 }
 
 /// The mark of an operation, if there is such a one.
-pub fn mark_at(table: &[Items<Marks>], id: AttemptId, op: u8) -> Option<(bool, bool)>
+pub fn mark_at(table: &[Items<Marks>], id: AttemptId, op: u8) -> Option<Mark>
     ensures { result ≡ mark_at table.now id op }
 {
     let commands = table.get(id.client as usize)?;

@@ -1,9 +1,9 @@
 // What was read of a report so far, and what one more row adds.
 ghost use Rattle.std.specs.Prelude.{◌≡◌, ◌++◌, ◌∷◌, [], IfOk, Some};
 ghost use Rattle.report_grammar.specs.Reads.{Reads};
-ghost use Rattle.report_reader.specs.Reading.{asked, asked_in, cond_added, down_after, got_added, line_added, lines_of, next_number, opened, put, reads, reads_in, stop_after, takes_cond, takes_got, with_cond, with_cond_last, with_got, with_got_last, with_line, with_try};
+ghost use Rattle.report_reader.specs.Reading.{asked, asked_in, cond_added, down_after, got_added, line_added, lines_of, next_number, opened, put, reads, reads_in, stop_after, takes_cond, takes_got, unit_at, with_cond, with_cond_last, with_got, with_got_last, with_line, with_try};
 
-use crate::marks::{Marks, mark_at};
+use crate::marks::{Mark, Marks, mark_at};
 use crate::told::{answer_fits, attempt_fits, line_fits};
 use base_types::answer::Answer;
 use base_types::epoch::TargetId;
@@ -32,20 +32,20 @@ pub struct Reading {
     pub down: Option<TargetId>,
 }
 
-fn asked_in(mark: Option<(bool, bool)>) -> bool
+fn asked_in(mark: Option<Mark>) -> bool
     ensures { result ≡ asked_in mark }
 {
     match mark {
-        Some(mark) => mark.0,
+        Some(mark) => mark.asked,
         None => false,
     }
 }
 
-fn reads_in(mark: Option<(bool, bool)>) -> bool
+fn reads_in(mark: Option<Mark>) -> bool
     ensures { result ≡ reads_in mark }
 {
     match mark {
-        Some(mark) => mark.1,
+        Some(mark) => mark.reads,
         None => false,
     }
 }
@@ -62,6 +62,16 @@ fn reads(table: &[Items<Marks>], id: AttemptId, op: u8) -> bool
     ensures { result ≡ reads table.now id op }
 {
     reads_in(mark_at(table, id, op))
+}
+
+// The record size of the object that an operation is on.
+fn unit_at(table: &[Items<Marks>], id: AttemptId, op: u8) -> u8
+    ensures { result ≡ unit_at table.now id op }
+{
+    match mark_at(table, id, op) {
+        Some(mark) => mark.unit,
+        None => 1,
+    }
 }
 
 impl Open {
@@ -98,7 +108,7 @@ impl Open {
     {
         reads(table, self.attempt.id, got.0)
             && self.next <= u16::from(got.0) * 2 + 1
-            && answer_fits(&got.1)
+            && answer_fits(unit_at(table, self.attempt.id, got.0), &got.1)
     }
 
     fn add_got(self, got: (u8, Answer)) -> Result<Open, RowNo>

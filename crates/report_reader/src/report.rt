@@ -1,7 +1,7 @@
 // Reads a report.
 ghost use Rattle.std.specs.Prelude.{◌≡◌, ◌+◌, ◌^◌, ◌<◌, ◌++◌, ◌∷◌, [], IfOk, length};
 ghost use Rattle.base_text.specs.Rows.{row_line};
-ghost use Rattle.daos_report.specs.Reports.{end_row, head_row, report_text};
+ghost use Rattle.report_writer.specs.Reports.{end_row, head_row, report_text};
 ghost use Rattle.report_reader.specs.Law.{AreBytes, IsNamed, IsReadAs, IsReportFor, ReadsTexts, TellsFirstBad};
 ghost use Rattle.report_reader.specs.Reads.{ReadsAt, told_line};
 ghost use Rattle.report_grammar.specs.Reads.{Reads};

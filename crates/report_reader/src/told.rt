@@ -3,7 +3,7 @@ ghost use Rattle.std.specs.Prelude.{◌≡◌, ◌++◌, ◌∷◌, [], IfOk, On
 ghost use Rattle.std.specs.Str.{bytes_eq};
 ghost use Rattle.report_reader.specs.Marks.{ops_of};
 ghost use Rattle.report_grammar.specs.Reads.{Reads};
-ghost use Rattle.report_reader.specs.Told.{answer_fits, attempt_fits, cause_fits, has_attempt, is_bare, is_hole, is_length, is_made, is_old, is_other, is_next, is_snap, is_snap_of, is_target, line_fits, outcome_fits, outcome_fits_in, piece_fits, pieces_fit, spelled, told_in, told_text};
+ghost use Rattle.report_reader.specs.Told.{answer_fits, attempt_fits, cause_fits, has_attempt, is_bare, is_hole, is_length, is_made, is_old, is_other, is_next, is_snap, is_snap_of, is_target, is_whole, line_fits, outcome_fits, outcome_fits_in, piece_fits, pieces_fit, spelled, told_in, told_text};
 
 use crate::marks::{Marks, ops_of};
 use base_text::parts::Parts;
@@ -13,10 +13,10 @@ use base_types::items::{Items, Memory};
 use base_types::outcome::{Cause, Outcome};
 use base_types::report::{Attempt, Line};
 use base_types::script::{Command, OldDecl, Script};
-use daos_report::attempts::{push_cond, push_got, push_try};
-use daos_report::lines::push_line;
 use report_grammar::fault::RowNo;
 use report_grammar::rows::{Told, told_of};
+use report_writer::attempts::{push_cond, push_got, push_try};
+use report_writer::lines::push_line;
 use std::alloc::Global;
 
 // Adds the text of what a row tells.
@@ -130,6 +130,16 @@ fn is_length(len: usize) -> bool
     len >= 1 && len <= 1024
 }
 
+// Whether so many bytes are whole records of a size; of none is the size 0.
+fn is_whole(unit: u8, len: usize) -> bool
+    ensures { result ≡ is_whole unit len }
+{
+    match unit {
+        0 => len == 0,
+        size => len % usize::from(size) == 0,
+    }
+}
+
 fn is_hole(piece: &Piece) -> bool
     ensures { result ≡ is_hole piece.now }
 {
@@ -149,22 +159,24 @@ fn is_other(last: Option<bool>, hole: bool) -> bool
     }
 }
 
-// Whether a run of an array may stand behind one of this kind, if one is there.
-fn piece_fits(last: Option<bool>, piece: &Piece) -> bool
-    ensures { result ≡ piece_fits last piece.now }
+// Whether a run of an array, with records of a size, may stand behind one of this kind, if one is there.
+fn piece_fits(unit: u8, last: Option<bool>, piece: &Piece) -> bool
+    ensures { result ≡ piece_fits unit last piece.now }
 {
     match piece {
-        Piece::Bytes(bytes) => is_length(bytes.len()) && is_other(last, false),
+        Piece::Bytes(bytes) => {
+            is_length(bytes.len()) && is_whole(unit, bytes.len()) && is_other(last, false)
+        }
         Piece::Hole(_) => is_other(last, true),
     }
 }
 
-fn pieces_fit(pieces: &[Piece]) -> bool
-    ensures { result ≡ pieces_fit None pieces.now }
+fn pieces_fit(unit: u8, pieces: &[Piece]) -> bool
+    ensures { result ≡ pieces_fit unit None pieces.now }
 {
     let mut last: Option<bool> = None;
     for piece in pieces {
-        if !piece_fits(last, piece) {
+        if !piece_fits(unit, last, piece) {
             return false;
         }
         last = Some(is_hole(piece));
@@ -172,13 +184,13 @@ fn pieces_fit(pieces: &[Piece]) -> bool
     true
 }
 
-/// Whether an answer may be told.
-pub fn answer_fits(answer: &Answer) -> bool
-    ensures { result ≡ answer_fits answer.now }
+/// Whether an answer may be told of a read of an object whose arrays have records of this size.
+pub fn answer_fits(unit: u8, answer: &Answer) -> bool
+    ensures { result ≡ answer_fits unit answer.now }
 {
     match answer {
         Answer::Bytes(bytes) => is_length(bytes.len()),
-        Answer::Parts(pieces) => !pieces.is_empty() && pieces_fit(pieces.as_slice()),
+        Answer::Parts(pieces) => !pieces.is_empty() && pieces_fit(unit, pieces.as_slice()),
         Answer::Names(_) => true,
         Answer::Yes => true,
         Answer::No => true,

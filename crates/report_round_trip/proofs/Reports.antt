@@ -30,7 +30,7 @@ use Rattle.daos_model.specs.Snapshots.{ComesFrom}
 use Rattle.daos_model.specs.Stops.{AreCounted, HasTarget, stop_numbers}
 use Rattle.daos_model.specs.TookEffect.{took}
 use Rattle.daos_model.specs.Transactions.{attempt_ops}
-use Rattle.daos_report.specs.Forms.{IsReportOf}
+use Rattle.report_writer.specs.Forms.{IsReportOf}
 use Rattle.report_reader.specs.Marks as marks
 use Rattle.report_reader.specs.Marks.{table_of}
 use Rattle.report_reader.specs.Told.{cause_fits, has_attempt, outcome_fits, outcome_fits_in}
@@ -69,7 +69,7 @@ floor-within n t floor cont (why.Restart number) l h k = subst (HasTarget n) k.1
 floor-within n t floor cont (why.Snapshot e) l h k = subst (HasTarget n) k.0 h
 floor-within n t floor cont (why.Aggregate number) l h k = subst (HasTarget n) k h
 
-module _ (g : Given) (o : Outside) (resolved : AttemptId → Bool) (q : Report) (some : 0 < g.script.targets) (form : IsReportOf g.script q) (legal : Headline g o resolved q) (told : All IsToldWell (tries q.lines)) where
+module _ (g : Given) (o : Outside) (resolved : AttemptId → Bool) (q : Report) (some : 0 < g.script.targets) (form : IsReportOf g.script q) (legal : Headline g o resolved q) (told : All (IsToldWell g.script) (tries q.lines)) where
   -- ---- attempts
 
   known : (x : AttemptId) (b : Attempt) → Has b (tries q.lines) → b.id ≡ x → has_attempt (table_of g.script) x ≡ true
@@ -81,7 +81,7 @@ module _ (g : Given) (o : Outside) (resolved : AttemptId → Bool) (q : Report) 
   got-in : (a : Attempt) → Has a (tries q.lines) → (got : ℕ × Answer) → Has got a.gots → IsGotIn g.script a.id got
   got-in a i got j =
       let r = got-reads (attempt_ops g.script a.id) (map_read g.script g.opening.stand (took g.script resolved q.lines) a a.epoch) a (right a i) got j in
-      let spelled = has-all IsSpelled a.gots got (has-all IsToldWell (tries q.lines) a told i).answers j in
+      let spelled = has-all (IsSpelled g.script a.id) a.gots got (has-all (IsToldWell g.script) (tries q.lines) a told i).answers j in
       record { reads = is-read g.script a.id got.0 r.0 r.1; fits = spelled.fits; values = spelled.values }
 
   cond-in : (a : Attempt) → Has a (tries q.lines) → (cond : ℕ × Bool) → Has cond a.conds → asked (table_of g.script) a.id cond.0 ≡ true
@@ -136,7 +136,7 @@ module _ (g : Given) (o : Outside) (resolved : AttemptId → Bool) (q : Report) 
   attempt-in : (a : Attempt) → Has (line.Try a) q.lines → IsAttemptIn g.script a
   attempt-in a i =
       let among = try-among q.lines a i in
-      let ordered = in-order (attempt_ops g.script a.id) a a.outcome refl (has-all (ConditionsLegal g.script) (tries q.lines) a legal.outcomes.conditions among) (has-all IsToldWell (tries q.lines) a told among) in
+      let ordered = in-order g.script (attempt_ops g.script a.id) a a.outcome refl (has-all (ConditionsLegal g.script) (tries q.lines) a legal.outcomes.conditions among) (has-all (IsToldWell g.script) (tries q.lines) a told among) in
       record {
         ends = ends-in a i among;
         conds = all-from_has (λ (cond : ℕ × Bool). asked (table_of g.script) a.id cond.0 ≡ true) a.conds (cond-in a among);

@@ -1,6 +1,7 @@
 // What lies between actors: messages in flight, issued epochs and lines; and which actor has the next turn.
 #![tactic(auto)]
 
+pub mod asked;
 pub mod between;
 pub mod lines;
 pub mod schedule;

@@ -1,5 +1,5 @@
 -- Operations that were read are in form.
-use Rattle.std.proofs.Common.{◌≡◌, true, false, Bool, List, ℕ, Option, Some, None, refl, subst, sym, cond, is_some}
+use Rattle.std.proofs.Common.{◌≡◌, List, ℕ, Option, Some, None, refl, cond, is_some}
 use Rattle.base_types.specs.Scripts.{IsActInForm, IsPathOf, IsWriteInForm}
 use Rattle.base_types.specs.declared.operation.Act.TheVariants.{Change}
 use Rattle.base_types.specs.declared.operation.Write.TheVariants as write

@@ -1,6 +1,6 @@
 -- What holds of a line that was read: its names are declared or new, its numbers are in their ranges.
-use Rattle.std.specs.Prelude.{◌≡◌, ℕ, ◌^◌, ◌<◌, ◌≤◌, false, List, Option, Some, None}
-use Rattle.base_types.specs.Scripts.{IsContOf, IsOpInForm, IsPlainReadIn, IsStop}
+use Rattle.std.specs.Prelude.{◌≡◌, ℕ, ◌^◌, ◌<◌, ◌≤◌, false, is_none, List, Option, Some, None}
+use Rattle.base_types.specs.Scripts.{IsContOf, IsOpInForm, IsPlainReadIn, IsStop, IsUnit}
 use Rattle.base_types.specs.Operations.{act_path}
 use Rattle.base_types.specs.Placement.{ClassFits}
 use Rattle.base_types.specs.declared.id.ContId.{ContId}
@@ -9,8 +9,8 @@ use Rattle.base_types.specs.declared.script.ContDecl.{ContDecl}
 use Rattle.base_types.specs.declared.script.ObjDecl.{ObjDecl}
 use Rattle.base_types.specs.declared.script.OldDecl.{OldDecl}
 use Rattle.script_words.specs.declared.decls.Decls.{Decls}
-use Rattle.script_words.specs.Lookups.{cont_named, obj_named, has_cont, has_obj}
-use Rattle.script_words.specs.Snaps.{is_snap, snap_named}
+use Rattle.script_words.specs.Lookups.{cont_named, obj_named, old_named, has_cont, has_obj}
+use Rattle.script_words.specs.Snaps.{is_dropped, is_snap, snap_named}
 use Rattle.script_lines.specs.declared.line.At.{At}
 use Rattle.script_lines.specs.declared.line.Line.{Line}
 use Rattle.script_lines.specs.declared.line.Line.TheVariants as line
@@ -25,10 +25,16 @@ pub record ObjFits (decls : Decls) (d : ObjDecl) : Type 0 where
   pub new_object : has_obj decls.objs d.cont d.id ≡ false
   pub declared : IsContOf decls.conts d.cont
   pub class : ClassFits d.id.class decls.targets
+  pub unit : IsUnit d.id.unit
 
 pub record OldFits (decls : Decls) (d : OldDecl) : Type 0 where
   pub new_name : is_snap decls d.name ≡ false
   pub declared : IsContOf decls.conts d.cont
+
+-- the snapshot is one of an earlier run, and isn't dropped yet
+pub record DropFits (decls : Decls) (name : List ℕ) : Type 0 where
+  pub known : is_none (old_named decls.olds name) ≡ false
+  pub new : is_dropped decls name ≡ false
 
 pub record OpFits (decls : Decls) (within : Option ContId) (op : Op) : Type 0 where
   pub form : IsOpInForm decls.objs op
@@ -51,6 +57,7 @@ abbrev pub LineFits : Decls → Option ContId → Line → Type 0
 LineFits decls within (line.Cont d) = ContFits decls d
 LineFits decls within (line.Obj d) = ObjFits decls d
 LineFits decls within (line.Old d) = OldFits decls d
+LineFits decls within (line.Drop name) = DropFits decls name
 LineFits decls within (line.Stop d) = IsStop decls.targets d
 LineFits decls within line.Client = Unit {0}
 LineFits decls within (line.Do op) = OpFits decls within op

@@ -1,5 +1,5 @@
 -- What a line says, by what is declared before it.
-use Rattle.std.specs.Prelude.{ℕ, List, [], ◌∷◌, Option, Some, None, Ok, Err, if◌then◌else◌}
+use Rattle.std.specs.Prelude.{ℕ, List, Option, Some, Ok, Err, if◌then◌else◌}
 use Rattle.base_types.specs.declared.fault.Why.TheVariants.{UnknownWord, BadName}
 use Rattle.base_types.specs.declared.id.ContId.{ContId}
 use Rattle.base_types.specs.declared.operation.Cond.{Cond}
@@ -8,7 +8,7 @@ use Rattle.base_text.specs.Results.{◌>>=◌}
 use Rattle.script_words.specs.declared.decls.Decls.{Decls}
 use Rattle.script_words.specs.Lookups.{has_cont, has_obj}
 use Rattle.script_words.specs.Reads.{Read, Taken}
-use Rattle.script_words.specs.Words.{class_at, cont_at, new_cont_at, new_obj_at, new_snap_at, nothing_at, number_at, snap_at, target_at, uuid_at}
+use Rattle.script_words.specs.Words.{class_at, cont_at, drop_at, new_cont_at, new_obj_at, new_snap_at, nothing_at, number_at, snap_at, target_at, unit_at, uuid_at}
 use Rattle.script_lines.specs.declared.line.At.{At}
 use Rattle.script_lines.specs.declared.line.Line.{Line}
 use Rattle.script_lines.specs.declared.line.Line.TheVariants as line
@@ -27,15 +27,16 @@ cont_line decls ws = do
   id ← uuid_at name.1
   if has_cont decls.conts id.0 then Err BadName else Ok (line.Cont (record { name = name.0; id = id.0 }), id.1)
 
--- obj O C CLASS NUMBER
+-- obj O C CLASS NUMBER, obj O C CLASS NUMBER SIZE
 unfoldable pub obj_line : Decls → List (List ℕ) → Taken Line
 obj_line decls ws = do
   name ← new_obj_at decls ws
   cont ← cont_at decls name.1
   class ← class_at decls.targets cont.1
   number ← number_at 0 18446744073709551615 class.1
-  if has_obj decls.objs cont.0 (record { class = class.0; number = number.0 }) then Err BadName
-      else Ok (line.Obj (record { name = name.0; cont = cont.0; id = record { class = class.0; number = number.0 } }), number.1)
+  unit ← unit_at number.1
+  if has_obj decls.objs cont.0 (record { class = class.0; number = number.0; unit = unit.0 }) then Err BadName
+      else Ok (line.Obj (record { name = name.0; cont = cont.0; id = record { class = class.0; number = number.0; unit = unit.0 } }), unit.1)
 
 -- old S C EPOCH
 unfoldable pub old_line : Decls → List (List ℕ) → Taken Line
@@ -44,6 +45,12 @@ old_line decls ws = do
   cont ← cont_at decls name.1
   epoch ← number_at 0 18446744073709551615 cont.1
   Ok (line.Old (record { name = name.0; cont = cont.0; epoch = record { 0 = epoch.0 } }), epoch.1)
+
+-- drop S
+unfoldable pub drop_line : Decls → List (List ℕ) → Taken Line
+drop_line decls ws = do
+  name ← drop_at decls ws
+  Ok (line.Drop name.0, name.1)
 
 -- stop T K
 unfoldable pub stop_line : Decls → List (List ℕ) → Taken Line
@@ -78,6 +85,7 @@ abbrev pub at_by : Decls → At → Verb → List (List ℕ) → Taken Line
 at_by decls at verb.Cont ws = Err UnknownWord
 at_by decls at verb.Obj ws = Err UnknownWord
 at_by decls at verb.Old ws = Err UnknownWord
+at_by decls at verb.Drop ws = Err UnknownWord
 at_by decls at verb.Stop ws = Err UnknownWord
 at_by decls at verb.Client ws = Err UnknownWord
 at_by decls at (verb.Op v) ws = if is_read v then do_at decls at v ws else Err UnknownWord
@@ -132,6 +140,7 @@ abbrev pub line_by : Decls → Option ContId → Verb → List (List ℕ) → Ta
 line_by decls within verb.Cont ws = cont_line decls ws
 line_by decls within verb.Obj ws = obj_line decls ws
 line_by decls within verb.Old ws = old_line decls ws
+line_by decls within verb.Drop ws = drop_line decls ws
 line_by decls within verb.Stop ws = stop_line decls ws
 line_by decls within verb.Client ws = Ok (line.Client, ws)
 line_by decls within (verb.Op v) ws = op_line decls within v ws

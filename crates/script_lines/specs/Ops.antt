@@ -1,9 +1,10 @@
 -- What the words of an operation say.
-use Rattle.std.specs.Prelude.{◌≡◌, ℕ, Bool, true, ◌+◌, nat_lt, is_some, List, [], ◌∷◌, length, Option, Some, None, Ok, Err, if◌then◌else◌}
+use Rattle.std.specs.Prelude.{◌≡◌, ℕ, true, ◌+◌, ◌/◌, ◌%◌, ◌==◌, nat_lt, is_some, List, length, Option, Some, None, Ok, Err, if◌then◌else◌}
 use Rattle.base_types.specs.Operations.{act_path}
+use Rattle.base_types.specs.Paths.{record_size}
 use Rattle.base_types.specs.Scripts.{is_fetch}
 use Rattle.base_types.specs.Scripts as script
-use Rattle.base_types.specs.declared.fault.Why.TheVariants.{BadNumber}
+use Rattle.base_types.specs.declared.fault.Why.TheVariants.{BadNumber, BadRecord}
 use Rattle.base_types.specs.declared.id.ContId.{ContId}
 use Rattle.base_types.specs.declared.id.ObjId.{ObjId}
 use Rattle.base_types.specs.declared.operation.Act.{Act}
@@ -14,11 +15,11 @@ use Rattle.base_types.specs.declared.operation.Write.TheVariants as write
 use Rattle.base_types.specs.declared.path.Path.{Path}
 use Rattle.base_text.specs.Results.{◌>>=◌}
 use Rattle.script_words.specs.declared.decls.Decls.{Decls}
-use Rattle.script_words.specs.Reads.{Read, Taken}
+use Rattle.script_words.specs.Reads.{Taken}
 use Rattle.script_words.specs.Words.{IsWithin, key_at, more_key_at, number_at, obj_at, value_at}
 use Rattle.script_lines.specs.declared.verbs.OpVerb.{OpVerb}
 use Rattle.script_lines.specs.declared.verbs.OpVerb.TheVariants as op
-use Rattle.script_lines.specs.Verbs.{is_read, may_must, may_must_not}
+use Rattle.script_lines.specs.Verbs.{is_read, may_must}
 
 -- ---- paths
 
@@ -78,32 +79,32 @@ get_at decls within ws = do
 unfoldable pub offset_at : List (List ℕ) → Taken ℕ
 offset_at ws = number_at 0 4294967295 ws
 
--- OFFSET V: the end is at most 2^32 - 1
-unfoldable pub piece_at : List (List ℕ) → Taken (ℕ × List ℕ)
-piece_at ws = do
+-- OFFSET V: whole records of a size; the end, in records, is at most 2^32 - 1
+unfoldable pub piece_at : ℕ → List (List ℕ) → Taken (ℕ × List ℕ)
+piece_at size ws = do
   offset ← offset_at ws
   value ← value_at offset.1
-  if nat_lt 4294967295 (offset.0 + length value.0) then Err BadNumber else Ok ((offset.0, value.0), value.1)
+  if length value.0 % size == 0 then (if nat_lt 4294967295 (offset.0 + length value.0 / size) then Err BadNumber else Ok ((offset.0, value.0), value.1)) else Err BadRecord
 
--- OFFSET LEN: the end is at most 2^32 - 1
-unfoldable pub range_at : List (List ℕ) → Taken (ℕ × ℕ)
-range_at ws = do
+-- OFFSET LEN: so many records of a size have at most 1,024 bytes; the end, in records, is at most 2^32 - 1
+unfoldable pub range_at : ℕ → List (List ℕ) → Taken (ℕ × ℕ)
+range_at size ws = do
   offset ← offset_at ws
-  len ← number_at 1 1024 offset.1
+  len ← number_at 1 (1024 / size) offset.1
   if nat_lt 4294967295 (offset.0 + len.0) then Err BadNumber else Ok ((offset.0, len.0), len.1)
 
 -- write O D A OFFSET V
 unfoldable pub write_at : Decls → Option ContId → List (List ℕ) → Taken Act
 write_at decls within ws = do
   cell ← cell_at decls within ws
-  piece ← piece_at cell.1
+  piece ← piece_at (record_size cell.0) cell.1
   Ok (Change (write.Extent cell.0 piece.0.0 piece.0.1), piece.1)
 
 -- read O D A OFFSET LEN
 unfoldable pub read_at : Decls → Option ContId → List (List ℕ) → Taken Act
 read_at decls within ws = do
   cell ← cell_at decls within ws
-  range ← range_at cell.1
+  range ← range_at (record_size cell.0) cell.1
   Ok (Fetch (read.Extent cell.0 range.0.0 range.0.1), range.1)
 
 -- dkeys O
@@ -156,4 +157,3 @@ pub record ActFits (within : Option ContId) (v : OpVerb) (act : Act) : Type 0 wh
   pub inside : PathFits within (act_path act)
   pub fetch : is_read v ≡ true → is_fetch act ≡ true
   pub must : may_must v ≡ true → script.may_must act ≡ true
-  pub must_not : may_must_not v ≡ true → script.may_must_not act ≡ true

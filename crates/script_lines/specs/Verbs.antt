@@ -23,8 +23,8 @@ op_verb_of w =
 abbrev pub head_of : List ℕ → Option Verb
 head_of w =
     if bytes_eq w (codes "cont") then Some verb.Cont else if bytes_eq w (codes "obj") then Some verb.Obj
-    else if bytes_eq w (codes "old") then Some verb.Old else if bytes_eq w (codes "stop") then Some verb.Stop
-    else if bytes_eq w (codes "client") then Some verb.Client
+    else if bytes_eq w (codes "old") then Some verb.Old else if bytes_eq w (codes "drop") then Some verb.Drop
+    else if bytes_eq w (codes "stop") then Some verb.Stop else if bytes_eq w (codes "client") then Some verb.Client
     else if bytes_eq w (codes "must") then Some verb.Must else if bytes_eq w (codes "mustnot") then Some verb.MustNot else None
 
 abbrev pub command_of : List ℕ → Option Verb
@@ -63,7 +63,7 @@ is_read op.Akeys = true
 is_read op.Has = true
 is_read op.Punch = false
 
--- all but `has` may have to find a cell
+-- all but `has` may have to find a cell, or to find none
 abbrev pub may_must : OpVerb → Bool
 may_must op.Put = true
 may_must op.Get = true
@@ -74,28 +74,18 @@ may_must op.Akeys = true
 may_must op.Has = false
 may_must op.Punch = true
 
--- `put` and `write` may have to find none
-abbrev pub may_must_not : OpVerb → Bool
-may_must_not op.Put = true
-may_must_not op.Get = false
-may_must_not op.Write = true
-may_must_not op.Read = false
-may_must_not op.Dkeys = false
-may_must_not op.Akeys = false
-may_must_not op.Has = false
-may_must_not op.Punch = false
-
 -- an operation may have a condition
 abbrev pub allows : Cond → OpVerb → Bool
 allows Free v = true
 allows Must v = may_must v
-allows MustNot v = may_must_not v
+allows MustNot v = may_must v
 
 -- the operation of a verb, where it may have this condition
 abbrev pub op_under : Cond → Verb → Read OpVerb
 op_under cond verb.Cont = Err UnknownWord
 op_under cond verb.Obj = Err UnknownWord
 op_under cond verb.Old = Err UnknownWord
+op_under cond verb.Drop = Err UnknownWord
 op_under cond verb.Stop = Err UnknownWord
 op_under cond verb.Client = Err UnknownWord
 op_under cond (verb.Op v) = if allows cond v then Ok v else Err UnknownWord

@@ -20,6 +20,8 @@ pub enum Line {
     Obj(ObjDecl),
     /// A snapshot of an earlier run is named.
     Old(OldDecl),
+    /// A snapshot of an earlier run is dropped.
+    Drop(Key),
     /// A write of a target is to fail.
     Stop(StopDecl),
     /// The next client's list begins.

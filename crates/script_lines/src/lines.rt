@@ -3,11 +3,12 @@ ghost use Rattle.std.specs.Prelude.{◌≡◌, true, IfOk};
 ghost use Rattle.script_words.specs.Reads.{Gives};
 ghost use Rattle.script_lines.specs.Fits.{AtFits, FitsAlways, FitsAnywhere, LineFits};
 ghost use Rattle.script_lines.specs.Verbs.{is_read};
-ghost use Rattle.script_lines.specs.Lines.{aggregate_line, at_by, at_line, cond_line, cont_line, do_at, line_at, line_by, obj_line, old_line, op_line, skip_line, snap_line, stop_line, tell_line};
+ghost use Rattle.script_lines.specs.Lines.{aggregate_line, at_by, at_line, cond_line, cont_line, do_at, drop_line, line_at, line_by, obj_line, old_line, op_line, skip_line, snap_line, stop_line, tell_line};
 
 use crate::line::{At, Line};
 use crate::ops::act_by;
 use crate::verbs::{OpVerb, Verb, cond_verb_at, is_read, verb_at};
+use base_text::parts::Parts;
 use base_types::epoch::Epoch;
 use base_types::fault::Why;
 use base_types::id::{ContId, ObjId};
@@ -16,10 +17,9 @@ use base_types::script::{ContDecl, ObjDecl, OldDecl, StopDecl};
 use script_words::decls::Decls;
 use script_words::fault::LineNo;
 use script_words::words::{
-    class_at, cont_at, new_cont_at, new_obj_at, new_snap_at, nothing_at, number_at, snap_at,
-    target_at, uuid_at,
+    class_at, cont_at, drop_at, new_cont_at, new_obj_at, new_snap_at, nothing_at, number_at,
+    snap_at, target_at, unit_at, uuid_at,
 };
-use base_text::parts::Parts;
 use std::alloc::Global;
 
 // cont C UUID
@@ -36,7 +36,7 @@ fn cont_line(alloc: Global, decls: &Decls, words: &mut Parts<'_>) -> Result<Line
     Ok(Line::Cont(ContDecl { name, id }))
 }
 
-// obj O C CLASS NUMBER
+// obj O C CLASS NUMBER, obj O C CLASS NUMBER SIZE
 #[tactic(auto, unfolding(crate::specs::Lines::obj_line))]
 fn obj_line(alloc: Global, decls: &Decls, words: &mut Parts<'_>) -> Result<Line, LineNo>
     ensures exact { Gives (λ l. (l, words.new)) result (obj_line decls.now words.old) }
@@ -46,7 +46,12 @@ fn obj_line(alloc: Global, decls: &Decls, words: &mut Parts<'_>) -> Result<Line,
     let cont = cont_at(decls, words)?;
     let class = class_at(decls.targets, words)?;
     let number = number_at(0, u64::MAX, words)?;
-    let id = ObjId { class, number };
+    let unit = unit_at(words)?;
+    let id = ObjId {
+        class,
+        number,
+        unit,
+    };
     if decls.objs.has(cont, id) {
         return Err(LineNo::Fault(Why::BadName));
     }
@@ -63,6 +68,16 @@ fn old_line(alloc: Global, decls: &Decls, words: &mut Parts<'_>) -> Result<Line,
     let cont = cont_at(decls, words)?;
     let epoch = Epoch(number_at(0, u64::MAX, words)?);
     Ok(Line::Old(OldDecl { name, cont, epoch }))
+}
+
+// drop S
+#[tactic(auto, unfolding(crate::specs::Lines::drop_line))]
+fn drop_line(alloc: Global, decls: &Decls, words: &mut Parts<'_>) -> Result<Line, LineNo>
+    ensures exact { Gives (λ l. (l, words.new)) result (drop_line decls.now words.old) }
+    ensures fits { IfOk result (FitsAnywhere decls.now) }
+{
+    let name = drop_at(alloc, decls, words)?;
+    Ok(Line::Drop(name))
 }
 
 // stop T K
@@ -225,6 +240,7 @@ fn line_by(
         Verb::Cont => cont_line(alloc, decls, words),
         Verb::Obj => obj_line(alloc, decls, words),
         Verb::Old => old_line(alloc, decls, words),
+        Verb::Drop => drop_line(alloc, decls, words),
         Verb::Stop => stop_line(decls, words),
         Verb::Client => Ok(Line::Client),
         Verb::Op(verb) => op_line(alloc, decls, within, verb, words),

@@ -1,10 +1,12 @@
 // Reads the words of operations.
-ghost use Rattle.std.specs.Prelude.{◌≡◌, ◌+◌, ◌<◌, ◌^◌, IfOk, length};
-ghost use Rattle.base_types.specs.Scripts.{IsActInForm, IsAkeyOf, IsDkeyOf, IsLength, IsObjectOf, IsPathOf};
+ghost use Rattle.std.specs.Prelude.{◌≡◌, ◌+◌, ◌*◌, ◌/◌, ◌<◌, ◌^◌, IfOk, length};
+ghost use Rattle.base_types.specs.Paths.{record_size};
+ghost use Rattle.base_types.specs.Scripts.{AreRecords, IsActInForm, IsAkeyOf, IsDkeyOf, IsLength, IsObjectOf, IsPathOf, IsUnit};
 ghost use Rattle.script_words.specs.Reads.{Gives};
 ghost use Rattle.script_lines.specs.Ops.{ActFits, PathFits, act_by, akeys_at, cell_at, dkey_at, dkeys_at, get_at, has_at, object_at, offset_at, path_at, piece_at, punch_at, punch_of, put_at, range_at, read_at, write_at};
 
 use crate::verbs::OpVerb;
+use base_text::parts::Parts;
 use base_types::fault::Why;
 use base_types::id::ContId;
 use base_types::items::Vec8;
@@ -13,10 +15,9 @@ use base_types::path::Path;
 use script_words::decls::Decls;
 use script_words::fault::LineNo;
 use script_words::words::{key_at, more_key_at, number_at, obj_at, value_at};
-use base_text::parts::Parts;
 use std::alloc::Global;
 
-/// The greatest index at which an extent may end.
+/// The greatest index, in records, at which an extent may end.
 pub const INDEX_MAX: u32 = 4_294_967_295;
 
 // O
@@ -67,6 +68,7 @@ fn cell_at(
 ) -> Result<Path, LineNo>
     ensures exact { Gives (λ p. (p, words.new)) result (cell_at decls.now within words.old) }
     ensures form { IfOk result (IsAkeyOf decls.now.objs) }
+    ensures unit { IfOk result (λ p. IsUnit (record_size p)) }
     ensures inside { IfOk result (PathFits within) }
 {
     let (cont, obj) = obj_at(decls, within, words)?;
@@ -153,30 +155,37 @@ fn offset_at(words: &mut Parts<'_>) -> Result<u32, LineNo>
     Ok(offset as u32)
 }
 
-// OFFSET V
+// OFFSET V, of whole records of a size
 #[tactic(auto, unfolding(crate::specs::Ops::piece_at))]
-fn piece_at(alloc: Global, words: &mut Parts<'_>) -> Result<(u32, Vec8), LineNo>
-    ensures exact { Gives (λ p. ((p.0, p.1), words.new)) result (piece_at words.old) }
+fn piece_at(alloc: Global, size: u8, words: &mut Parts<'_>) -> Result<(u32, Vec8), LineNo>
+    requires { IsUnit size }
+    ensures exact { Gives (λ p. ((p.0, p.1), words.new)) result (piece_at size words.old) }
     ensures length { IfOk result (λ p. IsLength (length p.1)) }
-    ensures end { IfOk result (λ p. p.0 + length p.1 < 2 ^ 32) }
+    ensures records { IfOk result (λ p. AreRecords size p.1) }
+    ensures end { IfOk result (λ p. p.0 + length p.1 / size < 2 ^ 32) }
 {
     let offset = offset_at(words)?;
     let value = value_at(alloc, words)?;
-    if u64::from(offset) + value.len() as u64 > u64::from(INDEX_MAX) {
+    let (len, size) = (value.len() as u64, u64::from(size));
+    if len % size != 0 {
+        return Err(LineNo::Fault(Why::BadRecord));
+    }
+    if u64::from(offset) + len / size > u64::from(INDEX_MAX) {
         return Err(LineNo::Fault(Why::BadNumber));
     }
     Ok((offset, value))
 }
 
-// OFFSET LEN
+// OFFSET LEN, of records of a size
 #[tactic(auto, unfolding(crate::specs::Ops::range_at))]
-fn range_at(words: &mut Parts<'_>) -> Result<(u32, u32), LineNo>
-    ensures exact { Gives (λ r. ((r.0, r.1), words.new)) result (range_at words.old) }
-    ensures length { IfOk result (λ r. IsLength r.1) }
+fn range_at(size: u8, words: &mut Parts<'_>) -> Result<(u32, u32), LineNo>
+    requires { IsUnit size }
+    ensures exact { Gives (λ r. ((r.0, r.1), words.new)) result (range_at size words.old) }
+    ensures length { IfOk result (λ r. IsLength (r.1 * size)) }
     ensures end { IfOk result (λ r. r.0 + r.1 < 2 ^ 32) }
 {
     let offset = offset_at(words)?;
-    let len = number_at(1, 1024, words)?;
+    let len = number_at(1, 1024 / u64::from(size), words)?;
     if u64::from(offset) + len > u64::from(INDEX_MAX) {
         return Err(LineNo::Fault(Why::BadNumber));
     }
@@ -196,7 +205,7 @@ fn write_at(
     ensures inside { IfOk result (ActFits within OpVerb.Write) }
 {
     let cell = cell_at(alloc, decls, within, words)?;
-    let (offset, value) = piece_at(alloc, words)?;
+    let (offset, value) = piece_at(alloc, cell.record_size(), words)?;
     Ok(Act::Change(Write::Extent(cell, offset, value)))
 }
 
@@ -213,7 +222,7 @@ fn read_at(
     ensures inside { IfOk result (ActFits within OpVerb.Read) }
 {
     let cell = cell_at(alloc, decls, within, words)?;
-    let (offset, len) = range_at(words)?;
+    let (offset, len) = range_at(cell.record_size(), words)?;
     Ok(Act::Fetch(Read::Extent(cell, offset, len)))
 }
 

@@ -3,10 +3,10 @@ ghost use Rattle.std.specs.Prelude.{◌≡◌, true, IfOk};
 ghost use Rattle.script_words.specs.Reads.{Gives};
 ghost use Rattle.script_lines.specs.Verbs.{allows, command_of, cond_verb_at, head_of, is_read, op_verb_of, verb_at, verb_of};
 
+use base_text::parts::Parts;
 use base_types::fault::Why;
 use base_types::operation::Cond;
 use script_words::fault::LineNo;
-use base_text::parts::Parts;
 
 /// The word of an operation.
 #[derive(Clone, Copy)]
@@ -27,6 +27,7 @@ pub enum Verb {
     Cont,
     Obj,
     Old,
+    Drop,
     Stop,
     Client,
     Op(OpVerb),
@@ -76,6 +77,8 @@ fn head_of(word: &[u8]) -> Option<Verb>
         Some(Verb::Obj)
     } else if word == b"old".as_slice() {
         Some(Verb::Old)
+    } else if word == b"drop".as_slice() {
+        Some(Verb::Drop)
     } else if word == b"stop".as_slice() {
         Some(Verb::Stop)
     } else if word == b"client".as_slice() {
@@ -155,8 +158,7 @@ fn allows(cond: Cond, verb: OpVerb) -> bool
 {
     match cond {
         Cond::Free => true,
-        Cond::Must => !matches!(&verb, OpVerb::Has),
-        Cond::MustNot => matches!(&verb, OpVerb::Put | OpVerb::Write),
+        Cond::Must | Cond::MustNot => !matches!(&verb, OpVerb::Has),
     }
 }
 

@@ -7,7 +7,6 @@ use Rattle.hex.specs.Hex.{IsBytes, decode_of, encode_lower}
 use Rattle.hex.specs.declared.error.FromHexError.{FromHexError}
 use Rattle.hex.proofs.HexLemmas.{decode_of-encode_lower}
 use Rattle.base_types.specs.Scripts.{IsLength}
-use Rattle.base_types.specs.declared.fault.Why.{Why}
 use Rattle.base_types.specs.declared.fault.Why.TheVariants.{BadHex, TooLong}
 use Rattle.base_text.specs.Results.{◌>>=◌}
 use Rattle.script_words.specs.Reads.{Read}

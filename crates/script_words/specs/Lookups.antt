@@ -1,5 +1,5 @@
 -- What names of containers, objects and snapshots stand for.
-use Rattle.std.specs.Prelude.{◌≡◌, ℕ, Bool, ◌&&◌, ◌==◌, List, map, Any, Option, Some}
+use Rattle.std.specs.Prelude.{◌≡◌, ℕ, Bool, ◌&&◌, ◌==◌, List, map, All, Any, Option, Some}
 use Rattle.std.specs.List.{list_any}
 use Rattle.base_types.specs.declared.id.ContId.{ContId}
 use Rattle.base_types.specs.declared.id.ObjId.{ObjId}
@@ -7,6 +7,7 @@ use Rattle.base_types.specs.declared.script.ContDecl.{ContDecl}
 use Rattle.base_types.specs.declared.script.ObjDecl.{ObjDecl}
 use Rattle.base_types.specs.declared.script.OldDecl.{OldDecl}
 use Rattle.base_types.specs.Paths.{same_object}
+use Rattle.base_types.specs.Scripts.{IsUnit}
 use Rattle.base_names.specs.Names.{named}
 
 -- the name of a container, and what it stands for
@@ -16,6 +17,15 @@ name_of_cont d = (d.name, d.id)
 -- the name of an object, and what it stands for
 abbrev pub name_of_obj : ObjDecl → List ℕ × (ContId × ObjId)
 name_of_obj d = (d.name, (d.cont, d.id))
+
+-- an object has a record size
+abbrev pub HasUnit : ObjDecl → Type 0
+HasUnit d = IsUnit d.id.unit
+
+-- objects are found by their names, and each has a record size
+pub record AreNamedObjs (decls : List ObjDecl) (names : List (List ℕ × (ContId × ObjId))) : Type 0 where
+  pub named : names ≡ map name_of_obj decls
+  pub units : All HasUnit decls
 
 -- the name of a snapshot of an earlier run, and its container
 abbrev pub name_of_old : OldDecl → List ℕ × ContId

@@ -1,5 +1,5 @@
 -- The words of a line, read from the left.
-use Rattle.std.specs.Prelude.{◌≡◌, ℕ, Bool, false, ◌==◌, nat_le, nat_lt, not, is_none, is_some, List, [], ◌∷◌, length, codes, Option, Some, None, Ok, Err, if◌then◌else◌}
+use Rattle.std.specs.Prelude.{◌≡◌, ℕ, Bool, false, ◌||◌, ◌==◌, nat_le, nat_lt, not, is_none, is_some, List, [], ◌∷◌, length, codes, Option, Some, None, Ok, Err, if◌then◌else◌}
 use Rattle.std.specs.Str.{bytes_eq, is_utf8}
 use Rattle.std.specs.Int.{w128, from_be_bytes}
 use Rattle.uuid.specs.Text.{parsed}
@@ -15,7 +15,7 @@ use Rattle.base_text.specs.Results.{◌>>=◌}
 use Rattle.script_words.specs.declared.decls.Decls.{Decls}
 use Rattle.script_words.specs.Lookups.{cont_named, obj_named, old_named}
 use Rattle.script_words.specs.Reads.{Read, Taken, or_fault}
-use Rattle.script_words.specs.Snaps.{is_snap, snap_named}
+use Rattle.script_words.specs.Snaps.{is_dropped, is_snap, snap_named}
 use Rattle.script_words.specs.Values.{value_of}
 
 -- a word that isn't empty
@@ -49,6 +49,11 @@ number_at lo hi ws = do
   w ← word_at ws
   n ← or_fault BadNumber (number_in lo hi w.0)
   Ok (n, w.1)
+
+-- a record size from 2 to 64, or 1 at the end of the line
+unfoldable pub unit_at : List (List ℕ) → Taken ℕ
+unit_at [] = Ok (1, [])
+unit_at (w ∷ ws) = if length w == 0 then Err MissingWord else (or_fault BadNumber (number_in 2 64 w) >>= λ n. Ok (n, ws))
 
 -- the number of one of so many targets
 unfoldable pub target_at : ℕ → List (List ℕ) → Taken ℕ
@@ -134,6 +139,13 @@ snap_at decls ws = do
   name ← name_of w.0
   cont ← or_fault BadName (snap_named decls name)
   Ok ((name, cont), w.1)
+
+-- the name of a snapshot of an earlier run that isn't dropped yet
+unfoldable pub drop_at : Decls → List (List ℕ) → Taken (List ℕ)
+drop_at decls ws = do
+  w ← word_at ws
+  name ← name_of w.0
+  if is_none (old_named decls.olds name) || is_dropped decls name then Err BadName else Ok (name, w.1)
 
 -- ---- new names
 

@@ -1,19 +1,20 @@
 // What is declared so far.
 ghost use Rattle.std.specs.Prelude.{◌≡◌, [], ◌<◌, None, OnOk};
+ghost use Rattle.base_types.specs.Scripts.{IsUnit};
 ghost use Rattle.script_words.specs.Lookups.{cont_named, obj_named, old_named};
-ghost use Rattle.script_words.specs.Snaps.{is_snap, snap_named};
+ghost use Rattle.script_words.specs.Snaps.{is_dropped, is_snap, snap_named};
 ghost use Rattle.base_names.specs.Names.{named};
-ghost use Rattle.script_words.specs.Decls.{nothing_declared, room, with_cont, with_obj, with_old, with_own, with_stop};
+ghost use Rattle.script_words.specs.Decls.{nothing_declared, room, with_cont, with_drop, with_obj, with_old, with_own, with_stop};
 ghost use Rattle.script_words.specs.Reads.{Gives};
 
 use crate::fault::LineNo;
 use crate::tables::{ContDecls, ObjDecls, OldDecls};
+use base_names::Names;
 use base_types::fault::Why;
 use base_types::id::ContId;
 use base_types::items::Items;
 use base_types::key::Key;
-use base_types::script::{ContDecl, ObjDecl, OldDecl, StopDecl, Stops};
-use base_names::Names;
+use base_types::script::{ContDecl, Drops, ObjDecl, OldDecl, StopDecl, Stops};
 use std::alloc::{AllocError, Global};
 
 /// The most containers that a script declares.
@@ -36,6 +37,8 @@ pub struct Decls {
     pub conts: ContDecls,
     pub objs: ObjDecls,
     pub olds: OldDecls,
+    /// The names of those of them that are dropped.
+    pub drops: Drops,
     pub stops: Stops,
     /// The snapshots that clients make.
     pub made: Names<ContId>,
@@ -64,6 +67,7 @@ impl Decls {
             conts: ContDecls::new(alloc),
             objs: ObjDecls::new(alloc),
             olds: OldDecls::new(alloc),
+            drops: Items::new(alloc),
             stops: Items::new(alloc),
             made: Names::new(alloc),
             own: Names::new(alloc),
@@ -102,10 +106,11 @@ impl Decls {
         Ok(())
     }
 
-    /// One more object, of a new name.
+    /// One more object, of a new name and with a record size.
     #[tactic(auto, unfolding(crate::specs::Decls::with_obj))]
     pub fn add_obj(&mut self, alloc: Global, decl: ObjDecl) -> Result<(), LineNo>
-        requires { obj_named self.old.objs decl.name ≡ None }
+        requires new { obj_named self.old.objs decl.name ≡ None }
+        requires unit { IsUnit decl.id.unit }
         ensures { Gives (λ done. self.new) result (with_obj self.old decl) }
     {
         room(OBJS_MAX, self.objs.count())?;
@@ -121,6 +126,25 @@ impl Decls {
     {
         room(OLDS_MAX, self.olds.count())?;
         self.olds.add(alloc, decl)?;
+        Ok(())
+    }
+
+    /// Whether the snapshot of this name is dropped.
+    #[tactic(auto, unfolding(crate::specs::Snaps::is_dropped))]
+    pub fn is_dropped(&self, name: &[u8]) -> bool
+        ensures { result ≡ is_dropped self.now name.now }
+    {
+        self.drops
+            .as_slice()
+            .iter()
+            .any(|dropped| dropped.bytes() == name)
+    }
+
+    /// One more snapshot of an earlier run is dropped.
+    pub fn add_drop(&mut self, name: Key) -> Result<(), AllocError>
+        ensures { OnOk result (self.new ≡ with_drop self.old name) }
+    {
+        self.drops.push(name)?;
         Ok(())
     }
 

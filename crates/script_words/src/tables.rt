@@ -1,11 +1,12 @@
 // Declarations, each found by its name.
-ghost use Rattle.std.specs.Prelude.{◌≡◌, [], ◌∷◌, ◌++◌, None, OnOk, length};
-ghost use Rattle.script_words.specs.Lookups.{cont_named, has_cont, has_obj, obj_named, old_named};
+ghost use Rattle.std.specs.Prelude.{◌≡◌, [], ◌∷◌, ◌++◌, None, IfSome, OnOk, length};
+ghost use Rattle.base_types.specs.Scripts.{IsUnit};
+ghost use Rattle.script_words.specs.Lookups.{IsObj, cont_named, has_cont, has_obj, obj_named, old_named};
 
+use base_names::Names;
 use base_types::id::{ContId, ObjId};
 use base_types::items::Items;
 use base_types::script::{ContDecl, Conts, ObjDecl, Objs, OldDecl, Olds};
-use base_names::Names;
 use std::alloc::{AllocError, Global};
 use std::marker::Model;
 use std::mem::replace;
@@ -110,13 +111,13 @@ pub struct ObjDecls {
 impl Model for ObjDecls {
     ghost use Rattle.std.specs.Prelude.{◌≡◌, List, map};
     ghost use Rattle.base_types.specs.declared.script.ObjDecl.{ObjDecl};
-    ghost use Rattle.script_words.specs.Lookups.{name_of_obj};
+    ghost use Rattle.script_words.specs.Lookups.{AreNamedObjs};
 
     ghost Value = { List ObjDecl };
 
     ghost view = { λ a. a.decls };
 
-    ghost invariant = { λ a. a.names ≡ map name_of_obj a.decls };
+    ghost invariant = { λ a. AreNamedObjs a.decls a.names };
 }
 
 // Whether this object of this container is declared.
@@ -143,7 +144,9 @@ impl ObjDecls {
     /// The object of a name, with its container.
     #[tactic(auto, unfolding(crate::specs::Lookups::obj_named))]
     pub fn find(&self, name: &[u8]) -> Option<(ContId, ObjId)>
-        ensures { result ≡ obj_named self.now name.now }
+        ensures exact { result ≡ obj_named self.now name.now }
+        ensures known { IfSome result (IsObj self.now) }
+        ensures unit { IfSome result (λ o. IsUnit o.1.unit) }
     {
         self.names.find(name)
     }
@@ -155,10 +158,11 @@ impl ObjDecls {
         has_obj(self.decls.as_slice(), cont, id)
     }
 
-    /// Adds an object of a new name.
+    /// Adds an object of a new name, which has a record size.
     #[tactic(auto, unfolding(crate::specs::Lookups::obj_named))]
     pub fn add(&mut self, alloc: Global, decl: ObjDecl) -> Result<(), AllocError>
-        requires { obj_named self.old decl.name ≡ None }
+        requires new { obj_named self.old decl.name ≡ None }
+        requires unit { IsUnit decl.id.unit }
         ensures { OnOk result (self.new ≡ self.old ++ decl ∷ []) }
     {
         let ObjDecls {

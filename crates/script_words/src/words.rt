@@ -1,23 +1,23 @@
 // Reads the words of a line from the left.
-ghost use Rattle.std.specs.Prelude.{◌≡◌, ◌<◌, ◌≤◌, false, length, IfOk, None, Some};
+ghost use Rattle.std.specs.Prelude.{◌≡◌, ◌<◌, ◌≤◌, false, is_none, length, IfOk, None, Some};
 ghost use Rattle.base_types.specs.Placement.{ClassFits};
-ghost use Rattle.base_types.specs.Scripts.{IsContOf, IsLength};
-ghost use Rattle.script_words.specs.Lookups.{IsObj, cont_named, obj_named};
+ghost use Rattle.base_types.specs.Scripts.{IsContOf, IsLength, IsUnit};
+ghost use Rattle.script_words.specs.Lookups.{IsObj, cont_named, obj_named, old_named};
 ghost use Rattle.script_words.specs.Reads.{Gives, or_fault};
-ghost use Rattle.script_words.specs.Snaps.{is_snap, snap_named};
-ghost use Rattle.script_words.specs.Words.{IsWithin, class_at, class_of, cont_at, fitting, is_outside, key_at, key_of, more_key_at, name_of, new_cont_at, new_obj_at, new_snap_at, nothing_at, number_at, obj_at, parsed_id, snap_at, target_at, uuid_at, uuid_of, value_at, word_at};
+ghost use Rattle.script_words.specs.Snaps.{is_dropped, is_snap, snap_named};
+ghost use Rattle.script_words.specs.Words.{IsWithin, class_at, class_of, cont_at, drop_at, fitting, is_outside, key_at, key_of, more_key_at, name_of, new_cont_at, new_obj_at, new_snap_at, nothing_at, number_at, obj_at, parsed_id, snap_at, target_at, unit_at, uuid_at, uuid_of, value_at, word_at};
 
 use crate::decls::Decls;
 use crate::fault::LineNo;
 use crate::values::value_of;
+use base_text::number::number_in;
+use base_text::parts::Parts;
 use base_types::epoch::TargetId;
 use base_types::fault::Why;
 use base_types::id::{Class, ContId, ObjId};
 use base_types::items::Vec8;
 use base_types::key::{Key, KeyNo};
 use daos_class::class::Placed;
-use base_text::number::number_in;
-use base_text::parts::Parts;
 use std::alloc::Global;
 use std::str;
 use uuid::Uuid;
@@ -101,6 +101,24 @@ pub fn number_at(lo: u64, hi: u64, words: &mut Parts<'_>) -> Result<u64, LineNo>
     let word = word_at(words)?;
     match number_in(lo, hi, word) {
         Some(number) => Ok(number),
+        None => Err(LineNo::Fault(Why::BadNumber)),
+    }
+}
+
+/// A record size from 2 to 64, or 1 at the end of the line.
+#[tactic(auto, unfolding(crate::specs::Words::unit_at))]
+pub fn unit_at(words: &mut Parts<'_>) -> Result<u8, LineNo>
+    ensures exact { Gives (λ n. (n, words.new)) result (unit_at words.old) }
+    ensures range { IfOk result IsUnit }
+{
+    let Some(word) = words.take_part() else {
+        return Ok(1);
+    };
+    if word.is_empty() {
+        return Err(LineNo::Fault(Why::MissingWord));
+    }
+    match number_in(2, 64, word) {
+        Some(size) => Ok(size as u8),
         None => Err(LineNo::Fault(Why::BadNumber)),
     }
 }
@@ -236,6 +254,7 @@ pub fn obj_at(
 ) -> Result<(ContId, ObjId), LineNo>
     ensures exact { Gives (λ o. (o, words.new)) result (obj_at decls.now within words.old) }
     ensures known { IfOk result (IsObj decls.now.objs) }
+    ensures unit { IfOk result (λ o. IsUnit o.1.unit) }
     ensures inside { IfOk result (λ o. IsWithin within o.0) }
 {
     let word = word_at(words)?;
@@ -271,6 +290,21 @@ pub fn snap_at(alloc: Global, decls: &Decls, words: &mut Parts<'_>) -> Result<(K
         return Err(LineNo::Fault(Why::BadName));
     };
     Ok((name, cont))
+}
+
+/// The name of a snapshot of an earlier run that isn't dropped yet.
+#[tactic(auto, unfolding(crate::specs::Words::drop_at))]
+pub fn drop_at(alloc: Global, decls: &Decls, words: &mut Parts<'_>) -> Result<Key, LineNo>
+    ensures exact { Gives (λ name. (name, words.new)) result (drop_at decls.now words.old) }
+    ensures known { IfOk result (λ name. is_none (old_named decls.now.olds name) ≡ false) }
+    ensures new { IfOk result (λ name. is_dropped decls.now name ≡ false) }
+{
+    let word = word_at(words)?;
+    let name = name_of(alloc, word)?;
+    if decls.olds.find(name.bytes()).is_none() || decls.is_dropped(name.bytes()) {
+        return Err(LineNo::Fault(Why::BadName));
+    }
+    Ok(name)
 }
 
 /// A name that no container has.

@@ -1,5 +1,5 @@
 -- What a target remembers, and what of it fits what it keeps.
-use Rattle.std.specs.Prelude.{ℕ, ◌≡◌, ◌≤◌, ◌/◌, ◌^◌, ◌<◌, true, false, All, List, Some, is_some}
+use Rattle.std.specs.Prelude.{ℕ, ◌≡◌, ◌≤◌, ◌/◌, ◌^◌, ◌<◌, true, false, All, List, [], Some, is_some}
 use Rattle.base_types.specs.declared.entry.Entry.{Entry}
 use Rattle.base_types.specs.declared.id.AttemptId.{AttemptId}
 use Rattle.base_types.specs.Operations.{read_path}
@@ -18,9 +18,9 @@ use Rattle.world_base.specs.declared.target.TargetPlan.{TargetPlan}
 pub use Rattle.world_posts.specs.Forms.{IsReadAsked}
 use Rattle.target_parts.specs.declared.knows.Knows.{Knows}
 
--- what a target remembers
+-- what a target remembers; so far it makes no snapshot and no aggregation
 abbrev pub memory_of : Knows → TargetMemory
-memory_of k = record { ticks = k.hlc.ticks; stamps = k.stamps; leader = k.leader; member = k.member.memory }
+memory_of k = record { ticks = k.hlc.ticks; stamps = k.stamps; leader = k.leader; member = k.member.memory; collecting = [] }
 
 -- ---- what it keeps
 

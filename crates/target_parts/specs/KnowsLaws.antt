@@ -1,5 +1,5 @@
 -- What stays of what a target knows where its entries and its leader alone change.
-use Rattle.std.proofs.Common.{ℕ, ◌≡◌, sym, ◌∙◌, ap, subst, List, filter}
+use Rattle.std.proofs.Common.{ℕ, ◌≡◌, sym, ◌∙◌, ap, subst, List, [], filter}
 use Rattle.base_types.specs.declared.entry.Entry.{Entry}
 use Rattle.base_types.specs.declared.id.AttemptId.{AttemptId}
 use Rattle.base_types.specs.declared.shown.Shown.{Shown}
@@ -17,7 +17,7 @@ use Rattle.target_parts.specs.declared.knows.Knows.{Knows}
 use Rattle.target_parts.specs.Knowing.{AreParkable, IsBeside, IsOwn, memory_of}
 
 abbrev pub remembered : ℕ → List Shown → LeaderMemory → MemberMemory → TargetMemory
-remembered ticks stamps leader member = record { ticks = ticks; stamps = stamps; leader = leader; member = member }
+remembered ticks stamps leader member = record { ticks = ticks; stamps = stamps; leader = leader; member = member; collecting = [] }
 
 pub memory-beside : (old new : Knows) (l : LeaderMemory) → IsBeside old new → new.leader ≡ l → memory_of new ≡ record (memory_of old) { leader = l }
 memory-beside old new l b leader =

@@ -61,6 +61,7 @@ fn akey(alloc: Global) -> Result<Path, KeyNo>
         obj: Some(ObjId {
             class: Class::S1,
             number: 1,
+            unit: 1,
         }),
         dkey: Some(Key::new(alloc, b"d")?),
         akey: Some(Key::new(alloc, b"a")?),

@@ -54,6 +54,7 @@ fn shared(alloc: Global) -> Result<Path, KeyNo>
         obj: Some(ObjId {
             class: Class::RP2G1,
             number: 0,
+            unit: 1,
         }),
         dkey: Some(Key::new(alloc, b"d")?),
         akey: Some(Key::new(alloc, b"a")?),

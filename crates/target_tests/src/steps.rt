@@ -56,6 +56,7 @@ pub fn akey(alloc: Global, name: &[u8]) -> Result<Path, KeyNo>
         obj: Some(ObjId {
             class: Class::S1,
             number: 0,
+            unit: 1,
         }),
         dkey: Some(Key::new(alloc, b"d")?),
         akey: Some(Key::new(alloc, name)?),

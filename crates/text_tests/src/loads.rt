@@ -112,7 +112,7 @@ fn one_target_has_no_replicas(rt: HostRuntime) -> Result<(), Fail> {
     for (targets, wanted) in classes {
         let script = make_script(alloc, 1, targets)?;
         for (decl, class) in script.objs.as_slice().iter().zip(wanted) {
-            assert_eq!(rt; decl.id.class, class);
+            assert_eq!(rt; decl.id.class.number(), class.number());
         }
         assert_eq!(rt; script.clients.len(), 4);
     }

@@ -1,9 +1,10 @@
 // Texts, and what is wrong with them: the line and the fault. The tables are another reader's.
-use base_types::fault::Why;
+use base_types::fault::{ScriptFault, Why};
 use base_types::key::Key;
 use base_types::script::{Command, Script};
 use daos_script::fault::ScriptNo;
 use daos_script::script::read_script;
+use daos_status::status::{Status, status_text};
 use std::alloc::{AllocError, Global};
 use std::test::Fail;
 
@@ -42,7 +43,7 @@ const SHOP: &[u8] = b"cont shop 6f1c2a34-9d1e-4b7a-8c55-0123456789ab\n\
     read log day1 moves 0 8\n";
 
 // Lines before the first client.
-const HEADS: [(&[u8], u32, Why); 44] = [
+const HEADS: [(&[u8], u32, Why); 53] = [
     (
         b"cont d 00000000-0000-0000-0000-000000000002 ",
         4,
@@ -79,13 +80,22 @@ const HEADS: [(&[u8], u32, Why); 44] = [
     (b"obj p c S1 07", 4, Why::BadNumber),
     (b"obj p c S1 18446744073709551616", 4, Why::BadNumber),
     (b"obj p c S1 0", 4, Why::BadName),
-    (b"obj p c S1 7 1", 4, Why::ExtraWord),
+    (b"obj p c S1 7 ", 4, Why::MissingWord),
+    (b"obj p c S1 7 1", 4, Why::BadNumber),
+    (b"obj p c S1 7 65", 4, Why::BadNumber),
+    (b"obj p c S1 7 2 2", 4, Why::ExtraWord),
+    (b"obj p c S1 7 4\nobj r c S1 7 4", 5, Why::BadName),
     (b"old s", 4, Why::MissingWord),
     (b"old s d 1", 4, Why::BadName),
     (b"old s c -1", 4, Why::BadNumber),
     (b"old s c 1 1", 4, Why::ExtraWord),
     (b"old s c 1\nold s c 2", 5, Why::BadName),
     (b"old a/b c 1", 4, Why::BadName),
+    (b"drop", 4, Why::MissingWord),
+    (b"drop s", 4, Why::BadName),
+    (b"old s c 512\ndrop s\ndrop s", 6, Why::BadName),
+    (b"old s c 512\ndrop s x", 5, Why::ExtraWord),
+    (b"old s c 1\ndrop s\nold s c 2", 6, Why::BadName),
     (b"stop", 4, Why::MissingWord),
     (b"stop 2 1", 4, Why::BadNumber),
     (b"stop 0 0", 4, Why::BadNumber),
@@ -106,7 +116,7 @@ const HEADS: [(&[u8], u32, Why); 44] = [
 ];
 
 // Lines in the list of a client.
-const LISTS: [(&[u8], u32, Why); 96] = [
+const LISTS: [(&[u8], u32, Why); 100] = [
     (
         b"client\ncont d 00000000-0000-0000-0000-000000000002",
         5,
@@ -115,6 +125,10 @@ const LISTS: [(&[u8], u32, Why); 96] = [
     (b"client\nobj p c S1 7", 5, Why::BadBlock),
     (b"client\nold s c 1", 5, Why::BadBlock),
     (b"client\nstop 0 1", 5, Why::BadBlock),
+    (b"client\ndrop s", 5, Why::BadName),
+    (b"old s c 1\nclient\ndrop s", 6, Why::BadBlock),
+    (b"client\nsnap s c\ndrop s", 6, Why::BadName),
+    (b"old s c 1\ndrop s\nclient\nsnap s c", 7, Why::BadName),
     (b"client\nput p d a =1", 5, Why::BadName),
     (b"client\nput o d! a =1", 5, Why::BadKey),
     (b"client\nput o d a! =1", 5, Why::BadKey),
@@ -160,8 +174,8 @@ const LISTS: [(&[u8], u32, Why); 96] = [
     (b"client\nmust must get o d a", 5, Why::UnknownWord),
     (b"client\nmust  get o d a", 5, Why::UnknownWord),
     (b"client\nmustnot", 5, Why::MissingWord),
-    (b"client\nmustnot get o d a", 5, Why::UnknownWord),
-    (b"client\nmustnot punch o", 5, Why::UnknownWord),
+    (b"client\nmustnot has o", 5, Why::UnknownWord),
+    (b"client\nmustnot mustnot get o d a", 5, Why::UnknownWord),
     (b"client\nmustnot put o d a", 5, Why::MissingWord),
     (b"client\nat", 5, Why::MissingWord),
     (b"client\nat s get o d a", 5, Why::BadName),
@@ -221,6 +235,29 @@ const LISTS: [(&[u8], u32, Why); 96] = [
     (b"client\ntx x", 5, Why::ExtraWord),
 ];
 
+// Lines on an array with records of 4 bytes.
+const RECORDS: [(&[u8], u32, Why); 8] = [
+    (b"write p d a 0 =abc", 6, Why::BadRecord),
+    (b"write p d a 0 #0g", 6, Why::BadHex),
+    (b"write p d a 4294967295 =abc", 6, Why::BadRecord),
+    (b"write p d a 4294967295 =abcd", 6, Why::BadNumber),
+    (b"write p d a 4294967296 =abc", 6, Why::BadNumber),
+    (b"read p d a 0 257", 6, Why::BadNumber),
+    (b"read p d a 4294967295 1", 6, Why::BadNumber),
+    (b"read p d a 4294967040 256", 6, Why::BadNumber),
+];
+
+// Lines of records, drops and conditions that have no fault.
+const GOOD: [&[u8]; 7] = [
+    b"obj p c S1 0 4\nclient\nwrite p d a 4294967294 =abcd",
+    b"obj p c S1 7 4\nclient\nread p d a 4294967039 256",
+    b"obj p c S1 7 3\nclient\nread p d a 0 341",
+    b"old s c 1\nold t c 1\ndrop s\ndrop t",
+    b"old s c 1\ndrop s\nclient\nat s get o d a",
+    b"client\nmustnot get o d a",
+    b"client\nmustnot punch o",
+];
+
 // Whole texts.
 const WHOLE: [(&[u8], u32, Why); 3] = [
     (
@@ -241,10 +278,21 @@ fn is_script(alloc: Global, text: &[u8], targets: u8) -> bool {
     read_script(alloc, text, targets).is_ok()
 }
 
+// Whether two faults are told alike.
+fn is_told_as(alloc: Global, fault: ScriptFault, wanted: ScriptFault) -> bool {
+    match (
+        status_text(alloc, &Status::Script(fault)),
+        status_text(alloc, &Status::Script(wanted)),
+    ) {
+        (Ok(text), Ok(other)) => text == other,
+        _ => false,
+    }
+}
+
 // Whether a text has this fault.
 fn has_fault(alloc: Global, text: &[u8], targets: u8, line: u32, why: Why) -> bool {
     match read_script(alloc, text, targets) {
-        Err(ScriptNo::Fault(fault)) => fault.line == line && fault.why == why,
+        Err(ScriptNo::Fault(fault)) => is_told_as(alloc, fault, ScriptFault { line, why }),
         _ => false,
     }
 }
@@ -285,6 +333,41 @@ fn tells_faults_before_the_first_client(rt: HostRuntime) -> Result<(), Fail> {
 #[test]
 fn tells_faults_in_lists(rt: HostRuntime) -> Result<(), Fail> {
     tells_faults(&rt, rt.alloc(), LISTS.as_slice())
+}
+
+#[test]
+fn tells_faults_of_records(rt: HostRuntime) -> Result<(), Fail> {
+    let alloc = rt.alloc();
+    let head = joined(alloc, HEAD, b"obj p c S1 7 4\nclient\n")?;
+    for (tail, line, why) in RECORDS {
+        let text = joined(alloc, &head, tail)?;
+        assert!(rt; has_fault(alloc, &text, 2, line, why), "{tail:?}");
+    }
+    Ok(())
+}
+
+#[test]
+fn reads_records_drops_and_conditions(rt: HostRuntime) -> Result<(), Fail> {
+    let alloc = rt.alloc();
+    for tail in GOOD {
+        assert!(rt;
+            is_script(alloc, &joined(alloc, HEAD, tail)?, 2),
+            "{tail:?}"
+        );
+    }
+    Ok(())
+}
+
+#[test]
+fn drops_stand_in_order(rt: HostRuntime) -> Result<(), Fail> {
+    let alloc = rt.alloc();
+    let text = joined(alloc, HEAD, b"old s c 1\nold t c 1\ndrop t\ndrop s\n")?;
+    let script = read_script(alloc, &text, 2)?;
+    let names = script.drops.as_slice();
+    assert_eq!(rt; names.len(), 2);
+    assert_eq!(rt; names[0].bytes(), b"t".as_slice());
+    assert_eq!(rt; names[1].bytes(), b"s".as_slice());
+    Ok(())
 }
 
 #[test]

@@ -8,7 +8,7 @@ use base_types::outcome::{Cause, FloorWhy, Outcome};
 use base_types::path::Path;
 use base_types::report::{Attempt, Line, Report};
 use base_types::script::{ContDecl, ObjDecl, Script};
-use daos_report::text::report_text;
+use report_writer::text::report_text;
 use std::alloc::Global;
 use std::test::Fail;
 
@@ -17,11 +17,13 @@ const CONT: ContId = ContId(1);
 const OBJ: ObjId = ObjId {
     class: Class::S1,
     number: 0,
+    unit: 1,
 };
 
 const OTHER: ObjId = ObjId {
     class: Class::S1,
     number: 1,
+    unit: 1,
 };
 
 fn obj_decl(alloc: Global, name: &[u8], id: ObjId) -> Result<ObjDecl, Fail> {
@@ -47,6 +49,7 @@ fn script(alloc: Global) -> Result<Script, Fail> {
         conts,
         objs,
         olds: Items::new(alloc),
+        drops: Items::new(alloc),
         stops: Items::new(alloc),
         clients: Items::new(alloc),
     })

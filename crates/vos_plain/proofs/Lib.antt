@@ -4,3 +4,5 @@ pub mod Sweeping
 pub mod Prepared
 pub mod Turning
 pub mod Newest
+pub mod Stretches
+pub mod Marking

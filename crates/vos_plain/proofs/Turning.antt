@@ -19,7 +19,7 @@ use Rattle.daos_model.specs.BoolLaws.{not_false, or_other}
 use Rattle.daos_model.specs.Changes.{discarded, is_in_range, pruned}
 use Rattle.daos_model.specs.Durables.{is_floor_in_form, is_stored_why, is_version_in_form, row_of}
 use Rattle.daos_model.specs.FormLaws.{all-find, path-in_form}
-use Rattle.daos_model.specs.Forms.{is_path_in_form}
+use Rattle.daos_model.specs.Forms.{is_path_in_form, is_read_in_form}
 use Rattle.daos_model.specs.Kinds.{is_of_kind}
 use Rattle.daos_model.specs.Prunes.{Partly, is_going, is_staying}
 use Rattle.daos_model.specs.Versions.{first_between, first_blocking, is_between, map_below}
@@ -82,21 +82,21 @@ unfolding discarded
 whole_discard c lo hi d = (filter (λ v. not (is_in_range c lo hi v)) d.versions, all_gone d.versions (is_in_range c lo hi), refl)
 
 -- the answer of a fetch is of its kind
-fetched_kind : (r : Read) (e : Epoch) (d : Durable) → list_all is_version_in_form d.versions ≡ true → IfOk (fetched r e d) (λ a. is_of_kind r a ≡ true)
+fetched_kind : (r : Read) (e : Epoch) (d : Durable) → is_read_in_form r ≡ true → list_all is_version_in_form d.versions ≡ true → IfOk (fetched r e d) (λ a. is_of_kind r a ≡ true)
 unfolding fetched
-fetched_kind r e d f =
+fetched_kind r e d g f =
     elim (is_past (read_path r).cont e d) as (λ (b : Bool). IfOk (if b then Err (fetch.Aggregated (row_of d (read_path r).cont).aggregated (row_of d (read_path r).cont).number) else answer_unless (first_blocking (read_path r) e.0 d.versions) (answer r (map_below d.versions e.0))) (λ a. is_of_kind r a ≡ true)) [
       | true ↦ tt
       | false ↦
           elim (first_blocking (read_path r) e.0 d.versions) as (λ o. IfOk (answer_unless o (answer r (map_below d.versions e.0))) (λ a. is_of_kind r a ≡ true)) [
-            | None ↦ kind-answer r d.versions e.0 f
+            | None ↦ kind-answer r d.versions e.0 g f
             | Some v ↦ tt
           ]
     ]
 
-pub kind_of : (x : Result Answer FetchNo) (r : Read) (e : Epoch) (d : Durable) → list_all is_version_in_form d.versions ≡ true → (says fetch_open x ≡ false → x ≡ fetched r e d) → IfOk x (λ a. is_of_kind r a ≡ true)
-kind_of (Ok a) r e d f h = subst (λ y. IfOk y (λ b. is_of_kind r b ≡ true)) (sym (h refl)) (fetched_kind r e d f)
-kind_of (Err x) r e d f h = tt
+pub kind_of : (x : Result Answer FetchNo) (r : Read) (e : Epoch) (d : Durable) → is_read_in_form r ≡ true → list_all is_version_in_form d.versions ≡ true → (says fetch_open x ≡ false → x ≡ fetched r e d) → IfOk x (λ a. is_of_kind r a ≡ true)
+kind_of (Ok a) r e d g f h = subst (λ y. IfOk y (λ b. is_of_kind r b ≡ true)) (sym (h refl)) (fetched_kind r e d g f)
+kind_of (Err x) r e d g f h = tt
 
 -- what is shown as a later write has a path in form
 pub shown_in_form : (p : Path) (above upto : Epoch) (d : Durable) → list_all is_version_in_form d.versions ≡ true → IfSome (later_write p above upto d) (λ x. is_path_in_form x.path ≡ true)

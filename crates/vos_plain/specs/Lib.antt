@@ -6,3 +6,5 @@ pub mod Newest
 pub mod Trips
 pub mod Plain
 pub mod Laws
+pub mod Layers
+pub mod Marks

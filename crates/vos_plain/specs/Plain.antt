@@ -1,5 +1,5 @@
 -- What a store over lists says of itself.
-use Rattle.std.specs.Prelude.{ℕ, false, true}
+use Rattle.std.specs.Prelude.{ℕ, Bool, false, true}
 use Rattle.base_types.specs.declared.outcome.FloorWhy.TheVariants.{Opening}
 use Rattle.daos_model.specs.declared.durable.Durable.{Durable}
 use Rattle.vos_store.specs.Calls.{State}
@@ -16,13 +16,26 @@ plain_state s = record {
   stopped = (signs_of s.trips).stopped;
   faults = (signs_of s.trips).faults;
   burns = (signs_of s.trips).burns;
+  may_fail = (signs_of s.trips).may_fail;
   fused = (signs_of s.trips).fused;
   tells_fuse = true;
+  left = (signs_of s.trips).left;
   free = free_of s.contents;
   targets = 64;
   opening = (s.floor, s.why);
 }
 
 -- a new one runs, and no fuse is set
-abbrev pub new_state : ℕ → State
-new_state free = record { stopped = false; faults = 0; burns = 0; fused = false; tells_fuse = true; free = free; targets = 64; opening = (record { 0 = 0 }, Opening) }
+abbrev pub new_state : Bool → ℕ → State
+new_state may_fail free = record {
+  stopped = false;
+  faults = 0;
+  burns = 0;
+  may_fail = may_fail;
+  fused = false;
+  tells_fuse = true;
+  left = 0;
+  free = free;
+  targets = 64;
+  opening = (record { 0 = 0 }, Opening);
+}

@@ -1,5 +1,5 @@
 -- What becomes of a change that may stop a store over lists.
-use Rattle.std.specs.Prelude.{◌≡◌, ◌≤◌, ◌⊎◌, ◌%◌, ◌==◌, ℕ, Bool, true, false, nat_lt, if◌then◌else◌}
+use Rattle.std.specs.Prelude.{◌≡◌, ◌≢◌, ◌≤◌, ◌⊎◌, ◌-◌, ◌%◌, ◌==◌, ◌||◌, ℕ, Bool, true, false, List, [], ◌∷◌, nat_lt, if◌then◌else◌}
 use Rattle.std.specs.List.{list_any}
 use Rattle.daos_outside.specs.Causes.{Rose, one_more}
 use Rattle.vos_plain.specs.declared.trips.Strike.{Strike}
@@ -13,29 +13,70 @@ is_number number planned = planned == number
 abbrev pub stop_of : ℕ → Strike
 stop_of number = if number % 2 == 0 then StopAfter else StopBefore
 
--- a change stops the store where its number, counted from 1, is in the plan, and where it is the last that the fuse leaves
-abbrev pub strike_of : Trips → Strike
-strike_of t = if list_any (is_number (one_more t.count)) t.plan.items then stop_of (one_more t.count) else if t.left == 1 then stop_of t.fuse else Made
+-- the number of the next change, counted from 1, is in the plan
+abbrev pub is_planned : Trips → Bool
+is_planned t = list_any (is_number (one_more t.count)) t.plan.items
 
--- whether the store is stopped, its counts, and whether a fuse is set
+-- a change stops the store where its number is in the plan, and where it is the last that the fuse leaves
+abbrev pub strike_of : Trips → Strike
+strike_of t = if is_planned t then stop_of (one_more t.count) else if t.left == 1 then stop_of t.fuse else Made
+
+abbrev pub one_more_if : Bool → ℕ → ℕ
+one_more_if b n = if b then one_more n else n
+
+-- what the change leaves: it is counted, the fuse has one less, and what stopped the store is counted
+abbrev pub struck : Trips → Trips
+struck t = record t {
+  count = one_more t.count;
+  left = t.left - 1;
+  faults = one_more_if (is_planned t) t.faults;
+  burns = one_more_if (t.left == 1) t.burns;
+  stopped = is_planned t || t.left == 1;
+}
+
+abbrev pub has_some : List ℕ → Bool
+has_some [] = false
+has_some (n ∷ ns) = true
+
+-- whether the store is stopped, its counts, whether a plan may stop it, whether a fuse is set, and the changes that the
+-- fuse leaves
 pub record Signs : Type 0 where
   pub stopped : Bool
   pub faults : ℕ
   pub burns : ℕ
+  pub may_fail : Bool
   pub fused : Bool
+  pub left : ℕ
 
 abbrev pub signs_of : Trips → Signs
-signs_of t = record { stopped = t.stopped; faults = t.faults; burns = t.burns; fused = nat_lt 0 t.left }
+signs_of t = record {
+  stopped = t.stopped;
+  faults = t.faults;
+  burns = t.burns;
+  may_fail = has_some t.plan.items;
+  fused = nat_lt 0 t.left;
+  left = t.left;
+}
+
+-- the store runs on, and its fuse has one change less
+pub record Goes (h k : Signs) : Type 0 where
+  pub signs : k ≡ record h { left = h.left - 1 }
+  pub later : h.left ≢ 1
 
 -- the store is stopped by the plan or by the fuse
 pub record Fell (h k : Signs) : Type 0 where
   pub stopped : k.stopped ≡ true
   pub faults : h.faults ≤ k.faults
   pub burns : h.burns ≤ k.burns
+  pub may_fail : k.may_fail ≡ h.may_fail
+  pub sure : h.may_fail ≡ false → k.faults ≡ h.faults
+  pub able : h.may_fail ≡ false → h.fused ≡ false → ⊥
   pub ailed : Rose h.faults k.faults ⊎ (Rose h.burns k.burns × (h.fused ≡ true) × (k.fused ≡ false))
   pub fuse : ((k.burns ≡ h.burns) × (k.fused ≡ h.fused)) ⊎ ((h.fused ≡ true) × (k.fused ≡ false))
+  pub left : k.left ≡ h.left - 1
+  pub burnt : h.left ≡ 1 → Rose h.burns k.burns
 
 abbrev pub Struck : Strike → Signs → Signs → Type 0
-Struck Made h k = k ≡ h
+Struck Made h k = Goes h k
 Struck StopBefore h k = Fell h k
 Struck StopAfter h k = Fell h k

@@ -8,9 +8,10 @@ ghost use Rattle.daos_model.specs.Versions.{map_below};
 ghost use Rattle.vos_store.specs.Answers.{shown_or_none};
 
 use crate::contents::Contents;
+use crate::objects::objects_of;
 use crate::reads::answer_below;
 use crate::rows::{blocks_of, first_between, first_blocking, first_open_in};
-use crate::tables::{copied, has_snap, new_row, row_of};
+use crate::tables::{conts_of, copied, has_snap, new_row, row_of};
 use base_types::answer::Answer;
 use base_types::entry::{Entries, Entry};
 use base_types::epoch::Epoch;
@@ -22,6 +23,7 @@ use base_types::shown::Shown;
 use base_types::snapshot::Snaps;
 use daos_model::durable::{ContRow, Version};
 use std::alloc::Global;
+use vos_store::listed::{ContIds, ObjIds};
 use vos_store::refusal::{DiscardNo, FetchNo, FreezeNo};
 
 // A version as it is shown.
@@ -71,7 +73,7 @@ fn answered(alloc: Global, rows: &[Version], read: &Read, below: Epoch) -> Resul
 impl Contents {
     ghost use Rattle.std.specs.Prelude.{◌<◌, false, OnOk};
     ghost use Rattle.daos_model.specs.Durables.{is_frozen, row_of};
-    ghost use Rattle.vos_store.specs.Answers.{discards, fetched, freezes, is_past, later_write};
+    ghost use Rattle.vos_store.specs.Answers.{discards, enlisted_in, fetched, freezes, is_past, later_write, objects_in};
     ghost use Rattle.vos_store.specs.Refusals.{discard_stop, fetch_open, fetch_stop, freeze_stop, says};
     ghost use Rattle.base_types.specs.Epochs.{restart_floor};
     ghost use Rattle.vos_plain.specs.Contents.{contents_of, free_of};
@@ -164,6 +166,20 @@ impl Contents {
         ensures { IfOk result (λ entries. entries ≡ (contents_of self.now).entries) }
     {
         Ok(Items::from_vec(copied(self.alloc, &self.entries)?))
+    }
+
+    /// The objects of a container that have a version.
+    pub fn objects(&self, cont: ContId) -> Result<ObjIds, Memory>
+        ensures { IfOk result (λ objects. objects ≡ objects_in cont (contents_of self.now)) }
+    {
+        Ok(Items::from_vec(objects_of(self.alloc, &self.rows, cont)?))
+    }
+
+    /// The containers that are enlisted.
+    pub fn enlisted(&self) -> Result<ContIds, Memory>
+        ensures { IfOk result (λ conts. conts ≡ enlisted_in (contents_of self.now)) }
+    {
+        Ok(Items::from_vec(conts_of(self.alloc, &self.conts)?))
     }
 
     /// The snapshots.

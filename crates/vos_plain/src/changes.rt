@@ -1,6 +1,6 @@
 // The changes of what a store over lists keeps.
 use crate::contents::Contents;
-use crate::keyed::put_in;
+use crate::keyed::{put_in, put_late};
 use crate::rows::{put_all, settle_all, versions_in_form};
 use crate::sweeps::{mark_going, remove_entry, remove_pending, remove_range, remove_snap, sweep};
 use crate::tables::{commit, confirm, create, has_snap, mark, raise, with_conts};
@@ -17,7 +17,7 @@ use std::alloc::Global;
 use vos_store::refusal::EnlistNo;
 
 impl Contents {
-    ghost use Rattle.std.specs.Prelude.{◌≡◌, ◌+◌, ◌*◌, ◌^◌, ◌<◌, ◌≤◌, true, false, None, IfOk, IsErr, OnOk, length, vec_len, vec_capacity};
+    ghost use Rattle.std.specs.Prelude.{◌≡◌, ◌+◌, ◌*◌, ◌^◌, ◌<◌, ◌≤◌, true, false, None, IfErr, IfOk, IsErr, OnOk, length, vec_len, vec_capacity};
     ghost use Rattle.std.specs.List.{list_all};
     ghost use Rattle.base_types.specs.declared.entry.Settle.{Settle};
     ghost use Rattle.daos_model.specs.Changes.{created, discarded, enlisted, frozen, leased, pruned, reopened, settled, thawed};
@@ -25,7 +25,7 @@ impl Contents {
     ghost use Rattle.daos_model.specs.Blocks.{blocks};
     ghost use Rattle.daos_model.specs.Forms.{AreWritesInForm};
     ghost use Rattle.daos_model.specs.Versions.{versions_of};
-    ghost use Rattle.vos_store.specs.Answers.{enlists};
+    ghost use Rattle.vos_store.specs.Answers.{IsManyShown, enlists};
     ghost use Rattle.vos_store.specs.Calls.{going_count};
     ghost use Rattle.vos_store.specs.Conditions.{IsStep};
     ghost use Rattle.vos_store.specs.Refusals.{enlist_open, enlist_stop, says};
@@ -60,6 +60,7 @@ impl Contents {
     pub fn enlist(&mut self, conts: &[ContId]) -> Result<(), EnlistNo>
         ensures answer { says enlist_open result ≡ false → result ≡ enlists conts.now (contents_of self.old) }
         ensures runs { says enlist_stop result ≡ false }
+        ensures many { IfErr result IsManyShown }
         ensures kept { OnOk result (contents_of self.new ≡ enlisted conts.now (contents_of self.old)) }
         ensures refused { IsErr result → contents_of self.new ≡ contents_of self.old }
         ensures free { free_of self.new ≡ free_of self.old }
@@ -112,7 +113,7 @@ impl Contents {
         ensures lease { self.new.lease ≡ self.old.lease }
     {
         put_all(&mut self.rows, rows);
-        put_in(&mut self.entries, entry);
+        put_late(&mut self.entries, entry);
     }
 
     // Makes an attempt's versions done and its entry committed.

@@ -5,9 +5,11 @@ ghost use Rattle.vos_store.specs.Answers.{later_floor};
 ghost use Rattle.vos_plain.specs.Contents.{contents_of};
 ghost use Rattle.vos_plain.specs.Laws.{plain_formed, plain_steady};
 ghost use Rattle.vos_plain.specs.Plain.{new_state, plain_durable, plain_state};
+ghost use Rattle.vos_plain.specs.Trips.{has_some};
 
 use crate::contents::Contents;
 use crate::store::PlainStore;
+use crate::tables::copied;
 use crate::trips::{Strike, Trips};
 use base_types::answer::Answer;
 use base_types::entry::{Entries, Entry, Settle};
@@ -22,6 +24,7 @@ use base_types::snapshot::Snaps;
 use daos_model::blocks::blocks;
 use daos_model::durable::ContRow;
 use std::alloc::Global;
+use vos_store::listed::{ContIds, ObjIds};
 use vos_store::refusal::{
     DiscardNo, EnlistNo, FetchNo, FreezeNo, LaterNo, PrepareNo, ReopenNo, Stopped,
 };
@@ -233,6 +236,20 @@ impl Store for PlainStore {
         }
     }
 
+    fn objects(&mut self, cont: ContId) -> Result<ObjIds, LaterNo> {
+        if self.trips.stopped {
+            return Err(LaterNo::Stopped);
+        }
+        match self.contents.objects(cont) {
+            Ok(objects) => Ok(objects),
+            Err(_) => Err(LaterNo::Memory),
+        }
+    }
+
+    fn conts(&self) -> Result<ContIds, Memory> {
+        self.contents.enlisted()
+    }
+
     fn floor(&self, cont: ContId) -> (Epoch, FloorWhy) {
         later_floor(self.floor, self.why, self.contents.row(cont))
     }
@@ -275,6 +292,8 @@ impl Store for PlainStore {
 
     ghost steady = { λ s d x runs is m. plain_steady d x (contents_of s.contents) is m };
 
+    ghost findable = { λ s tells. (plain_durable s, refl) };
+
     ghost alike = { λ s t tells. refl };
 
     ghost formed = { λ s runs d is. plain_formed (contents_of s.contents) d s.contents.formed is };
@@ -290,20 +309,16 @@ impl PlainStore {
     /// An empty store of so many MiB, from 2 to 32, which stops at the changes of the plan: the
     /// calls of `prepare`, `settle`, `extend_lease`, `freeze`, `create`, `thaw`, `prune` and
     /// `discard` that aren't refused are numbered from 1, and a change that stops it is made where
-    /// its number is even. Its incarnation is 1.
+    /// its number is even. With an empty plan nothing but a fuse stops it. Its incarnation is 1.
     pub fn new(alloc: Global, size_mib: u8, plan: &[u32]) -> Result<PlainStore, Memory>
         requires least { 2 ≤ size_mib }
         requires most { size_mib ≤ 32 }
         ensures durable { IfOk result (λ s. plain_durable s ≡ empty_durable 1) }
-        ensures state { IfOk result (λ s. plain_state s ≡ new_state (size_mib * 4096 - 1264)) }
+        ensures state { IfOk result (λ s. plain_state s ≡ new_state (has_some plan.now) (size_mib * 4096 - 1264)) }
     {
-        let mut numbers = Vec::with_capacity(alloc, plan.len())?;
-        for number in plan {
-            numbers.push(*number)?;
-        }
         Ok(PlainStore {
             contents: Contents::new(alloc, u32::from(size_mib) * 4096 - 1264)?,
-            trips: Trips::new(numbers),
+            trips: Trips::new(copied(alloc, plan)?),
             floor: Epoch(0),
             why: FloorWhy::Opening,
         })

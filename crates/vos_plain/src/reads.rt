@@ -8,15 +8,15 @@ ghost use Rattle.daos_model.specs.Durables.{is_version_in_form};
 ghost use Rattle.daos_model.specs.Versions.{map_below};
 ghost use Rattle.vos_plain.specs.Newest.{says_at, single_of};
 
+use crate::layers::pieces_below;
+use crate::marks::marks_below;
 use base_types::answer::Answer;
 use base_types::epoch::Epoch;
-use base_types::items::Memory;
+use base_types::items::{Items, Memory};
 use base_types::operation::{Read, Write};
 use base_types::path::Path;
 use daos_model::answers::answer_of;
 use daos_model::durable::Version;
-use daos_model::effect::apply_write;
-use daos_model::map::Map;
 use daos_model::prunes::{is_seen, touches};
 use std::alloc::Global;
 
@@ -47,23 +47,9 @@ fn single_answer(newest: Option<&Version>) -> Result<Answer, Memory>
     }
 }
 
-// The map below an epoch.
-#[tactic(auto, unfolding(daos_model::specs::Versions::map_below))]
-fn map_below(alloc: Global, rows: &[Version], below: Epoch) -> Result<Map, Memory>
-    requires { list_all is_version_in_form rows.now ≡ true }
-    ensures { IfOk result (λ map. map ≡ map_below rows.now below.0) }
-{
-    let mut map = Map::new(alloc);
-    for row in rows {
-        if is_seen(row, u128::from(below.0)) {
-            apply_write(&mut map, &row.write)?;
-        }
-    }
-    Ok(map)
-}
-
-/// What a read is answered on the map below an epoch. A single value is sought from the newest
-/// version on.
+/// What a read is answered on the map below an epoch. No map is made of its cells: a single value
+/// is that of the newest version that says it, an array's pieces are those of its extents, and names
+/// go by one mark for each update.
 pub fn answer_below(
     alloc: Global,
     rows: &[Version],
@@ -75,6 +61,13 @@ pub fn answer_below(
 {
     match read {
         Read::Single(path) => single_answer(newest(rows, path, below)),
-        _ => answer_of(alloc, &map_below(alloc, rows, below)?, read),
+        Read::Extent(path, low, len) => {
+            let pieces = pieces_below(alloc, rows, path, *low, *len, below)?;
+            Ok(Answer::Parts(Items::from_vec(pieces)))
+        }
+        Read::Dkeys(_) | Read::Akeys(_) | Read::Exists(_) => {
+            let marks = marks_below(alloc, rows, read.path(), below)?;
+            answer_of(alloc, &marks, read)
+        }
     }
 }

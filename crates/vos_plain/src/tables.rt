@@ -4,6 +4,7 @@ ghost use Rattle.std.specs.List.{list_any};
 ghost use Rattle.std.specs.Option.{option_copied};
 ghost use Rattle.base_types.specs.declared.outcome.FloorWhy.{FloorWhy};
 ghost use Rattle.daos_model.specs.Changes.{aggregated_to, committed_at, confirmed_at, created_at, marked_at, raised, raised_at, with_cont, with_conts};
+ghost use Rattle.vos_store.specs.Answers.{row_cont};
 ghost use Rattle.daos_model.specs.Durables.{is_entry_of, is_row_of, is_snap_at, new_row};
 
 use crate::keyed::put_in;
@@ -194,6 +195,13 @@ pub fn with_conts(alloc: Global, rows: &[ContRow], conts: &[ContId]) -> Result<V
         add_cont(&mut all, *cont)?;
     }
     Ok(all)
+}
+
+/// The containers of rows.
+pub fn conts_of(alloc: Global, rows: &[ContRow]) -> Result<Vec<ContId>, Memory>
+    ensures { IfOk result (λ conts. conts.items ≡ map row_cont rows.now) }
+{
+    rows.iter().map(|row| row.cont).collect(alloc)
 }
 
 /// The same rows again.

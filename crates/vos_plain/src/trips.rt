@@ -1,7 +1,7 @@
 // Which changes of a store over lists stop it.
 ghost use Rattle.std.specs.Prelude.{◌≡◌, false, nat_lt};
 ghost use Rattle.std.specs.List.{list_any};
-ghost use Rattle.vos_plain.specs.Trips.{Struck, is_number, signs_of, stop_of, strike_of};
+ghost use Rattle.vos_plain.specs.Trips.{Struck, has_some, is_number, signs_of, stop_of, strike_of, struck};
 
 /// What becomes of a change.
 #[derive(Clone, Copy)]
@@ -49,7 +49,8 @@ fn stop_at(number: u64) -> Strike
 impl Trips {
     /// No change was made yet, and no fuse is set.
     pub fn new(plan: Vec<u32>) -> Trips
-        ensures { signs_of result ≡ record { stopped = false; faults = 0; burns = 0; fused = false } }
+        ensures left { result ≡ record { plan = plan; count = 0; fuse = 0; left = 0; faults = 0; burns = 0; stopped = false } }
+        ensures signs { signs_of result ≡ record { stopped = false; faults = 0; burns = 0; may_fail = has_some plan.items; fused = false; left = 0 } }
     {
         Trips {
             plan,
@@ -64,7 +65,8 @@ impl Trips {
 
     /// Sets a fuse, or none.
     pub fn set(&mut self, k: u32)
-        ensures { signs_of self.new ≡ record (signs_of self.old) { fused = nat_lt 0 k } }
+        ensures left { self.new ≡ record self.old { fuse = k; left = k } }
+        ensures signs { signs_of self.new ≡ record (signs_of self.old) { fused = nat_lt 0 k; left = k } }
     {
         self.fuse = k;
         self.left = k;
@@ -76,6 +78,7 @@ impl Trips {
     pub fn strike(&mut self) -> Strike
         requires { self.old.stopped ≡ false }
         ensures which { result ≡ strike_of self.old }
+        ensures left { self.new ≡ struck self.old }
         ensures signs { Struck result (signs_of self.old) (signs_of self.new) }
     {
         self.count = self.count.saturating_add(1);

@@ -1,17 +1,19 @@
 -- What the calls of a store answer of what it keeps, and where they refuse.
-use Rattle.std.specs.Prelude.{◌≡◌, ◌<◌, ◌⊎◌, ℕ, Bool, true, ◌&&◌, not, nat_lt, nat_le, find, length, List, Option, Some, None, Result, Ok, Err, if◌then◌else◌}
+use Rattle.std.specs.Prelude.{◌≡◌, ◌<◌, ◌⊎◌, ℕ, Bool, true, ◌&&◌, ◌==◌, not, nat_lt, nat_le, find, length, map, List, [], ◌∷◌, Option, Some, None, Result, Ok, Err, if◌then◌else◌}
 use Rattle.base_types.specs.declared.answer.Answer.{Answer}
 use Rattle.base_types.specs.declared.epoch.Epoch.{Epoch}
 use Rattle.base_types.specs.declared.id.ContId.{ContId}
+use Rattle.base_types.specs.declared.id.ObjId.{ObjId}
 use Rattle.base_types.specs.declared.operation.Read.{Read}
 use Rattle.base_types.specs.declared.outcome.FloorWhy.{FloorWhy}
 use Rattle.base_types.specs.declared.path.Path.{Path}
 use Rattle.base_types.specs.declared.shown.Shown.{Shown}
 use Rattle.base_types.specs.Operations.{read_path}
+use Rattle.base_types.specs.Paths.{class_number}
 use Rattle.daos_model.specs.declared.durable.ContRow.{ContRow}
 use Rattle.daos_model.specs.declared.durable.Durable.{Durable}
 use Rattle.daos_model.specs.declared.durable.Version.{Version}
-use Rattle.daos_model.specs.Answers.{answer}
+use Rattle.daos_model.specs.Answers.{answer, is_before}
 use Rattle.daos_model.specs.Changes.{enlisted, is_in_range}
 use Rattle.daos_model.specs.Durables.{is_frozen, is_stored_why, row_of}
 use Rattle.daos_model.specs.Versions.{first_between, first_blocking, map_below, version_path}
@@ -41,6 +43,12 @@ IsFloorShown opening shown = (shown ≡ opening) ⊎ (is_stored_why shown.1 ≡ 
 -- containers are too many where with those that are there they are more than 256
 unfoldable pub enlists : List ContId → Durable → Result (Unit {0}) EnlistNo
 enlists cs d = if nat_lt 256 (length (enlisted cs d).conts) then Err (enlist.TooMany (length (enlisted cs d).conts)) else Ok tt
+
+-- the number of containers together that a refusal shows is more than 256, also of a store that tells nothing
+abbrev pub IsManyShown : EnlistNo → Type 0
+IsManyShown enlist.Stopped = Unit {0}
+IsManyShown (enlist.TooMany together) = 256 < together
+IsManyShown enlist.Memory = Unit {0}
 
 -- writes have no space where fewer blocks are free than they may take
 abbrev pub PrepareWhy : ℕ → ℕ → PrepareNo → Type 0
@@ -93,3 +101,35 @@ shown_or_none (Some v) = Some (shown_version v)
 -- the write on a path, above one epoch and up to another, that is shown: of the least epoch, and then of the least number
 unfoldable pub later_write : Path → Epoch → Epoch → Durable → Option Shown
 later_write p above upto d = shown_or_none (first_between p above.0 upto.0 d.versions)
+
+abbrev pub row_cont : ContRow → ContId
+row_cont r = r.cont
+
+-- the containers that are enlisted, in order
+abbrev pub enlisted_in : Durable → List ContId
+enlisted_in d = map row_cont d.conts
+
+-- the order of the objects of a container: by class, number and record size
+abbrev pub obj_key : ObjId → List ℕ
+obj_key o = class_number o.class ∷ o.number ∷ o.unit ∷ []
+
+-- an object among objects in order, each once
+abbrev pub obj_among : ObjId → List ObjId → List ObjId
+obj_among o [] = o ∷ []
+obj_among o (n ∷ os) =
+    if is_before (obj_key o) (obj_key n) then o ∷ n ∷ os
+    else if is_before (obj_key n) (obj_key o) then n ∷ obj_among o os
+    else n ∷ os
+
+-- the object of a path of the container, if it names one, among objects in order
+abbrev pub named_among : ContId → ContId → Option ObjId → List ObjId → List ObjId
+named_among c at None os = os
+named_among c at (Some o) os = if at.0 == c.0 then obj_among o os else os
+
+abbrev pub objects_of : ContId → List Version → List ObjId
+objects_of c [] = []
+objects_of c (v ∷ vs) = named_among c (version_path v).cont (version_path v).obj (objects_of c vs)
+
+-- the objects of a container that have a version, settled or not, each once and in order
+abbrev pub objects_in : ContId → Durable → List ObjId
+objects_in c d = objects_of c d.versions

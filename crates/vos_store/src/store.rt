@@ -1,5 +1,5 @@
 // The trait of a target's store.
-ghost use Rattle.std.specs.Prelude.{◌≡◌, ◌≤◌, ◌+◌, ◌^◌, ◌<◌, true, false, Option, Some, Ok, IfOk, OnOk, IsSome, IfSome, MatchResult, is_some};
+ghost use Rattle.std.specs.Prelude.{◌≡◌, ◌≤◌, ◌+◌, ◌^◌, ◌<◌, true, false, Option, Some, Ok, IfErr, IfOk, OnOk, IsSome, IfSome, MatchResult, is_some};
 ghost use Rattle.std.specs.Option.{ForSome};
 ghost use Rattle.base_types.specs.Epochs.{restart_floor};
 ghost use Rattle.base_types.specs.Operations.{read_path};
@@ -10,11 +10,12 @@ ghost use Rattle.daos_model.specs.Changes.{created, discarded, enlisted, frozen,
 ghost use Rattle.daos_model.specs.Durables.{IsInForm, is_enlisted, is_frozen, row_of};
 ghost use Rattle.daos_model.specs.Forms.{is_path_in_form, is_read_in_form};
 ghost use Rattle.daos_model.specs.Kinds.{is_of_kind};
-ghost use Rattle.vos_store.specs.Answers.{IsFloorShown, PrepareWhy, discards, enlists, fetched, floor_of, freezes, later_write};
-ghost use Rattle.vos_store.specs.Calls.{Answers, CutDiscard, CutPrune, Finds, IfRunning, Looks, Makes, MakesPartly, Opens, SetsFuse, State, Turns, going_count};
+ghost use Rattle.vos_store.specs.Answers.{IsFloorShown, IsManyShown, PrepareWhy, discards, enlisted_in, enlists, fetched, floor_of, freezes, later_write, objects_in};
+ghost use Rattle.vos_store.specs.Calls.{Answers, CutDiscard, CutPrune, Finds, IfRunning, Looks, Makes, MakesPartly, Opens, SetsFuse, State, Turns, UsesFuse, going_count};
 ghost use Rattle.vos_store.specs.Conditions.{CanFreeze, CanPrepare, CanPrune, CanSettle, IsPreparable, IsStep};
 ghost use Rattle.vos_store.specs.Refusals.{always_stop, discard_open, discard_stop, enlist_open, enlist_stop, fetch_open, fetch_stop, freeze_stop, later_open, later_stop, prepare_stop, reopen_foreign, says};
 
+use crate::listed::{ContIds, ObjIds};
 use crate::refusal::{
     DiscardNo, EnlistNo, FetchNo, FreezeNo, LaterNo, PrepareNo, ReopenNo, Stopped,
 };
@@ -33,7 +34,8 @@ use base_types::snapshot::Snaps;
 /// snapshots, a lease and an incarnation.
 ///
 /// A call answers `Stopped` where the store is stopped, and else only where `faults` or `burnt` rose
-/// in it. The store is then stopped, until `reopen` answers Ok; a new one isn't. Every other refusal
+/// in it. The store is then stopped, until `reopen` answers Ok; a new one isn't. A store that the
+/// outside can't fail, and that has no fuse, is never stopped by a call. Every other refusal
 /// yields to `Stopped`, and a call that may answer want of memory may do so in place of any other
 /// answer. After a refusal other than `Stopped` the store is as before.
 ///
@@ -49,18 +51,23 @@ pub trait Store {
     /// What the next opening may find.
     ghost may: { Self → Durable → Type 0 };
 
-    /// What it says of itself: whether it is stopped, its counts, its fuse, its free blocks, the
-    /// number of targets that it was made for, and the floor of its last opening.
+    /// What it says of itself: whether it is stopped, its counts, whether the outside may fail it, its
+    /// fuse, its free blocks, the number of targets that it was made for, and the floor of its last
+    /// opening.
     ghost state: { Self → State };
 
     /// Adds the containers that aren't there.
     ///
     /// # Errors
     ///
-    /// `TooMany` exactly where the containers together are more than 256, and shows their number.
+    /// `TooMany` exactly where the containers together are more than 256, and shows their number,
+    /// which is more than 256 also where nothing is told.
     fn enlist(&mut self, conts: &[ContId]) -> Result<(), EnlistNo>
         ensures call { Turns 0 enlist_stop result (state self.old) (state self.new) }
+        ensures free { (state self.new).free ≡ (state self.old).free }
+        ensures fuse { (state self.new).left ≡ (state self.old).left }
         ensures answer { Answers enlist_open result (enlists conts.now) (durable self.old) }
+        ensures many { IfErr result IsManyShown }
         ensures kept { Makes (state self.old).stopped enlist_stop (enlisted conts.now) result
             (durable self.old) (durable self.new) (may self.old) (may self.new) };
 
@@ -73,6 +80,7 @@ pub trait Store {
         requires form { IsPreparable (state self.old) entry.now writes.now }
         requires here { IfRunning (state self.old) (ForSome (durable self.old) (CanPrepare (state self.old) entry.now writes.now)) }
         ensures call { Turns (blocks writes.now) prepare_stop result (state self.old) (state self.new) }
+        ensures fuse { UsesFuse prepare_stop result (state self.old) (state self.new) }
         ensures space { MatchResult result (λ _. blocks writes.now ≤ (state self.old).free)
             (PrepareWhy (blocks writes.now) (state self.old).free) }
         ensures kept { Makes (state self.old).stopped prepare_stop (prepared entry.now writes.now) result
@@ -84,6 +92,7 @@ pub trait Store {
         requires form { IsStep step }
         requires here { IfRunning (state self.old) (ForSome (durable self.old) (CanSettle attempt step)) }
         ensures call { Turns 0 always_stop result (state self.old) (state self.new) }
+        ensures fuse { UsesFuse always_stop result (state self.old) (state self.new) }
         ensures kept { Makes (state self.old).stopped always_stop (settled attempt step) result
             (durable self.old) (durable self.new) (may self.old) (may self.new) };
 
@@ -92,6 +101,8 @@ pub trait Store {
         requires last { ticks < 2 ^ 56 }
         requires on { IfRunning (state self.old) (ForSome (durable self.old) (λ d. d.lease ≤ ticks)) }
         ensures call { Turns 0 always_stop result (state self.old) (state self.new) }
+        ensures fuse { UsesFuse always_stop result (state self.old) (state self.new) }
+        ensures free { (state self.new).free ≡ (state self.old).free }
         ensures kept { Makes (state self.old).stopped always_stop (leased ticks) result
             (durable self.old) (durable self.new) (may self.old) (may self.new) };
 
@@ -106,6 +117,8 @@ pub trait Store {
     fn freeze(&mut self, cont: ContId, s: Epoch) -> Result<(), FreezeNo>
         requires { IfRunning (state self.old) (ForSome (durable self.old) (CanFreeze cont s)) }
         ensures call { Turns 0 freeze_stop result (state self.old) (state self.new) }
+        ensures fuse { UsesFuse freeze_stop result (state self.old) (state self.new) }
+        ensures free { (state self.new).free ≡ (state self.old).free }
         ensures answer { Answers freeze_stop result (freezes cont s) (durable self.old) }
         ensures kept { Makes (state self.old).stopped freeze_stop (frozen cont s) result
             (durable self.old) (durable self.new) (may self.old) (may self.new) };
@@ -114,6 +127,8 @@ pub trait Store {
     fn create(&mut self, cont: ContId, s: Epoch) -> Result<(), Stopped>
         requires { IfRunning (state self.old) (ForSome (durable self.old) (λ d. is_frozen d cont s ≡ true)) }
         ensures call { Turns 0 always_stop result (state self.old) (state self.new) }
+        ensures fuse { UsesFuse always_stop result (state self.old) (state self.new) }
+        ensures free { (state self.new).free ≡ (state self.old).free }
         ensures kept { Makes (state self.old).stopped always_stop (created cont s) result
             (durable self.old) (durable self.new) (may self.old) (may self.new) };
 
@@ -121,6 +136,8 @@ pub trait Store {
     fn thaw(&mut self, cont: ContId, s: Epoch) -> Result<(), Stopped>
         requires { IfRunning (state self.old) (ForSome (durable self.old) (λ d. is_frozen d cont s ≡ true)) }
         ensures call { Turns 0 always_stop result (state self.old) (state self.new) }
+        ensures fuse { UsesFuse always_stop result (state self.old) (state self.new) }
+        ensures free { (state self.new).free ≡ (state self.old).free }
         ensures kept { Makes (state self.old).stopped always_stop (thawed cont s) result
             (durable self.old) (durable self.new) (may self.old) (may self.new) };
 
@@ -130,6 +147,7 @@ pub trait Store {
     fn prune(&mut self, cont: ContId, upto: Epoch, number: u32) -> Result<(), Stopped>
         requires { IfRunning (state self.old) (ForSome (durable self.old) (CanPrune cont upto)) }
         ensures call { Turns 0 always_stop result (state self.old) (state self.new) }
+        ensures fuse { UsesFuse always_stop result (state self.old) (state self.new) }
         ensures space { OnOk result (ForSome (durable self.old) (λ d.
             (state self.old).free + going_count cont upto d ≤ (state self.new).free)) }
         ensures kept { MakesPartly (state self.old).stopped always_stop (pruned cont upto number)
@@ -145,6 +163,7 @@ pub trait Store {
     fn discard(&mut self, cont: ContId, lo: Epoch, hi: Epoch) -> Result<(), DiscardNo>
         requires { IfRunning (state self.old) (ForSome (durable self.old) (λ d. is_enlisted d cont ≡ true)) }
         ensures call { Turns 0 discard_stop result (state self.old) (state self.new) }
+        ensures fuse { UsesFuse discard_stop result (state self.old) (state self.new) }
         ensures answer { Answers discard_open result (discards cont lo hi) (durable self.old) }
         ensures kept { MakesPartly (state self.old).stopped discard_stop (discarded cont lo hi)
             (CutDiscard cont lo hi) result
@@ -164,6 +183,7 @@ pub trait Store {
         requires enlisted { IfRunning (state self.old) (ForSome (durable self.old) (λ d. is_enlisted d (read_path read.now).cont ≡ true)) }
         ensures call { Turns 0 fetch_stop result (state self.old) (state self.new) }
         ensures free { (state self.new).free ≡ (state self.old).free }
+        ensures fuse { (state self.new).left ≡ (state self.old).left }
         ensures answer { Answers fetch_open result (fetched read.now below) (durable self.old) }
         ensures kind { IfOk result (λ answer. is_of_kind read.now answer ≡ true) }
         ensures kept { Looks (says fetch_stop result) (durable self.old) (durable self.new)
@@ -182,6 +202,7 @@ pub trait Store {
         requires enlisted { IfRunning (state self.old) (ForSome (durable self.old) (λ d. is_enlisted d path.now.cont ≡ true)) }
         ensures call { Turns 0 later_stop result (state self.old) (state self.new) }
         ensures free { (state self.new).free ≡ (state self.old).free }
+        ensures fuse { (state self.new).left ≡ (state self.old).left }
         ensures answer { Answers later_open result (λ d. Ok (later_write path.now above upto d)) (durable self.old) }
         ensures shown { IfOk result (λ shown. IfSome shown (λ x. is_path_in_form x.path ≡ true)) }
         ensures kept { Looks (says later_stop result) (durable self.old) (durable self.new)
@@ -191,9 +212,26 @@ pub trait Store {
     fn entries(&mut self) -> Result<Entries, LaterNo>
         ensures call { Turns 0 later_stop result (state self.old) (state self.new) }
         ensures free { (state self.new).free ≡ (state self.old).free }
+        ensures fuse { (state self.new).left ≡ (state self.old).left }
         ensures answer { ForSome (durable self.old) (λ d. IfOk result (λ entries. entries ≡ d.entries)) }
         ensures kept { Looks (says later_stop result) (durable self.old) (durable self.new)
             (may self.old) (may self.new) };
+
+    /// The objects of a container that have a version here, settled or not, each once, in the order
+    /// of class, number and record size.
+    fn objects(&mut self, cont: ContId) -> Result<ObjIds, LaterNo>
+        requires enlisted { IfRunning (state self.old) (ForSome (durable self.old) (λ d. is_enlisted d cont ≡ true)) }
+        ensures call { Turns 0 later_stop result (state self.old) (state self.new) }
+        ensures free { (state self.new).free ≡ (state self.old).free }
+        ensures fuse { (state self.new).left ≡ (state self.old).left }
+        ensures answer { ForSome (durable self.old) (λ d. IfOk result (λ objects. objects ≡ objects_in cont d)) }
+        ensures kept { Looks (says later_stop result) (durable self.old) (durable self.new)
+            (may self.old) (may self.new) };
+
+    /// The containers that are enlisted, in order.
+    fn conts(&self) -> Result<ContIds, Memory>
+        ensures { IfRunning (state self.now)
+            (ForSome (durable self.now) (λ d. IfOk result (λ conts. conts ≡ enlisted_in d))) };
 
     /// The floor of a container, at or below which no write is taken, and what set it: the stored
     /// one, or that of the last opening where it isn't below. Also where nothing is told, it is that of
@@ -259,6 +297,9 @@ pub trait Store {
     /// A store that isn't stopped opens with what it keeps.
     ghost steady: { (s : Self) (d x : Durable) → (state s).stopped ≡ false → durable s ≡ Some d → may s x → x ≡ d };
 
+    /// Something may be found at its next opening.
+    ghost findable: { (s : Self) → is_some (durable s) ≡ true → (x : Durable) × may s x };
+
     /// Whether what is kept is told is the same of all stores of a type.
     ghost alike: { (s t : Self) → is_some (durable s) ≡ true → is_some (durable t) ≡ true };
 
@@ -269,8 +310,8 @@ pub trait Store {
 /// A store that can be made to stop.
 pub trait Fuse: Store {
     /// Sets a fuse: the store stops at its `k`-th write to its region from now on, or its `k`-th
-    /// change where it has no region, once, and `burnt` then rises. 0 sets none, and takes away one
-    /// that is set. It changes nothing that the store keeps, and takes no memory.
+    /// change that isn't refused where it has no region, once, and `burnt` then rises. 0 sets none,
+    /// and takes away one that is set. It changes nothing that the store keeps, and takes no memory.
     fn fuse(&mut self, k: u32)
         ensures state { SetsFuse k (Self.state self.old) (Self.state self.new) }
         ensures durable { Self.durable self.new ≡ Self.durable self.old }

@@ -1,15 +1,12 @@
 // The steps of the rows, over any store.
-ghost use Rattle.std.specs.Prelude.{◌≡◌, ◌+◌, ◌^◌, ◌<◌, ◌≤◌, false, true, IfOk, OnOk, Some, length};
-ghost use Rattle.std.specs.Option.{ForSome, option_map};
+ghost use Rattle.std.specs.Prelude.{◌≡◌, ◌≤◌, false, IfOk, OnOk, Some};
 ghost use Rattle.daos_model.specs.Durables.{empty_durable};
-ghost use Rattle.daos_model.specs.Forms.{is_length, is_write_in_form};
-ghost use Rattle.vos_store.specs.Conditions.{CanPrepare};
-ghost use Rattle.vos_tests.specs.Rows.{IsHere, RunsOn, akey, alone, attempt, entry, staged, started, written};
+ghost use Rattle.vos_tests.specs.Rows.{IsHere, RunsOn, akey, attempt, staged, started, unopened};
 
-use base_types::entry::{Entry, Settle};
+use base_types::entry::Entry;
 use base_types::epoch::Epoch;
 use base_types::id::{AttemptId, Class, ContId, ObjId};
-use base_types::items::bytes_of;
+use base_types::items::{Memory, bytes_of};
 use base_types::key::{Key, KeyNo};
 use base_types::operation::{MinorWrite, Write};
 use base_types::path::Path;
@@ -34,38 +31,31 @@ pub enum StepNo {
     Stopped(#[from] Stopped),
     #[error("{0}")]
     Later(#[from] LaterNo),
+    #[error("out of memory")]
+    Memory(#[from] Memory),
 }
 
-/// An akey under the dkey d of the object of class S1 and number 0.
-pub fn akey(alloc: Global, name: &[u8]) -> Result<Path, KeyNo>
-    ensures { IfOk result (λ path. path ≡ akey name.now) }
+/// The akey a under the dkey d of the object of class S1 and number 0 with records of four bytes.
+pub fn akey(alloc: Global) -> Result<Path, KeyNo>
+    ensures { IfOk result (λ path. path ≡ akey) }
 {
     Ok(Path {
         cont: ContId(1),
         obj: Some(ObjId {
             class: Class::S1,
             number: 0,
+            unit: 4,
         }),
         dkey: Some(Key::new(alloc, b"d")?),
-        akey: Some(Key::new(alloc, name)?),
+        akey: Some(Key::new(alloc, b"a")?),
     })
 }
 
-/// A single value at an akey.
-pub fn single(alloc: Global, name: &[u8], bytes: &[u8]) -> Result<Write, KeyNo>
-    requires { is_length (length bytes.now) ≡ true }
+/// Two records at the indexes 1 and 2 of the akey.
+pub fn two_records(alloc: Global) -> Result<Write, KeyNo>
     ensures { IfOk result IsHere }
 {
-    Ok(Write::Single(akey(alloc, name)?, bytes_of(alloc, bytes)?))
-}
-
-/// An extent at an akey, from an index on.
-pub fn extent(alloc: Global, name: &[u8], low: u32, bytes: &[u8]) -> Result<Write, KeyNo>
-    requires bytes { is_length (length bytes.now) ≡ true }
-    requires end { low + length bytes.now < 2 ^ 32 }
-    ensures { IfOk result IsHere }
-{
-    Ok(Write::Extent(akey(alloc, name)?, low, bytes_of(alloc, bytes)?))
+    Ok(Write::Extent(akey(alloc)?, 1, bytes_of(alloc, b"abcdwxyz")?))
 }
 
 /// The first attempt of a command of the first client.
@@ -91,37 +81,24 @@ pub fn start<S: Store>(store: &mut S) -> Result<(), StepNo>
     Ok(())
 }
 
-/// Prepares a transaction of one write.
-pub fn stage<S: Store>(store: &mut S, number: u32, epoch: u64, write: Write) -> Result<(), StepNo>
+/// Prepares the first transaction, of one write, at 256.
+pub fn stage<S: Store>(store: &mut S, number: u32, write: Write) -> Result<(), StepNo>
     requires runs { (S.state store.old).stopped ≡ false }
     requires targets { 1 ≤ (S.state store.old).targets }
-    requires form { is_write_in_form write ≡ true }
-    requires here { ForSome (S.durable store.old) (CanPrepare (S.state store.old) (entry number epoch) (alone write)) }
-    ensures kept { OnOk result (S.durable store.new ≡ option_map (staged number epoch write) (S.durable store.old)) }
+    requires opening { (S.state store.old).opening ≡ unopened }
+    requires empty { S.durable store.old ≡ Some started }
+    requires write { IsHere write }
+    ensures kept { OnOk result (S.durable store.new ≡ Some (staged number write)) }
     ensures state { OnOk result (RunsOn (S.state store.old) (S.state store.new)) }
 {
     let entry = Entry {
         attempt: attempt(number),
-        epoch: Epoch(epoch),
+        epoch: Epoch(256),
         leader: 0,
         members: 1,
         confirmed: 0,
         committed: false,
     };
     store.prepare(&entry, &[MinorWrite { minor: 0, write }])?;
-    Ok(())
-}
-
-/// Prepares a transaction of one write, and commits it.
-pub fn put<S: Store>(store: &mut S, number: u32, epoch: u64, write: Write) -> Result<(), StepNo>
-    requires runs { (S.state store.old).stopped ≡ false }
-    requires targets { 1 ≤ (S.state store.old).targets }
-    requires form { is_write_in_form write ≡ true }
-    requires here { ForSome (S.durable store.old) (CanPrepare (S.state store.old) (entry number epoch) (alone write)) }
-    ensures kept { OnOk result (S.durable store.new ≡ option_map (written number epoch write) (S.durable store.old)) }
-    ensures state { OnOk result (RunsOn (S.state store.old) (S.state store.new)) }
-{
-    stage(store, number, epoch, write)?;
-    store.settle(attempt(number), Settle::Commit)?;
     Ok(())
 }

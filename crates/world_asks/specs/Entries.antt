@@ -26,7 +26,7 @@ use Rattle.world_base.specs.declared.request.PrepareRequest.{PrepareRequest}
 use Rattle.world_base.specs.declared.target.TargetMemory.{TargetMemory}
 use Rattle.world_base.specs.declared.target.TargetPlan.{TargetPlan}
 use Rattle.world_base.specs.Acks as ack
-use Rattle.world_base.specs.Changes.{Change, Extends, Kept, Prepares, Settles, Steps}
+use Rattle.world_base.specs.Changes.{Change, Creates, Extends, Freezes, Kept, Prepares, Prunes, Settles, Steps}
 use Rattle.world_base.specs.Commits as commit
 use Rattle.world_base.specs.DoubtLaws.{in_doubt-prepared}
 use Rattle.world_base.specs.EntryLaws.{entry-aborted, entry-aborted_other, entry-committed, entry-confirmed, entry-leased, entry-prepared_other}
@@ -93,6 +93,9 @@ StoresNot x (Some (Settles a Commit)) = Unit {0}
 StoresNot x (Some (Settles a Abort)) = Unit {0}
 StoresNot x (Some (Settles a (Confirm t))) = Unit {0}
 StoresNot x (Some (Settles a Forget)) = ⊥
+StoresNot x (Some (Freezes f z)) = ⊥
+StoresNot x (Some (Creates f z)) = ⊥
+StoresNot x (Some (Prunes f z n)) = ⊥
 
 -- nor takes it away
 abbrev pub Spares : AttemptId → Option Change → Type 0
@@ -103,6 +106,9 @@ Spares x (Some (Settles a Commit)) = Unit {0}
 Spares x (Some (Settles a Abort)) = x ≡ a → ⊥
 Spares x (Some (Settles a (Confirm t))) = Unit {0}
 Spares x (Some (Settles a Forget)) = ⊥
+Spares x (Some (Freezes f z)) = ⊥
+Spares x (Some (Creates f z)) = ⊥
+Spares x (Some (Prunes f z n)) = ⊥
 
 pub aborted-unprepared : (a : AttemptId) (d : Durable) (x : AttemptId) → Unprepared d x → Unprepared (settled a Abort d) x
 aborted-unprepared a d x k = elim (one-or_other x a) [
@@ -120,6 +126,9 @@ unprepared-step x (Some (Settles a Abort)) k l st spares h = subst (λ d. Unprep
 unprepared-step x (Some (Settles a (Confirm t))) k l st spares h =
     subst (λ d. Unprepared d x) (sym st.0) (unprepared-mapped (confirmed_at a t) (confirmed-stays a t) k.durable (settled a (Confirm t) k.durable) x (entry-confirmed a t k.durable x) h)
 unprepared-step x (Some (Settles a Forget)) k l st spares h = absurd spares
+unprepared-step x (Some (Freezes f z)) k l st spares h = absurd spares
+unprepared-step x (Some (Creates f z)) k l st spares h = absurd spares
+unprepared-step x (Some (Prunes f z n)) k l st spares h = absurd spares
 
 pub kept-step : (x : AttemptId) (o : Option Change) (k l : Kept) → Steps o k l → Spares x o → IsKept k.durable x → IsKept l.durable x
 kept-step x None k l st spares h = subst (λ z. IsKept z.durable x) (sym st) h
@@ -129,6 +138,9 @@ kept-step x (Some (Settles a Commit)) k l st spares h = subst (λ d. IsKept d x)
 kept-step x (Some (Settles a Abort)) k l st spares h = subst (λ d. IsKept d x) (sym st.0) (kept-same k.durable (settled a Abort k.durable) x (entry-aborted_other a k.durable x spares) h)
 kept-step x (Some (Settles a (Confirm t))) k l st spares h = subst (λ d. IsKept d x) (sym st.0) (kept-mapped (confirmed_at a t) k.durable (settled a (Confirm t) k.durable) x (entry-confirmed a t k.durable x) h)
 kept-step x (Some (Settles a Forget)) k l st spares h = absurd spares
+kept-step x (Some (Freezes f z)) k l st spares h = absurd spares
+kept-step x (Some (Creates f z)) k l st spares h = absurd spares
+kept-step x (Some (Prunes f z n)) k l st spares h = absurd spares
 
 -- ---- turns whose steps spare an attempt
 

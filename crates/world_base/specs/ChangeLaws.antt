@@ -1,6 +1,7 @@
 -- What each change leaves of what a target keeps.
 use Rattle.std.specs.Prelude.{ℕ, ◌≡◌, ◌≤◌, ◌<◌, ◌*◌, ◌^◌, min, nat_le, Bool, true, false, Option, Some, None, List, refl, if◌then◌else◌}
 use Rattle.std.specs.Int.{div_ceil}
+use Rattle.std.specs.Prelude.{map}
 use Rattle.std.proofs.Common.{sym, ◌∙◌, ap, subst, arith}
 use Rattle.std.proofs.lemmas.Bool.Decides.{nat_tests}
 use Rattle.std.proofs.lemmas.Grind.{div_ceil_times}
@@ -11,8 +12,13 @@ use Rattle.base_types.specs.declared.id.AttemptId.{AttemptId}
 use Rattle.base_types.specs.declared.operation.MinorWrite.{MinorWrite}
 use Rattle.base_types.specs.Epochs.{last_ticks, lease_for}
 use Rattle.daos_model.specs.declared.durable.Durable.{Durable}
-use Rattle.daos_model.specs.Changes.{leased, prepared, settled}
-use Rattle.world_base.specs.Changes.{Change, Extends, Kept, Prepares, Settles, Steps, made}
+use Rattle.base_types.specs.declared.epoch.Epoch.{Epoch}
+use Rattle.base_types.specs.declared.id.ContId.{ContId}
+use Rattle.base_types.specs.declared.outcome.FloorWhy.TheVariants.{Snapshot}
+use Rattle.daos_model.specs.Changes.{created, frozen, leased, marked, new_snap, prepared, pruned, raised_at, settled, with_versions}
+use Rattle.daos_model.specs.Durables.{is_frozen, snap_key}
+use Rattle.daos_model.specs.Ordered.{put}
+use Rattle.world_base.specs.Changes.{Change, Creates, Extends, Freezes, Kept, Prepares, Prunes, Settles, Steps, is_plain, made}
 
 -- ---- one change
 
@@ -64,24 +70,58 @@ pub incarnation-prepared : (e : Entry) (ws : List MinorWrite) (d : Durable) → 
 unfolding prepared
 incarnation-prepared e ws d = refl
 
--- no change touches the containers, the snapshots or the incarnation
-pub conts-made : (c : Change) (d : Durable) → (made c d).conts ≡ d.conts
+-- a plain change touches neither the containers nor the snapshots
+pub conts-made : (c : Change) (d : Durable) → is_plain c ≡ true → (made c d).conts ≡ d.conts
 unfolding leased prepared
-conts-made (Extends ticks) d = refl
-conts-made (Prepares e ws) d = refl
-conts-made (Settles a step) d = conts-settled a step d
+conts-made (Extends ticks) d plain = refl
+conts-made (Prepares e ws) d plain = refl
+conts-made (Settles a step) d plain = conts-settled a step d
+conts-made (Freezes c s) d plain = absurd (cc)
+conts-made (Creates c s) d plain = absurd (cc)
+conts-made (Prunes c upto n) d plain = absurd (cc)
 
-pub snaps-made : (c : Change) (d : Durable) → (made c d).snaps ≡ d.snaps
+pub snaps-made : (c : Change) (d : Durable) → is_plain c ≡ true → (made c d).snaps ≡ d.snaps
 unfolding leased prepared
-snaps-made (Extends ticks) d = refl
-snaps-made (Prepares e ws) d = refl
-snaps-made (Settles a step) d = snaps-settled a step d
+snaps-made (Extends ticks) d plain = refl
+snaps-made (Prepares e ws) d plain = refl
+snaps-made (Settles a step) d plain = snaps-settled a step d
+snaps-made (Freezes c s) d plain = absurd (cc)
+snaps-made (Creates c s) d plain = absurd (cc)
+snaps-made (Prunes c upto n) d plain = absurd (cc)
+
+-- no change touches the incarnation
+incarnation-frozen : (c : ContId) (s : Epoch) (d : Durable) → (frozen c s d).incarnation ≡ d.incarnation
+unfolding frozen
+incarnation-frozen c s d = by (is_frozen d c s)
+  where
+    by : (b : Bool) → (if b then d else record d { conts = map (raised_at c s (Snapshot s)) d.conts; snaps = put snap_key (new_snap c s) d.snaps }).incarnation ≡ d.incarnation
+    by true = refl
+    by false = refl
+
+lease-frozen : (c : ContId) (s : Epoch) (d : Durable) → (frozen c s d).lease ≡ d.lease
+unfolding frozen
+lease-frozen c s d = by (is_frozen d c s)
+  where
+    by : (b : Bool) → (if b then d else record d { conts = map (raised_at c s (Snapshot s)) d.conts; snaps = put snap_key (new_snap c s) d.snaps }).lease ≡ d.lease
+    by true = refl
+    by false = refl
 
 pub incarnation-made : (c : Change) (d : Durable) → (made c d).incarnation ≡ d.incarnation
-unfolding leased prepared
+unfolding leased prepared created pruned with_versions marked
 incarnation-made (Extends ticks) d = refl
 incarnation-made (Prepares e ws) d = refl
 incarnation-made (Settles a step) d = incarnation-settled a step d
+incarnation-made (Freezes c s) d = incarnation-frozen c s d
+incarnation-made (Creates c s) d = refl
+incarnation-made (Prunes c upto n) d = refl
+
+lease-created : (c : ContId) (s : Epoch) (d : Durable) → (created c s d).lease ≡ d.lease
+unfolding created
+lease-created c s d = refl
+
+lease-pruned : (c : ContId) (upto : Epoch) (n : ℕ) (d : Durable) → (pruned c upto n d).lease ≡ d.lease
+unfolding pruned with_versions marked
+lease-pruned c upto n d = refl
 
 -- ---- the lease
 
@@ -114,6 +154,9 @@ Raises d None = Unit {0}
 Raises d (Some (Extends ticks)) = (d.lease ≤ ticks) × (ticks < 2 ^ 56)
 Raises d (Some (Prepares e ws)) = Unit {0}
 Raises d (Some (Settles a step)) = Unit {0}
+Raises d (Some (Freezes c s)) = Unit {0}
+Raises d (Some (Creates c s)) = Unit {0}
+Raises d (Some (Prunes c upto n)) = Unit {0}
 
 -- a lease is no lower than before, and within a clock's ticks where it was so before
 pub record LeaseRises (d e : Durable) : Type 0 where
@@ -133,6 +176,9 @@ lease-steps (Some (Extends ticks)) k l st up =
     record { rises = subst (λ n. k.durable.lease ≤ n) (sym now) up.0; within = λ low. subst (λ n. n < 2 ^ 56) (sym now) up.1 }
 lease-steps (Some (Prepares e ws)) k l st up = lease-same k.durable l.durable (ap (λ d. d.lease) st.0 ∙ lease-prepared e ws k.durable)
 lease-steps (Some (Settles a step)) k l st up = lease-same k.durable l.durable (ap (λ d. d.lease) st.0 ∙ lease-settled a step k.durable)
+lease-steps (Some (Freezes c s)) k l st up = lease-same k.durable l.durable (ap (λ d. d.lease) st.0 ∙ lease-frozen c s k.durable)
+lease-steps (Some (Creates c s)) k l st up = lease-same k.durable l.durable (ap (λ d. d.lease) st.0 ∙ lease-created c s k.durable)
+lease-steps (Some (Prunes c upto n)) k l st up = lease-same k.durable l.durable (ap (λ d. d.lease) st.0 ∙ lease-pruned c upto n k.durable)
 
 -- the lease that a turn extends to covers ticks above it
 pub extends-raises : (d : Durable) (n ticks : ℕ) → d.lease < n → lease_for n ≡ Some ticks → Raises d (Some (Extends ticks))

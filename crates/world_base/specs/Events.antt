@@ -19,7 +19,7 @@ use Rattle.world_base.specs.declared.target.TargetState.{TargetState}
 use Rattle.world_base.specs.declared.target.Life.TheVariants.{Running}
 use Rattle.world_base.specs.declared.world.World.{World}
 use Rattle.world_base.specs.ClientTurns.{HearTurn, NextTurn, plan_of}
-use Rattle.world_base.specs.Letters.{Takes, client, letters_of, target}
+use Rattle.world_base.specs.Letters.{Takes, asked_after, client, letters_of, target}
 use Rattle.world_base.specs.Changes.{Kept}
 use Rattle.world_base.specs.RightTurns.{HearsRightly, TellsOfOthers, hears-rightly}
 use Rattle.world_base.specs.TargetTurns.{Hearing, Hears, IdlesWhole}
@@ -76,6 +76,7 @@ listed (Some i) = i ∷ []
 abbrev pub after_turn : World → ActorId → Did → List Letter → World
 after_turn w actor did rest = record w {
   messages = rest ++ letters_of actor did.posts;
+  asked = asked_after w.asked (letters_of actor did.posts);
   issued = w.issued ++ listed did.issued;
   lines = w.lines ++ map (with_epoch w.issued) did.lines;
 }

@@ -9,7 +9,8 @@ use Rattle.world_base.specs.declared.client.ClientState.{ClientState}
 use Rattle.world_base.specs.declared.world.World.{World}
 use Rattle.world_base.specs.ClientTurns.{Ended_by, GoesOn, HearTurn, Heard_on, Move, Moves, NextTurn, None_yet, One_more, Skipped, Went_on, heard, listed, moved}
 use Rattle.world_base.specs.Events.{ClientGoes, ClientHears, Rules, after_turn, client_plan, with_client, with_epoch}
-use Rattle.world_base.specs.Letters.{client, letters_of}
+use Rattle.world_base.specs.declared.letter.Letter.{Letter}
+use Rattle.world_base.specs.Letters.{asked_after, asked_with, client, letters_of}
 use Rattle.world_base.specs.Steps.{KeptByCounting, KeptByHearing, KeptByMoves, after_client, after_move, without}
 
 -- ---- one state among others
@@ -38,16 +39,24 @@ set-same (z ∷ zs) (suc n) x h = ap (λ ws. z ∷ ws) (set-same zs n x h)
 
 -- ---- moves, one after another
 
+-- what is without an answer after some letters and then some more
+pub asked-append : (asked ls ms : List Letter) → asked_after asked (ls ++ ms) ≡ asked_after (asked_after asked ls) ms
+asked-append asked [] ms = refl
+asked-append asked (l ∷ ls) ms = asked-append (asked_with asked l) ls ms
+
 -- two things that a client did, one after the other
 pub after-both : (w : World) (n : ℕ) (posts posts2 : List Post) (lines lines2 : List Line) (d e : ClientState)
     → after_client (after_client w n posts lines d) n posts2 lines2 e ≡ after_client w n (posts ++ posts2) (lines ++ lines2) e
-after-both w n posts posts2 lines lines2 d e = rw (states, letters, told) refl
+after-both w n posts posts2 lines lines2 d e = rw (states, letters, unanswered, told) refl
   where
     states : set (set w.clients n d) n e ≡ set w.clients n e
     states = set-twice w.clients n d e
 
     letters : (w.messages ++ letters_of (client n) posts) ++ letters_of (client n) posts2 ≡ w.messages ++ letters_of (client n) (posts ++ posts2)
     letters = append_assoc w.messages (letters_of (client n) posts) (letters_of (client n) posts2) ∙ ap (λ ls. w.messages ++ ls) (sym (map-append (λ p. record { from = client n; to = p.to; message = p.message }) posts posts2))
+
+    unanswered : asked_after (asked_after w.asked (letters_of (client n) posts)) (letters_of (client n) posts2) ≡ asked_after w.asked (letters_of (client n) (posts ++ posts2))
+    unanswered = sym (asked-append w.asked (letters_of (client n) posts) (letters_of (client n) posts2)) ∙ ap (asked_after w.asked) (sym (map-append (λ p. record { from = client n; to = p.to; message = p.message }) posts posts2))
 
     told : (w.lines ++ map (with_epoch w.issued) lines) ++ map (with_epoch w.issued) lines2 ≡ w.lines ++ map (with_epoch w.issued) (lines ++ lines2)
     told = append_assoc w.lines (map (with_epoch w.issued) lines) (map (with_epoch w.issued) lines2) ∙ ap (λ ls. w.lines ++ ls) (sym (map-append (with_epoch w.issued) lines lines2))

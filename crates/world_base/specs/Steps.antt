@@ -7,12 +7,12 @@ use Rattle.world_base.specs.declared.letter.Letter.{Letter}
 use Rattle.world_base.specs.declared.world.World.{World}
 use Rattle.world_base.specs.ClientTurns.{Move, heard, listed, moved}
 use Rattle.world_base.specs.Events.{Rules, client_plan, with_client, with_epoch}
-use Rattle.world_base.specs.Letters.{Takes, client, letters_of}
+use Rattle.world_base.specs.Letters.{Takes, asked_after, client, letters_of}
 
 -- the world once a client sent these messages and added these lines, and is in this state
 abbrev pub after_client : World → ℕ → List Post → List Line → ClientState → World
 after_client w n posts lines d =
-    with_client n d (record w { messages = w.messages ++ letters_of (client n) posts; lines = w.lines ++ map (with_epoch w.issued) lines })
+    with_client n d (record w { messages = w.messages ++ letters_of (client n) posts; asked = asked_after w.asked (letters_of (client n) posts); lines = w.lines ++ map (with_epoch w.issued) lines })
 
 -- after one move of a client
 abbrev pub after_move : World → ℕ → Move → World

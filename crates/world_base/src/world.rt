@@ -19,13 +19,16 @@ pub struct Numbers {
     pub aggregates: u32,
 }
 
-/// All that a run has at a moment: its targets, its clients, the messages in flight in the order in
-/// which they were sent, the epochs issued, the numbers that come next, and the lines so far.
+/// All that a run has at a moment: its targets, its clients, the messages in flight and those without
+/// an answer, each in the order in which they were sent, the epochs issued, the numbers that come
+/// next, and the lines so far.
 #[derive(Drop)]
 pub struct World {
     pub targets: TargetStates,
     pub clients: ClientStates,
     pub messages: Letters,
+    /// The messages that have an answer by their kind, and got neither it nor a Reset yet.
+    pub asked: Letters,
     pub issued: Issues,
     pub numbers: Numbers,
     pub lines: Lines,

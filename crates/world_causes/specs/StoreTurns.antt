@@ -36,7 +36,7 @@ use Rattle.world_base.specs.declared.request.PrepareRequest.{PrepareRequest}
 use Rattle.world_base.specs.declared.target.TargetMemory.{TargetMemory}
 use Rattle.world_base.specs.declared.target.TargetPlan.{TargetPlan}
 use Rattle.world_base.specs.Acks as ack
-use Rattle.world_base.specs.Changes.{Change, Extends, Kept, Prepares, Settles, Steps, made}
+use Rattle.world_base.specs.Changes.{Change, Creates, Extends, Freezes, Kept, Prepares, Prunes, Settles, Steps, made}
 use Rattle.world_base.specs.Commits as commit
 use Rattle.world_base.specs.EntryLaws.{entry-aborted, entry-aborted_other, entry-committed, entry-confirmed, entry-leased, entry-prepared_other}
 use Rattle.world_base.specs.Idle.{AllSettled, IdleEnds, IdleNext, SettlesFirst, batch_of, inquiry_of}
@@ -103,11 +103,17 @@ module _ (old : Durable) where
   Fits P (Some (Extends ticks)) = Unit {0}
   Fits P (Some (Prepares e ws)) = P e.attempt
   Fits P (Some (Settles a s)) = Unit {0}
+  Fits P (Some (Freezes f z)) = ⊥
+  Fits P (Some (Creates f z)) = ⊥
+  Fits P (Some (Prunes f z n)) = ⊥
 
   made-only : (P : AttemptId → Type 0) (c : Change) (d : Durable) (x : AttemptId) → Fits P (Some c) → (P x → ⊥) → entry_of d x ≡ None → entry_of (made c d) x ≡ None
   made-only P (Extends ticks) d x fits off none = entry-leased ticks d x ∙ none
   made-only P (Prepares e ws) d x fits off none = entry-prepared_other e ws d x (λ same. off (subst P (sym same) fits)) ∙ none
   made-only P (Settles a s) d x fits off none = settled-none a s d x none
+  made-only P (Freezes f z) d x fits off none = absurd fits
+  made-only P (Creates f z) d x fits off none = absurd fits
+  made-only P (Prunes f z n) d x fits off none = absurd fits
 
   step-only : (P : AttemptId → Type 0) (o : Option Change) (k l : Kept) → Fits P o → Steps o k l → OnlyNew P k → OnlyNew P l
   step-only P None k l fits same h x none off = ap (λ z. entry_of z.durable x) same ∙ h x none off

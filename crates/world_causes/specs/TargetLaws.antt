@@ -38,7 +38,7 @@ use Rattle.world_base.specs.declared.target.Life.TheVariants.{Running}
 use Rattle.world_base.specs.declared.world.World.{World}
 use Rattle.world_epochs.specs.Epochs.{IsPresent}
 use Rattle.world_base.specs.Events.{Rules, TargetHearsRightly, TargetIdles, after_turn, kept, listed, target_after, target_plan, with_epoch, with_target}
-use Rattle.world_base.specs.Letters.{client, letter_of, letters_of, target}
+use Rattle.world_base.specs.Letters.{asked_after, client, letter_of, letters_of, target}
 use Rattle.world_talks.specs.InFlight.{OpenIs, open-is}
 use Rattle.world_talks.specs.TalkLaws.{left-is-among, taken-is-among}
 use Rattle.world_base.specs.Acks as ack
@@ -80,7 +80,7 @@ listed-has (Some j) i (inr bad) = absurd bad
 leaves-keep : (r : Rules) (o : Opening) (stored : Stored) (w : World) (t : ℕ) (s : TargetState) (new : Kept) (memory : TargetMemory) (did : Did) (rest : List Letter) → Causes r o stored w → slice_get w.targets t ≡ Some s
     → ((l : Letter) → Contains rest l → Contains w.messages l) → did.lines ≡ [] → new.durable.conts ≡ s.durable.conts → Leaves r o stored w.issued w.lines t (kept s) new (memory, did)
     → Causes r o (stored_by t s.durable new.durable ++ stored) (with_target t (target_after s new memory) (after_turn w (target t) did rest))
-leaves-keep r o stored w t s new memory did rest C here among none conts L = subst (λ ls. Causes r o (more ++ stored) (record w { targets = set w.targets t (target_after s new memory); messages = rest ++ letters_of (target t) did.posts; issued = now; lines = ls })) (sym lines) (record {
+leaves-keep r o stored w t s new memory did rest C here among none conts L = subst (λ ls. Causes r o (more ++ stored) (record w { targets = set w.targets t (target_after s new memory); messages = rest ++ letters_of (target t) did.posts; asked = asked_after w.asked (letters_of (target t) did.posts); issued = now; lines = ls })) (sym lines) (record {
   bounded = record {
     ticks = at-set w.targets t s (target_after s new memory) (λ u z. z.life ≡ Running → z.memory.ticks ≤ limit o now) here (λ k. L.ticks) (λ u z at k. up (C.bounded.ticks u z at k));
     trackers = λ n c at. up (C.bounded.trackers n c at);

@@ -81,6 +81,7 @@ pub record StartsWith (targets t : ℕ) (o : Opening) (s : TargetState) : Type 0
   pub stamps : s.memory.stamps ≡ []
   pub leader : s.memory.leader ≡ no_leading
   pub member : s.memory.member ≡ no_joining
+  pub collecting : s.memory.collecting ≡ []
 
 -- the tracker of each client covers all epochs of the opening
 abbrev pub first_tracker : Opening → Epoch
@@ -106,6 +107,7 @@ pub record IsBegun (r : Rules) (o : Opening) (w : World) : Type 0 where
   pub enlisted : (t : ℕ) (s : TargetState) → slice_get w.targets t ≡ Some s → AreEnlisted r.script s.durable
   pub clients : w.clients ≡ map (first_client r.script o) r.script.clients
   pub messages : w.messages ≡ []
+  pub asked : w.asked ≡ []
   pub issued : w.issued ≡ []
   pub lines : w.lines ≡ []
 

@@ -187,7 +187,7 @@ fresh_target s size incarnation = record {
   free = size * 4096 - 1264;
   opening = (record { 0 = 0 }, why.Opening);
   life = Running;
-  memory = record { ticks = 0; stamps = []; leader = no_leading; member = no_joining };
+  memory = record { ticks = 0; stamps = []; leader = no_leading; member = no_joining; collecting = [] };
 }
 
 -- the world of a script before its first event, over regions of zeros
@@ -196,6 +196,7 @@ fresh_world s size incarnation = record {
   targets = replicate s.targets (fresh_target s size incarnation);
   clients = map (first_client s (fresh_opening size)) s.clients;
   messages = [];
+  asked = [];
   issued = [];
   numbers = record { restarts = 0; aggregates = 0 };
   lines = [];
@@ -219,6 +220,7 @@ fresh-begun r size incarnation few = record {
   enlisted = λ t s here. subst (λ z. AreEnlisted r.script z.durable) (at-replicate r.script.targets (fresh_target r.script size incarnation) t s here) (fresh-opens r.script r.script.targets t size incarnation few).1;
   clients = refl;
   messages = refl;
+  asked = refl;
   issued = refl;
   lines = refl;
 }
@@ -236,4 +238,5 @@ fresh-begun r size incarnation few = record {
       stamps = refl;
       leader = refl;
       member = refl;
+      collecting = refl;
     }

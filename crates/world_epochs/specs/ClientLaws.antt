@@ -19,7 +19,7 @@ use Rattle.world_base.specs.declared.letter.Letter.{Letter}
 use Rattle.world_base.specs.declared.world.World.{World}
 use Rattle.world_base.specs.ClientTurns.{attempt_id, listed}
 use Rattle.world_base.specs.Events.{Rules, client_plan}
-use Rattle.world_base.specs.Letters.{client, letter_of, letters_of, target}
+use Rattle.world_base.specs.Letters.{asked_after, client, letter_of, letters_of, target}
 use Rattle.world_base.specs.StepLaws.{set-here, set-there}
 use Rattle.world_base.specs.Steps.{without}
 use Rattle.world_epochs.specs.Epochs.{AsksEpoch, AsksFirst, BearsEpoch, Epochs, InCause, IsAt, IsIssued, IsPast, IsPresent, IsTold, IsUnissued, ItsOwn, LacksEpoch, Told, answers_undated, issuer_of, reads_snapshot}
@@ -104,7 +104,7 @@ pub record IsQuiet (r : Rules) (w : World) (n : ℕ) (c d : ClientState) : Type 
   pub unasked : (b : Present) → d.present ≡ Some b → b.epoch ≡ None → AsksFirst (attempt_ops r.script (attempt_id (client_plan r n) d b)) b
 
 abbrev pub after_quiet : World → ℕ → Option Post → ClientState → World
-after_quiet w n post d = record w { clients = set w.clients n d; messages = w.messages ++ letters_of (client n) (listed post) }
+after_quiet w n post d = record w { clients = set w.clients n d; messages = w.messages ++ letters_of (client n) (listed post); asked = asked_after w.asked (letters_of (client n) (listed post)) }
 
 sent-one : (n : ℕ) (post : Option Post) (l : Letter) → Contains (letters_of (client n) (listed post)) l → (p : Post) × (post ≡ Some p) × (letter_of (client n) p ≡ l)
 sent-one n None l h = absurd (contains-none l h)

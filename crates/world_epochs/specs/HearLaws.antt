@@ -25,7 +25,7 @@ use Rattle.world_base.specs.declared.client.Stage.TheVariants as stage
 use Rattle.world_base.specs.declared.world.World.{World}
 use Rattle.world_base.specs.ClientTurns.{Move, asks_again, at_present, attempt_id, command_at, condition_told, ends, goes, greatest, group_count, group_told, is_yes, joined, knows, knows_epoch, listed, next_op, next_stage, op_of, op_told, replied, told_at, told_by_reply}
 use Rattle.world_base.specs.Events.{Rules, client_plan, with_client, with_epoch}
-use Rattle.world_base.specs.Letters.{client, letters_of, talk_of, target}
+use Rattle.world_base.specs.Letters.{asked_after, client, letters_of, talk_of, target}
 use Rattle.world_base.specs.StepLaws.{set-here, set-twice}
 use Rattle.world_epochs.specs.ClientLaws.{IsQuiet, quiet-keeps, same-id}
 use Rattle.world_epochs.specs.Epochs.{AsksFirst, Epochs, IsIssued, IsUnissued, Unsnapped}
@@ -102,7 +102,7 @@ module _ (r : Rules) (top : ℕ) (w : World) (n : ℕ) where
   -- what it does then, it does at once
   pub twice-keeps : (d : ClientState) (m : Move) → Keeps r top (with_client n d w) n m → Keeps r top w n m
   twice-keeps d m E =
-      subst (λ cs. Epochs r top (record w { clients = cs; messages = w.messages ++ letters_of (client n) (listed m.post); lines = w.lines ++ map (with_epoch w.issued) (listed m.line) })) (set-twice w.clients n d m.state) E
+      subst (λ cs. Epochs r top (record w { clients = cs; messages = w.messages ++ letters_of (client n) (listed m.post); asked = asked_after w.asked (letters_of (client n) (listed m.post)); lines = w.lines ++ map (with_epoch w.issued) (listed m.line) })) (set-twice w.clients n d m.state) E
 
   -- it knows the epoch of its attempt, where the answer bears it, or that it has none
   pub quiet-knows : (c e : ClientState) (a : Present) (o : Option Epoch) → Epochs r top w → slice_get w.clients n ≡ Some c → c.present ≡ Some a → c.tracker.0 ≤ e.tracker.0 → e.command ≡ c.command

@@ -30,7 +30,7 @@ use Rattle.world_base.specs.declared.client.Stage.TheVariants as stage
 use Rattle.world_base.specs.declared.world.World.{World}
 use Rattle.world_base.specs.ClientTurns.{Move, after_end, asks, asks_or_goes, at_present, attempt_id, attempt_moves, begins_at, begun, command_at, command_moves, commits, ends, first_epoch, goes, group_asked, is_waiting, listed, member_asked, moved, moves_at, next_command, next_place, next_stage, op_moves, question, rests, run_moves, skip_at, waits}
 use Rattle.world_base.specs.Events.{Rules, client_plan, epoch_issued, or_issued, with_epoch}
-use Rattle.world_base.specs.Letters.{client, letters_of, talk_of, target}
+use Rattle.world_base.specs.Letters.{asked_after, client, letters_of, talk_of, target}
 use Rattle.world_base.specs.StepLaws.{set-here}
 use Rattle.world_base.specs.Steps.{after_client, after_move}
 use Rattle.world_epochs.specs.Asking.{asks-first, asks-nothing, begins-first, goes-first, issuer-asked, issuer-leads, ops-at}
@@ -57,7 +57,7 @@ pub record AtWork (r : Rules) (top : ℕ) (w : World) (n : ℕ) (c : ClientState
 pub unsaid-keeps : (r : Rules) (top : ℕ) (w : World) (n : ℕ) (c : ClientState) (m : Move) → m.line ≡ None → Epochs r top w → IsQuiet r w n c m.state → SendsSome r top w n (set w.clients n m.state) m.post → Keeps r top w n m
 unsaid-keeps r top w n c m none E Q S =
     subst (λ o. Epochs r top (after_client w n (listed m.post) (listed o) m.state)) (sym none)
-    (subst (λ ls. Epochs r top (record w { clients = set w.clients n m.state; messages = w.messages ++ letters_of (client n) (listed m.post); lines = ls })) (sym (append-nil w.lines)) (quiet-keeps r top w n c m.state m.post E Q S))
+    (subst (λ ls. Epochs r top (record w { clients = set w.clients n m.state; messages = w.messages ++ letters_of (client n) (listed m.post); asked = asked_after w.asked (letters_of (client n) (listed m.post)); lines = ls })) (sym (append-nil w.lines)) (quiet-keeps r top w n c m.state m.post E Q S))
 
 -- the same attempt, or none as before
 pub quiet-same : (r : Rules) (top : ℕ) (w : World) (n : ℕ) (c d : ClientState) → Epochs r top w → slice_get w.clients n ≡ Some c → c.tracker.0 ≤ d.tracker.0 → d.command ≡ c.command → d.present ≡ c.present → IsQuiet r w n c d

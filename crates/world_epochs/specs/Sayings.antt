@@ -19,7 +19,7 @@ use Rattle.daos_model.specs.Ordered.{put}
 use Rattle.dtx_base.specs.declared.member.Parked.{Parked}
 use Rattle.world_base.specs.declared.did.Did.{Did}
 use Rattle.world_base.specs.declared.target.TargetMemory.{TargetMemory}
-use Rattle.world_base.specs.Changes.{Change, Extends, Kept, Prepares, Settles, Steps, made}
+use Rattle.world_base.specs.Changes.{Change, Creates, Extends, Freezes, Kept, Prepares, Prunes, Settles, Steps, made}
 use Rattle.world_epochs.specs.Epochs.{AsksEpoch, BearsEpoch, LacksEpoch, answers_undated, reads_snapshot}
 use Rattle.world_epochs.specs.Lists.{contains-cons, contains-none}
 use Rattle.world_base.specs.ChangeLaws.{lease-settled}
@@ -126,6 +126,9 @@ abbrev pub ChangeFits : Known → Kept → Change → Type 0
 ChangeFits P k (Extends ticks) = k.durable.lease ≤ ticks
 ChangeFits P k (Prepares e ws) = P e.attempt e.epoch
 ChangeFits P k (Settles a step) = Unit {0}
+ChangeFits P k (Freezes f z) = ⊥
+ChangeFits P k (Creates f z) = ⊥
+ChangeFits P k (Prunes f z n) = ⊥
 
 abbrev pub StepFits : Known → Kept → Option Change → Type 0
 StepFits P k None = Unit {0}
@@ -158,6 +161,9 @@ made-stays P low (Settles a step) k l fits is s =
     let now : l.durable.lease ≡ k.durable.lease = ap (λ d. d.lease) is ∙ lease-settled a step k.durable in
     let old : low ≤ k.durable.lease = s.lease in
     (record { lease = omega (arith, now, old); entries = subst (λ d. AreKnown P d.entries) (sym is) (known-settled P a step k.durable s.entries) }, omega (arith, now))
+made-stays P low (Freezes f z) k l fits is s = absurd fits
+made-stays P low (Creates f z) k l fits is s = absurd fits
+made-stays P low (Prunes f z n) k l fits is s = absurd fits
 
 -- a step that fits leaves it so, and lowers no lease
 pub step-stays : (P : Known) (low : ℕ) (o : Option Change) (k l : Kept) → StepFits P k o → Steps o k l → Stays P low k → Stays P low l × (k.durable.lease ≤ l.durable.lease)

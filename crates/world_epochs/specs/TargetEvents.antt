@@ -30,7 +30,7 @@ use Rattle.world_base.specs.declared.target.TargetState.{TargetState}
 use Rattle.world_base.specs.declared.world.World.{World}
 use Rattle.world_base.specs.ClientTurns.{is_waiting, waits}
 use Rattle.world_base.specs.Events.{Rules, TargetHearsRightly, TargetIdles, after_turn, kept, listed, target_after, target_plan, with_epoch, with_target}
-use Rattle.world_base.specs.Letters.{client, is_talk_of, letter_of, letters_of, talk_of, target}
+use Rattle.world_base.specs.Letters.{asked_after, client, is_talk_of, letter_of, letters_of, talk_of, target}
 use Rattle.world_base.specs.Acks as ack
 use Rattle.world_base.specs.Changes.{Kept}
 use Rattle.world_base.specs.Requests.{epoch_of_ticks, issued_for, request_epoch}
@@ -282,8 +282,8 @@ turn-keeps : (r : Rules) (top : ℕ) (w : World) (t : ℕ) (s : TargetState) (ne
     → MayIssue r top w t (target_after s new memory) did.issued → Leaves (issued_then w did.issued) (MaySpend w did.issued) s.memory (memory, did) → Stays (issued_then w did.issued) s.durable.lease new
     → Epochs r top (with_target t (target_after s new memory) (after_turn w (target t) did rest))
 turn-keeps r top w t s new memory did rest E here O I L S =
-    subst (λ ls. Epochs r top (record w { targets = set w.targets t (target_after s new memory); messages = rest ++ letters_of (target t) did.posts; issued = w.issued ++ listed did.issued; lines = ls })) (sym lines)
-    (target-keeps r top w t s (target_after s new memory) (rest ++ letters_of (target t) did.posts) did.issued E (record {
+    subst (λ ls. Epochs r top (record w { targets = set w.targets t (target_after s new memory); messages = rest ++ letters_of (target t) did.posts; asked = asked_after w.asked (letters_of (target t) did.posts); issued = w.issued ++ listed did.issued; lines = ls })) (sym lines)
+    (target-keeps r top w t s (target_after s new memory) (rest ++ letters_of (target t) did.posts) (asked_after w.asked (letters_of (target t) did.posts)) did.issued E (record {
       here = here;
       life = refl;
       lease = S.lease;

@@ -101,8 +101,8 @@ pub record TargetDid (r : Rules) (top : ℕ) (w : World) (t : ℕ) (s new : Targ
   pub entries : AreKnown (issued_then w o) new.durable.entries
   pub parked : AreParkedKnown (issued_then w o) new.memory.member.parked
 
-abbrev pub after_target : World → ℕ → TargetState → List Letter → Option (AttemptId × Epoch) → World
-after_target w t new letters o = record w { targets = set w.targets t new; messages = letters; issued = w.issued ++ listed o }
+abbrev pub after_target : World → ℕ → TargetState → List Letter → List Letter → Option (AttemptId × Epoch) → World
+after_target w t new letters unanswered o = record w { targets = set w.targets t new; messages = letters; asked = unanswered; issued = w.issued ++ listed o }
 
 pub listed-cases : (o : Option (AttemptId × Epoch)) (i : AttemptId × Epoch) → Contains (listed o) i → o ≡ Some i
 listed-cases None i h = absurd (contains-none i h)
@@ -111,9 +111,9 @@ listed-cases (Some j) i h = ap (λ z. Some z) (contains-one j i h)
 pub listed-has : (o : Option (AttemptId × Epoch)) (i : AttemptId × Epoch) → o ≡ Some i → Contains (listed o) i
 listed-has o i e = subst (λ z. Contains (listed z) i) (sym e) (Contains-push [] i)
 
-pub target-keeps : (r : Rules) (top : ℕ) (w : World) (t : ℕ) (s new : TargetState) (letters : List Letter) (o : Option (AttemptId × Epoch)) → Epochs r top w → TargetDid r top w t s new letters o
-    → Epochs r top (after_target w t new letters o)
-target-keeps r top w t s new letters o E D = record {
+pub target-keeps : (r : Rules) (top : ℕ) (w : World) (t : ℕ) (s new : TargetState) (letters unanswered : List Letter) (o : Option (AttemptId × Epoch)) → Epochs r top w → TargetDid r top w t s new letters o
+    → Epochs r top (after_target w t new letters unanswered o)
+target-keeps r top w t s new letters unanswered o E D = record {
   few = subst (λ n. n ≤ 256) (sym (length-set w.targets t new)) E.few;
   one = λ x e f h k. same-epoch x e f (was x e h) (was x f k);
   apart = λ x y e h k. same-attempt x y e (was x e h) (was y e k);

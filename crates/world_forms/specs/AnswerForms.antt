@@ -21,7 +21,7 @@ use Rattle.daos_model.specs.Answers.{answer, has_cell_below, hole_before, index_
 use Rattle.daos_model.specs.Cells.{index_cell, single_cell, value_at}
 use Rattle.daos_model.specs.ReadsLegal.{IsRightAnswer, IsRightCondition, IsToldRight}
 use Rattle.daos_model.specs.Transactions.{read_of, read_of_op}
-use Rattle.daos_report.specs.Forms.{IsAnswer, IsCond, IsGot, IsPiece}
+use Rattle.report_writer.specs.Forms.{IsAnswer, IsCond, IsGot, IsPiece}
 use Rattle.script_runnable.specs.Keyed.{MapHasKeys}
 use Rattle.world_forms.specs.KeyLaws.{akey-names, dkey-names}
 

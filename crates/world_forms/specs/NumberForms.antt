@@ -13,7 +13,7 @@ use Rattle.model_laws.specs.TargetLaws.{same_number}
 use Rattle.daos_model.specs.Attempts.{is_of_client, tries, tries_of}
 use Rattle.daos_model.specs.Order.{AllInTurn, AreAttempts, AreInTurn, client_commands, commands_or_none}
 use Rattle.daos_model.specs.Transactions.{numbered}
-use Rattle.daos_report.specs.Forms.{IsAttemptId}
+use Rattle.report_writer.specs.Forms.{IsAttemptId}
 
 numbered-within : (limit client command n : ℕ) (a : Attempt) → n < limit → a.id ≡ record { client = client; command = command; attempt = n } → (a.id.command ≡ command) × (a.id.attempt < limit)
 numbered-within limit client command n a lt is = (ap (λ x. x.command) is, let e : a.id.attempt ≡ n = ap (λ x. x.attempt) is in omega (arith, e, lt))

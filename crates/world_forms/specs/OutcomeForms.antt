@@ -27,7 +27,7 @@ use Rattle.daos_model.specs.Conditions.{EndsRight}
 use Rattle.daos_model.specs.Durables.{same_attempt}
 use Rattle.daos_model.specs.Opening.{Given}
 use Rattle.daos_model.specs.Transactions.{attempt_ops, command_of}
-use Rattle.daos_report.specs.Forms.{IsAccessOf, IsAttemptId, IsCauseOf, IsCond, IsEpochOrNone, IsOutcomeOf, IsPathOf}
+use Rattle.report_writer.specs.Forms.{IsAccessOf, IsAttemptId, IsCauseOf, IsCond, IsEpochOrNone, IsOutcomeOf, IsPathOf}
 use Rattle.world_causes.specs.Causes.{is_try}
 use Rattle.world_ends.specs.Ends.{rules_of}
 use Rattle.world_ends.specs.FormLaws.{command-plain}

@@ -20,7 +20,7 @@ use Rattle.base_types.specs.Scripts as scripts
 use Rattle.base_types.specs.Scripts.{AreDeclared, IsActInForm, IsAkeyOf, IsDkeyOf, IsInForm, IsObjectOf, IsOpInForm, IsReadInForm, IsWriteInForm}
 use Rattle.daos_model.specs.Accesses.{minor_write, minor_writes, op_path}
 use Rattle.daos_model.specs.Transactions.{attempt_ops}
-use Rattle.daos_report.specs.Forms.{HasNames, IsBelowOf, IsContOf, IsObjOf, IsPathOf}
+use Rattle.report_writer.specs.Forms.{HasNames, IsBelowOf, IsContOf, IsObjOf, IsPathOf}
 use Rattle.world_gots.specs.FormLaws.{ops-form}
 use Rattle.script_runnable.specs.Keyed.{HasKeys, IsKeyOrNone, OpHasKeys, ScriptHasKeys}
 use Rattle.world_forms.specs.KeyLaws.{attempt-keys}

@@ -11,7 +11,7 @@ use Rattle.model_laws.specs.Members.{Has, contains-from_has}
 use Rattle.daos_model.specs.declared.durable.Version.{Version}
 use Rattle.daos_model.specs.Attempts.{tries}
 use Rattle.daos_model.specs.Opening.{Given, Opening, fresh, top, undisturbed}
-use Rattle.daos_report.specs.Forms.{IsEpochOrNone, IsReportOf}
+use Rattle.report_writer.specs.Forms.{IsEpochOrNone, IsReportOf}
 use Rattle.world_attempts.specs.History.{History}
 use Rattle.world_base.specs.declared.world.World.{World}
 use Rattle.world_core.specs.Begins.{IsBegun, IsSimple, held_at}

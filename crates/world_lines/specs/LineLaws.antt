@@ -60,10 +60,10 @@ own-lines-told r w n c d more k told = record {
 }
 
 -- a client that did something, and all others
-pub did-tell : (r : Rules) (w : World) (n : ℕ) (c d : ClientState) (letters : List Letter) (more : List Line) (k : Lines r w) (here : slice_get w.clients n ≡ Some c)
+pub did-tell : (r : Rules) (w : World) (n : ℕ) (c d : ClientState) (letters unanswered : List Letter) (more : List Line) (k : Lines r w) (here : slice_get w.clients n ≡ Some c)
     → Tells (client_plan r n) d ((k.told n c here).attempts ++ tries more)
-    → Lines r (with_client n d (record w { messages = letters; lines = w.lines ++ map (with_epoch w.issued) more }))
-did-tell r w n c d letters more k here told = record { told = told'; nobody = nobody }
+    → Lines r (with_client n d (record w { messages = letters; asked = unanswered; lines = w.lines ++ map (with_epoch w.issued) more }))
+did-tell r w n c d letters unanswered more k here told = record { told = told'; nobody = nobody }
   where
     own : AreOf n (tries more)
     own = own-lines (client_plan r n) d (k.told n c here).attempts more told
@@ -105,7 +105,7 @@ did-tell r w n c d letters more k here told = record { told = told'; nobody = no
 pub lines-by-moves : (r : Rules) → 0 < r.attempts → KeptByMoves r (Lines r)
 lines-by-moves r some w n c here k =
     let t = k.told n c here in
-    did-tell r w n c (moved (client_plan r n) c).state _ (listed (moved (client_plan r n) c).line) k here
+    did-tell r w n c (moved (client_plan r n) c).state _ _ (listed (moved (client_plan r n) c).line) k here
     (record { told = moved-keeps (client_plan r n) c t.attempts some t.tells.told; answers = moved-answered (client_plan r n) c t.attempts some t.tells })
 
 pub lines-by-counting : (r : Rules) → KeptByCounting (Lines r)
@@ -113,7 +113,7 @@ unfolding tries
 lines-by-counting r w n j c here k =
     let t = k.told n c here in
     subst (λ ls. Lines r (with_client n (record c { skip = j }) (record w { lines = ls }))) (append-nil w.lines)
-    (did-tell r w n c (record c { skip = j }) w.messages [] k here (skipped n j c t.attempts t.tells))
+    (did-tell r w n c (record c { skip = j }) w.messages w.asked [] k here (skipped n j c t.attempts t.tells))
   where
     skipped : (n j : ℕ) (c : ClientState) (attempts : List Attempt) → Tells (client_plan r n) c attempts → Tells (client_plan r n) (record c { skip = j }) (attempts ++ tries [])
     skipped n j c attempts t = subst (Tells (client_plan r n) (record c { skip = j })) (sym (append-nil attempts)) (record { told = t.told; answers = record { ended = t.answers.ended; here = t.answers.here } })
@@ -178,5 +178,5 @@ pub lines-by-hearing : (r : Rules) (w : World) (n : ℕ) (c : ClientState) (l : 
 lines-by-hearing r w n c l rest talk ends k here takes to =
     let t = k.told n c here in
     let p = client_plan r n in
-    did-tell r w n c (heard p c l.message).state _ (listed (heard p c l.message).line) k here
+    did-tell r w n c (heard p c l.message).state _ _ (listed (heard p c l.message).line) k here
     (record { told = heard-keeps p c t.attempts l.message t.tells.told; answers = heard-answered p c t.attempts l.message t.tells (heard-fits r w n c l rest talk ends here takes to) })

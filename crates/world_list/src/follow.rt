@@ -10,6 +10,7 @@ use base_types::items::{Items, Memory};
 use base_types::report::Lines;
 use base_messages::actor::ActorId;
 use base_messages::message::Posts;
+use run_base::asked::asked_after;
 use run_base::lines::with_epoch;
 use std::alloc::Global;
 use world_base::did::{Did, Issues};
@@ -18,10 +19,12 @@ use world_base::world::World;
 use world_same::lists::is_joined;
 use world_same::same::Same;
 
-/// The letters that are sent, the lines that are added and the epochs that are issued in a turn.
+/// The letters that are sent, those that are without an answer then, the lines that are added and the
+/// epochs that are issued in a turn.
 #[derive(Drop)]
 pub struct Follow {
     pub letters: Letters,
+    pub asked: Letters,
     pub issued: Issues,
     pub lines: Lines,
 }
@@ -77,15 +80,18 @@ pub fn what_follows(
         lines,
         issued,
     } = did;
+    let letters = letters_of(alloc, from, posts)?;
+    let asked = asked_after(&before.asked, letters.as_slice())?;
     Ok(Follow {
-        letters: letters_of(alloc, from, posts)?,
+        letters,
+        asked,
         issued: issues_of(alloc, issued)?,
         lines: lines_of(alloc, &before.issued, lines)?,
     })
 }
 
-/// Whether the epochs and lines of a world are those before and what follows from a turn, and the
-/// numbers are those before.
+/// Whether the epochs, the lines and what is without an answer are those before and what follows from
+/// a turn, and the numbers are those before.
 pub fn is_told(before: &World, after: &World, follow: &Follow) -> bool
     ensures { Decides result (IsTold before.now follow.now after.now) }
 {
@@ -93,7 +99,8 @@ pub fn is_told(before: &World, after: &World, follow: &Follow) -> bool
         after.issued.as_slice(),
         before.issued.as_slice(),
         follow.issued.as_slice(),
-    ) && after.numbers.is_same(&before.numbers)
+    ) && after.asked.is_same(&follow.asked)
+        && after.numbers.is_same(&before.numbers)
         && is_joined(
             after.lines.as_slice(),
             before.lines.as_slice(),

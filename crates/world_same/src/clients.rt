@@ -6,7 +6,12 @@ use world_base::client::{ClientState, KnownSnap, Present, Stage};
 
 impl Same for Stage {
     fn is_same(&self, other: &Stage) -> bool {
-        *self == *other
+        match (self, other) {
+            (Stage::Skip, Stage::Skip) => true,
+            (Stage::Cond, Stage::Cond) => true,
+            (Stage::Act, Stage::Act) => true,
+            _ => false,
+        }
     }
 }
 

@@ -18,19 +18,30 @@ impl Same for Version {
 
 impl Same for Entry {
     fn is_same(&self, other: &Entry) -> bool {
-        *self == *other
+        self.attempt.is_same(&other.attempt)
+            && self.epoch.is_same(&other.epoch)
+            && self.leader.is_same(&other.leader)
+            && self.members.is_same(&other.members)
+            && self.confirmed.is_same(&other.confirmed)
+            && self.committed.is_same(&other.committed)
     }
 }
 
 impl Same for ContRow {
     fn is_same(&self, other: &ContRow) -> bool {
-        *self == *other
+        self.cont.is_same(&other.cont)
+            && self.floor.is_same(&other.floor)
+            && self.why.is_same(&other.why)
+            && self.aggregated.is_same(&other.aggregated)
+            && self.number.is_same(&other.number)
     }
 }
 
 impl Same for Snap {
     fn is_same(&self, other: &Snap) -> bool {
-        *self == *other
+        self.cont.is_same(&other.cont)
+            && self.epoch.is_same(&other.epoch)
+            && self.created.is_same(&other.created)
     }
 }
 

@@ -14,13 +14,23 @@ impl Same for ActorId {
 
 impl Same for EntryState {
     fn is_same(&self, other: &EntryState) -> bool {
-        *self == *other
+        match (self, other) {
+            (EntryState::Prepared, EntryState::Prepared) => true,
+            (EntryState::Committed, EntryState::Committed) => true,
+            (EntryState::Absent, EntryState::Absent) => true,
+            _ => false,
+        }
     }
 }
 
 impl Same for Verdict {
     fn is_same(&self, other: &Verdict) -> bool {
-        *self == *other
+        match (self, other) {
+            (Verdict::Committed, Verdict::Committed) => true,
+            (Verdict::Aborted, Verdict::Aborted) => true,
+            (Verdict::Undecided, Verdict::Undecided) => true,
+            _ => false,
+        }
     }
 }
 

@@ -7,7 +7,13 @@ use base_types::shown::Shown;
 
 impl Same for FloorWhy {
     fn is_same(&self, other: &FloorWhy) -> bool {
-        *self == *other
+        match (self, other) {
+            (FloorWhy::Opening, FloorWhy::Opening) => true,
+            (FloorWhy::Restart(one), FloorWhy::Restart(two)) => one.is_same(two),
+            (FloorWhy::Snapshot(one), FloorWhy::Snapshot(two)) => one.is_same(two),
+            (FloorWhy::Aggregate(one), FloorWhy::Aggregate(two)) => one.is_same(two),
+            _ => false,
+        }
     }
 }
 

@@ -9,7 +9,7 @@ use base_types::path::Path;
 
 impl Same for Epoch {
     fn is_same(&self, other: &Epoch) -> bool {
-        *self == *other
+        self.0 == other.0
     }
 }
 
@@ -21,13 +21,13 @@ impl Same for AttemptId {
 
 impl Same for ContId {
     fn is_same(&self, other: &ContId) -> bool {
-        *self == *other
+        self.0 == other.0
     }
 }
 
 impl Same for ObjId {
     fn is_same(&self, other: &ObjId) -> bool {
-        *self == *other
+        self.same(*other)
     }
 }
 

@@ -3,7 +3,7 @@ ghost use Rattle.std.specs.Prelude.{◌≡◌, Decides};
 
 use crate::same::Same;
 use world_base::letter::Letter;
-use world_base::target::{Life, TargetMemory, TargetState};
+use world_base::target::{Collection, Life, TargetMemory, TargetState};
 use world_base::world::{Numbers, World};
 
 impl Same for Letter {
@@ -16,7 +16,23 @@ impl Same for Letter {
 
 impl Same for Life {
     fn is_same(&self, other: &Life) -> bool {
-        *self == *other
+        match (self, other) {
+            (Life::Running, Life::Running) => true,
+            (Life::Stopped, Life::Stopped) => true,
+            (Life::Down, Life::Down) => true,
+            _ => false,
+        }
+    }
+}
+
+impl Same for Collection {
+    fn is_same(&self, other: &Collection) -> bool {
+        self.attempt.is_same(&other.attempt)
+            && self.client.is_same(&other.client)
+            && self.cont.is_same(&other.cont)
+            && self.epoch.is_same(&other.epoch)
+            && self.name.is_same(&other.name)
+            && self.held.is_same(&other.held)
     }
 }
 
@@ -26,6 +42,7 @@ impl Same for TargetMemory {
             && self.stamps.is_same(&other.stamps)
             && self.leader.is_same(&other.leader)
             && self.member.is_same(&other.member)
+            && self.collecting.is_same(&other.collecting)
     }
 }
 
@@ -41,7 +58,8 @@ impl Same for TargetState {
 
 impl Same for Numbers {
     fn is_same(&self, other: &Numbers) -> bool {
-        *self == *other
+        self.restarts.is_same(&other.restarts)
+            && self.aggregates.is_same(&other.aggregates)
     }
 }
 
@@ -50,6 +68,7 @@ impl Same for World {
         self.targets.is_same(&other.targets)
             && self.clients.is_same(&other.clients)
             && self.messages.is_same(&other.messages)
+            && self.asked.is_same(&other.asked)
             && self.issued.is_same(&other.issued)
             && self.numbers.is_same(&other.numbers)
             && self.lines.is_same(&other.lines)

@@ -27,7 +27,7 @@ returns-then-not-parse-clause-told g c t =
     let good : is_log_size c.in_ok-count.count c.in_ok-total.total ≡ true = sym c.is_log_size.ensures ∙ c.if-not-is_log_size.false in
     let long : length (take c.in_ok-total.total c.args.body.now) ≡ c.in_ok-total.total = length-take-le c.in_ok-total.total c.args.body.now (grind (arith, nat_tests, good, c.requires.room)) in
     let bytes : c.read.new.buf ≡ bytes_at f (log_place + 8) c.in_ok-total.total = c.in_ok-read.ensures.bytes t ∙ (ap (λ (b : Image). bytes_at b (log_place + 8) (length (take c.in_ok-total.total c.args.body.now))) (two ∙ one) ∙ ap (bytes_at f (log_place + 8)) long) in
-    let size : c.size.result ≡ g.R.Region.extent c.args.region.now = c.size.ensures ∙ (c.read.ensures.extent ∙ (c.read_number-2.ensures.extent ∙ c.read_number.ensures.extent)) in
+    let size : c.size.result ≡ g.R.Region.extent c.args.region.now = c.size.ensures.size ∙ (c.read.ensures.extent ∙ (c.read_number-2.ensures.extent ∙ c.read_number.ensures.extent)) in
     let none = log_some c.size.result c.in_ok-count.count c.in_ok-total.total f c.read.new.buf None (c.in_ok-count.ensures.number t) second good bytes (c.parse.ensures.none (search (rules, c.if-not-parse.true))) in
     ap (ranges_of (c.read.new.buf ++ drop c.in_ok-total.total c.args.body.now)) c.clear-then-not-parse.ensures.items ∙ (sym (ap logged none) ∙ ap (λ (n : ℕ). logged (log_in n f)) size)
 
@@ -40,6 +40,6 @@ returns-else-not-parse-clause-told g c t =
     let good : is_log_size c.in_ok-count.count c.in_ok-total.total ≡ true = sym c.is_log_size.ensures ∙ c.if-not-is_log_size.false in
     let long : length (take c.in_ok-total.total c.args.body.now) ≡ c.in_ok-total.total = length-take-le c.in_ok-total.total c.args.body.now (grind (arith, nat_tests, good, c.requires.room)) in
     let bytes : c.read.new.buf ≡ bytes_at f (log_place + 8) c.in_ok-total.total = c.in_ok-read.ensures.bytes t ∙ (ap (λ (b : Image). bytes_at b (log_place + 8) (length (take c.in_ok-total.total c.args.body.now))) (two ∙ one) ∙ ap (bytes_at f (log_place + 8)) long) in
-    let size : c.size.result ≡ g.R.Region.extent c.args.region.now = c.size.ensures ∙ (c.read.ensures.extent ∙ (c.read_number-2.ensures.extent ∙ c.read_number.ensures.extent)) in
+    let size : c.size.result ≡ g.R.Region.extent c.args.region.now = c.size.ensures.size ∙ (c.read.ensures.extent ∙ (c.read_number-2.ensures.extent ∙ c.read_number.ensures.extent)) in
     let read = log_some c.size.result c.in_ok-count.count c.in_ok-total.total f c.read.new.buf (Some (ranges_of c.read.new.buf c.parse.new.spans.items)) (c.in_ok-count.ensures.number t) second good bytes (c.parse.ensures.told (search (rules, c.if-not-parse.false))) in
     ranges_front c.read.new.buf (drop c.in_ok-total.total c.args.body.now) c.size.result c.parse.new.spans.items c.parse.ensures.sound ∙ (sym (ap logged read) ∙ ap (λ (n : ℕ). logged (log_in n f)) size)

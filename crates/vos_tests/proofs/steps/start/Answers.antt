@@ -1,4 +1,4 @@
-use Rattle.vos_tests.proofs.Made.{no_lease_yet, started_is}
+use Rattle.vos_tests.proofs.Allowed.{no_lease_yet, started_is}
 use Rattle.vos_tests.proofs.steps.start.Goals as goal
 
 pub extend_lease-requires-clause-on : goal.extend_lease-requires-clause-on

@@ -1,7 +1,7 @@
 use Rattle.std.proofs.Common.{rules, sym, subst, arith}
 use Rattle.pmem_pages.specs.Blocks.{Blocks}
 use Rattle.pmem_tree_base.specs.Nodes.{entry_of}
-use Rattle.pmem_tree_insert.specs.Grow.{CanGrow, Grown}
+use Rattle.pmem_tree.specs.Grow.{CanGrow, Grown}
 use Rattle.pmem_tree.proofs.Found.{steps_16}
 use Rattle.pmem_tree.proofs.Inserted.{whole_stands, can_grow, inserts, stages_few, too_few}
 use Rattle.pmem_tree.proofs.tree.Tree.insert.Goals as goal

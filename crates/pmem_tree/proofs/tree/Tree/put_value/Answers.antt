@@ -1,7 +1,7 @@
 use Rattle.std.proofs.Common.{sym, subst, arith}
 use Rattle.std.proofs.lemmas.Result.{on_ok_weaker}
 use Rattle.pmem_pages.specs.Blocks.{Blocks}
-use Rattle.pmem_tree_paths.specs.Put.{CanPut, Put}
+use Rattle.pmem_tree_base.specs.Put.{CanPut, Put}
 use Rattle.pmem_tree.proofs.Found.{steps_16}
 use Rattle.pmem_tree.proofs.Valued.{can_put, puts}
 use Rattle.pmem_tree.proofs.tree.Tree.put_value.Goals as goal

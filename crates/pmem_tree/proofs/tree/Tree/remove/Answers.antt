@@ -1,6 +1,6 @@
 use Rattle.std.proofs.Common.{rules, sym, subst, arith}
 use Rattle.pmem_pages.specs.Blocks.{Blocks}
-use Rattle.pmem_tree_remove.specs.Shrink.{CanShrink, Shrunk}
+use Rattle.pmem_tree.specs.Shrink.{CanShrink, Shrunk}
 use Rattle.pmem_tree.proofs.Found.{steps_16}
 use Rattle.pmem_tree.proofs.Removed.{can_shrink, gone_taken, removes, stages_least, few_removed, few_given}
 use Rattle.pmem_tree.proofs.tree.Tree.remove.Goals as goal

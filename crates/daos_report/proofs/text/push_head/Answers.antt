@@ -1,5 +1,0 @@
-use Rattle.daos_report.proofs.Joins.{three_added}
-use Rattle.daos_report.proofs.text.push_head.Goals as goal
-
-pub returns : goal.returns
-returns c = rw (← c.from.ensures) (three_added _ _ _ _ _ _ _ c.in_ok-extend_from_slice.ensures.items c.in_ok-push_number.ensures c.in_ok-push.ensures.items)

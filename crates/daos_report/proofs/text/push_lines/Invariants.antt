@@ -1,7 +1,0 @@
-use Rattle.std.proofs.Common.{◌≡◌, ◌++◌, drop, flat_map}
-use Rattle.base_text.specs.Rows.{rows_text}
-use Rattle.daos_report.specs.Reports.{line_rows}
-use Rattle.daos_report.proofs.text.push_lines.Given as goal
-
-abbrev pub invariant-loop-line : goal.invariant-loop-line
-invariant-loop-line l = l.out.items ++ rows_text (flat_map (line_rows l.script) (drop l.line-index l.lines)) ≡ l.initial.out.items ++ rows_text (flat_map (line_rows l.script) l.lines)

@@ -1,4 +1,0 @@
-// Pages in memory, for tests.
-#![tactic(auto)]
-
-pub mod mem_pages;

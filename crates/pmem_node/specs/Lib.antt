@@ -1,4 +1,0 @@
-pub mod Node
-pub mod Shape
-pub mod Owned
-pub mod Parts

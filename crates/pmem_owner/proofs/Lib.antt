@@ -1,3 +1,0 @@
-pub mod BlockLaws
-pub mod Counts
-pub mod Owning

@@ -1,0 +1,9 @@
+pub mod BlockLaws
+pub mod Owning
+pub mod Filling
+pub mod Nodes
+pub mod Lists
+pub mod Shapes
+pub mod Heights
+pub mod Parts
+pub mod Walks

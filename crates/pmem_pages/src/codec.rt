@@ -1,0 +1,108 @@
+// The bytes of a node in its block.
+ghost use Rattle.std.specs.Prelude.{◌≡◌, ◌≤◌, ◌<◌, ◌+◌, ◌^◌, ℕ, List, length, take, drop};
+ghost use Rattle.byteorder.specs.Endian.{big_bytes, big_number};
+ghost use Rattle.pmem_pages.specs.declared.node.Node.{Node as NodeOf};
+ghost use Rattle.pmem_pages.specs.Node.{key_cmp, value_len, node_bytes, node_of, IsNode, IsNodeBlock};
+
+use crate::node::{Node, TreeKey, Value};
+use byteorder::{BigEndian, ByteOrder};
+use std::cmp::Ordering;
+
+/// How two keys lie to each other, by their bytes.
+#[tactic(auto, unfolding(crate::specs::Node::key_cmp))]
+pub fn compare(a: &TreeKey, b: &TreeKey) -> Ordering
+    requires a { a.now.len ≤ 64 }
+    requires b { b.now.len ≤ 64 }
+    ensures { result ≡ key_cmp a.now b.now }
+{
+    let left = &a.bytes[..usize::from(a.len)];
+    let right = &b.bytes[..usize::from(b.len)];
+    left.cmp(right)
+}
+
+/// How many bytes the values of a kind have.
+pub fn value_length(kind: u8) -> u8
+    ensures { result ≡ value_len kind }
+{
+    match kind {
+        1 | 2 => 8,
+        3 => 12,
+        4 => 9,
+        7 => 30,
+        _ => 14,
+    }
+}
+
+fn two_bytes(n: u16) -> [u8; 2]
+    ensures { result ≡ big_bytes 2 n }
+{
+    let mut two = [0; 2];
+    BigEndian::write_u16(&mut two, n);
+    two
+}
+
+fn four_bytes(n: u32) -> [u8; 4]
+    ensures { result ≡ big_bytes 4 n }
+{
+    let mut four = [0; 4];
+    BigEndian::write_u32(&mut four, n);
+    four
+}
+
+fn two_at(bytes: &[u8], at: usize) -> u16
+    requires { at + 2 ≤ length bytes.now }
+    ensures { result ≡ big_number 2 (drop at bytes.now) }
+{
+    BigEndian::read_u16(&bytes[at..])
+}
+
+fn four_at(bytes: &[u8], at: usize) -> u32
+    requires { at + 4 ≤ length bytes.now }
+    ensures { result ≡ big_number 4 (drop at bytes.now) }
+{
+    BigEndian::read_u32(&bytes[at..])
+}
+
+/// Writes a node of this kind into a block.
+pub fn write_node(kind: u8, node: &Node, to: &mut [u8; 256])
+    ensures { to.new ≡ node_bytes kind node.now }
+{
+    to[0..2].copy_from_slice(&[kind, node.height]);
+    to[2..4].copy_from_slice(&two_bytes(u16::from(node.key.len)));
+    to[4..8].copy_from_slice(&four_bytes(node.left));
+    to[8..12].copy_from_slice(&four_bytes(node.right));
+    to[12..76].copy_from_slice(&node.key.bytes);
+    to[76..256].copy_from_slice(&node.value.bytes);
+}
+
+/// Reads a node of this kind from a block, whatever its bytes are.
+#[tactic(auto, unfolding(crate::specs::Node::node_of))]
+pub fn read_node(kind: u8, from: &[u8; 256]) -> Node
+    ensures node { result ≡ node_of kind from.now }
+    ensures key { result.key.len ≤ 64 }
+{
+    let mut key = [0; 64];
+    key.copy_from_slice(&from[12..76]);
+    let mut value = [0; 180];
+    value.copy_from_slice(&from[76..256]);
+    Node {
+        height: from[1],
+        left: four_at(from, 4),
+        right: four_at(from, 8),
+        key: TreeKey {
+            len: two_at(from, 2).min(64) as u8,
+            bytes: key,
+        },
+        value: Value {
+            len: value_length(kind),
+            bytes: value,
+        },
+    }
+}
+
+/// A node is read back as it was written, and a block that holds a node is written back as it was
+/// read: neither says more than the other.
+pub fn nodes_are_blocks()
+    ensures again { (kind : ℕ) (n : NodeOf) → IsNode kind n → node_of kind (node_bytes kind n) ≡ n }
+    ensures back { (kind : ℕ) (bs : List ℕ) → IsNodeBlock kind bs → node_bytes kind (node_of kind bs) ≡ bs }
+{}

@@ -1,0 +1,27 @@
+use Rattle.std.proofs.Common.{◌∙◌, sym, subst, arith}
+use Rattle.std.proofs.lemmas.Result.{on_ok_weaker}
+use Rattle.pmem_pages.specs.Blocks.{Blocks, IsTaken}
+use Rattle.pmem_tree_base.proofs.Held.{node_taken}
+use Rattle.pmem_tree_base.proofs.Putting.{put_node, put_goes_left, put_goes_right, puts_from_left, puts_from_right, puts_from_here}
+use Rattle.pmem_tree_base.proofs.put.+put_at.Goals as goal
+
+pub read_at-requires : goal.read_at-requires
+read_at-requires g t c told = put_node _ c.args.kind c.args.at c.args.depth c.args.pair.now (c.requires.tree told) c.if-at-eq0.false
+
+pub stage_node-requires : goal.stage_node-requires
+stage_node-requires g t c told = subst (λ (m : Blocks). IsTaken m c.args.at) (sym (c.read_at.ensures.kept told)) (node_taken _ c.args.kind c.args.at (put_node _ c.args.kind c.args.at c.args.depth c.args.pair.now (c.requires.tree told) c.if-at-eq0.false))
+
+pub put_at-requires : goal.put_at-requires
+put_at-requires g t c κs within = (omega arith, (within.0, (within.1, (λ told. put_goes_left _ c.args.kind c.args.at c.args.depth c.args.pair.now c.in_ok-node.node c.if-at-eq0.false (c.in_ok-node.ensures.node told) (sym c.compare.ensures ∙ c.in-Less.is) _ (c.read_at.ensures.kept told) (c.requires.tree told), c.requires.key))))
+
+pub put_at-requires-in-Greater : goal.put_at-requires-in-Greater
+put_at-requires-in-Greater g t c κs within = (omega arith, (within.0, (within.1, (λ told. put_goes_right _ c.args.kind c.args.at c.args.depth c.args.pair.now c.in_ok-node.node c.if-at-eq0.false (c.in_ok-node.ensures.node told) (sym c.compare.ensures ∙ c.in-Greater.is) _ (c.read_at.ensures.kept told) (c.requires.tree told), c.requires.key))))
+
+pub returns-in-Less-clause-put : goal.returns-in-Less-clause-put
+returns-in-Less-clause-put g t c = on_ok_weaker c.put_at.result (λ h told. puts_from_left _ c.args.kind c.args.at c.args.depth c.args.pair.now c.in_ok-node.node c.if-at-eq0.false (c.in_ok-node.ensures.node told) (sym c.compare.ensures ∙ c.in-Less.is) _ (c.read_at.ensures.kept told) _ (h told)) c.put_at.ensures.put
+
+pub returns-in-Greater-clause-put : goal.returns-in-Greater-clause-put
+returns-in-Greater-clause-put g t c = on_ok_weaker c.put_at-in-Greater.result (λ h told. puts_from_right _ c.args.kind c.args.at c.args.depth c.args.pair.now c.in_ok-node.node c.if-at-eq0.false (c.in_ok-node.ensures.node told) (sym c.compare.ensures ∙ c.in-Greater.is) _ (c.read_at.ensures.kept told) _ (h told)) c.put_at-in-Greater.ensures.put
+
+pub returns-in_ok-stage_node-in-Equal-clause-put : goal.returns-in_ok-stage_node-in-Equal-clause-put
+returns-in_ok-stage_node-in-Equal-clause-put g t c told = puts_from_here _ c.args.kind c.args.at c.args.depth c.args.pair.now c.in_ok-node.node c.if-at-eq0.false (c.in_ok-node.ensures.node told) (sym c.compare.ensures ∙ c.in-Equal.is) _ _ (c.read_at.ensures.kept told) (rw (← c.with_value-changed.ensures) (c.in_ok-stage_node-in-Equal.ensures.staged told))

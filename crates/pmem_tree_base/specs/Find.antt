@@ -1,0 +1,29 @@
+-- What a look-up says of the tree below a block.
+use Rattle.std.specs.Prelude.{◌≡◌, ◌≤◌, ℕ, Option, Some, None}
+use Rattle.pmem_pages.specs.Blocks.{Blocks}
+use Rattle.pmem_pages.specs.declared.node.Pair.{Pair}
+use Rattle.pmem_pages.specs.declared.node.Value.{Value}
+use Rattle.pmem_pages.specs.Shape.{Entry, Shape, root_of, height, entries, Stands, Rises}
+
+-- a tree of the kind, whose keys rise, stands below this block, no higher than this
+pub record Below (m : Blocks) (kind at depth : ℕ) (t : Shape) : Type 0 where
+  pub root : at ≡ root_of t
+  pub stands : Stands m kind t
+  pub rises : Rises (entries t)
+  pub high : height t ≤ depth
+
+abbrev pub SomeBelow : Blocks → ℕ → ℕ → ℕ → Type 0
+SomeBelow m kind at depth = (t : Shape) × Below m kind at depth t
+
+-- what holds of every such tree
+abbrev pub OfBelow : Blocks → ℕ → ℕ → ℕ → (Shape → Type 0) → Type 0
+OfBelow m kind at depth P = (t : Shape) → Below m kind at depth t → P t
+
+-- the value of an entry, and the pair
+abbrev pub value_of : Option Entry → Option Value
+value_of None = None
+value_of (Some e) = Some e.value
+
+abbrev pub pair_of : Option Entry → Option Pair
+pair_of None = None
+pair_of (Some e) = Some (record { key = e.key; value = e.value })

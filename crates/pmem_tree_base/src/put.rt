@@ -1,0 +1,71 @@
+// A value is put in the place of another, below a block.
+ghost use Rattle.std.specs.Prelude.{◌≡◌, ◌⊎◌, ◌≤◌, ◌<◌, ◌+◌, true, OnOk, IsErrOf, IsTrue};
+ghost use Rattle.pmem_pages.specs.Blocks.{IsSpent};
+ghost use Rattle.pmem_tree_base.specs.declared.refusal.TreeNo.{TreeNo};
+ghost use Rattle.pmem_tree_base.specs.Calls.{Goes};
+ghost use Rattle.pmem_tree_base.specs.Put.{SomePuts, OfPutting, Put};
+
+use crate::read::read_at;
+use crate::refusal::TreeNo;
+use crate::write::stage_node;
+use pmem_pages::codec::compare;
+use pmem_pages::node::{Node, Pair, Value};
+use pmem_pages::pages::Pages;
+use pmem_pages::steps::Steps;
+use std::cmp::Ordering;
+use std::sync::ledger::Ledger;
+
+// A node with another value.
+fn with_value(node: &Node, value: &Value) -> Node
+    ensures { result ≡ record { height = node.now.height; left = node.now.left; right = node.now.right; key = node.now.key; value = value.now } }
+{
+    Node {
+        height: node.height,
+        left: node.left,
+        right: node.right,
+        key: node.key,
+        value: *value,
+    }
+}
+
+/// Puts a value at a key of the tree below a block, which is no higher than `depth`. Where the key isn't
+/// there, nothing changes.
+///
+/// # Errors
+///
+/// `TooMuch` comes only where no range or fewer than 256 bytes are left to stage. `Stopped` comes only
+/// where the pages answered it, and `NoBlock` never.
+pub fn put_at<P: Pages, L: Ledger>(
+    pages: &mut P,
+    kind: u8,
+    at: u32,
+    depth: u8,
+    pair: &Pair,
+    steps: &mut Steps<L>,
+) -> Result<(), TreeNo>
+    requires tree { IsTrue P.tells → SomePuts (P.blocks pages.old) kind at depth pair.now }
+    requires key { pair.now.key.len ≤ 64 }
+    ensures put { OnOk result (IsTrue P.tells → OfPutting (P.blocks pages.old) kind at depth pair.now (λ t. Put (P.blocks pages.old) kind t pair.now (P.blocks pages.new))) }
+    ensures refused { IsErrOf result TreeNo.TooMuch → ((P.budget pages.old).ranges < 1) ⊎ ((P.budget pages.old).bytes < 256) }
+    ensures no_block { IsErrOf result TreeNo.NoBlock → ⊥ }
+    ensures steps { steps.new ≤ steps.old + depth }
+    ensures free { (P.budget pages.new).free ≡ (P.budget pages.old).free }
+    ensures spent { IsSpent 1 256 (P.budget pages.old) (P.budget pages.new) }
+    ensures goes { Goes P.stopped P.count P.burns pages.old pages.new }
+    ensures stopped { IsErrOf result TreeNo.Stopped → P.stopped pages.new ≡ true }
+    ensures went_on { OnOk result (P.stopped pages.new ≡ P.stopped pages.old) }
+{
+    if at == 0 || depth == 0 {
+        return Ok(());
+    }
+    let node = read_at(pages, kind, at, steps)?;
+    match compare(&pair.key, &node.key) {
+        Ordering::Less => put_at(pages, kind, node.left, depth - 1, pair, steps),
+        Ordering::Equal => {
+            let changed = with_value(&node, &pair.value);
+            stage_node(pages, kind, at, &changed)?;
+            Ok(())
+        }
+        Ordering::Greater => put_at(pages, kind, node.right, depth - 1, pair, steps),
+    }
+}

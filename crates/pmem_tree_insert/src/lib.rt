@@ -1,4 +1,0 @@
-// A node goes into a tree.
-#![tactic(auto)]
-
-pub mod grow;

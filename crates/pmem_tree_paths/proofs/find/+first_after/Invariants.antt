@@ -1,4 +1,0 @@
-use Rattle.pmem_tree_paths.proofs.find.+first_after.Given as goal
-
-abbrev pub decreases-first_after : goal.decreases-first_after
-decreases-first_after g l = l.depth

@@ -1,4 +1,0 @@
-use Rattle.pmem_tree_paths.proofs.find.+last_before.Given as goal
-
-abbrev pub decreases-last_before : goal.decreases-last_before
-decreases-last_before g l = l.depth

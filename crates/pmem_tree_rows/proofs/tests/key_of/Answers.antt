@@ -1,6 +1,0 @@
-use Rattle.std.proofs.Common.{rules, arith}
-use Rattle.pmem_tree_rows.proofs.Zeros.{two_set}
-use Rattle.pmem_tree_rows.proofs.tests.key_of.Goals as goal
-
-pub returns : goal.returns
-returns c = record { fits = omega arith; room = search rules; rest = λ i h. two_set 64 _ _ i h }

@@ -1,5 +1,0 @@
-// Rows over trees in pages.
-#![tactic(auto)]
-
-#[cfg(test)]
-mod tests;

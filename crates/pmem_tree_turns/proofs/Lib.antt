@@ -1,3 +1,0 @@
-pub mod Joins
-pub mod Turning
-pub mod TurningLeft

@@ -1,4 +1,0 @@
-// Two trees and a pair between them become one balanced tree, turned where it has to be.
-#![tactic(auto)]
-
-pub mod join;
