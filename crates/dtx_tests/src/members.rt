@@ -1,11 +1,11 @@
 // Fetches parked at a member, and inquiries.
+use base_messages::message::{Message, Posts};
 use base_types::entry::{Entry, Verdict};
 use base_types::epoch::Epoch;
 use base_types::id::{AttemptId, ContId};
 use base_types::items::Memory;
 use base_types::operation::Read;
 use base_types::path::Path;
-use base_messages::message::{Message, Posts};
 use dtx_base::member::Freed;
 use dtx_member::member::Member;
 use std::alloc::Global;
