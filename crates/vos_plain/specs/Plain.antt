@@ -1,5 +1,5 @@
 -- What a store over lists says of itself.
-use Rattle.std.specs.Prelude.{ℕ, Bool, false, true}
+use Rattle.std.specs.Prelude.{ℕ, false, true}
 use Rattle.base_types.specs.declared.outcome.FloorWhy.TheVariants.{Opening}
 use Rattle.daos_model.specs.declared.durable.Durable.{Durable}
 use Rattle.vos_store.specs.Calls.{State}
@@ -25,13 +25,13 @@ plain_state s = record {
   opening = (s.floor, s.why);
 }
 
--- a new one runs, and no fuse is set
-abbrev pub new_state : Bool → ℕ → State
-new_state may_fail free = record {
+-- a new one of an empty plan runs, no fuse is set, and nothing can stop it
+abbrev pub new_state : ℕ → State
+new_state free = record {
   stopped = false;
   faults = 0;
   burns = 0;
-  may_fail = may_fail;
+  may_fail = false;
   fused = false;
   tells_fuse = true;
   left = 0;

@@ -314,7 +314,7 @@ impl PlainStore {
         requires least { 2 ≤ size_mib }
         requires most { size_mib ≤ 32 }
         ensures durable { IfOk result (λ s. plain_durable s ≡ empty_durable 1) }
-        ensures state { IfOk result (λ s. plain_state s ≡ new_state (has_some plan.now) (size_mib * 4096 - 1264)) }
+        ensures state { IfOk result (λ s. plain_state s ≡ record (new_state (size_mib * 4096 - 1264)) { may_fail = has_some plan.now }) }
     {
         Ok(PlainStore {
             contents: Contents::new(alloc, u32::from(size_mib) * 4096 - 1264)?,
