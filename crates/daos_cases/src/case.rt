@@ -46,6 +46,7 @@ fn add_to(case: &mut Case<'_>, part: Part, line: &[u8]) -> Result<(), AllocError
 pub fn cases_of(alloc: Global, text: &[u8]) -> Result<Vec<Case<'_>>, AllocError> {
     let mut cases: Vec<Case<'_>> = Vec::new(alloc);
     let mut part = Part::Writes;
+    let text = text.strip_suffix(b"\n").unwrap_or(text);
     for line in text.split(|byte| *byte == b'\n') {
         if let Some(words) = line.strip_prefix(b"> ") {
             part = Part::Given;

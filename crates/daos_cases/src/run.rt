@@ -13,9 +13,12 @@ use std::thread::Threads;
 // The most bytes that a case may write.
 const ROOM: u64 = 16_777_216;
 
-// The words that stand apart by single spaces.
+// The words that stand apart by single spaces; an empty line has none.
 fn words_of(alloc: Global, line: &str) -> anyhow::Result<Vec<String>> {
     let mut words = Vec::new(alloc);
+    if line.is_empty() {
+        return Ok(words);
+    }
     for word in line.split(' ') {
         words.push(String::from_str(alloc, word)?)?;
     }
