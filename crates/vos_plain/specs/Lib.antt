@@ -3,7 +3,7 @@ pub mod Costs
 pub mod Contents
 pub mod Steps
 pub mod Newest
-pub mod Trips
+pub mod Stops
 pub mod Plain
 pub mod Laws
 pub mod Layers

@@ -1,11 +1,11 @@
 -- What a store over lists says of itself.
-use Rattle.std.specs.Prelude.{ℕ, Bool, false, true}
+use Rattle.std.specs.Prelude.{ℕ, false, true}
 use Rattle.base_types.specs.declared.outcome.FloorWhy.TheVariants.{Opening}
 use Rattle.daos_model.specs.declared.durable.Durable.{Durable}
 use Rattle.vos_store.specs.Calls.{State}
 use Rattle.vos_plain.specs.declared.store.PlainStore.{PlainStore}
 use Rattle.vos_plain.specs.Contents.{contents_of, free_of}
-use Rattle.vos_plain.specs.Trips.{signs_of}
+use Rattle.vos_plain.specs.Stops.{signs_of}
 
 -- what it keeps
 abbrev pub plain_durable : PlainStore → Durable
@@ -13,25 +13,25 @@ plain_durable s = contents_of s.contents
 
 abbrev pub plain_state : PlainStore → State
 plain_state s = record {
-  stopped = (signs_of s.trips).stopped;
-  faults = (signs_of s.trips).faults;
-  burns = (signs_of s.trips).burns;
-  may_fail = (signs_of s.trips).may_fail;
-  fused = (signs_of s.trips).fused;
+  stopped = (signs_of s.stops).stopped;
+  faults = (signs_of s.stops).faults;
+  burns = (signs_of s.stops).burns;
+  may_fail = (signs_of s.stops).may_fail;
+  fused = (signs_of s.stops).fused;
   tells_fuse = true;
-  left = (signs_of s.trips).left;
+  left = (signs_of s.stops).left;
   free = free_of s.contents;
   targets = 64;
   opening = (s.floor, s.why);
 }
 
--- a new one runs, and no fuse is set
-abbrev pub new_state : Bool → ℕ → State
-new_state may_fail free = record {
+-- a new one of an empty plan runs, no fuse is set, and nothing can stop it
+abbrev pub new_state : ℕ → State
+new_state free = record {
   stopped = false;
   faults = 0;
   burns = 0;
-  may_fail = may_fail;
+  may_fail = false;
   fused = false;
   tells_fuse = true;
   left = 0;

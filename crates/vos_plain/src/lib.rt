@@ -1,4 +1,4 @@
-// A store over lists in memory, which stops at the changes that it is told to.
+// An in-memory store, over lists, which stops at the changes that it is told to.
 #![tactic(auto)]
 
 mod answers;
@@ -12,7 +12,7 @@ pub mod pieces;
 mod plain;
 pub mod reads;
 pub mod rows;
+mod stop_plan;
 pub mod store;
 pub mod sweeps;
 pub mod tables;
-mod trips;

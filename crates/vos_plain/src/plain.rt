@@ -5,12 +5,12 @@ ghost use Rattle.vos_store.specs.Answers.{later_floor};
 ghost use Rattle.vos_plain.specs.Contents.{contents_of};
 ghost use Rattle.vos_plain.specs.Laws.{plain_formed, plain_steady};
 ghost use Rattle.vos_plain.specs.Plain.{new_state, plain_durable, plain_state};
-ghost use Rattle.vos_plain.specs.Trips.{has_some};
+ghost use Rattle.vos_plain.specs.Stops.{has_some};
 
 use crate::contents::Contents;
+use crate::stop_plan::{Injected, StopPlan};
 use crate::store::PlainStore;
 use crate::tables::copied;
-use crate::trips::{Strike, Trips};
 use base_types::answer::Answer;
 use base_types::entry::{Entries, Entry, Settle};
 use base_types::epoch::Epoch;
@@ -49,14 +49,14 @@ impl Store for PlainStore {
     ghost state = { plain_state };
 
     fn enlist(&mut self, conts: &[ContId]) -> Result<(), EnlistNo> {
-        if self.trips.stopped {
+        if self.stops.stopped {
             return Err(EnlistNo::Stopped);
         }
         self.contents.enlist(conts)
     }
 
     fn prepare(&mut self, entry: &Entry, writes: &[MinorWrite]) -> Result<(), PrepareNo> {
-        if self.trips.stopped {
+        if self.stops.stopped {
             return Err(PrepareNo::Stopped);
         }
         let (need, free) = (blocks(writes), self.contents.free());
@@ -66,13 +66,13 @@ impl Store for PlainStore {
         let Ok(rows) = self.contents.ready(entry, writes) else {
             return Err(PrepareNo::Memory);
         };
-        match self.trips.strike() {
-            Strike::Made => {
+        match self.stops.next_change() {
+            Injected::Made => {
                 self.contents.prepare(*entry, rows);
                 Ok(())
             }
-            Strike::StopBefore => Err(PrepareNo::Stopped),
-            Strike::StopAfter => {
+            Injected::StopBefore => Err(PrepareNo::Stopped),
+            Injected::StopAfter => {
                 self.contents.prepare(*entry, rows);
                 Err(PrepareNo::Stopped)
             }
@@ -80,16 +80,16 @@ impl Store for PlainStore {
     }
 
     fn settle(&mut self, attempt: AttemptId, step: Settle) -> Result<(), Stopped> {
-        if self.trips.stopped {
+        if self.stops.stopped {
             return Err(Stopped);
         }
-        match self.trips.strike() {
-            Strike::Made => {
+        match self.stops.next_change() {
+            Injected::Made => {
                 self.contents.settle(attempt, step);
                 Ok(())
             }
-            Strike::StopBefore => Err(Stopped),
-            Strike::StopAfter => {
+            Injected::StopBefore => Err(Stopped),
+            Injected::StopAfter => {
                 self.contents.settle(attempt, step);
                 Err(Stopped)
             }
@@ -97,16 +97,16 @@ impl Store for PlainStore {
     }
 
     fn extend_lease(&mut self, ticks: u64) -> Result<(), Stopped> {
-        if self.trips.stopped {
+        if self.stops.stopped {
             return Err(Stopped);
         }
-        match self.trips.strike() {
-            Strike::Made => {
+        match self.stops.next_change() {
+            Injected::Made => {
                 self.contents.extend(ticks);
                 Ok(())
             }
-            Strike::StopBefore => Err(Stopped),
-            Strike::StopAfter => {
+            Injected::StopBefore => Err(Stopped),
+            Injected::StopAfter => {
                 self.contents.extend(ticks);
                 Err(Stopped)
             }
@@ -114,19 +114,19 @@ impl Store for PlainStore {
     }
 
     fn freeze(&mut self, cont: ContId, s: Epoch) -> Result<(), FreezeNo> {
-        if self.trips.stopped {
+        if self.stops.stopped {
             return Err(FreezeNo::Stopped);
         }
         if let Err(refusal) = self.contents.can_freeze(cont, s) {
             return Err(refusal);
         }
-        match self.trips.strike() {
-            Strike::Made => {
+        match self.stops.next_change() {
+            Injected::Made => {
                 self.contents.freeze(cont, s);
                 Ok(())
             }
-            Strike::StopBefore => Err(FreezeNo::Stopped),
-            Strike::StopAfter => {
+            Injected::StopBefore => Err(FreezeNo::Stopped),
+            Injected::StopAfter => {
                 self.contents.freeze(cont, s);
                 Err(FreezeNo::Stopped)
             }
@@ -134,16 +134,16 @@ impl Store for PlainStore {
     }
 
     fn create(&mut self, cont: ContId, s: Epoch) -> Result<(), Stopped> {
-        if self.trips.stopped {
+        if self.stops.stopped {
             return Err(Stopped);
         }
-        match self.trips.strike() {
-            Strike::Made => {
+        match self.stops.next_change() {
+            Injected::Made => {
                 self.contents.create(cont, s);
                 Ok(())
             }
-            Strike::StopBefore => Err(Stopped),
-            Strike::StopAfter => {
+            Injected::StopBefore => Err(Stopped),
+            Injected::StopAfter => {
                 self.contents.create(cont, s);
                 Err(Stopped)
             }
@@ -151,16 +151,16 @@ impl Store for PlainStore {
     }
 
     fn thaw(&mut self, cont: ContId, s: Epoch) -> Result<(), Stopped> {
-        if self.trips.stopped {
+        if self.stops.stopped {
             return Err(Stopped);
         }
-        match self.trips.strike() {
-            Strike::Made => {
+        match self.stops.next_change() {
+            Injected::Made => {
                 self.contents.thaw(cont, s);
                 Ok(())
             }
-            Strike::StopBefore => Err(Stopped),
-            Strike::StopAfter => {
+            Injected::StopBefore => Err(Stopped),
+            Injected::StopAfter => {
                 self.contents.thaw(cont, s);
                 Err(Stopped)
             }
@@ -168,16 +168,16 @@ impl Store for PlainStore {
     }
 
     fn prune(&mut self, cont: ContId, upto: Epoch, number: u32) -> Result<(), Stopped> {
-        if self.trips.stopped {
+        if self.stops.stopped {
             return Err(Stopped);
         }
-        match self.trips.strike() {
-            Strike::Made => {
+        match self.stops.next_change() {
+            Injected::Made => {
                 self.contents.prune(cont, upto, number);
                 Ok(())
             }
-            Strike::StopBefore => Err(Stopped),
-            Strike::StopAfter => {
+            Injected::StopBefore => Err(Stopped),
+            Injected::StopAfter => {
                 self.contents.prune(cont, upto, number);
                 Err(Stopped)
             }
@@ -185,19 +185,19 @@ impl Store for PlainStore {
     }
 
     fn discard(&mut self, cont: ContId, lo: Epoch, hi: Epoch) -> Result<(), DiscardNo> {
-        if self.trips.stopped {
+        if self.stops.stopped {
             return Err(DiscardNo::Stopped);
         }
         if let Err(refusal) = self.contents.can_discard(cont, lo, hi) {
             return Err(refusal);
         }
-        match self.trips.strike() {
-            Strike::Made => {
+        match self.stops.next_change() {
+            Injected::Made => {
                 self.contents.discard(cont, lo, hi);
                 Ok(())
             }
-            Strike::StopBefore => Err(DiscardNo::Stopped),
-            Strike::StopAfter => {
+            Injected::StopBefore => Err(DiscardNo::Stopped),
+            Injected::StopAfter => {
                 self.contents.discard(cont, lo, hi);
                 Err(DiscardNo::Stopped)
             }
@@ -205,7 +205,7 @@ impl Store for PlainStore {
     }
 
     fn fetch(&mut self, read: &Read, below: Epoch) -> Result<Answer, FetchNo> {
-        if self.trips.stopped {
+        if self.stops.stopped {
             return Err(FetchNo::Stopped);
         }
         self.contents.fetch(read, below)
@@ -217,7 +217,7 @@ impl Store for PlainStore {
         above: Epoch,
         upto: Epoch,
     ) -> Result<Option<Shown>, LaterNo> {
-        if self.trips.stopped {
+        if self.stops.stopped {
             return Err(LaterNo::Stopped);
         }
         match self.contents.later_write(path, above, upto) {
@@ -227,7 +227,7 @@ impl Store for PlainStore {
     }
 
     fn entries(&mut self) -> Result<Entries, LaterNo> {
-        if self.trips.stopped {
+        if self.stops.stopped {
             return Err(LaterNo::Stopped);
         }
         match self.contents.entries() {
@@ -237,7 +237,7 @@ impl Store for PlainStore {
     }
 
     fn objects(&mut self, cont: ContId) -> Result<ObjIds, LaterNo> {
-        if self.trips.stopped {
+        if self.stops.stopped {
             return Err(LaterNo::Stopped);
         }
         match self.contents.objects(cont) {
@@ -274,7 +274,7 @@ impl Store for PlainStore {
         self.contents.open();
         self.floor = self.contents.restart_floor();
         self.why = FloorWhy::Restart(number);
-        self.trips.stopped = false;
+        self.stops.stopped = false;
         Ok(())
     }
 
@@ -283,11 +283,11 @@ impl Store for PlainStore {
     }
 
     fn faults(&self) -> u64 {
-        self.trips.faults
+        self.stops.faults
     }
 
     fn burnt(&self) -> u64 {
-        self.trips.burns
+        self.stops.burns
     }
 
     ghost steady = { λ s d x runs is m. plain_steady d x (contents_of s.contents) is m };
@@ -301,7 +301,7 @@ impl Store for PlainStore {
 
 impl Fuse for PlainStore {
     fn fuse(&mut self, k: u32) {
-        self.trips.set(k);
+        self.stops.set(k);
     }
 }
 
@@ -314,11 +314,11 @@ impl PlainStore {
         requires least { 2 ≤ size_mib }
         requires most { size_mib ≤ 32 }
         ensures durable { IfOk result (λ s. plain_durable s ≡ empty_durable 1) }
-        ensures state { IfOk result (λ s. plain_state s ≡ new_state (has_some plan.now) (size_mib * 4096 - 1264)) }
+        ensures state { IfOk result (λ s. plain_state s ≡ record (new_state (size_mib * 4096 - 1264)) { may_fail = has_some plan.now }) }
     {
         Ok(PlainStore {
             contents: Contents::new(alloc, u32::from(size_mib) * 4096 - 1264)?,
-            trips: Trips::new(copied(alloc, plan)?),
+            stops: StopPlan::new(copied(alloc, plan)?),
             floor: Epoch(0),
             why: FloorWhy::Opening,
         })

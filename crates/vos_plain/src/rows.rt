@@ -72,6 +72,7 @@ pub fn put_all(rows: &mut Vec<Version>, mut new: Vec<Version>)
     }
 }
 
+/// Whether a version is of an attempt, and not settled.
 #[tactic(auto, unfolding(daos_model::specs::Versions::is_pending))]
 pub fn is_pending(row: &Version, attempt: AttemptId) -> bool
     ensures { result ≡ is_pending attempt row.now }
@@ -79,6 +80,7 @@ pub fn is_pending(row: &Version, attempt: AttemptId) -> bool
     is_same_attempt(row.by, attempt) && !row.done
 }
 
+/// Whether a version is of a container, and its epoch is from `lo` to `hi`.
 #[tactic(auto, unfolding(daos_model::specs::Changes::is_in_range))]
 pub fn is_in_range(row: &Version, cont: ContId, lo: Epoch, hi: Epoch) -> bool
     ensures { result ≡ is_in_range cont lo hi row.now }

@@ -2,7 +2,7 @@
 ghost use Rattle.std.specs.Prelude.{◌+◌, ◌*◌, ◌≤◌};
 
 use crate::contents::Contents;
-use crate::trips::Trips;
+use crate::stop_plan::StopPlan;
 use base_types::epoch::Epoch;
 use base_types::outcome::FloorWhy;
 
@@ -11,7 +11,7 @@ use base_types::outcome::FloorWhy;
 #[derive(Drop)]
 pub struct PlainStore {
     pub(crate) contents: Contents,
-    pub(crate) trips: Trips,
+    pub(crate) stops: StopPlan,
     pub(crate) floor: Epoch,
     pub(crate) why: FloorWhy,
     ghost covered: { floor.0 ≤ contents.lease * 256 + 255 },

@@ -17,18 +17,21 @@ use base_types::snapshot::Snap;
 use daos_model::durable::{ContRow, is_same_attempt};
 use std::alloc::Global;
 
+/// Whether an entry is that of an attempt.
 pub fn is_entry_of(row: &Entry, attempt: AttemptId) -> bool
     ensures { result ≡ is_entry_of attempt row.now }
 {
     is_same_attempt(row.attempt, attempt)
 }
 
+/// Whether a row is that of a container.
 pub fn is_row_of(row: &ContRow, cont: ContId) -> bool
     ensures { result ≡ is_row_of cont row.now }
 {
     row.cont.0 == cont.0
 }
 
+/// Whether a snapshot is that of a container at an epoch.
 pub fn is_snap_at(row: &Snap, cont: ContId, epoch: Epoch) -> bool
     ensures { result ≡ is_snap_at cont epoch row.now }
 {

@@ -9,10 +9,10 @@ use Rattle.vos_plain.proofs.plain.PlainStoreStore.discard.Goals as goal
 
 pub returns-in-Made-clause-kept : goal.returns-in-Made-clause-kept
 returns-in-Made-clause-kept c =
-    let run : c.args.self.now.trips.stopped ≡ false = cc in
-    makes_partly discard_stop (discarded c.args.cont c.args.lo c.args.hi) (CutDiscard c.args.cont c.args.lo c.args.hi) c.args.self.now.trips.stopped (contents_of c.args.self.now.contents) (contents_of c.discard.new.self) run c.discard.ensures.kept (whole_discard c.args.cont c.args.lo c.args.hi)
+    let run : c.args.self.now.stops.stopped ≡ false = cc in
+    makes_partly discard_stop (discarded c.args.cont c.args.lo c.args.hi) (CutDiscard c.args.cont c.args.lo c.args.hi) c.args.self.now.stops.stopped (contents_of c.args.self.now.contents) (contents_of c.discard.new.self) run c.discard.ensures.kept (whole_discard c.args.cont c.args.lo c.args.hi)
 
 pub returns-in-StopAfter-clause-kept : goal.returns-in-StopAfter-clause-kept
 returns-in-StopAfter-clause-kept c =
-    let run : c.args.self.now.trips.stopped ≡ false = cc in
-    makes_partly_stopped discard_stop (discarded c.args.cont c.args.lo c.args.hi) (CutDiscard c.args.cont c.args.lo c.args.hi) c.args.self.now.trips.stopped discard.Stopped (contents_of c.args.self.now.contents) (contents_of c.discard-in-StopAfter.new.self) refl run c.discard-in-StopAfter.ensures.kept (whole_discard c.args.cont c.args.lo c.args.hi)
+    let run : c.args.self.now.stops.stopped ≡ false = cc in
+    makes_partly_stopped discard_stop (discarded c.args.cont c.args.lo c.args.hi) (CutDiscard c.args.cont c.args.lo c.args.hi) c.args.self.now.stops.stopped discard.Stopped (contents_of c.args.self.now.contents) (contents_of c.discard-in-StopAfter.new.self) refl run c.discard-in-StopAfter.ensures.kept (whole_discard c.args.cont c.args.lo c.args.hi)

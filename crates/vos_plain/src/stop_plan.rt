@@ -1,11 +1,11 @@
 // Which changes of a store over lists stop it.
 ghost use Rattle.std.specs.Prelude.{◌≡◌, false, nat_lt};
 ghost use Rattle.std.specs.List.{list_any};
-ghost use Rattle.vos_plain.specs.Trips.{Struck, has_some, is_number, signs_of, stop_of, strike_of, struck};
+ghost use Rattle.vos_plain.specs.Stops.{AfterChange, has_some, is_number, signs_of, stop_of, injected_by, after_change};
 
 /// What becomes of a change.
 #[derive(Clone, Copy)]
-pub enum Strike {
+pub enum Injected {
     /// It is made.
     Made,
     /// The store stops, and it isn't made.
@@ -18,7 +18,7 @@ pub enum Strike {
 /// stops it at the last of so many changes, once; `left` of them are left, and none where no fuse is
 /// set.
 #[derive(Drop)]
-pub struct Trips {
+pub struct StopPlan {
     pub plan: Vec<u32>,
     pub count: u64,
     pub fuse: u32,
@@ -36,23 +36,23 @@ fn is_planned(plan: &[u32], number: u64) -> bool
 }
 
 // What becomes of a change of this number at which the store stops.
-fn stop_at(number: u64) -> Strike
+fn stop_at(number: u64) -> Injected
     ensures { result ≡ stop_of number }
 {
     if number % 2 == 0 {
-        Strike::StopAfter
+        Injected::StopAfter
     } else {
-        Strike::StopBefore
+        Injected::StopBefore
     }
 }
 
-impl Trips {
+impl StopPlan {
     /// No change was made yet, and no fuse is set.
-    pub fn new(plan: Vec<u32>) -> Trips
+    pub fn new(plan: Vec<u32>) -> StopPlan
         ensures left { result ≡ record { plan = plan; count = 0; fuse = 0; left = 0; faults = 0; burns = 0; stopped = false } }
         ensures signs { signs_of result ≡ record { stopped = false; faults = 0; burns = 0; may_fail = has_some plan.items; fused = false; left = 0 } }
     {
-        Trips {
+        StopPlan {
             plan,
             count: 0,
             fuse: 0,
@@ -75,11 +75,11 @@ impl Trips {
     /// A change that isn't refused: it is counted, and the store stops where its number is in the
     /// plan, or where it is the last that the fuse leaves; the change is made where that number, or
     /// else that of the fuse, is even.
-    pub fn strike(&mut self) -> Strike
+    pub fn next_change(&mut self) -> Injected
         requires { self.old.stopped ≡ false }
-        ensures which { result ≡ strike_of self.old }
-        ensures left { self.new ≡ struck self.old }
-        ensures signs { Struck result (signs_of self.old) (signs_of self.new) }
+        ensures which { result ≡ injected_by self.old }
+        ensures left { self.new ≡ after_change self.old }
+        ensures signs { AfterChange result (signs_of self.old) (signs_of self.new) }
     {
         self.count = self.count.saturating_add(1);
         let burns = self.left == 1;
@@ -98,6 +98,6 @@ impl Trips {
         if burns {
             return stop_at(u64::from(self.fuse));
         }
-        Strike::Made
+        Injected::Made
     }
 }
