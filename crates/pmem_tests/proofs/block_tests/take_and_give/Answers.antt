@@ -1,8 +1,8 @@
-use Rattle.std.proofs.Common.{◌≡◌, ◌∙◌, ◌≤◌, ◌<◌, ℕ, true, false, length, sym, ap, subst, arith}
+use Rattle.std.proofs.Common.{◌≡◌, ◌∙◌, ◌<◌, length, sym, ap, arith}
 use Rattle.std.specs.Prelude.{slice_index}
 use Rattle.std.proofs.lemmas.Option.{get_or_from_slice_get}
 use Rattle.pmem_alloc.specs.Blocks.{BlocksState, free_now}
-use Rattle.pmem_alloc.specs.Sets.{Set, without}
+use Rattle.pmem_alloc.specs.Sets.{Set}
 use Rattle.pmem_alloc.specs.Laws.{were_free, are_taken, free_in_within}
 use Rattle.pmem_tests.proofs.block_tests.take_and_give.Goals as goal
 
