@@ -23,7 +23,7 @@ pub mod sure_source;
 use std::alloc::AllocError;
 
 /// A call of the outside failed.
-#[derive(Clone, Copy)]
+#[derive(Clone, Copy, Debug, PartialEq, Eq)]
 pub struct Failed;
 
 /// The number of a target, from 0.
