@@ -7,7 +7,6 @@ use Rattle.base_types.specs.declared.operation.Act.{Act}
 use Rattle.base_types.specs.declared.operation.Act.TheVariants.{Fetch, Change}
 use Rattle.base_types.specs.declared.operation.MinorWrite.{MinorWrite}
 use Rattle.base_types.specs.declared.operation.Op.{Op}
-use Rattle.base_types.specs.declared.operation.Write.TheVariants as write
 use Rattle.base_types.specs.declared.script.Command.{Command}
 use Rattle.base_types.specs.declared.script.Command.TheVariants.{Run, Snap, Aggregate, Tell, Skip}
 use Rattle.base_types.specs.declared.script.ContDecl.{ContDecl}

@@ -20,7 +20,8 @@ use Rattle.daos_model.specs.Durables.{IsInForm, is_version_in_form, row_of}
 use Rattle.daos_model.specs.Effect.{effects}
 use Rattle.daos_model.specs.Family.{Agree, counts, greatest_lease, resolved, snap_map, stand, top_of}
 use Rattle.daos_model.specs.Finals.{opening_of}
-use Rattle.daos_model.specs.Opening.{Opening, is_kept, kept}
+use Rattle.daos_model.specs.KeptLaws.{kept-without_snaps}
+use Rattle.daos_model.specs.Opening.{Opening, kept}
 use Rattle.daos_model.specs.Versions.{writes_in}
 use Rattle.world_core.specs.Begins.{IsOpeningPlain, OpensWith}
 use Rattle.world_ends.specs.FamilyStands.{at-has, none-created}
@@ -108,10 +109,14 @@ module _ (script : Script) (F : List Durable) (free : ℕ → ℕ) (k : AreSettl
   lease-bounded : greatest_lease F < 2 ^ 56
   lease-bounded = let low : greatest_lease F ≤ 2 ^ 56 - 1 = leases-below F (2 ^ 56 - 1) (λ t d at. let lt : d.lease < 2 ^ 56 = (k.each t d at).form.lease in omega (arith, lt)) in omega (arith, low)
 
-  -- they keep no snapshot, so a script drops none
-  no-snaps : (kept script (stand F)).snaps ≡ []
+  -- they keep no snapshot
+  none-kept : (stand F).snaps ≡ []
   unfolding stand
-  no-snaps = ap (λ s. filter (is_kept script) (map (snap_map F) s)) (none-created F (λ t d at. (k.each t d at).snaps))
+  none-kept = ap (map (snap_map F)) (none-created F (λ t d at. (k.each t d at).snaps))
+
+  -- so a script drops none
+  no-snaps : (kept script (stand F)).snaps ≡ []
+  no-snaps = ap (λ b. b.snaps) (kept-without_snaps script (stand F) none-kept) ∙ none-kept
 
   pub open-together : OpenTogether (length F) F (opening_of script F free)
   open-together = record {
