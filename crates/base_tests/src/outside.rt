@@ -1,16 +1,16 @@
 // Tables over the objects in memory, and over those that others hand in.
-use daos_outside::Failed;
-use daos_outside::adapters::{Reading, Writing};
-use daos_outside::clock::Clock;
-use daos_outside::mem_sink::MemSink;
-use daos_outside::mem_source::MemSource;
-use daos_outside::rack::Rack;
-use daos_outside::region::Region;
-use daos_outside::sink::{Sink, WriteNo, write_all};
-use daos_outside::source::{ReadNo, Source, read_all};
-use daos_outside::sure_rack::SureRack;
-use daos_outside::sure_sink::SureSink;
-use daos_outside::sure_source::SureSource;
+use base_outside::Failed;
+use base_outside::adapters::{Reading, Writing};
+use base_outside::clock::Clock;
+use base_outside::mem_sink::MemSink;
+use base_outside::mem_source::MemSource;
+use base_outside::rack::Rack;
+use base_outside::region::Region;
+use base_outside::sink::{Sink, WriteNo, write_all};
+use base_outside::source::{ReadNo, Source, read_all};
+use base_outside::sure_rack::SureRack;
+use base_outside::sure_sink::SureSink;
+use base_outside::sure_source::SureSource;
 use std::test::Fail;
 
 #[test]

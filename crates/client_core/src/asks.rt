@@ -7,6 +7,7 @@ ghost use Rattle.client_core.specs.Clients.{ObjFits, move_of};
 ghost use Rattle.world_base.specs.ClientTurns.{act_read, asks_read, condition_read, group_asked, group_count, member_asked, question};
 
 use crate::step::{Move, attempt_id};
+use base_messages::message::Message;
 use base_types::epoch::TargetId;
 use base_types::id::ObjId;
 use base_types::items::{Items, Memory};
@@ -14,7 +15,6 @@ use base_types::operation::{Act, Cond, MinorWrite, MinorWrites, Op, Read};
 use base_types::path::Path;
 use daos_class::class::Placed;
 use daos_class::place::leader_of;
-use base_messages::message::Message;
 use std::alloc::Global;
 use world_base::client::{ClientPlan, ClientState, Present, Stage};
 

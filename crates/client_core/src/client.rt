@@ -7,11 +7,11 @@ ghost use Rattle.world_base.specs.ClientTurns.{HearTurn, NextTurn, at_first, is_
 use crate::copies::copy_state;
 use crate::moves::waits;
 use crate::turns::{Turn, hears, next};
+use base_messages::message::Message;
 use base_types::epoch::Epoch;
 use base_types::items::{Items, Memory};
 use base_types::script::{OldDecl, Olds, Script};
 use base_types::snapshot::Snaps;
-use base_messages::message::Message;
 use std::alloc::Global;
 use std::marker::Model;
 use world_base::client::{ClientPlan, ClientState, KnownSnap, KnownSnaps};

@@ -11,6 +11,8 @@ use crate::asks::{asks_read, minor_writes, path_leader, question};
 use crate::copies::copy_present;
 use crate::ends::{begins, ends, next_place};
 use crate::step::{Move, at_present, attempt_id};
+use base_messages::actor::ActorId;
+use base_messages::message::{Message, Post};
 use base_types::epoch::Epoch;
 use base_types::id::{AttemptId, ContId};
 use base_types::items::Memory;
@@ -18,8 +20,6 @@ use base_types::key::Key;
 use base_types::operation::{MinorWrites, Op, Ops};
 use base_types::outcome::Outcome;
 use base_types::script::{Command, Skips};
-use base_messages::actor::ActorId;
-use base_messages::message::{Message, Post};
 use std::alloc::Global;
 use world_base::client::{ClientPlan, ClientState, Present, Stage};
 

@@ -3,11 +3,11 @@ ghost use Rattle.std.specs.Prelude.{◌≡◌};
 ghost use Rattle.client_core.specs.Clients.{move_of};
 ghost use Rattle.world_base.specs.ClientTurns.{asks, at_present, attempt_id, goes, rests, skips};
 
+use base_messages::actor::ActorId;
+use base_messages::message::{Message, Post};
 use base_types::epoch::TargetId;
 use base_types::id::AttemptId;
 use base_types::report::Line;
-use base_messages::actor::ActorId;
-use base_messages::message::{Message, Post};
 use world_base::client::{ClientPlan, ClientState, Present};
 
 /// What a client does next: the message that it sends and the line that it adds, if any; whether

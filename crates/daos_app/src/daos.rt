@@ -3,17 +3,17 @@ ghost use Rattle.std.specs.Prelude.{◌≡◌, ◌≢◌, ◌≤◌, ◌↔◌, 
 ghost use Rattle.std.specs.Io.KnownBytes.{Appends};
 ghost use Rattle.base_types.specs.declared.fault.ScriptFault.{ScriptFault};
 ghost use Rattle.base_types.specs.declared.fault.WordFault.{WordFault};
-ghost use Rattle.daos_outside.specs.Causes.{Rose};
-ghost use Rattle.daos_outside.specs.Transfers.{AppendsPrefix};
+ghost use Rattle.base_outside.specs.Causes.{Rose};
+ghost use Rattle.base_outside.specs.Transfers.{AppendsPrefix};
 ghost use Rattle.daos_app.specs.Answers.{AsksLoad, IsAnswerOfLoad, IsAnswerSoFar, IsBeforeRun, IsTold, RefusesScript};
 ghost use Rattle.daos_app.specs.Words.{run_job_of};
 
 use crate::output::write_text;
 use crate::text::text_of;
-use daos_outside::gate::Gate;
-use daos_outside::rack::Rack;
-use daos_outside::sink::Sink;
-use daos_outside::source::Source;
+use base_outside::gate::Gate;
+use base_outside::rack::Rack;
+use base_outside::sink::Sink;
+use base_outside::source::Source;
 use daos_status::status::Status;
 use std::alloc::Global;
 use std::sync::Wait;

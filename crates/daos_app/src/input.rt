@@ -1,14 +1,14 @@
 // Reads the script from the source.
 ghost use Rattle.std.specs.Prelude.{◌≡◌, ◌≤◌, true, IfOk, IfErr, IsErrOf, length};
-ghost use Rattle.daos_outside.specs.Causes.{Rose};
+ghost use Rattle.base_outside.specs.Causes.{Rose};
 ghost use Rattle.daos_app.specs.Inputs.{IsRead, IsScriptRefused, RefusesFor};
 ghost use Rattle.script_runnable.specs.Runnable.{IsRunnable, runs};
 ghost use Rattle.daos_script.specs.Grammar.{IsScriptText};
 ghost use Rattle.script_runnable.specs.Keyed.{ScriptHasKeys};
 
+use base_outside::source::{ReadNo, Source, read_most};
 use base_types::fault::{ScriptFault, Why};
 use base_types::script::Script;
-use daos_outside::source::{ReadNo, Source, read_most};
 use daos_script::fault::ScriptNo;
 use daos_script::keys::laws_of_keys;
 use daos_script::laws::texts_are_short;

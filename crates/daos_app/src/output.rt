@@ -1,10 +1,10 @@
 // Writes a text to the sink.
 ghost use Rattle.std.specs.Prelude.{◌≡◌, ◌≤◌, ◌⊎◌};
 ghost use Rattle.std.specs.Io.KnownBytes.{Appends};
-ghost use Rattle.daos_outside.specs.Causes.{Rose};
-ghost use Rattle.daos_outside.specs.Transfers.{AppendsPrefix};
+ghost use Rattle.base_outside.specs.Causes.{Rose};
+ghost use Rattle.base_outside.specs.Transfers.{AppendsPrefix};
 
-use daos_outside::sink::{Sink, write_all};
+use base_outside::sink::{Sink, write_all};
 use daos_status::status::Status;
 
 /// Writes a text, and says how that ended: `Done` or `WriteFault`.

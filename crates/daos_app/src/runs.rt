@@ -6,11 +6,11 @@ ghost use Rattle.daos_words.specs.Laws.{IsInForm};
 ghost use Rattle.script_runnable.specs.Keyed.{ScriptHasKeys};
 
 use crate::load::load_script;
+use base_outside::gate::Gate;
+use base_outside::rack::Rack;
 use base_types::items::Memory;
 use base_types::job::Job;
 use base_types::script::Script;
-use daos_outside::gate::Gate;
-use daos_outside::rack::Rack;
 use daos_run::run::run_script;
 use daos_run::stop::RunStop;
 use daos_summary::summary::summary_text;

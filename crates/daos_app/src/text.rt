@@ -1,7 +1,7 @@
 // The text that the program writes: of a run its report, of a load its summary.
 ghost use Rattle.std.specs.Prelude.{◌≡◌, ◌≤◌, ◌<◌, ◌↔◌, Err, map, string_bytes, IfErr, IfOk, IsErrOf};
 ghost use Rattle.base_types.specs.declared.fault.WordFault.{WordFault};
-ghost use Rattle.daos_outside.specs.Causes.{Rose};
+ghost use Rattle.base_outside.specs.Causes.{Rose};
 ghost use Rattle.daos_app.specs.Answers.{AsksLoad, IsAnswerOfLoad, IsBeforeRun, IsRefusal, IsRun, IsSummed, IsTold, RefusesScript};
 ghost use Rattle.daos_app.specs.Inputs.{IsRefused};
 ghost use Rattle.daos_app.specs.Words.{run_job_of};
@@ -10,10 +10,10 @@ ghost use Rattle.daos_words.specs.Laws.{IsInForm};
 use crate::input::{InputNo, read_input};
 use crate::runs::{load_text, run_text};
 use crate::words::run_job;
+use base_outside::gate::Gate;
+use base_outside::rack::Rack;
+use base_outside::source::Source;
 use base_types::job::{Job, Task};
-use daos_outside::gate::Gate;
-use daos_outside::rack::Rack;
-use daos_outside::source::Source;
 use daos_status::status::Status;
 use daos_words::fault::WordNo;
 use std::alloc::Global;

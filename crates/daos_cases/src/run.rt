@@ -1,11 +1,11 @@
 // A run of the program over memory.
 use crate::outcome::Outcome;
+use base_outside::gate::FreeGate;
+use base_outside::sure_rack::SureRack;
+use base_outside::sure_sink::SureSink;
+use base_outside::sure_source::SureSource;
 use daos_app::daos::run_daos;
 use daos_app::status::status_text;
-use daos_outside::gate::FreeGate;
-use daos_outside::sure_rack::SureRack;
-use daos_outside::sure_sink::SureSink;
-use daos_outside::sure_source::SureSource;
 use std::alloc::Global;
 use std::sync::Wait;
 use std::thread::Threads;

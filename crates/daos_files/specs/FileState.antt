@@ -1,6 +1,6 @@
 -- What a file as a region shows.
 use Rattle.std.specs.Prelude.{◌≡◌, ℕ, Bool, true, false, Result, OnOk, OnErr, IsErr}
-use Rattle.daos_outside.specs.Causes.{one_more}
+use Rattle.base_outside.specs.Causes.{one_more}
 
 -- how many bytes it has, whether a call failed since it was opened, and how often one did
 pub record FileState : Type 0 where

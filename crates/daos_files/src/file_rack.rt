@@ -1,11 +1,11 @@
 // A rack of files in a folder.
 ghost use Rattle.std.specs.Prelude.{◌≡◌, IfOk, OnOk, OnErr, false, refl};
-ghost use Rattle.daos_outside.specs.Causes.{HasCause, one_more};
+ghost use Rattle.base_outside.specs.Causes.{HasCause, one_more};
 
 use crate::file_region::FileRegion;
-use daos_outside::count_clock::CountClock;
-use daos_outside::rack::Rack;
-use daos_outside::{Failed, Memory, TargetId};
+use base_outside::count_clock::CountClock;
+use base_outside::rack::Rack;
+use base_outside::{Failed, Memory, TargetId};
 use std::alloc::Global;
 use std::fs::{File, OpenOptions};
 use std::marker::Model;

@@ -1,10 +1,10 @@
 // A file as a region.
 ghost use Rattle.std.specs.Prelude.{◌≡◌, ◌+◌, ◌≤◌, length, OnOk, OnErr, IsTrue, true, false, refl};
-ghost use Rattle.daos_outside.specs.Causes.{HasEitherCause, one_more};
+ghost use Rattle.base_outside.specs.Causes.{HasEitherCause, one_more};
 ghost use Rattle.daos_files.specs.FileState.{CountsFault, CountsOpening};
 
-use daos_outside::Failed;
-use daos_outside::region::Region;
+use base_outside::Failed;
+use base_outside::region::Region;
 use std::fs::File;
 use std::marker::Model;
 use std::os::unix::fs::FileExt;

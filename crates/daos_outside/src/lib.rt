@@ -1,33 +1,24 @@
-// The outside of the store: the traits that it asks for, and objects in memory that meet them.
+// The outside of the store under one name: the traits that it asks for, and what meets them, whatever crate holds it.
 #![tactic(auto)]
 
-pub mod adapters;
-mod bounded;
-pub mod bytes;
-pub mod clock;
-pub mod count_clock;
-pub mod fault_plan;
-pub mod gate;
-pub mod mem_sink;
-pub mod mem_source;
-pub mod rack;
-pub mod region;
-mod remaining;
-pub mod sink;
-pub mod source;
-pub mod sure_rack;
-pub mod sure_region;
-pub mod sure_sink;
-pub mod sure_source;
-
-use std::alloc::AllocError;
-
-/// A call of the outside failed.
-#[derive(Clone, Copy, Debug, PartialEq, Eq)]
-pub struct Failed;
-
-/// The number of a target, from 0.
-pub type TargetId = u8;
-
-/// Want of memory.
-pub type Memory = AllocError;
+pub use base_outside::adapters::{Reading, Writing};
+pub use base_outside::clock::Clock;
+pub use base_outside::count_clock::CountClock;
+pub use base_outside::gate::{FreeGate, Gate};
+pub use base_outside::mem_sink::MemSink;
+pub use base_outside::mem_source::MemSource;
+pub use base_outside::rack::Rack;
+pub use base_outside::region::{Fusible, Region};
+pub use base_outside::sink::Sink;
+pub use base_outside::source::Source;
+pub use base_outside::sure_rack::SureRack;
+pub use base_outside::sure_region::SureRegion;
+pub use base_outside::sure_sink::SureSink;
+pub use base_outside::sure_source::SureSource;
+pub use base_outside::{Failed, TargetId};
+pub use daos_files::file_rack::FileRack;
+pub use daos_files::file_region::FileRegion;
+pub use daos_regions::fused::Fused;
+pub use daos_regions::keep::Keep;
+pub use daos_regions::mem_rack::MemRack;
+pub use daos_regions::mem_region::MemRegion;

@@ -1,13 +1,13 @@
 // The store as a program: a script on standard input, its report on standard output.
 #![tactic(auto)]
 
+use base_outside::adapters::{Reading, Writing};
+use base_outside::gate::FreeGate;
+use base_outside::sink::Sink;
+use base_outside::source::Source;
+use base_outside::sure_rack::SureRack;
 use daos_app::daos::run_daos;
 use daos_app::status::{Status, status_text};
-use daos_outside::adapters::{Reading, Writing};
-use daos_outside::gate::FreeGate;
-use daos_outside::sink::Sink;
-use daos_outside::source::Source;
-use daos_outside::sure_rack::SureRack;
 use std::alloc::Global;
 use std::env;
 use std::env::Args;

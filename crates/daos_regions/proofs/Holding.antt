@@ -2,8 +2,8 @@
 use Rattle.std.proofs.Common.{◌≡◌, ℕ, zero, suc, ◌+◌, ◌≤◌, ◌<◌, List, [], ◌∷◌, ◌++◌, length, replicate, get_or, refl, sym, ap, ◌∙◌, subst, arith}
 use mathlib.Core.Path.{fun_ext}
 use Rattle.std.proofs.lemmas.List.{map-append}
-use Rattle.daos_outside.specs.Images.{Range, over, all_over, image_of}
-use Rattle.daos_outside.specs.ImageLaws.{all_over-push}
+use Rattle.base_outside.specs.Images.{Range, over, all_over, image_of}
+use Rattle.base_outside.specs.ImageLaws.{all_over-push}
 use Rattle.daos_regions.specs.declared.piece.Piece.{Piece}
 use Rattle.daos_regions.specs.declared.piece.Stretch.{Stretch}
 use Rattle.daos_regions.specs.declared.keep.Keep.{Keep}

@@ -2,7 +2,7 @@
 use Rattle.std.proofs.Common.{◌≡◌, ◌≢◌, ℕ, ◌≤◌, Bool, true, false, List, Option, Some, None, set, refl, sym, ap, ◌∙◌, subst, arith}
 use Rattle.std.specs.Prelude.{slice_get, unwrap_or, Result, Ok, Err, OnErr, is_ok}
 use Rattle.std.specs.Option.{option_flatten}
-use Rattle.daos_outside.specs.Racks.{at_home, is_away, IsKept, set_other, put_home, take_away}
+use Rattle.base_outside.specs.Racks.{at_home, is_away, IsKept, set_other, put_home, take_away}
 use Rattle.daos_regions.specs.MemState.{MemState}
 use Rattle.daos_regions.specs.Periods.{DiskState, MayLeave, read_now}
 use Rattle.daos_regions.specs.PeriodLaws.{after_end, end_may_leave}

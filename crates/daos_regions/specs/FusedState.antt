@@ -1,6 +1,6 @@
 -- What a fused region shows.
 use Rattle.std.specs.Prelude.{◌≡◌, ℕ, Bool, true, false, Result, IsErr}
-use Rattle.daos_outside.specs.Causes.{one_more}
+use Rattle.base_outside.specs.Causes.{one_more}
 
 -- the region below, how many writes are left up to the one that fails (0: none fails), whether it
 -- failed since the last opening, and how many calls it made fail

@@ -1,10 +1,10 @@
 -- What the calls of a region in memory leave, by their answers.
 use Rattle.std.specs.Prelude.{◌≡◌, ◌≤◌, Bool, true, false, [], ◌∷◌, length, Result, Ok, Err, OnOk, OnErr, IsErr, Contains, refl}
 use Rattle.std.proofs.Common.{sym, ap, ◌∙◌, subst, inl, arith}
-use Rattle.daos_outside.specs.Calls.{Calls}
-use Rattle.daos_outside.specs.Causes.{one_more}
-use Rattle.daos_outside.specs.Images.{Range, over, Only, NoMore, Tears, Elapses, Call}
-use Rattle.daos_outside.specs.Images.Call.{Read, Write, Flush}
+use Rattle.base_outside.specs.Calls.{Calls}
+use Rattle.base_outside.specs.Causes.{one_more}
+use Rattle.base_outside.specs.Images.{Range, over, Only, NoMore, Tears, Elapses, Call}
+use Rattle.base_outside.specs.Images.Call.{Read, Write, Flush}
 use Rattle.daos_regions.specs.declared.keep.Keep.{Keep}
 use Rattle.daos_regions.specs.declared.keep.Keep.TheVariants.{All}
 use Rattle.daos_regions.specs.Periods.{DiskState, read_now, MayLeave, LeftSince, Remembers}

@@ -1,8 +1,8 @@
 -- What a rack of regions in memory shows.
 use Rattle.std.specs.Prelude.{ℕ, Bool, false, List, [], Option, slice_get, unwrap_or}
-use Rattle.daos_outside.specs.Calls.{Calls}
-use Rattle.daos_outside.specs.Images.{Image}
-use Rattle.daos_outside.specs.Racks.{at_home, is_away, IsHeldBack, IsTakenBack, OthersAreKept}
+use Rattle.base_outside.specs.Calls.{Calls}
+use Rattle.base_outside.specs.Images.{Image}
+use Rattle.base_outside.specs.Racks.{at_home, is_away, IsHeldBack, IsTakenBack, OthersAreKept}
 use Rattle.daos_regions.specs.MemState.{MemState}
 use Rattle.daos_regions.specs.Periods.{MayLeave, read_now}
 use Rattle.daos_regions.specs.PeriodLaws.{after_end}

@@ -1,6 +1,6 @@
 -- What a region in memory shows.
 use Rattle.std.specs.Prelude.{Bool}
-use Rattle.daos_outside.specs.Calls.{Calls}
+use Rattle.base_outside.specs.Calls.{Calls}
 use Rattle.daos_regions.specs.declared.keep.Keep.{Keep}
 use Rattle.daos_regions.specs.Periods.{DiskState}
 

@@ -1,8 +1,8 @@
 -- What a disk in memory may have left, as it goes on.
 use Rattle.std.specs.Prelude.{◌≡◌, ◌⊎◌, ℕ, zero, suc, ◌+◌, ◌≤◌, Bool, true, false, cond, List, [], ◌∷◌, ◌++◌, length, refl}
 use Rattle.std.proofs.Common.{ap, ◌∙◌, arith, inl, inr}
-use Rattle.daos_outside.specs.Images.{Image, Range, lies_in, lies_in_some, over, all_over, Torn, Tears, Elapses, NoMore}
-use Rattle.daos_outside.specs.ImageLaws.{all_over-push, over_outside}
+use Rattle.base_outside.specs.Images.{Image, Range, lies_in, lies_in_some, over, all_over, Torn, Tears, Elapses, NoMore}
+use Rattle.base_outside.specs.ImageLaws.{all_over-push, over_outside}
 use Rattle.daos_regions.specs.declared.keep.Keep.{Keep}
 use Rattle.daos_regions.specs.declared.keep.Keep.TheVariants.{All}
 use Rattle.daos_regions.specs.Periods.{Period, DiskState, is_kept, kept_from, ended, all_ended, zeros, kept, read_now, MayLeave, MayHaveLeft, LeftSince, Remembers, AllFit}

@@ -1,6 +1,6 @@
 -- A disk in memory: its writes, from the first on, and what a crash may leave of them.
 use Rattle.std.specs.Prelude.{◌≡◌, ◌⊎◌, ℕ, zero, suc, ◌+◌, ◌%◌, ◌≤◌, Bool, true, false, cond, ◌==◌, List, [], ◌∷◌, length, map}
-use Rattle.daos_outside.specs.Images.{Image, Range, all_over, image_of, Torn}
+use Rattle.base_outside.specs.Images.{Image, Range, all_over, image_of, Torn}
 use Rattle.daos_regions.specs.declared.piece.Piece.{Piece}
 use Rattle.daos_regions.specs.declared.piece.Stretch.{Stretch}
 use Rattle.daos_regions.specs.declared.keep.Keep.{Keep}

@@ -1,14 +1,14 @@
 // A disk in memory that notes its writes.
 ghost use Rattle.std.specs.Prelude.{◌≡◌, ℕ, ◌<◌, ◌+◌, ◌≤◌, [], ◌∷◌, ◌++◌, length, drop, take, replicate, IfOk, OnOk, OnErr};
-ghost use Rattle.daos_outside.specs.Images.{over, all_over, bytes_at, image_of};
+ghost use Rattle.base_outside.specs.Images.{over, all_over, bytes_at, image_of};
 ghost use Rattle.daos_regions.specs.Periods.{ranges_of, kept_from, is_kept, read_now, AllFit};
 ghost use Rattle.daos_regions.specs.PeriodLaws.{written, after_end};
 ghost use Rattle.daos_regions.specs.declared.keep.Keep.TheVariants.{All};
 
 use crate::keep::Keep;
 use crate::piece::{Piece, Stretch};
-use daos_outside::Memory;
-use daos_outside::bytes::are_below_256;
+use base_outside::Memory;
+use base_outside::bytes::are_below_256;
 use std::alloc::Global;
 use std::marker::Model;
 use std::mem;
@@ -49,7 +49,7 @@ fn put(all: &mut [u8], at: usize, bytes: &[u8])
 }
 
 // Writes a range over an image.
-#[tactic(auto, using(daos_outside::specs::ImageLaws::image_written))]
+#[tactic(auto, using(base_outside::specs::ImageLaws::image_written))]
 fn lay(all: &mut [u8], at: usize, bytes: &[u8])
     requires { at + length bytes.now ≤ length all.old }
     ensures { image_of all.new ≡ over (record { place = at; bytes = bytes.now }) (image_of all.old) }

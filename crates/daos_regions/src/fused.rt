@@ -1,12 +1,12 @@
 // A region with a fuse.
 ghost use Rattle.std.specs.Prelude.{◌≡◌, ◌||◌, ◌==◌, ◌+◌, ◌-◌, ◌≤◌, [], ◌∷◌, length, true, false, OnOk, IsTrue, refl};
-ghost use Rattle.daos_outside.specs.Causes.{HasEitherCause, one_more};
-ghost use Rattle.daos_outside.specs.Images.{over, bytes_at, Only, NoMore, Tears, Elapses, StaysBroken, Mends};
-ghost use Rattle.daos_outside.specs.Images.Call.{Read, Write, Flush};
+ghost use Rattle.base_outside.specs.Causes.{HasEitherCause, one_more};
+ghost use Rattle.base_outside.specs.Images.{over, bytes_at, Only, NoMore, Tears, Elapses, StaysBroken, Mends};
+ghost use Rattle.base_outside.specs.Images.Call.{Read, Write, Flush};
 ghost use Rattle.daos_regions.specs.FusedState.{Fuses};
 
-use daos_outside::Failed;
-use daos_outside::region::{Fusible, Region};
+use base_outside::Failed;
+use base_outside::region::{Fusible, Region};
 use std::marker::Model;
 
 /// A region with a fuse: the write of a chosen number fails and isn't made, and every call after it

@@ -1,19 +1,19 @@
 // A rack in memory whose calls fail by their numbers.
 ghost use Rattle.std.specs.Prelude.{◌≡◌, IfOk, IfSome, IfNone, OnOk, OnErr, IsErr, IsTrue, Contains, Ok, Some, None, [], replicate, slice_set, refl, true, false};
-ghost use Rattle.daos_outside.specs.Causes.{HasCause, one_more};
+ghost use Rattle.base_outside.specs.Causes.{HasCause, one_more};
 ghost use Rattle.daos_regions.specs.MemRackState.{region_at_home, kept_region, opened_image, is_out_of_home, HoldsBack, KeepsOthers, TakesBack};
-ghost use Rattle.daos_outside.specs.Images.{NoMore};
+ghost use Rattle.base_outside.specs.Images.{NoMore};
 ghost use Rattle.daos_regions.specs.Periods.{MayLeave};
 ghost use Rattle.daos_regions.specs.PeriodLaws.{after_end};
 ghost use Rattle.daos_regions.specs.declared.keep.Keep.TheVariants.{All};
 
 use crate::keep::Keep;
 use crate::mem_region::MemRegion;
-use daos_outside::count_clock::CountClock;
-use daos_outside::fault_plan::FaultPlan;
-use daos_outside::rack::Rack;
-use daos_outside::region::Region;
-use daos_outside::{Failed, Memory, TargetId};
+use base_outside::count_clock::CountClock;
+use base_outside::failing_calls::FailingCalls;
+use base_outside::rack::Rack;
+use base_outside::region::Region;
+use base_outside::{Failed, Memory, TargetId};
 use std::alloc::Global;
 use std::marker::Model;
 
@@ -22,7 +22,7 @@ use std::marker::Model;
 #[derive(Drop)]
 pub struct MemRack {
     regions: Vec<Option<MemRegion>>,
-    plan: FaultPlan,
+    plan: FailingCalls,
 }
 
 impl Model for MemRack {
@@ -53,7 +53,7 @@ impl MemRack {
         }
         Ok(MemRack {
             regions,
-            plan: FaultPlan::new(alloc, fails)?,
+            plan: FailingCalls::new(alloc, fails)?,
         })
     }
 }

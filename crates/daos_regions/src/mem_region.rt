@@ -1,9 +1,9 @@
 // A region in memory whose calls fail by their numbers.
 ghost use Rattle.std.specs.Prelude.{◌≡◌, ◌⊎◌, ◌↔◌, ℕ, ◌<◌, ◌+◌, ◌≤◌, [], ◌∷◌, length, Bool, true, false, Contains, IfOk, OnOk, OnErr, IsOk, IsErr, IsTrue, if◌then◌else◌, refl};
 ghost use Rattle.std.proofs.Common.{inr};
-ghost use Rattle.daos_outside.specs.Causes.{HasEitherCause, one_more};
-ghost use Rattle.daos_outside.specs.Images.{over, bytes_at, Only, NoMore, Tears};
-ghost use Rattle.daos_outside.specs.ImageLaws.{torn_none};
+ghost use Rattle.base_outside.specs.Causes.{HasEitherCause, one_more};
+ghost use Rattle.base_outside.specs.Images.{over, bytes_at, Only, NoMore, Tears};
+ghost use Rattle.base_outside.specs.ImageLaws.{torn_none};
 ghost use Rattle.daos_regions.specs.Periods.{kept, read_now, MayLeave, LeftSince};
 ghost use Rattle.daos_regions.specs.PeriodLaws.{written, after_end, left_now};
 ghost use Rattle.daos_regions.specs.MemLaws.{Does, Goes, CountsCall, CountsOpening};
@@ -11,9 +11,9 @@ ghost use Rattle.daos_regions.specs.declared.keep.Keep.TheVariants.{All};
 
 use crate::disk::Disk;
 use crate::keep::Keep;
-use daos_outside::fault_plan::FaultPlan;
-use daos_outside::region::Region;
-use daos_outside::{Failed, Memory};
+use base_outside::failing_calls::FailingCalls;
+use base_outside::region::Region;
+use base_outside::{Failed, Memory};
 use std::alloc::Global;
 use std::marker::Model;
 
@@ -24,7 +24,7 @@ use std::marker::Model;
 #[derive(Drop)]
 pub struct MemRegion {
     disk: Disk,
-    plan: FaultPlan,
+    plan: FailingCalls,
     broken: bool,
     keep: Keep,
 }
@@ -49,7 +49,7 @@ impl MemRegion {
     {
         Ok(MemRegion {
             disk: Disk::new(alloc, size)?,
-            plan: FaultPlan::new(alloc, fails)?,
+            plan: FailingCalls::new(alloc, fails)?,
             broken: false,
             keep,
         })
@@ -57,7 +57,7 @@ impl MemRegion {
 }
 
 // Counts a call, and says whether it fails: by its number, or since one has failed before.
-fn call_fails(plan: &mut FaultPlan, broken: &mut bool) -> bool
+fn call_fails(plan: &mut FailingCalls, broken: &mut bool) -> bool
     ensures fails { IsTrue result ↔ ((broken.old ≡ true) ⊎ Contains plan.old.fails plan.new.calls) }
     ensures broken { broken.new ≡ result }
     ensures list { plan.new.fails ≡ plan.old.fails }
@@ -80,7 +80,7 @@ fn call_fails(plan: &mut FaultPlan, broken: &mut bool) -> bool
 // Reads from a disk, if the call doesn't fail.
 fn read_disk(
     disk: &Disk,
-    plan: &mut FaultPlan,
+    plan: &mut FailingCalls,
     broken: &mut bool,
     at: u64,
     buf: &mut [u8],
@@ -99,7 +99,7 @@ fn read_disk(
 // Writes to a disk, if the call doesn't fail and there is memory to note it.
 fn write_disk(
     disk: &mut Disk,
-    plan: &mut FaultPlan,
+    plan: &mut FailingCalls,
     broken: &mut bool,
     at: u64,
     bytes: &[u8],
@@ -121,7 +121,7 @@ fn write_disk(
 }
 
 // Flushes a disk, if the call doesn't fail and there is memory to note it.
-fn flush_disk(disk: &mut Disk, plan: &mut FaultPlan, broken: &mut bool) -> Result<(), Failed>
+fn flush_disk(disk: &mut Disk, plan: &mut FailingCalls, broken: &mut bool) -> Result<(), Failed>
     ensures flushed { OnOk result (disk.new ≡ after_end disk.old All) }
     ensures kept { OnErr result (disk.new ≡ disk.old) }
     ensures counts { CountsCall broken.old broken.new plan.old plan.new result }
@@ -140,7 +140,7 @@ fn flush_disk(disk: &mut Disk, plan: &mut FaultPlan, broken: &mut bool) -> Resul
 // Opens a disk anew, if the call isn't planned to fail and there is memory to note it.
 fn open_disk(
     disk: &mut Disk,
-    plan: &mut FaultPlan,
+    plan: &mut FailingCalls,
     broken: &mut bool,
     keep: Keep,
 ) -> Result<(), Failed>

@@ -1,9 +1,9 @@
 // The stores and the clocks of a run's targets.
 ghost use Rattle.std.specs.Prelude.{◌≡◌, ◌<◌, length, slice_get, slice_set, replicate, IfOk, None, Some};
 
+use base_outside::clock::Clock;
 use base_types::epoch::TargetId;
 use base_types::items::Memory;
-use daos_outside::clock::Clock;
 use std::alloc::Global;
 use std::marker::Model;
 use vos_store::store::Store;

@@ -1,10 +1,10 @@
 // Epochs that follow the clock.
 use crate::planned::PlannedRack;
+use base_outside::gate::FreeGate;
+use base_outside::sure_rack::SureRack;
+use base_outside::sure_sink::SureSink;
+use base_outside::sure_source::SureSource;
 use daos_app::daos::run_daos;
-use daos_outside::gate::FreeGate;
-use daos_outside::sure_rack::SureRack;
-use daos_outside::sure_sink::SureSink;
-use daos_outside::sure_source::SureSource;
 use std::test::Fail;
 
 #[test]

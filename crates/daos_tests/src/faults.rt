@@ -1,15 +1,15 @@
 // What the outside gives or takes byte by byte, or fails at.
 use crate::slow::{SlowSink, SlowSource};
+use base_outside::gate::FreeGate;
+use base_outside::mem_sink::MemSink;
+use base_outside::mem_source::MemSource;
+use base_outside::sink::Sink;
+use base_outside::source::Source;
+use base_outside::sure_rack::SureRack;
+use base_outside::sure_sink::SureSink;
+use base_outside::sure_source::SureSource;
 use daos_app::daos::run_daos;
 use daos_app::status::Status;
-use daos_outside::gate::FreeGate;
-use daos_outside::mem_sink::MemSink;
-use daos_outside::mem_source::MemSource;
-use daos_outside::sink::Sink;
-use daos_outside::source::Source;
-use daos_outside::sure_rack::SureRack;
-use daos_outside::sure_sink::SureSink;
-use daos_outside::sure_source::SureSource;
 use std::alloc::Global;
 use std::sync::Wait;
 use std::test::Fail;

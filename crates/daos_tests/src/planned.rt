@@ -1,12 +1,12 @@
 // A rack whose clock gives readings that are planned.
 ghost use Rattle.std.specs.Prelude.{◌≡◌, None, refl};
-ghost use Rattle.daos_outside.specs.RackState.{image_at_home, size_at_home, is_out_of_home};
+ghost use Rattle.base_outside.specs.RackState.{image_at_home, size_at_home, is_out_of_home};
 
-use daos_outside::clock::Clock;
-use daos_outside::rack::Rack;
-use daos_outside::sure_rack::SureRack;
-use daos_outside::sure_region::SureRegion;
-use daos_outside::{Failed, TargetId};
+use base_outside::clock::Clock;
+use base_outside::rack::Rack;
+use base_outside::sure_rack::SureRack;
+use base_outside::sure_region::SureRegion;
+use base_outside::{Failed, TargetId};
 
 /// A clock that gives three readings, and then 0.
 #[derive(Clone, Copy)]

@@ -1,11 +1,11 @@
 // A source and a sink that move one byte a call.
 ghost use Rattle.std.specs.Prelude.{Some};
 
-use daos_outside::Failed;
-use daos_outside::sink::Sink;
-use daos_outside::source::Source;
-use daos_outside::sure_sink::SureSink;
-use daos_outside::sure_source::SureSource;
+use base_outside::Failed;
+use base_outside::sink::Sink;
+use base_outside::source::Source;
+use base_outside::sure_sink::SureSink;
+use base_outside::sure_source::SureSource;
 
 /// Gives the bytes of another source, one a call.
 #[derive(Drop)]

@@ -1,9 +1,9 @@
 // What a target remembers of the attempts that it leads, beside their entries in its store.
+use base_messages::actor::ActorId;
+use base_messages::message::AttemptIds;
 use base_types::epoch::TargetId;
 use base_types::id::AttemptId;
 use base_types::items::Items;
-use base_messages::actor::ActorId;
-use base_messages::message::AttemptIds;
 
 /// An attempt that isn't decided: the client that waits for its end, if one does, and the members
 /// whose Ok was counted, one bit for each target from the lowest on.

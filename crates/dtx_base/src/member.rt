@@ -1,8 +1,8 @@
 // What a target remembers of the attempts that other targets lead, beside their entries in its store.
+use base_messages::message::{Message, Messages, Posts};
 use base_types::epoch::TargetId;
 use base_types::id::AttemptId;
 use base_types::items::Items;
-use base_messages::message::{Message, Messages, Posts};
 
 /// A Fetch that waits until what became of an attempt is known, which another target leads.
 #[derive(Drop)]

@@ -4,20 +4,20 @@ ghost use Rattle.dtx_base.specs.Leading.{ack_heard, answered, counted_at, ok_hea
 ghost use Rattle.dtx_table.specs.Seats.{came, leader_of};
 
 use crate::leader::Leader;
+use base_messages::message::Posts;
 use base_types::entry::Entry;
 use base_types::epoch::TargetId;
 use base_types::id::AttemptId;
 use base_types::items::Memory;
 use base_types::outcome::Outcome;
-use base_messages::message::Posts;
 use daos_model::durable::is_same_attempt;
 use dtx_base::leading::Undecided;
-use dtx_table::marks::{names_to, unanswered};
 use dtx_table::bits::{are_all_counted, is_other_number, other_members, with_target};
 use dtx_table::led::find_led;
+use dtx_table::marks::{names_to, unanswered};
 use dtx_table::posts::{ended, none, push_aborts};
-use dtx_table::seat::Seat;
 use dtx_table::rows::{find, put, remove};
+use dtx_table::seat::Seat;
 
 // One more member of an attempt counts as Ok.
 fn count_among(rows: &mut [Undecided], attempt: AttemptId, member: TargetId)

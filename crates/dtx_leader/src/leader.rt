@@ -7,20 +7,20 @@ ghost use Rattle.dtx_base.specs.Members.{other_members};
 ghost use Rattle.dtx_table.specs.Seats.{came, leader_of};
 
 use crate::opening::{first_decided, first_undecided};
+use base_messages::actor::ActorId;
+use base_messages::message::Posts;
 use base_types::entry::Entry;
 use base_types::epoch::{Epoch, TargetId};
 use base_types::id::AttemptId;
 use base_types::items::{Items, Memory};
 use base_types::operation::MinorWrite;
 use base_types::outcome::Outcome;
-use base_messages::actor::ActorId;
-use base_messages::message::Posts;
 use dtx_base::leading::{LeaderMemory, Naming, Undecided};
 use dtx_table::bits::other_members;
 use dtx_table::led::led_by;
 use dtx_table::posts::{Asking, ended, prepares};
-use dtx_table::seat::Seat;
 use dtx_table::rows::put;
+use dtx_table::seat::Seat;
 use std::alloc::Global;
 use std::marker::Model;
 

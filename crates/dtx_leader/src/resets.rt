@@ -4,20 +4,20 @@ ghost use Rattle.dtx_base.specs.Leading.{down_told, entry_led, mark_reset, prepa
 ghost use Rattle.dtx_table.specs.Seats.{came, leader_of};
 
 use crate::leader::Leader;
+use base_messages::message::{Marks, Message, Posts};
 use base_types::entry::Entry;
 use base_types::epoch::TargetId;
 use base_types::id::AttemptId;
 use base_types::items::Memory;
 use base_types::outcome::Outcome;
-use base_messages::message::{Marks, Message, Posts};
 use daos_model::durable::is_same_attempt;
 use dtx_base::leading::Undecided;
-use dtx_table::marks::{attempts_of, name, unanswered};
 use dtx_table::bits::with_target;
 use dtx_table::led::find_led;
+use dtx_table::marks::{attempts_of, name, unanswered};
 use dtx_table::posts::{ended, none, one, to_target};
-use dtx_table::seat::Seat;
 use dtx_table::rows::find;
+use dtx_table::seat::Seat;
 
 // No client waits any more for the end of an attempt.
 fn unwait_among(rows: &mut [Undecided], attempt: AttemptId)

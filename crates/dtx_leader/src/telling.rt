@@ -5,17 +5,17 @@ ghost use Rattle.dtx_base.specs.Rows.{itself, row_of, without_row};
 ghost use Rattle.dtx_table.specs.Seats.{came, leader_of};
 
 use crate::leader::Leader;
+use base_messages::message::Posts;
 use base_types::entry::{Entry, Verdict};
 use base_types::epoch::TargetId;
 use base_types::id::AttemptId;
 use base_types::items::Memory;
-use base_messages::message::Posts;
 use dtx_base::leading::Undecided;
 use dtx_table::batch::{batch_of, is_due};
 use dtx_table::bits::first_down;
 use dtx_table::led::{find_led, led_by};
-use dtx_table::seat::Seat;
 use dtx_table::rows::{find, is_among, remove};
+use dtx_table::seat::Seat;
 
 impl Leader {
     /// Tells each other member of the commits that it hasn't confirmed, by one Mark each, in the

@@ -4,12 +4,12 @@ ghost use Rattle.std.specs.List.{list_any};
 ghost use Rattle.dtx_base.specs.Joining.{inquiries_reset, inquiry_at, inquiry_for, is_to_inquire, with_inquiries_for};
 ghost use Rattle.dtx_base.specs.Leading.{to_target};
 
+use base_messages::actor::ActorId;
+use base_messages::message::{Message, Post, Posts};
 use base_types::entry::Entry;
 use base_types::epoch::TargetId;
 use base_types::id::AttemptId;
 use base_types::items::{Items, Memory};
-use base_messages::actor::ActorId;
-use base_messages::message::{Message, Post, Posts};
 use daos_model::durable::is_same_attempt;
 use dtx_base::member::{Inquiry, QueryState};
 use dtx_table::rows::{find, put, remove};

@@ -5,11 +5,11 @@ ghost use Rattle.dtx_base.specs.Leading.{to_target};
 
 use crate::inquiries::{is_due, put_all, queries, reset, set, to_inquire, to_target};
 use crate::parked::{asker, drop_waiting, free, unresolved_told};
+use base_messages::message::{Message, Posts};
 use base_types::entry::{Entry, Verdict};
 use base_types::epoch::TargetId;
 use base_types::id::AttemptId;
 use base_types::items::{Items, Memory};
-use base_messages::message::{Message, Posts};
 use dtx_base::member::{Freed, Inquiry, MemberMemory, Parked, QueryState};
 use dtx_table::rows::remove;
 use std::alloc::Global;

@@ -2,11 +2,11 @@
 ghost use Rattle.std.specs.Prelude.{◌≡◌, ◌++◌, ◌+◌, ◌≤◌, filter, map, vec_len, vec_capacity, IfOk, OnOk, OnErr};
 ghost use Rattle.dtx_base.specs.Joining.{all_unresolved_told, asker, is_asker, is_not_waiting, is_parked_elsewhere, is_parked_on, is_waiting, parked_ask, unresolved_told};
 
+use base_messages::actor::ActorId;
+use base_messages::message::{Message, Messages, Post, Posts, Reply};
 use base_types::id::AttemptId;
 use base_types::items::{Items, Memory};
 use base_types::outcome::{Cause, Outcome};
-use base_messages::actor::ActorId;
-use base_messages::message::{Message, Messages, Post, Posts, Reply};
 use daos_model::durable::is_same_attempt;
 use dtx_base::member::Parked;
 use std::alloc::Global;

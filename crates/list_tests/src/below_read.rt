@@ -6,6 +6,8 @@ use crate::parts::{
     ClientAt, PresentAt, client_state, decided, durable, ended, letter, line, no_member, only,
     rests, run, script, target_state,
 };
+use base_messages::actor::ActorId;
+use base_messages::message::{Message, Reply};
 use base_types::answer::Answer;
 use base_types::entry::Entry;
 use base_types::epoch::Epoch;
@@ -16,8 +18,6 @@ use base_types::outcome::{Cause, Outcome};
 use base_types::report::{Line, Lines};
 use base_types::script::Script;
 use base_types::shown::Shown;
-use base_messages::actor::ActorId;
-use base_messages::message::{Message, Reply};
 use daos_model::durable::{Version, Versions};
 use std::alloc::Global;
 use world_base::did::Issues;

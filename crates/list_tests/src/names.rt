@@ -1,10 +1,10 @@
 // The names that the rows use.
+use base_messages::actor::ActorId;
 use base_types::id::{AttemptId, Class, ContId, ObjId};
 use base_types::items::{Items, bytes_of};
 use base_types::key::{Key, KeyNo};
 use base_types::operation::{Act, Cond, MinorWrite, MinorWrites, Op, Read, Write};
 use base_types::path::Path;
-use base_messages::actor::ActorId;
 use std::alloc::{AllocError, AllocFailed, Global};
 use thiserror::Error;
 

@@ -4,10 +4,10 @@
 use crate::names::{RowNo, target};
 use crate::parts::{client_state, decided, durable, letter, no_member, target_state};
 use crate::two_targets::{WRITER, entry, row_script, the_write, undecided, versions, waits};
+use base_messages::message::Message;
 use base_types::entry::Verdict;
 use base_types::epoch::Epoch;
 use base_types::items::Items;
-use base_messages::message::Message;
 use std::alloc::Global;
 use world_base::letter::{Letter, Letters};
 use world_base::target::TargetState;

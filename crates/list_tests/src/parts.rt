@@ -1,5 +1,7 @@
 // Parts of worlds, by what differs between those of the rows.
 use crate::names::RowNo;
+use base_messages::actor::ActorId;
+use base_messages::message::{AttemptIds, Message};
 use base_types::answer::Answer;
 use base_types::entry::Entry;
 use base_types::epoch::Epoch;
@@ -9,8 +11,6 @@ use base_types::operation::{MinorWrites, Ops};
 use base_types::outcome::{FloorWhy, Outcome};
 use base_types::report::{Attempt, Line};
 use base_types::script::{ClientLists, Command, Commands, Script};
-use base_messages::actor::ActorId;
-use base_messages::message::{AttemptIds, Message};
 use daos_model::durable::{ContRow, ContRows, Durable, Versions};
 use dtx_base::leading::LeaderMemory;
 use dtx_base::member::MemberMemory;

@@ -6,6 +6,8 @@ use crate::parts::{
     ClientAt, PresentAt, client_state, decided, durable, ended, letter, line, no_member, rests,
     run, script, target_state,
 };
+use base_messages::actor::ActorId;
+use base_messages::message::{AttemptIds, Message, Reply};
 use base_types::answer::Answer;
 use base_types::entry::{Entry, Verdict};
 use base_types::epoch::Epoch;
@@ -16,8 +18,6 @@ use base_types::outcome::Outcome;
 use base_types::report::Lines;
 use base_types::script::Script;
 use base_types::shown::Shown;
-use base_messages::actor::ActorId;
-use base_messages::message::{AttemptIds, Message, Reply};
 use daos_model::durable::{Version, Versions};
 use dtx_base::leading::{LeaderMemory, Naming, Undecided};
 use dtx_base::member::{MemberMemory, Parked};

@@ -2,8 +2,8 @@
 use Rattle.std.proofs.Common.{◌≡◌, ℕ, ◌+◌, ◌≤◌, ◌<◌, Bool, true, false, List, [], ◌∷◌, ◌++◌, length, get_or, refl, sym, ap, ◌∙◌, arith}
 use Rattle.std.specs.Prelude.{IsTrue, Result, Ok, Err, OnOk, OnErr, is_err}
 use Rattle.std.proofs.lemmas.Bool.Decides.{nat_tests}
-use Rattle.daos_outside.specs.Images.{Image, Range, lies_in, all_over, bytes_at}
-use Rattle.daos_outside.specs.ImageLaws.{all_over-push, over_outside, get_or-bytes_at}
+use Rattle.base_outside.specs.Images.{Image, Range, lies_in, all_over, bytes_at}
+use Rattle.base_outside.specs.ImageLaws.{all_over-push, over_outside, get_or-bytes_at}
 use Rattle.pmem_undo.specs.Layout.{SameContent, is_content}
 use Rattle.pmem_alloc.specs.Map.{map_place, map_length, blocks_end, StandsIn}
 use Rattle.pmem_alloc.specs.Blocks.{HoldsBlocks, IsOutsideMap}

@@ -2,8 +2,8 @@
 use Rattle.std.proofs.Common.{◌≡◌, ◌⊎◌, ℕ, ◌+◌, ◌-◌, ◌*◌, ◌≤◌, ◌<◌, Bool, true, false, cond, leb, ltb, eqb, not, ◌&&◌, List, length, get_or, Option, Some, None, refl, sym, ap, ◌∙◌, arith, inl, inr}
 use mathlib.Core.Path.{fun_ext}
 use Rattle.std.proofs.lemmas.Bool.Decides.{nat_tests, eqb_tells}
-use Rattle.daos_outside.specs.Images.{Image, Range, lies_in, over, bytes_at}
-use Rattle.daos_outside.specs.ImageLaws.{over_outside, over_inside, same_bytes_at, known_bytes_at}
+use Rattle.base_outside.specs.Images.{Image, Range, lies_in, over, bytes_at}
+use Rattle.base_outside.specs.ImageLaws.{over_outside, over_inside, same_bytes_at, known_bytes_at}
 use Rattle.pmem_pages.specs.Blocks.{Blocks, put, IsTaken}
 use Rattle.pmem_undo.specs.Layout.{IsContent}
 use Rattle.pmem_alloc.specs.Sets.{Set, set_to}

@@ -1,9 +1,9 @@
 -- What the calls of an allocator do to the blocks that are shown, and to what is left to stage.
 use Rattle.std.proofs.Common.{◌≡◌, ◌⊎◌, ℕ, ◌+◌, ◌*◌, ◌≤◌, ◌<◌, true, false, List, [], ◌∷◌, ◌++◌, length, Some, None, sym, ap, ◌∙◌, subst, arith, length-append}
-use Rattle.daos_outside.specs.Images.{Image, Range, over, all_over, bytes_at}
+use Rattle.base_outside.specs.Images.{Image, Range, over, all_over, bytes_at}
 use Rattle.pmem_pages.specs.Blocks.{put, IsSpent}
 use Rattle.pmem_undo.specs.Layout.{total_bytes}
-use Rattle.daos_outside.specs.ImageLaws.{all_over-push}
+use Rattle.base_outside.specs.ImageLaws.{all_over-push}
 use Rattle.pmem_alloc.specs.Sets.{Set, set_to, IsLeast, count_below}
 use Rattle.pmem_alloc.specs.Map.{free_of, blocks_of, map_place, map_end}
 use Rattle.pmem_alloc.specs.Blocks.{BlocksState, free_now, free_count, StagesMap}

@@ -3,8 +3,8 @@ use Rattle.std.proofs.Common.{◌≡◌, ℕ, ◌+◌, ◌-◌, ◌/◌, ◌≤�
 use mathlib.Core.Path.{fun_ext}
 use Rattle.std.proofs.lemmas.Bool.{cases_lt}
 use Rattle.std.proofs.lemmas.Bool.Decides.{nat_tests, eqb_tells}
-use Rattle.daos_outside.specs.Images.{Image, Range, lies_in, over, all_over}
-use Rattle.daos_outside.specs.ImageLaws.{all_over-push, over_outside, over_inside}
+use Rattle.base_outside.specs.Images.{Image, Range, lies_in, over, all_over}
+use Rattle.base_outside.specs.ImageLaws.{all_over-push, over_outside, over_inside}
 use Rattle.pmem_undo.specs.Layout.{total_bytes}
 use Rattle.pmem_alloc.specs.Map.{map_place, map_length, map_byte, StandsIn, MapState, free_blocks, free_in, blocks_end, is_free}
 use Rattle.pmem_alloc.specs.Blocks.{StagesMap, IsBlocks, HoldsBlocks}

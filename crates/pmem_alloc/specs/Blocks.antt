@@ -1,7 +1,7 @@
 -- What the blocks of a region show.
 use Rattle.std.specs.Prelude.{◌≡◌, ◌⊎◌, ℕ, ◌+◌, ◌<◌, ◌≤◌, Bool, true, false, IsTrue, List, [], length}
-use Rattle.daos_outside.specs.Causes.{Rose}
-use Rattle.daos_outside.specs.Images.{Image, Range, all_over}
+use Rattle.base_outside.specs.Causes.{Rose}
+use Rattle.base_outside.specs.Images.{Image, Range, all_over}
 use Rattle.pmem_undo.specs.Layout.{most_ranges, most_bytes, total_bytes}
 use Rattle.pmem_undo.specs.Undo.{UndoState}
 use Rattle.pmem_alloc.specs.Sets.{Set, count_below}

@@ -1,7 +1,7 @@
 -- The map of blocks: a bit for each block, 1 where it is taken.
 use Rattle.std.specs.Prelude.{◌≡◌, ℕ, ◌+◌, ◌*◌, ◌/◌, ◌%◌, ◌<◌, ◌≤◌, min, Bool, false, ◌==◌, ◌&&◌, not, nat_lt, nat_le, cond, List, [], ◌∷◌, slice_index, Some, None}
 use Rattle.std.specs.Int.{bit_at}
-use Rattle.daos_outside.specs.Images.{Image, Range, bytes_at}
+use Rattle.base_outside.specs.Images.{Image, Range, bytes_at}
 use Rattle.pmem_pages.specs.Blocks.{Blocks}
 use Rattle.pmem_alloc.specs.Sets.{Set, count_below}
 

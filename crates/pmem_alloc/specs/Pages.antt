@@ -1,6 +1,6 @@
 -- Blocks of a region as the trees above see them.
 use Rattle.std.specs.Prelude.{◌≡◌, ℕ, ◌-◌, ◌<◌, ◌≤◌, false, length}
-use Rattle.daos_outside.specs.Images.{Image, all_over}
+use Rattle.base_outside.specs.Images.{Image, all_over}
 use Rattle.pmem_pages.specs.Blocks.{Blocks, Budget}
 use Rattle.pmem_undo.specs.Layout.{most_ranges, most_bytes, total_bytes}
 use Rattle.pmem_alloc.specs.Map.{MapState, first_block, free_of, blocks_of}

@@ -1,6 +1,6 @@
 // The blocks of a region: those that are free by a stored map are taken and given back.
 ghost use Rattle.std.specs.Prelude.{◌≡◌, ◌⊎◌, ◌↔◌, ℕ, ◌+◌, ◌-◌, ◌*◌, ◌^◌, ◌<◌, ◌≤◌, [], ◌∷◌, ◌++◌, List, length, take, false, true, IfOk, IfErr, OnOk, OnErr, IsErr, IsErrOf, IsTrue, slice_get, slice_index, Some};
-ghost use Rattle.daos_outside.specs.Images.{Image, all_over, bytes_at, LeavesOnly, Runs, SameButFuse};
+ghost use Rattle.base_outside.specs.Images.{Image, all_over, bytes_at, LeavesOnly, Runs, SameButFuse};
 ghost use Rattle.pmem_pages.specs.Blocks.{Stops};
 ghost use Rattle.pmem_undo.specs.Layout.{IsContent, SameContent, most_ranges, most_bytes, total_bytes};
 ghost use Rattle.pmem_undo.specs.Settled.{IsBeforeOrAfter, ComesFrom, OnlyLooks, reads, commit_calls};
@@ -11,7 +11,7 @@ ghost use Rattle.pmem_alloc.specs.Blocks.{IsBlocks, free_now, free_count, HasRoo
 
 use crate::MAP;
 use crate::free_map::FreeMap;
-use daos_outside::region::{Fusible, Region};
+use base_outside::region::{Fusible, Region};
 use pmem_pages::refusal::{Stopped, TooMuch};
 use pmem_undo::undo_region::UndoRegion;
 use std::marker::Model;

@@ -6,7 +6,7 @@ ghost use Rattle.pmem_alloc.specs.Blocks.{IsOutsideMap, free_count};
 ghost use Rattle.pmem_alloc.specs.Pages.{shown, left, IsTakenBlock};
 
 use crate::blocks::{Blocks, take_one};
-use daos_outside::region::Region;
+use base_outside::region::Region;
 use pmem_pages::pages::Pages;
 use pmem_pages::refusal::{PageNo, Stopped, TooMuch};
 use pmem_pages::steps::Steps;

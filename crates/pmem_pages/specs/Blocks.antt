@@ -1,6 +1,6 @@
 -- The blocks of a region: the bytes of each block that is taken, and none of one that is free.
 use Rattle.std.specs.Prelude.{◌≡◌, ◌⊎◌, ℕ, ◌+◌, ◌≤◌, Bool, true, cond, ◌==◌, List, Option, Some, Result, OnOk, OnErr, IsErr}
-use Rattle.daos_outside.specs.Causes.{Rose}
+use Rattle.base_outside.specs.Causes.{Rose}
 
 abbrev pub Blocks : Type 0
 Blocks = ℕ → Option (List ℕ)

@@ -2,7 +2,7 @@
 ghost use Rattle.std.specs.Prelude.{◌≡◌, ◌+◌, ◌<◌, ◌≤◌, ◌^◌, [], IfOk, IfSome};
 ghost use Rattle.pmem_alloc.specs.Blocks.{IsOpened};
 
-use daos_outside::sure_region::SureRegion;
+use base_outside::sure_region::SureRegion;
 use pmem_alloc::blocks::{Blocks, NoBlock};
 use pmem_pages::pages::Pages;
 use pmem_pages::refusal::PageNo;

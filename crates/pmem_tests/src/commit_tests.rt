@@ -1,7 +1,7 @@
 // Regions in memory, and commits that are cut at each of their writes.
-use daos_outside::Failed;
-use daos_outside::rack::Rack;
-use daos_outside::region::Region;
+use base_outside::Failed;
+use base_outside::rack::Rack;
+use base_outside::region::Region;
 use daos_regions::fused::Fused;
 use daos_regions::keep::Keep;
 use daos_regions::mem_rack::MemRack;

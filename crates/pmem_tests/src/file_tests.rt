@@ -2,10 +2,10 @@
 ghost use Rattle.std.specs.Prelude.{◌≡◌, IfSome};
 
 use crate::commit_tests::{SIZE, bytes_after, commit};
+use base_outside::rack::Rack;
+use base_outside::region::Region;
 use daos_files::file_rack::FileRack;
 use daos_files::file_region::FileRegion;
-use daos_outside::rack::Rack;
-use daos_outside::region::Region;
 use pmem_undo::undo_region::UndoRegion;
 use std::fs::File;
 use std::rt::Files;

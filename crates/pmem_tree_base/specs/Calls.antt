@@ -1,6 +1,6 @@
 -- What is said of every call: whether it stopped, and why.
 use Rattle.std.specs.Prelude.{◌≡◌, ◌⊎◌, ◌≤◌, ℕ, Bool, true}
-use Rattle.daos_outside.specs.Causes.{Rose}
+use Rattle.base_outside.specs.Causes.{Rose}
 use Rattle.pmem_pages.specs.declared.refusal.PageNo.{PageNo}
 use Rattle.pmem_pages.specs.declared.refusal.PageNo.TheVariants.{NoBlock, TooMuch}
 use Rattle.pmem_tree_base.specs.declared.refusal.TreeNo.{TreeNo}

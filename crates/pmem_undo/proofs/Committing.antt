@@ -3,7 +3,7 @@ use Rattle.std.proofs.Common.{◌≡◌, ℕ, ◌≤◌, ◌<◌, ◌^◌, List,
 use Rattle.std.specs.Prelude.{All}
 use Rattle.std.proofs.lemmas.List.{length-map}
 use Rattle.std.proofs.lemmas.List.Elements.{All-head, All-tail}
-use Rattle.daos_outside.specs.Images.{Image, Range, bytes_at, LeavesOnly}
+use Rattle.base_outside.specs.Images.{Image, Range, bytes_at, LeavesOnly}
 use Rattle.pmem_undo.specs.declared.span.Span.{Span}
 use Rattle.pmem_undo.specs.Layout.{gate, total_bytes}
 use Rattle.pmem_undo.specs.Log.{old_range, old_ranges, log_bytes}

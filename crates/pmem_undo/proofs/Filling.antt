@@ -1,8 +1,8 @@
 -- A log body, filled from the front.
 use Rattle.std.proofs.Common.{◌≡◌, ℕ, zero, suc, ◌+◌, ◌*◌, ◌≤◌, ◌<◌, List, [], ◌∷◌, ◌++◌, length, take, get_or, map, refl, sym, ap, ◌∙◌, arith, append_assoc, append-nil}
 use Rattle.std.proofs.lemmas.List.{map-append, length-map}
-use Rattle.daos_outside.specs.Images.{Image, Range, bytes_at}
-use Rattle.daos_outside.specs.ImageLaws.{length-bytes_at}
+use Rattle.base_outside.specs.Images.{Image, Range, bytes_at}
+use Rattle.base_outside.specs.ImageLaws.{length-bytes_at}
 use Rattle.pmem_undo.specs.declared.span.Span.{Span}
 use Rattle.pmem_undo.specs.Layout.{total_bytes}
 use Rattle.pmem_undo.specs.Log.{number_bytes, range_bytes, ranges_bytes, log_bytes}

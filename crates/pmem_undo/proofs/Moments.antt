@@ -1,7 +1,7 @@
 -- A run of calls so far, each crash of which is allowed.
 use Rattle.std.proofs.Common.{◌≡◌, ℕ, zero, suc, ◌+◌, true, false, cond, List, [], ◌∷◌, ◌++◌, take, refl, sym, ap, ◌∙◌, subst, arith, inl, inr}
-use Rattle.daos_outside.specs.Images.{Image, Range, Call, lies_in, lies_in_some, Torn, Only, NoMore, Tears, Elapses, LeavesOnly, Runs}
-use Rattle.daos_outside.specs.Images.Call.{Read, Write}
+use Rattle.base_outside.specs.Images.{Image, Range, Call, lies_in, lies_in_some, Torn, Only, NoMore, Tears, Elapses, LeavesOnly, Runs}
+use Rattle.base_outside.specs.Images.Call.{Read, Write}
 use Rattle.pmem_undo.specs.Settled.{writes, reads, OnlyLooks}
 
 pub leaves_none : (t : ℕ) (s : ℕ → Image → Type 0) (P : Image → Type 0) → LeavesOnly t t s s P

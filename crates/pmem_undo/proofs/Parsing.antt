@@ -5,7 +5,7 @@ use Rattle.std.proofs.lemmas.List.{length-drop, map-append, take-append-le, drop
 use Rattle.std.proofs.lemmas.List.Elements.{All-head, All-tail}
 use Rattle.std.specs.Prelude.{All}
 use Rattle.std.proofs.Math.Seq.{drop-cons, drop-length}
-use Rattle.daos_outside.specs.Images.{Image, Range, bytes_at}
+use Rattle.base_outside.specs.Images.{Image, Range, bytes_at}
 use Rattle.pmem_undo.specs.declared.span.Span.{Span}
 use Rattle.pmem_undo.specs.Layout.{are_content, log_place}
 use Rattle.pmem_undo.specs.Log.{number_in, ranges_in, cons_range, behind, is_log_size, log_in, logged_count, logged_length}

@@ -3,7 +3,7 @@ use Rattle.std.proofs.Common.{◌≡◌, ℕ, add-one, ◌+◌, List, [], ◌∷
 use Rattle.std.proofs.lemmas.List.{map-append, take-map}
 use Rattle.std.proofs.Math.Seq.{take-suc}
 use Rattle.std.proofs.Common.{get_or, ◌<◌}
-use Rattle.daos_outside.specs.Images.{Image, Range, over, all_over, Torn, Only, Tears, Elapses, LeavesOnly}
+use Rattle.base_outside.specs.Images.{Image, Range, over, all_over, Torn, Only, Tears, Elapses, LeavesOnly}
 use Rattle.pmem_undo.specs.declared.span.Span.{Span}
 use Rattle.pmem_undo.specs.Layout.{gate_byte}
 use Rattle.pmem_undo.specs.Settled.{StandsFor, IsBeforeOrAfter, IsPrepared, body_range, log_opened}

@@ -5,8 +5,8 @@ use Rattle.std.proofs.lemmas.Bool.Decides.{nat_tests}
 use Rattle.std.proofs.lemmas.List.{length-append, take-append-le}
 use Rattle.std.proofs.Math.Seq.{drop-append_seam, take-length}
 use Rattle.byteorder.specs.Numbers.{big_number-reads_back, length-bytes_high_first}
-use Rattle.daos_outside.specs.Images.{Image, Range, bytes_at}
-use Rattle.daos_outside.specs.ImageLaws.{part_at, same_bytes_at}
+use Rattle.base_outside.specs.Images.{Image, Range, bytes_at}
+use Rattle.base_outside.specs.ImageLaws.{part_at, same_bytes_at}
 use Rattle.pmem_undo.specs.Layout.{IsContent, are_content, log_place, log_end, most_ranges, most_bytes}
 use Rattle.pmem_undo.specs.Log.{number_bytes, number_in, range_bytes, ranges_bytes, log_bytes, ranges_in, logged_count, logged_length, log_in}
 

@@ -1,7 +1,7 @@
 -- Ranges written one after another, the last of them first.
 use Rattle.std.proofs.Common.{◌≡◌, ℕ, zero, suc, ◌-◌, ◌≤◌, ◌<◌, Bool, true, false, cond, List, [], ◌∷◌, length, drop, get_or, map, refl, ap, ◌∙◌, arith}
 use Rattle.std.proofs.Math.Seq.{drop-cons}
-use Rattle.daos_outside.specs.Images.{Image, Range, lies_in, lies_in_some, Torn, Tears, Only, Elapses, LeavesOnly}
+use Rattle.base_outside.specs.Images.{Image, Range, lies_in, lies_in_some, Torn, Tears, Only, Elapses, LeavesOnly}
 use Rattle.pmem_undo.specs.declared.span.Span.{Span}
 use Rattle.pmem_undo.specs.Spans.{range_of, ranges_of}
 use Rattle.pmem_undo.specs.Settled.{settled, StandsFor, rolled, IsAttachable}

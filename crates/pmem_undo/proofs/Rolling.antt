@@ -1,8 +1,8 @@
 -- What ranges written over an image, and written back, leave at a place.
 use Rattle.std.proofs.Common.{◌≡◌, ℕ, ◌+◌, ◌-◌, ◌≤◌, ◌<◌, true, false, cond, List, [], ◌∷◌, length, refl, sym, ap, ◌∙◌, arith}
 use Rattle.std.proofs.lemmas.Bool.Decides.{nat_tests}
-use Rattle.daos_outside.specs.Images.{Image, Range, lies_in, lies_in_some, over, all_over, bytes_at}
-use Rattle.daos_outside.specs.ImageLaws.{over_outside, over_inside, length-bytes_at, get_or-bytes_at}
+use Rattle.base_outside.specs.Images.{Image, Range, lies_in, lies_in_some, over, all_over, bytes_at}
+use Rattle.base_outside.specs.ImageLaws.{over_outside, over_inside, length-bytes_at, get_or-bytes_at}
 use Rattle.pmem_undo.specs.Settled.{rolled}
 use Rattle.pmem_undo.specs.Log.{old_range, old_ranges}
 

@@ -4,8 +4,8 @@ use Rattle.std.specs.Prelude.{IsSome}
 use Rattle.std.proofs.lemmas.Bool.{ne_eqb}
 use Rattle.std.proofs.lemmas.Bool.Decides.{nat_tests, eqb_tells}
 use Rattle.std.proofs.lemmas.List.{length-append, length-map}
-use Rattle.daos_outside.specs.Images.{Image, Range, lies_in, lies_in_some, over, all_over, Torn}
-use Rattle.daos_outside.specs.ImageLaws.{over_outside, over_inside, length-bytes_at}
+use Rattle.base_outside.specs.Images.{Image, Range, lies_in, lies_in_some, over, all_over, Torn}
+use Rattle.base_outside.specs.ImageLaws.{over_outside, over_inside, length-bytes_at}
 use Rattle.pmem_undo.specs.Layout.{gate, gate_byte, log_place, log_end, is_content, IsContent, AreContent, SameContent, total_bytes}
 use Rattle.pmem_undo.specs.Log.{log_in, log_bytes, ranges_bytes, range_bytes, number_bytes, old_range, old_ranges, logged}
 use Rattle.pmem_undo.specs.Settled.{rolled, settled, StandsFor, IsBeforeOrAfter, IsPrepared, body_range, log_opened}

@@ -3,8 +3,8 @@ use Rattle.std.proofs.Common.{◌≡◌, ℕ, ◌+◌, ◌-◌, ◌≤◌, ◌<�
 use Rattle.std.proofs.lemmas.Bool.{cases_lt}
 use Rattle.std.proofs.lemmas.Bool.Decides.{nat_tests}
 use Rattle.std.proofs.lemmas.List.{length-take-le, length-drop, length-append, get_or-take, get_or-drop}
-use Rattle.daos_outside.specs.Images.{Image, Range, lies_in, over, bytes_at, image_of}
-use Rattle.daos_outside.specs.ImageLaws.{over_outside, over_inside, image_written, known_bytes_at, get_or-bytes_at}
+use Rattle.base_outside.specs.Images.{Image, Range, lies_in, over, bytes_at, image_of}
+use Rattle.base_outside.specs.ImageLaws.{over_outside, over_inside, image_written, known_bytes_at, get_or-bytes_at}
 
 image_at : (xs : List ℕ) (k : ℕ) → image_of xs k ≡ get_or xs k 0
 unfolding image_of

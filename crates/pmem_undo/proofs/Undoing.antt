@@ -6,7 +6,7 @@ use Rattle.std.proofs.lemmas.List.{length-map, map-append, length-append}
 use Rattle.std.proofs.lemmas.List.Elements.{All-push}
 use Rattle.std.proofs.Math.Seq.{drop-append_seam, take-length}
 use mathlib.Core.Path.{fun_ext}
-use Rattle.daos_outside.specs.Images.{Image, Range, all_over, NoMore}
+use Rattle.base_outside.specs.Images.{Image, Range, all_over, NoMore}
 use Rattle.pmem_undo.specs.declared.span.Span.{Span}
 use Rattle.pmem_undo.specs.Layout.{gate, IsContent, most_ranges, most_bytes, total_bytes}
 use Rattle.pmem_undo.specs.Settled.{settled, IsAtRest, IsAttachable, IsBeforeOrAfter, ComesFrom}

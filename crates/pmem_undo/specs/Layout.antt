@@ -1,6 +1,6 @@
 -- Where the undo log stands in a region, and which bytes are content.
 use Rattle.std.specs.Prelude.{◌≡◌, ◌⊎◌, ℕ, ◌+◌, ◌≤◌, ◌<◌, Bool, true, ◌==◌, not, ◌&&◌, ◌||◌, nat_lt, nat_le, List, [], ◌∷◌, length}
-use Rattle.daos_outside.specs.Images.{Image, Range}
+use Rattle.base_outside.specs.Images.{Image, Range}
 
 -- the place of the gate byte: zero is closed, any other byte open
 abbrev pub gate : ℕ

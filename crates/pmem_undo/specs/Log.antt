@@ -1,7 +1,7 @@
 -- How the bytes of a log body tell ranges with their old bytes.
 use Rattle.std.specs.Prelude.{ℕ, Bool, zero, suc, ◌+◌, ◌-◌, ◌*◌, ◌&&◌, nat_le, cond, List, [], ◌∷◌, ◌++◌, length, take, drop, map, Option, Some, None}
 use Rattle.byteorder.specs.Endian.{big_bytes, big_number}
-use Rattle.daos_outside.specs.Images.{Image, Range, bytes_at}
+use Rattle.base_outside.specs.Images.{Image, Range, bytes_at}
 use Rattle.pmem_undo.specs.Layout.{log_place, most_ranges, most_bytes, are_content}
 
 -- a number as four bytes, and the number in four bytes, the highest first

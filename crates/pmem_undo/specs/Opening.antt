@@ -1,6 +1,6 @@
 -- What opening an undo region answers.
 use Rattle.std.specs.Prelude.{◌≡◌, ◌⊎◌, ℕ, ◌≤◌, false, []}
-use Rattle.daos_outside.specs.Causes.{Rose}
+use Rattle.base_outside.specs.Causes.{Rose}
 use Rattle.pmem_undo.specs.Undo.{UndoState}
 use Rattle.pmem_undo.specs.declared.opening.UndoCause.{UndoCause}
 use Rattle.pmem_undo.specs.declared.opening.UndoCause.TheVariants.{Stopped}

@@ -1,7 +1,7 @@
 -- What attaching makes of an image, and what a crash leaves of a commit.
 use Rattle.std.specs.Prelude.{◌≡◌, ◌≢◌, ◌⊎◌, ℕ, zero, suc, cond, ◌==◌, List, [], ◌∷◌, ◌++◌, IsSome, ◌^◌, ◌<◌, ◌≤◌, length}
-use Rattle.daos_outside.specs.Images.{Image, Range, over, all_over, Only, NoMore, LeavesOnly, Call}
-use Rattle.daos_outside.specs.Images.Call.{Read, Write, Flush}
+use Rattle.base_outside.specs.Images.{Image, Range, over, all_over, Only, NoMore, LeavesOnly, Call}
+use Rattle.base_outside.specs.Images.Call.{Read, Write, Flush}
 use Rattle.pmem_undo.specs.Layout.{gate, gate_byte, log_place, most_ranges, most_bytes, SameContent, AreContent, total_bytes}
 use Rattle.pmem_undo.specs.Log.{log_in, log_bytes, old_ranges, logged}
 

@@ -1,6 +1,6 @@
 -- Ranges whose bytes stand in one buffer.
 use Rattle.std.specs.Prelude.{ℕ, ◌+◌, ◌≤◌, List, [], ◌∷◌, map, slice_range}
-use Rattle.daos_outside.specs.Images.{Range, Image, bytes_at}
+use Rattle.base_outside.specs.Images.{Range, Image, bytes_at}
 use Rattle.pmem_undo.specs.declared.span.Span.{Span}
 use Rattle.pmem_undo.specs.Layout.{IsContent}
 

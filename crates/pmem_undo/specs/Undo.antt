@@ -1,6 +1,6 @@
 -- What an undo region shows.
 use Rattle.std.specs.Prelude.{◌≡◌, ◌⊎◌, ℕ, ◌+◌, ◌^◌, ◌<◌, ◌≤◌, Bool, false, IsTrue, List, length, All}
-use Rattle.daos_outside.specs.Images.{Image, Range}
+use Rattle.base_outside.specs.Images.{Image, Range}
 use Rattle.pmem_undo.specs.declared.span.Span.{Span}
 use Rattle.pmem_undo.specs.Layout.{AreContent, most_ranges, most_bytes, total_bytes}
 use Rattle.pmem_undo.specs.Settled.{IsAtRest, IsAttachable}

@@ -3,7 +3,7 @@ ghost use Rattle.std.specs.Prelude.{◌≡◌, ◌≤◌, [], IfOk, vec_len, vec
 
 use crate::span::Span;
 use crate::{BODY_ROOM, MOST_BYTES, MOST_RANGES};
-use daos_outside::Memory;
+use base_outside::Memory;
 use std::alloc::Global;
 
 /// Room for the ranges of a commit, for their bytes, and for the log body.

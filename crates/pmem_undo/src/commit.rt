@@ -1,8 +1,8 @@
 // The writes of a commit.
 ghost use Rattle.std.specs.Prelude.{◌≡◌, ℕ, ◌+◌, ◌^◌, ◌<◌, ◌≤◌, [], ◌∷◌, ◌++◌, List, length, All, OnOk, IsTrue};
-ghost use Rattle.daos_outside.specs.Causes.{HasEitherCause};
-ghost use Rattle.daos_outside.specs.Images.{Image, Range, over, all_over, Only, Tears, Torn, LeavesOnly, Runs};
-ghost use Rattle.daos_outside.specs.Images.Call.{Write, Flush};
+ghost use Rattle.base_outside.specs.Causes.{HasEitherCause};
+ghost use Rattle.base_outside.specs.Images.{Image, Range, over, all_over, Only, Tears, Torn, LeavesOnly, Runs};
+ghost use Rattle.base_outside.specs.Images.Call.{Write, Flush};
 ghost use Rattle.pmem_undo.specs.Layout.{gate_byte, SameContent};
 ghost use Rattle.pmem_undo.specs.Settled.{StandsFor, IsBeforeOrAfter, IsAtRest, IsPrepared, body_range, log_opened, reads, writes, commit_calls};
 ghost use Rattle.pmem_undo.specs.Spans.{IsSpan, ranges_of, spans_length};
@@ -10,8 +10,8 @@ ghost use Rattle.pmem_undo.specs.Spans.{IsSpan, ranges_of, spans_length};
 use crate::log::put_log;
 use crate::span::Span;
 use crate::{GATE, LOG};
-use daos_outside::Failed;
-use daos_outside::region::Region;
+use base_outside::Failed;
+use base_outside::region::Region;
 
 /// Writes the ranges of these spans of a buffer, the first of them first.
 fn write_ranges<R: Region>(region: &mut R, spans: &[Span], buffer: &[u8]) -> Result<(), Failed>

@@ -1,16 +1,16 @@
 // The log body is made of the old bytes.
 ghost use Rattle.std.specs.Prelude.{◌≡◌, ℕ, ◌+◌, ◌*◌, ◌^◌, ◌<◌, ◌≤◌, ◌++◌, length, take, All, IfOk, OnOk, IsTrue};
-ghost use Rattle.daos_outside.specs.Causes.{HasEitherCause};
-ghost use Rattle.daos_outside.specs.Images.{bytes_at, Runs};
-ghost use Rattle.daos_outside.specs.Images.Call.{Read};
+ghost use Rattle.base_outside.specs.Causes.{HasEitherCause};
+ghost use Rattle.base_outside.specs.Images.{bytes_at, Runs};
+ghost use Rattle.base_outside.specs.Images.Call.{Read};
 ghost use Rattle.pmem_undo.specs.Log.{number_bytes, range_bytes, log_bytes};
 ghost use Rattle.pmem_undo.specs.Settled.{OnlyLooks, reads};
 ghost use Rattle.pmem_undo.specs.Spans.{spans_length, old_span, old_spans};
 
 use crate::span::Span;
+use base_outside::Failed;
+use base_outside::region::Region;
 use byteorder::{BigEndian, ByteOrder};
-use daos_outside::Failed;
-use daos_outside::region::Region;
 
 // A number as four bytes, the highest first.
 #[tactic(auto, unfolding(crate::specs::Log::number_bytes))]

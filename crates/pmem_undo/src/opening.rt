@@ -1,7 +1,7 @@
 // An undo region is begun, or attached to a region that has one.
 ghost use Rattle.std.specs.Prelude.{◌≡◌, ◌⊎◌, ◌^◌, ◌<◌, ◌≤◌, length, IfOk, IfErr, OnOk, IsTrue, vec_capacity};
-ghost use Rattle.daos_outside.specs.Causes.{HasEitherCause};
-ghost use Rattle.daos_outside.specs.Images.{Image, over, LeavesOnly};
+ghost use Rattle.base_outside.specs.Causes.{HasEitherCause};
+ghost use Rattle.base_outside.specs.Images.{Image, over, LeavesOnly};
 ghost use Rattle.pmem_undo.specs.Layout.{gate_byte};
 ghost use Rattle.pmem_undo.specs.Settled.{settled, IsAttachable, IsAtRest, StandsFor};
 ghost use Rattle.pmem_undo.specs.Undo.{IsUndo};
@@ -13,8 +13,8 @@ use crate::buffers::take_buffers;
 use crate::restore::restore;
 use crate::span::Span;
 use crate::undo_region::UndoRegion;
-use daos_outside::Failed;
-use daos_outside::region::Region;
+use base_outside::Failed;
+use base_outside::region::Region;
 use std::alloc::Global;
 use thiserror::Error;
 

@@ -1,7 +1,7 @@
 // The log is read, and its old bytes are written back.
 ghost use Rattle.std.specs.Prelude.{◌≡◌, ◌≢◌, ◌↔◌, ℕ, ◌+◌, ◌*◌, ◌^◌, ◌<◌, ◌≤◌, [], ◌∷◌, length, drop, All, OnOk, IfOk, IfSome, IfNone, IsTrue, IsFalse, Some, None, vec_len, vec_capacity, if◌then◌else◌};
-ghost use Rattle.daos_outside.specs.Causes.{HasEitherCause};
-ghost use Rattle.daos_outside.specs.Images.{Image, bytes_at, Only, Tears, Torn, LeavesOnly};
+ghost use Rattle.base_outside.specs.Causes.{HasEitherCause};
+ghost use Rattle.base_outside.specs.Images.{Image, bytes_at, Only, Tears, Torn, LeavesOnly};
 ghost use Rattle.pmem_undo.specs.Layout.{gate, IsContent, are_content};
 ghost use Rattle.pmem_undo.specs.Log.{number_in, ranges_in, cons_range, is_log_size, logged, log_in};
 ghost use Rattle.pmem_undo.specs.Settled.{OnlyLooks, IsAtRest, IsAttachable, StandsFor, settled, rolled};
@@ -9,9 +9,9 @@ ghost use Rattle.pmem_undo.specs.Spans.{IsSpan, range_of, ranges_of};
 
 use crate::span::Span;
 use crate::{GATE, LOG, LOG_END};
+use base_outside::Failed;
+use base_outside::region::Region;
 use byteorder::{BigEndian, ByteOrder};
-use daos_outside::Failed;
-use daos_outside::region::Region;
 
 // The number in the first four bytes.
 #[tactic(auto, unfolding(crate::specs::Log::number_in))]

@@ -1,6 +1,6 @@
 // Staged bytes over those that were read.
 ghost use Rattle.std.specs.Prelude.{◌≡◌, ℕ, ◌+◌, ◌^◌, ◌<◌, ◌≤◌, ◌++◌, length, take, drop, All};
-ghost use Rattle.daos_outside.specs.Images.{Image, over, all_over, bytes_at};
+ghost use Rattle.base_outside.specs.Images.{Image, over, all_over, bytes_at};
 ghost use Rattle.pmem_undo.specs.Spans.{IsSpan, ranges_of};
 
 use crate::span::Span;

@@ -1,6 +1,6 @@
 // A region with an undo log.
 ghost use Rattle.std.specs.Prelude.{◌≡◌, ◌↔◌, ℕ, ◌+◌, ◌-◌, ◌^◌, ◌<◌, ◌≤◌, [], ◌∷◌, ◌++◌, List, length, false, true, IfOk, IfErr, OnOk, OnErr, IsErr, IsTrue, MatchBool, vec_capacity};
-ghost use Rattle.daos_outside.specs.Images.{Image, all_over, bytes_at, LeavesOnly, Runs, SameButFuse};
+ghost use Rattle.base_outside.specs.Images.{Image, all_over, bytes_at, LeavesOnly, Runs, SameButFuse};
 ghost use Rattle.pmem_pages.specs.Blocks.{Stops};
 ghost use Rattle.pmem_undo.specs.Layout.{IsContent, SameContent, most_ranges, most_bytes, total_bytes};
 ghost use Rattle.pmem_undo.specs.Settled.{IsAttachable, IsBeforeOrAfter, ComesFrom, OnlyLooks, reads, commit_calls};
@@ -10,8 +10,8 @@ use crate::commit::commit_ranges;
 use crate::show::show;
 use crate::span::Span;
 use crate::{MOST_BYTES, MOST_RANGES};
-use daos_outside::Failed;
-use daos_outside::region::{Fusible, Region};
+use base_outside::Failed;
+use base_outside::region::{Fusible, Region};
 use pmem_pages::refusal::{Stopped, TooMuch};
 use std::marker::Model;
 
@@ -30,7 +30,7 @@ impl<R: Region> Model for UndoRegion<R> {
     ghost use Rattle.pmem_undo.specs.Undo.{UndoState, HasBuffers};
     ghost use Rattle.pmem_undo.specs.Spans.{ranges_of};
     ghost use Rattle.pmem_undo.specs.Settled.{IsAtRest, IsAttachable};
-    ghost use Rattle.daos_outside.specs.Images.{Image};
+    ghost use Rattle.base_outside.specs.Images.{Image};
 
     ghost Value = { UndoState R };
 

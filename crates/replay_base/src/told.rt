@@ -9,11 +9,11 @@ ghost use Rattle.world_base.specs.Requests as asked;
 
 use crate::epochs::is_spent;
 use crate::free::is_free;
+use base_messages::actor::ActorId;
+use base_messages::message::{Message, Post, Posts};
 use base_types::epoch::Epoch;
 use base_types::id::AttemptId;
 use base_types::items::{Items, Memory};
-use base_messages::actor::ActorId;
-use base_messages::message::{Message, Post, Posts};
 use daos_model::durable::Durable;
 use std::alloc::Global;
 use world_base::did::Did;

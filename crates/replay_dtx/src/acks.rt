@@ -10,11 +10,11 @@ ghost use Rattle.world_base.specs.Acks as ack;
 ghost use Rattle.world_base.specs.Roles.{leader_at};
 
 use crate::seats::seat_at;
+use base_messages::actor::ActorId;
+use base_messages::message::Posts;
 use base_types::id::AttemptId;
 use base_types::items::Memory;
 use base_types::outcome::Outcome;
-use base_messages::actor::ActorId;
-use base_messages::message::Posts;
 use daos_model::durable::Durable;
 use dtx_leader::leader::Leader;
 use dtx_table::bits::is_other_number;

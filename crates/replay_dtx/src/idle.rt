@@ -8,9 +8,9 @@ ghost use Rattle.world_base.specs.Roles.{joins_on, member_at};
 
 use crate::marks::start_of;
 use crate::seats::seat_at;
+use base_messages::message::{Post, Posts};
 use base_types::id::AttemptId;
 use base_types::items::{Items, Memory};
-use base_messages::message::{Post, Posts};
 use daos_model::durable::Durable;
 use dtx_base::leading::LeaderMemory;
 use dtx_leader::leader::Leader;

@@ -6,11 +6,11 @@ ghost use Rattle.replay_base.specs.Leaving.{HearsAs};
 ghost use Rattle.replay_dtx.specs.Dtx.{all_confirmed, all_marked, answered_memory, confirmed_one, marked_one};
 ghost use Rattle.world_base.specs.Acks.{to_confirm};
 
+use base_messages::actor::ActorId;
+use base_messages::message::{AttemptIds, Message};
 use base_types::epoch::TargetId;
 use base_types::id::AttemptId;
 use base_types::items::{Items, Memory};
-use base_messages::actor::ActorId;
-use base_messages::message::{AttemptIds, Message};
 use dtx_leader::leader::Leader;
 use dtx_table::bits::has_number;
 use dtx_table::led::find_led;

@@ -6,10 +6,10 @@ ghost use Rattle.world_base.specs.Verdicts.{verdict_message};
 
 use crate::marks::start_of;
 use crate::seats::seat_at;
-use base_types::id::AttemptId;
-use base_types::items::Memory;
 use base_messages::actor::ActorId;
 use base_messages::message::Message;
+use base_types::id::AttemptId;
+use base_types::items::Memory;
 use dtx_leader::leader::Leader;
 use replay_base::leases::Covered;
 use replay_base::memories::copy_memory;

@@ -9,11 +9,11 @@ ghost use Rattle.world_base.specs.Reads.{FetchStage, fetched_message};
 ghost use Rattle.world_base.specs.Requests as asked;
 
 use crate::reads::{Work, read_from};
+use base_messages::actor::ActorId;
+use base_messages::message::{Message, Reply};
 use base_types::epoch::Epoch;
 use base_types::items::Memory;
 use base_types::outcome::Outcome;
-use base_messages::actor::ActorId;
-use base_messages::message::{Message, Reply};
 use replay_base::epochs::{asks_at, told_epoch};
 use replay_base::kept::copy_kept;
 use replay_base::leases::cover;

@@ -9,12 +9,12 @@ ghost use Rattle.world_base.specs.Reads.{fetch_cause, later_of, later_unless};
 ghost use Rattle.replay_fetch.specs.Met.{IsMet, MeetsAttempt};
 
 use crate::later::{aggregated_above, is_past, later_of};
+use base_messages::message::Reply;
 use base_types::epoch::{Epoch, TargetId};
 use base_types::id::AttemptId;
 use base_types::items::Memory;
 use base_types::outcome::{Cause, Outcome};
 use base_types::shown::Shown;
-use base_messages::message::Reply;
 use daos_model::durable::Durable;
 use replay_base::entries::other_leader;
 use std::alloc::Global;

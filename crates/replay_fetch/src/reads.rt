@@ -10,12 +10,12 @@ ghost use Rattle.world_base.specs.Reads as fetch;
 ghost use Rattle.world_base.specs.Reads.{FetchStage};
 
 use crate::meets::{Ending, Met, meet};
+use base_messages::actor::ActorId;
+use base_messages::message::{Message, Reply};
 use base_types::epoch::{Epoch, TargetId};
 use base_types::id::AttemptId;
 use base_types::items::{Items, Memory};
 use base_types::shown::Shown;
-use base_messages::actor::ActorId;
-use base_messages::message::{Message, Reply};
 use daos_model::durable::Durable;
 use dtx_base::leading::LeaderMemory;
 use dtx_member::member::Member;

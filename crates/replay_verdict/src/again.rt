@@ -5,8 +5,8 @@ ghost use Rattle.replay_base.specs.Heard.{CanRead, is_timed};
 ghost use Rattle.replay_verdict.specs.Tried.{AllTried, GoesOn, TriesAsk, TriesOne};
 
 use crate::asks::{fetch_in, fetcher};
-use base_types::items::{Items, Memory};
 use base_messages::message::{Message, Posts};
+use base_types::items::{Items, Memory};
 use replay_base::told::Left;
 use replay_fetch::fetch::fetch_again;
 use replay_fetch::reads::Work;

@@ -3,9 +3,9 @@ ghost use Rattle.std.specs.Prelude.{◌≡◌, true, IfOk};
 ghost use Rattle.replay_verdict.specs.Tried.{fetch_in};
 ghost use Rattle.world_base.specs.Verdicts.{fetcher};
 
-use base_types::items::Memory;
 use base_messages::actor::ActorId;
 use base_messages::message::Message;
+use base_types::items::Memory;
 use world_base::request::FetchRequest;
 
 /// What a Fetch asks.

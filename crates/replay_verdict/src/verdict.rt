@@ -6,10 +6,10 @@ ghost use Rattle.replay_base.specs.Leaving.{HearsAs};
 ghost use Rattle.replay_verdict.specs.Tried.{heard_by, left_by, settled_by};
 
 use crate::again::{Trial, try_all};
+use base_messages::actor::ActorId;
 use base_types::entry::Verdict;
 use base_types::id::AttemptId;
 use base_types::items::Memory;
-use base_messages::actor::ActorId;
 use daos_model::durable::Durable;
 use dtx_base::member::Freed;
 use dtx_member::member::Member;

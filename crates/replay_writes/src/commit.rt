@@ -11,13 +11,13 @@ ghost use Rattle.world_base.specs.Commits.{CommitEnds, CommitNext, CommitStage, 
 ghost use Rattle.world_base.specs.Requests as asked;
 
 use crate::ways::{Storing, Tells, ends_so, with_ticks};
+use base_messages::actor::ActorId;
+use base_messages::message::Message;
 use base_types::entry::Entry;
 use base_types::epoch::Epoch;
 use base_types::items::Memory;
 use base_types::operation::{MinorWrite, MinorWrites};
 use base_types::outcome::Outcome;
-use base_messages::actor::ActorId;
-use base_messages::message::Message;
 use dtx_leader::leader::Leader;
 use dtx_table::seat::Seat;
 use dtx_table::written::writes_at;

@@ -75,9 +75,7 @@ pub fn is_write_in_form(write: &Write) -> bool
     match write {
         Write::Single(path, bytes) => ends_at_akey(path) && is_length(bytes.len()),
         Write::Extent(path, low, bytes) => {
-            ends_at_akey(path)
-                && is_length(bytes.len())
-                && fits_records(path, *low, bytes.len())
+            ends_at_akey(path) && is_length(bytes.len()) && fits_records(path, *low, bytes.len())
         }
         Write::PunchObject(path) => ends_at_object(path),
         Write::PunchDkey(path) => ends_at_dkey(path),

@@ -7,8 +7,8 @@ ghost use Rattle.world_base.specs.Prepares as prepare;
 ghost use Rattle.world_base.specs.Requests as asked;
 
 use crate::ways::{Storing, Tells, ends_so, with_ticks};
-use base_types::items::Memory;
 use base_messages::message::Message;
+use base_types::items::Memory;
 use dtx_table::posts::{one, to_target};
 use replay_base::kept::copy_kept;
 use replay_base::leases::cover;

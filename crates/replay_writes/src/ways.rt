@@ -13,14 +13,14 @@ ghost use Rattle.world_base.specs.Requests as asked;
 
 use crate::checks::{is_allowed, is_refused_by};
 use crate::stored::prepared;
+use base_messages::actor::ActorId;
+use base_messages::message::{Message, Post};
 use base_types::entry::Entry;
 use base_types::epoch::{Epoch, TargetId};
 use base_types::id::AttemptId;
 use base_types::items::Memory;
 use base_types::operation::MinorWrite;
 use base_types::outcome::{Cause, Outcome};
-use base_messages::actor::ActorId;
-use base_messages::message::{Message, Post};
 use daos_model::blocks::blocks;
 use daos_model::durable::Durable;
 use dtx_table::posts::{one, to_target};

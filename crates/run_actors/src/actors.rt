@@ -10,10 +10,10 @@ ghost use Rattle.world_base.specs.declared.world.World.{World};
 ghost use Rattle.world_base.specs.Events.{Rules};
 ghost use Rattle.world_base.specs.Letters.{client, target};
 
-use client_core::client::Client;
-use base_types::items::Memory;
 use base_messages::actor::ActorId;
-use daos_outside::clock::Clock;
+use base_outside::clock::Clock;
+use base_types::items::Memory;
+use client_core::client::Client;
 use run_base::between::Between;
 use std::alloc::Global;
 use target_core::target::Target;

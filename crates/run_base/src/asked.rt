@@ -66,8 +66,18 @@ pub fn is_reply(message: &Message, asked: &Message) -> bool
 {
     match (message, asked) {
         (
-            Message::Fetched { attempt, op, group, .. },
-            Message::Fetch { attempt: own, op: own_op, group: own_group, .. },
+            Message::Fetched {
+                attempt,
+                op,
+                group,
+                ..
+            },
+            Message::Fetch {
+                attempt: own,
+                op: own_op,
+                group: own_group,
+                ..
+            },
         ) => is_same_attempt(*attempt, *own) && *op == *own_op && *group == *own_group,
         (Message::Ended { attempt, .. }, Message::Commit { attempt: own, .. })
         | (Message::Ended { attempt, .. }, Message::Ask { attempt: own })
@@ -77,18 +87,34 @@ pub fn is_reply(message: &Message, asked: &Message) -> bool
         | (Message::Held { attempt, .. }, Message::Prune { attempt: own, .. }) => {
             is_same_attempt(*attempt, *own)
         }
-        (Message::Ack { attempt, inc, .. }, Message::Prepare { entry, inc: own_inc, .. }) => {
-            is_same_attempt(*attempt, entry.attempt) && *inc == *own_inc
-        }
-        (Message::Marked { inc, attempts }, Message::Mark { inc: own_inc, marks }) => {
-            *inc == *own_inc && are_marked(attempts.as_slice(), marks.as_slice())
-        }
-        (Message::Verdict { attempt, ask, .. }, Message::Query { attempt: own, ask: own_ask }) => {
-            is_same_attempt(*attempt, *own) && same_ask(*ask, *own_ask)
-        }
+        (
+            Message::Ack { attempt, inc, .. },
+            Message::Prepare {
+                entry,
+                inc: own_inc,
+                ..
+            },
+        ) => { is_same_attempt(*attempt, entry.attempt) && *inc == *own_inc }
+        (
+            Message::Marked { inc, attempts },
+            Message::Mark {
+                inc: own_inc,
+                marks,
+            },
+        ) => { *inc == *own_inc && are_marked(attempts.as_slice(), marks.as_slice()) }
+        (
+            Message::Verdict { attempt, ask, .. },
+            Message::Query {
+                attempt: own,
+                ask: own_ask,
+            },
+        ) => { is_same_attempt(*attempt, *own) && same_ask(*ask, *own_ask) }
         (
             Message::StatusIs { attempt, inc, .. },
-            Message::Status { attempt: own, inc: own_inc },
+            Message::Status {
+                attempt: own,
+                inc: own_inc,
+            },
         ) => is_same_attempt(*attempt, *own) && *inc == *own_inc,
         _ => false,
     }

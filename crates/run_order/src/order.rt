@@ -13,13 +13,13 @@ ghost use Rattle.world_core.specs.Begins.{IsBegun, IsSimple};
 ghost use Rattle.world_base.specs.Events.{Rules};
 
 use crate::halted::Halted;
-use client_core::client::Client;
+use base_messages::actor::ActorId;
+use base_outside::clock::Clock;
+use base_outside::gate::Gate;
+use base_random::draw::drawn;
 use base_types::epoch::TargetId;
 use base_types::report::Lines;
-use base_random::draw::drawn;
-use base_messages::actor::ActorId;
-use daos_outside::clock::Clock;
-use daos_outside::gate::Gate;
+use client_core::client::Client;
 use run_actors::actors::Actors;
 use run_base::between::Between;
 use std::alloc::Global;

@@ -12,7 +12,7 @@ ghost use Rattle.target_core.specs.Targets.{CanHear, HasForm, HearsOrStops, has_
 
 use base_messages::actor::ActorId;
 use base_messages::message::Message;
-use daos_outside::clock::Clock;
+use base_outside::clock::Clock;
 use std::alloc::Global;
 use target_dtx::acks::{hear_ack, hear_marked};
 use target_dtx::marks::hear_mark;

@@ -13,11 +13,11 @@ ghost use Rattle.target_parts.specs.Stops.{stop_foreign, stop_store};
 ghost use Rattle.target_core.specs.Targets.{CanHear, HasForm, HearsOrStops, IdlesOrStops, has_epoch, is_of_client};
 
 use crate::hearing::hear_message;
-use base_types::epoch::TargetId;
-use daos_hlc::clock::Hlc;
 use base_messages::actor::ActorId;
 use base_messages::message::Message;
-use daos_outside::clock::Clock;
+use base_outside::clock::Clock;
+use base_types::epoch::TargetId;
+use daos_hlc::clock::Hlc;
 use dtx_leader::leader::Leader;
 use dtx_member::member::Member;
 use std::alloc::Global;

@@ -12,9 +12,9 @@ ghost use Rattle.target_parts.specs.Parts.{Runs, kept};
 ghost use Rattle.target_parts.specs.Stops.{Turn, never, stop_foreign, stop_memory, stop_store};
 ghost use Rattle.target_dtx.specs.Dtx.{GoesThrough, asks_if};
 
+use base_messages::message::Posts;
 use base_types::entry::Entry;
 use base_types::items::Items;
-use base_messages::message::Posts;
 use dtx_member::member::Member;
 use std::alloc::Global;
 use target_parts::halt::Halt;

@@ -14,11 +14,11 @@ ghost use Rattle.target_parts.specs.Parts.{Runs, kept};
 ghost use Rattle.target_parts.specs.Stops.{Turn, never, stop_foreign, stop_store};
 ghost use Rattle.target_dtx.specs.Dtx.{GoesThrough};
 
+use base_messages::actor::ActorId;
+use base_messages::message::Message;
 use base_types::entry::Settle;
 use base_types::id::AttemptId;
 use base_types::items::Items;
-use base_messages::actor::ActorId;
-use base_messages::message::Message;
 use dtx_table::marks::attempts_of;
 use std::alloc::Global;
 use target_parts::halt::Halt;

@@ -10,9 +10,9 @@ ghost use Rattle.target_parts.specs.Knowing.{LeadsWell, memory_of};
 ghost use Rattle.target_parts.specs.Parts.{kept};
 ghost use Rattle.target_parts.specs.Stops.{Turn, never, stop_foreign, stop_store};
 
-use base_types::id::AttemptId;
 use base_messages::actor::ActorId;
 use base_messages::message::Message;
+use base_types::id::AttemptId;
 use std::alloc::Global;
 use target_parts::kept::seat_of;
 use target_parts::knows::Knows;

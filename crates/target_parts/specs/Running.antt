@@ -1,7 +1,7 @@
 -- Calls of a store, one after another.
 use Rattle.std.proofs.Common.{ℕ, ◌≡◌, ◌≤◌, inl, inr, refl, sym, ◌∙◌, subst, Bool, true, false, ◌&&◌, Option, Some, None, is_some, Result, arith}
 use Rattle.std.specs.Option.{ForSome}
-use Rattle.daos_outside.specs.Causes.{Rose}
+use Rattle.base_outside.specs.Causes.{Rose}
 use Rattle.daos_model.specs.declared.durable.Durable.{Durable}
 use Rattle.vos_store.specs.Calls.{Ailed, Fires, State, Turns}
 use Rattle.vos_store.specs.Refusals.{says}

@@ -5,10 +5,10 @@ ghost use Rattle.vos_store.specs.Refusals.{always_stop};
 ghost use Rattle.target_parts.specs.Covers.{CoversOrCut, ReadiesOrCut, epoch_for, heard_of};
 ghost use Rattle.target_parts.specs.Parts.{Runs};
 
+use base_outside::clock::Clock;
 use base_types::epoch::Epoch;
 use daos_hlc::clock::Hlc;
 use daos_hlc::lease::lease_for;
-use daos_outside::clock::Clock;
 use vos_store::refusal::Stopped;
 use vos_store::store::Store;
 

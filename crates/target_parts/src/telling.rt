@@ -4,11 +4,11 @@ ghost use Rattle.world_base.specs.Requests as asked;
 ghost use Rattle.target_parts.specs.Stops.{stop_memory};
 
 use crate::stop::TargetStop;
+use base_messages::actor::ActorId;
+use base_messages::message::{Message, Post, Posts};
 use base_types::epoch::Epoch;
 use base_types::id::AttemptId;
 use base_types::items::{Items, Memory};
-use base_messages::actor::ActorId;
-use base_messages::message::{Message, Post, Posts};
 use std::alloc::Global;
 use world_base::did::Did;
 

@@ -16,10 +16,10 @@ ghost use Rattle.target_parts.specs.Stops.{stop_foreign, stop_store};
 ghost use Rattle.target_reads.specs.Again.{AreHere, AreParkable, MadeSome, TriedTurn, VerdictTurn};
 
 use crate::fetches::hear_known;
-use base_types::entry::{Settle, Verdict};
-use base_types::id::AttemptId;
 use base_messages::actor::ActorId;
 use base_messages::message::{Message, Messages, Posts};
+use base_types::entry::{Settle, Verdict};
+use base_types::id::AttemptId;
 use dtx_base::member::Freed;
 use std::alloc::Global;
 use target_parts::halt::Halt;

@@ -17,13 +17,13 @@ ghost use Rattle.target_reads.specs.Fetches.{FetchTurn};
 ghost use Rattle.target_reads.specs.Meets.{told_of};
 
 use crate::reads::{Served, serve};
+use base_messages::actor::ActorId;
+use base_messages::message::{Message, Reply};
+use base_outside::clock::Clock;
 use base_types::epoch::Epoch;
 use base_types::id::AttemptId;
 use base_types::items::Memory;
 use base_types::outcome::{Cause, Outcome};
-use base_messages::actor::ActorId;
-use base_messages::message::{Message, Reply};
-use daos_outside::clock::Clock;
 use std::alloc::Global;
 use target_parts::epochs::{hear, ready};
 use target_parts::halt::Halt;

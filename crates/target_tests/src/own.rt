@@ -6,6 +6,9 @@ ghost use Rattle.target_tests.specs.Own.{IsOfBegun, first, led, request, shared}
 ghost use Rattle.target_tests.specs.Rows.{IsNeverUsed};
 
 use crate::steps::{StepNo, start_at};
+use base_messages::actor::ActorId;
+use base_messages::message::Message;
+use base_outside::clock::Clock;
 use base_types::entry::Verdict;
 use base_types::epoch::Epoch;
 use base_types::id::{AttemptId, Class, ContId, ObjId};
@@ -13,9 +16,6 @@ use base_types::items::{Items, bytes_of};
 use base_types::key::{Key, KeyNo};
 use base_types::operation::{MinorWrite, Write};
 use base_types::path::Path;
-use base_messages::actor::ActorId;
-use base_messages::message::Message;
-use daos_outside::clock::Clock;
 use std::alloc::Global;
 use target_core::target::Target;
 use vos_store::store::Store;

@@ -3,10 +3,10 @@ ghost use Rattle.std.specs.Prelude.{◌≡◌, ◌<◌, ◌≤◌, IfOk, false};
 ghost use Rattle.std.specs.Option.{ForSome};
 ghost use Rattle.target_tests.specs.Rows.{IsBlank, IsHere, IsNeverUsed};
 
+use base_outside::clock::Clock;
 use base_types::epoch::TargetId;
 use base_types::id::ContId;
 use base_types::key::KeyNo;
-use daos_outside::clock::Clock;
 use std::alloc::{AllocError, AllocFailed, Global};
 use target_core::target::Target;
 use target_parts::stop::TargetStop;

@@ -1,12 +1,12 @@
 // What follows from the turns.
 use crate::overtaken::{LEADER, READER, mark_before_prepare, reader, writer};
 use crate::own::{MEMBER, led, told_of_own};
+use base_messages::actor::ActorId;
+use base_messages::message::{Message, Reply};
+use base_outside::count_clock::CountClock;
 use base_types::answer::Answer;
 use base_types::entry::Verdict;
 use base_types::epoch::Epoch;
-use base_messages::actor::ActorId;
-use base_messages::message::{Message, Reply};
-use daos_outside::count_clock::CountClock;
 use std::test::Fail;
 use vos_plain::store::PlainStore;
 use world_base::did::Did;

@@ -15,14 +15,14 @@ ghost use Rattle.target_writes.specs.Checks.{AreWrites, CanCommit, CanStore, IsP
 ghost use Rattle.target_writes.specs.Turns.{CommitTurn, begun_of};
 
 use crate::checks::prepare;
+use base_messages::actor::ActorId;
+use base_messages::message::Message;
+use base_outside::clock::Clock;
 use base_types::entry::Entry;
 use base_types::epoch::Epoch;
 use base_types::id::AttemptId;
 use base_types::items::Memory;
 use base_types::outcome::Outcome;
-use base_messages::actor::ActorId;
-use base_messages::message::Message;
-use daos_outside::clock::Clock;
 use dtx_table::written::writes_at;
 use std::alloc::Global;
 use target_members::members::members_of;

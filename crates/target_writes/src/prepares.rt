@@ -14,9 +14,9 @@ ghost use Rattle.target_writes.specs.Checks.{CanStore, IsPlaced};
 ghost use Rattle.target_writes.specs.Turns.{CanPrepareHere, IsPrepareInForm, PrepareTurn};
 
 use crate::checks::prepare;
-use base_types::outcome::Outcome;
 use base_messages::actor::ActorId;
 use base_messages::message::Message;
+use base_types::outcome::Outcome;
 use std::alloc::Global;
 use target_parts::epochs::hear;
 use target_parts::halt::Halt;

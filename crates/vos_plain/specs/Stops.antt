@@ -1,7 +1,7 @@
 -- What becomes of a change that may stop a store over lists.
 use Rattle.std.specs.Prelude.{◌≡◌, ◌≢◌, ◌≤◌, ◌⊎◌, ◌-◌, ◌%◌, ◌==◌, ◌||◌, ℕ, Bool, true, false, List, [], ◌∷◌, nat_lt, if◌then◌else◌}
 use Rattle.std.specs.List.{list_any}
-use Rattle.daos_outside.specs.Causes.{Rose, one_more}
+use Rattle.base_outside.specs.Causes.{Rose, one_more}
 use Rattle.vos_plain.specs.declared.stop_plan.Injected.{Injected}
 use Rattle.vos_plain.specs.declared.stop_plan.Injected.TheVariants.{Made, StopBefore, StopAfter}
 use Rattle.vos_plain.specs.declared.stop_plan.StopPlan.{StopPlan}

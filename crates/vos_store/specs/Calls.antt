@@ -8,7 +8,7 @@ use Rattle.daos_model.specs.declared.durable.Durable.{Durable}
 use Rattle.daos_model.specs.declared.durable.Version.{Version}
 use Rattle.daos_model.specs.Changes.{is_in_range, marked, reopened, with_versions}
 use Rattle.daos_model.specs.Prunes.{Partly, is_going}
-use Rattle.daos_outside.specs.Causes.{Rose}
+use Rattle.base_outside.specs.Causes.{Rose}
 use Rattle.vos_store.specs.declared.refusal.ReopenNo.{ReopenNo}
 use Rattle.vos_store.specs.Refusals.{refuses, reopen_stop, says}
 

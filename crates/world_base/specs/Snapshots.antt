@@ -1,6 +1,5 @@
 -- Target 0 makes a snapshot or aggregates a container, and the other targets with it.
 use Rattle.std.specs.Prelude.{ℕ, ◌≡◌, ◌≤◌, ◌<◌, ◌/◌, ◌-◌, ◌+◌, ◌^◌, min, nat_lt, Bool, true, false, not, ◌&&◌, ◌==◌, List, [], ◌∷◌, ◌++◌, map, filter, find, Option, Some, None, Result, Ok, Err, if◌then◌else◌}
-
 use Rattle.std.specs.List.{list_all}
 use Rattle.base_types.specs.Epochs.{lease_for}
 use Rattle.base_types.specs.declared.epoch.Epoch.{Epoch}

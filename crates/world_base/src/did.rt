@@ -1,9 +1,9 @@
 // What follows from a turn.
+use base_messages::message::Posts;
 use base_types::epoch::Epoch;
 use base_types::id::AttemptId;
 use base_types::items::Items;
 use base_types::report::Lines;
-use base_messages::message::Posts;
 
 /// Attempts with the epochs that were issued to them, in the order of issuing.
 pub type Issues = Items<(AttemptId, Epoch)>;

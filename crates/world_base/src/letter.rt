@@ -1,8 +1,8 @@
 // Messages on their way.
 
-use base_types::items::{Items, Memory, TryCopy};
 use base_messages::actor::ActorId;
 use base_messages::message::Message;
+use base_types::items::{Items, Memory, TryCopy};
 
 /// A message on its way from one actor to another.
 #[derive(Drop)]

@@ -1,11 +1,11 @@
 // What a target is at a moment.
+use base_messages::actor::ActorId;
 use base_types::epoch::{Epoch, TargetId};
-use base_types::items::{Items, Memory, TryCopy};
 use base_types::id::{AttemptId, ContId};
+use base_types::items::{Items, Memory, TryCopy};
 use base_types::key::Key;
 use base_types::outcome::FloorWhy;
 use base_types::shown::Shown;
-use base_messages::actor::ActorId;
 use daos_model::durable::Durable;
 use dtx_base::leading::LeaderMemory;
 use dtx_base::member::MemberMemory;

@@ -5,8 +5,8 @@ ghost use Rattle.world_list.specs.RunLists.{IsRunFrom, IsRunList, LeadsTo, Targe
 
 use crate::starts::starts_well;
 use crate::targets::{target_hears, target_idles};
-use base_types::items::Memory;
 use base_messages::actor::ActorId;
+use base_types::items::Memory;
 use std::alloc::Global;
 use world_base::letter::Letter;
 use world_base::world::World;

@@ -10,12 +10,12 @@ ghost use Rattle.replay_verdict.specs.Tried.{fetch_in};
 ghost use Rattle.replay_writes.specs.Committed.{CommitsSo, PreparesSo};
 ghost use Rattle.world_check.specs.Turned.{HearsSo, commit_in, prepare_in};
 
+use base_messages::actor::ActorId;
+use base_messages::message::Message;
 use base_types::entry::Verdict;
 use base_types::id::AttemptId;
 use base_types::items::Memory;
 use base_types::outcome::Outcome;
-use base_messages::actor::ActorId;
-use base_messages::message::Message;
 use daos_model::durable::{Durable, Version};
 use dtx_base::member::Parked;
 use replay_base::entries::are_led_here;

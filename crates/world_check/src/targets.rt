@@ -7,9 +7,9 @@ ghost use Rattle.world_list.specs.RunLists.{IdlesAs, TargetHearsAs, rules_of};
 
 use crate::hears::hears_so;
 use crate::told::did_told;
+use base_messages::actor::ActorId;
 use base_types::epoch::TargetId;
 use base_types::items::Memory;
-use base_messages::actor::ActorId;
 use replay_base::told::is_left_if;
 use replay_dtx::idle::idles;
 use std::alloc::Global;

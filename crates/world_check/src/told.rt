@@ -2,10 +2,10 @@
 ghost use Rattle.std.specs.Prelude.{◌≡◌, drop, length, map, slice_get, IfOk};
 ghost use Rattle.world_check.specs.Told.{did_told, post_of};
 
+use base_messages::message::{Post, Posts};
 use base_types::epoch::Epoch;
 use base_types::id::AttemptId;
 use base_types::items::{Items, Memory};
-use base_messages::message::{Post, Posts};
 use std::alloc::Global;
 use world_base::did::Did;
 use world_base::letter::Letter;

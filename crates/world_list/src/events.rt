@@ -1,7 +1,7 @@
 // Events of a run as a list: who had a turn, what it heard, and the world after it.
+use base_messages::actor::ActorId;
 use base_types::items::Items;
 use base_types::script::Script;
-use base_messages::actor::ActorId;
 use world_base::letter::Letter;
 use world_base::world::World;
 

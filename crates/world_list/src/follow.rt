@@ -4,12 +4,12 @@ ghost use Rattle.world_base.specs.Events.{listed, with_epoch};
 ghost use Rattle.world_base.specs.Letters.{letters_of};
 ghost use Rattle.world_list.specs.Following.{FollowIs, IsTold};
 
+use base_messages::actor::ActorId;
+use base_messages::message::Posts;
 use base_types::epoch::Epoch;
 use base_types::id::AttemptId;
 use base_types::items::{Items, Memory};
 use base_types::report::Lines;
-use base_messages::actor::ActorId;
-use base_messages::message::Posts;
 use run_base::asked::asked_after;
 use run_base::lines::with_epoch;
 use std::alloc::Global;

@@ -2,9 +2,9 @@
 ghost use Rattle.std.specs.Prelude.{◌≡◌, Decides};
 
 use crate::same::Same;
-use base_types::entry::{EntryState, Verdict};
 use base_messages::actor::ActorId;
 use base_messages::message::{Message, Post, Reply};
+use base_types::entry::{EntryState, Verdict};
 
 impl Same for ActorId {
     fn is_same(&self, other: &ActorId) -> bool {

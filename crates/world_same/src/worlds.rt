@@ -58,8 +58,7 @@ impl Same for TargetState {
 
 impl Same for Numbers {
     fn is_same(&self, other: &Numbers) -> bool {
-        self.restarts.is_same(&other.restarts)
-            && self.aggregates.is_same(&other.aggregates)
+        self.restarts.is_same(&other.restarts) && self.aggregates.is_same(&other.aggregates)
     }
 }
 

@@ -1,5 +1,5 @@
 use Rattle.std.proofs.Common.{◌≡◌, drop}
-use Rattle.daos_outside.specs.Images.{all_over, image_of}
+use Rattle.base_outside.specs.Images.{all_over, image_of}
 use Rattle.daos_regions.specs.Periods.{kept_from, ranges_of}
 use Rattle.daos_regions.proofs.disk.settle.Given as goal
 

@@ -1,7 +1,7 @@
 use Rattle.std.proofs.Common.{◌≡◌, ◌∙◌, ◌+◌, ◌++◌, ◌∷◌, [], take, set, false, add-one, ap, sym, subst, arith, List, ℕ}
 use Rattle.std.specs.Prelude.{IfOk, OnOk}
 use Rattle.std.proofs.Math.Seq.{take-suc-set}
-use Rattle.daos_outside.specs.Images.{Image, all_over}
+use Rattle.base_outside.specs.Images.{Image, all_over}
 use Rattle.pmem_undo.specs.Undo.{UndoState}
 use Rattle.pmem_alloc.specs.Sets.{IsLeast, AreLeast, set_to, without, count_below, Set}
 use Rattle.pmem_alloc.specs.Map.{free_of, StandsIn}

@@ -1,5 +1,5 @@
 use Rattle.std.proofs.Common.{◌≡◌, ◌+◌, take}
-use Rattle.daos_outside.specs.Images.{Image, all_over}
+use Rattle.base_outside.specs.Images.{Image, all_over}
 use Rattle.pmem_alloc.specs.Sets.{count_below, without, AreLeast}
 use Rattle.pmem_alloc.specs.Map.{free_of, StandsIn}
 use Rattle.pmem_alloc.specs.Blocks.{StagesMap}

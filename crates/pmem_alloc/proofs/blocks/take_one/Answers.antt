@@ -1,6 +1,6 @@
 use Rattle.std.proofs.Common.{◌+◌, subst, sym, ◌∙◌, ap}
 use Rattle.std.specs.Prelude.{slice_index}
-use Rattle.daos_outside.specs.Images.{all_over}
+use Rattle.base_outside.specs.Images.{all_over}
 use Rattle.pmem_undo.specs.Undo.{UndoState}
 use Rattle.pmem_alloc.specs.Map.{MapState, map_place}
 use Rattle.pmem_alloc.specs.Blocks.{StagesMap}

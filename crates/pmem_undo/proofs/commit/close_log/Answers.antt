@@ -1,6 +1,6 @@
 use Rattle.std.proofs.Common.{◌∙◌, ap, refl, ◌∷◌, []}
-use Rattle.daos_outside.specs.Images.{Image}
-use Rattle.daos_outside.specs.Images.Call.{Write, Flush}
+use Rattle.base_outside.specs.Images.{Image}
+use Rattle.base_outside.specs.Images.Call.{Write, Flush}
 use Rattle.pmem_undo.specs.Layout.{gate_byte}
 use Rattle.pmem_undo.specs.Settled.{IsBeforeOrAfter, writes}
 use Rattle.pmem_undo.specs.Spans.{ranges_of}

@@ -1,6 +1,6 @@
 use Rattle.std.proofs.Common.{inl, ◌∙◌, ◌∷◌, [], ◌++◌, ap, sym, subst, arith, take, length}
-use Rattle.daos_outside.specs.Images.{Image, over, all_over}
-use Rattle.daos_outside.specs.Images.Call.{Write, Flush}
+use Rattle.base_outside.specs.Images.{Image, over, all_over}
+use Rattle.base_outside.specs.Images.Call.{Write, Flush}
 use Rattle.pmem_undo.specs.Layout.{gate, gate_byte}
 use Rattle.pmem_undo.specs.Settled.{IsPrepared, body_range, log_opened, reads, writes}
 use Rattle.pmem_undo.specs.Spans.{ranges_of}

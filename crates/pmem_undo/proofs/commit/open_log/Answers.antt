@@ -1,5 +1,5 @@
 use Rattle.std.proofs.Common.{◌∙◌, ap}
-use Rattle.daos_outside.specs.Images.{Image}
+use Rattle.base_outside.specs.Images.{Image}
 use Rattle.pmem_undo.specs.Settled.{StandsFor}
 use Rattle.pmem_undo.proofs.Moments.{sofar_flush}
 use Rattle.pmem_undo.proofs.Phases.{body_written, gate_opened}

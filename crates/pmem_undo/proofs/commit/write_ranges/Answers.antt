@@ -1,7 +1,7 @@
 use Rattle.std.proofs.Common.{◌+◌, ◌∙◌, List, take, get_or, sym, ap, subst, arith}
-use Rattle.daos_outside.specs.Images.{Range, Call, all_over, over, Tears, Runs}
-use Rattle.daos_outside.specs.Images.Call.{Write}
-use Rattle.daos_outside.specs.ImageLaws.{all_over-push}
+use Rattle.base_outside.specs.Images.{Range, Call, all_over, over, Tears, Runs}
+use Rattle.base_outside.specs.Images.Call.{Write}
+use Rattle.base_outside.specs.ImageLaws.{all_over-push}
 use Rattle.pmem_undo.specs.Settled.{writes}
 use Rattle.pmem_undo.specs.Spans.{range_of, ranges_of}
 use Rattle.pmem_undo.proofs.Moments.{leaves_more, tears_more, runs_more, writes-push}

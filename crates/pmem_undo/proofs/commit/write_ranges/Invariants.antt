@@ -1,6 +1,6 @@
 use Rattle.std.proofs.Common.{◌≡◌, ◌≤◌, take}
 use Rattle.std.specs.Prelude.{IsTrue}
-use Rattle.daos_outside.specs.Images.{Image, all_over, Torn, Tears, LeavesOnly, Runs}
+use Rattle.base_outside.specs.Images.{Image, all_over, Torn, Tears, LeavesOnly, Runs}
 use Rattle.pmem_undo.specs.Settled.{writes}
 use Rattle.pmem_undo.specs.Spans.{ranges_of}
 use Rattle.pmem_undo.proofs.commit.write_ranges.Given as goal

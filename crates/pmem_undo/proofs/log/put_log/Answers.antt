@@ -1,7 +1,7 @@
 use Rattle.std.proofs.Common.{◌≡◌, ◌+◌, ◌*◌, ◌++◌, ◌∙◌, List, ℕ, length, take, sym, ap, subst, arith}
 use Rattle.std.proofs.Math.Seq.{take-length}
-use Rattle.daos_outside.specs.Images.{Runs, Call}
-use Rattle.daos_outside.specs.Images.Call.{Read}
+use Rattle.base_outside.specs.Images.{Runs, Call}
+use Rattle.base_outside.specs.Images.Call.{Read}
 use Rattle.pmem_undo.specs.declared.span.Span.{Span}
 use Rattle.pmem_undo.specs.Log.{number_bytes, ranges_bytes}
 use Rattle.pmem_undo.specs.Settled.{reads}

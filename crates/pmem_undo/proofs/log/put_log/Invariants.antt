@@ -1,6 +1,6 @@
 use Rattle.std.proofs.Common.{◌≡◌, ◌≤◌, ◌+◌, ◌*◌, ◌++◌, length, take}
 use Rattle.std.specs.Prelude.{IsTrue}
-use Rattle.daos_outside.specs.Images.{Runs}
+use Rattle.base_outside.specs.Images.{Runs}
 use Rattle.pmem_undo.specs.Log.{number_bytes, ranges_bytes}
 use Rattle.pmem_undo.specs.Settled.{OnlyLooks, reads}
 use Rattle.pmem_undo.specs.Spans.{spans_length, old_spans}

@@ -1,5 +1,5 @@
 use Rattle.std.proofs.Common.{◌∙◌, ap}
-use Rattle.daos_outside.specs.Images.{Image}
+use Rattle.base_outside.specs.Images.{Image}
 use Rattle.pmem_undo.specs.Layout.{gate}
 use Rattle.pmem_undo.proofs.Phases.{OnOk-map}
 use Rattle.pmem_undo.proofs.Settling.{gate_at}

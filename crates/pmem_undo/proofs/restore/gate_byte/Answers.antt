@@ -1,5 +1,5 @@
 use Rattle.std.proofs.Common.{◌∙◌, ap, arith, List, ℕ, get_or}
-use Rattle.daos_outside.specs.ImageLaws.{get_or-bytes_at}
+use Rattle.base_outside.specs.ImageLaws.{get_or-bytes_at}
 use Rattle.pmem_undo.specs.Layout.{gate}
 use Rattle.pmem_undo.proofs.restore.gate_byte.Goals as goal
 

@@ -1,7 +1,7 @@
 use Rattle.std.proofs.Common.{◌≡◌, ◌+◌, ◌∙◌, ◌++◌, ℕ, length, take, drop, sym, ap, arith, rules, Some, None, false, true}
 use Rattle.std.proofs.lemmas.Bool.Decides.{nat_tests}
 use Rattle.std.proofs.lemmas.List.{length-take-le}
-use Rattle.daos_outside.specs.Images.{Image, bytes_at}
+use Rattle.base_outside.specs.Images.{Image, bytes_at}
 use Rattle.pmem_undo.specs.Layout.{log_place}
 use Rattle.pmem_undo.specs.Log.{log_in, logged, is_log_size}
 use Rattle.pmem_undo.specs.Spans.{ranges_of}

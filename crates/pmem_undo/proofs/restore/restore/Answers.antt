@@ -1,5 +1,5 @@
 use Rattle.std.proofs.Common.{◌∙◌, ap, sym}
-use Rattle.daos_outside.specs.Images.{Image}
+use Rattle.base_outside.specs.Images.{Image}
 use Rattle.pmem_undo.specs.Layout.{gate}
 use Rattle.pmem_undo.proofs.Attaching.{stands_same, attachable_same, stands_from, looks_only, settled_shut, settled_closes}
 use Rattle.pmem_undo.specs.Settled.{StandsFor, settled}

@@ -1,5 +1,5 @@
 use Rattle.std.proofs.Common.{◌∙◌, sym, ap}
-use Rattle.daos_outside.specs.Images.{Image, over}
+use Rattle.base_outside.specs.Images.{Image, over}
 use Rattle.pmem_undo.specs.Layout.{gate_byte}
 use Rattle.pmem_undo.specs.Settled.{StandsFor, settled}
 use Rattle.pmem_undo.specs.Spans.{ranges_of}

@@ -1,6 +1,6 @@
 use Rattle.std.proofs.Common.{◌-◌, ◌∙◌, List, drop, get_or, sym, ap, subst, arith}
 use Rattle.std.specs.Prelude.{IsTrue}
-use Rattle.daos_outside.specs.Images.{Range, over, Tears}
+use Rattle.base_outside.specs.Images.{Range, over, Tears}
 use Rattle.pmem_undo.specs.Settled.{rolled}
 use Rattle.pmem_undo.specs.Spans.{range_of, ranges_of}
 use Rattle.pmem_undo.proofs.Moments.{leaves_more}

@@ -1,6 +1,6 @@
 use Rattle.std.proofs.Common.{◌≡◌, ◌≤◌, length, drop}
 use Rattle.std.specs.Prelude.{IsTrue}
-use Rattle.daos_outside.specs.Images.{Image, Torn, Tears, LeavesOnly}
+use Rattle.base_outside.specs.Images.{Image, Torn, Tears, LeavesOnly}
 use Rattle.pmem_undo.specs.Settled.{rolled}
 use Rattle.pmem_undo.specs.Spans.{ranges_of}
 use Rattle.pmem_undo.proofs.restore.write_back.Given as goal

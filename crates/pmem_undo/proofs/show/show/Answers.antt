@@ -1,6 +1,6 @@
 use Rattle.std.proofs.Common.{◌≡◌, ◌∙◌, List, ℕ, take, length, get_or, ap, sym, arith}
-use Rattle.daos_outside.specs.Images.{Image, Range, over, all_over, bytes_at}
-use Rattle.daos_outside.specs.ImageLaws.{all_over-push}
+use Rattle.base_outside.specs.Images.{Image, Range, over, all_over, bytes_at}
+use Rattle.base_outside.specs.ImageLaws.{all_over-push}
 use Rattle.pmem_undo.specs.Spans.{range_of, ranges_of}
 use Rattle.pmem_undo.proofs.Phases.{ranges_more}
 use Rattle.pmem_undo.proofs.show.show.Goals as goal

@@ -1,5 +1,5 @@
 use Rattle.std.proofs.Common.{◌≡◌, length, take}
-use Rattle.daos_outside.specs.Images.{Image, all_over, bytes_at}
+use Rattle.base_outside.specs.Images.{Image, all_over, bytes_at}
 use Rattle.pmem_undo.specs.Spans.{ranges_of}
 use Rattle.pmem_undo.proofs.show.show.Given as goal
 

@@ -1,8 +1,8 @@
 use Rattle.std.proofs.Common.{◌≡◌, ◌∙◌, ◌+◌, ap, length, arith}
 use Rattle.std.specs.Prelude.{slice_range}
 use Rattle.std.proofs.lemmas.Grind.{common_steps}
-use Rattle.daos_outside.specs.Images.{Image, bytes_at, image_of}
-use Rattle.daos_outside.specs.ImageLaws.{part_is_read}
+use Rattle.base_outside.specs.Images.{Image, bytes_at, image_of}
+use Rattle.base_outside.specs.ImageLaws.{part_is_read}
 use Rattle.daos_regions.specs.Periods.{read_now, DiskState}
 use Rattle.daos_regions.proofs.disk.Disk.read.Goals as goal
 

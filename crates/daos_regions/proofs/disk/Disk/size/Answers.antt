@@ -1,6 +1,6 @@
 use Rattle.std.proofs.Common.{◌≡◌, ◌∙◌, ◌<◌, ap, subst, List, ℕ, rules}
-use Rattle.daos_outside.specs.Images.{Image, image_of}
-use Rattle.daos_outside.specs.ImageLaws.{image_is_bytes}
+use Rattle.base_outside.specs.Images.{Image, image_of}
+use Rattle.base_outside.specs.ImageLaws.{image_is_bytes}
 use Rattle.daos_regions.specs.Periods.{read_now}
 use Rattle.daos_regions.proofs.disk.Disk.size.Goals as goal
 

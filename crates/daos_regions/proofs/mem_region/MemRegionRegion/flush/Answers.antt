@@ -1,5 +1,5 @@
 use Rattle.std.proofs.Common.{ap, subst, ◌≡◌}
-use Rattle.daos_outside.specs.Images.{NoMore}
+use Rattle.base_outside.specs.Images.{NoMore}
 use Rattle.daos_regions.specs.declared.keep.Keep.TheVariants.{All}
 use Rattle.daos_regions.specs.MemState.{MemState}
 use Rattle.daos_regions.specs.Periods.{DiskState, MayLeave, read_now}

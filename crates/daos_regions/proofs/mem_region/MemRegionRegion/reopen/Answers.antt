@@ -1,6 +1,6 @@
 use Rattle.std.proofs.Common.{ap, subst, ◌≡◌}
 use Rattle.std.specs.Prelude.{OnOk}
-use Rattle.daos_outside.specs.Images.{NoMore}
+use Rattle.base_outside.specs.Images.{NoMore}
 use Rattle.daos_regions.specs.MemState.{MemState}
 use Rattle.daos_regions.specs.Periods.{DiskState, MayLeave, read_now}
 use Rattle.daos_regions.specs.MemLaws.{end_goes, end_no_more, end_image, Goes}

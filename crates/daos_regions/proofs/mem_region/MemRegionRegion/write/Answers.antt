@@ -1,6 +1,6 @@
 use Rattle.std.proofs.Common.{ap, subst, ◌≡◌, ◌∷◌, []}
 use Rattle.std.specs.Prelude.{OnOk}
-use Rattle.daos_outside.specs.Images.{Range, Tears, over}
+use Rattle.base_outside.specs.Images.{Range, Tears, over}
 use Rattle.daos_regions.specs.MemState.{MemState}
 use Rattle.daos_regions.specs.Periods.{DiskState, MayLeave, read_now}
 use Rattle.daos_regions.specs.MemLaws.{write_goes, write_leaves, write_image, Goes}

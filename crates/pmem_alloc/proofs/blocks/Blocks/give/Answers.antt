@@ -1,5 +1,5 @@
 use Rattle.std.proofs.Common.{◌<◌, ◌++◌, ◌∷◌, [], List, ap, sym, subst, arith}
-use Rattle.daos_outside.specs.Images.{Range, all_over}
+use Rattle.base_outside.specs.Images.{Range, all_over}
 use Rattle.pmem_undo.specs.Undo.{UndoState}
 use Rattle.pmem_alloc.specs.Map.{MapState, StandsIn, map_byte}
 use Rattle.pmem_alloc.specs.Blocks.{BlocksState, HoldsBlocks, StagesMap}

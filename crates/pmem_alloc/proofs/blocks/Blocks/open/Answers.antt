@@ -1,5 +1,5 @@
 use Rattle.std.proofs.Common.{◌≡◌, ◌∙◌, [], ap, sym, subst}
-use Rattle.daos_outside.specs.Images.{Image, all_over, bytes_at}
+use Rattle.base_outside.specs.Images.{Image, all_over, bytes_at}
 use Rattle.pmem_undo.specs.Undo.{UndoState}
 use Rattle.pmem_alloc.specs.Map.{MapState, blocks_end, map_place, map_length}
 use Rattle.pmem_alloc.specs.Blocks.{HoldsBlocks}

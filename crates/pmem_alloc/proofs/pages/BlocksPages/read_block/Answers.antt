@@ -1,5 +1,5 @@
 use Rattle.std.proofs.Common.{◌∙◌, ℕ, Some, ap, sym}
-use Rattle.daos_outside.specs.Images.{bytes_at, all_over}
+use Rattle.base_outside.specs.Images.{bytes_at, all_over}
 use Rattle.pmem_alloc.proofs.Holding.{on_ok}
 use Rattle.pmem_alloc.proofs.Paging.{block_taken, block_bytes}
 use Rattle.pmem_alloc.proofs.pages.BlocksPages.read_block.Goals as goal

@@ -1,5 +1,5 @@
 use Rattle.std.proofs.Common.{◌≡◌, ◌∙◌, ap, subst, sym, true, List, ℕ}
-use Rattle.daos_outside.specs.Images.{Range}
+use Rattle.base_outside.specs.Images.{Range}
 use Rattle.pmem_undo.specs.Settled.{IsBeforeOrAfter, ComesFrom}
 use Rattle.pmem_undo.specs.Undo.{IsUndo, UndoState}
 use Rattle.pmem_undo.specs.Spans.{ranges_of}

@@ -1,6 +1,6 @@
 use Rattle.std.proofs.Common.{ap, subst, List, arith}
 use Rattle.std.specs.Prelude.{MatchBool}
-use Rattle.daos_outside.specs.Images.{Range}
+use Rattle.base_outside.specs.Images.{Range}
 use Rattle.pmem_undo.specs.Undo.{UndoState, HasRoom, IsTooMuch}
 use Rattle.pmem_undo.proofs.Undoing.{room_told}
 use Rattle.pmem_undo.proofs.undo_region.UndoRegion.has_room.Goals as goal

@@ -1,5 +1,5 @@
 use Rattle.std.proofs.Common.{◌≡◌, ◌∙◌, ◌-◌, ap, length, List, ℕ, rules}
-use Rattle.daos_outside.specs.Images.{Range}
+use Rattle.base_outside.specs.Images.{Range}
 use Rattle.pmem_undo.specs.Layout.{most_bytes, total_bytes}
 use Rattle.pmem_undo.specs.Undo.{UndoState}
 use Rattle.pmem_undo.proofs.Undoing.{left_told}

@@ -1,5 +1,5 @@
 use Rattle.std.proofs.Common.{◌≡◌, ◌∙◌, ◌∷◌, [], ◌++◌, List, ap, refl, subst, sym, length, true, false, arith}
-use Rattle.daos_outside.specs.Images.{Range}
+use Rattle.base_outside.specs.Images.{Range}
 use Rattle.pmem_undo.specs.Layout.{IsContent}
 use Rattle.pmem_undo.specs.Undo.{IsUndo, UndoState, IsTooMuch}
 use Rattle.pmem_undo.specs.Spans.{ranges_of}
