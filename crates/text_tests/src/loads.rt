@@ -6,7 +6,7 @@ use base_types::key::Key;
 use base_types::operation::{Act, Op, Read, Write};
 use base_types::path::Path;
 use base_types::script::Command;
-use daos_gen::script::make_script;
+use daos_gen::make_script;
 use std::alloc::Global;
 use std::test::Fail;
 

@@ -1,17 +1,14 @@
 // Texts of reports, read.
 use base_types::answer::Answer;
-use base_types::epoch::Epoch;
 use base_types::id::{Class, ContId, ObjId};
 use base_types::items::{Items, bytes_of};
 use base_types::key::Key;
 use base_types::operation::{Act, Cond, Op, Ops, Read, Write};
 use base_types::outcome::Outcome;
 use base_types::path::Path;
-use base_types::report::Line;
+use base_types::report::{Attempt, Line};
 use base_types::script::{Command, Commands, ContDecl, ObjDecl, Script};
-use report_reader::fault::ReportNo;
-use report_reader::report::read_report;
-use report_writer::text::report_text;
+use daos_report::{ReportNo, read_report, report_text};
 use std::alloc::Global;
 use std::test::Fail;
 
@@ -91,20 +88,25 @@ fn texts_are_read_back(rt: HostRuntime) -> Result<(), Fail> {
     Ok(())
 }
 
-// Whether a line is the committed attempt of the second command of the first client at 512, answered so.
-fn is_get(line: &Line, value: &[u8]) -> bool {
-    let Line::Try(attempt) = line else {
+// Whether an attempt, of the second command of the first client and at 512, is answered by this value.
+fn is_get(attempt: &Attempt, value: &[u8]) -> bool {
+    let [got] = attempt.gots.as_slice() else {
         return false;
     };
-    let answered = match attempt.gots.as_slice() {
-        [(0, Answer::Bytes(bytes))] => bytes.as_slice() == value,
+    let answered = match &got.1 {
+        Answer::Bytes(bytes) => bytes.as_slice() == value,
         _ => false,
     };
-    let id = attempt.id;
+    let issued = match attempt.epoch {
+        Some(epoch) => epoch.0 == 512,
+        None => false,
+    };
     answered
-        && (id.client, id.command, id.attempt) == (0, 1, 0)
-        && matches!(attempt.epoch, Some(Epoch(512)))
-        && matches!(&attempt.outcome, Outcome::Committed)
+        && issued
+        && got.0 == 0
+        && attempt.id.client == 0
+        && attempt.id.command == 1
+        && attempt.id.attempt == 0
 }
 
 #[test]
@@ -117,7 +119,13 @@ fn the_first_report_is_read(rt: HostRuntime) -> Result<(), Fail> {
     let report = read_report(alloc, text, &script)?;
     assert_eq!(rt; report.targets, 1);
     assert_eq!(rt; report.lines.len(), 2);
-    assert!(rt; is_get(&report.lines.as_slice()[1], b"hello"));
+    match &report.lines.as_slice()[1] {
+        Line::Try(attempt) => {
+            assert!(rt; is_get(attempt, b"hello"));
+            assert!(rt; matches!(&attempt.outcome, Outcome::Committed));
+        }
+        _ => assert!(rt; false, "no attempt"),
+    }
     assert!(rt; report.down.is_none());
     Ok(())
 }

@@ -2,8 +2,7 @@
 use base_types::fault::{ScriptFault, Why};
 use base_types::key::Key;
 use base_types::script::{Command, Script};
-use daos_script::fault::ScriptNo;
-use daos_script::script::read_script;
+use daos_script::{ScriptNo, read_script};
 use daos_status::status::{Status, status_text};
 use std::alloc::{AllocError, Global};
 use std::test::Fail;

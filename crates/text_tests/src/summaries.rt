@@ -4,7 +4,7 @@ use base_types::id::AttemptId;
 use base_types::items::Items;
 use base_types::outcome::{Cause, FloorWhy, Outcome};
 use base_types::report::{Attempt, Line, Report};
-use daos_summary::summary::summary_text;
+use daos_report::summary_text;
 use std::alloc::Global;
 use std::test::Fail;
 

@@ -8,7 +8,7 @@ use base_types::outcome::{Cause, FloorWhy, Outcome};
 use base_types::path::Path;
 use base_types::report::{Attempt, Line, Report};
 use base_types::script::{ContDecl, ObjDecl, Script};
-use report_writer::text::report_text;
+use daos_report::report_text;
 use std::alloc::Global;
 use std::test::Fail;
 

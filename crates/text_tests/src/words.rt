@@ -1,9 +1,7 @@
 // Words, the job that they ask for, and their first fault.
 use base_types::fault::{WordFault, WordKind};
-use base_types::job::{Job, Task};
 use daos_status::status::{Status, status_text};
-use daos_words::fault::WordNo;
-use daos_words::words::read_words;
+use daos_words::{Job, Task, WordNo, read_words};
 use std::alloc::Global;
 use std::test::Fail;
 
