@@ -1,9 +1,9 @@
 -- Empty stores in memory.
 use Rattle.std.specs.Prelude.{ℕ, ◌≡◌, ◌≤◌, ◌*◌, ◌-◌, List, Option, Some, refl}
-use Rattle.std.proofs.Common.{arith, subst, sym}
+use Rattle.std.proofs.Common.{ap, arith, subst, sym}
 use Rattle.daos_model.specs.declared.durable.Durable.{Durable}
 use Rattle.daos_run.specs.Opens.{IsEmpty, IsFreshState}
-use Rattle.daos_run.specs.Slots.{AllTell, AreFree, HaveStores}
+use Rattle.daos_run.specs.Slots.{AllTell, AreFree, AreFreeExactly, HaveStores}
 use Rattle.daos_run.specs.Starts.{IsNewStore}
 use Rattle.vos_plain.specs.Plain.{plain_durable, plain_state}
 use Rattle.vos_plain.specs.declared.store.PlainStore.{PlainStore}
@@ -32,3 +32,6 @@ module _ {C : Type 0} (targets size_mib : ℕ) (slots : List (Option (PlainStore
   -- all their blocks are free
   pub all-free : AreFree plain_state slots (λ t. size_mib * 4096 - 1264)
   all-free t x at = subst (λ h. size_mib * 4096 - 1264 ≤ h.free) (sym (H.each t x at).state) (omega arith)
+
+  pub all-free_exactly : AreFreeExactly plain_state slots (λ t. size_mib * 4096 - 1264)
+  all-free_exactly t x at = ap (λ h. h.free) (H.each t x at).state

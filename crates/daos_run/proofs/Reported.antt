@@ -2,19 +2,20 @@
 use Rattle.std.specs.Prelude.{ℕ, ◌≡◌, ◌≤◌, ◌<◌, List, length, slice_get, Contains, Option, Some}
 use Rattle.std.proofs.lemmas.List.Elements.{All-nil}
 use Rattle.std.proofs.lemmas.Option.{slice_get_within}
-use Rattle.std.proofs.Common.{sym, ◌∙◌, ap, subst, arith}
+use Rattle.std.proofs.Common.{inr, sym, ◌∙◌, ap, subst, arith}
 use Rattle.base_types.specs.declared.job.Job.{Job}
 use Rattle.base_types.specs.declared.report.Line.{Line}
 use Rattle.base_types.specs.declared.script.Script.{Script}
 use Rattle.model_laws.specs.Lists.{at-within}
 use Rattle.model_laws.specs.Members.{has-from_contains}
 use Rattle.daos_model.specs.declared.durable.Durable.{Durable}
+use Rattle.daos_model.specs.Durables.{entry_of}
 use Rattle.daos_model.specs.Finals.{HeadlineOver}
 use Rattle.daos_model.specs.FormLaws.{length-map}
 use Rattle.daos_model.specs.Headline.{Headline}
 use Rattle.daos_model.specs.Opening.{undisturbed}
 use Rattle.report_writer.specs.Forms.{IsReportOf}
-use Rattle.daos_run.specs.Opens.{AreKept, HasConts, Reports, given, report_of}
+use Rattle.daos_run.specs.Opens.{AreKept, HasConts, IsOrdered, Reports, given, report_of}
 use Rattle.script_runnable.specs.Runnable.{IsRunnable}
 use Rattle.daos_run.specs.Slots.{IsAt}
 use Rattle.daos_run.proofs.Begun.{from-map, is-simple}
@@ -22,12 +23,14 @@ use Rattle.run_order.specs.Ended.{HasRun}
 use Rattle.run_base.specs.OrderLaws.{orders-are-runs}
 use Rattle.target_core.specs.Targets.{TargetOf}
 use Rattle.vos_store.specs.Calls.{State}
+use Rattle.world_attempts.specs.Attempts.{entry_in}
 use Rattle.world_base.specs.declared.target.TargetState.{TargetState}
 use Rattle.world_base.specs.declared.world.World.{World}
 use Rattle.world_core.specs.Begins.{IsBegun}
 use Rattle.world_ends.specs.Ends.{durable_of, durables_of, rules_of}
 use Rattle.world_ends.specs.FromBeginning.{ended-runs-are-settled, over, runs-from-the-beginning, runs-give-the-headline}
 use Rattle.script_runnable.specs.Keyed.{CellHasKeys}
+use Rattle.world_facts.specs.SettledLaws.{ended-runs-commit-at-all}
 use Rattle.world_forms.specs.RunForms.{runs-report-in-form}
 use Rattle.world_lone.specs.Issued.{targets-issue}
 use Rattle.world_lone.specs.LoneRuns.{AreIssuedThere}
@@ -61,12 +64,25 @@ module _ {S C : Type 0} (durable : S → Option Durable) (state : S → State) (
           settled = λ t d e here i.
               let z = from-map durable_of K.last.targets t d here in
               (over g first K.last simple B run K.ended).settled t z.of_it e z.at (subst (λ x. Contains x.entries e) z.is i);
+          everywhere = λ t d e here i m f named at.
+              let z = from-map durable_of K.last.targets t d here in
+              let y = from-map durable_of K.last.targets m f at in
+              let all = ended-runs-commit-at-all (rules_of g) g.opening first K.last e simple B run K.ended (record { t = t; s = z.of_it; here = z.at; among = subst (λ x. Contains x.entries e) z.is i }) in
+              let one = all.named m (inr named) in
+              record {
+                entry = one.entry;
+                found = ap (λ x. entry_of x e.attempt) y.is ∙ sym (ap (λ o. entry_in o e.attempt) y.at) ∙ one.found;
+                committed = one.committed;
+              };
           confirmed = λ t d e here i leads m other.
               let z = from-map durable_of K.last.targets t d here in
               (ended-runs-are-settled (rules_of g) g.opening first K.last t z.of_it simple B run K.ended z.at).confirmed e (has-from_contains z.of_it.durable.entries e (subst (λ x. Contains x.entries e) z.is i)) leads m other;
         };
         legal = λ resolved. subst (λ ls. Headline g undisturbed resolved (report_of s ls)) (sym K.told) (runs-give-the-headline g resolved first K.last simple B run K.ended);
         form = λ keys. subst (λ ls. IsReportOf s (report_of s ls)) (sym K.told) (runs-report-in-form g first K.last simple B run K.ended (omega (arith, most)) keys (All-nil CellHasKeys));
-        ordered = record { follows = record { first = first; begun = B; opened = opened; last = K.last; run = K.run; lines = K.told }; kept = kept };
         issued = subst (λ ls. AreIssuedThere (report_of s ls)) (sym K.told) (targets-issue (rules_of g) g.opening first K.last simple B run);
       }
+
+  -- where so many blocks are free at the beginning, it tells of turns in the order asked
+  pub in-order : ((t : ℕ) (z : TargetState) → slice_get first.targets t ≡ Some z → z.free ≡ free t) → IsOrdered durable (given s j free) (report_of s lines) slots
+  in-order sizes = record { follows = record { first = first; begun = B; opened = opened; free = sizes; last = K.last; run = K.run; lines = K.told }; kept = kept }

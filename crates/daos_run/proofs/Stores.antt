@@ -13,7 +13,7 @@ use Rattle.daos_run.specs.Stops.{MayStop, enlist_stopped, is_fault_of, stop_of}
 use Rattle.run_order.specs.declared.halted.Halted.{Halted}
 use Rattle.run_order.specs.declared.halted.Halted.TheVariants as halted
 use Rattle.run_order.specs.Halts.{IsOneOf, stopped_at}
-use Rattle.vos_store.specs.Answers.{enlists}
+use Rattle.vos_store.specs.Answers.{IsManyShown, enlists}
 use Rattle.vos_store.specs.Calls.{Answers}
 use Rattle.vos_store.specs.Refusals.{enlist_open, enlist_stop}
 use Rattle.vos_store.specs.declared.refusal.EnlistNo.{EnlistNo}
@@ -64,9 +64,9 @@ fits s incarnation n few is = by (nat_lt 256 (length (enlisted (declared_conts s
         let bad : Err (enlist.TooMany n) ≡ Ok tt = is ∙ ap (λ b. if b then Err (enlist.TooMany (length (enlisted (declared_conts s) (empty_durable incarnation)).conts)) else Ok tt) e in
         let no : ⊥ = cc in no
 
-pub enlist-may : (targets t : ℕ) (told : Option Durable) (s : Script) (incarnation : ℕ) (no : EnlistNo) → t < targets → length s.conts ≤ 256 → ForSome told (λ d. d ≡ empty_durable incarnation) → Answers {T = Unit {0}} enlist_open (Err no) (enlists (declared_conts s)) told
+pub enlist-may : (targets t : ℕ) (told : Option Durable) (s : Script) (incarnation : ℕ) (no : EnlistNo) → t < targets → length s.conts ≤ 256 → ForSome told (λ d. d ≡ empty_durable incarnation) → Answers {T = Unit {0}} enlist_open (Err no) (enlists (declared_conts s)) told → IsManyShown no
     → MayStop (is_some told) targets (enlist_stopped t no)
-enlist-may targets t None s incarnation (enlist.TooMany n) one few kept answer = (refl, one, refl, refl)
-enlist-may targets t (Some d) s incarnation (enlist.TooMany n) one few kept answer = absurd (fits s incarnation n few (answer d refl refl ∙ ap (enlists (declared_conts s)) (kept d refl)))
-enlist-may targets t told s incarnation enlist.Stopped one few kept answer = one
-enlist-may targets t told s incarnation enlist.Memory one few kept answer = tt
+enlist-may targets t None s incarnation (enlist.TooMany n) one few kept answer many = (refl, one, refl, many, refl)
+enlist-may targets t (Some d) s incarnation (enlist.TooMany n) one few kept answer many = absurd (fits s incarnation n few (answer d refl refl ∙ ap (enlists (declared_conts s)) (kept d refl)))
+enlist-may targets t told s incarnation enlist.Stopped one few kept answer many = one
+enlist-may targets t told s incarnation enlist.Memory one few kept answer many = tt

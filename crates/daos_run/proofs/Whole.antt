@@ -8,12 +8,12 @@ use Rattle.base_types.specs.declared.report.Line.{Line}
 use Rattle.base_types.specs.declared.script.Script.{Script}
 use Rattle.daos_model.specs.declared.durable.Durable.{Durable}
 use Rattle.daos_model.specs.Opening.{Opening}
-use Rattle.daos_run.specs.Opens.{AreFirst, HasConts, IsEmpty, IsStarted, Reports, given, report_of}
+use Rattle.daos_run.specs.Opens.{AreFirst, HasConts, IsEmpty, IsOrdered, IsStarted, Reports, given, report_of}
 use Rattle.script_runnable.specs.Runnable.{IsRunnable}
-use Rattle.daos_run.specs.Slots.{AllTell, AreBack, AreFree, AreTaken, HaveStores, IsAt, TellAlike}
+use Rattle.daos_run.specs.Slots.{AllTell, AreBack, AreFree, AreFreeExactly, AreTaken, HaveStores, IsAt, TellAlike}
 use Rattle.daos_run.specs.Starts.{AreStarted, StartsOver}
 use Rattle.daos_run.proofs.Begun.{can-go, first, from-map, incarnation, is-begun, is-shown, is-simple, state_now}
-use Rattle.daos_run.proofs.Reported.{reports}
+use Rattle.daos_run.proofs.Reported.{in-order, reports}
 use Rattle.daos_run.proofs.Started.{as-many, its}
 use Rattle.run_actors.specs.CanGo.{CanGo}
 use Rattle.run_actors.specs.Shows.{Shows}
@@ -46,7 +46,7 @@ module _ {S C : Type 0} (durable : S → Option Durable) (state : S → State) (
   roomy free room t x at =
       let k = over t x at in
       let low : free t ≤ (state k.0.0).free = room t k.0 k.1 in
-      let kept : (state k.0.0).free ≤ (state x.store).free = k.2.free in
+      let kept : (state x.store).free ≡ (state k.0.0).free = k.2.free in
       omega (arith, low, kept)
 
   pub can-run : TellAlike durable old → CanGo durable state cs xs nothing
@@ -78,3 +78,11 @@ module _ {S C : Type 0} (durable : S → Option Durable) (state : S → State) (
     -- the run comes to a report for which the stores stand
     pub come-to : Reports durable (given s j free) (record { targets = j.targets; lines = lines; down = None }) new
     come-to = subst (λ n. Reports durable (given s j free) (record { targets = n; lines = lines; down = None }) new) F.form.read_for tells
+
+    -- where just so many blocks are free, it tells of turns in the order asked
+    pub goes-in-order : AreFreeExactly state old free → IsOrdered durable (given s j free) (record { targets = j.targets; lines = lines; down = None }) new
+    goes-in-order exact = subst (λ n. IsOrdered durable (given s j free) (record { targets = n; lines = lines; down = None }) new) F.form.read_for (
+        in-order durable state s j free (first durable state cs xs) ys lines new F some few least most begun
+        (went (rules_of (given s j free)) (first durable state cs xs) (given s j free).opening (is-simple s j free F some few least) begun (is-shown durable state s j cs xs F K A.many started free (roomy free room) (told all)))
+        opened (as-many durable state s j old slots new xs ys E A T many B) (its durable state s j old slots new xs ys E A T many B)
+        (λ t z at. let x = from-map (state_now durable state) xs t z at in let k = over t x.of_it x.at in ap (λ y. y.free) x.is ∙ k.2.free ∙ exact t k.0 k.1))

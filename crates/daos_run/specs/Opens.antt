@@ -13,7 +13,7 @@ use Rattle.base_types.specs.declared.script.Script.{Script}
 use Rattle.daos_model.specs.declared.durable.Durable.{Durable}
 use Rattle.daos_model.specs.AsOf.{empty_stand}
 use Rattle.daos_model.specs.Changes.{enlisted}
-use Rattle.daos_model.specs.Durables.{empty_durable}
+use Rattle.daos_model.specs.Durables.{empty_durable, entry_of}
 use Rattle.daos_model.specs.Finals.{HeadlineOver}
 use Rattle.daos_model.specs.Headline.{Headline}
 use Rattle.daos_model.specs.Opening.{Given, undisturbed}
@@ -66,13 +66,20 @@ pub record AreKept {S C : Type 0} (durable : S → Option Durable) (slots : List
   pub many : length lasts ≡ length slots
   pub each : (t : ℕ) (x : S × C) (d : Durable) → IsAt slots t x → slice_get lasts t ≡ Some d → durable x.0 ≡ Some d
 
+-- a target keeps an entry of an attempt, and has committed it
+pub record IsCommittedIn (d : Durable) (x : AttemptId) : Type 0 where
+  pub entry : Entry
+  pub found : entry_of d x ≡ Some entry
+  pub committed : entry.committed ≡ true
+
 -- In the end the stores stand for what a report tells, by the headline, where replicas agree; and nothing is left to settle: each entry is
--- committed, and where its leader keeps it, each other member has confirmed that it is committed there too.
+-- committed, and so at each member that it names; and where its leader keeps it, each other member has confirmed that.
 pub record Stand {S C : Type 0} (durable : S → Option Durable) (g : Given) (q : Report) (slots : List (Option (S × C))) : Type 0 where
   pub lasts : List Durable
   pub kept : AreKept durable slots lasts
   pub headline : HeadlineOver g undisturbed lasts q
   pub settled : (t : ℕ) (d : Durable) (e : Entry) → slice_get lasts t ≡ Some d → Contains d.entries e → e.committed ≡ true
+  pub everywhere : (t : ℕ) (d : Durable) (e : Entry) → slice_get lasts t ≡ Some d → Contains d.entries e → (m : ℕ) (f : Durable) → has_target e.members m ≡ true → slice_get lasts m ≡ Some f → IsCommittedIn f e.attempt
   pub confirmed : (t : ℕ) (d : Durable) (e : Entry) → slice_get lasts t ≡ Some d → Contains d.entries e → e.leader ≡ t → (m : ℕ) → IsOther (rules_of g) e.attempt m → has_target e.confirmed m ≡ true
 
 -- the report is legal, whichever attempts are taken as resolved: it tells of each what became of it
@@ -85,11 +92,13 @@ pub record HasConts (s : Script) (d : Durable) : Type 0 where
   pub kept : d ≡ enlisted (declared_conts s) (empty_durable incarnation)
 
 -- A report's lines are those of a run of the world in the order that the job names, to where that order ends: turn by turn, those of the
--- actor and the message that it picks. It begins where no client had a turn, and each target keeps the script's containers alone.
+-- actor and the message that it picks. It begins where no client had a turn, and each target keeps the script's containers alone, with
+-- as many blocks free as the opening says.
 pub record FollowsOrder (g : Given) (q : Report) : Type 0 where
   pub first : World
   pub begun : IsBegun (rules_of g) g.opening first
   pub opened : (t : ℕ) (s : TargetState) → slice_get first.targets t ≡ Some s → HasConts g.script s.durable
+  pub free : (t : ℕ) (s : TargetState) → slice_get first.targets t ≡ Some s → s.free ≡ g.opening.free t
   pub last : World
   pub run : InOrder (rules_of g) g.job.order first last
   pub lines : q.lines ≡ last.lines
@@ -99,13 +108,12 @@ pub record IsOrdered {S C : Type 0} (durable : S → Option Durable) (g : Given)
   pub follows : FollowsOrder g q
   pub kept : AreKept durable slots (durables_of follows.last)
 
--- What a run comes to: the report is legal, and in form where names and keys are keys; it tells of turns in the order asked, and of
--- epochs that the targets issued; and the stores stand for what it tells.
+-- What a run comes to: the report is legal, and in form where names and keys are keys; it tells of epochs that the targets issued; and the
+-- stores stand for what it tells.
 pub record Reports {S C : Type 0} (durable : S → Option Durable) (g : Given) (q : Report) (slots : List (Option (S × C))) : Type 0 where
   pub stand : Stand durable g q slots
   pub legal : IsLegal g q
   pub form : ScriptHasKeys g.script → IsReportOf g.script q
-  pub ordered : IsOrdered durable g q slots
   pub issued : AreIssuedThere q
 
 -- a target of this number among so many, which has just opened a store

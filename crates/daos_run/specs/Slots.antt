@@ -38,6 +38,10 @@ FromTo {S} {C} old new P = (t : ℕ) (x y : S × C) → IsAt old t x → IsAt ne
 abbrev pub AreFree : {S C : Type 0} → (S → State) → List (Option (S × C)) → (ℕ → ℕ) → Type 0
 AreFree state slots free = EachStore (λ t store. free t ≤ (state store).free) slots
 
+-- so many blocks are free on each target, and no more
+abbrev pub AreFreeExactly : {S C : Type 0} → (S → State) → List (Option (S × C)) → (ℕ → ℕ) → Type 0
+AreFreeExactly state slots free = EachStore (λ t store. (state store).free ≡ free t) slots
+
 -- ---- places while targets run
 
 -- the stores and the clocks of the first targets were taken, and those of the others are as they were

@@ -16,7 +16,7 @@ use Rattle.vos_store.specs.Calls.{State}
 pub record StartsOver {S C : Type 0} (durable : S → Option Durable) (state : S → State) (s : Script) (j : Job) (t : ℕ) (store : S) (x : TargetOf S C) : Type 0 where
   pub started : IsStarted durable state s j.targets j.epsilon t x
   pub runs : StillRuns (state store) (state x.store) (durable store) (durable x.store)
-  pub free : (state store).free ≤ (state x.store).free
+  pub free : (state x.store).free ≡ (state store).free
 
 -- so many targets started over the stores in their places
 pub record AreStarted {S C : Type 0} (durable : S → Option Durable) (state : S → State) (s : Script) (j : Job) (n : ℕ) (slots : List (Option (S × C))) (xs : List (TargetOf S C)) : Type 0 where

@@ -19,12 +19,12 @@ enlist_stopped target enlist.Stopped = stop.RackFault target
 enlist_stopped target enlist.Memory = stop.Memory
 
 -- What may stop a run on the stores of so many targets, where each tells what it keeps or none does: a fault of the store of a target; the
--- containers of a store, with those of the script, are more than it has places for, which an empty store that tells what it keeps never
--- answers; or memory was wanting.
+-- containers of a store, with those of the script, are more than it has places for, and so more than 256, which an empty store that tells
+-- what it keeps never answers; or memory was wanting.
 abbrev pub MayStop : (tells : Bool) → ℕ → RunStop → Type 0
 MayStop tells targets (stop.RackFault target) = target < targets
 MayStop tells targets (stop.Foreign target at byte) = ⊥
-MayStop tells targets (stop.Shape target what found asked) = (tells ≡ false) × (target < targets) × (what ≡ Containers) × (asked ≡ 256)
+MayStop tells targets (stop.Shape target what found asked) = (tells ≡ false) × (target < targets) × (what ≡ Containers) × (256 < found) × (asked ≡ 256)
 MayStop tells targets stop.Memory = Unit {0}
 
 -- it is the fault of this target's store

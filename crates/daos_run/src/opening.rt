@@ -58,7 +58,7 @@ pub fn open<S: Store>(
     requires one { target < script.now.targets }
     requires empty { IsEmpty S.durable S.state script.now.targets store.old }
     ensures opened { OnOk result (IsOpened S.durable S.state script.now.targets script.now store.new) }
-    ensures free { (S.state store.old).free ≤ (S.state store.new).free }
+    ensures free { (S.state store.new).free ≡ (S.state store.old).free }
     ensures runs { Runs (is_fault_of target) result (S.state store.old) (S.state store.new) (S.durable store.old) (S.durable store.new) }
     ensures refusals { IfErr result (MayStop (is_some (S.durable store.old)) script.now.targets) }
     ensures own { (t : ℕ) → IfErr result (λ stop. is_fault_of t stop ≡ true → t ≡ target) }

@@ -6,7 +6,7 @@ ghost use Rattle.model_reports.specs.Rooms.{FindsRoom, HasRoom};
 ghost use Rattle.daos_run.specs.Alone.{IsOfLoneClient};
 ghost use Rattle.daos_run.specs.Opens.{IsEmpty, IsLegal, IsOrdered, Stand, given};
 ghost use Rattle.script_runnable.specs.Runnable.{IsRunnable};
-ghost use Rattle.daos_run.specs.Slots.{AllTell, AreFree, AreSet, EachStore, FromTo, HaveStores};
+ghost use Rattle.daos_run.specs.Slots.{AllTell, AreFree, AreFreeExactly, AreSet, EachStore, FromTo, HaveStores};
 ghost use Rattle.daos_run.specs.Stops.{MayStop, is_fault_of};
 ghost use Rattle.target_parts.specs.Parts.{Runs};
 ghost use Rattle.script_runnable.specs.Keyed.{ScriptHasKeys};
@@ -40,7 +40,7 @@ pub const FIRST_TRACKER: Epoch = Epoch(255);
 ///
 /// `RackFault` of a target where its store stopped, which is only where a count of that store rose in
 /// this call; `Memory`; and `Shape` where a store that doesn't tell what it keeps has no place for the
-/// script's containers.
+/// script's containers, which are more than 256 with its own.
 pub fn run_on<R: Threads + Wait + Sync, S: Store + Send, C: Clock + Send, G: Gate + Sync>(
     rt: &R,
     alloc: Global,
@@ -59,7 +59,7 @@ pub fn run_on<R: Threads + Wait + Sync, S: Store + Send, C: Clock + Send, G: Gat
     ensures form { AllTell S.durable parts.old → ScriptHasKeys script.now → IfOk result (IsReportOf script.now) }
     ensures stands { AllTell S.durable parts.old → (free : ℕ → ℕ) → AreFree S.state parts.old free → IfOk result (λ report.
         Stand S.durable (given script.now job.now free) report parts.new) }
-    ensures ordered { AllTell S.durable parts.old → (free : ℕ → ℕ) → AreFree S.state parts.old free → IfOk result (λ report.
+    ensures ordered { AllTell S.durable parts.old → (free : ℕ → ℕ) → AreFreeExactly S.state parts.old free → IfOk result (λ report.
         IsOrdered S.durable (given script.now job.now free) report parts.new) }
     ensures issued { AllTell S.durable parts.old → IfOk result AreIssuedThere }
     ensures none_down { IfOk result (λ report. report.down ≡ None) }

@@ -17,7 +17,7 @@ pub returns-clause-refusals : goal.returns-clause-refusals
 returns-clause-refusals g c =
     subst (MayStop (is_some (g.S.Store.durable c.args.store.now)) c.args.script.now.targets) (sym c.enlist_stop.ensures)
     (enlist-may c.args.script.now.targets c.args.target (g.S.Store.durable c.args.store.now) c.args.script.now c.requires.empty.incarnation c.in-Err.no c.requires.one c.requires.few c.requires.empty.kept
-    (subst (λ cs. Answers enlist_open (Err c.in-Err.no) (enlists cs) (g.S.Store.durable c.args.store.now)) (c.deref.ensures.value ∙ c.in_ok-conts.ensures) c.in-Err.ensures.answer))
+    (subst (λ cs. Answers enlist_open (Err c.in-Err.no) (enlists cs) (g.S.Store.durable c.args.store.now)) (c.deref.ensures.value ∙ c.in_ok-conts.ensures) c.in-Err.ensures.answer) c.in-Err.ensures.many)
 
 pub returns-clause-own : goal.returns-clause-own
 returns-clause-own g c u fault = enlist-own c.args.target u c.in-Err.no (sym (ap (is_fault_of u) c.enlist_stop.ensures) ∙ fault)

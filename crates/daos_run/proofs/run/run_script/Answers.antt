@@ -1,5 +1,5 @@
 use Rattle.std.specs.Prelude.{◌*◌, ◌-◌}
-use Rattle.daos_run.proofs.Plain.{all-empty, all-free, all-tell}
+use Rattle.daos_run.proofs.Plain.{all-empty, all-free, all-free_exactly, all-tell}
 use Rattle.daos_run.proofs.run.run_script.Goals as goal
 
 pub run_on-requires-clause-stores : goal.run_on-requires-clause-stores
@@ -18,7 +18,7 @@ returns-in-Ok-clause-form g c keys =
 pub returns-in-Ok-clause-ordered : goal.returns-in-Ok-clause-ordered
 returns-in-Ok-clause-ordered g c =
     let new = c.in_ok-set_all.ensures.set in
-    (c.in-Ok.ensures.ordered (all-tell c.args.job.now.targets c.args.job.now.size_mib c.set_all.new.parts new) (λ t. c.args.job.now.size_mib * 4096 - 1264) (all-free c.args.job.now.targets c.args.job.now.size_mib c.set_all.new.parts new)).follows
+    (c.in-Ok.ensures.ordered (all-tell c.args.job.now.targets c.args.job.now.size_mib c.set_all.new.parts new) (λ t. c.args.job.now.size_mib * 4096 - 1264) (all-free_exactly c.args.job.now.targets c.args.job.now.size_mib c.set_all.new.parts new)).follows
 
 pub returns-in-Ok-clause-issued : goal.returns-in-Ok-clause-issued
 returns-in-Ok-clause-issued g c =

@@ -2,7 +2,7 @@ use Rattle.std.specs.Prelude.{◌≡◌, Err, IfErr, None, Ok, Result, refl}
 use Rattle.std.proofs.Common.{ap, arith, rules, subst, sym}
 use Rattle.daos_run.proofs.Lone.{of-lone-client, room-found}
 use Rattle.daos_run.proofs.Started.{all-run, all-set, as-said, said-ok, said-so, unchanged}
-use Rattle.daos_run.proofs.Whole.{can-run, come-to}
+use Rattle.daos_run.proofs.Whole.{can-run, come-to, goes-in-order}
 use Rattle.base_types.specs.declared.report.Report.{Report}
 use Rattle.daos_run.specs.Stops.{MayStop, stop_of}
 use Rattle.daos_run.specs.declared.stop.RunStop.{RunStop}
@@ -44,9 +44,9 @@ returns-in-Ok-clause-stands g c all free room =
     c.run_in_order-targets.ensures.stores.stores.many c.hand_back.ensures c.in-Ok.is c.run_in_order-targets.ensures.run all free room).stand
 
 pub returns-in-Ok-clause-ordered : goal.returns-in-Ok-clause-ordered
-returns-in-Ok-clause-ordered g c all free room =
-    (come-to g.S.Store.durable g.S.Store.state c.args.script.now c.args.job.now c.args.parts.now c.in_ok-clients.clients.items c.in_ok-targets.targets.items c.requires.script c.requires.least_targets c.requires.most_targets c.requires.least c.in_ok-clients.ensures c.requires.stores c.in_ok-targets.ensures.started c.start_all.new.parts c.hand_back.new.parts c.run_in_order-targets.result.0.items c.run_in_order-targets.result.1 c.in-Ok.lines c.requires.most c.in_ok-targets.ensures.taken
-    c.run_in_order-targets.ensures.stores.stores.many c.hand_back.ensures c.in-Ok.is c.run_in_order-targets.ensures.run all free room).ordered
+returns-in-Ok-clause-ordered g c all free exact =
+    goes-in-order g.S.Store.durable g.S.Store.state c.args.script.now c.args.job.now c.args.parts.now c.in_ok-clients.clients.items c.in_ok-targets.targets.items c.requires.script c.requires.least_targets c.requires.most_targets c.requires.least c.in_ok-clients.ensures c.requires.stores c.in_ok-targets.ensures.started c.start_all.new.parts c.hand_back.new.parts c.run_in_order-targets.result.0.items c.run_in_order-targets.result.1 c.in-Ok.lines c.requires.most c.in_ok-targets.ensures.taken
+    c.run_in_order-targets.ensures.stores.stores.many c.hand_back.ensures c.in-Ok.is c.run_in_order-targets.ensures.run all free (λ t x at. let same = exact t x at in omega (arith, same)) exact
 
 pub returns-in-Ok-clause-issued : goal.returns-in-Ok-clause-issued
 returns-in-Ok-clause-issued g c all =
