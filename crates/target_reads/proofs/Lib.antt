@@ -1,3 +1,4 @@
+pub mod Containers
 pub mod Fetching
 pub mod Serving
 pub mod Retrying

@@ -16,24 +16,19 @@ use Rattle.world_base.specs.declared.did.Did.{Did}
 use Rattle.world_base.specs.declared.request.FetchRequest.{FetchRequest}
 use Rattle.world_base.specs.declared.target.TargetMemory.{TargetMemory}
 use Rattle.world_base.specs.declared.target.TargetPlan.{TargetPlan}
-use Rattle.world_base.specs.Changes.{Change, Extends, Kept, Prepares, Settles, Steps, made}
+use Rattle.world_base.specs.Changes.{Change, Kept, Steps}
 use Rattle.world_base.specs.Reads as read
 use Rattle.world_base.specs.Reads.{FetchEnds, FetchNext, FetchStage}
 use Rattle.world_base.specs.Requests.{fetch_message, issued_for}
 use Rattle.world_base.specs.Roles.{is_prepared}
 use Rattle.world_base.specs.Turns.{CutAt, CutShort, Here, InChange, InQuestion, More, Path, Reached, Whole}
 use Rattle.world_base.specs.Verdicts.{Freed, GoesOn, IsDone, TriesNext, Trying, VerdictNext, VerdictStage, fetcher}
-use Rattle.target_parts.specs.KeepingLaws.{enlisted-leased, enlisted-prepared, enlisted-settled}
+use Rattle.target_reads.proofs.Containers.{change-enlisted}
 use Rattle.target_parts.specs.Stops.{fetch_issued}
 use Rattle.target_parts.specs.Turning.{reached_on, reached_silent}
 use Rattle.world_base.specs.PathLaws.{reached-here}
 
 -- ---- what every turn leaves
-
-change-enlisted : (c : Change) (d : Durable) (k : ContId) → is_enlisted (made c d) k ≡ is_enlisted d k
-change-enlisted (Extends ticks) d k = enlisted-leased ticks k d
-change-enlisted (Prepares e ws) d k = enlisted-prepared e ws k d
-change-enlisted (Settles a step) d k = enlisted-settled a step k d
 
 -- containers stay on every path
 pub path-enlisted : {S : Type 0} (Next : S → Kept → Option Change → S → Type 0) (s : S) (k : Kept) (did : List Change) (u : S) (l : Kept) (c : ContId) → Path Next s k did u l → is_enlisted l.durable c ≡ is_enlisted k.durable c
