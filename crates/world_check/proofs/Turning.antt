@@ -46,7 +46,7 @@ to_world : (w v : World) (n : ℕ) (s next : TargetState) (did : Did) (f : Follo
     → slice_get w.targets n ≡ Some s → FollowIs f w (target n) did → IsAfterTarget w n next f v → v.messages ≡ rest ++ f.letters → v ≡ with_target n next (after_turn w (target n) did rest)
 to_world w v n s next did f rest here is h letters =
     same_world v (with_target n next (after_turn w (target n) did rest)) (h.targets ∙ sym (set_parts w.targets n s next here)) h.clients
-    (letters ∙ ap (λ x. rest ++ x) is.letters) (h.told.issued ∙ ap (λ x. w.issued ++ x) is.issued) h.told.numbers (h.told.lines ∙ ap (λ x. w.lines ++ x) is.lines)
+    (letters ∙ ap (λ x. rest ++ x) is.letters) (h.told.asked ∙ is.asked) (h.told.issued ∙ ap (λ x. w.issued ++ x) is.issued) h.told.numbers (h.told.lines ∙ ap (λ x. w.lines ++ x) is.lines)
 
 from_world : (w v : World) (n : ℕ) (s next : TargetState) (did : Did) (f : Follow) (rest : List Letter)
     → slice_get w.targets n ≡ Some s → FollowIs f w (target n) did → v ≡ with_target n next (after_turn w (target n) did rest) → IsAfterTarget w n next f v × (v.messages ≡ rest ++ f.letters)
@@ -55,6 +55,7 @@ from_world w v n s next did f rest here is e = (
     clients = ap (λ x. x.clients) e;
     targets = ap (λ x. x.targets) e ∙ set_parts w.targets n s next here;
     told = record {
+      asked = ap (λ x. x.asked) e ∙ sym is.asked;
       issued = ap (λ x. x.issued) e ∙ ap (λ x. w.issued ++ x) (sym is.issued);
       numbers = ap (λ x. x.numbers) e;
       lines = ap (λ x. x.lines) e ∙ ap (λ x. w.lines ++ x) (sym is.lines);

@@ -31,17 +31,18 @@ use Rattle.world_list.proofs.OneTurn.{one_hear, one_next}
 
 -- ---- a world by its parts
 
-abbrev world_of : List TargetState → List ClientState → List Letter → List (AttemptId × Epoch) → Numbers → List Line → World
-world_of targets clients messages issued numbers lines = record { targets = targets; clients = clients; messages = messages; issued = issued; numbers = numbers; lines = lines }
+abbrev world_of : List TargetState → List ClientState → List Letter → List Letter → List (AttemptId × Epoch) → Numbers → List Line → World
+world_of targets clients messages asked issued numbers lines = record { targets = targets; clients = clients; messages = messages; asked = asked; issued = issued; numbers = numbers; lines = lines }
 
-pub same_world : (v u : World) → v.targets ≡ u.targets → v.clients ≡ u.clients → v.messages ≡ u.messages → v.issued ≡ u.issued → v.numbers ≡ u.numbers → v.lines ≡ u.lines → v ≡ u
-same_world v u targets clients messages issued numbers lines =
-    ap (λ x. world_of x v.clients v.messages v.issued v.numbers v.lines) targets
-    ∙ ap (λ x. world_of u.targets x v.messages v.issued v.numbers v.lines) clients
-    ∙ ap (λ x. world_of u.targets u.clients x v.issued v.numbers v.lines) messages
-    ∙ ap (λ x. world_of u.targets u.clients u.messages x v.numbers v.lines) issued
-    ∙ ap (λ x. world_of u.targets u.clients u.messages u.issued x v.lines) numbers
-    ∙ ap (λ x. world_of u.targets u.clients u.messages u.issued u.numbers x) lines
+pub same_world : (v u : World) → v.targets ≡ u.targets → v.clients ≡ u.clients → v.messages ≡ u.messages → v.asked ≡ u.asked → v.issued ≡ u.issued → v.numbers ≡ u.numbers → v.lines ≡ u.lines → v ≡ u
+same_world v u targets clients messages asked issued numbers lines =
+    ap (λ x. world_of x v.clients v.messages v.asked v.issued v.numbers v.lines) targets
+    ∙ ap (λ x. world_of u.targets x v.messages v.asked v.issued v.numbers v.lines) clients
+    ∙ ap (λ x. world_of u.targets u.clients x v.asked v.issued v.numbers v.lines) messages
+    ∙ ap (λ x. world_of u.targets u.clients u.messages x v.issued v.numbers v.lines) asked
+    ∙ ap (λ x. world_of u.targets u.clients u.messages u.asked x v.numbers v.lines) issued
+    ∙ ap (λ x. world_of u.targets u.clients u.messages u.asked u.issued x v.lines) numbers
+    ∙ ap (λ x. world_of u.targets u.clients u.messages u.asked u.issued u.numbers x) lines
 
 set_cut : {A : Type 0} (xs : List A) (n : ℕ) (x y : A) → slice_get xs n ≡ Some x → set xs n y ≡ take n xs ++ (y ∷ drop (suc n) xs)
 set_cut [] n x y here = let no : ⊥ = cc in absurd no
@@ -63,7 +64,7 @@ to_world : (w v : World) (a : ActorId) (c d : ClientState) (did : Did) (f : Foll
     → slice_get w.clients a.number ≡ Some c → FollowIs f w a did → IsAfter w a.number d f v → v.messages ≡ rest ++ f.letters → v ≡ after_it w a d did rest
 to_world w v a c d did f rest here is h letters =
     same_world v (after_it w a d did rest) h.targets (h.clients ∙ sym (set_parts w.clients a.number c d here))
-    (letters ∙ ap (λ x. rest ++ x) is.letters) (h.told.issued ∙ ap (λ x. w.issued ++ x) is.issued) h.told.numbers (h.told.lines ∙ ap (λ x. w.lines ++ x) is.lines)
+    (letters ∙ ap (λ x. rest ++ x) is.letters) (h.told.asked ∙ is.asked) (h.told.issued ∙ ap (λ x. w.issued ++ x) is.issued) h.told.numbers (h.told.lines ∙ ap (λ x. w.lines ++ x) is.lines)
 
 from_world : (w v : World) (a : ActorId) (c d : ClientState) (did : Did) (f : Follow) (rest : List Letter)
     → slice_get w.clients a.number ≡ Some c → FollowIs f w a did → v ≡ after_it w a d did rest → IsAfter w a.number d f v × (v.messages ≡ rest ++ f.letters)
@@ -72,6 +73,7 @@ from_world w v a c d did f rest here is e = (
     targets = ap (λ x. x.targets) e;
     clients = ap (λ x. x.clients) e ∙ set_parts w.clients a.number c d here;
     told = record {
+      asked = ap (λ x. x.asked) e ∙ sym is.asked;
       issued = ap (λ x. x.issued) e ∙ ap (λ x. w.issued ++ x) (sym is.issued);
       numbers = ap (λ x. x.numbers) e;
       lines = ap (λ x. x.lines) e ∙ ap (λ x. w.lines ++ x) (sym is.lines);
