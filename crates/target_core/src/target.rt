@@ -83,8 +83,8 @@ fn first_knows(alloc: Global, me: TargetId, targets: u8, lease: u64) -> Result<K
 
 impl<S: Store, C: Clock> Target<S, C> {
     /// A target that has just opened, with this number among so many targets, over a store without
-    /// entries. Its ticks begin at the lease, which covers every version. It served no read and
-    /// remembers no attempt. Up to `epsilon` ticks its clocks leave open which of two epochs was first.
+    /// entries. Its ticks begin at the lease, which covers every version. It served no read,
+    /// remembers no attempt and makes no snapshot. Up to `epsilon` ticks its clocks leave open which of two epochs was first.
     ///
     /// # Errors
     ///
@@ -110,6 +110,7 @@ impl<S: Store, C: Clock> Target<S, C> {
         ensures unread { IfOk result (λ t. t.memory.stamps ≡ []) }
         ensures leader { IfOk result (λ t. t.memory.leader ≡ first_memory []) }
         ensures member { IfOk result (λ t. t.memory.member ≡ (first_member me).memory) }
+        ensures making { IfOk result (λ t. t.memory.collecting ≡ []) }
         ensures handed_back { IfErr result (λ parts. parts ≡ record { store = store; clock = clock }) }
     {
         match first_knows(alloc, me, targets, store.lease()) {
