@@ -32,32 +32,32 @@ fn outcome_of<R: Threads + Wait + Sync>(
     }
 }
 
-// Runs the cases of a file, and tells how many come out otherwise.
-fn differing<R: Threads + Wait + Sync + Print>(
+// Runs the cases of a file, and tells whether each comes out as it says.
+fn agree<R: Threads + Wait + Sync + Print>(
     rt: &R,
     alloc: Global,
     name: &str,
     text: &[u8],
-) -> anyhow::Result<u64> {
-    let mut count = 0;
+) -> anyhow::Result<bool> {
+    let mut all = true;
     for (number, case) in cases_of(alloc, text)?.iter().enumerate() {
         let came = outcome_of(rt, alloc, case)?;
         if came.ends.as_bytes() != case.ends || came.writes != case.writes {
             println!(rt; "{name}: case {number} ends with {}", came.ends)?;
-            count += 1;
+            all = false;
         }
     }
-    Ok(count)
+    Ok(all)
 }
 
 fn main(rt: HostRuntime) -> anyhow::Result<()> {
     let alloc = rt.alloc();
-    let mut count = 0;
+    let mut all = true;
     for name in fs::read_to_string(&rt, INDEX)?.lines() {
         let text = fs::read(&rt, name)?;
-        count += differing(&rt, alloc, name, &text)?;
+        all &= agree(&rt, alloc, name, &text)?;
     }
-    if count == 0 {
+    if all {
         println!(rt; "all cases agree")?;
     }
     Ok(())
