@@ -8,3 +8,4 @@ pub mod RackState
 pub mod Transfers
 pub mod Adapters
 pub mod Racks
+pub mod Clocks

@@ -7,7 +7,11 @@ pub trait Clock {
     /// The reading that it gives next, where it tells it.
     ghost next: { Self → Option ℕ };
 
+    /// Whether one reading may lead from a clock to another, as far as it tells.
+    ghost is_read: { Self → Self → Type 0 };
+
     /// Reads the clock, in ticks.
     fn now(&mut self) -> u64
-        ensures { IfSome (next self.old) (λ reading. result ≡ reading) };
+        ensures reading { IfSome (next self.old) (λ reading. result ≡ reading) }
+        ensures read { is_read self.old self.new };
 }

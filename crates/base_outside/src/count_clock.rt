@@ -41,6 +41,8 @@ impl Default for CountClock {
 impl Clock for CountClock {
     ghost next = { λ c. Some c };
 
+    ghost is_read = { λ c d. d ≡ one_more c };
+
     fn now(&mut self) -> u64
         ensures reading { result ≡ self.old }
         ensures next { self.new ≡ one_more self.old }
