@@ -21,7 +21,7 @@ use base_types::id::AttemptId;
 use base_types::items::Memory;
 use base_types::operation::MinorWrite;
 use base_types::outcome::{Cause, Outcome};
-use daos_model::blocks::blocks;
+use daos_model::accounts::blocks;
 use daos_model::durable::Durable;
 use dtx_table::posts::{one, to_target};
 use replay_base::free::is_free;

@@ -20,7 +20,7 @@ use base_types::items::Memory;
 use base_types::operation::MinorWrite;
 use base_types::outcome::{Cause, Outcome};
 use base_types::shown::Shown;
-use daos_model::blocks::blocks;
+use daos_model::accounts::blocks;
 use dtx_table::rows::put;
 use target_parts::halt::Halt;
 use target_parts::knows::Knows;

@@ -21,7 +21,7 @@ use base_types::outcome::FloorWhy;
 use base_types::path::Path;
 use base_types::shown::Shown;
 use base_types::snapshot::Snaps;
-use daos_model::blocks::blocks;
+use daos_model::accounts::blocks;
 use daos_model::durable::ContRow;
 use std::alloc::Global;
 use vos_store::listed::{ContIds, ObjIds};

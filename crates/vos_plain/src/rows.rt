@@ -18,7 +18,7 @@ use base_types::id::{AttemptId, ContId};
 use base_types::items::{Memory, TryCopy};
 use base_types::operation::MinorWrite;
 use base_types::path::Path;
-use daos_model::blocks::write_blocks;
+use daos_model::accounts::write_blocks;
 use daos_model::durable::{Version, is_same_attempt};
 use std::alloc::Global;
 

@@ -1,7 +1,7 @@
 use Rattle.std.proofs.Common.{◌≡◌, ◌≤◌, subst, sym, true}
 use Rattle.daos_model.specs.Forms.{is_write_in_form}
 use Rattle.daos_model.proofs.InForm.{single_within, extent_within}
-use Rattle.daos_model.proofs.blocks.write_blocks.Goals as goal
+use Rattle.daos_model.proofs.accounts.write_blocks.Goals as goal
 
 pub update_blocks-requires : goal.update_blocks-requires
 update_blocks-requires c =
