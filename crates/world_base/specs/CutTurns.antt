@@ -23,7 +23,7 @@ use Rattle.world_base.specs.Reads as read
 use Rattle.world_base.specs.Requests.{issued_for}
 use Rattle.world_base.specs.Roles.{is_prepared, told_by}
 use Rattle.world_base.specs.Snapshots as snap
-use Rattle.world_base.specs.Statuses.{status_refusal}
+use Rattle.world_base.specs.Statuses.{Looking, NoChange, down_of, status_refusal}
 use Rattle.world_base.specs.TargetTurns.{commit_request, fetch_request, prepare_request}
 use Rattle.world_base.specs.Turns.{Path}
 use Rattle.world_base.specs.Verdicts as verdict
@@ -102,6 +102,23 @@ issued_by_prune x ep (snap.Known g) = []
 issued_by_prune x ep (snap.Settling g decided) = listed_issue (issued_for x ep g)
 issued_by_prune x ep (snap.Pruned g lines) = listed_issue (issued_for x ep g)
 
+-- ---- a Commit
+
+abbrev pub is_stored : commit.CommitStage → Bool
+is_stored commit.Asked = false
+is_stored (commit.Known e) = false
+is_stored (commit.Checking e) = false
+is_stored (commit.Stored e) = true
+
+-- the steps of a Commit before it stores anything
+pub data UnstoredNext (t : TargetPlan) (opening : Epoch × FloorWhy) (m : TargetMemory) (reading : ℕ) (q : CommitRequest) : commit.CommitStage → Kept → Option Change → commit.CommitStage → Type 0 where
+  Before : (s next : commit.CommitStage) (k : Kept) (o : Option Change) → commit.CommitNext t opening m reading q s k o next → is_stored next ≡ false → UnstoredNext t opening m reading q s k o next
+
+-- a Commit was cut: one with a member that is known to be down before it stored anything
+pub data CommitIsCut (t : TargetPlan) (opening : Epoch × FloorWhy) (m : TargetMemory) (reading : ℕ) (q : CommitRequest) (old : Kept) (cut : Cutting) : Type 0 where
+  NoneIsDown : ((e : Epoch) → down_of t m q e ≡ None) → CutTurn (commit.CommitNext t opening m reading q) (issued_by_commit q) t.me commit.Asked old cut → CommitIsCut t opening m reading q old cut
+  OneIsDown : (e : Epoch) (down : ℕ) → down_of t m q e ≡ Some down → CutTurn (UnstoredNext t opening m reading q) (issued_by_commit q) t.me commit.Asked old cut → CommitIsCut t opening m reading q old cut
+
 -- ---- every kind of turn
 
 -- a turn in which a target hears a message was cut so; this is what a Mark and a Verdict settle
@@ -109,7 +126,7 @@ abbrev pub HearingIsCut : (AttemptId → Durable → Bool) → ℕ → TargetPla
 HearingIsCut is_due number t opening m reading from (message.Fetch x op group ep first tracker r snapshot) old cut =
     CutTurn (read.FetchNext t m reading (fetch_request x op group ep first tracker r snapshot)) (issued_by_fetch (fetch_request x op group ep first tracker r snapshot)) t.me read.Asked old cut
 HearingIsCut is_due number t opening m reading from (message.Commit x ep first tracker ws) old cut =
-    CutTurn (commit.CommitNext t opening m reading (commit_request x ep first tracker ws)) (issued_by_commit (commit_request x ep first tracker ws)) t.me commit.Asked old cut
+    CommitIsCut t opening m reading (commit_request x ep first tracker ws) old cut
 HearingIsCut is_due number t opening m reading from (message.Prepare e first ws inc) old cut = CutTurn (prepare.PrepareNext t opening m (prepare_request e first ws inc)) none_issued t.me prepare.Heard old cut
 HearingIsCut is_due number t opening m reading from (message.Ack x inc refusal) old cut = CutTurn (ack.AckNext t m from.number x inc refusal) none_issued t.me ack.Heard old cut
 HearingIsCut is_due number t opening m reading from (message.StatusIs x inc how) old cut = CutTurn (ack.AckNext t m from.number x inc (status_refusal x how)) none_issued t.me ack.Heard old cut
@@ -122,6 +139,10 @@ HearingIsCut is_due number t opening m reading from (message.Freeze x c s) old c
 HearingIsCut is_due number t opening m reading from (message.Held x refusal) old cut = CutTurn (snap.HeldNext t m from.number x refusal) none_issued t.me snap.Heard old cut
 HearingIsCut is_due number t opening m reading from (message.Prune x c (Some tracker) None) old cut = CutTurn (snap.PruneNext t m reading tracker None c number) (issued_by_prune x None) t.me snap.Asked old cut
 HearingIsCut is_due number t opening m reading from (message.Prune x c None (Some g)) old cut = CutTurn (snap.PruneNext t m reading g (Some g) c number) (issued_by_prune x (Some g)) t.me snap.Asked old cut
+HearingIsCut is_due number t opening m reading from (message.Query x ask) old cut = CutTurn verdict.QueryNext none_issued t.me verdict.IsAsked old cut
+HearingIsCut is_due number t opening m reading from (message.Ask x) old cut = CutTurn NoChange none_issued t.me Looking old cut
+HearingIsCut is_due number t opening m reading from (message.Status x inc) old cut = CutTurn NoChange none_issued t.me Looking old cut
+HearingIsCut is_due number t opening m reading from (message.Reset' by down place asked) old cut = CutTurn NoChange none_issued t.me Looking old cut
 HearingIsCut is_due number t opening m reading from other old cut = ⊥
 
 abbrev pub IdleWorkIsCut : ℕ → TargetMemory → Kept → Cutting → Type 0

@@ -1,5 +1,5 @@
 -- The events of stops: a turn is cut and its target stops, it opens again or fails to, and it is given up.
-use Rattle.std.specs.Prelude.{ℕ, ◌≡◌, ◌<◌, ◌+◌, ◌==◌, ◌⊎◌, not, ◌&&◌, Bool, true, false, List, [], ◌∷◌, ◌++◌, map, filter, length, slice_get, All, Option, Some, None, if◌then◌else◌}
+use Rattle.std.specs.Prelude.{ℕ, ◌≡◌, ◌≤◌, ◌<◌, ◌+◌, zero, suc, ◌==◌, ◌⊎◌, not, ◌&&◌, Bool, true, false, List, [], ◌∷◌, ◌++◌, map, filter, length, slice_get, All, Option, Some, None, if◌then◌else◌}
 use Rattle.base_types.specs.Epochs.{restart_floor}
 use Rattle.base_types.specs.declared.epoch.Epoch.{Epoch}
 use Rattle.base_types.specs.declared.id.AttemptId.{AttemptId}
@@ -169,6 +169,7 @@ pub record TargetOpens (r : Rules) (w v : World) : Type 0 where
   pub here : slice_get w.targets t ≡ Some s
   pub stopped : s.life ≡ Stopped
   pub is_free : IsFreeRestart w number
+  pub no_less : s.free ≤ free
   pub after : v ≡ after_opening r w t number s free
 
 -- its opening fails: the incarnation was raised, or it wasn't
@@ -179,6 +180,7 @@ pub record OpeningFails (r : Rules) (w v : World) : Type 0 where
   pub here : slice_get w.targets t ≡ Some s
   pub stopped : s.life ≡ Stopped
   pub left : (k.durable ≡ s.durable) ⊎ (k.durable ≡ reopened s.durable)
+  pub no_less : s.free ≤ k.free
   pub after : v ≡ with_target t (record s { durable = k.durable; free = k.free }) w
 
 -- ---- a target is given up
@@ -195,22 +197,25 @@ is_given_up Running = false
 is_given_up Stopped = false
 is_given_up Down = true
 
--- the numbers of the targets that are given up, where these are numbered from this number on
-abbrev pub downs_from : ℕ → List TargetState → List ℕ
-downs_from t [] = []
-downs_from t (s ∷ ss) = if is_given_up s.life then t ∷ downs_from (t + 1) ss else downs_from (t + 1) ss
+-- the target of a number is given up
+abbrev pub is_down_at : List TargetState → ℕ → Bool
+is_down_at [] t = false
+is_down_at (s ∷ ss) zero = is_given_up s.life
+is_down_at (s ∷ ss) (suc t) = is_down_at ss t
 
-abbrev pub downs_of : List TargetState → List ℕ
-downs_of ss = downs_from 0 ss
+-- a letter goes to such a target
+abbrev pub is_to_down : List TargetState → Letter → Bool
+is_to_down ss l = not l.to.client && is_down_at ss l.to.number
 
--- what goes to these targets is lost, and who waits for its answer is told
-abbrev pub swept_by : List ℕ → World → World
-swept_by [] w = w
-swept_by (t ∷ ts) w = swept_by ts (with_lost t true w)
+abbrev pub is_not_to_down : List TargetState → Letter → Bool
+is_not_to_down ss l = not (is_to_down ss l)
 
--- what goes to targets that are given up is lost
+-- What goes to targets that are given up is lost, and who waits for their answers is told, in the order in which they asked.
 abbrev pub swept : World → World
-swept w = swept_by (downs_of w.targets) w
+swept w = record w {
+  messages = filter (is_not_to_down w.targets) (w.messages ++ map (reset_letter true) (filter (is_to_down w.targets) w.asked));
+  asked = filter (is_not_to_down w.targets) w.asked;
+}
 
 -- ---- numbers are drawn
 
