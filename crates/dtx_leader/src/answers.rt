@@ -3,7 +3,7 @@ ghost use Rattle.std.specs.Prelude.{◌≡◌, ◌<◌, IfOk, OnErr, OnOk, map};
 ghost use Rattle.dtx_base.specs.Leading.{ack_heard, answered, counted_at, ok_heard, refusal_heard};
 ghost use Rattle.dtx_table.specs.Seats.{came, leader_of};
 
-use crate::leader::Leader;
+use crate::decisions::Decisions;
 use base_messages::message::Posts;
 use base_types::entry::Entry;
 use base_types::epoch::TargetId;
@@ -38,9 +38,9 @@ fn count(rows: &mut Vec<Undecided>, attempt: AttemptId, member: TargetId)
     count_among(rows, attempt, member)
 }
 
-impl Leader {
+impl Decisions {
     // A member answers Ok, and is counted; the last one decides.
-    fn hear_ok(
+    pub(crate) fn hear_ok(
         &mut self,
         seat: Seat,
         entries: &[Entry],
@@ -73,7 +73,7 @@ impl Leader {
     }
 
     // A member refuses: the attempt is aborted.
-    fn hear_refusal(
+    pub(crate) fn hear_refusal(
         &mut self,
         seat: Seat,
         entries: &[Entry],

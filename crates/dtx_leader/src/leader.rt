@@ -1,187 +1,165 @@
 // A leader: the target that decides an attempt.
-ghost use Rattle.std.specs.Prelude.{◌≡◌, [], All, IfOk, IfSome, OnErr, filter};
+ghost use Rattle.std.specs.Prelude.{◌≡◌, ◌<◌, true, filter, All, IfOk, IfSome, None, OnErr};
 ghost use Rattle.base_types.specs.Operations.{write_path};
 ghost use Rattle.base_types.specs.Placement.{ClassFits};
-ghost use Rattle.dtx_base.specs.Leading.{begun, begun_alone, begun_with_others, first_memory, is_led};
-ghost use Rattle.dtx_base.specs.Members.{other_members};
-ghost use Rattle.dtx_table.specs.Seats.{came, leader_of};
+ghost use Rattle.daos_model.specs.Changes.{committed_at};
+ghost use Rattle.daos_model.specs.Durables.{entry_key};
+ghost use Rattle.daos_model.specs.Ordered.{is_rising};
+ghost use Rattle.dtx_base.specs.Leading.{batched, begun, first_leader, is_batch_due, query_answer, settled_led, step_of};
+ghost use Rattle.dtx_table.specs.Tables.{entry_in};
 
-use crate::opening::{first_decided, first_undecided};
+use crate::decisions::Decisions;
 use base_messages::actor::ActorId;
 use base_messages::message::Posts;
-use base_types::entry::Entry;
+use base_types::entry::{Entries, Entry, Settle, Verdict};
 use base_types::epoch::{Epoch, TargetId};
 use base_types::id::AttemptId;
-use base_types::items::{Items, Memory};
+use base_types::items::Memory;
 use base_types::operation::MinorWrite;
-use base_types::outcome::Outcome;
-use dtx_base::leading::{LeaderMemory, Naming, Undecided};
-use dtx_table::bits::other_members;
 use dtx_table::led::led_by;
-use dtx_table::posts::{Asking, ended, prepares};
-use dtx_table::rows::put;
 use dtx_table::seat::Seat;
+use dtx_table::table::Table;
 use std::alloc::Global;
 use std::marker::Model;
 
-/// What a leader remembers: which attempts it hasn't decided, and whose Ok it counted of each; which it
-/// decided and hasn't settled; what Marks it sent that are without an answer; and which targets it knows
-/// to be down.
+/// A leader of attempts: the entries that it leads, in the order of attempts, which of them it hasn't
+/// decided, and whose Ok it counted of each; which it decided and hasn't settled; what Marks it sent that
+/// are without an answer; and which targets it knows to be down.
 #[derive(Drop)]
 pub struct Leader {
     pub(crate) alloc: Global,
-    pub(crate) undecided: Vec<Undecided>,
-    pub(crate) decided: Vec<AttemptId>,
-    pub(crate) named: Vec<Naming>,
-    pub(crate) down: u64,
+    pub(crate) seat: Seat,
+    pub(crate) table: Table,
+    pub(crate) decisions: Decisions,
 }
 
 impl Model for Leader {
-    ghost use Rattle.dtx_base.specs.declared.leading.LeaderMemory.{LeaderMemory};
+    ghost use Rattle.std.specs.Prelude.{◌≡◌, filter};
+    ghost use Rattle.dtx_base.specs.Leading.{LeaderOf, is_led};
 
-    ghost Value = { LeaderMemory };
+    ghost Value = { LeaderOf };
 
-    ghost view = { λ l. record { undecided = l.undecided.items; decided = l.decided.items; named = l.named.items; down = l.down } };
+    ghost view = { λ l. record { me = l.seat.me; targets = l.seat.targets; incarnation = l.seat.incarnation; entries = l.table; memory = l.decisions } };
+
+    ghost invariant = { λ l. filter (is_led l.seat.me) l.table ≡ l.table };
 }
 
 impl Leader {
-    /// A leader that has just opened, at a target of this number which keeps these entries. Of those that
-    /// it leads, one that isn't committed is undecided, or decided where there is no other member.
+    /// A leader that has just opened: target `me` of so many, in this incarnation, whose store keeps these
+    /// entries, in the order of attempts. Of those that it leads, one that isn't committed is undecided,
+    /// or decided where there is no other member.
     ///
     /// # Errors
     ///
     /// For want of memory.
-    pub fn new(alloc: Global, me: TargetId, entries: &[Entry]) -> Result<Leader, Memory>
-        ensures { IfOk result (λ leader. leader ≡ first_memory (filter (is_led me) entries.now)) }
+    #[tactic(auto, unfolding(dtx_base::specs::Leading::first_leader))]
+    pub fn new(
+        alloc: Global,
+        me: TargetId,
+        targets: u8,
+        incarnation: u64,
+        entries: &Entries,
+    ) -> Result<Leader, Memory>
+        requires order { is_rising entry_key entries.now ≡ true }
+        ensures { IfOk result (λ leader. leader ≡ first_leader me targets incarnation entries.now) }
     {
-        let led = led_by(alloc, me, entries)?;
-        let undecided = first_undecided(alloc, &led)?;
-        let decided = first_decided(alloc, &led)?;
+        let led = led_by(alloc, me, entries.as_slice())?;
+        let decisions = Decisions::new(alloc, me, entries.as_slice())?;
         Ok(Leader {
             alloc,
-            undecided,
-            decided,
-            named: Vec::new(alloc),
-            down: 0,
-        })
-    }
-
-    /// A leader that remembers this.
-    pub fn remembering(alloc: Global, memory: LeaderMemory) -> Leader
-        ensures { result ≡ memory }
-    {
-        let LeaderMemory {
-            undecided,
-            decided,
-            named,
-            down,
-        } = memory;
-        Leader {
-            alloc,
-            undecided: undecided.into_vec(),
-            decided: decided.into_vec(),
-            named: named.into_vec(),
-            down,
-        }
-    }
-
-    /// What it remembers.
-    pub fn into_memory(self) -> LeaderMemory
-        ensures { result ≡ self }
-    {
-        let Leader {
-            alloc: _alloc,
-            undecided,
-            decided,
-            named,
-            down,
-        } = self;
-        LeaderMemory {
-            undecided: Items::from_vec(undecided),
-            decided: Items::from_vec(decided),
-            named: Items::from_vec(named),
-            down,
-        }
-    }
-
-    // An attempt without other members begins, and is decided.
-    fn begin_alone(&mut self, seat: Seat, entry: &Entry, client: ActorId) -> Result<Posts, Memory>
-        ensures ok { IfOk result (λ posts. (self.new, posts) ≡ came (begun_alone entry.now client (leader_of seat [] self.old))) }
-        ensures err { OnErr result (self.new ≡ self.old) }
-    {
-        let _seat = seat;
-        let posts = ended(
-            self.alloc,
-            Some(client),
-            entry.attempt,
-            entry.epoch,
-            Outcome::Committed,
-        )?;
-        self.decided.reserve(1)?;
-        put(&mut self.decided, entry.attempt);
-        Ok(posts)
-    }
-
-    // An attempt with these other members begins.
-    fn begin_with(
-        &mut self,
-        seat: Seat,
-        asking: Asking,
-        client: ActorId,
-        writes: &[MinorWrite],
-        others: &[TargetId],
-    ) -> Result<Posts, Memory>
-        requires fit { All (λ w. IfSome (write_path w.write).obj (λ o. ClassFits o.class asking.targets)) writes.now }
-        requires targets { asking.targets ≡ seat.targets }
-        requires incarnation { asking.incarnation ≡ seat.incarnation }
-        requires others { others.now ≡ other_members asking.entry }
-        ensures ok { IfOk result (λ posts. (self.new, posts) ≡ came (begun_with_others asking.entry asking.first client writes.now (leader_of seat [] self.old))) }
-        ensures err { OnErr result (self.new ≡ self.old) }
-    {
-        let _seat = seat;
-        let posts = prepares(self.alloc, asking, writes, others)?;
-        self.undecided.reserve(1)?;
-        put(
-            &mut self.undecided,
-            Undecided {
-                attempt: asking.entry.attempt,
-                client: Some(client),
-                counted: 0,
+            seat: Seat {
+                me,
+                targets,
+                incarnation,
             },
-        );
-        Ok(posts)
+            table: Table::of_rows(led),
+            decisions,
+        })
     }
 
     /// An attempt begins, whose entry the store has taken; a client waits for its end. Each other
     /// member is asked to prepare the writes of its groups; without others the attempt is decided.
-    /// The writes are all that the attempt has, and their classes fit the number of targets.
+    /// The writes are all that the attempt has, and their classes fit the number of targets; it has no
+    /// entry here yet, and this target leads it.
     ///
     /// # Errors
     ///
     /// For want of memory; the leader is then as it was.
-    #[tactic(auto, unfolding(dtx_base::specs::Leading::begun))]
+    #[tactic(auto, unfolding(dtx_base::specs::Leading::begun, dtx_table::specs::Tables::entries_settled))]
     pub fn begin(
         &mut self,
-        seat: Seat,
         entry: &Entry,
         first: Option<Epoch>,
         client: ActorId,
         writes: &[MinorWrite],
     ) -> Result<Posts, Memory>
-        requires { All (λ w. IfSome (write_path w.write).obj (λ o. ClassFits o.class seat.targets)) writes.now }
-        ensures ok { IfOk result (λ posts. (self.new, posts) ≡ came (begun entry.now first client writes.now (leader_of seat [] self.old))) }
+        requires fit { All (λ w. IfSome (write_path w.write).obj (λ o. ClassFits o.class self.old.targets)) writes.now }
+        requires led { entry.now.leader ≡ self.old.me }
+        requires new { entry_in self.old.entries entry.now.attempt ≡ None }
+        ensures ok { IfOk result (λ posts. step_of self.new posts ≡ begun entry.now first client writes.now self.old) }
         ensures err { OnErr result (self.new ≡ self.old) }
     {
-        let others = other_members(self.alloc, entry)?;
-        if others.is_empty() {
-            return self.begin_alone(seat, entry, client);
+        self.table.add(*entry)?;
+        match self.decisions.begin(self.seat, entry, first, client, writes) {
+            Ok(posts) => Ok(posts),
+            Err(memory) => {
+                self.table.settle(entry.attempt, Settle::Abort);
+                Err(memory)
+            }
         }
-        let asking = Asking {
-            entry: *entry,
-            first,
-            targets: seat.targets,
-            incarnation: seat.incarnation,
-        };
-        self.begin_with(seat, asking, client, writes, &others)
+    }
+
+    /// Tells each other member of the commits that it hasn't confirmed, by one Mark each, in the
+    /// order of their numbers; but of none that a Mark names which is without an answer, and no
+    /// target that is known to be down.
+    ///
+    /// # Errors
+    ///
+    /// For want of memory; the leader is then as it was.
+    #[tactic(auto, unfolding(dtx_base::specs::Leading::batched))]
+    pub fn batch(&mut self) -> Result<Posts, Memory>
+        ensures ok { IfOk result (λ posts. step_of self.new posts ≡ batched self.old) }
+        ensures err { OnErr result (self.new ≡ self.old) }
+    {
+        self.decisions.batch(self.seat, self.table.entries())
+    }
+
+    /// Whether a batch would send something.
+    pub fn has_batch(&self) -> bool
+        ensures { result ≡ is_batch_due self.now }
+    {
+        self.decisions.has_batch(self.seat, self.table.entries())
+    }
+
+    /// What became of an attempt: committed where its entry is or where it is decided, aborted where
+    /// there is no entry of it.
+    pub fn answer_query(&self, attempt: AttemptId) -> Verdict
+        ensures { result ≡ query_answer attempt self.now }
+    {
+        self.decisions
+            .answer_query(self.seat, self.table.entries(), attempt)
+    }
+
+    /// The entries that it leads, in the order of attempts.
+    pub fn entries(&self) -> &[Entry]
+        ensures { result.now ≡ self.now.entries }
+    {
+        self.table.entries()
+    }
+
+    /// The attempts that are decided and not settled in the store yet, in their order.
+    pub fn decided(&self) -> &[AttemptId]
+        ensures { result.now ≡ self.now.memory.decided }
+    {
+        self.decisions.decided()
+    }
+
+    /// A decided attempt was committed in the store.
+    #[tactic(auto, unfolding(dtx_base::specs::Leading::settled_led, dtx_table::specs::Tables::entries_settled))]
+    pub fn settled(&mut self, attempt: AttemptId)
+        ensures { self.new ≡ settled_led attempt self.old }
+    {
+        self.decisions.settled(attempt);
+        self.table.settle(attempt, Settle::Commit);
     }
 }

@@ -1,8 +1,12 @@
-// The machine of a leader: it counts what members answer, decides, and tells them. The entries of the
-// attempts are those that its target keeps: each call that needs them is given them.
+// The coordinator of two-phase commit: it counts what members answer, decides, and tells them. `Leader`
+// keeps the entries that it leads; `Decisions` is the same without them, for a target whose store keeps
+// them.
 #![tactic(auto)]
 
 mod answers;
+mod confirms;
+pub mod decisions;
+mod hearing;
 pub mod leader;
 mod opening;
 mod resets;

@@ -3,7 +3,7 @@ ghost use Rattle.std.specs.Prelude.{◌≡◌, ◌<◌, IfOk, OnErr, map};
 ghost use Rattle.dtx_base.specs.Leading.{down_told, entry_led, mark_reset, prepare_reset, reset_heard, reset_of, status_asked, undecided_of, unwaited_at};
 ghost use Rattle.dtx_table.specs.Seats.{came, leader_of};
 
-use crate::leader::Leader;
+use crate::decisions::Decisions;
 use base_messages::message::{Marks, Message, Posts};
 use base_types::entry::Entry;
 use base_types::epoch::TargetId;
@@ -36,7 +36,7 @@ fn unwait(rows: &mut Vec<Undecided>, attempt: AttemptId)
     unwait_among(rows, attempt)
 }
 
-impl Leader {
+impl Decisions {
     // A member is down: the client that waits for an attempt is told, and the attempt stays undecided.
     fn tell_down(
         &mut self,

@@ -4,7 +4,7 @@ ghost use Rattle.dtx_base.specs.Leading.{batched, first_down, forgotten, is_batc
 ghost use Rattle.dtx_base.specs.Rows.{itself, row_of, without_row};
 ghost use Rattle.dtx_table.specs.Seats.{came, leader_of};
 
-use crate::leader::Leader;
+use crate::decisions::Decisions;
 use base_messages::message::Posts;
 use base_types::entry::{Entry, Verdict};
 use base_types::epoch::TargetId;
@@ -17,7 +17,7 @@ use dtx_table::led::{find_led, led_by};
 use dtx_table::rows::{find, is_among, remove};
 use dtx_table::seat::Seat;
 
-impl Leader {
+impl Decisions {
     /// Tells each other member of the commits that it hasn't confirmed, by one Mark each, in the
     /// order of their numbers; but of none that a Mark names which is without an answer, and no
     /// target that is known to be down.

@@ -16,7 +16,7 @@ use base_types::id::AttemptId;
 use base_types::items::Memory;
 use base_types::outcome::Outcome;
 use daos_model::durable::Durable;
-use dtx_leader::leader::Leader;
+use dtx_leader::decisions::Decisions;
 use dtx_table::bits::is_other_number;
 use dtx_table::led::find_led;
 use dtx_table::rows::find;
@@ -82,7 +82,7 @@ fn heard(
         member: joins,
         collecting,
     } = copy_memory(alloc, &state.memory)?;
-    let mut leader = Leader::remembering(alloc, leader);
+    let mut leader = Decisions::remembering(alloc, leader);
     let seat = seat_at(plan, &state.durable);
     let entries = state.durable.entries.as_slice();
     let posts = leader.hear_ack(seat, entries, member, attempt, inc, refusal)?;

@@ -13,7 +13,7 @@ use base_types::id::AttemptId;
 use base_types::items::{Items, Memory};
 use daos_model::durable::Durable;
 use dtx_base::leading::LeaderMemory;
-use dtx_leader::leader::Leader;
+use dtx_leader::decisions::Decisions;
 use dtx_member::member::Member;
 use replay_base::kept::committed;
 use replay_base::leases::Covered;
@@ -64,7 +64,7 @@ fn batched(
         named,
         down,
     };
-    let mut leader = Leader::remembering(alloc, leader);
+    let mut leader = Decisions::remembering(alloc, leader);
     let posts = leader.batch(seat_at(plan, durable), durable.entries.as_slice())?;
     let memory = TargetMemory {
         ticks,

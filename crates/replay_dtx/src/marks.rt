@@ -11,7 +11,7 @@ use base_messages::message::{AttemptIds, Message};
 use base_types::epoch::TargetId;
 use base_types::id::AttemptId;
 use base_types::items::{Items, Memory};
-use dtx_leader::leader::Leader;
+use dtx_leader::decisions::Decisions;
 use dtx_table::bits::has_number;
 use dtx_table::led::find_led;
 use replay_base::entries::is_prepared;
@@ -143,7 +143,7 @@ fn answered_memory(
         member: joins,
         collecting,
     } = copy_memory(alloc, memory)?;
-    let mut leader = Leader::remembering(alloc, leader);
+    let mut leader = Decisions::remembering(alloc, leader);
     leader.hear_marked(member, inc, attempts)?;
     Ok(TargetMemory {
         ticks,

@@ -10,7 +10,7 @@ use base_messages::actor::ActorId;
 use base_messages::message::Message;
 use base_types::id::AttemptId;
 use base_types::items::Memory;
-use dtx_leader::leader::Leader;
+use dtx_leader::decisions::Decisions;
 use replay_base::leases::Covered;
 use replay_base::memories::copy_memory;
 use replay_base::told::{Left, says};
@@ -28,7 +28,7 @@ fn verdict_message(
     ensures { IfOk result (λ answer. answer ≡ verdict_message plan state.now.memory attempt ask state.now.durable) }
 {
     let memory = copy_memory(alloc, &state.memory)?;
-    let leader = Leader::remembering(alloc, memory.leader);
+    let leader = Decisions::remembering(alloc, memory.leader);
     let seat = seat_at(plan, &state.durable);
     let verdict = leader.answer_query(seat, state.durable.entries.as_slice(), attempt);
     Ok(Message::Verdict {

@@ -18,7 +18,7 @@ use base_types::epoch::Epoch;
 use base_types::items::Memory;
 use base_types::operation::{MinorWrite, MinorWrites};
 use base_types::outcome::Outcome;
-use dtx_leader::leader::Leader;
+use dtx_leader::decisions::Decisions;
 use dtx_table::seat::Seat;
 use dtx_table::written::writes_at;
 use replay_base::epochs::{asks_at, told_epoch};
@@ -92,7 +92,7 @@ fn begun_left(
         member,
         collecting,
     } = memory;
-    let mut leader = Leader::remembering(alloc, leader);
+    let mut leader = Decisions::remembering(alloc, leader);
     let seat = Seat {
         me: plan.me,
         targets: plan.targets,

@@ -18,7 +18,7 @@ use base_messages::message::Message;
 use base_outside::clock::Clock;
 use base_types::epoch::TargetId;
 use daos_hlc::clock::Hlc;
-use dtx_leader::leader::Leader;
+use dtx_leader::decisions::Decisions;
 use dtx_member::member::Member;
 use std::alloc::Global;
 use std::marker::Model;
@@ -76,7 +76,7 @@ fn first_knows(alloc: Global, me: TargetId, targets: u8, lease: u64) -> Result<K
         hlc: Hlc::new(me, lease),
         stamps: Stamps::new(alloc)?,
         entries: Vec::new(alloc),
-        leader: Leader::new(alloc, me, &[])?,
+        leader: Decisions::new(alloc, me, &[])?,
         member: Member::new(alloc, me, targets)?,
     })
 }

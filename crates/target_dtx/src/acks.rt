@@ -24,7 +24,7 @@ use base_types::epoch::TargetId;
 use base_types::id::AttemptId;
 use base_types::items::Items;
 use base_types::outcome::Outcome;
-use dtx_leader::leader::Leader;
+use dtx_leader::decisions::Decisions;
 use dtx_table::bits::{has_number, is_other_number};
 use dtx_table::led::find_led;
 use dtx_table::seat::Seat;
@@ -43,7 +43,7 @@ use world_base::target::TargetPlan;
 // and of another member of it.
 #[tactic(auto, unfolding(world_base::specs::Acks::is_awaited))]
 fn is_refusing(
-    leader: &Leader,
+    leader: &Decisions,
     seat: Seat,
     entries: &[Entry],
     member: u16,

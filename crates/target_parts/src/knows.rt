@@ -1,7 +1,7 @@
 // What a target knows until it stops.
 use base_types::entry::Entry;
 use daos_hlc::clock::Hlc;
-use dtx_leader::leader::Leader;
+use dtx_leader::decisions::Decisions;
 use dtx_member::member::Member;
 use vos_stamp::stamps::Stamps;
 
@@ -12,6 +12,6 @@ pub struct Knows {
     pub hlc: Hlc,
     pub stamps: Stamps,
     pub entries: Vec<Entry>,
-    pub leader: Leader,
+    pub leader: Decisions,
     pub member: Member,
 }
