@@ -2,10 +2,15 @@
 // something changed.
 #![tactic(auto)]
 
-pub mod below_read;
-pub mod names;
-pub mod own_attempt;
-pub mod parts;
+#[cfg(test)]
+mod below_read;
+#[cfg(test)]
+mod names;
+#[cfg(test)]
+mod own_attempt;
+#[cfg(test)]
+mod parts;
 #[cfg(test)]
 mod tests;
-pub mod two_targets;
+#[cfg(test)]
+mod two_targets;
