@@ -1,12 +1,15 @@
-// Later reads and floors, as the worked examples of restarts have them.
+// Later reads, as the worked examples of restarts have them, and slots that entities share.
+ghost use Rattle.std.specs.Prelude.{◌≡◌, true, IfOk};
+ghost use Rattle.daos_model.specs.Forms.{is_path_in_form};
+
 use base_types::epoch::Epoch;
 use base_types::id::{AttemptId, Class, ContId, ObjId};
 use base_types::key::Key;
 use base_types::outcome::{Cause, FloorWhy};
-use base_types::path::Path;
+use base_types::path::{Level, Path};
 use std::alloc::Global;
 use std::test::Fail;
-use vos_stamp::checks::{check_read, check_write};
+use vos_stamp::checks::check_write;
 use vos_stamp::stamps::Stamps;
 
 const READER: AttemptId = AttemptId {
@@ -18,7 +21,9 @@ const READER: AttemptId = AttemptId {
 const NO_FLOOR: (Epoch, FloorWhy) = (Epoch(255), FloorWhy::Opening);
 
 // The path of an object, or of a dkey or an akey of it.
-fn path(alloc: Global, dkey: &[u8], akey: &[u8]) -> Result<Path, Fail> {
+fn path(alloc: Global, dkey: &[u8], akey: &[u8]) -> Result<Path, Fail>
+    ensures { IfOk result (λ path. is_path_in_form path ≡ true) }
+{
     let mut path = Path {
         cont: ContId(1),
         obj: Some(ObjId {
@@ -29,13 +34,30 @@ fn path(alloc: Global, dkey: &[u8], akey: &[u8]) -> Result<Path, Fail> {
         dkey: None,
         akey: None,
     };
-    if !dkey.is_empty() {
-        path.dkey = Some(Key::new(alloc, dkey)?);
+    if dkey.is_empty() {
+        return Ok(path);
     }
+    path.dkey = Some(Key::new(alloc, dkey)?);
     if !akey.is_empty() {
         path.akey = Some(Key::new(alloc, akey)?);
     }
     Ok(path)
+}
+
+// The path of the akey of a number, under one dkey.
+fn akey(alloc: Global, number: u32) -> Result<Path, Fail>
+    ensures { IfOk result (λ path. is_path_in_form path ≡ true) }
+{
+    let name = format!(in alloc; "a{number}")?;
+    path(alloc, b"d", name.as_bytes())
+}
+
+// The path of an akey under the dkey of a number.
+fn elsewhere(alloc: Global, number: u32) -> Result<Path, Fail>
+    ensures { IfOk result (λ path. is_path_in_form path ≡ true) }
+{
+    let name = format!(in alloc; "k{number}")?;
+    path(alloc, name.as_bytes(), b"a")
 }
 
 #[test]
@@ -69,36 +91,69 @@ fn later_reads_refuse_writes_that_they_overlap(rt: HostRuntime) -> Result<(), Fa
     Ok(())
 }
 
+// The first two akeys that share a slot, counted from 0.
+fn first_to_share(alloc: Global) -> Result<Option<(usize, u32)>, Fail> {
+    let mut slots = Vec::new(alloc);
+    for number in 0..10_000 {
+        let slot = akey(alloc, number)?.slot_at(Level::Akey);
+        if let Some(earlier) = slots.iter().position(|other| *other == slot) {
+            return Ok(Some((earlier, number)));
+        }
+        slots.push(slot)?;
+    }
+    Ok(None)
+}
+
+// Whether a write at 256 is shown the read of this path at 512.
+fn is_shown(stamps: &Stamps, write: &Path, read: &Path) -> bool
+    requires { is_path_in_form write.now ≡ true }
+{
+    match stamps.later_read(write, Epoch(256)) {
+        Some(shown) => shown.epoch.0 == 512 && shown.path.same(read),
+        None => false,
+    }
+}
+
+// Which akeys share a slot, and how many entities are held, another program told.
 #[test]
-fn floors_come_first(rt: HostRuntime) -> Result<(), Fail> {
+fn an_entity_that_goes_out_leaves_its_read_to_its_slot(rt: HostRuntime) -> Result<(), Fail> {
+    let alloc = rt.alloc();
+    assert_eq!(rt; first_to_share(alloc)?, Some((188, 294)));
+    let (first, second) = (akey(alloc, 188)?, akey(alloc, 294)?);
+    let mut stamps = Stamps::new(alloc)?;
+    assert_eq!(rt; stamps.held(), 0);
+    stamps.read(&first, Epoch(512), READER)?;
+    assert_eq!(rt; stamps.held(), 4);
+    assert!(rt; is_shown(&stamps, &first, &first));
+    assert!(rt; stamps.later_read(&second, Epoch(256)).is_none());
+    for number in 0..1024 {
+        stamps.read(&elsewhere(alloc, number)?, Epoch(300), READER)?;
+    }
+    assert_eq!(rt; stamps.held(), 2050);
+    assert!(rt; is_shown(&stamps, &first, &first));
+    assert!(rt; is_shown(&stamps, &second, &first));
+    Ok(())
+}
+
+// Reads of many keys: every one is remembered, by itself or by a later one that shares its slot, and
+// what is told is near and later.
+#[test]
+fn so_many_reads_have_a_bound(rt: HostRuntime) -> Result<(), Fail> {
     let alloc = rt.alloc();
     let mut stamps = Stamps::new(alloc)?;
-    let akey = path(alloc, b"d", b"a")?;
-    stamps.read(&akey, Epoch(16_777_471), READER)?;
-    let floor = (Epoch(16_777_471), FloorWhy::Restart(0));
-    let cause = check_write(&stamps, &akey, Epoch(257), floor, 0, None)?;
-    assert!(rt;
-        matches!(
-            cause,
-            Some(Cause::Floor {
-                target: 0,
-                epoch: Epoch(16_777_471),
-                why: FloorWhy::Restart(0)
-            })
-        )
-    );
-    let aggregated = Some((Epoch(512), 0));
-    let refused = check_read(Epoch(512), aggregated, 0, None)?;
-    assert!(rt;
-        matches!(
-            refused,
-            Some(Cause::Floor {
-                target: 0,
-                epoch: Epoch(512),
-                why: FloorWhy::Aggregate(0)
-            })
-        )
-    );
-    assert!(rt; check_read(Epoch(513), aggregated, 0, None)?.is_none());
+    for number in 0..100_000 {
+        let epoch = Epoch(512 + u64::from(number));
+        stamps.read(&elsewhere(alloc, number)?, epoch, READER)?;
+        assert!(rt; stamps.held() <= 4096);
+    }
+    assert_eq!(rt; stamps.held(), 2050);
+    for number in 0..100_000 {
+        let write = elsewhere(alloc, number)?;
+        let epoch = Epoch(511 + u64::from(number));
+        match stamps.later_read(&write, epoch) {
+            Some(shown) => assert!(rt; epoch.0 < shown.epoch.0 && shown.path.near(&write)),
+            None => assert!(rt; false, "the read of {number} is forgotten"),
+        }
+    }
     Ok(())
 }

@@ -1,1 +1,4 @@
+pub mod Entities
+pub mod Marks
+pub mod Raised
 pub mod Stamps

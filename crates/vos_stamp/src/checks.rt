@@ -1,6 +1,7 @@
 // The checks of a target's reads and writes.
-ghost use Rattle.std.specs.Prelude.{◌≡◌, ◌<◌, OnOk, IfOk};
+ghost use Rattle.std.specs.Prelude.{◌≡◌, ◌<◌, true, IfOk};
 ghost use Rattle.base_types.specs.declared.outcome.FloorWhy.TheVariants.{Opening};
+ghost use Rattle.daos_model.specs.Forms.{is_path_in_form};
 ghost use Rattle.vos_stamp.specs.Stamps.{AnswersWrite, ReadThenWrite, floor_cause, later_cause, read_cause, read_later, write_later};
 
 use crate::stamps::Stamps;
@@ -58,6 +59,7 @@ fn by_read_or_write(
     epoch: Epoch,
     later: Option<Shown>,
 ) -> Result<Option<Cause>, Memory>
+    requires form { is_path_in_form path.now ≡ true }
     ensures { IfOk result (λ cause. ReadThenWrite path.now epoch.0 stamps.now later cause) }
 {
     match stamps.later_read(path, epoch) {
@@ -81,7 +83,8 @@ pub fn check_write(
     me: TargetId,
     later: Option<Shown>,
 ) -> Result<Option<Cause>, Memory>
-    requires { floor.1 ≡ Opening → floor.0.0 < epoch.0 }
+    requires form { is_path_in_form path.now ≡ true }
+    requires above { floor.1 ≡ Opening → floor.0.0 < epoch.0 }
     ensures { IfOk result (λ cause. AnswersWrite me path.now epoch.0 floor stamps.now later cause) }
 {
     match at_floor(epoch, floor, me) {

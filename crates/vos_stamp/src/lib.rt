@@ -3,4 +3,8 @@
 #![tactic(auto)]
 
 pub mod checks;
+pub(crate) mod entity;
+pub(crate) mod history;
+pub(crate) mod marks;
 pub mod stamps;
+pub(crate) mod table;

@@ -1,22 +1,41 @@
 // The reads that a target served.
-ghost use Rattle.std.specs.Prelude.{◌≡◌, ◌++◌, [], ◌∷◌, find, OnOk, OnErr};
+ghost use Rattle.std.specs.Prelude.{◌≡◌, ◌≤◌, ◌++◌, [], ◌∷◌, true, OnOk, OnErr, IfOk};
 ghost use Rattle.std.specs.Option.{option_copied};
-ghost use Rattle.vos_stamp.specs.Stamps.{AnswersLater, stands_against};
+ghost use Rattle.daos_model.specs.Forms.{is_path_in_form};
+ghost use Rattle.vos_stamp.specs.Entities.{AnswersLevel, raise_or_none};
+ghost use Rattle.vos_stamp.specs.Stamps.{AnswersLater};
 
+use crate::entity::entity_at;
+use crate::marks::{Marks, Raise, Stamp};
+use crate::table::Table;
 use base_types::epoch::Epoch;
 use base_types::id::AttemptId;
-use base_types::items::{Items, Memory};
-use base_types::path::Path;
+use base_types::items::Memory;
+use base_types::path::{Level, Path};
 use base_types::shown::Shown;
 use std::alloc::Global;
 use std::marker::Model;
 
-/// The read timestamps of a target: a list of the reads that were raised, each with its attempt,
-/// epoch and path. A read stands at its path and counts as one of the whole subtree there. They are
-/// in memory and lost at a stop.
+/// The read timestamps of a target. A contract sees all reads that were raised, each with its attempt,
+/// epoch and path; what is kept of them has a bound.
+///
+/// An entity is a container, an object, a dkey or an akey. It has two marks: `high` is the greatest
+/// read of some node of its subtree, `low` the greatest one of its whole subtree. At most 1,024
+/// entities of a level have marks of their own, those that were raised last; when one goes out, its
+/// slot, of 4,096 at its level, takes its marks in, and of each kind the greater one stays.
+///
+/// So a slot may tell of a read at another entity that shares it, and a write may be refused where no
+/// read overlaps it. But the read that is told is later, and its path is near: cut to the level of
+/// the shorter of the two paths, both share a slot.
+///
+/// Timestamps are in memory and lost at a stop.
 #[derive(Drop)]
 pub struct Stamps {
-    reads: Items<Shown>,
+    alloc: Global,
+    cont: Table,
+    obj: Table,
+    dkey: Table,
+    akey: Table,
 }
 
 impl Model for Stamps {
@@ -25,28 +44,46 @@ impl Model for Stamps {
 
     ghost Value = { List Shown };
 
-    ghost view = { λ s. s.reads };
+    ghost use Rattle.vos_stamp.specs.Entities.{HaveReads, reads_of};
+
+    ghost view = { λ s. reads_of s.cont };
+
+    ghost invariant = { λ s. HaveReads s.cont s.obj s.dkey s.akey };
 }
 
-// Whether a read stands against a write on a path at an epoch: it is later, and their paths overlap.
-fn stands_against(path: &Path, epoch: Epoch, read: &Shown) -> bool
-    ensures { result ≡ stands_against path.now epoch.0 read.now }
+// What a read raises at a level, if its path reaches it.
+fn raise_or_none(stamp: &Stamp, level: Level) -> Result<Option<Raise>, Memory>
+    ensures { IfOk result (λ raise. raise ≡ raise_or_none level stamp.now) }
 {
-    epoch.0 < read.epoch.0 && path.overlaps(&read.path)
+    let path = &stamp.read().path;
+    let (here, last) = (level.depth(), path.level().depth());
+    if here > last {
+        return Ok(None);
+    }
+    let low = if here == last {
+        Some(stamp.copy()?)
+    } else {
+        None
+    };
+    Ok(Some(Raise {
+        entity: entity_at(path, level),
+        marks: Marks {
+            low,
+            high: Some(stamp.copy()?),
+        },
+    }))
 }
 
-// The first read that stands against a write.
-fn first_against<'a>(reads: &'a [Shown], path: &Path, epoch: Epoch) -> Option<&'a Shown>
-    ensures { option_copied result ≡ find (stands_against path.now epoch.0) reads.now }
+// A later read that a level tells of: at the path's last level, of some node below it; above that,
+// of a whole subtree that the path lies in.
+fn later_at<'a>(table: &'a Table, level: Level, path: &Path, epoch: Epoch) -> Option<&'a Shown>
+    ensures { AnswersLevel level path.now epoch.0 table.now (option_copied result) }
 {
-    reads.iter().find(|read| stands_against(path, epoch, read))
-}
-
-// A later read near a path, which is there wherever one stands against the write.
-fn shown_against<'a>(reads: &'a [Shown], path: &Path, epoch: Epoch) -> Option<&'a Shown>
-    ensures { AnswersLater path.now epoch.0 reads.now (option_copied result) }
-{
-    first_against(reads, path, epoch)
+    let (here, last) = (level.depth(), path.level().depth());
+    if here > last {
+        return None;
+    }
+    table.raised_above(here < last, entity_at(path, level), epoch)
 }
 
 impl Stamps {
@@ -54,12 +91,16 @@ impl Stamps {
     ///
     /// # Errors
     ///
-    /// For want of memory alone; this form takes none.
+    /// For want of memory alone.
     pub fn new(alloc: Global) -> Result<Stamps, Memory>
         ensures { OnOk result (result ≡ Ok []) }
     {
         Ok(Stamps {
-            reads: Items::new(alloc),
+            alloc,
+            cont: Table::new(alloc)?,
+            obj: Table::new(alloc)?,
+            dkey: Table::new(alloc)?,
+            akey: Table::new(alloc)?,
         })
     }
 
@@ -69,6 +110,7 @@ impl Stamps {
     ///
     /// For want of memory alone; then no timestamp was raised.
     pub fn read(&mut self, path: &Path, epoch: Epoch, by: AttemptId) -> Result<(), Memory>
+        requires form { is_path_in_form path.now ≡ true }
         ensures raised { OnOk result (self.new ≡ self.old ++ record { by = by; epoch = epoch; path = path.now } ∷ []) }
         ensures kept { OnErr result (self.new ≡ self.old) }
     {
@@ -77,15 +119,41 @@ impl Stamps {
             epoch,
             path: path.copy()?,
         };
-        self.reads.push(read)?;
+        let stamp = Stamp::new(self.alloc, read)?;
+        let cont = raise_or_none(&stamp, Level::Cont)?;
+        let obj = raise_or_none(&stamp, Level::Obj)?;
+        let dkey = raise_or_none(&stamp, Level::Dkey)?;
+        let akey = raise_or_none(&stamp, Level::Akey)?;
+        self.cont.raise_some(cont);
+        self.obj.raise_some(obj);
+        self.dkey.raise_some(dkey);
+        self.akey.raise_some(akey);
         Ok(())
     }
 
     /// A read above an epoch near a path: some wherever a read above it overlaps the path, and only
-    /// a read above it near the path.
+    /// a read above it near the path. It looks at the entities on the path and at their slots, eight
+    /// in all, and takes no memory.
     pub fn later_read(&self, path: &Path, epoch: Epoch) -> Option<&Shown>
+        requires form { is_path_in_form path.now ≡ true }
         ensures { AnswersLater path.now epoch.0 self.now (option_copied result) }
     {
-        shown_against(self.reads.as_slice(), path, epoch)
+        if let Some(read) = later_at(&self.cont, Level::Cont, path, epoch) {
+            return Some(read);
+        }
+        if let Some(read) = later_at(&self.obj, Level::Obj, path, epoch) {
+            return Some(read);
+        }
+        if let Some(read) = later_at(&self.dkey, Level::Dkey, path, epoch) {
+            return Some(read);
+        }
+        later_at(&self.akey, Level::Akey, path, epoch)
+    }
+
+    /// How many entities have timestamps of their own; it takes no memory.
+    pub fn held(&self) -> u32
+        ensures { result ≤ 4096 }
+    {
+        self.cont.held() + self.obj.held() + self.dkey.held() + self.akey.held()
     }
 }

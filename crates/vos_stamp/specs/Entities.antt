@@ -1,0 +1,84 @@
+-- The numbers that stand for entities, and what a read raises at the entities on its path.
+use Rattle.std.specs.Prelude.{ℕ, ◌≡◌, ◌+◌, ◌*◌, ◌/◌, ◌++◌, Bool, true, false, nat_le, nat_lt, nat_eq, List, [], ◌∷◌, Option, Some, None, Contains, if◌then◌else◌}
+use Rattle.base_types.specs.declared.id.ObjId.{ObjId}
+use Rattle.base_types.specs.declared.path.Level.{Level}
+use Rattle.base_types.specs.declared.path.Level.TheVariants.{Cont, Obj, Dkey, Akey}
+use Rattle.base_types.specs.declared.path.Path.{Path}
+use Rattle.base_types.specs.declared.shown.Shown.{Shown}
+use Rattle.base_types.specs.Hash.{fnv1a, hash_step}
+use Rattle.base_types.specs.Paths.{class_number, cont_bytes, cut_at, depth, level_of, slot}
+use Rattle.daos_model.specs.Forms.{is_path_in_form}
+use Rattle.vos_stamp.specs.declared.marks.Raise.{Raise}
+use Rattle.vos_stamp.specs.Raised.{AnswersAt}
+
+-- ---- the number of an entity
+
+-- the parts of a path are hashed one after another, as words of 64 bits
+abbrev pub object_tag : ℕ → Option ObjId → ℕ
+object_tag tag None = tag
+object_tag tag (Some o) = hash_step (hash_step (hash_step tag (class_number o.class)) o.unit) o.number
+
+abbrev pub key_tag : ℕ → Option (List ℕ) → ℕ
+key_tag tag None = tag
+key_tag tag (Some k) = hash_step tag (fnv1a k)
+
+abbrev pub tag : Path → ℕ
+tag p = key_tag (key_tag (object_tag (fnv1a (cont_bytes p.cont)) p.obj) p.dkey) p.akey
+
+-- 64 bits that stand for an entity: the last twelve are its slot, the others are of the hash of its parts
+abbrev pub entity : Path → ℕ
+entity p = tag p / 4096 * 4096 + slot p
+
+-- ---- what a read raises
+
+-- a path goes as far as a level
+abbrev pub reaches : Level → Path → Bool
+reaches l p = nat_le (depth l) (depth (level_of p))
+
+-- and no further
+abbrev pub ends_at : Level → Path → Bool
+ends_at l p = nat_eq (depth l) (depth (level_of p))
+
+-- a read is the high mark of each entity on its path, and the low mark of the last one
+abbrev pub raise_at : Level → Shown → Raise
+raise_at l r = record { entity = entity (cut_at l r.path); marks = record { low = if ends_at l r.path then Some r else None; high = Some r } }
+
+abbrev pub raise_or_none : Level → Shown → Option Raise
+raise_or_none l r = if reaches l r.path then Some (raise_at l r) else None
+
+abbrev pub listed : {T : Type 0} → Option T → List T
+listed None = []
+listed (Some x) = x ∷ []
+
+-- what reads raise at a level
+abbrev pub raises : Level → List Shown → List Raise
+raises l [] = []
+raises l (r ∷ rs) = listed (raise_or_none l r) ++ raises l rs
+
+-- the reads that were raised: at a container each one is the high mark
+abbrev pub reads_of : List Raise → List Shown
+reads_of [] = []
+reads_of (r ∷ rs) = listed r.marks.high ++ reads_of rs
+
+-- each level has what the reads raised there, all of them at paths in form
+pub record HaveReads (cont obj dkey akey : List Raise) : Type 0 where
+  pub conts : cont ≡ raises Cont (reads_of cont)
+  pub objs : obj ≡ raises Obj (reads_of cont)
+  pub dkeys : dkey ≡ raises Dkey (reads_of cont)
+  pub akeys : akey ≡ raises Akey (reads_of cont)
+  pub form : (r : Shown) → Contains (reads_of cont) r → is_path_in_form r.path ≡ true
+
+-- ---- what a write asks
+
+-- whether the whole subtree must have been read at a level of the path, which holds above its last one
+abbrev pub asks_low : Level → Path → Bool
+asks_low l p = nat_lt (depth l) (depth (level_of p))
+
+-- at a level that the path doesn't reach there is nothing to ask
+abbrev pub AnswersIf : Bool → Level → Path → ℕ → List Raise → Option Shown → Type 0
+AnswersIf true l p e rs answer = AnswersAt rs (asks_low l p) (entity (cut_at l p)) e answer
+AnswersIf false l p e rs answer = answer ≡ None
+
+-- a level's answer to a write
+abbrev pub AnswersLevel : Level → Path → ℕ → List Raise → Option Shown → Type 0
+AnswersLevel l p e rs answer = AnswersIf (reaches l p) l p e rs answer
