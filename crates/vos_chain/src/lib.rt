@@ -1,0 +1,5 @@
+// Bytes in chains of blocks: written, read, and given back.
+#![tactic(auto)]
+
+pub mod chain;
+pub mod refusal;

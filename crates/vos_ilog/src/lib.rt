@@ -1,0 +1,5 @@
+// Logs of creations and punches.
+#![tactic(auto)]
+
+pub mod ilog;
+pub mod laws;

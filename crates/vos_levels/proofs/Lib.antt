@@ -1,0 +1,5 @@
+pub mod Spots
+pub mod Changing
+pub mod Calls
+pub mod Moments
+pub mod Testing

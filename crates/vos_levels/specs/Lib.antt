@@ -1,0 +1,4 @@
+pub mod Levels
+pub mod Calls
+pub mod Moments
+pub mod Changes

@@ -1,0 +1,5 @@
+// Versions of a single value.
+#![tactic(auto)]
+
+pub mod laws;
+pub mod single;

@@ -1,0 +1,196 @@
+// The versions of a single value, in a tree with a chain of bytes for each.
+ghost use Rattle.std.specs.Prelude.{◌≡◌, ◌≤◌, ◌<◌, ◌+◌, true, false, IfOk, OnOk, OnErr, IsErrOf, IsTrue, IfSome, ⊤, length};
+ghost use Rattle.std.specs.Option.{option_and_then, option_map};
+ghost use Rattle.pmem_pages.specs.Node.{IsKey, IsValue};
+ghost use Rattle.pmem_tree.specs.Calls.{StepsAtMost};
+ghost use Rattle.pmem_tree_base.specs.Calls.{Goes};
+ghost use Rattle.pmem_tree_base.specs.declared.refusal.TreeNo.{TreeNo};
+ghost use Rattle.vos_values.specs.Keys.{IsAttempt, IsMoment, moment_key};
+ghost use Rattle.vos_levels.specs.Calls.{Becomes, HasThing, OfThing};
+ghost use Rattle.vos_levels.specs.Levels.{HasMore, find_last, hung_root, things};
+ghost use Rattle.vos_chain.specs.Made.{chain_blocks};
+ghost use Rattle.vos_chain.specs.declared.refusal.PiecesNo.TheVariants.{Stopped as stopped_no};
+ghost use Rattle.vos_single.specs.Singles.{StagesFor, TooFewFor, has_version_at, is_under, new_version, placed_in_pair, placed_of, single_owner, start_of, version_of, versions};
+
+use base_types::epoch::Epoch;
+use base_types::id::AttemptId;
+use base_types::items::Vec8;
+use pmem_pages::pages::Pages;
+use pmem_pages::refusal::Stopped;
+use pmem_pages::steps::Steps;
+use pmem_tree::tree::Tree;
+use pmem_tree::{Pair, TreeKey, TreeNo};
+use std::alloc::Global;
+use std::sync::ledger::Ledger;
+use vos_chain::chain::{read_chain, write_chain};
+use vos_chain::refusal::PiecesNo;
+use vos_values::keys::{Moment, moment_key, read_moment};
+use vos_values::values::{VersionMark, read_version, version_value};
+
+/// A version of a single value: when it was written, whose it is, whether it is done, and its bytes.
+#[derive(Drop)]
+pub struct SingleVersion {
+    pub epoch: Epoch,
+    pub minor: u8,
+    pub by: AttemptId,
+    pub done: bool,
+    pub bytes: Vec8,
+}
+
+/// When a version was written, and what the tree says of it.
+#[derive(Clone, Copy)]
+pub struct Placed {
+    pub moment: Moment,
+    pub mark: VersionMark,
+}
+
+/// The versions of a single value: a tree of the kind of single versions.
+#[derive(Clone, Copy)]
+pub struct Single {
+    pub tree: Tree,
+}
+
+// The key of a moment.
+fn key_at(at: Moment) -> TreeKey
+    requires minor { at.minor < 64 }
+    ensures key { result ≡ moment_key at }
+    ensures is { IsKey result }
+    ensures moment { IsMoment at }
+{
+    moment_key(at)
+}
+
+// The first moment of an epoch.
+fn start_of(epoch: Epoch) -> Moment
+    ensures { result ≡ start_of epoch }
+{
+    Moment { epoch, minor: 0 }
+}
+
+// What a key and a value say, if they say something.
+fn placed_of(pair: &Pair) -> Option<Placed>
+    ensures { result ≡ placed_in_pair pair.now }
+{
+    let moment = read_moment(&pair.key)?;
+    let mark = read_version(&pair.value)?;
+    Some(Placed { moment, mark })
+}
+
+// What a pair says, if there is one and it says something.
+fn placed_in(pair: Option<Pair>) -> Option<Placed>
+    ensures { result ≡ option_and_then placed_in_pair pair }
+{
+    match pair {
+        Some(pair) => placed_of(&pair),
+        None => None,
+    }
+}
+
+// The attempt, which is one.
+fn attempt_of(by: AttemptId) -> AttemptId
+    ensures same { result ≡ by }
+    ensures is { IsAttempt by }
+{
+    by
+}
+
+impl Single {
+    // What the tree says of the last version before a moment.
+    fn last_under<P: Pages, L: Ledger>(
+        &self,
+        pages: &mut P,
+        at: Moment,
+        steps: &mut Steps<L>,
+    ) -> Result<Option<Placed>, Stopped>
+        requires kind { self.now.tree.kind ≡ 5 }
+        requires at { at.minor < 64 }
+        requires here { HasThing P.tells single_owner hung_root (P.blocks pages.old) self.now.tree.root (λ g. ⊤) }
+        ensures found { IfOk result (λ v. OfThing P.tells single_owner hung_root (P.blocks pages.old) self.now.tree.root (λ g. v ≡ option_map placed_of (find_last (is_under at) (things g)))) }
+        ensures steps { OfThing P.tells single_owner hung_root (P.blocks pages.old) self.now.tree.root (λ g. StepsAtMost 2 0 g.0 steps.old steps.new) }
+        ensures kept { IsTrue P.tells → P.blocks pages.new ≡ P.blocks pages.old }
+        ensures budget { P.budget pages.new ≡ P.budget pages.old }
+        ensures goes { Goes P.stopped P.count P.burns pages.old pages.new }
+        ensures stopped { OnErr result (P.stopped pages.new ≡ true) }
+        ensures went_on { OnOk result (P.stopped pages.new ≡ P.stopped pages.old) }
+    {
+        let key = key_at(at);
+        Ok(placed_in(self.tree.last_below(pages, &key, steps)?))
+    }
+
+    /// The version with the greatest epoch and number below an epoch.
+    ///
+    /// # Errors
+    ///
+    /// `Stopped` comes only where the pages answered it.
+    pub fn newest<P: Pages, L: Ledger>(
+        &self,
+        pages: &mut P,
+        alloc: Global,
+        below: Epoch,
+        steps: &mut Steps<L>,
+    ) -> Result<Option<SingleVersion>, PiecesNo>
+        requires kind { self.now.tree.kind ≡ 5 }
+        requires here { HasThing P.tells single_owner hung_root (P.blocks pages.old) self.now.tree.root (λ g. ⊤) }
+        ensures found { IfOk result (λ v. OfThing P.tells single_owner hung_root (P.blocks pages.old) self.now.tree.root (λ g. v ≡ option_map version_of (find_last (is_under (start_of below)) (things g)))) }
+        ensures kept { IsTrue P.tells → P.blocks pages.new ≡ P.blocks pages.old }
+        ensures budget { P.budget pages.new ≡ P.budget pages.old }
+        ensures goes { Goes P.stopped P.count P.burns pages.old pages.new }
+        ensures stopped { IsErrOf result stopped_no → P.stopped pages.new ≡ true }
+        ensures went_on { OnOk result (P.stopped pages.new ≡ P.stopped pages.old) }
+    {
+        let at = start_of(below);
+        let Some(placed) = self.last_under(pages, at, steps)? else {
+            return Ok(None);
+        };
+        let bytes = read_chain(pages, alloc, placed.mark.chain, placed.mark.length, steps)?;
+        Ok(Some(SingleVersion {
+            epoch: placed.moment.epoch,
+            minor: placed.moment.minor,
+            by: placed.mark.by,
+            done: placed.mark.done,
+            bytes,
+        }))
+    }
+
+    /// Adds an unsettled version, where there is none of its moment.
+    ///
+    /// # Errors
+    ///
+    /// `NoBlock` comes only where fewer blocks are free than the bytes need and one more. `TooMuch` comes
+    /// only where fewer ranges or bytes are left to stage than the chain and the tree may want, and
+    /// `Stopped` only where the pages answered it. After one the stage has to be dropped.
+    pub fn add<P: Pages, L: Ledger>(
+        &mut self,
+        pages: &mut P,
+        at: Moment,
+        by: AttemptId,
+        bytes: &[u8],
+        steps: &mut Steps<L>,
+    ) -> Result<(), TreeNo>
+        requires kind { self.old.tree.kind ≡ 5 }
+        requires minor { at.minor < 64 }
+        requires some { 1 ≤ length bytes.now }
+        requires most { length bytes.now ≤ 1024 }
+        requires here { HasThing P.tells single_owner hung_root (P.blocks pages.old) self.old.tree.root (λ g. has_version_at at (things g) ≡ false) }
+        ensures added { OnOk result (OfThing P.tells single_owner hung_root (P.blocks pages.old) self.old.tree.root (λ g. has_version_at at (things g) ≡ false → Becomes single_owner hung_root versions (P.blocks pages.old) g (P.blocks pages.new) self.new.tree.root (HasMore (new_version at by bytes.now)))) }
+        ensures kind { self.new.tree.kind ≡ 5 }
+        ensures no_block { IsErrOf result TreeNo.NoBlock → (P.budget pages.old).free < chain_blocks (length bytes.now) + 1 }
+        ensures too_much { IsErrOf result TreeNo.TooMuch → OfThing P.tells single_owner hung_root (P.blocks pages.old) self.old.tree.root (λ g. has_version_at at (things g) ≡ false → TooFewFor (chain_blocks (length bytes.now)) g.0 (P.budget pages.old)) }
+        ensures steps { OfThing P.tells single_owner hung_root (P.blocks pages.old) self.old.tree.root (λ g. StepsAtMost 16 16 g.0 steps.old steps.new) }
+        ensures staged { OnOk result (OfThing P.tells single_owner hung_root (P.blocks pages.old) self.old.tree.root (λ g. has_version_at at (things g) ≡ false → StagesFor (chain_blocks (length bytes.now)) g.0 (P.budget pages.old) (P.budget pages.new))) }
+        ensures free { OnOk result ((P.budget pages.new).free + (chain_blocks (length bytes.now) + 1) ≡ (P.budget pages.old).free) }
+        ensures goes { Goes P.stopped P.count P.burns pages.old pages.new }
+        ensures stopped { IsErrOf result TreeNo.Stopped → P.stopped pages.new ≡ true }
+        ensures went_on { OnOk result (P.stopped pages.new ≡ P.stopped pages.old) }
+    {
+        let key = key_at(at);
+        let chain = write_chain(pages, bytes)?;
+        let value = version_value(VersionMark {
+            done: false,
+            by: attempt_of(by),
+            length: bytes.len() as u16,
+            chain,
+        });
+        self.tree.insert(pages, &key, &value, steps)
+    }
+}
