@@ -1,0 +1,20 @@
+-- Stops of targets, and their openings.
+pub mod Counts
+pub mod Parts
+pub mod Losses
+pub mod Losing
+pub mod Stops
+pub mod Earlier
+pub mod Questions
+pub mod Openings
+pub mod Failing
+pub mod Drawing
+pub mod Happenings
+pub mod Laws
+pub mod Lately
+pub mod LateEntries
+pub mod LateAborts
+pub mod Cutting
+pub mod Cuts
+pub mod CutAnswers
+pub mod CutEvents
