@@ -34,33 +34,33 @@ use Rattle.world_base.specs.Verdicts as verdict
 
 -- ---- plain changes alone
 
-fetch-plain : (t : TargetPlan) (m : TargetMemory) (reading : ℕ) (q : FetchRequest) → AllPlain (read.FetchNext t m reading q)
+pub fetch-plain : (t : TargetPlan) (m : TargetMemory) (reading : ℕ) (q : FetchRequest) → AllPlain (read.FetchNext t m reading q)
 fetch-plain t m reading q s k o u (read.AtSnapshot j e at is) = tt
 fetch-plain t m reading q s k o u (read.HasEpoch j e at is) = tt
 fetch-plain t m reading q s k o u (read.ExtendsLease j e lease low is) = refl
 fetch-plain t m reading q s k o u (read.IsCovered j e low) = tt
 fetch-plain t m reading q s k o u (read.SettlesOwn j e decided a none unsettled among) = refl
 
-commit-plain : (t : TargetPlan) (opening : Epoch × FloorWhy) (m : TargetMemory) (reading : ℕ) (q : CommitRequest) → AllPlain (commit.CommitNext t opening m reading q)
+pub commit-plain : (t : TargetPlan) (opening : Epoch × FloorWhy) (m : TargetMemory) (reading : ℕ) (q : CommitRequest) → AllPlain (commit.CommitNext t opening m reading q)
 commit-plain t opening m reading q s k o u (commit.HasEpoch j e is) = tt
 commit-plain t opening m reading q s k o u (commit.ExtendsLease j e lease low is) = refl
 commit-plain t opening m reading q s k o u (commit.IsCovered j e low) = tt
 commit-plain t opening m reading q s k o u (commit.Stores j e allowed space) = refl
 
-prepare-plain : (t : TargetPlan) (opening : Epoch × FloorWhy) (m : TargetMemory) (q : PrepareRequest) → AllPlain (prepare.PrepareNext t opening m q)
+pub prepare-plain : (t : TargetPlan) (opening : Epoch × FloorWhy) (m : TargetMemory) (q : PrepareRequest) → AllPlain (prepare.PrepareNext t opening m q)
 prepare-plain t opening m q s k o u (prepare.ExtendsLease j lease low is) = refl
 prepare-plain t opening m q s k o u (prepare.IsCovered j low) = tt
 prepare-plain t opening m q s k o u (prepare.Stores j allowed space) = refl
 
-ack-plain : (t : TargetPlan) (m : TargetMemory) (member : ℕ) (a : AttemptId) (inc : ℕ) (refusal : Option Outcome) → AllPlain (ack.AckNext t m member a inc refusal)
+pub ack-plain : (t : TargetPlan) (m : TargetMemory) (member : ℕ) (a : AttemptId) (inc : ℕ) (refusal : Option Outcome) → AllPlain (ack.AckNext t m member a inc refusal)
 ack-plain t m member a inc refusal s k o u (ack.Aborts j is) = refl
 ack-plain t m member a inc refusal s k o u (ack.Counts j is) = tt
 
-mark-plain : (is_due : AttemptId → Durable → Bool) → AllPlain (mark.MarkNext is_due)
+pub mark-plain : (is_due : AttemptId → Durable → Bool) → AllPlain (mark.MarkNext is_due)
 mark-plain is_due s k o u (mark.SettlesMarked j a committed rest is) = refl
 mark-plain is_due s k o u (mark.PassesBy j a committed rest is) = tt
 
-marked-plain : (t : TargetPlan) (m : TargetMemory) (member : ℕ) → AllPlain (ack.MarkedNext t m member)
+pub marked-plain : (t : TargetPlan) (m : TargetMemory) (member : ℕ) → AllPlain (ack.MarkedNext t m member)
 marked-plain t m member s k o u (ack.Confirms j a rest is) = refl
 marked-plain t m member s k o u (ack.PassesBy j a rest is) = tt
 
@@ -71,13 +71,13 @@ settling-plain : (a : AttemptId) (step : Option Settle) → IsPlainly (verdict.s
 settling-plain a None = tt
 settling-plain a (Some step) = refl
 
-verdict-plain : (is_due : AttemptId → Durable → Bool) (t : TargetPlan) (m : TargetMemory) (reading : ℕ) (a : AttemptId) (ask : Option AttemptId) (v : Verdict) → AllPlain (verdict.VerdictNext is_due t m reading a ask v)
+pub verdict-plain : (is_due : AttemptId → Durable → Bool) (t : TargetPlan) (m : TargetMemory) (reading : ℕ) (a : AttemptId) (ask : Option AttemptId) (v : Verdict) → AllPlain (verdict.VerdictNext is_due t m reading a ask v)
 verdict-plain is_due t m reading a ask v s k o u (verdict.SettlesBy j p is) = subst IsPlainly (sym is) (settling-plain a (verdict.settles_by is_due v a k.durable))
 verdict-plain is_due t m reading a ask v s k o u (verdict.TriesNext j n posts rest x op group ep first tracker r snapshot) = tt
 verdict-plain is_due t m reading a ask v s k o u (verdict.GoesOn j n posts rest q i z p next) = fetch-plain t n reading q i k o z next
 verdict-plain is_due t m reading a ask v s k o u (verdict.IsDone j n posts rest q i left ends) = tt
 
-idle-plain : AllPlain IdleNext
+pub idle-plain : AllPlain IdleNext
 idle-plain s k o u (SettlesFirst j a rest) = refl
 
 -- ---- a part that no plain change touches

@@ -12,14 +12,14 @@ use Rattle.world_base.specs.declared.client.ClientState.{ClientState}
 use Rattle.world_base.specs.declared.target.TargetState.{TargetState}
 use Rattle.world_base.specs.declared.world.World.{World}
 use Rattle.world_epochs.specs.Carried.{talks-once}
-use Rattle.world_epochs.specs.Epochs.{ClientsStand, Epochs, Unsnapped}
+use Rattle.world_epochs.specs.Epochs.{ClientsStand, PlainEpochs, Unsnapped}
 use Rattle.world_epochs.specs.EventLaws as epochs
 use Rattle.world_base.specs.Events.{ByClient, ByTarget, RightEvent, Rules, ToClient, ToTarget}
 use Rattle.world_base.specs.StepLaws.{by-hearing, by-next}
 use Rattle.world_base.specs.Steps.{KeptByCounting, KeptByHearing, KeptByMoves}
 use Rattle.world_talks.specs.Conversation.{Conversation}
 use Rattle.world_talks.specs.ConversationLaws.{count-keeps, hear-keeps, move-keeps}
-use Rattle.world_causes.specs.Causes.{Causes, Dated, LowFloors, Shows, Stored, limit, stored_in}
+use Rattle.world_causes.specs.Causes.{PlainCauses, Dated, LowFloors, Shows, Stored, limit, stored_in}
 use Rattle.world_causes.specs.ClientLaws.{causes-by-counting, causes-by-hearing, causes-by-moves}
 use Rattle.world_causes.specs.Premises.{IsPlain}
 use Rattle.world_causes.specs.Requests.{Given}
@@ -30,7 +30,7 @@ use Rattle.world_causes.specs.TargetLaws.{target-hears-keeps, target-idles-keeps
 -- in a run so far, each right event keeps it, where it stores what targets get entries of
 abbrev pub CausesAreKept : Type 0
 CausesAreKept =
-    (r : Rules) (o : Opening) (h : History) (stored : Stored) (w v : World) → Given r o h w → Causes r o stored w → (g : RightEvent r w v) → Causes r o (stored_in r w v g ++ stored) v
+    (r : Rules) (o : Opening) (h : History) (stored : Stored) (w v : World) → Given r o h w → PlainCauses r o stored w → (g : RightEvent r w v) → PlainCauses r o (stored_in r w v g ++ stored) v
 
 -- a world at its beginning: nothing is in flight, issued, parked or told of; free blocks, ticks, trackers and floors are the opening's
 pub record IsBegun (o : Opening) (w : World) : Type 0 where
@@ -44,14 +44,14 @@ pub record IsBegun (o : Opening) (w : World) : Type 0 where
   pub floors : LowFloors o w
 
 abbrev pub CausesBegin : Type 0
-CausesBegin = (r : Rules) (o : Opening) (w : World) → IsBegun o w → Causes r o [] w
+CausesBegin = (r : Rules) (o : Opening) (w : World) → IsBegun o w → PlainCauses r o [] w
 
 -- ---- events
 
 module _ (r : Rules) (o : Opening) (stored : Stored) (some : 0 < r.attempts) (U : Unsnapped r) (P : IsPlain r) where
   -- a client's turn is of several moves, each of which keeps also what is known of conversations and epochs
   abbrev Both : World → Type 0
-  Both w = (Conversation r w × ClientsStand r w × Epochs r (top o) w) × Causes r o stored w
+  Both w = (Conversation r w × ClientsStand r w × PlainEpochs r (top o) w) × PlainCauses r o stored w
 
   moves-keep : KeptByMoves r Both
   moves-keep w n c here p =
@@ -68,7 +68,7 @@ module _ (r : Rules) (o : Opening) (stored : Stored) (some : 0 < r.attempts) (U 
       let after = epochs.counting-keeps r (top o) some U (Conversation r) (talks-once r) (move-keeps r) (hear-keeps r) w n k c here p.0.2 in
       ((count-keeps r w n k c here p.0.0, epochs.stands-by-counting r some w n k c here p.0.1, after), causes-by-counting r o stored w n k c p.0.2 after here p.1)
 
-  pub event-keeps : (h : History) (w v : World) → Given r o h w → Causes r o stored w → (g : RightEvent r w v) → Causes r o (stored_in r w v g ++ stored) v
+  pub event-keeps : (h : History) (w v : World) → Given r o h w → PlainCauses r o stored w → (g : RightEvent r w v) → PlainCauses r o (stored_in r w v g ++ stored) v
   event-keeps h w v G C (ByClient g) = (by-next r Both moves-keep counting-keeps w v ((G.talk, G.stand, G.epochs), C) g).1
   event-keeps h w v G C (ToClient g) = (by-hearing r Both moves-keep hearing-keeps w v ((G.talk, G.stand, G.epochs), C) g).1
   event-keeps h w v G C (ToTarget g) = target-hears-keeps r o h stored w v G C g

@@ -220,7 +220,7 @@ is_try (line.Down target) = false
 
 -- Each outcome that goes about, or that a line tells of, shows its cause, where these attempts were stored; and lines tell of attempts
 -- alone.
-pub record Causes (r : Rules) (o : Opening) (stored : Stored) (w : World) : Type 0 where
+pub record PlainCauses (r : Rules) (o : Opening) (stored : Stored) (w : World) : Type 0 where
   pub bounded : Bounded o w
   pub space : Space r o stored w
   pub floors : LowFloors o w

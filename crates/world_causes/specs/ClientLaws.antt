@@ -38,7 +38,7 @@ use Rattle.world_base.specs.declared.client.Stage.TheVariants as stage
 use Rattle.world_base.specs.declared.letter.Letter.{Letter}
 use Rattle.world_base.specs.declared.world.World.{World}
 use Rattle.world_base.specs.ClientTurns.{Move, after_end, asks_or_goes, at_present, attempt_id, attempt_moves, begins_at, begun, command_at, command_moves, commits, condition_told, ended, ends, first_epoch, goes, greatest, group_count, group_told, heard, hears_epochs, is_yes, joined, knows, listed, moved, moves_at, next_command, next_stage, op_moves, op_of, op_told, question, replied, rests, run_moves, snaps_known, told_at, told_by_message, waits}
-use Rattle.world_epochs.specs.Epochs.{Epochs, IsPresent}
+use Rattle.world_epochs.specs.Epochs.{PlainEpochs, IsPresent}
 use Rattle.world_epochs.specs.Lists.{each-push, tries-push}
 use Rattle.world_epochs.specs.Talking.{TalksOnce, silent-unless}
 use Rattle.world_base.specs.Events.{Rules, client_plan, with_client, with_epoch}
@@ -51,7 +51,7 @@ use Rattle.world_talks.specs.Conversation.{Conversation}
 use Rattle.world_talks.specs.HearLaws.{replied-silent}
 use Rattle.world_talks.specs.Hearing.{ATracker, AReply, AnEnd, IsHearing, hearing-is}
 use Rattle.world_talks.specs.TalkLaws.{got-is-talk, left-is-among, none-among, taken-is-among}
-use Rattle.world_causes.specs.Causes.{Causes, Dated, EndsOf, IsAskedFor, IsUnanswered, IsUndecidedFor, MessageShows, ReplyShows, Shows, Stored, epochs_told, is_try, limit}
+use Rattle.world_causes.specs.Causes.{PlainCauses, Dated, EndsOf, IsAskedFor, IsUnanswered, IsUndecidedFor, MessageShows, ReplyShows, Shows, Stored, epochs_told, is_try, limit}
 use Rattle.world_causes.specs.Growth.{at-set, message-more}
 use Rattle.world_causes.specs.ReadTurns.{none-told}
 use Rattle.world_causes.specs.Requests.{present-unended}
@@ -253,8 +253,8 @@ record IsMoving (r : Rules) (o : Opening) (w : World) (n : ℕ) (c d : ClientSta
   among : (z : Letter) → Contains letters z → Contains w.messages z
   clients : v.clients ≡ set w.clients n d
   lines : v.lines ≡ w.lines ++ map (with_epoch w.issued) (listed l)
-  before : Epochs r (top o) w
-  after : Epochs r (top o) v
+  before : PlainEpochs r (top o) w
+  after : PlainEpochs r (top o) v
   own : IsLineOf (attempt_here (client_plan r n) c c.present) l
   -- where there is a line, no answer to the client is left
   silent : (a : Attempt) → l ≡ Some (line.Try a) → (z : Letter) (x : AttemptId) → Contains letters z → EndsOf z.message x → (x.client ≡ n) → ⊥
@@ -269,9 +269,9 @@ present-before r o w n c d letters l v x e K i p = elim (K.before.line x e i) [
     stays : (a : Attempt) → Has a (tries w.lines) → Has a (tries v.lines)
     stays a j = subst (λ ls. Has a (tries ls)) (sym K.lines) (subst (Has a) (sym (tries-append w.lines (map (with_epoch w.issued) (listed l)))) (has-left (tries w.lines) (tries (map (with_epoch w.issued) (listed l))) a j))
 
-did-causes : (r : Rules) (o : Opening) (stored : Stored) (w : World) (n : ℕ) (c d : ClientState) (letters : List Letter) (posts : List Post) (l : Option Line) → Causes r o stored w
+did-causes : (r : Rules) (o : Opening) (stored : Stored) (w : World) (n : ℕ) (c d : ClientState) (letters : List Letter) (posts : List Post) (l : Option Line) → PlainCauses r o stored w
     → IsMoving r o w n c d letters l (after_client (without w letters) n posts (listed l) d) → d.tracker.0 / 256 ≤ limit o w.issued → ArePlain o w.issued posts → LineShows r o stored w.issued w.lines l
-    → Causes r o stored (after_client (without w letters) n posts (listed l) d)
+    → PlainCauses r o stored (after_client (without w letters) n posts (listed l) d)
 did-causes r o stored w n c d letters posts l C K tracker P L = record {
   bounded = record {
     ticks = C.bounded.ticks;
@@ -431,8 +431,8 @@ pub ends-no_tell : (m : Message) (x : AttemptId) → EndsOf m x → is_tell m �
 ends-no_tell (message.Tell k) x u = absurd u
 ends-no_tell m x u = refl
 
-pub causes-by-moves : (r : Rules) (o : Opening) (stored : Stored) (w : World) (n : ℕ) (c : ClientState) → ReadsNow (command_at (client_plan r n) c) → TalksOnce w → Epochs r (top o) w → Epochs r (top o) (after_move w n (moved (client_plan r n) c)) → slice_get w.clients n ≡ Some c
-    → Causes r o stored w → Causes r o stored (after_move w n (moved (client_plan r n) c))
+pub causes-by-moves : (r : Rules) (o : Opening) (stored : Stored) (w : World) (n : ℕ) (c : ClientState) → ReadsNow (command_at (client_plan r n) c) → TalksOnce w → PlainEpochs r (top o) w → PlainEpochs r (top o) (after_move w n (moved (client_plan r n) c)) → slice_get w.clients n ≡ Some c
+    → PlainCauses r o stored w → PlainCauses r o stored (after_move w n (moved (client_plan r n) c))
 causes-by-moves r o stored w n c now talk E F here C =
     did-causes r o stored w n c (moved p c).state w.messages (listed (moved p c).post) (moved p c).line C
     (record { here = here; among = λ l i. i; clients = refl; lines = refl; before = E; after = F; own = k.own; silent = λ a is z x i ends same. none-among n w.messages z (silent-unless w n c talk here (idle a is)) i (got-is-talk n z (ends-no_tell z.message x ends) (C.waiting.own z x i ends ∙ ap client same)) })
@@ -454,10 +454,10 @@ causes-by-moves r o stored w n c now talk E F here C =
         by false h = h
 
 -- a turn that is skipped is counted
-pub causes-by-counting : (r : Rules) (o : Opening) (stored : Stored) (w : World) (n k : ℕ) (c : ClientState) → Epochs r (top o) w → Epochs r (top o) (with_client n (record c { skip = k }) w) → slice_get w.clients n ≡ Some c → Causes r o stored w
-    → Causes r o stored (with_client n (record c { skip = k }) w)
-causes-by-counting r o stored w n k c E F here C = subst (Causes r o stored) same (did-causes r o stored w n c (record c { skip = k }) w.messages [] None C
-    (record { here = here; among = λ l i. i; clients = refl; lines = refl; before = E; after = subst (Epochs r (top o)) (sym same) F; own = tt; silent = λ a is. let no : ⊥ = cc in absurd no }) (C.bounded.trackers n c here) (λ q i. absurd i) tt)
+pub causes-by-counting : (r : Rules) (o : Opening) (stored : Stored) (w : World) (n k : ℕ) (c : ClientState) → PlainEpochs r (top o) w → PlainEpochs r (top o) (with_client n (record c { skip = k }) w) → slice_get w.clients n ≡ Some c → PlainCauses r o stored w
+    → PlainCauses r o stored (with_client n (record c { skip = k }) w)
+causes-by-counting r o stored w n k c E F here C = subst (PlainCauses r o stored) same (did-causes r o stored w n c (record c { skip = k }) w.messages [] None C
+    (record { here = here; among = λ l i. i; clients = refl; lines = refl; before = E; after = subst (PlainEpochs r (top o)) (sym same) F; own = tt; silent = λ a is. let no : ⊥ = cc in absurd no }) (C.bounded.trackers n c here) (λ q i. absurd i) tt)
   where
     same : after_client (without w w.messages) n [] (listed None) (record c { skip = k }) ≡ with_client n (record c { skip = k }) w
     same = rw (append-nil w.messages, append-nil w.lines) refl
@@ -512,9 +512,9 @@ told-is : (m : Message) (e : ℕ) → Contains (told_by_message m) e → Contain
 told-is (message.Ack x inc refusal) e i = absurd (none-told e i)
 told-is m e i = i
 
-pub causes-by-hearing : (r : Rules) (o : Opening) (stored : Stored) (w : World) (n : ℕ) (c : ClientState) (l : Letter) (rest : List Letter) → Conversation r w → TalksOnce w → Epochs r (top o) w
-    → Epochs r (top o) (after_move (without w rest) n (heard (client_plan r n) c l.message)) → slice_get w.clients n ≡ Some c → Takes w.messages l rest → l.to ≡ client n → Causes r o stored w
-    → Causes r o stored (after_move (without w rest) n (heard (client_plan r n) c l.message))
+pub causes-by-hearing : (r : Rules) (o : Opening) (stored : Stored) (w : World) (n : ℕ) (c : ClientState) (l : Letter) (rest : List Letter) → Conversation r w → TalksOnce w → PlainEpochs r (top o) w
+    → PlainEpochs r (top o) (after_move (without w rest) n (heard (client_plan r n) c l.message)) → slice_get w.clients n ≡ Some c → Takes w.messages l rest → l.to ≡ client n → PlainCauses r o stored w
+    → PlainCauses r o stored (after_move (without w rest) n (heard (client_plan r n) c l.message))
 causes-by-hearing r o stored w n c l rest talk once E F here takes to C =
     did-causes r o stored w n c m.state rest (listed m.post) m.line C
     (record { here = here; among = λ z i. left-is-among w.messages l rest z takes i; clients = refl; lines = refl; before = E; after = F; own = k.own; silent = λ a is z x i ends same. answered a is z x i ends same })

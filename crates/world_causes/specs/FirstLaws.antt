@@ -24,7 +24,7 @@ use Rattle.world_base.specs.declared.target.TargetState.{TargetState}
 use Rattle.world_base.specs.declared.world.World.{World}
 use Rattle.world_base.specs.ClientTurns.{Move, attempt_id, ended, heard, hears_epochs, knows, knows_epoch, listed, moved, replied, waits}
 use Rattle.world_epochs.specs.Carried.{talks-once}
-use Rattle.world_epochs.specs.Epochs.{BearsEpoch, ClientsStand, Epochs, IsIssued, Unsnapped}
+use Rattle.world_epochs.specs.Epochs.{BearsEpoch, ClientsStand, PlainEpochs, IsIssued, Unsnapped}
 use Rattle.world_epochs.specs.EventLaws as epochs
 use Rattle.world_base.specs.Events as events
 use Rattle.world_base.specs.Events.{ByClient, ByTarget, Rules, TargetHearsRightly, TargetIdles, ToClient, ToTarget, after_turn, client_plan, kept, target_after, target_plan, with_target}
@@ -135,7 +135,7 @@ knows-none : (o own : Option Epoch) → knows_epoch o own ≡ None → own ≡ N
 knows-none None own h = h
 knows-none (Some g) own h = let no : ⊥ = cc in absurd no
 
-module _ (r : Rules) (top : ℕ) (w : World) (n : ℕ) (c : ClientState) (l : Letter) (E : Epochs r top w) (F : Firsts w) (here : slice_get w.clients n ≡ Some c) (among : Contains w.messages l) where
+module _ (r : Rules) (top : ℕ) (w : World) (n : ℕ) (c : ClientState) (l : Letter) (E : PlainEpochs r top w) (F : Firsts w) (here : slice_get w.clients n ≡ Some c) (among : Contains w.messages l) where
   abbrev now : ClientState
   now = hears_epochs l.message c
 
@@ -184,7 +184,7 @@ module _ (r : Rules) (top : ℕ) (w : World) (n : ℕ) (c : ClientState) (l : Le
 module _ (r : Rules) (top : ℕ) (some : 0 < r.attempts) (U : Unsnapped r) where
   -- what is known of conversations and epochs is kept, and first epochs with it
   abbrev Three : World → Type 0
-  Three w = (Conversation r w × ClientsStand r w × Epochs r top w) × Firsts w
+  Three w = (Conversation r w × ClientsStand r w × PlainEpochs r top w) × Firsts w
 
   moves : KeptByMoves r Three
   moves w n c here p = (
@@ -224,7 +224,7 @@ module _ (r : Rules) (top : ℕ) (some : 0 < r.attempts) (U : Unsnapped r) where
 -- ---- turns of targets
 
 -- Fetches that wait bear epochs
-parked-dated : (r : Rules) (top : ℕ) (w : World) (t : ℕ) (s : TargetState) → Epochs r top w → slice_get w.targets t ≡ Some s → (p : Parked) → Has p s.memory.member.parked → HasEpoch p.ask
+parked-dated : (r : Rules) (top : ℕ) (w : World) (t : ℕ) (s : TargetState) → PlainEpochs r top w → slice_get w.targets t ≡ Some s → (p : Parked) → Has p s.memory.member.parked → HasEpoch p.ask
 parked-dated r top w t s E here p i = let k = E.parked t s p here (contains-from_has s.memory.member.parked p i) in (k.x, k.e, k.bears)
 
 -- the world once a target did something, where these letters were left
@@ -239,7 +239,7 @@ target-knows w t s new did rest F here among posts parked = record {
   };
 }
 
-target-hears-keeps : (r : Rules) (top : ℕ) (w v : World) → Epochs r top w → Firsts w → TargetHearsRightly r w v → Firsts v
+target-hears-keeps : (r : Rules) (top : ℕ) (w v : World) → PlainEpochs r top w → Firsts w → TargetHearsRightly r w v → Firsts v
 target-hears-keeps r top w v E F g = subst Firsts (sym g.after) (target-knows w g.t g.s (target_after g.s g.new g.memory) g.did g.rest F g.here (λ m i. left-is-among w.messages g.l g.rest m g.takes i) k.posts k.parked)
   where
     now : Dated

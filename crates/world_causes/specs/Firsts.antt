@@ -3,7 +3,7 @@ use Rattle.std.specs.Prelude.{ℕ, ◌≡◌, ◌<◌, slice_get, Some}
 use Rattle.world_base.specs.declared.client.ClientState.{ClientState}
 use Rattle.world_base.specs.declared.client.Present.{Present}
 use Rattle.world_base.specs.declared.world.World.{World}
-use Rattle.world_epochs.specs.Epochs.{ClientsStand, Epochs, Unsnapped}
+use Rattle.world_epochs.specs.Epochs.{ClientsStand, PlainEpochs, Unsnapped}
 use Rattle.world_base.specs.Events.{RightEvent, Rules}
 use Rattle.world_talks.specs.Conversation.{Conversation}
 use Rattle.world_causes.specs.Causes.{Dated}
@@ -20,4 +20,4 @@ pub record Firsts (w : World) : Type 0 where
 
 -- in a run without snapshots every right event keeps it
 abbrev pub EventsKeepFirsts : Type 0
-EventsKeepFirsts = (r : Rules) (top : ℕ) (w v : World) → 0 < r.attempts → Unsnapped r → Conversation r w → ClientsStand r w → Epochs r top w → Firsts w → RightEvent r w v → Firsts v
+EventsKeepFirsts = (r : Rules) (top : ℕ) (w v : World) → 0 < r.attempts → Unsnapped r → Conversation r w → ClientsStand r w → PlainEpochs r top w → Firsts w → RightEvent r w v → Firsts v

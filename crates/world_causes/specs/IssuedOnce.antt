@@ -14,7 +14,7 @@ use Rattle.world_base.specs.declared.request.FetchRequest.{FetchRequest}
 use Rattle.world_base.specs.declared.target.TargetMemory.{TargetMemory}
 use Rattle.world_base.specs.declared.target.TargetPlan.{TargetPlan}
 use Rattle.world_base.specs.declared.world.World.{World}
-use Rattle.world_epochs.specs.Epochs.{AsksEpoch, Epochs, IsUnissued}
+use Rattle.world_epochs.specs.Epochs.{AsksEpoch, PlainEpochs, IsUnissued}
 use Rattle.world_base.specs.Events as events
 use Rattle.world_base.specs.Events.{ByClient, ByTarget, RightEvent, Rules, TargetHearsRightly, TargetIdles, ToClient, ToTarget, kept, target_plan}
 use Rattle.world_base.specs.StepLaws.{by-hearing, by-next}
@@ -34,7 +34,7 @@ abbrev pub IssuedOnce : World → Type 0
 IssuedOnce w = AreApart (dated_ids w.issued)
 
 abbrev pub EventsKeepIssuedOnce : Type 0
-EventsKeepIssuedOnce = (r : Rules) (top : ℕ) (w v : World) → Epochs r top w → IssuedOnce w → RightEvent r w v → IssuedOnce v
+EventsKeepIssuedOnce = (r : Rules) (top : ℕ) (w v : World) → PlainEpochs r top w → IssuedOnce w → RightEvent r w v → IssuedOnce v
 
 -- ---- what a turn issues
 
@@ -100,7 +100,7 @@ not-among w x none i = let j = has-from_map (λ z. z.0) w.issued x i in none j.0
 
 -- ---- events
 
-hears-once : (r : Rules) (top : ℕ) (w v : World) → Epochs r top w → IssuedOnce w → TargetHearsRightly r w v → IssuedOnce v
+hears-once : (r : Rules) (top : ℕ) (w v : World) → PlainEpochs r top w → IssuedOnce w → TargetHearsRightly r w v → IssuedOnce v
 hears-once r top w v E k g = subst (λ is. AreApart (dated_ids is)) (sym (ap (λ x. x.issued) g.after)) (by (hears-issues (target_plan r g.t) g.s.opening g.s.memory g.reading g.l.from g.l.message (kept g.s) g.new (g.memory, g.did) g.turn))
   where
     by : Issues g.l.message g.did.issued → AreApart (dated_ids (w.issued ++ events.listed g.did.issued))

@@ -33,7 +33,7 @@ use Rattle.daos_model.specs.Stops.{restart_numbers}
 use Rattle.daos_model.specs.Transactions.{attempt_ops, command_of, numbered, numbered_at, ops_or_none}
 use Rattle.world_base.specs.declared.world.World.{World}
 use Rattle.world_base.specs.Events.{Rules, commands_or_none}
-use Rattle.world_causes.specs.Causes.{Causes, Dated, MeetsOther, Shows, ShowsLack, ShowsRead, ShowsSpent, ShowsUnresolved, ShowsWrite, Stored, blocks_if, blocks_of_stored, zeroth}
+use Rattle.world_causes.specs.Causes.{PlainCauses, Dated, MeetsOther, Shows, ShowsLack, ShowsRead, ShowsSpent, ShowsUnresolved, ShowsWrite, Stored, blocks_if, blocks_of_stored, zeroth}
 use Rattle.world_causes.specs.Premises.{IsPlain}
 use Rattle.world_causes.specs.Storing.{AreApart, HasItsLine, StoredOnce, dated_ids}
 
@@ -58,7 +58,7 @@ pub record AllAreTold (stored : Stored) (w : World) : Type 0 where
 -- then every attempt that didn't take effect shows its cause in the whole list of lines
 abbrev pub CausesAreShown : Type 0
 CausesAreShown =
-    (r : Rules) (g : model.Given) (stored : Stored) (w : World) → IsPlain r → g.script ≡ r.script → g.job.epsilon ≡ r.epsilon → Causes r g.opening stored w → AllAreTold stored w → EachTry (AttemptShows g w.lines) w.lines
+    (r : Rules) (g : model.Given) (stored : Stored) (w : World) → IsPlain r → g.script ≡ r.script → g.job.epsilon ≡ r.epsilon → PlainCauses r g.opening stored w → AllAreTold stored w → EachTry (AttemptShows g w.lines) w.lines
 
 -- where each attempt with an epoch has its line, each that was stored somewhere has one that tells of no lack of space there
 fits-there : (t : ℕ) (how : Outcome) → ((need free : ℕ) → how ≡ outcome.NoSpace t need free → ⊥) → lacks_space_at t how ≡ false

@@ -27,3 +27,6 @@ pub mod IssuedOnce
 pub mod StoreTurns
 pub mod StoringClients
 pub mod StoringLaws
+pub mod Shown
+pub mod ShownLaws
+pub mod Leases

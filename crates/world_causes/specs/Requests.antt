@@ -57,7 +57,7 @@ use Rattle.world_base.specs.declared.target.Life.TheVariants.{Running}
 use Rattle.world_base.specs.declared.world.World.{World}
 use Rattle.world_base.specs.ClientTurns.{attempt_id, command_at, question}
 use Rattle.world_epochs.specs.Asking.{ops-at}
-use Rattle.world_epochs.specs.Epochs.{AsksEpoch, BearsEpoch, BearsIssued, ClientsStand, Epochs, IsPast, IsPresent, Unsnapped}
+use Rattle.world_epochs.specs.Epochs.{AsksEpoch, BearsEpoch, BearsIssued, ClientsStand, PlainEpochs, IsPast, IsPresent, Unsnapped}
 use Rattle.world_base.specs.Events.{Rules, client_plan, target_plan}
 use Rattle.world_base.specs.Letters.{Takes, client, target}
 use Rattle.world_reads.specs.Reads.{Reads}
@@ -72,7 +72,7 @@ use Rattle.world_base.specs.Commits as commit
 use Rattle.world_base.specs.Reads.{fetch_at}
 use Rattle.world_base.specs.Roles.{other_leader, other_leader_of}
 use Rattle.world_base.specs.TargetTurns.{fetch_request}
-use Rattle.world_causes.specs.Causes.{Bounded, Causes, MeetsOther, Stored, limit}
+use Rattle.world_causes.specs.Causes.{Bounded, PlainCauses, MeetsOther, Stored, limit}
 use Rattle.world_causes.specs.CommitTurns.{IsCommit, blocks-some, own-is}
 use Rattle.world_causes.specs.Growth.{question-asks}
 use Rattle.world_causes.specs.Paths.{AreOpen, IsKnown, IsMet, IsOthers, IsUnended}
@@ -82,6 +82,7 @@ use Rattle.world_causes.specs.ReadTurns.{IsFetch, IsTarget}
 use Rattle.world_causes.specs.Turns.{HasNoLine}
 use Rattle.world_causes.specs.VerdictTurns.{IsAskFit}
 use Rattle.world_base.specs.Requests.{fetch_message}
+use Rattle.world_clients.specs.Snapshots.{is_at_snapshot}
 
 -- what is known of a world beside causes, each by the crate whose word it is
 pub record Given (r : Rules) (o : Opening) (h : History) (w : World) : Type 0 where
@@ -91,7 +92,7 @@ pub record Given (r : Rules) (o : Opening) (h : History) (w : World) : Type 0 wh
   pub talk : Conversation r w
   pub addressed : AreAddressed r w
   pub stand : ClientsStand r w
-  pub epochs : Epochs r (top o) w
+  pub epochs : PlainEpochs r (top o) w
   pub attempts : Attempts r h w
   pub asked : AskedRight r h w
   pub reads : Reads r o h w
@@ -106,11 +107,11 @@ pub record Given (r : Rules) (o : Opening) (h : History) (w : World) : Type 0 wh
 pub stamps-of-reads : (r : Rules) (o : Opening) (h : History) (w : World) (t : ℕ) (s : TargetState) → Reads r o h w → slice_get w.targets t ≡ Some s → s.life ≡ Running → AreOfReads r w.issued s.memory.stamps
 stamps-of-reads r o h w t s k here runs z i = (issued, asks)
   where
-    q : (q : Served) × Has q h.served × (q.target ≡ t) × (q.by ≡ z.by) × (q.epoch ≡ z.epoch) × (read_path q.read ≡ z.path)
+    q : (q : Served) × Has q h.served × (q.target ≡ t) × (q.by ≡ z.by) × (q.epoch ≡ z.epoch) × (read_path q.read ≡ z.path) × (is_at_snapshot r q.by ≡ false)
     q = k.stamps t s z here runs i
 
     issued : Contains w.issued (z.by, z.epoch)
-    issued = subst (λ e. Contains w.issued (z.by, e)) q.4 (subst (λ x. Contains w.issued (x, q.0.epoch)) q.3 (k.issued q.0 q.1))
+    issued = subst (λ e. Contains w.issued (z.by, e)) q.4 (subst (λ x. Contains w.issued (x, q.0.epoch)) q.3 (k.issued q.0 q.1 q.6))
 
     asks : Any (AsksAt z.path) (attempt_ops r.script z.by)
     asks =
@@ -122,7 +123,7 @@ stamps-of-reads r o h w t s k here runs z i = (issued, asks)
 -- ---- attempts that aren't decided
 
 -- the client of an attempt that it is at has no line of it
-pub present-unended : (r : Rules) (o : Opening) (w : World) (n : ℕ) (c : ClientState) (a : Present) → Epochs r (top o) w → slice_get w.clients n ≡ Some c → c.present ≡ Some a → HasNoLine w.lines (attempt_id (client_plan r n) c a)
+pub present-unended : (r : Rules) (o : Opening) (w : World) (n : ℕ) (c : ClientState) (a : Present) → PlainEpochs r (top o) w → slice_get w.clients n ≡ Some c → c.present ≡ Some a → HasNoLine w.lines (attempt_id (client_plan r n) c a)
 present-unended r o w n c a E here at b i same = by (E.past b c (contains-from_has (tries w.lines) b i) (subst (λ k. slice_get w.clients k ≡ Some c) (sym (ap (λ x. x.client) same)) here))
   where
     by : IsPast c b.id → ⊥
@@ -193,7 +194,7 @@ module _ (r : Rules) (o : Opening) (h : History) (w : World) (G : Given r o h w)
 -- ---- requests
 
 -- what is known of a request's epochs
-request-is : (r : Rules) (o : Opening) (w : World) (l : Letter) (x : AttemptId) (ep first : Option Epoch) (tracker : Epoch) → Epochs r (top o) w → Bounded o w → Contains w.messages l
+request-is : (r : Rules) (o : Opening) (w : World) (l : Letter) (x : AttemptId) (ep first : Option Epoch) (tracker : Epoch) → PlainEpochs r (top o) w → Bounded o w → Contains w.messages l
     → (ep ≡ None → AsksEpoch l.message x tracker) → ((e : Epoch) → ep ≡ Some e → BearsEpoch l.message x e) → IsFirst w.issued x first → tracker.0 / 256 ≤ limit o w.issued
     → IsRequest o w.issued x ep first tracker
 request-is r o w l x ep first tracker E B among asks bears low tracked = record {
@@ -260,7 +261,7 @@ member-writes r x t other =
     let k = (has-from_filter (is_other_member (first_entry r x (record { 0 = 0 }))) all_targets t other).1 in
     writes-touch r t (writes_of r x) (bit-of (writes_members (writes_of r x) r.script.targets) t (and_left (has_target (members_of r x) t) (not (t == leader_of r x)) k))
 
-module _ (r : Rules) (o : Opening) (h : History) (w : World) (G : Given r o h w) (stored : Stored) (C : Causes r o stored w) (t : ℕ) (s : TargetState) (here : slice_get w.targets t ≡ Some s) where
+module _ (r : Rules) (o : Opening) (h : History) (w : World) (G : Given r o h w) (stored : Stored) (C : PlainCauses r o stored w) (t : ℕ) (s : TargetState) (here : slice_get w.targets t ≡ Some s) where
   pub few : t < 256
   few = let p : t < length w.targets = slice_get_within w.targets t s here in let q : length w.targets ≤ 256 = G.epochs.few in omega (arith, p, q)
 

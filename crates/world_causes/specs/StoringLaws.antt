@@ -45,7 +45,7 @@ use Rattle.world_talks.specs.InFlight.{HearsRequest, hears-request}
 use Rattle.world_talks.specs.TalkLaws.{got-is-talk, left-is-among, left-or-it, none-among, taken-is-among}
 use Rattle.world_base.specs.Changes.{Kept}
 use Rattle.world_base.specs.MemoryLaws.{hears-follows, idles-follows}
-use Rattle.world_causes.specs.Causes.{Causes, EndsOf, Stored, is_new_to, stored_as, stored_by, stored_in}
+use Rattle.world_causes.specs.Causes.{PlainCauses, EndsOf, Stored, is_new_to, stored_as, stored_by, stored_in}
 use Rattle.world_causes.specs.ClientLaws.{ends-no_tell}
 use Rattle.world_causes.specs.Requests.{Given, present-unended}
 use Rattle.world_causes.specs.Storing.{AreApart, HasItsLine, IsAskedAt, IsPrepareOf, IsRefusedAt, IsTold, RefusesAt, Storing}
@@ -61,7 +61,7 @@ pub record Then (r : Rules) (h later : History) (w v : World) : Type 0 where
 
 abbrev pub EventsKeepStoring : Type 0
 EventsKeepStoring =
-    (r : Rules) (o : Opening) (h later : History) (stored : Stored) (w v : World) → Given r o h w → Causes r o stored w → Then r h later w v → Storing r h stored w → (g : RightEvent r w v) → Storing r later (stored_in r w v g ++ stored) v
+    (r : Rules) (o : Opening) (h later : History) (stored : Stored) (w v : World) → Given r o h w → PlainCauses r o stored w → Then r h later w v → Storing r h stored w → (g : RightEvent r w v) → Storing r later (stored_in r w v g ++ stored) v
 
 -- ---- lists
 
@@ -148,7 +148,7 @@ prepare-asking l m x t is p to = absurd p
 
 -- ---- a Commit that is heard
 
-module _ (r : Rules) (o : Opening) (h : History) (stored : Stored) (w v : World) (G : Given r o h w) (C : Causes r o stored w) where
+module _ (r : Rules) (o : Opening) (h : History) (stored : Stored) (w v : World) (G : Given r o h w) (C : PlainCauses r o stored w) where
   -- its attempt isn't stored yet
   commit-new : (l : Letter) (x : AttemptId) → Contains w.messages l → IsCommitOf l.message x → (l.to ≡ target (leader_of r x)) × (IsBorn r h w x → ⊥)
   commit-new l x i k = (subst (λ y. l.to ≡ target (leader_of r y)) q.2 new.receiver, λ b. unborn (subst (IsBorn r h w) (sym q.2) b))
@@ -324,7 +324,7 @@ module _ (r : Rules) (h later : History) (stored : Stored) (w v : World) (T : Th
 
 -- ---- a target hears
 
-module _ (r : Rules) (o : Opening) (h later : History) (stored : Stored) (w v : World) (G : Given r o h w) (C : Causes r o stored w) (T : Then r h later w v) (S : Storing r h stored w) (g : TargetHearsRightly r w v) where
+module _ (r : Rules) (o : Opening) (h later : History) (stored : Stored) (w v : World) (G : Given r o h w) (C : PlainCauses r o stored w) (T : Then r h later w v) (S : Storing r h stored w) (g : TargetHearsRightly r w v) where
   heard : Contains w.messages g.l
   heard = taken-is-among w.messages g.l g.rest g.takes
 

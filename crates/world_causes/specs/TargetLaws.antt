@@ -50,7 +50,7 @@ use Rattle.world_base.specs.Roles.{leader_at}
 use Rattle.world_base.specs.TargetTurns.{commit_request, fetch_request, prepare_request}
 use Rattle.world_base.specs.TurnLaws.{idles-keeps, rightly-keeps}
 use Rattle.world_base.specs.Turns.{Whole}
-use Rattle.world_causes.specs.Causes.{Causes, Dated, EndsOf, IsAskedFor, IsUnanswered, IsUndecidedFor, MeetsOther, MessageShows, Stored, blocks_of_stored, epochs_told, limit, stored_by}
+use Rattle.world_causes.specs.Causes.{PlainCauses, Dated, EndsOf, IsAskedFor, IsUnanswered, IsUndecidedFor, MeetsOther, MessageShows, Stored, blocks_of_stored, epochs_told, limit, stored_by}
 use Rattle.world_causes.specs.CommitTurns.{commit-leaves, space-same}
 use Rattle.world_causes.specs.Dates.{limit-rises}
 use Rattle.world_causes.specs.Floors.{stays-low}
@@ -77,10 +77,10 @@ listed-has (Some j) i (inl same) = ap (λ z. Some z) (sym same)
 listed-has (Some j) i (inr bad) = absurd bad
 
 -- the world once a target's turn left this
-leaves-keep : (r : Rules) (o : Opening) (stored : Stored) (w : World) (t : ℕ) (s : TargetState) (new : Kept) (memory : TargetMemory) (did : Did) (rest : List Letter) → Causes r o stored w → slice_get w.targets t ≡ Some s
+leaves-keep : (r : Rules) (o : Opening) (stored : Stored) (w : World) (t : ℕ) (s : TargetState) (new : Kept) (memory : TargetMemory) (did : Did) (rest : List Letter) → PlainCauses r o stored w → slice_get w.targets t ≡ Some s
     → ((l : Letter) → Contains rest l → Contains w.messages l) → did.lines ≡ [] → new.durable.conts ≡ s.durable.conts → Leaves r o stored w.issued w.lines t (kept s) new (memory, did)
-    → Causes r o (stored_by t s.durable new.durable ++ stored) (with_target t (target_after s new memory) (after_turn w (target t) did rest))
-leaves-keep r o stored w t s new memory did rest C here among none conts L = subst (λ ls. Causes r o (more ++ stored) (record w { targets = set w.targets t (target_after s new memory); messages = rest ++ letters_of (target t) did.posts; asked = asked_after w.asked (letters_of (target t) did.posts); issued = now; lines = ls })) (sym lines) (record {
+    → PlainCauses r o (stored_by t s.durable new.durable ++ stored) (with_target t (target_after s new memory) (after_turn w (target t) did rest))
+leaves-keep r o stored w t s new memory did rest C here among none conts L = subst (λ ls. PlainCauses r o (more ++ stored) (record w { targets = set w.targets t (target_after s new memory); messages = rest ++ letters_of (target t) did.posts; asked = asked_after w.asked (letters_of (target t) did.posts); issued = now; lines = ls })) (sym lines) (record {
   bounded = record {
     ticks = at-set w.targets t s (target_after s new memory) (λ u z. z.life ≡ Running → z.memory.ticks ≤ limit o now) here (λ k. L.ticks) (λ u z at k. up (C.bounded.ticks u z at k));
     trackers = λ n c at. up (C.bounded.trackers n c at);
@@ -161,7 +161,7 @@ leaves-keep r o stored w t s new memory did rest C here among none conts L = sub
 
 -- ---- what is known when a target hears
 
-module _ (r : Rules) (o : Opening) (h : History) (stored : Stored) (w : World) (G : Given r o h w) (C : Causes r o stored w) (t : ℕ) (s : TargetState) (here : slice_get w.targets t ≡ Some s) where
+module _ (r : Rules) (o : Opening) (h : History) (stored : Stored) (w : World) (G : Given r o h w) (C : PlainCauses r o stored w) (t : ℕ) (s : TargetState) (here : slice_get w.targets t ≡ Some s) where
   meet-here : AllMeet r w.issued s.memory.member.parked
   meet-here p i x e b = C.waiting.meets t s p x e here (contains-from_has s.memory.member.parked p i) b
 
@@ -240,7 +240,7 @@ module _ (r : Rules) (o : Opening) (h : History) (stored : Stored) (w : World) (
 
 -- ---- a target hears
 
-hears-leaves : (r : Rules) (o : Opening) (h : History) (stored : Stored) (w v : World) (G : Given r o h w) (C : Causes r o stored w) (g : TargetHearsRightly r w v) (said : Message) → g.l.message ≡ said
+hears-leaves : (r : Rules) (o : Opening) (h : History) (stored : Stored) (w v : World) (G : Given r o h w) (C : PlainCauses r o stored w) (g : TargetHearsRightly r w v) (said : Message) → g.l.message ≡ said
     → HearsRightly (target_plan r g.t) g.s.opening g.s.memory g.reading g.l.from said (kept g.s) g.new (g.memory, g.did) → Leaves r o stored w.issued w.lines g.t (kept g.s) g.new (g.memory, g.did)
 hears-leaves r o h stored w v G C g said is turn = by said is turn
   where
@@ -284,9 +284,9 @@ hears-leaves r o h stored w v G C g said is turn = by said is turn
         (opens-here r o h w G g.t g.s g.here) C.bounded.issued g.t g.new (g.memory, g.did) k
     by m is k = absurd k
 
-pub target-hears-keeps : (r : Rules) (o : Opening) (h : History) (stored : Stored) (w v : World) → Given r o h w → Causes r o stored w → (g : TargetHearsRightly r w v) → Causes r o (stored_by g.t g.s.durable g.new.durable ++ stored) v
+pub target-hears-keeps : (r : Rules) (o : Opening) (h : History) (stored : Stored) (w v : World) → Given r o h w → PlainCauses r o stored w → (g : TargetHearsRightly r w v) → PlainCauses r o (stored_by g.t g.s.durable g.new.durable ++ stored) v
 target-hears-keeps r o h stored w v G C g =
-    subst (Causes r o (stored_by g.t g.s.durable g.new.durable ++ stored)) (sym g.after)
+    subst (PlainCauses r o (stored_by g.t g.s.durable g.new.durable ++ stored)) (sym g.after)
     (leaves-keep r o stored w g.t g.s g.new g.memory g.did g.rest C g.here (λ l i. left-is-among w.messages g.l g.rest l g.takes i)
     (hears-follows (target_plan r g.t) g.s.opening g.s.memory g.reading g.l.from g.l.message (kept g.s) g.new (g.memory, g.did) g.turn).lines
     (rightly-keeps (target_plan r g.t) g.s.opening g.s.memory g.reading g.l.from g.l.message (kept g.s) g.new (g.memory, g.did) g.turn).conts
@@ -294,9 +294,9 @@ target-hears-keeps r o h stored w v G C g =
 
 -- ---- a target does its idle work
 
-pub target-idles-keeps : (r : Rules) (o : Opening) (h : History) (stored : Stored) (w v : World) → Given r o h w → Causes r o stored w → (g : TargetIdles r w v) → Causes r o (stored_by g.t g.s.durable g.new.durable ++ stored) v
+pub target-idles-keeps : (r : Rules) (o : Opening) (h : History) (stored : Stored) (w v : World) → Given r o h w → PlainCauses r o stored w → (g : TargetIdles r w v) → PlainCauses r o (stored_by g.t g.s.durable g.new.durable ++ stored) v
 target-idles-keeps r o h stored w v G C g =
-    subst (Causes r o (stored_by g.t g.s.durable g.new.durable ++ stored)) (sym g.after)
+    subst (PlainCauses r o (stored_by g.t g.s.durable g.new.durable ++ stored)) (sym g.after)
     (leaves-keep r o stored w g.t g.s g.new g.memory g.did w.messages C g.here (λ l i. i)
     (idles-follows g.settling (target_plan r g.t) g.s.memory (kept g.s) g.new (g.memory, g.did) g.turn).lines
     (idles-keeps g.settling (target_plan r g.t) g.s.memory (kept g.s) g.new (g.memory, g.did) g.turn).conts

@@ -15,7 +15,7 @@ use Rattle.daos_model.specs.Versions.{version_path}
 use Rattle.world_attempts.specs.History.{History}
 use Rattle.world_base.specs.declared.target.TargetState.{TargetState}
 use Rattle.world_base.specs.declared.world.World.{World}
-use Rattle.world_epochs.specs.Epochs.{Epochs}
+use Rattle.world_epochs.specs.Epochs.{PlainEpochs}
 use Rattle.world_epochs.specs.Sayings.{known-all, known-found}
 use Rattle.world_base.specs.Events.{Rules}
 use Rattle.world_reads.specs.Versions.{IsPreparedAt, IsVersionOf, Versions}
@@ -23,7 +23,7 @@ use Rattle.world_causes.specs.Premises.{VersionsAreWritten}
 
 -- where the opening's versions are at or below its top
 abbrev pub VersionsWritten : Type 0
-VersionsWritten = (r : Rules) (o : Opening) (held : ℕ → List Version) (h : History) (w : World) → ((t : ℕ) (z : Version) → Contains (held t) z → z.epoch.0 ≤ top o) → Epochs r (top o) w → Versions r o held h w → VersionsAreWritten r o w
+VersionsWritten = (r : Rules) (o : Opening) (held : ℕ → List Version) (h : History) (w : World) → ((t : ℕ) (z : Version) → Contains (held t) z → z.epoch.0 ≤ top o) → PlainEpochs r (top o) w → Versions r o held h w → VersionsAreWritten r o w
 
 -- the write that a version is
 write-of : (r : Rules) (t : ℕ) (v : Version) → IsVersionOf r t v → Any (λ w. write_path w.write ≡ version_path v) (minor_writes 0 (attempt_ops r.script v.by))
@@ -31,7 +31,7 @@ write-of r t v k =
     any-of (λ w. write_path w.write ≡ version_path v) (minor_writes 0 (attempt_ops r.script v.by)) k.write (has-from_contains (minor_writes 0 (attempt_ops r.script v.by)) k.write k.at.of_it) (ap write_path (sym k.same))
 
 -- one that isn't settled is of an entry, which has an epoch that was issued
-entered : (r : Rules) (o : Opening) (w : World) (t : ℕ) (s : TargetState) (x : AttemptId) (e : Epoch) → Epochs r (top o) w → slice_get w.targets t ≡ Some s → IsPreparedAt s.durable x e → Contains w.issued (x, e)
+entered : (r : Rules) (o : Opening) (w : World) (t : ℕ) (s : TargetState) (x : AttemptId) (e : Epoch) → PlainEpochs r (top o) w → slice_get w.targets t ≡ Some s → IsPreparedAt s.durable x e → Contains w.issued (x, e)
 unfolding entry_of
 entered r o w t s x e E here k =
     subst (λ f. Contains w.issued (x, f)) k.epoch

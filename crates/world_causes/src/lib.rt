@@ -5,6 +5,8 @@ ghost use Rattle.world_causes.specs.CauseLaws.{CausesAreKept, CausesBegin};
 ghost use Rattle.world_causes.specs.Firsts.{EventsKeepFirsts};
 ghost use Rattle.world_causes.specs.IssuedOnce.{EventsKeepIssuedOnce};
 ghost use Rattle.world_causes.specs.LastCauses.{CausesAreShown};
+ghost use Rattle.world_causes.specs.Leases.{LeasesAreKept};
+ghost use Rattle.world_causes.specs.ShownLaws.{CausesArePlain, PlainCausesStand};
 ghost use Rattle.world_causes.specs.StoringLaws.{EventsKeepStoring};
 ghost use Rattle.world_causes.specs.Unsettled.{VersionsWritten};
 
@@ -17,10 +19,16 @@ ghost use Rattle.world_causes.specs.Unsettled.{VersionsWritten};
 /// told for want of a snapshot, and lines tell of attempts alone. So it is at the beginning, and each right event keeps it. When each attempt with an epoch has its line, each that
 /// was stored at a target has one that tells of no lack of space there, and the lines of a command begin
 /// with its attempt 0, every line shows its cause in the whole list of lines.
+///
+/// What is shown then is what outcomes show at each moment of any run, where no snapshots are made or read,
+/// lines tell of attempts alone and all targets run. And leases stay within what ticks may come to, but for one.
 pub fn laws_of_causes()
     ensures begin { CausesBegin }
     ensures kept { CausesAreKept }
     ensures shown { CausesAreShown }
+    ensures stand { PlainCausesStand }
+    ensures leases { LeasesAreKept }
+    ensures plain { CausesArePlain }
 {}
 
 /// Says what the causes stand on. The versions of targets above the opening are writes of attempts to which

@@ -6,3 +6,4 @@ pub mod Answered
 pub mod AnsweredLaws
 pub mod AnswerLaws
 pub mod Laws
+pub mod Snapshots

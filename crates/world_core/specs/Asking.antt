@@ -50,7 +50,7 @@ use Rattle.world_base.specs.declared.target.Life.TheVariants.{Running}
 use Rattle.world_base.specs.declared.world.World.{World}
 use Rattle.world_base.specs.ClientTurns.{attempt_id, command_at, group_asked, group_count, member_asked, question}
 use Rattle.world_core.specs.Judged.{Judged}
-use Rattle.world_epochs.specs.Epochs.{AsksEpoch, BearsEpoch, BearsIssued, Epochs, IsIssued, IsPast, Unsnapped, reads_snapshot}
+use Rattle.world_epochs.specs.Epochs.{AsksEpoch, BearsEpoch, BearsIssued, PlainEpochs, IsIssued, IsPast, Unsnapped, reads_snapshot}
 use Rattle.world_epochs.specs.TargetEvents.{issued-ticks}
 use Rattle.world_base.specs.Events.{Rules, client_plan, target_plan}
 use Rattle.world_base.specs.Letters.{Takes, target}
@@ -58,7 +58,7 @@ use Rattle.world_clients.specs.Answered.{ops_here}
 use Rattle.world_core.specs.ScriptForm.{ops-few, read-in-form, writes-declared, writes-in-form}
 use Rattle.world_gots.specs.FormLaws.{fit-object, ops-form, read-declared, write-declared}
 use Rattle.world_gots.specs.Gots.{Found, Gots, IsFound, Nothing, groups_asked}
-use Rattle.world_reads.specs.Given.{FitsTargets, Given, HasItsEpoch, IsCommitRight, IsFetchRight, IsItsEpoch, IsMessageRight, IsParkedRight, IsRefusalRight}
+use Rattle.world_reads.specs.Given.{FitsTargets, Given, HasItsEpoch, IsCommitRight, IsFetchRight, IsItsEpoch, IsMessageRight, IsParkedRight, IsRefusalRight, IsReadEpoch}
 use Rattle.world_talks.specs.AskLaws.{asked-commit, asked-read, sent-is-asked}
 use Rattle.world_talks.specs.Carriers.{is_fetch_of}
 use Rattle.world_talks.specs.Conversation.{is_request}
@@ -67,6 +67,8 @@ use Rattle.world_talks.specs.InFlight.{HearsRequest, hears-request, parked-is}
 use Rattle.world_base.specs.Requests.{fetch_message, request_epoch}
 use Rattle.world_base.specs.Reads.{fetch_at}
 use Rattle.world_verdicts.specs.TurnLaws.{attempt-ops-here, told-of}
+use Rattle.world_epochs.specs.PlainScripts.{at-none}
+use Rattle.world_epochs.specs.PlainLaws.{plain-epochs}
 
 -- ---- letters
 
@@ -86,7 +88,7 @@ unfolding epoch_of
 same-epoch e f h = ap epoch_of h
 
 -- a request bears the epoch of its attempt, if that has one
-pub own-epoch : (r : Rules) (o : Opening) (w : World) (x : AttemptId) (e : Epoch) → Epochs r (top o) w → IsIssued w x e → IsItsEpoch o w x (Some e) e
+pub own-epoch : (r : Rules) (o : Opening) (w : World) (x : AttemptId) (e : Epoch) → PlainEpochs r (top o) w → IsIssued w x e → IsItsEpoch o w x (Some e) e
 own-epoch r o w x e E i = record {
   above = E.above x e i;
   alone = λ y f is same. E.apart y x e (subst (λ z. Contains w.issued (y, z)) (same-epoch f e same) is) i;
@@ -94,7 +96,7 @@ own-epoch r o w x e E i = record {
 }
 
 -- else one is issued that none has yet
-new-epoch : (r : Rules) (o : Opening) (w : World) (t : ℕ) (s : TargetState) (x : AttemptId) (k : Epoch) (reading : ℕ) (e : Epoch) → Epochs r (top o) w → slice_get w.targets t ≡ Some s → s.life ≡ Running
+new-epoch : (r : Rules) (o : Opening) (w : World) (t : ℕ) (s : TargetState) (x : AttemptId) (k : Epoch) (reading : ℕ) (e : Epoch) → PlainEpochs r (top o) w → slice_get w.targets t ≡ Some s → s.life ≡ Running
     → top o ≤ k.0 → request_epoch (target_plan r t) s.memory reading k None ≡ Some e → IsItsEpoch o w x None e
 new-epoch r o w t s x k reading e E here runs low h = record { above = above; alone = alone; own = λ f has. let no : ⊥ = cc in absurd no }
   where
@@ -116,7 +118,7 @@ new-epoch r o w t s x k reading e E here runs low h = record { above = above; al
         let no : ⊥ = omega (arith, old, new, one) in absurd no
 
 -- so a request that bears or asks for an epoch has its epoch
-pub its-epoch : (r : Rules) (o : Opening) (w : World) (t : ℕ) (s : TargetState) (x : AttemptId) (ep : Option Epoch) (k : Epoch) → Epochs r (top o) w → slice_get w.targets t ≡ Some s → s.life ≡ Running
+pub its-epoch : (r : Rules) (o : Opening) (w : World) (t : ℕ) (s : TargetState) (x : AttemptId) (ep : Option Epoch) (k : Epoch) → PlainEpochs r (top o) w → slice_get w.targets t ≡ Some s → s.life ≡ Running
     → ((e : Epoch) → ep ≡ Some e → IsIssued w x e) → (ep ≡ None → top o ≤ k.0) → HasItsEpoch r o w t s x ep k
 its-epoch r o w t s x None k E here runs bears low reading e h = new-epoch r o w t s x k reading e E here runs (low refl) h
 its-epoch r o w t s x (Some f) k E here runs bears low reading e h = let same : f ≡ e = cc in subst (λ z. IsItsEpoch o w x (Some f) z) same (own-epoch r o w x f E (bears f refl))
@@ -134,6 +136,10 @@ pub record Facts (r : Rules) (o : Opening) (h : History) (w : World) : Type 0 wh
   pub judged : Judged r (top o) h w
   pub attempts : Attempts r h w
   pub gots : Gots r h w
+
+-- of which epochs are said as without snapshots
+pub plainly : (r : Rules) (o : Opening) (h : History) (w : World) → Facts r o h w → PlainEpochs r (top o) w
+plainly r o h w k = plain-epochs r k.unsnapped (top o) w k.judged.epochs
 
 -- ---- what is read
 
@@ -235,7 +241,7 @@ pub record ReadIsAsked (r : Rules) (w : World) (t : ℕ) (f : FetchRequest) : Ty
 
 pub fetch-right : (r : Rules) (o : Opening) (h : History) (w : World) (t : ℕ) (f : FetchRequest) → Facts r o h w → ReadIsAsked r w t f → f.snapshot ≡ false → IsFetchRight r t f.attempt f.op f.group f.read f.snapshot
 fetch-right r o h w t f k i plain = record {
-  now = plain;
+  at = plain ∙ sym (at-none r f.attempt k.unsnapped);
   form = read-in-form r.script.objs f.read k.form.declared.obj_units in_form;
   asked = λ e b. record { op = asks.o; at = (f.op, refl, ops-at); stage = i.a.stage; asks = asks.asked; obj = obj.0; of_object = obj.1; member = member };
   obj = obj.0;
@@ -336,13 +342,14 @@ module _ (r : Rules) (o : Opening) (h : History) (w : World) (k : Facts r o h w)
 
   fetch-is : (x : AttemptId) (op group : ℕ) (ep first : Option Epoch) (tracker : Epoch) (q : Read) (snapshot : Bool) → l.message ≡ message.Fetch x op group ep first tracker q snapshot
       → IsMessageRight r o w t s (message.Fetch x op group ep first tracker q snapshot)
-  fetch-is x op group ep first tracker q snapshot it = (right, its-epoch r o w t s x ep tracker k.judged.epochs here runs bears low)
+  fetch-is x op group ep first tracker q snapshot it =
+      (right, λ reading e found. subst (λ b. IsReadEpoch r o w s.durable x (read_path q).cont ep b e) (sym now) (its-epoch r o w t s x ep tracker (plainly r o h w k) here runs bears low reading e found))
     where
       i : HearsRequest r w l taken.0
       i = heard (ap is_request it)
 
       now : snapshot ≡ false
-      now = ap reads_snapshot (sym it) ∙ k.judged.epochs.plain l among
+      now = ap reads_snapshot (sym it) ∙ (plainly r o h w k).plain l among
 
       right : IsFetchRight r t x op group q snapshot
       right =
@@ -353,22 +360,22 @@ module _ (r : Rules) (o : Opening) (h : History) (w : World) (k : Facts r o h w)
       plain = it ∙ ap (message.Fetch x op group ep first tracker q) now
 
       bears : (e : Epoch) → ep ≡ Some e → IsIssued w x e
-      bears e own = k.judged.epochs.borne l x e among (subst (λ m. BearsEpoch m x e) (sym (plain ∙ ap (λ z. message.Fetch x op group z first tracker q false) own)) (refl, refl))
+      bears e own = (plainly r o h w k).borne l x e among (subst (λ m. BearsEpoch m x e) (sym (plain ∙ ap (λ z. message.Fetch x op group z first tracker q false) own)) (refl, refl))
 
       low : ep ≡ None → top o ≤ tracker.0
-      low none = (k.judged.epochs.fresh l x tracker among (subst (λ m. AsksEpoch m x tracker) (sym (it ∙ ap (λ z. message.Fetch x op group z first tracker q snapshot) none)) (refl, refl))).2
+      low none = ((plainly r o h w k).fresh l x tracker among (subst (λ m. AsksEpoch m x tracker) (sym (plain ∙ ap (λ z. message.Fetch x op group z first tracker q false) none)) (refl, refl))).2
 
   commit-is : (x : AttemptId) (ep first : Option Epoch) (tracker : Epoch) (ws : List MinorWrite) → l.message ≡ message.Commit x ep first tracker ws → IsMessageRight r o w t s (message.Commit x ep first tracker ws)
   commit-is x ep first tracker ws it = (
     commit-right r o h w t l taken.0 (record { attempt = x; ep = ep; first = first; tracker = tracker; writes = ws }) k (heard (ap is_request it)) to it,
-    its-epoch r o w t s x ep tracker k.judged.epochs here runs bears low,
+    its-epoch r o w t s x ep tracker (plainly r o h w k) here runs bears low,
   )
     where
       bears : (e : Epoch) → ep ≡ Some e → IsIssued w x e
-      bears e own = k.judged.epochs.borne l x e among (subst (λ m. BearsEpoch m x e) (sym (it ∙ ap (λ z. message.Commit x z first tracker ws) own)) (refl, refl))
+      bears e own = (plainly r o h w k).borne l x e among (subst (λ m. BearsEpoch m x e) (sym (it ∙ ap (λ z. message.Commit x z first tracker ws) own)) (refl, refl))
 
       low : ep ≡ None → top o ≤ tracker.0
-      low none = (k.judged.epochs.fresh l x tracker among (subst (λ m. AsksEpoch m x tracker) (sym (it ∙ ap (λ z. message.Commit x z first tracker ws) none)) (refl, refl))).2
+      low none = ((plainly r o h w k).fresh l x tracker among (subst (λ m. AsksEpoch m x tracker) (sym (it ∙ ap (λ z. message.Commit x z first tracker ws) none)) (refl, refl))).2
 
   ack-is : (x : AttemptId) (inc : ℕ) (refusal : Option Outcome) → l.message ≡ message.Ack x inc refusal → IsRefusalRight refusal
   ack-is x inc refusal it = refused refusal (subst (IsTrueOf r h w l.from l.to) it (k.attempts.letters l (has-from_contains w.messages l among)))
@@ -389,24 +396,24 @@ module _ (r : Rules) (o : Opening) (h : History) (w : World) (k : Facts r o h w)
 -- ---- what waits at a target
 
 -- a Fetch that waits bears the epoch that was issued to its attempt, and reads at no snapshot
-parked-epoch : (r : Rules) (o : Opening) (w : World) (x : AttemptId) (op group : ℕ) (e : Epoch) (first : Option Epoch) (tracker : Epoch) (q : Read) (snapshot : Bool) → Epochs r (top o) w
+parked-epoch : (r : Rules) (o : Opening) (w : World) (x : AttemptId) (op group : ℕ) (e : Epoch) (first : Option Epoch) (tracker : Epoch) (q : Read) (snapshot : Bool) → PlainEpochs r (top o) w
     → BearsIssued w.issued (message.Fetch x op group (Some e) first tracker q snapshot) → (snapshot ≡ false) × IsItsEpoch o w x (Some e) e
 parked-epoch r o w x op group e first tracker q true E b = absurd b.bears
 parked-epoch r o w x op group e first tracker q false E b = (refl, subst (λ z. IsItsEpoch o w z (Some e) e) (sym b.bears.0) (subst (λ z. IsItsEpoch o w b.x (Some z) z) (sym b.bears.1) (own-epoch r o w b.x b.e E b.known)))
 
-pub parked-right : (r : Rules) (o : Opening) (h : History) (w : World) (t : ℕ) (s : TargetState) (p : Parked) → Facts r o h w → slice_get w.targets t ≡ Some s → Has p s.memory.member.parked → IsParkedRight r o w t p.ask
+pub parked-right : (r : Rules) (o : Opening) (h : History) (w : World) (t : ℕ) (s : TargetState) (p : Parked) → Facts r o h w → slice_get w.targets t ≡ Some s → Has p s.memory.member.parked → IsParkedRight r o w t s.durable p.ask
 parked-right r o h w t s p k here i = by p.ask refl (k.addressed.known t s here).parked
   where
-    of-client : (n : ℕ) → is_fetch_of n p.ask ≡ true → IsParkedRight r o w t p.ask
+    of-client : (n : ℕ) → is_fetch_of n p.ask ≡ true → IsParkedRight r o w t s.durable p.ask
     of-client n of_it =
         let z = parked-is r w t s p n k.judged.spoken.talk here i of_it in
-        let bears : BearsIssued w.issued (fetch_at z.f z.e) = subst (BearsIssued w.issued) z.it (k.judged.epochs.parked t s p here (contains-from_has s.memory.member.parked p i)) in
-        let e = parked-epoch r o w z.f.attempt z.f.op z.f.group z.e z.f.first z.f.tracker z.f.read z.f.snapshot k.judged.epochs bears in
+        let bears : BearsIssued w.issued (fetch_at z.f z.e) = subst (BearsIssued w.issued) z.it ((plainly r o h w k).parked t s p here (contains-from_has s.memory.member.parked p i)) in
+        let e = parked-epoch r o w z.f.attempt z.f.op z.f.group z.e z.f.first z.f.tracker z.f.read z.f.snapshot (plainly r o h w k) bears in
         let asked = sent-is-asked (client_plan r z.n) z.k z.c z.a z.q z.present z.sent in
         let right = fetch-right r o h w t z.f k (record { n = z.n; c = z.c; a = z.a; here = z.here; present = z.present; k = z.k; q = z.q; asked = asked; says = z.says; to = z.at }) e.0 in
-        subst (IsParkedRight r o w t) (sym z.it) (record { right = right; epoch = z.e; has = refl; its = e.1 })
+        subst (IsParkedRight r o w t s.durable) (sym z.it) (record { right = right; epoch = z.e; has = refl; its = subst (λ b. IsReadEpoch r o w s.durable z.f.attempt (read_path z.f.read).cont (Some z.e) b z.e) (sym e.0) e.1 })
 
-    by : (m : Message) → p.ask ≡ m → ((u : Parked) → Has u s.memory.member.parked → IsWaitingThere (crowd r.script) u) → IsParkedRight r o w t p.ask
+    by : (m : Message) → p.ask ≡ m → ((u : Parked) → Has u s.memory.member.parked → IsWaitingThere (crowd r.script) u) → IsParkedRight r o w t s.durable p.ask
     by (message.Fetch x op group ep first tracker q snapshot) it known = of-client x.client (ap (is_fetch_of x.client) it ∙ same_number x.client)
     by m it known = absurd (subst (IsAsk (crowd r.script)) it (known p i).ask)
 
@@ -424,8 +431,8 @@ RequestsAreRight = (r : Rules) (o : Opening) (held : ℕ → List Version) (h : 
 pub requests-are-right : RequestsAreRight
 requests-are-right r o held h w k before = record {
   before = before;
-  above = λ x e i. k.judged.epochs.above x e i;
-  apart = λ x y e f i j same. k.judged.epochs.apart x y e i (subst (λ z. Contains w.issued (y, z)) (sym (same-epoch e f same)) j);
+  above = λ x e i. (plainly r o h w k).above x e i;
+  apart = λ x y e f i j same. (plainly r o h w k).apart x y e i (subst (λ z. Contains w.issued (y, z)) (sym (same-epoch e f same)) j);
   forms = λ x. writes-in-form r.script.objs (attempt_ops r.script x) k.form.declared.obj_units (ops-few r.script.targets r.script x k.form) (ops-form r.script.targets r.script x k.form);
   fits = λ x m i. writes-fit r x m k.form (has-from_contains (minor_writes 0 (attempt_ops r.script x)) m i);
   few = k.few;

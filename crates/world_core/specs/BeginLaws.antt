@@ -117,7 +117,14 @@ module _ (r : Rules) (o : Opening) (u : ℕ) (d : Durable) (k : OpensWith r.scri
     only = λ v i is. clash v.done (k.done v i) is;
     matches = matches-begin;
     leased = λ v i. (k.covered v i).1;
-    unpruned = λ cont. (k.floors cont).1;
+    aggregated = λ cont. let low : (row_of d cont).aggregated.0 ≤ top o = (k.floors cont).1 in omega (arith, low);
+    clear = λ v i is. clash v.done (k.done v i) is;
+    snapshots = record {
+      floored = λ s i. absurd (none-in d.snaps s k.snaps i);
+      leased = λ s i. absurd (none-in d.snaps s k.snaps i);
+      kept = λ s m i. absurd (none-in d.snaps s k.snaps i);
+      given = λ s i. absurd (none-in d.snaps s k.snaps i);
+    };
   }
 
 -- ---- the whole
@@ -250,7 +257,7 @@ module _ (r : Rules) (o : Opening) (w : World) (A : IsSimple r) (B : IsBegun r o
   }
 
   pub everything-begins : Everything r o (held_at w) no_history w
-  everything-begins = record { facts = facts-begin; asks = asks-begin r no_history w B.messages remembers-nothing; versions = versions-begin; reads = reads-begin }
+  everything-begins = record { facts = facts-begin; asks = asks-begin r no_history w B.messages remembers-nothing; versions = versions-begin; reads = reads-begin; unpruned = λ t s cont here. ((B.starts t s here).opens.floors cont).1 }
 
 -- ---- the statement
 

@@ -25,7 +25,7 @@ use Rattle.world_base.specs.declared.request.CommitRequest.{CommitRequest}
 use Rattle.world_base.specs.declared.target.TargetState.{TargetState}
 use Rattle.world_base.specs.declared.world.World.{World}
 use Rattle.world_base.specs.ClientTurns.{attempt_id}
-use Rattle.world_core.specs.Asking.{Facts, commit-right, present-not-past, takes-one}
+use Rattle.world_core.specs.Asking.{Facts, commit-right, present-not-past, takes-one, plainly}
 use Rattle.world_epochs.specs.Epochs.{BearsEpoch, IsPast}
 use Rattle.world_epochs.specs.Lists.{nothing-passes}
 use Rattle.world_base.specs.Events.{Rules, client_plan}
@@ -137,7 +137,7 @@ commits-are-new r o h w k = record {
         record {
           receiver = goes.2 ∙ ap target right.leads;
           writes = right.its;
-          own = λ e is. has-from_contains w.issued (x, e) (k.judged.epochs.borne l x e among (subst (λ m. BearsEpoch m x e) (sym (says ∙ ap (λ z. message.Commit x z first tracker ws) is)) (refl, refl)));
+          own = λ e is. has-from_contains w.issued (x, e) ((plainly r o h w k).borne l x e among (subst (λ m. BearsEpoch m x e) (sym (says ∙ ap (λ z. message.Commit x z first tracker ws) is)) (refl, refl)));
           unstored = unstored r o h w k l taken.0 taken.1 f q says asks.attempt;
           unended = unended r o h w k l taken.0 taken.1 f q says asks.attempt;
         }

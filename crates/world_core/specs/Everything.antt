@@ -1,5 +1,5 @@
 -- Every event of a run keeps all that holds between events, of what is decided, aborted and served by then.
-use Rattle.std.specs.Prelude.{ℕ, ◌≡◌, ◌⊎◌, ◌≤◌, ◌<◌, ◌++◌, List, [], Contains, Option, refl}
+use Rattle.std.specs.Prelude.{ℕ, ◌≡◌, ◌⊎◌, ◌≤◌, ◌<◌, ◌++◌, List, [], Contains, Option, refl, slice_get, Some, find}
 use Rattle.std.proofs.Common.{inl, inr, sym, ap, subst, true≢false}
 use Rattle.base_types.specs.declared.answer.Answer.{Answer}
 use Rattle.base_types.specs.declared.epoch.Epoch.{Epoch}
@@ -38,16 +38,26 @@ use Rattle.world_reads.specs.Reads.{Reads}
 use Rattle.world_reads.specs.Versions.{Versions}
 use Rattle.world_verdicts.specs.TurnLaws.{verdicts-by-idle, verdicts-by-target}
 use Rattle.world_verdicts.specs.Verdicts.{Verdicts}
+use Rattle.base_types.specs.declared.id.ContId.{ContId}
+use Rattle.daos_model.specs.declared.durable.Durable.{Durable}
+use Rattle.daos_model.specs.Durables.{row_of, is_row_of, row_or_new}
+use Rattle.world_base.specs.declared.target.TargetState.{TargetState}
+use Rattle.world_addresses.specs.Staying.{events-keep-targets}
 
 -- ---- the statement
 
+-- no container was aggregated above the opening
+abbrev pub AreUnpruned : Opening → World → Type 0
+AreUnpruned o w = (t : ℕ) (s : TargetState) (cont : ContId) → slice_get w.targets t ≡ Some s → (row_of s.durable cont).aggregated.0 ≤ top o
+
 -- what goes about, what lines tell, epochs, verdicts, what became of attempts, what clients were told, what targets ask one another, what
--- they keep, and what they answered
+-- they keep, and what they answered; and nothing is aggregated
 pub record Everything (r : Rules) (o : Opening) (held : ℕ → List Version) (h : History) (w : World) : Type 0 where
   pub facts : Facts r o h w
   pub asks : Asks r h w
   pub versions : Versions r o held h w
   pub reads : Reads r o h w
+  pub unpruned : AreUnpruned o w
 
 -- it holds of what was decided, aborted and served by now, which is all that was before, and perhaps more
 pub record HoldsStill (r : Rules) (o : Opening) (held : ℕ → List Version) (h : History) (v : World) : Type 0 where
@@ -97,7 +107,7 @@ goes-home r v from rest posts q x op group own b k messages i says =
 
 -- ---- events
 
-module _ (r : Rules) (o : Opening) (held : ℕ → List Version) (h : History) (w v : World) (some : 0 < r.attempts) (before : AreBefore o held) (k : Everything r o held h w) where
+module _ (r : Rules) (o : Opening) (held : ℕ → List Version) (h : History) (w v : World) (some : 0 < r.attempts) (before : AreBefore o held) (k : Everything r o held h w) (then-unpruned : AreUnpruned o v) where
   at-turn : Before r o held h w
   at-turn = record { given = requests-are-right r o held h w k.facts before; right = commits-are-new r o h w k.facts; attempts = k.facts.attempts; versions = k.versions; reads = k.reads }
 
@@ -142,6 +152,7 @@ module _ (r : Rules) (o : Opening) (held : ℕ → List Version) (h : History) (
           asks = asks-then h e (subst (λ ps. GrowsBy h ps h) (sym none) nothing-grows);
           versions = kept.0;
           reads = kept.1;
+          unpruned = then-unpruned;
         };
       }
 
@@ -179,6 +190,7 @@ module _ (r : Rules) (o : Opening) (held : ℕ → List Version) (h : History) (
       asks = asks-then go.later (ToTarget g) go.grows;
       versions = go.versions;
       reads = go.reads;
+      unpruned = then-unpruned;
     };
   }
     where
@@ -202,18 +214,30 @@ module _ (r : Rules) (o : Opening) (held : ℕ → List Version) (h : History) (
           asks = asks-then h (ByTarget g) go.0;
           versions = go.1;
           reads = go.2;
+          unpruned = then-unpruned;
         };
       }
 
-right-events-keep : (r : Rules) (o : Opening) (held : ℕ → List Version) (h : History) (w v : World) → 0 < r.attempts → AreBefore o held → Everything r o held h w → RightEvent r w v → HoldsStill r o held h v
-right-events-keep r o held h w v some before k (ByClient g) = by-client r o held h w v some before k (inl g) (ByClient g) refl tt
-right-events-keep r o held h w v some before k (ToClient g) = by-client r o held h w v some before k (inr g) (ToClient g) refl tt
-right-events-keep r o held h w v some before k (ToTarget g) = by-hearing r o held h w v some before k g
-right-events-keep r o held h w v some before k (ByTarget g) = by-idling r o held h w v some before k g
+right-events-keep : (r : Rules) (o : Opening) (held : ℕ → List Version) (h : History) (w v : World) → 0 < r.attempts → AreBefore o held → Everything r o held h w → AreUnpruned o v → RightEvent r w v → HoldsStill r o held h v
+right-events-keep r o held h w v some before k then (ByClient g) = by-client r o held h w v some before k then (inl g) (ByClient g) refl tt
+right-events-keep r o held h w v some before k then (ToClient g) = by-client r o held h w v some before k then (inr g) (ToClient g) refl tt
+right-events-keep r o held h w v some before k then (ToTarget g) = by-hearing r o held h w v some before k then g
+right-events-keep r o held h w v some before k then (ByTarget g) = by-idling r o held h w v some before k then g
+
+-- what is kept of a container depends on the containers alone
+row-same : (d e : Durable) (c : ContId) → e.conts ≡ d.conts → row_of e c ≡ row_of d c
+unfolding row_of
+row-same d e c same = ap (λ rows. row_or_new c (find (is_row_of c) rows)) same
+
+-- an event aggregates nothing
+stay-unpruned : (r : Rules) (o : Opening) (w v : World) → AreUnpruned o w → Event r w v → AreUnpruned o v
+stay-unpruned r o w v k e t z cont at =
+    let s = events-keep-targets r w v e t z at in
+    subst (λ y. y.aggregated.0 ≤ top o) (sym (row-same s.0.durable z.durable cont s.2.keeps.conts)) (k t s.0 cont s.1)
 
 -- every event is a right one
 pub events-keep-everything : EventsKeepEverything
-events-keep-everything r o held h w v some before k e = right-events-keep r o held h w v some before k (events-are-right r h w v k.facts.attempts e)
+events-keep-everything r o held h w v some before k e = right-events-keep r o held h w v some before k (stay-unpruned r o w v k.unpruned e) (events-are-right r h w v k.facts.attempts e)
 
 -- ---- runs
 

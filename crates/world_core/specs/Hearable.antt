@@ -37,7 +37,7 @@ use Rattle.world_base.specs.declared.letter.Letter.{Letter}
 use Rattle.world_base.specs.declared.target.TargetState.{TargetState}
 use Rattle.world_base.specs.declared.target.Life.TheVariants.{Running}
 use Rattle.world_base.specs.declared.world.World.{World}
-use Rattle.world_core.specs.Asking.{own-epoch, question-form, requests-are-right}
+use Rattle.world_core.specs.Asking.{own-epoch, question-form, requests-are-right, plainly}
 use Rattle.world_core.specs.Commits.{commits-are-new}
 use Rattle.world_core.specs.Everything.{AreBefore, Everything}
 use Rattle.world_core.specs.ScriptForm.{writes-declared}
@@ -53,6 +53,7 @@ use Rattle.world_base.specs.Requests.{request_epoch}
 use Rattle.world_base.specs.RightTurns.{TellsOfOthers}
 use Rattle.world_core.specs.Begins.{AreEnlisted, declared_conts}
 use Rattle.world_core.specs.Sharing.{leader-writes, members-below, others-write}
+use Rattle.world_epochs.specs.PlainScripts.{at-none}
 
 -- ---- the statement
 
@@ -255,14 +256,14 @@ module _ (r : Rules) (o : Opening) (held : ℕ → List Version) (h : History) (
         absent = sym (entry-here e.attempt) ∙ (k.facts.attempts.each e.attempt).awaited.before t l (has-from_contains w.messages l among) (prepare-to l t e first ws inc says to)
 
         epochs : (f : Epoch) → Some e.epoch ≡ Some f → IsItsEpoch o w e.attempt (Some e.epoch) f
-        epochs f is = subst (λ g. IsItsEpoch o w e.attempt (Some e.epoch) g) (let one : e.epoch ≡ f = cc in one) (own-epoch r o w e.attempt e.epoch k.facts.judged.epochs (contains-from_has w.issued (e.attempt, e.epoch) p.issued))
+        epochs f is = subst (λ g. IsItsEpoch o w e.attempt (Some e.epoch) g) (let one : e.epoch ≡ f = cc in one) (own-epoch r o w e.attempt e.epoch (plainly r o h w k.facts) (contains-from_has w.issued (e.attempt, e.epoch) p.issued))
 
         its-place : (l : Letter) (e : Entry) (first : Option Epoch) (ws : List MinorWrite) (inc : ℕ) → l.message ≡ message.Prepare e first ws inc → Contains w.messages l → IsPlaced (crowd r.script) e
         its-place l e first ws inc says among = (subst (ComesFrom (crowd r.script) l.from) says (k.facts.addressed.letters l among).comes).1
 
     can-serve : (x : AttemptId) (op group : ℕ) (read : Read) (snapshot : Bool) → IsFetchRight r t x op group read snapshot → CanServe s.durable read snapshot
     can-serve x op group read snapshot f = record {
-      now = f.now;
+      now = f.at ∙ at-none r x k.facts.unsnapped;
       form = f.form;
       enlisted = enlisted (read_path read).cont (cont-declared r (read_path read) k.facts.form
           (read-declared r.script.objs read (question-form r.script.objs a.stage a.op read (all-at (IsOpInForm r.script.objs) (attempt_ops r.script x) a.at.0 a.op (ops-form r.script.targets r.script x k.facts.form) a.at.2) a.asks)));

@@ -18,6 +18,7 @@ use Rattle.world_talks.specs.Conversation.{Conversation}
 use Rattle.world_talks.specs.ConversationLaws.{hear-keeps, move-keeps}
 use Rattle.world_verdicts.specs.TurnLaws.{told-of, verdicts-by-counting, verdicts-by-hearing, verdicts-by-moves}
 use Rattle.world_verdicts.specs.Verdicts.{Agrees, Verdicts}
+use Rattle.world_epochs.specs.PlainLaws.{own-of, plain-epochs, whole-epochs}
 
 -- what is decided was issued its epoch
 abbrev pub DecidedIssued : History → World → Type 0
@@ -31,9 +32,9 @@ pub record Judged (r : Rules) (top : ℕ) (h : History) (w : World) : Type 0 whe
   pub verdicts : Verdicts r h w
 
 -- an attempt has one epoch, so the one that its client knows is that of its decision
-pub judged-agrees : (r : Rules) (top : ℕ) (h : History) (w : World) → Judged r top h w → Agrees r h w
-judged-agrees r top h w k n c a f e here at known decided =
-    k.epochs.one (attempt_id (client_plan r n) c a) f e (k.epochs.known n c a f here at known) (k.issued (attempt_id (client_plan r n) c a) e decided)
+pub judged-agrees : (r : Rules) (top : ℕ) (h : History) (w : World) → Unsnapped r → Judged r top h w → Agrees r h w
+judged-agrees r top h w U k n c a f e here at known decided =
+    k.epochs.one (attempt_id (client_plan r n) c a) f e (own-of r U w (attempt_id (client_plan r n) c a) f (k.epochs.known n c a f here at known)) (k.issued (attempt_id (client_plan r n) c a) e decided)
 
 -- each client is at the command of its number
 pub lines-stand : (r : Rules) (w : World) → Lines r w → ClientsStand r w
@@ -43,7 +44,7 @@ module _ (r : Rules) (top : ℕ) (h : History) (some : 0 < r.attempts) (U : Unsn
   judged-by-moves : KeptByMoves r (Judged r top h)
   judged-by-moves w n c here k = record {
     spoken = spoken-by-moves r some w n c here k.spoken;
-    epochs = (moves-keep r top some U (Conversation r) (talks-once r) (move-keeps r) (hear-keeps r) w n c here (k.spoken.talk, lines-stand r w k.spoken.lines, k.epochs)).2;
+    epochs = whole-epochs r U top _ (moves-keep r top some U (Conversation r) (talks-once r) (move-keeps r) (hear-keeps r) w n c here (k.spoken.talk, lines-stand r w k.spoken.lines, plain-epochs r U top w k.epochs)).2;
     issued = k.issued;
     verdicts = verdicts-by-moves r h w n c k.spoken.lines here k.verdicts;
   }
@@ -51,7 +52,7 @@ module _ (r : Rules) (top : ℕ) (h : History) (some : 0 < r.attempts) (U : Unsn
   judged-by-counting : KeptByCounting (Judged r top h)
   judged-by-counting w n j c here k = record {
     spoken = spoken-by-counting r w n j c here k.spoken;
-    epochs = counting-keeps r top some U (Conversation r) (talks-once r) (move-keeps r) (hear-keeps r) w n j c here k.epochs;
+    epochs = whole-epochs r U top _ (counting-keeps r top some U (Conversation r) (talks-once r) (move-keeps r) (hear-keeps r) w n j c here (plain-epochs r U top w k.epochs));
     issued = k.issued;
     verdicts = verdicts-by-counting r h w n j c here k.verdicts;
   }
@@ -59,9 +60,9 @@ module _ (r : Rules) (top : ℕ) (h : History) (some : 0 < r.attempts) (U : Unsn
   judged-by-hearing : KeptByHearing r (Judged r top h)
   judged-by-hearing w n c l rest here awake takes to k = record {
     spoken = spoken-by-hearing r w n c l rest here awake takes to k.spoken;
-    epochs = (hearing-keeps r top some U (Conversation r) (talks-once r) (move-keeps r) (hear-keeps r) w n c l rest here awake takes to (k.spoken.talk, lines-stand r w k.spoken.lines, k.epochs)).2;
+    epochs = whole-epochs r U top _ (hearing-keeps r top some U (Conversation r) (talks-once r) (move-keeps r) (hear-keeps r) w n c l rest here awake takes to (k.spoken.talk, lines-stand r w k.spoken.lines, plain-epochs r U top w k.epochs)).2;
     issued = k.issued;
-    verdicts = verdicts-by-hearing r h w n c l rest k.spoken.talk k.spoken.endings k.verdicts (judged-agrees r top h w k) here takes to;
+    verdicts = verdicts-by-hearing r h w n c l rest k.spoken.talk k.spoken.endings k.verdicts (judged-agrees r top h w U k) here takes to;
   }
 
   pub judged-goes : (w v : World) → Judged r top h w → ClientGoes r w v → Judged r top h v

@@ -19,7 +19,7 @@ use Rattle.world_core.specs.BeginLaws.{get-map}
 use Rattle.world_core.specs.Begins.{IsBegun, IsSimple, StartsWith, first_client, held_at, no_history}
 use Rattle.world_core.specs.Whole.{StaysWhole, Whole, held-before, whole-begins, whole-stays}
 use Rattle.world_causes.specs.CauseLaws.{causes-begin, causes-kept}
-use Rattle.world_causes.specs.Causes.{Causes, Stored, stored_in}
+use Rattle.world_causes.specs.Causes.{PlainCauses, Stored, stored_in}
 use Rattle.world_causes.specs.FirstLaws.{events-keep-firsts}
 use Rattle.world_causes.specs.Firsts.{Firsts}
 use Rattle.world_causes.specs.IssuedOnce.{IssuedOnce, events-keep-issued-once}
@@ -33,6 +33,7 @@ use Rattle.world_core.specs.Judged.{lines-stand}
 use Rattle.world_base.specs.Events.{Begins, Event, Goes, RightEvent, Rules, Run}
 use Rattle.world_ends.specs.Born.{born-stays}
 use Rattle.world_ends.specs.PlainCauses.{plain-causes}
+use Rattle.world_core.specs.Asking.{plainly}
 
 -- ---- the statement
 
@@ -43,7 +44,7 @@ pub record Carried (r : Rules) (o : Opening) (held : ℕ → List Version) (h : 
   pub firsts : Firsts w
   pub once : IssuedOnce w
   pub storing : Storing r h stored w
-  pub causes : Causes r o stored w
+  pub causes : PlainCauses r o stored w
 
 -- at some history, where some attempts were stored
 pub record CarriedBy (r : Rules) (o : Opening) (held : ℕ → List Version) (w : World) : Type 0 where
@@ -76,7 +77,7 @@ module _ (r : Rules) (o : Opening) (w : World) (A : IsSimple r) (B : IsBegun r o
       by true = (S.opens.floors cont).0
       by false = S.floor
 
-  causes-at-first : Causes r o [] w
+  causes-at-first : PlainCauses r o [] w
   causes-at-first = causes-begin r o w (record {
     messages = B.messages;
     issued = B.issued;
@@ -132,12 +133,12 @@ module _ (r : Rules) (o : Opening) (held : ℕ → List Version) (h : History) (
     talk = k.whole.all.facts.judged.spoken.talk;
     addressed = k.whole.all.facts.addressed;
     stand = lines-stand r w k.whole.all.facts.judged.spoken.lines;
-    epochs = k.whole.all.facts.judged.epochs;
+    epochs = (plainly r o h w k.whole.all.facts);
     attempts = k.whole.all.facts.attempts;
     asked = commits-are-new r o h w k.whole.all.facts;
     reads = k.whole.all.reads;
     firsts = k.firsts.messages;
-    written = versions-written r o held h w before k.whole.all.facts.judged.epochs k.whole.all.versions;
+    written = versions-written r o held h w before (plainly r o h w k.whole.all.facts) k.whole.all.versions;
     prepared = versions-prepared r o held h w k.whole.all.versions;
   }
 
@@ -162,8 +163,8 @@ module _ (r : Rules) (o : Opening) (held : ℕ → List Version) (h : History) (
     stored = stored_in r w v f ++ stored;
     carried = record {
       whole = s.whole;
-      firsts = events-keep-firsts r (top o) w v A.some_attempt A.unsnapped k.whole.all.facts.judged.spoken.talk G.stand k.whole.all.facts.judged.epochs k.firsts f;
-      once = events-keep-issued-once r (top o) w v k.whole.all.facts.judged.epochs k.once f;
+      firsts = events-keep-firsts r (top o) w v A.some_attempt A.unsnapped k.whole.all.facts.judged.spoken.talk G.stand (plainly r o h w k.whole.all.facts) k.firsts f;
+      once = events-keep-issued-once r (top o) w v (plainly r o h w k.whole.all.facts) k.once f;
       storing = events-keep-storing r o h s.still.later stored w v G k.causes (then-born v f s) k.storing f;
       causes = causes-kept r o h stored w v G k.causes f;
     };

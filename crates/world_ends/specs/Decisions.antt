@@ -27,12 +27,9 @@ use Rattle.world_attempts.specs.History.{History}
 use Rattle.world_reads.specs.Transactions.{decided_of, transactions}
 use Rattle.world_verdicts.specs.Verdicts.{HasWrites, IsOnItsWay, IsToldCommitted, Verdicts}
 use Rattle.world_ends.specs.Took.{all_committed, committed-has, committed_by, has-committed, is_committed, took-committed, with_writes}
+use Rattle.world_epochs.specs.PlainScripts.{NoSnapshots}
 
 -- ---- epochs apart
-
--- no attempt of a script reads at a snapshot
-abbrev pub NoSnapshots : Script → Type 0
-NoSnapshots s = (x : AttemptId) → snapshot_of s x ≡ None
 
 own-next : (s : Script) (a : Attempt) (attempts : List Attempt) → NoSnapshots s → own_epochs s (a ∷ attempts) ≡ epoch_or_none a.epoch ++ own_epochs s attempts
 unfolding own_epochs

@@ -13,7 +13,7 @@ use Rattle.world_attempts.specs.History.{History}
 use Rattle.world_base.specs.declared.target.TargetState.{TargetState}
 use Rattle.world_base.specs.declared.world.World.{World}
 use Rattle.world_causes.specs.Causes.{is_try}
-use Rattle.world_epochs.specs.Epochs.{Epochs, Unsnapped}
+use Rattle.world_epochs.specs.Epochs.{PlainEpochs, Unsnapped}
 use Rattle.world_base.specs.Events.{Rules}
 use Rattle.world_gots.specs.Gots.{Gots}
 use Rattle.world_lines.specs.EndingLaws.{Spoken}
@@ -21,6 +21,7 @@ use Rattle.world_lines.specs.LastLines.{AreDone, HasClients}
 use Rattle.world_reads.specs.Reads.{Reads}
 use Rattle.world_reads.specs.Versions.{Versions}
 use Rattle.world_verdicts.specs.Verdicts.{Verdicts}
+use Rattle.world_core.specs.Everything.{AreUnpruned}
 
 -- ---- the run
 
@@ -36,11 +37,12 @@ pub record IsPlain (r : Rules) (w : World) : Type 0 where
 
 pub record Facts (r : Rules) (o : Opening) (held : ℕ → List Version) (h : History) (w : World) : Type 0 where
   pub spoken : Spoken r w
-  pub epochs : Epochs r (top o) w
+  pub epochs : PlainEpochs r (top o) w
   pub verdicts : Verdicts r h w
   pub versions : Versions r o held h w
   pub reads : Reads r o h w
   pub gots : Gots r h w
+  pub unpruned : AreUnpruned o w
 
 -- ---- the end
 

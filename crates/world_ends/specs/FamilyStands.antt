@@ -27,6 +27,7 @@ use Rattle.world_reads.specs.Transactions.{counts_by, transactions}
 use Rattle.world_reads.specs.Versions.{VersionsStand, is_own_in, mark_of}
 use Rattle.model_laws.specs.FamilyLaws.{EachGivesOwn, HasNoneUnowned, IsFamilyInForm, as_of-objects, families-agree, families-stand_for}
 use Rattle.world_core.specs.ScriptForm.{of-end}
+use Rattle.base_types.specs.declared.id.ContId.{ContId}
 
 -- epochs that a lease covers are below a bound
 pub below-lease : (x l n : ℕ) → x / 256 ≤ l → l < n → x < n * 256
@@ -50,6 +51,7 @@ pub record StandTogether (r : Rules) (o : Opening) (held : ℕ → List Version)
   pub stand : (t : ℕ) (d : Durable) → slice_get F t ≡ Some d → VersionsStand r o (held t) h t d
   pub done : (t : ℕ) (d : Durable) (v : Version) → slice_get F t ≡ Some d → Contains d.versions v → v.done ≡ true
   pub no_snaps : (t : ℕ) (d : Durable) → slice_get F t ≡ Some d → d.snaps ≡ []
+  pub unpruned : (t : ℕ) (d : Durable) (cont : ContId) → slice_get F t ≡ Some d → (row_of d cont).aggregated.0 ≤ top o
   pub decided : AreDecided (transactions r.script h)
   pub forms : (t : Decided) → Contains (transactions r.script h) t → All (λ w. is_write_in_form w.write ≡ true) t.writes
   pub unowned : HasNoneUnowned o.stand.now
@@ -96,7 +98,7 @@ module _ (r : Rules) (o : Opening) (held : ℕ → List Version) (h : History) (
   own-gives t d at c own =
       matches-give (is_own_in r.script.targets t c.path.cont) (counts_by h) d.versions o.stand (transactions r.script h) (mark_of o d c.path.cont) (2 ^ 64) (k.stand t d at).single k.decided
       ((k.stand t d at).matches c.path.cont)
-      (mark-below (top o) (row_of d c.path.cont).aggregated.0 o.lease (2 ^ 56) refl ((k.stand t d at).unpruned c.path.cont) k.lease) c
+      (mark-below (top o) (row_of d c.path.cont).aggregated.0 o.lease (2 ^ 56) refl (k.unpruned t d c.path.cont at) k.lease) c
       (both (is_own r.script.targets t c) (c.path.cont.0 == c.path.cont.0) own (same_number c.path.cont.0))
 
   each-gives : EachGivesOwn F (counts F) (decided_map r o h)

@@ -22,8 +22,7 @@ use Rattle.world_core.specs.ScriptForm.{HaveUnits, write-in-form}
 use Rattle.world_epochs.specs.Epochs.{Unsnapped, is_unsnapped}
 use Rattle.world_base.specs.Events.{Rules, commands_or_none}
 use Rattle.world_gots.specs.FormLaws.{ops-form}
-use Rattle.world_ends.specs.Decisions.{NoSnapshots}
-use Rattle.world_ends.specs.PlainCauses.{reads-now}
+use Rattle.world_epochs.specs.PlainScripts.{command-plain, filter-at}
 
 -- ---- writes
 
@@ -56,37 +55,7 @@ no-ops n m (op ∷ ops) writes reads = by op.act refl
 
 -- ---- commands
 
--- what stands among those that pass a test stands in the list, and passes
-pub filter-at : {T : Type 0} (t : T → Bool) (xs : List T) (k : ℕ) (x : T) → slice_get (filter t xs) k ≡ Some x → (j : ℕ) × (slice_get xs j ≡ Some x) × (t x ≡ true)
-filter-at t [] k x at = let no : ⊥ = cc in absurd no
-filter-at {T = T} t (y ∷ ys) k x at = by (t y) refl k at (λ m. filter-at t ys m x)
-  where
-    by : (b : Bool) → t y ≡ b → (m : ℕ) → slice_get (if b then y ∷ filter t ys else filter t ys) m ≡ Some x
-        → ((i : ℕ) → slice_get (filter t ys) i ≡ Some x → (j : ℕ) × (slice_get ys j ≡ Some x) × (t x ≡ true)) → (j : ℕ) × (slice_get (y ∷ ys) j ≡ Some x) × (t x ≡ true)
-    by true e zero h rest = let same : y ≡ x = cc in (0, h, ap t (sym same) ∙ e)
-    by true e (suc m) h rest = let r = rest m h in (suc r.0, r.1, r.2)
-    by false e m h rest = let r = rest m h in (suc r.0, r.1, r.2)
-
--- an attempt's command bears a number, and neither makes a snapshot nor reads at one, nor aggregates
-pub command-plain : (r : Rules) (x : AttemptId) (d : Command) → Unsnapped r → command_of r.script x ≡ Some d → (is_unsnapped d ≡ true) × (is_numbered d ≡ true)
-unfolding command_of
-command-plain r x d plain at = by (slice_get r.script.clients x.client) refl at
-  where
-    by : (o : Option (List Command)) → slice_get r.script.clients x.client ≡ o → numbered_at x.command o ≡ Some d → (is_unsnapped d ≡ true) × (is_numbered d ≡ true)
-    by None e h = let no : ⊥ = cc in absurd no
-    by (Some list) e h =
-        let f = filter-at is_numbered list x.command d h in
-        (plain x.client f.0 d (ap (λ o. slice_get (commands_or_none o) f.0) e ∙ f.1), f.2)
-
--- no attempt reads at a snapshot
-pub no-snapshots : (r : Rules) → Unsnapped r → NoSnapshots r.script
-no-snapshots r plain x = by (command_of r.script x) refl
-  where
-    by : (o : Option Command) → command_of r.script x ≡ o → snapshot_or_none (command_of r.script x) ≡ None
-    by None e = ap snapshot_or_none e
-    by (Some d) e = ap snapshot_or_none e ∙ reads-now d (command-plain r x d plain e).0
-
--- and none makes one
+-- no attempt makes a snapshot
 pub no-snaps : (r : Rules) (x : AttemptId) (d : Command) → Unsnapped r → command_of r.script x ≡ Some d → is_unsnapped d ≡ false → ⊥
 no-snaps r x d plain at not_plain = let one = (command-plain r x d plain at).0 in let no : ⊥ = cc in no
 

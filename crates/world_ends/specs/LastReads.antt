@@ -37,13 +37,16 @@ use Rattle.world_core.specs.Begins.{IsOpeningPlain}
 use Rattle.world_base.specs.Events.{Rules}
 use Rattle.world_gots.specs.Gots.{IsLineServed}
 use Rattle.world_gots.specs.MoreLaws.{all-more}
-use Rattle.world_gots.specs.Right.{IsOfThisRun}
 use Rattle.world_gots.specs.ToldLaws.{lines-right, yes-is}
 use Rattle.world_attempts.specs.History.{History}
 use Rattle.world_reads.specs.Transactions.{decided_of, transactions}
 use Rattle.world_ends.specs.Decisions.{DecisionsTold, took-same_map}
 use Rattle.world_ends.specs.Ends.{Facts, IsOver, IsPlain, TellsPlain, is_sure, report_of, rules_of}
-use Rattle.world_ends.specs.FormLaws.{attempt-writes-form, no-snapshots}
+use Rattle.world_ends.specs.FormLaws.{attempt-writes-form}
+use Rattle.world_epochs.specs.PlainScripts.{no-snapshots}
+use Rattle.world_gots.specs.Right.{SeenHaveDkeys}
+use Rattle.world_reads.specs.Reads.{map_seen, map_then}
+use Rattle.world_epochs.specs.Epochs.{Unsnapped}
 
 -- ---- what is told and decided
 
@@ -83,6 +86,13 @@ opening-dkeys o k c e = k.unowned c (inl e)
 pub then-dkeys : (r : Rules) (o : Opening) (h : History) (targets : ℕ) (e : ℕ) → IsInForm targets r.script → IsOpeningPlain o → HasDkeys (as_of o.stand (taken_in (transactions r.script h)) e)
 then-dkeys r o h targets e form opens = as_of-dkeys o.stand (transactions r.script h) e (opening-dkeys o opens) (decided-form r h targets form)
 
+-- nor has the map that an attempt reads a cell without one
+seen-dkeys : (r : Rules) (o : Opening) (h : History) (targets : ℕ) → Unsnapped r → IsInForm targets r.script → IsOpeningPlain o → SeenHaveDkeys r o h
+seen-dkeys r o h targets plain form opens x e m seen =
+    let now : map_seen r o h x e ≡ Some (map_then r o h e) = ap (map_at r.script o.stand (taken_in (transactions r.script h)) e.0) (no-snapshots r plain x) in
+    let same : map_then r o h e ≡ m = cc in
+    subst HasDkeys same (then-dkeys r o h targets e.0 form opens)
+
 -- ---- maps that hold the same
 
 right-same : (ops : List Op) (m n : List CellValue) (a : Attempt) → SameMap m n → IsToldRight ops (Some m) a → IsToldRight ops (Some n) a
@@ -120,5 +130,5 @@ reads-legal g held h w resolved plain opens facts over tells = all-from_has (Att
         let none = no-snapshots (rules_of g) plain.unsnapped a.id in
         legal-same g.script g.opening.stand (taken_in (transactions g.script h)) (took g.script resolved w.lines) a none
         (λ e c. sym (took-same_map (rules_of g) g.opening h w resolved e (last-told g held h w plain facts over tells) c))
-        (lines-right (rules_of g) g.opening h g.script.targets a plain.form facts.reads.answers (λ e. then-dkeys (rules_of g) g.opening h g.script.targets e.0 plain.form opens)
-        (subst (IsOfThisRun g.script) (sym none) tt) (has-all (IsLineServed (rules_of g) h) (tries w.lines) a facts.gots.lines i))
+        (lines-right (rules_of g) g.opening h g.script.targets a plain.form facts.reads.answers (seen-dkeys (rules_of g) g.opening h g.script.targets plain.unsnapped plain.form opens)
+        (has-all (IsLineServed (rules_of g) h) (tries w.lines) a facts.gots.lines i))

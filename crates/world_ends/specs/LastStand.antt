@@ -1,5 +1,5 @@
 -- When a run is over, the targets stand for exactly what took effect.
-use Rattle.std.specs.Prelude.{ℕ, zero, suc, ◌≡◌, ◌^◌, ◌⊎◌, Bool, true, false, List, [], ◌∷◌, map, slice_get, All, Contains, Some, refl}
+use Rattle.std.specs.Prelude.{ℕ, zero, suc, ◌≡◌, ◌^◌, ◌⊎◌, Bool, true, false, List, [], ◌∷◌, map, slice_get, All, Contains, Some, refl, ◌≤◌}
 use Rattle.std.proofs.Common.{sym, ◌∙◌, subst}
 use Rattle.std.proofs.lemmas.List.Elements.{All-nil}
 use Rattle.base_types.specs.declared.report.Attempt.{Attempt}
@@ -12,10 +12,10 @@ use Rattle.daos_model.specs.declared.stand.SnapMap.{SnapMap}
 use Rattle.daos_model.specs.declared.stand.Stand.{Stand}
 use Rattle.daos_model.specs.declared.stand.Taken.{Taken}
 use Rattle.daos_model.specs.Attempts.{tries}
-use Rattle.daos_model.specs.Durables.{entry_of, is_entry_of}
+use Rattle.daos_model.specs.Durables.{entry_of, is_entry_of, row_of}
 use Rattle.daos_model.specs.Family.{resolved, stand}
 use Rattle.daos_model.specs.Finals.{IsKept, IsKeptIn, IsNewSnapshot, SnapsInTheEnd, StandInTheEnd}
-use Rattle.daos_model.specs.Opening.{Given, Opening}
+use Rattle.daos_model.specs.Opening.{Given, Opening, top}
 use Rattle.daos_model.specs.TookEffect.{took}
 use Rattle.world_base.specs.declared.target.TargetState.{TargetState}
 use Rattle.world_base.specs.declared.world.World.{World}
@@ -81,6 +81,7 @@ stands-last g held h w plain opens facts over tells = record {
       stand = λ t d at. let s = from-durables w.targets t d at in subst (VersionsStand (rules_of g) g.opening (held t) h t) s.2 (facts.versions.stand t s.0 s.1);
       done = λ t d v at i. let s = from-durables w.targets t d at in settled-done (rules_of g) g.opening (held t) h t w s.0 (facts.versions.stand t s.0 s.1) over s.1 v (subst (λ z. Contains z.versions v) (sym s.2) i);
       no_snaps = λ t d at. let s = from-durables w.targets t d at in subst (λ z. z.snaps ≡ []) s.2 (plain.no_snaps t s.0 s.1);
+      unpruned = λ t d cont at. let s = from-durables w.targets t d at in subst (λ z. (row_of z cont).aggregated.0 ≤ top g.opening) s.2 (facts.unpruned t s.0 cont s.1);
       decided = facts.versions.apart;
       forms = decided-form (rules_of g) h r.script.targets plain.form;
       unowned = opens.unowned;

@@ -84,7 +84,9 @@ forgotten-stands r o held h t d k done = record {
   epochs = λ x e f found d. let no : ⊥ = cc in absurd no;
   matches = k.matches;
   leased = k.leased;
-  unpruned = k.unpruned;
+  aggregated = k.aggregated;
+  clear = λ v i open'. absurd (settled v (done v i) open');
+  snapshots = record { floored = k.snapshots.floored; leased = k.snapshots.leased; kept = k.snapshots.kept; given = k.snapshots.given };
 }
   where
     settled : (v : Version) → v.done ≡ true → v.done ≡ false → ⊥
@@ -132,6 +134,7 @@ module _ (g : Given) (w v : World) (A : IsSimple (rules_of g)) (b : IsBegun (rul
     stand = λ t d at. let s = from-forgotten v.targets t d at in subst (VersionsStand (rules_of g) g.opening (held_at w t) c.h t) s.2 (stand-then t s.0 s.1);
     done = λ t d z at i. let s = from-forgotten v.targets t d at in done t s.0 s.1 z (subst (λ y. Contains y.versions z) (sym s.2) i);
     no_snaps = λ t d at. let s = from-forgotten v.targets t d at in subst (λ y. y.snaps ≡ []) s.2 (plain.no_snaps t s.0 s.1);
+    unpruned = λ t d cont at. let s = from-forgotten v.targets t d at in subst (λ y. (row_of y cont).aggregated.0 ≤ top g.opening) s.2 (subst (λ y. y.aggregated.0 ≤ top g.opening) (sym (forgotten-row s.0.durable cont)) (facts.unpruned t s.0 cont s.1));
     decided = facts.versions.apart;
     forms = decided-form (rules_of g) c.h g.script.targets plain.form;
     unowned = b.plain.unowned;

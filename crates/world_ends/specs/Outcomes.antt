@@ -37,10 +37,11 @@ use Rattle.world_lines.specs.Lines.{Lines}
 use Rattle.world_attempts.specs.History.{History}
 use Rattle.world_verdicts.specs.Verdicts.{HasWrites}
 use Rattle.world_ends.specs.Ends.{Facts, IsOver, IsPlain, TellsPlain, is_sure, report_of, rules_of}
-use Rattle.world_ends.specs.FormLaws.{no-ops, no-snaps, no-snapshots, some-op}
+use Rattle.world_ends.specs.FormLaws.{no-ops, no-snaps, some-op}
 use Rattle.world_ends.specs.StopLaws.{each-line, tries-undisturbed, try-comes}
 use Rattle.world_epochs.specs.Epochs.{Unsnapped}
 use Rattle.world_gots.specs.StepGots.{ops-of-attempt}
+use Rattle.world_epochs.specs.PlainScripts.{no-snapshots}
 
 -- ---- commands of attempts
 

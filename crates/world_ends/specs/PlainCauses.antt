@@ -17,14 +17,7 @@ use Rattle.world_core.specs.ScriptForm.{writes-declared}
 use Rattle.world_epochs.specs.Epochs.{Unsnapped, is_unsnapped}
 use Rattle.world_base.specs.Events.{Rules}
 use Rattle.world_gots.specs.FormLaws.{fit-object, ops-form, write-declared}
-
-pub reads-now : (d : Command) → is_unsnapped d ≡ true → snapshot_of_command d ≡ None
-reads-now (Run ops turns None) plain = refl
-reads-now (Run ops turns (Some name)) plain = let no : ⊥ = cc in absurd no
-reads-now (Snap name cont) plain = refl
-reads-now (Aggregate cont) plain = refl
-reads-now (Tell n) plain = refl
-reads-now (Skip turns) plain = refl
+use Rattle.world_epochs.specs.PlainScripts.{reads-now}
 
 pub plain-causes : (r : Rules) → Unsnapped r → IsInForm r.script.targets r.script → IsPlain r
 plain-causes r plain form = record { now = λ n place d at. reads-now d (plain n place d at); led = led }

@@ -12,6 +12,7 @@ use Rattle.world_base.specs.Events.{Rules, Run}
 use Rattle.world_attempts.specs.History.{History}
 use Rattle.world_ends.specs.Ends.{Facts, IsOver, IsPlain, TellsPlain, durables_of, report_of, rules_of}
 use Rattle.world_ends.specs.Laws.{reports-legal}
+use Rattle.world_core.specs.Asking.{plainly}
 
 -- Where all facts hold of a world, a run from there that ends, and whose targets then hold no snapshot, gives a legal report, and
 -- the targets stand for what it tells; if every outcome shows its cause.
@@ -26,11 +27,12 @@ RunsReportLegally =
 pub at-the-end : (r : Rules) (o : Opening) (held : ℕ → List Version) (h : History) (w : World) → Everything r o held h w → Facts r o held h w
 at-the-end r o held h w k = record {
   spoken = k.facts.judged.spoken;
-  epochs = k.facts.judged.epochs;
+  epochs = plainly r o h w k.facts;
   verdicts = k.facts.judged.verdicts;
   versions = k.versions;
   reads = k.reads;
   gots = k.facts.gots;
+  unpruned = k.unpruned;
 }
 
 pub plain-then : (r : Rules) (o : Opening) (held : ℕ → List Version) (h : History) (w : World) → Everything r o held h w → ((t : ℕ) (u : TargetState) → slice_get w.targets t ≡ Some u → u.durable.snaps ≡ []) → IsPlain r w

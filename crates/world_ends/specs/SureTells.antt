@@ -17,7 +17,7 @@ use Rattle.daos_model.specs.BoolLaws.{false_of}
 use Rattle.daos_model.specs.Durables.{same_attempt}
 use Rattle.daos_model.specs.Opening.{Opening}
 use Rattle.world_base.specs.declared.world.World.{World}
-use Rattle.world_causes.specs.Causes.{Causes, Dated, MeetsOther, Shows, Stored, is_try}
+use Rattle.world_causes.specs.Causes.{PlainCauses, Dated, MeetsOther, Shows, Stored, is_try}
 use Rattle.world_base.specs.Events.{Rules}
 use Rattle.world_ends.specs.Ends.{TellsPlain, is_sure}
 
@@ -25,12 +25,12 @@ use Rattle.world_ends.specs.Ends.{TellsPlain, is_sure}
 
 -- so it is where outcomes show their causes
 abbrev pub LinesTellSurely : Type 0
-LinesTellSurely = (r : Rules) (o : Opening) (stored : Stored) (w : World) → Causes r o stored w → TellsPlain w
+LinesTellSurely = (r : Rules) (o : Opening) (stored : Stored) (w : World) → PlainCauses r o stored w → TellsPlain w
 
 -- ---- what a line shows
 
 -- an attempt that a line tells of shows its cause, with some lines before it
-pub line-shows : (r : Rules) (o : Opening) (stored : Stored) (w : World) (a : Attempt) → Causes r o stored w → Has a (tries w.lines) → (before : List Line) × Shows r o stored w.issued before a.id a.outcome
+pub line-shows : (r : Rules) (o : Opening) (stored : Stored) (w : World) (a : Attempt) → PlainCauses r o stored w → Has a (tries w.lines) → (before : List Line) × Shows r o stored w.issued before a.id a.outcome
 line-shows r o stored w a C i = let k = line-of w.lines a i in (k.before, C.lines k.before a k.after k.among)
 
 shown-sure : (r : Rules) (o : Opening) (stored : Stored) (issued : Dated) (before : List Line) (x : AttemptId) (how : Outcome) → Shows r o stored issued before x how → is_sure how ≡ true

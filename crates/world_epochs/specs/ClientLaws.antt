@@ -22,7 +22,7 @@ use Rattle.world_base.specs.Events.{Rules, client_plan}
 use Rattle.world_base.specs.Letters.{asked_after, client, letter_of, letters_of, target}
 use Rattle.world_base.specs.StepLaws.{set-here, set-there}
 use Rattle.world_base.specs.Steps.{without}
-use Rattle.world_epochs.specs.Epochs.{AsksEpoch, AsksFirst, BearsEpoch, Epochs, InCause, IsAt, IsIssued, IsPast, IsPresent, IsTold, IsUnissued, ItsOwn, LacksEpoch, Told, answers_undated, issuer_of, reads_snapshot}
+use Rattle.world_epochs.specs.Epochs.{AsksEpoch, AsksFirst, BearsEpoch, PlainEpochs, InCause, IsAt, IsIssued, IsPast, IsPresent, IsTold, IsUnissued, ItsOwn, LacksEpoch, Told, answers_undated, issuer_of, reads_snapshot}
 use Rattle.world_epochs.specs.IssuedLists.{issued-push}
 use Rattle.world_epochs.specs.Lists.{all-each, at-set, contains-filter, contains-none, contains-one, each-push, one-value, same-number, tries-push}
 use Rattle.world_epochs.specs.TargetLaws.{later-unissued}
@@ -43,7 +43,7 @@ at-other-before r clients n d x off p = record { c = p.c; a = p.a; here = sym (s
 
 -- ---- a letter that is taken
 
-pub fewer-keeps : (r : Rules) (top : ℕ) (w : World) (rest : List Letter) → ((l : Letter) → Contains rest l → Contains w.messages l) → Epochs r top w → Epochs r top (without w rest)
+pub fewer-keeps : (r : Rules) (top : ℕ) (w : World) (rest : List Letter) → ((l : Letter) → Contains rest l → Contains w.messages l) → PlainEpochs r top w → PlainEpochs r top (without w rest)
 fewer-keeps r top w rest among E = record {
   few = E.few;
   one = E.one;
@@ -110,8 +110,8 @@ sent-one : (n : ℕ) (post : Option Post) (l : Letter) → Contains (letters_of 
 sent-one n None l h = absurd (contains-none l h)
 sent-one n (Some p) l h = (p, refl, contains-one (letter_of (client n) p) l h)
 
-pub quiet-keeps : (r : Rules) (top : ℕ) (w : World) (n : ℕ) (c d : ClientState) (post : Option Post) → Epochs r top w → IsQuiet r w n c d → SendsSome r top w n (set w.clients n d) post
-    → Epochs r top (after_quiet w n post d)
+pub quiet-keeps : (r : Rules) (top : ℕ) (w : World) (n : ℕ) (c d : ClientState) (post : Option Post) → PlainEpochs r top w → IsQuiet r w n c d → SendsSome r top w n (set w.clients n d) post
+    → PlainEpochs r top (after_quiet w n post d)
 quiet-keeps r top w n c d post E Q S = record {
   few = E.few;
   one = E.one;
@@ -235,7 +235,7 @@ line_of r n c a t = record t { id = attempt_id (client_plan r n) c a }
 abbrev pub after_ending : World → ℕ → Attempt → ClientState → World
 after_ending w n t d = record w { clients = set w.clients n d; lines = w.lines ++ line.Try t ∷ [] }
 
-pub ending-keeps : (r : Rules) (top : ℕ) (w : World) (n : ℕ) (c d : ClientState) (a : Present) (t : Attempt) → Epochs r top w → IsEnding r w n c d a t → Epochs r top (after_ending w n (line_of r n c a t) d)
+pub ending-keeps : (r : Rules) (top : ℕ) (w : World) (n : ℕ) (c d : ClientState) (a : Present) (t : Attempt) → PlainEpochs r top w → IsEnding r w n c d a t → PlainEpochs r top (after_ending w n (line_of r n c a t) d)
 ending-keeps r top w n c d a t E Q = record {
   few = E.few;
   one = E.one;

@@ -105,7 +105,7 @@ module _ (P : Known) (L : Spent) (t : TargetPlan) (opening : Epoch × FloorWhy) 
   commit-ends s k left (commit.IsSpent j i none is) f h = (
     IsSpent none (ap (λ z. z.1.issued) is),
     record {
-      says = subst (λ z. SaysAll P L z.1.posts) (sym is) (record { bears = λ x g h'. absurd h'; lacks = λ x same. subst (λ y. L y from) same (f.spent none); asks = λ x g h'. absurd h'; plain = refl; dated = refl }, tt);
+      says = subst (λ z. SaysAll P L z.1.posts) (sym is) (record { bears = λ x g h'. absurd h'; lacks = λ x same. subst (λ y. L y from) same.0 (f.spent none); asks = λ x g h'. absurd h'; plain = refl; dated = refl }, tt);
       parked = subst (λ z. AreParkedKnown P z.0.member.parked) (sym is) f.parked;
       ticks = subst (λ z. m.ticks ≤ z.0.ticks) (sym is) (omega arith);
       lines = ap (λ z. z.1.lines) is;

@@ -7,6 +7,7 @@ use Rattle.world_talks.specs.ConversationLaws.{conversations-stay, hear-keeps, m
 use Rattle.world_epochs.specs.Carried.{talks-once}
 use Rattle.world_epochs.specs.Epochs.{ClientsStand, Epochs, Unsnapped}
 use Rattle.world_epochs.specs.EventLaws.{clients-stand-kept, event-kept}
+use Rattle.world_epochs.specs.PlainLaws.{plain-epochs, whole-epochs}
 
 -- in a run without snapshots, where conversations are in order and each client is at the command of its number, each right event keeps
 -- what is said of epochs
@@ -18,7 +19,8 @@ abbrev pub EpochsStay : Type 0
 EpochsStay = (r : Rules) (top : ℕ) (w v : World) → 0 < r.attempts → Unsnapped r → Conversation r w → ClientsStand r w → Epochs r top w → RightRun r w v → Epochs r top v
 
 pub epochs-kept : EpochsAreKept
-epochs-kept r top w v some U talk S E g = event-kept r top some U (Conversation r) (talks-once r) (move-keeps r) (hear-keeps r) w v talk S E g
+epochs-kept r top w v some U talk S E g =
+    whole-epochs r U top v (event-kept r top some U (Conversation r) (talks-once r) (move-keeps r) (hear-keeps r) w v talk S (plain-epochs r U top w E) g)
 
 pub clients-stay : (r : Rules) (w v : World) → 0 < r.attempts → ClientsStand r w → RightRun r w v → ClientsStand r v
 clients-stay r w v some S Begins = S

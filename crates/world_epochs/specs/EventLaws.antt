@@ -16,7 +16,7 @@ use Rattle.world_base.specs.Events.{ByClient, ByTarget, ClientGoes, RightEvent, 
 use Rattle.world_base.specs.Letters.{client}
 use Rattle.world_base.specs.StepLaws.{by-going, by-hearing, by-next}
 use Rattle.world_base.specs.Steps.{KeptByCounting, KeptByHearing, KeptByMoves}
-use Rattle.world_epochs.specs.Epochs.{ClientsStand, Epochs, InCause, IsTold, ItsOwn, Unsnapped}
+use Rattle.world_epochs.specs.Epochs.{ClientsStand, PlainEpochs, InCause, IsTold, ItsOwn, Unsnapped, Epochs}
 use Rattle.world_epochs.specs.HeardLaws.{heard-keeps}
 use Rattle.world_epochs.specs.HearLaws.{quiet-client}
 use Rattle.world_epochs.specs.IssuedLists.{none-issued}
@@ -81,6 +81,7 @@ epochs-begin r top w B = record {
   one = λ x e f h. absurd (contains-none (x, e) (subst (λ is. Contains is (x, e)) B.issued h));
   apart = λ x y e h. absurd (contains-none (x, e) (subst (λ is. Contains is (x, e)) B.issued h));
   above = λ x e h. absurd (contains-none (x, e) (subst (λ is. Contains is (x, e)) B.issued h));
+  own = λ x e h. absurd (contains-none (x, e) (subst (λ is. Contains is (x, e)) B.issued h));
   issued_by = λ x e h. absurd (contains-none (x, e) (subst (λ is. Contains is (x, e)) B.issued h));
   issuer = λ x e h. absurd (contains-none (x, e) (subst (λ is. Contains is (x, e)) B.issued h));
   leased = λ x e s h. absurd (contains-none (x, e) (subst (λ is. Contains is (x, e)) B.issued h));
@@ -94,11 +95,13 @@ epochs-begin r top w B = record {
   borne = λ l x e h. absurd (contains-none l (subst (λ ls. Contains ls l) B.messages h));
   entered = λ t s k here h. absurd (contains-none k (subst (λ ks. Contains ks k) (B.entries t s here) h));
   parked = λ t s p here h. absurd (contains-none p (subst (λ ps. Contains ps p) (B.parked t s here) h));
-  plain = λ l h. absurd (contains-none l (subst (λ ls. Contains ls l) B.messages h));
+  reads = λ l h. absurd (contains-none l (subst (λ ls. Contains ls l) B.messages h));
   known = λ n c a e here at. let none : c.present ≡ None = (B.clients n c here).0 in let no : ⊥ = cc in absurd no;
   tracked = λ n c a e here at. let none : c.present ≡ None = (B.clients n c here).0 in let no : ⊥ = cc in absurd no;
   unknown = λ n c a here at. let none : c.present ≡ None = (B.clients n c here).0 in let no : ⊥ = cc in absurd no;
   unasked = λ n c a here at. let none : c.present ≡ None = (B.clients n c here).0 in let no : ⊥ = cc in absurd no;
+  seen = λ n c a here at. let none : c.present ≡ None = (B.clients n c here).0 in let no : ⊥ = cc in absurd no;
+  unmade = λ n c a here at. let none : c.present ≡ None = (B.clients n c here).0 in let no : ⊥ = cc in absurd no;
   trackers = λ n c here. ((B.clients n c here).1, λ e t. absurd (nothing-told n e t));
   rises = λ x e f p h. absurd (contains-none (x, e) (subst (λ is. Contains is (x, e)) B.issued h));
   same_command = λ x y e f h. absurd (contains-none (x, e) (subst (λ is. Contains is (x, e)) B.issued h));
@@ -120,7 +123,7 @@ epochs-begin r top w B = record {
 -- where moves and hearing keep what is said of conversations, by which each client has at most one letter in flight
 module _ (r : Rules) (top : ℕ) (some : 0 < r.attempts) (U : Unsnapped r) (Talk : World → Type 0) (once : (w : World) → Talk w → TalksOnce w) (moves : KeptByMoves r Talk) (hearing : KeptByHearing r Talk) where
   abbrev pub All : World → Type 0
-  All w = Talk w × ClientsStand r w × Epochs r top w
+  All w = Talk w × ClientsStand r w × PlainEpochs r top w
 
   pub moves-keep : KeptByMoves r All
   moves-keep w n c here p = (moves w n c here p.0, stands-by-moves r some w n c here p.1, moved-keeps r top w n c U p.1 p.2 here (λ idle. silent-unless w n c (once w p.0) here idle))
@@ -130,17 +133,17 @@ module _ (r : Rules) (top : ℕ) (some : 0 < r.attempts) (U : Unsnapped r) (Talk
       (hearing w n c l rest here awake takes to p.0, stands-by-hearing r some w n c l rest here awake takes to p.1, heard-keeps r top w n c l rest U (once w p.0) p.1 p.2 here takes to)
 
   -- a turn that is skipped is counted
-  pub counting-keeps : (w : World) (n k : ℕ) (c : ClientState) → slice_get w.clients n ≡ Some c → Epochs r top w → Epochs r top (with_client n (record c { skip = k }) w)
+  pub counting-keeps : (w : World) (n k : ℕ) (c : ClientState) → slice_get w.clients n ≡ Some c → PlainEpochs r top w → PlainEpochs r top (with_client n (record c { skip = k }) w)
   counting-keeps w n k c here E = quiet-client r top w n c (record c { skip = k }) E (quiet-same r top w n c (record c { skip = k }) E here (omega arith) refl refl)
 
-  goes-kept : (w v : World) → All w → ClientGoes r w v → Epochs r top v
-  goes-kept w v p g = subst (λ z. Epochs r top z) (sym g.after) (by g.turn)
+  goes-kept : (w v : World) → All w → ClientGoes r w v → PlainEpochs r top v
+  goes-kept w v p g = subst (λ z. PlainEpochs r top z) (sym g.after) (by g.turn)
     where
-      by : NextTurn (client_plan r g.n) g.c g.did g.d → Epochs r top (with_client g.n g.d (after_turn w (client g.n) g.did w.messages))
+      by : NextTurn (client_plan r g.n) g.c g.did g.d → PlainEpochs r top (with_client g.n g.d (after_turn w (client g.n) g.did w.messages))
       by (Skipped skips says after) = rw (after, says, append-nil w.messages, append-nil w.issued, append-nil w.lines) (counting-keeps w g.n (g.c.skip - 1) g.c g.here p.2)
       by (Went_on runs did) = rw (did.issued, append-nil w.issued) (by-going r All moves-keep w g.n g.c g.d g.did.posts g.did.lines g.here p did.goes_on).2
 
-  pub event-kept : (w v : World) → Talk w → ClientsStand r w → Epochs r top w → RightEvent r w v → Epochs r top v
+  pub event-kept : (w v : World) → Talk w → ClientsStand r w → PlainEpochs r top w → RightEvent r w v → PlainEpochs r top v
   event-kept w v talk S E (ByClient g) = goes-kept w v (talk, S, E) g
   event-kept w v talk S E (ToClient g) = (by-hearing r All moves-keep hearing-keeps w v (talk, S, E) g).2
   event-kept w v talk S E (ToTarget g) = hears-kept r top w v (once w talk) E g

@@ -28,7 +28,7 @@ use Rattle.world_base.specs.Events.{Rules, client_plan, with_client, with_epoch}
 use Rattle.world_base.specs.Letters.{asked_after, client, letters_of, talk_of, target}
 use Rattle.world_base.specs.StepLaws.{set-here, set-twice}
 use Rattle.world_epochs.specs.ClientLaws.{IsQuiet, quiet-keeps, same-id}
-use Rattle.world_epochs.specs.Epochs.{AsksFirst, Epochs, IsIssued, IsUnissued, Unsnapped}
+use Rattle.world_epochs.specs.Epochs.{AsksFirst, PlainEpochs, IsIssued, IsUnissued, Unsnapped}
 use Rattle.world_epochs.specs.Lists.{contains-cons, contains-none}
 use Rattle.world_epochs.specs.MoveLaws.{AtWork, Keeps, ends-keeps, goes-keeps, quiet-goes, quiet-same, sends-nothing, sure-ends, unsaid-keeps}
 use Rattle.world_talks.specs.HearLaws.{greatest-above}
@@ -85,8 +85,8 @@ module _ (r : Rules) (top : ℕ) (w : World) (n : ℕ) where
   -- ---- what a client then knows
 
   -- the client as it is once it knows more
-  pub quiet-client : (c d : ClientState) → Epochs r top w → IsQuiet r w n c d → Epochs r top (with_client n d w)
-  quiet-client c d E Q = subst (λ ls. Epochs r top (record w { clients = set w.clients n d; messages = ls })) (append-nil w.messages) (quiet-keeps r top w n c d None E Q tt)
+  pub quiet-client : (c d : ClientState) → PlainEpochs r top w → IsQuiet r w n c d → PlainEpochs r top (with_client n d w)
+  quiet-client c d E Q = subst (λ ls. PlainEpochs r top (record w { clients = set w.clients n d; messages = ls })) (append-nil w.messages) (quiet-keeps r top w n c d None E Q tt)
 
   -- the operations of the attempt that a client is at are those of its command
   abbrev pub IsAtOps : ClientState → Present → Type 0
@@ -96,16 +96,16 @@ module _ (r : Rules) (top : ℕ) (w : World) (n : ℕ) where
   ops-stay c e a b command place number ops =
       ap (attempt_ops r.script) (same-id r n c e a b command number) ∙ ops ∙ ap (λ k. ops_or_none (slice_get (client_plan r n).commands k)) (sym place)
 
-  pub at-work : (c e : ClientState) (b : Present) → Epochs r top w → IsQuiet r w n c (at_present b e) → talk_of n w.messages ≡ [] → IsAtOps e b → AtWork r top (with_client n (at_present b e) w) n e b
+  pub at-work : (c e : ClientState) (b : Present) → PlainEpochs r top w → IsQuiet r w n c (at_present b e) → talk_of n w.messages ≡ [] → IsAtOps e b → AtWork r top (with_client n (at_present b e) w) n e b
   at-work c e b E Q silent ops = record { here = set-here w.clients n c (at_present b e) Q.here; silent = silent; epochs = quiet-client c (at_present b e) E Q; ops = ops }
 
   -- what it does then, it does at once
   pub twice-keeps : (d : ClientState) (m : Move) → Keeps r top (with_client n d w) n m → Keeps r top w n m
   twice-keeps d m E =
-      subst (λ cs. Epochs r top (record w { clients = cs; messages = w.messages ++ letters_of (client n) (listed m.post); asked = asked_after w.asked (letters_of (client n) (listed m.post)); lines = w.lines ++ map (with_epoch w.issued) (listed m.line) })) (set-twice w.clients n d m.state) E
+      subst (λ cs. PlainEpochs r top (record w { clients = cs; messages = w.messages ++ letters_of (client n) (listed m.post); asked = asked_after w.asked (letters_of (client n) (listed m.post)); lines = w.lines ++ map (with_epoch w.issued) (listed m.line) })) (set-twice w.clients n d m.state) E
 
   -- it knows the epoch of its attempt, where the answer bears it, or that it has none
-  pub quiet-knows : (c e : ClientState) (a : Present) (o : Option Epoch) → Epochs r top w → slice_get w.clients n ≡ Some c → c.present ≡ Some a → c.tracker.0 ≤ e.tracker.0 → e.command ≡ c.command
+  pub quiet-knows : (c e : ClientState) (a : Present) (o : Option Epoch) → PlainEpochs r top w → slice_get w.clients n ≡ Some c → c.present ≡ Some a → c.tracker.0 ≤ e.tracker.0 → e.command ≡ c.command
       → ((f : Epoch) → o ≡ Some f → IsIssued w (attempt_id (client_plan r n) c a) f × (f.0 ≤ e.tracker.0)) → (o ≡ None → IsUnissued w (attempt_id (client_plan r n) c a)) → IsQuiet r w n c (at_present (knows o a) e)
   quiet-knows c e a o E here at tracker command bears lacks = record {
     here = here;
@@ -138,7 +138,7 @@ module _ (r : Rules) (top : ℕ) (w : World) (n : ℕ) where
   -- ---- a request that is lost
 
   -- its attempt is over, and it is open what became of it
-  pub lost-keeps : (c e : ClientState) (a : Present) (how : Outcome) → Unsnapped r → Epochs r top w → slice_get w.clients n ≡ Some c → c.present ≡ Some a → c.tracker.0 ≤ e.tracker.0 → e.command ≡ c.command → e.place ≡ c.place → e.present ≡ c.present
+  pub lost-keeps : (c e : ClientState) (a : Present) (how : Outcome) → Unsnapped r → PlainEpochs r top w → slice_get w.clients n ≡ Some c → c.present ≡ Some a → c.tracker.0 ≤ e.tracker.0 → e.command ≡ c.command → e.place ≡ c.place → e.present ≡ c.present
       → IsAtOps c a → talk_of n w.messages ≡ [] → ((x : AttemptId) → x ≡ attempt_id (client_plan r n) e a → is_unknown how || is_lost x how ≡ true) → ((f : ℕ) → Contains (told_by how) f → ⊥) → Keeps r top w n (ends (client_plan r n) e (record a { waits = false }) how)
   lost-keeps c e a how U E here at tracker command place present ops silent told' nothing =
       twice-keeps (at_present a e) (ends (client_plan r n) e (record a { waits = false }) how)
@@ -146,7 +146,7 @@ module _ (r : Rules) (top : ℕ) (w : World) (n : ℕ) where
       (λ none known. let unsure : is_unknown how || is_lost (attempt_id (client_plan r n) e a) how ≡ true = told' (attempt_id (client_plan r n) e a) refl in let no : ⊥ = cc in absurd no) (λ f h. absurd (nothing f h)))
 
   -- it asks what became of its attempt
-  pub again-keeps : (c e : ClientState) (a : Present) (t : ℕ) → Epochs r top w → slice_get w.clients n ≡ Some c → c.present ≡ Some a → c.tracker.0 ≤ e.tracker.0 → e.command ≡ c.command
+  pub again-keeps : (c e : ClientState) (a : Present) (t : ℕ) → PlainEpochs r top w → slice_get w.clients n ≡ Some c → c.present ≡ Some a → c.tracker.0 ≤ e.tracker.0 → e.command ≡ c.command
       → a.waits ≡ true → Keeps r top w n (asks_again (client_plan r n) e (record a { waits = false }) t)
   again-keeps c e a t E here at tracker command waits' =
       unsaid-keeps r top w n c (asks_again (client_plan r n) e (record a { waits = false }) t) refl E

@@ -1,6 +1,6 @@
 -- A client that hears a message keeps what is said of epochs.
 use Rattle.std.specs.Prelude.{ℕ, ◌≡◌, ◌≤◌, ◌++◌, ◌&&◌, ◌||◌, Bool, true, false, List, [], ◌∷◌, Contains, slice_get, Option, Some, None, refl, if◌then◌else◌}
-use Rattle.std.proofs.Common.{sym, ap, subst, arith}
+use Rattle.std.proofs.Common.{sym, ap, subst, arith, ◌∙◌}
 use Rattle.std.proofs.lemmas.List.Elements.{Contains-append_left, Contains-append_right, Contains-push}
 use Rattle.std.proofs.lemmas.Option.{same_Some}
 use Rattle.base_types.specs.declared.answer.Answer.{Answer}
@@ -29,10 +29,10 @@ use Rattle.world_base.specs.Letters.{Takes, client, is_tell, talk_of}
 use Rattle.world_base.specs.Steps.{without}
 use Rattle.world_epochs.specs.Asking.{ops-at}
 use Rattle.world_epochs.specs.ClientLaws.{IsQuiet, fewer-keeps}
-use Rattle.world_epochs.specs.Epochs.{BearsEpoch, ClientsStand, Epochs, IsIssued, IsUnissued, LacksEpoch, Unsnapped, answers_undated}
+use Rattle.world_epochs.specs.Epochs.{BearsEpoch, ClientsStand, PlainEpochs, IsIssued, IsUnissued, LacksEpoch, Unsnapped, answers_undated}
 use Rattle.world_epochs.specs.HearLaws.{IsAtOps, again-keeps, at-work, greatest-has, lost-keeps, ops-stay, quiet-knows, replied-keeps, twice-keeps}
 use Rattle.world_epochs.specs.Lists.{contains-none}
-use Rattle.world_epochs.specs.MoveLaws.{Keeps, quiet-same, sure-ends, unsaid-keeps}
+use Rattle.world_epochs.specs.MoveLaws.{Keeps, quiet-same, sure-ends, unsaid-keeps, ends-keeps, quiet-goes}
 use Rattle.world_epochs.specs.Talking.{TalksOnce, taken-silent}
 use Rattle.world_talks.specs.HearLaws.{greatest-above}
 use Rattle.world_talks.specs.TalkLaws.{got-is-talk, left-is-among, taken-is-among}
@@ -40,7 +40,7 @@ use Rattle.world_talks.specs.TalkLaws.{got-is-talk, left-is-among, taken-is-amon
 -- a client at an attempt, which waited for a message that was taken
 record WasTold (r : Rules) (top : ℕ) (w : World) (n : ℕ) (c : ClientState) (a : Present) (m : Message) : Type 0 where
   unsnapped : Unsnapped r
-  epochs : Epochs r top w
+  epochs : PlainEpochs r top w
   here : slice_get w.clients n ≡ Some c
   at : c.present ≡ Some a
   waiting : a.waits ≡ true
@@ -65,7 +65,7 @@ told-later : (t : ℕ) (o : Option Epoch) (later : List ℕ) (f : ℕ) → Conta
 told-later t o later f h = greatest-has t (told_by_some o ++ later) f (Contains-append_right (told_by_some o) later f h)
 
 module _ (r : Rules) (top : ℕ) (w : World) (n : ℕ) where
-  goes-on : (c : ClientState) (m : Message) → Epochs r top w → slice_get w.clients n ≡ Some c → Keeps r top w n (goes (hears_epochs m c))
+  goes-on : (c : ClientState) (m : Message) → PlainEpochs r top w → slice_get w.clients n ≡ Some c → Keeps r top w n (goes (hears_epochs m c))
   goes-on c m E here = unsaid-keeps r top w n c (goes (hears_epochs m c)) refl E (quiet-same r top w n c (hears_epochs m c) E here (tracker-up c m) refl refl) tt
 
   -- a read is answered
@@ -99,31 +99,68 @@ module _ (r : Rules) (top : ℕ) (w : World) (n : ℕ) where
           (λ is. subst (λ y. IsUnissued w y) (sym own) (T.lacks x (lacks o is)))
 
   -- an attempt is ended
-  ended-keeps : (c : ClientState) (a : Present) (x : AttemptId) (o : Option Epoch) (how : Outcome) → WasTold r top w n c a (message.Ended x o how) → attempt_id (client_plan r n) c a ≡ x
-      → Keeps r top w n (ended (client_plan r n) (hears_epochs (message.Ended x o how) c) (knows o a) o how)
-  ended-keeps c a x o how T own =
-      twice-keeps r top w n (at_present (knows o a) e) (ends (client_plan r n) e (knows o a) how)
-      (sure-ends r top (with_client n (at_present (knows o a) e) w) n e (knows o a) a.conds how T.unsnapped (at-work r top w n c e (knows o a) T.epochs quiet (T.silent refl) (ops-stay r top w n c e a (knows o a) refl refl refl T.ops)) refl
-      (λ f h. told-later c.tracker.0 o (told_by how) f h))
-    where
-      d : ClientState
-      d = hears_epochs (message.Ended x o how) c
+  module _ (c : ClientState) (a : Present) (x : AttemptId) (o : Option Epoch) (how : Outcome) (T : WasTold r top w n c a (message.Ended x o how)) (own : attempt_id (client_plan r n) c a ≡ x) where
+    d : ClientState
+    d = hears_epochs (message.Ended x o how) c
 
-      e : ClientState
-      e = record d { known = snaps_known (command_at (client_plan r n) d) o how d.known }
+    abbrev Then : ClientState
+    Then = record (hears_epochs (message.Ended x o how) c) { known = snaps_known (command_at (client_plan r n) (hears_epochs (message.Ended x o how) c)) o how c.known }
 
-      bears : (k : Option Epoch) (f : Epoch) → k ≡ Some f → BearsEpoch (message.Ended x k how) x f
-      bears None f is = let no : ⊥ = cc in absurd no
-      bears (Some g) f is = (refl, same_Some g f is)
+    up : c.tracker.0 ≤ greatest c.tracker.0 (told_by_message (message.Ended x o how))
+    up = tracker-up c (message.Ended x o how)
 
-      lacks : (k : Option Epoch) → k ≡ None → LacksEpoch (message.Ended x k how) x
-      lacks None is = refl
-      lacks (Some g) is = let no : ⊥ = cc in absurd no
+    -- it hears of its epoch, or that there is none
+    told-keeps : ((o ≡ None) → is_lost x how ≡ false) → Keeps r top w n (ended (client_plan r n) (hears_epochs (message.Ended x o how) c) (knows o a) o how)
+    told-keeps known =
+        twice-keeps r top w n (at_present (knows o a) Then) (ends (client_plan r n) Then (knows o a) how)
+        (sure-ends r top (with_client n (at_present (knows o a) Then) w) n Then (knows o a) a.conds how T.unsnapped (at-work r top w n c Then (knows o a) T.epochs quiet (T.silent refl) (ops-stay r top w n c Then a (knows o a) refl refl refl T.ops)) refl
+        (λ f h. told-later c.tracker.0 o (told_by how) f h))
+      where
+        bears : (k : Option Epoch) (f : Epoch) → k ≡ Some f → BearsEpoch (message.Ended x k how) x f
+        bears None f is = let no : ⊥ = cc in absurd no
+        bears (Some g) f is = (refl, same_Some g f is)
 
-      quiet : IsQuiet r w n c (at_present (knows o a) e)
-      quiet = quiet-knows r top w n c e a o T.epochs T.here T.at (tracker-up c (message.Ended x o how)) refl
-          (λ f is. (subst (λ y. IsIssued w y f) (sym own) (T.bears x f (bears o f is)), told-some c.tracker.0 o (told_by how) f is))
-          (λ is. subst (λ y. IsUnissued w y) (sym own) (T.lacks x (lacks o is)))
+        lacks : (k : Option Epoch) → k ≡ None → is_lost x how ≡ false → LacksEpoch (message.Ended x k how) x
+        lacks None is sure = (refl, sure)
+        lacks (Some g) is sure = let no : ⊥ = cc in absurd no
+
+        quiet : IsQuiet r w n c (at_present (knows o a) Then)
+        quiet = quiet-knows r top w n c Then a o T.epochs T.here T.at up refl
+            (λ f is. (subst (λ y. IsIssued w y f) (sym own) (T.bears x f (bears o f is)), told-some c.tracker.0 o (told_by how) f is))
+            (λ is. subst (λ y. IsUnissued w y) (sym own) (T.lacks x (lacks o is (known is))))
+
+    -- it hears that the attempt itself is unresolved, which may have an epoch
+    lost-ended : o ≡ None → is_lost x how ≡ true → Keeps r top w n (ended (client_plan r n) (hears_epochs (message.Ended x o how) c) (knows o a) o how)
+    lost-ended none lost =
+        twice-keeps r top w n (at_present b Then) (ends (client_plan r n) Then (record b { waits = false }) how)
+        (ends-keeps r top (with_client n (at_present b Then) w) n Then b a.conds false how T.unsnapped (at-work r top w n c Then b T.epochs quiet (T.silent refl) (ops-stay r top w n c Then a b refl refl refl T.ops))
+        (λ off known. let unsure : is_unknown how || is_lost (attempt_id (client_plan r n) Then b) how ≡ true = unsure-by (is_unknown how) in let no : ⊥ = cc in absurd no)
+        (λ f h. told-later c.tracker.0 o (told_by how) f h))
+      where
+        b : Present
+        b = record (knows o a) { waits = true }
+
+        unsure-by : (u : Bool) → u || is_lost (attempt_id (client_plan r n) Then b) how ≡ true
+        unsure-by true = refl
+        unsure-by false = ap (λ y. is_lost y how) own ∙ lost
+
+        same : (k : Option Epoch) → knows_epoch k o ≡ k
+        same None = none
+        same (Some f) = refl
+
+        quiet : IsQuiet r w n c (at_present b Then)
+        quiet =
+            subst (λ z. IsQuiet r w n z (at_present b Then)) (ap (λ p. record c { present = p }) (sym T.at))
+            (quiet-goes r top w n c (at_present b Then) a b T.epochs (T.here ∙ ap (λ z. Some z) (ap (λ p. record c { present = p }) T.at)) up refl refl refl (same a.epoch) (λ off. let no : ⊥ = cc in absurd no)
+            (λ off f. record { group = f.group; next = f.next }))
+
+    ended-keeps : Keeps r top w n (ended (client_plan r n) (hears_epochs (message.Ended x o how) c) (knows o a) o how)
+    ended-keeps = by o (is_lost x how) refl refl
+      where
+        by : (k : Option Epoch) (l : Bool) → o ≡ k → is_lost x how ≡ l → Keeps r top w n (ended (client_plan r n) (hears_epochs (message.Ended x o how) c) (knows o a) o how)
+        by k false is sure = told-keeps (λ none. sure)
+        by None true is lost = lost-ended is lost
+        by (Some e) true is lost = told-keeps (λ none. let no : ⊥ = cc in absurd no)
 
   -- a request is lost
   unsure-lost : (c : ClientState) (a : Present) (x : AttemptId) → x ≡ attempt_id (client_plan r n) c a → is_unknown (outcome.Restart (Unresolved (attempt_id (client_plan r n) c a))) || is_lost x (outcome.Restart (Unresolved (attempt_id (client_plan r n) c a))) ≡ true
@@ -155,12 +192,12 @@ module _ (r : Rules) (top : ℕ) (w : World) (n : ℕ) where
   answered-keeps c a m T is = goes-on c m T.epochs T.here
 
 -- a client hears a message
-pub heard-keeps : (r : Rules) (top : ℕ) (w : World) (n : ℕ) (c : ClientState) (l : Letter) (rest : List Letter) → Unsnapped r → TalksOnce w → ClientsStand r w → Epochs r top w → slice_get w.clients n ≡ Some c → Takes w.messages l rest
+pub heard-keeps : (r : Rules) (top : ℕ) (w : World) (n : ℕ) (c : ClientState) (l : Letter) (rest : List Letter) → Unsnapped r → TalksOnce w → ClientsStand r w → PlainEpochs r top w → slice_get w.clients n ≡ Some c → Takes w.messages l rest
     → l.to ≡ client n → Keeps r top (without w rest) n (heard (client_plan r n) c l.message)
 unfolding heard
 heard-keeps r top w n c l rest U v S E here takes to = by c.present refl
   where
-    fewer : Epochs r top (without w rest)
+    fewer : PlainEpochs r top (without w rest)
     fewer = fewer-keeps r top w rest (λ m h. left-is-among w.messages l rest m takes h) E
 
     among : Contains w.messages l

@@ -16,5 +16,7 @@ pub mod MoveLaws
 pub mod HearLaws
 pub mod HeardLaws
 pub mod EventLaws
+pub mod PlainScripts
+pub mod PlainLaws
 pub mod Carried
 pub mod EpochLaws

@@ -35,7 +35,7 @@ use Rattle.world_base.specs.StepLaws.{set-here}
 use Rattle.world_base.specs.Steps.{after_client, after_move}
 use Rattle.world_epochs.specs.Asking.{asks-first, asks-nothing, begins-first, goes-first, issuer-asked, issuer-leads, ops-at}
 use Rattle.world_epochs.specs.ClientLaws.{ByAttempt, ByCommand, IsEnding, IsNext, IsQuiet, Sends, SendsSome, ending-keeps, quiet-keeps, same-id}
-use Rattle.world_epochs.specs.Epochs.{AsksEpoch, AsksFirst, BearsEpoch, ClientsStand, Epochs, IsAt, IsIssued, IsPast, IsTold, IsUnissued, LacksEpoch, Unsnapped, answers_undated, first_question, is_unsnapped, issuer_of, left_to_ask, reads_snapshot}
+use Rattle.world_epochs.specs.Epochs.{AsksEpoch, AsksFirst, BearsEpoch, ClientsStand, PlainEpochs, IsAt, IsIssued, IsPast, IsTold, IsUnissued, LacksEpoch, Unsnapped, answers_undated, first_question, is_unsnapped, issuer_of, left_to_ask, reads_snapshot}
 use Rattle.world_epochs.specs.Lists.{contains-none, epoch-found}
 use Rattle.world_epochs.specs.Talking.{asks-no_tell}
 use Rattle.world_epochs.specs.TargetLaws.{issued-behind}
@@ -43,24 +43,24 @@ use Rattle.world_talks.specs.TalkLaws.{none-among, sent-is-talk}
 
 -- what is said of epochs stands after a move
 abbrev pub Keeps : Rules → ℕ → World → ℕ → Move → Type 0
-Keeps r top w n m = Epochs r top (after_move w n m)
+Keeps r top w n m = PlainEpochs r top (after_move w n m)
 
 -- a client is at an attempt, and no letter between it and targets is in flight
 pub record AtWork (r : Rules) (top : ℕ) (w : World) (n : ℕ) (c : ClientState) (a : Present) : Type 0 where
   pub here : slice_get w.clients n ≡ Some (at_present a c)
   pub silent : talk_of n w.messages ≡ []
-  pub epochs : Epochs r top w
+  pub epochs : PlainEpochs r top w
   pub ops : attempt_ops r.script (attempt_id (client_plan r n) c a) ≡ ops_or_none (command_at (client_plan r n) c)
 
 -- ---- a move without a line
 
-pub unsaid-keeps : (r : Rules) (top : ℕ) (w : World) (n : ℕ) (c : ClientState) (m : Move) → m.line ≡ None → Epochs r top w → IsQuiet r w n c m.state → SendsSome r top w n (set w.clients n m.state) m.post → Keeps r top w n m
+pub unsaid-keeps : (r : Rules) (top : ℕ) (w : World) (n : ℕ) (c : ClientState) (m : Move) → m.line ≡ None → PlainEpochs r top w → IsQuiet r w n c m.state → SendsSome r top w n (set w.clients n m.state) m.post → Keeps r top w n m
 unsaid-keeps r top w n c m none E Q S =
-    subst (λ o. Epochs r top (after_client w n (listed m.post) (listed o) m.state)) (sym none)
-    (subst (λ ls. Epochs r top (record w { clients = set w.clients n m.state; messages = w.messages ++ letters_of (client n) (listed m.post); asked = asked_after w.asked (letters_of (client n) (listed m.post)); lines = ls })) (sym (append-nil w.lines)) (quiet-keeps r top w n c m.state m.post E Q S))
+    subst (λ o. PlainEpochs r top (after_client w n (listed m.post) (listed o) m.state)) (sym none)
+    (subst (λ ls. PlainEpochs r top (record w { clients = set w.clients n m.state; messages = w.messages ++ letters_of (client n) (listed m.post); asked = asked_after w.asked (letters_of (client n) (listed m.post)); lines = ls })) (sym (append-nil w.lines)) (quiet-keeps r top w n c m.state m.post E Q S))
 
 -- the same attempt, or none as before
-pub quiet-same : (r : Rules) (top : ℕ) (w : World) (n : ℕ) (c d : ClientState) → Epochs r top w → slice_get w.clients n ≡ Some c → c.tracker.0 ≤ d.tracker.0 → d.command ≡ c.command → d.present ≡ c.present → IsQuiet r w n c d
+pub quiet-same : (r : Rules) (top : ℕ) (w : World) (n : ℕ) (c d : ClientState) → PlainEpochs r top w → slice_get w.clients n ≡ Some c → c.tracker.0 ≤ d.tracker.0 → d.command ≡ c.command → d.present ≡ c.present → IsQuiet r w n c d
 quiet-same r top w n c d E here tracker command present = record {
   here = here;
   tracker = tracker;
@@ -74,7 +74,7 @@ quiet-same r top w n c d E here tracker command present = record {
 }
 
 -- an attempt of which as much is known as before
-pub quiet-goes : (r : Rules) (top : ℕ) (w : World) (n : ℕ) (c d : ClientState) (a b : Present) → Epochs r top w → slice_get w.clients n ≡ Some (at_present a c) → c.tracker.0 ≤ d.tracker.0 → d.command ≡ c.command
+pub quiet-goes : (r : Rules) (top : ℕ) (w : World) (n : ℕ) (c d : ClientState) (a b : Present) → PlainEpochs r top w → slice_get w.clients n ≡ Some (at_present a c) → c.tracker.0 ≤ d.tracker.0 → d.command ≡ c.command
     → d.present ≡ Some b → b.attempt ≡ a.attempt → b.epoch ≡ a.epoch → (b.waits ≡ false → a.waits ≡ false)
     → (a.epoch ≡ None → AsksFirst (attempt_ops r.script (attempt_id (client_plan r n) c a)) a → AsksFirst (attempt_ops r.script (attempt_id (client_plan r n) c a)) b) → IsQuiet r w n (at_present a c) d
 quiet-goes r top w n c d a b E here tracker command present number epoch idle first = record {
@@ -97,7 +97,7 @@ quiet-goes r top w n c d a b E here tracker command present number epoch idle fi
     own z at = same-id r n (at_present a c) d a z command (sym (ap (λ y. y.attempt) (is-now z at)) ∙ number)
 
 -- a first attempt of a command
-pub quiet-begins : (r : Rules) (top : ℕ) (w : World) (n : ℕ) (c : ClientState) → Epochs r top w → slice_get w.clients n ≡ Some c → c.present ≡ None → IsQuiet r w n c (at_present (begun 0 None None) c)
+pub quiet-begins : (r : Rules) (top : ℕ) (w : World) (n : ℕ) (c : ClientState) → PlainEpochs r top w → slice_get w.clients n ≡ Some c → c.present ≡ None → IsQuiet r w n c (at_present (begun 0 None None) c)
 quiet-begins r top w n c E here none = record {
   here = here;
   tracker = omega arith;
@@ -227,7 +227,7 @@ module _ (r : Rules) (top : ℕ) (w : World) (n : ℕ) where
       → (a.epoch ≡ None → is_unsure (its_line c a conds how) ≡ false → IsUnissued w (attempt_id (client_plan r n) c a)) → ((e : ℕ) → Contains (told_by how) e → e ≤ c.tracker.0)
       → Keeps r top w n (ends (client_plan r n) c (record a { conds = conds; waits = waits' }) how)
   ends-keeps c a conds waits' how U K unsure told =
-      subst (λ ls. Epochs r top (record w { clients = set w.clients n d; messages = ls; lines = w.lines ++ map (with_epoch w.issued) (listed (ends (client_plan r n) c (record a { conds = conds; waits = waits' }) how).line) })) (sym (append-nil w.messages))
+      subst (λ ls. PlainEpochs r top (record w { clients = set w.clients n d; messages = ls; lines = w.lines ++ map (with_epoch w.issued) (listed (ends (client_plan r n) c (record a { conds = conds; waits = waits' }) how).line) })) (sym (append-nil w.messages))
       (ending-keeps r top w n (at_present a c) d a (its_line c a conds how) K.epochs ending)
     where
       d : ClientState
@@ -330,7 +330,7 @@ module _ (r : Rules) (top : ℕ) (w : World) (n : ℕ) where
 
   -- ---- commands begin
 
-  command-keeps : (c : ClientState) (d : Command) → is_unsnapped d ≡ true → Epochs r top w → slice_get w.clients n ≡ Some c → c.present ≡ None → Keeps r top w n (command_moves (client_plan r n) c d)
+  command-keeps : (c : ClientState) (d : Command) → is_unsnapped d ≡ true → PlainEpochs r top w → slice_get w.clients n ≡ Some c → c.present ≡ None → Keeps r top w n (command_moves (client_plan r n) c d)
   command-keeps c (Run ops turns None) plain E here none = unsaid-keeps r top w n c (begins_at (client_plan r n) c None (first_epoch c.known None)) refl E (quiet-begins r top w n c E here none) tt
   command-keeps c (Run ops turns (Some name)) plain E here none = let no : ⊥ = cc in absurd no
   command-keeps c (Snap name cont) plain E here none = let no : ⊥ = cc in absurd no
@@ -344,7 +344,7 @@ module _ (r : Rules) (top : ℕ) (w : World) (n : ℕ) where
   present-at : (c : ClientState) (a : Present) → c.present ≡ Some a → c ≡ at_present a c
   present-at c a at = ap (λ o. record c { present = o }) at
 
-  moves-at-keeps : (c : ClientState) (o : Option Command) (present : Option Present) → Unsnapped r → ClientsStand r w → Epochs r top w → slice_get w.clients n ≡ Some c → talk_of n w.messages ≡ [] → command_at (client_plan r n) c ≡ o → c.present ≡ present
+  moves-at-keeps : (c : ClientState) (o : Option Command) (present : Option Present) → Unsnapped r → ClientsStand r w → PlainEpochs r top w → slice_get w.clients n ≡ Some c → talk_of n w.messages ≡ [] → command_at (client_plan r n) c ≡ o → c.present ≡ present
       → is_waiting present ≡ false → Keeps r top w n (moves_at (client_plan r n) c o present)
   moves-at-keeps c None present U S E here silent at is idle = unsaid-keeps r top w n c (rests c) refl E (quiet-same r top w n c c E here (omega arith) refl refl) tt
   moves-at-keeps c (Some d) None U S E here silent at is idle = command-keeps c d (U n c.place d at) E here is
@@ -353,7 +353,7 @@ module _ (r : Rules) (top : ℕ) (w : World) (n : ℕ) where
       attempt-keeps c a d U (U n c.place d at) (record { here = here ∙ ap (λ z. Some z) (present-at c a is); silent = silent; epochs = E; ops = ops-at r n c a told.0 is told.1 }) at is idle
 
   -- each move of a client that goes on keeps what is said of epochs, where no letter of its conversation is in flight unless it waits
-  pub moved-keeps : (c : ClientState) → Unsnapped r → ClientsStand r w → Epochs r top w → slice_get w.clients n ≡ Some c → (waits c ≡ false → talk_of n w.messages ≡ []) → Keeps r top w n (moved (client_plan r n) c)
+  pub moved-keeps : (c : ClientState) → Unsnapped r → ClientsStand r w → PlainEpochs r top w → slice_get w.clients n ≡ Some c → (waits c ≡ false → talk_of n w.messages ≡ []) → Keeps r top w n (moved (client_plan r n) c)
   unfolding moved
   moved-keeps c U S E here silent = by (waits c) refl
     where

@@ -37,7 +37,7 @@ use Rattle.world_base.specs.Requests.{epoch_of_ticks, issued_for, request_epoch}
 use Rattle.world_base.specs.RightTurns.{HearsRightly}
 use Rattle.world_base.specs.TargetTurns.{commit_request, fetch_request, prepare_request}
 use Rattle.world_epochs.specs.CommitTurns.{IsKnownCommit, commit-leaves}
-use Rattle.world_epochs.specs.Epochs.{AsksEpoch, BearsEpoch, Epochs, IsPresent, IsTold, IsUnissued, LacksEpoch, answers_undated, reads_snapshot}
+use Rattle.world_epochs.specs.Epochs.{AsksEpoch, BearsEpoch, PlainEpochs, IsPresent, IsTold, IsUnissued, LacksEpoch, answers_undated, reads_snapshot}
 use Rattle.world_epochs.specs.FetchTurns.{Covers, Dates, IsDated, IsKnownFetch, IsSpent, fetch-leaves}
 use Rattle.world_epochs.specs.MemberTurns.{GoesOn, ack-leaves, idle-leaves, mark-leaves, marked-leaves, prepare-leaves, query-leaves}
 use Rattle.world_epochs.specs.Sayings.{AreKnown, AreParkedKnown, Known, Leaves, Says, Spent, Stays, known-all, parked-all, says-each}
@@ -278,11 +278,11 @@ record AreOthers (r : Rules) (w : World) (rest : List Letter) (o : Option (Attem
 abbrev MaySpend : World → Option (AttemptId × Epoch) → Spent
 MaySpend w o x to = (to ≡ client x.client) × IsUnissued w x × (o ≡ None)
 
-turn-keeps : (r : Rules) (top : ℕ) (w : World) (t : ℕ) (s : TargetState) (new : Kept) (memory : TargetMemory) (did : Did) (rest : List Letter) → Epochs r top w → slice_get w.targets t ≡ Some s → AreOthers r w rest did.issued
+turn-keeps : (r : Rules) (top : ℕ) (w : World) (t : ℕ) (s : TargetState) (new : Kept) (memory : TargetMemory) (did : Did) (rest : List Letter) → PlainEpochs r top w → slice_get w.targets t ≡ Some s → AreOthers r w rest did.issued
     → MayIssue r top w t (target_after s new memory) did.issued → Leaves (issued_then w did.issued) (MaySpend w did.issued) s.memory (memory, did) → Stays (issued_then w did.issued) s.durable.lease new
-    → Epochs r top (with_target t (target_after s new memory) (after_turn w (target t) did rest))
+    → PlainEpochs r top (with_target t (target_after s new memory) (after_turn w (target t) did rest))
 turn-keeps r top w t s new memory did rest E here O I L S =
-    subst (λ ls. Epochs r top (record w { targets = set w.targets t (target_after s new memory); messages = rest ++ letters_of (target t) did.posts; asked = asked_after w.asked (letters_of (target t) did.posts); issued = w.issued ++ listed did.issued; lines = ls })) (sym lines)
+    subst (λ ls. PlainEpochs r top (record w { targets = set w.targets t (target_after s new memory); messages = rest ++ letters_of (target t) did.posts; asked = asked_after w.asked (letters_of (target t) did.posts); issued = w.issued ++ listed did.issued; lines = ls })) (sym lines)
     (target-keeps r top w t s (target_after s new memory) (rest ++ letters_of (target t) did.posts) (asked_after w.asked (letters_of (target t) did.posts)) did.issued E (record {
       here = here;
       life = refl;
@@ -311,7 +311,7 @@ turn-keeps r top w t s new memory did rest E here O I L S =
     lines = ap (λ ls. w.lines ++ map (with_epoch w.issued) ls) L.lines ∙ append-nil w.lines
 
 -- what is known when a turn begins, since the world knows it
-knows-then : (r : Rules) (top : ℕ) (w : World) (t : ℕ) (s : TargetState) (from : ActorId) (said : Message) (o : Option (AttemptId × Epoch)) → Epochs r top w → slice_get w.targets t ≡ Some s
+knows-then : (r : Rules) (top : ℕ) (w : World) (t : ℕ) (s : TargetState) (from : ActorId) (said : Message) (o : Option (AttemptId × Epoch)) → PlainEpochs r top w → slice_get w.targets t ≡ Some s
     → AreKnown (issued_then w o) s.durable.entries × AreParkedKnown (issued_then w o) s.memory.member.parked
 knows-then r top w t s from said o E here = (
   known-all (issued_then w o) s.durable.entries (λ k i. Contains-append_left w.issued (listed o) (k.attempt, k.epoch) (E.entered t s k here i)),
@@ -323,9 +323,9 @@ knows-then r top w t s from said o E here = (
 none-issued : (w : World) (o : Option (AttemptId × Epoch)) → o ≡ None → (x : AttemptId) (e : Epoch) → o ≡ Some (x, e) → ⊥
 none-issued w o none x e some = cc
 
-pub idles-kept : (r : Rules) (top : ℕ) (w v : World) → Epochs r top w → TargetIdles r w v → Epochs r top v
+pub idles-kept : (r : Rules) (top : ℕ) (w v : World) → PlainEpochs r top w → TargetIdles r w v → PlainEpochs r top v
 idles-kept r top w v E g =
-    subst (λ z. Epochs r top z) (sym g.after)
+    subst (λ z. PlainEpochs r top z) (sym g.after)
     (turn-keeps r top w g.t g.s g.new g.memory g.did w.messages E g.here
     (record { among = λ l i. i; asks = λ l x tracker e i a is. none-issued w g.did.issued k.issued x e is; lacks = λ l x e i a is. none-issued w g.did.issued k.issued x e is })
     (λ x e is. absurd (none-issued w g.did.issued k.issued x e is)) k.leaves k.stays)
@@ -338,9 +338,9 @@ idles-kept r top w v E g =
 
 -- ---- hearing
 
-pub hears-kept : (r : Rules) (top : ℕ) (w v : World) → TalksOnce w → Epochs r top w → TargetHearsRightly r w v → Epochs r top v
+pub hears-kept : (r : Rules) (top : ℕ) (w v : World) → TalksOnce w → PlainEpochs r top w → TargetHearsRightly r w v → PlainEpochs r top v
 hears-kept r top w v talk E g =
-    subst (λ z. Epochs r top z) (sym g.after)
+    subst (λ z. PlainEpochs r top z) (sym g.after)
     (turn-keeps r top w g.t g.s g.new g.memory g.did g.rest E g.here
     (record { among = in-rest; asks = λ l x t e h a is. other-asks l x t h a (asker x e is); lacks = λ l x e h a is. other-lacks l x h a (asker x e is) })
     (λ x e is. may-issue x e k.issuing is) k.leaves k.stays)

@@ -19,14 +19,14 @@ use Rattle.world_base.specs.ClientTurns.{attempt_id}
 use Rattle.world_base.specs.Events.{Rules, client_plan, listed}
 use Rattle.world_base.specs.Letters.{client}
 use Rattle.world_base.specs.StepLaws.{set-here, set-there}
-use Rattle.world_epochs.specs.Epochs.{AsksEpoch, BearsEpoch, BearsIssued, Epochs, HasLine, IsIssued, IsPast, IsPresent, IsTold, IsUnissued, LacksEpoch, answers_undated, issuer_of, reads_snapshot}
+use Rattle.world_epochs.specs.Epochs.{AsksEpoch, BearsEpoch, BearsIssued, PlainEpochs, HasLine, IsIssued, IsPast, IsPresent, IsTold, IsUnissued, LacksEpoch, answers_undated, issuer_of, reads_snapshot}
 use Rattle.world_epochs.specs.Lists.{at-set, contains-none, contains-one, one-value, same-number}
 use Rattle.world_epochs.specs.Sayings.{AreKnown, AreParkedKnown, Known, known-each, parked-each}
 
 -- ---- an attempt that has an epoch
 
 -- is present, or its client is past it
-pub issued-behind : (r : Rules) (top : ℕ) (w : World) (x : AttemptId) (e : Epoch) (c : ClientState) → Epochs r top w → IsIssued w x e → slice_get w.clients x.client ≡ Some c
+pub issued-behind : (r : Rules) (top : ℕ) (w : World) (x : AttemptId) (e : Epoch) (c : ClientState) → PlainEpochs r top w → IsIssued w x e → slice_get w.clients x.client ≡ Some c
     → IsPast c x ⊎ ((a : Present) × (c.present ≡ Some a) × (attempt_id (client_plan r x.client) c a ≡ x))
 issued-behind r top w x e c E h here = by (E.line x e h)
   where
@@ -35,7 +35,7 @@ issued-behind r top w x e c E h here = by (E.line x e h)
     by (inr k) = inl (subst (λ y. IsPast c y) k.2 (E.past k.0 c k.1 (subst (λ y. slice_get w.clients y.client ≡ Some c) (sym k.2) here)))
 
 -- no attempt of a command that is later than the present one has an epoch
-pub later-unissued : (r : Rules) (top : ℕ) (w : World) (x y : AttemptId) (e : Epoch) → Epochs r top w → IsPresent r w y → IsIssued w x e → x.client ≡ y.client → x.command ≡ y.command → y.attempt < x.attempt → ⊥
+pub later-unissued : (r : Rules) (top : ℕ) (w : World) (x y : AttemptId) (e : Epoch) → PlainEpochs r top w → IsPresent r w y → IsIssued w x e → x.client ≡ y.client → x.command ≡ y.command → y.attempt < x.attempt → ⊥
 later-unissued r top w x y e E p h same command later = by (issued-behind r top w x e p.c E h (subst (λ n. slice_get w.clients n ≡ Some p.c) (sym same) p.here))
   where
     number : p.a.attempt ≡ y.attempt
@@ -111,8 +111,8 @@ listed-cases (Some j) i h = ap (λ z. Some z) (contains-one j i h)
 pub listed-has : (o : Option (AttemptId × Epoch)) (i : AttemptId × Epoch) → o ≡ Some i → Contains (listed o) i
 listed-has o i e = subst (λ z. Contains (listed z) i) (sym e) (Contains-push [] i)
 
-pub target-keeps : (r : Rules) (top : ℕ) (w : World) (t : ℕ) (s new : TargetState) (letters unanswered : List Letter) (o : Option (AttemptId × Epoch)) → Epochs r top w → TargetDid r top w t s new letters o
-    → Epochs r top (after_target w t new letters unanswered o)
+pub target-keeps : (r : Rules) (top : ℕ) (w : World) (t : ℕ) (s new : TargetState) (letters unanswered : List Letter) (o : Option (AttemptId × Epoch)) → PlainEpochs r top w → TargetDid r top w t s new letters o
+    → PlainEpochs r top (after_target w t new letters unanswered o)
 target-keeps r top w t s new letters unanswered o E D = record {
   few = subst (λ n. n ≤ 256) (sym (length-set w.targets t new)) E.few;
   one = λ x e f h k. same-epoch x e f (was x e h) (was x f k);

@@ -47,7 +47,7 @@ use Rattle.world_core.specs.Begins.{held_at, versions_in}
 use Rattle.world_core.specs.Whole.{Whole, held-before, runs-stay-whole}
 use Rattle.world_causes.specs.Causes.{MessageShows}
 use Rattle.world_clients.specs.Answered.{is_refusal}
-use Rattle.world_core.specs.Asking.{Facts}
+use Rattle.world_core.specs.Asking.{Facts, plainly}
 use Rattle.world_core.specs.Commits.{commits-are-new}
 use Rattle.world_core.specs.Everything.{AreBefore}
 use Rattle.world_ends.specs.Carried.{runs-carry}
@@ -72,6 +72,7 @@ use Rattle.world_verdicts.specs.Verdicts.{HasWrites, IsOnItsWay, IsToldCommitted
 use Rattle.world_facts.specs.Incarnations.{NamesIt, VerdictsName, verdicts-name}
 use Rattle.world_facts.specs.Waiting.{undecided-awaits}
 use Rattle.world_facts.specs.Facts.{AtEachMoment, ClientsCarried, CountedOnce, CountsAsDecided, DecidedIsHeld, EndIsBeingAnswered, EndIsBeingMarked, EndIsBeingTold, EndIsTold, EpochsAboveTop, HasAbortedSign, HasDecidedSign, HasEntry, HasLine, HasVersion, IsBeingAnswered, IsBeingMarked, IsBeingTold, IsBorneOut, IsHeldCommitted, IsInFlight, IsMember, IsTarget, IsTold, LeaseCovers, MembersHoldAsOf, NamesIncarnation, NoneIsFrozen, NoneIsUnknown, NoneStops, OfAHistory, OneEpoch, OneVerdict, ReadsGuarded, ReplicasAgree, StampsTrue, StandsForHistory, VersionsOwned, is_aborted, is_of_no_stop}
+use Rattle.world_epochs.specs.PlainScripts.{at-none}
 
 -- ---- plain lemmas
 
@@ -359,9 +360,9 @@ module _ (r : Rules) (o : Opening) (held : ℕ → List Version) (h : History) (
     entries = entry-issued;
     stamps = λ t s z here i.
         let q = k.all.reads.stamps t s z here (k.running t s here) i in
-        subst (λ x. IsIssued v x z.epoch) q.3 (subst (λ e. IsIssued v q.0.by e) q.4 (k.all.reads.issued q.0 q.1));
-    messages = f.judged.epochs.borne;
-    parked = f.judged.epochs.parked;
+        subst (λ x. IsIssued v x z.epoch) q.3 (subst (λ e. IsIssued v q.0.by e) q.4 (k.all.reads.issued q.0 q.1 q.6));
+    messages = (plainly r o h v f).borne;
+    parked = (plainly r o h v f).parked;
     versions = version-issued;
     older = is-older;
     not_held = not-held;
@@ -474,7 +475,7 @@ module _ (r : Rules) (o : Opening) (held : ℕ → List Version) (h : History) (
   versions-give-as-of t s e here above c own =
       let d : VersionsStand r o (held t) h t s.durable = k.all.versions.stand t s here in
       matches-give (is_own_in r.script.targets t c.path.cont) (counts_by h) s.durable.versions o.stand (transactions r.script h) (mark_of o s.durable c.path.cont) e d.single k.all.versions.apart
-      (d.matches c.path.cont) (mark-low (top o) (row_of s.durable c.path.cont).aggregated.0 e (d.unpruned c.path.cont) above) c
+      (d.matches c.path.cont) (mark-low (top o) (row_of s.durable c.path.cont).aggregated.0 e (let low : (row_of s.durable c.path.cont).aggregated.0 ≤ top o = k.all.unpruned t s c.path.cont here in omega (arith, low, above)) above) c
       (both (is_own r.script.targets t c) (c.path.cont.0 == c.path.cont.0) own (same_number c.path.cont.0))
 
   pub replicas-agree : ReplicasAgree r o h v
@@ -488,7 +489,7 @@ module _ (r : Rules) (o : Opening) (held : ℕ → List Version) (h : History) (
   pub reads-stand : ReadsGuarded r o h v
   reads-stand = record {
     asked = k.all.reads.asked;
-    issued = k.all.reads.issued;
+    issued = λ q i. k.all.reads.issued q i (at-none r q.by k.all.facts.unsnapped);
     answers = k.all.reads.answers;
     barred = k.all.reads.barred;
     guarded = λ q s i here. k.all.reads.guarded q s i here (k.running q.target s here);
@@ -496,7 +497,7 @@ module _ (r : Rules) (o : Opening) (held : ℕ → List Version) (h : History) (
   }
 
   pub timestamps-are-served : StampsTrue r o h v
-  timestamps-are-served t s z here i = k.all.reads.stamps t s z here (k.running t s here) i
+  timestamps-are-served t s z here i = let q = k.all.reads.stamps t s z here (k.running t s here) i in (q.0, q.1, q.2, q.3, q.4, q.5)
 
   pub stands-for-history : StandsForHistory r o h v
   stands-for-history = record { as_of = versions-give-as-of; agree = replicas-agree; reads = reads-stand; stamps = timestamps-are-served }

@@ -266,7 +266,7 @@ ReplicasAgree r o h v =
 -- ---- reads
 
 -- Each read that was served is what its attempt asks, and the target is the one that is asked of that group. It was answered as the
--- decided attempts give as of its epoch. No unsettled version of its target that overlaps it lies below it, of whatever attempt. A
+-- decided attempts give as of its epoch, or as its snapshot holds it. No unsettled version of its target that overlaps it lies below it, of whatever attempt. A
 -- timestamp or the floor of its target refuses every write below it that overlaps it, and the lease covers it.
 pub record ReadsGuarded (r : Rules) (o : Opening) (h : History) (v : World) : Type 0 where
   pub asked : (q : Served) → Has q h.served → IsOfAttempt r q

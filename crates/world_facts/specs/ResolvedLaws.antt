@@ -229,7 +229,7 @@ module _ (r : Rules) (o : Opening) (held : ℕ → List Version) (h : History) (
   own-gives t s here c own =
       let d : VersionsStand r o (held t) all.later t s.durable = all.goes.stand t s here in
       matches-give (is_own_in r.script.targets t c.path.cont) (counts_by all.later) s.durable.versions o.stand (transactions r.script all.later) (mark_of o s.durable c.path.cont) (2 ^ 64) d.single all.goes.apart
-      (d.matches c.path.cont) (mark-below (top o) (row_of s.durable c.path.cont).aggregated.0 o.lease (2 ^ 56) refl (d.unpruned c.path.cont) plain.lease) c
+      (d.matches c.path.cont) (mark-below (top o) (row_of s.durable c.path.cont).aggregated.0 o.lease (2 ^ 56) refl (k.all.unpruned t s c.path.cont here) plain.lease) c
       (both (is_own r.script.targets t c) (c.path.cont.0 == c.path.cont.0) own (same_number c.path.cont.0))
 
   each-gives : EachGivesOwn (durables_of v) (counts (durables_of v)) resolved_map

@@ -30,13 +30,13 @@ use Rattle.daos_model.specs.Transactions.{attempt_ops, command_of}
 use Rattle.report_writer.specs.Forms.{IsAccessOf, IsAttemptId, IsCauseOf, IsCond, IsEpochOrNone, IsOutcomeOf, IsPathOf}
 use Rattle.world_causes.specs.Causes.{is_try}
 use Rattle.world_ends.specs.Ends.{rules_of}
-use Rattle.world_ends.specs.FormLaws.{command-plain}
 use Rattle.world_epochs.specs.Epochs.{Unsnapped, is_unsnapped}
 use Rattle.model_laws.specs.EntryLaws.{same-attempt}
 use Rattle.model_laws.specs.Lists.{any-all}
 use Rattle.script_runnable.specs.Keyed.{ScriptHasKeys}
 use Rattle.world_forms.specs.PathForms.{attempt-paths, attempt-writes}
 use Rattle.world_forms.specs.SpaceForms.{space-form}
+use Rattle.world_epochs.specs.PlainScripts.{command-plain}
 
 -- ---- what stands among lines of attempts
 

@@ -28,7 +28,6 @@ use Rattle.report_writer.specs.Forms.{IsAttemptOf, IsCond, IsEpochOrNone, IsGot,
 use Rattle.world_core.specs.ScriptForm.{ops-few}
 use Rattle.world_causes.specs.Causes.{is_try}
 use Rattle.world_ends.specs.Ends.{rules_of}
-use Rattle.world_ends.specs.FormLaws.{no-snapshots}
 use Rattle.world_epochs.specs.Epochs.{Unsnapped}
 use Rattle.world_gots.specs.FormLaws.{ops-form}
 use Rattle.world_forms.specs.AnswerForms.{told-form}
@@ -36,6 +35,7 @@ use Rattle.script_runnable.specs.Keyed.{MapHasKeys, ScriptHasKeys}
 use Rattle.world_forms.specs.KeyLaws.{as_of-keys, took-keys}
 use Rattle.world_forms.specs.NumberForms.{id-form}
 use Rattle.world_forms.specs.OutcomeForms.{ArePlainLines, outcome-form}
+use Rattle.world_epochs.specs.PlainScripts.{no-snapshots}
 
 -- ---- the statement
 

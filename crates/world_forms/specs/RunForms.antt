@@ -19,12 +19,13 @@ use Rattle.world_ends.specs.Carried.{CarriedBy, runs-carry}
 use Rattle.world_ends.specs.Ends.{report_of, rules_of}
 use Rattle.world_ends.specs.FromBeginning.{runs-give-the-headline}
 use Rattle.world_ends.specs.SureTells.{tells-plain}
-use Rattle.world_epochs.specs.Epochs.{Epochs, IsIssued}
+use Rattle.world_epochs.specs.Epochs.{PlainEpochs, IsIssued}
 use Rattle.world_base.specs.Ended.{HasEnded}
 use Rattle.world_base.specs.Events.{Rules, Run}
 use Rattle.world_reads.specs.Versions.{Versions}
 use Rattle.script_runnable.specs.Keyed.{CellHasKeys, MapHasKeys, ScriptHasKeys}
 use Rattle.world_forms.specs.ReportForms.{IsPlainReport, report-form}
+use Rattle.world_core.specs.Asking.{plainly}
 
 -- ---- the statements
 
@@ -45,7 +46,7 @@ FreshRunsReportInForm =
 -- An epoch that a line tells of is below 2^64: the lease of the target that issued it covers its ticks.
 abbrev pub EpochsAreShort : Type 0
 EpochsAreShort =
-    (r : Rules) (o : Opening) (held : ℕ → List Version) (h : History) (w : World) → Epochs r (top o) w → Versions r o held h w → All (λ a. IsEpochOrNone a.epoch) (tries w.lines)
+    (r : Rules) (o : Opening) (held : ℕ → List Version) (h : History) (w : World) → PlainEpochs r (top o) w → Versions r o held h w → All (λ a. IsEpochOrNone a.epoch) (tries w.lines)
 
 -- ---- epochs
 
@@ -84,7 +85,7 @@ runs-report-in-form g w v A b run ended byte keys opening = report-form g undist
       allowed = A.some_attempt;
       byte = byte;
       attempts = (tells-plain (rules_of g) g.opening c.stored v c.carried.causes).attempts;
-      epochs = epochs-are-short (rules_of g) g.opening (held_at w) c.h v c.carried.whole.all.facts.judged.epochs c.carried.whole.all.versions;
+      epochs = epochs-are-short (rules_of g) g.opening (held_at w) c.h v (plainly (rules_of g) g.opening c.h v c.carried.whole.all.facts) c.carried.whole.all.versions;
       up = refl;
     }
 

@@ -1,5 +1,5 @@
 -- What follows from that clients were told what was served: where that was answered right, so was what they were told.
-use Rattle.std.specs.Prelude.{ℕ, ◌≡◌, List, All, find, Option, Some, None}
+use Rattle.std.specs.Prelude.{ℕ, ◌≡◌, List, All, Some, None}
 use Rattle.base_types.specs.declared.answer.Answer.{Answer}
 use Rattle.base_types.specs.declared.epoch.Epoch.{Epoch}
 use Rattle.base_types.specs.declared.id.AttemptId.{AttemptId}
@@ -9,7 +9,6 @@ use Rattle.base_types.specs.declared.operation.Read.{Read}
 use Rattle.base_types.specs.declared.operation.Read.TheVariants as read
 use Rattle.base_types.specs.declared.report.Attempt.{Attempt}
 use Rattle.base_types.specs.declared.report.Report.{Report}
-use Rattle.base_types.specs.declared.script.Script.{Script}
 use Rattle.base_types.specs.Operations.{read_path}
 use Rattle.base_types.specs.Placement.{ClassFits}
 use Rattle.base_types.specs.Scripts.{IsInForm, IsOpInForm}
@@ -17,15 +16,15 @@ use Rattle.model_laws.specs.Decided.{taken_in}
 use Rattle.model_laws.specs.Groups.{HasDkeys}
 use Rattle.model_laws.specs.Members.{Has}
 use Rattle.daos_model.specs.Answers.{answer}
-use Rattle.daos_model.specs.Attempts.{snapshot_of}
 use Rattle.daos_model.specs.Opening.{Opening}
-use Rattle.daos_model.specs.ReadsLegal.{AttemptReadsLegal, IsToldRight, ReadsLegal, is_named}
+use Rattle.daos_model.specs.ReadsLegal.{AttemptReadsLegal, IsToldRight, ReadsLegal}
 use Rattle.world_base.specs.declared.world.World.{World}
 use Rattle.world_base.specs.Events.{Rules}
 use Rattle.world_gots.specs.Gots.{AreServed, Gots, IsJoined, IsLineServed}
 use Rattle.world_attempts.specs.History.{History, Served}
 use Rattle.world_reads.specs.Transactions.{transactions}
-use Rattle.world_reads.specs.Reads.{IsAnsweredRight, map_then}
+use Rattle.world_reads.specs.Reads.{IsAnsweredRight, map_seen}
+use Rattle.daos_model.specs.declared.cell.CellValue.{CellValue}
 
 -- all that was served was answered right
 abbrev pub AreAnsweredRight : Rules → Opening → History → Type 0
@@ -47,37 +46,40 @@ pub record IsAskable (targets : ℕ) (q : Read) : Type 0 where
   pub fits : ClassFits obj.class targets
   pub joinable : IsJoinable q
 
--- What all the groups of a read's path gave, joined, is the read's answer on the map as of the epoch, of which no cell is
+-- What all the groups of a read's path gave, joined, is the read's answer on the map that its attempt reads, of which no cell is
 -- without a dkey.
 abbrev pub JoinsAreRight : Type 0
 JoinsAreRight =
-    (r : Rules) (o : Opening) (h : History) (x : AttemptId) (op : ℕ) (q : Read) (e : Epoch) (b : Answer) → AreAnsweredRight r o h → IsAskable r.script.targets q → HasDkeys (map_then r o h e)
-    → IsJoined h x r.script.targets op q (Some e) b → b ≡ answer q (map_then r o h e)
+    (r : Rules) (o : Opening) (h : History) (x : AttemptId) (op : ℕ) (q : Read) (e : Epoch) (b : Answer) (m : List CellValue) → AreAnsweredRight r o h → IsAskable r.script.targets q → map_seen r o h x e ≡ Some m → HasDkeys m
+    → IsJoined h x r.script.targets op q (Some e) b → b ≡ answer q m
 
--- What an attempt was told is right on the map as of its epoch.
+-- What an attempt was told is right on the map that it reads.
 abbrev pub ToldIsRight : Type 0
 ToldIsRight =
-    (r : Rules) (o : Opening) (h : History) (ops : List Op) (a : Attempt) (e : Epoch) → All (λ d. ClassFits d.id.class r.script.targets) r.script.objs → All (IsOpInForm r.script.objs) ops
-    → AreAnsweredRight r o h → HasDkeys (map_then r o h e) → AreServed h a.id r.script.targets ops (Some e) a.gots a.conds → IsToldRight ops (Some (map_then r o h e)) a
+    (r : Rules) (o : Opening) (h : History) (ops : List Op) (a : Attempt) (e : Epoch) (m : List CellValue) → All (λ d. ClassFits d.id.class r.script.targets) r.script.objs → All (IsOpInForm r.script.objs) ops
+    → AreAnsweredRight r o h → map_seen r o h a.id e ≡ Some m → HasDkeys m → AreServed h a.id r.script.targets ops (Some e) a.gots a.conds → IsToldRight ops (Some m) a
+
+-- One that reads at a snapshot which isn't kept was told nothing.
+abbrev pub NothingIsToldOfNone : Type 0
+NothingIsToldOfNone =
+    (r : Rules) (o : Opening) (h : History) (ops : List Op) (a : Attempt) (e : Epoch) → AreAnsweredRight r o h → map_seen r o h a.id e ≡ None → AreServed h a.id r.script.targets ops (Some e) a.gots a.conds → IsToldRight ops None a
 
 -- An attempt without an epoch was told nothing.
 abbrev pub NothingIsToldBefore : Type 0
 NothingIsToldBefore = (h : History) (x : AttemptId) (targets : ℕ) (ops : List Op) (a : Attempt) → AreServed h x targets ops None a.gots a.conds → IsToldRight ops None a
 
--- it isn't at a snapshot of an earlier run: it is at none, or at one that the run made
-abbrev pub IsOfThisRun : Script → Option (List ℕ) → Type 0
-IsOfThisRun s None = Unit {0}
-IsOfThisRun s (Some name) = find (is_named name) s.olds ≡ None
+-- the maps that attempts read have no cell without a dkey
+abbrev pub SeenHaveDkeys : Rules → Opening → History → Type 0
+SeenHaveDkeys r o h = (x : AttemptId) (e : Epoch) (m : List CellValue) → map_seen r o h x e ≡ Some m → HasDkeys m
 
--- So where a script is in form, what a line tells of an attempt is what the decided transactions give, but for one at a
--- snapshot of an earlier run.
+-- So where a script is in form, what a line tells of an attempt is what the decided transactions give, or the snapshot at which it reads.
 abbrev pub LinesAreRight : Type 0
 LinesAreRight =
-    (r : Rules) (o : Opening) (h : History) (targets : ℕ) (a : Attempt) → IsInForm targets r.script → AreAnsweredRight r o h → ((e : Epoch) → HasDkeys (map_then r o h e))
-    → IsOfThisRun r.script (snapshot_of r.script a.id) → IsLineServed r h a → AttemptReadsLegal r.script o.stand (taken_in (transactions r.script h)) a
+    (r : Rules) (o : Opening) (h : History) (targets : ℕ) (a : Attempt) → IsInForm targets r.script → AreAnsweredRight r o h → SeenHaveDkeys r o h → IsLineServed r h a
+    → AttemptReadsLegal r.script o.stand (taken_in (transactions r.script h)) a
 
--- And so does a whole report, where no attempt is at a snapshot of an earlier run.
+-- And so does a whole report.
 abbrev pub ReportsAreRight : Type 0
 ReportsAreRight =
-    (r : Rules) (o : Opening) (h : History) (w : World) (targets : ℕ) (q : Report) → IsInForm targets r.script → AreAnsweredRight r o h → ((e : Epoch) → HasDkeys (map_then r o h e))
-    → ((x : AttemptId) → IsOfThisRun r.script (snapshot_of r.script x)) → Gots r h w → q.lines ≡ w.lines → ReadsLegal r.script o.stand (taken_in (transactions r.script h)) q
+    (r : Rules) (o : Opening) (h : History) (w : World) (targets : ℕ) (q : Report) → IsInForm targets r.script → AreAnsweredRight r o h → SeenHaveDkeys r o h → Gots r h w → q.lines ≡ w.lines
+    → ReadsLegal r.script o.stand (taken_in (transactions r.script h)) q

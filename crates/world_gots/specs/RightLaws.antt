@@ -24,7 +24,7 @@ use Rattle.world_base.specs.Events.{Rules}
 use Rattle.world_gots.specs.Gots.{AreJoined, IsJoined, IsServedTo, NoneYet, OneMore, group_at, groups_asked}
 use Rattle.world_gots.specs.Right.{AreAnsweredRight, IsJoinable, JoinsAreRight}
 use Rattle.world_attempts.specs.History.{History}
-use Rattle.world_reads.specs.Reads.{IsAnsweredRight, map_then}
+use Rattle.world_reads.specs.Reads.{IsAnsweredRight, map_seen}
 
 -- ---- one group
 
@@ -35,9 +35,9 @@ part_answer class targets q m g = answer q (group_part class targets g m)
 same-part : (class : Class) (targets : ℕ) (q : Read) (g : ℕ) (m part : List CellValue) → IsPartUnder class targets (read_path q) g m part → answer q part ≡ part_answer class targets q m g
 same-part class targets q g m part is = answer-same q part (group_part class targets g m) (λ c at. is c at ∙ sym (group_part-is class targets (read_path q) g m c at))
 
-one-right : (r : Rules) (o : Opening) (h : History) (x : AttemptId) (op g : ℕ) (q : Read) (b : Answer) (e : Epoch) (obj : ObjId) → AreAnsweredRight r o h → (read_path q).obj ≡ Some obj
-    → IsServedTo h x op g q b (Some e) → b ≡ part_answer obj.class r.script.targets q (map_then r o h e) g
-one-right r o h x op g q b e obj all of_object s = gave ∙ same-part obj.class r.script.targets q g (map_then r o h e) a.part part
+one-right : (r : Rules) (o : Opening) (h : History) (x : AttemptId) (op g : ℕ) (q : Read) (b : Answer) (e : Epoch) (obj : ObjId) (m : List CellValue) → AreAnsweredRight r o h → map_seen r o h x e ≡ Some m → (read_path q).obj ≡ Some obj
+    → IsServedTo h x op g q b (Some e) → b ≡ part_answer obj.class r.script.targets q m g
+one-right r o h x op g q b e obj m all seen of_object s = gave ∙ same-part obj.class r.script.targets q g m a.part part
   where
     a : IsAnsweredRight r o h s.q
     a = all s.q s.among
@@ -48,12 +48,15 @@ one-right r o h x op g q b e obj all of_object s = gave ∙ same-part obj.class 
     same_obj : a.obj ≡ obj
     same_obj = let k : Some a.obj ≡ Some obj = sym a.of_object ∙ ap (λ z. (read_path z).obj) s.asked ∙ of_object in cc
 
-    part : IsPartUnder obj.class r.script.targets (read_path q) g (map_then r o h e) a.part
+    same_map : a.map ≡ m
+    same_map = let k : Some a.map ≡ Some m = sym a.seen ∙ ap (λ z. map_seen r o h z s.q.epoch) s.of_attempt ∙ ap (map_seen r o h x) epoch ∙ seen in cc
+
+    part : IsPartUnder obj.class r.script.targets (read_path q) g m a.part
     part =
-        subst (λ z. IsPartUnder z.class r.script.targets (read_path q) g (map_then r o h e) a.part) same_obj
-        (subst (λ z. IsPartUnder a.obj.class r.script.targets (read_path z) g (map_then r o h e) a.part) s.asked
-        (subst (λ z. IsPartUnder a.obj.class r.script.targets (read_path s.q.read) z (map_then r o h e) a.part) s.of_group
-        (subst (λ z. IsPartUnder a.obj.class r.script.targets (read_path s.q.read) s.q.group (map_then r o h z) a.part) epoch a.is_part)))
+        subst (λ z. IsPartUnder z.class r.script.targets (read_path q) g m a.part) same_obj
+        (subst (λ z. IsPartUnder a.obj.class r.script.targets (read_path z) g m a.part) s.asked
+        (subst (λ z. IsPartUnder a.obj.class r.script.targets (read_path s.q.read) z m a.part) s.of_group
+        (subst (λ z. IsPartUnder a.obj.class r.script.targets (read_path s.q.read) s.q.group z a.part) same_map a.is_part)))
 
     gave : b ≡ answer q a.part
     gave = sym s.gave ∙ a.right ∙ ap (λ z. answer z a.part) s.asked
@@ -93,27 +96,24 @@ map-same f g [] same = refl
 map-same f g (x ∷ xs) same = ap (λ y. y ∷ map f xs) (same x) ∙ ap (λ ys. g x ∷ ys) (map-same f g xs same)
 
 -- what so many groups gave is what they answer on their parts
-joined-right : (r : Rules) (o : Opening) (h : History) (x : AttemptId) (op : ℕ) (q : Read) (e : Epoch) (obj : ObjId) (n : ℕ) (found : Option Answer) → AreAnsweredRight r o h → (read_path q).obj ≡ Some obj
+joined-right : (r : Rules) (o : Opening) (h : History) (x : AttemptId) (op : ℕ) (q : Read) (e : Epoch) (obj : ObjId) (m : List CellValue) (n : ℕ) (found : Option Answer) → AreAnsweredRight r o h → map_seen r o h x e ≡ Some m → (read_path q).obj ≡ Some obj
     → AreJoined h x r.script.targets op q (Some e) n found
-    → found ≡ join_some (map (λ k. part_answer obj.class r.script.targets q (map_then r o h e) (group_at q r.script.targets k)) (range_with_len 0 n))
-joined-right r o h x op q e obj n found all of_object NoneYet = refl
-joined-right r o h x op q e obj n found all of_object (OneMore m before b j s) =
-    ap (λ z. Some (joined z b)) (joined-right r o h x op q e obj m before all of_object j)
-    ∙ ap (λ z. Some (joined (join_some (map f (range_with_len 0 m))) z)) (one-right r o h x op (group_at q r.script.targets m) q b e obj all of_object s)
-    ∙ some-next (map f (range_with_len 0 m)) (f m) ∙ ap join_some (sym (map_push f (range_with_len 0 m) m)) ∙ ap (λ ns. join_some (map f ns)) (sym (range-next m))
+    → found ≡ join_some (map (λ k. part_answer obj.class r.script.targets q m (group_at q r.script.targets k)) (range_with_len 0 n))
+joined-right r o h x op q e obj m n found all seen of_object NoneYet = refl
+joined-right r o h x op q e obj m n found all seen of_object (OneMore i before b j s) =
+    ap (λ z. Some (joined z b)) (joined-right r o h x op q e obj m i before all seen of_object j)
+    ∙ ap (λ z. Some (joined (join_some (map f (range_with_len 0 i))) z)) (one-right r o h x op (group_at q r.script.targets i) q b e obj m all seen of_object s)
+    ∙ some-next (map f (range_with_len 0 i)) (f i) ∙ ap join_some (sym (map_push f (range_with_len 0 i) i)) ∙ ap (λ ns. join_some (map f ns)) (sym (range-next i))
   where
     f : ℕ → Answer
-    f k = part_answer obj.class r.script.targets q (map_then r o h e) (group_at q r.script.targets k)
+    f k = part_answer obj.class r.script.targets q m (group_at q r.script.targets k)
 
 -- ---- all groups
 
-dkey-right : (r : Rules) (o : Opening) (h : History) (x : AttemptId) (op : ℕ) (q : Read) (e : Epoch) (b : Answer) (obj : ObjId) (k : List ℕ) → AreAnsweredRight r o h → (read_path q).obj ≡ Some obj
-    → (read_path q).dkey ≡ Some k → IsJoined h x r.script.targets op q (Some e) b → b ≡ answer q (map_then r o h e)
-dkey-right r o h x op q e b obj k all of_object dkey j = some ∙ ap f' group ∙ sym (dkey-one_group obj.class r.script.targets q k m (group_part obj.class r.script.targets g m) dkey (group_part-is obj.class r.script.targets (read_path q) g m))
+dkey-right : (r : Rules) (o : Opening) (h : History) (x : AttemptId) (op : ℕ) (q : Read) (e : Epoch) (b : Answer) (obj : ObjId) (m : List CellValue) (k : List ℕ) → AreAnsweredRight r o h → map_seen r o h x e ≡ Some m → (read_path q).obj ≡ Some obj
+    → (read_path q).dkey ≡ Some k → IsJoined h x r.script.targets op q (Some e) b → b ≡ answer q m
+dkey-right r o h x op q e b obj m k all seen of_object dkey j = some ∙ ap f' group ∙ sym (dkey-one_group obj.class r.script.targets q k m (group_part obj.class r.script.targets g m) dkey (group_part-is obj.class r.script.targets (read_path q) g m))
   where
-    m : List CellValue
-    m = map_then r o h e
-
     g : ℕ
     g = group_of obj.class k r.script.targets
 
@@ -127,19 +127,19 @@ dkey-right r o h x op q e b obj k all of_object dkey j = some ∙ ap f' group �
     count = ap (λ z. max 1 (group_count z (read_path q).dkey r.script.targets)) of_object ∙ ap (λ z. max 1 (group_count (Some obj) z r.script.targets)) dkey
 
     some : b ≡ f' (group_at q r.script.targets 0)
-    some = let same : Some b ≡ Some (f' (group_at q r.script.targets 0)) = joined-right r o h x op q e obj 1 (Some b) all of_object (subst (λ n. AreJoined h x r.script.targets op q (Some e) n (Some b)) count j) in cc
+    some = let same : Some b ≡ Some (f' (group_at q r.script.targets 0)) = joined-right r o h x op q e obj m 1 (Some b) all seen of_object (subst (λ n. AreJoined h x r.script.targets op q (Some e) n (Some b)) count j) in cc
 
 -- without a dkey all the groups are asked
-groups-right : (r : Rules) (o : Opening) (h : History) (x : AttemptId) (op : ℕ) (q : Read) (e : Epoch) (b : Answer) (obj : ObjId) → AreAnsweredRight r o h → (read_path q).obj ≡ Some obj → (read_path q).dkey ≡ None
+groups-right : (r : Rules) (o : Opening) (h : History) (x : AttemptId) (op : ℕ) (q : Read) (e : Epoch) (b : Answer) (obj : ObjId) (m : List CellValue) → AreAnsweredRight r o h → map_seen r o h x e ≡ Some m → (read_path q).obj ≡ Some obj → (read_path q).dkey ≡ None
     → ClassFits obj.class r.script.targets → IsJoined h x r.script.targets op q (Some e) b
-    → b ≡ join_all (map (λ g. part_answer obj.class r.script.targets q (map_then r o h e) g) (range_with_len 0 (groups obj.class r.script.targets)))
-groups-right r o h x op q e b obj all of_object dkey fits j = some-all (map f' (range_with_len 0 n)) b (some ∙ ap join_some (map-same (λ k. f' (group_at q r.script.targets k)) f' (range_with_len 0 n) (λ k. ap f' (group k))))
+    → b ≡ join_all (map (λ g. part_answer obj.class r.script.targets q m g) (range_with_len 0 (groups obj.class r.script.targets)))
+groups-right r o h x op q e b obj m all seen of_object dkey fits j = some-all (map f' (range_with_len 0 n)) b (some ∙ ap join_some (map-same (λ k. f' (group_at q r.script.targets k)) f' (range_with_len 0 n) (λ k. ap f' (group k))))
   where
     n : ℕ
     n = groups obj.class r.script.targets
 
     f' : ℕ → Answer
-    f' = part_answer obj.class r.script.targets q (map_then r o h e)
+    f' = part_answer obj.class r.script.targets q m
 
     group : (k : ℕ) → group_at q r.script.targets k ≡ k
     group k = ap (λ z. group_asked z (read_path q).dkey r.script.targets k) of_object ∙ ap (λ z. group_asked (Some obj) z r.script.targets k) dkey
@@ -151,23 +151,23 @@ groups-right r o h x op q e b obj all of_object dkey fits j = some-all (map f' (
     count = ap (λ z. max 1 (group_count z (read_path q).dkey r.script.targets)) of_object ∙ ap (λ z. max 1 (group_count (Some obj) z r.script.targets)) dkey ∙ one_at_least n (groups-positive obj.class r.script.targets fits)
 
     some : Some b ≡ join_some (map (λ k. f' (group_at q r.script.targets k)) (range_with_len 0 n))
-    some = joined-right r o h x op q e obj n (Some b) all of_object (subst (λ i. AreJoined h x r.script.targets op q (Some e) i (Some b)) count j)
+    some = joined-right r o h x op q e obj m n (Some b) all seen of_object (subst (λ i. AreJoined h x r.script.targets op q (Some e) i (Some b)) count j)
 
 pub joins-right : JoinsAreRight
-joins-right r o h x op q e b all k dkeys j = by q refl k.joinable (read_path q).dkey refl
+joins-right r o h x op q e b m all k seen dkeys j = by q refl k.joinable (read_path q).dkey refl
   where
-    by : (z : Read) → q ≡ z → IsJoinable z → (d : Option (List ℕ)) → (read_path q).dkey ≡ d → b ≡ answer q (map_then r o h e)
-    by z same i (Some key) dkey = dkey-right r o h x op q e b k.obj key all k.of_object dkey j
+    by : (z : Read) → q ≡ z → IsJoinable z → (d : Option (List ℕ)) → (read_path q).dkey ≡ d → b ≡ answer q m
+    by z same i (Some key) dkey = dkey-right r o h x op q e b k.obj m key all seen k.of_object dkey j
     by (read.Single p) same i None dkey = let no : ⊥ = cc (i.1, dkey, ap (λ z. (read_path z).dkey) same) in absurd no
     by (read.Extent p low len) same i None dkey = let no : ⊥ = cc (i.1, dkey, ap (λ z. (read_path z).dkey) same) in absurd no
     by (read.Akeys p) same i None dkey = let no : ⊥ = cc (i.1, dkey, ap (λ z. (read_path z).dkey) same) in absurd no
     by (read.Dkeys p) same i None dkey =
-        groups-right r o h x op q e b k.obj all k.of_object dkey k.fits j
-        ∙ ap (λ z. join_all (map (λ g. part_answer k.obj.class r.script.targets z (map_then r o h e) g) (range_with_len 0 (groups k.obj.class r.script.targets)))) same
-        ∙ sym (dkeys-joined k.obj.class r.script.targets p (map_then r o h e) (λ g. group_part k.obj.class r.script.targets g (map_then r o h e)) k.fits (λ g lt. group_part-is k.obj.class r.script.targets p g (map_then r o h e)))
-        ∙ ap (λ z. answer z (map_then r o h e)) (sym same)
+        groups-right r o h x op q e b k.obj m all seen k.of_object dkey k.fits j
+        ∙ ap (λ z. join_all (map (λ g. part_answer k.obj.class r.script.targets z m g) (range_with_len 0 (groups k.obj.class r.script.targets)))) same
+        ∙ sym (dkeys-joined k.obj.class r.script.targets p m (λ g. group_part k.obj.class r.script.targets g m) k.fits (λ g lt. group_part-is k.obj.class r.script.targets p g m))
+        ∙ ap (λ z. answer z m) (sym same)
     by (read.Exists p) same i None dkey =
-        groups-right r o h x op q e b k.obj all k.of_object dkey k.fits j
-        ∙ ap (λ z. join_all (map (λ g. part_answer k.obj.class r.script.targets z (map_then r o h e) g) (range_with_len 0 (groups k.obj.class r.script.targets)))) same
-        ∙ sym (exists-joined k.obj.class r.script.targets p (map_then r o h e) (λ g. group_part k.obj.class r.script.targets g (map_then r o h e)) k.fits dkeys (λ g lt. group_part-is k.obj.class r.script.targets p g (map_then r o h e)))
-        ∙ ap (λ z. answer z (map_then r o h e)) (sym same)
+        groups-right r o h x op q e b k.obj m all seen k.of_object dkey k.fits j
+        ∙ ap (λ z. join_all (map (λ g. part_answer k.obj.class r.script.targets z m g) (range_with_len 0 (groups k.obj.class r.script.targets)))) same
+        ∙ sym (exists-joined k.obj.class r.script.targets p m (λ g. group_part k.obj.class r.script.targets g m) k.fits dkeys (λ g lt. group_part-is k.obj.class r.script.targets p g m))
+        ∙ ap (λ z. answer z m) (sym same)

@@ -7,26 +7,25 @@ use Rattle.base_types.specs.declared.epoch.Epoch.{Epoch}
 use Rattle.base_types.specs.declared.id.AttemptId.{AttemptId}
 use Rattle.base_types.specs.declared.operation.Read.{Read}
 use Rattle.base_types.specs.declared.operation.Read.TheVariants as read
-use Rattle.base_types.specs.declared.script.Script.{Script}
 use Rattle.base_types.specs.Placement.{ClassFits}
 use Rattle.model_laws.specs.Decided.{taken_in}
-use Rattle.daos_model.specs.declared.stand.Stand.{Stand}
-use Rattle.daos_model.specs.declared.stand.Taken.{Taken}
 use Rattle.daos_model.specs.Accesses.{op_path}
 use Rattle.daos_model.specs.Answers.{has_cell_below, yes_or_no}
-use Rattle.daos_model.specs.AsOf.{as_of}
-use Rattle.daos_model.specs.Attempts.{snapshot_of, tries}
-use Rattle.daos_model.specs.ReadsLegal.{AttemptReadsLegal, IsRightAnswer, IsRightCondition, IsToldRight, map_at, map_read, old_map}
+use Rattle.daos_model.specs.Attempts.{tries}
+use Rattle.daos_model.specs.ReadsLegal.{AttemptReadsLegal, IsRightAnswer, IsRightCondition, IsToldRight, map_read}
 use Rattle.daos_model.specs.Transactions.{attempt_ops}
 use Rattle.world_base.specs.ClientTurns.{is_yes}
 use Rattle.world_gots.specs.FormLaws.{condition-askable, ops-form, read-askable}
 use Rattle.world_gots.specs.Gots.{AreJoined, AreServed, IsGot, IsLineServed, IsTold, NoneYet, OneMore}
 use Rattle.world_gots.specs.MoreLaws.{all-more, unknown-unserved}
-use Rattle.world_gots.specs.Right.{IsOfThisRun, LinesAreRight, NothingIsToldBefore, ReportsAreRight, ToldIsRight}
+use Rattle.world_gots.specs.Right.{LinesAreRight, NothingIsToldBefore, ReportsAreRight, ToldIsRight, AreAnsweredRight, NothingIsToldOfNone}
 use Rattle.world_gots.specs.RightLaws.{joins-right}
 use Rattle.world_attempts.specs.History.{History}
 use Rattle.world_reads.specs.Transactions.{transactions}
-use Rattle.world_reads.specs.Reads.{map_then}
+use Rattle.world_reads.specs.Reads.{map_seen}
+use Rattle.daos_model.specs.declared.cell.CellValue.{CellValue}
+use Rattle.daos_model.specs.Opening.{Opening}
+use Rattle.world_base.specs.Events.{Rules}
 
 -- ---- what is told is right
 
@@ -35,22 +34,22 @@ yes-is true = refl
 yes-is false = refl
 
 pub told-right : ToldIsRight
-told-right r o h ops a e fits forms all dkeys s = (
-  all-more (IsGot h a.id r.script.targets ops (Some e)) (IsRightAnswer ops (map_then r o h e)) a.gots got s.gots,
-  all-more (IsTold h a.id r.script.targets ops (Some e)) (IsRightCondition ops (map_then r o h e)) a.conds told s.conds,
+told-right r o h ops a e m fits forms all seen dkeys s = (
+  all-more (IsGot h a.id r.script.targets ops (Some e)) (IsRightAnswer ops m) a.gots got s.gots,
+  all-more (IsTold h a.id r.script.targets ops (Some e)) (IsRightCondition ops m) a.conds told s.conds,
 )
   where
-    got : (x : ℕ × Answer) → IsGot h a.id r.script.targets ops (Some e) x → IsRightAnswer ops (map_then r o h e) x
-    got x g = (g.read, g.is_read, joins-right r o h a.id x.0 g.read e x.1 all (read-askable r.script.targets r.script.objs ops x.0 g.read fits forms g.is_read) dkeys g.joins)
+    got : (x : ℕ × Answer) → IsGot h a.id r.script.targets ops (Some e) x → IsRightAnswer ops m x
+    got x g = (g.read, g.is_read, joins-right r o h a.id x.0 g.read e x.1 m all (read-askable r.script.targets r.script.objs ops x.0 g.read fits forms g.is_read) seen dkeys g.joins)
 
-    told : (x : ℕ × Bool) → IsTold h a.id r.script.targets ops (Some e) x → IsRightCondition ops (map_then r o h e) x
+    told : (x : ℕ × Bool) → IsTold h a.id r.script.targets ops (Some e) x → IsRightCondition ops m x
     told x t = (
       t.op,
       t.at,
       t.conditional,
       t.says
-          ∙ ap is_yes (joins-right r o h a.id x.0 (read.Exists (op_path t.op)) e t.found all (condition-askable r.script.targets r.script.objs ops x.0 t.op fits forms t.at) dkeys t.joins)
-          ∙ yes-is (has_cell_below (op_path t.op) (map_then r o h e)),
+          ∙ ap is_yes (joins-right r o h a.id x.0 (read.Exists (op_path t.op)) e t.found m all (condition-askable r.script.targets r.script.objs ops x.0 t.op fits forms t.at) seen dkeys t.joins)
+          ∙ yes-is (has_cell_below (op_path t.op) m),
     )
 
 -- ---- nothing is told without an epoch
@@ -72,27 +71,45 @@ nothing-told h x targets ops a s = (
   none-of (IsTold h x targets ops None) a.conds (λ told t. none-whole h x targets told.0 _ (read.Exists (op_path t.op)) t.found t.joins) s.conds,
 )
 
+-- nor where it reads at a snapshot that isn't kept
+none-at : (r : Rules) (o : Opening) (h : History) (x : AttemptId) (op c : ℕ) (q : Read) (b : Answer) (e : Epoch) → AreAnsweredRight r o h → map_seen r o h x e ≡ None → AreJoined h x r.script.targets op q (Some e) (max 1 c) (Some b) → ⊥
+none-at r o h x op c q b e all none j = by (max 1 c) (Some b) (some-asked c) j
+  where
+    some-asked : (c : ℕ) → max 1 c ≡ 0 → ⊥
+    some-asked c z = omega (arith, z)
+
+    by : (n : ℕ) (found : Option Answer) → (n ≡ 0 → ⊥) → AreJoined h x r.script.targets op q (Some e) n found → ⊥
+    by n found some NoneYet = some refl
+    by n found some (OneMore i before a k s) =
+        let right = all s.q s.among in
+        let when : s.q.epoch ≡ e = let one : Some e ≡ Some s.q.epoch = s.at in cc in
+        let no : ⊥ = cc (sym right.seen ∙ ap (λ z. map_seen r o h z s.q.epoch) s.of_attempt ∙ ap (map_seen r o h x) when ∙ none) in
+        no
+
+pub nothing-told_of_none : NothingIsToldOfNone
+nothing-told_of_none r o h ops a e all none s = (
+  none-of (IsGot h a.id r.script.targets ops (Some e)) a.gots (λ got g. none-at r o h a.id got.0 _ g.read got.1 e all none g.joins) s.gots,
+  none-of (IsTold h a.id r.script.targets ops (Some e)) a.conds (λ told t. none-at r o h a.id told.0 _ (read.Exists (op_path t.op)) t.found e all none t.joins) s.conds,
+)
+
 -- ---- lines
 
--- an attempt of this run reads the map as of its epoch
-map_of_this_run : (s : Script) (opening : Stand) (T : List Taken) (e : ℕ) (snapshot : Option (List ℕ)) → IsOfThisRun s snapshot → map_at s opening T e snapshot ≡ Some (as_of opening T e)
-map_of_this_run s opening T e None here = refl
-map_of_this_run s opening T e (Some name) here = ap (old_map opening T e) here
-
 pub lines-right : LinesAreRight
-lines-right r o h targets a form all dkeys here s = by a.epoch s
+lines-right r o h targets a form all dkeys s = by a.epoch s
   where
     fits : All (λ d. ClassFits d.id.class r.script.targets) r.script.objs
     fits = subst (λ n. All (λ d. ClassFits d.id.class n) r.script.objs) (sym form.read_for) form.classes
 
+    seen : (e : Epoch) (m : Option (List CellValue)) → map_seen r o h a.id e ≡ m → AreServed h a.id r.script.targets (attempt_ops r.script a.id) (Some e) a.gots a.conds → IsToldRight (attempt_ops r.script a.id) m a
+    seen e None none t = nothing-told_of_none r o h (attempt_ops r.script a.id) a e all none t
+    seen e (Some m) is t = told-right r o h (attempt_ops r.script a.id) a e m fits (ops-form targets r.script a.id form) all is (dkeys a.id e m is) t
+
     by : (known : Option Epoch) → AreServed h a.id r.script.targets (attempt_ops r.script a.id) known a.gots a.conds
         → IsToldRight (attempt_ops r.script a.id) (map_read r.script o.stand (taken_in (transactions r.script h)) a known) a
     by None t = nothing-told h a.id r.script.targets (attempt_ops r.script a.id) a t
-    by (Some e) t =
-        subst (λ z. IsToldRight (attempt_ops r.script a.id) z a) (sym (map_of_this_run r.script o.stand (taken_in (transactions r.script h)) e.0 (snapshot_of r.script a.id) here))
-        (told-right r o h (attempt_ops r.script a.id) a e fits (ops-form targets r.script a.id form) all (dkeys e) t)
+    by (Some e) t = seen e (map_seen r o h a.id e) refl t
 
 pub reports-right : ReportsAreRight
-reports-right r o h w targets q form all dkeys here g same =
+reports-right r o h w targets q form all dkeys g same =
     subst (λ ls. All (AttemptReadsLegal r.script o.stand (taken_in (transactions r.script h))) (tries ls)) (sym same)
-    (all-more (IsLineServed r h) (AttemptReadsLegal r.script o.stand (taken_in (transactions r.script h))) (tries w.lines) (λ a s. lines-right r o h targets a form all dkeys (here a.id) s) g.lines)
+    (all-more (IsLineServed r h) (AttemptReadsLegal r.script o.stand (taken_in (transactions r.script h))) (tries w.lines) (λ a s. lines-right r o h targets a form all dkeys s) g.lines)

@@ -2,7 +2,7 @@
 #![tactic(auto)]
 
 ghost use Rattle.world_gots.specs.Remembering.{NothingIsTold, ServedIsTold};
-ghost use Rattle.world_gots.specs.Right.{JoinsAreRight, LinesAreRight, NothingIsToldBefore, ReportsAreRight, ToldIsRight};
+ghost use Rattle.world_gots.specs.Right.{JoinsAreRight, LinesAreRight, NothingIsToldBefore, NothingIsToldOfNone, ReportsAreRight, ToldIsRight};
 
 /// Says what holds throughout a run of what clients were told. Each answer and each condition, of a
 /// present attempt or in a line, is what the groups of its path gave, in order, joined; each of them was
@@ -15,14 +15,15 @@ pub fn laws_of_gots()
 {}
 
 /// Says what follows where all that was served was answered right. What the groups of a read gave, joined,
-/// is its answer on the map as of the epoch; so every answer that an attempt was told is right, and so is
-/// every condition. An attempt without an epoch was told nothing. So a line of a script in form tells what
-/// the decided transactions give, unless its attempt is at a snapshot of an earlier run; and a report does
-/// where none is.
+/// is its answer on the map that its attempt reads: as of the epoch, or that of a snapshot; so every answer
+/// that an attempt was told is right, and so is every condition. An attempt without an epoch was told nothing,
+/// nor was one at a snapshot that isn't kept. So the lines of a script in form, and a whole report, tell what
+/// the decided transactions give, and what is kept of snapshots.
 pub fn laws_of_answers()
     ensures joins { JoinsAreRight }
     ensures told { ToldIsRight }
     ensures nothing { NothingIsToldBefore }
+    ensures unkept { NothingIsToldOfNone }
     ensures lines { LinesAreRight }
     ensures reports { ReportsAreRight }
 {}

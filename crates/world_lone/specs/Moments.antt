@@ -23,15 +23,16 @@ use Rattle.model_reports.specs.Lines.{StandsAt, line-of}
 use Rattle.world_base.specs.declared.client.ClientState.{ClientState}
 use Rattle.world_base.specs.declared.client.Present.{Present}
 use Rattle.world_base.specs.declared.world.World.{World}
-use Rattle.world_causes.specs.Causes.{Causes, Shows, ShowsUnresolved, Stored}
+use Rattle.world_causes.specs.Causes.{PlainCauses, Shows, ShowsUnresolved, Stored}
 use Rattle.world_ends.specs.Carried.{runs-carry}
-use Rattle.world_ends.specs.FormLaws.{no-snapshots}
 use Rattle.world_ends.specs.SureTells.{not-own}
-use Rattle.world_epochs.specs.Epochs.{Epochs, HasLine, InCause, ItsOwn, IsIssued, IsPast, IsPresent, Unsnapped}
+use Rattle.world_epochs.specs.Epochs.{PlainEpochs, HasLine, InCause, ItsOwn, IsIssued, IsPast, IsPresent, Unsnapped}
 use Rattle.world_base.specs.Events.{Rules, client_plan}
 use Rattle.world_lines.specs.Lines.{Lines}
 use Rattle.world_lone.specs.LoneRuns.{LoneRunsNeverRestart}
 use Rattle.world_lines.specs.Rising.{lines-rise, one-of-rising}
+use Rattle.world_epochs.specs.PlainScripts.{no-snapshots}
+use Rattle.world_core.specs.Asking.{plainly}
 
 number-of : {e f : Epoch} → Some e ≡ Some f → e.0 ≡ f.0
 number-of {e = e} {f = f} s = let same : e ≡ f = cc in ap (λ x. x.0) same
@@ -51,7 +52,7 @@ up-to-has c (l ∷ ls) b i its = by (λ j. up-to-has c ls b j its) (list_any (is
     by rest true is = among l i rest
     by rest false is = let no : ⊥ = cc in absurd no
 
-module _ (r : Rules) (o : Opening) (v : World) (plain : Unsnapped r) (clients : length v.clients ≡ 1) (E : Epochs r (top o) v) (L : Lines r v) (stored : Stored) (C : Causes r o stored v) where
+module _ (r : Rules) (o : Opening) (v : World) (plain : Unsnapped r) (clients : length v.clients ≡ 1) (E : PlainEpochs r (top o) v) (L : Lines r v) (stored : Stored) (C : PlainCauses r o stored v) where
   -- ---- the lines
 
   -- an attempt that is told of is of a client that is there
@@ -218,4 +219,4 @@ lone-runs-never-restart r o w v A b run one =
     let k = runs-carry r o w v A b run in
     let f = k.carried.whole.all.facts in
     all-from_has (λ a. is_restart a.outcome ≡ false) (tries v.lines)
-    (not-restarted r o v f.unsnapped (f.addressed.clients ∙ one) f.judged.epochs f.judged.spoken.lines k.stored k.carried.causes)
+    (not-restarted r o v f.unsnapped (f.addressed.clients ∙ one) (plainly r o _ v f) f.judged.spoken.lines k.stored k.carried.causes)

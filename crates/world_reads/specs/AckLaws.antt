@@ -145,7 +145,7 @@ find-kept p q (x ∷ xs) z h stays = by (λ k. find-kept p q xs z k stays) (p x)
     by rest false false e f h = ap (λ c. find p (if c then x ∷ filter q xs else filter q xs)) f ∙ rest h
 
 module _ (r : Rules) (o : Opening) (held : List Version) (h : History) (w : World) (t : ℕ) (s : TargetState) (b : TurnBegins r o held h w t s) where
-  abbrev SoundAt : Durable → Type 0
+  abbrev pub SoundAt : Durable → Type 0
   SoundAt d = Sound r o held h h.served s.opening t d s.memory.stamps
 
   -- the entry that a leader finds of an undecided attempt is the one that it keeps
@@ -156,11 +156,11 @@ module _ (r : Rules) (o : Opening) (held : List Version) (h : History) (w : Worl
       cc (kept', found)
 
   -- what follows from an Ack in the world before it
-  abbrev AckMid : ℕ → AttemptId → ℕ → Option Outcome → ack.AckStage → Kept → Type 0
+  abbrev pub AckMid : ℕ → AttemptId → ℕ → Option Outcome → ack.AckStage → Kept → Type 0
   AckMid from a inc refusal ack.Heard k = k ≡ kept s
   AckMid from a inc refusal (ack.Followed f) k = SoundAt k.durable × (f ≡ ack_heard from a inc refusal (leader_at (target_plan r t) s.memory s.durable))
 
-  ack-step : (from : ℕ) (a : AttemptId) (inc : ℕ) (refusal : Option Outcome) (g : ack.AckStage) (k : Kept) (c : Option Change) (u : ack.AckStage) (l : Kept)
+  pub ack-step : (from : ℕ) (a : AttemptId) (inc : ℕ) (refusal : Option Outcome) (g : ack.AckStage) (k : Kept) (c : Option Change) (u : ack.AckStage) (l : Kept)
       → ack.AckNext (target_plan r t) s.memory from a inc refusal g k c u → Steps c k l → AckMid from a inc refusal g k → AckMid from a inc refusal u l
   ack-step from a inc refusal g k c u l (ack.Aborts k' is) steps p = (
     subst SoundAt (sym steps.0) (aborts-sound r o held h h.served s.opening t s.memory.stamps k.durable a undecided (subst (λ n. SoundAt n.durable) (sym p) b.sound)),

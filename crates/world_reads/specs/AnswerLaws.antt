@@ -1,5 +1,5 @@
 -- An attempt is decided: each read that was served stays answered right.
-use Rattle.std.specs.Prelude.{ℕ, ◌≡◌, ◌<◌, ◌≤◌, Bool, true, false, List, Contains, Some, None, refl, if◌then◌else◌}
+use Rattle.std.specs.Prelude.{ℕ, ◌≡◌, ◌<◌, ◌≤◌, Bool, true, false, List, Contains, Some, None, refl, if◌then◌else◌, find, Option}
 use Rattle.std.proofs.Common.{sym, ◌∙◌, ap, subst, arith}
 use Rattle.base_types.specs.declared.epoch.Epoch.{Epoch}
 use Rattle.base_types.specs.declared.id.AttemptId.{AttemptId}
@@ -32,9 +32,13 @@ use Rattle.world_reads.specs.ChangeLaws.{entry-among}
 use Rattle.world_reads.specs.DecideLaws.{Elsewhere, Held, IsHeldOrElsewhere, MayBeDecided, is-added, stays-apart}
 use Rattle.model_laws.specs.PlaceLaws.{asked-member, group-own, leads-object}
 use Rattle.world_attempts.specs.MarkTurns.{found-attempt}
-use Rattle.world_reads.specs.Reads.{IsAnsweredRight, IsOfAttempt, map_then}
+use Rattle.world_reads.specs.Reads.{IsAnsweredRight, IsOfAttempt, map_then, map_seen}
 use Rattle.world_reads.specs.Transactions.{decided_of, transactions}
 use Rattle.world_reads.specs.Versions.{IsWriteAt, VersionsStand}
+use Rattle.base_types.specs.declared.script.OldDecl.{OldDecl}
+use Rattle.daos_model.specs.declared.cell.CellValue.{CellValue}
+use Rattle.daos_model.specs.Attempts.{snapshot_of}
+use Rattle.daos_model.specs.ReadsLegal.{is_named, map_at, old_map}
 
 -- no unsettled version of a target lies below a read on an overlapping path
 abbrev pub IsBarred : Durable → Served → Type 0
@@ -52,16 +56,34 @@ not-below r o held h t d x e q m may s (Held k found at) bar here over =
     open' false is = is
 not-below r o held h t d x e q m may s (Elsewhere absent none) bar here over = absurd (none m here)
 
+-- ---- the map that is read
+
+-- Where more is decided, it stays, since it is that of a snapshot that an earlier run created; or it is that as of an epoch.
+data SeenLater (r : Rules) (o : Opening) (h later : History) (x : AttemptId) (e : Epoch) (m : List CellValue) : Type 0 where
+  Stays : map_seen r o later x e ≡ Some m → SeenLater r o h later x e m
+  IsAsOf : map_then r o h e ≡ m → map_seen r o later x e ≡ Some (map_then r o later e) → SeenLater r o h later x e m
+
+seen-later : (r : Rules) (o : Opening) (h later : History) (x : AttemptId) (e : Epoch) (m : List CellValue) → map_seen r o h x e ≡ Some m → SeenLater r o h later x e m
+seen-later r o h later x e m is = by (snapshot_of r.script x) refl is
+  where
+    At : History → Option (List ℕ) → Option (List CellValue)
+    At g n = map_at r.script o.stand (decided.taken_in (transactions r.script g)) e.0 n
+
+    Old : History → Option OldDecl → Option (List CellValue)
+    Old g d = old_map o.stand (decided.taken_in (transactions r.script g)) e.0 d
+
+    named : (name : List ℕ) (d : Option OldDecl) → snapshot_of r.script x ≡ Some name → find (is_named name) r.script.olds ≡ d → Old h d ≡ Some m → SeenLater r o h later x e m
+    named name None f g k = let same : map_then r o h e ≡ m = cc in IsAsOf same (ap (At later) f ∙ ap (Old later) g)
+    named name (Some d) f g k = Stays (ap (At later) f ∙ ap (Old later) g ∙ k)
+
+    by : (n : Option (List ℕ)) → snapshot_of r.script x ≡ n → At h n ≡ Some m → SeenLater r o h later x e m
+    by None f k = let same : map_then r o h e ≡ m = cc in IsAsOf same (ap (At later) f)
+    by (Some name) f k = named name (find (is_named name) r.script.olds) f refl k
+
 pub decides-answers : (r : Rules) (o : Opening) (h : History) (x : AttemptId) (e : Epoch) (q : Served) → MayBeDecided r o h x e → decided.AreDecided (transactions r.script h)
     → ((m : MinorWrite) → IsWriteAt r x q.target m → overlaps (write_path m.write) (read_path q.read) ≡ true → q.epoch.0 ≤ e.0) → IsOfAttempt r q → is_read_in_form q.read ≡ true
     → IsAnsweredRight r o h q → IsAnsweredRight r o (decides h x e) q
-decides-answers r o h x e q may apart above asks form a = record {
-  obj = a.obj;
-  of_object = a.of_object;
-  part = a.part;
-  is_part = λ c under. a.is_part c under ∙ by c under (is_in_group a.obj.class r.script.targets q.group c) refl;
-  right = a.right;
-}
+decides-answers r o h x e q may apart above asks form a = by-map (seen-later r o h (decides h x e) q.by q.epoch a.map a.seen)
   where
     same-object : asks.obj ≡ a.obj
     same-object = let f : Some asks.obj ≡ Some a.obj = sym asks.of_object ∙ a.of_object in cc
@@ -91,3 +113,15 @@ decides-answers r o h x e q may apart above asks form a = record {
     by c under true of =
         as_of-more c o.stand (decided_of r.script (x, e)) (transactions r.script h) (transactions r.script (decides h x e)) q.epoch.0 apart (stays-apart r o h x e may apart)
         (is-added r h x e) (λ y j lt about. untouched c under of y lt about (has-from_map (decided.dated_at e) (writes_of r x) y j))
+
+    by-map : SeenLater r o h (decides h x e) q.by q.epoch a.map → IsAnsweredRight r o (decides h x e) q
+    by-map (Stays seen) = record { map = a.map; seen = seen; obj = a.obj; of_object = a.of_object; part = a.part; is_part = a.is_part; right = a.right }
+    by-map (IsAsOf same seen) = record {
+      map = map_then r o (decides h x e) q.epoch;
+      seen = seen;
+      obj = a.obj;
+      of_object = a.of_object;
+      part = a.part;
+      is_part = λ c under. subst (λ m. value_at a.part c ≡ (if is_in_group a.obj.class r.script.targets q.group c then value_at m c else None)) (sym same) (a.is_part c under) ∙ by c under (is_in_group a.obj.class r.script.targets q.group c) refl;
+      right = a.right;
+    }

@@ -30,6 +30,8 @@ use Rattle.world_base.specs.EntryLaws.{entry-aborted, entry-aborted_other, entry
 use Rattle.world_reads.specs.ListLaws.{pairs-from_rising}
 use Rattle.world_reads.specs.Transactions.{counts_by, transactions}
 use Rattle.world_reads.specs.Versions.{IsPreparedAt, IsVersionOf, IsWriteAt, VersionsStand, is_own_in, mark_of}
+use Rattle.model_laws.specs.MatchLaws.{aborts-keep, commits-keep}
+use Rattle.world_reads.specs.SnapLaws.{snapshots-stay}
 
 -- ---- what was decided
 
@@ -88,7 +90,9 @@ extends-stands r o held h t d ticks more last k = record {
   epochs = k.epochs;
   matches = k.matches;
   leased = λ v i. let low : v.epoch.0 / 256 ≤ d.lease = k.leased v i in omega (arith, low, more);
-  unpruned = k.unpruned;
+  aggregated = k.aggregated;
+  clear = k.clear;
+  snapshots = snapshots-stay r o h t d (leased ticks d) refl (λ c. refl) more refl k.snapshots;
 }
 
 -- ---- a decided attempt is settled
@@ -153,7 +157,9 @@ settles-stands r o held h t d a decided s = record {
   epochs = epochs;
   matches = λ cont. settling-keeps (is_own_in r.script.targets t cont) a (counts_by h) d.versions o.stand (transactions r.script h) (mark_of o d cont) (λ v i. counts-done h a v (has-decided h a decided.0 decided.1)) (s.matches cont);
   leased = leased';
-  unpruned = s.unpruned;
+  aggregated = s.aggregated;
+  clear = λ v i f. let u = old v i in let was = still-open a u.0 (ap (λ x. x.done) u.2 ∙ f) in subst Clear (sym (other-stays a u.0 was.1) ∙ u.2) (s.clear u.0 u.1 was.0);
+  snapshots = snapshots-stay r o h t d (settled a Commit d) refl (λ c. refl) (omega arith) (commits-keep a (counts_by h) (counts_by h) d.versions (λ v i. counts-done h a v (has-decided h a decided.0 decided.1))) s.snapshots;
 }
   where
     old : (v : Version) → Contains (map (done_by a) d.versions) v → (u : Version) × Contains d.versions u × (done_by a u ≡ v)
@@ -196,6 +202,9 @@ settles-stands r o held h t d a decided s = record {
 
     done : (v : Version) → Contains (map (done_by a) d.versions) v → v.done ≡ true → Done v
     done v i f = let u = old v i in subst Done u.2 (done-of u.0 u.1 (ap (λ x. x.done) u.2 ∙ f))
+
+    Clear : Version → Type 0
+    Clear v = (row_of d (version_path v).cont).aggregated.0 < v.epoch.0
 
     Open : Version → Type 0
     Open v = IsPreparedAt (settled a Commit d) v.by v.epoch
@@ -320,7 +329,9 @@ aborts-stands r o held h t d a none s = record {
   epochs = λ x z f found is. s.epochs x z f (left-before d a x z found) is;
   matches = λ cont. aborting-keeps (is_own_in r.script.targets t cont) a (counts_by h) d.versions o.stand (transactions r.script h) (mark_of o d cont) (λ v i is. pending-off h a v none is) (s.matches cont);
   leased = λ v i. s.leased v (old v i).0;
-  unpruned = s.unpruned;
+  aggregated = s.aggregated;
+  clear = λ v i f. s.clear v (old v i).0 f;
+  snapshots = snapshots-stay r o h t d (settled a Abort d) refl (λ c. refl) (omega arith) (aborts-keep a (counts_by h) d.versions (λ v i is. pending-off h a v none is)) s.snapshots;
 }
   where
     old : (v : Version) → Contains (filter (is_not_pending a) d.versions) v → Contains d.versions v × (is_not_pending a v ≡ true)
@@ -367,7 +378,9 @@ confirms-stands r o held h t d a n s = record {
   epochs = λ x z f found is. let y = before x z found in y.2.epoch ∙ s.epochs x y.0 f y.1 is;
   matches = s.matches;
   leased = s.leased;
-  unpruned = s.unpruned;
+  aggregated = s.aggregated;
+  clear = s.clear;
+  snapshots = snapshots-stay r o h t d (settled a (Confirm n) d) refl (λ c. refl) (omega arith) refl s.snapshots;
 }
   where
     before : (x : AttemptId) (z : Entry) → entry_of (settled a (Confirm n) d) x ≡ Some z → (y : Entry) × (entry_of d x ≡ Some y) × IsSameEntry y z

@@ -1,7 +1,7 @@
 -- A turn in which a target stores an attempt's writes leaves what it keeps and serves sound: one that hears a Commit, or a Prepare.
-use Rattle.std.specs.Prelude.{ℕ, ◌≡◌, ◌≢◌, ◌≤◌, ◌<◌, ◌/◌, ◌++◌, Bool, true, false, List, [], ◌∷◌, filter, find, map, Contains, Option, Some, None, refl, if◌then◌else◌}
+use Rattle.std.specs.Prelude.{ℕ, ◌≡◌, ◌≢◌, ◌≤◌, ◌<◌, ◌/◌, ◌++◌, Bool, true, false, List, [], ◌∷◌, filter, find, map, Contains, Option, Some, None, refl, if◌then◌else◌, max}
 use Rattle.std.specs.List.{list_any}
-use Rattle.std.proofs.Common.{sym, ◌∙◌, ap, subst, inl, inr}
+use Rattle.std.proofs.Common.{sym, ◌∙◌, ap, subst, inl, inr, arith}
 use Rattle.std.proofs.lemmas.List.Elements.{Contains-append_left, Contains-push}
 use Rattle.base_types.specs.declared.entry.Entry.{Entry}
 use Rattle.base_types.specs.declared.epoch.Epoch.{Epoch}
@@ -20,7 +20,7 @@ use Rattle.base_messages.specs.declared.message.Post.{Post}
 use Rattle.daos_model.specs.declared.durable.Durable.{Durable}
 use Rattle.daos_model.specs.declared.durable.Version.{Version}
 use Rattle.daos_model.specs.Changes.{leased}
-use Rattle.daos_model.specs.Durables.{entry_of, is_entry_of}
+use Rattle.daos_model.specs.Durables.{entry_of, is_entry_of, row_of}
 use Rattle.daos_model.specs.Forms.{AreWritesInForm}
 use Rattle.daos_model.specs.Opening.{Opening, top}
 use Rattle.dtx_base.specs.Leading.{LeaderOf, begun, begun_alone, begun_with_others, prepare_to}
@@ -55,6 +55,9 @@ use Rattle.world_base.specs.Prepares as prepare
 use Rattle.world_base.specs.Requests.{issued_for, request_epoch, sends, with_ticks}
 use Rattle.world_base.specs.Roles.{leader_at, leads_on}
 use Rattle.world_base.specs.Turns.{Whole}
+use Rattle.vos_store.specs.Answers.{floor_of}
+use Rattle.world_base.specs.Commits.{IsAllowed}
+use Rattle.world_reads.specs.ShowLaws.{floor-stored, floors-above}
 
 -- ---- the writes that a target holds
 
@@ -76,7 +79,7 @@ own-by r x t test is form = record {
           here = contains-from_has (path_members (write_path m.write) r.script.targets) t (subst (λ n. Has n (path_members (write_path m.write) r.script.targets)) (number_same u.0 t u.2) u.1);
         }
 
-prepare-own : (r : Rules) (x : AttemptId) (t : ℕ) → AreWritesInForm (writes_of r x) → AreItsOwn r x t (writes_at r.script.targets t (writes_of r x))
+pub prepare-own : (r : Rules) (x : AttemptId) (t : ℕ) → AreWritesInForm (writes_of r x) → AreItsOwn r x t (writes_at r.script.targets t (writes_of r x))
 unfolding is_written_at
 prepare-own r x t form = own-by r x t (is_written_at r.script.targets t) (λ m. refl) form
 
@@ -98,40 +101,49 @@ entries-same d f x same = ap (λ es. find (is_entry_of x) es) same
 
 -- in the middle of a turn, the entries are those of its beginning
 module _ (r : Rules) (o : Opening) (held : List Version) (h : History) (w : World) (t : ℕ) (s : TargetState) (b : TurnBegins r o held h w t s) where
-  abbrev SoundAt : Durable → Type 0
+  abbrev pub SoundAt : Durable → Type 0
   SoundAt d = Sound r o held h h.served s.opening t d s.memory.stamps
 
-  abbrev MidAt : Durable → Type 0
+  abbrev pub MidAt : Durable → Type 0
   MidAt d = SoundAt d × (d.entries ≡ s.durable.entries)
 
   leases-at : (d : Durable) (n ticks : ℕ) → d.lease < n → lease_for n ≡ Some ticks → MidAt d → MidAt (leased ticks d)
   leases-at d n ticks low is k = (extends-sound r o held h h.served s.opening t s.memory.stamps d n ticks low is k.0, entries-leased ticks d ∙ k.1)
 
   -- so what may be stored is new then
-  new-at : (d : Durable) (k : Entry) → k.committed ≡ false → MayBeStored o h w s k.attempt k.epoch → k.epoch.0 / 256 ≤ d.lease → MidAt d → IsNewEntry h d k
-  new-at d k open' may covered mid = record {
+  new-at : (d : Durable) (k : Entry) → k.committed ≡ false → MayBeStored o h w s k.attempt k.epoch → k.epoch.0 / 256 ≤ d.lease
+      → (ws : List MinorWrite) (first : Option Epoch) → IsAllowed (target_plan r t) s.opening first k.epoch d s.memory.stamps ws → MidAt d → IsNewEntry h d k ws
+  new-at d k open' may covered ws first allowed mid = record {
     open' = open';
     absent = entries-same s.durable d k.attempt mid.1 ∙ may.absent;
     undecided = may.undecided;
     alone = epoch-alone r o held h w t d k.attempt k.epoch b.before b.decided (λ x e found. b.issued x e (sym (entries-same s.durable d x mid.1) ∙ found)) may.above may.alone may.undecided
         (entries-same s.durable d k.attempt mid.1 ∙ may.absent) mid.0.stand;
     covered = covered;
+    clear = λ m i. clear m (floors-above (target_plan r t) s.opening k.epoch d ws allowed.floors m i);
   }
+    where
+      clear : (m : MinorWrite) → (floor_of s.opening d (write_path m.write).cont).0.0 < k.epoch.0 → (row_of d (write_path m.write).cont).aggregated.0 < k.epoch.0
+      clear m up =
+          let low : (row_of d (write_path m.write).cont).aggregated.0 ≤ max (top o) (row_of d (write_path m.write).cont).floor.0 = mid.0.stand.aggregated (write_path m.write).cont in
+          let least : (row_of d (write_path m.write).cont).floor.0 ≤ (floor_of s.opening d (write_path m.write).cont).0.0 = floor-stored s.opening d (write_path m.write).cont in
+          let above : top o < k.epoch.0 = may.above in
+          omega (arith, low, least, above, up)
 
   -- ---- a Prepare
 
-  abbrev PrepareMid : PrepareRequest → prepare.PrepareStage → Kept → Type 0
+  abbrev pub PrepareMid : PrepareRequest → prepare.PrepareStage → Kept → Type 0
   PrepareMid q prepare.Heard k = MidAt k.durable
   PrepareMid q prepare.Checking k = MidAt k.durable × (q.entry.epoch.0 / 256 ≤ k.durable.lease)
   PrepareMid q prepare.Stored k = SoundAt k.durable
 
-  prepare-step : (q : PrepareRequest) → q.entry.committed ≡ false → AreItsOwn r q.entry.attempt t q.writes → MayBeStored o h w s q.entry.attempt q.entry.epoch
+  pub prepare-step : (q : PrepareRequest) → q.entry.committed ≡ false → AreItsOwn r q.entry.attempt t q.writes → MayBeStored o h w s q.entry.attempt q.entry.epoch
       → (g : prepare.PrepareStage) (k : Kept) (c : Option Change) (u : prepare.PrepareStage) (l : Kept) → prepare.PrepareNext (target_plan r t) s.opening s.memory q g k c u → Steps c k l → PrepareMid q g k → PrepareMid q u l
   prepare-step q open' own may g k c u l (prepare.ExtendsLease k' lease low is) steps p = subst MidAt (sym steps.0) (leases-at k.durable (q.entry.epoch.0 / 256) lease low is p)
   prepare-step q open' own may g k c u l (prepare.IsCovered k' le) steps p = (subst (λ n. MidAt n.durable) (sym steps) p, subst (λ n. q.entry.epoch.0 / 256 ≤ n.durable.lease) (sym steps) le)
   prepare-step q open' own may g k c u l (prepare.Stores k' allowed space) steps p =
       subst SoundAt (sym steps.0)
-      (stores-sound r o held h h.served s.opening t s.memory.stamps k.durable q.entry q.writes (target_plan r t) q.first (new-at k.durable q.entry open' may p.1 p.0) own allowed p.0.0)
+      (stores-sound r o held h h.served s.opening t s.memory.stamps k.durable q.entry q.writes (target_plan r t) q.first (new-at k.durable q.entry open' may p.1 q.writes q.first allowed p.0) own allowed p.0.0)
 
   -- nothing is decided or served
   pub leaves-quiet : (m : Message) (k : Kept) (n : TargetMemory) (did : Did) → n.stamps ≡ s.memory.stamps → NoneIs is_answer did.posts → committed_in did.posts ≡ [] → SoundAt k.durable
@@ -176,10 +188,10 @@ module _ (r : Rules) (o : Opening) (held : List Version) (h : History) (w : Worl
     pub undecided : WasDecided h q.attempt → ⊥
 
   module _ (q : CommitRequest) (reading : ℕ) (c : HearsCommit q reading) where
-    abbrev HasEpoch : Epoch → Type 0
+    abbrev pub HasEpoch : Epoch → Type 0
     HasEpoch e = request_epoch (target_plan r t) s.memory reading q.tracker q.ep ≡ Some e
 
-    abbrev CommitMid : commit.CommitStage → Kept → Type 0
+    abbrev pub CommitMid : commit.CommitStage → Kept → Type 0
     CommitMid commit.Asked k = MidAt k.durable
     CommitMid (commit.Known e) k = MidAt k.durable × HasEpoch e
     CommitMid (commit.Checking e) k = MidAt k.durable × HasEpoch e × (e.0 / 256 ≤ k.durable.lease)
@@ -191,14 +203,14 @@ module _ (r : Rules) (o : Opening) (held : List Version) (h : History) (w : Worl
     own : AreItsOwn r q.attempt t (commit.own_writes (target_plan r t) q.writes)
     own = subst (λ ws. AreItsOwn r q.attempt t (commit.own_writes (target_plan r t) ws)) (sym c.right.its) (commit-own r q.attempt t (b.forms q.attempt))
 
-    commit-step : (g : commit.CommitStage) (k : Kept) (n : Option Change) (u : commit.CommitStage) (l : Kept) → commit.CommitNext (target_plan r t) s.opening s.memory reading q g k n u → Steps n k l → CommitMid g k → CommitMid u l
+    pub commit-step : (g : commit.CommitStage) (k : Kept) (n : Option Change) (u : commit.CommitStage) (l : Kept) → commit.CommitNext (target_plan r t) s.opening s.memory reading q g k n u → Steps n k l → CommitMid g k → CommitMid u l
     commit-step g k n u l (commit.HasEpoch k' e its) steps p = (subst (λ j. MidAt j.durable) (sym steps) p, its)
     commit-step g k n u l (commit.ExtendsLease k' e lease low is) steps p = (subst MidAt (sym steps.0) (leases-at k.durable (e.0 / 256) lease low is p.0), p.1)
     commit-step g k n u l (commit.IsCovered k' e le) steps p = (subst (λ j. MidAt j.durable) (sym steps) p.0, p.1, subst (λ j. e.0 / 256 ≤ j.durable.lease) (sym steps) le)
     commit-step g k n u l (commit.Stores k' e allowed space) steps p = (
       subst SoundAt (sym steps.0)
           (stores-sound r o held h h.served s.opening t s.memory.stamps k.durable (commit.led_entry (target_plan r t) q e) (commit.own_writes (target_plan r t) q.writes) (target_plan r t) q.first
-          (new-at k.durable (commit.led_entry (target_plan r t) q e) refl (may-store e p.1) p.2 p.0) own allowed p.0.0),
+          (new-at k.durable (commit.led_entry (target_plan r t) q e) refl (may-store e p.1) p.2 (commit.own_writes (target_plan r t) q.writes) q.first allowed p.0) own allowed p.0.0),
       p.1,
     )
 

@@ -1,5 +1,5 @@
 -- An attempt is decided: what each target keeps stands for one more transaction, whether it holds the attempt or not.
-use Rattle.std.specs.Prelude.{ℕ, ◌≡◌, ◌≢◌, ◌⊎◌, ◌+◌, ◌<◌, ◌≤◌, Bool, true, false, ◌||◌, ◌==◌, max, List, ◌∷◌, Contains, Some, None, refl}
+use Rattle.std.specs.Prelude.{ℕ, ◌≡◌, ◌≢◌, ◌⊎◌, ◌+◌, ◌<◌, ◌≤◌, Bool, true, false, ◌||◌, ◌==◌, max, List, ◌∷◌, Contains, Some, None, refl, ◌&&◌, not}
 use Rattle.std.proofs.Common.{sym, ◌∙◌, ap, subst, inl, inr, arith}
 use Rattle.std.proofs.lemmas.List.Elements.{All-cons}
 use Rattle.std.proofs.lemmas.List.Kept.{AllPairs-cons}
@@ -8,23 +8,22 @@ use Rattle.base_types.specs.declared.epoch.Epoch.{Epoch}
 use Rattle.base_types.specs.declared.id.AttemptId.{AttemptId}
 use Rattle.base_types.specs.declared.id.ContId.{ContId}
 use Rattle.base_types.specs.declared.operation.MinorWrite.{MinorWrite}
-use Rattle.model_laws.specs.Dated.{Dated, dated, is_about}
+use Rattle.model_laws.specs.Dated.{Dated, dated, is_about, map_of}
 use Rattle.model_laws.specs.Decided as decided
 use Rattle.model_laws.specs.DecidedLaws.{all-from_has}
 use Rattle.model_laws.specs.Deciding.{CountsMore}
-use Rattle.model_laws.specs.DecidingLaws.{holders-keep, others-keep}
-use Rattle.model_laws.specs.Matches.{HoldsWrite, IsAdded, Matches}
-use Rattle.model_laws.specs.Members.{Has, contains-from_has, has-from_contains, has-from_map, has-map}
-use Rattle.model_laws.specs.TargetLaws.{own-here}
+use Rattle.model_laws.specs.Matches.{HoldsWrite, IsAdded, Matches, CountsOnce, GivesAsOf, counts_under}
+use Rattle.model_laws.specs.Members.{Has, contains-from_has, has-from_contains, has-from_map, has-map, any-has, has-any}
+use Rattle.model_laws.specs.TargetLaws.{own-here, number_same, same_number}
 use Rattle.model_laws.specs.Targets.{is_own}
 use Rattle.daos_model.specs.declared.cell.Cell.{Cell}
 use Rattle.daos_model.specs.declared.durable.Durable.{Durable}
 use Rattle.daos_model.specs.declared.durable.Version.{Version}
-use Rattle.daos_model.specs.BoolLaws.{and_left, clash, false_of}
+use Rattle.daos_model.specs.BoolLaws.{and_left, clash, false_of, and_right, both, not_true}
 use Rattle.daos_model.specs.Durables.{entry_of, row_of, same_attempt}
 use Rattle.daos_model.specs.Forms.{AreWritesInForm}
 use Rattle.daos_model.specs.Opening.{Opening, top}
-use Rattle.daos_model.specs.Versions.{version_of}
+use Rattle.daos_model.specs.Versions.{version_of, version_path}
 use Rattle.world_attempts.specs.Attempts.{writes_of}
 use Rattle.world_attempts.specs.History.{Decided, History, decides, is_decided}
 use Rattle.world_base.specs.Events.{Rules}
@@ -34,7 +33,15 @@ use Rattle.daos_model.specs.EntryLaws.{same_attempt-itself}
 use Rattle.world_attempts.specs.MarkTurns.{found-attempt}
 use Rattle.world_reads.specs.Given.{FitsTargets}
 use Rattle.world_reads.specs.Transactions.{counts_by, decided_of, transactions}
-use Rattle.world_reads.specs.Versions.{IsPreparedAt, IsVersionOf, IsWriteAt, VersionsStand, is_own_in, mark_of}
+use Rattle.world_reads.specs.Versions.{IsPreparedAt, IsVersionOf, IsWriteAt, VersionsStand, is_own_in, mark_of, SnapshotsStand}
+use Rattle.std.specs.List.{list_any}
+use Rattle.std.proofs.lemmas.Bool.{cases_lt}
+use Rattle.base_types.specs.declared.snapshot.Snap.{Snap}
+use Rattle.base_types.specs.Operations.{write_path}
+use Rattle.model_laws.specs.MatchLaws.{decisions-below, decisions-keep, decisions-nothing, matches-give}
+use Rattle.model_laws.specs.PruneMatchLaws.{touches-cont}
+use Rattle.daos_model.specs.Cells.{value_at}
+use Rattle.world_reads.specs.QuietLaws.{IsQuiet, quiet-gives, quiet-keep, quiet-map}
 
 -- ---- what is decided
 
@@ -79,7 +86,7 @@ stays-apart r o h x e may a = record {
 
 -- ---- what versions stand for
 
-pub mark-low : (a b e : ℕ) → b ≤ a → a < e → max a b + 1 ≤ e
+pub mark-low : (a b e : ℕ) → b < e → a < e → max a b + 1 ≤ e
 mark-low a b e low lt = omega (arith, low, lt)
 
 -- the attempt's versions count, and those that did
@@ -161,15 +168,130 @@ module _ (r : Rules) (o : Opening) (held : List Version) (h : History) (t : ℕ)
       by true is = ap (λ b. b || is_decided h v.by) is
       by false is = let z = s.unsettled v i is in let no : ⊥ = cc (z.found, absent, own) in absurd no
 
+  -- ---- of one container
+
+  -- an unsettled version of it lies in a container
+  abbrev is_open_of : ContId → Version → Bool
+  is_open_of cont v = same_attempt v.by x && not v.done && ((version_path v).cont.0 == cont.0)
+
+  record IsOpenOf (cont : ContId) (v : Version) : Type 0 where
+    by_it : v.by ≡ x
+    unsettled : v.done ≡ false
+    inside : (version_path v).cont ≡ cont
+
+  open-of : (cont : ContId) (v : Version) → is_open_of cont v ≡ true → IsOpenOf cont v
+  open-of cont v is =
+      let first = and_left (same_attempt v.by x && not v.done) ((version_path v).cont.0 == cont.0) is in
+      record {
+        by_it = same-attempt v.by x (and_left (same_attempt v.by x) (not v.done) first);
+        unsettled = not_true v.done (and_right (same_attempt v.by x) (not v.done) first);
+        inside = ap cont_of (number_same (version_path v).cont.0 cont.0 (and_right (same_attempt v.by x && not v.done) ((version_path v).cont.0 == cont.0) is));
+      }
+    where
+      cont_of : ℕ → ContId
+      cont_of n = record { 0 = n }
+
+  is-open_of : (cont : ContId) (v : Version) → v.by ≡ x → v.done ≡ false → (version_path v).cont.0 ≡ cont.0 → is_open_of cont v ≡ true
+  is-open_of cont v own off inside =
+      both (same_attempt v.by x && not v.done) ((version_path v).cont.0 == cont.0)
+      (both (same_attempt v.by x) (not v.done) (ap (λ y. same_attempt y x) own ∙ same_attempt-itself x) (ap not off))
+      (ap (λ n. n == cont.0) inside ∙ same_number cont.0)
+
+  -- Where it has such a version, it lies above what was aggregated there, and its versions count once. Otherwise the decision says nothing
+  -- of the container's own cells.
+  data Decision (cont : ContId) : Type 0 where
+    IsAbove : mark_of o d cont ≤ e.0 → CountsOnce (is_own_in r.script.targets t cont) (decided_of r.script (x, e)) d.versions (counts_by h) (counts_by (decides h x e)) → Decision cont
+    SaysNothing : IsQuiet (is_own_in r.script.targets t cont) (decided_of r.script (x, e)) d.versions (counts_by h) (counts_by (decides h x e)) → Decision cont
+
+  more : CountsMore x d.versions (counts_by h) (counts_by (decides h x e))
+  more = counts-more h x e d.versions
+
+  above-it : (k : Entry) → entry_of d x ≡ Some k → k.epoch ≡ e → (cont : ContId) (v : Version) → Contains d.versions v → IsOpenOf cont v → mark_of o d cont ≤ e.0
+  above-it k found at cont v i z =
+      let p = s.unsettled v i z.unsettled in
+      let one : p.entry ≡ k = cc (p.found, found, z.by_it) in
+      let when : v.epoch ≡ e = sym p.epoch ∙ ap (λ y. y.epoch) one ∙ at in
+      mark-low (top o) (row_of d cont).aggregated.0 e.0 (subst (λ c. (row_of d c).aggregated.0 < e.0) z.inside (subst (λ y. (row_of d (version_path v).cont).aggregated.0 < y.0) when (s.clear v i z.unsettled))) may.above
+
+  decision : IsHeldOrElsewhere r x e t d → (cont : ContId) → Decision cont
+  decision (Held k found at) cont = by (list_any (is_open_of cont) d.versions) refl
+    where
+      own : Cell → Bool
+      own = is_own_in r.script.targets t cont
+
+      inside : (c : Cell) → own c ≡ true → c.path.cont.0 ≡ cont.0
+      inside c is = number_same c.path.cont.0 cont.0 (and_right (is_own r.script.targets t c) (c.path.cont.0 == cont.0) is)
+
+      its : k.attempt ≡ x
+      its = found-attempt d x k found
+
+      by : (b : Bool) → list_any (is_open_of cont) d.versions ≡ b → Decision cont
+      by true is =
+          let v = has-any (is_open_of cont) d.versions is in
+          IsAbove (above-it k found at cont v.0 (contains-from_has d.versions v.0 v.1) (open-of cont v.0 v.2))
+          (record { kept = more.kept; new = λ u i now before. open-its k found at u i (more.new u i now before) before; held = holds-its k found at cont })
+      by false none = SaysNothing (record { kept = more.kept; new = λ c u is i now before. new c u is i now before; apart = λ c y is i. false_of (is_about c y) (λ about. apart-of_it c y is i about) })
+        where
+          no-open : (u : Version) → Contains d.versions u → u.by ≡ x → u.done ≡ false → (version_path u).cont.0 ≡ cont.0 → ⊥
+          no-open u i its off at = clash (list_any (is_open_of cont) d.versions) (any-has (is_open_of cont) d.versions u (has-from_contains d.versions u i) (is-open_of cont u its off at)) none
+
+          new : (c : Cell) (u : Version) → own c ≡ true → Contains d.versions u → counts_by (decides h x e) u ≡ true → counts_by h u ≡ false → is_about c (dated u) ≡ false
+          new c u is i now before = false_of (is_about c (dated u)) (λ about. no-open u i (more.new u i now before) (off-open h u before) (touches-cont c u.write about ∙ inside c is))
+
+          apart-of_it : (c : Cell) (y : Dated) → own c ≡ true → Contains (decided.dated_by (decided_of r.script (x, e))) y → is_about c y ≡ true → ⊥
+          apart-of_it c y is i about =
+              let m = own-write cont c y is i about in
+              let there = s.whole k m.0 (entry-among d x k found) (entry-open k found) (subst (λ z. IsWriteAt r z t m.0) (sym its) m.1) in
+              no-open (version_of k m.0) there its refl (ap (λ z. (write_path z).cont.0) (ap (λ z. z.write) m.2) ∙ touches-cont c y.write about ∙ inside c is)
+  decision (Elsewhere absent none) cont = SaysNothing (record {
+    kept = more.kept;
+    new = λ c u is i now before. clash (counts_by h u) (none-open absent u i (more.new u i now before)) before;
+    apart = λ c y own i. false_of (is_about c y) (λ about. let m = own-write cont c y own i about in none m.0 m.1);
+  })
+
   matches-then : IsHeldOrElsewhere r x e t d → (cont : ContId) → Matches (is_own_in r.script.targets t cont) (counts_by (decides h x e)) d.versions o.stand (transactions r.script (decides h x e)) (mark_of o d cont)
-  matches-then (Held k found at) cont =
-      holders-keep (is_own_in r.script.targets t cont) x (decided_of r.script (x, e)) (counts_by h) (counts_by (decides h x e)) d.versions o.stand (transactions r.script h) (transactions r.script (decides h x e)) (mark_of o d cont)
-      apart (stays-apart r o h x e may apart) (mark-low (top o) (row_of d cont).aggregated.0 e.0 (s.unpruned cont) may.above) (counts-more h x e d.versions)
-      (record { of_it = open-its k found at; there = holds-its k found at cont }) (is-added r h x e) (s.matches cont)
-  matches-then (Elsewhere absent none) cont =
-      others-keep (is_own_in r.script.targets t cont) x (decided_of r.script (x, e)) (counts_by h) (counts_by (decides h x e)) d.versions o.stand (transactions r.script h) (transactions r.script (decides h x e)) (mark_of o d cont)
-      apart (stays-apart r o h x e may apart) (mark-low (top o) (row_of d cont).aggregated.0 e.0 (s.unpruned cont) may.above) (counts-more h x e d.versions)
-      (record { none = none-open absent; apart = λ c y own i. false_of (is_about c y) (λ about. let m = own-write cont c y own i about in none m.0 m.1) }) (is-added r h x e) (s.matches cont)
+  matches-then place cont = by (decision place cont)
+    where
+      by : Decision cont → Matches (is_own_in r.script.targets t cont) (counts_by (decides h x e)) d.versions o.stand (transactions r.script (decides h x e)) (mark_of o d cont)
+      by (IsAbove low once) =
+          decisions-keep (is_own_in r.script.targets t cont) (decided_of r.script (x, e)) (counts_by h) (counts_by (decides h x e)) d.versions o.stand (transactions r.script h) (transactions r.script (decides h x e)) (mark_of o d cont)
+          apart (stays-apart r o h x e may apart) low once (is-added r h x e) (s.matches cont)
+      by (SaysNothing quiet) =
+          quiet-keep (is_own_in r.script.targets t cont) (decided_of r.script (x, e)) (counts_by h) (counts_by (decides h x e)) d.versions o.stand (transactions r.script h) (transactions r.script (decides h x e)) quiet (is-added r h x e)
+          (mark_of o d cont) s.single apart (stays-apart r o h x e may apart) (s.matches cont)
+
+  -- what is below a frozen snapshot stays so
+  snapshots-then : IsHeldOrElsewhere r x e t d → SnapshotsStand r o (decides h x e) t d
+  snapshots-then place = record {
+    floored = s.snapshots.floored;
+    leased = s.snapshots.leased;
+    kept = λ z m i low is c own. below z low c own (decision place z.cont) ∙ s.snapshots.kept z m i low is c own;
+    given = λ z i above. given z i above (decision place z.cont);
+  }
+    where
+      below : (z : Snap) → z.epoch.0 ≤ top o → (c : Cell) → is_own_in r.script.targets t z.cont c ≡ true → Decision z.cont
+          → value_at (map_of (counts_under (counts_by (decides h x e)) z.epoch.0) d.versions) c ≡ value_at (map_of (counts_under (counts_by h) z.epoch.0) d.versions) c
+      below z low c own (IsAbove mark once) =
+          let up = may.above in
+          ap (λ m. value_at m c) (decisions-nothing (is_own_in r.script.targets t z.cont) (decided_of r.script (x, e)) (counts_by h) (counts_by (decides h x e)) d.versions z.epoch.0 (omega (arith, low, up)) once)
+      below z low c own (SaysNothing quiet) =
+          quiet-map (is_own_in r.script.targets t z.cont) (decided_of r.script (x, e)) (counts_by h) (counts_by (decides h x e)) d.versions o.stand (transactions r.script h) (transactions r.script (decides h x e)) quiet (is-added r h x e)
+          z.epoch.0 s.single c own
+
+      given : (z : Snap) → Contains d.snaps z → top o < z.epoch.0 → Decision z.cont
+          → GivesAsOf (is_own_in r.script.targets t z.cont) (counts_by (decides h x e)) d.versions o.stand (transactions r.script (decides h x e)) z.epoch.0
+      given z i above (IsAbove mark once) = by (cases_lt e.0 z.epoch.0)
+        where
+          by : (e.0 < z.epoch.0) ⊎ (z.epoch.0 ≤ e.0) → GivesAsOf (is_own_in r.script.targets t z.cont) (counts_by (decides h x e)) d.versions o.stand (transactions r.script (decides h x e)) z.epoch.0
+          by (inl lt) =
+              matches-give (is_own_in r.script.targets t z.cont) (counts_by (decides h x e)) d.versions o.stand (transactions r.script (decides h x e)) (mark_of o d z.cont) z.epoch.0 s.single (stays-apart r o h x e may apart)
+              (matches-then place z.cont) (omega (arith, lt, mark))
+          by (inr le) =
+              decisions-below (is_own_in r.script.targets t z.cont) (decided_of r.script (x, e)) (counts_by h) (counts_by (decides h x e)) d.versions o.stand (transactions r.script h) (transactions r.script (decides h x e)) z.epoch.0
+              apart (stays-apart r o h x e may apart) le once (is-added r h x e) (s.snapshots.given z i above)
+      given z i above (SaysNothing quiet) =
+          quiet-gives (is_own_in r.script.targets t z.cont) (decided_of r.script (x, e)) (counts_by h) (counts_by (decides h x e)) d.versions o.stand (transactions r.script h) (transactions r.script (decides h x e)) quiet (is-added r h x e)
+          z.epoch.0 s.single apart (stays-apart r o h x e may apart) (s.snapshots.given z i above)
 
   pub decides-stands : IsHeldOrElsewhere r x e t d → VersionsStand r o held (decides h x e) t d
   decides-stands place = record {
@@ -184,7 +306,9 @@ module _ (r : Rules) (o : Opening) (held : List Version) (h : History) (t : ℕ)
     epochs = λ y k f found is. epochs y k f found is place;
     matches = matches-then place;
     leased = s.leased;
-    unpruned = s.unpruned;
+    aggregated = s.aggregated;
+    clear = s.clear;
+    snapshots = snapshots-then place;
   }
     where
       done : (v : Version) → Contains held v ⊎ (Decided h v.by v.epoch × IsVersionOf r t v) → Contains held v ⊎ (Decided (decides h x e) v.by v.epoch × IsVersionOf r t v)

@@ -1,5 +1,5 @@
 -- Every turn keeps the facts of versions and reads.
-use Rattle.std.specs.Prelude.{ℕ, ◌≡◌, ◌⊎◌, ◌≤◌, ◌/◌, ◌++◌, ◌==◌, ◌||◌, Bool, true, false, List, [], Contains, slice_get, Some, None, refl}
+use Rattle.std.specs.Prelude.{ℕ, ◌≡◌, ◌⊎◌, ◌≤◌, ◌/◌, ◌++◌, ◌==◌, ◌||◌, Bool, true, false, List, [], Contains, slice_get, Some, None, refl, Option}
 use Rattle.std.proofs.Common.{sym, ◌∙◌, ap, subst, inl, inr}
 use Rattle.std.proofs.Math.ListN.{set}
 use Rattle.std.proofs.lemmas.List.Elements.{Contains-append_left}
@@ -25,7 +25,7 @@ use Rattle.dtx_base.specs.Leading.{undecided_attempt}
 use Rattle.dtx_base.specs.Members.{writes_at}
 use Rattle.dtx_base.specs.Rows.{is_attempt, row_of}
 use Rattle.world_attempts.specs.Attempts as letters
-use Rattle.world_attempts.specs.Attempts.{Attempts, IsMarkRight, IsMarkTrue, IsOther, IsPrepareRight, IsTrueOf, IsVerdictTrue, is_answered_by, is_asked_by, entry_at, entry_in, is_asking, is_known_in, is_prepare_to, leader_of, row_in, writes_of}
+use Rattle.world_attempts.specs.Attempts.{Attempts, IsMarkRight, IsMarkTrue, IsOther, IsPrepareRight, IsTrueOf, IsVerdictTrue, is_answered_by, is_asked_by, entry_at, entry_in, is_asking, is_known_in, is_prepare_to, leader_of, row_in, writes_of, first_entry}
 use Rattle.world_attempts.specs.Counting.{has-taken, none-counted}
 use Rattle.world_attempts.specs.History.{Aborted, GrowsBy, History, Served}
 use Rattle.world_attempts.specs.Keeping.{AttemptsAreKept, NoneIsBoth}
@@ -58,6 +58,9 @@ use Rattle.world_reads.specs.Versions.{IsWriteAt, Versions, VersionsStand}
 use Rattle.world_base.specs.Changes.{Kept}
 use Rattle.world_base.specs.RightTurns.{HearsRightly}
 use Rattle.world_base.specs.TargetTurns.{commit_request, fetch_request, prepare_request}
+use Rattle.base_types.specs.declared.entry.Entry.{Entry}
+use Rattle.world_base.specs.Roles.{is_in_doubt}
+use Rattle.world_clients.specs.Snapshots.{is_at_snapshot}
 
 -- ---- before a turn
 
@@ -88,7 +91,7 @@ module _ (r : Rules) (o : Opening) (held : ℕ → List Version) (h : History) (
       let z = (b.attempts.each a).rows.unsettled t (ap (λ y. is_known_in y a) here ∙ any-has (is_attempt a) s.memory.leader.decided a (has-from_contains s.memory.leader.decided a i) (same_attempt-itself a)) in
       (z.here.entry.epoch, z.decided)
 
-  turn-begins : TurnBegins r o (held t) h w t s
+  pub turn-begins : TurnBegins r o (held t) h w t s
   turn-begins = record {
     sound = record {
       stand = b.versions.stand t s here;
@@ -96,7 +99,7 @@ module _ (r : Rules) (o : Opening) (held : ℕ → List Version) (h : History) (
         guarded = λ q i at. b.reads.guarded q s i (there q at) runs;
         leased = λ q i at. b.reads.leased q s i (there q at);
         barred = λ q v i at j f over. b.reads.barred q s v i (there q at) j f over;
-        stamped = λ z i. let q = b.reads.stamps t s z here runs i in (q.0, q.1, q.2, (q.3, q.4, q.5));
+        stamped = λ z i. let q = b.reads.stamps t s z here runs i in (q.0, q.1, q.2, (q.3, q.4, q.5, q.6));
       };
     };
     apart = b.versions.apart;
@@ -129,8 +132,8 @@ unfolding is_asking
 asked-asks x m l is = ap (λ c. c || is_answered_by x m l.from l.message) is
 
 module _ (both-not : NoneIsBoth) (r : Rules) (o : Opening) (held : ℕ → List Version) (h : History) (w : World) (b : Before r o held h w) (t : ℕ) (s : TargetState) (here : slice_get w.targets t ≡ Some s) (runs : s.life ≡ Running)
-    (reading : ℕ) (new : Kept) (left : TargetMemory × Did) (l : Letter) (among : Has l w.messages) (to_it : l.to ≡ target t) where
-  begins : TurnBegins r o (held t) h w t s
+    (reading : ℕ) (l : Letter) (among : Has l w.messages) (to_it : l.to ≡ target t) where
+  pub begins : TurnBegins r o (held t) h w t s
   begins = turn-begins r o held h w b t s here runs
 
   -- what is aborted isn't decided
@@ -141,30 +144,39 @@ module _ (both-not : NoneIsBoth) (r : Rules) (o : Opening) (held : ℕ → List 
   mark-right x true k = k
   mark-right x false k = undecided x k
 
-  verdict-right : (x : AttemptId) (v : Verdict) → IsVerdictTrue h x v → IsVerdictRight r o (held t) h w t s begins v x
+  pub verdict-right : (x : AttemptId) (v : Verdict) → IsVerdictTrue h x v → IsVerdictRight r o (held t) h w t s begins v x
   verdict-right x fate.Committed k = k
   verdict-right x fate.Aborted k = undecided x k
   verdict-right x fate.Undecided k = tt
 
-  parked-right : (p : Parked) → Has p s.memory.member.parked → IsParkedRight r o w t p.ask
+  pub parked-right : (p : Parked) → Has p s.memory.member.parked → IsParkedRight r o w t s.durable p.ask
   parked-right p i = b.given.waiting t s p here runs i
 
-  right : (m : Message) → l.message ≡ m → IsMessageRight r o w t s m
+  pub right : (m : Message) → l.message ≡ m → IsMessageRight r o w t s m
   right m is = subst (IsMessageRight r o w t s) is (b.given.asked l t s (contains-from_has w.messages l among) to_it here runs)
 
-  hears-sound : (m : Message) → l.message ≡ m → HearsRightly (target_plan r t) s.opening s.memory reading l.from m (kept s) new left → TurnLeaves r o (held t) h w s.opening t m s.memory.member.parked new left
-  hears-sound (message.Fetch x op group ep first tracker read snapshot) is turn =
-      let ok = right (message.Fetch x op group ep first tracker read snapshot) is in
-      fetch-sound r o (held t) h w t s begins reading (fetch_request x op group ep first tracker read snapshot) l.from ok.0 (ok.1 reading) new left turn
-  hears-sound (message.Commit x ep first tracker ws) is turn = commit-sound r o (held t) h w t s begins (commit_request x ep first tracker ws) reading hears l.from (message.Commit x ep first tracker ws) new left turn
+  -- what a Mark names is so
+  pub marks-heard : (inc : ℕ) (marks : List (AttemptId × Bool)) → l.message ≡ message.Mark inc marks → (x : AttemptId) (c : Bool) → Has (x, c) marks → IsFateRight h x c
+  marks-heard inc marks is x c i = mark-right x c (marks-true x c i).fate
     where
-      hears : HearsCommit r o (held t) h w t s begins (commit_request x ep first tracker ws) reading
-      hears =
-          let ok = right (message.Commit x ep first tracker ws) is in
-          let absent = sym (entry-here r o held h w b t s here runs x) ∙ ap (λ n. entry_at w n x) ok.0.leads ∙ (b.right.commits l x ep first tracker ws among is).unstored in
-          record { right = ok.0; epochs = ok.1 reading; absent = absent; undecided = unheld r o held h w b t s here runs x ok.0.leads absent }
-  hears-sound (message.Prepare e first ws inc) is turn =
-      prepare-sound r o (held t) h w t s begins (prepare_request e first ws inc) (message.Prepare e first ws inc) z.entry (z.writes ∙ ap (λ n. writes_at r.script.targets n (writes_of r e.attempt)) it) may new left turn
+      marks-true : (x : AttemptId) (c : Bool) → Has (x, c) marks → IsMarkRight r h w l.from l.to x inc c
+      marks-true = subst (IsTrueOf r h w l.from l.to) is (b.attempts.letters l among)
+
+  -- a Commit is heard with what its turn needs
+  pub commit-heard : (x : AttemptId) (ep first : Option Epoch) (tracker : Epoch) (ws : List MinorWrite) → l.message ≡ message.Commit x ep first tracker ws → HearsCommit r o (held t) h w t s begins (commit_request x ep first tracker ws) reading
+  commit-heard x ep first tracker ws is =
+      let ok = right (message.Commit x ep first tracker ws) is in
+      let absent = sym (entry-here r o held h w b t s here runs x) ∙ ap (λ n. entry_at w n x) ok.0.leads ∙ (b.right.commits l x ep first tracker ws among is).unstored in
+      record { right = ok.0; epochs = ok.1 reading; absent = absent; undecided = unheld r o held h w b t s here runs x ok.0.leads absent }
+
+  -- what a Prepare is heard with
+  pub record HearsPrepare (e : Entry) (ws : List MinorWrite) : Type 0 where
+    pub entry : e ≡ first_entry r e.attempt e.epoch
+    pub writes : ws ≡ writes_at r.script.targets t (writes_of r e.attempt)
+    pub may : MayBeStored o h w s e.attempt e.epoch
+
+  pub prepare-heard : (e : Entry) (first : Option Epoch) (ws : List MinorWrite) (inc : ℕ) → l.message ≡ message.Prepare e first ws inc → HearsPrepare e ws
+  prepare-heard e first ws inc is = record { entry = z.entry; writes = z.writes ∙ ap (λ n. writes_at r.script.targets n (writes_of r e.attempt)) it; may = may }
     where
       z : IsPrepareRight r h w l.from l.to e ws inc
       z = subst (IsTrueOf r h w l.from l.to) is (b.attempts.letters l among)
@@ -188,24 +200,31 @@ module _ (both-not : NoneIsBoth) (r : Rules) (o : Opening) (held : ℕ → List 
         above = b.given.above e.attempt e.epoch issued;
         alone = λ y f i same. b.given.apart y e.attempt f e.epoch i issued same;
       }
-  hears-sound (message.Ack x inc refusal) is turn = ack-sound r o (held t) h w t s begins l.from.number x inc refusal (message.Ack x inc refusal) (right (message.Ack x inc refusal) is) new left turn
-  hears-sound (message.Mark inc marks) is turn = mark-sound r o (held t) h w t s begins l.from inc marks (message.Mark inc marks) (λ x c i. mark-right x c (marks-true x c i).fate) new left turn
-    where
-      marks-true : (x : AttemptId) (c : Bool) → Has (x, c) marks → IsMarkRight r h w l.from l.to x inc c
-      marks-true = subst (IsTrueOf r h w l.from l.to) is (b.attempts.letters l among)
-  hears-sound (message.Marked inc ids) is turn = marked-sound r o (held t) h w t s begins l.from.number inc ids (message.Marked inc ids) new left turn
-  hears-sound (message.Query x ask) is turn = query-sound r o (held t) h w t s begins l.from x ask (message.Query x ask) new left turn
-  hears-sound (message.Verdict x ask inc v) is turn =
-      verdict-sound r o (held t) h w t s begins reading x ask v (message.Verdict x ask inc v) (verdict-right x v z.fate) parked-right new left turn
+
+  hears-sound : (new : Kept) (left : TargetMemory × Did) (m : Message) → l.message ≡ m → HearsRightly (target_plan r t) s.opening s.memory reading l.from m (kept s) new left → TurnLeaves r o (held t) h w s.opening t m s.memory.member.parked new left
+  hears-sound new left (message.Fetch x op group ep first tracker read snapshot) is turn =
+      let ok = right (message.Fetch x op group ep first tracker read snapshot) is in
+      fetch-sound r o (held t) h w t s begins reading (fetch_request x op group ep first tracker read snapshot) l.from ok.0 (ok.1 reading) new left turn
+  hears-sound new left (message.Commit x ep first tracker ws) is turn =
+      commit-sound r o (held t) h w t s begins (commit_request x ep first tracker ws) reading (commit-heard x ep first tracker ws is) l.from (message.Commit x ep first tracker ws) new left turn
+  hears-sound new left (message.Prepare e first ws inc) is turn =
+      let z = prepare-heard e first ws inc is in
+      prepare-sound r o (held t) h w t s begins (prepare_request e first ws inc) (message.Prepare e first ws inc) z.entry z.writes z.may new left turn
+  hears-sound new left (message.Ack x inc refusal) is turn = ack-sound r o (held t) h w t s begins l.from.number x inc refusal (message.Ack x inc refusal) (right (message.Ack x inc refusal) is) new left turn
+  hears-sound new left (message.Mark inc marks) is turn = mark-sound r o (held t) h w t s begins l.from inc marks (message.Mark inc marks) (marks-heard inc marks is) new left turn
+  hears-sound new left (message.Marked inc ids) is turn = marked-sound r o (held t) h w t s begins l.from.number inc ids (message.Marked inc ids) new left turn
+  hears-sound new left (message.Query x ask) is turn = query-sound r o (held t) h w t s begins l.from x ask (message.Query x ask) new left turn
+  hears-sound new left (message.Verdict x ask inc v) is turn =
+      verdict-sound r o (held t) h w t s begins (is_in_doubt t) reading x ask v (message.Verdict x ask inc v) (verdict-right x v z.fate) parked-right new left turn
     where
       z : letters.IsVerdictRight r h w l.from l.to x v
       z = subst (IsTrueOf r h w l.from l.to) is (b.attempts.letters l among)
-  hears-sound m is turn = absurd turn
+  hears-sound new left m is turn = absurd turn
 
 -- ---- after it
 
 -- of the targets after a turn, one is new, and the others are as they were
-at-or-there : (targets : List TargetState) (t : ℕ) (s new : TargetState) → slice_get targets t ≡ Some s → (u : ℕ) (z : TargetState) → slice_get (set targets t new) u ≡ Some z
+pub at-or-there : (targets : List TargetState) (t : ℕ) (s new : TargetState) → slice_get targets t ≡ Some s → (u : ℕ) (z : TargetState) → slice_get (set targets t new) u ≡ Some z
     → ((u ≡ t) × (z ≡ new)) ⊎ ((u ≡ t → ⊥) × (slice_get targets u ≡ Some z))
 at-or-there targets t s new here u z at = by (u == t) refl
   where
@@ -258,15 +277,15 @@ module _ (r : Rules) (o : Opening) (held : ℕ → List Version) (h : History) (
   right-now : (q : Served) → Has q (more ++ h.served) → IsAnsweredRight r o h q
   right-now q i = elim (has-cases more h.served q i) [ inl j ↦ (right q j).right | inr j ↦ b.reads.answers q j ]
 
-  issued-now : (q : Served) → Has q (more ++ h.served) → Contains (w.issued ++ listed left.1.issued) (q.by, q.epoch)
-  issued-now q i = elim (has-cases more h.served q i) [ inl j ↦ (right q j).its | inr j ↦ Contains-append_left w.issued (listed left.1.issued) (q.by, q.epoch) (b.reads.issued q j) ]
+  issued-now : (q : Served) → Has q (more ++ h.served) → is_at_snapshot r q.by ≡ false → Contains (w.issued ++ listed left.1.issued) (q.by, q.epoch)
+  issued-now q i off = elim (has-cases more h.served q i) [ inl j ↦ (right q j).its off | inr j ↦ Contains-append_left w.issued (listed left.1.issued) (q.by, q.epoch) (b.reads.issued q j off) ]
 
   -- the facts of reads, of a history in which just these were served
   reads-now : (g : History) → g.served ≡ more ++ h.served → ((q : Served) → Has q (more ++ h.served) → IsAnsweredRight r o g q) → Reads r o g Now
   reads-now g same answers = record {
     asked = λ q i. asked-now q (of q i);
     form = λ q i. form-now q (of q i);
-    issued = λ q i. issued-now q (of q i);
+    issued = λ q i off. issued-now q (of q i) off;
     answers = λ q i. answers q (of q i);
     guarded = λ q z i at runs. elim (placed q.target z at) [
       | inl k ↦ subst (λ y. IsGuarded y q) (sym k.1) (sound.shows.guarded q (of q i) k.0)
@@ -277,23 +296,23 @@ module _ (r : Rules) (o : Opening) (held : ℕ → List Version) (h : History) (
       | inr k ↦ b.reads.leased q z (old q (of q i) k.0) k.1
     ];
     barred = λ q z v i at j f over. barred-now q (of q i) z at v j f over;
-    stamps = λ u z y at runs i. let q = stamp u z y at runs i in (q.0, q.1, q.2, q.3.0, q.3.1, q.3.2);
+    stamps = λ u z y at runs i. let q = stamp u z y at runs i in (q.0, q.1, q.2, q.3.0, q.3.1, q.3.2, q.3.3);
   }
     where
       of : (q : Served) → Has q g.served → Has q (more ++ h.served)
       of q i = subst (Has q) same i
 
-      stamp-here : (u : ℕ) (y : Shown) → u ≡ t → (q : Served) × Has q (more ++ h.served) × (q.target ≡ t) × IsStampOf y q → (q : Served) × Has q g.served × (q.target ≡ u) × IsStampOf y q
+      stamp-here : (u : ℕ) (y : Shown) → u ≡ t → (q : Served) × Has q (more ++ h.served) × (q.target ≡ t) × IsStampOf r y q → (q : Served) × Has q g.served × (q.target ≡ u) × IsStampOf r y q
       stamp-here u y at z = (z.0, subst (Has z.0) (sym same) z.1, z.2 ∙ sym at, z.3)
 
-      stamp : (u : ℕ) (z : TargetState) (y : Shown) → slice_get Now.targets u ≡ Some z → z.life ≡ Running → Contains z.memory.stamps y → (q : Served) × Has q g.served × (q.target ≡ u) × IsStampOf y q
+      stamp : (u : ℕ) (z : TargetState) (y : Shown) → slice_get Now.targets u ≡ Some z → z.life ≡ Running → Contains z.memory.stamps y → (q : Served) × Has q g.served × (q.target ≡ u) × IsStampOf r y q
       stamp u z y at runs i = elim (placed u z at) [
         | inl k ↦ stamp-here u y k.0 (sound.shows.stamped y (subst (λ n. Contains n.memory.stamps y) k.1 i))
-        | inr k ↦ let q = b.reads.stamps u z y k.1 runs i in (q.0, subst (Has q.0) (sym same) (has-right more h.served q.0 q.1), q.2, (q.3, q.4, q.5))
+        | inr k ↦ let q = b.reads.stamps u z y k.1 runs i in (q.0, subst (Has q.0) (sym same) (has-right more h.served q.0 q.1), q.2, (q.3, q.4, q.5, q.6))
       ]
 
 -- the members of an attempt are where it writes
-its-members : (r : Rules) (o : Opening) (held : ℕ → List Version) (w : World) → Given r o held w → (x : AttemptId) (m : MinorWrite) (u : ℕ) → IsWriteAt r x u m → (u ≡ leader_of r x) ⊎ IsOther r x u
+pub its-members : (r : Rules) (o : Opening) (held : ℕ → List Version) (w : World) → Given r o held w → (x : AttemptId) (m : MinorWrite) (u : ℕ) → IsWriteAt r x u m → (u ≡ leader_of r x) ⊎ IsOther r x u
 its-members r o held w given x m u at = writes-member r x u m given.few (given.fits x m at.of_it) at
 
 -- ---- turns
@@ -317,7 +336,7 @@ module _ (attempts-kept : AttemptsAreKept) (both-not : NoneIsBoth) where
   }
     where
       k : TurnLeaves r o (held g.t) h w g.s.opening g.t g.l.message g.s.memory.member.parked g.new (g.memory, g.did)
-      k = hears-sound both-not r o held h w b g.t g.s g.here g.runs g.reading g.new (g.memory, g.did) g.l (has-taken w.messages g.l g.rest g.takes) g.to_it g.l.message refl g.turn
+      k = hears-sound both-not r o held h w b g.t g.s g.here g.runs g.reading g.l (has-taken w.messages g.l g.rest g.takes) g.to_it g.new (g.memory, g.did) g.l.message refl g.turn
 
       later : History
       later = grown h k.told g.did.posts k.more
@@ -384,7 +403,7 @@ others-keep r o held h w v same more k l = (
   record {
     asked = l.asked;
     form = l.form;
-    issued = λ q i. more (q.by, q.epoch) (l.issued q i);
+    issued = λ q i off. more (q.by, q.epoch) (l.issued q i off);
     answers = l.answers;
     guarded = λ q s i at runs. l.guarded q s i (back q.target s at) runs;
     leased = λ q s i at. l.leased q s i (back q.target s at);

@@ -42,11 +42,13 @@ stands-as r o held h t d aborted served k = record {
   epochs = k.epochs;
   matches = k.matches;
   leased = k.leased;
-  unpruned = k.unpruned;
+  aggregated = k.aggregated;
+  clear = k.clear;
+  snapshots = record { floored = k.snapshots.floored; leased = k.snapshots.leased; kept = k.snapshots.kept; given = k.snapshots.given };
 }
 
 pub answered-as : (r : Rules) (o : Opening) (h : History) (q : Served) (aborted : List AttemptId) (served : List Served) → IsAnsweredRight r o h q → IsAnsweredRight r o (record { decided = h.decided; aborted = aborted; served = served }) q
-answered-as r o h q aborted served a = record { obj = a.obj; of_object = a.of_object; part = a.part; is_part = a.is_part; right = a.right }
+answered-as r o h q aborted served a = record { map = a.map; seen = a.seen; obj = a.obj; of_object = a.of_object; part = a.part; is_part = a.is_part; right = a.right }
 
 -- ---- where an attempt is held
 

@@ -7,6 +7,8 @@ pub mod Keeping
 pub mod Midway
 pub mod AsOfLaws
 pub mod ListLaws
+pub mod SnapLaws
+pub mod QuietLaws
 pub mod ChangeLaws
 pub mod StoreLaws
 pub mod DecideLaws

@@ -74,7 +74,7 @@ IsFateRight h a true = WasDecided h a
 IsFateRight h a false = WasDecided h a → ⊥
 
 module _ (r : Rules) (o : Opening) (held : List Version) (h : History) (w : World) (t : ℕ) (s : TargetState) (b : TurnBegins r o held h w t s) where
-  abbrev SoundAt : Durable → Type 0
+  abbrev pub SoundAt : Durable → Type 0
   SoundAt d = Sound r o held h h.served s.opening t d s.memory.stamps
 
   -- ---- a Mark
@@ -84,12 +84,12 @@ module _ (r : Rules) (o : Opening) (held : List Version) (h : History) (w : Worl
   settles-so d a false fate k = aborts-sound r o held h h.served s.opening t s.memory.stamps d a fate k
 
   -- what is left of a Mark is right
-  abbrev MarkMid : List (AttemptId × Bool) → Kept → Type 0
+  abbrev pub MarkMid : List (AttemptId × Bool) → Kept → Type 0
   MarkMid left k = SoundAt k.durable × ((a : AttemptId) (c : Bool) → Has (a, c) left → IsFateRight h a c)
 
-  mark-step : (g : List (AttemptId × Bool)) (k : Kept) (c : Option Change) (u : List (AttemptId × Bool)) (l : Kept) → mark.MarkNext (is_in_doubt t) g k c u → Steps c k l → MarkMid g k → MarkMid u l
-  mark-step g k c u l (mark.SettlesMarked k' a committed rest is) steps p = (subst SoundAt (sym steps.0) (settles-so k.durable a committed (p.1 a committed (inl refl)) p.0), λ x d i. p.1 x d (inr i))
-  mark-step g k c u l (mark.PassesBy k' a committed rest is) steps p = (subst (λ n. SoundAt n.durable) (sym steps) p.0, λ x d i. p.1 x d (inr i))
+  pub mark-step : (is_due : AttemptId → Durable → Bool) (g : List (AttemptId × Bool)) (k : Kept) (c : Option Change) (u : List (AttemptId × Bool)) (l : Kept) → mark.MarkNext is_due g k c u → Steps c k l → MarkMid g k → MarkMid u l
+  mark-step is_due g k c u l (mark.SettlesMarked k' a committed rest is) steps p = (subst SoundAt (sym steps.0) (settles-so k.durable a committed (p.1 a committed (inl refl)) p.0), λ x d i. p.1 x d (inr i))
+  mark-step is_due g k c u l (mark.PassesBy k' a committed rest is) steps p = (subst (λ n. SoundAt n.durable) (sym steps) p.0, λ x d i. p.1 x d (inr i))
 
   mark-ends : (from : ActorId) (inc : ℕ) (marks : List (AttemptId × Bool)) (m : Message) (g : List (AttemptId × Bool)) (k : Kept) (left : TargetMemory × Did) → mark.MarkEnds s.memory from inc marks g k left → MarkMid g k
       → TurnLeaves r o held h w s.opening t m s.memory.member.parked k left
@@ -99,11 +99,11 @@ module _ (r : Rules) (o : Opening) (held : List Version) (h : History) (w : Worl
   pub mark-sound : (from : ActorId) (inc : ℕ) (marks : List (AttemptId × Bool)) (m : Message) → ((a : AttemptId) (c : Bool) → Has (a, c) marks → IsFateRight h a c) → (new : Kept) (left : TargetMemory × Did)
       → Whole (mark.MarkNext (is_in_doubt t)) (mark.MarkEnds s.memory from inc marks) marks (kept s) new left → TurnLeaves r o held h w s.opening t m s.memory.member.parked new left
   mark-sound from inc marks m fate new left turn =
-      mark-ends from inc marks m turn.last new left turn.ends (reached-keeps (mark.MarkNext (is_in_doubt t)) MarkMid mark-step marks (kept s) turn.last new turn.reached (b.sound, fate))
+      mark-ends from inc marks m turn.last new left turn.ends (reached-keeps (mark.MarkNext (is_in_doubt t)) MarkMid (mark-step (is_in_doubt t)) marks (kept s) turn.last new turn.reached (b.sound, fate))
 
   -- ---- a Marked
 
-  marked-step : (from : ℕ) (g : List AttemptId) (k : Kept) (c : Option Change) (u : List AttemptId) (l : Kept) → ack.MarkedNext (target_plan r t) s.memory from g k c u → Steps c k l → SoundAt k.durable → SoundAt l.durable
+  pub marked-step : (from : ℕ) (g : List AttemptId) (k : Kept) (c : Option Change) (u : List AttemptId) (l : Kept) → ack.MarkedNext (target_plan r t) s.memory from g k c u → Steps c k l → SoundAt k.durable → SoundAt l.durable
   marked-step from g k c u l (ack.Confirms k' a rest is) steps p = subst SoundAt (sym steps.0) (confirms-sound r o held h h.served s.opening t s.memory.stamps k.durable a from p)
   marked-step from g k c u l (ack.PassesBy k' a rest is) steps p = subst (λ n. SoundAt n.durable) (sym steps) p
 
@@ -137,10 +137,10 @@ module _ (r : Rules) (o : Opening) (held : List Version) (h : History) (w : Worl
 
   -- ---- idle work
 
-  abbrev IdleMid : List AttemptId → Kept → Type 0
+  abbrev pub IdleMid : List AttemptId → Kept → Type 0
   IdleMid left k = SoundAt k.durable × ((a : AttemptId) → Has a left → WasDecided h a)
 
-  idle-step : (g : List AttemptId) (k : Kept) (c : Option Change) (u : List AttemptId) (l : Kept) → idle.IdleNext g k c u → Steps c k l → IdleMid g k → IdleMid u l
+  pub idle-step : (g : List AttemptId) (k : Kept) (c : Option Change) (u : List AttemptId) (l : Kept) → idle.IdleNext g k c u → Steps c k l → IdleMid g k → IdleMid u l
   idle-step g k c u l (idle.SettlesFirst k' a rest) steps p =
       (subst SoundAt (sym steps.0) (commits-sound r o held h h.served s.opening t s.memory.stamps k.durable a (p.1 a (inl refl)) p.0), λ x i. p.1 x (inr i))
 

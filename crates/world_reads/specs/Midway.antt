@@ -25,26 +25,27 @@ use Rattle.world_reads.specs.Growing.{Decides}
 use Rattle.world_reads.specs.Reads.{IsAnsweredRight, IsOfAttempt}
 use Rattle.world_reads.specs.Versions.{VersionsStand}
 use Rattle.world_base.specs.Changes.{Kept}
+use Rattle.world_clients.specs.Snapshots.{is_at_snapshot}
 
 -- a write that would change what was served is refused: by the floor, or by a timestamp
 abbrev pub IsGuardedBy : Epoch × FloorWhy → Durable → List Shown → Served → Type 0
 IsGuardedBy opening d stamps q = (q.epoch.0 ≤ (floor_of opening d (read_path q.read).cont).0.0) ⊎ Contains stamps (record { by = q.by; epoch = q.epoch; path = read_path q.read })
 
--- a timestamp is of a served read
-abbrev pub IsStampOf : Shown → Served → Type 0
-IsStampOf z q = (q.by ≡ z.by) × (q.epoch ≡ z.epoch) × (read_path q.read ≡ z.path)
+-- a timestamp is of a served read, at no snapshot
+abbrev pub IsStampOf : Rules → Shown → Served → Type 0
+IsStampOf r z q = (q.by ≡ z.by) × (q.epoch ≡ z.epoch) × (read_path q.read ≡ z.path) × (is_at_snapshot r q.by ≡ false)
 
 -- what it served is guarded, of the reads that were served
-pub record Shows (served : List Served) (opening : Epoch × FloorWhy) (t : ℕ) (d : Durable) (stamps : List Shown) : Type 0 where
+pub record Shows (r : Rules) (served : List Served) (opening : Epoch × FloorWhy) (t : ℕ) (d : Durable) (stamps : List Shown) : Type 0 where
   pub guarded : (q : Served) → Has q served → q.target ≡ t → IsGuardedBy opening d stamps q
   pub leased : (q : Served) → Has q served → q.target ≡ t → q.epoch.0 / 256 ≤ d.lease
   pub barred : (q : Served) (v : Version) → Has q served → q.target ≡ t → Contains d.versions v → v.done ≡ false → overlaps (version_path v) (read_path q.read) ≡ true → q.epoch.0 ≤ v.epoch.0
-  pub stamped : (z : Shown) → Contains stamps z → (q : Served) × Has q served × (q.target ≡ t) × IsStampOf z q
+  pub stamped : (z : Shown) → Contains stamps z → (q : Served) × Has q served × (q.target ≡ t) × IsStampOf r z q
 
 -- what it keeps stands for the decided transactions, and what it served is guarded, of these reads
 pub record Sound (r : Rules) (o : Opening) (held : List Version) (h : History) (served : List Served) (opening : Epoch × FloorWhy) (t : ℕ) (d : Durable) (stamps : List Shown) : Type 0 where
   pub stand : VersionsStand r o held h t d
-  pub shows : Shows served opening t d stamps
+  pub shows : Shows r served opening t d stamps
 
 -- a read that a target serves in a turn, after which these epochs are issued
 pub record IsServedRight (r : Rules) (o : Opening) (h : History) (t : ℕ) (issued : List (AttemptId × Epoch)) (q : Served) : Type 0 where
@@ -52,7 +53,7 @@ pub record IsServedRight (r : Rules) (o : Opening) (h : History) (t : ℕ) (issu
   pub asked : IsOfAttempt r q
   pub form : is_read_in_form q.read ≡ true
   pub right : IsAnsweredRight r o h q
-  pub its : Contains issued (q.by, q.epoch)
+  pub its : is_at_snapshot r q.by ≡ false → Contains issued (q.by, q.epoch)
 
 -- What a turn of a target leaves, in which it may serve reads: what it keeps and knows is sound of what was decided before, each
 -- answer that it sends is that of a read which it served, and it decides at most one attempt.

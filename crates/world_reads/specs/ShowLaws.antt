@@ -32,10 +32,11 @@ use Rattle.world_reads.specs.Midway.{IsGuardedBy, Shows}
 use Rattle.model_laws.specs.PlaceLaws.{overlaps-container}
 use Rattle.world_reads.specs.StoreLaws.{new-or-old}
 use Rattle.world_base.specs.Commits.{IsAllowed, first_floor, or_else}
+use Rattle.world_base.specs.Events.{Rules}
 
-module _ (served : List Served) (opening : Epoch × FloorWhy) (t : ℕ) (d : Durable) (stamps : List Shown) where
+module _ (r : Rules) (served : List Served) (opening : Epoch × FloorWhy) (t : ℕ) (d : Durable) (stamps : List Shown) where
   -- the lease is extended
-  pub extends-shows : (ticks : ℕ) → d.lease ≤ ticks → Shows served opening t d stamps → Shows served opening t (leased ticks d) stamps
+  pub extends-shows : (ticks : ℕ) → d.lease ≤ ticks → Shows r served opening t d stamps → Shows r served opening t (leased ticks d) stamps
   unfolding leased floor_of row_of
   extends-shows ticks more k = record {
     guarded = k.guarded;
@@ -45,7 +46,7 @@ module _ (served : List Served) (opening : Epoch × FloorWhy) (t : ℕ) (d : Dur
   }
 
   -- a decided attempt is settled
-  pub settles-shows : (a : AttemptId) → Shows served opening t d stamps → Shows served opening t (settled a Commit d) stamps
+  pub settles-shows : (a : AttemptId) → Shows r served opening t d stamps → Shows r served opening t (settled a Commit d) stamps
   unfolding settled floor_of row_of
   settles-shows a k = record {
     guarded = k.guarded;
@@ -61,7 +62,7 @@ module _ (served : List Served) (opening : Epoch × FloorWhy) (t : ℕ) (d : Dur
           k.barred q v i at (subst (Contains d.versions) same (contains-from_has d.versions u.0 u.1)) f over
 
   -- an attempt is aborted
-  pub aborts-shows : (a : AttemptId) → Shows served opening t d stamps → Shows served opening t (settled a Abort d) stamps
+  pub aborts-shows : (a : AttemptId) → Shows r served opening t d stamps → Shows r served opening t (settled a Abort d) stamps
   unfolding settled floor_of row_of
   aborts-shows a k = record {
     guarded = k.guarded;
@@ -72,7 +73,7 @@ module _ (served : List Served) (opening : Epoch × FloorWhy) (t : ℕ) (d : Dur
   }
 
   -- a member confirms
-  pub confirms-shows : (a : AttemptId) (n : ℕ) → Shows served opening t d stamps → Shows served opening t (settled a (Confirm n) d) stamps
+  pub confirms-shows : (a : AttemptId) (n : ℕ) → Shows r served opening t d stamps → Shows r served opening t (settled a (Confirm n) d) stamps
   unfolding settled floor_of row_of
   confirms-shows a n k = record { guarded = k.guarded; leased = k.leased; barred = k.barred; stamped = k.stamped }
 
@@ -90,7 +91,7 @@ or-none None y h = (refl, h)
 or-none (Some c) y h = absurd (let no : ⊥ = cc in no)
 
 -- each write is above its container's floor
-floors-above : (p : TargetPlan) (opening : Epoch × FloorWhy) (e : Epoch) (d : Durable) (ws : List MinorWrite) → first_floor p opening e d ws ≡ None → (m : MinorWrite) → Has m ws
+pub floors-above : (p : TargetPlan) (opening : Epoch × FloorWhy) (e : Epoch) (d : Durable) (ws : List MinorWrite) → first_floor p opening e d ws ≡ None → (m : MinorWrite) → Has m ws
     → (floor_of opening d (write_path m.write).cont).0.0 < e.0
 unfolding first_floor
 floors-above p opening e d [] h m i = absurd i
@@ -102,6 +103,15 @@ floors-above p opening e d (w ∷ ws) h m i = by (floors-above p opening e d ws 
     by : (Has m ws → (floor_of opening d (write_path m.write).cont).0.0 < e.0) → Has m (w ∷ ws) → (floor_of opening d (write_path m.write).cont).0.0 < e.0
     by rest (inl same) = subst (λ u. (floor_of opening d (write_path u.write).cont).0.0 < e.0) (sym same) (floor-above p.me e.0 (floor_of opening d (write_path w.write).cont) both-none.0)
     by rest (inr j) = rest j
+
+-- a floor lies at or above the one that is stored
+pub floor-stored : (opening : Epoch × FloorWhy) (d : Durable) (c : ContId) → (row_of d c).floor.0 ≤ (floor_of opening d c).0.0
+unfolding floor_of
+floor-stored opening d c = by (nat_lt opening.0.0 (row_of d c).floor.0) refl
+  where
+    by : (b : Bool) → nat_lt opening.0.0 (row_of d c).floor.0 ≡ b → (row_of d c).floor.0 ≤ (if b then ((row_of d c).floor, (row_of d c).why) else opening).0.0
+    by true is = omega arith
+    by false is = grind (arith, nat_tests)
 
 -- a write that isn't refused lies at or above each read that was served on an overlapping path
 clears : (p : TargetPlan) (opening : Epoch × FloorWhy) (first : Option Epoch) (e : Epoch) (d : Durable) (stamps : List Shown) (ws : List MinorWrite) (q : Served) (m : MinorWrite)
@@ -131,10 +141,10 @@ clears p opening first e d stamps ws q m allowed guarded i over = by (cases_lt e
 
 -- ---- an attempt's writes are stored
 
-pub stores-shows : (served : List Served) (opening : Epoch × FloorWhy) (t : ℕ) (d : Durable) (stamps : List Shown) (k : Entry) (ws : List MinorWrite) (p : TargetPlan) (first : Option Epoch)
-    → IsAllowed p opening first k.epoch d stamps ws → Shows served opening t d stamps → Shows served opening t (prepared k ws d) stamps
+pub stores-shows : (r : Rules) (served : List Served) (opening : Epoch × FloorWhy) (t : ℕ) (d : Durable) (stamps : List Shown) (k : Entry) (ws : List MinorWrite) (p : TargetPlan) (first : Option Epoch)
+    → IsAllowed p opening first k.epoch d stamps ws → Shows r served opening t d stamps → Shows r served opening t (prepared k ws d) stamps
 unfolding prepared floor_of row_of
-stores-shows served opening t d stamps k ws p first allowed s = record {
+stores-shows r served opening t d stamps k ws p first allowed s = record {
   guarded = s.guarded;
   leased = s.leased;
   barred = λ q v i at j f over. barred q v i at f over (new-or-old k ws d.versions v j);

@@ -26,7 +26,7 @@ use Rattle.world_base.specs.Commits.{IsAllowed}
 module _ (r : Rules) (o : Opening) (held : List Version) (h : History) (served : List Served) (opening : Epoch × FloorWhy) (t : ℕ) (stamps : List Shown) where
   -- the lease is extended to cover ticks above it
   pub extends-sound : (d : Durable) (n ticks : ℕ) → d.lease < n → lease_for n ≡ Some ticks → Sound r o held h served opening t d stamps → Sound r o held h served opening t (leased ticks d) stamps
-  extends-sound d n ticks low is k = record { stand = extends-stands r o held h t d ticks more covers.1 k.stand; shows = extends-shows served opening t d stamps ticks more k.shows }
+  extends-sound d n ticks low is k = record { stand = extends-stands r o held h t d ticks more covers.1 k.stand; shows = extends-shows r served opening t d stamps ticks more k.shows }
     where
       covers : (n ≤ ticks) × (ticks < 2 ^ 56)
       covers = lease-covers n ticks is
@@ -36,17 +36,17 @@ module _ (r : Rules) (o : Opening) (held : List Version) (h : History) (served :
 
   -- a decided attempt is settled
   pub commits-sound : (d : Durable) (a : AttemptId) → WasDecided h a → Sound r o held h served opening t d stamps → Sound r o held h served opening t (settled a Commit d) stamps
-  commits-sound d a decided k = record { stand = settles-stands r o held h t d a decided k.stand; shows = settles-shows served opening t d stamps a k.shows }
+  commits-sound d a decided k = record { stand = settles-stands r o held h t d a decided k.stand; shows = settles-shows r served opening t d stamps a k.shows }
 
   -- one that isn't is aborted
   pub aborts-sound : (d : Durable) (a : AttemptId) → (WasDecided h a → ⊥) → Sound r o held h served opening t d stamps → Sound r o held h served opening t (settled a Abort d) stamps
-  aborts-sound d a none k = record { stand = aborts-stands r o held h t d a none k.stand; shows = aborts-shows served opening t d stamps a k.shows }
+  aborts-sound d a none k = record { stand = aborts-stands r o held h t d a none k.stand; shows = aborts-shows r served opening t d stamps a k.shows }
 
   -- a member confirms
   pub confirms-sound : (d : Durable) (a : AttemptId) (n : ℕ) → Sound r o held h served opening t d stamps → Sound r o held h served opening t (settled a (Confirm n) d) stamps
-  confirms-sound d a n k = record { stand = confirms-stands r o held h t d a n k.stand; shows = confirms-shows served opening t d stamps a n k.shows }
+  confirms-sound d a n k = record { stand = confirms-stands r o held h t d a n k.stand; shows = confirms-shows r served opening t d stamps a n k.shows }
 
   -- an attempt's writes are stored, which aren't refused
-  pub stores-sound : (d : Durable) (k : Entry) (ws : List MinorWrite) (p : TargetPlan) (first : Option Epoch) → IsNewEntry h d k → AreItsOwn r k.attempt t ws → IsAllowed p opening first k.epoch d stamps ws
+  pub stores-sound : (d : Durable) (k : Entry) (ws : List MinorWrite) (p : TargetPlan) (first : Option Epoch) → IsNewEntry h d k ws → AreItsOwn r k.attempt t ws → IsAllowed p opening first k.epoch d stamps ws
       → Sound r o held h served opening t d stamps → Sound r o held h served opening t (prepared k ws d) stamps
-  stores-sound d k ws p first new own allowed s = record { stand = stores-stands r o held h t d k ws new own s.stand; shows = stores-shows served opening t d stamps k ws p first allowed s.shows }
+  stores-sound d k ws p first new own allowed s = record { stand = stores-stands r o held h t d k ws new own s.stand; shows = stores-shows r served opening t d stamps k ws p first allowed s.shows }

@@ -30,6 +30,9 @@ use Rattle.world_base.specs.EntryLaws.{entry-prepared_other}
 use Rattle.world_reads.specs.ListLaws.{pairs-from_rising, rising-news}
 use Rattle.world_reads.specs.Transactions.{counts_by, transactions}
 use Rattle.world_reads.specs.Versions.{IsPreparedAt, IsVersionOf, IsWriteAt, VersionsStand, is_own_in, mark_of}
+use Rattle.model_laws.specs.MatchLaws.{prepares-keep}
+use Rattle.world_reads.specs.SnapLaws.{snapshots-stay}
+use Rattle.base_types.specs.Operations.{write_path}
 
 -- ---- what may be stored
 
@@ -39,13 +42,15 @@ pub record AreItsOwn (r : Rules) (x : AttemptId) (t : ℕ) (ws : List MinorWrite
   pub all : (m : MinorWrite) → IsWriteAt r x t m → Has m ws
   pub form : AreWritesInForm ws
 
--- an entry is new: its attempt has none and isn't decided, no version has its epoch, and the lease covers that
-pub record IsNewEntry (h : History) (d : Durable) (k : Entry) : Type 0 where
+-- an entry of such writes is new: its attempt has none and isn't decided, no version has its epoch, the lease covers that, and it lies
+-- above what was aggregated of the containers of its writes
+pub record IsNewEntry (h : History) (d : Durable) (k : Entry) (ws : List MinorWrite) : Type 0 where
   pub open' : k.committed ≡ false
   pub absent : entry_of d k.attempt ≡ None
   pub undecided : WasDecided h k.attempt → ⊥
   pub alone : (v : Version) → Contains d.versions v → v.epoch.0 ≢ k.epoch.0
   pub covered : k.epoch.0 / 256 ≤ d.lease
+  pub clear : (m : MinorWrite) → Has m ws → (row_of d (write_path m.write).cont).aggregated.0 < k.epoch.0
 
 -- each entry's epoch was issued to its attempt
 abbrev pub AreIssued : World → Durable → Type 0
@@ -107,7 +112,7 @@ not-decided : (h : History) (x : AttemptId) → (WasDecided h x → ⊥) → is_
 not-decided h x none = false_of (is_decided h x) (λ is. none (decided-has h x is))
 
 pub stores-stands : (r : Rules) (o : Opening) (held : List Version) (h : History) (t : ℕ) (d : Durable) (k : Entry) (ws : List MinorWrite)
-    → IsNewEntry h d k → AreItsOwn r k.attempt t ws → VersionsStand r o held h t d → VersionsStand r o held h t (prepared k ws d)
+    → IsNewEntry h d k ws → AreItsOwn r k.attempt t ws → VersionsStand r o held h t d → VersionsStand r o held h t (prepared k ws d)
 unfolding prepared row_of
 stores-stands r o held h t d k ws new own s = record {
   form = form;
@@ -121,7 +126,9 @@ stores-stands r o held h t d k ws new own s = record {
   epochs = λ x z f found is. epochs x z f is (entry-stored k ws d x z new.absent found);
   matches = λ cont. stores-keep (is_own_in r.script.targets t cont) k ws (counts_by h) d.versions o.stand (transactions r.script h) (mark_of o d cont) off (s.matches cont);
   leased = λ v i. leased v (new-or-old k ws d.versions v i);
-  unpruned = s.unpruned;
+  aggregated = s.aggregated;
+  clear = λ v i f. clear v f (new-or-old k ws d.versions v i);
+  snapshots = snapshots-stay r o h t d (prepared k ws d) refl (λ c. refl) (omega arith) (prepares-keep k ws (counts_by h) d.versions off) s.snapshots;
 }
   where
     stored : List Version
@@ -181,3 +188,10 @@ stores-stands r o held h t d k ws new own s = record {
     leased : (v : Version) → New v → v.epoch.0 / 256 ≤ d.lease
     leased v (inl z) = subst (λ u. u.epoch.0 / 256 ≤ d.lease) z.2 new.covered
     leased v (inr i) = s.leased v (contains-from_has d.versions v i)
+
+    Clear : Version → Type 0
+    Clear v = (row_of d (version_path v).cont).aggregated.0 < v.epoch.0
+
+    clear : (v : Version) → v.done ≡ false → New v → Clear v
+    clear v f (inl z) = subst Clear z.2 (new.clear z.0 z.1)
+    clear v f (inr i) = s.clear v (contains-from_has d.versions v i) f

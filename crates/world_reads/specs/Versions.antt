@@ -1,5 +1,5 @@
 -- Each version belongs to a decided attempt or to one that is prepared, and those that count stand for the decided transactions.
-use Rattle.std.specs.Prelude.{ℕ, ◌≡◌, ◌≢◌, ◌⊎◌, ◌+◌, ◌≤◌, ◌/◌, Bool, true, false, ◌&&◌, ◌==◌, max, List, [], Contains, slice_get, Some}
+use Rattle.std.specs.Prelude.{ℕ, ◌≡◌, ◌≢◌, ◌⊎◌, ◌+◌, ◌≤◌, ◌/◌, Bool, true, false, ◌&&◌, ◌==◌, max, List, [], Contains, slice_get, Some, ◌<◌}
 use Rattle.base_types.specs.declared.entry.Entry.{Entry}
 use Rattle.base_types.specs.declared.epoch.Epoch.{Epoch}
 use Rattle.base_types.specs.declared.id.AttemptId.{AttemptId}
@@ -7,22 +7,25 @@ use Rattle.base_types.specs.declared.id.ContId.{ContId}
 use Rattle.base_types.specs.declared.operation.MinorWrite.{MinorWrite}
 use Rattle.base_types.specs.Operations.{write_path}
 use Rattle.base_types.specs.Placement.{path_members}
-use Rattle.model_laws.specs.Dated.{AreSingleInOrder}
+use Rattle.model_laws.specs.Dated.{AreSingleInOrder, map_of}
 use Rattle.model_laws.specs.Decided.{AreDecided}
-use Rattle.model_laws.specs.Matches.{Matches}
+use Rattle.model_laws.specs.Matches.{Matches, GivesAsOf, counts_under}
 use Rattle.model_laws.specs.Targets.{ArePlaced, is_own}
 use Rattle.daos_model.specs.declared.cell.Cell.{Cell}
 use Rattle.daos_model.specs.declared.durable.Durable.{Durable}
 use Rattle.daos_model.specs.declared.durable.Version.{Version}
 use Rattle.daos_model.specs.Durables.{IsInForm, entry_of, row_of}
-use Rattle.daos_model.specs.Opening.{Opening, top}
-use Rattle.daos_model.specs.Versions.{version_of}
+use Rattle.daos_model.specs.Opening.{Opening, top, kept_map}
+use Rattle.daos_model.specs.Versions.{version_of, version_path}
 use Rattle.world_attempts.specs.Attempts.{writes_of}
 use Rattle.world_attempts.specs.History.{Decided, History}
 use Rattle.world_base.specs.declared.target.TargetState.{TargetState}
 use Rattle.world_base.specs.declared.world.World.{World}
 use Rattle.world_base.specs.Events.{Rules}
 use Rattle.world_reads.specs.Transactions.{counts_by, transactions}
+use Rattle.base_types.specs.declared.snapshot.Snap.{Snap}
+use Rattle.daos_model.specs.declared.cell.CellValue.{CellValue}
+use Rattle.daos_model.specs.Cells.{value_at}
 
 -- a target's own cells of a container
 abbrev pub is_own_in : ℕ → ℕ → ContId → Cell → Bool
@@ -51,6 +54,19 @@ pub record IsPreparedAt (d : Durable) (x : AttemptId) (e : Epoch) : Type 0 where
   pub open' : entry.committed ≡ false
   pub epoch : entry.epoch ≡ e
 
+-- at own cells the versions that count, below an epoch, hold what a map holds
+abbrev pub HoldsMap : (Cell → Bool) → (Version → Bool) → List Version → ℕ → List CellValue → Type 0
+HoldsMap own p vs e m = (c : Cell) → own c ≡ true → value_at (map_of (counts_under p e) vs) c ≡ value_at m c
+
+-- What holds of the snapshots that a target has frozen: no write at or below one is stored any more, the lease covers it, and its map
+-- is there: of one that an earlier run created that which the opening keeps, and of one of this run the map as of its epoch.
+pub record SnapshotsStand (r : Rules) (o : Opening) (h : History) (t : ℕ) (d : Durable) : Type 0 where
+  pub floored : (s : Snap) → Contains d.snaps s → s.epoch.0 ≤ (row_of d s.cont).floor.0
+  pub leased : (s : Snap) → Contains d.snaps s → s.epoch.0 / 256 ≤ d.lease
+  pub kept : (s : Snap) (m : List CellValue) → Contains d.snaps s → s.epoch.0 ≤ top o → kept_map s.cont s.epoch.0 o.stand.snaps ≡ Some m
+      → HoldsMap (is_own_in r.script.targets t s.cont) (counts_by h) d.versions s.epoch.0 m
+  pub given : (s : Snap) → Contains d.snaps s → top o < s.epoch.0 → GivesAsOf (is_own_in r.script.targets t s.cont) (counts_by h) d.versions o.stand (transactions r.script h) s.epoch.0
+
 -- what holds of what one target keeps
 pub record VersionsStand (r : Rules) (o : Opening) (held : List Version) (h : History) (t : ℕ) (d : Durable) : Type 0 where
   pub form : IsInForm d
@@ -69,8 +85,10 @@ pub record VersionsStand (r : Rules) (o : Opening) (held : List Version) (h : Hi
   -- the versions that count stand for the decided transactions, in each container
   pub matches : (cont : ContId) → Matches (is_own_in r.script.targets t cont) (counts_by h) d.versions o.stand (transactions r.script h) (mark_of o d cont)
   pub leased : (v : Version) → Contains d.versions v → v.epoch.0 / 256 ≤ d.lease
-  -- a run aggregates nothing so far
-  pub unpruned : (cont : ContId) → (row_of d cont).aggregated.0 ≤ top o
+  -- what was aggregated lies at or below the floor, or the opening; each unsettled version lies above it
+  pub aggregated : (cont : ContId) → (row_of d cont).aggregated.0 ≤ max (top o) (row_of d cont).floor.0
+  pub clear : (v : Version) → Contains d.versions v → v.done ≡ false → (row_of d (version_path v).cont).aggregated.0 < v.epoch.0
+  pub snapshots : SnapshotsStand r o h t d
 
 -- of every target; `held` is what each had at the opening
 pub record Versions (r : Rules) (o : Opening) (held : ℕ → List Version) (h : History) (w : World) : Type 0 where

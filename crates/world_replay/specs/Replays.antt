@@ -91,9 +91,9 @@ can-hear r t d m (message.Verdict x ask inc v) few can k = can
 can-hear r t d m q few can k = absurd k
 
 -- a Fetch that waits goes with its epoch
-parked-timed : (r : Rules) (o : Opening) (w : World) (t : ℕ) (q : Message) → IsParkedRight r o w t q → replay.is_timed q ≡ true
-parked-timed r o w t (message.Fetch x op group ep first tracker read snapshot) k = ap is_some k.has
-parked-timed r o w t q k = absurd k
+parked-timed : (r : Rules) (o : Opening) (w : World) (t : ℕ) (d : Durable) (q : Message) → IsParkedRight r o w t d q → replay.is_timed q ≡ true
+parked-timed r o w t d (message.Fetch x op group ep first tracker read snapshot) k = ap is_some k.has
+parked-timed r o w t d q k = absurd k
 
 -- a target leads what it decided
 led-here : (p : TargetPlan) (d : Durable) (x : AttemptId) (e : Entry) → entry_of d x ≡ Some e → e.leader ≡ p.me → replay.is_led_here p d x ≡ true
@@ -161,7 +161,7 @@ module _ (r : Rules) (o : Opening) (w : World) (A : IsSimple r) (B : IsBegun r o
     can-try : (t : ℕ) (s : TargetState) → slice_get u.targets t ≡ Some s → replay.CanTryAgain (target_plan r t) s.durable s.memory
     can-try t s here = record {
       read = can-read t s here;
-      timed = all-pass replay.is_timed_ask s.memory.member.parked (λ p i. parked-timed r o u t p.ask ((requests-are-right r o (held_at w) history u whole.all.facts (held-before r o w B)).waiting t s p here (whole.running t s here) i));
+      timed = all-pass replay.is_timed_ask s.memory.member.parked (λ p i. parked-timed r o u t s.durable p.ask ((requests-are-right r o (held_at w) history u whole.all.facts (held-before r o w B)).waiting t s p here (whole.running t s here) i));
     }
 
     leads : (x : World) (e : Event r u x) → LeadsTo r u (listed_event r u x e).kind (listed_event r u x e).actor (listed_event r u x e).heard x
