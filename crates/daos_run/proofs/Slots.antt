@@ -93,7 +93,7 @@ pub record AreBackSoFar {S C : Type 0} (all left : List (TargetOf S C)) (old now
   pub so_many : length left + n ≡ length all
   pub first : (t : ℕ) (x : TargetOf S C) → slice_get left t ≡ Some x → slice_get all t ≡ Some x
   pub many : length now ≡ length old
-  pub back : (t : ℕ) (x : TargetOf S C) → length left ≤ t → slice_get all t ≡ Some x → (clock : C) × IsAt now t (x.store, clock)
+  pub back : (t : ℕ) (x : TargetOf S C) → length left ≤ t → slice_get all t ≡ Some x → IsAt now t (x.store, x.clock)
   pub waits : (t : ℕ) → t < length left → slice_get now t ≡ Some None
   pub others : (t : ℕ) → length all ≤ t → slice_get now t ≡ slice_get old t
 
@@ -113,27 +113,27 @@ module _ {S C : Type 0} where
     others = λ t past. refl;
   }
 
-  pub one-back : (all left left' : List (TargetOf S C)) (old now now' : List (Option (S × C))) (n : ℕ) (x : TargetOf S C) (clock : C) → AreBackSoFar all left old now n → left ≡ left' ++ x ∷ [] → now' ≡ set now (length left') (Some (x.store, clock))
+  pub one-back : (all left left' : List (TargetOf S C)) (old now now' : List (Option (S × C))) (n : ℕ) (x : TargetOf S C) → AreBackSoFar all left old now n → left ≡ left' ++ x ∷ [] → now' ≡ set now (length left') (Some (x.store, x.clock))
       → AreBackSoFar all left' old now' (n + 1)
-  one-back all left left' old now now' n x clock k more is =
+  one-back all left left' old now now' n x k more is =
       let longer : length left ≡ length left' + 1 = ap length more ∙ length-end left' x in
       let many = k.so_many in
       let its : slice_get all (length left') ≡ Some x = k.first (length left') x (ap (λ l. slice_get l (length left')) more ∙ at-last left' x) in
       record {
         so_many = omega (arith, longer, many);
         first = λ t y at. k.first t y (ap (λ l. slice_get l t) more ∙ before-end left' x t y at);
-        many = ap length is ∙ length-set now (length left') (Some (x.store, clock)) ∙ k.many;
+        many = ap length is ∙ length-set now (length left') (Some (x.store, x.clock)) ∙ k.many;
         back = λ t y past at. elim (cases_eq t (length left')) [
           | inl same ↦
-              let here : slice_get now' t ≡ Some (Some (x.store, clock)) = ap (λ m. slice_get now' m) same ∙ ap (λ l. slice_get l (length left')) is ∙ set-here now (length left') None (Some (x.store, clock)) (k.waits (length left') (omega (arith, longer))) in
+              let here : slice_get now' t ≡ Some (Some (x.store, x.clock)) = ap (λ m. slice_get now' m) same ∙ ap (λ l. slice_get l (length left')) is ∙ set-here now (length left') None (Some (x.store, x.clock)) (k.waits (length left') (omega (arith, longer))) in
               let x-is-y : x ≡ y = same-at all (length left') x y its (ap (λ m. slice_get all m) (sym same) ∙ at) in
-              (clock, subst (λ z. IsAt now' t (z.store, clock)) x-is-y here)
+              subst (λ z. IsAt now' t (z.store, z.clock)) x-is-y here
           | inr apart ↦
               let old-one = k.back t y (omega (arith, longer, past, apart)) at in
-              (old-one.0, ap (λ l. slice_get l t) is ∙ set-there now (length left') t (Some (x.store, clock)) apart ∙ old-one.1)
+              ap (λ l. slice_get l t) is ∙ set-there now (length left') t (Some (x.store, x.clock)) apart ∙ old-one
         ];
-        waits = λ t low. ap (λ l. slice_get l t) is ∙ set-there now (length left') t (Some (x.store, clock)) (λ same. omega (arith, low, same)) ∙ k.waits t (omega (arith, longer, low));
-        others = λ t past. ap (λ l. slice_get l t) is ∙ set-there now (length left') t (Some (x.store, clock)) (λ same. omega (arith, past, same, longer, many)) ∙ k.others t past;
+        waits = λ t low. ap (λ l. slice_get l t) is ∙ set-there now (length left') t (Some (x.store, x.clock)) (λ same. omega (arith, low, same)) ∙ k.waits t (omega (arith, longer, low));
+        others = λ t past. ap (λ l. slice_get l t) is ∙ set-there now (length left') t (Some (x.store, x.clock)) (λ same. omega (arith, past, same, longer, many)) ∙ k.others t past;
       }
 
   pub all-back : (all left : List (TargetOf S C)) (old now : List (Option (S × C))) (n : ℕ) → AreBackSoFar all left old now n → n ≡ length all → AreBack all old now

@@ -10,7 +10,7 @@ use Rattle.daos_model.specs.declared.durable.Durable.{Durable}
 use Rattle.daos_run.specs.declared.stop.RunStop.{RunStop}
 use Rattle.daos_run.specs.declared.stop.RunStop.TheVariants.{Memory as NoMemory}
 use Rattle.daos_run.specs.Opens.{IsEmpty}
-use Rattle.daos_run.specs.Slots.{AreBack, AreSet, AreTaken, FromTo, HaveStores, IsAt}
+use Rattle.daos_run.specs.Slots.{AreBack, AreSet, AreTaken, ClocksAreRead, ClocksStay, FromTo, HaveStores, IsAt}
 use Rattle.daos_run.specs.Starts.{AreStarted, StartsOver}
 use Rattle.daos_run.specs.Stops.{is_fault_of, not_started, stop_of}
 use Rattle.daos_run.proofs.Slots.{at-end, length-end}
@@ -20,6 +20,7 @@ use Rattle.run_order.specs.declared.halted.Halted.{Halted}
 use Rattle.run_order.specs.Halts.{Leaves, stopped_at}
 use Rattle.target_core.specs.Targets.{TargetOf}
 use Rattle.target_parts.specs.Parts.{Runs, StillRuns}
+use Rattle.target_parts.specs.Readings.{IsReadOn, not-read_on}
 use Rattle.target_parts.specs.Running.{runs_as, runs_first, runs_on}
 use Rattle.vos_store.specs.Calls.{State}
 use Rattle.vos_store.specs.Refusals.{always_stop, says}
@@ -42,18 +43,18 @@ module _ {S C : Type 0} (durable : S → Option Durable) (state : S → State) (
   }
 
   pub one-started : (n : ℕ) (old slots slots' : List (Option (S × C))) (xs xs' : List (TargetOf S C)) (cap cap' : ℕ) (pair : S × C) (x : TargetOf S C) → AreStartedSoFar n old slots xs cap → IsAt slots n pair → slots' ≡ set slots n None
-      → xs' ≡ xs ++ x ∷ [] → cap ≤ cap' → StartsOver durable state s j n pair.0 x → AreStartedSoFar (n + 1) old slots' xs' cap'
+      → xs' ≡ xs ++ x ∷ [] → cap ≤ cap' → StartsOver durable state s j n pair x → AreStartedSoFar (n + 1) old slots' xs' cap'
   one-started n old slots slots' xs xs' cap cap' pair x k at taken more grows new =
       let here : IsAt old n pair = sym (k.taken.left n (omega arith)) ∙ at in
       let last : length xs ≡ n = k.started.many in
-      let its : (p : S × C) → IsAt old (length xs) p → StartsOver durable state s j (length xs) p.0 x = λ p to. (
+      let its : (p : S × C) → IsAt old (length xs) p → StartsOver durable state s j (length xs) p x = λ p to. (
       let same : pair ≡ p = (let e : Some (Some pair) ≡ Some (Some p) = sym here ∙ ap (slice_get old) (sym last) ∙ to in cc) in
-      subst (λ m. StartsOver durable state s j m p.0 x) (sym last) (subst (λ q. StartsOver durable state s j n q.0 x) same new)) in
+      subst (λ m. StartsOver durable state s j m p x) (sym last) (subst (λ q. StartsOver durable state s j n q x) same new)) in
       let room = k.room in
       record {
         started = record {
           many = ap length more ∙ length-end xs x ∙ ap (λ m. m + 1) last;
-          each = λ t y p there is. at-end (λ m z. (q : S × C) → IsAt old m q → StartsOver durable state s j m q.0 z) xs x (λ m z old-one q to. k.started.each m z q old-one to) its t y (ap (λ l. slice_get l t) (sym more) ∙ there) p is;
+          each = λ t y p there is. at-end (λ m z. (q : S × C) → IsAt old m q → StartsOver durable state s j m q z) xs x (λ m z old-one q to. k.started.each m z q old-one to) its t y (ap (λ l. slice_get l t) (sym more) ∙ there) p is;
         };
         taken = record {
           many = ap length taken ∙ length-set slots n None ∙ k.taken.many;
@@ -94,8 +95,7 @@ module _ {S C : Type 0} (durable : S → Option Durable) (state : S → State) (
       each = λ u within. elim (cases_lt u t) [
         | inl low ↦
             let x = at-within xs u (subst (λ n. u < n) (sym A.many) low) in
-            let k = B.back u x.0 x.1 in
-            ((x.0.store, k.0), k.1)
+            ((x.0.store, x.0.clock), B.back u x.0 x.1)
         | inr high ↦ elim (cases_eq u t) [
           | inl same ↦ ((store, clock), ap (slice_get new) same ∙ its-place)
           | inr apart ↦
@@ -120,8 +120,7 @@ module _ {S C : Type 0} (durable : S → Option Durable) (state : S → State) (
     failed-runs runs own u x z here there = elim (cases_lt u t) [
       | inl low ↦
           let y = at-within xs u (subst (λ n. u < n) (sym A.many) low) in
-          let k = B.back u y.0 y.1 in
-          let same : (y.0.store, k.0) ≡ z = (let e : Some (Some (y.0.store, k.0)) ≡ Some (Some z) = sym k.1 ∙ there in cc) in
+          let same : (y.0.store, y.0.clock) ≡ z = (let e : Some (Some (y.0.store, y.0.clock)) ≡ Some (Some z) = sym (B.back u y.0 y.1) ∙ there in cc) in
           subst (λ q. Runs (is_fault_of u) (not_started stop) (state x.0) (state q.0) (durable x.0) (durable q.0)) same
           (still own u (λ same. omega (arith, low, same)) (state x.0) (state y.0.store) (durable x.0) (durable y.0.store) (A.each u y.0 x y.1 here).runs)
       | inr high ↦ elim (cases_eq u t) [
@@ -137,12 +136,36 @@ module _ {S C : Type 0} (durable : S → Option Durable) (state : S → State) (
       ]
     ]
 
+    pub failed-clocks : clock ≡ pair.1 → ClocksStay old new
+    failed-clocks its u x z here there = elim (cases_lt u t) [
+      | inl low ↦
+          let y = at-within xs u (subst (λ n. u < n) (sym A.many) low) in
+          let same : (y.0.store, y.0.clock) ≡ z = (let e : Some (Some (y.0.store, y.0.clock)) ≡ Some (Some z) = sym (B.back u y.0 y.1) ∙ there in cc) in
+          ap (λ q. q.1) (sym same) ∙ (A.each u y.0 x y.1 here).clock
+      | inr high ↦ elim (cases_eq u t) [
+        | inl same ↦
+            let is-pair : pair ≡ x = (let e : Some (Some pair) ≡ Some (Some x) = sym at ∙ T.left t (omega arith) ∙ ap (slice_get old) (sym same) ∙ here in cc) in
+            let is-store : (store, clock) ≡ z = (let e : Some (Some (store, clock)) ≡ Some (Some z) = sym its-place ∙ ap (slice_get new) (sym same) ∙ there in cc) in
+            ap (λ q. q.1) (sym is-store) ∙ its ∙ ap (λ q. q.1) is-pair
+        | inr apart ↦
+            let same : z ≡ x = (let e : Some (Some z) ≡ Some (Some x) = sym there ∙ others u (omega (arith, high, apart)) ∙ here in cc) in
+            ap (λ q. q.1) same
+      ]
+    ]
+
   -- ---- nothing was taken
   pub unchanged : (old : List (Option (S × C))) → HaveStores (λ u x. IsEmpty durable state j.targets x) j.targets old → FromTo old old (λ u a b. Runs (is_fault_of u) (not_started NoMemory) (state a) (state b) (durable a) (durable b))
   unchanged old E u x z here there =
       let same : x ≡ z = (let e : Some (Some x) ≡ Some (Some z) = sym here ∙ there in cc) in
       subst (λ q. Runs (is_fault_of u) (not_started NoMemory) (state x.0) (state q.0) (durable x.0) (durable q.0)) same
       (runs_as always_stop (Ok (tt {0})) (is_fault_of u) (not_started NoMemory) (state x.0) (state x.0) (durable x.0) (durable x.0) refl (runs_first (state x.0) (durable x.0) (E.each u x here).fresh.running))
+
+  pub same-clocks : (old : List (Option (S × C))) → ClocksStay old old
+  same-clocks old u x z here there = let same : z ≡ x = (let e : Some (Some z) ≡ Some (Some x) = sym there ∙ here in cc) in ap (λ q. q.1) same
+
+  -- clocks that stay aren't read
+  pub stay-read : (is_read : C → C → Type 0) (old new : List (Option (S × C))) → ClocksStay old new → ClocksAreRead is_read old new
+  stay-read is_read old new k t x y at to = subst (IsReadOn is_read x.1) (sym (k t x y at to)) (not-read_on is_read x.1)
 
   -- ---- all started, and ran
   module _ (old slots new : List (Option (S × C))) (xs ys : List (TargetOf S C)) (E : HaveStores (λ u x. IsEmpty durable state j.targets x) j.targets old) (A : AreStarted durable state s j j.targets old xs) (T : AreTaken j.targets old slots)
@@ -152,28 +175,34 @@ module _ {S C : Type 0} (durable : S → Option Durable) (state : S → State) (
       many = B.many ∙ T.many ∙ E.set.many;
       each = λ t within.
           let y = at-within ys t (subst (λ n. t < n) (sym (many ∙ A.many)) within) in
-          let k = B.back t y.0 y.1 in
-          ((y.0.store, k.0), k.1);
+          ((y.0.store, y.0.clock), B.back t y.0 y.1);
     }
 
     pub as-many : length new ≡ length ys
     as-many = B.many ∙ T.many ∙ E.set.many ∙ sym (many ∙ A.many)
 
-    pub its : (t : ℕ) (x : S × C) (y : TargetOf S C) → IsAt new t x → slice_get ys t ≡ Some y → x.0 ≡ y.store
-    its t x y at here =
-        let k = B.back t y here in
-        let same : x ≡ (y.store, k.0) = (let e : Some (Some x) ≡ Some (Some (y.store, k.0)) = sym at ∙ k.1 in cc) in
-        ap (λ p. p.0) same
+    its-parts : (t : ℕ) (x : S × C) (y : TargetOf S C) → IsAt new t x → slice_get ys t ≡ Some y → x ≡ (y.store, y.clock)
+    its-parts t x y at here = let e : Some (Some x) ≡ Some (Some (y.store, y.clock)) = sym at ∙ B.back t y here in cc
 
-    pub all-run : {U V : Type 0} (result : Result U Halted) (said : Result V RunStop) → ((t : ℕ) → says (is_fault_of t) said ≡ says (stopped_at t) result) → Leaves durable state result xs ys
+    pub its : (t : ℕ) (x : S × C) (y : TargetOf S C) → IsAt new t x → slice_get ys t ≡ Some y → x.0 ≡ y.store
+    its t x y at here = ap (λ p. p.0) (its-parts t x y at here)
+
+    pub all-run : {U V : Type 0} (is_read : C → C → Type 0) (result : Result U Halted) (said : Result V RunStop) → ((t : ℕ) → says (is_fault_of t) said ≡ says (stopped_at t) result) → Leaves durable state is_read result xs ys
         → FromTo old new (λ u a b. Runs (is_fault_of u) said (state a) (state b) (durable a) (durable b))
-    all-run result said same k t x z at to =
+    all-run is_read result said same k t x z at to =
         let within : t < j.targets = subst (λ n. t < n) E.set.many (slice_get_within old t (Some x) at) in
         let a = at-within xs t (subst (λ n. t < n) (sym A.many) within) in
         let b = at-within ys t (subst (λ n. t < n) (sym (many ∙ A.many)) within) in
         runs_as (stopped_at t) result (is_fault_of t) said (state x.0) (state z.0) (durable x.0) (durable z.0) (same t)
         (subst (λ q. Runs (stopped_at t) result (state x.0) (state q) (durable x.0) (durable q)) (sym (its t z b.0 to b.1))
         (runs_on (stopped_at t) result (state x.0) (state a.0.store) (state b.0.store) (durable x.0) (durable a.0.store) (durable b.0.store) (A.each t a.0 x a.1 at).runs (k.stores.each t a.0 b.0 a.1 b.1)))
+
+    pub all-read : {U : Type 0} (is_read : C → C → Type 0) (result : Result U Halted) → Leaves durable state is_read result xs ys → ClocksAreRead is_read old new
+    all-read is_read result k t x z at to =
+        let within : t < j.targets = subst (λ n. t < n) E.set.many (slice_get_within old t (Some x) at) in
+        let a = at-within xs t (subst (λ n. t < n) (sym A.many) within) in
+        let b = at-within ys t (subst (λ n. t < n) (sym (many ∙ A.many)) within) in
+        subst (IsReadOn is_read x.1) (sym (ap (λ p. p.1) (its-parts t z b.0 to b.1))) (subst (λ d. IsReadOn is_read d b.0.clock) (A.each t a.0 x a.1 at).clock (k.stores.clocks t a.0 b.0 a.1 b.1))
 
 -- ---- what is said
 

@@ -32,7 +32,7 @@ pub may-stop : (tells : Bool) (targets : ℕ) (h : Halted) → IsOneOf targets h
 may-stop tells targets (halted.Stopped target) few = few
 may-stop tells targets halted.Memory few = tt
 
-same-number : (n : ℕ) → (n == n) ≡ true
+pub same-number : (n : ℕ) → (n == n) ≡ true
 same-number n = grind (arith, nat_tests)
 
 -- ---- an opening

@@ -31,7 +31,7 @@ module _ {S C : Type 0} (durable : S → Option Durable) (state : S → State) (
     (F : IsRunnable j.targets s) (some : 1 ≤ j.targets) (few : j.targets ≤ 64) (least : 1 ≤ j.attempts) (K : AreFirst s j.attempts (record { 0 = 255 }) cs) (E : HaveStores (λ u x. IsEmpty durable state j.targets x) j.targets old)
     (A : AreStarted durable state s j j.targets old xs) where
   -- each target started over the store in its place
-  pub over : (t : ℕ) (x : TargetOf S C) → slice_get xs t ≡ Some x → (pair : S × C) × IsAt old t pair × StartsOver durable state s j t pair.0 x
+  pub over : (t : ℕ) (x : TargetOf S C) → slice_get xs t ≡ Some x → (pair : S × C) × IsAt old t pair × StartsOver durable state s j t pair x
   over t x at =
       let k = E.set.each t (subst (λ n. t < n) A.many (slice_get_within xs t x at)) in
       (k.0, k.1, A.each t x k.0 at k.1)

@@ -12,16 +12,17 @@ use Rattle.vos_plain.specs.Plain.{new_state, plain_durable, plain_state}
 use Rattle.vos_plain.specs.declared.store.PlainStore.{PlainStore}
 use Rattle.vos_store.specs.Calls.{State}
 
--- a target started over this store, of which it took no block and which still runs
-pub record StartsOver {S C : Type 0} (durable : S → Option Durable) (state : S → State) (s : Script) (j : Job) (t : ℕ) (store : S) (x : TargetOf S C) : Type 0 where
+-- a target started over this store, of which it took no block and which still runs, with this clock
+pub record StartsOver {S C : Type 0} (durable : S → Option Durable) (state : S → State) (s : Script) (j : Job) (t : ℕ) (pair : S × C) (x : TargetOf S C) : Type 0 where
   pub started : IsStarted durable state s j.targets j.epsilon t x
-  pub runs : StillRuns (state store) (state x.store) (durable store) (durable x.store)
-  pub free : (state x.store).free ≡ (state store).free
+  pub runs : StillRuns (state pair.0) (state x.store) (durable pair.0) (durable x.store)
+  pub free : (state x.store).free ≡ (state pair.0).free
+  pub clock : x.clock ≡ pair.1
 
--- so many targets started over the stores in their places
+-- so many targets started over the stores in their places, with the clocks there
 pub record AreStarted {S C : Type 0} (durable : S → Option Durable) (state : S → State) (s : Script) (j : Job) (n : ℕ) (slots : List (Option (S × C))) (xs : List (TargetOf S C)) : Type 0 where
   pub many : length xs ≡ n
-  pub each : (t : ℕ) (x : TargetOf S C) (pair : S × C) → slice_get xs t ≡ Some x → IsAt slots t pair → StartsOver durable state s j t pair.0 x
+  pub each : (t : ℕ) (x : TargetOf S C) (pair : S × C) → slice_get xs t ≡ Some x → IsAt slots t pair → StartsOver durable state s j t pair x
 
 -- an empty store in memory, of so many MiB
 pub record IsNewStore (size_mib : ℕ) (store : PlainStore) : Type 0 where

@@ -51,8 +51,7 @@ fn set_all<B: Rack>(
 ///
 /// # Errors
 ///
-/// `Memory` alone. Stores in memory that no plan stops and that have no fuse stop at nothing else; did
-/// one, `Memory` would be told.
+/// `Memory` alone: nothing can stop a store in memory whose plan is empty and that has no fuse.
 pub fn run_script<R: Threads + Wait + Sync, B: Rack, G: Gate + Sync>(
     rt: &R,
     alloc: Global,
@@ -80,8 +79,5 @@ pub fn run_script<R: Threads + Wait + Sync, B: Rack, G: Gate + Sync>(
 {
     let mut parts = Parts::new(alloc, job.targets)?;
     set_all(alloc, job, rack, &mut parts)?;
-    match run_on(rt, alloc, job, script, &mut parts, gate) {
-        Ok(report) => Ok(report),
-        Err(_stop) => Err(RunStop::Memory),
-    }
+    run_on(rt, alloc, job, script, &mut parts, gate)
 }

@@ -6,7 +6,7 @@ ghost use Rattle.model_reports.specs.Rooms.{FindsRoom, HasRoom};
 ghost use Rattle.daos_run.specs.Alone.{IsOfLoneClient};
 ghost use Rattle.daos_run.specs.Opens.{IsEmpty, IsLegal, IsOrdered, Stand, given};
 ghost use Rattle.script_runnable.specs.Runnable.{IsRunnable};
-ghost use Rattle.daos_run.specs.Slots.{AllTell, AreFree, AreFreeExactly, AreSet, EachStore, FromTo, HaveStores};
+ghost use Rattle.daos_run.specs.Slots.{AllTell, AreFree, AreFreeExactly, AreSet, ClocksAreRead, EachStore, FromTo, HaveStores};
 ghost use Rattle.daos_run.specs.Stops.{MayStop, is_fault_of};
 ghost use Rattle.target_parts.specs.Parts.{Runs};
 ghost use Rattle.script_runnable.specs.Keyed.{ScriptHasKeys};
@@ -33,13 +33,14 @@ use vos_store::store::Store;
 pub const FIRST_TRACKER: Epoch = Epoch(255);
 
 /// Runs a script on the empty stores of its targets, and reports what became of its commands. The
-/// stores and the clocks are set again at every ending. Where the stores tell nothing of what they keep,
+/// stores and the clocks are set again at every ending, each at its place; a clock is then the one that
+/// was given, after so many readings. Where the stores tell nothing of what they keep,
 /// the report isn't bound; the run is safe, and errors are told as of any others.
 ///
 /// # Errors
 ///
 /// `RackFault` of a target where its store stopped, which is only where a count of that store rose in
-/// this call; `Memory`; and `Shape` where a store that doesn't tell what it keeps has no place for the
+/// this call, and never comes of a store that nothing can stop; `Memory`; and `Shape` where a store that doesn't tell what it keeps has no place for the
 /// script's containers, which are more than 256 with its own.
 pub fn run_on<R: Threads + Wait + Sync, S: Store + Send, C: Clock + Send, G: Gate + Sync>(
     rt: &R,
@@ -69,6 +70,7 @@ pub fn run_on<R: Threads + Wait + Sync, S: Store + Send, C: Clock + Send, G: Gat
         → HasOneClient script.now → IfOk result (IsOfLoneClient (given script.now job.now free)) }
     ensures store { FromTo parts.old parts.new (λ t old new.
         Runs (is_fault_of t) result (S.state old) (S.state new) (S.durable old) (S.durable new)) }
+    ensures clocks { ClocksAreRead C.is_read parts.old parts.new }
     ensures refusals { (tells : Bool) → EachStore (λ t store. is_some (S.durable store) ≡ tells) parts.old → IfErr result (MayStop tells job.now.targets) }
     ensures set { AreSet job.now.targets parts.new }
 {

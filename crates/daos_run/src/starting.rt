@@ -1,7 +1,7 @@
 // The targets of a run start over their stores, and hand these back.
 ghost use Rattle.std.specs.Prelude.{◌≡◌, ◌≤◌, ◌<◌, ℕ, Bool, length, slice_get, is_some, true, IfErr, IfOk, None, Some};
 ghost use Rattle.daos_run.specs.Opens.{IsEmpty};
-ghost use Rattle.daos_run.specs.Slots.{AreBack, AreSet, AreTaken, EachStore, FromTo, HaveStores, TellAlike};
+ghost use Rattle.daos_run.specs.Slots.{AreBack, AreSet, AreTaken, ClocksStay, EachStore, FromTo, HaveStores, TellAlike};
 ghost use Rattle.daos_run.specs.Starts.{AreStarted, StartsOver};
 ghost use Rattle.daos_run.specs.Stops.{MayStop, is_fault_of, not_started};
 ghost use Rattle.target_parts.specs.Parts.{Runs};
@@ -38,9 +38,10 @@ fn start<S: Store, C: Clock>(
     requires few_targets { job.now.targets ≤ 64 }
     requires same { script.now.targets ≡ job.now.targets }
     requires empty { IsEmpty S.durable S.state job.now.targets store }
-    ensures started { IfOk result (StartsOver S.durable S.state script.now job.now t store) }
+    ensures started { IfOk result (StartsOver S.durable S.state script.now job.now t (store, clock)) }
     ensures runs { IfErr result (λ no. (u : ℕ) → u ≡ t → Runs (is_fault_of u) (not_started no.stop) (S.state store) (S.state no.store) (S.durable store) (S.durable no.store)) }
     ensures own { IfErr result (λ no. (u : ℕ) → is_fault_of u no.stop ≡ true → u ≡ t) }
+    ensures clock { IfErr result (λ no. no.clock ≡ clock) }
     ensures refusals { IfErr result (λ no. MayStop (is_some (S.durable store)) job.now.targets no.stop) }
 {
     let mut store = store;
@@ -79,8 +80,8 @@ pub fn hand_back<S: Store, C: Clock>(parts: &mut Parts<S, C>, targets: Vec<Targe
 ///
 /// # Errors
 ///
-/// That of the first store that isn't opened: a fault of its own; and want of memory. All stores are in
-/// their places then, and those that follow are as they were.
+/// That of the first store that isn't opened: a fault of its own; and want of memory. All stores and
+/// clocks are in their places then, each clock as it was, and the stores that follow too.
 pub fn start_all<S: Store, C: Clock>(
     alloc: Global,
     job: &Job,
@@ -96,6 +97,7 @@ pub fn start_all<S: Store, C: Clock>(
     ensures taken { IfOk result (λ targets. AreTaken job.now.targets parts.old parts.new) }
     ensures set { IfErr result (λ stop. AreSet job.now.targets parts.new) }
     ensures runs { IfErr result (λ stop. FromTo parts.old parts.new (λ t old new. Runs (is_fault_of t) (not_started stop) (S.state old) (S.state new) (S.durable old) (S.durable new))) }
+    ensures clocks { IfErr result (λ stop. ClocksStay parts.old parts.new) }
     ensures refusals { (tells : Bool) → EachStore (λ t store. is_some (S.durable store) ≡ tells) parts.old → IfErr result (MayStop tells job.now.targets) }
 {
     let mut targets = Vec::with_capacity(alloc, usize::from(job.targets))?;

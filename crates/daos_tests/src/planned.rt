@@ -1,5 +1,5 @@
 // A rack whose clock gives readings that are planned.
-ghost use Rattle.std.specs.Prelude.{◌≡◌, None, Unit, refl};
+ghost use Rattle.std.specs.Prelude.{◌≡◌, None, refl};
 ghost use Rattle.base_outside.specs.RackState.{image_at_home, size_at_home, is_out_of_home};
 
 use base_outside::clock::Clock;

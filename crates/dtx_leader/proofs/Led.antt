@@ -56,10 +56,10 @@ passed-again p xs = whole p (filter p xs) (filter_passes p xs)
 -- ---- entries
 
 committed-led : (me : ℕ) (a : AttemptId) (e : Entry) → is_led me (committed_at a e) ≡ is_led me e
-committed-led me a e = elim (same_attempt e.attempt a) as (λ b. is_led me (if b then record e { committed = true } else e) ≡ is_led me e) [ | true ↦ refl | false ↦ refl ]
+committed-led me a e = elim (same_attempt e.attempt a) as (λ b. is_led me (if b then record e { committed = true } else e) ≡ is_led me e) [ true ↦ refl | false ↦ refl ]
 
 confirmed-led : (me : ℕ) (a : AttemptId) (t : ℕ) (e : Entry) → is_led me (confirmed_at a t e) ≡ is_led me e
-confirmed-led me a t e = elim (same_attempt e.attempt a) as (λ b. is_led me (if b then record e { confirmed = bit_or e.confirmed (2 ^ t) } else e) ≡ is_led me e) [ | true ↦ refl | false ↦ refl ]
+confirmed-led me a t e = elim (same_attempt e.attempt a) as (λ b. is_led me (if b then record e { confirmed = bit_or e.confirmed (2 ^ t) } else e) ≡ is_led me e) [ true ↦ refl | false ↦ refl ]
 
 pub led-committed : (me : ℕ) (a : AttemptId) (es : List Entry) → filter (is_led me) es ≡ es → filter (is_led me) (map (committed_at a) es) ≡ map (committed_at a) es
 led-committed me a es all = whole-mapped (is_led me) (committed_at a) (committed-led me a) es all

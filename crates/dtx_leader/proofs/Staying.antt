@@ -9,7 +9,6 @@ use Rattle.base_messages.specs.declared.message.Post.{Post}
 use Rattle.dtx_base.specs.declared.leading.LeaderMemory.{LeaderMemory}
 use Rattle.dtx_base.specs.declared.leading.Undecided.{Undecided}
 use Rattle.dtx_base.specs.Leading.{LeaderOf, LeaderStep, down_told, entry_led, knowing, mark_reset, prepare_reset, quietly, reset_heard, reset_of, status_asked, step_of, to_target, undecided_of}
-
 use Rattle.dtx_table.specs.Seats.{came}
 
 -- a step after which the leader is the same but for what it remembers
@@ -22,7 +21,7 @@ down-stays t a (Some e) None l = refl
 down-stays t a (Some e) (Some u) l = refl
 
 status-stays : (t : ℕ) (a : AttemptId) (inc : ℕ) (l : LeaderOf) → StaysButMemory l (status_asked t a inc l)
-status-stays t a inc l = elim (inc == l.incarnation) as (λ b. StaysButMemory l (if b then record { leader = l; posts = to_target t (message.Status a inc) ∷ [] } else quietly l)) [ | true ↦ refl | false ↦ refl ]
+status-stays t a inc l = elim (inc == l.incarnation) as (λ b. StaysButMemory l (if b then record { leader = l; posts = to_target t (message.Status a inc) ∷ [] } else quietly l)) [ true ↦ refl | false ↦ refl ]
 
 prepare-stays : (t : ℕ) (down : Bool) (a : AttemptId) (inc : ℕ) (l : LeaderOf) → StaysButMemory l (prepare_reset t down a inc l)
 unfolding prepare_reset

@@ -100,7 +100,10 @@ impl Leader {
         ensures err { OnErr result (self.new ≡ self.old) }
     {
         self.table.add(*entry)?;
-        match self.decisions.begin(self.seat, entry, first, client, writes) {
+        match self
+            .decisions
+            .begin(self.seat, entry, first, client, writes)
+        {
             Ok(posts) => Ok(posts),
             Err(memory) => {
                 self.table.settle(entry.attempt, Settle::Abort);

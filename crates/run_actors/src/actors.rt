@@ -142,7 +142,7 @@ impl<S: Store, C: Clock> Actors<S, C> {
             → OnOk result (Steps S.durable S.state settling r (target t) number w self.new.clients.items self.new.targets.items self.new.between) }
         ensures going { OnOk result (CanGo S.durable S.state self.new.clients.items self.new.targets.items self.new.between) }
         ensures many_clients { length self.new.clients.items ≡ length self.old.clients.items }
-        ensures stores { StoresRun S.durable S.state (stops_at t) result self.old.targets.items self.new.targets.items }
+        ensures stores { StoresRun S.durable S.state C.is_read (stops_at t) result self.old.targets.items self.new.targets.items }
     {
         let hears = self.heard_by_target(t) > 0;
         let Actors {

@@ -60,79 +60,79 @@ some-in (x ∷ xs) len some is none = cc
 pub not-none : (many len : ℕ) → false ≡ (len == 0) → many ≡ len → many ≡ 0 → ⊥
 not-none many len some is none = grind (arith, nat_tests)
 
-module _ {S C : Type 0} (durable : S → Option Durable) (state : S → State) (settling : Bool) (cs0 : List ClientNow) (xs0 : List (TargetOf S C)) (b0 : BetweenNow) (cs : List ClientNow) (xs : List (TargetOf S C)) (b : BetweenNow) where
+module _ {S C : Type 0} (durable : S → Option Durable) (state : S → State) (is_read : C → C → Type 0) (settling : Bool) (cs0 : List ClientNow) (xs0 : List (TargetOf S C)) (b0 : BetweenNow) (cs : List ClientNow) (xs : List (TargetOf S C)) (b : BetweenNow) where
   -- ---- a round
 
-  module _ (before : List ActorId) (a : ActorId) (k : GoesOn durable state (turned settling before) cs0 xs0 b0 cs xs b) where
+  module _ (before : List ActorId) (a : ActorId) (k : GoesOn durable state is_read (turned settling before) cs0 xs0 b0 cs xs b) where
     -- one has its turn
     one-more : (cs' : List ClientNow) (xs' : List (TargetOf S C)) (b' : BetweenNow) → ((r : Rules) (w : World) → Shows durable state r cs xs b w → is_due settling r w a ≡ true)
-        → ((r : Rules) (w : World) → Shows durable state r cs xs b w → Steps durable state settling r a 0 w cs' xs' b') → CanGo durable state cs' xs' b' → length cs' ≡ length cs → AllRun durable state xs xs'
-        → GoesOn durable state (turned settling (before ++ a ∷ [])) cs0 xs0 b0 cs' xs' b'
+        → ((r : Rules) (w : World) → Shows durable state r cs xs b w → Steps durable state settling r a 0 w cs' xs' b') → CanGo durable state cs' xs' b' → length cs' ≡ length cs → AllRun durable state is_read xs xs'
+        → GoesOn durable state is_read (turned settling (before ++ a ∷ [])) cs0 xs0 b0 cs' xs' b'
     one-more cs' xs' b' is steps going clients targets =
-        goes-then durable state (turned settling before) (λ r w v. TurnOf settling r a 0 w v) (turned settling (before ++ a ∷ [])) cs0 xs0 b0 cs xs b cs' xs' b' (λ r w u v s so turn. AndThen before a u v so (HasIt (is r u s) turn)) k
-        (goes-turn durable state settling a 0 cs xs b cs' xs' b' steps going clients targets)
+        goes-then durable state is_read (turned settling before) (λ r w v. TurnOf settling r a 0 w v) (turned settling (before ++ a ∷ [])) cs0 xs0 b0 cs xs b cs' xs' b' (λ r w u v s so turn. AndThen before a u v so (HasIt (is r u s) turn)) k
+        (goes-turn durable state is_read settling a 0 cs xs b cs' xs' b' steps going clients targets)
 
     -- one has none
-    none-more : ((r : Rules) (w : World) → Shows durable state r cs xs b w → is_due settling r w a ≡ false) → GoesOn durable state (turned settling (before ++ a ∷ [])) cs0 xs0 b0 cs xs b
-    none-more not_due = goes-as durable state (turned settling before) (turned settling (before ++ a ∷ [])) cs0 xs0 b0 cs xs b (λ r w u s so. AndThen before a u u so (HasNone (not_due r u s) refl)) k
+    none-more : ((r : Rules) (w : World) → Shows durable state r cs xs b w → is_due settling r w a ≡ false) → GoesOn durable state is_read (turned settling (before ++ a ∷ [])) cs0 xs0 b0 cs xs b
+    none-more not_due = goes-as durable state is_read (turned settling before) (turned settling (before ++ a ∷ [])) cs0 xs0 b0 cs xs b (λ r w u s so. AndThen before a u u so (HasNone (not_due r u s) refl)) k
 
-  module _ (n : ℕ) (k : GoesOn durable state (turned settling (numbered client n)) cs0 xs0 b0 cs xs b) (within : n < length cs) where
+  module _ (n : ℕ) (k : GoesOn durable state is_read (turned settling (numbered client n)) cs0 xs0 b0 cs xs b) (within : n < length cs) where
     pub client-had-turn : (cs' : List ClientNow) (xs' : List (TargetOf S C)) (b' : BetweenNow) → is_due_client b.messages n (slice_get cs n) ≡ true
-        → ((r : Rules) (w : World) → Shows durable state r cs xs b w → Steps durable state settling r (client n) 0 w cs' xs' b') → CanGo durable state cs' xs' b' → length cs' ≡ length cs → AllRun durable state xs xs'
-        → GoesOn durable state (turned settling (numbered client (suc n))) cs0 xs0 b0 cs' xs' b'
+        → ((r : Rules) (w : World) → Shows durable state r cs xs b w → Steps durable state settling r (client n) 0 w cs' xs' b') → CanGo durable state cs' xs' b' → length cs' ≡ length cs → AllRun durable state is_read xs xs'
+        → GoesOn durable state is_read (turned settling (numbered client (suc n))) cs0 xs0 b0 cs' xs' b'
     client-had-turn cs' xs' b' is = one-more (numbered client n) (client n) k cs' xs' b' (λ r w s. sym (client-due-shown durable state r cs xs b w s settling n within) ∙ is)
 
-    pub client-had-none : is_due_client b.messages n (slice_get cs n) ≡ false → GoesOn durable state (turned settling (numbered client (suc n))) cs0 xs0 b0 cs xs b
+    pub client-had-none : is_due_client b.messages n (slice_get cs n) ≡ false → GoesOn durable state is_read (turned settling (numbered client (suc n))) cs0 xs0 b0 cs xs b
     client-had-none is = none-more (numbered client n) (client n) k (λ r w s. sym (client-due-shown durable state r cs xs b w s settling n within) ∙ is)
 
-  module _ (m t : ℕ) (k : GoesOn durable state (turned settling (first_targets m t)) cs0 xs0 b0 cs xs b) (within : t < length xs) where
+  module _ (m t : ℕ) (k : GoesOn durable state is_read (turned settling (first_targets m t)) cs0 xs0 b0 cs xs b) (within : t < length xs) where
     next : first_targets m t ++ target t ∷ [] ≡ first_targets m (suc t)
     next = append_assoc (numbered client m) (numbered target t) (target t ∷ [])
 
     pub target-had-turn : (cs' : List ClientNow) (xs' : List (TargetOf S C)) (b' : BetweenNow) → ((r : Rules) (w : World) → Shows durable state r cs xs b w → is_due settling r w (target t) ≡ true)
-        → ((r : Rules) (w : World) → Shows durable state r cs xs b w → Steps durable state settling r (target t) 0 w cs' xs' b') → CanGo durable state cs' xs' b' → length cs' ≡ length cs → AllRun durable state xs xs'
-        → GoesOn durable state (turned settling (first_targets m (suc t))) cs0 xs0 b0 cs' xs' b'
+        → ((r : Rules) (w : World) → Shows durable state r cs xs b w → Steps durable state settling r (target t) 0 w cs' xs' b') → CanGo durable state cs' xs' b' → length cs' ≡ length cs → AllRun durable state is_read xs xs'
+        → GoesOn durable state is_read (turned settling (first_targets m (suc t))) cs0 xs0 b0 cs' xs' b'
     target-had-turn cs' xs' b' is steps going clients targets =
-        subst (λ as'. GoesOn durable state (turned settling as') cs0 xs0 b0 cs' xs' b') next
+        subst (λ as'. GoesOn durable state is_read (turned settling as') cs0 xs0 b0 cs' xs' b') next
         (one-more (first_targets m t) (target t) k cs' xs' b' is steps going clients targets)
 
-    pub target-had-none : ((r : Rules) (w : World) → Shows durable state r cs xs b w → is_due settling r w (target t) ≡ false) → GoesOn durable state (turned settling (first_targets m (suc t))) cs0 xs0 b0 cs xs b
+    pub target-had-none : ((r : Rules) (w : World) → Shows durable state r cs xs b w → is_due settling r w (target t) ≡ false) → GoesOn durable state is_read (turned settling (first_targets m (suc t))) cs0 xs0 b0 cs xs b
     target-had-none is =
-        subst (λ as'. GoesOn durable state (turned settling as') cs0 xs0 b0 cs xs b) next (none-more (first_targets m t) (target t) k is)
+        subst (λ as'. GoesOn durable state is_read (turned settling as') cs0 xs0 b0 cs xs b) next (none-more (first_targets m t) (target t) k is)
 
   -- all had their turns
-  pub round-whole : GoesOn durable state (turned settling (first_targets (length cs0) (length xs0))) cs0 xs0 b0 cs xs b → (r : Rules) (w : World) → Shows durable state r cs0 xs0 b0 w → IsShown durable state r (RoundOf settling r w) cs xs b
+  pub round-whole : GoesOn durable state is_read (turned settling (first_targets (length cs0) (length xs0))) cs0 xs0 b0 cs xs b → (r : Rules) (w : World) → Shows durable state r cs0 xs0 b0 w → IsShown durable state r (RoundOf settling r w) cs xs b
   round-whole k r w s =
       let m = k.led r w s in
       record { now = m.now; is = subst (λ as'. InTurn settling r w as' m.now) (ap (λ n. first_targets n (length xs0)) (sym (many-clients durable state r cs0 xs0 b0 w s)) ∙ ap (first_targets (length w.clients)) (sym s.many)) m.is; shows = m.shows }
 
   -- ---- rounds
 
-  pub round-more : (due : List ActorId) (cs' : List ClientNow) (xs' : List (TargetOf S C)) (b' : BetweenNow) → GoesOn durable state (Rounds settling) cs0 xs0 b0 cs xs b → AllAreDue durable state settling cs xs b due → (due ≡ [] → ⊥)
-      → ((r : Rules) (w : World) → Shows durable state r cs xs b w → IsShown durable state r (RoundOf settling r w) cs' xs' b') → CanGo durable state cs' xs' b' → length cs' ≡ length cs → AllRun durable state xs xs' → GoesOn durable state (Rounds settling) cs0 xs0 b0 cs' xs' b'
+  pub round-more : (due : List ActorId) (cs' : List ClientNow) (xs' : List (TargetOf S C)) (b' : BetweenNow) → GoesOn durable state is_read (Rounds settling) cs0 xs0 b0 cs xs b → AllAreDue durable state settling cs xs b due → (due ≡ [] → ⊥)
+      → ((r : Rules) (w : World) → Shows durable state r cs xs b w → IsShown durable state r (RoundOf settling r w) cs' xs' b') → CanGo durable state cs' xs' b' → length cs' ≡ length cs → AllRun durable state is_read xs xs' → GoesOn durable state is_read (Rounds settling) cs0 xs0 b0 cs' xs' b'
   round-more due cs' xs' b' k all some round going clients targets =
-      goes-then durable state (Rounds settling) (RoundOf settling) (Rounds settling) cs0 xs0 b0 cs xs b cs' xs' b' (λ r w u v s so one. OneRound u v so (λ none. some (due-shown durable state r cs xs b u s settling due all ∙ none)) one) k
+      goes-then durable state is_read (Rounds settling) (RoundOf settling) (Rounds settling) cs0 xs0 b0 cs xs b cs' xs' b' (λ r w u v s so one. OneRound u v so (λ none. some (due-shown durable state r cs xs b u s settling due all ∙ none)) one) k
       (record { led = round; going = going; clients = clients; stores = targets })
 
-  pub rounds-over : (due : List ActorId) → GoesOn durable state (Rounds settling) cs0 xs0 b0 cs xs b → AllAreDue durable state settling cs xs b due → due ≡ [] → (r : Rules) (w : World) → Shows durable state r cs0 xs0 b0 w → IsShown durable state r (InRounds settling r w) cs xs b
+  pub rounds-over : (due : List ActorId) → GoesOn durable state is_read (Rounds settling) cs0 xs0 b0 cs xs b → AllAreDue durable state settling cs xs b due → due ≡ [] → (r : Rules) (w : World) → Shows durable state r cs0 xs0 b0 w → IsShown durable state r (InRounds settling r w) cs xs b
   rounds-over due k all quiet r w s =
       let m = k.led r w s in
       record { now = m.now; is = record { rounds = m.is; over = sym (due-shown durable state r cs xs b m.now m.shows settling due all) ∙ quiet }; shows = m.shows }
 
   -- ---- draws
 
-  pub draws-over : (x0 x : ℕ) (due : List ActorId) → GoesOn durable state (from_draw settling x0 x) cs0 xs0 b0 cs xs b → AllAreDue durable state settling cs xs b due → due ≡ [] → (r : Rules) (w : World) → Shows durable state r cs0 xs0 b0 w
+  pub draws-over : (x0 x : ℕ) (due : List ActorId) → GoesOn durable state is_read (from_draw settling x0 x) cs0 xs0 b0 cs xs b → AllAreDue durable state settling cs xs b due → due ≡ [] → (r : Rules) (w : World) → Shows durable state r cs0 xs0 b0 w
       → IsShown durable state r (λ v. InDraws settling r x0 w x v) cs xs b
   draws-over x0 x due k all quiet r w s =
       let m = k.led r w s in
       record { now = m.now; is = record { draws = m.is; over = sym (due-shown durable state r cs xs b m.now m.shows settling due all) ∙ quiet }; shows = m.shows }
 
   -- an actor is drawn, and then the letter that it hears, if it hears one
-  pub draw-more : (x0 x y : ℕ) (due : List ActorId) (a : ActorId) (many message : ℕ) (cs' : List ClientNow) (xs' : List (TargetOf S C)) (b' : BetweenNow) → GoesOn durable state (from_draw settling x0 x) cs0 xs0 b0 cs xs b
+  pub draw-more : (x0 x y : ℕ) (due : List ActorId) (a : ActorId) (many message : ℕ) (cs' : List ClientNow) (xs' : List (TargetOf S C)) (b' : BetweenNow) → GoesOn durable state is_read (from_draw settling x0 x) cs0 xs0 b0 cs xs b
       → AllAreDue durable state settling cs xs b due → slice_get due (drawn x % length due) ≡ Some a → ((r : Rules) (w : World) → Shows durable state r cs xs b w → many ≡ heard w a) → message ≡ pick (drawn x) many → y ≡ after_pick (drawn x) many
-      → ((r : Rules) (w : World) → Shows durable state r cs xs b w → Steps durable state settling r a message w cs' xs' b') → CanGo durable state cs' xs' b' → length cs' ≡ length cs → AllRun durable state xs xs' → GoesOn durable state (from_draw settling x0 y) cs0 xs0 b0 cs' xs' b'
+      → ((r : Rules) (w : World) → Shows durable state r cs xs b w → Steps durable state settling r a message w cs' xs' b') → CanGo durable state cs' xs' b' → length cs' ≡ length cs → AllRun durable state is_read xs xs' → GoesOn durable state is_read (from_draw settling x0 y) cs0 xs0 b0 cs' xs' b'
   draw-more x0 x y due a many message cs' xs' b' k all its hears is last steps going clients targets =
-      goes-then durable state (from_draw settling x0 x) (λ r w v. TurnOf settling r a message w v) (from_draw settling x0 y) cs0 xs0 b0 cs xs b cs' xs' b'
+      goes-then durable state is_read (from_draw settling x0 x) (λ r w v. TurnOf settling r a message w v) (from_draw settling x0 y) cs0 xs0 b0 cs xs b cs' xs' b'
       (λ r w u v s so turn.
       OneDraw x y u v so (record {
         actor = a;
@@ -141,7 +141,7 @@ module _ {S C : Type 0} (durable : S → Option Durable) (state : S → State) (
         last = last ∙ ap (after_pick (drawn x)) (hears r u s);
       }))
       k
-      (goes-turn durable state settling a message cs xs b cs' xs' b' steps going clients targets)
+      (goes-turn durable state is_read settling a message cs xs b cs' xs' b' steps going clients targets)
 
 -- what holds of the world that is shown, in other words
 pub shown-as : {S C T E : Type 0} (durable : S → Option Durable) (state : S → State) (r : Rules) (result : Result T E) (one other : World → Type 0) (cs : List ClientNow) (xs : List (TargetOf S C)) (b : BetweenNow) → ((v : World) → one v → other v)

@@ -1,4 +1,4 @@
--- Why a run doesn't come to its end, and what it then leaves of the stores.
+-- Why a run doesn't come to its end, and what it then leaves of the stores and the clocks.
 use Rattle.std.specs.Prelude.{ℕ, ◌≡◌, ◌<◌, ◌==◌, Bool, false, IfErr, List, length, Option, Result}
 use Rattle.daos_model.specs.declared.durable.Durable.{Durable}
 use Rattle.run_actors.specs.Stores.{StoresRun, stops_at}
@@ -27,7 +27,7 @@ pub record ComesOf (target : ℕ) (stop : TargetStop) (h : Halted) : Type 0 wher
   pub named : (many : ℕ) → target < many → IsOneOf many h
 
 -- Turns with this result led from these targets to those. Each store is stopped exactly where the result names its target, which is one of
--- them, and that only where a count of that store rose.
-pub record Leaves {S C T : Type 0} (durable : S → Option Durable) (state : S → State) (result : Result T Halted) (xs ys : List (TargetOf S C)) : Type 0 where
-  pub stores : StoresRun durable state stopped_at result xs ys
+-- them, and that only where a count of that store rose; each clock is the one before, after so many readings.
+pub record Leaves {S C T : Type 0} (durable : S → Option Durable) (state : S → State) (is_read : C → C → Type 0) (result : Result T Halted) (xs ys : List (TargetOf S C)) : Type 0 where
+  pub stores : StoresRun durable state is_read stopped_at result xs ys
   pub named : IfErr result (IsOneOf (length xs))

@@ -70,7 +70,7 @@ fn turn<S: Store, C: Clock>(
         → OnOk result (Steps S.durable S.state settling r actor message w actors.new.clients.items actors.new.targets.items actors.new.between) }
     ensures going { OnOk result (CanGo S.durable S.state actors.new.clients.items actors.new.targets.items actors.new.between) }
     ensures many_clients { length actors.new.clients.items ≡ length actors.old.clients.items }
-    ensures stores { Leaves S.durable S.state result actors.old.targets.items actors.new.targets.items }
+    ensures stores { Leaves S.durable S.state C.is_read result actors.old.targets.items actors.new.targets.items }
 {
     let number = usize::from(actor.number);
     if actor.client {
@@ -98,7 +98,7 @@ fn round<S: Store, C: Clock, G: Gate>(
         → OnOk result (IsShown S.durable S.state r (RoundOf settling r w) actors.new.clients.items actors.new.targets.items actors.new.between) }
     ensures going { OnOk result (CanGo S.durable S.state actors.new.clients.items actors.new.targets.items actors.new.between) }
     ensures many_clients { length actors.new.clients.items ≡ length actors.old.clients.items }
-    ensures stores { Leaves S.durable S.state result actors.old.targets.items actors.new.targets.items }
+    ensures stores { Leaves S.durable S.state C.is_read result actors.old.targets.items actors.new.targets.items }
 {
     for n in 0..actors.clients.len() {
         if actors.is_client_due(n) {
@@ -133,7 +133,7 @@ fn go_round<R: Wait, S: Store, C: Clock, G: Gate>(
         → OnOk result (IsShown S.durable S.state r (InRounds settling r w) actors.new.clients.items actors.new.targets.items actors.new.between) }
     ensures going { OnOk result (CanGo S.durable S.state actors.new.clients.items actors.new.targets.items actors.new.between) }
     ensures many_clients { length actors.new.clients.items ≡ length actors.old.clients.items }
-    ensures stores { Leaves S.durable S.state result actors.old.targets.items actors.new.targets.items }
+    ensures stores { Leaves S.durable S.state C.is_read result actors.old.targets.items actors.new.targets.items }
 {
     for _ in rt.forever() {
         if actors.due(alloc, settling)?.is_empty() {
@@ -175,7 +175,7 @@ fn go_drawn<R: Wait, S: Store, C: Clock, G: Gate>(
         → OnOk result (IsShown S.durable S.state r (λ v. InDraws settling r x.old w x.new v) actors.new.clients.items actors.new.targets.items actors.new.between) }
     ensures going { OnOk result (CanGo S.durable S.state actors.new.clients.items actors.new.targets.items actors.new.between) }
     ensures many_clients { length actors.new.clients.items ≡ length actors.old.clients.items }
-    ensures stores { Leaves S.durable S.state result actors.old.targets.items actors.new.targets.items }
+    ensures stores { Leaves S.durable S.state C.is_read result actors.old.targets.items actors.new.targets.items }
 {
     for _ in rt.forever() {
         let due = actors.due(alloc, settling)?;
@@ -207,7 +207,7 @@ fn go<R: Wait, S: Store, C: Clock, G: Gate>(
         → OnOk result (IsShown S.durable S.state r (InOrder r order w) actors.new.clients.items actors.new.targets.items actors.new.between) }
     ensures going { OnOk result (CanGo S.durable S.state actors.new.clients.items actors.new.targets.items actors.new.between) }
     ensures many_clients { length actors.new.clients.items ≡ length actors.old.clients.items }
-    ensures stores { Leaves S.durable S.state result actors.old.targets.items actors.new.targets.items }
+    ensures stores { Leaves S.durable S.state C.is_read result actors.old.targets.items actors.new.targets.items }
 {
     let mut number = 0;
     if order == 0 {
@@ -237,7 +237,7 @@ pub fn run_in_order<R: Wait, S: Store, C: Clock, G: Gate>(
     requires few_targets { length targets.items ≤ 255 }
     ensures run { (r : Rules) (w : World) (o : Opening) → IsSimple r → IsBegun r o w → Shows S.durable S.state r clients.items targets.items nothing w
         → IfOk result.1 (λ lines. HasRun S.durable S.state r order w result.0.items lines) }
-    ensures stores { Leaves S.durable S.state result.1 targets.items result.0.items }
+    ensures stores { Leaves S.durable S.state C.is_read result.1 targets.items result.0.items }
 {
     let mut actors = Actors {
         clients,

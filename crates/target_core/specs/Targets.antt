@@ -1,6 +1,5 @@
 -- What a target is seen as, what holds of each, and what a turn of it comes to.
-use Rattle.std.specs.Prelude.{ℕ, ◌≡◌, ◌≤◌, Bool, true, false, List, [], Option, None, is_some, Result, Ok, Err}
-use Rattle.std.specs.Option.{ForSome}
+use Rattle.std.specs.Prelude.{ℕ, ◌≡◌, Bool, true, List, [], Option, None, is_some, Result, Ok, Err}
 use Rattle.base_types.specs.declared.epoch.Epoch.{Epoch}
 use Rattle.base_types.specs.declared.id.AttemptId.{AttemptId}
 use Rattle.base_types.specs.declared.outcome.FloorWhy.{FloorWhy}
@@ -26,13 +25,12 @@ use Rattle.world_base.specs.Roles.{is_prepared, told_by}
 use Rattle.world_base.specs.TargetTurns.{Hears, IdlesCut, IdlesWhole, commit_request, fetch_request, prepare_request}
 use Rattle.world_base.specs.Verdicts as verdict
 pub use Rattle.world_posts.specs.Forms.{HasForm, is_of_client}
-use Rattle.target_parts.specs.declared.knows.Knows.{Knows}
 use Rattle.target_parts.specs.declared.stop.TargetStop.{TargetStop}
 use Rattle.target_parts.specs.declared.stop.TargetStop.TheVariants as stop
-use Rattle.target_parts.specs.Knowing.{IsOwn, LeadsWell, memory_of}
 use Rattle.target_parts.specs.Parts.{Now, Partway, kept}
+pub use Rattle.target_parts.specs.Standing.{IsTarget}
 use Rattle.target_parts.specs.Stops.{CutTelling, commit_issued, fetch_issued, never}
-use Rattle.target_writes.specs.Checks.{CanCommit, IsPlaced}
+use Rattle.target_writes.specs.Checks.{CanCommit}
 use Rattle.target_writes.specs.Turns.{CanPrepareHere}
 
 -- ---- a target
@@ -43,14 +41,6 @@ pub record TargetOf (S C : Type 0) : Type 0 where
   pub store : S
   pub clock : C
   pub memory : TargetMemory
-
--- What holds of every target: it is one of at most 64, for which its store was made; what it knows is its own; and unless its store is
--- stopped, that fits what it keeps, where that is told.
-pub record IsTarget (t : TargetPlan) (h : State) (old : Option Durable) (k : Knows) : Type 0 where
-  pub placed : IsPlaced t h
-  pub few : t.targets ≤ 64
-  pub own : IsOwn t k
-  pub leads : h.stopped ≡ false → ForSome old (LeadsWell t (memory_of k) k.entries.items)
 
 -- ---- what a target is asked
 

@@ -2,13 +2,11 @@
 ghost use Rattle.std.specs.Prelude.{◌≡◌, ◌≤◌, ℕ, IfOk, IfSome, Some, true, false};
 ghost use Rattle.std.specs.Option.{ForSome};
 ghost use Rattle.daos_model.specs.declared.durable.Durable.{Durable};
-ghost use Rattle.vos_store.specs.Refusals.{says};
 ghost use Rattle.world_posts.specs.Forms.{PostsInForm};
-ghost use Rattle.target_parts.specs.Knowing.{IsOwn, LeadsWell, memory_of};
-ghost use Rattle.target_parts.specs.Parts.{Runs};
-ghost use Rattle.target_parts.specs.Stops.{stop_foreign, stop_store};
-ghost use Rattle.target_writes.specs.Checks.{IsPlaced};
+ghost use Rattle.target_parts.specs.Knowing.{memory_of};
 ghost use Rattle.target_core.specs.Targets.{CanHear, HasForm, HearsOrStops, has_epoch, is_of_client};
+ghost use Rattle.target_parts.specs.Standing.{IsTarget, TurnRuns};
+ghost use Rattle.target_parts.specs.Readings.{IsReadUpTo, most_readings};
 
 use base_messages::actor::ActorId;
 use base_messages::message::Message;
@@ -38,23 +36,18 @@ fn hear_client<S: Store, C: Clock>(
     from: ActorId,
     message: Message,
 ) -> Result<Did, TargetStop>
-    requires placed { IsPlaced plan (S.state store.old) }
-    requires few { plan.targets ≤ 64 }
+    requires target { IsTarget plan (S.state store.old) (S.durable store.old) knows.old }
     requires running { (S.state store.old).stopped ≡ false }
-    requires own { IsOwn plan knows.old }
-    requires client { is_of_client message ≡ true }
+    requires asked { is_of_client message ≡ true }
     requires form { HasForm plan message }
     requires here { ForSome (S.durable store.old) (CanHear plan message) }
-    requires leads { ForSome (S.durable store.old) (LeadsWell plan (memory_of knows.old) knows.old.entries.items) }
-    ensures runs { Runs stop_store result (S.state store.old) (S.state store.new) (S.durable store.old) (S.durable store.new) }
     ensures turn { (reading : ℕ) × IfSome (C.next clock.old) (λ r. r ≡ reading) × ((d : Durable) → S.durable store.old ≡ Some d
         → HearsOrStops plan (memory_of knows.old) reading from message d (S.state store.old)
         (S.durable store.new) (S.state store.new) (S.may store.new) (memory_of knows.new) result) }
-    ensures leads { says stop_store result ≡ false → ForSome (S.durable store.new) (LeadsWell plan (memory_of knows.new) knows.new.entries.items) }
-    ensures own { IsOwn plan knows.new }
-    ensures native { says stop_foreign result ≡ false }
-    ensures unread { has_epoch message ≡ true → clock.new ≡ clock.old }
     ensures posts { from.client ≡ true → IfOk result (λ did. PostsInForm plan.targets knows.old.leader knows.new.leader did.posts) }
+    ensures target { IsTarget plan (S.state store.new) (S.durable store.new) knows.new }
+    ensures stopped { TurnRuns result (S.state store.old) (S.state store.new) (S.durable store.old) (S.durable store.new) }
+    ensures clock { IsReadUpTo C.is_read (most_readings (has_epoch message)) clock.old clock.new }
 {
     match message {
         Message::Fetch {
@@ -108,21 +101,17 @@ fn hear_target<S: Store>(
     from: ActorId,
     message: Message,
 ) -> Result<Did, TargetStop>
-    requires placed { IsPlaced plan (S.state store.old) }
+    requires target { IsTarget plan (S.state store.old) (S.durable store.old) knows.old }
     requires running { (S.state store.old).stopped ≡ false }
-    requires own { IsOwn plan knows.old }
-    requires target { is_of_client message ≡ false }
+    requires told { is_of_client message ≡ false }
     requires form { HasForm plan message }
     requires here { ForSome (S.durable store.old) (CanHear plan message) }
-    requires leads { ForSome (S.durable store.old) (LeadsWell plan (memory_of knows.old) knows.old.entries.items) }
-    ensures runs { Runs stop_store result (S.state store.old) (S.state store.new) (S.durable store.old) (S.durable store.new) }
     ensures turn { (d : Durable) → S.durable store.old ≡ Some d → (reading : ℕ)
         → HearsOrStops plan (memory_of knows.old) reading from message d (S.state store.old)
         (S.durable store.new) (S.state store.new) (S.may store.new) (memory_of knows.new) result }
-    ensures leads { says stop_store result ≡ false → ForSome (S.durable store.new) (LeadsWell plan (memory_of knows.new) knows.new.entries.items) }
-    ensures own { IsOwn plan knows.new }
-    ensures native { says stop_foreign result ≡ false }
     ensures posts { from.client ≡ false → IfOk result (λ did. PostsInForm plan.targets knows.old.leader knows.new.leader did.posts) }
+    ensures target { IsTarget plan (S.state store.new) (S.durable store.new) knows.new }
+    ensures stopped { TurnRuns result (S.state store.old) (S.state store.new) (S.durable store.old) (S.durable store.new) }
 {
     match message {
         Message::Prepare {
@@ -197,22 +186,17 @@ pub(crate) fn hear_message<S: Store, C: Clock>(
     from: ActorId,
     message: Message,
 ) -> Result<Did, TargetStop>
-    requires placed { IsPlaced plan (S.state store.old) }
-    requires few { plan.targets ≤ 64 }
+    requires target { IsTarget plan (S.state store.old) (S.durable store.old) knows.old }
     requires running { (S.state store.old).stopped ≡ false }
-    requires own { IsOwn plan knows.old }
     requires form { HasForm plan message }
     requires here { ForSome (S.durable store.old) (CanHear plan message) }
-    requires leads { ForSome (S.durable store.old) (LeadsWell plan (memory_of knows.old) knows.old.entries.items) }
-    ensures runs { Runs stop_store result (S.state store.old) (S.state store.new) (S.durable store.old) (S.durable store.new) }
     ensures turn { (reading : ℕ) × IfSome (C.next clock.old) (λ r. r ≡ reading) × ((d : Durable) → S.durable store.old ≡ Some d
         → HearsOrStops plan (memory_of knows.old) reading from message d (S.state store.old)
         (S.durable store.new) (S.state store.new) (S.may store.new) (memory_of knows.new) result) }
-    ensures leads { says stop_store result ≡ false → ForSome (S.durable store.new) (LeadsWell plan (memory_of knows.new) knows.new.entries.items) }
-    ensures own { IsOwn plan knows.new }
-    ensures native { says stop_foreign result ≡ false }
-    ensures unread { has_epoch message ≡ true → clock.new ≡ clock.old }
     ensures posts { is_of_client message ≡ from.client → IfOk result (λ did. PostsInForm plan.targets knows.old.leader knows.new.leader did.posts) }
+    ensures target { IsTarget plan (S.state store.new) (S.durable store.new) knows.new }
+    ensures stopped { TurnRuns result (S.state store.old) (S.state store.new) (S.durable store.old) (S.durable store.new) }
+    ensures clock { IsReadUpTo C.is_read (most_readings (has_epoch message)) clock.old clock.new }
 {
     if is_of_client(&message) {
         hear_client(alloc, plan, store, clock, knows, from, message)

@@ -9,6 +9,7 @@ ghost use Rattle.world_base.specs.Idle.{has_idle};
 ghost use Rattle.world_posts.specs.Forms.{PostsInForm};
 ghost use Rattle.target_parts.specs.Knowing.{IsHeard};
 ghost use Rattle.target_parts.specs.Parts.{Runs};
+ghost use Rattle.target_parts.specs.Readings.{IsReadUpTo, most_readings};
 ghost use Rattle.target_parts.specs.Stops.{stop_foreign, stop_store};
 ghost use Rattle.target_core.specs.Targets.{CanHear, HasForm, HearsOrStops, IdlesOrStops, has_epoch, is_of_client};
 
@@ -129,8 +130,8 @@ impl<S: Store, C: Clock> Target<S, C> {
         }
     }
 
-    /// It hears a message, and tells what follows. Its clock is read only where an epoch is issued. The
-    /// number is one drawn for this turn, which none of the messages so far uses.
+    /// It hears a message, and tells what follows. Its clock is read once at most, and only where an
+    /// epoch is issued. The number is one drawn for this turn, which none of the messages so far uses.
     ///
     /// # Errors
     ///
@@ -150,6 +151,7 @@ impl<S: Store, C: Clock> Target<S, C> {
             → HearsOrStops self.old.plan self.old.memory reading from message d (S.state self.old.store)
             (S.durable self.new.store) (S.state self.new.store) (S.may self.new.store) self.new.memory result) }
         ensures native { says stop_foreign result ≡ false }
+        ensures clock { IsReadUpTo C.is_read (most_readings (has_epoch message)) self.old.clock self.new.clock }
         ensures unread { has_epoch message ≡ true → self.new.clock ≡ self.old.clock }
         ensures posts { is_of_client message ≡ from.client → IfOk result (λ did. PostsInForm self.old.plan.targets self.old.memory.leader self.new.memory.leader did.posts) }
     {

@@ -6,7 +6,7 @@ ghost use Rattle.daos_model.specs.declared.durable.Durable.{Durable};
 ghost use Rattle.dtx_base.specs.Leading.{entry_led, may_confirm};
 ghost use Rattle.dtx_table.specs.Seats.{leader_of};
 ghost use Rattle.vos_store.specs.Conditions.{CanSettle};
-ghost use Rattle.vos_store.specs.Refusals.{always_stop, says};
+ghost use Rattle.vos_store.specs.Refusals.{always_stop};
 ghost use Rattle.world_base.specs.declared.target.TargetMemory.{TargetMemory};
 ghost use Rattle.world_base.specs.Acks as ack;
 ghost use Rattle.world_base.specs.Changes.{Settles};
@@ -14,10 +14,11 @@ ghost use Rattle.world_base.specs.Roles.{leader_at};
 ghost use Rattle.world_base.specs.Turns.{Whole};
 ghost use Rattle.world_posts.specs.Forms.{PostsInForm};
 ghost use Rattle.target_parts.specs.Keeping.{MadeIf};
-ghost use Rattle.target_parts.specs.Knowing.{IsApart, IsBeside, IsOwn, LeadsWell, memory_of};
-ghost use Rattle.target_parts.specs.Parts.{Runs, kept};
-ghost use Rattle.target_parts.specs.Stops.{Turn, never, stop_foreign, stop_store};
+ghost use Rattle.target_parts.specs.Knowing.{IsApart, LeadsWell, memory_of};
+ghost use Rattle.target_parts.specs.Parts.{kept};
+ghost use Rattle.target_parts.specs.Stops.{Turn, never};
 ghost use Rattle.target_dtx.specs.Dtx.{GoesThrough};
+ghost use Rattle.target_parts.specs.Standing.{IsTarget, Keeps, TurnRuns};
 
 use base_types::entry::{Entry, Settle};
 use base_types::epoch::TargetId;
@@ -77,12 +78,10 @@ fn abort_if<S: Store>(
     requires can { ForSome (S.durable store.old) (λ d. refuses ≡ true → CanSettle attempt step.Abort d) }
     requires apart { ForSome (S.durable store.old) (λ _. refuses ≡ true → IsApart attempt knows.old.leader) }
     requires leads { ForSome (S.durable store.old) (LeadsWell plan (memory_of knows.old) knows.old.entries.items) }
-    ensures runs { Runs always_stop result (S.state store.old) (S.state store.new) (S.durable store.old) (S.durable store.new) }
     ensures made { (d : Durable) → S.durable store.old ≡ Some d
         → MadeIf refuses (Settles attempt step.Abort) d (S.state store.old) (S.durable store.new) (S.state store.new) (S.may store.new) result }
-    ensures beside { IsBeside knows.old knows.new }
     ensures leader { knows.new.leader ≡ knows.old.leader }
-    ensures leads { OnOk result (ForSome (S.durable store.new) (LeadsWell plan (memory_of knows.new) knows.new.entries.items)) }
+    ensures keeps { Keeps plan always_stop result (S.state store.old) (S.state store.new) (S.durable store.old) (S.durable store.new) knows.old knows.new }
 {
     let _plan = plan;
     if !refuses {
@@ -107,18 +106,15 @@ pub fn hear_ack<S: Store>(
     inc: u64,
     refusal: &Option<Outcome>,
 ) -> Result<Did, TargetStop>
+    requires target { IsTarget plan (S.state store.old) (S.durable store.old) knows.old }
     requires running { (S.state store.old).stopped ≡ false }
-    requires own { IsOwn plan knows.old }
-    requires leads { ForSome (S.durable store.old) (LeadsWell plan (memory_of knows.old) knows.old.entries.items) }
-    ensures runs { Runs stop_store result (S.state store.old) (S.state store.new) (S.durable store.old) (S.durable store.new) }
     ensures turn { (d : Durable) → S.durable store.old ≡ Some d
         → Turn (ack.AckNext plan (memory_of knows.old) member attempt inc refusal.now) never ack.AckStage.Heard (kept d (S.state store.old))
         (λ did l. Whole (ack.AckNext plan (memory_of knows.old) member attempt inc refusal.now) (ack.AckEnds (memory_of knows.old)) ack.AckStage.Heard (kept d (S.state store.old)) l (memory_of knows.new, did))
         (S.durable store.new) (S.state store.new) (S.may store.new) result }
-    ensures leads { says stop_store result ≡ false → ForSome (S.durable store.new) (LeadsWell plan (memory_of knows.new) knows.new.entries.items) }
-    ensures own { IsOwn plan knows.new }
-    ensures native { says stop_foreign result ≡ false }
     ensures posts { IfOk result (λ did. PostsInForm plan.targets knows.old.leader knows.new.leader did.posts) }
+    ensures target { IsTarget plan (S.state store.new) (S.durable store.new) knows.new }
+    ensures stopped { TurnRuns result (S.state store.old) (S.state store.new) (S.durable store.old) (S.durable store.new) }
 {
     let seat = seat_of(plan, store);
     let entries = &knows.entries;
@@ -142,12 +138,10 @@ fn confirm<S: Store>(
 ) -> Result<(), Stopped>
     requires running { (S.state store.old).stopped ≡ false }
     requires leads { ForSome (S.durable store.old) (LeadsWell plan (memory_of knows.old) knows.old.entries.items) }
-    ensures runs { Runs always_stop result (S.state store.old) (S.state store.new) (S.durable store.old) (S.durable store.new) }
     ensures made { (m : TargetMemory) → (d : Durable) → S.durable store.old ≡ Some d
         → MadeIf (may_confirm member (entry_led attempt (leader_at plan m d))) (Settles attempt (step.Confirm member)) d (S.state store.old) (S.durable store.new) (S.state store.new) (S.may store.new) result }
-    ensures beside { IsBeside knows.old knows.new }
     ensures leader { knows.new.leader ≡ knows.old.leader }
-    ensures leads { OnOk result (ForSome (S.durable store.new) (LeadsWell plan (memory_of knows.new) knows.new.entries.items)) }
+    ensures keeps { Keeps plan always_stop result (S.state store.old) (S.state store.new) (S.durable store.old) (S.durable store.new) knows.old knows.new }
 {
     let Some(entry) = find_led(&knows.entries, plan.me, attempt) else {
         return Ok(());
@@ -169,12 +163,10 @@ fn confirm_all<S: Store>(
 ) -> Result<(), Stopped>
     requires running { (S.state store.old).stopped ≡ false }
     requires leads { ForSome (S.durable store.old) (LeadsWell plan (memory_of knows.old) knows.old.entries.items) }
-    ensures runs { Runs always_stop result (S.state store.old) (S.state store.new) (S.durable store.old) (S.durable store.new) }
     ensures confirmed { (m : TargetMemory) → (d : Durable) → S.durable store.old ≡ Some d
         → GoesThrough (ack.MarkedNext plan m member) attempts.now d (S.state store.old) (S.durable store.new) (S.state store.new) (S.may store.new) result }
-    ensures beside { IsBeside knows.old knows.new }
     ensures leader { knows.new.leader ≡ knows.old.leader }
-    ensures leads { OnOk result (ForSome (S.durable store.new) (LeadsWell plan (memory_of knows.new) knows.new.entries.items)) }
+    ensures keeps { Keeps plan always_stop result (S.state store.old) (S.state store.new) (S.durable store.old) (S.durable store.new) knows.old knows.new }
 {
     for attempt in attempts {
         confirm(store, plan, knows, member, *attempt)?;
@@ -204,18 +196,15 @@ pub fn hear_marked<S: Store>(
     inc: u64,
     attempts: &[AttemptId],
 ) -> Result<Did, TargetStop>
+    requires target { IsTarget plan (S.state store.old) (S.durable store.old) knows.old }
     requires running { (S.state store.old).stopped ≡ false }
-    requires own { IsOwn plan knows.old }
-    requires leads { ForSome (S.durable store.old) (LeadsWell plan (memory_of knows.old) knows.old.entries.items) }
-    ensures runs { Runs stop_store result (S.state store.old) (S.state store.new) (S.durable store.old) (S.durable store.new) }
     ensures turn { (d : Durable) → S.durable store.old ≡ Some d
         → Turn (ack.MarkedNext plan (memory_of knows.old) member) never (ack.to_confirm inc attempts.now d) (kept d (S.state store.old))
         (λ did l. Whole (ack.MarkedNext plan (memory_of knows.old) member) (ack.MarkedEnds plan (memory_of knows.old) member inc attempts.now) (ack.to_confirm inc attempts.now d) (kept d (S.state store.old)) l (memory_of knows.new, did))
         (S.durable store.new) (S.state store.new) (S.may store.new) result }
-    ensures leads { says stop_store result ≡ false → ForSome (S.durable store.new) (LeadsWell plan (memory_of knows.new) knows.new.entries.items) }
-    ensures own { IsOwn plan knows.new }
-    ensures native { says stop_foreign result ≡ false }
     ensures posts { IfOk result (λ did. PostsInForm plan.targets knows.old.leader knows.new.leader did.posts) }
+    ensures target { IsTarget plan (S.state store.new) (S.durable store.new) knows.new }
+    ensures stopped { TurnRuns result (S.state store.old) (S.state store.new) (S.durable store.old) (S.durable store.new) }
 {
     knows.leader.hear_marked(member, inc, attempts)?;
     let confirming = to_confirm(store.incarnation(), inc, attempts);

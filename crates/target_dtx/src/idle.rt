@@ -3,14 +3,15 @@ ghost use Rattle.std.specs.Prelude.{◌≡◌, ℕ, [], IfOk, IfErr, OnOk, OnErr
 ghost use Rattle.std.specs.Option.{ForSome};
 ghost use Rattle.daos_model.specs.declared.durable.Durable.{Durable};
 ghost use Rattle.dtx_base.specs.Joining.{member_step};
-ghost use Rattle.vos_store.specs.Refusals.{always_stop, says};
+ghost use Rattle.vos_store.specs.Refusals.{always_stop};
 ghost use Rattle.world_base.specs.Idle.{IdleEnds, IdleNext, has_idle, idle_memory, idle_told};
 ghost use Rattle.world_base.specs.Turns.{Whole};
 ghost use Rattle.world_posts.specs.Forms.{PostsInForm, TargetPosts};
-ghost use Rattle.target_parts.specs.Knowing.{IsBeside, IsOwn, LeadsWell, memory_of};
-ghost use Rattle.target_parts.specs.Parts.{Runs, kept};
-ghost use Rattle.target_parts.specs.Stops.{Turn, never, stop_foreign, stop_memory, stop_store};
+ghost use Rattle.target_parts.specs.Knowing.{LeadsWell, memory_of};
+ghost use Rattle.target_parts.specs.Parts.{kept};
+ghost use Rattle.target_parts.specs.Stops.{Turn, never, stop_memory};
 ghost use Rattle.target_dtx.specs.Dtx.{GoesThrough, asks_if};
+ghost use Rattle.target_parts.specs.Standing.{IsTarget, Keeps, TurnRuns};
 
 use base_messages::message::Posts;
 use base_types::entry::Entry;
@@ -31,12 +32,10 @@ use world_base::target::TargetPlan;
 fn settle_all<S: Store>(store: &mut S, plan: TargetPlan, knows: &mut Knows) -> Result<(), Stopped>
     requires running { (S.state store.old).stopped ≡ false }
     requires leads { ForSome (S.durable store.old) (LeadsWell plan (memory_of knows.old) knows.old.entries.items) }
-    ensures runs { Runs always_stop result (S.state store.old) (S.state store.new) (S.durable store.old) (S.durable store.new) }
     ensures settled { (d : Durable) → S.durable store.old ≡ Some d
         → GoesThrough IdleNext knows.old.leader.decided d (S.state store.old) (S.durable store.new) (S.state store.new) (S.may store.new) result }
-    ensures beside { IsBeside knows.old knows.new }
     ensures leader { OnOk result (knows.new.leader ≡ record knows.old.leader { decided = [] }) }
-    ensures leads { OnOk result (ForSome (S.durable store.new) (LeadsWell plan (memory_of knows.new) knows.new.entries.items)) }
+    ensures keeps { Keeps plan always_stop result (S.state store.old) (S.state store.new) (S.durable store.old) (S.durable store.new) knows.old knows.new }
 {
     while !knows.leader.decided().is_empty() {
         let attempt = knows.leader.decided()[0];
@@ -71,16 +70,14 @@ fn tell<S: Store>(
     knows: &mut Knows,
     settling: bool,
 ) -> Result<Did, TargetStop>
+    requires target { IsTarget plan (S.state store.now) (S.durable store.now) knows.old }
     requires running { (S.state store.now).stopped ≡ false }
-    requires own { IsOwn plan knows.old }
-    requires leads { ForSome (S.durable store.now) (LeadsWell plan (memory_of knows.old) knows.old.entries.items) }
     requires settled { knows.old.leader.decided ≡ [] }
     ensures memory { ForSome (S.durable store.now) (λ d. OnOk result (memory_of knows.new ≡ idle_memory settling plan (memory_of knows.old) d)) }
     ensures told { ForSome (S.durable store.now) (λ d. IfOk result (λ did. did ≡ idle_told settling plan (memory_of knows.old) d)) }
     ensures wanting { IfErr result (λ stop. stop ≡ stop_memory) }
-    ensures leads { ForSome (S.durable store.now) (LeadsWell plan (memory_of knows.new) knows.new.entries.items) }
-    ensures own { IsOwn plan knows.new }
     ensures posts { IfOk result (λ did. PostsInForm plan.targets knows.old.leader knows.new.leader did.posts) }
+    ensures target { IsTarget plan (S.state store.now) (S.durable store.now) knows.new }
 {
     let seat = seat_of(plan, store);
     let mut posts = knows.leader.batch(seat, &knows.entries)?;
@@ -102,18 +99,15 @@ pub fn idle_work<S: Store>(
     knows: &mut Knows,
     settling: bool,
 ) -> Result<Did, TargetStop>
+    requires target { IsTarget plan (S.state store.old) (S.durable store.old) knows.old }
     requires running { (S.state store.old).stopped ≡ false }
-    requires own { IsOwn plan knows.old }
-    requires leads { ForSome (S.durable store.old) (LeadsWell plan (memory_of knows.old) knows.old.entries.items) }
-    ensures runs { Runs stop_store result (S.state store.old) (S.state store.new) (S.durable store.old) (S.durable store.new) }
     ensures turn { (d : Durable) → S.durable store.old ≡ Some d
         → Turn IdleNext never knows.old.leader.decided (kept d (S.state store.old))
         (λ did l. Whole IdleNext (IdleEnds settling plan (memory_of knows.old)) knows.old.leader.decided (kept d (S.state store.old)) l (memory_of knows.new, did))
         (S.durable store.new) (S.state store.new) (S.may store.new) result }
-    ensures leads { says stop_store result ≡ false → ForSome (S.durable store.new) (LeadsWell plan (memory_of knows.new) knows.new.entries.items) }
-    ensures own { IsOwn plan knows.new }
-    ensures native { says stop_foreign result ≡ false }
     ensures posts { IfOk result (λ did. PostsInForm plan.targets knows.old.leader knows.new.leader did.posts) }
+    ensures target { IsTarget plan (S.state store.new) (S.durable store.new) knows.new }
+    ensures stopped { TurnRuns result (S.state store.old) (S.state store.new) (S.durable store.old) (S.durable store.new) }
 {
     if let Err(Stopped) = settle_all(store, plan, knows) {
         return Err(stop_of(alloc, Halt::Stopped, None));
@@ -125,8 +119,7 @@ pub fn idle_work<S: Store>(
 /// a commit, or, in the settling phase, a leader is to be asked. While the store is stopped this says
 /// nothing.
 pub fn has_idle_work<S: Store>(plan: TargetPlan, store: &S, knows: &Knows, settling: bool) -> bool
-    requires own { IsOwn plan knows.now }
-    requires leads { (S.state store.now).stopped ≡ false → ForSome (S.durable store.now) (LeadsWell plan (memory_of knows.now) knows.now.entries.items) }
+    requires target { IsTarget plan (S.state store.now) (S.durable store.now) knows.now }
     ensures { (S.state store.now).stopped ≡ false → (d : Durable) → S.durable store.now ≡ Some d → result ≡ has_idle settling plan (memory_of knows.now) d }
 {
     if !knows.leader.decided().is_empty() {

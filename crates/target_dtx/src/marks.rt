@@ -9,10 +9,11 @@ ghost use Rattle.world_base.specs.Roles.{is_prepared, told_of_all};
 ghost use Rattle.world_base.specs.Turns.{Whole};
 ghost use Rattle.world_posts.specs.Forms.{PostsInForm};
 ghost use Rattle.target_parts.specs.Keeping.{IsEnding};
-ghost use Rattle.target_parts.specs.Knowing.{IsBeside, IsOwn, LeadsWell, memory_of};
-ghost use Rattle.target_parts.specs.Parts.{Runs, kept};
-ghost use Rattle.target_parts.specs.Stops.{Turn, never, stop_foreign, stop_store};
+ghost use Rattle.target_parts.specs.Knowing.{LeadsWell, memory_of};
+ghost use Rattle.target_parts.specs.Parts.{kept};
+ghost use Rattle.target_parts.specs.Stops.{Turn, never};
 ghost use Rattle.target_dtx.specs.Dtx.{GoesThrough};
+ghost use Rattle.target_parts.specs.Standing.{IsTarget, Keeps, TurnRuns};
 
 use base_messages::actor::ActorId;
 use base_messages::message::Message;
@@ -52,12 +53,10 @@ fn settle_all<S: Store>(
 ) -> Result<(), Stopped>
     requires running { (S.state store.old).stopped ≡ false }
     requires leads { ForSome (S.durable store.old) (LeadsWell plan (memory_of knows.old) knows.old.entries.items) }
-    ensures runs { Runs always_stop result (S.state store.old) (S.state store.new) (S.durable store.old) (S.durable store.new) }
     ensures settled { (d : Durable) → S.durable store.old ≡ Some d
         → GoesThrough (MarkNext is_prepared) marks.now d (S.state store.old) (S.durable store.new) (S.state store.new) (S.may store.new) result }
-    ensures beside { IsBeside knows.old knows.new }
     ensures told { OnOk result (memory_of knows.new ≡ told_of_all (attempts_of marks.now) (memory_of knows.old)) }
-    ensures leads { OnOk result (ForSome (S.durable store.new) (LeadsWell plan (memory_of knows.new) knows.new.entries.items)) }
+    ensures keeps { Keeps plan always_stop result (S.state store.old) (S.state store.new) (S.durable store.old) (S.durable store.new) knows.old knows.new }
 {
     for mark in marks {
         settle_prepared(store, plan, knows, mark.0, step_of(mark.1))?;
@@ -80,18 +79,15 @@ pub fn hear_mark<S: Store>(
     inc: u64,
     marks: &[(AttemptId, bool)],
 ) -> Result<Did, TargetStop>
+    requires target { IsTarget plan (S.state store.old) (S.durable store.old) knows.old }
     requires running { (S.state store.old).stopped ≡ false }
-    requires own { IsOwn plan knows.old }
-    requires leads { ForSome (S.durable store.old) (LeadsWell plan (memory_of knows.old) knows.old.entries.items) }
-    ensures runs { Runs stop_store result (S.state store.old) (S.state store.new) (S.durable store.old) (S.durable store.new) }
     ensures turn { (d : Durable) → S.durable store.old ≡ Some d
         → Turn (MarkNext is_prepared) never marks.now (kept d (S.state store.old))
         (λ did l. Whole (MarkNext is_prepared) (MarkEnds (told_of_all (attempts_of marks.now) (memory_of knows.old)) from inc marks.now) marks.now (kept d (S.state store.old)) l (memory_of knows.new, did))
         (S.durable store.new) (S.state store.new) (S.may store.new) result }
-    ensures leads { says stop_store result ≡ false → ForSome (S.durable store.new) (LeadsWell plan (memory_of knows.new) knows.new.entries.items) }
-    ensures own { IsOwn plan knows.new }
-    ensures native { says stop_foreign result ≡ false }
     ensures posts { from.client ≡ false → IfOk result (λ did. PostsInForm plan.targets knows.old.leader knows.new.leader did.posts) }
+    ensures target { IsTarget plan (S.state store.new) (S.durable store.new) knows.new }
+    ensures stopped { TurnRuns result (S.state store.old) (S.state store.new) (S.durable store.old) (S.durable store.new) }
 {
     let attempts = Items::from_vec(attempts_of(alloc, marks)?);
     let did = says(alloc, from, Message::Marked { inc, attempts }, None)?;

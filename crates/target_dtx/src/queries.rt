@@ -1,14 +1,14 @@
 // A leader hears a Query.
 ghost use Rattle.std.specs.Prelude.{◌≡◌, IfOk, Some, false};
-ghost use Rattle.std.specs.Option.{ForSome};
 ghost use Rattle.daos_model.specs.declared.durable.Durable.{Durable};
 ghost use Rattle.vos_store.specs.Refusals.{says};
 ghost use Rattle.world_base.specs.Turns.{Whole};
 ghost use Rattle.world_base.specs.Verdicts.{QueryEnds, QueryNext, QueryStage};
 ghost use Rattle.world_posts.specs.Forms.{TargetPosts};
-ghost use Rattle.target_parts.specs.Knowing.{LeadsWell, memory_of};
+ghost use Rattle.target_parts.specs.Knowing.{memory_of};
 ghost use Rattle.target_parts.specs.Parts.{kept};
 ghost use Rattle.target_parts.specs.Stops.{Turn, never, stop_foreign, stop_store};
+ghost use Rattle.target_parts.specs.Standing.{IsTarget};
 
 use base_messages::actor::ActorId;
 use base_messages::message::Message;
@@ -36,8 +36,8 @@ pub fn hear_query<S: Store>(
     attempt: AttemptId,
     ask: Option<AttemptId>,
 ) -> Result<Did, TargetStop>
+    requires target { IsTarget plan (S.state store.now) (S.durable store.now) knows.now }
     requires running { (S.state store.now).stopped ≡ false }
-    requires leads { ForSome (S.durable store.now) (LeadsWell plan (memory_of knows.now) knows.now.entries.items) }
     ensures turn { (d : Durable) → S.durable store.now ≡ Some d
         → Turn QueryNext never QueryStage.IsAsked (kept d (S.state store.now))
         (λ did l. Whole QueryNext (QueryEnds plan (memory_of knows.now) from attempt ask) QueryStage.IsAsked (kept d (S.state store.now)) l (memory_of knows.now, did))

@@ -18,3 +18,5 @@ pub mod MadeLaws
 pub mod RowKeeping
 pub mod Listing
 pub mod EpochLaws
+pub mod Readings
+pub mod Standing

@@ -1,21 +1,25 @@
 -- What a turn, or a part of one, says of the store: several calls, one after another, of a store that ran.
 use Rattle.std.specs.Prelude.{◌≡◌, ◌≤◌, ◌+◌, Bool, true, Option, Some, is_some, Result, Ok, Err}
 use Rattle.daos_model.specs.declared.durable.Durable.{Durable}
-use Rattle.vos_store.specs.Calls.{Ailed, Fires, State}
+use Rattle.vos_store.specs.Calls.{Ailed, Fires, IsUnfailing, State}
 use Rattle.vos_store.specs.Refusals.{always_stop, says}
+use Rattle.vos_store.specs.Unfailing.{RunsOn}
 use Rattle.vos_store.specs.declared.refusal.Stopped.{Stopped}
 use Rattle.world_base.specs.Changes.{Change, Cut, Kept, cost, made}
 use Rattle.world_base.specs.Turns.{CutShort, Reached}
 use Rattle.target_parts.specs.declared.halt.Halt.{Halt}
 use Rattle.target_parts.specs.declared.halt.Halt.TheVariants as halt
 
--- The store is stopped exactly where that is answered, and that only where a count rose in these calls. Counts never
--- fall; how the store was made and opened stays, and whether it tells what it keeps.
+-- The store is stopped exactly where that is answered, and that only where a count rose in these calls. One that nothing
+-- can stop isn't stopped, and its counts stay. Counts never fall; how the store was made and opened stays, whether the
+-- outside may fail it, and whether it tells what it keeps.
 pub record Runs {T E : Type 0} (stop : E → Bool) (result : Result T E) (h k : State) (old new : Option Durable) : Type 0 where
   pub faults : h.faults ≤ k.faults
   pub burns : h.burns ≤ k.burns
   pub fuse : Fires h k
   pub tells_fuse : k.tells_fuse ≡ h.tells_fuse
+  pub may_fail : k.may_fail ≡ h.may_fail
+  pub unfailing : IsUnfailing h → RunsOn h k
   pub stops : k.stopped ≡ says stop result
   pub cause : says stop result ≡ true → Ailed h k
   pub targets : k.targets ≡ h.targets

@@ -1,17 +1,22 @@
 -- What is posted has its form, from a later memory on.
-use Rattle.std.specs.Prelude.{ℕ, ◌≡◌, IfOk, List, [], ◌∷◌, Result, Ok, Err}
-use Rattle.std.proofs.Common.{subst}
+use Rattle.std.specs.Prelude.{ℕ, ◌≡◌, true, IfOk, List, [], ◌∷◌, Option, Result, Ok, Err}
+use Rattle.std.proofs.Common.{ap, subst, sym}
 use Rattle.base_types.specs.declared.entry.Verdict.{Verdict}
 use Rattle.base_types.specs.declared.entry.Verdict.TheVariants.{Aborted, Committed, Undecided}
 use Rattle.base_types.specs.declared.id.AttemptId.{AttemptId}
 use Rattle.model_laws.specs.Members.{Has, has-from_filter}
+use Rattle.base_types.specs.declared.epoch.Epoch.{Epoch}
+use Rattle.base_messages.specs.declared.actor.ActorId.{ActorId}
+use Rattle.base_messages.specs.declared.message.Message.{Message}
 use Rattle.base_messages.specs.declared.message.Post.{Post}
 use Rattle.dtx_base.specs.declared.leading.LeaderMemory.{LeaderMemory}
 use Rattle.dtx_base.specs.declared.leading.Undecided.{Undecided as UndecidedOf}
 use Rattle.world_base.specs.declared.did.Did.{Did}
 use Rattle.world_base.specs.declared.target.TargetMemory.{TargetMemory}
+use Rattle.world_base.specs.Requests.{says}
 use Rattle.world_base.specs.Roles.{told_by, told_of, told_of_all}
-use Rattle.world_posts.specs.Forms.{PostsInForm, TargetPosts}
+use Rattle.world_posts.specs.Forms.{PostsInForm, TargetPosts, is_told}
+use Rattle.world_posts.specs.Posting.{one-posted, to-client, waits-on}
 use Rattle.target_parts.specs.declared.stop.TargetStop.{TargetStop}
 
 pub later-posts : (targets : ℕ) (old mid new : LeaderMemory) (result : Result Did TargetStop) → mid ≡ old → IfOk result (λ did. PostsInForm targets mid new did.posts) → IfOk result (λ did. PostsInForm targets old new did.posts)
@@ -49,3 +54,12 @@ fewer-wait targets old new posts fewer k waits = record { form = k; waiting = λ
 pub fewer-posts : (targets : ℕ) (old mid new : LeaderMemory) (result : Result Did TargetStop) → IsFewer old mid → IfOk result (λ did. PostsInForm targets mid new did.posts) → IfOk result (λ did. PostsInForm targets old new did.posts)
 fewer-posts targets old mid new (Ok did) fewer k = λ waits. k (λ u c i is. waits u c (fewer u i) is)
 fewer-posts targets old mid new (Err stop) fewer k = k
+
+-- ---- what is told
+
+-- a client is told
+pub client-posts : (targets : ℕ) (old new : LeaderMemory) (from : ActorId) (m : Message) (issued : Option (AttemptId × Epoch)) (result : Result Did TargetStop) → from.client ≡ true → is_told m ≡ true → new ≡ old → IfOk result (λ did. did ≡ says from m issued)
+    → IfOk result (λ did. PostsInForm targets old new did.posts)
+client-posts targets old new from m issued (Ok did) client told same is =
+    waits-on targets old new did.posts (ap (λ x. x.undecided) same) (subst (TargetPosts targets) (sym (ap (λ x. x.posts) is)) (one-posted targets _ (to-client targets from m client told)))
+client-posts targets old new from m issued (Err stop) client told same is = is

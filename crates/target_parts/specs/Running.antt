@@ -3,8 +3,9 @@ use Rattle.std.proofs.Common.{ℕ, ◌≡◌, ◌≤◌, inl, inr, refl, sym, �
 use Rattle.std.specs.Option.{ForSome}
 use Rattle.base_outside.specs.Causes.{Rose}
 use Rattle.daos_model.specs.declared.durable.Durable.{Durable}
-use Rattle.vos_store.specs.Calls.{Ailed, Fires, State, Turns}
+use Rattle.vos_store.specs.Calls.{Ailed, Fires, IsUnfailing, State, Turns}
 use Rattle.vos_store.specs.Refusals.{says}
+use Rattle.vos_store.specs.Unfailing.{RunsOn, runs-on}
 use Rattle.target_parts.specs.Parts.{Runs, StillRuns}
 
 fires_on : (h m k : State) → m.tells_fuse ≡ h.tells_fuse → Fires h m → Fires m k → Fires h k
@@ -25,6 +26,13 @@ ailed_on h m k tells faults burns fires (inr burnt) =
     set (inl a) = sym a.1 ∙ burnt.1
     set (inr a) = a.0
 
+-- a store that ran on runs on
+pub unfailing-on : (h m k : State) → (IsUnfailing h → RunsOn h m) → (IsUnfailing m → RunsOn m k) → IsUnfailing h → RunsOn h k
+unfailing-on h m k first more u =
+    let a = first u in
+    let b = more a.still in
+    record { runs = b.runs; faults = b.faults ∙ a.faults; burns = b.burns ∙ a.burns; still = b.still }
+
 -- further calls of a store that still runs
 pub runs_on : {T E : Type 0} (stop : E → Bool) (result : Result T E) (h m k : State) (old mid new : Option Durable)
     → StillRuns h m old mid → Runs stop result m k mid new → Runs stop result h k old new
@@ -36,6 +44,8 @@ runs_on stop result h m k old mid new a b =
       burns = burns;
       fuse = fires_on h m k a.tells_fuse a.fuse b.fuse;
       tells_fuse = b.tells_fuse ∙ a.tells_fuse;
+      may_fail = b.may_fail ∙ a.may_fail;
+      unfailing = unfailing-on h m k a.unfailing b.unfailing;
       stops = b.stops;
       cause = λ s. ailed_on h m k a.tells_fuse a.faults a.burns a.fuse (b.cause s);
       targets = b.targets ∙ a.targets;
@@ -50,6 +60,8 @@ still_runs stop result h k old new going r = record {
   burns = r.burns;
   fuse = r.fuse;
   tells_fuse = r.tells_fuse;
+  may_fail = r.may_fail;
+  unfailing = r.unfailing;
   stops = r.stops ∙ going;
   cause = λ s. absurd (let n : ⊥ = cc in n);
   targets = r.targets;
@@ -64,6 +76,8 @@ runs_as stop result other said h k old new same r = record {
   burns = r.burns;
   fuse = r.fuse;
   tells_fuse = r.tells_fuse;
+  may_fail = r.may_fail;
+  unfailing = r.unfailing;
   stops = r.stops ∙ sym same;
   cause = λ s. r.cause (sym same ∙ s);
   targets = r.targets;
@@ -78,6 +92,8 @@ runs_first h old running = record {
   burns = omega arith;
   fuse = inl (refl, refl);
   tells_fuse = refl;
+  may_fail = refl;
+  unfailing = λ u. record { runs = running; faults = refl; burns = refl; still = u };
   stops = running;
   cause = λ s. absurd (let n : ⊥ = cc in n);
   targets = refl;
@@ -92,6 +108,8 @@ runs_call cost stop result h k old new running t told = record {
   burns = t.burns;
   fuse = t.fuse;
   tells_fuse = t.tells_fuse;
+  may_fail = t.may_fail;
+  unfailing = λ u. (runs-on cost stop result h k t u running).1;
   stops = t.stops;
   cause = t.cause running;
   targets = t.targets;

@@ -3,17 +3,22 @@ ghost use Rattle.std.specs.Prelude.{◌≡◌, ◌^◌, ◌<◌, ◌/◌, ℕ, I
 ghost use Rattle.daos_model.specs.declared.durable.Durable.{Durable};
 ghost use Rattle.vos_store.specs.Refusals.{always_stop};
 ghost use Rattle.target_parts.specs.Covers.{CoversOrCut, ReadiesOrCut, epoch_for, heard_of};
+ghost use Rattle.target_parts.specs.KnowsLaws.{with_clock};
 ghost use Rattle.target_parts.specs.Parts.{Runs};
+ghost use Rattle.target_parts.specs.Readings.{IsReadUpTo, most_readings};
+ghost use Rattle.target_parts.specs.Standing.{IsTarget};
 
+use crate::knows::Knows;
 use base_outside::clock::Clock;
 use base_types::epoch::Epoch;
 use daos_hlc::clock::Hlc;
 use daos_hlc::lease::lease_for;
 use vos_store::refusal::Stopped;
 use vos_store::store::Store;
+use world_base::target::TargetPlan;
 
 /// The epoch of a request: its own, which is heard, or one that is issued at the clock's reading. None
-/// where no ticks are left. The clock is read only where an epoch is issued.
+/// where no ticks are left. The clock is read once, and only where an epoch is issued.
 pub fn request_epoch<C: Clock>(
     clock: &mut C,
     hlc: &mut Hlc,
@@ -22,7 +27,7 @@ pub fn request_epoch<C: Clock>(
 ) -> Option<Epoch>
     ensures epoch { (reading : ℕ) × IfSome (C.next clock.old) (λ r. r ≡ reading) × (result ≡ epoch_for hlc.old reading tracker ep) }
     ensures heard { hlc.new ≡ heard_of result hlc.old }
-    ensures unread { is_some ep ≡ true → clock.new ≡ clock.old }
+    ensures clock { IsReadUpTo C.is_read (most_readings (is_some ep)) clock.old clock.new }
 {
     match ep {
         Some(epoch) => {
@@ -48,26 +53,30 @@ pub fn cover<S: Store>(store: &mut S, ticks: u64) -> Result<(), Stopped>
 }
 
 /// The epoch of a request, issued or heard, which the lease then covers; none where no ticks are left.
+/// The clock is read once, and only where an epoch is issued.
 ///
 /// # Errors
 ///
 /// `Stopped` where the store stopped.
 pub fn ready<S: Store, C: Clock>(
+    plan: TargetPlan,
     store: &mut S,
     clock: &mut C,
-    hlc: &mut Hlc,
+    knows: &mut Knows,
     tracker: Epoch,
     ep: Option<Epoch>,
 ) -> Result<Option<Epoch>, Stopped>
+    requires target { IsTarget plan (S.state store.old) (S.durable store.old) knows.old }
     requires running { (S.state store.old).stopped ≡ false }
-    ensures runs { Runs always_stop result (S.state store.old) (S.state store.new) (S.durable store.old) (S.durable store.new) }
     ensures ready { (reading : ℕ) × IfSome (C.next clock.old) (λ r. r ≡ reading) × ((d : Durable) → S.durable store.old ≡ Some d
-        → ReadiesOrCut (epoch_for hlc.old reading tracker ep) d (S.state store.old) (S.durable store.new) (S.state store.new) (S.may store.new) result) }
-    ensures heard { IfOk result (λ epoch. hlc.new ≡ heard_of epoch hlc.old) }
-    ensures own { hlc.new.target ≡ hlc.old.target }
-    ensures unread { is_some ep ≡ true → clock.new ≡ clock.old }
+        → ReadiesOrCut (epoch_for knows.old.hlc reading tracker ep) d (S.state store.old) (S.durable store.new) (S.state store.new) (S.may store.new) result) }
+    ensures heard { IfOk result (λ epoch. knows.new ≡ with_clock (heard_of epoch knows.old.hlc) knows.old) }
+    ensures runs { Runs always_stop result (S.state store.old) (S.state store.new) (S.durable store.old) (S.durable store.new) }
+    ensures target { IsTarget plan (S.state store.new) (S.durable store.new) knows.new }
+    ensures clock { IsReadUpTo C.is_read (most_readings (is_some ep)) clock.old clock.new }
 {
-    match request_epoch(clock, hlc, tracker, ep) {
+    let _plan = plan;
+    match request_epoch(clock, &mut knows.hlc, tracker, ep) {
         Some(epoch) => {
             cover(store, epoch.ticks())?;
             Ok(Some(epoch))
@@ -81,13 +90,21 @@ pub fn ready<S: Store, C: Clock>(
 /// # Errors
 ///
 /// `Stopped` where the store stopped.
-pub fn hear<S: Store>(store: &mut S, hlc: &mut Hlc, epoch: Epoch) -> Result<(), Stopped>
+pub fn hear<S: Store>(
+    plan: TargetPlan,
+    store: &mut S,
+    knows: &mut Knows,
+    epoch: Epoch,
+) -> Result<(), Stopped>
+    requires target { IsTarget plan (S.state store.old) (S.durable store.old) knows.old }
     requires running { (S.state store.old).stopped ≡ false }
-    ensures runs { Runs always_stop result (S.state store.old) (S.state store.new) (S.durable store.old) (S.durable store.new) }
     ensures covered { (d : Durable) → S.durable store.old ≡ Some d
         → CoversOrCut (epoch.0 / 256) d (S.state store.old) (S.durable store.new) (S.state store.new) (S.may store.new) result }
-    ensures heard { hlc.new ≡ heard_of (Some epoch) hlc.old }
+    ensures heard { knows.new ≡ with_clock (heard_of (Some epoch) knows.old.hlc) knows.old }
+    ensures runs { Runs always_stop result (S.state store.old) (S.state store.new) (S.durable store.old) (S.durable store.new) }
+    ensures target { IsTarget plan (S.state store.new) (S.durable store.new) knows.new }
 {
-    hlc.hear(epoch);
+    let _plan = plan;
+    knows.hlc.hear(epoch);
     cover(store, epoch.ticks())
 }

@@ -12,8 +12,9 @@ ghost use Rattle.vos_store.specs.Refusals.{always_stop};
 ghost use Rattle.world_base.specs.Changes.{Settles};
 ghost use Rattle.world_base.specs.Roles.{is_open_entry, is_prepared, other_leader_of};
 ghost use Rattle.target_parts.specs.Keeping.{IsEnding, MadeIf, MadeOrCut};
-ghost use Rattle.target_parts.specs.Knowing.{IsBeside, LeadsWell, memory_of};
+ghost use Rattle.target_parts.specs.Knowing.{LeadsWell, memory_of};
 ghost use Rattle.target_parts.specs.Parts.{Runs};
+ghost use Rattle.target_parts.specs.Standing.{Keeps};
 
 use crate::knows::Knows;
 use base_types::entry::{Entry, Settle};
@@ -103,12 +104,10 @@ pub fn settle_decided<S: Store>(
     requires running { (S.state store.old).stopped ≡ false }
     requires decided { Has attempt knows.old.leader.decided }
     requires leads { ForSome (S.durable store.old) (LeadsWell plan (memory_of knows.old) knows.old.entries.items) }
-    ensures runs { Runs always_stop result (S.state store.old) (S.state store.new) (S.durable store.old) (S.durable store.new) }
     ensures made { (d : Durable) → S.durable store.old ≡ Some d
         → MadeOrCut (Settles attempt settle.Commit) d (S.state store.old) (S.durable store.new) (S.state store.new) (S.may store.new) result }
-    ensures beside { IsBeside knows.old knows.new }
     ensures leader { OnOk result (knows.new.leader ≡ record knows.old.leader { decided = without_row itself attempt knows.old.leader.decided }) }
-    ensures leads { OnOk result (ForSome (S.durable store.new) (LeadsWell plan (memory_of knows.new) knows.new.entries.items)) }
+    ensures keeps { Keeps plan always_stop result (S.state store.old) (S.state store.new) (S.durable store.old) (S.durable store.new) knows.old knows.new }
 {
     let _plan = plan;
     settle(store, &mut knows.entries, attempt, Settle::Commit)?;
@@ -132,12 +131,10 @@ pub fn settle_prepared<S: Store>(
     requires step { IsEnding step }
     requires running { (S.state store.old).stopped ≡ false }
     requires leads { ForSome (S.durable store.old) (LeadsWell plan (memory_of knows.old) knows.old.entries.items) }
-    ensures runs { Runs always_stop result (S.state store.old) (S.state store.new) (S.durable store.old) (S.durable store.new) }
     ensures made { (d : Durable) → S.durable store.old ≡ Some d
         → MadeIf (is_prepared attempt d) (Settles attempt step) d (S.state store.old) (S.durable store.new) (S.state store.new) (S.may store.new) result }
-    ensures beside { IsBeside knows.old knows.new }
     ensures leader { knows.new.leader ≡ forgotten attempt knows.old.leader }
-    ensures leads { OnOk result (ForSome (S.durable store.new) (LeadsWell plan (memory_of knows.new) knows.new.entries.items)) }
+    ensures keeps { Keeps plan always_stop result (S.state store.old) (S.state store.new) (S.durable store.old) (S.durable store.new) knows.old knows.new }
 {
     let _plan = plan;
     knows.leader.forget(attempt);

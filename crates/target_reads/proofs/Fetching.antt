@@ -1,5 +1,5 @@
 -- What a read meets, of what the store answers.
-use Rattle.std.proofs.Common.{ℕ, ◌≡◌, refl, sym, ◌∙◌, ap, subst, Bool, true, false, ◌&&◌, ◌||◌, nat_lt, nat_le, ◌+◌, ◌^◌, Option, Some, None, Result, Ok, Err}
+use Rattle.std.proofs.Common.{ℕ, ◌≡◌, refl, sym, ◌∙◌, ap, subst, Bool, true, false, ◌&&◌, ◌||◌, nat_le, Option, Some, None, Result, Ok, Err}
 use Rattle.std.specs.Prelude.{not, is_none, is_some, if◌then◌else◌}
 use Rattle.base_types.specs.declared.answer.Answer.{Answer}
 use Rattle.base_types.specs.declared.epoch.Epoch.{Epoch}
@@ -14,10 +14,9 @@ use Rattle.daos_model.specs.declared.durable.ContRow.{ContRow}
 use Rattle.daos_model.specs.declared.durable.Durable.{Durable}
 use Rattle.daos_model.specs.declared.durable.Version.{Version}
 use Rattle.daos_model.specs.Answers.{answer}
-use Rattle.daos_model.specs.BoolLaws.{and_left}
 use Rattle.daos_model.specs.Durables.{is_frozen, row_of}
 use Rattle.daos_model.specs.ExtentForms.{read-at_akey}
-use Rattle.daos_model.specs.Forms.{ends_at_akey, is_length, is_path_in_form, is_read_in_form}
+use Rattle.daos_model.specs.Forms.{is_path_in_form, is_read_in_form}
 use Rattle.daos_model.specs.Versions.{first_blocking, map_below}
 use Rattle.vos_stamp.specs.Stamps.{or_later, read_cause}
 use Rattle.vos_store.specs.Answers.{answer_unless, fetched, is_past}

@@ -4,16 +4,15 @@ ghost use Rattle.std.specs.Option.{ForSome};
 ghost use Rattle.base_types.specs.declared.entry.Verdict.{Verdict as VerdictOf};
 ghost use Rattle.base_types.specs.declared.id.AttemptId.{AttemptId as Attempt};
 ghost use Rattle.daos_model.specs.declared.durable.Durable.{Durable};
-ghost use Rattle.vos_store.specs.Refusals.{always_stop, says};
+ghost use Rattle.vos_store.specs.Refusals.{always_stop};
 ghost use Rattle.world_base.specs.declared.target.TargetMemory.{TargetMemory};
 ghost use Rattle.world_base.specs.Requests.{fetch_message};
 ghost use Rattle.world_base.specs.Roles.{is_prepared, told_by};
 ghost use Rattle.world_base.specs.Verdicts.{VerdictStage, fetcher, settles_by, settling_change};
 ghost use Rattle.world_posts.specs.Forms.{PostsInForm, TargetPosts};
-ghost use Rattle.target_parts.specs.Knowing.{IsAskHere, IsBeside, IsOwn, IsParkable, LeadsWell, memory_of};
-ghost use Rattle.target_parts.specs.Parts.{Runs};
-ghost use Rattle.target_parts.specs.Stops.{stop_foreign, stop_store};
+ghost use Rattle.target_parts.specs.Knowing.{IsAskHere, IsParkable, LeadsWell, memory_of};
 ghost use Rattle.target_reads.specs.Again.{AreHere, AreParkable, MadeSome, TriedTurn, VerdictTurn};
+ghost use Rattle.target_parts.specs.Standing.{IsTarget, Keeps, TurnRuns};
 
 use crate::fetches::hear_known;
 use base_messages::actor::ActorId;
@@ -81,19 +80,16 @@ fn hear_again<S: Store>(
     knows: &mut Knows,
     ask: Message,
 ) -> Result<Did, TargetStop>
-    requires parkable { IsParkable ask }
+    requires target { IsTarget plan (S.state store.old) (S.durable store.old) knows.old }
     requires running { (S.state store.old).stopped ≡ false }
-    requires own { IsOwn plan knows.old }
+    requires parkable { IsParkable ask }
     requires here { ForSome (S.durable store.old) (IsAskHere ask) }
-    requires leads { ForSome (S.durable store.old) (LeadsWell plan (memory_of knows.old) knows.old.entries.items) }
-    ensures runs { Runs stop_store result (S.state store.old) (S.state store.new) (S.durable store.old) (S.durable store.new) }
     ensures turn { (d : Durable) → S.durable store.old ≡ Some d → (reading : ℕ)
         → TriedTurn plan (memory_of knows.old) reading ask d (S.state store.old)
         (S.durable store.new) (S.state store.new) (S.may store.new) (memory_of knows.new) result }
-    ensures leads { says stop_store result ≡ false → ForSome (S.durable store.new) (LeadsWell plan (memory_of knows.new) knows.new.entries.items) }
-    ensures own { IsOwn plan knows.new }
-    ensures native { says stop_foreign result ≡ false }
     ensures posts { IfOk result (λ did. PostsInForm plan.targets knows.old.leader knows.new.leader did.posts) }
+    ensures target { IsTarget plan (S.state store.new) (S.durable store.new) knows.new }
+    ensures stopped { TurnRuns result (S.state store.old) (S.state store.new) (S.durable store.old) (S.durable store.new) }
 {
     let request = fetch_of(ask);
     let from = fetcher(&request);
@@ -110,20 +106,17 @@ fn try_again<S: Store>(
     posts: Posts,
     asks: Messages,
 ) -> Result<Did, TargetStop>
-    requires sent { TargetPosts plan.targets posts }
+    requires target { IsTarget plan (S.state store.old) (S.durable store.old) knows.old }
     requires running { (S.state store.old).stopped ≡ false }
-    requires own { IsOwn plan knows.old }
+    requires sent { TargetPosts plan.targets posts }
     requires parkable { AreParkable asks }
     requires here { ForSome (S.durable store.old) (AreHere asks) }
-    requires leads { ForSome (S.durable store.old) (LeadsWell plan (memory_of knows.old) knows.old.entries.items) }
-    ensures runs { Runs stop_store result (S.state store.old) (S.state store.new) (S.durable store.old) (S.durable store.new) }
     ensures turn { (d : Durable) → S.durable store.old ≡ Some d → (m : TargetMemory) (reading : ℕ) (a : Attempt) (ask : Option Attempt) (v : VerdictOf)
         → VerdictTurn plan m reading a ask v (VerdictStage.Freed asks (memory_of knows.old) posts) d (S.state store.old)
         (S.durable store.new) (S.state store.new) (S.may store.new) (memory_of knows.new) result }
-    ensures leads { says stop_store result ≡ false → ForSome (S.durable store.new) (LeadsWell plan (memory_of knows.new) knows.new.entries.items) }
-    ensures own { IsOwn plan knows.new }
-    ensures native { says stop_foreign result ≡ false }
     ensures posts { IfOk result (λ did. PostsInForm plan.targets knows.old.leader knows.new.leader did.posts) }
+    ensures target { IsTarget plan (S.state store.new) (S.durable store.new) knows.new }
+    ensures stopped { TurnRuns result (S.state store.old) (S.state store.new) (S.durable store.old) (S.durable store.new) }
 {
     let mut posts = posts;
     let mut rest = asks.into_vec();
@@ -144,12 +137,10 @@ fn settle_by<S: Store>(
 ) -> Result<(), Stopped>
     requires running { (S.state store.old).stopped ≡ false }
     requires leads { ForSome (S.durable store.old) (LeadsWell plan (memory_of knows.old) knows.old.entries.items) }
-    ensures runs { Runs always_stop result (S.state store.old) (S.state store.new) (S.durable store.old) (S.durable store.new) }
     ensures made { (d : Durable) → S.durable store.old ≡ Some d
         → MadeSome (settling_change attempt (settles_by is_prepared verdict attempt d)) d (S.state store.old) (S.durable store.new) (S.state store.new) (S.may store.new) result }
-    ensures beside { IsBeside knows.old knows.new }
     ensures leader { knows.new.leader ≡ (told_by verdict attempt (memory_of knows.old)).leader }
-    ensures leads { OnOk result (ForSome (S.durable store.new) (LeadsWell plan (memory_of knows.new) knows.new.entries.items)) }
+    ensures keeps { Keeps plan always_stop result (S.state store.old) (S.state store.new) (S.durable store.old) (S.durable store.new) knows.old knows.new }
 {
     match verdict {
         Verdict::Committed => settle_prepared(store, plan, knows, attempt, Settle::Commit),
@@ -173,17 +164,14 @@ pub fn hear_verdict<S: Store>(
     ask: Option<AttemptId>,
     verdict: Verdict,
 ) -> Result<Did, TargetStop>
+    requires target { IsTarget plan (S.state store.old) (S.durable store.old) knows.old }
     requires running { (S.state store.old).stopped ≡ false }
-    requires own { IsOwn plan knows.old }
-    requires leads { ForSome (S.durable store.old) (LeadsWell plan (memory_of knows.old) knows.old.entries.items) }
-    ensures runs { Runs stop_store result (S.state store.old) (S.state store.new) (S.durable store.old) (S.durable store.new) }
     ensures turn { (d : Durable) → S.durable store.old ≡ Some d → (reading : ℕ)
         → VerdictTurn plan (told_by verdict attempt (memory_of knows.old)) reading attempt ask verdict VerdictStage.Heard d (S.state store.old)
         (S.durable store.new) (S.state store.new) (S.may store.new) (memory_of knows.new) result }
-    ensures leads { says stop_store result ≡ false → ForSome (S.durable store.new) (LeadsWell plan (memory_of knows.new) knows.new.entries.items) }
-    ensures own { IsOwn plan knows.new }
-    ensures native { says stop_foreign result ≡ false }
     ensures posts { IfOk result (λ did. PostsInForm plan.targets knows.old.leader knows.new.leader did.posts) }
+    ensures target { IsTarget plan (S.state store.new) (S.durable store.new) knows.new }
+    ensures stopped { TurnRuns result (S.state store.old) (S.state store.new) (S.durable store.old) (S.durable store.new) }
 {
     let Freed { posts, again } = knows.member.hear_verdict(attempt, ask, verdict)?;
     match settle_by(store, plan, knows, attempt, verdict) {

@@ -11,10 +11,11 @@ ghost use Rattle.world_base.specs.Reads.{FetchStage, fetch_at, fetched_message, 
 ghost use Rattle.world_base.specs.Requests as asked;
 ghost use Rattle.world_posts.specs.Forms.{PostsInForm};
 ghost use Rattle.target_parts.specs.Knowing.{IsOwn, IsReadAsked, LeadsWell, memory_of};
-ghost use Rattle.target_parts.specs.Parts.{Runs};
-ghost use Rattle.target_parts.specs.Stops.{stop_foreign, stop_memory, stop_store};
+ghost use Rattle.target_parts.specs.Stops.{stop_memory};
 ghost use Rattle.target_reads.specs.Fetches.{FetchTurn};
 ghost use Rattle.target_reads.specs.Meets.{told_of};
+ghost use Rattle.target_parts.specs.Standing.{IsTarget, TurnRuns};
+ghost use Rattle.target_parts.specs.Readings.{IsReadUpTo, most_readings};
 
 use crate::reads::{Served, serve};
 use base_messages::actor::ActorId;
@@ -68,6 +69,7 @@ fn fetch_at(request: &FetchRequest, epoch: Epoch) -> Result<Message, Memory>
 
 // The read is raised among the timestamps, unless it reads at a snapshot.
 fn raise(stamps: &mut Stamps, request: &FetchRequest, epoch: Epoch) -> Result<(), Memory>
+    requires { is_read_in_form request.now.read ≡ true }
     ensures { OnOk result (stamps.new ≡ stamps_with request.now epoch stamps.old) }
 {
     if request.snapshot {
@@ -123,19 +125,16 @@ fn read_at<S: Store>(
     request: &FetchRequest,
     epoch: Epoch,
 ) -> Result<Did, TargetStop>
-    requires form { IsReadAsked request.now.read request.now.ep request.now.snapshot }
+    requires target { IsTarget plan (S.state store.old) (S.durable store.old) knows.old }
     requires running { (S.state store.old).stopped ≡ false }
-    requires own { IsOwn plan knows.old }
+    requires form { IsReadAsked request.now.read request.now.ep request.now.snapshot }
     requires enlisted { ForSome (S.durable store.old) (λ d. is_enlisted d (read_path request.now.read).cont ≡ true) }
-    requires leads { ForSome (S.durable store.old) (LeadsWell plan (memory_of knows.old) knows.old.entries.items) }
-    ensures runs { Runs stop_store result (S.state store.old) (S.state store.new) (S.durable store.old) (S.durable store.new) }
     ensures turn { (d : Durable) → S.durable store.old ≡ Some d → (m : TargetMemory) (reading : ℕ) → ticks_known request.now epoch m ≡ memory_of knows.old
         → FetchTurn plan m reading request.now from (FetchStage.Reading epoch knows.old.leader.decided) d (S.state store.old)
         (S.durable store.new) (S.state store.new) (S.may store.new) (memory_of knows.new) result }
-    ensures leads { says stop_store result ≡ false → ForSome (S.durable store.new) (LeadsWell plan (memory_of knows.new) knows.new.entries.items) }
-    ensures own { IsOwn plan knows.new }
-    ensures native { says stop_foreign result ≡ false }
     ensures posts { from.client ≡ true → IfOk result (λ did. PostsInForm plan.targets knows.old.leader knows.new.leader did.posts) }
+    ensures target { IsTarget plan (S.state store.new) (S.durable store.new) knows.new }
+    ensures stopped { TurnRuns result (S.state store.old) (S.state store.new) (S.durable store.old) (S.durable store.new) }
 {
     match serve(store, plan, knows, request, epoch) {
         Ok(served) => tell(alloc, plan, knows, from, request, epoch, served),
@@ -161,25 +160,22 @@ pub fn hear_known<S: Store>(
     request: &FetchRequest,
     epoch: Epoch,
 ) -> Result<Did, TargetStop>
+    requires target { IsTarget plan (S.state store.old) (S.durable store.old) knows.old }
+    requires running { (S.state store.old).stopped ≡ false }
     requires form { IsReadAsked request.now.read request.now.ep request.now.snapshot }
     requires known { request.now.ep ≡ Some epoch }
-    requires running { (S.state store.old).stopped ≡ false }
-    requires own { IsOwn plan knows.old }
     requires enlisted { ForSome (S.durable store.old) (λ d. is_enlisted d (read_path request.now.read).cont ≡ true) }
-    requires leads { ForSome (S.durable store.old) (LeadsWell plan (memory_of knows.old) knows.old.entries.items) }
-    ensures runs { Runs stop_store result (S.state store.old) (S.state store.new) (S.durable store.old) (S.durable store.new) }
     ensures turn { (d : Durable) → S.durable store.old ≡ Some d → (reading : ℕ)
         → FetchTurn plan (memory_of knows.old) reading request.now from FetchStage.Asked d (S.state store.old)
         (S.durable store.new) (S.state store.new) (S.may store.new) (memory_of knows.new) result }
-    ensures leads { says stop_store result ≡ false → ForSome (S.durable store.new) (LeadsWell plan (memory_of knows.new) knows.new.entries.items) }
-    ensures own { IsOwn plan knows.new }
-    ensures native { says stop_foreign result ≡ false }
     ensures posts { from.client ≡ true → IfOk result (λ did. PostsInForm plan.targets knows.old.leader knows.new.leader did.posts) }
+    ensures target { IsTarget plan (S.state store.new) (S.durable store.new) knows.new }
+    ensures stopped { TurnRuns result (S.state store.old) (S.state store.new) (S.durable store.old) (S.durable store.new) }
 {
     if request.snapshot {
         return read_at(alloc, plan, store, knows, from, request, epoch);
     }
-    match hear(store, &mut knows.hlc, epoch) {
+    match hear(plan, store, knows, epoch) {
         Ok(()) => read_at(alloc, plan, store, knows, from, request, epoch),
         Err(Stopped) => Err(stop_of(alloc, Halt::Stopped, None)),
     }
@@ -195,22 +191,20 @@ fn hear_new<S: Store, C: Clock>(
     from: ActorId,
     request: &FetchRequest,
 ) -> Result<Did, TargetStop>
+    requires target { IsTarget plan (S.state store.old) (S.durable store.old) knows.old }
+    requires running { (S.state store.old).stopped ≡ false }
     requires form { IsReadAsked request.now.read request.now.ep request.now.snapshot }
     requires new { request.now.ep ≡ None }
-    requires running { (S.state store.old).stopped ≡ false }
-    requires own { IsOwn plan knows.old }
     requires enlisted { ForSome (S.durable store.old) (λ d. is_enlisted d (read_path request.now.read).cont ≡ true) }
-    requires leads { ForSome (S.durable store.old) (LeadsWell plan (memory_of knows.old) knows.old.entries.items) }
-    ensures runs { Runs stop_store result (S.state store.old) (S.state store.new) (S.durable store.old) (S.durable store.new) }
     ensures turn { (reading : ℕ) × IfSome (C.next clock.old) (λ r. r ≡ reading) × ((d : Durable) → S.durable store.old ≡ Some d
         → FetchTurn plan (memory_of knows.old) reading request.now from FetchStage.Asked d (S.state store.old)
         (S.durable store.new) (S.state store.new) (S.may store.new) (memory_of knows.new) result) }
-    ensures leads { says stop_store result ≡ false → ForSome (S.durable store.new) (LeadsWell plan (memory_of knows.new) knows.new.entries.items) }
-    ensures own { IsOwn plan knows.new }
-    ensures native { says stop_foreign result ≡ false }
     ensures posts { from.client ≡ true → IfOk result (λ did. PostsInForm plan.targets knows.old.leader knows.new.leader did.posts) }
+    ensures target { IsTarget plan (S.state store.new) (S.durable store.new) knows.new }
+    ensures stopped { TurnRuns result (S.state store.old) (S.state store.new) (S.durable store.old) (S.durable store.new) }
+    ensures clock { IsReadUpTo C.is_read (most_readings (is_some request.now.ep)) clock.old clock.new }
 {
-    match ready(store, clock, &mut knows.hlc, request.tracker, None) {
+    match ready(plan, store, clock, knows, request.tracker, None) {
         Ok(Some(epoch)) => read_at(alloc, plan, store, knows, from, request, epoch),
         Ok(None) => {
             let reply = Reply::Outcome(Outcome::EpochsSpent);
@@ -234,20 +228,17 @@ pub fn hear_fetch<S: Store, C: Clock>(
     from: ActorId,
     request: &FetchRequest,
 ) -> Result<Did, TargetStop>
-    requires form { IsReadAsked request.now.read request.now.ep request.now.snapshot }
+    requires target { IsTarget plan (S.state store.old) (S.durable store.old) knows.old }
     requires running { (S.state store.old).stopped ≡ false }
-    requires own { IsOwn plan knows.old }
+    requires form { IsReadAsked request.now.read request.now.ep request.now.snapshot }
     requires enlisted { ForSome (S.durable store.old) (λ d. is_enlisted d (read_path request.now.read).cont ≡ true) }
-    requires leads { ForSome (S.durable store.old) (LeadsWell plan (memory_of knows.old) knows.old.entries.items) }
-    ensures runs { Runs stop_store result (S.state store.old) (S.state store.new) (S.durable store.old) (S.durable store.new) }
     ensures turn { (reading : ℕ) × IfSome (C.next clock.old) (λ r. r ≡ reading) × ((d : Durable) → S.durable store.old ≡ Some d
         → FetchTurn plan (memory_of knows.old) reading request.now from FetchStage.Asked d (S.state store.old)
         (S.durable store.new) (S.state store.new) (S.may store.new) (memory_of knows.new) result) }
-    ensures leads { says stop_store result ≡ false → ForSome (S.durable store.new) (LeadsWell plan (memory_of knows.new) knows.new.entries.items) }
-    ensures own { IsOwn plan knows.new }
-    ensures native { says stop_foreign result ≡ false }
-    ensures unread { is_some request.now.ep ≡ true → clock.new ≡ clock.old }
     ensures posts { from.client ≡ true → IfOk result (λ did. PostsInForm plan.targets knows.old.leader knows.new.leader did.posts) }
+    ensures target { IsTarget plan (S.state store.new) (S.durable store.new) knows.new }
+    ensures stopped { TurnRuns result (S.state store.old) (S.state store.new) (S.durable store.old) (S.durable store.new) }
+    ensures clock { IsReadUpTo C.is_read (most_readings (is_some request.now.ep)) clock.old clock.new }
 {
     match request.ep {
         Some(epoch) => hear_known(alloc, plan, store, knows, from, request, epoch),

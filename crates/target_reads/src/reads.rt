@@ -9,11 +9,12 @@ ghost use Rattle.vos_store.specs.Refusals.{says};
 ghost use Rattle.world_base.specs.declared.target.TargetMemory.{TargetMemory};
 ghost use Rattle.world_base.specs.Reads.{FetchNext, FetchStage, later_of, later_unless};
 ghost use Rattle.target_parts.specs.Halts.{halt_stop};
-ghost use Rattle.target_parts.specs.Knowing.{HasEpochs, IsBeside, LeadsWell, memory_of};
+ghost use Rattle.target_parts.specs.Knowing.{HasEpochs, LeadsWell, memory_of};
 ghost use Rattle.target_parts.specs.Parts.{Asks, Part, Runs, kept};
 ghost use Rattle.dtx_table.specs.Tables.{entry_in};
 ghost use Rattle.world_base.specs.Roles.{other_leader_of};
 ghost use Rattle.target_reads.specs.Meets.{Meets, Serves, beside_of};
+ghost use Rattle.target_parts.specs.Standing.{Keeps};
 
 use base_types::answer::Answer;
 use base_types::entry::Entry;
@@ -140,14 +141,12 @@ pub fn serve<S: Store>(
     requires running { (S.state store.old).stopped ≡ false }
     requires enlisted { ForSome (S.durable store.old) (λ d. is_enlisted d (read_path request.now.read).cont ≡ true) }
     requires leads { ForSome (S.durable store.old) (LeadsWell plan (memory_of knows.old) knows.old.entries.items) }
-    ensures runs { Runs halt_stop result (S.state store.old) (S.state store.new) (S.durable store.old) (S.durable store.new) }
     ensures served { (d : Durable) → S.durable store.old ≡ Some d → (m : TargetMemory) (reading : ℕ)
         → Part (FetchNext plan m reading request.now) (FetchStage.Reading epoch knows.old.leader.decided) (kept d (S.state store.old))
         (Serves plan m reading request.now epoch knows.old.leader.decided knows.new.leader.decided (kept d (S.state store.old)))
         (S.durable store.new) (S.state store.new) (S.may store.new) result }
-    ensures beside { IsBeside knows.old knows.new }
     ensures leader { says halt_stop result ≡ false → knows.new.leader ≡ record knows.old.leader { decided = knows.new.leader.decided } }
-    ensures leads { says halt_stop result ≡ false → ForSome (S.durable store.new) (LeadsWell plan (memory_of knows.new) knows.new.entries.items) }
+    ensures keeps { Keeps plan halt_stop result (S.state store.old) (S.state store.new) (S.durable store.old) (S.durable store.new) knows.old knows.new }
 {
     loop {
         match meet(store, plan, request, epoch)? {

@@ -8,7 +8,7 @@ use Rattle.base_types.specs.declared.epoch.Epoch.{Epoch}
 use Rattle.base_types.specs.declared.operation.MinorWrite.{MinorWrite}
 use Rattle.base_types.specs.declared.path.Path.{Path}
 use Rattle.base_types.specs.Operations.{write_path}
-use Rattle.base_types.specs.Placement.{members, path_members, writes_members}
+use Rattle.base_types.specs.Placement.{path_members, writes_members}
 use Rattle.daos_model.specs.declared.durable.Durable.{Durable}
 use Rattle.daos_model.specs.Durables.{is_enlisted}
 use Rattle.target_members.specs.Membership.{object-within}
@@ -17,7 +17,8 @@ use Rattle.vos_store.specs.Conditions.{IsPreparable}
 use Rattle.world_base.specs.declared.request.CommitRequest.{CommitRequest}
 use Rattle.world_base.specs.declared.target.TargetPlan.{TargetPlan}
 use Rattle.world_base.specs.Commits.{bits_of, led_entry, own_writes}
-use Rattle.target_writes.specs.Checks.{AreEnlisted, AreWrites, IsPlaced}
+use Rattle.target_parts.specs.Standing.{IsPlaced}
+use Rattle.target_writes.specs.Checks.{AreEnlisted, AreWrites}
 use Rattle.world_reads.specs.ListLaws.{some-in_form}
 
 -- ---- members

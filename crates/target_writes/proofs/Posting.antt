@@ -3,10 +3,8 @@ use Rattle.std.proofs.Common.{ℕ, ◌≡◌, ◌<◌, ap, refl, subst, sym, tru
 use Rattle.std.specs.Prelude.{IfOk}
 use Rattle.base_types.specs.declared.entry.Entry.{Entry}
 use Rattle.base_types.specs.declared.epoch.Epoch.{Epoch}
-use Rattle.base_types.specs.declared.id.AttemptId.{AttemptId}
 use Rattle.base_types.specs.declared.outcome.Outcome.{Outcome}
 use Rattle.base_messages.specs.declared.actor.ActorId.{ActorId}
-use Rattle.base_messages.specs.declared.message.Message.{Message}
 use Rattle.base_messages.specs.declared.message.Post.{Post}
 use Rattle.dtx_base.specs.declared.leading.LeaderMemory.{LeaderMemory}
 use Rattle.dtx_base.specs.Leading.{LeaderOf, begun}
@@ -16,9 +14,8 @@ use Rattle.world_base.specs.declared.request.PrepareRequest.{PrepareRequest}
 use Rattle.world_base.specs.declared.target.TargetPlan.{TargetPlan}
 use Rattle.world_base.specs.Commits.{led_entry}
 use Rattle.world_base.specs.Prepares.{acks}
-use Rattle.world_base.specs.Requests.{says}
-use Rattle.world_posts.specs.Forms.{AreWrites, PostsInForm, TargetPosts, is_told}
-use Rattle.world_posts.specs.Posting.{IsBeginning, beginnings-post-in-form, one-posted, posted-by, to-client, to-other, waits-on}
+use Rattle.world_posts.specs.Forms.{AreWrites, PostsInForm, TargetPosts}
+use Rattle.world_posts.specs.Posting.{IsBeginning, beginnings-post-in-form, one-posted, posted-by, to-other, waits-on}
 use Rattle.target_parts.specs.declared.stop.TargetStop.{TargetStop}
 
 -- an attempt begins that a client asked for
@@ -34,13 +31,6 @@ begun-posts t q from e entry l new posts sent is many ws placed client came said
 
     beginning : IsBeginning l.targets entry q.writes
     beginning = subst (λ n. IsBeginning n entry q.writes) (sym many) (subst (λ x. IsBeginning t.targets x q.writes) (sym is) led)
-
--- a client is told
-pub client-posts : (targets : ℕ) (old new : LeaderMemory) (from : ActorId) (m : Message) (issued : Option (AttemptId × Epoch)) (result : Result Did TargetStop) → from.client ≡ true → is_told m ≡ true → new ≡ old → IfOk result (λ did. did ≡ says from m issued)
-    → IfOk result (λ did. PostsInForm targets old new did.posts)
-client-posts targets old new from m issued (Ok did) client told same is =
-    waits-on targets old new did.posts (ap (λ x. x.undecided) same) (subst (TargetPosts targets) (sym (ap (λ x. x.posts) is)) (one-posted targets _ (to-client targets from m client told)))
-client-posts targets old new from m issued (Err stop) client told same is = is
 
 -- the leader is told how a Prepare went
 pub ack-posts : (targets : ℕ) (old new : LeaderMemory) (q : PrepareRequest) (refusal : Option Outcome) (result : Result Did TargetStop) → new ≡ old → IfOk result (λ did. did ≡ acks q refusal) → IfOk result (λ did. PostsInForm targets old new did.posts)

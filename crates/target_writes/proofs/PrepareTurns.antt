@@ -29,7 +29,8 @@ use Rattle.target_parts.specs.Parts.{Now, kept}
 use Rattle.target_parts.specs.Readying.{lease_covers}
 use Rattle.target_parts.specs.Stops.{never, stop_memory, stop_of}
 use Rattle.target_parts.specs.Turning.{cut_in_change, now_stays, reached_change, reached_silent}
-use Rattle.target_writes.specs.Checks.{IsPlaced, PreparesOrNot}
+use Rattle.target_parts.specs.Standing.{IsPlaced}
+use Rattle.target_writes.specs.Checks.{PreparesOrNot}
 use Rattle.target_writes.specs.Turns.{IsPrepareInForm, PrepareTurn}
 use Rattle.target_writes.proofs.Committing.{prepared-goes, prepared-halted, prepared-told}
 use Rattle.target_writes.proofs.Owning.{below-more}

@@ -78,11 +78,6 @@ entries_then e (Some how) es = es
 
 -- ---- a target among others
 
--- a target is one of so many, which its store was made for
-pub record IsPlaced (t : TargetPlan) (s : State) : Type 0 where
-  pub me : t.me < t.targets
-  pub made : t.targets ≤ s.targets
-
 -- the places of writes are free at an epoch that is known
 abbrev pub AreNewAt : Option Epoch → List MinorWrite → Durable → Type 0
 AreNewAt None ws d = Unit {0}

@@ -7,12 +7,12 @@ ghost use Rattle.base_types.specs.declared.shown.Shown.{Shown as ShownOf};
 ghost use Rattle.daos_model.specs.declared.durable.Durable.{Durable};
 ghost use Rattle.daos_model.specs.Forms.{is_write_in_form};
 ghost use Rattle.vos_store.specs.Conditions.{IsPreparable};
-ghost use Rattle.vos_store.specs.Refusals.{says};
 ghost use Rattle.world_base.specs.Commits.{IsAllowed, first_floor, first_later};
 ghost use Rattle.target_parts.specs.Halts.{halt_stop};
-ghost use Rattle.target_parts.specs.Knowing.{HasEpochs, IsBeside, LeadsWell, memory_of};
+ghost use Rattle.target_parts.specs.Knowing.{HasEpochs, LeadsWell, memory_of};
 ghost use Rattle.target_parts.specs.Parts.{Asks, Runs};
 ghost use Rattle.target_writes.specs.Checks.{AnswersReads, AreEnlisted, CanStore, Checks, PreparesOrNot, entries_then};
+ghost use Rattle.target_parts.specs.Standing.{Keeps};
 
 use base_types::entry::Entry;
 use base_types::epoch::{Epoch, TargetId};
@@ -56,6 +56,7 @@ fn floor_cause<S: Store>(
 
 // A later read of the first write that one stands against.
 fn later_read(stamps: &Stamps, epoch: Epoch, writes: &[MinorWrite]) -> Result<Option<Shown>, Memory>
+    requires { All (λ w. is_write_in_form w.write ≡ true) writes.now }
     ensures { IfOk result (AnswersReads epoch stamps.now writes.now) }
 {
     for write in writes {
@@ -191,12 +192,10 @@ pub fn prepare<S: Store>(
     requires heard { entry.now.epoch.0 / 256 ≤ knows.old.hlc.ticks }
     requires can { ForSome (S.durable store.old) (CanStore entry.now writes.now) }
     requires leads { ForSome (S.durable store.old) (LeadsWell plan (memory_of knows.old) knows.old.entries.items) }
-    ensures runs { Runs halt_stop result (S.state store.old) (S.state store.new) (S.durable store.old) (S.durable store.new) }
     ensures prepared { (d : Durable) → S.durable store.old ≡ Some d
         → PreparesOrNot plan (S.state store.old).opening first knows.old.stamps entry.now writes.now d (S.state store.old) (S.durable store.new) (S.state store.new) (S.may store.new) result }
-    ensures beside { IsBeside knows.old knows.new }
     ensures leader { knows.new.leader ≡ knows.old.leader }
-    ensures leads { says halt_stop result ≡ false → ForSome (S.durable store.new) (LeadsWell plan (memory_of knows.new) knows.new.entries.items) }
+    ensures keeps { Keeps plan halt_stop result (S.state store.old) (S.state store.new) (S.durable store.old) (S.durable store.new) knows.old knows.new }
 {
     match refusal(store, &knows.stamps, plan, first, entry.epoch, writes)? {
         Some(cause) => Ok(Some(Outcome::Restart(cause))),

@@ -8,11 +8,12 @@ ghost use Rattle.world_base.specs.declared.target.TargetMemory.{TargetMemory};
 ghost use Rattle.world_base.specs.Commits as commit;
 ghost use Rattle.world_base.specs.Requests as asked;
 ghost use Rattle.world_posts.specs.Forms.{PostsInForm};
-ghost use Rattle.target_parts.specs.Knowing.{IsApart, IsOpenHere, IsOwn, LeadsWell, memory_of};
-ghost use Rattle.target_parts.specs.Parts.{Runs};
-ghost use Rattle.target_parts.specs.Stops.{stop_foreign, stop_memory, stop_store};
-ghost use Rattle.target_writes.specs.Checks.{AreWrites, CanCommit, CanStore, IsPlaced};
+ghost use Rattle.target_parts.specs.Knowing.{IsApart, IsOpenHere, memory_of};
+ghost use Rattle.target_parts.specs.Stops.{stop_memory};
+ghost use Rattle.target_writes.specs.Checks.{AreWrites, CanCommit, CanStore};
 ghost use Rattle.target_writes.specs.Turns.{CommitTurn, begun_of};
+ghost use Rattle.target_parts.specs.Standing.{IsTarget, TurnRuns};
+ghost use Rattle.target_parts.specs.Readings.{IsReadUpTo, most_readings};
 
 use crate::checks::prepare;
 use base_messages::actor::ActorId;
@@ -81,18 +82,16 @@ fn begin<S: Store>(
     request: &CommitRequest,
     entry: &Entry,
 ) -> Result<Did, TargetStop>
-    requires writes { AreWrites plan request.now.writes }
+    requires target { IsTarget plan (S.state store.now) (S.durable store.now) knows.old }
     requires running { (S.state store.now).stopped ≡ false }
-    requires own { IsOwn plan knows.old }
+    requires writes { AreWrites plan request.now.writes }
     requires entry { entry.now ≡ commit.led_entry plan request.now entry.now.epoch }
     requires here { ForSome (S.durable store.now) (IsOpenHere plan.me request.now.attempt) }
     requires apart { ForSome (S.durable store.now) (λ _. IsApart request.now.attempt knows.old.leader) }
-    requires leads { ForSome (S.durable store.now) (LeadsWell plan (memory_of knows.old) knows.old.entries.items) }
     ensures begun { ForSome (S.durable store.now) (λ d. IfOk result (λ did. (memory_of knows.new, did) ≡ begun_of plan (memory_of knows.old) request.now from entry.now.epoch d)) }
     ensures wanting { IfErr result (λ stop. stop ≡ stop_memory) }
-    ensures leads { ForSome (S.durable store.now) (LeadsWell plan (memory_of knows.new) knows.new.entries.items) }
-    ensures own { IsOwn plan knows.new }
     ensures posts { plan.me < plan.targets → from.client ≡ true → IfOk result (λ did. PostsInForm plan.targets knows.old.leader knows.new.leader did.posts) }
+    ensures target { IsTarget plan (S.state store.now) (S.durable store.now) knows.new }
 {
     let seat = seat_of(plan, store);
     let posts = knows.leader.begin(seat, entry, request.first, from, request.writes.as_slice())?;
@@ -110,22 +109,17 @@ fn commit_at<S: Store>(
     request: &CommitRequest,
     epoch: Epoch,
 ) -> Result<Did, TargetStop>
-    requires placed { IsPlaced plan (S.state store.old) }
-    requires few { plan.targets ≤ 64 }
-    requires writes { AreWrites plan request.now.writes }
+    requires target { IsTarget plan (S.state store.old) (S.durable store.old) knows.old }
     requires running { (S.state store.old).stopped ≡ false }
-    requires own { IsOwn plan knows.old }
+    requires writes { AreWrites plan request.now.writes }
     requires heard { epoch.0 / 256 ≤ knows.old.hlc.ticks }
     requires can { ForSome (S.durable store.old) (CanStore (commit.led_entry plan request.now epoch) (commit.own_writes plan request.now.writes)) }
-    requires leads { ForSome (S.durable store.old) (LeadsWell plan (memory_of knows.old) knows.old.entries.items) }
-    ensures runs { Runs stop_store result (S.state store.old) (S.state store.new) (S.durable store.old) (S.durable store.new) }
     ensures turn { (d : Durable) → S.durable store.old ≡ Some d → (m : TargetMemory) (reading : ℕ) → asked.with_ticks epoch m ≡ memory_of knows.old
         → CommitTurn plan (S.state store.old).opening m reading request.now from (commit.CommitStage.Checking epoch) d (S.state store.old)
         (S.durable store.new) (S.state store.new) (S.may store.new) (memory_of knows.new) result }
-    ensures leads { says stop_store result ≡ false → ForSome (S.durable store.new) (LeadsWell plan (memory_of knows.new) knows.new.entries.items) }
-    ensures own { IsOwn plan knows.new }
-    ensures native { says stop_foreign result ≡ false }
     ensures posts { from.client ≡ true → IfOk result (λ did. PostsInForm plan.targets knows.old.leader knows.new.leader did.posts) }
+    ensures target { IsTarget plan (S.state store.new) (S.durable store.new) knows.new }
+    ensures stopped { TurnRuns result (S.state store.old) (S.state store.new) (S.durable store.old) (S.durable store.new) }
 {
     let issued = issued_for(request.attempt, request.ep, epoch);
     let entry = led_entry(alloc, plan, request, epoch)?;
@@ -158,24 +152,19 @@ pub fn hear_commit<S: Store, C: Clock>(
     from: ActorId,
     request: &CommitRequest,
 ) -> Result<Did, TargetStop>
-    requires placed { IsPlaced plan (S.state store.old) }
-    requires few { plan.targets ≤ 64 }
-    requires writes { AreWrites plan request.now.writes }
+    requires target { IsTarget plan (S.state store.old) (S.durable store.old) knows.old }
     requires running { (S.state store.old).stopped ≡ false }
-    requires own { IsOwn plan knows.old }
+    requires writes { AreWrites plan request.now.writes }
     requires here { ForSome (S.durable store.old) (CanCommit plan request.now.attempt request.now.ep request.now.writes) }
-    requires leads { ForSome (S.durable store.old) (LeadsWell plan (memory_of knows.old) knows.old.entries.items) }
-    ensures runs { Runs stop_store result (S.state store.old) (S.state store.new) (S.durable store.old) (S.durable store.new) }
     ensures turn { (reading : ℕ) × IfSome (C.next clock.old) (λ r. r ≡ reading) × ((d : Durable) → S.durable store.old ≡ Some d
         → CommitTurn plan (S.state store.old).opening (memory_of knows.old) reading request.now from commit.CommitStage.Asked d (S.state store.old)
         (S.durable store.new) (S.state store.new) (S.may store.new) (memory_of knows.new) result) }
-    ensures leads { says stop_store result ≡ false → ForSome (S.durable store.new) (LeadsWell plan (memory_of knows.new) knows.new.entries.items) }
-    ensures own { IsOwn plan knows.new }
-    ensures native { says stop_foreign result ≡ false }
-    ensures unread { is_some request.now.ep ≡ true → clock.new ≡ clock.old }
     ensures posts { from.client ≡ true → IfOk result (λ did. PostsInForm plan.targets knows.old.leader knows.new.leader did.posts) }
+    ensures target { IsTarget plan (S.state store.new) (S.durable store.new) knows.new }
+    ensures stopped { TurnRuns result (S.state store.old) (S.state store.new) (S.durable store.old) (S.durable store.new) }
+    ensures clock { IsReadUpTo C.is_read (most_readings (is_some request.now.ep)) clock.old clock.new }
 {
-    match ready(store, clock, &mut knows.hlc, request.tracker, request.ep) {
+    match ready(plan, store, clock, knows, request.tracker, request.ep) {
         Ok(Some(epoch)) => commit_at(alloc, plan, store, knows, from, request, epoch),
         Ok(None) => {
             let message = ended(request.attempt, None, Outcome::EpochsSpent);

@@ -7,11 +7,11 @@ ghost use Rattle.world_base.specs.declared.target.TargetMemory.{TargetMemory};
 ghost use Rattle.world_base.specs.Prepares as prepare;
 ghost use Rattle.world_base.specs.Requests.{with_ticks};
 ghost use Rattle.world_posts.specs.Forms.{PostsInForm};
-ghost use Rattle.target_parts.specs.Knowing.{IsOwn, LeadsWell, memory_of};
-ghost use Rattle.target_parts.specs.Parts.{Runs};
-ghost use Rattle.target_parts.specs.Stops.{stop_foreign, stop_memory, stop_store};
-ghost use Rattle.target_writes.specs.Checks.{CanStore, IsPlaced};
+ghost use Rattle.target_parts.specs.Knowing.{memory_of};
+ghost use Rattle.target_parts.specs.Stops.{stop_memory};
+ghost use Rattle.target_writes.specs.Checks.{CanStore};
 ghost use Rattle.target_writes.specs.Turns.{CanPrepareHere, IsPrepareInForm, PrepareTurn};
+ghost use Rattle.target_parts.specs.Standing.{IsTarget, TurnRuns};
 
 use crate::checks::prepare;
 use base_messages::actor::ActorId;
@@ -58,21 +58,17 @@ fn prepare_at<S: Store>(
     knows: &mut Knows,
     request: &PrepareRequest,
 ) -> Result<Did, TargetStop>
-    requires placed { IsPlaced plan (S.state store.old) }
-    requires form { IsPrepareInForm plan.targets request.now.entry request.now.writes }
+    requires target { IsTarget plan (S.state store.old) (S.durable store.old) knows.old }
     requires running { (S.state store.old).stopped ≡ false }
-    requires own { IsOwn plan knows.old }
+    requires form { IsPrepareInForm plan.targets request.now.entry request.now.writes }
     requires heard { request.now.entry.epoch.0 / 256 ≤ knows.old.hlc.ticks }
     requires can { ForSome (S.durable store.old) (CanStore request.now.entry request.now.writes) }
-    requires leads { ForSome (S.durable store.old) (LeadsWell plan (memory_of knows.old) knows.old.entries.items) }
-    ensures runs { Runs stop_store result (S.state store.old) (S.state store.new) (S.durable store.old) (S.durable store.new) }
     ensures turn { (d : Durable) → S.durable store.old ≡ Some d → (m : TargetMemory) → with_ticks request.now.entry.epoch m ≡ memory_of knows.old
         → PrepareTurn plan (S.state store.old).opening m request.now prepare.PrepareStage.Checking d (S.state store.old)
         (S.durable store.new) (S.state store.new) (S.may store.new) (memory_of knows.new) result }
-    ensures leads { says stop_store result ≡ false → ForSome (S.durable store.new) (LeadsWell plan (memory_of knows.new) knows.new.entries.items) }
-    ensures own { IsOwn plan knows.new }
-    ensures native { says stop_foreign result ≡ false }
     ensures posts { IfOk result (λ did. PostsInForm plan.targets knows.old.leader knows.new.leader did.posts) }
+    ensures target { IsTarget plan (S.state store.new) (S.durable store.new) knows.new }
+    ensures stopped { TurnRuns result (S.state store.old) (S.state store.new) (S.durable store.old) (S.durable store.new) }
 {
     let writes = request.writes.as_slice();
     match prepare(store, plan, knows, &request.entry, request.first, writes) {
@@ -94,22 +90,18 @@ pub fn hear_prepare<S: Store>(
     knows: &mut Knows,
     request: &PrepareRequest,
 ) -> Result<Did, TargetStop>
-    requires placed { IsPlaced plan (S.state store.old) }
-    requires form { IsPrepareInForm plan.targets request.now.entry request.now.writes }
+    requires target { IsTarget plan (S.state store.old) (S.durable store.old) knows.old }
     requires running { (S.state store.old).stopped ≡ false }
-    requires own { IsOwn plan knows.old }
+    requires form { IsPrepareInForm plan.targets request.now.entry request.now.writes }
     requires here { ForSome (S.durable store.old) (CanPrepareHere request.now.entry request.now.writes) }
-    requires leads { ForSome (S.durable store.old) (LeadsWell plan (memory_of knows.old) knows.old.entries.items) }
-    ensures runs { Runs stop_store result (S.state store.old) (S.state store.new) (S.durable store.old) (S.durable store.new) }
     ensures turn { (d : Durable) → S.durable store.old ≡ Some d
         → PrepareTurn plan (S.state store.old).opening (memory_of knows.old) request.now prepare.PrepareStage.Heard d (S.state store.old)
         (S.durable store.new) (S.state store.new) (S.may store.new) (memory_of knows.new) result }
-    ensures leads { says stop_store result ≡ false → ForSome (S.durable store.new) (LeadsWell plan (memory_of knows.new) knows.new.entries.items) }
-    ensures own { IsOwn plan knows.new }
-    ensures native { says stop_foreign result ≡ false }
     ensures posts { IfOk result (λ did. PostsInForm plan.targets knows.old.leader knows.new.leader did.posts) }
+    ensures target { IsTarget plan (S.state store.new) (S.durable store.new) knows.new }
+    ensures stopped { TurnRuns result (S.state store.old) (S.state store.new) (S.durable store.old) (S.durable store.new) }
 {
-    match hear(store, &mut knows.hlc, request.entry.epoch) {
+    match hear(plan, store, knows, request.entry.epoch) {
         Ok(()) => prepare_at(alloc, plan, store, knows, request),
         Err(Stopped) => Err(stop_of(alloc, Halt::Stopped, None)),
     }

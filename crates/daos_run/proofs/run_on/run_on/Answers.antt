@@ -1,7 +1,7 @@
 use Rattle.std.specs.Prelude.{◌≡◌, Err, IfErr, None, Ok, Result, refl}
 use Rattle.std.proofs.Common.{ap, arith, rules, subst, sym}
 use Rattle.daos_run.proofs.Lone.{of-lone-client, room-found}
-use Rattle.daos_run.proofs.Started.{all-run, all-set, as-said, said-ok, said-so, unchanged}
+use Rattle.daos_run.proofs.Started.{all-read, all-run, all-set, as-said, said-ok, said-so, same-clocks, stay-read, unchanged}
 use Rattle.daos_run.proofs.Whole.{can-run, come-to, goes-in-order}
 use Rattle.base_types.specs.declared.report.Report.{Report}
 use Rattle.daos_run.specs.Stops.{MayStop, stop_of}
@@ -63,7 +63,7 @@ returns-in-Ok-clause-lone g c all free room one =
 
 pub returns-in-Ok-clause-store : goal.returns-in-Ok-clause-store
 returns-in-Ok-clause-store g c =
-    all-run g.S.Store.durable g.S.Store.state c.args.script.now c.args.job.now c.args.parts.now c.start_all.new.parts c.hand_back.new.parts c.in_ok-targets.targets.items c.run_in_order-targets.result.0.items c.requires.stores c.in_ok-targets.ensures.started c.in_ok-targets.ensures.taken c.run_in_order-targets.ensures.stores.stores.many c.hand_back.ensures c.run_in_order-targets.result.1
+    all-run g.S.Store.durable g.S.Store.state c.args.script.now c.args.job.now c.args.parts.now c.start_all.new.parts c.hand_back.new.parts c.in_ok-targets.targets.items c.run_in_order-targets.result.0.items c.requires.stores c.in_ok-targets.ensures.started c.in_ok-targets.ensures.taken c.run_in_order-targets.ensures.stores.stores.many c.hand_back.ensures g.C.Clock.is_read c.run_in_order-targets.result.1
     (Ok (record { targets = c.args.job.now.targets; lines = c.in-Ok.lines; down = None }))
     (said-ok {V = Report} c.in-Ok.lines (record { targets = c.args.job.now.targets; lines = c.in-Ok.lines; down = None }) c.run_in_order-targets.result.1 (Ok (record { targets = c.args.job.now.targets; lines = c.in-Ok.lines; down = None })) c.in-Ok.is refl) c.run_in_order-targets.ensures.stores
 
@@ -73,8 +73,21 @@ returns-in-Ok-clause-set g c = all-set g.S.Store.durable g.S.Store.state c.args.
 pub returns-in-Err-clause-store : goal.returns-in-Err-clause-store
 returns-in-Err-clause-store g c =
     let is : ◌≡◌ {A = Result Report RunStop} (Err c.from.result) (Err (stop_of c.in-Err.halted)) = ap (λ e. Err e) c.from.ensures in
-    all-run g.S.Store.durable g.S.Store.state c.args.script.now c.args.job.now c.args.parts.now c.start_all.new.parts c.hand_back.new.parts c.in_ok-targets.targets.items c.run_in_order-targets.result.0.items c.requires.stores c.in_ok-targets.ensures.started c.in_ok-targets.ensures.taken c.run_in_order-targets.ensures.stores.stores.many c.hand_back.ensures c.run_in_order-targets.result.1
+    all-run g.S.Store.durable g.S.Store.state c.args.script.now c.args.job.now c.args.parts.now c.start_all.new.parts c.hand_back.new.parts c.in_ok-targets.targets.items c.run_in_order-targets.result.0.items c.requires.stores c.in_ok-targets.ensures.started c.in_ok-targets.ensures.taken c.run_in_order-targets.ensures.stores.stores.many c.hand_back.ensures g.C.Clock.is_read c.run_in_order-targets.result.1
     (Err c.from.result) (said-so {V = Report} c.in-Err.halted c.run_in_order-targets.result.1 (Err c.from.result) c.in-Err.is is) c.run_in_order-targets.ensures.stores
 
 pub returns-in-Err-clause-set : goal.returns-in-Err-clause-set
 returns-in-Err-clause-set g c = all-set g.S.Store.durable g.S.Store.state c.args.script.now c.args.job.now c.args.parts.now c.start_all.new.parts c.hand_back.new.parts c.in_ok-targets.targets.items c.run_in_order-targets.result.0.items c.requires.stores c.in_ok-targets.ensures.started c.in_ok-targets.ensures.taken c.run_in_order-targets.ensures.stores.stores.many c.hand_back.ensures
+
+pub returns-in_err-clients-clause-clocks : goal.returns-in_err-clients-clause-clocks
+returns-in_err-clients-clause-clocks g c =
+    stay-read g.S.Store.durable g.S.Store.state c.args.script.now c.args.job.now g.C.Clock.is_read c.args.parts.now c.args.parts.now (same-clocks g.S.Store.durable g.S.Store.state c.args.script.now c.args.job.now c.args.parts.now)
+
+pub returns-in_err-targets-clause-clocks : goal.returns-in_err-targets-clause-clocks
+returns-in_err-targets-clause-clocks g c = stay-read g.S.Store.durable g.S.Store.state c.args.script.now c.args.job.now g.C.Clock.is_read c.args.parts.now c.start_all.new.parts c.in_err-targets.ensures.clocks
+
+pub returns-in-Ok-clause-clocks : goal.returns-in-Ok-clause-clocks
+returns-in-Ok-clause-clocks g c = all-read g.S.Store.durable g.S.Store.state c.args.script.now c.args.job.now c.args.parts.now c.start_all.new.parts c.hand_back.new.parts c.in_ok-targets.targets.items c.run_in_order-targets.result.0.items c.requires.stores c.in_ok-targets.ensures.started c.in_ok-targets.ensures.taken c.run_in_order-targets.ensures.stores.stores.many c.hand_back.ensures g.C.Clock.is_read c.run_in_order-targets.result.1 c.run_in_order-targets.ensures.stores
+
+pub returns-in-Err-clause-clocks : goal.returns-in-Err-clause-clocks
+returns-in-Err-clause-clocks g c = all-read g.S.Store.durable g.S.Store.state c.args.script.now c.args.job.now c.args.parts.now c.start_all.new.parts c.hand_back.new.parts c.in_ok-targets.targets.items c.run_in_order-targets.result.0.items c.requires.stores c.in_ok-targets.ensures.started c.in_ok-targets.ensures.taken c.run_in_order-targets.ensures.stores.stores.many c.hand_back.ensures g.C.Clock.is_read c.run_in_order-targets.result.1 c.run_in_order-targets.ensures.stores

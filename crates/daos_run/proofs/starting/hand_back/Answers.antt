@@ -11,5 +11,6 @@ loop-preserved g c =
     let ok = c.pop.new.self.ok.0 in
     let said = c.len.ensures in
     let last : c.len.result ≡ length c.pop.new.self.items = omega (arith, ok, said) in
-    one-back c.args.targets.items c.loop.targets.items c.pop.new.self.items c.args.parts.now c.loop.parts c.set.new.self c.loop.counter c.in-Some.target c.into_parts-store.result.1 c.loop.invariant c.in-Some.ensures.items
-    (c.set.ensures ∙ ap (λ n. set c.loop.parts n (Some (c.into_parts-store.result.0, c.into_parts-store.result.1))) last ∙ ap (λ s. set c.loop.parts (length c.pop.new.self.items) (Some (s, c.into_parts-store.result.1))) c.into_parts-store.ensures.store)
+    one-back c.args.targets.items c.loop.targets.items c.pop.new.self.items c.args.parts.now c.loop.parts c.set.new.self c.loop.counter c.in-Some.target c.loop.invariant c.in-Some.ensures.items
+    (c.set.ensures ∙ ap (λ n. set c.loop.parts n (Some (c.into_parts-store.result.0, c.into_parts-store.result.1))) last ∙ ap (λ s. set c.loop.parts (length c.pop.new.self.items) (Some (s, c.into_parts-store.result.1))) c.into_parts-store.ensures.store
+    ∙ ap (λ k. set c.loop.parts (length c.pop.new.self.items) (Some (c.in-Some.target.store, k))) c.into_parts-store.ensures.clock)

@@ -1,8 +1,8 @@
 use Rattle.std.specs.Prelude.{◌≡◌, ◌≤◌, ◌∷◌, ◌++◌, [], Err, IfErr, None, Some, if◌then◌else◌, is_ok, length, slice_get}
 use Rattle.std.proofs.Common.{◌∙◌, ap, arith, rules, subst, sym}
 use Rattle.daos_run.proofs.Slots.{set-not-none}
-use Rattle.daos_run.proofs.Started.{failed-runs, failed-set, one-started, taken-before, unchanged}
-use Rattle.daos_run.specs.Slots.{AreTaken, FromTo}
+use Rattle.daos_run.proofs.Started.{failed-clocks, failed-runs, failed-set, one-started, same-clocks, taken-before, unchanged}
+use Rattle.daos_run.specs.Slots.{AreTaken, ClocksStay, FromTo}
 use Rattle.daos_run.specs.Stops.{MayStop, is_fault_of, not_started}
 use Rattle.daos_run.specs.declared.stop.RunStop.TheVariants.{Memory as NoMemory}
 use Rattle.target_parts.specs.Parts.{Runs}
@@ -64,3 +64,13 @@ returns-clause-taken g c =
     let over = c.loop-t-test.false in
     let done : c.loop-t.t ≡ c.args.job.now.targets = omega (arith, low, over) in
     subst (λ n. AreTaken n c.args.parts.now c.loop-t.parts) done c.loop-t.invariant.taken
+
+pub returns-in-Err-clause-clocks : goal.returns-in-Err-clause-clocks
+returns-in-Err-clause-clocks g c =
+    failed-clocks g.S.Store.durable g.S.Store.state c.args.script.now c.args.job.now c.args.parts.now c.loop-t.parts c.take.new.self c.set.new.self c.hand_back.new.parts c.loop-t.targets.items c.loop-t.t (c.in-Some.store, c.in-Some.clock) c.in-Err.field-0.store c.in-Err.field-0.clock c.in-Err.field-0.stop
+    c.requires.stores c.loop-t-test.true c.loop-t.invariant.started c.loop-t.invariant.taken c.in-Some.ensures.taken c.in-Some.ensures.left c.set.ensures c.hand_back.ensures c.in-Err.ensures.clock
+
+pub returns-in_err-targets-clause-clocks : goal.returns-in_err-targets-clause-clocks
+returns-in_err-targets-clause-clocks g c =
+    let is : c.from_residual.result ≡ Err NoMemory = search rules in
+    subst (λ r. IfErr r (λ stop. ClocksStay c.args.parts.now c.args.parts.now)) (sym is) (same-clocks g.S.Store.durable g.S.Store.state c.args.script.now c.args.job.now c.args.parts.now)

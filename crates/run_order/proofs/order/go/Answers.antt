@@ -18,10 +18,10 @@ returns-clause-order g c r w k =
 pub returns-then-order-eq0-clause-stores : goal.returns-then-order-eq0-clause-stores
 returns-then-order-eq0-clause-stores g c =
     let mid = c.go_round.new.actors.targets.items in
-    leaves-then g.S.Store.durable g.S.Store.state c.go_round-then-order-eq0.result c.args.actors.now.targets.items mid c.go_round-then-order-eq0.new.actors.targets.items (all-run g.S.Store.durable g.S.Store.state _ c.args.actors.now.targets.items mid c.in_ok-go_round.ensures.stores)
+    leaves-then g.S.Store.durable g.S.Store.state g.C.Clock.is_read c.go_round-then-order-eq0.result c.args.actors.now.targets.items mid c.go_round-then-order-eq0.new.actors.targets.items (all-run g.S.Store.durable g.S.Store.state g.C.Clock.is_read _ c.args.actors.now.targets.items mid c.in_ok-go_round.ensures.stores)
     c.go_round-then-order-eq0.ensures.stores
 
 pub returns-clause-stores : goal.returns-clause-stores
 returns-clause-stores g c =
     let mid = c.go_drawn.new.actors.targets.items in
-    leaves-then g.S.Store.durable g.S.Store.state c.go_drawn-2.result c.args.actors.now.targets.items mid c.go_drawn-2.new.actors.targets.items (all-run g.S.Store.durable g.S.Store.state _ c.args.actors.now.targets.items mid c.in_ok-go_drawn.ensures.stores) c.go_drawn-2.ensures.stores
+    leaves-then g.S.Store.durable g.S.Store.state g.C.Clock.is_read c.go_drawn-2.result c.args.actors.now.targets.items mid c.go_drawn-2.new.actors.targets.items (all-run g.S.Store.durable g.S.Store.state g.C.Clock.is_read _ c.args.actors.now.targets.items mid c.in_ok-go_drawn.ensures.stores) c.go_drawn-2.ensures.stores

@@ -17,9 +17,9 @@ returns-in-Ok-clause-run g c r w o alone begun k =
 pub returns-in-Ok-clause-stores : goal.returns-in-Ok-clause-stores
 returns-in-Ok-clause-stores g c =
     let ys = c.go-went.new.actors.targets.items in
-    leaves-ok g.S.Store.durable g.S.Store.state c.into_lines-lines.result c.args.targets.items ys (all-run g.S.Store.durable g.S.Store.state _ c.args.targets.items ys c.in-Ok.ensures.stores)
+    leaves-ok g.S.Store.durable g.S.Store.state g.C.Clock.is_read c.into_lines-lines.result c.args.targets.items ys (all-run g.S.Store.durable g.S.Store.state g.C.Clock.is_read _ c.args.targets.items ys c.in-Ok.ensures.stores)
 
 pub returns-clause-stores : goal.returns-clause-stores
 returns-clause-stores g c =
     let xs = c.args.targets.items in
-    leaves-so g.S.Store.durable g.S.Store.state c.in-Err.halted (Err c.in-Err.halted) xs xs c.go-went.new.actors.targets.items refl (run-first g.S.Store.durable g.S.Store.state xs c.requires.going.running) c.in-Err.ensures.stores
+    leaves-so g.S.Store.durable g.S.Store.state g.C.Clock.is_read c.in-Err.halted (Err c.in-Err.halted) xs xs c.go-went.new.actors.targets.items refl (run-first g.S.Store.durable g.S.Store.state g.C.Clock.is_read xs c.requires.going.running) c.in-Err.ensures.stores

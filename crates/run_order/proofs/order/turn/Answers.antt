@@ -1,7 +1,7 @@
 use Rattle.std.specs.Prelude.{◌≤◌, ◌<◌, length}
-use Rattle.std.proofs.Common.{arith, subst, sym}
+use Rattle.std.proofs.Common.{arith, rules, subst, sym}
 use Rattle.run_actors.specs.Shows.{Steps}
-use Rattle.run_order.proofs.Leaving.{leaves-ok, turn-stopped, turn-whole}
+use Rattle.run_order.proofs.Leaving.{leaves-ok, leaves-wanting, same-stores, turn-stopped, turn-whole}
 use Rattle.run_actors.specs.Shown.{named-client, named-target}
 use Rattle.run_order.proofs.order.turn.Goals as goal
 
@@ -17,10 +17,18 @@ returns-in-Ok-clause-steps g c r w k =
 
 pub returns-in-Ok-clause-stores : goal.returns-in-Ok-clause-stores
 returns-in-Ok-clause-stores g c =
-    leaves-ok g.S.Store.durable g.S.Store.state (tt {0}) c.args.actors.now.targets.items c.target_turn.new.self.targets.items (turn-whole g.S.Store.durable g.S.Store.state _ c.from-number.result c.args.actors.now.targets.items c.target_turn.new.self.targets.items c.in-Ok.ensures.stores)
+    leaves-ok g.S.Store.durable g.S.Store.state g.C.Clock.is_read (tt {0}) c.args.actors.now.targets.items c.target_turn.new.self.targets.items (turn-whole g.S.Store.durable g.S.Store.state g.C.Clock.is_read _ c.from-number.result c.args.actors.now.targets.items c.target_turn.new.self.targets.items c.in-Ok.ensures.stores)
 
 pub returns-in-Err-clause-stores : goal.returns-in-Err-clause-stores
 returns-in-Err-clause-stores g c =
     let within : c.from-number.result < length c.args.actors.now.targets.items = subst (λ n. n < length c.args.actors.now.targets.items) (sym c.from-number.ensures) (c.requires.actor.target c.if-actor.false) in
     let few : length c.args.actors.now.targets.items ≤ 255 = c.requires.few_targets in
-    turn-stopped g.S.Store.durable g.S.Store.state _ c.from-number.result c.in-Err.stop c.halted_by.result c.args.actors.now.targets.items c.target_turn.new.self.targets.items (omega (arith, within, few)) within c.halted_by.ensures c.in-Err.ensures.stores
+    turn-stopped g.S.Store.durable g.S.Store.state g.C.Clock.is_read _ c.from-number.result c.in-Err.stop c.halted_by.result c.args.actors.now.targets.items c.target_turn.new.self.targets.items (omega (arith, within, few)) within c.halted_by.ensures c.in-Err.ensures.stores
+
+pub returns-then-actor-clause-stores : goal.returns-then-actor-clause-stores
+returns-then-actor-clause-stores g c =
+    leaves-ok g.S.Store.durable g.S.Store.state g.C.Clock.is_read (tt {0}) c.args.actors.now.targets.items c.client_turn.new.self.targets.items (same-stores g.S.Store.durable g.S.Store.state g.C.Clock.is_read c.args.actors.now.targets.items c.client_turn.new.self.targets.items c.client_turn.ensures.targets c.requires.going.running)
+
+pub returns-in_err-client_turn-clause-stores : goal.returns-in_err-client_turn-clause-stores
+returns-in_err-client_turn-clause-stores g c =
+    leaves-wanting g.S.Store.durable g.S.Store.state g.C.Clock.is_read c.from_residual.result c.args.actors.now.targets.items c.client_turn.new.self.targets.items (search rules) (same-stores g.S.Store.durable g.S.Store.state g.C.Clock.is_read c.args.actors.now.targets.items c.client_turn.new.self.targets.items c.client_turn.ensures.targets c.requires.going.running)

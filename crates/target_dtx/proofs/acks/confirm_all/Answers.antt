@@ -30,9 +30,9 @@ loop-attempt-preserved g c =
     let inv = c.loop-attempt.invariant in
     let one = c.in_ok-confirm.ensures in
     record {
-      runs = still_runs always_stop _ _ _ _ _ refl (runs_on always_stop _ _ _ _ _ _ _ inv.runs one.runs);
-      leads = one.leads;
-      beside = record { hlc = one.beside.hlc ∙ inv.beside.hlc; stamps = one.beside.stamps ∙ inv.beside.stamps; member = one.beside.member ∙ inv.beside.member };
+      runs = still_runs always_stop _ _ _ _ _ refl (runs_on always_stop _ _ _ _ _ _ _ inv.runs one.keeps.runs);
+      leads = one.keeps.leads refl;
+      beside = record { hlc = one.keeps.beside.hlc ∙ inv.beside.hlc; stamps = one.keeps.beside.stamps ∙ inv.beside.stamps; member = one.keeps.beside.member ∙ inv.beside.member };
       leader = one.leader ∙ inv.leader;
       reached = λ m d at.
           let now = inv.reached m d at in

@@ -5,13 +5,15 @@ use Rattle.world_base.specs.Acks.{MarkedNext, to_confirm}
 use Rattle.target_parts.specs.Ending.{turn_wanting}
 use Rattle.target_parts.specs.Knowing.{memory_of}
 use Rattle.target_parts.specs.KeepingLaws.{leads-same}
-use Rattle.target_parts.specs.KnowsLaws.{memory-beside, own-beside}
+use Rattle.target_parts.specs.KnowsLaws.{memory-beside}
 use Rattle.target_parts.specs.Parts.{kept}
 use Rattle.target_parts.specs.Stops.{never, stop_memory}
 use Rattle.target_parts.specs.Turning.{now_partway}
+use Rattle.target_parts.specs.Standing.{target-beside}
 use Rattle.target_dtx.proofs.Confirming.{confirms-done, leads-marked}
 use Rattle.world_posts.specs.Forms.{TargetPosts}
 use Rattle.world_posts.specs.Posting.{none-posted, waits-on}
+use Rattle.vos_store.specs.Refusals.{always_stop}
 use Rattle.target_dtx.proofs.acks.hear_marked.Goals as goal
 
 pub returns-in_err-hear_marked-clause-turn : goal.returns-in_err-hear_marked-clause-turn
@@ -25,25 +27,25 @@ pub confirm_all-requires-clause-leads : goal.confirm_all-requires-clause-leads
 confirm_all-requires-clause-leads g c d at =
     leads-same c.args.plan (record (memory_of c.args.knows.now) { leader = record c.args.knows.now.leader { named = answered c.args.member c.args.inc c.args.attempts.now c.args.knows.now.leader.named } }) _ c.args.knows.now.entries.items _ d
     (ap (λ l. record (memory_of c.args.knows.now) { leader = l }) c.in_ok-hear_marked.ensures.ok) refl
-    (leads-marked c.args.plan (memory_of c.args.knows.now) c.args.knows.now.entries.items d _ (c.requires.leads d at))
+    (leads-marked c.args.plan (memory_of c.args.knows.now) c.args.knows.now.entries.items d _ (c.requires.target.leads c.requires.running d at))
 
 pub returns-in-Ok-clause-turn : goal.returns-in-Ok-clause-turn
 returns-in-Ok-clause-turn g c d at =
-    let beside = c.in-Ok.ensures.beside in
+    let beside = c.in-Ok.ensures.keeps.beside in
     confirms-done c.args.plan (memory_of c.args.knows.now) (memory_of c.confirm_all.new.knows) c.args.member c.args.inc c.args.attempts.now c.to_confirm-confirming.result.now c.sends.result d (g.S.Store.state c.args.store.now) _ _
     (subst (λ i. c.to_confirm-confirming.result.now ≡ if c.args.inc == i then c.args.attempts.now else []) (c.incarnation.ensures c.requires.running d at) c.to_confirm-confirming.ensures)
     (memory-beside c.args.knows.now c.confirm_all.new.knows _ (record { hlc = beside.hlc; stamps = beside.stamps; member = beside.member }) (c.in-Ok.ensures.leader ∙ c.in_ok-hear_marked.ensures.ok))
     (search rules) (c.in-Ok.ensures.confirmed (memory_of c.args.knows.now) d at)
 
-pub returns-in-Ok-clause-own : goal.returns-in-Ok-clause-own
-returns-in-Ok-clause-own g c =
-    let beside = c.in-Ok.ensures.beside in
-    own-beside c.args.plan c.args.knows.now c.confirm_all.new.knows (record { hlc = beside.hlc; stamps = beside.stamps; member = beside.member }) c.requires.own
+pub returns-in-Ok-clause-target : goal.returns-in-Ok-clause-target
+returns-in-Ok-clause-target g c =
+    let beside = c.in-Ok.ensures.keeps.beside in
+    target-beside c.args.plan always_stop _ (g.S.Store.state c.args.store.now) (g.S.Store.state c.confirm_all.new.store) (g.S.Store.durable c.args.store.now) (g.S.Store.durable c.confirm_all.new.store) c.args.knows.now c.confirm_all.new.knows c.requires.target c.in-Ok.ensures.keeps.runs (record { hlc = beside.hlc; stamps = beside.stamps; member = beside.member }) c.in-Ok.ensures.keeps.leads
 
-pub returns-in-Err-clause-own : goal.returns-in-Err-clause-own
-returns-in-Err-clause-own g c =
-    let beside = c.in-Err.ensures.beside in
-    own-beside c.args.plan c.args.knows.now c.confirm_all.new.knows (record { hlc = beside.hlc; stamps = beside.stamps; member = beside.member }) c.requires.own
+pub returns-in-Err-clause-target : goal.returns-in-Err-clause-target
+returns-in-Err-clause-target g c =
+    let beside = c.in-Err.ensures.keeps.beside in
+    target-beside c.args.plan always_stop _ (g.S.Store.state c.args.store.now) (g.S.Store.state c.confirm_all.new.store) (g.S.Store.durable c.args.store.now) (g.S.Store.durable c.confirm_all.new.store) c.args.knows.now c.confirm_all.new.knows c.requires.target c.in-Err.ensures.keeps.runs (record { hlc = beside.hlc; stamps = beside.stamps; member = beside.member }) c.in-Err.ensures.keeps.leads
 
 pub returns-in-Ok-clause-posts : goal.returns-in-Ok-clause-posts
 returns-in-Ok-clause-posts g c =

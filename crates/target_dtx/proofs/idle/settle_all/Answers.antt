@@ -42,9 +42,9 @@ loop-plan-preserved g c =
     let one = c.in_ok-settle_decided.ensures in
     let some : (length c.loop-plan.knows.leader.decided == 0) ≡ false = search rules in
     record {
-      runs = still_runs always_stop _ _ _ _ _ refl (runs_on always_stop _ _ _ _ _ _ _ inv.runs one.runs);
-      leads = one.leads;
-      beside = record { hlc = one.beside.hlc ∙ inv.beside.hlc; stamps = one.beside.stamps ∙ inv.beside.stamps; member = one.beside.member ∙ inv.beside.member };
+      runs = still_runs always_stop _ _ _ _ _ refl (runs_on always_stop _ _ _ _ _ _ _ inv.runs one.keeps.runs);
+      leads = one.keeps.leads refl;
+      beside = record { hlc = one.keeps.beside.hlc ∙ inv.beside.hlc; stamps = one.keeps.beside.stamps ∙ inv.beside.stamps; member = one.keeps.beside.member ∙ inv.beside.member };
       leader = decided-on c.args.knows.now.leader c.loop-plan.knows.leader c.settle_decided.new.knows.leader _ inv.leader one.leader;
       reached = λ d at.
           let now = inv.reached d at in

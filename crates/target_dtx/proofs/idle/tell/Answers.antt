@@ -4,28 +4,26 @@ use Rattle.dtx_table.specs.Seats.{leader_of}
 use Rattle.target_dtx.proofs.Telling.{asks-leave, batch-named, leads-told, nothing-asked, own-told}
 use Rattle.world_posts.specs.Forms.{PostsInForm}
 use Rattle.world_posts.specs.Posting.{and-more, batches-post-in-form, posted-by}
+use Rattle.target_parts.specs.Standing.{target-known}
 use Rattle.target_dtx.proofs.idle.tell.Goals as goal
 
-pub returns-in_err-asks-clause-leads : goal.returns-in_err-asks-clause-leads
-returns-in_err-asks-clause-leads g c d at =
-    leads-told c.args.plan c.args.knows.now (record c.args.knows.now { leader = c.batch.new.self; member = c.inquiries.new.member }) refl (nothing-asked c.args.knows.now.member c.inquiries.new.member c.in_err-asks.ensures.kept) d _ (batch-named (leader_of c.seat_of-seat.result c.deref.result.now c.args.knows.now.leader) c.batch.new.self c.in_ok-posts.posts c.in_ok-posts.ensures.ok) refl (c.requires.leads d at)
+pub returns-in_err-asks-clause-target : goal.returns-in_err-asks-clause-target
+returns-in_err-asks-clause-target g c =
+    target-known c.args.plan (g.S.Store.state c.args.store.now) (g.S.Store.durable c.args.store.now) c.args.knows.now (record c.args.knows.now { leader = c.batch.new.self; member = c.inquiries.new.member }) c.requires.target
+    (own-told c.args.plan c.args.knows.now (record c.args.knows.now { leader = c.batch.new.self; member = c.inquiries.new.member }) refl (nothing-asked c.args.knows.now.member c.inquiries.new.member c.in_err-asks.ensures.kept) c.requires.target.own)
+    (λ d leads. leads-told c.args.plan c.args.knows.now (record c.args.knows.now { leader = c.batch.new.self; member = c.inquiries.new.member }) refl (nothing-asked c.args.knows.now.member c.inquiries.new.member c.in_err-asks.ensures.kept) d _ (batch-named (leader_of c.seat_of-seat.result c.deref.result.now c.args.knows.now.leader) c.batch.new.self c.in_ok-posts.posts c.in_ok-posts.ensures.ok) refl leads)
 
-pub returns-in_err-asks-clause-own : goal.returns-in_err-asks-clause-own
-returns-in_err-asks-clause-own g c = own-told c.args.plan c.args.knows.now (record c.args.knows.now { leader = c.batch.new.self; member = c.inquiries.new.member }) refl (nothing-asked c.args.knows.now.member c.inquiries.new.member c.in_err-asks.ensures.kept) c.requires.own
+pub returns-in_err-push_all-clause-target : goal.returns-in_err-push_all-clause-target
+returns-in_err-push_all-clause-target g c =
+    target-known c.args.plan (g.S.Store.state c.args.store.now) (g.S.Store.durable c.args.store.now) c.args.knows.now (record c.args.knows.now { leader = c.batch.new.self; member = c.inquiries.new.member }) c.requires.target
+    (own-told c.args.plan c.args.knows.now (record c.args.knows.now { leader = c.batch.new.self; member = c.inquiries.new.member }) refl (asks-leave c.args.settling c.deref-2.result.now c.args.knows.now.member c.inquiries.new.member _ c.in_ok-asks.ensures.asked) c.requires.target.own)
+    (λ d leads. leads-told c.args.plan c.args.knows.now (record c.args.knows.now { leader = c.batch.new.self; member = c.inquiries.new.member }) refl (asks-leave c.args.settling c.deref-2.result.now c.args.knows.now.member c.inquiries.new.member _ c.in_ok-asks.ensures.asked) d _ (batch-named (leader_of c.seat_of-seat.result c.deref.result.now c.args.knows.now.leader) c.batch.new.self c.in_ok-posts.posts c.in_ok-posts.ensures.ok) refl leads)
 
-pub returns-in_err-push_all-clause-leads : goal.returns-in_err-push_all-clause-leads
-returns-in_err-push_all-clause-leads g c d at =
-    leads-told c.args.plan c.args.knows.now (record c.args.knows.now { leader = c.batch.new.self; member = c.inquiries.new.member }) refl (asks-leave c.args.settling c.deref-2.result.now c.args.knows.now.member c.inquiries.new.member _ c.in_ok-asks.ensures.asked) d _ (batch-named (leader_of c.seat_of-seat.result c.deref.result.now c.args.knows.now.leader) c.batch.new.self c.in_ok-posts.posts c.in_ok-posts.ensures.ok) refl (c.requires.leads d at)
-
-pub returns-in_err-push_all-clause-own : goal.returns-in_err-push_all-clause-own
-returns-in_err-push_all-clause-own g c = own-told c.args.plan c.args.knows.now (record c.args.knows.now { leader = c.batch.new.self; member = c.inquiries.new.member }) refl (asks-leave c.args.settling c.deref-2.result.now c.args.knows.now.member c.inquiries.new.member _ c.in_ok-asks.ensures.asked) c.requires.own
-
-pub returns-clause-leads : goal.returns-clause-leads
-returns-clause-leads g c d at =
-    leads-told c.args.plan c.args.knows.now (record c.args.knows.now { leader = c.batch.new.self; member = c.inquiries.new.member }) refl (asks-leave c.args.settling c.deref-2.result.now c.args.knows.now.member c.inquiries.new.member _ c.in_ok-asks.ensures.asked) d _ (batch-named (leader_of c.seat_of-seat.result c.deref.result.now c.args.knows.now.leader) c.batch.new.self c.in_ok-posts.posts c.in_ok-posts.ensures.ok) refl (c.requires.leads d at)
-
-pub returns-clause-own : goal.returns-clause-own
-returns-clause-own g c = own-told c.args.plan c.args.knows.now (record c.args.knows.now { leader = c.batch.new.self; member = c.inquiries.new.member }) refl (asks-leave c.args.settling c.deref-2.result.now c.args.knows.now.member c.inquiries.new.member _ c.in_ok-asks.ensures.asked) c.requires.own
+pub returns-clause-target : goal.returns-clause-target
+returns-clause-target g c =
+    target-known c.args.plan (g.S.Store.state c.args.store.now) (g.S.Store.durable c.args.store.now) c.args.knows.now (record c.args.knows.now { leader = c.batch.new.self; member = c.inquiries.new.member }) c.requires.target
+    (own-told c.args.plan c.args.knows.now (record c.args.knows.now { leader = c.batch.new.self; member = c.inquiries.new.member }) refl (asks-leave c.args.settling c.deref-2.result.now c.args.knows.now.member c.inquiries.new.member _ c.in_ok-asks.ensures.asked) c.requires.target.own)
+    (λ d leads. leads-told c.args.plan c.args.knows.now (record c.args.knows.now { leader = c.batch.new.self; member = c.inquiries.new.member }) refl (asks-leave c.args.settling c.deref-2.result.now c.args.knows.now.member c.inquiries.new.member _ c.in_ok-asks.ensures.asked) d _ (batch-named (leader_of c.seat_of-seat.result c.deref.result.now c.args.knows.now.leader) c.batch.new.self c.in_ok-posts.posts c.in_ok-posts.ensures.ok) refl leads)
 
 pub returns-clause-posts : goal.returns-clause-posts
 returns-clause-posts g c =

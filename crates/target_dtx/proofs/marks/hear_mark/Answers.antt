@@ -7,14 +7,15 @@ use Rattle.world_base.specs.Requests.{says}
 use Rattle.world_base.specs.Roles.{is_prepared, told_of_all}
 use Rattle.target_parts.specs.Ending.{turn_wanting}
 use Rattle.target_parts.specs.Knowing.{memory_of}
-use Rattle.target_parts.specs.KnowsLaws.{own-beside}
 use Rattle.target_parts.specs.Parts.{kept}
 use Rattle.target_parts.specs.Posting.{fewer-wait, told-fewer}
 use Rattle.target_parts.specs.Stops.{never, stop_memory}
 use Rattle.target_parts.specs.Turning.{now_partway}
+use Rattle.target_parts.specs.Standing.{target-kept}
 use Rattle.target_dtx.proofs.Marking.{marks-done}
 use Rattle.world_posts.specs.Forms.{TargetPosts}
 use Rattle.world_posts.specs.Posting.{one-posted, to-other}
+use Rattle.vos_store.specs.Refusals.{always_stop}
 use Rattle.target_dtx.proofs.marks.hear_mark.Goals as goal
 
 pub returns-in_err-attempts_of-clause-turn : goal.returns-in_err-attempts_of-clause-turn
@@ -36,11 +37,13 @@ returns-in-Ok-clause-turn g c d at =
     (c.in_ok-did.ensures.did ∙ ap (λ ids. says c.args.from (Marked c.args.inc ids) None) (c.from_vec-attempts.ensures ∙ c.in_ok-attempts_of.ensures))
     (c.in-Ok.ensures.settled d at)
 
-pub returns-in-Ok-clause-own : goal.returns-in-Ok-clause-own
-returns-in-Ok-clause-own g c = own-beside c.args.plan c.args.knows.now c.settle_all.new.knows c.in-Ok.ensures.beside c.requires.own
+pub returns-in-Ok-clause-target : goal.returns-in-Ok-clause-target
+returns-in-Ok-clause-target g c =
+    target-kept c.args.plan always_stop _ (g.S.Store.state c.args.store.now) (g.S.Store.state c.settle_all.new.store) (g.S.Store.durable c.args.store.now) (g.S.Store.durable c.settle_all.new.store) c.args.knows.now c.settle_all.new.knows c.requires.target c.in-Ok.ensures.keeps
 
-pub returns-in-Err-clause-own : goal.returns-in-Err-clause-own
-returns-in-Err-clause-own g c = own-beside c.args.plan c.args.knows.now c.settle_all.new.knows c.in-Err.ensures.beside c.requires.own
+pub returns-in-Err-clause-target : goal.returns-in-Err-clause-target
+returns-in-Err-clause-target g c =
+    target-kept c.args.plan always_stop _ (g.S.Store.state c.args.store.now) (g.S.Store.state c.settle_all.new.store) (g.S.Store.durable c.args.store.now) (g.S.Store.durable c.settle_all.new.store) c.args.knows.now c.settle_all.new.knows c.requires.target c.in-Err.ensures.keeps
 
 pub returns-in-Ok-clause-posts : goal.returns-in-Ok-clause-posts
 returns-in-Ok-clause-posts g c target =

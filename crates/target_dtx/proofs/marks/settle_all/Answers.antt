@@ -33,12 +33,12 @@ loop-mark-preserved g c =
     let inv = c.loop-mark.invariant in
     let one = c.in_ok-settle_prepared.ensures in
     record {
-      runs = still_runs always_stop _ _ _ _ _ refl (runs_on always_stop _ _ _ _ _ _ _ inv.runs one.runs);
-      leads = one.leads;
-      beside = record { hlc = one.beside.hlc ∙ inv.beside.hlc; stamps = one.beside.stamps ∙ inv.beside.stamps; member = one.beside.member ∙ inv.beside.member };
+      runs = still_runs always_stop _ _ _ _ _ refl (runs_on always_stop _ _ _ _ _ _ _ inv.runs one.keeps.runs);
+      leads = one.keeps.leads refl;
+      beside = record { hlc = one.keeps.beside.hlc ∙ inv.beside.hlc; stamps = one.keeps.beside.stamps ∙ inv.beside.stamps; member = one.keeps.beside.member ∙ inv.beside.member };
       told =
           told-on c.args.marks.now c.loop-mark.mark-index none_marked (memory_of c.loop-mark.knows) (memory_of c.settle_prepared.new.knows) c.loop-mark-test.true
-          (memory-beside c.loop-mark.knows c.settle_prepared.new.knows _ one.beside one.leader) ∙ inv.told;
+          (memory-beside c.loop-mark.knows c.settle_prepared.new.knows _ one.keeps.beside one.leader) ∙ inv.told;
       reached = λ d at.
           let now = inv.reached d at in
           marks-on c.args.marks.now _ c.loop-mark.mark-index none_marked c.step_of.result c.step_of.ensures.is now.durable _ (g.S.Store.state c.settle_prepared.new.store) (g.S.Store.durable c.settle_prepared.new.store) (g.S.Store.may c.settle_prepared.new.store) c.loop-mark-test.true now.holds

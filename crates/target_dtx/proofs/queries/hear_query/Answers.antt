@@ -13,7 +13,7 @@ use Rattle.target_dtx.proofs.queries.hear_query.Goals as goal
 pub returns-clause-turn : goal.returns-clause-turn
 returns-clause-turn g c d at =
     let seat = c.seat_of-seat.ensures in
-    let known = leader-known c.args.plan (memory_of c.args.knows.now) c.seat_of-seat.result c.deref.result.now d seat.me seat.targets (seat.incarnation c.requires.running d at) (c.deref.ensures.value ∙ (c.requires.leads d at).entries) in
+    let known = leader-known c.args.plan (memory_of c.args.knows.now) c.seat_of-seat.result c.deref.result.now d seat.me seat.targets (seat.incarnation c.requires.running d at) (c.deref.ensures.value ∙ (c.requires.target.leads c.requires.running d at).entries) in
     let message : ◌≡◌ {A = Message} (Verdict c.args.attempt c.args.ask c.seat_of-seat.result.incarnation c.answer_query-verdict.result) (verdict_message c.args.plan (memory_of c.args.knows.now) c.args.attempt c.args.ask d) =
     ap (λ i. Verdict c.args.attempt c.args.ask i c.answer_query-verdict.result) (seat.incarnation c.requires.running d at)
     ∙ ap (λ v. Verdict c.args.attempt c.args.ask d.incarnation v) (c.answer_query-verdict.ensures ∙ ap (query_answer c.args.attempt) known) in

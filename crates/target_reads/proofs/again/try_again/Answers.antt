@@ -18,10 +18,9 @@ use Rattle.world_base.specs.PathLaws.{reached-here}
 pub loop-plan-init : goal.loop-plan-init
 loop-plan-init g c = record {
   runs = runs_first _ _ c.requires.running;
-  own = c.requires.own;
+  target = c.requires.target;
   parkable = subst AreParkable (sym c.into_vec-rest.ensures) c.requires.parkable;
   here = λ d at. subst (λ xs. AreHere xs d) (sym c.into_vec-rest.ensures) (c.requires.here d at);
-  leads = c.requires.leads;
   posts = waits-on c.args.plan.targets c.args.knows.now.leader c.args.knows.now.leader c.args.posts refl c.requires.sent;
   reached = λ d at m reading a ask v. record {
     durable = d;
@@ -77,13 +76,12 @@ loop-plan-preserved g c =
     let inv = c.loop-plan.invariant in
     let one = c.in_ok-did.ensures in
     record {
-      runs = still_runs stop_store _ _ _ _ _ refl (runs_on stop_store _ _ _ _ _ _ _ inv.runs one.runs);
-      own = one.own;
+      runs = still_runs stop_store _ _ _ _ _ refl (runs_on stop_store _ _ _ _ _ _ _ inv.runs one.stopped.runs);
+      target = one.target;
       parkable = λ x i. inv.parkable x (subst (Has x) (sym removed) (inr i));
-      here = for_some_on (g.S.Store.durable c.loop-plan.store) _ (AreHere c.remove.new.self.items) one.runs.told (λ d at.
+      here = for_some_on (g.S.Store.durable c.loop-plan.store) _ (AreHere c.remove.new.self.items) one.stopped.runs.told (λ d at.
           tried-here c.args.plan (memory_of c.loop-plan.knows) 0 c.remove.result c.loop-plan.rest.items c.remove.new.self.items d (g.S.Store.state c.loop-plan.store) (g.S.Store.state c.hear_again.new.store) (g.S.Store.durable c.hear_again.new.store)
           (g.S.Store.may c.hear_again.new.store) (memory_of c.hear_again.new.knows) c.in_ok-did.did removed (one.turn d at 0) (inv.here d at));
-      leads = one.leads refl;
       posts = subst (PostsInForm c.args.plan.targets c.args.knows.now.leader c.hear_again.new.knows.leader) (sym c.in_ok-push_all.ensures)
           (then-posts c.args.plan.targets c.args.knows.now.leader c.loop-plan.knows.leader c.hear_again.new.knows.leader c.loop-plan.posts c.in_ok-did.did.posts inv.posts one.posts);
       reached = λ d at m reading a ask v.

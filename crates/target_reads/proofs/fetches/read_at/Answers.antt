@@ -4,10 +4,12 @@ use Rattle.daos_model.specs.Durables.{is_enlisted}
 use Rattle.world_base.specs.Reads.{FetchEnds, FetchNext, Reading}
 use Rattle.world_base.specs.Turns.{Whole}
 use Rattle.target_parts.specs.Ending.{turn_halted}
+use Rattle.target_parts.specs.Halts.{halt_stop}
 use Rattle.target_parts.specs.Knowing.{LeadsWell, memory_of}
 use Rattle.target_parts.specs.KnowsLaws.{own-beside}
 use Rattle.target_parts.specs.Parts.{kept}
 use Rattle.target_parts.specs.Running.{for_some_on}
+use Rattle.target_parts.specs.Standing.{target-kept, target-on}
 use Rattle.target_parts.specs.Stops.{fetch_issued}
 use Rattle.target_reads.specs.Meets.{Serves}
 use Rattle.target_reads.proofs.FetchTurns.{fetch-told, reading-issued, then-known}
@@ -16,24 +18,25 @@ use Rattle.target_reads.proofs.Posting.{served-posts}
 use Rattle.target_reads.proofs.fetches.read_at.Goals as goal
 
 pub tell-requires-clause-own : goal.tell-requires-clause-own
-tell-requires-clause-own g c = own-beside c.args.plan c.args.knows.now c.serve.new.knows c.in-Ok.ensures.beside c.requires.own
+tell-requires-clause-own g c = own-beside c.args.plan c.args.knows.now c.serve.new.knows c.in-Ok.ensures.keeps.beside c.requires.target.own
 
 pub returns-in-Ok-clause-turn : goal.returns-in-Ok-clause-turn
 returns-in-Ok-clause-turn g c d at m reading ticks =
     fetch-told c.args.plan m (memory_of c.serve.new.knows) reading c.args.request.now c.args.from c.args.epoch c.args.knows.now.leader.decided c.serve.new.knows.leader.decided d (g.S.Store.state c.args.store.now) (g.S.Store.state c.serve.new.store) _ _
-    c.in-Ok.served (memory_of c.tell.new.knows) c.tell.result (then-known c.args.knows.now c.serve.new.knows c.args.request.now c.args.epoch m c.in-Ok.ensures.beside (c.in-Ok.ensures.leader refl) ticks)
+    c.in-Ok.served (memory_of c.tell.new.knows) c.tell.result (then-known c.args.knows.now c.serve.new.knows c.args.request.now c.args.epoch m c.in-Ok.ensures.keeps.beside (c.in-Ok.ensures.leader refl) ticks)
     c.tell.ensures.told c.tell.ensures.wanting (c.in-Ok.ensures.served d at m reading)
 
-pub returns-in-Ok-clause-leads : goal.returns-in-Ok-clause-leads
-returns-in-Ok-clause-leads g c _ =
-    for_some_on (g.S.Store.durable c.args.store.now) _ (LeadsWell c.args.plan (memory_of c.tell.new.knows) c.tell.new.knows.entries.items) c.in-Ok.ensures.runs.told (λ d at.
+pub returns-in-Ok-clause-target : goal.returns-in-Ok-clause-target
+returns-in-Ok-clause-target g c =
+    target-on c.args.plan (g.S.Store.state c.args.store.now) (g.S.Store.state c.serve.new.store) (g.S.Store.durable c.args.store.now) (g.S.Store.durable c.serve.new.store) c.args.knows.now c.tell.new.knows c.requires.target c.in-Ok.ensures.keeps.runs.targets c.tell.ensures.own (λ _.
+    for_some_on (g.S.Store.durable c.args.store.now) _ (LeadsWell c.args.plan (memory_of c.tell.new.knows) c.tell.new.knows.entries.items) c.in-Ok.ensures.keeps.runs.told (λ d at.
     let m = memory_of c.args.knows.now in
     let old = kept d (g.S.Store.state c.args.store.now) in
     let start = Reading c.args.epoch c.args.knows.now.leader.decided in
     let now = c.in-Ok.ensures.served d at m 0 in
     let here : is_enlisted now.durable (read_path c.args.request.now.read).cont ≡ true =
     path-enlisted (FetchNext c.args.plan m 0 c.args.request.now) start old now.holds.reached.did (Reading c.args.epoch c.serve.new.knows.leader.decided) (kept now.durable (g.S.Store.state c.serve.new.store)) (read_path c.args.request.now.read).cont now.holds.reached.path ∙ c.requires.enlisted d at in
-    (now.durable, now.kept_is, c.tell.ensures.leads now.durable here (c.in-Ok.ensures.leads refl now.durable now.kept_is)))
+    (now.durable, now.kept_is, c.tell.ensures.leads now.durable here (c.in-Ok.ensures.keeps.leads refl now.durable now.kept_is))))
 
 pub returns-in-Err-clause-turn : goal.returns-in-Err-clause-turn
 returns-in-Err-clause-turn g c d at m reading ticks =
@@ -46,8 +49,9 @@ returns-in-Err-clause-turn g c d at m reading ticks =
     (λ last mid r. c.issued_for-issued.ensures ∙ sym (reading-issued c.args.plan m reading c.args.request.now c.args.epoch c.args.knows.now.leader.decided old last mid r))
     c.stop_of.ensures (c.in-Err.ensures.served d at m reading)
 
-pub returns-in-Err-clause-own : goal.returns-in-Err-clause-own
-returns-in-Err-clause-own g c = own-beside c.args.plan c.args.knows.now c.serve.new.knows c.in-Err.ensures.beside c.requires.own
+pub returns-in-Err-clause-target : goal.returns-in-Err-clause-target
+returns-in-Err-clause-target g c =
+    target-kept c.args.plan halt_stop _ (g.S.Store.state c.args.store.now) (g.S.Store.state c.serve.new.store) (g.S.Store.durable c.args.store.now) (g.S.Store.durable c.serve.new.store) c.args.knows.now c.serve.new.knows c.requires.target c.in-Err.ensures.keeps
 
 pub returns-in-Ok-clause-posts : goal.returns-in-Ok-clause-posts
 returns-in-Ok-clause-posts g c client =

@@ -1,4 +1,4 @@
-use Rattle.std.proofs.Common.{◌≡◌, ◌∙◌, Some, Err, Contains, ap, rules, refl, sym, subst, ◌<◌, length, true}
+use Rattle.std.proofs.Common.{◌≡◌, ◌∙◌, Some, Ok, Err, Contains, ap, rules, refl, sym, subst, ◌<◌, length, true}
 use Rattle.base_types.specs.declared.entry.Settle.TheVariants.{Commit}
 use Rattle.base_types.specs.Operations.{read_path}
 use Rattle.model_laws.specs.Members.{has-from_contains}
@@ -6,6 +6,7 @@ use Rattle.daos_model.specs.declared.durable.Durable.{Durable}
 use Rattle.daos_model.specs.Changes.{settled}
 use Rattle.daos_model.specs.Durables.{is_enlisted}
 use Rattle.vos_store.specs.Refusals.{always_stop}
+use Rattle.vos_store.specs.declared.refusal.Stopped.{Stopped}
 use Rattle.world_base.specs.Reads.{FetchNext, Reading}
 use Rattle.world_base.specs.Turns.{Reached}
 use Rattle.target_parts.specs.declared.halt.Halt.TheVariants as halt
@@ -14,7 +15,7 @@ use Rattle.target_parts.specs.Halts.{halt_stop}
 use Rattle.target_parts.specs.KeepingLaws.{enlisted-settled}
 use Rattle.target_parts.specs.Knowing.{LeadsWell, memory_of}
 use Rattle.target_parts.specs.Parts.{Now, StillRuns, kept}
-use Rattle.target_parts.specs.Running.{for_some_on, runs_first, runs_on, still_runs}
+use Rattle.target_parts.specs.Running.{for_some_on, runs_as, runs_first, runs_on, still_runs}
 use Rattle.target_parts.specs.Turning.{part_asked, part_cut}
 use Rattle.dtx_table.specs.Tables.{entry_in}
 use Rattle.target_parts.specs.KnowsLaws.{decided-on}
@@ -60,10 +61,14 @@ returns-then-not-is_one-clause-served g c d at m reading =
     serves_beside c.args.plan m reading c.args.request.now c.args.epoch _ _ c.loop-answer.knows.leader.decided c.in-Unsettled.other _ _ _ now.durable _ _ _ now.holds (c.in_ok-answer.ensures.met now.durable now.kept_is) c.in-Unsettled.is apart
     (other-known c.args.plan c.in-Unsettled.other _ now.durable (c.loop-answer.invariant.leads now.durable now.kept_is).entries) (c.served_beside.ensures ∙ ap (λ es. beside_of c.in-Unsettled.other (other_leader_of c.args.plan.me (entry_in es c.in-Unsettled.other))) c.deref.ensures.value)
 
-pub returns-then-not-is_one-clause-leads : goal.returns-then-not-is_one-clause-leads
-returns-then-not-is_one-clause-leads g c _ =
-    for_some_on (g.S.Store.durable c.loop-answer.store) _ (LeadsWell c.args.plan (memory_of c.loop-answer.knows) c.loop-answer.knows.entries.items) c.in_ok-answer.ensures.runs.told
-    (λ d at. (d, (c.in_ok-answer.ensures.met d at).stays.kept_is, c.loop-answer.invariant.leads d at))
+pub returns-then-not-is_one-clause-keeps : goal.returns-then-not-is_one-clause-keeps
+returns-then-not-is_one-clause-keeps g c = record {
+  runs = runs_as {T = Unit {0}} {E = Stopped} always_stop (Ok (tt {0})) halt_stop _ _ _ _ _ refl (still_runs halt_stop _ _ _ _ _ refl (runs_on halt_stop _ _ _ _ _ _ _ c.loop-answer.invariant.runs c.in_ok-answer.ensures.runs));
+  beside = c.loop-answer.invariant.beside;
+  leads = λ _.
+      for_some_on (g.S.Store.durable c.loop-answer.store) _ (LeadsWell c.args.plan (memory_of c.loop-answer.knows) c.loop-answer.knows.entries.items) c.in_ok-answer.ensures.runs.told
+      (λ d at. (d, (c.in_ok-answer.ensures.met d at).stays.kept_is, c.loop-answer.invariant.leads d at));
+}
 
 pub meet-requires-clause-epochs : goal.meet-requires-clause-epochs
 meet-requires-clause-epochs g c x at = has-epochs c.args.plan (memory_of c.loop-answer.knows) c.loop-answer.knows.entries.items x (c.loop-answer.invariant.leads x at) (g.met.S.Store.formed _ c.loop-answer.invariant.runs.stops x at)
@@ -95,11 +100,11 @@ loop-answer-preserved g c =
     still_runs halt_stop _ _ _ _ _ refl (runs_on halt_stop _ _ _ _ _ _ _ inv.runs c.in_ok-answer.ensures.runs) in
     let met = λ (d : Durable) (at : g.S.Store.durable c.loop-answer.store ≡ Some d). c.in_ok-answer.ensures.met d at in
     record {
-      runs = still_runs always_stop _ _ _ _ _ refl (runs_on always_stop _ _ _ _ _ _ _ before settles.runs);
-      enlisted = for_some_on (g.S.Store.durable c.loop-answer.store) _ (λ x. is_enlisted x (read_path c.args.request.now.read).cont ≡ true) (settles.runs.told ∙ c.in_ok-answer.ensures.runs.told)
+      runs = still_runs always_stop _ _ _ _ _ refl (runs_on always_stop _ _ _ _ _ _ _ before settles.keeps.runs);
+      enlisted = for_some_on (g.S.Store.durable c.loop-answer.store) _ (λ x. is_enlisted x (read_path c.args.request.now.read).cont ≡ true) (settles.keeps.runs.told ∙ c.in_ok-answer.ensures.runs.told)
           (λ d at. (settled c.in-Unsettled.other Commit d, (settles.made d (met d at).stays.kept_is).kept_is, enlisted-settled c.in-Unsettled.other Commit _ d ∙ inv.enlisted d at));
-      leads = settles.leads;
-      beside = record { hlc = settles.beside.hlc ∙ inv.beside.hlc; stamps = settles.beside.stamps ∙ inv.beside.stamps; member = settles.beside.member ∙ inv.beside.member };
+      leads = settles.keeps.leads refl;
+      beside = record { hlc = settles.keeps.beside.hlc ∙ inv.beside.hlc; stamps = settles.keeps.beside.stamps ∙ inv.beside.stamps; member = settles.keeps.beside.member ∙ inv.beside.member };
       leader = decided-on c.args.knows.now.leader c.loop-answer.knows.leader c.settle_decided.new.knows.leader _ inv.leader settles.leader;
       reached = λ d at m reading.
           let now = inv.reached d at m reading in

@@ -1,9 +1,16 @@
-use Rattle.std.proofs.Common.{sym, subst, rules}
+use Rattle.std.proofs.Common.{◌≡◌, sym, subst, rules, true}
 use Rattle.base_types.specs.Operations.{write_path}
-use Rattle.model_laws.specs.Lists.{all-more, all-taken}
+use Rattle.daos_model.specs.FormLaws.{path-in_form}
+use Rattle.daos_model.specs.Forms.{is_path_in_form, is_write_in_form}
+use Rattle.model_laws.specs.Lists.{all-more, all-taken, item-holds}
 use Rattle.vos_stamp.specs.Stamps.{IsShown, NoneAgainst}
 use Rattle.target_writes.specs.Writing.{read_found}
 use Rattle.target_writes.proofs.checks.later_read.Goals as goal
+
+pub later_read-requires : goal.later_read-requires
+later_read-requires c =
+    let form = item-holds (λ w. is_write_in_form w.write ≡ true) c.args.writes.now c.loop-write.write-index c.write-item.result c.requires c.loop-write-test.true c.write-item.is in
+    record { form = subst (λ p. is_path_in_form p ≡ true) (sym c.path.ensures) (path-in_form c.write-item.result.write form) }
 
 pub returns-in-Some : goal.returns-in-Some
 returns-in-Some c =

@@ -1,8 +1,9 @@
 use Rattle.std.proofs.Common.{◌∙◌, refl, subst, sym}
 use Rattle.world_base.specs.Commits.{IsAllowed}
 use Rattle.target_parts.specs.EpochLaws.{has-epochs}
+use Rattle.target_parts.specs.Halts.{halt_stop}
 use Rattle.target_parts.specs.Knowing.{LeadsWell, memory_of}
-use Rattle.target_parts.specs.Running.{for_some_on}
+use Rattle.target_parts.specs.Running.{for_some_on, runs_on, still_runs}
 use Rattle.target_writes.specs.Checks.{ByCause, CanStore, Checks}
 use Rattle.target_writes.proofs.Storing.{prepares-leads, prepares-moved}
 use Rattle.target_writes.proofs.checks.prepare.Goals as goal
@@ -34,14 +35,18 @@ returns-in-None-clause-prepared g c d at =
     (c.store_writes.ensures.stored d a.stays.kept_is c.args.first c.args.knows.now.stamps
     (subst (λ o. IsAllowed c.args.plan o c.args.first c.args.entry.now.epoch d c.args.knows.now.stamps c.args.writes.now) (sym c.in_ok-cause.ensures.runs.opening) allowed))
 
-pub returns-in-None-clause-leads : goal.returns-in-None-clause-leads
-returns-in-None-clause-leads g c runs =
-    for_some_on (g.S.Store.durable c.args.store.now) _ (LeadsWell c.args.plan (memory_of c.args.knows.now) c.store_writes.new.entries.items) (c.store_writes.ensures.runs.told ∙ c.in_ok-cause.ensures.runs.told) (λ d at.
-    let a = c.in_ok-cause.ensures.checked d at in
-    let allowed : IsAllowed c.args.plan (g.S.Store.state c.args.store.now).opening c.args.first c.args.entry.now.epoch d c.args.knows.now.stamps c.args.writes.now =
-    subst (Checks c.args.plan (g.S.Store.state c.args.store.now).opening c.args.first c.args.entry.now.epoch d c.args.knows.now.stamps c.args.writes.now) c.in-None.is a.holds in
-    prepares-leads c.args.plan (g.S.Store.state c.refusal.new.store).opening c.args.first c.args.knows.now.stamps c.args.entry.now c.args.writes.now d (g.S.Store.state c.store_writes.new.store) (g.S.Store.durable c.store_writes.new.store) (g.S.Store.may c.store_writes.new.store)
-    (g.S.Store.state c.refusal.new.store) (memory_of c.args.knows.now) c.args.knows.now.entries.items c.store_writes.new.entries.items c.store_writes.result c.store_writes.ensures.entries c.store_writes.ensures.kept runs
-    (c.store_writes.ensures.stored d a.stays.kept_is c.args.first c.args.knows.now.stamps
-    (subst (λ o. IsAllowed c.args.plan o c.args.first c.args.entry.now.epoch d c.args.knows.now.stamps c.args.writes.now) (sym c.in_ok-cause.ensures.runs.opening) allowed))
-    (c.requires.can d at).absent c.requires.heard (c.requires.leads d at))
+pub returns-in-None-clause-keeps : goal.returns-in-None-clause-keeps
+returns-in-None-clause-keeps g c = record {
+  runs = runs_on halt_stop _ _ _ _ _ _ _ (still_runs halt_stop _ _ _ _ _ refl c.in_ok-cause.ensures.runs) c.store_writes.ensures.runs;
+  beside = record { hlc = refl; stamps = refl; member = refl };
+  leads = λ runs.
+      for_some_on (g.S.Store.durable c.args.store.now) _ (LeadsWell c.args.plan (memory_of c.args.knows.now) c.store_writes.new.entries.items) (c.store_writes.ensures.runs.told ∙ c.in_ok-cause.ensures.runs.told) (λ d at.
+      let a = c.in_ok-cause.ensures.checked d at in
+      let allowed : IsAllowed c.args.plan (g.S.Store.state c.args.store.now).opening c.args.first c.args.entry.now.epoch d c.args.knows.now.stamps c.args.writes.now =
+      subst (Checks c.args.plan (g.S.Store.state c.args.store.now).opening c.args.first c.args.entry.now.epoch d c.args.knows.now.stamps c.args.writes.now) c.in-None.is a.holds in
+      prepares-leads c.args.plan (g.S.Store.state c.refusal.new.store).opening c.args.first c.args.knows.now.stamps c.args.entry.now c.args.writes.now d (g.S.Store.state c.store_writes.new.store) (g.S.Store.durable c.store_writes.new.store) (g.S.Store.may c.store_writes.new.store)
+      (g.S.Store.state c.refusal.new.store) (memory_of c.args.knows.now) c.args.knows.now.entries.items c.store_writes.new.entries.items c.store_writes.result c.store_writes.ensures.entries c.store_writes.ensures.kept runs
+      (c.store_writes.ensures.stored d a.stays.kept_is c.args.first c.args.knows.now.stamps
+      (subst (λ o. IsAllowed c.args.plan o c.args.first c.args.entry.now.epoch d c.args.knows.now.stamps c.args.writes.now) (sym c.in_ok-cause.ensures.runs.opening) allowed))
+      (c.requires.can d at).absent c.requires.heard (c.requires.leads d at));
+}

@@ -1,8 +1,9 @@
-use Rattle.std.proofs.Common.{◌∙◌, [], ap, subst, sym}
+use Rattle.std.proofs.Common.{◌∙◌, [], ap, refl, subst, sym}
 use Rattle.dtx_base.specs.Leading.{begun}
 use Rattle.dtx_table.specs.Seats.{came, leader_of}
 use Rattle.world_base.specs.Requests.{sends}
 use Rattle.target_parts.specs.Knowing.{AreRowsOpen, IsApart, IsOpenHere, memory_of}
+use Rattle.target_parts.specs.Standing.{target-on}
 use Rattle.target_writes.proofs.Beginning.{begun-here, begun-rows, begun-told}
 use Rattle.target_writes.proofs.Posting.{begun-posts}
 use Rattle.target_writes.proofs.commits.begin.Goals as goal
@@ -12,12 +13,15 @@ returns-clause-begun g c x at =
     begun-told c.args.plan (memory_of c.args.knows.now) c.args.request.now c.args.from c.args.entry.now.epoch x c.begin.new.self c.in_ok-posts.posts c.sends.result
     (begun-here c.args.plan (memory_of c.args.knows.now) c.args.request.now c.args.from c.args.entry.now x c.seat_of-seat.result c.args.knows.now.entries.items c.begin.new.self c.in_ok-posts.posts
     (c.in_ok-posts.ensures.ok ∙ ap (λ ws. came (begun c.args.entry.now c.args.request.now.first c.args.from ws (leader_of c.seat_of-seat.result [] c.args.knows.now.leader))) c.as_slice.ensures)
-    c.seat_of-seat.ensures.me c.seat_of-seat.ensures.targets (c.seat_of-seat.ensures.incarnation c.requires.running x at) (c.requires.leads x at).entries c.requires.entry)
+    c.seat_of-seat.ensures.me c.seat_of-seat.ensures.targets (c.seat_of-seat.ensures.incarnation c.requires.running x at) (c.requires.target.leads c.requires.running x at).entries c.requires.entry)
     (c.sends.ensures ∙ ap (sends c.in_ok-posts.posts) c.issued_for-issued.ensures)
 
-pub returns-clause-leads : goal.returns-clause-leads
-returns-clause-leads g c x at =
-    let k = c.requires.leads x at in
+pub returns-clause-target : goal.returns-clause-target
+returns-clause-target g c =
+    target-on c.args.plan (g.S.Store.state c.args.store.now) (g.S.Store.state c.args.store.now) (g.S.Store.durable c.args.store.now) (g.S.Store.durable c.args.store.now) c.args.knows.now _ c.requires.target refl
+    (record { clock = c.requires.target.own.clock; member = c.requires.target.own.member; parked = c.requires.target.own.parked })
+    (λ running x at.
+    let k = c.requires.target.leads running x at in
     let own = ap (λ e. e.attempt) c.requires.entry in
     record {
       entries = k.entries;
@@ -26,7 +30,7 @@ returns-clause-leads g c x at =
           (subst (λ a. IsOpenHere c.args.plan.me a x) (sym own) (c.requires.here x at)) (subst (λ a. IsApart a c.args.knows.now.leader) (sym own) (c.requires.apart x at)));
       heard = k.heard;
       asks = k.asks;
-    }
+    })
 
 pub returns-clause-posts : goal.returns-clause-posts
 returns-clause-posts g c placed client =

@@ -2,11 +2,13 @@ use Rattle.std.proofs.Common.{◌≡◌, ◌∙◌, ◌/◌, ◌<◌, None, Some
 use Rattle.daos_model.specs.Changes.{leased}
 use Rattle.world_base.specs.Commits.{led_entry, own_writes}
 use Rattle.world_base.specs.Requests as asked
+use Rattle.world_posts.specs.Forms.{is_told}
 use Rattle.target_parts.specs.Covers.{heard_of}
 use Rattle.target_parts.specs.EpochLaws.{epoch-known}
-use Rattle.target_parts.specs.Knowing.{LeadsWell, memory_of}
+use Rattle.target_parts.specs.Knowing.{memory_of}
 use Rattle.target_parts.specs.KnowsLaws.{with_clock}
-use Rattle.target_parts.specs.Readying.{leads-covered, leases}
+use Rattle.target_parts.specs.Posting.{client-posts, later-posts}
+use Rattle.target_parts.specs.Readying.{leases}
 use Rattle.target_parts.specs.Running.{for_some_on}
 use Rattle.target_writes.specs.Checks.{CanStore}
 use Rattle.target_writes.proofs.CommitTurns.{can-leased, commit-cut, commit-on, commit-spent, readied, request-new}
@@ -22,51 +24,39 @@ commit_at-requires-clause-can g c =
     let said = readied c.args.knows.now.hlc ready.0 c.args.request.now.tracker c.args.request.now.ep d _ _ _ (g.S.Store.may c.ready.new.store) _ c.in-Ok-Some.field-0-is (ready.2 d at) in
     let lease = leases (c.in-Ok-Some.epoch.0 / 256) d (g.S.Store.state c.args.store.now) _ (g.S.Store.state c.ready.new.store) said.1 in
     let here = c.requires.here d at in
-    let small : c.args.knows.now.hlc.target < 256 = (let own = c.requires.own.clock in let me = c.requires.placed.me in let few = c.requires.few in omega (arith, own, me, few)) in (
+    let small : c.args.knows.now.hlc.target < 256 = (let own = c.requires.target.own.clock in let me = c.requires.target.placed.me in let few = c.requires.target.few in omega (arith, own, me, few)) in (
       leased lease.lease d,
       lease.kept_is,
       can-leased led own lease.lease d here.absent (own-enlisted c.args.plan c.args.request.now.writes d here.enlisted)
-          (request-new c.args.knows.now.hlc ready.0 c.args.request.now.tracker c.in-Ok-Some.epoch c.args.request.now.ep own d small (c.requires.leads d at).heard here.new said.0) lease.covers,
-    ))
-
-pub commit_at-requires-clause-leads : goal.commit_at-requires-clause-leads
-commit_at-requires-clause-leads g c =
-    let ready = c.in-Ok-Some.ensures.ready in
-    let heard : c.ready.new.hlc ≡ heard_of (Some c.in-Ok-Some.epoch) c.args.knows.now.hlc = c.in-Ok-Some.ensures.heard ∙ ap (λ o. heard_of o c.args.knows.now.hlc) c.in-Ok-Some.field-0-is in
-    for_some_on (g.S.Store.durable c.args.store.now) _ (LeadsWell c.args.plan (memory_of (with_clock c.ready.new.hlc c.args.knows.now)) c.args.knows.now.entries.items) c.in-Ok-Some.ensures.runs.told (λ d at.
-    let said = readied c.args.knows.now.hlc ready.0 c.args.request.now.tracker c.args.request.now.ep d _ _ _ (g.S.Store.may c.ready.new.store) _ c.in-Ok-Some.field-0-is (ready.2 d at) in
-    let lease = leases (c.in-Ok-Some.epoch.0 / 256) d (g.S.Store.state c.args.store.now) _ (g.S.Store.state c.ready.new.store) said.1 in (
-      leased lease.lease d,
-      lease.kept_is,
-      leads-covered c.args.plan lease.lease d (memory_of c.args.knows.now) (memory_of (with_clock c.ready.new.hlc c.args.knows.now)) c.args.knows.now.entries.items c.in-Ok-Some.epoch lease.rises lease.covers (ap (λ x. x.ticks) heard) refl refl (c.requires.leads d at),
+          (request-new c.args.knows.now.hlc ready.0 c.args.request.now.tracker c.in-Ok-Some.epoch c.args.request.now.ep own d small (c.requires.target.leads c.requires.running d at).heard here.new said.0) lease.covers,
     ))
 
 pub returns-in-Ok-Some-clause-turn : goal.returns-in-Ok-Some-clause-turn
 returns-in-Ok-Some-clause-turn g c =
     let ready = c.in-Ok-Some.ensures.ready in
-    let heard : c.ready.new.hlc ≡ heard_of (Some c.in-Ok-Some.epoch) c.args.knows.now.hlc = c.in-Ok-Some.ensures.heard ∙ ap (λ o. heard_of o c.args.knows.now.hlc) c.in-Ok-Some.field-0-is in (
+    let heard : c.ready.new.knows ≡ with_clock (heard_of (Some c.in-Ok-Some.epoch) c.args.knows.now.hlc) c.args.knows.now = c.in-Ok-Some.ensures.heard ∙ ap (λ o. with_clock (heard_of o c.args.knows.now.hlc) c.args.knows.now) c.in-Ok-Some.field-0-is in (
       ready.0,
       ready.1,
       λ d at.
           let said = readied c.args.knows.now.hlc ready.0 c.args.request.now.tracker c.args.request.now.ep d _ _ _ (g.S.Store.may c.ready.new.store) _ c.in-Ok-Some.field-0-is (ready.2 d at) in
           commit-on c.args.plan (g.S.Store.state c.args.store.now).opening (memory_of c.args.knows.now) ready.0 c.args.request.now c.args.from d (g.S.Store.state c.args.store.now) (g.S.Store.state c.commit_at.new.store) _ _ _ _ c.in-Ok-Some.epoch
           (g.S.Store.durable c.ready.new.store) (g.S.Store.state c.ready.new.store) (g.S.Store.state c.ready.new.store).opening c.in-Ok-Some.ensures.runs.opening
-          (epoch-known c.args.plan (memory_of c.args.knows.now) c.args.knows.now.hlc ready.0 c.args.request.now.tracker c.args.request.now.ep c.requires.own.clock refl ∙ said.0) said.1
-          (λ x here. c.commit_at.ensures.turn x here (memory_of c.args.knows.now) ready.0 (sym (ap (λ x. memory_of (with_clock x c.args.knows.now)) heard))),
+          (epoch-known c.args.plan (memory_of c.args.knows.now) c.args.knows.now.hlc ready.0 c.args.request.now.tracker c.args.request.now.ep c.requires.target.own.clock refl ∙ said.0) said.1
+          (λ x here. c.commit_at.ensures.turn x here (memory_of c.args.knows.now) ready.0 (sym (ap memory_of heard))),
     )
 
 pub returns-in-Ok-None-clause-turn : goal.returns-in-Ok-None-clause-turn
 returns-in-Ok-None-clause-turn g c =
     let ready = c.in-Ok-None.ensures.ready in
-    let heard : c.ready.new.hlc ≡ c.args.knows.now.hlc = c.in-Ok-None.ensures.heard ∙ ap (λ o. heard_of o c.args.knows.now.hlc) c.in-Ok-None.field-0-is in (
+    let heard : c.ready.new.knows ≡ with_clock c.args.knows.now.hlc c.args.knows.now = c.in-Ok-None.ensures.heard ∙ ap (λ o. with_clock (heard_of o c.args.knows.now.hlc) c.args.knows.now) c.in-Ok-None.field-0-is in (
       ready.0,
       ready.1,
       λ d at.
           let said = readied c.args.knows.now.hlc ready.0 c.args.request.now.tracker c.args.request.now.ep d _ _ _ (g.S.Store.may c.ready.new.store) _ c.in-Ok-None.field-0-is (ready.2 d at) in
           commit-spent c.args.plan (g.S.Store.state c.args.store.now).opening (memory_of c.args.knows.now) ready.0 c.args.request.now c.args.from d (g.S.Store.state c.args.store.now) (g.S.Store.state c.ready.new.store) _ _ _ _
           (asked.says c.args.from c.ended-message.result None)
-          (epoch-known c.args.plan (memory_of c.args.knows.now) c.args.knows.now.hlc ready.0 c.args.request.now.tracker c.args.request.now.ep c.requires.own.clock refl ∙ said.0) said.1
-          (ap (λ x. memory_of (with_clock x c.args.knows.now)) heard)
+          (epoch-known c.args.plan (memory_of c.args.knows.now) c.args.knows.now.hlc ready.0 c.args.request.now.tracker c.args.request.now.ep c.requires.target.own.clock refl ∙ said.0) said.1
+          (ap memory_of heard)
           (ap (λ x. asked.says c.args.from x None) c.ended-message.ensures) c.says.ensures.did c.says.ensures.wanting,
     )
 
@@ -78,6 +68,16 @@ returns-in-Err-clause-turn g c =
       λ d at.
           let said = ready.2 d at in
           commit-cut c.args.plan (g.S.Store.state c.args.store.now).opening (memory_of c.args.knows.now) ready.0 c.args.request.now c.args.from d (g.S.Store.state c.args.store.now) (g.S.Store.state c.ready.new.store) (g.S.Store.durable c.ready.new.store) (g.S.Store.may c.ready.new.store)
-          (memory_of (with_clock c.ready.new.hlc c.args.knows.now)) said.0 _
-          (epoch-known c.args.plan (memory_of c.args.knows.now) c.args.knows.now.hlc ready.0 c.args.request.now.tracker c.args.request.now.ep c.requires.own.clock refl ∙ said.1) said.2 c.stop_of.ensures,
+          (memory_of c.ready.new.knows) said.0 _
+          (epoch-known c.args.plan (memory_of c.args.knows.now) c.args.knows.now.hlc ready.0 c.args.request.now.tracker c.args.request.now.ep c.requires.target.own.clock refl ∙ said.1) said.2 c.stop_of.ensures,
     )
+
+pub returns-in-Ok-Some-clause-posts : goal.returns-in-Ok-Some-clause-posts
+returns-in-Ok-Some-clause-posts g c client =
+    let heard : c.ready.new.knows ≡ with_clock (heard_of (Some c.in-Ok-Some.epoch) c.args.knows.now.hlc) c.args.knows.now = c.in-Ok-Some.ensures.heard ∙ ap (λ o. with_clock (heard_of o c.args.knows.now.hlc) c.args.knows.now) c.in-Ok-Some.field-0-is in
+    later-posts c.args.plan.targets c.args.knows.now.leader c.ready.new.knows.leader c.commit_at.new.knows.leader c.commit_at.result (ap (λ k. k.leader) heard) (c.commit_at.ensures.posts client)
+
+pub returns-in-Ok-None-clause-posts : goal.returns-in-Ok-None-clause-posts
+returns-in-Ok-None-clause-posts g c client =
+    let heard : c.ready.new.knows ≡ with_clock c.args.knows.now.hlc c.args.knows.now = c.in-Ok-None.ensures.heard ∙ ap (λ o. with_clock (heard_of o c.args.knows.now.hlc) c.args.knows.now) c.in-Ok-None.field-0-is in
+    client-posts c.args.plan.targets c.args.knows.now.leader c.ready.new.knows.leader c.args.from c.ended-message.result None c.says.result client (ap is_told c.ended-message.ensures) (ap (λ k. k.leader) heard) c.says.ensures.did

@@ -1,8 +1,10 @@
 use Rattle.std.proofs.Common.{◌∙◌, Err, Ok, ap, refl, subst, sym}
 use Rattle.vos_store.specs.Conditions.{IsPreparable}
 use Rattle.world_base.specs.Prepares.{acks}
+use Rattle.target_parts.specs.Halts.{halt_stop}
 use Rattle.target_parts.specs.Knowing.{memory_of}
-use Rattle.target_parts.specs.KnowsLaws.{memory-same, own-beside}
+use Rattle.target_parts.specs.KnowsLaws.{memory-same}
+use Rattle.target_parts.specs.Standing.{target-kept}
 use Rattle.target_writes.specs.Checks.{CanStore}
 use Rattle.target_writes.proofs.CommitTurns.{prepares-as}
 use Rattle.target_writes.proofs.PrepareTurns.{asked-preparable, prepare-halted, prepare-told}
@@ -12,21 +14,22 @@ use Rattle.target_writes.proofs.prepares.prepare_at.Goals as goal
 pub prepare-requires-clause-form : goal.prepare-requires-clause-form
 prepare-requires-clause-form g c =
     let s = g.S.Store.state c.args.store.now in
-    subst (λ ws. IsPreparable s c.args.request.now.entry ws) (sym c.as_slice-writes.ensures) (asked-preparable c.args.plan s c.args.request.now.entry c.args.request.now.writes c.requires.placed c.requires.form)
+    subst (λ ws. IsPreparable s c.args.request.now.entry ws) (sym c.as_slice-writes.ensures) (asked-preparable c.args.plan s c.args.request.now.entry c.args.request.now.writes c.requires.target.placed c.requires.form)
 
 pub prepare-requires-clause-can : goal.prepare-requires-clause-can
 prepare-requires-clause-can g c x at = subst (λ ws. CanStore c.args.request.now.entry ws x) (sym c.as_slice-writes.ensures) (c.requires.can x at)
 
 pub returns-in-Ok-clause-turn : goal.returns-in-Ok-clause-turn
 returns-in-Ok-clause-turn g c d at m ticks =
-    let known = memory-same c.args.knows.now c.prepare.new.knows c.in-Ok.ensures.beside c.in-Ok.ensures.leader ∙ sym ticks in
+    let known = memory-same c.args.knows.now c.prepare.new.knows c.in-Ok.ensures.keeps.beside c.in-Ok.ensures.leader ∙ sym ticks in
     prepare-told c.args.plan (g.S.Store.state c.args.store.now).opening m c.args.request.now d (g.S.Store.state c.args.store.now) (g.S.Store.state c.prepare.new.store) (g.S.Store.durable c.prepare.new.store) (g.S.Store.may c.prepare.new.store)
     (memory_of c.prepare.new.knows) c.in-Ok.refusal (acks c.args.request.now c.in-Ok.refusal) c.acks.result known refl c.acks.ensures.did c.acks.ensures.wanting
     (prepares-as c.args.plan (g.S.Store.state c.args.store.now).opening m (memory_of c.args.knows.now) c.args.request.now.first c.args.request.now.entry c.args.request.now.entry c.as_slice-writes.result.now c.args.request.now.writes d (g.S.Store.state c.args.store.now)
     (g.S.Store.durable c.prepare.new.store) (g.S.Store.state c.prepare.new.store) (g.S.Store.may c.prepare.new.store) (Ok c.in-Ok.refusal) (Ok c.in-Ok.refusal) (sym (ap (λ x. x.stamps) ticks)) refl c.as_slice-writes.ensures refl (c.in-Ok.ensures.prepared d at))
 
-pub returns-in-Ok-clause-own : goal.returns-in-Ok-clause-own
-returns-in-Ok-clause-own g c = own-beside c.args.plan c.args.knows.now c.prepare.new.knows c.in-Ok.ensures.beside c.requires.own
+pub returns-in-Ok-clause-target : goal.returns-in-Ok-clause-target
+returns-in-Ok-clause-target g c =
+    target-kept c.args.plan halt_stop _ (g.S.Store.state c.args.store.now) (g.S.Store.state c.prepare.new.store) (g.S.Store.durable c.args.store.now) (g.S.Store.durable c.prepare.new.store) c.args.knows.now c.prepare.new.knows c.requires.target c.in-Ok.ensures.keeps
 
 pub returns-in-Err-clause-turn : goal.returns-in-Err-clause-turn
 returns-in-Err-clause-turn g c d at m ticks =
@@ -35,8 +38,9 @@ returns-in-Err-clause-turn g c d at m ticks =
     (prepares-as c.args.plan (g.S.Store.state c.args.store.now).opening m (memory_of c.args.knows.now) c.args.request.now.first c.args.request.now.entry c.args.request.now.entry c.as_slice-writes.result.now c.args.request.now.writes d (g.S.Store.state c.args.store.now)
     (g.S.Store.durable c.prepare.new.store) (g.S.Store.state c.prepare.new.store) (g.S.Store.may c.prepare.new.store) (Err c.in-Err.halt) (Err c.in-Err.halt) (sym (ap (λ x. x.stamps) ticks)) refl c.as_slice-writes.ensures refl (c.in-Err.ensures.prepared d at))
 
-pub returns-in-Err-clause-own : goal.returns-in-Err-clause-own
-returns-in-Err-clause-own g c = own-beside c.args.plan c.args.knows.now c.prepare.new.knows c.in-Err.ensures.beside c.requires.own
+pub returns-in-Err-clause-target : goal.returns-in-Err-clause-target
+returns-in-Err-clause-target g c =
+    target-kept c.args.plan halt_stop _ (g.S.Store.state c.args.store.now) (g.S.Store.state c.prepare.new.store) (g.S.Store.durable c.args.store.now) (g.S.Store.durable c.prepare.new.store) c.args.knows.now c.prepare.new.knows c.requires.target c.in-Err.ensures.keeps
 
 pub returns-in-Ok-clause-posts : goal.returns-in-Ok-clause-posts
 returns-in-Ok-clause-posts g c =

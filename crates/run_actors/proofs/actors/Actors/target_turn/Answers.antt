@@ -11,6 +11,7 @@ use Rattle.run_actors.proofs.Hearing.{hearable}
 use Rattle.run_actors.proofs.Turns.{target-hears, target-idles}
 use Rattle.run_base.specs.Picks.{count_to}
 use Rattle.target_parts.specs.Parts.{Runs, kept}
+use Rattle.target_parts.specs.Readings.{IsReadOn, not-read_on, read-up_to}
 use Rattle.target_parts.specs.Running.{still_runs}
 use Rattle.target_parts.specs.Stops.{stop_memory, stop_store}
 use Rattle.world_base.specs.Letters.{target}
@@ -103,14 +104,16 @@ returns-in_err-did-clause-stores g c =
     let x = c.index_mut-target.result.now in
     let at = at-index c.args.self.now.targets.items c.args.t x c.requires.within c.index_mut-target.ensures.value in
     let is : c.from_residual.result ≡ Err c.in_err-did.field-0.0 = search rules in
-    run-stopped g.S.Store.durable g.S.Store.state c.in_err-did.field-0.0 c.from_residual.result c.args.self.now.targets.items c.args.t x c.hear.new.self c.requires.going.running at is c.in_err-did.ensures.runs
+    run-stopped g.S.Store.durable g.S.Store.state g.C.Clock.is_read c.in_err-did.field-0.0 c.from_residual.result c.args.self.now.targets.items c.args.t x c.hear.new.self c.requires.going.running at is c.in_err-did.ensures.runs
+    (read-up_to g.C.Clock.is_read _ x.clock c.hear.new.self.clock c.in_err-did.ensures.clock)
 
 pub returns-in_err-did-2-clause-stores : goal.returns-in_err-did-2-clause-stores
 returns-in_err-did-2-clause-stores g c =
     let x = c.index_mut-target.result.now in
     let at = at-index c.args.self.now.targets.items c.args.t x c.requires.within c.index_mut-target.ensures.value in
     let is : c.from_residual-in_err-did-2.result ≡ Err c.in_err-did-2.field-0.0 = search rules in
-    run-stopped g.S.Store.durable g.S.Store.state c.in_err-did-2.field-0.0 c.from_residual-in_err-did-2.result c.args.self.now.targets.items c.args.t x c.idle.new.self c.requires.going.running at is c.in_err-did-2.ensures.runs
+    run-stopped g.S.Store.durable g.S.Store.state g.C.Clock.is_read c.in_err-did-2.field-0.0 c.from_residual-in_err-did-2.result c.args.self.now.targets.items c.args.t x c.idle.new.self c.requires.going.running at is c.in_err-did-2.ensures.runs
+    (subst (IsReadOn g.C.Clock.is_read x.clock) (sym c.in_err-did-2.ensures.clock) (not-read_on g.C.Clock.is_read x.clock))
 
 pub returns-in-Ok-clause-stores : goal.returns-in-Ok-clause-stores
 returns-in-Ok-clause-stores g c =
@@ -118,11 +121,13 @@ returns-in-Ok-clause-stores g c =
     let at = at-index c.args.self.now.targets.items c.args.t x c.requires.within c.index_mut-target.ensures.value in
     elim c.if-hears.branch [
       | then-hears+in_ok-did b ↦
-          run-whole g.S.Store.durable g.S.Store.state c.if-hears.did (Ok (tt {0})) c.args.self.now.targets.items c.if-hears.self.1.1.0.items c.args.t x b.hear.new.self c.requires.going.running at refl (ap (λ z. z.1.1.0.items) b.self-is)
+          run-whole g.S.Store.durable g.S.Store.state g.C.Clock.is_read c.if-hears.did (Ok (tt {0})) c.args.self.now.targets.items c.if-hears.self.1.1.0.items c.args.t x b.hear.new.self c.requires.going.running at refl (ap (λ z. z.1.1.0.items) b.self-is)
           (subst (λ z. Runs stop_store (Ok z) (g.S.Store.state x.store) (g.S.Store.state b.hear.new.self.store) (g.S.Store.durable x.store) (g.S.Store.durable b.hear.new.self.store)) (sym b.did-is) b.in_ok-did.ensures.runs)
+          (read-up_to g.C.Clock.is_read _ x.clock b.hear.new.self.clock b.in_ok-did.ensures.clock)
       | else-hears+in_ok-did-2 b ↦
-          run-whole g.S.Store.durable g.S.Store.state c.if-hears.did (Ok (tt {0})) c.args.self.now.targets.items c.if-hears.self.1.1.0.items c.args.t x b.idle.new.self c.requires.going.running at refl (ap (λ z. z.1.1.0.items) b.self-is)
+          run-whole g.S.Store.durable g.S.Store.state g.C.Clock.is_read c.if-hears.did (Ok (tt {0})) c.args.self.now.targets.items c.if-hears.self.1.1.0.items c.args.t x b.idle.new.self c.requires.going.running at refl (ap (λ z. z.1.1.0.items) b.self-is)
           (subst (λ z. Runs stop_store (Ok z) (g.S.Store.state x.store) (g.S.Store.state b.idle.new.self.store) (g.S.Store.durable x.store) (g.S.Store.durable b.idle.new.self.store)) (sym b.did-is) b.in_ok-did-2.ensures.runs)
+          (subst (IsReadOn g.C.Clock.is_read x.clock) (sym b.in_ok-did-2.ensures.clock) (not-read_on g.C.Clock.is_read x.clock))
     ]
 
 pub returns-in-Err-clause-stores : goal.returns-in-Err-clause-stores
@@ -131,9 +136,11 @@ returns-in-Err-clause-stores g c =
     let at = at-index c.args.self.now.targets.items c.args.t x c.requires.within c.index_mut-target.ensures.value in
     elim c.if-hears.branch [
       | then-hears+in_ok-did b ↦
-          run-whole g.S.Store.durable g.S.Store.state c.if-hears.did (Err stop_memory) c.args.self.now.targets.items c.if-hears.self.1.1.0.items c.args.t x b.hear.new.self c.requires.going.running at refl (ap (λ z. z.1.1.0.items) b.self-is)
+          run-whole g.S.Store.durable g.S.Store.state g.C.Clock.is_read c.if-hears.did (Err stop_memory) c.args.self.now.targets.items c.if-hears.self.1.1.0.items c.args.t x b.hear.new.self c.requires.going.running at refl (ap (λ z. z.1.1.0.items) b.self-is)
           (subst (λ z. Runs stop_store (Ok z) (g.S.Store.state x.store) (g.S.Store.state b.hear.new.self.store) (g.S.Store.durable x.store) (g.S.Store.durable b.hear.new.self.store)) (sym b.did-is) b.in_ok-did.ensures.runs)
+          (read-up_to g.C.Clock.is_read _ x.clock b.hear.new.self.clock b.in_ok-did.ensures.clock)
       | else-hears+in_ok-did-2 b ↦
-          run-whole g.S.Store.durable g.S.Store.state c.if-hears.did (Err stop_memory) c.args.self.now.targets.items c.if-hears.self.1.1.0.items c.args.t x b.idle.new.self c.requires.going.running at refl (ap (λ z. z.1.1.0.items) b.self-is)
+          run-whole g.S.Store.durable g.S.Store.state g.C.Clock.is_read c.if-hears.did (Err stop_memory) c.args.self.now.targets.items c.if-hears.self.1.1.0.items c.args.t x b.idle.new.self c.requires.going.running at refl (ap (λ z. z.1.1.0.items) b.self-is)
           (subst (λ z. Runs stop_store (Ok z) (g.S.Store.state x.store) (g.S.Store.state b.idle.new.self.store) (g.S.Store.durable x.store) (g.S.Store.durable b.idle.new.self.store)) (sym b.did-is) b.in_ok-did-2.ensures.runs)
+          (subst (IsReadOn g.C.Clock.is_read x.clock) (sym b.in_ok-did-2.ensures.clock) (not-read_on g.C.Clock.is_read x.clock))
     ]
