@@ -2,8 +2,6 @@
 #![tactic(auto)]
 
 #[cfg(test)]
-mod leaders;
-#[cfg(test)]
 mod members;
 #[cfg(test)]
 mod tables;
