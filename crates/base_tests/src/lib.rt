@@ -28,5 +28,3 @@ mod paths;
 mod places;
 #[cfg(test)]
 mod slots;
-#[cfg(test)]
-mod stamps;
