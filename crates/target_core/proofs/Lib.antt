@@ -1,2 +1,3 @@
-mod VerdictHeard
+mod Cutting
+mod Heard
 mod Posting

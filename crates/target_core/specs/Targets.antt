@@ -17,19 +17,20 @@ use Rattle.world_base.specs.declared.target.TargetPlan.{TargetPlan}
 use Rattle.world_base.specs.Acks as ack
 use Rattle.world_base.specs.Changes.{Kept}
 use Rattle.world_base.specs.Commits as commit
+use Rattle.world_base.specs.CutTurns.{Cutting, HearingIsCut, IdleWorkIsCut, listed_issue}
+use Rattle.world_base.specs.Further.{KnowsNoneDown}
 use Rattle.world_base.specs.Idle.{IdleNext}
 use Rattle.world_base.specs.Marks.{MarkNext}
 use Rattle.world_base.specs.Prepares as prepare
 use Rattle.world_base.specs.Reads as read
 use Rattle.world_base.specs.Roles.{is_prepared, told_by}
-use Rattle.world_base.specs.TargetTurns.{Hears, IdlesCut, IdlesWhole, commit_request, fetch_request, prepare_request}
+use Rattle.world_base.specs.TargetTurns.{Hears, IdlesWhole, commit_request, fetch_request, prepare_request}
 use Rattle.world_base.specs.Verdicts as verdict
 pub use Rattle.world_posts.specs.Forms.{HasForm, is_of_client}
 use Rattle.target_parts.specs.declared.stop.TargetStop.{TargetStop}
 use Rattle.target_parts.specs.declared.stop.TargetStop.TheVariants as stop
-use Rattle.target_parts.specs.Parts.{Now, Partway, kept}
+use Rattle.target_parts.specs.Parts.{Now, Partway, kept, left_by}
 pub use Rattle.target_parts.specs.Standing.{IsTarget}
-use Rattle.target_parts.specs.Stops.{CutTelling, commit_issued, fetch_issued, never}
 use Rattle.target_writes.specs.Checks.{CanCommit}
 use Rattle.target_writes.specs.Turns.{CanPrepareHere}
 
@@ -59,20 +60,15 @@ has_epoch m = true
 
 -- ---- what a turn comes to
 
--- a turn in which a message is heard was cut short
-abbrev pub HearsCutTelling : TargetPlan → Epoch × FloorWhy → TargetMemory → ℕ → ActorId → Message → Kept → (Durable → Type 0) → Option (AttemptId × Epoch) → List Line → Type 0
-HearsCutTelling t opening m reading from (Fetch x op group ep first tracker r snapshot) old finds issued lines =
-    CutTelling (read.FetchNext t m reading (fetch_request x op group ep first tracker r snapshot)) (fetch_issued (fetch_request x op group ep first tracker r snapshot)) read.Asked old finds issued lines
-HearsCutTelling t opening m reading from (Commit x ep first tracker ws) old finds issued lines =
-    CutTelling (commit.CommitNext t opening m reading (commit_request x ep first tracker ws)) (commit_issued (commit_request x ep first tracker ws)) commit.Asked old finds issued lines
-HearsCutTelling t opening m reading from (Prepare e first ws inc) old finds issued lines =
-    CutTelling (prepare.PrepareNext t opening m (prepare_request e first ws inc)) never prepare.Heard old finds issued lines
-HearsCutTelling t opening m reading from (Ack x inc refusal) old finds issued lines = CutTelling (ack.AckNext t m from.number x inc refusal) never ack.Heard old finds issued lines
-HearsCutTelling t opening m reading from (Mark inc marks) old finds issued lines = CutTelling (MarkNext is_prepared) never marks old finds issued lines
-HearsCutTelling t opening m reading from (Marked inc ids) old finds issued lines = CutTelling (ack.MarkedNext t m from.number) never (ack.to_confirm inc ids old.durable) old finds issued lines
-HearsCutTelling t opening m reading from (Query x ask) old finds issued lines = CutTelling verdict.QueryNext never verdict.IsAsked old finds issued lines
-HearsCutTelling t opening m reading from (Verdict x ask inc v) old finds issued lines = CutTelling (verdict.VerdictNext is_prepared t (told_by v x m) reading x ask v) never verdict.Heard old finds issued lines
-HearsCutTelling t opening m reading from other old finds issued lines = ⊥
+-- what a turn leaves that the store's stop cut, where the next opening finds this
+abbrev pub cutting : Kept → Option (AttemptId × Epoch) → List Line → Cutting
+cutting x issued lines = record { left = x; issued = listed_issue issued; lines = lines }
+
+-- A turn in which a message is heard was cut short, as the world knows it, whatever the next opening finds; where no member of a Commit is
+-- known to be down.
+abbrev pub HearsCut : TargetPlan → Epoch × FloorWhy → TargetMemory → ℕ → ActorId → Message → Kept → (Kept → Type 0) → Option (AttemptId × Epoch) → List Line → Type 0
+HearsCut t opening m reading from message old finds issued lines =
+    (number : ℕ) → KnowsNoneDown t m message → (x : Kept) → finds x → HearingIsCut is_prepared number t opening m reading from message old (cutting x issued lines)
 
 -- some of the changes of a turn in which a message is heard were made
 abbrev pub HearsPartway : TargetPlan → Epoch × FloorWhy → TargetMemory → ℕ → ActorId → Message → Kept → Kept → Type 0
@@ -90,20 +86,18 @@ HearsPartway t opening m reading from other old mid = ⊥
 -- keeps and knows and what follows; or it was cut short; or memory was wanting, and some changes were made, each whole.
 abbrev pub HearsOrStops : TargetPlan → TargetMemory → ℕ → ActorId → Message → Durable → State → Option Durable → State → (Durable → Type 0) → TargetMemory → Result Did TargetStop → Type 0
 HearsOrStops t m reading from message d h new k finds left (Ok did) = Now new k (λ l. Hears t h.opening m reading from message (kept d h) l (left, did))
-HearsOrStops t m reading from message d h new k finds left (Err (stop.Store issued lines)) = HearsCutTelling t h.opening m reading from message (kept d h) finds issued lines
+HearsOrStops t m reading from message d h new k finds left (Err (stop.Store issued lines)) = HearsCut t h.opening m reading from message (kept d h) (left_by k finds) issued lines
 HearsOrStops t m reading from message d h new k finds left (Err (stop.Foreign at byte)) = ⊥
 HearsOrStops t m reading from message d h new k finds left (Err stop.Memory) = Now new k (HearsPartway t h.opening m reading from message (kept d h))
 
--- idle work that was cut short issued no epoch and added no line
-pub record IdleCut (m : TargetMemory) (old : Kept) (finds : Durable → Type 0) (issued : Option (AttemptId × Epoch)) (lines : List Line) : Type 0 where
-  pub cut : IdlesCut m old finds
-  pub none_issued : issued ≡ None
-  pub no_lines : lines ≡ []
+-- idle work was cut short, whatever the next opening finds
+abbrev pub IdlesCut : TargetPlan → TargetMemory → Kept → (Kept → Type 0) → Option (AttemptId × Epoch) → List Line → Type 0
+IdlesCut t m old finds issued lines = (x : Kept) → finds x → IdleWorkIsCut t.me m old (cutting x issued lines)
 
 -- Idle work: it is whole, and these are what the target then keeps and knows and what follows; or it was cut short; or memory was
 -- wanting, and some changes were made, each whole.
 abbrev pub IdlesOrStops : Bool → TargetPlan → TargetMemory → Durable → State → Option Durable → State → (Durable → Type 0) → TargetMemory → Result Did TargetStop → Type 0
 IdlesOrStops settling t m d h new k finds left (Ok did) = Now new k (λ l. IdlesWhole settling t m (kept d h) l (left, did))
-IdlesOrStops settling t m d h new k finds left (Err (stop.Store issued lines)) = IdleCut m (kept d h) finds issued lines
+IdlesOrStops settling t m d h new k finds left (Err (stop.Store issued lines)) = IdlesCut t m (kept d h) (left_by k finds) issued lines
 IdlesOrStops settling t m d h new k finds left (Err (stop.Foreign at byte)) = ⊥
 IdlesOrStops settling t m d h new k finds left (Err stop.Memory) = Now new k (Partway IdleNext m.leader.decided (kept d h))

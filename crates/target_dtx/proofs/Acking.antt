@@ -28,7 +28,7 @@ use Rattle.world_base.specs.Turns.{CutShort, Reached, Whole}
 use Rattle.target_parts.specs.Keeping.{MadeIf}
 use Rattle.target_parts.specs.KeepingLaws.{open-aborts}
 use Rattle.target_parts.specs.Knowing.{AreRowsOpen, IsApart, LeadsWell}
-use Rattle.target_parts.specs.Parts.{Now, kept}
+use Rattle.target_parts.specs.Parts.{Now, kept, left_by}
 use Rattle.target_parts.specs.RowKeeping.{ack-rows, undecided-open, without-apart}
 use Rattle.target_parts.specs.Turning.{cut_in_change, reached_change, reached_silent, whole}
 use Rattle.world_base.specs.PathLaws.{reached-here}
@@ -119,6 +119,6 @@ module _ (t : TargetPlan) (m : TargetMemory) (member : ℕ) (a : AttemptId) (inc
 
   -- or that was cut
   pub ack-cut : (b : Bool) (finds : Durable → Type 0) (e : Stopped) → b ≡ is_refusing member a inc refusal (leader_at t m d) → MadeIf b (Settles a Abort) d h new k finds (Err e)
-      → CutShort (AckNext t m member a inc refusal) Heard (kept d h) finds
-  ack-cut true finds e is cut = cut_in_change (AckNext t m member a inc refusal) Heard (kept d h) Heard (kept d h) (Settles a Abort) (Followed comes) finds (reached-here (AckNext t m member a inc refusal) Heard (kept d h)) (Aborts (kept d h) (sym is)) cut
+      → CutShort (AckNext t m member a inc refusal) Heard (kept d h) (left_by k finds)
+  ack-cut true finds e is cut = cut_in_change (AckNext t m member a inc refusal) Heard (kept d h) Heard (kept d h) (Settles a Abort) (Followed comes) (left_by k finds) (reached-here (AckNext t m member a inc refusal) Heard (kept d h)) (Aborts (kept d h) (sym is)) cut
   ack-cut false finds e is none = absurd none

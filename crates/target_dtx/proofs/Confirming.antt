@@ -35,7 +35,7 @@ use Rattle.target_parts.specs.Keeping.{MadeIf}
 use Rattle.target_parts.specs.KeepingLaws.{apart-unless}
 use Rattle.target_parts.specs.Knowing.{AreRowsOpen, IsApart, LeadsWell}
 use Rattle.target_parts.specs.Listing.{one_cut, one_more}
-use Rattle.target_parts.specs.Parts.{Now, kept}
+use Rattle.target_parts.specs.Parts.{Now, kept, left_by}
 use Rattle.target_parts.specs.RowKeeping.{rows-named}
 use Rattle.target_parts.specs.Turning.{whole}
 use Rattle.target_dtx.proofs.Items.{item-itself}
@@ -103,7 +103,7 @@ module _ (t : TargetPlan) (m : TargetMemory) (member : ℕ) (ids : List AttemptI
     pub confirms-on : MadeIf (may d) (Settles x (Confirm member)) d h new k finds (Ok tt) → Now new k (λ l. Reached (MarkedNext t m member) ids old (drop (i + 1) ids) l)
     confirms-on made = one_more (MarkedNext t m member) ids old i x (may d) (Settles x (Confirm member)) d h k new finds within (item-itself ids i z within) changes passes reached made
 
-    pub confirms-cut : (e : Stopped) → MadeIf (may d) (Settles x (Confirm member)) d h new k finds (Err e) → CutShort (MarkedNext t m member) ids old finds
+    pub confirms-cut : (e : Stopped) → MadeIf (may d) (Settles x (Confirm member)) d h new k finds (Err e) → CutShort (MarkedNext t m member) ids old (left_by k finds)
     confirms-cut e made = one_cut (MarkedNext t m member) ids old i x (may d) (Settles x (Confirm member)) d h k new finds within (item-itself ids i z within) changes passes reached e made
 
 -- none is left: the Mark got its answer

@@ -57,7 +57,7 @@ module _ (all : List AttemptId) (old : Kept) (a : AttemptId) (rest : List Attemp
         (reached_change IdleNext all old (a ∷ rest) (kept d h) (Settles a Commit) rest (kept (made (Settles a Commit) d) k) reached (SettlesFirst (kept d h) a rest) refl did.free);
   }
 
-  pub idles-cut : (finds : Durable → Type 0) → WasCut (Settles a Commit) d finds → CutShort IdleNext all old finds
+  pub idles-cut : (finds : Kept → Type 0) → WasCut (Settles a Commit) (kept d h) finds → CutShort IdleNext all old finds
   idles-cut finds cut = cut_in_change IdleNext all old (a ∷ rest) (kept d h) (Settles a Commit) rest finds reached (SettlesFirst (kept d h) a rest) cut
 
 -- ---- the attempts that are left, as the code sees them
@@ -73,7 +73,7 @@ module _ (xs : List AttemptId) (a : AttemptId) (some : (length xs == 0) ≡ fals
       by [] some first = let no : ⊥ = cc in absurd no
       by (x ∷ rest) some first = subst (λ y. length (without_row itself y (x ∷ rest)) < length (x ∷ rest)) (sym first) (fewer-left x rest)
 
-  module _ (all : List AttemptId) (old : Kept) (d : Durable) (h k : State) (new : Option Durable) (finds : Durable → Type 0) (rising : is_rising attempt_key xs ≡ true) (reached : Reached IdleNext all old xs (kept d h)) where
+  module _ (all : List AttemptId) (old : Kept) (d : Durable) (h k : State) (new : Option Durable) (finds : Kept → Type 0) (rising : is_rising attempt_key xs ≡ true) (reached : Reached IdleNext all old xs (kept d h)) where
     pub idles-more : Did (Settles a Commit) d h new k → Now new k (λ l. Reached IdleNext all old (without_row itself a xs) l)
     idles-more did = by xs some first rising reached
       where
@@ -81,12 +81,12 @@ module _ (xs : List AttemptId) (a : AttemptId) (some : (length xs == 0) ≡ fals
         by [] some first rising reached = let no : ⊥ = cc in absurd no
         by (x ∷ rest) some first rising reached = subst (λ y. Did (Settles y Commit) d h new k → Now new k (λ l. Reached IdleNext all old (without_row itself y (x ∷ rest)) l)) (sym first) (idles-on all old x rest d h rising reached k new) did
 
-    pub idles-stop : WasCut (Settles a Commit) d finds → CutShort IdleNext all old finds
+    pub idles-stop : WasCut (Settles a Commit) (kept d h) finds → CutShort IdleNext all old finds
     idles-stop cut = by xs some first rising reached
       where
         by : (xs : List AttemptId) → (length xs == 0) ≡ false → a ≡ get_or xs 0 none_decided → is_rising attempt_key xs ≡ true → Reached IdleNext all old xs (kept d h) → CutShort IdleNext all old finds
         by [] some first rising reached = let no : ⊥ = cc in absurd no
-        by (x ∷ rest) some first rising reached = subst (λ y. WasCut (Settles y Commit) d finds → CutShort IdleNext all old finds) (sym first) (idles-cut all old x rest d h rising reached finds) cut
+        by (x ∷ rest) some first rising reached = subst (λ y. WasCut (Settles y Commit) (kept d h) finds → CutShort IdleNext all old finds) (sym first) (idles-cut all old x rest d h rising reached finds) cut
 
 pub none-left : (xs : List AttemptId) → (length xs == 0) ≡ true → xs ≡ []
 none-left [] empty = refl

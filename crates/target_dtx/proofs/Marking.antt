@@ -19,7 +19,7 @@ use Rattle.world_base.specs.Roles.{is_prepared, told_of, told_of_all}
 use Rattle.world_base.specs.Turns.{CutShort, Reached, Whole}
 use Rattle.target_parts.specs.Keeping.{MadeIf}
 use Rattle.target_parts.specs.Listing.{one_cut, one_more}
-use Rattle.target_parts.specs.Parts.{Now, kept}
+use Rattle.target_parts.specs.Parts.{Now, kept, left_by}
 use Rattle.target_parts.specs.Turning.{whole}
 use Rattle.target_dtx.proofs.Items.{item-itself}
 
@@ -46,7 +46,7 @@ module _ (marks : List (AttemptId × Bool)) (old : Kept) (i : ℕ) (z : AttemptI
     marks-on made = one_more (MarkNext is_prepared) marks old i x (is_prepared x.0 d) (Settles x.0 step) d h k new finds within (item-itself marks i z within) changes passes reached made
 
     -- or is cut
-    pub marks-cut : (e : Stopped) → MadeIf (is_prepared x.0 d) (Settles x.0 step) d h new k finds (Err e) → CutShort (MarkNext is_prepared) marks old finds
+    pub marks-cut : (e : Stopped) → MadeIf (is_prepared x.0 d) (Settles x.0 step) d h new k finds (Err e) → CutShort (MarkNext is_prepared) marks old (left_by k finds)
     marks-cut e made = one_cut (MarkNext is_prepared) marks old i x (is_prepared x.0 d) (Settles x.0 step) d h k new finds within (item-itself marks i z within) changes passes reached e made
 
 -- what is known once one more is done

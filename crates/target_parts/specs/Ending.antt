@@ -12,7 +12,7 @@ use Rattle.target_parts.specs.declared.halt.Halt.{Halt}
 use Rattle.target_parts.specs.declared.halt.Halt.TheVariants as halt
 use Rattle.target_parts.specs.declared.stop.TargetStop.{TargetStop}
 use Rattle.target_parts.specs.declared.stop.TargetStop.TheVariants as stop
-use Rattle.target_parts.specs.Parts.{Now, Part, Partway}
+use Rattle.target_parts.specs.Parts.{Now, Part, Partway, left_by}
 use Rattle.target_parts.specs.Stops.{Turn, stop_memory, stop_of, stop_store}
 use Rattle.target_parts.specs.Turning.{reached_on}
 use Rattle.world_base.specs.PathLaws.{whole-on}
@@ -40,7 +40,7 @@ module _ {S : Type 0} (Next : S → Kept → Option Change → S → Type 0) (is
       by halt.Memory partway = partway
 
   -- a turn that was cut, in which no epoch is issued
-  pub turn_cut : (Done : Did → Kept → Type 0) (r : Result Did TargetStop) → ((s : S) → issued_at s ≡ None) → r ≡ Err (stop_of halt.Stopped None) → CutShort Next start old finds → Turn Next issued_at start old Done new k finds r
+  pub turn_cut : (Done : Did → Kept → Type 0) (r : Result Did TargetStop) → ((s : S) → issued_at s ≡ None) → r ≡ Err (stop_of halt.Stopped None) → CutShort Next start old (left_by k finds) → Turn Next issued_at start old Done new k finds r
   turn_cut Done r never is cut = subst (λ x. Turn Next issued_at start old Done new k finds x) (sym is) (record { cut = cut; issued_is = sym (never cut.last); no_lines = refl })
 
   -- a turn for which memory was wanting

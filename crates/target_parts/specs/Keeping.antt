@@ -6,12 +6,12 @@ use Rattle.daos_model.specs.declared.durable.Durable.{Durable}
 use Rattle.vos_store.specs.Calls.{State}
 use Rattle.vos_store.specs.declared.refusal.Stopped.{Stopped}
 use Rattle.world_base.specs.Changes.{Change}
-use Rattle.target_parts.specs.Parts.{Did, Stays, WasCut}
+use Rattle.target_parts.specs.Parts.{Did, Stays, WasCut, kept, left_by}
 
 -- a change was made, or was cut
 abbrev pub MadeOrCut : Change → Durable → State → Option Durable → State → (Durable → Type 0) → Result (Unit {0}) Stopped → Type 0
 MadeOrCut c d h new k finds (Ok u) = Did c d h new k
-MadeOrCut c d h new k finds (Err e) = WasCut c d finds
+MadeOrCut c d h new k finds (Err e) = WasCut c (kept d h) (left_by k finds)
 
 -- nothing was changed, and nothing cut
 abbrev pub StaysUncut : Durable → State → Option Durable → State → Result (Unit {0}) Stopped → Type 0

@@ -8,7 +8,7 @@ use Rattle.vos_store.specs.declared.refusal.Stopped.{Stopped}
 use Rattle.world_base.specs.Changes.{Change, Kept, made}
 use Rattle.world_base.specs.Turns.{CutShort, Reached}
 use Rattle.target_parts.specs.Keeping.{MadeIf}
-use Rattle.target_parts.specs.Parts.{Now, kept}
+use Rattle.target_parts.specs.Parts.{Now, kept, left_by}
 use Rattle.target_parts.specs.Turning.{cut_in_change, now_stays, reached_change, reached_silent}
 
 module _ {T : Type 0} (Next : List T → Kept → Option Change → List T → Type 0) (xs : List T) (old : Kept) (i : ℕ) (x : T) (b : Bool) (c : Change) (d : Durable) (h k : State) (new : Option Durable) (finds : Durable → Type 0)
@@ -38,11 +38,11 @@ module _ {T : Type 0} (Next : List T → Kept → Option Change → List T → T
         }
 
     -- or its change is cut
-    pub one_cut : (e : Stopped) → MadeIf b c d h new k finds (Err e) → CutShort Next xs old finds
+    pub one_cut : (e : Stopped) → MadeIf b c d h new k finds (Err e) → CutShort Next xs old (left_by k finds)
     one_cut e made_if = by b refl made_if
       where
-        by : (a : Bool) → b ≡ a → MadeIf a c d h new k finds (Err e) → CutShort Next xs old finds
-        by true is cut = cut_in_change Next xs old (x ∷ drop (i + 1) xs) (kept d h) c (drop (i + 1) xs) finds here (changes is (kept d h) refl) cut
+        by : (a : Bool) → b ≡ a → MadeIf a c d h new k finds (Err e) → CutShort Next xs old (left_by k finds)
+        by true is cut = cut_in_change Next xs old (x ∷ drop (i + 1) xs) (kept d h) c (drop (i + 1) xs) (left_by k finds) here (changes is (kept d h) refl) cut
         by false is none = absurd none
 
 -- nothing of the list is left

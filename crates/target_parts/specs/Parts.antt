@@ -5,7 +5,7 @@ use Rattle.vos_store.specs.Calls.{Ailed, Fires, IsUnfailing, State}
 use Rattle.vos_store.specs.Refusals.{always_stop, says}
 use Rattle.vos_store.specs.Unfailing.{RunsOn}
 use Rattle.vos_store.specs.declared.refusal.Stopped.{Stopped}
-use Rattle.world_base.specs.Changes.{Change, Cut, Kept, cost, made}
+use Rattle.world_base.specs.Changes.{Change, IsAskedAlone, IsCut, Kept, cost, made}
 use Rattle.world_base.specs.Turns.{CutShort, Reached}
 use Rattle.target_parts.specs.declared.halt.Halt.{Halt}
 use Rattle.target_parts.specs.declared.halt.Halt.TheVariants as halt
@@ -38,9 +38,13 @@ pub record Did (c : Change) (d : Durable) (h : State) (new : Option Durable) (k 
   pub kept_is : new ≡ Some (made c d)
   pub free : h.free ≤ k.free + cost c
 
+-- what the next opening of a store that stopped may find, with the blocks that are free then
+abbrev pub left_by : State → (Durable → Type 0) → Kept → Type 0
+left_by k finds x = finds x.durable × (x.free ≡ k.free)
+
 -- a change was cut
-abbrev pub WasCut : Change → Durable → (Durable → Type 0) → Type 0
-WasCut c d finds = (x : Durable) → finds x → Cut c d x
+abbrev pub WasCut : Change → Kept → (Kept → Type 0) → Type 0
+WasCut c l finds = (x : Kept) → finds x → IsCut c l x
 
 -- nothing was changed
 pub record Stays (d : Durable) (h : State) (new : Option Durable) (k : State) : Type 0 where
@@ -48,8 +52,8 @@ pub record Stays (d : Durable) (h : State) (new : Option Durable) (k : State) : 
   pub free : k.free ≡ h.free
 
 -- a question was cut
-abbrev pub WasAsked : Durable → (Durable → Type 0) → Type 0
-WasAsked d finds = (x : Durable) → finds x → x ≡ d
+abbrev pub WasAsked : Kept → (Kept → Type 0) → Type 0
+WasAsked l finds = (x : Kept) → finds x → IsAskedAlone l x
 
 -- a question was answered, and changed nothing
 pub record Answered {T : Type 0} (P : T → Type 0) (x : T) (d : Durable) (h : State) (new : Option Durable) (k : State) : Type 0 where
@@ -59,7 +63,7 @@ pub record Answered {T : Type 0} (P : T → Type 0) (x : T) (d : Durable) (h : S
 -- A question: it was answered so; or it was cut; or memory was wanting.
 abbrev pub Asks : {T : Type 0} → (T → Type 0) → Durable → State → Option Durable → State → (Durable → Type 0) → Result T Halt → Type 0
 Asks P d h new k finds (Ok x) = Answered P x d h new k
-Asks P d h new k finds (Err halt.Stopped) = WasAsked d finds
+Asks P d h new k finds (Err halt.Stopped) = WasAsked (kept d h) (left_by k finds)
 Asks P d h new k finds (Err halt.Memory) = Stays d h new k
 
 -- what is kept now
@@ -76,5 +80,5 @@ pub record Partway {S : Type 0} (Next : S → Kept → Option Change → S → T
 -- A part of a turn: it came whole to what it is for; or it was cut short; or memory was wanting on the way.
 abbrev pub Part : {S T : Type 0} → (S → Kept → Option Change → S → Type 0) → S → Kept → (T → Kept → Type 0) → Option Durable → State → (Durable → Type 0) → Result T Halt → Type 0
 Part Next start old Done new k finds (Ok x) = Now new k (Done x)
-Part Next start old Done new k finds (Err halt.Stopped) = CutShort Next start old finds
+Part Next start old Done new k finds (Err halt.Stopped) = CutShort Next start old (left_by k finds)
 Part Next start old Done new k finds (Err halt.Memory) = Now new k (Partway Next start old)

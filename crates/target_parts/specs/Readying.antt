@@ -104,7 +104,7 @@ module _ {S : Type 0} (Next : S → Kept → Option Change → S → Type 0) (is
         (covered (kept (leased lease d) k) (lease_covers ticks lease lease_is)))
 
     -- extending it was cut
-    pub covers_cut : (d : Durable) (h : State) (finds : Durable → Type 0) → CoverCut ticks d finds → CutTelling Next issued_at asked (kept d h) finds None []
+    pub covers_cut : (d : Durable) (h : State) (finds : Kept → Type 0) → CoverCut ticks d h finds → CutTelling Next issued_at asked (kept d h) finds None []
     covers_cut d h finds c = record {
       cut = record {
         last = known;

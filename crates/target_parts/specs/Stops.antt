@@ -17,7 +17,7 @@ use Rattle.target_parts.specs.declared.halt.Halt.{Halt}
 use Rattle.target_parts.specs.declared.halt.Halt.TheVariants as halt
 use Rattle.target_parts.specs.declared.stop.TargetStop.{TargetStop}
 use Rattle.target_parts.specs.declared.stop.TargetStop.TheVariants as stop
-use Rattle.target_parts.specs.Parts.{Now, Partway}
+use Rattle.target_parts.specs.Parts.{Now, Partway, left_by}
 
 -- ---- which stop it is
 
@@ -54,7 +54,7 @@ commit_issued q (commit.Stored e) = issued_for q.attempt q.ep e
 -- ---- a turn
 
 -- a turn that was cut short, the epoch that it issued by the stage that it had come to, and its lines, which are none
-pub record CutTelling {S : Type 0} (Next : S → Kept → Option Change → S → Type 0) (issued_at : S → Option (AttemptId × Epoch)) (start : S) (old : Kept) (finds : Durable → Type 0) (issued : Option (AttemptId × Epoch)) (lines : List Line) : Type 0 where
+pub record CutTelling {S : Type 0} (Next : S → Kept → Option Change → S → Type 0) (issued_at : S → Option (AttemptId × Epoch)) (start : S) (old : Kept) (finds : Kept → Type 0) (issued : Option (AttemptId × Epoch)) (lines : List Line) : Type 0 where
   pub cut : CutShort Next start old finds
   pub issued_is : issued ≡ issued_at cut.last
   pub no_lines : lines ≡ []
@@ -62,7 +62,7 @@ pub record CutTelling {S : Type 0} (Next : S → Kept → Option Change → S �
 -- A turn from a stage on: it came whole to its end; or it was cut short; or memory was wanting on the way.
 abbrev pub Turn : {S : Type 0} → (S → Kept → Option Change → S → Type 0) → (S → Option (AttemptId × Epoch)) → S → Kept → (Did → Kept → Type 0) → Option Durable → State → (Durable → Type 0) → Result Did TargetStop → Type 0
 Turn Next issued_at start old Done new k finds (Ok did) = Now new k (Done did)
-Turn Next issued_at start old Done new k finds (Err (stop.Store issued lines)) = CutTelling Next issued_at start old finds issued lines
+Turn Next issued_at start old Done new k finds (Err (stop.Store issued lines)) = CutTelling Next issued_at start old (left_by k finds) issued lines
 Turn Next issued_at start old Done new k finds (Err (stop.Foreign at byte)) = ⊥
 Turn Next issued_at start old Done new k finds (Err stop.Memory) = Now new k (Partway Next start old)
 

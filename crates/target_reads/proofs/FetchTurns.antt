@@ -28,7 +28,7 @@ use Rattle.target_parts.specs.Ending.{partway_of, turn_on, turn_said}
 use Rattle.target_parts.specs.Knowing.{IsBeside, IsOwn, IsReadAsked, memory_of}
 use Rattle.target_parts.specs.EpochLaws.{epoch-known}
 use Rattle.target_parts.specs.KnowsLaws.{memory-beside}
-use Rattle.target_parts.specs.Parts.{Now, Stays, kept}
+use Rattle.target_parts.specs.Parts.{Now, Stays, kept, left_by}
 use Rattle.target_parts.specs.Readying.{covers_cut, covers_reached, leases}
 use Rattle.target_parts.specs.Stops.{fetch_issued, stop_memory, stop_of}
 use Rattle.target_parts.specs.Turning.{now_stays, reached_silent, whole}
@@ -151,8 +151,8 @@ module _ (t : TargetPlan) (m : TargetMemory) (reading : ℕ) (q : FetchRequest) 
 
 -- or the lease was to be extended, and that was cut
 pub fetch-cut : (t : TargetPlan) (m : TargetMemory) (reading : ℕ) (q : FetchRequest) (from : ActorId) (d : Durable) (h k : State) (new : Option Durable) (finds : Durable → Type 0) (left : TargetMemory) (e : Epoch) (stop : TargetStop)
-    → q.snapshot ≡ false → request_epoch t m reading q.tracker q.ep ≡ Some e → CoverCut (e.0 / 256) d finds → stop ≡ stop_of halt.Stopped None → FetchTurn t m reading q from read.Asked d h new k finds left (Err stop)
+    → q.snapshot ≡ false → request_epoch t m reading q.tracker q.ep ≡ Some e → CoverCut (e.0 / 256) d h (left_by k finds) → stop ≡ stop_of halt.Stopped None → FetchTurn t m reading q from read.Asked d h new k finds left (Err stop)
 fetch-cut t m reading q from d h k new finds left e stop snapshot ep cut is =
     subst (λ x. FetchTurn t m reading q from read.Asked d h new k finds left (Err x)) (sym is)
     (covers_cut (FetchNext t m reading q) (fetch_issued q) read.Asked (read.Known e) (read.Reading e m.leader.decided) (e.0 / 256) (λ l. read.HasEpoch l e snapshot ep) (λ l x low is. read.ExtendsLease l e x low is)
-    (λ l is. read.IsCovered l e is) refl d h finds cut)
+    (λ l is. read.IsCovered l e is) refl d h (left_by k finds) cut)

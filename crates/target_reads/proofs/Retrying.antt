@@ -66,7 +66,7 @@ module _ (t : TargetPlan) (m : TargetMemory) (reading : ℕ) (a : AttemptId) (as
       (tried-to k w.last l w.reached) (IsDone l n posts rest q w.last (left, did) w.ends)
 
   -- one that was cut
-  pub tried-cut : (k : Kept) (finds : Durable → Type 0) → CutShort (FetchNext t n reading q) read.Asked k finds → CutShort (VerdictNext is_prepared t m reading a ask v) (Freed (fetch_message q ∷ rest) n posts) k finds
+  pub tried-cut : (k : Kept) (finds : Kept → Type 0) → CutShort (FetchNext t n reading q) read.Asked k finds → CutShort (VerdictNext is_prepared t m reading a ask v) (Freed (fetch_message q ∷ rest) n posts) k finds
   tried-cut k finds c = record { last = trying c.last; mid = c.mid; reached = tried-to k c.last c.mid c.reached; cut = by c.cut }
     where
       by : CutAt (FetchNext t n reading q) c.last c.mid finds → CutAt (VerdictNext is_prepared t m reading a ask v) (trying c.last) c.mid finds

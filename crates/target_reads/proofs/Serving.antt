@@ -88,9 +88,9 @@ module _ (t : TargetPlan) (m : TargetMemory) (reading : ℕ) (q : FetchRequest) 
       }
 
   -- that was cut
-  pub serves_cut : (b : AttemptId) (x : Met) (d : Durable) (h k : State) (mid : Option Durable) (finds : Durable → Type 0)
+  pub serves_cut : (b : AttemptId) (x : Met) (d : Durable) (h k : State) (mid : Option Durable) (finds : Kept → Type 0)
       → Reached (FetchNext t m reading q) (Reading e first) old (Reading e decided) (kept d h) → Answered (Meets t q e d) x d h mid k → x ≡ met.Unsettled b → Contains decided b
-      → WasCut (Settles b Commit) d finds → CutShort (FetchNext t m reading q) (Reading e first) old finds
+      → WasCut (Settles b Commit) (kept d k) finds → CutShort (FetchNext t m reading q) (Reading e first) old finds
   serves_cut b x d h k mid finds r a is among cut =
       let says = subst (Meets t q e d) is a.holds in
       cut_in_change (FetchNext t m reading q) (Reading e first) old (Reading e decided) (kept d k) (Settles b Commit) (Reading e (filter (is_other_attempt b) decided)) finds

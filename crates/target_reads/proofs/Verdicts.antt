@@ -28,7 +28,7 @@ use Rattle.target_parts.specs.declared.stop.TargetStop.TheVariants as stop
 use Rattle.target_parts.specs.KeepingLaws.{ask-stays}
 use Rattle.target_parts.specs.Knowing.{IsAskHere, IsOwn, LeadsWell, memory_of}
 use Rattle.target_parts.specs.Knowing as knowing
-use Rattle.target_parts.specs.Parts.{Now, Partway, kept}
+use Rattle.target_parts.specs.Parts.{Now, Partway, kept, left_by}
 use Rattle.target_parts.specs.Stops.{Turn, never}
 use Rattle.target_parts.specs.Turning.{cut_in_change, cut_on, now_stays, reached_change, reached_on, reached_silent, whole}
 use Rattle.target_reads.specs.Again.{AreHere, AreParkable, MadeSome, TriedTurn}
@@ -67,7 +67,7 @@ module _ (t : TargetPlan) (m : TargetMemory) (reading : ℕ) (a : AttemptId) (as
         where
           by : (e : TargetStop) → FetchTurn t n reading one.q (record { client = true; number = one.q.attempt.client }) Asked d h new k finds left (Err e) → Turn Next never all old Done new k finds (Err e)
           by (stop.Store issued lines) cut = record {
-            cut = cut_on Next all (Freed (fetch_message one.q ∷ rest) n posts) old (kept d h) finds (at one.q one.asks) (tried-cut t m reading a ask v n one.q rest posts (kept d h) finds cut.cut);
+            cut = cut_on Next all (Freed (fetch_message one.q ∷ rest) n posts) old (kept d h) (left_by k finds) (at one.q one.asks) (tried-cut t m reading a ask v n one.q rest posts (kept d h) (left_by k finds) cut.cut);
             issued_is = cut.issued_is ∙ known-unissued one.q cut.cut.last one.known;
             no_lines = cut.no_lines;
           }
@@ -115,12 +115,12 @@ module _ (t : TargetPlan) (m : TargetMemory) (reading : ℕ) (a : AttemptId) (as
         holds = reached_change Next Heard (kept d h) Heard (kept d h) c freed (kept (made c d) k) (reached-here Next Heard (kept d h)) (SettlesBy (kept d h) (Some c) is) refl did.free;
       }
 
-  pub verdict-cut : (d : Durable) (h k : State) (new : Option Durable) (finds : Durable → Type 0) (e : Stopped) → MadeSome (settling_change a (settles_by is_prepared v a d)) d h new k finds (Err e) → CutShort Next Heard (kept d h) finds
+  pub verdict-cut : (d : Durable) (h k : State) (new : Option Durable) (finds : Durable → Type 0) (e : Stopped) → MadeSome (settling_change a (settles_by is_prepared v a d)) d h new k finds (Err e) → CutShort Next Heard (kept d h) (left_by k finds)
   verdict-cut d h k new finds e done = by (settling_change a (settles_by is_prepared v a d)) refl done
     where
-      by : (o : Option Change) → o ≡ settling_change a (settles_by is_prepared v a d) → MadeSome o d h new k finds (Err e) → CutShort Next Heard (kept d h) finds
+      by : (o : Option Change) → o ≡ settling_change a (settles_by is_prepared v a d) → MadeSome o d h new k finds (Err e) → CutShort Next Heard (kept d h) (left_by k finds)
       by None is none = absurd none
-      by (Some c) is cut = cut_in_change Next Heard (kept d h) Heard (kept d h) c freed finds (reached-here Next Heard (kept d h)) (SettlesBy (kept d h) (Some c) is) cut
+      by (Some c) is cut = cut_in_change Next Heard (kept d h) Heard (kept d h) c freed (left_by k finds) (reached-here Next Heard (kept d h)) (SettlesBy (kept d h) (Some c) is) cut
 
 -- ---- what is here stays here
 

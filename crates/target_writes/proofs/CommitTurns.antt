@@ -32,7 +32,7 @@ use Rattle.target_parts.specs.Ending.{partway_of, turn_on, turn_said}
 use Rattle.target_parts.specs.EpochLaws.{issued-unused}
 use Rattle.target_parts.specs.KeepingLaws.{enlisted-leased}
 use Rattle.target_parts.specs.Knowing.{IsHeard}
-use Rattle.target_parts.specs.Parts.{Did, Now, Stays, kept}
+use Rattle.target_parts.specs.Parts.{Did, Now, Stays, kept, left_by}
 use Rattle.target_parts.specs.Readying.{covers_cut, covers_reached, entry_of-leased, leases}
 use Rattle.target_parts.specs.Stops.{commit_issued, stop_memory, stop_of}
 use Rattle.target_parts.specs.Turning.{now_stays, whole}
@@ -103,11 +103,11 @@ module _ (t : TargetPlan) (opening : Epoch × FloorWhy) (m : TargetMemory) (read
 
 -- or the lease was to be extended, and that was cut
 pub commit-cut : (t : TargetPlan) (opening : Epoch × FloorWhy) (m : TargetMemory) (reading : ℕ) (q : CommitRequest) (from : ActorId) (d : Durable) (h k : State) (new : Option Durable) (finds : Durable → Type 0) (left : TargetMemory) (e : Epoch) (stop : TargetStop)
-    → request_epoch t m reading q.tracker q.ep ≡ Some e → CoverCut (e.0 / 256) d finds → stop ≡ stop_of halt.Stopped None → CommitTurn t opening m reading q from commit.Asked d h new k finds left (Err stop)
+    → request_epoch t m reading q.tracker q.ep ≡ Some e → CoverCut (e.0 / 256) d h (left_by k finds) → stop ≡ stop_of halt.Stopped None → CommitTurn t opening m reading q from commit.Asked d h new k finds left (Err stop)
 commit-cut t opening m reading q from d h k new finds left e stop ep cut is =
     subst (λ x. CommitTurn t opening m reading q from commit.Asked d h new k finds left (Err x)) (sym is)
     (covers_cut (CommitNext t opening m reading q) (commit_issued q) commit.Asked (commit.Known e) (commit.Checking e) (e.0 / 256) (λ l. commit.HasEpoch l e ep) (λ l x low is. commit.ExtendsLease l e x low is)
-    (λ l is. commit.IsCovered l e is) refl d h finds cut)
+    (λ l is. commit.IsCovered l e is) refl d h (left_by k finds) cut)
 
 -- ---- from the checks on
 

@@ -25,7 +25,7 @@ use Rattle.target_parts.specs.declared.halt.Halt.TheVariants as halt
 use Rattle.target_parts.specs.declared.stop.TargetStop.{TargetStop}
 use Rattle.target_parts.specs.Covers.{CoverCut, Covers, DidCover, WasExtended}
 use Rattle.target_parts.specs.Ending.{turn_cut, turn_on}
-use Rattle.target_parts.specs.Parts.{Now, kept}
+use Rattle.target_parts.specs.Parts.{Now, kept, left_by}
 use Rattle.target_parts.specs.Readying.{lease_covers}
 use Rattle.target_parts.specs.Stops.{never, stop_memory, stop_of}
 use Rattle.target_parts.specs.Turning.{cut_in_change, now_stays, reached_change, reached_silent}
@@ -76,10 +76,10 @@ module _ (t : TargetPlan) (opening : Epoch × FloorWhy) (m : TargetMemory) (q : 
       (subst (λ o. PrepareTurn t o m q prepare.Checking now.durable j new k finds left result) same (turn now.durable now.kept_is))
 
   -- or it was to be extended, and that was cut
-  pub prepare-cut : (stop : TargetStop) → CoverCut (q.entry.epoch.0 / 256) d finds → stop ≡ stop_of halt.Stopped None → PrepareTurn t opening m q prepare.Heard d h new k finds left (Err stop)
+  pub prepare-cut : (stop : TargetStop) → CoverCut (q.entry.epoch.0 / 256) d h (left_by k finds) → stop ≡ stop_of halt.Stopped None → PrepareTurn t opening m q prepare.Heard d h new k finds left (Err stop)
   prepare-cut stop c is =
       turn_cut Next never prepare.Heard (kept d h) new k finds (λ did l. Whole Next (PrepareEnds t opening m q) prepare.Heard (kept d h) l (left, did)) (Err stop) (λ s. refl) (ap Err is)
-      (cut_in_change Next prepare.Heard (kept d h) prepare.Heard (kept d h) (Extends c.lease) prepare.Heard finds (reached-here Next prepare.Heard (kept d h)) (prepare.ExtendsLease (kept d h) c.lease c.low c.lease_is) c.cut)
+      (cut_in_change Next prepare.Heard (kept d h) prepare.Heard (kept d h) (Extends c.lease) prepare.Heard (left_by k finds) (reached-here Next prepare.Heard (kept d h)) (prepare.ExtendsLease (kept d h) c.lease c.low c.lease_is) c.cut)
 
   -- ---- from the checks on
 

@@ -22,7 +22,7 @@ use Rattle.world_base.specs.Commits.{FirstRead, IsAllowed, IsRefusedBy, NoReads,
 pub use Rattle.world_posts.specs.Forms.{AreWrites}
 use Rattle.target_parts.specs.declared.halt.Halt.{Halt}
 use Rattle.target_parts.specs.declared.halt.Halt.TheVariants as halt
-use Rattle.target_parts.specs.Parts.{Did, Stays, WasAsked, WasCut}
+use Rattle.target_parts.specs.Parts.{Did, Stays, WasAsked, WasCut, kept, left_by}
 
 -- the first write's later read, or none stands against the writes
 abbrev pub AnswersReads : Epoch → List Shown → List MinorWrite → Option Shown → Type 0
@@ -68,7 +68,7 @@ pub record FindsSpace (t : TargetPlan) (opening : Epoch × FloorWhy) (first : Op
 abbrev pub PreparesOrNot : TargetPlan → Epoch × FloorWhy → Option Epoch → List Shown → Entry → List MinorWrite → Durable → State → Option Durable → State → (Durable → Type 0) → Result (Option Outcome) Halt → Type 0
 PreparesOrNot t opening first stamps e ws d h new k finds (Ok None) = FindsSpace t opening first e.epoch d stamps ws h.free × Did (Prepares e ws) d h new k
 PreparesOrNot t opening first stamps e ws d h new k finds (Ok (Some how)) = IsRefusal t opening first e.epoch d stamps ws h.free how × Stays d h new k
-PreparesOrNot t opening first stamps e ws d h new k finds (Err halt.Stopped) = WasAsked d finds ⊎ (FindsSpace t opening first e.epoch d stamps ws h.free × WasCut (Prepares e ws) d finds)
+PreparesOrNot t opening first stamps e ws d h new k finds (Err halt.Stopped) = WasAsked (kept d h) (left_by k finds) ⊎ (FindsSpace t opening first e.epoch d stamps ws h.free × WasCut (Prepares e ws) (kept d h) (left_by k finds))
 PreparesOrNot t opening first stamps e ws d h new k finds (Err halt.Memory) = Stays d h new k
 
 -- the entries that are known once writes were stored or not

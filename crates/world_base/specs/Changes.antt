@@ -69,3 +69,11 @@ pub data Cut (c : Change) (d : Durable) (x : Durable) : Type 0 where
   Before : x ≡ d → Cut c d x
   After : x ≡ made c d → Cut c d x
   InPart : IsPartly c d x → Cut c d x
+
+-- a change of what is kept was cut, and has cost its blocks at most
+abbrev pub IsCut : Change → Kept → Kept → Type 0
+IsCut c k x = Cut c k.durable x.durable × (k.free ≤ x.free + cost c)
+
+-- a question was cut, which changes nothing
+abbrev pub IsAskedAlone : Kept → Kept → Type 0
+IsAskedAlone k x = (x.durable ≡ k.durable) × (k.free ≤ x.free)

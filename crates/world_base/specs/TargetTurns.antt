@@ -9,7 +9,6 @@ use Rattle.base_types.specs.declared.outcome.FloorWhy.{FloorWhy}
 use Rattle.base_messages.specs.declared.actor.ActorId.{ActorId}
 use Rattle.base_messages.specs.declared.message.Message.{Message}
 use Rattle.base_messages.specs.declared.message.Message.TheVariants.{Ack, Commit, Fetch, Mark, Marked, Prepare, Query, Verdict}
-use Rattle.daos_model.specs.declared.durable.Durable.{Durable}
 use Rattle.dtx_base.specs.Leading.{attempts_of}
 use Rattle.world_base.specs.declared.did.Did.{Did}
 use Rattle.world_base.specs.declared.request.CommitRequest.{CommitRequest}
@@ -25,7 +24,7 @@ use Rattle.world_base.specs.Marks.{MarkEnds, MarkNext}
 use Rattle.world_base.specs.Prepares as prepare
 use Rattle.world_base.specs.Reads as read
 use Rattle.world_base.specs.Roles.{is_prepared, told_by, told_of_all}
-use Rattle.world_base.specs.Turns.{CutShort, Whole}
+use Rattle.world_base.specs.Turns.{Whole}
 use Rattle.world_base.specs.Verdicts as verdict
 
 -- a message that a target hears so far
@@ -79,26 +78,8 @@ Hears t opening m reading from (Verdict x ask inc v) old new left =
     Whole (verdict.VerdictNext is_prepared t (told_by v x m) reading x ask v) verdict.VerdictEnds verdict.Heard old new left
 Hears t opening m reading from other old new left = ⊥
 
--- a turn in which a target hears a message was cut short
-abbrev pub HearsCut : TargetPlan → Epoch × FloorWhy → TargetMemory → ℕ → ActorId → Message → Kept → (Durable → Type 0) → Type 0
-HearsCut t opening m reading from (Fetch x op group ep first tracker r snapshot) old finds =
-    CutShort (read.FetchNext t m reading (fetch_request x op group ep first tracker r snapshot)) read.Asked old finds
-HearsCut t opening m reading from (Commit x ep first tracker ws) old finds =
-    CutShort (commit.CommitNext t opening m reading (commit_request x ep first tracker ws)) commit.Asked old finds
-HearsCut t opening m reading from (Prepare e first ws inc) old finds = CutShort (prepare.PrepareNext t opening m (prepare_request e first ws inc)) prepare.Heard old finds
-HearsCut t opening m reading from (Ack x inc refusal) old finds = CutShort (ack.AckNext t m from.number x inc refusal) ack.Heard old finds
-HearsCut t opening m reading from (Mark inc marks) old finds = CutShort (MarkNext is_prepared) marks old finds
-HearsCut t opening m reading from (Marked inc ids) old finds = CutShort (ack.MarkedNext t m from.number) (ack.to_confirm inc ids old.durable) old finds
-HearsCut t opening m reading from (Query x ask) old finds = CutShort verdict.QueryNext verdict.IsAsked old finds
-HearsCut t opening m reading from (Verdict x ask inc v) old finds =
-    CutShort (verdict.VerdictNext is_prepared t (told_by v x m) reading x ask v) verdict.Heard old finds
-HearsCut t opening m reading from other old finds = ⊥
-
 -- ---- idle work
 
 -- a target does its idle work, in the settling phase or before it
 abbrev pub IdlesWhole : Bool → TargetPlan → TargetMemory → Kept → Kept → TargetMemory × Did → Type 0
 IdlesWhole settling t m old new left = Whole IdleNext (IdleEnds settling t m) m.leader.decided old new left
-
-abbrev pub IdlesCut : TargetMemory → Kept → (Durable → Type 0) → Type 0
-IdlesCut m old finds = CutShort IdleNext m.leader.decided old finds

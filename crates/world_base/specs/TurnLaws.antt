@@ -64,7 +64,7 @@ pub marked-plain : (t : TargetPlan) (m : TargetMemory) (member : ℕ) → AllPla
 marked-plain t m member s k o u (ack.Confirms j a rest is) = refl
 marked-plain t m member s k o u (ack.PassesBy j a rest is) = tt
 
-query-plain : AllPlain verdict.QueryNext
+pub query-plain : AllPlain verdict.QueryNext
 query-plain s k o u (verdict.Answers j) = tt
 
 settling-plain : (a : AttemptId) (step : Option Settle) → IsPlainly (verdict.settling_change a step)

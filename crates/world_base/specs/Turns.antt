@@ -1,7 +1,6 @@
 -- A turn as the steps that a target makes, one after another.
 use Rattle.std.specs.Prelude.{◌≡◌, List, [], ◌∷◌, ◌++◌, Option, Some, None}
-use Rattle.daos_model.specs.declared.durable.Durable.{Durable}
-use Rattle.world_base.specs.Changes.{Change, Cut, Kept, Steps}
+use Rattle.world_base.specs.Changes.{Change, IsAskedAlone, IsCut, Kept, Steps}
 
 abbrev pub listed : Option Change → List Change
 listed None = []
@@ -25,14 +24,14 @@ pub record Whole {S R : Type 0} (Next : S → Kept → Option Change → S → T
   pub reached : Reached Next start old last new
   pub ends : Ends last new result
 
--- Where a turn was cut: in a change, of which it is open whether it was made, or in a question, which changes nothing. The
--- next opening finds what stood before, or what the change makes of it.
-pub data CutAt {S : Type 0} (Next : S → Kept → Option Change → S → Type 0) (last : S) (mid : Kept) (finds : Durable → Type 0) : Type 0 where
-  InChange : (c : Change) (t : S) → Next last mid (Some c) t → ((x : Durable) → finds x → Cut c mid.durable x) → CutAt Next last mid finds
-  InQuestion : ((x : Durable) → finds x → x ≡ mid.durable) → CutAt Next last mid finds
+-- Where a turn was cut: in a change, of which it is open whether it was made and which may have cost its blocks, or in a question, which
+-- changes nothing. The next opening finds what stood before, or what the change makes of it.
+pub data CutAt {S : Type 0} (Next : S → Kept → Option Change → S → Type 0) (last : S) (mid : Kept) (finds : Kept → Type 0) : Type 0 where
+  InChange : (c : Change) (t : S) → Next last mid (Some c) t → ((x : Kept) → finds x → IsCut c mid x) → CutAt Next last mid finds
+  InQuestion : ((x : Kept) → finds x → IsAskedAlone mid x) → CutAt Next last mid finds
 
 -- a turn that was cut short: steps, and then the cut
-pub record CutShort {S : Type 0} (Next : S → Kept → Option Change → S → Type 0) (start : S) (old : Kept) (finds : Durable → Type 0) : Type 0 where
+pub record CutShort {S : Type 0} (Next : S → Kept → Option Change → S → Type 0) (start : S) (old : Kept) (finds : Kept → Type 0) : Type 0 where
   pub last : S
   pub mid : Kept
   pub reached : Reached Next start old last mid

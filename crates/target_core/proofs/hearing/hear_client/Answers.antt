@@ -1,5 +1,7 @@
-use Rattle.std.proofs.Common.{subst}
-use Rattle.target_core.specs.Targets.{CanHear}
+use Rattle.std.proofs.Common.{subst, sym}
+use Rattle.target_parts.specs.Knowing.{memory_of}
+use Rattle.target_core.specs.Targets.{CanHear, HearsOrStops}
+use Rattle.target_core.proofs.Heard.{hears-commit, hears-fetch}
 use Rattle.target_core.proofs.hearing.hear_client.Goals as goal
 
 pub hear_fetch-requires-clause-enlisted : goal.hear_fetch-requires-clause-enlisted
@@ -7,3 +9,25 @@ hear_fetch-requires-clause-enlisted g c d at = subst (λ m. CanHear c.args.plan 
 
 pub hear_commit-requires-clause-here : goal.hear_commit-requires-clause-here
 hear_commit-requires-clause-here g c d at = subst (λ m. CanHear c.args.plan m d) c.in-Commit.is (c.requires.here d at)
+
+pub returns-in-Fetch-clause-turn : goal.returns-in-Fetch-clause-turn
+returns-in-Fetch-clause-turn g c = (
+  c.hear_fetch.ensures.turn.0,
+  c.hear_fetch.ensures.turn.1,
+  λ d at.
+      subst (λ m. HearsOrStops c.args.plan (memory_of c.args.knows.now) c.hear_fetch.ensures.turn.0 c.args.from m d (g.S.Store.state c.args.store.now) (g.S.Store.durable c.hear_fetch.new.store) (g.S.Store.state c.hear_fetch.new.store)
+      (g.S.Store.may c.hear_fetch.new.store) (memory_of c.hear_fetch.new.knows) c.hear_fetch.result) (sym c.in-Fetch.is)
+      (hears-fetch c.args.plan (memory_of c.args.knows.now) c.hear_fetch.ensures.turn.0 c.args.from d (g.S.Store.state c.args.store.now) _ _ _ _ c.in-Fetch.attempt c.in-Fetch.op c.in-Fetch.group c.in-Fetch.ep c.in-Fetch.first c.in-Fetch.tracker c.in-Fetch.read c.in-Fetch.snapshot c.hear_fetch.result
+      (c.hear_fetch.ensures.turn.2 d at)),
+)
+
+pub returns-in-Commit-clause-turn : goal.returns-in-Commit-clause-turn
+returns-in-Commit-clause-turn g c = (
+  c.hear_commit.ensures.turn.0,
+  c.hear_commit.ensures.turn.1,
+  λ d at.
+      subst (λ m. HearsOrStops c.args.plan (memory_of c.args.knows.now) c.hear_commit.ensures.turn.0 c.args.from m d (g.S.Store.state c.args.store.now) (g.S.Store.durable c.hear_commit.new.store) (g.S.Store.state c.hear_commit.new.store)
+      (g.S.Store.may c.hear_commit.new.store) (memory_of c.hear_commit.new.knows) c.hear_commit.result) (sym c.in-Commit.is)
+      (hears-commit c.args.plan (memory_of c.args.knows.now) c.hear_commit.ensures.turn.0 c.args.from d (g.S.Store.state c.args.store.now) _ _ _ _ c.in-Commit.attempt c.in-Commit.ep c.in-Commit.first c.in-Commit.tracker c.in-Commit.writes c.hear_commit.result
+      (c.hear_commit.ensures.turn.2 d at)),
+)

@@ -1,15 +1,50 @@
 use Rattle.std.proofs.Common.{subst, sym}
 use Rattle.target_parts.specs.Knowing.{memory_of}
 use Rattle.target_core.specs.Targets.{CanHear, HearsOrStops}
-use Rattle.target_core.proofs.VerdictHeard.{hears-verdict}
+use Rattle.target_core.proofs.Heard.{hears-ack, hears-mark, hears-marked, hears-prepare, hears-query, hears-verdict}
 use Rattle.target_core.proofs.hearing.hear_target.Goals as goal
 
 pub hear_prepare-requires-clause-here : goal.hear_prepare-requires-clause-here
 hear_prepare-requires-clause-here g c d at = subst (λ m. CanHear c.args.plan m d) c.in-Prepare.is (c.requires.here d at)
 
+pub returns-in-Prepare-clause-turn : goal.returns-in-Prepare-clause-turn
+returns-in-Prepare-clause-turn g c d at reading =
+    subst (λ m. HearsOrStops c.args.plan (memory_of c.args.knows.now) reading c.args.from m d (g.S.Store.state c.args.store.now) (g.S.Store.durable c.hear_prepare.new.store) (g.S.Store.state c.hear_prepare.new.store)
+    (g.S.Store.may c.hear_prepare.new.store) (memory_of c.hear_prepare.new.knows) c.hear_prepare.result) (sym c.in-Prepare.is)
+    (hears-prepare c.args.plan (memory_of c.args.knows.now) reading c.args.from d (g.S.Store.state c.args.store.now) _ _ _ _ c.in-Prepare.entry c.in-Prepare.first c.in-Prepare.writes c.in-Prepare.inc c.hear_prepare.result
+    (c.hear_prepare.ensures.turn d at))
+
+pub returns-in-Ack-clause-turn : goal.returns-in-Ack-clause-turn
+returns-in-Ack-clause-turn g c d at reading =
+    subst (λ m. HearsOrStops c.args.plan (memory_of c.args.knows.now) reading c.args.from m d (g.S.Store.state c.args.store.now) (g.S.Store.durable c.hear_ack.new.store) (g.S.Store.state c.hear_ack.new.store)
+    (g.S.Store.may c.hear_ack.new.store) (memory_of c.hear_ack.new.knows) c.hear_ack.result) (sym c.in-Ack.is)
+    (hears-ack c.args.plan (memory_of c.args.knows.now) reading c.args.from d (g.S.Store.state c.args.store.now) _ _ _ _ c.in-Ack.attempt c.in-Ack.inc c.in-Ack.refusal c.hear_ack.result
+    (c.hear_ack.ensures.turn d at))
+
+pub returns-in-Mark-clause-turn : goal.returns-in-Mark-clause-turn
+returns-in-Mark-clause-turn g c d at reading =
+    subst (λ m. HearsOrStops c.args.plan (memory_of c.args.knows.now) reading c.args.from m d (g.S.Store.state c.args.store.now) (g.S.Store.durable c.hear_mark.new.store) (g.S.Store.state c.hear_mark.new.store)
+    (g.S.Store.may c.hear_mark.new.store) (memory_of c.hear_mark.new.knows) c.hear_mark.result) (sym c.in-Mark.is)
+    (hears-mark c.args.plan (memory_of c.args.knows.now) reading c.args.from d (g.S.Store.state c.args.store.now) _ _ _ _ c.in-Mark.inc c.in-Mark.marks c.hear_mark.result
+    (c.hear_mark.ensures.turn d at))
+
+pub returns-in-Marked-clause-turn : goal.returns-in-Marked-clause-turn
+returns-in-Marked-clause-turn g c d at reading =
+    subst (λ m. HearsOrStops c.args.plan (memory_of c.args.knows.now) reading c.args.from m d (g.S.Store.state c.args.store.now) (g.S.Store.durable c.hear_marked.new.store) (g.S.Store.state c.hear_marked.new.store)
+    (g.S.Store.may c.hear_marked.new.store) (memory_of c.hear_marked.new.knows) c.hear_marked.result) (sym c.in-Marked.is)
+    (hears-marked c.args.plan (memory_of c.args.knows.now) reading c.args.from d (g.S.Store.state c.args.store.now) _ _ _ _ c.in-Marked.inc c.in-Marked.attempts c.hear_marked.result
+    (c.hear_marked.ensures.turn d at))
+
+pub returns-in-Query-clause-turn : goal.returns-in-Query-clause-turn
+returns-in-Query-clause-turn g c d at reading =
+    subst (λ m. HearsOrStops c.args.plan (memory_of c.args.knows.now) reading c.args.from m d (g.S.Store.state c.args.store.now) (g.S.Store.durable c.args.store.now) (g.S.Store.state c.args.store.now)
+    (g.S.Store.may c.args.store.now) (memory_of c.args.knows.now) c.hear_query.result) (sym c.in-Query.is)
+    (hears-query c.args.plan (memory_of c.args.knows.now) reading c.args.from d (g.S.Store.state c.args.store.now) _ _ _ _ c.in-Query.attempt c.in-Query.ask c.hear_query.result
+    (c.hear_query.ensures.turn d at))
+
 pub returns-in-Verdict-clause-turn : goal.returns-in-Verdict-clause-turn
 returns-in-Verdict-clause-turn g c d at reading =
     subst (λ m. HearsOrStops c.args.plan (memory_of c.args.knows.now) reading c.args.from m d (g.S.Store.state c.args.store.now) (g.S.Store.durable c.hear_verdict.new.store) (g.S.Store.state c.hear_verdict.new.store)
     (g.S.Store.may c.hear_verdict.new.store) (memory_of c.hear_verdict.new.knows) c.hear_verdict.result) (sym c.in-Verdict.is)
-    (hears-verdict c.args.plan (memory_of c.args.knows.now) reading c.args.from c.in-Verdict.attempt c.in-Verdict.ask c.in-Verdict.inc c.in-Verdict.verdict d (g.S.Store.state c.args.store.now) _ _ _ _ c.hear_verdict.result
+    (hears-verdict c.args.plan (memory_of c.args.knows.now) reading c.args.from d (g.S.Store.state c.args.store.now) _ _ _ _ c.in-Verdict.attempt c.in-Verdict.ask c.in-Verdict.inc c.in-Verdict.verdict c.hear_verdict.result
     (c.hear_verdict.ensures.turn d at reading))

@@ -3,7 +3,7 @@ use Rattle.std.specs.Prelude.{◌==◌}
 use Rattle.vos_store.specs.Refusals.{always_stop}
 use Rattle.world_base.specs.Idle.{IdleNext}
 use Rattle.world_base.specs.Turns.{Reached}
-use Rattle.target_parts.specs.Parts.{Now, kept}
+use Rattle.target_parts.specs.Parts.{Now, kept, left_by}
 use Rattle.target_parts.specs.Running.{runs_first, runs_on, still_runs}
 use Rattle.target_dtx.specs.Dtx.{GoesThrough}
 use Rattle.target_dtx.proofs.Idling.{fewer, idles-more, idles-stop, none-left, none_decided}
@@ -34,7 +34,7 @@ returns-in_err-settle_decided-clause-settled g c d at =
     let is : c.from_residual.result ≡ Err c.in_err-settle_decided.field-0.0 = search rules in
     subst (λ r. GoesThrough IdleNext c.args.knows.now.leader.decided d (g.S.Store.state c.args.store.now) (g.S.Store.durable c.settle_decided.new.store) (g.S.Store.state c.settle_decided.new.store) (g.S.Store.may c.settle_decided.new.store) r) (sym is)
     (idles-stop c.loop-plan.knows.leader.decided _ some (ap (λ xs. get_or xs 0 none_decided) c.decided-in-loop-plan.ensures) c.args.knows.now.leader.decided _ now.durable (g.S.Store.state c.loop-plan.store) (g.S.Store.state c.settle_decided.new.store)
-    (g.S.Store.durable c.settle_decided.new.store) (g.S.Store.may c.settle_decided.new.store) (c.loop-plan.invariant.leads now.durable now.kept_is).rows.order now.holds (c.in_err-settle_decided.ensures.made now.durable now.kept_is))
+    (g.S.Store.durable c.settle_decided.new.store) (left_by (g.S.Store.state c.settle_decided.new.store) (g.S.Store.may c.settle_decided.new.store)) (c.loop-plan.invariant.leads now.durable now.kept_is).rows.order now.holds (c.in_err-settle_decided.ensures.made now.durable now.kept_is))
 
 pub loop-plan-preserved : goal.loop-plan-preserved
 loop-plan-preserved g c =

@@ -14,7 +14,7 @@ use Rattle.target_parts.specs.EpochLaws.{has-epochs}
 use Rattle.target_parts.specs.Halts.{halt_stop}
 use Rattle.target_parts.specs.KeepingLaws.{enlisted-settled}
 use Rattle.target_parts.specs.Knowing.{LeadsWell, memory_of}
-use Rattle.target_parts.specs.Parts.{Now, StillRuns, kept}
+use Rattle.target_parts.specs.Parts.{Now, StillRuns, kept, left_by}
 use Rattle.target_parts.specs.Running.{for_some_on, runs_as, runs_first, runs_on, still_runs}
 use Rattle.target_parts.specs.Turning.{part_asked, part_cut}
 use Rattle.dtx_table.specs.Tables.{entry_in}
@@ -81,7 +81,7 @@ returns-in_err-settle_decided-in-Unsettled-clause-served g c d at m reading =
     let now = c.loop-answer.invariant.reached d at m reading in
     let answered = c.in_ok-answer.ensures.met now.durable now.kept_is in
     let among : Contains c.loop-answer.knows.leader.decided c.in-Unsettled.other = subst (λ xs. Contains xs c.in-Unsettled.other) c.decided.ensures (c.is_one.ensures.0 c.if-not-is_one.false) in
-    let cut = serves_cut c.args.plan m reading c.args.request.now c.args.epoch _ _ c.loop-answer.knows.leader.decided c.in-Unsettled.other _ now.durable _ _ _ (g.S.Store.may c.settle_decided.new.store) now.holds answered c.in-Unsettled.is among
+    let cut = serves_cut c.args.plan m reading c.args.request.now c.args.epoch _ _ c.loop-answer.knows.leader.decided c.in-Unsettled.other _ now.durable _ _ _ (left_by (g.S.Store.state c.settle_decided.new.store) (g.S.Store.may c.settle_decided.new.store)) now.holds answered c.in-Unsettled.is among
     (c.in_err-settle_decided-in-Unsettled.ensures.made now.durable answered.stays.kept_is) in
     let is : c.from_residual-in_err-settle_decided-in-Unsettled.result ≡ Err halt.Stopped = search rules in
     part_cut (FetchNext c.args.plan m reading c.args.request.now) _ _ _ _ _ _ _ is cut
