@@ -29,8 +29,8 @@ use Rattle.world_base.specs.declared.target.Life.TheVariants.{Running}
 use Rattle.world_base.specs.declared.target.TargetState.{TargetState}
 use Rattle.world_base.specs.declared.world.World.{World}
 use Rattle.world_base.specs.ClientTurns.{plan_of}
-use Rattle.world_core.specs.Begins.{AreEnlisted, IsBegun, IsSimple, OpensWith, StartsWith, declared_conts, first_client}
-use Rattle.world_core.specs.Fresh.{fresh-opens}
+use Rattle.world_whole.specs.Begins.{AreEnlisted, IsBegun, IsSimple, OpensWith, StartsWith, declared_conts, first_client}
+use Rattle.world_whole.specs.Fresh.{fresh-opens}
 use Rattle.world_ends.specs.Ends.{rules_of}
 use Rattle.world_epochs.specs.Epochs.{is_unsnapped}
 use Rattle.world_base.specs.Events.{Begins, client_plan, commands_or_none, target_plan}

@@ -26,7 +26,7 @@ use Rattle.vos_store.specs.Calls.{State}
 use Rattle.world_attempts.specs.Attempts.{entry_in}
 use Rattle.world_base.specs.declared.target.TargetState.{TargetState}
 use Rattle.world_base.specs.declared.world.World.{World}
-use Rattle.world_core.specs.Begins.{IsBegun}
+use Rattle.world_whole.specs.Begins.{IsBegun}
 use Rattle.world_ends.specs.Ends.{durable_of, durables_of, rules_of}
 use Rattle.world_ends.specs.FromBeginning.{ended-runs-are-settled, over, runs-from-the-beginning, runs-give-the-headline}
 use Rattle.script_runnable.specs.Keyed.{CellHasKeys}

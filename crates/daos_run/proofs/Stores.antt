@@ -18,8 +18,8 @@ use Rattle.vos_store.specs.Calls.{Answers}
 use Rattle.vos_store.specs.Refusals.{enlist_open, enlist_stop}
 use Rattle.vos_store.specs.declared.refusal.EnlistNo.{EnlistNo}
 use Rattle.vos_store.specs.declared.refusal.EnlistNo.TheVariants as enlist
-use Rattle.world_core.specs.Begins.{declared_conts}
-use Rattle.world_core.specs.Fresh.{fresh-opens}
+use Rattle.world_whole.specs.Begins.{declared_conts}
+use Rattle.world_whole.specs.Fresh.{fresh-opens}
 
 -- ---- stops
 

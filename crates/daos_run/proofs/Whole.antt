@@ -23,7 +23,7 @@ use Rattle.target_core.specs.Targets.{TargetOf}
 use Rattle.vos_store.specs.Calls.{State}
 use Rattle.world_base.specs.declared.target.TargetState.{TargetState}
 use Rattle.world_base.specs.declared.world.World.{World}
-use Rattle.world_core.specs.Begins.{IsBegun, IsSimple}
+use Rattle.world_whole.specs.Begins.{IsBegun, IsSimple}
 use Rattle.world_ends.specs.Ends.{rules_of}
 use Rattle.world_base.specs.Events.{Rules}
 

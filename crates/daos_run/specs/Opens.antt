@@ -29,7 +29,7 @@ use Rattle.run_base.specs.Orders.{InOrder}
 use Rattle.world_base.specs.declared.target.TargetState.{TargetState}
 use Rattle.world_base.specs.declared.world.World.{World}
 use Rattle.daos_run.specs.Slots.{IsAt}
-use Rattle.world_core.specs.Begins.{IsBegun, declared_conts}
+use Rattle.world_whole.specs.Begins.{IsBegun, declared_conts}
 use Rattle.world_ends.specs.Ends.{durables_of, rules_of}
 use Rattle.script_runnable.specs.Keyed.{ScriptHasKeys}
 use Rattle.world_lone.specs.LoneRuns.{AreIssuedThere}

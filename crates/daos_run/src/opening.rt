@@ -4,7 +4,7 @@ ghost use Rattle.base_types.specs.Scripts.{IsInForm};
 ghost use Rattle.daos_run.specs.Opens.{AreFirst, IsEmpty, IsOpened};
 ghost use Rattle.daos_run.specs.Stops.{MayStop, enlist_stopped, is_fault_of};
 ghost use Rattle.target_parts.specs.Parts.{Runs};
-ghost use Rattle.world_core.specs.Begins.{declared_conts};
+ghost use Rattle.world_whole.specs.Begins.{declared_conts};
 
 use crate::stop::{Part, RunStop};
 use base_types::epoch::{Epoch, TargetId};

@@ -22,8 +22,8 @@ use Rattle.world_base.specs.declared.did.Did.{Did}
 use Rattle.world_base.specs.declared.letter.Letter.{Letter}
 use Rattle.world_base.specs.declared.world.World.{World}
 use Rattle.world_base.specs.ClientTurns.{HearTurn, NextTurn}
-use Rattle.world_core.specs.Begins.{IsSimple}
-use Rattle.world_core.specs.Posting.{IsPlainScript, clients-post-in-form, hearers-post-in-form}
+use Rattle.world_whole.specs.Begins.{IsSimple}
+use Rattle.world_whole.specs.Posting.{IsPlainScript, clients-post-in-form, hearers-post-in-form}
 use Rattle.world_base.specs.Events.{Goes, Rules, client_plan, target_plan}
 use Rattle.world_base.specs.Letters.{client, letter_of, letters_of, target}
 use Rattle.world_base.specs.StepLaws.{set-is, set-there}

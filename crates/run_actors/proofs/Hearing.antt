@@ -20,8 +20,8 @@ use Rattle.target_writes.specs.CheckLaws.{new-at}
 use Rattle.target_writes.specs.Checks.{AreNewAt}
 use Rattle.vos_store.specs.Calls.{State}
 use Rattle.world_base.specs.declared.letter.Letter.{Letter}
-use Rattle.world_core.specs.Hearable.{CanHear}
-use Rattle.world_core.specs.Whole.{runs-can-be-heard}
+use Rattle.world_whole.specs.Hearable.{CanHear}
+use Rattle.world_whole.specs.Whole.{runs-can-be-heard}
 use Rattle.world_base.specs.Events.{Rules, target_plan}
 use Rattle.world_base.specs.Letters.{target}
 use Rattle.world_base.specs.Commits.{own_writes}

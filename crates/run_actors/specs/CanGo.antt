@@ -7,7 +7,7 @@ use Rattle.run_base.specs.Letters.{BetweenNow}
 use Rattle.target_core.specs.Targets.{TargetOf}
 use Rattle.vos_store.specs.Calls.{State}
 use Rattle.world_base.specs.declared.letter.Letter.{Letter}
-use Rattle.world_core.specs.Begins.{IsSimple}
+use Rattle.world_whole.specs.Begins.{IsSimple}
 use Rattle.world_base.specs.Events.{Rules, client_plan, target_plan}
 use Rattle.world_posts.specs.Forms.{ClientsWait, HasForm, is_of_client, is_told}
 

@@ -13,7 +13,7 @@ use Rattle.world_base.specs.declared.target.Life.TheVariants.{Running}
 use Rattle.world_base.specs.declared.target.TargetPlan.{TargetPlan}
 use Rattle.world_base.specs.declared.target.TargetState.{TargetState}
 use Rattle.world_base.specs.declared.world.World.{World}
-use Rattle.world_core.specs.Begins.{IsBegun, IsSimple}
+use Rattle.world_whole.specs.Begins.{IsBegun, IsSimple}
 use Rattle.world_base.specs.Events.{Rules, Run, client_plan, target_plan}
 
 abbrev pub state_of : ClientNow → ClientState

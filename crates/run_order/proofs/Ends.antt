@@ -13,8 +13,8 @@ use Rattle.run_base.specs.Quiet.{quiet-has-ended}
 use Rattle.target_core.specs.Targets.{TargetOf}
 use Rattle.vos_store.specs.Calls.{State}
 use Rattle.world_base.specs.declared.world.World.{World}
-use Rattle.world_core.specs.Begins.{IsBegun, IsSimple}
-use Rattle.world_core.specs.Whole.{runs-stay-whole}
+use Rattle.world_whole.specs.Begins.{IsBegun, IsSimple}
+use Rattle.world_whole.specs.Whole.{runs-stay-whole}
 use Rattle.world_base.specs.Events.{Rules}
 
 -- ---- the end

@@ -9,7 +9,7 @@ ghost use Rattle.run_base.specs.Orders.{InDraws, InOrder, InRounds, RoundOf, aft
 ghost use Rattle.run_base.specs.Picks.{count_to, heard};
 ghost use Rattle.world_base.specs.declared.world.World.{World};
 ghost use Rattle.daos_model.specs.Opening.{Opening};
-ghost use Rattle.world_core.specs.Begins.{IsBegun, IsSimple};
+ghost use Rattle.world_whole.specs.Begins.{IsBegun, IsSimple};
 ghost use Rattle.world_base.specs.Events.{Rules};
 
 use crate::halted::Halted;

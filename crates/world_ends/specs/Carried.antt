@@ -15,9 +15,9 @@ use Rattle.world_base.specs.declared.client.ClientState.{ClientState}
 use Rattle.world_base.specs.declared.letter.Letter.{Letter}
 use Rattle.world_base.specs.declared.target.TargetState.{TargetState}
 use Rattle.world_base.specs.declared.world.World.{World}
-use Rattle.world_core.specs.BeginLaws.{get-map}
-use Rattle.world_core.specs.Begins.{IsBegun, IsSimple, StartsWith, first_client, held_at, no_history}
-use Rattle.world_core.specs.Whole.{StaysWhole, Whole, held-before, whole-begins, whole-stays}
+use Rattle.world_whole.specs.BeginLaws.{get-map}
+use Rattle.world_whole.specs.Begins.{IsBegun, IsSimple, StartsWith, first_client, held_at, no_history}
+use Rattle.world_whole.specs.Whole.{StaysWhole, Whole, held-before, whole-begins, whole-stays}
 use Rattle.world_causes.specs.CauseLaws.{causes-begin, causes-kept}
 use Rattle.world_causes.specs.Causes.{PlainCauses, Stored, stored_in}
 use Rattle.world_causes.specs.FirstLaws.{events-keep-firsts}
@@ -27,13 +27,13 @@ use Rattle.world_causes.specs.Requests as requests
 use Rattle.world_causes.specs.Storing.{AreApart, Storing, dated_ids}
 use Rattle.world_causes.specs.StoringLaws.{Then, events-keep-storing}
 use Rattle.world_causes.specs.Unsettled.{versions-prepared, versions-written}
-use Rattle.world_core.specs.Commits.{commits-are-new}
-use Rattle.world_core.specs.Everything.{AreBefore}
-use Rattle.world_core.specs.Judged.{lines-stand}
+use Rattle.world_whole.specs.Commits.{commits-are-new}
+use Rattle.world_whole.specs.Everything.{AreBefore}
+use Rattle.world_whole.specs.Judged.{lines-stand}
 use Rattle.world_base.specs.Events.{Begins, Event, Goes, RightEvent, Rules, Run}
 use Rattle.world_ends.specs.Born.{born-stays}
 use Rattle.world_ends.specs.PlainCauses.{plain-causes}
-use Rattle.world_core.specs.Asking.{plainly}
+use Rattle.world_whole.specs.Asking.{plainly}
 
 -- ---- the statement
 

@@ -21,7 +21,7 @@ use Rattle.world_lines.specs.LastLines.{AreDone, HasClients}
 use Rattle.world_reads.specs.Reads.{Reads}
 use Rattle.world_reads.specs.Versions.{Versions}
 use Rattle.world_verdicts.specs.Verdicts.{Verdicts}
-use Rattle.world_core.specs.Everything.{AreUnpruned}
+use Rattle.world_whole.specs.Everything.{AreUnpruned}
 
 -- ---- the run
 

@@ -26,7 +26,7 @@ use Rattle.world_attempts.specs.History.{History, is_decided}
 use Rattle.world_reads.specs.Transactions.{counts_by, transactions}
 use Rattle.world_reads.specs.Versions.{VersionsStand, is_own_in, mark_of}
 use Rattle.model_laws.specs.FamilyLaws.{EachGivesOwn, HasNoneUnowned, IsFamilyInForm, as_of-objects, families-agree, families-stand_for}
-use Rattle.world_core.specs.ScriptForm.{of-end}
+use Rattle.world_whole.specs.ScriptForm.{of-end}
 use Rattle.base_types.specs.declared.id.ContId.{ContId}
 
 -- epochs that a lease covers are below a bound

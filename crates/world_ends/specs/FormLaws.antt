@@ -18,7 +18,7 @@ use Rattle.daos_model.specs.Accesses.{minor_write, minor_writes}
 use Rattle.daos_model.specs.Attempts.{snapshot_or_none}
 use Rattle.daos_model.specs.Forms.{is_write_in_form}
 use Rattle.daos_model.specs.Transactions.{attempt_ops, command_of, numbered_at, ops_of, read_numbers}
-use Rattle.world_core.specs.ScriptForm.{HaveUnits, write-in-form}
+use Rattle.world_whole.specs.ScriptForm.{HaveUnits, write-in-form}
 use Rattle.world_epochs.specs.Epochs.{Unsnapped, is_unsnapped}
 use Rattle.world_base.specs.Events.{Rules, commands_or_none}
 use Rattle.world_gots.specs.FormLaws.{ops-form}

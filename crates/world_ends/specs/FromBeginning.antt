@@ -27,7 +27,7 @@ use Rattle.world_base.specs.declared.letter.Letter.{Letter}
 use Rattle.world_base.specs.declared.target.TargetState.{TargetState}
 use Rattle.world_base.specs.declared.world.World.{World}
 use Rattle.world_base.specs.ClientTurns.{is_done}
-use Rattle.world_core.specs.Begins.{IsBegun, IsSimple, held_at}
+use Rattle.world_whole.specs.Begins.{IsBegun, IsSimple, held_at}
 use Rattle.world_causes.specs.LastCauses.{AllAreTold, causes-shown, stored-are-told}
 use Rattle.world_clients.specs.Standing.{AreOfPresent, HasTold, has_number, number_of}
 use Rattle.world_ends.specs.Carried.{CarriedBy, runs-carry}

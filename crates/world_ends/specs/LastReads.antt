@@ -33,7 +33,7 @@ use Rattle.daos_model.specs.TookEffect.{took}
 use Rattle.daos_model.specs.Transactions.{attempt_ops}
 use Rattle.world_base.specs.declared.world.World.{World}
 use Rattle.world_base.specs.ClientTurns.{is_yes}
-use Rattle.world_core.specs.Begins.{IsOpeningPlain}
+use Rattle.world_whole.specs.Begins.{IsOpeningPlain}
 use Rattle.world_base.specs.Events.{Rules}
 use Rattle.world_gots.specs.Gots.{IsLineServed}
 use Rattle.world_gots.specs.MoreLaws.{all-more}

@@ -20,7 +20,7 @@ use Rattle.daos_model.specs.TookEffect.{took}
 use Rattle.world_base.specs.declared.target.TargetState.{TargetState}
 use Rattle.world_base.specs.declared.world.World.{World}
 use Rattle.world_epochs.specs.Epochs.{Unsnapped}
-use Rattle.world_core.specs.Begins.{IsOpeningPlain}
+use Rattle.world_whole.specs.Begins.{IsOpeningPlain}
 use Rattle.world_base.specs.Events.{Rules}
 use Rattle.model_laws.specs.EntryLaws.{found-has}
 use Rattle.daos_model.specs.FormLaws.{length-map}

@@ -12,7 +12,7 @@ use Rattle.daos_model.specs.OutcomesLegal.{OutcomesLegal}
 use Rattle.daos_model.specs.ReadsLegal.{ReadsLegal}
 use Rattle.daos_model.specs.TookEffect.{took}
 use Rattle.world_base.specs.declared.world.World.{World}
-use Rattle.world_core.specs.Begins.{IsOpeningPlain}
+use Rattle.world_whole.specs.Begins.{IsOpeningPlain}
 use Rattle.world_base.specs.Events.{Rules}
 use Rattle.world_attempts.specs.History.{History}
 use Rattle.world_reads.specs.Transactions.{transactions}

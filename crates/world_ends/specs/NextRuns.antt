@@ -21,7 +21,7 @@ use Rattle.world_addresses.specs.Staying.{StaysAs, runs-keep-targets}
 use Rattle.world_attempts.specs.History.{History}
 use Rattle.world_base.specs.declared.target.TargetState.{TargetState}
 use Rattle.world_base.specs.declared.world.World.{World}
-use Rattle.world_core.specs.Begins.{IsBegun, IsSimple, held_at}
+use Rattle.world_whole.specs.Begins.{IsBegun, IsSimple, held_at}
 use Rattle.world_causes.specs.Floors.{row-stays}
 use Rattle.world_ends.specs.Carried.{CarriedBy}
 use Rattle.world_ends.specs.Decisions.{took-same_map}

@@ -13,7 +13,7 @@ use Rattle.daos_model.specs.Accesses.{minor_writes}
 use Rattle.daos_model.specs.Attempts.{snapshot_of_command}
 use Rattle.daos_model.specs.Transactions.{attempt_ops}
 use Rattle.world_causes.specs.Premises.{IsPlain}
-use Rattle.world_core.specs.ScriptForm.{writes-declared}
+use Rattle.world_whole.specs.ScriptForm.{writes-declared}
 use Rattle.world_epochs.specs.Epochs.{Unsnapped, is_unsnapped}
 use Rattle.world_base.specs.Events.{Rules}
 use Rattle.world_gots.specs.FormLaws.{fit-object, ops-form, write-declared}

@@ -6,13 +6,13 @@ use Rattle.daos_model.specs.Finals.{HeadlineOver}
 use Rattle.daos_model.specs.Opening.{Given, Opening, top, undisturbed}
 use Rattle.world_base.specs.declared.target.TargetState.{TargetState}
 use Rattle.world_base.specs.declared.world.World.{World}
-use Rattle.world_core.specs.Everything.{Everything, runs-keep-everything}
-use Rattle.world_core.specs.Begins.{IsOpeningPlain}
+use Rattle.world_whole.specs.Everything.{Everything, runs-keep-everything}
+use Rattle.world_whole.specs.Begins.{IsOpeningPlain}
 use Rattle.world_base.specs.Events.{Rules, Run}
 use Rattle.world_attempts.specs.History.{History}
 use Rattle.world_ends.specs.Ends.{Facts, IsOver, IsPlain, TellsPlain, durables_of, report_of, rules_of}
 use Rattle.world_ends.specs.Laws.{reports-legal}
-use Rattle.world_core.specs.Asking.{plainly}
+use Rattle.world_whole.specs.Asking.{plainly}
 
 -- Where all facts hold of a world, a run from there that ends, and whose targets then hold no snapshot, gives a legal report, and
 -- the targets stand for what it tells; if every outcome shows its cause.

@@ -23,7 +23,7 @@ use Rattle.daos_model.specs.Finals.{opening_of}
 use Rattle.daos_model.specs.KeptLaws.{kept-without_snaps}
 use Rattle.daos_model.specs.Opening.{Opening, kept}
 use Rattle.daos_model.specs.Versions.{writes_in}
-use Rattle.world_core.specs.Begins.{IsOpeningPlain, OpensWith}
+use Rattle.world_whole.specs.Begins.{IsOpeningPlain, OpensWith}
 use Rattle.world_ends.specs.FamilyStands.{at-has, none-created}
 
 -- ---- the statement

@@ -43,13 +43,13 @@ use Rattle.world_base.specs.declared.letter.Letter.{Letter}
 use Rattle.world_base.specs.declared.target.TargetState.{TargetState}
 use Rattle.world_base.specs.declared.world.World.{World}
 use Rattle.world_base.specs.ClientTurns.{about, attempt_id, request_of}
-use Rattle.world_core.specs.Begins.{held_at, versions_in}
-use Rattle.world_core.specs.Whole.{Whole, held-before, runs-stay-whole}
+use Rattle.world_whole.specs.Begins.{held_at, versions_in}
+use Rattle.world_whole.specs.Whole.{Whole, held-before, runs-stay-whole}
 use Rattle.world_causes.specs.Causes.{MessageShows}
 use Rattle.world_clients.specs.Answered.{is_refusal}
-use Rattle.world_core.specs.Asking.{Facts, plainly}
-use Rattle.world_core.specs.Commits.{commits-are-new}
-use Rattle.world_core.specs.Everything.{AreBefore}
+use Rattle.world_whole.specs.Asking.{Facts, plainly}
+use Rattle.world_whole.specs.Commits.{commits-are-new}
+use Rattle.world_whole.specs.Everything.{AreBefore}
 use Rattle.world_ends.specs.Carried.{runs-carry}
 use Rattle.world_ends.specs.SureTells.{tells-plain}
 use Rattle.world_epochs.specs.Epochs.{IsIssued, IsPast, IsPresent}

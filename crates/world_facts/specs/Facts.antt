@@ -36,7 +36,7 @@ use Rattle.world_base.specs.declared.target.Life.TheVariants.{Running}
 use Rattle.world_base.specs.declared.target.TargetState.{TargetState}
 use Rattle.world_base.specs.declared.world.World.{World}
 use Rattle.world_base.specs.ClientTurns.{waits}
-use Rattle.world_core.specs.Begins.{IsBegun, IsSimple}
+use Rattle.world_whole.specs.Begins.{IsBegun, IsSimple}
 use Rattle.world_ends.specs.Ends.{TellsPlain}
 use Rattle.world_epochs.specs.Epochs.{BearsEpoch, BearsIssued, IsIssued, issuer_of}
 use Rattle.world_base.specs.Events.{Rules, Run, client_plan}

@@ -26,10 +26,10 @@ use Rattle.world_attempts.specs.History.{Decided, History}
 use Rattle.world_attempts.specs.MemberBits.{is-other_same, other-from_test}
 use Rattle.world_base.specs.declared.target.TargetState.{TargetState}
 use Rattle.world_base.specs.declared.world.World.{World}
-use Rattle.world_core.specs.BeginLaws.{get-map}
-use Rattle.world_core.specs.Sharing.{members-below}
-use Rattle.world_core.specs.Asking.{Facts}
-use Rattle.world_core.specs.ScriptForm.{of-end}
+use Rattle.world_whole.specs.BeginLaws.{get-map}
+use Rattle.world_whole.specs.Sharing.{members-below}
+use Rattle.world_whole.specs.Asking.{Facts}
+use Rattle.world_whole.specs.ScriptForm.{of-end}
 use Rattle.world_ends.specs.Ends.{durable_of, durables_of}
 use Rattle.world_ends.specs.LastStand.{from-durables}
 use Rattle.world_base.specs.Events.{Rules}

@@ -31,11 +31,11 @@ use Rattle.world_attempts.specs.History.{Decided, History, decides, is_decided}
 use Rattle.world_attempts.specs.MarkTurns.{found-attempt}
 use Rattle.world_base.specs.declared.target.TargetState.{TargetState}
 use Rattle.world_base.specs.declared.world.World.{World}
-use Rattle.world_core.specs.Begins.{IsOpeningPlain, held_at}
-use Rattle.world_core.specs.Whole.{Whole, held-before, runs-stay-whole}
-use Rattle.world_core.specs.Asking.{Facts, requests-are-right, same-epoch}
-use Rattle.world_core.specs.Everything.{AreBefore}
-use Rattle.world_core.specs.ScriptForm.{of-end}
+use Rattle.world_whole.specs.Begins.{IsOpeningPlain, held_at}
+use Rattle.world_whole.specs.Whole.{Whole, held-before, runs-stay-whole}
+use Rattle.world_whole.specs.Asking.{Facts, requests-are-right, same-epoch}
+use Rattle.world_whole.specs.Everything.{AreBefore}
+use Rattle.world_whole.specs.ScriptForm.{of-end}
 use Rattle.world_ends.specs.Ends.{durables_of}
 use Rattle.world_ends.specs.FamilyStands.{below-lease, mark-below}
 use Rattle.world_ends.specs.LastStand.{from-durables}

@@ -5,7 +5,7 @@ use Rattle.daos_model.specs.Opening.{Opening}
 use Rattle.dtx_base.specs.Members.{has_target}
 use Rattle.world_attempts.specs.Attempts.{IsSettled}
 use Rattle.world_base.specs.declared.world.World.{World}
-use Rattle.world_core.specs.Begins.{IsBegun, IsSimple}
+use Rattle.world_whole.specs.Begins.{IsBegun, IsSimple}
 use Rattle.world_base.specs.Ended.{HasEnded}
 use Rattle.world_base.specs.Events.{Rules, Run}
 use Rattle.world_facts.specs.Facts.{HasEntry, IsMember}

@@ -15,9 +15,9 @@ use Rattle.world_attempts.specs.History.{History}
 use Rattle.world_attempts.specs.MemberBits.{other-from_test}
 use Rattle.world_base.specs.declared.target.TargetState.{TargetState}
 use Rattle.world_base.specs.declared.world.World.{World}
-use Rattle.world_core.specs.Begins.{IsBegun, IsSimple, held_at}
-use Rattle.world_core.specs.Whole.{Whole, held-before, runs-stay-whole}
-use Rattle.world_core.specs.Asking.{Facts}
+use Rattle.world_whole.specs.Begins.{IsBegun, IsSimple, held_at}
+use Rattle.world_whole.specs.Whole.{Whole, held-before, runs-stay-whole}
+use Rattle.world_whole.specs.Asking.{Facts}
 use Rattle.world_ends.specs.FromBeginning.{ended-runs-are-settled}
 use Rattle.world_base.specs.Ended.{HasEnded}
 use Rattle.world_base.specs.Events.{Rules, Run}

@@ -25,7 +25,7 @@ use Rattle.daos_model.specs.ReadsLegal.{AttemptReadsLegal, map_at, map_read}
 use Rattle.daos_model.specs.TookEffect.{took}
 use Rattle.daos_model.specs.Transactions.{attempt_ops}
 use Rattle.report_writer.specs.Forms.{IsAttemptOf, IsCond, IsEpochOrNone, IsGot, IsLineOf, IsReportOf, least_down}
-use Rattle.world_core.specs.ScriptForm.{ops-few}
+use Rattle.world_whole.specs.ScriptForm.{ops-few}
 use Rattle.world_causes.specs.Causes.{is_try}
 use Rattle.world_ends.specs.Ends.{rules_of}
 use Rattle.world_epochs.specs.Epochs.{Unsnapped}

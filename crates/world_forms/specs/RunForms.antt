@@ -14,7 +14,7 @@ use Rattle.daos_model.specs.Opening.{Given, Opening, fresh, top, undisturbed}
 use Rattle.report_writer.specs.Forms.{IsEpochOrNone, IsReportOf}
 use Rattle.world_attempts.specs.History.{History}
 use Rattle.world_base.specs.declared.world.World.{World}
-use Rattle.world_core.specs.Begins.{IsBegun, IsSimple, held_at}
+use Rattle.world_whole.specs.Begins.{IsBegun, IsSimple, held_at}
 use Rattle.world_ends.specs.Carried.{CarriedBy, runs-carry}
 use Rattle.world_ends.specs.Ends.{report_of, rules_of}
 use Rattle.world_ends.specs.FromBeginning.{runs-give-the-headline}
@@ -25,7 +25,7 @@ use Rattle.world_base.specs.Events.{Rules, Run}
 use Rattle.world_reads.specs.Versions.{Versions}
 use Rattle.script_runnable.specs.Keyed.{CellHasKeys, MapHasKeys, ScriptHasKeys}
 use Rattle.world_forms.specs.ReportForms.{IsPlainReport, report-form}
-use Rattle.world_core.specs.Asking.{plainly}
+use Rattle.world_whole.specs.Asking.{plainly}
 
 -- ---- the statements
 

@@ -20,7 +20,7 @@ use Rattle.daos_model.specs.ExtentForms.{written-length}
 use Rattle.daos_model.specs.Forms.{AreWritesInForm, ends_at_akey, is_length, is_write_in_form}
 use Rattle.daos_model.specs.Transactions.{attempt_ops}
 use Rattle.report_writer.specs.Forms.{IsNoSpace}
-use Rattle.world_core.specs.ScriptForm.{ops-few, writes-in-form}
+use Rattle.world_whole.specs.ScriptForm.{ops-few, writes-in-form}
 use Rattle.world_gots.specs.FormLaws.{ops-form}
 
 -- ---- blocks

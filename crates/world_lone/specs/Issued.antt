@@ -4,7 +4,7 @@ use Rattle.std.proofs.Common.{arith}
 use Rattle.std.proofs.lemmas.Option.{slice_get_within}
 use Rattle.world_ends.specs.Carried.{runs-carry}
 use Rattle.world_lone.specs.LoneRuns.{EpochsRise, FirstTargetsIssue, TargetsIssue}
-use Rattle.world_core.specs.Asking.{plainly}
+use Rattle.world_whole.specs.Asking.{plainly}
 
 pub targets-issue : TargetsIssue
 targets-issue r o w v A b run a e i at =

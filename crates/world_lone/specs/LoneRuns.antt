@@ -10,7 +10,7 @@ use Rattle.daos_model.specs.Attempts.{tries}
 use Rattle.daos_model.specs.Opening.{Opening}
 use Rattle.daos_model.specs.Order.{AllRise}
 use Rattle.world_base.specs.declared.world.World.{World}
-use Rattle.world_core.specs.Begins.{IsSimple, IsBegun}
+use Rattle.world_whole.specs.Begins.{IsSimple, IsBegun}
 use Rattle.world_ends.specs.Ends.{report_of}
 use Rattle.world_epochs.specs.Epochs.{issuer_of}
 use Rattle.world_base.specs.Events.{Rules, Run}

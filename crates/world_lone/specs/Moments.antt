@@ -32,7 +32,7 @@ use Rattle.world_lines.specs.Lines.{Lines}
 use Rattle.world_lone.specs.LoneRuns.{LoneRunsNeverRestart}
 use Rattle.world_lines.specs.Rising.{lines-rise, one-of-rising}
 use Rattle.world_epochs.specs.PlainScripts.{no-snapshots}
-use Rattle.world_core.specs.Asking.{plainly}
+use Rattle.world_whole.specs.Asking.{plainly}
 
 number-of : {e f : Epoch} → Some e ≡ Some f → e.0 ≡ f.0
 number-of {e = e} {f = f} s = let same : e ≡ f = cc in ap (λ x. x.0) same

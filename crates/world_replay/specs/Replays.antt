@@ -26,14 +26,14 @@ use Rattle.world_base.specs.declared.target.TargetPlan.{TargetPlan}
 use Rattle.world_base.specs.declared.target.TargetState.{TargetState}
 use Rattle.world_base.specs.declared.world.World.{World}
 use Rattle.world_base.specs.ClientTurns.{plan_of}
-use Rattle.world_core.specs.BeginLaws.{get-map}
-use Rattle.world_core.specs.Begins.{IsBegun, IsSimple, first_client, first_tracker, held_at}
-use Rattle.world_core.specs.Hearable.{CanHear}
+use Rattle.world_whole.specs.BeginLaws.{get-map}
+use Rattle.world_whole.specs.Begins.{IsBegun, IsSimple, first_client, first_tracker, held_at}
+use Rattle.world_whole.specs.Hearable.{CanHear}
 use Rattle.world_attempts.specs.Attempts.{entry_in, is_known_at, is_known_in}
 use Rattle.world_attempts.specs.History.{History}
 use Rattle.world_attempts.specs.Stored.{among-has}
-use Rattle.world_core.specs.Whole.{Whole, held-before, runs-can-be-heard, runs-stay-whole}
-use Rattle.world_core.specs.Asking.{requests-are-right}
+use Rattle.world_whole.specs.Whole.{Whole, held-before, runs-can-be-heard, runs-stay-whole}
+use Rattle.world_whole.specs.Asking.{requests-are-right}
 use Rattle.world_reads.specs.Given.{IsParkedRight}
 use Rattle.world_base.specs.Roles.{other_leader, other_leader_of}
 use Rattle.world_base.specs.Events.{Begins, ByClient, ByTarget, Event, Goes, Rules, Run, ToClient, ToTarget, client_plan, commands_or_none, target_plan}

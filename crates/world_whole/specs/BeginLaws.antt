@@ -33,8 +33,8 @@ use Rattle.world_base.specs.declared.world.World.{World}
 use Rattle.world_base.specs.ClientTurns.{is_waiting}
 use Rattle.world_clients.specs.MoveLaws.{clients-begin}
 use Rattle.world_clients.specs.Answered.{EndsAsAnswered, IsAnsweredHere, ops_here}
-use Rattle.world_core.specs.Asking.{Facts}
-use Rattle.world_core.specs.Everything.{Everything}
+use Rattle.world_whole.specs.Asking.{Facts}
+use Rattle.world_whole.specs.Everything.{Everything}
 use Rattle.world_epochs.specs.EventLaws.{epochs-begin}
 use Rattle.world_base.specs.Events.{Rules, client_plan}
 use Rattle.world_gots.specs.Gots.{IsLineServed}
@@ -52,7 +52,7 @@ use Rattle.world_asks.specs.Entries.{mapped}
 use Rattle.world_reads.specs.Reads.{Reads}
 use Rattle.world_reads.specs.Versions.{Versions, VersionsStand, is_own_in, mark_of}
 use Rattle.world_talks.specs.ConversationLaws.{conversations-begin}
-use Rattle.world_core.specs.Begins.{IsBegun, IsSimple, OpensWith, first_client, held_at, no_history, versions_in}
+use Rattle.world_whole.specs.Begins.{IsBegun, IsSimple, OpensWith, first_client, held_at, no_history, versions_in}
 
 -- ---- lists
 

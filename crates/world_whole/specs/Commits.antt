@@ -25,7 +25,7 @@ use Rattle.world_base.specs.declared.request.CommitRequest.{CommitRequest}
 use Rattle.world_base.specs.declared.target.TargetState.{TargetState}
 use Rattle.world_base.specs.declared.world.World.{World}
 use Rattle.world_base.specs.ClientTurns.{attempt_id}
-use Rattle.world_core.specs.Asking.{Facts, commit-right, present-not-past, takes-one, plainly}
+use Rattle.world_whole.specs.Asking.{Facts, commit-right, present-not-past, takes-one, plainly}
 use Rattle.world_epochs.specs.Epochs.{BearsEpoch, IsPast}
 use Rattle.world_epochs.specs.Lists.{nothing-passes}
 use Rattle.world_base.specs.Events.{Rules, client_plan}

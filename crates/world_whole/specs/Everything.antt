@@ -22,9 +22,9 @@ use Rattle.world_attempts.specs.History.{Grew, GrowsBy, History, Served, target_
 use Rattle.world_attempts.specs.Rightly.{events-are-right}
 use Rattle.world_base.specs.declared.letter.Letter.{Letter}
 use Rattle.world_base.specs.declared.world.World.{World}
-use Rattle.world_core.specs.Asking.{Facts, requests-are-right}
-use Rattle.world_core.specs.Commits.{commits-are-new}
-use Rattle.world_core.specs.Judged.{DecidedIssued, Judged, clients-keep-judged, lines-stand}
+use Rattle.world_whole.specs.Asking.{Facts, requests-are-right}
+use Rattle.world_whole.specs.Commits.{commits-are-new}
+use Rattle.world_whole.specs.Judged.{DecidedIssued, Judged, clients-keep-judged, lines-stand}
 use Rattle.world_epochs.specs.EpochLaws.{epochs-kept}
 use Rattle.world_epochs.specs.Epochs.{Unsnapped}
 use Rattle.world_base.specs.Events.{Begins, ByClient, ByTarget, ClientGoes, ClientHears, Event, Goes, RightEvent, Rules, Run, TargetHearsRightly, TargetIdles, ToClient, ToTarget}

@@ -14,12 +14,12 @@ use Rattle.world_base.specs.declared.letter.Letter.{Letter}
 use Rattle.world_base.specs.declared.target.TargetState.{TargetState}
 use Rattle.world_base.specs.declared.target.Life.TheVariants.{Running}
 use Rattle.world_base.specs.declared.world.World.{World}
-use Rattle.world_core.specs.Everything.{AreBefore, Everything, HoldsStill, events-keep-everything}
+use Rattle.world_whole.specs.Everything.{AreBefore, Everything, HoldsStill, events-keep-everything}
 use Rattle.world_base.specs.Events.{Begins, Event, Goes, Rules, Run}
 use Rattle.world_base.specs.Letters.{target}
-use Rattle.world_core.specs.BeginLaws.{everything-begins}
-use Rattle.world_core.specs.Hearable.{IsHeardRight, requests-can-be-heard}
-use Rattle.world_core.specs.Begins.{AreEnlisted, IsBegun, IsSimple, held_at, no_history, versions_in}
+use Rattle.world_whole.specs.BeginLaws.{everything-begins}
+use Rattle.world_whole.specs.Hearable.{IsHeardRight, requests-can-be-heard}
+use Rattle.world_whole.specs.Begins.{AreEnlisted, IsBegun, IsSimple, held_at, no_history, versions_in}
 
 -- ---- the statements
 

@@ -26,8 +26,8 @@ use Rattle.world_base.specs.declared.client.ClientState.{ClientState}
 use Rattle.world_base.specs.declared.client.Present.{Present}
 use Rattle.world_base.specs.declared.did.Did.{Did}
 use Rattle.world_base.specs.ClientTurns.{ClientDid, Ended_by, Heard_on, HearTurn, Move, Moves, NextTurn, None_yet, One_more, Skipped, Went_on, about, answered, attempt_id, goes, heard, heard_at, hears_epochs, is_about, knows, listed, moved, question, waits}
-use Rattle.world_core.specs.Asking.{question-form}
-use Rattle.world_core.specs.ScriptForm.{read-in-form, writes-declared, writes-in-form}
+use Rattle.world_whole.specs.Asking.{question-form}
+use Rattle.world_whole.specs.ScriptForm.{read-in-form, writes-declared, writes-in-form}
 use Rattle.world_epochs.specs.Epochs.{Unsnapped, is_unsnapped}
 use Rattle.world_base.specs.Events.{Rules, client_plan, commands_or_none, target_plan}
 use Rattle.world_base.specs.Letters.{target}

@@ -37,10 +37,10 @@ use Rattle.world_base.specs.declared.letter.Letter.{Letter}
 use Rattle.world_base.specs.declared.target.TargetState.{TargetState}
 use Rattle.world_base.specs.declared.target.Life.TheVariants.{Running}
 use Rattle.world_base.specs.declared.world.World.{World}
-use Rattle.world_core.specs.Asking.{own-epoch, question-form, requests-are-right, plainly}
-use Rattle.world_core.specs.Commits.{commits-are-new}
-use Rattle.world_core.specs.Everything.{AreBefore, Everything}
-use Rattle.world_core.specs.ScriptForm.{writes-declared}
+use Rattle.world_whole.specs.Asking.{own-epoch, question-form, requests-are-right, plainly}
+use Rattle.world_whole.specs.Commits.{commits-are-new}
+use Rattle.world_whole.specs.Everything.{AreBefore, Everything}
+use Rattle.world_whole.specs.ScriptForm.{writes-declared}
 use Rattle.world_base.specs.Events.{Rules, target_plan}
 use Rattle.world_base.specs.Letters.{client, target}
 use Rattle.world_gots.specs.FormLaws.{ops-form, read-declared, write-declared}
@@ -51,8 +51,8 @@ use Rattle.world_reads.specs.Versions.{VersionsStand}
 use Rattle.world_base.specs.Commits.{own_writes}
 use Rattle.world_base.specs.Requests.{request_epoch}
 use Rattle.world_base.specs.RightTurns.{TellsOfOthers}
-use Rattle.world_core.specs.Begins.{AreEnlisted, declared_conts}
-use Rattle.world_core.specs.Sharing.{leader-writes, members-below, others-write}
+use Rattle.world_whole.specs.Begins.{AreEnlisted, declared_conts}
+use Rattle.world_whole.specs.Sharing.{leader-writes, members-below, others-write}
 use Rattle.world_epochs.specs.PlainScripts.{at-none}
 
 -- ---- the statement

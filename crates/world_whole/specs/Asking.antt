@@ -49,13 +49,13 @@ use Rattle.world_base.specs.declared.target.TargetState.{TargetState}
 use Rattle.world_base.specs.declared.target.Life.TheVariants.{Running}
 use Rattle.world_base.specs.declared.world.World.{World}
 use Rattle.world_base.specs.ClientTurns.{attempt_id, command_at, group_asked, group_count, member_asked, question}
-use Rattle.world_core.specs.Judged.{Judged}
+use Rattle.world_whole.specs.Judged.{Judged}
 use Rattle.world_epochs.specs.Epochs.{AsksEpoch, BearsEpoch, BearsIssued, PlainEpochs, IsIssued, IsPast, Unsnapped, reads_snapshot}
 use Rattle.world_epochs.specs.TargetEvents.{issued-ticks}
 use Rattle.world_base.specs.Events.{Rules, client_plan, target_plan}
 use Rattle.world_base.specs.Letters.{Takes, target}
 use Rattle.world_clients.specs.Answered.{ops_here}
-use Rattle.world_core.specs.ScriptForm.{ops-few, read-in-form, writes-declared, writes-in-form}
+use Rattle.world_whole.specs.ScriptForm.{ops-few, read-in-form, writes-declared, writes-in-form}
 use Rattle.world_gots.specs.FormLaws.{fit-object, ops-form, read-declared, write-declared}
 use Rattle.world_gots.specs.Gots.{Found, Gots, IsFound, Nothing, groups_asked}
 use Rattle.world_reads.specs.Given.{FitsTargets, Given, HasItsEpoch, IsCommitRight, IsFetchRight, IsItsEpoch, IsMessageRight, IsParkedRight, IsRefusalRight, IsReadEpoch}

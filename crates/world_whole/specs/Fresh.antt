@@ -21,7 +21,7 @@ use Rattle.model_laws.specs.Lists.{length-replicate}
 use Rattle.world_base.specs.declared.target.TargetState.{TargetState}
 use Rattle.world_base.specs.declared.target.Life.TheVariants.{Running}
 use Rattle.world_base.specs.declared.world.World.{World}
-use Rattle.world_core.specs.Begins.{AreEnlisted, IsBegun, OpensWith, StartsWith, declared_conts, first_client, no_joining, no_leading}
+use Rattle.world_whole.specs.Begins.{AreEnlisted, IsBegun, OpensWith, StartsWith, declared_conts, first_client, no_joining, no_leading}
 use Rattle.world_base.specs.Events.{Rules}
 
 -- ---- the statements

@@ -1,6 +1,0 @@
-use Rattle.world_core.specs.Hearable.{requests-can-be-heard}
-use Rattle.world_core.specs.Whole.{runs-can-be-heard, runs-stay-whole}
-use Rattle.world_core.proofs.laws_of_hearing.Goals as goal
-
-pub returns : goal.returns
-returns c = record { requests = requests-can-be-heard; whole = runs-stay-whole; runs = runs-can-be-heard }
