@@ -1,6 +1,7 @@
 pub mod Rows
 pub mod Members
 pub mod Leading
+pub mod Asking
 pub mod Joining
 pub mod LeaderLaws
 pub mod MemberLaws

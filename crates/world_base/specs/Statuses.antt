@@ -15,11 +15,10 @@ use Rattle.base_messages.specs.declared.message.Message.TheVariants as message
 use Rattle.base_messages.specs.declared.message.Post.{Post}
 use Rattle.daos_model.specs.declared.durable.Durable.{Durable}
 use Rattle.daos_model.specs.Durables.{entry_of, same_attempt}
-use Rattle.dtx_base.specs.declared.leading.Undecided.{Undecided}
 use Rattle.dtx_base.specs.Joining as member
-use Rattle.dtx_base.specs.Leading.{LeaderOf, LeaderStep, ended, entry_led, first_down, first_leader, is_led, is_open, quietly, reset_heard, to_target, undecided_of, with_undecided}
+use Rattle.dtx_base.specs.Asking.{ask_heard}
+use Rattle.dtx_base.specs.Leading.{LeaderStep, first_down, first_leader, is_led, is_open, reset_heard, to_target}
 use Rattle.dtx_base.specs.Members.{other_members}
-use Rattle.dtx_base.specs.Rows.{is_among}
 use Rattle.world_base.specs.declared.did.Did.{Did}
 use Rattle.world_base.specs.declared.request.CommitRequest.{CommitRequest}
 use Rattle.world_base.specs.declared.target.TargetMemory.{TargetMemory}
@@ -60,29 +59,6 @@ status_refusal x state.Committed = None
 status_refusal x state.Absent = Some (outcome.Restart (Unresolved x))
 
 -- ---- an Ask
-
-abbrev pub waits_at : AttemptId → ActorId → Undecided → Undecided
-waits_at x client u = if same_attempt u.attempt x then record u { client = Some client } else u
-
--- a client waits for an attempt from now on
-abbrev pub waited_by : AttemptId → ActorId → LeaderOf → LeaderOf
-waited_by x client l = with_undecided (map (waits_at x client) l.memory.undecided) l
-
-abbrev pub tells_end : ActorId → AttemptId → Option Epoch → Outcome → List Post
-tells_end from x ep how = record { to = from; message = message.Ended x ep how } ∷ []
-
--- an undecided attempt: a member is known to be down, or the client waits
-abbrev pub asked_open : AttemptId → ActorId → Entry → Option ℕ → LeaderOf → LeaderStep
-asked_open x from e None l = record { leader = waited_by x from l; posts = [] }
-asked_open x from e (Some down) l = record { leader = l; posts = tells_end from x (Some e.epoch) (outcome.Unknown down) }
-
-abbrev pub asked_of : AttemptId → ActorId → Option Entry → Bool → LeaderOf → LeaderStep
-asked_of x from None decided l = record { leader = l; posts = tells_end from x None (outcome.Restart (Unresolved x)) }
-asked_of x from (Some e) decided l =
-    if e.committed || decided then record { leader = l; posts = tells_end from x (Some e.epoch) outcome.Committed } else asked_open x from e (first_down e.members l.memory.down) l
-
-unfoldable pub ask_heard : AttemptId → ActorId → LeaderOf → LeaderStep
-ask_heard x from l = asked_of x from (entry_led x l) (is_among x l.memory.decided) l
 
 abbrev pub ask_left : TargetPlan → TargetMemory → ActorId → AttemptId → Kept → TargetMemory × Did
 ask_left t m from x k = (leads_on (ask_heard x from (leader_at t m k.durable)) m, sends (ask_heard x from (leader_at t m k.durable)).posts None)
