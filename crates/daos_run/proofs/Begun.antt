@@ -219,6 +219,7 @@ module _ {S C : Type 0} (durable : S → Option Durable) (state : S → State) w
             let y = from-map state_now xs t z here in
             subst (IsTargetOf durable state (target_plan (rules_of (given s j free)) t) x) (ap state_now (same-target t x y.of_it at y.at) ∙ sym y.is) (the-target t x at);
         messages = refl;
+        asked = refl;
         issued = refl;
         lines = refl;
       }

@@ -17,7 +17,7 @@ use Rattle.world_base.specs.declared.target.TargetState.{TargetState}
 use Rattle.world_base.specs.declared.world.World.{World}
 use Rattle.world_base.specs.ClientTurns.{HearTurn, NextTurn}
 use Rattle.world_base.specs.Events.{Rules, after_turn, client_plan, kept, listed, target_after, target_plan, with_client, with_epoch, with_target}
-use Rattle.world_base.specs.Letters.{Takes, client, letters_of, target}
+use Rattle.world_base.specs.Letters.{Takes, asked_after, client, letters_of, target}
 use Rattle.world_base.specs.StepLaws.{set-is, set-there}
 use Rattle.world_base.specs.TargetTurns.{Hears, IdlesWhole}
 
@@ -29,6 +29,7 @@ picked-takes letters n l rest a k = record { before = k.before; after = k.after;
 -- what lies between actors once one did something, where these letters were left in flight
 pub record Follows (b : BetweenNow) (actor : _) (did : Did) (rest : List Letter) (b' : BetweenNow) : Type 0 where
   pub messages : b'.messages ≡ rest ++ letters_of actor did.posts
+  pub asked : b'.asked ≡ asked_after b.asked (letters_of actor did.posts)
   pub lines : b'.lines ≡ b.lines ++ map (with_epoch b.issued) did.lines
   pub issued : b'.issued ≡ b.issued ++ listed did.issued
 
@@ -47,6 +48,7 @@ module _ {S C : Type 0} (durable : S → Option Durable) (state : S → State) (
       many = k.many;
       targets = k.targets;
       messages = f.messages;
+      asked = f.asked ∙ ap (λ q. asked_after q (letters_of (client n) did.posts)) k.asked;
       issued = f.issued ∙ ap (λ is. is ++ listed did.issued) k.issued;
       lines = f.lines ∙ ap (λ ls. ls ++ map (with_epoch b.issued) did.lines) k.lines ∙ ap (λ is. w.lines ++ map (with_epoch is) did.lines) k.issued;
     }
@@ -122,6 +124,7 @@ module _ {S C : Type 0} (durable : S → Option Durable) (state : S → State) (
       many = length-set w.targets t _ ∙ k.many ∙ sym (length-set targets t y) ∙ ap length (sym set');
       targets = λ m z u at here. pairs m z u (ap (λ ts. slice_get ts m) (sym set') ∙ at) here;
       messages = f.messages;
+      asked = f.asked ∙ ap (λ q. asked_after q (letters_of (target t) did.posts)) k.asked;
       issued = f.issued ∙ ap (λ is. is ++ listed did.issued) k.issued;
       lines = f.lines ∙ ap (λ ls. ls ++ map (with_epoch b.issued) did.lines) k.lines ∙ ap (λ is. w.lines ++ map (with_epoch is) did.lines) k.issued;
     }

@@ -41,6 +41,7 @@ module _ {S C : Type 0} (durable : S → Option Durable) (state : S → State) w
     pub many : length w.targets ≡ length xs
     pub targets : (t : ℕ) (x : TargetOf S C) (s : TargetState) → slice_get xs t ≡ Some x → slice_get w.targets t ≡ Some s → IsTargetOf (target_plan r t) x s
     pub messages : b.messages ≡ w.messages
+    pub asked : b.asked ≡ w.asked
     pub issued : b.issued ≡ w.issued
     pub lines : b.lines ≡ w.lines
 

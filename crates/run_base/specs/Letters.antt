@@ -6,9 +6,10 @@ use Rattle.base_types.specs.declared.report.Line.{Line}
 use Rattle.base_messages.specs.declared.actor.ActorId.{ActorId}
 use Rattle.world_base.specs.declared.letter.Letter.{Letter}
 
--- what lies between the actors: letters in flight, epochs issued, and the lines so far
+-- what lies between the actors: letters in flight, those without an answer, epochs issued, and the lines so far
 pub record BetweenNow : Type 0 where
   pub messages : List Letter
+  pub asked : List Letter
   pub issued : List (AttemptId × Epoch)
   pub lines : List Line
 

@@ -149,7 +149,7 @@ fn answer(asked: &mut Vec<Letter>, letter: &Letter)
 
 // What is without an answer once a letter more was sent: it is one, or the first that it answers isn't any more.
 #[tactic(auto, unfolding(world_base::specs::Letters::asked_with))]
-fn ask(asked: &mut Vec<Letter>, letter: &Letter) -> Result<(), Memory>
+pub(crate) fn ask(asked: &mut Vec<Letter>, letter: &Letter) -> Result<(), Memory>
     ensures { OnOk result (asked.new.items ≡ asked_with asked.old.items letter.now) }
 {
     if is_answerable(&letter.message) {

@@ -2,8 +2,9 @@
 ghost use Rattle.std.specs.Prelude.{◌≡◌, ◌<◌, ◌++◌, [], length, map, OnOk};
 ghost use Rattle.run_base.specs.Letters.{IsPicked, IsPlaceOf, letters_to};
 ghost use Rattle.world_base.specs.Events.{listed, with_epoch};
-ghost use Rattle.world_base.specs.Letters.{letters_of};
+ghost use Rattle.world_base.specs.Letters.{asked_after, letters_of};
 
+use crate::asked::ask;
 use crate::lines::with_epoch;
 use base_messages::actor::ActorId;
 use base_messages::message::Posts;
@@ -17,10 +18,12 @@ use world_base::did::Did;
 use world_base::letter::Letter;
 
 /// What lies between the actors of a run: the messages in flight in the order in which they were
-/// sent, the epochs that were issued, and the lines of the report so far.
+/// sent, those that are without an answer, the epochs that were issued, and the lines of the report so
+/// far.
 #[derive(Drop)]
 pub struct Between {
     messages: Vec<Letter>,
+    asked: Vec<Letter>,
     issued: Vec<(AttemptId, Epoch)>,
     lines: Vec<Line>,
 }
@@ -34,7 +37,7 @@ impl Model for Between {
 
     ghost coded = { Prim.hlevel (codes, message.the_row.coded) };
 
-    ghost view = { λ b. record { messages = b.messages.items; issued = b.issued.items; lines = b.lines.items } };
+    ghost view = { λ b. record { messages = b.messages.items; asked = b.asked.items; issued = b.issued.items; lines = b.lines.items } };
 }
 
 // How many letters are in flight to an actor.
@@ -63,14 +66,16 @@ fn place_of(letters: &[Letter], to: ActorId, number: usize) -> usize
 }
 
 impl Between {
-    /// Nothing is in flight, no epoch was issued, and no line was added.
+    /// Nothing is in flight or without an answer, no epoch was issued, and no line was added.
     pub fn new(alloc: Global) -> Between
         ensures messages { result.messages ≡ [] }
+        ensures asked { result.asked ≡ [] }
         ensures issued { result.issued ≡ [] }
         ensures lines { result.lines ≡ [] }
     {
         Between {
             messages: Vec::new(alloc),
+            asked: Vec::new(alloc),
             issued: Vec::new(alloc),
             lines: Vec::new(alloc),
         }
@@ -87,6 +92,7 @@ impl Between {
     pub fn take(&mut self, to: ActorId, number: usize) -> Letter
         requires number { number < length (letters_to to self.old.messages) }
         ensures picked { IsPicked self.old.messages to number result self.new.messages }
+        ensures asked { self.new.asked ≡ self.old.asked }
         ensures issued { self.new.issued ≡ self.old.issued }
         ensures lines { self.new.lines ≡ self.old.lines }
     {
@@ -94,18 +100,21 @@ impl Between {
         self.messages.remove(place)
     }
 
-    // Sends messages.
+    // Sends messages, each of which is without an answer, or answers one that was.
     fn send(&mut self, from: ActorId, posts: Posts) -> Result<(), Memory>
         ensures messages { OnOk result (self.new.messages ≡ self.old.messages ++ letters_of from posts) }
+        ensures asked { OnOk result (self.new.asked ≡ asked_after self.old.asked (letters_of from posts)) }
         ensures issued { self.new.issued ≡ self.old.issued }
         ensures lines { self.new.lines ≡ self.old.lines }
     {
         for post in posts.into_vec() {
-            self.messages.push(Letter {
+            let letter = Letter {
                 from,
                 to: post.to,
                 message: post.message,
-            })?;
+            };
+            ask(&mut self.asked, &letter)?;
+            self.messages.push(letter)?;
         }
         Ok(())
     }
@@ -114,6 +123,7 @@ impl Between {
     fn tell(&mut self, lines: Lines) -> Result<(), Memory>
         ensures lines { OnOk result (self.new.lines ≡ self.old.lines ++ map (with_epoch self.old.issued) lines) }
         ensures messages { self.new.messages ≡ self.old.messages }
+        ensures asked { self.new.asked ≡ self.old.asked }
         ensures issued { self.new.issued ≡ self.old.issued }
     {
         for line in lines.into_vec() {
@@ -126,6 +136,7 @@ impl Between {
     /// each with the epoch issued where its client knows none, and the epoch that it issued is noted.
     pub fn follow(&mut self, from: ActorId, did: Did) -> Result<(), Memory>
         ensures messages { OnOk result (self.new.messages ≡ self.old.messages ++ letters_of from did.posts) }
+        ensures asked { OnOk result (self.new.asked ≡ asked_after self.old.asked (letters_of from did.posts)) }
         ensures lines { OnOk result (self.new.lines ≡ self.old.lines ++ map (with_epoch self.old.issued) did.lines) }
         ensures issued { OnOk result (self.new.issued ≡ self.old.issued ++ listed did.issued) }
     {
@@ -148,6 +159,7 @@ impl Between {
     {
         let Between {
             messages: _messages,
+            asked: _asked,
             issued: _issued,
             lines,
         } = self;

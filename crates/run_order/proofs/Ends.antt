@@ -36,8 +36,10 @@ has-run durable state r order w clients targets b o simple begun k =
     }
 
 -- nothing lies between actors
-pub is-nothing : (b : BetweenNow) → b.messages ≡ [] → b.issued ≡ [] → b.lines ≡ [] → nothing ≡ b
-is-nothing b m i l = sym (ap (λ x. record { messages = x; issued = b.issued; lines = b.lines }) m ∙ ap (λ x. record { messages = []; issued = x; lines = b.lines }) i ∙ ap (λ x. record { messages = []; issued = []; lines = x }) l)
+pub is-nothing : (b : BetweenNow) → b.messages ≡ [] → b.asked ≡ [] → b.issued ≡ [] → b.lines ≡ [] → nothing ≡ b
+is-nothing b m a i l =
+    sym (ap (λ x. record { messages = x; asked = b.asked; issued = b.issued; lines = b.lines }) m ∙ ap (λ x. record { messages = []; asked = x; issued = b.issued; lines = b.lines }) a
+    ∙ ap (λ x. record { messages = []; asked = []; issued = x; lines = b.lines }) i ∙ ap (λ x. record { messages = []; asked = []; issued = []; lines = x }) l)
 
 -- a number drawn below how many there are is that of one of them
 pub one-of : (p many len count : ℕ) → p < max 1 many → many ≡ len → len ≡ count → false ≡ (len == 0) → p < count

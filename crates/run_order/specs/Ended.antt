@@ -16,7 +16,7 @@ use Rattle.world_base.specs.Events.{Rules, target_plan}
 
 -- nothing lies between actors before their first turns
 abbrev pub nothing : BetweenNow
-nothing = record { messages = []; issued = []; lines = [] }
+nothing = record { messages = []; asked = []; issued = []; lines = [] }
 
 -- the actors show a world of which this holds
 pub record IsShown {S C : Type 0} (durable : S → Option Durable) (state : S → State) (r : Rules) (holds : World → Type 0) (clients : List ClientNow) (targets : List (TargetOf S C)) (b : BetweenNow) : Type 0 where

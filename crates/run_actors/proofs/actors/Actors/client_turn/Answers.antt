@@ -32,7 +32,7 @@ returns-clause-steps g c settling r w k = elim c.if-hears.branch [
       let awake = (hears c0.state (count_to (client c.args.n) c.args.self.now.between.messages) c.heard_by_client-hears.result c.args.number (c.heard_by_client-hears.ensures c0 at) b.if-hears.true c.requires.number).awake in
       let its = ap (λ s. s.1.0.items) b.self-is in
       follows c.follow.result c.args.self.now.between c.if-hears.between c.if-hears.did b.take.new.self.messages c.client_id-2.result (client c.args.n) c.follow.new.self _ (ap (λ x. x.messages) b.between-is) (ap (λ x. x.lines) b.between-is ∙ b.take.ensures.lines)
-      (ap (λ x. x.issued) b.between-is ∙ b.take.ensures.issued) c.client_id-2.ensures c.follow.ensures.messages c.follow.ensures.lines c.follow.ensures.issued
+      (ap (λ x. x.issued) b.between-is ∙ b.take.ensures.issued) (ap (λ x. x.asked) b.between-is ∙ b.take.ensures.asked) c.client_id-2.ensures c.follow.ensures.messages c.follow.ensures.lines c.follow.ensures.issued c.follow.ensures.asked
       (λ f. client-hears g.S.Store.durable g.S.Store.state settling r c.args.self.now.clients.items c.args.self.now.targets.items c.args.self.now.between c.args.n c0 d c.if-hears.did b.take.new.self.messages c.follow.new.self c.if-hears.self.1.0.items
       w k at awake c.args.number b.take.result (subst (λ a. IsPicked c.args.self.now.between.messages a c.args.number b.take.result b.take.new.self.messages) b.client_id.ensures b.take.ensures.picked)
       (subst (λ x. HearTurn c0.plan c0.state b.take.result.message x d.state) (sym b.did-is) b.in_ok-did.ensures.turn) b.in_ok-did.ensures.plan f its)
@@ -42,7 +42,7 @@ returns-clause-steps g c settling r w k = elim c.if-hears.branch [
       let at = at-index c.args.self.now.clients.items c.args.n c0 c.requires.within c.index_mut-client.ensures.value in
       let its = ap (λ s. s.1.0.items) b.self-is in
       follows c.follow.result c.args.self.now.between c.if-hears.between c.if-hears.did c.args.self.now.between.messages c.client_id-2.result (client c.args.n) c.follow.new.self _ (ap (λ x. x.messages) b.between-is) (ap (λ x. x.lines) b.between-is)
-      (ap (λ x. x.issued) b.between-is) c.client_id-2.ensures c.follow.ensures.messages c.follow.ensures.lines c.follow.ensures.issued
+      (ap (λ x. x.issued) b.between-is) (ap (λ x. x.asked) b.between-is) c.client_id-2.ensures c.follow.ensures.messages c.follow.ensures.lines c.follow.ensures.issued c.follow.ensures.asked
       (λ f. client-goes g.S.Store.durable g.S.Store.state settling r c.args.self.now.clients.items c.args.self.now.targets.items c.args.self.now.between c.args.n c0 d c.if-hears.did c.args.self.now.between.messages c.follow.new.self c.if-hears.self.1.0.items
       c.args.number w k at (silent c0.state (count_to (client c.args.n) c.args.self.now.between.messages) c.heard_by_client-hears.result (c.heard_by_client-hears.ensures c0 at) b.if-hears.false) refl (subst (λ x. NextTurn c0.plan c0.state x d.state) (sym b.did-is) b.in_ok-did-2.ensures.turn) b.in_ok-did-2.ensures.plan f its)
 ]
@@ -56,7 +56,7 @@ returns-clause-going g c = elim c.if-hears.branch [
       let awake = (hears c0.state (count_to (client c.args.n) c.args.self.now.between.messages) c.heard_by_client-hears.result c.args.number (c.heard_by_client-hears.ensures c0 at) b.if-hears.true c.requires.number).awake in
       let its = ap (λ s. s.1.0.items) b.self-is in
       follows c.follow.result c.args.self.now.between c.if-hears.between c.if-hears.did b.take.new.self.messages c.client_id-2.result (client c.args.n) c.follow.new.self _ (ap (λ x. x.messages) b.between-is) (ap (λ x. x.lines) b.between-is ∙ b.take.ensures.lines)
-      (ap (λ x. x.issued) b.between-is ∙ b.take.ensures.issued) c.client_id-2.ensures c.follow.ensures.messages c.follow.ensures.lines c.follow.ensures.issued
+      (ap (λ x. x.issued) b.between-is ∙ b.take.ensures.issued) (ap (λ x. x.asked) b.between-is ∙ b.take.ensures.asked) c.client_id-2.ensures c.follow.ensures.messages c.follow.ensures.lines c.follow.ensures.issued c.follow.ensures.asked
       (λ f.
       let picked = subst (λ a. IsPicked c.args.self.now.between.messages a c.args.number b.take.result b.take.new.self.messages) b.client_id.ensures b.take.ensures.picked in
       let turn = subst (λ x. HearTurn c0.plan c0.state b.take.result.message x d.state) (sym b.did-is) b.in_ok-did.ensures.turn in
@@ -71,7 +71,7 @@ returns-clause-going g c = elim c.if-hears.branch [
       let at = at-index c.args.self.now.clients.items c.args.n c0 c.requires.within c.index_mut-client.ensures.value in
       let its = ap (λ s. s.1.0.items) b.self-is in
       follows c.follow.result c.args.self.now.between c.if-hears.between c.if-hears.did c.args.self.now.between.messages c.client_id-2.result (client c.args.n) c.follow.new.self _ (ap (λ x. x.messages) b.between-is) (ap (λ x. x.lines) b.between-is)
-      (ap (λ x. x.issued) b.between-is) c.client_id-2.ensures c.follow.ensures.messages c.follow.ensures.lines c.follow.ensures.issued
+      (ap (λ x. x.issued) b.between-is) (ap (λ x. x.asked) b.between-is) c.client_id-2.ensures c.follow.ensures.messages c.follow.ensures.lines c.follow.ensures.issued c.follow.ensures.asked
       (λ f.
       let turn = subst (λ x. NextTurn c0.plan c0.state x d.state) (sym b.did-is) b.in_ok-did-2.ensures.turn in
       client-went-on g.S.Store.durable g.S.Store.state c.args.self.now.clients.items c.args.self.now.targets.items c.args.self.now.between c.follow.new.self c.requires.going c.args.n c0 d c.if-hears.did c.if-hears.self.1.0.items at b.in_ok-did-2.ensures.plan turn f its

@@ -52,7 +52,7 @@ returns-in-Ok-clause-steps g c r w k = elim c.if-hears.branch [
       let turn = b.in_ok-did.ensures.turn in
       let now = turn.2 s.s.durable s.is.told in
       let f = followed c.args.self.now.between c.if-hears.between c.if-hears.did b.take-letter.new.self.messages c.target_id-2.result (target c.args.t) c.follow.new.self (ap (λ z. z.messages) b.between-is) (ap (λ z. z.lines) b.between-is ∙ b.take-letter.ensures.lines)
-      (ap (λ z. z.issued) b.between-is ∙ b.take-letter.ensures.issued) c.target_id-2.ensures c.in-Ok.ensures.messages c.in-Ok.ensures.lines c.in-Ok.ensures.issued in
+      (ap (λ z. z.issued) b.between-is ∙ b.take-letter.ensures.issued) (ap (λ z. z.asked) b.between-is ∙ b.take-letter.ensures.asked) c.target_id-2.ensures c.in-Ok.ensures.messages c.in-Ok.ensures.lines c.in-Ok.ensures.issued c.in-Ok.ensures.asked in
       target-hears g.S.Store.durable g.S.Store.state c.args.settling r c.args.self.now.clients.items c.args.self.now.targets.items c.args.self.now.between c.args.t x y c.if-hears.did b.take-letter.new.self.messages c.follow.new.self c.if-hears.self.1.1.0.items
       w k at c.args.number turn.0 b.take-letter.result (subst (λ a. IsPicked c.args.self.now.between.messages a c.args.number b.take-letter.result b.take-letter.new.self.messages) b.target_id.ensures b.take-letter.ensures.picked) s.s.durable now.durable s.is.told now.kept_is
       (subst (λ z. Hears x.plan (g.S.Store.state x.store).opening x.memory turn.0 b.take-letter.result.from b.take-letter.result.message (kept s.s.durable (g.S.Store.state x.store)) (kept now.durable (g.S.Store.state y.store)) (y.memory, z)) (sym b.did-is) now.holds)
@@ -64,7 +64,7 @@ returns-in-Ok-clause-steps g c r w k = elim c.if-hears.branch [
       let s = target-there g.S.Store.durable g.S.Store.state r c.args.self.now.clients.items c.args.self.now.targets.items c.args.self.now.between w c.args.t x k at in
       let now = b.in_ok-did-2.ensures.turn s.s.durable s.is.told in
       let f = followed c.args.self.now.between c.if-hears.between c.if-hears.did c.args.self.now.between.messages c.target_id-2.result (target c.args.t) c.follow.new.self (ap (λ z. z.messages) b.between-is) (ap (λ z. z.lines) b.between-is)
-      (ap (λ z. z.issued) b.between-is) c.target_id-2.ensures c.in-Ok.ensures.messages c.in-Ok.ensures.lines c.in-Ok.ensures.issued in
+      (ap (λ z. z.issued) b.between-is) (ap (λ z. z.asked) b.between-is) c.target_id-2.ensures c.in-Ok.ensures.messages c.in-Ok.ensures.lines c.in-Ok.ensures.issued c.in-Ok.ensures.asked in
       target-idles g.S.Store.durable g.S.Store.state c.args.settling r c.args.self.now.clients.items c.args.self.now.targets.items c.args.self.now.between c.args.t x y c.if-hears.did c.args.self.now.between.messages c.follow.new.self c.if-hears.self.1.1.0.items
       c.args.number w k at (none-heard (count_to (target c.args.t) c.args.self.now.between.messages) c.heard_by_target-hears.result c.heard_by_target-hears.ensures b.if-hears.false) refl s.s.durable now.durable s.is.told now.kept_is (subst (λ z. IdlesWhole c.args.settling x.plan x.memory (kept s.s.durable (g.S.Store.state x.store)) (kept now.durable (g.S.Store.state y.store)) (y.memory, z)) (sym b.did-is) now.holds)
       b.in_ok-did-2.ensures.plan b.in_ok-did-2.ensures.runs.opening b.in_ok-did-2.ensures.runs.stops f (ap (λ z. z.1.1.0.items) b.self-is)
@@ -79,7 +79,7 @@ returns-in-Ok-clause-going g c = elim c.if-hears.branch [
       let at = at-index now.targets.items c.args.t x c.requires.within c.index_mut-target.ensures.value in
       let picked = subst (λ a. IsPicked now.between.messages a c.args.number b.take-letter.result b.take-letter.new.self.messages) b.target_id.ensures b.take-letter.ensures.picked in
       let f = followed now.between c.if-hears.between c.if-hears.did b.take-letter.new.self.messages c.target_id-2.result (target c.args.t) c.follow.new.self (ap (λ z. z.messages) b.between-is) (ap (λ z. z.lines) b.between-is ∙ b.take-letter.ensures.lines)
-      (ap (λ z. z.issued) b.between-is ∙ b.take-letter.ensures.issued) c.target_id-2.ensures c.in-Ok.ensures.messages c.in-Ok.ensures.lines c.in-Ok.ensures.issued in
+      (ap (λ z. z.issued) b.between-is ∙ b.take-letter.ensures.issued) (ap (λ z. z.asked) b.between-is ∙ b.take-letter.ensures.asked) c.target_id-2.ensures c.in-Ok.ensures.messages c.in-Ok.ensures.lines c.in-Ok.ensures.issued c.in-Ok.ensures.asked in
       target-on g.S.Store.durable g.S.Store.state now.clients.items now.targets.items now.between c.follow.new.self c.requires.going c.args.t x y c.if-hears.did b.take-letter.new.self.messages c.if-hears.self.1.1.0.items at b.in_ok-did.ensures.plan
       (still_runs stop_store (Ok b.in_ok-did.did) (g.S.Store.state x.store) (g.S.Store.state y.store) (g.S.Store.durable x.store) (g.S.Store.durable y.store) refl b.in_ok-did.ensures.runs)
       (rest-in-form c.requires.going.rules now.between.messages (target c.args.t) c.args.number b.take-letter.result b.take-letter.new.self.messages picked c.requires.going.letters)
@@ -91,7 +91,7 @@ returns-in-Ok-clause-going g c = elim c.if-hears.branch [
       let y = b.idle.new.self in
       let at = at-index now.targets.items c.args.t x c.requires.within c.index_mut-target.ensures.value in
       let f = followed now.between c.if-hears.between c.if-hears.did now.between.messages c.target_id-2.result (target c.args.t) c.follow.new.self (ap (λ z. z.messages) b.between-is) (ap (λ z. z.lines) b.between-is)
-      (ap (λ z. z.issued) b.between-is) c.target_id-2.ensures c.in-Ok.ensures.messages c.in-Ok.ensures.lines c.in-Ok.ensures.issued in
+      (ap (λ z. z.issued) b.between-is) (ap (λ z. z.asked) b.between-is) c.target_id-2.ensures c.in-Ok.ensures.messages c.in-Ok.ensures.lines c.in-Ok.ensures.issued c.in-Ok.ensures.asked in
       target-on g.S.Store.durable g.S.Store.state now.clients.items now.targets.items now.between c.follow.new.self c.requires.going c.args.t x y c.if-hears.did now.between.messages c.if-hears.self.1.1.0.items at b.in_ok-did-2.ensures.plan
       (still_runs stop_store (Ok b.in_ok-did-2.did) (g.S.Store.state x.store) (g.S.Store.state y.store) (g.S.Store.durable x.store) (g.S.Store.durable y.store) refl b.in_ok-did-2.ensures.runs)
       c.requires.going.letters
