@@ -51,7 +51,7 @@ loop-plan-preserved g c =
           subst (λ xs. Now (g.S.Store.durable c.settle_decided.new.store) (g.S.Store.state c.settle_decided.new.store) (λ k. Reached IdleNext c.args.knows.now.leader.decided (kept d (g.S.Store.state c.args.store.now)) xs k))
           (sym (ap (λ l. l.decided) one.leader))
           (idles-more c.loop-plan.knows.leader.decided _ some (ap (λ xs. get_or xs 0 none_decided) c.decided-in-loop-plan.ensures) c.args.knows.now.leader.decided _ now.durable (g.S.Store.state c.loop-plan.store) (g.S.Store.state c.settle_decided.new.store)
-          (g.S.Store.durable c.settle_decided.new.store) (g.S.Store.may c.settle_decided.new.store) (inv.leads now.durable now.kept_is).rows.order now.holds (one.made now.durable now.kept_is));
+          (g.S.Store.durable c.settle_decided.new.store) (left_by (g.S.Store.state c.settle_decided.new.store) (g.S.Store.may c.settle_decided.new.store)) (inv.leads now.durable now.kept_is).rows.order now.holds (one.made now.durable now.kept_is));
     }
 
 pub returns-clause-settled : goal.returns-clause-settled

@@ -11,7 +11,7 @@ pub returns-in_err-settle-clause-made : goal.returns-in_err-settle-clause-made
 returns-in_err-settle-clause-made g c d at =
     let is : c.from_residual.result ≡ Err c.in_err-settle.field-0.0 = search rules in
     subst (λ r. MadeOrCut (Settles c.args.attempt c.args.step) d (g.S.Store.state c.args.store.now) (g.S.Store.durable c.settle.new.self) (g.S.Store.state c.settle.new.self) (g.S.Store.may c.settle.new.self) r) (sym is)
-    (was_cut (Settles c.args.attempt c.args.step) (settled c.args.attempt c.args.step) d _ _ _ _ _ (g.S.Store.may c.settle.new.self) refl at
+    (was_cut (Settles c.args.attempt c.args.step) (settled c.args.attempt c.args.step) d (g.S.Store.state c.args.store.now) (g.S.Store.state c.settle.new.self) _ _ _ (g.S.Store.may c.settle.new.self) refl at
     (λ x may. g.met.S.Store.steady _ d x c.requires.running at may) c.in_err-settle.ensures.kept.left c.in_err-settle.ensures.call.free)
 
 pub returns-clause-made : goal.returns-clause-made

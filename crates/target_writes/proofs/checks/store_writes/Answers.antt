@@ -44,7 +44,7 @@ pub returns-in-Err-Stopped-clause-stored : goal.returns-in-Err-Stopped-clause-st
 returns-in-Err-Stopped-clause-stored g c d at first stamps allowed =
     inr (
       record { allowed = allowed; space = fits c.blocks-need.result c.free-free.result _ _ c.blocks-need.ensures c.free-free.ensures c.if-free-need.false },
-      was_cut (Prepares c.args.entry.now c.args.writes.now) (prepared c.args.entry.now c.args.writes.now) d _ _ _ _ _ (g.S.Store.may c.prepare.new.self) refl at
+      was_cut (Prepares c.args.entry.now c.args.writes.now) (prepared c.args.entry.now c.args.writes.now) d (g.S.Store.state c.args.store.now) (g.S.Store.state c.prepare.new.self) _ _ _ (g.S.Store.may c.prepare.new.self) refl at
           (λ x may. g.met.S.Store.steady _ d x c.requires.running at may) c.in-Err-Stopped.ensures.kept.left c.in-Err-Stopped.ensures.call.free,
     )
 
