@@ -1,4 +1,4 @@
--- An Ack keeps the facts of attempts.
+-- What a member answers keeps the facts of attempts.
 use Rattle.std.specs.Prelude.{ℕ, ◌≡◌, ◌≢◌, ◌⊎◌, ◌+◌, ◌≤◌, Bool, true, false, ◌&&◌, ◌==◌, List, [], ◌∷◌, ◌++◌, map, slice_get, Option, Some, None, is_some, refl, if◌then◌else◌}
 use Rattle.std.specs.List.{list_all}
 use Rattle.std.specs.Option.{option_map}
@@ -37,6 +37,7 @@ use Rattle.world_attempts.specs.MemberBits.{is-other_same, others-same}
 use Rattle.world_attempts.specs.Stored.{among-more, among-new, rising-aborted, row-gone, row-other, rows-rising}
 use Rattle.world_attempts.specs.Turning.{Stays, entry-elsewhere, entry-now, entry-stays, inc-stays, known-elsewhere, known-now, known-stays, one-or_another, row-elsewhere, row-now, row-stays}
 use Rattle.world_attempts.specs.Working.{at_work}
+use Rattle.world_fates.specs.Answers.{IsAnswer}
 use Rattle.world_fates.specs.Answering.{AnswerTaken, answer-aborts, answer-counted, answer-decides, answer-ignored}
 use Rattle.world_fates.specs.Concerns.{AreDull, IsDull, concerns, is_dull, kind-dull, no-prepare, no-refusal, no-talk, no-try}
 use Rattle.world_fates.specs.Facts.{IsAckRight, IsMarkRight, IsRow, IsSaidSo, Ongoing, is_talk, is_try, refuses_for, talking}
@@ -46,7 +47,7 @@ use Rattle.world_fates.specs.Prompts.{AreSpoken}
 use Rattle.world_fates.specs.Settling.{RowsStay}
 use Rattle.world_fates.specs.Speaking.{aborts-spoken, both-spoken, ended-some}
 use Rattle.world_fates.specs.Stepping.{Goes, attempts-step}
-use Rattle.world_fates.specs.Talks.{ack-talks, is-target, number-off, number-itself, own-target, refusal-talks}
+use Rattle.world_fates.specs.Talks.{is-target, number-off, number-itself, own-target, refusal-talks}
 use Rattle.world_fates.specs.Told.{silent-decides, silent-refuses, silent-same, silent_end, told_end}
 use Rattle.world_fates.specs.Turning.{Works, lives-stay}
 use Rattle.world_fates.specs.Working.{Step}
@@ -67,7 +68,7 @@ use Rattle.world_base.specs.ChangeLaws.{incarnation-settled}
 use Rattle.world_base.specs.EntryLaws.{entry-aborted, entry-aborted_other}
 
 module _ (r : Rules) (h later : History) (w v : World) (t : ℕ) (s : TargetState) (here : slice_get w.targets t ≡ Some s) (runs : s.life ≡ Running) (m : TargetMemory) (l : Letter) (rest : List Letter) (takes : Takes w.messages l rest) (to_it : l.to ≡ target t)
-    (a : AttemptId) (inc : ℕ) (refusal : Option Outcome) (is : l.message ≡ message.Ack a inc refusal) where
+    (a : AttemptId) (inc : ℕ) (refusal : Option Outcome) (is : IsAnswer r l a inc refusal) where
   abbrev V : Kept → World
   V k = at_work w t (target_after s k m) []
 
@@ -95,7 +96,7 @@ module _ (r : Rules) (h later : History) (w v : World) (t : ℕ) (s : TargetStat
 
   module _ (k : Kept) (p : Ongoing r h (V k)) where
     says : IsAckRight r h (V k) l.from l.to a inc refusal
-    says = subst (λ q. IsSaidSo r h (V k) l.from l.to q) is (p.letters l (has-left w.messages [] l (has-taken w.messages l rest takes)))
+    says = is.says h (V k) (p.letters l (has-left w.messages [] l (has-taken w.messages l rest takes)))
 
     sender : says.way.member ≡ l.from.number
     sender = sym (ap (λ i. i.number) says.way.sender)
@@ -150,7 +151,7 @@ module _ (r : Rules) (h later : History) (w v : World) (t : ℕ) (s : TargetStat
       mail : (x : AttemptId) → (x ≡ a → ⊥) → SameMail r h (V k) v x
       mail x off =
           over-mail w v t s (target_after s k m) z l rest (letters_of (target t) posts) over r h x
-          (ap (concerns x) is ∙ false_of (same_attempt a x) (λ same. off (sym (same-is a x same)))) (λ n i. dull n i x)
+          (is.concerned x ∙ false_of (same_attempt a x) (λ same. off (sym (same-is a x same)))) (λ n i. dull n i x)
 
       talks : (i n : ℕ) → talking r i v a n + one_if (is_talk r i a n l) ≡ talking r i (V k) a n
       talks i n = counts (is_talk r i a n) (λ q j. no-talk r a q (dull q j a) i n)
@@ -158,7 +159,7 @@ module _ (r : Rules) (h later : History) (w v : World) (t : ℕ) (s : TargetStat
       -- the letter is counted for its sender and its incarnation alone
       talk-of : (i n : ℕ) → is_talk r i a n l ≡ (is_target n (target l.from.number) && (inc == i))
       talk-of i n =
-          ack-talks r l a inc refusal is i a n
+          is.talks i a n
           ∙ ap (λ b. b && (is_target n l.from && (same_attempt a a && (inc == i)))) (ap (is_target (leader_of r a)) (to_it ∙ ap target leads) ∙ own-target (leader_of r a))
           ∙ ap (λ b. is_target n l.from && (b && (inc == i))) (same_attempt-itself a) ∙ ap (λ q. is_target n q && (inc == i)) from-is
 
@@ -423,7 +424,7 @@ module _ (r : Rules) (h later : History) (w v : World) (t : ℕ) (s : TargetStat
               where
                 refused-now : refuses_for (inc_at (V k) (leader_of r a)) a l.message ≡ true
                 refused-now =
-                    ap (refuses_for (inc_at (V k) (leader_of r a)) a) (is ∙ ap (message.Ack a inc) refuses)
+                    is.refuses (inc_at (V k) (leader_of r a)) a how refuses
                     ∙ both (same_attempt a a) (inc == inc_at (V k) (leader_of r a)) (same_attempt-itself a) (subst (λ i. (inc == i) ≡ true) (sym (inc-there ∙ present)) (number-itself inc))
 
             its : IsItsEntry r (V k) a (leader_of r a) e

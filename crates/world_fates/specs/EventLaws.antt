@@ -15,6 +15,7 @@ use Rattle.world_attempts.specs.Frames.{same-untold}
 use Rattle.world_attempts.specs.History.{GrowsBy, History}
 use Rattle.world_attempts.specs.Working.{at_work}
 use Rattle.world_fates.specs.AckTurns as ack
+use Rattle.world_fates.specs.Answers.{ack-answers}
 use Rattle.world_fates.specs.Asked.{AskedRight}
 use Rattle.world_fates.specs.ClientMoves.{goes-keeps, hears-keeps}
 use Rattle.world_fates.specs.CommitTurns as commit
@@ -106,9 +107,9 @@ module _ (r : Rules) (h later : History) (w v : World) (right : AskedRight r h w
       (prepare.prepare-step r h later w v g.t g.s g.here g.runs g.s.memory g.l g.rest g.takes g.to_it e first ws inc is g.s.opening) prepares.Heard (kept g.s) turn.reached.did turn.last g.new turn.reached.path begins)
       over (grows-by (message.Prepare e first ws inc) is refl)
   by-kind (message.Ack x inc refusal) is turn =
-      ack.ack-ends r h later w v g.t g.s g.here g.runs g.s.memory g.l g.rest g.takes g.to_it x inc refusal is (right.one_epoch x) turn.last g.new (g.memory, g.did) turn.ends
-      (path-keeps (AckNext (target_plan r g.t) g.s.memory g.l.from.number x inc refusal) (ack.AtAck r h later w v g.t g.s g.here g.runs g.s.memory g.l g.rest g.takes g.to_it x inc refusal is)
-      (ack.ack-step r h later w v g.t g.s g.here g.runs g.s.memory g.l g.rest g.takes g.to_it x inc refusal is) Heard (kept g.s) turn.reached.did turn.last g.new turn.reached.path (refl, begins))
+      ack.ack-ends r h later w v g.t g.s g.here g.runs g.s.memory g.l g.rest g.takes g.to_it x inc refusal (ack-answers r g.l x inc refusal is) (right.one_epoch x) turn.last g.new (g.memory, g.did) turn.ends
+      (path-keeps (AckNext (target_plan r g.t) g.s.memory g.l.from.number x inc refusal) (ack.AtAck r h later w v g.t g.s g.here g.runs g.s.memory g.l g.rest g.takes g.to_it x inc refusal (ack-answers r g.l x inc refusal is))
+      (ack.ack-step r h later w v g.t g.s g.here g.runs g.s.memory g.l g.rest g.takes g.to_it x inc refusal (ack-answers r g.l x inc refusal is)) Heard (kept g.s) turn.reached.did turn.last g.new turn.reached.path (refl, begins))
       over (subst (λ q. GrowsBy h (g.did.posts ++ silent_at g.s (target_after g.s g.new g.memory) q) later) is grows)
   by-kind (message.Mark inc marks) is turn =
       answer-ends refl (ap is_dull is) (grows-by (message.Mark inc marks) is refl)

@@ -12,6 +12,7 @@ use Rattle.world_attempts.specs.Counting.{has-taken}
 use Rattle.world_attempts.specs.History.{History}
 use Rattle.world_attempts.specs.MarkTurns.{target-is}
 use Rattle.world_fates.specs.AckTurns as ack
+use Rattle.world_fates.specs.Answers.{ack-answers}
 use Rattle.world_fates.specs.Alike.{back-answers, mark-alike, mark-replies, prepare-alike, prepare-replies, query-alike, query-replies}
 use Rattle.world_fates.specs.Asked.{AskedRight}
 use Rattle.world_fates.specs.Facts.{IsPrepareRight, IsSaidSo, Ongoing, PromptsFly, is_prompt, is_prompt_kind}
@@ -85,9 +86,9 @@ module _ (r : Rules) (h : History) (w v : World) (right : AskedRight r h w) (k :
           replies = ap (is_reply (message.Ack e.attempt inc z.0)) is ∙ prepare-replies e first ws inc z.0
   by-kind (message.Ack x inc refusal) is turn =
       spoken (ap is_prompt_kind is)
-      (ack.ack-speaks r h h w v g.t g.s g.here g.runs g.s.memory g.l g.rest g.takes g.to_it x inc refusal is turn.last g.new (g.memory, g.did) turn.ends
-      (path-keeps (AckNext (target_plan r g.t) g.s.memory g.l.from.number x inc refusal) (ack.AtAck r h h w v g.t g.s g.here g.runs g.s.memory g.l g.rest g.takes g.to_it x inc refusal is)
-      (ack.ack-step r h h w v g.t g.s g.here g.runs g.s.memory g.l g.rest g.takes g.to_it x inc refusal is) Heard (kept g.s) turn.reached.did turn.last g.new turn.reached.path (refl, turn-begins r h w v k g)))
+      (ack.ack-speaks r h h w v g.t g.s g.here g.runs g.s.memory g.l g.rest g.takes g.to_it x inc refusal (ack-answers r g.l x inc refusal is) turn.last g.new (g.memory, g.did) turn.ends
+      (path-keeps (AckNext (target_plan r g.t) g.s.memory g.l.from.number x inc refusal) (ack.AtAck r h h w v g.t g.s g.here g.runs g.s.memory g.l g.rest g.takes g.to_it x inc refusal (ack-answers r g.l x inc refusal is))
+      (ack.ack-step r h h w v g.t g.s g.here g.runs g.s.memory g.l g.rest g.takes g.to_it x inc refusal (ack-answers r g.l x inc refusal is)) Heard (kept g.s) turn.reached.did turn.last g.new turn.reached.path (refl, turn-begins r h w v k g)))
   by-kind (message.Mark inc marks) is turn =
       answers (message.Marked inc (attempts_of marks)) (mark-answers r h w v k g inc marks is turn).sent refl (ap is_prompt_kind is) (ap (is_reply (message.Marked inc (attempts_of marks))) is ∙ mark-replies inc marks)
       (λ p wide prompt q i on. ap p (mark-alike r h w k g.l q g.t inc marks flies i g.to_it is on))

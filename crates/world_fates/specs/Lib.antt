@@ -12,6 +12,7 @@ pub mod Working
 pub mod Told
 pub mod Overs
 pub mod Talks
+pub mod Answers
 pub mod Answering
 pub mod Beginning
 pub mod FetchTurns

@@ -14,6 +14,7 @@ use Rattle.world_base.specs.declared.target.TargetState.{TargetState}
 use Rattle.world_base.specs.declared.world.World.{World}
 use Rattle.world_base.specs.Events.{ByClient, ByTarget, RightEvent, Rules, ToClient, ToTarget, target_after}
 use Rattle.world_base.specs.Letters.{client}
+use Rattle.world_base.specs.Statuses.{status_refusal}
 
 -- an attempt's client is told that it ended so
 abbrev pub told_end : AttemptId → Option Epoch → Outcome → Post
@@ -31,6 +32,8 @@ silent_end x refusal (Some e) before after kept = if after && not before then to
 
 abbrev pub silent_at : TargetState → TargetState → Message → List Post
 silent_at s z (message.Ack x inc refusal) = silent_end x refusal (entry_of s.durable x) (is_among x s.memory.leader.decided) (is_among x z.memory.leader.decided) (is_some (entry_of z.durable x))
+silent_at s z (message.StatusIs x inc how) =
+    silent_end x (status_refusal x how) (entry_of s.durable x) (is_among x s.memory.leader.decided) (is_among x z.memory.leader.decided) (is_some (entry_of z.durable x))
 silent_at s z m = []
 
 -- By what is told in an event attempts are decided and aborted. A leader that opened again may have to go on without a client that waits; what

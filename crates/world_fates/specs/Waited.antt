@@ -15,6 +15,7 @@ use Rattle.dtx_base.specs.Leading.{undecided_attempt}
 use Rattle.dtx_base.specs.Rows.{row_of}
 use Rattle.world_attempts.specs.History.{GrowsBy, History, Tells, target_posts}
 use Rattle.world_fates.specs.AckTurns as ack
+use Rattle.world_fates.specs.Answers.{ack-answers}
 use Rattle.world_fates.specs.Facts.{Attempts}
 use Rattle.world_fates.specs.Lefts.{turn-begins}
 use Rattle.world_fates.specs.Told.{silent_at, told_posts}
@@ -40,10 +41,11 @@ hearing-sent r h w v k waits g x own how tells = by g.l.message refl g.turn tell
     by : (m : Message) → g.l.message ≡ m → HearsRightly (target_plan r g.t) g.s.opening g.s.memory g.reading g.l.from m (kept g.s) g.new (g.memory, g.did) → Tells (g.did.posts ++ silent_at g.s (target_after g.s g.new g.memory) m) x own how
         → Tells g.did.posts x own how
     by (message.Ack y inc refusal) is turn told =
-        ack.ack-waited r h h w v g.t g.s g.here g.runs g.s.memory g.l g.rest g.takes g.to_it y inc refusal is turn.last g.new (g.memory, g.did) turn.ends
-        (path-keeps (AckNext (target_plan r g.t) g.s.memory g.l.from.number y inc refusal) (ack.AtAck r h h w v g.t g.s g.here g.runs g.s.memory g.l g.rest g.takes g.to_it y inc refusal is)
-        (ack.ack-step r h h w v g.t g.s g.here g.runs g.s.memory g.l g.rest g.takes g.to_it y inc refusal is) Heard (kept g.s) turn.reached.did turn.last g.new turn.reached.path (refl, turn-begins r h w v k.on g))
+        ack.ack-waited r h h w v g.t g.s g.here g.runs g.s.memory g.l g.rest g.takes g.to_it y inc refusal (ack-answers r g.l y inc refusal is) turn.last g.new (g.memory, g.did) turn.ends
+        (path-keeps (AckNext (target_plan r g.t) g.s.memory g.l.from.number y inc refusal) (ack.AtAck r h h w v g.t g.s g.here g.runs g.s.memory g.l g.rest g.takes g.to_it y inc refusal (ack-answers r g.l y inc refusal is))
+        (ack.ack-step r h h w v g.t g.s g.here g.runs g.s.memory g.l g.rest g.takes g.to_it y inc refusal (ack-answers r g.l y inc refusal is)) Heard (kept g.s) turn.reached.did turn.last g.new turn.reached.path (refl, turn-begins r h w v k.on g))
         (λ u row. waits g.t g.s y u g.here row) x own how told
+    by (message.StatusIs y inc end) is turn told = absurd turn
     by m is turn told = subst (λ ps. Tells ps x own how) (append-nil g.did.posts) told
 
 told-sent : (r : Rules) (h : History) (w v : World) → Attempts r h w → RowsWait w → (event : RightEvent r w v) (x : AttemptId) (own : Option Epoch) (how : Outcome) → Tells (told_posts event) x own how → Tells (target_posts event) x own how

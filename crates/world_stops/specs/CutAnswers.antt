@@ -29,6 +29,7 @@ use Rattle.world_attempts.specs.History.{Decided, GrowsBy, History}
 use Rattle.world_attempts.specs.MarkTurns.{led-found, target-is}
 use Rattle.world_attempts.specs.Working.{at_work}
 use Rattle.world_fates.specs.AckTurns as ack
+use Rattle.world_fates.specs.Answers.{ack-answers}
 use Rattle.world_fates.specs.Concerns.{AreDull, IsDull, mail-sent}
 use Rattle.world_fates.specs.Facts.{Attempts, IsAckRight, IsSaidSo, IsVerdictRight, Ongoing, is_try, refuses_for}
 use Rattle.world_attempts.specs.FetchTurns.{fetch_memory}
@@ -217,13 +218,13 @@ module _ (r : Rules) (h : History) (w v : World) (t : ℕ) (s : TargetState) (he
     ack-plain : (a : AckStage) (n : Kept) (ch : Change) (b : AckStage) → AckNext (target_plan r t) s.memory l.from.number x inc refusal a n (Some ch) b → (is_plain ch ≡ true) × (none_issued a ≡ none_issued b)
     ack-plain a n ch b (Aborts n2 on) = (refl, refl)
 
-    ends : (stage : AckStage) (n : Kept) → ack.AtAck r h h w v t s here runs s.memory l rest takes to_it x inc refusal is stage n → cut.left.durable ≡ n.durable → Attempts r later v
+    ends : (stage : AckStage) (n : Kept) → ack.AtAck r h h w v t s here runs s.memory l rest takes to_it x inc refusal (ack-answers r l x inc refusal is) stage n → cut.left.durable ≡ n.durable → Attempts r later v
     ends Heard n p same = unchanged n p.1 same p.0
     ends (Followed st) n p same = by (is_refusing l.from.number x inc refusal (leader_at (target_plan r t) s.memory p.before.durable)) refl
       where
         by : (b : Bool) → is_refusing l.from.number x inc refusal (leader_at (target_plan r t) s.memory p.before.durable) ≡ b → Attempts r later v
         by false off = unchanged p.before p.on (same ∙ p.other off) p.begun
-        by true on = refused (ack.view r h h w v t s here runs s.memory l rest takes to_it x inc refusal is p.before p.on (present-test p.before on))
+        by true on = refused (ack.view r h h w v t s here runs s.memory l rest takes to_it x inc refusal (ack-answers r l x inc refusal is) p.before p.on (present-test p.before on))
           where
             refused : {st2 : LeaderStep} → AckIs l.from.number x inc refusal (leader_at (target_plan r t) s.memory p.before.durable) st2 → Attempts r later v
             refused (Ignored unawaited off) = let no : ⊥ = cc (on, off) in absurd no
@@ -234,6 +235,6 @@ module _ (r : Rules) (h : History) (w v : World) (t : ℕ) (s : TargetState) (he
     pub ack-cut : CutTurn (AckNext (target_plan r t) s.memory l.from.number x inc refusal) none_issued t Heard (kept s) cut → Attempts r later v
     ack-cut turn = ends at.stage at.mid at.so_far at.left
       where
-        at : CutAs (AckNext (target_plan r t) s.memory l.from.number x inc refusal) none_issued t (ack.AtAck r h h w v t s here runs s.memory l rest takes to_it x inc refusal is) (ack.ack-step r h h w v t s here runs s.memory l rest takes to_it x inc refusal is) ack-plain Heard cut
-        at = cut-as (AckNext (target_plan r t) s.memory l.from.number x inc refusal) none_issued t (ack.AtAck r h h w v t s here runs s.memory l rest takes to_it x inc refusal is)
-            (ack.ack-step r h h w v t s here runs s.memory l rest takes to_it x inc refusal is) ack-plain Heard (kept s) cut turn (refl, start)
+        at : CutAs (AckNext (target_plan r t) s.memory l.from.number x inc refusal) none_issued t (ack.AtAck r h h w v t s here runs s.memory l rest takes to_it x inc refusal (ack-answers r l x inc refusal is)) (ack.ack-step r h h w v t s here runs s.memory l rest takes to_it x inc refusal (ack-answers r l x inc refusal is)) ack-plain Heard cut
+        at = cut-as (AckNext (target_plan r t) s.memory l.from.number x inc refusal) none_issued t (ack.AtAck r h h w v t s here runs s.memory l rest takes to_it x inc refusal (ack-answers r l x inc refusal is))
+            (ack.ack-step r h h w v t s here runs s.memory l rest takes to_it x inc refusal (ack-answers r l x inc refusal is)) ack-plain Heard (kept s) cut turn (refl, start)
