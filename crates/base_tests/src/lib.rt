@@ -1,4 +1,4 @@
-// Tests of the crates at the base: values, paths, classes, clocks, messages, reads of what stands,
+// Tests of the crates at the base: values, paths, classes, clocks, messages, reads of what stands, timestamps,
 // words of a text, and the outside in memory.
 #![tactic(auto)]
 
@@ -28,3 +28,5 @@ mod paths;
 mod places;
 #[cfg(test)]
 mod slots;
+#[cfg(test)]
+mod stamps;

@@ -68,7 +68,7 @@ pub struct TargetNew<S, C> {
 // What a target knows that has just opened, over a store with this lease and without entries.
 fn first_knows(alloc: Global, me: TargetId, targets: u8, lease: u64) -> Result<Knows, TargetStop>
     ensures clock { IfOk result (λ k. k.hlc ≡ record { target = me; ticks = lease }) }
-    ensures stamps { IfOk result (λ k. k.stamps ≡ []) }
+    ensures stamps { IfOk result (λ k. k.stamps.reads ≡ []) }
     ensures entries { IfOk result (λ k. k.entries.items ≡ []) }
     ensures leader { IfOk result (λ k. k.leader ≡ first_memory []) }
     ensures member { IfOk result (λ k. k.member ≡ first_member me) }

@@ -20,7 +20,7 @@ use Rattle.target_parts.specs.declared.knows.Knows.{Knows}
 
 -- what a target remembers; so far it makes no snapshot and no aggregation
 abbrev pub memory_of : Knows → TargetMemory
-memory_of k = record { ticks = k.hlc.ticks; stamps = k.stamps; leader = k.leader; member = k.member.memory; collecting = [] }
+memory_of k = record { ticks = k.hlc.ticks; stamps = k.stamps.reads; leader = k.leader; member = k.member.memory; collecting = [] }
 
 -- ---- what it keeps
 

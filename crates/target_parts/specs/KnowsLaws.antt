@@ -21,10 +21,10 @@ remembered ticks stamps leader member = record { ticks = ticks; stamps = stamps;
 
 pub memory-beside : (old new : Knows) (l : LeaderMemory) → IsBeside old new → new.leader ≡ l → memory_of new ≡ record (memory_of old) { leader = l }
 memory-beside old new l b leader =
-    ap (λ c. remembered c.ticks new.stamps new.leader new.member.memory) b.hlc
-    ∙ ap (λ s. remembered old.hlc.ticks s new.leader new.member.memory) b.stamps
-    ∙ ap (λ x. remembered old.hlc.ticks old.stamps x new.member.memory) leader
-    ∙ ap (λ m. remembered old.hlc.ticks old.stamps l m.memory) b.member
+    ap (λ c. remembered c.ticks new.stamps.reads new.leader new.member.memory) b.hlc
+    ∙ ap (λ s. remembered old.hlc.ticks s.reads new.leader new.member.memory) b.stamps
+    ∙ ap (λ x. remembered old.hlc.ticks old.stamps.reads x new.member.memory) leader
+    ∙ ap (λ m. remembered old.hlc.ticks old.stamps.reads l m.memory) b.member
 
 pub memory-same : (old new : Knows) → IsBeside old new → new.leader ≡ old.leader → memory_of new ≡ memory_of old
 memory-same old new b leader = memory-beside old new old.leader b leader

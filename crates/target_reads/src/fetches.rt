@@ -70,7 +70,7 @@ fn fetch_at(request: &FetchRequest, epoch: Epoch) -> Result<Message, Memory>
 // The read is raised among the timestamps, unless it reads at a snapshot.
 fn raise(stamps: &mut Stamps, request: &FetchRequest, epoch: Epoch) -> Result<(), Memory>
     requires { is_read_in_form request.now.read ≡ true }
-    ensures { OnOk result (stamps.new ≡ stamps_with request.now epoch stamps.old) }
+    ensures { OnOk result (stamps.new.reads ≡ stamps_with request.now epoch stamps.old.reads) }
 {
     if request.snapshot {
         return Ok(());

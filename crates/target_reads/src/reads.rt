@@ -26,7 +26,7 @@ use target_parts::halt::Halt;
 use target_parts::kept::{other_leader, settle_decided};
 use target_parts::knows::Knows;
 use target_parts::later::later_write;
-use vos_stamp::checks::check_read;
+use vos_stamp::checks::{by_floor, check_read};
 use vos_store::refusal::FetchNo;
 use vos_store::store::Store;
 use world_base::request::FetchRequest;
@@ -65,11 +65,10 @@ fn fetch<S: Store>(
             Some(cause) => Ok(Met::Refused(cause)),
             None => Ok(Met::Unsettled(other)),
         },
-        Err(FetchNo::Aggregated(at, number)) => Ok(Met::Refused(Cause::Floor {
-            target: plan.me,
-            epoch: at,
-            why: FloorWhy::Aggregate(number),
-        })),
+        Err(FetchNo::Aggregated(at, number)) => {
+            let aggregated = (at, FloorWhy::Aggregate(number));
+            Ok(Met::Refused(by_floor(aggregated, plan.me)))
+        }
         Err(FetchNo::Stopped) => Err(Halt::Stopped),
         Err(FetchNo::Memory) => Err(Halt::Memory),
     }

@@ -13,14 +13,13 @@ use Rattle.base_types.specs.declared.shown.Shown.{Shown}
 use Rattle.daos_model.specs.declared.durable.Durable.{Durable}
 use Rattle.daos_model.specs.Blocks.{blocks}
 use Rattle.daos_model.specs.Changes.{prepared}
-use Rattle.vos_stamp.specs.Stamps.{read_later, write_later}
 use Rattle.vos_store.specs.Calls.{State}
 use Rattle.vos_store.specs.Conditions.{CanPrepare}
 use Rattle.world_base.specs.declared.did.Did.{Did as DidOf}
 use Rattle.world_base.specs.declared.target.TargetMemory.{TargetMemory}
 use Rattle.world_base.specs.declared.target.TargetPlan.{TargetPlan}
 use Rattle.world_base.specs.Changes.{Change, Kept, Prepares}
-use Rattle.world_base.specs.Commits.{ByRead, ByWrite, IsAllowed, IsRefusedBy, first_floor, first_later}
+use Rattle.world_base.specs.Commits.{IsAllowed, IsRefusedBy, first_floor}
 use Rattle.world_base.specs.Turns.{InChange, InQuestion, Reached, Whole}
 use Rattle.target_parts.specs.declared.halt.Halt.{Halt}
 use Rattle.target_parts.specs.declared.halt.Halt.TheVariants as halt
@@ -29,21 +28,9 @@ use Rattle.target_parts.specs.Ending.{partway_of, turn_said}
 use Rattle.target_parts.specs.Parts.{Did, Now, Partway, Stays, kept}
 use Rattle.target_parts.specs.Stops.{Turn, stop_memory, stop_of}
 use Rattle.target_parts.specs.Turning.{now_partway, now_stays, reached_change, whole}
-use Rattle.target_writes.specs.Checks.{AnswersReads, ByCause, BySpace, CanStore, FindsSpace, IsRefusal, PreparesOrNot}
+use Rattle.target_writes.specs.Checks.{ByCause, BySpace, CanStore, FindsSpace, IsRefusal, PreparesOrNot}
 use Rattle.target_writes.specs.Writing.{floors_above}
 use Rattle.world_base.specs.PathLaws.{reached-here}
-
--- ---- refusals
-
-pub refused_by_read : (t : TargetPlan) (opening : Epoch × FloorWhy) (first : Option Epoch) (e : Epoch) (d : Durable) (stamps : List Shown) (ws : List MinorWrite) (f : Option Cause) (x : Option Shown) (r : Shown)
-    → f ≡ first_floor t opening e d ws → f ≡ None → AnswersReads e stamps ws x → x ≡ Some r → IsRefusedBy t opening first e d stamps ws (read_later r)
-refused_by_read t opening first e d stamps ws f x r floors none reads found = ByRead (sym floors ∙ none) r (subst (AnswersReads e stamps ws) found reads) refl
-
-pub refused_by_write : (t : TargetPlan) (opening : Epoch × FloorWhy) (first : Option Epoch) (e : Epoch) (d : Durable) (stamps : List Shown) (ws : List MinorWrite) (f : Option Cause) (x y : Option Shown) (w : Shown)
-    → f ≡ first_floor t opening e d ws → f ≡ None → AnswersReads e stamps ws x → x ≡ None → y ≡ first_later t first e d ws → y ≡ Some w
-    → IsRefusedBy t opening first e d stamps ws (write_later w)
-refused_by_write t opening first e d stamps ws f x y w floors none reads no_read later found =
-    ByWrite (sym floors ∙ none) (subst (AnswersReads e stamps ws) no_read reads) w (sym later ∙ found) refl
 
 -- ---- what `prepare` asks
 

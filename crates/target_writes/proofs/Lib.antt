@@ -1,4 +1,5 @@
 pub mod Owning
+pub mod Checking
 pub mod Committing
 pub mod Storing
 pub mod Beginning

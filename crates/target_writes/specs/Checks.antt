@@ -8,26 +8,29 @@ use Rattle.base_types.specs.declared.outcome.Cause.{Cause}
 use Rattle.base_types.specs.declared.outcome.FloorWhy.{FloorWhy}
 use Rattle.base_types.specs.declared.outcome.Outcome.{Outcome}
 use Rattle.base_types.specs.declared.outcome.Outcome.TheVariants as outcome
+use Rattle.base_types.specs.declared.path.Path.{Path}
 use Rattle.base_types.specs.declared.shown.Shown.{Shown}
 use Rattle.base_types.specs.Operations.{write_path}
 use Rattle.daos_model.specs.declared.durable.Durable.{Durable}
 use Rattle.daos_model.specs.Blocks.{blocks}
 use Rattle.daos_model.specs.Durables.{entry_key, entry_of, is_enlisted, object_key, version_key}
 use Rattle.daos_model.specs.Ordered.{put}
+use Rattle.vos_stamp.specs.Stamps.{AnswersWrite}
+use Rattle.vos_store.specs.Answers.{floor_of}
 use Rattle.vos_store.specs.Calls.{State}
 use Rattle.vos_store.specs.Conditions.{IsLeased}
 use Rattle.world_base.specs.declared.target.TargetPlan.{TargetPlan}
 use Rattle.world_base.specs.Changes.{Prepares}
-use Rattle.world_base.specs.Commits.{FirstRead, IsAllowed, IsRefusedBy, NoReads, own_writes}
+use Rattle.world_base.specs.Commits.{IsAllowed, IsRefusedBy, own_writes}
+use Rattle.world_base.specs.Reads.{later_of}
 pub use Rattle.world_posts.specs.Forms.{AreWrites}
 use Rattle.target_parts.specs.declared.halt.Halt.{Halt}
 use Rattle.target_parts.specs.declared.halt.Halt.TheVariants as halt
 use Rattle.target_parts.specs.Parts.{Did, Stays, WasAsked, WasCut, kept, left_by}
 
--- the first write's later read, or none stands against the writes
-abbrev pub AnswersReads : Epoch → List Shown → List MinorWrite → Option Shown → Type 0
-AnswersReads e stamps ws None = NoReads e stamps ws
-AnswersReads e stamps ws (Some r) = FirstRead e stamps ws r
+-- a write on a path is refused, or allowed
+abbrev pub ChecksOne : TargetPlan → Epoch × FloorWhy → Option Epoch → Epoch → Durable → List Shown → Path → Option Cause → Type 0
+ChecksOne t opening first e d stamps p cause = AnswersWrite t.me p e.0 (floor_of opening d p.cont) stamps (later_of t first e p d) cause
 
 -- writes are refused, or allowed
 abbrev pub Checks : TargetPlan → Epoch × FloorWhy → Option Epoch → Epoch → Durable → List Shown → List MinorWrite → Option Cause → Type 0

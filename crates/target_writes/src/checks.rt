@@ -5,91 +5,53 @@ ghost use Rattle.base_types.specs.declared.epoch.Epoch.{Epoch as EpochOf};
 ghost use Rattle.base_types.specs.declared.outcome.Outcome.TheVariants as outcome;
 ghost use Rattle.base_types.specs.declared.shown.Shown.{Shown as ShownOf};
 ghost use Rattle.daos_model.specs.declared.durable.Durable.{Durable};
-ghost use Rattle.daos_model.specs.Forms.{is_write_in_form};
+ghost use Rattle.daos_model.specs.Durables.{is_enlisted};
+ghost use Rattle.daos_model.specs.Forms.{is_path_in_form, is_write_in_form};
 ghost use Rattle.vos_store.specs.Conditions.{IsPreparable};
-ghost use Rattle.world_base.specs.Commits.{IsAllowed, first_floor, first_later};
+ghost use Rattle.world_base.specs.Commits.{IsAllowed, first_floor};
 ghost use Rattle.target_parts.specs.Halts.{halt_stop};
 ghost use Rattle.target_parts.specs.Knowing.{HasEpochs, LeadsWell, memory_of};
 ghost use Rattle.target_parts.specs.Parts.{Asks, Runs};
-ghost use Rattle.target_writes.specs.Checks.{AnswersReads, AreEnlisted, CanStore, Checks, PreparesOrNot, entries_then};
+ghost use Rattle.target_writes.specs.Checks.{AreEnlisted, CanStore, Checks, ChecksOne, PreparesOrNot, entries_then};
 ghost use Rattle.target_parts.specs.Standing.{Keeps};
 
 use base_types::entry::Entry;
 use base_types::epoch::{Epoch, TargetId};
-use base_types::items::Memory;
 use base_types::operation::MinorWrite;
 use base_types::outcome::{Cause, Outcome};
-use base_types::shown::Shown;
+use base_types::path::Path;
 use daos_model::accounts::blocks;
 use dtx_table::rows::put;
 use target_parts::halt::Halt;
 use target_parts::knows::Knows;
 use target_parts::later::later_write;
+use vos_stamp::checks::{check_write, first_cause};
 use vos_stamp::stamps::Stamps;
 use vos_store::refusal::PrepareNo;
 use vos_store::store::Store;
 use world_base::target::TargetPlan;
 
-// The cause of the first floor that a write isn't above.
-fn floor_cause<S: Store>(
-    store: &S,
-    plan: TargetPlan,
-    epoch: Epoch,
-    writes: &[MinorWrite],
-) -> Option<Cause>
-    requires running { (S.state store.now).stopped ≡ false }
-    requires enlisted { ForSome (S.durable store.now) (AreEnlisted writes.now) }
-    ensures { ForSome (S.durable store.now) (λ d. result ≡ first_floor plan (S.state store.now).opening epoch d writes.now) }
-{
-    for write in writes {
-        let (at, why) = store.floor(write.write.path().cont);
-        if epoch.0 <= at.0 {
-            return Some(Cause::Floor {
-                target: plan.me,
-                epoch: at,
-                why,
-            });
-        }
-    }
-    None
-}
-
-// A later read of the first write that one stands against.
-fn later_read(stamps: &Stamps, epoch: Epoch, writes: &[MinorWrite]) -> Result<Option<Shown>, Memory>
-    requires { All (λ w. is_write_in_form w.write ≡ true) writes.now }
-    ensures { IfOk result (AnswersReads epoch stamps.now writes.now) }
-{
-    for write in writes {
-        if let Some(read) = stamps.later_read(write.write.path(), epoch) {
-            return Ok(Some(read.copy()?));
-        }
-    }
-    Ok(None)
-}
-
-// A later write of the first write that one refuses.
-fn first_later<S: Store>(
+// Why a write on a path is refused, if it is.
+fn check<S: Store>(
     store: &mut S,
+    stamps: &Stamps,
     plan: TargetPlan,
     first: Option<Epoch>,
     epoch: Epoch,
-    writes: &[MinorWrite],
-) -> Result<Option<Shown>, Halt>
-    requires form { All (λ w. is_write_in_form w.write ≡ true) writes.now }
+    path: &Path,
+) -> Result<Option<Cause>, Halt>
+    requires form { is_path_in_form path.now ≡ true }
     requires running { (S.state store.old).stopped ≡ false }
-    requires enlisted { ForSome (S.durable store.old) (AreEnlisted writes.now) }
+    requires enlisted { ForSome (S.durable store.old) (λ d. is_enlisted d path.now.cont ≡ true) }
     requires epochs { ForSome (S.durable store.old) HasEpochs }
     ensures runs { Runs halt_stop result (S.state store.old) (S.state store.new) (S.durable store.old) (S.durable store.new) }
-    ensures later { (d : Durable) → S.durable store.old ≡ Some d
-        → Asks (λ later. later ≡ first_later plan first epoch d writes.now) d (S.state store.old) (S.durable store.new) (S.state store.new) (S.may store.new) result }
+    ensures checked { (d : Durable) → S.durable store.old ≡ Some d
+        → Asks (ChecksOne plan (S.state store.old).opening first epoch d stamps.now.reads path.now) d
+        (S.state store.old) (S.durable store.new) (S.state store.new) (S.may store.new) result }
 {
-    for write in writes {
-        let later = later_write(store, plan, first, epoch, write.write.path())?;
-        if later.is_some() {
-            return Ok(later);
-        }
-    }
-    Ok(None)
+    let floor = store.floor(path.cont);
+    let later = later_write(store, plan, first, epoch, path)?;
+    Ok(check_write(stamps, path, epoch, floor, plan.me, later)?)
 }
 
 // Why writes are refused, if they are: by a floor, else by a later read, else by a later write.
@@ -107,27 +69,15 @@ fn refusal<S: Store>(
     requires epochs { ForSome (S.durable store.old) HasEpochs }
     ensures runs { Runs halt_stop result (S.state store.old) (S.state store.new) (S.durable store.old) (S.durable store.new) }
     ensures checked { (d : Durable) → S.durable store.old ≡ Some d
-        → Asks (Checks plan (S.state store.old).opening first epoch d stamps.now writes.now) d
+        → Asks (Checks plan (S.state store.old).opening first epoch d stamps.now.reads writes.now) d
         (S.state store.old) (S.durable store.new) (S.state store.new) (S.may store.new) result }
 {
-    if let Some(cause) = floor_cause(store, plan, epoch, writes) {
-        return Ok(Some(cause));
+    let mut refused = None;
+    for write in writes {
+        let cause = check(store, stamps, plan, first, epoch, write.write.path())?;
+        refused = first_cause(refused, cause);
     }
-    if let Some(read) = later_read(stamps, epoch, writes)? {
-        return Ok(Some(Cause::ReadLater {
-            by: read.by,
-            epoch: read.epoch,
-            path: read.path,
-        }));
-    }
-    match first_later(store, plan, first, epoch, writes)? {
-        Some(write) => Ok(Some(Cause::WriteLater {
-            by: write.by,
-            epoch: write.epoch,
-            path: write.path,
-        })),
-        None => Ok(None),
-    }
+    Ok(refused)
 }
 
 // There is no space.
@@ -193,7 +143,7 @@ pub fn prepare<S: Store>(
     requires can { ForSome (S.durable store.old) (CanStore entry.now writes.now) }
     requires leads { ForSome (S.durable store.old) (LeadsWell plan (memory_of knows.old) knows.old.entries.items) }
     ensures prepared { (d : Durable) → S.durable store.old ≡ Some d
-        → PreparesOrNot plan (S.state store.old).opening first knows.old.stamps entry.now writes.now d (S.state store.old) (S.durable store.new) (S.state store.new) (S.may store.new) result }
+        → PreparesOrNot plan (S.state store.old).opening first knows.old.stamps.reads entry.now writes.now d (S.state store.old) (S.durable store.new) (S.state store.new) (S.may store.new) result }
     ensures leader { knows.new.leader ≡ knows.old.leader }
     ensures keeps { Keeps plan halt_stop result (S.state store.old) (S.state store.new) (S.durable store.old) (S.durable store.new) knows.old knows.new }
 {

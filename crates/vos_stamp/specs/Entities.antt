@@ -1,5 +1,5 @@
 -- The numbers that stand for entities, and what a read raises at the entities on its path.
-use Rattle.std.specs.Prelude.{ℕ, ◌≡◌, ◌+◌, ◌*◌, ◌/◌, ◌++◌, Bool, true, false, nat_le, nat_lt, nat_eq, List, [], ◌∷◌, Option, Some, None, Contains, if◌then◌else◌}
+use Rattle.std.specs.Prelude.{ℕ, ◌≡◌, ◌≤◌, ◌+◌, ◌*◌, ◌/◌, ◌++◌, Bool, true, false, nat_le, nat_lt, nat_eq, List, [], ◌∷◌, Option, Some, None, Contains, if◌then◌else◌}
 use Rattle.base_types.specs.declared.id.ObjId.{ObjId}
 use Rattle.base_types.specs.declared.path.Level.{Level}
 use Rattle.base_types.specs.declared.path.Level.TheVariants.{Cont, Obj, Dkey, Akey}
@@ -8,8 +8,10 @@ use Rattle.base_types.specs.declared.shown.Shown.{Shown}
 use Rattle.base_types.specs.Hash.{fnv1a, hash_step}
 use Rattle.base_types.specs.Paths.{class_number, cont_bytes, cut_at, depth, level_of, slot}
 use Rattle.daos_model.specs.Forms.{is_path_in_form}
+use Rattle.vos_stamp.specs.declared.entity.TheConstants.{SLOTS}
 use Rattle.vos_stamp.specs.declared.marks.Raise.{Raise}
-use Rattle.vos_stamp.specs.Raised.{AnswersAt}
+use Rattle.vos_stamp.specs.declared.table.TheConstants.{OWN}
+use Rattle.vos_stamp.specs.Raised.{AnswersAt, Marked}
 
 -- ---- the number of an entity
 
@@ -27,7 +29,7 @@ tag p = key_tag (key_tag (object_tag (fnv1a (cont_bytes p.cont)) p.obj) p.dkey) 
 
 -- 64 bits that stand for an entity: the last twelve are its slot, the others are of the hash of its parts
 abbrev pub entity : Path → ℕ
-entity p = tag p / 4096 * 4096 + slot p
+entity p = tag p / SLOTS * SLOTS + slot p
 
 -- ---- what a read raises
 
@@ -67,6 +69,23 @@ pub record HaveReads (cont obj dkey akey : List Raise) : Type 0 where
   pub dkeys : dkey ≡ raises Dkey (reads_of cont)
   pub akeys : akey ≡ raises Akey (reads_of cont)
   pub form : (r : Shown) → Contains (reads_of cont) r → is_path_in_form r.path ≡ true
+
+-- what timestamps come to: the reads that were raised, and how many entities have timestamps of their own
+pub record Stamped : Type 0 where
+  pub reads : List Shown
+  pub held : ℕ
+
+-- those of four levels
+abbrev pub stamped : Marked → Marked → Marked → Marked → Stamped
+stamped cont obj dkey akey = record { reads = reads_of cont.raises; held = cont.held + obj.held + dkey.held + akey.held }
+
+-- the levels have the reads, and each at most so many entities with marks of their own
+pub record AreLevels (cont obj dkey akey : Marked) : Type 0 where
+  pub reads : HaveReads cont.raises obj.raises dkey.raises akey.raises
+  pub few_conts : cont.held ≤ OWN
+  pub few_objs : obj.held ≤ OWN
+  pub few_dkeys : dkey.held ≤ OWN
+  pub few_akeys : akey.held ≤ OWN
 
 -- ---- what a write asks
 

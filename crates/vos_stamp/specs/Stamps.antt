@@ -56,6 +56,18 @@ ElseReadThenWrite p e reads later (Some floor) cause = cause ≡ Some floor
 abbrev pub AnswersWrite : ℕ → Path → ℕ → Epoch × FloorWhy → List Shown → Option Shown → Option Cause → Type 0
 AnswersWrite target p e floor reads later cause = ElseReadThenWrite p e reads later (floor_cause target e floor) cause
 
+-- the place of a cause's check among those of a write
+abbrev pub check_of : Cause → ℕ
+check_of (Floor t e why) = 0
+check_of (ReadLater by e p) = 1
+check_of c = 2
+
+-- of writes that are made together the cause of the earlier check is told, and of one check that of the earlier write
+abbrev pub first_cause : Option Cause → Option Cause → Option Cause
+first_cause None next = next
+first_cause (Some before) None = Some before
+first_cause (Some before) (Some next) = if nat_lt (check_of next) (check_of before) then Some next else Some before
+
 -- the cause of the aggregated-to epoch, where a read isn't above it
 abbrev pub aggregated_cause : ℕ → ℕ → Option (Epoch × ℕ) → Option Cause
 aggregated_cause target e None = None

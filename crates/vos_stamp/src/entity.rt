@@ -12,8 +12,8 @@ use base_types::path::{Level, Path};
 /// What the hash is multiplied by at each word.
 const PRIME: u64 = 1099511628211;
 
-/// The slots of a level.
-const SLOTS: u64 = 4096;
+/// The slots of a level, which entities share that have no marks of their own.
+pub(crate) const SLOTS: u64 = 4096;
 
 // The hash with one word more.
 fn step(tag: u64, word: u64) -> u64

@@ -17,7 +17,7 @@ use std::alloc::Global;
 use std::marker::Model;
 
 /// The read timestamps of a target. A contract sees all reads that were raised, each with its attempt,
-/// epoch and path; what is kept of them has a bound.
+/// epoch and path, and how many entities have timestamps of their own; what is kept has a bound.
 ///
 /// An entity is a container, an object, a dkey or an akey. It has two marks: `high` is the greatest
 /// read of some node of its subtree, `low` the greatest one of its whole subtree. At most 1,024
@@ -39,16 +39,13 @@ pub struct Stamps {
 }
 
 impl Model for Stamps {
-    ghost use Rattle.std.specs.Prelude.{List};
-    ghost use Rattle.base_types.specs.declared.shown.Shown.{Shown};
+    ghost use Rattle.vos_stamp.specs.Entities.{AreLevels, Stamped, stamped};
 
-    ghost Value = { List Shown };
+    ghost Value = { Stamped };
 
-    ghost use Rattle.vos_stamp.specs.Entities.{HaveReads, reads_of};
+    ghost view = { λ s. stamped s.cont s.obj s.dkey s.akey };
 
-    ghost view = { λ s. reads_of s.cont };
-
-    ghost invariant = { λ s. HaveReads s.cont s.obj s.dkey s.akey };
+    ghost invariant = { λ s. AreLevels s.cont s.obj s.dkey s.akey };
 }
 
 // What a read raises at a level, if its path reaches it.
@@ -77,7 +74,7 @@ fn raise_or_none(stamp: &Stamp, level: Level) -> Result<Option<Raise>, Memory>
 // A later read that a level tells of: at the path's last level, of some node below it; above that,
 // of a whole subtree that the path lies in.
 fn later_at<'a>(table: &'a Table, level: Level, path: &Path, epoch: Epoch) -> Option<&'a Shown>
-    ensures { AnswersLevel level path.now epoch.0 table.now (option_copied result) }
+    ensures { AnswersLevel level path.now epoch.0 table.now.raises (option_copied result) }
 {
     let (here, last) = (level.depth(), path.level().depth());
     if here > last {
@@ -93,7 +90,7 @@ impl Stamps {
     ///
     /// For want of memory alone.
     pub fn new(alloc: Global) -> Result<Stamps, Memory>
-        ensures { OnOk result (result ≡ Ok []) }
+        ensures { IfOk result (λ stamps. stamps ≡ record { reads = []; held = 0 }) }
     {
         Ok(Stamps {
             alloc,
@@ -108,18 +105,21 @@ impl Stamps {
     ///
     /// # Errors
     ///
-    /// For want of memory alone; then no timestamp was raised.
+    /// For want of memory alone; then no timestamp was raised. So many entities at most have timestamps of
+    /// their own before and after.
     pub fn read(&mut self, path: &Path, epoch: Epoch, by: AttemptId) -> Result<(), Memory>
         requires form { is_path_in_form path.now ≡ true }
-        ensures raised { OnOk result (self.new ≡ self.old ++ record { by = by; epoch = epoch; path = path.now } ∷ []) }
+        ensures raised { OnOk result (self.new.reads ≡ self.old.reads ++ record { by = by; epoch = epoch; path = path.now } ∷ []) }
         ensures kept { OnErr result (self.new ≡ self.old) }
+        ensures bounded { self.new.held ≤ 4096 }
     {
+        let alloc = self.alloc;
         let read = Shown {
             by,
             epoch,
             path: path.copy()?,
         };
-        let stamp = Stamp::new(self.alloc, read)?;
+        let stamp = Stamp::new(alloc, read)?;
         let cont = raise_or_none(&stamp, Level::Cont)?;
         let obj = raise_or_none(&stamp, Level::Obj)?;
         let dkey = raise_or_none(&stamp, Level::Dkey)?;
@@ -136,7 +136,7 @@ impl Stamps {
     /// in all, and takes no memory.
     pub fn later_read(&self, path: &Path, epoch: Epoch) -> Option<&Shown>
         requires form { is_path_in_form path.now ≡ true }
-        ensures { AnswersLater path.now epoch.0 self.now (option_copied result) }
+        ensures { AnswersLater path.now epoch.0 self.now.reads (option_copied result) }
     {
         if let Some(read) = later_at(&self.cont, Level::Cont, path, epoch) {
             return Some(read);
@@ -152,7 +152,8 @@ impl Stamps {
 
     /// How many entities have timestamps of their own; it takes no memory.
     pub fn held(&self) -> u32
-        ensures { result ≤ 4096 }
+        ensures exact { result ≡ self.now.held }
+        ensures bounded { result ≤ 4096 }
     {
         self.cont.held() + self.obj.held() + self.dkey.held() + self.akey.held()
     }

@@ -6,6 +6,7 @@ ghost use Rattle.vos_stamp.specs.Entities.{listed};
 ghost use Rattle.vos_stamp.specs.Marks.{above, no_marks};
 ghost use Rattle.vos_stamp.specs.Raised.{AnswersAt, RaisesOwn, own_mark, slot_marks};
 
+use crate::entity::SLOTS;
 use crate::history::History;
 use crate::marks::{Marks, Raise};
 use base_types::epoch::Epoch;
@@ -19,11 +20,8 @@ use std::num::NonZeroUsize;
 /// The most entities of a level that have marks of their own.
 const OWN: usize = 1024;
 
-/// The slots of a level, which all other entities share.
-const SLOTS: u64 = 4096;
-
 /// The marks of a level. A contract sees all that was raised at it, also what the greater marks of a
-/// slot have replaced.
+/// slot have replaced, and how many entities have marks of their own.
 #[derive(Drop)]
 pub(crate) struct Table {
     own: LruCache<u64, Marks>,
@@ -32,14 +30,14 @@ pub(crate) struct Table {
 }
 
 impl Model for Table {
-    ghost use Rattle.std.specs.Prelude.{List, ◌≡◌};
-    ghost use Rattle.vos_stamp.specs.declared.marks.Raise.{Raise};
+    ghost use Rattle.std.specs.Prelude.{◌≡◌, length};
+    ghost use Rattle.vos_stamp.specs.Raised.{Marked};
 
-    ghost Value = { List Raise };
+    ghost Value = { Marked };
 
     ghost use Rattle.vos_stamp.specs.Raised.{StandsFor};
 
-    ghost view = { λ t. t.history.raises };
+    ghost view = { λ t. record { raises = t.history.raises; held = length t.own.entries } };
 
     ghost invariant = { λ t. (t.own.cap ≡ 1024) × StandsFor t.own.entries t.slots.items t.history.raises };
 }
@@ -62,7 +60,7 @@ fn raise_own(own: &mut LruCache<u64, Marks>, entity: u64, marks: Marks) -> Optio
 
 // The place of an entity's slot.
 fn place(entity: u64) -> usize
-    ensures { result ≡ entity % 4096 }
+    ensures { result ≡ entity % SLOTS }
 {
     (entity % SLOTS) as usize
 }
@@ -79,7 +77,7 @@ fn own_above(own: &LruCache<u64, Marks>, low: bool, entity: u64, epoch: Epoch) -
 
 // Slots without any read.
 fn empty_slots(alloc: Global) -> Result<Vec<Marks>, Memory>
-    ensures sized { IfOk result (λ slots. length slots.items ≡ 4096) }
+    ensures sized { IfOk result (λ slots. length slots.items ≡ SLOTS) }
     ensures empty { IfOk result (λ slots. (i : ℕ) → slot_marks slots.items i ≡ no_marks) }
 {
     let mut slots = Vec::with_capacity(alloc, SLOTS as usize)?;
@@ -92,7 +90,7 @@ fn empty_slots(alloc: Global) -> Result<Vec<Marks>, Memory>
 impl Table {
     /// Nothing was raised.
     pub(crate) fn new(alloc: Global) -> Result<Table, Memory>
-        ensures { IfOk result (λ table. table ≡ []) }
+        ensures { IfOk result (λ table. table ≡ record { raises = []; held = 0 }) }
     {
         let Some(most) = NonZeroUsize::new(OWN) else {
             unreachable!()
@@ -107,7 +105,8 @@ impl Table {
     /// Raises marks at an entity. It takes memory for an entity that has no marks yet, but where there
     /// is none its slot takes them.
     pub(crate) fn raise(&mut self, raise: Raise)
-        ensures { self.new ≡ self.old ++ raise ∷ [] }
+        ensures raises { self.new.raises ≡ self.old.raises ++ raise ∷ [] }
+        ensures bounded { self.new.held ≤ OWN }
     {
         self.history = History::with(&self.history, &raise);
         let Raise { entity, marks } = raise;
@@ -119,7 +118,8 @@ impl Table {
 
     /// Raises marks at an entity, if there are any.
     pub(crate) fn raise_some(&mut self, raise: Option<Raise>)
-        ensures { self.new ≡ self.old ++ listed raise }
+        ensures raises { self.new.raises ≡ self.old.raises ++ listed raise }
+        ensures bounded { self.old.held ≤ OWN → self.new.held ≤ OWN }
     {
         if let Some(raise) = raise {
             self.raise(raise);
@@ -129,7 +129,7 @@ impl Table {
     /// A read above an epoch that was raised at an entity, or at one that shares its slot: there is one
     /// wherever one was raised at the entity. It looks at the entity and at its slot.
     pub(crate) fn raised_above(&self, low: bool, entity: u64, epoch: Epoch) -> Option<&Shown>
-        ensures { AnswersAt self.now low entity epoch.0 (option_copied result) }
+        ensures { AnswersAt self.now.raises low entity epoch.0 (option_copied result) }
     {
         match own_above(&self.own, low, entity, epoch) {
             Some(read) => Some(read),
@@ -139,7 +139,8 @@ impl Table {
 
     /// How many entities have marks of their own: at most 1,024.
     pub(crate) fn held(&self) -> u32
-        ensures { result ≤ 1024 }
+        ensures exact { result ≡ self.now.held }
+        ensures bounded { result ≤ OWN }
     {
         self.own.len() as u32
     }

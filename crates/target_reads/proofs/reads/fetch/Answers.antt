@@ -1,4 +1,4 @@
-use Rattle.std.proofs.Common.{◌∙◌, refl, sym, ap, Err}
+use Rattle.std.proofs.Common.{◌∙◌, refl, sym, ap, Some, Err}
 use Rattle.vos_store.specs.Refusals.{fetch_open, fetch_stop}
 use Rattle.target_reads.proofs.Fetching.{checked, past_cause}
 use Rattle.target_reads.proofs.reads.fetch.Goals as goal
@@ -30,5 +30,6 @@ returns-in-None-2-clause-met g c d at = record {
 pub returns-in-Err-Aggregated-clause-met : goal.returns-in-Err-Aggregated-clause-met
 returns-in-Err-Aggregated-clause-met g c d at = record {
   stays = record { kept_is = c.in-Err-Aggregated.ensures.kept.same (ap fetch_stop c.in-Err-Aggregated.field-0-is) ∙ at; free = c.in-Err-Aggregated.ensures.free };
-  holds = past_cause c.args.plan c.args.request.now c.args.epoch c.in-Err-Aggregated.at c.in-Err-Aggregated.number d (ap Err (sym c.in-Err-Aggregated.field-0-is) ∙ c.in-Err-Aggregated.ensures.answer d at (ap fetch_open c.in-Err-Aggregated.field-0-is));
+  holds = past_cause c.args.plan c.args.request.now c.args.epoch c.in-Err-Aggregated.at c.in-Err-Aggregated.number d (ap Err (sym c.in-Err-Aggregated.field-0-is) ∙ c.in-Err-Aggregated.ensures.answer d at (ap fetch_open c.in-Err-Aggregated.field-0-is))
+      ∙ ap (λ x. Some x) (sym c.by_floor.ensures);
 }

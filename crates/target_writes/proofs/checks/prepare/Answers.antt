@@ -21,19 +21,19 @@ store_writes-requires-clause-can g c =
 pub returns-in-Some-clause-prepared : goal.returns-in-Some-clause-prepared
 returns-in-Some-clause-prepared g c d at =
     let a = c.in_ok-cause.ensures.checked d at in (
-      ByCause c.in-Some.cause (subst (Checks c.args.plan (g.S.Store.state c.args.store.now).opening c.args.first c.args.entry.now.epoch d c.args.knows.now.stamps c.args.writes.now) c.in-Some.is a.holds) refl,
+      ByCause c.in-Some.cause (subst (Checks c.args.plan (g.S.Store.state c.args.store.now).opening c.args.first c.args.entry.now.epoch d c.args.knows.now.stamps.reads c.args.writes.now) c.in-Some.is a.holds) refl,
       a.stays,
     )
 
 pub returns-in-None-clause-prepared : goal.returns-in-None-clause-prepared
 returns-in-None-clause-prepared g c d at =
     let a = c.in_ok-cause.ensures.checked d at in
-    let allowed : IsAllowed c.args.plan (g.S.Store.state c.args.store.now).opening c.args.first c.args.entry.now.epoch d c.args.knows.now.stamps c.args.writes.now =
-    subst (Checks c.args.plan (g.S.Store.state c.args.store.now).opening c.args.first c.args.entry.now.epoch d c.args.knows.now.stamps c.args.writes.now) c.in-None.is a.holds in
-    prepares-moved c.args.plan (g.S.Store.state c.args.store.now).opening c.args.first c.args.knows.now.stamps c.args.entry.now c.args.writes.now d (g.S.Store.state c.store_writes.new.store) (g.S.Store.durable c.store_writes.new.store) (g.S.Store.may c.store_writes.new.store)
+    let allowed : IsAllowed c.args.plan (g.S.Store.state c.args.store.now).opening c.args.first c.args.entry.now.epoch d c.args.knows.now.stamps.reads c.args.writes.now =
+    subst (Checks c.args.plan (g.S.Store.state c.args.store.now).opening c.args.first c.args.entry.now.epoch d c.args.knows.now.stamps.reads c.args.writes.now) c.in-None.is a.holds in
+    prepares-moved c.args.plan (g.S.Store.state c.args.store.now).opening c.args.first c.args.knows.now.stamps.reads c.args.entry.now c.args.writes.now d (g.S.Store.state c.store_writes.new.store) (g.S.Store.durable c.store_writes.new.store) (g.S.Store.may c.store_writes.new.store)
     (g.S.Store.state c.refusal.new.store).opening (g.S.Store.state c.args.store.now) (g.S.Store.state c.refusal.new.store) _ c.in_ok-cause.ensures.runs.opening a.stays.free
-    (c.store_writes.ensures.stored d a.stays.kept_is c.args.first c.args.knows.now.stamps
-    (subst (λ o. IsAllowed c.args.plan o c.args.first c.args.entry.now.epoch d c.args.knows.now.stamps c.args.writes.now) (sym c.in_ok-cause.ensures.runs.opening) allowed))
+    (c.store_writes.ensures.stored d a.stays.kept_is c.args.first c.args.knows.now.stamps.reads
+    (subst (λ o. IsAllowed c.args.plan o c.args.first c.args.entry.now.epoch d c.args.knows.now.stamps.reads c.args.writes.now) (sym c.in_ok-cause.ensures.runs.opening) allowed))
 
 pub returns-in-None-clause-keeps : goal.returns-in-None-clause-keeps
 returns-in-None-clause-keeps g c = record {
@@ -42,11 +42,11 @@ returns-in-None-clause-keeps g c = record {
   leads = λ runs.
       for_some_on (g.S.Store.durable c.args.store.now) _ (LeadsWell c.args.plan (memory_of c.args.knows.now) c.store_writes.new.entries.items) (c.store_writes.ensures.runs.told ∙ c.in_ok-cause.ensures.runs.told) (λ d at.
       let a = c.in_ok-cause.ensures.checked d at in
-      let allowed : IsAllowed c.args.plan (g.S.Store.state c.args.store.now).opening c.args.first c.args.entry.now.epoch d c.args.knows.now.stamps c.args.writes.now =
-      subst (Checks c.args.plan (g.S.Store.state c.args.store.now).opening c.args.first c.args.entry.now.epoch d c.args.knows.now.stamps c.args.writes.now) c.in-None.is a.holds in
-      prepares-leads c.args.plan (g.S.Store.state c.refusal.new.store).opening c.args.first c.args.knows.now.stamps c.args.entry.now c.args.writes.now d (g.S.Store.state c.store_writes.new.store) (g.S.Store.durable c.store_writes.new.store) (g.S.Store.may c.store_writes.new.store)
+      let allowed : IsAllowed c.args.plan (g.S.Store.state c.args.store.now).opening c.args.first c.args.entry.now.epoch d c.args.knows.now.stamps.reads c.args.writes.now =
+      subst (Checks c.args.plan (g.S.Store.state c.args.store.now).opening c.args.first c.args.entry.now.epoch d c.args.knows.now.stamps.reads c.args.writes.now) c.in-None.is a.holds in
+      prepares-leads c.args.plan (g.S.Store.state c.refusal.new.store).opening c.args.first c.args.knows.now.stamps.reads c.args.entry.now c.args.writes.now d (g.S.Store.state c.store_writes.new.store) (g.S.Store.durable c.store_writes.new.store) (g.S.Store.may c.store_writes.new.store)
       (g.S.Store.state c.refusal.new.store) (memory_of c.args.knows.now) c.args.knows.now.entries.items c.store_writes.new.entries.items c.store_writes.result c.store_writes.ensures.entries c.store_writes.ensures.kept runs
-      (c.store_writes.ensures.stored d a.stays.kept_is c.args.first c.args.knows.now.stamps
-      (subst (λ o. IsAllowed c.args.plan o c.args.first c.args.entry.now.epoch d c.args.knows.now.stamps c.args.writes.now) (sym c.in_ok-cause.ensures.runs.opening) allowed))
+      (c.store_writes.ensures.stored d a.stays.kept_is c.args.first c.args.knows.now.stamps.reads
+      (subst (λ o. IsAllowed c.args.plan o c.args.first c.args.entry.now.epoch d c.args.knows.now.stamps.reads c.args.writes.now) (sym c.in_ok-cause.ensures.runs.opening) allowed))
       (c.requires.can d at).absent c.requires.heard (c.requires.leads d at));
 }

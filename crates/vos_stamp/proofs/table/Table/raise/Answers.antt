@@ -1,8 +1,8 @@
-use Rattle.std.proofs.Common.{◌≡◌, ℕ, ◌%◌, List, ◌∷◌, [], ◌++◌, set, Option, Some, sym, subst, ap, ◌∙◌}
+use Rattle.std.proofs.Common.{◌≡◌, ℕ, ◌%◌, ◌≤◌, List, ◌∷◌, [], ◌++◌, length, set, Option, Some, refl, sym, subst, ap, ◌∙◌}
 use Rattle.vos_stamp.specs.declared.marks.Marks.{Marks}
 use Rattle.vos_stamp.specs.declared.marks.Raise.{Raise}
 use Rattle.vos_stamp.specs.Marks.{joined}
-use Rattle.vos_stamp.specs.Raised.{RaisesOwn, StandsFor, given, slot_marks}
+use Rattle.vos_stamp.specs.Raised.{Marked, RaisesOwn, StandsFor, given, slot_marks}
 use Rattle.vos_stamp.proofs.Kept.{raises-kept, slot-is}
 use Rattle.vos_stamp.proofs.table.Table.raise.Goals as goal
 
@@ -13,6 +13,11 @@ stands es cap slots rs r new out then more s step slots_are rises =
     subst (λ xs. StandsFor new xs more) (sym slots_are)
     (subst (λ (xs : List Raise). StandsFor new (given slots out) xs) (sym rises)
     (raises-kept es slots rs r.entity r.marks new out s.1 (subst (λ n. RaisesOwn es n r.entity r.marks new out) s.0 step)))
+
+-- so few entities have marks of their own after it
+few : (es : List (ℕ × Marks)) (cap : ℕ) (slots : List Marks) (rs : List Raise) (r : Raise) (new : List (ℕ × Marks)) (out : Option (ℕ × Marks))
+    → (cap ≡ 1024) × StandsFor es slots rs → RaisesOwn es cap r.entity r.marks new out → length new ≤ 1024
+few es cap slots rs r new out s step = (stands es cap slots rs r new out (given slots out) (rs ++ r ∷ []) s step refl refl).bounded
 
 pub invariant_of-self : goal.invariant_of-self
 invariant_of-self c =
@@ -34,3 +39,17 @@ invariant_of-self-in_default c =
       stands c.self.inside.own.entries c.self.inside.own.cap slots c.self.inside.history.raises c.args.raise c.raise_own.new.own.entries c.raise_own.result
           slots c.with-self-inside.result.raises c.self.invariant c.raise_own.ensures.raises (ap (given slots) (sym c.in_default.is)) c.with-self-inside.ensures,
     )
+
+pub returns-in-Some-clause-raises : goal.returns-in-Some-clause-raises
+returns-in-Some-clause-raises c = c.with-self-inside.ensures ∙ ap (λ (t : Marked). t.raises ++ c.args.raise ∷ []) c.self.view_is
+
+pub returns-in_default-clause-raises : goal.returns-in_default-clause-raises
+returns-in_default-clause-raises c = c.with-self-inside.ensures ∙ ap (λ (t : Marked). t.raises ++ c.args.raise ∷ []) c.self.view_is
+
+pub returns-in-Some-clause-bounded : goal.returns-in-Some-clause-bounded
+returns-in-Some-clause-bounded c =
+    few c.self.inside.own.entries c.self.inside.own.cap c.self.inside.slots.items c.self.inside.history.raises c.args.raise c.raise_own.new.own.entries c.raise_own.result c.self.invariant c.raise_own.ensures.raises
+
+pub returns-in_default-clause-bounded : goal.returns-in_default-clause-bounded
+returns-in_default-clause-bounded c =
+    few c.self.inside.own.entries c.self.inside.own.cap c.self.inside.slots.items c.self.inside.history.raises c.args.raise c.raise_own.new.own.entries c.raise_own.result c.self.invariant c.raise_own.ensures.raises

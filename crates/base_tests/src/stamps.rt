@@ -1,0 +1,191 @@
+// Later reads, as the worked examples of restarts have them, and slots that entities share.
+ghost use Rattle.std.specs.Prelude.{◌≡◌, true, IfOk};
+ghost use Rattle.daos_model.specs.Forms.{is_path_in_form};
+
+use base_types::epoch::Epoch;
+use base_types::id::{AttemptId, Class, ContId, ObjId};
+use base_types::key::Key;
+use base_types::path::{Level, Path};
+use std::alloc::Global;
+use std::test::Fail;
+use vos_stamp::stamps::Stamps;
+
+const READER: AttemptId = AttemptId {
+    client: 1,
+    command: 0,
+    attempt: 0,
+};
+
+// An object.
+fn object() -> Path
+    ensures { is_path_in_form result ≡ true }
+{
+    Path {
+        cont: ContId(1),
+        obj: Some(ObjId {
+            class: Class::S1,
+            number: 0,
+            unit: 1,
+        }),
+        dkey: None,
+        akey: None,
+    }
+}
+
+// A dkey of it.
+fn dkey(alloc: Global, dkey: &[u8]) -> Result<Path, Fail>
+    ensures { IfOk result (λ path. is_path_in_form path ≡ true) }
+{
+    let mut path = object();
+    path.dkey = Some(Key::new(alloc, dkey)?);
+    Ok(path)
+}
+
+// An akey of that.
+fn akey(alloc: Global, dkey: &[u8], akey: &[u8]) -> Result<Path, Fail>
+    ensures { IfOk result (λ path. is_path_in_form path ≡ true) }
+{
+    let mut path = object();
+    path.dkey = Some(Key::new(alloc, dkey)?);
+    path.akey = Some(Key::new(alloc, akey)?);
+    Ok(path)
+}
+
+// The akey of a number, under one dkey.
+fn numbered(alloc: Global, number: u32) -> Result<Path, Fail>
+    ensures { IfOk result (λ path. is_path_in_form path ≡ true) }
+{
+    let name = format!(in alloc; "a{number}")?;
+    akey(alloc, b"d", name.as_bytes())
+}
+
+// An akey under the dkey of a number.
+fn elsewhere(alloc: Global, number: u32) -> Result<Path, Fail>
+    ensures { IfOk result (λ path. is_path_in_form path ≡ true) }
+{
+    let name = format!(in alloc; "k{number}")?;
+    akey(alloc, name.as_bytes(), b"a")
+}
+
+// Whether a write at an epoch is shown the read at 512.
+fn is_told(stamps: &Stamps, write: &Path, epoch: u64) -> bool
+    requires { is_path_in_form write.now ≡ true }
+{
+    match stamps.later_read(write, Epoch(epoch)) {
+        Some(read) => read.by == READER && read.epoch.0 == 512,
+        None => false,
+    }
+}
+
+// Whether a read at 512 is shown to a write at an epoch.
+fn is_shown(alloc: Global, read: &Path, write: &Path, epoch: u64) -> Result<bool, Fail>
+    requires read { is_path_in_form read.now ≡ true }
+    requires write { is_path_in_form write.now ≡ true }
+{
+    let mut stamps = Stamps::new(alloc)?;
+    stamps.read(read, Epoch(512), READER)?;
+    Ok(is_told(&stamps, write, epoch))
+}
+
+#[test]
+fn a_later_read_is_shown_where_paths_overlap(rt: HostRuntime) -> Result<(), Fail> {
+    let alloc = rt.alloc();
+    let read = akey(alloc, b"d", b"a")?;
+    assert!(rt; is_shown(alloc, &read, &read, 256)?);
+    assert!(rt; is_shown(alloc, &object(), &akey(alloc, b"e", b"a")?, 256)?);
+    assert!(rt; is_shown(alloc, &read, &dkey(alloc, b"d")?, 256)?);
+    assert!(rt; !is_shown(alloc, &read, &akey(alloc, b"d", b"b")?, 256)?);
+    Ok(())
+}
+
+#[test]
+fn a_read_at_the_epoch_is_no_later_one(rt: HostRuntime) -> Result<(), Fail> {
+    let alloc = rt.alloc();
+    let path = akey(alloc, b"d", b"a")?;
+    assert!(rt; is_shown(alloc, &path, &path, 511)?);
+    assert!(rt; !is_shown(alloc, &path, &path, 512)?);
+    Ok(())
+}
+
+// The first two akeys that share a slot, counted from 0.
+fn first_to_share(alloc: Global) -> Result<Option<(usize, u32)>, Fail> {
+    let mut slots = Vec::new(alloc);
+    for number in 0..10_000 {
+        let slot = numbered(alloc, number)?.slot_at(Level::Akey);
+        if let Some(earlier) = slots.iter().position(|other| *other == slot) {
+            return Ok(Some((earlier, number)));
+        }
+        slots.push(slot)?;
+    }
+    Ok(None)
+}
+
+// Which akeys share a slot another program told.
+#[test]
+fn two_akeys_share_a_slot(rt: HostRuntime) -> Result<(), Fail> {
+    assert_eq!(rt; first_to_share(rt.alloc())?, Some((188, 294)));
+    Ok(())
+}
+
+// Reads of akeys of so many other dkeys, each at one epoch.
+fn read_elsewhere(alloc: Global, stamps: &mut Stamps, many: u32) -> Result<(), Fail> {
+    for number in 0..many {
+        stamps.read(&elsewhere(alloc, number)?, Epoch(300), READER)?;
+    }
+    Ok(())
+}
+
+// How many entities are held another program told.
+#[test]
+fn an_entity_that_goes_out_leaves_its_read_to_its_slot(rt: HostRuntime) -> Result<(), Fail> {
+    let alloc = rt.alloc();
+    let (first, second) = (numbered(alloc, 188)?, numbered(alloc, 294)?);
+    let mut stamps = Stamps::new(alloc)?;
+    stamps.read(&first, Epoch(512), READER)?;
+    assert_eq!(rt; stamps.held(), 4);
+    assert!(rt; is_told(&stamps, &first, 256));
+    assert!(rt; stamps.later_read(&second, Epoch(256)).is_none());
+    read_elsewhere(alloc, &mut stamps, 1024)?;
+    assert_eq!(rt; stamps.held(), 2050);
+    assert!(rt; is_told(&stamps, &first, 256));
+    assert!(rt; is_told(&stamps, &second, 256));
+    Ok(())
+}
+
+// Whether the read of a key, or a later one that is near it, is shown to a write just below it.
+fn is_remembered(alloc: Global, stamps: &Stamps, number: u32) -> Result<bool, Fail> {
+    let write = elsewhere(alloc, number)?;
+    let below = Epoch(511 + u64::from(number));
+    match stamps.later_read(&write, below) {
+        Some(read) => Ok(below.0 < read.epoch.0 && read.path.near(&write)),
+        None => Ok(false),
+    }
+}
+
+// Reads of so many keys, one after another, each at a later epoch. Tells whether each left the bound.
+fn read_many(alloc: Global, stamps: &mut Stamps, many: u32) -> Result<bool, Fail> {
+    for number in 0..many {
+        let epoch = Epoch(512 + u64::from(number));
+        stamps.read(&elsewhere(alloc, number)?, epoch, READER)?;
+        if stamps.held() > 4096 {
+            return Ok(false);
+        }
+    }
+    Ok(true)
+}
+
+// Every read is remembered, by itself or by a later one that shares its slot.
+#[test]
+fn so_many_reads_have_a_bound(rt: HostRuntime) -> Result<(), Fail> {
+    let alloc = rt.alloc();
+    let mut stamps = Stamps::new(alloc)?;
+    assert!(rt; read_many(alloc, &mut stamps, 100_000)?);
+    assert_eq!(rt; stamps.held(), 2050);
+    for number in 0..100_000 {
+        assert!(rt;
+            is_remembered(alloc, &stamps, number)?,
+            "the read of {number} is forgotten"
+        );
+    }
+    Ok(())
+}
