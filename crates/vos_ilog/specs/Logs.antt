@@ -1,5 +1,5 @@
 -- A log: creations and punches, in the order of their moments.
-use Rattle.std.specs.Prelude.{◌≡◌, ◌&&◌, Bool, true, List, Option, Some, None}
+use Rattle.std.specs.Prelude.{◌≡◌, ◌&&◌, ℕ, Bool, true, List, Option, Some, None}
 use Rattle.base_types.specs.declared.epoch.Epoch.{Epoch}
 use Rattle.pmem_pages.specs.declared.node.Pair.{Pair}
 use Rattle.std.specs.List.{find, list_any}
@@ -12,7 +12,7 @@ use Rattle.vos_values.specs.declared.values.LogMark.{LogMark}
 use Rattle.vos_values.specs.Keys.{IsAttempt, IsMoment, moment_in, moment_key}
 use Rattle.vos_values.specs.Values.{log_in, log_value}
 use Rattle.vos_levels.specs.declared.change.Change.{Change}
-use Rattle.vos_levels.specs.Changes.{changed_by, keeps, takes}
+use Rattle.vos_levels.specs.Changes.{changed_by, freed_by, keeps, takes}
 use Rattle.vos_levels.specs.Levels.{Hung, Level, hung, in_none, map_those, without_those}
 use Rattle.vos_levels.specs.Moments.{is_earlier, same_moment}
 use Rattle.vos_ilog.specs.declared.ilog.LogEntry.{LogEntry}
@@ -67,6 +67,13 @@ is_taken c m v = is_at m v && takes c v.by v.done
 -- the entries after a change of that of one moment
 abbrev pub changed_at : Change → Moment → List LogEntry → List LogEntry
 changed_at c m vs = changed_by (keeps c) (is_taken c m) done_entry vs
+
+-- the blocks that the change gives back: an entry has one
+abbrev pub one_block : LogEntry → ℕ
+one_block v = 1
+
+abbrev pub freed_at : Change → Moment → List LogEntry → ℕ
+freed_at c m vs = freed_by (keeps c) (is_taken c m) one_block vs
 
 -- the entry of a moment says this
 abbrev pub SaysAt : Moment → LogMark → List LogEntry → Type 0

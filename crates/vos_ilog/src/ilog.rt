@@ -1,5 +1,5 @@
 // A log of creations and punches, in a tree.
-ghost use Rattle.std.specs.Prelude.{◌≡◌, ◌↔◌, ◌⊎◌, ◌≤◌, ◌<◌, ◌+◌, true, false, Some, None, IfOk, OnOk, OnErr, IsErr, IsErrOf, IsTrue, IfSome, ⊤, length};
+ghost use Rattle.std.specs.Prelude.{◌≡◌, ◌↔◌, ◌⊎◌, ◌<◌, ◌+◌, true, false, Some, None, IfOk, OnOk, OnErr, IsErr, IsErrOf, IsTrue, IfSome, ⊤, length};
 ghost use Rattle.std.specs.List.{find};
 ghost use Rattle.std.specs.Option.{option_and_then, option_map};
 ghost use Rattle.pmem_pages.specs.Blocks.{IsSpent};
@@ -12,7 +12,7 @@ ghost use Rattle.vos_values.specs.Values.{log_in};
 ghost use Rattle.vos_levels.specs.Calls.{Becomes, HasThing, OfThing};
 ghost use Rattle.vos_levels.specs.Changes.{keeps};
 ghost use Rattle.vos_levels.specs.Levels.{HasMore, find_last, hung_root, things};
-ghost use Rattle.vos_ilog.specs.Logs.{IsChangedAt, IsDoneAt, IsGoneAt, IsLogEntry, Log as LogOf, SaysAt, entry_in_pair, has_entry_at, is_at, is_punch_below, is_under, mark_of, start_of, key_of_entry, log_owner, moment_of, value_of_entry};
+ghost use Rattle.vos_ilog.specs.Logs.{IsChangedAt, IsDoneAt, IsGoneAt, IsLogEntry, Log as LogOf, SaysAt, entry_in_pair, freed_at, has_entry_at, is_at, is_punch_below, is_under, mark_of, start_of, key_of_entry, log_owner, moment_of, value_of_entry};
 
 use base_types::epoch::Epoch;
 use base_types::id::AttemptId;
@@ -328,7 +328,7 @@ impl Ilog {
         ensures steps { OfThing P.tells log_owner hung_root (P.blocks pages.old) self.old.tree.root (λ g. StepsAtMost 18 16 g.0 steps.old steps.new) }
         ensures staged { OnOk result (OfThing P.tells log_owner hung_root (P.blocks pages.old) self.old.tree.root (λ g. StagesAtMost 8 16 g.0 (P.budget pages.old) (P.budget pages.new))) }
         ensures committed { keeps change ≡ true → IsSpent 1 256 (P.budget pages.old) (P.budget pages.new) }
-        ensures free { OnOk result (IsTrue P.tells → (P.budget pages.old).free ≤ (P.budget pages.new).free) }
+        ensures free { OnOk result (OfThing P.tells log_owner hung_root (P.blocks pages.old) self.old.tree.root (λ g. (P.budget pages.new).free ≡ (P.budget pages.old).free + freed_at change at (things g))) }
         ensures goes { Goes P.stopped P.count P.burns pages.old pages.new }
         ensures stopped { IsErrOf result TreeNo.Stopped → P.stopped pages.new ≡ true }
         ensures went_on { OnOk result (P.stopped pages.new ≡ P.stopped pages.old) }

@@ -3,3 +3,4 @@ pub mod Changing
 pub mod Calls
 pub mod Moments
 pub mod Testing
+pub mod Settling

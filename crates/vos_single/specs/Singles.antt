@@ -1,11 +1,9 @@
 -- Versions of a single value, in the order of their moments, each with the chain of its bytes.
-use Rattle.std.specs.Prelude.{◌≡◌, ◌<◌, ◌≤◌, ◌+◌, ◌*◌, ◌^◌, ℕ, Bool, true, false, List, length, map, Option, Some, None}
+use Rattle.std.specs.Prelude.{◌≡◌, ◌&&◌, ◌+◌, ℕ, Bool, true, false, List, length, map, Option, Some, None}
 use Rattle.std.specs.List.{list_any}
 use Rattle.base_types.specs.declared.epoch.Epoch.{Epoch}
 use Rattle.base_types.specs.declared.id.AttemptId.{AttemptId}
-use Rattle.pmem_pages.specs.Blocks.{Budget, IsSpent}
 use Rattle.pmem_pages.specs.Owners.{Owner}
-use Rattle.pmem_pages.specs.Shape.{Shape, entries}
 use Rattle.pmem_pages.specs.declared.node.Pair.{Pair}
 use Rattle.pmem_pages.specs.declared.node.TreeKey.{TreeKey}
 use Rattle.pmem_pages.specs.declared.node.Value.{Value}
@@ -13,10 +11,12 @@ use Rattle.vos_values.specs.declared.keys.Moment.{Moment}
 use Rattle.vos_values.specs.declared.values.VersionMark.{VersionMark}
 use Rattle.vos_values.specs.Keys.{IsMoment, moment_in, moment_key}
 use Rattle.vos_values.specs.Values.{IsVersionMark, version_in, version_value}
+use Rattle.vos_levels.specs.declared.change.Change.{Change}
+use Rattle.vos_levels.specs.Changes.{changed_by, freed_by, keeps, takes}
 use Rattle.vos_levels.specs.Levels.{Hung, Level, hung, in_part, things}
 use Rattle.vos_levels.specs.Moments.{is_earlier, same_moment}
 use Rattle.vos_chain.specs.Chains.{Chain, chain_owner, first_of}
-use Rattle.vos_chain.specs.Made.{HasFewer, chain_blocks}
+use Rattle.vos_chain.specs.Made.{chain_blocks}
 use Rattle.vos_single.specs.declared.single.Placed.{Placed}
 use Rattle.vos_single.specs.declared.single.SingleVersion.{SingleVersion}
 
@@ -61,8 +61,11 @@ abbrev pub versions : Singles → List SingleVersion
 versions g = map version_of (things g)
 
 -- a version of a moment, and one before it
+abbrev pub is_version_at : Moment → SingleVersion → Bool
+is_version_at m v = same_moment (record { epoch = v.epoch; minor = v.minor }) m
+
 abbrev pub is_at : Moment → Stored → Bool
-is_at m s = same_moment (moment_of s) m
+is_at m s = is_version_at m s.version
 
 abbrev pub is_under : Moment → Stored → Bool
 is_under m s = is_earlier (moment_of s) m
@@ -93,10 +96,26 @@ placed_when v (Some m) = placed_with m (version_in v)
 abbrev pub placed_in_pair : Pair → Option Placed
 placed_in_pair p = placed_when p.value (moment_in p.key)
 
--- fewer ranges or bytes were left than a chain of so many blocks and a change of the tree may want
-abbrev pub TooFewFor : ℕ → Shape → Budget → Type 0
-TooFewFor n t b = (d : ℕ) → length (entries t) < 2 ^ d → HasFewer (2 * n + (16 * d + 32)) (257 * n + 256 * (16 * d + 32)) b
+-- ---- settled and pruned
 
--- at most what the chain stages, and an insertion into the tree
-abbrev pub StagesFor : ℕ → Shape → Budget → Budget → Type 0
-StagesFor n t before now = (d : ℕ) → length (entries t) < 2 ^ d → IsSpent (2 * n + (4 * d + 8)) (257 * n + 256 * (4 * d + 8)) before now
+abbrev pub done_version : SingleVersion → SingleVersion
+done_version v = record { epoch = v.epoch; minor = v.minor; by = v.by; done = true; bytes = v.bytes }
+
+abbrev pub done_stored : Stored → Stored
+done_stored s = record { version = done_version s.version; blocks = s.blocks }
+
+-- a change takes the version of a moment
+abbrev pub is_taken : Change → Moment → SingleVersion → Bool
+is_taken c m v = is_version_at m v && takes c v.by v.done
+
+-- the versions after a change of that of one moment
+abbrev pub IsChangedAt : Change → Moment → List SingleVersion → List SingleVersion → Type 0
+IsChangedAt c m vs ws = ws ≡ changed_by (keeps c) (is_taken c m) done_version vs
+
+-- the blocks of a version: those of its bytes, and its pair's
+abbrev pub blocks_of_version : SingleVersion → ℕ
+blocks_of_version v = chain_blocks (length v.bytes) + 1
+
+-- the blocks that the change gives back
+abbrev pub freed_at : Change → Moment → List SingleVersion → ℕ
+freed_at c m vs = freed_by (keeps c) (is_taken c m) blocks_of_version vs

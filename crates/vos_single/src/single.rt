@@ -1,16 +1,19 @@
 // The versions of a single value, in a tree with a chain of bytes for each.
 ghost use Rattle.std.specs.Prelude.{◌≡◌, ◌≤◌, ◌<◌, ◌+◌, true, false, IfOk, OnOk, OnErr, IsErrOf, IsTrue, IfSome, ⊤, length};
 ghost use Rattle.std.specs.Option.{option_and_then, option_map};
-ghost use Rattle.pmem_pages.specs.Node.{IsKey, IsValue};
-ghost use Rattle.pmem_tree.specs.Calls.{StepsAtMost};
+ghost use Rattle.pmem_pages.specs.Blocks.{IsSpent};
+ghost use Rattle.pmem_pages.specs.Node.{IsKey};
+ghost use Rattle.pmem_tree.specs.Calls.{StepsAtMost, TooFew};
 ghost use Rattle.pmem_tree_base.specs.Calls.{Goes};
 ghost use Rattle.pmem_tree_base.specs.declared.refusal.TreeNo.{TreeNo};
-ghost use Rattle.vos_values.specs.Keys.{IsAttempt, IsMoment, moment_key};
+ghost use Rattle.vos_values.specs.Keys.{IsMoment, moment_key};
 ghost use Rattle.vos_levels.specs.Calls.{Becomes, HasThing, OfThing};
+ghost use Rattle.vos_levels.specs.Changes.{keeps};
 ghost use Rattle.vos_levels.specs.Levels.{HasMore, find_last, hung_root, things};
 ghost use Rattle.vos_chain.specs.Made.{chain_blocks};
 ghost use Rattle.vos_chain.specs.declared.refusal.PiecesNo.TheVariants.{Stopped as stopped_no};
-ghost use Rattle.vos_single.specs.Singles.{StagesFor, TooFewFor, has_version_at, is_under, new_version, placed_in_pair, placed_of, single_owner, start_of, version_of, versions};
+ghost use Rattle.vos_versions.specs.Marks.{StagesFor, StagesLess, TooFewFor};
+ghost use Rattle.vos_single.specs.Singles.{IsChangedAt, freed_at, has_version_at, is_under, new_version, placed_in_pair, placed_of, single_owner, start_of, version_of, versions};
 
 use base_types::epoch::Epoch;
 use base_types::id::AttemptId;
@@ -22,10 +25,12 @@ use pmem_tree::tree::Tree;
 use pmem_tree::{Pair, TreeKey, TreeNo};
 use std::alloc::Global;
 use std::sync::ledger::Ledger;
-use vos_chain::chain::{read_chain, write_chain};
+use vos_chain::chain::read_chain;
 use vos_chain::refusal::PiecesNo;
+use vos_levels::change::Change;
 use vos_values::keys::{Moment, moment_key, read_moment};
-use vos_values::values::{VersionMark, read_version, version_value};
+use vos_values::values::{VersionMark, read_version};
+use vos_versions::versions::{add, change_at};
 
 /// A version of a single value: when it was written, whose it is, whether it is done, and its bytes.
 #[derive(Drop)]
@@ -84,14 +89,6 @@ fn placed_in(pair: Option<Pair>) -> Option<Placed>
         Some(pair) => placed_of(&pair),
         None => None,
     }
-}
-
-// The attempt, which is one.
-fn attempt_of(by: AttemptId) -> AttemptId
-    ensures same { result ≡ by }
-    ensures is { IsAttempt by }
-{
-    by
 }
 
 impl Single {
@@ -184,13 +181,39 @@ impl Single {
         ensures went_on { OnOk result (P.stopped pages.new ≡ P.stopped pages.old) }
     {
         let key = key_at(at);
-        let chain = write_chain(pages, bytes)?;
-        let value = version_value(VersionMark {
-            done: false,
-            by: attempt_of(by),
-            length: bytes.len() as u16,
-            chain,
-        });
-        self.tree.insert(pages, &key, &value, steps)
+        add(&mut self.tree, pages, &key, by, bytes, steps)
+    }
+
+    /// Settles or prunes the version of a moment: a commit makes it done, where it is an unsettled one of
+    /// the attempt; an abort removes such a one, and a prune one that is done. Any other version stays.
+    ///
+    /// # Errors
+    ///
+    /// `TooMuch` comes only where fewer ranges or bytes are left to stage than the tree may want, `Stopped`
+    /// only where the pages answered it, and `NoBlock` never. After one the stage has to be dropped.
+    pub fn change_at<P: Pages, L: Ledger>(
+        &mut self,
+        pages: &mut P,
+        at: Moment,
+        change: Change,
+        steps: &mut Steps<L>,
+    ) -> Result<(), TreeNo>
+        requires kind { self.old.tree.kind ≡ 5 }
+        requires minor { at.minor < 64 }
+        requires here { HasThing P.tells single_owner hung_root (P.blocks pages.old) self.old.tree.root (λ g. ⊤) }
+        ensures changed { OnOk result (OfThing P.tells single_owner hung_root (P.blocks pages.old) self.old.tree.root (λ g. Becomes single_owner hung_root versions (P.blocks pages.old) g (P.blocks pages.new) self.new.tree.root (IsChangedAt change at))) }
+        ensures kind { self.new.tree.kind ≡ 5 }
+        ensures no_block { IsErrOf result TreeNo.NoBlock → ⊥ }
+        ensures too_much { IsErrOf result TreeNo.TooMuch → OfThing P.tells single_owner hung_root (P.blocks pages.old) self.old.tree.root (λ g. TooFew g.0 (P.budget pages.old)) }
+        ensures steps { OfThing P.tells single_owner hung_root (P.blocks pages.old) self.old.tree.root (λ g. StepsAtMost 18 21 g.0 steps.old steps.new) }
+        ensures staged { OnOk result (OfThing P.tells single_owner hung_root (P.blocks pages.old) self.old.tree.root (λ g. StagesLess g.0 (P.budget pages.old) (P.budget pages.new))) }
+        ensures committed { keeps change ≡ true → IsSpent 1 256 (P.budget pages.old) (P.budget pages.new) }
+        ensures free { OnOk result (OfThing P.tells single_owner hung_root (P.blocks pages.old) self.old.tree.root (λ g. (P.budget pages.new).free ≡ (P.budget pages.old).free + freed_at change at (versions g))) }
+        ensures goes { Goes P.stopped P.count P.burns pages.old pages.new }
+        ensures stopped { IsErrOf result TreeNo.Stopped → P.stopped pages.new ≡ true }
+        ensures went_on { OnOk result (P.stopped pages.new ≡ P.stopped pages.old) }
+    {
+        let key = key_at(at);
+        change_at(&mut self.tree, pages, &key, change, steps)
     }
 }

@@ -1,0 +1,4 @@
+pub mod Extents
+pub mod Shown
+pub mod Cells
+pub mod Looks

@@ -1,0 +1,4 @@
+// Pieces of an array.
+#![tactic(auto)]
+
+pub mod pieces;

@@ -1,0 +1,4 @@
+// Versions in a tree, each with its bytes.
+#![tactic(auto)]
+
+pub mod versions;
