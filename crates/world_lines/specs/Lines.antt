@@ -7,7 +7,7 @@ use Rattle.base_types.specs.declared.outcome.Outcome.TheVariants.{Committed, NoS
 use Rattle.base_types.specs.declared.report.Attempt.{Attempt}
 use Rattle.base_types.specs.declared.report.Line.{Line}
 use Rattle.base_messages.specs.declared.message.Message.{Message}
-use Rattle.base_messages.specs.declared.message.Message.TheVariants.{Ack, Fetched, Ended}
+use Rattle.base_messages.specs.declared.message.Message.TheVariants.{Ack, Ended, Fetched, Held, Mark, Marked, Prepare, Query, Verdict}
 use Rattle.base_messages.specs.declared.message.Reply.{Reply}
 use Rattle.base_messages.specs.declared.message.Reply.TheVariants as reply
 use Rattle.daos_model.specs.Attempts.{tries_of}
@@ -54,7 +54,7 @@ abbrev pub IsRefusalOrNone : Reply → Type 0
 IsRefusalOrNone (reply.Answer b) = Unit {0}
 IsRefusalOrNone (reply.Outcome how) = is_refusal how ≡ true
 
--- what a member refuses an attempt with, by which it ends: it is told to restart, or there is no space
+-- what a member refuses an attempt with, or a target a freeze, by which it ends: it is told to restart, or there is no space
 abbrev pub is_member_refusal : Outcome → Bool
 is_member_refusal (Restart cause) = true
 is_member_refusal (NoSpace target need free) = true
@@ -70,12 +70,27 @@ pub record IsCommitted (ep : Option Epoch) (how : Outcome) : Type 0 where
   pub epoch : Epoch
   pub at : ep ≡ Some epoch
 
--- a read ends in a refusal alone, and an attempt in one, or as committed; a member refuses an attempt with such as may end it
+-- a read ends in a refusal alone, and an attempt in one, or as committed; a member refuses an attempt with such as may end it, and so does a
+-- target a freeze
 abbrev pub TellsEnd : Message → Type 0
 TellsEnd (Fetched x op group e b) = IsRefusalOrNone b
 TellsEnd (Ended x e how) = (is_refusal how ≡ true) ⊎ IsCommitted e how
 TellsEnd (Ack x inc refusal) = MayEnd refusal
+TellsEnd (Held x refusal) = MayEnd refusal
 TellsEnd m = Unit {0}
+
+-- What a target tells in a turn as without stops: a client, what its read or its attempt came to; and another target, what they ask and
+-- answer for transactions.
+abbrev pub TellsPlainly : Message → Type 0
+TellsPlainly (Fetched x op group e b) = IsRefusalOrNone b
+TellsPlainly (Ended x e how) = (is_refusal how ≡ true) ⊎ IsCommitted e how
+TellsPlainly (Ack x inc refusal) = MayEnd refusal
+TellsPlainly (Prepare e first ws inc) = Unit {0}
+TellsPlainly (Mark inc marks) = Unit {0}
+TellsPlainly (Marked inc ids) = Unit {0}
+TellsPlainly (Query x ask) = Unit {0}
+TellsPlainly (Verdict x ask inc v) = Unit {0}
+TellsPlainly m = ⊥
 
 -- of every message in flight
 abbrev pub Endings : World → Type 0

@@ -1,0 +1,38 @@
+-- The laws of what carries what clients wait for, as statements.
+use Rattle.std.specs.Prelude.{ℕ, ◌≡◌, false, [], slice_get, Some}
+use Rattle.world_base.specs.declared.client.ClientState.{ClientState}
+use Rattle.world_base.specs.declared.target.TargetState.{TargetState}
+use Rattle.world_base.specs.declared.world.World.{World}
+use Rattle.world_base.specs.ClientTurns.{waits}
+use Rattle.world_base.specs.Events.{Rules}
+use Rattle.world_base.specs.Stops.{NumbersDrawn, OpeningFails, TargetCut, TargetGivenUp, TargetOpens, swept}
+use Rattle.world_waits.specs.Waits.{Conversation, HoldsNothing}
+
+-- where nothing is in flight and without an answer, no target holds anything, and no client waits
+abbrev pub ConversationsBegin : Type 0
+ConversationsBegin =
+    (r : Rules) (w : World) → w.messages ≡ [] → w.asked ≡ [] → ((t : ℕ) (s : TargetState) → slice_get w.targets t ≡ Some s → HoldsNothing s.memory) → ((n : ℕ) (c : ClientState) → slice_get w.clients n ≡ Some c → waits c ≡ false) → Conversation r w
+
+-- a turn of any kind is cut, and its target stops
+abbrev pub CutsKeepConversations : Type 0
+CutsKeepConversations = (r : Rules) (w v : World) → TargetCut r w v → Conversation r w → Conversation r v
+
+-- a target opens again
+abbrev pub OpeningsKeepConversations : Type 0
+OpeningsKeepConversations = (r : Rules) (w v : World) → TargetOpens r w v → Conversation r w → Conversation r v
+
+-- its opening fails
+abbrev pub FailuresKeepConversations : Type 0
+FailuresKeepConversations = (r : Rules) (w v : World) → OpeningFails r w v → Conversation r w → Conversation r v
+
+-- it is given up
+abbrev pub GivingUpKeepsConversations : Type 0
+GivingUpKeepsConversations = (r : Rules) (w v : World) → TargetGivenUp r w v → Conversation r w → Conversation r v
+
+-- what goes to targets that are given up is lost
+abbrev pub SweepsKeepConversations : Type 0
+SweepsKeepConversations = (r : Rules) (w : World) → Conversation r w → Conversation r (swept w)
+
+-- numbers are drawn
+abbrev pub NumbersKeepConversations : Type 0
+NumbersKeepConversations = (r : Rules) (w v : World) → NumbersDrawn w v → Conversation r w → Conversation r v

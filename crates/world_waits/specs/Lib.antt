@@ -1,0 +1,6 @@
+-- What carries what clients wait for, where targets may stop.
+pub mod Waits
+pub mod Lists
+pub mod Losing
+pub mod Events
+pub mod Laws
