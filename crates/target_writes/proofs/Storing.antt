@@ -25,7 +25,7 @@ use Rattle.target_parts.specs.Knowing.{LeadsWell}
 use Rattle.target_writes.specs.Checks.{FindsSpace, IsRefusal, PreparesOrNot, entries_then}
 
 module _ (t : TargetPlan) (opening : Epoch × FloorWhy) (first : Option Epoch) (stamps : List Shown) (e : Entry) (ws : List MinorWrite) (d : Durable) (k : State) (new : Option Durable) (finds : Durable → Type 0) where
-  at_free : ℕ → Kept
+  abbrev at_free : ℕ → Kept
   at_free f = record { durable = d; free = f }
 
   -- what checks left as it was may be told of what was before them
