@@ -7,6 +7,5 @@ mod block_tests;
 mod commit_tests;
 #[cfg(test)]
 mod file_tests;
-pub mod mem_pages;
 #[cfg(test)]
 mod tree_tests;

@@ -2,7 +2,7 @@
 ghost use Rattle.std.specs.Prelude.{◌≡◌, ◌<◌, ◌≤◌};
 ghost use Rattle.pmem_pages.specs.Node.{IsKey, IsValue};
 
-use crate::mem_pages::MemPages;
+use pmem_memory::mem_pages::MemPages;
 use pmem_pages::codec::read_node;
 use pmem_pages::pages::Pages;
 use pmem_pages::steps::Steps;

@@ -1,5 +1,5 @@
 -- The greatest of extents, and what an index holds by it.
-use Rattle.std.proofs.Common.{◌≡◌, ℕ, ◌+◌, ◌-◌, ◌*◌, ◌/◌, ◌<◌, ◌≤◌, ◌&&◌, Bool, true, false, nat_le, nat_lt, List, [], ◌∷◌, ◌++◌, length, take, drop, Option, Some, None, refl, sym, ap, ◌∙◌, subst, arith, inl, inr}
+use Rattle.std.proofs.Common.{◌≡◌, ℕ, ◌&&◌, Bool, true, false, List, [], ◌∷◌, ◌++◌, Option, Some, None, refl, sym, ap, ◌∙◌, arith}
 use Rattle.std.specs.Prelude.{if◌then◌else◌, not}
 use Rattle.std.specs.List.{list_any}
 use Rattle.std.specs.Option.{option_map}
@@ -8,7 +8,7 @@ use Rattle.vos_values.specs.declared.keys.Moment.{Moment}
 use Rattle.vos_levels.specs.Moments.{is_earlier}
 use Rattle.vos_levels.proofs.Spots.{first_false, then_false}
 use Rattle.vos_extent.specs.declared.extent.ExtentVersion.{ExtentVersion}
-use Rattle.vos_extent.specs.Shown.{covers, greatest, greatest_with, hides, if_passes, is_hidden, is_seen, later_of, moment_of, record_at, record_in, shown_of, shows}
+use Rattle.vos_extent.specs.Shown.{covers, greatest, greatest_with, if_passes, is_hidden, is_seen, later_of, moment_of, record_at, record_in, shown_of, shows}
 use Rattle.vos_extent.specs.Cells.{dated_with, painted}
 use Rattle.vos_extent.specs.Looks.{view}
 

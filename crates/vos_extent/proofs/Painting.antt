@@ -1,5 +1,5 @@
 -- The records of an extent are laid over what indexes hold.
-use Rattle.std.proofs.Common.{◌≡◌, ◌≢◌, ℕ, zero, suc, [], ◌∷◌, ◌+◌, ◌-◌, ◌*◌, ◌/◌, ◌<◌, ◌≤◌, ◌&&◌, Bool, true, false, nat_le, nat_lt, List, length, take, drop, get_or, set, min, Option, Some, None, refl, sym, ap, ◌∙◌, subst, arith, inl, inr}
+use Rattle.std.proofs.Common.{◌≡◌, ◌≢◌, ℕ, ◌+◌, ◌-◌, ◌*◌, ◌/◌, ◌<◌, ◌≤◌, ◌&&◌, Bool, true, false, nat_le, nat_lt, List, length, take, drop, get_or, set, min, Option, None, refl, sym, ap, ◌∙◌, arith, inl, inr}
 use Rattle.std.specs.Prelude.{if◌then◌else◌}
 use Rattle.std.proofs.lemmas.Bool.{cases_lt}
 use Rattle.std.proofs.lemmas.Bool.Decides.{eqb_tells, nat_tests}
@@ -8,7 +8,7 @@ use Rattle.std.proofs.lemmas.List.{get_or-set_other, length-set}
 use Rattle.std.proofs.Math.Nat.{div-mul-le_self, mul-le-mul_right}
 use Rattle.vos_values.specs.declared.keys.Moment.{Moment}
 use Rattle.vos_extent.specs.declared.cells.Cell.{Cell}
-use Rattle.vos_extent.specs.Cells.{Dated, dated_in, dated_with, painted}
+use Rattle.vos_extent.specs.Cells.{dated_in, dated_with, painted}
 
 -- a record lies inside the bytes
 pub record_inside : (number unit count : ℕ) → number < count / unit → (number + 1) * unit ≤ count
@@ -73,12 +73,3 @@ module _ (unit first low : ℕ) (moment : Moment) (bytes : List ℕ) (old : List
             let past : low + length bytes / unit ≤ first + j = omega (arith, over, is, more, inside) in
             ap (dated_in unit) (s.rest j (omega (arith, more))) ∙ sym (chosen_no (nat_le low (first + j) && nat_lt (first + j) (low + length bytes / unit)) _ _ (behind_end low (first + j) (low + length bytes / unit) past))
       ]
-
--- what stands at a place, whatever would stand past the end
-pub same_get : {A : Type 0} (xs : List A) (i : ℕ) (x d : A) → i < length xs → x ≡ get_or xs i x → x ≡ get_or xs i d
-same_get {A = A} xs i x d less is = is ∙ one xs i less
-  where
-    one : (ys : List A) (j : ℕ) → j < length ys → get_or ys j x ≡ get_or ys j d
-    one [] j h = absurd (omega arith)
-    one (y ∷ ys) zero h = refl
-    one (y ∷ ys) (suc j) h = one ys j (omega (arith, h))

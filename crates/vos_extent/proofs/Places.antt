@@ -1,19 +1,19 @@
 -- Keys of extents lie to one another as their places do.
-use Rattle.std.proofs.Common.{◌≡◌, ℕ, ◌==◌, ◌&&◌, ◌||◌, nat_lt, true, false, List, [], ◌∷◌, sym, ap, ◌∙◌, arith, refl, subst}
+use Rattle.std.proofs.Common.{◌≡◌, ℕ, ◌==◌, ◌&&◌, ◌||◌, nat_lt, true, false, List, [], ◌∷◌, sym, ap, ◌∙◌, arith, subst}
 use Rattle.std.proofs.lemmas.Bool.Decides.{nat_tests}
 use Rattle.std.specs.Ordering.{nat_cmp, ordering_then}
 use Rattle.std.specs.declared.cmp.Ordering.TheVariants.{Less, Equal}
 use Rattle.pmem_pages.specs.Blocks.{Blocks}
 use Rattle.pmem_pages.specs.Node.{key_cmp}
 use Rattle.pmem_pages.specs.Owners.{Holds}
-use Rattle.pmem_pages.specs.Shape.{AllAbove, Entry, IsTree, Rises, chosen, entries}
+use Rattle.pmem_pages.specs.Shape.{AllAbove, Entry, IsTree, Rises, chosen}
 use Rattle.pmem_pages.specs.declared.node.TreeKey.{TreeKey}
 use Rattle.vos_values.specs.declared.keys.ExtentKey.{ExtentKey}
 use Rattle.vos_values.specs.Keys.{IsExtentKey, extent_key}
 use Rattle.vos_values.proofs.KeyLaws.{extents_order}
 use Rattle.vos_levels.specs.Levels.{LeadToAll, TellsKey, hung_root}
 use Rattle.vos_levels.proofs.Changing.{hung_tree}
-use Rattle.vos_extent.specs.Extents.{AllBehind, Extents, IsStored, Rise, Stored, extent_level, extent_owner, is_at, is_before, place_of, same_place}
+use Rattle.vos_extent.specs.Extents.{AllBehind, Extents, IsStored, Rise, Stored, extent_level, extent_owner, is_at, is_before, place_of}
 
 three_level : (a b c x y z : ℕ) → ((x == a) && (y == b) && (z == c)) ≡ chosen (ordering_then (nat_cmp a x) (ordering_then (nat_cmp b y) (ordering_then (nat_cmp c z) Equal))) false true false
 three_level a b c x y z = grind (arith, nat_tests)

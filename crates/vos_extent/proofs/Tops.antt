@@ -7,7 +7,6 @@ use Rattle.vos_values.specs.declared.keys.Moment.{Moment}
 use Rattle.vos_levels.specs.Moments.{is_earlier}
 use Rattle.vos_extent.specs.declared.extent.ExtentVersion.{ExtentVersion}
 use Rattle.vos_extent.specs.Shown.{Among, IsGreatest, greatest, greatest_with, if_passes, later_of, moment_of}
-use Rattle.vos_extent.proofs.Greatest.{later_none}
 
 not_itself : (a : Moment) → is_earlier a a ≡ false
 not_itself a = grind (arith, nat_tests)

@@ -9,7 +9,6 @@ use Rattle.std.specs.Option.{option_and_then, option_map}
 use Rattle.std.proofs.lemmas.Bool.Decides.{nat_tests}
 use Rattle.std.proofs.Math.Nat.{div-le_self, mul-le-mul_right}
 use Rattle.std.specs.Ordering.{nat_cmp, ordering_then}
-use Rattle.std.specs.Cmp.Lexicographic.{slice_cmp}
 use Rattle.std.specs.declared.cmp.Ordering.{Ordering}
 use Rattle.std.specs.declared.cmp.Ordering.TheVariants.{Less, Equal, Greater}
 use Rattle.pmem_pages.specs.Blocks.{Blocks}
@@ -23,15 +22,14 @@ use Rattle.pmem_pages.proofs.Walks.{above_next, above_none}
 use Rattle.pmem_tree_base.specs.Find.{pair_of}
 use Rattle.vos_values.specs.declared.keys.ExtentKey.{ExtentKey}
 use Rattle.vos_values.specs.declared.keys.Moment.{Moment}
-use Rattle.vos_values.specs.declared.values.VersionMark.{VersionMark}
-use Rattle.vos_values.specs.Fields.{AllFit, key_of, packed}
+use Rattle.vos_values.specs.Fields.{key_of, packed}
 use Rattle.vos_values.specs.Keys.{IsExtentKey, extent_fields, extent_key, name_key}
 use Rattle.vos_values.specs.Values.{version_value}
 use Rattle.vos_values.proofs.KeyLaws.{extents_exact, extents_order, keys_cmp}
 use Rattle.vos_values.proofs.Orders.{packed_cmp}
 use Rattle.vos_values.proofs.Reading.{first_holds, then_holds}
 use Rattle.vos_values.proofs.ValueLaws.{singles_exact}
-use Rattle.vos_levels.specs.Levels.{LeadToAll, LeadsTo, hung_root, pair_of_thing, things}
+use Rattle.vos_levels.specs.Levels.{LeadToAll, pair_of_thing, things}
 use Rattle.vos_levels.proofs.Changing.{holds_each, holds_spot}
 use Rattle.vos_levels.proofs.Testing.{few_things}
 use Rattle.vos_levels.specs.Moments.{is_earlier}

@@ -1,5 +1,5 @@
 // The extents of an array, in a tree with a chain of bytes for each.
-ghost use Rattle.std.specs.Prelude.{◌≡◌, ◌≤◌, ◌<◌, ◌+◌, true, false, OnOk, IsErrOf, IsTrue, ⊤, length};
+ghost use Rattle.std.specs.Prelude.{◌≡◌, ◌≤◌, ◌<◌, ◌+◌, true, false, OnOk, IsErrOf, ⊤, length};
 ghost use Rattle.pmem_pages.specs.Blocks.{IsSpent};
 ghost use Rattle.pmem_pages.specs.Node.{IsKey};
 ghost use Rattle.pmem_tree.specs.Calls.{StepsAtMost, TooFew};

@@ -1,5 +1,5 @@
 // What a stretch of an array holds.
-ghost use Rattle.std.specs.Prelude.{◌≡◌, ◌≤◌, ◌<◌, ◌+◌, ◌-◌, ◌^◌, ℕ, Bool, true, None, IfOk, IfSome, OnOk, OnErr, IsErrOf, IsTrue, ⊤, length, get_or};
+ghost use Rattle.std.specs.Prelude.{◌≡◌, ◌≤◌, ◌<◌, ◌+◌, ◌-◌, ◌^◌, ℕ, true, None, IfOk, IfSome, OnOk, OnErr, IsErrOf, IsTrue, ⊤, length, get_or};
 ghost use Rattle.std.specs.Option.{option_and_then, option_copied};
 ghost use Rattle.daos_model.specs.Pieces.{pieces_of};
 ghost use Rattle.pmem_pages.specs.Node.{IsKey};
@@ -7,12 +7,11 @@ ghost use Rattle.pmem_pages.specs.Shape.{entries, first_above};
 ghost use Rattle.pmem_tree.specs.Calls.{StepsAtMost};
 ghost use Rattle.pmem_tree_base.specs.Calls.{Goes};
 ghost use Rattle.pmem_tree_base.specs.Find.{pair_of};
-ghost use Rattle.vos_values.specs.Keys.{IsExtentKey, extent_key};
+ghost use Rattle.vos_values.specs.Keys.{extent_key};
 ghost use Rattle.vos_levels.specs.Calls.{HasThing, OfThing};
 ghost use Rattle.vos_levels.specs.Levels.{hung_root};
 ghost use Rattle.vos_chain.specs.Made.{HasChain, IsChainAt};
 ghost use Rattle.vos_chain.specs.declared.refusal.PiecesNo.TheVariants.{Stopped as stopped_no};
-ghost use Rattle.vos_extent.specs.Cells.{dated_in};
 ghost use Rattle.vos_extent.specs.Extents.{Stored, chain_of, extent_owner, extents, placed_in_pair, placed_of};
 ghost use Rattle.vos_extent.specs.Shown.{StepsNear, hides, pieces_at, start_key, start_of};
 ghost use Rattle.vos_extent.specs.Looks.{Lays, Painted, is_about, record_of_cell, records_of};

@@ -1,5 +1,5 @@
 -- What is found among the versions of a single value.
-use Rattle.std.proofs.Common.{◌≡◌, ℕ, ◌<◌, Bool, true, false, Option, Some, None, List, length, refl, sym, ap, ◌∙◌, subst, arith}
+use Rattle.std.proofs.Common.{◌≡◌, ℕ, Option, Some, None, List, refl, sym, ap, ◌∙◌, subst}
 use Rattle.std.specs.Option.{option_and_then, option_map}
 use Rattle.pmem_pages.specs.Blocks.{Blocks}
 use Rattle.pmem_pages.specs.Owners.{Holds, each}
@@ -8,7 +8,7 @@ use Rattle.pmem_pages.specs.declared.node.TreeKey.{TreeKey}
 use Rattle.pmem_tree_base.specs.Find.{pair_of}
 use Rattle.vos_values.specs.declared.keys.Moment.{Moment}
 use Rattle.vos_values.specs.Keys.{IsMoment, moment_key}
-use Rattle.vos_values.specs.Values.{version_in, version_value}
+use Rattle.vos_values.specs.Values.{version_value}
 use Rattle.vos_values.proofs.KeyLaws.{moments_exact}
 use Rattle.vos_values.proofs.ValueLaws.{singles_exact}
 use Rattle.vos_levels.specs.Levels.{TellsAbove, TellsKey, find_last, hung_root, pair_of_thing, things}
@@ -16,10 +16,8 @@ use Rattle.vos_levels.proofs.Changing.{holds_each, holds_spot, hung_tree}
 use Rattle.vos_levels.proofs.Moments.{moment_below, moment_level}
 use Rattle.vos_levels.proofs.Spots.{last_found}
 use Rattle.vos_levels.proofs.Testing.{all_good, last_at, last_good, read_option}
-use Rattle.vos_chain.specs.Chains.{Chain, chain_owner}
 use Rattle.vos_chain.specs.Made.{IsChainAt}
 use Rattle.vos_single.specs.declared.single.Placed.{Placed}
-use Rattle.vos_single.specs.declared.single.SingleVersion.{SingleVersion}
 use Rattle.vos_single.specs.Singles.{IsStored, Singles, Stored, chain_of, is_at, is_under, mark_of, moment_of, placed_in_pair, placed_of, placed_when, placed_with, single_level, single_owner, version_of}
 
 pub single_tree : (m : Blocks) (kind root : ℕ) (g : Singles) → kind ≡ 5 → Holds single_owner m g → root ≡ hung_root g → IsTree m kind root g.0

@@ -1,4 +1,4 @@
-use Rattle.std.proofs.Common.{◌≡◌, ◌+◌, ◌-◌, ◌*◌, ◌/◌, ◌<◌, ◌≤◌, ◌∙◌, ℕ, None, get_or, length, take, drop, sym, ap, arith}
+use Rattle.std.proofs.Common.{◌≡◌, ◌+◌, ◌-◌, ◌*◌, ◌/◌, ◌∙◌, ℕ, None, get_or, length, take, drop, sym, ap, arith}
 use Rattle.vos_extent.specs.Cells.{dated_in, dated_with}
 use Rattle.vos_extent.proofs.Painting.{record_inside, so_far_first, so_far_next}
 use Rattle.vos_extent.proofs.cells.paint.Goals as goal

@@ -1,4 +1,4 @@
-use Rattle.std.proofs.Common.{◌≡◌, ◌+◌, ◌-◌, ◌≤◌}
+use Rattle.std.proofs.Common.{◌+◌, ◌-◌, ◌≤◌}
 use Rattle.vos_extent.proofs.Painting.{SoFar}
 use Rattle.vos_extent.proofs.cells.paint.Given as goal
 

@@ -1,4 +1,4 @@
-use Rattle.std.proofs.Common.{◌≡◌, ◌∙◌, sym}
+use Rattle.std.proofs.Common.{◌∙◌, sym}
 use Rattle.vos_extent.specs.Extents.{chain_of}
 use Rattle.vos_extent.proofs.Walking.{lays_none, lays_seen}
 use Rattle.vos_extent.proofs.pieces.lay.Goals as goal

@@ -1,4 +1,4 @@
-use Rattle.std.proofs.Common.{◌≡◌, ◌∙◌, ◌+◌, None, get_or, take, sym, ap, arith}
+use Rattle.std.proofs.Common.{◌≡◌, ◌∙◌, None, get_or, take, sym, ap, arith}
 use Rattle.std.specs.Option.{option_copied}
 use Rattle.daos_model.specs.Answers.{record_of}
 use Rattle.daos_model.specs.Pieces.{index_after, last_hole, pieces_of}

@@ -1,4 +1,4 @@
-use Rattle.std.proofs.Common.{◌≡◌, ℕ, ◌+◌, ◌-◌, ◌*◌, ◌<◌, ◌≤◌, ◌^◌, ◌∙◌, length, Some, None, refl, sym, ap, subst, arith}
+use Rattle.std.proofs.Common.{◌≡◌, ◌+◌, ◌-◌, ◌*◌, ◌≤◌, ◌∙◌, length, Some, None, refl, sym, subst, arith}
 use Rattle.std.specs.Option.{option_and_then}
 use Rattle.pmem_pages.specs.Owners.{Holds}
 use Rattle.pmem_pages.specs.Shape.{entries, first_above}

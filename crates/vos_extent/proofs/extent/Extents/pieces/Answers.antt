@@ -1,4 +1,4 @@
-use Rattle.std.proofs.Common.{◌≡◌, ◌∙◌, ◌-◌, length, sym, ap, arith}
+use Rattle.std.proofs.Common.{◌≡◌, ◌∙◌, ◌-◌, length, ap, arith}
 use Rattle.std.proofs.lemmas.List.{take_at}
 use Rattle.daos_model.specs.Pieces.{pieces_of}
 use Rattle.vos_extent.specs.declared.pieces.Look.{Look}

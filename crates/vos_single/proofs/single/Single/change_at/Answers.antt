@@ -1,4 +1,4 @@
-use Rattle.std.proofs.Common.{◌≡◌, ◌+◌, arith, inl}
+use Rattle.std.proofs.Common.{arith, inl}
 use Rattle.vos_levels.proofs.Calls.{on_ok_then}
 use Rattle.vos_single.proofs.Changing.{bytes_there, version_changed, version_freed}
 use Rattle.vos_single.proofs.Reading.{single_tree}

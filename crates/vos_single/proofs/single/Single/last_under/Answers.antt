@@ -1,4 +1,4 @@
-use Rattle.std.proofs.Common.{rules, ◌≡◌, ◌∙◌, ap, sym}
+use Rattle.std.proofs.Common.{◌∙◌, ap}
 use Rattle.std.specs.Option.{option_and_then}
 use Rattle.vos_single.specs.Singles.{placed_in_pair}
 use Rattle.vos_single.proofs.Reading.{placed_found, single_tree}

@@ -1,9 +1,8 @@
-use Rattle.std.proofs.Common.{rules, ◌≡◌, ◌∙◌, ◌<◌, ap, sym, subst, arith, Some, None}
+use Rattle.std.proofs.Common.{◌≡◌, ◌∙◌, ap, sym, subst, arith, None}
 use Rattle.std.specs.Option.{option_map}
 use Rattle.vos_levels.specs.Levels.{find_last, things}
-use Rattle.vos_levels.proofs.Calls.{goes_then}
 use Rattle.vos_chain.specs.Made.{IsChainAt}
-use Rattle.vos_single.specs.Singles.{chain_of, is_under, placed_of, start_of, version_of}
+use Rattle.vos_single.specs.Singles.{chain_of, is_under, placed_of, version_of}
 use Rattle.vos_single.proofs.Reading.{found_at, none_found, version_found}
 use Rattle.vos_single.proofs.single.Single.newest.Goals as goal
 

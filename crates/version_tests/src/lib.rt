@@ -1,0 +1,5 @@
+// Tests of versions on trees, in memory.
+#![tactic(auto)]
+
+#[cfg(test)]
+mod extent_tests;
