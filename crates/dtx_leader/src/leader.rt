@@ -143,6 +143,15 @@ impl Leader {
             .answer_query(self.seat, self.table.entries(), attempt)
     }
 
+    /// Where it is.
+    pub fn seat(&self) -> Seat
+        ensures me { result.me ≡ self.now.me }
+        ensures targets { result.targets ≡ self.now.targets }
+        ensures incarnation { result.incarnation ≡ self.now.incarnation }
+    {
+        self.seat
+    }
+
     /// The entries that it leads, in the order of attempts.
     pub fn entries(&self) -> &[Entry]
         ensures { result.now ≡ self.now.entries }

@@ -4,10 +4,11 @@
 #![tactic(auto)]
 
 mod answers;
+mod asks;
 mod confirms;
 pub mod decisions;
 mod hearing;
 pub mod leader;
-mod opening;
+pub mod opening;
 mod resets;
 mod telling;

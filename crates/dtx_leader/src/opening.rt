@@ -9,8 +9,8 @@ use dtx_base::leading::Undecided;
 use dtx_table::bits::other_members;
 use std::alloc::Global;
 
-// Whether an entry isn't committed, and there are others to ask.
-fn is_open(alloc: Global, entry: &Entry) -> Result<bool, Memory>
+/// Whether an entry isn't committed, and there are others to ask.
+pub fn is_open(alloc: Global, entry: &Entry) -> Result<bool, Memory>
     ensures { IfOk result (λ is. is ≡ is_open entry.now) }
 {
     Ok(!entry.committed && !other_members(alloc, entry)?.is_empty())

@@ -66,14 +66,18 @@ module _ (me : ℕ) (m : LeaderMemory) (d : Durable) (r : AreRowsOpen me m d) wh
     ];
   }
 
-  -- one more is counted
-  pub rows-counted : (a : AttemptId) (t : ℕ) → AreRowsOpen me (record m { undecided = map (counted_at a t) m.undecided }) d
-  rows-counted a t = record {
+  -- what else is remembered of the undecided ones is nothing to them
+  pub rows-mapped : (f : Undecided → Undecided) → ((u : Undecided) → (f u).attempt ≡ u.attempt) → AreRowsOpen me (record m { undecided = map f m.undecided }) d
+  rows-mapped f same = record {
     order = r.order;
     decided = r.decided;
-    undecided = λ u i. let o = has-from_map (counted_at a t) m.undecided u i in subst (λ x. IsOpenHere me x d) (sym (counted-same o.0) ∙ ap (λ x. x.attempt) o.2) (r.undecided o.0 o.1);
-    apart = λ u i j. let o = has-from_map (counted_at a t) m.undecided u i in r.apart o.0 o.1 (subst (λ x. Has x m.decided) (sym (ap (λ x. x.attempt) o.2) ∙ counted-same o.0) j);
+    undecided = λ u i. let o = has-from_map f m.undecided u i in subst (λ x. IsOpenHere me x d) (sym (same o.0) ∙ ap (λ x. x.attempt) o.2) (r.undecided o.0 o.1);
+    apart = λ u i j. let o = has-from_map f m.undecided u i in r.apart o.0 o.1 (subst (λ x. Has x m.decided) (sym (ap (λ x. x.attempt) o.2) ∙ same o.0) j);
   }
+
+  -- one more is counted
+  pub rows-counted : (a : AttemptId) (t : ℕ) → AreRowsOpen me (record m { undecided = map (counted_at a t) m.undecided }) d
+  rows-counted a t = rows-mapped (counted_at a t) counted-same
     where
       counted-same : (u : Undecided) → (counted_at a t u).attempt ≡ u.attempt
       counted-same u = elim (same_attempt u.attempt a) as (λ b. (if b then record u { counted = with_target u.counted t } else u).attempt ≡ u.attempt) [ true ↦ refl | false ↦ refl ]

@@ -1,0 +1,4 @@
+pub mod Silent
+pub mod Asking
+pub mod Resetting
+pub mod Opened
