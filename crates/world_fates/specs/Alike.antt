@@ -85,7 +85,7 @@ letters-same : (q l : Letter) → q.from ≡ l.from → q.to ≡ l.to → q.mess
 letters-same q l from to says = ap (λ a. letter_between a q.to q.message) from ∙ ap (λ a. letter_between l.from a q.message) to ∙ ap (letter_between l.from l.to) says
 
 -- what a letter answers that goes back to who asked
-answered-same : (l q : Letter) (t : ℕ) (m : Message) → l.to ≡ target t → is_answer_to (record { from = target t; to = l.from; message = m }) q ≡ true → q.message ≡ l.message → q ≡ l
+pub answered-same : (l q : Letter) (t : ℕ) (m : Message) → l.to ≡ target t → is_answer_to (record { from = target t; to = l.from; message = m }) q ≡ true → q.message ≡ l.message → q ≡ l
 answered-same l q t m to is says =
     let a = answer-is (record { from = target t; to = l.from; message = m }) q is in
     letters-same q l (sym a.receiver) (sym a.sender ∙ sym to) says

@@ -62,14 +62,14 @@ all-true : (r : Rules) (h : History) (w : World) (t : ℕ) (a : AttemptId) (ps :
 all-true r h w t a [] p i = absurd i
 all-true r h w t a (q ∷ ps) p i = true-append r h w t (unresolved_told a q.ask) (all_unresolved_told a ps) (told-true r h w t a q.ask) (all-true r h w t a ps) p i
 
-freed-plain : (a : AttemptId) (ask : Option AttemptId) (v : Verdict) (j : MemberOf) → ArePlain (verdict_heard a ask v j).freed.posts
+pub freed-plain : (a : AttemptId) (ask : Option AttemptId) (v : Verdict) (j : MemberOf) → ArePlain (verdict_heard a ask v j).freed.posts
 unfolding unresolved
 freed-plain a ask verdict.Committed j p i = absurd i
 freed-plain a ask verdict.Aborted j p i = absurd i
 freed-plain a None verdict.Undecided j p i = absurd i
 freed-plain a (Some x) verdict.Undecided j p i = all-plain a (filter (is_waiting a x) j.memory.parked) p i
 
-freed-true : (r : Rules) (h : History) (w : World) (t : ℕ) (a : AttemptId) (ask : Option AttemptId) (v : Verdict) (j : MemberOf) → PostsSo r h w t (verdict_heard a ask v j).freed.posts
+pub freed-true : (r : Rules) (h : History) (w : World) (t : ℕ) (a : AttemptId) (ask : Option AttemptId) (v : Verdict) (j : MemberOf) → PostsSo r h w t (verdict_heard a ask v j).freed.posts
 unfolding unresolved
 freed-true r h w t a ask verdict.Committed j p i = absurd i
 freed-true r h w t a ask verdict.Aborted j p i = absurd i

@@ -1,4 +1,4 @@
--- A cut of a Verdict, and of an Ack: of what was sent before the cut nothing is left, and an attempt may be aborted that nobody is told of.
+-- A cut of a Verdict, and of what a member answers: of what was sent before the cut nothing is left, and an attempt may be aborted that nobody is told of.
 use Rattle.std.specs.Prelude.{ℕ, ◌≡◌, ◌==◌, Bool, true, false, ◌&&◌, List, [], ◌∷◌, ◌++◌, slice_get, Option, Some, None, is_some, refl}
 use Rattle.std.proofs.Common.{append-nil, sym, ◌∙◌, ap, subst, arith, inl}
 use Rattle.std.proofs.lemmas.Bool.Decides.{nat_tests}
@@ -29,7 +29,7 @@ use Rattle.world_attempts.specs.History.{Decided, GrowsBy, History}
 use Rattle.world_attempts.specs.MarkTurns.{led-found, target-is}
 use Rattle.world_attempts.specs.Working.{at_work}
 use Rattle.world_fates.specs.AckTurns as ack
-use Rattle.world_fates.specs.Answers.{ack-answers}
+use Rattle.world_fates.specs.Answers.{IsAnswer}
 use Rattle.world_fates.specs.Concerns.{AreDull, IsDull, mail-sent}
 use Rattle.world_fates.specs.Facts.{Attempts, IsAckRight, IsSaidSo, IsVerdictRight, Ongoing, is_try, refuses_for}
 use Rattle.world_attempts.specs.FetchTurns.{fetch_memory}
@@ -158,9 +158,9 @@ module _ (r : Rules) (h : History) (w v : World) (t : ℕ) (s : TargetState) (he
         at = cut-as (judged.VerdictNext is_prepared (target_plan r t) s.memory reading x ask c) none_issued t AtIt (keep reading) (plain reading) judged.Heard (kept s) cut
             (subst (λ m. CutTurn (judged.VerdictNext is_prepared (target_plan r t) m reading x ask c) none_issued t judged.Heard (kept s) cut) known-same turn) start
 
-  -- ---- an Ack
+  -- ---- an Ack, or what a member holds, which is heard as one
 
-  module _ (later : History) (x : AttemptId) (inc : ℕ) (refusal : Option Outcome) (is : l.message ≡ message.Ack x inc refusal) (g : GrowsBy h (ack_told s x refusal cut.left.durable) later) where
+  module _ (later : History) (x : AttemptId) (inc : ℕ) (refusal : Option Outcome) (is : IsAnswer r l x inc refusal) (g : GrowsBy h (ack_told s x refusal cut.left.durable) later) where
     -- where what it keeps is as before, nothing is told
     unchanged : (n : Kept) → Ongoing r h (at_work w t (target_after s n s.memory) []) → cut.left.durable ≡ n.durable → n.durable ≡ s.durable → Attempts r later v
     unchanged n on same begun =
@@ -172,7 +172,7 @@ module _ (r : Rules) (h : History) (w v : World) (t : ℕ) (s : TargetState) (he
     module _ (b : Kept) (on : Ongoing r h (at_work w t (target_after s b s.memory) [])) (begun : b.durable ≡ s.durable) (made : cut.left.durable ≡ settled x Abort b.durable) (e : Entry) (u : Undecided) (how : Outcome)
         (awaited : IsAwaited x (leader_at (target_plan r t) s.memory b.durable) e u) (refuses : refusal ≡ Some how) (present : b.durable.incarnation ≡ inc) where
       says : IsAckRight r h (at_work w t (target_after s b s.memory) []) l.from l.to x inc refusal
-      says = subst (IsSaidSo r h (at_work w t (target_after s b s.memory) []) l.from l.to) is (on.letters l (has-left w.messages [] l flying))
+      says = is.says h (at_work w t (target_after s b s.memory) []) (on.letters l (has-left w.messages [] l flying))
 
       leads : t ≡ leader_of r x
       leads = target-is t (leader_of r x) (sym to_it ∙ says.way.receiver)
@@ -185,7 +185,7 @@ module _ (r : Rules) (h : History) (w v : World) (t : ℕ) (s : TargetState) (he
         where
           refused : refuses_for (inc_at (at_work w t (target_after s b s.memory) []) (leader_of r x)) x l.message ≡ true
           refused =
-              ap (refuses_for (inc_at (at_work w t (target_after s b s.memory) []) (leader_of r x)) x) (is ∙ ap (message.Ack x inc) refuses)
+              is.refuses (inc_at (at_work w t (target_after s b s.memory) []) (leader_of r x)) x how refuses
               ∙ both (same_attempt x x) (inc == inc_at (at_work w t (target_after s b s.memory) []) (leader_of r x)) (same_attempt-itself x) (subst (λ i. (inc == i) ≡ true) (sym (inc-there ∙ present)) (number-itself inc))
 
       found : entry_of s.durable x ≡ Some e
@@ -218,13 +218,13 @@ module _ (r : Rules) (h : History) (w v : World) (t : ℕ) (s : TargetState) (he
     ack-plain : (a : AckStage) (n : Kept) (ch : Change) (b : AckStage) → AckNext (target_plan r t) s.memory l.from.number x inc refusal a n (Some ch) b → (is_plain ch ≡ true) × (none_issued a ≡ none_issued b)
     ack-plain a n ch b (Aborts n2 on) = (refl, refl)
 
-    ends : (stage : AckStage) (n : Kept) → ack.AtAck r h h w v t s here runs s.memory l rest takes to_it x inc refusal (ack-answers r l x inc refusal is) stage n → cut.left.durable ≡ n.durable → Attempts r later v
+    ends : (stage : AckStage) (n : Kept) → ack.AtAck r h h w v t s here runs s.memory l rest takes to_it x inc refusal is stage n → cut.left.durable ≡ n.durable → Attempts r later v
     ends Heard n p same = unchanged n p.1 same p.0
     ends (Followed st) n p same = by (is_refusing l.from.number x inc refusal (leader_at (target_plan r t) s.memory p.before.durable)) refl
       where
         by : (b : Bool) → is_refusing l.from.number x inc refusal (leader_at (target_plan r t) s.memory p.before.durable) ≡ b → Attempts r later v
         by false off = unchanged p.before p.on (same ∙ p.other off) p.begun
-        by true on = refused (ack.view r h h w v t s here runs s.memory l rest takes to_it x inc refusal (ack-answers r l x inc refusal is) p.before p.on (present-test p.before on))
+        by true on = refused (ack.view r h h w v t s here runs s.memory l rest takes to_it x inc refusal is p.before p.on (present-test p.before on))
           where
             refused : {st2 : LeaderStep} → AckIs l.from.number x inc refusal (leader_at (target_plan r t) s.memory p.before.durable) st2 → Attempts r later v
             refused (Ignored unawaited off) = let no : ⊥ = cc (on, off) in absurd no
@@ -235,6 +235,6 @@ module _ (r : Rules) (h : History) (w v : World) (t : ℕ) (s : TargetState) (he
     pub ack-cut : CutTurn (AckNext (target_plan r t) s.memory l.from.number x inc refusal) none_issued t Heard (kept s) cut → Attempts r later v
     ack-cut turn = ends at.stage at.mid at.so_far at.left
       where
-        at : CutAs (AckNext (target_plan r t) s.memory l.from.number x inc refusal) none_issued t (ack.AtAck r h h w v t s here runs s.memory l rest takes to_it x inc refusal (ack-answers r l x inc refusal is)) (ack.ack-step r h h w v t s here runs s.memory l rest takes to_it x inc refusal (ack-answers r l x inc refusal is)) ack-plain Heard cut
-        at = cut-as (AckNext (target_plan r t) s.memory l.from.number x inc refusal) none_issued t (ack.AtAck r h h w v t s here runs s.memory l rest takes to_it x inc refusal (ack-answers r l x inc refusal is))
-            (ack.ack-step r h h w v t s here runs s.memory l rest takes to_it x inc refusal (ack-answers r l x inc refusal is)) ack-plain Heard (kept s) cut turn (refl, start)
+        at : CutAs (AckNext (target_plan r t) s.memory l.from.number x inc refusal) none_issued t (ack.AtAck r h h w v t s here runs s.memory l rest takes to_it x inc refusal is) (ack.ack-step r h h w v t s here runs s.memory l rest takes to_it x inc refusal is) ack-plain Heard cut
+        at = cut-as (AckNext (target_plan r t) s.memory l.from.number x inc refusal) none_issued t (ack.AtAck r h h w v t s here runs s.memory l rest takes to_it x inc refusal is)
+            (ack.ack-step r h h w v t s here runs s.memory l rest takes to_it x inc refusal is) ack-plain Heard (kept s) cut turn (refl, start)

@@ -1,4 +1,4 @@
--- A cut of any turn as without stops, as an event.
+-- A cut of any turn that is of no snapshot and no aggregation, as an event.
 use Rattle.std.specs.Prelude.{ℕ, ◌≡◌, Bool, true, false, List, [], Option, Some, None, refl}
 use Rattle.std.proofs.Common.{◌∙◌, ap}
 use Rattle.base_types.specs.declared.report.Line.{Line}
@@ -6,6 +6,7 @@ use Rattle.base_messages.specs.declared.message.Message.{Message}
 use Rattle.base_messages.specs.declared.message.Message.TheVariants as message
 use Rattle.base_messages.specs.declared.message.Post.{Post}
 use Rattle.world_attempts.specs.History.{GrowsBy, History}
+use Rattle.world_fates.specs.Answers.{ack-answers, state-answers}
 use Rattle.world_fates.specs.Asked.{AskedRight}
 use Rattle.world_fates.specs.Facts.{Attempts}
 use Rattle.world_stops.specs.CutAnswers.{ack-cut, ack_told, verdict-cut}
@@ -19,27 +20,27 @@ use Rattle.world_base.specs.Events.{Rules, kept, target_plan}
 use Rattle.world_base.specs.Letters.{Takes, target}
 use Rattle.world_base.specs.PathLaws.{path-keeps}
 use Rattle.world_base.specs.Roles.{is_prepared}
-use Rattle.world_base.specs.Statuses.{AtOnce, Looking, Looks, NoChange}
+use Rattle.world_base.specs.Statuses.{AtOnce, Looking, Looks, NoChange, status_refusal}
 use Rattle.world_base.specs.Stops.{AtWork, Hearing, IdleWork, CutOf, IsInHand, TargetCut}
 use Rattle.world_base.specs.TargetTurns.{fetch_request}
 use Rattle.world_base.specs.Verdicts.{Answers, IsAsked, QueryNext, QueryStage}
 
--- a message of a turn as without stops, or one that asks for what is there
-abbrev pub is_without_stops : Message → Bool
-is_without_stops (message.Snap x c name tracker) = false
-is_without_stops (message.Freeze x c s) = false
-is_without_stops (message.Held x refusal) = false
-is_without_stops (message.Prune x c tracker e) = false
-is_without_stops (message.StatusIs x inc how) = false
-is_without_stops m = true
+-- a message that is heard for no snapshot and no aggregation
+abbrev pub is_without_snapshots : Message → Bool
+is_without_snapshots (message.Snap x c name tracker) = false
+is_without_snapshots (message.Freeze x c s) = false
+is_without_snapshots (message.Held x refusal) = false
+is_without_snapshots (message.Prune x c tracker e) = false
+is_without_snapshots m = true
 
-abbrev pub IsWithoutStops : AtWork → Type 0
-IsWithoutStops (Hearing l reading number) = is_without_stops l.message ≡ true
-IsWithoutStops IdleWork = Unit {0}
+abbrev pub IsWithoutSnapshots : AtWork → Type 0
+IsWithoutSnapshots (Hearing l reading number) = is_without_snapshots l.message ≡ true
+IsWithoutSnapshots IdleWork = Unit {0}
 
--- What a leader would have told of an attempt that it aborted when it stopped: where an Ack's refusal made it take its entry away.
+-- What a leader would have told of an attempt that it aborted when it stopped: where an answer's refusal made it take its entry away.
 abbrev pub message_told : Message → TargetState → Cutting → List Post
 message_told (message.Ack x inc refusal) s cut = ack_told s x refusal cut.left.durable
+message_told (message.StatusIs x inc how) s cut = ack_told s x (status_refusal x how) cut.left.durable
 message_told m s cut = []
 
 abbrev pub cut_told : AtWork → TargetState → Cutting → List Post
@@ -78,14 +79,16 @@ module _ (r : Rules) (h later : History) (w v : World) (right : AskedRight r h w
   after : Attempts r h v → GrowsBy h [] later → Attempts r later v
   after on grows = later-keeps r h later v grows on
 
-  by-kind : (l : Letter) (reading number : ℕ) → (rest : List Letter) → Takes w.messages l rest → l.to ≡ target g.t → (m : Message) → l.message ≡ m → is_without_stops m ≡ true
+  by-kind : (l : Letter) (reading number : ℕ) → (rest : List Letter) → Takes w.messages l rest → l.to ≡ target g.t → (m : Message) → l.message ≡ m → is_without_snapshots m ≡ true
       → HearingIsCut is_prepared number (target_plan r g.t) g.s.opening g.s.memory reading l.from m (kept g.s) g.cut → GrowsBy h (message_told m g.s g.cut) later → Attempts r later v
   by-kind l reading number rest takes to (message.Fetch x op group ep first tracker read snapshot) is plain turn grows =
       after (fetch-cut r h w v g.t g.s g.here g.runs g.cut g.after k reading (fetch_request x op group ep first tracker read snapshot) turn) grows
   by-kind l reading number rest takes to (message.Commit x ep first tracker ws) is plain turn grows =
       after (commit-cut r h w v g.t g.s g.here g.runs g.cut g.after k l rest takes to x ep first tracker ws is reading right turn) grows
   by-kind l reading number rest takes to (message.Prepare e first ws inc) is plain turn grows = after (prepare-cut r h w v g.t g.s g.here g.runs g.cut g.after k l rest takes to e first ws inc is turn) grows
-  by-kind l reading number rest takes to (message.Ack x inc refusal) is plain turn grows = ack-cut r h w v g.t g.s g.here g.runs g.cut g.after k l rest takes to later x inc refusal is grows turn
+  by-kind l reading number rest takes to (message.Ack x inc refusal) is plain turn grows = ack-cut r h w v g.t g.s g.here g.runs g.cut g.after k l rest takes to later x inc refusal (ack-answers r l x inc refusal is) grows turn
+  by-kind l reading number rest takes to (message.StatusIs x inc how) is plain turn grows =
+      ack-cut r h w v g.t g.s g.here g.runs g.cut g.after k l rest takes to later x inc (status_refusal x how) (state-answers r l x inc how is) grows turn
   by-kind l reading number rest takes to (message.Mark inc ms) is plain turn grows = after (mark-cut r h w v g.t g.s g.here g.runs g.cut g.after k l rest takes to inc ms is turn) grows
   by-kind l reading number rest takes to (message.Marked inc ids) is plain turn grows = after (marked-cut r h w v g.t g.s g.here g.runs g.cut g.after k l rest takes to inc ids is turn) grows
   by-kind l reading number rest takes to (message.Verdict x ask inc c) is plain turn grows = after (verdict-cut r h w v g.t g.s g.here g.runs g.cut g.after k l rest takes to x ask inc c is reading turn) grows
@@ -101,12 +104,11 @@ module _ (r : Rules) (h later : History) (w v : World) (right : AskedRight r h w
   by-kind l reading number rest takes to (message.Freeze x c s) is plain turn grows = let no : ⊥ = cc in absurd no
   by-kind l reading number rest takes to (message.Held x refusal) is plain turn grows = let no : ⊥ = cc in absurd no
   by-kind l reading number rest takes to (message.Prune x c tracker e) is plain turn grows = let no : ⊥ = cc in absurd no
-  by-kind l reading number rest takes to (message.StatusIs x inc how) is plain turn grows = let no : ⊥ = cc in absurd no
   by-kind l reading number rest takes to m is plain turn grows = absurd turn
 
-  pub cut-keeps : IsWithoutStops g.work → GrowsBy h (cut_told g.work g.s g.cut) later → Attempts r later v
+  pub cut-keeps : IsWithoutSnapshots g.work → GrowsBy h (cut_told g.work g.s g.cut) later → Attempts r later v
   cut-keeps plain grows = by g.work plain grows g.in_hand g.turn
     where
-      by : (a : AtWork) → IsWithoutStops a → GrowsBy h (cut_told a g.s g.cut) later → IsInHand w g.t a → CutOf (target_plan r g.t) g.s a g.cut → Attempts r later v
+      by : (a : AtWork) → IsWithoutSnapshots a → GrowsBy h (cut_told a g.s g.cut) later → IsInHand w g.t a → CutOf (target_plan r g.t) g.s a g.cut → Attempts r later v
       by (Hearing l reading number) plain grows hand turn = by-kind l reading number hand.0.0 hand.0.1 hand.1 l.message refl plain turn grows
       by IdleWork plain grows hand turn = after (idling-cut r h w v g.t g.s g.here g.runs g.cut g.after k turn) grows

@@ -1,4 +1,4 @@
--- What happens in a world keeps the facts of attempts, but for what is heard of snapshots, aggregation and statuses.
+-- What happens in a world keeps the facts of attempts, but for what is heard after stops, and for snapshots and aggregation.
 use Rattle.std.specs.Prelude.{List, [], ◌++◌}
 use Rattle.std.proofs.Common.{sym, subst}
 use Rattle.base_messages.specs.declared.message.Post.{Post}
@@ -9,7 +9,7 @@ use Rattle.world_fates.specs.KeepingLaws.{attempts-kept}
 use Rattle.world_fates.specs.Rightly.{letters-tell}
 use Rattle.world_fates.specs.Told.{silent_at}
 use Rattle.world_attempts.specs.Counting.{has-taken}
-use Rattle.world_stops.specs.CutEvents.{IsWithoutStops, cut-keeps, cut_told}
+use Rattle.world_stops.specs.CutEvents.{IsWithoutSnapshots, cut-keeps, cut_told}
 use Rattle.world_stops.specs.Cuts.{later-keeps}
 use Rattle.world_stops.specs.Drawing.{drawing-keeps}
 use Rattle.world_stops.specs.Failing.{failing-keeps}
@@ -37,10 +37,10 @@ told_in (Fails g) = []
 told_in (GivenUp g) = []
 told_in (Draws g) = []
 
--- all but what is heard further, and the cuts of such turns
+-- all but what is heard further, and the cuts of turns of snapshots and aggregations
 abbrev pub IsOfAttempts : {r : Rules} {w v : World} → Happening r w v → Type 0
 IsOfAttempts (Further g) = ⊥
-IsOfAttempts (IsCut g) = IsWithoutStops g.work
+IsOfAttempts (IsCut g) = IsWithoutSnapshots g.work
 IsOfAttempts e = Unit {0}
 
 -- a turn in which what is heard tells of others' attempts alone, as a right one

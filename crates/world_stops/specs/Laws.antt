@@ -3,7 +3,7 @@ use Rattle.std.specs.Prelude.{ℕ, ◌≡◌, slice_get, Some}
 use Rattle.world_attempts.specs.History.{GrowsBy, History}
 use Rattle.world_fates.specs.Asked.{AskedRight}
 use Rattle.world_fates.specs.Facts.{Attempts}
-use Rattle.world_stops.specs.CutEvents.{IsWithoutStops, cut_told}
+use Rattle.world_stops.specs.CutEvents.{IsWithoutSnapshots, cut_told}
 use Rattle.world_stops.specs.Happenings.{IsOfAttempts, told_in}
 use Rattle.world_stops.specs.Openings.{opening_told}
 use Rattle.world_base.specs.declared.target.TargetState.{TargetState}
@@ -16,10 +16,10 @@ use Rattle.world_base.specs.Stops.{NumbersDrawn, OpeningFails, TargetCut, Target
 abbrev pub StopsKeepAttempts : Type 0
 StopsKeepAttempts = (r : Rules) (h : History) (w v : World) (t : ℕ) (s : TargetState) (cut : Cutting) → slice_get w.targets t ≡ Some s → cut.left.durable ≡ s.durable → v ≡ after_cut w t s cut → Attempts r h w → Attempts r h v
 
--- a turn as without stops that is cut, of what is aborted by then
+-- a turn that is cut, of no snapshot and no aggregation, of what is aborted by then
 abbrev pub CutsKeepAttempts : Type 0
 CutsKeepAttempts =
-    (r : Rules) (h later : History) (w v : World) → AskedRight r h w → Attempts r h w → (g : TargetCut r w v) → IsWithoutStops g.work → GrowsBy h (cut_told g.work g.s g.cut) later → Attempts r later v
+    (r : Rules) (h later : History) (w v : World) → AskedRight r h w → Attempts r h w → (g : TargetCut r w v) → IsWithoutSnapshots g.work → GrowsBy h (cut_told g.work g.s g.cut) later → Attempts r later v
 
 -- one that opens, of what is decided by then
 abbrev pub OpeningsKeepAttempts : Type 0
@@ -41,8 +41,8 @@ SweepingKeepsAttempts = (r : Rules) (h : History) (w : World) → Attempts r h w
 abbrev pub DrawnNumbersKeepAttempts : Type 0
 DrawnNumbersKeepAttempts = (r : Rules) (h : History) (w v : World) → NumbersDrawn w v → Attempts r h w → Attempts r h v
 
--- So each event of a run keeps them, of what is told in it, or would be told if clients waited and the target went on. What is heard of
--- snapshots, aggregation and statuses isn't treated here.
+-- So each event of a run keeps them, of what is told in it, or would be told if clients waited and the target went on. What is heard after
+-- stops isn't treated here, nor what is heard for snapshots and aggregation.
 abbrev pub WorldEventsKeepAttempts : Type 0
 WorldEventsKeepAttempts =
     (r : Rules) (h later : History) (w v : World) → AskedRight r h w → Attempts r h w → (e : WorldEvent r w v) → IsOfAttempts e.happens → GrowsBy h (told_in e.happens) later → Attempts r later v

@@ -1,0 +1,20 @@
+-- What targets hear after stops.
+pub mod Senders
+pub mod Listening
+pub mod Turns
+pub mod StateTurns
+pub mod Ways
+pub mod StatusTurns
+pub mod AskTurns
+pub mod ResetSteps
+pub mod Resets
+pub mod AskedResets
+pub mod ResetTurns
+pub mod Fates
+pub mod DownTurns
+pub mod Heard
+pub mod Events
+pub mod SenderMoves
+pub mod SenderPosts
+pub mod SenderFurther
+pub mod SenderLaws
