@@ -44,7 +44,7 @@ IsOfAttempts (IsCut g) = IsWithoutSnapshots g.work
 IsOfAttempts e = Unit {0}
 
 -- a turn in which what is heard tells of others' attempts alone, as a right one
-abbrev rightly : (r : Rules) (w v : World) (g : TargetHears r w v) → TellsOfOthers g.t g.s.memory.leader g.s.durable g.l.message → TargetHearsRightly r w v
+abbrev pub rightly : (r : Rules) (w v : World) (g : TargetHears r w v) → TellsOfOthers g.t g.s.memory.leader g.s.durable g.l.message → TargetHearsRightly r w v
 rightly r w v g told = record {
   t = g.t;
   s = g.s;

@@ -29,7 +29,7 @@ use Rattle.world_lines.specs.Lines.{IsRefusalOrNone}
 pub data MoveTells (p : ClientPlan) (c : ClientState) (m : Move) : Type 0 where
   Nothing : m.line ≡ None → MoveTells p c m
   AllRead : (d : Command) (a : Present) → command_at p c ≡ Some d → c.present ≡ Some a → minor_writes 0 (ops_of d) ≡ [] → m ≡ ends p c a outcome.Committed → MoveTells p c m
-  NoSnap : m ≡ ends p c (begun 0 None None) outcome.NoSnapshot → MoveTells p c m
+  NoSnap : c.present ≡ None → m ≡ ends p c (begun 0 None None) outcome.NoSnapshot → MoveTells p c m
 
 commits-tells : (p : ClientPlan) (c : ClientState) (d : Command) (a : Present) (ws : List MinorWrite) → command_at p c ≡ Some d → c.present ≡ Some a → minor_writes 0 (ops_of d) ≡ ws → MoveTells p c (commits p c a ws)
 commits-tells p c d a [] at here none = AllRead d a at here none refl
@@ -56,21 +56,21 @@ attempt-tells p c (Aggregate cont) a at here = Nothing refl
 attempt-tells p c (Tell client) a at here = Nothing refl
 attempt-tells p c (Skip turns) a at here = Nothing refl
 
-begins-tells : (p : ClientPlan) (c : ClientState) (snapshot : Option (List ℕ)) (e : Option Epoch) → MoveTells p c (begins_at p c snapshot e)
-begins-tells p c None e = Nothing refl
-begins-tells p c (Some name) None = NoSnap refl
-begins-tells p c (Some name) (Some e) = Nothing refl
+begins-tells : (p : ClientPlan) (c : ClientState) (snapshot : Option (List ℕ)) (e : Option Epoch) → c.present ≡ None → MoveTells p c (begins_at p c snapshot e)
+begins-tells p c None e none = Nothing refl
+begins-tells p c (Some name) None none = NoSnap none refl
+begins-tells p c (Some name) (Some e) none = Nothing refl
 
-command-tells : (p : ClientPlan) (c : ClientState) (d : Command) → MoveTells p c (command_moves p c d)
-command-tells p c (Run ops turns snapshot) = begins-tells p c snapshot (first_epoch c.known snapshot)
-command-tells p c (Snap name cont) = begins-tells p c None (first_epoch c.known None)
-command-tells p c (Aggregate cont) = begins-tells p c None (first_epoch c.known None)
-command-tells p c (Tell client) = Nothing refl
-command-tells p c (Skip turns) = Nothing refl
+command-tells : (p : ClientPlan) (c : ClientState) (d : Command) → c.present ≡ None → MoveTells p c (command_moves p c d)
+command-tells p c (Run ops turns snapshot) none = begins-tells p c snapshot (first_epoch c.known snapshot) none
+command-tells p c (Snap name cont) none = begins-tells p c None (first_epoch c.known None) none
+command-tells p c (Aggregate cont) none = begins-tells p c None (first_epoch c.known None) none
+command-tells p c (Tell client) none = Nothing refl
+command-tells p c (Skip turns) none = Nothing refl
 
 moves-at-tells : (p : ClientPlan) (c : ClientState) (o : Option Command) (present : Option Present) → command_at p c ≡ o → c.present ≡ present → MoveTells p c (moves_at p c o present)
 moves-at-tells p c None present at here = Nothing refl
-moves-at-tells p c (Some d) None at here = command-tells p c d
+moves-at-tells p c (Some d) None at here = command-tells p c d here
 moves-at-tells p c (Some d) (Some a) at here = attempt-tells p c d a at here
 
 pub moved-tells : (p : ClientPlan) (c : ClientState) → MoveTells p c (moved p c)

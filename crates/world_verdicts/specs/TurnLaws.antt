@@ -56,7 +56,7 @@ asked-ends-nothing p k c a q x own how (AnAggregation cont at says) e = let no :
 no-post : (m : Move) → m.post ≡ None → EndNothing (listed m.post)
 no-post m e q x own how i = absurd (subst (λ o. Has q (listed o)) e i)
 
-move-ends-nothing : (p : ClientPlan) (c : ClientState) → EndNothing (listed (moved p c).post)
+pub move-ends-nothing : (p : ClientPlan) (c : ClientState) → EndNothing (listed (moved p c).post)
 move-ends-nothing p c = by (waits c) refl
   where
     one : (m : Move) (s : Post) → m.post ≡ Some s → ((x : AttemptId) (own : Option Epoch) (how : Outcome) → s.message ≢ message.Ended x own how) → EndNothing (listed m.post)
@@ -74,12 +74,12 @@ move-ends-nothing p c = by (waits c) refl
 -- ---- what it tells
 
 -- the attempts of a line that ends one
-ends-one : (p : ClientPlan) (c : ClientState) (a : Present) (how : Outcome) (m : Move) (b : Attempt) → m ≡ ends p c a how → Has b (tries (listed m.line))
+pub ends-one : (p : ClientPlan) (c : ClientState) (a : Present) (how : Outcome) (m : Move) (b : Attempt) → m ≡ ends p c a how → Has b (tries (listed m.line))
     → b ≡ record { id = attempt_id p c a; epoch = a.epoch; conds = a.conds; gots = a.gots; outcome = how }
 unfolding tries
 ends-one p c a how m b e i = elim (subst (λ x. Has b (tries (listed x.line))) e i) [ inl same ↦ same | inr j ↦ absurd j ]
 
-none-told : (m : Move) (b : Attempt) → m.line ≡ None → Has b (tries (listed m.line)) → ⊥
+pub none-told : (m : Move) (b : Attempt) → m.line ≡ None → Has b (tries (listed m.line)) → ⊥
 unfolding tries
 none-told m b e i = subst (λ o. Has b (tries (listed o))) e i
 
@@ -108,7 +108,7 @@ attempt-ops-here r n c a d attempts here told at = by (slice_get r.script.client
 pub told-of : (r : Rules) (w : World) (n : ℕ) (c : ClientState) → Lines r w → slice_get w.clients n ≡ Some c → (attempts : List Attempt) × HasTold (client_plan r n) c attempts
 told-of r w n c lines here = let t = lines.told n c here in (t.attempts, t.tells.told)
 
-move-tells-decided : (r : Rules) (h : History) (w : World) (n : ℕ) (c : ClientState) → Lines r w → slice_get w.clients n ≡ Some c → TellDecided r h w.issued (listed (moved (client_plan r n) c).line)
+pub move-tells-decided : (r : Rules) (h : History) (w : World) (n : ℕ) (c : ClientState) → Lines r w → slice_get w.clients n ≡ Some c → TellDecided r h w.issued (listed (moved (client_plan r n) c).line)
 move-tells-decided r h w n c lines here b i committed some = by (moved-tells p c)
   where
     p : ClientPlan
@@ -123,7 +123,7 @@ move-tells-decided r h w n c lines here b i committed some = by (moved-tells p c
         let one = ends-one p c a outcome.Committed (moved p c) b says i in
         let t = told-of r w n c lines here in
         absurd (some (ap (λ x. minor_writes 0 (attempt_ops r.script x.id)) one ∙ ap (minor_writes 0) (attempt-ops-here r n c a d t.0 present t.1 at) ∙ none))
-    by (NoSnap says) =
+    by (NoSnap none says) =
         let one = ends-one p c (begun 0 None None) outcome.NoSnapshot (moved p c) b says i in
         let bad : outcome.NoSnapshot ≡ outcome.Committed = sym (ap (λ x. x.outcome) one) ∙ committed in
         absurd (let no : ⊥ = cc in no)
