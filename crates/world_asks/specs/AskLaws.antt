@@ -3,49 +3,36 @@ use Rattle.std.specs.Prelude.{ℕ, ◌≡◌, [], slice_get, Option, Some, None,
 use Rattle.std.proofs.Common.{subst}
 use Rattle.base_types.specs.declared.id.AttemptId.{AttemptId}
 use Rattle.model_laws.specs.Members.{Has}
-use Rattle.base_messages.specs.declared.actor.ActorId.{ActorId}
-use Rattle.base_messages.specs.declared.message.Message.{Message}
-use Rattle.base_messages.specs.declared.message.Message.TheVariants as message
 use Rattle.dtx_base.specs.declared.leading.Undecided.{Undecided}
 use Rattle.dtx_base.specs.Leading.{undecided_attempt}
 use Rattle.dtx_base.specs.Rows.{row_of}
-use Rattle.world_asks.specs.Asks.{AsksAreKept, AsksBegin, Flies, InquiriesAreRight}
-use Rattle.world_asks.specs.InquiryKept.{client-inquiries, heard-inquiries, idle-inquiries}
-use Rattle.world_asks.specs.Moving.{goes-moves, hears-moves}
+use Rattle.world_asks.specs.Asks.{AsksAreKept, AsksBegin, Flies}
+use Rattle.world_asks.specs.InquiryKept.{inquiries-kept}
+use Rattle.world_asks.specs.Knowing.{CommitsAreNew, knows-attempts}
 use Rattle.world_asks.specs.NamedLaws.{named-kept}
 use Rattle.world_asks.specs.ParkedLaws.{parked-kept}
 use Rattle.world_asks.specs.RowsKept.{rows-kept}
-use Rattle.world_asks.specs.ToldTurns.{IsRefusal, RefusalsRefuse}
 use Rattle.world_attempts.specs.Asked.{AskedRight}
-use Rattle.world_attempts.specs.Attempts.{Attempts, IsTrueOf, row_in}
-use Rattle.world_attempts.specs.History.{GrowsBy, History, target_posts}
+use Rattle.world_attempts.specs.Attempts.{row_in}
+use Rattle.world_attempts.specs.History.{Aborted, GrowsBy, History, target_posts}
 use Rattle.world_base.specs.declared.letter.Letter.{Letter}
 use Rattle.world_base.specs.declared.target.TargetState.{TargetState}
 use Rattle.world_base.specs.declared.world.World.{World}
-use Rattle.world_base.specs.Events.{ByClient, ByTarget, RightEvent, Rules, ToClient, ToTarget}
+use Rattle.world_base.specs.Events.{RightEvent, Rules}
 
--- what refuses is no commit
-refusal-of : (r : Rules) (h : History) (w : World) (from to : ActorId) (n : Message) → IsTrueOf r h w from to n → IsRefusal n
-refusal-of r h w from to (message.Ack x inc (Some how)) k = k.held
-refusal-of r h w from to (message.Ack x inc None) k = tt
-refusal-of r h w from to n k = tt
-
-refusals-refuse : (r : Rules) (h : History) (w : World) → Attempts r h w → RefusalsRefuse w
-refusals-refuse r h w A l i = refusal-of r h w l.from l.to l.message (A.letters l i)
-
-inquiries-kept : (r : Rules) (h later : History) (w v : World) → AskedRight r h w → Attempts r h w → (event : RightEvent r w v) → GrowsBy h (target_posts event) later → Attempts r later v → InquiriesAreRight r h w → InquiriesAreRight r later v
-inquiries-kept r h later w v Q A (ByClient g) G B k = client-inquiries r h later w v G.aborted A B k (goes-moves r w v g)
-inquiries-kept r h later w v Q A (ToClient g) G B k = client-inquiries r h later w v G.aborted A B k (hears-moves r w v g)
-inquiries-kept r h later w v Q A (ToTarget g) G B k = heard-inquiries r h later w v Q A B (refusals-refuse r h w A) k g G
-inquiries-kept r h later w v Q A (ByTarget g) G B k = idle-inquiries r h later w v G.aborted A B k g
+commits-are : (r : Rules) (h : History) (w : World) → AskedRight r h w → CommitsAreNew r h w
+commits-are r h w Q l x ep first tracker ws i is = Q.commits l x ep first tracker ws i is
 
 pub asks-kept : AsksAreKept
 asks-kept r h later w v Q A event G B k = record {
   named = named-kept r w v k.named event;
   parked = parked-kept r w v k.parked event;
-  inquiries = inquiries-kept r h later w v Q A event G B k.inquiries;
-  rows = rows-kept r h w v Q A k.rows event;
+  inquiries = inquiries-kept r h later w v (commits-are r h w Q) (knows-attempts r h w A) (knows-attempts r later v B) (grows-aborted event G) event k.inquiries;
+  rows = rows-kept r h w v (commits-are r h w Q) (knows-attempts r h w A) k.rows event;
 }
+  where
+    grows-aborted : (event : RightEvent r w v) → GrowsBy h (target_posts event) later → (x : AttemptId) → Aborted h x → Aborted later x
+    grows-aborted e g x a = g.aborted x a
 
 -- ---- the beginning
 

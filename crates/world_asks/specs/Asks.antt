@@ -111,9 +111,13 @@ pub record InquiriesAreRight (r : Rules) (h : History) (w : World) : Type 0 wher
 
 -- ---- what isn't decided
 
--- an undecided attempt waits for a member, and no member is known to be down
+-- an undecided attempt waits for a member
+abbrev pub RowsLack : Rules → World → Type 0
+RowsLack r w = (t : ℕ) (x : AttemptId) (u : Undecided) → row_at w t x ≡ Some u → list_all (has_target u.counted) (others_of r x) ≡ false
+
+-- and no member is known to be down
 pub record RowsWait (r : Rules) (w : World) : Type 0 where
-  pub lacking : (t : ℕ) (x : AttemptId) (u : Undecided) → row_at w t x ≡ Some u → list_all (has_target u.counted) (others_of r x) ≡ false
+  pub lacking : RowsLack r w
   pub up : (t : ℕ) (s : TargetState) → slice_get w.targets t ≡ Some s → s.memory.leader.down ≡ 0
 
 -- ---- all together

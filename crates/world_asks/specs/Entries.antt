@@ -145,13 +145,13 @@ kept-step x (Some (Prunes f z n)) k l st spares h = absurd spares
 -- ---- turns whose steps spare an attempt
 
 module _ {S R : Type 0} (Next : S → Kept → Option Change → S → Type 0) (Ends : S → Kept → R → Type 0) (start : S) (old new : Kept) (result : R) (x : AttemptId) (w : Whole Next Ends start old new result) where
-  whole-unprepared : ((s : S) (k : Kept) (o : Option Change) (u : S) → Next s k o u → StoresNot x o) → Unprepared old.durable x → Unprepared new.durable x
+  pub whole-unprepared : ((s : S) (k : Kept) (o : Option Change) (u : S) → Next s k o u → StoresNot x o) → Unprepared old.durable x → Unprepared new.durable x
   whole-unprepared spares h = reached-keeps Next (λ s k. Unprepared k.durable x) (λ s k o u l next steps z. unprepared-step x o k l steps (spares s k o u next) z) start old w.last new w.reached h
 
-  whole-kept : ((s : S) (k : Kept) (o : Option Change) (u : S) → Next s k o u → Spares x o) → IsKept old.durable x → IsKept new.durable x
+  pub whole-kept : ((s : S) (k : Kept) (o : Option Change) (u : S) → Next s k o u → Spares x o) → IsKept old.durable x → IsKept new.durable x
   whole-kept spares h = reached-keeps Next (λ s k. IsKept k.durable x) (λ s k o u l next steps z. kept-step x o k l steps (spares s k o u next) z) start old w.last new w.reached h
 
-fetch-spares : (t : TargetPlan) (m : TargetMemory) (reading : ℕ) (q : FetchRequest) (x : AttemptId) (s : read.FetchStage) (k : Kept) (o : Option Change) (u : read.FetchStage)
+pub fetch-spares : (t : TargetPlan) (m : TargetMemory) (reading : ℕ) (q : FetchRequest) (x : AttemptId) (s : read.FetchStage) (k : Kept) (o : Option Change) (u : read.FetchStage)
     → read.FetchNext t m reading q s k o u → Spares x o × StoresNot x o
 fetch-spares t m reading q x s k o u (read.AtSnapshot j e at is) = (tt, tt)
 fetch-spares t m reading q x s k o u (read.HasEpoch j e at is) = (tt, tt)
@@ -159,25 +159,25 @@ fetch-spares t m reading q x s k o u (read.ExtendsLease j e lease low is) = (tt,
 fetch-spares t m reading q x s k o u (read.IsCovered j e low) = (tt, tt)
 fetch-spares t m reading q x s k o u (read.SettlesOwn j e decided a none unsettled among) = (tt, tt)
 
-commit-spares : (t : TargetPlan) (opening : Epoch × FloorWhy) (m : TargetMemory) (reading : ℕ) (q : CommitRequest) (x : AttemptId) → (x ≡ q.attempt → ⊥) → (s : commit.CommitStage) (k : Kept) (o : Option Change) (u : commit.CommitStage)
+pub commit-spares : (t : TargetPlan) (opening : Epoch × FloorWhy) (m : TargetMemory) (reading : ℕ) (q : CommitRequest) (x : AttemptId) → (x ≡ q.attempt → ⊥) → (s : commit.CommitStage) (k : Kept) (o : Option Change) (u : commit.CommitStage)
     → commit.CommitNext t opening m reading q s k o u → Spares x o × StoresNot x o
 commit-spares t opening m reading q x apart s k o u (commit.HasEpoch j e is) = (tt, tt)
 commit-spares t opening m reading q x apart s k o u (commit.ExtendsLease j e lease low is) = (tt, tt)
 commit-spares t opening m reading q x apart s k o u (commit.IsCovered j e low) = (tt, tt)
 commit-spares t opening m reading q x apart s k o u (commit.Stores j e allowed space) = (apart, apart)
 
-prepare-spares : (t : TargetPlan) (opening : Epoch × FloorWhy) (m : TargetMemory) (q : PrepareRequest) (x : AttemptId) → (x ≡ q.entry.attempt → ⊥) → (s : prepare.PrepareStage) (k : Kept) (o : Option Change) (u : prepare.PrepareStage)
+pub prepare-spares : (t : TargetPlan) (opening : Epoch × FloorWhy) (m : TargetMemory) (q : PrepareRequest) (x : AttemptId) → (x ≡ q.entry.attempt → ⊥) → (s : prepare.PrepareStage) (k : Kept) (o : Option Change) (u : prepare.PrepareStage)
     → prepare.PrepareNext t opening m q s k o u → Spares x o × StoresNot x o
 prepare-spares t opening m q x apart s k o u (prepare.ExtendsLease j lease low is) = (tt, tt)
 prepare-spares t opening m q x apart s k o u (prepare.IsCovered j low) = (tt, tt)
 prepare-spares t opening m q x apart s k o u (prepare.Stores j allowed space) = (apart, apart)
 
-ack-stores_not : (t : TargetPlan) (m : TargetMemory) (member : ℕ) (a : AttemptId) (inc : ℕ) (refusal : Option Outcome) (x : AttemptId) (s : ack.AckStage) (k : Kept) (o : Option Change) (u : ack.AckStage)
+pub ack-stores_not : (t : TargetPlan) (m : TargetMemory) (member : ℕ) (a : AttemptId) (inc : ℕ) (refusal : Option Outcome) (x : AttemptId) (s : ack.AckStage) (k : Kept) (o : Option Change) (u : ack.AckStage)
     → ack.AckNext t m member a inc refusal s k o u → StoresNot x o
 ack-stores_not t m member a inc refusal x s k o u (ack.Aborts j is) = tt
 ack-stores_not t m member a inc refusal x s k o u (ack.Counts j is) = tt
 
-marked-spares : (t : TargetPlan) (m : TargetMemory) (member : ℕ) (x : AttemptId) (s : List AttemptId) (k : Kept) (o : Option Change) (u : List AttemptId) → ack.MarkedNext t m member s k o u → Spares x o × StoresNot x o
+pub marked-spares : (t : TargetPlan) (m : TargetMemory) (member : ℕ) (x : AttemptId) (s : List AttemptId) (k : Kept) (o : Option Change) (u : List AttemptId) → ack.MarkedNext t m member s k o u → Spares x o × StoresNot x o
 marked-spares t m member x s k o u (ack.Confirms j a rest is) = (tt, tt)
 marked-spares t m member x s k o u (ack.PassesBy j a rest is) = (tt, tt)
 
@@ -185,7 +185,7 @@ marking-stores_not : (x a : AttemptId) (committed : Bool) → StoresNot x (Some 
 marking-stores_not x a true = tt
 marking-stores_not x a false = tt
 
-marking-spares : (x a : AttemptId) (committed : Bool) → (x ≡ a → ⊥) → Spares x (Some (Settles a (mark.marked_step committed)))
+pub marking-spares : (x a : AttemptId) (committed : Bool) → (x ≡ a → ⊥) → Spares x (Some (Settles a (mark.marked_step committed)))
 marking-spares x a true apart = tt
 marking-spares x a false apart = apart
 
@@ -203,7 +203,7 @@ step-stores_not x a said.Committed true = tt
 step-stores_not x a said.Aborted true = tt
 step-stores_not x a said.Undecided true = tt
 
-step-spares : (x a : AttemptId) (v : Verdict) (b : Bool) → (x ≡ a → ⊥) → Spares x (verdict.settling_change a (verdict.step_if b (verdict.step_by v)))
+pub step-spares : (x a : AttemptId) (v : Verdict) (b : Bool) → (x ≡ a → ⊥) → Spares x (verdict.settling_change a (verdict.step_if b (verdict.step_by v)))
 step-spares x a v false apart = tt
 step-spares x a said.Committed true apart = tt
 step-spares x a said.Aborted true apart = apart
@@ -216,14 +216,15 @@ verdict-stores_not t m reading a ask v x s k o u (verdict.TriesNext j n posts re
 verdict-stores_not t m reading a ask v x s k o u (verdict.GoesOn j n posts rest q i z p next) = (fetch-spares t n reading q x i k o z next).1
 verdict-stores_not t m reading a ask v x s k o u (verdict.IsDone j n posts rest q i left ends) = tt
 
-verdict-spares : (t : TargetPlan) (m : TargetMemory) (reading : ℕ) (a : AttemptId) (ask : Option AttemptId) (v : Verdict) (x : AttemptId) → (x ≡ a → ⊥) → (s : verdict.VerdictStage) (k : Kept) (o : Option Change) (u : verdict.VerdictStage)
-    → verdict.VerdictNext (is_in_doubt t.me) t m reading a ask v s k o u → Spares x o
-verdict-spares t m reading a ask v x apart s k o u (verdict.SettlesBy j p is) = subst (Spares x) (sym is) (step-spares x a v (is_in_doubt t.me a k.durable) apart)
-verdict-spares t m reading a ask v x apart s k o u (verdict.TriesNext j n posts rest y op group ep first tracker r snapshot) = tt
-verdict-spares t m reading a ask v x apart s k o u (verdict.GoesOn j n posts rest q i z p next) = (fetch-spares t n reading q x i k o z next).0
-verdict-spares t m reading a ask v x apart s k o u (verdict.IsDone j n posts rest q i left ends) = tt
+-- whichever attempts are due to be settled
+pub verdict-spares : (is_due : AttemptId → Durable → Bool) (t : TargetPlan) (m : TargetMemory) (reading : ℕ) (a : AttemptId) (ask : Option AttemptId) (v : Verdict) (x : AttemptId) → (x ≡ a → ⊥) → (s : verdict.VerdictStage) (k : Kept) (o : Option Change) (u : verdict.VerdictStage)
+    → verdict.VerdictNext is_due t m reading a ask v s k o u → Spares x o
+verdict-spares is_due t m reading a ask v x apart s k o u (verdict.SettlesBy j p is) = subst (Spares x) (sym is) (step-spares x a v (is_due a k.durable) apart)
+verdict-spares is_due t m reading a ask v x apart s k o u (verdict.TriesNext j n posts rest y op group ep first tracker r snapshot) = tt
+verdict-spares is_due t m reading a ask v x apart s k o u (verdict.GoesOn j n posts rest q i z p next) = (fetch-spares t n reading q x i k o z next).0
+verdict-spares is_due t m reading a ask v x apart s k o u (verdict.IsDone j n posts rest q i left ends) = tt
 
-idle-spares : (x : AttemptId) (s : List AttemptId) (k : Kept) (o : Option Change) (u : List AttemptId) → IdleNext s k o u → Spares x o × StoresNot x o
+pub idle-spares : (x : AttemptId) (s : List AttemptId) (k : Kept) (o : Option Change) (u : List AttemptId) → IdleNext s k o u → Spares x o × StoresNot x o
 idle-spares x s k o u (SettlesFirst j a rest) = (tt, tt)
 
 -- ---- an attempt of which nothing is prepared
@@ -277,7 +278,7 @@ hears-kept t opening m reading from (message.Mark inc marks) old new left x h br
     old new h.last h.reached
 hears-kept t opening m reading from (message.Marked inc ids) old new left x h brings ends = whole-kept _ _ _ old new left x h (λ s k o u next. (marked-spares t m from.number x s k o u next).0)
 hears-kept t opening m reading from (message.Query y ask) old new left x h brings ends = whole-kept _ _ _ old new left x h (λ s k o u next. (query-spares x s k o u next).0)
-hears-kept t opening m reading from (message.Verdict y ask inc v) old new left x h brings ends = whole-kept _ _ _ old new left x h (verdict-spares t m reading y ask v x ends)
+hears-kept t opening m reading from (message.Verdict y ask inc v) old new left x h brings ends = whole-kept _ _ _ old new left x h (verdict-spares (is_in_doubt t.me) t m reading y ask v x ends)
 hears-kept t opening m reading from q old new left x h brings ends = absurd h
 
 pub idles-kept : (settling : Bool) (t : TargetPlan) (m : TargetMemory) (old new : Kept) (left : TargetMemory × Did) (x : AttemptId) → IdlesWhole settling t m old new left → IsKept old.durable x → IsKept new.durable x

@@ -8,6 +8,7 @@ pub mod Entries
 pub mod Refusing
 pub mod MarkLaws
 pub mod InquiryLaws
+pub mod Knowing
 pub mod Told
 pub mod ToldTurns
 pub mod InquiryKept

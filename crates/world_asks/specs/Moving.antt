@@ -8,9 +8,10 @@ use Rattle.world_attempts.specs.Counting.{has-left_over}
 use Rattle.world_base.specs.declared.letter.Letter.{Letter}
 use Rattle.world_base.specs.declared.target.TargetState.{TargetState}
 use Rattle.world_base.specs.declared.world.World.{World}
-use Rattle.world_base.specs.Events.{ClientGoes, ClientHears, Rules, TargetHearsRightly, TargetIdles, target_after}
+use Rattle.world_base.specs.Events.{ClientGoes, ClientHears, Rules, TargetHearsBy, TargetIdles, target_after}
 use Rattle.world_base.specs.Letters.{Takes, client, letter_of, letters_of, target}
 use Rattle.world_base.specs.StepLaws.{set-here, set-there}
+use Rattle.world_base.specs.TargetTurns.{Hearing}
 
 -- a letter that is taken is the one that is heard, or is left
 pub heard-or_left : (letters : List Letter) (l : Letter) (rest : List Letter) (n : Letter) → Takes letters l rest → Has n letters → (n ≡ l) ⊎ Has n rest
@@ -74,7 +75,8 @@ pub record TargetMoves (w v : World) (t : ℕ) (s z : TargetState) (heard : Opti
 sent-from : (t : ℕ) (posts : List Post) (l : Letter) → Has l (letters_of (target t) posts) → (p : Post) × Has p posts × (l ≡ letter_of (target t) p)
 sent-from t posts l i = let p = has-from_map (letter_of (target t)) posts l i in (p.0, p.1, sym p.2)
 
-pub heard-moves : (r : Rules) (w v : World) (g : TargetHearsRightly r w v) → TargetMoves w v g.t g.s (target_after g.s g.new g.memory) (Some g.l) g.did.posts
+-- whatever turn it is by which it hears a message
+pub heard-moves : {Turn : Hearing} (r : Rules) (w v : World) (g : TargetHearsBy Turn r w v) → TargetMoves w v g.t g.s (target_after g.s g.new g.memory) (Some g.l) g.did.posts
 heard-moves r w v g = record {
   here = g.here;
   targets = ap (λ x. x.targets) g.after;

@@ -40,6 +40,7 @@ use Rattle.world_base.specs.PathLaws.{reached-keeps}
 use Rattle.world_base.specs.RightTurns.{HearsRightly}
 use Rattle.world_base.specs.Roles.{is_in_doubt, leader_at, with_unsettled}
 use Rattle.world_base.specs.TargetTurns.{IdlesWhole, commit_request, fetch_request, prepare_request}
+use Rattle.world_base.specs.Turns.{Whole}
 
 -- ---- what a leader's steps name
 
@@ -181,6 +182,11 @@ ack-ends m s k left stands (ack.IsFollowed j step z is) n i =
       | inr j ↦ inr (subst (λ x. IsNewlyNamed x.1.posts n) (sym is) j)
     ]
 
+-- whatever a leader hears as an Ack
+pub acks-names : (t : TargetPlan) (m : TargetMemory) (member : ℕ) (a : AttemptId) (inc : ℕ) (refusal : Option Outcome) (old new : Kept) (left : TargetMemory × Did) → Whole (ack.AckNext t m member a inc refusal) (ack.AckEnds m) ack.Heard old new left
+    → NamesAfter m.leader.named (λ n. Unit {0}) left
+acks-names t m member a inc refusal old new left h = ack-ends m h.last new left (reached-keeps (ack.AckNext t m member a inc refusal) (AckStands m) (ack-step t m member a inc refusal) ack.Heard old h.last new h.reached tt) h.ends
+
 marked-ends : (t : TargetPlan) (m : TargetMemory) (member inc : ℕ) (ids s : List AttemptId) (k : Kept) (left : TargetMemory × Did) → ack.MarkedEnds t m member inc ids s k left
     → NamesAfter m.leader.named (λ n. n.member ≡ member → n.inc ≡ inc → Has n.attempt ids → ⊥) left
 unfolding marked_heard
@@ -196,8 +202,7 @@ hears-names t opening m reading from (message.Commit x ep first tracker ws) old 
     names-same m left (λ n. Unit {0}) (commit-leaves t opening m reading (commit_request x ep first tracker ws) from h.last new left h.ends).named (λ n. tt)
 hears-names t opening m reading from (message.Prepare e first ws inc) old new left h =
     names-same m left (λ n. Unit {0}) (ap (λ z. z.leader.named) (prepare-leaves t opening m (prepare_request e first ws inc) h.last new left h.ends)) (λ n. tt)
-hears-names t opening m reading from (message.Ack x inc refusal) old new left h =
-    ack-ends m h.last new left (reached-keeps (ack.AckNext t m from.number x inc refusal) (AckStands m) (ack-step t m from.number x inc refusal) ack.Heard old h.last new h.reached tt) h.ends
+hears-names t opening m reading from (message.Ack x inc refusal) old new left h = acks-names t m from.number x inc refusal old new left h
 hears-names t opening m reading from (message.Mark inc marks) old new left h = names-same m left (λ n. Unit {0}) (ap (λ z. z.leader.named) (mark-leaves m from inc marks h.last new left h.ends)) (λ n. tt)
 hears-names t opening m reading from (message.Marked inc ids) old new left h = marked-ends t m from.number inc ids h.last new left h.ends
 hears-names t opening m reading from (message.Query x ask) old new left h = names-same m left (λ n. Unit {0}) (ap (λ z. z.leader.named) (query-leaves t m from x ask h.last new left h.ends)) (λ n. tt)
@@ -216,14 +221,18 @@ idles-names settling t m old new left h = idle-ends settling t m h.last new left
 
 -- ---- the world
 
-module _ (w v : World) (k : NamedAreSent w) where
-  -- a client's turn
-  pub client-named : ClientMoves w v → NamedAreSent v
-  client-named g t s n here i = flies (k t s n (subst (λ ts. slice_get ts t ≡ Some s) g.targets here) i)
-    where
-      flies : Flies w (IsNamingOf t n) → Flies v (IsNamingOf t n)
-      flies (l, j, IsMark marks is from to names) = (l, g.stays l n.member j to, IsMark marks is from to names)
-      flies (l, j, IsMarked ids is from to names) = (l, g.stays l t j to, IsMarked ids is from to names)
+-- something holds of all that targets named and have no answer on
+abbrev pub NamedSo : (World → ℕ → Naming → Type 0) → World → Type 0
+NamedSo C w = (t : ℕ) (s : TargetState) (n : Naming) → slice_get w.targets t ≡ Some s → Has n s.memory.leader.named → C w t n
+
+-- where no target changes, and what holds stays
+pub untouched-named : (C : World → ℕ → Naming → Type 0) (w v : World) → v.targets ≡ w.targets → ((t : ℕ) (n : Naming) → C w t n → C v t n) → NamedSo C w → NamedSo C v
+untouched-named C w v same on k t s n here i = on t n (k t s n (subst (λ ts. slice_get ts t ≡ Some s) same here) i)
+
+-- a client's turn leaves each Mark and each answer in flight
+pub client-named : (w v : World) → ClientMoves w v → (t : ℕ) (n : Naming) → Flies w (IsNamingOf t n) → Flies v (IsNamingOf t n)
+client-named w v g t n (l, j, IsMark marks is from to names) = (l, g.stays l n.member j to, IsMark marks is from to names)
+client-named w v g t n (l, j, IsMarked ids is from to names) = (l, g.stays l t j to, IsMarked ids is from to names)
 
 -- a Mark that is heard is answered with all that it names
 abbrev pub MarksAreAnswered : ActorId → Message → List Post → Type 0
@@ -259,39 +268,46 @@ module _ (w v : World) (t : ℕ) (s z : TargetState) (l : Letter) (posts : List 
       let none : IsUnanswered l.from n (message.Marked n.inc ids) = subst (λ q. IsUnanswered l.from n q) is (open' own) in
       absurd (none (ap (λ a. a.number) (sym from)) refl names)
 
-  flies-on : (u : ℕ) (n : Naming) → (u ≡ t → IsUnanswered l.from n l.message) → Flies w (IsNamingOf u n) → Flies v (IsNamingOf u n)
+  pub flies-on : (u : ℕ) (n : Naming) → (u ≡ t → IsUnanswered l.from n l.message) → Flies w (IsNamingOf u n) → Flies v (IsNamingOf u n)
   flies-on u n open' (j, i, k) = elim (g.stays j i) [
     | inl heard ↦ heard-on u n open' (subst (IsNamingOf u n) (let same : j ≡ l = cc in same) k)
     | inr stays ↦ (j, stays, k)
   ]
 
 -- a naming that is new is in flight
-newly-flies : (w v : World) (t : ℕ) (s z : TargetState) (heard : Option Letter) (posts : List Post) → TargetMoves w v t s z heard posts → (n : Naming) → IsNewlyNamed posts n → Flies v (IsNamingOf t n)
+pub newly-flies : (w v : World) (t : ℕ) (s z : TargetState) (heard : Option Letter) (posts : List Post) → TargetMoves w v t s z heard posts → (n : Naming) → IsNewlyNamed posts n → Flies v (IsNamingOf t n)
 newly-flies w v t s z heard posts g n (p, i, k) = (letter_of (target t) p, g.posted p i, IsMark k.marks k.message refl k.to k.names)
 
--- a target's turn keeps what is named in flight, where each naming from before that isn't answered flies on
-target-named : (w v : World) (t : ℕ) (s z : TargetState) (heard : Option Letter) (posts : List Post) (Open : Naming → Type 0) → TargetMoves w v t s z heard posts
-    → ((n : Naming) → Has n z.memory.leader.named → (Has n s.memory.leader.named × Open n) ⊎ IsNewlyNamed posts n)
-    → ((u : ℕ) (n : Naming) → (u ≡ t → Open n) → Flies w (IsNamingOf u n) → Flies v (IsNamingOf u n)) → NamedAreSent w → NamedAreSent v
-target-named w v t s z heard posts Open g after on k u y n here i = elim (one-or_another u t) [
+-- a target's turn keeps what holds of all that is named, where it stays of what isn't answered, and holds of each new naming
+pub target-named : (C : World → ℕ → Naming → Type 0) (w v : World) (t : ℕ) (s z : TargetState) (heard : Option Letter) (posts : List Post) (Open : Naming → Type 0) → TargetMoves w v t s z heard posts
+    → ((n : Naming) → Has n z.memory.leader.named → (Has n s.memory.leader.named × Open n) ⊎ IsNewlyNamed posts n) → ((n : Naming) → IsNewlyNamed posts n → C v t n)
+    → ((u : ℕ) (n : Naming) → (u ≡ t → Open n) → C w u n → C v u n) → NamedSo C w → NamedSo C v
+target-named C w v t s z heard posts Open g after new on k u y n here i = elim (one-or_another u t) [
   | inl same ↦
       let is : Some z ≡ Some y = sym (now-here w v t s z heard posts g) ∙ ap (slice_get v.targets) (sym same) ∙ here in
-      subst (λ a. Flies v (IsNamingOf a n)) (sym same)
+      subst (λ a. C v a n) (sym same)
       (elim (after n (subst (λ x. Has n x.memory.leader.named) (let one : y ≡ z = cc in one) i)) [
         | inl old ↦ on t n (λ e. old.1) (k t s n g.here old.0)
-        | inr new ↦ newly-flies w v t s z heard posts g n new
+        | inr sent ↦ new n sent
       ])
   | inr other ↦ on u n (λ e. absurd (other e)) (k u y n (sym (same-there w v t s z heard posts g u other) ∙ here) i)
 ]
 
+-- the Mark or the answer is in flight
+abbrev pub IsSent : World → ℕ → Naming → Type 0
+IsSent w t n = Flies w (IsNamingOf t n)
+
 pub named-kept : (r : Rules) (w v : World) → NamedAreSent w → RightEvent r w v → NamedAreSent v
-named-kept r w v k (ByClient g) = client-named w v k (goes-moves r w v g)
-named-kept r w v k (ToClient g) = client-named w v k (hears-moves r w v g)
+named-kept r w v k (ByClient g) = untouched-named IsSent w v (goes-moves r w v g).targets (client-named w v (goes-moves r w v g)) k
+named-kept r w v k (ToClient g) = untouched-named IsSent w v (hears-moves r w v g).targets (client-named w v (hears-moves r w v g)) k
 named-kept r w v k (ToTarget g) =
-    target-named w v g.t g.s (target_after g.s g.new g.memory) (Some g.l) g.did.posts (λ n. IsUnanswered g.l.from n g.l.message) (heard-moves r w v g)
+    target-named IsSent w v g.t g.s (target_after g.s g.new g.memory) (Some g.l) g.did.posts (λ n. IsUnanswered g.l.from n g.l.message) (heard-moves r w v g)
     (hears-names (target_plan r g.t) g.s.opening g.s.memory g.reading g.l.from g.l.message (kept g.s) g.new (g.memory, g.did) g.turn)
+    (newly-flies w v g.t g.s (target_after g.s g.new g.memory) (Some g.l) g.did.posts (heard-moves r w v g))
     (flies-on w v g.t g.s (target_after g.s g.new g.memory) g.l g.did.posts (heard-moves r w v g) g.to_it
     (marks-answered (target_plan r g.t) g.s.opening g.s.memory g.reading g.l.from g.l.message (kept g.s) g.new (g.memory, g.did) g.turn)) k
 named-kept r w v k (ByTarget g) =
-    target-named w v g.t g.s (target_after g.s g.new g.memory) None g.did.posts (λ n. Unit {0}) (idle-moves r w v g)
-    (idles-names g.settling (target_plan r g.t) g.s.memory (kept g.s) g.new (g.memory, g.did) g.turn) (λ u n open' f. (f.0, all-stay w v g.t g.s (target_after g.s g.new g.memory) g.did.posts (idle-moves r w v g) f.0 f.1, f.2)) k
+    target-named IsSent w v g.t g.s (target_after g.s g.new g.memory) None g.did.posts (λ n. Unit {0}) (idle-moves r w v g)
+    (idles-names g.settling (target_plan r g.t) g.s.memory (kept g.s) g.new (g.memory, g.did) g.turn)
+    (newly-flies w v g.t g.s (target_after g.s g.new g.memory) None g.did.posts (idle-moves r w v g))
+    (λ u n open' f. (f.0, all-stay w v g.t g.s (target_after g.s g.new g.memory) g.did.posts (idle-moves r w v g) f.0 f.1, f.2)) k

@@ -16,7 +16,7 @@ use Rattle.daos_model.specs.Durables.{same_attempt}
 use Rattle.dtx_base.specs.declared.member.Parked.{Parked}
 use Rattle.dtx_base.specs.Joining.{MemberOf, asker, is_asker, is_not_waiting, is_parked_elsewhere, is_waiting, unresolved, verdict_heard}
 use Rattle.dtx_base.specs.Leading.{query_answer, to_target}
-use Rattle.world_asks.specs.Asks.{Flies, IsParkedRight, IsQuery, IsQueryOf, IsVerdict, ParkedAreAsked}
+use Rattle.world_asks.specs.Asks.{Flies, IsQuery, IsQueryOf, IsVerdict, ParkedAreAsked}
 use Rattle.world_asks.specs.Moving.{ClientMoves, TargetMoves, goes-moves, heard-moves, all-stay, hears-moves, idle-moves, now-here, same-there}
 use Rattle.world_attempts.specs.MarkTurns.{target-is}
 use Rattle.world_attempts.specs.Turning.{one-or_another}
@@ -103,7 +103,7 @@ elsewhere-open a ask inc v ps p i =
     (k.0, λ of fetch on same. let own : same_attempt p.on a ≡ true = ap (λ b. same_attempt b a) on ∙ same_attempt-itself a in (let no : ⊥ = cc (own, k.1) in no))
 
 -- nor those that asked for another Fetch
-waiting-open : (a x : AttemptId) (inc : ℕ) (v : Verdict) (ps : List Parked) → ((p : Parked) → Has p (filter (is_not_waiting a x) ps) → Has p ps × IsWaitingStill (message.Verdict a (Some x) inc v) p)
+pub waiting-open : (a x : AttemptId) (inc : ℕ) (v : Verdict) (ps : List Parked) → ((p : Parked) → Has p (filter (is_not_waiting a x) ps) → Has p ps × IsWaitingStill (message.Verdict a (Some x) inc v) p)
 unfolding is_waiting
 waiting-open a x inc v ps p i =
     let k = has-from_filter (is_not_waiting a x) ps p i in (
@@ -206,39 +206,62 @@ module _ (w v : World) (t : ℕ) (s z : TargetState) (l : Letter) (posts : List 
 
 -- ---- the world
 
-client-parked : (w v : World) → ParkedAreAsked w → ClientMoves w v → ParkedAreAsked v
-client-parked w v k g m s p here i = let a = k m s p (subst (λ ts. slice_get ts m ≡ Some s) g.targets here) i in record { of = a.of; fetch = a.fetch; asked = client-asked w v g m p.on (Some a.of) a.asked }
+-- what waits is a Fetch of some attempt, and something holds of its question
+pub record WaitsSo (C : World → ℕ → AttemptId → Option AttemptId → Type 0) (w : World) (m : ℕ) (p : Parked) : Type 0 where
+  pub of : AttemptId
+  pub fetch : asker p.ask ≡ Some of
+  pub asked : C w m p.on (Some of)
 
-newly-asked : (w v : World) (t : ℕ) (s z : TargetState) (heard : Option Letter) (posts : List Post) → TargetMoves w v t s z heard posts → (p : Parked) → IsNewlyParked posts p → IsParkedRight v t p
-newly-asked w v t s z heard posts g p n =
-    let q : Post = to_target n.leader (message.Query p.on (Some n.of)) in
-    record { of = n.of; fetch = n.fetch; asked = (letter_of (target t) q, g.posted q n.sent, IsQuery n.leader refl refl refl) }
+abbrev pub ParkedSo : (World → ℕ → AttemptId → Option AttemptId → Type 0) → World → Type 0
+ParkedSo C w = (m : ℕ) (s : TargetState) (p : Parked) → slice_get w.targets m ≡ Some s → Has p s.memory.member.parked → WaitsSo C w m p
 
--- a target's turn keeps what is parked asked, where each question from before that isn't answered flies on
-target-parked : (w v : World) (t : ℕ) (s z : TargetState) (heard : Option Letter) (posts : List Post) (q : Message) → TargetMoves w v t s z heard posts → ParksAfter s.memory.member.parked (IsWaitingStill q) z.memory posts
-    → ((m : ℕ) (x : AttemptId) (ask : Option AttemptId) → (m ≡ t → IsOpenStill x ask q) → Flies w (IsQueryOf m x ask) → Flies v (IsQueryOf m x ask)) → ParkedAreAsked w → ParkedAreAsked v
-target-parked w v t s z heard posts q g after on k m y p here i = elim (one-or_another m t) [
+-- where no target changes, and what holds stays
+pub untouched-parked : (C : World → ℕ → AttemptId → Option AttemptId → Type 0) (w v : World) → v.targets ≡ w.targets → ((m : ℕ) (x : AttemptId) (ask : Option AttemptId) → C w m x ask → C v m x ask) → ParkedSo C w → ParkedSo C v
+untouched-parked C w v same on k m s p here i = let a = k m s p (subst (λ ts. slice_get ts m ≡ Some s) same here) i in record { of = a.of; fetch = a.fetch; asked = on m p.on (Some a.of) a.asked }
+
+pub newly-asked : (w v : World) (t : ℕ) (s z : TargetState) (heard : Option Letter) (posts : List Post) → TargetMoves w v t s z heard posts → (p : Parked) (n : IsNewlyParked posts p) → Flies v (IsQueryOf t p.on (Some n.of))
+newly-asked w v t s z heard posts g p n = let q : Post = to_target n.leader (message.Query p.on (Some n.of)) in (letter_of (target t) q, g.posted q n.sent, IsQuery n.leader refl refl refl)
+
+-- a target's turn keeps what holds of all questions for what waits, where it stays of those that aren't answered, and holds of each new one
+pub target-parked : (C : World → ℕ → AttemptId → Option AttemptId → Type 0) (w v : World) (t : ℕ) (s z : TargetState) (heard : Option Letter) (posts : List Post) (Open : Parked → Type 0) (Still : AttemptId → Option AttemptId → Type 0) → TargetMoves w v t s z heard posts
+    → ParksAfter s.memory.member.parked Open z.memory posts → ((p : Parked) (of : AttemptId) → asker p.ask ≡ Some of → Open p → Still p.on (Some of))
+    → ((m : ℕ) (x : AttemptId) (ask : Option AttemptId) → Flies v (IsQueryOf m x ask) → C v m x ask)
+    → ((m : ℕ) (x : AttemptId) (ask : Option AttemptId) → (m ≡ t → Still x ask) → C w m x ask → C v m x ask) → ParkedSo C w → ParkedSo C v
+target-parked C w v t s z heard posts Open Still g after still new on k m y p here i = elim (one-or_another m t) [
   | inl same ↦
       let is : Some z ≡ Some y = sym (now-here w v t s z heard posts g) ∙ ap (slice_get v.targets) (sym same) ∙ here in
-      subst (λ a. IsParkedRight v a p) (sym same)
+      subst (λ a. WaitsSo C v a p) (sym same)
       (elim (after p (subst (λ x. Has p x.memory.member.parked) (let one : y ≡ z = cc in one) i)) [
-        | inl old ↦ (let a = k t s p g.here old.0 in record { of = a.of; fetch = a.fetch; asked = on t p.on (Some a.of) (λ e. old.1 a.of a.fetch) a.asked })
-        | inr new ↦ newly-asked w v t s z heard posts g p new
+        | inl old ↦ (let a = k t s p g.here old.0 in record { of = a.of; fetch = a.fetch; asked = on t p.on (Some a.of) (λ e. still p a.of a.fetch old.1) a.asked })
+        | inr sent ↦ record { of = sent.of; fetch = sent.fetch; asked = new t p.on (Some sent.of) (newly-asked w v t s z heard posts g p sent) }
       ])
   | inr other ↦
       let a = k m y p (sym (same-there w v t s z heard posts g m other) ∙ here) i in
       record { of = a.of; fetch = a.fetch; asked = on m p.on (Some a.of) (λ e. absurd (other e)) a.asked }
 ]
 
-pub parked-kept : (r : Rules) (w v : World) → ParkedAreAsked w → RightEvent r w v → ParkedAreAsked v
-parked-kept r w v k (ByClient g) = client-parked w v k (goes-moves r w v g)
-parked-kept r w v k (ToClient g) = client-parked w v k (hears-moves r w v g)
-parked-kept r w v k (ToTarget g) =
-    target-parked w v g.t g.s (target_after g.s g.new g.memory) (Some g.l) g.did.posts g.l.message (heard-moves r w v g)
-    (hears-parks (target_plan r g.t) g.s.opening g.s.memory g.reading g.l.from g.l.message (kept g.s) g.new (g.memory, g.did) g.turn)
+-- the question or the answer is in flight
+abbrev pub IsInquired : World → ℕ → AttemptId → Option AttemptId → Type 0
+IsInquired w m x ask = Flies w (IsQueryOf m x ask)
+
+parked-so : (w : World) → ParkedAreAsked w → ParkedSo IsInquired w
+parked-so w k m s p here i = let a = k m s p here i in record { of = a.of; fetch = a.fetch; asked = a.asked }
+
+parked-are : (w : World) → ParkedSo IsInquired w → ParkedAreAsked w
+parked-are w k m s p here i = let a = k m s p here i in record { of = a.of; fetch = a.fetch; asked = a.asked }
+
+parked-so-kept : (r : Rules) (w v : World) → ParkedSo IsInquired w → RightEvent r w v → ParkedSo IsInquired v
+parked-so-kept r w v k (ByClient g) = untouched-parked IsInquired w v (goes-moves r w v g).targets (client-asked w v (goes-moves r w v g)) k
+parked-so-kept r w v k (ToClient g) = untouched-parked IsInquired w v (hears-moves r w v g).targets (client-asked w v (hears-moves r w v g)) k
+parked-so-kept r w v k (ToTarget g) =
+    target-parked IsInquired w v g.t g.s (target_after g.s g.new g.memory) (Some g.l) g.did.posts (IsWaitingStill g.l.message) (λ x ask. IsOpenStill x ask g.l.message) (heard-moves r w v g)
+    (hears-parks (target_plan r g.t) g.s.opening g.s.memory g.reading g.l.from g.l.message (kept g.s) g.new (g.memory, g.did) g.turn) (λ p of fetch still. still of fetch) (λ m x ask f. f)
     (asked-on w v g.t g.s (target_after g.s g.new g.memory) g.l g.did.posts (heard-moves r w v g) g.to_it
     (queries-answered (target_plan r g.t) g.s.opening g.s.memory g.reading g.l.from g.l.message (kept g.s) g.new (g.memory, g.did) g.turn)) k
-parked-kept r w v k (ByTarget g) =
-    target-parked w v g.t g.s (target_after g.s g.new g.memory) None g.did.posts (message.Tell (record { 0 = 0 })) (idle-moves r w v g)
-    (λ p i. elim (idles-parks g.settling (target_plan r g.t) g.s.memory (kept g.s) g.new (g.memory, g.did) g.turn p i) [ inl old ↦ inl (old.0, λ of fetch. tt) | inr new ↦ inr new ])
+parked-so-kept r w v k (ByTarget g) =
+    target-parked IsInquired w v g.t g.s (target_after g.s g.new g.memory) None g.did.posts (λ p. Unit {0}) (λ x ask. Unit {0}) (idle-moves r w v g)
+    (idles-parks g.settling (target_plan r g.t) g.s.memory (kept g.s) g.new (g.memory, g.did) g.turn) (λ p of fetch still. tt) (λ m x ask f. f)
     (λ m x ask open' f. (f.0, all-stay w v g.t g.s (target_after g.s g.new g.memory) g.did.posts (idle-moves r w v g) f.0 f.1, f.2)) k
+
+pub parked-kept : (r : Rules) (w v : World) → ParkedAreAsked w → RightEvent r w v → ParkedAreAsked v
+parked-kept r w v k e = parked-are v (parked-so-kept r w v (parked-so w k) e)

@@ -106,7 +106,7 @@ ack-leads t a inc refusal l = by (inc == l.incarnation)
 
 -- ---- an attempt begins
 
-none-counted-yet : (ts : List ℕ) → is_empty ts ≡ false → list_all (has_target 0) ts ≡ false
+pub none-counted-yet : (ts : List ℕ) → is_empty ts ≡ false → list_all (has_target 0) ts ≡ false
 none-counted-yet [] some = let no : ⊥ = grind (arith, nat_tests) in absurd no
 none-counted-yet (t ∷ ts) some = ap (λ b. b && list_all (has_target 0) ts) (has-none t)
 

@@ -18,12 +18,11 @@ use Rattle.dtx_base.specs.declared.leading.Undecided.{Undecided}
 use Rattle.dtx_base.specs.Leading.{ack_heard, entry_led, undecided_attempt}
 use Rattle.dtx_base.specs.Members.{has_target, other_members}
 use Rattle.dtx_base.specs.Rows.{row_of}
-use Rattle.world_asks.specs.Asks.{RowsWait}
-use Rattle.world_asks.specs.Moving.{ClientMoves, TargetMoves, goes-moves, heard-moves, hears-moves, idle-moves, now-here, same-there}
+use Rattle.world_asks.specs.Asks.{RowsLack, RowsWait}
+use Rattle.world_asks.specs.Knowing.{CommitsAreNew, KnowsAttempts, unborn-still}
+use Rattle.world_asks.specs.Moving.{TargetMoves, goes-moves, heard-moves, hears-moves, idle-moves, now-here, same-there}
 use Rattle.world_asks.specs.Rows.{IsLacking, LeadsOn, ack-leads, begun-rows}
-use Rattle.world_attempts.specs.Asked.{AskedRight}
-use Rattle.world_attempts.specs.Attempts.{Attempts, entry_in, leader_of, members_of, others_of, row_at, row_in}
-use Rattle.world_attempts.specs.Beginning.{unborn-row}
+use Rattle.world_attempts.specs.Attempts.{entry_in, leader_of, members_of, others_of, row_at, row_in}
 use Rattle.world_attempts.specs.Counting.{has-taken}
 use Rattle.world_attempts.specs.History.{History}
 use Rattle.world_attempts.specs.MarkTurns.{led-found, target-is}
@@ -46,6 +45,7 @@ use Rattle.world_base.specs.PathLaws.{reached-keeps}
 use Rattle.world_base.specs.RightTurns.{HearsRightly}
 use Rattle.world_base.specs.Roles.{is_in_doubt, leader_at}
 use Rattle.world_base.specs.TargetTurns.{commit_request, fetch_request, prepare_request}
+use Rattle.world_base.specs.Turns.{Whole}
 
 -- ---- a turn
 
@@ -82,6 +82,12 @@ ack-ends : (t : TargetPlan) (m : TargetMemory) (member : ℕ) (a : AttemptId) (i
     → AckStands t m member a inc refusal old s k → ack.AckEnds m s k left → RowsAfter t m old.durable (message.Ack a inc refusal) left.0
 ack-ends t m member a inc refusal old s k left stands (ack.IsFollowed j step z is) = subst (λ x. RowsAfter t m old.durable (message.Ack a inc refusal) x.0) (sym is) (record { rows = stands.rows; down = stands.down })
 
+-- whatever a leader hears as an Ack
+pub acks-rows : (t : TargetPlan) (m : TargetMemory) (member : ℕ) (a : AttemptId) (inc : ℕ) (refusal : Option Outcome) (old new : Kept) (left : TargetMemory × Did) → Whole (ack.AckNext t m member a inc refusal) (ack.AckEnds m) ack.Heard old new left
+    → RowsAfter t m old.durable (message.Ack a inc refusal) left.0
+acks-rows t m member a inc refusal old new left h =
+    ack-ends t m member a inc refusal old h.last new left (reached-keeps (ack.AckNext t m member a inc refusal) (AckStands t m member a inc refusal old) (ack-step t m member a inc refusal old) ack.Heard old h.last new h.reached refl) h.ends
+
 -- a Commit
 commit-ends : (t : TargetPlan) (opening : Epoch × FloorWhy) (m : TargetMemory) (reading : ℕ) (x : AttemptId) (ep first : Option Epoch) (tracker : Epoch) (ws : List MinorWrite) (from : ActorId) (d : Durable) (s : commit.CommitStage) (k : Kept)
     (left : TargetMemory × Did) → row_of undecided_attempt x m.leader.undecided ≡ None → commit.CommitEnds t opening m reading (commit_request x ep first tracker ws) from s k left
@@ -111,9 +117,7 @@ hears-rows t opening m reading from (message.Commit x ep first tracker ws) old n
 hears-rows t opening m reading from (message.Prepare e first ws inc) old new left h fresh =
     let k = prepare-leaves t opening m (prepare_request e first ws inc) h.last new left h.ends in
     rows-same t m left.0 old.durable (message.Prepare e first ws inc) (ap (λ z. z.leader.undecided) k) (ap (λ z. z.leader.down) k)
-hears-rows t opening m reading from (message.Ack x inc refusal) old new left h fresh =
-    ack-ends t m from.number x inc refusal old h.last new left
-    (reached-keeps (ack.AckNext t m from.number x inc refusal) (AckStands t m from.number x inc refusal old) (ack-step t m from.number x inc refusal old) ack.Heard old h.last new h.reached refl) h.ends
+hears-rows t opening m reading from (message.Ack x inc refusal) old new left h fresh = acks-rows t m from.number x inc refusal old new left h
 hears-rows t opening m reading from (message.Mark inc marks) old new left h fresh =
     let k = mark-leaves m from inc marks h.last new left h.ends in rows-same t m left.0 old.durable (message.Mark inc marks) (ap (λ z. z.leader.undecided) k) (ap (λ z. z.leader.down) k)
 hears-rows t opening m reading from (message.Marked inc ids) old new left h fresh =
@@ -126,39 +130,51 @@ hears-rows t opening m reading from q old new left h fresh = absurd h
 
 -- ---- the world
 
-client-rows : (r : Rules) (w v : World) → RowsWait r w → ClientMoves w v → RowsWait r v
-client-rows r w v k g = record {
-  lacking = λ t x u at. k.lacking t x u (ap (λ ts. row_in (slice_get ts t) x) (sym g.targets) ∙ at);
-  up = λ t s here. k.up t s (ap (λ ts. slice_get ts t) (sym g.targets) ∙ here);
-}
+-- where no target changes
+client-rows : (r : Rules) (w v : World) → v.targets ≡ w.targets → RowsLack r w → RowsLack r v
+client-rows r w v same k t x u at = k t x u (ap (λ ts. row_in (slice_get ts t) x) (sym same) ∙ at)
 
 -- a target's turn, where each row that is left was there or lacks a member
-target-rows : (r : Rules) (w v : World) (t : ℕ) (s z : TargetState) (heard : Option Letter) (posts : List Post) → TargetMoves w v t s z heard posts
+pub target-rows : (r : Rules) (w v : World) (t : ℕ) (s z : TargetState) (heard : Option Letter) (posts : List Post) → TargetMoves w v t s z heard posts
     → ((x : AttemptId) (u : Undecided) → row_of undecided_attempt x z.memory.leader.undecided ≡ Some u → (row_of undecided_attempt x s.memory.leader.undecided ≡ Some u) ⊎ (list_all (has_target u.counted) (others_of r x) ≡ false))
-    → z.memory.leader.down ≡ s.memory.leader.down → RowsWait r w → RowsWait r v
-target-rows r w v t s z heard posts g rows down k = record {
-  lacking = λ u x q at. elim (one-or_another u t) [
-    | inl same ↦
-        elim (rows x q (ap (λ o. row_in o x) (sym (now-here w v t s z heard posts g)) ∙ ap (λ n. row_at v n x) (sym same) ∙ at)) [
-          | inl old ↦ k.lacking t x q (ap (λ o. row_in o x) g.here ∙ old)
-          | inr lacks ↦ lacks
-        ]
-    | inr other ↦ k.lacking u x q (ap (λ o. row_in o x) (sym (same-there w v t s z heard posts g u other)) ∙ at)
-  ];
-  up = λ u y here. elim (one-or_another u t) [
-    | inl same ↦
-        let is : Some z ≡ Some y = sym (now-here w v t s z heard posts g) ∙ ap (slice_get v.targets) (sym same) ∙ here in
-        ap (λ x. x.memory.leader.down) (let one : y ≡ z = cc in one) ∙ down ∙ k.up t s g.here
-    | inr other ↦ k.up u y (sym (same-there w v t s z heard posts g u other) ∙ here)
-  ];
-}
+    → RowsLack r w → RowsLack r v
+target-rows r w v t s z heard posts g rows k u x q at = elim (one-or_another u t) [
+  | inl same ↦
+      elim (rows x q (ap (λ o. row_in o x) (sym (now-here w v t s z heard posts g)) ∙ ap (λ n. row_at v n x) (sym same) ∙ at)) [
+        | inl old ↦ k t x q (ap (λ o. row_in o x) g.here ∙ old)
+        | inr lacks ↦ lacks
+      ]
+  | inr other ↦ k u x q (ap (λ o. row_in o x) (sym (same-there w v t s z heard posts g u other)) ∙ at)
+]
 
-module _ (r : Rules) (h : History) (w v : World) (Q : AskedRight r h w) (A : Attempts r h w) (g : TargetHearsRightly r w v) where
+abbrev pub mask_in : Option TargetState → ℕ
+mask_in None = 0
+mask_in (Some s) = s.memory.leader.down
+
+-- the targets that one knows to be down
+abbrev pub mask_at : World → ℕ → ℕ
+mask_at w t = mask_in (slice_get w.targets t)
+
+target-masks : (w v : World) (t : ℕ) (s z : TargetState) (heard : Option Letter) (posts : List Post) → TargetMoves w v t s z heard posts → z.memory.leader.down ≡ s.memory.leader.down → (u : ℕ) → mask_at v u ≡ mask_at w u
+target-masks w v t s z heard posts g down u = elim (one-or_another u t) [
+  | inl same ↦ subst (λ n. mask_at v n ≡ mask_at w n) (sym same) (ap mask_in (now-here w v t s z heard posts g) ∙ down ∙ sym (ap mask_in g.here))
+  | inr other ↦ ap mask_in (same-there w v t s z heard posts g u other)
+]
+
+-- the entry of a row that was there has the other members of its attempt
+pub led-others : (r : Rules) (h : History) (w : World) → KnowsAttempts r h w → (t : ℕ) (s : TargetState) → slice_get w.targets t ≡ Some s → (x : AttemptId) (e : Entry) → entry_led x (leader_at (target_plan r t) s.memory s.durable) ≡ Some e
+    → other_members e ≡ others_of r x
+led-others r h w A t s here x e led =
+    let found = led-found (target_plan r t) s.memory s.durable x e (A.ordered t s here).entries led in
+    let its = (A.entries x).one t e (ap (λ o. entry_in o x) here ∙ found.0) in
+    others-same r x e its.leader its.members
+
+module _ (r : Rules) (h : History) (w v : World) (Q : CommitsAreNew r h w) (A : KnowsAttempts r h w) (g : TargetHearsRightly r w v) where
   -- a Commit brings an attempt that has no row yet
   fresh-of : (said : Message) → g.l.message ≡ said → IsFresh g.s.memory said
   fresh-of (message.Commit x ep first tracker ws) is =
-      let new = Q.commits g.l x ep first tracker ws (has-taken w.messages g.l g.rest g.takes) is in
-      by (row_of undecided_attempt x g.s.memory.leader.undecided) refl (unborn-row r h w x (A.each x) new.unstored new.unended g.t)
+      let new = Q g.l x ep first tracker ws (has-taken w.messages g.l g.rest g.takes) is in
+      by (row_of undecided_attempt x g.s.memory.leader.undecided) refl (λ q at. unborn-still r h w x new.unstored new.unended (A.rows x g.t q at))
     where
       by : (o : Option Undecided) → row_of undecided_attempt x g.s.memory.leader.undecided ≡ o → ((q : Undecided) → row_at w g.t x ≡ Some q → ⊥) → o ≡ None
       by None at none = refl
@@ -167,30 +183,49 @@ module _ (r : Rules) (h : History) (w v : World) (Q : AskedRight r h w) (A : Att
 
   -- the entry of a new row has the other members of its attempt
   its-others : (x : AttemptId) (e : Entry) (said : Message) → g.l.message ≡ said → IsNewRow (target_plan r g.t) g.s.memory g.s.durable x e said → other_members e ≡ others_of r x
-  its-others x e (message.Ack y inc refusal) is new =
-      let found = led-found (target_plan r g.t) g.s.memory g.s.durable x e (A.ordered g.t g.s g.here).entries new in
-      let its = (A.each x).entries.one g.t e (ap (λ o. entry_in o x) g.here ∙ found.0) in
-      others-same r x e its.leader its.members
+  its-others x e (message.Ack y inc refusal) is new = led-others r h w A g.t g.s g.here x e new
   its-others x e (message.Commit y ep first tracker ws) is new =
-      let k = Q.commits g.l y ep first tracker ws (has-taken w.messages g.l g.rest g.takes) is in
+      let k = Q g.l y ep first tracker ws (has-taken w.messages g.l g.rest g.takes) is in
       let leads : g.t ≡ leader_of r y = target-is g.t (leader_of r y) (sym g.to_it ∙ k.receiver) in
       let members : bits_of (writes_members ws r.script.targets) ≡ members_of r y = ap (λ z. bits_of (writes_members z r.script.targets)) k.writes in
       others-same r x e (ap (λ z. z.leader) new.1.1 ∙ leads ∙ ap (leader_of r) (sym new.0)) (ap (λ z. z.members) new.1.1 ∙ members ∙ ap (members_of r) (sym new.0))
   its-others x e said is new = absurd new
 
-  pub heard-rows : RowsWait r w → RowsWait r v
-  heard-rows k = target-rows r w v g.t g.s (target_after g.s g.new g.memory) (Some g.l) g.did.posts (heard-moves r w v g) (λ x u at. elim (a.rows x u at) [
+  after : RowsAfter (target_plan r g.t) g.s.memory g.s.durable g.l.message g.memory
+  after = hears-rows (target_plan r g.t) g.s.opening g.s.memory g.reading g.l.from g.l.message (kept g.s) g.new (g.memory, g.did) g.turn (fresh-of g.l.message refl)
+
+  heard-rows : RowsLack r w → RowsLack r v
+  heard-rows k = target-rows r w v g.t g.s (target_after g.s g.new g.memory) (Some g.l) g.did.posts (heard-moves r w v g) (λ x u at. elim (after.rows x u at) [
     | inl old ↦ inl old
     | inr new ↦ inr (ap (list_all (has_target u.counted)) (sym (its-others x new.0 g.l.message refl new.1)) ∙ new.2)
-  ]) a.down k
-    where
-      a : RowsAfter (target_plan r g.t) g.s.memory g.s.durable g.l.message g.memory
-      a = hears-rows (target_plan r g.t) g.s.opening g.s.memory g.reading g.l.from g.l.message (kept g.s) g.new (g.memory, g.did) g.turn (fresh-of g.l.message refl)
+  ]) k
 
-pub rows-kept : (r : Rules) (h : History) (w v : World) → AskedRight r h w → Attempts r h w → RowsWait r w → RightEvent r w v → RowsWait r v
-rows-kept r h w v Q A k (ByClient g) = client-rows r w v k (goes-moves r w v g)
-rows-kept r h w v Q A k (ToClient g) = client-rows r w v k (hears-moves r w v g)
-rows-kept r h w v Q A k (ToTarget g) = heard-rows r h w v Q A g k
-rows-kept r h w v Q A k (ByTarget g) =
-    let l = idle-leaves g.settling (target_plan r g.t) g.s.memory g.turn.last g.new (g.memory, g.did) g.turn.ends in
-    target-rows r w v g.t g.s (target_after g.s g.new g.memory) None g.did.posts (idle-moves r w v g) (λ x u at. inl (ap (row_of undecided_attempt x) (sym l.undecided) ∙ at)) l.down k
+  heard-masks : (u : ℕ) → mask_at v u ≡ mask_at w u
+  heard-masks = target-masks w v g.t g.s (target_after g.s g.new g.memory) (Some g.l) g.did.posts (heard-moves r w v g) after.down
+
+module _ (r : Rules) (h : History) (w v : World) (Q : CommitsAreNew r h w) (A : KnowsAttempts r h w) where
+  pub lacks-kept : RowsLack r w → RightEvent r w v → RowsLack r v
+  lacks-kept k (ByClient g) = client-rows r w v (goes-moves r w v g).targets k
+  lacks-kept k (ToClient g) = client-rows r w v (hears-moves r w v g).targets k
+  lacks-kept k (ToTarget g) = heard-rows r h w v Q A g k
+  lacks-kept k (ByTarget g) =
+      let l = idle-leaves g.settling (target_plan r g.t) g.s.memory g.turn.last g.new (g.memory, g.did) g.turn.ends in
+      target-rows r w v g.t g.s (target_after g.s g.new g.memory) None g.did.posts (idle-moves r w v g) (λ x u at. inl (ap (row_of undecided_attempt x) (sym l.undecided) ∙ at)) k
+
+  -- each target knows the same ones to be down
+  pub masks-kept : RightEvent r w v → (u : ℕ) → mask_at v u ≡ mask_at w u
+  masks-kept (ByClient g) u = ap (λ ts. mask_in (slice_get ts u)) (goes-moves r w v g).targets
+  masks-kept (ToClient g) u = ap (λ ts. mask_in (slice_get ts u)) (hears-moves r w v g).targets
+  masks-kept (ToTarget g) u = heard-masks r h w v Q A g u
+  masks-kept (ByTarget g) u =
+      target-masks w v g.t g.s (target_after g.s g.new g.memory) None g.did.posts (idle-moves r w v g) (idle-leaves g.settling (target_plan r g.t) g.s.memory g.turn.last g.new (g.memory, g.did) g.turn.ends).down u
+
+  pub rows-kept : RowsWait r w → RightEvent r w v → RowsWait r v
+  rows-kept k e = record {
+    lacking = lacks-kept k.lacking e;
+    up = λ t s here. sym (ap mask_in here) ∙ masks-kept e t ∙ by t (slice_get w.targets t) refl;
+  }
+    where
+      by : (t : ℕ) (o : Option TargetState) → slice_get w.targets t ≡ o → mask_in o ≡ 0
+      by t None is = refl
+      by t (Some s) is = k.up t s is

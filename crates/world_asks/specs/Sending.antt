@@ -53,19 +53,20 @@ abbrev pub MaySend : ActorId → Message → ActorId → Message → Type 0
 MaySend from q to (message.Prepare e first ws inc) = IsCommitOf e.attempt q
 MaySend from q to (message.Query x None) = ⊥
 MaySend from q to (message.Verdict x ask inc v) = (q ≡ message.Query x ask) × (to ≡ from)
+MaySend from q to (message.Reset' t down place asked) = ⊥
 MaySend from q to m = Unit {0}
 
 abbrev pub SendsFor : ActorId → Message → List Post → Type 0
 SendsFor from q posts = (p : Post) → Has p posts → MaySend from q p.to p.message
 
-both-sent : (sender : ActorId) (q : Message) (xs ys : List Post) → SendsFor sender q xs → SendsFor sender q ys → SendsFor sender q (xs ++ ys)
+pub both-sent : (sender : ActorId) (q : Message) (xs ys : List Post) → SendsFor sender q xs → SendsFor sender q ys → SendsFor sender q (xs ++ ys)
 both-sent sender q xs ys k l p i = elim (has-cases xs ys p i) [ inl j ↦ k p j | inr j ↦ l p j ]
 
-one-sent : (sender : ActorId) (q : Message) (p : Post) → MaySend sender q p.to p.message → SendsFor sender q (p ∷ [])
+pub one-sent : (sender : ActorId) (q : Message) (p : Post) → MaySend sender q p.to p.message → SendsFor sender q (p ∷ [])
 one-sent sender q p k x (inl same) = subst (λ z. MaySend sender q z.to z.message) (sym same) k
 one-sent sender q p k x (inr none) = absurd none
 
-each-sent : {T : Type 0} (sender : ActorId) (q : Message) (f : T → Post) (xs : List T) → ((x : T) → MaySend sender q (f x).to (f x).message) → SendsFor sender q (map f xs)
+pub each-sent : {T : Type 0} (sender : ActorId) (q : Message) (f : T → Post) (xs : List T) → ((x : T) → MaySend sender q (f x).to (f x).message) → SendsFor sender q (map f xs)
 each-sent sender q f xs k p i = let x = has-from_map f xs p i in subst (λ z. MaySend sender q z.to z.message) x.2 (k x.0)
 
 -- ---- a Fetch
@@ -80,7 +81,7 @@ fetch-sends sender said t m reading q from s k left (read.IsServed j e decided b
 
 -- ---- a Commit
 
-ended-sent : (sender : ActorId) (said : Message) (client : Option ActorId) (a : AttemptId) (e : Epoch) (how : Outcome) → SendsFor sender said (ended client a e how)
+pub ended-sent : (sender : ActorId) (said : Message) (client : Option ActorId) (a : AttemptId) (e : Epoch) (how : Outcome) → SendsFor sender said (ended client a e how)
 ended-sent sender said None a e how p i = absurd i
 ended-sent sender said (Some c) a e how p i = one-sent sender said _ tt p i
 
@@ -149,6 +150,12 @@ ack-step sender said t m member a inc refusal s k o u l (ack.Counts j is) steps 
 ack-ends : (sender : ActorId) (said : Message) (m : TargetMemory) (s : ack.AckStage) (k : Kept) (left : TargetMemory × Did) → AckStands sender said s k → ack.AckEnds m s k left → SendsFor sender said left.1.posts
 ack-ends sender said m s k left stands (ack.IsFollowed j step z is) = subst (λ x. SendsFor sender said x.1.posts) (sym is) stands
 
+-- whatever a leader hears as an Ack
+pub acks-send : (sender : ActorId) (said : Message) (t : TargetPlan) (m : TargetMemory) (member : ℕ) (a : AttemptId) (inc : ℕ) (refusal : Option Outcome) (old new : Kept) (left : TargetMemory × Did) → Whole (ack.AckNext t m member a inc refusal) (ack.AckEnds m) ack.Heard old new left
+    → SendsFor sender said left.1.posts
+acks-send sender said t m member a inc refusal old new left h =
+    ack-ends sender said m h.last new left (reached-keeps (ack.AckNext t m member a inc refusal) (AckStands sender said) (ack-step sender said t m member a inc refusal) ack.Heard old h.last new h.reached tt) h.ends
+
 marked-ends : (sender : ActorId) (said : Message) (t : TargetPlan) (m : TargetMemory) (member inc : ℕ) (ids s : List AttemptId) (k : Kept) (left : TargetMemory × Did) → ack.MarkedEnds t m member inc ids s k left → SendsFor sender said left.1.posts
 marked-ends sender said t m member inc ids s k left (ack.AllConfirmed j z is) p i = let none : Has p [] = subst (λ x. Has p x.1.posts) is i in absurd none
 
@@ -165,7 +172,7 @@ told-sent : (sender : ActorId) (said : Message) (a : AttemptId) (q : Message) �
 told-sent sender said a (message.Fetch x op group ep first tracker r snapshot) p i = one-sent sender said _ tt p i
 told-sent sender said a q p i = absurd i
 
-all-told-sent : (sender : ActorId) (said : Message) (a : AttemptId) (ps : List Parked) → SendsFor sender said (all_unresolved_told a ps)
+pub all-told-sent : (sender : ActorId) (said : Message) (a : AttemptId) (ps : List Parked) → SendsFor sender said (all_unresolved_told a ps)
 all-told-sent sender said a [] p i = absurd i
 all-told-sent sender said a (q ∷ ps) p i = both-sent sender said (unresolved_told a q.ask) (all_unresolved_told a ps) (told-sent sender said a q.ask) (all-told-sent sender said a ps) p i
 
@@ -191,9 +198,7 @@ hears-sends t opening m reading from (message.Fetch x op group ep first tracker 
 hears-sends t opening m reading from (message.Commit x ep first tracker ws) old new left h p i =
     commit-sends from (message.Commit x ep first tracker ws) t opening m reading (commit_request x ep first tracker ws) from h.last new left refl h.ends p i
 hears-sends t opening m reading from (message.Prepare e first ws inc) old new left h p i = prepare-sends from (message.Prepare e first ws inc) t opening m (prepare_request e first ws inc) h.last new left h.ends p i
-hears-sends t opening m reading from (message.Ack x inc refusal) old new left h p i =
-    ack-ends from (message.Ack x inc refusal) m h.last new left
-    (reached-keeps (ack.AckNext t m from.number x inc refusal) (AckStands from (message.Ack x inc refusal)) (ack-step from (message.Ack x inc refusal) t m from.number x inc refusal) ack.Heard old h.last new h.reached tt) h.ends p i
+hears-sends t opening m reading from (message.Ack x inc refusal) old new left h p i = acks-send from (message.Ack x inc refusal) t m from.number x inc refusal old new left h p i
 hears-sends t opening m reading from (message.Mark inc marks) old new left h p i = mark-ends from (message.Mark inc marks) m from inc marks h.last new left h.ends p i
 hears-sends t opening m reading from (message.Marked inc ids) old new left h p i = marked-ends from (message.Marked inc ids) t m from.number inc ids h.last new left h.ends p i
 hears-sends t opening m reading from (message.Query x ask) old new left h p i = query-ends t m from x ask h.last new left h.ends p i

@@ -18,15 +18,16 @@ use Rattle.dtx_base.specs.LeaderLaws.{same-is}
 use Rattle.dtx_base.specs.Members.{has_target}
 use Rattle.world_asks.specs.Asks.{ByLeader, ByMark, Flies, IsMarkOf, IsToBeTold, NoneHere, NonePrepared, NonePrepares}
 use Rattle.world_asks.specs.Entries.{IsKept, Unprepared}
+use Rattle.world_asks.specs.Knowing.{KnowsAttempts, TellsOf}
 use Rattle.world_asks.specs.Moving.{ClientMoves, TargetMoves, now-here, same-there}
-use Rattle.world_attempts.specs.Attempts.{Attempts, IsBorn, IsHeld, IsOther, IsTrueOf, entry_at, entry_in, is_asked_by, is_prepare_to, is_target, leader_of}
+use Rattle.world_attempts.specs.Attempts.{IsBorn, IsHeld, IsOther, entry_at, entry_in, is_asked_by, is_prepare_to, is_target, leader_of}
 use Rattle.world_attempts.specs.History.{Aborted, History}
 use Rattle.world_attempts.specs.Overs.{prepare-to}
 use Rattle.world_attempts.specs.Turning.{one-or_another}
 use Rattle.world_base.specs.declared.letter.Letter.{Letter}
 use Rattle.world_base.specs.declared.target.TargetState.{TargetState}
 use Rattle.world_base.specs.declared.world.World.{World}
-use Rattle.world_base.specs.Events.{Rules, kept}
+use Rattle.world_base.specs.Events.{Rules}
 use Rattle.world_base.specs.Letters.{client, target}
 
 -- ---- the statement
@@ -45,23 +46,23 @@ pub record LeavesTold (r : Rules) (h later : History) (w v : World) : Type 0 whe
 
 -- ---- what follows from it
 
-module _ (r : Rules) (h later : History) (w v : World) (B : Attempts r later v) (k : LeavesTold r h later w v) where
+-- what its leader holds is to be told, or is settled
+pub held-told : (r : Rules) (later : History) (v : World) → KnowsAttempts r later v → (m : ℕ) (x : AttemptId) → IsOther r x m → IsHeld v (leader_of r x) x → IsToBeTold r v m x
+held-told r later v B m x other held = by (has_target held.entry.confirmed m) refl
+  where
+    by : (b : Bool) → has_target held.entry.confirmed m ≡ b → IsToBeTold r v m x
+    by false is = ByLeader (record { entry = held.entry; found = held.found; unconfirmed = is })
+    by true is =
+        let s = (B.entries x).confirmed m held.entry held.found other is in
+        NoneHere (λ e at. let one : Some e ≡ Some s.entry = sym at ∙ s.found in let same : e ≡ s.entry = cc in ap (λ z. z.committed) same ∙ s.committed)
+
+module _ (r : Rules) (h later : History) (w v : World) (B : KnowsAttempts r later v) (k : LeavesTold r h later w v) where
   pub born-on : (x : AttemptId) → IsBorn r h w x → IsBorn r later v x
   born-on x (inl held) = elim (k.kept x held) [ inl still ↦ inl still | inr gone ↦ inr gone.aborted ]
   born-on x (inr a) = inr (k.aborted x a)
 
-  -- what its leader holds is to be told, or is settled
-  pub held-told : (m : ℕ) (x : AttemptId) → IsOther r x m → IsHeld v (leader_of r x) x → IsToBeTold r v m x
-  held-told m x other held = by (has_target held.entry.confirmed m) refl
-    where
-      by : (b : Bool) → has_target held.entry.confirmed m ≡ b → IsToBeTold r v m x
-      by false is = ByLeader (record { entry = held.entry; found = held.found; unconfirmed = is })
-      by true is =
-          let s = (B.each x).entries.confirmed m held.entry held.found other is in
-          NoneHere (λ e at. let one : Some e ≡ Some s.entry = sym at ∙ s.found in let same : e ≡ s.entry = cc in ap (λ z. z.committed) same ∙ s.committed)
-
   pub refused-told : (m : ℕ) (x : AttemptId) → IsOther r x m → IsHeld v (leader_of r x) x ⊎ IsRefused r later v x → IsToBeTold r v m x
-  refused-told m x other (inl held) = held-told m x other held
+  refused-told m x other (inl held) = held-told r later v B m x other held
   refused-told m x other (inr gone) = ByMark (gone.marks m other)
 
   pub told-on : (m : ℕ) (x : AttemptId) → IsOther r x m → NonePrepares w m x → IsToBeTold r w m x → IsToBeTold r v m x
@@ -122,7 +123,7 @@ held-still w v m x same k = record { entry = k.entry; found = entry-still w v m 
 pub no-client : (n t : ℕ) (a : ActorId) → a ≡ client n → a ≡ target t → ⊥
 no-client n t a one other = let no : ⊥ = cc (ap (λ z. z.client) (sym one ∙ other)) in no
 
-pub client-leaves : (r : Rules) (h later : History) (w v : World) → ((x : AttemptId) → Aborted h x → Aborted later x) → Attempts r later v → ClientMoves w v → LeavesTold r h later w v
+pub client-leaves : (r : Rules) (h later : History) (w v : World) → ((x : AttemptId) → Aborted h x → Aborted later x) → KnowsAttempts r later v → ClientMoves w v → LeavesTold r h later w v
 client-leaves r h later w v grown B g = record {
   aborted = grown;
   kept = λ x held. inl (held-still w v (leader_of r x) x (ap (λ ts. slice_get ts (leader_of r x)) g.targets) held);
@@ -137,8 +138,7 @@ client-leaves r h later w v grown B g = record {
     -- no client sends a Prepare
     from-client : (m : ℕ) (x : AttemptId) (l : Letter) → Has l v.messages → (n : ℕ) → l.from ≡ client n → IsPrepareOf m x l.to l.message → ⊥
     from-client m x l i n from p =
-        let k : IsTrueOf r later v l.from l.to (message.Prepare p.e p.first p.ws p.inc) = subst (IsTrueOf r later v l.from l.to) p.is (B.letters l i) in
-        no-client n (leader_of r p.e.attempt) l.from from k.way.sender
+        no-client n (leader_of r p.e.attempt) l.from from (B.told l p.e.attempt i (subst (TellsOf p.e.attempt) (sym p.is) refl)).sender
 
 -- ---- a target's turn
 

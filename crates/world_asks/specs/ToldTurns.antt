@@ -1,13 +1,12 @@
 -- A target's turn leaves what questions rest on.
-use Rattle.std.specs.Prelude.{ℕ, ◌≡◌, ◌≢◌, ◌⊎◌, Bool, true, false, List, [], ◌∷◌, map, Option, Some, None, refl, if◌then◌else◌}
+use Rattle.std.specs.Prelude.{ℕ, ◌≡◌, ◌⊎◌, Bool, true, false, List, [], ◌∷◌, map, Option, Some, None, refl, if◌then◌else◌}
 use Rattle.std.proofs.Common.{sym, ◌∙◌, ap, subst, inl, inr}
 use Rattle.base_types.specs.declared.entry.Entry.{Entry}
 use Rattle.base_types.specs.declared.epoch.Epoch.{Epoch}
 use Rattle.base_types.specs.declared.id.AttemptId.{AttemptId}
 use Rattle.base_types.specs.declared.operation.MinorWrite.{MinorWrite}
 use Rattle.base_types.specs.declared.outcome.Outcome.{Outcome}
-use Rattle.base_types.specs.declared.outcome.Outcome.TheVariants.{Committed}
-use Rattle.model_laws.specs.Members.{Has, has-cases, has-from_map, has-left, has-map, has-right}
+use Rattle.model_laws.specs.Members.{Has, has-cases, has-from_map, has-map, has-right}
 use Rattle.base_messages.specs.declared.message.Message.{Message}
 use Rattle.base_messages.specs.declared.message.Message.TheVariants as message
 use Rattle.base_messages.specs.declared.message.Post.{Post}
@@ -15,22 +14,22 @@ use Rattle.daos_model.specs.declared.durable.Durable.{Durable}
 use Rattle.daos_model.specs.Durables.{entry_of}
 use Rattle.dtx_base.specs.declared.leading.Naming.{Naming}
 use Rattle.dtx_base.specs.Joining.{inquired, inquiry_for, to_inquire}
-use Rattle.dtx_base.specs.Leading.{LeaderOf, abort_to, batched, commit_mark, ended, mark_with, marked_attempt, marks_for, owed, to_target}
+use Rattle.dtx_base.specs.Leading.{LeaderOf, abort_to, batched, commit_mark, mark_with, marked_attempt, marks_for, owed, to_target}
 use Rattle.dtx_base.specs.Members.{all_targets, other_members}
 use Rattle.dtx_base.specs.Rows.{is_empty}
-use Rattle.world_asks.specs.Asks.{Flies, IsMarkOf, NonePrepared, NonePrepares}
+use Rattle.world_asks.specs.Asks.{IsMarkOf, NonePrepared, NonePrepares}
 use Rattle.world_asks.specs.Entries.{BringsNot, EndsNot, IsKept, Unprepared, hears-kept, hears-unprepared, idles-kept, idles-unprepared}
 use Rattle.world_asks.specs.InquiryLaws.{IsInquired, inquired-is}
+use Rattle.world_asks.specs.Knowing.{CommitsAreNew, KnowsAttempts, TellsOf, unborn-still}
 use Rattle.world_asks.specs.MarkLaws.{marked-unprepared}
 use Rattle.world_asks.specs.Moving.{all-stay, heard-moves, idle-moves}
 use Rattle.world_asks.specs.Refusing.{Refuses, ack-kept, refusal-told}
 use Rattle.world_asks.specs.Sending.{IsCommitOf, MaySend, hears-sends}
 use Rattle.world_asks.specs.Told.{IsPrepareOf, IsRefused, LeavesTold, held-or, none-or, none-there, prepare-is, prepare-of}
-use Rattle.world_attempts.specs.Asked.{AskedRight, IsCommitNew}
-use Rattle.world_attempts.specs.Attempts.{Attempts, IsBorn, IsHeld, IsOther, IsItsEntry, IsTrueOf, IsUndecided, entry_at, entry_in, leader_of, row_in}
-use Rattle.world_attempts.specs.Beginning.{unborn}
+use Rattle.world_attempts.specs.Asked.{IsCommitNew}
+use Rattle.world_attempts.specs.Attempts.{IsBorn, IsFromLeader, IsHeld, IsItsEntry, IsOther, entry_at, entry_in, leader_of}
 use Rattle.world_attempts.specs.Counting.{has-taken}
-use Rattle.world_attempts.specs.History.{Aborted, GrowsBy, History, Tells}
+use Rattle.world_attempts.specs.History.{Aborted, History}
 use Rattle.world_attempts.specs.MarkTurns.{led-found, target-is}
 use Rattle.world_attempts.specs.MemberBits.{other-no_leader, others-same}
 use Rattle.world_base.specs.declared.did.Did.{Did}
@@ -47,30 +46,22 @@ use Rattle.world_base.specs.RightTurns.{HearsRightly}
 use Rattle.world_base.specs.Roles.{leader_at, member_at, with_unsettled}
 use Rattle.world_base.specs.TargetTurns.{IdlesWhole}
 
--- what refuses is no commit
-abbrev pub IsRefusal : Message → Type 0
-IsRefusal (message.Ack x inc (Some how)) = how ≢ Committed
-IsRefusal q = Unit {0}
-
-abbrev pub RefusalsRefuse : World → Type 0
-RefusalsRefuse w = (l : Letter) → Has l w.messages → IsRefusal l.message
-
 -- ---- a target hears a message
 
-module _ (r : Rules) (h later : History) (w v : World) (Q : AskedRight r h w) (A : Attempts r h w) (R : RefusalsRefuse w) (g : TargetHearsRightly r w v) (G : GrowsBy h g.did.posts later) where
+module _ (r : Rules) (h later : History) (w v : World) (Q : CommitsAreNew r h w) (A : KnowsAttempts r h w) (B : KnowsAttempts r later v) (grown : (x : AttemptId) → Aborted h x → Aborted later x) (g : TargetHearsRightly r w v) where
   taken : Has g.l w.messages
   taken = has-taken w.messages g.l g.rest g.takes
 
-  -- what it heard is so
-  heard-true : (said : Message) → g.l.message ≡ said → IsTrueOf r h w g.l.from g.l.to said
-  heard-true said is = subst (IsTrueOf r h w g.l.from g.l.to) is (A.letters g.l taken)
+  -- who leads an attempt tells others of it
+  heard-way : (x : AttemptId) (said : Message) → g.l.message ≡ said → TellsOf x said → IsFromLeader r x g.l.from g.l.to
+  heard-way x said is k = A.told g.l x taken (subst (TellsOf x) (sym is) k)
 
   -- a member of an attempt isn't its leader
   no-member : (x : AttemptId) (m : ℕ) → IsOther r x m → g.l.to ≡ target m → g.t ≡ leader_of r x → ⊥
   no-member x m other to leads = other-no_leader r x m other (target-is m g.t (sym to ∙ g.to_it) ∙ leads)
 
   commit-new : (x : AttemptId) (ep first : Option Epoch) (tracker : Epoch) (ws : List MinorWrite) → g.l.message ≡ message.Commit x ep first tracker ws → IsCommitNew r h w g.l.to x ep ws
-  commit-new x ep first tracker ws is = Q.commits g.l x ep first tracker ws taken is
+  commit-new x ep first tracker ws is = Q g.l x ep first tracker ws taken is
 
   -- a target isn't asked to store an attempt that it leads and holds
   brings-leader : (x : AttemptId) → g.t ≡ leader_of r x → IsHeld w (leader_of r x) x → (said : Message) → g.l.message ≡ said → BringsNot x said
@@ -80,56 +71,43 @@ module _ (r : Rules) (h later : History) (w v : World) (Q : AskedRight r h w) (A
       let found = held.found in
       (let no : ⊥ = cc (found, none) in no)
   brings-leader x leads held (message.Prepare e first ws inc) is = λ same.
-      let k = heard-true (message.Prepare e first ws inc) is in
-      no-member e.attempt k.way.member k.way.other k.way.receiver (leads ∙ ap (leader_of r) same)
+      let k = heard-way e.attempt (message.Prepare e first ws inc) is refl in
+      no-member e.attempt k.member k.other k.receiver (leads ∙ ap (leader_of r) same)
   brings-leader x leads held said is = tt
 
   -- nor told that it ended, but by an Ack
   ends-leader : (x : AttemptId) → g.t ≡ leader_of r x → (said : Message) → g.l.message ≡ said → EndsNot x said ⊎ ((inc : ℕ) × (refusal : Option Outcome) × (y : AttemptId) × (said ≡ message.Ack y inc refusal))
   ends-leader x leads (message.Mark inc marks) is = inl (λ i.
       let m = has-from_map marked_attempt marks x i in
-      let k = heard-true (message.Mark inc marks) is m.0.0 m.0.1 m.1 in
-      no-member m.0.0 k.way.member k.way.other k.way.receiver (leads ∙ ap (leader_of r) (sym m.2)))
+      let k = heard-way m.0.0 (message.Mark inc marks) is (m.0.1, m.1) in
+      no-member m.0.0 k.member k.other k.receiver (leads ∙ ap (leader_of r) (sym m.2)))
   ends-leader x leads (message.Verdict y ask inc c) is = inl (λ same.
-      let k = heard-true (message.Verdict y ask inc c) is in
-      no-member y k.way.member k.way.other k.way.receiver (leads ∙ ap (leader_of r) same))
+      let k = heard-way y (message.Verdict y ask inc c) is refl in
+      no-member y k.member k.other k.receiver (leads ∙ ap (leader_of r) same))
   ends-leader x leads (message.Ack y inc refusal) is = inr (inc, refusal, y, refl)
   ends-leader x leads said is = inl tt
 
   -- an attempt that is refused is aborted, and each other member is told
   refused : (x y : AttemptId) (inc : ℕ) (refusal : Option Outcome) → g.t ≡ leader_of r x → x ≡ y → g.l.message ≡ message.Ack y inc refusal
       → Refuses (leader_at (target_plan r g.t) g.s.memory g.s.durable) y refusal g.did.posts → IsRefused r later v x
-  refused x y inc refusal leads same is f = record { aborted = G.refused x (record { own = Some f.entry.epoch; how = f.how; told = told; refused = how }); marks = marks }
+  refused x y inc refusal leads same is f = record {
+    aborted = let way = A.acks g.l y inc refusal taken is in let to = subst (λ z. IsOther r z way.member) (sym same) way.other in B.aborted (mark-to way.member) x (sent way.member to) (inl (ap (λ z. (z, false)) same));
+    marks = λ m other. (mark-to m, sent m other, record { inc = g.s.durable.incarnation; marks = (y, false) ∷ []; mark = refl; to = refl; names = inl same });
+  }
     where
       found : (entry_of g.s.durable y ≡ Some f.entry) × (f.entry.leader ≡ g.t)
       found = led-found (target_plan r g.t) g.s.memory g.s.durable y f.entry (A.ordered g.t g.s g.here).entries f.led
 
       its : IsItsEntry r w y g.t f.entry
-      its = (A.each y).entries.one g.t f.entry (ap (λ o. entry_in o y) g.here ∙ found.0)
+      its = (A.entries y).one g.t f.entry (ap (λ o. entry_in o y) g.here ∙ found.0)
 
-      row : IsUndecided r h w y g.t f.row
-      row = (A.each y).rows.undecided g.t f.row (ap (λ o. row_in o y) g.here ∙ f.undecided)
+      mark-to : ℕ → Letter
+      mark-to m = letter_of (target g.t) (abort_to g.s.durable.incarnation y m)
 
-      told : Tells g.did.posts x (Some f.entry.epoch) f.how
-      told = record {
-        to = row.client;
-        sent = subst (λ z. Has (record { to = row.client; message = message.Ended z (Some f.entry.epoch) f.how }) g.did.posts) (sym same)
-            (subst (Has (record { to = row.client; message = message.Ended y (Some f.entry.epoch) f.how })) (sym f.sends)
-            (has-left (ended f.row.client y f.entry.epoch f.how) (map (abort_to g.s.durable.incarnation y) (other_members f.entry)) (record { to = row.client; message = message.Ended y (Some f.entry.epoch) f.how })
-            (subst (λ c. Has (record { to = row.client; message = message.Ended y (Some f.entry.epoch) f.how }) (ended c y f.entry.epoch f.how)) (sym row.waits) (inl refl))));
-      }
-
-      how : f.how ≢ Committed
-      how = subst (λ q. IsRefusal (message.Ack y inc q)) f.refused (subst IsRefusal is (R g.l taken))
-
-      marks : (m : ℕ) → IsOther r x m → Flies v (IsMarkOf m x)
-      marks m other =
+      sent : (m : ℕ) → IsOther r x m → Has (mark-to m) v.messages
+      sent m other =
           let among : Has m (other_members f.entry) = subst (Has m) (sym (others-same r y f.entry its.leader its.members)) (subst (λ z. IsOther r z m) same other) in
-          let p : Post = abort_to g.s.durable.incarnation y m in (
-            letter_of (target g.t) p,
-            (heard-moves r w v g).posted p (refusal-told (leader_at (target_plan r g.t) g.s.memory g.s.durable) y refusal g.did.posts f m among),
-            record { inc = g.s.durable.incarnation; marks = (y, false) ∷ []; mark = refl; to = refl; names = inl same },
-          )
+          (heard-moves r w v g).posted (abort_to g.s.durable.incarnation y m) (refusal-told (leader_at (target_plan r g.t) g.s.memory g.s.durable) y refusal g.did.posts f m among)
 
   -- its leader keeps an attempt, or refuses it
   leader-kept : (x : AttemptId) → g.t ≡ leader_of r x → IsHeld w (leader_of r x) x → (said : Message) → g.l.message ≡ said → IsKept g.s.durable x → IsKept g.new.durable x ⊎ IsRefused r later v x
@@ -163,7 +141,7 @@ module _ (r : Rules) (h later : History) (w v : World) (Q : AskedRight r h w) (A
       commits : (said : Message) → g.l.message ≡ said → IsCommitOf k.e.attempt said → ⊥
       commits (message.Commit y ep first tracker ws) is same =
           let new = commit-new y ep first tracker ws is in
-          unborn r h w y (A.each y) new.unstored new.unended (subst (IsBorn r h w) (sym k.attempt ∙ same) born)
+          unborn-still r h w y new.unstored new.unended (subst (IsBorn r h w) (sym k.attempt ∙ same) born)
       commits said is none = absurd none
 
   -- a Mark that it hears settles what it names
@@ -177,13 +155,13 @@ module _ (r : Rules) (h later : History) (w v : World) (Q : AskedRight r h w) (A
 
       elsewhere : IsLedElsewhere g.t x g.s.durable
       elsewhere e found mine =
-          let tells = heard-true (message.Mark k.inc k.marks) k.mark named.0.0 named.0.1 named.1 in
-          let its = (A.each x).entries.one g.t e (ap (λ o. entry_in o x) g.here ∙ found) in
-          no-member named.0.0 tells.way.member tells.way.other tells.way.receiver (sym mine ∙ its.leader ∙ ap (leader_of r) (sym named.2))
+          let tells = heard-way named.0.0 (message.Mark k.inc k.marks) k.mark (named.0.1, named.1) in
+          let its = (A.entries x).one g.t e (ap (λ o. entry_in o x) g.here ∙ found) in
+          no-member named.0.0 tells.member tells.other tells.receiver (sym mine ∙ its.leader ∙ ap (leader_of r) (sym named.2))
 
   pub hears-leaves : LeavesTold r h later w v
   hears-leaves = record {
-    aborted = G.aborted;
+    aborted = grown;
     kept = λ x held.
         held-or w v g.t g.s (target_after g.s g.new g.memory) (Some g.l) g.did.posts (heard-moves r w v g) (leader_of r x) x (IsRefused r later v x)
         (λ same k. leader-kept x (sym same) held g.l.message refl k) held;
