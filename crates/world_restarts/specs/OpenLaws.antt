@@ -1,5 +1,5 @@
 -- A target opens again, or fails to, or is given up; and what changes no target.
-use Rattle.std.specs.Prelude.{ℕ, ◌≡◌, ◌⊎◌, ◌≤◌, ◌/◌, ◌∷◌, Bool, true, false, nat_lt, List, [], Contains, slice_get, Some, refl, if◌then◌else◌}
+use Rattle.std.specs.Prelude.{ℕ, ◌≡◌, ◌⊎◌, ◌≤◌, ◌/◌, Bool, true, false, nat_lt, List, [], Contains, slice_get, Some, refl, if◌then◌else◌}
 use Rattle.std.proofs.Common.{sym, ap, subst, arith, inl, inr}
 use Rattle.std.proofs.lemmas.Bool.Decides.{nat_tests}
 use Rattle.base_types.specs.Epochs.{restart_floor}

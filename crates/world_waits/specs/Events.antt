@@ -37,7 +37,7 @@ lost-on r gone down w v clients loses quiet k = record {
 }
 
 -- and where all stays
-same-on : (r : Rules) (w v : World) → v.clients ≡ w.clients → ((n : ℕ) → talk_of n v.messages ≡ talk_of n w.messages) → ((n : ℕ) → held_of n v ≡ held_of n w) → ((n : ℕ) → asked_of n v ≡ asked_of n w)
+pub same-on : (r : Rules) (w v : World) → v.clients ≡ w.clients → ((n : ℕ) → talk_of n v.messages ≡ talk_of n w.messages) → ((n : ℕ) → held_of n v ≡ held_of n w) → ((n : ℕ) → asked_of n v ≡ asked_of n w)
     → ((t : ℕ) (s : TargetState) → slice_get v.targets t ≡ Some s → (s.life ≡ Running → ⊥) → HoldsNothing s.memory) → Conversation r w → Conversation r v
 same-on r w v clients letters held asked quiet k = record {
   talks = λ n c at. subst (λ ls. TalksSo (client_plan r n) n c ls (held_of n v) (asked_of n v) (waits c)) (sym (letters n))
@@ -57,7 +57,7 @@ lost-letters n gone down ms asked =
 -- ---- one target
 
 -- who doesn't run holds nothing, where one changed
-quiet-set : (r : Rules) (w v : World) (t : ℕ) (z : TargetState) → v.targets ≡ set w.targets t z → ((z.life ≡ Running → ⊥) → HoldsNothing z.memory) → Conversation r w → (u : ℕ) (s : TargetState) → slice_get v.targets u ≡ Some s → (s.life ≡ Running → ⊥)
+pub quiet-set : (r : Rules) (w v : World) (t : ℕ) (z : TargetState) → v.targets ≡ set w.targets t z → ((z.life ≡ Running → ⊥) → HoldsNothing z.memory) → Conversation r w → (u : ℕ) (s : TargetState) → slice_get v.targets u ≡ Some s → (s.life ≡ Running → ⊥)
     → HoldsNothing s.memory
 quiet-set r w v t z targets own k u s at off = by (cases_eq u t)
   where
@@ -100,7 +100,7 @@ drawing-keeps r w v g k = subst (Conversation r) (sym g.after) (record { talks =
 -- ---- a target opens
 
 -- what goes from a target to another one is of no client's conversation
-off-talk : (n t : ℕ) (p : Post) → p.to.client ≡ false → is_talk_of n (letter_of (target t) p) ≡ false
+pub off-talk : (n t : ℕ) (p : Post) → p.to.client ≡ false → is_talk_of n (letter_of (target t) p) ≡ false
 unfolding is_talk_of
 off-talk n t p to = by (is_tell p.message) (ap (λ b. b && (p.to.number == n)) to)
   where

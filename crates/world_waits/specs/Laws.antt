@@ -1,17 +1,31 @@
 -- The laws of what carries what clients wait for, as statements.
-use Rattle.std.specs.Prelude.{ℕ, ◌≡◌, false, [], slice_get, Some}
+use Rattle.std.specs.Prelude.{ℕ, ◌≡◌, ◌⊎◌, true, false, [], slice_get, Some}
 use Rattle.world_base.specs.declared.client.ClientState.{ClientState}
 use Rattle.world_base.specs.declared.target.TargetState.{TargetState}
 use Rattle.world_base.specs.declared.world.World.{World}
 use Rattle.world_base.specs.ClientTurns.{waits}
-use Rattle.world_base.specs.Events.{Rules}
+use Rattle.world_base.specs.Events.{ClientGoes, ClientHears, Rules, TargetHearsRightly, TargetIdles}
 use Rattle.world_base.specs.Stops.{NumbersDrawn, OpeningFails, TargetCut, TargetGivenUp, TargetOpens, swept}
+use Rattle.world_waits.specs.TargetLaws.{is_between}
 use Rattle.world_waits.specs.Waits.{Conversation, HoldsNothing}
 
 -- where nothing is in flight and without an answer, no target holds anything, and no client waits
 abbrev pub ConversationsBegin : Type 0
 ConversationsBegin =
     (r : Rules) (w : World) → w.messages ≡ [] → w.asked ≡ [] → ((t : ℕ) (s : TargetState) → slice_get w.targets t ≡ Some s → HoldsNothing s.memory) → ((n : ℕ) (c : ClientState) → slice_get w.clients n ≡ Some c → waits c ≡ false) → Conversation r w
+
+-- A client goes on without a message, or hears one: an answer, or the news that there is none, upon which its attempt ends, or it asks what
+-- became of it.
+abbrev pub ClientsKeepConversations : Type 0
+ClientsKeepConversations = (r : Rules) (w v : World) → ClientGoes r w v ⊎ ClientHears r w v → Conversation r w → Conversation r v
+
+-- a target does its idle work
+abbrev pub IdleWorkKeepsConversations : Type 0
+IdleWorkKeepsConversations = (r : Rules) (w v : World) → TargetIdles r w v → Conversation r w → Conversation r v
+
+-- a target hears from another one what has to do with no client
+abbrev pub OthersKeepConversations : Type 0
+OthersKeepConversations = (r : Rules) (w v : World) → (g : TargetHearsRightly r w v) → is_between g.l.message ≡ true → Conversation r w → Conversation r v
 
 -- a turn of any kind is cut, and its target stops
 abbrev pub CutsKeepConversations : Type 0

@@ -3,4 +3,6 @@ pub mod Waits
 pub mod Lists
 pub mod Losing
 pub mod Events
+pub mod ClientLaws
+pub mod TargetLaws
 pub mod Laws

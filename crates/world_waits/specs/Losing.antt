@@ -38,7 +38,7 @@ module _ (gone : ℕ → Bool) (down : Bool) (p : ClientPlan) (n : ℕ) (c : Cli
 
   -- a question was lost
   lost : (q : Post) → IsQuestion p c q → (ls : List Letter) → ls ≡ reset_letter down (letter_of (client n) q) ∷ [] → (hs : List Held) → hs ≡ [] → (as' : List Letter) → as' ≡ [] → TalksSo p n c ls hs as' true
-  lost q is ls one hs none as' free = IsReplied q (reset_letter down (letter_of (client n) q)) is (record { from = refl; to = refl; says = IsLost q.to.number down refl }) one none free
+  lost q is ls one hs none as' free = IsReplied q (reset_letter down (letter_of (client n) q)) is (record { from = refl; to = refl; says = IsLost down refl }) one none free
 
   quiet-left : (letters : List Letter) (held : List Held) (asked : List Letter) → IsQuiet letters held asked → Left letters held asked false
   quiet-left letters held asked k = record {

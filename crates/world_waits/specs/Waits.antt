@@ -89,14 +89,14 @@ pub data IsQuestion (p : ClientPlan) (c : ClientState) (q : Post) : Type 0 where
   ItsAsk : (k : Epoch) (s : Post) (f : CommitRequest) → k.0 ≤ c.tracker.0 → request_sent p k c ≡ Some s → s.message ≡ commit_of f → q ≡ record { to = s.to; message = message.Ask f.attempt } → IsQuestion p c q
 
 -- the answer to it, or the news that there is none
-pub data IsReplyTo (q : Message) (m : Message) : Type 0 where
-  IsAnswer : Answers q m → IsReplyTo q m
-  IsLost : (t : ℕ) (down : Bool) → m ≡ reset_message t down q → IsReplyTo q m
+pub data IsReplyTo (q : Post) (m : Message) : Type 0 where
+  IsAnswer : Answers q.message m → IsReplyTo q m
+  IsLost : (down : Bool) → m ≡ reset_message q.to.number down q.message → IsReplyTo q m
 
 pub record IsReply (n : ℕ) (q : Post) (l : Letter) : Type 0 where
   pub from : l.from ≡ q.to
   pub to : l.to ≡ client n
-  pub says : IsReplyTo q.message l.message
+  pub says : IsReplyTo q l.message
 
 -- What the target that was asked holds of it: a read that waits, at an epoch, which is the request's own where it has one; the attempt whose
 -- writes were handed over, or that was asked after; or the snapshot or the aggregation that is to be made.

@@ -1,7 +1,7 @@
 // What carries what clients wait for, where targets may stop and open again.
 #![tactic(auto)]
 
-ghost use Rattle.world_waits.specs.Laws.{ConversationsBegin, CutsKeepConversations, FailuresKeepConversations, GivingUpKeepsConversations, NumbersKeepConversations, OpeningsKeepConversations, SweepsKeepConversations};
+ghost use Rattle.world_waits.specs.Laws.{ClientsKeepConversations, ConversationsBegin, CutsKeepConversations, FailuresKeepConversations, GivingUpKeepsConversations, IdleWorkKeepsConversations, NumbersKeepConversations, OpeningsKeepConversations, OthersKeepConversations, SweepsKeepConversations};
 
 /// Says what carries what clients wait for, where targets may stop, and where snapshots and aggregates are
 /// made. Of a client that waits, beside the letters that tell a tracker, just one thing goes about: what it
@@ -9,11 +9,17 @@ ghost use Rattle.world_waits.specs.Laws.{ConversationsBegin, CutsKeepConversatio
 /// told, or a snapshot or an aggregation that is collected; or the answer to it is in flight, or the news
 /// that there is none. What it asked is its request, or what became of its attempt, where the writes were
 /// lost. While it is in flight or held, and only then, it is without an answer; of a client that doesn't
-/// wait nothing goes about; and a target that doesn't run holds nothing. So it is at the beginning, and a
-/// stop anywhere in a turn, an opening, a failed one, a target that is given up, what is lost then and
-/// numbers that are drawn keep it so.
+/// wait nothing goes about; and a target that doesn't run holds nothing. So it is at the beginning, and
+/// what clients do keeps it so, also where they hear that what they asked was lost; and so do the idle
+/// work of targets, what they hear from one another of attempts to prepare, marks and questions, a stop
+/// anywhere in a turn, an opening, a failed one, a target that is given up, what is lost then, and numbers
+/// that are drawn. What targets hear of clients' requests, and by what they answer them, isn't treated here
+/// yet.
 pub fn laws_of_waits()
     ensures begin { ConversationsBegin }
+    ensures clients { ClientsKeepConversations }
+    ensures idle { IdleWorkKeepsConversations }
+    ensures others { OthersKeepConversations }
     ensures cut { CutsKeepConversations }
     ensures opening { OpeningsKeepConversations }
     ensures failure { FailuresKeepConversations }
