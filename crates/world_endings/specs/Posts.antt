@@ -17,6 +17,7 @@ use Rattle.base_messages.specs.declared.message.Message.TheVariants as message
 use Rattle.base_messages.specs.declared.message.Post.{Post}
 use Rattle.model_laws.specs.Members.{has-cases}
 use Rattle.dtx_base.specs.declared.leading.Undecided.{Undecided}
+use Rattle.dtx_base.specs.Asking.{ask_heard, asked_of, asked_open}
 use Rattle.dtx_base.specs.Joining as member
 use Rattle.dtx_base.specs.Leading.{LeaderOf, down_told, entry_led, first_down, mark_reset, prepare_reset, quietly, status_asked, to_target, undecided_of}
 use Rattle.dtx_base.specs.Rows.{is_among}
@@ -33,7 +34,7 @@ use Rattle.world_base.specs.Commits as commit
 use Rattle.world_base.specs.Further.{CommitDown, HearsFurther, IsSpent, IsUnknown, reset_by}
 use Rattle.world_base.specs.Roles.{leader_at, member_at}
 use Rattle.world_base.specs.Snapshots as snap
-use Rattle.world_base.specs.Statuses.{AtOnce, EndsAs, IsDone, ask_heard, ask_left, asked_of, asked_open, status_refusal}
+use Rattle.world_base.specs.Statuses.{AtOnce, EndsAs, IsDone, ask_left, status_refusal}
 use Rattle.world_base.specs.TargetTurns.{commit_request}
 use Rattle.world_lines.specs.EndingLaws.{all-unresolved-end, ended-end, hears-tells, refuses}
 use Rattle.world_lines.specs.Lines.{MayEnd, TellsEnd, is_member_refusal}

@@ -365,7 +365,7 @@ hearing-keeps r w n c l rest here awake takes to k = by (is_tell l.message) refl
             let i = present-of c now in
             let only = talk-only n w.messages l (letter_of (client n) q) rest takes its one in
             absurd (not-to n n q (question-about p c i.a q i.at is).to_target (sym (ap (λ x. x.to) only.0) ∙ to))
-        by' true now (IsHeld q x is holds none one free) = absurd (talk-none n w.messages l rest takes its none)
+        by' true now (IsHeld q x is holds none one done) = absurd (talk-none n w.messages l rest takes its none)
         by' true now (IsReplied q m is got one none done) =
             let only = talk-only n w.messages l m rest takes its one in
             answer h now (present-of c now) q is (subst (IsReply n q) (sym only.0) got) (record { no_letters = only.1; none_held = none; none_asked = done })

@@ -1,6 +1,6 @@
 -- A target's turn that has to do with no client keeps the conversations.
-use Rattle.std.specs.Prelude.{ℕ, ◌≡◌, ◌⊎◌, ◌+◌, ◌++◌, ◌==◌, ◌&&◌, ◌||◌, Bool, true, false, not, if◌then◌else◌, List, [], ◌∷◌, drop, filter, map, take, slice_get, Option, Some, None, refl}
-use Rattle.std.proofs.Common.{append-nil, sym, ◌∙◌, ap, subst, arith, inl, inr}
+use Rattle.std.specs.Prelude.{ℕ, ◌≡◌, ◌+◌, ◌++◌, ◌==◌, ◌&&◌, ◌||◌, Bool, true, false, not, if◌then◌else◌, List, [], ◌∷◌, filter, map, slice_get, Option, Some, None, refl}
+use Rattle.std.proofs.Common.{append-nil, sym, ◌∙◌, ap, subst, inl, inr}
 use Rattle.std.proofs.Math.ListN.{set}
 use Rattle.std.proofs.lemmas.List.Elements.{filter-append}
 use Rattle.base_types.specs.declared.entry.Entry.{Entry}
@@ -44,7 +44,7 @@ use Rattle.world_base.specs.Roles.{leader_at, member_at, with_unsettled}
 use Rattle.world_talks.specs.AskLaws.{sent-is-asked}
 use Rattle.world_talks.specs.Asked.{ARead, ASnapshot, AnAggregation, Asked, ItsWrites}
 use Rattle.world_talks.specs.TalkLaws.{talk-none, talk-only, talk-taken}
-use Rattle.world_waits.specs.ClientLaws.{IsAt, no-more, present-of, without-no, without-yes}
+use Rattle.world_waits.specs.ClientLaws.{no-more, present-of, without-no, without-yes}
 use Rattle.world_waits.specs.Events.{off-talk, quiet-set, same-on}
 use Rattle.world_waits.specs.Lists.{filter-no, filter-none, filter-yes, held-same}
 use Rattle.world_waits.specs.Waits.{Conversation, IsAsked, IsHeld, IsQuestion, IsReplied, ItsAsk, ItsRequest, TalksSo, asked_of, collected_at, held_of, held_by, held_from, is_asked_by, is_collected_of, is_open_of, is_parked_of, open_at, parked_at}
