@@ -1,5 +1,5 @@
 -- A turn that changes nothing of what is kept.
-use Rattle.std.proofs.Common.{◌≡◌, refl, sym, ap, subst, Option, Some, Result, Ok, Err}
+use Rattle.std.proofs.Common.{◌≡◌, ◌∙◌, refl, sym, ap, subst, Option, Some, Result, Ok, Err}
 use Rattle.std.specs.Prelude.{IfOk, IfErr}
 use Rattle.daos_model.specs.declared.durable.Durable.{Durable}
 use Rattle.vos_store.specs.Calls.{State}
@@ -31,6 +31,7 @@ module _ (left_by : Kept → TargetMemory × Did) (d : Durable) (h : State) (new
   pub silent-wanting : (r : Result Did TargetStop) → r ≡ Err stop_memory → Comes r
   silent-wanting r is = subst Comes (sym is) (now_partway NoChange Looking d h h new (record { kept_is = at; free = refl }))
 
-  pub silent-said : (r : Result Did TargetStop) → IfOk r (λ did. ◌≡◌ {A = TargetMemory × Did} (n, did) (left_by (kept d h))) → IfErr r (λ e. e ≡ stop_memory) → Comes r
-  silent-said (Ok did) is wanting = silent-done did is
-  silent-said (Err e) is wanting = silent-wanting (Err e) (ap (λ x. Err x) wanting)
+  -- or this is told, where memory isn't wanting
+  pub silent-said : (told : Did) (r : Result Did TargetStop) → IfOk r (λ did. did ≡ told) → IfErr r (λ e. e ≡ stop_memory) → ◌≡◌ {A = TargetMemory × Did} (n, told) (left_by (kept d h)) → Comes r
+  silent-said told (Ok did) ok wanting is = silent-done did (ap {A = Did} {B = TargetMemory × Did} (λ x. (n, x)) ok ∙ is)
+  silent-said told (Err e) ok wanting is = silent-wanting (Err e) (ap (λ x. Err x) wanting)

@@ -19,7 +19,7 @@ use Rattle.daos_model.specs.Changes.{reopened}
 use Rattle.daos_model.specs.Durables.{entry_of}
 use Rattle.daos_model.specs.declared.durable.Durable.{Durable}
 use Rattle.dtx_base.specs.LeaderLaws.{same-is}
-use Rattle.world_attempts.specs.Attempts.{IsBorn, IsHeld, entry_at, entry_in, leader_of}
+use Rattle.world_attempts.specs.Attempts.{IsBorn, IsHeld, IsToLeader, entry_at, entry_in, leader_of}
 use Rattle.world_attempts.specs.Counting.{has-taken}
 use Rattle.world_attempts.specs.History.{Aborted, Decided, GrowsBy, History, Tells}
 use Rattle.world_attempts.specs.MarkTurns.{target-is}
@@ -43,7 +43,7 @@ use Rattle.world_outcomes.specs.Hearing.{held-back}
 use Rattle.world_outcomes.specs.Outcomes.{commits}
 use Rattle.world_outcomes.specs.Premises.{hands}
 use Rattle.world_outcomes.specs.Storing.{hearing-cut, idling-cut, is_stored_by}
-use Rattle.world_outcomes.specs.Telling.{IsOfEntry, silent-tells}
+use Rattle.world_outcomes.specs.Telling.{silent-tells}
 use Rattle.world_outcomes.specs.Untried.{hearing-untried, idling-untried, untried-back, untried-both, untried-one}
 
 -- ---- events in which nothing is told of ends
@@ -160,18 +160,17 @@ module _ (r : Rules) (h later : History) (w v : World) (k : Attempts r h w) (k2 
 pub cut-told : (r : Rules) (h : History) (w v : World) → Attempts r h w → (g : TargetCut r w v) (x : AttemptId) (own : Option Epoch) (how : Outcome) → Tells (cut_told g.work g.s g.cut) x own how → IsHeld w (leader_of r x) x
 cut-told r h w v k g x own how tells = by g.work g.in_hand tells
   where
+    -- an answer goes to the leader of its attempt
+    of-answer : (l : Letter) → l.to ≡ target g.t → (a : AttemptId) (refusal : Option Outcome) → IsToLeader r a l.from l.to → Tells (ack_told g.s a refusal g.cut.left.durable) x own how → IsHeld w (leader_of r x) x
+    of-answer l to a refusal way tells =
+        let old = silent-tells a refusal (entry_of g.s.durable a) false false (is_some (entry_of g.cut.left.durable a)) x own how tells in
+        let leads : g.t ≡ leader_of r a = target-is g.t (leader_of r a) (sym to ∙ way.receiver) in
+        subst (λ y. IsHeld w (leader_of r y) y) (sym old.end.same) (subst (λ u. IsHeld w u a) leads (record { entry = old.entry; found = ap (λ o. entry_in o a) g.here ∙ old.found }))
+
     of-message : (l : Letter) (rest : List Letter) → Takes w.messages l rest → l.to ≡ target g.t → (m : Message) → l.message ≡ m → Tells (message_told m g.s g.cut) x own how → IsHeld w (leader_of r x) x
     of-message l rest takes to (message.Ack a inc refusal) is tells =
-        subst (λ y. IsHeld w (leader_of r y) y) (sym old.end.same) (subst (λ u. IsHeld w u a) leads (record { entry = old.entry; found = ap (λ o. entry_in o a) g.here ∙ old.found }))
-      where
-        old : IsOfEntry (entry_of g.s.durable a) a x own how
-        old = silent-tells a refusal (entry_of g.s.durable a) false false (is_some (entry_of g.cut.left.durable a)) x own how tells
-
-        says : IsAckRight r h w l.from l.to a inc refusal
-        says = subst (IsSaidSo r h w l.from l.to) is (k.on.letters l (has-taken w.messages l rest takes))
-
-        leads : g.t ≡ leader_of r a
-        leads = target-is g.t (leader_of r a) (sym to ∙ says.way.receiver)
+        let says : IsAckRight r h w l.from l.to a inc refusal = subst (IsSaidSo r h w l.from l.to) is (k.on.letters l (has-taken w.messages l rest takes)) in
+        of-answer l to a refusal says.way tells
     of-message l rest takes to m is tells = absurd tells.sent
 
     by : (a : AtWork) → IsInHand w g.t a → Tells (cut_told a g.s g.cut) x own how → IsHeld w (leader_of r x) x

@@ -1,6 +1,6 @@
 use Rattle.world_losses.specs.Beginning.{losses-begin}
-use Rattle.world_losses.specs.Laws.{cuts-keep, drawing-keeps, failures-keep, giving-up-keeps, openings-keep, sweeping-keeps}
+use Rattle.world_losses.specs.Laws.{answers-keep, cuts-keep, drawing-keeps, failures-keep, giving-up-keeps, openings-keep, resets-keep, sweeping-keeps}
 use Rattle.world_losses.proofs.laws_of_losses.Goals as goal
 
 pub returns : goal.returns
-returns c = record { begin = losses-begin; cuts = cuts-keep; opens = openings-keep; fails = failures-keep; given_up = giving-up-keeps; swept = sweeping-keeps; drawn = drawing-keeps }
+returns c = record { begin = losses-begin; cuts = cuts-keep; opens = openings-keep; fails = failures-keep; given_up = giving-up-keeps; swept = sweeping-keeps; answers = answers-keep; resets = resets-keep; drawn = drawing-keeps }
