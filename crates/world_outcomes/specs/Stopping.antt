@@ -30,9 +30,9 @@ use Rattle.world_base.specs.declared.world.World.{World}
 use Rattle.world_base.specs.CutTurns.{Cutting}
 use Rattle.world_base.specs.Events.{Rules, kept, target_plan}
 use Rattle.world_base.specs.Letters.{Takes, letter_of, letters_of, target}
-use Rattle.world_base.specs.Statuses.{opening_posts}
+use Rattle.world_base.specs.Statuses.{opening_posts, status_refusal}
 use Rattle.world_base.specs.Stops.{AtWork, CutOf, Hearing, IdleWork, IsInHand, NumbersDrawn, OpeningFails, TargetCut, TargetGivenUp, TargetOpens, after_cut, is_not_to, is_not_to_down, is_to, is_to_down, opened_at, reset_letter, resets, restart_line, stopped_at, stops_so_far, swept}
-use Rattle.world_fates.specs.Facts.{Attempts, IsAckRight, IsPrepareRight, IsSaidSo}
+use Rattle.world_fates.specs.Facts.{Attempts, IsAckRight, IsPrepareRight, IsSaidSo, IsStateRight}
 use Rattle.world_stops.specs.CutAnswers.{ack_told}
 use Rattle.world_stops.specs.CutEvents.{cut_told, message_told}
 use Rattle.world_stops.specs.Openings.{alone, committed_end, opening_told}
@@ -171,6 +171,9 @@ cut-told r h w v k g x own how tells = by g.work g.in_hand tells
     of-message l rest takes to (message.Ack a inc refusal) is tells =
         let says : IsAckRight r h w l.from l.to a inc refusal = subst (IsSaidSo r h w l.from l.to) is (k.on.letters l (has-taken w.messages l rest takes)) in
         of-answer l to a refusal says.way tells
+    of-message l rest takes to (message.StatusIs a inc how2) is tells =
+        let says : IsStateRight r h w l.from l.to a inc how2 = subst (IsSaidSo r h w l.from l.to) is (k.on.letters l (has-taken w.messages l rest takes)) in
+        of-answer l to a (status_refusal a how2) says.way tells
     of-message l rest takes to m is tells = absurd tells.sent
 
     by : (a : AtWork) → IsInHand w g.t a → Tells (cut_told a g.s g.cut) x own how → IsHeld w (leader_of r x) x

@@ -7,7 +7,9 @@ use Rattle.base_types.specs.declared.id.AttemptId.{AttemptId}
 use Rattle.base_types.specs.declared.outcome.FloorWhy.{FloorWhy}
 use Rattle.base_types.specs.declared.operation.MinorWrite.{MinorWrite}
 use Rattle.base_types.specs.declared.outcome.Outcome.{Outcome}
-use Rattle.base_types.specs.declared.outcome.Outcome.TheVariants.{Committed}
+use Rattle.base_types.specs.declared.entry.EntryState.TheVariants as state
+use Rattle.base_types.specs.declared.outcome.Cause.TheVariants.{Unresolved}
+use Rattle.base_types.specs.declared.outcome.Outcome.TheVariants.{Committed, Restart}
 use Rattle.base_types.specs.declared.report.Line.{Line}
 use Rattle.model_laws.specs.Members.{Has}
 use Rattle.base_messages.specs.declared.message.Message.{Message, more_of-Message}
@@ -29,7 +31,7 @@ use Rattle.world_fates.specs.Facts.{Attempts, IsAckRight, IsSaidSo}
 use Rattle.world_fates.specs.Told.{silent_end, told_end}
 use Rattle.world_questions.specs.Known.{knows-fates}
 use Rattle.world_stops.specs.CutAnswers.{ack_told}
-use Rattle.world_stops.specs.CutEvents.{IsWithoutStops, cut_told, is_without_stops, message_told}
+use Rattle.world_stops.specs.CutEvents.{IsWithoutSnapshots, cut_told, is_without_snapshots, message_told}
 use Rattle.world_stops.specs.Parts.{now-here, now-there}
 use Rattle.world_base.specs.declared.letter.Letter.{Letter}
 use Rattle.world_base.specs.declared.request.CommitRequest.{CommitRequest}
@@ -145,16 +147,15 @@ module _ (r : Rules) (h later : History) (w v : World) (Q : CommitsAreNew r h w)
         let one : entry_at w (leader_of r y) y ≡ Some has.0 = ap (λ n. entry_at w n y) (ap (leader_of r) (sym same) ∙ sym leads) ∙ ap (entry_at w g.t) (sym same) ∙ held in
         let no : ⊥ = cc (none, one) in no
 
-    -- an Ack that refuses
-    refused : (l : Letter) (rest : List Letter) → Takes w.messages l rest → (y : AttemptId) (inc : ℕ) (how : Outcome) → l.message ≡ message.Ack y inc (Some how) → GrowsBy h (ack_told g.s y (Some how) g.cut.left.durable) later
+    -- an answer that refuses
+    refused : (l : Letter) (rest : List Letter) → Takes w.messages l rest → (y : AttemptId) (inc : ℕ) (how : Outcome) → how ≢ Committed → GrowsBy h (ack_told g.s y (Some how) g.cut.left.durable) later
         → CutTurn (ack.AckNext plan g.s.memory l.from.number y inc (Some how)) none_issued g.t ack.Heard (kept g.s) g.cut → (x ≡ y) ⊎ (x ≡ y → ⊥) → IsKept g.cut.left.durable x ⊎ Aborted later x
-    refused l rest takes y inc how is grows turn (inr apart) =
+    refused l rest takes y inc how uncommitted grows turn (inr apart) =
         inl (cut-spares (ack.AckNext plan g.s.memory l.from.number y inc (Some how)) x (λ a. Unit {0}) (λ a k o b next z. (other-left plan g.s.memory l.from.number y inc how x apart a k o b next, tt)) none_issued g.t ack.Heard (kept g.s) g.cut turn tt has)
-    refused l rest takes y inc how is grows turn (inl same) =
-        let says : IsAckRight r h w l.from l.to y inc (Some how) = subst (IsSaidSo r h w l.from l.to) is (A.on.letters l (has-taken w.messages l rest takes)) in
-        told-gone h later g.s x how g.cut.left.durable says.held (subst (λ z. GrowsBy h (ack_told g.s z (Some how) g.cut.left.durable) later) (sym same) grows) has (entry_of g.cut.left.durable x) refl
+    refused l rest takes y inc how uncommitted grows turn (inl same) =
+        told-gone h later g.s x how g.cut.left.durable uncommitted (subst (λ z. GrowsBy h (ack_told g.s z (Some how) g.cut.left.durable) later) (sym same) grows) has (entry_of g.cut.left.durable x) refl
 
-    by-kind : (l : Letter) (reading number : ℕ) (rest : List Letter) → Takes w.messages l rest → l.to ≡ target g.t → (m : Message) → l.message ≡ m → is_without_stops m ≡ true
+    by-kind : (l : Letter) (reading number : ℕ) (rest : List Letter) → Takes w.messages l rest → l.to ≡ target g.t → (m : Message) → l.message ≡ m → is_without_snapshots m ≡ true
         → HearingIsCut is_prepared number plan g.s.opening g.s.memory reading l.from m (kept g.s) g.cut → GrowsBy h (message_told m g.s g.cut) later → IsKept g.cut.left.durable x ⊎ Aborted later x
     by-kind l reading number rest takes to (message.Fetch y op group ep first tracker rd snapshot) is ours turn grows =
         inl (cut-spares (read.FetchNext plan g.s.memory reading (fetch_request y op group ep first tracker rd snapshot)) x (λ a. Unit {0})
@@ -166,7 +167,14 @@ module _ (r : Rules) (h later : History) (w v : World) (Q : CommitsAreNew r h w)
         (λ a k o b next z. ((prepare-spares plan g.s.opening g.s.memory (prepare_request e first ws inc) x (led-apart l rest takes to e.attempt (message.Prepare e first ws inc) is refl) a k o b next).0, tt)) none_issued g.t prepare.Heard (kept g.s) g.cut turn tt has)
     by-kind l reading number rest takes to (message.Ack y inc None) is ours turn grows =
         inl (cut-spares (ack.AckNext plan g.s.memory l.from.number y inc None) x (λ a. Unit {0}) (λ a k o b next z. (ack-left plan g.s.memory l.from.number y inc x a k o b next, tt)) none_issued g.t ack.Heard (kept g.s) g.cut turn tt has)
-    by-kind l reading number rest takes to (message.Ack y inc (Some how)) is ours turn grows = refused l rest takes y inc how is grows turn (one-or_other x y)
+    by-kind l reading number rest takes to (message.Ack y inc (Some how)) is ours turn grows =
+        let says : IsAckRight r h w l.from l.to y inc (Some how) = subst (IsSaidSo r h w l.from l.to) is (A.on.letters l (has-taken w.messages l rest takes)) in
+        refused l rest takes y inc how says.held grows turn (one-or_other x y)
+    by-kind l reading number rest takes to (message.StatusIs y inc state.Absent) is ours turn grows = refused l rest takes y inc (Restart (Unresolved y)) (λ same. let no : ⊥ = cc in no) grows turn (one-or_other x y)
+    by-kind l reading number rest takes to (message.StatusIs y inc state.Prepared) is ours turn grows =
+        inl (cut-spares (ack.AckNext plan g.s.memory l.from.number y inc None) x (λ a. Unit {0}) (λ a k o b next z. (ack-left plan g.s.memory l.from.number y inc x a k o b next, tt)) none_issued g.t ack.Heard (kept g.s) g.cut turn tt has)
+    by-kind l reading number rest takes to (message.StatusIs y inc state.Committed) is ours turn grows =
+        inl (cut-spares (ack.AckNext plan g.s.memory l.from.number y inc None) x (λ a. Unit {0}) (λ a k o b next z. (ack-left plan g.s.memory l.from.number y inc x a k o b next, tt)) none_issued g.t ack.Heard (kept g.s) g.cut turn tt has)
     by-kind l reading number rest takes to (message.Mark inc marks) is ours turn grows =
         inl (cut-spares (mark.MarkNext is_prepared) x (NoneIs x) (mark-left x) none_issued g.t marks (kept g.s) g.cut turn (λ a c i. led-apart l rest takes to a (message.Mark inc marks) is (c, i)) has)
     by-kind l reading number rest takes to (message.Marked inc ids) is ours turn grows =
@@ -182,18 +190,17 @@ module _ (r : Rules) (h later : History) (w v : World) (Q : CommitsAreNew r h w)
     by-kind l reading number rest takes to (message.Freeze y c s) is ours turn grows = let no : ⊥ = cc in absurd no
     by-kind l reading number rest takes to (message.Held y refusal) is ours turn grows = let no : ⊥ = cc in absurd no
     by-kind l reading number rest takes to (message.Prune y c tracker e) is ours turn grows = let no : ⊥ = cc in absurd no
-    by-kind l reading number rest takes to (message.StatusIs y inc how) is ours turn grows = let no : ⊥ = cc in absurd no
     by-kind l reading number rest takes to m is ours turn grows = absurd turn
 
-    own-kept : IsWithoutStops g.work → GrowsBy h (cut_told g.work g.s g.cut) later → IsKept g.cut.left.durable x ⊎ Aborted later x
+    own-kept : IsWithoutSnapshots g.work → GrowsBy h (cut_told g.work g.s g.cut) later → IsKept g.cut.left.durable x ⊎ Aborted later x
     own-kept ours grows = by g.work ours grows g.in_hand g.turn
       where
-        by : (a : AtWork) → IsWithoutStops a → GrowsBy h (cut_told a g.s g.cut) later → IsInHand w g.t a → CutOf plan g.s a g.cut → IsKept g.cut.left.durable x ⊎ Aborted later x
+        by : (a : AtWork) → IsWithoutSnapshots a → GrowsBy h (cut_told a g.s g.cut) later → IsInHand w g.t a → CutOf plan g.s a g.cut → IsKept g.cut.left.durable x ⊎ Aborted later x
         by (Hearing l reading number) ours grows hand turn = by-kind l reading number hand.0.0 hand.0.1 hand.1 l.message refl ours turn grows
         by IdleWork ours grows hand turn = inl (cut-spares IdleNext x (λ a. Unit {0}) (λ a k o b next z. ((idle-spares x a k o b next).0, tt)) none_issued g.t g.s.memory.leader.decided (kept g.s) g.cut turn tt has)
 
   -- what was stored by its leader is stored, or is aborted
-  pub cut-born : IsWithoutStops g.work → GrowsBy h (cut_told g.work g.s g.cut) later → (x : AttemptId) → IsBorn r h w x → IsBorn r later v x
+  pub cut-born : IsWithoutSnapshots g.work → GrowsBy h (cut_told g.work g.s g.cut) later → (x : AttemptId) → IsBorn r h w x → IsBorn r later v x
   cut-born ours grows x (inr a) = inr (grows.aborted x a)
   cut-born ours grows x (inl k) = elim (one-or_another (leader_of r x) g.t) [
     | inl is ↦

@@ -12,7 +12,7 @@ use Rattle.world_fates.specs.Facts.{Attempts}
 use Rattle.world_questions.specs.Facts.{Questions}
 use Rattle.world_questions.specs.Flying.{IsWithoutCollections}
 use Rattle.world_questions.specs.Losing.{WaitsForNone}
-use Rattle.world_stops.specs.CutEvents.{IsWithoutStops, cut_told}
+use Rattle.world_stops.specs.CutEvents.{IsWithoutSnapshots, cut_told}
 use Rattle.world_base.specs.declared.letter.Letter.{Letter}
 use Rattle.world_base.specs.declared.target.TargetState.{TargetState}
 use Rattle.world_base.specs.declared.world.World.{World}
@@ -28,9 +28,9 @@ pub record IsNothingAsked (w : World) : Type 0 where
 abbrev pub QuestionsBegin : Type 0
 QuestionsBegin = (r : Rules) (h : History) (w : World) → IsNothingAsked w → Questions r h w
 
--- a turn that is cut is one as without stops, or asks for what is there
+-- a turn that is cut is one in which nothing is heard of snapshots and aggregations
 abbrev pub AreCutsPlain : {r : Rules} {w v : World} → Happening r w v → Type 0
-AreCutsPlain (IsCut g) = IsWithoutStops g.work
+AreCutsPlain (IsCut g) = IsWithoutSnapshots g.work
 AreCutsPlain e = Unit {0}
 
 -- What is aborted stays so; and where a turn is cut, that is aborted besides which would be told to be if clients waited and the target went on.
@@ -39,7 +39,7 @@ AbortsGrow h later (IsCut g) = GrowsBy h (cut_told g.work g.s g.cut) later
 AbortsGrow h later e = (x : AttemptId) → Aborted h x → Aborted later x
 
 -- Whatever happens keeps them, beside the facts of attempts, which hold before and after it; but for what is heard of snapshots and
--- aggregations, and the cuts of such turns and of answers to a Status.
+-- aggregations, and the cuts of such turns.
 abbrev pub HappeningsKeepQuestions : Type 0
 HappeningsKeepQuestions =
     (r : Rules) (h later : History) (w v : World) → AskedRight r h w → Attempts r h w → (e : Happening r w v) → IsWithoutCollections e → AreCutsPlain e → AbortsGrow h later e → Attempts r later v → Questions r h w → Questions r later v
