@@ -224,4 +224,3 @@ parked-are-asked w none k m s p here i = let a = k m s p here i in record { of =
     by : (x : AttemptId) (ask : Option AttemptId) → IsOnQuery w m x ask → Flies w (IsQueryOf m x ask)
     by x ask (IsAsked f) = f
     by x ask (fact.IsReset (l, j, q)) = absurd (none l q.leader (λ y. y ≡ message.Query x ask) j q.tells)
-

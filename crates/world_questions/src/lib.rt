@@ -10,9 +10,9 @@ ghost use Rattle.world_questions.specs.Laws.{HappeningsKeepQuestions, QuestionsA
 /// nothing of the attempt is prepared there; or the attempt is aborted and its leader stopped, which may
 /// have told nobody. A leader that waits for an attempt's end waits for a member. It is so where nothing
 /// is remembered and nothing in flight; and whatever happens keeps it so, beside the facts of attempts:
-/// turns, what is heard of stops, stops in the middle of turns as without stops, openings that come about
+/// turns, what is heard of stops, stops in the middle of turns, openings that come about
 /// and that fail, targets that are given up, and the loss of what goes to them. What is heard of
-/// snapshots and aggregations isn't treated, nor stops in such turns and in the answer to a Status.
+/// snapshots and aggregations isn't treated, nor stops in such turns.
 /// Where nothing stopped, it is what is said of runs without stops (`world_asks`).
 pub fn laws_of_questions()
     ensures begin { QuestionsBegin }
