@@ -1,5 +1,5 @@
 -- A leader whose turn is cut keeps the entries that it leads, but for one of an attempt that it aborted.
-use Rattle.std.specs.Prelude.{ℕ, ◌≡◌, ◌≢◌, ◌⊎◌, Bool, true, false, ◌&&◌, List, [], ◌∷◌, slice_get, Option, Some, None, refl, is_some, if◌then◌else◌}
+use Rattle.std.specs.Prelude.{ℕ, ◌≡◌, ◌≢◌, ◌⊎◌, Bool, true, false, List, [], ◌∷◌, Option, Some, None, refl, is_some}
 use Rattle.std.proofs.Common.{sym, ◌∙◌, ap, subst, inl, inr}
 use Rattle.base_types.specs.declared.entry.Entry.{Entry}
 use Rattle.base_types.specs.declared.epoch.Epoch.{Epoch}
@@ -12,16 +12,14 @@ use Rattle.base_types.specs.declared.outcome.Cause.TheVariants.{Unresolved}
 use Rattle.base_types.specs.declared.outcome.Outcome.TheVariants.{Committed, Restart}
 use Rattle.base_types.specs.declared.report.Line.{Line}
 use Rattle.model_laws.specs.Members.{Has}
-use Rattle.base_messages.specs.declared.message.Message.{Message, more_of-Message}
+use Rattle.base_messages.specs.declared.message.Message.{Message}
 use Rattle.base_messages.specs.declared.message.Message.TheVariants as message
-use Rattle.base_messages.specs.declared.message.Post.{Post}
 use Rattle.daos_model.specs.BoolLaws.{and_right}
 use Rattle.daos_model.specs.declared.durable.Durable.{Durable}
 use Rattle.daos_model.specs.Durables.{entry_of}
-use Rattle.dtx_base.specs.Leading.{marked_attempt}
 use Rattle.world_asks.specs.Entries.{IsKept, Spares, commit-spares, fetch-spares, idle-spares, kept-step, marked-spares, marking-spares, prepare-spares, verdict-spares}
-use Rattle.world_asks.specs.Knowing.{CommitsAreNew, KnowsAttempts, TellsOf}
-use Rattle.world_attempts.specs.Attempts.{IsBorn, IsHeld, IsFromLeader, IsOther, entry_at, entry_in, leader_of}
+use Rattle.world_asks.specs.Knowing.{CommitsAreNew, TellsOf}
+use Rattle.world_attempts.specs.Attempts.{IsBorn, IsOther, entry_at, entry_in, leader_of}
 use Rattle.world_attempts.specs.Counting.{has-taken}
 use Rattle.world_attempts.specs.History.{Aborted, GrowsBy, History}
 use Rattle.world_attempts.specs.MarkTurns.{target-is}
@@ -40,7 +38,7 @@ use Rattle.world_base.specs.declared.target.TargetPlan.{TargetPlan}
 use Rattle.world_base.specs.declared.target.TargetState.{TargetState}
 use Rattle.world_base.specs.declared.world.World.{World}
 use Rattle.world_base.specs.Acks as ack
-use Rattle.world_base.specs.Changes.{After, Before, Change, InPart, IsPartly, Kept, Prunes, Steps}
+use Rattle.world_base.specs.Changes.{After, Before, Change, InPart, IsPartly, Kept, Prunes}
 use Rattle.world_base.specs.Commits as commit
 use Rattle.world_base.specs.CutTurns.{CommitIsCut, CutHere, CutTurn, Cutting, HearingIsCut, InChange, InQuestion, NoneIsDown, OneIsDown, UnstoredNext, issued_by_commit, issued_by_fetch, none_issued}
 use Rattle.world_base.specs.CutTurns as cutting

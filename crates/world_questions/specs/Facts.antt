@@ -1,5 +1,5 @@
 -- What is told and asked between targets that may stop: the question is in flight, or its answer, or the news that there is none.
-use Rattle.std.specs.Prelude.{ℕ, ◌≡◌, Bool, true, List, Option, Some, None}
+use Rattle.std.specs.Prelude.{ℕ, ◌≡◌, Bool, true, List, Option, None}
 use Rattle.base_types.specs.declared.id.AttemptId.{AttemptId}
 use Rattle.base_types.specs.declared.report.Line.TheVariants as line
 use Rattle.model_laws.specs.Members.{Has}

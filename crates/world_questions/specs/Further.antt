@@ -1,15 +1,9 @@
 -- What is said of inquiries stays so where a target hears of stops.
-use Rattle.std.specs.Prelude.{ℕ, ◌≡◌, ◌⊎◌, Bool, true, false, List, [], ◌∷◌, slice_get, Option, Some, None, refl}
+use Rattle.std.specs.Prelude.{ℕ, ◌≡◌, Bool, true, false, List, [], ◌∷◌, slice_get, Some, None, refl}
 use Rattle.std.proofs.Common.{sym, ◌∙◌, ap, subst, inl, inr}
-use Rattle.base_types.specs.declared.entry.Entry.{Entry}
-use Rattle.base_types.specs.declared.entry.EntryState.{EntryState}
-use Rattle.base_types.specs.declared.epoch.Epoch.{Epoch}
 use Rattle.base_types.specs.declared.id.AttemptId.{AttemptId}
-use Rattle.base_types.specs.declared.operation.MinorWrite.{MinorWrite}
-use Rattle.base_types.specs.declared.report.Line.{Line}
 use Rattle.base_types.specs.declared.report.Line.TheVariants as line
 use Rattle.model_laws.specs.Members.{Has, has-left}
-use Rattle.base_messages.specs.declared.actor.ActorId.{ActorId}
 use Rattle.base_messages.specs.declared.message.Message.{Message, more_of-Message}
 use Rattle.base_messages.specs.declared.message.Message.TheVariants as message
 use Rattle.base_messages.specs.declared.message.Post.{Post}
@@ -18,15 +12,15 @@ use Rattle.dtx_base.specs.declared.member.Inquiry.{Inquiry}
 use Rattle.dtx_base.specs.declared.member.QueryState.TheVariants as state
 use Rattle.dtx_base.specs.Leading.{abort_to}
 use Rattle.dtx_base.specs.Members.{has_target, other_members}
-use Rattle.world_asks.specs.Asks.{Flies, IsMarkOf, IsQuery, IsQueryOf, IsUndecidedTold, IsVerdict, NonePrepares}
-use Rattle.world_asks.specs.Entries.{BringsNot, IsKept}
-use Rattle.world_asks.specs.InquiryKept.{InquiriesSo, InquirySo, SenseStays, still-heard, still-inquired, still-told}
+use Rattle.world_asks.specs.Asks.{IsQuery, IsQueryOf, IsVerdict, NonePrepares}
+use Rattle.world_asks.specs.Entries.{BringsNot}
+use Rattle.world_asks.specs.InquiryKept.{InquirySo, SenseStays, still-heard, still-inquired, still-told}
 use Rattle.world_asks.specs.Knowing.{CommitsAreNew, KnowsAttempts, unborn-still}
 use Rattle.world_asks.specs.Moving.{TargetMoves, heard-moves, now-here, same-there}
-use Rattle.world_asks.specs.Refusing.{Refuses, refusal-told}
+use Rattle.world_asks.specs.Refusing.{refusal-told}
 use Rattle.world_asks.specs.Sending.{MaySend}
 use Rattle.world_asks.specs.Told.{IsPrepareOf, IsRefused, LeavesTold, born-on, held-or, none-or, prepare-is, told-on}
-use Rattle.world_attempts.specs.Attempts.{IsBorn, IsHeld, IsItsEntry, IsOther, entry_at, entry_in, leader_of}
+use Rattle.world_attempts.specs.Attempts.{IsBorn, IsItsEntry, IsOther, entry_in, leader_of}
 use Rattle.world_attempts.specs.Counting.{has-taken}
 use Rattle.world_attempts.specs.History.{Aborted, History}
 use Rattle.world_attempts.specs.MarkTurns.{led-found, target-is}

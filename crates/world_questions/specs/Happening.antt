@@ -1,6 +1,6 @@
 -- Whatever happens keeps what is said of questions between targets.
 use Rattle.std.specs.Prelude.{ℕ, ◌≡◌, [], slice_get, Option, Some, None, refl}
-use Rattle.std.proofs.Common.{ap, subst, sym}
+use Rattle.std.proofs.Common.{subst}
 use Rattle.base_types.specs.declared.id.AttemptId.{AttemptId}
 use Rattle.model_laws.specs.Members.{Has}
 use Rattle.dtx_base.specs.declared.leading.Undecided.{Undecided}
@@ -20,11 +20,11 @@ use Rattle.world_questions.specs.Known.{commits-new, knows-fates}
 use Rattle.world_questions.specs.Lacking.{rows-happen, rows-swept}
 use Rattle.world_questions.specs.Laws.{AbortsGrow, AreCutsPlain, HappeningsKeepQuestions, QuestionsBegin, SweepingKeepsQuestions}
 use Rattle.world_questions.specs.Leaving.{cut-leaves, drawing-leaves, failing-leaves, given_up-leaves, opening-leaves, sweeping-leaves}
-use Rattle.world_questions.specs.Senders.{senders-happen, senders-plain, senders-swept}
+use Rattle.world_questions.specs.Senders.{senders-happen, senders-swept}
 use Rattle.world_questions.specs.Stopping.{cut_loss, drawing_loss, failing_loss, given_up_loss, opening_loss, sweeping_loss}
 use Rattle.world_base.specs.declared.target.TargetState.{TargetState}
 use Rattle.world_base.specs.declared.world.World.{World}
-use Rattle.world_base.specs.Events.{RightEvent, Rules}
+use Rattle.world_base.specs.Events.{Rules}
 use Rattle.world_base.specs.Stops.{Draws, Fails, Further, GivenUp, Happening, IsCut, Opens, Plainly, swept}
 
 module _ (r : Rules) (h later : History) (w v : World) (right : AskedRight r h w) (A : Attempts r h w) (B : Attempts r later v) (k : Questions r h w) where

@@ -1,43 +1,37 @@
 -- What a target that hears of stops names and parks: a Reset, a Status or the answer to it, an Ask, or a Commit with a member that is down.
-use Rattle.std.specs.Prelude.{ℕ, ◌≡◌, ◌⊎◌, ◌==◌, Bool, true, false, not, ◌||◌, List, [], ◌∷◌, ◌++◌, filter, map, Option, Some, None, refl, if◌then◌else◌}
+use Rattle.std.specs.Prelude.{ℕ, ◌≡◌, ◌⊎◌, ◌==◌, Bool, true, false, not, ◌||◌, List, [], ◌∷◌, map, Option, Some, None, refl, if◌then◌else◌}
 use Rattle.std.proofs.Common.{sym, ◌∙◌, ap, subst, inl, inr}
 use Rattle.base_types.specs.declared.entry.Entry.{Entry}
 use Rattle.base_types.specs.declared.entry.Verdict.TheVariants.{Undecided as Undecided_verdict}
 use Rattle.base_types.specs.declared.epoch.Epoch.{Epoch}
 use Rattle.base_types.specs.declared.id.AttemptId.{AttemptId}
 use Rattle.base_types.specs.declared.outcome.FloorWhy.{FloorWhy}
-use Rattle.base_types.specs.declared.outcome.Outcome.{Outcome}
 use Rattle.base_types.specs.declared.outcome.Outcome.TheVariants.{Committed}
 use Rattle.model_laws.specs.Members.{Has, has-cases, has-from_filter, has-from_map, has-left}
 use Rattle.base_messages.specs.declared.actor.ActorId.{ActorId}
 use Rattle.base_messages.specs.declared.message.Message.{Message, more_of-Message}
 use Rattle.base_messages.specs.declared.message.Message.TheVariants as message
-use Rattle.base_messages.specs.declared.message.Post.{Post}
-use Rattle.daos_model.specs.declared.durable.Durable.{Durable}
 use Rattle.dtx_base.specs.declared.leading.Naming.{Naming}
 use Rattle.dtx_base.specs.declared.leading.Undecided.{Undecided}
 use Rattle.dtx_base.specs.declared.member.Parked.{Parked}
 use Rattle.dtx_base.specs.Asking.{ask_heard, asked_of, asked_open, tells_end}
 use Rattle.dtx_base.specs.Joining as member
 use Rattle.dtx_base.specs.Joining.{MemberOf, asker, is_not_waiting, unresolved}
-use Rattle.dtx_base.specs.Leading.{LeaderOf, LeaderStep, answered, attempts_of, down_told, entry_led, first_down, is_not_named_in, knowing, mark_reset, naming, prepare_reset, quietly, reset_heard, reset_of, status_asked, step_knowing, to_target, undecided_of}
+use Rattle.dtx_base.specs.Leading.{LeaderOf, LeaderStep, answered, attempts_of, down_told, entry_led, first_down, is_not_named_in, knowing, mark_reset, naming, prepare_reset, quietly, reset_heard, reset_of, status_asked, to_target, undecided_of}
 use Rattle.dtx_base.specs.Rows.{is_among}
 use Rattle.world_asks.specs.NamedLaws.{IsMarkPost, IsNewlyNamed, acks-names, answered-goes}
-use Rattle.world_asks.specs.ParkedLaws.{IsNewlyParked, ParksAfter, waiting-open}
+use Rattle.world_asks.specs.ParkedLaws.{ParksAfter, waiting-open}
 use Rattle.world_questions.specs.Facts.{IsMarkFor}
 use Rattle.world_base.specs.declared.did.Did.{Did}
 use Rattle.world_base.specs.declared.target.TargetMemory.{TargetMemory}
 use Rattle.world_base.specs.declared.target.TargetPlan.{TargetPlan}
-use Rattle.world_base.specs.Acks as ack
-use Rattle.world_base.specs.Changes.{Change, Kept, Steps}
+use Rattle.world_base.specs.Changes.{Kept}
 use Rattle.world_base.specs.Commits as commit
 use Rattle.world_base.specs.Further.{CommitDown, HearsFurther, IsSpent, IsUnknown, reset_by}
 use Rattle.world_base.specs.MemoryLaws.{ack-leaves}
-use Rattle.world_base.specs.PathLaws.{reached-keeps}
-use Rattle.world_base.specs.Roles.{joins_on, leader_at, leads_on, member_at}
+use Rattle.world_base.specs.Roles.{leader_at, member_at}
 use Rattle.world_base.specs.Statuses.{AtOnce, EndsAs, IsDone, ask_left, reset_joins, reset_leads, reset_left, status_left, status_refusal}
 use Rattle.world_base.specs.TargetTurns.{commit_request}
-use Rattle.world_base.specs.Requests.{with_ticks}
 
 -- ---- which messages these are
 

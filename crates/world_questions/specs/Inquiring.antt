@@ -10,8 +10,8 @@ use Rattle.base_messages.specs.declared.message.Message.{Message}
 use Rattle.base_messages.specs.declared.message.Message.TheVariants as message
 use Rattle.dtx_base.specs.declared.member.Inquiry.{Inquiry}
 use Rattle.dtx_base.specs.Members.{has_target}
-use Rattle.world_asks.specs.Asks.{ByLeader, ByMark, Flies, IsMarkOf, IsQuery, IsQueryOf, IsToBeTold, IsUndecidedTold, IsVerdict, NoneHere, NonePrepares}
-use Rattle.world_asks.specs.InquiryKept.{InquiriesSo, InquirySo, SenseStays, client-inquiries, heard-inquiries, idle-inquiries}
+use Rattle.world_asks.specs.Asks.{ByLeader, ByMark, IsQuery, IsQueryOf, IsVerdict, NoneHere, NonePrepares}
+use Rattle.world_asks.specs.InquiryKept.{InquirySo, SenseStays, client-inquiries, heard-inquiries, idle-inquiries}
 use Rattle.world_asks.specs.Knowing.{CommitsAreNew, KnowsAttempts, TellsOf}
 use Rattle.world_asks.specs.Moving.{all-stay, goes-moves, heard-moves, hears-moves, idle-moves}
 use Rattle.world_asks.specs.RowsKept.{mask_at, mask_in, masks-kept}

@@ -1,5 +1,5 @@
 -- What the facts of attempts say of them where targets may stop, as the laws of questions need it.
-use Rattle.std.specs.Prelude.{ℕ, ◌≡◌, true, false, List, Option}
+use Rattle.std.specs.Prelude.{◌≡◌, false}
 use Rattle.std.proofs.Common.{subst}
 use Rattle.base_types.specs.declared.id.AttemptId.{AttemptId}
 use Rattle.model_laws.specs.Members.{Has}

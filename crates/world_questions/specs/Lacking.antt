@@ -1,5 +1,5 @@
 -- A leader that waits for an attempt's end waits for a member, whatever happens.
-use Rattle.std.specs.Prelude.{ℕ, ◌≡◌, ◌⊎◌, ◌==◌, ◌&&◌, ◌||◌, Bool, true, false, not, List, [], ◌∷◌, filter, map, slice_get, Option, Some, None, refl, if◌then◌else◌}
+use Rattle.std.specs.Prelude.{ℕ, ◌≡◌, ◌⊎◌, ◌==◌, ◌||◌, Bool, true, false, not, List, [], ◌∷◌, filter, map, slice_get, Option, Some, None, refl, if◌then◌else◌}
 use Rattle.std.specs.List.{list_all}
 use Rattle.std.proofs.Common.{sym, ◌∙◌, ap, subst, inl, inr}
 use Rattle.std.proofs.Math.ListN.{set}
@@ -36,7 +36,7 @@ use Rattle.world_fates.specs.Asked.{AskedRight}
 use Rattle.world_fates.specs.Facts.{Attempts}
 use Rattle.world_fates.specs.Rightly.{events-are-right}
 use Rattle.world_questions.specs.Flying.{IsWithoutCollections}
-use Rattle.world_questions.specs.Hearing.{commit-knows, ends-as, is_of_collections, is_of_stops, reset-plain}
+use Rattle.world_questions.specs.Hearing.{commit-knows, ends-as, is_of_stops, reset-plain}
 use Rattle.world_questions.specs.Known.{commits-new, knows-fates}
 use Rattle.world_stops.specs.Parts.{now-here, now-there}
 use Rattle.world_stops.specs.Questions.{opening-undecided, reopened_rows, row-among}
@@ -50,7 +50,7 @@ use Rattle.world_base.specs.Changes.{Kept}
 use Rattle.world_base.specs.Events.{Rules, TargetHearsBy, kept, target_after, target_plan}
 use Rattle.world_base.specs.Further.{HearsFurther, reset_by}
 use Rattle.world_base.specs.Roles.{leader_at}
-use Rattle.world_base.specs.Statuses.{ask_left, reset_left, status_left, status_refusal}
+use Rattle.world_base.specs.Statuses.{ask_left, status_left, status_refusal}
 use Rattle.world_base.specs.Stops.{Draws, Fails, Further, GivenUp, Happening, HearsMore, IsCut, Opens, Plainly, TargetOpens, opened_at, stopped_at, swept}
 
 -- ---- what is heard of stops

@@ -1,33 +1,29 @@
 -- What stops and openings of targets leave of entries, lines and letters.
-use Rattle.std.specs.Prelude.{ℕ, ◌≡◌, ◌⊎◌, ◌==◌, ◌&&◌, Bool, true, false, not, List, [], ◌∷◌, ◌++◌, filter, map, slice_get, Option, Some, None, refl}
+use Rattle.std.specs.Prelude.{ℕ, ◌≡◌, ◌⊎◌, ◌&&◌, Bool, true, false, not, [], ◌∷◌, ◌++◌, filter, map, slice_get, Some, refl}
 use Rattle.std.proofs.Common.{sym, ◌∙◌, ap, subst, inl, inr, arith}
 use Rattle.std.proofs.Math.ListN.{set}
 use Rattle.std.proofs.lemmas.Bool.Decides.{nat_tests}
 use Rattle.base_types.specs.declared.id.AttemptId.{AttemptId}
-use Rattle.base_types.specs.declared.report.Line.{Line}
 use Rattle.base_types.specs.declared.report.Line.TheVariants as line
 use Rattle.model_laws.specs.Members.{Has, has-cases, has-from_filter, has-from_map, has-left, has-right}
 use Rattle.daos_model.specs.BoolLaws.{not_true}
 use Rattle.daos_model.specs.Changes.{reopened}
 use Rattle.daos_model.specs.Durables.{entry_of}
-use Rattle.daos_model.specs.declared.durable.Durable.{Durable}
 use Rattle.dtx_base.specs.Leading.{first_leader, is_led, is_open}
 use Rattle.dtx_base.specs.Members.{has_target}
-use Rattle.world_attempts.specs.Attempts.{IsBorn, IsHeld, entry_at, entry_in, leader_of}
+use Rattle.world_attempts.specs.Attempts.{IsBorn, entry_at, entry_in, leader_of}
 use Rattle.world_attempts.specs.History.{Aborted, History}
 use Rattle.world_attempts.specs.Turning.{one-or_another}
-use Rattle.world_fates.specs.Facts.{IsQuiet, down_in, knows_down}
+use Rattle.world_fates.specs.Facts.{IsQuiet, down_in}
 use Rattle.world_questions.specs.Facts.{HasStopped}
 use Rattle.world_questions.specs.Inquiring.{LossLeaves, is_news}
-use Rattle.world_questions.specs.Stopping.{IsLoss, cut_loss, drawing_loss, failing_loss, given_up_loss, not-running, opening_loss, sweeping_loss}
+use Rattle.world_questions.specs.Stopping.{cut_loss, drawing_loss, failing_loss, given_up_loss, not-running, opening_loss, sweeping_loss}
 use Rattle.world_stops.specs.Losses.{is_lost}
-use Rattle.world_stops.specs.Parts.{now-here, now-same, now-there}
+use Rattle.world_stops.specs.Parts.{now-same, now-there}
 use Rattle.world_stops.specs.Questions.{question-is, reopened-entry}
 use Rattle.world_stops.specs.Stops.{only}
 use Rattle.world_base.specs.declared.letter.Letter.{Letter}
 use Rattle.world_base.specs.declared.target.Life.TheVariants.{Down}
-use Rattle.world_base.specs.declared.target.TargetMemory.{TargetMemory}
-use Rattle.world_base.specs.declared.target.TargetPlan.{TargetPlan}
 use Rattle.world_base.specs.declared.target.TargetState.{TargetState}
 use Rattle.world_base.specs.declared.world.World.{World}
 use Rattle.world_base.specs.CutTurns.{Cutting}

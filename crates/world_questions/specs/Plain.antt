@@ -1,6 +1,6 @@
 -- Where nothing stopped, what is said of questions is what is said of them in runs without stops.
-use Rattle.std.specs.Prelude.{ℕ, ◌≡◌, true, slice_get, Option, Some, None, refl}
-use Rattle.std.proofs.Common.{sym, ◌∙◌, ap}
+use Rattle.std.specs.Prelude.{ℕ, ◌≡◌, slice_get, Option, Some, None, refl}
+use Rattle.std.proofs.Common.{◌∙◌, ap}
 use Rattle.base_types.specs.declared.id.AttemptId.{AttemptId}
 use Rattle.model_laws.specs.Members.{Has}
 use Rattle.base_messages.specs.declared.message.Message.{Message, more_of-Message}

@@ -1,5 +1,5 @@
 -- A Reset of a Query tells of the target that it comes from, whatever happens.
-use Rattle.std.specs.Prelude.{ℕ, ◌≡◌, ◌⊎◌, ◌++◌, Bool, true, List, filter, map, slice_get, Some, None, refl}
+use Rattle.std.specs.Prelude.{ℕ, ◌≡◌, ◌++◌, Bool, true, List, filter, map}
 use Rattle.std.proofs.Common.{sym, ◌∙◌, ap, subst, inl, inr}
 use Rattle.model_laws.specs.Members.{Has, has-cases, has-from_filter, has-from_map}
 use Rattle.base_messages.specs.declared.actor.ActorId.{ActorId}

@@ -1,8 +1,7 @@
 -- What a target that hears of stops sends, keeps, inquires, and knows to be down.
-use Rattle.std.specs.Prelude.{ℕ, ◌≡◌, ◌⊎◌, ◌==◌, ◌||◌, Bool, true, false, not, List, [], ◌∷◌, ◌++◌, filter, map, Option, Some, None, refl, if◌then◌else◌}
+use Rattle.std.specs.Prelude.{ℕ, ◌≡◌, ◌⊎◌, ◌==◌, ◌||◌, Bool, true, false, List, [], ◌∷◌, filter, Option, Some, None, refl, if◌then◌else◌}
 use Rattle.std.proofs.Common.{sym, ◌∙◌, ap, subst, inl, inr}
 use Rattle.base_types.specs.declared.entry.Entry.{Entry}
-use Rattle.base_types.specs.declared.entry.EntryState.{EntryState}
 use Rattle.base_types.specs.declared.epoch.Epoch.{Epoch}
 use Rattle.base_types.specs.declared.id.AttemptId.{AttemptId}
 use Rattle.base_types.specs.declared.operation.MinorWrite.{MinorWrite}
@@ -23,7 +22,7 @@ use Rattle.dtx_base.specs.Asking.{ask_heard, asked_of, asked_open, tells_end}
 use Rattle.dtx_base.specs.Joining as member
 use Rattle.dtx_base.specs.Joining.{MemberOf, inquiries_reset, inquiry_at, inquiry_attempt, is_waiting, unresolved}
 use Rattle.dtx_base.specs.LeaderLaws.{same-is}
-use Rattle.dtx_base.specs.Leading.{LeaderOf, down_told, ended, entry_led, first_down, knowing, mark_reset, prepare_reset, quietly, reset_heard, reset_of, status_asked, to_target, undecided_of}
+use Rattle.dtx_base.specs.Leading.{LeaderOf, down_told, entry_led, first_down, mark_reset, prepare_reset, quietly, reset_heard, reset_of, status_asked, to_target, undecided_of}
 use Rattle.dtx_base.specs.Members.{has_target, with_target}
 use Rattle.dtx_base.specs.Rows.{is_among, is_other_row}
 use Rattle.world_asks.specs.Entries.{BringsNot, IsKept, Spares, StoresNot, Unprepared, ack-stores_not, commit-spares, whole-kept, whole-unprepared}
@@ -32,19 +31,17 @@ use Rattle.world_asks.specs.RowsKept.{acks-rows}
 use Rattle.world_asks.specs.Sending.{SendsFor, acks-send, all-told-sent, both-sent, ended-sent, one-sent}
 use Rattle.world_attempts.specs.MemberBits.{has-with, has-with_other}
 use Rattle.world_attempts.specs.Turning.{one-or_another}
-use Rattle.world_questions.specs.Hearing.{IsNotBack, commit-knows, ends-as, is_of_collections, is_of_stops, reset-plain}
+use Rattle.world_questions.specs.Hearing.{IsNotBack, commit-knows, ends-as, is_of_stops, reset-plain}
 use Rattle.world_base.specs.declared.did.Did.{Did}
 use Rattle.world_base.specs.declared.target.TargetMemory.{TargetMemory}
 use Rattle.world_base.specs.declared.target.TargetPlan.{TargetPlan}
-use Rattle.world_base.specs.Acks as ack
 use Rattle.world_base.specs.Changes.{Change, Kept}
 use Rattle.world_base.specs.Commits as commit
 use Rattle.world_base.specs.Further.{CommitDown, HearsFurther, IsSpent, IsUnknown, reset_by}
 use Rattle.world_base.specs.MemoryLaws.{ack-leaves}
 use Rattle.world_base.specs.Roles.{leader_at, member_at}
-use Rattle.world_base.specs.Statuses.{Answered, AtOnce, EndsAs, Looking, Looks, NoChange, ask_left, reset_joins, reset_leads, reset_left, status_left, status_refusal}
+use Rattle.world_base.specs.Statuses.{AtOnce, Looks, NoChange, ask_left, reset_joins, reset_leads, reset_left, status_left, status_refusal}
 use Rattle.world_base.specs.TargetTurns.{commit_request}
-use Rattle.world_base.specs.Turns.{Whole}
 
 -- ---- what is sent
 

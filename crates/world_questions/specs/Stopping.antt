@@ -1,10 +1,10 @@
 -- Stops and openings of targets, and what else happens without a message: what is lost then, and who knows nothing.
-use Rattle.std.specs.Prelude.{ℕ, ◌≡◌, ◌⊎◌, ◌==◌, Bool, true, false, ◌&&◌, not, zero, suc, List, [], ◌∷◌, ◌++◌, filter, map, slice_get, Option, Some, None, refl}
+use Rattle.std.specs.Prelude.{ℕ, ◌≡◌, ◌⊎◌, ◌==◌, Bool, true, false, ◌&&◌, not, zero, suc, List, [], ◌∷◌, ◌++◌, filter, map, slice_get, Some, refl}
 use Rattle.std.proofs.Common.{sym, ◌∙◌, ap, subst, inl, inr, arith}
 use Rattle.std.proofs.Math.ListN.{set}
 use Rattle.std.proofs.lemmas.Bool.Decides.{nat_tests}
 use Rattle.model_laws.specs.Members.{Has, has-filter, has-left, has-map, has-right}
-use Rattle.daos_model.specs.BoolLaws.{both, false_of}
+use Rattle.daos_model.specs.BoolLaws.{false_of}
 use Rattle.daos_model.specs.Changes.{reopened}
 use Rattle.dtx_base.specs.Leading.{first_leader}
 use Rattle.world_attempts.specs.Turning.{one-or_another}
@@ -17,7 +17,6 @@ use Rattle.world_stops.specs.Stops.{only}
 use Rattle.world_base.specs.declared.letter.Letter.{Letter}
 use Rattle.world_base.specs.declared.target.Life.{Life}
 use Rattle.world_base.specs.declared.target.Life.TheVariants.{Down, Running, Stopped}
-use Rattle.world_base.specs.declared.target.TargetMemory.{TargetMemory}
 use Rattle.world_base.specs.declared.target.TargetPlan.{TargetPlan}
 use Rattle.world_base.specs.declared.target.TargetState.{TargetState}
 use Rattle.world_base.specs.declared.world.World.{World}
