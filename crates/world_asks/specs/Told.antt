@@ -72,7 +72,7 @@ module _ (r : Rules) (h later : History) (w v : World) (B : KnowsAttempts r late
 
 -- ---- a Prepare
 
-pub target-of : (m : ℕ) (a : ActorId) → is_target m a ≡ true → a ≡ target m
+target-of : (m : ℕ) (a : ActorId) → is_target m a ≡ true → a ≡ target m
 target-of m a is = by a.client refl (and_left (not a.client) (a.number == m) is) (and_right (not a.client) (a.number == m) is)
   where
     by : (c : Bool) → a.client ≡ c → not c ≡ true → (a.number == m) ≡ true → a ≡ target m

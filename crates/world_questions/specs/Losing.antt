@@ -1,6 +1,6 @@
 -- What goes to targets that stopped or are given up is lost, and of what was named and asked its Reset comes.
-use Rattle.std.specs.Prelude.{ℕ, ◌≡◌, ◌⊎◌, ◌==◌, Bool, true, false, ◌&&◌, not, List, [], slice_get, Option, Some, None, refl}
-use Rattle.std.proofs.Common.{◌∙◌, ap, subst, inl, inr, arith}
+use Rattle.std.specs.Prelude.{ℕ, ◌≡◌, ◌⊎◌, ◌≤◌, ◌==◌, Bool, true, false, ◌&&◌, not, List, [], slice_get, Option, Some, None, refl}
+use Rattle.std.proofs.Common.{sym, ◌∙◌, ap, subst, inl, inr, arith}
 use Rattle.std.proofs.lemmas.Bool.Decides.{nat_tests}
 use Rattle.base_types.specs.declared.id.AttemptId.{AttemptId}
 use Rattle.model_laws.specs.Members.{Has}
@@ -14,9 +14,10 @@ use Rattle.dtx_base.specs.declared.leading.Naming.{Naming}
 use Rattle.dtx_base.specs.LeaderLaws.{same-is}
 use Rattle.dtx_base.specs.Leading.{attempts_of}
 use Rattle.dtx_base.specs.Rows.{is_among}
-use Rattle.world_asks.specs.Asks.{IsMark, IsMarked, IsQuery, IsVerdict}
-use Rattle.world_asks.specs.Told.{target-of}
-use Rattle.world_attempts.specs.Attempts.{is_target}
+use Rattle.world_asks.specs.Asks.{Flies, IsMark, IsMarked, IsNamingOf, IsQuery, IsQueryOf, IsVerdict}
+use Rattle.world_asks.specs.NamedLaws.{NamedSo}
+use Rattle.world_asks.specs.ParkedLaws.{ParkedSo}
+use Rattle.world_attempts.specs.Attempts.{count, is_target}
 use Rattle.world_attempts.specs.Counting.{count-some}
 use Rattle.world_attempts.specs.Stored.{among-has, among-is}
 use Rattle.world_fates.specs.Facts.{PromptsFly, is_prompt, is_prompt_kind}
@@ -51,6 +52,13 @@ pub none-waits : (m : TargetMemory) → m ≡ no_memory → WaitsForNone m
 none-waits m is = record { named = ap (λ y. y.leader.named) is; parked = ap (λ y. y.member.parked) is; inquiries = ap (λ y. y.member.inquiries) is }
 
 -- ---- targets
+
+target-of : (m : ℕ) (a : ActorId) → is_target m a ≡ true → a ≡ target m
+target-of m a is = by a.client refl (and_left (not a.client) (a.number == m) is) (and_right (not a.client) (a.number == m) is)
+  where
+    by : (c : Bool) → a.client ≡ c → not c ≡ true → (a.number == m) ≡ true → a ≡ target m
+    by true own off same = let no : ⊥ = cc in absurd no
+    by false own off same = let one : a.number ≡ m = grind (arith, nat_tests) in ap (λ n. record { client = a.client; number = n }) one ∙ ap (λ b. record { client = b; number = m }) own
 
 target-test : (m : ℕ) (a : ActorId) → a ≡ target m → is_target m a ≡ true
 target-test m a is = ap (is_target m) is ∙ own-target m
