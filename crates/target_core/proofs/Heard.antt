@@ -1,6 +1,6 @@
 -- What the parts of a target say of a turn, as a message that the target hears: where its store stopped, the turn was cut as the world
 -- knows it.
-use Rattle.std.proofs.Common.{ℕ, ◌≡◌, ◌×◌, refl, Bool, List, [], Option, Some, None, Result, Ok, Err}
+use Rattle.std.proofs.Common.{ℕ, ◌≡◌, refl, Bool, List, [], Option, Some, None, Result, Ok, Err}
 use Rattle.base_types.specs.declared.entry.Entry.{Entry}
 use Rattle.base_types.specs.declared.entry.Verdict.{Verdict as VerdictOf}
 use Rattle.base_types.specs.declared.epoch.Epoch.{Epoch}

@@ -1,4 +1,5 @@
-use Rattle.std.proofs.Common.{subst, sym}
+use Rattle.std.proofs.Common.{◌∙◌, ap, subst, sym}
+use Rattle.base_messages.specs.declared.message.Message.TheVariants.{Mark, Marked}
 use Rattle.target_parts.specs.Knowing.{memory_of}
 use Rattle.target_core.specs.Targets.{CanHear, HearsOrStops}
 use Rattle.target_core.proofs.Heard.{hears-ack, hears-mark, hears-marked, hears-prepare, hears-query, hears-verdict}
@@ -24,15 +25,15 @@ returns-in-Ack-clause-turn g c d at reading =
 pub returns-in-Mark-clause-turn : goal.returns-in-Mark-clause-turn
 returns-in-Mark-clause-turn g c d at reading =
     subst (λ m. HearsOrStops c.args.plan (memory_of c.args.knows.now) reading c.args.from m d (g.S.Store.state c.args.store.now) (g.S.Store.durable c.hear_mark.new.store) (g.S.Store.state c.hear_mark.new.store)
-    (g.S.Store.may c.hear_mark.new.store) (memory_of c.hear_mark.new.knows) c.hear_mark.result) (sym c.in-Mark.is)
-    (hears-mark c.args.plan (memory_of c.args.knows.now) reading c.args.from d (g.S.Store.state c.args.store.now) _ _ _ _ c.in-Mark.inc c.in-Mark.marks c.hear_mark.result
+    (g.S.Store.may c.hear_mark.new.store) (memory_of c.hear_mark.new.knows) c.hear_mark.result) (ap (Mark c.in-Mark.inc) c.as_slice.ensures ∙ sym c.in-Mark.is)
+    (hears-mark c.args.plan (memory_of c.args.knows.now) reading c.args.from d (g.S.Store.state c.args.store.now) _ _ _ _ c.in-Mark.inc c.as_slice.result.now c.hear_mark.result
     (c.hear_mark.ensures.turn d at))
 
 pub returns-in-Marked-clause-turn : goal.returns-in-Marked-clause-turn
 returns-in-Marked-clause-turn g c d at reading =
     subst (λ m. HearsOrStops c.args.plan (memory_of c.args.knows.now) reading c.args.from m d (g.S.Store.state c.args.store.now) (g.S.Store.durable c.hear_marked.new.store) (g.S.Store.state c.hear_marked.new.store)
-    (g.S.Store.may c.hear_marked.new.store) (memory_of c.hear_marked.new.knows) c.hear_marked.result) (sym c.in-Marked.is)
-    (hears-marked c.args.plan (memory_of c.args.knows.now) reading c.args.from d (g.S.Store.state c.args.store.now) _ _ _ _ c.in-Marked.inc c.in-Marked.attempts c.hear_marked.result
+    (g.S.Store.may c.hear_marked.new.store) (memory_of c.hear_marked.new.knows) c.hear_marked.result) (ap (Marked c.in-Marked.inc) c.as_slice-in-Marked.ensures ∙ sym c.in-Marked.is)
+    (hears-marked c.args.plan (memory_of c.args.knows.now) reading c.args.from d (g.S.Store.state c.args.store.now) _ _ _ _ c.in-Marked.inc c.as_slice-in-Marked.result.now c.hear_marked.result
     (c.hear_marked.ensures.turn d at))
 
 pub returns-in-Query-clause-turn : goal.returns-in-Query-clause-turn
