@@ -110,11 +110,11 @@ module _ (t : TargetPlan) (k : Knows) (lease : ℕ) (es : List Entry) (items : k
       asks = λ p i. absurd (subst (λ (s : MemberOf). Has p s.memory.parked) member i);
     }
 
-    pub memory-first : k.stamps ≡ [] → memory_of k ≡ opening_memory t d
+    pub memory-first : k.stamps.reads ≡ [] → memory_of k ≡ opening_memory t d
     unfolding first_leader
     memory-first stamps =
-        ap (λ c. remembered c.ticks k.stamps k.leader k.member.memory) hlc
-        ∙ ap (λ n. remembered n k.stamps k.leader k.member.memory) lease-is
+        ap (λ c. remembered c.ticks k.stamps.reads k.leader k.member.memory) hlc
+        ∙ ap (λ n. remembered n k.stamps.reads k.leader k.member.memory) lease-is
         ∙ ap (λ s. remembered d.lease s k.leader k.member.memory) stamps
         ∙ ap (λ l. remembered d.lease [] l k.member.memory) (leader ∙ ap (λ xs. first_memory (filter (is_led t.me) xs)) es-is)
         ∙ ap (λ m. remembered d.lease [] (first_memory (filter (is_led t.me) d.entries)) m.memory) member

@@ -35,7 +35,7 @@ pub fn first_knows(
     entries: Entries,
 ) -> Result<Knows, TargetStop>
     ensures clock { IfOk result (λ k. k.hlc ≡ record { target = plan.me; ticks = lease }) }
-    ensures stamps { IfOk result (λ k. k.stamps ≡ []) }
+    ensures stamps { IfOk result (λ k. k.stamps.reads ≡ []) }
     ensures entries { IfOk result (λ k. k.entries.items ≡ entries) }
     ensures leader { IfOk result (λ k. k.leader ≡ first_memory (filter (is_led plan.me) entries)) }
     ensures member { IfOk result (λ k. k.member ≡ first_member plan.me) }
