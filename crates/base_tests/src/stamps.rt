@@ -16,17 +16,19 @@ const READER: AttemptId = AttemptId {
     attempt: 0,
 };
 
+const OBJECT: ObjId = ObjId {
+    class: Class::S1,
+    number: 0,
+    unit: 1,
+};
+
 // An object.
 fn object() -> Path
     ensures { is_path_in_form result ≡ true }
 {
     Path {
         cont: ContId(1),
-        obj: Some(ObjId {
-            class: Class::S1,
-            number: 0,
-            unit: 1,
-        }),
+        obj: Some(OBJECT),
         dkey: None,
         akey: None,
     }
@@ -36,19 +38,27 @@ fn object() -> Path
 fn dkey(alloc: Global, dkey: &[u8]) -> Result<Path, Fail>
     ensures { IfOk result (λ path. is_path_in_form path ≡ true) }
 {
-    let mut path = object();
-    path.dkey = Some(Key::new(alloc, dkey)?);
-    Ok(path)
+    let dkey = Key::new(alloc, dkey)?;
+    Ok(Path {
+        cont: ContId(1),
+        obj: Some(OBJECT),
+        dkey: Some(dkey),
+        akey: None,
+    })
 }
 
 // An akey of that.
 fn akey(alloc: Global, dkey: &[u8], akey: &[u8]) -> Result<Path, Fail>
     ensures { IfOk result (λ path. is_path_in_form path ≡ true) }
 {
-    let mut path = object();
-    path.dkey = Some(Key::new(alloc, dkey)?);
-    path.akey = Some(Key::new(alloc, akey)?);
-    Ok(path)
+    let dkey = Key::new(alloc, dkey)?;
+    let akey = Key::new(alloc, akey)?;
+    Ok(Path {
+        cont: ContId(1),
+        obj: Some(OBJECT),
+        dkey: Some(dkey),
+        akey: Some(akey),
+    })
 }
 
 // The akey of a number, under one dkey.
