@@ -1,3 +1,0 @@
--- What is stored once, where targets stop and open again.
-pub mod Laws
-pub mod Stopping
