@@ -1,4 +1,4 @@
-// Tests of the crates at the base: values, paths, classes, clocks, messages, reads of what stands, timestamps,
+// Tests of the crates at the base: values, paths, classes, clocks, messages, reads of what stands,
 // words of a text, and the outside in memory.
 #![tactic(auto)]
 
@@ -28,5 +28,3 @@ mod paths;
 mod places;
 #[cfg(test)]
 mod slots;
-#[cfg(test)]
-mod stamps;
