@@ -202,6 +202,7 @@ module _ {S C : Type 0} (durable : S → Option Durable) (state : S → State) w
         told = its t x at;
         free = refl;
         opening = refl;
+        opened = (N t x at).new.has_opened;
         running = (N t x at).opened.fresh.running;
         runs = refl;
         knows = refl;
@@ -233,6 +234,7 @@ module _ {S C : Type 0} (durable : S → Option Durable) (state : S → State) w
       plans = plans (λ t. 0);
       made = made (λ t. 0);
       many = many ∙ sym F.form.read_for;
+      opened = λ t x at. (N t x at).new.has_opened;
       running = λ t x at. (N t x at).opened.fresh.running;
       waiting = λ t x at. subst ClientsWait (sym (N t x at).new.leads) none-waits;
       letters = λ l i. absurd (has-from_contains [] l i);

@@ -124,6 +124,7 @@ pub record IsNew {S C : Type 0} (durable : S → Option Durable) (targets epsilo
   pub leads : x.memory.leader ≡ first_memory []
   pub joins : x.memory.member ≡ (first_member t).memory
   pub making : x.memory.collecting ≡ []
+  pub has_opened : x.opened ≡ true
 
 -- such a target over a store to which the containers of a script were added
 pub record IsStarted {S C : Type 0} (durable : S → Option Durable) (state : S → State) (s : Script) (targets epsilon t : ℕ) (x : TargetOf S C) : Type 0 where

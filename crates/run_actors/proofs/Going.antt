@@ -99,6 +99,7 @@ module _ {S C : Type 0} (durable : S → Option Durable) (state : S → State) w
       plans = λ m x is. get-set (λ j y. y.plan ≡ client_plan k.rules j) cs n d (plan' ∙ k.plans n c at) k.plans m x (ap (λ zs. slice_get zs m) (sym set') ∙ is);
       made = k.made;
       many = k.many;
+      opened = k.opened;
       running = k.running;
       waiting = k.waiting;
       letters = subst (AreInForm k.rules) (sym f.messages) (sent-in-form k.rules (client n) rest did.posts left (by-client k.rules n did.posts posts));
@@ -123,14 +124,15 @@ module _ {S C : Type 0} (durable : S → Option Durable) (state : S → State) w
     some-told (Some e) o' d same is = (e, refl)
 
     -- a target had its turn
-    pub target-on : (t : ℕ) (x y : TargetOf S C) (did : Did) (rest : List Letter) (xs' : List (TargetOf S C)) → slice_get xs t ≡ Some x → y.plan ≡ x.plan → StillRuns (state x.store) (state y.store) (durable x.store) (durable y.store) → AreInForm k.rules rest
+    pub target-on : (t : ℕ) (x y : TargetOf S C) (did : Did) (rest : List Letter) (xs' : List (TargetOf S C)) → slice_get xs t ≡ Some x → y.plan ≡ x.plan → y.opened ≡ true → StillRuns (state x.store) (state y.store) (durable x.store) (durable y.store) → AreInForm k.rules rest
         → PostsInForm x.plan.targets x.memory.leader y.memory.leader did.posts → Follows b (target t) did rest b' → xs' ≡ set xs t y → (IsGoing durable state cs xs b → IsGoing durable state cs xs' b') → CanGo durable state cs xs' b'
-    target-on t x y did rest xs' at plan' runs left posts f set' on = record {
+    target-on t x y did rest xs' at plan' opened' runs left posts f set' on = record {
       rules = k.rules;
       simple = k.simple;
       plans = k.plans;
       made = λ u z is. get-set (λ j q. q.plan ≡ target_plan k.rules j) xs t y (plan' ∙ k.made t x at) k.made u z (ap (λ zs. slice_get zs u) (sym set') ∙ is);
       many = ap length set' ∙ length-set xs t y ∙ k.many;
+      opened = λ u z is. get-set (λ j q. q.opened ≡ true) xs t y opened' k.opened u z (ap (λ zs. slice_get zs u) (sym set') ∙ is);
       running = λ u z is. get-set (λ j q. (state q.store).stopped ≡ false) xs t y runs.stops k.running u z (ap (λ zs. slice_get zs u) (sym set') ∙ is);
       waiting = λ u z is. get-set (λ j q. ClientsWait q.memory.leader) xs t y sent.waiting k.waiting u z (ap (λ zs. slice_get zs u) (sym set') ∙ is);
       letters = subst (AreInForm k.rules) (sym f.messages) (sent-in-form k.rules (target t) rest did.posts left

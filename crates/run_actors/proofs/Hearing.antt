@@ -21,7 +21,7 @@ use Rattle.target_writes.specs.Checks.{AreNewAt}
 use Rattle.vos_store.specs.Calls.{State}
 use Rattle.world_base.specs.declared.letter.Letter.{Letter}
 use Rattle.world_whole.specs.Hearable.{CanHear}
-use Rattle.world_whole.specs.Whole.{runs-can-be-heard}
+use Rattle.world_whole.specs.Whole.{runs-can-be-heard, runs-know-none-down}
 use Rattle.world_base.specs.Events.{Rules, target_plan}
 use Rattle.world_base.specs.Letters.{target}
 use Rattle.world_base.specs.Commits.{own_writes}
@@ -66,6 +66,13 @@ module _ {S C : Type 0} (durable : S → Option Durable) (state : S → State) (
       let heard = runs-can-be-heard g.rules g.opening g.first g.reached.now l t s.s g.simple g.begun g.reached.run among picked.to_it s.here in
       let same : s.s.durable ≡ d = let e : Some s.s.durable ≡ Some d = sym s.is.told ∙ told in cc in
       subst (λ z. target_core.CanHear x.plan l.message z) same (subst (λ p. target_core.CanHear p l.message s.s.durable) (sym s.is.made) (can-hear g.rules t s.s.durable l.message heard.can))
+
+  -- no target is known to be down
+  pub knows-none_down : (d : Durable) → durable x.store ≡ Some d → x.memory.leader.down ≡ 0
+  knows-none_down d told =
+      let g = k.told t x d at told in
+      let s = target-there durable state g.rules clients targets b g.reached.now t x g.reached.shows at in
+      ap (λ m. m.leader.down) s.is.knows ∙ runs-know-none-down g.rules g.opening g.first g.reached.now t s.s g.simple g.begun g.reached.run s.here
 
   -- the letter that is picked for a target can be heard there
   pub hearable : IsHearable durable x l

@@ -115,10 +115,10 @@ module _ {S C : Type 0} (durable : S → Option Durable) (state : S → State) (
     abbrev target-after : World → TargetState → Durable → World
     target-after w s new = with_target t (target_after s (record { durable = new; free = (state y.store).free }) y.memory) (after_turn w (target t) did rest)
 
-    target-shown : (w : World) (s : TargetState) (new : Durable) → Shows durable state r clients targets b w → IsTargetOf durable state (target_plan r t) x s → y.plan ≡ x.plan → durable y.store ≡ Some new
+    target-shown : (w : World) (s : TargetState) (new : Durable) → Shows durable state r clients targets b w → IsTargetOf durable state (target_plan r t) x s → y.plan ≡ x.plan → y.opened ≡ true → durable y.store ≡ Some new
         → (state y.store).opening ≡ (state x.store).opening → (state y.store).stopped ≡ false → Follows b (target t) did rest b' → targets' ≡ set targets t y
         → Shows durable state r clients targets' b' (target-after w s new)
-    target-shown w s new k is plan told opening running f set' = record {
+    target-shown w s new k is plan opened told opening running f set' = record {
       clients = k.clients;
       plans = k.plans;
       many = length-set w.targets t _ ∙ k.many ∙ sym (length-set targets t y) ∙ ap length (sym set');
@@ -133,7 +133,7 @@ module _ {S C : Type 0} (durable : S → Option Durable) (state : S → State) (
         s' = target_after s (record { durable = new; free = (state y.store).free }) y.memory
 
         now : IsTargetOf durable state (target_plan r t) y s'
-        now = record { made = plan ∙ is.made; told = told; free = refl; opening = opening ∙ is.opening; running = running; runs = is.runs; knows = refl }
+        now = record { made = plan ∙ is.made; told = told; free = refl; opening = opening ∙ is.opening; opened = opened; running = running; runs = is.runs; knows = refl }
 
         pairs : (m : ℕ) (z : TargetOf S C) (u : TargetState) → slice_get (set targets t y) m ≡ Some z → slice_get (set w.targets t s') m ≡ Some u → IsTargetOf durable state (target_plan r m) z u
         pairs m z u at stands = elim (cases_eq m t) [
@@ -153,9 +153,9 @@ module _ {S C : Type 0} (durable : S → Option Durable) (state : S → State) (
     -- a target heard a message
     pub target-hears : (w : World) → Shows durable state r clients targets b w → slice_get targets t ≡ Some x → (number reading : ℕ) (l : Letter) → IsPicked b.messages (target t) number l rest → (d new : Durable) → durable x.store ≡ Some d
         → durable y.store ≡ Some new → Hears x.plan (state x.store).opening x.memory reading l.from l.message (record { durable = d; free = (state x.store).free }) (record { durable = new; free = (state y.store).free }) (y.memory, did)
-        → y.plan ≡ x.plan → (state y.store).opening ≡ (state x.store).opening → (state y.store).stopped ≡ false → Follows b (target t) did rest b' → targets' ≡ set targets t y
+        → y.plan ≡ x.plan → y.opened ≡ true → (state y.store).opening ≡ (state x.store).opening → (state y.store).stopped ≡ false → Follows b (target t) did rest b' → targets' ≡ set targets t y
         → Steps durable state settling r (target t) number w clients targets' b'
-    target-hears w k at number reading l picked d new had told turn plan opening running f set' =
+    target-hears w k at number reading l picked d new had told turn plan opened opening running f set' =
         let s = there w k at in
         let same : d ≡ s.0.durable = let e : Some d ≡ Some s.0.durable = sym had ∙ s.2.told in cc in
         record {
@@ -179,15 +179,15 @@ module _ {S C : Type 0} (durable : S → Option Durable) (state : S → State) (
                 (subst (λ q. Hears x.plan (state x.store).opening x.memory reading l.from l.message q (record { durable = new; free = (state y.store).free }) (y.memory, did)) (kept-is (state x.store) s.0 d same s.2.free) turn)));
             after = refl;
           }) refl (subst (λ ls. IsPicked ls (target t) number l rest) k.messages picked);
-          shows = target-shown w s.0 new k s.2 plan told opening running f set';
+          shows = target-shown w s.0 new k s.2 plan opened told opening running f set';
         }
 
     -- a target did its idle work
     pub target-idles : (number : ℕ) (w : World) → Shows durable state r clients targets b w → slice_get targets t ≡ Some x → count_to (target t) b.messages ≡ 0 → rest ≡ b.messages → (d new : Durable) → durable x.store ≡ Some d
         → durable y.store ≡ Some new → IdlesWhole settling x.plan x.memory (record { durable = d; free = (state x.store).free }) (record { durable = new; free = (state y.store).free }) (y.memory, did)
-        → y.plan ≡ x.plan → (state y.store).opening ≡ (state x.store).opening → (state y.store).stopped ≡ false → Follows b (target t) did rest b' → targets' ≡ set targets t y
+        → y.plan ≡ x.plan → y.opened ≡ true → (state y.store).opening ≡ (state x.store).opening → (state y.store).stopped ≡ false → Follows b (target t) did rest b' → targets' ≡ set targets t y
         → Steps durable state settling r (target t) number w clients targets' b'
-    target-idles number w k at none all d new had told turn plan opening running f set' =
+    target-idles number w k at none all d new had told turn plan opened opening running f set' =
         let s = there w k at in
         let same : d ≡ s.0.durable = let e : Some d ≡ Some s.0.durable = sym had ∙ s.2.told in cc in
         record {
@@ -206,5 +206,5 @@ module _ {S C : Type 0} (durable : S → Option Durable) (state : S → State) (
                 (subst (λ q. IdlesWhole settling x.plan x.memory q (record { durable = new; free = (state y.store).free }) (y.memory, did)) (kept-is (state x.store) s.0 d same s.2.free) turn));
             after = ap (λ ls. with_target t (target_after s.0 (record { durable = new; free = (state y.store).free }) y.memory) (after_turn w (target t) did ls)) (all ∙ k.messages);
           }) refl refl (ap (count_to (target t)) (sym k.messages) ∙ none);
-          shows = target-shown w s.0 new k s.2 plan told opening running f set';
+          shows = target-shown w s.0 new k s.2 plan opened told opening running f set';
         }

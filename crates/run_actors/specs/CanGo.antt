@@ -18,14 +18,15 @@ pub record IsInForm (r : Rules) (l : Letter) : Type 0 where
   pub told : l.to.client ≡ true → is_told l.message ≡ true
   pub kind : l.to.client ≡ false → is_of_client l.message ≡ l.from.client
 
--- The actors are those of a run of a script in form, for some targets, without stops, snapshots and aggregation; no store is stopped, and
--- each letter in flight has form. It is clients that wait for the end of attempts. Where a store tells what it keeps, the actors are those of such a run that was begun.
+-- The actors are those of a run of a script in form, for some targets, without stops, snapshots and aggregation; each target has opened, no
+-- store is stopped, and each letter in flight has form. It is clients that wait for the end of attempts. Where a store tells what it keeps, the actors are those of such a run that was begun.
 pub record CanGo {S C : Type 0} (durable : S → Option Durable) (state : S → State) (clients : List ClientNow) (targets : List (TargetOf S C)) (b : BetweenNow) : Type 0 where
   pub rules : Rules
   pub simple : IsSimple rules
   pub plans : (n : ℕ) (c : ClientNow) → slice_get clients n ≡ Some c → c.plan ≡ client_plan rules n
   pub made : (t : ℕ) (x : TargetOf S C) → slice_get targets t ≡ Some x → x.plan ≡ target_plan rules t
   pub many : length targets ≡ rules.script.targets
+  pub opened : (t : ℕ) (x : TargetOf S C) → slice_get targets t ≡ Some x → x.opened ≡ true
   pub running : AreRunning state targets
   pub waiting : (t : ℕ) (x : TargetOf S C) → slice_get targets t ≡ Some x → ClientsWait x.memory.leader
   pub letters : (l : Letter) → Contains b.messages l → IsInForm rules l

@@ -24,12 +24,13 @@ abbrev pub AreRunning : {S C : Type 0} → (S → State) → List (TargetOf S C)
 AreRunning {S} {C} state xs = (t : ℕ) (x : TargetOf S C) → slice_get xs t ≡ Some x → (state x.store).stopped ≡ false
 
 module _ {S C : Type 0} (durable : S → Option Durable) (state : S → State) where
-  -- A target of this plan is so in the world: its store runs and tells what it keeps.
+  -- A target of this plan is so in the world: it has opened, its store runs and tells what it keeps.
   pub record IsTargetOf (plan : TargetPlan) (x : TargetOf S C) (s : TargetState) : Type 0 where
     pub made : x.plan ≡ plan
     pub told : durable x.store ≡ Some s.durable
     pub free : (state x.store).free ≡ s.free
     pub opening : (state x.store).opening ≡ s.opening
+    pub opened : x.opened ≡ true
     pub running : (state x.store).stopped ≡ false
     pub runs : s.life ≡ Running
     pub knows : x.memory ≡ s.memory

@@ -1,93 +1,201 @@
 -- What the parts of a target say of a turn, as a message that the target hears: where its store stopped, the turn was cut as the world
 -- knows it.
-use Rattle.std.proofs.Common.{ℕ, ◌≡◌, refl, Bool, List, [], Option, Some, None, Result, Ok, Err}
+use Rattle.std.proofs.Common.{ℕ, ◌≡◌, ◌<◌, refl, sym, subst, Bool, true, false, List, [], Option, Some, None, Result, Ok, Err}
 use Rattle.base_types.specs.declared.entry.Entry.{Entry}
+use Rattle.base_types.specs.declared.entry.EntryState.{EntryState}
 use Rattle.base_types.specs.declared.entry.Verdict.{Verdict as VerdictOf}
 use Rattle.base_types.specs.declared.epoch.Epoch.{Epoch}
 use Rattle.base_types.specs.declared.id.AttemptId.{AttemptId}
 use Rattle.base_types.specs.declared.operation.MinorWrite.{MinorWrite}
 use Rattle.base_types.specs.declared.operation.Read.{Read}
 use Rattle.base_types.specs.declared.outcome.Outcome.{Outcome}
+use Rattle.base_types.specs.declared.outcome.FloorWhy.{FloorWhy}
 use Rattle.base_types.specs.declared.report.Line.{Line}
 use Rattle.base_messages.specs.declared.actor.ActorId.{ActorId}
-use Rattle.base_messages.specs.declared.message.Message.TheVariants.{Ack, Commit, Fetch, Mark, Marked, Prepare, Query, Verdict}
+use Rattle.base_messages.specs.declared.message.Message.{Message, Reset}
+use Rattle.base_messages.specs.declared.message.Message as own
+use Rattle.base_messages.specs.declared.message.Message.TheBlock as block
+use Rattle.base_messages.specs.declared.message.Message.TheVariants as message
+use Rattle.base_messages.specs.declared.message.Message.TheVariants.{Ack, Ask, Commit, Fetch, Freeze, Mark, Marked, Prepare, Prune, Query, Status, StatusIs, Verdict}
 use Rattle.daos_model.specs.declared.durable.Durable.{Durable}
 use Rattle.vos_store.specs.Calls.{State}
 use Rattle.world_base.specs.declared.did.Did.{Did}
+use Rattle.world_base.specs.declared.request.CommitRequest.{CommitRequest}
 use Rattle.world_base.specs.declared.target.TargetMemory.{TargetMemory}
 use Rattle.world_base.specs.declared.target.TargetPlan.{TargetPlan}
 use Rattle.dtx_base.specs.Leading.{attempts_of}
 use Rattle.world_base.specs.Acks as ack
-use Rattle.world_base.specs.Changes.{Kept}
+use Rattle.world_base.specs.Changes.{Change, Kept}
 use Rattle.world_base.specs.Commits as commit
-use Rattle.world_base.specs.CutTurns.{NoneIsDown, issued_by_commit, issued_by_fetch, listed_issue, none_issued}
+use Rattle.world_base.specs.Commits.{CommitNext}
+use Rattle.world_base.specs.CutTurns.{Before, NoneIsDown, OneIsDown, UnstoredNext, issued_by_commit, issued_by_fetch, listed_issue, none_issued}
+use Rattle.world_base.specs.Further.{CommitDown, HearsFurther, KnowsNoneDown, reset_by}
 use Rattle.world_base.specs.Idle.{IdleEnds, IdleNext}
 use Rattle.world_base.specs.Marks.{MarkEnds, MarkNext}
+use Rattle.world_base.specs.PathLaws.{AllPlain}
 use Rattle.world_base.specs.Prepares as prepare
 use Rattle.world_base.specs.Reads as read
 use Rattle.world_base.specs.Roles.{is_prepared, told_by, told_of_all}
-use Rattle.world_base.specs.TargetTurns.{commit_request, fetch_request, prepare_request}
+use Rattle.world_base.specs.Statuses.{EndsAs, Looking, Looks, NoChange, ask_left, down_of, reset_left, status_left, status_refusal}
+use Rattle.world_base.specs.TargetTurns.{Hears, commit_request, fetch_request, prepare_request}
 use Rattle.world_base.specs.TurnLaws.{ack-plain, commit-plain, fetch-plain, idle-plain, mark-plain, marked-plain, prepare-plain, query-plain, verdict-plain}
-use Rattle.world_base.specs.Turns.{Whole}
+use Rattle.world_base.specs.Turns.{Here, More, Path, Reached, Whole}
 use Rattle.world_base.specs.Verdicts as verdict
 use Rattle.target_parts.specs.declared.stop.TargetStop.{TargetStop}
 use Rattle.target_parts.specs.declared.stop.TargetStop.TheVariants as stop
-use Rattle.target_parts.specs.Parts.{kept, left_by}
+use Rattle.target_parts.specs.Parts.{Now, kept, left_by}
 use Rattle.target_parts.specs.Stops.{Turn, commit_issued, fetch_issued, never}
 use Rattle.target_reads.specs.Again.{VerdictTurn}
 use Rattle.target_reads.specs.Fetches.{FetchTurn}
-use Rattle.target_writes.specs.Turns.{CommitTurn, PrepareTurn}
-use Rattle.target_core.specs.Targets.{HearsOrStops, IdlesOrStops}
+use Rattle.target_writes.specs.Turns.{CommitTurn, DownTurn, PrepareTurn}
+use Rattle.target_core.specs.Targets.{Further, HasFormAfterStops, Heard, HearsOrStops, IdlesOrStops, Plainly, is_collecting}
 use Rattle.target_core.proofs.Cutting.{commit-issues, cut-turn, fetch-issues}
 
+-- ---- turns that change nothing, and Commits of which nothing is stored
+
+looking-plain : AllPlain NoChange
+looking-plain s k o next (Looks j) = tt
+
+reset-as : (t : TargetPlan) (m : TargetMemory) (by : ℕ) (down : Bool) (asked : Message) → is_collecting asked ≡ false → reset_by t m by down asked ≡ reset_left t m by down asked
+reset-as t m by down (Freeze x c s) other = let no : ⊥ = cc in absurd no
+reset-as t m by down (Prune x c tracker e) other = let no : ⊥ = cc in absurd no
+reset-as t m by down asked other = refl
+
+-- what the form of a Reset says
+reset-form_rolled : (by : ℕ) (down : Bool) (asked : Message) → HasFormAfterStops (own.roll-Message (own.Message-F.Reset by down asked)) → (by < 64) × (is_collecting asked ≡ false)
+unfolding own.roll-Message denote.Hole.Carrier.roll denote.Hole.Carrier.hidden block.hidden-the_row-Message-0
+reset-form_rolled by down asked k = k
+
+pub reset-form : (by : ℕ) (down : Bool) (asked : Message) → HasFormAfterStops (Reset by down asked) → (by < 64) × (is_collecting asked ≡ false)
+reset-form by down asked k = reset-form_rolled by down asked (subst HasFormAfterStops (sym (message.rolls-Reset by down asked)) k)
+
+module _ (t : TargetPlan) (opening : Epoch × FloorWhy) (m : TargetMemory) (reading : ℕ) (q : CommitRequest) where
+  unstored-next : (s : commit.CommitStage) (k : Kept) (o : Option Change) (next : commit.CommitStage) → UnstoredNext t opening m reading q s k o next → CommitNext t opening m reading q s k o next
+  unstored-next s k o next (Before r u l p step before) = step
+
+  unstored-plain : AllPlain (UnstoredNext t opening m reading q)
+  unstored-plain s k o next step = commit-plain t opening m reading q s k o next (unstored-next s k o next step)
+
+  unstored-path : (s : commit.CommitStage) (old : Kept) (did : List Change) (last : commit.CommitStage) (mid : Kept) → Path (UnstoredNext t opening m reading q) s old did last mid → Path (CommitNext t opening m reading q) s old did last mid
+  unstored-path s old did last mid (Here) = Here
+  unstored-path s old did last mid (More before r l o u n path next step) = More before r l o u n (unstored-path s old before r l path) (unstored-next r l o u next) step
+
+  unstored-reached : (s : commit.CommitStage) (old : Kept) (last : commit.CommitStage) (mid : Kept) → Reached (UnstoredNext t opening m reading q) s old last mid → Reached (CommitNext t opening m reading q) s old last mid
+  unstored-reached s old last mid r = record { did = r.did; path = unstored-path s old r.did last mid r.path }
+
+  unstored-whole : {R : Type 0} (Ends : commit.CommitStage → Kept → R → Type 0) (old new : Kept) (r : R) → Whole (UnstoredNext t opening m reading q) Ends commit.Asked old new r → Whole (CommitNext t opening m reading q) Ends commit.Asked old new r
+  unstored-whole Ends old new r w = record { last = w.last; reached = unstored-reached commit.Asked old w.last new w.reached; ends = w.ends }
+
 module _ (t : TargetPlan) (m : TargetMemory) (reading : ℕ) (from : ActorId) (d : Durable) (h : State) (new : Option Durable) (k : State) (finds : Durable → Type 0) (left : TargetMemory) where
+  -- it was heard as where nothing stops
+  plain-now : (q : Message) → KnowsNoneDown t m q → (did : Did) → Now new k (λ l. Hears t h.opening m reading from q (kept d h) l (left, did)) → Now new k (λ l. (number : ℕ) → Heard number t h.opening m reading from q (kept d h) l (left, did))
+  plain-now q up did now = record { durable = now.durable; kept_is = now.kept_is; holds = λ number. Plainly up now.holds }
+
+  -- or as what comes of stops
+  further-now : (q : Message) (did : Did) → Now new k (λ l. (number : ℕ) → HearsFurther number t h.opening m reading from q (kept d h) l (left, did)) → Now new k (λ l. (number : ℕ) → Heard number t h.opening m reading from q (kept d h) l (left, did))
+  further-now q did now = record { durable = now.durable; kept_is = now.kept_is; holds = λ number. Further (now.holds number) }
+
+  -- where this doesn't depend on the number drawn
+  further-any : (q : Message) (did : Did) (P : Kept → Type 0) → ((number : ℕ) (l : Kept) → P l → HearsFurther number t h.opening m reading from q (kept d h) l (left, did)) → Now new k P → Now new k (λ l. (number : ℕ) → Heard number t h.opening m reading from q (kept d h) l (left, did))
+  further-any q did P gives now = further-now q did (record { durable = now.durable; kept_is = now.kept_is; holds = λ number. gives number _ now.holds })
+
   pub hears-fetch : (a : AttemptId) (op group : ℕ) (ep first : Option Epoch) (tracker : Epoch) (q : Read) (snapshot : Bool) (r : Result Did TargetStop) → FetchTurn t m reading (fetch_request a op group ep first tracker q snapshot) from read.Asked d h new k finds left r → HearsOrStops t m reading from (Fetch a op group ep first tracker q snapshot) d h new k finds left r
-  hears-fetch a op group ep first tracker q snapshot (Ok did) turn = turn
-  hears-fetch a op group ep first tracker q snapshot (Err (stop.Store issued lines)) turn = λ number up x found. cut-turn (read.FetchNext t m reading (fetch_request a op group ep first tracker q snapshot)) (fetch-plain t m reading (fetch_request a op group ep first tracker q snapshot)) t.me (fetch_issued (fetch_request a op group ep first tracker q snapshot)) (issued_by_fetch (fetch_request a op group ep first tracker q snapshot)) (fetch-issues (fetch_request a op group ep first tracker q snapshot)) read.Asked (kept d h) (left_by k finds) issued lines turn x found
+  hears-fetch a op group ep first tracker q snapshot (Ok did) turn = plain-now (Fetch a op group ep first tracker q snapshot) tt did turn
+  hears-fetch a op group ep first tracker q snapshot (Err (stop.Store issued lines)) turn = λ number x found. cut-turn (read.FetchNext t m reading (fetch_request a op group ep first tracker q snapshot)) (fetch-plain t m reading (fetch_request a op group ep first tracker q snapshot)) t.me (fetch_issued (fetch_request a op group ep first tracker q snapshot)) (issued_by_fetch (fetch_request a op group ep first tracker q snapshot)) (fetch-issues (fetch_request a op group ep first tracker q snapshot)) read.Asked (kept d h) (left_by k finds) issued lines turn x found
   hears-fetch a op group ep first tracker q snapshot (Err (stop.Foreign at byte)) turn = turn
   hears-fetch a op group ep first tracker q snapshot (Err stop.Memory) turn = turn
 
-  pub hears-commit : (a : AttemptId) (ep first : Option Epoch) (tracker : Epoch) (ws : List MinorWrite) (r : Result Did TargetStop) → CommitTurn t h.opening m reading (commit_request a ep first tracker ws) from commit.Asked d h new k finds left r → HearsOrStops t m reading from (Commit a ep first tracker ws) d h new k finds left r
-  hears-commit a ep first tracker ws (Ok did) turn = turn
-  hears-commit a ep first tracker ws (Err (stop.Store issued lines)) turn = λ number up x found. NoneIsDown up (cut-turn (commit.CommitNext t h.opening m reading (commit_request a ep first tracker ws)) (commit-plain t h.opening m reading (commit_request a ep first tracker ws)) t.me (commit_issued (commit_request a ep first tracker ws)) (issued_by_commit (commit_request a ep first tracker ws)) (commit-issues (commit_request a ep first tracker ws)) commit.Asked (kept d h) (left_by k finds) issued lines turn x found)
-  hears-commit a ep first tracker ws (Err (stop.Foreign at byte)) turn = turn
-  hears-commit a ep first tracker ws (Err stop.Memory) turn = turn
+  pub hears-commit : (a : AttemptId) (ep first : Option Epoch) (tracker : Epoch) (ws : List MinorWrite) → ((e : Epoch) → down_of t m (commit_request a ep first tracker ws) e ≡ None) → (r : Result Did TargetStop) → CommitTurn t h.opening m reading (commit_request a ep first tracker ws) from commit.Asked d h new k finds left r → HearsOrStops t m reading from (Commit a ep first tracker ws) d h new k finds left r
+  hears-commit a ep first tracker ws up (Ok did) turn = plain-now (Commit a ep first tracker ws) up did turn
+  hears-commit a ep first tracker ws up (Err (stop.Store issued lines)) turn = λ number x found. NoneIsDown up (cut-turn (commit.CommitNext t h.opening m reading (commit_request a ep first tracker ws)) (commit-plain t h.opening m reading (commit_request a ep first tracker ws)) t.me (commit_issued (commit_request a ep first tracker ws)) (issued_by_commit (commit_request a ep first tracker ws)) (commit-issues (commit_request a ep first tracker ws)) commit.Asked (kept d h) (left_by k finds) issued lines turn x found)
+  hears-commit a ep first tracker ws up (Err (stop.Foreign at byte)) turn = turn
+  hears-commit a ep first tracker ws up (Err stop.Memory) turn = turn
 
   pub hears-prepare : (e : Entry) (first : Option Epoch) (ws : List MinorWrite) (inc : ℕ) (r : Result Did TargetStop) → PrepareTurn t h.opening m (prepare_request e first ws inc) prepare.Heard d h new k finds left r → HearsOrStops t m reading from (Prepare e first ws inc) d h new k finds left r
-  hears-prepare e first ws inc (Ok did) turn = turn
-  hears-prepare e first ws inc (Err (stop.Store issued lines)) turn = λ number up x found. cut-turn (prepare.PrepareNext t h.opening m (prepare_request e first ws inc)) (prepare-plain t h.opening m (prepare_request e first ws inc)) t.me never none_issued (λ s. refl) prepare.Heard (kept d h) (left_by k finds) issued lines turn x found
+  hears-prepare e first ws inc (Ok did) turn = plain-now (Prepare e first ws inc) tt did turn
+  hears-prepare e first ws inc (Err (stop.Store issued lines)) turn = λ number x found. cut-turn (prepare.PrepareNext t h.opening m (prepare_request e first ws inc)) (prepare-plain t h.opening m (prepare_request e first ws inc)) t.me never none_issued (λ s. refl) prepare.Heard (kept d h) (left_by k finds) issued lines turn x found
   hears-prepare e first ws inc (Err (stop.Foreign at byte)) turn = turn
   hears-prepare e first ws inc (Err stop.Memory) turn = turn
 
   pub hears-ack : (a : AttemptId) (inc : ℕ) (refusal : Option Outcome) (r : Result Did TargetStop) → Turn (ack.AckNext t m from.number a inc refusal) never ack.Heard (kept d h) (λ did l. Whole (ack.AckNext t m from.number a inc refusal) (ack.AckEnds m) ack.Heard (kept d h) l (left, did)) new k finds r → HearsOrStops t m reading from (Ack a inc refusal) d h new k finds left r
-  hears-ack a inc refusal (Ok did) turn = turn
-  hears-ack a inc refusal (Err (stop.Store issued lines)) turn = λ number up x found. cut-turn (ack.AckNext t m from.number a inc refusal) (ack-plain t m from.number a inc refusal) t.me never none_issued (λ s. refl) ack.Heard (kept d h) (left_by k finds) issued lines turn x found
+  hears-ack a inc refusal (Ok did) turn = plain-now (Ack a inc refusal) tt did turn
+  hears-ack a inc refusal (Err (stop.Store issued lines)) turn = λ number x found. cut-turn (ack.AckNext t m from.number a inc refusal) (ack-plain t m from.number a inc refusal) t.me never none_issued (λ s. refl) ack.Heard (kept d h) (left_by k finds) issued lines turn x found
   hears-ack a inc refusal (Err (stop.Foreign at byte)) turn = turn
   hears-ack a inc refusal (Err stop.Memory) turn = turn
 
   pub hears-mark : (inc : ℕ) (marks : List (AttemptId × Bool)) (r : Result Did TargetStop) → Turn (MarkNext is_prepared) never marks (kept d h) (λ did l. Whole (MarkNext is_prepared) (MarkEnds (told_of_all (attempts_of marks) m) from inc marks) marks (kept d h) l (left, did)) new k finds r → HearsOrStops t m reading from (Mark inc marks) d h new k finds left r
-  hears-mark inc marks (Ok did) turn = turn
-  hears-mark inc marks (Err (stop.Store issued lines)) turn = λ number up x found. cut-turn (MarkNext is_prepared) (mark-plain is_prepared) t.me never none_issued (λ s. refl) marks (kept d h) (left_by k finds) issued lines turn x found
+  hears-mark inc marks (Ok did) turn = plain-now (Mark inc marks) tt did turn
+  hears-mark inc marks (Err (stop.Store issued lines)) turn = λ number x found. cut-turn (MarkNext is_prepared) (mark-plain is_prepared) t.me never none_issued (λ s. refl) marks (kept d h) (left_by k finds) issued lines turn x found
   hears-mark inc marks (Err (stop.Foreign at byte)) turn = turn
   hears-mark inc marks (Err stop.Memory) turn = turn
 
   pub hears-marked : (inc : ℕ) (ids : List AttemptId) (r : Result Did TargetStop) → Turn (ack.MarkedNext t m from.number) never (ack.to_confirm inc ids d) (kept d h) (λ did l. Whole (ack.MarkedNext t m from.number) (ack.MarkedEnds t m from.number inc ids) (ack.to_confirm inc ids d) (kept d h) l (left, did)) new k finds r → HearsOrStops t m reading from (Marked inc ids) d h new k finds left r
-  hears-marked inc ids (Ok did) turn = turn
-  hears-marked inc ids (Err (stop.Store issued lines)) turn = λ number up x found. cut-turn (ack.MarkedNext t m from.number) (marked-plain t m from.number) t.me never none_issued (λ s. refl) (ack.to_confirm inc ids d) (kept d h) (left_by k finds) issued lines turn x found
+  hears-marked inc ids (Ok did) turn = plain-now (Marked inc ids) tt did turn
+  hears-marked inc ids (Err (stop.Store issued lines)) turn = λ number x found. cut-turn (ack.MarkedNext t m from.number) (marked-plain t m from.number) t.me never none_issued (λ s. refl) (ack.to_confirm inc ids d) (kept d h) (left_by k finds) issued lines turn x found
   hears-marked inc ids (Err (stop.Foreign at byte)) turn = turn
   hears-marked inc ids (Err stop.Memory) turn = turn
 
   pub hears-query : (a : AttemptId) (ask : Option AttemptId) (r : Result Did TargetStop) → Turn verdict.QueryNext never verdict.IsAsked (kept d h) (λ did l. Whole verdict.QueryNext (verdict.QueryEnds t m from a ask) verdict.IsAsked (kept d h) l (left, did)) new k finds r → HearsOrStops t m reading from (Query a ask) d h new k finds left r
-  hears-query a ask (Ok did) turn = turn
-  hears-query a ask (Err (stop.Store issued lines)) turn = λ number up x found. cut-turn (verdict.QueryNext) (query-plain) t.me never none_issued (λ s. refl) verdict.IsAsked (kept d h) (left_by k finds) issued lines turn x found
+  hears-query a ask (Ok did) turn = plain-now (Query a ask) tt did turn
+  hears-query a ask (Err (stop.Store issued lines)) turn = λ number x found. cut-turn (verdict.QueryNext) (query-plain) t.me never none_issued (λ s. refl) verdict.IsAsked (kept d h) (left_by k finds) issued lines turn x found
   hears-query a ask (Err (stop.Foreign at byte)) turn = turn
   hears-query a ask (Err stop.Memory) turn = turn
 
   pub hears-verdict : (a : AttemptId) (ask : Option AttemptId) (inc : ℕ) (v : VerdictOf) (r : Result Did TargetStop) → VerdictTurn t (told_by v a m) reading a ask v verdict.Heard d h new k finds left r → HearsOrStops t m reading from (Verdict a ask inc v) d h new k finds left r
-  hears-verdict a ask inc v (Ok did) turn = turn
-  hears-verdict a ask inc v (Err (stop.Store issued lines)) turn = λ number up x found. cut-turn (verdict.VerdictNext is_prepared t (told_by v a m) reading a ask v) (verdict-plain is_prepared t (told_by v a m) reading a ask v) t.me never none_issued (λ s. refl) verdict.Heard (kept d h) (left_by k finds) issued lines turn x found
+  hears-verdict a ask inc v (Ok did) turn = plain-now (Verdict a ask inc v) tt did turn
+  hears-verdict a ask inc v (Err (stop.Store issued lines)) turn = λ number x found. cut-turn (verdict.VerdictNext is_prepared t (told_by v a m) reading a ask v) (verdict-plain is_prepared t (told_by v a m) reading a ask v) t.me never none_issued (λ s. refl) verdict.Heard (kept d h) (left_by k finds) issued lines turn x found
   hears-verdict a ask inc v (Err (stop.Foreign at byte)) turn = turn
   hears-verdict a ask inc v (Err stop.Memory) turn = turn
+
+  -- ---- what comes of stops
+
+  pub hears-ask : (a : AttemptId) (r : Result Did TargetStop) → Turn NoChange never Looking (kept d h) (λ did l. Whole NoChange (EndsAs (ask_left t m from a)) Looking (kept d h) l (left, did)) new k finds r → HearsOrStops t m reading from (Ask a) d h new k finds left r
+  hears-ask a (Ok did) turn = further-any (Ask a) did _ (λ number l w. w) turn
+  hears-ask a (Err (stop.Store issued lines)) turn = λ number x found. cut-turn NoChange looking-plain t.me never none_issued (λ s. refl) Looking (kept d h) (left_by k finds) issued lines turn x found
+  hears-ask a (Err (stop.Foreign at byte)) turn = turn
+  hears-ask a (Err stop.Memory) turn = turn
+
+  pub hears-status : (a : AttemptId) (inc : ℕ) (r : Result Did TargetStop) → Turn NoChange never Looking (kept d h) (λ did l. Whole NoChange (EndsAs (status_left m from a inc)) Looking (kept d h) l (left, did)) new k finds r → HearsOrStops t m reading from (Status a inc) d h new k finds left r
+  hears-status a inc (Ok did) turn = further-any (Status a inc) did _ (λ number l w. w) turn
+  hears-status a inc (Err (stop.Store issued lines)) turn = λ number x found. cut-turn NoChange looking-plain t.me never none_issued (λ s. refl) Looking (kept d h) (left_by k finds) issued lines turn x found
+  hears-status a inc (Err (stop.Foreign at byte)) turn = turn
+  hears-status a inc (Err stop.Memory) turn = turn
+
+  pub hears-status_is : (a : AttemptId) (inc : ℕ) (how : EntryState) (r : Result Did TargetStop)
+      → Turn (ack.AckNext t m from.number a inc (status_refusal a how)) never ack.Heard (kept d h) (λ did l. Whole (ack.AckNext t m from.number a inc (status_refusal a how)) (ack.AckEnds m) ack.Heard (kept d h) l (left, did)) new k finds r
+      → HearsOrStops t m reading from (StatusIs a inc how) d h new k finds left r
+  hears-status_is a inc how (Ok did) turn = further-any (StatusIs a inc how) did _ (λ number l w. w) turn
+  hears-status_is a inc how (Err (stop.Store issued lines)) turn =
+      λ number x found. cut-turn (ack.AckNext t m from.number a inc (status_refusal a how)) (ack-plain t m from.number a inc (status_refusal a how)) t.me never none_issued (λ s. refl) ack.Heard (kept d h) (left_by k finds) issued lines turn x found
+  hears-status_is a inc how (Err (stop.Foreign at byte)) turn = turn
+  hears-status_is a inc how (Err stop.Memory) turn = turn
+
+  reset-rolled : (by : ℕ) (down : Bool) (asked : Message) → is_collecting asked ≡ false → (r : Result Did TargetStop) → Turn NoChange never Looking (kept d h) (λ did l. Whole NoChange (EndsAs (reset_left t m by down asked)) Looking (kept d h) l (left, did)) new k finds r
+      → HearsOrStops t m reading from (own.roll-Message (own.Message-F.Reset by down asked)) d h new k finds left r
+  unfolding own.roll-Message denote.Hole.Carrier.roll denote.Hole.Carrier.hidden block.hidden-the_row-Message-0
+  reset-rolled by down asked other (Ok did) turn = further-any (own.roll-Message (own.Message-F.Reset by down asked)) did _ (λ number l w. subst (λ f. Whole NoChange (EndsAs f) Looking (kept d h) l (left, did)) (sym (reset-as t m by down asked other)) w) turn
+  reset-rolled by down asked other (Err (stop.Store issued lines)) turn = λ number x found. cut-turn NoChange looking-plain t.me never none_issued (λ s. refl) Looking (kept d h) (left_by k finds) issued lines turn x found
+  reset-rolled by down asked other (Err (stop.Foreign at byte)) turn = turn
+  reset-rolled by down asked other (Err stop.Memory) turn = turn
+
+  pub hears-reset : (by : ℕ) (down : Bool) (asked : Message) → is_collecting asked ≡ false → (r : Result Did TargetStop) → Turn NoChange never Looking (kept d h) (λ did l. Whole NoChange (EndsAs (reset_left t m by down asked)) Looking (kept d h) l (left, did)) new k finds r
+      → HearsOrStops t m reading from (Reset by down asked) d h new k finds left r
+  hears-reset by down asked other r turn = subst (λ q. HearsOrStops t m reading from q d h new k finds left r) (message.rolls-Reset by down asked) (reset-rolled by down asked other r turn)
+
+  pub hears-commit_down : (a : AttemptId) (ep first : Option Epoch) (tracker : Epoch) (ws : List MinorWrite) (e : Epoch) (down : ℕ) → down_of t m (commit_request a ep first tracker ws) e ≡ Some down → (r : Result Did TargetStop)
+      → DownTurn t h.opening m reading (commit_request a ep first tracker ws) from d h new k finds left r → HearsOrStops t m reading from (Commit a ep first tracker ws) d h new k finds left r
+  hears-commit_down a ep first tracker ws e down is (Ok did) turn = further-any (Commit a ep first tracker ws) did _ (λ number l w. unstored-whole t h.opening m reading (commit_request a ep first tracker ws) (CommitDown t m reading (commit_request a ep first tracker ws) from) (kept d h) l (left, did) w) turn
+  hears-commit_down a ep first tracker ws e down is (Err (stop.Store issued lines)) turn =
+      λ number x found.
+      OneIsDown e down is
+      (cut-turn (UnstoredNext t h.opening m reading (commit_request a ep first tracker ws)) (unstored-plain t h.opening m reading (commit_request a ep first tracker ws)) t.me (commit_issued (commit_request a ep first tracker ws))
+      (issued_by_commit (commit_request a ep first tracker ws)) (commit-issues (commit_request a ep first tracker ws)) commit.Asked (kept d h) (left_by k finds) issued lines turn x found)
+  hears-commit_down a ep first tracker ws e down is (Err (stop.Foreign at byte)) turn = turn
+  hears-commit_down a ep first tracker ws e down is (Err stop.Memory) turn = record {
+    durable = turn.durable;
+    kept_is = turn.kept_is;
+    holds = record { last = turn.holds.last; reached = unstored-reached t h.opening m reading (commit_request a ep first tracker ws) commit.Asked (kept d h) turn.holds.last _ turn.holds.reached };
+  }
 
 -- and its idle work
 pub idles : (settling : Bool) (t : TargetPlan) (m : TargetMemory) (d : Durable) (h : State) (new : Option Durable) (k : State) (finds : Durable → Type 0) (left : TargetMemory) (r : Result Did TargetStop)

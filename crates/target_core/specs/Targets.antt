@@ -1,14 +1,15 @@
 -- What a target is seen as, what holds of each, and what a turn of it comes to.
-use Rattle.std.specs.Prelude.{ℕ, ◌≡◌, Bool, true, List, [], Option, None, is_some, Result, Ok, Err}
+use Rattle.std.specs.Prelude.{ℕ, ◌≡◌, ◌<◌, ◌≤◌, ◌⊎◌, Bool, true, false, List, [], Option, None, Some, is_some, Result, Ok, Err}
 use Rattle.base_types.specs.declared.epoch.Epoch.{Epoch}
 use Rattle.base_types.specs.declared.id.AttemptId.{AttemptId}
 use Rattle.base_types.specs.declared.outcome.FloorWhy.{FloorWhy}
 use Rattle.base_types.specs.declared.report.Line.{Line}
 use Rattle.base_types.specs.Operations.{read_path}
 use Rattle.base_messages.specs.declared.actor.ActorId.{ActorId}
-use Rattle.base_messages.specs.declared.message.Message.{Message}
-use Rattle.base_messages.specs.declared.message.Message.TheVariants.{Ack, Commit, Fetch, Mark, Marked, Prepare, Query, Verdict}
+use Rattle.base_messages.specs.declared.message.Message.{Message, more_of-Message}
+use Rattle.base_messages.specs.declared.message.Message.TheVariants.{Ack, Ask, Commit, Fetch, Freeze, Mark, Marked, Prepare, Prune, Query, Reset', Status, StatusIs, Verdict}
 use Rattle.daos_model.specs.declared.durable.Durable.{Durable}
+use Rattle.daos_model.specs.Changes.{reopened}
 use Rattle.daos_model.specs.Durables.{is_enlisted}
 use Rattle.vos_store.specs.Calls.{State}
 use Rattle.world_base.specs.declared.did.Did.{Did}
@@ -18,30 +19,50 @@ use Rattle.world_base.specs.Acks as ack
 use Rattle.world_base.specs.Changes.{Kept}
 use Rattle.world_base.specs.Commits as commit
 use Rattle.world_base.specs.CutTurns.{Cutting, HearingIsCut, IdleWorkIsCut, listed_issue}
-use Rattle.world_base.specs.Further.{KnowsNoneDown}
+use Rattle.world_base.specs.Further.{HearsFurther, KnowsNoneDown}
 use Rattle.world_base.specs.Idle.{IdleNext}
 use Rattle.world_base.specs.Marks.{MarkNext}
 use Rattle.world_base.specs.Prepares as prepare
 use Rattle.world_base.specs.Reads as read
 use Rattle.world_base.specs.Roles.{is_prepared, told_by}
+use Rattle.world_base.specs.Statuses.{Looking, NoChange, opening_memory, status_refusal}
 use Rattle.world_base.specs.TargetTurns.{Hears, IdlesWhole, commit_request, fetch_request, prepare_request}
 use Rattle.world_base.specs.Verdicts as verdict
 pub use Rattle.world_posts.specs.Forms.{HasForm, is_of_client}
 use Rattle.target_parts.specs.declared.stop.TargetStop.{TargetStop}
 use Rattle.target_parts.specs.declared.stop.TargetStop.TheVariants as stop
 use Rattle.target_parts.specs.Parts.{Now, Partway, kept, left_by}
-pub use Rattle.target_parts.specs.Standing.{IsTarget}
+use Rattle.target_parts.specs.declared.knows.Knows.{Knows}
+pub use Rattle.target_parts.specs.Standing.{IsPlaced, IsTarget}
+use Rattle.target_resync.specs.Openings.{opening_did, opening_floor}
 use Rattle.target_writes.specs.Checks.{CanCommit}
 use Rattle.target_writes.specs.Turns.{CanPrepareHere}
 
 -- ---- a target
 
--- what it is made for, its store and its clock, and what it knows
+-- what it is made for, its store and its clock, what it knows, and whether that is of what its store keeps: not where memory was wanting
+-- when it opened again
 pub record TargetOf (S C : Type 0) : Type 0 where
   pub plan : TargetPlan
   pub store : S
   pub clock : C
   pub memory : TargetMemory
+  pub opened : Bool
+
+-- it is one of at most 64, for which its store was made; and where it has opened, what it knows fits what it keeps
+pub record StandsAs (t : TargetPlan) (h : State) (old : Option Durable) (k : Knows) (opened : Bool) : Type 0 where
+  pub placed : IsPlaced t h
+  pub few : t.targets ≤ 64
+  pub fits : opened ≡ true → IsTarget t h old k
+
+-- It opened, by the restart of a number, with this of what its store may have kept, and knows this.
+pub record OpensAs (t : TargetPlan) (n : ℕ) (may : Durable → Type 0) (new : Option Durable) (k : State) (memory : TargetMemory) (did : Did) : Type 0 where
+  pub found : Durable
+  pub may_be : may found
+  pub kept_is : new ≡ Some (reopened found)
+  pub opening : k.opening ≡ opening_floor n found
+  pub memory_is : memory ≡ opening_memory t (reopened found)
+  pub did_is : did ≡ opening_did t n found
 
 -- ---- what a target is asked
 
@@ -51,6 +72,32 @@ CanHear t (Fetch x op group ep first tracker r snapshot) d = is_enlisted d (read
 CanHear t (Commit x ep first tracker ws) d = CanCommit t x ep ws d
 CanHear t (Prepare e first ws inc) d = CanPrepareHere e ws d
 CanHear t m d = Unit {0}
+
+-- what asks the others for a snapshot or an aggregation
+abbrev pub is_collecting : Message → Bool
+is_collecting (Freeze x c s) = true
+is_collecting (Prune x c tracker e) = true
+is_collecting m = false
+
+-- What else a target hears where targets stop: it is asked what became of an attempt, or what it holds of one; it is told what another one
+-- holds; or a message to one of at most 64 targets got no answer, which asked for no snapshot and no aggregation.
+abbrev pub HasFormAfterStops : Message → Type 0
+HasFormAfterStops (Ask x) = Unit {0}
+HasFormAfterStops (Status x inc) = Unit {0}
+HasFormAfterStops (StatusIs x inc how) = Unit {0}
+HasFormAfterStops (Reset' by down place (more_of-Message asked rest)) = (by < 64) × (is_collecting asked ≡ false)
+HasFormAfterStops m = ⊥
+
+abbrev pub is_after_stops : Message → Bool
+is_after_stops (Ask x) = true
+is_after_stops (Status x inc) = true
+is_after_stops (StatusIs x inc how) = true
+is_after_stops (Reset' by down place asked) = true
+is_after_stops m = false
+
+-- a target can be given a message in this form
+abbrev pub IsInForm : TargetPlan → Message → Type 0
+IsInForm t m = HasForm t m ⊎ HasFormAfterStops m
 
 -- a message for which no epoch is issued
 abbrev pub has_epoch : Message → Bool
@@ -64,11 +111,15 @@ has_epoch m = true
 abbrev pub cutting : Kept → Option (AttemptId × Epoch) → List Line → Cutting
 cutting x issued lines = record { left = x; issued = listed_issue issued; lines = lines }
 
--- A turn in which a message is heard was cut short, as the world knows it, whatever the next opening finds; where no member of a Commit is
--- known to be down.
+-- A turn in which a message is heard was cut short, as the world knows it, whatever the next opening finds.
 abbrev pub HearsCut : TargetPlan → Epoch × FloorWhy → TargetMemory → ℕ → ActorId → Message → Kept → (Kept → Type 0) → Option (AttemptId × Epoch) → List Line → Type 0
 HearsCut t opening m reading from message old finds issued lines =
-    (number : ℕ) → KnowsNoneDown t m message → (x : Kept) → finds x → HearingIsCut is_prepared number t opening m reading from message old (cutting x issued lines)
+    (number : ℕ) (x : Kept) → finds x → HearingIsCut is_prepared number t opening m reading from message old (cutting x issued lines)
+
+-- A message is heard as where nothing stops, and then no member of a Commit is known to be down; or it is heard as what comes of stops.
+pub data Heard (number : ℕ) (t : TargetPlan) (opening : Epoch × FloorWhy) (m : TargetMemory) (reading : ℕ) (from : ActorId) (q : Message) (old new : Kept) (left : TargetMemory × Did) : Type 0 where
+  Plainly : KnowsNoneDown t m q → Hears t opening m reading from q old new left → Heard number t opening m reading from q old new left
+  Further : HearsFurther number t opening m reading from q old new left → Heard number t opening m reading from q old new left
 
 -- some of the changes of a turn in which a message is heard were made
 abbrev pub HearsPartway : TargetPlan → Epoch × FloorWhy → TargetMemory → ℕ → ActorId → Message → Kept → Kept → Type 0
@@ -80,12 +131,16 @@ HearsPartway t opening m reading from (Mark inc marks) old mid = Partway (MarkNe
 HearsPartway t opening m reading from (Marked inc ids) old mid = Partway (ack.MarkedNext t m from.number) (ack.to_confirm inc ids old.durable) old mid
 HearsPartway t opening m reading from (Query x ask) old mid = Partway verdict.QueryNext verdict.IsAsked old mid
 HearsPartway t opening m reading from (Verdict x ask inc v) old mid = Partway (verdict.VerdictNext is_prepared t (told_by v x m) reading x ask v) verdict.Heard old mid
+HearsPartway t opening m reading from (Ask x) old mid = Partway NoChange Looking old mid
+HearsPartway t opening m reading from (Status x inc) old mid = Partway NoChange Looking old mid
+HearsPartway t opening m reading from (StatusIs x inc how) old mid = Partway (ack.AckNext t m from.number x inc (status_refusal x how)) ack.Heard old mid
+HearsPartway t opening m reading from (Reset' by down place asked) old mid = Partway NoChange Looking old mid
 HearsPartway t opening m reading from other old mid = ⊥
 
 -- A turn in which a target hears a message at a reading of its clock: it is whole, and these are what the target then
 -- keeps and knows and what follows; or it was cut short; or memory was wanting, and some changes were made, each whole.
 abbrev pub HearsOrStops : TargetPlan → TargetMemory → ℕ → ActorId → Message → Durable → State → Option Durable → State → (Durable → Type 0) → TargetMemory → Result Did TargetStop → Type 0
-HearsOrStops t m reading from message d h new k finds left (Ok did) = Now new k (λ l. Hears t h.opening m reading from message (kept d h) l (left, did))
+HearsOrStops t m reading from message d h new k finds left (Ok did) = Now new k (λ l. (number : ℕ) → Heard number t h.opening m reading from message (kept d h) l (left, did))
 HearsOrStops t m reading from message d h new k finds left (Err (stop.Store issued lines)) = HearsCut t h.opening m reading from message (kept d h) (left_by k finds) issued lines
 HearsOrStops t m reading from message d h new k finds left (Err (stop.Foreign at byte)) = ⊥
 HearsOrStops t m reading from message d h new k finds left (Err stop.Memory) = Now new k (HearsPartway t h.opening m reading from message (kept d h))

@@ -4,10 +4,12 @@ ghost use Rattle.std.specs.Option.{ForSome};
 ghost use Rattle.daos_model.specs.declared.durable.Durable.{Durable};
 ghost use Rattle.world_posts.specs.Forms.{PostsInForm};
 ghost use Rattle.target_parts.specs.Knowing.{memory_of};
-ghost use Rattle.target_core.specs.Targets.{CanHear, HasForm, HearsOrStops, has_epoch, is_of_client};
+ghost use Rattle.target_core.specs.Targets.{CanHear, HasForm, HearsOrStops, IsInForm, has_epoch, is_of_client};
 ghost use Rattle.target_parts.specs.Standing.{IsTarget, TurnRuns};
 ghost use Rattle.target_parts.specs.Readings.{IsReadUpTo, most_readings};
 
+use crate::after_stops::{hear_after_stops, is_after_stops};
+use crate::commits::hear_any_commit;
 use base_messages::actor::ActorId;
 use base_messages::message::Message;
 use base_outside::clock::Clock;
@@ -19,7 +21,6 @@ use target_parts::knows::Knows;
 use target_parts::stop::TargetStop;
 use target_reads::again::hear_verdict;
 use target_reads::fetches::hear_fetch;
-use target_writes::commits::hear_commit;
 use target_writes::prepares::hear_prepare;
 use vos_store::store::Store;
 use world_base::did::Did;
@@ -86,7 +87,7 @@ fn hear_client<S: Store, C: Clock>(
                 tracker,
                 writes,
             };
-            hear_commit(alloc, plan, store, clock, knows, from, &request)
+            hear_any_commit(alloc, plan, store, clock, knows, from, &request)
         }
         _ => unreachable!(),
     }
@@ -176,6 +177,34 @@ fn is_of_client(message: &Message) -> bool
     matches!(message, Message::Fetch { .. } | Message::Commit { .. })
 }
 
+// What another target tells or asks, or what comes of stops.
+fn hear_other<S: Store>(
+    alloc: Global,
+    plan: TargetPlan,
+    store: &mut S,
+    knows: &mut Knows,
+    from: ActorId,
+    message: Message,
+) -> Result<Did, TargetStop>
+    requires target { IsTarget plan (S.state store.old) (S.durable store.old) knows.old }
+    requires running { (S.state store.old).stopped ≡ false }
+    requires told { is_of_client message ≡ false }
+    requires form { IsInForm plan message }
+    requires here { ForSome (S.durable store.old) (CanHear plan message) }
+    ensures turn { (d : Durable) → S.durable store.old ≡ Some d → (reading : ℕ)
+        → HearsOrStops plan (memory_of knows.old) reading from message d (S.state store.old)
+        (S.durable store.new) (S.state store.new) (S.may store.new) (memory_of knows.new) result }
+    ensures posts { HasForm plan message → from.client ≡ false → IfOk result (λ did. PostsInForm plan.targets knows.old.leader knows.new.leader did.posts) }
+    ensures target { IsTarget plan (S.state store.new) (S.durable store.new) knows.new }
+    ensures stopped { TurnRuns result (S.state store.old) (S.state store.new) (S.durable store.old) (S.durable store.new) }
+{
+    if is_after_stops(&message) {
+        hear_after_stops(alloc, plan, store, knows, from, message)
+    } else {
+        hear_target(alloc, plan, store, knows, from, message)
+    }
+}
+
 /// It hears a message.
 pub(crate) fn hear_message<S: Store, C: Clock>(
     alloc: Global,
@@ -188,12 +217,12 @@ pub(crate) fn hear_message<S: Store, C: Clock>(
 ) -> Result<Did, TargetStop>
     requires target { IsTarget plan (S.state store.old) (S.durable store.old) knows.old }
     requires running { (S.state store.old).stopped ≡ false }
-    requires form { HasForm plan message }
+    requires form { IsInForm plan message }
     requires here { ForSome (S.durable store.old) (CanHear plan message) }
     ensures turn { (reading : ℕ) × IfSome (C.next clock.old) (λ r. r ≡ reading) × ((d : Durable) → S.durable store.old ≡ Some d
         → HearsOrStops plan (memory_of knows.old) reading from message d (S.state store.old)
         (S.durable store.new) (S.state store.new) (S.may store.new) (memory_of knows.new) result) }
-    ensures posts { is_of_client message ≡ from.client → IfOk result (λ did. PostsInForm plan.targets knows.old.leader knows.new.leader did.posts) }
+    ensures posts { HasForm plan message → is_of_client message ≡ from.client → IfOk result (λ did. PostsInForm plan.targets knows.old.leader knows.new.leader did.posts) }
     ensures target { IsTarget plan (S.state store.new) (S.durable store.new) knows.new }
     ensures stopped { TurnRuns result (S.state store.old) (S.state store.new) (S.durable store.old) (S.durable store.new) }
     ensures clock { IsReadUpTo C.is_read (most_readings (has_epoch message)) clock.old clock.new }
@@ -201,6 +230,6 @@ pub(crate) fn hear_message<S: Store, C: Clock>(
     if is_of_client(&message) {
         hear_client(alloc, plan, store, clock, knows, from, message)
     } else {
-        hear_target(alloc, plan, store, knows, from, message)
+        hear_other(alloc, plan, store, knows, from, message)
     }
 }

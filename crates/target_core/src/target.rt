@@ -1,9 +1,10 @@
 // A target of a run.
-ghost use Rattle.std.specs.Prelude.{◌≡◌, ◌≤◌, ◌<◌, ℕ, [], IfOk, IfErr, IfSome, Some, true, false};
+ghost use Rattle.std.specs.Prelude.{◌≡◌, ◌≤◌, ◌<◌, ◌+◌, ◌^◌, ℕ, [], IfOk, IfErr, IfSome, IsSome, Some, is_ok, true, false};
 ghost use Rattle.std.specs.Option.{ForSome};
 ghost use Rattle.daos_model.specs.declared.durable.Durable.{Durable};
 ghost use Rattle.dtx_base.specs.Leading.{first_memory};
 ghost use Rattle.dtx_base.specs.Joining.{first_member};
+ghost use Rattle.vos_store.specs.Calls.{SetsFuse};
 ghost use Rattle.vos_store.specs.Refusals.{says};
 ghost use Rattle.world_base.specs.Idle.{has_idle};
 ghost use Rattle.world_posts.specs.Forms.{PostsInForm};
@@ -11,29 +12,30 @@ ghost use Rattle.target_parts.specs.Knowing.{IsHeard};
 ghost use Rattle.target_parts.specs.Parts.{Runs};
 ghost use Rattle.target_parts.specs.Readings.{IsReadUpTo, most_readings};
 ghost use Rattle.target_parts.specs.Stops.{stop_foreign, stop_store};
-ghost use Rattle.target_core.specs.Targets.{CanHear, HasForm, HearsOrStops, IdlesOrStops, has_epoch, is_of_client};
+ghost use Rattle.target_resync.specs.Openings.{IsBare, Left, Reopens};
+ghost use Rattle.target_core.specs.Targets.{CanHear, HasForm, HearsOrStops, IdlesOrStops, IsInForm, OpensAs, has_epoch, is_of_client};
 
 use crate::hearing::hear_message;
 use base_messages::actor::ActorId;
 use base_messages::message::Message;
 use base_outside::clock::Clock;
 use base_types::epoch::TargetId;
-use daos_hlc::clock::Hlc;
-use dtx_leader::decisions::Decisions;
-use dtx_member::member::Member;
+use base_types::items::Items;
 use std::alloc::Global;
 use std::marker::Model;
 use target_dtx::idle::{has_idle_work, idle_work};
 use target_parts::knows::Knows;
 use target_parts::stop::TargetStop;
-use vos_stamp::stamps::Stamps;
-use vos_store::store::Store;
+use target_resync::opening::first_knows;
+use target_resync::restarts::{Opened, restart};
+use vos_store::store::{Fuse, Store};
 use world_base::did::Did;
 use world_base::target::TargetPlan;
 
 /// A target: its store, its clock, and what it knows until it stops. Unless its store is stopped, the
 /// attempts that it has to decide or to settle are prepared there, no version there is later than its
-/// ticks, and the lease covers them.
+/// ticks, and the lease covers them. Where memory was wanting when it opened again, it may only be taken
+/// apart.
 #[derive(Drop)]
 pub struct Target<S: Store, C: Clock> {
     alloc: Global,
@@ -41,21 +43,22 @@ pub struct Target<S: Store, C: Clock> {
     store: S,
     clock: C,
     knows: Knows,
+    opened: bool,
 }
 
 impl<S: Store, C: Clock> Model for Target<S, C> {
     ghost use Rattle.base_messages.specs.contracts.message.Message as message;
     ghost use Rattle.std.specs.Coded.{codes};
-    ghost use Rattle.target_core.specs.Targets.{IsTarget, TargetOf};
+    ghost use Rattle.target_core.specs.Targets.{StandsAs, TargetOf};
     ghost use Rattle.target_parts.specs.Knowing.{memory_of};
 
     ghost Value = { TargetOf S C };
 
     ghost coded = { Prim.hlevel (codes, message.the_row.coded) };
 
-    ghost view = { λ t. record { plan = t.plan; store = t.store; clock = t.clock; memory = memory_of t.knows } };
+    ghost view = { λ t. record { plan = t.plan; store = t.store; clock = t.clock; memory = memory_of t.knows; opened = t.opened } };
 
-    ghost invariant = { λ t. IsTarget t.plan (S.state t.store) (S.durable t.store) t.knows };
+    ghost invariant = { λ t. StandsAs t.plan (S.state t.store) (S.durable t.store) t.knows t.opened };
 }
 
 /// No target was made, for want of memory. Its parts are handed back.
@@ -63,23 +66,6 @@ impl<S: Store, C: Clock> Model for Target<S, C> {
 pub struct TargetNew<S, C> {
     pub store: S,
     pub clock: C,
-}
-
-// What a target knows that has just opened, over a store with this lease and without entries.
-fn first_knows(alloc: Global, me: TargetId, targets: u8, lease: u64) -> Result<Knows, TargetStop>
-    ensures clock { IfOk result (λ k. k.hlc ≡ record { target = me; ticks = lease }) }
-    ensures stamps { IfOk result (λ k. k.stamps.reads ≡ []) }
-    ensures entries { IfOk result (λ k. k.entries.items ≡ []) }
-    ensures leader { IfOk result (λ k. k.leader ≡ first_memory []) }
-    ensures member { IfOk result (λ k. k.member ≡ first_member me) }
-{
-    Ok(Knows {
-        hlc: Hlc::new(me, lease),
-        stamps: Stamps::new(alloc)?,
-        entries: Vec::new(alloc),
-        leader: Decisions::new(alloc, me, &[])?,
-        member: Member::new(alloc, me, targets)?,
-    })
 }
 
 impl<S: Store, C: Clock> Target<S, C> {
@@ -112,19 +98,22 @@ impl<S: Store, C: Clock> Target<S, C> {
         ensures leader { IfOk result (λ t. t.memory.leader ≡ first_memory []) }
         ensures member { IfOk result (λ t. t.memory.member ≡ (first_member me).memory) }
         ensures making { IfOk result (λ t. t.memory.collecting ≡ []) }
+        ensures opened { IfOk result (λ t. t.opened ≡ true) }
         ensures handed_back { IfErr result (λ parts. parts ≡ record { store = store; clock = clock }) }
     {
-        match first_knows(alloc, me, targets, store.lease()) {
+        let plan = TargetPlan {
+            me,
+            targets,
+            epsilon,
+        };
+        match first_knows(alloc, plan, store.lease(), Items::new(alloc)) {
             Ok(knows) => Ok(Target {
                 alloc,
-                plan: TargetPlan {
-                    me,
-                    targets,
-                    epsilon,
-                },
+                plan,
                 store,
                 clock,
                 knows,
+                opened: true,
             }),
             Err(_memory) => Err(TargetNew { store, clock }),
         }
@@ -132,6 +121,7 @@ impl<S: Store, C: Clock> Target<S, C> {
 
     /// It hears a message, and tells what follows. Its clock is read once at most, and only where an
     /// epoch is issued. The number is one drawn for this turn, which none of the messages so far uses.
+    /// What asks for a snapshot or an aggregation isn't heard yet.
     ///
     /// # Errors
     ///
@@ -142,10 +132,12 @@ impl<S: Store, C: Clock> Target<S, C> {
         message: Message,
         number: Option<u32>,
     ) -> Result<Did, TargetStop>
+        requires opened { self.old.opened ≡ true }
         requires running { (S.state self.old.store).stopped ≡ false }
-        requires form { HasForm self.old.plan message }
+        requires form { IsInForm self.old.plan message }
         requires here { ForSome (S.durable self.old.store) (CanHear self.old.plan message) }
         ensures plan { self.new.plan ≡ self.old.plan }
+        ensures opened { self.new.opened ≡ true }
         ensures runs { Runs stop_store result (S.state self.old.store) (S.state self.new.store) (S.durable self.old.store) (S.durable self.new.store) }
         ensures turn { (reading : ℕ) × IfSome (C.next self.old.clock) (λ r. r ≡ reading) × ((d : Durable) → S.durable self.old.store ≡ Some d
             → HearsOrStops self.old.plan self.old.memory reading from message d (S.state self.old.store)
@@ -153,7 +145,7 @@ impl<S: Store, C: Clock> Target<S, C> {
         ensures native { says stop_foreign result ≡ false }
         ensures clock { IsReadUpTo C.is_read (most_readings (has_epoch message)) self.old.clock self.new.clock }
         ensures unread { has_epoch message ≡ true → self.new.clock ≡ self.old.clock }
-        ensures posts { is_of_client message ≡ from.client → IfOk result (λ did. PostsInForm self.old.plan.targets self.old.memory.leader self.new.memory.leader did.posts) }
+        ensures posts { HasForm self.old.plan message → is_of_client message ≡ from.client → IfOk result (λ did. PostsInForm self.old.plan.targets self.old.memory.leader self.new.memory.leader did.posts) }
     {
         let _number = number;
         let Target {
@@ -162,6 +154,7 @@ impl<S: Store, C: Clock> Target<S, C> {
             store,
             clock,
             knows,
+            ..
         } = self;
         hear_message(*alloc, *plan, store, clock, knows, from, message)
     }
@@ -173,8 +166,10 @@ impl<S: Store, C: Clock> Target<S, C> {
     ///
     /// `Store` where the store stopped, and then the turn was cut short; else for want of memory.
     pub fn idle(&mut self, settling: bool) -> Result<Did, TargetStop>
+        requires opened { self.old.opened ≡ true }
         requires running { (S.state self.old.store).stopped ≡ false }
         ensures plan { self.new.plan ≡ self.old.plan }
+        ensures opened { self.new.opened ≡ true }
         ensures clock { self.new.clock ≡ self.old.clock }
         ensures runs { Runs stop_store result (S.state self.old.store) (S.state self.new.store) (S.durable self.old.store) (S.durable self.new.store) }
         ensures turn { (d : Durable) → S.durable self.old.store ≡ Some d
@@ -193,12 +188,48 @@ impl<S: Store, C: Clock> Target<S, C> {
     }
 
     /// Whether it has idle work: attempts that it decided aren't settled, another member is to be told of
-    /// a commit, or, in the settling phase, a leader is to be asked. While its store is stopped this says
-    /// nothing.
+    /// a commit, or, in the settling phase, a leader is to be asked. While its store is stopped, or where
+    /// it didn't open, this says nothing.
     pub fn has_idle(&self, settling: bool) -> bool
-        ensures { (S.state self.now.store).stopped ≡ false → (d : Durable) → S.durable self.now.store ≡ Some d → result ≡ has_idle settling self.now.plan self.now.memory d }
+        ensures { self.now.opened ≡ true → (S.state self.now.store).stopped ≡ false → (d : Durable) → S.durable self.now.store ≡ Some d → result ≡ has_idle settling self.now.plan self.now.memory d }
     {
-        has_idle_work(self.plan, &self.store, &self.knows, settling)
+        self.opened && has_idle_work(self.plan, &self.store, &self.knows, settling)
+    }
+
+    /// It opens again, by the restart of this number: its store opens with one of what it may have kept,
+    /// its incarnation raised. What it knows then is what one knows that has just opened; it adds its
+    /// restart line, and asks the other members of each attempt that it leads and that isn't committed.
+    /// Its clock isn't read.
+    ///
+    /// # Errors
+    ///
+    /// `Store` where a count of the store rose, which is then stopped; `Foreign` where the store met a
+    /// foreign byte, which never comes from one that tells what it keeps; else for want of memory. No line
+    /// is added then, and the next opening finds what this one may have found, with the incarnation raised
+    /// or not. After want of memory the target may only be taken apart.
+    pub fn restart(&mut self, number: u32) -> Result<Did, TargetStop>
+        requires counted { ForSome (S.durable self.old.store) (λ _. (x : Durable) → S.may self.old.store x → x.incarnation + 1 < 2 ^ 64) }
+        requires covered { ForSome (S.durable self.old.store) (λ _. (x : Durable) → S.may self.old.store x → IsHeard x.lease x) }
+        ensures plan { self.new.plan ≡ self.old.plan }
+        ensures clock { self.new.clock ≡ self.old.clock }
+        ensures opens { Reopens result (S.state self.old.store) (S.state self.new.store) (S.durable self.old.store) (S.durable self.new.store) }
+        ensures turn { ForSome (S.durable self.old.store) (λ _. IfOk result (OpensAs self.old.plan number (S.may self.old.store) (S.durable self.new.store) (S.state self.new.store) self.new.memory)) }
+        ensures left { Left (S.may self.old.store) (S.may self.new.store) }
+        ensures bare { IfErr result IsBare }
+        ensures native { IsSome (S.durable self.old.store) → says stop_foreign result ≡ false }
+        ensures opened { self.new.opened ≡ is_ok result }
+    {
+        match restart(self.alloc, self.plan, &mut self.store, number) {
+            Ok(Opened { knows, did }) => {
+                self.knows = knows;
+                self.opened = true;
+                Ok(did)
+            }
+            Err(stop) => {
+                self.opened = false;
+                Err(stop)
+            }
+        }
     }
 
     /// The store and the clock; what the target knows is gone.
@@ -212,7 +243,25 @@ impl<S: Store, C: Clock> Target<S, C> {
             store,
             clock,
             knows: _knows,
+            opened: _opened,
         } = self;
         (store, clock)
+    }
+}
+
+impl<S: Fuse, C: Clock> Target<S, C> {
+    /// Sets a fuse of its store: it stops at its `k`-th write to its region from now on, or its `k`-th
+    /// change where it has no region, once. 0 takes away one that is set. It changes nothing else, and
+    /// takes no memory.
+    pub fn fuse(&mut self, k: u32)
+        ensures plan { self.new.plan ≡ self.old.plan }
+        ensures clock { self.new.clock ≡ self.old.clock }
+        ensures memory { self.new.memory ≡ self.old.memory }
+        ensures opened { self.new.opened ≡ self.old.opened }
+        ensures state { SetsFuse k (S.state self.old.store) (S.state self.new.store) }
+        ensures durable { S.durable self.new.store ≡ S.durable self.old.store }
+        ensures left { (x : Durable) → S.may self.new.store x → S.may self.old.store x }
+    {
+        self.store.fuse(k);
     }
 }

@@ -14,6 +14,8 @@ use Rattle.world_base.specs.declared.request.PrepareRequest.{PrepareRequest}
 use Rattle.world_base.specs.declared.target.TargetMemory.{TargetMemory}
 use Rattle.world_base.specs.declared.target.TargetPlan.{TargetPlan}
 use Rattle.world_base.specs.Commits as commit
+use Rattle.world_base.specs.CutTurns.{UnstoredNext}
+use Rattle.world_base.specs.Further.{CommitDown}
 use Rattle.world_base.specs.Prepares as prepare
 use Rattle.world_base.specs.Requests.{issued_for, sends}
 use Rattle.world_base.specs.Roles.{leads_on}
@@ -28,6 +30,13 @@ abbrev pub CommitTurn : TargetPlan → Epoch × FloorWhy → TargetMemory → �
 CommitTurn t opening m reading q from start d h new k finds left result =
     Turn (commit.CommitNext t opening m reading q) (commit_issued q) start (kept d h)
     (λ did l. Whole (commit.CommitNext t opening m reading q) (commit.CommitEnds t opening m reading q from) start (kept d h) l (left, did)) new k finds result
+
+-- A turn in which a Commit is heard with a member that is known to be down: it ends before its writes are checked, and nothing is stored,
+-- also where it is cut.
+abbrev pub DownTurn : TargetPlan → Epoch × FloorWhy → TargetMemory → ℕ → CommitRequest → ActorId → Durable → State → Option Durable → State → (Durable → Type 0) → TargetMemory → Result Did TargetStop → Type 0
+DownTurn t opening m reading q from d h new k finds left result =
+    Turn (UnstoredNext t opening m reading q) (commit_issued q) commit.Asked (kept d h)
+    (λ did l. Whole (UnstoredNext t opening m reading q) (CommitDown t m reading q from) commit.Asked (kept d h) l (left, did)) new k finds result
 
 -- what a target knows, and what follows, once an attempt began at an epoch that it heard of
 abbrev pub begun_of : TargetPlan → TargetMemory → CommitRequest → ActorId → Epoch → Durable → TargetMemory × Did

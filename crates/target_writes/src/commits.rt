@@ -40,7 +40,7 @@ use world_base::request::CommitRequest;
 use world_base::target::TargetPlan;
 
 // An attempt ended.
-fn ended(attempt: AttemptId, ep: Option<Epoch>, outcome: Outcome) -> Message
+pub(crate) fn ended(attempt: AttemptId, ep: Option<Epoch>, outcome: Outcome) -> Message
     ensures { result ≡ message.Ended attempt ep outcome }
 {
     Message::Ended {

@@ -3,4 +3,5 @@
 
 pub mod checks;
 pub mod commits;
+pub mod downs;
 pub mod prepares;

@@ -44,6 +44,10 @@ RunsCanBeHeard =
     (r : Rules) (o : Opening) (w v : World) (l : Letter) (t : ℕ) (s : TargetState) → IsSimple r → IsBegun r o w → Run r w v → Contains v.messages l → l.to ≡ target t → slice_get v.targets t ≡ Some s
     → IsHeardRight r t s l
 
+-- And no target knows another one to be down.
+abbrev pub RunsKnowNoneDown : Type 0
+RunsKnowNoneDown = (r : Rules) (o : Opening) (w v : World) (t : ℕ) (s : TargetState) → IsSimple r → IsBegun r o w → Run r w v → slice_get v.targets t ≡ Some s → s.memory.leader.down ≡ 0
+
 -- ---- proofs
 
 -- what is enlisted depends on the containers alone
@@ -97,3 +101,6 @@ pub runs-can-be-heard : RunsCanBeHeard
 runs-can-be-heard r o w v l t s A b run among to here =
     let k = runs-stay-whole r o w v A b run in
     requests-can-be-heard r o (held_at w) k.0 v l t s (held-before r o w b) k.1.all (k.1.enlisted t s here) among to here (k.1.running t s here)
+
+pub runs-know-none-down : RunsKnowNoneDown
+runs-know-none-down r o w v t s A b run here = (runs-stay-whole r o w v A b run).1.all.asks.rows.up t s here

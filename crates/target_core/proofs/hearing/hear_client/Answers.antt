@@ -1,14 +1,14 @@
 use Rattle.std.proofs.Common.{subst, sym}
 use Rattle.target_parts.specs.Knowing.{memory_of}
 use Rattle.target_core.specs.Targets.{CanHear, HearsOrStops}
-use Rattle.target_core.proofs.Heard.{hears-commit, hears-fetch}
+use Rattle.target_core.proofs.Heard.{hears-fetch}
 use Rattle.target_core.proofs.hearing.hear_client.Goals as goal
 
 pub hear_fetch-requires-clause-enlisted : goal.hear_fetch-requires-clause-enlisted
 hear_fetch-requires-clause-enlisted g c d at = subst (λ m. CanHear c.args.plan m d) c.in-Fetch.is (c.requires.here d at)
 
-pub hear_commit-requires-clause-here : goal.hear_commit-requires-clause-here
-hear_commit-requires-clause-here g c d at = subst (λ m. CanHear c.args.plan m d) c.in-Commit.is (c.requires.here d at)
+pub hear_any_commit-requires-clause-here : goal.hear_any_commit-requires-clause-here
+hear_any_commit-requires-clause-here g c d at = subst (λ m. CanHear c.args.plan m d) c.in-Commit.is (c.requires.here d at)
 
 pub returns-in-Fetch-clause-turn : goal.returns-in-Fetch-clause-turn
 returns-in-Fetch-clause-turn g c = (
@@ -23,11 +23,9 @@ returns-in-Fetch-clause-turn g c = (
 
 pub returns-in-Commit-clause-turn : goal.returns-in-Commit-clause-turn
 returns-in-Commit-clause-turn g c = (
-  c.hear_commit.ensures.turn.0,
-  c.hear_commit.ensures.turn.1,
+  c.hear_any_commit.ensures.turn.0,
+  c.hear_any_commit.ensures.turn.1,
   λ d at.
-      subst (λ m. HearsOrStops c.args.plan (memory_of c.args.knows.now) c.hear_commit.ensures.turn.0 c.args.from m d (g.S.Store.state c.args.store.now) (g.S.Store.durable c.hear_commit.new.store) (g.S.Store.state c.hear_commit.new.store)
-      (g.S.Store.may c.hear_commit.new.store) (memory_of c.hear_commit.new.knows) c.hear_commit.result) (sym c.in-Commit.is)
-      (hears-commit c.args.plan (memory_of c.args.knows.now) c.hear_commit.ensures.turn.0 c.args.from d (g.S.Store.state c.args.store.now) _ _ _ _ c.in-Commit.attempt c.in-Commit.ep c.in-Commit.first c.in-Commit.tracker c.in-Commit.writes c.hear_commit.result
-      (c.hear_commit.ensures.turn.2 d at)),
+      subst (λ m. HearsOrStops c.args.plan (memory_of c.args.knows.now) c.hear_any_commit.ensures.turn.0 c.args.from m d (g.S.Store.state c.args.store.now) (g.S.Store.durable c.hear_any_commit.new.store) (g.S.Store.state c.hear_any_commit.new.store)
+      (g.S.Store.may c.hear_any_commit.new.store) (memory_of c.hear_any_commit.new.knows) c.hear_any_commit.result) (sym c.in-Commit.is) (c.hear_any_commit.ensures.turn.2 d at),
 )

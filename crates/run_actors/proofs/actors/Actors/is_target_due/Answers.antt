@@ -12,5 +12,7 @@ returns-else-count_to-gt0 g c r w k =
     let now = c.args.self.now in
     let x = c.index.result.now in
     target-due-shown g.S.Store.durable g.S.Store.state r now.clients.items now.targets.items now.between w k c.args.settling c.args.t x c.has_idle.result (at-index now.targets.items c.args.t x c.requires.within c.index.ensures)
-    (λ d told. idle-due (count_to (target c.args.t) now.between.messages) c.count_to.result c.has_idle.result (has_idle c.args.settling x.plan x.memory d) (c.count_to.ensures ∙ ap (λ a. count_to a now.between.messages) c.target_id.ensures) c.if-count_to-gt0.false (c.has_idle.ensures
-    (target-there g.S.Store.durable g.S.Store.state r now.clients.items now.targets.items now.between w c.args.t x k (at-index now.targets.items c.args.t x c.requires.within c.index.ensures)).is.running d told))
+    (λ d told.
+    let there = target-there g.S.Store.durable g.S.Store.state r now.clients.items now.targets.items now.between w c.args.t x k (at-index now.targets.items c.args.t x c.requires.within c.index.ensures) in
+    idle-due (count_to (target c.args.t) now.between.messages) c.count_to.result c.has_idle.result (has_idle c.args.settling x.plan x.memory d) (c.count_to.ensures ∙ ap (λ a. count_to a now.between.messages) c.target_id.ensures) c.if-count_to-gt0.false
+    (c.has_idle.ensures there.is.opened there.is.running d told))

@@ -1,0 +1,26 @@
+use Rattle.std.proofs.Common.{◌≡◌, ◌∙◌, ◌<◌, ap, false, subst, sym}
+use Rattle.base_messages.specs.declared.message.Message.{Reset}
+use Rattle.target_parts.specs.Knowing.{memory_of}
+use Rattle.target_core.specs.Targets.{HasFormAfterStops, HearsOrStops, is_collecting}
+use Rattle.target_core.proofs.Heard.{hears-reset, hears-status_is, reset-form}
+use Rattle.target_core.proofs.after_stops.hear_after_stops.Goals as goal
+
+pub hear_reset-requires-clause-one : goal.hear_reset-requires-clause-one
+hear_reset-requires-clause-one g c = (reset-form c.in-Reset.target c.in-Reset.down c.in-Reset.message (subst HasFormAfterStops c.in-Reset.is c.requires.form)).0
+
+pub returns-in-StatusIs-clause-turn : goal.returns-in-StatusIs-clause-turn
+returns-in-StatusIs-clause-turn g c d at reading =
+    subst (λ m. HearsOrStops c.args.plan (memory_of c.args.knows.now) reading c.args.from m d (g.S.Store.state c.args.store.now) (g.S.Store.durable c.hear_status_is.new.store) (g.S.Store.state c.hear_status_is.new.store)
+    (g.S.Store.may c.hear_status_is.new.store) (memory_of c.hear_status_is.new.knows) c.hear_status_is.result) (sym c.in-StatusIs.is)
+    (hears-status_is c.args.plan (memory_of c.args.knows.now) reading c.args.from d (g.S.Store.state c.args.store.now) _ _ _ _ c.in-StatusIs.attempt c.in-StatusIs.inc c.in-StatusIs.state c.hear_status_is.result
+    (c.hear_status_is.ensures.turn d at))
+
+pub returns-in-Reset-clause-turn : goal.returns-in-Reset-clause-turn
+returns-in-Reset-clause-turn g c d at reading =
+    let same = c.get.ensures in
+    let form = reset-form c.in-Reset.target c.in-Reset.down c.in-Reset.message (subst HasFormAfterStops c.in-Reset.is c.requires.form) in
+    let other : is_collecting c.get.result.now ≡ false = ap is_collecting same ∙ form.1 in
+    subst (λ m. HearsOrStops c.args.plan (memory_of c.args.knows.now) reading c.args.from m d (g.S.Store.state c.args.store.now) (g.S.Store.durable c.args.store.now) (g.S.Store.state c.args.store.now)
+    (g.S.Store.may c.args.store.now) (memory_of c.hear_reset.new.knows) c.hear_reset.result) (ap (Reset c.in-Reset.target c.in-Reset.down) same ∙ sym c.in-Reset.is)
+    (hears-reset c.args.plan (memory_of c.args.knows.now) reading c.args.from d (g.S.Store.state c.args.store.now) _ _ _ _ c.in-Reset.target c.in-Reset.down c.get.result.now other c.hear_reset.result
+    (c.hear_reset.ensures.turn d at))

@@ -1,0 +1,82 @@
+-- How a message was heard, by its kind.
+use Rattle.std.specs.Prelude.{ℕ, ◌≡◌, ◌&&◌, Bool, true, false, List, [], ◌∷◌, find, Option, Some, None, refl, if◌then◌else◌}
+use Rattle.std.proofs.Common.{◌∙◌, ap}
+use Rattle.base_types.specs.declared.epoch.Epoch.{Epoch}
+use Rattle.base_types.specs.declared.id.AttemptId.{AttemptId}
+use Rattle.base_types.specs.declared.operation.MinorWrite.{MinorWrite}
+use Rattle.base_types.specs.declared.outcome.FloorWhy.{FloorWhy}
+use Rattle.base_messages.specs.declared.actor.ActorId.{ActorId}
+use Rattle.base_messages.specs.declared.message.Message.{Message}
+use Rattle.base_messages.specs.declared.message.Message.TheVariants as message
+use Rattle.dtx_base.specs.Leading.{first_down, is_down_among}
+use Rattle.dtx_base.specs.Members.{all_targets, has_target}
+use Rattle.world_attempts.specs.MemberBits.{has-none}
+use Rattle.world_base.specs.declared.did.Did.{Did}
+use Rattle.world_base.specs.declared.target.TargetMemory.{TargetMemory}
+use Rattle.world_base.specs.declared.target.TargetPlan.{TargetPlan}
+use Rattle.world_base.specs.Changes.{Kept}
+use Rattle.world_base.specs.Commits as commit
+use Rattle.world_base.specs.Commits.{CommitNext, led_entry}
+use Rattle.world_base.specs.Further as further
+use Rattle.world_base.specs.Further.{CommitDown}
+use Rattle.world_base.specs.Statuses.{down_of}
+use Rattle.world_base.specs.TargetTurns.{Hears, commit_request}
+use Rattle.world_base.specs.Turns.{Reached}
+use Rattle.target_core.specs.Targets.{Further, HasForm, Heard, Plainly}
+
+-- ---- where nothing stopped
+
+none-among : (xs : List ℕ) (members down : ℕ) → down ≡ 0 → find (is_down_among members down) xs ≡ None
+none-among [] members down none = refl
+none-among (x ∷ xs) members down none =
+    ap (λ b. if b then Some x else find (is_down_among members down) xs) (off (has_target members x) (has_target down x) (ap (λ n. has_target n x) none ∙ has-none x)) ∙ none-among xs members down none
+  where
+    off : (a b : Bool) → b ≡ false → (a && b) ≡ false
+    off true b k = k
+    off false b k = refl
+
+-- where no target is known to be down, none is of a Commit's members
+none-down : (p : TargetPlan) (m : TargetMemory) (x : AttemptId) (ep first : Option Epoch) (tracker : Epoch) (ws : List MinorWrite) (e : Epoch) → m.leader.down ≡ 0 → down_of p m (commit_request x ep first tracker ws) e ≡ None
+unfolding first_down
+none-down p m x ep first tracker ws e up = none-among all_targets (led_entry p (commit_request x ep first tracker ws) e).members m.leader.down up
+
+module _ (number : ℕ) (p : TargetPlan) (opening : Epoch × FloorWhy) (m : TargetMemory) (reading : ℕ) (from : ActorId) (old new : Kept) (left : TargetMemory × Did) where
+  -- a Commit is heard in steps of its kind, however it ends
+  pub commit-heard : (x : AttemptId) (ep first : Option Epoch) (tracker : Epoch) (ws : List MinorWrite) → Heard number p opening m reading from (message.Commit x ep first tracker ws) old new left
+      → (last : commit.CommitStage) × Reached (CommitNext p opening m reading (commit_request x ep first tracker ws)) commit.Asked old last new
+  commit-heard x ep first tracker ws (Plainly none w) = (w.last, w.reached)
+  commit-heard x ep first tracker ws (Further w) = (w.last, w.reached)
+
+  -- what leaders and members tell, and a Fetch, is heard as where nothing stops
+  pub fetch-heard : (q : Message) → HasForm p q → ((x : AttemptId) (ep first : Option Epoch) (tracker : Epoch) (ws : List MinorWrite) → q ≡ message.Commit x ep first tracker ws → ⊥) → Heard number p opening m reading from q old new left
+      → Hears p opening m reading from q old new left
+  fetch-heard q form other (Plainly none w) = w
+  fetch-heard (message.Commit x ep first tracker ws) form other (Further w) = absurd (other x ep first tracker ws refl)
+  fetch-heard (message.Fetch x op group ep first tracker read snapshot) form other (Further w) = absurd w
+  fetch-heard (message.Prepare e first ws inc) form other (Further w) = absurd w
+  fetch-heard (message.Ack x inc refusal) form other (Further w) = absurd w
+  fetch-heard (message.Mark inc marks) form other (Further w) = absurd w
+  fetch-heard (message.Marked inc ids) form other (Further w) = absurd w
+  fetch-heard (message.Query x ask) form other (Further w) = absurd w
+  fetch-heard (message.Verdict x ask inc v) form other (Further w) = absurd w
+  fetch-heard q form other (Further w) = absurd form
+
+  -- and so is every message without stops, where no target is known to be down
+  pub plainly-heard : (q : Message) → HasForm p q → m.leader.down ≡ 0 → Heard number p opening m reading from q old new left → Hears p opening m reading from q old new left
+  plainly-heard q form up (Plainly none w) = w
+  plainly-heard (message.Commit x ep first tracker ws) form up (Further w) = absurd (by w.last new w.ends)
+    where
+      known : (e : Epoch) (down : ℕ) → down_of p m (commit_request x ep first tracker ws) e ≡ Some down → ⊥
+      known e down is = let none = none-down p m x ep first tracker ws e up in let no : ⊥ = cc (none, is) in no
+
+      by : (s : commit.CommitStage) (k : Kept) → CommitDown p m reading (commit_request x ep first tracker ws) from s k left → ⊥
+      by s k (further.IsSpent j e down l spent is told) = known e down is
+      by s k (further.IsUnknown j e down l is told) = known e down is
+  plainly-heard (message.Fetch x op group ep first tracker read snapshot) form up (Further w) = absurd w
+  plainly-heard (message.Prepare e first ws inc) form up (Further w) = absurd w
+  plainly-heard (message.Ack x inc refusal) form up (Further w) = absurd w
+  plainly-heard (message.Mark inc marks) form up (Further w) = absurd w
+  plainly-heard (message.Marked inc ids) form up (Further w) = absurd w
+  plainly-heard (message.Query x ask) form up (Further w) = absurd w
+  plainly-heard (message.Verdict x ask inc v) form up (Further w) = absurd w
+  plainly-heard q form up (Further w) = absurd form
