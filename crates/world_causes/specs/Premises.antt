@@ -50,14 +50,24 @@ abbrev pub IsNoRestart : Reply → Type 0
 IsNoRestart (reply.Answer b) = Unit {0}
 IsNoRestart (reply.Outcome how) = is_restart how ≡ false
 
--- it is so of each request, also of one between targets; and an answer without an epoch tells of no restart
+-- a request bears a first epoch of which this is so, also one between targets
+abbrev pub RequestKnows : (AttemptId → Option Epoch → Type 0) → Message → Type 0
+RequestKnows Knows (message.Fetch x op group ep first tracker r snapshot) = Knows x first
+RequestKnows Knows (message.Commit x ep first tracker ws) = Knows x first
+RequestKnows Knows (message.Prepare e first ws inc) = Knows e.attempt first
+RequestKnows Knows m = Unit {0}
+
+-- so does each request; and an answer without an epoch tells of no restart
+abbrev pub MessageBears : (AttemptId → Option Epoch → Type 0) → Message → Type 0
+MessageBears Knows (message.Fetch x op group ep first tracker r snapshot) = Knows x first
+MessageBears Knows (message.Commit x ep first tracker ws) = Knows x first
+MessageBears Knows (message.Prepare e first ws inc) = Knows e.attempt first
+MessageBears Knows (message.Fetched x op group None b) = IsNoRestart b
+MessageBears Knows (message.Ended x None how) = is_restart how ≡ false
+MessageBears Knows m = Unit {0}
+
 abbrev pub MessageKnows : Dated → Message → Type 0
-MessageKnows issued (message.Fetch x op group ep first tracker r snapshot) = IsFirst issued x first
-MessageKnows issued (message.Commit x ep first tracker ws) = IsFirst issued x first
-MessageKnows issued (message.Prepare e first ws inc) = IsFirst issued e.attempt first
-MessageKnows issued (message.Fetched x op group None b) = IsNoRestart b
-MessageKnows issued (message.Ended x None how) = is_restart how ≡ false
-MessageKnows issued m = Unit {0}
+MessageKnows issued m = MessageBears (IsFirst issued) m
 
 -- it is so of all messages, and of the Fetches that wait
 pub record FirstsAreKnown (w : World) : Type 0 where
