@@ -3,6 +3,7 @@ use Rattle.std.specs.Prelude.{ℕ, ◌≡◌, ◌≤◌, ◌<◌, ◌/◌, Any, 
 use Rattle.base_types.specs.declared.epoch.Epoch.{Epoch}
 use Rattle.base_types.specs.declared.id.AttemptId.{AttemptId}
 use Rattle.base_types.specs.declared.operation.MinorWrite.{MinorWrite}
+use Rattle.base_types.specs.declared.report.Line.{Line}
 use Rattle.base_types.specs.declared.script.Command.{Command}
 use Rattle.base_types.specs.declared.shown.Shown.{Shown}
 use Rattle.base_types.specs.Operations.{write_path}
@@ -24,7 +25,8 @@ use Rattle.world_base.specs.declared.letter.Letter.{Letter}
 use Rattle.world_base.specs.declared.target.TargetState.{TargetState}
 use Rattle.world_base.specs.declared.world.World.{World}
 use Rattle.world_base.specs.Events.{Rules, client_plan}
-use Rattle.world_causes.specs.Causes.{Dated, limit, zeroth}
+use Rattle.world_causes.specs.Causes.{Dated, zeroth}
+use Rattle.world_causes.specs.Shown.{IsFirstOf, limit_over}
 
 -- ---- the run
 
@@ -88,11 +90,11 @@ VersionsAreWritten r o w = (t : ℕ) (s : TargetState) → slice_get w.targets t
 -- ---- a turn
 
 -- what a target knows of a request's epochs
-pub record IsRequest (o : Opening) (issued : Dated) (x : AttemptId) (ep first : Option Epoch) (tracker : Epoch) : Type 0 where
-  pub tracked : tracker.0 / 256 ≤ limit o issued
-  pub own : (e : Epoch) → ep ≡ Some e → Contains issued (x, e) × (top o < e.0) × (e.0 / 256 ≤ limit o issued)
+pub record IsRequest (o : Opening) (issued : Dated) (lines : List Line) (x : AttemptId) (ep first : Option Epoch) (tracker : Epoch) : Type 0 where
+  pub tracked : tracker.0 / 256 ≤ limit_over o lines issued
+  pub own : (e : Epoch) → ep ≡ Some e → Contains issued (x, e) × (top o < e.0) × (e.0 / 256 ≤ limit_over o lines issued)
   pub fresh : ep ≡ None → ((e : Epoch) → Contains issued (x, e) → ⊥) × (top o ≤ tracker.0)
-  pub known : IsFirst issued x first
+  pub known : IsFirstOf issued lines x first
 
 -- each timestamp is of an attempt with that epoch, which asks there
 abbrev pub AreOfReads : Rules → Dated → List Shown → Type 0

@@ -35,7 +35,7 @@ use Rattle.world_base.specs.StepLaws.{set-here}
 use Rattle.world_base.specs.Steps.{KeptByCounting, KeptByHearing, KeptByMoves, after_client, without}
 use Rattle.world_causes.specs.Causes.{Dated}
 use Rattle.world_causes.specs.Growth.{at-set}
-use Rattle.world_causes.specs.Shown.{WasLost}
+use Rattle.world_causes.specs.Shown.{AreLostBefore, IsFirstOf, WasLost}
 use Rattle.world_clients.specs.MoveLaws.{is-at}
 use Rattle.world_clients.specs.Snapshots.{at-same, is_at_snapshot}
 use Rattle.world_clients.specs.Standing.{HasTold}
@@ -46,7 +46,7 @@ use Rattle.world_epochs.specs.EventLaws.{stands-by-counting, stands-by-hearing, 
 use Rattle.world_talks.specs.AskLaws.{move-is, waiting-rests}
 use Rattle.world_talks.specs.Asked.{ARead, ASnapshot, AnAggregation, Asked, Asking, IsMove, ItsWrites, Silent, Telling}
 use Rattle.world_talks.specs.TalkLaws.{left-is-among, taken-is-among}
-use Rattle.world_firsts.specs.Firsts.{AreLostBefore, Firsts, IsFirstOf, IsKept, Keeps, MessageTells}
+use Rattle.world_firsts.specs.Firsts.{Firsts, IsKept, Keeps, MessageTells}
 use Rattle.world_firsts.specs.Keeping.{IsMore, follows-keeps, kept-stays, lines-only, lost-of, tells-stay}
 use Rattle.world_firsts.specs.Moves.{Begins, GoesFrom, IfRestart, IsNew, IsNext, IsNone, IsOver, IsSame, LeadsOn, MovesOn, ReplyMayRestart, Stays, ended-leads, moved-moves, replied-leads, reset-by_leads}
 

@@ -27,7 +27,7 @@ use Rattle.world_base.specs.declared.target.TargetMemory.{TargetMemory}
 use Rattle.world_base.specs.declared.target.TargetState.{TargetState}
 use Rattle.world_base.specs.declared.world.World.{World}
 use Rattle.world_base.specs.Events as events
-use Rattle.world_base.specs.Events.{ByClient, ByTarget, Event, Rules, TargetHearsBy, ToClient, ToTarget, after_turn, client_plan, kept, target_after, target_plan, with_epoch, with_target}
+use Rattle.world_base.specs.Events.{ByClient, ByTarget, Event, Rules, ToClient, ToTarget, after_turn, kept, target_after, target_plan, with_epoch, with_target}
 use Rattle.world_base.specs.Letters.{Takes, letter_of, letters_of, target}
 use Rattle.world_base.specs.StepLaws.{by-hearing, by-next, set-is, set-there}
 use Rattle.world_base.specs.Statuses.{opening_posts, status_to, statuses_for, statuses_of}
@@ -41,7 +41,8 @@ use Rattle.world_talks.specs.TalkLaws.{left-is-among, taken-is-among}
 use Rattle.world_firsts.specs.Clients.{Standing, answers-bear, by-counts, by-hears, by-moves}
 use Rattle.world_firsts.specs.Firsts.{Firsts, GoesWith, MessageTells, WaitsSo}
 use Rattle.world_firsts.specs.Further.{AllWait, Leaves, PostsTell, all-bear, further-leaves}
-use Rattle.world_firsts.specs.Keeping.{IsMore, clients-stay, follows-keeps, lines-only, lost-more, more-by, none-more, tells-stay, waits-stay}
+use Rattle.world_causes.specs.Lasting.{lost-more}
+use Rattle.world_firsts.specs.Keeping.{IsMore, clients-stay, follows-keeps, lines-only, more-by, none-more, tells-stay, waits-stay}
 
 -- ---- what was heard, or waited, before
 

@@ -1,6 +1,6 @@
 -- The first epoch of a command that a client keeps, and that goes with its requests, over runs in which targets may stop, snapshots are
 -- made and read, and versions are aggregated.
-use Rattle.std.specs.Prelude.{ℕ, ◌≡◌, ◌<◌, true, false, List, slice_get, Contains, Option, Some, None}
+use Rattle.std.specs.Prelude.{ℕ, ◌≡◌, true, false, List, slice_get, Contains, Option, Some, None}
 use Rattle.base_types.specs.declared.epoch.Epoch.{Epoch}
 use Rattle.base_types.specs.declared.id.AttemptId.{AttemptId}
 use Rattle.base_types.specs.declared.report.Line.{Line}
@@ -17,19 +17,10 @@ use Rattle.world_base.specs.ClientTurns.{attempt_id}
 use Rattle.world_base.specs.Events.{Rules, client_plan}
 use Rattle.world_causes.specs.Causes.{Dated}
 use Rattle.world_causes.specs.Premises.{IsNoRestart, MessageBears}
-use Rattle.world_causes.specs.Shown.{IsFirstEpoch, WasLost}
+use Rattle.world_causes.specs.Shown.{AreLostBefore, IsFirstEpoch, IsFirstOf}
 use Rattle.world_clients.specs.Snapshots.{is_at_snapshot}
 
--- the attempts of a command before this one were lost at stops
-abbrev pub AreLostBefore : List Line → AttemptId → Type 0
-AreLostBefore lines x = (k : ℕ) → k < x.attempt → WasLost lines (record x { attempt = k })
-
--- What goes with an attempt: the first epoch of its command, which was issued to its first attempt that wasn't lost, or to one before it;
--- or none, where all attempts before it were lost. Of an attempt that reads at a snapshot nothing is said.
-abbrev pub IsFirstOf : Dated → List Line → AttemptId → Option Epoch → Type 0
-IsFirstOf issued lines x None = AreLostBefore lines x
-IsFirstOf issued lines x (Some first) = IsFirstEpoch issued lines x first
-
+-- what goes with an attempt: the first epoch of its command. Of one that reads at a snapshot nothing is said.
 abbrev pub GoesWith : Rules → Dated → List Line → AttemptId → Option Epoch → Type 0
 GoesWith r issued lines x first = is_at_snapshot r x ≡ false → IsFirstOf issued lines x first
 

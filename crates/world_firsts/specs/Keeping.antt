@@ -1,6 +1,6 @@
 -- What is so of first epochs stays so while lines and epochs are added, and how all of it is kept.
 use Rattle.std.specs.Prelude.{ℕ, ◌≡◌, ◌++◌, ◌⊎◌, true, List, Contains, slice_get, Option, Some, None}
-use Rattle.std.proofs.Common.{inl, inr, sym, subst}
+use Rattle.std.proofs.Common.{inl, inr, subst}
 use Rattle.std.proofs.lemmas.List.Elements.{Contains-append_left}
 use Rattle.base_types.specs.declared.epoch.Epoch.{Epoch}
 use Rattle.base_types.specs.declared.id.AttemptId.{AttemptId}
@@ -9,10 +9,9 @@ use Rattle.base_types.specs.declared.report.Line.{Line}
 use Rattle.base_messages.specs.declared.message.Message.{Message}
 use Rattle.base_messages.specs.declared.message.Message.TheVariants as message
 use Rattle.daos_model.specs.Attempts.{is_lost, tries}
-use Rattle.daos_model.specs.Laws.{tries-append}
 use Rattle.dtx_base.specs.declared.member.Parked.{Parked}
 use Rattle.model_laws.specs.Lists.{any-of}
-use Rattle.model_laws.specs.Members.{Has, has-from_contains, has-left}
+use Rattle.model_laws.specs.Members.{Has}
 use Rattle.world_base.specs.declared.client.ClientState.{ClientState}
 use Rattle.world_base.specs.declared.client.Present.{Present}
 use Rattle.world_base.specs.declared.letter.Letter.{Letter}
@@ -21,8 +20,9 @@ use Rattle.world_base.specs.declared.world.World.{World}
 use Rattle.world_base.specs.ClientTurns.{attempt_id}
 use Rattle.world_base.specs.Events.{Rules, client_plan}
 use Rattle.world_causes.specs.Causes.{Dated}
-use Rattle.world_causes.specs.Shown.{IsFirstEpoch, WasLost}
-use Rattle.world_firsts.specs.Firsts.{AreLostBefore, Firsts, GoesWith, IsKept, Keeps, MessageTells, WaitsSo}
+use Rattle.world_causes.specs.Lasting.{lost-more}
+use Rattle.world_causes.specs.Shown.{AreLostBefore, IsFirstEpoch, WasLost}
+use Rattle.world_firsts.specs.Firsts.{Firsts, GoesWith, IsKept, Keeps, MessageTells, WaitsSo}
 
 -- ---- what is added
 
@@ -36,9 +36,6 @@ none-more issued lines = record { dates = λ x e i. i; lost = λ x k. k }
 
 pub lost-of : (lines : List Line) (x : AttemptId) (a : Attempt) → Has a (tries lines) → a.id ≡ x → is_lost a.id a.outcome ≡ true → WasLost lines x
 lost-of lines x a i id lost = any-of (λ b. (b.id ≡ x) × (is_lost b.id b.outcome ≡ true)) (tries lines) a i (id, lost)
-
-pub lost-more : (lines more : List Line) (x : AttemptId) → WasLost lines x → WasLost (lines ++ more) x
-lost-more lines more x k = lost-of (lines ++ more) x k.1 (subst (Has k.1) (sym (tries-append lines more)) (has-left (tries lines) (tries more) k.1 (has-from_contains (tries lines) k.1 (k.0, k.2, k.3)))) k.4.0 k.4.1
 
 pub more-by : (issued new : Dated) (lines more : List Line) → IsMore issued (issued ++ new) lines (lines ++ more)
 more-by issued new lines more = record { dates = λ x e i. Contains-append_left issued new (x, e) i; lost = λ x k. lost-more lines more x k }
