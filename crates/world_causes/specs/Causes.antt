@@ -195,6 +195,10 @@ LowFloors o w =
     (t : ℕ) (s : TargetState) (cont : ContId) → slice_get w.targets t ≡ Some s
     → ((floor_of s.opening s.durable cont).0.0 ≤ top o) × ((row_of s.durable cont).aggregated.0 ≤ top o)
 
+-- leases are within the limit, but for one
+abbrev pub AreLeased : Opening → World → Type 0
+AreLeased o w = (t : ℕ) (s : TargetState) → slice_get w.targets t ≡ Some s → s.durable.lease ≤ limit o w.issued + 65536
+
 -- what a target's blocks went to
 abbrev pub Space : Rules → Opening → Stored → World → Type 0
 Space r o stored w = (t : ℕ) (s : TargetState) → slice_get w.targets t ≡ Some s → o.free t ≤ s.free + blocks_of_stored r.script t stored
@@ -222,6 +226,7 @@ is_try (line.Down target) = false
 -- alone.
 pub record PlainCauses (r : Rules) (o : Opening) (stored : Stored) (w : World) : Type 0 where
   pub bounded : Bounded o w
+  pub leases : AreLeased o w
   pub space : Space r o stored w
   pub floors : LowFloors o w
   pub waiting : Waiting r w

@@ -41,9 +41,9 @@ use Rattle.world_talks.specs.TalkLaws.{left-is-among, taken-is-among}
 use Rattle.world_causes.specs.Causes.{Dated, zeroth}
 use Rattle.world_causes.specs.FirstMoves.{GoesOnFrom, KnowsIfRestart, ReplyKnows, StaysIfUnknown, ended-goes, moved-moves, replied-goes}
 use Rattle.world_causes.specs.Firsts.{EventsKeepFirsts, Firsts, KeepsFirst}
-use Rattle.world_causes.specs.FirstTurns.{AreParked, ArePosts, HasEpoch, Knows, hears-knows, idle-knows}
+use Rattle.world_causes.specs.FirstTurns.{AreParked, ArePosts, Knows, hears-knows, idle-knows, is_undated}
 use Rattle.world_causes.specs.Growth.{at-set}
-use Rattle.world_causes.specs.Premises.{IsFirst, IsFirstKnown, IsNoRestart, MessageKnows}
+use Rattle.world_causes.specs.Premises.{IsFirst, IsFirstKnown, IsNoRestart, MessageBears, MessageKnows, RequestKnows}
 
 -- ---- what is issued stays issued
 
@@ -76,7 +76,7 @@ asked-knows r issued n k c a q known (ASnapshot name cont at' says) = subst (λ 
 asked-knows r issued n k c a q known (AnAggregation cont at' says) = subst (λ x. MessageKnows issued x.message) (sym says) tt
 
 -- letters that are sent beside others in flight
-sent-knows : (issued : Dated) (actor : ActorId) (letters : List Letter) (posts : List Post) → ((l : Letter) → Contains letters l → MessageKnows issued l.message) → ArePosts issued posts → (l : Letter) → Contains (letters ++ letters_of actor posts) l
+sent-knows : (issued : Dated) (actor : ActorId) (letters : List Letter) (posts : List Post) → ((l : Letter) → Contains letters l → MessageKnows issued l.message) → ArePosts (IsFirst issued) posts → (l : Letter) → Contains (letters ++ letters_of actor posts) l
     → MessageKnows issued l.message
 sent-knows issued actor letters posts old new l i = elim (has-cases letters (letters_of actor posts) l (has-from_contains (letters ++ letters_of actor posts) l i)) [
   | inl j ↦ old l (contains-from_has letters l j)
@@ -84,21 +84,21 @@ sent-knows issued actor letters posts old new l i = elim (has-cases letters (let
 ]
 
 -- what a move sends
-move-knows : (r : Rules) (w : World) (n : ℕ) (c : ClientState) → Firsts w → slice_get w.clients n ≡ Some c → ArePosts w.issued (listed (moved (client_plan r n) c).post)
+move-knows : (r : Rules) (w : World) (n : ℕ) (c : ClientState) → Firsts w → slice_get w.clients n ≡ Some c → ArePosts (IsFirst w.issued) (listed (moved (client_plan r n) c).post)
 move-knows r w n c F here = by (waits c) refl
   where
-    nothing : (m : Move) → m.post ≡ None → ArePosts w.issued (listed m.post)
+    nothing : (m : Move) → m.post ≡ None → ArePosts (IsFirst w.issued) (listed m.post)
     nothing m e q i = absurd (subst (λ o. Has q (listed o)) e i)
 
-    one : (m : Move) (s : Post) → m.post ≡ Some s → MessageKnows w.issued s.message → ArePosts w.issued (listed m.post)
+    one : (m : Move) (s : Post) → m.post ≡ Some s → MessageKnows w.issued s.message → ArePosts (IsFirst w.issued) (listed m.post)
     one m s e t q i = elim (subst (λ o. Has q (listed o)) e i) [ inl same ↦ subst (λ x. MessageKnows w.issued x.message) (sym same) t | inr j ↦ absurd j ]
 
-    is-a : IsMove (client_plan r n) c (moved (client_plan r n) c) → ArePosts w.issued (listed (moved (client_plan r n) c).post)
+    is-a : IsMove (client_plan r n) c (moved (client_plan r n) c) → ArePosts (IsFirst w.issued) (listed (moved (client_plan r n) c).post)
     is-a (Silent free none) = nothing (moved (client_plan r n) c) none
     is-a (Telling m none free says) = one (moved (client_plan r n) c) _ says tt
     is-a (Asking a q at asked says state) = one (moved (client_plan r n) c) q says (asked-knows r w.issued n c.tracker c a q (F.clients n c a here at) asked)
 
-    by : (b : Bool) → waits c ≡ b → ArePosts w.issued (listed (moved (client_plan r n) c).post)
+    by : (b : Bool) → waits c ≡ b → ArePosts (IsFirst w.issued) (listed (moved (client_plan r n) c).post)
     by true h = nothing (moved (client_plan r n) c) (ap (λ m. m.post) (waiting-rests (client_plan r n) c h))
     by false h = is-a (move-is (client_plan r n) c h)
 
@@ -223,13 +223,24 @@ module _ (r : Rules) (top : ℕ) (some : 0 < r.attempts) (U : Unsnapped r) where
 
 -- ---- turns of targets
 
+-- what bears an epoch isn't without one
+bears-dated : (m : Message) (x : AttemptId) (e : Epoch) → BearsEpoch m x e → is_undated m ≡ false
+bears-dated (message.Fetch y op group None first tracker z snapshot) x e k = absurd k
+bears-dated m x e k = refl
+
+bears-request : (Known : AttemptId → Option Epoch → Type 0) (m : Message) → MessageBears Known m → RequestKnows Known m
+bears-request Known (message.Fetch x op group ep first tracker z snapshot) k = k
+bears-request Known (message.Commit x ep first tracker ws) k = k
+bears-request Known (message.Prepare e first ws inc) k = k
+bears-request Known m k = tt
+
 -- Fetches that wait bear epochs
-parked-dated : (r : Rules) (top : ℕ) (w : World) (t : ℕ) (s : TargetState) → PlainEpochs r top w → slice_get w.targets t ≡ Some s → (p : Parked) → Has p s.memory.member.parked → HasEpoch p.ask
-parked-dated r top w t s E here p i = let k = E.parked t s p here (contains-from_has s.memory.member.parked p i) in (k.x, k.e, k.bears)
+parked-dated : (r : Rules) (top : ℕ) (w : World) (t : ℕ) (s : TargetState) → PlainEpochs r top w → slice_get w.targets t ≡ Some s → (p : Parked) → Has p s.memory.member.parked → is_undated p.ask ≡ false
+parked-dated r top w t s E here p i = let k = E.parked t s p here (contains-from_has s.memory.member.parked p i) in bears-dated p.ask k.x k.e k.bears
 
 -- the world once a target did something, where these letters were left
 target-knows : (w : World) (t : ℕ) (s new : TargetState) (did : Did) (rest : List Letter) → Firsts w → slice_get w.targets t ≡ Some s → ((l : Letter) → Contains rest l → Contains w.messages l)
-    → ArePosts (w.issued ++ events.listed did.issued) did.posts → AreParked (w.issued ++ events.listed did.issued) new.memory.member.parked → Firsts (with_target t new (after_turn w (target t) did rest))
+    → ArePosts (IsFirst (w.issued ++ events.listed did.issued)) did.posts → AreParked (IsFirst (w.issued ++ events.listed did.issued)) new.memory.member.parked → Firsts (with_target t new (after_turn w (target t) did rest))
 target-knows w t s new did rest F here among posts parked = record {
   clients = λ n c a here at. known-more w.issued (events.listed did.issued) (record { client = n; command = c.command; attempt = a.attempt }) a.epoch a.first (F.clients n c a here at);
   messages = record {
@@ -245,9 +256,9 @@ target-hears-keeps r top w v E F g = subst Firsts (sym g.after) (target-knows w 
     now : Dated
     now = w.issued ++ events.listed g.did.issued
 
-    k : Knows now (g.memory, g.did)
-    k = hears-knows now (target_plan r g.t) g.s.opening g.s.memory g.reading g.l.from g.l.message (kept g.s) g.new (g.memory, g.did)
-        (message-more w.issued (events.listed g.did.issued) g.l.message (F.messages.flight g.l (taken-is-among w.messages g.l g.rest g.takes)))
+    k : Knows (IsFirst now) (g.memory, g.did)
+    k = hears-knows (IsFirst now) (target_plan r g.t) g.s.opening g.s.memory g.reading g.l.from g.l.message (kept g.s) g.new (g.memory, g.did)
+        (bears-request (IsFirst now) g.l.message (message-more w.issued (events.listed g.did.issued) g.l.message (F.messages.flight g.l (taken-is-among w.messages g.l g.rest g.takes))))
         (λ p i. message-more w.issued (events.listed g.did.issued) p.ask (F.messages.parked g.t g.s p g.here (contains-from_has g.s.memory.member.parked p i)))
         (parked-dated r top w g.t g.s E g.here) g.turn
 
@@ -257,8 +268,8 @@ target-idles-keeps r w v F g = subst Firsts (sym g.after) (target-knows w g.t g.
     now : Dated
     now = w.issued ++ events.listed g.did.issued
 
-    k : Knows now (g.memory, g.did)
-    k = idle-knows now g.settling (target_plan r g.t) g.s.memory (kept g.s) g.new (g.memory, g.did)
+    k : Knows (IsFirst now) (g.memory, g.did)
+    k = idle-knows (IsFirst now) g.settling (target_plan r g.t) g.s.memory (kept g.s) g.new (g.memory, g.did)
         (λ p i. message-more w.issued (events.listed g.did.issued) p.ask (F.messages.parked g.t g.s p g.here (contains-from_has g.s.memory.member.parked p i))) g.turn
 
 -- ---- the law

@@ -20,7 +20,7 @@ use Rattle.dtx_base.specs.declared.leading.Naming.{Naming}
 use Rattle.dtx_base.specs.declared.leading.Undecided.{Undecided}
 use Rattle.dtx_base.specs.declared.member.Parked.{Parked}
 use Rattle.dtx_base.specs.Joining.{all_unresolved_told, inquired, inquiry_for, is_not_waiting, is_parked_elsewhere, is_parked_on, is_waiting, parked_ask, to_inquire, unresolved, unresolved_told, verdict_heard}
-use Rattle.dtx_base.specs.Leading.{LeaderOf, abort_to, ack_heard, answer_heard, answer_if_awaited, batched, begun, begun_alone, begun_with_others, commit_mark, counted_at, decided, ended, entry_led, mark_with, marks_for, ok_heard, owed, prepare_to, quietly, to_target, undecided_of, with_undecided}
+use Rattle.dtx_base.specs.Leading.{LeaderOf, abort_to, ack_heard, answer_heard, answer_if_awaited, attempts_of, batched, begun, begun_alone, begun_with_others, commit_mark, counted_at, decided, ended, entry_led, mark_with, marks_for, ok_heard, owed, prepare_to, quietly, to_target, undecided_of, with_undecided}
 use Rattle.dtx_base.specs.Members.{all_targets, are_all_counted, is_other_member, other_members, with_target}
 use Rattle.dtx_base.specs.Rows.{is_empty}
 use Rattle.world_base.specs.declared.did.Did.{Did}
@@ -29,7 +29,6 @@ use Rattle.world_base.specs.declared.request.FetchRequest.{FetchRequest}
 use Rattle.world_base.specs.declared.request.PrepareRequest.{PrepareRequest}
 use Rattle.world_base.specs.declared.target.TargetMemory.{TargetMemory}
 use Rattle.world_base.specs.declared.target.TargetPlan.{TargetPlan}
-use Rattle.world_epochs.specs.Epochs.{BearsEpoch}
 use Rattle.world_base.specs.Acks as ack
 use Rattle.world_base.specs.Changes.{Change, Kept, Steps}
 use Rattle.world_base.specs.Commits as commit
@@ -41,25 +40,25 @@ use Rattle.world_base.specs.Prepares as prepare
 use Rattle.world_base.specs.Reads as read
 use Rattle.world_base.specs.Requests.{fetch_message, with_ticks}
 use Rattle.world_base.specs.RightTurns.{HearsRightly}
-use Rattle.world_base.specs.Roles.{is_in_doubt, joins_on, leader_at, member_at, with_unsettled}
-use Rattle.world_base.specs.TargetTurns.{IdlesWhole, commit_request, fetch_request, prepare_request}
+use Rattle.world_base.specs.Roles.{is_in_doubt, is_prepared, joins_on, leader_at, member_at, told_by, told_of, told_of_all, with_unsettled}
+use Rattle.world_base.specs.TargetTurns.{Hears, IdlesWhole, commit_request, fetch_request, prepare_request}
 use Rattle.world_base.specs.Turns.{Whole}
 use Rattle.world_base.specs.VerdictLaws.{Tries, verdict-keeps}
 use Rattle.world_base.specs.Verdicts as verdict
-use Rattle.world_causes.specs.Causes.{Dated}
-use Rattle.world_causes.specs.Premises.{IsFirst, MessageKnows}
+use Rattle.world_causes.specs.Premises.{MessageBears, RequestKnows}
 
--- a request that bears an epoch of its attempt
-abbrev pub HasEpoch : Message → Type 0
-HasEpoch m = (x : AttemptId) × (e : Epoch) × BearsEpoch m x e
+-- a Fetch without an epoch
+abbrev pub is_undated : Message → Bool
+is_undated (message.Fetch x op group None first tracker r snapshot) = true
+is_undated m = false
 
--- where these epochs are issued
-module _ (issued : Dated) where
+-- where this is so of an attempt and the first epoch that goes with it
+module _ (Known : AttemptId → Option Epoch → Type 0) where
   abbrev pub ArePosts : List Post → Type 0
-  ArePosts posts = (q : Post) → Has q posts → MessageKnows issued q.message
+  ArePosts posts = (q : Post) → Has q posts → MessageBears Known q.message
 
   abbrev pub AreParked : List Parked → Type 0
-  AreParked ps = (p : Parked) → Has p ps → MessageKnows issued p.ask
+  AreParked ps = (p : Parked) → Has p ps → MessageBears Known p.ask
 
   -- what a turn leaves
   pub record Knows (left : TargetMemory × Did) : Type 0 where
@@ -69,8 +68,8 @@ module _ (issued : Dated) where
   none-knows : ArePosts []
   none-knows q i = absurd i
 
-  one-knows : (q : Post) → MessageKnows issued q.message → ArePosts (q ∷ [])
-  one-knows q k s (inl same) = subst (λ x. MessageKnows issued x.message) (sym same) k
+  one-knows : (q : Post) → MessageBears Known q.message → ArePosts (q ∷ [])
+  one-knows q k s (inl same) = subst (λ x. MessageBears Known x.message) (sym same) k
   one-knows q k s (inr none) = absurd none
 
   both-know : (ps qs : List Post) → ArePosts ps → ArePosts qs → ArePosts (ps ++ qs)
@@ -85,13 +84,13 @@ module _ (issued : Dated) where
       by true = refl
       by false = refl
 
-  told-knows : (m : TargetMemory) (left : TargetMemory × Did) (q : Post) → AreParked m.member.parked → left.0.member ≡ m.member → left.1.posts ≡ q ∷ [] → MessageKnows issued q.message → Knows left
+  told-knows : (m : TargetMemory) (left : TargetMemory × Did) (q : Post) → AreParked m.member.parked → left.0.member ≡ m.member → left.1.posts ≡ q ∷ [] → MessageBears Known q.message → Knows left
   told-knows m left q parked member posts k = record {
     posts = subst ArePosts (sym posts) (one-knows q k);
     parked = subst (λ x. AreParked x.parked) (sym member) parked;
   }
 
-  fetch-knows : (t : TargetPlan) (m : TargetMemory) (reading : ℕ) (q : FetchRequest) (from : ActorId) (s : read.FetchStage) (k : Kept) (left : TargetMemory × Did) → IsFirst issued q.attempt q.first → AreParked m.member.parked
+  fetch-knows : (t : TargetPlan) (m : TargetMemory) (reading : ℕ) (q : FetchRequest) (from : ActorId) (s : read.FetchStage) (k : Kept) (left : TargetMemory × Did) → Known q.attempt q.first → AreParked m.member.parked
       → read.FetchEnds t m reading q from s k left → Knows left
   fetch-knows t m reading q from s k left own parked (read.IsSpent j z live none is) = told-knows m left _ parked (ap (λ x. x.0.member) is) (ap (λ x. x.1.posts) is) refl
   fetch-knows t m reading q from s k left own parked (read.IsRefused j e decided c z why is) = told-knows m left _ parked (ap (λ x. x.0.member) is ∙ member-then q e decided m) (ap (λ x. x.1.posts) is) tt
@@ -108,7 +107,7 @@ module _ (issued : Dated) where
       more : AreParked (m.member.parked ++ new ∷ [])
       more p i = elim (has-cases m.member.parked (new ∷ []) p i) [
         | inl j ↦ parked p j
-        | inr j ↦ elim j [ inl same ↦ subst (λ x. MessageKnows issued x.ask) (sym same) own | inr none ↦ absurd none ]
+        | inr j ↦ elim j [ inl same ↦ subst (λ x. MessageBears Known x.ask) (sym same) own | inr none ↦ absurd none ]
       ]
 
   -- ---- a Commit
@@ -117,10 +116,10 @@ module _ (issued : Dated) where
   ended-knows None a e how = none-knows
   ended-knows (Some c) a e how = one-knows _ tt
 
-  prepares-know : (targets inc : ℕ) (e : Entry) (first : Option Epoch) (ws : List MinorWrite) → IsFirst issued e.attempt first → (ts : List ℕ) → ArePosts (map (prepare_to targets inc e first ws) ts)
-  prepares-know targets inc e first ws own ts q i = let o = has-from_map (prepare_to targets inc e first ws) ts q i in subst (λ x. MessageKnows issued x.message) o.2 own
+  prepares-know : (targets inc : ℕ) (e : Entry) (first : Option Epoch) (ws : List MinorWrite) → Known e.attempt first → (ts : List ℕ) → ArePosts (map (prepare_to targets inc e first ws) ts)
+  prepares-know targets inc e first ws own ts q i = let o = has-from_map (prepare_to targets inc e first ws) ts q i in subst (λ x. MessageBears Known x.message) o.2 own
 
-  begun-knows : (e : Entry) (first : Option Epoch) (client : ActorId) (ws : List MinorWrite) (l : LeaderOf) → IsFirst issued e.attempt first → ArePosts (begun e first client ws l).posts
+  begun-knows : (e : Entry) (first : Option Epoch) (client : ActorId) (ws : List MinorWrite) (l : LeaderOf) → Known e.attempt first → ArePosts (begun e first client ws l).posts
   unfolding begun
   begun-knows e first client ws l own = by (is_empty (other_members e))
     where
@@ -128,14 +127,14 @@ module _ (issued : Dated) where
       by true = ended-knows (Some client) e.attempt e.epoch outcome.Committed
       by false = prepares-know l.targets l.incarnation e first ws own (other_members e)
 
-  commit-posts : (t : TargetPlan) (opening : Epoch × FloorWhy) (m : TargetMemory) (reading : ℕ) (q : CommitRequest) (from : ActorId) (s : commit.CommitStage) (k : Kept) (left : TargetMemory × Did) → IsFirst issued q.attempt q.first
+  commit-posts : (t : TargetPlan) (opening : Epoch × FloorWhy) (m : TargetMemory) (reading : ℕ) (q : CommitRequest) (from : ActorId) (s : commit.CommitStage) (k : Kept) (left : TargetMemory × Did) → Known q.attempt q.first
       → commit.CommitEnds t opening m reading q from s k left → ArePosts left.1.posts
   commit-posts t opening m reading q from s k left own (commit.IsSpent j z none is) = subst (λ x. ArePosts x.1.posts) (sym is) (one-knows _ refl)
   commit-posts t opening m reading q from s k left own (commit.IsRefused j e c z why is) = subst (λ x. ArePosts x.1.posts) (sym is) (one-knows _ tt)
   commit-posts t opening m reading q from s k left own (commit.HasNoSpace j e z allowed full is) = subst (λ x. ArePosts x.1.posts) (sym is) (one-knows _ tt)
   commit-posts t opening m reading q from s k left own (commit.HasBegun j e z is) = subst (λ x. ArePosts x.1.posts) (sym is) (begun-knows (commit.led_entry t q e) q.first from q.writes (leader_at t m k.durable) own)
 
-  commit-knows : (t : TargetPlan) (opening : Epoch × FloorWhy) (m : TargetMemory) (reading : ℕ) (q : CommitRequest) (from : ActorId) (s : commit.CommitStage) (k : Kept) (left : TargetMemory × Did) → IsFirst issued q.attempt q.first
+  commit-knows : (t : TargetPlan) (opening : Epoch × FloorWhy) (m : TargetMemory) (reading : ℕ) (q : CommitRequest) (from : ActorId) (s : commit.CommitStage) (k : Kept) (left : TargetMemory × Did) → Known q.attempt q.first
       → AreParked m.member.parked → commit.CommitEnds t opening m reading q from s k left → Knows left
   commit-knows t opening m reading q from s k left own parked h = record {
     posts = commit-posts t opening m reading q from s k left own h;
@@ -150,7 +149,7 @@ module _ (issued : Dated) where
   prepare-knows t opening m q s k left parked (prepare.IsPrepared j z is) = told-knows m left _ parked (ap (λ x. x.0.member) is) (ap (λ x. x.1.posts) is) tt
 
   aborts-know : (inc : ℕ) (a : AttemptId) (ts : List ℕ) → ArePosts (map (abort_to inc a) ts)
-  aborts-know inc a ts q i = let o = has-from_map (abort_to inc a) ts q i in subst (λ x. MessageKnows issued x.message) o.2 tt
+  aborts-know inc a ts q i = let o = has-from_map (abort_to inc a) ts q i in subst (λ x. MessageBears Known x.message) o.2 tt
 
   ok-knows : (member : ℕ) (a : AttemptId) (e : Entry) (u : Undecided) (l : LeaderOf) → ArePosts (ok_heard member a e u l).posts
   ok-knows member a e u l = by (are_all_counted e (with_target u.counted member))
@@ -204,25 +203,25 @@ module _ (issued : Dated) where
 
   -- ---- a Verdict
 
-  unresolved-knows : (a : AttemptId) (m : Message) → HasEpoch m → ArePosts (unresolved_told a m)
-  unresolved-knows a (message.Fetch x op group None first tracker r snapshot) k = absurd k.2
+  unresolved-knows : (a : AttemptId) (m : Message) → is_undated m ≡ false → ArePosts (unresolved_told a m)
+  unresolved-knows a (message.Fetch x op group None first tracker r snapshot) k = let no : ⊥ = cc in absurd no
   unresolved-knows a (message.Fetch x op group (Some own) first tracker r snapshot) k = one-knows _ tt
   unresolved-knows a m k = none-knows
 
-  all-unresolved-know : (a : AttemptId) (ps : List Parked) → ((p : Parked) → Has p ps → HasEpoch p.ask) → ArePosts (all_unresolved_told a ps)
+  all-unresolved-know : (a : AttemptId) (ps : List Parked) → ((p : Parked) → Has p ps → is_undated p.ask ≡ false) → ArePosts (all_unresolved_told a ps)
   all-unresolved-know a [] each = none-knows
   all-unresolved-know a (p ∷ ps) each = both-know (unresolved_told a p.ask) (all_unresolved_told a ps) (unresolved-knows a p.ask (each p (inl refl))) (all-unresolved-know a ps (λ q i. each q (inr i)))
 
   -- what is left to be tried, what waits, and what is said so far
   record Frees (asks : List Message) (n : TargetMemory) (posts : List Post) : Type 0 where
-    waiting : (m : Message) → Has m asks → MessageKnows issued m
+    waiting : (m : Message) → Has m asks → MessageBears Known m
     parked : AreParked n.member.parked
     says : ArePosts posts
 
-  again-known : (t : Parked → Bool) (ps : List Parked) → AreParked ps → (m : Message) → Has m (map parked_ask (filter t ps)) → MessageKnows issued m
-  again-known t ps parked m i = let o = has-from_map parked_ask (filter t ps) m i in subst (MessageKnows issued) o.2 (parked o.0 (has-from_filter t ps o.0 o.1).0)
+  again-known : (t : Parked → Bool) (ps : List Parked) → AreParked ps → (m : Message) → Has m (map parked_ask (filter t ps)) → MessageBears Known m
+  again-known t ps parked m i = let o = has-from_map parked_ask (filter t ps) m i in subst (MessageBears Known) o.2 (parked o.0 (has-from_filter t ps o.0 o.1).0)
 
-  verdict-frees : (t : TargetPlan) (m : TargetMemory) (a : AttemptId) (ask : Option AttemptId) (v : Verdict) → AreParked m.member.parked → ((p : Parked) → Has p m.member.parked → HasEpoch p.ask)
+  verdict-frees : (t : TargetPlan) (m : TargetMemory) (a : AttemptId) (ask : Option AttemptId) (v : Verdict) → AreParked m.member.parked → ((p : Parked) → Has p m.member.parked → is_undated p.ask ≡ false)
       → Frees (verdict_heard a ask v (member_at t m)).freed.again (joins_on (verdict_heard a ask v (member_at t m)).member m) (verdict_heard a ask v (member_at t m)).freed.posts
   unfolding unresolved
   verdict-frees t m a ask how.Committed parked dated = record {
@@ -242,9 +241,9 @@ module _ (issued : Dated) where
   }
   verdict-frees t m a None how.Undecided parked dated = record { waiting = λ z i. absurd i; parked = parked; says = none-knows }
 
-  verdict-knows : (t : TargetPlan) (m : TargetMemory) (reading : ℕ) (a : AttemptId) (ask : Option AttemptId) (v : Verdict) (old new : Kept) (left : TargetMemory × Did) → AreParked m.member.parked
-      → ((p : Parked) → Has p m.member.parked → HasEpoch p.ask) → Whole (verdict.VerdictNext (is_in_doubt t.me) t m reading a ask v) verdict.VerdictEnds verdict.Heard old new left → Knows left
-  verdict-knows t m reading a ask v old new left parked dated w = record { posts = done.says; parked = done.parked }
+  verdict-knows : (is_due : AttemptId → Durable → Bool) (t : TargetPlan) (m : TargetMemory) (reading : ℕ) (a : AttemptId) (ask : Option AttemptId) (v : Verdict) (old new : Kept) (left : TargetMemory × Did) → AreParked m.member.parked
+      → ((p : Parked) → Has p m.member.parked → is_undated p.ask ≡ false) → Whole (verdict.VerdictNext is_due t m reading a ask v) verdict.VerdictEnds verdict.Heard old new left → Knows left
+  verdict-knows is_due t m reading a ask v old new left parked dated w = record { posts = done.says; parked = done.parked }
     where
       goes : (q : FetchRequest) (rest : List Message) (n : TargetMemory) (posts : List Post) (k l : Kept) (z : TargetMemory × Did) → Frees (fetch_message q ∷ rest) n posts → Tries t reading n q k l z → Frees rest z.0 (posts ++ z.1.posts)
       goes q rest n posts k l z h y =
@@ -252,12 +251,12 @@ module _ (issued : Dated) where
           record { waiting = λ m i. h.waiting m (inr i); parked = e.parked; says = both-know posts z.1.posts h.says e.posts }
 
       done : Frees [] left.0 left.1.posts
-      done = (verdict-keeps (is_in_doubt t.me) t m reading a ask v old (λ asks n posts k. Frees asks n posts) (λ k steps. verdict-frees t m a ask v parked dated) goes new left w).0
+      done = (verdict-keeps is_due t m reading a ask v old (λ asks n posts k. Frees asks n posts) (λ k steps. verdict-frees t m a ask v parked dated) goes new left w).0
 
   -- ---- all that a target hears
 
-  pub hears-knows : (t : TargetPlan) (opening : Epoch × FloorWhy) (m : TargetMemory) (reading : ℕ) (from : ActorId) (q : Message) (old new : Kept) (left : TargetMemory × Did) → MessageKnows issued q → AreParked m.member.parked
-      → ((p : Parked) → Has p m.member.parked → HasEpoch p.ask) → HearsRightly t opening m reading from q old new left → Knows left
+  pub hears-knows : (t : TargetPlan) (opening : Epoch × FloorWhy) (m : TargetMemory) (reading : ℕ) (from : ActorId) (q : Message) (old new : Kept) (left : TargetMemory × Did) → RequestKnows Known q → AreParked m.member.parked
+      → ((p : Parked) → Has p m.member.parked → is_undated p.ask ≡ false) → HearsRightly t opening m reading from q old new left → Knows left
   hears-knows t opening m reading from (message.Fetch x op group ep first tracker r snapshot) old new left own parked dated h =
       fetch-knows t m reading (fetch_request x op group ep first tracker r snapshot) from h.last new left own parked h.ends
   hears-knows t opening m reading from (message.Commit x ep first tracker ws) old new left own parked dated h = commit-knows t opening m reading (commit_request x ep first tracker ws) from h.last new left own parked h.ends
@@ -268,8 +267,27 @@ module _ (issued : Dated) where
   hears-knows t opening m reading from (message.Mark inc marks) old new left own parked dated h = mark-knows m from inc marks h.last new left parked h.ends
   hears-knows t opening m reading from (message.Marked inc ids) old new left own parked dated h = marked-knows t m from.number inc ids h.last new left parked h.ends
   hears-knows t opening m reading from (message.Query x ask) old new left own parked dated h = query-knows t m from x ask h.last new left parked h.ends
-  hears-knows t opening m reading from (message.Verdict x ask inc v) old new left own parked dated h = verdict-knows t m reading x ask v old new left parked dated h
+  hears-knows t opening m reading from (message.Verdict x ask inc v) old new left own parked dated h = verdict-knows (is_in_doubt t.me) t m reading x ask v old new left parked dated h
   hears-knows t opening m reading from q old new left own parked dated h = absurd h
+
+  told-member : (v : Verdict) (a : AttemptId) (m : TargetMemory) → (told_by v a m).member ≡ m.member
+  told-member how.Committed a m = refl
+  told-member how.Aborted a m = refl
+  told-member how.Undecided a m = refl
+
+  all-told-member : (ids : List AttemptId) (m : TargetMemory) → (told_of_all ids m).member ≡ m.member
+  all-told-member [] m = refl
+  all-told-member (a ∷ ids) m = all-told-member ids (told_of a m)
+
+  -- and where it settles whatever is prepared
+  pub all-hear-knows : (t : TargetPlan) (opening : Epoch × FloorWhy) (m : TargetMemory) (reading : ℕ) (from : ActorId) (q : Message) (old new : Kept) (left : TargetMemory × Did) → RequestKnows Known q → AreParked m.member.parked
+      → ((p : Parked) → Has p m.member.parked → is_undated p.ask ≡ false) → Hears t opening m reading from q old new left → Knows left
+  all-hear-knows t opening m reading from (message.Mark inc marks) old new left own parked dated h =
+      mark-knows (told_of_all (attempts_of marks) m) from inc marks h.last new left (subst (λ x. AreParked x.parked) (sym (all-told-member (attempts_of marks) m)) parked) h.ends
+  all-hear-knows t opening m reading from (message.Verdict x ask inc v) old new left own parked dated h =
+      verdict-knows is_prepared t (told_by v x m) reading x ask v old new left (subst (λ z. AreParked z.parked) (sym (told-member v x m)) parked)
+      (subst (λ z. (p : Parked) → Has p z.parked → is_undated p.ask ≡ false) (sym (told-member v x m)) dated) h
+  all-hear-knows t opening m reading from q old new left own parked dated h = hears-knows t opening m reading from q old new left own parked dated h
 
   -- ---- idle work
 
@@ -289,7 +307,7 @@ module _ (issued : Dated) where
   batched-knows l = marks-know l.incarnation l.memory.down l.memory.named l.entries all_targets
 
   inquiries-know : (es : List Entry) → ArePosts (map inquiry_for es)
-  inquiries-know es q i = let o = has-from_map inquiry_for es q i in subst (λ x. MessageKnows issued x.message) o.2 tt
+  inquiries-know es q i = let o = has-from_map inquiry_for es q i in subst (λ x. MessageBears Known x.message) o.2 tt
 
   inquired-knows : (settling : Bool) (t : TargetPlan) (m : TargetMemory) (d : Durable) → ArePosts (inquiry_of settling t m d).freed.posts
   unfolding inquired

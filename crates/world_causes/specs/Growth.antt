@@ -4,7 +4,6 @@ use Rattle.std.proofs.Common.{sym, ◌∙◌, ap, subst, inl, inr, arith}
 use Rattle.std.proofs.Math.Bool.{or-true}
 use Rattle.std.proofs.Math.ListN.{set}
 use Rattle.std.proofs.lemmas.Bool.{cases_eq}
-use Rattle.std.proofs.lemmas.List.{append_assoc}
 use Rattle.std.proofs.lemmas.List.Elements.{Contains-append_left}
 use Rattle.base_types.specs.declared.id.AttemptId.{AttemptId}
 use Rattle.base_types.specs.declared.operation.Act.{Act}
@@ -13,27 +12,17 @@ use Rattle.base_types.specs.declared.operation.Cond.{Cond}
 use Rattle.base_types.specs.declared.operation.Cond.TheVariants.{Free, Must, MustNot}
 use Rattle.base_types.specs.declared.operation.Op.{Op}
 use Rattle.base_types.specs.declared.operation.Read.{Read}
-use Rattle.base_types.specs.declared.outcome.Cause.{Cause}
-use Rattle.base_types.specs.declared.outcome.Cause.TheVariants as cause
-use Rattle.base_types.specs.declared.outcome.Outcome.{Outcome}
-use Rattle.base_types.specs.declared.outcome.Outcome.TheVariants as outcome
 use Rattle.base_types.specs.declared.path.Path.{Path}
-use Rattle.base_types.specs.declared.report.Line.{Line}
 use Rattle.base_types.specs.declared.script.Script.{Script}
 use Rattle.base_types.specs.Operations.{act_path, read_path}
-use Rattle.base_messages.specs.declared.message.Message.{Message}
-use Rattle.base_messages.specs.declared.message.Message.TheVariants as message
-use Rattle.base_messages.specs.declared.message.Reply.{Reply}
-use Rattle.base_messages.specs.declared.message.Reply.TheVariants as reply
 use Rattle.daos_model.specs.Accesses.{is_condition, is_fetch, op_path}
 use Rattle.daos_model.specs.CausesShown.{AsksAt}
-use Rattle.daos_model.specs.Opening.{Opening}
 use Rattle.world_base.specs.declared.client.Stage.{Stage}
 use Rattle.world_base.specs.declared.client.Stage.TheVariants as stage
 use Rattle.world_base.specs.ClientTurns.{act_read, condition_read, question}
 use Rattle.world_base.specs.Events.{Rules}
 use Rattle.world_base.specs.StepLaws.{set-here, set-there}
-use Rattle.world_causes.specs.Causes.{Dated, EndsOf, IsUnanswered, MeetsOther, MessageShows, Refuses, RefusesBy, ReplyShows, Shows, Stored, blocks_of_stored, zeroth}
+use Rattle.world_causes.specs.Causes.{Dated, MeetsOther, Stored, blocks_of_stored}
 
 -- ---- one element among others
 
@@ -64,91 +53,6 @@ meets-more r issued more x by k = record {
   below = k.below;
   overlap = k.overlap;
 }
-
-module _ (r : Rules) (o : Opening) (new stored : Stored) (issued more : Dated) where
-  cause-more : (x : AttemptId) (why : Cause) → RefusesBy r issued x why → RefusesBy r (issued ++ more) x why
-  cause-more x (cause.ReadLater by epoch path) k = record {
-    own = k.own;
-    its = Contains-append_left issued more (x, k.own) k.its;
-    later = k.later;
-    reader = Contains-append_left issued more (by, epoch) k.reader;
-    asks = k.asks;
-    near = k.near;
-  }
-  cause-more x (cause.WriteLater by epoch path) k = record {
-    own = k.own;
-    its = Contains-append_left issued more (x, k.own) k.its;
-    later = k.later;
-    first = k.first;
-    begun = Contains-append_left issued more (zeroth x, k.first) k.begun;
-    uncertain = k.uncertain;
-    writer = Contains-append_left issued more (by, epoch) k.writer;
-    writes = k.writes;
-    near = k.near;
-  }
-  cause-more x (cause.Unresolved by) k = k
-  cause-more x (cause.Floor target epoch why) k = k
-
-  pub refuses-more : (x : AttemptId) (how : Outcome) → Refuses r o stored issued x how → Refuses r o (new ++ stored) (issued ++ more) x how
-  refuses-more x outcome.Committed k = tt
-  refuses-more x (outcome.CondFailed op) k = tt
-  refuses-more x (outcome.Restart why) k = cause-more x why k
-  refuses-more x (outcome.NoSpace target need free) k = record {
-    own = k.own;
-    its = Contains-append_left issued more (x, k.own) k.its;
-    wanting = k.wanting;
-    need_is = k.need_is;
-    accounted =
-        let p : o.free target ≤ free + blocks_of_stored r.script target stored = k.accounted in
-        let q : blocks_of_stored r.script target stored ≤ blocks_of_stored r.script target (new ++ stored) = blocks-more r.script target new stored in
-        omega (arith, p, q);
-  }
-  refuses-more x outcome.EpochsSpent k = record {
-    before = k.before;
-    since = k.since ++ more;
-    among = ap (λ is. is ++ more) k.among ∙ append_assoc k.before k.since more;
-    none = k.none;
-    spent = k.spent;
-  }
-  refuses-more x outcome.NoSnapshot k = k
-  refuses-more x (outcome.Unknown target) k = k
-
-  -- with the same lines before it, or with other lines before which as much is unanswered
-  pub shows-more : (lines later : List Line) (x : AttemptId) → ((by : AttemptId) → IsUnanswered lines x by → IsUnanswered later x by) → (how : Outcome) → Shows r o stored issued lines x how → Shows r o (new ++ stored) (issued ++ more) later x how
-  shows-more lines later x same outcome.Committed k = tt
-  shows-more lines later x same (outcome.CondFailed op) k = tt
-  shows-more lines later x same (outcome.Restart (cause.ReadLater by epoch path)) k = cause-more x (cause.ReadLater by epoch path) k
-  shows-more lines later x same (outcome.Restart (cause.WriteLater by epoch path)) k = cause-more x (cause.WriteLater by epoch path) k
-  shows-more lines later x same (outcome.Restart (cause.Unresolved by)) k = record { meets = meets-more r issued more x by k.meets; unanswered = same by k.unanswered }
-  shows-more lines later x same (outcome.Restart (cause.Floor target epoch why)) k = k
-  shows-more lines later x same (outcome.NoSpace target need free) k = refuses-more x (outcome.NoSpace target need free) k
-  shows-more lines later x same outcome.EpochsSpent k = refuses-more x outcome.EpochsSpent k
-  shows-more lines later x same outcome.NoSnapshot k = k
-  shows-more lines later x same (outcome.Unknown target) k = k
-
-  reply-more : (lines later : List Line) (x : AttemptId) → ((by : AttemptId) → IsUnanswered lines x by → IsUnanswered later x by) → (b : Reply) → ReplyShows r o stored issued lines x b → ReplyShows r o (new ++ stored) (issued ++ more) later x b
-  reply-more lines later x same (reply.Answer b) k = tt
-  reply-more lines later x same (reply.Outcome how) k = shows-more lines later x same how k
-
-  pub message-more : (lines later : List Line) (m : Message) → ((x by : AttemptId) → EndsOf m x → IsUnanswered lines x by → IsUnanswered later x by) → MessageShows r o stored issued lines m → MessageShows r o (new ++ stored) (issued ++ more) later m
-  message-more lines later (message.Fetched x op group e b) same k = reply-more lines later x (λ by u. same x by refl u) b k
-  message-more lines later (message.Ended x e how) same k = shows-more lines later x (λ by u. same x by refl u) how k
-  message-more lines later (message.Ack x inc (Some how)) same k = refuses-more x how k
-  message-more lines later (message.Ack x inc None) same k = tt
-  message-more lines later m same k = tt
-
--- a member's refusal is what its attempt's outcome shows, wherever its line stands
-pub refusal-shows : (r : Rules) (o : Opening) (stored : Stored) (issued : Dated) (lines : List Line) (x : AttemptId) (how : Outcome) → Refuses r o stored issued x how → Shows r o stored issued lines x how
-refusal-shows r o stored issued lines x outcome.Committed k = tt
-refusal-shows r o stored issued lines x (outcome.CondFailed op) k = tt
-refusal-shows r o stored issued lines x (outcome.Restart (cause.ReadLater by epoch path)) k = k
-refusal-shows r o stored issued lines x (outcome.Restart (cause.WriteLater by epoch path)) k = k
-refusal-shows r o stored issued lines x (outcome.Restart (cause.Unresolved by)) k = absurd k
-refusal-shows r o stored issued lines x (outcome.Restart (cause.Floor target epoch why)) k = absurd k
-refusal-shows r o stored issued lines x (outcome.NoSpace target need free) k = k
-refusal-shows r o stored issued lines x outcome.EpochsSpent k = k
-refusal-shows r o stored issued lines x outcome.NoSnapshot k = k
-refusal-shows r o stored issued lines x (outcome.Unknown target) k = absurd k
 
 -- ---- what an operation asks
 

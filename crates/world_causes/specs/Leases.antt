@@ -1,8 +1,7 @@
 -- The leases of targets are within a bound: each was stored for ticks within the limit.
-use Rattle.std.specs.Prelude.{ℕ, ◌≡◌, ◌≤◌, ◌<◌, ◌+◌, ◌*◌, ◌/◌, ◌++◌, Bool, true, false, min, nat_le, List, length, filter, slice_get, Option, Some, None, refl, if◌then◌else◌}
+use Rattle.std.specs.Prelude.{ℕ, ◌≡◌, ◌≤◌, ◌<◌, ◌+◌, ◌*◌, ◌/◌, ◌++◌, Bool, true, false, min, nat_le, List, length, filter, Option, Some, None, refl, if◌then◌else◌}
 use Rattle.std.specs.Int.{div_ceil}
 use Rattle.std.proofs.Common.{inl, inr, sym, ◌∙◌, ap, subst, arith}
-use Rattle.std.proofs.Math.ListN.{set}
 use Rattle.std.proofs.lemmas.Grind.{div_ceil_times}
 use Rattle.base_types.specs.declared.entry.Settle.{Settle}
 use Rattle.base_types.specs.declared.entry.Verdict.{Verdict}
@@ -20,8 +19,8 @@ use Rattle.daos_model.specs.declared.durable.Durable.{Durable}
 use Rattle.daos_model.specs.Opening.{Opening}
 use Rattle.dtx_base.specs.declared.member.Parked.{Parked}
 use Rattle.dtx_base.specs.Joining.{is_parked_on, parked_ask, unresolved, verdict_heard}
-use Rattle.world_attempts.specs.History.{History}
 use Rattle.world_base.specs.declared.did.Did.{Did}
+use Rattle.world_base.specs.declared.letter.Letter.{Letter}
 use Rattle.world_base.specs.declared.request.CommitRequest.{CommitRequest}
 use Rattle.world_base.specs.declared.request.FetchRequest.{FetchRequest}
 use Rattle.world_base.specs.declared.request.PrepareRequest.{PrepareRequest}
@@ -43,16 +42,15 @@ use Rattle.world_base.specs.RightTurns.{HearsRightly}
 use Rattle.world_base.specs.Roles.{is_in_doubt, member_at}
 use Rattle.world_base.specs.Turns.{Whole}
 use Rattle.world_base.specs.Verdicts as verdict
-use Rattle.world_base.specs.Events.{ByClient, ByTarget, RightEvent, Rules, TargetHearsRightly, ToClient, ToTarget, kept, listed, target_after, target_plan}
+use Rattle.world_base.specs.Events.{Rules, TargetHearsRightly, TargetIdles, kept, listed, target_plan}
 use Rattle.world_base.specs.Requests.{issued_for}
-use Rattle.world_base.specs.StepLaws.{by-hearing, by-next}
 use Rattle.world_base.specs.TargetTurns.{commit_request, fetch_request, prepare_request}
-use Rattle.world_causes.specs.Causes.{Dated, PlainCauses, Stored, limit}
+use Rattle.world_causes.specs.Causes.{Dated, Stored}
 use Rattle.world_causes.specs.Dates.{limit-more, limit-rises, request-dated}
-use Rattle.world_causes.specs.Growth.{at-set}
+use Rattle.world_causes.specs.Heard.{IsHeardAs}
 use Rattle.world_causes.specs.Premises.{IsRequest}
-use Rattle.world_causes.specs.Requests.{Given, hears-commit, hears-fetch, hears-prepare, parked-fit}
-use Rattle.world_causes.specs.ShownLaws.{AreLeased}
+use Rattle.world_causes.specs.Shown.{Causes, limit_over}
+use Rattle.world_causes.specs.VerdictTurns.{IsAskFit}
 
 -- ---- a lease for some ticks
 
@@ -213,11 +211,7 @@ rightly-to c t opening m reading from (message.Verdict x ask inc v) old new left
     whole-to _ _ _ old new left (c + 65535) (VerdictBelow c (is_in_doubt t.me) t m reading x ask v) below (verdict-to c (is_in_doubt t.me) t m reading x ask v) low h
 rightly-to c t opening m reading from q old new left below low h = absurd h
 
--- ---- events
-
--- leases stay so low
-abbrev pub LeasesAreKept : Type 0
-LeasesAreKept = (r : Rules) (o : Opening) (h : History) (stored : Stored) (w v : World) → Given r o h w → PlainCauses r o stored w → AreLeased o w → RightEvent r w v → AreLeased o v
+-- ---- what a target hears
 
 -- the Fetches that a Verdict sets free waited
 freed-waited : (a : AttemptId) (ask : Option AttemptId) (v : Verdict) (t : TargetPlan) (m : TargetMemory) (n : Message) → Has n (verdict_heard a ask v (member_at t m)).freed.again → (p : Parked) × Has p m.member.parked × (p.ask ≡ n)
@@ -231,69 +225,57 @@ listed-few : (i : Option (AttemptId × Epoch)) → length (listed i) ≤ 1
 listed-few None = omega arith
 listed-few (Some i) = omega arith
 
-module _ (r : Rules) (o : Opening) (h : History) (stored : Stored) (w : World) (G : Given r o h w) (C : PlainCauses r o stored w) where
-  within : (n : ℕ) → n ≤ limit o w.issued → n ≤ limit o w.issued + 1
-  within n low = by (limit o w.issued) low
+module _ (r : Rules) (o : Opening) (stored : Stored) (w : World) (t : ℕ) (s : TargetState) (l : Letter) (K : IsHeardAs r o stored w t s l) (ticks : s.memory.ticks ≤ limit_over o w.lines w.issued) where
+  abbrev bound : ℕ
+  bound = limit_over o w.lines w.issued + 1
+
+  within : (n : ℕ) → n ≤ limit_over o w.lines w.issued → n ≤ bound
+  within n low = by (limit_over o w.lines w.issued) low
     where
       by : (b : ℕ) → n ≤ b → n ≤ b + 1
       by b k = omega (arith, k)
 
-  module _ (v : World) (g : TargetHearsRightly r w v) where
-    ticks : g.s.memory.ticks ≤ limit o w.issued
-    ticks = C.bounded.ticks g.t g.s g.here g.runs
-
-    dated : (x : AttemptId) (ep first : Option Epoch) (tracker : Epoch) → (target_plan r g.t).me < 256 → IsRequest o w.issued x ep first tracker → IsDatedBelow (limit o w.issued + 1) (target_plan r g.t) g.s.memory g.reading tracker ep
-    dated x ep first tracker few k e is =
-        let d = request-dated o w.issued x ep first tracker (target_plan r g.t) g.s.memory g.reading e few ticks k is in
-        by (limit o w.issued) (length (listed (issued_for x ep e))) (listed-few (issued_for x ep e)) (subst (λ n. e.0 / 256 ≤ n) (limit-more o w.issued (listed (issued_for x ep e))) d.within)
-      where
-        by : (b n : ℕ) → n ≤ 1 → e.0 / 256 ≤ b + n → e.0 / 256 ≤ b + 1
-        by b n few low = omega (arith, few, low)
-
-    ask-below : (p : Parked) → Has p g.s.memory.member.parked → AskBelow (limit o w.issued + 1) p.ask
-    ask-below p i =
-        let k = parked-fit r o h w G stored C g.t g.s g.here p i in
-        subst (AskBelow (limit o w.issued + 1)) (sym k.is) (subst (EpochBelow (limit o w.issued + 1)) (sym k.own) (within (k.e.0 / 256) (k.fit.request.own k.e k.own).2))
-
-    heard : (m : Message) → g.l.message ≡ m → HeardBelow (limit o w.issued + 1) (target_plan r g.t) g.s.memory g.reading m
-    heard (message.Fetch x op group ep first tracker y snapshot) is =
-        let f = hears-fetch r o h w G stored C g.t g.s g.here g.l g.rest g.takes (fetch_request x op group ep first tracker y snapshot) is in dated x ep first tracker f.0.few f.0.request
-    heard (message.Commit x ep first tracker ws) is =
-        let c = hears-commit r o h w G stored C g.t g.s g.here g.l g.rest g.takes (commit_request x ep first tracker ws) g.to_it is in dated x ep first tracker c.0.few c.0.request
-    heard (message.Prepare e first ws inc) is =
-        let p = hears-prepare r o h w G stored C g.t g.s g.here g.l g.rest g.takes (prepare_request e first ws inc) g.to_it is in within (e.epoch.0 / 256) (C.bounded.issued e.attempt e.epoch p.issued_to)
-    heard (message.Verdict x ask inc y) is = λ n i. let p = freed-waited x ask y (target_plan r g.t) g.s.memory n i in subst (AskBelow (limit o w.issued + 1)) p.2 (ask-below p.0 p.1)
-    heard m is = tt
-
-  set-leased : (v : World) (t : ℕ) (s : TargetState) (new : Kept) (memory : TargetMemory) (more : Dated) → AreLeased o w → slice_get w.targets t ≡ Some s → v.targets ≡ set w.targets t (target_after s new memory) → v.issued ≡ w.issued ++ more
-      → new.durable.lease ≤ limit o w.issued + 1 + 65535 → AreLeased o v
-  set-leased v t s new memory more L here targets issued low u z at =
-      up z (at-set w.targets t s (target_after s new memory) (λ n y. y.durable.lease ≤ limit o w.issued + 65536) here (by (limit o w.issued) low) L u z (ap (λ ts. slice_get ts u) (sym targets) ∙ at))
+  dated : (reading : ℕ) (x : AttemptId) (ep first : Option Epoch) (tracker : Epoch) → t < 256 → IsRequest o w.issued w.lines x ep first tracker → IsDatedBelow bound (target_plan r t) s.memory reading tracker ep
+  dated reading x ep first tracker few k e is =
+      let d = request-dated o w.issued w.lines x ep first tracker (target_plan r t) s.memory reading e few ticks k is in
+      by (limit_over o w.lines w.issued) (length (listed (issued_for x ep e))) (listed-few (issued_for x ep e)) (subst (λ n. e.0 / 256 ≤ n) (limit-more o w.lines w.issued (listed (issued_for x ep e))) d.within)
     where
-      by : (b : ℕ) → new.durable.lease ≤ b + 1 + 65535 → new.durable.lease ≤ b + 65536
-      by b k = omega (arith, k)
+      by : (b n : ℕ) → n ≤ 1 → e.0 / 256 ≤ b + n → e.0 / 256 ≤ b + 1
+      by b n few low = omega (arith, few, low)
 
-      sum : (a b n : ℕ) → n ≤ a + 65536 → a ≤ b → n ≤ b + 65536
-      sum a b n p q = omega (arith, p, q)
+  ask-below : (p : Parked) → IsAskFit r o w.issued w.lines (target_plan r t) p.ask → AskBelow bound p.ask
+  ask-below p k = subst (AskBelow bound) (sym k.is) (subst (EpochBelow bound) (sym k.own) (within (k.e.0 / 256) (k.fit.request.own k.e k.own).2))
 
-      up : (z : TargetState) → z.durable.lease ≤ limit o w.issued + 65536 → z.durable.lease ≤ limit o v.issued + 65536
-      up z k = sum (limit o w.issued) (limit o v.issued) z.durable.lease k (subst (λ is. limit o w.issued ≤ limit o is) (sym issued) (limit-rises o w.issued more))
+  heard-below : (reading : ℕ) (m : Message) → l.message ≡ m → HeardBelow bound (target_plan r t) s.memory reading m
+  heard-below reading (message.Fetch x op group ep first tracker y snapshot) is = let f = K.fetch (fetch_request x op group ep first tracker y snapshot) is in dated reading x ep first tracker f.0.few f.0.request
+  heard-below reading (message.Commit x ep first tracker ws) is = let c = K.commit (commit_request x ep first tracker ws) is in dated reading x ep first tracker c.0.few c.0.request
+  heard-below reading (message.Prepare e first ws inc) is = let p = K.prepare (prepare_request e first ws inc) is in within (e.epoch.0 / 256) (K.at.target.dates e.attempt e.epoch p.issued_to)
+  heard-below reading (message.Verdict x ask inc y) is = λ n i. let p = freed-waited x ask y (target_plan r t) s.memory n i in subst (AskBelow bound) p.2 (ask-below p.0 ((K.verdict x ask inc y is).asks p.0 p.1))
+  heard-below reading m is = tt
 
-  was-leased : (s : TargetState) → s.durable.lease ≤ limit o w.issued + 65536 → s.durable.lease ≤ limit o w.issued + 1 + 65535
-  was-leased s low = by (limit o w.issued) low
-    where
-      by : (b : ℕ) → s.durable.lease ≤ b + 65536 → s.durable.lease ≤ b + 1 + 65535
-      by b k = omega (arith, k)
+-- a lease that a turn leaves
+abbrev pub IsLeasedBelow : Opening → World → Kept → Type 0
+IsLeasedBelow o w k = k.durable.lease ≤ limit_over o w.lines w.issued + 1 + 65535
 
-  event-leases : (v : World) → AreLeased o w → RightEvent r w v → AreLeased o v
-  event-leases v L (ByClient g) = by-next r (AreLeased o) (λ u n c here p. p) (λ u n j c here p. p) w v L g
-  event-leases v L (ToClient g) = by-hearing r (AreLeased o) (λ u n c here p. p) (λ u n c l rest here awake takes to p. p) w v L g
-  event-leases v L (ToTarget g) =
-      set-leased v g.t g.s g.new g.memory (listed g.did.issued) L g.here (ap (λ x. x.targets) g.after) (ap (λ x. x.issued) g.after)
-      (rightly-to (limit o w.issued + 1) (target_plan r g.t) g.s.opening g.s.memory g.reading g.l.from g.l.message (kept g.s) g.new (g.memory, g.did) (heard v g g.l.message refl) (was-leased g.s (L g.t g.s g.here)) g.turn)
-  event-leases v L (ByTarget g) =
-      set-leased v g.t g.s g.new g.memory (listed g.did.issued) L g.here (ap (λ x. x.targets) g.after) (ap (λ x. x.issued) g.after)
-      (whole-to _ _ _ (kept g.s) g.new (g.memory, g.did) (limit o w.issued + 1 + 65535) (λ s. Unit {0}) tt (idle-to (limit o w.issued + 1)) (was-leased g.s (L g.t g.s g.here)) g.turn)
+was-leased : (o : Opening) (w : World) (k : Kept) → k.durable.lease ≤ limit_over o w.lines w.issued + 65536 → IsLeasedBelow o w k
+was-leased o w k low = by (limit_over o w.lines w.issued) low
+  where
+    by : (b : ℕ) → k.durable.lease ≤ b + 65536 → k.durable.lease ≤ b + 1 + 65535
+    by b k = omega (arith, k)
 
-pub leases-are-kept : LeasesAreKept
-leases-are-kept r o h stored w v G C L e = event-leases r o h stored w G C v L e
+pub leased-near : (o : Opening) (w : World) (more : Dated) (k : Kept) → IsLeasedBelow o w k → k.durable.lease ≤ limit_over o w.lines (w.issued ++ more) + 65536
+leased-near o w more k low = by (limit_over o w.lines w.issued) (limit_over o w.lines (w.issued ++ more)) low (limit-rises o w.lines w.issued more)
+  where
+    by : (a b : ℕ) → k.durable.lease ≤ a + 1 + 65535 → a ≤ b → k.durable.lease ≤ b + 65536
+    by a b p q = omega (arith, p, q)
+
+-- a target that hears
+pub hears-leased : (r : Rules) (o : Opening) (stored : Stored) (w v : World) (g : TargetHearsRightly r w v) → IsHeardAs r o stored w g.t g.s g.l → Causes r o stored w → IsLeasedBelow o w g.new
+hears-leased r o stored w v g K C =
+    rightly-to (limit_over o w.lines w.issued + 1) (target_plan r g.t) g.s.opening g.s.memory g.reading g.l.from g.l.message (kept g.s) g.new (g.memory, g.did)
+    (heard-below r o stored w g.t g.s g.l K (C.bounded.ticks g.t g.s g.here g.runs) g.reading g.l.message refl) (was-leased o w (kept g.s) (C.bounded.leases g.t g.s g.here)) g.turn
+
+-- one that does its idle work
+pub idles-leased : (r : Rules) (o : Opening) (stored : Stored) (w v : World) (g : TargetIdles r w v) → Causes r o stored w → IsLeasedBelow o w g.new
+idles-leased r o stored w v g C =
+    whole-to _ _ _ (kept g.s) g.new (g.memory, g.did) (limit_over o w.lines w.issued + 1 + 65535) (λ s. Unit {0}) tt (idle-to (limit_over o w.lines w.issued + 1)) (was-leased o w (kept g.s) (C.bounded.leases g.t g.s g.here)) g.turn

@@ -3,7 +3,9 @@ pub mod Causes
 pub mod Premises
 pub mod Dates
 pub mod Floors
+pub mod AtFloors
 pub mod Growth
+pub mod Lasting
 pub mod Turns
 pub mod Paths
 pub mod Writes
@@ -12,9 +14,12 @@ pub mod CommitTurns
 pub mod PrepareTurns
 pub mod MemberTurns
 pub mod VerdictTurns
+pub mod Heard
 pub mod Requests
 pub mod TargetLaws
+pub mod PlainTurns
 pub mod ClientLaws
+pub mod HearingLaws
 pub mod CauseLaws
 pub mod Storing
 pub mod LastCauses
@@ -28,5 +33,6 @@ pub mod StoreTurns
 pub mod StoringClients
 pub mod StoringLaws
 pub mod Shown
+pub mod FloorLaws
 pub mod ShownLaws
 pub mod Leases

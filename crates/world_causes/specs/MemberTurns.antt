@@ -35,11 +35,12 @@ use Rattle.world_base.specs.Roles.{is_in_doubt, leader_at, member_at, with_unset
 use Rattle.world_base.specs.TargetTurns.{IdlesWhole}
 use Rattle.world_base.specs.Turns.{Whole}
 use Rattle.world_base.specs.Verdicts as turn
-use Rattle.world_causes.specs.Causes.{Dated, IsUnanswered, Refuses, Stored, limit, stored_by}
+use Rattle.world_causes.specs.Causes.{Dated, Stored, stored_by}
 use Rattle.world_causes.specs.CommitTurns.{space-same}
-use Rattle.world_causes.specs.Growth.{refusal-shows}
+use Rattle.world_causes.specs.Lasting.{refusal-shows}
 use Rattle.world_causes.specs.Paths.{costs, free-path}
 use Rattle.world_causes.specs.ReadTurns.{meet-more, none-told}
+use Rattle.world_causes.specs.Shown.{IsOpenTo, RefusalStands, limit_over}
 use Rattle.world_causes.specs.Turns.{AllMeet, AllShow, Leaves, PostShows, all-both, all-map, all-more}
 
 module _ (r : Rules) (o : Opening) (stored : Stored) (issued : Dated) (lines : List Line) where
@@ -58,9 +59,9 @@ module _ (r : Rules) (o : Opening) (stored : Stored) (issued : Dated) (lines : L
 
   -- what is known of an attempt's end: the client that waits is the attempt's, its epoch is within the limit, and it shows its cause
   pub record IsEnd (a : AttemptId) (e : Epoch) (how : Outcome) : Type 0 where
-    pub shows : Refuses r o stored issued a how
-    pub told : (n : ℕ) → Contains (told_by how) n → n / 256 ≤ limit o issued
-    pub within : e.0 / 256 ≤ limit o issued
+    pub shows : RefusalStands r o stored issued lines a how
+    pub told : (n : ℕ) → Contains (told_by how) n → n / 256 ≤ limit_over o lines issued
+    pub within : e.0 / 256 ≤ limit_over o lines issued
 
   ended-shows : (waiting : Option ActorId) (a : AttemptId) (e : Epoch) (how : Outcome) → ((c : ActorId) → waiting ≡ Some c → c ≡ client a.client) → IsEnd a e how → AllShow r o stored issued lines (ended waiting a e how)
   ended-shows None a e how own k = tt
@@ -75,18 +76,18 @@ module _ (r : Rules) (o : Opening) (stored : Stored) (issued : Dated) (lines : L
     tt,
   )
     where
-      told : (n : ℕ) → (n ≡ e.0) ⊎ Has n (told_by how) → n / 256 ≤ limit o issued
-      told n (inl same) = subst (λ f. f / 256 ≤ limit o issued) (sym same) k.within
+      told : (n : ℕ) → (n ≡ e.0) ⊎ Has n (told_by how) → n / 256 ≤ limit_over o lines issued
+      told n (inl same) = subst (λ f. f / 256 ≤ limit_over o lines issued) (sym same) k.within
       told n (inr i) = k.told n (contains-from_has (told_by how) n i)
 
   -- what is known of an Ack, at a leader
   pub record IsAck (a : AttemptId) (refusal : Option Outcome) (l : LeaderOf) : Type 0 where
     pub waiting : (u : Undecided) (c : ActorId) → undecided_of a l ≡ Some u → u.client ≡ Some c → c ≡ client a.client
-    pub within : (e : Entry) → entry_led a l ≡ Some e → e.epoch.0 / 256 ≤ limit o issued
-    pub shows : (how : Outcome) → refusal ≡ Some how → Refuses r o stored issued a how
-    pub told : (how : Outcome) (n : ℕ) → refusal ≡ Some how → Contains (told_by how) n → n / 256 ≤ limit o issued
+    pub within : (e : Entry) → entry_led a l ≡ Some e → e.epoch.0 / 256 ≤ limit_over o lines issued
+    pub shows : (how : Outcome) → refusal ≡ Some how → RefusalStands r o stored issued lines a how
+    pub told : (how : Outcome) (n : ℕ) → refusal ≡ Some how → Contains (told_by how) n → n / 256 ≤ limit_over o lines issued
 
-  ok-shows : (t : ℕ) (a : AttemptId) (e : Entry) (u : Undecided) (l : LeaderOf) → ((c : ActorId) → u.client ≡ Some c → c ≡ client a.client) → e.epoch.0 / 256 ≤ limit o issued → AllShow r o stored issued lines (ok_heard t a e u l).posts
+  ok-shows : (t : ℕ) (a : AttemptId) (e : Entry) (u : Undecided) (l : LeaderOf) → ((c : ActorId) → u.client ≡ Some c → c ≡ client a.client) → e.epoch.0 / 256 ≤ limit_over o lines issued → AllShow r o stored issued lines (ok_heard t a e u l).posts
   ok-shows t a e u l own within = by (are_all_counted e (with_target u.counted t))
     where
       by : (b : Bool) → AllShow r o stored issued lines (if b then record { leader = decided a l; posts = ended u.client a e.epoch outcome.Committed } else quietly (with_undecided (map (counted_at a t) l.memory.undecided) l)).posts
@@ -144,7 +145,7 @@ module _ (r : Rules) (o : Opening) (stored : Stored) (issued : Dated) (lines : L
   -- ---- a Query
 
   -- what a leader answers that an attempt isn't decided is of one without a line
-  query-shows : (to : ActorId) (a : AttemptId) (ask : Option AttemptId) (inc : ℕ) (v : Verdict) → ((x : AttemptId) → ask ≡ Some x → v ≡ verdicts.Undecided → IsUnanswered lines x a)
+  query-shows : (to : ActorId) (a : AttemptId) (ask : Option AttemptId) (inc : ℕ) (v : Verdict) → ((x : AttemptId) → ask ≡ Some x → v ≡ verdicts.Undecided → IsOpenTo r.script lines x a)
       → ((x : AttemptId) → ask ≡ Some x → (e : Epoch) × Contains issued (x, e)) → PostShows r o stored issued lines (record { to = to; message = message.Verdict a ask inc v })
   query-shows to a None inc v open' asked = record { shows = tt; told = λ n i. absurd (none-told n i); undecided = λ x by u. absurd u; asked = λ x u. absurd u; own = λ x u. absurd u }
   query-shows to a (Some y) inc verdicts.Committed open' asked = record { shows = tt; told = λ n i. absurd (none-told n i); undecided = λ x by u. absurd u; asked = λ x same. asked x (ap (λ z. Some z) same); own = λ x u. absurd u }
@@ -152,7 +153,7 @@ module _ (r : Rules) (o : Opening) (stored : Stored) (issued : Dated) (lines : L
   query-shows to a (Some y) inc verdicts.Undecided open' asked = record {
     shows = tt;
     told = λ n i. absurd (none-told n i);
-    undecided = λ x by u. subst (λ z. IsUnanswered lines x z) u.1 (open' x (ap (λ z. Some z) u.0) refl);
+    undecided = λ x by u. subst (λ z. IsOpenTo r.script lines x z) u.1 (open' x (ap (λ z. Some z) u.0) refl);
     asked = λ x same. asked x (ap (λ z. Some z) same);
     own = λ x u. absurd u;
   }
@@ -161,16 +162,16 @@ module _ (r : Rules) (o : Opening) (stored : Stored) (issued : Dated) (lines : L
 
 -- a turn that issues nothing, takes no blocks and waits for nothing more leaves what it sends
 quiet-leaves : (r : Rules) (o : Opening) (stored : Stored) (issued : Dated) (lines : List Line) (t : ℕ) (m : TargetMemory) (old new : Kept) (left : TargetMemory × Did) → left.1.issued ≡ None → old.free ≤ new.free → left.0.ticks ≡ m.ticks
-    → m.ticks ≤ limit o issued → left.0.member.parked ≡ m.member.parked → AllMeet r issued m.member.parked → AllShow r o stored issued lines left.1.posts → Leaves r o stored issued lines t old new left
+    → m.ticks ≤ limit_over o lines issued → left.0.member.parked ≡ m.member.parked → AllMeet r issued m.member.parked → AllShow r o stored issued lines left.1.posts → Leaves r o stored issued lines t old new left
 quiet-leaves r o stored issued lines t m old new left none low ticks within parked meet shows = record {
   posts = subst (λ i. AllShow r o (stored_by t old.durable new.durable ++ stored) (issued ++ listed i) lines left.1.posts) (sym none) (all-more r o (stored_by t old.durable new.durable) stored issued [] lines left.1.posts shows);
-  ticks = subst (λ i. left.0.ticks ≤ limit o (issued ++ listed i)) (sym none) (subst (λ is. left.0.ticks ≤ limit o is) (sym (append-nil issued)) (subst (λ n. n ≤ limit o issued) (sym ticks) within));
+  ticks = subst (λ i. left.0.ticks ≤ limit_over o lines (issued ++ listed i)) (sym none) (subst (λ is. left.0.ticks ≤ limit_over o lines is) (sym (append-nil issued)) (subst (λ n. n ≤ limit_over o lines issued) (sym ticks) within));
   dated = λ x e some. let no : ⊥ = cc in absurd no;
   space = space-same r.script t stored old new low;
   parked = subst (λ i. AllMeet r (issued ++ listed i) left.0.member.parked) (sym none) (subst (AllMeet r (issued ++ [])) (sym parked) (meet-more r issued [] m.member.parked meet));
 }
 
-module _ (r : Rules) (o : Opening) (stored : Stored) (issued : Dated) (lines : List Line) (t : ℕ) (plan : TargetPlan) (m : TargetMemory) (old : Kept) (within : m.ticks ≤ limit o issued) (meet : AllMeet r issued m.member.parked) where
+module _ (r : Rules) (o : Opening) (stored : Stored) (issued : Dated) (lines : List Line) (t : ℕ) (plan : TargetPlan) (m : TargetMemory) (old : Kept) (within : m.ticks ≤ limit_over o lines issued) (meet : AllMeet r issued m.member.parked) where
   -- an Ack
   abbrev AckSoFar : ack.AckStage → Kept → Type 0
   AckSoFar ack.Heard k = k.durable ≡ old.durable
@@ -221,7 +222,7 @@ module _ (r : Rules) (o : Opening) (stored : Stored) (issued : Dated) (lines : L
 
   -- a Query
   pub query-leaves : (from : ActorId) (a : AttemptId) (ask : Option AttemptId) (new : Kept) (left : TargetMemory × Did)
-      → ((x : AttemptId) → ask ≡ Some x → query_answer a (leader_at plan m old.durable) ≡ verdicts.Undecided → IsUnanswered lines x a) → ((x : AttemptId) → ask ≡ Some x → (e : Epoch) × Contains issued (x, e))
+      → ((x : AttemptId) → ask ≡ Some x → query_answer a (leader_at plan m old.durable) ≡ verdicts.Undecided → IsOpenTo r.script lines x a) → ((x : AttemptId) → ask ≡ Some x → (e : Epoch) × Contains issued (x, e))
       → Whole turn.QueryNext (turn.QueryEnds plan m from a ask) turn.IsAsked old new left → Leaves r o stored issued lines t old new left
   query-leaves from a ask new left open' asked w =
       ends w.last new left (path-keeps turn.QueryNext (λ s k. k ≡ old) step turn.IsAsked old w.reached.did w.last new w.reached.path refl) w.ends

@@ -8,6 +8,7 @@ use Rattle.base_types.specs.declared.id.AttemptId.{AttemptId}
 use Rattle.base_types.specs.declared.operation.MinorWrite.{MinorWrite}
 use Rattle.base_types.specs.declared.outcome.FloorWhy.{FloorWhy}
 use Rattle.base_types.specs.declared.report.Line.{Line}
+use Rattle.base_types.specs.declared.script.Script.{Script}
 use Rattle.model_laws.specs.Members.{Has, has-filter, has-from_filter, has-from_map}
 use Rattle.daos_model.specs.declared.durable.Durable.{Durable}
 use Rattle.daos_model.specs.declared.durable.Version.{Version}
@@ -32,7 +33,7 @@ use Rattle.world_base.specs.Reads as read
 use Rattle.world_base.specs.Requests.{is_other_attempt, request_epoch}
 use Rattle.world_base.specs.Roles.{other_leader}
 use Rattle.world_base.specs.Turns.{Path}
-use Rattle.world_causes.specs.Turns.{HasNoLine}
+use Rattle.world_causes.specs.Shown.{IsOpenToAll}
 use Rattle.world_reads.specs.ChangeLaws.{still-open}
 use Rattle.world_base.specs.ChangeLaws.{conts-settled, versions-leased}
 
@@ -96,36 +97,36 @@ old-committed a olds vs k v i =
 
 -- ---- what a read may meet
 
--- an attempt that a read may meet at a target: it is known as decided, another target leads it, or no line tells of it
-pub data IsMet (t : TargetPlan) (lines : List Line) (d : Durable) (left : List AttemptId) (a : AttemptId) : Type 0 where
-  IsKnown : Has a left → IsMet t lines d left a
-  IsOthers : (leader : ℕ) → other_leader t a d ≡ Some leader → IsMet t lines d left a
-  IsUnended : HasNoLine lines a → IsMet t lines d left a
+-- an attempt that a read may meet at a target: it is known as decided, another target leads it, or it is open to any other
+pub data IsMet (script : Script) (t : TargetPlan) (lines : List Line) (d : Durable) (left : List AttemptId) (a : AttemptId) : Type 0 where
+  IsKnown : Has a left → IsMet script t lines d left a
+  IsOthers : (leader : ℕ) → other_leader t a d ≡ Some leader → IsMet script t lines d left a
+  IsOpenStill : IsOpenToAll script lines a → IsMet script t lines d left a
 
 -- a version that isn't settled is of such an attempt, and of an epoch above all of before the run
-pub record IsOpen (t : TargetPlan) (lines : List Line) (top : ℕ) (d : Durable) (left : List AttemptId) (v : Version) : Type 0 where
-  pub met : IsMet t lines d left v.by
+pub record IsOpen (script : Script) (t : TargetPlan) (lines : List Line) (top : ℕ) (d : Durable) (left : List AttemptId) (v : Version) : Type 0 where
+  pub met : IsMet script t lines d left v.by
   pub above : top < v.epoch.0
 
-abbrev pub AreOpen : TargetPlan → List Line → ℕ → Durable → List AttemptId → Type 0
-AreOpen t lines top d left = (v : Version) → Has v d.versions → v.done ≡ false → IsOpen t lines top d left v
+abbrev pub AreOpen : Script → TargetPlan → List Line → ℕ → Durable → List AttemptId → Type 0
+AreOpen script t lines top d left = (v : Version) → Has v d.versions → v.done ≡ false → IsOpen script t lines top d left v
 
-met-by : (t : TargetPlan) (lines : List Line) (d e : Durable) (left more : List AttemptId) (a : AttemptId) → (Has a left → Has a more) → other_leader t a e ≡ other_leader t a d → IsMet t lines d left a → IsMet t lines e more a
-met-by t lines d e left more a known same (IsKnown i) = IsKnown (known i)
-met-by t lines d e left more a known same (IsOthers leader is) = IsOthers leader (same ∙ is)
-met-by t lines d e left more a known same (IsUnended none) = IsUnended none
+met-by : (script : Script) (t : TargetPlan) (lines : List Line) (d e : Durable) (left more : List AttemptId) (a : AttemptId) → (Has a left → Has a more) → other_leader t a e ≡ other_leader t a d → IsMet script t lines d left a → IsMet script t lines e more a
+met-by script t lines d e left more a known same (IsKnown i) = IsKnown (known i)
+met-by script t lines d e left more a known same (IsOthers leader is) = IsOthers leader (same ∙ is)
+met-by script t lines d e left more a known same (IsOpenStill none) = IsOpenStill none
 
 -- once an attempt is committed the others are left
-open-committed : (t : TargetPlan) (lines : List Line) (top : ℕ) (a : AttemptId) (d : Durable) (left : List AttemptId) → AreOpen t lines top d left → AreOpen t lines top (settled a Commit d) (filter (is_other_attempt a) left)
-open-committed t lines top a d left k v i open' =
+open-committed : (script : Script) (t : TargetPlan) (lines : List Line) (top : ℕ) (a : AttemptId) (d : Durable) (left : List AttemptId) → AreOpen script t lines top d left → AreOpen script t lines top (settled a Commit d) (filter (is_other_attempt a) left)
+open-committed script t lines top a d left k v i open' =
     let u = has-from_map (done_by a) d.versions v (subst (Has v) (versions-committed a d) i) in
     let was = still-open a u.0 (ap (λ z. z.done) u.2 ∙ open') in
     let s = same-done a u.0 in
     let own : u.0.by ≡ v.by = sym s.0 ∙ ap (λ z. z.by) u.2 in
     let is = k u.0 u.1 was.0 in
     record {
-      met = subst (IsMet t lines (settled a Commit d) (filter (is_other_attempt a) left)) own
-          (met-by t lines d (settled a Commit d) left (filter (is_other_attempt a) left) u.0.by (λ j. has-filter (is_other_attempt a) left u.0.by j (ap not was.1)) (leader-committed t a u.0.by d) is.met);
+      met = subst (IsMet script t lines (settled a Commit d) (filter (is_other_attempt a) left)) own
+          (met-by script t lines d (settled a Commit d) left (filter (is_other_attempt a) left) u.0.by (λ j. has-filter (is_other_attempt a) left u.0.by j (ap not was.1)) (leader-committed t a u.0.by d) is.met);
       above = subst (λ e. top < e.0) (sym s.1 ∙ ap (λ z. z.epoch) u.2) is.above;
     }
 
@@ -136,61 +137,61 @@ not-its a v open' other same =
     let no : ⊥ = cc in no
 
 -- and once it is aborted
-open-aborted : (t : TargetPlan) (lines : List Line) (top : ℕ) (a : AttemptId) (d : Durable) (left : List AttemptId) → AreOpen t lines top d left → AreOpen t lines top (settled a Abort d) left
-open-aborted t lines top a d left k v i open' =
+open-aborted : (script : Script) (t : TargetPlan) (lines : List Line) (top : ℕ) (a : AttemptId) (d : Durable) (left : List AttemptId) → AreOpen script t lines top d left → AreOpen script t lines top (settled a Abort d) left
+open-aborted script t lines top a d left k v i open' =
     let u = has-from_filter (is_not_pending a) d.versions v (subst (Has v) (versions-aborted a d) i) in
     let is = k v u.0 open' in
-    record { met = met-by t lines d (settled a Abort d) left left v.by (λ j. j) (leader-aborted_other t a v.by d (λ same. not-its a v open' u.1 same)) is.met; above = is.above }
+    record { met = met-by script t lines d (settled a Abort d) left left v.by (λ j. j) (leader-aborted_other t a v.by d (λ same. not-its a v open' u.1 same)) is.met; above = is.above }
 
 -- ---- a turn that reads
 
 -- what the steps of such a turn leave
-pub record Lasts (t : TargetPlan) (lines : List Line) (top : ℕ) (old : Kept) (left : List AttemptId) (k : Kept) : Type 0 where
+pub record Lasts (script : Script) (t : TargetPlan) (lines : List Line) (top : ℕ) (old : Kept) (left : List AttemptId) (k : Kept) : Type 0 where
   pub free : old.free ≤ k.free
   pub conts : k.durable.conts ≡ old.durable.conts
   pub olds : AreOld old.durable.versions k.durable.versions
-  pub opens : AreOpen t lines top k.durable left
+  pub opens : AreOpen script t lines top k.durable left
 
-module _ (t : TargetPlan) (lines : List Line) (top : ℕ) (old : Kept) where
-  pub lasts-here : (left : List AttemptId) → AreOpen t lines top old.durable left → Lasts t lines top old left old
+module _ (script : Script) (t : TargetPlan) (lines : List Line) (top : ℕ) (old : Kept) where
+  pub lasts-here : (left : List AttemptId) → AreOpen script t lines top old.durable left → Lasts script t lines top old left old
   lasts-here left open' = record { free = omega arith; conts = refl; olds = λ v i. (v, i, refl, refl, refl); opens = open' }
 
-  pub lasts-rests : (left : List AttemptId) (k l : Kept) → l ≡ k → Lasts t lines top old left k → Lasts t lines top old left l
-  lasts-rests left k l same h = subst (Lasts t lines top old left) (sym same) h
+  pub lasts-rests : (left : List AttemptId) (k l : Kept) → l ≡ k → Lasts script t lines top old left k → Lasts script t lines top old left l
+  lasts-rests left k l same h = subst (Lasts script t lines top old left) (sym same) h
 
-  pub lasts-leased : (left : List AttemptId) (n : ℕ) (k l : Kept) → Steps (Some (Extends n)) k l → Lasts t lines top old left k → Lasts t lines top old left l
+  pub lasts-leased : (left : List AttemptId) (n : ℕ) (k l : Kept) → Steps (Some (Extends n)) k l → Lasts script t lines top old left k → Lasts script t lines top old left l
   lasts-leased left n k l st h = record {
     free = let f : old.free ≤ k.free = h.free in let g : k.free ≤ l.free + 0 = st.1 in omega (arith, f, g);
     conts = ap (λ d. d.conts) st.0 ∙ conts-leased n k.durable ∙ h.conts;
     olds = subst (AreOld old.durable.versions) (sym (ap (λ d. d.versions) st.0 ∙ versions-leased n k.durable)) h.olds;
-    opens = subst (λ d. AreOpen t lines top d left) (sym st.0)
+    opens = subst (λ d. AreOpen script t lines top d left) (sym st.0)
         (λ v i open'. let is = h.opens v (subst (Has v) (versions-leased n k.durable) i) open' in
-        record { met = met-by t lines k.durable (leased n k.durable) left left v.by (λ j. j) (leader-leased t n v.by k.durable) is.met; above = is.above });
+        record { met = met-by script t lines k.durable (leased n k.durable) left left v.by (λ j. j) (leader-leased t n v.by k.durable) is.met; above = is.above });
   }
 
-  pub lasts-committed : (left : List AttemptId) (a : AttemptId) (k l : Kept) → Steps (Some (Settles a Commit)) k l → Lasts t lines top old left k → Lasts t lines top old (filter (is_other_attempt a) left) l
+  pub lasts-committed : (left : List AttemptId) (a : AttemptId) (k l : Kept) → Steps (Some (Settles a Commit)) k l → Lasts script t lines top old left k → Lasts script t lines top old (filter (is_other_attempt a) left) l
   lasts-committed left a k l st h = record {
     free = let f : old.free ≤ k.free = h.free in let g : k.free ≤ l.free + 0 = st.1 in omega (arith, f, g);
     conts = ap (λ d. d.conts) st.0 ∙ conts-settled a Commit k.durable ∙ h.conts;
     olds = subst (AreOld old.durable.versions) (sym (ap (λ d. d.versions) st.0 ∙ versions-committed a k.durable)) (old-committed a old.durable.versions k.durable.versions h.olds);
-    opens = subst (λ d. AreOpen t lines top d (filter (is_other_attempt a) left)) (sym st.0) (open-committed t lines top a k.durable left h.opens);
+    opens = subst (λ d. AreOpen script t lines top d (filter (is_other_attempt a) left)) (sym st.0) (open-committed script t lines top a k.durable left h.opens);
   }
 
-  pub lasts-aborted : (left : List AttemptId) (a : AttemptId) (k l : Kept) → Steps (Some (Settles a Abort)) k l → Lasts t lines top old left k → Lasts t lines top old left l
+  pub lasts-aborted : (left : List AttemptId) (a : AttemptId) (k l : Kept) → Steps (Some (Settles a Abort)) k l → Lasts script t lines top old left k → Lasts script t lines top old left l
   lasts-aborted left a k l st h = record {
     free = let f : old.free ≤ k.free = h.free in let g : k.free ≤ l.free + 0 = st.1 in omega (arith, f, g);
     conts = ap (λ d. d.conts) st.0 ∙ conts-settled a Abort k.durable ∙ h.conts;
     olds = subst (AreOld old.durable.versions) (sym (ap (λ d. d.versions) st.0 ∙ versions-aborted a k.durable)) (λ v i. h.olds v (has-from_filter (is_not_pending a) k.durable.versions v i).0);
-    opens = subst (λ d. AreOpen t lines top d left) (sym st.0) (open-aborted t lines top a k.durable left h.opens);
+    opens = subst (λ d. AreOpen script t lines top d left) (sym st.0) (open-aborted script t lines top a k.durable left h.opens);
   }
 
   -- more may be known
-  pub lasts-known : (left more : List AttemptId) (k : Kept) → ((a : AttemptId) → Has a left → Has a more) → Lasts t lines top old left k → Lasts t lines top old more k
+  pub lasts-known : (left more : List AttemptId) (k : Kept) → ((a : AttemptId) → Has a left → Has a more) → Lasts script t lines top old left k → Lasts script t lines top old more k
   lasts-known left more k known h = record {
     free = h.free;
     conts = h.conts;
     olds = h.olds;
-    opens = λ v i open'. let is = h.opens v i open' in record { met = met-by t lines k.durable k.durable left more v.by (known v.by) refl is.met; above = is.above };
+    opens = λ v i open'. let is = h.opens v i open' in record { met = met-by script t lines k.durable k.durable left more v.by (known v.by) refl is.met; above = is.above };
   }
 
 -- ---- a Fetch
@@ -206,22 +207,22 @@ ReadDated t m reading q (read.Known e) = request_epoch t m reading q.tracker q.e
 ReadDated t m reading q (read.Reading e decided) = request_epoch t m reading q.tracker q.ep ≡ Some e
 
 -- what a turn that hears a Fetch has come to
-pub record ReadSoFar (t : TargetPlan) (lines : List Line) (top : ℕ) (m : TargetMemory) (reading : ℕ) (q : FetchRequest) (old : Kept) (s : read.FetchStage) (k : Kept) : Type 0 where
+pub record ReadSoFar (script : Script) (t : TargetPlan) (lines : List Line) (top : ℕ) (m : TargetMemory) (reading : ℕ) (q : FetchRequest) (old : Kept) (s : read.FetchStage) (k : Kept) : Type 0 where
   pub dated : ReadDated t m reading q s
-  pub lasts : Lasts t lines top old (left_at m s) k
+  pub lasts : Lasts script t lines top old (left_at m s) k
 
-pub read-step : (t : TargetPlan) (lines : List Line) (top : ℕ) (m : TargetMemory) (reading : ℕ) (q : FetchRequest) (old : Kept) → q.snapshot ≡ false → (s : read.FetchStage) (k : Kept) (o : Option Change) (u : read.FetchStage) (l : Kept)
-    → read.FetchNext t m reading q s k o u → Steps o k l → ReadSoFar t lines top m reading q old s k → ReadSoFar t lines top m reading q old u l
-read-step t lines top m reading q old plain s k o u l (read.AtSnapshot j e snap ep) st h = let no : ⊥ = cc in absurd no
-read-step t lines top m reading q old plain s k o u l (read.HasEpoch j e p is) st h = record { dated = is; lasts = lasts-rests t lines top old m.leader.decided k l st h.lasts }
-read-step t lines top m reading q old plain s k o u l (read.ExtendsLease j e lease low is) st h = record { dated = h.dated; lasts = lasts-leased t lines top old m.leader.decided lease k l st h.lasts }
-read-step t lines top m reading q old plain s k o u l (read.IsCovered j e low) st h = record { dated = h.dated; lasts = lasts-rests t lines top old m.leader.decided k l st h.lasts }
-read-step t lines top m reading q old plain s k o u l (read.SettlesOwn j e decided a none unsettled among) st h = record { dated = h.dated; lasts = lasts-committed t lines top old decided a k l st h.lasts }
+pub read-step : (script : Script) (t : TargetPlan) (lines : List Line) (top : ℕ) (m : TargetMemory) (reading : ℕ) (q : FetchRequest) (old : Kept) → q.snapshot ≡ false → (s : read.FetchStage) (k : Kept) (o : Option Change) (u : read.FetchStage) (l : Kept)
+    → read.FetchNext t m reading q s k o u → Steps o k l → ReadSoFar script t lines top m reading q old s k → ReadSoFar script t lines top m reading q old u l
+read-step script t lines top m reading q old plain s k o u l (read.AtSnapshot j e snap ep) st h = let no : ⊥ = cc in absurd no
+read-step script t lines top m reading q old plain s k o u l (read.HasEpoch j e p is) st h = record { dated = is; lasts = lasts-rests script t lines top old m.leader.decided k l st h.lasts }
+read-step script t lines top m reading q old plain s k o u l (read.ExtendsLease j e lease low is) st h = record { dated = h.dated; lasts = lasts-leased script t lines top old m.leader.decided lease k l st h.lasts }
+read-step script t lines top m reading q old plain s k o u l (read.IsCovered j e low) st h = record { dated = h.dated; lasts = lasts-rests script t lines top old m.leader.decided k l st h.lasts }
+read-step script t lines top m reading q old plain s k o u l (read.SettlesOwn j e decided a none unsettled among) st h = record { dated = h.dated; lasts = lasts-committed script t lines top old decided a k l st h.lasts }
 
-pub read-path : (t : TargetPlan) (lines : List Line) (top : ℕ) (m : TargetMemory) (reading : ℕ) (q : FetchRequest) (old : Kept) (s : read.FetchStage) (k : Kept) (did : List Change) → q.snapshot ≡ false
-    → AreOpen t lines top old.durable m.leader.decided → Path (read.FetchNext t m reading q) read.Asked old did s k → ReadSoFar t lines top m reading q old s k
-read-path t lines top m reading q old s k did plain open' p =
-    path-keeps (read.FetchNext t m reading q) (ReadSoFar t lines top m reading q old) (read-step t lines top m reading q old plain) read.Asked old did s k p (record { dated = tt; lasts = lasts-here t lines top old m.leader.decided open' })
+pub read-path : (script : Script) (t : TargetPlan) (lines : List Line) (top : ℕ) (m : TargetMemory) (reading : ℕ) (q : FetchRequest) (old : Kept) (s : read.FetchStage) (k : Kept) (did : List Change) → q.snapshot ≡ false
+    → AreOpen script t lines top old.durable m.leader.decided → Path (read.FetchNext t m reading q) read.Asked old did s k → ReadSoFar script t lines top m reading q old s k
+read-path script t lines top m reading q old s k did plain open' p =
+    path-keeps (read.FetchNext t m reading q) (ReadSoFar script t lines top m reading q old) (read-step script t lines top m reading q old plain) read.Asked old did s k p (record { dated = tt; lasts = lasts-here script t lines top old m.leader.decided open' })
 
 -- ---- an entry that is stored
 

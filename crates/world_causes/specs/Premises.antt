@@ -3,6 +3,7 @@ use Rattle.std.specs.Prelude.{ℕ, ◌≡◌, ◌≤◌, ◌<◌, ◌/◌, Any, 
 use Rattle.base_types.specs.declared.epoch.Epoch.{Epoch}
 use Rattle.base_types.specs.declared.id.AttemptId.{AttemptId}
 use Rattle.base_types.specs.declared.operation.MinorWrite.{MinorWrite}
+use Rattle.base_types.specs.declared.report.Line.{Line}
 use Rattle.base_types.specs.declared.script.Command.{Command}
 use Rattle.base_types.specs.declared.shown.Shown.{Shown}
 use Rattle.base_types.specs.Operations.{write_path}
@@ -24,7 +25,8 @@ use Rattle.world_base.specs.declared.letter.Letter.{Letter}
 use Rattle.world_base.specs.declared.target.TargetState.{TargetState}
 use Rattle.world_base.specs.declared.world.World.{World}
 use Rattle.world_base.specs.Events.{Rules, client_plan}
-use Rattle.world_causes.specs.Causes.{Dated, limit, zeroth}
+use Rattle.world_causes.specs.Causes.{Dated, zeroth}
+use Rattle.world_causes.specs.Shown.{IsFirstOf, limit_over}
 
 -- ---- the run
 
@@ -50,14 +52,24 @@ abbrev pub IsNoRestart : Reply → Type 0
 IsNoRestart (reply.Answer b) = Unit {0}
 IsNoRestart (reply.Outcome how) = is_restart how ≡ false
 
--- it is so of each request, also of one between targets; and an answer without an epoch tells of no restart
+-- a request bears a first epoch of which this is so, also one between targets
+abbrev pub RequestKnows : (AttemptId → Option Epoch → Type 0) → Message → Type 0
+RequestKnows Knows (message.Fetch x op group ep first tracker r snapshot) = Knows x first
+RequestKnows Knows (message.Commit x ep first tracker ws) = Knows x first
+RequestKnows Knows (message.Prepare e first ws inc) = Knows e.attempt first
+RequestKnows Knows m = Unit {0}
+
+-- so does each request; and an answer without an epoch tells of no restart
+abbrev pub MessageBears : (AttemptId → Option Epoch → Type 0) → Message → Type 0
+MessageBears Knows (message.Fetch x op group ep first tracker r snapshot) = Knows x first
+MessageBears Knows (message.Commit x ep first tracker ws) = Knows x first
+MessageBears Knows (message.Prepare e first ws inc) = Knows e.attempt first
+MessageBears Knows (message.Fetched x op group None b) = IsNoRestart b
+MessageBears Knows (message.Ended x None how) = is_restart how ≡ false
+MessageBears Knows m = Unit {0}
+
 abbrev pub MessageKnows : Dated → Message → Type 0
-MessageKnows issued (message.Fetch x op group ep first tracker r snapshot) = IsFirst issued x first
-MessageKnows issued (message.Commit x ep first tracker ws) = IsFirst issued x first
-MessageKnows issued (message.Prepare e first ws inc) = IsFirst issued e.attempt first
-MessageKnows issued (message.Fetched x op group None b) = IsNoRestart b
-MessageKnows issued (message.Ended x None how) = is_restart how ≡ false
-MessageKnows issued m = Unit {0}
+MessageKnows issued m = MessageBears (IsFirst issued) m
 
 -- it is so of all messages, and of the Fetches that wait
 pub record FirstsAreKnown (w : World) : Type 0 where
@@ -78,11 +90,11 @@ VersionsAreWritten r o w = (t : ℕ) (s : TargetState) → slice_get w.targets t
 -- ---- a turn
 
 -- what a target knows of a request's epochs
-pub record IsRequest (o : Opening) (issued : Dated) (x : AttemptId) (ep first : Option Epoch) (tracker : Epoch) : Type 0 where
-  pub tracked : tracker.0 / 256 ≤ limit o issued
-  pub own : (e : Epoch) → ep ≡ Some e → Contains issued (x, e) × (top o < e.0) × (e.0 / 256 ≤ limit o issued)
+pub record IsRequest (o : Opening) (issued : Dated) (lines : List Line) (x : AttemptId) (ep first : Option Epoch) (tracker : Epoch) : Type 0 where
+  pub tracked : tracker.0 / 256 ≤ limit_over o lines issued
+  pub own : (e : Epoch) → ep ≡ Some e → Contains issued (x, e) × (top o < e.0) × (e.0 / 256 ≤ limit_over o lines issued)
   pub fresh : ep ≡ None → ((e : Epoch) → Contains issued (x, e) → ⊥) × (top o ≤ tracker.0)
-  pub known : IsFirst issued x first
+  pub known : IsFirstOf issued lines x first
 
 -- each timestamp is of an attempt with that epoch, which asks there
 abbrev pub AreOfReads : Rules → Dated → List Shown → Type 0

@@ -11,6 +11,7 @@ use Rattle.base_types.specs.declared.id.AttemptId.{AttemptId}
 use Rattle.base_types.specs.declared.operation.MinorWrite.{MinorWrite}
 use Rattle.base_types.specs.declared.operation.Op.{Op}
 use Rattle.base_types.specs.declared.operation.Read.{Read}
+use Rattle.base_types.specs.declared.report.Line.{Line}
 use Rattle.base_types.specs.declared.script.Command.TheVariants as command
 use Rattle.base_types.specs.Operations.{read_path, write_path}
 use Rattle.base_types.specs.Placement.{path_leader, path_members, writes_leader, writes_members}
@@ -72,21 +73,30 @@ use Rattle.world_base.specs.Commits as commit
 use Rattle.world_base.specs.Reads.{fetch_at}
 use Rattle.world_base.specs.Roles.{other_leader, other_leader_of}
 use Rattle.world_base.specs.TargetTurns.{fetch_request}
-use Rattle.world_causes.specs.Causes.{Bounded, PlainCauses, MeetsOther, Stored, limit}
+use Rattle.world_causes.specs.AtFloors.{HasTarget, IsTarget}
+use Rattle.world_causes.specs.Causes.{Dated, MeetsOther, Stored}
 use Rattle.world_causes.specs.CommitTurns.{IsCommit, blocks-some, own-is}
 use Rattle.world_causes.specs.Growth.{question-asks}
-use Rattle.world_causes.specs.Paths.{AreOpen, IsKnown, IsMet, IsOthers, IsUnended}
+use Rattle.world_causes.specs.Floors.{floors-told}
+use Rattle.world_causes.specs.Paths.{AreOpen, IsKnown, IsMet, IsOpenStill, IsOthers}
 use Rattle.world_causes.specs.Premises.{AreOfReads, FirstsAreKnown, IsFirst, IsPlain, IsRequest, MessageKnows, VersionsAreWritten}
 use Rattle.world_causes.specs.PrepareTurns.{IsPrepare}
-use Rattle.world_causes.specs.ReadTurns.{IsFetch, IsTarget}
+use Rattle.world_causes.specs.ReadTurns.{IsFetch, unended-open}
+use Rattle.world_causes.specs.Shown.{BoundedOver, Causes, IsFirstOf, limit_over}
+use Rattle.world_causes.specs.ShownLaws.{AreTries, none-floors}
 use Rattle.world_causes.specs.Turns.{HasNoLine}
 use Rattle.world_causes.specs.VerdictTurns.{IsAskFit}
 use Rattle.world_base.specs.Requests.{fetch_message}
 use Rattle.world_clients.specs.Snapshots.{is_at_snapshot}
 
+-- all targets run
+abbrev pub AllRun : World → Type 0
+AllRun w = (t : ℕ) (s : TargetState) → slice_get w.targets t ≡ Some s → s.life ≡ Running
+
 -- what is known of a world beside causes, each by the crate whose word it is
 pub record Given (r : Rules) (o : Opening) (h : History) (w : World) : Type 0 where
   pub some : 0 < r.attempts
+  pub running : AllRun w
   pub plain : IsPlain r
   pub unsnapped : Unsnapped r
   pub talk : Conversation r w
@@ -171,7 +181,7 @@ module _ (r : Rules) (o : Opening) (h : History) (w : World) (G : Given r o h w)
       ]
 
   -- what a read may meet here
-  pub opens-here : AreOpen (target_plan r t) w.lines (top o) s.durable s.memory.leader.decided
+  pub opens-here : AreOpen r.script (target_plan r t) w.lines (top o) s.durable s.memory.leader.decided
   opens-here v i open' = record { met = by its.place; above = subst (λ e. top o < e.0) p.epoch (G.epochs.above v.by p.entry.epoch (contains-from_has w.issued (v.by, p.entry.epoch) its.issued)) }
     where
       p : IsPreparedAt s.durable v.by v.epoch
@@ -187,16 +197,21 @@ module _ (r : Rules) (o : Opening) (h : History) (w : World) (G : Given r o h w)
           not-led true same = absurd (off (sym is ∙ eqb-true p.entry.leader t same))
           not-led false same = same
 
-      by : (t ≡ leader_of r v.by) ⊎ IsOther r v.by t → IsMet (target_plan r t) w.lines s.durable s.memory.leader.decided v.by
-      by (inl leads) = elim (open-at-leader v.by p.entry leads p.found p.open') [ inl known ↦ IsKnown known | inr none ↦ IsUnended none ]
+      by : (t ≡ leader_of r v.by) ⊎ IsOther r v.by t → IsMet r.script (target_plan r t) w.lines s.durable s.memory.leader.decided v.by
+      by (inl leads) = elim (open-at-leader v.by p.entry leads p.found p.open') [ inl known ↦ IsKnown known | inr none ↦ IsOpenStill (unended-open r.script w.lines v.by none) ]
       by (inr other) = IsOthers p.entry.leader (leader-found (target_plan r t) s.durable v.by p.entry p.found ∙ led-by (leader_of r v.by) its.leader (λ same. other-no_leader r v.by t other (sym same)))
 
 -- ---- requests
 
+-- the first epoch of a command that is known
+pub first-of : (issued : Dated) (lines : List Line) (x : AttemptId) (first : Option Epoch) → IsFirst issued x first → IsFirstOf issued lines x first
+first-of issued lines x None known = λ n low. absurd (omega (arith, known, low))
+first-of issued lines x (Some f) known = record { number = 0; early = omega arith; its = known; lost = λ n low. absurd (omega (arith, low)) }
+
 -- what is known of a request's epochs
-request-is : (r : Rules) (o : Opening) (w : World) (l : Letter) (x : AttemptId) (ep first : Option Epoch) (tracker : Epoch) → PlainEpochs r (top o) w → Bounded o w → Contains w.messages l
-    → (ep ≡ None → AsksEpoch l.message x tracker) → ((e : Epoch) → ep ≡ Some e → BearsEpoch l.message x e) → IsFirst w.issued x first → tracker.0 / 256 ≤ limit o w.issued
-    → IsRequest o w.issued x ep first tracker
+pub request-is : (r : Rules) (o : Opening) (w : World) (l : Letter) (x : AttemptId) (ep first : Option Epoch) (tracker : Epoch) → PlainEpochs r (top o) w → BoundedOver o w → Contains w.messages l
+    → (ep ≡ None → AsksEpoch l.message x tracker) → ((e : Epoch) → ep ≡ Some e → BearsEpoch l.message x e) → IsFirstOf w.issued w.lines x first → tracker.0 / 256 ≤ limit_over o w.lines w.issued
+    → IsRequest o w.issued w.lines x ep first tracker
 request-is r o w l x ep first tracker E B among asks bears low tracked = record {
   tracked = tracked;
   own = λ e is. let i : Contains w.issued (x, e) = E.borne l x e among (bears e is) in (i, E.above x e i, B.issued x e i);
@@ -261,12 +276,16 @@ member-writes r x t other =
     let k = (has-from_filter (is_other_member (first_entry r x (record { 0 = 0 }))) all_targets t other).1 in
     writes-touch r t (writes_of r x) (bit-of (writes_members (writes_of r x) r.script.targets) t (and_left (has_target (members_of r x) t) (not (t == leader_of r x)) k))
 
-module _ (r : Rules) (o : Opening) (h : History) (w : World) (G : Given r o h w) (stored : Stored) (C : PlainCauses r o stored w) (t : ℕ) (s : TargetState) (here : slice_get w.targets t ≡ Some s) where
+module _ (r : Rules) (o : Opening) (h : History) (w : World) (G : Given r o h w) (stored : Stored) (C : Causes r o stored w) (tries : AreTries w.lines) (t : ℕ) (s : TargetState) (here : slice_get w.targets t ≡ Some s) where
   pub few : t < 256
   few = let p : t < length w.targets = slice_get_within w.targets t s here in let q : length w.targets ≤ 256 = G.epochs.few in omega (arith, p, q)
 
-  pub target-is : IsTarget r o w.issued s.opening (record { durable = s.durable; free = s.free })
-  target-is = record { floors = λ cont. C.floors t s cont here; dates = C.bounded.issued; written = G.written t s here }
+  -- no line tells of a floor
+  pub no-floors : (x : AttemptId) → HasTarget r w.lines x t
+  no-floors x floor cont reason i = absurd (none-floors w.lines t floor cont reason tries i)
+
+  pub target-is : s.life ≡ Running → IsTarget r o w.issued w.lines t s.opening (record { durable = s.durable; free = s.free })
+  target-is runs = record { floors = floors-told o w t s here runs C.floors; within = λ floor cont reason i. C.bounded.floors t floor cont reason i; dates = C.bounded.issued; written = G.written t s here; once = G.epochs.one }
 
   -- the client at hand reads at no snapshot
   no-name : (n : ℕ) (c : ClientState) (ops : List Op) (turns : List ℕ) (name : Option (List ℕ)) → command_at (client_plan r n) c ≡ Some (command.Run ops turns name) → name ≡ None
@@ -282,7 +301,7 @@ module _ (r : Rules) (o : Opening) (h : History) (w : World) (G : Given r o h w)
   parked-there p x op group ep first tracker y b i is = parked-is r w t s p x.client G.talk here i (ap (is_fetch_of x.client) is ∙ same_number x.client)
 
   fetch-fit : (p : Parked) (x : AttemptId) (e : Epoch) (op group : ℕ) (first : Option Epoch) (tracker : Epoch) (y : Read) → Has p s.memory.member.parked → Contains w.issued (x, e) → p.ask ≡ message.Fetch x op group (Some e) first tracker y false → ParkedIs r w t p
-      → IsAskFit r o w.issued (target_plan r t) p.ask
+      → IsAskFit r o w.issued w.lines (target_plan r t) p.ask
   fetch-fit p x e op group first tracker y i issued is k = record {
     q = fetch_request x op group (Some e) first tracker y false;
     is = is;
@@ -291,13 +310,14 @@ module _ (r : Rules) (o : Opening) (h : History) (w : World) (G : Given r o h w)
       epsilon = refl;
       plain = refl;
       request = record {
-        tracked = tracker-within tracker.0 k.c.tracker.0 (limit o w.issued) (subst (λ f. f.0 ≤ k.c.tracker.0) (sym k.asked.tracker ∙ tracker-is) k.low) (C.bounded.trackers k.n k.c k.here);
-        own = λ f some. let one : e ≡ f = cc in subst (λ f. Contains w.issued (x, f) × (top o < f.0) × (f.0 / 256 ≤ limit o w.issued)) one (issued, G.epochs.above x e issued, C.bounded.issued x e issued);
+        tracked = tracker-within tracker.0 k.c.tracker.0 (limit_over o w.lines w.issued) (subst (λ f. f.0 ≤ k.c.tracker.0) (sym k.asked.tracker ∙ tracker-is) k.low) (C.bounded.trackers k.n k.c k.here);
+        own = λ f some. let one : e ≡ f = cc in subst (λ f. Contains w.issued (x, f) × (top o < f.0) × (f.0 / 256 ≤ limit_over o w.lines w.issued)) one (issued, G.epochs.above x e issued, C.bounded.issued x e issued);
         fresh = λ none. let no : ⊥ = cc in absurd no;
-        known = subst (MessageKnows w.issued) is (G.firsts.parked t s p here (contains-from_has s.memory.member.parked p i));
+        known = first-of w.issued w.lines x first (subst (MessageKnows w.issued) is (G.firsts.parked t s p here (contains-from_has s.memory.member.parked p i)));
       };
       access = read-access r x k.asked.ops k.asked.o k.a.op k.a.stage y
           (ap (attempt_ops r.script) (attempt-is ∙ k.asked.attempt) ∙ its-ops k.n k.c k.a k.asked.ops k.asked.turns k.asked.name k.here k.present k.asked.at) k.asked.here (k.asked.asked ∙ ap (λ z. Some z) (sym read-is));
+      target = no-floors x;
     };
     e = e;
     own = refl;
@@ -316,13 +336,13 @@ module _ (r : Rules) (o : Opening) (h : History) (w : World) (G : Given r o h w)
       tracker-is = cc (same)
 
   -- each is as its client asked it
-  pub parked-fit : (p : Parked) → Has p s.memory.member.parked → IsAskFit r o w.issued (target_plan r t) p.ask
+  pub parked-fit : (p : Parked) → Has p s.memory.member.parked → IsAskFit r o w.issued w.lines (target_plan r t) p.ask
   parked-fit p i = by p.ask refl k.bears ((G.addressed.known t s here).parked p i).ask
     where
       k : BearsIssued w.issued p.ask
       k = G.epochs.parked t s p here (contains-from_has s.memory.member.parked p i)
 
-      by : (m : Message) → p.ask ≡ m → BearsEpoch m k.x k.e → IsAsk (crowd r.script) m → IsAskFit r o w.issued (target_plan r t) p.ask
+      by : (m : Message) → p.ask ≡ m → BearsEpoch m k.x k.e → IsAsk (crowd r.script) m → IsAskFit r o w.issued w.lines (target_plan r t) p.ask
       by (message.Fetch x op group None first tracker y b) is bears ask = absurd bears
       by (message.Fetch x op group (Some own) first tracker y true) is bears ask = absurd bears
       by (message.Fetch x op group (Some own) first tracker y false) is bears ask =
@@ -330,15 +350,15 @@ module _ (r : Rules) (o : Opening) (h : History) (w : World) (G : Given r o h w)
       by m is bears ask = absurd ask
 
   -- it bears its epoch
-  bears-of : (m : Message) (k : IsAskFit r o w.issued (target_plan r t) m) → BearsEpoch m k.q.attempt k.e
+  bears-of : (m : Message) (k : IsAskFit r o w.issued w.lines (target_plan r t) m) → BearsEpoch m k.q.attempt k.e
   bears-of m k = subst (λ n. BearsEpoch n k.q.attempt k.e) (sym (k.is ∙ ap (λ ep. message.Fetch k.q.attempt k.q.op k.q.group ep k.q.first k.q.tracker k.q.read k.q.snapshot) k.own
       ∙ ap (λ b. message.Fetch k.q.attempt k.q.op k.q.group (Some k.e) k.q.first k.q.tracker k.q.read b) k.fit.plain)) (refl, refl)
 
-  pub parked-meets : (p : Parked) (k : IsAskFit r o w.issued (target_plan r t) p.ask) → Has p s.memory.member.parked → MeetsOther r w.issued k.q.attempt p.on
+  pub parked-meets : (p : Parked) (k : IsAskFit r o w.issued w.lines (target_plan r t) p.ask) → Has p s.memory.member.parked → MeetsOther r w.issued k.q.attempt p.on
   parked-meets p k i = C.waiting.meets t s p k.q.attempt k.e here (contains-from_has s.memory.member.parked p i) (bears-of p.ask k)
 
   -- its client is at its attempt
-  pub parked-present : (p : Parked) (k : IsAskFit r o w.issued (target_plan r t) p.ask) → Has p s.memory.member.parked → IsPresent r w k.q.attempt
+  pub parked-present : (p : Parked) (k : IsAskFit r o w.issued w.lines (target_plan r t) p.ask) → Has p s.memory.member.parked → IsPresent r w k.q.attempt
   parked-present p k i = subst (IsPresent r w) (sym own) (record { c = z.c; a = z.a; here = z.here; at = z.present; own = refl })
     where
       z : ParkedIs r w t p
@@ -360,7 +380,7 @@ module _ (r : Rules) (o : Opening) (h : History) (w : World) (G : Given r o h w)
     among = taken-is-among w.messages l rest takes
 
     -- a Fetch
-    pub hears-fetch : (q : FetchRequest) → l.message ≡ fetch_message q → IsFetch r o w.issued (target_plan r t) q × (l.from ≡ client q.attempt.client)
+    pub hears-fetch : (q : FetchRequest) → l.message ≡ fetch_message q → IsFetch r o w.issued w.lines (target_plan r t) q × (l.from ≡ client q.attempt.client)
     hears-fetch q is = (
       record {
         few = few;
@@ -369,9 +389,10 @@ module _ (r : Rules) (o : Opening) (h : History) (w : World) (G : Given r o h w)
         request = request-is r o w l q.attempt q.ep q.first q.tracker G.epochs C.bounded among
             (λ none. subst (λ m. AsksEpoch m q.attempt q.tracker) (sym (is ∙ ap (λ ep. message.Fetch q.attempt q.op q.group ep q.first q.tracker q.read q.snapshot) none)) (refl, refl))
             (λ e some. subst (λ m. BearsEpoch m q.attempt e) (sym (is ∙ ap (λ ep. message.Fetch q.attempt q.op q.group ep q.first q.tracker q.read q.snapshot) some ∙ ap (λ b. message.Fetch q.attempt q.op q.group (Some e) q.first q.tracker q.read b) plain)) (refl, refl))
-            (subst (MessageKnows w.issued) is (G.firsts.flight l among))
-            (tracker-within q.tracker.0 a.c.tracker.0 (limit o w.issued) (subst (λ e. e.0 ≤ a.c.tracker.0) (sym its.tracker) a.low) (C.bounded.trackers a.n a.c a.here));
+            (first-of w.issued w.lines q.attempt q.first (subst (MessageKnows w.issued) is (G.firsts.flight l among)))
+            (tracker-within q.tracker.0 a.c.tracker.0 (limit_over o w.lines w.issued) (subst (λ e. e.0 ≤ a.c.tracker.0) (sym its.tracker) a.low) (C.bounded.trackers a.n a.c a.here));
         access = read-access r q.attempt its.ops its.o a.a.op a.a.stage q.read (ap (attempt_ops r.script) its.attempt ∙ its-ops a.n a.c a.a its.ops its.turns its.name a.here a.present its.at) its.here its.asked;
+        target = no-floors q.attempt;
       },
       ap (λ z. z.from) a.it ∙ ap (λ x. client x.client) (sym its.attempt),
     )
@@ -386,18 +407,19 @@ module _ (r : Rules) (o : Opening) (h : History) (w : World) (G : Given r o h w)
         plain = its.snapshot ∙ ap is_some (no-name a.n a.c its.ops its.turns its.name its.at)
 
     -- a Commit
-    pub hears-commit : (q : CommitRequest) → l.to ≡ target t → l.message ≡ commit_of q → IsCommit r o w.issued t (record { durable = s.durable; free = s.free }) q × (l.from ≡ client q.attempt.client)
+    pub hears-commit : (q : CommitRequest) → l.to ≡ target t → l.message ≡ commit_of q → IsCommit r o w.issued w.lines t (record { durable = s.durable; free = s.free }) q × (l.from ≡ client q.attempt.client)
     hears-commit q to is = (
       record {
         few = few;
         request = request-is r o w l q.attempt q.ep q.first q.tracker G.epochs C.bounded among
             (λ none. subst (λ m. AsksEpoch m q.attempt q.tracker) (sym (is ∙ ap (λ ep. message.Commit q.attempt ep q.first q.tracker q.writes) none)) (refl, refl))
             (λ e some. subst (λ m. BearsEpoch m q.attempt e) (sym (is ∙ ap (λ ep. message.Commit q.attempt ep q.first q.tracker q.writes) some)) (refl, refl))
-            (subst (MessageKnows w.issued) is (G.firsts.flight l among))
-            (tracker-within q.tracker.0 a.c.tracker.0 (limit o w.issued) (subst (λ e. e.0 ≤ a.c.tracker.0) (sym its.tracker) a.low) (C.bounded.trackers a.n a.c a.here));
+            (first-of w.issued w.lines q.attempt q.first (subst (MessageKnows w.issued) is (G.firsts.flight l among)))
+            (tracker-within q.tracker.0 a.c.tracker.0 (limit_over o w.lines w.issued) (subst (λ e. e.0 ≤ a.c.tracker.0) (sym its.tracker) a.low) (C.bounded.trackers a.n a.c a.here));
         its = new.writes;
         some = holds;
         unstored = sym (ap (λ z. entry_in z q.attempt) here) ∙ (ap (λ u. entry_at w u q.attempt) leads ∙ new.unstored);
+        target = no-floors q.attempt;
       },
       ap (λ z. z.from) a.it ∙ ap (λ x. client x.client) (sym its.attempt),
     )
@@ -434,14 +456,15 @@ module _ (r : Rules) (o : Opening) (h : History) (w : World) (G : Given r o h w)
             subst (λ ws. Has first.0 ws) none (has-filter (commit.is_own (target_plan r t)) q.writes first.0 (subst (Has first.0) (sym first.2) (inl refl)) own)
 
     -- a Prepare
-    pub hears-prepare : (q : PrepareRequest) → l.to ≡ target t → l.message ≡ message.Prepare q.entry q.first q.writes q.inc → IsPrepare r o w.issued t (record { durable = s.durable; free = s.free }) q
+    pub hears-prepare : (q : PrepareRequest) → l.to ≡ target t → l.message ≡ message.Prepare q.entry q.first q.writes q.inc → IsPrepare r o w.issued w.lines t (record { durable = s.durable; free = s.free }) q
     hears-prepare q to is = record {
       issued_to = issued;
       above = G.epochs.above q.entry.attempt q.entry.epoch issued;
-      first = subst (MessageKnows w.issued) is (G.firsts.flight l among);
+      first = first-of w.issued w.lines q.entry.attempt q.first (subst (MessageKnows w.issued) is (G.firsts.flight l among));
       its = λ m i. (has-from_filter (members.is_written_at r.script.targets k.way.member) (writes_of r q.entry.attempt) m (subst (Has m) k.writes i)).0;
       need = need;
       unstored = sym (ap (λ z. entry_in z q.entry.attempt) here) ∙ (G.attempts.each q.entry.attempt).awaited.before t l (has-from_contains w.messages l among) to-it;
+      target = no-floors q.entry.attempt;
     }
       where
         k : IsPrepareRight r h w l.from l.to q.entry q.writes q.inc

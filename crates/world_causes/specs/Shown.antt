@@ -1,6 +1,6 @@
 -- What the outcomes of attempts show at each moment of a run in which targets may stop and open again, snapshots are made and read, and
 -- versions are aggregated.
-use Rattle.std.specs.Prelude.{ℕ, ◌≡◌, ◌≤◌, ◌<◌, ◌+◌, ◌*◌, ◌/◌, ◌++◌, ◌⊎◌, ◌&&◌, Bool, true, false, not, is_some, Any, List, [], ◌∷◌, filter, length, Contains, slice_get, Some}
+use Rattle.std.specs.Prelude.{ℕ, ◌≡◌, ◌≤◌, ◌<◌, ◌+◌, ◌*◌, ◌/◌, ◌++◌, ◌⊎◌, ◌&&◌, Bool, true, false, not, is_some, Any, List, [], ◌∷◌, filter, length, Contains, slice_get, Option, Some, None}
 use Rattle.base_types.specs.declared.epoch.Epoch.{Epoch}
 use Rattle.base_types.specs.declared.id.AttemptId.{AttemptId}
 use Rattle.base_types.specs.declared.id.ContId.{ContId}
@@ -46,12 +46,14 @@ use Rattle.world_epochs.specs.Epochs.{BearsEpoch, IsPresent}
 abbrev pub limit_over : Opening → List Line → Dated → ℕ
 limit_over o lines issued = limit o issued + 65536 * length (restart_numbers lines)
 
--- ticks, trackers, epochs that were issued, and epochs that go about stay within the limit; and leases, but for one
+-- ticks, trackers, epochs that were issued, epochs that go about, and floors that lines tell of stay within the limit; and leases, but for
+-- one
 pub record BoundedOver (o : Opening) (w : World) : Type 0 where
   pub ticks : (t : ℕ) (s : TargetState) → slice_get w.targets t ≡ Some s → s.life ≡ Running → s.memory.ticks ≤ limit_over o w.lines w.issued
   pub trackers : (n : ℕ) (c : ClientState) → slice_get w.clients n ≡ Some c → c.tracker.0 / 256 ≤ limit_over o w.lines w.issued
   pub issued : (x : AttemptId) (e : Epoch) → Contains w.issued (x, e) → e.0 / 256 ≤ limit_over o w.lines w.issued
   pub told : (l : Letter) (e : ℕ) → Contains w.messages l → Contains (epochs_told l.message) e → e / 256 ≤ limit_over o w.lines w.issued
+  pub floors : (t : ℕ) (floor : Epoch) (cont : ContId) (reason : FloorWhy) → Any (ShowsFloor t floor cont reason) w.lines → floor.0 / 256 ≤ limit_over o w.lines w.issued
   pub leases : (t : ℕ) (s : TargetState) → slice_get w.targets t ≡ Some s → s.durable.lease ≤ limit_over o w.lines w.issued + 65536
 
 -- ---- floors
@@ -66,15 +68,14 @@ pub data IsTold (o : Opening) (lines : List Line) (t : ℕ) (cont : ContId) (flo
   IsOfBefore : floor.0 ≤ top o → IsTold o lines t cont floor reason
   HasLine : Any (ShowsFloor t floor cont reason) lines → IsTold o lines t cont floor reason
 
--- The floor of a running target's last opening is told, and its lease covers it. So are the floors that are kept of containers, and the
--- epochs that they were aggregated to, but for those that an opening's floor covers.
+-- The floor of a running target's last opening is told, and its lease covers it. So are the epochs that containers were aggregated to, and
+-- the floors that are kept of them, but for those that an opening's floor covers.
 pub record FloorsShown (o : Opening) (w : World) : Type 0 where
   pub opening : (t : ℕ) (s : TargetState) (cont : ContId) → slice_get w.targets t ≡ Some s → s.life ≡ Running → IsTold o w.lines t cont s.opening.0 s.opening.1
   pub leased : (t : ℕ) (s : TargetState) → slice_get w.targets t ≡ Some s → s.life ≡ Running → (s.opening.0.0 ≤ top o) ⊎ (s.opening.0.0 ≤ restart_floor s.durable.lease)
   pub stored : (t : ℕ) (s : TargetState) (cont : ContId) → slice_get w.targets t ≡ Some s
       → IsTold o w.lines t cont (row_of s.durable cont).floor (row_of s.durable cont).why ⊎ IsCovered s (row_of s.durable cont).floor.0
-  pub aggregated : (t : ℕ) (s : TargetState) (cont : ContId) → slice_get w.targets t ≡ Some s
-      → IsTold o w.lines t cont (row_of s.durable cont).aggregated (why.Aggregate (row_of s.durable cont).number) ⊎ IsCovered s (row_of s.durable cont).aggregated.0
+  pub aggregated : (t : ℕ) (s : TargetState) (cont : ContId) → slice_get w.targets t ≡ Some s → IsTold o w.lines t cont (row_of s.durable cont).aggregated (why.Aggregate (row_of s.durable cont).number)
 
 -- ---- the first epoch of a command
 
@@ -88,6 +89,16 @@ pub record IsFirstEpoch (issued : Dated) (lines : List Line) (x : AttemptId) (fi
   pub early : number ≤ x.attempt
   pub its : Contains issued (record x { attempt = number }, first)
   pub lost : (k : ℕ) → k < number → WasLost lines (record x { attempt = k })
+
+-- the attempts of a command before this one were lost at stops
+abbrev pub AreLostBefore : List Line → AttemptId → Type 0
+AreLostBefore lines x = (k : ℕ) → k < x.attempt → WasLost lines (record x { attempt = k })
+
+-- What goes with an attempt: the first epoch of its command, which was issued to its first attempt that wasn't lost, or to one before it;
+-- or none, where all attempts before it were lost.
+abbrev pub IsFirstOf : Dated → List Line → AttemptId → Option Epoch → Type 0
+IsFirstOf issued lines x None = AreLostBefore lines x
+IsFirstOf issued lines x (Some first) = IsFirstEpoch issued lines x first
 
 -- ---- what an outcome shows
 
@@ -119,6 +130,10 @@ pub data IsOpenTo (s : Script) (lines : List Line) (x by : AttemptId) : Type 0 w
   NotAnswered : IsUnanswered lines x by → IsOpenTo s lines x by
   IsUnknown : Any (λ b. (b.id ≡ by) × (is_unknown b.outcome ≡ true)) (tries lines) → IsOpenTo s lines x by
   LeaderStopped : (before after : List Line) (b : Attempt) → b.id ≡ by → lines ≡ before ++ line.Try b ∷ after → StopsAfter (leader_of_attempt s by ∷ []) (up_to_last_of by.client before) lines → IsOpenTo s lines x by
+
+-- it may be so for any other
+abbrev pub IsOpenToAll : Script → List Line → AttemptId → Type 0
+IsOpenToAll s lines by = (x : AttemptId) → IsOpenTo s lines x by
 
 -- an unresolved attempt: another one in the way, or the attempt itself, of which a target stopped since it began
 abbrev pub MeetsUnresolved : Bool → Rules → Dated → List Line → AttemptId → AttemptId → Type 0

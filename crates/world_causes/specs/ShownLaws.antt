@@ -50,13 +50,9 @@ use Rattle.world_epochs.specs.PlainScripts.{command-plain, no-snapshots}
 abbrev pub HaveOne : World → Type 0
 HaveOne w = (x : AttemptId) (e f : Epoch) → Contains w.issued (x, e) → Contains w.issued (x, f) → e ≡ f
 
--- leases are within the limit, but for one
-abbrev pub AreLeased : Opening → World → Type 0
-AreLeased o w = (t : ℕ) (s : TargetState) → slice_get w.targets t ≡ Some s → s.durable.lease ≤ limit o w.issued + 65536
-
 -- what is shown where nothing stops and no snapshots are, is shown
 abbrev pub PlainCausesStand : Type 0
-PlainCausesStand = (r : Rules) (o : Opening) (stored : Stored) (w : World) → Unsnapped r → HaveOne w → AreLeased o w → PlainCauses r o stored w → Causes r o stored w
+PlainCausesStand = (r : Rules) (o : Opening) (stored : Stored) (w : World) → Unsnapped r → HaveOne w → PlainCauses r o stored w → Causes r o stored w
 
 -- and where lines tell of attempts alone, and all targets run, nothing else is
 abbrev pub CausesArePlain : Type 0
@@ -66,7 +62,7 @@ CausesArePlain =
 
 -- ---- lines that tell of attempts alone
 
-abbrev AreTries : List Line → Type 0
+abbrev pub AreTries : List Line → Type 0
 AreTries ls = (l : Line) → Has l ls → is_try l ≡ true
 
 none-told : (P : Line → Type 0) (ls : List Line) → AreTries ls → ((l : Line) → is_try l ≡ true → P l → ⊥) → Any P ls → ⊥
@@ -78,7 +74,7 @@ no-floor t floor cont (why.Restart n) l is k = let other : is_try l ≡ false = 
 no-floor t floor cont (why.Snapshot e) l is k = let other : is_try l ≡ false = ap is_try k.0 in let no : ⊥ = cc in no
 no-floor t floor cont (why.Aggregate n) l is k = let other : is_try l ≡ false = ap is_try k in let no : ⊥ = cc in no
 
-none-floors : (ls : List Line) (t : ℕ) (floor : Epoch) (cont : ContId) (reason : FloorWhy) → AreTries ls → Any (ShowsFloor t floor cont reason) ls → ⊥
+pub none-floors : (ls : List Line) (t : ℕ) (floor : Epoch) (cont : ContId) (reason : FloorWhy) → AreTries ls → Any (ShowsFloor t floor cont reason) ls → ⊥
 none-floors ls t floor cont reason all i = none-told (ShowsFloor t floor cont reason) ls all (no-floor t floor cont reason) i
 
 none-stops : (ts : List ℕ) (first ls : List Line) → AreTries ls → StopsAfter ts first ls → ⊥
@@ -345,20 +341,21 @@ module _ (r : Rules) (o : Opening) (stored : Stored) (issued : Dated) (U : Unsna
 
 pub plain-causes-stand : PlainCausesStand
 unfolding floor_of
-plain-causes-stand r o stored w U one leased k = record {
+plain-causes-stand r o stored w U one k = record {
   bounded = record {
     ticks = λ t s at runs. up (k.bounded.ticks t s at runs);
     trackers = λ n c at. up (k.bounded.trackers n c at);
     issued = λ x e i. up (k.bounded.issued x e i);
     told = λ l e i j. up (k.bounded.told l e i j);
-    leases = λ t s at. let low : s.durable.lease ≤ limit o w.issued + 65536 = leased t s at in let more : limit o w.issued ≤ limit_over o w.lines w.issued = over-limit o w.lines w.issued in sum s.durable.lease (limit o w.issued) (limit_over o w.lines w.issued) low more;
+    floors = λ t floor cont reason i. absurd (none-floors w.lines t floor cont reason k.attempts i);
+    leases = λ t s at. let low : s.durable.lease ≤ limit o w.issued + 65536 = k.leases t s at in let more : limit o w.issued ≤ limit_over o w.lines w.issued = over-limit o w.lines w.issued in sum s.durable.lease (limit o w.issued) (limit_over o w.lines w.issued) low more;
   };
   space = k.space;
   floors = record {
     opening = λ t s cont here runs. IsOfBefore (floor-parts s.opening (row_of s.durable cont) (top o) (k.floors t s cont here).0).0;
     leased = λ t s here runs. inl (floor-parts s.opening (row_of s.durable any) (top o) (k.floors t s any here).0).0;
     stored = λ t s cont here. inl (IsOfBefore (floor-parts s.opening (row_of s.durable cont) (top o) (k.floors t s cont here).0).1);
-    aggregated = λ t s cont here. inl (IsOfBefore (k.floors t s cont here).1);
+    aggregated = λ t s cont here. IsOfBefore (k.floors t s cont here).1;
   };
   waiting = record {
     meets = k.waiting.meets;
@@ -391,6 +388,7 @@ causes-are-plain r o stored w U all run k = record {
     issued = λ x e i. down (k.bounded.issued x e i);
     told = λ l e i j. down (k.bounded.told l e i j);
   };
+  leases = λ t s at. subst (λ m. s.durable.lease ≤ m + 65536) (same-limit o w.lines w.issued all) (k.bounded.leases t s at);
   space = k.space;
   floors = floors;
   waiting = record {
@@ -418,7 +416,7 @@ causes-are-plain r o stored w U all run k = record {
     low t cont floor reason (HasLine i) = absurd (none-floors w.lines t floor cont reason all i)
 
     floors : LowFloors o w
-    floors t s cont here = (floor-whole s.opening (row_of s.durable cont) (top o) opens (kept (k.floors.stored t s cont here)), aggregated (k.floors.aggregated t s cont here))
+    floors t s cont here = (floor-whole s.opening (row_of s.durable cont) (top o) opens (kept (k.floors.stored t s cont here)), low t cont (row_of s.durable cont).aggregated (why.Aggregate (row_of s.durable cont).number) (k.floors.aggregated t s cont here))
       where
         opens : s.opening.0.0 ≤ top o
         opens = low t cont s.opening.0 s.opening.1 (k.floors.opening t s cont here (run t s here))
@@ -429,7 +427,3 @@ causes-are-plain r o stored w U all run k = record {
         kept : IsTold o w.lines t cont (row_of s.durable cont).floor (row_of s.durable cont).why ⊎ IsCovered s (row_of s.durable cont).floor.0 → (row_of s.durable cont).floor.0 ≤ top o
         kept (inl is) = low t cont (row_of s.durable cont).floor (row_of s.durable cont).why is
         kept (inr c) = covered (row_of s.durable cont).floor.0 c
-
-        aggregated : IsTold o w.lines t cont (row_of s.durable cont).aggregated (why.Aggregate (row_of s.durable cont).number) ⊎ IsCovered s (row_of s.durable cont).aggregated.0 → (row_of s.durable cont).aggregated.0 ≤ top o
-        aggregated (inl is) = low t cont (row_of s.durable cont).aggregated (why.Aggregate (row_of s.durable cont).number) is
-        aggregated (inr c) = covered (row_of s.durable cont).aggregated.0 c

@@ -1,6 +1,6 @@
 -- What a turn of a target comes to: what it sends shows its cause, ticks are within the limit, and blocks are accounted for.
-use Rattle.std.specs.Prelude.{ℕ, ◌≡◌, ◌≤◌, ◌+◌, ◌/◌, ◌++◌, map, List, [], ◌∷◌, Contains, Some}
-use Rattle.std.proofs.Common.{sym, subst, inl, inr, arith}
+use Rattle.std.specs.Prelude.{ℕ, ◌≡◌, ◌≤◌, ◌+◌, ◌/◌, ◌++◌, map, List, [], ◌∷◌, Contains, Some, refl}
+use Rattle.std.proofs.Common.{append-nil, sym, subst, inl, inr, arith}
 use Rattle.std.proofs.lemmas.List.Elements.{Contains-append_left}
 use Rattle.base_types.specs.declared.epoch.Epoch.{Epoch}
 use Rattle.base_types.specs.declared.id.AttemptId.{AttemptId}
@@ -17,17 +17,18 @@ use Rattle.world_epochs.specs.Epochs.{BearsEpoch}
 use Rattle.world_base.specs.Events.{Rules, listed}
 use Rattle.world_base.specs.Letters.{client}
 use Rattle.world_base.specs.Changes.{Kept}
-use Rattle.world_causes.specs.Causes.{Dated, EndsOf, IsAskedFor, IsUnanswered, IsUndecidedFor, MeetsOther, MessageShows, Stored, blocks_of_stored, epochs_told, limit, stored_by}
+use Rattle.world_causes.specs.Causes.{Dated, EndsOf, IsAskedFor, IsUndecidedFor, MeetsOther, Stored, blocks_of_stored, epochs_told, stored_by}
 use Rattle.world_causes.specs.Dates.{limit-rises}
-use Rattle.world_causes.specs.Growth.{message-more}
+use Rattle.world_causes.specs.Lasting.{AreOfOthers, message-more}
+use Rattle.world_causes.specs.Shown.{IsOpenTo, MessageStands, limit_over}
 
 -- ---- what is sent
 
 -- what a message shows and tells, where these attempts were stored, these epochs issued, and these lines told
 pub record PostShows (r : Rules) (o : Opening) (stored : Stored) (issued : Dated) (lines : List Line) (q : Post) : Type 0 where
-  pub shows : MessageShows r o stored issued lines q.message
-  pub told : (e : ℕ) → Contains (epochs_told q.message) e → e / 256 ≤ limit o issued
-  pub undecided : (x by : AttemptId) → IsUndecidedFor q.message x by → IsUnanswered lines x by
+  pub shows : MessageStands r o stored issued lines q.message
+  pub told : (e : ℕ) → Contains (epochs_told q.message) e → e / 256 ≤ limit_over o lines issued
+  pub undecided : (x by : AttemptId) → IsUndecidedFor q.message x by → IsOpenTo r.script lines x by
   pub asked : (x : AttemptId) → IsAskedFor q.message x → (e : Epoch) × Contains issued (x, e)
   pub own : (x : AttemptId) → EndsOf q.message x → q.to ≡ client x.client
 
@@ -49,13 +50,17 @@ module _ (r : Rules) (o : Opening) (stored : Stored) (issued : Dated) (lines : L
   all-each (p ∷ ps) q h (inl same) = subst (PostShows r o stored issued lines) (sym same) h.0
   all-each (p ∷ ps) q h (inr i) = all-each ps q h.1 i
 
+pub none-of : (c : ℕ) → AreOfOthers c []
+unfolding tries
+none-of c = refl
+
 -- what is sent goes on to show it, when more is stored and issued
 pub all-more : (r : Rules) (o : Opening) (new stored : Stored) (issued more : Dated) (lines : List Line) (qs : List Post) → AllShow r o stored issued lines qs → AllShow r o (new ++ stored) (issued ++ more) lines qs
 all-more r o new stored issued more lines [] h = tt
 all-more r o new stored issued more lines (q ∷ qs) h = (
   record {
-    shows = message-more r o new stored issued more lines lines q.message (λ x by k u. u) h.0.shows;
-    told = λ e i. let low : e / 256 ≤ limit o issued = h.0.told e i in let up : limit o issued ≤ limit o (issued ++ more) = limit-rises o issued more in omega (arith, low, up);
+    shows = subst (λ ls. MessageStands r o (new ++ stored) (issued ++ more) ls q.message) (append-nil lines) (message-more r o new stored issued more lines [] q.message (λ x k. none-of x.client) h.0.shows);
+    told = λ e i. let low : e / 256 ≤ limit_over o lines issued = h.0.told e i in let up : limit_over o lines issued ≤ limit_over o lines (issued ++ more) = limit-rises o lines issued more in omega (arith, low, up);
     undecided = h.0.undecided;
     asked = λ x k. let e = h.0.asked x k in (e.0, Contains-append_left issued more (x, e.0) e.1);
     own = h.0.own;
@@ -83,7 +88,7 @@ HasNoLine lines x = (a : Attempt) → Has a (tries lines) → (a.id ≡ x) → �
 -- what follows from a turn of a target, beside the rows of containers, which stay, and lines, of which it adds none
 pub record Leaves (r : Rules) (o : Opening) (stored : Stored) (issued : Dated) (lines : List Line) (t : ℕ) (old new : Kept) (left : TargetMemory × Did) : Type 0 where
   pub posts : AllShow r o (stored_by t old.durable new.durable ++ stored) (issued ++ listed left.1.issued) lines left.1.posts
-  pub ticks : left.0.ticks ≤ limit o (issued ++ listed left.1.issued)
-  pub dated : (x : AttemptId) (e : Epoch) → left.1.issued ≡ Some (x, e) → e.0 / 256 ≤ limit o (issued ++ listed left.1.issued)
+  pub ticks : left.0.ticks ≤ limit_over o lines (issued ++ listed left.1.issued)
+  pub dated : (x : AttemptId) (e : Epoch) → left.1.issued ≡ Some (x, e) → e.0 / 256 ≤ limit_over o lines (issued ++ listed left.1.issued)
   pub space : old.free + blocks_of_stored r.script t stored ≤ new.free + blocks_of_stored r.script t (stored_by t old.durable new.durable ++ stored)
   pub parked : AllMeet r (issued ++ listed left.1.issued) left.0.member.parked

@@ -32,39 +32,41 @@ use Rattle.world_base.specs.Roles.{is_in_doubt, joins_on, member_at}
 use Rattle.world_base.specs.TargetTurns.{fetch_request}
 use Rattle.world_base.specs.Turns.{Whole}
 use Rattle.world_base.specs.Verdicts as turn
-use Rattle.world_causes.specs.Causes.{Dated, IsUnanswered, MeetsOther, Stored, limit, stored_by}
+use Rattle.world_causes.specs.AtFloors.{IsTarget}
+use Rattle.world_causes.specs.Causes.{Dated, MeetsOther, Stored, stored_by}
 use Rattle.world_causes.specs.CommitTurns.{space-same}
 use Rattle.world_causes.specs.Paths.{AreOpen, Lasts, ReadSoFar, lasts-aborted, lasts-committed, lasts-here, lasts-known, lasts-rests, left_at, read-step}
-use Rattle.world_causes.specs.ReadTurns.{FetchLeft, IsFetch, IsTarget, fetch-ends, meet-more, told-one}
+use Rattle.world_causes.specs.ReadTurns.{FetchLeft, IsFetch, fetch-ends, meet-more, told-one, unresolved-stands}
+use Rattle.world_causes.specs.Shown.{IsOpenTo, limit_over}
 use Rattle.world_causes.specs.Turns.{AllMeet, AllShow, Leaves, all-both, all-more}
 
 -- what is known of a Fetch that waits: it bears its epoch, and is as its client asked it
-pub record IsAskFit (r : Rules) (o : Opening) (issued : Dated) (t : TargetPlan) (m : Message) : Type 0 where
+pub record IsAskFit (r : Rules) (o : Opening) (issued : Dated) (lines : List Line) (t : TargetPlan) (m : Message) : Type 0 where
   pub q : FetchRequest
   pub is : m ≡ message.Fetch q.attempt q.op q.group q.ep q.first q.tracker q.read q.snapshot
-  pub fit : IsFetch r o issued t q
+  pub fit : IsFetch r o issued lines t q
   pub e : Epoch
   pub own : q.ep ≡ Some e
 
-abbrev pub AllFit : Rules → Opening → Dated → TargetPlan → List Message → Type 0
-AllFit r o issued t ms = (m : Message) → Has m ms → IsAskFit r o issued t m
+abbrev pub AllFit : Rules → Opening → Dated → List Line → TargetPlan → List Message → Type 0
+AllFit r o issued lines t ms = (m : Message) → Has m ms → IsAskFit r o issued lines t m
 
 -- what is known when a Verdict is heard: the Fetches that wait are as they were asked, and what they wait for is in their way; one
 -- that asked of an attempt which isn't decided meets one that wasn't answered before
 pub record IsVerdict (r : Rules) (o : Opening) (issued : Dated) (lines : List Line) (t : TargetPlan) (m : TargetMemory) (a : AttemptId) (ask : Option AttemptId) (v : Verdict) : Type 0 where
-  pub asks : (p : Parked) → Has p m.member.parked → IsAskFit r o issued t p.ask
-  pub meets : (p : Parked) (k : IsAskFit r o issued t p.ask) → Has p m.member.parked → MeetsOther r issued k.q.attempt p.on
-  pub open' : (p : Parked) (x : AttemptId) → Has p m.member.parked → v ≡ verdict.Undecided → ask ≡ Some x → is_waiting a x p ≡ true → (p.on ≡ a) × ((k : IsAskFit r o issued t p.ask) → IsUnanswered lines k.q.attempt a)
+  pub asks : (p : Parked) → Has p m.member.parked → IsAskFit r o issued lines t p.ask
+  pub meets : (p : Parked) (k : IsAskFit r o issued lines t p.ask) → Has p m.member.parked → MeetsOther r issued k.q.attempt p.on
+  pub open' : (p : Parked) (x : AttemptId) → Has p m.member.parked → v ≡ verdict.Undecided → ask ≡ Some x → is_waiting a x p ≡ true → (p.on ≡ a) × ((k : IsAskFit r o issued lines t p.ask) → IsOpenTo r.script lines k.q.attempt a)
 
 module _ (r : Rules) (o : Opening) (stored : Stored) (issued : Dated) (lines : List Line) (t : TargetPlan) (opening : Epoch × FloorWhy) (m : TargetMemory) (reading : ℕ) (a : AttemptId) (ask : Option AttemptId) (v : Verdict) (old : Kept)
-    (T : IsTarget r o issued opening old) (V : IsVerdict r o issued lines t m a ask v) (within : m.ticks ≤ limit o issued) (meet : AllMeet r issued m.member.parked) (opens : AreOpen t lines (top o) old.durable m.leader.decided)
-    (dates : (x : AttemptId) (e : Epoch) → Contains issued (x, e) → e.0 / 256 ≤ limit o issued) where
+    (T : IsTarget r o issued lines t.me opening old) (V : IsVerdict r o issued lines t m a ask v) (within : m.ticks ≤ limit_over o lines issued) (meet : AllMeet r issued m.member.parked) (opens : AreOpen r.script t lines (top o) old.durable m.leader.decided)
+    (dates : (x : AttemptId) (e : Epoch) → Contains issued (x, e) → e.0 / 256 ≤ limit_over o lines issued) where
   -- ---- the Fetch that asked
 
-  unresolved-shows : (n : Message) (k : IsAskFit r o issued t n) → MeetsOther r issued k.q.attempt a → IsUnanswered lines k.q.attempt a → AllShow r o stored issued lines (unresolved_told a n)
-  unresolved-shows n k meets unanswered = subst (λ z. AllShow r o stored issued lines (unresolved_told a z)) (sym k.is) (
+  unresolved-shows : (n : Message) (k : IsAskFit r o issued lines t n) → MeetsOther r issued k.q.attempt a → IsOpenTo r.script lines k.q.attempt a → AllShow r o stored issued lines (unresolved_told a n)
+  unresolved-shows n k meets open' = subst (λ z. AllShow r o stored issued lines (unresolved_told a z)) (sym k.is) (
     record {
-      shows = record { meets = meets; unanswered = unanswered };
+      shows = unresolved-stands r lines issued k.q.attempt a meets open' (T.once k.q.attempt);
       told = λ i j. told k.q.ep k.own i j;
       undecided = λ x by u. absurd u;
       asked = λ x u. absurd u;
@@ -73,9 +75,9 @@ module _ (r : Rules) (o : Opening) (stored : Stored) (issued : Dated) (lines : L
     tt,
   )
     where
-      told : (ep : Option Epoch) → ep ≡ Some k.e → (i : ℕ) → Contains (told_by_some ep ++ []) i → i / 256 ≤ limit o issued
+      told : (ep : Option Epoch) → ep ≡ Some k.e → (i : ℕ) → Contains (told_by_some ep ++ []) i → i / 256 ≤ limit_over o lines issued
       told None is i j = let no : ⊥ = cc in absurd no
-      told (Some f) is i j = subst (λ z. z / 256 ≤ limit o issued) (told-one f i j) (dates k.q.attempt f (subst (λ z. Contains issued (k.q.attempt, z)) (same f is) (k.fit.request.own k.e k.own).0))
+      told (Some f) is i j = subst (λ z. z / 256 ≤ limit_over o lines issued) (told-one f i j) (dates k.q.attempt f (subst (λ z. Contains issued (k.q.attempt, z)) (same f is) (k.fit.request.own k.e k.own).0))
         where
           same : (f : Epoch) → Some f ≡ Some k.e → k.e ≡ f
           same f is = cc
@@ -93,13 +95,13 @@ module _ (r : Rules) (o : Opening) (stored : Stored) (issued : Dated) (lines : L
 
   -- what is left to be tried, what is remembered, and what is said so far
   record Frees (again : List Message) (n : TargetMemory) (posts : List Post) : Type 0 where
-    fit : AllFit r o issued t again
+    fit : AllFit r o issued lines t again
     meets : AllMeet r issued n.member.parked
-    ticks : n.ticks ≤ limit o issued
+    ticks : n.ticks ≤ limit_over o lines issued
     shows : AllShow r o stored issued lines posts
 
-  asks-fit : (ps : List Parked) → ((p : Parked) → Has p ps → Has p m.member.parked) → AllFit r o issued t (map parked_ask ps)
-  asks-fit ps among n i = let p = has-from_map parked_ask ps n i in subst (IsAskFit r o issued t) p.2 (V.asks p.0 (among p.0 p.1))
+  asks-fit : (ps : List Parked) → ((p : Parked) → Has p ps → Has p m.member.parked) → AllFit r o issued lines t (map parked_ask ps)
+  asks-fit ps among n i = let p = has-from_map parked_ask ps n i in subst (IsAskFit r o issued lines t) p.2 (V.asks p.0 (among p.0 p.1))
 
   frees : (w : Verdict) → v ≡ w → Frees (verdict_heard a ask w (member_at t m)).freed.again (joins_on (verdict_heard a ask w (member_at t m)).member m) (verdict_heard a ask w (member_at t m)).freed.posts
   unfolding unresolved
@@ -131,20 +133,20 @@ module _ (r : Rules) (o : Opening) (stored : Stored) (issued : Dated) (lines : L
   -- a Fetch that is tried again
   record Tries (q : FetchRequest) (s : read.FetchStage) (k : Kept) (again : List Message) (n : TargetMemory) (posts : List Post) : Type 0 where
     left : Frees again n posts
-    fit : IsFetch r o issued t q
+    fit : IsFetch r o issued lines t q
     e : Epoch
     own : q.ep ≡ Some e
-    so_far : ReadSoFar t lines (top o) n reading q old s k
+    so_far : ReadSoFar r.script t lines (top o) n reading q old s k
 
   abbrev VerdictSoFar : turn.VerdictStage → Kept → Type 0
-  VerdictSoFar turn.Heard k = Lasts t lines (top o) old m.leader.decided k
-  VerdictSoFar (turn.Freed again n posts) k = Frees again n posts × Lasts t lines (top o) old n.leader.decided k
+  VerdictSoFar turn.Heard k = Lasts r.script t lines (top o) old m.leader.decided k
+  VerdictSoFar (turn.Freed again n posts) k = Frees again n posts × Lasts r.script t lines (top o) old n.leader.decided k
   VerdictSoFar (turn.Trying q s again n posts) k = Tries q s k again n posts
 
-  settles : (s : Option Settle) (k l : Kept) → s ≡ turn.settles_by (is_in_doubt t.me) v a k.durable → Steps (turn.settling_change a s) k l → Lasts t lines (top o) old m.leader.decided k → Lasts t lines (top o) old m.leader.decided l
-  settles None k l is st h = lasts-rests t lines (top o) old m.leader.decided k l st h
-  settles (Some Commit) k l is st h = lasts-known t lines (top o) old (filter (is_other_attempt a) m.leader.decided) m.leader.decided l (λ b i. (has-from_filter (is_other_attempt a) m.leader.decided b i).0) (lasts-committed t lines (top o) old m.leader.decided a k l st h)
-  settles (Some Abort) k l is st h = lasts-aborted t lines (top o) old m.leader.decided a k l st h
+  settles : (s : Option Settle) (k l : Kept) → s ≡ turn.settles_by (is_in_doubt t.me) v a k.durable → Steps (turn.settling_change a s) k l → Lasts r.script t lines (top o) old m.leader.decided k → Lasts r.script t lines (top o) old m.leader.decided l
+  settles None k l is st h = lasts-rests r.script t lines (top o) old m.leader.decided k l st h
+  settles (Some Commit) k l is st h = lasts-known r.script t lines (top o) old (filter (is_other_attempt a) m.leader.decided) m.leader.decided l (λ b i. (has-from_filter (is_other_attempt a) m.leader.decided b i).0) (lasts-committed r.script t lines (top o) old m.leader.decided a k l st h)
+  settles (Some Abort) k l is st h = lasts-aborted r.script t lines (top o) old m.leader.decided a k l st h
   settles (Some (Confirm u)) k l is st h = absurd (no-confirm v (is_in_doubt t.me a k.durable) u is)
     where
       no-confirm : (w : Verdict) (b : Bool) (u : ℕ) → Some (Confirm u) ≡ turn.step_if b (turn.step_by w) → ⊥
@@ -162,12 +164,12 @@ module _ (r : Rules) (o : Opening) (stored : Stored) (issued : Dated) (lines : L
 
   -- what a Fetch leaves that was done
   done-frees : (q : FetchRequest) (s : read.FetchStage) (k : Kept) (rest : List Message) (n : TargetMemory) (posts : List Post) (left : TargetMemory × Did) → read.FetchEnds t n reading q (turn.fetcher q) s k left → Tries q s k rest n posts
-      → Frees rest left.0 (posts ++ left.1.posts) × Lasts t lines (top o) old left.0.leader.decided k
+      → Frees rest left.0 (posts ++ left.1.posts) × Lasts r.script t lines (top o) old left.0.leader.decided k
   done-frees q s k rest n posts left ends h = (
     record {
       fit = h.left.fit;
       meets = subst (λ is. AllMeet r is left.0.member.parked) same f.parked;
-      ticks = subst (λ is. left.0.ticks ≤ limit o is) same f.ticks;
+      ticks = subst (λ is. left.0.ticks ≤ limit_over o lines is) same f.ticks;
       shows = all-both r o stored issued lines posts left.1.posts h.left.shows (subst (λ is. AllShow r o stored is lines left.1.posts) same f.posts);
     },
     decided-left s k left ends h.so_far.lasts,
@@ -187,15 +189,15 @@ module _ (r : Rules) (o : Opening) (stored : Stored) (issued : Dated) (lines : L
       same : issued ++ listed left.1.issued ≡ issued
       same = ap (λ z. issued ++ listed z) (none-issued s k ends q.ep refl h.e h.own) ∙ append-nil issued
 
-      decided-left : (s : read.FetchStage) (k : Kept) (left : TargetMemory × Did) → read.FetchEnds t n reading q (turn.fetcher q) s k left → Lasts t lines (top o) old (left_at n s) k → Lasts t lines (top o) old left.0.leader.decided k
-      decided-left s k left (read.IsSpent j i plain none says) w = subst (λ x. Lasts t lines (top o) old x.0.leader.decided k) (sym says) w
-      decided-left s k left (read.IsRefused j f decided c i why says) w = subst (λ x. Lasts t lines (top o) old x.0.leader.decided k) (sym says) w
-      decided-left s k left (read.MeetsUnresolved j f decided b i none unsettled among own' says) w = subst (λ x. Lasts t lines (top o) old x.0.leader.decided k) (sym says) w
-      decided-left s k left (read.IsParked j f decided b leader i none unsettled other says) w = subst (λ x. Lasts t lines (top o) old x.0.leader.decided k) (sym says) w
-      decided-left s k left (read.IsServed j f decided b i none ok says) w = subst (λ x. Lasts t lines (top o) old x.0.leader.decided k) (sym says) w
+      decided-left : (s : read.FetchStage) (k : Kept) (left : TargetMemory × Did) → read.FetchEnds t n reading q (turn.fetcher q) s k left → Lasts r.script t lines (top o) old (left_at n s) k → Lasts r.script t lines (top o) old left.0.leader.decided k
+      decided-left s k left (read.IsSpent j i plain none says) w = subst (λ x. Lasts r.script t lines (top o) old x.0.leader.decided k) (sym says) w
+      decided-left s k left (read.IsRefused j f decided c i why says) w = subst (λ x. Lasts r.script t lines (top o) old x.0.leader.decided k) (sym says) w
+      decided-left s k left (read.MeetsUnresolved j f decided b i none unsettled among own' says) w = subst (λ x. Lasts r.script t lines (top o) old x.0.leader.decided k) (sym says) w
+      decided-left s k left (read.IsParked j f decided b leader i none unsettled other says) w = subst (λ x. Lasts r.script t lines (top o) old x.0.leader.decided k) (sym says) w
+      decided-left s k left (read.IsServed j f decided b i none ok says) w = subst (λ x. Lasts r.script t lines (top o) old x.0.leader.decided k) (sym says) w
 
-  tries : (q : FetchRequest) (n : Message) → n ≡ message.Fetch q.attempt q.op q.group q.ep q.first q.tracker q.read q.snapshot → IsAskFit r o issued t n → IsFetch r o issued t q × ((e : Epoch) × (q.ep ≡ Some e))
-  tries q n is k = let same : k.q ≡ q = same-request k.q q (sym k.is ∙ is) in (subst (IsFetch r o issued t) same k.fit, (k.e, ap (λ z. z.ep) (sym same) ∙ k.own))
+  tries : (q : FetchRequest) (n : Message) → n ≡ message.Fetch q.attempt q.op q.group q.ep q.first q.tracker q.read q.snapshot → IsAskFit r o issued lines t n → IsFetch r o issued lines t q × ((e : Epoch) × (q.ep ≡ Some e))
+  tries q n is k = let same : k.q ≡ q = same-request k.q q (sym k.is ∙ is) in (subst (IsFetch r o issued lines t) same k.fit, (k.e, ap (λ z. z.ep) (sym same) ∙ k.own))
     where
       same-request : (p q : FetchRequest) → message.Fetch p.attempt p.op p.group p.ep p.first p.tracker p.read p.snapshot ≡ message.Fetch q.attempt q.op q.group q.ep q.first q.tracker q.read q.snapshot → p ≡ q
       same-request p q e = parts p.attempt p.op p.group p.ep p.first p.tracker p.read p.snapshot q.attempt q.op q.group q.ep q.first q.tracker q.read q.snapshot (cc) (cc) (cc) (cc) (cc) (cc) (cc) (cc)
@@ -214,15 +216,15 @@ module _ (r : Rules) (o : Opening) (stored : Stored) (issued : Dated) (lines : L
         fit = z.0;
         e = z.1.0;
         own = z.1.1;
-        so_far = record { dated = tt; lasts = lasts-rests t lines (top o) old n.leader.decided k l st h.1 };
+        so_far = record { dated = tt; lasts = lasts-rests r.script t lines (top o) old n.leader.decided k l st h.1 };
       }
-  verdict-step s k c u l (turn.GoesOn j n posts rest q g i d next) st h = record { left = h.left; fit = h.fit; e = h.e; own = h.own; so_far = read-step t lines (top o) n reading q old h.fit.plain g k d i l next st h.so_far }
-  verdict-step s k c u l (turn.IsDone j n posts rest q g left ends) st h = let z = done-frees q g k rest n posts left ends h in (z.0, lasts-rests t lines (top o) old left.0.leader.decided k l st z.1)
+  verdict-step s k c u l (turn.GoesOn j n posts rest q g i d next) st h = record { left = h.left; fit = h.fit; e = h.e; own = h.own; so_far = read-step r.script t lines (top o) n reading q old h.fit.plain g k d i l next st h.so_far }
+  verdict-step s k c u l (turn.IsDone j n posts rest q g left ends) st h = let z = done-frees q g k rest n posts left ends h in (z.0, lasts-rests r.script t lines (top o) old left.0.leader.decided k l st z.1)
 
   verdict-ends : (n : ℕ) (s : turn.VerdictStage) (k : Kept) (left : TargetMemory × Did) → turn.VerdictEnds s k left → VerdictSoFar s k → Leaves r o stored issued lines n old k left
   verdict-ends me s k left (turn.AllTried j n posts i is) h = subst (Leaves r o stored issued lines me old k) (sym is) (record {
     posts = all-more r o (stored_by me old.durable k.durable) stored issued [] lines posts h.0.shows;
-    ticks = subst (λ is'. n.ticks ≤ limit o is') (sym (append-nil issued)) h.0.ticks;
+    ticks = subst (λ is'. n.ticks ≤ limit_over o lines is') (sym (append-nil issued)) h.0.ticks;
     dated = λ x e z. let no : ⊥ = cc in absurd no;
     space = space-same r.script me stored old k h.1.free;
     parked = meet-more r issued [] n.member.parked h.0.meets;
@@ -232,4 +234,4 @@ module _ (r : Rules) (o : Opening) (stored : Stored) (issued : Dated) (lines : L
   pub verdict-leaves : (n : ℕ) (new : Kept) (left : TargetMemory × Did) → Whole (turn.VerdictNext (is_in_doubt t.me) t m reading a ask v) turn.VerdictEnds turn.Heard old new left → Leaves r o stored issued lines n old new left
   verdict-leaves n new left w =
       verdict-ends n w.last new left w.ends
-      (path-keeps (turn.VerdictNext (is_in_doubt t.me) t m reading a ask v) VerdictSoFar verdict-step turn.Heard old w.reached.did w.last new w.reached.path (lasts-here t lines (top o) old m.leader.decided opens))
+      (path-keeps (turn.VerdictNext (is_in_doubt t.me) t m reading a ask v) VerdictSoFar verdict-step turn.Heard old w.reached.did w.last new w.reached.path (lasts-here r.script t lines (top o) old m.leader.decided opens))

@@ -9,6 +9,7 @@ use Rattle.base_types.specs.declared.operation.Act.TheVariants as act
 use Rattle.base_types.specs.declared.operation.MinorWrite.{MinorWrite}
 use Rattle.base_types.specs.declared.operation.Op.{Op}
 use Rattle.base_types.specs.declared.path.Path.{Path}
+use Rattle.base_types.specs.declared.report.Line.{Line}
 use Rattle.base_types.specs.declared.shown.Shown.{Shown}
 use Rattle.base_types.specs.Operations.{act_path, write_path}
 use Rattle.base_types.specs.PathLaws.{near-from_overlaps}
@@ -25,11 +26,12 @@ use Rattle.world_base.specs.declared.target.TargetPlan.{TargetPlan}
 use Rattle.world_base.specs.Events.{Rules, listed}
 use Rattle.world_base.specs.Reads.{later_of, uncertain_from}
 use Rattle.world_base.specs.Requests.{issued_for}
-use Rattle.world_causes.specs.Causes.{Dated, ShowsWrite}
+use Rattle.world_causes.specs.Causes.{Dated}
 use Rattle.world_causes.specs.Dates.{IsDated}
 use Rattle.world_causes.specs.Floors.{IsLater, later-is}
 use Rattle.world_causes.specs.Paths.{AreOld}
 use Rattle.world_causes.specs.Premises.{AreWritten}
+use Rattle.world_causes.specs.Shown.{MeetsLaterWrite}
 
 -- ---- accesses
 
@@ -60,13 +62,13 @@ written-stays r issued top olds vs k same v i above =
 -- ---- the cause
 
 -- a later write that refuses an access of an attempt at its epoch
-pub record IsWriteShown (r : Rules) (o : Opening) (issued now : Dated) (x : AttemptId) (z : Shown) : Type 0 where
-  pub shows : ShowsWrite r now x z.by z.epoch z.path
+pub record IsWriteShown (r : Rules) (issued now : Dated) (lines : List Line) (x : AttemptId) (z : Shown) : Type 0 where
+  pub shows : MeetsLaterWrite r now lines x z.by z.epoch z.path
   pub writer : Contains issued (z.by, z.epoch)
 
-pub write-shown : (r : Rules) (o : Opening) (issued : Dated) (t : TargetPlan) (x : AttemptId) (ep first : Option Epoch) (e : Epoch) (p : Path) (d : Durable) (z : Shown) → t.epsilon ≡ r.epsilon → IsDated o issued x ep first e
-    → AreWritten r issued (top o) d.versions → Has p (access_paths (attempt_ops r.script x)) → later_of t first e p d ≡ Some z → IsWriteShown r o issued (issued ++ listed (issued_for x ep e)) x z
-write-shown r o issued t x ep first e p d z same dated written access later = subst (IsWriteShown r o issued now x) k.shown (record { shows = shows; writer = its.0 })
+pub write-shown : (r : Rules) (o : Opening) (issued : Dated) (lines : List Line) (t : TargetPlan) (x : AttemptId) (ep first : Option Epoch) (e : Epoch) (p : Path) (d : Durable) (z : Shown) → t.epsilon ≡ r.epsilon → IsDated o issued lines x ep first e
+    → AreWritten r issued (top o) d.versions → Has p (access_paths (attempt_ops r.script x)) → later_of t first e p d ≡ Some z → IsWriteShown r issued (issued ++ listed (issued_for x ep e)) lines x z
+write-shown r o issued lines t x ep first e p d z same dated written access later = subst (IsWriteShown r issued now lines x) k.shown (record { shows = shows; writer = its.0 })
   where
     now : Dated
     now = issued ++ listed (issued_for x ep e)
@@ -86,7 +88,7 @@ write-shown r o issued t x ep first e p d z same dated written access later = su
     uncertain : (from epsilon : ℕ) → uncertain_from first e ≡ from → t.epsilon ≡ epsilon → k.v.epoch.0 ≤ uncertain_from first e + 256 * t.epsilon → k.v.epoch.0 ≤ from + 256 * epsilon
     uncertain from epsilon is eq low = subst (λ n. k.v.epoch.0 ≤ n + 256 * epsilon) is (subst (λ n. k.v.epoch.0 ≤ uncertain_from first e + 256 * n) eq low)
 
-    shows : ShowsWrite r (issued ++ listed (issued_for x ep e)) x k.v.by k.v.epoch (version_path k.v)
+    shows : MeetsLaterWrite r (issued ++ listed (issued_for x ep e)) lines x k.v.by k.v.epoch (version_path k.v)
     shows = record {
       own = e;
       its = dated.its;

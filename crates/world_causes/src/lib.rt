@@ -5,7 +5,6 @@ ghost use Rattle.world_causes.specs.CauseLaws.{CausesAreKept, CausesBegin};
 ghost use Rattle.world_causes.specs.Firsts.{EventsKeepFirsts};
 ghost use Rattle.world_causes.specs.IssuedOnce.{EventsKeepIssuedOnce};
 ghost use Rattle.world_causes.specs.LastCauses.{CausesAreShown};
-ghost use Rattle.world_causes.specs.Leases.{LeasesAreKept};
 ghost use Rattle.world_causes.specs.ShownLaws.{CausesArePlain, PlainCausesStand};
 ghost use Rattle.world_causes.specs.StoringLaws.{EventsKeepStoring};
 ghost use Rattle.world_causes.specs.Unsettled.{VersionsWritten};
@@ -21,13 +20,12 @@ ghost use Rattle.world_causes.specs.Unsettled.{VersionsWritten};
 /// with its attempt 0, every line shows its cause in the whole list of lines.
 ///
 /// What is shown then is what outcomes show at each moment of any run, where no snapshots are made or read,
-/// lines tell of attempts alone and all targets run. And leases stay within what ticks may come to, but for one.
+/// lines tell of attempts alone and all targets run. Leases stay within what ticks may come to, but for one.
 pub fn laws_of_causes()
     ensures begin { CausesBegin }
     ensures kept { CausesAreKept }
     ensures shown { CausesAreShown }
     ensures stand { PlainCausesStand }
-    ensures leases { LeasesAreKept }
     ensures plain { CausesArePlain }
 {}
 

@@ -87,6 +87,7 @@ module _ (r : Rules) (o : Opening) (w : World) (A : IsSimple r) (B : IsBegun r o
     ticks = λ t s here. (B.starts t s here).ticks;
     trackers = λ n c here. subst (λ e. e / 256 ≤ o.lease) (sym (client-is n c here).1) (epoch-low o.lease);
     floors = λ t s cont here. (floors-begin t s cont (B.starts t s here), ((B.starts t s here).opens.floors cont).1);
+    leases = λ t s here. (B.starts t s here).opens.lease;
   })
 
   no-letter : (l : Letter) → Contains w.messages l → ⊥
@@ -128,6 +129,7 @@ module _ (r : Rules) (o : Opening) (held : ℕ → List Version) (h : History) (
   given-causes : 0 < r.attempts → requests.Given r o h w
   given-causes some = record {
     some = some;
+    running = k.whole.running;
     plain = plain-causes r k.whole.all.facts.unsnapped k.whole.all.facts.form;
     unsnapped = k.whole.all.facts.unsnapped;
     talk = k.whole.all.facts.judged.spoken.talk;

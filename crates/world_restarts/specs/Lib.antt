@@ -6,4 +6,3 @@ pub mod DecideLaws
 pub mod Resting
 pub mod EpochLaws
 pub mod Laws
-pub mod FloorLaws

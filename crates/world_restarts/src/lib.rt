@@ -2,7 +2,7 @@
 // it opens again.
 #![tactic(auto)]
 
-ghost use Rattle.world_restarts.specs.FloorLaws.{OpeningsKeepFloors, StayingKeepsFloors, StopsKeepFloors, SweepsKeepFloors};
+ghost use Rattle.world_causes.specs.FloorLaws.{OpeningsKeepFloors, StayingKeepsFloors, StopsKeepFloors, SweepsKeepFloors};
 ghost use Rattle.world_restarts.specs.Laws.{CutsKeepReads, DecisionsKeepReads, FailuresKeepReads, GivingUpKeepsReads, NumbersKeepDated, NumbersKeepReads, OpeningsKeepDated, OpeningsKeepReads, StopsKeepDated, SweepsKeepDated, SweepsKeepReads};
 
 /// Says what stops and openings keep of versions and of served reads. Where a turn in which a target hears what

@@ -1,4 +1,4 @@
-use Rattle.world_restarts.specs.FloorLaws.{openings-keep-floors, staying-keeps-floors, stops-keep-floors, sweeps-keep-floors}
+use Rattle.world_causes.specs.FloorLaws.{openings-keep-floors, staying-keeps-floors, stops-keep-floors, sweeps-keep-floors}
 use Rattle.world_restarts.proofs.laws_of_floors.Goals as goal
 
 pub returns : goal.returns

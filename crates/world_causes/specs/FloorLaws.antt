@@ -11,20 +11,24 @@ use Rattle.base_types.specs.declared.report.Line.{Line}
 use Rattle.base_types.specs.declared.report.Line.TheVariants as line
 use Rattle.base_types.specs.Epochs.{restart_floor}
 use Rattle.model_laws.specs.Lists.{any-of}
-use Rattle.model_laws.specs.Members.{has-from_contains, has-left, has-right}
+use Rattle.model_laws.specs.Members.{has-right}
 use Rattle.daos_model.specs.CausesShown.{ShowsFloor}
 use Rattle.daos_model.specs.Changes.{reopened}
 use Rattle.daos_model.specs.Durables.{row_of}
 use Rattle.daos_model.specs.Opening.{Opening, top}
 use Rattle.world_addresses.specs.Staying.{StaysAs, TargetsStay}
 use Rattle.world_base.specs.declared.target.Life.TheVariants.{Down, Running}
+use Rattle.world_base.specs.declared.target.TargetMemory.{TargetMemory}
 use Rattle.world_base.specs.declared.target.TargetState.{TargetState}
 use Rattle.world_base.specs.declared.world.World.{World}
 use Rattle.world_base.specs.CutTurns.{Cutting}
-use Rattle.world_base.specs.Events.{Rules}
+use Rattle.world_base.specs.Changes.{Kept}
+use Rattle.world_base.specs.Events.{Rules, target_after}
 use Rattle.world_base.specs.Stops.{OpeningFails, TargetGivenUp, TargetOpens, after_cut, opened_at, restart_line, stopped_at, stops_so_far, swept}
 use Rattle.world_causes.specs.Floors.{row-stays}
+use Rattle.world_base.specs.TurnLaws.{KeepsAs}
 use Rattle.world_causes.specs.Growth.{at-set}
+use Rattle.world_causes.specs.Lasting.{told-more}
 use Rattle.world_causes.specs.Shown.{FloorsShown, HasLine, IsCovered, IsOfBefore, IsTold}
 
 -- ---- the statements
@@ -54,7 +58,7 @@ record FloorsAt (o : Opening) (lines : List Line) (t : ℕ) (s : TargetState) : 
   pub opening : (cont : ContId) → s.life ≡ Running → IsTold o lines t cont s.opening.0 s.opening.1
   pub leased : s.life ≡ Running → (s.opening.0.0 ≤ top o) ⊎ (s.opening.0.0 ≤ restart_floor s.durable.lease)
   pub stored : (cont : ContId) → IsTold o lines t cont (row_of s.durable cont).floor (row_of s.durable cont).why ⊎ IsCovered s (row_of s.durable cont).floor.0
-  pub aggregated : (cont : ContId) → IsTold o lines t cont (row_of s.durable cont).aggregated (why.Aggregate (row_of s.durable cont).number) ⊎ IsCovered s (row_of s.durable cont).aggregated.0
+  pub aggregated : (cont : ContId) → IsTold o lines t cont (row_of s.durable cont).aggregated (why.Aggregate (row_of s.durable cont).number)
 
 of-one : (o : Opening) (w : World) (t : ℕ) (s : TargetState) → slice_get w.targets t ≡ Some s → FloorsShown o w → FloorsAt o w.lines t s
 of-one o w t s here F = record { opening = λ c runs. F.opening t s c here runs; leased = λ runs. F.leased t s here runs; stored = λ c. F.stored t s c here; aggregated = λ c. F.aggregated t s c here }
@@ -66,12 +70,6 @@ of-all o v all = record {
   stored = λ t s c here. (all t s here).stored c;
   aggregated = λ t s c here. (all t s here).aggregated c;
 }
-
--- what a line tells, it tells among more
-told-more : (o : Opening) (lines more : List Line) (t : ℕ) (cont : ContId) (floor : Epoch) (reason : FloorWhy) → IsTold o lines t cont floor reason → IsTold o (lines ++ more) t cont floor reason
-told-more o lines more t cont floor reason (IsOfBefore low) = IsOfBefore low
-told-more o lines more t cont floor reason (HasLine i) =
-    HasLine (any-of (ShowsFloor t floor cont reason) (lines ++ more) i.1 (has-left lines more i.1 (has-from_contains lines i.1 (i.0, i.2, i.3))) i.4)
 
 -- a target whose rows are as before, where what its opening covered stays covered
 module _ (o : Opening) (lines more : List Line) (t : ℕ) (s z : TargetState) (conts : z.durable.conts ≡ s.durable.conts)
@@ -86,22 +84,23 @@ module _ (o : Opening) (lines more : List Line) (t : ℕ) (s z : TargetState) (c
     opening = opens;
     leased = leased;
     stored = λ c. subst (λ row. IsTold o (lines ++ more) t c row.floor row.why ⊎ IsCovered z row.floor.0) (sym (row-stays s.durable z.durable c conts)) (kept-so c (row_of s.durable c).floor (row_of s.durable c).why (F.stored c));
-    aggregated = λ c. subst (λ row. IsTold o (lines ++ more) t c row.aggregated (why.Aggregate row.number) ⊎ IsCovered z row.aggregated.0) (sym (row-stays s.durable z.durable c conts))
-        (kept-so c (row_of s.durable c).aggregated (why.Aggregate (row_of s.durable c).number) (F.aggregated c));
+    aggregated = λ c. subst (λ row. IsTold o (lines ++ more) t c row.aggregated (why.Aggregate row.number)) (sym (row-stays s.durable z.durable c conts))
+        (told-more o lines more t c (row_of s.durable c).aggregated (why.Aggregate (row_of s.durable c).number) (F.aggregated c));
   }
 
 floor-up : (a b : ℕ) → a ≤ b → restart_floor a ≤ restart_floor b
 floor-up a b up = omega (arith, up)
+
+-- more lines are told, and a target is as it was
+same-at : (o : Opening) (lines more : List Line) (t : ℕ) (s : TargetState) → FloorsAt o lines t s → FloorsAt o (lines ++ more) t s
+same-at o lines more t s k = at-rows o lines more t s s refl (λ m c. inr c) k (λ c runs. told-more o lines more t c s.opening.0 s.opening.1 (k.opening c runs)) k.leased
 
 -- a world in which one target changed, and more lines are told
 one-changed : (o : Opening) (w v : World) (t : ℕ) (s z : TargetState) (more : List Line) → slice_get w.targets t ≡ Some s → v.targets ≡ set w.targets t z → v.lines ≡ w.lines ++ more
     → (FloorsAt o w.lines t s → FloorsAt o (w.lines ++ more) t z) → FloorsShown o w → FloorsShown o v
 one-changed o w v t s z more here targets lines own F =
     of-all o v (λ u y at. subst (λ ls. FloorsAt o ls u y) (sym lines)
-    (at-set w.targets t s z (FloorsAt o (w.lines ++ more)) here (own (of-one o w t s here F)) (λ n x there. same n x (of-one o w n x there F)) u y (ap (λ ts. slice_get ts u) (sym targets) ∙ at)))
-  where
-    same : (n : ℕ) (x : TargetState) → FloorsAt o w.lines n x → FloorsAt o (w.lines ++ more) n x
-    same n x k = at-rows o w.lines more n x x refl (λ m c. inr c) k (λ c runs. told-more o w.lines more n c x.opening.0 x.opening.1 (k.opening c runs)) k.leased
+    (at-set w.targets t s z (FloorsAt o (w.lines ++ more)) here (own (of-one o w t s here F)) (λ n x there. same-at o w.lines more n x (of-one o w n x there F)) u y (ap (λ ts. slice_get ts u) (sym targets) ∙ at)))
 
 -- ---- the events
 
@@ -180,28 +179,36 @@ openings-keep-floors r w v (inr (inr g)) = given_up-floors r w v g
 pub sweeps-keep-floors : SweepsKeepFloors
 sweeps-keep-floors w o F = record { opening = F.opening; leased = F.leased; stored = F.stored; aggregated = F.aggregated }
 
+-- a target that stays as it was, but for its lease
+staying-at : (o : Opening) (lines more : List Line) (t : ℕ) (s z : TargetState) → StaysAs s z → FloorsAt o lines t s → FloorsAt o (lines ++ more) t z
+staying-at o lines more t s z k F = at-rows o lines more t s z k.keeps.conts cover F (λ c runs. subst (λ f. IsTold o (lines ++ more) t c f.0 f.1) (sym k.opening) (told-more o lines more t c s.opening.0 s.opening.1 (F.opening c (sym k.life ∙ runs))))
+    (λ runs. leased (F.leased (sym k.life ∙ runs)))
+  where
+    up : restart_floor s.durable.lease ≤ restart_floor z.durable.lease
+    up = floor-up s.durable.lease z.durable.lease k.keeps.lease.rises
+
+    cover : (n : ℕ) → IsCovered s n → (n ≤ top o) ⊎ IsCovered z n
+    cover n c = inr (record {
+      running = λ runs. subst (λ f. n ≤ f.0.0) (sym k.opening) (c.running (sym k.life ∙ runs));
+      stopped = λ off. let low : n ≤ restart_floor s.durable.lease = c.stopped (λ runs. off (k.life ∙ runs)) in omega (arith, low, up);
+    })
+
+    leased : (s.opening.0.0 ≤ top o) ⊎ (s.opening.0.0 ≤ restart_floor s.durable.lease) → (z.opening.0.0 ≤ top o) ⊎ (z.opening.0.0 ≤ restart_floor z.durable.lease)
+    leased (inl low) = inl (subst (λ f. f.0.0 ≤ top o) (sym k.opening) low)
+    leased (inr low) = inr (subst (λ f. f.0.0 ≤ restart_floor z.durable.lease) (sym k.opening) (omega (arith, low, up)))
+
 pub staying-keeps-floors : StayingKeepsFloors
 staying-keeps-floors w v more lines stay o F = of-all o v (λ u z at. subst (λ ls. FloorsAt o ls u z) (sym lines) (now u z at))
   where
     now : (u : ℕ) (z : TargetState) → slice_get v.targets u ≡ Some z → FloorsAt o (w.lines ++ more) u z
-    now u z at = by (stay u z at)
-      where
-        by : (s : TargetState) × (slice_get w.targets u ≡ Some s) × StaysAs s z → FloorsAt o (w.lines ++ more) u z
-        by k = at-rows o w.lines more u k.0 z k.2.keeps.conts cover F' (λ c runs. subst (λ f. IsTold o (w.lines ++ more) u c f.0 f.1) (sym k.2.opening) (told-more o w.lines more u c k.0.opening.0 k.0.opening.1 (F'.opening c (sym k.2.life ∙ runs))))
-            (λ runs. leased (F'.leased (sym k.2.life ∙ runs)))
-          where
-            F' : FloorsAt o w.lines u k.0
-            F' = of-one o w u k.0 k.1 F
+    now u z at = let k = stay u z at in staying-at o w.lines more u k.0 z k.2 (of-one o w u k.0 k.1 F)
 
-            up : restart_floor k.0.durable.lease ≤ restart_floor z.durable.lease
-            up = floor-up k.0.durable.lease z.durable.lease k.2.keeps.lease.rises
+-- more lines alone
+pub lines-keep-floors : (w v : World) (more : List Line) → v.targets ≡ w.targets → v.lines ≡ w.lines ++ more → KeepsFloors w v
+lines-keep-floors w v more targets lines o F = of-all o v (λ u z at. subst (λ ls. FloorsAt o ls u z) (sym lines) (same-at o w.lines more u z (of-one o w u z (ap (λ ts. slice_get ts u) (sym targets) ∙ at) F)))
 
-            cover : (n : ℕ) → IsCovered k.0 n → (n ≤ top o) ⊎ IsCovered z n
-            cover n c = inr (record {
-              running = λ runs. subst (λ f. n ≤ f.0.0) (sym k.2.opening) (c.running (sym k.2.life ∙ runs));
-              stopped = λ off. let low : n ≤ restart_floor k.0.durable.lease = c.stopped (λ runs. off (k.2.life ∙ runs)) in omega (arith, low, up);
-            })
-
-            leased : (k.0.opening.0.0 ≤ top o) ⊎ (k.0.opening.0.0 ≤ restart_floor k.0.durable.lease) → (z.opening.0.0 ≤ top o) ⊎ (z.opening.0.0 ≤ restart_floor z.durable.lease)
-            leased (inl low) = inl (subst (λ f. f.0.0 ≤ top o) (sym k.2.opening) low)
-            leased (inr low) = inr (subst (λ f. f.0.0 ≤ restart_floor z.durable.lease) (sym k.2.opening) (omega (arith, low, up)))
+-- one target's turn
+pub turns-keep-floors : (w v : World) (t : ℕ) (s : TargetState) (new : Kept) (memory : TargetMemory) (more : List Line) → slice_get w.targets t ≡ Some s → v.targets ≡ set w.targets t (target_after s new memory) → v.lines ≡ w.lines ++ more → KeepsAs s.durable new.durable
+    → KeepsFloors w v
+turns-keep-floors w v t s new memory more here targets lines keeps o F =
+    one-changed o w v t s (target_after s new memory) more here targets lines (staying-at o w.lines more t s (target_after s new memory) (record { life = refl; opening = refl; keeps = keeps })) F

@@ -1,0 +1,3 @@
+-- What is stored once, where targets stop and open again.
+pub mod Laws
+pub mod Stopping
