@@ -16,7 +16,6 @@ use Rattle.daos_model.specs.CausesShown.{ShowsFloor}
 use Rattle.daos_model.specs.Changes.{reopened}
 use Rattle.daos_model.specs.Durables.{row_of}
 use Rattle.daos_model.specs.Opening.{Opening, top}
-use Rattle.world_addresses.specs.Staying.{StaysAs, TargetsStay}
 use Rattle.world_base.specs.declared.target.Life.TheVariants.{Down, Running}
 use Rattle.world_base.specs.declared.target.TargetState.{TargetState}
 use Rattle.world_base.specs.declared.world.World.{World}
@@ -44,9 +43,17 @@ OpeningsKeepFloors = (r : Rules) (w v : World) → TargetOpens r w v ⊎ Opening
 abbrev pub SweepsKeepFloors : Type 0
 SweepsKeepFloors = (w : World) → KeepsFloors w (swept w)
 
--- where each target stays as it was, but for its lease, and more lines are told
+-- a target runs or doesn't as before, with the floor of its opening and the containers that it had, and a lease no lower
+pub record RowsStay (s z : TargetState) : Type 0 where
+  pub life : z.life ≡ s.life
+  pub opening : z.opening ≡ s.opening
+  pub conts : z.durable.conts ≡ s.durable.conts
+  pub lease : s.durable.lease ≤ z.durable.lease
+
+-- where so each target stays, and more lines are told
 abbrev pub StayingKeepsFloors : Type 0
-StayingKeepsFloors = (w v : World) (more : List Line) → v.lines ≡ w.lines ++ more → TargetsStay w v → KeepsFloors w v
+StayingKeepsFloors =
+    (w v : World) (more : List Line) → v.lines ≡ w.lines ++ more → ((t : ℕ) (z : TargetState) → slice_get v.targets t ≡ Some z → (s : TargetState) × (slice_get w.targets t ≡ Some s) × RowsStay s z) → KeepsFloors w v
 
 -- ---- one target
 
@@ -186,15 +193,15 @@ staying-keeps-floors w v more lines stay o F = of-all o v (λ u z at. subst (λ 
     now : (u : ℕ) (z : TargetState) → slice_get v.targets u ≡ Some z → FloorsAt o (w.lines ++ more) u z
     now u z at = by (stay u z at)
       where
-        by : (s : TargetState) × (slice_get w.targets u ≡ Some s) × StaysAs s z → FloorsAt o (w.lines ++ more) u z
-        by k = at-rows o w.lines more u k.0 z k.2.keeps.conts cover F' (λ c runs. subst (λ f. IsTold o (w.lines ++ more) u c f.0 f.1) (sym k.2.opening) (told-more o w.lines more u c k.0.opening.0 k.0.opening.1 (F'.opening c (sym k.2.life ∙ runs))))
+        by : (s : TargetState) × (slice_get w.targets u ≡ Some s) × RowsStay s z → FloorsAt o (w.lines ++ more) u z
+        by k = at-rows o w.lines more u k.0 z k.2.conts cover F' (λ c runs. subst (λ f. IsTold o (w.lines ++ more) u c f.0 f.1) (sym k.2.opening) (told-more o w.lines more u c k.0.opening.0 k.0.opening.1 (F'.opening c (sym k.2.life ∙ runs))))
             (λ runs. leased (F'.leased (sym k.2.life ∙ runs)))
           where
             F' : FloorsAt o w.lines u k.0
             F' = of-one o w u k.0 k.1 F
 
             up : restart_floor k.0.durable.lease ≤ restart_floor z.durable.lease
-            up = floor-up k.0.durable.lease z.durable.lease k.2.keeps.lease.rises
+            up = floor-up k.0.durable.lease z.durable.lease k.2.lease
 
             cover : (n : ℕ) → IsCovered k.0 n → (n ≤ top o) ⊎ IsCovered z n
             cover n c = inr (record {
