@@ -16,7 +16,6 @@ use Rattle.daos_model.specs.CausesShown.{ShowsFloor}
 use Rattle.daos_model.specs.Changes.{reopened}
 use Rattle.daos_model.specs.Durables.{row_of}
 use Rattle.daos_model.specs.Opening.{Opening, top}
-use Rattle.world_addresses.specs.Staying.{StaysAs, TargetsStay}
 use Rattle.world_base.specs.declared.target.Life.TheVariants.{Down, Running}
 use Rattle.world_base.specs.declared.target.TargetMemory.{TargetMemory}
 use Rattle.world_base.specs.declared.target.TargetState.{TargetState}
@@ -48,9 +47,17 @@ OpeningsKeepFloors = (r : Rules) (w v : World) → TargetOpens r w v ⊎ Opening
 abbrev pub SweepsKeepFloors : Type 0
 SweepsKeepFloors = (w : World) → KeepsFloors w (swept w)
 
--- where each target stays as it was, but for its lease, and more lines are told
+-- a target runs or doesn't as before, with the floor of its opening and the containers that it had, and a lease no lower
+pub record RowsStay (s z : TargetState) : Type 0 where
+  pub life : z.life ≡ s.life
+  pub opening : z.opening ≡ s.opening
+  pub conts : z.durable.conts ≡ s.durable.conts
+  pub lease : s.durable.lease ≤ z.durable.lease
+
+-- where so each target stays, and more lines are told
 abbrev pub StayingKeepsFloors : Type 0
-StayingKeepsFloors = (w v : World) (more : List Line) → v.lines ≡ w.lines ++ more → TargetsStay w v → KeepsFloors w v
+StayingKeepsFloors =
+    (w v : World) (more : List Line) → v.lines ≡ w.lines ++ more → ((t : ℕ) (z : TargetState) → slice_get v.targets t ≡ Some z → (s : TargetState) × (slice_get w.targets t ≡ Some s) × RowsStay s z) → KeepsFloors w v
 
 -- ---- one target
 
@@ -180,12 +187,12 @@ pub sweeps-keep-floors : SweepsKeepFloors
 sweeps-keep-floors w o F = record { opening = F.opening; leased = F.leased; stored = F.stored; aggregated = F.aggregated }
 
 -- a target that stays as it was, but for its lease
-staying-at : (o : Opening) (lines more : List Line) (t : ℕ) (s z : TargetState) → StaysAs s z → FloorsAt o lines t s → FloorsAt o (lines ++ more) t z
-staying-at o lines more t s z k F = at-rows o lines more t s z k.keeps.conts cover F (λ c runs. subst (λ f. IsTold o (lines ++ more) t c f.0 f.1) (sym k.opening) (told-more o lines more t c s.opening.0 s.opening.1 (F.opening c (sym k.life ∙ runs))))
+staying-at : (o : Opening) (lines more : List Line) (t : ℕ) (s z : TargetState) → RowsStay s z → FloorsAt o lines t s → FloorsAt o (lines ++ more) t z
+staying-at o lines more t s z k F = at-rows o lines more t s z k.conts cover F (λ c runs. subst (λ f. IsTold o (lines ++ more) t c f.0 f.1) (sym k.opening) (told-more o lines more t c s.opening.0 s.opening.1 (F.opening c (sym k.life ∙ runs))))
     (λ runs. leased (F.leased (sym k.life ∙ runs)))
   where
     up : restart_floor s.durable.lease ≤ restart_floor z.durable.lease
-    up = floor-up s.durable.lease z.durable.lease k.keeps.lease.rises
+    up = floor-up s.durable.lease z.durable.lease k.lease
 
     cover : (n : ℕ) → IsCovered s n → (n ≤ top o) ⊎ IsCovered z n
     cover n c = inr (record {
@@ -211,4 +218,4 @@ lines-keep-floors w v more targets lines o F = of-all o v (λ u z at. subst (λ 
 pub turns-keep-floors : (w v : World) (t : ℕ) (s : TargetState) (new : Kept) (memory : TargetMemory) (more : List Line) → slice_get w.targets t ≡ Some s → v.targets ≡ set w.targets t (target_after s new memory) → v.lines ≡ w.lines ++ more → KeepsAs s.durable new.durable
     → KeepsFloors w v
 turns-keep-floors w v t s new memory more here targets lines keeps o F =
-    one-changed o w v t s (target_after s new memory) more here targets lines (staying-at o w.lines more t s (target_after s new memory) (record { life = refl; opening = refl; keeps = keeps })) F
+    one-changed o w v t s (target_after s new memory) more here targets lines (staying-at o w.lines more t s (target_after s new memory) (record { life = refl; opening = refl; conts = keeps.conts; lease = keeps.lease.rises })) F

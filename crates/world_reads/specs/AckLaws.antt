@@ -34,7 +34,7 @@ use Rattle.world_base.specs.declared.target.TargetState.{TargetState}
 use Rattle.world_base.specs.declared.world.World.{World}
 use Rattle.world_base.specs.Events.{Rules, kept, target_plan}
 use Rattle.world_reads.specs.Adds.{NoneIs, is_answer, is_end, none-answered}
-use Rattle.world_reads.specs.Beginning.{HasOpenRow, TurnBegins}
+use Rattle.world_reads.specs.Beginning.{HasOpenRow, IsUndecidedAt, TurnBegins}
 use Rattle.world_reads.specs.ChangeLaws.{WasDecided}
 use Rattle.world_reads.specs.CommitLaws.{leaves-quiet, only-one}
 use Rattle.world_reads.specs.DecideLaws.{MayBeDecided}
@@ -63,14 +63,22 @@ awaited-row member a inc l is = by (entry_led a l) (undecided_of a l) refl (and_
     by (Some e) None f g = let no : ⊥ = cc in absurd no
     by (Some e) (Some u) f g = (u, f)
 
+-- so no refusal counts of one whose rows say that it isn't decided
+pub refused-row : (r : Rules) (h : History) (t : ℕ) (s : TargetState) (from : ℕ) (a : AttemptId) (inc : ℕ) (refusal : Option Outcome) → IsUndecidedAt h s a
+    → ack.is_refusing from a inc refusal (leader_at (target_plan r t) s.memory s.durable) ≡ true → WasDecided h a → ⊥
+refused-row r h t s from a inc refusal none is = none row.0 row.1
+  where
+    row : (u : Undecided) × (undecided_of a (leader_at (target_plan r t) s.memory s.durable) ≡ Some u)
+    row = awaited-row from a inc (leader_at (target_plan r t) s.memory s.durable) (and_left (ack.is_awaited from a inc (leader_at (target_plan r t) s.memory s.durable)) (is_some refusal) is)
+
 -- an Ack that doesn't count is followed by nothing; the last Ok by the client's being told that the attempt is committed; and a
 -- refusal by its being told that, and the others that the attempt is aborted
-data AckTells (member : ℕ) (a : AttemptId) (refusal : Option Outcome) (l : LeaderOf) (posts : List Post) : Type 0 where
+pub data AckTells (member : ℕ) (a : AttemptId) (refusal : Option Outcome) (l : LeaderOf) (posts : List Post) : Type 0 where
   Nothing : posts ≡ [] → AckTells member a refusal l posts
   TellsCommit : (e : Entry) (u : Undecided) (client : ActorId) → entry_led a l ≡ Some e → undecided_of a l ≡ Some u → is_other_member e member ≡ true → posts ≡ record { to = client; message = Ended a (Some e.epoch) Committed } ∷ [] → AckTells member a refusal l posts
   Refused : (e : Entry) (u : Undecided) (how : Outcome) → refusal ≡ Some how → posts ≡ ended u.client a e.epoch how ++ map (abort_to l.incarnation a) (other_members e) → AckTells member a refusal l posts
 
-ack-tells : (member : ℕ) (a : AttemptId) (inc : ℕ) (refusal : Option Outcome) (l : LeaderOf) → AckTells member a refusal l (ack_heard member a inc refusal l).posts
+pub ack-tells : (member : ℕ) (a : AttemptId) (inc : ℕ) (refusal : Option Outcome) (l : LeaderOf) → AckTells member a refusal l (ack_heard member a inc refusal l).posts
 unfolding ack_heard
 ack-tells member a inc refusal l = counts (inc == l.incarnation)
   where
@@ -100,7 +108,7 @@ ack-tells member a inc refusal l = counts (inc == l.incarnation)
     counts false = Nothing refl
 
 -- a refusal tells of no commit, and answers no read
-refusal-silent : (client : Option ActorId) (a : AttemptId) (e : Epoch) (how : Outcome) (inc : ℕ) (ms : List ℕ) → NoneIs is_answer (ended client a e how ++ map (abort_to inc a) ms)
+pub refusal-silent : (client : Option ActorId) (a : AttemptId) (e : Epoch) (how : Outcome) (inc : ℕ) (ms : List ℕ) → NoneIs is_answer (ended client a e how ++ map (abort_to inc a) ms)
 refusal-silent client a e how inc ms p i = elim (has-cases (ended client a e how) (map (abort_to inc a) ms) p i) [
   | inl j ↦ told client j
   | inr j ↦ let z = has-from_map (abort_to inc a) ms p j in ap (λ q. is_answer q.message) (sym z.2)
@@ -118,12 +126,12 @@ other-committed : (a : AttemptId) (e : Epoch) (how : Outcome) → how ≢ Commit
 other-committed a e Committed other = absurd (other refl)
 other-committed a e how other = refl
 
-refusal-committed : (client : Option ActorId) (a : AttemptId) (e : Epoch) (how : Outcome) (inc : ℕ) (ms : List ℕ) → how ≢ Committed → committed_in (ended client a e how ++ map (abort_to inc a) ms) ≡ []
+pub refusal-committed : (client : Option ActorId) (a : AttemptId) (e : Epoch) (how : Outcome) (inc : ℕ) (ms : List ℕ) → how ≢ Committed → committed_in (ended client a e how ++ map (abort_to inc a) ms) ≡ []
 refusal-committed None a e how inc ms other = aborts-committed inc a ms
 refusal-committed (Some c) a e how inc ms other = ap (λ xs. xs ++ committed_in (map (abort_to inc a) ms)) (other-committed a e how other) ∙ aborts-committed inc a ms
 
 -- an attempt with another member writes something
-other-writes : (r : Rules) (x : AttemptId) (e : Entry) (m : ℕ) → e.members ≡ members_of r x → is_other_member e m ≡ true → writes_of r x ≢ []
+pub other-writes : (r : Rules) (x : AttemptId) (e : Entry) (m : ℕ) → e.members ≡ members_of r x → is_other_member e m ≡ true → writes_of r x ≢ []
 unfolding is_other_member has_target bits_of writes_members
 other-writes r x e m members other none =
     let has : (bit_at e.members m == 1) ≡ true = and_left (bit_at e.members m == 1) (not (m == e.leader)) other in
@@ -149,7 +157,7 @@ module _ (r : Rules) (o : Opening) (held : List Version) (h : History) (w : Worl
   SoundAt d = Sound r o held h h.served s.opening t d s.memory.stamps
 
   -- the entry that a leader finds of an undecided attempt is the one that it keeps
-  led-found : (a : AttemptId) (z : HasOpenRow r h w t s a) (e : Entry) → entry_led a (leader_at (target_plan r t) s.memory s.durable) ≡ Some e → e ≡ z.entry
+  pub led-found : (a : AttemptId) (z : HasOpenRow r w t s a) (e : Entry) → entry_led a (leader_at (target_plan r t) s.memory s.durable) ≡ Some e → e ≡ z.entry
   unfolding entry_of
   led-found a z e found =
       let kept' : find (is_entry_of a) (filter (is_led t) s.durable.entries) ≡ Some z.entry = find-kept (is_entry_of a) (is_led t) s.durable.entries z.entry z.found (ap (λ n. n == t) z.leads ∙ same_number t) in
@@ -160,63 +168,64 @@ module _ (r : Rules) (o : Opening) (held : List Version) (h : History) (w : Worl
   AckMid from a inc refusal ack.Heard k = k ≡ kept s
   AckMid from a inc refusal (ack.Followed f) k = SoundAt k.durable × (f ≡ ack_heard from a inc refusal (leader_at (target_plan r t) s.memory s.durable))
 
-  pub ack-step : (from : ℕ) (a : AttemptId) (inc : ℕ) (refusal : Option Outcome) (g : ack.AckStage) (k : Kept) (c : Option Change) (u : ack.AckStage) (l : Kept)
+  -- what refuses counts of no decided attempt
+  abbrev pub IsFirm : ℕ → AttemptId → ℕ → Option Outcome → Type 0
+  IsFirm from a inc refusal = ack.is_refusing from a inc refusal (leader_at (target_plan r t) s.memory s.durable) ≡ true → WasDecided h a → ⊥
+
+  pub ack-step : (from : ℕ) (a : AttemptId) (inc : ℕ) (refusal : Option Outcome) → IsFirm from a inc refusal → (g : ack.AckStage) (k : Kept) (c : Option Change) (u : ack.AckStage) (l : Kept)
       → ack.AckNext (target_plan r t) s.memory from a inc refusal g k c u → Steps c k l → AckMid from a inc refusal g k → AckMid from a inc refusal u l
-  ack-step from a inc refusal g k c u l (ack.Aborts k' is) steps p = (
-    subst SoundAt (sym steps.0) (aborts-sound r o held h h.served s.opening t s.memory.stamps k.durable a undecided (subst (λ n. SoundAt n.durable) (sym p) b.sound)),
+  ack-step from a inc refusal firm g k c u l (ack.Aborts k' is) steps p = (
+    subst SoundAt (sym steps.0) (aborts-sound r o held h h.served s.opening t s.memory.stamps k.durable a (firm refuses) (subst (λ n. SoundAt n.durable) (sym p) b.sound)),
     ap (λ n. ack_heard from a inc refusal (leader_at (target_plan r t) s.memory n.durable)) p,
   )
     where
-      row : (u : Undecided) × (undecided_of a (leader_at (target_plan r t) s.memory k.durable) ≡ Some u)
-      row = awaited-row from a inc (leader_at (target_plan r t) s.memory k.durable) (and_left (ack.is_awaited from a inc (leader_at (target_plan r t) s.memory k.durable)) (is_some refusal) is)
-
-      undecided : WasDecided h a → ⊥
-      undecided = (b.rows a row.0 row.1).undecided
-  ack-step from a inc refusal g k c u l (ack.Counts k' is) steps p =
+      refuses : ack.is_refusing from a inc refusal (leader_at (target_plan r t) s.memory s.durable) ≡ true
+      refuses = ap (λ n. ack.is_refusing from a inc refusal (leader_at (target_plan r t) s.memory n.durable)) (sym p) ∙ is
+  ack-step from a inc refusal firm g k c u l (ack.Counts k' is) steps p =
       (subst (λ n. SoundAt n.durable) (sym (steps ∙ p)) b.sound, ap (λ n. ack_heard from a inc refusal (leader_at (target_plan r t) s.memory n.durable)) p)
 
-  may-decide : (a : AttemptId) → HasOpenRow r h w t s a → (e : Entry) → Contains w.issued (a, e.epoch) → MayBeDecided r o h a e.epoch
-  may-decide a z e issued = record {
-    undecided = z.undecided;
-    alone = λ y f is same. z.undecided (f, subst (λ x. Decided h x f) (b.alone y a f e.epoch (b.decided y f is) issued same) is);
+  pub may-decide : (a : AttemptId) → (WasDecided h a → ⊥) → (e : Entry) → Contains w.issued (a, e.epoch) → MayBeDecided r o h a e.epoch
+  may-decide a none e issued = record {
+    undecided = none;
+    alone = λ y f is same. none (f, subst (λ x. Decided h x f) (b.alone y a f e.epoch (b.decided y f is) issued same) is);
     above = b.above a e.epoch issued;
     form = b.forms a;
     fits = b.fits a;
   }
 
-  ack-leaves : (from : ℕ) (a : AttemptId) (refusal : Option Outcome) (m : Message) (k : Kept) (n : TargetMemory) (posts : List Post) → IsRefusalRight refusal → n.stamps ≡ s.memory.stamps → SoundAt k.durable
+  ack-leaves : (from : ℕ) (a : AttemptId) (refusal : Option Outcome) (m : Message) (k : Kept) (n : TargetMemory) (posts : List Post) → IsUndecidedAt h s a → IsRefusalRight refusal → n.stamps ≡ s.memory.stamps → SoundAt k.durable
       → AckTells from a refusal (leader_at (target_plan r t) s.memory s.durable) posts → TurnLeaves r o held h w s.opening t m s.memory.member.parked k (n, sends posts None)
-  ack-leaves from a refusal m k n posts right same sound (Nothing none) =
+  ack-leaves from a refusal m k n posts undecided right same sound (Nothing none) =
       leaves-quiet r o held h w t s b m k n (sends posts None) same (λ p i. absurd (subst (Has p) none i)) (ap committed_in none) sound
-  ack-leaves from a refusal m k n posts right same sound (Refused e u how is all) =
+  ack-leaves from a refusal m k n posts undecided right same sound (Refused e u how is all) =
       leaves-quiet r o held h w t s b m k n (sends posts None) same
       (subst (NoneIs is_answer) (sym all) (refusal-silent u.client a e.epoch how s.durable.incarnation (other_members e)))
       (ap committed_in all ∙ refusal-committed u.client a e.epoch how s.durable.incarnation (other_members e) (subst IsRefusalRight is right)) sound
-  ack-leaves from a refusal m k n posts right same sound (TellsCommit e u client found row other one) = record {
+  ack-leaves from a refusal m k n posts undecided right same sound (TellsCommit e u client found row other one) = record {
     more = [];
     right = λ q i. absurd i;
     sound = subst (Sound r o held h h.served s.opening t k.durable) (sym same) sound;
     answered = none-answered h.served t m s.memory.member.parked posts (subst (NoneIs is_answer) (sym one) (only-one r o held h w t s b (record { to = client; message = Ended a (Some e.epoch) Committed }) refl));
     told = (a, e.epoch) ∷ [];
-    decides = OneMore a e.epoch (ap committed_in one) (may-decide a open' e issued) (Contains-append_left w.issued [] (a, e.epoch) issued) (other-writes r a e from (ap (λ z. z.members) (led-found a open' e found) ∙ open'.members) other);
+    decides = OneMore a e.epoch (ap committed_in one) (may-decide a (undecided u row) e issued) (Contains-append_left w.issued [] (a, e.epoch) issued) (other-writes r a e from (ap (λ z. z.members) (led-found a open' e found) ∙ open'.members) other);
   }
     where
-      open' : HasOpenRow r h w t s a
+      open' : HasOpenRow r w t s a
       open' = b.rows a u row
 
       issued : Contains w.issued (a, e.epoch)
       issued = subst (λ z. Contains w.issued (a, z.epoch)) (sym (led-found a open' e found)) open'.issued
 
-  ack-ends : (from : ℕ) (a : AttemptId) (inc : ℕ) (refusal : Option Outcome) (m : Message) → IsRefusalRight refusal → (g : ack.AckStage) (k : Kept) (left : TargetMemory × Did) → ack.AckEnds s.memory g k left
+  ack-ends : (from : ℕ) (a : AttemptId) (inc : ℕ) (refusal : Option Outcome) (m : Message) → IsUndecidedAt h s a → IsRefusalRight refusal → (g : ack.AckStage) (k : Kept) (left : TargetMemory × Did) → ack.AckEnds s.memory g k left
       → AckMid from a inc refusal g k → TurnLeaves r o held h w s.opening t m s.memory.member.parked k left
-  ack-ends from a inc refusal m right g k left (ack.IsFollowed k' f z is) p =
+  ack-ends from a inc refusal m undecided right g k left (ack.IsFollowed k' f z is) p =
       subst (TurnLeaves r o held h w s.opening t m s.memory.member.parked k) (sym is)
-      (ack-leaves from a refusal m k (leads_on f s.memory) f.posts right refl p.0
+      (ack-leaves from a refusal m k (leads_on f s.memory) f.posts undecided right refl p.0
       (subst (λ y. AckTells from a refusal (leader_at (target_plan r t) s.memory s.durable) y.posts) (sym p.1) (ack-tells from a inc refusal (leader_at (target_plan r t) s.memory s.durable))))
 
   -- the whole turn
-  pub ack-sound : (from : ℕ) (a : AttemptId) (inc : ℕ) (refusal : Option Outcome) (m : Message) → IsRefusalRight refusal → (new : Kept) (left : TargetMemory × Did)
+  pub ack-sound : (from : ℕ) (a : AttemptId) (inc : ℕ) (refusal : Option Outcome) (m : Message) → IsUndecidedAt h s a → IsRefusalRight refusal → (new : Kept) (left : TargetMemory × Did)
       → Whole (ack.AckNext (target_plan r t) s.memory from a inc refusal) (ack.AckEnds s.memory) ack.Heard (kept s) new left → TurnLeaves r o held h w s.opening t m s.memory.member.parked new left
-  ack-sound from a inc refusal m right new left turn =
-      ack-ends from a inc refusal m right turn.last new left turn.ends
-      (reached-keeps (ack.AckNext (target_plan r t) s.memory from a inc refusal) (AckMid from a inc refusal) (ack-step from a inc refusal) ack.Heard (kept s) turn.last new turn.reached refl)
+  ack-sound from a inc refusal m undecided right new left turn =
+      ack-ends from a inc refusal m undecided right turn.last new left turn.ends
+      (reached-keeps (ack.AckNext (target_plan r t) s.memory from a inc refusal) (AckMid from a inc refusal) (ack-step from a inc refusal (refused-row r h t s from a inc refusal undecided)) ack.Heard (kept s) turn.last new turn.reached refl)

@@ -24,14 +24,17 @@ use Rattle.world_reads.specs.Midway.{Sound}
 use Rattle.world_reads.specs.StoreLaws.{AreIssued}
 use Rattle.world_reads.specs.Transactions.{transactions}
 
--- an attempt with a row isn't decided; its entry is here, with its members and an epoch that was issued to it
-pub record HasOpenRow (r : Rules) (h : History) (w : World) (t : ℕ) (s : TargetState) (x : AttemptId) : Type 0 where
-  pub undecided : WasDecided h x → ⊥
+-- of an attempt with a row the entry is here, with its members and an epoch that was issued to it
+pub record HasOpenRow (r : Rules) (w : World) (t : ℕ) (s : TargetState) (x : AttemptId) : Type 0 where
   pub entry : Entry
   pub found : entry_of s.durable x ≡ Some entry
   pub leads : entry.leader ≡ t
   pub members : entry.members ≡ members_of r x
   pub issued : Contains w.issued (x, entry.epoch)
+
+-- an attempt with a row at a target isn't decided
+abbrev pub IsUndecidedAt : History → TargetState → AttemptId → Type 0
+IsUndecidedAt h s x = (u : Undecided) → row_of undecided_attempt x s.memory.leader.undecided ≡ Some u → WasDecided h x → ⊥
 
 -- what holds of what was decided and issued, and of a target
 pub record TurnBegins (r : Rules) (o : Opening) (held : List Version) (h : History) (w : World) (t : ℕ) (s : TargetState) : Type 0 where
@@ -45,4 +48,4 @@ pub record TurnBegins (r : Rules) (o : Opening) (held : List Version) (h : Histo
   pub fits : (x : AttemptId) (m : MinorWrite) → Contains (writes_of r x) m → FitsTargets r m.write
   pub issued : AreIssued w s.durable
   pub known : AreKnown h s.memory.leader.decided
-  pub rows : (x : AttemptId) (u : Undecided) → row_of undecided_attempt x s.memory.leader.undecided ≡ Some u → HasOpenRow r h w t s x
+  pub rows : (x : AttemptId) (u : Undecided) → row_of undecided_attempt x s.memory.leader.undecided ≡ Some u → HasOpenRow r w t s x

@@ -13,21 +13,21 @@ use Rattle.model_laws.specs.Members.{Has, any-has, contains-from_has, has-cases,
 use Rattle.model_laws.specs.TargetLaws.{number_same, same_number}
 use Rattle.base_messages.specs.declared.message.Message.{Message}
 use Rattle.base_messages.specs.declared.message.Message.TheVariants as message
+use Rattle.base_messages.specs.declared.message.Post.{Post}
 use Rattle.daos_model.specs.declared.durable.Version.{Version}
-use Rattle.daos_model.specs.BoolLaws.{both, clash}
-use Rattle.daos_model.specs.Durables.{entry_of, same_attempt}
+use Rattle.daos_model.specs.BoolLaws.{clash}
+use Rattle.daos_model.specs.Durables.{entry_of}
 use Rattle.daos_model.specs.EntryLaws.{same_attempt-itself}
 use Rattle.daos_model.specs.Forms.{is_read_in_form}
 use Rattle.daos_model.specs.Opening.{Opening}
 use Rattle.dtx_base.specs.declared.leading.Undecided.{Undecided}
 use Rattle.dtx_base.specs.declared.member.Parked.{Parked}
 use Rattle.dtx_base.specs.Leading.{undecided_attempt}
-use Rattle.dtx_base.specs.Members.{writes_at}
 use Rattle.dtx_base.specs.Rows.{is_attempt, row_of}
-use Rattle.world_attempts.specs.Attempts as letters
-use Rattle.world_attempts.specs.Attempts.{Attempts, IsMarkRight, IsMarkTrue, IsOther, IsPrepareRight, IsTrueOf, IsVerdictTrue, is_answered_by, is_asked_by, entry_at, entry_in, is_asking, is_known_in, is_prepare_to, leader_of, row_in, writes_of, first_entry}
-use Rattle.world_attempts.specs.Counting.{has-taken, none-counted}
-use Rattle.world_attempts.specs.History.{Aborted, GrowsBy, History, Served}
+use Rattle.world_attempts.specs.Attempts.{Attempts, Entries, IsOther, entry_at, entry_in, is_known_in, leader_of, row_in}
+use Rattle.world_attempts.specs.Counting.{has-taken}
+use Rattle.world_attempts.specs.EventLaws.{none-is-both}
+use Rattle.world_attempts.specs.History.{GrowsBy, History, Served}
 use Rattle.world_attempts.specs.Keeping.{AttemptsAreKept, NoneIsBoth}
 use Rattle.world_base.specs.declared.client.ClientState.{ClientState}
 use Rattle.world_base.specs.declared.did.Did.{Did}
@@ -40,24 +40,26 @@ use Rattle.world_base.specs.Events.{ClientGoes, ClientHears, Rules, TargetHearsR
 use Rattle.world_base.specs.Letters.{client, target}
 use Rattle.world_base.specs.StepLaws.{set-here, set-there}
 use Rattle.world_reads.specs.AckLaws.{ack-sound}
+use Rattle.world_reads.specs.Adds.{NoneIs, is_end}
 use Rattle.world_reads.specs.AnswerLaws.{IsBarred}
-use Rattle.world_reads.specs.Beginning.{HasOpenRow, TurnBegins}
+use Rattle.world_reads.specs.Beginning.{HasOpenRow, IsUndecidedAt, TurnBegins}
 use Rattle.world_reads.specs.ChangeLaws.{WasDecided}
 use Rattle.world_reads.specs.CommitLaws.{HearsCommit, MayBeStored, commit-sound, prepare-sound}
 use Rattle.world_reads.specs.Given.{Given, IsMessageRight, IsParkedRight}
-use Rattle.world_reads.specs.Growing.{grown, refused_in}
+use Rattle.world_reads.specs.Growing.{Decides, grown, refused_in}
 use Rattle.world_reads.specs.GrowLaws.{decides-told, grown-grows, none-grows}
 use Rattle.world_reads.specs.LaterLaws.{grown-answers, grown-apart, grown-issued, grown-stands, grown-written}
 use Rattle.world_reads.specs.Keeping.{Before, ClientsKeepReads, GoOn, HearingKeepsReads, IdlingKeepsReads, OthersKeepReads}
-use Rattle.world_reads.specs.MarkLaws.{IdleSound, IsFateRight, idle-sound, mark-sound, marked-sound, query-sound}
+use Rattle.world_reads.specs.MarkLaws.{IdleSound, idle-sound, mark-sound, marked-sound, query-sound}
 use Rattle.world_reads.specs.MemberLaws.{writes-member}
 use Rattle.world_reads.specs.Midway.{IsServedRight, IsStampOf, Sound, TurnLeaves}
 use Rattle.world_reads.specs.Reads.{IsAnsweredRight, IsGuarded, IsOfAttempt, Reads}
+use Rattle.world_reads.specs.Standing.{IsToldSo, IsVerdictSo, Knows, knows-before, undecided-here}
 use Rattle.world_reads.specs.VerdictLaws.{IsVerdictRight, fetch-sound, verdict-sound}
 use Rattle.world_reads.specs.Versions.{IsWriteAt, Versions, VersionsStand}
 use Rattle.world_base.specs.Changes.{Kept}
 use Rattle.world_base.specs.RightTurns.{HearsRightly}
-use Rattle.world_base.specs.TargetTurns.{commit_request, fetch_request, prepare_request}
+use Rattle.world_base.specs.TargetTurns.{IdlesWhole, commit_request, fetch_request, prepare_request}
 use Rattle.base_types.specs.declared.entry.Entry.{Entry}
 use Rattle.world_base.specs.Roles.{is_in_doubt}
 use Rattle.world_clients.specs.Snapshots.{is_at_snapshot}
@@ -65,7 +67,7 @@ use Rattle.world_clients.specs.Snapshots.{is_at_snapshot}
 -- ---- before a turn
 
 -- a target before its turn
-module _ (r : Rules) (o : Opening) (held : ℕ → List Version) (h : History) (w : World) (b : Before r o held h w) (t : ℕ) (s : TargetState) (here : slice_get w.targets t ≡ Some s) (runs : s.life ≡ Running) where
+module _ (r : Rules) (o : Opening) (held : ℕ → List Version) (h : History) (w : World) (b : Knows r o held h w) (t : ℕ) (s : TargetState) (here : slice_get w.targets t ≡ Some s) (runs : s.life ≡ Running) where
   -- the entry that is found at the target
   entry-here : (x : AttemptId) → entry_at w t x ≡ entry_of s.durable x
   entry-here x = ap (λ z. entry_in z x) here
@@ -73,22 +75,21 @@ module _ (r : Rules) (o : Opening) (held : ℕ → List Version) (h : History) (
   there : (q : Served) → q.target ≡ t → slice_get w.targets q.target ≡ Some s
   there q at = subst (λ n. slice_get w.targets n ≡ Some s) (sym at) here
 
-  row-here : (x : AttemptId) (u : Undecided) → row_of undecided_attempt x s.memory.leader.undecided ≡ Some u → HasOpenRow r h w t s x
+  row-here : (x : AttemptId) (u : Undecided) → row_of undecided_attempt x s.memory.leader.undecided ≡ Some u → HasOpenRow r w t s x
   row-here x u row =
-      let z = (b.attempts.each x).rows.undecided t u (ap (λ y. row_in y x) here ∙ row) in
-      let k = (b.attempts.each x).entries.one t z.here.entry z.here.found in
+      let z = b.attempts.rows x t u (ap (λ y. row_in y x) here ∙ row) in
+      let k = (b.attempts.entries x).one t z.entry z.found in
       record {
-        undecided = λ d. z.undecided d.0 d.1;
-        entry = z.here.entry;
-        found = sym (entry-here x) ∙ z.here.found;
-        leads = k.leader ∙ sym z.here.leads;
+        entry = z.entry;
+        found = sym (entry-here x) ∙ z.found;
+        leads = k.leader ∙ sym z.leads;
         members = k.members;
-        issued = contains-from_has w.issued (x, z.here.entry.epoch) k.issued;
+        issued = contains-from_has w.issued (x, z.entry.epoch) k.issued;
       }
 
   known-here : (a : AttemptId) → Contains s.memory.leader.decided a → WasDecided h a
   known-here a i =
-      let z = (b.attempts.each a).rows.unsettled t (ap (λ y. is_known_in y a) here ∙ any-has (is_attempt a) s.memory.leader.decided a (has-from_contains s.memory.leader.decided a i) (same_attempt-itself a)) in
+      let z = b.attempts.known a t (ap (λ y. is_known_in y a) here ∙ any-has (is_attempt a) s.memory.leader.decided a (has-from_contains s.memory.leader.decided a i) (same_attempt-itself a)) in
       (z.here.entry.epoch, z.decided)
 
   pub turn-begins : TurnBegins r o (held t) h w t s
@@ -109,7 +110,7 @@ module _ (r : Rules) (o : Opening) (held : ℕ → List Version) (h : History) (
     alone = b.given.apart;
     forms = b.given.forms;
     fits = b.given.fits;
-    issued = λ x e found. contains-from_has w.issued (x, e.epoch) ((b.attempts.each x).entries.one t e (entry-here x ∙ found)).issued;
+    issued = λ x e found. contains-from_has w.issued (x, e.epoch) ((b.attempts.entries x).one t e (entry-here x ∙ found)).issued;
     known = known-here;
     rows = row-here;
   }
@@ -117,109 +118,69 @@ module _ (r : Rules) (o : Opening) (held : ℕ → List Version) (h : History) (
   -- an attempt without an entry at its leader isn't decided
   unheld : (x : AttemptId) → t ≡ leader_of r x → entry_of s.durable x ≡ None → WasDecided h x → ⊥
   unheld x leads absent d =
-      let z = (b.attempts.each x).entries.held_by_leader d.0 d.1 in
+      let z = (b.attempts.entries x).held_by_leader d.0 d.1 in
       let no : ⊥ = cc (sym z.found ∙ ap (λ n. entry_at w n x) (sym leads) ∙ entry-here x ∙ absent) in no
 
--- ---- what a target hears
+  -- ---- what it hears
 
--- a letter that asks a member to prepare
-asked-prepares : (x : AttemptId) (m : ℕ) (l : Letter) → is_asked_by x m l.to l.message ≡ true → is_prepare_to x m l ≡ true
-unfolding is_prepare_to
-asked-prepares x m l is = is
+  module _ (reading : ℕ) (l : Letter) (among : Has l w.messages) (to_it : l.to ≡ target t) where
+    -- what it is told is so
+    pub told-so : (m : Message) → l.message ≡ m → IsToldSo r h w t s l.from m
+    told-so m is = subst (IsToldSo r h w t s l.from) is (b.attempts.told l t s among to_it here)
 
-asked-asks : (x : AttemptId) (m : ℕ) (l : Letter) → is_asked_by x m l.to l.message ≡ true → is_asking x m l ≡ true
-unfolding is_asking
-asked-asks x m l is = ap (λ c. c || is_answered_by x m l.from l.message) is
+    pub verdict-right : (x : AttemptId) (v : Verdict) → IsVerdictSo h v x → IsVerdictRight r o (held t) h w t s turn-begins v x
+    verdict-right x fate.Committed k = k
+    verdict-right x fate.Aborted k = k
+    verdict-right x fate.Undecided k = tt
 
-module _ (both-not : NoneIsBoth) (r : Rules) (o : Opening) (held : ℕ → List Version) (h : History) (w : World) (b : Before r o held h w) (t : ℕ) (s : TargetState) (here : slice_get w.targets t ≡ Some s) (runs : s.life ≡ Running)
-    (reading : ℕ) (l : Letter) (among : Has l w.messages) (to_it : l.to ≡ target t) where
-  pub begins : TurnBegins r o (held t) h w t s
-  begins = turn-begins r o held h w b t s here runs
+    pub parked-right : (p : Parked) → Has p s.memory.member.parked → IsParkedRight r o w t s.durable p.ask
+    parked-right p i = b.given.waiting t s p here runs i
 
-  -- what is aborted isn't decided
-  undecided : (x : AttemptId) → Aborted h x → WasDecided h x → ⊥
-  undecided x gone d = both-not r h w x d.0 b.attempts d.1 gone
+    pub right : (m : Message) → l.message ≡ m → IsMessageRight r o w t s m
+    right m is = subst (IsMessageRight r o w t s) is (b.given.asked l t s (contains-from_has w.messages l among) to_it here runs)
 
-  mark-right : (x : AttemptId) (c : Bool) → IsMarkTrue h x c → IsFateRight h x c
-  mark-right x true k = k
-  mark-right x false k = undecided x k
+    -- a Commit is heard with what its turn needs
+    pub commit-heard : (x : AttemptId) (ep first : Option Epoch) (tracker : Epoch) (ws : List MinorWrite) → l.message ≡ message.Commit x ep first tracker ws
+        → HearsCommit r o (held t) h w t s turn-begins (commit_request x ep first tracker ws) reading
+    commit-heard x ep first tracker ws is =
+        let ok = right (message.Commit x ep first tracker ws) is in
+        let absent = sym (entry-here x) ∙ ap (λ n. entry_at w n x) ok.0.leads ∙ (b.right.commits l x ep first tracker ws among is).unstored in
+        record { right = ok.0; epochs = ok.1 reading; absent = absent; undecided = unheld x ok.0.leads absent }
 
-  pub verdict-right : (x : AttemptId) (v : Verdict) → IsVerdictTrue h x v → IsVerdictRight r o (held t) h w t s begins v x
-  verdict-right x fate.Committed k = k
-  verdict-right x fate.Aborted k = undecided x k
-  verdict-right x fate.Undecided k = tt
+    -- what a Prepare brings may be stored
+    pub may-be-stored : (e : Entry) (first : Option Epoch) (ws : List MinorWrite) (inc : ℕ) → l.message ≡ message.Prepare e first ws inc → MayBeStored o h w s e.attempt e.epoch
+    may-be-stored e first ws inc is =
+        let z = told-so (message.Prepare e first ws inc) is in
+        record {
+          absent = sym (entry-here e.attempt) ∙ z.absent;
+          undecided = z.undecided;
+          above = b.given.above e.attempt e.epoch z.issued;
+          alone = λ y f i same. b.given.apart y e.attempt f e.epoch i z.issued same;
+        }
 
-  pub parked-right : (p : Parked) → Has p s.memory.member.parked → IsParkedRight r o w t s.durable p.ask
-  parked-right p i = b.given.waiting t s p here runs i
+    -- where it hears an Ack, its rows are of undecided attempts
+    abbrev pub IsAckPlain : Message → Type 0
+    IsAckPlain (message.Ack x inc refusal) = IsUndecidedAt h s x
+    IsAckPlain m = Unit {0}
 
-  pub right : (m : Message) → l.message ≡ m → IsMessageRight r o w t s m
-  right m is = subst (IsMessageRight r o w t s) is (b.given.asked l t s (contains-from_has w.messages l among) to_it here runs)
-
-  -- what a Mark names is so
-  pub marks-heard : (inc : ℕ) (marks : List (AttemptId × Bool)) → l.message ≡ message.Mark inc marks → (x : AttemptId) (c : Bool) → Has (x, c) marks → IsFateRight h x c
-  marks-heard inc marks is x c i = mark-right x c (marks-true x c i).fate
-    where
-      marks-true : (x : AttemptId) (c : Bool) → Has (x, c) marks → IsMarkRight r h w l.from l.to x inc c
-      marks-true = subst (IsTrueOf r h w l.from l.to) is (b.attempts.letters l among)
-
-  -- a Commit is heard with what its turn needs
-  pub commit-heard : (x : AttemptId) (ep first : Option Epoch) (tracker : Epoch) (ws : List MinorWrite) → l.message ≡ message.Commit x ep first tracker ws → HearsCommit r o (held t) h w t s begins (commit_request x ep first tracker ws) reading
-  commit-heard x ep first tracker ws is =
-      let ok = right (message.Commit x ep first tracker ws) is in
-      let absent = sym (entry-here r o held h w b t s here runs x) ∙ ap (λ n. entry_at w n x) ok.0.leads ∙ (b.right.commits l x ep first tracker ws among is).unstored in
-      record { right = ok.0; epochs = ok.1 reading; absent = absent; undecided = unheld r o held h w b t s here runs x ok.0.leads absent }
-
-  -- what a Prepare is heard with
-  pub record HearsPrepare (e : Entry) (ws : List MinorWrite) : Type 0 where
-    pub entry : e ≡ first_entry r e.attempt e.epoch
-    pub writes : ws ≡ writes_at r.script.targets t (writes_of r e.attempt)
-    pub may : MayBeStored o h w s e.attempt e.epoch
-
-  pub prepare-heard : (e : Entry) (first : Option Epoch) (ws : List MinorWrite) (inc : ℕ) → l.message ≡ message.Prepare e first ws inc → HearsPrepare e ws
-  prepare-heard e first ws inc is = record { entry = z.entry; writes = z.writes ∙ ap (λ n. writes_at r.script.targets n (writes_of r e.attempt)) it; may = may }
-    where
-      z : IsPrepareRight r h w l.from l.to e ws inc
-      z = subst (IsTrueOf r h w l.from l.to) is (b.attempts.letters l among)
-
-      it : z.way.member ≡ t
-      it = ap (λ a. a.number) (sym z.way.receiver ∙ to_it)
-
-      other : IsOther r e.attempt t
-      other = subst (IsOther r e.attempt) it z.way.other
-
-      asks : is_asked_by e.attempt t l.to l.message ≡ true
-      asks = ap (λ a. is_asked_by e.attempt t a l.message) to_it ∙ ap (is_asked_by e.attempt t (target t)) is ∙ both (same_attempt e.attempt e.attempt) (t == t) (same_attempt-itself e.attempt) (same_number t)
-
-      issued : Contains w.issued (e.attempt, e.epoch)
-      issued = contains-from_has w.issued (e.attempt, e.epoch) z.issued
-
-      may : MayBeStored o h w s e.attempt e.epoch
-      may = record {
-        absent = sym (entry-here r o held h w b t s here runs e.attempt) ∙ (b.attempts.each e.attempt).awaited.before t l among (asked-prepares e.attempt t l asks);
-        undecided = λ d. none-counted (is_asking e.attempt t) w.messages l ((b.attempts.each e.attempt).awaited.none t d.0 other d.1) among (asked-asks e.attempt t l asks);
-        above = b.given.above e.attempt e.epoch issued;
-        alone = λ y f i same. b.given.apart y e.attempt f e.epoch i issued same;
-      }
-
-  hears-sound : (new : Kept) (left : TargetMemory × Did) (m : Message) → l.message ≡ m → HearsRightly (target_plan r t) s.opening s.memory reading l.from m (kept s) new left → TurnLeaves r o (held t) h w s.opening t m s.memory.member.parked new left
-  hears-sound new left (message.Fetch x op group ep first tracker read snapshot) is turn =
-      let ok = right (message.Fetch x op group ep first tracker read snapshot) is in
-      fetch-sound r o (held t) h w t s begins reading (fetch_request x op group ep first tracker read snapshot) l.from ok.0 (ok.1 reading) new left turn
-  hears-sound new left (message.Commit x ep first tracker ws) is turn =
-      commit-sound r o (held t) h w t s begins (commit_request x ep first tracker ws) reading (commit-heard x ep first tracker ws is) l.from (message.Commit x ep first tracker ws) new left turn
-  hears-sound new left (message.Prepare e first ws inc) is turn =
-      let z = prepare-heard e first ws inc is in
-      prepare-sound r o (held t) h w t s begins (prepare_request e first ws inc) (message.Prepare e first ws inc) z.entry z.writes z.may new left turn
-  hears-sound new left (message.Ack x inc refusal) is turn = ack-sound r o (held t) h w t s begins l.from.number x inc refusal (message.Ack x inc refusal) (right (message.Ack x inc refusal) is) new left turn
-  hears-sound new left (message.Mark inc marks) is turn = mark-sound r o (held t) h w t s begins l.from inc marks (message.Mark inc marks) (marks-heard inc marks is) new left turn
-  hears-sound new left (message.Marked inc ids) is turn = marked-sound r o (held t) h w t s begins l.from.number inc ids (message.Marked inc ids) new left turn
-  hears-sound new left (message.Query x ask) is turn = query-sound r o (held t) h w t s begins l.from x ask (message.Query x ask) new left turn
-  hears-sound new left (message.Verdict x ask inc v) is turn =
-      verdict-sound r o (held t) h w t s begins (is_in_doubt t) reading x ask v (message.Verdict x ask inc v) (verdict-right x v z.fate) parked-right new left turn
-    where
-      z : letters.IsVerdictRight r h w l.from l.to x v
-      z = subst (IsTrueOf r h w l.from l.to) is (b.attempts.letters l among)
-  hears-sound new left m is turn = absurd turn
+    pub hears-sound : (new : Kept) (left : TargetMemory × Did) (m : Message) → l.message ≡ m → IsAckPlain m → HearsRightly (target_plan r t) s.opening s.memory reading l.from m (kept s) new left
+        → TurnLeaves r o (held t) h w s.opening t m s.memory.member.parked new left
+    hears-sound new left (message.Fetch x op group ep first tracker read snapshot) is plain turn =
+        let ok = right (message.Fetch x op group ep first tracker read snapshot) is in
+        fetch-sound r o (held t) h w t s turn-begins reading (fetch_request x op group ep first tracker read snapshot) l.from ok.0 (ok.1 reading) new left turn
+    hears-sound new left (message.Commit x ep first tracker ws) is plain turn =
+        commit-sound r o (held t) h w t s turn-begins (commit_request x ep first tracker ws) reading (commit-heard x ep first tracker ws is) l.from (message.Commit x ep first tracker ws) new left turn
+    hears-sound new left (message.Prepare e first ws inc) is plain turn =
+        let z = told-so (message.Prepare e first ws inc) is in
+        prepare-sound r o (held t) h w t s turn-begins (prepare_request e first ws inc) (message.Prepare e first ws inc) z.entry z.writes (may-be-stored e first ws inc is) new left turn
+    hears-sound new left (message.Ack x inc refusal) is plain turn =
+        ack-sound r o (held t) h w t s turn-begins l.from.number x inc refusal (message.Ack x inc refusal) plain (right (message.Ack x inc refusal) is) new left turn
+    hears-sound new left (message.Mark inc marks) is plain turn = mark-sound r o (held t) h w t s turn-begins l.from inc marks (message.Mark inc marks) (told-so (message.Mark inc marks) is) new left turn
+    hears-sound new left (message.Marked inc ids) is plain turn = marked-sound r o (held t) h w t s turn-begins l.from.number inc ids (message.Marked inc ids) new left turn
+    hears-sound new left (message.Query x ask) is plain turn = query-sound r o (held t) h w t s turn-begins l.from x ask (message.Query x ask) new left turn
+    hears-sound new left (message.Verdict x ask inc v) is plain turn =
+        verdict-sound r o (held t) h w t s turn-begins (is_in_doubt t) reading x ask v (message.Verdict x ask inc v) (verdict-right x v (told-so (message.Verdict x ask inc v) is)) parked-right new left turn
+    hears-sound new left m is plain turn = absurd turn
 
 -- ---- after it
 
@@ -239,11 +200,11 @@ at-or-there targets t s new here u z at = by (u == t) refl
         let apart : u ≡ t → ⊥ = λ same. clash (u == t) (ap (λ n. n == t) same ∙ same_number t) e in
         inr (apart, sym (set-there targets t u new apart) ∙ at)
 
-abbrev After : World → ℕ → TargetState → Kept → TargetMemory × Did → List Letter → World
+abbrev pub After : World → ℕ → TargetState → Kept → TargetMemory × Did → List Letter → World
 After w t s new left rest = with_target t (target_after s new left.0) (after_turn w (target t) left.1 rest)
 
 -- what a turn left is sound of these reads, of which some are served in it
-module _ (r : Rules) (o : Opening) (held : ℕ → List Version) (h : History) (w : World) (b : Before r o held h w) (t : ℕ) (s : TargetState) (new : Kept) (left : TargetMemory × Did) (rest : List Letter) (here : slice_get w.targets t ≡ Some s)
+module _ (r : Rules) (o : Opening) (held : ℕ → List Version) (h : History) (w : World) (b : Knows r o held h w) (t : ℕ) (s : TargetState) (new : Kept) (left : TargetMemory × Did) (rest : List Letter) (here : slice_get w.targets t ≡ Some s)
     (more : List Served) (right : (q : Served) → Has q more → IsServedRight r o h t (w.issued ++ listed left.1.issued) q) (sound : Sound r o (held t) h (more ++ h.served) s.opening t new.durable left.0.stamps) where
   abbrev Now : World
   Now = After w t s new left rest
@@ -317,6 +278,42 @@ its-members r o held w given x m u at = writes-member r x u m given.few (given.f
 
 -- ---- turns
 
+-- a target's turn, by which these attempts are decided, those aborted, and these reads served
+module _ (r : Rules) (o : Opening) (held : ℕ → List Version) (h : History) (w : World) (b : Knows r o held h w) (t : ℕ) (s : TargetState) (new : Kept) (left : TargetMemory × Did) (rest : List Letter) (here : slice_get w.targets t ≡ Some s)
+    (more : List Served) (right : (q : Served) → Has q more → IsServedRight r o h t (w.issued ++ listed left.1.issued) q) (sound : Sound r o (held t) h (more ++ h.served) s.opening t new.durable left.0.stamps)
+    (posts : List Post) (told : List (AttemptId × Epoch)) (decides : Decides r o h (w.issued ++ listed left.1.issued) posts told) (aborted : List AttemptId) where
+  abbrev pub Then : History
+  Then = record { decided = told ++ h.decided; aborted = aborted; served = more ++ h.served }
+
+  abbrev issued : List (AttemptId × Epoch)
+  issued = w.issued ++ listed left.1.issued
+
+  members : (x : AttemptId) (m : MinorWrite) (u : ℕ) → IsWriteAt r x u m → (u ≡ leader_of r x) ⊎ IsOther r x u
+  members = its-members r o held w b.given
+
+  stand : (u : ℕ) (z : TargetState) → slice_get (After w t s new left rest).targets u ≡ Some z → VersionsStand r o (held u) h u z.durable
+  stand = stand-now r o held h w b t s new left rest here more right sound
+
+  -- it keeps the facts of versions and reads, where what is decided then is held
+  pub turn-keeps : ((x : AttemptId) → Entries r Then (After w t s new left rest) x) → Versions r o held Then (After w t s new left rest) × Reads r o Then (After w t s new left rest)
+  turn-keeps entries = (
+    record {
+      stand = grown-stands r o held h (After w t s new left rest) issued aborted (more ++ h.served) members b.versions.apart stand posts told decides entries;
+      apart = grown-apart r o held h (After w t s new left rest) issued aborted (more ++ h.served) members b.versions.apart stand posts told decides;
+      issued = grown-issued r o held h (After w t s new left rest) issued aborted (more ++ h.served) members b.versions.apart stand posts told decides (λ x e i. Contains-append_left w.issued (listed left.1.issued) (x, e) (b.versions.issued x e i));
+      written = grown-written r o held h (After w t s new left rest) issued aborted (more ++ h.served) members b.versions.apart stand posts told decides b.versions.written;
+    },
+    reads-now r o held h w b t s new left rest here more right sound Then refl answers,
+  )
+    where
+      answers : (q : Served) → Has q (more ++ h.served) → IsAnsweredRight r o Then q
+      answers q i =
+          grown-answers r o held h (After w t s new left rest) issued aborted (more ++ h.served) members b.versions.apart stand posts told decides entries q
+          (barred-now r o held h w b t s new left rest here more right sound q i)
+          (asked-now r o held h w b t s new left rest here more right sound q i)
+          (form-now r o held h w b t s new left rest here more right sound q i)
+          (right-now r o held h w b t s new left rest here more right sound q i)
+
 module _ (attempts-kept : AttemptsAreKept) (both-not : NoneIsBoth) where
   -- a target that hears a message, in the world that follows
   hearing-on : (r : Rules) (o : Opening) (held : ℕ → List Version) (h : History) (w v : World) (b : Before r o held h w) (g : TargetHearsRightly r w v) → GoOn r o held h w v g
@@ -325,24 +322,25 @@ module _ (attempts-kept : AttemptsAreKept) (both-not : NoneIsBoth) where
     grows = grows;
     served = λ q i. has-right k.more h.served q i;
     answered = k.answered;
-    versions = subst (Versions r o held later) (sym g.after) (record {
-      stand = grown-stands r o held h now issued (refused_in g.did.posts ++ h.aborted) (k.more ++ h.served) members b.versions.apart stand g.did.posts k.told k.decides attempts;
-      apart = grown-apart r o held h now issued (refused_in g.did.posts ++ h.aborted) (k.more ++ h.served) members b.versions.apart stand g.did.posts k.told k.decides;
-      issued = grown-issued r o held h now issued (refused_in g.did.posts ++ h.aborted) (k.more ++ h.served) members b.versions.apart stand g.did.posts k.told k.decides
-          (λ x e i. Contains-append_left w.issued (listed g.did.issued) (x, e) (b.versions.issued x e i));
-      written = grown-written r o held h now issued (refused_in g.did.posts ++ h.aborted) (k.more ++ h.served) members b.versions.apart stand g.did.posts k.told k.decides b.versions.written;
-    });
-    reads = subst (Reads r o later) (sym g.after) (reads-now r o held h w b g.t g.s g.new (g.memory, g.did) g.rest g.here k.more k.right k.sound later refl answers);
+    versions = subst (Versions r o held later) (sym g.after) kept'.0;
+    reads = subst (Reads r o later) (sym g.after) kept'.1;
   }
     where
+      knows : Knows r o held h w
+      knows = knows-before both-not r o held h w b
+
+      among : Has g.l w.messages
+      among = has-taken w.messages g.l g.rest g.takes
+
+      plain : (m : Message) → IsAckPlain r o held h w knows g.t g.s g.here g.runs g.reading g.l among g.to_it m
+      plain (message.Ack x inc refusal) = undecided-here both-not r h w b.attempts g.l g.t g.s among g.to_it g.here x
+      plain m = tt
+
       k : TurnLeaves r o (held g.t) h w g.s.opening g.t g.l.message g.s.memory.member.parked g.new (g.memory, g.did)
-      k = hears-sound both-not r o held h w b g.t g.s g.here g.runs g.reading g.l (has-taken w.messages g.l g.rest g.takes) g.to_it g.new (g.memory, g.did) g.l.message refl g.turn
+      k = hears-sound r o held h w knows g.t g.s g.here g.runs g.reading g.l among g.to_it g.new (g.memory, g.did) g.l.message refl (plain g.l.message) g.turn
 
       later : History
       later = grown h k.told g.did.posts k.more
-
-      now : World
-      now = After w g.t g.s g.new (g.memory, g.did) g.rest
 
       issued : List (AttemptId × Epoch)
       issued = w.issued ++ listed g.did.issued
@@ -350,45 +348,46 @@ module _ (attempts-kept : AttemptsAreKept) (both-not : NoneIsBoth) where
       grows : GrowsBy h g.did.posts later
       grows = grown-grows h k.told g.did.posts k.more (decides-told r o h issued g.did.posts k.told k.decides)
 
-      attempts : Attempts r later now
+      attempts : Attempts r later (After w g.t g.s g.new (g.memory, g.did) g.rest)
       attempts = subst (Attempts r later) g.after (attempts-kept r h later w v b.right b.attempts (ToTarget g) grows)
 
-      members : (x : AttemptId) (m : MinorWrite) (u : ℕ) → IsWriteAt r x u m → (u ≡ leader_of r x) ⊎ IsOther r x u
-      members = its-members r o held w b.given
-
-      stand : (u : ℕ) (z : TargetState) → slice_get now.targets u ≡ Some z → VersionsStand r o (held u) h u z.durable
-      stand = stand-now r o held h w b g.t g.s g.new (g.memory, g.did) g.rest g.here k.more k.right k.sound
-
-      answers : (q : Served) → Has q (k.more ++ h.served) → IsAnsweredRight r o later q
-      answers q i =
-          grown-answers r o held h now issued (refused_in g.did.posts ++ h.aborted) (k.more ++ h.served) members b.versions.apart stand g.did.posts k.told k.decides attempts q
-          (barred-now r o held h w b g.t g.s g.new (g.memory, g.did) g.rest g.here k.more k.right k.sound q i)
-          (asked-now r o held h w b g.t g.s g.new (g.memory, g.did) g.rest g.here k.more k.right k.sound q i)
-          (form-now r o held h w b g.t g.s g.new (g.memory, g.did) g.rest g.here k.more k.right k.sound q i)
-          (right-now r o held h w b g.t g.s g.new (g.memory, g.did) g.rest g.here k.more k.right k.sound q i)
+      kept' : Versions r o held later (After w g.t g.s g.new (g.memory, g.did) g.rest) × Reads r o later (After w g.t g.s g.new (g.memory, g.did) g.rest)
+      kept' = turn-keeps r o held h w knows g.t g.s g.new (g.memory, g.did) g.rest g.here k.more k.right k.sound g.did.posts k.told k.decides (refused_in g.did.posts ++ h.aborted) (λ x. (attempts.each x).entries)
 
   pub hearing-keeps : HearingKeepsReads
   hearing-keeps = hearing-on
 
-pub idling-keeps : IdlingKeepsReads
-idling-keeps r o held h w v b g = (none-grows h g.did.posts k.endless, subst (Versions r o held h) (sym g.after) versions, subst (Reads r o h) (sym g.after) reads)
-  where
-    k : IdleSound r o (held g.t) h w g.t g.s (turn-begins r o held h w b g.t g.s g.here g.runs) g.new (g.memory, g.did)
-    k = idle-sound r o (held g.t) h w g.t g.s (turn-begins r o held h w b g.t g.s g.here g.runs) g.settling g.new (g.memory, g.did) g.turn
+-- a target that does its idle work decides and serves nothing
+module _ (r : Rules) (o : Opening) (held : ℕ → List Version) (h : History) (w : World) (b : Knows r o held h w) (settling : Bool) (t : ℕ) (s : TargetState) (new : Kept) (left : TargetMemory × Did) (here : slice_get w.targets t ≡ Some s) (runs : s.life ≡ Running)
+    (turn : IdlesWhole settling (target_plan r t) s.memory (kept s) new left) where
+  pub idle-leaves : IdleSound r o (held t) h w t s (turn-begins r o held h w b t s here runs) new left
+  idle-leaves = idle-sound r o (held t) h w t s (turn-begins r o held h w b t s here runs) settling new left turn
 
-    none : (q : Served) → Has q [] → IsServedRight r o h g.t (w.issued ++ listed g.did.issued) q
-    none q i = absurd i
+  none : (q : Served) → Has q [] → IsServedRight r o h t (w.issued ++ listed left.1.issued) q
+  none q i = absurd i
 
-    versions : Versions r o held h (After w g.t g.s g.new (g.memory, g.did) w.messages)
-    versions = record {
-      stand = stand-now r o held h w b g.t g.s g.new (g.memory, g.did) w.messages g.here [] none k.sound;
+  pub idle-keeps : Versions r o held h (After w t s new left w.messages) × Reads r o h (After w t s new left w.messages)
+  idle-keeps = (
+    record {
+      stand = stand-now r o held h w b t s new left w.messages here [] none idle-leaves.sound;
       apart = b.versions.apart;
-      issued = λ x e i. Contains-append_left w.issued (listed g.did.issued) (x, e) (b.versions.issued x e i);
+      issued = λ x e i. Contains-append_left w.issued (listed left.1.issued) (x, e) (b.versions.issued x e i);
       written = b.versions.written;
-    }
+    },
+    reads-now r o held h w b t s new left w.messages here [] none idle-leaves.sound h refl b.reads.answers,
+  )
 
-    reads : Reads r o h (After w g.t g.s g.new (g.memory, g.did) w.messages)
-    reads = reads-now r o held h w b g.t g.s g.new (g.memory, g.did) w.messages g.here [] none k.sound h refl b.reads.answers
+pub idling-keeps : IdlingKeepsReads
+idling-keeps r o held h w v b g = (none-grows h g.did.posts endless, subst (Versions r o held h) (sym g.after) k.0, subst (Reads r o h) (sym g.after) k.1)
+  where
+    knows : Knows r o held h w
+    knows = knows-before none-is-both r o held h w b
+
+    endless : NoneIs is_end g.did.posts
+    endless = (idle-leaves r o held h w knows g.settling g.t g.s g.new (g.memory, g.did) g.here g.runs g.turn).endless
+
+    k : Versions r o held h (After w g.t g.s g.new (g.memory, g.did) w.messages) × Reads r o h (After w g.t g.s g.new (g.memory, g.did) w.messages)
+    k = idle-keeps r o held h w knows g.settling g.t g.s g.new (g.memory, g.did) g.here g.runs g.turn
 
 -- ---- where no target changes
 

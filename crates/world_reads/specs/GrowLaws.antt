@@ -49,7 +49,7 @@ refused-is m x i = absurd i
 
 -- ---- all of them
 
-tells-committed : (posts : List Post) (x : AttemptId) (e : Epoch) (p : Post) → Has p posts → p.message ≡ Ended x (Some e) Committed → Has (x, e) (committed_in posts)
+pub tells-committed : (posts : List Post) (x : AttemptId) (e : Epoch) (p : Post) → Has p posts → p.message ≡ Ended x (Some e) Committed → Has (x, e) (committed_in posts)
 tells-committed [] x e p i says = absurd i
 tells-committed (q ∷ ps) x e p (inl same) says =
     has-left (committed_by q.message) (committed_in ps) (x, e) (subst (λ m. Has (x, e) (committed_by m)) (sym says ∙ ap (λ z. z.message) same) (inl refl))
@@ -59,7 +59,7 @@ tells-committed (q ∷ ps) x e p (inr i) says = has-right (committed_by q.messag
 sent-to : (p : Post) (m : Message) → p.message ≡ m → p ≡ record { to = p.to; message = m }
 sent-to p m says = ap (λ n. record { to = p.to; message = n }) says
 
-committed-told : (posts : List Post) (x : AttemptId) (e : Epoch) → Has (x, e) (committed_in posts) → Tells posts x (Some e) Committed
+pub committed-told : (posts : List Post) (x : AttemptId) (e : Epoch) → Has (x, e) (committed_in posts) → Tells posts x (Some e) Committed
 committed-told [] x e i = absurd i
 committed-told (p ∷ ps) x e i = by (committed-told ps x e) (has-cases (committed_by p.message) (committed_in ps) (x, e) i)
   where

@@ -14,7 +14,7 @@ use Rattle.daos_model.specs.declared.durable.Version.{Version}
 use Rattle.daos_model.specs.Durables.{entry_of}
 use Rattle.daos_model.specs.Forms.{is_read_in_form}
 use Rattle.daos_model.specs.Opening.{Opening}
-use Rattle.world_attempts.specs.Attempts.{Attempts, HoldsAt, IsOther, entry_at, entry_in, leader_of, writes_of}
+use Rattle.world_attempts.specs.Attempts.{Entries, HoldsAt, IsOther, entry_at, entry_in, leader_of, writes_of}
 use Rattle.world_attempts.specs.History.{Decided, History, Served, decides}
 use Rattle.world_base.specs.declared.target.TargetState.{TargetState}
 use Rattle.world_base.specs.declared.world.World.{World}
@@ -52,12 +52,19 @@ answered-as r o h q aborted served a = record { map = a.map; seen = a.seen; obj 
 
 -- ---- where an attempt is held
 
-module _ (r : Rules) (later : History) (v : World) (attempts : Attempts r later v) (x : AttemptId) (e : Epoch) (is : Decided later x e) where
-  -- its leader and its other members hold it
-  holds-at : (u : ℕ) → (u ≡ leader_of r x) ⊎ IsOther r x u → HoldsAt v u x e
-  holds-at u (inl same) = subst (λ n. HoldsAt v n x e) (sym same) ((attempts.each x).entries.held_by_leader e is)
-  holds-at u (inr other) = (attempts.each x).entries.held_by_others e u is other
+-- An attempt is held, at an epoch, by its leader and its other members, and by no other target.
+pub record IsHeldByAll (r : Rules) (v : World) (x : AttemptId) (e : Epoch) : Type 0 where
+  pub holds : (u : ℕ) → (u ≡ leader_of r x) ⊎ IsOther r x u → HoldsAt v u x e
+  pub place : (u : ℕ) (k : Entry) → entry_at v u x ≡ Some k → (u ≡ leader_of r x) ⊎ IsOther r x u
 
+-- so it is of a decided attempt
+pub held-by-all : (r : Rules) (later : History) (v : World) (x : AttemptId) (e : Epoch) → Entries r later v x → Decided later x e → IsHeldByAll r v x e
+held-by-all r later v x e entries is = record {
+  holds = λ u at. elim at [ inl same ↦ subst (λ n. HoldsAt v n x e) (sym same) (entries.held_by_leader e is) | inr other ↦ entries.held_by_others e u is other ];
+  place = λ u k found. (entries.one u k found).place;
+}
+
+module _ (r : Rules) (v : World) (x : AttemptId) (e : Epoch) (all : IsHeldByAll r v x e) where
   found-at : (u : ℕ) (z : TargetState) → slice_get v.targets u ≡ Some z → entry_at v u x ≡ entry_of z.durable x
   found-at u z here = ap (λ s. entry_in s x) here
 
@@ -69,12 +76,12 @@ module _ (r : Rules) (later : History) (v : World) (attempts : Attempts r later 
       same k found y = let one : Some y.entry ≡ Some k = sym y.found ∙ found-at u z here ∙ found in let is : y.entry ≡ k = cc in ap (λ j. j.epoch) (sym is) ∙ y.epoch
 
       by : (k : Option Entry) → entry_of z.durable x ≡ k → IsHeldOrElsewhere r x e u z.durable
-      by (Some k) found = Held k found (same k found (holds-at u ((attempts.each x).entries.one u k (found-at u z here ∙ found)).place))
-      by None absent = Elsewhere absent (λ m at. let y = holds-at u (members m u at) in let no : ⊥ = cc (sym y.found ∙ found-at u z here ∙ absent) in no)
+      by (Some k) found = Held k found (same k found (all.holds u (all.place u k (found-at u z here ∙ found))))
+      by None absent = Elsewhere absent (λ m at. let y = all.holds u (members m u at) in let no : ⊥ = cc (sym y.found ∙ found-at u z here ∙ absent) in no)
 
   -- one where it writes is there
   pub no-target : ((m : MinorWrite) (u : ℕ) → IsWriteAt r x u m → (u ≡ leader_of r x) ⊎ IsOther r x u) → (u : ℕ) → slice_get v.targets u ≡ None → (m : MinorWrite) → IsWriteAt r x u m → ⊥
-  no-target members u gone m at = let y = holds-at u (members m u at) in let no : ⊥ = cc (sym y.found ∙ ap (λ s. entry_in s x) gone) in no
+  no-target members u gone m at = let y = all.holds u (members m u at) in let no : ⊥ = cc (sym y.found ∙ ap (λ s. entry_in s x) gone) in no
 
 -- ---- what was added
 
@@ -84,19 +91,19 @@ module _ (r : Rules) (o : Opening) (held : ℕ → List Version) (h : History) (
   abbrev Later : List (AttemptId × Epoch) → History
   Later told = record { decided = told ++ h.decided; aborted = aborted; served = served }
 
-  pub grown-stands : (posts : List Post) (told : List (AttemptId × Epoch)) → Decides r o h issued posts told → Attempts r (Later told) v → (t : ℕ) (s : TargetState) → slice_get v.targets t ≡ Some s
+  pub grown-stands : (posts : List Post) (told : List (AttemptId × Epoch)) → Decides r o h issued posts told → ((x : AttemptId) → Entries r (Later told) v x) → (t : ℕ) (s : TargetState) → slice_get v.targets t ≡ Some s
       → VersionsStand r o (held t) (Later told) t s.durable
   grown-stands posts told (NoneMore none) attempts t s here = stands-as r o (held t) h t s.durable aborted served (stand t s here)
   grown-stands posts told (OneMore x e one may its some) attempts t s here =
       stands-as r o (held t) (decides h x e) t s.durable aborted served
-      (decides-stands r o (held t) h t s.durable x e may apart (stand t s here) (held-or-elsewhere r (Later ((x, e) ∷ [])) v attempts x e (inl refl) (members x) t s here))
+      (decides-stands r o (held t) h t s.durable x e may apart (stand t s here) (held-or-elsewhere r v x e (held-by-all r (Later ((x, e) ∷ [])) v x e (attempts x) (inl refl)) (members x) t s here))
 
   pub grown-apart : (posts : List Post) (told : List (AttemptId × Epoch)) → Decides r o h issued posts told → AreDecided (transactions r.script (Later told))
   grown-apart posts told (NoneMore none) = apart
   grown-apart posts told (OneMore x e one may its some) = stays-apart r o h x e may apart
 
   -- a read that was served stays answered right, where no unsettled version lies below it at the target that served it
-  pub grown-answers : (posts : List Post) (told : List (AttemptId × Epoch)) → Decides r o h issued posts told → Attempts r (Later told) v → (q : Served)
+  pub grown-answers : (posts : List Post) (told : List (AttemptId × Epoch)) → Decides r o h issued posts told → ((x : AttemptId) → Entries r (Later told) v x) → (q : Served)
       → ((s : TargetState) → slice_get v.targets q.target ≡ Some s → IsBarred s.durable q) → IsOfAttempt r q → is_read_in_form q.read ≡ true → IsAnsweredRight r o h q → IsAnsweredRight r o (Later told) q
   grown-answers posts told (NoneMore none) attempts q bar asks form a = answered-as r o h q aborted served a
   grown-answers posts told (OneMore x e one may its some) attempts q bar asks form a =
@@ -105,8 +112,8 @@ module _ (r : Rules) (o : Opening) (held : ℕ → List Version) (h : History) (
       above : (s : Option TargetState) → slice_get v.targets q.target ≡ s → (m : MinorWrite) → IsWriteAt r x q.target m → overlaps (write_path m.write) (read_path q.read) ≡ true → q.epoch.0 ≤ e.0
       above (Some s) here m at over =
           not-below r o (held q.target) h q.target s.durable x e q m may (stand q.target s here)
-          (held-or-elsewhere r (Later ((x, e) ∷ [])) v attempts x e (inl refl) (members x) q.target s here) (bar s here) at over
-      above None gone m at over = absurd (no-target r (Later ((x, e) ∷ [])) v attempts x e (inl refl) (members x) q.target gone m at)
+          (held-or-elsewhere r v x e (held-by-all r (Later ((x, e) ∷ [])) v x e (attempts x) (inl refl)) (members x) q.target s here) (bar s here) at over
+      above None gone m at over = absurd (no-target r v x e (held-by-all r (Later ((x, e) ∷ [])) v x e (attempts x) (inl refl)) (members x) q.target gone m at)
 
   -- what is decided was issued, and writes something
   pub grown-issued : (posts : List Post) (told : List (AttemptId × Epoch)) → Decides r o h issued posts told → ((x : AttemptId) (e : Epoch) → Decided h x e → Contains issued (x, e)) → (x : AttemptId) (e : Epoch)

@@ -26,4 +26,5 @@ pub mod MarkLaws
 pub mod AckLaws
 pub mod VerdictLaws
 pub mod LaterLaws
+pub mod Standing
 pub mod EventLaws

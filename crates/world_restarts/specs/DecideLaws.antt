@@ -9,7 +9,7 @@ use Rattle.base_types.specs.Paths.{overlaps}
 use Rattle.model_laws.specs.Members.{Has}
 use Rattle.daos_model.specs.declared.durable.Version.{Version}
 use Rattle.daos_model.specs.Opening.{Opening}
-use Rattle.world_attempts.specs.Attempts.{Attempts, IsOther, leader_of, writes_of}
+use Rattle.world_attempts.specs.Attempts.{IsOther, leader_of, writes_of}
 use Rattle.world_attempts.specs.History.{Decided, History, Served, decides}
 use Rattle.world_base.specs.declared.target.TargetState.{TargetState}
 use Rattle.world_base.specs.declared.world.World.{World}
@@ -18,11 +18,11 @@ use Rattle.world_reads.specs.AnswerLaws.{decides-answers, not-below}
 use Rattle.world_reads.specs.DecideLaws.{MayBeDecided, decides-stands, stays-apart}
 use Rattle.world_reads.specs.EventLaws.{its-members}
 use Rattle.world_reads.specs.Given.{Given}
-use Rattle.world_reads.specs.LaterLaws.{held-or-elsewhere, no-target}
+use Rattle.world_reads.specs.LaterLaws.{IsHeldByAll, held-or-elsewhere, no-target}
 use Rattle.world_reads.specs.Reads.{Reads}
 use Rattle.world_reads.specs.Versions.{IsWriteAt, Versions}
 
-module _ (r : Rules) (o : Opening) (held : ℕ → List Version) (h : History) (w : World) (x : AttemptId) (e : Epoch) (given : Given r o held w) (may : MayBeDecided r o h x e) (attempts : Attempts r (decides h x e) w) (k : Versions r o held h w) (l : Reads r o h w) where
+module _ (r : Rules) (o : Opening) (held : ℕ → List Version) (h : History) (w : World) (x : AttemptId) (e : Epoch) (given : Given r o held w) (may : MayBeDecided r o h x e) (all : IsHeldByAll r w x e) (k : Versions r o held h w) (l : Reads r o h w) where
   members : (m : MinorWrite) (u : ℕ) → IsWriteAt r x u m → (u ≡ leader_of r x) ⊎ IsOther r x u
   members m u at = its-members r o held w given x m u at
 
@@ -32,14 +32,14 @@ module _ (r : Rules) (o : Opening) (held : ℕ → List Version) (h : History) (
     where
       by : (s : Option TargetState) → slice_get w.targets q.target ≡ s → q.epoch.0 ≤ e.0
       by (Some s) here =
-          not-below r o (held q.target) h q.target s.durable x e q m may (k.stand q.target s here) (held-or-elsewhere r (decides h x e) w attempts x e (inl refl) members q.target s here)
+          not-below r o (held q.target) h q.target s.durable x e q m may (k.stand q.target s here) (held-or-elsewhere r w x e all members q.target s here)
           (λ v j off clash. l.barred q s v i here j off clash) at over
-      by None gone = absurd (no-target r (decides h x e) w attempts x e (inl refl) members q.target gone m at)
+      by None gone = absurd (no-target r w x e all members q.target gone m at)
 
   pub decision-keeps : Contains w.issued (x, e) → writes_of r x ≢ [] → Versions r o held (decides h x e) w × Reads r o (decides h x e) w
   decision-keeps its some = (
     record {
-      stand = λ t s here. decides-stands r o (held t) h t s.durable x e may k.apart (k.stand t s here) (held-or-elsewhere r (decides h x e) w attempts x e (inl refl) members t s here);
+      stand = λ t s here. decides-stands r o (held t) h t s.durable x e may k.apart (k.stand t s here) (held-or-elsewhere r w x e all members t s here);
       apart = stays-apart r o h x e may k.apart;
       issued = λ y f d. issued y f d;
       written = λ y f d. written y f d;

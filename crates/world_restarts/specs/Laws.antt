@@ -6,7 +6,7 @@ use Rattle.base_types.specs.declared.report.Line.TheVariants as line
 use Rattle.model_laws.specs.Members.{Has}
 use Rattle.daos_model.specs.declared.durable.Version.{Version}
 use Rattle.daos_model.specs.Opening.{Opening}
-use Rattle.world_attempts.specs.Attempts.{Attempts, writes_of}
+use Rattle.world_attempts.specs.Attempts.{writes_of}
 use Rattle.world_attempts.specs.History.{History, decides}
 use Rattle.world_base.specs.declared.target.TargetState.{TargetState}
 use Rattle.world_base.specs.declared.world.World.{World}
@@ -14,8 +14,9 @@ use Rattle.world_base.specs.Events.{Rules}
 use Rattle.world_base.specs.Stops.{NumbersDrawn, OpeningFails, TargetCut, TargetGivenUp, TargetOpens, swept, after_cut}
 use Rattle.world_reads.specs.DecideLaws.{MayBeDecided}
 use Rattle.world_reads.specs.Given.{Given}
-use Rattle.world_reads.specs.Keeping.{Before}
+use Rattle.world_reads.specs.LaterLaws.{IsHeldByAll}
 use Rattle.world_reads.specs.Reads.{Reads}
+use Rattle.world_reads.specs.Standing.{Knows}
 use Rattle.world_reads.specs.Versions.{Versions}
 use Rattle.world_restarts.specs.CutLaws.{IsPlainWork}
 use Rattle.base_types.specs.declared.entry.Entry.{Entry}
@@ -26,7 +27,7 @@ use Rattle.world_gots.specs.Gots.{Gots}
 
 -- A turn is cut in which a target hears what it hears without snapshots and aggregation, or does its idle work.
 abbrev pub CutsKeepReads : Type 0
-CutsKeepReads = (r : Rules) (o : Opening) (held : ℕ → List Version) (h : History) (w v : World) → Before r o held h w → (g : TargetCut r w v) → IsPlainWork g.work → Versions r o held h v × Reads r o h v
+CutsKeepReads = (r : Rules) (o : Opening) (held : ℕ → List Version) (h : History) (w v : World) → Knows r o held h w → (g : TargetCut r w v) → IsPlainWork g.work → Versions r o held h v × Reads r o h v
 
 -- a target opens again
 abbrev pub OpeningsKeepReads : Type 0
@@ -49,10 +50,10 @@ abbrev pub NumbersKeepReads : Type 0
 NumbersKeepReads = (r : Rules) (o : Opening) (held : ℕ → List Version) (h : History) (w v : World) → NumbersDrawn w v → Versions r o held h w → Reads r o h w → Versions r o held h v × Reads r o h v
 
 -- An attempt is decided that nobody is told of, as by an opening that finds its entry prepared and without other members: where it may be
--- decided, was issued and writes something, and the facts of attempts hold of it as decided.
+-- decided, was issued and writes something, and its leader and its other members hold it.
 abbrev pub DecisionsKeepReads : Type 0
 DecisionsKeepReads =
-    (r : Rules) (o : Opening) (held : ℕ → List Version) (h : History) (w : World) (x : AttemptId) (e : Epoch) → Given r o held w → MayBeDecided r o h x e → Contains w.issued (x, e) → writes_of r x ≢ [] → Attempts r (decides h x e) w
+    (r : Rules) (o : Opening) (held : ℕ → List Version) (h : History) (w : World) (x : AttemptId) (e : Epoch) → Given r o held w → MayBeDecided r o h x e → Contains w.issued (x, e) → writes_of r x ≢ [] → IsHeldByAll r w x e
     → Versions r o held h w → Reads r o h w → Versions r o held (decides h x e) w × Reads r o (decides h x e) w
 
 -- ---- where no client does anything, and no epoch is issued

@@ -1,0 +1,13 @@
+pub mod Standing
+pub mod Growing
+pub mod Going
+pub mod AckTurns
+pub mod PlainTurns
+pub mod Saying
+pub mod Listening
+pub mod FurtherTurns
+pub mod Storing
+pub mod Writing
+pub mod Deciding
+pub mod HappeningReads
+pub mod Floors
