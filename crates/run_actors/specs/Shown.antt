@@ -11,7 +11,7 @@ use Rattle.run_actors.specs.Due.{AllAreDue, is_due_client}
 use Rattle.run_actors.specs.ListLaws.{map-get}
 use Rattle.run_actors.specs.Shows.{IsTargetOf, Shows, state_of}
 use Rattle.run_base.specs.Picks as picks
-use Rattle.run_base.specs.Picks.{count_to, heard, heard_awake, heard_by_client, if_client_due, if_target_due, is_client_due, is_due, numbered}
+use Rattle.run_base.specs.Picks.{count_to, heard, heard_awake, heard_by_client, if_client_due, if_target_due, is_client_due, is_due, is_due_where, numbered}
 use Rattle.target_core.specs.Targets.{TargetOf}
 use Rattle.vos_store.specs.Calls.{State}
 use Rattle.world_base.specs.declared.target.TargetState.{TargetState}
@@ -78,6 +78,7 @@ module _ {S C : Type 0} (durable : S → Option Durable) (state : S → State) (
       ∙ ap (λ ls. nat_lt 0 (count_to (target t) ls) || has_idle settling x.plan x.memory s.s.durable) k.messages
       ∙ ap (λ p. nat_lt 0 (count_to (target t) w.messages) || has_idle settling p x.memory s.s.durable) s.is.made
       ∙ ap (λ m. nat_lt 0 (count_to (target t) w.messages) || has_idle settling (target_plan r t) m s.s.durable) s.is.knows
+      ∙ ap (λ l. is_due_where l (nat_lt 0 (count_to (target t) w.messages) || has_idle settling (target_plan r t) s.s.memory s.s.durable)) (sym s.is.runs)
       ∙ ap (if_target_due settling (target_plan r t) (count_to (target t) w.messages)) (sym s.here)
 
   -- those that are due of all actors are those that are due in the world

@@ -1,10 +1,12 @@
 -- Which actors have something to do, and what a turn of an actor is.
-use Rattle.std.specs.Prelude.{ℕ, zero, suc, ◌≡◌, ◌++◌, Bool, false, ◌||◌, not, nat_lt, List, [], ◌∷◌, filter, length, slice_get, Option, Some, None, if◌then◌else◌}
+use Rattle.std.specs.Prelude.{ℕ, zero, suc, ◌≡◌, ◌++◌, Bool, true, false, ◌||◌, not, nat_lt, List, [], ◌∷◌, filter, length, slice_get, Option, Some, None, if◌then◌else◌}
 use Rattle.base_messages.specs.declared.actor.ActorId.{ActorId}
 use Rattle.run_base.specs.Letters.{IsPicked, letters_to}
 use Rattle.world_base.specs.declared.client.ClientPlan.{ClientPlan}
 use Rattle.world_base.specs.declared.client.ClientState.{ClientState}
 use Rattle.world_base.specs.declared.letter.Letter.{Letter}
+use Rattle.world_base.specs.declared.target.Life.{Life}
+use Rattle.world_base.specs.declared.target.Life.TheVariants.{Down, Running, Stopped}
 use Rattle.world_base.specs.declared.target.TargetPlan.{TargetPlan}
 use Rattle.world_base.specs.declared.target.TargetState.{TargetState}
 use Rattle.world_base.specs.declared.world.World.{World}
@@ -48,9 +50,16 @@ heard w a = if a.client then heard_by_client (count_to a w.messages) (slice_get 
 abbrev pub is_client_due : ClientPlan → ClientState → ℕ → Bool
 is_client_due p c count = nat_lt 0 c.skip || nat_lt 0 count || not (waits c || is_done p c)
 
--- a target has something to do: a letter is in flight to it, or it has idle work, which isn't the same in the settling phase
+-- one that is stopped opens again, and one that is given up does nothing more
+abbrev pub is_due_where : Life → Bool → Bool
+is_due_where Running busy = busy
+is_due_where Stopped busy = true
+is_due_where Down busy = false
+
+-- a target has something to do: it opens again; or it runs, and a letter is in flight to it, or it has idle work, which isn't the same in
+-- the settling phase
 abbrev pub is_target_due : Bool → TargetPlan → TargetState → ℕ → Bool
-is_target_due settling t s count = nat_lt 0 count || has_idle settling t s.memory s.durable
+is_target_due settling t s count = is_due_where s.life (nat_lt 0 count || has_idle settling t s.memory s.durable)
 
 abbrev pub if_client_due : ClientPlan → ℕ → Option ClientState → Bool
 if_client_due p count None = false

@@ -10,9 +10,10 @@ use Rattle.daos_model.specs.declared.durable.Durable.{Durable}
 use Rattle.dtx_base.specs.Joining.{is_inquiry_due}
 use Rattle.dtx_base.specs.Leading.{is_batch_due}
 use Rattle.run_base.specs.Picked.{none-to}
-use Rattle.run_base.specs.Picks.{actors, count_to, due, if_client_due, if_target_due, is_client_due, is_due, is_target_due, numbered}
+use Rattle.run_base.specs.Picks.{actors, count_to, due, if_client_due, if_target_due, is_client_due, is_due, is_due_where, is_target_due, numbered}
 use Rattle.world_base.specs.declared.client.ClientPlan.{ClientPlan}
 use Rattle.world_base.specs.declared.client.ClientState.{ClientState}
+use Rattle.world_base.specs.declared.target.Life.TheVariants.{Running, Stopped}
 use Rattle.world_base.specs.declared.target.TargetMemory.{TargetMemory}
 use Rattle.world_base.specs.declared.target.TargetPlan.{TargetPlan}
 use Rattle.world_base.specs.declared.target.TargetState.{TargetState}
@@ -89,10 +90,16 @@ idle-parts settling t m d h =
     let b = left-false (not (length m.leader.decided == 0)) (is_batch_due (leader_at t m d)) a.0 in
     record { settled = b.0; told = b.1; inquired = a.1 }
 
-target-parts : (settling : Bool) (t : TargetPlan) (s : TargetState) (count : ℕ) → is_target_due settling t s count ≡ false → (nat_lt 0 count ≡ false) × HasNoneIdle settling t s.memory s.durable
-target-parts settling t s count h =
-    let a = left-false (nat_lt 0 count) (has_idle settling t s.memory s.durable) h in
+-- a target that runs has nothing to do, and one that is stopped always has
+target-parts : (settling : Bool) (t : TargetPlan) (s : TargetState) (count : ℕ) → is_target_due settling t s count ≡ false → s.life ≡ Running → (nat_lt 0 count ≡ false) × HasNoneIdle settling t s.memory s.durable
+target-parts settling t s count h runs =
+    let a = left-false (nat_lt 0 count) (has_idle settling t s.memory s.durable) (ap (λ l. is_due_where l (nat_lt 0 count || has_idle settling t s.memory s.durable)) (sym runs) ∙ h) in
     (a.0, idle-parts settling t s.memory s.durable a.1)
+
+stopped-due : (settling : Bool) (t : TargetPlan) (s : TargetState) (count : ℕ) → is_target_due settling t s count ≡ false → s.life ≡ Stopped → ⊥
+stopped-due settling t s count h stopped =
+    let is : true ≡ false = ap (λ l. is_due_where l (nat_lt 0 count || has_idle settling t s.memory s.durable)) (sym stopped) ∙ h in
+    let no : ⊥ = cc in no
 
 -- ---- worlds
 
@@ -112,15 +119,16 @@ quiet-has-ended r w lists quiet = record {
   to_clients = λ n l within i to.
       let c = at-within w.clients n (subst (λ m. n < m) (sym lists) within) in
       none-to (client n) w.messages (client-parts (client_plan r n) c.0 (count_to (client n) w.messages) (client-quiet true r w quiet n c.0 c.1)).1 l i to;
-  to_targets = λ t l within i to. let s = at-within w.targets t within in none-to (target t) w.messages (none-idle t s.0 s.1).0 l i to;
+  to_targets = λ t s l here runs i to. none-to (target t) w.messages (none-idle t s here runs).0 l i to;
   clients = λ n c here. one-true (waits c) (is_done (client_plan r n) c) (client-parts (client_plan r n) c (count_to (client n) w.messages) (client-quiet true r w quiet n c here)).2;
-  settled = λ t s here. none-left s.memory.leader.decided (none-idle t s here).1.settled;
-  told = λ t s here. (none-idle t s here).1.told;
-  inquired = λ t s here. (none-idle t s here).1.inquired;
+  none_stopped = λ t s here stopped. stopped-due true (target_plan r t) s (count_to (target t) w.messages) (target-quiet true r w quiet t s here) stopped;
+  settled = λ t s here runs. none-left s.memory.leader.decided (none-idle t s here runs).1.settled;
+  told = λ t s here runs. (none-idle t s here runs).1.told;
+  inquired = λ t s here runs. (none-idle t s here runs).1.inquired;
 }
   where
-    none-idle : (t : ℕ) (s : TargetState) → slice_get w.targets t ≡ Some s → (nat_lt 0 (count_to (target t) w.messages) ≡ false) × HasNoneIdle true (target_plan r t) s.memory s.durable
-    none-idle t s here = target-parts true (target_plan r t) s (count_to (target t) w.messages) (target-quiet true r w quiet t s here)
+    none-idle : (t : ℕ) (s : TargetState) → slice_get w.targets t ≡ Some s → s.life ≡ Running → (nat_lt 0 (count_to (target t) w.messages) ≡ false) × HasNoneIdle true (target_plan r t) s.memory s.durable
+    none-idle t s here runs = target-parts true (target_plan r t) s (count_to (target t) w.messages) (target-quiet true r w quiet t s here) runs
 
 pub quiet-skips-none : QuietSkipsNone
 quiet-skips-none settling r w n c quiet here =

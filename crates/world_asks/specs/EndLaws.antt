@@ -28,6 +28,7 @@ use Rattle.world_attempts.specs.Attempts.{Attempts, IsItsEntry, IsOther, asking,
 use Rattle.world_attempts.specs.History.{History}
 use Rattle.world_attempts.specs.MemberBits.{has-none, is-other_same, other-no_leader}
 use Rattle.world_attempts.specs.Stored.{row-found}
+use Rattle.world_base.specs.declared.target.Life.TheVariants.{Running}
 use Rattle.world_base.specs.declared.target.TargetState.{TargetState}
 use Rattle.world_base.specs.declared.world.World.{World}
 use Rattle.world_base.specs.Ended.{HasEnded}
@@ -76,7 +77,7 @@ asked-row me qs e off open' led = by (row_of inquiry_attempt e.attempt qs) refl
 
 -- ---- the world
 
-module _ (r : Rules) (h : History) (w : World) (A : Attempts r h w) (K : Asks r h w) (E : HasEnded r w) (none : w.messages ≡ []) where
+module _ (r : Rules) (h : History) (w : World) (A : Attempts r h w) (K : Asks r h w) (E : HasEnded r w) (run : (t : ℕ) (s : TargetState) → slice_get w.targets t ≡ Some s → s.life ≡ Running) (none : w.messages ≡ []) where
   nothing-asked : (m : ℕ) (x : AttemptId) → asking x m w ≡ 0
   nothing-asked m x = ap (count (is_asking x m)) none
 
@@ -111,7 +112,7 @@ module _ (r : Rules) (h : History) (w : World) (A : Attempts r h w) (K : Asks r 
         unknown : is_known_at w (leader_of r e.attempt) e.attempt ≡ true → ⊥
         unknown known =
             let some : is_known_in (Some s) e.attempt ≡ true = ap (λ o. is_known_in o e.attempt) (sym here) ∙ ap (λ n. is_known_at w n e.attempt) leads ∙ known in
-            let empty : is_among e.attempt [] ≡ true = ap (is_among e.attempt) (sym (E.settled t s here)) ∙ some in
+            let empty : is_among e.attempt [] ≡ true = ap (is_among e.attempt) (sym (E.settled t s here (run t s here))) ∙ some in
             (let no : ⊥ = cc in no)
 
         by : (b : Bool) → e.committed ≡ b → b ≡ true
@@ -134,7 +135,7 @@ module _ (r : Rules) (h : History) (w : World) (A : Attempts r h w) (K : Asks r 
         among = (has-from_filter (is_other_member (first_entry r e.attempt (record { 0 = 0 }))) all_targets m other).0
 
         due : is_due_to s.memory.leader.down s.memory.leader.named (filter (is_led t) s.durable.entries) m ≡ false
-        due = none-passes (is_due_to s.memory.leader.down s.memory.leader.named (filter (is_led t) s.durable.entries)) all_targets m (E.told t s here) among
+        due = none-passes (is_due_to s.memory.leader.down s.memory.leader.named (filter (is_led t) s.durable.entries)) all_targets m (E.told t s here (run t s here)) among
 
         up : has_target s.memory.leader.down m ≡ false
         up = ap (λ n. has_target n m) (K.rows.up t s here) ∙ has-none m
@@ -192,7 +193,7 @@ module _ (r : Rules) (h : History) (w : World) (A : Attempts r h w) (K : Asks r 
         by : (b : Bool) → e.committed ≡ b → b ≡ true
         by true is = refl
         by false is =
-            let row = asked-row t s.memory.member.inquiries e (none-passes (is_to_inquire t s.memory.member.inquiries) s.durable.entries e (E.inquired t s here) i) is led in
+            let row = asked-row t s.memory.member.inquiries e (none-passes (is_to_inquire t s.memory.member.inquiries) s.durable.entries e (E.inquired t s here (run t s here)) i) is led in
             let among = found-has (is_row_of inquiry_attempt e.attempt) s.memory.member.inquiries row.0 row.1 in
             let same = same-is row.0.attempt e.attempt (found-passes (is_row_of inquiry_attempt e.attempt) s.memory.member.inquiries row.0 row.1) in
             sym is ∙ inquired-settled e i row.0 same (K.inquiries.rows t s row.0 here among)
@@ -213,4 +214,4 @@ module _ (r : Rules) (h : History) (w : World) (A : Attempts r h w) (K : Asks r 
         empty-rows (u ∷ us) is = absurd (no-row t u.attempt u (ap (λ o. row_in o u.attempt) here ∙ ap (row_of undecided_attempt u.attempt) is ∙ own-row u us))
 
 pub ends-settled : EndsSettled
-ends-settled r h w A K E none t s here = settled-at r h w A K E none t s here
+ends-settled r h w A K E run none t s here = settled-at r h w A K E run none t s here

@@ -6,6 +6,7 @@ use Rattle.dtx_base.specs.Members.{has_target}
 use Rattle.world_asks.specs.Asks.{Asks}
 use Rattle.world_attempts.specs.Attempts.{Attempts, IsOther}
 use Rattle.world_attempts.specs.History.{History}
+use Rattle.world_base.specs.declared.target.Life.TheVariants.{Running}
 use Rattle.world_base.specs.declared.target.TargetState.{TargetState}
 use Rattle.world_base.specs.declared.world.World.{World}
 use Rattle.world_base.specs.Ended.{HasEnded}
@@ -19,6 +20,6 @@ pub record IsSettledAt (r : Rules) (t : ℕ) (s : TargetState) : Type 0 where
   pub undecided : s.memory.leader.undecided ≡ []
   pub parked : s.memory.member.parked ≡ []
 
--- where a run has ended and no message is in flight, nothing is left to settle at any target
+-- where a run has ended in which all targets run, and no message is in flight, nothing is left to settle at any target
 abbrev pub EndsSettled : Type 0
-EndsSettled = (r : Rules) (h : History) (w : World) → Attempts r h w → Asks r h w → HasEnded r w → w.messages ≡ [] → (t : ℕ) (s : TargetState) → slice_get w.targets t ≡ Some s → IsSettledAt r t s
+EndsSettled = (r : Rules) (h : History) (w : World) → Attempts r h w → Asks r h w → HasEnded r w → ((t : ℕ) (s : TargetState) → slice_get w.targets t ≡ Some s → s.life ≡ Running) → w.messages ≡ [] → (t : ℕ) (s : TargetState) → slice_get w.targets t ≡ Some s → IsSettledAt r t s

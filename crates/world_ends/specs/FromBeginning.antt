@@ -5,6 +5,7 @@ use Rattle.std.proofs.lemmas.Bool.Decides.{nat_tests}
 use Rattle.base_types.specs.declared.epoch.Epoch.{Epoch}
 use Rattle.base_types.specs.declared.id.AttemptId.{AttemptId}
 use Rattle.base_types.specs.declared.report.Attempt.{Attempt}
+use Rattle.model_laws.specs.Lists.{at-within}
 use Rattle.model_laws.specs.Members.{contains-from_has, has-from_contains}
 use Rattle.base_messages.specs.declared.actor.ActorId.{ActorId}
 use Rattle.base_messages.specs.declared.message.Message.{Message}
@@ -132,10 +133,12 @@ module _ (r : Rules) (o : Opening) (held : ℕ → List Version) (v : World) (k 
     where
       nowhere : (l : Letter) → Contains v.messages l → IsClient (crowd r.script) l.to ⊎ IsTarget (crowd r.script) l.to → ⊥
       nowhere l i (inl c) = ended.to_clients c.0 l c.1 i c.2
-      nowhere l i (inr t) = ended.to_targets t.0 l (subst (λ n. t.0 < n) (sym k.carried.whole.all.facts.addressed.targets) t.1) i t.2
+      nowhere l i (inr t) =
+          let s = at-within v.targets t.0 (subst (λ n. t.0 < n) (sym k.carried.whole.all.facts.addressed.targets) t.1) in
+          ended.to_targets t.0 s.0 l s.1 (k.carried.whole.running t.0 s.0 s.1) i t.2
 
   all-settled : (t : ℕ) (s : TargetState) → slice_get v.targets t ≡ Some s → IsSettledAt r t s
-  all-settled t s here = ends-settled r k.h v k.carried.whole.all.facts.attempts k.carried.whole.all.asks ended silent t s here
+  all-settled t s here = ends-settled r k.h v k.carried.whole.all.facts.attempts k.carried.whole.all.asks ended k.carried.whole.running silent t s here
 
   none-carried : (n : ℕ) → carriers_of n v ≡ []
   none-carried n =
