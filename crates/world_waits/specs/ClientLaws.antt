@@ -211,11 +211,11 @@ counting-keeps r w n s c here k =
 -- ---- hearing
 
 -- a question goes to a target, and is about the present attempt
-record IsAbout (p : ClientPlan) (c : ClientState) (a : Present) (q : Post) : Type 0 where
-  to_target : q.to.client ≡ false
-  of_attempt : request_of q.message ≡ Some (attempt_id p c a)
+pub record IsAbout (p : ClientPlan) (c : ClientState) (a : Present) (q : Post) : Type 0 where
+  pub to_target : q.to.client ≡ false
+  pub of_attempt : request_of q.message ≡ Some (attempt_id p c a)
 
-question-about : (p : ClientPlan) (c : ClientState) (a : Present) (q : Post) → c.present ≡ Some a → IsQuestion p c q → IsAbout p c a q
+pub question-about : (p : ClientPlan) (c : ClientState) (a : Present) (q : Post) → c.present ≡ Some a → IsQuestion p c q → IsAbout p c a q
 question-about p c a q at (ItsRequest k low sent) = let i = asked-is-request p k c a q (sent-is-asked p k c a q at sent) in record { to_target = i.to_target; of_attempt = i.of_attempt }
 question-about p c a q at (ItsAsk k s f low sent commit says) =
     let i = asked-is-request p k c a s (sent-is-asked p k c a s at sent) in

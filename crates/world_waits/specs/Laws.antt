@@ -5,7 +5,8 @@ use Rattle.world_base.specs.declared.target.TargetState.{TargetState}
 use Rattle.world_base.specs.declared.world.World.{World}
 use Rattle.world_base.specs.ClientTurns.{waits}
 use Rattle.world_base.specs.Events.{ClientGoes, ClientHears, Rules, TargetHearsRightly, TargetIdles}
-use Rattle.world_base.specs.Stops.{NumbersDrawn, OpeningFails, TargetCut, TargetGivenUp, TargetOpens, swept}
+use Rattle.world_base.specs.Stops.{Happening, NumbersDrawn, OpeningFails, TargetCut, TargetGivenUp, TargetOpens, WorldEvent, swept}
+use Rattle.world_waits.specs.Premises.{LeadersKnow, RequestsAreOfClients}
 use Rattle.world_waits.specs.TargetLaws.{is_between}
 use Rattle.world_waits.specs.Waits.{Conversation, HoldsNothing}
 
@@ -50,3 +51,12 @@ SweepsKeepConversations = (r : Rules) (w : World) → Conversation r w → Conve
 -- numbers are drawn
 abbrev pub NumbersKeepConversations : Type 0
 NumbersKeepConversations = (r : Rules) (w v : World) → NumbersDrawn w v → Conversation r w → Conversation r v
+
+-- Everything that happens, where requests come from clients, and where leaders know what they lead: so also what a target hears of a client's
+-- request, and by what it answers it.
+abbrev pub HappeningsKeepConversations : Type 0
+HappeningsKeepConversations = (r : Rules) (w v : World) → RequestsAreOfClients w → LeadersKnow r w → Happening r w v → Conversation r w → Conversation r v
+
+-- and what is lost after it
+abbrev pub EventsKeepConversations : Type 0
+EventsKeepConversations = (r : Rules) (w v : World) → RequestsAreOfClients w → LeadersKnow r w → WorldEvent r w v → Conversation r w → Conversation r v

@@ -5,4 +5,15 @@ pub mod Losing
 pub mod Events
 pub mod ClientLaws
 pub mod TargetLaws
+pub mod Passing
+pub mod Parts
+pub mod RequestTurns
+pub mod LeaderTurns
+pub mod VerdictTurns
+pub mod StopTurns
+pub mod ResetTurns
+pub mod CollectionTurns
+pub mod Premises
+pub mod Heard
+pub mod Happenings
 pub mod Laws

@@ -24,7 +24,7 @@ one-no : {T : Type 0} (p : T → Bool) (x : T) → p x ≡ false → filter p (x
 one-no p x h = filter-no p x [] h
 
 -- what is held of a question is held by the target that was asked
-held-there : (q : Post) (x : Held) → HoldsIt q x → q.to ≡ target (holder x)
+pub held-there : (q : Post) (x : Held) → HoldsIt q x → q.to ≡ target (holder x)
 held-there q x (ARead t ask f e to asked own it) = to
 held-there q x (ItsWrites t f to asked) = to
 held-there q x (AnAsk t y to asked) = to

@@ -56,7 +56,7 @@ AreBetween posts = (q : Post) → Has q posts → q.to.client ≡ false
 -- ---- what is without an answer
 
 -- the first that passes goes, and it is none of those that are looked at
-filter-without : {T : Type 0} (p b : T → Bool) (xs : List T) → ((x : T) → p x ≡ true → b x ≡ false) → filter b (without_first p xs) ≡ filter b xs
+pub filter-without : {T : Type 0} (p b : T → Bool) (xs : List T) → ((x : T) → p x ≡ true → b x ≡ false) → filter b (without_first p xs) ≡ filter b xs
 filter-without p b [] apart = refl
 filter-without {T} p b (x ∷ xs) apart = by (filter-without p b xs apart) (p x) refl
   where

@@ -1,7 +1,7 @@
 // What carries what clients wait for, where targets may stop and open again.
 #![tactic(auto)]
 
-ghost use Rattle.world_waits.specs.Laws.{ClientsKeepConversations, ConversationsBegin, CutsKeepConversations, FailuresKeepConversations, GivingUpKeepsConversations, IdleWorkKeepsConversations, NumbersKeepConversations, OpeningsKeepConversations, OthersKeepConversations, SweepsKeepConversations};
+ghost use Rattle.world_waits.specs.Laws.{ClientsKeepConversations, ConversationsBegin, CutsKeepConversations, EventsKeepConversations, FailuresKeepConversations, GivingUpKeepsConversations, HappeningsKeepConversations, IdleWorkKeepsConversations, NumbersKeepConversations, OpeningsKeepConversations, OthersKeepConversations, SweepsKeepConversations};
 
 /// Says what carries what clients wait for, where targets may stop, and where snapshots and aggregates are
 /// made. Of a client that waits, beside the letters that tell a tracker, just one thing goes about: what it
@@ -13,8 +13,9 @@ ghost use Rattle.world_waits.specs.Laws.{ClientsKeepConversations, Conversations
 /// what clients do keeps it so, also where they hear that what they asked was lost; and so do the idle
 /// work of targets, what they hear from one another of attempts to prepare, marks and questions, a stop
 /// anywhere in a turn, an opening, a failed one, a target that is given up, what is lost then, and numbers
-/// that are drawn. What targets hear of clients' requests, and by what they answer them, isn't treated here
-/// yet.
+/// that are drawn. So does everything that happens, with what targets hear of clients' requests and by what
+/// they answer them, where requests come from clients, where rows stand once and each attempt that is led
+/// and open has one, and where what goes to a target tells what became of others' attempts alone.
 pub fn laws_of_waits()
     ensures begin { ConversationsBegin }
     ensures clients { ClientsKeepConversations }
@@ -26,4 +27,6 @@ pub fn laws_of_waits()
     ensures given_up { GivingUpKeepsConversations }
     ensures swept { SweepsKeepConversations }
     ensures numbers { NumbersKeepConversations }
+    ensures happening { HappeningsKeepConversations }
+    ensures event { EventsKeepConversations }
 {}

@@ -1,0 +1,53 @@
+-- What else holds of the world, of which the fact of conversations makes use. Other crates prove it.
+use Rattle.std.specs.Prelude.{ℕ, ◌≡◌, Bool, true, false, is_some, slice_get, Some}
+use Rattle.base_messages.specs.declared.message.Message.{Message, more_of-Message}
+use Rattle.base_messages.specs.declared.message.Message.TheVariants as message
+use Rattle.daos_model.specs.Ordered.{is_rising}
+use Rattle.dtx_base.specs.Leading.{undecided_attempt}
+use Rattle.dtx_base.specs.Rows.{row_key}
+use Rattle.model_laws.specs.Members.{Has}
+use Rattle.world_base.specs.declared.letter.Letter.{Letter}
+use Rattle.world_base.specs.declared.target.Collection.{Collection}
+use Rattle.world_base.specs.declared.target.Life.TheVariants.{Running}
+use Rattle.world_base.specs.declared.target.TargetState.{TargetState}
+use Rattle.world_base.specs.declared.world.World.{World}
+use Rattle.world_base.specs.Events.{Rules, target_plan}
+use Rattle.world_base.specs.Letters.{target}
+use Rattle.world_base.specs.RightTurns.{TellsOfOthers}
+use Rattle.world_waits.specs.StopTurns.{OpenHasRow}
+
+-- ---- requests
+
+-- what a client asks a target
+abbrev pub is_request : Message → Bool
+is_request (message.Fetch x op group ep first tracker r snapshot) = true
+is_request (message.Commit x ep first tracker ws) = true
+is_request (message.Ask x) = true
+is_request (message.Snap x cont name tracker) = true
+is_request (message.Prune x cont tracker e) = is_some tracker
+is_request m = false
+
+-- that it got no answer
+abbrev pub is_lost_request : Message → Bool
+is_lost_request (message.Reset' t down place (more_of-Message q rest)) = is_request q
+is_lost_request m = false
+
+-- a request comes from a client, and the news that it got no answer goes to one
+pub record IsSentSo (l : Letter) : Type 0 where
+  pub request : is_request l.message ≡ true → l.from.client ≡ true
+  pub lost : is_lost_request l.message ≡ true → l.to.client ≡ true
+
+-- so it is of all letters; and what is collected is collected for clients
+pub record RequestsAreOfClients (w : World) : Type 0 where
+  pub letters : (l : Letter) → Has l w.messages → IsSentSo l
+  pub asked : (l : Letter) → Has l w.asked → IsSentSo l
+  pub collecting : (t : ℕ) (s : TargetState) (c : Collection) → slice_get w.targets t ≡ Some s → Has c s.memory.collecting → c.client.client ≡ true
+
+-- ---- leaders
+
+-- Rows stand in the order of attempts, so none stands twice; while a target runs, each attempt that it leads, whose entry isn't committed
+-- and that it doesn't know as decided, has one; and what goes to it tells what became of others' attempts alone.
+pub record LeadersKnow (r : Rules) (w : World) : Type 0 where
+  pub rows : (t : ℕ) (s : TargetState) → slice_get w.targets t ≡ Some s → is_rising (row_key undecided_attempt) s.memory.leader.undecided ≡ true
+  pub opened : (t : ℕ) (s : TargetState) → slice_get w.targets t ≡ Some s → s.life ≡ Running → OpenHasRow (target_plan r t) s.memory s.durable
+  pub others : (l : Letter) (t : ℕ) (s : TargetState) → Has l w.messages → l.to ≡ target t → slice_get w.targets t ≡ Some s → TellsOfOthers t s.memory.leader s.durable l.message
