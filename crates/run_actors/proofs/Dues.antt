@@ -38,6 +38,13 @@ pub silent : (c : ClientState) (count heard : ℕ) → heard ≡ heard_awake c c
 silent c count heard is none = none-heard (heard_awake c count) heard is none
 
 -- where no letter is in flight to a target, it has something to do where it has idle work
+-- where a letter is in flight to it, it has something to do
+pub letters-due : (count n : ℕ) (idle : Bool) → n ≡ count → 0 < n → nat_lt 0 n ≡ (nat_lt 0 count || idle)
+letters-due count n idle is some =
+    let here : nat_lt 0 n ≡ true = grind (arith, nat_tests) in
+    let there : nat_lt 0 count ≡ true = ap (nat_lt 0) (sym is) ∙ here in
+    here ∙ ap (λ b. b || idle) (sym there)
+
 pub idle-due : (count n : ℕ) (due idle : Bool) → n ≡ count → n ≤ 0 → due ≡ idle → due ≡ (nat_lt 0 count || idle)
 idle-due count n due idle is none same = same ∙ ap (λ b. b || idle) (sym silent')
   where

@@ -1,5 +1,5 @@
 -- The actors of a run, and what lies between them, as a world that a run has reached.
-use Rattle.std.specs.Prelude.{ℕ, ◌≡◌, Bool, false, List, length, map, slice_get, Option, Some}
+use Rattle.std.specs.Prelude.{ℕ, ◌≡◌, Bool, true, false, List, length, map, slice_get, Option, Some}
 use Rattle.client_core.specs.Clients.{ClientNow}
 use Rattle.base_messages.specs.declared.actor.ActorId.{ActorId}
 use Rattle.daos_model.specs.declared.durable.Durable.{Durable}

@@ -40,6 +40,17 @@ none-down : (p : TargetPlan) (m : TargetMemory) (x : AttemptId) (ep first : Opti
 unfolding first_down
 none-down p m x ep first tracker ws e up = none-among all_targets (led_entry p (commit_request x ep first tracker ws) e).members m.leader.down up
 
+-- what leaders and members tell each other where nothing stops, and a Fetch, is heard alike whatever is known to be down
+abbrev pub is_heard_alike : Message → Bool
+is_heard_alike (message.Fetch x op group ep first tracker read snapshot) = true
+is_heard_alike (message.Prepare e first ws inc) = true
+is_heard_alike (message.Ack x inc refusal) = true
+is_heard_alike (message.Mark inc marks) = true
+is_heard_alike (message.Marked inc ids) = true
+is_heard_alike (message.Query x ask) = true
+is_heard_alike (message.Verdict x ask inc v) = true
+is_heard_alike q = false
+
 module _ (number : ℕ) (p : TargetPlan) (opening : Epoch × FloorWhy) (m : TargetMemory) (reading : ℕ) (from : ActorId) (old new : Kept) (left : TargetMemory × Did) where
   -- a Commit is heard in steps of its kind, however it ends
   pub commit-heard : (x : AttemptId) (ep first : Option Epoch) (tracker : Epoch) (ws : List MinorWrite) → Heard number p opening m reading from (message.Commit x ep first tracker ws) old new left
@@ -47,19 +58,17 @@ module _ (number : ℕ) (p : TargetPlan) (opening : Epoch × FloorWhy) (m : Targ
   commit-heard x ep first tracker ws (Plainly none w) = (w.last, w.reached)
   commit-heard x ep first tracker ws (Further w) = (w.last, w.reached)
 
-  -- what leaders and members tell, and a Fetch, is heard as where nothing stops
-  pub fetch-heard : (q : Message) → HasForm p q → ((x : AttemptId) (ep first : Option Epoch) (tracker : Epoch) (ws : List MinorWrite) → q ≡ message.Commit x ep first tracker ws → ⊥) → Heard number p opening m reading from q old new left
-      → Hears p opening m reading from q old new left
-  fetch-heard q form other (Plainly none w) = w
-  fetch-heard (message.Commit x ep first tracker ws) form other (Further w) = absurd (other x ep first tracker ws refl)
-  fetch-heard (message.Fetch x op group ep first tracker read snapshot) form other (Further w) = absurd w
-  fetch-heard (message.Prepare e first ws inc) form other (Further w) = absurd w
-  fetch-heard (message.Ack x inc refusal) form other (Further w) = absurd w
-  fetch-heard (message.Mark inc marks) form other (Further w) = absurd w
-  fetch-heard (message.Marked inc ids) form other (Further w) = absurd w
-  fetch-heard (message.Query x ask) form other (Further w) = absurd w
-  fetch-heard (message.Verdict x ask inc v) form other (Further w) = absurd w
-  fetch-heard q form other (Further w) = absurd form
+  -- what isn't a Commit is heard as where nothing stops
+  pub heard-alike : (q : Message) → is_heard_alike q ≡ true → Heard number p opening m reading from q old new left → Hears p opening m reading from q old new left
+  heard-alike q alike (Plainly none w) = w
+  heard-alike (message.Fetch x op group ep first tracker read snapshot) alike (Further w) = absurd w
+  heard-alike (message.Prepare e first ws inc) alike (Further w) = absurd w
+  heard-alike (message.Ack x inc refusal) alike (Further w) = absurd w
+  heard-alike (message.Mark inc marks) alike (Further w) = absurd w
+  heard-alike (message.Marked inc ids) alike (Further w) = absurd w
+  heard-alike (message.Query x ask) alike (Further w) = absurd w
+  heard-alike (message.Verdict x ask inc v) alike (Further w) = absurd w
+  heard-alike q alike (Further w) = let no : ⊥ = cc in absurd no
 
   -- and so is every message without stops, where no target is known to be down
   pub plainly-heard : (q : Message) → HasForm p q → m.leader.down ≡ 0 → Heard number p opening m reading from q old new left → Hears p opening m reading from q old new left

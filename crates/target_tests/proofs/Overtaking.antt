@@ -26,7 +26,9 @@ use Rattle.world_base.specs.Prepares as stage
 use Rattle.world_base.specs.Prepares.{PrepareNext, PrepareStage}
 use Rattle.world_base.specs.Roles.{is_prepared}
 use Rattle.world_base.specs.TargetTurns.{prepare_request}
+use Rattle.target_core.specs.HeardLaws.{heard-alike}
 use Rattle.target_core.specs.Targets.{CanHear, HasForm, HearsOrStops}
+use Rattle.target_parts.specs.Parts.{kept}
 use Rattle.target_tests.specs.Overtaken.{IsNew, entry, fetch, mark, own_write, prepare, second, writer}
 use Rattle.target_tests.specs.Rows.{IsHere}
 use Rattle.target_writes.specs.CheckLaws.{new-at}
@@ -78,7 +80,8 @@ pub mark_turn : (t : TargetPlan) (m : TargetMemory) (reading : ℕ) (from : Acto
     → message ≡ mark → HearsOrStops t m reading from message d h new k finds left (Ok did) → IsNew d → (x : Durable) × (new ≡ Some x) × IsNew x
 mark_turn t m reading from message d h k new finds left did is turn n =
     let now = subst (λ x. HearsOrStops t m reading from x d h new k finds left (Ok did)) is turn in
-    (now.durable, now.kept_is, reached-keeps (MarkNext is_prepared) (λ s y. IsNew y.durable) next_mark _ _ _ _ now.holds.reached n)
+    let heard = heard-alike 0 t h.opening m reading from (kept d h) (kept now.durable k) (left, did) mark refl (now.holds 0) in
+    (now.durable, now.kept_is, reached-keeps (MarkNext is_prepared) (λ s y. IsNew y.durable) next_mark _ _ _ _ heard.reached n)
 
 -- ---- a Prepare
 
@@ -110,4 +113,5 @@ pub prepare_turn : (t : TargetPlan) (m : TargetMemory) (reading : ℕ) (from : A
     → message ≡ prepare → HearsOrStops t m reading from message d h new k finds left (Ok did) → IsNew d → (x : Durable) × (new ≡ Some x) × IsHere x
 prepare_turn t m reading from message d h k new finds left did is turn n =
     let now = subst (λ x. HearsOrStops t m reading from x d h new k finds left (Ok did)) is turn in
-    (now.durable, now.kept_is, here_standing now.holds.last (record { durable = now.durable; free = k.free }) (reached-keeps (PrepareNext t h.opening m the_request) Standing (next_prepare t h.opening m) _ _ _ _ now.holds.reached n))
+    let heard = heard-alike 0 t h.opening m reading from (kept d h) (kept now.durable k) (left, did) prepare refl (now.holds 0) in
+    (now.durable, now.kept_is, here_standing heard.last (record { durable = now.durable; free = k.free }) (reached-keeps (PrepareNext t h.opening m the_request) Standing (next_prepare t h.opening m) _ _ _ _ heard.reached n))

@@ -1,5 +1,5 @@
 // A row over the second of two targets: a Mark overtakes the Prepare of its attempt.
-ghost use Rattle.std.specs.Prelude.{◌≡◌, ◌≤◌, IfOk, OnOk, false};
+ghost use Rattle.std.specs.Prelude.{◌≡◌, ◌≤◌, IfOk, OnOk, false, true};
 ghost use Rattle.std.specs.Option.{ForSome};
 ghost use Rattle.target_tests.specs.Overtaken.{IsNew, akey, entry, fetch, mark, prepare, reader, second, verdict, writer};
 ghost use Rattle.target_tests.specs.Rows.{IsHere, IsNeverUsed};
@@ -147,9 +147,11 @@ pub const READER: ActorId = ActorId {
 // The second target hears the Mark before anything else: nothing is written after it.
 fn hear_mark<S: Store, C: Clock>(alloc: Global, target: &mut Target<S, C>) -> Result<Did, StepNo>
     requires plan { target.old.plan ≡ second }
+    requires opened { target.old.opened ≡ true }
     requires runs { (S.state target.old.store).stopped ≡ false }
     requires new { ForSome (S.durable target.old.store) IsNew }
     ensures plan { OnOk result (target.new.plan ≡ second) }
+    ensures opened { OnOk result (target.new.opened ≡ true) }
     ensures runs { OnOk result ((S.state target.new.store).stopped ≡ false) }
     ensures new { OnOk result (ForSome (S.durable target.new.store) IsNew) }
 {
@@ -160,8 +162,10 @@ fn hear_mark<S: Store, C: Clock>(alloc: Global, target: &mut Target<S, C>) -> Re
 // It hears the Prepare.
 fn hear_prepare<S: Store, C: Clock>(alloc: Global, target: &mut Target<S, C>) -> Result<Did, StepNo>
     requires plan { target.old.plan ≡ second }
+    requires opened { target.old.opened ≡ true }
     requires runs { (S.state target.old.store).stopped ≡ false }
     requires new { ForSome (S.durable target.old.store) IsNew }
+    ensures opened { OnOk result (target.new.opened ≡ true) }
     ensures runs { OnOk result ((S.state target.new.store).stopped ≡ false) }
     ensures here { OnOk result (ForSome (S.durable target.new.store) IsHere) }
 {
@@ -171,8 +175,10 @@ fn hear_prepare<S: Store, C: Clock>(alloc: Global, target: &mut Target<S, C>) ->
 
 // It hears the read.
 fn hear_fetch<S: Store, C: Clock>(alloc: Global, target: &mut Target<S, C>) -> Result<Did, StepNo>
+    requires opened { target.old.opened ≡ true }
     requires runs { (S.state target.old.store).stopped ≡ false }
     requires here { ForSome (S.durable target.old.store) IsHere }
+    ensures opened { OnOk result (target.new.opened ≡ true) }
     ensures runs { OnOk result ((S.state target.new.store).stopped ≡ false) }
 {
     let message = fetch(alloc)?;
@@ -181,6 +187,7 @@ fn hear_fetch<S: Store, C: Clock>(alloc: Global, target: &mut Target<S, C>) -> R
 
 // It hears the Verdict.
 fn hear_verdict<S: Store, C: Clock>(target: &mut Target<S, C>) -> Result<Did, StepNo>
+    requires opened { target.old.opened ≡ true }
     requires runs { (S.state target.old.store).stopped ≡ false }
 {
     Ok(target.hear(LEADER, verdict(), None)?)

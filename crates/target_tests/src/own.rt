@@ -1,5 +1,5 @@
 // A row over the first of two targets: it is told what became of an attempt that it leads itself.
-ghost use Rattle.std.specs.Prelude.{◌≡◌, ◌≤◌, IfOk, OnOk, false};
+ghost use Rattle.std.specs.Prelude.{◌≡◌, ◌≤◌, IfOk, OnOk, false, true};
 ghost use Rattle.std.specs.Option.{ForSome};
 ghost use Rattle.target_tests.specs.Overtaken.{IsNew};
 ghost use Rattle.target_tests.specs.Own.{IsOfBegun, first, led, request, shared};
@@ -148,8 +148,10 @@ pub const STRANGER: ActorId = ActorId {
 // The first target hears the Commit before anything else.
 fn hear_request<S: Store, C: Clock>(alloc: Global, target: &mut Target<S, C>) -> Result<Did, StepNo>
     requires plan { target.old.plan ≡ first }
+    requires opened { target.old.opened ≡ true }
     requires runs { (S.state target.old.store).stopped ≡ false }
     requires new { ForSome (S.durable target.old.store) IsNew }
+    ensures opened { OnOk result (target.new.opened ≡ true) }
     ensures runs { OnOk result ((S.state target.new.store).stopped ≡ false) }
 {
     let message = request(alloc)?;
@@ -162,8 +164,10 @@ fn hear_told<S: Store, C: Clock>(
     from: ActorId,
     message: Message,
 ) -> Result<Did, StepNo>
+    requires opened { target.old.opened ≡ true }
     requires runs { (S.state target.old.store).stopped ≡ false }
     requires told { IsOfBegun message }
+    ensures opened { OnOk result (target.new.opened ≡ true) }
     ensures runs { OnOk result ((S.state target.new.store).stopped ≡ false) }
 {
     Ok(target.hear(from, message, None)?)
@@ -171,6 +175,7 @@ fn hear_told<S: Store, C: Clock>(
 
 // It does its idle work, before the settling phase.
 fn idle<S: Store, C: Clock>(target: &mut Target<S, C>) -> Result<Did, StepNo>
+    requires opened { target.old.opened ≡ true }
     requires runs { (S.state target.old.store).stopped ≡ false }
 {
     Ok(target.idle(false)?)

@@ -1,5 +1,5 @@
 // A target of the tests, over any store and clock.
-ghost use Rattle.std.specs.Prelude.{◌≡◌, ◌<◌, ◌≤◌, IfOk, false};
+ghost use Rattle.std.specs.Prelude.{◌≡◌, ◌<◌, ◌≤◌, IfOk, false, true};
 ghost use Rattle.std.specs.Option.{ForSome};
 ghost use Rattle.target_tests.specs.Rows.{IsBlank, IsHere, IsNeverUsed};
 
@@ -52,6 +52,7 @@ pub fn start_at<S: Store + Drop, C: Clock + Drop>(
     requires made { targets ≤ (S.state store).targets }
     requires new { IsNeverUsed (S.state store) (S.durable store) }
     ensures plan { IfOk result (λ t. t.plan ≡ record { me = me; targets = targets; epsilon = 0 }) }
+    ensures opened { IfOk result (λ t. t.opened ≡ true) }
     ensures runs { IfOk result (λ t. (S.state t.store).stopped ≡ false) }
     ensures here { IfOk result (λ t. ForSome (S.durable t.store) IsHere) }
     ensures blank { IfOk result (λ t. ForSome (S.durable t.store) IsBlank) }

@@ -1,10 +1,13 @@
-use Rattle.std.proofs.Common.{subst, sym}
+use Rattle.std.proofs.Common.{inl, subst, sym}
 use Rattle.std.specs.Option.{ForSome}
-use Rattle.target_core.specs.Targets.{CanHear}
+use Rattle.target_core.specs.Targets.{CanHear, HasForm}
 use Rattle.target_parts.specs.Running.{for_some_on}
 use Rattle.target_tests.specs.Overtaken.{IsNew}
 use Rattle.target_tests.proofs.Overtaking.{mark_turn}
 use Rattle.target_tests.proofs.overtaken.hear_mark.Goals as goal
+
+pub hear-requires-clause-form : goal.hear-requires-clause-form
+hear-requires-clause-form g c = inl (subst (HasForm c.args.target.now.plan) (sym c.in_ok-message.ensures) tt)
 
 pub hear-requires-clause-here : goal.hear-requires-clause-here
 hear-requires-clause-here g c =

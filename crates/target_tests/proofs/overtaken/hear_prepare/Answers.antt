@@ -1,4 +1,4 @@
-use Rattle.std.proofs.Common.{subst, sym}
+use Rattle.std.proofs.Common.{inl, subst, sym}
 use Rattle.std.specs.Option.{ForSome}
 use Rattle.target_core.specs.Targets.{CanHear, HasForm}
 use Rattle.target_parts.specs.Running.{for_some_on}
@@ -9,7 +9,7 @@ use Rattle.target_tests.proofs.overtaken.hear_prepare.Goals as goal
 
 pub hear-requires-clause-form : goal.hear-requires-clause-form
 hear-requires-clause-form g c =
-    subst (λ t. HasForm t c.in_ok-message.message) (sym c.requires.plan) (subst (HasForm second) (sym c.in_ok-message.ensures) prepare_in_form)
+    inl (subst (λ t. HasForm t c.in_ok-message.message) (sym c.requires.plan) (subst (HasForm second) (sym c.in_ok-message.ensures) prepare_in_form))
 
 pub hear-requires-clause-here : goal.hear-requires-clause-here
 hear-requires-clause-here g c =
