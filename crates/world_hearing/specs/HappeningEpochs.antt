@@ -175,7 +175,7 @@ module _ (r : Rules) (U : Unsnapped r) (top : ℕ) (w v : World) (talk : TalksOn
         let tells = hearing-cut-tells number (target_plan r g.t) g.s.opening g.s.memory reading l.from (message.Commit x ep first tracker ws) (kept g.s) g.cut ours turn in
         let so = hearing-cut-kept Any (target_plan r g.t) g.s.opening g.s.memory reading l.from (kept g.s) (known-all Any g.s.durable.entries (λ e i. tt)) number (message.Commit x ep first tracker ws) g.cut ours (λ e. tt) turn in
         let k = commit-cut w (target_plan r g.t) g.s.opening g.s.memory reading (commit_request x ep first tracker ws) own g.t (kept g.s) g.cut (known-all (λ y f. Contains w.issued (y, f)) g.s.durable.entries (λ e i. E.entered g.t g.s e g.here i))
-                (commit-is-cut (target_plan r g.t) g.s.opening g.s.memory reading (commit_request x ep first tracker ws) (kept g.s) g.cut turn) in
+        (commit-is-cut (target_plan r g.t) g.s.opening g.s.memory reading (commit_request x ep first tracker ws) (kept g.s) g.cut turn) in
         request-cut x ep tracker asks k.issues tells.silent so.lease k.known
       where
         asks : ep ≡ None → AsksEpoch l.message x tracker

@@ -22,7 +22,7 @@ use Rattle.world_base.specs.declared.world.World.{World}
 use Rattle.world_base.specs.Changes.{Kept}
 use Rattle.world_base.specs.Events.{ByClient, ByTarget, Rules, ToClient, ToTarget, kept, target_plan}
 use Rattle.world_base.specs.Letters.{target}
-use Rattle.world_base.specs.Stops.{AtWork, CutOf, Draws, Fails, Further, GivenUp, Happening, Hearing, IdleWork, IsCut, IsInHand, Opens, Plainly, swept}
+use Rattle.world_base.specs.Stops.{AtWork, CutOf, Draws, Fails, Further, GivenUp, Happening, Hearing, IdleWork, IsCut, IsInHand, Opens, Plainly, WorldEvent, swept}
 use Rattle.world_epochs.specs.Sayings.{AreKnown, Known, known-all, known-each}
 use Rattle.world_fates.specs.Facts.{IsSaidSo}
 use Rattle.world_reads.specs.EventLaws.{at-or-there}
@@ -32,6 +32,10 @@ use Rattle.world_stops.specs.CutEvents.{IsWithoutSnapshots}
 use Rattle.world_hearing.specs.Going.{Before, EntriesWrite}
 use Rattle.world_hearing.specs.PlainTurns.{others-write}
 use Rattle.world_hearing.specs.Storing.{BringsKnown, KeptSo, further-kept, hearing-cut-kept, hears-kept, idle-cut-kept, idle-kept}
+
+-- so it stays, whatever happens but for what is heard of snapshots and aggregation
+abbrev pub EventsKeepEntries : Type 0
+EventsKeepEntries = (r : Rules) (o : Opening) (held : ℕ → List Version) (h : History) (w v : World) → Before r o held h w → (e : WorldEvent r w v) → HappensWithoutSnapshots e.happens → EntriesWrite r v
 
 -- an attempt that writes something, at whatever epoch
 abbrev Writes : Rules → Known
@@ -98,3 +102,6 @@ entries-write r o held h w v b (Opens g) ours = same-set r w v b.writes g.t g.s 
 entries-write r o held h w v b (Fails g) ours = same-set r w v b.writes g.t g.s _ g.here (ap (λ u. u.targets) g.after) (elim g.left [ inl is ↦ ap (λ d. d.entries) is | inr is ↦ ap (λ d. d.entries) is ∙ reopened-entries g.s.durable ])
 entries-write r o held h w v b (GivenUp g) ours = same-set r w v b.writes g.t g.s _ g.here (ap (λ u. u.targets) g.after) refl
 entries-write r o held h w v b (Draws g) ours = none-set r w v b.writes (ap (λ u. u.targets) g.after)
+
+pub events-keep-entries : EventsKeepEntries
+events-keep-entries r o held h w v b e ours t s k at i = entries-write r o held h w e.u b e.happens ours t s k (ap (λ u. slice_get u.targets t) (sym e.after) ∙ at) i
