@@ -72,7 +72,7 @@ Any x e = Unit {0}
 -- ---- conversations
 
 -- one thing goes about for a client that waits, so at most one letter
-talks-once : (r : Rules) (w : World) → Conversation r w → TalksOnce w
+pub talks-once : (r : Rules) (w : World) → Conversation r w → TalksOnce w
 talks-once r w k n c here = by (waits c) (k.talks n c here)
   where
     by : (b : Bool) → TalksSo (client_plan r n) n c (talk_of n w.messages) (held_of n w) (asked_of n w) b → AtMostOne (talk_of n w.messages) b

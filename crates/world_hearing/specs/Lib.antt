@@ -16,3 +16,6 @@ pub mod Cutting
 pub mod EpochCuts
 pub mod EpochRequests
 pub mod HappeningEpochs
+pub mod GotClients
+pub mod GotTargets
+pub mod HappeningGots
