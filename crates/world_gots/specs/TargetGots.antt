@@ -133,18 +133,33 @@ same-standing r w v clients k n c at = k n c (ap (λ cs. slice_get cs n) (sym cl
 pub same-request : (q f : FetchRequest) → fetch_message q ≡ fetch_message f → (q.attempt ≡ f.attempt) × (q.op ≡ f.op) × (q.group ≡ f.group) × (q.ep ≡ f.ep) × (q.read ≡ f.read)
 same-request q f same = (cc (same), cc (same), cc (same), cc (same), cc (same))
 
-module _ (r : Rules) (h k : History) (w v : World) (t : ToldServed r h w) (g : TargetHearsRightly r w v) where
-  -- what answers a Fetch that was heard, or that waited, answers what a client that waits has asked
-  pub record AnswersClient (q : FetchRequest) (epoch : Epoch) (b : Answer) : Type 0 where
-    pub n : ℕ
-    pub c : ClientState
-    pub a : Present
-    pub here : slice_get w.clients n ≡ Some c
-    pub present : c.present ≡ Some a
-    pub k0 : Epoch
-    pub is : AnswersAsked (client_plan r n) k g.t k0 c a q epoch b
+-- what answers a Fetch answers what a client that waits has asked
+pub record AnswersClient (r : Rules) (k : History) (w : World) (t : ℕ) (q : FetchRequest) (epoch : Epoch) (b : Answer) : Type 0 where
+  pub n : ℕ
+  pub c : ClientState
+  pub a : Present
+  pub here : slice_get w.clients n ≡ Some c
+  pub present : c.present ≡ Some a
+  pub k0 : Epoch
+  pub is : AnswersAsked (client_plan r n) k t k0 c a q epoch b
 
-  heard-asked : (q : FetchRequest) (epoch : Epoch) (b : Answer) → fetch_message q ≡ g.l.message → ((f : Epoch) → q.ep ≡ Some f → f ≡ epoch) → Has (served_at g.t q epoch b) k.served → AnswersClient q epoch b
+-- where that is this client, it was served to its attempt
+pub client-served : (r : Rules) (k : History) (w : World) (t n : ℕ) (c : ClientState) (a : Present) (q : FetchRequest) (epoch : Epoch) (b : Answer) (y : AnswersClient r k w t q epoch b) → y.n ≡ n → slice_get w.clients n ≡ Some c → c.present ≡ Some a
+    → IsServedAnswer (client_plan r n) k c a (Some epoch) b
+client-served r k w t n c a q epoch b y number here present =
+    subst (λ j. IsServedAnswer (client_plan r j) k c a (Some epoch) b) number
+    (subst (λ s. IsServedAnswer (client_plan r y.n) k s a (Some epoch) b) state
+    (subst (λ u. IsServedAnswer (client_plan r y.n) k y.c u (Some epoch) b) attempt
+    (answer-served (client_plan r y.n) k t y.k0 y.c y.a q epoch b y.is)))
+  where
+    state : y.c ≡ c
+    state = let at : slice_get w.clients n ≡ Some y.c = subst (λ j. slice_get w.clients j ≡ Some y.c) number y.here in cc (at, here)
+
+    attempt : y.a ≡ a
+    attempt = let at : c.present ≡ Some y.a = subst (λ s. s.present ≡ Some y.a) state y.present in cc (at, present)
+
+module _ (r : Rules) (h k : History) (w v : World) (t : ToldServed r h w) (g : TargetHearsRightly r w v) where
+  heard-asked : (q : FetchRequest) (epoch : Epoch) (b : Answer) → fetch_message q ≡ g.l.message → ((f : Epoch) → q.ep ≡ Some f → f ≡ epoch) → Has (served_at g.t q epoch b) k.served → AnswersClient r k w g.t q epoch b
   heard-asked q epoch b it own among =
       let i = hears-request r w g.l g.rest t.conversation g.takes (ap is_request (sym it)) in
       let says : i.q.message ≡ fetch_message q = sym (ap (λ z. z.message) i.it) ∙ sym it in
@@ -159,7 +174,7 @@ module _ (r : Rules) (h k : History) (w v : World) (t : ToldServed r h w) (g : T
       }
 
   waited-asked : (q : FetchRequest) (epoch : Epoch) (b : Answer) (p : Parked) → Has p g.s.memory.member.parked → fetch_message q ≡ p.ask → ((f : Epoch) → q.ep ≡ Some f → f ≡ epoch) → Has (served_at g.t q epoch b) k.served
-      → AnswersClient q epoch b
+      → AnswersClient r k w g.t q epoch b
   waited-asked q epoch b p i it own among =
       let z = parked-is r w g.t g.s p q.attempt.client t.conversation g.here i (ap (is_fetch_of q.attempt.client) (sym it) ∙ same_number q.attempt.client) in
       let same = same-request q (record z.f { ep = Some z.e }) (it ∙ z.it) in
@@ -182,19 +197,19 @@ module _ (r : Rules) (h k : History) (w v : World) (t : ToldServed r h w) (g : T
         };
       }
 
-  asked-by : (q : FetchRequest) (epoch : Epoch) (b : Answer) → IsAskedIn g.l.message g.s.memory.member.parked (fetch_message q) → ((f : Epoch) → q.ep ≡ Some f → f ≡ epoch) → Has (served_at g.t q epoch b) k.served → AnswersClient q epoch b
+  asked-by : (q : FetchRequest) (epoch : Epoch) (b : Answer) → IsAskedIn g.l.message g.s.memory.member.parked (fetch_message q) → ((f : Epoch) → q.ep ≡ Some f → f ≡ epoch) → Has (served_at g.t q epoch b) k.served → AnswersClient r k w g.t q epoch b
   asked-by q epoch b (Heard it) own among = heard-asked q epoch b it own among
   asked-by q epoch b (Waited p i it) own among = waited-asked q epoch b p i it own among
 
   -- an answer that is sent to a client is of what it asks
   sent-answer : AreRemembered r w v k g → (n : ℕ) (c : ClientState) (a : Present) (p : Post) (x : AttemptId) (op group : ℕ) (own : Option Epoch) (b : Answer) → slice_get w.clients n ≡ Some c → c.present ≡ Some a
       → Has p g.did.posts → p.to ≡ client n → p.message ≡ message.Fetched x op group own (reply.Answer b) → IsServedAnswer (client_plan r n) k c a own b
-  sent-answer has n c a p x op group own b here present i to it = subst (λ e. IsServedAnswer (client_plan r n) k c a e b) (sym z.told) at-client
+  sent-answer has n c a p x op group own b here present i to it = subst (λ e. IsServedAnswer (client_plan r n) k c a e b) (sym z.told) (client-served r k w g.t n c a z.q z.epoch b y number here present)
     where
       z : IsAnswered k.served g.t g.l.message g.s.memory.member.parked x op group own b
       z = has.answered p x op group own b i it
 
-      y : AnswersClient z.q z.epoch b
+      y : AnswersClient r k w g.t z.q z.epoch b
       y = asked-by z.q z.epoch b z.asked z.own z.among
 
       number : y.n ≡ n
@@ -202,19 +217,6 @@ module _ (r : Rules) (h k : History) (w v : World) (t : ToldServed r h w) (g : T
           let of_it : x.client ≡ y.n = ap (λ u. u.client) (z.attempt ∙ y.is.attempt ∙ y.is.asks.attempt) in
           let home : client n ≡ client x.client = sym to ∙ has.home p x op group own b i it in
           sym of_it ∙ sym (ap (λ u. u.number) home)
-
-      state : y.c ≡ c
-      state = let at : slice_get w.clients n ≡ Some y.c = subst (λ j. slice_get w.clients j ≡ Some y.c) number y.here in cc (at, here)
-
-      attempt : y.a ≡ a
-      attempt = let at : c.present ≡ Some y.a = subst (λ s. s.present ≡ Some y.a) state y.present in cc (at, present)
-
-      at-client : IsServedAnswer (client_plan r n) k c a (Some z.epoch) b
-      at-client =
-          subst (λ j. IsServedAnswer (client_plan r j) k c a (Some z.epoch) b) number
-          (subst (λ s. IsServedAnswer (client_plan r y.n) k s a (Some z.epoch) b) state
-          (subst (λ u. IsServedAnswer (client_plan r y.n) k y.c u (Some z.epoch) b) attempt
-          (answer-served (client_plan r y.n) k g.t y.k0 y.c y.a z.q z.epoch b y.is)))
 
 -- what is in flight once a target did something: what was left, and what it sends
 pub sent-or_left : (rest : List Letter) (from : ActorId) (posts : List Post) (l : Letter) → Contains (rest ++ letters_of from posts) l → Contains rest l ⊎ ((p : Post) × Has p posts × (letter_of from p ≡ l))

@@ -1,6 +1,6 @@
 -- A cut turn without snapshots adds no line of an attempt, and issues no epoch but where it heard a Fetch or a Commit.
-use Rattle.std.specs.Prelude.{ℕ, ◌≡◌, ◌++◌, Bool, true, false, List, [], ◌∷◌, Option, Some, None, refl}
-use Rattle.std.proofs.Common.{sym, ◌∙◌, ap, subst, inl, inr}
+use Rattle.std.specs.Prelude.{ℕ, ◌≡◌, Bool, true, false, List, [], ◌∷◌, Option}
+use Rattle.std.proofs.Common.{subst, inl, inr}
 use Rattle.base_types.specs.declared.epoch.Epoch.{Epoch}
 use Rattle.base_types.specs.declared.id.AttemptId.{AttemptId}
 use Rattle.base_types.specs.declared.outcome.FloorWhy.{FloorWhy}
@@ -14,7 +14,7 @@ use Rattle.model_laws.specs.Members.{Has, has-cases}
 use Rattle.world_base.specs.declared.target.TargetMemory.{TargetMemory}
 use Rattle.world_base.specs.declared.target.TargetPlan.{TargetPlan}
 use Rattle.world_base.specs.Changes.{Change, Creates, Extends, Freezes, Kept, Prepares, Prunes, Settles}
-use Rattle.world_base.specs.CutTurns.{CutHere, CutTurn, Cutting, HearingIsCut, IdleWorkIsCut, InChange, InQuestion, cut_line, line_of, lines_of, none_issued}
+use Rattle.world_base.specs.CutTurns.{CutHere, CutTurn, Cutting, HearingIsCut, InChange, InQuestion, cut_line, line_of, lines_of, none_issued}
 use Rattle.world_base.specs.Roles.{is_prepared}
 use Rattle.world_base.specs.TargetTurns.{commit_request}
 use Rattle.world_restarts.specs.CutLaws.{commit-is-cut}

@@ -1,9 +1,8 @@
 -- A turn is cut that may have issued an epoch: what is said of epochs stays so.
-use Rattle.std.specs.Prelude.{ℕ, ◌≡◌, ◌≤◌, ◌+◌, ◌/◌, ◌⊎◌, ◌++◌, Bool, true, false, not, List, [], ◌∷◌, Contains, filter, slice_get, Option, Some, None, refl}
-use Rattle.std.proofs.Common.{sym, ◌∙◌, ap, subst, arith, append-nil, append_assoc, inl, inr}
+use Rattle.std.specs.Prelude.{ℕ, ◌≡◌, ◌≤◌, ◌+◌, ◌⊎◌, ◌++◌, true, false, List, [], ◌∷◌, Contains, filter, slice_get, Option, Some, refl}
+use Rattle.std.proofs.Common.{sym, ◌∙◌, ap, subst, arith, append_assoc, inl, inr}
 use Rattle.std.proofs.Math.ListN.{set}
 use Rattle.std.proofs.lemmas.List.Elements.{Contains-append_left}
-use Rattle.base_types.specs.declared.entry.Entry.{Entry}
 use Rattle.base_types.specs.declared.epoch.Epoch.{Epoch}
 use Rattle.base_types.specs.declared.id.AttemptId.{AttemptId}
 use Rattle.base_types.specs.declared.report.Attempt.{Attempt}
@@ -12,8 +11,6 @@ use Rattle.base_types.specs.declared.report.Line.TheVariants as line
 use Rattle.base_messages.specs.declared.message.Message.TheVariants as message
 use Rattle.model_laws.specs.Members.{Has, contains-from_has, has-cases, has-from_contains, has-from_filter, has-from_map}
 use Rattle.world_base.specs.declared.letter.Letter.{Letter}
-use Rattle.world_base.specs.declared.target.Life.TheVariants.{Running}
-use Rattle.world_base.specs.declared.target.TargetMemory.{TargetMemory}
 use Rattle.world_base.specs.declared.target.TargetState.{TargetState}
 use Rattle.world_base.specs.declared.world.World.{World}
 use Rattle.world_base.specs.CutTurns.{Cutting}
@@ -24,7 +21,7 @@ use Rattle.world_epochs.specs.Epochs.{AsksEpoch, Epochs, LacksEpoch, PlainEpochs
 use Rattle.world_epochs.specs.PlainLaws.{whole-epochs}
 use Rattle.world_epochs.specs.Sayings.{AreKnown, AreParkedKnown}
 use Rattle.world_epochs.specs.TargetEvents.{knows-then}
-use Rattle.world_epochs.specs.TargetLaws.{IsNew, TargetDid, after_target, issued_then, target-keeps}
+use Rattle.world_epochs.specs.TargetLaws.{IsNew, after_target, issued_then, target-keeps}
 use Rattle.world_restarts.specs.EpochLaws.{rests-epochs}
 use Rattle.world_restarts.specs.Resting.{Rests, RestsAt, is_silent, one-few, one-rests, one-there}
 

@@ -1,8 +1,7 @@
 -- Where the turn of a Fetch or a Commit is cut, it issued an epoch or none, by how far it came.
-use Rattle.std.specs.Prelude.{ℕ, ◌≡◌, ◌≤◌, ◌+◌, ◌/◌, ◌⊎◌, ◌++◌, Bool, true, false, List, [], ◌∷◌, Contains, Option, Some, None, refl}
+use Rattle.std.specs.Prelude.{ℕ, ◌≡◌, ◌≤◌, ◌+◌, ◌/◌, ◌⊎◌, ◌++◌, false, List, [], ◌∷◌, Contains, Option, Some, None, refl}
 use Rattle.std.proofs.Common.{sym, ◌∙◌, ap, subst, arith, inl, inr}
 use Rattle.std.proofs.lemmas.List.Elements.{Contains-append_left, Contains-push}
-use Rattle.base_types.specs.declared.entry.Entry.{Entry}
 use Rattle.base_types.specs.declared.epoch.Epoch.{Epoch}
 use Rattle.base_types.specs.declared.id.AttemptId.{AttemptId}
 use Rattle.base_types.specs.declared.outcome.FloorWhy.{FloorWhy}
@@ -22,7 +21,6 @@ use Rattle.world_base.specs.Requests.{issued_for, request_epoch}
 use Rattle.world_base.specs.TurnLaws.{commit-plain, fetch-plain}
 use Rattle.world_epochs.specs.FetchTurns.{Covers, FetchSoFar, fetch-step, lease-covers}
 use Rattle.world_epochs.specs.Sayings.{AreKnown, Known, Stays, known-all, known-each, step-stays}
-use Rattle.world_epochs.specs.TargetLaws.{issued_then}
 use Rattle.world_restarts.specs.Cuts.{none-in_part}
 
 -- ---- what holds where a turn was cut

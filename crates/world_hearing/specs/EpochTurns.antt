@@ -1,11 +1,9 @@
 -- What a target hears after stops keeps what is said of epochs.
-use Rattle.std.specs.Prelude.{ℕ, ◌≡◌, ◌≤◌, ◌/◌, ◌⊎◌, ◌++◌, Bool, true, false, List, [], ◌∷◌, Contains, Option, Some, None, refl}
-use Rattle.std.proofs.Common.{sym, ◌∙◌, ap, subst, arith, inl, inr}
-use Rattle.base_types.specs.declared.entry.Entry.{Entry}
+use Rattle.std.specs.Prelude.{ℕ, ◌≡◌, ◌≤◌, Bool, true, false, List, [], ◌∷◌, Option, Some, None, refl}
+use Rattle.std.proofs.Common.{sym, ap, subst, arith, inl, inr}
 use Rattle.base_types.specs.declared.entry.EntryState.{EntryState}
 use Rattle.base_types.specs.declared.epoch.Epoch.{Epoch}
 use Rattle.base_types.specs.declared.id.AttemptId.{AttemptId}
-use Rattle.base_types.specs.declared.operation.MinorWrite.{MinorWrite}
 use Rattle.base_types.specs.declared.operation.Read.{Read}
 use Rattle.base_types.specs.declared.outcome.FloorWhy.{FloorWhy}
 use Rattle.base_types.specs.declared.outcome.Cause.TheVariants.{Unresolved}
@@ -30,21 +28,20 @@ use Rattle.world_base.specs.Changes.{Kept}
 use Rattle.world_base.specs.Commits as commit
 use Rattle.world_base.specs.Events.{Rules, kept, target_plan}
 use Rattle.world_base.specs.Further.{CommitDown, HearsFurther, IsSpent, IsUnknown}
-use Rattle.world_base.specs.Requests.{request_epoch}
 use Rattle.world_base.specs.Statuses.{status_refusal}
 use Rattle.world_base.specs.Stops.{HearsMore}
 use Rattle.world_base.specs.TargetTurns.{commit_request}
 use Rattle.world_base.specs.Turns.{Whole}
 use Rattle.world_epochs.specs.CommitTurns.{CommitLeaves, CommitStands, IsKnownCommit, commit-path, ends-says, left-with}
-use Rattle.world_epochs.specs.Epochs.{AsksEpoch, BearsEpoch, LacksEpoch, PlainEpochs}
+use Rattle.world_epochs.specs.Epochs.{BearsEpoch, PlainEpochs}
 use Rattle.world_epochs.specs.FetchTurns as dates
 use Rattle.world_epochs.specs.FetchTurns.{Dates}
 use Rattle.world_epochs.specs.MemberTurns.{ack-leaves}
 use Rattle.world_epochs.specs.Sayings.{AreKnown, AreParkedKnown, Known, Leaves, Says, SaysAll, Spent, Stays, known-each, parked-all, parked-each}
 use Rattle.world_epochs.specs.Talking.{TalksOnce}
-use Rattle.world_epochs.specs.TargetEvents.{Issuing, Knows, Nothing, Turns, commit-turns-by, goes-on, hearing-kept, stands}
+use Rattle.world_epochs.specs.TargetEvents.{Knows, Nothing, Turns, commit-turns-by, goes-on, hearing-kept, stands}
 use Rattle.world_statuses.specs.Heard.{is_of_attempts}
-use Rattle.world_hearing.specs.Listening.{Listens, is_listened, listens}
+use Rattle.world_hearing.specs.Listening.{Listens, listens}
 use Rattle.world_hearing.specs.Saying.{AsksState, EndsHeld, EndsLost, MarksAgain, MetUnresolved, SaysFurther, TellsState}
 
 -- ---- what is said

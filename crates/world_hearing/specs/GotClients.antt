@@ -1,9 +1,7 @@
 -- A client's turn keeps that clients were told what was served, also where it hears that what it asked was lost.
-use Rattle.std.specs.Prelude.{ℕ, ◌≡◌, ◌<◌, ◌⊎◌, ◌++◌, ◌&&◌, Bool, true, false, List, [], ◌∷◌, map, Contains, slice_get, Option, Some, None, refl, if◌then◌else◌}
+use Rattle.std.specs.Prelude.{ℕ, ◌≡◌, ◌<◌, ◌⊎◌, ◌++◌, ◌&&◌, Bool, true, false, List, Contains, slice_get, Option, Some, None, refl, if◌then◌else◌}
 use Rattle.std.proofs.Common.{sym, ◌∙◌, ap, subst, append-nil, inl, inr}
 use Rattle.base_types.specs.declared.answer.Answer.{Answer}
-use Rattle.base_types.specs.declared.epoch.Epoch.{Epoch}
-use Rattle.base_types.specs.declared.id.AttemptId.{AttemptId}
 use Rattle.base_types.specs.declared.outcome.Cause.TheVariants.{Unresolved}
 use Rattle.base_types.specs.declared.outcome.Outcome.{Outcome}
 use Rattle.base_types.specs.declared.outcome.Outcome.TheVariants as outcome
@@ -12,7 +10,6 @@ use Rattle.base_types.specs.declared.script.Command.{Command}
 use Rattle.base_messages.specs.declared.message.Message.{Message, more_of-Message}
 use Rattle.base_messages.specs.declared.message.Message.TheVariants as message
 use Rattle.base_messages.specs.declared.message.Post.{Post}
-use Rattle.base_messages.specs.declared.message.Reply.{Reply}
 use Rattle.base_messages.specs.declared.message.Reply.TheVariants as reply
 use Rattle.daos_model.specs.Transactions.{ops_or_none}
 use Rattle.world_attempts.specs.History.{History}
@@ -23,15 +20,15 @@ use Rattle.world_base.specs.declared.letter.Letter.{Letter}
 use Rattle.world_base.specs.declared.world.World.{World}
 use Rattle.world_base.specs.ClientTurns.{Move, about, answered, ends, asks_again, attempt_id, goes, heard, heard_at, hears_epochs, is_about, knows, listed, replied, reset_by, rests, waits}
 use Rattle.world_base.specs.Events.{ClientGoes, ClientHears, Rules, client_plan, with_client}
-use Rattle.world_base.specs.Letters.{Takes, client, is_talk_of, is_tell, letters_of, talk_of}
+use Rattle.world_base.specs.Letters.{Takes, client, is_tell, letters_of}
 use Rattle.world_base.specs.StepLaws.{by-hearing, by-next}
 use Rattle.world_base.specs.Steps.{KeptByCounting, KeptByHearing, KeptByMoves, after_move, without}
 use Rattle.world_clients.specs.Standing.{HasTold}
 use Rattle.world_epochs.specs.Epochs.{ClientsStand}
 use Rattle.world_epochs.specs.EventLaws.{stands-by-counting, stands-by-hearing, stands-by-moves}
 use Rattle.world_epochs.specs.Talking.{TalksOnce, silent-unless, taken-silent}
-use Rattle.world_gots.specs.GotLaws.{Here, IsServedHere, KeepsGots, at-command, ends-gots, silent-gots, waits-gots, waits-served}
-use Rattle.world_gots.specs.Gots.{Gots, IsServedAnswer, IsServedSoFar}
+use Rattle.world_gots.specs.GotLaws.{Here, KeepsGots, at-command, ends-gots, silent-gots, waits-gots, waits-served}
+use Rattle.world_gots.specs.Gots.{Gots, IsServedAnswer}
 use Rattle.world_gots.specs.HearGots.{answer-gots, ended-gots, outcome-gots}
 use Rattle.world_gots.specs.StepGots.{AreFlying, gots-moved, here-of, is_fetched, sends-one, turned}
 use Rattle.world_gots.specs.TurnGots.{known-here, same-answer, same-here}

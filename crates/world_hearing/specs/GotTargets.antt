@@ -4,11 +4,10 @@ use Rattle.std.proofs.Common.{sym, ◌∙◌, ap, subst, arith, append-nil, inl,
 use Rattle.base_types.specs.declared.answer.Answer.{Answer}
 use Rattle.base_types.specs.declared.epoch.Epoch.{Epoch}
 use Rattle.base_types.specs.declared.id.AttemptId.{AttemptId}
-use Rattle.base_messages.specs.declared.message.Message.{Message}
 use Rattle.base_messages.specs.declared.message.Message.TheVariants as message
 use Rattle.base_messages.specs.declared.message.Post.{Post}
 use Rattle.base_messages.specs.declared.message.Reply.TheVariants as reply
-use Rattle.model_laws.specs.Members.{Has, contains-from_has, has-cases, has-filter, has-from_contains, has-left, has-map, has-right}
+use Rattle.model_laws.specs.Members.{Has, has-filter, has-left, has-map, has-right}
 use Rattle.model_laws.specs.TargetLaws.{same_number}
 use Rattle.dtx_base.specs.declared.member.Parked.{Parked}
 use Rattle.world_attempts.specs.Counting.{has-taken}
@@ -17,28 +16,26 @@ use Rattle.world_base.specs.declared.client.ClientPlan.{ClientPlan}
 use Rattle.world_base.specs.declared.client.ClientState.{ClientState}
 use Rattle.world_base.specs.declared.client.Present.{Present}
 use Rattle.world_base.specs.declared.letter.Letter.{Letter}
-use Rattle.world_base.specs.declared.request.CommitRequest.{CommitRequest}
 use Rattle.world_base.specs.declared.request.FetchRequest.{FetchRequest}
 use Rattle.world_base.specs.declared.target.TargetState.{TargetState}
 use Rattle.world_base.specs.declared.world.World.{World}
 use Rattle.world_base.specs.ClientTurns.{about, attempt_id, request_of, waits}
 use Rattle.world_base.specs.Events.{Rules, TargetHearsBy, client_plan, with_epoch}
 use Rattle.world_base.specs.Letters.{client, is_talk_of, is_tell, letter_of, letters_of, talk_of, target}
-use Rattle.world_base.specs.Reads.{fetch_at}
 use Rattle.world_base.specs.Requests.{fetch_message}
 use Rattle.world_base.specs.TargetTurns.{Hearing}
 use Rattle.world_gots.specs.Gots.{Gots, IsServedAnswer}
 use Rattle.world_gots.specs.Remembering.{Remembers}
-use Rattle.world_gots.specs.TargetGots.{AnswersAsked, answer-remembered, answer-served, same-clients, same-request, sent-or_left}
+use Rattle.world_gots.specs.TargetGots.{AnswersClient, answer-remembered, client-served, same-clients, same-request, sent-or_left}
 use Rattle.world_reads.specs.Adds.{AreAnswered, Heard, IsAnswered, IsAskedIn, Waited, served_at}
 use Rattle.world_statuses.specs.Senders.{IsSentRightly, SendersAreRight}
-use Rattle.world_talks.specs.Asked.{Asked, AsksRead, commit_of}
+use Rattle.world_talks.specs.Asked.{AsksRead}
 use Rattle.world_talks.specs.AskLaws.{asked-is-request, asked-read, sent-is-asked}
 use Rattle.world_talks.specs.Carriers.{is_fetch_of}
 use Rattle.world_talks.specs.HearLaws.{answer-is}
 use Rattle.world_talks.specs.TalkLaws.{got-is-talk, left-is-among, sent-is-talk}
-use Rattle.world_waits.specs.ClientLaws.{IsAt, present-of}
-use Rattle.world_waits.specs.Waits.{ARead, Conversation, Held, HoldsIt, IsAnswer, IsAsked, IsHeld, IsLost, IsQuestion, IsReplied, IsReplyTo, ItsAsk, ItsRequest, ParkedAt, TalksSo, asked_of, held_by, held_from, held_of, is_parked_of, parked_at}
+use Rattle.world_waits.specs.ClientLaws.{present-of}
+use Rattle.world_waits.specs.Waits.{ARead, Conversation, Held, HoldsIt, IsAnswer, IsAsked, IsHeld, IsLost, IsQuestion, IsReplied, IsReplyTo, ItsAsk, ItsRequest, TalksSo, asked_of, held_by, held_from, held_of, is_parked_of, parked_at}
 
 -- ---- lists
 
@@ -84,20 +81,10 @@ question-reads p c a q f at (ItsRequest k low sent) says = record { k = k; asks 
 question-reads p c a q f at (ItsAsk k s g low sent commit is) says = let e : message.Ask g.attempt ≡ fetch_message f = sym (ap (λ x. x.message) is) ∙ says in let no : ⊥ = cc in absurd no
 
 module _ (Turn : Hearing) (r : Rules) (h k : History) (w v : World) (W : Conversation r w) (V : Conversation r v) (senders : SendersAreRight w) (G : Gots r h w) (g : TargetHearsBy Turn r w v) where
-  -- what answers a Fetch that was heard, or that waited, answers what a client that waits has asked
-  record AnswersClient (q : FetchRequest) (epoch : Epoch) (b : Answer) : Type 0 where
-    n : ℕ
-    c : ClientState
-    a : Present
-    here : slice_get w.clients n ≡ Some c
-    present : c.present ≡ Some a
-    k0 : Epoch
-    is : AnswersAsked (client_plan r n) k g.t k0 c a q epoch b
-
   in-talk : (u : World) (n : ℕ) (l : Letter) → Has l u.messages → is_talk_of n l ≡ true → Has l (talk_of n u.messages)
   in-talk u n l i talks = has-filter (is_talk_of n) u.messages l i talks
 
-  heard-asked : (q : FetchRequest) (epoch : Epoch) (b : Answer) → fetch_message q ≡ g.l.message → ((f : Epoch) → q.ep ≡ Some f → f ≡ epoch) → Has (served_at g.t q epoch b) k.served → AnswersClient q epoch b
+  heard-asked : (q : FetchRequest) (epoch : Epoch) (b : Answer) → fetch_message q ≡ g.l.message → ((f : Epoch) → q.ep ≡ Some f → f ≡ epoch) → Has (served_at g.t q epoch b) k.served → AnswersClient r k w g.t q epoch b
   heard-asked q epoch b it own among = by (slice_get w.clients q.attempt.client) refl
     where
       flies : Has g.l w.messages
@@ -109,7 +96,7 @@ module _ (Turn : Hearing) (r : Rules) (h k : History) (w v : World) (W : Convers
       its : Has g.l (talk_of q.attempt.client w.messages)
       its = in-talk w q.attempt.client g.l flies (sent-is-talk q.attempt.client g.l (ap is_tell (sym it)) from)
 
-      talks : (c : ClientState) → slice_get w.clients q.attempt.client ≡ Some c → (b' : Bool) → waits c ≡ b' → TalksSo (client_plan r q.attempt.client) q.attempt.client c (talk_of q.attempt.client w.messages) (held_of q.attempt.client w) (asked_of q.attempt.client w) b' → AnswersClient q epoch b
+      talks : (c : ClientState) → slice_get w.clients q.attempt.client ≡ Some c → (b' : Bool) → waits c ≡ b' → TalksSo (client_plan r q.attempt.client) q.attempt.client c (talk_of q.attempt.client w.messages) (held_of q.attempt.client w) (asked_of q.attempt.client w) b' → AnswersClient r k w g.t q epoch b
       talks c here false now quiet = absurd (none-in g.l (talk_of q.attempt.client w.messages) its quiet.no_letters)
       talks c here true now (IsAsked z is letters held asked) =
           let i = present-of c now in
@@ -121,11 +108,11 @@ module _ (Turn : Hearing) (r : Rules) (h k : History) (w v : World) (W : Convers
           let same : g.l ≡ l = only-one g.l l (talk_of q.attempt.client w.messages) its letters in
           absurd (target-no_client g.t q.attempt.client (sym g.to_it ∙ ap (λ x. x.to) same ∙ got.to))
 
-      by : (o : Option ClientState) → slice_get w.clients q.attempt.client ≡ o → AnswersClient q epoch b
+      by : (o : Option ClientState) → slice_get w.clients q.attempt.client ≡ o → AnswersClient r k w g.t q epoch b
       by None none = absurd (none-in g.l (talk_of q.attempt.client w.messages) its (W.nobody q.attempt.client none).no_letters)
       by (Some c) here = talks c here (waits c) refl (W.talks q.attempt.client c here)
 
-  waited-asked : (q : FetchRequest) (epoch : Epoch) (b : Answer) (p : Parked) → Has p g.s.memory.member.parked → fetch_message q ≡ p.ask → ((f : Epoch) → q.ep ≡ Some f → f ≡ epoch) → Has (served_at g.t q epoch b) k.served → AnswersClient q epoch b
+  waited-asked : (q : FetchRequest) (epoch : Epoch) (b : Answer) (p : Parked) → Has p g.s.memory.member.parked → fetch_message q ≡ p.ask → ((f : Epoch) → q.ep ≡ Some f → f ≡ epoch) → Has (served_at g.t q epoch b) k.served → AnswersClient r k w g.t q epoch b
   waited-asked q epoch b p i it own among = by (slice_get w.clients q.attempt.client) refl
     where
       its : Has (parked_at g.t p) (held_of q.attempt.client w)
@@ -133,7 +120,7 @@ module _ (Turn : Hearing) (r : Rules) (h k : History) (w v : World) (W : Convers
           (has-left (map (parked_at g.t) (filter (is_parked_of q.attempt.client) g.s.memory.member.parked)) _ (parked_at g.t p)
           (has-map (parked_at g.t) (filter (is_parked_of q.attempt.client) g.s.memory.member.parked) p (has-filter (is_parked_of q.attempt.client) g.s.memory.member.parked p i (ap (is_fetch_of q.attempt.client) (sym it) ∙ same_number q.attempt.client))))
 
-      read-so : (c : ClientState) → slice_get w.clients q.attempt.client ≡ Some c → waits c ≡ true → (z : Post) (x : Held) → IsQuestion (client_plan r q.attempt.client) c z → HoldsIt z x → x ≡ parked_at g.t p → AnswersClient q epoch b
+      read-so : (c : ClientState) → slice_get w.clients q.attempt.client ≡ Some c → waits c ≡ true → (z : Post) (x : Held) → IsQuestion (client_plan r q.attempt.client) c z → HoldsIt z x → x ≡ parked_at g.t p → AnswersClient r k w g.t q epoch b
       read-so c here now z x is (ARead t ask f e to says has asked) same =
           let y = present-of c now in
           let u = question-reads (client_plan r q.attempt.client) c y.a z f y.at is says in
@@ -150,17 +137,17 @@ module _ (Turn : Hearing) (r : Rules) (h k : History) (w v : World) (W : Convers
           }
       read-so c here now z x is holds same = let no : ⊥ = cc in absurd no
 
-      talks : (c : ClientState) → slice_get w.clients q.attempt.client ≡ Some c → (b' : Bool) → waits c ≡ b' → TalksSo (client_plan r q.attempt.client) q.attempt.client c (talk_of q.attempt.client w.messages) (held_of q.attempt.client w) (asked_of q.attempt.client w) b' → AnswersClient q epoch b
+      talks : (c : ClientState) → slice_get w.clients q.attempt.client ≡ Some c → (b' : Bool) → waits c ≡ b' → TalksSo (client_plan r q.attempt.client) q.attempt.client c (talk_of q.attempt.client w.messages) (held_of q.attempt.client w) (asked_of q.attempt.client w) b' → AnswersClient r k w g.t q epoch b
       talks c here false now quiet = absurd (none-in (parked_at g.t p) (held_of q.attempt.client w) its quiet.none_held)
       talks c here true now (IsAsked z is letters held asked) = absurd (none-in (parked_at g.t p) (held_of q.attempt.client w) its held)
       talks c here true now (IsHeld z x is holds letters held asked) = read-so c here now z x is holds (sym (only-one (parked_at g.t p) x (held_of q.attempt.client w) its held))
       talks c here true now (IsReplied z l is got letters held asked) = absurd (none-in (parked_at g.t p) (held_of q.attempt.client w) its held)
 
-      by : (o : Option ClientState) → slice_get w.clients q.attempt.client ≡ o → AnswersClient q epoch b
+      by : (o : Option ClientState) → slice_get w.clients q.attempt.client ≡ o → AnswersClient r k w g.t q epoch b
       by None none = absurd (none-in (parked_at g.t p) (held_of q.attempt.client w) its (W.nobody q.attempt.client none).none_held)
       by (Some c) here = talks c here (waits c) refl (W.talks q.attempt.client c here)
 
-  asked-by : (q : FetchRequest) (epoch : Epoch) (b : Answer) → IsAskedIn g.l.message g.s.memory.member.parked (fetch_message q) → ((f : Epoch) → q.ep ≡ Some f → f ≡ epoch) → Has (served_at g.t q epoch b) k.served → AnswersClient q epoch b
+  asked-by : (q : FetchRequest) (epoch : Epoch) (b : Answer) → IsAskedIn g.l.message g.s.memory.member.parked (fetch_message q) → ((f : Epoch) → q.ep ≡ Some f → f ≡ epoch) → Has (served_at g.t q epoch b) k.served → AnswersClient r k w g.t q epoch b
   asked-by q epoch b (Heard it) own among = heard-asked q epoch b it own among
   asked-by q epoch b (Waited p i it) own among = waited-asked q epoch b p i it own among
 
@@ -195,12 +182,12 @@ module _ (Turn : Hearing) (r : Rules) (h k : History) (w v : World) (W : Convers
     -- an answer that is sent to a client is of what it asks
     sent-answer : (n : ℕ) (c : ClientState) (a : Present) (p : Post) (x : AttemptId) (op group : ℕ) (own : Option Epoch) (b : Answer) → slice_get w.clients n ≡ Some c → c.present ≡ Some a → Has p g.did.posts → p.to ≡ client n
         → p.message ≡ message.Fetched x op group own (reply.Answer b) → IsServedAnswer (client_plan r n) k c a own b
-    sent-answer n c a p x op group own b here present i to it = subst (λ e. IsServedAnswer (client_plan r n) k c a e b) (sym z.told) at-client
+    sent-answer n c a p x op group own b here present i to it = subst (λ e. IsServedAnswer (client_plan r n) k c a e b) (sym z.told) (client-served r k w g.t n c a z.q z.epoch b y number here present)
       where
         z : IsAnswered k.served g.t g.l.message g.s.memory.member.parked x op group own b
         z = answered p x op group own b i it
 
-        y : AnswersClient z.q z.epoch b
+        y : AnswersClient r k w g.t z.q z.epoch b
         y = asked-by z.q z.epoch b z.asked z.own z.among
 
         flies : Has (letter_of (target g.t) p) v.messages
@@ -210,19 +197,6 @@ module _ (Turn : Hearing) (r : Rules) (h k : History) (w v : World) (W : Convers
         number =
             let of_it : x.client ≡ y.n = ap (λ u. u.client) (z.attempt ∙ y.is.attempt ∙ y.is.asks.attempt) in
             sym of_it ∙ goes-home n c (letter_of (target g.t) p) x op group own b here flies refl to it
-
-        state : y.c ≡ c
-        state = let at : slice_get w.clients n ≡ Some y.c = subst (λ j. slice_get w.clients j ≡ Some y.c) number y.here in cc (at, here)
-
-        attempt : y.a ≡ a
-        attempt = let at : c.present ≡ Some y.a = subst (λ s. s.present ≡ Some y.a) state y.present in cc (at, present)
-
-        at-client : IsServedAnswer (client_plan r n) k c a (Some z.epoch) b
-        at-client =
-            subst (λ j. IsServedAnswer (client_plan r j) k c a (Some z.epoch) b) number
-            (subst (λ s. IsServedAnswer (client_plan r y.n) k s a (Some z.epoch) b) state
-            (subst (λ u. IsServedAnswer (client_plan r y.n) k y.c u (Some z.epoch) b) attempt
-            (answer-served (client_plan r y.n) k g.t y.k0 y.c y.a z.q z.epoch b y.is)))
 
     -- so clients were told what was served then, where it tells of no line
     pub hearing-gots : Remembers h k → g.did.lines ≡ [] → Gots r k v

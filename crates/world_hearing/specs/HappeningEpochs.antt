@@ -1,9 +1,8 @@
 -- Whatever happens, but for what is heard of snapshots and aggregation, keeps what is said of epochs.
-use Rattle.std.specs.Prelude.{ℕ, ◌≡◌, ◌≤◌, ◌<◌, ◌+◌, ◌/◌, ◌⊎◌, ◌++◌, ◌&&◌, ◌==◌, not, Bool, true, false, List, [], ◌∷◌, Contains, slice_get, Option, Some, None, refl}
+use Rattle.std.specs.Prelude.{ℕ, ◌≡◌, ◌≤◌, ◌<◌, ◌+◌, ◌/◌, ◌++◌, ◌&&◌, ◌==◌, not, Bool, true, false, List, [], ◌∷◌, Contains, slice_get, Option, Some, None, refl}
 use Rattle.std.proofs.Common.{sym, ◌∙◌, ap, subst, arith, inl, inr}
 use Rattle.std.proofs.lemmas.List.Elements.{Contains-append_left}
 use Rattle.std.proofs.lemmas.Option.{some_pair_parts}
-use Rattle.base_types.specs.declared.entry.Entry.{Entry}
 use Rattle.base_types.specs.declared.epoch.Epoch.{Epoch}
 use Rattle.base_types.specs.declared.id.AttemptId.{AttemptId}
 use Rattle.base_types.specs.declared.report.Attempt.{Attempt}
@@ -14,13 +13,11 @@ use Rattle.model_laws.specs.Members.{Has, contains-from_has, has-cases, has-from
 use Rattle.model_laws.specs.TargetLaws.{same_number}
 use Rattle.world_attempts.specs.Counting.{has-taken}
 use Rattle.world_attempts.specs.History.{History}
-use Rattle.world_base.specs.declared.client.ClientState.{ClientState}
 use Rattle.world_base.specs.declared.letter.Letter.{Letter}
-use Rattle.world_base.specs.declared.target.TargetState.{TargetState}
 use Rattle.world_base.specs.declared.world.World.{World}
 use Rattle.world_base.specs.ClientTurns.{waits}
 use Rattle.world_base.specs.CutTurns.{HearingIsCut}
-use Rattle.world_base.specs.Events.{ByClient, ByTarget, Event, Rules, ToClient, ToTarget, client_plan, kept, listed, target_plan}
+use Rattle.world_base.specs.Events.{Rules, client_plan, kept, listed, target_plan}
 use Rattle.world_base.specs.Letters.{Takes, talk_of, target}
 use Rattle.world_base.specs.Roles.{is_prepared}
 use Rattle.world_base.specs.Stops.{AtWork, CutOf, Draws, Fails, Further, GivenUp, Happening, Hearing, IdleWork, IsCut, IsInHand, Opens, Plainly, TargetCut, WorldEvent, is_not_to, swept}
@@ -40,11 +37,11 @@ use Rattle.world_statuses.specs.Events.{HappensWithoutSnapshots}
 use Rattle.world_stops.specs.CutEvents.{IsWithoutSnapshots, is_without_snapshots}
 use Rattle.world_waits.specs.ClientLaws.{hearing-keeps, moves-keep}
 use Rattle.world_waits.specs.Waits.{Conversation, IsAsked, IsHeld, IsReplied, TalksSo, asked_of, held_of}
-use Rattle.world_hearing.specs.Cutting.{CutTells, hearing-cut-tells, is_request, turn-silent}
+use Rattle.world_hearing.specs.Cutting.{hearing-cut-tells, is_request, turn-silent}
 use Rattle.world_hearing.specs.EpochCuts.{IsLeft, cut-epochs, gone_on}
 use Rattle.world_hearing.specs.EpochRequests.{AnEpoch, CutIssues, NoEpoch, commit-cut, fetch-cut-issues}
 use Rattle.world_hearing.specs.EpochTurns.{further-epochs}
-use Rattle.world_hearing.specs.Storing.{BringsKnown, KeptSo, hearing-cut-kept, idle-cut-kept}
+use Rattle.world_hearing.specs.Storing.{BringsKnown, hearing-cut-kept, idle-cut-kept}
 use Rattle.world_restarts.specs.CutLaws.{commit-is-cut}
 
 -- ---- the statements

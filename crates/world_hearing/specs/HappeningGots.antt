@@ -1,5 +1,5 @@
 -- Whatever happens, but for what is heard of snapshots and aggregation, keeps that clients were told what was served.
-use Rattle.std.specs.Prelude.{ℕ, ◌≡◌, ◌<◌, ◌⊎◌, ◌++◌, Bool, true, false, All, List, [], ◌∷◌, map, filter, Contains, slice_get, Option, Some, None, refl}
+use Rattle.std.specs.Prelude.{ℕ, ◌≡◌, ◌<◌, ◌⊎◌, ◌++◌, true, false, All, [], ◌∷◌, map, filter, Contains, slice_get, Option, Some, refl}
 use Rattle.std.proofs.Common.{sym, ◌∙◌, ap, subst, append-nil, append_assoc, inl, inr}
 use Rattle.base_types.specs.declared.answer.Answer.{Answer}
 use Rattle.base_types.specs.declared.epoch.Epoch.{Epoch}
@@ -29,12 +29,12 @@ use Rattle.world_base.specs.declared.world.World.{World}
 use Rattle.world_base.specs.Acks as ack
 use Rattle.world_base.specs.Changes.{Kept}
 use Rattle.world_base.specs.Commits as commit
-use Rattle.world_base.specs.Events.{ByClient, ByTarget, Rules, TargetHears, TargetHearsRightly, TargetIdles, ToClient, ToTarget, client_plan, kept, target_plan, with_epoch}
+use Rattle.world_base.specs.Events.{ByClient, ByTarget, Rules, TargetHearsRightly, TargetIdles, ToClient, ToTarget, client_plan, kept, target_plan, with_epoch}
 use Rattle.world_base.specs.Further.{CommitDown, HearsFurther, IsSpent, IsUnknown}
-use Rattle.world_base.specs.Letters.{client, letter_of, letters_of, target}
+use Rattle.world_base.specs.Letters.{client, letter_of, target}
 use Rattle.world_base.specs.MemoryLaws.{hears-follows, idles-follows}
 use Rattle.world_base.specs.RightTurns.{HearsRightly}
-use Rattle.world_base.specs.Stops.{AtWork, CutOf, Draws, Fails, Further, GivenUp, Happening, HearsMore, Hearing, IdleWork, IsCut, Opens, Plainly, TargetCut, WorldEvent, is_not_to, is_to, reset_letter, resets, stops_so_far, swept}
+use Rattle.world_base.specs.Stops.{AtWork, CutOf, Draws, Fails, Further, GivenUp, Happening, Hearing, IdleWork, IsCut, Opens, Plainly, TargetCut, WorldEvent, is_not_to, is_to, reset_letter, resets, stops_so_far, swept}
 use Rattle.world_base.specs.TargetTurns.{commit_request}
 use Rattle.world_epochs.specs.Epochs.{ClientsStand}
 use Rattle.world_fates.specs.Facts.{Attempts}
@@ -42,7 +42,7 @@ use Rattle.world_fates.specs.Rightly.{letters-tell}
 use Rattle.world_gots.specs.Gots.{Gots, IsLineServed, IsServedAnswer}
 use Rattle.world_gots.specs.Remembering.{Remembers}
 use Rattle.world_gots.specs.StepGots.{is_fetched}
-use Rattle.world_gots.specs.TargetGots.{answer-remembered, ends-none, gots-remembered, same-clients, sent-or_left}
+use Rattle.world_gots.specs.TargetGots.{ends-none, gots-remembered, same-clients, sent-or_left}
 use Rattle.world_restarts.specs.EpochLaws.{rests-gots}
 use Rattle.world_restarts.specs.Resting.{failure-rests, given_up-rests, numbers-rests, opening-rests, sweep-rests, tries-none}
 use Rattle.world_statuses.specs.Events.{HappensWithoutSnapshots}
@@ -50,7 +50,6 @@ use Rattle.world_statuses.specs.Heard.{is_of_attempts}
 use Rattle.world_statuses.specs.Senders.{SendersAreRight}
 use Rattle.world_stops.specs.CutEvents.{IsWithoutSnapshots}
 use Rattle.world_stops.specs.Happenings.{rightly}
-use Rattle.world_talks.specs.TalkLaws.{left-is-among}
 use Rattle.world_waits.specs.ClientLaws.{counting-keeps, hearing-keeps, moves-keep}
 use Rattle.world_waits.specs.Waits.{Conversation}
 use Rattle.world_hearing.specs.Cutting.{hearing-cut-tells, turn-silent}
