@@ -29,7 +29,11 @@ use Rattle.world_hearing.specs.Going.{Before, EntriesWrite}
 use Rattle.world_hearing.specs.PlainTurns.{others-write}
 use Rattle.world_hearing.specs.Storing.{BringsKnown, KeptSo, further-kept, hearing-cut-kept, hears-kept, idle-cut-kept, idle-kept}
 
--- so it stays, whatever happens but for what is heard of snapshots and aggregation
+-- it is so where no target has an entry
+abbrev pub EntriesBegin : Type 0
+EntriesBegin = (r : Rules) (w : World) → ((t : ℕ) (s : TargetState) → slice_get w.targets t ≡ Some s → s.durable.entries ≡ []) → EntriesWrite r w
+
+-- and stays so, whatever happens but for what is heard of snapshots and aggregation
 abbrev pub EventsKeepEntries : Type 0
 EventsKeepEntries = (r : Rules) (o : Opening) (held : ℕ → List Version) (h : History) (w v : World) → Before r o held h w → (e : WorldEvent r w v) → HappensWithoutSnapshots e.happens → EntriesWrite r v
 
@@ -101,3 +105,6 @@ entries-write r o held h w v b (Draws g) ours = none-set r w v b.writes (ap (λ 
 
 pub events-keep-entries : EventsKeepEntries
 events-keep-entries r o held h w v b e ours t s k at i = entries-write r o held h w e.u b e.happens ours t s k (ap (λ u. slice_get u.targets t) (sym e.after) ∙ at) i
+
+pub entries-begin : EntriesBegin
+entries-begin r w none t s e here i = absurd (subst (Has e) (none t s here) i)

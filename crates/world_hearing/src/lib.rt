@@ -6,7 +6,7 @@ ghost use Rattle.world_hearing.specs.Floors.{EventsKeepFloors};
 ghost use Rattle.world_hearing.specs.HappeningEpochs.{EventsKeepClients, EventsKeepEpochs};
 ghost use Rattle.world_hearing.specs.HappeningGots.{EventsKeepGots};
 ghost use Rattle.world_hearing.specs.HappeningReads.{EventsKeepReads};
-ghost use Rattle.world_hearing.specs.Writing.{EventsKeepEntries};
+ghost use Rattle.world_hearing.specs.Writing.{EntriesBegin, EventsKeepEntries};
 
 /// Says what stays true in each event of a run in which targets may stop and open again, and nothing is
 /// heard of snapshots and aggregation. Versions stand for the decided transactions, and served reads were
@@ -20,6 +20,7 @@ ghost use Rattle.world_hearing.specs.Writing.{EventsKeepEntries};
 /// floor above the opening's epochs has the line that tells of it.
 pub fn laws_of_happenings()
     ensures reads { EventsKeepReads }
+    ensures begin { EntriesBegin }
     ensures entries { EventsKeepEntries }
     ensures epochs { EventsKeepEpochs }
     ensures clients { EventsKeepClients }
