@@ -40,7 +40,7 @@ module _ (P : Known) (low : ℕ) (t : TargetPlan) (opening : Epoch × FloorWhy) 
   abbrev pub CommitSoFar : commit.CommitStage → Kept → Type 0
   CommitSoFar s k = CommitStands t m reading q s k × Stays P low k
 
-  commit-step : (s : commit.CommitStage) (k : Kept) (o : Option Change) (u : commit.CommitStage) (l : Kept) → commit.CommitNext t opening m reading q s k o u → Steps o k l → CommitSoFar s k → CommitSoFar u l
+  pub commit-step : (s : commit.CommitStage) (k : Kept) (o : Option Change) (u : commit.CommitStage) (l : Kept) → commit.CommitNext t opening m reading q s k o u → Steps o k l → CommitSoFar s k → CommitSoFar u l
   commit-step s k o u l (commit.HasEpoch j e is) st h = (is, (step-stays P low None k l tt st h.1).0)
   commit-step s k o u l (commit.ExtendsLease j e lease less is) st h =
       let up : e.0 / 256 ≤ lease = lease-covers (e.0 / 256) lease is in
@@ -81,11 +81,11 @@ pub record IsKnownCommit (P : Known) (L : Spent) (t : TargetPlan) (m : TargetMem
   pub parked : AreParkedKnown P m.member.parked
 
 module _ (P : Known) (L : Spent) (t : TargetPlan) (opening : Epoch × FloorWhy) (m : TargetMemory) (reading : ℕ) (q : CommitRequest) (from : ActorId) where
-  abbrev CommitLeaves : ℕ → TargetMemory × Did → Type 0
+  abbrev pub CommitLeaves : ℕ → TargetMemory × Did → Type 0
   CommitLeaves lease left = Dates t m reading q.attempt q.ep q.tracker lease left × Leaves P L m left
 
   -- the ticks hear of the epoch, and these are said
-  left-with : (e : Epoch) (posts : List Post) (lease : ℕ) (left : TargetMemory × Did) → IsKnownCommit P L t m reading q from → Covers t m reading q.tracker q.ep e lease → left.0.ticks ≡ heard_ticks m.ticks e.0 → left.0.member ≡ m.member
+  pub left-with : (e : Epoch) (posts : List Post) (lease : ℕ) (left : TargetMemory × Did) → IsKnownCommit P L t m reading q from → Covers t m reading q.tracker q.ep e lease → left.0.ticks ≡ heard_ticks m.ticks e.0 → left.0.member ≡ m.member
       → left.1 ≡ record { posts = posts; lines = []; issued = issued_for q.attempt q.ep e } → SaysAll P L posts → CommitLeaves lease left
   left-with e posts lease left k c now member did says =
       let up : (m.ticks ≤ heard_ticks m.ticks e.0) × (e.0 / 256 ≤ heard_ticks m.ticks e.0) = heard-up m.ticks e.0 in (
@@ -98,7 +98,7 @@ module _ (P : Known) (L : Spent) (t : TargetPlan) (opening : Epoch × FloorWhy) 
         },
       )
 
-  ends-says : (e : Epoch) (how : Outcome) → P q.attempt e → SaysAll P L (commit.ends_at q from e how).posts
+  pub ends-says : (e : Epoch) (how : Outcome) → P q.attempt e → SaysAll P L (commit.ends_at q from e how).posts
   ends-says e how own = (record { bears = λ x f h. subst (λ y. P y f) h.0 (subst (λ g. P q.attempt g) h.1 own); lacks = λ x h. absurd h; asks = λ x f h. absurd h; plain = refl; dated = refl }, tt)
 
   commit-ends : (s : commit.CommitStage) (k : Kept) (left : TargetMemory × Did) → commit.CommitEnds t opening m reading q from s k left → IsKnownCommit P L t m reading q from → CommitStands t m reading q s k → CommitLeaves k.durable.lease left

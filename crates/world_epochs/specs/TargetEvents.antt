@@ -22,20 +22,20 @@ use Rattle.dtx_base.specs.declared.member.Parked.{Parked}
 use Rattle.world_base.specs.declared.client.ClientState.{ClientState}
 use Rattle.world_base.specs.declared.did.Did.{Did}
 use Rattle.world_base.specs.declared.letter.Letter.{Letter}
-use Rattle.world_base.specs.declared.request.CommitRequest.{CommitRequest}
 use Rattle.world_base.specs.declared.request.FetchRequest.{FetchRequest}
+use Rattle.world_base.specs.declared.target.Life.TheVariants.{Running}
 use Rattle.world_base.specs.declared.target.TargetMemory.{TargetMemory}
 use Rattle.world_base.specs.declared.target.TargetPlan.{TargetPlan}
 use Rattle.world_base.specs.declared.target.TargetState.{TargetState}
 use Rattle.world_base.specs.declared.world.World.{World}
 use Rattle.world_base.specs.ClientTurns.{is_waiting, waits}
-use Rattle.world_base.specs.Events.{Rules, TargetHearsRightly, TargetIdles, after_turn, kept, listed, target_after, target_plan, with_epoch, with_target}
-use Rattle.world_base.specs.Letters.{asked_after, client, is_talk_of, letter_of, letters_of, talk_of, target}
+use Rattle.world_base.specs.Events.{Rules, TargetHearsBy, TargetHearsRightly, TargetIdles, after_turn, kept, listed, target_after, target_plan, with_epoch, with_target}
+use Rattle.world_base.specs.Letters.{Takes, asked_after, client, is_talk_of, letter_of, letters_of, talk_of, target}
 use Rattle.world_base.specs.Acks as ack
 use Rattle.world_base.specs.Changes.{Kept}
 use Rattle.world_base.specs.Requests.{epoch_of_ticks, issued_for, request_epoch}
 use Rattle.world_base.specs.RightTurns.{HearsRightly}
-use Rattle.world_base.specs.TargetTurns.{commit_request, fetch_request, prepare_request}
+use Rattle.world_base.specs.TargetTurns.{Hearing, commit_request, fetch_request, prepare_request}
 use Rattle.world_epochs.specs.CommitTurns.{IsKnownCommit, commit-leaves}
 use Rattle.world_epochs.specs.Epochs.{AsksEpoch, BearsEpoch, PlainEpochs, IsPresent, IsTold, IsUnissued, LacksEpoch, answers_undated, reads_snapshot}
 use Rattle.world_epochs.specs.FetchTurns.{Covers, Dates, IsDated, IsKnownFetch, IsSpent, fetch-leaves}
@@ -77,9 +77,9 @@ issued-ticks t m reading tracker e few h = by (next_ticks (record { target = t.m
 -- ---- what a turn issues
 
 -- a request of an attempt that asks for an epoch after this tracker, or bears its own
-record Asking (said : Message) (x : AttemptId) (ep : Option Epoch) (tracker : Epoch) : Type 0 where
-  asks : ep ≡ None → AsksEpoch said x tracker
-  bears : (e : Epoch) → ep ≡ Some e → BearsEpoch said x e
+pub record Asking (said : Message) (x : AttemptId) (ep : Option Epoch) (tracker : Epoch) : Type 0 where
+  pub asks : ep ≡ None → AsksEpoch said x tracker
+  pub bears : (e : Epoch) → ep ≡ Some e → BearsEpoch said x e
 
 -- a turn issues nothing, or an epoch to the attempt that asks for one
 pub data Issuing (t : TargetPlan) (m : TargetMemory) (reading : ℕ) (said : Message) (lease : ℕ) (left : TargetMemory × Did) : Type 0 where
@@ -144,20 +144,20 @@ parked-anything P (p ∷ ps) h = (record { x = h.0.x; e = h.0.e; bears = h.0.bea
 
 -- what is known when a turn begins: the epochs that are heard, those of entries here, those of Fetches that wait, and what the turn
 -- issues
-record Knows (P : Known) (L : Spent) (from : ActorId) (said : Message) (old : Kept) (m : TargetMemory) (left : TargetMemory × Did) : Type 0 where
-  heard : (x : AttemptId) (e : Epoch) → BearsEpoch said x e → P x e
-  issued : (x : AttemptId) (e : Epoch) → left.1.issued ≡ Some (x, e) → P x e
-  spent : (x : AttemptId) (tracker : Epoch) → AsksEpoch said x tracker → left.1.issued ≡ None → L x from
-  entries : AreKnown P old.durable.entries
-  parked : AreParkedKnown P m.member.parked
+pub record Knows (P : Known) (L : Spent) (from : ActorId) (said : Message) (old : Kept) (m : TargetMemory) (left : TargetMemory × Did) : Type 0 where
+  pub heard : (x : AttemptId) (e : Epoch) → BearsEpoch said x e → P x e
+  pub issued : (x : AttemptId) (e : Epoch) → left.1.issued ≡ Some (x, e) → P x e
+  pub spent : (x : AttemptId) (tracker : Epoch) → AsksEpoch said x tracker → left.1.issued ≡ None → L x from
+  pub entries : AreKnown P old.durable.entries
+  pub parked : AreParkedKnown P m.member.parked
 
 -- what a turn of a target does with epochs
-record Turns (P : Known) (L : Spent) (t : TargetPlan) (m : TargetMemory) (reading : ℕ) (said : Message) (old new : Kept) (left : TargetMemory × Did) : Type 0 where
-  leaves : Leaves P L m left
-  stays : Stays P old.durable.lease new
-  issuing : Issuing t m reading said new.durable.lease left
+pub record Turns (P : Known) (L : Spent) (t : TargetPlan) (m : TargetMemory) (reading : ℕ) (said : Message) (old new : Kept) (left : TargetMemory × Did) : Type 0 where
+  pub leaves : Leaves P L m left
+  pub stays : Stays P old.durable.lease new
+  pub issuing : Issuing t m reading said new.durable.lease left
 
-goes-on : (P : Known) (L : Spent) (t : TargetPlan) (m : TargetMemory) (reading : ℕ) (said : Message) (old new : Kept) (left : TargetMemory × Did) → GoesOn P L m old.durable.lease new left → Turns P L t m reading said old new left
+pub goes-on : (P : Known) (L : Spent) (t : TargetPlan) (m : TargetMemory) (reading : ℕ) (said : Message) (old new : Kept) (left : TargetMemory × Did) → GoesOn P L m old.durable.lease new left → Turns P L t m reading said old new left
 goes-on P L t m reading said old new left g = record { leaves = g.leaves; stays = g.stays; issuing = Nothing g.issued }
 
 module _ (P : Known) (L : Spent) (t : TargetPlan) (opening : Epoch × FloorWhy) (m : TargetMemory) (reading : ℕ) (from : ActorId) (old new : Kept) (left : TargetMemory × Did) where
@@ -197,15 +197,14 @@ module _ (P : Known) (L : Spent) (t : TargetPlan) (opening : Epoch × FloorWhy) 
       k : Dates t m reading x ep tracker new.durable.lease left × Leaves P L m left × Stays P old.durable.lease new
       k = fetch-leaves P L t m reading q from old.durable.lease old new left refl h (record { lease = omega arith; entries = K.entries }) known
 
-  commit-turns : (x : AttemptId) (ep first : Option Epoch) (tracker : Epoch) (ws : List MinorWrite) → Knows P L from (message.Commit x ep first tracker ws) old m left
-      → HearsRightly t opening m reading from (message.Commit x ep first tracker ws) old new left → Turns P L t m reading (message.Commit x ep first tracker ws) old new left
-  commit-turns x ep first tracker ws K h = record { leaves = k.1; stays = k.2; issuing = issuing-of t m reading said x ep tracker new.durable.lease left asking dates }
+  -- a Commit, whatever it ends with
+  pub commit-turns-by : (x : AttemptId) (ep first : Option Epoch) (tracker : Epoch) (ws : List MinorWrite) → Knows P L from (message.Commit x ep first tracker ws) old m left
+      → ((Q : Known) (M : Spent) → Stays Q old.durable.lease old → IsKnownCommit Q M t m reading (commit_request x ep first tracker ws) from
+      → Dates t m reading x ep tracker new.durable.lease left × Leaves Q M m left × Stays Q old.durable.lease new) → Turns P L t m reading (message.Commit x ep first tracker ws) old new left
+  commit-turns-by x ep first tracker ws K leaves = record { leaves = k.1; stays = k.2; issuing = issuing-of t m reading said x ep tracker new.durable.lease left asking dates }
     where
       said : Message
       said = message.Commit x ep first tracker ws
-
-      q : CommitRequest
-      q = commit_request x ep first tracker ws
 
       asks : (o : Option Epoch) → o ≡ None → AsksEpoch (message.Commit x o first tracker ws) x tracker
       asks None is = (refl, refl)
@@ -219,11 +218,9 @@ module _ (P : Known) (L : Spent) (t : TargetPlan) (opening : Epoch × FloorWhy) 
       asking = record { asks = asks ep; bears = bears ep }
 
       dates : Dates t m reading x ep tracker new.durable.lease left
-      dates =
-          (commit-leaves anything anyone t opening m reading q from old.durable.lease old new left h (record { lease = omega arith; entries = all-anything old.durable.entries })
-          (record { epoch = λ e f. tt; spent = λ n. tt; parked = parked-anything P m.member.parked K.parked })).0
+      dates = (leaves anything anyone (record { lease = omega arith; entries = all-anything old.durable.entries }) (record { epoch = λ e f. tt; spent = λ n. tt; parked = parked-anything P m.member.parked K.parked })).0
 
-      known : IsKnownCommit P L t m reading q from
+      known : IsKnownCommit P L t m reading (commit_request x ep first tracker ws) from
       known = record {
         epoch = known-of t m reading said x ep tracker new.durable.lease left asking dates P (λ e b. K.heard x e b) (λ e i. K.issued x e i);
         spent = λ none. let s = spent-of t m reading said x ep tracker new.durable.lease left asking dates none in K.spent x tracker (asks ep s.0) s.1;
@@ -231,9 +228,14 @@ module _ (P : Known) (L : Spent) (t : TargetPlan) (opening : Epoch × FloorWhy) 
       }
 
       k : Dates t m reading x ep tracker new.durable.lease left × Leaves P L m left × Stays P old.durable.lease new
-      k = commit-leaves P L t opening m reading q from old.durable.lease old new left h (record { lease = omega arith; entries = K.entries }) known
+      k = leaves P L (record { lease = omega arith; entries = K.entries }) known
 
-  stands : (said : Message) → Knows P L from said old m left → Stays P old.durable.lease old
+  commit-turns : (x : AttemptId) (ep first : Option Epoch) (tracker : Epoch) (ws : List MinorWrite) → Knows P L from (message.Commit x ep first tracker ws) old m left
+      → HearsRightly t opening m reading from (message.Commit x ep first tracker ws) old new left → Turns P L t m reading (message.Commit x ep first tracker ws) old new left
+  commit-turns x ep first tracker ws K h =
+      commit-turns-by x ep first tracker ws K (λ Q M stays known. commit-leaves Q M t opening m reading (commit_request x ep first tracker ws) from old.durable.lease old new left h stays known)
+
+  pub stands : (said : Message) → Knows P L from said old m left → Stays P old.durable.lease old
   stands said K = record { lease = omega arith; entries = K.entries }
 
   -- every turn in which a target hears a message
@@ -265,17 +267,17 @@ sent-cases rest from posts l h =
     ⊎_elim (λ i. inl i) (λ i. let q = has-from_map (letter_of from) posts l (has-from_contains (letters_of from posts) l i) in inr (q.0, contains-from_has posts q.0 q.1, q.2)) (Contains-append_cases rest (letters_of from posts) l h)
 
 -- what is issued in a turn may be issued
-abbrev MayIssue : Rules → ℕ → World → ℕ → TargetState → Option (AttemptId × Epoch) → Type 0
+abbrev pub MayIssue : Rules → ℕ → World → ℕ → TargetState → Option (AttemptId × Epoch) → Type 0
 MayIssue r top w t new o = (x : AttemptId) (e : Epoch) → o ≡ Some (x, e) → IsNew r top w t new x e
 
 -- letters in flight that neither ask nor were answered for an attempt to which an epoch is issued now
-record AreOthers (r : Rules) (w : World) (rest : List Letter) (o : Option (AttemptId × Epoch)) : Type 0 where
-  among : (l : Letter) → Contains rest l → Contains w.messages l
-  asks : (l : Letter) (x : AttemptId) (k e : Epoch) → Contains rest l → AsksEpoch l.message x k → o ≡ Some (x, e) → ⊥
-  lacks : (l : Letter) (x : AttemptId) (e : Epoch) → Contains rest l → LacksEpoch l.message x → o ≡ Some (x, e) → ⊥
+pub record AreOthers (r : Rules) (w : World) (rest : List Letter) (o : Option (AttemptId × Epoch)) : Type 0 where
+  pub among : (l : Letter) → Contains rest l → Contains w.messages l
+  pub asks : (l : Letter) (x : AttemptId) (k e : Epoch) → Contains rest l → AsksEpoch l.message x k → o ≡ Some (x, e) → ⊥
+  pub lacks : (l : Letter) (x : AttemptId) (e : Epoch) → Contains rest l → LacksEpoch l.message x → o ≡ Some (x, e) → ⊥
 
 -- those who are told that no epoch is left
-abbrev MaySpend : World → Option (AttemptId × Epoch) → Spent
+abbrev pub MaySpend : World → Option (AttemptId × Epoch) → Spent
 MaySpend w o x to = (to ≡ client x.client) × IsUnissued w x × (o ≡ None)
 
 turn-keeps : (r : Rules) (top : ℕ) (w : World) (t : ℕ) (s : TargetState) (new : Kept) (memory : TargetMemory) (did : Did) (rest : List Letter) → PlainEpochs r top w → slice_get w.targets t ≡ Some s → AreOthers r w rest did.issued
@@ -311,7 +313,7 @@ turn-keeps r top w t s new memory did rest E here O I L S =
     lines = ap (λ ls. w.lines ++ map (with_epoch w.issued) ls) L.lines ∙ append-nil w.lines
 
 -- what is known when a turn begins, since the world knows it
-knows-then : (r : Rules) (top : ℕ) (w : World) (t : ℕ) (s : TargetState) (from : ActorId) (said : Message) (o : Option (AttemptId × Epoch)) → PlainEpochs r top w → slice_get w.targets t ≡ Some s
+pub knows-then : (r : Rules) (top : ℕ) (w : World) (t : ℕ) (s : TargetState) (from : ActorId) (said : Message) (o : Option (AttemptId × Epoch)) → PlainEpochs r top w → slice_get w.targets t ≡ Some s
     → AreKnown (issued_then w o) s.durable.entries × AreParkedKnown (issued_then w o) s.memory.member.parked
 knows-then r top w t s from said o E here = (
   known-all (issued_then w o) s.durable.entries (λ k i. Contains-append_left w.issued (listed o) (k.attempt, k.epoch) (E.entered t s k here i)),
@@ -320,7 +322,7 @@ knows-then r top w t s from said o E here = (
 
 -- ---- idle work
 
-none-issued : (w : World) (o : Option (AttemptId × Epoch)) → o ≡ None → (x : AttemptId) (e : Epoch) → o ≡ Some (x, e) → ⊥
+pub none-issued : (w : World) (o : Option (AttemptId × Epoch)) → o ≡ None → (x : AttemptId) (e : Epoch) → o ≡ Some (x, e) → ⊥
 none-issued w o none x e some = cc
 
 pub idles-kept : (r : Rules) (top : ℕ) (w v : World) → PlainEpochs r top w → TargetIdles r w v → PlainEpochs r top v
@@ -338,19 +340,76 @@ idles-kept r top w v E g =
 
 -- ---- hearing
 
-pub hears-kept : (r : Rules) (top : ℕ) (w v : World) → TalksOnce w → PlainEpochs r top w → TargetHearsRightly r w v → PlainEpochs r top v
-hears-kept r top w v talk E g =
+-- a target is at a letter that is in flight to it
+module _ (r : Rules) (top : ℕ) (w : World) (talk : TalksOnce w) (E : PlainEpochs r top w) (t : ℕ) (s : TargetState) (here : slice_get w.targets t ≡ Some s) (runs : s.life ≡ Running) (heard : Letter) (rest : List Letter) (takes : Takes w.messages heard rest)
+    (to_it : heard.to ≡ target t) where
+  among : Contains w.messages heard
+  among = taken-is-among w.messages heard rest takes
+
+  pub in-rest : (l : Letter) → Contains rest l → Contains w.messages l
+  in-rest l h = left-is-among w.messages heard rest l takes h
+
+  -- the attempt asks for an epoch
+  abbrev pub Asks : AttemptId → Type 0
+  Asks x = (tracker : Epoch) × AsksEpoch heard.message x tracker
+
+  -- the asking client has no other letter in flight
+  alone : (x : AttemptId) (c : ClientState) → Asks x → slice_get w.clients x.client ≡ Some c → (waits c ≡ true) × (talk_of x.client rest ≡ [])
+  alone x c a at =
+      let talks : is_talk_of x.client heard ≡ true = sent-is-talk x.client heard (asks-no_tell heard.message x a.0 a.1) (E.asker heard x a.0 among a.1) in
+      ((talking w x.client c heard talk at among talks).0, taken-silent w x.client c heard rest talk at takes talks)
+
+  pub other-asks : (l : Letter) (x : AttemptId) (k : Epoch) → Contains rest l → AsksEpoch l.message x k → Asks x → ⊥
+  other-asks l x k h a own =
+      let p = (E.fresh heard x own.0 among own.1).0 in
+      none-among x.client rest l (alone x p.c own p.here).1 h (sent-is-talk x.client l (asks-no_tell l.message x k a) (E.asker l x k (in-rest l h) a))
+
+  pub other-lacks : (l : Letter) (x : AttemptId) → Contains rest l → LacksEpoch l.message x → Asks x → ⊥
+  other-lacks l x h a own =
+      let p = (E.fresh heard x own.0 among own.1).0 in
+      none-among x.client rest l (alone x p.c own p.here).1 h (got-is-talk x.client l (lacks-no_tell l.message x a) (E.lacking l x (in-rest l h) a).0)
+
+  few : t < 256
+  few = let p : t < length w.targets = slice_get_within w.targets t s here in let q : length w.targets ≤ 256 = E.few in omega (arith, p, q)
+
+  -- an epoch that is found for it may be issued
+  pub new-epoch : (new : TargetState) (reading : ℕ) (x : AttemptId) (e tracker : Epoch) → AsksEpoch heard.message x tracker → Covers (target_plan r t) s.memory reading tracker None e new.durable.lease → e.0 / 256 ≤ new.memory.ticks → IsNew r top w t new x e
+  new-epoch new reading x e tracker a c up = record {
+    unissued = f.1;
+    present = f.0;
+    waits = λ z b at is. sym (ap is_waiting is) ∙ (alone x z (tracker, a) at).0;
+    above = let low : top ≤ tracker.0 = f.2 in let above : tracker.0 < e.0 = i.1 in omega (arith, low, above);
+    own = i.2;
+    first = ap (λ z. z.number) (sym to_it ∙ E.asked heard x tracker among a);
+    leased = c.covered;
+    ticks = up;
+    told = λ n told. let low : n ≤ tracker.0 = f.3 n told in let above : tracker.0 < e.0 = i.1 in omega (arith, low, above);
+    highest = λ y z issued own.
+        let at : slice_get w.targets (z.0 % 256) ≡ Some s = subst (λ u. slice_get w.targets u ≡ Some s) (sym own) here in
+        let low : z.0 / 256 ≤ s.memory.ticks = E.ticks y z s issued at runs in
+        let above : s.memory.ticks < e.0 / 256 = i.0 in
+        omega (arith, low, above);
+  }
+    where
+      f : IsPresent r w x × IsUnissued w x × (top ≤ tracker.0) × ((n : ℕ) → IsTold r w x.client n → n ≤ tracker.0)
+      f = E.fresh heard x tracker among a
+
+      i : (s.memory.ticks < e.0 / 256) × (tracker.0 < e.0) × (e.0 % 256 ≡ t)
+      i = issued-ticks (target_plan r t) s.memory reading tracker e few c.found
+
+-- a target that hears a message, whose turn does so with epochs
+pub hearing-kept : (Turn : Hearing) (r : Rules) (top : ℕ) (w v : World) → TalksOnce w → PlainEpochs r top w → (g : TargetHearsBy Turn r w v)
+    → ((P : Known) (L : Spent) → Knows P L g.l.from g.l.message (kept g.s) g.s.memory (g.memory, g.did) → Turns P L (target_plan r g.t) g.s.memory g.reading g.l.message (kept g.s) g.new (g.memory, g.did)) → PlainEpochs r top v
+hearing-kept Turn r top w v talk E g turns =
     subst (λ z. PlainEpochs r top z) (sym g.after)
     (turn-keeps r top w g.t g.s g.new g.memory g.did g.rest E g.here
-    (record { among = in-rest; asks = λ l x t e h a is. other-asks l x t h a (asker x e is); lacks = λ l x e h a is. other-lacks l x h a (asker x e is) })
+    (record {
+      among = in-rest r top w talk E g.t g.s g.here g.runs g.l g.rest g.takes g.to_it;
+      asks = λ l x t e h a is. other-asks r top w talk E g.t g.s g.here g.runs g.l g.rest g.takes g.to_it l x t h a (asker x e is);
+      lacks = λ l x e h a is. other-lacks r top w talk E g.t g.s g.here g.runs g.l g.rest g.takes g.to_it l x h a (asker x e is);
+    })
     (λ x e is. may-issue x e k.issuing is) k.leaves k.stays)
   where
-    among : Contains w.messages g.l
-    among = taken-is-among w.messages g.l g.rest g.takes
-
-    in-rest : (l : Letter) → Contains g.rest l → Contains w.messages l
-    in-rest l h = left-is-among w.messages g.l g.rest l g.takes h
-
     P : Known
     P = issued_then w g.did.issued
 
@@ -361,72 +420,31 @@ hears-kept r top w v talk E g =
     before = knows-then r top w g.t g.s g.l.from g.l.message g.did.issued E g.here
 
     k : Turns P L (target_plan r g.t) g.s.memory g.reading g.l.message (kept g.s) g.new (g.memory, g.did)
-    k = hears-turns P L (target_plan r g.t) g.s.opening g.s.memory g.reading g.l.from (kept g.s) g.new (g.memory, g.did) g.l.message (E.plain g.l among) (record {
-      heard = λ x e h. Contains-append_left w.issued (listed g.did.issued) (x, e) (E.borne g.l x e among h);
+    k = turns P L (record {
+      heard = λ x e h. Contains-append_left w.issued (listed g.did.issued) (x, e) (E.borne g.l x e (taken-is-among w.messages g.l g.rest g.takes) h);
       issued = λ x e is. Contains-append_right w.issued (listed g.did.issued) (x, e) (listed-has g.did.issued (x, e) is);
-      spent = λ x tracker a none. (E.asker g.l x tracker among a, (E.fresh g.l x tracker among a).1, none);
+      spent = λ x tracker a none. let i = taken-is-among w.messages g.l g.rest g.takes in (E.asker g.l x tracker i a, (E.fresh g.l x tracker i a).1, none);
       entries = before.0;
       parked = before.1;
-    }) g.turn
+    })
 
     -- the attempt to which an epoch is issued asks
-    Asks : AttemptId → Type 0
-    Asks x = (tracker : Epoch) × AsksEpoch g.l.message x tracker
-
-    asker : (x : AttemptId) (e : Epoch) → g.did.issued ≡ Some (x, e) → Asks x
+    asker : (x : AttemptId) (e : Epoch) → g.did.issued ≡ Some (x, e) → Asks r top w talk E g.t g.s g.here g.runs g.l g.rest g.takes g.to_it x
     asker x e is = by k.issuing
       where
-        by : Issuing (target_plan r g.t) g.s.memory g.reading g.l.message g.new.durable.lease (g.memory, g.did) → Asks x
+        by : Issuing (target_plan r g.t) g.s.memory g.reading g.l.message g.new.durable.lease (g.memory, g.did) → Asks r top w talk E g.t g.s g.here g.runs g.l g.rest g.takes g.to_it x
         by (Nothing none) = let no : ⊥ = cc in absurd no
         by (ItsEpoch y f tracker a c is' up) = let same : y ≡ x = (some_pair_parts y x f e (sym is' ∙ is)).0 in (tracker, subst (λ z. AsksEpoch g.l.message z tracker) same a)
-
-    -- the asking client has no other letter in flight
-    alone : (x : AttemptId) (c : ClientState) → Asks x → slice_get w.clients x.client ≡ Some c → (waits c ≡ true) × (talk_of x.client g.rest ≡ [])
-    alone x c a here =
-        let talks : is_talk_of x.client g.l ≡ true = sent-is-talk x.client g.l (asks-no_tell g.l.message x a.0 a.1) (E.asker g.l x a.0 among a.1) in
-        ((talking w x.client c g.l talk here among talks).0, taken-silent w x.client c g.l g.rest talk here g.takes talks)
-
-    other-asks : (l : Letter) (x : AttemptId) (t : Epoch) → Contains g.rest l → AsksEpoch l.message x t → Asks x → ⊥
-    other-asks l x t h a own =
-        let p = (E.fresh g.l x own.0 among own.1).0 in
-        none-among x.client g.rest l (alone x p.c own p.here).1 h (sent-is-talk x.client l (asks-no_tell l.message x t a) (E.asker l x t (in-rest l h) a))
-
-    other-lacks : (l : Letter) (x : AttemptId) → Contains g.rest l → LacksEpoch l.message x → Asks x → ⊥
-    other-lacks l x h a own =
-        let p = (E.fresh g.l x own.0 among own.1).0 in
-        none-among x.client g.rest l (alone x p.c own p.here).1 h (got-is-talk x.client l (lacks-no_tell l.message x a) (E.lacking l x (in-rest l h) a).0)
-
-    few : g.t < 256
-    few = let p : g.t < length w.targets = slice_get_within w.targets g.t g.s g.here in let q : length w.targets ≤ 256 = E.few in omega (arith, p, q)
-
-    -- it may be issued
-    new-epoch : (x : AttemptId) (e tracker : Epoch) → AsksEpoch g.l.message x tracker → Covers (target_plan r g.t) g.s.memory g.reading tracker None e g.new.durable.lease → e.0 / 256 ≤ g.memory.ticks
-        → IsNew r top w g.t (target_after g.s g.new g.memory) x e
-    new-epoch x e tracker a c up = record {
-      unissued = f.1;
-      present = f.0;
-      waits = λ z b here at. sym (ap is_waiting at) ∙ (alone x z (tracker, a) here).0;
-      above = let low : top ≤ tracker.0 = f.2 in let above : tracker.0 < e.0 = t.1 in omega (arith, low, above);
-      own = t.2;
-      first = ap (λ z. z.number) (sym g.to_it ∙ E.asked g.l x tracker among a);
-      leased = c.covered;
-      ticks = up;
-      told = λ n told. let low : n ≤ tracker.0 = f.3 n told in let above : tracker.0 < e.0 = t.1 in omega (arith, low, above);
-      highest = λ y z issued own.
-          let at : slice_get w.targets (z.0 % 256) ≡ Some g.s = subst (λ u. slice_get w.targets u ≡ Some g.s) (sym own) g.here in
-          let low : z.0 / 256 ≤ g.s.memory.ticks = E.ticks y z g.s issued at g.runs in
-          let above : g.s.memory.ticks < e.0 / 256 = t.0 in
-          omega (arith, low, above);
-    }
-      where
-        f : IsPresent r w x × IsUnissued w x × (top ≤ tracker.0) × ((n : ℕ) → IsTold r w x.client n → n ≤ tracker.0)
-        f = E.fresh g.l x tracker among a
-
-        t : (g.s.memory.ticks < e.0 / 256) × (tracker.0 < e.0) × (e.0 % 256 ≡ g.t)
-        t = issued-ticks (target_plan r g.t) g.s.memory g.reading tracker e few c.found
 
     may-issue : (x : AttemptId) (e : Epoch) → Issuing (target_plan r g.t) g.s.memory g.reading g.l.message g.new.durable.lease (g.memory, g.did) → g.did.issued ≡ Some (x, e) → IsNew r top w g.t (target_after g.s g.new g.memory) x e
     may-issue x e (Nothing none) is = let no : ⊥ = cc in absurd no
     may-issue x e (ItsEpoch y f tracker a c is' up) is =
         let same = some_pair_parts y x f e (sym is' ∙ is) in
-        subst (λ z. IsNew r top w g.t (target_after g.s g.new g.memory) z e) same.0 (subst (λ z. IsNew r top w g.t (target_after g.s g.new g.memory) y z) same.1 (new-epoch y f tracker a c up))
+        subst (λ z. IsNew r top w g.t (target_after g.s g.new g.memory) z e) same.0
+        (subst (λ z. IsNew r top w g.t (target_after g.s g.new g.memory) y z) same.1
+        (new-epoch r top w talk E g.t g.s g.here g.runs g.l g.rest g.takes g.to_it (target_after g.s g.new g.memory) g.reading y f tracker a c up))
+
+pub hears-kept : (r : Rules) (top : ℕ) (w v : World) → TalksOnce w → PlainEpochs r top w → TargetHearsRightly r w v → PlainEpochs r top v
+hears-kept r top w v talk E g =
+    hearing-kept HearsRightly r top w v talk E g
+    (λ P L K. hears-turns P L (target_plan r g.t) g.s.opening g.s.memory g.reading g.l.from (kept g.s) g.new (g.memory, g.did) g.l.message (E.plain g.l (taken-is-among w.messages g.l g.rest g.takes)) K g.turn)

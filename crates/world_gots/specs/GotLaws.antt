@@ -96,14 +96,14 @@ pub stays : (h : History) (p : ClientPlan) (c : ClientState) (d : Command) (b : 
     → m.state.present ≡ Some b → IsServedSoFar h (attempt_id p c b) p.targets (ops_of d) b → KeepsGots h p m
 stays h p c d b m k line place command present s = silent-gots h p m line (rw (present, place, command) (rw (k.at) s))
 
-waits-served : (h : History) (x : AttemptId) (targets : ℕ) (ops : List Op) (b : Bool) (a : Present) → IsServedSoFar h x targets ops a → IsServedSoFar h x targets ops (record a { waits = b })
+pub waits-served : (h : History) (x : AttemptId) (targets : ℕ) (ops : List Op) (b : Bool) (a : Present) → IsServedSoFar h x targets ops a → IsServedSoFar h x targets ops (record a { waits = b })
 waits-served h x targets ops b a s = record { told = s.told; found = by s.found }
   where
     by : IsFound h x targets ops a → IsFound h x targets ops (record a { waits = b })
     by (Nothing g f) = Nothing g f
     by (Found op read at asks low j) = Found op read at asks low j
 
-waits-gots : (h : History) (p : ClientPlan) (c : ClientState) (d : Command) (a : Present) (m : Move) → Here h p c d a → m.line ≡ None → m.state ≡ at_present (record a { waits = true }) c → KeepsGots h p m
+pub waits-gots : (h : History) (p : ClientPlan) (c : ClientState) (d : Command) (a : Present) (m : Move) → Here h p c d a → m.line ≡ None → m.state ≡ at_present (record a { waits = true }) c → KeepsGots h p m
 waits-gots h p c d a m k line state =
     stays h p c d (record a { waits = true }) m k.at line (ap (λ s. s.place) state) (ap (λ s. s.command) state) (ap (λ s. s.present) state) (waits-served h (attempt_id p c a) p.targets (ops_of d) true a k.served)
 

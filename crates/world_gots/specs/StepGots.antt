@@ -1,5 +1,5 @@
 -- Every turn of a client keeps that clients were told what was served.
-use Rattle.std.specs.Prelude.{ℕ, ◌≡◌, ◌<◌, ◌++◌, Bool, true, false, List, map, slice_get, All, Contains, Option, Some, None, refl}
+use Rattle.std.specs.Prelude.{ℕ, ◌≡◌, ◌<◌, ◌++◌, Bool, true, false, List, [], map, slice_get, All, Contains, Option, Some, None, refl}
 use Rattle.std.proofs.Common.{◌⊎◌, append-nil, sym, ◌∙◌, ap, subst, inl, inr}
 use Rattle.std.proofs.Math.ListN.{set}
 use Rattle.std.proofs.lemmas.Bool.{cases_eq, true≢false}
@@ -28,7 +28,7 @@ use Rattle.world_clients.specs.Answered.{ops_here, ops_numbered}
 use Rattle.world_clients.specs.MoveLaws.{moved-keeps}
 use Rattle.world_clients.specs.Standing.{HasTold}
 use Rattle.world_base.specs.Events.{Rules, client_plan, with_epoch}
-use Rattle.world_base.specs.Letters.{client, is_tell, letter_of, letters_of}
+use Rattle.world_base.specs.Letters.{client, is_tell, letter_of, letters_of, talk_of}
 use Rattle.world_base.specs.StepLaws.{set-here, set-there}
 use Rattle.world_base.specs.Steps.{KeptByMoves, after_move}
 use Rattle.world_gots.specs.Gots.{AreServed, Gots, IsLineServed, IsServedAnswer, IsServedSoFar}
@@ -67,7 +67,7 @@ KeepsAnswers letters more = (l : Letter) → Contains more l → is_fetched l.me
 pub sends-none : (letters : List Letter) (n : ℕ) (o : Option Post) → o ≡ None → KeepsAnswers letters (letters ++ letters_of (client n) (listed o))
 sends-none letters n o e l in' answer = subst (λ ls. Contains ls l) (append-nil letters) (subst (λ z. Contains (letters ++ letters_of (client n) (listed z)) l) e in')
 
-sends-one : (letters : List Letter) (n : ℕ) (o : Option Post) (q : Post) → o ≡ Some q → is_fetched q.message ≡ false → KeepsAnswers letters (letters ++ letters_of (client n) (listed o))
+pub sends-one : (letters : List Letter) (n : ℕ) (o : Option Post) (q : Post) → o ≡ Some q → is_fetched q.message ≡ false → KeepsAnswers letters (letters ++ letters_of (client n) (listed o))
 sends-one letters n o q e isnt l in' answer = by (Contains-push_cases letters (letter_of (client n) q) l (subst (λ z. Contains (letters ++ letters_of (client n) (listed z)) l) e in'))
   where
     by : Contains letters l ⊎ (letter_of (client n) q ≡ l) → Contains letters l
@@ -178,12 +178,10 @@ here-of r h w n c k here = by c.present refl
 
 -- ---- a client moves
 
-pub gots-move : (r : Rules) (h : History) → 0 < r.attempts → KeptByMoves r (ToldServed r h)
-gots-move r h some w n c here k = record {
-  conversation = move-keeps r w n c here k.conversation;
-  standing = standing-turned r w (after_move w n m) n c m.state here refl k.standing (_, moved-keeps p c s.0 some s.1);
-  gots = turned r h w (after_move w n m) n c m k.gots here refl refl (moved-sends p c w.messages n) (moved-gots h p c s.0 s.1 (here-of r h w n c k.gots here)) flies;
-}
+-- one of which nothing is in flight while it doesn't wait
+pub gots-moved : (r : Rules) (h : History) (w : World) (n : ℕ) (c : ClientState) (attempts : List Attempt) → slice_get w.clients n ≡ Some c → (waits c ≡ false → talk_of n w.messages ≡ []) → HasTold (client_plan r n) c attempts → Gots r h w
+    → Gots r h (after_move w n (moved (client_plan r n) c))
+gots-moved r h w n c attempts here silent told k = turned r h w (after_move w n m) n c m k here refl refl (moved-sends p c w.messages n) (moved-gots h p c attempts told (here-of r h w n c k here)) flies
   where
     p : ClientPlan
     p = client_plan r n
@@ -191,16 +189,22 @@ gots-move r h some w n c here k = record {
     m : Move
     m = moved p c
 
-    s : (attempts : List Attempt) × HasTold p c attempts
-    s = k.standing n c here
-
     by : (b : Bool) → waits c ≡ b → AreFlying h p n m.state (after_move w n m).messages
     by true waiting a l x op group own b present in' to it =
         let same : m.state ≡ c = ap (λ z. z.state) (waiting-rests p c waiting) in
         subst (λ e. IsServedAnswer p h e a own b) (sym same)
-        (k.gots.flying n c a l x op group own b here (ap (λ e. e.present) (sym same) ∙ present) (moved-sends p c w.messages n l in' (ap is_fetched it)) to it)
+        (k.flying n c a l x op group own b here (ap (λ e. e.present) (sym same) ∙ present) (moved-sends p c w.messages n l in' (ap is_fetched it)) to it)
     by false free a l x op group own b present in' to it =
-        absurd (none-among n w.messages l (none-in-flight r w n c k.conversation here free) (moved-sends p c w.messages n l in' (ap is_fetched it)) (got-is-talk n l (ap is_tell it) to))
+        absurd (none-among n w.messages l (silent free) (moved-sends p c w.messages n l in' (ap is_fetched it)) (got-is-talk n l (ap is_tell it) to))
 
     flies : AreFlying h p n m.state (after_move w n m).messages
     flies = by (waits c) refl
+
+pub gots-move : (r : Rules) (h : History) → 0 < r.attempts → KeptByMoves r (ToldServed r h)
+gots-move r h some w n c here k =
+    let s = k.standing n c here in
+    record {
+      conversation = move-keeps r w n c here k.conversation;
+      standing = standing-turned r w (after_move w n (moved (client_plan r n) c)) n c (moved (client_plan r n) c).state here refl k.standing (_, moved-keeps (client_plan r n) c s.0 some s.1);
+      gots = gots-moved r h w n c s.0 here (none-in-flight r w n c k.conversation here) s.1 k.gots;
+    }

@@ -74,7 +74,7 @@ known-then None e agrees = refl
 known-then (Some o) e agrees = ap (λ z. Some z) (agrees o refl)
 
 -- so it was served to the attempt
-answer-served : (p : ClientPlan) (h : History) (t : ℕ) (k : Epoch) (c : ClientState) (a : Present) (q : FetchRequest) (epoch : Epoch) (b : Answer) → AnswersAsked p h t k c a q epoch b → IsServedAnswer p h c a (Some epoch) b
+pub answer-served : (p : ClientPlan) (h : History) (t : ℕ) (k : Epoch) (c : ClientState) (a : Present) (q : FetchRequest) (epoch : Epoch) (b : Answer) → AnswersAsked p h t k c a q epoch b → IsServedAnswer p h c a (Some epoch) b
 answer-served p h t k c a q epoch b i = record {
   op = i.asks.o;
   read = i.f.read;
@@ -94,7 +94,7 @@ answer-served p h t k c a q epoch b i = record {
 
 -- ---- more is remembered
 
-answer-remembered : (p : ClientPlan) (h k : History) (c : ClientState) (a : Present) (own : Option Epoch) (b : Answer) → Remembers h k → IsServedAnswer p h c a own b → IsServedAnswer p k c a own b
+pub answer-remembered : (p : ClientPlan) (h k : History) (c : ClientState) (a : Present) (own : Option Epoch) (b : Answer) → Remembers h k → IsServedAnswer p h c a own b → IsServedAnswer p k c a own b
 answer-remembered p h k c a own b more s = record {
   op = s.op;
   read = s.read;
@@ -104,7 +104,7 @@ answer-remembered p h k c a own b more s = record {
 }
 
 -- where the clients and the lines are as they were, and what is on its way was served
-same-clients : (r : Rules) (h k : History) (w v : World) → Remembers h k → v.clients ≡ w.clients → v.lines ≡ w.lines → Gots r h w
+pub same-clients : (r : Rules) (h k : History) (w v : World) → Remembers h k → v.clients ≡ w.clients → v.lines ≡ w.lines → Gots r h w
     → ((n : ℕ) (c : ClientState) (a : Present) (l : Letter) (x : AttemptId) (op group : ℕ) (own : Option Epoch) (b : Answer) → slice_get w.clients n ≡ Some c → c.present ≡ Some a → Contains v.messages l
     → l.to ≡ client n → l.message ≡ message.Fetched x op group own (reply.Answer b) → IsServedAnswer (client_plan r n) k c a own b) → Gots r k v
 same-clients r h k w v more clients lines g flies = record {
@@ -118,7 +118,7 @@ same-clients r h k w v more clients lines g flies = record {
     was : (n : ℕ) (c : ClientState) → slice_get v.clients n ≡ Some c → slice_get w.clients n ≡ Some c
     was n c at = ap (λ cs. slice_get cs n) (sym clients) ∙ at
 
-gots-remembered : (r : Rules) (h k : History) (w : World) → Remembers h k → Gots r h w → Gots r k w
+pub gots-remembered : (r : Rules) (h k : History) (w : World) → Remembers h k → Gots r h w → Gots r k w
 gots-remembered r h k w more g =
     same-clients r h k w w more refl refl g (λ n c a l x op group own b at here in' to it. answer-remembered (client_plan r n) h k c a own b more (g.flying n c a l x op group own b at here in' to it))
 
@@ -130,21 +130,36 @@ same-standing r w v clients k n c at = k n c (ap (λ cs. slice_get cs n) (sym cl
 
 -- ---- a target hears a message
 
-same-request : (q f : FetchRequest) → fetch_message q ≡ fetch_message f → (q.attempt ≡ f.attempt) × (q.op ≡ f.op) × (q.group ≡ f.group) × (q.ep ≡ f.ep) × (q.read ≡ f.read)
+pub same-request : (q f : FetchRequest) → fetch_message q ≡ fetch_message f → (q.attempt ≡ f.attempt) × (q.op ≡ f.op) × (q.group ≡ f.group) × (q.ep ≡ f.ep) × (q.read ≡ f.read)
 same-request q f same = (cc (same), cc (same), cc (same), cc (same), cc (same))
 
-module _ (r : Rules) (h k : History) (w v : World) (t : ToldServed r h w) (g : TargetHearsRightly r w v) where
-  -- what answers a Fetch that was heard, or that waited, answers what a client that waits has asked
-  pub record AnswersClient (q : FetchRequest) (epoch : Epoch) (b : Answer) : Type 0 where
-    pub n : ℕ
-    pub c : ClientState
-    pub a : Present
-    pub here : slice_get w.clients n ≡ Some c
-    pub present : c.present ≡ Some a
-    pub k0 : Epoch
-    pub is : AnswersAsked (client_plan r n) k g.t k0 c a q epoch b
+-- what answers a Fetch answers what a client that waits has asked
+pub record AnswersClient (r : Rules) (k : History) (w : World) (t : ℕ) (q : FetchRequest) (epoch : Epoch) (b : Answer) : Type 0 where
+  pub n : ℕ
+  pub c : ClientState
+  pub a : Present
+  pub here : slice_get w.clients n ≡ Some c
+  pub present : c.present ≡ Some a
+  pub k0 : Epoch
+  pub is : AnswersAsked (client_plan r n) k t k0 c a q epoch b
 
-  heard-asked : (q : FetchRequest) (epoch : Epoch) (b : Answer) → fetch_message q ≡ g.l.message → ((f : Epoch) → q.ep ≡ Some f → f ≡ epoch) → Has (served_at g.t q epoch b) k.served → AnswersClient q epoch b
+-- where that is this client, it was served to its attempt
+pub client-served : (r : Rules) (k : History) (w : World) (t n : ℕ) (c : ClientState) (a : Present) (q : FetchRequest) (epoch : Epoch) (b : Answer) (y : AnswersClient r k w t q epoch b) → y.n ≡ n → slice_get w.clients n ≡ Some c → c.present ≡ Some a
+    → IsServedAnswer (client_plan r n) k c a (Some epoch) b
+client-served r k w t n c a q epoch b y number here present =
+    subst (λ j. IsServedAnswer (client_plan r j) k c a (Some epoch) b) number
+    (subst (λ s. IsServedAnswer (client_plan r y.n) k s a (Some epoch) b) state
+    (subst (λ u. IsServedAnswer (client_plan r y.n) k y.c u (Some epoch) b) attempt
+    (answer-served (client_plan r y.n) k t y.k0 y.c y.a q epoch b y.is)))
+  where
+    state : y.c ≡ c
+    state = let at : slice_get w.clients n ≡ Some y.c = subst (λ j. slice_get w.clients j ≡ Some y.c) number y.here in cc (at, here)
+
+    attempt : y.a ≡ a
+    attempt = let at : c.present ≡ Some y.a = subst (λ s. s.present ≡ Some y.a) state y.present in cc (at, present)
+
+module _ (r : Rules) (h k : History) (w v : World) (t : ToldServed r h w) (g : TargetHearsRightly r w v) where
+  heard-asked : (q : FetchRequest) (epoch : Epoch) (b : Answer) → fetch_message q ≡ g.l.message → ((f : Epoch) → q.ep ≡ Some f → f ≡ epoch) → Has (served_at g.t q epoch b) k.served → AnswersClient r k w g.t q epoch b
   heard-asked q epoch b it own among =
       let i = hears-request r w g.l g.rest t.conversation g.takes (ap is_request (sym it)) in
       let says : i.q.message ≡ fetch_message q = sym (ap (λ z. z.message) i.it) ∙ sym it in
@@ -159,7 +174,7 @@ module _ (r : Rules) (h k : History) (w v : World) (t : ToldServed r h w) (g : T
       }
 
   waited-asked : (q : FetchRequest) (epoch : Epoch) (b : Answer) (p : Parked) → Has p g.s.memory.member.parked → fetch_message q ≡ p.ask → ((f : Epoch) → q.ep ≡ Some f → f ≡ epoch) → Has (served_at g.t q epoch b) k.served
-      → AnswersClient q epoch b
+      → AnswersClient r k w g.t q epoch b
   waited-asked q epoch b p i it own among =
       let z = parked-is r w g.t g.s p q.attempt.client t.conversation g.here i (ap (is_fetch_of q.attempt.client) (sym it) ∙ same_number q.attempt.client) in
       let same = same-request q (record z.f { ep = Some z.e }) (it ∙ z.it) in
@@ -182,19 +197,19 @@ module _ (r : Rules) (h k : History) (w v : World) (t : ToldServed r h w) (g : T
         };
       }
 
-  asked-by : (q : FetchRequest) (epoch : Epoch) (b : Answer) → IsAskedIn g.l.message g.s.memory.member.parked (fetch_message q) → ((f : Epoch) → q.ep ≡ Some f → f ≡ epoch) → Has (served_at g.t q epoch b) k.served → AnswersClient q epoch b
+  asked-by : (q : FetchRequest) (epoch : Epoch) (b : Answer) → IsAskedIn g.l.message g.s.memory.member.parked (fetch_message q) → ((f : Epoch) → q.ep ≡ Some f → f ≡ epoch) → Has (served_at g.t q epoch b) k.served → AnswersClient r k w g.t q epoch b
   asked-by q epoch b (Heard it) own among = heard-asked q epoch b it own among
   asked-by q epoch b (Waited p i it) own among = waited-asked q epoch b p i it own among
 
   -- an answer that is sent to a client is of what it asks
   sent-answer : AreRemembered r w v k g → (n : ℕ) (c : ClientState) (a : Present) (p : Post) (x : AttemptId) (op group : ℕ) (own : Option Epoch) (b : Answer) → slice_get w.clients n ≡ Some c → c.present ≡ Some a
       → Has p g.did.posts → p.to ≡ client n → p.message ≡ message.Fetched x op group own (reply.Answer b) → IsServedAnswer (client_plan r n) k c a own b
-  sent-answer has n c a p x op group own b here present i to it = subst (λ e. IsServedAnswer (client_plan r n) k c a e b) (sym z.told) at-client
+  sent-answer has n c a p x op group own b here present i to it = subst (λ e. IsServedAnswer (client_plan r n) k c a e b) (sym z.told) (client-served r k w g.t n c a z.q z.epoch b y number here present)
     where
       z : IsAnswered k.served g.t g.l.message g.s.memory.member.parked x op group own b
       z = has.answered p x op group own b i it
 
-      y : AnswersClient z.q z.epoch b
+      y : AnswersClient r k w g.t z.q z.epoch b
       y = asked-by z.q z.epoch b z.asked z.own z.among
 
       number : y.n ≡ n
@@ -203,21 +218,8 @@ module _ (r : Rules) (h k : History) (w v : World) (t : ToldServed r h w) (g : T
           let home : client n ≡ client x.client = sym to ∙ has.home p x op group own b i it in
           sym of_it ∙ sym (ap (λ u. u.number) home)
 
-      state : y.c ≡ c
-      state = let at : slice_get w.clients n ≡ Some y.c = subst (λ j. slice_get w.clients j ≡ Some y.c) number y.here in cc (at, here)
-
-      attempt : y.a ≡ a
-      attempt = let at : c.present ≡ Some y.a = subst (λ s. s.present ≡ Some y.a) state y.present in cc (at, present)
-
-      at-client : IsServedAnswer (client_plan r n) k c a (Some z.epoch) b
-      at-client =
-          subst (λ j. IsServedAnswer (client_plan r j) k c a (Some z.epoch) b) number
-          (subst (λ s. IsServedAnswer (client_plan r y.n) k s a (Some z.epoch) b) state
-          (subst (λ u. IsServedAnswer (client_plan r y.n) k y.c u (Some z.epoch) b) attempt
-          (answer-served (client_plan r y.n) k g.t y.k0 y.c y.a z.q z.epoch b y.is)))
-
 -- what is in flight once a target did something: what was left, and what it sends
-sent-or_left : (rest : List Letter) (from : ActorId) (posts : List Post) (l : Letter) → Contains (rest ++ letters_of from posts) l → Contains rest l ⊎ ((p : Post) × Has p posts × (letter_of from p ≡ l))
+pub sent-or_left : (rest : List Letter) (from : ActorId) (posts : List Post) (l : Letter) → Contains (rest ++ letters_of from posts) l → Contains rest l ⊎ ((p : Post) × Has p posts × (letter_of from p ≡ l))
 sent-or_left rest from posts l i = elim (has-cases rest (letters_of from posts) l (has-from_contains (rest ++ letters_of from posts) l i)) [
   | inl j ↦ inl (contains-from_has rest l j)
   | inr j ↦ inr (has-from_map (letter_of from) posts l j)
@@ -245,7 +247,7 @@ target-hears-told r h k w v more t g has = record {
 
 -- ---- a target does its idle work, and answers no read
 
-abbrev AnswerNone : List Post → Type 0
+abbrev pub AnswerNone : List Post → Type 0
 AnswerNone posts = (p : Post) → Has p posts → is_fetched p.message ≡ false
 
 both-none : (ps qs : List Post) → AnswerNone ps → AnswerNone qs → AnswerNone (ps ++ qs)
@@ -272,7 +274,7 @@ unfolding inquired
 inquiries-none false t m d = λ p i. absurd i
 inquiries-none true t m d = λ p i. let e = has-from_map inquiry_for (to_inquire d.entries (member_at t m)) p i in ap (λ z. is_fetched z.message) (sym e.2)
 
-ends-none : (settling : Bool) (t : TargetPlan) (m : TargetMemory) (s : List AttemptId) (k : Kept) (left : TargetMemory × Did) → IdleEnds settling t m s k left → AnswerNone left.1.posts
+pub ends-none : (settling : Bool) (t : TargetPlan) (m : TargetMemory) (s : List AttemptId) (k : Kept) (left : TargetMemory × Did) → IdleEnds settling t m s k left → AnswerNone left.1.posts
 ends-none settling t m s k left (AllSettled j left2 is) =
     subst (λ z. AnswerNone z.1.posts) (sym is) (both-none (batch_of t m k.durable).posts (inquiry_of settling t m k.durable).freed.posts (batch-none (leader_at t (with_unsettled [] m) k.durable)) (inquiries-none settling t m k.durable))
 

@@ -51,7 +51,7 @@ letters-left : (r : Rules) (w : World) (n : ℕ) (c : ClientState) (l : Letter) 
 letters-left r w n c l rest hearing = sends-none rest n (heard (client_plan r n) c l.message).post (heard-silent r n c l rest hearing)
 
 -- the attempt that waits, once it knows its epoch
-known-here : (h : History) (p : ClientPlan) (c e : ClientState) (d : Command) (a : Present) (own : Option Epoch) → e.place ≡ c.place → e.command ≡ c.command → Here h p c d a → Here h p e d (knows own a)
+pub known-here : (h : History) (p : ClientPlan) (c e : ClientState) (d : Command) (a : Present) (own : Option Epoch) → e.place ≡ c.place → e.command ≡ c.command → Here h p c d a → Here h p e d (knows own a)
 known-here h p c e d a own place command k = record {
   at = record { at = rw (place) (k.at.at); numbers = rw (command) (k.at.numbers) };
   served = rw (command) (knows-more h (attempt_id p c a) p.targets (ops_of d) own a k.served);

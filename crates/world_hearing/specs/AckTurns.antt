@@ -13,12 +13,11 @@ use Rattle.base_messages.specs.declared.message.Message.{Message}
 use Rattle.base_messages.specs.declared.message.Message.TheVariants as message
 use Rattle.base_messages.specs.declared.message.Post.{Post}
 use Rattle.model_laws.specs.Members.{Has, contains-from_has, has-cases, has-from_map}
-use Rattle.daos_model.specs.declared.durable.Durable.{Durable}
 use Rattle.daos_model.specs.declared.durable.Version.{Version}
 use Rattle.daos_model.specs.BoolLaws.{clash}
 use Rattle.daos_model.specs.Durables.{entry_of}
 use Rattle.daos_model.specs.Opening.{Opening}
-use Rattle.dtx_base.specs.Leading.{LeaderOf, abort_to, ack_heard, ended}
+use Rattle.dtx_base.specs.Leading.{abort_to, ended}
 use Rattle.dtx_base.specs.Members.{other_members}
 use Rattle.dtx_base.specs.Rows.{is_among}
 use Rattle.world_attempts.specs.Attempts.{Entries, entry_in, writes_of}

@@ -1,19 +1,18 @@
 -- Attempts are aborted or decided that nobody is told of: where a turn is cut, and where a target opens.
-use Rattle.std.specs.Prelude.{ℕ, ◌≡◌, ◌≢◌, ◌⊎◌, ◌++◌, ◌&&◌, ◌==◌, Bool, true, false, not, List, [], ◌∷◌, map, filter, Contains, slice_get, Option, Some, None, refl, if◌then◌else◌}
-use Rattle.std.proofs.Common.{sym, ◌∙◌, ap, subst, inl, inr}
+use Rattle.std.specs.Prelude.{ℕ, ◌≡◌, ◌≢◌, ◌⊎◌, Bool, true, false, List, [], ◌∷◌, map, Contains, Option, Some, refl}
+use Rattle.std.proofs.Common.{sym, ap, subst, inl, inr}
 use Rattle.base_types.specs.declared.entry.Entry.{Entry}
 use Rattle.base_types.specs.declared.epoch.Epoch.{Epoch}
 use Rattle.base_types.specs.declared.id.AttemptId.{AttemptId}
 use Rattle.base_types.specs.declared.outcome.Outcome.{Outcome}
 use Rattle.base_types.specs.declared.outcome.Outcome.TheVariants.{Committed}
 use Rattle.base_messages.specs.declared.message.Message.TheVariants as message
-use Rattle.base_messages.specs.declared.message.Post.{Post}
-use Rattle.model_laws.specs.Members.{Has, contains-from_has, has-from_contains, has-from_map, has-map}
+use Rattle.model_laws.specs.Members.{Has, has-from_contains, has-from_map, has-map}
 use Rattle.daos_model.specs.declared.durable.Version.{Version}
 use Rattle.daos_model.specs.BoolLaws.{clash}
 use Rattle.daos_model.specs.Opening.{Opening}
 use Rattle.world_attempts.specs.Attempts.{writes_of}
-use Rattle.world_attempts.specs.History.{Aborted, Decided, GrowsBy, History, Served, Tells, TellsRefusal, decides, is_decided}
+use Rattle.world_attempts.specs.History.{Decided, GrowsBy, History, Tells, decides, is_decided}
 use Rattle.world_base.specs.declared.world.World.{World}
 use Rattle.world_base.specs.Events.{Rules}
 use Rattle.world_reads.specs.ChangeLaws.{WasDecided, decided-has, has-decided}

@@ -1,5 +1,5 @@
 -- What a target hears after stops keeps the facts of versions and reads.
-use Rattle.std.specs.Prelude.{ℕ, ◌≡◌, ◌++◌, Bool, true, false, List, [], ◌∷◌, filter, slice_get, Option, Some, None, refl}
+use Rattle.std.specs.Prelude.{ℕ, ◌≡◌, ◌++◌, true, false, List, [], ◌∷◌, Option, Some, None, refl}
 use Rattle.std.proofs.Common.{sym, ◌∙◌, ap, subst, inl, inr}
 use Rattle.base_types.specs.declared.entry.EntryState.{EntryState}
 use Rattle.base_types.specs.declared.entry.EntryState.TheVariants as state
@@ -22,7 +22,6 @@ use Rattle.world_attempts.specs.Counting.{has-taken}
 use Rattle.world_attempts.specs.History.{GrowsBy, History, Served, Tells}
 use Rattle.world_base.specs.declared.did.Did.{Did}
 use Rattle.world_base.specs.declared.target.TargetMemory.{TargetMemory}
-use Rattle.world_base.specs.declared.target.TargetState.{TargetState}
 use Rattle.world_base.specs.declared.world.World.{World}
 use Rattle.world_base.specs.Changes.{Kept}
 use Rattle.world_base.specs.Commits as commit
@@ -48,9 +47,9 @@ use Rattle.world_statuses.specs.Heard.{further-keeps, is_of_attempts}
 use Rattle.world_hearing.specs.AckTurns.{ack-goes}
 use Rattle.world_hearing.specs.Going.{AnswersAreServed, Before, GoesOn}
 use Rattle.world_hearing.specs.Growing.{tells-grow}
-use Rattle.world_hearing.specs.Listening.{Listens, is_listened, listens}
+use Rattle.world_hearing.specs.Listening.{Listens, listens}
 use Rattle.world_hearing.specs.PlainTurns.{knows, others-write}
-use Rattle.world_hearing.specs.Saying.{AllSay, AsksState, EndsHeld, EndsLost, MarksAgain, MetUnresolved, SaysFurther, TellsState}
+use Rattle.world_hearing.specs.Saying.{AsksState, EndsHeld, EndsLost, MarksAgain, MetUnresolved, SaysFurther, TellsState}
 
 -- what is said then answers no read
 says-silent : (d : Durable) (parked : List Parked) (m : Message) → SaysFurther d parked m → is_answer m ≡ false

@@ -1,5 +1,5 @@
 -- What is decided and aborted by what is told, where some of it was decided before.
-use Rattle.std.specs.Prelude.{◌≡◌, ◌⊎◌, ◌++◌, List, [], Some, refl}
+use Rattle.std.specs.Prelude.{◌⊎◌, ◌++◌, List, [], Some, refl}
 use Rattle.std.proofs.Common.{inl, inr}
 use Rattle.base_types.specs.declared.epoch.Epoch.{Epoch}
 use Rattle.base_types.specs.declared.id.AttemptId.{AttemptId}

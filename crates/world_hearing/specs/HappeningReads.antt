@@ -1,5 +1,5 @@
 -- Whatever happens, but for what is heard of snapshots and aggregation, keeps the facts of versions and reads.
-use Rattle.std.specs.Prelude.{ℕ, ◌≡◌, ◌⊎◌, ◌++◌, ◌&&◌, ◌==◌, Bool, true, false, not, is_some, List, [], ◌∷◌, filter, Contains, slice_get, Option, Some, None, refl}
+use Rattle.std.specs.Prelude.{ℕ, ◌≡◌, ◌++◌, Bool, true, false, not, is_some, List, [], ◌∷◌, filter, Option, Some, None, refl}
 use Rattle.std.proofs.Common.{sym, ◌∙◌, ap, subst, arith, inl, inr}
 use Rattle.std.proofs.lemmas.Bool.Decides.{nat_tests}
 use Rattle.base_types.specs.declared.entry.Entry.{Entry}
@@ -10,7 +10,6 @@ use Rattle.base_types.specs.declared.outcome.Outcome.TheVariants.{Committed}
 use Rattle.base_messages.specs.declared.actor.ActorId.{ActorId}
 use Rattle.base_messages.specs.declared.message.Message.{Message}
 use Rattle.base_messages.specs.declared.message.Message.TheVariants as message
-use Rattle.base_messages.specs.declared.message.Post.{Post}
 use Rattle.model_laws.specs.Members.{Has, contains-from_has, has-from_filter}
 use Rattle.model_laws.specs.TargetLaws.{number_same}
 use Rattle.daos_model.specs.declared.durable.Durable.{Durable}
@@ -23,7 +22,7 @@ use Rattle.dtx_base.specs.Members.{other_members}
 use Rattle.dtx_base.specs.Rows.{is_empty}
 use Rattle.world_attempts.specs.Attempts.{IsItsEntry, IsOther, entry_at, entry_in, leader_of}
 use Rattle.world_attempts.specs.Counting.{has-taken}
-use Rattle.world_attempts.specs.History.{GrowsBy, History, Tells}
+use Rattle.world_attempts.specs.History.{History, Tells}
 use Rattle.world_attempts.specs.MarkTurns.{found-here}
 use Rattle.world_attempts.specs.MemberBits.{others-same}
 use Rattle.world_base.specs.declared.target.TargetState.{TargetState}
@@ -33,10 +32,9 @@ use Rattle.world_base.specs.Events.{Rules, kept, target_plan}
 use Rattle.world_base.specs.Letters.{target}
 use Rattle.world_base.specs.Roles.{is_prepared}
 use Rattle.world_base.specs.Stops.{AtWork, CutOf, Draws, Fails, Further, GivenUp, Happening, Hearing, IdleWork, IsCut, IsInHand, Opens, Plainly, TargetCut, TargetOpens, WorldEvent, swept}
-use Rattle.world_fates.specs.Told.{refused_end, silent_end, told_end}
+use Rattle.world_fates.specs.Told.{silent_end}
 use Rattle.world_reads.specs.Given.{IsMessageRight, IsRefusalRight}
 use Rattle.world_reads.specs.Growing.{refused_in}
-use Rattle.world_reads.specs.LaterLaws.{IsHeldByAll}
 use Rattle.world_reads.specs.Reads.{Reads}
 use Rattle.world_reads.specs.Versions.{Versions}
 use Rattle.world_restarts.specs.CutLaws.{IsPlainWork, cuts-keep, is_heard_plainly}
@@ -44,7 +42,7 @@ use Rattle.world_restarts.specs.OpenLaws.{failure-keeps, given_up-keeps, numbers
 use Rattle.world_statuses.specs.Events.{HappensWithoutSnapshots, told_by}
 use Rattle.world_stops.specs.CutAnswers.{ack_told}
 use Rattle.world_stops.specs.CutEvents.{IsWithoutSnapshots, cut_told, is_without_snapshots, message_told}
-use Rattle.world_stops.specs.Openings.{alone, committed_end, opening_told}
+use Rattle.world_stops.specs.Openings.{alone, opening_told}
 use Rattle.world_hearing.specs.Deciding.{AreEnded, MayEnd, aborted-on, end-all, ended-grow}
 use Rattle.world_hearing.specs.FurtherTurns.{further-goes, state-right}
 use Rattle.world_hearing.specs.Going.{AnswersAreServed, Before, GoesOn}

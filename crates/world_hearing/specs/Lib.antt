@@ -11,3 +11,11 @@ pub mod Writing
 pub mod Deciding
 pub mod HappeningReads
 pub mod Floors
+pub mod EpochTurns
+pub mod Cutting
+pub mod EpochCuts
+pub mod EpochRequests
+pub mod HappeningEpochs
+pub mod GotClients
+pub mod GotTargets
+pub mod HappeningGots

@@ -1,6 +1,6 @@
 -- A target hears what comes after stops and changes nothing that it keeps: an Ask, a Status, or a Reset of what leaders and members ask.
-use Rattle.std.specs.Prelude.{ℕ, ◌≡◌, ◌++◌, Bool, true, false, not, List, [], filter, Option, Some, None, refl}
-use Rattle.std.proofs.Common.{sym, ◌∙◌, ap, subst, inl, inr}
+use Rattle.std.specs.Prelude.{ℕ, ◌≡◌, Bool, true, false, not, [], Some, None, refl}
+use Rattle.std.proofs.Common.{sym, ap, subst, inl, inr}
 use Rattle.base_types.specs.declared.epoch.Epoch.{Epoch}
 use Rattle.base_types.specs.declared.id.AttemptId.{AttemptId}
 use Rattle.base_types.specs.declared.outcome.FloorWhy.{FloorWhy}
@@ -10,14 +10,13 @@ use Rattle.base_messages.specs.declared.message.Message.TheVariants as message
 use Rattle.model_laws.specs.Members.{Has, has-from_filter}
 use Rattle.daos_model.specs.BoolLaws.{not_true}
 use Rattle.dtx_base.specs.declared.member.Parked.{Parked}
-use Rattle.dtx_base.specs.Asking.{ask_heard}
 use Rattle.dtx_base.specs.Joining as member
 use Rattle.world_base.specs.declared.did.Did.{Did}
 use Rattle.world_base.specs.declared.target.TargetMemory.{TargetMemory}
 use Rattle.world_base.specs.declared.target.TargetPlan.{TargetPlan}
 use Rattle.world_base.specs.Changes.{Kept}
 use Rattle.world_base.specs.Further.{HearsFurther, reset_by}
-use Rattle.world_base.specs.Roles.{leader_at, member_at}
+use Rattle.world_base.specs.Roles.{member_at}
 use Rattle.world_base.specs.Statuses.{ask_left, reset_left, state_of, status_left}
 use Rattle.daos_model.specs.Durables.{entry_of}
 use Rattle.world_statuses.specs.ResetTurns.{is_collecting}

@@ -1,11 +1,7 @@
 -- What an actor does as without stops keeps the facts of versions and reads.
-use Rattle.std.specs.Prelude.{ℕ, ◌≡◌, ◌≢◌, ◌⊎◌, ◌++◌, ◌&&◌, ◌==◌, Bool, true, false, not, List, [], ◌∷◌, Contains, slice_get, Option, Some, None, refl}
-use Rattle.std.proofs.Common.{sym, ◌∙◌, ap, subst, append-nil, inl, inr}
-use Rattle.std.proofs.lemmas.List.Elements.{Contains-append_left}
-use Rattle.base_types.specs.declared.entry.Entry.{Entry}
-use Rattle.base_types.specs.declared.epoch.Epoch.{Epoch}
+use Rattle.std.specs.Prelude.{ℕ, ◌≡◌, ◌≢◌, ◌++◌, List, [], refl}
+use Rattle.std.proofs.Common.{sym, subst, append-nil, inl, inr}
 use Rattle.base_types.specs.declared.id.AttemptId.{AttemptId}
-use Rattle.base_types.specs.declared.outcome.Outcome.{Outcome}
 use Rattle.base_messages.specs.declared.message.Message.{Message}
 use Rattle.base_messages.specs.declared.message.Message.TheVariants as message
 use Rattle.base_messages.specs.declared.message.Post.{Post}
@@ -15,16 +11,11 @@ use Rattle.daos_model.specs.Opening.{Opening}
 use Rattle.dtx_base.specs.Members.{all_targets, is_other_member, other_members}
 use Rattle.world_attempts.specs.Attempts.{Entries, IsOther, IsToLeader, first_entry, writes_of}
 use Rattle.world_attempts.specs.Counting.{has-taken}
-use Rattle.world_attempts.specs.History.{GrowsBy, History, Served}
-use Rattle.world_base.specs.declared.did.Did.{Did}
-use Rattle.world_base.specs.declared.target.TargetMemory.{TargetMemory}
-use Rattle.world_base.specs.declared.target.TargetState.{TargetState}
+use Rattle.world_attempts.specs.History.{GrowsBy, History}
 use Rattle.world_base.specs.declared.world.World.{World}
-use Rattle.world_base.specs.Changes.{Kept}
-use Rattle.world_base.specs.Events.{ByClient, ByTarget, ClientGoes, ClientHears, Event, Rules, TargetHears, TargetHearsRightly, TargetIdles, ToClient, ToTarget, kept, listed, target_after, target_plan}
-use Rattle.world_base.specs.RightTurns.{HearsRightly, hears-rightly}
+use Rattle.world_base.specs.Events.{ByClient, ByTarget, Event, Rules, TargetHears, TargetHearsRightly, TargetIdles, ToClient, ToTarget, kept, listed, target_after, target_plan}
+use Rattle.world_base.specs.RightTurns.{HearsRightly}
 use Rattle.world_base.specs.Stops.{NoneDown, Plainly}
-use Rattle.world_base.specs.TargetTurns.{Hears}
 use Rattle.world_fates.specs.Facts.{IsSaidSo}
 use Rattle.world_fates.specs.KeepingLaws.{attempts-kept}
 use Rattle.world_fates.specs.Told.{silent_at}

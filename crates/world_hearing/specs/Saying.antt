@@ -1,6 +1,6 @@
 -- What a target says that hears what comes after stops: an Ask, a Status, or a Reset of what leaders and members ask.
 use Rattle.std.specs.Prelude.{ℕ, ◌≡◌, ◌++◌, ◌||◌, ◌==◌, Bool, true, false, List, [], ◌∷◌, filter, Option, Some, None, refl, if◌then◌else◌}
-use Rattle.std.proofs.Common.{sym, ◌∙◌, ap, subst, inl, inr}
+use Rattle.std.proofs.Common.{sym, ap, subst, inl, inr}
 use Rattle.base_types.specs.declared.entry.Entry.{Entry}
 use Rattle.base_types.specs.declared.entry.EntryState.{EntryState}
 use Rattle.base_types.specs.declared.epoch.Epoch.{Epoch}
@@ -23,7 +23,7 @@ use Rattle.dtx_base.specs.declared.leading.Undecided.{Undecided}
 use Rattle.dtx_base.specs.declared.member.Parked.{Parked}
 use Rattle.dtx_base.specs.Asking.{ask_heard, asked_of, asked_open, tells_end}
 use Rattle.dtx_base.specs.Joining as member
-use Rattle.dtx_base.specs.Leading.{LeaderOf, down_told, ended, entry_led, first_down, is_led, mark_reset, prepare_reset, quietly, reset_of, status_asked, to_target, undecided_of}
+use Rattle.dtx_base.specs.Leading.{down_told, ended, entry_led, first_down, is_led, prepare_reset, quietly, reset_of, to_target, undecided_of}
 use Rattle.dtx_base.specs.Rows.{is_among}
 use Rattle.world_base.specs.declared.target.TargetMemory.{TargetMemory}
 use Rattle.world_base.specs.declared.target.TargetPlan.{TargetPlan}

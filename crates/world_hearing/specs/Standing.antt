@@ -1,11 +1,9 @@
 -- Where targets may stop, the facts of attempts say what versions and reads make use of.
-use Rattle.std.specs.Prelude.{ℕ, ◌≡◌, ◌==◌, ◌&&◌, Bool, true, false, is_some, List, Contains, slice_get, Option, Some, None, refl}
+use Rattle.std.specs.Prelude.{ℕ, ◌≡◌, ◌==◌, Bool, true, false, is_some, List, slice_get, Option, Some, None, refl}
 use Rattle.std.proofs.Common.{sym, ◌∙◌, ap, subst}
 use Rattle.base_types.specs.declared.entry.Entry.{Entry}
 use Rattle.base_types.specs.declared.entry.EntryState.{EntryState}
 use Rattle.base_types.specs.declared.entry.EntryState.TheVariants as state
-use Rattle.base_types.specs.declared.entry.Verdict.{Verdict}
-use Rattle.base_types.specs.declared.entry.Verdict.TheVariants as fate
 use Rattle.base_types.specs.declared.epoch.Epoch.{Epoch}
 use Rattle.base_types.specs.declared.id.AttemptId.{AttemptId}
 use Rattle.base_types.specs.declared.operation.MinorWrite.{MinorWrite}
@@ -19,7 +17,7 @@ use Rattle.daos_model.specs.Durables.{same_attempt}
 use Rattle.daos_model.specs.EntryLaws.{same_attempt-itself}
 use Rattle.dtx_base.specs.Leading.{entry_led, undecided_of}
 use Rattle.dtx_base.specs.Members.{writes_at}
-use Rattle.world_attempts.specs.Attempts.{IsMarkTrue, IsOther, IsToLeader, IsVerdictTrue, entry_at, inc_at, inc_in, is_asked_by, leader_of, writes_of}
+use Rattle.world_attempts.specs.Attempts.{IsOther, IsToLeader, entry_at, inc_at, inc_in, is_asked_by, leader_of, writes_of}
 use Rattle.world_attempts.specs.History.{Aborted, History}
 use Rattle.world_base.specs.declared.letter.Letter.{Letter}
 use Rattle.world_base.specs.declared.target.TargetState.{TargetState}
@@ -33,22 +31,12 @@ use Rattle.world_fates.specs.Facts.{Attempts, IsPrepareRight, IsSaidSo, refuses_
 use Rattle.world_fates.specs.KeepingLaws.{none-is-both}
 use Rattle.world_fates.specs.Rightly.{letters-tell}
 use Rattle.world_reads.specs.ChangeLaws.{WasDecided}
-use Rattle.world_reads.specs.MarkLaws.{IsFateRight}
-use Rattle.world_reads.specs.Standing.{AttemptsStand, IsPrepareSo, IsRefusalSo, IsToldSo, IsVerdictSo, asked-prepares}
+use Rattle.world_reads.specs.Standing.{AttemptsStand, IsPrepareSo, IsRefusalSo, IsToldSo, asked-prepares, mark-so, verdict-so}
 
 module _ (r : Rules) (h : History) (w : World) (k : Attempts r h w) where
   -- what is aborted isn't decided
   undecided : (x : AttemptId) → Aborted h x → WasDecided h x → ⊥
   undecided x gone d = none-is-both r h w x d.0 k d.1 gone
-
-  mark-so : (x : AttemptId) (c : Bool) → IsMarkTrue h x c → IsFateRight h x c
-  mark-so x true d = d
-  mark-so x false a = undecided x a
-
-  verdict-so : (x : AttemptId) (v : Verdict) → IsVerdictTrue h x v → IsVerdictSo h v x
-  verdict-so x fate.Committed d = d
-  verdict-so x fate.Aborted a = undecided x a
-  verdict-so x fate.Undecided u = tt
 
   module _ (l : Letter) (t : ℕ) (s : TargetState) (among : Has l w.messages) (to_it : l.to ≡ target t) (here : slice_get w.targets t ≡ Some s) where
     -- a member that is asked to prepare an attempt holds nothing of it, so it isn't decided
@@ -108,8 +96,8 @@ module _ (r : Rules) (h : History) (w : World) (k : Attempts r h w) where
     told-so (message.Prepare e first ws inc) is z = prepare-so e first ws inc is z
     told-so (message.Ack x inc refusal) is z = ack-so x inc refusal is z.way
     told-so (message.StatusIs x inc how) is z = state-so x inc how is z.way
-    told-so (message.Mark inc marks) is z = λ x c i. mark-so x c (z x c i).fate
-    told-so (message.Verdict x ask inc v) is z = verdict-so x v z.fate
+    told-so (message.Mark inc marks) is z = λ x c i. mark-so h undecided x c (z x c i).fate
+    told-so (message.Verdict x ask inc v) is z = verdict-so h undecided x v z.fate
     told-so m is z = tt
 
   pub attempts-stand : AttemptsStand r h w

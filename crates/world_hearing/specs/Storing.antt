@@ -1,6 +1,6 @@
 -- Which attempts have entries at a target after a turn, or where it was cut: those that had, and those that the turn brings.
-use Rattle.std.specs.Prelude.{ℕ, ◌≡◌, ◌≤◌, ◌<◌, ◌/◌, Bool, true, false, List, Option, Some, None, refl}
-use Rattle.std.proofs.Common.{sym, ◌∙◌, ap, subst, arith}
+use Rattle.std.specs.Prelude.{ℕ, ◌≡◌, ◌≤◌, ◌<◌, ◌/◌, Bool, true, List, Option, Some, None, refl}
+use Rattle.std.proofs.Common.{sym, ◌∙◌, subst, arith}
 use Rattle.base_types.specs.declared.entry.Settle.{Settle}
 use Rattle.base_types.specs.declared.entry.Verdict.{Verdict}
 use Rattle.base_types.specs.declared.epoch.Epoch.{Epoch}
@@ -22,7 +22,7 @@ use Rattle.world_base.specs.Acks as ack
 use Rattle.world_base.specs.ChangeLaws.{conts-made}
 use Rattle.world_base.specs.Changes.{Change, Creates, Extends, Freezes, IsPlainly, Kept, Prepares, Prunes, Settles, Steps}
 use Rattle.world_base.specs.Commits as commit
-use Rattle.world_base.specs.CutTurns.{CutTurn, Cutting, HearingIsCut, IdleWorkIsCut, issued_by_commit, issued_by_fetch, none_issued}
+use Rattle.world_base.specs.CutTurns.{CutTurn, Cutting, HearingIsCut, IdleWorkIsCut}
 use Rattle.world_base.specs.Further.{HearsFurther}
 use Rattle.world_base.specs.Idle.{IdleNext, SettlesFirst}
 use Rattle.world_base.specs.Marks as mark
@@ -30,7 +30,7 @@ use Rattle.world_base.specs.PathLaws.{reached-keeps, step-leaves}
 use Rattle.world_base.specs.Prepares as prepare
 use Rattle.world_base.specs.Reads as read
 use Rattle.world_base.specs.Roles.{is_prepared, told_by}
-use Rattle.world_base.specs.Statuses.{AtOnce, Looking, Looks, NoChange, status_refusal}
+use Rattle.world_base.specs.Statuses.{Looks, NoChange, status_refusal}
 use Rattle.world_base.specs.TargetTurns.{Hears, IdlesWhole, commit_request, fetch_request, prepare_request}
 use Rattle.world_base.specs.Turns.{Whole}
 use Rattle.world_base.specs.Verdicts as verdict

@@ -1,5 +1,5 @@
 -- Every turn keeps the facts of versions and reads.
-use Rattle.std.specs.Prelude.{ℕ, ◌≡◌, ◌⊎◌, ◌≤◌, ◌/◌, ◌++◌, ◌==◌, ◌||◌, Bool, true, false, List, [], Contains, slice_get, Some, None, refl, Option}
+use Rattle.std.specs.Prelude.{ℕ, ◌≡◌, ◌⊎◌, ◌≤◌, ◌/◌, ◌++◌, ◌==◌, Bool, true, false, List, [], Contains, slice_get, Some, None, refl, Option}
 use Rattle.std.proofs.Common.{sym, ◌∙◌, ap, subst, inl, inr}
 use Rattle.std.proofs.Math.ListN.{set}
 use Rattle.std.proofs.lemmas.List.Elements.{Contains-append_left}

@@ -20,9 +20,7 @@ use Rattle.daos_model.specs.Durables.{same_attempt}
 use Rattle.daos_model.specs.EntryLaws.{same_attempt-itself}
 use Rattle.daos_model.specs.Opening.{Opening}
 use Rattle.dtx_base.specs.declared.leading.Undecided.{Undecided}
-use Rattle.dtx_base.specs.Leading.{undecided_attempt}
 use Rattle.dtx_base.specs.Members.{writes_at}
-use Rattle.dtx_base.specs.Rows.{row_of}
 use Rattle.world_attempts.specs.Attempts as letters
 use Rattle.world_attempts.specs.Attempts.{Attempts, Entries, IsOpenAt, IsOther, IsPrepareRight, IsTrueOf, IsUnsettled, entry_at, first_entry, is_asked_by, is_answered_by, is_asking, is_known_at, is_prepare_to, row_at, row_in, writes_of}
 use Rattle.world_attempts.specs.Asked.{AskedRight}
@@ -104,19 +102,21 @@ asked-asks : (x : AttemptId) (m : ℕ) (l : Letter) → is_asked_by x m l.to l.m
 unfolding is_asking
 asked-asks x m l is = ap (λ c. c || is_answered_by x m l.from l.message) is
 
+-- what is said of an attempt's fate is so, where what is aborted isn't decided
+module _ (h : History) (undecided : (x : AttemptId) → Aborted h x → WasDecided h x → ⊥) where
+  pub mark-so : (x : AttemptId) (c : Bool) → letters.IsMarkTrue h x c → IsFateRight h x c
+  mark-so x true d = d
+  mark-so x false a = undecided x a
+
+  pub verdict-so : (x : AttemptId) (v : Verdict) → letters.IsVerdictTrue h x v → IsVerdictSo h v x
+  verdict-so x fate.Committed d = d
+  verdict-so x fate.Aborted a = undecided x a
+  verdict-so x fate.Undecided u = tt
+
 module _ (both-not : NoneIsBoth) (r : Rules) (h : History) (w : World) (k : Attempts r h w) where
   -- what is aborted isn't decided
   undecided : (x : AttemptId) → Aborted h x → WasDecided h x → ⊥
   undecided x gone d = both-not r h w x d.0 k d.1 gone
-
-  mark-so : (x : AttemptId) (c : Bool) → letters.IsMarkTrue h x c → IsFateRight h x c
-  mark-so x true d = d
-  mark-so x false a = undecided x a
-
-  verdict-so : (x : AttemptId) (v : Verdict) → letters.IsVerdictTrue h x v → IsVerdictSo h v x
-  verdict-so x fate.Committed d = d
-  verdict-so x fate.Aborted a = undecided x a
-  verdict-so x fate.Undecided u = tt
 
   module _ (l : Letter) (t : ℕ) (s : TargetState) (among : Has l w.messages) (to_it : l.to ≡ target t) (here : slice_get w.targets t ≡ Some s) where
     -- an attempt with a row isn't decided
@@ -145,8 +145,8 @@ module _ (both-not : NoneIsBoth) (r : Rules) (h : History) (w : World) (k : Atte
     told-so (message.Prepare e first ws inc) is z = prepare-so e first ws inc is z
     told-so (message.Ack x inc refusal) is z = refused-row r h t s l.from.number x inc refusal (undecided-here x)
     told-so (message.StatusIs x inc how) is z = refused-row r h t s l.from.number x inc (status_refusal x how) (undecided-here x)
-    told-so (message.Mark inc marks) is z = λ x c i. mark-so x c (z x c i).fate
-    told-so (message.Verdict x ask inc v) is z = verdict-so x v z.fate
+    told-so (message.Mark inc marks) is z = λ x c i. mark-so h undecided x c (z x c i).fate
+    told-so (message.Verdict x ask inc v) is z = verdict-so h undecided x v z.fate
     told-so m is z = tt
 
   pub attempts-stand : AttemptsStand r h w

@@ -11,7 +11,7 @@ use Rattle.world_base.specs.PathLaws.{AllPlain, path-keeps}
 use Rattle.world_base.specs.Turns.{Here, More, Path}
 
 -- no plain change is made in part
-none-in_part : (c : Change) (d x : Durable) → is_plain c ≡ true → IsPartly c d x → ⊥
+pub none-in_part : (c : Change) (d x : Durable) → is_plain c ≡ true → IsPartly c d x → ⊥
 none-in_part (Extends ticks) d x plain p = p
 none-in_part (Prepares e ws) d x plain p = p
 none-in_part (Settles a step) d x plain p = p

@@ -1,4 +1,4 @@
--- Each event of a run keeps it so that Asks come from their attempts' clients, and Resets from the targets that they name.
+-- Each event of a run keeps it so that Fetches and Asks come from their attempts' clients, and Resets from the targets that they name.
 use Rattle.std.specs.Prelude.{ℕ, ◌≡◌, not, ◌==◌, Bool, true, false, List, ◌++◌, filter, map, Option, Some, None}
 use Rattle.std.proofs.Common.{sym, ap, subst, inl, inr}
 use Rattle.daos_model.specs.BoolLaws.{and_left, not_true}

@@ -1,4 +1,4 @@
--- A client asks after its own attempts alone, and sends no Reset.
+-- A client reads for its own attempts alone, asks after them alone, and sends no Reset.
 use Rattle.std.specs.Prelude.{ℕ, ◌+◌, ◌++◌, ◌&&◌, nat_lt, slice_get, refl, Bool, true, false, List, [], ◌∷◌, Option, Some, None, if◌then◌else◌, is_some}
 use Rattle.base_types.specs.declared.answer.Answer.{Answer}
 use Rattle.base_types.specs.declared.epoch.Epoch.{Epoch}
@@ -50,7 +50,7 @@ commits-says p c a (w ∷ ws) = tt
 
 read-says : (p : ClientPlan) (c : ClientState) (a : Present) (snapshot : Bool) (o : Option Read) → SaysRightly p.number (asks_or_goes p c a snapshot o).post
 read-says p c a snapshot None = tt
-read-says p c a snapshot (Some r) = tt
+read-says p c a snapshot (Some r) = refl
 
 op-says : (p : ClientPlan) (c : ClientState) (a : Present) (ops : List Op) (snapshot : Bool) (o : Option Op) → SaysRightly p.number (op_moves p c a ops snapshot o).post
 op-says p c a ops snapshot None = commits-says p c a (minor_writes 0 ops)

@@ -1,4 +1,4 @@
--- A target asks no other one what became of an attempt, as clients do, and sends no Reset.
+-- A target asks no other one for a read or what became of an attempt, as clients do, and sends no Reset.
 use Rattle.std.specs.Prelude.{ℕ, ◌≡◌, ◌==◌, ◌++◌, Bool, true, false, List, [], ◌∷◌, map, filter, Option, Some, None, refl, if◌then◌else◌}
 use Rattle.std.proofs.Common.{sym, ◌∙◌, ap, subst, inl, inr}
 use Rattle.base_types.specs.declared.entry.Entry.{Entry}
@@ -46,6 +46,7 @@ use Rattle.world_base.specs.Verdicts as judged
 
 -- a message that clients send alone, and one that the fabric sends alone, aren't a target's
 abbrev pub is_of_target : Message → Bool
+is_of_target (message.Fetch x op group ep first tracker r snapshot) = false
 is_of_target (message.Ask x) = false
 is_of_target (message.Reset' t down place more) = false
 is_of_target m = true
@@ -54,6 +55,7 @@ abbrev pub AreOfTarget : List Post → Type 0
 AreOfTarget posts = (p : Post) → Has p posts → is_of_target p.message ≡ true
 
 pub of-rightly : (from : ActorId) (m : Message) → is_of_target m ≡ true → IsSentRightly from m
+of-rightly from (message.Fetch x op group ep first tracker r snapshot) is = let no : ⊥ = cc in absurd no
 of-rightly from (message.Ask x) is = let no : ⊥ = cc in absurd no
 of-rightly from (message.Reset' t down place more) is = let no : ⊥ = cc in absurd no
 of-rightly from m is = tt

@@ -8,8 +8,9 @@ use Rattle.world_base.specs.declared.letter.Letter.{Letter}
 use Rattle.world_base.specs.declared.world.World.{World}
 use Rattle.world_base.specs.Letters.{client, target}
 
--- an Ask comes from its attempt's client, and a Reset from the target of which it tells
+-- a Fetch and an Ask come from their attempt's client, and a Reset from the target of which it tells
 abbrev pub IsSentRightly : ActorId → Message → Type 0
+IsSentRightly from (message.Fetch x op group ep first tracker r snapshot) = from ≡ client x.client
 IsSentRightly from (message.Ask x) = from ≡ client x.client
 IsSentRightly from (message.Reset' by down place more) = from ≡ target by
 IsSentRightly from m = Unit {0}

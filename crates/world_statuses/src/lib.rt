@@ -16,8 +16,8 @@ ghost use Rattle.world_statuses.specs.SenderLaws.{EventsKeepSenders};
 /// becomes of attempts, but by what a member holds, and by a Commit that no epoch is left for. So each
 /// event of a run keeps the facts, of what is told in it, or would be told if clients waited and the
 /// target went on, unless something is heard for a snapshot or an aggregation. This stands on two facts
-/// of letters that each event keeps: an Ask comes from its attempt's client, and a Reset from the target
-/// that it names.
+/// of letters that each event keeps: a Fetch and an Ask come from their attempt's client, and a Reset from
+/// the target that it names.
 pub fn laws_of_statuses()
     ensures heard { HeardFurtherKeepsAttempts }
     ensures events { EventsKeepAttempts }
