@@ -97,7 +97,7 @@ module _ {T : Type 0} (part : Durable → T) (leaves : (c : Change) (d : Durable
 
 -- ---- the lease
 
-abbrev RaisesAll : {S : Type 0} → (S → Kept → Option Change → S → Type 0) → Type 0
+abbrev pub RaisesAll : {S : Type 0} → (S → Kept → Option Change → S → Type 0) → Type 0
 RaisesAll {S} Next = (s : S) (k : Kept) (o : Option Change) (u : S) → Next s k o u → Raises k.durable o
 
 -- where each step raises the lease or leaves it, a turn does
@@ -114,43 +114,43 @@ fetch-raises t m reading q s k o u (read.ExtendsLease j e lease low is) = extend
 fetch-raises t m reading q s k o u (read.IsCovered j e low) = tt
 fetch-raises t m reading q s k o u (read.SettlesOwn j e decided a none unsettled among) = tt
 
-commit-raises : (t : TargetPlan) (opening : Epoch × FloorWhy) (m : TargetMemory) (reading : ℕ) (q : CommitRequest) → RaisesAll (commit.CommitNext t opening m reading q)
+pub commit-raises : (t : TargetPlan) (opening : Epoch × FloorWhy) (m : TargetMemory) (reading : ℕ) (q : CommitRequest) → RaisesAll (commit.CommitNext t opening m reading q)
 commit-raises t opening m reading q s k o u (commit.HasEpoch j e is) = tt
 commit-raises t opening m reading q s k o u (commit.ExtendsLease j e lease low is) = extends-raises k.durable (e.0 / 256) lease low is
 commit-raises t opening m reading q s k o u (commit.IsCovered j e low) = tt
 commit-raises t opening m reading q s k o u (commit.Stores j e allowed space) = tt
 
-prepare-raises : (t : TargetPlan) (opening : Epoch × FloorWhy) (m : TargetMemory) (q : PrepareRequest) → RaisesAll (prepare.PrepareNext t opening m q)
+pub prepare-raises : (t : TargetPlan) (opening : Epoch × FloorWhy) (m : TargetMemory) (q : PrepareRequest) → RaisesAll (prepare.PrepareNext t opening m q)
 prepare-raises t opening m q s k o u (prepare.ExtendsLease j lease low is) = extends-raises k.durable (q.entry.epoch.0 / 256) lease low is
 prepare-raises t opening m q s k o u (prepare.IsCovered j low) = tt
 prepare-raises t opening m q s k o u (prepare.Stores j allowed space) = tt
 
-ack-raises : (t : TargetPlan) (m : TargetMemory) (member : ℕ) (a : AttemptId) (inc : ℕ) (refusal : Option Outcome) → RaisesAll (ack.AckNext t m member a inc refusal)
+pub ack-raises : (t : TargetPlan) (m : TargetMemory) (member : ℕ) (a : AttemptId) (inc : ℕ) (refusal : Option Outcome) → RaisesAll (ack.AckNext t m member a inc refusal)
 ack-raises t m member a inc refusal s k o u (ack.Aborts j is) = tt
 ack-raises t m member a inc refusal s k o u (ack.Counts j is) = tt
 
-mark-raises : (is_due : AttemptId → Durable → Bool) → RaisesAll (mark.MarkNext is_due)
+pub mark-raises : (is_due : AttemptId → Durable → Bool) → RaisesAll (mark.MarkNext is_due)
 mark-raises is_due s k o u (mark.SettlesMarked j a committed rest is) = tt
 mark-raises is_due s k o u (mark.PassesBy j a committed rest is) = tt
 
-marked-raises : (t : TargetPlan) (m : TargetMemory) (member : ℕ) → RaisesAll (ack.MarkedNext t m member)
+pub marked-raises : (t : TargetPlan) (m : TargetMemory) (member : ℕ) → RaisesAll (ack.MarkedNext t m member)
 marked-raises t m member s k o u (ack.Confirms j a rest is) = tt
 marked-raises t m member s k o u (ack.PassesBy j a rest is) = tt
 
-query-raises : RaisesAll verdict.QueryNext
+pub query-raises : RaisesAll verdict.QueryNext
 query-raises s k o u (verdict.Answers j) = tt
 
 settling-raises : (a : AttemptId) (d : Durable) (step : Option Settle) → Raises d (verdict.settling_change a step)
 settling-raises a d None = tt
 settling-raises a d (Some step) = tt
 
-verdict-raises : (is_due : AttemptId → Durable → Bool) (t : TargetPlan) (m : TargetMemory) (reading : ℕ) (a : AttemptId) (ask : Option AttemptId) (v : Verdict) → RaisesAll (verdict.VerdictNext is_due t m reading a ask v)
+pub verdict-raises : (is_due : AttemptId → Durable → Bool) (t : TargetPlan) (m : TargetMemory) (reading : ℕ) (a : AttemptId) (ask : Option AttemptId) (v : Verdict) → RaisesAll (verdict.VerdictNext is_due t m reading a ask v)
 verdict-raises is_due t m reading a ask v s k o u (verdict.SettlesBy j p is) = subst (Raises k.durable) (sym is) (settling-raises a k.durable (verdict.settles_by is_due v a k.durable))
 verdict-raises is_due t m reading a ask v s k o u (verdict.TriesNext j n posts rest x op group ep first tracker r snapshot) = tt
 verdict-raises is_due t m reading a ask v s k o u (verdict.GoesOn j n posts rest q i z p next) = fetch-raises t n reading q i k o z next
 verdict-raises is_due t m reading a ask v s k o u (verdict.IsDone j n posts rest q i left ends) = tt
 
-idle-raises : RaisesAll IdleNext
+pub idle-raises : RaisesAll IdleNext
 idle-raises s k o u (SettlesFirst j a rest) = tt
 
 hears-raises : (t : TargetPlan) (opening : Epoch × FloorWhy) (m : TargetMemory) (reading : ℕ) (from : ActorId) (q : Message) (old new : Kept) (left : TargetMemory × Did)
