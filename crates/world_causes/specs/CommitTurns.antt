@@ -236,7 +236,7 @@ module _ (r : Rules) (o : Opening) (stored : Stored) (issued : Dated) (lines : L
   abbrev later : Epoch → Dated
   later e = issued ++ listed (issued_for q.attempt q.ep e)
 
-  writing : (e : Epoch) → request_epoch (target_plan r t) m reading q.tracker q.ep ≡ Some e → IsWriting r o issued lines q.attempt q.ep q.first e (commit.own_writes (target_plan r t) q.writes)
+  pub writing : (e : Epoch) → request_epoch (target_plan r t) m reading q.tracker q.ep ≡ Some e → IsWriting r o issued lines q.attempt q.ep q.first e (commit.own_writes (target_plan r t) q.writes)
   writing e found = record {
     dated = request-dated o issued lines q.attempt q.ep q.first q.tracker (target_plan r t) m reading e h.few ticks h.request found;
     its = λ w i. subst (Has w) h.its (has-from_filter (commit.is_own (target_plan r t)) q.writes w i).0;
@@ -246,7 +246,7 @@ module _ (r : Rules) (o : Opening) (stored : Stored) (issued : Dated) (lines : L
   heard e k = heard-within m.ticks e.0 (limit_over o lines (later e)) (up ticks (limit-rises o lines issued (listed (issued_for q.attempt q.ep e)))) k
 
   -- the attempt is refused
-  ends-left : (k : Kept) (e : Epoch) (how : Outcome) (left : TargetMemory × Did) → IsWriting r o issued lines q.attempt q.ep q.first e (commit.own_writes (target_plan r t) q.writes) → old.free ≤ k.free
+  pub ends-left : (k : Kept) (e : Epoch) (how : Outcome) (left : TargetMemory × Did) → IsWriting r o issued lines q.attempt q.ep q.first e (commit.own_writes (target_plan r t) q.writes) → old.free ≤ k.free
       → RefusalShows r o stored (later e) lines q.attempt how → left ≡ (with_ticks e m, commit.ends_at q from e how) → Leaves r o stored issued lines t old k left
   ends-left k e how left d low shown is = subst (Leaves r o stored issued lines t old k) (sym is) (record {
     posts = (
@@ -269,7 +269,7 @@ module _ (r : Rules) (o : Opening) (stored : Stored) (issued : Dated) (lines : L
       told n (inl same) = subst (λ f. f / 256 ≤ limit_over o lines (later e)) (sym same) d.dated.within
       told n (inr i) = shown.told n i
 
-  commit-ends : (s : commit.CommitStage) (k : Kept) (left : TargetMemory × Did) → CommitSoFar (target_plan r t) m reading q old s k → commit.CommitEnds (target_plan r t) opening m reading q from s k left
+  pub commit-ends : (s : commit.CommitStage) (k : Kept) (left : TargetMemory × Did) → CommitSoFar (target_plan r t) m reading q old s k → commit.CommitEnds (target_plan r t) opening m reading q from s k left
       → Leaves r o stored issued lines t old k left
   commit-ends s k left w (commit.IsSpent j z none is) = subst (Leaves r o stored issued lines t old k) (sym is) (record {
     posts = (

@@ -87,7 +87,7 @@ pub told-more : (o : Opening) (lines more : List Line) (t : ℕ) (cont : ContId)
 told-more o lines more t cont floor reason (IsOfBefore low) = IsOfBefore low
 told-more o lines more t cont floor reason (HasLine i) = HasLine (floor-more t floor cont reason lines more i)
 
-numbers-both : (lines more : List Line) → restart_numbers (lines ++ more) ≡ restart_numbers lines ++ restart_numbers more
+pub numbers-both : (lines more : List Line) → restart_numbers (lines ++ more) ≡ restart_numbers lines ++ restart_numbers more
 numbers-both [] more = refl
 numbers-both (l ∷ lines) more = ap (λ ns. restarted_number l ++ ns) (numbers-both lines more) ∙ sym (append_assoc (restarted_number l) (restart_numbers lines) (restart_numbers more))
 

@@ -74,7 +74,7 @@ lease-near n l c low h = near last_ticks h
 -- ---- changes
 
 -- a change leaves the lease, or extends it to so much at most
-abbrev ExtendsTo : ℕ → Option Change → Type 0
+abbrev pub ExtendsTo : ℕ → Option Change → Type 0
 ExtendsTo b None = Unit {0}
 ExtendsTo b (Some (Extends ticks)) = ticks ≤ b
 ExtendsTo b (Some (Prepares e ws)) = Unit {0}
@@ -83,7 +83,7 @@ ExtendsTo b (Some (Freezes c s)) = ⊥
 ExtendsTo b (Some (Creates c s)) = ⊥
 ExtendsTo b (Some (Prunes c upto n)) = ⊥
 
-lease-to : (b : ℕ) (o : Option Change) (k l : Kept) → Steps o k l → ExtendsTo b o → k.durable.lease ≤ b → l.durable.lease ≤ b
+pub lease-to : (b : ℕ) (o : Option Change) (k l : Kept) → Steps o k l → ExtendsTo b o → k.durable.lease ≤ b → l.durable.lease ≤ b
 lease-to b None k l st to low = subst (λ z. z.durable.lease ≤ b) (sym st) low
 lease-to b (Some (Extends ticks)) k l st to low = subst (λ n. n ≤ b) (sym (ap (λ d. d.lease) st.0 ∙ lease-leased ticks k.durable)) to
 lease-to b (Some (Prepares e ws)) k l st to low = subst (λ n. n ≤ b) (sym (ap (λ d. d.lease) st.0 ∙ lease-prepared e ws k.durable)) low
@@ -93,26 +93,26 @@ lease-to b (Some (Creates c s)) k l st to low = absurd to
 lease-to b (Some (Prunes c upto n)) k l st to low = absurd to
 
 -- a turn whose steps do so, at stages of which this is so
-whole-to : {S R : Type 0} (Next : S → Kept → Option Change → S → Type 0) (Ends : S → Kept → R → Type 0) (start : S) (old new : Kept) (result : R) (b : ℕ) (P : S → Type 0) → P start
+pub whole-to : {S R : Type 0} (Next : S → Kept → Option Change → S → Type 0) (Ends : S → Kept → R → Type 0) (start : S) (old new : Kept) (result : R) (b : ℕ) (P : S → Type 0) → P start
     → ((s : S) (k : Kept) (o : Option Change) (u : S) → Next s k o u → P s → P u × ExtendsTo b o) → old.durable.lease ≤ b → Whole Next Ends start old new result → new.durable.lease ≤ b
 whole-to Next Ends start old new result b P first each low w =
     (reached-keeps Next (λ s k. P s × (k.durable.lease ≤ b)) (λ s k o u l next steps p. let e = each s k o u next p.0 in (e.0, lease-to b o k l steps e.1 p.1)) start old w.last new w.reached (first, low)).1
 
 -- ---- turns
 
-abbrev EpochBelow : ℕ → Option Epoch → Type 0
+abbrev pub EpochBelow : ℕ → Option Epoch → Type 0
 EpochBelow c None = ⊥
 EpochBelow c (Some e) = e.0 / 256 ≤ c
 
-abbrev AskBelow : ℕ → Message → Type 0
+abbrev pub AskBelow : ℕ → Message → Type 0
 AskBelow c (message.Fetch x op group ep first tracker r snapshot) = EpochBelow c ep
 AskBelow c m = Unit {0}
 
-abbrev AsksBelow : ℕ → List Message → Type 0
+abbrev pub AsksBelow : ℕ → List Message → Type 0
 AsksBelow c ms = (m : Message) → Has m ms → AskBelow c m
 
 -- a request's epoch is below a bound
-abbrev IsDatedBelow : ℕ → TargetPlan → TargetMemory → ℕ → Epoch → Option Epoch → Type 0
+abbrev pub IsDatedBelow : ℕ → TargetPlan → TargetMemory → ℕ → Epoch → Option Epoch → Type 0
 IsDatedBelow c t m reading tracker ep = (e : Epoch) → request_epoch t m reading tracker ep ≡ Some e → e.0 / 256 ≤ c
 
 below-known : (c : ℕ) (t : TargetPlan) (m : TargetMemory) (reading : ℕ) (tracker : Epoch) (ep : Option Epoch) → EpochBelow c ep → IsDatedBelow c t m reading tracker ep
@@ -120,12 +120,12 @@ below-known c t m reading tracker None low e is = absurd low
 below-known c t m reading tracker (Some own) low e is = let same : own ≡ e = cc in subst (λ z. z.0 / 256 ≤ c) same low
 
 module _ (c : ℕ) where
-  abbrev FetchBelow : read.FetchStage → Type 0
+  abbrev pub FetchBelow : read.FetchStage → Type 0
   FetchBelow read.Asked = Unit {0}
   FetchBelow (read.Known e) = e.0 / 256 ≤ c
   FetchBelow (read.Reading e decided) = Unit {0}
 
-  fetch-to : (t : TargetPlan) (m : TargetMemory) (reading : ℕ) (q : FetchRequest) → IsDatedBelow c t m reading q.tracker q.ep → (s : read.FetchStage) (k : Kept) (o : Option Change) (u : read.FetchStage)
+  pub fetch-to : (t : TargetPlan) (m : TargetMemory) (reading : ℕ) (q : FetchRequest) → IsDatedBelow c t m reading q.tracker q.ep → (s : read.FetchStage) (k : Kept) (o : Option Change) (u : read.FetchStage)
       → read.FetchNext t m reading q s k o u → FetchBelow s → FetchBelow u × ExtendsTo (c + 65535) o
   fetch-to t m reading q low s k o u (read.AtSnapshot j e at is) p = (tt, tt)
   fetch-to t m reading q low s k o u (read.HasEpoch j e at is) p = (low e is, tt)
@@ -133,43 +133,43 @@ module _ (c : ℕ) where
   fetch-to t m reading q low s k o u (read.IsCovered j e less) p = (tt, tt)
   fetch-to t m reading q low s k o u (read.SettlesOwn j e decided a none unsettled among) p = (tt, tt)
 
-  abbrev CommitBelow : commit.CommitStage → Type 0
+  abbrev pub CommitBelow : commit.CommitStage → Type 0
   CommitBelow commit.Asked = Unit {0}
   CommitBelow (commit.Known e) = e.0 / 256 ≤ c
   CommitBelow (commit.Checking e) = Unit {0}
   CommitBelow (commit.Stored e) = Unit {0}
 
-  commit-to : (t : TargetPlan) (opening : Epoch × FloorWhy) (m : TargetMemory) (reading : ℕ) (q : CommitRequest) → IsDatedBelow c t m reading q.tracker q.ep → (s : commit.CommitStage) (k : Kept) (o : Option Change) (u : commit.CommitStage)
+  pub commit-to : (t : TargetPlan) (opening : Epoch × FloorWhy) (m : TargetMemory) (reading : ℕ) (q : CommitRequest) → IsDatedBelow c t m reading q.tracker q.ep → (s : commit.CommitStage) (k : Kept) (o : Option Change) (u : commit.CommitStage)
       → commit.CommitNext t opening m reading q s k o u → CommitBelow s → CommitBelow u × ExtendsTo (c + 65535) o
   commit-to t opening m reading q low s k o u (commit.HasEpoch j e is) p = (low e is, tt)
   commit-to t opening m reading q low s k o u (commit.ExtendsLease j e lease less is) p = (p, lease-near (e.0 / 256) lease c p is)
   commit-to t opening m reading q low s k o u (commit.IsCovered j e less) p = (tt, tt)
   commit-to t opening m reading q low s k o u (commit.Stores j e allowed space) p = (tt, tt)
 
-  prepare-to : (t : TargetPlan) (opening : Epoch × FloorWhy) (m : TargetMemory) (q : PrepareRequest) → q.entry.epoch.0 / 256 ≤ c → (s : prepare.PrepareStage) (k : Kept) (o : Option Change) (u : prepare.PrepareStage)
+  pub prepare-to : (t : TargetPlan) (opening : Epoch × FloorWhy) (m : TargetMemory) (q : PrepareRequest) → q.entry.epoch.0 / 256 ≤ c → (s : prepare.PrepareStage) (k : Kept) (o : Option Change) (u : prepare.PrepareStage)
       → prepare.PrepareNext t opening m q s k o u → Unit {0} → Unit {0} × ExtendsTo (c + 65535) o
   prepare-to t opening m q low s k o u (prepare.ExtendsLease j lease less is) p = (tt, lease-near (q.entry.epoch.0 / 256) lease c low is)
   prepare-to t opening m q low s k o u (prepare.IsCovered j less) p = (tt, tt)
   prepare-to t opening m q low s k o u (prepare.Stores j allowed space) p = (tt, tt)
 
-  ack-to : (t : TargetPlan) (m : TargetMemory) (member : ℕ) (a : AttemptId) (inc : ℕ) (refusal : Option Outcome) (s : ack.AckStage) (k : Kept) (o : Option Change) (u : ack.AckStage)
+  pub ack-to : (t : TargetPlan) (m : TargetMemory) (member : ℕ) (a : AttemptId) (inc : ℕ) (refusal : Option Outcome) (s : ack.AckStage) (k : Kept) (o : Option Change) (u : ack.AckStage)
       → ack.AckNext t m member a inc refusal s k o u → Unit {0} → Unit {0} × ExtendsTo (c + 65535) o
   ack-to t m member a inc refusal s k o u (ack.Aborts j is) p = (tt, tt)
   ack-to t m member a inc refusal s k o u (ack.Counts j is) p = (tt, tt)
 
-  mark-to : (is_due : AttemptId → Durable → Bool) (s : List (AttemptId × Bool)) (k : Kept) (o : Option Change) (u : List (AttemptId × Bool)) → mark.MarkNext is_due s k o u → Unit {0} → Unit {0} × ExtendsTo (c + 65535) o
+  pub mark-to : (is_due : AttemptId → Durable → Bool) (s : List (AttemptId × Bool)) (k : Kept) (o : Option Change) (u : List (AttemptId × Bool)) → mark.MarkNext is_due s k o u → Unit {0} → Unit {0} × ExtendsTo (c + 65535) o
   mark-to is_due s k o u (mark.SettlesMarked j a committed rest is) p = (tt, tt)
   mark-to is_due s k o u (mark.PassesBy j a committed rest is) p = (tt, tt)
 
-  marked-to : (t : TargetPlan) (m : TargetMemory) (member : ℕ) (s : List AttemptId) (k : Kept) (o : Option Change) (u : List AttemptId) → ack.MarkedNext t m member s k o u → Unit {0} → Unit {0} × ExtendsTo (c + 65535) o
+  pub marked-to : (t : TargetPlan) (m : TargetMemory) (member : ℕ) (s : List AttemptId) (k : Kept) (o : Option Change) (u : List AttemptId) → ack.MarkedNext t m member s k o u → Unit {0} → Unit {0} × ExtendsTo (c + 65535) o
   marked-to t m member s k o u (ack.Confirms j a rest is) p = (tt, tt)
   marked-to t m member s k o u (ack.PassesBy j a rest is) p = (tt, tt)
 
-  query-to : (s : verdict.QueryStage) (k : Kept) (o : Option Change) (u : verdict.QueryStage) → verdict.QueryNext s k o u → Unit {0} → Unit {0} × ExtendsTo (c + 65535) o
+  pub query-to : (s : verdict.QueryStage) (k : Kept) (o : Option Change) (u : verdict.QueryStage) → verdict.QueryNext s k o u → Unit {0} → Unit {0} × ExtendsTo (c + 65535) o
   query-to s k o u (verdict.Answers j) p = (tt, tt)
 
   module _ (is_due : AttemptId → Durable → Bool) (t : TargetPlan) (m : TargetMemory) (reading : ℕ) (a : AttemptId) (ask : Option AttemptId) (v : Verdict) where
-    abbrev VerdictBelow : verdict.VerdictStage → Type 0
+    abbrev pub VerdictBelow : verdict.VerdictStage → Type 0
     VerdictBelow verdict.Heard = AsksBelow c (verdict_heard a ask v (member_at t m)).freed.again
     VerdictBelow (verdict.Freed asks n posts) = AsksBelow c asks
     VerdictBelow (verdict.Trying q s asks n posts) = EpochBelow c q.ep × FetchBelow s × AsksBelow c asks
@@ -178,17 +178,17 @@ module _ (c : ℕ) where
     settling-to None = tt
     settling-to (Some step) = tt
 
-    verdict-to : (s : verdict.VerdictStage) (k : Kept) (o : Option Change) (u : verdict.VerdictStage) → verdict.VerdictNext is_due t m reading a ask v s k o u → VerdictBelow s → VerdictBelow u × ExtendsTo (c + 65535) o
+    pub verdict-to : (s : verdict.VerdictStage) (k : Kept) (o : Option Change) (u : verdict.VerdictStage) → verdict.VerdictNext is_due t m reading a ask v s k o u → VerdictBelow s → VerdictBelow u × ExtendsTo (c + 65535) o
     verdict-to s k o u (verdict.SettlesBy j z is) p = (p, subst (ExtendsTo (c + 65535)) (sym is) (settling-to (verdict.settles_by is_due v a k.durable)))
     verdict-to s k o u (verdict.TriesNext j n posts rest x op group ep first tracker r snapshot) p = ((p (message.Fetch x op group ep first tracker r snapshot) (inl refl), tt, λ z i. p z (inr i)), tt)
     verdict-to s k o u (verdict.GoesOn j n posts rest q i z w next) p = let e = fetch-to t n reading q (below-known c t n reading q.tracker q.ep p.0) i k o z next p.1 in ((p.0, e.0, p.2), e.1)
     verdict-to s k o u (verdict.IsDone j n posts rest q i left ends) p = (p.2, tt)
 
-  idle-to : (s : List AttemptId) (k : Kept) (o : Option Change) (u : List AttemptId) → IdleNext s k o u → Unit {0} → Unit {0} × ExtendsTo (c + 65535) o
+  pub idle-to : (s : List AttemptId) (k : Kept) (o : Option Change) (u : List AttemptId) → IdleNext s k o u → Unit {0} → Unit {0} × ExtendsTo (c + 65535) o
   idle-to s k o u (SettlesFirst j a rest) p = (tt, tt)
 
 -- what a target hears tells of no epoch above a bound
-abbrev HeardBelow : ℕ → TargetPlan → TargetMemory → ℕ → Message → Type 0
+abbrev pub HeardBelow : ℕ → TargetPlan → TargetMemory → ℕ → Message → Type 0
 HeardBelow c t m reading (message.Fetch x op group ep first tracker r snapshot) = IsDatedBelow c t m reading tracker ep
 HeardBelow c t m reading (message.Commit x ep first tracker ws) = IsDatedBelow c t m reading tracker ep
 HeardBelow c t m reading (message.Prepare e first ws inc) = e.epoch.0 / 256 ≤ c
@@ -225,6 +225,16 @@ listed-few : (i : Option (AttemptId × Epoch)) → length (listed i) ≤ 1
 listed-few None = omega arith
 listed-few (Some i) = omega arith
 
+-- a request's epoch is at most one above the limit
+pub request-below : (r : Rules) (o : Opening) (w : World) (t : ℕ) (m : TargetMemory) → m.ticks ≤ limit_over o w.lines w.issued → (reading : ℕ) (x : AttemptId) (ep first : Option Epoch) (tracker : Epoch) → t < 256 → IsRequest o w.issued w.lines x ep first tracker
+    → IsDatedBelow (limit_over o w.lines w.issued + 1) (target_plan r t) m reading tracker ep
+request-below r o w t m ticks reading x ep first tracker few k e is =
+    let d = request-dated o w.issued w.lines x ep first tracker (target_plan r t) m reading e few ticks k is in
+    by (limit_over o w.lines w.issued) (length (listed (issued_for x ep e))) (listed-few (issued_for x ep e)) (subst (λ n. e.0 / 256 ≤ n) (limit-more o w.lines w.issued (listed (issued_for x ep e))) d.within)
+  where
+    by : (b n : ℕ) → n ≤ 1 → e.0 / 256 ≤ b + n → e.0 / 256 ≤ b + 1
+    by b n few low = omega (arith, few, low)
+
 module _ (r : Rules) (o : Opening) (stored : Stored) (w : World) (t : ℕ) (s : TargetState) (l : Letter) (K : IsHeardAs r o stored w t s l) (ticks : s.memory.ticks ≤ limit_over o w.lines w.issued) where
   abbrev bound : ℕ
   bound = limit_over o w.lines w.issued + 1
@@ -236,17 +246,12 @@ module _ (r : Rules) (o : Opening) (stored : Stored) (w : World) (t : ℕ) (s : 
       by b k = omega (arith, k)
 
   dated : (reading : ℕ) (x : AttemptId) (ep first : Option Epoch) (tracker : Epoch) → t < 256 → IsRequest o w.issued w.lines x ep first tracker → IsDatedBelow bound (target_plan r t) s.memory reading tracker ep
-  dated reading x ep first tracker few k e is =
-      let d = request-dated o w.issued w.lines x ep first tracker (target_plan r t) s.memory reading e few ticks k is in
-      by (limit_over o w.lines w.issued) (length (listed (issued_for x ep e))) (listed-few (issued_for x ep e)) (subst (λ n. e.0 / 256 ≤ n) (limit-more o w.lines w.issued (listed (issued_for x ep e))) d.within)
-    where
-      by : (b n : ℕ) → n ≤ 1 → e.0 / 256 ≤ b + n → e.0 / 256 ≤ b + 1
-      by b n few low = omega (arith, few, low)
+  dated reading x ep first tracker few k = request-below r o w t s.memory ticks reading x ep first tracker few k
 
   ask-below : (p : Parked) → IsAskFit r o w.issued w.lines (target_plan r t) p.ask → AskBelow bound p.ask
   ask-below p k = subst (AskBelow bound) (sym k.is) (subst (EpochBelow bound) (sym k.own) (within (k.e.0 / 256) (k.fit.request.own k.e k.own).2))
 
-  heard-below : (reading : ℕ) (m : Message) → l.message ≡ m → HeardBelow bound (target_plan r t) s.memory reading m
+  pub heard-below : (reading : ℕ) (m : Message) → l.message ≡ m → HeardBelow bound (target_plan r t) s.memory reading m
   heard-below reading (message.Fetch x op group ep first tracker y snapshot) is = let f = K.fetch (fetch_request x op group ep first tracker y snapshot) is in dated reading x ep first tracker f.0.few f.0.request
   heard-below reading (message.Commit x ep first tracker ws) is = let c = K.commit (commit_request x ep first tracker ws) is in dated reading x ep first tracker c.0.few c.0.request
   heard-below reading (message.Prepare e first ws inc) is = let p = K.prepare (prepare_request e first ws inc) is in within (e.epoch.0 / 256) (K.at.target.dates e.attempt e.epoch p.issued_to)
@@ -257,7 +262,7 @@ module _ (r : Rules) (o : Opening) (stored : Stored) (w : World) (t : ℕ) (s : 
 abbrev pub IsLeasedBelow : Opening → World → Kept → Type 0
 IsLeasedBelow o w k = k.durable.lease ≤ limit_over o w.lines w.issued + 1 + 65535
 
-was-leased : (o : Opening) (w : World) (k : Kept) → k.durable.lease ≤ limit_over o w.lines w.issued + 65536 → IsLeasedBelow o w k
+pub was-leased : (o : Opening) (w : World) (k : Kept) → k.durable.lease ≤ limit_over o w.lines w.issued + 65536 → IsLeasedBelow o w k
 was-leased o w k low = by (limit_over o w.lines w.issued) low
   where
     by : (b : ℕ) → k.durable.lease ≤ b + 65536 → k.durable.lease ≤ b + 1 + 65535

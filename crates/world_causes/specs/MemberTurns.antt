@@ -37,10 +37,9 @@ use Rattle.world_base.specs.Turns.{Whole}
 use Rattle.world_base.specs.Verdicts as turn
 use Rattle.world_causes.specs.Causes.{Dated, Stored, stored_by}
 use Rattle.world_causes.specs.CommitTurns.{space-same}
-use Rattle.world_causes.specs.Lasting.{refusal-shows}
 use Rattle.world_causes.specs.Paths.{costs, free-path}
 use Rattle.world_causes.specs.ReadTurns.{meet-more, none-told}
-use Rattle.world_causes.specs.Shown.{IsOpenTo, RefusalStands, limit_over}
+use Rattle.world_causes.specs.Shown.{IsOpenTo, OutcomeStands, limit_over}
 use Rattle.world_causes.specs.Turns.{AllMeet, AllShow, Leaves, PostShows, all-both, all-map, all-more}
 
 module _ (r : Rules) (o : Opening) (stored : Stored) (issued : Dated) (lines : List Line) where
@@ -57,17 +56,18 @@ module _ (r : Rules) (o : Opening) (stored : Stored) (issued : Dated) (lines : L
 
   -- ---- an Ack
 
-  -- what is known of an attempt's end: the client that waits is the attempt's, its epoch is within the limit, and it shows its cause
+  -- what is known of an attempt's end: its epoch is within the limit, and it shows its cause
   pub record IsEnd (a : AttemptId) (e : Epoch) (how : Outcome) : Type 0 where
-    pub shows : RefusalStands r o stored issued lines a how
+    pub shows : OutcomeStands r o stored issued lines a how
     pub told : (n : ℕ) → Contains (told_by how) n → n / 256 ≤ limit_over o lines issued
     pub within : e.0 / 256 ≤ limit_over o lines issued
 
-  ended-shows : (waiting : Option ActorId) (a : AttemptId) (e : Epoch) (how : Outcome) → ((c : ActorId) → waiting ≡ Some c → c ≡ client a.client) → IsEnd a e how → AllShow r o stored issued lines (ended waiting a e how)
+  -- where a client waits, it is the attempt's
+  pub ended-shows : (waiting : Option ActorId) (a : AttemptId) (e : Epoch) (how : Outcome) → ((c : ActorId) → waiting ≡ Some c → c ≡ client a.client) → ((c : ActorId) → waiting ≡ Some c → IsEnd a e how) → AllShow r o stored issued lines (ended waiting a e how)
   ended-shows None a e how own k = tt
   ended-shows (Some c) a e how own k = (
     record {
-      shows = refusal-shows r o stored issued lines a how k.shows;
+      shows = (k c refl).shows;
       told = λ n i. told n (has-from_contains (e.0 ∷ told_by how) n i);
       undecided = λ x by u. absurd u;
       asked = λ x u. absurd u;
@@ -77,24 +77,24 @@ module _ (r : Rules) (o : Opening) (stored : Stored) (issued : Dated) (lines : L
   )
     where
       told : (n : ℕ) → (n ≡ e.0) ⊎ Has n (told_by how) → n / 256 ≤ limit_over o lines issued
-      told n (inl same) = subst (λ f. f / 256 ≤ limit_over o lines issued) (sym same) k.within
-      told n (inr i) = k.told n (contains-from_has (told_by how) n i)
+      told n (inl same) = subst (λ f. f / 256 ≤ limit_over o lines issued) (sym same) (k c refl).within
+      told n (inr i) = (k c refl).told n (contains-from_has (told_by how) n i)
 
   -- what is known of an Ack, at a leader
   pub record IsAck (a : AttemptId) (refusal : Option Outcome) (l : LeaderOf) : Type 0 where
     pub waiting : (u : Undecided) (c : ActorId) → undecided_of a l ≡ Some u → u.client ≡ Some c → c ≡ client a.client
     pub within : (e : Entry) → entry_led a l ≡ Some e → e.epoch.0 / 256 ≤ limit_over o lines issued
-    pub shows : (how : Outcome) → refusal ≡ Some how → RefusalStands r o stored issued lines a how
+    pub shows : (how : Outcome) (u : Undecided) (c : ActorId) → refusal ≡ Some how → undecided_of a l ≡ Some u → u.client ≡ Some c → OutcomeStands r o stored issued lines a how
     pub told : (how : Outcome) (n : ℕ) → refusal ≡ Some how → Contains (told_by how) n → n / 256 ≤ limit_over o lines issued
 
   ok-shows : (t : ℕ) (a : AttemptId) (e : Entry) (u : Undecided) (l : LeaderOf) → ((c : ActorId) → u.client ≡ Some c → c ≡ client a.client) → e.epoch.0 / 256 ≤ limit_over o lines issued → AllShow r o stored issued lines (ok_heard t a e u l).posts
   ok-shows t a e u l own within = by (are_all_counted e (with_target u.counted t))
     where
       by : (b : Bool) → AllShow r o stored issued lines (if b then record { leader = decided a l; posts = ended u.client a e.epoch outcome.Committed } else quietly (with_undecided (map (counted_at a t) l.memory.undecided) l)).posts
-      by true = ended-shows u.client a e.epoch outcome.Committed own (record { shows = tt; told = λ n i. absurd (none-told n i); within = within })
+      by true = ended-shows u.client a e.epoch outcome.Committed own (λ c w. record { shows = tt; told = λ n i. absurd (none-told n i); within = within })
       by false = tt
 
-  refused-shows : (a : AttemptId) (how : Outcome) (e : Entry) (u : Undecided) (l : LeaderOf) → ((c : ActorId) → u.client ≡ Some c → c ≡ client a.client) → IsEnd a e.epoch how → AllShow r o stored issued lines (refusal_heard a how e u l).posts
+  refused-shows : (a : AttemptId) (how : Outcome) (e : Entry) (u : Undecided) (l : LeaderOf) → ((c : ActorId) → u.client ≡ Some c → c ≡ client a.client) → ((c : ActorId) → u.client ≡ Some c → IsEnd a e.epoch how) → AllShow r o stored issued lines (refusal_heard a how e u l).posts
   refused-shows a how e u l own k =
       all-both r o stored issued lines (ended u.client a e.epoch how) (map (abort_to l.incarnation a) (other_members e)) (ended-shows u.client a e.epoch how own k)
       (all-map r o stored issued lines (abort_to l.incarnation a) (λ t. mark-shows (record { client = false; number = t }) l.incarnation ((a, false) ∷ [])) (other_members e))
@@ -106,7 +106,7 @@ module _ (r : Rules) (o : Opening) (stored : Stored) (issued : Dated) (lines : L
       heard : (h : Option Outcome) → refusal ≡ h → (e : Entry) (u : Undecided) → entry_led a l ≡ Some e → undecided_of a l ≡ Some u → (b : Bool) → AllShow r o stored issued lines (if b then answer_heard t a h e u l else quietly l).posts
       heard h is e u led row false = tt
       heard None is e u led row true = ok-shows t a e u l (λ c w. k.waiting u c row w) (k.within e led)
-      heard (Some how) is e u led row true = refused-shows a how e u l (λ c w. k.waiting u c row w) (record { shows = k.shows how is; told = λ n i. k.told how n is i; within = k.within e led })
+      heard (Some how) is e u led row true = refused-shows a how e u l (λ c w. k.waiting u c row w) (λ c w. record { shows = k.shows how u c is row w; told = λ n i. k.told how n is i; within = k.within e led })
 
       awaited : (p : Option Entry) → entry_led a l ≡ p → (v : Option Undecided) → undecided_of a l ≡ v → AllShow r o stored issued lines (answer_if_awaited t a refusal p v l).posts
       awaited None is v row = tt
@@ -161,7 +161,7 @@ module _ (r : Rules) (o : Opening) (stored : Stored) (issued : Dated) (lines : L
 -- ---- turns
 
 -- a turn that issues nothing, takes no blocks and waits for nothing more leaves what it sends
-quiet-leaves : (r : Rules) (o : Opening) (stored : Stored) (issued : Dated) (lines : List Line) (t : ℕ) (m : TargetMemory) (old new : Kept) (left : TargetMemory × Did) → left.1.issued ≡ None → old.free ≤ new.free → left.0.ticks ≡ m.ticks
+pub quiet-leaves : (r : Rules) (o : Opening) (stored : Stored) (issued : Dated) (lines : List Line) (t : ℕ) (m : TargetMemory) (old new : Kept) (left : TargetMemory × Did) → left.1.issued ≡ None → old.free ≤ new.free → left.0.ticks ≡ m.ticks
     → m.ticks ≤ limit_over o lines issued → left.0.member.parked ≡ m.member.parked → AllMeet r issued m.member.parked → AllShow r o stored issued lines left.1.posts → Leaves r o stored issued lines t old new left
 quiet-leaves r o stored issued lines t m old new left none low ticks within parked meet shows = record {
   posts = subst (λ i. AllShow r o (stored_by t old.durable new.durable ++ stored) (issued ++ listed i) lines left.1.posts) (sym none) (all-more r o (stored_by t old.durable new.durable) stored issued [] lines left.1.posts shows);

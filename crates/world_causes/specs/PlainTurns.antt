@@ -39,6 +39,7 @@ use Rattle.world_causes.specs.Turns.{HasNoLine}
 use Rattle.world_causes.specs.VerdictTurns.{IsAskFit, IsVerdict}
 use Rattle.world_base.specs.Letters.{Takes}
 use Rattle.world_causes.specs.Heard.{IsHeardAs}
+use Rattle.world_causes.specs.Lasting.{refusal-shows}
 use Rattle.world_causes.specs.ReadTurns.{unended-open}
 use Rattle.world_causes.specs.Shown.{Causes, IsOpenTo, MessageStands}
 use Rattle.world_causes.specs.ShownLaws.{AreTries}
@@ -77,7 +78,7 @@ module _ (r : Rules) (o : Opening) (h : History) (stored : Stored) (w : World) (
         let same : c ≡ client z.n = some (sym waits ∙ z.told) in
         same ∙ ap client (ap (λ x. x.client) (sym (sym k.1 ∙ z.of_it ∙ z.asked.attempt)));
     within = λ e f. let k = led-is a e f in C.bounded.issued e.attempt e.epoch (G.epochs.entered t s e here (contains-from_has s.durable.entries e k.0));
-    shows = λ how some'. subst (MessageStands r o stored w.issued w.lines) (is ∙ ap (message.Ack a inc) some') (C.flight l among);
+    shows = λ how u c some' row waits. refusal-shows r o stored w.issued w.lines a how (subst (MessageStands r o stored w.issued w.lines) (is ∙ ap (message.Ack a inc) some') (C.flight l among));
     told = λ how n some' i. C.bounded.told l n among (subst (λ m. Contains (epochs_told m) n) (sym (is ∙ ap (message.Ack a inc) some')) i);
   }
     where

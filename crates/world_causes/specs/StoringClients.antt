@@ -40,11 +40,11 @@ use Rattle.world_lines.specs.EndingLaws.{heard-silent}
 -- ---- lines
 
 -- a line tells of a refusal for want of space only what a message tells
-abbrev TellsOnly : (ℕ → AttemptId → Type 0) → Option Line → Type 0
+abbrev pub TellsOnly : (ℕ → AttemptId → Type 0) → Option Line → Type 0
 TellsOnly P (Some (line.Try a)) = (t need free : ℕ) → a.outcome ≡ outcome.NoSpace t need free → P t a.id
 TellsOnly P l = Unit {0}
 
-quiet-only : (P : ℕ → AttemptId → Type 0) (l : Option Line) → IsQuietLine l → TellsOnly P l
+pub quiet-only : (P : ℕ → AttemptId → Type 0) (l : Option Line) → IsQuietLine l → TellsOnly P l
 quiet-only P (Some (line.Try a)) k = λ t need free is. absurd (subst IsQuiet is k)
 quiet-only P l k = tt
 
@@ -73,7 +73,7 @@ asked-clients p k c a q (ItsWrites ops turns snapshot w ws at last all says) = s
 asked-clients p k c a q (ASnapshot name cont at says) = subst (λ x. IsClients x.message) (sym says) (record { refuses = λ t x h. h; asks = λ x h. h })
 asked-clients p k c a q (AnAggregation cont at says) = subst (λ x. IsClients x.message) (sym says) (record { refuses = λ t x h. h; asks = λ x h. h })
 
-move-clients : (p : ClientPlan) (c : ClientState) → AreClients (listed (moved p c).post)
+pub move-clients : (p : ClientPlan) (c : ClientState) → AreClients (listed (moved p c).post)
 move-clients p c = by (waits c) refl
   where
     nothing : (m : Move) → m.post ≡ None → AreClients (listed m.post)
@@ -94,7 +94,7 @@ move-clients p c = by (waits c) refl
 -- ---- the world then
 
 -- a client did something: these letters are left, and it sent these posts and told this line
-client-did : (stored : Stored) (w : World) (n : ℕ) (d : ClientState) (letters : List Letter) (posts : List Post) (l : Option Line) → StoredOnce stored w → ((z : Letter) → Contains letters z → Contains w.messages z) → AreClients posts
+pub client-did : (stored : Stored) (w : World) (n : ℕ) (d : ClientState) (letters : List Letter) (posts : List Post) (l : Option Line) → StoredOnce stored w → ((z : Letter) → Contains letters z → Contains w.messages z) → AreClients posts
     → TellsOnly (IsRefusedAt w) l → StoredOnce stored (after_client (without w letters) n posts (listed l) d)
 client-did stored w n d letters posts l S among P L = record {
   once = S.once;
@@ -125,12 +125,12 @@ client-did stored w n d letters posts l S among P L = record {
 
 -- ---- clients
 
-stored-by-moves : (r : Rules) (stored : Stored) → IsPlain r → KeptByMoves r (StoredOnce stored)
+pub stored-by-moves : (r : Rules) (stored : Stored) → IsPlain r → KeptByMoves r (StoredOnce stored)
 stored-by-moves r stored P w n c here S =
     client-did stored w n (moved (client_plan r n) c).state w.messages (listed (moved (client_plan r n) c).post) (moved (client_plan r n) c).line S (λ z i. i) (move-clients (client_plan r n) c)
     (quiet-only (IsRefusedAt w) (moved (client_plan r n) c).line (moved-mild (client_plan r n) c (P.now n c.place)).quiet)
 
-stored-by-counting : (stored : Stored) → KeptByCounting (StoredOnce stored)
+pub stored-by-counting : (stored : Stored) → KeptByCounting (StoredOnce stored)
 stored-by-counting stored w n k c here S = record {
   once = S.once;
   issued = S.issued;

@@ -48,7 +48,7 @@ use Rattle.world_base.specs.MemoryLaws.{hears-follows, idles-follows}
 use Rattle.world_causes.specs.Causes.{PlainCauses, EndsOf, Stored, is_new_to, stored_as, stored_by, stored_in}
 use Rattle.world_causes.specs.ClientLaws.{ends-no_tell}
 use Rattle.world_causes.specs.Requests.{Given, present-unended}
-use Rattle.world_causes.specs.Storing.{AreApart, HasItsLine, IsAskedAt, IsPrepareOf, IsRefusedAt, IsTold, RefusesAt, Storing}
+use Rattle.world_causes.specs.Storing.{AreApart, HasItsLine, IsAskedAt, IsPrepareOf, IsRefusedAt, IsTold, RefusesAt, StoredOnce, Storing}
 use Rattle.world_causes.specs.StoringClients.{client-hears-keeps-stored, going-keeps-stored}
 use Rattle.world_causes.specs.StoreTurns.{AsksFor, IsCommitOf, StoresAs, hears-stores, idles-stores, nothing_heard}
 
@@ -65,7 +65,7 @@ EventsKeepStoring =
 
 -- ---- lists
 
-apart-both : {T : Type 0} (xs ys : List T) → AreApart xs → AreApart ys → ((x : T) → Has x xs → Has x ys → ⊥) → AreApart (xs ++ ys)
+pub apart-both : {T : Type 0} (xs ys : List T) → AreApart xs → AreApart ys → ((x : T) → Has x xs → Has x ys → ⊥) → AreApart (xs ++ ys)
 apart-both [] ys h k off = k
 apart-both (x ∷ xs) ys h k off = (λ i. elim (has-cases xs ys x i) [ inl j ↦ h.0 j | inr j ↦ off x (inl refl) j ], apart-both xs ys h.1 k (λ z i. off z (inr i)))
 
@@ -100,28 +100,28 @@ none-is : {T : Type 0} (o : Option T) → is_none o ≡ true → o ≡ None
 none-is None h = refl
 none-is (Some x) h = let no : ⊥ = cc in absurd no
 
-some-not_none : {T : Type 0} (o : Option T) (x : T) → o ≡ Some x → o ≡ None → ⊥
+pub some-not_none : {T : Type 0} (o : Option T) (x : T) → o ≡ Some x → o ≡ None → ⊥
 some-not_none o x h k = cc
 
 -- ---- messages
 
 -- a request is a Commit or a Prepare
-asks-cases : (m : Message) (x : AttemptId) → AsksFor m x → IsCommitOf m x ⊎ IsPrepareOf m x
+pub asks-cases : (m : Message) (x : AttemptId) → AsksFor m x → IsCommitOf m x ⊎ IsPrepareOf m x
 asks-cases (message.Commit y ep first tracker ws) x k = inl k
 asks-cases (message.Prepare e first ws inc) x k = inr k
 asks-cases m x k = absurd k
 
-commit-is : (m : Message) (x : AttemptId) → IsCommitOf m x → (q : CommitRequest) × (m ≡ commit_of q) × (q.attempt ≡ x)
+pub commit-is : (m : Message) (x : AttemptId) → IsCommitOf m x → (q : CommitRequest) × (m ≡ commit_of q) × (q.attempt ≡ x)
 commit-is (message.Commit y ep first tracker ws) x k = (record { attempt = y; ep = ep; first = first; tracker = tracker; writes = ws }, refl, k)
 commit-is m x k = absurd k
 
 -- a Commit isn't a Prepare
-not-both : (m : Message) (x y : AttemptId) → IsCommitOf m x → IsPrepareOf m y → ⊥
+pub not-both : (m : Message) (x y : AttemptId) → IsCommitOf m x → IsPrepareOf m y → ⊥
 not-both (message.Commit z ep first tracker ws) x y k p = p
 not-both m x y k p = k
 
 -- a Commit tells no end
-commit-no_end : (m : Message) (x y : AttemptId) → IsCommitOf m x → EndsOf m y → ⊥
+pub commit-no_end : (m : Message) (x y : AttemptId) → IsCommitOf m x → EndsOf m y → ⊥
 commit-no_end (message.Commit z ep first tracker ws) x y k p = p
 commit-no_end m x y k p = k
 
@@ -203,31 +203,31 @@ module _ (r : Rules) (o : Opening) (h : History) (stored : Stored) (w v : World)
 -- ---- an event of a target
 
 -- what is known of such an event
-record Did_so (r : Rules) (h later : History) (stored : Stored) (w v : World) (t : ℕ) (s z : TargetState) (m : Message) (did : Did) (rest : List Letter) : Type 0 where
-  now : slice_get v.targets t ≡ Some z
-  messages : v.messages ≡ rest ++ letters_of (target t) did.posts
-  lines : v.lines ≡ w.lines
-  issued : (x : AttemptId) (e : Epoch) → Contains w.issued (x, e) → Contains v.issued (x, e)
-  left : (l : Letter) → Contains rest l → Contains w.messages l
-  unstored : (x : AttemptId) → AsksFor m x → Contains stored (t, x) → ⊥
-  unrefused : (x : AttemptId) → AsksFor m x → IsRefusedAt w t x → ⊥
-  unborn : (x : AttemptId) → IsCommitOf m x → IsBorn r h w x → ⊥
-  uncommitted : (u : ℕ) (x : AttemptId) → IsCommitOf m x → IsRefusedAt w u x → ⊥
-  told : (u : ℕ) (x : AttemptId) → RefusesAt m u x → IsRefusedAt w u x
-  alone : (x : AttemptId) → AsksFor m x → IsAskedAt v t x → ⊥
+pub record DidSo (stored : Stored) (w v : World) (t : ℕ) (s z : TargetState) (m : Message) (did : Did) (rest : List Letter) : Type 0 where
+  pub now : slice_get v.targets t ≡ Some z
+  pub messages : v.messages ≡ rest ++ letters_of (target t) did.posts
+  pub lines : v.lines ≡ w.lines
+  pub issued : (x : AttemptId) (e : Epoch) → Contains w.issued (x, e) → Contains v.issued (x, e)
+  pub left : (l : Letter) → Contains rest l → Contains w.messages l
+  pub unstored : (x : AttemptId) → AsksFor m x → Contains stored (t, x) → ⊥
+  pub unrefused : (x : AttemptId) → AsksFor m x → IsRefusedAt w t x → ⊥
+  pub anew : (u : ℕ) (x : AttemptId) → IsCommitOf m x → Contains stored (u, x) → ⊥
+  pub uncommitted : (u : ℕ) (x : AttemptId) → IsCommitOf m x → IsRefusedAt w u x → ⊥
+  pub told : (u : ℕ) (x : AttemptId) → RefusesAt m u x → IsRefusedAt w u x
+  pub alone : (x : AttemptId) → AsksFor m x → IsAskedAt v t x → ⊥
 
-module _ (r : Rules) (h later : History) (stored : Stored) (w v : World) (T : Then r h later w v) (S : Storing r h stored w) (t : ℕ) (s z : TargetState) (m : Message) (did : Did) (rest : List Letter) (new : Kept) (same : new.durable ≡ z.durable)
-    (K : Did_so r h later stored w v t s z m did rest) (A : StoresAs s.durable t m new did.posts) where
-  abbrev Now : Stored
+module _ (stored : Stored) (w v : World) (S : StoredOnce stored w) (t : ℕ) (s z : TargetState) (m : Message) (did : Did) (rest : List Letter) (new : Kept) (same : new.durable ≡ z.durable) (rising : is_rising entry_key z.durable.entries ≡ true)
+    (dated : (x : AttemptId) (e : Entry) → entry_at v t x ≡ Some e → Contains v.issued (x, e.epoch)) (K : DidSo stored w v t s z m did rest) (A : StoresAs s.durable t m new did.posts) where
+  abbrev pub Now : Stored
   Now = stored_by t s.durable z.durable
 
   -- an attempt that is stored now
-  record IsNow (u : ℕ) (x : AttemptId) : Type 0 where
-    here : u ≡ t
-    none : entry_of s.durable x ≡ None
-    entry : Entry
-    among : Has entry z.durable.entries
-    its : entry.attempt ≡ x
+  pub record IsNow (u : ℕ) (x : AttemptId) : Type 0 where
+    pub here : u ≡ t
+    pub none : entry_of s.durable x ≡ None
+    pub entry : Entry
+    pub among : Has entry z.durable.entries
+    pub its : entry.attempt ≡ x
 
   is-now : (u : ℕ) (x : AttemptId) → Has (u, x) Now → IsNow u x
   is-now u x i =
@@ -245,14 +245,14 @@ module _ (r : Rules) (h later : History) (stored : Stored) (w v : World) (T : Th
   unfolding entry_of
   found-now u x k = found-some x z.durable.entries k.entry k.among k.its
 
-  entry-now : (u : ℕ) (x : AttemptId) → IsNow u x → (f : Entry) × (entry_at v t x ≡ Some f)
+  pub entry-now : (u : ℕ) (x : AttemptId) → IsNow u x → (f : Entry) × (entry_at v t x ≡ Some f)
   entry-now u x k = let f = found-now u x k in (f.0, ap (λ y. entry_in y x) K.now ∙ f.1)
 
   -- it is what was asked for
-  asked-for : (u : ℕ) (x : AttemptId) → IsNow u x → (AsksFor m x → ⊥) → ⊥
+  pub asked-for : (u : ℕ) (x : AttemptId) → IsNow u x → (AsksFor m x → ⊥) → ⊥
   asked-for u x k off = let f = found-now u x k in some-not_none (entry_of z.durable x) f.0 f.1 (ap (λ d. entry_of d x) (sym same) ∙ A.only x k.none off)
 
-  cases : (u : ℕ) (x : AttemptId) → Contains (Now ++ stored) (u, x) → IsNow u x ⊎ Contains stored (u, x)
+  pub cases : (u : ℕ) (x : AttemptId) → Contains (Now ++ stored) (u, x) → IsNow u x ⊎ Contains stored (u, x)
   cases u x i = elim (has-cases Now stored (u, x) (has-from_contains (Now ++ stored) (u, x) i)) [
     | inl j ↦ inl (is-now u x j)
     | inr j ↦ inr (contains-from_has stored (u, x) j)
@@ -274,14 +274,14 @@ module _ (r : Rules) (h later : History) (stored : Stored) (w v : World) (T : Th
   asked-not : (u : ℕ) (x : AttemptId) → IsAskedAt v u x → Contains (Now ++ stored) (u, x) → ⊥
   asked-not u x a i = elim (cases u x i) [
     | inl k ↦ asked-for u x k (λ f. K.alone x f (subst (λ n. IsAskedAt v n x) k.here a))
-    | inr j ↦ elim (asked-cases u x a) [ inl b ↦ S.so.asked u x b j | inr c ↦ K.unborn x c (S.born u x j) ]
+    | inr j ↦ elim (asked-cases u x a) [ inl b ↦ S.asked u x b j | inr c ↦ K.anew u x c j ]
   ]
 
   -- one that was refused before
   refused-before : (u : ℕ) (x : AttemptId) → IsRefusedAt w u x → (Contains (Now ++ stored) (u, x) → ⊥) × (IsAskedAt v u x → ⊥)
   refused-before u x b = (
-    λ i. elim (cases u x i) [ inl k ↦ asked-for u x k (λ f. K.unrefused x f (subst (λ n. IsRefusedAt w n x) k.here b)) | inr j ↦ (S.so.refused u x b).0 j ],
-    λ a. elim (asked-cases u x a) [ inl c ↦ (S.so.refused u x b).1 c | inr c ↦ K.uncommitted u x c b ],
+    λ i. elim (cases u x i) [ inl k ↦ asked-for u x k (λ f. K.unrefused x f (subst (λ n. IsRefusedAt w n x) k.here b)) | inr j ↦ (S.refused u x b).0 j ],
+    λ a. elim (asked-cases u x a) [ inl c ↦ (S.refused u x b).1 c | inr c ↦ K.uncommitted u x c b ],
   )
 
   -- one that is refused now
@@ -304,23 +304,37 @@ module _ (r : Rules) (h later : History) (stored : Stored) (w v : World) (T : Th
     ]
   ]
 
-  target-stores : Storing r later (Now ++ stored) v
-  target-stores = record {
-    so = record {
-      once = apart-both Now stored (entries-apart t s.durable z.durable.entries ((T.attempts.ordered t z K.now).entries)) S.so.once
-          (λ i j k. let n = is-now i.0 i.1 j in asked-for i.0 i.1 n (λ f. K.unstored i.1 f (subst (λ u. Contains stored (u, i.1)) n.here (contains-from_has stored i k))));
-      issued = λ u x i. elim (cases u x i) [
-        | inl k ↦ let e = entry-now u x k in let one = (T.attempts.each x).entries.one t e.0 e.1 in (e.0.epoch, contains-from_has v.issued (x, e.0.epoch) one.issued)
-        | inr j ↦ let e = S.so.issued u x j in (e.0, K.issued x e.0 e.1)
-      ];
-      asked = asked-not;
-      refused = refused-not;
-    };
-    born = λ u x i. elim (cases u x i) [
-      | inl k ↦ let e = entry-now u x k in (T.attempts.each x).entries.born t e.0 e.1
-      | inr j ↦ T.born x (S.born u x j)
+  pub target-stores_once : StoredOnce (Now ++ stored) v
+  target-stores_once = record {
+    once = apart-both Now stored (entries-apart t s.durable z.durable.entries rising) S.once
+        (λ i j k. let n = is-now i.0 i.1 j in asked-for i.0 i.1 n (λ f. K.unstored i.1 f (subst (λ u. Contains stored (u, i.1)) n.here (contains-from_has stored i k))));
+    issued = λ u x i. elim (cases u x i) [
+      | inl k ↦ let e = entry-now u x k in (e.0.epoch, dated x e.0 e.1)
+      | inr j ↦ let e = S.issued u x j in (e.0, K.issued x e.0 e.1)
     ];
+    asked = asked-not;
+    refused = refused-not;
   }
+
+-- where the facts of attempts hold then
+target-stores : (r : Rules) (h later : History) (stored : Stored) (w v : World) → Then r h later w v → Storing r h stored w → (t : ℕ) (s z : TargetState) (m : Message) (did : Did) (rest : List Letter) (new : Kept) → new.durable ≡ z.durable
+    → ((x : AttemptId) → IsCommitOf m x → IsBorn r h w x → ⊥) → (((u : ℕ) (x : AttemptId) → IsCommitOf m x → Contains stored (u, x) → ⊥) → DidSo stored w v t s z m did rest) → StoresAs s.durable t m new did.posts → Storing r later (stored_by t s.durable z.durable ++ stored) v
+target-stores r h later stored w v T S t s z m did rest new same unborn known A = record {
+  so = target-stores_once stored w v S.so t s z m did rest new same rising dated K A;
+  born = λ u x i. elim (cases stored w v S.so t s z m did rest new same rising dated K A u x i) [
+    | inl k ↦ let e = entry-now stored w v S.so t s z m did rest new same rising dated K A u x k in (T.attempts.each x).entries.born t e.0 e.1
+    | inr j ↦ T.born x (S.born u x j)
+  ];
+}
+  where
+    K : DidSo stored w v t s z m did rest
+    K = known (λ u x c i. unborn x c (S.born u x i))
+
+    rising : is_rising entry_key z.durable.entries ≡ true
+    rising = (T.attempts.ordered t z K.now).entries
+
+    dated : (x : AttemptId) (e : Entry) → entry_at v t x ≡ Some e → Contains v.issued (x, e.epoch)
+    dated x e at = contains-from_has v.issued (x, e.epoch) ((T.attempts.each x).entries.one t e at).issued
 
 -- ---- a target hears
 
@@ -363,7 +377,7 @@ module _ (r : Rules) (o : Opening) (h later : History) (stored : Stored) (w v : 
               omega (arith, few, all, one, more)
 
   hearing-stores : Storing r later (stored_by g.t g.s.durable g.new.durable ++ stored) v
-  hearing-stores = target-stores r h later stored w v T S g.t g.s (target_after g.s g.new g.memory) g.l.message g.did g.rest g.new refl (record {
+  hearing-stores = target-stores r h later stored w v T S g.t g.s (target_after g.s g.new g.memory) g.l.message g.did g.rest g.new refl (λ x k b. (commit-new r o h stored w v G C g.l x heard k).1 b) (λ anew. record {
     now = its-state;
     messages = ap (λ y. y.messages) g.after;
     lines = same-lines;
@@ -371,7 +385,7 @@ module _ (r : Rules) (o : Opening) (h later : History) (stored : Stored) (w v : 
     left = λ l i. left-is-among w.messages g.l g.rest l g.takes i;
     unstored = λ x f i. elim (asks-cases g.l.message x f) [ inl k ↦ (commit-new r o h stored w v G C g.l x heard k).1 (S.born g.t x i) | inr p ↦ S.so.asked g.t x (asked-here x p) i ];
     unrefused = λ x f b. elim (asks-cases g.l.message x f) [ inl k ↦ commit-unrefused r o h stored w v G C g x k g.t b | inr p ↦ (S.so.refused g.t x b).1 (asked-here x p) ];
-    unborn = λ x k b. (commit-new r o h stored w v G C g.l x heard k).1 b;
+    anew = anew;
     uncommitted = λ u x k b. commit-unrefused r o h stored w v G C g x k u b;
     told = λ u x p. IsTold g.l heard p;
     alone = alone-there;
@@ -386,7 +400,7 @@ module _ (r : Rules) (o : Opening) (h later : History) (stored : Stored) (w v : 
 -- ---- a target does its idle work
 
 idling-stores : (r : Rules) (h later : History) (stored : Stored) (w v : World) → Then r h later w v → Storing r h stored w → (g : TargetIdles r w v) → Storing r later (stored_by g.t g.s.durable g.new.durable ++ stored) v
-idling-stores r h later stored w v T S g = target-stores r h later stored w v T S g.t g.s (target_after g.s g.new g.memory) nothing_heard g.did w.messages g.new refl (record {
+idling-stores r h later stored w v T S g = target-stores r h later stored w v T S g.t g.s (target_after g.s g.new g.memory) nothing_heard g.did w.messages g.new refl (λ x k b. absurd k) (λ anew. record {
   now = ap (λ y. slice_get y.targets g.t) g.after ∙ set-here w.targets g.t g.s (target_after g.s g.new g.memory) g.here;
   messages = ap (λ y. y.messages) g.after;
   lines = ap (λ y. y.lines) g.after
@@ -396,7 +410,7 @@ idling-stores r h later stored w v T S g = target-stores r h later stored w v T 
   left = λ l i. i;
   unstored = λ x f i. absurd f;
   unrefused = λ x f b. absurd f;
-  unborn = λ x k b. absurd k;
+  anew = anew;
   uncommitted = λ u x k b. absurd k;
   told = λ u x p. absurd p;
   alone = λ x f a. absurd f;

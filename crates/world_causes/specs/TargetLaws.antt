@@ -56,7 +56,7 @@ listed-has (Some j) i (inl same) = ap (λ z. Some z) (sym same)
 listed-has (Some j) i (inr bad) = absurd bad
 
 -- the world once a target's turn left this
-leaves-keep : (r : Rules) (o : Opening) (stored : Stored) (w : World) (t : ℕ) (s : TargetState) (new : Kept) (memory : TargetMemory) (did : Did) (rest : List Letter) → Causes r o stored w → slice_get w.targets t ≡ Some s
+pub leaves-keep : (r : Rules) (o : Opening) (stored : Stored) (w : World) (t : ℕ) (s : TargetState) (new : Kept) (memory : TargetMemory) (did : Did) (rest : List Letter) → Causes r o stored w → slice_get w.targets t ≡ Some s
     → ((l : Letter) → Contains rest l → Contains w.messages l) → did.lines ≡ [] → KeepsAs s.durable new.durable → IsLeasedBelow o w new → Leaves r o stored w.issued w.lines t (kept s) new (memory, did)
     → Causes r o (stored_by t s.durable new.durable ++ stored) (with_target t (target_after s new memory) (after_turn w (target t) did rest))
 leaves-keep r o stored w t s new memory did rest C here among none keeps leased L = subst (λ ls. Causes r o (more ++ stored) (record w { targets = set w.targets t (target_after s new memory); messages = rest ++ letters_of (target t) did.posts; asked = asked_after w.asked (letters_of (target t) did.posts); issued = now; lines = ls })) (sym lines) (record {

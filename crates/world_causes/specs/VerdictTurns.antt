@@ -82,7 +82,7 @@ module _ (r : Rules) (o : Opening) (stored : Stored) (issued : Dated) (lines : L
           same : (f : Epoch) → Some f ≡ Some k.e → k.e ≡ f
           same f is = cc
 
-  all-unresolved-show : (x : AttemptId) (ps : List Parked) → ((p : Parked) → Has p ps → Has p m.member.parked × (is_waiting a x p ≡ true)) → v ≡ verdict.Undecided → ask ≡ Some x → AllShow r o stored issued lines (all_unresolved_told a ps)
+  pub all-unresolved-show : (x : AttemptId) (ps : List Parked) → ((p : Parked) → Has p ps → Has p m.member.parked × (is_waiting a x p ≡ true)) → v ≡ verdict.Undecided → ask ≡ Some x → AllShow r o stored issued lines (all_unresolved_told a ps)
   all-unresolved-show x [] among undecided asked = tt
   all-unresolved-show x (p ∷ ps) among undecided asked =
       let i = among p (inl refl) in

@@ -1,42 +1,36 @@
 -- The laws of what is stored once, as statements.
-use Rattle.std.specs.Prelude.{ℕ, ◌≡◌, [], ◌∷◌, Contains}
-use Rattle.base_types.specs.declared.epoch.Epoch.{Epoch}
-use Rattle.base_types.specs.declared.id.AttemptId.{AttemptId}
-use Rattle.daos_model.specs.Attempts.{tries}
-use Rattle.world_base.specs.declared.target.TargetState.{TargetState}
+use Rattle.std.specs.Prelude.{◌++◌}
+use Rattle.world_attempts.specs.History.{History}
 use Rattle.world_base.specs.declared.world.World.{World}
-use Rattle.world_base.specs.CutTurns.{Cutting}
-use Rattle.world_base.specs.Events.{Rules}
-use Rattle.world_base.specs.Stops.{NumbersDrawn, OpeningFails, TargetGivenUp, TargetOpens, after_cut, swept}
-use Rattle.world_causes.specs.Causes.{Stored}
-use Rattle.world_causes.specs.Storing.{IsAskedAt, IsRefusedAt, StoredOnce}
+use Rattle.world_base.specs.Events.{Rules, TargetHearsRightly, TargetIdles, target_plan}
+use Rattle.world_base.specs.Stops.{NumbersDrawn, OpeningFails, TargetCut, TargetGivenUp, TargetOpens, swept}
+use Rattle.world_causes.specs.Causes.{Stored, stored_by}
+use Rattle.world_showing.specs.Cutting.{work_stored}
+use Rattle.world_stored.specs.Over.{IsStoringKnown, StoringOver}
 
--- a turn is cut that told of no attempt, and its target stops: what was stored before stays stored once
-abbrev pub StopsKeepStored : Type 0
-StopsKeepStored = (stored : Stored) (w v : World) (t : ℕ) (s : TargetState) (cut : Cutting) → v ≡ after_cut w t s cut → tries cut.lines ≡ [] → StoredOnce stored w → StoredOnce stored v
+-- a target hears what runs without stops have, or does its idle work
+abbrev pub HearingKeepsStored : Type 0
+HearingKeepsStored = (r : Rules) (h later : History) (stored : Stored) (w v : World) → IsStoringKnown r h later w v → (g : TargetHearsRightly r w v) → StoringOver r stored w → StoringOver r (stored_by g.t g.s.durable g.new.durable ++ stored) v
 
--- One attempt more was stored by the change that was cut: one with an epoch, which wasn't stored there, isn't asked for there any more, and
--- wasn't refused there.
-abbrev pub LateStoresKeepStored : Type 0
-LateStoresKeepStored =
-    (stored : Stored) (w : World) (t : ℕ) (x : AttemptId) (e : Epoch) → Contains w.issued (x, e) → (Contains stored (t, x) → ⊥) → (IsAskedAt w t x → ⊥) → (IsRefusedAt w t x → ⊥) → StoredOnce stored w → StoredOnce ((t, x) ∷ stored) w
+abbrev pub IdlingKeepsStored : Type 0
+IdlingKeepsStored = (r : Rules) (h later : History) (stored : Stored) (w v : World) → IsStoringKnown r h later w v → (g : TargetIdles r w v) → StoringOver r stored w → StoringOver r (stored_by g.t g.s.durable g.new.durable ++ stored) v
 
--- none is asked for any more at a target that has just stopped
-abbrev pub StopsAskNothing : Type 0
-StopsAskNothing = (w v : World) (t : ℕ) (s : TargetState) (cut : Cutting) (x : AttemptId) → v ≡ after_cut w t s cut → IsAskedAt v t x → ⊥
+-- a turn is cut, and its target stops: what it was about to store counts too
+abbrev pub CutsKeepStored : Type 0
+CutsKeepStored = (r : Rules) (h later : History) (stored : Stored) (w v : World) → IsStoringKnown r h later w v → (g : TargetCut r w v) → StoringOver r stored w → StoringOver r (work_stored (target_plan r g.t) g.s g.work g.cut g.turn ++ stored) v
 
 -- a target opens again, fails to, or is given up; what goes to targets that are given up is lost; or numbers are drawn
 abbrev pub OpeningsKeepStored : Type 0
-OpeningsKeepStored = (r : Rules) (stored : Stored) (w v : World) → TargetOpens r w v → StoredOnce stored w → StoredOnce stored v
+OpeningsKeepStored = (r : Rules) (stored : Stored) (w v : World) → TargetOpens r w v → StoringOver r stored w → StoringOver r stored v
 
 abbrev pub FailuresKeepStored : Type 0
-FailuresKeepStored = (r : Rules) (stored : Stored) (w v : World) → OpeningFails r w v → StoredOnce stored w → StoredOnce stored v
+FailuresKeepStored = (r : Rules) (stored : Stored) (w v : World) → OpeningFails r w v → StoringOver r stored w → StoringOver r stored v
 
 abbrev pub GivingUpKeepsStored : Type 0
-GivingUpKeepsStored = (r : Rules) (stored : Stored) (w v : World) → TargetGivenUp r w v → StoredOnce stored w → StoredOnce stored v
+GivingUpKeepsStored = (r : Rules) (stored : Stored) (w v : World) → TargetGivenUp r w v → StoringOver r stored w → StoringOver r stored v
 
 abbrev pub SweepsKeepStored : Type 0
-SweepsKeepStored = (stored : Stored) (w : World) → StoredOnce stored w → StoredOnce stored (swept w)
+SweepsKeepStored = (r : Rules) (stored : Stored) (w : World) → StoringOver r stored w → StoringOver r stored (swept w)
 
 abbrev pub NumbersKeepStored : Type 0
-NumbersKeepStored = (stored : Stored) (w v : World) → NumbersDrawn w v → StoredOnce stored w → StoredOnce stored v
+NumbersKeepStored = (r : Rules) (stored : Stored) (w v : World) → NumbersDrawn w v → StoringOver r stored w → StoringOver r stored v

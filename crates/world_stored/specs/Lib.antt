@@ -1,3 +1,6 @@
 -- What is stored once, where targets stop and open again.
 pub mod Laws
 pub mod Stopping
+pub mod Over
+pub mod Targets
+pub mod Cutting

@@ -1,17 +1,16 @@
 // What is stored once, where targets stop and open again.
 #![tactic(auto)]
 
-ghost use Rattle.world_stored.specs.Laws.{FailuresKeepStored, GivingUpKeepsStored, LateStoresKeepStored, NumbersKeepStored, OpeningsKeepStored, StopsAskNothing, StopsKeepStored, SweepsKeepStored};
+ghost use Rattle.world_stored.specs.Laws.{CutsKeepStored, FailuresKeepStored, GivingUpKeepsStored, HearingKeepsStored, IdlingKeepsStored, NumbersKeepStored, OpeningsKeepStored, SweepsKeepStored};
 
-/// Says what stops leave of attempts that are stored at most once at each target, not where they were refused
-/// for want of space, nor where they are asked for still. A stop keeps it, and leaves nothing asked for at its
-/// target; so what the change that was cut stored there counts too, where it was stored neither before nor
-/// refused. A target that opens again, fails to, or is given up, what is lost then, and numbers that are drawn
-/// keep it.
+/// Says that each attempt is stored at most once at each target, not where it was refused for want of space,
+/// nor where it is asked for still. What a target hears and its idle work keep it. A turn that is cut keeps it
+/// too, where what it was about to store counts as stored; and so does a target that opens again, fails to, or
+/// is given up, what is lost then, and numbers that are drawn.
 pub fn laws_of_stored()
-    ensures stop { StopsKeepStored }
-    ensures late { LateStoresKeepStored }
-    ensures asked { StopsAskNothing }
+    ensures hear { HearingKeepsStored }
+    ensures idle { IdlingKeepsStored }
+    ensures cut { CutsKeepStored }
     ensures opening { OpeningsKeepStored }
     ensures failure { FailuresKeepStored }
     ensures given_up { GivingUpKeepsStored }

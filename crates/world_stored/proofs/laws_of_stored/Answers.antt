@@ -1,11 +1,13 @@
-use Rattle.world_stored.specs.Stopping.{asks-nothing, failure-keeps, giving-up_keeps, late-keeps, numbers-keep, opening-keeps, stop-keeps, sweep-keeps}
+use Rattle.world_stored.specs.Stopping.{failure-keeps, giving-up_keeps, numbers-keep, opening-keeps, sweep-keeps}
+use Rattle.world_stored.specs.Cutting.{cut-over}
+use Rattle.world_stored.specs.Targets.{idling-over, rightly-over}
 use Rattle.world_stored.proofs.laws_of_stored.Goals as goal
 
 pub returns : goal.returns
 returns c = record {
-  stop = stop-keeps;
-  late = late-keeps;
-  asked = asks-nothing;
+  hear = λ r h later stored w v G g S. rightly-over r h later stored w v G S g;
+  idle = λ r h later stored w v G g S. idling-over r h later stored w v G S g;
+  cut = λ r h later stored w v G g S. cut-over r h later stored w v G S g;
   opening = opening-keeps;
   failure = failure-keeps;
   given_up = giving-up_keeps;
