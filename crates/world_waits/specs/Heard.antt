@@ -115,5 +115,5 @@ holding r w n t s k here = by (slice_get w.clients n) refl
 -- what is collected is collected for the attempts' clients
 pub collects-own : (r : Rules) (w : World) (t : ℕ) (s : TargetState) → Conversation r w → RequestsAreOfClients w → slice_get w.targets t ≡ Some s → CollectsForOwn s.memory
 collects-own r w t s k from here c i =
-    let client-is : c.client ≡ client c.client.number = ap (λ b. record { client = b; number = c.client.number }) (from.collecting t s c here i) in
+    let client-is : c.client ≡ client c.client.number = ap (λ b. record { client = b; number = c.client.number }) ((from.waiters t s here).collecting c i) in
     client-is ∙ ap client (sym (collection-own c.client.number t s.memory (holding r w c.client.number t s k here) c i (ap (λ a. is_client c.client.number a) client-is ∙ same_number c.client.number)))
