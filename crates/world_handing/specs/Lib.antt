@@ -1,0 +1,5 @@
+-- What follows from the conversations of clients for what other facts make use of.
+pub mod Handing
+pub mod Fitting
+pub mod Dates
+pub mod Laws
