@@ -1,6 +1,6 @@
 -- A Commit goes with the epoch that was issued to its attempt.
-use Rattle.std.specs.Prelude.{ℕ, ◌≡◌, List, [], ◌∷◌, Option, Some, None, refl}
-use Rattle.std.proofs.Common.{sym, ◌∙◌, ap, subst}
+use Rattle.std.specs.Prelude.{ℕ, ◌≡◌, List, [], Option, Some, refl}
+use Rattle.std.proofs.Common.{sym, ◌∙◌, subst}
 use Rattle.base_types.specs.declared.epoch.Epoch.{Epoch}
 use Rattle.base_types.specs.declared.id.AttemptId.{AttemptId}
 use Rattle.base_types.specs.declared.operation.MinorWrite.{MinorWrite}
@@ -11,7 +11,7 @@ use Rattle.world_attempts.specs.Attempts.{writes_of}
 use Rattle.world_base.specs.declared.letter.Letter.{Letter}
 use Rattle.world_base.specs.declared.world.World.{World}
 use Rattle.world_base.specs.Events.{Rules}
-use Rattle.world_epochs.specs.Epochs.{ClientsStand, Epochs, GoesWith, IsEpochOf, IsOwn, IsSeen, ReadsNamed}
+use Rattle.world_epochs.specs.Epochs.{ClientsStand, Epochs, GoesWith, IsEpochOf, IsOwn, IsSeen}
 use Rattle.world_handing.specs.Handing.{EpochsOfCommits, commit-asked}
 use Rattle.world_waits.specs.Premises.{RequestsAreOfClients}
 use Rattle.world_waits.specs.Waits.{Conversation}

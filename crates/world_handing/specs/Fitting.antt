@@ -1,9 +1,8 @@
 -- A client hears what goes with what it asked.
-use Rattle.std.specs.Prelude.{ℕ, ◌≡◌, Bool, true, false, List, [], ◌∷◌, slice_get, Option, Some, None, refl}
+use Rattle.std.specs.Prelude.{ℕ, ◌≡◌, Bool, true, false, List, slice_get, Option, Some, None, refl}
 use Rattle.std.proofs.Common.{sym, ◌∙◌, ap, subst}
 use Rattle.base_types.specs.declared.epoch.Epoch.{Epoch}
 use Rattle.base_types.specs.declared.id.AttemptId.{AttemptId}
-use Rattle.base_types.specs.declared.outcome.Outcome.{Outcome}
 use Rattle.base_messages.specs.declared.message.Message.{Message, more_of-Message}
 use Rattle.base_messages.specs.declared.message.Message.TheVariants as message
 use Rattle.base_messages.specs.declared.message.Post.{Post}
@@ -20,11 +19,10 @@ use Rattle.world_base.specs.declared.letter.Letter.{Letter}
 use Rattle.world_base.specs.declared.world.World.{World}
 use Rattle.world_base.specs.ClientTurns.{about, attempt_id, is_about}
 use Rattle.world_base.specs.Events.{Rules, client_plan}
-use Rattle.world_base.specs.Letters.{Takes, client, is_tell, reset_message}
+use Rattle.world_base.specs.Letters.{Takes, client, is_tell}
 use Rattle.world_clients.specs.Answered.{ops_here}
 use Rattle.world_handing.specs.Handing.{IsToldTo, question-hands, told-to}
 use Rattle.world_lines.specs.Lines.{Endings, TellsEnd}
-use Rattle.world_outcomes.specs.Outcomes.{IsBehind}
 use Rattle.world_outcomes.specs.Premises.{HearsFitly, IsBefore, IsFit, IsLossFit, IsResetFit, hands}
 use Rattle.world_outcomes.specs.TalkLaws.{refusal-other}
 use Rattle.world_talks.specs.AskLaws.{sent-is-asked}

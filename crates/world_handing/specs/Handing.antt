@@ -7,7 +7,6 @@ use Rattle.base_types.specs.declared.id.AttemptId.{AttemptId}
 use Rattle.base_types.specs.declared.operation.MinorWrite.{MinorWrite}
 use Rattle.base_types.specs.declared.operation.Op.{Op}
 use Rattle.base_types.specs.declared.outcome.Outcome.{Outcome}
-use Rattle.base_types.specs.declared.script.Command.{Command}
 use Rattle.base_types.specs.declared.script.Command.TheVariants as command
 use Rattle.base_types.specs.Placement.{writes_leader}
 use Rattle.base_messages.specs.declared.message.Message.{Message}
@@ -19,11 +18,11 @@ use Rattle.daos_model.specs.Durables.{same_attempt}
 use Rattle.daos_model.specs.EntryLaws.{same_attempt-itself}
 use Rattle.daos_model.specs.Transactions.{attempt_ops, ops_or_none}
 use Rattle.dtx_base.specs.LeaderLaws.{same-is}
-use Rattle.model_laws.specs.Members.{Has, contains-from_has, has-from_contains}
+use Rattle.model_laws.specs.Members.{Has, contains-from_has}
 use Rattle.world_attempts.specs.Asked.{IsCommitNew}
 use Rattle.world_attempts.specs.Attempts.{IsBorn, entry_at, leader_of, writes_of}
 use Rattle.world_attempts.specs.Counting.{has-taken}
-use Rattle.world_attempts.specs.History.{Aborted, History}
+use Rattle.world_attempts.specs.History.{History}
 use Rattle.world_base.specs.declared.client.ClientPlan.{ClientPlan}
 use Rattle.world_base.specs.declared.client.ClientState.{ClientState}
 use Rattle.world_base.specs.declared.client.Present.{Present}
@@ -42,9 +41,9 @@ use Rattle.world_outcomes.specs.Premises.{AsksGoRight, CommitsAreOfClients, Hand
 use Rattle.world_outcomes.specs.TalkLaws.{asks-commit}
 use Rattle.world_talks.specs.AskLaws.{asked-commit, sent-is-asked}
 use Rattle.world_talks.specs.Asked.{ARead, ASnapshot, AnAggregation, Asked, ItsWrites, commit_of}
-use Rattle.world_talks.specs.Conversation.{Answers, request_sent}
+use Rattle.world_talks.specs.Conversation.{Answers}
 use Rattle.world_talks.specs.TalkLaws.{got-is-talk, sent-is-talk, taken-from, talk-none, talk-only}
-use Rattle.world_waits.specs.ClientLaws.{IsAt, present-of, question-about}
+use Rattle.world_waits.specs.ClientLaws.{present-of, question-about}
 use Rattle.world_waits.specs.Passing.{IsOfClient, question-of}
 use Rattle.world_waits.specs.Premises.{RequestsAreOfClients, is_end, is_request}
 use Rattle.world_waits.specs.Waits.{Conversation, IsAnswer, IsAsked, IsHeld, IsLost, IsQuestion, IsReplied, IsReply, IsReplyTo, ItsAsk, ItsRequest, TalksSo, asked_of, held_of}
@@ -202,10 +201,10 @@ commits-of_clients w from l x i is = (from.letters l i).request (as-request l.me
 -- ---- where it goes
 
 -- what a client hands over are the writes of its attempt, and it hands them to their leader
-record IsHandedRight (r : Rules) (x : AttemptId) (q : Post) (ws : List MinorWrite) : Type 0 where
-  to : q.to ≡ target (leader_of r x)
-  writes : ws ≡ writes_of r x
-  some : ws ≢ []
+pub record IsHandedRight (r : Rules) (x : AttemptId) (q : Post) (ws : List MinorWrite) : Type 0 where
+  pub to : q.to ≡ target (leader_of r x)
+  pub writes : ws ≡ writes_of r x
+  pub some : ws ≢ []
 
 module _ (r : Rules) (w : World) (stand : ClientsStand r w) (n : ℕ) (c : ClientState) (here : slice_get w.clients n ≡ Some c) (a : Present) (at : c.present ≡ Some a) where
   abbrev p : ClientPlan
@@ -215,7 +214,7 @@ module _ (r : Rules) (w : World) (stand : ClientsStand r w) (n : ℕ) (c : Clien
   ops-are : (ops : List Op) (turns : List ℕ) (name : Option (List ℕ)) → command_at p c ≡ Some (command.Run ops turns name) → attempt_ops r.script (attempt_id p c a) ≡ ops
   ops-are ops turns name command-is = let s = stand n c here in ops-at r n c a s.0 at s.1 ∙ ap ops_or_none command-is
 
-  commit-goes : (k : Epoch) (q : Post) (f : CommitRequest) → Asked p k c a q → q.message ≡ commit_of f → IsHandedRight r (attempt_id p c a) q f.writes
+  pub commit-goes : (k : Epoch) (q : Post) (f : CommitRequest) → Asked p k c a q → q.message ≡ commit_of f → IsHandedRight r (attempt_id p c a) q f.writes
   commit-goes k q f (ItsWrites ops turns snapshot w2 ws command-is last all says) same =
       let ours : minor_writes 0 (attempt_ops r.script (attempt_id p c a)) ≡ w2 ∷ ws = ap (minor_writes 0) (ops-are ops turns snapshot command-is) ∙ all in
       let both : commit_of f ≡ message.Commit (attempt_id p c a) a.epoch a.first k (w2 ∷ ws) = sym same ∙ ap (λ z. z.message) says in
@@ -226,7 +225,7 @@ module _ (r : Rules) (w : World) (stand : ClientsStand r w) (n : ℕ) (c : Clien
   commit-goes k q f (AnAggregation cont at2 says) same = let bad = sym same ∙ ap (λ z. z.message) says in (let no : ⊥ = cc in absurd no)
 
   -- so who asks after an attempt asks its leader
-  ask-goes : (q : Post) (x : AttemptId) → IsQuestion p c q → q.message ≡ message.Ask x → q.to ≡ target (leader_of r x)
+  pub ask-goes : (q : Post) (x : AttemptId) → IsQuestion p c q → q.message ≡ message.Ask x → q.to ≡ target (leader_of r x)
   ask-goes q x (ItsAsk k s f low sent commit says) same =
       let g = commit-goes k s f (sent-is-asked p k c a s at sent) commit in
       let own : f.attempt ≡ attempt_id p c a = (asked-commit p k c a s f (sent-is-asked p k c a s at sent) commit).attempt in

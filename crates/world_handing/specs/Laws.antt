@@ -10,7 +10,10 @@ use Rattle.world_epochs.specs.Epochs.{ClientsStand, Epochs}
 use Rattle.world_fates.specs.Asked.{AskedRight}
 use Rattle.world_handing.specs.Dates.{SnapshotsAreRead}
 use Rattle.world_handing.specs.Handing.{EpochsOfCommits}
+use Rattle.world_fates.specs.Facts.{Attempts}
+use Rattle.world_handing.specs.Targets.{PlacesAreRight}
 use Rattle.world_lines.specs.Lines.{Endings}
+use Rattle.world_losses.specs.Losses.{AsksItsTargets}
 use Rattle.world_outcomes.specs.Outcomes.{Outcomes}
 use Rattle.world_outcomes.specs.Premises.{AsksGoRight, CommitsAreOfClients, HandsOver, HearsFitly}
 use Rattle.world_waits.specs.Premises.{RequestsAreOfClients}
@@ -40,3 +43,7 @@ EpochsGoWithCommits = (r : Rules) (top : ℕ) (w : World) → Conversation r w �
 abbrev pub ConversationsFit : Type 0
 ConversationsFit =
     (r : Rules) (w : World) (n : ℕ) (c : ClientState) (l : Letter) (rest : List Letter) → Conversation r w → Endings w → slice_get w.clients n ≡ Some c → Takes w.messages l rest → l.to ≡ client n → HearsFitly (client_plan r n) c l.message
+
+-- where the facts of attempts hold besides, and places are right, what is asked about an attempt is asked of one of its targets
+abbrev pub TargetsAreAsked : Type 0
+TargetsAreAsked = (r : Rules) (h : History) (w : World) → Conversation r w → RequestsAreOfClients w → ClientsStand r w → Attempts r h w → PlacesAreRight r w → AsksItsTargets r w

@@ -2,4 +2,5 @@
 pub mod Handing
 pub mod Fitting
 pub mod Dates
+pub mod Targets
 pub mod Laws

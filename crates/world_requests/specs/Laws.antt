@@ -4,7 +4,7 @@ use Rattle.world_attempts.specs.History.{History}
 use Rattle.world_base.specs.declared.target.TargetState.{TargetState}
 use Rattle.world_base.specs.declared.world.World.{World}
 use Rattle.world_base.specs.Events.{Rules}
-use Rattle.world_base.specs.Stops.{Happening, WorldEvent, swept}
+use Rattle.world_base.specs.Stops.{Happening, WorldEvent}
 use Rattle.world_fates.specs.Asked.{AskedRight}
 use Rattle.world_fates.specs.Facts.{Attempts}
 use Rattle.world_requests.specs.Rows.{CommitsFindNoRow, RowsStandOnce}

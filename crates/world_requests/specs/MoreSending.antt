@@ -1,5 +1,5 @@
 -- What a target sends that hears what comes after stops, or what makes snapshots and aggregates, is no client's request.
-use Rattle.std.specs.Prelude.{ℕ, ◌≡◌, ◌⊎◌, ◌++◌, ◌==◌, Bool, true, false, find, if◌then◌else◌, List, [], ◌∷◌, filter, map, Option, Some, None, refl}
+use Rattle.std.specs.Prelude.{ℕ, ◌≡◌, ◌⊎◌, ◌==◌, Bool, true, false, find, if◌then◌else◌, List, [], ◌∷◌, filter, Option, Some, None, refl}
 use Rattle.std.proofs.Common.{sym, ◌∙◌, ap, subst, inl, inr}
 use Rattle.base_types.specs.declared.entry.Entry.{Entry}
 use Rattle.base_types.specs.declared.epoch.Epoch.{Epoch}
@@ -12,13 +12,12 @@ use Rattle.base_types.specs.declared.outcome.Outcome.TheVariants as outcome
 use Rattle.base_messages.specs.declared.actor.ActorId.{ActorId}
 use Rattle.base_messages.specs.declared.message.Message.{Message, more_of-Message}
 use Rattle.base_messages.specs.declared.message.Message.TheVariants as message
-use Rattle.base_messages.specs.declared.message.Post.{Post}
 use Rattle.daos_model.specs.Durables.{same_attempt}
 use Rattle.dtx_base.specs.declared.leading.Undecided.{Undecided}
 use Rattle.dtx_base.specs.Asking.{waits_at}
 use Rattle.dtx_base.specs.Joining as member
-use Rattle.dtx_base.specs.Joining.{all_unresolved_told, is_waiting, unresolved}
-use Rattle.dtx_base.specs.Leading.{LeaderOf, LeaderStep, down_told, ended, entry_led, knowing, mark_reset, prepare_reset, quietly, reset_of, status_asked, to_target, undecided_of, unwaited_at}
+use Rattle.dtx_base.specs.Joining.{is_waiting, unresolved}
+use Rattle.dtx_base.specs.Leading.{LeaderOf, LeaderStep, down_told, entry_led, knowing, mark_reset, prepare_reset, quietly, reset_of, status_asked, to_target, undecided_of, unwaited_at}
 use Rattle.dtx_base.specs.Members.{with_target}
 use Rattle.model_laws.specs.Members.{Has, has-cases, has-from_filter, has-from_map}
 use Rattle.world_base.specs.declared.did.Did.{Did}
@@ -30,14 +29,14 @@ use Rattle.world_base.specs.Changes.{Change, Kept, Steps}
 use Rattle.world_base.specs.PathLaws.{reached-keeps}
 use Rattle.world_base.specs.Turns.{Whole}
 use Rattle.world_base.specs.Commits as commit
-use Rattle.world_base.specs.Further.{CommitDown, HearsFurther, IsSpent, IsUnknown, collection_left, knows_down, reset_by}
+use Rattle.world_base.specs.Further.{CommitDown, HearsFurther, IsSpent, IsUnknown, knows_down, reset_by}
 use Rattle.world_base.specs.Roles.{leader_at, member_at}
 use Rattle.world_base.specs.Snapshots as snap
-use Rattle.world_base.specs.Snapshots.{collected, collection_of, collection_reset, collects_reset, counts_held, freeze_to, held_at, is_collection_of, is_other_collection, others, prune_to, to_actor}
+use Rattle.world_base.specs.Snapshots.{collected, collection_of, collection_reset, counts_held, freeze_to, held_at, is_collection_of, is_other_collection, others, prune_to, to_actor}
 use Rattle.world_base.specs.Statuses.{ask_left, reset_left, status_left, status_refusal}
 use Rattle.world_base.specs.TargetTurns.{commit_request}
 use Rattle.world_waits.specs.CollectionTurns.{CollectLeaves, Collects, IsEnded, aggregate-leaves, snap-leaves}
-use Rattle.world_requests.specs.Sending.{AreOfTarget, FollowsFrom, IsOfTarget, RowsOfClients, ack-follows, as-sent, both-sent, ended-sent, follows-same, follows-so, map-sent, none-sent, one-ended, one-sent, plain-post, rows-mapped, unresolved-sent}
+use Rattle.world_requests.specs.Sending.{AreOfTarget, FollowsFrom, RowsOfClients, ack-follows, as-sent, both-sent, ended-sent, follows-same, follows-so, map-sent, none-sent, one-ended, one-sent, plain-post, rows-mapped, unresolved-sent}
 use Rattle.world_waits.specs.LeaderTurns.{row-found}
 use Rattle.world_waits.specs.Premises.{WaitersAreClients, is_end, is_lost_request, is_request}
 use Rattle.world_waits.specs.StopTurns.{AskIs, Tells, Waits, ask-is, nothing-changes}

@@ -1,5 +1,5 @@
 -- A leader's rows stand in the order of attempts, so none stands twice, over everything that happens.
-use Rattle.std.specs.Prelude.{ℕ, ◌≡◌, ◌⊎◌, ◌&&◌, Bool, true, false, if◌then◌else◌, List, [], ◌∷◌, filter, find, map, slice_get, Option, Some, None, refl}
+use Rattle.std.specs.Prelude.{ℕ, ◌≡◌, ◌⊎◌, ◌&&◌, Bool, true, false, if◌then◌else◌, List, [], ◌∷◌, filter, map, slice_get, Option, Some, None, refl}
 use Rattle.std.proofs.Common.{sym, ◌∙◌, ap, subst, inl, inr}
 use Rattle.std.proofs.Math.ListN.{set}
 use Rattle.std.proofs.lemmas.Bool.{cases_eq}
@@ -26,7 +26,6 @@ use Rattle.dtx_base.specs.Asking.{waits_at}
 use Rattle.dtx_base.specs.Leading.{LeaderOf, LeaderStep, first_leader, is_led, is_open, knowing, new_undecided, reopened_undecided, undecided_attempt, unwaited_at}
 use Rattle.dtx_base.specs.Rows.{is_among, is_other_row, row_key, row_of}
 use Rattle.model_laws.specs.Members.{Has}
-use Rattle.world_attempts.specs.Asked.{IsCommitNew}
 use Rattle.world_attempts.specs.Attempts.{entry_at, entry_in, is_known_at, is_known_in, leader_of, row_at, row_in}
 use Rattle.world_attempts.specs.Counting.{has-taken}
 use Rattle.world_attempts.specs.History.{History}
@@ -44,8 +43,8 @@ use Rattle.world_base.specs.declared.world.World.{World}
 use Rattle.world_base.specs.Acks as ack
 use Rattle.world_base.specs.Changes.{Change, Kept, Steps}
 use Rattle.world_base.specs.Commits as commit
-use Rattle.world_base.specs.Events.{ByClient, ByTarget, RightEvent, Rules, TargetHearsBy, ToClient, ToTarget, kept, target_after, target_plan}
-use Rattle.world_base.specs.Further.{CommitDown, HearsFurther, IsSpent, IsUnknown, collection_left, knows_down, reset_by}
+use Rattle.world_base.specs.Events.{ByClient, ByTarget, RightEvent, Rules, ToClient, ToTarget, kept, target_after, target_plan}
+use Rattle.world_base.specs.Further.{CommitDown, HearsFurther, IsSpent, IsUnknown, knows_down, reset_by}
 use Rattle.world_base.specs.Letters.{target}
 use Rattle.world_base.specs.MemoryLaws.{fetch-leaves, idle-leaves, mark-leaves, marked-leaves, query-leaves, verdict-leaves}
 use Rattle.world_base.specs.PathLaws.{reached-keeps}
@@ -54,10 +53,10 @@ use Rattle.world_base.specs.RightTurns.{HearsRightly}
 use Rattle.world_base.specs.Roles.{is_in_doubt, leader_at}
 use Rattle.world_base.specs.Snapshots as snap
 use Rattle.world_base.specs.Snapshots.{collected, collection_of, collection_reset, counts_held, is_last, to_actor}
-use Rattle.world_base.specs.Statuses.{ask_left, opening_memory, reset_left, status_left, status_refusal}
+use Rattle.world_base.specs.Statuses.{opening_memory, status_refusal}
 use Rattle.world_base.specs.StepLaws.{set-is, set-there}
-use Rattle.world_base.specs.Stops.{Draws, Fails, Further, GivenUp, Happening, HearsMore, IsCut, Opens, Plainly, WorldEvent, opened_at, stopped_at, swept}
-use Rattle.world_base.specs.TargetTurns.{Hearing, commit_request, fetch_request, prepare_request}
+use Rattle.world_base.specs.Stops.{Draws, Fails, Further, GivenUp, Happening, IsCut, Opens, Plainly, WorldEvent, opened_at, stopped_at, swept}
+use Rattle.world_base.specs.TargetTurns.{commit_request, fetch_request, prepare_request}
 use Rattle.world_base.specs.Turns.{Whole}
 use Rattle.world_fates.specs.Asked.{AskedRight}
 use Rattle.world_fates.specs.Facts.{Attempts, RunsAt}
@@ -68,7 +67,7 @@ use Rattle.world_talks.specs.LeaveLaws.{AckIs, CommitLeaves, ack-is, commit-leav
 use Rattle.world_waits.specs.CollectionTurns.{CollectLeaves, Collects, IsEnded, aggregate-leaves, snap-leaves}
 use Rattle.world_waits.specs.Premises.{LeadersKnow}
 use Rattle.world_waits.specs.ResetTurns.{EndsWait, ResetIs, Stays, reset-is}
-use Rattle.world_waits.specs.StopTurns.{AskIs, OpenHasRow, Tells, Waits, ask-is, nothing-changes}
+use Rattle.world_waits.specs.StopTurns.{AskIs, Tells, Waits, ask-is, nothing-changes}
 
 -- ---- the facts
 

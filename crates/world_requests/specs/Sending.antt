@@ -1,5 +1,5 @@
 -- What targets send is no client's request, and what they collect they collect for who asked.
-use Rattle.std.specs.Prelude.{ℕ, ◌≡◌, ◌⊎◌, ◌++◌, ◌==◌, Bool, true, false, not, is_some, if◌then◌else◌, List, [], ◌∷◌, filter, map, Option, Some, None, refl}
+use Rattle.std.specs.Prelude.{ℕ, ◌≡◌, ◌⊎◌, ◌++◌, ◌==◌, Bool, true, false, if◌then◌else◌, List, [], ◌∷◌, filter, map, Option, Some, None, refl}
 use Rattle.std.proofs.Common.{sym, ◌∙◌, ap, subst, inl, inr}
 use Rattle.base_types.specs.declared.entry.Entry.{Entry}
 use Rattle.base_types.specs.declared.entry.Verdict.{Verdict}
@@ -11,7 +11,7 @@ use Rattle.base_types.specs.declared.outcome.FloorWhy.{FloorWhy}
 use Rattle.base_types.specs.declared.outcome.Outcome.{Outcome}
 use Rattle.base_types.specs.declared.outcome.Outcome.TheVariants as outcome
 use Rattle.base_messages.specs.declared.actor.ActorId.{ActorId}
-use Rattle.base_messages.specs.declared.message.Message.{Message, more_of-Message}
+use Rattle.base_messages.specs.declared.message.Message.{Message}
 use Rattle.base_messages.specs.declared.message.Message.TheVariants as message
 use Rattle.base_messages.specs.declared.message.Post.{Post}
 use Rattle.daos_model.specs.BoolLaws.{clash}
@@ -22,7 +22,7 @@ use Rattle.dtx_base.specs.declared.leading.Undecided.{Undecided}
 use Rattle.dtx_base.specs.declared.member.Parked.{Parked}
 use Rattle.dtx_base.specs.Joining as member
 use Rattle.dtx_base.specs.Joining.{all_unresolved_told, inquired, inquiry_for, is_waiting, to_inquire, unresolved, unresolved_told, verdict_heard}
-use Rattle.dtx_base.specs.Leading.{LeaderOf, LeaderStep, abort_to, ack_heard, answer_heard, answer_if_awaited, attempts_of, batched, begun, begun_alone, begun_with_others, commit_mark, counted_at, decided, ended, entry_led, mark_reset, mark_with, marked_heard, marks_for, new_undecided, owed, prepare_reset, prepare_to, quietly, refusal_heard, reset_of, status_asked, to_target, undecided_attempt, undecided_of, with_undecided}
+use Rattle.dtx_base.specs.Leading.{LeaderOf, LeaderStep, abort_to, ack_heard, answer_heard, answer_if_awaited, attempts_of, batched, begun, begun_alone, begun_with_others, commit_mark, counted_at, decided, ended, entry_led, mark_with, marks_for, new_undecided, owed, prepare_to, quietly, to_target, undecided_attempt, undecided_of, with_undecided}
 use Rattle.dtx_base.specs.Leading as leading
 use Rattle.dtx_base.specs.Members.{all_targets, are_all_counted, is_other_member, other_members, with_target}
 use Rattle.dtx_base.specs.Rows.{is_empty, is_other_row, row_key}
@@ -31,7 +31,6 @@ use Rattle.world_base.specs.declared.did.Did.{Did}
 use Rattle.world_base.specs.declared.request.CommitRequest.{CommitRequest}
 use Rattle.world_base.specs.declared.request.FetchRequest.{FetchRequest}
 use Rattle.world_base.specs.declared.request.PrepareRequest.{PrepareRequest}
-use Rattle.world_base.specs.declared.target.Collection.{Collection}
 use Rattle.world_base.specs.declared.target.TargetMemory.{TargetMemory}
 use Rattle.world_base.specs.declared.target.TargetPlan.{TargetPlan}
 use Rattle.world_base.specs.Acks as ack

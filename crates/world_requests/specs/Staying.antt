@@ -1,19 +1,15 @@
 -- Over everything that happens requests come from clients, and who waits is a client.
-use Rattle.std.specs.Prelude.{ℕ, ◌≡◌, ◌⊎◌, ◌++◌, ◌&&◌, ◌==◌, Bool, true, false, not, if◌then◌else◌, List, [], ◌∷◌, filter, map, slice_get, Option, Some, None, refl}
+use Rattle.std.specs.Prelude.{ℕ, ◌≡◌, ◌⊎◌, ◌++◌, ◌&&◌, Bool, true, false, if◌then◌else◌, List, [], ◌∷◌, filter, map, slice_get, Option, Some, None, refl}
 use Rattle.std.proofs.Common.{sym, ◌∙◌, ap, subst, inl, inr}
 use Rattle.std.proofs.Math.ListN.{set}
 use Rattle.std.proofs.lemmas.Bool.{cases_eq}
 use Rattle.base_types.specs.declared.entry.Entry.{Entry}
-use Rattle.base_types.specs.declared.outcome.Outcome.TheVariants as outcome
-use Rattle.base_messages.specs.declared.actor.ActorId.{ActorId}
 use Rattle.base_messages.specs.declared.message.Message.{Message, more_of-Message}
 use Rattle.base_messages.specs.declared.message.Message.TheVariants as message
 use Rattle.base_messages.specs.declared.message.Post.{Post}
-use Rattle.base_messages.specs.declared.message.Reply.{Reply}
 use Rattle.daos_model.specs.BoolLaws.{clash}
 use Rattle.daos_model.specs.Changes.{reopened}
 use Rattle.daos_model.specs.declared.durable.Durable.{Durable}
-use Rattle.dtx_base.specs.declared.leading.Undecided.{Undecided}
 use Rattle.dtx_base.specs.Leading.{first_leader, is_led, is_open, reopened_undecided}
 use Rattle.dtx_base.specs.Members.{other_members}
 use Rattle.model_laws.specs.Members.{Has, has-cases, has-from_filter, has-from_map}
@@ -23,20 +19,19 @@ use Rattle.world_base.specs.declared.client.ClientState.{ClientState}
 use Rattle.world_base.specs.declared.client.Present.{Present}
 use Rattle.world_base.specs.declared.letter.Letter.{Letter}
 use Rattle.world_base.specs.declared.target.Life.TheVariants.{Down}
-use Rattle.world_base.specs.declared.target.TargetMemory.{TargetMemory}
 use Rattle.world_base.specs.declared.target.TargetState.{TargetState}
 use Rattle.world_base.specs.declared.world.World.{World}
-use Rattle.world_base.specs.ClientTurns.{Move, about, answered, attempt_id, goes, heard, heard_at, hears_epochs, is_about, knows, listed, moved, reset_by, rests, waits}
+use Rattle.world_base.specs.ClientTurns.{Move, about, answered, attempt_id, goes, heard, heard_at, hears_epochs, is_about, knows, listed, moved, reset_by, waits}
 use Rattle.world_base.specs.Events.{ByClient, ByTarget, Event, Rules, TargetHearsBy, ToClient, ToTarget, client_plan, kept, target_after, target_plan}
-use Rattle.world_base.specs.Letters.{Takes, asked_after, client, letter_of, letters_of, target}
+use Rattle.world_base.specs.Letters.{asked_after, client, letter_of, letters_of, target}
 use Rattle.world_base.specs.Statuses.{opening_memory, opening_posts, status_to, statuses_for, statuses_of}
 use Rattle.world_base.specs.StepLaws.{by-hearing, by-next, set-is, set-there}
-use Rattle.world_base.specs.Steps.{after_client, after_move, without}
+use Rattle.world_base.specs.Steps.{after_move, without}
 use Rattle.world_base.specs.Stops.{Draws, Fails, Further, GivenUp, Happening, IsCut, Opens, Plainly, WorldEvent, is_not_to, is_not_to_down, is_to, is_to_down, opened_at, reset_letter, resets, stopped_at, swept}
 use Rattle.world_base.specs.TargetTurns.{Hearing}
 use Rattle.world_fates.specs.Asking.{asked-was}
 use Rattle.world_requests.specs.MoreSending.{more-follows}
-use Rattle.world_requests.specs.Sending.{AreOfTarget, FollowsFrom, IsOfTarget, both-sent, hears-follows, idles-follows, map-sent, none-sent, plain-post}
+use Rattle.world_requests.specs.Sending.{AreOfTarget, FollowsFrom, both-sent, hears-follows, idles-follows, map-sent, none-sent, plain-post}
 use Rattle.world_talks.specs.AskLaws.{move-is, waiting-rests}
 use Rattle.world_talks.specs.Asked.{ARead, ASnapshot, AnAggregation, Asked, Asking, IsMove, ItsWrites, Silent, Telling}
 use Rattle.world_talks.specs.HearLaws.{replied-silent}
