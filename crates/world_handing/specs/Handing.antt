@@ -45,7 +45,8 @@ use Rattle.world_talks.specs.Conversation.{Answers}
 use Rattle.world_talks.specs.TalkLaws.{got-is-talk, sent-is-talk, taken-from, talk-none, talk-only}
 use Rattle.world_waits.specs.ClientLaws.{present-of, question-about}
 use Rattle.world_waits.specs.Passing.{IsOfClient, question-of}
-use Rattle.world_waits.specs.Premises.{RequestsAreOfClients, is_end, is_request}
+use Rattle.world_waits.specs.Premises.{RequestsAreOfClients, is_end}
+use Rattle.world_waits.specs.Requests.{is_request, request-tells}
 use Rattle.world_waits.specs.Waits.{Conversation, IsAnswer, IsAsked, IsHeld, IsLost, IsQuestion, IsReplied, IsReply, IsReplyTo, ItsAsk, ItsRequest, TalksSo, asked_of, held_of}
 
 -- ---- what is in flight of a client
@@ -71,10 +72,6 @@ pub record IsToldTo (r : Rules) (w : World) (n : ℕ) (l : Letter) : Type 0 wher
   pub q : Post
   pub question : IsQuestion (client_plan r n) c q
   pub reply : IsReply n q l
-
-request-tells : (m : Message) → is_request m ≡ true → is_tell m ≡ false
-request-tells (message.Tell k) is = let no : ⊥ = cc in absurd no
-request-tells m is = refl
 
 module _ (r : Rules) (w : World) (k : Conversation r w) (from : RequestsAreOfClients w) (l : Letter) (rest : List Letter) (takes : Takes w.messages l rest) where
   among : Has l w.messages

@@ -39,7 +39,8 @@ use Rattle.world_snapshots.specs.Events.{command-is}
 use Rattle.world_talks.specs.AskLaws.{sent-is-asked}
 use Rattle.world_talks.specs.Asked.{ARead, ASnapshot, AnAggregation, Asked, ItsWrites}
 use Rattle.world_waits.specs.ClientLaws.{present-of, question-about}
-use Rattle.world_waits.specs.Premises.{RequestsAreOfClients, is_request}
+use Rattle.world_waits.specs.Premises.{RequestsAreOfClients}
+use Rattle.world_waits.specs.Requests.{is_request}
 use Rattle.world_waits.specs.Waits.{Conversation, IsAsked, IsHeld, IsQuestion, IsReplied, ItsAsk, ItsRequest, TalksSo, asked_of, held_of, is_asked_by}
 
 -- ---- what else holds, of which this makes use

@@ -38,7 +38,8 @@ use Rattle.world_base.specs.TargetTurns.{commit_request}
 use Rattle.world_waits.specs.CollectionTurns.{CollectLeaves, Collects, IsEnded, aggregate-leaves, snap-leaves}
 use Rattle.world_requests.specs.Sending.{AreOfTarget, FollowsFrom, RowsOfClients, ack-follows, as-sent, both-sent, ended-sent, follows-same, follows-so, map-sent, none-sent, one-ended, one-sent, plain-post, rows-mapped, unresolved-sent}
 use Rattle.world_waits.specs.LeaderTurns.{row-found}
-use Rattle.world_waits.specs.Premises.{WaitersAreClients, is_end, is_lost_request, is_request}
+use Rattle.world_waits.specs.Premises.{WaitersAreClients, is_end}
+use Rattle.world_waits.specs.Requests.{is_lost_request, is_request}
 use Rattle.world_waits.specs.StopTurns.{AskIs, Tells, Waits, ask-is, nothing-changes}
 
 -- ---- after stops

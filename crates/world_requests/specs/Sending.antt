@@ -51,7 +51,8 @@ use Rattle.world_talks.specs.Carriers as carrier
 use Rattle.world_talks.specs.LeaveLaws as leave
 use Rattle.world_talks.specs.LeaveLaws.{CommitLeaves, FetchLeaves, HasOwn, IsKept, IsReplied, commit-leaves, fetch-leaves, marked-is, own-goes}
 use Rattle.world_waits.specs.LeaderTurns.{row-found}
-use Rattle.world_waits.specs.Premises.{WaitersAreClients, is_end, is_lost_request, is_request}
+use Rattle.world_waits.specs.Premises.{WaitersAreClients, is_end}
+use Rattle.world_waits.specs.Requests.{is_lost_request, is_request}
 use Rattle.world_waits.specs.RequestTurns.{commit-collects, fetch-collects}
 
 -- ---- requests

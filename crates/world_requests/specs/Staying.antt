@@ -35,7 +35,8 @@ use Rattle.world_requests.specs.Sending.{AreOfTarget, FollowsFrom, both-sent, he
 use Rattle.world_talks.specs.AskLaws.{move-is, waiting-rests}
 use Rattle.world_talks.specs.Asked.{ARead, ASnapshot, AnAggregation, Asked, Asking, IsMove, ItsWrites, Silent, Telling}
 use Rattle.world_talks.specs.HearLaws.{replied-silent}
-use Rattle.world_waits.specs.Premises.{IsSentSo, RequestsAreOfClients, WaitersAreClients, is_end, is_lost_request, is_request}
+use Rattle.world_waits.specs.Premises.{IsSentSo, RequestsAreOfClients, WaitersAreClients, is_end}
+use Rattle.world_waits.specs.Requests.{is_lost_request, is_request}
 
 -- ---- what a client sends
 

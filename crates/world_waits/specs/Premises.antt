@@ -1,7 +1,7 @@
 -- What else holds of the world, of which the fact of conversations makes use. Other crates prove it.
-use Rattle.std.specs.Prelude.{ℕ, ◌≡◌, Bool, true, false, is_some, slice_get, Some}
+use Rattle.std.specs.Prelude.{ℕ, ◌≡◌, Bool, true, false, slice_get, Some}
 use Rattle.base_messages.specs.declared.actor.ActorId.{ActorId}
-use Rattle.base_messages.specs.declared.message.Message.{Message, more_of-Message}
+use Rattle.base_messages.specs.declared.message.Message.{Message}
 use Rattle.base_messages.specs.declared.message.Message.TheVariants as message
 use Rattle.daos_model.specs.Ordered.{is_rising}
 use Rattle.dtx_base.specs.declared.leading.Undecided.{Undecided}
@@ -17,23 +17,10 @@ use Rattle.world_base.specs.declared.world.World.{World}
 use Rattle.world_base.specs.Events.{Rules, target_plan}
 use Rattle.world_base.specs.Letters.{target}
 use Rattle.world_base.specs.RightTurns.{TellsOfOthers}
+use Rattle.world_waits.specs.Requests.{is_lost_request, is_request}
 use Rattle.world_waits.specs.StopTurns.{OpenHasRow}
 
 -- ---- requests
-
--- what a client asks a target
-abbrev pub is_request : Message → Bool
-is_request (message.Fetch x op group ep first tracker r snapshot) = true
-is_request (message.Commit x ep first tracker ws) = true
-is_request (message.Ask x) = true
-is_request (message.Snap x cont name tracker) = true
-is_request (message.Prune x cont tracker e) = is_some tracker
-is_request m = false
-
--- that it got no answer
-abbrev pub is_lost_request : Message → Bool
-is_lost_request (message.Reset' t down place (more_of-Message q rest)) = is_request q
-is_lost_request m = false
 
 -- how an attempt ended
 abbrev pub is_end : Message → Bool
