@@ -1,23 +1,27 @@
 -- What is asked about an attempt is asked of one of its targets.
-use Rattle.std.specs.Prelude.{ℕ, ◌≡◌, ◌≢◌, ◌<◌, ◌&&◌, ◌==◌, not, Bool, true, false, List, [], ◌∷◌, slice_get, Contains, Option, Some, None, refl}
-use Rattle.std.proofs.Common.{sym, ◌∙◌, ap, subst, arith, inl, inr}
+use Rattle.std.specs.Prelude.{ℕ, ◌≡◌, ◌≢◌, ◌<◌, ◌&&◌, ◌==◌, not, Bool, true, false, List, [], ◌∷◌, slice_get, Contains, Option, Some, None, refl, if◌then◌else◌}
+use Rattle.std.specs.List.{range_with_len}
+use Rattle.std.proofs.Common.{zero, suc, sym, ◌∙◌, ap, subst, arith, inl, inr}
 use Rattle.base_types.specs.declared.epoch.Epoch.{Epoch}
 use Rattle.base_types.specs.declared.id.AttemptId.{AttemptId}
+use Rattle.base_types.specs.declared.id.ObjId.{ObjId}
 use Rattle.base_types.specs.declared.operation.MinorWrite.{MinorWrite}
+use Rattle.base_types.specs.declared.operation.Op.{Op}
+use Rattle.base_types.specs.declared.operation.Read.{Read}
 use Rattle.base_types.specs.declared.script.Command.{Command}
 use Rattle.base_types.specs.declared.script.Command.TheVariants as command
-use Rattle.base_types.specs.Operations.{write_path}
-use Rattle.base_types.specs.Placement.{path_leader, path_members, writes_leader, writes_members}
+use Rattle.base_types.specs.Operations.{read_path, write_path}
+use Rattle.base_types.specs.Placement.{groups, path_leader, path_members, writes_leader, writes_members}
 use Rattle.base_messages.specs.declared.message.Message.{Message}
 use Rattle.base_messages.specs.declared.message.Message.TheVariants as message
 use Rattle.base_messages.specs.declared.message.Post.{Post}
-use Rattle.daos_model.specs.Accesses.{attempt_targets, minor_writes, ops_asked, option_targets}
+use Rattle.daos_model.specs.Accesses.{asked_member, asked_of_object, asked_targets, attempt_targets, is_asked, minor_writes, op_path, ops_asked, option_targets}
 use Rattle.daos_model.specs.BoolLaws.{and_left}
 use Rattle.daos_model.specs.Transactions.{attempt_ops, command_of, ops_or_none}
 use Rattle.dtx_base.specs.LeaderLaws.{same-is}
 use Rattle.dtx_base.specs.Members.{all_targets, has_target, is_other_member, other_members}
 use Rattle.model_laws.specs.JoinLaws.{has-range}
-use Rattle.model_laws.specs.Members.{Has, contains-from_has, has-filter, has-from_contains, has-from_filter, has-left, has-right}
+use Rattle.model_laws.specs.Members.{Has, contains-from_has, has-filter, has-from_contains, has-from_filter, has-left, has-right, has-map}
 use Rattle.model_laws.specs.TargetLaws.{same_number}
 use Rattle.world_addresses.specs.TurnAddresses.{bit-of}
 use Rattle.world_attempts.specs.Attempts.{IsOther, first_entry, leader_of, members_of, writes_of}
@@ -28,9 +32,10 @@ use Rattle.world_base.specs.declared.client.ClientState.{ClientState}
 use Rattle.world_base.specs.declared.client.Present.{Present}
 use Rattle.world_base.specs.declared.letter.Letter.{Letter}
 use Rattle.world_base.specs.declared.world.World.{World}
-use Rattle.world_base.specs.ClientTurns.{attempt_id, request_of, waits}
+use Rattle.world_base.specs.ClientTurns.{attempt_id, command_at, group_asked, member_asked, question, request_of, waits}
 use Rattle.world_base.specs.Events.{Rules, client_plan}
 use Rattle.world_base.specs.Letters.{client, letter_of, talk_of, target}
+use Rattle.world_causes.specs.Growth.{question-asks}
 use Rattle.world_epochs.specs.Epochs.{ClientsStand}
 use Rattle.world_fates.specs.Facts.{Attempts, IsAskedSo}
 use Rattle.world_handing.specs.Handing.{commit-goes}
@@ -45,16 +50,35 @@ use Rattle.world_waits.specs.Waits.{Conversation, IsAsked, IsHeld, IsQuestion, I
 
 -- ---- what else holds, of which this makes use
 
--- a read is a Fetch
-abbrev pub is_read : Message → Bool
-is_read (message.Fetch x op group e first tracker rd snapshot) = true
-is_read m = false
+-- a group is one of an object's, which there is, or that of the dkey
+abbrev pub IsGroupWithin : Option ObjId → Option (List ℕ) → ℕ → ℕ → Type 0
+IsGroupWithin None dkey targets g = ⊥
+IsGroupWithin (Some o) None targets g = g < groups o.class targets
+IsGroupWithin (Some o) (Some dkey) targets g = Unit {0}
 
--- There are targets; the leader of a write is one of its members; and what a client asks to read it asks of a target of its attempt.
+-- There are targets; the leader of a write is one of its members; and a client that has something to ask is at one of the groups of its path.
 pub record PlacesAreRight (r : Rules) (w : World) : Type 0 where
   pub some : 0 < r.script.targets
   pub led : (x : AttemptId) (m : MinorWrite) → Contains (minor_writes 0 (attempt_ops r.script x)) m → Contains (path_members (write_path m.write) r.script.targets) (path_leader (write_path m.write) r.script.targets)
-  pub reads : (n : ℕ) (c : ClientState) (a : Present) (k : Epoch) (q : Post) → slice_get w.clients n ≡ Some c → c.present ≡ Some a → Asked (client_plan r n) k c a q → is_read q.message ≡ true → Contains (attempt_targets r.script (attempt_id (client_plan r n) c a)) q.to.number
+  pub within : (n : ℕ) (c : ClientState) (a : Present) (ops : List Op) (turns : List ℕ) (name : Option (List ℕ)) (op : Op) (rd : Read) → slice_get w.clients n ≡ Some c → c.present ≡ Some a → command_at (client_plan r n) c ≡ Some (command.Run ops turns name)
+      → slice_get ops a.op ≡ Some op → question a.stage op ≡ Some rd → IsGroupWithin (read_path rd).obj (read_path rd).dkey r.script.targets a.group
+
+-- ---- reads
+
+-- who is asked about such a group is among those whom a command asks about the path
+asked-among : (o : Option ObjId) (dkey : Option (List ℕ)) (command targets g : ℕ) → IsGroupWithin o dkey targets g → Has (member_asked o command targets (group_asked o dkey targets g)) (asked_of_object o dkey command targets)
+asked-among None dkey command targets g h = absurd h
+asked-among (Some o) None command targets g h = has-map (asked_member o command targets) (range_with_len 0 (groups o.class targets)) g (has-range 0 (groups o.class targets) g (omega arith) (omega (arith, h)))
+asked-among (Some o) (Some dkey) command targets g h = inl refl
+
+ops-ask : (command targets : ℕ) (ops : List Op) (i : ℕ) (op : Op) (t : ℕ) → slice_get ops i ≡ Some op → is_asked op ≡ true → Has t (asked_targets command targets (op_path op)) → Has t (ops_asked command targets ops)
+unfolding ops_asked
+ops-ask command targets [] i op t found asks among = let no : ⊥ = cc in absurd no
+ops-ask command targets (z ∷ ops) zero op t found asks among =
+    let same : op ≡ z = cc in
+    has-left (if is_asked z then asked_targets command targets (op_path z) else []) (ops_asked command targets ops) t
+    (subst (λ (b : Bool). Has t (if b then asked_targets command targets (op_path z) else [])) (sym (ap is_asked (sym same) ∙ asks)) (subst (λ y. Has t (asked_targets command targets (op_path y))) same among))
+ops-ask command targets (z ∷ ops) (suc i) op t found asks among = has-right (if is_asked z then asked_targets command targets (op_path z) else []) (ops_asked command targets ops) t (ops-ask command targets ops i op t found asks among)
 
 -- ---- members
 
@@ -142,7 +166,16 @@ module _ (r : Rules) (w : World) (stand : ClientsStand r w) (places : PlacesAreR
   first-target d is i = contains-from_has (attempt_targets r.script (attempt_id p c a)) 0 (subst (λ o. Has 0 (option_targets c.command r.script.targets o)) (sym is) i)
 
   asked-target : (k : Epoch) (q : Post) → Asked p k c a q → Targets q.to.number
-  asked-target k q (ARead ops turns snapshot op rd command-at found asks says) = places.reads n c a k q here at (ARead ops turns snapshot op rd command-at found asks says) (ap (λ z. is_read z.message) says)
+  asked-target k q (ARead ops turns snapshot op rd command-at found asks says) =
+      let path = read_path rd in
+      let reads = question-asks a.stage op rd asks in
+      let group = asked-among path.obj path.dkey c.command r.script.targets a.group (places.within n c a ops turns snapshot op rd here at command-at found asks) in
+      let asked : Has q.to.number (asked_targets c.command r.script.targets (op_path op)) =
+      subst (λ z. Has q.to.number (asked_targets c.command r.script.targets z)) (sym reads.1) (subst (λ t. Has t (asked_targets c.command r.script.targets path)) (sym (ap (λ z. z.to.number) says)) group) in
+      let s = stand n c here in
+      contains-from_has (attempt_targets r.script (attempt_id p c a)) q.to.number
+      (subst (λ o. Has q.to.number (option_targets c.command r.script.targets o)) (sym (command-is r n c a (command.Run ops turns snapshot) s.0 s.1 command-at refl))
+      (has-left (ops_asked c.command r.script.targets ops) (writes_members (minor_writes 0 ops) r.script.targets) q.to.number (ops-ask c.command r.script.targets ops a.op op q.to.number found reads.0 asked)))
   asked-target k q (ItsWrites ops turns snapshot m ws command-at last all says) =
       let f : CommitRequest = record { attempt = attempt_id p c a; ep = a.epoch; first = a.first; tracker = k; writes = m ∷ ws } in
       let g = commit-goes r w stand n c here a at k q f (ItsWrites ops turns snapshot m ws command-at last all says) (ap (λ z. z.message) says) in

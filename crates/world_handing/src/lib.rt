@@ -11,7 +11,8 @@ ghost use Rattle.world_handing.specs.Laws.{ClientsCommit, CommitsAreRight, Conve
 /// nothing became of what is handed over, Commits are right and new. And a client hears what goes with what
 /// it asked: a read's answer before it hands its attempt over, and that a request was lost for the request
 /// that it made. What is asked about an attempt, and is without an answer, is asked of one of its targets,
-/// where the leader of a write is one of its members and reads are asked of their attempts' targets.
+/// where the leader of a write is one of its members, and a client that has something to ask is at one of
+/// the groups of its path.
 pub fn laws_of_handing()
     ensures over { ConversationsHandOver }
     ensures commits { ClientsCommit }
