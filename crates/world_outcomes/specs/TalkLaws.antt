@@ -36,7 +36,7 @@ use Rattle.world_outcomes.specs.Premises.{CommitsAreOfClients, HandsOver, HearsF
 -- ---- what is handed over
 
 -- what a client asked that hands an attempt over is the Commit of its present attempt, behind its last operation
-asks-commit : (p : ClientPlan) (k : Epoch) (c : ClientState) (a : Present) (q : Post) (x : AttemptId) → Asked p k c a q → hands x q.message ≡ true → (attempt_id p c a ≡ x) × IsBehind (ops_here p c) a
+pub asks-commit : (p : ClientPlan) (k : Epoch) (c : ClientState) (a : Present) (q : Post) (x : AttemptId) → Asked p k c a q → hands x q.message ≡ true → (attempt_id p c a ≡ x) × IsBehind (ops_here p c) a
 asks-commit p k c a q x (ItsWrites ops turns snapshot w ws at last all says) own = (
   same-is (attempt_id p c a) x (subst (λ s. hands x s.message ≡ true) says own),
   record { last = ap (λ o. slice_get (ops_or_none o) a.op) at ∙ last; writes = λ none. let bad : w ∷ ws ≡ [] = sym all ∙ sym (ap (λ o. minor_writes 0 (ops_or_none o)) at) ∙ none in let no : ⊥ = cc in no },
@@ -92,7 +92,7 @@ handed-by_clients r w over l x i is = ap (λ a. a.client) (over.sender l x i (as
 
 -- ---- what a client hears
 
-refusal-other : (b : Reply) → IsRefusalOrNone b → IsReplyFit b
+pub refusal-other : (b : Reply) → IsRefusalOrNone b → IsReplyFit b
 refusal-other (reply.Answer b) k = tt
 refusal-other (reply.Outcome how) k = λ same. let bad : false ≡ true = sym (ap is_refusal same) ∙ k in let no : ⊥ = cc in no
 

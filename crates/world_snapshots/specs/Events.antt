@@ -209,7 +209,7 @@ set-collects r is w ts t z targets new old u s c at i = by (cases_eq u t)
 -- ---- clients
 
 -- the command of an attempt that a client is at
-command-is : (r : Rules) (n : ℕ) (c : ClientState) (a : Present) (d : Command) (attempts : List Attempt) → HasTold (client_plan r n) c attempts → command_at (client_plan r n) c ≡ Some d → is_numbered d ≡ true
+pub command-is : (r : Rules) (n : ℕ) (c : ClientState) (a : Present) (d : Command) (attempts : List Attempt) → HasTold (client_plan r n) c attempts → command_at (client_plan r n) c ≡ Some d → is_numbered d ≡ true
     → command_of r.script (attempt_id (client_plan r n) c a) ≡ Some d
 unfolding command_of
 command-is r n c a d attempts told at number = at-option (slice_get r.script.clients n) c.command ∙ ap (slice_get (numbered (client_plan r n).commands)) told.numbers ∙ numbered-here (client_plan r n) c.place d at number

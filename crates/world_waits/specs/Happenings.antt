@@ -39,11 +39,12 @@ use Rattle.model_laws.specs.Members.{has-from_contains}
 use Rattle.world_waits.specs.ClientLaws.{goes-keeps, hears-keeps}
 use Rattle.world_waits.specs.CollectionTurns.{CollectLeaves, aggregate-leaves, collect-off, collect-on, freeze-leaves, freeze-reset, held-turns, prune-leaves, prune-reset, snap-leaves}
 use Rattle.world_waits.specs.Events.{cut-keeps, drawing-keeps, failing-keeps, given_up-keeps, opening-keeps, sweep-keeps}
-use Rattle.world_waits.specs.Heard.{IsWhatIsAsked, collects-own, from-target, of-none, request-is}
+use Rattle.world_waits.specs.Heard.{collects-own, request-is}
+use Rattle.world_waits.specs.Requests.{IsWhatIsAsked, from-target, is_request, of-none}
 use Rattle.world_waits.specs.LeaderTurns.{ack-turns}
 use Rattle.world_waits.specs.Parts.{Holding, Leaves, LeavesOut, Passes, its-own, leaves-one, passes-one, told-one_off, turns-asked}
 use Rattle.world_waits.specs.Passing.{Goes, TurnsFor, question-of, told_to, turning-keeps}
-use Rattle.world_waits.specs.Premises.{LeadersKnow, RequestsAreOfClients, is_request}
+use Rattle.world_waits.specs.Premises.{LeadersKnow, RequestsAreOfClients}
 use Rattle.world_waits.specs.RequestTurns.{commit-collects, commit-off, commit-on, down-leaves, fetch-collects, fetch-off, fetch-on, stands-itself}
 use Rattle.world_waits.specs.ResetTurns.{reset-passes}
 use Rattle.world_waits.specs.StopTurns.{ask-off, ask-on, nothing-changes}

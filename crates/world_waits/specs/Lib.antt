@@ -4,6 +4,7 @@ pub mod Lists
 pub mod Losing
 pub mod Events
 pub mod ClientLaws
+pub mod Requests
 pub mod TargetLaws
 pub mod Passing
 pub mod Parts

@@ -1,47 +1,48 @@
 -- What else holds of the world, of which the fact of conversations makes use. Other crates prove it.
-use Rattle.std.specs.Prelude.{ℕ, ◌≡◌, Bool, true, false, is_some, slice_get, Some}
-use Rattle.base_messages.specs.declared.message.Message.{Message, more_of-Message}
+use Rattle.std.specs.Prelude.{ℕ, ◌≡◌, Bool, true, false, slice_get, Some}
+use Rattle.base_messages.specs.declared.actor.ActorId.{ActorId}
+use Rattle.base_messages.specs.declared.message.Message.{Message}
 use Rattle.base_messages.specs.declared.message.Message.TheVariants as message
 use Rattle.daos_model.specs.Ordered.{is_rising}
+use Rattle.dtx_base.specs.declared.leading.Undecided.{Undecided}
 use Rattle.dtx_base.specs.Leading.{undecided_attempt}
 use Rattle.dtx_base.specs.Rows.{row_key}
 use Rattle.model_laws.specs.Members.{Has}
 use Rattle.world_base.specs.declared.letter.Letter.{Letter}
 use Rattle.world_base.specs.declared.target.Collection.{Collection}
 use Rattle.world_base.specs.declared.target.Life.TheVariants.{Running}
+use Rattle.world_base.specs.declared.target.TargetMemory.{TargetMemory}
 use Rattle.world_base.specs.declared.target.TargetState.{TargetState}
 use Rattle.world_base.specs.declared.world.World.{World}
 use Rattle.world_base.specs.Events.{Rules, target_plan}
 use Rattle.world_base.specs.Letters.{target}
 use Rattle.world_base.specs.RightTurns.{TellsOfOthers}
+use Rattle.world_waits.specs.Requests.{is_lost_request, is_request}
 use Rattle.world_waits.specs.StopTurns.{OpenHasRow}
 
 -- ---- requests
 
--- what a client asks a target
-abbrev pub is_request : Message → Bool
-is_request (message.Fetch x op group ep first tracker r snapshot) = true
-is_request (message.Commit x ep first tracker ws) = true
-is_request (message.Ask x) = true
-is_request (message.Snap x cont name tracker) = true
-is_request (message.Prune x cont tracker e) = is_some tracker
-is_request m = false
+-- how an attempt ended
+abbrev pub is_end : Message → Bool
+is_end (message.Ended x own how) = true
+is_end m = false
 
--- that it got no answer
-abbrev pub is_lost_request : Message → Bool
-is_lost_request (message.Reset' t down place (more_of-Message q rest)) = is_request q
-is_lost_request m = false
-
--- a request comes from a client, and the news that it got no answer goes to one
+-- a request comes from a client; the news that it got no answer, and how an attempt ended, go to one
 pub record IsSentSo (l : Letter) : Type 0 where
   pub request : is_request l.message ≡ true → l.from.client ≡ true
   pub lost : is_lost_request l.message ≡ true → l.to.client ≡ true
+  pub end : is_end l.message ≡ true → l.to.client ≡ true
 
--- so it is of all letters; and what is collected is collected for clients
+-- who is to be told is a client
+pub record WaitersAreClients (m : TargetMemory) : Type 0 where
+  pub rows : (u : Undecided) (c : ActorId) → Has u m.leader.undecided → u.client ≡ Some c → c.client ≡ true
+  pub collecting : (c : Collection) → Has c m.collecting → c.client.client ≡ true
+
+-- so it is of all letters, and of what all targets hold
 pub record RequestsAreOfClients (w : World) : Type 0 where
   pub letters : (l : Letter) → Has l w.messages → IsSentSo l
   pub asked : (l : Letter) → Has l w.asked → IsSentSo l
-  pub collecting : (t : ℕ) (s : TargetState) (c : Collection) → slice_get w.targets t ≡ Some s → Has c s.memory.collecting → c.client.client ≡ true
+  pub waiters : (t : ℕ) (s : TargetState) → slice_get w.targets t ≡ Some s → WaitersAreClients s.memory
 
 -- ---- leaders
 

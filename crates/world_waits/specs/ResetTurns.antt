@@ -27,7 +27,7 @@ use Rattle.world_waits.specs.VerdictTurns.{tells-unresolved}
 -- ---- a leader
 
 -- nothing is told, or who waits for an attempt is told that a member is down
-data ResetIs (l : LeaderOf) (s : LeaderStep) : Type 0 where
+pub data ResetIs (l : LeaderOf) (s : LeaderStep) : Type 0 where
   Stays : AreBetween s.posts → s.leader.memory.undecided ≡ l.memory.undecided → ResetIs l s
   EndsWait : (a : AttemptId) (u : Undecided) (e : Epoch) (how : Outcome) → undecided_of a l ≡ Some u → s.posts ≡ ended u.client a e how → s.leader.memory.undecided ≡ map (unwaited_at a) l.memory.undecided → ResetIs l s
 
@@ -60,7 +60,7 @@ unfolding mark_reset
 mark-is t true inc marks l = Stays (λ q i. absurd i) refl
 mark-is t false inc marks l = Stays (one-to_target t (message.Mark inc marks)) refl
 
-reset-is : (t : ℕ) (down : Bool) (asked : Message) (l : LeaderOf) → ResetIs l (reset_of t down asked l)
+pub reset-is : (t : ℕ) (down : Bool) (asked : Message) (l : LeaderOf) → ResetIs l (reset_of t down asked l)
 reset-is t down (message.Prepare e first ws inc) l = prepare-is t down e.attempt inc l
 reset-is t down (message.Status a inc) l = prepare-is t down a inc l
 reset-is t down (message.Mark inc marks) l = mark-is t down inc marks l

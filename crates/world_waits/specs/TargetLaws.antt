@@ -1,5 +1,5 @@
 -- A target's turn that has to do with no client keeps the conversations.
-use Rattle.std.specs.Prelude.{ℕ, ◌≡◌, ◌+◌, ◌++◌, ◌==◌, ◌&&◌, ◌||◌, Bool, true, false, not, if◌then◌else◌, List, [], ◌∷◌, filter, map, slice_get, Option, Some, None, refl}
+use Rattle.std.specs.Prelude.{ℕ, ◌≡◌, ◌+◌, ◌++◌, ◌==◌, ◌&&◌, Bool, true, false, if◌then◌else◌, List, [], ◌∷◌, filter, map, slice_get, Option, Some, refl}
 use Rattle.std.proofs.Common.{append-nil, sym, ◌∙◌, ap, subst, inl, inr}
 use Rattle.std.proofs.Math.ListN.{set}
 use Rattle.std.proofs.lemmas.List.Elements.{filter-append}
@@ -18,10 +18,6 @@ use Rattle.dtx_base.specs.Leading.{batched, commit_mark, mark_with, marks_for, m
 use Rattle.dtx_base.specs.Members.{all_targets}
 use Rattle.dtx_base.specs.Rows.{is_empty}
 use Rattle.base_types.specs.declared.outcome.FloorWhy.{FloorWhy}
-use Rattle.model_laws.specs.TargetLaws.{same_number}
-use Rattle.world_base.specs.declared.client.ClientPlan.{ClientPlan}
-use Rattle.world_base.specs.declared.client.ClientState.{ClientState}
-use Rattle.world_base.specs.declared.client.Present.{Present}
 use Rattle.world_base.specs.declared.did.Did.{Did}
 use Rattle.world_base.specs.declared.letter.Letter.{Letter}
 use Rattle.world_base.specs.declared.request.PrepareRequest.{PrepareRequest}
@@ -31,23 +27,21 @@ use Rattle.world_base.specs.declared.target.TargetState.{TargetState}
 use Rattle.world_base.specs.declared.world.World.{World}
 use Rattle.world_base.specs.Changes.{Kept}
 use Rattle.world_base.specs.Acks as ack
-use Rattle.world_base.specs.ClientTurns.{waits}
-use Rattle.world_base.specs.Events.{Rules, TargetHearsRightly, TargetIdles, client_plan, kept, target_after, target_plan}
+use Rattle.world_base.specs.Events.{Rules, TargetHearsRightly, TargetIdles, kept, target_after, target_plan}
 use Rattle.world_base.specs.Marks.{AllMarked, MarkEnds}
 use Rattle.world_base.specs.Prepares as prepare
 use Rattle.world_base.specs.RightTurns.{HearsRightly}
 use Rattle.world_base.specs.TargetTurns.{prepare_request}
 use Rattle.world_base.specs.Verdicts as verdict
 use Rattle.world_base.specs.Idle.{AllSettled, IdleEnds, batch_of, idle_memory, idle_told, inquiry_of}
-use Rattle.world_base.specs.Letters.{Takes, asked_after, asked_with, client, is_answer_to, is_answerable, is_client, is_reply, is_talk_of, is_tell, letter_of, letters_of, same_actor, same_truth, talk_of, target, without_first}
+use Rattle.world_base.specs.Letters.{asked_after, asked_with, client, is_answer_to, is_answerable, is_reply, is_talk_of, is_tell, letter_of, letters_of, same_actor, same_truth, talk_of, target, without_first}
 use Rattle.world_base.specs.Roles.{leader_at, member_at, with_unsettled}
-use Rattle.world_talks.specs.AskLaws.{sent-is-asked}
-use Rattle.world_talks.specs.Asked.{ARead, ASnapshot, AnAggregation, Asked, ItsWrites}
-use Rattle.world_talks.specs.TalkLaws.{talk-none, talk-only, talk-taken}
-use Rattle.world_waits.specs.ClientLaws.{no-more, present-of, without-no, without-yes}
+use Rattle.world_talks.specs.TalkLaws.{talk-taken}
+use Rattle.world_waits.specs.ClientLaws.{no-more, without-no, without-yes}
 use Rattle.world_waits.specs.Events.{off-talk, quiet-set, same-on}
 use Rattle.world_waits.specs.Lists.{filter-no, filter-none, filter-yes, held-same}
-use Rattle.world_waits.specs.Waits.{Conversation, IsAsked, IsHeld, IsQuestion, IsReplied, ItsAsk, ItsRequest, TalksSo, asked_of, collected_at, held_of, held_by, held_from, is_asked_by, is_collected_of, is_open_of, is_parked_of, open_at, parked_at}
+use Rattle.world_waits.specs.Requests.{from-target, is_request, of-none}
+use Rattle.world_waits.specs.Waits.{Conversation, collected_at, held_by, held_from, is_asked_by, is_collected_of, is_open_of, is_parked_of, open_at, parked_at}
 
 -- all of these posts go to targets
 abbrev pub AreBetween : List Post → Type 0
@@ -170,63 +164,16 @@ is_between (message.Marked inc ids) = true
 is_between (message.Query x ask) = true
 is_between m = false
 
-question-kind : (p : ClientPlan) (c : ClientState) (a : Present) (q : Post) → c.present ≡ Some a → IsQuestion p c q → is_between q.message ≡ false
-question-kind p c a q at (ItsRequest k low sent) = by (sent-is-asked p k c a q at sent)
-  where
-    by : Asked p k c a q → is_between q.message ≡ false
-    by (ARead ops turns snapshot op rd at' is asked says) = ap (λ x. is_between x.message) says
-    by (ItsWrites ops turns snapshot w ws at' last all says) = ap (λ x. is_between x.message) says
-    by (ASnapshot name cont at' says) = ap (λ x. is_between x.message) says
-    by (AnAggregation cont at' says) = ap (λ x. is_between x.message) says
-question-kind p c a q at (ItsAsk k s f low sent commit says) = ap (λ x. is_between x.message) says
+between-asks_not : (m : Message) → is_between m ≡ true → is_request m ≡ false
+between-asks_not (message.Prepare e first ws inc) h = refl
+between-asks_not (message.Mark inc marks) h = refl
+between-asks_not (message.Marked inc ids) h = refl
+between-asks_not (message.Query x ask) h = refl
+between-asks_not m h = let no : ⊥ = cc in absurd no
 
-kind-tells : (m : Message) → is_between m ≡ true → is_tell m ≡ false
-kind-tells (message.Prepare e first ws inc) h = refl
-kind-tells (message.Mark inc marks) h = refl
-kind-tells (message.Marked inc ids) h = refl
-kind-tells (message.Query x ask) h = refl
-kind-tells m h = let no : ⊥ = cc in absurd no
-
-module _ (r : Rules) (w : World) (k : Conversation r w) (l : Letter) (rest : List Letter) (takes : Takes w.messages l rest) (t : ℕ) (to : l.to ≡ target t) (kind : is_between l.message ≡ true) where
-  -- it is of no client's conversation
-  not-talk : (n : ℕ) → is_talk_of n l ≡ true → ⊥
-  not-talk n its = by (slice_get w.clients n) refl
-    where
-      waiting : (c : ClientState) → (b : Bool) → waits c ≡ b → TalksSo (client_plan r n) n c (talk_of n w.messages) (held_of n w) (asked_of n w) b → ⊥
-      waiting c false now q = talk-none n w.messages l rest takes its q.no_letters
-      waiting c true now (IsAsked q is one none done) =
-          let i = present-of c now in
-          let only = talk-only n w.messages l (letter_of (client n) q) rest takes its one in
-          let off : is_between l.message ≡ false = ap (λ x. is_between x.message) only.0 ∙ question-kind (client_plan r n) c i.a q i.at is in
-          let no : ⊥ = cc (kind, off) in no
-      waiting c true now (IsHeld q x is holds none one done) = talk-none n w.messages l rest takes its none
-      waiting c true now (IsReplied q m is got one none done) =
-          let only = talk-only n w.messages l m rest takes its one in
-          let there : true ≡ false = sym (ap (λ x. x.client) got.to) ∙ sym (ap (λ x. x.to.client) only.0) ∙ ap (λ x. x.client) to in
-          let no : ⊥ = cc in no
-
-      by : (o : Option ClientState) → slice_get w.clients n ≡ o → ⊥
-      by None e = talk-none n w.messages l rest takes its (k.nobody n e).no_letters
-      by (Some c) e = waiting c (waits c) refl (k.talks n c e)
-
-  off-all : (n : ℕ) → is_talk_of n l ≡ false
-  off-all n = by (is_talk_of n l) refl
-    where
-      by : (b : Bool) → is_talk_of n l ≡ b → is_talk_of n l ≡ false
-      by true e = absurd (not-talk n e)
-      by false e = e
-
-  stays-all : (n : ℕ) → talk_of n rest ≡ talk_of n w.messages
-  stays-all n = talk-taken n w.messages l rest takes (off-all n)
-
-  -- and it comes from a target
-  from-target : l.from.client ≡ false
-  unfolding is_talk_of
-  from-target = by l.from.client refl
-    where
-      by : (b : Bool) → l.from.client ≡ b → l.from.client ≡ false
-      by true e = absurd (not-talk l.from.number (ap (λ b. not b && (is_client l.from.number l.from || is_client l.from.number l.to)) (kind-tells l.message kind) ∙ ap (λ b. b || is_client l.from.number l.to) (ap (λ b. b && (l.from.number == l.from.number)) e ∙ same_number l.from.number)))
-      by false e = e
+between-tells : (m : Message) → is_between m ≡ true → is_tell m ≡ false
+between-tells (message.Tell k) h = let no : ⊥ = cc in absurd no
+between-tells m h = refl
 
 -- what follows from such a message
 record StaysBetween (m : TargetMemory) (left : TargetMemory × Did) : Type 0 where
@@ -266,6 +213,9 @@ hears-between t opening m reading from q old new left kind off h = let no : ⊥ 
 
 pub between-hears : (r : Rules) (w v : World) → (g : TargetHearsRightly r w v) → is_between g.l.message ≡ true → Conversation r w → Conversation r v
 between-hears r w v g kind k =
-    let s = hears-between (target_plan r g.t) g.s.opening g.s.memory g.reading g.l.from g.l.message (kept g.s) g.new (g.memory, g.did) kind (from-target r w k g.l g.rest g.takes g.t g.to_it kind) g.turn in
-    between-keeps r w v g.t g.s (target_after g.s g.new g.memory) g.rest g.did.posts g.here refl (ap (λ x. x.clients) g.after) (ap (λ x. x.targets) g.after) (ap (λ x. x.messages) g.after) (ap (λ x. x.asked) g.after) (stays-all r w k g.l g.rest g.takes g.t g.to_it kind)
-    s.posts s.parked s.undecided s.collecting k
+    let asks_not = between-asks_not g.l.message kind in
+    let no_tell = between-tells g.l.message kind in
+    let from = from-target r w k g.l g.rest g.takes g.t g.to_it asks_not no_tell in
+    let s = hears-between (target_plan r g.t) g.s.opening g.s.memory g.reading g.l.from g.l.message (kept g.s) g.new (g.memory, g.did) kind from g.turn in
+    between-keeps r w v g.t g.s (target_after g.s g.new g.memory) g.rest g.did.posts g.here refl (ap (λ x. x.clients) g.after) (ap (λ x. x.targets) g.after) (ap (λ x. x.messages) g.after) (ap (λ x. x.asked) g.after)
+    (λ n. talk-taken n w.messages g.l g.rest g.takes (of-none r w k g.l g.rest g.takes g.t g.to_it asks_not no_tell n)) s.posts s.parked s.undecided s.collecting k

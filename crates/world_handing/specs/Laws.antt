@@ -1,0 +1,49 @@
+-- The laws of what follows from conversations, as statements.
+use Rattle.std.specs.Prelude.{ℕ, ◌≡◌, List, slice_get, Some}
+use Rattle.world_attempts.specs.History.{History}
+use Rattle.world_base.specs.declared.client.ClientState.{ClientState}
+use Rattle.world_base.specs.declared.letter.Letter.{Letter}
+use Rattle.world_base.specs.declared.world.World.{World}
+use Rattle.world_base.specs.Events.{Rules, client_plan}
+use Rattle.world_base.specs.Letters.{Takes, client}
+use Rattle.world_epochs.specs.Epochs.{ClientsStand, Epochs}
+use Rattle.world_fates.specs.Asked.{AskedRight}
+use Rattle.world_handing.specs.Dates.{SnapshotsAreRead}
+use Rattle.world_handing.specs.Handing.{EpochsOfCommits}
+use Rattle.world_fates.specs.Facts.{Attempts}
+use Rattle.world_handing.specs.Targets.{PlacesAreRight}
+use Rattle.world_lines.specs.Lines.{Endings}
+use Rattle.world_losses.specs.Losses.{AsksItsTargets}
+use Rattle.world_outcomes.specs.Outcomes.{Outcomes}
+use Rattle.world_outcomes.specs.Premises.{AsksGoRight, CommitsAreOfClients, HandsOver, HearsFitly}
+use Rattle.world_waits.specs.Premises.{RequestsAreOfClients}
+use Rattle.world_waits.specs.Waits.{Conversation}
+
+-- where conversations are in order and requests come from clients, clients hand attempts over one at a time
+abbrev pub ConversationsHandOver : Type 0
+ConversationsHandOver = (r : Rules) (w : World) → Conversation r w → RequestsAreOfClients w → HandsOver r w
+
+-- what hands an attempt over comes of a client
+abbrev pub ClientsCommit : Type 0
+ClientsCommit = (w : World) → RequestsAreOfClients w → CommitsAreOfClients w
+
+-- where clients stand where their scripts say, who asks after an attempt asks its leader
+abbrev pub LeadersAreAsked : Type 0
+LeadersAreAsked = (r : Rules) (w : World) → Conversation r w → RequestsAreOfClients w → ClientsStand r w → AsksGoRight r w
+
+-- and Commits are right and new, where nothing became of what is handed over, and epochs go with their attempts
+abbrev pub CommitsAreRight : Type 0
+CommitsAreRight = (r : Rules) (h : History) (w : World) → Conversation r w → RequestsAreOfClients w → ClientsStand r w → Outcomes r h w → EpochsOfCommits w → AskedRight r h w
+
+-- as they do where what reads at a snapshot writes nothing
+abbrev pub EpochsGoWithCommits : Type 0
+EpochsGoWithCommits = (r : Rules) (top : ℕ) (w : World) → Conversation r w → RequestsAreOfClients w → ClientsStand r w → SnapshotsAreRead r → Epochs r top w → EpochsOfCommits w
+
+-- a client hears what goes with what it asked
+abbrev pub ConversationsFit : Type 0
+ConversationsFit =
+    (r : Rules) (w : World) (n : ℕ) (c : ClientState) (l : Letter) (rest : List Letter) → Conversation r w → Endings w → slice_get w.clients n ≡ Some c → Takes w.messages l rest → l.to ≡ client n → HearsFitly (client_plan r n) c l.message
+
+-- where the facts of attempts hold besides, and places are right, what is asked about an attempt is asked of one of its targets
+abbrev pub TargetsAreAsked : Type 0
+TargetsAreAsked = (r : Rules) (h : History) (w : World) → Conversation r w → RequestsAreOfClients w → ClientsStand r w → Attempts r h w → PlacesAreRight r w → AsksItsTargets r w

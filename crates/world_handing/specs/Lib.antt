@@ -1,0 +1,6 @@
+-- What follows from the conversations of clients for what other facts make use of.
+pub mod Handing
+pub mod Fitting
+pub mod Dates
+pub mod Targets
+pub mod Laws

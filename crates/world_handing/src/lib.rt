@@ -1,0 +1,24 @@
+// What follows from the conversations of clients for other facts.
+#![tactic(auto)]
+
+ghost use Rattle.world_handing.specs.Laws.{ClientsCommit, CommitsAreRight, ConversationsFit, ConversationsHandOver, EpochsGoWithCommits, LeadersAreAsked, TargetsAreAsked};
+
+/// Says what follows for other facts where each client that waits has one carrier of what it waits for,
+/// targets may stop, and requests come from clients. An attempt is handed over, and asked after, by its
+/// client alone, which waits for its end; nothing else of that client is in flight then; and an end is told
+/// to the client of its attempt. Where clients stand where their scripts say, a Commit brings an attempt's
+/// writes to its leader, and who asks after one asks its leader; with the epochs that were issued, and where
+/// nothing became of what is handed over, Commits are right and new. And a client hears what goes with what
+/// it asked: a read's answer before it hands its attempt over, and that a request was lost for the request
+/// that it made. What is asked about an attempt, and is without an answer, is asked of one of its targets,
+/// where the leader of a write is one of its members, and a client that has something to ask is at one of
+/// the groups of its path.
+pub fn laws_of_handing()
+    ensures over { ConversationsHandOver }
+    ensures commits { ClientsCommit }
+    ensures asks { LeadersAreAsked }
+    ensures right { CommitsAreRight }
+    ensures epochs { EpochsGoWithCommits }
+    ensures fits { ConversationsFit }
+    ensures targets { TargetsAreAsked }
+{}
