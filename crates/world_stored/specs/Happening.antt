@@ -1,5 +1,9 @@
 -- Whatever happens keeps what is stored once, but for what is heard of snapshots and aggregation.
-use Rattle.std.specs.Prelude.{◌++◌}
+use Rattle.std.specs.Prelude.{ℕ, ◌≡◌, ◌++◌, [], Contains}
+use Rattle.std.proofs.Common.{subst}
+use Rattle.base_types.specs.declared.id.AttemptId.{AttemptId}
+use Rattle.model_laws.specs.Members.{has-from_contains}
+use Rattle.daos_model.specs.Attempts.{tries}
 use Rattle.world_attempts.specs.Counting.{has-taken}
 use Rattle.world_attempts.specs.History.{History}
 use Rattle.world_base.specs.declared.world.World.{World}
@@ -11,6 +15,7 @@ use Rattle.world_statuses.specs.Events.{HappensWithoutSnapshots}
 use Rattle.world_stops.specs.Happenings.{rightly}
 use Rattle.world_causes.specs.Causes.{Stored}
 use Rattle.world_causes.specs.Premises.{IsPlain}
+use Rattle.world_causes.specs.Storing.{HasItsLine, IsRefusedAt, IsTold}
 use Rattle.world_showing.specs.Happening.{stored_in}
 use Rattle.world_stored.specs.Clients.{going-over, hears-over}
 use Rattle.world_stored.specs.Cutting.{cut-over}
@@ -36,3 +41,20 @@ module _ (r : Rules) (h later : History) (stored : Stored) (w v : World) (plain 
   happening-over (Fails g) ours fit = failure-keeps r stored w v g S
   happening-over (GivenUp g) ours fit = giving-up_keeps r stored w v g S
   happening-over (Draws g) ours fit = numbers-keep r stored w v g S
+
+-- at the beginning nothing is stored
+pub storing-begins : (r : Rules) (w : World) → w.messages ≡ [] → tries w.lines ≡ [] → StoringOver r [] w
+storing-begins r w quiet none = record {
+  so = record {
+    once = tt;
+    issued = λ t x i. absurd (has-from_contains [] (t, x) i);
+    asked = λ t x a i. has-from_contains [] (t, x) i;
+    refused = λ t x f. absurd (nowhere t x f);
+  };
+  handed = λ t x i. absurd (has-from_contains [] (t, x) i);
+  uncommitted = λ t x l i j k. has-from_contains [] (t, x) i;
+}
+  where
+    nowhere : (t : ℕ) (x : AttemptId) → IsRefusedAt w t x → ⊥
+    nowhere t x (HasItsLine a need free i same is) = has-from_contains [] a (subst (λ as'. Contains as' a) none i)
+    nowhere t x (IsTold l i tells) = has-from_contains [] l (subst (λ ls. Contains ls l) quiet i)

@@ -1,5 +1,6 @@
 -- The laws of what is stored once, as statements.
-use Rattle.std.specs.Prelude.{◌≡◌, ◌++◌, true}
+use Rattle.std.specs.Prelude.{◌≡◌, ◌++◌, true, []}
+use Rattle.daos_model.specs.Attempts.{tries}
 use Rattle.world_attempts.specs.History.{History}
 use Rattle.world_base.specs.declared.world.World.{World}
 use Rattle.world_base.specs.Events.{ClientGoes, ClientHears, Rules, TargetHearsRightly, TargetIdles, client_plan, target_plan}
@@ -13,6 +14,10 @@ use Rattle.world_showing.specs.Cutting.{work_stored}
 use Rattle.world_showing.specs.Happening.{stored_in}
 use Rattle.world_stored.specs.Happening.{IsHeardFitly}
 use Rattle.world_stored.specs.Over.{IsStoringKnown, StoringOver}
+
+-- at the beginning nothing is stored
+abbrev pub StoringBegins : Type 0
+StoringBegins = (r : Rules) (w : World) → w.messages ≡ [] → tries w.lines ≡ [] → StoringOver r [] w
 
 -- a target hears what runs without stops have, or does its idle work
 abbrev pub HearingKeepsStored : Type 0

@@ -1,7 +1,7 @@
 // What is stored once, where targets stop and open again.
 #![tactic(auto)]
 
-ghost use Rattle.world_stored.specs.Laws.{ClientsKeepStored, CutsKeepStored, FailuresKeepStored, FurtherHearingKeepsStored, GivingUpKeepsStored, HappeningsKeepStored, HearingClientsKeepStored, HearingKeepsStored, IdlingKeepsStored, NumbersKeepStored, OpeningsKeepStored, SweepsKeepStored};
+ghost use Rattle.world_stored.specs.Laws.{ClientsKeepStored, CutsKeepStored, FailuresKeepStored, FurtherHearingKeepsStored, GivingUpKeepsStored, HappeningsKeepStored, HearingClientsKeepStored, HearingKeepsStored, IdlingKeepsStored, NumbersKeepStored, OpeningsKeepStored, StoringBegins, SweepsKeepStored};
 
 /// Says that each attempt is stored at most once at each target, not where it was refused for want of space,
 /// nor where it is asked for still, and that its client handed it over and doesn't so again. What clients do,
@@ -10,6 +10,7 @@ ghost use Rattle.world_stored.specs.Laws.{ClientsKeepStored, CutsKeepStored, Fai
 /// and numbers that are drawn. So whatever happens keeps it, but for what is heard of snapshots and
 /// aggregation.
 pub fn laws_of_stored()
+    ensures begin { StoringBegins }
     ensures clients { ClientsKeepStored }
     ensures told { HearingClientsKeepStored }
     ensures hear { HearingKeepsStored }
