@@ -1,0 +1,11 @@
+mod Lists
+mod Putting
+mod Noting
+mod Written
+mod Forming
+mod Naming
+mod Finding
+mod AkeyWrites
+mod BranchWrites
+mod DkeyWrites
+mod NewVersions
