@@ -1,2 +1,2 @@
-mod Greatest
-mod Speaking
+pub mod Greatest
+pub mod Speaking

@@ -1,11 +1,11 @@
-mod Lists
-mod Putting
-mod Noting
-mod Written
-mod Forming
-mod Naming
-mod Finding
-mod AkeyWrites
-mod BranchWrites
-mod DkeyWrites
-mod NewVersions
+pub mod Lists
+pub mod Putting
+pub mod Noting
+pub mod Written
+pub mod Forming
+pub mod Naming
+pub mod Finding
+pub mod AkeyWrites
+pub mod BranchWrites
+pub mod DkeyWrites
+pub mod NewVersions

@@ -28,11 +28,11 @@ use Rattle.vos_path.proofs.Finding.{listed_found}
 use Rattle.vos_path.proofs.Forming.{both_true}
 use Rattle.vos_path.proofs.Noting.{moments_same}
 
-all_left : {A : Type 0} (P : A → Type 0) (xs ys : List A) → All P (xs ++ ys) → All P xs
+pub all_left : {A : Type 0} (P : A → Type 0) (xs ys : List A) → All P (xs ++ ys) → All P xs
 all_left P [] ys h = All-nil P
 all_left P (x ∷ xs) ys h = All-cons P x xs (All-head P x (xs ++ ys) h) (all_left P xs ys (All-tail P x (xs ++ ys) h))
 
-all_right : {A : Type 0} (P : A → Type 0) (xs ys : List A) → All P (xs ++ ys) → All P ys
+pub all_right : {A : Type 0} (P : A → Type 0) (xs ys : List A) → All P (xs ++ ys) → All P ys
 all_right P [] ys h = h
 all_right P (x ∷ xs) ys h = all_right P xs ys (All-tail P x (xs ++ ys) h)
 
@@ -130,7 +130,7 @@ module _ (s : Stamp) (o : ObjectKey) where
       record { punch = punch_new (PunchObject (object_path o)) refl (things b.0) (all_left differs front back h); dkeys = dkeys_new (things b.1) (all_right differs front back h) }
 
 -- what holds of all versions holds of those of one
-all_listed : {A V : Type 0} (P : V → Type 0) (f : A → List V) (test : A → Bool) (xs : List A) → All P (together f xs) → All P (listed f (find test xs))
+pub all_listed : {A V : Type 0} (P : V → Type 0) (f : A → List V) (test : A → Bool) (xs : List A) → All P (together f xs) → All P (listed f (find test xs))
 all_listed P f test [] h = h
 all_listed {A = A} {V = V} P f test (x ∷ xs) h = by (test x) (all_listed P f test xs (all_right P (f x) (together f xs) h))
   where

@@ -1,0 +1,4 @@
+mod Rising
+mod Quiet
+mod Covered
+mod Going
