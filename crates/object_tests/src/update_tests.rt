@@ -11,7 +11,7 @@ use base_types::epoch::Epoch;
 use base_types::id::{AttemptId, Class, ContId, ObjId};
 use base_types::items::bytes_of;
 use base_types::key::Key;
-use base_types::operation::{MinorWrite, Write};
+use base_types::operation::{MinorWrite, Read, Write};
 use base_types::path::Path;
 use pmem_memory::mem_pages::MemPages;
 use pmem_pages::steps::Steps;
@@ -78,6 +78,7 @@ fn punch(alloc: Global, unit: u8) -> Option<MinorWrite>
 
 // What a read of the single value is answered below an epoch after an update of epoch 256, one of 512, and
 // a punch of 768.
+#[tactic(auto, unfolding(daos_model::specs::Forms::is_read_in_form))]
 fn read<L: Ledger>(alloc: Global, unit: u8, below: u64, blank: Blank) -> Option<Answer>
     requires unit { is_unit unit ≡ true }
     requires name { blank.name ≡ L.name }
@@ -104,7 +105,13 @@ fn read<L: Ledger>(alloc: Global, unit: u8, below: u64, blank: Blank) -> Option<
         .ok()?;
     let path = path(alloc, unit)?;
     objects
-        .fetch_single(&mut pages, alloc, &path, Epoch(below), &mut steps)
+        .fetch(
+            &mut pages,
+            alloc,
+            &Read::Single(path),
+            Epoch(below),
+            &mut steps,
+        )
         .ok()
 }
 

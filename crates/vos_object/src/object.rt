@@ -1,11 +1,11 @@
-// Objects in a tree: updates, punches and reads of single values.
+// Objects in a tree: updates, punches and reads of values.
 ghost use Rattle.std.specs.Prelude.{◌≡◌, ◌≤◌, ◌<◌, ◌+◌, true, false, ℕ, IfOk, OnOk, IsErrOf, IsTrue};
+ghost use Rattle.base_types.specs.Operations.{read_path};
 ghost use Rattle.base_types.specs.Paths.{record_size};
-ghost use Rattle.base_types.specs.declared.operation.Read.TheVariants.{Single as single_read};
 ghost use Rattle.daos_model.specs.Answers.{answer};
 ghost use Rattle.daos_model.specs.Blocks.{write_blocks};
 ghost use Rattle.daos_model.specs.Durables.{version_key};
-ghost use Rattle.daos_model.specs.Forms.{ends_at_akey, is_unit};
+ghost use Rattle.daos_model.specs.Forms.{is_read_in_form, is_unit};
 ghost use Rattle.daos_model.specs.Ordered.{in_order};
 ghost use Rattle.daos_model.specs.Versions.{map_below};
 ghost use Rattle.pmem_tree_base.specs.Calls.{Goes};
@@ -17,13 +17,12 @@ ghost use Rattle.vos_path.specs.Calls.{LacksFor, SpendsAtMost, for_pair};
 ghost use Rattle.vos_path.specs.Objects.{objects_owner, objects_versions};
 ghost use Rattle.vos_path.specs.Writes.{IsNewIn, NamesAreKeys, ObjectsAreSmall, below_object_pairs, data_blocks, is_update, object_pairs};
 ghost use Rattle.vos_reads.specs.Ways.{IsSettled};
-ghost use Rattle.vos_object.specs.Updates.{IsWritable, new_version};
+ghost use Rattle.vos_object.specs.Updates.{IsWritable, is_value_read, new_version};
 
 use base_types::answer::Answer;
 use base_types::epoch::Epoch;
 use base_types::id::AttemptId;
-use base_types::operation::MinorWrite;
-use base_types::path::Path;
+use base_types::operation::{MinorWrite, Read};
 use pmem_pages::pages::Pages;
 use pmem_pages::steps::Steps;
 use pmem_tree::TreeNo;
@@ -33,6 +32,7 @@ use std::sync::ledger::Ledger;
 use vos_chain::refusal::PiecesNo;
 use vos_path::objects::write_objects;
 use vos_path::stamp::Stamp;
+use vos_reads::extent::fetch_extent;
 use vos_reads::single::fetch_single;
 use vos_values::keys::Moment;
 
@@ -139,32 +139,39 @@ impl Objects {
         self.write(pages, epoch, by, write, steps)
     }
 
-    /// What a read of the single value of an akey is answered below an epoch, where every version below it
+    /// What a read of a single value or of an array is answered below an epoch, where every version below it
     /// that overlaps the path is settled: what the map of the versions below is answered.
     ///
     /// # Errors
     ///
     /// `Stopped` comes only where the pages answered it.
-    pub fn fetch_single<P: Pages, L: Ledger>(
+    pub fn fetch<P: Pages, L: Ledger>(
         &self,
         pages: &mut P,
         alloc: Global,
-        path: &Path,
+        read: &Read,
         below: Epoch,
         steps: &mut Steps<L>,
     ) -> Result<Answer, PiecesNo>
         requires kind { self.now.tree.kind ≡ 1 }
-        requires form { ends_at_akey path.now ≡ true }
-        requires size { is_unit (record_size path.now) ≡ true }
-        requires names { NamesAreKeys path.now }
-        requires here { HasThing P.tells objects_owner hung_root (P.blocks pages.old) self.now.tree.root (IsSettled path.now below) }
-        ensures found { IfOk result (λ a. OfThing P.tells objects_owner hung_root (P.blocks pages.old) self.now.tree.root (λ g. IsSettled path.now below g → a ≡ answer (single_read path.now) (map_below (in_order version_key (objects_versions g)) below.0))) }
+        requires form { is_read_in_form read.now ≡ true }
+        requires value { is_value_read read.now ≡ true }
+        requires size { is_unit (record_size (read_path read.now)) ≡ true }
+        requires names { NamesAreKeys (read_path read.now) }
+        requires here { HasThing P.tells objects_owner hung_root (P.blocks pages.old) self.now.tree.root (IsSettled (read_path read.now) below) }
+        ensures found { IfOk result (λ a. OfThing P.tells objects_owner hung_root (P.blocks pages.old) self.now.tree.root (λ g. IsSettled (read_path read.now) below g → a ≡ answer read.now (map_below (in_order version_key (objects_versions g)) below.0))) }
         ensures kept { IsTrue P.tells → P.blocks pages.new ≡ P.blocks pages.old }
         ensures budget { P.budget pages.new ≡ P.budget pages.old }
         ensures goes { Goes P.stopped P.count P.burns pages.old pages.new }
         ensures stopped { IsErrOf result stopped_no → P.stopped pages.new ≡ true }
         ensures went_on { OnOk result (P.stopped pages.new ≡ P.stopped pages.old) }
     {
-        fetch_single(self.tree, pages, alloc, path, below, steps)
+        match read {
+            Read::Single(path) => fetch_single(self.tree, pages, alloc, path, below, steps),
+            Read::Extent(path, low, len) => {
+                fetch_extent(self.tree, pages, alloc, path, *low, *len, below, steps)
+            }
+            Read::Dkeys(_) | Read::Akeys(_) | Read::Exists(_) => Ok(Answer::Absent),
+        }
     }
 }

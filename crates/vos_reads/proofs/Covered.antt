@@ -15,7 +15,7 @@ use Rattle.base_types.specs.declared.operation.Write.{Write}
 use Rattle.base_types.specs.declared.operation.Write.TheVariants.{Extent, PunchAkey, PunchDkey, PunchObject, Single}
 use Rattle.base_types.specs.declared.path.Path.{Path}
 use Rattle.daos_model.specs.Answers.{answer, is_before, value_answer}
-use Rattle.daos_model.specs.Cells.{is_of, same_cell, single_cell, value_at}
+use Rattle.daos_model.specs.Cells.{cell_at, is_of, same_cell, single_cell, value_at}
 use Rattle.daos_model.specs.Durables.{object_key as object_order, version_key}
 use Rattle.daos_model.specs.Effect.{record_cells, records_of}
 use Rattle.base_types.specs.Paths.{record_size}
@@ -52,7 +52,7 @@ use Rattle.vos_path.proofs.Written.{holds_first, holds_log, holds_second, holds_
 use Rattle.vos_newest.specs.Newest.{later_of, newest, speaks, told}
 use Rattle.vos_newest.proofs.Greatest.{later_assoc, newest_append, newest_none}
 use Rattle.vos_newest.proofs.Speaking.{cell_holds}
-use Rattle.vos_reads.specs.Ways.{IsSettled, below_akey, below_dkey, below_object, last_punch, later_moment, moment_of_single, punched_at, single_answer, start_of}
+use Rattle.vos_reads.specs.Ways.{akey_of, dkey_of, IsSettled, below_akey, below_dkey, below_object, last_punch, later_moment, moment_of_single, punched_at, single_answer, start_of}
 use Rattle.vos_reads.proofs.Quiet.{any_false, dkey_paths, leads_akey, leads_dkey, leads_object, level_own, newest_one, object_paths, speaks_leads, values_paths}
 use Rattle.vos_reads.proofs.Rising.{AgreeOn, IsPunchAt, earlier_before, last_filter, later_punch, mapped_punch, rise_filter, rising_newest}
 
@@ -84,7 +84,7 @@ module _ (o : ObjectKey) (d a : List ℕ) where
   unfolding leads_to
   dkey_leads = four _ _ _ _ (eq_refl o.cont.0) ((same_object-Decides o.obj o.obj).1 refl) ((same_key-Decides d d).1 refl) refl
 
-  akey_leads : leads_to (akey_path o d a) p ≡ true
+  pub akey_leads : leads_to (akey_path o d a) p ≡ true
   unfolding leads_to
   akey_leads = four _ _ _ _ (eq_refl o.cont.0) ((same_object-Decides o.obj o.obj).1 refl) ((same_key-Decides d d).1 refl) ((same_key-Decides a a).1 refl)
 
@@ -123,7 +123,7 @@ settled_sees p e v h k = settled_bits v.done (nat_lt v.epoch.0 e) (overlaps p (v
 under_is : (e : Epoch) (m : Moment) → nat_lt m.epoch.0 e.0 ≡ is_earlier m (start_of e)
 under_is e m = grind (arith, nat_tests)
 
-speaks_so : (e : Epoch) (c : Cell) (v : Version) → blocks_read c.path e.0 v ≡ false → leads_to (version_path v) c.path ≡ true → touches c v.write ≡ true → speaks e.0 c v ≡ is_earlier (record { epoch = v.epoch; minor = v.minor }) (start_of e)
+pub speaks_so : (e : Epoch) (c : Cell) (v : Version) → blocks_read c.path e.0 v ≡ false → leads_to (version_path v) c.path ≡ true → touches c v.write ≡ true → speaks e.0 c v ≡ is_earlier (record { epoch = v.epoch; minor = v.minor }) (start_of e)
 speaks_so e c v h l t =
     ap (λ (b : Bool). sees e.0 v && b) t ∙ (and_true (sees e.0 v) ∙ (settled_sees c.path e.0 v h (over c.path (version_path v) l) ∙ under_is e (record { epoch = v.epoch; minor = v.minor })))
   where
@@ -211,7 +211,7 @@ no_extent e p q (v ∷ vs) = by (speaks e (single_cell p) (extent_version q v)) 
 told_single : (p : Path) (v : SingleVersion) → told (single_cell p) (Some (single_version p v)) ≡ Some v.bytes
 told_single p v = ap (λ (b : Bool). if b then Some v.bytes else None) ((same_cell-Decides (single_cell p) (single_cell p)).1 refl)
 
-told_punch : (c : Cell) (x : Version) → is_punch_write x.write ≡ true → told c (Some x) ≡ None
+pub told_punch : (c : Cell) (x : Version) → is_punch_write x.write ≡ true → told c (Some x) ≡ None
 told_punch c x h = ap (λ (b : Bool). if b then None else value_at (values_of x.write) c) h
 
 pub covered_answer : (o : ObjectKey) (d a : List ℕ) (x : Option Version) (q : Option Moment) (s : Option SingleVersion) → IsPunchAt (object_order o.cont (Some o.obj)) x q
@@ -231,9 +231,9 @@ covered_answer o d a (Some x) (Some m) (Some v) h =
     by true false e = absurd (let n : ⊥ = cc in n)
     by false true e = absurd (let n : ⊥ = cc in n)
 
-module _ (m : Blocks) (g : Objects) (o : ObjectKey) (d a : List ℕ) (held : Holds objects_owner m g) (object : IsObjectKey Two o) (dkey : IsName d) (akey : IsName a) (e : Epoch) (settled : IsSettled (akey_path o d a) e g) where
+module _ (m : Blocks) (g : Objects) (o : ObjectKey) (d a : List ℕ) (held : Holds objects_owner m g) (object : IsObjectKey Two o) (dkey : IsName d) (akey : IsName a) (e : Epoch) (settled : IsSettled (akey_path o d a) e g) (idx : Option ℕ) where
   abbrev c : Cell
-  c = single_cell (akey_path o d a)
+  c = cell_at (akey_path o d a) idx
 
   abbrev Fine : Version → Type 0
   Fine v = blocks_read (akey_path o d a) e.0 v ≡ false
@@ -253,7 +253,7 @@ module _ (m : Blocks) (g : Objects) (o : ObjectKey) (d a : List ℕ) (held : Hol
   holds1 : Holds (below_owner akey_level) m b1
   holds1 = dkey_holds m b0.1 d (holds_second log_owner (hung dkey_level) m b0 holds0)
 
-  holds2 : Holds values_owner m b2
+  pub holds2 : Holds values_owner m b2
   holds2 = akey_holds m b1.1 a (holds_second log_owner (hung akey_level) m b1 holds1)
 
   -- ---- from all versions to those of the akey
@@ -308,9 +308,6 @@ module _ (m : Blocks) (g : Objects) (o : ObjectKey) (d a : List ℕ) (held : Hol
   abbrev last : Log → Option LogEntry
   last l = find_last (is_punch_below (start_of e)) (things l)
 
-  abbrev single : Option SingleVersion
-  single = option_map version_of (find_last (is_under (start_of e)) (things b2.1.0))
-
   part0 : N e c (objects_versions g) ≡ later_of version_key (option_map (punch_version (PunchObject (object_path o))) (last b0.0)) (N e c (dkeys_versions o b0.1))
   part0 =
       newest_one object_level (object_key o) (speaks e.0 c) object_versions quiet0 m g held
@@ -325,36 +322,72 @@ module _ (m : Blocks) (g : Objects) (o : ObjectKey) (d a : List ℕ) (held : Hol
       ∙ (newest_append version_key (speaks e.0 c) (punches (PunchDkey (dkey_path o d)) b1.0) (akeys_versions o d b1.1)
       ∙ ap (λ z. later_of version_key z (N e c (akeys_versions o d b1.1))) (newest_punch e c (PunchDkey (dkey_path o d)) refl (dkey_leads o d a) m b1.0 (holds_first log_owner (hung akey_level) m b1 holds1) (all_left Fine (punches (PunchDkey (dkey_path o d)) b1.0) (akeys_versions o d b1.1) fine1))))
 
-  part2 : N e c (akeys_versions o d b1.1) ≡ later_of version_key (option_map (punch_version (PunchAkey (akey_path o d a))) (last b2.0)) (option_map (single_version (akey_path o d a)) single)
+  abbrev singles_of : List Version
+  singles_of = map (single_version (akey_path o d a)) (versions b2.1.0)
+
+  abbrev extents_of : List Version
+  extents_of = map (extent_version (akey_path o d a)) (extents b2.1.1)
+
+  part2 : N e c (akeys_versions o d b1.1) ≡ later_of version_key (option_map (punch_version (PunchAkey (akey_path o d a))) (last b2.0)) (N e c (singles_of ++ extents_of))
   part2 =
       let p = akey_path o d a in
       let ps = punches (PunchAkey p) b2.0 in
-      let ss = map (single_version p) (versions b2.1.0) in
-      let xs = map (extent_version p) (extents b2.1.1) in
-      let rest = all_right Fine ps (ss ++ xs) fine2 in
       newest_one akey_level (name_key a) (speaks e.0 c) (akey_versions o d) quiet2 m b1.1 (holds_second log_owner (hung akey_level) m b1 holds1)
       ∙ (ap (N e c) listed2
-      ∙ (newest_append version_key (speaks e.0 c) ps (ss ++ xs)
-      ∙ (ap (λ z. later_of version_key z (N e c (ss ++ xs))) (newest_punch e c (PunchAkey p) refl (akey_leads o d a) m b2.0 (holds_log m b2 holds2) (all_left Fine ps (ss ++ xs) fine2))
-      ∙ ap (later_of version_key (option_map (punch_version (PunchAkey p)) (last b2.0)))
-      (newest_append version_key (speaks e.0 c) ss xs
-      ∙ (ap (later_of version_key (N e c ss)) (newest_none version_key (speaks e.0 c) xs (no_extent e.0 p p (extents b2.1.1)))
-      ∙ (none_after (N e c ss) ∙ newest_version e p (akey_leads o d a) m b2.1.0 (holds_single m b2 holds2) (all_left Fine ss xs rest)))))))
-    where
-      none_after : (x : Option Version) → later_of version_key x None ≡ x
-      none_after None = refl
-      none_after (Some v) = refl
+      ∙ (newest_append version_key (speaks e.0 c) ps (singles_of ++ extents_of)
+      ∙ ap (λ z. later_of version_key z (N e c (singles_of ++ extents_of))) (newest_punch e c (PunchAkey p) refl (akey_leads o d a) m b2.0 (holds_log m b2 holds2) (all_left Fine ps (singles_of ++ extents_of) fine2))))
 
-  pub single_law : single_answer (last_punch e b0.0 b1.0 b2.0) single ≡ answer (read.Single (akey_path o d a)) (map_below (in_order version_key (objects_versions g)) e.0)
-  single_law =
+  pub settled_singles : All Fine singles_of
+  settled_singles = all_left Fine singles_of extents_of (all_right Fine (punches (PunchAkey (akey_path o d a)) b2.0) (singles_of ++ extents_of) fine2)
+
+  pub settled_extents : All Fine extents_of
+  settled_extents = all_right Fine singles_of extents_of (all_right Fine (punches (PunchAkey (akey_path o d a)) b2.0) (singles_of ++ extents_of) fine2)
+
+  -- the newest punch, and what the cell holds by it and the newest update
+  abbrev pub punch : Option Version
+  punch = later_of version_key (option_map (punch_version (PunchObject (object_path o))) (last b0.0)) (later_of version_key (option_map (punch_version (PunchDkey (dkey_path o d))) (last b1.0)) (option_map (punch_version (PunchAkey (akey_path o d a))) (last b2.0)))
+
+  pub punch_is : IsPunchAt (object_order o.cont (Some o.obj)) punch (last_punch e b0.0 b1.0 b2.0)
+  punch_is =
       let K = object_order o.cont (Some o.obj) in
       let x0 = option_map (punch_version (PunchObject (object_path o))) (last b0.0) in
       let x1 = option_map (punch_version (PunchDkey (dkey_path o d))) (last b1.0) in
       let x2 = option_map (punch_version (PunchAkey (akey_path o d a))) (last b2.0) in
-      let s = option_map (single_version (akey_path o d a)) single in
-      let at = later_punch K x0 (later_of version_key x1 x2) (punched_at e b0.0) (later_moment (punched_at e b1.0) (punched_at e b2.0)) (mapped_punch K (punch_version (PunchObject (object_path o))) moment_of (λ z. refl) (λ z. refl) (last b0.0))
-      (later_punch K x1 x2 (punched_at e b1.0) (punched_at e b2.0) (mapped_punch K (punch_version (PunchDkey (dkey_path o d))) moment_of (λ z. refl) (λ z. refl) (last b1.0)) (mapped_punch K (punch_version (PunchAkey (akey_path o d a))) moment_of (λ z. refl) (λ z. refl) (last b2.0))) in
-      let all : N e c (objects_versions g) ≡ later_of version_key (later_of version_key x0 (later_of version_key x1 x2)) s =
-      part0 ∙ (ap (later_of version_key x0) (part1 ∙ ap (later_of version_key x1) part2)
+      later_punch K x0 (later_of version_key x1 x2) (punched_at e b0.0) (later_moment (punched_at e b1.0) (punched_at e b2.0)) (mapped_punch K (punch_version (PunchObject (object_path o))) moment_of (λ z. refl) (λ z. refl) (last b0.0))
+      (later_punch K x1 x2 (punched_at e b1.0) (punched_at e b2.0) (mapped_punch K (punch_version (PunchDkey (dkey_path o d))) moment_of (λ z. refl) (λ z. refl) (last b1.0)) (mapped_punch K (punch_version (PunchAkey (akey_path o d a))) moment_of (λ z. refl) (λ z. refl) (last b2.0)))
+
+  pub value_is : (s : Option Version) → N e c (singles_of ++ extents_of) ≡ s → value_at (map_below (in_order version_key (objects_versions g)) e.0) c ≡ told c (later_of version_key punch s)
+  value_is s is =
+      let x0 = option_map (punch_version (PunchObject (object_path o))) (last b0.0) in
+      let x1 = option_map (punch_version (PunchDkey (dkey_path o d))) (last b1.0) in
+      let x2 = option_map (punch_version (PunchAkey (akey_path o d a))) (last b2.0) in
+      let all : N e c (objects_versions g) ≡ later_of version_key punch s =
+      part0 ∙ (ap (later_of version_key x0) (part1 ∙ ap (later_of version_key x1) (part2 ∙ ap (later_of version_key x2) is))
       ∙ (ap (later_of version_key x0) (sym (later_assoc version_key x1 x2 s)) ∙ sym (later_assoc version_key x0 (later_of version_key x1 x2) s))) in
-      sym (ap value_answer (cell_holds (objects_versions g) e.0 c ∙ ap (told c) all) ∙ covered_answer o d a (later_of version_key x0 (later_of version_key x1 x2)) (last_punch e b0.0 b1.0 b2.0) single at)
+      cell_holds (objects_versions g) e.0 c ∙ ap (told c) all
+
+-- ---- a single value
+
+pub none_after : (x : Option Version) → later_of version_key x None ≡ x
+none_after None = refl
+none_after (Some v) = refl
+
+module _ (m : Blocks) (g : Objects) (o : ObjectKey) (d a : List ℕ) (held : Holds objects_owner m g) (object : IsObjectKey Two o) (dkey : IsName d) (akey : IsName a) (e : Epoch) (settled : IsSettled (akey_path o d a) e g) where
+  abbrev v2 : Values
+  v2 = akey_of o d a g
+
+  abbrev single : Option SingleVersion
+  single = option_map version_of (find_last (is_under (start_of e)) (things v2.1.0))
+
+  pub single_law : single_answer (last_punch e (below_object o g).0 (dkey_of o d g).0 v2.0) single ≡ answer (read.Single (akey_path o d a)) (map_below (in_order version_key (objects_versions g)) e.0)
+  single_law =
+      let p = akey_path o d a in
+      let ss = map (single_version p) (versions v2.1.0) in
+      let xs = map (extent_version p) (extents v2.1.1) in
+      let newest_is : newest version_key (speaks e.0 (single_cell p)) (ss ++ xs) ≡ option_map (single_version p) single =
+      newest_append version_key (speaks e.0 (single_cell p)) ss xs
+      ∙ (ap (later_of version_key (newest version_key (speaks e.0 (single_cell p)) ss)) (newest_none version_key (speaks e.0 (single_cell p)) xs (no_extent e.0 p p (extents v2.1.1)))
+      ∙ (none_after (newest version_key (speaks e.0 (single_cell p)) ss)
+      ∙ newest_version e p (akey_leads o d a) m v2.1.0 (holds_single m v2 (holds2 m g o d a held object dkey akey e settled None)) (settled_singles m g o d a held object dkey akey e settled None))) in
+      sym (ap value_answer (value_is m g o d a held object dkey akey e settled None (option_map (single_version p) single) newest_is)
+      ∙ covered_answer o d a (punch m g o d a held object dkey akey e settled None) (last_punch e (below_object o g).0 (dkey_of o d g).0 v2.0) single (punch_is m g o d a held object dkey akey e settled None))

@@ -2,3 +2,4 @@ mod Rising
 mod Quiet
 mod Covered
 mod Going
+mod Arrays

@@ -95,7 +95,7 @@ IsPunchAt K None (Some m) = ⊥
 IsPunchAt K (Some p) None = ⊥
 IsPunchAt K (Some p) (Some m) = (is_punch p.write ≡ true) × (version_key p ≡ key_at K m)
 
-before_is : (K : List ℕ) (u v : Version) (a b : Moment) → version_key u ≡ key_at K a → version_key v ≡ key_at K b → is_before (version_key u) (version_key v) ≡ is_earlier a b
+pub before_is : (K : List ℕ) (u v : Version) (a b : Moment) → version_key u ≡ key_at K a → version_key v ≡ key_at K b → is_before (version_key u) (version_key v) ≡ is_earlier a b
 before_is K u v a b e f = ap (λ z. is_before z (version_key v)) e ∙ (ap (is_before (key_at K a)) f ∙ earlier_before K a b)
 
 pub later_punch : (K : List ℕ) (x y : Option Version) (q r : Option Moment) → IsPunchAt K x q → IsPunchAt K y r → IsPunchAt K (later_of version_key x y) (later_moment q r)
