@@ -1,3 +1,4 @@
 pub mod Answered
+pub mod Lost
 pub mod Places
 pub mod Sent

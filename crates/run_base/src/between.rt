@@ -22,8 +22,8 @@ use world_base::letter::Letter;
 /// far.
 #[derive(Drop)]
 pub struct Between {
-    messages: Vec<Letter>,
-    asked: Vec<Letter>,
+    pub(crate) messages: Vec<Letter>,
+    pub(crate) asked: Vec<Letter>,
     issued: Vec<(AttemptId, Epoch)>,
     lines: Vec<Line>,
 }

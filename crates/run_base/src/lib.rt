@@ -4,4 +4,5 @@
 pub mod asked;
 pub mod between;
 pub mod lines;
+mod losing;
 pub mod schedule;

@@ -92,13 +92,13 @@ module _ (old : Durable) where
   abbrev pub OnlyNew : (AttemptId → Type 0) → Kept → Type 0
   OnlyNew P k = (x : AttemptId) → entry_of old x ≡ None → (P x → ⊥) → entry_of k.durable x ≡ None
 
-  abbrev NoneAsked : AttemptId → Type 0
+  abbrev pub NoneAsked : AttemptId → Type 0
   NoneAsked x = ⊥
 
   abbrev pub NoneNew : Kept → Type 0
   NoneNew k = (x : AttemptId) → entry_of old x ≡ None → entry_of k.durable x ≡ None
 
-  abbrev Fits : (AttemptId → Type 0) → Option Change → Type 0
+  abbrev pub Fits : (AttemptId → Type 0) → Option Change → Type 0
   Fits P None = Unit {0}
   Fits P (Some (Extends ticks)) = Unit {0}
   Fits P (Some (Prepares e ws)) = P e.attempt
@@ -122,7 +122,7 @@ module _ (old : Durable) where
   more-only : (P Q : AttemptId → Type 0) (k : Kept) → ((x : AttemptId) → P x → Q x) → OnlyNew P k → OnlyNew Q k
   more-only P Q k f h x none off = h x none (λ p. off (f x p))
 
-  steps-only : {S : Type 0} (Next : S → Kept → Option Change → S → Type 0) (P : AttemptId → Type 0) → ((s : S) (k : Kept) (o : Option Change) (u : S) → Next s k o u → Fits P o) → (s : S) (k : Kept) (u : S) (l : Kept) → Reached Next s k u l
+  pub steps-only : {S : Type 0} (Next : S → Kept → Option Change → S → Type 0) (P : AttemptId → Type 0) → ((s : S) (k : Kept) (o : Option Change) (u : S) → Next s k o u → Fits P o) → (s : S) (k : Kept) (u : S) (l : Kept) → Reached Next s k u l
       → OnlyNew P k → OnlyNew P l
   steps-only Next P fits s k u l reached = reached-keeps Next (λ s k. OnlyNew P k) (λ s k o u l next steps h. step-only P o k l (fits s k o u next) steps h) s k u l reached
 
@@ -142,17 +142,17 @@ module _ (old : Durable) where
     dull : (q : Message) → ((u : ℕ) (x : AttemptId) → RefusesAt q u x → ⊥) → ((x : AttemptId) → IsPrepareOf q x → ⊥) → IsSaid t m new q
     dull q f g = record { refuses = λ u x h. absurd (f u x h); asks = λ x h. absurd (g x h) }
 
-    none-said : AreSaid []
+    pub none-said : AreSaid []
     none-said q i = absurd i
 
     one-said : (q : Post) → IsSaid t m new q.message → AreSaid (q ∷ [])
     one-said q k s (inl same) = subst (λ x. IsSaid t m new x.message) (sym same) k
     one-said q k s (inr none) = absurd none
 
-    one-dull : (q : Post) → ((u : ℕ) (x : AttemptId) → RefusesAt q.message u x → ⊥) → ((x : AttemptId) → IsPrepareOf q.message x → ⊥) → AreSaid (q ∷ [])
+    pub one-dull : (q : Post) → ((u : ℕ) (x : AttemptId) → RefusesAt q.message u x → ⊥) → ((x : AttemptId) → IsPrepareOf q.message x → ⊥) → AreSaid (q ∷ [])
     one-dull q f g = one-said q (dull q.message f g)
 
-    both-said : (ps qs : List Post) → AreSaid ps → AreSaid qs → AreSaid (ps ++ qs)
+    pub both-said : (ps qs : List Post) → AreSaid ps → AreSaid qs → AreSaid (ps ++ qs)
     both-said ps qs f g q i = elim (has-cases ps qs q i) [ inl j ↦ f q j | inr j ↦ g q j ]
 
     map-dull : {A : Type 0} (f : A → Post) → ((a : A) (u : ℕ) (x : AttemptId) → RefusesAt (f a).message u x → ⊥) → ((a : A) (x : AttemptId) → IsPrepareOf (f a).message x → ⊥) → (xs : List A) → AreSaid (map f xs)
@@ -169,7 +169,7 @@ module _ (old : Durable) where
 
     -- ---- an Ack
 
-    ended-said : (client : Option ActorId) (a : AttemptId) (e : Epoch) (o : Outcome) → ((u : ℕ) (x : AttemptId) → RefusesAt (message.Ended a (Some e) o) u x → RefusesAt m u x) → AreSaid (ended client a e o)
+    pub ended-said : (client : Option ActorId) (a : AttemptId) (e : Epoch) (o : Outcome) → ((u : ℕ) (x : AttemptId) → RefusesAt (message.Ended a (Some e) o) u x → RefusesAt m u x) → AreSaid (ended client a e o)
     ended-said None a e o k = none-said
     ended-said (Some c) a e o k = one-said _ (record { refuses = λ u x h. inl (k u x h); asks = λ x h. absurd h })
 
@@ -215,16 +215,16 @@ module _ (old : Durable) where
         by true = awaited-said member a inc refusal (entry_led a l) (undecided_of a l) l told
         by false = none-said
 
-    abbrev FollowsSaid : ack.AckStage → Type 0
+    abbrev pub FollowsSaid : ack.AckStage → Type 0
     FollowsSaid ack.Heard = Unit {0}
     FollowsSaid (ack.Followed s) = AreSaid s.posts
 
-    ack-next : (p : TargetPlan) (n : TargetMemory) (member : ℕ) (a : AttemptId) (inc : ℕ) (refusal : Option Outcome) → ((u : ℕ) (x : AttemptId) → RefusesAt (message.Ack a inc refusal) u x → RefusesAt m u x) → (s : ack.AckStage) (k : Kept)
+    pub ack-next : (p : TargetPlan) (n : TargetMemory) (member : ℕ) (a : AttemptId) (inc : ℕ) (refusal : Option Outcome) → ((u : ℕ) (x : AttemptId) → RefusesAt (message.Ack a inc refusal) u x → RefusesAt m u x) → (s : ack.AckStage) (k : Kept)
         (o : Option Change) (u : ack.AckStage) (l : Kept) → ack.AckNext p n member a inc refusal s k o u → Steps o k l → FollowsSaid s → FollowsSaid u
     ack-next p n member a inc refusal told s k o u l (ack.Aborts j is) steps h = ack-said member a inc refusal (leader_at p n j.durable) told
     ack-next p n member a inc refusal told s k o u l (ack.Counts j is) steps h = ack-said member a inc refusal (leader_at p n j.durable) told
 
-    ack-ends : (n : TargetMemory) (s : ack.AckStage) (k : Kept) (left : TargetMemory × Did) → ack.AckEnds n s k left → FollowsSaid s → AreSaid left.1.posts
+    pub ack-ends : (n : TargetMemory) (s : ack.AckStage) (k : Kept) (left : TargetMemory × Did) → ack.AckEnds n s k left → FollowsSaid s → AreSaid left.1.posts
     ack-ends n s k left (ack.IsFollowed j step z is) h = subst (λ x. AreSaid x.1.posts) (sym is) h
 
     -- ---- a Mark, a Marked, a Query and a Verdict
@@ -238,11 +238,11 @@ module _ (old : Durable) where
     query-said : (p : TargetPlan) (n : TargetMemory) (from : ActorId) (a : AttemptId) (ask : Option AttemptId) (s : verdict.QueryStage) (k : Kept) (left : TargetMemory × Did) → verdict.QueryEnds p n from a ask s k left → AreSaid left.1.posts
     query-said p n from a ask s k left (verdict.IsTold j z is) = subst (λ x. AreSaid x.1.posts) (sym is) (one-dull _ (λ u x h. h) (λ x h. h))
 
-    unresolved-said : (a : AttemptId) (z : Message) → AreSaid (unresolved_told a z)
+    pub unresolved-said : (a : AttemptId) (z : Message) → AreSaid (unresolved_told a z)
     unresolved-said a (message.Fetch x op group ep first tracker r snapshot) = one-dull _ (λ u x h. h) (λ x h. h)
     unresolved-said a z = none-said
 
-    all-unresolved-said : (a : AttemptId) (ps : List Parked) → AreSaid (all_unresolved_told a ps)
+    pub all-unresolved-said : (a : AttemptId) (ps : List Parked) → AreSaid (all_unresolved_told a ps)
     all-unresolved-said a [] = none-said
     all-unresolved-said a (p ∷ ps) = both-said (unresolved_told a p.ask) (all_unresolved_told a ps) (unresolved-said a p.ask) (all-unresolved-said a ps)
 
@@ -302,17 +302,17 @@ module _ (old : Durable) where
     pub said : AreSaid t m new posts
 
   module _ (k : Kept) (own : k.durable ≡ old) where
-    begins-so : (P : AttemptId → Type 0) → OnlyNew P k
+    pub begins-so : (P : AttemptId → Type 0) → OnlyNew P k
     begins-so P x none off = ap (λ d. entry_of d x) own ∙ none
 
     -- a Commit
-    abbrev CommitAsks : CommitRequest → commit.CommitStage → AttemptId → Type 0
+    abbrev pub CommitAsks : CommitRequest → commit.CommitStage → AttemptId → Type 0
     CommitAsks q commit.Asked x = ⊥
     CommitAsks q (commit.Known e) x = ⊥
     CommitAsks q (commit.Checking e) x = ⊥
     CommitAsks q (commit.Stored e) x = q.attempt ≡ x
 
-    commit-next : (p : TargetPlan) (opening : Epoch × FloorWhy) (n : TargetMemory) (reading : ℕ) (q : CommitRequest) (s : commit.CommitStage) (j : Kept) (o : Option Change) (u : commit.CommitStage) (l : Kept)
+    pub commit-next : (p : TargetPlan) (opening : Epoch × FloorWhy) (n : TargetMemory) (reading : ℕ) (q : CommitRequest) (s : commit.CommitStage) (j : Kept) (o : Option Change) (u : commit.CommitStage) (l : Kept)
         → commit.CommitNext p opening n reading q s j o u → Steps o j l → OnlyNew (CommitAsks q s) j → OnlyNew (CommitAsks q u) l
     commit-next p opening n reading q s j o u l (commit.HasEpoch i e is) steps h = step-only NoneAsked None j l tt steps h
     commit-next p opening n reading q s j o u l (commit.ExtendsLease i e lease low is) steps h = step-only NoneAsked (Some (Extends lease)) j l tt steps h
@@ -320,7 +320,7 @@ module _ (old : Durable) where
     commit-next p opening n reading q s j o u l (commit.Stores i e allowed fits) steps h =
         step-only (λ x. q.attempt ≡ x) (Some (Prepares (commit.led_entry p q e) (commit.own_writes p q.writes))) j l refl steps (more-only NoneAsked (λ x. q.attempt ≡ x) j (λ x f. absurd f) h)
 
-    commit-any : (q : CommitRequest) (s : commit.CommitStage) (j : Kept) → OnlyNew (CommitAsks q s) j → OnlyNew (λ x. q.attempt ≡ x) j
+    pub commit-any : (q : CommitRequest) (s : commit.CommitStage) (j : Kept) → OnlyNew (CommitAsks q s) j → OnlyNew (λ x. q.attempt ≡ x) j
     commit-any q commit.Asked j h = more-only NoneAsked (λ x. q.attempt ≡ x) j (λ x f. absurd f) h
     commit-any q (commit.Known e) j h = more-only NoneAsked (λ x. q.attempt ≡ x) j (λ x f. absurd f) h
     commit-any q (commit.Checking e) j h = more-only NoneAsked (λ x. q.attempt ≡ x) j (λ x f. absurd f) h
@@ -394,7 +394,7 @@ module _ (old : Durable) where
     verdict-fits P p n reading a ask v s j o u (verdict.GoesOn i z posts rest q f g c next) = fetch-fits P p z reading q f i c g next
     verdict-fits P p n reading a ask v s j o u (verdict.IsDone i z posts rest q f left ends) = tt
 
-    ack-fits : (P : AttemptId → Type 0) (p : TargetPlan) (n : TargetMemory) (member : ℕ) (a : AttemptId) (inc : ℕ) (refusal : Option Outcome) (s : ack.AckStage) (j : Kept) (o : Option Change) (u : ack.AckStage)
+    pub ack-fits : (P : AttemptId → Type 0) (p : TargetPlan) (n : TargetMemory) (member : ℕ) (a : AttemptId) (inc : ℕ) (refusal : Option Outcome) (s : ack.AckStage) (j : Kept) (o : Option Change) (u : ack.AckStage)
         → ack.AckNext p n member a inc refusal s j o u → Fits P o
     ack-fits P p n member a inc refusal s j o u (ack.Aborts i is) = tt
     ack-fits P p n member a inc refusal s j o u (ack.Counts i is) = tt

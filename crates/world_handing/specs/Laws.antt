@@ -6,9 +6,11 @@ use Rattle.world_base.specs.declared.letter.Letter.{Letter}
 use Rattle.world_base.specs.declared.world.World.{World}
 use Rattle.world_base.specs.Events.{Rules, client_plan}
 use Rattle.world_base.specs.Letters.{Takes, client}
+use Rattle.world_base.specs.Stops.{WorldEvent}
 use Rattle.world_epochs.specs.Epochs.{ClientsStand, Epochs}
 use Rattle.world_fates.specs.Asked.{AskedRight}
 use Rattle.world_handing.specs.Dates.{SnapshotsAreRead}
+use Rattle.world_handing.specs.Groups.{ClientsAskWithin}
 use Rattle.world_handing.specs.Handing.{EpochsOfCommits}
 use Rattle.world_fates.specs.Facts.{Attempts}
 use Rattle.world_handing.specs.Targets.{PlacesAreRight}
@@ -44,6 +46,10 @@ abbrev pub ConversationsFit : Type 0
 ConversationsFit =
     (r : Rules) (w : World) (n : ℕ) (c : ClientState) (l : Letter) (rest : List Letter) → Conversation r w → Endings w → slice_get w.clients n ≡ Some c → Takes w.messages l rest → l.to ≡ client n → HearsFitly (client_plan r n) c l.message
 
--- where the facts of attempts hold besides, and places are right, what is asked about an attempt is asked of one of its targets
+-- a client that has something to ask is at one of the groups of its path, whatever happens
+abbrev pub EventsKeepGroups : Type 0
+EventsKeepGroups = (r : Rules) (w v : World) → WorldEvent r w v → ClientsAskWithin r w → ClientsAskWithin r v
+
+-- so, where the facts of attempts hold besides, and places are right, what is asked about an attempt is asked of one of its targets
 abbrev pub TargetsAreAsked : Type 0
-TargetsAreAsked = (r : Rules) (h : History) (w : World) → Conversation r w → RequestsAreOfClients w → ClientsStand r w → Attempts r h w → PlacesAreRight r w → AsksItsTargets r w
+TargetsAreAsked = (r : Rules) (h : History) (w : World) → Conversation r w → RequestsAreOfClients w → ClientsStand r w → ClientsAskWithin r w → Attempts r h w → PlacesAreRight r → AsksItsTargets r w

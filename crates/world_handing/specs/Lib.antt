@@ -2,5 +2,6 @@
 pub mod Handing
 pub mod Fitting
 pub mod Dates
+pub mod Groups
 pub mod Targets
 pub mod Laws

@@ -1,5 +1,5 @@
 -- What is asked about an attempt is asked of one of its targets.
-use Rattle.std.specs.Prelude.{ℕ, ◌≡◌, ◌≢◌, ◌<◌, ◌&&◌, ◌==◌, not, Bool, true, false, List, [], ◌∷◌, slice_get, Contains, Option, Some, None, refl, if◌then◌else◌}
+use Rattle.std.specs.Prelude.{ℕ, ◌≡◌, ◌⊎◌, ◌≢◌, ◌<◌, ◌&&◌, ◌==◌, not, Bool, true, false, List, [], ◌∷◌, slice_get, Contains, Option, Some, None, refl, if◌then◌else◌}
 use Rattle.std.specs.List.{range_with_len}
 use Rattle.std.proofs.Common.{zero, suc, sym, ◌∙◌, ap, subst, arith, inl, inr}
 use Rattle.base_types.specs.declared.epoch.Epoch.{Epoch}
@@ -7,7 +7,6 @@ use Rattle.base_types.specs.declared.id.AttemptId.{AttemptId}
 use Rattle.base_types.specs.declared.id.ObjId.{ObjId}
 use Rattle.base_types.specs.declared.operation.MinorWrite.{MinorWrite}
 use Rattle.base_types.specs.declared.operation.Op.{Op}
-use Rattle.base_types.specs.declared.operation.Read.{Read}
 use Rattle.base_types.specs.declared.script.Command.{Command}
 use Rattle.base_types.specs.declared.script.Command.TheVariants as command
 use Rattle.base_types.specs.Operations.{read_path, write_path}
@@ -32,12 +31,13 @@ use Rattle.world_base.specs.declared.client.ClientState.{ClientState}
 use Rattle.world_base.specs.declared.client.Present.{Present}
 use Rattle.world_base.specs.declared.letter.Letter.{Letter}
 use Rattle.world_base.specs.declared.world.World.{World}
-use Rattle.world_base.specs.ClientTurns.{attempt_id, command_at, group_asked, member_asked, question, request_of, waits}
+use Rattle.world_base.specs.ClientTurns.{attempt_id, command_at, group_asked, group_count, member_asked, op_of, question, request_of, waits}
 use Rattle.world_base.specs.Events.{Rules, client_plan}
 use Rattle.world_base.specs.Letters.{client, letter_of, talk_of, target}
 use Rattle.world_causes.specs.Growth.{question-asks}
 use Rattle.world_epochs.specs.Epochs.{ClientsStand}
 use Rattle.world_fates.specs.Facts.{Attempts, IsAskedSo}
+use Rattle.world_handing.specs.Groups.{ClientsAskWithin, InGroup, IsWithin}
 use Rattle.world_handing.specs.Handing.{commit-goes}
 use Rattle.world_losses.specs.Losses.{AsksItsTargets, is_asked_of}
 use Rattle.world_snapshots.specs.Events.{command-is}
@@ -56,14 +56,25 @@ IsGroupWithin None dkey targets g = ⊥
 IsGroupWithin (Some o) None targets g = g < groups o.class targets
 IsGroupWithin (Some o) (Some dkey) targets g = Unit {0}
 
--- There are targets; the leader of a write is one of its members; and a client that has something to ask is at one of the groups of its path.
-pub record PlacesAreRight (r : Rules) (w : World) : Type 0 where
+-- an object is there, and has groups
+abbrev pub HasGroups : Option ObjId → ℕ → Type 0
+HasGroups None targets = ⊥
+HasGroups (Some o) targets = 0 < groups o.class targets
+
+-- There are targets; the leader of a write is one of its members; and what is read or written has groups.
+pub record PlacesAreRight (r : Rules) : Type 0 where
   pub some : 0 < r.script.targets
   pub led : (x : AttemptId) (m : MinorWrite) → Contains (minor_writes 0 (attempt_ops r.script x)) m → Contains (path_members (write_path m.write) r.script.targets) (path_leader (write_path m.write) r.script.targets)
-  pub within : (n : ℕ) (c : ClientState) (a : Present) (ops : List Op) (turns : List ℕ) (name : Option (List ℕ)) (op : Op) (rd : Read) → slice_get w.clients n ≡ Some c → c.present ≡ Some a → command_at (client_plan r n) c ≡ Some (command.Run ops turns name)
-      → slice_get ops a.op ≡ Some op → question a.stage op ≡ Some rd → IsGroupWithin (read_path rd).obj (read_path rd).dkey r.script.targets a.group
+  pub grouped : (n place : ℕ) (ops : List Op) (turns : List ℕ) (name : Option (List ℕ)) (i : ℕ) (op : Op) → slice_get (client_plan r n).commands place ≡ Some (command.Run ops turns name) → slice_get ops i ≡ Some op → HasGroups (op_path op).obj r.script.targets
 
 -- ---- reads
+
+-- a group that is asked about is one of those
+within-groups : (o : Option ObjId) (dkey : Option (List ℕ)) (targets g : ℕ) → HasGroups o targets → (g ≡ 0) ⊎ (g < group_count o dkey targets) → IsGroupWithin o dkey targets g
+within-groups None dkey targets g some k = absurd some
+within-groups (Some o) (Some dkey) targets g some k = tt
+within-groups (Some o) None targets g some (inl zero-is) = subst (λ i. i < groups o.class targets) (sym zero-is) some
+within-groups (Some o) None targets g some (inr low) = low
 
 -- who is asked about such a group is among those whom a command asks about the path
 asked-among : (o : Option ObjId) (dkey : Option (List ℕ)) (command targets g : ℕ) → IsGroupWithin o dkey targets g → Has (member_asked o command targets (group_asked o dkey targets g)) (asked_of_object o dkey command targets)
@@ -96,15 +107,15 @@ member-is_target r x t i = by (command_of r.script x) i
     by (Some (command.Skip turns)) i = absurd i
 
 -- the leader of writes is one of their members
-leader-among : (r : Rules) (w : World) (x : AttemptId) (ws : List MinorWrite) → PlacesAreRight r w → writes_of r x ≡ ws → ws ≢ [] → Has (writes_leader ws r.script.targets) (writes_members ws r.script.targets)
+leader-among : (r : Rules) (x : AttemptId) (ws : List MinorWrite) → PlacesAreRight r → writes_of r x ≡ ws → ws ≢ [] → Has (writes_leader ws r.script.targets) (writes_members ws r.script.targets)
 unfolding writes_leader writes_members
-leader-among r w x [] places is some = absurd (some refl)
-leader-among r w x (m ∷ ws) places is some =
+leader-among r x [] places is some = absurd (some refl)
+leader-among r x (m ∷ ws) places is some =
     has-left (path_members (write_path m.write) r.script.targets) (writes_members ws r.script.targets) (path_leader (write_path m.write) r.script.targets)
     (has-from_contains (path_members (write_path m.write) r.script.targets) (path_leader (write_path m.write) r.script.targets) (places.led x m (contains-from_has (writes_of r x) m (subst (Has m) (sym is) (inl refl)))))
 
-leader-is_target : (r : Rules) (w : World) (x : AttemptId) → PlacesAreRight r w → writes_of r x ≢ [] → Contains (attempt_targets r.script x) (leader_of r x)
-leader-is_target r w x places some = contains-from_has (attempt_targets r.script x) (leader_of r x) (member-is_target r x (leader_of r x) (leader-among r w x (writes_of r x) places refl some))
+leader-is_target : (r : Rules) (x : AttemptId) → PlacesAreRight r → writes_of r x ≢ [] → Contains (attempt_targets r.script x) (leader_of r x)
+leader-is_target r x places some = contains-from_has (attempt_targets r.script x) (leader_of r x) (member-is_target r x (leader_of r x) (leader-among r x (writes_of r x) places refl some))
 
 -- and so is each other member
 other-is_target : (r : Rules) (x : AttemptId) (m : ℕ) → IsOther r x m → Contains (attempt_targets r.script x) m
@@ -155,7 +166,7 @@ unanswered-by r w k from l i is = by (slice_get w.clients n) refl
     by (Some c) e = waiting c e (waits c) refl (k.talks n c e)
 
 -- it is asked of a target of its attempt
-module _ (r : Rules) (w : World) (stand : ClientsStand r w) (places : PlacesAreRight r w) (n : ℕ) (c : ClientState) (here : slice_get w.clients n ≡ Some c) (a : Present) (at : c.present ≡ Some a) where
+module _ (r : Rules) (w : World) (stand : ClientsStand r w) (places : PlacesAreRight r) (within : ClientsAskWithin r w) (n : ℕ) (c : ClientState) (here : slice_get w.clients n ≡ Some c) (a : Present) (at : c.present ≡ Some a) where
   abbrev p : ClientPlan
   p = client_plan r n
 
@@ -165,11 +176,18 @@ module _ (r : Rules) (w : World) (stand : ClientsStand r w) (places : PlacesAreR
   first-target : (d : Command) → command_of r.script (attempt_id p c a) ≡ Some d → Has 0 (option_targets c.command r.script.targets (Some d)) → Targets 0
   first-target d is i = contains-from_has (attempt_targets r.script (attempt_id p c a)) 0 (subst (λ o. Has 0 (option_targets c.command r.script.targets o)) (sym is) i)
 
+  asked-within : (op : Op) → op_of (command_at p c) a.op ≡ Some op → InGroup p c a → (a.group ≡ 0) ⊎ (a.group < group_count (op_path op).obj (op_path op).dkey r.script.targets)
+  asked-within op found (inl first) = inl first
+  asked-within op found (inr low) = inr (low op found)
+
   asked-target : (k : Epoch) (q : Post) → Asked p k c a q → Targets q.to.number
   asked-target k q (ARead ops turns snapshot op rd command-at found asks says) =
       let path = read_path rd in
       let reads = question-asks a.stage op rd asks in
-      let group = asked-among path.obj path.dkey c.command r.script.targets a.group (places.within n c a ops turns snapshot op rd here at command-at found asks) in
+      let here-op : op_of (command_at p c) a.op ≡ Some op = ap (λ o. op_of o a.op) command-at ∙ found in
+      let own : IsGroupWithin (op_path op).obj (op_path op).dkey r.script.targets a.group =
+      within-groups (op_path op).obj (op_path op).dkey r.script.targets a.group (places.grouped n c.place ops turns snapshot a.op op command-at found) (asked-within op here-op (subst (IsWithin p c) at (within n c here))) in
+      let group = asked-among path.obj path.dkey c.command r.script.targets a.group (subst (λ z. IsGroupWithin z.obj z.dkey r.script.targets a.group) reads.1 own) in
       let asked : Has q.to.number (asked_targets c.command r.script.targets (op_path op)) =
       subst (λ z. Has q.to.number (asked_targets c.command r.script.targets z)) (sym reads.1) (subst (λ t. Has t (asked_targets c.command r.script.targets path)) (sym (ap (λ z. z.to.number) says)) group) in
       let s = stand n c here in
@@ -179,7 +197,7 @@ module _ (r : Rules) (w : World) (stand : ClientsStand r w) (places : PlacesAreR
   asked-target k q (ItsWrites ops turns snapshot m ws command-at last all says) =
       let f : CommitRequest = record { attempt = attempt_id p c a; ep = a.epoch; first = a.first; tracker = k; writes = m ∷ ws } in
       let g = commit-goes r w stand n c here a at k q f (ItsWrites ops turns snapshot m ws command-at last all says) (ap (λ z. z.message) says) in
-      subst Targets (sym (ap (λ z. z.number) g.to)) (leader-is_target r w (attempt_id p c a) places (λ none. g.some (g.writes ∙ none)))
+      subst Targets (sym (ap (λ z. z.number) g.to)) (leader-is_target r (attempt_id p c a) places (λ none. g.some (g.writes ∙ none)))
   asked-target k q (ASnapshot name cont command-at says) =
       subst Targets (sym (ap (λ z. z.to.number) says))
       (let s = stand n c here in first-target (command.Snap name cont) (command-is r n c a (command.Snap name cont) s.0 s.1 command-at refl) (has-range 0 r.script.targets 0 (omega arith) (let e = places.some in omega (arith, e))))
@@ -201,8 +219,8 @@ asked-request x (message.Snap y cont name tracker) asks own = ap (λ z. Some z) 
 asked-request x (message.Prune y cont (Some tracker) None) asks own = ap (λ z. Some z) (same-is y x own)
 asked-request x m asks own = let no : ⊥ = cc in absurd no
 
-pub asks-its_targets : (r : Rules) (h : History) (w : World) → Conversation r w → RequestsAreOfClients w → ClientsStand r w → Attempts r h w → PlacesAreRight r w → AsksItsTargets r w
-asks-its_targets r h w k from stand attempts places q x i own present = by q.message refl own
+pub asks-its_targets : (r : Rules) (h : History) (w : World) → Conversation r w → RequestsAreOfClients w → ClientsStand r w → ClientsAskWithin r w → Attempts r h w → PlacesAreRight r → AsksItsTargets r w
+asks-its_targets r h w k from stand within attempts places q x i own present = by q.message refl own
   where
     -- a client's
     of-client : is_request q.message ≡ true → is_asked_of x q.message ≡ true → Contains (attempt_targets r.script x) q.to.number
@@ -212,7 +230,7 @@ asks-its_targets r h w k from stand attempts places q x i own present = by q.mes
         let same : Some (attempt_id (client_plan r z.n) z.c z.a) ≡ Some x = sym about.of_attempt ∙ ap (λ l. request_of l.message) (sym z.is) ∙ asked-request x q.message asks its in
         let it : attempt_id (client_plan r z.n) z.c z.a ≡ x = cc in
         subst (λ y. Contains (attempt_targets r.script y) q.to.number) it
-        (subst (Contains (attempt_targets r.script (attempt_id (client_plan r z.n) z.c z.a))) (sym (ap (λ l. l.to.number) z.is)) (question-target r w stand places z.n z.c z.here z.a z.at z.q z.question))
+        (subst (Contains (attempt_targets r.script (attempt_id (client_plan r z.n) z.c z.a))) (sym (ap (λ l. l.to.number) z.is)) (question-target r w stand places within z.n z.c z.here z.a z.at z.q z.question))
 
     -- a leader's
     of-leader : (y : AttemptId) (m : ℕ) → y ≡ x → IsOther r y m → q.to ≡ target m → Contains (attempt_targets r.script x) q.to.number

@@ -1,7 +1,7 @@
 // What follows from the conversations of clients for other facts.
 #![tactic(auto)]
 
-ghost use Rattle.world_handing.specs.Laws.{ClientsCommit, CommitsAreRight, ConversationsFit, ConversationsHandOver, EpochsGoWithCommits, LeadersAreAsked, TargetsAreAsked};
+ghost use Rattle.world_handing.specs.Laws.{ClientsCommit, CommitsAreRight, ConversationsFit, ConversationsHandOver, EpochsGoWithCommits, EventsKeepGroups, LeadersAreAsked, TargetsAreAsked};
 
 /// Says what follows for other facts where each client that waits has one carrier of what it waits for,
 /// targets may stop, and requests come from clients. An attempt is handed over, and asked after, by its
@@ -10,9 +10,9 @@ ghost use Rattle.world_handing.specs.Laws.{ClientsCommit, CommitsAreRight, Conve
 /// writes to its leader, and who asks after one asks its leader; with the epochs that were issued, and where
 /// nothing became of what is handed over, Commits are right and new. And a client hears what goes with what
 /// it asked: a read's answer before it hands its attempt over, and that a request was lost for the request
-/// that it made. What is asked about an attempt, and is without an answer, is asked of one of its targets,
-/// where the leader of a write is one of its members, and a client that has something to ask is at one of
-/// the groups of its path.
+/// that it made. A client that has something to ask is at one of the groups of its path, whatever happens;
+/// so what is asked about an attempt, and is without an answer, is asked of one of its targets, where what is
+/// read or written has groups, and the leader of a write is one of its members.
 pub fn laws_of_handing()
     ensures over { ConversationsHandOver }
     ensures commits { ClientsCommit }
@@ -20,5 +20,6 @@ pub fn laws_of_handing()
     ensures right { CommitsAreRight }
     ensures epochs { EpochsGoWithCommits }
     ensures fits { ConversationsFit }
+    ensures groups { EventsKeepGroups }
     ensures targets { TargetsAreAsked }
 {}

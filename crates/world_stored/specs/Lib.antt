@@ -4,3 +4,6 @@ pub mod Stopping
 pub mod Over
 pub mod Targets
 pub mod Cutting
+pub mod Further
+pub mod Clients
+pub mod Happening

@@ -1,15 +1,16 @@
 -- What is stored once, in a run of many targets that may stop and open again: the facts, and what they stand on.
-use Rattle.std.specs.Prelude.{ℕ, Contains}
+use Rattle.std.specs.Prelude.{ℕ, ◌≡◌, Contains}
 use Rattle.base_types.specs.declared.id.AttemptId.{AttemptId}
 use Rattle.world_attempts.specs.Attempts.{IsBorn}
 use Rattle.world_attempts.specs.History.{History}
 use Rattle.world_base.specs.declared.letter.Letter.{Letter}
 use Rattle.world_base.specs.declared.world.World.{World}
 use Rattle.world_base.specs.Events.{Rules}
+use Rattle.world_base.specs.Letters.{client}
 use Rattle.world_fates.specs.Asked.{AskedRight}
 use Rattle.world_fates.specs.Facts.{Attempts}
 use Rattle.world_outcomes.specs.Outcomes.{IsHandedOver}
-use Rattle.world_outcomes.specs.Premises.{CommitsAreOfClients, HandsOver}
+use Rattle.world_outcomes.specs.Premises.{CommitsAreOfClients, HandsOver, LinesArePast}
 use Rattle.world_causes.specs.Causes.{EndsOf, Stored}
 use Rattle.world_causes.specs.Storing.{StoredOnce}
 use Rattle.world_causes.specs.StoreTurns.{IsCommitOf}
@@ -28,7 +29,7 @@ pub record IsUntold (w : World) (x : AttemptId) : Type 0 where
   pub lines : HasNoLine w.lines x
 
 -- What is known of the world before an event of a target, and of the one after it: the facts of attempts; that clients hand attempts over one
--- at a time, and what they hand over they wait for; and that while an attempt's Commit is in flight nobody is told of its end.
+-- at a time, and what they hand over they wait for; that they are past what lines tell of; and that who is told of an end is its client.
 pub record IsStoringKnown (r : Rules) (h later : History) (w v : World) : Type 0 where
   pub asked : AskedRight r h w
   pub attempts : Attempts r h w
@@ -37,4 +38,5 @@ pub record IsStoringKnown (r : Rules) (h later : History) (w v : World) : Type 0
   pub handed : (x : AttemptId) → IsBorn r h w x → IsHandedOver r w.clients x
   pub handed_then : (x : AttemptId) → IsBorn r later v x → IsHandedOver r v.clients x
   pub commits_then : CommitsAreOfClients v
-  pub untold : (l : Letter) (x : AttemptId) → Contains w.messages l → IsCommitOf l.message x → IsUntold w x
+  pub past : LinesArePast w
+  pub own : (l : Letter) (x : AttemptId) → Contains w.messages l → EndsOf l.message x → l.to ≡ client x.client

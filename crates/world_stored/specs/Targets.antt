@@ -30,7 +30,7 @@ use Rattle.world_base.specs.declared.target.TargetMemory.{TargetMemory}
 use Rattle.world_base.specs.declared.target.TargetState.{TargetState}
 use Rattle.world_base.specs.declared.world.World.{World}
 use Rattle.world_base.specs.Changes.{Kept}
-use Rattle.world_base.specs.Events.{Rules, TargetHearsRightly, TargetIdles, kept, target_after, target_plan, with_epoch}
+use Rattle.world_base.specs.Events.{Rules, TargetHearsRightly, TargetIdles, client_plan, kept, target_after, target_plan, with_epoch}
 use Rattle.world_base.specs.Events as events
 use Rattle.world_base.specs.Letters.{Takes, client, is_client, is_talk_of, is_tell, letter_of, letters_of, target}
 use Rattle.world_base.specs.MemoryLaws.{hears-follows, idles-follows}
@@ -38,14 +38,17 @@ use Rattle.world_base.specs.StepLaws.{set-here}
 use Rattle.world_fates.specs.Facts as fates
 use Rattle.world_fates.specs.Facts.{IsAckRight, IsSaidSo, is_between, is_try, prepares_in_vain, prepares_it, preparing}
 use Rattle.world_outcomes.specs.Outcomes.{IsHandedOver, commits}
-use Rattle.world_outcomes.specs.Premises.{hands}
+use Rattle.world_outcomes.specs.ClientLaws.{present-not-past}
+use Rattle.world_outcomes.specs.Premises.{IsWaitedFor, hands}
+use Rattle.world_epochs.specs.Epochs.{IsPast}
+use Rattle.world_causes.specs.ClientLaws.{ends-no_tell}
 use Rattle.world_talks.specs.Asked.{commit_of}
-use Rattle.world_talks.specs.TalkLaws.{left-is-among, none-among, taken-is-among}
+use Rattle.world_talks.specs.TalkLaws.{got-is-talk, left-is-among, left-or-it, none-among, taken-from, taken-is-among}
 use Rattle.world_causes.specs.Causes.{EndsOf, Stored, stored_by}
 use Rattle.world_causes.specs.Storing.{HasItsLine, IsAskedAt, IsPrepareOf, IsRefusedAt, IsTold, RefusesAt}
-use Rattle.world_causes.specs.StoringLaws.{DidSo, asked-for, asks-cases, cases, commit-is, entry-now, not-both, target-stores_once}
+use Rattle.world_causes.specs.StoringLaws.{DidSo, asked-for, asks-cases, cases, commit-is, commit-no_end, entry-now, not-both, target-stores_once}
 use Rattle.world_causes.specs.StoreTurns.{AsksFor, IsCommitOf, StoresAs, hears-stores, idles-stores, nothing_heard}
-use Rattle.world_stored.specs.Over.{IsStoringKnown, StoringOver}
+use Rattle.world_stored.specs.Over.{IsStoringKnown, IsUntold, StoringOver}
 
 some-none : {T : Type 0} (o : Option T) (x : T) → o ≡ Some x → o ≡ None → ⊥
 some-none o x h k = cc
@@ -104,9 +107,26 @@ module _ (r : Rules) (h later : History) (stored : Stored) (w v : World) (G : Is
       unborn (inl held) = some-none (entry_at w (leader_of r q.0.attempt) q.0.attempt) held.entry held.found new.unstored
       unborn (inr aborted) = new.unended aborted
 
+  -- nobody is told of its end
+  untold : (l : Letter) (x : AttemptId) → Contains w.messages l → IsCommitOf l.message x → IsUntold w x
+  untold l x i k = record {
+    letters = λ z j ends. elim (left-or-it w.messages l taken.0 z taken.1 j) [
+      | inl same ↦ commit-no_end z.message x x (subst (λ y. IsCommitOf y.message x) (sym same) k) ends
+      | inr there ↦ none-among x.client taken.0 z (G.hands.alone l taken.0 x taken.1 (hands-it x l.message k)) there (got-is-talk x.client z (ends-no_tell z.message x ends) (G.own z x j ends))
+    ];
+    lines = λ b j same. present-not-past (client_plan r x.client) waits.c waits.waits.a waits.waits.present
+        (subst (IsPast waits.c) (same ∙ sym waits.waits.own) (G.past b waits.c (contains-from_has (tries w.lines) b j) (subst (λ y. slice_get w.clients y.client ≡ Some waits.c) (sym same) waits.here)));
+  }
+    where
+      taken : (rest : List Letter) × Takes w.messages l rest
+      taken = taken-from w.messages l i
+
+      waits : IsWaitedFor r w.clients x
+      waits = G.hands.waits l x (has-from_contains w.messages l i) (hands-it x l.message k)
+
   -- it wasn't refused anywhere
   pub commit-unrefused : (l : Letter) (x : AttemptId) → Contains w.messages l → IsCommitOf l.message x → (u : ℕ) → IsRefusedAt w u x → ⊥
-  commit-unrefused l x i k u (HasItsLine b need free j same is) = (G.untold l x i k).lines b (has-from_contains (tries w.lines) b j) same
+  commit-unrefused l x i k u (HasItsLine b need free j same is) = (untold l x i k).lines b (has-from_contains (tries w.lines) b j) same
   commit-unrefused l x i k u (IsTold z j p) = told z.message refl p
     where
       told : (m : Message) → z.message ≡ m → RefusesAt m u x → ⊥
@@ -114,8 +134,8 @@ module _ (r : Rules) (h later : History) (stored : Stored) (w v : World) (G : Is
         where
           ack-born : IsAckRight r h w z.from z.to y inc (Some (outcome.NoSpace n need free)) → IsBorn r h w y
           ack-born a = a.born
-      told (message.Ended y e (outcome.NoSpace n need free)) is q = (G.untold l x i k).letters z j (subst (λ m. EndsOf m x) (sym is) q.0)
-      told (message.Fetched y op group e (reply.Outcome (outcome.NoSpace n need free))) is q = (G.untold l x i k).letters z j (subst (λ m. EndsOf m x) (sym is) q.0)
+      told (message.Ended y e (outcome.NoSpace n need free)) is q = (untold l x i k).letters z j (subst (λ m. EndsOf m x) (sym is) q.0)
+      told (message.Fetched y op group e (reply.Outcome (outcome.NoSpace n need free))) is q = (untold l x i k).letters z j (subst (λ m. EndsOf m x) (sym is) q.0)
       told m is q = absurd q
 
   -- no other Commit of it is in flight beside it

@@ -1,0 +1,5 @@
+// Tests of objects on trees, in memory.
+#![tactic(auto)]
+
+#[cfg(test)]
+mod update_tests;

@@ -1,0 +1,4 @@
+// The newest version that touches a cell, whatever the order in which versions are listed.
+#![tactic(auto)]
+
+pub mod laws;

@@ -1,0 +1,4 @@
+// Objects of a target on trees.
+#![tactic(auto)]
+
+pub mod object;

@@ -1,0 +1,177 @@
+// Objects in a tree: updates, punches and reads of values.
+ghost use Rattle.std.specs.Prelude.{◌≡◌, ◌≤◌, ◌<◌, ◌+◌, true, false, ℕ, IfOk, OnOk, IsErrOf, IsTrue};
+ghost use Rattle.base_types.specs.Operations.{read_path};
+ghost use Rattle.base_types.specs.Paths.{record_size};
+ghost use Rattle.daos_model.specs.Answers.{answer};
+ghost use Rattle.daos_model.specs.Blocks.{write_blocks};
+ghost use Rattle.daos_model.specs.Durables.{version_key};
+ghost use Rattle.daos_model.specs.Forms.{is_read_in_form, is_unit};
+ghost use Rattle.daos_model.specs.Ordered.{in_order};
+ghost use Rattle.daos_model.specs.Versions.{map_below};
+ghost use Rattle.pmem_tree_base.specs.Calls.{Goes};
+ghost use Rattle.pmem_tree_base.specs.declared.refusal.TreeNo.{TreeNo};
+ghost use Rattle.vos_levels.specs.Calls.{Becomes, HasThing, OfThing};
+ghost use Rattle.vos_levels.specs.Levels.{HasMore, hung_root};
+ghost use Rattle.vos_chain.specs.declared.refusal.PiecesNo.TheVariants.{Stopped as stopped_no};
+ghost use Rattle.vos_path.specs.Calls.{LacksFor, SpendsAtMost, for_pair};
+ghost use Rattle.vos_path.specs.Objects.{objects_owner, objects_versions};
+ghost use Rattle.vos_path.specs.Writes.{IsNewIn, NamesAreKeys, ObjectsAreSmall, below_object_pairs, data_blocks, is_update, object_pairs};
+ghost use Rattle.vos_reads.specs.Ways.{IsSettled};
+ghost use Rattle.vos_object.specs.Updates.{IsWritable, is_value_read, new_version};
+
+use base_types::answer::Answer;
+use base_types::epoch::Epoch;
+use base_types::id::AttemptId;
+use base_types::operation::{MinorWrite, Read};
+use pmem_pages::pages::Pages;
+use pmem_pages::steps::Steps;
+use pmem_tree::TreeNo;
+use pmem_tree::tree::Tree;
+use std::alloc::Global;
+use std::sync::ledger::Ledger;
+use vos_chain::refusal::PiecesNo;
+use vos_path::objects::write_objects;
+use vos_path::stamp::Stamp;
+use vos_reads::extent::fetch_extent;
+use vos_reads::single::fetch_single;
+use vos_values::keys::Moment;
+
+/// The objects of a target: a tree of the kind of objects.
+#[derive(Clone, Copy)]
+pub struct Objects {
+    pub tree: Tree,
+}
+
+impl Objects {
+    // A write comes to the versions.
+    fn write<P: Pages, L: Ledger>(
+        &mut self,
+        pages: &mut P,
+        epoch: Epoch,
+        by: AttemptId,
+        write: &MinorWrite,
+        steps: &mut Steps<L>,
+    ) -> Result<(), TreeNo>
+        requires kind { self.old.tree.kind ≡ 1 }
+        requires write { IsWritable write.now }
+        requires here { HasThing P.tells objects_owner hung_root (P.blocks pages.old) self.old.tree.root (IsNewIn (new_version epoch by write.now)) }
+        ensures added { OnOk result (OfThing P.tells objects_owner hung_root (P.blocks pages.old) self.old.tree.root (λ g. IsNewIn (new_version epoch by write.now) g → Becomes objects_owner hung_root objects_versions (P.blocks pages.old) g (P.blocks pages.new) self.new.tree.root (HasMore (new_version epoch by write.now)))) }
+        ensures kind { self.new.tree.kind ≡ 1 }
+        ensures no_block { IsErrOf result TreeNo.NoBlock → (P.budget pages.old).free < write_blocks write.now.write }
+        ensures too_much { IsErrOf result TreeNo.TooMuch → OfThing P.tells objects_owner hung_root (P.blocks pages.old) self.old.tree.root (λ g. IsNewIn (new_version epoch by write.now) g → (d : ℕ) → ObjectsAreSmall d g → LacksFor (data_blocks write.now.write) (below_object_pairs write.now.write (for_pair d)) d (P.budget pages.old)) }
+        ensures staged { OnOk result (OfThing P.tells objects_owner hung_root (P.blocks pages.old) self.old.tree.root (λ g. IsNewIn (new_version epoch by write.now) g → (d : ℕ) → ObjectsAreSmall d g → SpendsAtMost (data_blocks write.now.write) (object_pairs write.now.write (for_pair d)) (P.budget pages.old) (P.budget pages.new))) }
+        ensures free { OnOk result ((P.budget pages.old).free ≤ (P.budget pages.new).free + write_blocks write.now.write) }
+        ensures goes { Goes P.stopped P.count P.burns pages.old pages.new }
+        ensures stopped { IsErrOf result TreeNo.Stopped → P.stopped pages.new ≡ true }
+        ensures went_on { OnOk result (P.stopped pages.new ≡ P.stopped pages.old) }
+    {
+        let stamp = Stamp {
+            at: Moment {
+                epoch,
+                minor: write.minor,
+            },
+            by,
+        };
+        write_objects(&mut self.tree, pages, stamp, &write.write, steps)
+    }
+
+    /// Adds the version of an update, which isn't settled yet. Nothing of its epoch and number stands in its
+    /// object but creations, which give way.
+    ///
+    /// # Errors
+    ///
+    /// `NoBlock` comes only where fewer blocks are free than the write takes at most. `TooMuch` comes only
+    /// where fewer ranges or bytes are left to stage than its pairs, its bytes and one change of the largest
+    /// tree may want, and `Stopped` only where the pages answered it. After one the stage has to be dropped.
+    pub fn update<P: Pages, L: Ledger>(
+        &mut self,
+        pages: &mut P,
+        epoch: Epoch,
+        by: AttemptId,
+        write: &MinorWrite,
+        steps: &mut Steps<L>,
+    ) -> Result<(), TreeNo>
+        requires update { is_update write.now.write ≡ true }
+        requires kind { self.old.tree.kind ≡ 1 }
+        requires write { IsWritable write.now }
+        requires here { HasThing P.tells objects_owner hung_root (P.blocks pages.old) self.old.tree.root (IsNewIn (new_version epoch by write.now)) }
+        ensures added { OnOk result (OfThing P.tells objects_owner hung_root (P.blocks pages.old) self.old.tree.root (λ g. IsNewIn (new_version epoch by write.now) g → Becomes objects_owner hung_root objects_versions (P.blocks pages.old) g (P.blocks pages.new) self.new.tree.root (HasMore (new_version epoch by write.now)))) }
+        ensures kind { self.new.tree.kind ≡ 1 }
+        ensures no_block { IsErrOf result TreeNo.NoBlock → (P.budget pages.old).free < write_blocks write.now.write }
+        ensures too_much { IsErrOf result TreeNo.TooMuch → OfThing P.tells objects_owner hung_root (P.blocks pages.old) self.old.tree.root (λ g. IsNewIn (new_version epoch by write.now) g → (d : ℕ) → ObjectsAreSmall d g → LacksFor (data_blocks write.now.write) (below_object_pairs write.now.write (for_pair d)) d (P.budget pages.old)) }
+        ensures staged { OnOk result (OfThing P.tells objects_owner hung_root (P.blocks pages.old) self.old.tree.root (λ g. IsNewIn (new_version epoch by write.now) g → (d : ℕ) → ObjectsAreSmall d g → SpendsAtMost (data_blocks write.now.write) (object_pairs write.now.write (for_pair d)) (P.budget pages.old) (P.budget pages.new))) }
+        ensures free { OnOk result ((P.budget pages.old).free ≤ (P.budget pages.new).free + write_blocks write.now.write) }
+        ensures goes { Goes P.stopped P.count P.burns pages.old pages.new }
+        ensures stopped { IsErrOf result TreeNo.Stopped → P.stopped pages.new ≡ true }
+        ensures went_on { OnOk result (P.stopped pages.new ≡ P.stopped pages.old) }
+    {
+        self.write(pages, epoch, by, write, steps)
+    }
+
+    /// Adds the version of a punch, which isn't settled yet. Nothing of its epoch and number stands in its
+    /// object but creations, which give way.
+    ///
+    /// # Errors
+    ///
+    /// As `update`.
+    pub fn punch<P: Pages, L: Ledger>(
+        &mut self,
+        pages: &mut P,
+        epoch: Epoch,
+        by: AttemptId,
+        write: &MinorWrite,
+        steps: &mut Steps<L>,
+    ) -> Result<(), TreeNo>
+        requires punch { is_update write.now.write ≡ false }
+        requires kind { self.old.tree.kind ≡ 1 }
+        requires write { IsWritable write.now }
+        requires here { HasThing P.tells objects_owner hung_root (P.blocks pages.old) self.old.tree.root (IsNewIn (new_version epoch by write.now)) }
+        ensures added { OnOk result (OfThing P.tells objects_owner hung_root (P.blocks pages.old) self.old.tree.root (λ g. IsNewIn (new_version epoch by write.now) g → Becomes objects_owner hung_root objects_versions (P.blocks pages.old) g (P.blocks pages.new) self.new.tree.root (HasMore (new_version epoch by write.now)))) }
+        ensures kind { self.new.tree.kind ≡ 1 }
+        ensures no_block { IsErrOf result TreeNo.NoBlock → (P.budget pages.old).free < write_blocks write.now.write }
+        ensures too_much { IsErrOf result TreeNo.TooMuch → OfThing P.tells objects_owner hung_root (P.blocks pages.old) self.old.tree.root (λ g. IsNewIn (new_version epoch by write.now) g → (d : ℕ) → ObjectsAreSmall d g → LacksFor (data_blocks write.now.write) (below_object_pairs write.now.write (for_pair d)) d (P.budget pages.old)) }
+        ensures staged { OnOk result (OfThing P.tells objects_owner hung_root (P.blocks pages.old) self.old.tree.root (λ g. IsNewIn (new_version epoch by write.now) g → (d : ℕ) → ObjectsAreSmall d g → SpendsAtMost (data_blocks write.now.write) (object_pairs write.now.write (for_pair d)) (P.budget pages.old) (P.budget pages.new))) }
+        ensures free { OnOk result ((P.budget pages.old).free ≤ (P.budget pages.new).free + write_blocks write.now.write) }
+        ensures goes { Goes P.stopped P.count P.burns pages.old pages.new }
+        ensures stopped { IsErrOf result TreeNo.Stopped → P.stopped pages.new ≡ true }
+        ensures went_on { OnOk result (P.stopped pages.new ≡ P.stopped pages.old) }
+    {
+        self.write(pages, epoch, by, write, steps)
+    }
+
+    /// What a read of a single value or of an array is answered below an epoch, where every version below it
+    /// that overlaps the path is settled: what the map of the versions below is answered.
+    ///
+    /// # Errors
+    ///
+    /// `Stopped` comes only where the pages answered it.
+    pub fn fetch<P: Pages, L: Ledger>(
+        &self,
+        pages: &mut P,
+        alloc: Global,
+        read: &Read,
+        below: Epoch,
+        steps: &mut Steps<L>,
+    ) -> Result<Answer, PiecesNo>
+        requires kind { self.now.tree.kind ≡ 1 }
+        requires form { is_read_in_form read.now ≡ true }
+        requires value { is_value_read read.now ≡ true }
+        requires size { is_unit (record_size (read_path read.now)) ≡ true }
+        requires names { NamesAreKeys (read_path read.now) }
+        requires here { HasThing P.tells objects_owner hung_root (P.blocks pages.old) self.now.tree.root (IsSettled (read_path read.now) below) }
+        ensures found { IfOk result (λ a. OfThing P.tells objects_owner hung_root (P.blocks pages.old) self.now.tree.root (λ g. IsSettled (read_path read.now) below g → a ≡ answer read.now (map_below (in_order version_key (objects_versions g)) below.0))) }
+        ensures kept { IsTrue P.tells → P.blocks pages.new ≡ P.blocks pages.old }
+        ensures budget { P.budget pages.new ≡ P.budget pages.old }
+        ensures goes { Goes P.stopped P.count P.burns pages.old pages.new }
+        ensures stopped { IsErrOf result stopped_no → P.stopped pages.new ≡ true }
+        ensures went_on { OnOk result (P.stopped pages.new ≡ P.stopped pages.old) }
+    {
+        match read {
+            Read::Single(path) => fetch_single(self.tree, pages, alloc, path, below, steps),
+            Read::Extent(path, low, len) => {
+                fetch_extent(self.tree, pages, alloc, path, *low, *len, below, steps)
+            }
+            Read::Dkeys(_) | Read::Akeys(_) | Read::Exists(_) => Ok(Answer::Absent),
+        }
+    }
+}

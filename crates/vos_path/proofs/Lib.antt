@@ -1,0 +1,11 @@
+pub mod Lists
+pub mod Putting
+pub mod Noting
+pub mod Written
+pub mod Forming
+pub mod Naming
+pub mod Finding
+pub mod AkeyWrites
+pub mod BranchWrites
+pub mod DkeyWrites
+pub mod NewVersions

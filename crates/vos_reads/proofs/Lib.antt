@@ -1,0 +1,5 @@
+mod Rising
+mod Quiet
+mod Covered
+mod Going
+mod Arrays
