@@ -6,3 +6,4 @@ pub mod Unsnapped
 pub mod Standing
 pub mod Events
 pub mod Runs
+pub mod Containers

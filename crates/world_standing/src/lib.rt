@@ -1,6 +1,7 @@
 // All that holds between any two events of a run in which targets may stop, and nothing is made or read at snapshots, nor aggregated.
 #![tactic(auto)]
 
+ghost use Rattle.world_standing.specs.Containers.{EventsKeepContainers, RunsKnowContainers};
 ghost use Rattle.world_standing.specs.Requests.{WhatIsHeardIsRight};
 ghost use Rattle.world_standing.specs.Runs.{RunsBeginStanding, RunsHearRightly, RunsStand};
 ghost use Rattle.world_standing.specs.Standing.{EventsKeepStanding};
@@ -37,4 +38,12 @@ pub fn laws_of_standing()
     ensures begin { RunsBeginStanding }
     ensures runs { RunsStand }
     ensures hear { RunsHearRightly }
+{}
+
+/// Says that a target keeps its containers in each event, where nothing is heard of snapshots and aggregation:
+/// also where a turn of it is cut, it opens again, fails to, or is given up. So at each moment of such a run
+/// each target knows the containers that the script declares.
+pub fn laws_of_containers()
+    ensures events { EventsKeepContainers }
+    ensures runs { RunsKnowContainers }
 {}

@@ -51,7 +51,7 @@ RunsKnowNoneDown = (r : Rules) (o : Opening) (w v : World) (t : ℕ) (s : Target
 -- ---- proofs
 
 -- what is enlisted depends on the containers alone
-enlisted-same : (d e : Durable) (c : ContId) → e.conts ≡ d.conts → is_enlisted d c ≡ true → is_enlisted e c ≡ true
+pub enlisted-same : (d e : Durable) (c : ContId) → e.conts ≡ d.conts → is_enlisted d c ≡ true → is_enlisted e c ≡ true
 unfolding is_enlisted
 enlisted-same d e c same is = ap (list_any (is_row_of c)) same ∙ is
 
