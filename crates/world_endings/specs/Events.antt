@@ -52,7 +52,7 @@ sent-ends q did (AsksAgain t asked lost is posts) = subst PostsEnd (sym posts) o
 
 -- ---- events without stops
 
-hearing-keeps : (r : Rules) → KeptByHearing r Endings
+pub hearing-keeps : (r : Rules) → KeptByHearing r Endings
 hearing-keeps r w n c l rest here awake takes to k =
     sent-end (client n) rest (listed (heard (client_plan r n) c l.message).post) (λ m i. k m (left-is-among w.messages l rest m takes i)) (heard-ends (client_plan r n) c l.message)
 

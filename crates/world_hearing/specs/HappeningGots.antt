@@ -81,7 +81,7 @@ down-lines : (t : TargetPlan) (m : TargetMemory) (reading : ℕ) (q : CommitRequ
 down-lines t m reading q from s k left (IsSpent k2 e down z none known is) = ap (λ x. x.1.lines) is
 down-lines t m reading q from s k left (IsUnknown k2 e down z known is) = ap (λ x. x.1.lines) is
 
-further-lines : (number : ℕ) (t : TargetPlan) (opening : Epoch × FloorWhy) (m : TargetMemory) (reading : ℕ) (from : ActorId) (q : Message) (old new : Kept) (left : TargetMemory × Did) → is_of_attempts q ≡ true
+pub further-lines : (number : ℕ) (t : TargetPlan) (opening : Epoch × FloorWhy) (m : TargetMemory) (reading : ℕ) (from : ActorId) (q : Message) (old new : Kept) (left : TargetMemory × Did) → is_of_attempts q ≡ true
     → HearsFurther number t opening m reading from q old new left → left.1.lines ≡ []
 further-lines number t opening m reading from (message.Ask x) old new left ours h = (listens number t opening m reading from (message.Ask x) old new left refl h).lines
 further-lines number t opening m reading from (message.Status x inc) old new left ours h = (listens number t opening m reading from (message.Status x inc) old new left refl h).lines

@@ -126,7 +126,7 @@ reply-fit p c a ops op read (reply.Answer x) here at asks k = record { op = op; 
 reply-fit p c a ops op read (reply.Outcome how) here at asks k = k
 
 -- what a client gets is fit to what it asked
-got-fits : (p : ClientPlan) (k : Epoch) (c : ClientState) (a : Present) (q : Post) (m : Message) → Asked p k c a q → Answers q.message m → TellsEnd m → IsFit p c a m
+pub got-fits : (p : ClientPlan) (k : Epoch) (c : ClientState) (a : Present) (q : Post) (m : Message) → Asked p k c a q → Answers q.message m → TellsEnd m → IsFit p c a m
 got-fits p k c a q m (ARead ops turns snapshot op r at here asks says) answers ends =
     let o = subst (λ s. Answers s.message m) says answers in
     subst (IsFit p c a) (sym o.2) (reply-fit p c a ops op r o.1 (ap ops_or_none at) here asks (subst TellsEnd o.2 ends))

@@ -1,7 +1,7 @@
 -- What a target hears after stops keeps the facts of outcomes: an Ask, a Status or the answer to it, a Reset, and a Commit where a member is
 -- known to be down.
-use Rattle.std.specs.Prelude.{ℕ, ◌≡◌, ◌≢◌, ◌⊎◌, ◌==◌, ◌++◌, Bool, true, false, ◌||◌, List, [], ◌∷◌, find, map, filter, slice_get, Option, Some, None, is_some, refl, if◌then◌else◌}
-use Rattle.std.proofs.Common.{append-nil, sym, ◌∙◌, ap, subst, inl, inr}
+use Rattle.std.specs.Prelude.{ℕ, ◌≡◌, ◌≢◌, ◌==◌, ◌++◌, Bool, true, false, ◌||◌, List, [], ◌∷◌, filter, Option, Some, None, is_some, refl, if◌then◌else◌}
+use Rattle.std.proofs.Common.{sym, ◌∙◌, ap, subst, inl, inr}
 use Rattle.base_types.specs.declared.entry.Entry.{Entry}
 use Rattle.base_types.specs.declared.entry.EntryState.{EntryState}
 use Rattle.base_types.specs.declared.epoch.Epoch.{Epoch}
@@ -9,25 +9,21 @@ use Rattle.base_types.specs.declared.id.AttemptId.{AttemptId}
 use Rattle.std.proofs.Math.ListN.{set}
 use Rattle.base_types.specs.declared.operation.MinorWrite.{MinorWrite}
 use Rattle.base_types.specs.declared.outcome.FloorWhy.{FloorWhy}
-use Rattle.base_types.specs.declared.report.Line.{Line}
 use Rattle.base_types.specs.declared.outcome.Cause.TheVariants.{Unresolved}
 use Rattle.base_types.specs.declared.outcome.Outcome.{Outcome}
 use Rattle.base_types.specs.declared.outcome.Outcome.TheVariants as outcome
-use Rattle.base_types.specs.declared.report.Attempt.{Attempt}
-use Rattle.model_laws.specs.Members.{Has, has-cases, has-left}
+use Rattle.model_laws.specs.Members.{Has, has-cases, has-from_filter, has-left}
 use Rattle.base_messages.specs.declared.actor.ActorId.{ActorId}
 use Rattle.base_messages.specs.declared.message.Message.{Message, more_of-Message}
 use Rattle.base_messages.specs.declared.message.Message.TheVariants as message
 use Rattle.base_messages.specs.declared.message.Post.{Post}
-use Rattle.daos_model.specs.Attempts.{tries}
 use Rattle.daos_model.specs.Durables.{entry_of, same_attempt}
 use Rattle.daos_model.specs.EntryLaws.{same_attempt-itself}
-use Rattle.daos_model.specs.declared.durable.Durable.{Durable}
 use Rattle.dtx_base.specs.declared.leading.Undecided.{Undecided}
 use Rattle.dtx_base.specs.declared.member.Parked.{Parked}
 use Rattle.dtx_base.specs.Asking.{ask_heard, asked_of, asked_open, tells_end}
 use Rattle.dtx_base.specs.Joining as member
-use Rattle.dtx_base.specs.Leading.{LeaderOf, LeaderStep, down_told, ended, entry_led, first_down, mark_reset, prepare_reset, quietly, reset_of, status_asked, to_target, undecided_of}
+use Rattle.dtx_base.specs.Leading.{LeaderOf, down_told, ended, entry_led, first_down, mark_reset, prepare_reset, quietly, reset_of, status_asked, to_target, undecided_of}
 use Rattle.dtx_base.specs.Rows.{is_among}
 use Rattle.world_attempts.specs.Attempts.{IsBorn, IsHeld, IsUnsettled, entry_at, entry_in, is_known_at, is_known_in, leader_of}
 use Rattle.world_attempts.specs.Counting.{has-taken}
@@ -57,13 +53,14 @@ use Rattle.world_base.specs.TargetTurns.{commit_request}
 use Rattle.world_base.specs.Turns.{Reached, Whole}
 use Rattle.world_fates.specs.Facts.{Attempts, IsSaidSo, IsStateRight}
 use Rattle.world_fates.specs.Told.{silent_end}
+use Rattle.world_statuses.specs.Fates.{tells_fate, told_by_it}
 use Rattle.world_outcomes.specs.Concluding.{Concludes}
 use Rattle.world_outcomes.specs.Hearing.{AreToldOf, IsToldOf, SendsSo, entry-now, held-back, hearing-concludes}
 use Rattle.world_outcomes.specs.Outcomes.{IsEndTrue, Outcomes, commits, is_failed}
 use Rattle.world_outcomes.specs.Premises.{AsksGoRight, CommitsAreOfClients, hands}
 use Rattle.world_outcomes.specs.Rightly.{row-held, untried}
 use Rattle.world_outcomes.specs.Storing.{further-unstored}
-use Rattle.world_outcomes.specs.Telling.{IsOfEntry, IsOfRow, ack-tells, end_to, post_to, silent-tells, single}
+use Rattle.world_outcomes.specs.Telling.{ack-tells, end_to, post_to, silent-tells, single}
 use Rattle.world_verdicts.specs.Verdicts.{HasWrites}
 
 -- ---- what says nothing of ends
@@ -191,12 +188,6 @@ before-stored t opening m reading q x s k o u l (commit.Stores k2 e allowed spac
 
 -- ---- what is told
 
--- What becomes of attempts by what is heard after a stop: where a member tells what it holds, as by its Ack. Nothing becomes of any by what is
--- asked, or lost.
-abbrev pub further_told : TargetState → TargetState → List Post → Message → List Post
-further_told s z posts (message.StatusIs x inc how) = posts ++ silent_end x (status_refusal x how) (entry_of s.durable x) (is_among x s.memory.leader.decided) (is_among x z.memory.leader.decided) (is_some (entry_of z.durable x))
-further_told s z posts m = []
-
 -- a message that comes after stops, or a Commit with a member that is known to be down
 abbrev pub is_after_stop : Message → Bool
 is_after_stop (message.Commit x ep first tracker ws) = true
@@ -230,18 +221,18 @@ module _ (number : ℕ) (r : Rules) (h later : History) (w v : World) (k : Attem
 
   -- what such a turn comes to
   record Says (m : Message) : Type 0 where
-    whose : AreToldOf r w g.l.message (further_told g.s (target_after g.s g.new g.memory) g.did.posts m)
-    sent : SendsSo r later v g.did.posts (further_told g.s (target_after g.s g.new g.memory) g.did.posts m)
+    whose : AreToldOf r w g.l.message (told_by_it m g.s (target_after g.s g.new g.memory) g.did.posts)
+    sent : SendsSo r later v g.did.posts (told_by_it m g.s (target_after g.s g.new g.memory) g.did.posts)
     lines : g.did.lines ≡ []
 
-  silent : (m : Message) → further_told g.s (target_after g.s g.new g.memory) g.did.posts m ≡ [] → ((x : AttemptId) (own : Option Epoch) (how : Outcome) → HasWrites r x → Tells g.did.posts x own how → IsEndTrue r later v x own how) → g.did.lines ≡ [] → Says m
+  silent : (m : Message) → told_by_it m g.s (target_after g.s g.new g.memory) g.did.posts ≡ [] → ((x : AttemptId) (own : Option Epoch) (how : Outcome) → HasWrites r x → Tells g.did.posts x own how → IsEndTrue r later v x own how) → g.did.lines ≡ [] → Says m
   silent m none so lines = record {
     whose = λ x own how tells. absurd (subst (λ ps. Has (end_to tells.to x own how) ps) none tells.sent);
     sent = λ x own how some tells. inr (so x own how some tells);
     lines = lines;
   }
 
-  nothing : (m : Message) → further_told g.s (target_after g.s g.new g.memory) g.did.posts m ≡ [] → TellNothing g.did.posts → g.did.lines ≡ [] → Says m
+  nothing : (m : Message) → told_by_it m g.s (target_after g.s g.new g.memory) g.did.posts ≡ [] → TellNothing g.did.posts → g.did.lines ≡ [] → Says m
   nothing m none off lines = silent m none (λ x own how some tells. unknown-so r later v x own how (off x own how tells)) lines
 
   -- ---- an Ask
@@ -377,8 +368,22 @@ module _ (number : ℕ) (r : Rules) (h later : History) (w v : World) (k : Attem
           by (Some e) at = absurd (unborn (inl (held-back w v g.t g.s z g.here targets (leader_of r x) x stays (record { entry = e; found = at }))))
 
       by : (last : commit.CommitStage) → Reached (commit.CommitNext plan g.s.opening g.s.memory g.reading (commit_request x ep first tracker ws)) commit.Asked (kept g.s) last g.new → (did : Did) → CommitDown plan g.s.memory g.reading (commit_request x ep first tracker ws) g.l.from last g.new (g.memory, did) → did ≡ g.did → Says (message.Commit x ep first tracker ws)
-      by last reached did (IsSpent n e down left none known ends) same = silent (message.Commit x ep first tracker ws) refl (λ y own how some tells. spent y own how (subst (λ i. Tells i.posts y own how) (sym same ∙ ap (λ i. i.1) ends) tells)) (ap (λ i. i.lines) (sym same ∙ ap (λ i. i.1) ends))
+      by last reached did (IsSpent n e down left none known ends) same = record {
+        whose = λ y own how tells. whose y own how (posts tells.to y own how (has-from_filter tells_fate g.did.posts (end_to tells.to y own how) tells.sent).0);
+        sent = λ y own how some tells. inr (spent y own how (posts tells.to y own how tells.sent));
+        lines = ap (λ i. i.lines) (sym same ∙ ap (λ i. i.1) ends);
+      }
         where
+          posts : (to : ActorId) (y : AttemptId) (own : Option Epoch) (how : Outcome) → Has (end_to to y own how) g.did.posts → Tells (end_to g.l.from x None outcome.EpochsSpent ∷ []) y own how
+          posts to y own how i = record { to = to; sent = subst (λ j. Has (end_to to y own how) j.posts) (sym same ∙ ap (λ j. j.1) ends) i }
+
+          whose : (y : AttemptId) (own : Option Epoch) (how : Outcome) → Tells (end_to g.l.from x None outcome.EpochsSpent ∷ []) y own how → IsToldOf r w g.l.message y own how
+          whose y own how tells =
+              let said : message.Ended x None outcome.EpochsSpent ≡ message.Ended y own how = single g.l.from (message.Ended x None outcome.EpochsSpent) y own how tells in
+              let is-x : x ≡ y = cc in
+              let is-how : outcome.EpochsSpent ≡ how = cc in
+              record { whose = inr (ap (hands y) is ∙ ap (λ q. same_attempt q y) is-x ∙ same_attempt-itself y); dated = λ q2. let bad : outcome.EpochsSpent ≡ outcome.Committed = is-how ∙ q2 in let no : ⊥ = cc in absurd no }
+
           spent : (y : AttemptId) (own : Option Epoch) (how : Outcome) → Tells (end_to g.l.from x None outcome.EpochsSpent ∷ []) y own how → IsEndTrue r later v y own how
           spent y own how tells =
               let said : message.Ended x None outcome.EpochsSpent ≡ message.Ended y own how = single g.l.from (message.Ended x None outcome.EpochsSpent) y own how tells in
@@ -386,7 +391,7 @@ module _ (number : ℕ) (r : Rules) (h later : History) (w v : World) (k : Attem
               let is-how : outcome.EpochsSpent ≡ how = cc in
               record { committed = λ q2. let bad : outcome.EpochsSpent ≡ outcome.Committed = is-how ∙ q2 in let no : ⊥ = cc in absurd no; failed = λ q2. subst (λ y2. entry_at v (leader_of r y2) y2 ≡ None) is-x (gone commit.Asked reached refl) }
       by last reached did (IsUnknown n e down left known ends) same =
-          nothing (message.Commit x ep first tracker ws) refl (subst (λ i. TellNothing i.posts) (sym (sym same ∙ ap (λ i. i.1) ends)) (nothing-unknown g.l.from x (Some e) down)) (ap (λ i. i.lines) (sym same ∙ ap (λ i. i.1) ends))
+          nothing (message.Commit x ep first tracker ws) (ap (λ i. filter tells_fate i.posts) (sym same ∙ ap (λ i. i.1) ends)) (subst (λ i. TellNothing i.posts) (sym (sym same ∙ ap (λ i. i.1) ends)) (nothing-unknown g.l.from x (Some e) down)) (ap (λ i. i.lines) (sym same ∙ ap (λ i. i.1) ends))
 
   -- ---- all of them
 
@@ -400,9 +405,9 @@ module _ (number : ℕ) (r : Rules) (h later : History) (w v : World) (k : Attem
 
 -- such a message is heard
 pub after_stop-concludes : (number : ℕ) (r : Rules) (h later : History) (w v : World) → Attempts r h w → Attempts r later v → Outcomes r h w → AsksGoRight r w → CommitsAreOfClients v → (g : TargetHearsBy (HearsFurther number) r w v) → is_after_stop g.l.message ≡ true
-    → GrowsBy h (further_told g.s (target_after g.s g.new g.memory) g.did.posts g.l.message) later → Concludes r h later w v
+    → GrowsBy h (told_by_it g.l.message g.s (target_after g.s g.new g.memory) g.did.posts) later → Concludes r h later w v
 after_stop-concludes number r h later w v k k2 outcomes right of_clients g after grows =
-    hearing-concludes (HearsFurther number) r h later w v k k2 g (further_told g.s (target_after g.s g.new g.memory) g.did.posts g.l.message) grows of_clients
+    hearing-concludes (HearsFurther number) r h later w v k k2 g (told_by_it g.l.message g.s (target_after g.s g.new g.memory) g.did.posts) grows of_clients
     (λ x off none. further-unstored x (target_plan r g.t) g.s.opening g.s.memory g.reading g.l.from (kept g.s) none number g.l.message g.new (g.memory, g.did) off g.turn) says.whose says.sent (λ a i. untried g.did.lines a says.lines i)
   where
     says : Says number r h later w v k k2 outcomes right of_clients g grows.decided g.l.message

@@ -5,7 +5,6 @@ use Rattle.base_types.specs.declared.id.AttemptId.{AttemptId}
 use Rattle.base_types.specs.declared.outcome.Outcome.{Outcome}
 use Rattle.base_types.specs.declared.outcome.Outcome.TheVariants.{Committed}
 use Rattle.base_types.specs.declared.report.Attempt.{Attempt}
-use Rattle.base_messages.specs.declared.message.Post.{Post}
 use Rattle.daos_model.specs.Attempts.{is_unknown, tries}
 use Rattle.world_addresses.specs.Addresses.{AreAddressed}
 use Rattle.world_attempts.specs.History.{Decided, GrowsBy, History}
@@ -13,20 +12,19 @@ use Rattle.world_base.specs.declared.client.ClientState.{ClientState}
 use Rattle.world_base.specs.declared.letter.Letter.{Letter}
 use Rattle.world_base.specs.declared.world.World.{World}
 use Rattle.world_base.specs.ClientTurns.{heard, moved}
-use Rattle.world_base.specs.Events.{ByClient, ByTarget, RightEvent, Rules, ToClient, ToTarget, client_plan, target_after}
+use Rattle.world_base.specs.Events.{ByClient, ByTarget, RightEvent, Rules, ToClient, ToTarget, client_plan}
 use Rattle.world_base.specs.Letters.{Takes, client}
 use Rattle.world_base.specs.Steps.{KeptByCounting, after_move, without}
-use Rattle.world_base.specs.Stops.{Further, Happening, Plainly, swept}
+use Rattle.world_base.specs.Stops.{Happening, Plainly, swept}
 use Rattle.world_fates.specs.Facts.{Attempts}
 use Rattle.world_fates.specs.Keeping.{HasNoneYet}
 use Rattle.world_fates.specs.Told.{told_posts}
 use Rattle.world_lines.specs.Lines.{Endings, Lines}
-use Rattle.world_stops.specs.Happenings.{told_in}
 use Rattle.world_talks.specs.Conversation.{Conversation}
 use Rattle.world_verdicts.specs.Verdicts.{Agrees, HasWrites}
 use Rattle.world_outcomes.specs.Outcomes.{IsEndTrue, Outcomes, is_failed}
 use Rattle.world_outcomes.specs.Premises.{AsksGoRight, CommitsAreOfClients, HandsOver, HearsFitly, LinesArePast, MakersWriteNothing}
-use Rattle.world_outcomes.specs.AfterStops.{further_told}
+use Rattle.world_statuses.specs.Events.{told_by}
 
 -- they hold where nothing is in flight, told or kept
 abbrev pub OutcomesBegin : Type 0
@@ -71,15 +69,10 @@ IsOfTargetRightly (ByTarget g) = Unit {0}
 abbrev pub TargetsKeepOutcomes : Type 0
 TargetsKeepOutcomes = (r : Rules) (h later : History) (w v : World) → IsUsual r h later w v → Outcomes r h w → (e : RightEvent r w v) → IsOfTargetRightly e → GrowsBy h (told_posts e) later → Outcomes r later v
 
--- What is told in an event, or would be if clients waited and the target went on
-abbrev pub told_of : {r : Rules} {w v : World} → Happening r w v → List Post
-told_of (Further g) = further_told g.hears.s (target_after g.hears.s g.hears.new g.hears.memory) g.hears.did.posts g.hears.l.message
-told_of e = told_in e
-
 -- So does whatever becomes of a target: a further message is heard, a turn of it is cut, it opens again or fails to, it is given up, or
 -- numbers are drawn.
 abbrev pub HappeningsKeepOutcomes : Type 0
-HappeningsKeepOutcomes = (r : Rules) (h later : History) (w v : World) → IsUsual r h later w v → Outcomes r h w → (e : Happening r w v) → IsOfTarget e → GrowsBy h (told_of e) later → Outcomes r later v
+HappeningsKeepOutcomes = (r : Rules) (h later : History) (w v : World) → IsUsual r h later w v → Outcomes r h w → (e : Happening r w v) → IsOfTarget e → GrowsBy h (told_by e) later → Outcomes r later v
 
 -- and what goes to targets that are given up is lost
 abbrev pub SweepingKeepsOutcomes : Type 0

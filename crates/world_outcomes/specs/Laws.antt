@@ -1,37 +1,33 @@
 -- The facts of outcomes hold where a run begins, each event of a target keeps them, and what follows from them.
-use Rattle.std.specs.Prelude.{ℕ, ◌≡◌, ◌⊎◌, Bool, true, false, List, [], slice_get, Contains, Option, Some, None, find, refl}
-use Rattle.std.proofs.Common.{sym, ◌∙◌, ap, subst, inl, inr}
+use Rattle.std.specs.Prelude.{ℕ, ◌≡◌, ◌⊎◌, Bool, true, false, [], slice_get, Option, Some, None, find, refl}
+use Rattle.std.proofs.Common.{◌∙◌, ap, subst, inl, inr}
 use Rattle.base_types.specs.declared.entry.Entry.{Entry}
-use Rattle.base_types.specs.declared.epoch.Epoch.{Epoch}
 use Rattle.base_types.specs.declared.id.AttemptId.{AttemptId}
 use Rattle.base_types.specs.declared.outcome.Outcome.{Outcome}
 use Rattle.base_types.specs.declared.outcome.Outcome.TheVariants as outcome
-use Rattle.base_types.specs.declared.report.Attempt.{Attempt}
 use Rattle.model_laws.specs.Members.{Has, has-from_contains}
 use Rattle.base_messages.specs.declared.message.Message.{Message}
 use Rattle.base_messages.specs.declared.message.Message.TheVariants as message
 use Rattle.daos_model.specs.Attempts.{is_unknown, tries}
 use Rattle.daos_model.specs.Durables.{entry_of, is_entry_of}
-use Rattle.world_attempts.specs.Attempts.{IsBorn, IsHeld, entry_at, entry_in, leader_of}
+use Rattle.world_attempts.specs.Attempts.{IsBorn, entry_in, leader_of}
 use Rattle.world_attempts.specs.Counting.{has-taken}
-use Rattle.world_attempts.specs.History.{Decided, GrowsBy, History}
+use Rattle.world_attempts.specs.History.{GrowsBy, History}
 use Rattle.world_base.specs.declared.letter.Letter.{Letter}
 use Rattle.world_base.specs.declared.target.TargetState.{TargetState}
 use Rattle.world_base.specs.declared.world.World.{World}
-use Rattle.world_base.specs.Events.{ByClient, ByTarget, RightEvent, Rules, ToClient, ToTarget, kept, target_after, target_plan}
+use Rattle.world_base.specs.Events.{ByClient, ByTarget, Rules, ToClient, ToTarget, kept, target_after, target_plan}
 use Rattle.world_base.specs.Further.{HearsFurther}
-use Rattle.world_base.specs.Stops.{Draws, Fails, Further, GivenUp, Happening, HearsMore, IsCut, Opens, Plainly, swept}
-use Rattle.world_fates.specs.Facts.{Attempts}
-use Rattle.world_fates.specs.Keeping.{HasNoneYet}
+use Rattle.world_base.specs.Stops.{Draws, Fails, Further, GivenUp, HearsMore, IsCut, Opens, Plainly, swept}
 use Rattle.world_fates.specs.Rightly.{letters-tell}
-use Rattle.world_fates.specs.Told.{told_posts}
+use Rattle.world_statuses.specs.Events.{told_by}
+use Rattle.world_statuses.specs.Fates.{told_by_it}
 use Rattle.world_stops.specs.Happenings.{rightly, told_in}
-use Rattle.world_outcomes.specs.AfterStops.{after_stop-concludes, further_told, is_after_stop}
+use Rattle.world_outcomes.specs.AfterStops.{after_stop-concludes, is_after_stop}
 use Rattle.world_outcomes.specs.Making.{is_making_message, making-concludes}
 use Rattle.world_outcomes.specs.Concluding.{Concludes, concluding-keeps}
-use Rattle.world_outcomes.specs.Keeping.{DecidedAreTold, FailedAreUndecided, HappeningsKeepOutcomes, IsOfTarget, IsOfTargetRightly, IsUsual, OutcomesBegin, SweepingKeepsOutcomes, TargetsKeepOutcomes, ToldAreUndecided, told_of}
+use Rattle.world_outcomes.specs.Keeping.{DecidedAreTold, FailedAreUndecided, HappeningsKeepOutcomes, IsUsual, OutcomesBegin, SweepingKeepsOutcomes, TargetsKeepOutcomes, ToldAreUndecided}
 use Rattle.world_outcomes.specs.Outcomes.{Outcomes, is_failed}
-use Rattle.world_outcomes.specs.Premises.{HandsOver, LinesArePast}
 use Rattle.world_outcomes.specs.Rightly.{idling-concludes, rightly-concludes}
 use Rattle.world_outcomes.specs.Stopping.{cut-concludes, cut-told, drawing-concludes, failing-concludes, giving-up-concludes, opening-concludes, sweeping-concludes}
 
@@ -69,14 +65,14 @@ targets-keep r h later w v u k (ToTarget g) of_target grows = keeps r h later w 
 targets-keep r h later w v u k (ByTarget g) of_target grows = keeps r h later w v u k (idling-concludes r h later w v u.attempts u.attempts_then u.commits_then g grows)
 
 -- a message is heard after stops, or of snapshots and aggregation
-module _ (r : Rules) (h later : History) (w v : World) (u : IsUsual r h later w v) (k : Outcomes r h w) (g : HearsMore r w v) (grows : GrowsBy h (told_of (Further g)) later) where
+module _ (r : Rules) (h later : History) (w v : World) (u : IsUsual r h later w v) (k : Outcomes r h w) (g : HearsMore r w v) (grows : GrowsBy h (told_by (Further g)) later) where
   further-concludes : (m : Message) → g.hears.l.message ≡ m → HearsFurther g.number (target_plan r g.hears.t) g.hears.s.opening g.hears.s.memory g.hears.reading g.hears.l.from m (kept g.hears.s) g.hears.new (g.hears.memory, g.hears.did) → Concludes r h later w v
   further-concludes m is turn = by (is_after_stop m) refl (is_making_message m) refl
     where
       none : is_making_message m ≡ true → GrowsBy h [] later
-      none making = subst (λ ps. GrowsBy h ps later) (ap (further_told g.hears.s (target_after g.hears.s g.hears.new g.hears.memory) g.hears.did.posts) is ∙ unsaid m making) grows
+      none making = subst (λ ps. GrowsBy h ps later) (ap (λ n. told_by_it n g.hears.s (target_after g.hears.s g.hears.new g.hears.memory) g.hears.did.posts) is ∙ unsaid m making) grows
         where
-          unsaid : (n : Message) → is_making_message n ≡ true → further_told g.hears.s (target_after g.hears.s g.hears.new g.hears.memory) g.hears.did.posts n ≡ []
+          unsaid : (n : Message) → is_making_message n ≡ true → told_by_it n g.hears.s (target_after g.hears.s g.hears.new g.hears.memory) g.hears.did.posts ≡ []
           unsaid (message.Snap x cont name tracker) making = refl
           unsaid (message.Freeze x cont e) making = refl
           unsaid (message.Held x refusal) making = refl

@@ -31,7 +31,7 @@ EventsKeepAttempts =
     (r : Rules) (h later : History) (w v : World) → AskedRight r h w → SendersAreRight w → Attempts r h w → (e : WorldEvent r w v) → HappensWithoutSnapshots e.happens → GrowsBy h (told_by e.happens) later → Attempts r later v
 
 module _ (r : Rules) (h later : History) (w v : World) (right : AskedRight r h w) (senders : SendersAreRight w) (k : Attempts r h w) where
-  happens-keeps : (e : Happening r w v) → HappensWithoutSnapshots e → GrowsBy h (told_by e) later → Attempts r later v
+  pub happens-keeps : (e : Happening r w v) → HappensWithoutSnapshots e → GrowsBy h (told_by e) later → Attempts r later v
   happens-keeps (Further g) ours grows = further-keeps r h later w v right senders k g ours grows
   happens-keeps (IsCut g) ours grows = happening-keeps r h later w v right k (IsCut g) ours grows
   happens-keeps (Plainly e up) ours grows = happening-keeps r h later w v right k (Plainly e up) tt grows

@@ -49,8 +49,8 @@ use Rattle.world_base.specs.declared.target.TargetState.{TargetState}
 use Rattle.world_base.specs.declared.target.Life.TheVariants.{Running}
 use Rattle.world_base.specs.declared.world.World.{World}
 use Rattle.world_base.specs.ClientTurns.{attempt_id, command_at, group_asked, group_count, member_asked, question}
-use Rattle.world_whole.specs.Judged.{Judged}
-use Rattle.world_epochs.specs.Epochs.{AsksEpoch, BearsEpoch, BearsIssued, PlainEpochs, IsIssued, IsPast, Unsnapped, reads_snapshot}
+use Rattle.world_whole.specs.Judged.{Judged, lines-stand}
+use Rattle.world_epochs.specs.Epochs.{AsksEpoch, BearsEpoch, BearsIssued, ClientsStand, PlainEpochs, IsIssued, IsPast, Unsnapped, reads_snapshot}
 use Rattle.world_epochs.specs.TargetEvents.{issued-ticks}
 use Rattle.world_base.specs.Events.{Rules, client_plan, target_plan}
 use Rattle.world_base.specs.Letters.{Takes, target}
@@ -66,7 +66,7 @@ use Rattle.world_talks.specs.Asked.{ARead, ASnapshot, AnAggregation, Asked, Asks
 use Rattle.world_talks.specs.InFlight.{HearsRequest, hears-request, parked-is}
 use Rattle.world_base.specs.Requests.{fetch_message, request_epoch}
 use Rattle.world_base.specs.Reads.{fetch_at}
-use Rattle.world_verdicts.specs.TurnLaws.{attempt-ops-here, told-of}
+use Rattle.world_verdicts.specs.TurnLaws.{attempt-ops-here}
 use Rattle.world_epochs.specs.PlainScripts.{at-none}
 use Rattle.world_epochs.specs.PlainLaws.{plain-epochs}
 
@@ -141,6 +141,17 @@ pub record Facts (r : Rules) (o : Opening) (h : History) (w : World) : Type 0 wh
 pub plainly : (r : Rules) (o : Opening) (h : History) (w : World) → Facts r o h w → PlainEpochs r (top o) w
 plainly r o h w k = plain-epochs r k.unsnapped (top o) w k.judged.epochs
 
+-- What makes what clients ask right: the script is in form, and nothing is asked of snapshots; clients stand at their commands, and were
+-- told what was served.
+pub record ClientsAreRight (r : Rules) (h : History) (w : World) : Type 0 where
+  pub unsnapped : Unsnapped r
+  pub form : IsInForm r.script.targets r.script
+  pub stand : ClientsStand r w
+  pub gots : Gots r h w
+
+clients-right : (r : Rules) (o : Opening) (h : History) (w : World) → Facts r o h w → ClientsAreRight r h w
+clients-right r o h w k = record { unsnapped = k.unsnapped; form = k.form; stand = lines-stand r w k.judged.spoken.lines; gots = k.gots }
+
 -- ---- what is read
 
 -- the target that is asked
@@ -211,10 +222,10 @@ group-within obj path targets n is fits k = by path.dkey refl
 -- ---- a request and the attempt that it is of
 
 -- the operations of the attempt of a client that is at this command
-present-ops : (r : Rules) (o : Opening) (h : History) (w : World) (n : ℕ) (c : ClientState) (a : Present) (ops : List Op) (turns : List ℕ) (name : Option (List ℕ)) → Facts r o h w → slice_get w.clients n ≡ Some c
+present-ops : (r : Rules) (w : World) (n : ℕ) (c : ClientState) (a : Present) (ops : List Op) (turns : List ℕ) (name : Option (List ℕ)) → ClientsStand r w → slice_get w.clients n ≡ Some c
     → c.present ≡ Some a → command_at (client_plan r n) c ≡ Some (command.Run ops turns name) → attempt_ops r.script (attempt_id (client_plan r n) c a) ≡ ops
-present-ops r o h w n c a ops turns name k here present at =
-    let t = told-of r w n c k.judged.spoken.lines here in
+present-ops r w n c a ops turns name stand here present at =
+    let t = stand n c here in
     attempt-ops-here r n c a (command.Run ops turns name) t.0 present t.1 at
 
 -- the group that is asked is the first, or one of those of the read
@@ -239,8 +250,8 @@ pub record ReadIsAsked (r : Rules) (w : World) (t : ℕ) (f : FetchRequest) : Ty
   pub says : q.message ≡ fetch_message f
   pub to : q.to ≡ target t
 
-pub fetch-right : (r : Rules) (o : Opening) (h : History) (w : World) (t : ℕ) (f : FetchRequest) → Facts r o h w → ReadIsAsked r w t f → f.snapshot ≡ false → IsFetchRight r t f.attempt f.op f.group f.read f.snapshot
-fetch-right r o h w t f k i plain = record {
+pub fetch-right : (r : Rules) (h : History) (w : World) (t : ℕ) (f : FetchRequest) → ClientsAreRight r h w → ReadIsAsked r w t f → f.snapshot ≡ false → IsFetchRight r t f.attempt f.op f.group f.read f.snapshot
+fetch-right r h w t f k i plain = record {
   at = plain ∙ sym (at-none r f.attempt k.unsnapped);
   form = read-in-form r.script.objs f.read k.form.declared.obj_units in_form;
   asked = λ e b. record { op = asks.o; at = (f.op, refl, ops-at); stage = i.a.stage; asks = asks.asked; obj = obj.0; of_object = obj.1; member = member };
@@ -254,7 +265,7 @@ fetch-right r o h w t f k i plain = record {
     asks = asked-read (client_plan r i.n) i.k i.c i.a i.q f i.asked i.says
 
     ops-same : attempt_ops r.script f.attempt ≡ asks.ops
-    ops-same = ap (attempt_ops r.script) asks.attempt ∙ present-ops r o h w i.n i.c i.a asks.ops asks.turns asks.name k i.here i.present asks.at
+    ops-same = ap (attempt_ops r.script) asks.attempt ∙ present-ops r w i.n i.c i.a asks.ops asks.turns asks.name k.stand i.here i.present asks.at
 
     ops-at : slice_get (attempt_ops r.script f.attempt) f.op ≡ Some asks.o
     ops-at = ap (λ ops. slice_get ops f.op) ops-same ∙ ap (slice_get asks.ops) asks.op ∙ asks.here
@@ -328,7 +339,7 @@ commit-right r o h w t l rest f k i to it = record {
     asks = asked-commit (client_plan r i.n) i.k i.c i.a i.q f i.asked says
 
     its : f.writes ≡ minor_writes 0 (attempt_ops r.script f.attempt)
-    its = asks.writes ∙ ap (minor_writes 0) (sym (ap (attempt_ops r.script) asks.attempt ∙ present-ops r o h w i.n i.c i.a asks.ops asks.turns asks.name k i.here i.present asks.at))
+    its = asks.writes ∙ ap (minor_writes 0) (sym (ap (attempt_ops r.script) asks.attempt ∙ present-ops r w i.n i.c i.a asks.ops asks.turns asks.name (lines-stand r w k.judged.spoken.lines) i.here i.present asks.at))
 
 -- ---- every message to a running target
 
@@ -353,7 +364,7 @@ module _ (r : Rules) (o : Opening) (h : History) (w : World) (k : Facts r o h w)
 
       right : IsFetchRight r t x op group q snapshot
       right =
-          fetch-right r o h w t (record { attempt = x; op = op; group = group; ep = ep; first = first; tracker = tracker; read = q; snapshot = snapshot }) k
+          fetch-right r h w t (record { attempt = x; op = op; group = group; ep = ep; first = first; tracker = tracker; read = q; snapshot = snapshot }) (clients-right r o h w k)
           (record { n = i.n; c = i.c; a = i.a; here = i.here; present = i.present; k = i.k; q = i.q; asked = i.asked; says = sym (ap (λ z. z.message) i.it) ∙ it; to = sym (ap (λ z. z.to) i.it) ∙ to }) now
 
       plain : l.message ≡ message.Fetch x op group ep first tracker q false
@@ -396,7 +407,7 @@ module _ (r : Rules) (o : Opening) (h : History) (w : World) (k : Facts r o h w)
 -- ---- what waits at a target
 
 -- a Fetch that waits bears the epoch that was issued to its attempt, and reads at no snapshot
-parked-epoch : (r : Rules) (o : Opening) (w : World) (x : AttemptId) (op group : ℕ) (e : Epoch) (first : Option Epoch) (tracker : Epoch) (q : Read) (snapshot : Bool) → PlainEpochs r (top o) w
+pub parked-epoch : (r : Rules) (o : Opening) (w : World) (x : AttemptId) (op group : ℕ) (e : Epoch) (first : Option Epoch) (tracker : Epoch) (q : Read) (snapshot : Bool) → PlainEpochs r (top o) w
     → BearsIssued w.issued (message.Fetch x op group (Some e) first tracker q snapshot) → (snapshot ≡ false) × IsItsEpoch o w x (Some e) e
 parked-epoch r o w x op group e first tracker q true E b = absurd b.bears
 parked-epoch r o w x op group e first tracker q false E b = (refl, subst (λ z. IsItsEpoch o w z (Some e) e) (sym b.bears.0) (subst (λ z. IsItsEpoch o w b.x (Some z) z) (sym b.bears.1) (own-epoch r o w b.x b.e E b.known)))
@@ -410,7 +421,7 @@ parked-right r o h w t s p k here i = by p.ask refl (k.addressed.known t s here)
         let bears : BearsIssued w.issued (fetch_at z.f z.e) = subst (BearsIssued w.issued) z.it ((plainly r o h w k).parked t s p here (contains-from_has s.memory.member.parked p i)) in
         let e = parked-epoch r o w z.f.attempt z.f.op z.f.group z.e z.f.first z.f.tracker z.f.read z.f.snapshot (plainly r o h w k) bears in
         let asked = sent-is-asked (client_plan r z.n) z.k z.c z.a z.q z.present z.sent in
-        let right = fetch-right r o h w t z.f k (record { n = z.n; c = z.c; a = z.a; here = z.here; present = z.present; k = z.k; q = z.q; asked = asked; says = z.says; to = z.at }) e.0 in
+        let right = fetch-right r h w t z.f (clients-right r o h w k) (record { n = z.n; c = z.c; a = z.a; here = z.here; present = z.present; k = z.k; q = z.q; asked = asked; says = z.says; to = z.at }) e.0 in
         subst (IsParkedRight r o w t s.durable) (sym z.it) (record { right = right; epoch = z.e; has = refl; its = subst (λ b. IsReadEpoch r o w s.durable z.f.attempt (read_path z.f.read).cont (Some z.e) b z.e) (sym e.0) e.1 })
 
     by : (m : Message) → p.ask ≡ m → ((u : Parked) → Has u s.memory.member.parked → IsWaitingThere (crowd r.script) u) → IsParkedRight r o w t s.durable p.ask
@@ -420,7 +431,7 @@ parked-right r o h w t s p k here i = by p.ask refl (k.addressed.known t s here)
 -- ---- all of it
 
 -- a class fits the targets, for each write of an attempt
-writes-fit : (r : Rules) (x : AttemptId) (m : MinorWrite) → IsInForm r.script.targets r.script → Has m (minor_writes 0 (attempt_ops r.script x)) → FitsTargets r m.write
+pub writes-fit : (r : Rules) (x : AttemptId) (m : MinorWrite) → IsInForm r.script.targets r.script → Has m (minor_writes 0 (attempt_ops r.script x)) → FitsTargets r m.write
 writes-fit r x m form i =
     fit-object r.script.targets r.script.objs (write_path m.write) form.classes (write-declared r.script.objs m.write (writes-declared r.script.objs (attempt_ops r.script x) (ops-form r.script.targets r.script x form) m i))
 

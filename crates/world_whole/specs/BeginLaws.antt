@@ -146,17 +146,17 @@ module _ (r : Rules) (o : Opening) (w : World) (A : IsSimple r) (B : IsBegun r o
       let x = mapped (first_client r.script o) (slice_get r.script.clients n) c (sym (get-map (first_client r.script o) r.script.clients n) ∙ ap (λ cs. slice_get cs n) (sym B.clients) ∙ here) in
       (x.0, x.2)
 
-  idle : (n : ℕ) (c : ClientState) → slice_get w.clients n ≡ Some c → c.present ≡ None
+  pub idle : (n : ℕ) (c : ClientState) → slice_get w.clients n ≡ Some c → c.present ≡ None
   idle n c here = let x = client-is n c here in sym (ap (λ z. z.present) x.1)
 
   no-attempt : {T : Type 0} (n : ℕ) (c : ClientState) (a : Present) → slice_get w.clients n ≡ Some c → c.present ≡ Some a → T
   no-attempt n c a here at = let none : c.present ≡ None = idle n c here in let no : ⊥ = cc in absurd no
 
   -- each target is
-  leads-none : (t : ℕ) (s : TargetState) → slice_get w.targets t ≡ Some s → (s.memory.leader.undecided ≡ []) × (s.memory.leader.decided ≡ [])
+  pub leads-none : (t : ℕ) (s : TargetState) → slice_get w.targets t ≡ Some s → (s.memory.leader.undecided ≡ []) × (s.memory.leader.decided ≡ [])
   leads-none t s here = let k = (B.starts t s here).leader in (ap (λ m. m.undecided) k, ap (λ m. m.decided) k)
 
-  parks-none : (t : ℕ) (s : TargetState) → slice_get w.targets t ≡ Some s → s.memory.member.parked ≡ []
+  pub parks-none : (t : ℕ) (s : TargetState) → slice_get w.targets t ≡ Some s → s.memory.member.parked ≡ []
   parks-none t s here = ap (λ m. m.parked) (B.starts t s here).member
 
   lines-begin : Lines r w
