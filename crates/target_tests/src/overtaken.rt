@@ -4,6 +4,7 @@ ghost use Rattle.std.specs.Option.{ForSome};
 ghost use Rattle.target_tests.specs.Overtaken.{IsNew, akey, entry, fetch, mark, prepare, reader, second, verdict, writer};
 ghost use Rattle.target_tests.specs.Rows.{IsHere, IsNeverUsed};
 
+use crate::follows::Follows;
 use crate::steps::{StepNo, start_at};
 use base_messages::actor::ActorId;
 use base_messages::message::Message;
@@ -18,16 +19,17 @@ use base_types::path::Path;
 use std::alloc::Global;
 use target_core::target::Target;
 use vos_store::store::Store;
-use world_base::did::Did;
 
 /// What follows on the second of two targets, turn by turn: of a Mark that tells of an attempt that it is
-/// aborted, of the Prepare of that attempt, of a read where it writes, and of the Verdict on it.
-#[derive(Drop)]
+/// aborted, of the Prepare of that attempt, of a read where it writes, and of the Verdict on it; and the
+/// epoch that the read is issued, with its attempt.
+#[derive(Clone, Copy)]
 pub struct Overtaken {
-    pub marked: Did,
-    pub prepared: Did,
-    pub parked: Did,
-    pub resolved: Did,
+    pub marked: Follows,
+    pub prepared: Follows,
+    pub parked: Follows,
+    pub issued: Option<(AttemptId, Epoch)>,
+    pub resolved: Follows,
 }
 
 /// The attempt that writes, which the first target leads.
@@ -56,6 +58,8 @@ pub fn reader() -> AttemptId
 fn akey(alloc: Global) -> Result<Path, KeyNo>
     ensures { IfOk result (λ path. path ≡ akey) }
 {
+    let dkey = Key::new(alloc, b"d")?;
+    let akey = Key::new(alloc, b"a")?;
     Ok(Path {
         cont: ContId(1),
         obj: Some(ObjId {
@@ -63,8 +67,8 @@ fn akey(alloc: Global) -> Result<Path, KeyNo>
             number: 1,
             unit: 1,
         }),
-        dkey: Some(Key::new(alloc, b"d")?),
-        akey: Some(Key::new(alloc, b"a")?),
+        dkey: Some(dkey),
+        akey: Some(akey),
     })
 }
 
@@ -93,10 +97,12 @@ fn mark(alloc: Global) -> Result<Message, StepNo>
 fn prepare(alloc: Global) -> Result<Message, StepNo>
     ensures { IfOk result (λ message. message ≡ prepare) }
 {
+    let path = akey(alloc)?;
+    let value = bytes_of(alloc, b"1")?;
     let mut writes = Items::new(alloc);
     writes.push(MinorWrite {
         minor: 1,
-        write: Write::Single(akey(alloc)?, bytes_of(alloc, b"1")?),
+        write: Write::Single(path, value),
     })?;
     Ok(Message::Prepare {
         entry: entry(),
@@ -109,6 +115,7 @@ fn prepare(alloc: Global) -> Result<Message, StepNo>
 fn fetch(alloc: Global) -> Result<Message, StepNo>
     ensures { IfOk result (λ message. message ≡ fetch) }
 {
+    let path = akey(alloc)?;
     Ok(Message::Fetch {
         attempt: reader(),
         op: 0,
@@ -116,7 +123,7 @@ fn fetch(alloc: Global) -> Result<Message, StepNo>
         ep: None,
         first: None,
         tracker: Epoch(0),
-        read: Read::Single(akey(alloc)?),
+        read: Read::Single(path),
         snapshot: false,
     })
 }
@@ -145,7 +152,10 @@ pub const READER: ActorId = ActorId {
 };
 
 // The second target hears the Mark before anything else: nothing is written after it.
-fn hear_mark<S: Store, C: Clock>(alloc: Global, target: &mut Target<S, C>) -> Result<Did, StepNo>
+fn hear_mark<S: Store, C: Clock>(
+    alloc: Global,
+    target: &mut Target<S, C>,
+) -> Result<Follows, StepNo>
     requires plan { target.old.plan ≡ second }
     requires opened { target.old.opened ≡ true }
     requires runs { (S.state target.old.store).stopped ≡ false }
@@ -156,11 +166,14 @@ fn hear_mark<S: Store, C: Clock>(alloc: Global, target: &mut Target<S, C>) -> Re
     ensures new { OnOk result (ForSome (S.durable target.new.store) IsNew) }
 {
     let message = mark(alloc)?;
-    Ok(target.hear(LEADER, message, None)?)
+    Ok(Follows::of(&target.hear(LEADER, message, None)?))
 }
 
 // It hears the Prepare.
-fn hear_prepare<S: Store, C: Clock>(alloc: Global, target: &mut Target<S, C>) -> Result<Did, StepNo>
+fn hear_prepare<S: Store, C: Clock>(
+    alloc: Global,
+    target: &mut Target<S, C>,
+) -> Result<Follows, StepNo>
     requires plan { target.old.plan ≡ second }
     requires opened { target.old.opened ≡ true }
     requires runs { (S.state target.old.store).stopped ≡ false }
@@ -170,11 +183,17 @@ fn hear_prepare<S: Store, C: Clock>(alloc: Global, target: &mut Target<S, C>) ->
     ensures here { OnOk result (ForSome (S.durable target.new.store) IsHere) }
 {
     let message = prepare(alloc)?;
-    Ok(target.hear(LEADER, message, None)?)
+    Ok(Follows::of(&target.hear(LEADER, message, None)?))
 }
 
+// What follows on the read, and the epoch that it is issued, with its attempt.
+type Parked = (Follows, Option<(AttemptId, Epoch)>);
+
 // It hears the read.
-fn hear_fetch<S: Store, C: Clock>(alloc: Global, target: &mut Target<S, C>) -> Result<Did, StepNo>
+fn hear_fetch<S: Store, C: Clock>(
+    alloc: Global,
+    target: &mut Target<S, C>,
+) -> Result<Parked, StepNo>
     requires opened { target.old.opened ≡ true }
     requires runs { (S.state target.old.store).stopped ≡ false }
     requires here { ForSome (S.durable target.old.store) IsHere }
@@ -182,15 +201,41 @@ fn hear_fetch<S: Store, C: Clock>(alloc: Global, target: &mut Target<S, C>) -> R
     ensures runs { OnOk result ((S.state target.new.store).stopped ≡ false) }
 {
     let message = fetch(alloc)?;
-    Ok(target.hear(READER, message, None)?)
+    let did = target.hear(READER, message, None)?;
+    Ok((Follows::of(&did), did.issued))
 }
 
 // It hears the Verdict.
-fn hear_verdict<S: Store, C: Clock>(target: &mut Target<S, C>) -> Result<Did, StepNo>
+fn hear_verdict<S: Store, C: Clock>(target: &mut Target<S, C>) -> Result<Follows, StepNo>
     requires opened { target.old.opened ≡ true }
     requires runs { (S.state target.old.store).stopped ≡ false }
 {
-    Ok(target.hear(LEADER, verdict(), None)?)
+    Ok(Follows::of(&target.hear(LEADER, verdict(), None)?))
+}
+
+// All that follows.
+fn all(marked: Follows, prepared: Follows, parked: Parked, resolved: Follows) -> Overtaken {
+    Overtaken {
+        marked,
+        prepared,
+        parked: parked.0,
+        issued: parked.1,
+        resolved,
+    }
+}
+
+// All its turns.
+fn turns<S: Store, C: Clock>(alloc: Global, target: &mut Target<S, C>) -> Result<Overtaken, StepNo>
+    requires plan { target.old.plan ≡ second }
+    requires opened { target.old.opened ≡ true }
+    requires runs { (S.state target.old.store).stopped ≡ false }
+    requires new { ForSome (S.durable target.old.store) IsNew }
+{
+    let marked = hear_mark(alloc, target)?;
+    let prepared = hear_prepare(alloc, target)?;
+    let parked = hear_fetch(alloc, target)?;
+    let resolved = hear_verdict(target)?;
+    Ok(all(marked, prepared, parked, resolved))
 }
 
 /// The first target marks an attempt as aborted, and its Prepare comes after that; client 1 reads where
@@ -204,14 +249,5 @@ pub fn mark_before_prepare<S: Store + Drop, C: Clock + Drop>(
     requires new { IsNeverUsed (S.state store) (S.durable store) }
 {
     let mut target = start_at(alloc, 1, 2, store, clock)?;
-    let marked = hear_mark(alloc, &mut target)?;
-    let prepared = hear_prepare(alloc, &mut target)?;
-    let parked = hear_fetch(alloc, &mut target)?;
-    let resolved = hear_verdict(&mut target)?;
-    Ok(Overtaken {
-        marked,
-        prepared,
-        parked,
-        resolved,
-    })
+    turns(alloc, &mut target)
 }

@@ -5,6 +5,7 @@ ghost use Rattle.target_tests.specs.Overtaken.{IsNew};
 ghost use Rattle.target_tests.specs.Own.{IsOfBegun, first, led, request, shared};
 ghost use Rattle.target_tests.specs.Rows.{IsNeverUsed};
 
+use crate::follows::Follows;
 use crate::steps::{StepNo, start_at};
 use base_messages::actor::ActorId;
 use base_messages::message::Message;
@@ -19,19 +20,18 @@ use base_types::path::Path;
 use std::alloc::Global;
 use target_core::target::Target;
 use vos_store::store::Store;
-use world_base::did::Did;
 
 /// What follows on the first of two targets, turn by turn: of a Commit, which it leads; of an Ack from no
 /// target; of a message that tells what became of this attempt; of the Ack of the other member; of a
 /// question what became of it; and of idle work.
-#[derive(Drop)]
+#[derive(Clone, Copy)]
 pub struct Told {
-    pub begun: Did,
-    pub unknown: Did,
-    pub told: Did,
-    pub answered: Did,
-    pub asked: Did,
-    pub idle: Did,
+    pub begun: Follows,
+    pub unknown: Follows,
+    pub told: Follows,
+    pub answered: Follows,
+    pub asked: Follows,
+    pub idle: Follows,
 }
 
 /// The attempt that it leads.
@@ -49,6 +49,8 @@ pub fn led() -> AttemptId
 fn shared(alloc: Global) -> Result<Path, KeyNo>
     ensures { IfOk result (λ path. path ≡ shared) }
 {
+    let dkey = Key::new(alloc, b"d")?;
+    let akey = Key::new(alloc, b"a")?;
     Ok(Path {
         cont: ContId(1),
         obj: Some(ObjId {
@@ -56,18 +58,20 @@ fn shared(alloc: Global) -> Result<Path, KeyNo>
             number: 0,
             unit: 1,
         }),
-        dkey: Some(Key::new(alloc, b"d")?),
-        akey: Some(Key::new(alloc, b"a")?),
+        dkey: Some(dkey),
+        akey: Some(akey),
     })
 }
 
 fn request(alloc: Global) -> Result<Message, StepNo>
     ensures { IfOk result (λ message. message ≡ request) }
 {
+    let path = shared(alloc)?;
+    let value = bytes_of(alloc, b"1")?;
     let mut writes = Items::new(alloc);
     writes.push(MinorWrite {
         minor: 0,
-        write: Write::Single(shared(alloc)?, bytes_of(alloc, b"1")?),
+        write: Write::Single(path, value),
     })?;
     Ok(Message::Commit {
         attempt: led(),
@@ -146,7 +150,10 @@ pub const STRANGER: ActorId = ActorId {
 };
 
 // The first target hears the Commit before anything else.
-fn hear_request<S: Store, C: Clock>(alloc: Global, target: &mut Target<S, C>) -> Result<Did, StepNo>
+fn hear_request<S: Store, C: Clock>(
+    alloc: Global,
+    target: &mut Target<S, C>,
+) -> Result<Follows, StepNo>
     requires plan { target.old.plan ≡ first }
     requires opened { target.old.opened ≡ true }
     requires runs { (S.state target.old.store).stopped ≡ false }
@@ -155,7 +162,7 @@ fn hear_request<S: Store, C: Clock>(alloc: Global, target: &mut Target<S, C>) ->
     ensures runs { OnOk result ((S.state target.new.store).stopped ≡ false) }
 {
     let message = request(alloc)?;
-    Ok(target.hear(CLIENT, message, None)?)
+    Ok(Follows::of(&target.hear(CLIENT, message, None)?))
 }
 
 // It hears what is told or asked of attempts that were begun, whatever it keeps.
@@ -163,22 +170,86 @@ fn hear_told<S: Store, C: Clock>(
     target: &mut Target<S, C>,
     from: ActorId,
     message: Message,
-) -> Result<Did, StepNo>
+) -> Result<Follows, StepNo>
     requires opened { target.old.opened ≡ true }
     requires runs { (S.state target.old.store).stopped ≡ false }
     requires told { IsOfBegun message }
     ensures opened { OnOk result (target.new.opened ≡ true) }
     ensures runs { OnOk result ((S.state target.new.store).stopped ≡ false) }
 {
-    Ok(target.hear(from, message, None)?)
+    Ok(Follows::of(&target.hear(from, message, None)?))
 }
 
 // It does its idle work, before the settling phase.
-fn idle<S: Store, C: Clock>(target: &mut Target<S, C>) -> Result<Did, StepNo>
+fn idle<S: Store, C: Clock>(target: &mut Target<S, C>) -> Result<Follows, StepNo>
     requires opened { target.old.opened ≡ true }
     requires runs { (S.state target.old.store).stopped ≡ false }
 {
-    Ok(target.idle(false)?)
+    Ok(Follows::of(&target.idle(false)?))
+}
+
+// It begins the attempt, and is answered Ok by an actor that is no target.
+fn begin<S: Store, C: Clock>(
+    alloc: Global,
+    target: &mut Target<S, C>,
+) -> Result<(Follows, Follows), StepNo>
+    requires plan { target.old.plan ≡ first }
+    requires opened { target.old.opened ≡ true }
+    requires runs { (S.state target.old.store).stopped ≡ false }
+    requires new { ForSome (S.durable target.old.store) IsNew }
+    ensures opened { OnOk result (target.new.opened ≡ true) }
+    ensures runs { OnOk result ((S.state target.new.store).stopped ≡ false) }
+{
+    let begun = hear_request(alloc, target)?;
+    let unknown = hear_told(target, STRANGER, ack())?;
+    Ok((begun, unknown))
+}
+
+// The other member tells what became of it, answers Ok, and asks.
+fn be_told<S: Store, C: Clock>(
+    alloc: Global,
+    target: &mut Target<S, C>,
+    committed: bool,
+) -> Result<(Follows, Follows, Follows), StepNo>
+    requires opened { target.old.opened ≡ true }
+    requires runs { (S.state target.old.store).stopped ≡ false }
+    ensures opened { OnOk result (target.new.opened ≡ true) }
+    ensures runs { OnOk result ((S.state target.new.store).stopped ≡ false) }
+{
+    let ending = ending(alloc, committed)?;
+    let told = hear_told(target, MEMBER, ending)?;
+    let answered = hear_told(target, MEMBER, ack())?;
+    let asked = hear_told(target, MEMBER, query())?;
+    Ok((told, answered, asked))
+}
+
+// What follows on all its turns.
+fn all(begun: (Follows, Follows), told: (Follows, Follows, Follows), idle: Follows) -> Told {
+    Told {
+        begun: begun.0,
+        unknown: begun.1,
+        told: told.0,
+        answered: told.1,
+        asked: told.2,
+        idle,
+    }
+}
+
+// All its turns.
+fn turns<S: Store, C: Clock>(
+    alloc: Global,
+    target: &mut Target<S, C>,
+    committed: bool,
+) -> Result<Told, StepNo>
+    requires plan { target.old.plan ≡ first }
+    requires opened { target.old.opened ≡ true }
+    requires runs { (S.state target.old.store).stopped ≡ false }
+    requires new { ForSome (S.durable target.old.store) IsNew }
+{
+    let begun = begin(alloc, target)?;
+    let told = be_told(alloc, target, committed)?;
+    let idle = idle(target)?;
+    Ok(all(begun, told, idle))
 }
 
 /// The first target begins an attempt, and is answered Ok by an actor that is no target. Then the other
@@ -194,18 +265,5 @@ pub fn told_of_own<S: Store + Drop, C: Clock + Drop>(
     requires new { IsNeverUsed (S.state store) (S.durable store) }
 {
     let mut target = start_at(alloc, 0, 2, store, clock)?;
-    let begun = hear_request(alloc, &mut target)?;
-    let unknown = hear_told(&mut target, STRANGER, ack())?;
-    let told = hear_told(&mut target, MEMBER, ending(alloc, committed)?)?;
-    let answered = hear_told(&mut target, MEMBER, ack())?;
-    let asked = hear_told(&mut target, MEMBER, query())?;
-    let idle = idle(&mut target)?;
-    Ok(Told {
-        begun,
-        unknown,
-        told,
-        answered,
-        asked,
-        idle,
-    })
+    turns(alloc, &mut target, committed)
 }

@@ -1,132 +1,96 @@
 // What follows from the turns.
-use crate::overtaken::{LEADER, READER, mark_before_prepare, reader, writer};
-use crate::own::{MEMBER, led, told_of_own};
-use base_messages::actor::ActorId;
-use base_messages::message::{Message, Reply};
+use crate::follows::{Follows, Said};
+use crate::overtaken::{LEADER, Overtaken, READER, mark_before_prepare, reader, writer};
+use crate::own::{MEMBER, Told, led, told_of_own};
 use base_outside::count_clock::CountClock;
-use base_types::answer::Answer;
 use base_types::entry::Verdict;
 use base_types::epoch::Epoch;
+use std::alloc::Global;
 use std::test::Fail;
 use vos_plain::store::PlainStore;
-use world_base::did::Did;
+
+fn overtaken(alloc: Global) -> Result<Overtaken, Fail> {
+    let store = PlainStore::new(alloc, 4, &[])?;
+    Ok(mark_before_prepare(alloc, store, CountClock::new())?)
+}
 
 #[test]
 fn a_mark_overtakes_its_prepare(rt: HostRuntime) -> Result<(), Fail> {
-    let alloc = rt.alloc();
-    let store = PlainStore::new(alloc, 4, &[])?;
-    let row = mark_before_prepare(alloc, store, CountClock::new())?;
-    match row.marked.posts.as_slice() {
-        [post] => match &post.message {
-            Message::Marked { inc, attempts } => {
-                assert_eq!(rt; (post.to, *inc), (LEADER, 1));
-                assert_eq!(rt; attempts.as_slice(), [writer()].as_slice());
-            }
-            _ => assert!(rt; false, "the Mark isn't answered by a Marked"),
-        },
-        _ => assert!(rt; false, "the Mark isn't answered by one message"),
-    }
-    match row.prepared.posts.as_slice() {
-        [post] => match &post.message {
-            Message::Ack {
-                attempt,
-                inc,
-                refusal: None,
-            } => assert_eq!(rt; (post.to, *attempt, *inc), (LEADER, writer(), 1)),
-            _ => assert!(rt; false, "the Prepare isn't answered by Ok"),
-        },
-        _ => assert!(rt; false, "the Prepare isn't answered by one message"),
-    }
-    assert_eq!(rt; row.parked.issued, Some((reader(), Epoch(513))));
-    match row.parked.posts.as_slice() {
-        [post] => match &post.message {
-            Message::Query { attempt, ask } => {
-                assert_eq!(rt;
-                    (post.to, *attempt, *ask),
-                    (LEADER, writer(), Some(reader()))
-                );
-            }
-            _ => assert!(rt; false, "the leader isn't asked"),
-        },
-        _ => assert!(rt; false, "the read isn't followed by one message"),
-    }
-    match row.resolved.posts.as_slice() {
-        [post] => match &post.message {
-            Message::Fetched {
-                attempt,
-                epoch: Some(epoch),
-                reply: Reply::Answer(Answer::Absent),
-                ..
-            } => assert_eq!(rt; (post.to, *attempt, *epoch), (READER, reader(), Epoch(513))),
-            _ => assert!(rt; false, "the read isn't answered"),
-        },
-        _ => assert!(rt; false, "the Verdict isn't followed by one message"),
-    }
+    let row = overtaken(rt.alloc())?;
+    let (attempt, inc) = (writer(), 1);
+    let marked = Said::Marked { attempt, inc };
+    assert_eq!(rt; row.marked, Follows::One(LEADER, marked));
+    let ack = Said::Ack { attempt, inc };
+    assert_eq!(rt; row.prepared, Follows::One(LEADER, ack));
     Ok(())
 }
 
-// What follows is one message to this actor.
-fn only_post<'a>(did: &'a Did, to: ActorId) -> Option<&'a Message> {
-    match did.posts.as_slice() {
-        [post] if post.to == to => Some(&post.message),
-        _ => None,
-    }
+#[test]
+fn a_read_after_it_waits_for_a_verdict(rt: HostRuntime) -> Result<(), Fail> {
+    let row = overtaken(rt.alloc())?;
+    assert_eq!(rt; row.issued, Some((reader(), Epoch(513))));
+    let query = Said::Query {
+        attempt: writer(),
+        ask: Some(reader()),
+    };
+    assert_eq!(rt; row.parked, Follows::One(LEADER, query));
+    let absent = Said::Absent {
+        attempt: reader(),
+        epoch: Epoch(513),
+    };
+    assert_eq!(rt; row.resolved, Follows::One(READER, absent));
+    Ok(())
 }
 
-// What the other member is told became of the attempt that the first target leads, which is all that follows.
-fn verdict_of(did: &Did) -> Option<Verdict> {
-    match only_post(did, MEMBER) {
-        Some(
-            Message::Verdict {
-                attempt,
-                verdict,
-                ..
-            },
-        ) if *attempt == led() => Some(*verdict),
-        _ => None,
-    }
+fn told(alloc: Global, committed: bool) -> Result<Told, Fail> {
+    let store = PlainStore::new(alloc, 4, &[])?;
+    Ok(told_of_own(alloc, store, CountClock::new(), committed)?)
+}
+
+#[test]
+fn a_leader_asks_the_other_member_to_prepare(rt: HostRuntime) -> Result<(), Fail> {
+    let row = told(rt.alloc(), true)?;
+    let prepare = Said::Prepare {
+        attempt: led(),
+        epoch: Epoch(256),
+        leader: 0,
+        members: 3,
+        inc: 1,
+    };
+    assert_eq!(rt; row.begun, Follows::One(MEMBER, prepare));
+    assert_eq!(rt; row.unknown, Follows::Nothing);
+    Ok(())
+}
+
+// What the other member is told when it asks what became of the attempt.
+fn verdict(verdict: Verdict) -> Follows {
+    let attempt = led();
+    Follows::One(MEMBER, Said::Verdict { attempt, verdict })
 }
 
 #[test]
 fn a_leader_settles_what_a_mark_tells_it_of_its_own(rt: HostRuntime) -> Result<(), Fail> {
-    let alloc = rt.alloc();
-    let store = PlainStore::new(alloc, 4, &[])?;
-    let row = told_of_own(alloc, store, CountClock::new(), true)?;
-    match only_post(&row.begun, MEMBER) {
-        Some(Message::Prepare { entry, inc, .. }) => {
-            assert_eq!(rt; (entry.attempt, entry.epoch), (led(), Epoch(256)));
-            assert_eq!(rt; (entry.leader, entry.members, *inc), (0, 3, 1));
-        }
-        _ => assert!(rt; false, "the other member isn't asked to prepare"),
-    }
-    assert!(rt; row.unknown.posts.as_slice().is_empty());
-    match only_post(&row.told, MEMBER) {
-        Some(Message::Marked { inc, attempts }) => {
-            assert_eq!(rt; *inc, 1);
-            assert_eq!(rt; attempts.as_slice(), [led()].as_slice());
-        }
-        _ => assert!(rt; false, "the Mark isn't answered by a Marked"),
-    }
-    assert!(rt; row.answered.posts.as_slice().is_empty());
-    assert_eq!(rt; verdict_of(&row.asked), Some(Verdict::Committed));
-    match only_post(&row.idle, MEMBER) {
-        Some(Message::Mark { inc, marks }) => {
-            assert_eq!(rt; *inc, 1);
-            assert_eq!(rt; marks.as_slice(), [(led(), true)].as_slice());
-        }
-        _ => assert!(rt; false, "the other member isn't told that it is committed"),
-    }
+    let row = told(rt.alloc(), true)?;
+    let (attempt, committed, inc) = (led(), true, 1);
+    let marked = Said::Marked { attempt, inc };
+    assert_eq!(rt; row.told, Follows::One(MEMBER, marked));
+    assert_eq!(rt; row.answered, Follows::Nothing);
+    assert_eq!(rt; row.asked, verdict(Verdict::Committed));
+    let mark = Said::Mark {
+        attempt,
+        committed,
+        inc,
+    };
+    assert_eq!(rt; row.idle, Follows::One(MEMBER, mark));
     Ok(())
 }
 
 #[test]
 fn a_leader_settles_what_a_verdict_tells_it_of_its_own(rt: HostRuntime) -> Result<(), Fail> {
-    let alloc = rt.alloc();
-    let store = PlainStore::new(alloc, 4, &[])?;
-    let row = told_of_own(alloc, store, CountClock::new(), false)?;
-    assert!(rt; row.told.posts.as_slice().is_empty());
-    assert!(rt; row.answered.posts.as_slice().is_empty());
-    assert_eq!(rt; verdict_of(&row.asked), Some(Verdict::Aborted));
-    assert!(rt; row.idle.posts.as_slice().is_empty());
+    let row = told(rt.alloc(), false)?;
+    assert_eq!(rt; row.told, Follows::Nothing);
+    assert_eq!(rt; row.answered, Follows::Nothing);
+    assert_eq!(rt; row.asked, verdict(Verdict::Aborted));
+    assert_eq!(rt; row.idle, Follows::Nothing);
     Ok(())
 }

@@ -18,7 +18,7 @@ pub losses-begin : LossesBegin
 unfolding entry_of
 losses-begin r h w none lines = record {
   letters = λ l x i is at. absurd (subst (Has l) none.none.messages i);
-  asked = λ l x i is at. absurd (subst (Has l) none.asked i);
+  asked = λ l x i is asks at. absurd (subst (Has l) none.asked i);
   resting = λ x rests at. absurd (unkept x rests);
   lines = λ before a after same. absurd (untold before a after (sym lines ∙ same));
 }

@@ -86,7 +86,7 @@ module _ (Turn : Hearing) (r : Rules) (w v : World) (k : Losses r w) (g : Target
       | inl before ↦ inl (has-left_over w.messages g.l g.rest l g.takes before)
       | inr new ↦ inr (sent l x new is at)
     ];
-    asked = λ l x i is at. elim (asked-was w.asked (letters_of (target g.t) g.did.posts) l (subst (Has l) (ap (λ u. u.asked) g.after) i)) [ inl before ↦ inl before | inr new ↦ inr (sent l x new.0 is at) ];
+    asked = λ l x i is asks at. elim (asked-was w.asked (letters_of (target g.t) g.did.posts) l (subst (Has l) (ap (λ u. u.asked) g.after) i)) [ inl before ↦ inl before | inr new ↦ inr (sent l x new.0 is at) ];
     resting = λ x rests at. elim (one-or_another (leader_of r x) g.t) [
       | inl is ↦ absurd (rests.off (runs x rests is))
       | inr off ↦ inl (rests-before r w v g.t (target_after g.s g.new g.memory) (ap (λ u. u.targets) g.after) x off rests)
@@ -205,7 +205,7 @@ is_answered_back m = false
 pub ends-as : (left_by : Kept → TargetMemory × Did) (a : AtOnce) (k : Kept) (left : TargetMemory × Did) → EndsAs left_by a k left → left ≡ left_by k
 ends-as left_by a k left (IsDone k2 left2 is) = is
 
-ack-lines : (m : TargetMemory) (s : AckStage) (k : Kept) (left : TargetMemory × Did) → AckEnds m s k left → left.1.lines ≡ []
+pub ack-lines : (m : TargetMemory) (s : AckStage) (k : Kept) (left : TargetMemory × Did) → AckEnds m s k left → left.1.lines ≡ []
 ack-lines m s k left (IsFollowed k2 st left2 is) = ap (λ i. i.1.lines) is
 
 further-tells : (number : ℕ) (p : TargetPlan) (opening : Epoch × FloorWhy) (m : TargetMemory) (reading : ℕ) (from : ActorId) (q : Message) (old new : Kept) (left : TargetMemory × Did) → is_answered_back q ≡ true → HearsFurther number p opening m reading from q old new left → TellsAsTold q left.1.posts × (left.1.lines ≡ [])

@@ -2,13 +2,18 @@
 use Rattle.std.specs.Prelude.{ℕ, ◌≡◌, true, []}
 use Rattle.world_attempts.specs.History.{History}
 use Rattle.world_base.specs.declared.world.World.{World}
-use Rattle.world_base.specs.Events.{Rules, TargetHearsBy}
+use Rattle.world_base.specs.Events.{ClientGoes, ClientHears, Rules, TargetHears, TargetHearsBy, TargetIdles}
 use Rattle.world_base.specs.Further.{HearsFurther}
-use Rattle.world_base.specs.Stops.{NumbersDrawn, OpeningFails, TargetCut, TargetGivenUp, TargetOpens, swept}
+use Rattle.world_base.specs.Stops.{HearsMore, NumbersDrawn, OpeningFails, TargetCut, TargetGivenUp, TargetOpens, WorldEvent, swept}
 use Rattle.world_epochs.specs.Epochs.{IsPresent}
 use Rattle.world_fates.specs.Facts.{Attempts}
 use Rattle.world_fates.specs.Keeping.{HasNoneYet}
+use Rattle.world_losses.specs.ClientHears.{LossesAreAsked}
+use Rattle.world_losses.specs.Clients.{AreBegun}
 use Rattle.world_losses.specs.Hearing.{is_answered_back}
+use Rattle.world_losses.specs.Readers.{OpenAreHeld, ReadersAreNew}
+use Rattle.world_statuses.specs.Events.{HappensWithoutSnapshots}
+use Rattle.world_statuses.specs.Heard.{is_of_attempts}
 use Rattle.world_losses.specs.Resets.{WaitForOthers, is_reset}
 use Rattle.world_losses.specs.Losses.{AsksItsTargets, LeadersAreTargets, Losses}
 
@@ -38,10 +43,46 @@ SweepingKeepsLosses = (r : Rules) (w : World) → Losses r w → Losses r (swept
 abbrev pub AnswersKeepLosses : Type 0
 AnswersKeepLosses = (number : ℕ) (r : Rules) (w v : World) → Losses r w → (g : TargetHearsBy (HearsFurther number) r w v) → is_answered_back g.l.message ≡ true → Losses r v
 
--- It is told that a question of its got no answer, where no Fetch waits for its own attempt.
+-- It is told that a question of its got no answer, where what was asked about is no attempt that reads there.
 abbrev pub ResetsKeepLosses : Type 0
-ResetsKeepLosses = (number : ℕ) (r : Rules) (w v : World) → Losses r w → (g : TargetHearsBy (HearsFurther number) r w v) → is_reset g.l.message ≡ true → WaitForOthers g.s.memory.member.parked → Losses r v
+ResetsKeepLosses = (number : ℕ) (r : Rules) (w v : World) → Losses r w → (g : TargetHearsBy (HearsFurther number) r w v) → is_reset g.l.message ≡ true → WaitForOthers g.l.message g.s.memory.member.parked → Losses r v
 
 -- numbers are drawn
 abbrev pub DrawnNumbersKeepLosses : Type 0
 DrawnNumbersKeepLosses = (r : Rules) (w v : World) → Losses r w → NumbersDrawn w v → Losses r v
+
+-- ---- what is heard as without stops, and clients
+
+-- a target hears what it hears without stops, where what reads is new, and what isn't settled is held
+abbrev pub HearingKeepsLosses : Type 0
+HearingKeepsLosses = (r : Rules) (h : History) (w v : World) → ReadersAreNew r h w → OpenAreHeld w → Attempts r h w → TargetHears r w v → Losses r w → Losses r v
+
+-- it does its idle work
+abbrev pub IdleWorkKeepsLosses : Type 0
+IdleWorkKeepsLosses = (r : Rules) (w v : World) → TargetIdles r w v → Losses r w → Losses r v
+
+-- it hears what it hears after stops of attempts: so also a Commit with a member that is known to be down
+abbrev pub FurtherHearingKeepsLosses : Type 0
+FurtherHearingKeepsLosses = (r : Rules) (h : History) (w v : World) → ReadersAreNew r h w → Attempts r h w → (g : HearsMore r w v) → is_of_attempts g.hears.l.message ≡ true → Losses r w → Losses r v
+
+-- a client goes on without a message, or hears one, where what tells of a stop is of attempts that were begun
+abbrev pub ClientsKeepLosses : Type 0
+ClientsKeepLosses = (r : Rules) (w v : World) → AreBegun r w → ClientGoes r w v → Losses r w → Losses r v
+
+abbrev pub HearingClientsKeepLosses : Type 0
+HearingClientsKeepLosses = (r : Rules) (w v : World) → AreBegun r w → LossesAreAsked w → ClientHears r w v → Losses r w → Losses r v
+
+-- ---- every event
+
+-- what else holds of the world before an event
+pub record AllBeside (r : Rules) (h : History) (w : World) : Type 0 where
+  pub attempts : Attempts r h w
+  pub new : ReadersAreNew r h w
+  pub held : OpenAreHeld w
+  pub begun : AreBegun r w
+  pub lost : LossesAreAsked w
+  pub asks : AsksItsTargets r w
+
+-- So each event keeps them in which nothing is heard of snapshots and aggregation, where leaders are targets after it.
+abbrev pub EventsKeepLosses : Type 0
+EventsKeepLosses = (r : Rules) (h : History) (w v : World) → AllBeside r h w → LeadersAreTargets r v → (e : WorldEvent r w v) → HappensWithoutSnapshots e.happens → Losses r w → Losses r v

@@ -6,6 +6,14 @@ pub mod Stopping
 pub mod Opening
 pub mod Hearing
 pub mod Resets
+pub mod Silent
+pub mod Reading
+pub mod Readers
+pub mod Turns
+pub mod Moving
+pub mod Clients
+pub mod ClientHears
+pub mod ClientTurns
 pub mod Keeping
 pub mod Beginning
 pub mod Laws

@@ -60,9 +60,9 @@ pub record Rests (r : Rules) (w : World) (x : AttemptId) : Type 0 where
 -- ---- the facts
 
 pub record Losses (r : Rules) (w : World) : Type 0 where
-  -- of a present attempt such a message is in flight, or without an answer, only where a target of it stopped since it began
+  -- of a present attempt such a message is in flight, or such a question without an answer, only where a target of it stopped since it began
   pub letters : (l : Letter) (x : AttemptId) → Has l w.messages → tells_stop x l.message ≡ true → IsPresent r w x → StoppedSince r w.lines x
-  pub asked : (l : Letter) (x : AttemptId) → Has l w.asked → tells_stop x l.message ≡ true → IsPresent r w x → StoppedSince r w.lines x
+  pub asked : (l : Letter) (x : AttemptId) → Has l w.asked → tells_stop x l.message ≡ true → is_asked_of x l.message ≡ true → IsPresent r w x → StoppedSince r w.lines x
   -- so it is where its leader holds it and doesn't run
   pub resting : (x : AttemptId) → Rests r w x → IsPresent r w x → StoppedSince r w.lines x
   -- and a line tells so only behind such a stop
@@ -74,6 +74,6 @@ pub record Losses (r : Rules) (w : World) : Type 0 where
 abbrev pub AsksItsTargets : Rules → World → Type 0
 AsksItsTargets r w = (q : Letter) (x : AttemptId) → Has q w.asked → is_asked_of x q.message ≡ true → IsPresent r w x → Contains (attempt_targets r.script x) q.to.number
 
--- The leader of what it holds is one of its targets.
+-- The leader of a present attempt that it holds is one of its targets.
 abbrev pub LeadersAreTargets : Rules → World → Type 0
-LeadersAreTargets r w = (x : AttemptId) → IsHeld w (leader_of r x) x → Contains (attempt_targets r.script x) (leader_of r x)
+LeadersAreTargets r w = (x : AttemptId) → IsPresent r w x → IsHeld w (leader_of r x) x → Contains (attempt_targets r.script x) (leader_of r x)

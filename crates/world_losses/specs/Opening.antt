@@ -78,7 +78,7 @@ module _ (r : Rules) (h : History) (w v : World) (attempts : Attempts r h w) (k 
     lines = ap (λ u. u.lines) g.after;
     untried = untried-one (restart_line g.number g.t g.s.durable) refl;
     letters = λ l x i is at. elim (has-cases w.messages (letters_of (target g.t) asked) l (subst (Has l) (ap (λ u. u.messages) g.after) i)) [ inl before ↦ inl before | inr new ↦ inr (since l x new is at) ];
-    asked = λ l x i is at. elim (asked-was w.asked (letters_of (target g.t) asked) l (subst (Has l) (ap (λ u. u.asked) g.after) i)) [ inl before ↦ inl before | inr new ↦ inr (since l x new.0 is at) ];
+    asked = λ l x i is asks at. elim (asked-was w.asked (letters_of (target g.t) asked) l (subst (Has l) (ap (λ u. u.asked) g.after) i)) [ inl before ↦ inl before | inr new ↦ inr (since l x new.0 is at) ];
     resting = λ x rests at. elim (one-or_another (leader_of r x) g.t) [
       | inl is ↦ absurd (rests.off (runs x rests is))
       | inr off ↦ inl (rests-before r w v g.t (opened_at r g.t g.number g.s g.free) (ap (λ u. u.targets) g.after) x off rests)

@@ -36,9 +36,20 @@ use Rattle.world_losses.specs.Losses.{Losses, is_asked_of, tells_stop}
 use Rattle.world_losses.specs.Recalling.{Recalls}
 use Rattle.world_outcomes.specs.Untried.{untried-none}
 
--- no Fetch waits for its own attempt
-abbrev pub WaitForOthers : List Parked → Type 0
-WaitForOthers ps = (p : Parked) (x : AttemptId) → Has p ps → member.is_asker x p.ask ≡ true → same_attempt p.on x ≡ true → ⊥
+-- no attempt that reads here is this one
+abbrev pub NoneReads : AttemptId → List Parked → Type 0
+NoneReads a ps = (p : Parked) (x : AttemptId) → Has p ps → member.is_asker x p.ask ≡ true → same_attempt a x ≡ true → ⊥
+
+-- what a Query was about is no attempt that reads here
+abbrev pub AsksOfOthers : Message → List Parked → Type 0
+AsksOfOthers (message.Query a ask) ps = NoneReads a ps
+AsksOfOthers m ps = Unit {0}
+
+-- nor is what a Verdict is about, or a Query that got no answer
+abbrev pub WaitForOthers : Message → List Parked → Type 0
+WaitForOthers (message.Verdict a ask inc v) ps = NoneReads a ps
+WaitForOthers (message.Reset' by down place (more_of-Message q rest)) ps = AsksOfOthers q ps
+WaitForOthers m ps = Unit {0}
 
 -- what is sent tells of a stop only where a question of that attempt was lost at a target that stopped
 abbrev LostSo : Bool → Message → List Post → Type 0
@@ -55,7 +66,7 @@ quiet-lost : (down : Bool) (asked : Message) (p : Post) → ((x : AttemptId) →
 quiet-lost down asked p off q x (inl same) is = let bad : false ≡ true = sym (off x) ∙ ap (λ y. tells_stop x y.message) (sym same) ∙ is in let no : ⊥ = cc in absurd no
 quiet-lost down asked p off q x (inr gone) is = absurd gone
 
-unknown-quiet : (a x : AttemptId) → (same_attempt a x && false) ≡ false
+pub unknown-quiet : (a x : AttemptId) → (same_attempt a x && false) ≡ false
 unknown-quiet a x = by (same_attempt a x)
   where
     by : (b : Bool) → (b && false) ≡ false
@@ -109,14 +120,12 @@ freed-lost down asked a [] off = none-lost down asked
 freed-lost down asked a (p ∷ ps) off =
     both-lost down asked (member.unresolved_told a p.ask) (member.all_unresolved_told a ps) (fetch-lost down asked a p.ask (λ x. off p x (inl refl))) (freed-lost down asked a ps (λ p2 x i. off p2 x (inr i)))
 
-query-lost : (down : Bool) (asked : Message) (a : AttemptId) (ask : Option AttemptId) (s : member.MemberOf) → WaitForOthers s.memory.parked → LostSo down asked (member.query_reset down a ask s).freed.posts
-unfolding member.unresolved member.is_waiting
-query-lost down asked a (Some x) s others = freed-lost down asked a (filter (member.is_waiting a x) s.memory.parked) (λ p y i asks own.
-    let z = has-from_filter (member.is_waiting a x) s.memory.parked p i in
-    others p y z.0 asks (ap (λ b. same_attempt b y) (same-is p.on a (and_left (same_attempt p.on a) (member.is_asker x p.ask) z.1)) ∙ own))
+query-lost : (down : Bool) (asked : Message) (a : AttemptId) (ask : Option AttemptId) (s : member.MemberOf) → NoneReads a s.memory.parked → LostSo down asked (member.query_reset down a ask s).freed.posts
+unfolding member.unresolved
+query-lost down asked a (Some x) s others = freed-lost down asked a (filter (member.is_waiting a x) s.memory.parked) (λ p y i asks own. others p y (has-from_filter (member.is_waiting a x) s.memory.parked p i).0 asks own)
 query-lost down asked a None s others = none-lost down asked
 
-joins-lost : (down : Bool) (m : Message) (s : member.MemberOf) → WaitForOthers s.memory.parked → LostSo down m (member.reset_heard down m s).freed.posts
+joins-lost : (down : Bool) (m : Message) (s : member.MemberOf) → AsksOfOthers m s.memory.parked → LostSo down m (member.reset_heard down m s).freed.posts
 joins-lost down (message.Query a ask) s others = query-lost down (message.Query a ask) a ask s others
 joins-lost down m s others = none-lost down m
 
@@ -127,7 +136,7 @@ collected-lost by false asked x o m off = quiet-lost false asked (to_target by a
 collected-lost by true asked x None m off = none-lost true asked
 collected-lost by true asked x (Some c) m off = quiet-lost true asked (record { to = c.client; message = message.Ended x (Some c.epoch) (outcome.Unknown by) }) (λ y. unknown-quiet x y)
 
-reset-lost : (t : TargetPlan) (m : TargetMemory) (by : ℕ) (down : Bool) (asked : Message) (k : Kept) → WaitForOthers m.member.parked → LostSo down asked (reset_by t m by down asked k).1.posts
+reset-lost : (t : TargetPlan) (m : TargetMemory) (by : ℕ) (down : Bool) (asked : Message) (k : Kept) → AsksOfOthers asked m.member.parked → LostSo down asked (reset_by t m by down asked k).1.posts
 reset-lost t m by down (message.Freeze x c s) k others = collected-lost by down (message.Freeze x c s) x (snap.collection_of x m) m (λ y. refl)
 reset-lost t m by down (message.Prune x c tracker e) k others = collected-lost by down (message.Prune x c tracker e) x (snap.collection_of x m) m (λ y. refl)
 reset-lost t m by down asked k others =
@@ -143,7 +152,7 @@ abbrev pub is_reset : Message → Bool
 is_reset (message.Reset' by down place more) = true
 is_reset m = false
 
-reset-tells : (number : ℕ) (p : TargetPlan) (opening : Epoch × FloorWhy) (m : TargetMemory) (reading : ℕ) (from : ActorId) (q : Message) (old new : Kept) (left : TargetMemory × Did) → is_reset q ≡ true → WaitForOthers m.member.parked → HearsFurther number p opening m reading from q old new left → TellsAsTold q left.1.posts × (left.1.lines ≡ [])
+reset-tells : (number : ℕ) (p : TargetPlan) (opening : Epoch × FloorWhy) (m : TargetMemory) (reading : ℕ) (from : ActorId) (q : Message) (old new : Kept) (left : TargetMemory × Did) → is_reset q ≡ true → WaitForOthers q m.member.parked → HearsFurther number p opening m reading from q old new left → TellsAsTold q left.1.posts × (left.1.lines ≡ [])
 reset-tells number p opening m reading from (message.Reset' by false place (more_of-Message asked rest)) old new left is others h =
     let ends = ends-as (reset_by p m by false asked) h.last new left h.ends in
     (λ q x i is2. (reset-lost p m by false asked new others q x (subst (λ j. Has q j.1.posts) ends i) is2).1, ap (λ j. j.1.lines) ends ∙ reset-lines p m by false asked new)
@@ -152,7 +161,7 @@ reset-tells number p opening m reading from (message.Reset' by true place (more_
     (λ q x i is2. (let bad = (reset-lost p m by true asked new others q x (subst (λ j. Has q j.1.posts) ends i) is2).0 in let no : ⊥ = cc in absurd no), ap (λ j. j.1.lines) ends ∙ reset-lines p m by true asked new)
 reset-tells number p opening m reading from q old new left is others h = let no : ⊥ = cc in absurd no
 
-pub reset-recalls : (number : ℕ) (r : Rules) (w v : World) → Losses r w → (g : TargetHearsBy (HearsFurther number) r w v) → is_reset g.l.message ≡ true → WaitForOthers g.s.memory.member.parked → Recalls r w v
+pub reset-recalls : (number : ℕ) (r : Rules) (w v : World) → Losses r w → (g : TargetHearsBy (HearsFurther number) r w v) → is_reset g.l.message ≡ true → WaitForOthers g.l.message g.s.memory.member.parked → Recalls r w v
 reset-recalls number r w v k g is others = hearing-recalls (HearsFurther number) r w v k g tells.0 (ap tries tells.1 ∙ untried-none)
   where
     tells : TellsAsTold g.l.message g.did.posts × (g.did.lines ≡ [])

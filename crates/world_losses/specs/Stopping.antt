@@ -28,7 +28,7 @@ use Rattle.world_base.specs.Letters.{target}
 use Rattle.world_base.specs.StepLaws.{set-here, set-there}
 use Rattle.world_base.specs.Stops.{AtWork, CutOf, Hearing, IdleWork, NumbersDrawn, OpeningFails, TargetCut, TargetGivenUp, is_not_to, is_not_to_down, is_to, is_to_down, reset_letter, resets, stopped_at, stops_so_far, swept}
 use Rattle.world_stops.specs.Questions.{reopened-entry}
-use Rattle.world_epochs.specs.Epochs.{IsPresent}
+use Rattle.world_epochs.specs.Epochs.{IsAt, IsPresent}
 use Rattle.world_losses.specs.Losses.{AsksItsTargets, LeadersAreTargets, Rests, StoppedSince, is_asked_of, tells_stop}
 use Rattle.world_losses.specs.Recalling.{Recalls}
 use Rattle.world_losses.specs.Since.{since-stop}
@@ -89,9 +89,9 @@ cut-recalls r w v asks leads g = record {
         let own : is_asked_of x q.0.message ≡ true = subst (λ n. tells_stop x n.message ≡ true) (sym q.2) is in
         inr (stopped x (subst (Contains (attempt_targets r.script x)) (to-number g.t q.0 old.1) (asks q.0 x old.0 own at)))
   ];
-  asked = λ l x i is at. inl (has-from_filter (is_not_to g.t) w.asked l (subst (Has l) (ap (λ u. u.asked) g.after) i)).0;
+  asked = λ l x i is asks at. inl (has-from_filter (is_not_to g.t) w.asked l (subst (Has l) (ap (λ u. u.asked) g.after) i)).0;
   resting = λ x rests at. elim (one-or_another (leader_of r x) g.t) [
-    | inl is ↦ inr (stopped x (subst (Contains (attempt_targets r.script x)) is (leads x rests.held)))
+    | inl is ↦ inr (stopped x (subst (Contains (attempt_targets r.script x)) is (leads x (subst (λ cs. IsAt r cs x) (sym (ap (λ u. u.clients) g.after)) at) rests.held)))
     | inr off ↦ inl (rests-before r w v g.t (stopped_at g.s g.cut.left) (ap (λ u. u.targets) g.after) x off rests)
   ];
 }
@@ -118,7 +118,7 @@ failing-recalls r w v g = record {
   lines = ap (λ u. u.lines) g.after ∙ sym (append-nil w.lines);
   untried = untried-none;
   letters = λ l x i is at. inl (subst (Has l) (ap (λ u. u.messages) g.after) i);
-  asked = λ l x i is at. inl (subst (Has l) (ap (λ u. u.asked) g.after) i);
+  asked = λ l x i is asks at. inl (subst (Has l) (ap (λ u. u.asked) g.after) i);
   resting = λ x rests at. inl (rests-still r w v g.t g.s (record g.s { durable = g.k.durable; free = g.k.free }) g.here (ap (λ u. u.targets) g.after) (stopped-rests g.s.life g.stopped) entry x rests);
 }
   where
@@ -139,7 +139,7 @@ giving-up-recalls r w v g = record {
     | inl before ↦ inl (has-from_filter (is_not_to g.t) w.messages l before).0
     | inr new ↦ let q = has-from_map (reset_letter true) (filter (is_to g.t) w.asked) l new in absurd (down-lost x q.0 l q.2 is)
   ];
-  asked = λ l x i is at. inl (has-from_filter (is_not_to g.t) w.asked l (subst (Has l) (ap (λ u. u.asked) g.after) i)).0;
+  asked = λ l x i is asks at. inl (has-from_filter (is_not_to g.t) w.asked l (subst (Has l) (ap (λ u. u.asked) g.after) i)).0;
   resting = λ x rests at. inl (rests-still r w v g.t g.s (record g.s { life = Down }) g.here (ap (λ u. u.targets) g.after) (stopped-rests g.s.life g.stopped) (λ y. refl) x rests);
 }
 
@@ -154,7 +154,7 @@ sweeping-recalls r w = record {
     | inl before ↦ inl before
     | inr new ↦ let q = has-from_map (reset_letter true) (filter (is_to_down w.targets) w.asked) l new in absurd (down-lost x q.0 l q.2 is)
   ];
-  asked = λ l x i is at. inl (has-from_filter (is_not_to_down w.targets) w.asked l i).0;
+  asked = λ l x i is asks at. inl (has-from_filter (is_not_to_down w.targets) w.asked l i).0;
   resting = λ x rests at. inl (record { s = rests.s; here = rests.here; off = rests.off; held = record { entry = rests.held.entry; found = rests.held.found } });
 }
 
@@ -166,6 +166,6 @@ drawing-recalls r w v g = subst (Recalls r w) (sym g.after) (record {
   lines = sym (append-nil w.lines);
   untried = untried-none;
   letters = λ l x i is at. inl i;
-  asked = λ l x i is at. inl i;
+  asked = λ l x i is asks at. inl i;
   resting = λ x rests at. inl (record { s = rests.s; here = rests.here; off = rests.off; held = record { entry = rests.held.entry; found = rests.held.found } });
 })

@@ -1,4 +1,4 @@
 use Rattle.target_tests.proofs.overtaken.mark_before_prepare.Goals as goal
 
-pub hear_mark-requires-clause-new : goal.hear_mark-requires-clause-new
-hear_mark-requires-clause-new g c d at = record { here = c.in_ok-target.ensures.here d at; blank = c.in_ok-target.ensures.blank d at }
+pub turns-requires-clause-new : goal.turns-requires-clause-new
+turns-requires-clause-new g c d at = record { here = c.in_ok-target.ensures.here d at; blank = c.in_ok-target.ensures.blank d at }
