@@ -31,7 +31,7 @@ use Rattle.world_talks.specs.Conversation.{Answers}
 use Rattle.world_waits.specs.Waits.{Conversation, IsAnswer, IsLost, IsQuestion, IsReplyTo, ItsAsk, ItsRequest}
 
 -- a client hands an attempt over, or asks what became of it
-abbrev is_handing : Message → Bool
+abbrev pub is_handing : Message → Bool
 is_handing (message.Commit x ep first tracker ws) = true
 is_handing (message.Ask x) = true
 is_handing m = false
@@ -48,7 +48,7 @@ module _ (p : ClientPlan) (c : ClientState) (a : Present) (at : c.present ≡ So
   asked-before k (ASnapshot name cont command-is says) none behind = behind.writes (ap (λ o. minor_writes 0 (ops_or_none o)) command-is)
   asked-before k (AnAggregation cont command-is says) none behind = behind.writes (ap (λ o. minor_writes 0 (ops_or_none o)) command-is)
 
-  question-before : IsQuestion p c q → is_handing q.message ≡ false → IsBefore p c a
+  pub question-before : IsQuestion p c q → is_handing q.message ≡ false → IsBefore p c a
   question-before (ItsRequest k low sent) none behind = asked-before k (sent-is-asked p k c a q at sent) none behind
   question-before (ItsAsk k s f low sent commit says) none behind = let bad : true ≡ false = sym (ap (λ z. is_handing z.message) says) ∙ none in let no : ⊥ = cc in no
 
@@ -71,11 +71,11 @@ answers-read (message.Ask y) m k x op group e b says = let bad = sym says ∙ k.
 answers-read q m k x op group e b says = refl
 
 -- and no answer is a Reset
-abbrev is_reset : Message → Bool
+abbrev pub is_reset : Message → Bool
 is_reset (message.Reset' t down place more) = true
 is_reset m = false
 
-answers-no_reset : (q m : Message) → Answers q m → is_reset m ≡ false
+pub answers-no_reset : (q m : Message) → Answers q m → is_reset m ≡ false
 answers-no_reset (message.Fetch x op group e first tracker rd snapshot) m k = ap is_reset k.2
 answers-no_reset (message.Commit x ep first tracker ws) m k = ap is_reset k.2
 answers-no_reset (message.Ask x) m k = ap is_reset k.2

@@ -157,7 +157,7 @@ module _ (r : Rules) (w : World) (k : Conversation r w) (from : RequestsAreOfCli
   }
 
   -- an end answers the attempt that was asked for
-  ended-attempt : (q : Post) (x : AttemptId) (own : Option Epoch) (how : Outcome) (m : Message) → m ≡ message.Ended x own how → IsReplyTo q m → request_of q.message ≡ Some x
+  pub ended-attempt : (q : Post) (x : AttemptId) (own : Option Epoch) (how : Outcome) (m : Message) → m ≡ message.Ended x own how → IsReplyTo q m → request_of q.message ≡ Some x
   ended-attempt q x own how m says (IsAnswer ans) = by q.message (subst (Answers q.message) says ans)
     where
       by : (y : Message) → Answers y (message.Ended x own how) → request_of y ≡ Some x

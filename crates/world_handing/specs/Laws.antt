@@ -1,5 +1,6 @@
 -- The laws of what follows from conversations, as statements.
-use Rattle.std.specs.Prelude.{ℕ, ◌≡◌, List, slice_get, Some}
+use Rattle.std.specs.Prelude.{ℕ, ◌≡◌, ◌<◌, List, slice_get, Some}
+use Rattle.base_types.specs.Scripts.{IsInForm}
 use Rattle.world_attempts.specs.History.{History}
 use Rattle.world_base.specs.declared.client.ClientState.{ClientState}
 use Rattle.world_base.specs.declared.letter.Letter.{Letter}
@@ -14,8 +15,12 @@ use Rattle.world_handing.specs.Groups.{ClientsAskWithin}
 use Rattle.world_handing.specs.Handing.{EpochsOfCommits}
 use Rattle.world_fates.specs.Facts.{Attempts}
 use Rattle.world_handing.specs.Targets.{PlacesAreRight}
+use Rattle.world_handing.specs.Tellers.{ReadsAreOfClients}
 use Rattle.world_lines.specs.Lines.{Endings}
-use Rattle.world_losses.specs.Losses.{AsksItsTargets}
+use Rattle.world_losses.specs.ClientHears.{LossesAreAsked}
+use Rattle.world_losses.specs.Clients.{AreBegun}
+use Rattle.world_losses.specs.Losses.{AsksItsTargets, LeadersAreTargets}
+use Rattle.world_losses.specs.Readers.{ReadersAreNew}
 use Rattle.world_outcomes.specs.Outcomes.{Outcomes}
 use Rattle.world_outcomes.specs.Premises.{AsksGoRight, CommitsAreOfClients, HandsOver, HearsFitly}
 use Rattle.world_waits.specs.Premises.{RequestsAreOfClients}
@@ -53,3 +58,31 @@ EventsKeepGroups = (r : Rules) (w v : World) → WorldEvent r w v → ClientsAsk
 -- so, where the facts of attempts hold besides, and places are right, what is asked about an attempt is asked of one of its targets
 abbrev pub TargetsAreAsked : Type 0
 TargetsAreAsked = (r : Rules) (h : History) (w : World) → Conversation r w → RequestsAreOfClients w → ClientsStand r w → ClientsAskWithin r w → Attempts r h w → PlacesAreRight r → AsksItsTargets r w
+
+-- ---- what losses ask
+
+-- what is lost of a client is a question about its attempt
+abbrev pub ClientsLoseQuestions : Type 0
+ClientsLoseQuestions = (r : Rules) (w : World) → Conversation r w → LossesAreAsked w
+
+-- where the facts of outcomes hold besides, the attempts that read are new
+abbrev pub ReadersAreNotBorn : Type 0
+ReadersAreNotBorn = (r : Rules) (h : History) (w : World) → Outcomes r h w → Conversation r w → RequestsAreOfClients w → ReadersAreNew r h w
+
+-- and the leader of a present attempt that it holds is one of its targets, where places are right
+abbrev pub LeadersAreAmongTargets : Type 0
+LeadersAreAmongTargets = (r : Rules) (h : History) (w : World) → Outcomes r h w → ClientsStand r w → PlacesAreRight r → LeadersAreTargets r w
+
+-- Whatever tells of a stop of an attempt, its client has begun it, where reads are answered to clients.
+abbrev pub TellersAreBegun : Type 0
+TellersAreBegun = (r : Rules) (h : History) (w : World) → Attempts r h w → Outcomes r h w → Conversation r w → RequestsAreOfClients w → ReadsAreOfClients w → AreBegun r w
+
+-- ---- scripts
+
+-- places are right in a script in form, for some targets
+abbrev pub PlacesAreInForm : Type 0
+PlacesAreInForm = (r : Rules) (targets : ℕ) → 0 < targets → IsInForm targets r.script → PlacesAreRight r
+
+-- and what reads at a snapshot there writes nothing
+abbrev pub SnapshotsAreInForm : Type 0
+SnapshotsAreInForm = (r : Rules) (targets : ℕ) → IsInForm targets r.script → SnapshotsAreRead r

@@ -4,4 +4,7 @@ pub mod Fitting
 pub mod Dates
 pub mod Groups
 pub mod Targets
+pub mod Begun
+pub mod Tellers
+pub mod Places
 pub mod Laws

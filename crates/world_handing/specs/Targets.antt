@@ -114,7 +114,7 @@ leader-among r x (m ∷ ws) places is some =
     has-left (path_members (write_path m.write) r.script.targets) (writes_members ws r.script.targets) (path_leader (write_path m.write) r.script.targets)
     (has-from_contains (path_members (write_path m.write) r.script.targets) (path_leader (write_path m.write) r.script.targets) (places.led x m (contains-from_has (writes_of r x) m (subst (Has m) (sym is) (inl refl)))))
 
-leader-is_target : (r : Rules) (x : AttemptId) → PlacesAreRight r → writes_of r x ≢ [] → Contains (attempt_targets r.script x) (leader_of r x)
+pub leader-is_target : (r : Rules) (x : AttemptId) → PlacesAreRight r → writes_of r x ≢ [] → Contains (attempt_targets r.script x) (leader_of r x)
 leader-is_target r x places some = contains-from_has (attempt_targets r.script x) (leader_of r x) (member-is_target r x (leader_of r x) (leader-among r x (writes_of r x) places refl some))
 
 -- and so is each other member

@@ -1,7 +1,7 @@
 // What follows from the conversations of clients for other facts.
 #![tactic(auto)]
 
-ghost use Rattle.world_handing.specs.Laws.{ClientsCommit, CommitsAreRight, ConversationsFit, ConversationsHandOver, EpochsGoWithCommits, EventsKeepGroups, LeadersAreAsked, TargetsAreAsked};
+ghost use Rattle.world_handing.specs.Laws.{ClientsCommit, ClientsLoseQuestions, CommitsAreRight, ConversationsFit, ConversationsHandOver, EpochsGoWithCommits, EventsKeepGroups, LeadersAreAmongTargets, LeadersAreAsked, PlacesAreInForm, ReadersAreNotBorn, SnapshotsAreInForm, TargetsAreAsked, TellersAreBegun};
 
 /// Says what follows for other facts where each client that waits has one carrier of what it waits for,
 /// targets may stop, and requests come from clients. An attempt is handed over, and asked after, by its
@@ -12,7 +12,11 @@ ghost use Rattle.world_handing.specs.Laws.{ClientsCommit, CommitsAreRight, Conve
 /// it asked: a read's answer before it hands its attempt over, and that a request was lost for the request
 /// that it made. A client that has something to ask is at one of the groups of its path, whatever happens;
 /// so what is asked about an attempt, and is without an answer, is asked of one of its targets, where what is
-/// read or written has groups, and the leader of a write is one of its members.
+/// read or written has groups, and the leader of a write is one of its members. This is so in a script in
+/// form, where, too, what reads at a snapshot writes nothing. What is lost of a client is a question about
+/// its attempt; nothing became of an attempt that reads; the leader of a present attempt that it holds is
+/// one of its targets; and whatever tells of a stop of an attempt, its client has begun it, where reads are
+/// answered to clients.
 pub fn laws_of_handing()
     ensures over { ConversationsHandOver }
     ensures commits { ClientsCommit }
@@ -22,4 +26,10 @@ pub fn laws_of_handing()
     ensures fits { ConversationsFit }
     ensures groups { EventsKeepGroups }
     ensures targets { TargetsAreAsked }
+    ensures lost { ClientsLoseQuestions }
+    ensures readers { ReadersAreNotBorn }
+    ensures leaders { LeadersAreAmongTargets }
+    ensures begun { TellersAreBegun }
+    ensures places { PlacesAreInForm }
+    ensures snapshots { SnapshotsAreInForm }
 {}
