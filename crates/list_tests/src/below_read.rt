@@ -3,10 +3,9 @@
 // thirteen turns in rounds.
 use crate::names::{RowNo, akey, attempt, client, get_op, put, put_op, target, writes};
 use crate::parts::{
-    ClientAt, PresentAt, client_state, decided, durable, ended, letter, line, no_member, only,
-    rests, run, script, target_state,
+    ClientAt, PresentAt, Turn, after, client_state, decided, durable, ended, hears, hears_none,
+    letter, line, memory, no_member, only, only_op, rests, run, script, target_state,
 };
-use base_messages::actor::ActorId;
 use base_messages::message::{Message, Reply};
 use base_types::answer::Answer;
 use base_types::entry::Entry;
@@ -16,13 +15,14 @@ use base_types::items::Items;
 use base_types::operation::Read;
 use base_types::outcome::{Cause, Outcome};
 use base_types::report::{Line, Lines};
-use base_types::script::Script;
+use base_types::script::{Commands, Script};
 use base_types::shown::Shown;
-use daos_model::durable::{Version, Versions};
+use daos_model::durable::{Durable, Version, Versions};
+use dtx_base::leading::LeaderMemory;
 use std::alloc::Global;
 use world_base::did::Issues;
 use world_base::letter::{Letter, Letters};
-use world_base::target::{Reads, TargetState};
+use world_base::target::{Reads, TargetMemory, TargetState};
 use world_base::world::{Numbers, World};
 use world_list::events::{Event, EventKind, EventList, Events};
 
@@ -67,16 +67,27 @@ fn writer(number: u8) -> AttemptId {
     attempt(0, 0, number)
 }
 
-/// Client 0 reads x and writes a; client 1 reads a.
+// Client 0 reads x and writes a.
+fn first_commands(alloc: Global) -> Result<Commands, RowNo> {
+    let read = get_op(alloc, Class::S1, b"x")?;
+    let mut ops = only_op(alloc, read)?;
+    let write = put(alloc, Class::S1, b"1")?;
+    ops.push(put_op(write))?;
+    only(alloc, run(alloc, ops))
+}
+
+// Client 1 reads a.
+fn second_commands(alloc: Global) -> Result<Commands, RowNo> {
+    let read = get_op(alloc, Class::S1, b"a")?;
+    let ops = only_op(alloc, read)?;
+    only(alloc, run(alloc, ops))
+}
+
+/// What the two clients do.
 pub fn row_script(alloc: Global) -> Result<Script, RowNo> {
-    let mut both = Items::new(alloc);
-    both.push(get_op(alloc, Class::S1, b"x")?)?;
-    both.push(put_op(put(alloc, Class::S1, b"1")?))?;
-    let mut one = Items::new(alloc);
-    one.push(get_op(alloc, Class::S1, b"a")?)?;
     let mut clients = Items::new(alloc);
-    clients.push(only(alloc, run(alloc, both))?)?;
-    clients.push(only(alloc, run(alloc, one))?)?;
+    clients.push(first_commands(alloc)?)?;
+    clients.push(second_commands(alloc)?)?;
     Ok(script(alloc, 1, clients))
 }
 
@@ -134,24 +145,29 @@ fn second_client(turn: u8, told: Told) -> ClientAt {
 }
 
 fn shown(alloc: Global, by: AttemptId, epoch: Epoch, name: &[u8]) -> Result<Shown, RowNo> {
-    Ok(Shown {
-        by,
-        epoch,
-        path: akey(alloc, Class::S1, name)?,
-    })
+    let path = akey(alloc, Class::S1, name)?;
+    Ok(Shown { by, epoch, path })
 }
 
-// The reads that the target served.
+// The read that the target serves at this turn.
+fn stamp_of(alloc: Global, turn: u8, told: Told) -> Result<Shown, RowNo> {
+    match turn {
+        3 => shown(alloc, writer(0), Epoch(256), b"x"),
+        5 => shown(alloc, READER, Epoch(told.read), b"a"),
+        _ => shown(alloc, writer(1), told.again(), b"x"),
+    }
+}
+
+// The turns at which it serves a read.
+const SERVES: [u8; 3] = [3, 5, 9];
+
+// The reads that it served.
 fn stamps(alloc: Global, turn: u8, told: Told) -> Result<Reads, RowNo> {
     let mut stamps = Items::new(alloc);
-    if turn >= 3 {
-        stamps.push(shown(alloc, writer(0), Epoch(256), b"x")?)?;
-    }
-    if turn >= 5 {
-        stamps.push(shown(alloc, READER, Epoch(told.read), b"a")?)?;
-    }
-    if turn >= 9 {
-        stamps.push(shown(alloc, writer(1), told.again(), b"x")?)?;
+    for served in &SERVES {
+        if turn >= *served {
+            stamps.push(stamp_of(alloc, *served, told)?)?;
+        }
     }
     Ok(stamps)
 }
@@ -159,9 +175,9 @@ fn stamps(alloc: Global, turn: u8, told: Told) -> Result<Reads, RowNo> {
 // The greatest epoch that the target issued or heard of.
 fn greatest(turn: u8, told: Told) -> Epoch {
     match turn {
-        0..=2 => Epoch(0),
-        3..=4 => Epoch(256),
-        5..=8 => Epoch(told.read),
+        0 | 1 | 2 => Epoch(0),
+        3 | 4 => Epoch(256),
+        5 | 6 | 7 | 8 => Epoch(told.read),
         _ => told.again(),
     }
 }
@@ -169,12 +185,13 @@ fn greatest(turn: u8, told: Told) -> Epoch {
 fn versions(alloc: Global, turn: u8, told: Told) -> Result<Versions, RowNo> {
     let mut versions = Items::new(alloc);
     if turn >= 11 {
+        let write = put(alloc, Class::S1, b"1")?;
         versions.push(Version {
             epoch: told.again(),
             minor: 1,
             by: writer(1),
             done: turn >= 13,
-            write: put(alloc, Class::S1, b"1")?,
+            write,
         })?;
     }
     Ok(versions)
@@ -194,29 +211,40 @@ fn entry(turn: u8, told: Told) -> Option<Entry> {
     })
 }
 
-// The target after so many turns.
-fn the_target(alloc: Global, turn: u8, told: Told) -> Result<TargetState, RowNo> {
+// What the target keeps.
+fn kept(alloc: Global, turn: u8, told: Told) -> Result<Durable, RowNo> {
+    let versions = versions(alloc, turn, told)?;
     let ticks = greatest(turn, told).ticks();
-    let kept = durable(
-        alloc,
-        versions(alloc, turn, told)?,
-        entry(turn, told),
-        ticks,
-    )?;
-    let free = if turn >= 11 { told.free } else { 15_120 };
+    durable(alloc, versions, entry(turn, told), ticks)
+}
+
+// The blocks that are free.
+fn free(turn: u8, told: Told) -> u32 {
+    if turn >= 11 { told.free } else { 15_120 }
+}
+
+// What the target remembers as a leader.
+fn leading(alloc: Global, turn: u8) -> Result<LeaderMemory, RowNo> {
     let mut ids = Items::new(alloc);
     if turn == 11 || turn == 12 {
         ids.push(writer(1))?;
     }
-    Ok(target_state(
-        alloc,
-        kept,
-        free,
-        ticks,
-        stamps(alloc, turn, told)?,
-        decided(alloc, ids),
-        no_member(alloc),
-    ))
+    Ok(decided(alloc, ids))
+}
+
+// What the target remembers.
+fn remembered(alloc: Global, turn: u8, told: Told) -> Result<TargetMemory, RowNo> {
+    let stamps = stamps(alloc, turn, told)?;
+    let leader = leading(alloc, turn)?;
+    let ticks = greatest(turn, told).ticks();
+    Ok(memory(alloc, ticks, stamps, leader, no_member(alloc)))
+}
+
+// The target after so many turns.
+fn the_target(alloc: Global, turn: u8, told: Told) -> Result<TargetState, RowNo> {
+    let kept = kept(alloc, turn, told)?;
+    let memory = remembered(alloc, turn, told)?;
+    Ok(target_state(kept, free(turn, told), memory))
 }
 
 // A read of an akey by an attempt that has no epoch yet.
@@ -227,6 +255,7 @@ fn fetch(
     tracker: u64,
     name: &[u8],
 ) -> Result<Letter, RowNo> {
+    let path = akey(alloc, Class::S1, name)?;
     let message = Message::Fetch {
         attempt: by,
         op: 0,
@@ -234,7 +263,7 @@ fn fetch(
         ep: None,
         first,
         tracker: Epoch(tracker),
-        read: Read::Single(akey(alloc, Class::S1, name)?),
+        read: Read::Single(path),
         snapshot: false,
     };
     Ok(letter(client(by.client), target(0), message))
@@ -252,22 +281,24 @@ fn fetched(by: AttemptId, epoch: Epoch, answer: Answer) -> Letter {
 }
 
 fn commit(alloc: Global, by: AttemptId, epoch: Epoch) -> Result<Letter, RowNo> {
+    let writes = writes(alloc, 1, put(alloc, Class::S1, b"1")?)?;
     let message = Message::Commit {
         attempt: by,
         ep: Some(epoch),
         first: Some(Epoch(256)),
         tracker: epoch,
-        writes: writes(alloc, 1, put(alloc, Class::S1, b"1")?)?,
+        writes,
     };
     Ok(letter(client(by.client), target(0), message))
 }
 
 // How client 0's first attempt ends.
 fn refused(alloc: Global, told: Told) -> Result<Outcome, RowNo> {
+    let path = akey(alloc, Class::S1, b"a")?;
     Ok(Outcome::Restart(Cause::ReadLater {
         by: READER,
         epoch: Epoch(told.cause),
-        path: akey(alloc, Class::S1, b"a")?,
+        path,
     }))
 }
 
@@ -290,68 +321,72 @@ fn letter_of(alloc: Global, number: u8, told: Told) -> Result<Letter, RowNo> {
     }
 }
 
-// The kind of a turn, whose it is, and the number of the letter that it hears.
-fn turn_of(turn: u8) -> (EventKind, ActorId, Option<u8>) {
+// The turn of this number.
+fn turn_of(turn: u8) -> Turn {
     match turn {
-        1 => (EventKind::GoOn, client(0), None),
-        2 => (EventKind::GoOn, client(1), None),
-        3 => (EventKind::Hear, target(0), Some(0)),
-        4 => (EventKind::Hear, client(0), Some(2)),
-        5 => (EventKind::Hear, target(0), Some(1)),
-        6 => (EventKind::Hear, client(1), Some(4)),
-        7 => (EventKind::Hear, target(0), Some(3)),
-        8 => (EventKind::Hear, client(0), Some(5)),
-        9 => (EventKind::Hear, target(0), Some(6)),
-        10 => (EventKind::Hear, client(0), Some(7)),
-        11 => (EventKind::Hear, target(0), Some(8)),
-        12 => (EventKind::Hear, client(0), Some(9)),
-        _ => (EventKind::Idle, target(0), None),
+        1 => hears_none(EventKind::GoOn, client(0)),
+        2 => hears_none(EventKind::GoOn, client(1)),
+        3 => hears(target(0), 0),
+        4 => hears(client(0), 2),
+        5 => hears(target(0), 1),
+        6 => hears(client(1), 4),
+        7 => hears(target(0), 3),
+        8 => hears(client(0), 5),
+        9 => hears(target(0), 6),
+        10 => hears(client(0), 7),
+        11 => hears(target(0), 8),
+        12 => hears(client(0), 9),
+        _ => hears_none(EventKind::Idle, target(0)),
     }
 }
 
-// The numbers of the letters in flight after so many turns.
-fn in_flight(turn: u8) -> &'static [u8] {
-    match turn {
-        1 => &[0],
-        2 => &[0, 1],
-        3 => &[1, 2],
-        4 => &[1, 3],
-        5 => &[3, 4],
-        6 => &[3],
-        7 => &[5],
-        8 => &[6],
-        9 => &[7],
-        10 => &[8],
-        11 => &[9],
-        _ => &[],
-    }
-}
+// The numbers of the letters in flight after each turn, from the start on.
+const IN_FLIGHT: [&[u8]; 14] = [
+    &[],
+    &[0],
+    &[0, 1],
+    &[1, 2],
+    &[1, 3],
+    &[3, 4],
+    &[3],
+    &[5],
+    &[6],
+    &[7],
+    &[8],
+    &[9],
+    &[],
+    &[],
+];
 
 fn letters(alloc: Global, turn: u8, told: Told) -> Result<Letters, RowNo> {
     let mut letters = Items::new(alloc);
-    for number in in_flight(turn) {
+    for number in after(&IN_FLIGHT, turn) {
         letters.push(letter_of(alloc, *number, told)?)?;
     }
     Ok(letters)
 }
 
-// The numbers of the letters that are without an answer after so many turns.
-fn unanswered(turn: u8) -> &'static [u8] {
-    match turn {
-        1 => &[0],
-        2 => &[0, 1],
-        3 => &[1],
-        4 => &[1, 3],
-        5 | 6 => &[3],
-        8 => &[6],
-        10 => &[8],
-        _ => &[],
-    }
-}
+// The numbers of the letters that are without an answer after each turn, from the start on.
+const UNANSWERED: [&[u8]; 14] = [
+    &[],
+    &[0],
+    &[0, 1],
+    &[1],
+    &[1, 3],
+    &[3],
+    &[3],
+    &[],
+    &[6],
+    &[],
+    &[8],
+    &[],
+    &[],
+    &[],
+];
 
 fn asked(alloc: Global, turn: u8, told: Told) -> Result<Letters, RowNo> {
     let mut letters = Items::new(alloc);
-    for number in unanswered(turn) {
+    for number in after(&UNANSWERED, turn) {
         letters.push(letter_of(alloc, *number, told)?)?;
     }
     Ok(letters)
@@ -371,24 +406,42 @@ fn issued(alloc: Global, turn: u8, told: Told) -> Result<Issues, RowNo> {
     Ok(issued)
 }
 
-// The line that client 0 adds at its second end.
+// The line that client 1 adds.
+fn read_line(alloc: Global, told: Told) -> Result<Line, RowNo> {
+    let got = Some(told.answer());
+    line(alloc, READER, Epoch(told.read), got, Outcome::Committed)
+}
+
+// The line that client 0 adds at its first end.
+fn refused_line(alloc: Global, told: Told) -> Result<Line, RowNo> {
+    let how = refused(alloc, told)?;
+    line(alloc, writer(0), Epoch(256), Some(Answer::Absent), how)
+}
+
+// The line that it adds at its second end.
 fn last_line(alloc: Global, told: Told) -> Result<Line, RowNo> {
     let got = Some(Answer::Absent);
     line(alloc, writer(1), told.again(), got, Outcome::Committed)
 }
 
+// The line that is added at this turn.
+fn line_of(alloc: Global, turn: u8, told: Told) -> Result<Line, RowNo> {
+    match turn {
+        6 => read_line(alloc, told),
+        8 => refused_line(alloc, told),
+        _ => last_line(alloc, told),
+    }
+}
+
+// The turns at which a line is added.
+const ADDS: [u8; 3] = [6, 8, 12];
+
 fn lines(alloc: Global, turn: u8, told: Told) -> Result<Lines, RowNo> {
     let mut lines = Items::new(alloc);
-    if turn >= 6 {
-        let got = Some(told.answer());
-        lines.push(line(alloc, READER, Epoch(told.read), got, Outcome::Committed)?)?;
-    }
-    if turn >= 8 {
-        let (got, how) = (Some(Answer::Absent), refused(alloc, told)?);
-        lines.push(line(alloc, writer(0), Epoch(256), got, how)?)?;
-    }
-    if turn >= 12 {
-        lines.push(last_line(alloc, told)?)?;
+    for added in &ADDS {
+        if turn >= *added {
+            lines.push(line_of(alloc, *added, told)?)?;
+        }
     }
     Ok(lines)
 }
@@ -415,8 +468,9 @@ pub fn world(alloc: Global, turn: u8, told: Told) -> Result<World, RowNo> {
 }
 
 fn event(alloc: Global, turn: u8, told: Told) -> Result<Event, RowNo> {
-    let (kind, actor, number) = turn_of(turn);
-    let heard = match number {
+    let Turn { kind, actor, heard } = turn_of(turn);
+    let after = world(alloc, turn, told)?;
+    let heard = match heard {
         Some(number) => Some(letter_of(alloc, number, told)?),
         None => None,
     };
@@ -424,7 +478,7 @@ fn event(alloc: Global, turn: u8, told: Told) -> Result<Event, RowNo> {
         kind,
         actor,
         heard,
-        after: world(alloc, turn, told)?,
+        after,
     })
 }
 

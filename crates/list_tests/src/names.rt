@@ -56,6 +56,8 @@ pub fn attempt(client: u16, command: u32, attempt: u8) -> AttemptId {
 
 /// An akey under the dkey d of the object of this class and number 0.
 pub fn akey(alloc: Global, class: Class, name: &[u8]) -> Result<Path, RowNo> {
+    let dkey = Key::new(alloc, b"d")?;
+    let akey = Key::new(alloc, name)?;
     Ok(Path {
         cont: ContId(1),
         obj: Some(ObjId {
@@ -63,14 +65,16 @@ pub fn akey(alloc: Global, class: Class, name: &[u8]) -> Result<Path, RowNo> {
             number: 0,
             unit: 1,
         }),
-        dkey: Some(Key::new(alloc, b"d")?),
-        akey: Some(Key::new(alloc, name)?),
+        dkey: Some(dkey),
+        akey: Some(akey),
     })
 }
 
 /// A write of a value at the akey a.
 pub fn put(alloc: Global, class: Class, value: &[u8]) -> Result<Write, RowNo> {
-    Ok(Write::Single(akey(alloc, class, b"a")?, bytes_of(alloc, value)?))
+    let path = akey(alloc, class, b"a")?;
+    let value = bytes_of(alloc, value)?;
+    Ok(Write::Single(path, value))
 }
 
 /// That write alone, by the operation of this number.
@@ -82,8 +86,9 @@ pub fn writes(alloc: Global, minor: u8, write: Write) -> Result<MinorWrites, Row
 
 /// An operation without a condition that reads an akey.
 pub fn get_op(alloc: Global, class: Class, name: &[u8]) -> Result<Op, RowNo> {
+    let path = akey(alloc, class, name)?;
     Ok(Op {
-        act: Act::Fetch(Read::Single(akey(alloc, class, name)?)),
+        act: Act::Fetch(Read::Single(path)),
         cond: Cond::Free,
     })
 }

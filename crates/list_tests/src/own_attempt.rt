@@ -2,12 +2,14 @@
 // leads, has stored the write, and waits for the Ack of target 1. Then it hears a Mark or a Verdict of it. Two
 // targets, one turn.
 use crate::names::{RowNo, target};
-use crate::parts::{client_state, decided, durable, letter, no_member, target_state};
+use crate::parts::{client_state, decided, durable, letter, memory, no_member, target_state};
 use crate::two_targets::{WRITER, entry, row_script, the_write, undecided, versions, waits};
 use base_messages::message::Message;
 use base_types::entry::Verdict;
 use base_types::epoch::Epoch;
 use base_types::items::Items;
+use daos_model::durable::Durable;
+use dtx_base::leading::LeaderMemory;
 use std::alloc::Global;
 use world_base::letter::{Letter, Letters};
 use world_base::target::TargetState;
@@ -60,27 +62,53 @@ fn marked(alloc: Global) -> Result<Letter, RowNo> {
     Ok(letter(target(0), target(1), message))
 }
 
+// What target 0 keeps once the attempt is committed, or else while it is prepared.
+fn holds(alloc: Global, done: bool) -> Result<Durable, RowNo> {
+    let versions = versions(alloc, true, done)?;
+    durable(alloc, versions, Some(entry(done, 0)), 1)
+}
+
+// What it keeps once the attempt is aborted.
+fn holds_nothing(alloc: Global) -> Result<Durable, RowNo> {
+    let versions = versions(alloc, false, false)?;
+    durable(alloc, versions, None, 1)
+}
+
+// What it keeps before the attempt is settled, and after that.
+fn kept(alloc: Global, settled: bool, commits: bool) -> Result<Durable, RowNo> {
+    if !settled {
+        holds(alloc, false)
+    } else if commits {
+        holds(alloc, true)
+    } else {
+        holds_nothing(alloc)
+    }
+}
+
+// What it remembers as a leader, while it waits for the Ack and after that.
+fn leading(alloc: Global, waits: bool) -> Result<LeaderMemory, RowNo> {
+    if waits {
+        undecided(alloc)
+    } else {
+        Ok(decided(alloc, Items::new(alloc)))
+    }
+}
+
 // Target 0 before the turn and after it.
 fn leader_state(alloc: Global, over: bool, told: Told) -> Result<TargetState, RowNo> {
-    let settled = over && told.settles;
-    let (held, done) = (!settled || told.commits, settled && told.commits);
-    let held_entry = if held { Some(entry(done, 0)) } else { None };
-    let kept = durable(alloc, versions(alloc, held, done)?, held_entry, 1)?;
-    let leader = if over && told.forgets {
-        decided(alloc, Items::new(alloc))
-    } else {
-        undecided(alloc)?
-    };
-    let stamps = Items::new(alloc);
-    Ok(target_state(alloc, kept, 15_109, 1, stamps, leader, no_member(alloc)))
+    let kept = kept(alloc, over && told.settles, told.commits)?;
+    let leader = leading(alloc, !over || !told.forgets)?;
+    let memory = memory(alloc, 1, Items::new(alloc), leader, no_member(alloc));
+    Ok(target_state(kept, 15_109, memory))
 }
 
 // Target 1, which holds nothing.
 fn other_state(alloc: Global) -> Result<TargetState, RowNo> {
-    let kept = durable(alloc, versions(alloc, false, false)?, None, 0)?;
+    let versions = versions(alloc, false, false)?;
+    let kept = durable(alloc, versions, None, 0)?;
     let leader = decided(alloc, Items::new(alloc));
-    let stamps = Items::new(alloc);
-    Ok(target_state(alloc, kept, 15_120, 0, stamps, leader, no_member(alloc)))
+    let memory = memory(alloc, 0, Items::new(alloc), leader, no_member(alloc));
+    Ok(target_state(kept, 15_120, memory))
 }
 
 fn letters(alloc: Global, over: bool, told: Told) -> Result<Letters, RowNo> {

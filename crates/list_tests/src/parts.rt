@@ -7,9 +7,9 @@ use base_types::entry::Entry;
 use base_types::epoch::Epoch;
 use base_types::id::{AttemptId, ContId};
 use base_types::items::Items;
-use base_types::operation::{MinorWrites, Ops};
+use base_types::operation::{Op, Ops};
 use base_types::outcome::{FloorWhy, Outcome};
-use base_types::report::{Attempt, Line};
+use base_types::report::{Attempt, Gots, Line};
 use base_types::script::{ClientLists, Command, Commands, Script};
 use daos_model::durable::{ContRow, ContRows, Durable, Versions};
 use dtx_base::leading::LeaderMemory;
@@ -18,6 +18,41 @@ use std::alloc::Global;
 use world_base::client::{ClientState, Present, Stage};
 use world_base::letter::Letter;
 use world_base::target::{Life, Reads, TargetMemory, TargetState};
+use world_list::events::EventKind;
+
+/// A turn: its kind, whose it is, and the number of the letter that it hears.
+#[derive(Clone, Copy)]
+pub struct Turn {
+    pub kind: EventKind,
+    pub actor: ActorId,
+    pub heard: Option<u8>,
+}
+
+/// A turn that hears the letter of this number.
+pub fn hears(actor: ActorId, letter: u8) -> Turn {
+    Turn {
+        kind: EventKind::Hear,
+        actor,
+        heard: Some(letter),
+    }
+}
+
+/// A turn that hears none.
+pub fn hears_none(kind: EventKind, actor: ActorId) -> Turn {
+    Turn {
+        kind,
+        actor,
+        heard: None,
+    }
+}
+
+/// The numbers of the letters that a table has after so many turns.
+pub fn after(table: &[&'static [u8]], turn: u8) -> &'static [u8] {
+    match table.get(usize::from(turn)) {
+        Some(letters) => *letters,
+        None => &[],
+    }
+}
 
 /// How far an attempt came whose client waits: its number, the first epoch of its command and its own,
 /// the operation, whether that is asked or the attempt is at its end, and whether operation 0 was a read
@@ -135,28 +170,31 @@ pub fn no_member(alloc: Global) -> MemberMemory {
     }
 }
 
-/// A target that runs.
-pub fn target_state(
+/// What a target remembers that collects nothing.
+pub fn memory(
     alloc: Global,
-    durable: Durable,
-    free: u32,
     ticks: u64,
     stamps: Reads,
     leader: LeaderMemory,
     member: MemberMemory,
-) -> TargetState {
+) -> TargetMemory {
+    TargetMemory {
+        ticks,
+        stamps,
+        leader,
+        member,
+        collecting: Items::new(alloc),
+    }
+}
+
+/// A target that runs.
+pub fn target_state(durable: Durable, free: u32, memory: TargetMemory) -> TargetState {
     TargetState {
         durable,
         free,
         opening: (Epoch(0), FloorWhy::Opening),
         life: Life::Running,
-        memory: TargetMemory {
-            ticks,
-            stamps,
-            leader,
-            member,
-            collecting: Items::new(alloc),
-        },
+        memory,
     }
 }
 
@@ -174,6 +212,15 @@ pub fn ended(attempt: AttemptId, epoch: Epoch, outcome: Outcome) -> Message {
     }
 }
 
+// The answer to operation 0, if it was a read.
+fn gots(alloc: Global, got: Option<Answer>) -> Result<Gots, RowNo> {
+    let mut gots = Items::new(alloc);
+    if let Some(answer) = got {
+        gots.push((0, answer))?;
+    }
+    Ok(gots)
+}
+
 /// The line of an attempt whose operation 0 was answered so, if it was a read.
 pub fn line(
     alloc: Global,
@@ -182,10 +229,7 @@ pub fn line(
     got: Option<Answer>,
     outcome: Outcome,
 ) -> Result<Line, RowNo> {
-    let mut gots = Items::new(alloc);
-    if let Some(answer) = got {
-        gots.push((0, answer))?;
-    }
+    let gots = gots(alloc, got)?;
     Ok(Line::Try(Attempt {
         id,
         epoch: Some(epoch),
@@ -202,6 +246,13 @@ pub fn run(alloc: Global, ops: Ops) -> Command {
         skips: Items::new(alloc),
         snapshot: None,
     }
+}
+
+/// Operations that are one.
+pub fn only_op(alloc: Global, op: Op) -> Result<Ops, RowNo> {
+    let mut ops = Items::new(alloc);
+    ops.push(op)?;
+    Ok(ops)
 }
 
 /// A client's commands that are one.

@@ -3,8 +3,8 @@
 // Two targets, twelve turns in rounds.
 use crate::names::{RowNo, akey, attempt, client, get_op, put, put_op, target, writes};
 use crate::parts::{
-    ClientAt, PresentAt, client_state, decided, durable, ended, letter, line, no_member, rests,
-    run, script, target_state,
+    ClientAt, PresentAt, Turn, after, client_state, decided, durable, ended, hears, hears_none,
+    letter, line, memory, no_member, only_op, rests, run, script, target_state,
 };
 use base_messages::actor::ActorId;
 use base_messages::message::{AttemptIds, Message, Reply};
@@ -13,18 +13,18 @@ use base_types::entry::{Entry, Verdict};
 use base_types::epoch::Epoch;
 use base_types::id::{AttemptId, Class};
 use base_types::items::{Items, bytes_of};
-use base_types::operation::Read;
+use base_types::operation::{MinorWrites, Read};
 use base_types::outcome::Outcome;
-use base_types::report::Lines;
-use base_types::script::Script;
+use base_types::report::{Line, Lines};
+use base_types::script::{Command, Script};
 use base_types::shown::Shown;
-use daos_model::durable::{Version, Versions};
+use daos_model::durable::{Durable, Version, Versions};
 use dtx_base::leading::{LeaderMemory, Naming, Undecided};
 use dtx_base::member::{MemberMemory, Parked};
 use std::alloc::Global;
 use world_base::did::Issues;
 use world_base::letter::{Letter, Letters};
-use world_base::target::{Reads, TargetState};
+use world_base::target::{Reads, TargetMemory, TargetState};
 use world_base::world::{Numbers, World};
 use world_list::events::{Event, EventKind, EventList, Events};
 
@@ -56,15 +56,25 @@ const READER: AttemptId = AttemptId {
     attempt: 0,
 };
 
+// Client 0 writes a.
+fn put_command(alloc: Global) -> Result<Command, RowNo> {
+    let write = put(alloc, Class::RP2G1, b"hello")?;
+    let ops = only_op(alloc, put_op(write))?;
+    Ok(run(alloc, ops))
+}
+
+// It reads a.
+fn get_command(alloc: Global) -> Result<Command, RowNo> {
+    let read = get_op(alloc, Class::RP2G1, b"a")?;
+    let ops = only_op(alloc, read)?;
+    Ok(run(alloc, ops))
+}
+
 /// Client 0 writes a and then reads it.
 pub fn row_script(alloc: Global) -> Result<Script, RowNo> {
-    let mut first = Items::new(alloc);
-    first.push(put_op(put(alloc, Class::RP2G1, b"hello")?))?;
-    let mut second = Items::new(alloc);
-    second.push(get_op(alloc, Class::RP2G1, b"a")?)?;
     let mut commands = Items::new(alloc);
-    commands.push(run(alloc, first))?;
-    commands.push(run(alloc, second))?;
+    commands.push(put_command(alloc)?)?;
+    commands.push(get_command(alloc)?)?;
     let mut clients = Items::new(alloc);
     clients.push(commands)?;
     Ok(script(alloc, 2, clients))
@@ -100,12 +110,13 @@ fn the_client(turn: u8, told: Told) -> ClientAt {
 pub fn versions(alloc: Global, there: bool, done: bool) -> Result<Versions, RowNo> {
     let mut versions = Items::new(alloc);
     if there {
+        let write = put(alloc, Class::RP2G1, b"hello")?;
         versions.push(Version {
             epoch: Epoch(256),
             minor: 0,
             by: WRITER,
             done,
-            write: put(alloc, Class::RP2G1, b"hello")?,
+            write,
         })?;
     }
     Ok(versions)
@@ -141,6 +152,12 @@ pub fn undecided(alloc: Global) -> Result<LeaderMemory, RowNo> {
     Ok(memory)
 }
 
+// The leader once it decided the write.
+fn settled(alloc: Global) -> Result<LeaderMemory, RowNo> {
+    let ids = the_write(alloc)?;
+    Ok(decided(alloc, ids))
+}
+
 // The leader while it waits for the answer to its Mark.
 fn named(alloc: Global, told: Told) -> Result<LeaderMemory, RowNo> {
     let mut memory = decided(alloc, Items::new(alloc));
@@ -155,32 +172,64 @@ fn named(alloc: Global, told: Told) -> Result<LeaderMemory, RowNo> {
 // What target 0 remembers as a leader.
 fn leading(alloc: Global, turn: u8, told: Told) -> Result<LeaderMemory, RowNo> {
     match turn {
-        2..=3 => undecided(alloc),
-        4..=5 => Ok(decided(alloc, the_write(alloc)?)),
-        6..=9 => named(alloc, told),
+        2 | 3 => undecided(alloc),
+        4 | 5 => settled(alloc),
+        6 | 7 | 8 | 9 => named(alloc, told),
         _ => Ok(decided(alloc, Items::new(alloc))),
     }
 }
 
-// Target 0 after so many turns.
-fn leader_state(alloc: Global, turn: u8, told: Told) -> Result<TargetState, RowNo> {
-    let (there, done) = (turn >= 2, turn >= 6);
-    let confirmed = if turn >= 10 { told.confirmed } else { 0 };
+// What a target keeps, with these members that confirmed: nothing yet, the write while it is prepared, or
+// that committed.
+fn kept(
+    alloc: Global,
+    there: bool,
+    done: bool,
+    confirmed: u64,
+    ticks: u64,
+) -> Result<Durable, RowNo> {
+    let versions = versions(alloc, there, done)?;
     let held = if there {
         Some(entry(done, confirmed))
     } else {
         None
     };
-    let ticks = if there { 1 } else { 0 };
-    let kept = durable(alloc, versions(alloc, there, done)?, held, ticks)?;
-    let free = if there { 15_109 } else { 15_120 };
+    durable(alloc, versions, held, ticks)
+}
+
+// The blocks that are free, before the write is there and after that.
+fn free(there: bool) -> u32 {
+    if there { 15_109 } else { 15_120 }
+}
+
+// What target 0 keeps.
+fn leader_kept(alloc: Global, turn: u8, told: Told) -> Result<Durable, RowNo> {
+    let confirmed = if turn >= 10 { told.confirmed } else { 0 };
+    kept(alloc, turn >= 2, turn >= 6, confirmed, leader_ticks(turn))
+}
+
+// The ticks of target 0 after so many turns.
+fn leader_ticks(turn: u8) -> u64 {
+    if turn >= 2 { 1 } else { 0 }
+}
+
+// What it remembers.
+fn leader_memory(alloc: Global, turn: u8, told: Told) -> Result<TargetMemory, RowNo> {
     let leader = leading(alloc, turn, told)?;
-    let member = no_member(alloc);
-    Ok(target_state(alloc, kept, free, ticks, Items::new(alloc), leader, member))
+    let stamps = Items::new(alloc);
+    Ok(memory(alloc, leader_ticks(turn), stamps, leader, no_member(alloc)))
+}
+
+// Target 0 after so many turns.
+fn leader_state(alloc: Global, turn: u8, told: Told) -> Result<TargetState, RowNo> {
+    let kept = leader_kept(alloc, turn, told)?;
+    let memory = leader_memory(alloc, turn, told)?;
+    Ok(target_state(kept, free(turn >= 2), memory))
 }
 
 // The read, with the epoch that it was issued or without.
 fn read(alloc: Global, epoch: Option<Epoch>) -> Result<Message, RowNo> {
+    let path = akey(alloc, Class::RP2G1, b"a")?;
     Ok(Message::Fetch {
         attempt: READER,
         op: 0,
@@ -188,7 +237,7 @@ fn read(alloc: Global, epoch: Option<Epoch>) -> Result<Message, RowNo> {
         ep: epoch,
         first: None,
         tracker: Epoch(256),
-        read: Read::Single(akey(alloc, Class::RP2G1, b"a")?),
+        read: Read::Single(path),
         snapshot: false,
     })
 }
@@ -197,10 +246,11 @@ fn read(alloc: Global, epoch: Option<Epoch>) -> Result<Message, RowNo> {
 fn joining(alloc: Global, turn: u8, told: Told) -> Result<MemberMemory, RowNo> {
     let mut memory = no_member(alloc);
     if turn >= 7 && turn < 11 {
+        let ask = read(alloc, Some(Epoch(told.read)))?;
         memory.parked.push(Parked {
             on: WRITER,
             leader: 0,
-            ask: read(alloc, Some(Epoch(told.read)))?,
+            ask,
         })?;
     }
     Ok(memory)
@@ -210,54 +260,67 @@ fn joining(alloc: Global, turn: u8, told: Told) -> Result<MemberMemory, RowNo> {
 fn stamps(alloc: Global, turn: u8, told: Told) -> Result<Reads, RowNo> {
     let mut stamps = Items::new(alloc);
     if turn >= 11 {
+        let path = akey(alloc, Class::RP2G1, b"a")?;
         stamps.push(Shown {
             by: READER,
             epoch: Epoch(told.read),
-            path: akey(alloc, Class::RP2G1, b"a")?,
+            path,
         })?;
     }
     Ok(stamps)
 }
 
+// The ticks of target 1 after so many turns.
+fn member_ticks(turn: u8, told: Told) -> u64 {
+    match turn {
+        0 | 1 | 2 => 0,
+        3 | 4 | 5 | 6 => 1,
+        _ => told.read / 256,
+    }
+}
+
+// What target 1 keeps.
+fn member_kept(alloc: Global, turn: u8, told: Told) -> Result<Durable, RowNo> {
+    kept(alloc, turn >= 3, turn >= 9, 0, member_ticks(turn, told))
+}
+
+// What it remembers.
+fn member_memory(alloc: Global, turn: u8, told: Told) -> Result<TargetMemory, RowNo> {
+    let stamps = stamps(alloc, turn, told)?;
+    let member = joining(alloc, turn, told)?;
+    let leader = decided(alloc, Items::new(alloc));
+    Ok(memory(alloc, member_ticks(turn, told), stamps, leader, member))
+}
+
 // Target 1 after so many turns.
 fn member_state(alloc: Global, turn: u8, told: Told) -> Result<TargetState, RowNo> {
-    let (there, done) = (turn >= 3, turn >= 9);
-    let held = if there { Some(entry(done, 0)) } else { None };
-    let ticks = match turn {
-        0..=2 => 0,
-        3..=6 => 1,
-        _ => told.read / 256,
-    };
-    let kept = durable(alloc, versions(alloc, there, done)?, held, ticks)?;
-    let free = if there { 15_109 } else { 15_120 };
-    let leader = decided(alloc, Items::new(alloc));
-    let member = joining(alloc, turn, told)?;
-    Ok(target_state(
-        alloc,
-        kept,
-        free,
-        ticks,
-        stamps(alloc, turn, told)?,
-        leader,
-        member,
-    ))
+    let kept = member_kept(alloc, turn, told)?;
+    let memory = member_memory(alloc, turn, told)?;
+    Ok(target_state(kept, free(turn >= 3), memory))
+}
+
+// What the write's attempt writes.
+fn the_writes(alloc: Global) -> Result<MinorWrites, RowNo> {
+    writes(alloc, 0, put(alloc, Class::RP2G1, b"hello")?)
 }
 
 fn commit(alloc: Global) -> Result<Message, RowNo> {
+    let writes = the_writes(alloc)?;
     Ok(Message::Commit {
         attempt: WRITER,
         ep: None,
         first: None,
         tracker: Epoch(0),
-        writes: writes(alloc, 0, put(alloc, Class::RP2G1, b"hello")?)?,
+        writes,
     })
 }
 
 fn prepare(alloc: Global) -> Result<Message, RowNo> {
+    let writes = the_writes(alloc)?;
     Ok(Message::Prepare {
         entry: entry(false, 0),
         first: None,
-        writes: writes(alloc, 0, put(alloc, Class::RP2G1, b"hello")?)?,
+        writes,
         inc: 1,
     })
 }
@@ -305,105 +368,130 @@ fn answer(alloc: Global, told: Told) -> Result<Answer, RowNo> {
 }
 
 fn fetched(alloc: Global, told: Told) -> Result<Message, RowNo> {
+    let answer = answer(alloc, told)?;
     Ok(Message::Fetched {
         attempt: READER,
         op: 0,
         group: 0,
         epoch: Some(Epoch(told.read)),
-        reply: Reply::Answer(answer(alloc, told)?),
+        reply: Reply::Answer(answer),
     })
 }
 
-// The letter of this number, in the order of sending.
+// What the letter of this number says, in the order of sending.
+fn message_of(alloc: Global, number: u8, told: Told) -> Result<Message, RowNo> {
+    match number {
+        0 => commit(alloc),
+        1 => prepare(alloc),
+        2 => Ok(ack()),
+        3 => Ok(ended(WRITER, Epoch(256), Outcome::Committed)),
+        4 => read(alloc, None),
+        5 => mark(alloc, told),
+        6 => Ok(query()),
+        7 => Ok(verdict()),
+        8 => marked(alloc, told),
+        _ => fetched(alloc, told),
+    }
+}
+
+// Who sends it.
+fn sender(number: u8) -> ActorId {
+    match number {
+        0 | 4 => client(0),
+        1 | 3 | 5 | 7 => target(0),
+        _ => target(1),
+    }
+}
+
+// For whom it is.
+fn receiver(number: u8) -> ActorId {
+    match number {
+        3 | 9 => client(0),
+        0 | 2 | 6 | 8 => target(0),
+        _ => target(1),
+    }
+}
+
+// The letter of this number.
 fn letter_of(alloc: Global, number: u8, told: Told) -> Result<Letter, RowNo> {
-    let (zero, one, asker) = (target(0), target(1), client(0));
-    let end = ended(WRITER, Epoch(256), Outcome::Committed);
-    Ok(match number {
-        0 => letter(asker, zero, commit(alloc)?),
-        1 => letter(zero, one, prepare(alloc)?),
-        2 => letter(one, zero, ack()),
-        3 => letter(zero, asker, end),
-        4 => letter(asker, one, read(alloc, None)?),
-        5 => letter(zero, one, mark(alloc, told)?),
-        6 => letter(one, zero, query()),
-        7 => letter(zero, one, verdict()),
-        8 => letter(one, zero, marked(alloc, told)?),
-        _ => letter(one, asker, fetched(alloc, told)?),
-    })
+    let message = message_of(alloc, number, told)?;
+    Ok(letter(sender(number), receiver(number), message))
 }
 
 fn marked(alloc: Global, told: Told) -> Result<Message, RowNo> {
+    let attempts = the_write(alloc)?;
     Ok(Message::Marked {
         inc: told.inc,
-        attempts: the_write(alloc)?,
+        attempts,
     })
 }
 
-// The kind of a turn, whose it is, and the number of the letter that it hears.
-fn turn_of(turn: u8) -> (EventKind, ActorId, Option<u8>) {
+// The turn of this number.
+fn turn_of(turn: u8) -> Turn {
     match turn {
-        1 => (EventKind::GoOn, client(0), None),
-        2 => (EventKind::Hear, target(0), Some(0)),
-        3 => (EventKind::Hear, target(1), Some(1)),
-        4 => (EventKind::Hear, target(0), Some(2)),
-        5 => (EventKind::Hear, client(0), Some(3)),
-        6 => (EventKind::Idle, target(0), None),
-        7 => (EventKind::Hear, target(1), Some(4)),
-        8 => (EventKind::Hear, target(0), Some(6)),
-        9 => (EventKind::Hear, target(1), Some(5)),
-        10 => (EventKind::Hear, target(0), Some(8)),
-        11 => (EventKind::Hear, target(1), Some(7)),
-        _ => (EventKind::Hear, client(0), Some(9)),
+        1 => hears_none(EventKind::GoOn, client(0)),
+        2 => hears(target(0), 0),
+        3 => hears(target(1), 1),
+        4 => hears(target(0), 2),
+        5 => hears(client(0), 3),
+        6 => hears_none(EventKind::Idle, target(0)),
+        7 => hears(target(1), 4),
+        8 => hears(target(0), 6),
+        9 => hears(target(1), 5),
+        10 => hears(target(0), 8),
+        11 => hears(target(1), 7),
+        _ => hears(client(0), 9),
     }
 }
 
-// The numbers of the letters in flight after so many turns.
-fn in_flight(turn: u8) -> &'static [u8] {
-    match turn {
-        1 => &[0],
-        2 => &[1],
-        3 => &[2],
-        4 => &[3],
-        5 => &[4],
-        6 => &[4, 5],
-        7 => &[5, 6],
-        8 => &[5, 7],
-        9 => &[7, 8],
-        10 => &[7],
-        11 => &[9],
-        _ => &[],
-    }
-}
+// The numbers of the letters in flight after each turn, from the start on.
+const IN_FLIGHT: [&[u8]; 13] = [
+    &[],
+    &[0],
+    &[1],
+    &[2],
+    &[3],
+    &[4],
+    &[4, 5],
+    &[5, 6],
+    &[5, 7],
+    &[7, 8],
+    &[7],
+    &[9],
+    &[],
+];
 
 fn letters(alloc: Global, turn: u8, told: Told) -> Result<Letters, RowNo> {
     let mut letters = Items::new(alloc);
     if told.stays && turn >= 4 {
         letters.push(letter_of(alloc, 2, told)?)?;
     }
-    for number in in_flight(turn) {
+    for number in after(&IN_FLIGHT, turn) {
         letters.push(letter_of(alloc, *number, told)?)?;
     }
     Ok(letters)
 }
 
-// The numbers of the letters that are without an answer after so many turns.
-fn unanswered(turn: u8) -> &'static [u8] {
-    match turn {
-        1 => &[0],
-        2 => &[0, 1],
-        3 => &[0],
-        5 => &[4],
-        6 => &[4, 5],
-        7 => &[4, 5, 6],
-        8 => &[4, 5],
-        9 | 10 => &[4],
-        _ => &[],
-    }
-}
+// The numbers of the letters that are without an answer after each turn, from the start on.
+const UNANSWERED: [&[u8]; 13] = [
+    &[],
+    &[0],
+    &[0, 1],
+    &[0],
+    &[],
+    &[4],
+    &[4, 5],
+    &[4, 5, 6],
+    &[4, 5],
+    &[4],
+    &[4],
+    &[],
+    &[],
+];
 
 fn asked(alloc: Global, turn: u8, told: Told) -> Result<Letters, RowNo> {
     let mut letters = Items::new(alloc);
-    for number in unanswered(turn) {
+    for number in after(&UNANSWERED, turn) {
         letters.push(letter_of(alloc, *number, told)?)?;
     }
     Ok(letters)
@@ -420,14 +508,24 @@ fn issued(alloc: Global, turn: u8, told: Told) -> Result<Issues, RowNo> {
     Ok(issued)
 }
 
+// The line of the write.
+fn write_line(alloc: Global) -> Result<Line, RowNo> {
+    line(alloc, WRITER, Epoch(256), None, Outcome::Committed)
+}
+
+// The line of the read.
+fn read_line(alloc: Global, told: Told) -> Result<Line, RowNo> {
+    let got = Some(answer(alloc, told)?);
+    line(alloc, READER, Epoch(told.read), got, Outcome::Committed)
+}
+
 fn lines(alloc: Global, turn: u8, told: Told) -> Result<Lines, RowNo> {
     let mut lines = Items::new(alloc);
     if turn >= 5 {
-        lines.push(line(alloc, WRITER, Epoch(256), None, Outcome::Committed)?)?;
+        lines.push(write_line(alloc)?)?;
     }
     if turn >= 12 {
-        let got = Some(answer(alloc, told)?);
-        lines.push(line(alloc, READER, Epoch(told.read), got, Outcome::Committed)?)?;
+        lines.push(read_line(alloc, told)?)?;
     }
     Ok(lines)
 }
@@ -454,8 +552,9 @@ pub fn world(alloc: Global, turn: u8, told: Told) -> Result<World, RowNo> {
 }
 
 fn event(alloc: Global, turn: u8, told: Told) -> Result<Event, RowNo> {
-    let (kind, actor, number) = turn_of(turn);
-    let heard = match number {
+    let Turn { kind, actor, heard } = turn_of(turn);
+    let after = world(alloc, turn, told)?;
+    let heard = match heard {
         Some(number) => Some(letter_of(alloc, number, told)?),
         None => None,
     };
@@ -463,7 +562,7 @@ fn event(alloc: Global, turn: u8, told: Told) -> Result<Event, RowNo> {
         kind,
         actor,
         heard,
-        after: world(alloc, turn, told)?,
+        after,
     })
 }
 
