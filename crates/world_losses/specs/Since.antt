@@ -1,7 +1,7 @@
 -- A stop since a client's last line stays one, whatever lines of targets are added.
-use Rattle.std.specs.Prelude.{ℕ, ◌≡◌, ◌⊎◌, ◌++◌, Bool, true, false, List, [], ◌∷◌, Contains, Any, Option, Some, None, refl, if◌then◌else◌}
+use Rattle.std.specs.Prelude.{ℕ, ◌≡◌, ◌++◌, Bool, true, false, List, [], ◌∷◌, Contains, Any, refl, if◌then◌else◌}
 use Rattle.std.specs.List.{list_any}
-use Rattle.std.proofs.Common.{append-nil, append_assoc, sym, ◌∙◌, ap, subst, inl, inr}
+use Rattle.std.proofs.Common.{append-nil, append_assoc, sym, ◌∙◌, ap}
 use Rattle.base_types.specs.declared.id.AttemptId.{AttemptId}
 use Rattle.base_types.specs.declared.report.Attempt.{Attempt}
 use Rattle.base_types.specs.declared.report.Line.{Line}
@@ -10,7 +10,7 @@ use Rattle.model_laws.specs.Lists.{any-of}
 use Rattle.model_laws.specs.Members.{Has, has-from_contains, has-left, has-right}
 use Rattle.daos_model.specs.Accesses.{attempt_targets}
 use Rattle.daos_model.specs.Attempts.{EachTry, is_of_client, tried, tries, up_to_last_of}
-use Rattle.daos_model.specs.CausesShown.{IsStopAt, StopsAfter}
+use Rattle.daos_model.specs.CausesShown.{IsStopAt}
 use Rattle.daos_model.specs.Laws.{tries-append}
 use Rattle.world_base.specs.Events.{Rules}
 use Rattle.world_losses.specs.Losses.{StoppedSince}
