@@ -1,6 +1,6 @@
 -- Whatever tells of a stop of an attempt, its client has begun it.
-use Rattle.std.specs.Prelude.{ℕ, ◌≡◌, ◌⊎◌, ◌&&◌, Bool, true, false, List, slice_get, Option, Some, None, refl}
-use Rattle.std.proofs.Common.{sym, ◌∙◌, ap, subst, inl, inr}
+use Rattle.std.specs.Prelude.{ℕ, ◌≡◌, ◌⊎◌, true, false, slice_get, Option, Some, None, refl}
+use Rattle.std.proofs.Common.{sym, ◌∙◌, ap, subst, inl}
 use Rattle.base_types.specs.declared.epoch.Epoch.{Epoch}
 use Rattle.base_types.specs.declared.id.AttemptId.{AttemptId}
 use Rattle.base_messages.specs.declared.message.Message.{Message, more_of-Message}
@@ -21,7 +21,7 @@ use Rattle.world_base.specs.declared.letter.Letter.{Letter}
 use Rattle.world_base.specs.declared.world.World.{World}
 use Rattle.world_base.specs.ClientTurns.{attempt_id, request_of}
 use Rattle.world_base.specs.Events.{Rules, client_plan}
-use Rattle.world_base.specs.Letters.{client, is_tell, reset_message}
+use Rattle.world_base.specs.Letters.{is_tell, reset_message}
 use Rattle.world_epochs.specs.Epochs.{IsPresent}
 use Rattle.world_fates.specs.Facts.{Attempts, IsAskedSo, IsSaidSo}
 use Rattle.world_handing.specs.Begun.{handed-where, lost-question}

@@ -1,7 +1,7 @@
 // What follows from the conversations of clients for other facts.
 #![tactic(auto)]
 
-ghost use Rattle.world_handing.specs.Laws.{ClientsCommit, ClientsLoseQuestions, CommitsAreRight, ConversationsFit, ConversationsHandOver, EpochsGoWithCommits, EventsKeepGroups, LeadersAreAmongTargets, LeadersAreAsked, PlacesAreInForm, ReadersAreNotBorn, SnapshotsAreInForm, TargetsAreAsked, TellersAreBegun};
+ghost use Rattle.world_handing.specs.Laws.{ClientsCommit, ClientsLoseQuestions, CommitsAreRight, ConversationsFit, ConversationsHandOver, EpochsGoWithCommits, EventsKeepGroups, LeadersAreAmongTargets, LeadersAreAsked, LossesShowStops, OpenVersionsAreHeld, PlacesAreInForm, ReadersAreNotBorn, SnapshotsAreInForm, TargetsAreAsked, TellersAreBegun};
 
 /// Says what follows for other facts where each client that waits has one carrier of what it waits for,
 /// targets may stop, and requests come from clients. An attempt is handed over, and asked after, by its
@@ -16,7 +16,9 @@ ghost use Rattle.world_handing.specs.Laws.{ClientsCommit, ClientsLoseQuestions, 
 /// form, where, too, what reads at a snapshot writes nothing. What is lost of a client is a question about
 /// its attempt; nothing became of an attempt that reads; the leader of a present attempt that it holds is
 /// one of its targets; and whatever tells of a stop of an attempt, its client has begun it, where reads are
-/// answered to clients.
+/// answered to clients. What isn't settled is of an attempt of which its target keeps an entry, where
+/// versions stand. And where losses do, a client that waits hears of one only behind a stop of a target of
+/// its attempt, or where one is given up.
 pub fn laws_of_handing()
     ensures over { ConversationsHandOver }
     ensures commits { ClientsCommit }
@@ -30,6 +32,8 @@ pub fn laws_of_handing()
     ensures readers { ReadersAreNotBorn }
     ensures leaders { LeadersAreAmongTargets }
     ensures begun { TellersAreBegun }
+    ensures versions { OpenVersionsAreHeld }
+    ensures losses { LossesShowStops }
     ensures places { PlacesAreInForm }
     ensures snapshots { SnapshotsAreInForm }
 {}
