@@ -205,7 +205,7 @@ module _ (r : Rules) (w : World) (stand : ClientsStand r w) (places : PlacesAreR
       subst Targets (sym (ap (λ z. z.to.number) says))
       (let s = stand n c here in first-target (command.Aggregate cont) (command-is r n c a (command.Aggregate cont) s.0 s.1 command-at refl) (has-range 0 r.script.targets 0 (omega arith) (let e = places.some in omega (arith, e))))
 
-  question-target : (q : Post) → IsQuestion p c q → Targets q.to.number
+  pub question-target : (q : Post) → IsQuestion p c q → Targets q.to.number
   question-target q (ItsRequest k low sent) = asked-target k q (sent-is-asked p k c a q at sent)
   question-target q (ItsAsk k s f low sent commit says) = subst Targets (sym (ap (λ z. z.to.number) says)) (asked-target k s (sent-is-asked p k c a s at sent))
 
