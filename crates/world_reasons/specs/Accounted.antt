@@ -16,16 +16,18 @@ use Rattle.world_stored.specs.Over.{StoringOver}
 use Rattle.world_whole.specs.Begins.{IsBegun, IsSimple, held_at, no_history}
 use Rattle.world_whole.specs.Everything.{AreBefore}
 use Rattle.world_reasons.specs.Downs.{DownsAreTold}
+use Rattle.world_reasons.specs.Knowing.{DownsAreKnown}
 
 -- ---- the facts
 
 -- all that stands, of what was decided, aborted and served; that clients ask within the groups of their paths; that what tells of a stop has
--- one, and of a target that is down the line that it was given up; and what was stored, once
+-- one, and of a target that is down the line that it was given up, as what leaders know of such; and what was stored, once
 pub record Accounted (r : Rules) (o : Opening) (held : ℕ → List Version) (h : History) (stored : Stored) (w : World) : Type 0 where
   pub standing : Standing r o held h w
   pub within : ClientsAskWithin r w
   pub losses : Losses r w
   pub downs : DownsAreTold w
+  pub knows : DownsAreKnown w
   pub once : StoringOver r stored w
 
 -- it holds of what was decided, aborted and served by now, which is all that was before, and perhaps more

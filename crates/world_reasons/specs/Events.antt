@@ -23,6 +23,7 @@ use Rattle.world_losses.specs.Keeping.{AllBeside}
 use Rattle.world_losses.specs.Laws as losses
 use Rattle.world_losses.specs.Losses.{Losses}
 use Rattle.world_losses.specs.Readers.{OpenAreHeld}
+use Rattle.world_requests.specs.Rows.{commits-find}
 use Rattle.world_showing.specs.Happening.{stored_in}
 use Rattle.world_standing.specs.Events as stands
 use Rattle.world_standing.specs.Standing.{Standing}
@@ -33,6 +34,7 @@ use Rattle.world_whole.specs.Begins.{IsSimple}
 use Rattle.world_whole.specs.Everything.{AreBefore}
 use Rattle.world_reasons.specs.Accounted.{Accounted, AccountedStill, EventsKeepAccounts}
 use Rattle.world_reasons.specs.Downs.{DownsAreTold, events-keep-downs}
+use Rattle.world_reasons.specs.Knowing.{DownsAreKnown, events-keep-known}
 
 -- ---- what follows of all that stands
 
@@ -109,11 +111,17 @@ module _ (r : Rules) (o : Opening) (held : ℕ → List Version) (h : History) (
   downs-then : DownsAreTold v
   downs-then = events-keep-downs r w v k.standing.endings e (stands.talk-happened r o held h w v A.some_attempt before k.standing e) standing-then.lives k.downs
 
+  knows-then : DownsAreKnown v
+  knows-then =
+      let s = k.standing in
+      events-keep-known r h w v s.heard.attempts (commits-find r h w s.heard.attempts (stands.right r o held h w v A.some_attempt before s e)) k.downs e
+      (stands.no-collections r w e.u e.happens (stands.ours r o held h w v A.some_attempt before s e)) k.knows
+
   pub still : AccountedStill r o held h (stored_in r e.happens ++ stored) v
   still = record {
     later = later;
     grew = stands.grew r o held h w v A.some_attempt before k.standing e;
-    accounted = record { standing = standing-then; within = groups-stay r w v e k.within; losses = losses-then; downs = downs-then; once = stored-then };
+    accounted = record { standing = standing-then; within = groups-stay r w v e k.within; losses = losses-then; downs = downs-then; knows = knows-then; once = stored-then };
   }
 
 pub events-keep-accounts : EventsKeepAccounts

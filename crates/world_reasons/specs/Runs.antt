@@ -16,6 +16,7 @@ use Rattle.world_whole.specs.Begins.{IsBegun, IsSimple, held_at, no_history}
 use Rattle.world_whole.specs.Whole.{held-before}
 use Rattle.world_reasons.specs.Accounted.{Accounted, RunsAreAccounted, RunsBeginAccounted, stored_over}
 use Rattle.world_reasons.specs.Downs.{downs-begin}
+use Rattle.world_reasons.specs.Knowing.{known-begin}
 use Rattle.world_reasons.specs.Events.{events-keep-accounts}
 
 module _ (r : Rules) (o : Opening) (w : World) (A : IsSimple r) (B : IsBegun r o w) where
@@ -33,6 +34,7 @@ module _ (r : Rules) (o : Opening) (w : World) (A : IsSimple r) (B : IsBegun r o
     within = within-begins;
     losses = losses-begin r no_history w (none-yet r o w A B) B.lines;
     downs = downs-begin w B.messages;
+    knows = known-begin w (λ t s here. ap (λ m. m.down) (B.starts t s here).leader);
     once = storing-begins r w B.messages no-tries;
   }
 

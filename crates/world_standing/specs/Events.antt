@@ -92,7 +92,7 @@ of-stops number r w v f (message.Held x refusal) ours turn = let no : ⊥ = cc i
 of-stops number r w v f (message.Prune x c tracker e) ours turn = let no : ⊥ = cc in absurd no
 of-stops number r w v f m ours turn = absurd turn
 
-no-collections : (r : Rules) (w v : World) (e : Happening r w v) → HappensWithoutSnapshots e → IsWithoutCollections e
+pub no-collections : (r : Rules) (w v : World) (e : Happening r w v) → HappensWithoutSnapshots e → IsWithoutCollections e
 no-collections r w v (Further f) ours = of-stops f.number r w v f f.hears.l.message ours f.hears.turn
 no-collections r w v (Plainly e up) ours = tt
 no-collections r w v (IsCut g) ours = tt

@@ -1,0 +1,166 @@
+-- What a leader hears of attempts that it leads is known: who waits is the attempt's client; a refusal, or the news that a member holds
+-- nothing, shows why; and who asks what became of an attempt has a stop, or a target that was given up, to be told of.
+use Rattle.std.specs.Prelude.{ℕ, ◌≡◌, ◌≤◌, ◌/◌, ◌&&◌, Bool, true, false, List, [], ◌∷◌, find, filter, slice_get, Contains, Option, Some, None, refl, if◌then◌else◌}
+use Rattle.std.proofs.Common.{inl, inr, sym, ◌∙◌, ap, subst}
+use Rattle.base_types.specs.declared.entry.Entry.{Entry}
+use Rattle.base_types.specs.declared.entry.EntryState.{EntryState}
+use Rattle.base_types.specs.declared.entry.EntryState.TheVariants as state
+use Rattle.base_types.specs.declared.id.AttemptId.{AttemptId}
+use Rattle.base_types.specs.declared.outcome.Cause.TheVariants as cause
+use Rattle.base_types.specs.declared.outcome.Outcome.{Outcome}
+use Rattle.base_types.specs.declared.outcome.Outcome.TheVariants as outcome
+use Rattle.base_types.specs.declared.report.Line.TheVariants as line
+use Rattle.base_messages.specs.declared.actor.ActorId.{ActorId}
+use Rattle.base_messages.specs.declared.message.Message.{Message}
+use Rattle.base_messages.specs.declared.message.Message.TheVariants as message
+use Rattle.daos_model.specs.Accesses.{attempt_targets}
+use Rattle.daos_model.specs.BoolLaws.{and_left, and_right}
+use Rattle.daos_model.specs.EntryLaws.{same_attempt-itself}
+use Rattle.daos_model.specs.declared.durable.Version.{Version}
+use Rattle.daos_model.specs.Opening.{Opening}
+use Rattle.daos_model.specs.Order.{told_by}
+use Rattle.dtx_base.specs.declared.leading.Undecided.{Undecided}
+use Rattle.dtx_base.specs.Leading.{LeaderOf, entry_led, first_down, is_down_among, undecided_attempt, undecided_of}
+use Rattle.dtx_base.specs.Members.{all_targets, has_target}
+use Rattle.model_laws.specs.Members.{Has, contains-from_has, has-from_contains}
+use Rattle.world_addresses.specs.TurnAddresses.{bit-of}
+use Rattle.world_attempts.specs.Attempts.{entry_in, members_of, row_in, writes_of}
+use Rattle.world_attempts.specs.History.{History}
+use Rattle.world_attempts.specs.MarkTurns.{led-found}
+use Rattle.world_base.specs.declared.letter.Letter.{Letter}
+use Rattle.world_base.specs.declared.target.TargetState.{TargetState}
+use Rattle.world_base.specs.declared.world.World.{World}
+use Rattle.world_base.specs.Events.{Rules, target_plan}
+use Rattle.world_base.specs.Letters.{client}
+use Rattle.world_base.specs.Roles.{leader_at}
+use Rattle.world_base.specs.Statuses.{status_refusal}
+use Rattle.world_causes.specs.Causes.{Stored, epochs_told}
+use Rattle.world_causes.specs.Lasting.{refusal-shows}
+use Rattle.world_causes.specs.MemberTurns.{IsAck}
+use Rattle.world_causes.specs.ReadTurns.{none-told}
+use Rattle.world_causes.specs.Requests.{found-row}
+use Rattle.world_causes.specs.Shown.{Causes, MeetsUnresolved, MessageStands, OutcomeStands, limit_over}
+use Rattle.world_epochs.specs.Epochs.{IsPresent}
+use Rattle.world_handing.specs.Handing.{hands-over}
+use Rattle.world_handing.specs.Targets.{member-is_target}
+use Rattle.world_losses.specs.Losses.{tells_stop}
+use Rattle.world_outcomes.specs.Premises.{hands}
+use Rattle.world_showing.specs.Further.{IsAskKnown, IsGone}
+use Rattle.world_statuses.specs.Senders.{IsSentRightly}
+use Rattle.world_reasons.specs.Accounted.{Accounted}
+use Rattle.world_reasons.specs.Waiting.{waiter-present}
+
+-- ---- the statements
+
+-- a leader that is asked what became of an attempt
+abbrev pub AsksAreKnown : Type 0
+AsksAreKnown =
+    (r : Rules) (o : Opening) (held : ℕ → List Version) (h : History) (stored : Stored) (w : World) → Accounted r o held h stored w → Causes r o stored w → (t : ℕ) (s : TargetState) → slice_get w.targets t ≡ Some s → (l : Letter) (x : AttemptId) → Has l w.messages → l.message ≡ message.Ask x
+    → IsAskKnown r o w l.from x (leader_at (target_plan r t) s.memory s.durable)
+
+-- one that is answered by a member
+abbrev pub AcksAreKnown : Type 0
+AcksAreKnown =
+    (r : Rules) (o : Opening) (held : ℕ → List Version) (h : History) (stored : Stored) (w : World) → Accounted r o held h stored w → Causes r o stored w → (t : ℕ) (s : TargetState) → slice_get w.targets t ≡ Some s → (l : Letter) (x : AttemptId) (inc : ℕ) (refusal : Option Outcome) → Has l w.messages → l.message ≡ message.Ack x inc refusal
+    → IsAck r o stored w.issued w.lines x refusal (leader_at (target_plan r t) s.memory s.durable)
+
+-- or is told what a member holds
+abbrev pub StatesAreKnown : Type 0
+StatesAreKnown =
+    (r : Rules) (o : Opening) (held : ℕ → List Version) (h : History) (stored : Stored) (w : World) → Accounted r o held h stored w → Causes r o stored w → (t : ℕ) (s : TargetState) → slice_get w.targets t ≡ Some s → (l : Letter) (x : AttemptId) (inc : ℕ) (how : EntryState) → Has l w.messages → l.message ≡ message.StatusIs x inc how
+    → IsAck r o stored w.issued w.lines x (status_refusal x how) (leader_at (target_plan r t) s.memory s.durable)
+
+-- ---- what is found
+
+found-so : (p : ℕ → Bool) (xs : List ℕ) (y : ℕ) → find p xs ≡ Some y → p y ≡ true
+found-so p [] y f = let no : ⊥ = cc in absurd no
+found-so p (x ∷ xs) y f = by (found-so p xs y) (p x) refl f
+  where
+    by : (find p xs ≡ Some y → p y ≡ true) → (b : Bool) → p x ≡ b → (if b then Some x else find p xs) ≡ Some y → p y ≡ true
+    by rest true is f = let same : x ≡ y = cc in ap p (sym same) ∙ is
+    by rest false is f = rest f
+
+down-so : (members down t : ℕ) → first_down members down ≡ Some t → (has_target members t ≡ true) × (has_target down t ≡ true)
+unfolding first_down
+down-so members down t f = let is = found-so (is_down_among members down) all_targets t f in (and_left (has_target members t) (has_target down t) is, and_right (has_target members t) (has_target down t) is)
+
+module _ (r : Rules) (o : Opening) (held : ℕ → List Version) (h : History) (stored : Stored) (w : World) (k : Accounted r o held h stored w) (C : Causes r o stored w) (t : ℕ) (s : TargetState) (here : slice_get w.targets t ≡ Some s) where
+  abbrev leader : LeaderOf
+  leader = leader_at (target_plan r t) s.memory s.durable
+
+  module _ (x : AttemptId) where
+    -- an entry that is led here has its epoch, and the attempt's members
+    within : (e : Entry) → entry_led x leader ≡ Some e → e.epoch.0 / 256 ≤ limit_over o w.lines w.issued
+    within e f =
+        let found = (led-found (target_plan r t) s.memory s.durable x e (k.standing.heard.attempts.on.ordered t s here).entries f).0 in
+        let its = (k.standing.heard.attempts.on.each x).entries.one t e (ap (λ y. entry_in y x) here ∙ found) in
+        C.bounded.issued x e.epoch (contains-from_has w.issued (x, e.epoch) its.issued)
+
+    gone : (e : Entry) (down : ℕ) → entry_led x leader ≡ Some e → first_down e.members s.memory.leader.down ≡ Some down → IsGone r w.lines x down
+    gone e down f first =
+        let found = (led-found (target_plan r t) s.memory s.durable x e (k.standing.heard.attempts.on.ordered t s here).entries f).0 in
+        let its = (k.standing.heard.attempts.on.each x).entries.one t e (ap (λ y. entry_in y x) here ∙ found) in
+        let is = down-so e.members s.memory.leader.down down first in (
+          contains-from_has (attempt_targets r.script x) down (member-is_target r x down (bit-of _ down (ap (λ n. has_target n down) (sym its.members) ∙ is.0))),
+          contains-from_has w.lines (line.Down down) (k.knows t down s here is.1),
+        )
+
+    -- who waits is the attempt's client, which is at it
+    waits : (u : Undecided) (c : ActorId) → undecided_of x leader ≡ Some u → u.client ≡ Some c → c ≡ client x.client
+    waits u c row told = ((k.standing.heard.attempts.on.each x).rows.undecided t u (ap (λ y. row_in y x) here ∙ row)).client c told
+
+    waiter : (u : Undecided) (c : ActorId) → undecided_of x leader ≡ Some u → u.client ≡ Some c → IsPresent r w x
+    waiter u c row told =
+        let f = found-row x s.memory.leader.undecided u row in
+        subst (IsPresent r w) f.1 (waiter-present r w k.standing.heard.talk t s here u f.0 x.client (told ∙ ap (λ y. Some y) (waits u c row told)))
+
+  ask-known : (l : Letter) (x : AttemptId) → Has l w.messages → l.message ≡ message.Ask x → IsAskKnown r o w l.from x leader
+  ask-known l x i is = record {
+    own = subst (IsSentRightly l.from) is (k.standing.senders l i);
+    within = λ e f. within x e f;
+    lost = λ none. k.losses.letters l x i (ap (tells_stop x) is ∙ same_attempt-itself x) present;
+    gone = λ e down f first. gone x e down f first;
+  }
+    where
+      present : IsPresent r w x
+      present =
+          let z = (hands-over r w k.standing.heard.talk k.standing.heard.requests).waits l x i (ap (hands x) is ∙ same_attempt-itself x) in
+          record { c = z.c; a = z.waits.a; here = z.here; at = z.waits.present; own = z.waits.own }
+
+  ack-known : (l : Letter) (x : AttemptId) (inc : ℕ) (refusal : Option Outcome) → Has l w.messages → l.message ≡ message.Ack x inc refusal → IsAck r o stored w.issued w.lines x refusal leader
+  ack-known l x inc refusal i is = record {
+    waiting = λ u c row told. waits x u c row told;
+    within = λ e f. within x e f;
+    shows = λ how u c so row told. refusal-shows r o stored w.issued w.lines x how (subst (MessageStands r o stored w.issued w.lines) (is ∙ ap (message.Ack x inc) so) (C.flight l (contains-from_has w.messages l i)));
+    told = λ how n so j. C.bounded.told l n (contains-from_has w.messages l i) (subst (λ m. Contains (epochs_told m) n) (sym (is ∙ ap (message.Ack x inc) so)) j);
+  }
+
+  state-known : (l : Letter) (x : AttemptId) (inc : ℕ) (how : EntryState) → Has l w.messages → l.message ≡ message.StatusIs x inc how → IsAck r o stored w.issued w.lines x (status_refusal x how) leader
+  state-known l x inc how i is = record {
+    waiting = λ u c row told. waits x u c row told;
+    within = λ e f. within x e f;
+    shows = λ end u c so row told. shows how end u c so row told;
+    told = λ end n so j. absurd (telling how end n so j);
+  }
+    where
+      shows : (how : EntryState) (end : Outcome) (u : Undecided) (c : ActorId) → status_refusal x how ≡ Some end → undecided_of x leader ≡ Some u → u.client ≡ Some c → OutcomeStands r o stored w.issued w.lines x end
+      shows state.Prepared end u c so row told = let no : ⊥ = cc (so) in absurd no
+      shows state.Committed end u c so row told = let no : ⊥ = cc (so) in absurd no
+      shows state.Absent end u c so row told =
+          let same : outcome.Restart (cause.Unresolved x) ≡ end = cc in
+          subst (OutcomeStands r o stored w.issued w.lines x) same
+          (subst (λ b. MeetsUnresolved b r w.issued w.lines x x) (sym (same_attempt-itself x)) (k.losses.letters l x i (ap (tells_stop x) is ∙ same_attempt-itself x) (waiter x u c row told)))
+
+      telling : (how : EntryState) (end : Outcome) (n : ℕ) → status_refusal x how ≡ Some end → Contains (told_by end) n → ⊥
+      telling state.Prepared end n so j = let no : ⊥ = cc (so) in no
+      telling state.Committed end n so j = let no : ⊥ = cc (so) in no
+      telling state.Absent end n so j = let same : outcome.Restart (cause.Unresolved x) ≡ end = cc in none-told n (subst (λ y. Contains (told_by y) n) (sym same) j)
+
+pub asks-known : AsksAreKnown
+asks-known r o held h stored w k C t s here l x i is = ask-known r o held h stored w k C t s here l x i is
+
+pub acks-known : AcksAreKnown
+acks-known r o held h stored w k C t s here l x inc refusal i is = ack-known r o held h stored w k C t s here l x inc refusal i is
+
+pub states-known : StatesAreKnown
+states-known r o held h stored w k C t s here l x inc how i is = state-known r o held h stored w k C t s here l x inc how i is
