@@ -11,7 +11,7 @@ use Rattle.base_types.specs.declared.outcome.Outcome.{Outcome}
 use Rattle.base_types.specs.declared.outcome.Outcome.TheVariants as outcome
 use Rattle.base_types.specs.declared.report.Line.TheVariants as line
 use Rattle.base_messages.specs.declared.actor.ActorId.{ActorId}
-use Rattle.base_messages.specs.declared.message.Message.{Message}
+use Rattle.base_messages.specs.declared.message.Message.{Message, more_of-Message}
 use Rattle.base_messages.specs.declared.message.Message.TheVariants as message
 use Rattle.daos_model.specs.Accesses.{attempt_targets}
 use Rattle.daos_model.specs.BoolLaws.{and_left, and_right}
@@ -24,14 +24,14 @@ use Rattle.dtx_base.specs.Leading.{LeaderOf, entry_led, first_down, is_down_amon
 use Rattle.dtx_base.specs.Members.{all_targets, has_target}
 use Rattle.model_laws.specs.Members.{Has, contains-from_has, has-from_contains}
 use Rattle.world_addresses.specs.TurnAddresses.{bit-of}
-use Rattle.world_attempts.specs.Attempts.{entry_in, members_of, row_in, writes_of}
+use Rattle.world_attempts.specs.Attempts.{IsOther, entry_in, members_of, row_in, writes_of}
 use Rattle.world_attempts.specs.History.{History}
 use Rattle.world_attempts.specs.MarkTurns.{led-found}
 use Rattle.world_base.specs.declared.letter.Letter.{Letter}
 use Rattle.world_base.specs.declared.target.TargetState.{TargetState}
 use Rattle.world_base.specs.declared.world.World.{World}
 use Rattle.world_base.specs.Events.{Rules, target_plan}
-use Rattle.world_base.specs.Letters.{client}
+use Rattle.world_base.specs.Letters.{client, target}
 use Rattle.world_base.specs.Roles.{leader_at}
 use Rattle.world_base.specs.Statuses.{status_refusal}
 use Rattle.world_causes.specs.Causes.{Stored, epochs_told}
@@ -41,13 +41,15 @@ use Rattle.world_causes.specs.ReadTurns.{none-told}
 use Rattle.world_causes.specs.Requests.{found-row}
 use Rattle.world_causes.specs.Shown.{Causes, MeetsUnresolved, MessageStands, OutcomeStands, limit_over}
 use Rattle.world_epochs.specs.Epochs.{IsPresent}
+use Rattle.world_fates.specs.Facts.{IsAskedSo, IsSaidSo}
 use Rattle.world_handing.specs.Handing.{hands-over}
-use Rattle.world_handing.specs.Targets.{member-is_target}
+use Rattle.world_handing.specs.Targets.{member-is_target, other-is_target}
 use Rattle.world_losses.specs.Losses.{tells_stop}
 use Rattle.world_outcomes.specs.Premises.{hands}
-use Rattle.world_showing.specs.Further.{IsAskKnown, IsGone}
+use Rattle.world_showing.specs.Further.{AsksAfter, IsAskKnown, IsGone, TellsReset}
 use Rattle.world_statuses.specs.Senders.{IsSentRightly}
 use Rattle.world_reasons.specs.Accounted.{Accounted}
+use Rattle.world_reasons.specs.Downs.{TellsDown}
 use Rattle.world_reasons.specs.Waiting.{waiter-present}
 
 -- ---- the statements
@@ -69,6 +71,14 @@ abbrev pub StatesAreKnown : Type 0
 StatesAreKnown =
     (r : Rules) (o : Opening) (held : ℕ → List Version) (h : History) (stored : Stored) (w : World) → Accounted r o held h stored w → Causes r o stored w → (t : ℕ) (s : TargetState) → slice_get w.targets t ≡ Some s → (l : Letter) (x : AttemptId) (inc : ℕ) (how : EntryState) → Has l w.messages → l.message ≡ message.StatusIs x inc how
     → IsAck r o stored w.issued w.lines x (status_refusal x how) (leader_at (target_plan r t) s.memory s.durable)
+
+-- Or is told that its question to a target that is down got no answer: who waits for the attempt that it asked about is the attempt's client,
+-- and that target is one of the attempt's, and was given up.
+abbrev pub LostQuestionsAreKnown : Type 0
+LostQuestionsAreKnown =
+    (r : Rules) (o : Opening) (held : ℕ → List Version) (h : History) (stored : Stored) (w : World) → Accounted r o held h stored w → Causes r o stored w → (t : ℕ) (s : TargetState) → slice_get w.targets t ≡ Some s → (l : Letter) (by : ℕ) (q : Message) → Has l w.messages → TellsReset by true q l.message
+    → (x : AttemptId) (e : Entry) (u : Undecided) (c : ActorId) → AsksAfter q x → entry_led x (leader_at (target_plan r t) s.memory s.durable) ≡ Some e → undecided_of x (leader_at (target_plan r t) s.memory s.durable) ≡ Some u → u.client ≡ Some c
+    → (c ≡ client x.client) × IsGone r w.lines x by × (e.epoch.0 / 256 ≤ limit_over o w.lines w.issued)
 
 -- ---- what is found
 
@@ -155,6 +165,35 @@ module _ (r : Rules) (o : Opening) (held : ℕ → List Version) (h : History) (
       telling state.Prepared end n so j = let no : ⊥ = cc (so) in no
       telling state.Committed end n so j = let no : ⊥ = cc (so) in no
       telling state.Absent end n so j = let same : outcome.Restart (cause.Unresolved x) ≡ end = cc in none-told n (subst (λ y. Contains (told_by y) n) (sym same) j)
+
+  -- a target that didn't answer a leader's question about an attempt is one of its members
+  asked-member : (l : Letter) (by : ℕ) (x : AttemptId) (q : Message) → Has l w.messages → TellsReset by true q l.message → AsksAfter q x → Contains (attempt_targets r.script x) by
+  asked-member l by x q i tells asks = of l.message tells (k.standing.heard.attempts.on.letters l i) (k.standing.senders l i)
+    where
+      member : (m : ℕ) → IsOther r x m → l.from ≡ target m → l.from ≡ target by → Contains (attempt_targets r.script x) by
+      member m other receiver from = subst (Contains (attempt_targets r.script x)) (ap (λ a. a.number) (sym receiver ∙ from)) (other-is_target r x m other)
+
+      about : (q : Message) → AsksAfter q x → IsAskedSo r h w l.to l.from q → l.from ≡ target by → Contains (attempt_targets r.script x) by
+      about (message.Prepare e first ws inc) same so from = member so.way.member (subst (λ y. IsOther r y so.way.member) same so.way.other) so.way.receiver from
+      about (message.Status y inc) same so from = member so.way.member (subst (λ z. IsOther r z so.way.member) same so.way.other) so.way.receiver from
+      about q none so from = absurd none
+
+      of : (m : Message) → TellsReset by true q m → IsSaidSo r h w l.from l.to m → IsSentRightly l.from m → Contains (attempt_targets r.script x) by
+      of (message.Reset' t d place (more_of-Message y more)) is so from = about y (subst (λ z. AsksAfter z x) (sym is.2) asks) so (from ∙ ap target is.0)
+      of m is so from = absurd is
+
+  lost-known : (l : Letter) (by : ℕ) (q : Message) → Has l w.messages → TellsReset by true q l.message → (x : AttemptId) (e : Entry) (u : Undecided) (c : ActorId) → AsksAfter q x → entry_led x leader ≡ Some e → undecided_of x leader ≡ Some u → u.client ≡ Some c
+      → (c ≡ client x.client) × IsGone r w.lines x by × (e.epoch.0 / 256 ≤ limit_over o w.lines w.issued)
+  lost-known l by q i tells x e u c asks found row told =
+      (waits x u c row told, (asked-member l by x q i tells asks, contains-from_has w.lines (line.Down by) (k.downs l by i (downs l.message tells))), within x e found)
+    where
+      downs : (m : Message) → TellsReset by true q m → TellsDown by m
+      downs (message.Reset' t true place (more_of-Message y more)) is = is.0
+      downs (message.Reset' t false place (more_of-Message y more)) is = let no : ⊥ = cc (is.1) in absurd no
+      downs m is = absurd is
+
+pub lost-questions-known : LostQuestionsAreKnown
+lost-questions-known r o held h stored w k C t s here l by q i tells x e u c asks found row told = lost-known r o held h stored w k C t s here l by q i tells x e u c asks found row told
 
 pub asks-known : AsksAreKnown
 asks-known r o held h stored w k C t s here l x i is = ask-known r o held h stored w k C t s here l x i is
