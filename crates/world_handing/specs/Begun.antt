@@ -1,20 +1,16 @@
 -- What tells of a stop is of attempts that clients have begun, what reads is new, and leaders are targets: what losses ask of other facts.
-use Rattle.std.specs.Prelude.{ℕ, ◌≡◌, ◌≢◌, ◌⊎◌, ◌&&◌, ◌==◌, Bool, true, false, List, [], ◌∷◌, slice_get, Contains, Option, Some, None, refl}
+use Rattle.std.specs.Prelude.{ℕ, ◌≡◌, ◌⊎◌, ◌==◌, Bool, true, false, [], ◌∷◌, slice_get, Contains, Option, Some, None, refl}
 use Rattle.std.proofs.Common.{sym, ◌∙◌, ap, subst, arith, inl, inr}
 use Rattle.base_types.specs.declared.epoch.Epoch.{Epoch}
 use Rattle.base_types.specs.declared.id.AttemptId.{AttemptId}
 use Rattle.base_messages.specs.declared.message.Message.{Message, more_of-Message}
 use Rattle.base_messages.specs.declared.message.Message.TheVariants as message
 use Rattle.base_messages.specs.declared.message.Post.{Post}
-use Rattle.base_messages.specs.declared.message.Reply.TheVariants as reply
 use Rattle.daos_model.specs.Accesses.{minor_writes}
-use Rattle.daos_model.specs.Attempts.{is_lost}
-use Rattle.daos_model.specs.BoolLaws.{and_left}
 use Rattle.daos_model.specs.Durables.{same_attempt}
 use Rattle.daos_model.specs.EntryLaws.{same_attempt-itself}
 use Rattle.daos_model.specs.Accesses.{attempt_targets}
 use Rattle.daos_model.specs.Transactions.{attempt_ops}
-use Rattle.dtx_base.specs.declared.member.Parked.{Parked}
 use Rattle.dtx_base.specs.Joining.{is_asker}
 use Rattle.dtx_base.specs.LeaderLaws.{same-is}
 use Rattle.model_laws.specs.Members.{Has, contains-from_has, has-filter, has-left, has-map, has-right}
@@ -25,23 +21,21 @@ use Rattle.world_base.specs.declared.client.ClientPlan.{ClientPlan}
 use Rattle.world_base.specs.declared.client.ClientState.{ClientState}
 use Rattle.world_base.specs.declared.client.Present.{Present}
 use Rattle.world_base.specs.declared.letter.Letter.{Letter}
-use Rattle.world_base.specs.declared.target.TargetState.{TargetState}
 use Rattle.world_base.specs.declared.world.World.{World}
 use Rattle.world_base.specs.ClientTurns.{attempt_id, is_waiting, request_of, waits}
 use Rattle.world_base.specs.Events.{Rules, client_plan}
-use Rattle.world_base.specs.Letters.{client, is_tell, reset_message, talk_of}
+use Rattle.world_base.specs.Letters.{is_tell, talk_of}
 use Rattle.world_base.specs.Reads.{fetch_at}
 use Rattle.world_clients.specs.Answered.{ops_here}
 use Rattle.world_epochs.specs.Asking.{ops-at}
 use Rattle.world_epochs.specs.Epochs.{ClientsStand, IsPast, IsPresent}
-use Rattle.world_fates.specs.Facts.{Attempts, IsAskedSo, IsSaidSo}
 use Rattle.world_handing.specs.Fitting.{answers-no_reset, is_handing, is_reset, question-before}
-use Rattle.world_handing.specs.Handing.{IsToldTo, asked-by, ended-attempt, told-to}
-use Rattle.world_handing.specs.Targets.{PlacesAreRight, leader-is_target, unanswered-by}
+use Rattle.world_handing.specs.Handing.{IsToldTo, asked-by, told-to}
+use Rattle.world_handing.specs.Targets.{PlacesAreRight, leader-is_target}
 use Rattle.world_losses.specs.ClientHears.{LossesAreAsked, TellsLoss}
-use Rattle.world_losses.specs.Clients.{AreBegun, IsOver}
-use Rattle.world_losses.specs.Losses.{LeadersAreTargets, is_asked_of, tells_stop}
-use Rattle.world_losses.specs.Readers.{InFlight, IsReading, ReadersAreNew, Waiting}
+use Rattle.world_losses.specs.Clients.{IsOver}
+use Rattle.world_losses.specs.Losses.{LeadersAreTargets, is_asked_of}
+use Rattle.world_losses.specs.Readers.{InFlight, ReadersAreNew, Waiting}
 use Rattle.world_outcomes.specs.ClientLaws.{present-not-past, unborn}
 use Rattle.world_outcomes.specs.Outcomes.{Outcomes, WaitsForEnd}
 use Rattle.world_talks.specs.AskLaws.{sent-is-asked}
@@ -50,7 +44,7 @@ use Rattle.world_talks.specs.TalkLaws.{taken-from}
 use Rattle.world_waits.specs.ClientLaws.{present-of, question-about}
 use Rattle.world_waits.specs.Parts.{parked_part}
 use Rattle.world_waits.specs.Passing.{held-beside}
-use Rattle.world_waits.specs.Premises.{RequestsAreOfClients, is_end}
+use Rattle.world_waits.specs.Premises.{RequestsAreOfClients}
 use Rattle.world_waits.specs.Requests.{is_request}
 use Rattle.world_waits.specs.Waits as holds
 use Rattle.world_waits.specs.Waits.{Conversation, Held, HoldsIt, IsAnswer, IsAsked, IsHeld, IsLost, IsQuestion, IsReplied, IsReplyTo, ItsAsk, ItsRequest, ParkedAt, TalksSo, asked_of, held_by, held_of, is_parked_of, parked_at}

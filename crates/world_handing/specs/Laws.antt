@@ -3,6 +3,10 @@ use Rattle.std.specs.Prelude.{ℕ, ◌≡◌, ◌<◌, List, slice_get, Some}
 use Rattle.base_types.specs.Scripts.{IsInForm}
 use Rattle.base_types.specs.declared.id.AttemptId.{AttemptId}
 use Rattle.model_laws.specs.Members.{Has}
+use Rattle.daos_model.specs.declared.durable.Version.{Version}
+use Rattle.daos_model.specs.Opening.{Opening}
+use Rattle.world_causes.specs.HearingLaws.{LossesStand}
+use Rattle.world_reads.specs.Versions.{Versions}
 use Rattle.world_attempts.specs.History.{History}
 use Rattle.world_base.specs.declared.client.ClientState.{ClientState}
 use Rattle.world_base.specs.declared.letter.Letter.{Letter}
@@ -14,6 +18,7 @@ use Rattle.world_base.specs.Stops.{WorldEvent}
 use Rattle.world_epochs.specs.Epochs.{ClientsStand, Epochs}
 use Rattle.world_fates.specs.Asked.{AskedRight}
 use Rattle.world_handing.specs.Dates.{SnapshotsAreRead}
+use Rattle.world_handing.specs.Losing.{GivenUpAreTold}
 use Rattle.world_handing.specs.Groups.{ClientsAskWithin}
 use Rattle.world_handing.specs.Handing.{EpochsOfCommits}
 use Rattle.world_fates.specs.Facts.{Attempts}
@@ -21,8 +26,8 @@ use Rattle.world_handing.specs.Targets.{PlacesAreRight}
 use Rattle.world_lines.specs.Lines.{Endings}
 use Rattle.world_losses.specs.ClientHears.{LossesAreAsked}
 use Rattle.world_losses.specs.Clients.{AreBegun}
-use Rattle.world_losses.specs.Losses.{AsksItsTargets, LeadersAreTargets}
-use Rattle.world_losses.specs.Readers.{ReadersAreNew}
+use Rattle.world_losses.specs.Losses.{AsksItsTargets, LeadersAreTargets, Losses}
+use Rattle.world_losses.specs.Readers.{OpenAreHeld, ReadersAreNew}
 use Rattle.world_outcomes.specs.Outcomes.{Outcomes}
 use Rattle.world_outcomes.specs.Premises.{AsksGoRight, CommitsAreOfClients, HandsOver, HearsFitly}
 use Rattle.world_waits.specs.Premises.{RequestsAreOfClients}
@@ -82,6 +87,17 @@ TellersAreBegun = (r : Rules) (h : History) (w : World) → Attempts r h w → O
 -- what came of an attempt, or of a read of it, is told to its client
 abbrev pub ClientsAreTold : Type 0
 ClientsAreTold = (r : Rules) (w : World) → Conversation r w → RequestsAreOfClients w → (l : Letter) (x : AttemptId) → Has l w.messages → EndsOf l.message x → l.to ≡ client x.client
+
+-- what isn't settled is of an attempt of which its target keeps an entry, where versions stand
+abbrev pub OpenVersionsAreHeld : Type 0
+OpenVersionsAreHeld = (r : Rules) (o : Opening) (held : ℕ → List Version) (h : History) (w : World) → Versions r o held h w → OpenAreHeld w
+
+-- ---- what follows from losses
+
+-- A client that waits hears of a loss only behind a stop of its attempt's targets, or where one is given up, if that is told.
+abbrev pub LossesShowStops : Type 0
+LossesShowStops =
+    (r : Rules) (w : World) (n : ℕ) (c : ClientState) (l : Letter) (rest : List Letter) → Losses r w → LossesAreAsked w → GivenUpAreTold r w → slice_get w.clients n ≡ Some c → Takes w.messages l rest → l.to ≡ client n → LossesStand r w.lines n c l.message
 
 -- ---- scripts
 

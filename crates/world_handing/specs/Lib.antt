@@ -7,4 +7,5 @@ pub mod Targets
 pub mod Begun
 pub mod Tellers
 pub mod Places
+pub mod Losing
 pub mod Laws

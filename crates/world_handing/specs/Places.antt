@@ -1,5 +1,5 @@
 -- In a script in form places are right, and what reads at a snapshot writes nothing.
-use Rattle.std.specs.Prelude.{ℕ, ◌≡◌, ◌<◌, ◌+◌, ◌++◌, Bool, true, false, All, Any, List, [], ◌∷◌, map, filter, slice_get, Contains, Option, Some, None, refl}
+use Rattle.std.specs.Prelude.{ℕ, ◌≡◌, ◌<◌, ◌+◌, ◌++◌, true, List, [], ◌∷◌, map, filter, slice_get, Contains, Option, Some, None, refl}
 use Rattle.std.proofs.Common.{sym, ◌∙◌, ap, subst, inl, inr}
 use Rattle.base_types.specs.declared.id.AttemptId.{AttemptId}
 use Rattle.base_types.specs.declared.id.ObjId.{ObjId}
@@ -21,13 +21,12 @@ use Rattle.base_types.specs.Placement.{ClassFits, path_leader, path_members}
 use Rattle.base_types.specs.PlacementLaws.{groups-positive, path_leader-member}
 use Rattle.base_types.specs.Scripts.{AreCommands, IsActInForm, IsCommand, IsInForm, IsOfObject, IsOpInForm, IsPlainReadIn, IsReadInForm, IsWriteInForm, SnapName, is_fetch, is_numbered, old_snap, snap_of}
 use Rattle.daos_model.specs.Accesses.{minor_write, minor_writes, op_path}
-use Rattle.daos_model.specs.Attempts.{snapshot_of, snapshot_or_none}
+use Rattle.daos_model.specs.Attempts.{snapshot_or_none}
 use Rattle.daos_model.specs.Transactions.{attempt_ops, command_of, numbered_at, ops_or_none}
 use Rattle.model_laws.specs.DecidedLaws.{has-all}
 use Rattle.model_laws.specs.Lists.{all-at, any-all, has-at}
 use Rattle.model_laws.specs.Members.{Has, has-cases, has-from_contains, has-from_filter}
-use Rattle.world_attempts.specs.Attempts.{writes_of}
-use Rattle.world_base.specs.Events.{Rules, client_plan, commands_or_none}
+use Rattle.world_base.specs.Events.{Rules, commands_or_none}
 use Rattle.world_handing.specs.Dates.{SnapshotsAreRead}
 use Rattle.world_handing.specs.Targets.{HasGroups, PlacesAreRight}
 

@@ -1,7 +1,6 @@
 -- The facts of losses hold where a run begins.
-use Rattle.std.specs.Prelude.{◌≡◌, ◌++◌, List, [], ◌∷◌, Option, Some, None, slice_get, find, refl}
+use Rattle.std.specs.Prelude.{◌≡◌, ◌++◌, List, [], ◌∷◌, Some, None, find}
 use Rattle.std.proofs.Common.{sym, ◌∙◌, ap, subst}
-use Rattle.base_types.specs.declared.entry.Entry.{Entry}
 use Rattle.base_types.specs.declared.id.AttemptId.{AttemptId}
 use Rattle.base_types.specs.declared.report.Attempt.{Attempt}
 use Rattle.base_types.specs.declared.report.Line.{Line}
@@ -9,10 +8,8 @@ use Rattle.base_types.specs.declared.report.Line.TheVariants as line
 use Rattle.model_laws.specs.Members.{Has}
 use Rattle.daos_model.specs.Durables.{entry_of, is_entry_of}
 use Rattle.world_attempts.specs.Attempts.{entry_in, leader_of}
-use Rattle.world_base.specs.declared.target.TargetState.{TargetState}
-use Rattle.world_fates.specs.Keeping.{HasNoneYet}
 use Rattle.world_losses.specs.Keeping.{LossesBegin}
-use Rattle.world_losses.specs.Losses.{Losses, Rests}
+use Rattle.world_losses.specs.Losses.{Rests}
 
 pub losses-begin : LossesBegin
 unfolding entry_of

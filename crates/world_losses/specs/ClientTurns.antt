@@ -1,10 +1,8 @@
 -- A client's turn keeps the facts of losses.
-use Rattle.std.specs.Prelude.{ℕ, ◌≡◌, ◌++◌, true, slice_get, List, [], Some}
+use Rattle.std.specs.Prelude.{◌≡◌, true}
 use Rattle.std.proofs.Common.{append-nil, sym, ap, subst}
-use Rattle.base_messages.specs.declared.message.Post.{Post}
 use Rattle.model_laws.specs.Members.{Has}
 use Rattle.world_attempts.specs.Counting.{has-left_over, has-taken}
-use Rattle.world_base.specs.declared.letter.Letter.{Letter}
 use Rattle.world_base.specs.declared.world.World.{World}
 use Rattle.world_base.specs.ClientTurns.{Ended_by, HearTurn, Heard_on, Move, heard, listed}
 use Rattle.world_base.specs.Events.{ClientGoes, ClientHears, Rules, after_turn, client_plan, with_client}

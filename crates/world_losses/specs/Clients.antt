@@ -6,7 +6,6 @@ use Rattle.base_types.specs.declared.id.AttemptId.{AttemptId}
 use Rattle.base_types.specs.declared.report.Attempt.{Attempt}
 use Rattle.base_types.specs.declared.report.Line.{Line}
 use Rattle.base_types.specs.declared.report.Line.TheVariants as line
-use Rattle.base_messages.specs.declared.message.Message.{Message}
 use Rattle.base_messages.specs.declared.message.Post.{Post}
 use Rattle.daos_model.specs.Accesses.{attempt_targets}
 use Rattle.daos_model.specs.Attempts.{EachTry, is_lost, is_of_client, tries}
@@ -15,24 +14,23 @@ use Rattle.model_laws.specs.Members.{Has, contains-from_has, has-cases, has-from
 use Rattle.model_laws.specs.TargetLaws.{number_same}
 use Rattle.std.specs.List.{list_any}
 use Rattle.world_attempts.specs.Attempts.{entry_in, leader_of}
-use Rattle.world_attempts.specs.Counting.{has-left_over}
 use Rattle.world_attempts.specs.Turning.{one-or_another}
 use Rattle.world_base.specs.declared.client.ClientState.{ClientState}
 use Rattle.world_base.specs.declared.client.Present.{Present}
 use Rattle.world_base.specs.declared.letter.Letter.{Letter}
 use Rattle.world_base.specs.declared.world.World.{World}
-use Rattle.world_base.specs.ClientTurns.{Ended_by, HearTurn, Heard_on, Move, attempt_id, heard, listed, moved}
-use Rattle.world_base.specs.Events.{ClientGoes, ClientHears, Rules, after_turn, client_plan, with_client, with_epoch}
-use Rattle.world_base.specs.Letters.{Takes, client, letter_of, letters_of}
-use Rattle.world_base.specs.StepLaws.{after-both, by-going, by-next, set-here, set-there}
-use Rattle.world_base.specs.Steps.{KeptByCounting, KeptByMoves, after_client, after_move, without}
+use Rattle.world_base.specs.ClientTurns.{Move, attempt_id, listed, moved}
+use Rattle.world_base.specs.Events.{ClientGoes, Rules, client_plan, with_client, with_epoch}
+use Rattle.world_base.specs.Letters.{client, letter_of, letters_of}
+use Rattle.world_base.specs.StepLaws.{by-next, set-here, set-there}
+use Rattle.world_base.specs.Steps.{KeptByCounting, KeptByMoves, after_move, without}
 use Rattle.world_causes.specs.Lasting.{AreOfOthers, since-more}
 use Rattle.world_epochs.specs.Epochs.{IsPast, IsPresent}
 use Rattle.world_epochs.specs.Lists.{each-push}
 use Rattle.world_fates.specs.Asking.{asked-was}
 use Rattle.world_lines.specs.Lines.{filled}
 use Rattle.world_losses.specs.Losses.{Losses, Rests, StoppedSince, is_asked_of, tells_stop}
-use Rattle.world_losses.specs.Moving.{LinesSo, StaysAt, StaysOrEnds, moved-lines, moved-none, moved-stays}
+use Rattle.world_losses.specs.Moving.{LinesSo, StaysOrEnds, moved-lines, moved-none, moved-stays}
 use Rattle.world_outcomes.specs.ClientLaws.{present-not-past}
 use Rattle.world_outcomes.specs.Moving.{moved-past, same-past}
 use Rattle.world_verdicts.specs.VerdictLaws.{tried-cases}

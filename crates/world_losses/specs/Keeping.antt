@@ -5,7 +5,6 @@ use Rattle.world_base.specs.declared.world.World.{World}
 use Rattle.world_base.specs.Events.{ClientGoes, ClientHears, Rules, TargetHears, TargetHearsBy, TargetIdles}
 use Rattle.world_base.specs.Further.{HearsFurther}
 use Rattle.world_base.specs.Stops.{HearsMore, NumbersDrawn, OpeningFails, TargetCut, TargetGivenUp, TargetOpens, WorldEvent, swept}
-use Rattle.world_epochs.specs.Epochs.{IsPresent}
 use Rattle.world_fates.specs.Facts.{Attempts}
 use Rattle.world_fates.specs.Keeping.{HasNoneYet}
 use Rattle.world_losses.specs.ClientHears.{LossesAreAsked}

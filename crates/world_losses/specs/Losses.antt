@@ -1,6 +1,5 @@
 -- Who tells that an attempt is unresolved by itself, and all that may lead to it: a target of the attempt stopped since it began.
-use Rattle.std.specs.Prelude.{ℕ, ◌≡◌, Bool, true, false, ◌&&◌, List, slice_get, Contains, Option, Some, None}
-use Rattle.base_types.specs.declared.epoch.Epoch.{Epoch}
+use Rattle.std.specs.Prelude.{◌≡◌, Bool, true, false, ◌&&◌, List, slice_get, Contains, Some, None}
 use Rattle.base_types.specs.declared.id.AttemptId.{AttemptId}
 use Rattle.base_types.specs.declared.report.Line.{Line}
 use Rattle.model_laws.specs.Members.{Has}

@@ -1,7 +1,6 @@
 -- What a move of a client leaves of its attempt: it stays the present one, and no line tells of it; or it is over.
-use Rattle.std.specs.Prelude.{ℕ, ◌≡◌, ◌⊎◌, ◌++◌, ◌&&◌, Bool, true, false, List, [], ◌∷◌, is_some, slice_get, Option, Some, None, refl, if◌then◌else◌}
+use Rattle.std.specs.Prelude.{ℕ, ◌≡◌, ◌⊎◌, Bool, true, false, List, [], ◌∷◌, is_some, slice_get, Option, Some, None, refl, if◌then◌else◌}
 use Rattle.std.proofs.Common.{sym, ◌∙◌, ap, subst, inl, inr}
-use Rattle.base_types.specs.declared.answer.Answer.{Answer}
 use Rattle.base_types.specs.declared.id.AttemptId.{AttemptId}
 use Rattle.base_types.specs.declared.operation.MinorWrite.{MinorWrite}
 use Rattle.base_types.specs.declared.operation.Op.{Op}
@@ -16,13 +15,12 @@ use Rattle.base_types.specs.declared.script.Command.TheVariants as command
 use Rattle.base_messages.specs.declared.message.Post.{Post}
 use Rattle.daos_model.specs.Accesses.{minor_writes}
 use Rattle.daos_model.specs.Attempts.{is_lost}
-use Rattle.model_laws.specs.Members.{Has}
 use Rattle.world_base.specs.declared.client.ClientPlan.{ClientPlan}
 use Rattle.world_base.specs.declared.client.ClientState.{ClientState}
 use Rattle.world_base.specs.declared.client.Present.{Present}
 use Rattle.world_base.specs.declared.client.Stage.{Stage}
 use Rattle.world_base.specs.declared.client.Stage.TheVariants as stage
-use Rattle.world_base.specs.ClientTurns.{Move, asks_or_goes, attempt_id, attempt_moves, begun, command_at, commits, end_line, ends, goes, listed, moved, moves_at, next_stage, op_moves, question, rests, run_moves, waits}
+use Rattle.world_base.specs.ClientTurns.{Move, asks_or_goes, attempt_id, attempt_moves, begun, command_at, commits, end_line, ends, listed, moved, moves_at, next_stage, op_moves, question, rests, run_moves, waits}
 use Rattle.world_epochs.specs.Epochs.{IsPast}
 use Rattle.world_losses.specs.Losses.{tells_stop}
 use Rattle.world_losses.specs.Silent.{TellNone, none-tell, one-tells}

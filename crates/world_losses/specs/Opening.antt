@@ -1,24 +1,21 @@
 -- An opening keeps the facts of losses: what it asks is of attempts whose leader rested.
-use Rattle.std.specs.Prelude.{ℕ, ◌≡◌, ◌⊎◌, ◌+◌, ◌==◌, ◌++◌, Bool, true, false, List, [], ◌∷◌, filter, slice_get, Option, Some, None, refl}
+use Rattle.std.specs.Prelude.{ℕ, ◌≡◌, ◌+◌, ◌==◌, ◌++◌, true, List, [], ◌∷◌, filter, slice_get, Some, refl}
 use Rattle.std.proofs.Common.{sym, ◌∙◌, ap, subst, inl, inr, arith}
-use Rattle.std.proofs.Math.ListN.{set}
 use Rattle.std.proofs.lemmas.Bool.Decides.{nat_tests}
-use Rattle.base_types.specs.declared.entry.Entry.{Entry}
 use Rattle.base_types.specs.declared.id.AttemptId.{AttemptId}
 use Rattle.model_laws.specs.Members.{Has, has-cases, has-from_filter, has-from_map}
 use Rattle.base_messages.specs.declared.message.Post.{Post}
 use Rattle.daos_model.specs.Changes.{reopened}
-use Rattle.daos_model.specs.Durables.{entry_of, same_attempt}
+use Rattle.daos_model.specs.Durables.{entry_of}
 use Rattle.dtx_base.specs.Leading.{is_led, is_open}
 use Rattle.dtx_base.specs.LeaderLaws.{same-is}
-use Rattle.world_attempts.specs.Attempts.{IsHeld, entry_at, entry_in, leader_of}
+use Rattle.world_attempts.specs.Attempts.{entry_at, entry_in, leader_of}
 use Rattle.world_attempts.specs.History.{History}
 use Rattle.world_attempts.specs.MarkTurns.{found-here}
 use Rattle.world_fates.specs.Asking.{asked-was}
 use Rattle.world_attempts.specs.Turning.{one-or_another}
 use Rattle.world_base.specs.declared.letter.Letter.{Letter}
-use Rattle.world_base.specs.declared.target.Life.TheVariants.{Running, Stopped}
-use Rattle.world_base.specs.declared.target.TargetState.{TargetState}
+use Rattle.world_base.specs.declared.target.Life.TheVariants.{Running}
 use Rattle.world_base.specs.declared.world.World.{World}
 use Rattle.world_base.specs.Events.{Rules, target_plan}
 use Rattle.world_base.specs.Letters.{letter_of, letters_of, target}

@@ -1,7 +1,6 @@
 -- What reads at targets is no attempt that its leader stored: so nothing that isn't settled is in the way of its own attempt.
-use Rattle.std.specs.Prelude.{ℕ, ◌≡◌, Bool, true, false, List, slice_get, Option, Some, None, refl}
-use Rattle.std.proofs.Common.{sym, subst}
-use Rattle.base_types.specs.declared.entry.Verdict.{Verdict}
+use Rattle.std.specs.Prelude.{ℕ, ◌≡◌, true, false, slice_get, Some}
+use Rattle.std.proofs.Common.{subst}
 use Rattle.base_types.specs.declared.id.AttemptId.{AttemptId}
 use Rattle.base_messages.specs.declared.message.Message.{Message, more_of-Message}
 use Rattle.base_messages.specs.declared.message.Message.TheVariants as message

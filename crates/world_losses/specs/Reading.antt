@@ -1,5 +1,5 @@
 -- What a target answers a read tells of no stop, where nothing that isn't settled there is of the attempt that reads.
-use Rattle.std.specs.Prelude.{ℕ, ◌≡◌, ◌++◌, ◌&&◌, Bool, true, false, List, [], ◌∷◌, map, filter, Option, Some, None, refl, if◌then◌else◌}
+use Rattle.std.specs.Prelude.{ℕ, ◌≡◌, ◌&&◌, Bool, true, false, List, [], ◌∷◌, map, filter, Option, Some, None, refl}
 use Rattle.std.proofs.Common.{sym, ◌∙◌, ap, subst, inl, inr}
 use Rattle.base_types.specs.declared.epoch.Epoch.{Epoch}
 use Rattle.base_types.specs.declared.entry.Settle.{Settle}
@@ -8,18 +8,14 @@ use Rattle.base_types.specs.declared.entry.Verdict.{Verdict}
 use Rattle.base_types.specs.declared.entry.Verdict.TheVariants as verdicts
 use Rattle.base_types.specs.declared.id.AttemptId.{AttemptId}
 use Rattle.base_types.specs.declared.outcome.Cause.{Cause}
-use Rattle.base_types.specs.declared.outcome.Cause.TheVariants as cause
-use Rattle.base_types.specs.declared.outcome.Outcome.TheVariants as outcome
 use Rattle.base_types.specs.declared.shown.Shown.{Shown}
 use Rattle.base_types.specs.Operations.{read_path}
 use Rattle.base_messages.specs.declared.actor.ActorId.{ActorId}
 use Rattle.base_messages.specs.declared.message.Message.{Message}
 use Rattle.base_messages.specs.declared.message.Message.TheVariants as message
 use Rattle.base_messages.specs.declared.message.Post.{Post}
-use Rattle.base_messages.specs.declared.message.Reply.TheVariants as reply
 use Rattle.daos_model.specs.declared.durable.Durable.{Durable}
 use Rattle.daos_model.specs.declared.durable.Version.{Version}
-use Rattle.daos_model.specs.Attempts.{is_lost}
 use Rattle.daos_model.specs.BoolLaws.{and_left, and_right}
 use Rattle.daos_model.specs.Changes.{leased, settled}
 use Rattle.daos_model.specs.Durables.{same_attempt}
@@ -42,7 +38,6 @@ use Rattle.world_base.specs.Roles.{member_at}
 use Rattle.world_base.specs.Turns.{Reached}
 use Rattle.world_base.specs.Verdicts as verdict
 use Rattle.world_causes.specs.Floors.{IsInTheWay, meets-open}
-use Rattle.world_losses.specs.Losses.{tells_stop}
 use Rattle.world_losses.specs.Resets.{NoneReads, unknown-quiet}
 use Rattle.world_losses.specs.Silent.{IsNoAttempt, TellNone, both-none, floor-none, none-tell, one-tells, restart-mute, some-cause, told-as}
 use Rattle.world_reads.specs.ChangeLaws.{still-open}

@@ -1,8 +1,7 @@
 -- What an event of a target leaves of all that tells of stops, and that it keeps the facts of losses.
-use Rattle.std.specs.Prelude.{ℕ, ◌≡◌, ◌⊎◌, ◌++◌, Bool, true, List, [], Contains, refl}
-use Rattle.std.proofs.Common.{sym, ap, subst, inl, inr}
+use Rattle.std.specs.Prelude.{◌≡◌, ◌⊎◌, ◌++◌, true, List, []}
+use Rattle.std.proofs.Common.{sym, subst, inl, inr}
 use Rattle.base_types.specs.declared.id.AttemptId.{AttemptId}
-use Rattle.base_types.specs.declared.report.Attempt.{Attempt}
 use Rattle.base_types.specs.declared.report.Line.{Line}
 use Rattle.model_laws.specs.Members.{Has}
 use Rattle.daos_model.specs.Attempts.{EachTry, is_lost, tries}

@@ -1,5 +1,5 @@
 -- A Reset tells of a stop where its question was lost at a target that stopped, and so does what is sent at it.
-use Rattle.std.specs.Prelude.{ℕ, ◌≡◌, ◌==◌, ◌++◌, Bool, true, false, ◌&&◌, List, [], ◌∷◌, filter, slice_get, Option, Some, None, refl, if◌then◌else◌}
+use Rattle.std.specs.Prelude.{ℕ, ◌≡◌, ◌==◌, ◌++◌, Bool, true, false, ◌&&◌, List, [], ◌∷◌, filter, Option, Some, None, refl, if◌then◌else◌}
 use Rattle.std.proofs.Common.{sym, ◌∙◌, ap, subst, inl, inr}
 use Rattle.base_types.specs.declared.entry.Entry.{Entry}
 use Rattle.base_types.specs.declared.epoch.Epoch.{Epoch}
@@ -17,20 +17,17 @@ use Rattle.daos_model.specs.Durables.{same_attempt}
 use Rattle.dtx_base.specs.declared.leading.Undecided.{Undecided}
 use Rattle.dtx_base.specs.declared.member.Parked.{Parked}
 use Rattle.dtx_base.specs.Joining as member
-use Rattle.dtx_base.specs.Leading.{LeaderOf, down_told, ended, entry_led, mark_reset, prepare_reset, quietly, reset_of, status_asked, to_target, undecided_of}
-use Rattle.dtx_base.specs.LeaderLaws.{same-is}
+use Rattle.dtx_base.specs.Leading.{LeaderOf, down_told, ended, entry_led, mark_reset, prepare_reset, quietly, reset_of, to_target, undecided_of}
 use Rattle.world_base.specs.declared.did.Did.{Did}
 use Rattle.world_base.specs.declared.target.Collection.{Collection}
 use Rattle.world_base.specs.declared.target.TargetMemory.{TargetMemory}
 use Rattle.world_base.specs.declared.target.TargetPlan.{TargetPlan}
-use Rattle.world_base.specs.declared.target.TargetState.{TargetState}
 use Rattle.world_base.specs.declared.world.World.{World}
 use Rattle.world_base.specs.Changes.{Kept}
 use Rattle.world_base.specs.Events.{Rules, TargetHearsBy, kept, target_plan}
 use Rattle.world_base.specs.Further.{HearsFurther, reset_by}
 use Rattle.world_base.specs.Roles.{leader_at, member_at}
 use Rattle.world_base.specs.Snapshots as snap
-use Rattle.world_base.specs.Statuses.{reset_left}
 use Rattle.world_losses.specs.Hearing.{TellsAsTold, ends-as, hearing-recalls}
 use Rattle.world_losses.specs.Losses.{Losses, is_asked_of, tells_stop}
 use Rattle.world_losses.specs.Recalling.{Recalls}

@@ -8,7 +8,6 @@ use Rattle.base_types.specs.declared.operation.MinorWrite.{MinorWrite}
 use Rattle.base_types.specs.declared.outcome.Cause.{Cause}
 use Rattle.base_types.specs.declared.outcome.Cause.TheVariants as cause
 use Rattle.base_types.specs.declared.outcome.FloorWhy.{FloorWhy}
-use Rattle.base_types.specs.declared.outcome.Outcome.{Outcome}
 use Rattle.base_types.specs.declared.outcome.Outcome.TheVariants as outcome
 use Rattle.base_types.specs.declared.shown.Shown.{Shown}
 use Rattle.base_types.specs.Operations.{write_path}
@@ -25,7 +24,7 @@ use Rattle.dtx_base.specs.Leading.{LeaderOf, batched, begun, begun_alone, begun_
 use Rattle.dtx_base.specs.Members.{all_targets, other_members}
 use Rattle.dtx_base.specs.Rows.{is_empty}
 use Rattle.model_laws.specs.Members.{Has, has-cases, has-from_map}
-use Rattle.vos_stamp.specs.Stamps.{floor_cause, read_later, write_later}
+use Rattle.vos_stamp.specs.Stamps.{floor_cause}
 use Rattle.vos_store.specs.Answers.{floor_of}
 use Rattle.world_base.specs.declared.did.Did.{Did}
 use Rattle.world_base.specs.declared.request.CommitRequest.{CommitRequest}

@@ -1,33 +1,25 @@
 -- A stop since a client's last line stays one, whatever lines of targets are added.
-use Rattle.std.specs.Prelude.{ℕ, ◌≡◌, ◌⊎◌, ◌++◌, Bool, true, false, List, [], ◌∷◌, Contains, Any, Option, Some, None, refl, if◌then◌else◌}
+use Rattle.std.specs.Prelude.{ℕ, ◌≡◌, ◌++◌, Bool, true, false, List, [], ◌∷◌, Contains, Any, refl, if◌then◌else◌}
 use Rattle.std.specs.List.{list_any}
-use Rattle.std.proofs.Common.{append-nil, append_assoc, sym, ◌∙◌, ap, subst, inl, inr}
+use Rattle.std.proofs.Common.{append_assoc, sym, ◌∙◌, ap}
 use Rattle.base_types.specs.declared.id.AttemptId.{AttemptId}
 use Rattle.base_types.specs.declared.report.Attempt.{Attempt}
 use Rattle.base_types.specs.declared.report.Line.{Line}
 use Rattle.base_types.specs.declared.report.Line.TheVariants as line
 use Rattle.model_laws.specs.Lists.{any-of}
-use Rattle.model_laws.specs.Members.{Has, has-from_contains, has-left, has-right}
+use Rattle.model_laws.specs.Members.{Has, has-from_contains, has-right}
 use Rattle.daos_model.specs.Accesses.{attempt_targets}
 use Rattle.daos_model.specs.Attempts.{EachTry, is_of_client, tried, tries, up_to_last_of}
-use Rattle.daos_model.specs.CausesShown.{IsStopAt, StopsAfter}
-use Rattle.daos_model.specs.Laws.{tries-append}
+use Rattle.daos_model.specs.CausesShown.{IsStopAt}
 use Rattle.world_base.specs.Events.{Rules}
+use Rattle.world_causes.specs.Lasting.{silent-others, up-to-others}
+use Rattle.world_causes.specs.Lasting as lasting
 use Rattle.world_losses.specs.Losses.{StoppedSince}
 
 -- ---- up to the last line of a client
 
-up-to-none : (c : ℕ) (more : List Line) → tries more ≡ [] → up_to_last_of c more ≡ []
-unfolding up_to_last_of
-up-to-none c [] none = refl
-up-to-none c (l ∷ ls) none = ap (λ b. if b then l ∷ up_to_last_of c ls else []) (ap (list_any (is_of_client c)) none)
-
-pub up-to-more : (c : ℕ) (lines more : List Line) → tries more ≡ [] → up_to_last_of c (lines ++ more) ≡ up_to_last_of c lines
-unfolding up_to_last_of
-up-to-more c [] more none = up-to-none c more none
-up-to-more c (l ∷ ls) more none =
-    ap (λ rest. if list_any (is_of_client c) (tries ((l ∷ ls) ++ more)) then l ∷ rest else []) (up-to-more c ls more none)
-    ∙ ap (λ ts. if list_any (is_of_client c) ts then l ∷ up_to_last_of c ls else []) (tries-append (l ∷ ls) more ∙ ap (λ ts. tries (l ∷ ls) ++ ts) none ∙ append-nil (tries (l ∷ ls)))
+up-to-more : (c : ℕ) (lines more : List Line) → tries more ≡ [] → up_to_last_of c (lines ++ more) ≡ up_to_last_of c lines
+up-to-more c lines more none = up-to-others c lines more (silent-others c more none)
 
 -- it is where the lines begin
 pub up-to-begins : (c : ℕ) (lines : List Line) → (since : List Line) × (lines ≡ up_to_last_of c lines ++ since)
@@ -41,19 +33,9 @@ up-to-begins c (l ∷ ls) = by (list_any (is_of_client c) (tries (l ∷ ls))) (u
 
 -- ---- a stop
 
-any-more : (ts : List ℕ) (since more : List Line) → Any (λ t. Any (IsStopAt t) since) ts → Any (λ t. Any (IsStopAt t) (since ++ more)) ts
-any-more ts since more k =
-    let one : Any (IsStopAt k.1) since = k.4 in
-    any-of (λ t. Any (IsStopAt t) (since ++ more)) ts k.1 (has-from_contains ts k.1 (k.0, k.2, k.3))
-    (any-of (IsStopAt k.1) (since ++ more) one.1 (has-left since more one.1 (has-from_contains since one.1 (one.0, one.2, one.3))) one.4)
-
 -- it stays one
 pub since-more : (r : Rules) (lines more : List Line) (x : AttemptId) → tries more ≡ [] → StoppedSince r lines x → StoppedSince r (lines ++ more) x
-since-more r lines more x none k = record {
-  since = k.since ++ more;
-  rest = ap (λ ls. ls ++ more) k.rest ∙ append_assoc (up_to_last_of x.client lines) k.since more ∙ ap (λ ls. ls ++ (k.since ++ more)) (sym (up-to-more x.client lines more none));
-  stop = any-more (attempt_targets r.script x) k.since more k.stop;
-}
+since-more r lines more x none k = lasting.since-more (attempt_targets r.script x) x.client lines more (silent-others x.client more none) k
 
 -- and a line of a stop of a target of it makes one
 pub since-stop : (r : Rules) (lines more : List Line) (x : AttemptId) (t n : ℕ) → tries more ≡ [] → Contains (attempt_targets r.script x) t → Has (line.Stop n t) more → StoppedSince r (lines ++ more) x

@@ -1,22 +1,15 @@
 -- Stops and openings keep the facts of losses.
-use Rattle.std.specs.Prelude.{ℕ, ◌≡◌, ◌⊎◌, ◌+◌, ◌==◌, ◌++◌, Bool, true, false, not, ◌&&◌, List, [], ◌∷◌, filter, map, slice_get, Contains, Option, Some, None, find, refl}
+use Rattle.std.specs.Prelude.{ℕ, ◌≡◌, ◌==◌, ◌++◌, Bool, true, false, not, ◌&&◌, [], ◌∷◌, filter, map, slice_get, Contains, Option, Some, refl}
 use Rattle.std.proofs.Common.{append-nil, append_assoc, sym, ◌∙◌, ap, subst, inl, inr, arith}
 use Rattle.std.proofs.Math.ListN.{set}
 use Rattle.std.proofs.lemmas.Bool.Decides.{nat_tests}
-use Rattle.base_types.specs.declared.entry.Entry.{Entry}
 use Rattle.base_types.specs.declared.id.AttemptId.{AttemptId}
-use Rattle.base_types.specs.declared.report.Line.{Line}
 use Rattle.base_types.specs.declared.report.Line.TheVariants as line
 use Rattle.model_laws.specs.Members.{Has, has-cases, has-from_filter, has-from_map, has-right}
-use Rattle.base_messages.specs.declared.message.Message.{Message}
-use Rattle.base_messages.specs.declared.message.Message.TheVariants as message
-use Rattle.base_messages.specs.declared.message.Post.{Post}
 use Rattle.daos_model.specs.Accesses.{attempt_targets}
 use Rattle.daos_model.specs.Attempts.{tries}
-use Rattle.daos_model.specs.Changes.{reopened}
-use Rattle.daos_model.specs.Durables.{entry_of, same_attempt}
-use Rattle.dtx_base.specs.LeaderLaws.{same-is}
-use Rattle.world_attempts.specs.Attempts.{IsHeld, entry_at, entry_in, leader_of}
+use Rattle.daos_model.specs.Durables.{entry_of}
+use Rattle.world_attempts.specs.Attempts.{entry_at, entry_in, leader_of}
 use Rattle.world_attempts.specs.Turning.{one-or_another}
 use Rattle.world_base.specs.declared.letter.Letter.{Letter}
 use Rattle.world_base.specs.declared.target.Life.{Life}
@@ -28,7 +21,7 @@ use Rattle.world_base.specs.Letters.{target}
 use Rattle.world_base.specs.StepLaws.{set-here, set-there}
 use Rattle.world_base.specs.Stops.{AtWork, CutOf, Hearing, IdleWork, NumbersDrawn, OpeningFails, TargetCut, TargetGivenUp, is_not_to, is_not_to_down, is_to, is_to_down, reset_letter, resets, stopped_at, stops_so_far, swept}
 use Rattle.world_stops.specs.Questions.{reopened-entry}
-use Rattle.world_epochs.specs.Epochs.{IsAt, IsPresent}
+use Rattle.world_epochs.specs.Epochs.{IsAt}
 use Rattle.world_losses.specs.Losses.{AsksItsTargets, LeadersAreTargets, Rests, StoppedSince, is_asked_of, tells_stop}
 use Rattle.world_losses.specs.Recalling.{Recalls}
 use Rattle.world_losses.specs.Since.{since-stop}

@@ -1,5 +1,5 @@
 -- What a target hears as without stops, a Commit with a member that is known to be down, and idle work keep the facts of losses.
-use Rattle.std.specs.Prelude.{ℕ, ◌≡◌, ◌⊎◌, ◌++◌, Bool, true, false, not, List, [], ◌∷◌, map, slice_get, Option, Some, None, refl}
+use Rattle.std.specs.Prelude.{ℕ, ◌≡◌, true, [], map, slice_get, Some, refl}
 use Rattle.std.proofs.Common.{sym, ◌∙◌, ap, subst, inl, inr}
 use Rattle.base_types.specs.declared.entry.Verdict.{Verdict}
 use Rattle.base_types.specs.declared.entry.Verdict.TheVariants as verdicts
@@ -7,7 +7,7 @@ use Rattle.base_types.specs.declared.epoch.Epoch.{Epoch}
 use Rattle.base_types.specs.declared.id.AttemptId.{AttemptId}
 use Rattle.base_types.specs.declared.outcome.FloorWhy.{FloorWhy}
 use Rattle.base_messages.specs.declared.actor.ActorId.{ActorId}
-use Rattle.base_messages.specs.declared.message.Message.{Message, more_of-Message}
+use Rattle.base_messages.specs.declared.message.Message.{Message}
 use Rattle.base_messages.specs.declared.message.Message.TheVariants as message
 use Rattle.daos_model.specs.Attempts.{tries}
 use Rattle.daos_model.specs.EntryLaws.{same_attempt-itself}
@@ -22,7 +22,6 @@ use Rattle.world_base.specs.declared.letter.Letter.{Letter}
 use Rattle.world_base.specs.declared.target.Life.TheVariants.{Running}
 use Rattle.world_base.specs.declared.target.TargetMemory.{TargetMemory}
 use Rattle.world_base.specs.declared.target.TargetPlan.{TargetPlan}
-use Rattle.world_base.specs.declared.target.TargetState.{TargetState}
 use Rattle.world_base.specs.declared.world.World.{World}
 use Rattle.world_base.specs.Changes.{Kept}
 use Rattle.world_base.specs.Events.{Rules, TargetHears, TargetHearsBy, TargetIdles, kept, target_after, target_plan, with_epoch}
@@ -31,8 +30,6 @@ use Rattle.world_base.specs.Letters.{letter_of, letters_of, target}
 use Rattle.world_base.specs.Roles.{is_prepared, told_by}
 use Rattle.world_base.specs.StepLaws.{set-here}
 use Rattle.world_base.specs.TargetTurns.{Hears, commit_request, fetch_request, prepare_request}
-use Rattle.world_base.specs.Verdicts as verdict
-use Rattle.world_epochs.specs.Epochs.{IsPresent}
 use Rattle.world_fates.specs.Asking.{asked-was}
 use Rattle.world_fates.specs.Facts.{Attempts}
 use Rattle.world_lines.specs.FilledLaws.{tries-filled}

@@ -4,8 +4,7 @@ use Rattle.std.proofs.Common.{sym, ◌∙◌, ap, subst}
 use Rattle.base_types.specs.declared.id.AttemptId.{AttemptId}
 use Rattle.daos_model.specs.declared.durable.Version.{Version}
 use Rattle.daos_model.specs.Opening.{Opening, top}
-use Rattle.model_laws.specs.Members.{contains-from_has, has-from_contains}
-use Rattle.world_attempts.specs.Attempts.{entry_in}
+use Rattle.model_laws.specs.Members.{has-from_contains}
 use Rattle.world_attempts.specs.History.{History}
 use Rattle.world_base.specs.declared.world.World.{World}
 use Rattle.world_base.specs.Events.{ByClient, ByTarget, Rules, ToClient, ToTarget}
@@ -16,13 +15,13 @@ use Rattle.world_handing.specs.Begun.{leaders-targets, losses-asked, readers-new
 use Rattle.world_handing.specs.Fitting.{hears-fitly}
 use Rattle.world_handing.specs.Groups.{groups-stay}
 use Rattle.world_handing.specs.Handing.{commits-of_clients, hands-over}
+use Rattle.world_handing.specs.Losing.{open-held}
 use Rattle.world_handing.specs.Places.{places-right}
 use Rattle.world_handing.specs.Targets.{PlacesAreRight, asks-its_targets}
 use Rattle.world_handing.specs.Tellers.{are-begun, ends-told}
 use Rattle.world_losses.specs.Keeping.{AllBeside}
 use Rattle.world_losses.specs.Laws as losses
 use Rattle.world_losses.specs.Losses.{Losses}
-use Rattle.world_losses.specs.Readers.{OpenAreHeld}
 use Rattle.world_requests.specs.Rows.{commits-find}
 use Rattle.world_showing.specs.Happening.{stored_in}
 use Rattle.world_standing.specs.Events as stands
@@ -42,12 +41,6 @@ pub places : (r : Rules) → IsSimple r → PlacesAreRight r
 places r A = places-right r r.script.targets A.some_target A.form
 
 module _ (r : Rules) (o : Opening) (held : ℕ → List Version) (h : History) (w : World) (k : Standing r o held h w) where
-  -- a version that isn't settled belongs to an entry of its target
-  pub open-held : OpenAreHeld w
-  open-held t s v here i off =
-      let z = (k.versions.stand t s here).unsettled v (contains-from_has s.durable.versions v i) off in
-      record { entry = z.entry; found = ap (λ y. entry_in y v.by) here ∙ z.found }
-
   -- what a client hears goes with what it asked
   pub heard-fitly : (v : World) (e : Happening r w v) → IsHeardFitly e
   heard-fitly v (Plainly (ToClient g) up) = hears-fitly r w g.n g.c g.l g.rest k.heard.talk k.endings g.here g.takes g.to_it
@@ -68,7 +61,7 @@ beside r o held h stored w A k =
     record {
       attempts = s.heard.attempts;
       new = readers-new r h w s.outcomes s.heard.talk s.heard.requests;
-      held = open-held r o held h w s;
+      held = open-held r o held h w s.versions;
       begun = are-begun r h w s.heard.attempts s.outcomes s.heard.talk s.heard.requests;
       lost = losses-asked r w s.heard.talk;
       asks = asks-its_targets r h w s.heard.talk s.heard.requests s.heard.stand k.within s.heard.attempts (places r A);

@@ -3,7 +3,7 @@
 
 ghost use Rattle.world_reasons.specs.Accounted.{EventsKeepAccounts, RunsAreAccounted, RunsBeginAccounted};
 ghost use Rattle.world_reasons.specs.Downs.{DownsBegin, EventsKeepDowns};
-ghost use Rattle.world_reasons.specs.Hearing.{ClientsHearOfStops};
+ghost use Rattle.world_reasons.specs.Hearing.{ClientsHearOfStops, LossesTellOfGivenUp};
 ghost use Rattle.world_reasons.specs.Knowing.{EventsKeepKnownDowns, KnownDownsBegin};
 ghost use Rattle.world_reasons.specs.Leaders.{AcksAreKnown, AsksAreKnown, LostQuestionsAreKnown, StatesAreKnown};
 
@@ -20,6 +20,7 @@ pub fn laws_of_accounts()
     ensures begin { RunsBeginAccounted }
     ensures runs { RunsAreAccounted }
     ensures clients { ClientsHearOfStops }
+    ensures given_up { LossesTellOfGivenUp }
 {}
 
 /// Says that who is told that a target is down, by which a question got no answer, is told so of one that a
