@@ -1,5 +1,5 @@
 -- Who is told that a target is down, is told so of one that was given up.
-use Rattle.std.specs.Prelude.{ℕ, ◌≡◌, ◌⊎◌, ◌++◌, ◌==◌, ◌&&◌, Bool, true, false, not, List, [], ◌∷◌, map, filter, slice_get, Option, Some, None, refl, if◌then◌else◌}
+use Rattle.std.specs.Prelude.{ℕ, ◌≡◌, ◌⊎◌, ◌++◌, ◌==◌, Bool, true, false, not, List, [], ◌∷◌, map, filter, slice_get, Option, Some, None, refl, if◌then◌else◌}
 use Rattle.std.proofs.Common.{append_assoc, zero, suc, inl, inr, sym, ◌∙◌, ap, subst}
 use Rattle.std.proofs.lemmas.Bool.{eqb-true}
 use Rattle.base_types.specs.declared.entry.Entry.{Entry}
@@ -10,7 +10,7 @@ use Rattle.base_messages.specs.declared.actor.ActorId.{ActorId}
 use Rattle.base_messages.specs.declared.message.Message.{Message, more_of-Message}
 use Rattle.base_messages.specs.declared.message.Message.TheVariants as message
 use Rattle.base_messages.specs.declared.message.Post.{Post}
-use Rattle.daos_model.specs.BoolLaws.{and_left, and_right, clash}
+use Rattle.daos_model.specs.BoolLaws.{and_right, clash}
 use Rattle.daos_model.specs.Changes.{reopened}
 use Rattle.daos_model.specs.declared.durable.Durable.{Durable}
 use Rattle.daos_model.specs.Stops as told
@@ -27,13 +27,13 @@ use Rattle.world_base.specs.declared.target.Life.TheVariants.{Down, Running, Sto
 use Rattle.world_base.specs.declared.target.TargetState.{TargetState}
 use Rattle.world_base.specs.declared.world.World.{World}
 use Rattle.world_base.specs.ClientTurns.{request_of, waits}
-use Rattle.world_base.specs.Events.{ByClient, ByTarget, Event, Rules, TargetHearsBy, ToClient, ToTarget, client_plan, kept, target_plan}
+use Rattle.world_base.specs.Events.{ByClient, ByTarget, Event, Rules, ToClient, ToTarget, client_plan, kept, target_plan}
 use Rattle.world_base.specs.Letters.{Takes, client, is_talk_of, is_tell, letter_of, letters_of, talk_of, target}
 use Rattle.world_base.specs.Snapshots.{freeze_to, prune_to}
 use Rattle.world_base.specs.Statuses.{opening_posts, status_to, statuses_for, statuses_of}
 use Rattle.world_base.specs.Stops.{Draws, Fails, Further, GivenUp, Happening, HearsMore, IsCut, Opens, Plainly, WorldEvent, is_down_at, is_given_up, is_not_to, is_not_to_down, is_to, is_to_down, reset_letter, resets, stops_so_far, swept}
 use Rattle.world_endings.specs.Posts.{further-sent}
-use Rattle.world_endings.specs.Telling.{AsksAgain, AsksFreezes, AsksPrunes, IsSent, PostsAfter, Quietly, TellsAfter, is_collected}
+use Rattle.world_endings.specs.Telling.{AsksAgain, AsksFreezes, AsksPrunes, IsSent, Quietly, TellsAfter, is_collected}
 use Rattle.world_lines.specs.EndingLaws.{all-hear-tell, idle-tells}
 use Rattle.world_lines.specs.Lines.{Endings, TellsPlainly}
 use Rattle.world_lives.specs.Lives.{Lives, standing_of}

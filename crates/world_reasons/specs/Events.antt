@@ -1,14 +1,13 @@
 -- Each event of a run keeps what tells of a stop, and what was stored once, beside all that stands.
-use Rattle.std.specs.Prelude.{ℕ, ◌≡◌, ◌++◌, List, []}
-use Rattle.std.proofs.Common.{sym, ◌∙◌, ap, subst}
-use Rattle.base_types.specs.declared.id.AttemptId.{AttemptId}
+use Rattle.std.specs.Prelude.{ℕ, ◌++◌, List}
+use Rattle.std.proofs.Common.{sym, ◌∙◌, subst}
 use Rattle.daos_model.specs.declared.durable.Version.{Version}
-use Rattle.daos_model.specs.Opening.{Opening, top}
+use Rattle.daos_model.specs.Opening.{Opening}
 use Rattle.model_laws.specs.Members.{has-from_contains}
 use Rattle.world_attempts.specs.History.{History}
 use Rattle.world_base.specs.declared.world.World.{World}
 use Rattle.world_base.specs.Events.{ByClient, ByTarget, Rules, ToClient, ToTarget}
-use Rattle.world_base.specs.Stops.{Draws, Fails, Further, GivenUp, Happening, IsCut, Opens, Plainly, WorldEvent, swept}
+use Rattle.world_base.specs.Stops.{Draws, Fails, Further, GivenUp, Happening, IsCut, Opens, Plainly, WorldEvent}
 use Rattle.world_causes.specs.Causes.{Stored}
 use Rattle.world_ends.specs.PlainCauses.{plain-causes}
 use Rattle.world_handing.specs.Begun.{leaders-targets, losses-asked, readers-new}

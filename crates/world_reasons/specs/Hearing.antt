@@ -1,6 +1,6 @@
 -- What is lost at a target that was given up was asked of one of its attempt's targets, and a line tells of it; so a client that hears of a loss
 -- has a stop for it, or such a line.
-use Rattle.std.specs.Prelude.{ℕ, ◌≡◌, Bool, true, false, List, slice_get, Contains, Option, Some, None, refl}
+use Rattle.std.specs.Prelude.{ℕ, ◌≡◌, Bool, true, false, List, Contains, Some, None, refl}
 use Rattle.std.proofs.Common.{sym, ◌∙◌, ap, subst}
 use Rattle.base_types.specs.declared.id.AttemptId.{AttemptId}
 use Rattle.base_types.specs.declared.report.Line.TheVariants as line
@@ -17,7 +17,7 @@ use Rattle.world_base.specs.declared.letter.Letter.{Letter}
 use Rattle.world_base.specs.declared.world.World.{World}
 use Rattle.world_base.specs.ClientTurns.{attempt_id, request_of}
 use Rattle.world_base.specs.Events.{ClientHears, Rules, client_plan}
-use Rattle.world_base.specs.Letters.{Takes, client, is_tell, reset_message, target}
+use Rattle.world_base.specs.Letters.{Takes, client, reset_message, target}
 use Rattle.world_causes.specs.Causes.{Stored}
 use Rattle.world_causes.specs.HearingLaws.{LossesStand}
 use Rattle.world_fates.specs.Facts.{IsAskedSo, IsSaidSo}

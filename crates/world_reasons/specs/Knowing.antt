@@ -1,5 +1,5 @@
 -- What a leader knows to be down was given up.
-use Rattle.std.specs.Prelude.{ℕ, ◌≡◌, ◌⊎◌, ◌++◌, Bool, true, false, List, [], ◌∷◌, slice_get, Some, refl}
+use Rattle.std.specs.Prelude.{ℕ, ◌≡◌, ◌⊎◌, ◌++◌, true, false, List, [], ◌∷◌, slice_get, Some, refl}
 use Rattle.std.proofs.Common.{append-nil, append_assoc, inl, inr, sym, ◌∙◌, ap, subst}
 use Rattle.std.proofs.Math.ListN.{set}
 use Rattle.base_types.specs.declared.report.Line.{Line}
@@ -14,14 +14,13 @@ use Rattle.world_attempts.specs.Attempts.{row_in}
 use Rattle.world_attempts.specs.Counting.{has-taken}
 use Rattle.world_attempts.specs.History.{History}
 use Rattle.world_attempts.specs.MemberBits.{has-none}
-use Rattle.world_base.specs.declared.letter.Letter.{Letter}
 use Rattle.world_base.specs.declared.target.Life.TheVariants.{Down}
 use Rattle.world_base.specs.declared.target.TargetState.{TargetState}
 use Rattle.world_base.specs.declared.world.World.{World}
 use Rattle.world_base.specs.Events.{ByClient, ByTarget, Rules, TargetHearsRightly, ToClient, ToTarget, kept, target_after, target_plan}
 use Rattle.world_base.specs.MemoryLaws.{idle-leaves}
 use Rattle.world_base.specs.Statuses.{opening_memory}
-use Rattle.world_base.specs.Stops.{Draws, Fails, Further, GivenUp, Happening, HearsMore, IsCut, Opens, Plainly, WorldEvent, opened_at, stopped_at, stops_so_far, swept}
+use Rattle.world_base.specs.Stops.{Draws, Fails, Further, GivenUp, Happening, HearsMore, IsCut, Opens, Plainly, WorldEvent, opened_at, stopped_at, stops_so_far}
 use Rattle.world_fates.specs.Facts.{Attempts}
 use Rattle.world_fates.specs.Rightly.{letters-tell}
 use Rattle.world_questions.specs.Flying.{IsWithoutCollections}

@@ -1,7 +1,7 @@
 -- What a leader hears of attempts that it leads is known: who waits is the attempt's client; a refusal, or the news that a member holds
 -- nothing, shows why; and who asks what became of an attempt has a stop, or a target that was given up, to be told of.
-use Rattle.std.specs.Prelude.{ℕ, ◌≡◌, ◌≤◌, ◌/◌, ◌&&◌, Bool, true, false, List, [], ◌∷◌, find, filter, slice_get, Contains, Option, Some, None, refl, if◌then◌else◌}
-use Rattle.std.proofs.Common.{inl, inr, sym, ◌∙◌, ap, subst}
+use Rattle.std.specs.Prelude.{ℕ, ◌≡◌, ◌≤◌, ◌/◌, Bool, true, false, List, [], ◌∷◌, find, slice_get, Contains, Option, Some, refl, if◌then◌else◌}
+use Rattle.std.proofs.Common.{sym, ◌∙◌, ap, subst}
 use Rattle.base_types.specs.declared.entry.Entry.{Entry}
 use Rattle.base_types.specs.declared.entry.EntryState.{EntryState}
 use Rattle.base_types.specs.declared.entry.EntryState.TheVariants as state
@@ -20,11 +20,11 @@ use Rattle.daos_model.specs.declared.durable.Version.{Version}
 use Rattle.daos_model.specs.Opening.{Opening}
 use Rattle.daos_model.specs.Order.{told_by}
 use Rattle.dtx_base.specs.declared.leading.Undecided.{Undecided}
-use Rattle.dtx_base.specs.Leading.{LeaderOf, entry_led, first_down, is_down_among, undecided_attempt, undecided_of}
+use Rattle.dtx_base.specs.Leading.{LeaderOf, entry_led, first_down, is_down_among, undecided_of}
 use Rattle.dtx_base.specs.Members.{all_targets, has_target}
-use Rattle.model_laws.specs.Members.{Has, contains-from_has, has-from_contains}
+use Rattle.model_laws.specs.Members.{Has, contains-from_has}
 use Rattle.world_addresses.specs.TurnAddresses.{bit-of}
-use Rattle.world_attempts.specs.Attempts.{IsOther, entry_in, members_of, row_in, writes_of}
+use Rattle.world_attempts.specs.Attempts.{IsOther, entry_in, row_in}
 use Rattle.world_attempts.specs.History.{History}
 use Rattle.world_attempts.specs.MarkTurns.{led-found}
 use Rattle.world_base.specs.declared.letter.Letter.{Letter}

@@ -1,12 +1,11 @@
 -- A run begins with what tells of no stop, and nothing stored; so at each moment what tells of a stop has one, and all is stored once.
-use Rattle.std.specs.Prelude.{ℕ, ◌≡◌, [], slice_get, Some}
+use Rattle.std.specs.Prelude.{◌≡◌, []}
 use Rattle.std.proofs.Common.{sym, ap, subst}
 use Rattle.daos_model.specs.Attempts.{tries}
 use Rattle.daos_model.specs.Opening.{Opening}
-use Rattle.world_base.specs.declared.client.ClientState.{ClientState}
 use Rattle.world_base.specs.declared.world.World.{World}
 use Rattle.world_base.specs.Events.{Rules, client_plan}
-use Rattle.world_base.specs.Stops.{Begins, Goes, WorldRun}
+use Rattle.world_base.specs.Stops.{Begins, Goes}
 use Rattle.world_handing.specs.Groups.{ClientsAskWithin, IsWithin}
 use Rattle.world_losses.specs.Beginning.{losses-begin}
 use Rattle.world_standing.specs.Runs.{none-yet, standing-begins}
@@ -14,7 +13,7 @@ use Rattle.world_stored.specs.Happening.{storing-begins}
 use Rattle.world_whole.specs.BeginLaws.{idle}
 use Rattle.world_whole.specs.Begins.{IsBegun, IsSimple, held_at, no_history}
 use Rattle.world_whole.specs.Whole.{held-before}
-use Rattle.world_reasons.specs.Accounted.{Accounted, RunsAreAccounted, RunsBeginAccounted, stored_over}
+use Rattle.world_reasons.specs.Accounted.{Accounted, RunsAreAccounted, stored_over}
 use Rattle.world_reasons.specs.Downs.{downs-begin}
 use Rattle.world_reasons.specs.Knowing.{known-begin}
 use Rattle.world_reasons.specs.Events.{events-keep-accounts}

@@ -1,8 +1,6 @@
 -- Who waits at a leader for an attempt's end is at that attempt.
-use Rattle.std.specs.Prelude.{ℕ, ◌≡◌, ◌++◌, Bool, true, false, List, [], ◌∷◌, filter, map, slice_get, Option, Some, None, refl}
+use Rattle.std.specs.Prelude.{ℕ, ◌≡◌, Bool, true, false, [], ◌∷◌, filter, map, slice_get, Option, Some, None, refl}
 use Rattle.std.proofs.Common.{inl, inr, sym, ◌∙◌, ap, subst, arith}
-use Rattle.base_types.specs.declared.id.AttemptId.{AttemptId}
-use Rattle.base_messages.specs.declared.message.Message.TheVariants as message
 use Rattle.base_messages.specs.declared.message.Post.{Post}
 use Rattle.dtx_base.specs.declared.leading.Undecided.{Undecided}
 use Rattle.model_laws.specs.Members.{Has, has-filter, has-left, has-map, has-right}
