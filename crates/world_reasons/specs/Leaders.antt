@@ -5,11 +5,13 @@ use Rattle.std.proofs.Common.{sym, ◌∙◌, ap, subst}
 use Rattle.base_types.specs.declared.entry.Entry.{Entry}
 use Rattle.base_types.specs.declared.entry.EntryState.{EntryState}
 use Rattle.base_types.specs.declared.entry.EntryState.TheVariants as state
+use Rattle.base_types.specs.declared.epoch.Epoch.{Epoch}
 use Rattle.base_types.specs.declared.id.AttemptId.{AttemptId}
 use Rattle.base_types.specs.declared.outcome.Cause.TheVariants as cause
 use Rattle.base_types.specs.declared.outcome.Outcome.{Outcome}
 use Rattle.base_types.specs.declared.outcome.Outcome.TheVariants as outcome
 use Rattle.base_types.specs.declared.report.Line.TheVariants as line
+use Rattle.base_types.specs.Placement.{writes_members}
 use Rattle.base_messages.specs.declared.actor.ActorId.{ActorId}
 use Rattle.base_messages.specs.declared.message.Message.{Message, more_of-Message}
 use Rattle.base_messages.specs.declared.message.Message.TheVariants as message
@@ -17,7 +19,7 @@ use Rattle.daos_model.specs.Accesses.{attempt_targets}
 use Rattle.daos_model.specs.BoolLaws.{and_left, and_right}
 use Rattle.daos_model.specs.EntryLaws.{same_attempt-itself}
 use Rattle.daos_model.specs.declared.durable.Version.{Version}
-use Rattle.daos_model.specs.Opening.{Opening}
+use Rattle.daos_model.specs.Opening.{Opening, top}
 use Rattle.daos_model.specs.Order.{told_by}
 use Rattle.dtx_base.specs.declared.leading.Undecided.{Undecided}
 use Rattle.dtx_base.specs.Leading.{LeaderOf, entry_led, first_down, is_down_among, undecided_of}
@@ -25,15 +27,18 @@ use Rattle.dtx_base.specs.Members.{all_targets, has_target}
 use Rattle.model_laws.specs.Members.{Has, contains-from_has}
 use Rattle.world_addresses.specs.TurnAddresses.{bit-of}
 use Rattle.world_attempts.specs.Attempts.{IsOther, entry_in, row_in}
+use Rattle.world_attempts.specs.Asked.{IsCommitNew}
 use Rattle.world_attempts.specs.History.{History}
 use Rattle.world_attempts.specs.MarkTurns.{led-found}
 use Rattle.world_base.specs.declared.letter.Letter.{Letter}
+use Rattle.world_base.specs.declared.request.CommitRequest.{CommitRequest}
 use Rattle.world_base.specs.declared.target.TargetState.{TargetState}
 use Rattle.world_base.specs.declared.world.World.{World}
+use Rattle.world_base.specs.Commits.{led_entry}
 use Rattle.world_base.specs.Events.{Rules, target_plan}
 use Rattle.world_base.specs.Letters.{client, target}
 use Rattle.world_base.specs.Roles.{leader_at}
-use Rattle.world_base.specs.Statuses.{status_refusal}
+use Rattle.world_base.specs.Statuses.{down_of, status_refusal}
 use Rattle.world_causes.specs.Causes.{Stored, epochs_told}
 use Rattle.world_causes.specs.Lasting.{refusal-shows}
 use Rattle.world_causes.specs.MemberTurns.{IsAck}
@@ -42,12 +47,17 @@ use Rattle.world_causes.specs.Requests.{found-row}
 use Rattle.world_causes.specs.Shown.{Causes, MeetsUnresolved, MessageStands, OutcomeStands, limit_over}
 use Rattle.world_epochs.specs.Epochs.{IsPresent}
 use Rattle.world_fates.specs.Facts.{IsAskedSo, IsSaidSo}
-use Rattle.world_handing.specs.Handing.{hands-over}
+use Rattle.world_handing.specs.Dates.{epochs-of_commits}
+use Rattle.world_handing.specs.Handing.{asked-right, hands-over}
+use Rattle.world_handing.specs.Places.{snapshots-read}
 use Rattle.world_handing.specs.Targets.{member-is_target, other-is_target}
 use Rattle.world_losses.specs.Losses.{tells_stop}
 use Rattle.world_outcomes.specs.Premises.{hands}
 use Rattle.world_showing.specs.Further.{AsksAfter, IsAskKnown, IsGone, TellsReset}
+use Rattle.world_standing.specs.Requests.{Heard}
 use Rattle.world_statuses.specs.Senders.{IsSentRightly}
+use Rattle.world_talks.specs.Asked.{commit_of}
+use Rattle.world_whole.specs.Begins.{IsSimple}
 use Rattle.world_reasons.specs.Accounted.{Accounted}
 use Rattle.world_reasons.specs.Downs.{TellsDown}
 use Rattle.world_reasons.specs.Waiting.{waiter-present}
@@ -71,6 +81,12 @@ abbrev pub StatesAreKnown : Type 0
 StatesAreKnown =
     (r : Rules) (o : Opening) (held : ℕ → List Version) (h : History) (stored : Stored) (w : World) → Accounted r o held h stored w → Causes r o stored w → (t : ℕ) (s : TargetState) → slice_get w.targets t ≡ Some s → (l : Letter) (x : AttemptId) (inc : ℕ) (how : EntryState) → Has l w.messages → l.message ≡ message.StatusIs x inc how
     → IsAck r o stored w.issued w.lines x (status_refusal x how) (leader_at (target_plan r t) s.memory s.durable)
+
+-- A leader to which a client hands an attempt over, of which it knows a member to be down: that is a target of the attempt, and was given up.
+abbrev pub CommitsMeetGivenUp : Type 0
+CommitsMeetGivenUp =
+    (r : Rules) (o : Opening) (held : ℕ → List Version) (h : History) (stored : Stored) (w : World) → IsSimple r → Accounted r o held h stored w → (t : ℕ) (s : TargetState) → slice_get w.targets t ≡ Some s → (l : Letter) (q : CommitRequest) (e : Epoch) (down : ℕ) → Has l w.messages → l.message ≡ commit_of q
+    → down_of (target_plan r t) s.memory q e ≡ Some down → IsGone r w.lines q.attempt down
 
 -- Or is told that its question to a target that is down got no answer: who waits for the attempt that it asked about is the attempt's client,
 -- and that target is one of the attempt's, and was given up.
@@ -191,6 +207,21 @@ module _ (r : Rules) (o : Opening) (held : ℕ → List Version) (h : History) (
       downs (message.Reset' t true place (more_of-Message y more)) is = is.0
       downs (message.Reset' t false place (more_of-Message y more)) is = let no : ⊥ = cc (is.1) in absurd no
       downs m is = absurd is
+
+pub commits-meet : CommitsMeetGivenUp
+commits-meet r o held h stored w A k t s here l q e down i says first = (
+  contains-from_has (attempt_targets r.script q.attempt) down (member-is_target r q.attempt down (subst (λ ws. Has down (writes_members ws r.script.targets)) new.writes (bit-of (writes_members q.writes r.script.targets) down is.0))),
+  contains-from_has w.lines (line.Down down) (k.knows t down s here is.1),
+)
+  where
+    z : Heard r o h w
+    z = k.standing.heard
+
+    new : IsCommitNew r h w l.to q.attempt q.ep q.writes
+    new = (asked-right r h w z.talk z.requests z.stand k.standing.outcomes (epochs-of_commits r (top o) w z.talk z.requests z.stand (snapshots-read r r.script.targets A.form) z.epochs)).commits l q.attempt q.ep q.first q.tracker q.writes i says
+
+    is : (has_target (led_entry (target_plan r t) q e).members down ≡ true) × (has_target s.memory.leader.down down ≡ true)
+    is = down-so (led_entry (target_plan r t) q e).members s.memory.leader.down down first
 
 pub lost-questions-known : LostQuestionsAreKnown
 lost-questions-known r o held h stored w k C t s here l by q i tells x e u c asks found row told = lost-known r o held h stored w k C t s here l by q i tells x e u c asks found row told

@@ -5,7 +5,7 @@ ghost use Rattle.world_reasons.specs.Accounted.{EventsKeepAccounts, RunsAreAccou
 ghost use Rattle.world_reasons.specs.Downs.{DownsBegin, EventsKeepDowns};
 ghost use Rattle.world_reasons.specs.Hearing.{ClientsHearOfStops, LossesTellOfGivenUp};
 ghost use Rattle.world_reasons.specs.Knowing.{EventsKeepKnownDowns, KnownDownsBegin};
-ghost use Rattle.world_reasons.specs.Leaders.{AcksAreKnown, AsksAreKnown, LostQuestionsAreKnown, StatesAreKnown};
+ghost use Rattle.world_reasons.specs.Leaders.{AcksAreKnown, AsksAreKnown, CommitsMeetGivenUp, LostQuestionsAreKnown, StatesAreKnown};
 
 /// Says what goes on together in a run in which targets may stop and open again, of a script in form without
 /// snapshots and aggregation: all that stands, that clients ask within the groups of their paths, that what
@@ -38,10 +38,12 @@ pub fn laws_of_downs()
 /// what became of it is its client; there is a stop of one of its targets since it began, and what the leader
 /// knows of it to be down was given up. Who waits for its end there is its client. A member's refusal shows
 /// its cause, and so does the news that a member holds nothing, by a stop. Where a question about an attempt
-/// got no answer by a target that is down, that is a target of the attempt, and was given up.
+/// got no answer by a target that is down, that is a target of the attempt, and was given up; and so is a
+/// member that the leader knows to be down when it hears a Commit.
 pub fn laws_of_leaders()
     ensures asks { AsksAreKnown }
     ensures acks { AcksAreKnown }
     ensures states { StatesAreKnown }
     ensures lost { LostQuestionsAreKnown }
+    ensures commits { CommitsMeetGivenUp }
 {}
