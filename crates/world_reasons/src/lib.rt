@@ -7,14 +7,14 @@ ghost use Rattle.world_reasons.specs.Hearing.{ClientsHearOfStops, LossesTellOfGi
 ghost use Rattle.world_reasons.specs.Knowing.{EventsKeepKnownDowns, KnownDownsBegin};
 ghost use Rattle.world_reasons.specs.Leaders.{AcksAreKnown, AsksAreKnown, CommitsMeetGivenUp, LostQuestionsAreKnown, StatesAreKnown};
 
-/// Says what goes on together in a run in which targets may stop and open again, of a script in form without
-/// snapshots and aggregation: all that stands, that clients ask within the groups of their paths, that what
-/// tells of an attempt's loss at a stop has such a stop behind it, that who is told that a target is down is
-/// told so of one that was given up, that leaders know no others to be down, and that each attempt was stored
-/// at most once at each target, of what was decided, aborted, served and stored by then. Each event keeps it,
-/// with what is stored in it; a run begins with it, with nothing stored; and so it holds at each moment. Then a client that hears that a request of
-/// its attempt was lost is told so of a target of the attempt: one that was given up, or one that stopped
-/// since the attempt began.
+/// Says what goes on together in a run in which targets may stop and open again, of a script in form
+/// without snapshots and aggregation: all that stands, that clients ask within the groups of their paths,
+/// that what tells of an attempt's loss at a stop has such a stop behind it, that who is told that a target
+/// is down is told so of one that was given up, that leaders know no others to be down, and that each
+/// attempt was stored at most once at each target, of what was decided, aborted, served and stored by then.
+/// Each event keeps it, with what is stored in it; a run begins with it, with nothing stored; and so it
+/// holds at each moment. Then a client that hears that a request of its attempt was lost is told so of a
+/// target of the attempt: one that was given up, or one that stopped since the attempt began.
 pub fn laws_of_accounts()
     ensures events { EventsKeepAccounts }
     ensures begin { RunsBeginAccounted }
