@@ -1,6 +1,8 @@
 -- The laws of what follows from conversations, as statements.
 use Rattle.std.specs.Prelude.{ℕ, ◌≡◌, ◌<◌, List, slice_get, Some}
 use Rattle.base_types.specs.Scripts.{IsInForm}
+use Rattle.base_types.specs.declared.id.AttemptId.{AttemptId}
+use Rattle.model_laws.specs.Members.{Has}
 use Rattle.daos_model.specs.declared.durable.Version.{Version}
 use Rattle.daos_model.specs.Opening.{Opening}
 use Rattle.world_causes.specs.HearingLaws.{LossesStand}
@@ -10,6 +12,7 @@ use Rattle.world_base.specs.declared.client.ClientState.{ClientState}
 use Rattle.world_base.specs.declared.letter.Letter.{Letter}
 use Rattle.world_base.specs.declared.world.World.{World}
 use Rattle.world_base.specs.Events.{Rules, client_plan}
+use Rattle.world_causes.specs.Causes.{EndsOf}
 use Rattle.world_base.specs.Letters.{Takes, client}
 use Rattle.world_base.specs.Stops.{WorldEvent}
 use Rattle.world_epochs.specs.Epochs.{ClientsStand, Epochs}
@@ -20,7 +23,6 @@ use Rattle.world_handing.specs.Groups.{ClientsAskWithin}
 use Rattle.world_handing.specs.Handing.{EpochsOfCommits}
 use Rattle.world_fates.specs.Facts.{Attempts}
 use Rattle.world_handing.specs.Targets.{PlacesAreRight}
-use Rattle.world_handing.specs.Tellers.{ReadsAreOfClients}
 use Rattle.world_lines.specs.Lines.{Endings}
 use Rattle.world_losses.specs.ClientHears.{LossesAreAsked}
 use Rattle.world_losses.specs.Clients.{AreBegun}
@@ -78,9 +80,13 @@ ReadersAreNotBorn = (r : Rules) (h : History) (w : World) → Outcomes r h w →
 abbrev pub LeadersAreAmongTargets : Type 0
 LeadersAreAmongTargets = (r : Rules) (h : History) (w : World) → Outcomes r h w → ClientsStand r w → PlacesAreRight r → LeadersAreTargets r w
 
--- Whatever tells of a stop of an attempt, its client has begun it, where reads are answered to clients.
+-- Whatever tells of a stop of an attempt, its client has begun it.
 abbrev pub TellersAreBegun : Type 0
-TellersAreBegun = (r : Rules) (h : History) (w : World) → Attempts r h w → Outcomes r h w → Conversation r w → RequestsAreOfClients w → ReadsAreOfClients w → AreBegun r w
+TellersAreBegun = (r : Rules) (h : History) (w : World) → Attempts r h w → Outcomes r h w → Conversation r w → RequestsAreOfClients w → AreBegun r w
+
+-- what came of an attempt, or of a read of it, is told to its client
+abbrev pub ClientsAreTold : Type 0
+ClientsAreTold = (r : Rules) (w : World) → Conversation r w → RequestsAreOfClients w → (l : Letter) (x : AttemptId) → Has l w.messages → EndsOf l.message x → l.to ≡ client x.client
 
 -- what isn't settled is of an attempt of which its target keeps an entry, where versions stand
 abbrev pub OpenVersionsAreHeld : Type 0

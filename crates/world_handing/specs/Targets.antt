@@ -94,7 +94,7 @@ ops-ask command targets (z ∷ ops) (suc i) op t found asks among = has-right (i
 -- ---- members
 
 -- a member of an attempt's writes is one of its targets
-member-is_target : (r : Rules) (x : AttemptId) (t : ℕ) → Has t (writes_members (writes_of r x) r.script.targets) → Has t (attempt_targets r.script x)
+pub member-is_target : (r : Rules) (x : AttemptId) (t : ℕ) → Has t (writes_members (writes_of r x) r.script.targets) → Has t (attempt_targets r.script x)
 unfolding minor_writes writes_members
 member-is_target r x t i = by (command_of r.script x) i
   where
@@ -118,7 +118,7 @@ pub leader-is_target : (r : Rules) (x : AttemptId) → PlacesAreRight r → writ
 leader-is_target r x places some = contains-from_has (attempt_targets r.script x) (leader_of r x) (member-is_target r x (leader_of r x) (leader-among r x (writes_of r x) places refl some))
 
 -- and so is each other member
-other-is_target : (r : Rules) (x : AttemptId) (m : ℕ) → IsOther r x m → Contains (attempt_targets r.script x) m
+pub other-is_target : (r : Rules) (x : AttemptId) (m : ℕ) → IsOther r x m → Contains (attempt_targets r.script x) m
 unfolding other_members is_other_member
 other-is_target r x m i =
     let z = has-from_filter (is_other_member (first_entry r x (record { 0 = 0 }))) all_targets m i in
@@ -205,7 +205,7 @@ module _ (r : Rules) (w : World) (stand : ClientsStand r w) (places : PlacesAreR
       subst Targets (sym (ap (λ z. z.to.number) says))
       (let s = stand n c here in first-target (command.Aggregate cont) (command-is r n c a (command.Aggregate cont) s.0 s.1 command-at refl) (has-range 0 r.script.targets 0 (omega arith) (let e = places.some in omega (arith, e))))
 
-  question-target : (q : Post) → IsQuestion p c q → Targets q.to.number
+  pub question-target : (q : Post) → IsQuestion p c q → Targets q.to.number
   question-target q (ItsRequest k low sent) = asked-target k q (sent-is-asked p k c a q at sent)
   question-target q (ItsAsk k s f low sent commit says) = subst Targets (sym (ap (λ z. z.to.number) says)) (asked-target k s (sent-is-asked p k c a s at sent))
 

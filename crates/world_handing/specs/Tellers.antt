@@ -21,11 +21,12 @@ use Rattle.world_base.specs.declared.letter.Letter.{Letter}
 use Rattle.world_base.specs.declared.world.World.{World}
 use Rattle.world_base.specs.ClientTurns.{attempt_id, request_of}
 use Rattle.world_base.specs.Events.{Rules, client_plan}
-use Rattle.world_base.specs.Letters.{is_tell, reset_message}
+use Rattle.world_base.specs.Letters.{client, is_tell, reset_message}
 use Rattle.world_epochs.specs.Epochs.{IsPresent}
 use Rattle.world_fates.specs.Facts.{Attempts, IsAskedSo, IsSaidSo}
 use Rattle.world_handing.specs.Begun.{handed-where, lost-question}
 use Rattle.world_handing.specs.Handing.{asked-by, ended-attempt, told-to}
+use Rattle.world_causes.specs.Causes.{EndsOf}
 use Rattle.world_handing.specs.Targets.{unanswered-by}
 use Rattle.world_losses.specs.ClientHears.{TellsLoss}
 use Rattle.world_losses.specs.Clients.{AreBegun, IsOver}
@@ -35,14 +36,11 @@ use Rattle.world_talks.specs.Conversation.{Answers}
 use Rattle.world_talks.specs.TalkLaws.{taken-from}
 use Rattle.world_waits.specs.ClientLaws.{present-of, question-about}
 use Rattle.world_waits.specs.Premises.{RequestsAreOfClients, is_end}
+use Rattle.world_waits.specs.Passing.{IsOfClient, question-of}
 use Rattle.world_waits.specs.Requests.{is_lost_request, is_request}
 use Rattle.world_waits.specs.Waits.{Conversation, IsAnswer, IsLost, IsQuestion, IsReplyTo}
 
--- what a read is answered goes to a client
-abbrev pub ReadsAreOfClients : World → Type 0
-ReadsAreOfClients w = (l : Letter) (x : AttemptId) (op group : ℕ) (own : Option Epoch) (b : Reply) → Has l w.messages → l.message ≡ message.Fetched x op group own b → l.to.client ≡ true
-
--- it answers the attempt that asked
+-- what a read is answered, its attempt asked for
 fetched-attempt : (q : Post) (x : AttemptId) (op group : ℕ) (own : Option Epoch) (b : Reply) (m : Message) → m ≡ message.Fetched x op group own b → IsReplyTo q m → request_of q.message ≡ Some x
 fetched-attempt q x op group own b m says (IsAnswer ans) = by q.message (subst (Answers q.message) says ans)
   where
@@ -55,7 +53,7 @@ fetched-attempt q x op group own b m says (IsAnswer ans) = by q.message (subst (
     by y a = absurd a
 fetched-attempt q x op group own b m says (IsLost down lost) = let bad : message.Fetched x op group own b ≡ reset_message q.to.number down q.message = sym says ∙ lost in let no : ⊥ = cc in absurd no
 
-module _ (r : Rules) (h : History) (w : World) (attempts : Attempts r h w) (outcomes : Outcomes r h w) (k : Conversation r w) (from : RequestsAreOfClients w) (reads : ReadsAreOfClients w) where
+module _ (r : Rules) (h : History) (w : World) (attempts : Attempts r h w) (outcomes : Outcomes r h w) (k : Conversation r w) (from : RequestsAreOfClients w) where
   abbrev IsBegun : AttemptId → Type 0
   IsBegun x = IsPresent r w x ⊎ IsOver w.clients x
 
@@ -116,7 +114,7 @@ module _ (r : Rules) (h : History) (w : World) (attempts : Attempts r h w) (outc
     letter-begun (message.Ack y inc (Some how)) says is so = born y x (same-is y x (and_left (same_attempt y x) (is_lost x how) is)) so.born
     letter-begun (message.Fetched y op group own (reply.Outcome how)) says is so =
         let its : y ≡ x = same-is y x (and_left (same_attempt y x) (is_lost x how) is) in
-        inl (told l x i (reads l y op group own (reply.Outcome how) i says) (ap is_tell says) (λ q replies. fetched-attempt q y op group own (reply.Outcome how) l.message says replies ∙ ap (λ z. Some z) its))
+        inl (told l x i ((from.letters l i).end (ap is_end says)) (ap is_tell says) (λ q replies. fetched-attempt q y op group own (reply.Outcome how) l.message says replies ∙ ap (λ z. Some z) its))
     letter-begun m says is so = let no : ⊥ = cc in absurd no
 
   asked-begun : (l : Letter) (x : AttemptId) → Has l w.asked → (m : Message) → l.message ≡ m → tells_stop x m ≡ true → is_asked_of x m ≡ true → IsAskedSo r h w l.from l.to m → IsBegun x
@@ -132,3 +130,25 @@ module _ (r : Rules) (h : History) (w : World) (attempts : Attempts r h w) (outc
     asked = λ l x i is asks'. asked-begun l x i l.message refl is asks' (attempts.on.asked l i);
     resting = λ x rests. handed-where r h w outcomes x (inl rests.held);
   }
+
+-- ---- who is told
+
+-- What came of an attempt, or of a read of it, is told to its client.
+module _ (r : Rules) (w : World) (k : Conversation r w) (from : RequestsAreOfClients w) where
+  told-client : (l : Letter) (x : AttemptId) → Has l w.messages → is_end l.message ≡ true → is_tell l.message ≡ false → ((q : Post) → IsReplyTo q l.message → request_of q.message ≡ Some x) → l.to ≡ client x.client
+  told-client l x i ends off of =
+      let t = taken-from w.messages l (contains-from_has w.messages l i) in
+      let to : l.to ≡ client l.to.number = ap (λ b. record { client = b; number = l.to.number }) ((from.letters l i).end ends) in
+      let z = told-to r w k l.to.number l t.0 t.1 to off in
+      let asks : IsOfClient l.to.number z.q = question-of r l.to.number z.c z.q z.now z.question in
+      let same : Some asks.x ≡ Some x = sym asks.asks ∙ of z.q z.reply.says in
+      let its : asks.x ≡ x = cc in
+      to ∙ ap client (sym asks.own ∙ ap (λ y. y.client) its)
+
+  pub ends-told : (l : Letter) (x : AttemptId) → Has l w.messages → EndsOf l.message x → l.to ≡ client x.client
+  ends-told l x i ends = by l.message refl ends
+    where
+      by : (m : Message) → l.message ≡ m → EndsOf m x → l.to ≡ client x.client
+      by (message.Fetched y op group own b) is same = told-client l x i (ap is_end is) (ap is_tell is) (λ q replies. fetched-attempt q y op group own b l.message is replies ∙ ap (λ z. Some z) same)
+      by (message.Ended y own how) is same = told-client l x i (ap is_end is) (ap is_tell is) (λ q replies. ended-attempt r w k from q y own how l.message is replies ∙ ap (λ z. Some z) same)
+      by m is none = absurd none

@@ -226,13 +226,14 @@ abbrev pub TellsOfDown : ℕ → Message → Type 0
 TellsOfDown u (message.Reset' by down place asked) = (by ≡ u) × (down ≡ true)
 TellsOfDown u m = ⊥
 
--- those that were known to be down are, and that which a Reset tells of
+-- those that were known to be down are, and that which a Reset tells of, and no others
 pub record KnowsDown (m n : TargetMemory) (said : Message) : Type 0 where
   pub known : (u : ℕ) → has_target m.leader.down u ≡ true → has_target n.leader.down u ≡ true
   pub told : (u : ℕ) → TellsOfDown u said → has_target n.leader.down u ≡ true
+  pub only : (u : ℕ) → has_target n.leader.down u ≡ true → (has_target m.leader.down u ≡ true) ⊎ TellsOfDown u said
 
 knows-as : (m n : TargetMemory) (said : Message) → n.leader.down ≡ m.leader.down → ((u : ℕ) → TellsOfDown u said → ⊥) → KnowsDown m n said
-knows-as m n said same none = record { known = λ u is. ap (λ b. has_target b u) same ∙ is; told = λ u tells. absurd (none u tells) }
+knows-as m n said same none = record { known = λ u is. ap (λ b. has_target b u) same ∙ is; told = λ u tells. absurd (none u tells); only = λ u is. inl (ap (λ b. has_target b u) (sym same) ∙ is) }
 
 down-down : (by : ℕ) (a : AttemptId) (e : Option Entry) (u : Option Undecided) (l : LeaderOf) → (down_told by a e u l).leader.memory.down ≡ l.memory.down
 down-down by a None u l = refl
@@ -276,6 +277,13 @@ reset-tells : (by : ℕ) (down : Bool) (q : Message) (l : LeaderOf) (u : ℕ) �
 reset-tells by true q l u same is = subst (λ n. has_target (with_target (reset_of by true q l).leader.memory.down by) n ≡ true) same (has-with (reset_of by true q l).leader.memory.down by)
 reset-tells by false q l u same is = let no : ⊥ = cc in absurd no
 
+reset-only : (by : ℕ) (down : Bool) (q : Message) (l : LeaderOf) (u : ℕ) → has_target (reset_heard by down q l).leader.memory.down u ≡ true → (has_target l.memory.down u ≡ true) ⊎ ((by ≡ u) × (down ≡ true))
+reset-only by true q l u is = elim (one-or_another u by) [
+  | inl same ↦ inr (sym same, refl)
+  | inr other ↦ inl (ap (λ n. has_target n u) (sym (lost-down by true q l)) ∙ (sym (has-with_other (reset_of by true q l).leader.memory.down by u other) ∙ is))
+]
+reset-only by false q l u is = inl (ap (λ n. has_target n u) (sym (lost-down by false q l)) ∙ is)
+
 ask-down : (x : AttemptId) (from : ActorId) (l : LeaderOf) → (ask_heard x from l).leader.memory.down ≡ l.memory.down
 unfolding ask_heard
 ask-down x from l = by (entry_led x l) (is_among x l.memory.decided)
@@ -304,5 +312,6 @@ more-down number t opening m reading from (message.Reset' by down place (more_of
     record {
       known = λ u was. ap (λ z. has_target z.0.leader.down u) is ∙ reset-down by down q (leader_at t m new.durable) u was;
       told = λ u tells. ap (λ z. has_target z.0.leader.down u) is ∙ reset-tells by down q (leader_at t m new.durable) u tells.0 tells.1;
+      only = λ u so. reset-only by down q (leader_at t m new.durable) u (ap (λ z. has_target z.0.leader.down u) (sym is) ∙ so);
     }
 more-down number t opening m reading from q old new left ours h = let no : ⊥ = cc in absurd no

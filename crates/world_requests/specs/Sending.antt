@@ -13,6 +13,7 @@ use Rattle.base_types.specs.declared.outcome.Outcome.TheVariants as outcome
 use Rattle.base_messages.specs.declared.actor.ActorId.{ActorId}
 use Rattle.base_messages.specs.declared.message.Message.{Message}
 use Rattle.base_messages.specs.declared.message.Message.TheVariants as message
+use Rattle.base_messages.specs.declared.message.Reply.{Reply}
 use Rattle.base_messages.specs.declared.message.Post.{Post}
 use Rattle.daos_model.specs.BoolLaws.{clash}
 use Rattle.daos_model.specs.Durables.{same_attempt}
@@ -57,7 +58,7 @@ use Rattle.world_waits.specs.RequestTurns.{commit-collects, fetch-collects}
 
 -- ---- requests
 
--- A post of a target: no request, and no news that one got no answer; and how an attempt ended goes to a client.
+-- A post of a target: no request, and no news that one got no answer; and how an attempt ended, or what a read is answered, goes to a client.
 pub record IsOfTarget (p : Post) : Type 0 where
   pub asks_not : is_request p.message ≡ false
   pub tells_not : is_lost_request p.message ≡ false
@@ -86,6 +87,10 @@ one-sent posts q one asks tells ends = single-sent posts q one (plain-post q ask
 -- a client is told how an attempt ended
 pub one-ended : (posts : List Post) (to : ActorId) (x : AttemptId) (own : Option Epoch) (how : Outcome) → posts ≡ record { to = to; message = message.Ended x own how } ∷ [] → to.client ≡ true → AreOfTarget posts
 one-ended posts to x own how one is = single-sent posts (record { to = to; message = message.Ended x own how }) one (record { asks_not = refl; tells_not = refl; end = λ e. is })
+
+-- a client is told what it read
+pub one-answered : (posts : List Post) (to : ActorId) (x : AttemptId) (op group : ℕ) (own : Option Epoch) (b : Reply) → posts ≡ record { to = to; message = message.Fetched x op group own b } ∷ [] → to.client ≡ true → AreOfTarget posts
+one-answered posts to x op group own b one is = single-sent posts (record { to = to; message = message.Fetched x op group own b }) one (record { asks_not = refl; tells_not = refl; end = λ e. is })
 
 pub both-sent : (ps qs : List Post) → AreOfTarget ps → AreOfTarget qs → AreOfTarget (ps ++ qs)
 both-sent ps qs f g q i = elim (has-cases ps qs q i) [ inl j ↦ f q j | inr j ↦ g q j ]
@@ -138,9 +143,9 @@ follows-same m left of posts rows same = follows-so m left of posts (λ u c i is
 
 -- ---- requests and what leaders do
 
-fetch-sent : (q : FetchRequest) (from : ActorId) (m : TargetMemory) (left : TargetMemory × Did) → FetchLeaves q from m left → AreOfTarget left.1.posts
-fetch-sent q from m left (IsReplied own b posts same) = one-sent left.1.posts _ posts refl refl refl
-fetch-sent q from m left (IsKept e on leader own posts parked undecided) = one-sent left.1.posts _ posts refl refl refl
+fetch-sent : (q : FetchRequest) (from : ActorId) (m : TargetMemory) (left : TargetMemory × Did) → from.client ≡ true → FetchLeaves q from m left → AreOfTarget left.1.posts
+fetch-sent q from m left is (IsReplied own b posts same) = one-answered left.1.posts from q.attempt q.op q.group own b posts is
+fetch-sent q from m left is (IsKept e on leader own posts parked undecided) = one-sent left.1.posts _ posts refl refl refl
 
 fetch-rows : (q : FetchRequest) (from : ActorId) (m : TargetMemory) (left : TargetMemory × Did) → FetchLeaves q from m left → RowsOfClients m.leader.undecided → RowsOfClients left.0.leader.undecided
 fetch-rows q from m left (IsReplied own b posts same) of = rows-by-open m.leader.undecided left.0.leader.undecided (same.undecided 0) of
@@ -241,7 +246,7 @@ unresolved-sent a [] = none-sent
 unresolved-sent a (p ∷ ps) = both-sent (unresolved_told a p.ask) (all_unresolved_told a ps) (one p.ask) (unresolved-sent a ps)
   where
     one : (m : Message) → AreOfTarget (unresolved_told a m)
-    one (message.Fetch x op group ep first tracker r snapshot) = one-sent _ _ refl refl refl refl
+    one (message.Fetch x op group ep first tracker r snapshot) = one-answered _ (client x.client) x op group _ _ refl refl
     one m = none-sent
 
 freed-sent : (p : TargetPlan) (a : AttemptId) (ask : Option AttemptId) (v : Verdict) (m : TargetMemory) → AreOfTarget (verdict_heard a ask v (member_at p m)).freed.posts
@@ -264,8 +269,8 @@ verdict-goes is_due p m reading a ask v of s k o u l (verdict.TriesNext k2 n pos
 verdict-goes is_due p m reading a ask v of s k o u l (verdict.GoesOn k2 n posts rest q f g o2 next) steps h = (h.0, h.1, own-goes p n reading q f g k2 o2 next h.2)
 verdict-goes is_due p m reading a ask v of s k o u l (verdict.IsDone k2 n posts rest q f left ends) steps h =
     let leaves = fetch-leaves p n reading q (client q.attempt.client) f k2 left h.2 ends in (
-      both-sent posts left.1.posts h.0 (fetch-sent q (client q.attempt.client) n left leaves),
-      (follows-so n left h.1 (fetch-sent q (client q.attempt.client) n left leaves) (fetch-rows q (client q.attempt.client) n left leaves h.1.rows) (fetch-collects p n reading q (client q.attempt.client) f k2 left ends)).waiters,
+      both-sent posts left.1.posts h.0 (fetch-sent q (client q.attempt.client) n left refl leaves),
+      (follows-so n left h.1 (fetch-sent q (client q.attempt.client) n left refl leaves) (fetch-rows q (client q.attempt.client) n left leaves h.1.rows) (fetch-collects p n reading q (client q.attempt.client) f k2 left ends)).waiters,
     )
 
 verdict-follows : (is_due : AttemptId → Durable → Bool) (p : TargetPlan) (m : TargetMemory) (reading : ℕ) (a : AttemptId) (ask : Option AttemptId) (v : Verdict) (old new : Kept) (left : TargetMemory × Did) → WaitersAreClients m
@@ -294,7 +299,7 @@ pub hears-follows : (t : TargetPlan) (opening : Epoch × FloorWhy) (m : TargetMe
 hears-follows t opening m reading from (message.Fetch x op group ep first tracker r snapshot) old new left of asks h =
     let q = fetch_request x op group ep first tracker r snapshot in
     let leaves = fetch-leaves t m reading q from h.last new left (reached-keeps (read.FetchNext t m reading q) (λ s k. HasOwn q s) (λ s k o u l next steps own. own-goes t m reading q s u k o next own) read.Asked old h.last new h.reached tt) h.ends in
-    follows-so m left of (fetch-sent q from m left leaves) (fetch-rows q from m left leaves of.rows) (fetch-collects t m reading q from h.last new left h.ends)
+    follows-so m left of (fetch-sent q from m left (asks refl) leaves) (fetch-rows q from m left leaves of.rows) (fetch-collects t m reading q from h.last new left h.ends)
 hears-follows t opening m reading from (message.Commit x ep first tracker ws) old new left of asks h =
     let q = commit_request x ep first tracker ws in
     follows-so m left of (commit-sent t opening m reading q from h.last new left (asks refl) h.ends) (commit-rows q from m left (asks refl) (commit-leaves t opening m reading q from h.last new left h.ends) of.rows) (commit-collects t opening m reading q from h.last new left h.ends)

@@ -10,7 +10,7 @@ use Rattle.daos_model.specs.Opening.{Opening, top}
 use Rattle.model_laws.specs.Members.{Has, contains-from_has}
 use Rattle.base_types.specs.declared.outcome.Outcome.{Outcome}
 use Rattle.world_attempts.specs.Attempts.{IsBorn, leader_of}
-use Rattle.world_attempts.specs.History.{Aborted, GrowsBy, History, TellsRefusal}
+use Rattle.world_attempts.specs.History.{Aborted, Grew, GrowsBy, History, TellsRefusal}
 use Rattle.world_base.specs.declared.world.World.{World}
 use Rattle.world_base.specs.Events.{ByClient, ByTarget, Rules, ToClient, ToTarget, kept, target_plan}
 use Rattle.world_base.specs.Further.{HearsFurther}
@@ -92,7 +92,7 @@ of-stops number r w v f (message.Held x refusal) ours turn = let no : ⊥ = cc i
 of-stops number r w v f (message.Prune x c tracker e) ours turn = let no : ⊥ = cc in absurd no
 of-stops number r w v f m ours turn = absurd turn
 
-no-collections : (r : Rules) (w v : World) (e : Happening r w v) → HappensWithoutSnapshots e → IsWithoutCollections e
+pub no-collections : (r : Rules) (w v : World) (e : Happening r w v) → HappensWithoutSnapshots e → IsWithoutCollections e
 no-collections r w v (Further f) ours = of-stops f.number r w v f f.hears.l.message ours f.hears.turn
 no-collections r w v (Plainly e up) ours = tt
 no-collections r w v (IsCut g) ours = tt
@@ -154,9 +154,9 @@ outcomes-on r h later w grows k = record {
     born-back x (inr a) = inr (aborted-back x (grows.only_aborted x a))
 
 -- what lines tell, and what is told of ends
-record TellsOn (r : Rules) (later : History) (u : World) : Type 0 where
-  lines : Lines r u
-  outcomes : Outcomes r later u
+pub record TellsOn (r : Rules) (later : History) (u : World) : Type 0 where
+  pub lines : Lines r u
+  pub outcomes : Outcomes r later u
 
 module _ (r : Rules) (top : ℕ) (h later : History) (w u : World) (some : 0 < r.attempts) (U : Unsnapped r) (speak : ClientsSpeak r top h w) (attempts : Attempts r h w) (usual : IsUsual r h later w u) where
   by-client : GrowsBy h [] later → ClientsSpeak r top h u → TellsOn r later u
@@ -180,36 +180,36 @@ module _ (r : Rules) (top : ℕ) (h later : History) (w u : World) (some : 0 < r
 -- ---- one event
 
 module _ (r : Rules) (o : Opening) (held : ℕ → List Version) (h : History) (w v : World) (some : 0 < r.attempts) (before : AreBefore o held) (k : Standing r o held h w) (e : WorldEvent r w v) where
-  abbrev u : World
+  abbrev pub u : World
   u = e.u
 
-  ours : HappensWithoutSnapshots e.happens
+  pub ours : HappensWithoutSnapshots e.happens
   ours = nothing-heard r w e.u k.nothing e.happens
 
-  right : AskedRight r h w
+  pub right : AskedRight r h w
   right = asked-right r h w k.heard.talk k.heard.requests k.heard.stand k.outcomes (epochs-of_commits r (top o) w k.heard.talk k.heard.requests k.heard.stand (reads-none r k.heard.unsnapped) k.heard.epochs)
 
   at-event : Before r o held h w
   at-event = record { given = heard-right r o held h w before k.heard; right = right; senders = k.senders; attempts = k.heard.attempts; writes = k.writes; versions = k.versions; reads = k.reads }
 
-  go : GoesOn r o held h v (told_by e.happens) (AnswersAreServed e.happens)
+  pub go : GoesOn r o held h v (told_by e.happens) (AnswersAreServed e.happens)
   go = reading.events-keep r o held h w v at-event e ours
 
-  abbrev later : History
+  abbrev pub later : History
   later = go.later
 
   -- ---- once it happened
 
-  attempts-happened : Attempts r later u
+  pub attempts-happened : Attempts r later u
   attempts-happened = status.happens-keeps r h later w e.u right k.senders k.heard.attempts e.happens ours go.grows
 
-  requests-happened : RequestsAreOfClients u
+  pub requests-happened : RequestsAreOfClients u
   requests-happened = requests-happen r w e.u k.heard.requests e.happens
 
   leaders : LeadersKnow r w
   leaders = leaders-know r h w k.heard.attempts k.rows
 
-  talk-happened : Conversation r u
+  pub talk-happened : Conversation r u
   talk-happened = wait.happenings-keep r w e.u k.heard.requests leaders e.happens k.heard.talk
 
   epochs-happened : Epochs r (top o) u
@@ -235,7 +235,7 @@ module _ (r : Rules) (o : Opening) (held : ℕ → List Version) (h : History) (
     makers = makers-none r w k.nothing;
   }
 
-  told : TellsOn r later u
+  pub told : TellsOn r later u
   told = tells-on r (top o) h later w e.u some k.heard.unsnapped speak k.heard.attempts usual e.happens ours go.grows
 
   -- ---- once what goes to targets that are given up is lost
@@ -254,7 +254,7 @@ module _ (r : Rules) (o : Opening) (held : ℕ → List Version) (h : History) (
     questions = subst (Questions r later) (sym e.after) (question.sweeping-keeps r later e.u attempts-happened (stopping.sweeping-keeps e.u r later attempts-happened) questions-happened);
   }
 
-  standing-then : Standing r o held later v
+  pub standing-then : Standing r o held later v
   standing-then = record {
     heard = heard-then;
     nothing = subst NothingOfSnapshots (sym e.after) (sweeping-nothing e.u (happenings-nothing r w e.u k.heard.unsnapped k.endings talk-happened e.happens k.nothing));
@@ -272,10 +272,13 @@ module _ (r : Rules) (o : Opening) (held : ℕ → List Version) (h : History) (
     lives = life.event-keeps r w v e k.lives;
   }
 
+  pub grew : Grew h later
+  grew = record { decided = λ i j. go.grows.decided i.0 i.1 j; aborted = λ x j. go.grows.aborted x j; served = go.served }
+
   pub still : StandsStill r o held h v
   still = record {
     later = go.later;
-    grew = record { decided = λ i j. go.grows.decided i.0 i.1 j; aborted = λ x j. go.grows.aborted x j; served = go.served };
+    grew = grew;
     standing = standing-then;
   }
 

@@ -59,7 +59,7 @@ module _ (r : Rules) (o : Opening) (w : World) (A : IsSimple r) (B : IsBegun r o
   starts : (t : ℕ) (s : TargetState) → slice_get w.targets t ≡ Some s → StartsWith r.script.targets t o s
   starts = B.starts
 
-  none-yet : HasNoneYet no_history w
+  pub none-yet : HasNoneYet no_history w
   none-yet = record {
     none = record {
       decided = refl;

@@ -22,12 +22,13 @@ use Rattle.world_waits.specs.StopTurns.{OpenHasRow}
 
 -- ---- requests
 
--- how an attempt ended
+-- how an attempt ended, or what a read is answered
 abbrev pub is_end : Message → Bool
 is_end (message.Ended x own how) = true
+is_end (message.Fetched x op group own b) = true
 is_end m = false
 
--- a request comes from a client; the news that it got no answer, and how an attempt ended, go to one
+-- a request comes from a client; the news that it got no answer, its answer, and how an attempt ended, go to one
 pub record IsSentSo (l : Letter) : Type 0 where
   pub request : is_request l.message ≡ true → l.from.client ≡ true
   pub lost : is_lost_request l.message ≡ true → l.to.client ≡ true

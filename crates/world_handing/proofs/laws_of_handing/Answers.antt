@@ -7,7 +7,7 @@ use Rattle.world_handing.specs.Handing.{asked-right, asks-right, commits-of_clie
 use Rattle.world_handing.specs.Losing.{losses-stand, open-held}
 use Rattle.world_handing.specs.Places.{places-right, snapshots-read}
 use Rattle.world_handing.specs.Targets.{asks-its_targets}
-use Rattle.world_handing.specs.Tellers.{are-begun}
+use Rattle.world_handing.specs.Tellers.{are-begun, ends-told}
 
 pub returns : goal.returns
-returns c = record { over = hands-over; commits = commits-of_clients; asks = asks-right; right = asked-right; epochs = epochs-of_commits; fits = hears-fitly; groups = groups-stay; targets = asks-its_targets; lost = losses-asked; readers = readers-new; leaders = leaders-targets; begun = are-begun; versions = open-held; losses = losses-stand; places = places-right; snapshots = snapshots-read }
+returns c = record { over = hands-over; commits = commits-of_clients; asks = asks-right; right = asked-right; epochs = epochs-of_commits; fits = hears-fitly; groups = groups-stay; targets = asks-its_targets; lost = losses-asked; readers = readers-new; leaders = leaders-targets; begun = are-begun; told = ends-told; versions = open-held; losses = losses-stand; places = places-right; snapshots = snapshots-read }
