@@ -17,7 +17,7 @@ use Rattle.base_types.specs.Operations.{read_path, write_path}
 use Rattle.base_types.specs.Placement.{path_leader, path_members, writes_leader, writes_members}
 use Rattle.model_laws.specs.EntryLaws.{same-attempt}
 use Rattle.model_laws.specs.Lists.{any-of, has-at}
-use Rattle.model_laws.specs.Members.{Has, any-has, contains-from_has, has-cases, has-filter, has-from_contains, has-from_filter, has-map}
+use Rattle.model_laws.specs.Members.{Has, any-has, contains-from_has, has-cases, has-from_contains, has-from_filter, has-left, has-map}
 use Rattle.model_laws.specs.TargetLaws.{same_number}
 use Rattle.base_messages.specs.declared.message.Message.{Message}
 use Rattle.base_messages.specs.declared.message.Message.TheVariants as message
@@ -69,6 +69,7 @@ use Rattle.world_talks.specs.Carriers.{is_fetch_of}
 use Rattle.world_talks.specs.Conversation.{Conversation, is_request}
 use Rattle.world_talks.specs.InFlight.{HearsRequest, OpenIs, ParkedIs, hears-request, open-is, parked-is}
 use Rattle.world_talks.specs.TalkLaws.{taken-is-among}
+use Rattle.world_base.specs.Changes.{Kept}
 use Rattle.world_base.specs.Commits as commit
 use Rattle.world_base.specs.Reads.{fetch_at}
 use Rattle.world_base.specs.Roles.{other_leader, other_leader_of}
@@ -232,6 +233,10 @@ asked-by : (x : AttemptId) (t : ℕ) (l : Letter) → is_prepare_to x t l ≡ is
 unfolding is_prepare_to
 asked-by x t l = refl
 
+-- a Prepare to a target asks it for the attempt
+pub prepare-to : (l : Letter) (t : ℕ) (e : Entry) (first : Option Epoch) (ws : List MinorWrite) (inc : ℕ) → l.to ≡ target t → l.message ≡ message.Prepare e first ws inc → is_prepare_to e.attempt t l ≡ true
+prepare-to l t e first ws inc to is = asked-by e.attempt t l ∙ ap (is_asked_by e.attempt t l.to) is ∙ ap (λ b. b && is_target t l.to) (same_attempt-itself e.attempt) ∙ ap (is_target t) to ∙ eq-eqb t t refl
+
 -- a Commit brings some writes
 no-writes : (r : Rules) (w : World) {l : Letter} {rest : List Letter} (a : HearsRequest r w l rest) (q : CommitRequest) → l.message ≡ a.q.message → l.message ≡ commit_of q → q.writes ≡ [] → ⊥
 no-writes r w a q it is none = by a.asked
@@ -244,10 +249,6 @@ no-writes r w a q it is none = by a.asked
     by (ARead ops turns snapshot op z at here asked says) = cc (ap (λ x. x.message) says, it, is)
     by (ASnapshot name cont at says) = cc (ap (λ x. x.message) says, it, is)
     by (AnAggregation cont at says) = cc (ap (λ x. x.message) says, it, is)
-
-leader-first : (m : MinorWrite) (ms : List MinorWrite) (n : ℕ) → writes_leader (m ∷ ms) n ≡ path_leader (write_path m.write) n
-unfolding writes_leader
-leader-first m ms n = refl
 
 -- the writes that a member prepares are its own
 same-writes : (r : Rules) (t : ℕ) (ws : List MinorWrite) → commit.own_writes (target_plan r t) ws ≡ members.writes_at r.script.targets t ws
@@ -275,6 +276,70 @@ unfolding other_members is_other_member
 member-writes r x t other =
     let k = (has-from_filter (is_other_member (first_entry r x (record { 0 = 0 }))) all_targets t other).1 in
     writes-touch r t (writes_of r x) (bit-of (writes_members (writes_of r x) r.script.targets) t (and_left (has_target (members_of r x) t) (not (t == leader_of r x)) k))
+
+-- what a member is to prepare takes the blocks that the attempt needs there
+pub prepared-blocks : (r : Rules) (x : AttemptId) (t : ℕ) → IsOther r x t → blocks (members.writes_at r.script.targets t (writes_of r x)) ≡ blocks_at r.script t x
+prepared-blocks r x t other =
+    ap blocks (sym (same-writes r t (writes_of r x))) ∙ blocks-some (commit.own_writes (target_plan r t) (writes_of r x)) (member-writes r x t other) ∙ ap blocks_of_some (own-is r t (writes_of r x))
+
+-- the leader of writes holds some of them, where the leader of each write is one of its members
+pub leader-holds : (r : Rules) (ws : List MinorWrite) → ((m : MinorWrite) → Has m ws → Contains (path_members (write_path m.write) r.script.targets) (path_leader (write_path m.write) r.script.targets)) → ws ≢ []
+    → commit.own_writes (target_plan r (writes_leader ws r.script.targets)) ws ≢ []
+unfolding writes_leader writes_members
+leader-holds r [] led some = absurd (some refl)
+leader-holds r (m ∷ ms) led some =
+    let leader : ℕ = path_leader (write_path m.write) r.script.targets in
+    writes-touch r leader (m ∷ ms) (has-left (path_members (write_path m.write) r.script.targets) (writes_members ms r.script.targets) leader (has-from_contains (path_members (write_path m.write) r.script.targets) leader (led m (inl refl))))
+
+-- ---- what a client asks
+
+-- A client's request that is in flight is known, where epochs are right and within the limit, the first epoch that it bears is its
+-- command's, and the target is one of its attempt's.
+module _ (r : Rules) (o : Opening) (w : World) (t : ℕ) (few : t < 256) (E : PlainEpochs r (top o) w) (B : BoundedOver o w) (l : Letter) (rest : List Letter) (among : Contains w.messages l) (a : HearsRequest r w l rest) where
+  pub fetch-asked : ClientsStand r w → (q : FetchRequest) → l.message ≡ fetch_message q → q.snapshot ≡ false → IsFirstOf w.issued w.lines q.attempt q.first → HasTarget r w.lines q.attempt t
+      → IsFetch r o w.issued w.lines (target_plan r t) q × (l.from ≡ client q.attempt.client)
+  fetch-asked stand q is plain first has = (
+    record {
+      few = few;
+      epsilon = refl;
+      plain = plain;
+      request = request-is r o w l q.attempt q.ep q.first q.tracker E B among
+          (λ none. subst (λ m. AsksEpoch m q.attempt q.tracker) (sym (is ∙ ap (λ ep. message.Fetch q.attempt q.op q.group ep q.first q.tracker q.read q.snapshot) none)) (refl, refl))
+          (λ e some. subst (λ m. BearsEpoch m q.attempt e) (sym (is ∙ ap (λ ep. message.Fetch q.attempt q.op q.group ep q.first q.tracker q.read q.snapshot) some ∙ ap (λ b. message.Fetch q.attempt q.op q.group (Some e) q.first q.tracker q.read b) plain)) (refl, refl))
+          first
+          (tracker-within q.tracker.0 a.c.tracker.0 (limit_over o w.lines w.issued) (subst (λ e. e.0 ≤ a.c.tracker.0) (sym its.tracker) a.low) (B.trackers a.n a.c a.here));
+      access = read-access r q.attempt its.ops its.o a.a.op a.a.stage q.read (ap (attempt_ops r.script) its.attempt ∙ its-ops) its.here its.asked;
+      target = has;
+    },
+    ap (λ z. z.from) a.it ∙ ap (λ x. client x.client) (sym its.attempt),
+  )
+    where
+      its : AsksRead (client_plan r a.n) a.k a.c a.a q
+      its = asked-read (client_plan r a.n) a.k a.c a.a a.q q a.asked (sym (ap (λ z. z.message) a.it) ∙ is)
+
+      its-ops : attempt_ops r.script (attempt_id (client_plan r a.n) a.c a.a) ≡ its.ops
+      its-ops = let k = stand a.n a.c a.here in ops-at r a.n a.c a.a k.0 a.present k.1 ∙ ap ops_or_none its.at
+
+  pub commit-asked : (old : Kept) (q : CommitRequest) → l.message ≡ commit_of q → IsFirstOf w.issued w.lines q.attempt q.first → q.writes ≡ writes_of r q.attempt → commit.own_writes (target_plan r t) q.writes ≢ [] → entry_of old.durable q.attempt ≡ None
+      → HasTarget r w.lines q.attempt t → IsCommit r o w.issued w.lines t old q × (l.from ≡ client q.attempt.client)
+  commit-asked old q is first writes some unstored has = (
+    record {
+      few = few;
+      request = request-is r o w l q.attempt q.ep q.first q.tracker E B among
+          (λ none. subst (λ m. AsksEpoch m q.attempt q.tracker) (sym (is ∙ ap (λ ep. message.Commit q.attempt ep q.first q.tracker q.writes) none)) (refl, refl))
+          (λ e some. subst (λ m. BearsEpoch m q.attempt e) (sym (is ∙ ap (λ ep. message.Commit q.attempt ep q.first q.tracker q.writes) some)) (refl, refl))
+          first
+          (tracker-within q.tracker.0 a.c.tracker.0 (limit_over o w.lines w.issued) (subst (λ e. e.0 ≤ a.c.tracker.0) (sym its.tracker) a.low) (B.trackers a.n a.c a.here));
+      its = writes;
+      some = some;
+      unstored = unstored;
+      target = has;
+    },
+    ap (λ z. z.from) a.it ∙ ap (λ x. client x.client) (sym its.attempt),
+  )
+    where
+      its : AsksCommit (client_plan r a.n) a.k a.c a.a q
+      its = asked-commit (client_plan r a.n) a.k a.c a.a a.q q a.asked (sym (ap (λ z. z.message) a.it) ∙ is)
 
 module _ (r : Rules) (o : Opening) (h : History) (w : World) (G : Given r o h w) (stored : Stored) (C : Causes r o stored w) (tries : AreTries w.lines) (t : ℕ) (s : TargetState) (here : slice_get w.targets t ≡ Some s) where
   pub few : t < 256
@@ -381,21 +446,7 @@ module _ (r : Rules) (o : Opening) (h : History) (w : World) (G : Given r o h w)
 
     -- a Fetch
     pub hears-fetch : (q : FetchRequest) → l.message ≡ fetch_message q → IsFetch r o w.issued w.lines (target_plan r t) q × (l.from ≡ client q.attempt.client)
-    hears-fetch q is = (
-      record {
-        few = few;
-        epsilon = refl;
-        plain = plain;
-        request = request-is r o w l q.attempt q.ep q.first q.tracker G.epochs C.bounded among
-            (λ none. subst (λ m. AsksEpoch m q.attempt q.tracker) (sym (is ∙ ap (λ ep. message.Fetch q.attempt q.op q.group ep q.first q.tracker q.read q.snapshot) none)) (refl, refl))
-            (λ e some. subst (λ m. BearsEpoch m q.attempt e) (sym (is ∙ ap (λ ep. message.Fetch q.attempt q.op q.group ep q.first q.tracker q.read q.snapshot) some ∙ ap (λ b. message.Fetch q.attempt q.op q.group (Some e) q.first q.tracker q.read b) plain)) (refl, refl))
-            (first-of w.issued w.lines q.attempt q.first (subst (MessageKnows w.issued) is (G.firsts.flight l among)))
-            (tracker-within q.tracker.0 a.c.tracker.0 (limit_over o w.lines w.issued) (subst (λ e. e.0 ≤ a.c.tracker.0) (sym its.tracker) a.low) (C.bounded.trackers a.n a.c a.here));
-        access = read-access r q.attempt its.ops its.o a.a.op a.a.stage q.read (ap (attempt_ops r.script) its.attempt ∙ its-ops a.n a.c a.a its.ops its.turns its.name a.here a.present its.at) its.here its.asked;
-        target = no-floors q.attempt;
-      },
-      ap (λ z. z.from) a.it ∙ ap (λ x. client x.client) (sym its.attempt),
-    )
+    hears-fetch q is = fetch-asked r o w t few G.epochs C.bounded l rest among a G.stand q is plain (first-of w.issued w.lines q.attempt q.first (subst (MessageKnows w.issued) is (G.firsts.flight l among))) (no-floors q.attempt)
       where
         a : HearsRequest r w l rest
         a = hears-request r w l rest G.talk takes (ap is_request is)
@@ -408,27 +459,12 @@ module _ (r : Rules) (o : Opening) (h : History) (w : World) (G : Given r o h w)
 
     -- a Commit
     pub hears-commit : (q : CommitRequest) → l.to ≡ target t → l.message ≡ commit_of q → IsCommit r o w.issued w.lines t (record { durable = s.durable; free = s.free }) q × (l.from ≡ client q.attempt.client)
-    hears-commit q to is = (
-      record {
-        few = few;
-        request = request-is r o w l q.attempt q.ep q.first q.tracker G.epochs C.bounded among
-            (λ none. subst (λ m. AsksEpoch m q.attempt q.tracker) (sym (is ∙ ap (λ ep. message.Commit q.attempt ep q.first q.tracker q.writes) none)) (refl, refl))
-            (λ e some. subst (λ m. BearsEpoch m q.attempt e) (sym (is ∙ ap (λ ep. message.Commit q.attempt ep q.first q.tracker q.writes) some)) (refl, refl))
-            (first-of w.issued w.lines q.attempt q.first (subst (MessageKnows w.issued) is (G.firsts.flight l among)))
-            (tracker-within q.tracker.0 a.c.tracker.0 (limit_over o w.lines w.issued) (subst (λ e. e.0 ≤ a.c.tracker.0) (sym its.tracker) a.low) (C.bounded.trackers a.n a.c a.here));
-        its = new.writes;
-        some = holds;
-        unstored = sym (ap (λ z. entry_in z q.attempt) here) ∙ (ap (λ u. entry_at w u q.attempt) leads ∙ new.unstored);
-        target = no-floors q.attempt;
-      },
-      ap (λ z. z.from) a.it ∙ ap (λ x. client x.client) (sym its.attempt),
-    )
+    hears-commit q to is =
+        commit-asked r o w t few G.epochs C.bounded l rest among a (record { durable = s.durable; free = s.free }) q is (first-of w.issued w.lines q.attempt q.first (subst (MessageKnows w.issued) is (G.firsts.flight l among))) new.writes holds
+        (sym (ap (λ z. entry_in z q.attempt) here) ∙ (ap (λ u. entry_at w u q.attempt) leads ∙ new.unstored)) (no-floors q.attempt)
       where
         a : HearsRequest r w l rest
         a = hears-request r w l rest G.talk takes (ap is_request is)
-
-        its : AsksCommit (client_plan r a.n) a.k a.c a.a q
-        its = asked-commit (client_plan r a.n) a.k a.c a.a a.q q a.asked (sym (ap (λ z. z.message) a.it) ∙ is)
 
         new : IsCommitNew r h w l.to q.attempt q.ep q.writes
         new = G.asked.commits l q.attempt q.ep q.first q.tracker q.writes (has-from_contains w.messages l among) is
@@ -436,24 +472,10 @@ module _ (r : Rules) (o : Opening) (h : History) (w : World) (G : Given r o h w)
         leads : t ≡ leader_of r q.attempt
         leads = ap (λ z. z.number) (sym to ∙ new.receiver)
 
-        some : (ws : List MinorWrite) → q.writes ≡ ws → (m : MinorWrite) × (ms : List MinorWrite) × (ws ≡ m ∷ ms)
-        some [] none = absurd (no-writes r w a q (ap (λ z. z.message) a.it) is none)
-        some (m ∷ ms) e = (m, ms, refl)
-
-        first : (m : MinorWrite) × (ms : List MinorWrite) × (q.writes ≡ m ∷ ms)
-        first = some q.writes refl
-
-        leads-first : t ≡ path_leader (write_path first.0.write) r.script.targets
-        leads-first = leads ∙ ap (λ ws. writes_leader ws r.script.targets) (sym new.writes ∙ first.2) ∙ leader-first first.0 first.1 r.script.targets
-
-        member : Contains (path_members (write_path first.0.write) r.script.targets) t
-        member = subst (λ u. Contains (path_members (write_path first.0.write) r.script.targets) u) (sym leads-first)
-            (G.plain.led q.attempt first.0 (contains-from_has (minor_writes 0 (attempt_ops r.script q.attempt)) first.0 (subst (Has first.0) (sym first.2 ∙ new.writes) (inl refl))))
-
         holds : commit.own_writes (target_plan r t) q.writes ≢ []
-        holds none =
-            let own : commit.is_own (target_plan r t) first.0 ≡ true = any-has (commit.is_number t) (path_members (write_path first.0.write) r.script.targets) t (has-from_contains (path_members (write_path first.0.write) r.script.targets) t member) (eq-eqb t t refl) in
-            subst (λ ws. Has first.0 ws) none (has-filter (commit.is_own (target_plan r t)) q.writes first.0 (subst (Has first.0) (sym first.2) (inl refl)) own)
+        holds =
+            subst (λ u. commit.own_writes (target_plan r u) q.writes ≢ []) (sym (leads ∙ ap (λ ws. writes_leader ws r.script.targets) (sym new.writes)))
+            (leader-holds r q.writes (λ m i. G.plain.led q.attempt m (contains-from_has (minor_writes 0 (attempt_ops r.script q.attempt)) m (subst (Has m) new.writes i))) (λ none. no-writes r w a q (ap (λ z. z.message) a.it) is none))
 
     -- a Prepare
     pub hears-prepare : (q : PrepareRequest) → l.to ≡ target t → l.message ≡ message.Prepare q.entry q.first q.writes q.inc → IsPrepare r o w.issued w.lines t (record { durable = s.durable; free = s.free }) q
@@ -463,7 +485,7 @@ module _ (r : Rules) (o : Opening) (h : History) (w : World) (G : Given r o h w)
       first = first-of w.issued w.lines q.entry.attempt q.first (subst (MessageKnows w.issued) is (G.firsts.flight l among));
       its = λ m i. (has-from_filter (members.is_written_at r.script.targets k.way.member) (writes_of r q.entry.attempt) m (subst (Has m) k.writes i)).0;
       need = need;
-      unstored = sym (ap (λ z. entry_in z q.entry.attempt) here) ∙ (G.attempts.each q.entry.attempt).awaited.before t l (has-from_contains w.messages l among) to-it;
+      unstored = sym (ap (λ z. entry_in z q.entry.attempt) here) ∙ (G.attempts.each q.entry.attempt).awaited.before t l (has-from_contains w.messages l among) (prepare-to l t q.entry q.first q.writes q.inc to is);
       target = no-floors q.entry.attempt;
     }
       where
@@ -476,12 +498,8 @@ module _ (r : Rules) (o : Opening) (h : History) (w : World) (G : Given r o h w)
         member-is : k.way.member ≡ t
         member-is = ap (λ z. z.number) (sym k.way.receiver ∙ to)
 
-        to-it : is_prepare_to q.entry.attempt t l ≡ true
-        to-it = asked-by q.entry.attempt t l ∙ ap (is_asked_by q.entry.attempt t l.to) is ∙ ap (λ b. b && is_target t l.to) (same_attempt-itself q.entry.attempt) ∙ ap (is_target t) to ∙ eq-eqb t t refl
-
         written : q.writes ≡ members.writes_at r.script.targets t (writes_of r q.entry.attempt)
         written = k.writes ∙ ap (λ u. members.writes_at r.script.targets u (writes_of r q.entry.attempt)) member-is
 
         need : blocks q.writes ≡ blocks_at r.script t q.entry.attempt
-        need = ap blocks written ∙ ap blocks (sym (same-writes r t (writes_of r q.entry.attempt))) ∙ blocks-some (commit.own_writes (target_plan r t) (writes_of r q.entry.attempt)) (member-writes r q.entry.attempt t (subst (IsOther r q.entry.attempt) member-is k.way.other))
-            ∙ ap blocks_of_some (own-is r t (writes_of r q.entry.attempt))
+        need = ap blocks written ∙ prepared-blocks r q.entry.attempt t (subst (IsOther r q.entry.attempt) member-is k.way.other)

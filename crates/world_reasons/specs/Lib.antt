@@ -7,3 +7,4 @@ pub mod Runs
 pub mod Hearing
 pub mod Waiting
 pub mod Leaders
+pub mod Requests

@@ -6,6 +6,7 @@ ghost use Rattle.world_reasons.specs.Downs.{DownsBegin, EventsKeepDowns};
 ghost use Rattle.world_reasons.specs.Hearing.{ClientsHearOfStops, LossesTellOfGivenUp};
 ghost use Rattle.world_reasons.specs.Knowing.{EventsKeepKnownDowns, KnownDownsBegin};
 ghost use Rattle.world_reasons.specs.Leaders.{AcksAreKnown, AsksAreKnown, CommitsMeetGivenUp, LostQuestionsAreKnown, StatesAreKnown};
+ghost use Rattle.world_reasons.specs.Requests.{CommitsAreKnown, FetchesAreKnown, PreparesAreKnown};
 
 /// Says what goes on together in a run in which targets may stop and open again, of a script in form
 /// without snapshots and aggregation: all that stands, that clients ask within the groups of their paths,
@@ -46,4 +47,16 @@ pub fn laws_of_leaders()
     ensures states { StatesAreKnown }
     ensures lost { LostQuestionsAreKnown }
     ensures commits { CommitsMeetGivenUp }
+{}
+
+/// Says what is known of what a target hears of an attempt, where outcomes show their causes besides. A Fetch
+/// that is in flight to it reads what the attempt accesses; a Commit brings all writes of the attempt, some of
+/// which the target is to hold; and a Prepare brings writes of it, which take the blocks that it needs there.
+/// Each bears the attempt's epoch, where one was issued, and its command's first; Fetches and Commits come from
+/// the attempt's client. Where a Commit or a Prepare is in flight, its target has no entry of the attempt. And
+/// where a line tells of a floor of the target, that is one of the attempt's.
+pub fn laws_of_known_requests()
+    ensures fetches { FetchesAreKnown }
+    ensures handed { CommitsAreKnown }
+    ensures prepares { PreparesAreKnown }
 {}
