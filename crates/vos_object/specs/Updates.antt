@@ -1,23 +1,28 @@
 -- What is asked of a write and of a read, and what is said of them.
-use Rattle.std.specs.Prelude.{◌≡◌, ◌<◌, true, false, Bool}
+use Rattle.std.specs.Prelude.{◌≡◌, ◌<◌, ◌+◌, ℕ, true, false, Bool}
 use Rattle.base_types.specs.declared.epoch.Epoch.{Epoch}
 use Rattle.base_types.specs.declared.id.AttemptId.{AttemptId}
 use Rattle.base_types.specs.declared.operation.MinorWrite.{MinorWrite}
 use Rattle.base_types.specs.declared.operation.Read.{Read}
+use Rattle.base_types.specs.declared.operation.Write.{Write}
 use Rattle.base_types.specs.declared.operation.Read.TheVariants as read
 use Rattle.base_types.specs.Operations.{write_path}
 use Rattle.base_types.specs.Paths.{record_size}
 use Rattle.daos_model.specs.declared.durable.Version.{Version}
 use Rattle.daos_model.specs.Forms.{is_unit, is_write_in_form}
-use Rattle.vos_path.specs.Writes.{NamesAreKeys}
+use Rattle.vos_path.specs.Writes.{NamesAreKeys, data_blocks, object_pairs}
 
--- A write that objects can take: its number is below 64, its form is right, the record size of its object is one, and its
--- names are keys.
+-- A write that objects can take: its number is below 64, its form is right, the record size of its object is from 1 to 64, and
+-- its names are keys.
 pub record IsWritable (w : MinorWrite) : Type 0 where
   pub minor : w.minor < 64
   pub form : is_write_in_form w.write ≡ true
   pub size : is_unit (record_size (write_path w.write)) ≡ true
   pub names : NamesAreKeys (write_path w.write)
+
+-- The blocks that a write takes at most: one for each piece of its bytes, and one for each pair that comes into a tree.
+abbrev pub most_blocks : Write → ℕ
+most_blocks w = data_blocks w + object_pairs w 1
 
 -- a version that was just written: it isn't settled
 abbrev pub new_version : Epoch → AttemptId → MinorWrite → Version

@@ -17,7 +17,7 @@ ghost use Rattle.vos_path.specs.Calls.{LacksFor, SpendsAtMost, for_pair};
 ghost use Rattle.vos_path.specs.Objects.{objects_owner, objects_versions};
 ghost use Rattle.vos_path.specs.Writes.{IsNewIn, NamesAreKeys, ObjectsAreSmall, below_object_pairs, data_blocks, is_update, object_pairs};
 ghost use Rattle.vos_reads.specs.Ways.{IsSettled};
-ghost use Rattle.vos_object.specs.Updates.{IsWritable, is_value_read, new_version};
+ghost use Rattle.vos_object.specs.Updates.{IsWritable, is_value_read, most_blocks, new_version};
 
 use base_types::answer::Answer;
 use base_types::epoch::Epoch;
@@ -57,10 +57,11 @@ impl Objects {
         requires here { HasThing P.tells objects_owner hung_root (P.blocks pages.old) self.old.tree.root (IsNewIn (new_version epoch by write.now)) }
         ensures added { OnOk result (OfThing P.tells objects_owner hung_root (P.blocks pages.old) self.old.tree.root (λ g. IsNewIn (new_version epoch by write.now) g → Becomes objects_owner hung_root objects_versions (P.blocks pages.old) g (P.blocks pages.new) self.new.tree.root (HasMore (new_version epoch by write.now)))) }
         ensures kind { self.new.tree.kind ≡ 1 }
-        ensures no_block { IsErrOf result TreeNo.NoBlock → (P.budget pages.old).free < write_blocks write.now.write }
+        ensures no_block { IsErrOf result TreeNo.NoBlock → (P.budget pages.old).free < most_blocks write.now.write }
         ensures too_much { IsErrOf result TreeNo.TooMuch → OfThing P.tells objects_owner hung_root (P.blocks pages.old) self.old.tree.root (λ g. IsNewIn (new_version epoch by write.now) g → (d : ℕ) → ObjectsAreSmall d g → LacksFor (data_blocks write.now.write) (below_object_pairs write.now.write (for_pair d)) d (P.budget pages.old)) }
         ensures staged { OnOk result (OfThing P.tells objects_owner hung_root (P.blocks pages.old) self.old.tree.root (λ g. IsNewIn (new_version epoch by write.now) g → (d : ℕ) → ObjectsAreSmall d g → SpendsAtMost (data_blocks write.now.write) (object_pairs write.now.write (for_pair d)) (P.budget pages.old) (P.budget pages.new))) }
-        ensures free { OnOk result ((P.budget pages.old).free ≤ (P.budget pages.new).free + write_blocks write.now.write) }
+        ensures free { OnOk result ((P.budget pages.old).free ≤ (P.budget pages.new).free + most_blocks write.now.write) }
+        ensures counted { most_blocks write.now.write < write_blocks write.now.write }
         ensures goes { Goes P.stopped P.count P.burns pages.old pages.new }
         ensures stopped { IsErrOf result TreeNo.Stopped → P.stopped pages.new ≡ true }
         ensures went_on { OnOk result (P.stopped pages.new ≡ P.stopped pages.old) }
@@ -97,10 +98,11 @@ impl Objects {
         requires here { HasThing P.tells objects_owner hung_root (P.blocks pages.old) self.old.tree.root (IsNewIn (new_version epoch by write.now)) }
         ensures added { OnOk result (OfThing P.tells objects_owner hung_root (P.blocks pages.old) self.old.tree.root (λ g. IsNewIn (new_version epoch by write.now) g → Becomes objects_owner hung_root objects_versions (P.blocks pages.old) g (P.blocks pages.new) self.new.tree.root (HasMore (new_version epoch by write.now)))) }
         ensures kind { self.new.tree.kind ≡ 1 }
-        ensures no_block { IsErrOf result TreeNo.NoBlock → (P.budget pages.old).free < write_blocks write.now.write }
+        ensures no_block { IsErrOf result TreeNo.NoBlock → (P.budget pages.old).free < most_blocks write.now.write }
         ensures too_much { IsErrOf result TreeNo.TooMuch → OfThing P.tells objects_owner hung_root (P.blocks pages.old) self.old.tree.root (λ g. IsNewIn (new_version epoch by write.now) g → (d : ℕ) → ObjectsAreSmall d g → LacksFor (data_blocks write.now.write) (below_object_pairs write.now.write (for_pair d)) d (P.budget pages.old)) }
         ensures staged { OnOk result (OfThing P.tells objects_owner hung_root (P.blocks pages.old) self.old.tree.root (λ g. IsNewIn (new_version epoch by write.now) g → (d : ℕ) → ObjectsAreSmall d g → SpendsAtMost (data_blocks write.now.write) (object_pairs write.now.write (for_pair d)) (P.budget pages.old) (P.budget pages.new))) }
-        ensures free { OnOk result ((P.budget pages.old).free ≤ (P.budget pages.new).free + write_blocks write.now.write) }
+        ensures free { OnOk result ((P.budget pages.old).free ≤ (P.budget pages.new).free + most_blocks write.now.write) }
+        ensures counted { most_blocks write.now.write < write_blocks write.now.write }
         ensures goes { Goes P.stopped P.count P.burns pages.old pages.new }
         ensures stopped { IsErrOf result TreeNo.Stopped → P.stopped pages.new ≡ true }
         ensures went_on { OnOk result (P.stopped pages.new ≡ P.stopped pages.old) }
@@ -128,10 +130,11 @@ impl Objects {
         requires here { HasThing P.tells objects_owner hung_root (P.blocks pages.old) self.old.tree.root (IsNewIn (new_version epoch by write.now)) }
         ensures added { OnOk result (OfThing P.tells objects_owner hung_root (P.blocks pages.old) self.old.tree.root (λ g. IsNewIn (new_version epoch by write.now) g → Becomes objects_owner hung_root objects_versions (P.blocks pages.old) g (P.blocks pages.new) self.new.tree.root (HasMore (new_version epoch by write.now)))) }
         ensures kind { self.new.tree.kind ≡ 1 }
-        ensures no_block { IsErrOf result TreeNo.NoBlock → (P.budget pages.old).free < write_blocks write.now.write }
+        ensures no_block { IsErrOf result TreeNo.NoBlock → (P.budget pages.old).free < most_blocks write.now.write }
         ensures too_much { IsErrOf result TreeNo.TooMuch → OfThing P.tells objects_owner hung_root (P.blocks pages.old) self.old.tree.root (λ g. IsNewIn (new_version epoch by write.now) g → (d : ℕ) → ObjectsAreSmall d g → LacksFor (data_blocks write.now.write) (below_object_pairs write.now.write (for_pair d)) d (P.budget pages.old)) }
         ensures staged { OnOk result (OfThing P.tells objects_owner hung_root (P.blocks pages.old) self.old.tree.root (λ g. IsNewIn (new_version epoch by write.now) g → (d : ℕ) → ObjectsAreSmall d g → SpendsAtMost (data_blocks write.now.write) (object_pairs write.now.write (for_pair d)) (P.budget pages.old) (P.budget pages.new))) }
-        ensures free { OnOk result ((P.budget pages.old).free ≤ (P.budget pages.new).free + write_blocks write.now.write) }
+        ensures free { OnOk result ((P.budget pages.old).free ≤ (P.budget pages.new).free + most_blocks write.now.write) }
+        ensures counted { most_blocks write.now.write < write_blocks write.now.write }
         ensures goes { Goes P.stopped P.count P.burns pages.old pages.new }
         ensures stopped { IsErrOf result TreeNo.Stopped → P.stopped pages.new ≡ true }
         ensures went_on { OnOk result (P.stopped pages.new ≡ P.stopped pages.old) }
@@ -140,7 +143,8 @@ impl Objects {
     }
 
     /// What a read of a single value or of an array is answered below an epoch, where every version below it
-    /// that overlaps the path is settled: what the map of the versions below is answered.
+    /// that overlaps the path is settled: what the map of the versions below is answered. Listings, and
+    /// whether something is there, aren't read here yet.
     ///
     /// # Errors
     ///

@@ -25,9 +25,10 @@ pub fn laws_of_accounts()
 {}
 
 /// Says that who is told that a target is down, by which a question got no answer, is told so of one that a
-/// line tells was given up: where nothing is in flight, and after each event, where it was so before. So
-/// leaders know no others to be down: where they know of none, and after each event, where it was so before
-/// and Commits are new.
+/// line tells was given up: where nothing is in flight, and after each event, where it was so before. That
+/// asks for the endings before, and for the conversations and the lines of targets after it. So leaders know
+/// no others to be down: where they know of none, and after each event, where it was so before and Commits are
+/// new.
 pub fn laws_of_downs()
     ensures begin { DownsBegin }
     ensures events { EventsKeepDowns }
@@ -36,11 +37,11 @@ pub fn laws_of_downs()
 {}
 
 /// Says what is known when a leader hears of an attempt, where outcomes show their causes besides. Who asks
-/// what became of it is its client; there is a stop of one of its targets since it began, and what the leader
-/// knows of it to be down was given up. Who waits for its end there is its client. A member's refusal shows
-/// its cause, and so does the news that a member holds nothing, by a stop. Where a question about an attempt
-/// got no answer by a target that is down, that is a target of the attempt, and was given up; and so is a
-/// member that the leader knows to be down when it hears a Commit.
+/// what became of it is its client; where no entry of it is kept, one of its targets stopped since it began;
+/// and what the leader knows of it to be down was given up. Who waits for its end there is its client. A
+/// member's refusal shows its cause, and so does the news that a member holds nothing, by a stop. Where a
+/// question about an attempt got no answer by a target that is down, that is a target of the attempt, and was
+/// given up; and so is a member that the leader knows to be down when it hears a Commit.
 pub fn laws_of_leaders()
     ensures asks { AsksAreKnown }
     ensures acks { AcksAreKnown }
