@@ -43,7 +43,7 @@ fn add_to(case: &mut Case<'_>, part: Part, line: &[u8]) -> Result<(), AllocError
 }
 
 /// The cases of a file.
-pub fn cases_of(alloc: Global, text: &[u8]) -> Result<Vec<Case<'_>>, AllocError> {
+pub(crate) fn cases_of(alloc: Global, text: &[u8]) -> Result<Vec<Case<'_>>, AllocError> {
     let mut cases: Vec<Case<'_>> = Vec::new(alloc);
     let mut part = Part::Writes;
     let text = text.strip_suffix(b"\n").unwrap_or(text);

@@ -22,7 +22,7 @@ fn parts_of(given: &[u8]) -> Option<(&[u8], &[u8])> {
 
 /// Reads a script for so many targets and a report of it. Where the report is one of it, it ends with `read` and
 /// writes the report again, else with the first bad line.
-pub fn reported(alloc: Global, targets: &str, given: &[u8]) -> anyhow::Result<Outcome> {
+pub(crate) fn reported(alloc: Global, targets: &str, given: &[u8]) -> anyhow::Result<Outcome> {
     let targets: u8 = targets.parse()?;
     if targets < 1 || targets > 64 {
         return Err(anyhow!("no number of targets"));

@@ -27,7 +27,7 @@ fn words_of(alloc: Global, line: &str) -> anyhow::Result<Vec<String>> {
 
 /// Runs words over a source that gives these bytes: it ends with the number of the status and its text, and
 /// writes what the sink holds.
-pub fn ran<R: Threads + Wait + Sync>(
+pub(crate) fn ran<R: Threads + Wait + Sync>(
     rt: &R,
     alloc: Global,
     words: &str,

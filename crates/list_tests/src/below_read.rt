@@ -84,7 +84,7 @@ fn second_commands(alloc: Global) -> Result<Commands, RowNo> {
 }
 
 /// What the two clients do.
-pub fn row_script(alloc: Global) -> Result<Script, RowNo> {
+pub(crate) fn row_script(alloc: Global) -> Result<Script, RowNo> {
     let mut clients = Items::new(alloc);
     clients.push(first_commands(alloc)?)?;
     clients.push(second_commands(alloc)?)?;
@@ -447,7 +447,7 @@ fn lines(alloc: Global, turn: u8, told: Told) -> Result<Lines, RowNo> {
 }
 
 /// The world after so many turns.
-pub fn world(alloc: Global, turn: u8, told: Told) -> Result<World, RowNo> {
+pub(crate) fn world(alloc: Global, turn: u8, told: Told) -> Result<World, RowNo> {
     let mut targets = Items::new(alloc);
     targets.push(the_target(alloc, turn, told)?)?;
     let mut clients = Items::new(alloc);
@@ -483,7 +483,7 @@ fn event(alloc: Global, turn: u8, told: Told) -> Result<Event, RowNo> {
 }
 
 /// The run, as it is told, but for one turn that is left out; turn 0 is none.
-pub fn events_without(alloc: Global, told: Told, without: u8) -> Result<Events, RowNo> {
+pub(crate) fn events_without(alloc: Global, told: Told, without: u8) -> Result<Events, RowNo> {
     let mut list: EventList = Items::new(alloc);
     for turn in 1..=TURNS {
         if turn != without {

@@ -30,7 +30,7 @@ impl<T: Drop> From<AllocFailed<T>> for RowNo {
 }
 
 /// A client.
-pub fn client(number: u16) -> ActorId {
+pub(crate) fn client(number: u16) -> ActorId {
     ActorId {
         client: true,
         number,
@@ -38,7 +38,7 @@ pub fn client(number: u16) -> ActorId {
 }
 
 /// A target.
-pub fn target(number: u16) -> ActorId {
+pub(crate) fn target(number: u16) -> ActorId {
     ActorId {
         client: false,
         number,
@@ -46,7 +46,7 @@ pub fn target(number: u16) -> ActorId {
 }
 
 /// An attempt of a client's command.
-pub fn attempt(client: u16, command: u32, attempt: u8) -> AttemptId {
+pub(crate) fn attempt(client: u16, command: u32, attempt: u8) -> AttemptId {
     AttemptId {
         client,
         command,
@@ -55,7 +55,7 @@ pub fn attempt(client: u16, command: u32, attempt: u8) -> AttemptId {
 }
 
 /// An akey under the dkey d of the object of this class and number 0.
-pub fn akey(alloc: Global, class: Class, name: &[u8]) -> Result<Path, RowNo> {
+pub(crate) fn akey(alloc: Global, class: Class, name: &[u8]) -> Result<Path, RowNo> {
     let dkey = Key::new(alloc, b"d")?;
     let akey = Key::new(alloc, name)?;
     Ok(Path {
@@ -71,21 +71,21 @@ pub fn akey(alloc: Global, class: Class, name: &[u8]) -> Result<Path, RowNo> {
 }
 
 /// A write of a value at the akey a.
-pub fn put(alloc: Global, class: Class, value: &[u8]) -> Result<Write, RowNo> {
+pub(crate) fn put(alloc: Global, class: Class, value: &[u8]) -> Result<Write, RowNo> {
     let path = akey(alloc, class, b"a")?;
     let value = bytes_of(alloc, value)?;
     Ok(Write::Single(path, value))
 }
 
 /// That write alone, by the operation of this number.
-pub fn writes(alloc: Global, minor: u8, write: Write) -> Result<MinorWrites, RowNo> {
+pub(crate) fn writes(alloc: Global, minor: u8, write: Write) -> Result<MinorWrites, RowNo> {
     let mut writes = Items::new(alloc);
     writes.push(MinorWrite { minor, write })?;
     Ok(writes)
 }
 
 /// An operation without a condition that reads an akey.
-pub fn get_op(alloc: Global, class: Class, name: &[u8]) -> Result<Op, RowNo> {
+pub(crate) fn get_op(alloc: Global, class: Class, name: &[u8]) -> Result<Op, RowNo> {
     let path = akey(alloc, class, name)?;
     Ok(Op {
         act: Act::Fetch(Read::Single(path)),
@@ -94,7 +94,7 @@ pub fn get_op(alloc: Global, class: Class, name: &[u8]) -> Result<Op, RowNo> {
 }
 
 /// One that writes.
-pub fn put_op(write: Write) -> Op {
+pub(crate) fn put_op(write: Write) -> Op {
     Op {
         act: Act::Change(write),
         cond: Cond::Free,

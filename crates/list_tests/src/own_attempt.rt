@@ -154,7 +154,7 @@ fn world(alloc: Global, over: bool, told: Told) -> Result<World, RowNo> {
 }
 
 /// The turn, as it is told.
-pub fn events(alloc: Global, told: Told) -> Result<Events, RowNo> {
+pub(crate) fn events(alloc: Global, told: Told) -> Result<Events, RowNo> {
     let mut list: EventList = Items::new(alloc);
     list.push(Event {
         kind: EventKind::Hear,

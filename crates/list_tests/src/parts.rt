@@ -29,7 +29,7 @@ pub struct Turn {
 }
 
 /// A turn that hears the letter of this number.
-pub fn hears(actor: ActorId, letter: u8) -> Turn {
+pub(crate) fn hears(actor: ActorId, letter: u8) -> Turn {
     Turn {
         kind: EventKind::Hear,
         actor,
@@ -38,7 +38,7 @@ pub fn hears(actor: ActorId, letter: u8) -> Turn {
 }
 
 /// A turn that hears none.
-pub fn hears_none(kind: EventKind, actor: ActorId) -> Turn {
+pub(crate) fn hears_none(kind: EventKind, actor: ActorId) -> Turn {
     Turn {
         kind,
         actor,
@@ -47,7 +47,7 @@ pub fn hears_none(kind: EventKind, actor: ActorId) -> Turn {
 }
 
 /// The numbers of the letters that a table has after so many turns.
-pub fn after(table: &[&'static [u8]], turn: u8) -> &'static [u8] {
+pub(crate) fn after(table: &[&'static [u8]], turn: u8) -> &'static [u8] {
     match table.get(usize::from(turn)) {
         Some(letters) => *letters,
         None => &[],
@@ -76,7 +76,7 @@ pub struct ClientAt {
 }
 
 /// A client before its first turn, or whose commands are over.
-pub fn rests(over: u8, tracker: u64) -> ClientAt {
+pub(crate) fn rests(over: u8, tracker: u64) -> ClientAt {
     ClientAt {
         over,
         tracker: Epoch(tracker),
@@ -104,7 +104,7 @@ fn present(alloc: Global, at: PresentAt) -> Result<Present, RowNo> {
 }
 
 /// A client.
-pub fn client_state(alloc: Global, at: ClientAt) -> Result<ClientState, RowNo> {
+pub(crate) fn client_state(alloc: Global, at: ClientAt) -> Result<ClientState, RowNo> {
     let present = match at.present {
         Some(at) => Some(present(alloc, at)?),
         None => None,
@@ -132,7 +132,7 @@ fn conts(alloc: Global) -> Result<ContRows, RowNo> {
 }
 
 /// What a target keeps: these versions, at most this entry, and a lease once its ticks aren't 0.
-pub fn durable(
+pub(crate) fn durable(
     alloc: Global,
     versions: Versions,
     entry: Option<Entry>,
@@ -153,7 +153,7 @@ pub fn durable(
 }
 
 /// A leader that decided these attempts, and remembers nothing else.
-pub fn decided(alloc: Global, decided: AttemptIds) -> LeaderMemory {
+pub(crate) fn decided(alloc: Global, decided: AttemptIds) -> LeaderMemory {
     LeaderMemory {
         undecided: Items::new(alloc),
         decided,
@@ -163,7 +163,7 @@ pub fn decided(alloc: Global, decided: AttemptIds) -> LeaderMemory {
 }
 
 /// A member that remembers nothing.
-pub fn no_member(alloc: Global) -> MemberMemory {
+pub(crate) fn no_member(alloc: Global) -> MemberMemory {
     MemberMemory {
         parked: Items::new(alloc),
         inquiries: Items::new(alloc),
@@ -171,7 +171,7 @@ pub fn no_member(alloc: Global) -> MemberMemory {
 }
 
 /// What a target remembers that collects nothing.
-pub fn memory(
+pub(crate) fn memory(
     alloc: Global,
     ticks: u64,
     stamps: Reads,
@@ -188,7 +188,7 @@ pub fn memory(
 }
 
 /// A target that runs.
-pub fn target_state(durable: Durable, free: u32, memory: TargetMemory) -> TargetState {
+pub(crate) fn target_state(durable: Durable, free: u32, memory: TargetMemory) -> TargetState {
     TargetState {
         durable,
         free,
@@ -199,12 +199,12 @@ pub fn target_state(durable: Durable, free: u32, memory: TargetMemory) -> Target
 }
 
 /// A letter.
-pub fn letter(from: ActorId, to: ActorId, message: Message) -> Letter {
+pub(crate) fn letter(from: ActorId, to: ActorId, message: Message) -> Letter {
     Letter { from, to, message }
 }
 
 /// How an attempt ended.
-pub fn ended(attempt: AttemptId, epoch: Epoch, outcome: Outcome) -> Message {
+pub(crate) fn ended(attempt: AttemptId, epoch: Epoch, outcome: Outcome) -> Message {
     Message::Ended {
         attempt,
         ep: Some(epoch),
@@ -222,7 +222,7 @@ fn gots(alloc: Global, got: Option<Answer>) -> Result<Gots, RowNo> {
 }
 
 /// The line of an attempt whose operation 0 was answered so, if it was a read.
-pub fn line(
+pub(crate) fn line(
     alloc: Global,
     id: AttemptId,
     epoch: Epoch,
@@ -240,7 +240,7 @@ pub fn line(
 }
 
 /// A command of these operations.
-pub fn run(alloc: Global, ops: Ops) -> Command {
+pub(crate) fn run(alloc: Global, ops: Ops) -> Command {
     Command::Run {
         ops,
         skips: Items::new(alloc),
@@ -249,21 +249,21 @@ pub fn run(alloc: Global, ops: Ops) -> Command {
 }
 
 /// Operations that are one.
-pub fn only_op(alloc: Global, op: Op) -> Result<Ops, RowNo> {
+pub(crate) fn only_op(alloc: Global, op: Op) -> Result<Ops, RowNo> {
     let mut ops = Items::new(alloc);
     ops.push(op)?;
     Ok(ops)
 }
 
 /// A client's commands that are one.
-pub fn only(alloc: Global, command: Command) -> Result<Commands, RowNo> {
+pub(crate) fn only(alloc: Global, command: Command) -> Result<Commands, RowNo> {
     let mut commands = Items::new(alloc);
     commands.push(command)?;
     Ok(commands)
 }
 
 /// A script of these clients for so many targets.
-pub fn script(alloc: Global, targets: u8, clients: ClientLists) -> Script {
+pub(crate) fn script(alloc: Global, targets: u8, clients: ClientLists) -> Script {
     Script {
         targets,
         conts: Items::new(alloc),

@@ -71,7 +71,7 @@ fn get_command(alloc: Global) -> Result<Command, RowNo> {
 }
 
 /// Client 0 writes a and then reads it.
-pub fn row_script(alloc: Global) -> Result<Script, RowNo> {
+pub(crate) fn row_script(alloc: Global) -> Result<Script, RowNo> {
     let mut commands = Items::new(alloc);
     commands.push(put_command(alloc)?)?;
     commands.push(get_command(alloc)?)?;
@@ -81,7 +81,7 @@ pub fn row_script(alloc: Global) -> Result<Script, RowNo> {
 }
 
 /// A client that waits in its command of this number, for the end of an attempt or else a read.
-pub fn waits(over: u8, tracker: u64, asks: bool) -> ClientAt {
+pub(crate) fn waits(over: u8, tracker: u64, asks: bool) -> ClientAt {
     ClientAt {
         over,
         tracker: Epoch(tracker),
@@ -107,7 +107,7 @@ fn the_client(turn: u8, told: Told) -> ClientAt {
 }
 
 /// What a target keeps of the write, once it is there, and whether it is done.
-pub fn versions(alloc: Global, there: bool, done: bool) -> Result<Versions, RowNo> {
+pub(crate) fn versions(alloc: Global, there: bool, done: bool) -> Result<Versions, RowNo> {
     let mut versions = Items::new(alloc);
     if there {
         let write = put(alloc, Class::RP2G1, b"hello")?;
@@ -123,7 +123,7 @@ pub fn versions(alloc: Global, there: bool, done: bool) -> Result<Versions, RowN
 }
 
 /// The write's entry, committed or not, with those who confirmed it.
-pub fn entry(committed: bool, confirmed: u64) -> Entry {
+pub(crate) fn entry(committed: bool, confirmed: u64) -> Entry {
     Entry {
         attempt: WRITER,
         epoch: Epoch(256),
@@ -135,14 +135,14 @@ pub fn entry(committed: bool, confirmed: u64) -> Entry {
 }
 
 /// The write alone.
-pub fn the_write(alloc: Global) -> Result<AttemptIds, RowNo> {
+pub(crate) fn the_write(alloc: Global) -> Result<AttemptIds, RowNo> {
     let mut ids = Items::new(alloc);
     ids.push(WRITER)?;
     Ok(ids)
 }
 
 /// The leader while it waits for the Ack.
-pub fn undecided(alloc: Global) -> Result<LeaderMemory, RowNo> {
+pub(crate) fn undecided(alloc: Global) -> Result<LeaderMemory, RowNo> {
     let mut memory = decided(alloc, Items::new(alloc));
     memory.undecided.push(Undecided {
         attempt: WRITER,
@@ -531,7 +531,7 @@ fn lines(alloc: Global, turn: u8, told: Told) -> Result<Lines, RowNo> {
 }
 
 /// The world after so many turns.
-pub fn world(alloc: Global, turn: u8, told: Told) -> Result<World, RowNo> {
+pub(crate) fn world(alloc: Global, turn: u8, told: Told) -> Result<World, RowNo> {
     let mut targets = Items::new(alloc);
     targets.push(leader_state(alloc, turn, told)?)?;
     targets.push(member_state(alloc, turn, told)?)?;
@@ -567,7 +567,7 @@ fn event(alloc: Global, turn: u8, told: Told) -> Result<Event, RowNo> {
 }
 
 /// The run, as it is told, but for one turn that is left out; turn 0 is none.
-pub fn events_without(alloc: Global, told: Told, without: u8) -> Result<Events, RowNo> {
+pub(crate) fn events_without(alloc: Global, told: Told, without: u8) -> Result<Events, RowNo> {
     let mut list: EventList = Items::new(alloc);
     for turn in 1..=TURNS {
         if turn != without {

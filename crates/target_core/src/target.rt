@@ -34,8 +34,7 @@ use world_base::target::TargetPlan;
 
 /// A target: its store, its clock, and what it knows until it stops. Unless its store is stopped, the
 /// attempts that it has to decide or to settle are prepared there, no version there is later than its
-/// ticks, and the lease covers them. Where memory was wanting when it opened again, it may only be taken
-/// apart.
+/// ticks, and the lease covers them. Where its last opening failed, it hears nothing until it has opened.
 #[derive(Drop)]
 pub struct Target<S: Store, C: Clock> {
     alloc: Global,
@@ -206,7 +205,7 @@ impl<S: Store, C: Clock> Target<S, C> {
     /// `Store` where a count of the store rose, which is then stopped; `Foreign` where the store met a
     /// foreign byte, which never comes from one that tells what it keeps; else for want of memory. No line
     /// is added then, and the next opening finds what this one may have found, with the incarnation raised
-    /// or not. After want of memory the target may only be taken apart.
+    /// or not. After each of these the target neither hears nor does idle work until it has opened.
     pub fn restart(&mut self, number: u32) -> Result<Did, TargetStop>
         requires counted { ForSome (S.durable self.old.store) (λ _. (x : Durable) → S.may self.old.store x → x.incarnation + 1 < 2 ^ 64) }
         requires covered { ForSome (S.durable self.old.store) (λ _. (x : Durable) → S.may self.old.store x → IsHeard x.lease x) }

@@ -131,7 +131,7 @@ impl Said {
 
 impl Follows {
     /// What follows.
-    pub fn of(did: &Did) -> Follows {
+    pub(crate) fn of(did: &Did) -> Follows {
         match did.posts.as_slice() {
             [] => Follows::Nothing,
             [post] => Follows::One(post.to, Said::of(&post.message)),

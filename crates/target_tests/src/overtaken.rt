@@ -33,7 +33,7 @@ pub struct Overtaken {
 }
 
 /// The attempt that writes, which the first target leads.
-pub fn writer() -> AttemptId
+pub(crate) fn writer() -> AttemptId
     ensures { result ≡ writer }
 {
     AttemptId {
@@ -44,7 +44,7 @@ pub fn writer() -> AttemptId
 }
 
 /// The attempt that reads.
-pub fn reader() -> AttemptId
+pub(crate) fn reader() -> AttemptId
     ensures { result ≡ reader }
 {
     AttemptId {
@@ -240,7 +240,7 @@ fn turns<S: Store, C: Clock>(alloc: Global, target: &mut Target<S, C>) -> Result
 
 /// The first target marks an attempt as aborted, and its Prepare comes after that; client 1 reads where
 /// it writes, and the first target answers that it is aborted.
-pub fn mark_before_prepare<S: Store + Drop, C: Clock + Drop>(
+pub(crate) fn mark_before_prepare<S: Store + Drop, C: Clock + Drop>(
     alloc: Global,
     store: S,
     clock: C,

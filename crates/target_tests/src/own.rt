@@ -35,7 +35,7 @@ pub struct Told {
 }
 
 /// The attempt that it leads.
-pub fn led() -> AttemptId
+pub(crate) fn led() -> AttemptId
     ensures { result ≡ led }
 {
     AttemptId {
@@ -255,7 +255,7 @@ fn turns<S: Store, C: Clock>(
 /// The first target begins an attempt, and is answered Ok by an actor that is no target. Then the other
 /// member tells by a Mark that the attempt is committed, or by a Verdict that it is aborted; it answers
 /// Ok itself, asks what became of it, and idle work follows.
-pub fn told_of_own<S: Store + Drop, C: Clock + Drop>(
+pub(crate) fn told_of_own<S: Store + Drop, C: Clock + Drop>(
     alloc: Global,
     store: S,
     clock: C,

@@ -40,7 +40,7 @@ impl<T: Drop> From<AllocFailed<T>> for StepNo {
 }
 
 /// A target of this number among so many, over a store that was never used, which enlists the container.
-pub fn start_at<S: Store + Drop, C: Clock + Drop>(
+pub(crate) fn start_at<S: Store + Drop, C: Clock + Drop>(
     alloc: Global,
     me: TargetId,
     targets: u8,

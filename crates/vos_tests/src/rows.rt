@@ -21,7 +21,7 @@ pub struct Seen {
 }
 
 /// Two records in an array, and what is seen of them.
-pub fn read_around<S: Store>(alloc: Global, store: &mut S) -> Result<Seen, StepNo>
+pub(crate) fn read_around<S: Store>(alloc: Global, store: &mut S) -> Result<Seen, StepNo>
     requires { IsUnused (S.state store.old) (S.durable store.old) }
 {
     let write = two_records(alloc)?;
@@ -39,7 +39,10 @@ pub fn read_around<S: Store>(alloc: Global, store: &mut S) -> Result<Seen, StepN
 }
 
 /// A discard over a version that isn't settled.
-pub fn discard_over<S: Store>(alloc: Global, store: &mut S) -> Result<Result<(), DiscardNo>, StepNo>
+pub(crate) fn discard_over<S: Store>(
+    alloc: Global,
+    store: &mut S,
+) -> Result<Result<(), DiscardNo>, StepNo>
     requires { IsUnused (S.state store.old) (S.durable store.old) }
 {
     let write = two_records(alloc)?;

@@ -36,7 +36,7 @@ pub enum StepNo {
 }
 
 /// The akey a under the dkey d of the object of class S1 and number 0 with records of four bytes.
-pub fn akey(alloc: Global) -> Result<Path, KeyNo>
+pub(crate) fn akey(alloc: Global) -> Result<Path, KeyNo>
     ensures { IfOk result (λ path. path ≡ akey) }
 {
     Ok(Path {
@@ -52,14 +52,14 @@ pub fn akey(alloc: Global) -> Result<Path, KeyNo>
 }
 
 /// Two records at the indexes 1 and 2 of the akey.
-pub fn two_records(alloc: Global) -> Result<Write, KeyNo>
+pub(crate) fn two_records(alloc: Global) -> Result<Write, KeyNo>
     ensures { IfOk result IsHere }
 {
     Ok(Write::Extent(akey(alloc)?, 1, bytes_of(alloc, b"abcdwxyz")?))
 }
 
 /// The first attempt of a command of the first client.
-pub fn attempt(number: u32) -> AttemptId
+pub(crate) fn attempt(number: u32) -> AttemptId
     ensures { result ≡ attempt number }
 {
     AttemptId {
@@ -70,7 +70,7 @@ pub fn attempt(number: u32) -> AttemptId
 }
 
 /// Enlists the container, and extends the lease to 65,536.
-pub fn start<S: Store>(store: &mut S) -> Result<(), StepNo>
+pub(crate) fn start<S: Store>(store: &mut S) -> Result<(), StepNo>
     requires runs { (S.state store.old).stopped ≡ false }
     requires empty { S.durable store.old ≡ Some (empty_durable 1) }
     ensures kept { OnOk result (S.durable store.new ≡ Some started) }
@@ -82,7 +82,7 @@ pub fn start<S: Store>(store: &mut S) -> Result<(), StepNo>
 }
 
 /// Prepares the first transaction, of one write, at 256.
-pub fn stage<S: Store>(store: &mut S, number: u32, write: Write) -> Result<(), StepNo>
+pub(crate) fn stage<S: Store>(store: &mut S, number: u32, write: Write) -> Result<(), StepNo>
     requires runs { (S.state store.old).stopped ≡ false }
     requires targets { 1 ≤ (S.state store.old).targets }
     requires opening { (S.state store.old).opening ≡ unopened }
