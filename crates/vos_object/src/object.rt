@@ -43,39 +43,6 @@ pub struct Objects {
 }
 
 impl Objects {
-    // A write comes to the versions.
-    fn write<P: Pages, L: Ledger>(
-        &mut self,
-        pages: &mut P,
-        epoch: Epoch,
-        by: AttemptId,
-        write: &MinorWrite,
-        steps: &mut Steps<L>,
-    ) -> Result<(), TreeNo>
-        requires kind { self.old.tree.kind ≡ 1 }
-        requires write { IsWritable write.now }
-        requires here { HasThing P.tells objects_owner hung_root (P.blocks pages.old) self.old.tree.root (IsNewIn (new_version epoch by write.now)) }
-        ensures added { OnOk result (OfThing P.tells objects_owner hung_root (P.blocks pages.old) self.old.tree.root (λ g. IsNewIn (new_version epoch by write.now) g → Becomes objects_owner hung_root objects_versions (P.blocks pages.old) g (P.blocks pages.new) self.new.tree.root (HasMore (new_version epoch by write.now)))) }
-        ensures kind { self.new.tree.kind ≡ 1 }
-        ensures no_block { IsErrOf result TreeNo.NoBlock → (P.budget pages.old).free < most_blocks write.now.write }
-        ensures too_much { IsErrOf result TreeNo.TooMuch → OfThing P.tells objects_owner hung_root (P.blocks pages.old) self.old.tree.root (λ g. IsNewIn (new_version epoch by write.now) g → (d : ℕ) → ObjectsAreSmall d g → LacksFor (data_blocks write.now.write) (below_object_pairs write.now.write (for_pair d)) d (P.budget pages.old)) }
-        ensures staged { OnOk result (OfThing P.tells objects_owner hung_root (P.blocks pages.old) self.old.tree.root (λ g. IsNewIn (new_version epoch by write.now) g → (d : ℕ) → ObjectsAreSmall d g → SpendsAtMost (data_blocks write.now.write) (object_pairs write.now.write (for_pair d)) (P.budget pages.old) (P.budget pages.new))) }
-        ensures free { OnOk result ((P.budget pages.old).free ≤ (P.budget pages.new).free + most_blocks write.now.write) }
-        ensures counted { most_blocks write.now.write < write_blocks write.now.write }
-        ensures goes { Goes P.stopped P.count P.burns pages.old pages.new }
-        ensures stopped { IsErrOf result TreeNo.Stopped → P.stopped pages.new ≡ true }
-        ensures went_on { OnOk result (P.stopped pages.new ≡ P.stopped pages.old) }
-    {
-        let stamp = Stamp {
-            at: Moment {
-                epoch,
-                minor: write.minor,
-            },
-            by,
-        };
-        write_objects(&mut self.tree, pages, stamp, &write.write, steps)
-    }
-
     /// Adds the version of an update, which isn't settled yet. Nothing of its epoch and number stands in its
     /// object but creations, which give way.
     ///
@@ -107,7 +74,11 @@ impl Objects {
         ensures stopped { IsErrOf result TreeNo.Stopped → P.stopped pages.new ≡ true }
         ensures went_on { OnOk result (P.stopped pages.new ≡ P.stopped pages.old) }
     {
-        self.write(pages, epoch, by, write, steps)
+        let at = Moment {
+            epoch,
+            minor: write.minor,
+        };
+        write_objects(&mut self.tree, pages, Stamp { at, by }, &write.write, steps)
     }
 
     /// Adds the version of a punch, which isn't settled yet. Nothing of its epoch and number stands in its
@@ -139,7 +110,11 @@ impl Objects {
         ensures stopped { IsErrOf result TreeNo.Stopped → P.stopped pages.new ≡ true }
         ensures went_on { OnOk result (P.stopped pages.new ≡ P.stopped pages.old) }
     {
-        self.write(pages, epoch, by, write, steps)
+        let at = Moment {
+            epoch,
+            minor: write.minor,
+        };
+        write_objects(&mut self.tree, pages, Stamp { at, by }, &write.write, steps)
     }
 
     /// What a read of a single value or of an array is answered below an epoch, where every version below it
