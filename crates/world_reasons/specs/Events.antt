@@ -1,6 +1,6 @@
 -- Each event of a run keeps what tells of a stop, and what was stored once, beside all that stands.
 use Rattle.std.specs.Prelude.{ℕ, ◌++◌, List}
-use Rattle.std.proofs.Common.{sym, ◌∙◌, subst}
+use Rattle.std.proofs.Common.{sym, subst}
 use Rattle.daos_model.specs.declared.durable.Version.{Version}
 use Rattle.daos_model.specs.Opening.{Opening}
 use Rattle.model_laws.specs.Members.{has-from_contains}
