@@ -1,4 +1,5 @@
 -- The actors of a run in which targets may stop: what they show of a world, whether they can have their turns, and what turns leave.
+pub mod ListLaws
 pub mod Stages
 pub mod Shows
 pub mod CanGo

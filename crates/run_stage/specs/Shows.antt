@@ -6,6 +6,7 @@ use Rattle.std.specs.Prelude.{ℕ, ◌≡◌, ◌≤◌, ◌<◌, ◌+◌, ◌^�
 use Rattle.client_core.specs.Clients.{ClientNow}
 use Rattle.daos_model.specs.declared.durable.Durable.{Durable}
 use Rattle.daos_model.specs.Opening.{Opening}
+use Rattle.run_base.specs.Sweeps.{lives_of}
 use Rattle.run_stage.specs.Stages.{AreFound, IsPlace, StageNow}
 use Rattle.target_core.specs.Targets.{TargetOf}
 use Rattle.vos_store.specs.Calls.{State}
@@ -21,9 +22,6 @@ use Rattle.world_whole.specs.Begins.{IsBegun, IsSimple}
 
 abbrev pub state_of : ClientNow → ClientState
 state_of c = c.state
-
-abbrev pub life_of : TargetState → Life
-life_of s = s.life
 
 module _ {S C : Type 0} (durable : S → Option Durable) (state : S → State) where
   -- A target that runs is so in the world: it has opened, its store runs and tells what it keeps.
@@ -57,7 +55,7 @@ module _ {S C : Type 0} (durable : S → Option Durable) (state : S → State) w
     pub clients : w.clients ≡ map state_of a.clients
     pub plans : (n : ℕ) (c : ClientNow) → slice_get a.clients n ≡ Some c → c.plan ≡ client_plan r n
     pub many : length w.targets ≡ length a.targets
-    pub lives : map life_of w.targets ≡ a.watch.lives
+    pub lives : lives_of w ≡ a.watch.lives
     pub targets : (t : ℕ) (x : TargetOf S C) (life : Life) (s : TargetState) → IsPlace a t x life → slice_get w.targets t ≡ Some s → IsTargetOf (target_plan r t) life (found t) x s
     pub messages : a.between.messages ≡ w.messages
     pub asked : a.between.asked ≡ w.asked
