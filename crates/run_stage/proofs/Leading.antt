@@ -152,7 +152,7 @@ module _ {S C : Type 0} (durable : S → Option Durable) (state : S → State) (
   turn-leads may settling number left no_prunes turned found are = record {
     before = found;
     were = λ u z life p rests. old u z life p rests;
-    led = λ w k. led w k (target-there durable state r found a w t x Running k place) turned;
+    led = λ w reached k. led w k (target-there durable state r found a w t x Running k place) turned;
   }
     where
       old : (u : ℕ) (z : TargetOf S C) (life : _) → IsPlace a u z life → (life ≡ Running → ⊥) → may z.store (found u)

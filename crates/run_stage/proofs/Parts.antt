@@ -154,3 +154,9 @@ pub set-same : {A : Type 0} (xs : List A) (n : ℕ) (x : A) → slice_get xs n �
 set-same [] n x at = refl
 set-same (y ∷ ys) zero x at = let same : y ≡ x = cc in ap (λ z. z ∷ ys) same
 set-same (y ∷ ys) (suc n) x at = ap (λ zs. y ∷ zs) (set-same ys n x at)
+
+-- what was set stands there
+pub is-set : {A : Type 0} (xs : List A) (n : ℕ) (x y : A) → slice_get xs n ≡ Some x → slice_get (slice_set xs n y) n ≡ Some y
+is-set [] n x y at = let no : ⊥ = cc in absurd no
+is-set (z ∷ xs) zero x y at = refl
+is-set (z ∷ xs) (suc n) x y at = is-set xs n x y at

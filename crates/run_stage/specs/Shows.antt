@@ -63,6 +63,14 @@ module _ {S C : Type 0} (durable : S → Option Durable) (state : S → State) w
     pub lines : a.between.lines ≡ w.lines
     pub restarts : w.numbers.restarts ≡ a.watch.restarts
 
+  -- a run from its beginning has reached this world: of a script in form, for some targets, without snapshots and aggregation
+  pub record WasReached (r : Rules) (w : World) : Type 0 where
+    pub opening : Opening
+    pub first : World
+    pub simple : IsSimple r
+    pub begun : IsBegun r opening first
+    pub run : WorldRun r first w
+
   -- a world was led to this one, which the actors show
   pub record IsLed (T : World → World → Type 0) (r : Rules) (found : ℕ → Durable) (w : World) (b : StageNow S C) : Type 0 where
     pub next : World
@@ -74,9 +82,9 @@ module _ {S C : Type 0} (durable : S → Option Durable) (state : S → State) w
     pub record IsFoundFrom (T : World → World → Type 0) (r : Rules) (a b : StageNow S C) (found : ℕ → Durable) : Type 0 where
       pub before : ℕ → Durable
       pub were : AreFound may a before
-      pub led : (w : World) → Shows r before a w → IsLed T r found w b
+      pub led : (w : World) → WasReached r w → Shows r before a w → IsLed T r found w b
 
-    -- From each world that the actors showed, something of this kind has led to one that they show now: whatever stores would be found with
+    -- From each world that a run had reached and the actors showed, something of this kind has led to one that they show now: whatever stores would be found with
     -- now, for one of the choices before it.
     abbrev pub Leads : (World → World → Type 0) → Rules → StageNow S C → StageNow S C → Type 0
     Leads T r a b = (found : ℕ → Durable) → AreFound may b found → IsFoundFrom T r a b found
