@@ -1,18 +1,14 @@
 -- What is lost, and who is told of it, one letter after another.
-use Rattle.std.specs.Prelude.{ℕ, ◌≡◌, ◌≤◌, ◌<◌, ◌++◌, ◌==◌, ◌&&◌, not, Bool, true, false, List, [], ◌∷◌, filter, length, map, slice_get, Option, Some, None, refl, if◌then◌else◌}
+use Rattle.std.specs.Prelude.{ℕ, ◌≡◌, ◌++◌, ◌==◌, ◌&&◌, not, Bool, true, false, List, [], ◌∷◌, filter, map, refl, if◌then◌else◌}
 use Rattle.std.proofs.Common.{◌∙◌, ap, sym, arith}
-use Rattle.std.proofs.lemmas.Bool.{and_parts}
 use Rattle.std.proofs.lemmas.Bool.Decides.{nat_tests}
 use Rattle.std.proofs.lemmas.List.{append-nil, append_assoc, map_push}
 use Rattle.std.proofs.lemmas.List.Elements.{filter-append}
-use Rattle.std.proofs.lemmas.Option.{slice_get_within}
 use Rattle.base_messages.specs.declared.message.Message.{Message, Reset, end_of-Message, more_of-Message}
 use Rattle.base_messages.specs.declared.message.Message as own
 use Rattle.base_messages.specs.declared.message.Message.TheBlock as block
 use Rattle.base_messages.specs.declared.message.Message.TheVariants as message
-use Rattle.run_base.specs.Sweeps.{is_down_in, is_given_up_there, is_left_by, is_lost_by}
 use Rattle.world_base.specs.declared.letter.Letter.{Letter}
-use Rattle.world_base.specs.declared.target.Life.{Life}
 use Rattle.world_base.specs.Letters.{reset_message}
 use Rattle.world_base.specs.Stops.{is_not_to, is_to, reset_letter, resets}
 
@@ -60,40 +56,3 @@ told-more t down xs old new new' x y is same k e =
 
 pub told-same : (t : ℕ) (down : Bool) (xs old new : List Letter) (x : Letter) → is_to t x ≡ false → new ≡ old ++ resets t down xs → new ≡ old ++ resets t down (xs ++ x ∷ [])
 told-same t down xs old new x off k = k ∙ ap (λ ls. old ++ map (reset_letter down) ls) (sym (one-no (is_to t) xs x off))
-
--- ---- targets that are given up
-
--- a letter that goes to one goes to a target that is there
-lost-within : (lives : List Life) (l : Letter) → is_lost_by lives l ≡ true → l.to.number < length lives
-lost-within lives l is = by (slice_get lives l.to.number) refl (and_parts (not l.to.client) (is_down_in lives l.to.number) is).1
-  where
-    by : (o : Option Life) → slice_get lives l.to.number ≡ o → is_given_up_there o ≡ true → l.to.number < length lives
-    by None here h = let no : ⊥ = cc in absurd no
-    by (Some z) here h = slice_get_within lives l.to.number z here
-
--- so its number is one of a target
-pub lost-number : (lives : List Life) (l : Letter) → length lives ≤ 256 → is_lost_by lives l ≡ true → l.to.number < 256
-lost-number lives l few is = let k = lost-within lives l is in omega (arith, few, k)
-
-pub lost-goes : (lives : List Life) (l : Letter) → is_lost_by lives l ≡ true → is_to l.to.number l ≡ true
-lost-goes lives l is = by (not l.to.client) (and_parts (not l.to.client) (is_down_in lives l.to.number) is).0
-  where
-    by : (b : Bool) → b ≡ true → b && (l.to.number == l.to.number) ≡ true
-    by true e = grind (arith, nat_tests)
-    by false e = let no : ⊥ = cc in absurd no
-
--- one letter more, of those that are left and of who is told
-pub left_by-more : (lives : List Life) (xs left left' : List Letter) (x : Letter) → is_lost_by lives x ≡ false → left ≡ filter (is_left_by lives) xs → left' ≡ left ++ x ∷ [] → left' ≡ filter (is_left_by lives) (xs ++ x ∷ [])
-left_by-more lives xs left left' x off k e = e ∙ ap (λ ls. ls ++ x ∷ []) k ∙ sym (one-yes (is_left_by lives) xs x (ap not off))
-
-pub left_by-same : (lives : List Life) (xs left : List Letter) (x : Letter) → is_lost_by lives x ≡ true → left ≡ filter (is_left_by lives) xs → left ≡ filter (is_left_by lives) (xs ++ x ∷ [])
-left_by-same lives xs left x is k = k ∙ sym (one-no (is_left_by lives) xs x (ap not is))
-
-pub reset-more : (lives : List Life) (xs old new new' : List Letter) (x y : Letter) → is_lost_by lives x ≡ true → y ≡ reset_letter true x → new ≡ old ++ map (reset_letter true) (filter (is_lost_by lives) xs) → new' ≡ new ++ y ∷ []
-    → new' ≡ old ++ map (reset_letter true) (filter (is_lost_by lives) (xs ++ x ∷ []))
-reset-more lives xs old new new' x y is same k e =
-    e ∙ ap (λ z. new ++ z ∷ []) same ∙ ap (λ ls. ls ++ reset_letter true x ∷ []) k ∙ append_assoc old (map (reset_letter true) (filter (is_lost_by lives) xs)) (reset_letter true x ∷ [])
-    ∙ ap (λ ls. old ++ ls) (sym (ap (map (reset_letter true)) (one-yes (is_lost_by lives) xs x is) ∙ map_push (reset_letter true) (filter (is_lost_by lives) xs) x))
-
-pub reset-same : (lives : List Life) (xs old new : List Letter) (x : Letter) → is_lost_by lives x ≡ false → new ≡ old ++ map (reset_letter true) (filter (is_lost_by lives) xs) → new ≡ old ++ map (reset_letter true) (filter (is_lost_by lives) (xs ++ x ∷ []))
-reset-same lives xs old new x off k = k ∙ ap (λ ls. old ++ map (reset_letter true) ls) (sym (one-no (is_lost_by lives) xs x off))

@@ -30,6 +30,10 @@ lives_of w = map (λ s. s.life) w.targets
 
 -- ---- the statements
 
+-- Where the targets of a world stand so, this is which of them are given up in it.
+abbrev pub LivesTellDowns : Type 0
+LivesTellDowns = (w : World) (t : ℕ) → is_down_in (lives_of w) t ≡ is_down_at w.targets t
+
 -- What is left of messages, and of what is without an answer, is what an event of a run leaves.
 abbrev pub SweepsAreOfLives : Type 0
 SweepsAreOfLives =
@@ -50,6 +54,9 @@ pub down-in : (ss : List TargetState) (t : ℕ) → is_down_in (map (λ s. s.lif
 down-in [] t = refl
 down-in (s ∷ ss) zero = refl
 down-in (s ∷ ss) (suc t) = down-in ss t
+
+pub lives-tell_downs : LivesTellDowns
+lives-tell_downs w t = down-in w.targets t
 
 pub lost-is : (w : World) (l : Letter) → is_lost_by (lives_of w) l ≡ is_to_down w.targets l
 lost-is w l = ap (λ b. not l.to.client && b) (down-in w.targets l.to.number)
@@ -76,10 +83,11 @@ module _ {T : Type 0} where
 -- ---- the laws
 
 pub sweeps-are_of_lives : SweepsAreOfLives
-sweeps-are_of_lives w =
-    (sym (filter-same (is_left_by (lives_of w)) (is_not_to_down w.targets) (w.messages ++ map (reset_letter true) (filter (is_lost_by (lives_of w)) w.asked)) (left-is w)
+sweeps-are_of_lives w = (
+  sym (filter-same (is_left_by (lives_of w)) (is_not_to_down w.targets) (w.messages ++ map (reset_letter true) (filter (is_lost_by (lives_of w)) w.asked)) (left-is w)
       ∙ ap (λ ls. filter (is_not_to_down w.targets) (w.messages ++ map (reset_letter true) ls)) (filter-same (is_lost_by (lives_of w)) (is_to_down w.targets) w.asked (lost-is w))),
-    sym (filter-same (is_left_by (lives_of w)) (is_not_to_down w.targets) w.asked (left-is w)))
+  sym (filter-same (is_left_by (lives_of w)) (is_not_to_down w.targets) w.asked (left-is w)),
+)
 
 -- a world with these messages, and these without an answer
 with_both : World → List Letter → List Letter → World

@@ -1,6 +1,6 @@
 // What goes to targets that are given up. A run in which targets stop calls it.
 ghost use Rattle.std.specs.Prelude.{◌≡◌, ◌≤◌, ◌++◌, IfOk, OnOk, filter, length, map, true};
-ghost use Rattle.run_base.specs.Sweeps.{NoneIsSwept, SweepingIsDone, SweepsAreOfLives, is_down_in, is_left_by, is_lost_by};
+ghost use Rattle.run_base.specs.Sweeps.{LivesTellDowns, NoneIsSwept, SweepingIsDone, SweepsAreOfLives, is_down_in, is_left_by, is_lost_by};
 ghost use Rattle.world_base.specs.Stops.{reset_letter};
 
 use crate::between::Between;
@@ -99,6 +99,7 @@ impl Between {
 /// the targets of a world that stand so. Where none is given up, nothing is lost, and what was lost once
 /// isn't lost again.
 pub fn laws_of_sweeps()
+    ensures downs { LivesTellDowns }
     ensures lives { SweepsAreOfLives }
     ensures none { NoneIsSwept }
     ensures done { SweepingIsDone }

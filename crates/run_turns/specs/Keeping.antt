@@ -1,5 +1,5 @@
 -- What every turn keeps, a run in an order keeps.
-use Rattle.std.specs.Prelude.{ℕ, ◌≡◌, Bool, true, false, List}
+use Rattle.std.specs.Prelude.{ℕ, Bool, true, false, List}
 use Rattle.std.proofs.Common.{sym, subst}
 use Rattle.base_messages.specs.declared.actor.ActorId.{ActorId}
 use Rattle.run_base.specs.Picks.{actors}

@@ -5,7 +5,6 @@ use Rattle.std.proofs.lemmas.List.{length-set}
 use Rattle.std.proofs.lemmas.Option.{slice_get_within}
 use Rattle.base_messages.specs.declared.actor.ActorId.{ActorId}
 use Rattle.base_types.specs.declared.report.Line.{Line}
-use Rattle.daos_model.specs.Stops as told
 use Rattle.daos_model.specs.Stops.{after_all, lines_at}
 use Rattle.model_laws.specs.Lists.{at-within}
 use Rattle.run_turns.specs.Keeping.{order-keeps}
@@ -17,7 +16,7 @@ use Rattle.world_base.specs.declared.target.TargetState.{TargetState}
 use Rattle.world_base.specs.declared.world.World.{World}
 use Rattle.world_base.specs.Events.{ByClient, ByTarget, Event, Rules, ToClient, ToTarget}
 use Rattle.world_base.specs.Stops.{Draws, Fails, Further, GivenUp, Happening, IsCut, Opens, Plainly, WorldEvent, is_down_at, is_given_up}
-use Rattle.world_lives.specs.Adding.{Adds, GoesBy}
+use Rattle.world_lives.specs.Adding.{Adds}
 use Rattle.world_lives.specs.Events.{happening-adds}
 use Rattle.world_lives.specs.Lives.{standing_of}
 

@@ -20,7 +20,7 @@ use Rattle.world_lives.specs.Adding.{stops_of}
 use Rattle.world_lives.specs.ClientLines.{AreTries, hears-own, next-own}
 use Rattle.world_lives.specs.Counting.{run-counts, stops_told}
 use Rattle.world_lives.specs.CutLines.{hearing-cut, idle-cut}
-use Rattle.world_lives.specs.Events.{as-added, stops_in}
+use Rattle.world_lives.specs.Events.{stops_in}
 use Rattle.world_lives.specs.Numbers.{gather-append, gather-none}
 use Rattle.world_lives.specs.TurnLines.{IsTurnLine, further-lines, idle-lines, plain-lines}
 
@@ -158,7 +158,7 @@ world-downs r w v e = ap (λ x. down_targets x.lines) e.after ∙ happening-down
 
 -- a world's event stops as many as it tells
 world-stops : (r : Rules) (w v : World) (e : WorldEvent r w v) (t : ℕ) → stops_told v t ≡ stops_told w t + stops_of (stops_in e.happens) t
-world-stops r w v e t = run-counts r w v (Goes w v Begins e) t
+world-stops r w v e t = let k = run-counts r w v (Goes w v Begins e) t in omega (arith, k)
 
 -- ---- of whom it is told
 
