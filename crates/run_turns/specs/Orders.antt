@@ -3,8 +3,8 @@ use Rattle.std.specs.Prelude.{ℕ, ◌≡◌, ◌++◌, ◌%◌, Bool, true, fal
 use Rattle.base_random.specs.Draws.{drawn}
 use Rattle.base_messages.specs.declared.actor.ActorId.{ActorId}
 use Rattle.run_base.specs.Orders.{after_pick, pick}
-use Rattle.run_base.specs.Picks.{actors, due, heard, is_due}
-use Rattle.run_turns.specs.Turns.{TurnOf}
+use Rattle.run_base.specs.Picks.{actors, due, is_due}
+use Rattle.run_turns.specs.Turns.{TurnOf, heard_in}
 use Rattle.world_base.specs.declared.world.World.{World}
 use Rattle.world_base.specs.Events.{Rules}
 
@@ -36,13 +36,13 @@ pub record InRounds (settling : Bool) (r : Rules) (w v : World) : Type 0 where
 
 -- ---- draws
 
--- The turn of the actor that is drawn after x, among those that have something to do; where letters are in flight to it, and it doesn't
--- skip, a second draw says which of them it hears, if it hears one. The last number drawn is y then.
+-- The turn of the actor that is drawn after x, among those that have something to do; where it hears a letter, a second draw says which
+-- of those in flight to it. A client that skips and a target that is stopped hear none. The last number drawn is y then.
 pub record DrawnTurn (settling : Bool) (r : Rules) (x : ℕ) (w : World) (y : ℕ) (v : World) : Type 0 where
   pub actor : ActorId
   pub its : slice_get (due settling r w) (drawn x % length (due settling r w)) ≡ Some actor
-  pub turn : TurnOf settling r actor (pick (drawn x) (heard w actor)) w v
-  pub last : y ≡ after_pick (drawn x) (heard w actor)
+  pub turn : TurnOf settling r actor (pick (drawn x) (heard_in w actor)) w v
+  pub last : y ≡ after_pick (drawn x) (heard_in w actor)
 
 -- some such turns, one after another
 pub data Draws (settling : Bool) (r : Rules) (x : ℕ) (w : World) : ℕ → World → Type 0 where

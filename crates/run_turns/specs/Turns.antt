@@ -1,13 +1,32 @@
 -- What a turn of an actor is, where targets may stop and open again.
-use Rattle.std.specs.Prelude.{ℕ, ◌≡◌, ◌+◌, Bool, List}
+use Rattle.std.specs.Prelude.{ℕ, ◌≡◌, ◌+◌, Bool, List, slice_get, Option, Some, None, if◌then◌else◌}
 use Rattle.base_messages.specs.declared.actor.ActorId.{ActorId}
 use Rattle.run_base.specs.Letters.{IsPicked}
-use Rattle.run_base.specs.Picks.{heard}
+use Rattle.run_base.specs.Picks.{count_to, heard, heard_by_client}
 use Rattle.world_base.specs.declared.letter.Letter.{Letter}
+use Rattle.world_base.specs.declared.target.Life.{Life}
+use Rattle.world_base.specs.declared.target.Life.TheVariants.{Down, Running, Stopped}
+use Rattle.world_base.specs.declared.target.TargetState.{TargetState}
 use Rattle.world_base.specs.declared.world.World.{World}
 use Rattle.world_base.specs.Events.{ByClient, ByTarget, Rules, ToClient, ToTarget}
 use Rattle.world_base.specs.Letters.{client, target}
 use Rattle.world_base.specs.Stops.{AtWork, Draws, Fails, Further, GivenUp, Happening, Hearing, IdleWork, IsCut, Opens, Plainly, WorldEvent}
+
+-- ---- what an actor hears
+
+-- of how many letters in flight to it a target hears one in its next turn: of none where it doesn't run
+abbrev pub heard_where : Life → ℕ → ℕ
+heard_where Running count = count
+heard_where Stopped count = 0
+heard_where Down count = 0
+
+abbrev pub heard_by_target : ℕ → Option TargetState → ℕ
+heard_by_target count None = 0
+heard_by_target count (Some s) = heard_where s.life count
+
+-- of how many letters in flight to it an actor hears one in its next turn
+abbrev pub heard_in : World → ActorId → ℕ
+heard_in w a = if a.client then heard_by_client (count_to a w.messages) (slice_get w.clients a.number) else heard_by_target (count_to a w.messages) (slice_get w.targets a.number)
 
 -- ---- what an actor does
 
