@@ -1,14 +1,16 @@
 -- A stopped target is given up, or the outside's failure is counted.
-use Rattle.std.specs.Prelude.{ℕ, ◌≡◌, ◌+◌, ◌==◌, ◌++◌, ◌∷◌, List, [], filter, slice_get, slice_set, Bool, true, false, Option, Some, refl, if◌then◌else◌}
+use Rattle.std.specs.Prelude.{ℕ, ◌≡◌, ◌+◌, ◌==◌, ◌++◌, ◌∷◌, List, [], filter, slice_get, slice_set, Bool, true, false, Option, Some, None, refl, if◌then◌else◌}
 use Rattle.std.proofs.Common.{inl, inr, sym, ◌∙◌, ap, subst}
 use Rattle.std.proofs.lemmas.Bool.{cases_eq}
 use Rattle.base_types.specs.declared.report.Line.TheVariants as line
 use Rattle.daos_model.specs.declared.durable.Durable.{Durable}
-use Rattle.run_stage.proofs.Parts.{IsThere, is-set, set-same, swept-shown, target-shown, target-there}
+use Rattle.run_stage.proofs.Parts.{IsThere, IsTurnSo, is-set, set-same, swept-shown, target-shown, target-there}
 use Rattle.run_stage.specs.Shows.{IsLed, IsTargetOf, Leads, Shows, WasReached}
 use Rattle.run_stage.specs.Stages.{AreFound, IsPlace, StageNow}
 use Rattle.run_stage.specs.Turned.{AfterStop, Failed, LastTime, NotFailed, failed_stage, given_up_between, given_up_stage, swept_stage}
-use Rattle.run_turns.specs.Turns.{Acts, Doing, GivesUp, GivingUp, IsFault, IsNoOpening, TurnOf}
+use Rattle.run_turns.specs.Raising.{raised_by}
+use Rattle.run_turns.specs.Turns.{Acts, Doing, GivesUp, GivingUp, IsFault, IsNoOpening}
+use Rattle.world_lives.specs.Events.{stops_in}
 use Rattle.run_watch.specs.Watches.{WatchNow, after_fault, with_life}
 use Rattle.target_core.specs.Targets.{TargetOf}
 use Rattle.vos_store.specs.Calls.{State}
@@ -22,6 +24,16 @@ use Rattle.world_base.specs.Events.{Rules, target_plan, with_target}
 use Rattle.world_base.specs.Letters.{target}
 use Rattle.world_base.specs.StepLaws.{set-there}
 use Rattle.world_base.specs.Stops.{Draws, Fails, Further, GivenUp, Happening, IsCut, Opens, Plainly, WorldEvent, is_not_to, resets, swept, with_lost}
+
+-- One event of a target, in which its store failed it; it raised incarnations so often, and this target stopped in it, if one did.
+abbrev pub FaultBy : (r : Rules) → ℕ → Bool → ℕ → ℕ → Option ℕ → World → World → Type 0
+FaultBy r t settling number raised stops w v = (d : Acts settling r (target t) number w v) × IsFault r d.event.happens × (raised_by r d.event.happens ≡ raised) × (stops_in d.event.happens ≡ stops)
+
+-- the target that is given up then, if it is
+abbrev pub downs_after : {S C : Type 0} (t before now : ℕ) (a b : StageNow S C) → AfterStop t before now a b → Option ℕ
+downs_after t before now a b (NotFailed less same) = None
+downs_after t before now a b (Failed more n at few same) = None
+downs_after t before now a b (LastTime more at same) = Some t
 
 -- that a fault is counted changes nothing else
 lives-same : (t n : ℕ) (w : WatchNow) → w.lives ≡ (after_fault t n w).lives
@@ -39,10 +51,6 @@ restarts-same t n w = by (n == 8)
     by false = refl
 
 module _ {S C : Type 0} (durable : S → Option Durable) (state : S → State) (r : Rules) (t : ℕ) where
-  -- one event of a target, in which its store failed it
-  abbrev pub FaultBy : Bool → ℕ → World → World → Type 0
-  FaultBy settling number w v = (d : Acts settling r (target t) number w v) × IsFault r d.event.happens
-
   -- a fault is no opening
   fault-opens-none : {w u : World} (e : Happening r w u) → IsFault r e → IsNoOpening r e
   fault-opens-none (Plainly e up) f = absurd f
@@ -120,24 +128,24 @@ module _ {S C : Type 0} (durable : S → Option Durable) (state : S → State) (
   -- ---- what a fault comes to
 
   -- A target's store failed it, and then this came of it: a turn of the target.
-  pub fault-leads : (may : S → Durable → Type 0) (settling : Bool) (number before now : ℕ) (a b c : StageNow S C) (y : TargetOf S C) → IsPlace b t y Stopped → Leads durable state may (FaultBy settling number) r a b → AfterStop t before now b c
-      → Leads durable state may (TurnOf settling r (target t) number) r a c
-  fault-leads may settling number before now a b c y place leads (NotFailed less same) found are =
+  pub fault-leads : (may : S → Durable → Type 0) (settling : Bool) (number raised before now : ℕ) (stops : Option ℕ) (a b c : StageNow S C) (y : TargetOf S C) → IsPlace b t y Stopped → Leads durable state may (FaultBy r t settling number raised stops) r a b → (after : AfterStop t before now b c)
+      → Leads durable state may (IsTurnSo settling r (target t) number raised stops (downs_after t before now b c after)) r a c
+  fault-leads may settling number raised before now stops a b c y place leads (NotFailed less same) found are =
       let z = leads found (subst (λ q. AreFound may q found) same are) in
       record {
         before = z.before;
         were = z.were;
-        led = λ w reached k. let l = z.led w reached k in record { next = l.next; turn = Doing l.turn.0 (fault-opens-none l.turn.0.event.happens l.turn.1); shows = subst (λ q. Shows durable state r found q l.next) (sym same) l.shows };
+        led = λ w reached k. let l = z.led w reached k in record { next = l.next; turn = record { turn = Doing l.turn.0 (fault-opens-none l.turn.0.event.happens l.turn.1); raised_is = l.turn.2; stops_is = l.turn.3; downs_is = refl }; shows = subst (λ q. Shows durable state r found q l.next) (sym same) l.shows };
       }
-  fault-leads may settling number before now a b c y place leads (Failed more n at few same) found are =
+  fault-leads may settling number raised before now stops a b c y place leads (Failed more n at few same) found are =
       let z = leads found (found-counted may n found b (subst (λ q. AreFound may q found) same are)) in
       record {
         before = z.before;
         were = z.were;
         led = λ w reached k. let l = z.led w reached k in
-            record { next = l.next; turn = Doing l.turn.0 (fault-opens-none l.turn.0.event.happens l.turn.1); shows = subst (λ q. Shows durable state r found q l.next) (sym same) (faults-shown n found b l.next l.shows) };
+            record { next = l.next; turn = record { turn = Doing l.turn.0 (fault-opens-none l.turn.0.event.happens l.turn.1); raised_is = l.turn.2; stops_is = l.turn.3; downs_is = refl }; shows = subst (λ q. Shows durable state r found q l.next) (sym same) (faults-shown n found b l.next l.shows) };
       }
-  fault-leads may settling number before now a b c y place leads (LastTime more at same) found are =
+  fault-leads may settling number raised before now stops a b c y place leads (LastTime more at same) found are =
       let z = leads found (found-before may found b y place (subst (λ q. AreFound may q found) same are)) in
       record {
         before = z.before;
@@ -146,7 +154,7 @@ module _ {S C : Type 0} (durable : S → Option Durable) (state : S → State) (
             let s = target-there durable state r found b l.next t y Stopped l.shows place in
             record {
               next = swept (world-after l.next s.s);
-              turn = GivingUp l.next l.turn.0 l.turn.1 (gives-up b y place found l.next l.shows s) refl;
+              turn = record { turn = GivingUp l.next l.turn.0 l.turn.1 (gives-up b y place found l.next l.shows s) refl; raised_is = l.turn.2; stops_is = l.turn.3; downs_is = refl };
               shows = subst (λ q. Shows durable state r found q (swept (world-after l.next s.s))) (sym same) (given_up-shown b y place found l.next l.shows s);
             };
       }

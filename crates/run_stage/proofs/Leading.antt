@@ -1,16 +1,16 @@
 -- A whole turn of a target leads from a world that the actors show to one that they show then.
-use Rattle.std.specs.Prelude.{ℕ, ◌≡◌, List, slice_get, slice_set, Bool, true, false, Option, Some, Ok, refl}
+use Rattle.std.specs.Prelude.{ℕ, ◌≡◌, List, slice_get, slice_set, Bool, true, false, Option, Some, None, Ok, refl}
 use Rattle.std.proofs.Common.{inl, inr, sym, ◌∙◌, ap, subst}
 use Rattle.std.proofs.lemmas.Bool.{cases_eq}
 use Rattle.base_messages.specs.declared.message.Message.{Message}
 use Rattle.daos_model.specs.declared.durable.Durable.{Durable}
 use Rattle.run_base.specs.Letters.{BetweenNow, IsPicked}
 use Rattle.run_base.specs.Picks.{count_to}
-use Rattle.run_stage.proofs.Parts.{follow-shown, picked-takes, set-same, swept-shown, target-shown, target-there, IsThere}
+use Rattle.run_stage.proofs.Parts.{IsTurnSo, follow-shown, picked-takes, set-same, swept-shown, target-shown, target-there, IsThere}
 use Rattle.run_stage.specs.Shows.{IsLed, IsTargetOf, Leads, Shows}
 use Rattle.run_stage.specs.Stages.{AreFound, IsPlace, StageNow}
 use Rattle.run_stage.specs.Turned.{ByHearing, ByIdling, IsTurned, followed, swept_stage, with_between, with_target_at}
-use Rattle.run_turns.specs.Turns.{Doing, TurnOf}
+use Rattle.run_turns.specs.Turns.{Doing}
 use Rattle.target_core.specs.Targets as heard
 use Rattle.target_core.specs.Targets.{Heard, TargetOf}
 use Rattle.vos_store.specs.Calls.{State}
@@ -71,8 +71,8 @@ module _ {S C : Type 0} (durable : S → Option Durable) (state : S → State) (
     -- it heard a letter
     hearing : (settling : Bool) (number reading : ℕ) (l : Letter) (rest : List Letter) (d : Durable) → durable x.store ≡ Some d → IsPicked a.between.messages (target t) number l rest → is_prune_message l.message ≡ false
         → Heard 0 x.plan (state x.store).opening x.memory reading l.from l.message (record { durable = d; free = (state x.store).free }) kept' (y.memory, did)
-        → TurnOf settling r (target t) number w (swept (with_target t s' (after_turn w (target t) did rest)))
-    hearing settling number reading l rest d is' picked no_prune (heard.Plainly none turn) = Doing (record {
+        → IsTurnSo settling r (target t) number 0 None None w (swept (with_target t s' (after_turn w (target t) did rest)))
+    hearing settling number reading l rest d is' picked no_prune (heard.Plainly none turn) = record { turn = Doing (record {
       event = record {
         u = with_target t s' (after_turn w (target t) did rest);
         happens = Plainly (ToTarget (record {
@@ -94,8 +94,8 @@ module _ {S C : Type 0} (durable : S → Option Durable) (state : S → State) (
         after = refl;
       };
       by = (refl, subst (λ ls. IsPicked ls (target t) number l rest) k.messages picked);
-    }) tt
-    hearing settling number reading l rest d is' picked no_prune (heard.Further turn) = Doing (record {
+    }) tt; raised_is = refl; stops_is = refl; downs_is = refl }
+    hearing settling number reading l rest d is' picked no_prune (heard.Further turn) = record { turn = Doing (record {
       event = record {
         u = with_target t s' (after_turn w (target t) did rest);
         happens = Further (record {
@@ -121,12 +121,12 @@ module _ {S C : Type 0} (durable : S → Option Durable) (state : S → State) (
         after = refl;
       };
       by = (refl, subst (λ ls. IsPicked ls (target t) number l rest) k.messages picked);
-    }) tt
+    }) tt; raised_is = refl; stops_is = refl; downs_is = refl }
 
     -- it did its idle work
     idling : (settling : Bool) (number : ℕ) (d : Durable) → durable x.store ≡ Some d → count_to (target t) a.between.messages ≡ 0 → IdlesWhole settling x.plan x.memory (record { durable = d; free = (state x.store).free }) kept' (y.memory, did)
-        → TurnOf settling r (target t) number w (swept (with_target t s' (after_turn w (target t) did w.messages)))
-    idling settling number d is' none turn = Doing (record {
+        → IsTurnSo settling r (target t) number 0 None None w (swept (with_target t s' (after_turn w (target t) did w.messages)))
+    idling settling number d is' none turn = record { turn = Doing (record {
       event = record {
         u = with_target t s' (after_turn w (target t) did w.messages);
         happens = Plainly (ByTarget (record {
@@ -145,10 +145,10 @@ module _ {S C : Type 0} (durable : S → Option Durable) (state : S → State) (
         after = refl;
       };
       by = (refl, ap (count_to (target t)) (sym k.messages) ∙ none, refl);
-    }) tt
+    }) tt; raised_is = refl; stops_is = refl; downs_is = refl }
 
   -- a whole turn leads so, whatever is found of other stores
-  pub turn-leads : (may : S → Durable → Type 0) (settling : Bool) (number : ℕ) (left : BetweenNow) → NonePrunes a.between t number → IsTurned durable state may settling t number x y a.between left (Ok did) → Leads durable state may (TurnOf settling r (target t) number) r a (after left)
+  pub turn-leads : (may : S → Durable → Type 0) (settling : Bool) (number : ℕ) (left : BetweenNow) → NonePrunes a.between t number → IsTurned durable state may settling t number x y a.between left (Ok did) → Leads durable state may (IsTurnSo settling r (target t) number 0 None None) r a (after left)
   turn-leads may settling number left no_prunes turned found are = record {
     before = found;
     were = λ u z life p rests. old u z life p rests;
@@ -161,7 +161,7 @@ module _ {S C : Type 0} (durable : S → Option Durable) (state : S → State) (
         | inr apart ↦ are u z life (record { there = set-there a.targets t u y apart ∙ p.there; stands = p.stands }) rests
       ]
 
-      led : (w : World) → Shows durable state r found a w → IsThere durable state r found w t x Running → IsTurned durable state may settling t number x y a.between left (Ok did) → IsLed durable state (TurnOf settling r (target t) number) r found w (after left)
+      led : (w : World) → Shows durable state r found a w → IsThere durable state r found w t x Running → IsTurned durable state may settling t number x y a.between left (Ok did) → IsLed durable state (IsTurnSo settling r (target t) number 0 None None) r found w (after left)
       led w k s (ByHearing l rest reading picked left_is turn) =
           let n = turn s.s.durable s.is.so.told in
           record {

@@ -1,4 +1,5 @@
 mod Givings
 mod Leading
+mod Opening
 mod Parts
 mod Stopping

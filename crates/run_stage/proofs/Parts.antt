@@ -8,9 +8,12 @@ use Rattle.daos_model.specs.declared.durable.Durable.{Durable}
 use Rattle.run_base.specs.Letters.{BetweenNow, IsPicked}
 use Rattle.run_base.specs.Sweeps.{SweepsAreOfLives, is_left_by, is_lost_by, lives_of, sweeps-are-of_lives}
 use Rattle.run_stage.specs.ListLaws.{get-set, length-set, map-get, map-set}
-use Rattle.run_stage.specs.Shows.{IsTargetOf, Shows, state_of}
+use Rattle.run_stage.specs.Shows.{IsTargetOf, Leads, Shows, state_of}
 use Rattle.run_stage.specs.Stages.{IsPlace, StageNow}
 use Rattle.run_stage.specs.Turned.{followed, swept_between, swept_stage, with_between}
+use Rattle.run_turns.specs.Raising.{raised_in}
+use Rattle.run_turns.specs.StopLines.{given_up_by, stops_by}
+use Rattle.run_turns.specs.Turns.{TurnOf}
 use Rattle.run_watch.specs.Watches.{WatchNow}
 use Rattle.target_core.specs.Targets.{TargetOf}
 use Rattle.vos_store.specs.Calls.{State}
@@ -160,3 +163,19 @@ pub is-set : {A : Type 0} (xs : List A) (n : ℕ) (x y : A) → slice_get xs n �
 is-set [] n x y at = let no : ⊥ = cc in absurd no
 is-set (z ∷ xs) zero x y at = refl
 is-set (z ∷ xs) (suc n) x y at = is-set xs n x y at
+
+-- ---- what a turn counts
+
+-- a turn raised incarnations so often, and in it these targets stopped and were given up, if any
+pub record IsTurnSo (settling : Bool) (r : Rules) (a : ActorId) (k : ℕ) (raised : ℕ) (stops downs : Option ℕ) (w v : World) : Type 0 where
+  pub turn : TurnOf settling r a k w v
+  pub raised_is : raised_in settling r a k turn ≡ raised
+  pub stops_is : stops_by turn ≡ stops
+  pub downs_is : given_up_by turn ≡ downs
+
+-- what leads to a turn of some kind leads to a turn
+pub leads-turn : {S C : Type 0} (durable : S → Option Durable) (state : S → State) (may : S → Durable → Type 0) (settling : Bool) (r : Rules) (actor : ActorId) (k raised : ℕ) (stops downs : Option ℕ) (a b : StageNow S C)
+    → Leads durable state may (IsTurnSo settling r actor k raised stops downs) r a b → Leads durable state may (TurnOf settling r actor k) r a b
+leads-turn durable state may settling r actor k raised stops downs a b leads found are =
+    let z = leads found are in
+    record { before = z.before; were = z.were; led = λ w reached shows. let l = z.led w reached shows in record { next = l.next; turn = l.turn.turn; shows = l.shows } }

@@ -9,12 +9,13 @@ use Rattle.daos_model.specs.declared.durable.Durable.{Durable}
 use Rattle.model_laws.specs.TargetLaws.{same_number}
 use Rattle.run_base.specs.Letters.{BetweenNow, IsPicked}
 use Rattle.run_base.specs.Picks.{count_to}
+use Rattle.run_stage.proofs.Givings.{FaultBy}
 use Rattle.run_stage.proofs.Leading.{NonePrunes}
 use Rattle.run_stage.proofs.Parts.{IsThere, is-set, picked-takes, swept-shown, target-shown, target-there}
 use Rattle.run_stage.specs.Shows.{IsLed, IsTargetOf, Leads, Shows}
 use Rattle.run_stage.specs.Stages.{AreFound, IsPlace, StageNow}
 use Rattle.run_stage.specs.Turned.{ByHearing, ByIdling, IsTurned, cut_between, given_up_between, given_up_stage, stopped_stage, swept_stage, with_between}
-use Rattle.run_turns.specs.Turns.{Acts, Doing, GivesUp, GivingUp, IsAtWork, IsFault, TurnOf}
+use Rattle.run_turns.specs.Turns.{Acts, IsAtWork}
 use Rattle.run_watch.specs.Watches.{with_life}
 use Rattle.target_core.specs.Targets.{TargetOf, cutting}
 use Rattle.target_parts.specs.declared.stop.TargetStop.TheVariants as stop
@@ -107,11 +108,7 @@ module _ {S C : Type 0} (durable : S → Option Durable) (state : S → State) (
       by = (refl, b);
     }
 
-  -- one event, in which a target's turn was cut
-  abbrev pub CutBy : Bool → ℕ → World → World → Type 0
-  CutBy settling number w v = (d : Acts settling r (target t) number w v) × IsFault r d.event.happens
-
-  pub cut-leads : (may : S → Durable → Type 0) (settling : Bool) (number : ℕ) (left : BetweenNow) → NonePrunes a.between t number → IsTurned durable state may settling t number x y a.between left (Err (stop.Store issued lines)) → Leads durable state may (CutBy settling number) r a (stopped left)
+  pub cut-leads : (may : S → Durable → Type 0) (settling : Bool) (number : ℕ) (left : BetweenNow) → NonePrunes a.between t number → IsTurned durable state may settling t number x y a.between left (Err (stop.Store issued lines)) → Leads durable state may (FaultBy r t settling number 0 (Some t)) r a (stopped left)
   cut-leads may settling number left no_prunes turned found are = record {
     before = found;
     were = λ u z life p rests. old u z life p rests;
@@ -134,7 +131,7 @@ module _ {S C : Type 0} (durable : S → Option Durable) (state : S → State) (
         | inr apart ↦ are u z life (record { there = set-there a.targets t u y apart ∙ p.there; stands = set-there a.watch.lives t u Stopped apart ∙ p.stands }) rests
       ]
 
-      led : (w : World) → Shows durable state r found a w → IsThere durable state r found w t x Running → IsTurned durable state may settling t number x y a.between left (Err (stop.Store issued lines)) → IsLed durable state (CutBy settling number) r found w (stopped left)
+      led : (w : World) → Shows durable state r found a w → IsThere durable state r found w t x Running → IsTurned durable state may settling t number x y a.between left (Err (stop.Store issued lines)) → IsLed durable state (FaultBy r t settling number 0 (Some t)) r found w (stopped left)
       led w k s (ByHearing l rest reading picked left_is turn) =
           let takes = picked-takes a.between.messages number l rest (target t) picked in
           let it = turn s.s.durable s.is.so.told 0 (would found w k s.s s.here s.is) (may-be, refl) in
@@ -156,7 +153,7 @@ module _ {S C : Type 0} (durable : S → Option Durable) (state : S → State) (
           let it = turn s.s.durable s.is.so.told (would found w k s.s s.here s.is) (may-be, refl) in
           record {
             next = swept (after_cut w t s.s (cut found w k s.s s.here s.is));
-            turn = (acts found w k s.s s.here s.is settling number IdleWork tt (in-world it) (ap (count_to (target t)) (sym k.messages) ∙ none), tt);
+            turn = (acts found w k s.s s.here s.is settling number IdleWork tt (in-world it) (ap (count_to (target t)) (sym k.messages) ∙ none), tt, refl, refl);
             shows = shown found w k s.s s.here s.is left (ap (λ b. filter (is_not_to t) b.messages) left_is) (ap (λ b. b.asked) left_is) (ap (λ b. b.issued) left_is) (ap (λ b. b.lines) left_is);
           }
         where

@@ -6,3 +6,4 @@ pub mod Staying
 pub mod OrderLaws
 pub mod Numbers
 pub mod StopLines
+pub mod Raising

@@ -3,6 +3,7 @@
 
 ghost use Rattle.run_turns.specs.Numbers.{AllToldAreCounted, OrdersTellAll, TurnsTellAll};
 ghost use Rattle.run_turns.specs.OrderLaws.{OrdersAreRuns, OrdersEndQuiet, OrdersHaveEnded, TurnsHear};
+ghost use Rattle.run_turns.specs.Raising.{TurnsRaise};
 ghost use Rattle.run_turns.specs.Staying.{EventsStay, OrdersStay, TurnsStay};
 ghost use Rattle.run_turns.specs.StopLines.{TurnsTellStops};
 
@@ -37,4 +38,10 @@ pub fn laws_of_numbers()
 /// target given up where its target is given up in it, and none else.
 pub fn laws_of_stops()
     ensures tell { TurnsTellStops }
+{}
+
+/// Says that a turn raises no target's incarnation, but for one in which a target opens again, or fails to,
+/// which raises it by one at most.
+pub fn laws_of_openings()
+    ensures raise { TurnsRaise }
 {}
