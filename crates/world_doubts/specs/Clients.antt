@@ -37,12 +37,12 @@ use Rattle.world_epochs.specs.Lists.{each-push}
 use Rattle.world_lines.specs.LineLaws.{lines-by-moves}
 use Rattle.world_lines.specs.Lines.{Endings, Lines, filled}
 use Rattle.world_losses.specs.ClientHears.{LossesAreAsked, heard-steps}
-use Rattle.world_losses.specs.Clients.{After, IsOver, Stepped, after-none, going-after, of-others, present-not-over, stepped}
+use Rattle.world_losses.specs.Clients.{After, IsOver, Stepped, after-none, going-after, of-others, stepped}
 use Rattle.world_losses.specs.Losses.{Losses}
 use Rattle.world_losses.specs.Moving.{LinesSo, end-is, moved-lines, moved-none, moved-stays}
 use Rattle.world_outcomes.specs.ClientLaws.{present-not-past}
 use Rattle.world_outcomes.specs.Moving.{AnswerDoes, FailsWith, OnWith, moved-past, op-does}
-use Rattle.world_outcomes.specs.Premises.{HearsFitly, IsFit, IsLossFit, IsReplyFit}
+use Rattle.world_outcomes.specs.Premises.{HearsFitly, IsFit, IsReplyFit}
 use Rattle.world_standing.specs.Clients.{lines-heard}
 use Rattle.world_handing.specs.Fitting.{hears-fitly}
 use Rattle.world_talks.specs.AskLaws.{move-is, waiting-rests}

@@ -1,5 +1,5 @@
 -- A leader that stopped may no longer know what became of an attempt. Where that shows, it stopped since the attempt began.
-use Rattle.std.specs.Prelude.{ℕ, ◌≡◌, Bool, true, false, List, [], ◌∷◌, slice_get, Contains, Option, Some}
+use Rattle.std.specs.Prelude.{ℕ, ◌≡◌, false, [], ◌∷◌, slice_get, Contains, Option, Some}
 use Rattle.base_types.specs.declared.entry.Entry.{Entry}
 use Rattle.base_types.specs.declared.epoch.Epoch.{Epoch}
 use Rattle.base_types.specs.declared.id.AttemptId.{AttemptId}

@@ -1,5 +1,5 @@
 -- Each event keeps what shows where leaders stopped, and a run begins with it.
-use Rattle.std.specs.Prelude.{ℕ, ◌≡◌, true, List, [], ◌∷◌, find, slice_get, Contains, Option, Some, None, refl}
+use Rattle.std.specs.Prelude.{ℕ, ◌≡◌, List, [], ◌∷◌, find, slice_get, Option, Some, None, refl}
 use Rattle.std.proofs.Common.{inl, inr, sym, ◌∙◌, ap, subst}
 use Rattle.base_types.specs.declared.entry.Entry.{Entry}
 use Rattle.base_types.specs.declared.id.AttemptId.{AttemptId}
@@ -8,10 +8,9 @@ use Rattle.daos_model.specs.Attempts.{up_to_last_of}
 use Rattle.daos_model.specs.CausesShown.{StopsAfter}
 use Rattle.daos_model.specs.Durables.{entry_of, is_entry_of}
 use Rattle.model_laws.specs.Members.{Has}
-use Rattle.world_attempts.specs.Attempts.{IsBorn, entry_at, entry_in, is_known_in, leader_of}
+use Rattle.world_attempts.specs.Attempts.{IsBorn, entry_in, is_known_in, leader_of}
 use Rattle.world_attempts.specs.Counting.{has-taken}
 use Rattle.world_attempts.specs.History.{GrowsBy, History}
-use Rattle.world_base.specs.declared.letter.Letter.{Letter}
 use Rattle.world_base.specs.declared.target.TargetState.{TargetState}
 use Rattle.world_base.specs.declared.world.World.{World}
 use Rattle.world_base.specs.Events.{ByClient, ByTarget, Rules, ToClient, ToTarget}
@@ -29,7 +28,7 @@ use Rattle.world_stops.specs.Happenings.{rightly}
 use Rattle.world_stops.specs.Stops.{sweeping-keeps}
 use Rattle.world_verdicts.specs.Verdicts.{HasWrites}
 use Rattle.world_doubts.specs.Clients.{Goes, IsBegun, going-goes, hearing-goes}
-use Rattle.world_doubts.specs.Doubts.{Doubts, InFlight, InLines, IsInDoubt, IsToldCommitted, ItsLeaderStopped, RestsAt}
+use Rattle.world_doubts.specs.Doubts.{Doubts, InFlight, InLines, IsInDoubt, IsToldCommitted, ItsLeaderStopped}
 use Rattle.world_doubts.specs.Laws.{DoubtsBegin, EventsKeepDoubts, IsBeside}
 use Rattle.world_doubts.specs.Recounting.{Recounts, asked-of, entry-writes, loss-back, recounting-keeps, tells_back}
 use Rattle.world_doubts.specs.Stopping.{cut-recounts, drawing-recounts, failing-recounts, giving-up-recounts, opening-recounts, sweeping-recounts}

@@ -1,11 +1,10 @@
 -- What an event of a target leaves of attempts in doubt, of leaders that don't run, and of questions that are lost; and that it keeps the facts.
-use Rattle.std.specs.Prelude.{ℕ, ◌≡◌, ◌≢◌, ◌⊎◌, ◌++◌, Bool, true, false, List, [], ◌∷◌, find, slice_get, Contains, Option, Some, None, refl, if◌then◌else◌}
+use Rattle.std.specs.Prelude.{ℕ, ◌≡◌, ◌⊎◌, ◌++◌, Bool, true, false, List, [], ◌∷◌, find, slice_get, Contains, Option, Some, None, refl, if◌then◌else◌}
 use Rattle.std.proofs.Common.{inl, inr, sym, ◌∙◌, ap, subst}
 use Rattle.base_types.specs.declared.entry.Entry.{Entry}
 use Rattle.base_types.specs.declared.epoch.Epoch.{Epoch}
 use Rattle.base_types.specs.declared.id.AttemptId.{AttemptId}
 use Rattle.base_types.specs.declared.outcome.Outcome.TheVariants as outcome
-use Rattle.base_types.specs.declared.report.Attempt.{Attempt}
 use Rattle.base_types.specs.declared.report.Line.{Line}
 use Rattle.base_types.specs.declared.report.Line.TheVariants as line
 use Rattle.base_messages.specs.declared.message.Message.{Message, more_of-Message}

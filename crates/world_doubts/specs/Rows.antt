@@ -1,11 +1,10 @@
 -- What a leader's turn leaves of the rows of attempts, and which attempts it tells as committed: of these no row is left.
-use Rattle.std.specs.Prelude.{ℕ, ◌≡◌, ◌≢◌, ◌⊎◌, ◌==◌, ◌||◌, ◌++◌, Bool, true, false, List, [], ◌∷◌, filter, map, Option, Some, None, refl, if◌then◌else◌}
+use Rattle.std.specs.Prelude.{ℕ, ◌≡◌, ◌⊎◌, ◌==◌, ◌||◌, ◌++◌, Bool, true, false, List, [], ◌∷◌, filter, map, Option, Some, None, refl, if◌then◌else◌}
 use Rattle.std.specs.Option.{option_map}
 use Rattle.std.proofs.Common.{inl, inr, sym, ◌∙◌, ap, subst}
 use Rattle.base_types.specs.declared.entry.Entry.{Entry}
 use Rattle.base_types.specs.declared.epoch.Epoch.{Epoch}
 use Rattle.base_types.specs.declared.id.AttemptId.{AttemptId}
-use Rattle.base_types.specs.declared.outcome.Outcome.{Outcome}
 use Rattle.base_types.specs.declared.outcome.Outcome.TheVariants as outcome
 use Rattle.base_messages.specs.declared.actor.ActorId.{ActorId}
 use Rattle.base_messages.specs.declared.message.Message.{Message}
@@ -17,7 +16,6 @@ use Rattle.dtx_base.specs.declared.leading.Undecided.{Undecided}
 use Rattle.dtx_base.specs.declared.member.Parked.{Parked}
 use Rattle.dtx_base.specs.Asking.{ask_heard, asked_of, asked_open, waits_at}
 use Rattle.dtx_base.specs.Joining as member
-use Rattle.dtx_base.specs.LeaderLaws.{same-is}
 use Rattle.dtx_base.specs.Leading.{LeaderOf, LeaderStep, down_told, ended, entry_led, first_down, mark_reset, new_undecided, prepare_reset, quietly, reset_of, status_asked, to_target, undecided_attempt, undecided_of, unwaited_at}
 use Rattle.dtx_base.specs.RowLaws.{row-map, row-with, row-without}
 use Rattle.dtx_base.specs.Rows.{is_among, row_of, with_row, without_row}

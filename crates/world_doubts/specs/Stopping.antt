@@ -1,6 +1,6 @@
 -- A target that stops, opens again, fails to, or is given up, keeps what shows where leaders stopped; and so does the loss of what goes to targets
 -- that are given up.
-use Rattle.std.specs.Prelude.{ℕ, ◌≡◌, ◌⊎◌, ◌+◌, ◌++◌, ◌==◌, not, Bool, true, false, List, [], ◌∷◌, filter, map, slice_get, Contains, Option, Some, None, refl}
+use Rattle.std.specs.Prelude.{ℕ, ◌≡◌, ◌⊎◌, ◌+◌, ◌++◌, ◌==◌, not, Bool, true, false, List, [], ◌∷◌, filter, map, slice_get, Option, Some, refl}
 use Rattle.std.proofs.Common.{append-nil, append_assoc, zero, suc, inl, inr, sym, ◌∙◌, ap, subst}
 use Rattle.std.proofs.Math.ListN.{set}
 use Rattle.std.proofs.lemmas.Bool.{eqb-true}
@@ -10,9 +10,8 @@ use Rattle.base_types.specs.declared.outcome.Outcome.{Outcome}
 use Rattle.base_types.specs.declared.outcome.Outcome.TheVariants as outcome
 use Rattle.base_types.specs.declared.report.Line.{Line}
 use Rattle.base_types.specs.declared.report.Line.TheVariants as line
-use Rattle.base_messages.specs.declared.message.Message.{Message, more_of-Message}
+use Rattle.base_messages.specs.declared.message.Message.{Message}
 use Rattle.base_messages.specs.declared.message.Message.TheVariants as message
-use Rattle.base_messages.specs.declared.message.Post.{Post}
 use Rattle.daos_model.specs.Attempts.{tries}
 use Rattle.daos_model.specs.BoolLaws.{and_right}
 use Rattle.daos_model.specs.Changes.{reopened}
@@ -23,11 +22,9 @@ use Rattle.world_attempts.specs.Attempts.{IsBorn, entry_at, entry_in, is_known_a
 use Rattle.world_attempts.specs.History.{GrowsBy, History, Tells}
 use Rattle.world_attempts.specs.Turning.{one-or_another}
 use Rattle.world_base.specs.declared.letter.Letter.{Letter}
-use Rattle.world_base.specs.declared.target.Life.{Life}
 use Rattle.world_base.specs.declared.target.Life.TheVariants.{Down, Running, Stopped}
 use Rattle.world_base.specs.declared.target.TargetState.{TargetState}
 use Rattle.world_base.specs.declared.world.World.{World}
-use Rattle.world_base.specs.CutTurns.{Cutting}
 use Rattle.world_base.specs.Events.{Rules, kept, target_plan}
 use Rattle.world_base.specs.Letters.{letter_of, letters_of, target}
 use Rattle.world_base.specs.Statuses.{opening_posts}

@@ -11,14 +11,12 @@ use Rattle.base_messages.specs.declared.message.Message.{Message, more_of-Messag
 use Rattle.base_messages.specs.declared.message.Message.TheVariants as message
 use Rattle.base_messages.specs.declared.message.Post.{Post}
 use Rattle.daos_model.specs.Attempts.{tries}
-use Rattle.daos_model.specs.BoolLaws.{clash}
-use Rattle.dtx_base.specs.declared.leading.Undecided.{Undecided}
 use Rattle.dtx_base.specs.Leading.{to_target}
 use Rattle.dtx_base.specs.LeaderLaws.{same-is}
-use Rattle.model_laws.specs.Members.{Has, contains-from_has, has-cases, has-from_map, has-left}
-use Rattle.world_attempts.specs.Attempts.{IsBorn, IsOpenAt, entry_at, entry_in, is_known_at, is_known_in, leader_of, row_at, row_in}
+use Rattle.model_laws.specs.Members.{Has, contains-from_has, has-cases, has-from_map}
+use Rattle.world_attempts.specs.Attempts.{IsBorn, entry_at, entry_in, is_known_at, is_known_in, leader_of, row_at, row_in}
 use Rattle.world_attempts.specs.Counting.{has-left_over, has-taken}
-use Rattle.world_attempts.specs.History.{Aborted, GrowsBy, History, Tells}
+use Rattle.world_attempts.specs.History.{GrowsBy, History, Tells}
 use Rattle.world_attempts.specs.Turning.{one-or_another}
 use Rattle.world_base.specs.declared.did.Did.{Did}
 use Rattle.world_base.specs.declared.letter.Letter.{Letter}
@@ -26,7 +24,6 @@ use Rattle.world_base.specs.declared.target.Life.TheVariants.{Running}
 use Rattle.world_base.specs.declared.target.TargetMemory.{TargetMemory}
 use Rattle.world_base.specs.declared.target.TargetState.{TargetState}
 use Rattle.world_base.specs.declared.world.World.{World}
-use Rattle.world_base.specs.Changes.{Kept}
 use Rattle.world_base.specs.Events.{Rules, TargetHears, TargetHearsRightly, TargetIdles, kept, target_after, target_plan, with_epoch}
 use Rattle.world_base.specs.Further.{HearsFurther, reset_by}
 use Rattle.world_base.specs.Letters.{letter_of, letters_of, target}
@@ -37,7 +34,7 @@ use Rattle.world_base.specs.TargetTurns.{commit_request}
 use Rattle.world_endings.specs.Posts.{further-sent}
 use Rattle.world_endings.specs.Telling.{AsksAgain, AsksFreezes, AsksPrunes, IsSent, Quietly, TellsAfter, is_collected}
 use Rattle.world_fates.specs.Asked.{AskedRight}
-use Rattle.world_fates.specs.Facts.{Attempts, IsRow, RunsAt}
+use Rattle.world_fates.specs.Facts.{Attempts, IsRow}
 use Rattle.world_fates.specs.Lefts.{idle-left}
 use Rattle.world_fates.specs.Told.{silent_at}
 use Rattle.world_lines.specs.EndingLaws.{all-hear-tell, idle-tells}
@@ -48,7 +45,6 @@ use Rattle.world_losses.specs.Hearing.{ack-lines}
 use Rattle.world_losses.specs.Silent.{commit-down-none}
 use Rattle.world_outcomes.specs.Outcomes.{commits}
 use Rattle.world_outcomes.specs.Premises.{AsksGoRight}
-use Rattle.world_outcomes.specs.Telling.{end_to}
 use Rattle.world_outcomes.specs.Untried.{untried-none}
 use Rattle.world_statuses.specs.Fates.{told_by_it}
 use Rattle.world_statuses.specs.Heard.{is_of_attempts}
@@ -56,7 +52,7 @@ use Rattle.world_waits.specs.Premises.{RequestsAreOfClients}
 use Rattle.world_waits.specs.StopTurns.{nothing-changes}
 use Rattle.world_doubts.specs.Doubts.{IsInDoubt, RestsAt}
 use Rattle.world_doubts.specs.Recounting.{IsDoubted, IsNew, Recounts, WasInDoubt}
-use Rattle.world_doubts.specs.Rows.{HasRow, LeavesRows, NoneCommitted, rows-same}
+use Rattle.world_doubts.specs.Rows.{HasRow, LeavesRows, rows-same}
 use Rattle.world_doubts.specs.Turns.{further-own, further-rows, plain-untold, rightly-own, rightly-rows}
 
 -- no message tells that another one got no answer

@@ -1,5 +1,5 @@
 -- What a target that hears a message leaves of the rows of attempts, and that it tells ends of attempts that it leads.
-use Rattle.std.specs.Prelude.{ℕ, ◌≡◌, ◌⊎◌, ◌||◌, ◌++◌, Bool, true, false, List, [], ◌∷◌, filter, slice_get, Option, Some, None, is_some, refl}
+use Rattle.std.specs.Prelude.{ℕ, ◌≡◌, ◌||◌, ◌++◌, Bool, true, false, List, [], ◌∷◌, filter, Option, Some, None, is_some, refl}
 use Rattle.std.proofs.Common.{inl, inr, sym, ◌∙◌, ap, subst}
 use Rattle.base_types.specs.declared.entry.Entry.{Entry}
 use Rattle.base_types.specs.declared.entry.EntryState.{EntryState}
@@ -19,7 +19,6 @@ use Rattle.dtx_base.specs.Joining as member
 use Rattle.dtx_base.specs.Leading.{LeaderOf, entry_led, knowing, reset_of, undecided_attempt}
 use Rattle.dtx_base.specs.Rows.{is_among, row_of}
 use Rattle.model_laws.specs.Members.{Has, has-cases, has-from_filter, has-map, has-right}
-use Rattle.world_attempts.specs.Asked.{IsCommitNew}
 use Rattle.world_attempts.specs.Attempts.{entry_at, entry_in, is_known_in, leader_of, row_in}
 use Rattle.world_attempts.specs.Counting.{has-taken}
 use Rattle.world_attempts.specs.History.{History, Tells}
@@ -27,7 +26,6 @@ use Rattle.world_attempts.specs.MarkTurns.{led-found, target-is}
 use Rattle.world_base.specs.declared.did.Did.{Did}
 use Rattle.world_base.specs.declared.target.TargetMemory.{TargetMemory}
 use Rattle.world_base.specs.declared.target.TargetPlan.{TargetPlan}
-use Rattle.world_base.specs.declared.target.TargetState.{TargetState}
 use Rattle.world_base.specs.declared.world.World.{World}
 use Rattle.world_base.specs.Acks as ack
 use Rattle.world_base.specs.Changes.{Change, Kept, Steps}
@@ -45,7 +43,7 @@ use Rattle.world_base.specs.Turns.{Whole}
 use Rattle.world_fates.specs.Asked.{AskedRight}
 use Rattle.world_fates.specs.Facts.{Attempts, IsAckRight, IsRow, IsSaidSo, IsStateRight}
 use Rattle.world_fates.specs.Lefts.{fetch-left, mark-answers, marked-left, query-answers, verdict-left}
-use Rattle.world_fates.specs.Told.{silent_at, silent_end}
+use Rattle.world_fates.specs.Told.{silent_at}
 use Rattle.world_fates.specs.Working.{ArePlain, mild-untold, plain-mild}
 use Rattle.world_outcomes.specs.Premises.{AsksGoRight}
 use Rattle.world_outcomes.specs.Telling.{ack-tells, commit-ends, end_to, post_to, silent-tells, single}
