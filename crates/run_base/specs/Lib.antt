@@ -4,6 +4,7 @@ pub mod Orders
 pub mod Picked
 pub mod Picks
 pub mod Quiet
+pub mod Sweeps
 
 -- Letters to an actor, and what lies between actors.
 -- The order of turns.

@@ -24,8 +24,8 @@ use world_base::letter::Letter;
 pub struct Between {
     pub(crate) messages: Vec<Letter>,
     pub(crate) asked: Vec<Letter>,
-    issued: Vec<(AttemptId, Epoch)>,
-    lines: Vec<Line>,
+    pub(crate) issued: Vec<(AttemptId, Epoch)>,
+    pub(crate) lines: Vec<Line>,
 }
 
 impl Model for Between {

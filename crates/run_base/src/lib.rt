@@ -3,6 +3,8 @@
 
 pub mod asked;
 pub mod between;
+mod cutting;
 pub mod lines;
 mod losing;
 pub mod schedule;
+pub mod sweeping;

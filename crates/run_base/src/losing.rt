@@ -32,7 +32,12 @@ fn left_of(alloc: Global, letters: Vec<Letter>, target: TargetId) -> Result<Vec<
 }
 
 // Who sent a letter to a target is told that it got no answer.
-fn reset_of(alloc: Global, letter: Letter, target: TargetId, down: bool) -> Result<Letter, Memory>
+pub(crate) fn reset_of(
+    alloc: Global,
+    letter: Letter,
+    target: TargetId,
+    down: bool,
+) -> Result<Letter, Memory>
     requires to_it { is_to target letter ≡ true }
     ensures { IfOk result (λ reset. reset ≡ reset_letter down letter) }
 {

@@ -1,0 +1,106 @@
+// What goes to targets that are given up. A run in which targets stop calls it.
+ghost use Rattle.std.specs.Prelude.{◌≡◌, ◌≤◌, ◌++◌, IfOk, OnOk, filter, length, map, true};
+ghost use Rattle.run_base.specs.Sweeps.{LivesTellDowns, NoneIsSwept, SweepingIsDone, SweepsAreOfLives, is_down_in, is_left_by, is_lost_by};
+ghost use Rattle.world_base.specs.Stops.{reset_letter};
+
+use crate::between::Between;
+use crate::losing::reset_of;
+use base_types::items::Memory;
+use std::alloc::Global;
+use std::mem::replace;
+use world_base::letter::Letter;
+use world_base::target::Life;
+
+// Whether the target of a number is given up.
+fn is_down_in(lives: &[Life], number: u16) -> bool
+    ensures { result ≡ is_down_in lives.now number }
+{
+    match lives.get(usize::from(number)) {
+        Some(life) => matches!(life, Life::Down),
+        None => false,
+    }
+}
+
+// Whether a letter goes to a target that is given up.
+fn is_lost_by(lives: &[Life], letter: &Letter) -> bool
+    ensures { result ≡ is_lost_by lives.now letter.now }
+{
+    !letter.to.client && is_down_in(lives, letter.to.number)
+}
+
+// Those of some letters that don't go to such targets.
+fn left_by(alloc: Global, letters: Vec<Letter>, lives: &[Life]) -> Result<Vec<Letter>, Memory>
+    ensures { IfOk result (λ left. left.items ≡ filter (is_left_by lives.now) letters.items) }
+{
+    let mut left = Vec::new(alloc);
+    for letter in letters {
+        if !is_lost_by(lives, &letter) {
+            left.push(letter)?;
+        }
+    }
+    Ok(left)
+}
+
+// Who sent a letter to such a target is told that it got no answer.
+fn reset_by(alloc: Global, letter: Letter, lives: &[Life]) -> Result<Letter, Memory>
+    requires few { length lives.now ≤ 256 }
+    requires lost { is_lost_by lives.now letter ≡ true }
+    ensures { IfOk result (λ reset. reset ≡ reset_letter true letter) }
+{
+    let target = letter.to.number as u8;
+    reset_of(alloc, letter, target, true)
+}
+
+// Who sent one of these to such a target is told so, in their order, behind what is in flight; the others are left.
+fn reset_lost(
+    alloc: Global,
+    messages: &mut Vec<Letter>,
+    asked: Vec<Letter>,
+    lives: &[Life],
+) -> Result<Vec<Letter>, Memory>
+    requires few { length lives.now ≤ 256 }
+    ensures told { OnOk result (messages.new.items ≡ messages.old.items ++ map (reset_letter true) (filter (is_lost_by lives.now) asked.items)) }
+    ensures left { IfOk result (λ left. left.items ≡ filter (is_left_by lives.now) asked.items) }
+{
+    let mut left = Vec::new(alloc);
+    for letter in asked {
+        if is_lost_by(lives, &letter) {
+            messages.push(reset_by(alloc, letter, lives)?)?;
+        } else {
+            left.push(letter)?;
+        }
+    }
+    Ok(left)
+}
+
+impl Between {
+    /// What goes to targets that are given up is lost, and who waits for their answers is told so, in the
+    /// order in which they asked; one who is given up itself isn't told.
+    ///
+    /// # Errors
+    ///
+    /// For want of memory.
+    pub fn sweep(&mut self, alloc: Global, lives: &[Life]) -> Result<(), Memory>
+        requires few { length lives.now ≤ 256 }
+        ensures messages { OnOk result (self.new.messages ≡ filter (is_left_by lives.now) (self.old.messages ++ map (reset_letter true) (filter (is_lost_by lives.now) self.old.asked))) }
+        ensures asked { OnOk result (self.new.asked ≡ filter (is_left_by lives.now) self.old.asked) }
+        ensures issued { self.new.issued ≡ self.old.issued }
+        ensures lines { self.new.lines ≡ self.old.lines }
+    {
+        let mut messages = replace(&mut self.messages, Vec::new(alloc));
+        let asked = replace(&mut self.asked, Vec::new(alloc));
+        self.asked = reset_lost(alloc, &mut messages, asked, lives)?;
+        self.messages = left_by(alloc, messages, lives)?;
+        Ok(())
+    }
+}
+
+/// Says that what is left between actors, where targets are given up, is what a run's event leaves of it, for
+/// the targets of a world that stand so. Where none is given up, nothing is lost, and what was lost once
+/// isn't lost again.
+pub fn laws_of_sweeps()
+    ensures downs { LivesTellDowns }
+    ensures lives { SweepsAreOfLives }
+    ensures none { NoneIsSwept }
+    ensures done { SweepingIsDone }
+{}

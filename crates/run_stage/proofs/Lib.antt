@@ -1,0 +1,4 @@
+mod Givings
+mod Leading
+mod Parts
+mod Stopping

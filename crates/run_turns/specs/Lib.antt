@@ -1,0 +1,8 @@
+-- Turns of actors where targets may stop and open again, in an order.
+pub mod Turns
+pub mod Orders
+pub mod Keeping
+pub mod Staying
+pub mod OrderLaws
+pub mod Numbers
+pub mod StopLines

@@ -1,0 +1,2 @@
+-- How the targets of a run stand.
+pub mod Watches
