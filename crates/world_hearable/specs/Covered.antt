@@ -18,7 +18,8 @@ use Rattle.daos_model.specs.Changes.{leased, prepared, reopened, settled}
 use Rattle.daos_model.specs.declared.durable.Durable.{Durable}
 use Rattle.daos_model.specs.declared.durable.Version.{Version}
 use Rattle.daos_model.specs.Durables.{version_key}
-use Rattle.daos_model.specs.Ordered.{is_before, put, puts}
+use Rattle.daos_model.specs.Answers.{is_before}
+use Rattle.daos_model.specs.Ordered.{put, puts}
 use Rattle.daos_model.specs.Versions.{done_by, version_of, versions_of}
 use Rattle.world_base.specs.declared.did.Did.{Did}
 use Rattle.world_base.specs.declared.request.CommitRequest.{CommitRequest}
@@ -66,7 +67,11 @@ AreCovered w = (t : ℕ) (s : TargetState) → slice_get w.targets t ≡ Some s 
 abbrev pub CutsLeaveCovered : Type 0
 CutsLeaveCovered = (r : Rules) (t : ℕ) (s : TargetState) (work : AtWork) (cut : Cutting) → IsWithoutSnapshots work → CutOf (target_plan r t) s work cut → IsCovered s.durable → IsCovered cut.left.durable
 
--- and each event keeps it
+-- and so it is where its incarnation is raised, by an opening or by one that fails
+abbrev pub RaisedIsCovered : Type 0
+RaisedIsCovered = (d : Durable) → IsCovered d → IsCovered (reopened d)
+
+-- each event keeps it
 abbrev pub EventsKeepCovered : Type 0
 EventsKeepCovered = (r : Rules) (w v : World) (e : WorldEvent r w v) → HappensWithoutSnapshots e.happens → AreCovered w → AreCovered v
 
@@ -111,7 +116,7 @@ covered-prepared e ws d within all = epochs-puts (λ x. x / 256 ≤ d.lease) e w
 covered-settled : (a : AttemptId) (step : Settle) (d : Durable) → IsCovered d → IsCovered (settled a step d)
 covered-settled a step d all = subst (λ n. All (λ v. v.epoch.0 / 256 ≤ n) (settled a step d).versions) (sym (lease-settled a step d)) (epochs-settled (λ x. x / 256 ≤ d.lease) a step d all)
 
-covered-reopened : (d : Durable) → IsCovered d → IsCovered (reopened d)
+pub covered-reopened : RaisedIsCovered
 unfolding reopened
 covered-reopened d all = all
 

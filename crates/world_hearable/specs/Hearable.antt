@@ -1,5 +1,5 @@
 -- What goes to a running target it can hear, where targets may stop.
-use Rattle.std.specs.Prelude.{ℕ, ◌≡◌, ◌≤◌, ◌<◌, ◌^◌, ◌⊎◌, Bool, true, false, IfSome, List, [], ◌∷◌, length, slice_get, Contains, All, Any, Option, Some, None, refl}
+use Rattle.std.specs.Prelude.{ℕ, ◌≡◌, ◌≤◌, ◌<◌, ◌^◌, ◌⊎◌, Bool, true, false, IfSome, List, [], ◌∷◌, length, slice_get, Contains, Any, Option, Some, None, refl}
 use Rattle.std.proofs.Common.{inl, inr, sym, ◌∙◌, ap, subst, arith}
 use Rattle.base_types.specs.declared.answer.Answer.TheVariants as answer
 use Rattle.base_types.specs.declared.entry.Entry.{Entry}
@@ -18,7 +18,6 @@ use Rattle.model_laws.specs.DecidedLaws.{all-from_has}
 use Rattle.model_laws.specs.FamilyLaws.{leader-within}
 use Rattle.model_laws.specs.Lists.{all-at}
 use Rattle.model_laws.specs.Members.{Has, contains-from_has, has-from_contains, has-from_filter, has-map}
-use Rattle.base_messages.specs.declared.actor.ActorId.{ActorId}
 use Rattle.base_messages.specs.declared.message.Message.{Message, more_of-Message}
 use Rattle.base_messages.specs.declared.message.Message.TheVariants as message
 use Rattle.daos_model.specs.declared.durable.Durable.{Durable}
@@ -300,10 +299,10 @@ module _ (r : Rules) (o : Opening) (held : ℕ → List Version) (h : History) (
           by (message.Ask x) it = inr tt
           by (message.Status x inc) it = inr tt
           by (message.StatusIs x inc how) it = inr tt
-          by (message.Reset' by down place (more_of-Message q rest)) it =
-              let low : by < r.script.targets = so (message.Reset' by down place (more_of-Message q rest)) it in
+          by (message.Reset' u down place (more_of-Message q rest)) it =
+              let low : u < r.script.targets = so (message.Reset' u down place (more_of-Message q rest)) it in
               let few : r.script.targets ≤ 64 = k.heard.few in
-              inr (omega (arith, low, few), not-collecting q (none (message.Reset' by down place (more_of-Message q rest)) it))
+              inr (omega (arith, low, few), not-collecting q (none (message.Reset' u down place (more_of-Message q rest)) it))
           by (message.Fetched x op group ep b) it = absurd (no-client ((k.heard.requests.letters l i).end (ap is_end it)))
           by (message.Ended x ep how) it = absurd (no-client ((k.heard.requests.letters l i).end (ap is_end it)))
           by (message.Tell tracker) it = absurd (no-client (so (message.Tell tracker) it))

@@ -1,5 +1,5 @@
 -- What targets can hear at each moment of a run in which targets may stop, and that what they keep is covered.
-use Rattle.std.specs.Prelude.{ℕ, ◌≡◌, slice_get, Contains, Some}
+use Rattle.std.specs.Prelude.{ℕ, ◌≡◌, ◌≤◌, ◌/◌, slice_get, Contains, Some}
 use Rattle.std.proofs.Common.{subst}
 use Rattle.model_laws.specs.DecidedLaws.{all-from_has}
 use Rattle.model_laws.specs.Members.{Has, contains-from_has}
@@ -61,7 +61,7 @@ runs-can-be-heard r o w v l t s A B run among to here runs =
     record { form = heard-in_form r t s.durable l.message can; can = can }
 
 pub runs-are-covered : RunsAreCovered
-runs-are-covered r o w v A B Begins t s here = all-from_has _ s.durable.versions (λ x i. ((B.starts t s here).opens.covered x (contains-from_has s.durable.versions x i)).1)
+runs-are-covered r o w v A B Begins t s here = all-from_has (λ v. v.epoch.0 / 256 ≤ s.durable.lease) s.durable.versions (λ x i. ((B.starts t s here).opens.covered x (contains-from_has s.durable.versions x i)).1)
 runs-are-covered r o w v A B (Goes u x run e) t s here =
     let k = runs-stand r o w u A B run in
     events-keep-covered r u v e (nothing-heard r u e.u k.1.nothing e.happens) (runs-are-covered r o w u A B run) t s here

@@ -14,7 +14,7 @@ use Rattle.base_messages.specs.declared.actor.ActorId.{ActorId}
 use Rattle.base_messages.specs.declared.message.Message.{Message, more_of-Message}
 use Rattle.base_messages.specs.declared.message.Message.TheVariants as message
 use Rattle.base_messages.specs.declared.message.Post.{Post}
-use Rattle.daos_model.specs.BoolLaws.{and_left, and_right}
+use Rattle.daos_model.specs.BoolLaws.{and_right}
 use Rattle.daos_model.specs.Changes.{reopened}
 use Rattle.daos_model.specs.declared.durable.Durable.{Durable}
 use Rattle.dtx_base.specs.declared.member.Parked.{Parked}
@@ -39,7 +39,6 @@ use Rattle.world_base.specs.Events.{ByClient, ByTarget, Event, Rules, TargetHear
 use Rattle.world_base.specs.Further.{CommitDown, HearsFurther, IsSpent, IsUnknown}
 use Rattle.world_base.specs.Letters.{client, letter_of, letters_of, target}
 use Rattle.world_base.specs.StepLaws.{by-hearing, by-next}
-use Rattle.world_base.specs.Steps.{after_move, without}
 use Rattle.world_base.specs.Statuses.{opening_posts, status_refusal, status_to, statuses_for, statuses_of}
 use Rattle.world_base.specs.Stops.{Draws, Fails, Further, GivenUp, Happening, HearsMore, IsCut, Opens, Plainly, WorldEvent, is_down_at, is_not_to, is_not_to_down, is_to, is_to_down, reset_letter, resets, swept}
 use Rattle.world_base.specs.TargetTurns.{commit_request}

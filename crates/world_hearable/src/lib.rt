@@ -1,7 +1,7 @@
 // What targets can hear at each moment of a run in which targets may stop, and what they can open again with.
 #![tactic(auto)]
 
-ghost use Rattle.world_hearable.specs.Covered.{CutsLeaveCovered, EventsKeepCovered};
+ghost use Rattle.world_hearable.specs.Covered.{CutsLeaveCovered, EventsKeepCovered, RaisedIsCovered};
 ghost use Rattle.world_hearable.specs.Hearable.{HeardIsInForm, LettersCanBeHeard};
 ghost use Rattle.world_hearable.specs.Runs.{RunsAreCovered, RunsCanBeHeard, RunsCutCovered, RunsSendSo};
 ghost use Rattle.world_hearable.specs.Sent.{EventsKeepSent};
@@ -24,9 +24,10 @@ pub fn laws_of_hearing()
 
 /// Says that what each target keeps is covered by its lease at each moment of such a run: no version is later
 /// than the ticks that the lease covers. So it is of a target that runs, of one that is stopped, which can so
-/// open again, and of what is left wherever a turn is cut.
+/// open again, and of what is left wherever a turn is cut, or an opening fails.
 pub fn laws_of_leases()
     ensures cuts { CutsLeaveCovered }
+    ensures raised { RaisedIsCovered }
     ensures events { EventsKeepCovered }
     ensures runs { RunsAreCovered }
     ensures left { RunsCutCovered }

@@ -1,6 +1,6 @@
 -- What is asked and told in form, a target can hear; and what is sent so, or lost, is in flight in form.
 use Rattle.std.specs.Prelude.{ℕ, ◌≡◌, ◌<◌, Bool, true, false, refl}
-use Rattle.std.proofs.Common.{inl, inr, sym, ap, subst}
+use Rattle.std.proofs.Common.{inl, inr, sym, subst}
 use Rattle.base_messages.specs.declared.message.Message.{Message}
 use Rattle.base_messages.specs.declared.message.Message.TheVariants as message
 use Rattle.base_messages.specs.declared.message.Post.{Post}
@@ -8,7 +8,7 @@ use Rattle.world_base.specs.declared.letter.Letter.{Letter}
 use Rattle.world_base.specs.declared.target.TargetPlan.{TargetPlan}
 use Rattle.world_base.specs.Letters.{client, letter_of, target}
 use Rattle.world_base.specs.Stops.{reset_letter}
-use Rattle.world_posts.specs.Forms.{HasForm, HasFormAfterStops, IsAsked, IsBetween, IsInForm, IsLetter, IsOfClient, IsOfTarget, IsTold, is_collecting, is_of_client, is_told}
+use Rattle.world_posts.specs.Forms.{IsAsked, IsBetween, IsInForm, IsLetter, IsOfClient, IsOfTarget, IsTold, is_collecting, is_of_client, is_told}
 
 -- what a client asks has the form of what is heard
 abbrev pub AskedIsHeard : Type 0
