@@ -36,7 +36,7 @@ downs_after t before now a b (Failed more n at few same) = None
 downs_after t before now a b (LastTime more at same) = Some t
 
 -- that a fault is counted changes nothing else
-lives-same : (t n : ℕ) (w : WatchNow) → w.lives ≡ (after_fault t n w).lives
+pub lives-same : (t n : ℕ) (w : WatchNow) → w.lives ≡ (after_fault t n w).lives
 lives-same t n w = by (n == 8)
   where
     by : (b : Bool) → w.lives ≡ (if b then w else record w { faults = slice_set w.faults t (n + 1) }).lives

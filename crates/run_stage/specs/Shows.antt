@@ -99,7 +99,7 @@ module _ {S C : Type 0} (durable : S → Option Durable) (state : S → State) w
     abbrev pub IsCounted : ℕ → TargetOf S C → Life → Type 0
     IsCounted most x Running = (d : Durable) → durable x.store ≡ Some d → d.incarnation ≤ most
     IsCounted most x Stopped = (d : Durable) → may x.store d → d.incarnation ≤ most
-    IsCounted most x Down = Unit {0}
+    IsCounted most x Down = (d : Durable) → may x.store d → d.incarnation ≤ most
 
     -- The actors are those of a run that was begun: of a script in form, for some targets, without snapshots and aggregation. Stores were
     -- opened no more than 2^63 + 1 times before it, and since then as often as openings were tried at most.
