@@ -1,3 +1,5 @@
+mod Accounting
+mod Clients
 mod Fitting
 mod Givings
 mod Going

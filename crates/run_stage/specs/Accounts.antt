@@ -30,26 +30,31 @@ pub record AreServed {S C : Type 0} (durable : S → Option Durable) (state : S 
 
 -- ---- stops
 
+-- how often a target stopped, by some lines
+abbrev pub stops_told_in : List Line → ℕ → ℕ
+stops_told_in lines t = length (stop_numbers (lines_at t lines))
+
 -- so many are no more than these and the rises of a count together, unless that count stands at the end of its range
 abbrev pub AtMostRises : ℕ → ℕ → ℕ → ℕ → Type 0
-AtMostRises n more before now = (now ≡ 2 ^ 64 - 1) ⊎ (n + before ≤ more + now)
+AtMostRises n more before now = (2 ^ 64 - 1 ≤ now) ⊎ (n + before ≤ more + now)
 
 abbrev pub one_if : Bool → ℕ
 one_if true = 1
 one_if false = 0
 
--- how many of some stop lines are a target's
-abbrev pub stops_of : ℕ → List StopDecl → ℕ
-stops_of t stops = length (filter (is_stop_at t) stops)
+-- how many of some stop lines of a script are a target's
+abbrev pub stop_lines_of : ℕ → List StopDecl → ℕ
+stop_lines_of t stops = length (filter (is_stop_at t) stops)
 
--- What is told of the stops of a target, since its store said h of itself: where its fuse is told, it stopped as often as its stop lines' fuses
--- fired and the outside failed it, at most; the outside failed it in so many turns, and where it was given up in nine.
-pub record IsAccounted {S C : Type 0} (durable : S → Option Durable) (state : S → State) (h : State) (stops : List StopDecl) (a : StageNow S C) (t : ℕ) (x : TargetOf S C) : Type 0 where
-  pub stopped : h.tells_fuse ≡ true → AtMostRises (length (stop_numbers (lines_at t a.between.lines)) + stops_of t a.watch.stops + one_if (state x.store).fused) (stops_of t stops) h.faults (state x.store).faults
+-- What is told of the stops of a target, where its store tells what it keeps, and said h of itself before: where its fuse is told, it stopped as
+-- often at most as fuses of its stop lines fired and the outside failed it; the outside failed it in as many turns as are counted, and where it was
+-- given up in nine.
+pub record IsAccounted {S C : Type 0} (state : S → State) (h : State) (stops : List StopDecl) (a : StageNow S C) (t : ℕ) (x : TargetOf S C) : Type 0 where
+  pub stopped : h.tells_fuse ≡ true → AtMostRises (stops_told_in a.between.lines t + stop_lines_of t a.watch.stops + one_if (state x.store).fused) (stop_lines_of t stops) h.faults (state x.store).faults
   pub failed : (n : ℕ) → slice_get a.watch.faults t ≡ Some n → AtMostRises n 0 h.faults (state x.store).faults
-  pub down : is_some (durable x.store) ≡ true → Contains (down_targets a.between.lines) t → AtMostRises 9 0 h.faults (state x.store).faults
+  pub down : Contains (down_targets a.between.lines) t → AtMostRises 9 0 h.faults (state x.store).faults
   pub told : (state x.store).tells_fuse ≡ h.tells_fuse
 
 -- so it is of all targets, whose stores said this of themselves before the run, of a script with these stop lines
 abbrev pub AreAccounted : {S C : Type 0} → (S → Option Durable) → (S → State) → (ℕ → State) → List StopDecl → StageNow S C → Type 0
-AreAccounted {S} {C} durable state h stops a = (t : ℕ) (x : TargetOf S C) → slice_get a.targets t ≡ Some x → IsAccounted durable state (h t) stops a t x
+AreAccounted {S} {C} durable state h stops a = (t : ℕ) (x : TargetOf S C) → slice_get a.targets t ≡ Some x → is_some (durable x.store) ≡ true → IsAccounted state (h t) stops a t x
