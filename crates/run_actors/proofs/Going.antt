@@ -9,7 +9,7 @@ use Rattle.model_laws.specs.Members.{Has, contains-from_has, has-cases, has-from
 use Rattle.base_messages.specs.declared.actor.ActorId.{ActorId}
 use Rattle.base_messages.specs.declared.message.Post.{Post}
 use Rattle.daos_model.specs.declared.durable.Durable.{Durable}
-use Rattle.run_actors.specs.CanGo.{CanGo, IsInForm}
+use Rattle.run_actors.specs.CanGo.{CanGo}
 use Rattle.run_actors.specs.ListLaws.{get-set, length-set}
 use Rattle.run_actors.specs.Shows.{IsGoing, Shows, Steps}
 use Rattle.run_actors.proofs.Turns.{Follows, picked-takes}
@@ -27,46 +27,30 @@ use Rattle.world_whole.specs.Posting.{IsPlainScript, clients-post-in-form, heare
 use Rattle.world_base.specs.Events.{Goes, Rules, client_plan, target_plan}
 use Rattle.world_base.specs.Letters.{client, letter_of, letters_of, target}
 use Rattle.world_base.specs.StepLaws.{set-is, set-there}
-use Rattle.world_posts.specs.FormLaws.{asked-is-heard, asked-of_client, between-is-heard, between-of_target}
+use Rattle.world_posts.specs.FormLaws.{clients-send-letters, targets-send-letters}
 use Rattle.world_posts.specs.Forms as posted
-use Rattle.world_posts.specs.Forms.{ClientPosts, ClientsWait, PostsInForm, TargetPosts}
+use Rattle.world_posts.specs.Forms.{ClientPosts, ClientsWait, IsLetter, PostsInForm, TargetPosts}
 use Rattle.world_talks.specs.TalkLaws.{left-is-among, taken-is-among}
 
 -- ---- letters
 
 abbrev pub AreInForm : Rules → List Letter → Type 0
-AreInForm r letters = (l : Letter) → Contains letters l → IsInForm r l
+AreInForm r letters = (l : Letter) → Contains letters l → IsLetter (target_plan r) l
 
 -- what is left of letters in form beside one that was taken
 pub rest-in-form : (r : Rules) (letters : List Letter) (a : ActorId) (n : ℕ) (l : Letter) (rest : List Letter) → IsPicked letters a n l rest → AreInForm r letters → AreInForm r rest
 rest-in-form r letters a n l rest picked k m i = k m (left-is-among letters l rest m (picked-takes letters n l rest a picked) i)
 
 -- and the one that was taken
-pub taken-in-form : (r : Rules) (letters : List Letter) (a : ActorId) (n : ℕ) (l : Letter) (rest : List Letter) → IsPicked letters a n l rest → AreInForm r letters → IsInForm r l
+pub taken-in-form : (r : Rules) (letters : List Letter) (a : ActorId) (n : ℕ) (l : Letter) (rest : List Letter) → IsPicked letters a n l rest → AreInForm r letters → IsLetter (target_plan r) l
 taken-in-form r letters a n l rest picked k = k l (taken-is-among letters l rest (picked-takes letters n l rest a picked))
 
 -- letters that an actor sends beside others
-sent-in-form : (r : Rules) (a : ActorId) (rest : List Letter) (posts : List Post) → AreInForm r rest → ((q : Post) → Has q posts → IsInForm r (letter_of a q)) → AreInForm r (rest ++ letters_of a posts)
+sent-in-form : (r : Rules) (a : ActorId) (rest : List Letter) (posts : List Post) → AreInForm r rest → ((q : Post) → Has q posts → IsLetter (target_plan r) (letter_of a q)) → AreInForm r (rest ++ letters_of a posts)
 sent-in-form r a rest posts old new l i = elim (has-cases rest (letters_of a posts) l (has-from_contains (rest ++ letters_of a posts) l i)) [
   | inl j ↦ old l (contains-from_has rest l j)
-  | inr j ↦ let q = has-from_map (letter_of a) posts l j in subst (IsInForm r) q.2 (new q.0 q.1)
+  | inr j ↦ let q = has-from_map (letter_of a) posts l j in subst (IsLetter (target_plan r)) q.2 (new q.0 q.1)
 ]
-
--- a client sends what is in form
-by-client : (r : Rules) (n : ℕ) (posts : List Post) → ClientPosts (target_plan r) posts → (q : Post) → Has q posts → IsInForm r (letter_of (client n) q)
-by-client r n posts k q i = record {
-  asked = λ to. asked-is-heard (target_plan r q.to.number) q.message ((k q i).asked to);
-  told = (k q i).told;
-  kind = λ to. asked-of_client (target_plan r q.to.number) q.message ((k q i).asked to);
-}
-
--- and so does a target
-by-target : (r : Rules) (t : ℕ) (posts : List Post) → TargetPosts r.script.targets posts → (q : Post) → Has q posts → IsInForm r (letter_of (target t) q)
-by-target r t posts k q i = record {
-  asked = λ to. between-is-heard (target_plan r q.to.number) q.message ((k q i).between to);
-  told = (k q i).told;
-  kind = λ to. between-of_target r.script.targets q.message ((k q i).between to);
-}
 
 -- a run of a script in form is plain
 plain : (r : Rules) → IsSimple r → IsPlainScript r
@@ -102,7 +86,7 @@ module _ {S C : Type 0} (durable : S → Option Durable) (state : S → State) w
       opened = k.opened;
       running = k.running;
       waiting = k.waiting;
-      letters = subst (AreInForm k.rules) (sym f.messages) (sent-in-form k.rules (client n) rest did.posts left (by-client k.rules n did.posts posts));
+      letters = subst (AreInForm k.rules) (sym f.messages) (sent-in-form k.rules (client n) rest did.posts left (λ q i. clients-send-letters (target_plan k.rules) n q (posts q i)));
       told = λ t x e here is. on (k.told t x e here is);
     }
 
@@ -116,8 +100,7 @@ module _ {S C : Type 0} (durable : S → Option Durable) (state : S → State) w
         → Follows b (client n) did rest b' → cs' ≡ set cs n d → (IsGoing durable state cs xs b → IsGoing durable state cs' xs b') → CanGo durable state cs' xs b'
     client-heard n number c d did l rest cs' at plan' picked turn f set' on =
         client-on n c d did rest cs' at plan' (rest-in-form k.rules b.messages (client n) number l rest picked k.letters)
-        (hearers-post-in-form k.rules n c.state d.state l.message did (plain k.rules k.simple) ((taken-in-form k.rules b.messages (client n) number l rest picked k.letters).told (ap (λ z. z.client) picked.to_it))
-        (subst (λ p. HearTurn p c.state l.message did d.state) (k.plans n c at) turn)) f set' on
+        (hearers-post-in-form k.rules n c.state d.state l.message did (plain k.rules k.simple) (subst (λ p. HearTurn p c.state l.message did d.state) (k.plans n c at) turn)) f set' on
 
     some-told : (o o' : Option Durable) (d : Durable) → is_some o' ≡ is_some o → o' ≡ Some d → (e : Durable) × (o ≡ Some e)
     some-told None o' d same is = let bad : is_some o' ≡ true = ap is_some is in absurd (true≢false (sym bad ∙ same))
@@ -136,7 +119,7 @@ module _ {S C : Type 0} (durable : S → Option Durable) (state : S → State) w
       running = λ u z is. get-set (λ j q. (state q.store).stopped ≡ false) xs t y runs.stops k.running u z (ap (λ zs. slice_get zs u) (sym set') ∙ is);
       waiting = λ u z is. get-set (λ j q. ClientsWait q.memory.leader) xs t y sent.waiting k.waiting u z (ap (λ zs. slice_get zs u) (sym set') ∙ is);
       letters = subst (AreInForm k.rules) (sym f.messages) (sent-in-form k.rules (target t) rest did.posts left
-          (by-target k.rules t did.posts (subst (λ n. TargetPosts n did.posts) (ap (λ p. p.targets) (k.made t x at)) sent.form)));
+          (λ q i. targets-send-letters (target_plan k.rules) k.rules.script.targets t q (λ u. refl) (subst (λ n. TargetPosts n did.posts) (ap (λ p. p.targets) (k.made t x at)) sent.form q i)));
       told = λ u z d here is. on (before u z d (ap (λ zs. slice_get zs u) (sym set') ∙ here) is);
     }
       where

@@ -9,14 +9,7 @@ use Rattle.vos_store.specs.Calls.{State}
 use Rattle.world_base.specs.declared.letter.Letter.{Letter}
 use Rattle.world_whole.specs.Begins.{IsSimple}
 use Rattle.world_base.specs.Events.{Rules, client_plan, target_plan}
-use Rattle.world_posts.specs.Forms.{ClientsWait, HasForm, is_of_client, is_told}
-
--- A letter to a client has the form of what clients are told. One to a target has the form of what that hears; it comes from a client where
--- it is what clients ask, and else from a target.
-pub record IsInForm (r : Rules) (l : Letter) : Type 0 where
-  pub asked : l.to.client ≡ false → HasForm (target_plan r l.to.number) l.message
-  pub told : l.to.client ≡ true → is_told l.message ≡ true
-  pub kind : l.to.client ≡ false → is_of_client l.message ≡ l.from.client
+use Rattle.world_posts.specs.Forms.{ClientsWait, IsLetter}
 
 -- The actors are those of a run of a script in form, for some targets, without stops, snapshots and aggregation; each target has opened, no
 -- store is stopped, and each letter in flight has form. It is clients that wait for the end of attempts. Where a store tells what it keeps, the actors are those of such a run that was begun.
@@ -29,5 +22,5 @@ pub record CanGo {S C : Type 0} (durable : S → Option Durable) (state : S → 
   pub opened : (t : ℕ) (x : TargetOf S C) → slice_get targets t ≡ Some x → x.opened ≡ true
   pub running : AreRunning state targets
   pub waiting : (t : ℕ) (x : TargetOf S C) → slice_get targets t ≡ Some x → ClientsWait x.memory.leader
-  pub letters : (l : Letter) → Contains b.messages l → IsInForm rules l
+  pub letters : (l : Letter) → Contains b.messages l → IsLetter (target_plan rules) l
   pub told : (t : ℕ) (x : TargetOf S C) (d : Durable) → slice_get targets t ≡ Some x → durable x.store ≡ Some d → IsGoing durable state clients targets b

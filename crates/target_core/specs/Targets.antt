@@ -1,13 +1,13 @@
 -- What a target is seen as, what holds of each, and what a turn of it comes to.
-use Rattle.std.specs.Prelude.{ℕ, ◌≡◌, ◌<◌, ◌≤◌, ◌⊎◌, Bool, true, false, List, [], Option, None, Some, is_some, Result, Ok, Err}
+use Rattle.std.specs.Prelude.{ℕ, ◌≡◌, ◌≤◌, Bool, true, false, List, [], Option, None, Some, is_some, Result, Ok, Err}
 use Rattle.base_types.specs.declared.epoch.Epoch.{Epoch}
 use Rattle.base_types.specs.declared.id.AttemptId.{AttemptId}
 use Rattle.base_types.specs.declared.outcome.FloorWhy.{FloorWhy}
 use Rattle.base_types.specs.declared.report.Line.{Line}
 use Rattle.base_types.specs.Operations.{read_path}
 use Rattle.base_messages.specs.declared.actor.ActorId.{ActorId}
-use Rattle.base_messages.specs.declared.message.Message.{Message, more_of-Message}
-use Rattle.base_messages.specs.declared.message.Message.TheVariants.{Ack, Ask, Commit, Fetch, Freeze, Mark, Marked, Prepare, Prune, Query, Reset', Status, StatusIs, Verdict}
+use Rattle.base_messages.specs.declared.message.Message.{Message}
+use Rattle.base_messages.specs.declared.message.Message.TheVariants.{Ack, Ask, Commit, Fetch, Mark, Marked, Prepare, Query, Reset', Status, StatusIs, Verdict}
 use Rattle.daos_model.specs.declared.durable.Durable.{Durable}
 use Rattle.daos_model.specs.Changes.{reopened}
 use Rattle.daos_model.specs.Durables.{is_enlisted}
@@ -28,7 +28,7 @@ use Rattle.world_base.specs.Roles.{is_prepared, told_by}
 use Rattle.world_base.specs.Statuses.{Looking, NoChange, opening_memory, status_refusal}
 use Rattle.world_base.specs.TargetTurns.{Hears, IdlesWhole, commit_request, fetch_request, prepare_request}
 use Rattle.world_base.specs.Verdicts as verdict
-pub use Rattle.world_posts.specs.Forms.{HasForm, is_of_client}
+pub use Rattle.world_posts.specs.Forms.{HasForm, HasFormAfterStops, IsInForm, is_collecting, is_of_client}
 use Rattle.target_parts.specs.declared.stop.TargetStop.{TargetStop}
 use Rattle.target_parts.specs.declared.stop.TargetStop.TheVariants as stop
 use Rattle.target_parts.specs.Parts.{Now, Partway, kept, left_by}
@@ -73,21 +73,7 @@ CanHear t (Commit x ep first tracker ws) d = CanCommit t x ep ws d
 CanHear t (Prepare e first ws inc) d = CanPrepareHere e ws d
 CanHear t m d = Unit {0}
 
--- what asks the others for a snapshot or an aggregation
-abbrev pub is_collecting : Message → Bool
-is_collecting (Freeze x c s) = true
-is_collecting (Prune x c tracker e) = true
-is_collecting m = false
-
--- What else a target hears where targets stop: it is asked what became of an attempt, or what it holds of one; it is told what another one
--- holds; or a message to one of at most 64 targets got no answer, which asked for no snapshot and no aggregation.
-abbrev pub HasFormAfterStops : Message → Type 0
-HasFormAfterStops (Ask x) = Unit {0}
-HasFormAfterStops (Status x inc) = Unit {0}
-HasFormAfterStops (StatusIs x inc how) = Unit {0}
-HasFormAfterStops (Reset' by down place (more_of-Message asked rest)) = (by < 64) × (is_collecting asked ≡ false)
-HasFormAfterStops m = ⊥
-
+-- a message that comes of stops
 abbrev pub is_after_stops : Message → Bool
 is_after_stops (Ask x) = true
 is_after_stops (Status x inc) = true
@@ -95,9 +81,11 @@ is_after_stops (StatusIs x inc how) = true
 is_after_stops (Reset' by down place asked) = true
 is_after_stops m = false
 
--- a target can be given a message in this form
-abbrev pub IsInForm : TargetPlan → Message → Type 0
-IsInForm t m = HasForm t m ⊎ HasFormAfterStops m
+-- what a client's command asks: to read, or to commit
+abbrev pub is_of_command : Message → Bool
+is_of_command (Fetch x op group ep first tracker r snapshot) = true
+is_of_command (Commit x ep first tracker ws) = true
+is_of_command m = false
 
 -- a message for which no epoch is issued
 abbrev pub has_epoch : Message → Bool

@@ -1,9 +1,10 @@
 // A target hears what comes of stops.
-ghost use Rattle.std.specs.Prelude.{◌≡◌, ℕ, Some, false};
+ghost use Rattle.std.specs.Prelude.{◌≡◌, ℕ, IfOk, Some, false};
 ghost use Rattle.daos_model.specs.declared.durable.Durable.{Durable};
+ghost use Rattle.world_posts.specs.Forms.{PostsInForm};
 ghost use Rattle.target_parts.specs.Knowing.{memory_of};
 ghost use Rattle.target_parts.specs.Standing.{IsTarget, TurnRuns};
-ghost use Rattle.target_core.specs.Targets.{HasFormAfterStops, HearsOrStops, is_after_stops};
+ghost use Rattle.target_core.specs.Targets.{HasFormAfterStops, HearsOrStops, is_after_stops, is_of_client};
 
 use base_messages::actor::ActorId;
 use base_messages::message::Message;
@@ -45,6 +46,7 @@ pub(crate) fn hear_after_stops<S: Store>(
     ensures turn { (d : Durable) → S.durable store.old ≡ Some d → (reading : ℕ)
         → HearsOrStops plan (memory_of knows.old) reading from message d (S.state store.old)
         (S.durable store.new) (S.state store.new) (S.may store.new) (memory_of knows.new) result }
+    ensures posts { is_of_client message ≡ from.client → IfOk result (λ did. PostsInForm plan.targets knows.old.leader knows.new.leader did.posts) }
     ensures target { IsTarget plan (S.state store.new) (S.durable store.new) knows.new }
     ensures stopped { TurnRuns result (S.state store.old) (S.state store.new) (S.durable store.old) (S.durable store.new) }
 {

@@ -4,7 +4,7 @@ ghost use Rattle.std.specs.Option.{ForSome};
 ghost use Rattle.daos_model.specs.declared.durable.Durable.{Durable};
 ghost use Rattle.world_posts.specs.Forms.{PostsInForm};
 ghost use Rattle.target_parts.specs.Knowing.{memory_of};
-ghost use Rattle.target_core.specs.Targets.{CanHear, HasForm, HearsOrStops, IsInForm, has_epoch, is_of_client};
+ghost use Rattle.target_core.specs.Targets.{CanHear, HasForm, HearsOrStops, IsInForm, has_epoch, is_of_client, is_of_command};
 ghost use Rattle.target_parts.specs.Standing.{IsTarget, TurnRuns};
 ghost use Rattle.target_parts.specs.Readings.{IsReadUpTo, most_readings};
 
@@ -27,7 +27,7 @@ use world_base::did::Did;
 use world_base::request::{CommitRequest, FetchRequest, PrepareRequest};
 use world_base::target::TargetPlan;
 
-// What a client asks.
+// What a client's command asks.
 fn hear_client<S: Store, C: Clock>(
     alloc: Global,
     plan: TargetPlan,
@@ -39,7 +39,7 @@ fn hear_client<S: Store, C: Clock>(
 ) -> Result<Did, TargetStop>
     requires target { IsTarget plan (S.state store.old) (S.durable store.old) knows.old }
     requires running { (S.state store.old).stopped ≡ false }
-    requires asked { is_of_client message ≡ true }
+    requires asked { is_of_command message ≡ true }
     requires form { HasForm plan message }
     requires here { ForSome (S.durable store.old) (CanHear plan message) }
     ensures turn { (reading : ℕ) × IfSome (C.next clock.old) (λ r. r ≡ reading) × ((d : Durable) → S.durable store.old ≡ Some d
@@ -104,7 +104,7 @@ fn hear_target<S: Store>(
 ) -> Result<Did, TargetStop>
     requires target { IsTarget plan (S.state store.old) (S.durable store.old) knows.old }
     requires running { (S.state store.old).stopped ≡ false }
-    requires told { is_of_client message ≡ false }
+    requires told { is_of_command message ≡ false }
     requires form { HasForm plan message }
     requires here { ForSome (S.durable store.old) (CanHear plan message) }
     ensures turn { (d : Durable) → S.durable store.old ≡ Some d → (reading : ℕ)
@@ -170,9 +170,9 @@ fn hear_target<S: Store>(
     }
 }
 
-// Whether a message is what a client asks.
-fn is_of_client(message: &Message) -> bool
-    ensures { result ≡ is_of_client message.now }
+// Whether a message is what a client's command asks.
+fn is_of_command(message: &Message) -> bool
+    ensures { result ≡ is_of_command message.now }
 {
     matches!(message, Message::Fetch { .. } | Message::Commit { .. })
 }
@@ -188,13 +188,13 @@ fn hear_other<S: Store>(
 ) -> Result<Did, TargetStop>
     requires target { IsTarget plan (S.state store.old) (S.durable store.old) knows.old }
     requires running { (S.state store.old).stopped ≡ false }
-    requires told { is_of_client message ≡ false }
+    requires told { is_of_command message ≡ false }
     requires form { IsInForm plan message }
     requires here { ForSome (S.durable store.old) (CanHear plan message) }
     ensures turn { (d : Durable) → S.durable store.old ≡ Some d → (reading : ℕ)
         → HearsOrStops plan (memory_of knows.old) reading from message d (S.state store.old)
         (S.durable store.new) (S.state store.new) (S.may store.new) (memory_of knows.new) result }
-    ensures posts { HasForm plan message → from.client ≡ false → IfOk result (λ did. PostsInForm plan.targets knows.old.leader knows.new.leader did.posts) }
+    ensures posts { is_of_client message ≡ from.client → IfOk result (λ did. PostsInForm plan.targets knows.old.leader knows.new.leader did.posts) }
     ensures target { IsTarget plan (S.state store.new) (S.durable store.new) knows.new }
     ensures stopped { TurnRuns result (S.state store.old) (S.state store.new) (S.durable store.old) (S.durable store.new) }
 {
@@ -222,12 +222,12 @@ pub(crate) fn hear_message<S: Store, C: Clock>(
     ensures turn { (reading : ℕ) × IfSome (C.next clock.old) (λ r. r ≡ reading) × ((d : Durable) → S.durable store.old ≡ Some d
         → HearsOrStops plan (memory_of knows.old) reading from message d (S.state store.old)
         (S.durable store.new) (S.state store.new) (S.may store.new) (memory_of knows.new) result) }
-    ensures posts { HasForm plan message → is_of_client message ≡ from.client → IfOk result (λ did. PostsInForm plan.targets knows.old.leader knows.new.leader did.posts) }
+    ensures posts { is_of_client message ≡ from.client → IfOk result (λ did. PostsInForm plan.targets knows.old.leader knows.new.leader did.posts) }
     ensures target { IsTarget plan (S.state store.new) (S.durable store.new) knows.new }
     ensures stopped { TurnRuns result (S.state store.old) (S.state store.new) (S.durable store.old) (S.durable store.new) }
     ensures clock { IsReadUpTo C.is_read (most_readings (has_epoch message)) clock.old clock.new }
 {
-    if is_of_client(&message) {
+    if is_of_command(&message) {
         hear_client(alloc, plan, store, clock, knows, from, message)
     } else {
         hear_other(alloc, plan, store, knows, from, message)

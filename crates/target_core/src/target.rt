@@ -7,13 +7,13 @@ ghost use Rattle.dtx_base.specs.Joining.{first_member};
 ghost use Rattle.vos_store.specs.Calls.{SetsFuse};
 ghost use Rattle.vos_store.specs.Refusals.{says};
 ghost use Rattle.world_base.specs.Idle.{has_idle};
-ghost use Rattle.world_posts.specs.Forms.{PostsInForm};
+ghost use Rattle.world_posts.specs.Forms.{Follows, PostsInForm};
 ghost use Rattle.target_parts.specs.Knowing.{IsHeard};
 ghost use Rattle.target_parts.specs.Parts.{Runs};
 ghost use Rattle.target_parts.specs.Readings.{IsReadUpTo, most_readings};
 ghost use Rattle.target_parts.specs.Stops.{stop_foreign, stop_store};
 ghost use Rattle.target_resync.specs.Openings.{IsBare, Left, Reopens};
-ghost use Rattle.target_core.specs.Targets.{CanHear, HasForm, HearsOrStops, IdlesOrStops, IsInForm, OpensAs, has_epoch, is_of_client};
+ghost use Rattle.target_core.specs.Targets.{CanHear, HearsOrStops, IdlesOrStops, IsInForm, OpensAs, has_epoch, is_of_client};
 
 use crate::hearing::hear_message;
 use base_messages::actor::ActorId;
@@ -144,7 +144,7 @@ impl<S: Store, C: Clock> Target<S, C> {
         ensures native { says stop_foreign result ≡ false }
         ensures clock { IsReadUpTo C.is_read (most_readings (has_epoch message)) self.old.clock self.new.clock }
         ensures unread { has_epoch message ≡ true → self.new.clock ≡ self.old.clock }
-        ensures posts { HasForm self.old.plan message → is_of_client message ≡ from.client → IfOk result (λ did. PostsInForm self.old.plan.targets self.old.memory.leader self.new.memory.leader did.posts) }
+        ensures posts { is_of_client message ≡ from.client → IfOk result (λ did. PostsInForm self.old.plan.targets self.old.memory.leader self.new.memory.leader did.posts) }
     {
         let _number = number;
         let Target {
@@ -216,6 +216,7 @@ impl<S: Store, C: Clock> Target<S, C> {
         ensures left { Left (S.may self.old.store) (S.may self.new.store) }
         ensures bare { IfErr result IsBare }
         ensures native { IsSome (S.durable self.old.store) → says stop_foreign result ≡ false }
+        ensures posts { IfOk result (λ did. Follows self.old.plan.targets self.new.memory.leader did.posts) }
         ensures opened { self.new.opened ≡ is_ok result }
     {
         match restart(self.alloc, self.plan, &mut self.store, number) {
@@ -229,6 +230,20 @@ impl<S: Store, C: Clock> Target<S, C> {
                 Err(stop)
             }
         }
+    }
+
+    /// How often the outside has failed its store, up to 2^64 - 1.
+    pub fn faults(&self) -> u64
+        ensures { result ≡ (S.state self.now.store).faults }
+    {
+        self.store.faults()
+    }
+
+    /// How often a fuse has stopped its store, up to 2^64 - 1.
+    pub fn burnt(&self) -> u64
+        ensures { result ≡ (S.state self.now.store).burns }
+    {
+        self.store.burnt()
     }
 
     /// The store and the clock; what the target knows is gone.

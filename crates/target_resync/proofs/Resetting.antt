@@ -25,6 +25,9 @@ use Rattle.world_base.specs.Changes.{Kept}
 use Rattle.world_base.specs.Requests.{sends}
 use Rattle.world_base.specs.Roles.{joins_on, leader_at, leads_on, member_at}
 use Rattle.world_base.specs.Statuses.{reset_joins, reset_leads, reset_left}
+use Rattle.world_posts.specs.AfterStops.{reset-members-post-in-form, resets-post-in-form}
+use Rattle.world_posts.specs.Forms.{PostsInForm, TargetPosts}
+use Rattle.world_posts.specs.Posting.{and-more, posted-by}
 use Rattle.target_parts.specs.declared.knows.Knows.{Knows}
 use Rattle.target_parts.specs.Knowing.{AreRowsOpen, IsHeard, IsOwn, LeadsWell, memory_of}
 use Rattle.target_parts.specs.RowKeeping.{rows-mapped, rows-named}
@@ -130,3 +133,12 @@ reset-left_so t m by down asked k l n posts s joined freed all leads came-so joi
     ∙ ap {A = LeaderMemory × List Post} {B = TargetMemory × Did} (λ p. (record m { leader = p.0; member = joined.memory }, sends (p.1 ++ freed.posts) None)) (came-so ∙ ap (λ z. came (reset_heard by down asked z)) leads)
     ∙ ap {A = MemberStep} {B = TargetMemory × Did} (λ z. (record m { leader = (reset_leads t m by down asked k).leader.memory; member = z.member.memory }, sends ((reset_leads t m by down asked k).posts ++ z.freed.posts) None))
     (joined-so ∙ ap (member.reset_heard down asked) joins)
+
+-- and what is sent has its form
+pub reset-posts : (targets by : ℕ) (down : Bool) (asked : Message) (l : LeaderOf) (n : LeaderMemory) (posts : List Post) (s joined : MemberOf) (freed : Freed) (all sent : List Post)
+    → ◌≡◌ {A = LeaderMemory × List Post} (n, posts) (came (reset_heard by down asked l)) → member_step joined freed ≡ member.reset_heard down asked s → all ≡ posts ++ freed.posts → sent ≡ all
+    → PostsInForm targets l.memory n sent
+reset-posts targets by down asked l n posts s joined freed all sent came-so joined-so told is =
+    subst (PostsInForm targets l.memory n) (sym (is ∙ told))
+    (and-more targets l.memory n posts freed.posts (posted-by targets (reset_heard by down asked l) l.memory n n posts posts (resets-post-in-form targets by down asked l) came-so refl refl)
+    (subst (TargetPosts targets) (sym (ap (λ (x : MemberStep). x.freed.posts) joined-so)) (reset-members-post-in-form targets down asked s)))

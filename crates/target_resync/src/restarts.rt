@@ -6,6 +6,7 @@ ghost use Rattle.base_types.specs.declared.outcome.FloorWhy.{FloorWhy};
 ghost use Rattle.daos_model.specs.Changes.{reopened};
 ghost use Rattle.daos_model.specs.declared.durable.Durable.{Durable};
 ghost use Rattle.vos_store.specs.Refusals.{says};
+ghost use Rattle.world_posts.specs.Forms.{Follows};
 ghost use Rattle.target_parts.specs.Knowing.{IsHeard};
 ghost use Rattle.target_parts.specs.Standing.{IsPlaced, IsTarget};
 ghost use Rattle.target_parts.specs.Stops.{stop_foreign};
@@ -94,6 +95,7 @@ pub fn restart<S: Store>(
     ensures left { Left (S.may store.old) (S.may store.new) }
     ensures bare { IfErr result IsBare }
     ensures native { IsSome (S.durable store.old) → says stop_foreign result ≡ false }
+    ensures posts { IfOk result (λ o. Follows plan.targets o.knows.leader o.did.posts) }
     ensures target { IfOk result (λ o. IsTarget plan (S.state store.new) (S.durable store.new) o.knows) }
 {
     let entries = reopen(alloc, store, number)?;

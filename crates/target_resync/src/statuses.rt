@@ -5,7 +5,7 @@ ghost use Rattle.vos_store.specs.Refusals.{says};
 ghost use Rattle.world_base.specs.Acks as ack;
 ghost use Rattle.world_base.specs.Statuses.{AtOnce, EndsAs, NoChange, status_left, status_refusal};
 ghost use Rattle.world_base.specs.Turns.{Whole};
-ghost use Rattle.world_posts.specs.Forms.{PostsInForm};
+ghost use Rattle.world_posts.specs.Forms.{PostsInForm, TargetPosts};
 ghost use Rattle.target_parts.specs.Knowing.{memory_of};
 ghost use Rattle.target_parts.specs.Parts.{kept};
 ghost use Rattle.target_parts.specs.Stops.{Turn, never, stop_foreign, stop_store};
@@ -48,6 +48,7 @@ pub fn hear_status<S: Store>(
         (S.durable store.now) (S.state store.now) (S.may store.now) result }
     ensures whole { says stop_store result ≡ false }
     ensures native { says stop_foreign result ≡ false }
+    ensures posts { from.client ≡ false → IfOk result (λ did. TargetPosts plan.targets did.posts) }
 {
     let _plan = plan;
     let _store = store;

@@ -1,5 +1,5 @@
 -- The form of messages: what clients ask of targets, what targets tell each other, and what clients are told.
-use Rattle.std.specs.Prelude.{ℕ, ◌≡◌, ◌<◌, ◌^◌, Bool, true, false, IfSome, All, length, List, Option, Some, is_some}
+use Rattle.std.specs.Prelude.{ℕ, ◌≡◌, ◌<◌, ◌^◌, ◌⊎◌, Bool, true, false, IfSome, All, length, List, Option, Some, is_some}
 use Rattle.base_types.specs.declared.entry.Entry.{Entry}
 use Rattle.base_types.specs.declared.epoch.Epoch.{Epoch}
 use Rattle.base_types.specs.declared.operation.MinorWrite.{MinorWrite}
@@ -8,12 +8,13 @@ use Rattle.base_types.specs.Operations.{write_path}
 use Rattle.base_types.specs.Placement.{ClassFits}
 use Rattle.model_laws.specs.Members.{Has}
 use Rattle.base_messages.specs.declared.actor.ActorId.{ActorId}
-use Rattle.base_messages.specs.declared.message.Message.{Message}
-use Rattle.base_messages.specs.declared.message.Message.TheVariants.{Ack, Commit, Ended, Fetch, Fetched, Mark, Marked, Prepare, Query, Tell, Verdict}
+use Rattle.base_messages.specs.declared.message.Message.{Message, more_of-Message}
+use Rattle.base_messages.specs.declared.message.Message.TheVariants.{Ack, Ask, Commit, Ended, Fetch, Fetched, Freeze, Mark, Marked, Prepare, Prune, Query, Reset', Status, StatusIs, Tell, Verdict}
 use Rattle.base_messages.specs.declared.message.Post.{Post}
 use Rattle.daos_model.specs.Forms.{AreWritesInForm, is_read_in_form}
 use Rattle.dtx_base.specs.declared.leading.LeaderMemory.{LeaderMemory}
 use Rattle.dtx_base.specs.declared.leading.Undecided.{Undecided}
+use Rattle.world_base.specs.declared.letter.Letter.{Letter}
 use Rattle.world_base.specs.declared.target.TargetPlan.{TargetPlan}
 use Rattle.world_base.specs.Commits.{own_writes}
 
@@ -43,10 +44,11 @@ pub record IsPrepareInForm (targets : ℕ) (e : Entry) (ws : List MinorWrite) : 
 
 -- ---- who sends what
 
--- what a client asks of a target
+-- what a client asks of a target: to read, to commit, or what became of an attempt
 abbrev pub IsAsked : TargetPlan → Message → Type 0
 IsAsked t (Fetch x op group ep first tracker r snapshot) = IsReadAsked r ep snapshot
 IsAsked t (Commit x ep first tracker ws) = AreWrites t ws
+IsAsked t (Ask x) = Unit {0}
 IsAsked t m = ⊥
 
 -- what targets tell and ask each other, where there are so many
@@ -57,6 +59,8 @@ IsBetween targets (Mark inc marks) = Unit {0}
 IsBetween targets (Marked inc ids) = Unit {0}
 IsBetween targets (Query x ask) = Unit {0}
 IsBetween targets (Verdict x ask inc v) = Unit {0}
+IsBetween targets (Status x inc) = Unit {0}
+IsBetween targets (StatusIs x inc how) = Unit {0}
 IsBetween targets m = ⊥
 
 -- what a client is told where nothing stops: an answer, how its attempt ended, or another's tracker
@@ -70,9 +74,10 @@ is_told m = false
 abbrev pub is_of_client : Message → Bool
 is_of_client (Fetch x op group ep first tracker r snapshot) = true
 is_of_client (Commit x ep first tracker ws) = true
+is_of_client (Ask x) = true
 is_of_client m = false
 
--- a message that a target hears, and its form, whatever is kept and whoever sent it
+-- a message that a target hears where nothing stops, and its form, whatever is kept and whoever sent it
 abbrev pub HasForm : TargetPlan → Message → Type 0
 HasForm t (Fetch x op group ep first tracker r snapshot) = IsReadAsked r ep snapshot
 HasForm t (Commit x ep first tracker ws) = AreWrites t ws
@@ -83,6 +88,40 @@ HasForm t (Marked inc ids) = Unit {0}
 HasForm t (Query x ask) = Unit {0}
 HasForm t (Verdict x ask inc v) = Unit {0}
 HasForm t m = ⊥
+
+-- what asks the others for a snapshot or an aggregation
+abbrev pub is_collecting : Message → Bool
+is_collecting (Freeze x c s) = true
+is_collecting (Prune x c tracker e) = true
+is_collecting m = false
+
+-- What else a target hears where targets stop: it is asked what became of an attempt, or what it holds of one; it is told what another one
+-- holds; or a message to one of at most 64 targets got no answer, which asked for no snapshot and no aggregation.
+abbrev pub HasFormAfterStops : Message → Type 0
+HasFormAfterStops (Ask x) = Unit {0}
+HasFormAfterStops (Status x inc) = Unit {0}
+HasFormAfterStops (StatusIs x inc how) = Unit {0}
+HasFormAfterStops (Reset' by down place (more_of-Message asked rest)) = (by < 64) × (is_collecting asked ≡ false)
+HasFormAfterStops m = ⊥
+
+-- a target can be given a message in this form
+abbrev pub IsInForm : TargetPlan → Message → Type 0
+IsInForm t m = HasForm t m ⊎ HasFormAfterStops m
+
+-- what a client is told where targets may stop: also that what it asked of one got no answer; `plans` is the plan of each target
+abbrev pub IsTold : (ℕ → TargetPlan) → Message → Type 0
+IsTold plans (Fetched x op group ep reply) = Unit {0}
+IsTold plans (Ended x ep how) = Unit {0}
+IsTold plans (Tell tracker) = Unit {0}
+IsTold plans (Reset' by down place (more_of-Message asked rest)) = IsAsked (plans by) asked
+IsTold plans m = ⊥
+
+-- The form of a letter where targets may stop. To a target it is in the form of what that hears, and comes from a client where it is what
+-- clients ask, and else from a target. To a client it is what clients are told.
+pub record IsLetter (plans : ℕ → TargetPlan) (l : Letter) : Type 0 where
+  pub asked : l.to.client ≡ false → IsInForm (plans l.to.number) l.message
+  pub kind : l.to.client ≡ false → is_of_client l.message ≡ l.from.client
+  pub told : l.to.client ≡ true → IsTold plans l.message
 
 -- ---- what is posted
 

@@ -88,7 +88,7 @@ one-posted targets p k q (inr i) = absurd i
 pub both-posted : (targets : ℕ) (ps qs : List Post) → TargetPosts targets ps → TargetPosts targets qs → TargetPosts targets (ps ++ qs)
 both-posted targets ps qs k l q i = elim (has-cases ps qs q i) [ inl j ↦ k q j | inr j ↦ l q j ]
 
-map-posted : {T : Type 0} (targets : ℕ) (f : T → Post) (xs : List T) → ((x : T) → Has x xs → IsOfTarget targets (f x)) → TargetPosts targets (map f xs)
+pub map-posted : {T : Type 0} (targets : ℕ) (f : T → Post) (xs : List T) → ((x : T) → Has x xs → IsOfTarget targets (f x)) → TargetPosts targets (map f xs)
 map-posted targets f xs k q i = let x = has-from_map f xs q i in subst (IsOfTarget targets) x.2 (k x.0 x.1)
 
 -- ---- one post
@@ -101,14 +101,14 @@ to-client targets to m client told = record { between = λ away. let no : ⊥ = 
 pub to-other : (targets : ℕ) (to : ActorId) (m : Message) → to.client ≡ false → IsBetween targets m → IsOfTarget targets (record { to = to; message = m })
 to-other targets to m target k = record { between = λ away. k; told = λ is. let no : ⊥ = cc in absurd no }
 
-mark-told : (targets t inc : ℕ) (marks : List (AttemptId × Bool)) → IsOfTarget targets (to_target t (message.Mark inc marks))
+pub mark-told : (targets t inc : ℕ) (marks : List (AttemptId × Bool)) → IsOfTarget targets (to_target t (message.Mark inc marks))
 mark-told targets t inc marks = to-other targets (record { client = false; number = t }) (message.Mark inc marks) refl tt
 
 query-told : (targets t : ℕ) (a : AttemptId) (ask : Option AttemptId) → IsOfTarget targets (to_target t (message.Query a ask))
 query-told targets t a ask = to-other targets (record { client = false; number = t }) (message.Query a ask) refl tt
 
 -- the client that waits is told how its attempt ended
-ended-told : (targets : ℕ) (c : Option ActorId) (a : AttemptId) (e : Epoch) (how : Outcome) → ((x : ActorId) → c ≡ Some x → x.client ≡ true) → TargetPosts targets (ended c a e how)
+pub ended-told : (targets : ℕ) (c : Option ActorId) (a : AttemptId) (e : Epoch) (how : Outcome) → ((x : ActorId) → c ≡ Some x → x.client ≡ true) → TargetPosts targets (ended c a e how)
 ended-told targets None a e how k = none-posted targets
 ended-told targets (Some x) a e how k = one-posted targets (record { to = x; message = message.Ended a (Some e) how }) (to-client targets x (message.Ended a (Some e) how) (k x refl) refl)
 

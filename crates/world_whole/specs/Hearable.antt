@@ -44,6 +44,7 @@ use Rattle.world_whole.specs.ScriptForm.{writes-declared}
 use Rattle.world_base.specs.Events.{Rules, target_plan}
 use Rattle.world_base.specs.Letters.{client, target}
 use Rattle.world_gots.specs.FormLaws.{ops-form, read-declared, write-declared}
+use Rattle.world_posts.specs.Forms.{HasForm}
 use Rattle.world_reads.specs.Given.{FitsTargets, Given, IsFetchRight, IsItsEpoch, IsMessageRight}
 use Rattle.world_reads.specs.ListLaws.{some-in_form}
 use Rattle.world_reads.specs.Reads.{IsOfAttempt}
@@ -99,6 +100,10 @@ CanHear r t d (message.Query x ask) = Unit {0}
 CanHear r t d (message.Verdict x ask inc v) = Unit {0}
 CanHear r t d m = ⊥
 
+-- then it has its form
+abbrev pub HeardHasForm : Type 0
+HeardHasForm = (r : Rules) (t : ℕ) (d : Durable) (m : Message) → CanHear r t d m → HasForm (target_plan r t) m
+
 -- Who tells what: it is one of the targets that answers a Prepare or a Mark; and of an attempt that a target leads itself no other one tells
 -- it what became of it. So an attempt that is prepared where a Mark or a Verdict of it is heard is in doubt there.
 abbrev pub IsRightlyTold : Rules → ℕ → TargetState → ActorId → Message → Type 0
@@ -116,6 +121,19 @@ abbrev pub RequestsCanBeHeard : Type 0
 RequestsCanBeHeard =
     (r : Rules) (o : Opening) (held : ℕ → List Version) (h : History) (w : World) (l : Letter) (t : ℕ) (s : TargetState) → AreBefore o held
     → Everything r o held h w → AreEnlisted r.script s.durable → Contains w.messages l → l.to ≡ target t → slice_get w.targets t ≡ Some s → s.life ≡ Running → IsHeardRight r t s l
+
+-- ---- the form
+
+pub heard-has_form : HeardHasForm
+heard-has_form r t d (message.Fetch x op group ep first tracker read snapshot) k = record { form = k.form; known = λ at. let now = k.now in let no : ⊥ = cc in absurd no }
+heard-has_form r t d (message.Commit x ep first tracker ws) k = record { form = k.store.form; some = k.some; fit = k.fit }
+heard-has_form r t d (message.Prepare e first ws inc) k = record { undecided = k.undecided; unconfirmed = k.unconfirmed; leader = k.leader; members = k.members; some = k.some; form = k.store.form }
+heard-has_form r t d (message.Ack x inc refusal) k = k
+heard-has_form r t d (message.Mark inc marks) k = k
+heard-has_form r t d (message.Marked inc ids) k = k
+heard-has_form r t d (message.Query x ask) k = k
+heard-has_form r t d (message.Verdict x ask inc v) k = k
+heard-has_form r t d m k = absurd k
 
 -- ---- containers of declared objects
 

@@ -16,7 +16,7 @@ use Rattle.base_types.specs.Scripts.{AreCommands, IsCommand, IsInForm, IsOpInFor
 use Rattle.model_laws.specs.DecidedLaws.{all-from_has}
 use Rattle.model_laws.specs.Lists.{all-at}
 use Rattle.model_laws.specs.Members.{Has, has-cases}
-use Rattle.base_messages.specs.declared.message.Message.{Message}
+use Rattle.base_messages.specs.declared.message.Message.{Message, more_of-Message}
 use Rattle.base_messages.specs.declared.message.Message.TheVariants as message
 use Rattle.base_messages.specs.declared.message.Post.{Post}
 use Rattle.daos_model.specs.Accesses.{minor_writes}
@@ -25,14 +25,14 @@ use Rattle.world_base.specs.declared.client.ClientPlan.{ClientPlan}
 use Rattle.world_base.specs.declared.client.ClientState.{ClientState}
 use Rattle.world_base.specs.declared.client.Present.{Present}
 use Rattle.world_base.specs.declared.did.Did.{Did}
-use Rattle.world_base.specs.ClientTurns.{ClientDid, Ended_by, Heard_on, HearTurn, Move, Moves, NextTurn, None_yet, One_more, Skipped, Went_on, about, answered, attempt_id, goes, heard, heard_at, hears_epochs, is_about, knows, listed, moved, question, waits}
+use Rattle.world_base.specs.ClientTurns.{ClientDid, Ended_by, Heard_on, HearTurn, Move, Moves, NextTurn, None_yet, One_more, Skipped, Went_on, about, answered, asks_again, attempt_id, goes, heard, heard_at, hears_epochs, is_about, knows, listed, moved, question, reset, reset_by, waits}
 use Rattle.world_whole.specs.Asking.{question-form}
 use Rattle.world_whole.specs.ScriptForm.{read-in-form, writes-declared, writes-in-form}
 use Rattle.world_epochs.specs.Epochs.{Unsnapped, is_unsnapped}
 use Rattle.world_base.specs.Events.{Rules, client_plan, commands_or_none, target_plan}
 use Rattle.world_base.specs.Letters.{target}
 use Rattle.world_gots.specs.FormLaws.{fit-object, write-declared}
-use Rattle.world_posts.specs.Forms.{AreWrites, ClientPosts, IsAsked, IsOfClient, IsReadAsked, is_told}
+use Rattle.world_posts.specs.Forms.{AreWrites, ClientPosts, IsAsked, IsOfClient, IsReadAsked}
 use Rattle.world_posts.specs.Posting.{leader-writes}
 use Rattle.world_talks.specs.AskLaws.{move-is, waiting-rests}
 use Rattle.world_talks.specs.Asked.{ARead, ASnapshot, AnAggregation, Asked, Asking, IsMove, ItsWrites, Silent, Telling}
@@ -49,9 +49,9 @@ pub record IsPlainScript (r : Rules) : Type 0 where
 abbrev pub ClientsPostInForm : Type 0
 ClientsPostInForm = (r : Rules) (n : ℕ) (c d : ClientState) (did : Did) → IsPlainScript r → NextTurn (client_plan r n) c did d → ClientPosts (target_plan r) did.posts
 
--- and so it is whatever it hears, of what a client is told
+-- and so it is whatever it hears
 abbrev pub HearersPostInForm : Type 0
-HearersPostInForm = (r : Rules) (n : ℕ) (c d : ClientState) (m : Message) (did : Did) → IsPlainScript r → is_told m ≡ true → HearTurn (client_plan r n) c m did d → ClientPosts (target_plan r) did.posts
+HearersPostInForm = (r : Rules) (n : ℕ) (c d : ClientState) (m : Message) (did : Did) → IsPlainScript r → HearTurn (client_plan r n) c m did d → ClientPosts (target_plan r) did.posts
 
 -- ---- commands
 
@@ -152,26 +152,42 @@ module _ (r : Rules) (plain : IsPlainScript r) where
       subst AreInForm (sym k.goes_on.all_sent)
       (both-form k.goes_on.sent (listed (moved (client_plan r n) k.goes_on.last).post) (moves-form n c k.goes_on.sent k.goes_on.told k.goes_on.last k.goes_on.moves) (move-form n k.goes_on.last))
 
--- ---- hearing
+  -- ---- hearing
 
--- a client sends nothing in hearing what it is told
-answered-silent : (p : ClientPlan) (c : ClientState) (a : Present) (m : Message) → is_told m ≡ true → (answered p c a m).post ≡ None
-answered-silent p c a (message.Fetched x op group ep reply) h = (replied-silent p c (knows ep a) reply refl).no_post
-answered-silent p c a (message.Ended x ep how) h = (ended-silent p c (knows ep a) ep how).no_post
-answered-silent p c a (message.Tell tracker) h = refl
-answered-silent p c a m h = let no : ⊥ = cc in absurd no
+  silent : (p : Option Post) → p ≡ None → AreInForm (listed p)
+  silent p none q i = absurd (subst (λ o. Has q (listed o)) none i)
 
-told-silent : (p : ClientPlan) (c : ClientState) (m : Message) → is_told m ≡ true → (heard p c m).post ≡ None
-unfolding heard
-told-silent p c m h = by c.present
-  where
-    if-so : (b : Bool) (x y : Move) → x.post ≡ None → y.post ≡ None → (if b then x else y).post ≡ None
-    if-so true x y k l = k
-    if-so false x y k l = l
+  -- where its writes, or a question what became of them, are lost, a client asks what became of them
+  asks-again_form : (p : ClientPlan) (c : ClientState) (a : Present) (t : ℕ) → AreInForm (listed (asks_again p c a t).post)
+  asks-again_form p c a t q (inl same) = subst (IsOfClient (target_plan r)) (sym same) (to-target t (message.Ask (attempt_id p c a)) tt)
+  asks-again_form p c a t q (inr i) = absurd i
 
-    by : (o : Option Present) → (heard_at p (hears_epochs m c) m o).post ≡ None
-    by None = refl
-    by (Some a) = if-so (a.waits && is_about (attempt_id p (hears_epochs m c) a) (about m)) (answered p (hears_epochs m c) a m) (goes (hears_epochs m c)) (answered-silent p (hears_epochs m c) a m h) refl
+  reset-form : (p : ClientPlan) (c : ClientState) (a : Present) (t : ℕ) (m : Message) → AreInForm (listed (reset p c a t m).post)
+  reset-form p c a t (message.Commit x e first tracker ws) = asks-again_form p c a t
+  reset-form p c a t (message.Ask x) = asks-again_form p c a t
+  reset-form p c a t m = silent None refl
+
+  reset-by_form : (p : ClientPlan) (c : ClientState) (a : Present) (t : ℕ) (down : Bool) (m : Message) → AreInForm (listed (reset_by p c a t down m).post)
+  reset-by_form p c a t false m = reset-form p c a t m
+  reset-by_form p c a t true m = silent None refl
+
+  answered-form : (p : ClientPlan) (c : ClientState) (a : Present) (m : Message) → AreInForm (listed (answered p c a m).post)
+  answered-form p c a (message.Fetched x op group ep reply) = silent _ (replied-silent p c (knows ep a) reply refl).no_post
+  answered-form p c a (message.Ended x ep how) = silent _ (ended-silent p c (knows ep a) ep how).no_post
+  answered-form p c a (message.Reset' t down place (more_of-Message m rest)) = reset-by_form p c (record a { waits = false }) t down m
+  answered-form p c a m = silent None refl
+
+  heard-form : (p : ClientPlan) (c : ClientState) (m : Message) → AreInForm (listed (heard p c m).post)
+  unfolding heard
+  heard-form p c m = by c.present
+    where
+      if-so : (b : Bool) (x y : Move) → AreInForm (listed x.post) → AreInForm (listed y.post) → AreInForm (listed (if b then x else y).post)
+      if-so true x y k l = k
+      if-so false x y k l = l
+
+      by : (o : Option Present) → AreInForm (listed (heard_at p (hears_epochs m c) m o).post)
+      by None = silent None refl
+      by (Some a) = if-so (a.waits && is_about (attempt_id p (hears_epochs m c) a) (about m)) (answered p (hears_epochs m c) a m) (goes (hears_epochs m c)) (answered-form p (hears_epochs m c) a m) (silent None refl)
 
 -- ---- the laws
 
@@ -180,8 +196,6 @@ clients-post-in-form r n c d did plain (Skipped skips none counted) q i = absurd
 clients-post-in-form r n c d did plain (Went_on awake k) q i = did-form r plain n c d did k q i
 
 pub hearers-post-in-form : HearersPostInForm
-hearers-post-in-form r n c d m did plain h (Ended_by over posts state) q i =
-    absurd (subst (λ o. Has q (listed o)) (told-silent (client_plan r n) c m h) (subst (λ x. Has q x.posts) posts i))
-hearers-post-in-form r n c d m did plain h (Heard_on rest goes-on k both) q i =
-    did-form r plain n (heard (client_plan r n) c m).state d rest k q
-    (subst (λ o. Has q (listed o ++ rest.posts)) (told-silent (client_plan r n) c m h) (subst (λ x. Has q x.posts) both i))
+hearers-post-in-form r n c d m did plain (Ended_by over posts state) q i = heard-form r plain (client_plan r n) c m q (subst (λ x. Has q x.posts) posts i)
+hearers-post-in-form r n c d m did plain (Heard_on rest goes-on k both) q i =
+    both-form r plain (listed (heard (client_plan r n) c m).post) rest.posts (heard-form r plain (client_plan r n) c m) (did-form r plain n (heard (client_plan r n) c m).state d rest k) q (subst (λ x. Has q x.posts) both i)

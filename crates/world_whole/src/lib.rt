@@ -5,7 +5,7 @@ ghost use Rattle.world_whole.specs.Asking.{RequestsAreRight};
 ghost use Rattle.world_whole.specs.BeginLaws.{RunsBeginWithEverything};
 ghost use Rattle.world_whole.specs.Everything.{EventsKeepEverything, RunsKeepEverything};
 ghost use Rattle.world_whole.specs.Fresh.{EmptyStoresOpen, EnlistedOpensToo, FreshStoresOpen, FreshWorldsAreBegun};
-ghost use Rattle.world_whole.specs.Hearable.{RequestsCanBeHeard};
+ghost use Rattle.world_whole.specs.Hearable.{HeardHasForm, RequestsCanBeHeard};
 ghost use Rattle.world_whole.specs.Judged.{ClientsKeepJudged};
 ghost use Rattle.world_whole.specs.Posting.{ClientsPostInForm, HearersPostInForm};
 ghost use Rattle.world_whole.specs.ScriptForm.{ReadsAreInForm, WritesAreInForm};
@@ -28,7 +28,8 @@ pub fn laws_of_requests()
 
 /// Says that what a script in form reads is in form, and so are the writes of each of its attempts. So
 /// is all that its clients send, whatever they heard, where they make no snapshot, read at none, and
-/// don't aggregate: reads and writes go to targets, writes to their leader, and trackers to clients.
+/// don't aggregate: reads, writes, and questions what became of these go to targets, writes to their leader, and
+/// trackers to clients.
 pub fn laws_of_forms()
     ensures reads { ReadsAreInForm }
     ensures writes { WritesAreInForm }
@@ -69,9 +70,10 @@ pub fn laws_of_beginnings()
 /// them its own, of an attempt that has no entry here, at an epoch that no version has; an answer of
 /// another target; what became of attempts; or a question. Nothing else goes to it. And it is rightly told: it
 /// is one of the targets that answers, and what became of an attempt that a target leads itself no other one
-/// tells it.
+/// tells it. What can be heard so has the form that a target asks for.
 pub fn laws_of_hearing()
     ensures requests { RequestsCanBeHeard }
+    ensures form { HeardHasForm }
     ensures whole { RunsStayWhole }
     ensures runs { RunsCanBeHeard }
 {}

@@ -8,7 +8,7 @@ use Rattle.target_parts.specs.KnowsLaws.{leader-known}
 use Rattle.target_parts.specs.Parts.{kept}
 use Rattle.target_parts.specs.Standing.{target-known}
 use Rattle.target_parts.specs.Stops.{stop_memory}
-use Rattle.target_resync.proofs.Resetting.{freed-by, leads-reset, member-known, nothing-freed, own-reset, reset-left_so, rows-by}
+use Rattle.target_resync.proofs.Resetting.{freed-by, leads-reset, member-known, nothing-freed, own-reset, reset-left_so, reset-posts, rows-by}
 use Rattle.target_resync.proofs.Silent.{silent-done, silent-wanting}
 use Rattle.target_resync.proofs.resets.hear_reset.Goals as goal
 
@@ -69,3 +69,10 @@ returns-clause-turn g c d at =
     (ap {A = Did} {B = TargetMemory × Did} (λ x. (memory_of (record c.args.knows.now { leader = c.hear_reset.new.self; member = c.hear_reset-2.new.self }), x)) c.sends.ensures
     ∙ reset-left_so c.args.plan (memory_of c.args.knows.now) c.args.target c.args.down c.args.message.now (kept d (g.S.Store.state c.args.store.now)) (leader_of c.seat_of-seat.result c.deref.result.now c.args.knows.now.leader) c.hear_reset.new.self
     c.in_ok-posts.posts c.args.knows.now.member c.hear_reset-2.new.self c.in_ok-freed.freed c.push_all.new.posts known c.in_ok-posts.ensures.ok (member-known c.args.plan c.args.knows.now c.requires.target.own) c.in_ok-freed.ensures.ok c.in_ok-push_all.ensures)
+
+-- what is sent has its form
+
+pub returns-clause-posts : goal.returns-clause-posts
+returns-clause-posts g c =
+    reset-posts c.args.plan.targets c.args.target c.args.down c.args.message.now (leader_of c.seat_of-seat.result c.deref.result.now c.args.knows.now.leader) c.hear_reset.new.self c.in_ok-posts.posts c.args.knows.now.member c.hear_reset-2.new.self
+    c.in_ok-freed.freed c.push_all.new.posts c.sends.result.posts c.in_ok-posts.ensures.ok c.in_ok-freed.ensures.ok c.in_ok-push_all.ensures (ap (λ did. did.posts) c.sends.ensures)

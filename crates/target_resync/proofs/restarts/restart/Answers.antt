@@ -1,6 +1,9 @@
-use Rattle.std.proofs.Common.{◌≡◌, ◌<◌, ◌^◌, ◌∙◌, ap, subst, sym, Some}
+use Rattle.std.proofs.Common.{◌≡◌, ◌<◌, ◌^◌, ◌∙◌, ap, filter, subst, sym, Some}
 use Rattle.daos_model.specs.declared.durable.Durable.{Durable}
+use Rattle.dtx_base.specs.Leading.{first_memory, is_led, is_open}
 use Rattle.world_base.specs.Statuses.{opening_memory}
+use Rattle.world_posts.specs.AfterStops.{openings-post-in-form}
+use Rattle.world_posts.specs.Forms.{Follows}
 use Rattle.target_parts.specs.Running.{told-before}
 use Rattle.target_resync.proofs.Opened.{did-first, heard-raised, leads-first, memory-first, opening-is, own-first, target-first}
 use Rattle.target_resync.proofs.restarts.restart.Goals as goal
@@ -37,3 +40,10 @@ returns-clause-target g c =
     let found = opened.found d at in
     leads-first c.args.plan c.in_ok-knows.knows c.lease-lease.result c.in_ok-entries.entries known.entries known.clock known.leader known.member d found.1 (c.lease-lease.ensures.lease opened.opens.runs d at)
     (g.met.S.Store.formed _ opened.opens.runs d at).entries (heard-raised d found.0.found found.0.raised (c.requires.covered before.0 before.1 found.0.found found.0.may_be)))
+
+pub returns-clause-posts : goal.returns-clause-posts
+returns-clause-posts g c =
+    let led = filter (is_led c.args.plan.me) c.in_ok-entries.entries in
+    let asked = filter is_open (filter (is_led c.args.plan.me) c.as_slice.result.now) in
+    subst (λ m. Follows c.args.plan.targets m c.in_ok-did.did.posts) (sym c.in_ok-knows.ensures.leader)
+    (subst (Follows c.args.plan.targets (first_memory led)) (sym c.in_ok-did.ensures.posts) (openings-post-in-form c.args.plan.targets c.incarnation-incarnation.result led asked))

@@ -1,5 +1,5 @@
 use Rattle.std.specs.Prelude.{Err, Ok, refl}
-use Rattle.std.proofs.Common.{◌≡◌, ◌∙◌, ap, inl, rules, subst, sym}
+use Rattle.std.proofs.Common.{◌≡◌, ◌∙◌, ap, rules, subst, sym}
 use Rattle.model_laws.specs.Lists.{at-index}
 use Rattle.run_base.specs.Letters.{IsPicked}
 use Rattle.run_actors.specs.Shown.{target-there}
@@ -7,7 +7,7 @@ use Rattle.run_actors.specs.StoreLaws.{run-stopped, run-whole}
 use Rattle.run_actors.proofs.Dues.{none-heard}
 use Rattle.run_actors.proofs.Follow.{followed}
 use Rattle.run_actors.proofs.Going.{keeps-going, rest-in-form, target-on}
-use Rattle.run_actors.proofs.Hearing.{hearable, knows-none_down}
+use Rattle.run_actors.proofs.Hearing.{hearable, knows-none_down, plain-form}
 use Rattle.run_actors.proofs.Turns.{target-hears, target-idles}
 use Rattle.run_base.specs.Picks.{count_to}
 use Rattle.target_core.specs.HeardLaws.{plainly-heard}
@@ -32,7 +32,7 @@ hear-requires-clause-opened g c = c.requires.going.opened c.args.t c.index_mut-t
 pub hear-requires-clause-form : goal.hear-requires-clause-form
 hear-requires-clause-form g c =
     let at = at-index c.args.self.now.targets.items c.args.t c.index_mut-target.result.now c.requires.within c.index_mut-target.ensures.value in
-    inl (hearable g.S.Store.durable g.S.Store.state c.args.self.now.clients.items c.args.self.now.targets.items c.args.self.now.between c.args.t c.args.number c.index_mut-target.result.now c.take-letter.result c.take-letter.new.self.messages
+    (hearable g.S.Store.durable g.S.Store.state c.args.self.now.clients.items c.args.self.now.targets.items c.args.self.now.between c.args.t c.args.number c.index_mut-target.result.now c.take-letter.result c.take-letter.new.self.messages
     c.requires.going at (subst (λ a. IsPicked c.args.self.now.between.messages a c.args.number c.take-letter.result c.take-letter.new.self.messages) c.target_id.ensures c.take-letter.ensures.picked)).form
 
 pub hear-requires-clause-here : goal.hear-requires-clause-here
@@ -55,7 +55,7 @@ returns-in-Ok-clause-steps g c r w k = elim c.if-hears.branch [
       let s = target-there g.S.Store.durable g.S.Store.state r c.args.self.now.clients.items c.args.self.now.targets.items c.args.self.now.between w c.args.t x k at in
       let turn = b.in_ok-did.ensures.turn in
       let picked = subst (λ a. IsPicked c.args.self.now.between.messages a c.args.number b.take-letter.result b.take-letter.new.self.messages) b.target_id.ensures b.take-letter.ensures.picked in
-      let heard = hearable g.S.Store.durable g.S.Store.state c.args.self.now.clients.items c.args.self.now.targets.items c.args.self.now.between c.args.t c.args.number x b.take-letter.result b.take-letter.new.self.messages c.requires.going at picked in
+      let form = plain-form g.S.Store.durable g.S.Store.state c.args.self.now.clients.items c.args.self.now.targets.items c.args.self.now.between c.args.t c.args.number x b.take-letter.result b.take-letter.new.self.messages c.requires.going at picked s.s.durable s.is.told in
       let now = turn.2 s.s.durable s.is.told in
       let f = followed c.args.self.now.between c.if-hears.between c.if-hears.did b.take-letter.new.self.messages c.target_id-2.result (target c.args.t) c.follow.new.self (ap (λ z. z.messages) b.between-is) (ap (λ z. z.lines) b.between-is ∙ b.take-letter.ensures.lines)
       (ap (λ z. z.issued) b.between-is ∙ b.take-letter.ensures.issued) (ap (λ z. z.asked) b.between-is ∙ b.take-letter.ensures.asked) c.target_id-2.ensures c.in-Ok.ensures.messages c.in-Ok.ensures.lines c.in-Ok.ensures.issued c.in-Ok.ensures.asked in
@@ -63,7 +63,7 @@ returns-in-Ok-clause-steps g c r w k = elim c.if-hears.branch [
       w k at c.args.number turn.0 b.take-letter.result picked s.s.durable now.durable s.is.told now.kept_is
       (subst (λ z. Hears x.plan (g.S.Store.state x.store).opening x.memory turn.0 b.take-letter.result.from b.take-letter.result.message (kept s.s.durable (g.S.Store.state x.store)) (kept now.durable (g.S.Store.state y.store)) (y.memory, z)) (sym b.did-is)
       (plainly-heard 0 x.plan (g.S.Store.state x.store).opening x.memory turn.0 b.take-letter.result.from (kept s.s.durable (g.S.Store.state x.store)) (kept now.durable (g.S.Store.state y.store)) _ b.take-letter.result.message
-      heard.form (knows-none_down g.S.Store.durable g.S.Store.state c.args.self.now.clients.items c.args.self.now.targets.items c.args.self.now.between c.args.t c.args.number x b.take-letter.result b.take-letter.new.self.messages c.requires.going at picked s.s.durable s.is.told)
+      form (knows-none_down g.S.Store.durable g.S.Store.state c.args.self.now.clients.items c.args.self.now.targets.items c.args.self.now.between c.args.t c.args.number x b.take-letter.result b.take-letter.new.self.messages c.requires.going at picked s.s.durable s.is.told)
       (now.holds 0)))
       b.in_ok-did.ensures.plan b.in_ok-did.ensures.opened b.in_ok-did.ensures.runs.opening b.in_ok-did.ensures.runs.stops f (ap (λ z. z.1.1.0.items) b.self-is)
   | else-hears+in_ok-did-2 b ↦
@@ -93,7 +93,7 @@ returns-in-Ok-clause-going g c = elim c.if-hears.branch [
       target-on g.S.Store.durable g.S.Store.state now.clients.items now.targets.items now.between c.follow.new.self c.requires.going c.args.t x y c.if-hears.did b.take-letter.new.self.messages c.if-hears.self.1.1.0.items at b.in_ok-did.ensures.plan b.in_ok-did.ensures.opened
       (still_runs stop_store (Ok b.in_ok-did.did) (g.S.Store.state x.store) (g.S.Store.state y.store) (g.S.Store.durable x.store) (g.S.Store.durable y.store) refl b.in_ok-did.ensures.runs)
       (rest-in-form c.requires.going.rules now.between.messages (target c.args.t) c.args.number b.take-letter.result b.take-letter.new.self.messages picked c.requires.going.letters)
-      (subst (λ z. PostsInForm x.plan.targets x.memory.leader y.memory.leader z.posts) (sym b.did-is) (b.in_ok-did.ensures.posts heard.form heard.kind)) f (ap (λ z. z.1.1.0.items) b.self-is)
+      (subst (λ z. PostsInForm x.plan.targets x.memory.leader y.memory.leader z.posts) (sym b.did-is) (b.in_ok-did.ensures.posts heard.kind)) f (ap (λ z. z.1.1.0.items) b.self-is)
       (λ on. keeps-going g.S.Store.durable g.S.Store.state c.args.settling (target c.args.t) c.args.number now.clients.items now.targets.items now.between now.clients.items c.if-hears.self.1.1.0.items c.follow.new.self on (returns-in-Ok-clause-steps g c))
   | else-hears+in_ok-did-2 b ↦
       let now = c.args.self.now in
