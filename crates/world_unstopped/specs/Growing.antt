@@ -1,5 +1,5 @@
 -- The lines of a run only grow; so where none tells of a stop, none did before, and no turn was cut.
-use Rattle.std.specs.Prelude.{ℕ, ◌≡◌, ◌++◌, ◌==◌, Bool, true, false, List, [], ◌∷◌, Option, Some, None, refl, if◌then◌else◌}
+use Rattle.std.specs.Prelude.{ℕ, ◌≡◌, ◌++◌, ◌==◌, Bool, true, false, List, [], ◌∷◌, Some, None, refl, if◌then◌else◌}
 use Rattle.std.proofs.Common.{append-nil, append_assoc, inl, inr, sym, ◌∙◌, ap}
 use Rattle.base_types.specs.declared.report.Line.{Line}
 use Rattle.daos_model.specs.Stops.{stop_numbers}
