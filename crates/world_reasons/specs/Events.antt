@@ -69,7 +69,7 @@ beside r o held h stored w A k =
 -- ---- one event
 
 module _ (r : Rules) (o : Opening) (held : ℕ → List Version) (h : History) (stored : Stored) (w v : World) (A : IsSimple r) (before : AreBefore o held) (k : Accounted r o held h stored w) (e : WorldEvent r w v) where
-  abbrev later : History
+  abbrev pub later : History
   later = stands.later r o held h w v A.some_attempt before k.standing e
 
   standing-then : Standing r o held later v
@@ -109,11 +109,14 @@ module _ (r : Rules) (o : Opening) (held : ℕ → List Version) (h : History) (
       events-keep-known r h w v s.heard.attempts (commits-find r h w s.heard.attempts (stands.right r o held h w v A.some_attempt before s e)) k.downs e
       (stands.no-collections r w e.u e.happens (stands.ours r o held h w v A.some_attempt before s e)) k.knows
 
+  pub accounted-then : Accounted r o held later (stored_in r e.happens ++ stored) v
+  accounted-then = record { standing = standing-then; within = groups-stay r w v e k.within; losses = losses-then; downs = downs-then; knows = knows-then; once = stored-then }
+
   pub still : AccountedStill r o held h (stored_in r e.happens ++ stored) v
   still = record {
     later = later;
     grew = stands.grew r o held h w v A.some_attempt before k.standing e;
-    accounted = record { standing = standing-then; within = groups-stay r w v e k.within; losses = losses-then; downs = downs-then; knows = knows-then; once = stored-then };
+    accounted = accounted-then;
   }
 
 pub events-keep-accounts : EventsKeepAccounts
