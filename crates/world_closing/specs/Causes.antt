@@ -26,6 +26,7 @@ use Rattle.model_reports.specs.Lines.{line-of, one-of-any}
 use Rattle.daos_model.specs.Accesses.{access_paths, minor_writes}
 use Rattle.daos_model.specs.Attempts.{EachTry, has_own_epoch, is_lost, is_restart, is_unknown, tries, up_to_last_of}
 use Rattle.daos_model.specs.BoolLaws.{clash}
+use Rattle.daos_model.specs.Laws.{tries-append}
 use Rattle.daos_model.specs.CausesShown.{AreSpent, AttemptShows, CausesShown, IsFloor, IsGone, IsLaterRead, IsLaterWrite, LacksBlocks, LacksSpace, ShowsFloor, ShowsWhy, StopsAfter, WasAnswered, blocks_at, blocks_of_others, first_epoch, is_snap, lacks_space_at, leader_of_attempt}
 use Rattle.daos_model.specs.CausesShown as shown
 use Rattle.daos_model.specs.Durables.{same_attempt}

@@ -39,15 +39,15 @@ first-of limit client command n (x ∷ []) p a k (inl same) is = record { b = x;
     here : p x ≡ true
     here = subst (λ z. p z ≡ true) same is
 first-of limit client command n (x ∷ []) p a k (inr none) is = absurd none
-first-of limit client command n (x ∷ y ∷ more) p a k i is = by (p x) refl i
+first-of limit client command n (x ∷ y ∷ more) p a k i is = by (p x) refl i (λ j. first-of limit client command (n + 1) (y ∷ more) p a k.3 j is)
   where
     on : IsFirst p (y ∷ more) a → p x ≡ false → IsFirst p (x ∷ y ∷ more) a
     on z off = record { b = z.b; among = inr z.among; found = ap (λ b. if b then Some x else find p (y ∷ more)) off ∙ z.found; passes = z.passes; how = z.how }
 
-    by : (b : Bool) → p x ≡ b → Has a (x ∷ y ∷ more) → IsFirst p (x ∷ y ∷ more) a
-    by true e j = record { b = x; among = inl refl; found = ap (λ b. if b then Some x else find p (y ∷ more)) e; passes = e; how = inr k.1 }
-    by false e (inl same) = clash (p a) is (ap p same ∙ e)
-    by false e (inr j) = on (first-of limit client command (n + 1) (y ∷ more) p a k.3 j is) e
+    by : (b : Bool) → p x ≡ b → Has a (x ∷ y ∷ more) → (Has a (y ∷ more) → IsFirst p (y ∷ more) a) → IsFirst p (x ∷ y ∷ more) a
+    by true e j rest = record { b = x; among = inl refl; found = ap (λ b. if b then Some x else find p (y ∷ more)) e; passes = e; how = inr k.1 }
+    by false e (inl same) rest = clash (p a) is (ap p same ∙ e)
+    by false e (inr j) rest = on (rest j) e
 
 -- ---- the commands of a client
 

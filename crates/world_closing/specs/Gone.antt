@@ -34,5 +34,5 @@ events-go_on r w v e = subst NoneGoesToGivenUp (sym e.after) (swept-none e.u)
 
 -- so it is at each moment of a run from its beginning
 pub none-goes : (r : Rules) (o : Opening) (w v : World) → IsBegun r o w → WorldRun r w v → NoneGoesToGivenUp v
-none-goes r o w v b Begins l t s i to here down = subst (Has l) b.messages i
+none-goes r o w v b Begins = λ l t s i to here down. subst (Has l) b.messages i
 none-goes r o w v b (Goes u x run e) = events-go_on r u v e

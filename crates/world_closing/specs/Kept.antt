@@ -177,7 +177,7 @@ module _ (w v : World) (k : HoldsNoSnapshots w) where
   ]
 
 happening-snaps : (r : Rules) (w v : World) (e : Happening r w v) → HappensWithoutSnapshots e → HoldsNoSnapshots w → HoldsNoSnapshots v
-happening-snaps r w v (Plainly e up) ours k t z at = let s = events-keep-targets r w v e t z at in s.2.keeps.snaps ∙ k t s.0 s.1
+happening-snaps r w v (Plainly e up) ours k = λ t z at. let s = events-keep-targets r w v e t z at in s.2.keeps.snaps ∙ k t s.0 s.1
 happening-snaps r w v (Further more) ours k =
     let g = more.hears in
     one-changed w v k g.t g.s _ g.here (ap (λ u. u.targets) g.after) (further-part (λ d. d.snaps) snaps-made (target_plan r g.t) g.s.opening g.s.memory g.reading g.l.from (kept g.s) more.number g.l.message g.new (g.memory, g.did) ours g.turn)

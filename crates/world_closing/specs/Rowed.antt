@@ -257,12 +257,12 @@ asked-again by x inc q l asks now = let no : ⊥ = cc in absurd no
 -- where no member is down of those that are known to be, none of these members is
 find-none : {T : Type 0} (p : T → Bool) (xs : List T) (x : T) → find p xs ≡ None → Has x xs → p x ≡ false
 find-none p [] x none i = absurd i
-find-none p (y ∷ xs) x none i = cases (p y) refl none i
+find-none p (y ∷ xs) x none i = cases (p y) refl none i (find-none p xs x)
   where
-    cases : (b : Bool) → p y ≡ b → (if b then Some y else find p xs) ≡ None → Has x (y ∷ xs) → p x ≡ false
-    cases true is h j = let no : ⊥ = cc in absurd no
-    cases false off h (inl same) = ap p same ∙ off
-    cases false off h (inr j) = find-none p xs x h j
+    cases : (b : Bool) → p y ≡ b → (if b then Some y else find p xs) ≡ None → Has x (y ∷ xs) → (find p xs ≡ None → Has x xs → p x ≡ false) → p x ≡ false
+    cases true is h j rest = let no : ⊥ = cc in absurd no
+    cases false off h (inl same) rest = ap p same ∙ off
+    cases false off h (inr j) rest = rest h j
 
 pub none-down : (members down m : ℕ) → first_down members down ≡ None → Has m all_targets → has_target members m ≡ true → has_target down m ≡ false
 unfolding first_down

@@ -3,6 +3,7 @@ use Rattle.std.specs.Prelude.{ℕ, ◌≡◌, ◌≤◌, ◌<◌, ◌^◌, ◌&&
 use Rattle.std.specs.List.{list_all}
 use Rattle.std.proofs.Common.{inl, inr, sym, ◌∙◌, ap, subst}
 use Rattle.std.proofs.lemmas.List.Elements.{All-nil}
+use Rattle.base_types.specs.declared.outcome.FloorWhy.TheVariants as why
 use Rattle.base_types.specs.declared.entry.Entry.{Entry}
 use Rattle.base_types.specs.declared.id.AttemptId.{AttemptId}
 use Rattle.base_types.specs.declared.id.ContId.{ContId}
@@ -64,7 +65,7 @@ use Rattle.world_closing.specs.Took.{AreLines, took-same_map}
 none-pruned : (r : Rules) (o : Opening) (v : World) → Unsnapped r → Makings r v → FloorsShown o v → AreUnpruned o v
 none-pruned r o v plain makings floors t s cont here = by (floors.aggregated t s cont here)
   where
-    by : IsTold o v.lines t cont (row_of s.durable cont).aggregated _ → (row_of s.durable cont).aggregated.0 ≤ top o
+    by : IsTold o v.lines t cont (row_of s.durable cont).aggregated (why.Aggregate (row_of s.durable cont).number) → (row_of s.durable cont).aggregated.0 ≤ top o
     by (IsOfBefore low) = low
     by (HasLine some) =
         let l = one-of-any _ v.lines some in
