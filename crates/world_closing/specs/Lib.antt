@@ -13,3 +13,4 @@ pub mod Issued
 pub mod Gone
 pub mod Rowed
 pub mod Waited
+pub mod Asking

@@ -27,6 +27,15 @@ use Rattle.world_attempts.specs.AckTurns.{counted-same}
 use Rattle.world_attempts.specs.MemberBits.{has-with, has-with_other}
 use Rattle.world_attempts.specs.Stored.{row-gone}
 use Rattle.world_attempts.specs.Turning.{one-or_another, one-or_other}
+use Rattle.world_base.specs.declared.did.Did.{Did}
+use Rattle.world_base.specs.declared.target.TargetMemory.{TargetMemory}
+use Rattle.world_base.specs.declared.target.TargetPlan.{TargetPlan}
+use Rattle.world_base.specs.Acks as ack
+use Rattle.world_base.specs.Changes.{Change, Kept, Steps}
+use Rattle.world_base.specs.PathLaws.{reached-keeps}
+use Rattle.world_base.specs.Roles.{leader_at}
+use Rattle.world_base.specs.Statuses.{AtOnce, EndsAs, Looking, Looks, NoChange}
+use Rattle.world_base.specs.Turns.{Whole}
 use Rattle.world_fates.specs.Facts.{asks_for}
 
 -- ---- rows
@@ -201,7 +210,7 @@ down-rows by a l (Some z) (Some own) led row x e held u at = cases (same_attempt
         itself z = same_attempt-itself z
 
 -- a Reset of what a leader asks for an attempt: a member is down, or it is asked what it holds
-abbrev IsAskedFor : Message → AttemptId → Type 0
+abbrev pub IsAskedFor : Message → AttemptId → Type 0
 IsAskedFor (message.Prepare e first ws inc) x = x ≡ e.attempt
 IsAskedFor (message.Status a inc) x = x ≡ a
 IsAskedFor m x = ⊥
@@ -224,7 +233,7 @@ mark-rows by false inc marks l = refl
 
 module _ (by : ℕ) (l : LeaderOf) (x : AttemptId) (e : Entry) (held : entry_led x l ≡ Some e) (u : Undecided) where
   -- where the member is down
-  lost-down : (q : Message) → row_of undecided_attempt x (reset_heard by true q l).leader.memory.undecided ≡ Some u → LostRow l (IsAskedFor q) x u
+  pub lost-down : (q : Message) → row_of undecided_attempt x (reset_heard by true q l).leader.memory.undecided ≡ Some u → LostRow l (IsAskedFor q) x u
   unfolding prepare_reset
   lost-down (message.Prepare k first ws inc) at = down-rows by k.attempt l (entry_led k.attempt l) (undecided_of k.attempt l) refl refl x e held u at
   lost-down (message.Status a inc) at = down-rows by a l (entry_led a l) (undecided_of a l) refl refl x e held u at
@@ -232,7 +241,7 @@ module _ (by : ℕ) (l : LeaderOf) (x : AttemptId) (e : Entry) (held : entry_led
   lost-down q at = StaysThere at (λ i. i)
 
   -- where it stopped alone, all rows stay
-  lost-up : (q : Message) → row_of undecided_attempt x (reset_heard by false q l).leader.memory.undecided ≡ Some u → row_of undecided_attempt x l.memory.undecided ≡ Some u
+  pub lost-up : (q : Message) → row_of undecided_attempt x (reset_heard by false q l).leader.memory.undecided ≡ Some u → row_of undecided_attempt x l.memory.undecided ≡ Some u
   unfolding prepare_reset
   lost-up (message.Prepare k first ws inc) at = ap (row_of undecided_attempt x) (sym (status-rows by k.attempt inc l)) ∙ at
   lost-up (message.Status a inc) at = ap (row_of undecided_attempt x) (sym (status-rows by a inc l)) ∙ at
@@ -267,3 +276,31 @@ find-none p (y ∷ xs) x none i = cases (p y) refl none i (find-none p xs x)
 pub none-down : (members down m : ℕ) → first_down members down ≡ None → Has m all_targets → has_target members m ≡ true → has_target down m ≡ false
 unfolding first_down
 none-down members down m none among member = false_of (has_target down m) (λ is. clash (is_down_among members down m) (both (has_target members m) (has_target down m) member is) (find-none (is_down_among members down) all_targets m none among))
+
+-- ---- turns
+
+-- what an Ack leaves of rows is what follows of it from what was there before
+abbrev AckStands : TargetPlan → TargetMemory → ℕ → AttemptId → ℕ → Option Outcome → Kept → ack.AckStage → Kept → Type 0
+AckStands t m member a inc refusal old ack.Heard k = k ≡ old
+AckStands t m member a inc refusal old (ack.Followed s) k = s ≡ ack_heard member a inc refusal (leader_at t m old.durable)
+
+ack-step : (t : TargetPlan) (m : TargetMemory) (member : ℕ) (a : AttemptId) (inc : ℕ) (refusal : Option Outcome) (old : Kept) (s : ack.AckStage) (k : Kept) (o : Option Change) (u : ack.AckStage) (l : Kept)
+    → ack.AckNext t m member a inc refusal s k o u → Steps o k l → AckStands t m member a inc refusal old s k → AckStands t m member a inc refusal old u l
+ack-step t m member a inc refusal old s k o u l (ack.Aborts j is) steps h = ap (λ n. ack_heard member a inc refusal (leader_at t m n.durable)) h
+ack-step t m member a inc refusal old s k o u l (ack.Counts j is) steps h = ap (λ n. ack_heard member a inc refusal (leader_at t m n.durable)) h
+
+ack-ends : (t : TargetPlan) (m : TargetMemory) (member : ℕ) (a : AttemptId) (inc : ℕ) (refusal : Option Outcome) (old : Kept) (s : ack.AckStage) (k : Kept) (left : TargetMemory × Did)
+    → AckStands t m member a inc refusal old s k → ack.AckEnds m s k left → left.0.leader.undecided ≡ (ack_heard member a inc refusal (leader_at t m old.durable)).leader.memory.undecided
+ack-ends t m member a inc refusal old s k left stands (ack.IsFollowed j step z is) = ap (λ y. y.0.leader.undecided) is ∙ ap (λ y. y.leader.memory.undecided) stands
+
+pub ack-follows : (t : TargetPlan) (m : TargetMemory) (member : ℕ) (a : AttemptId) (inc : ℕ) (refusal : Option Outcome) (old new : Kept) (left : TargetMemory × Did) → Whole (ack.AckNext t m member a inc refusal) (ack.AckEnds m) ack.Heard old new left
+    → left.0.leader.undecided ≡ (ack_heard member a inc refusal (leader_at t m old.durable)).leader.memory.undecided
+ack-follows t m member a inc refusal old new left h =
+    ack-ends t m member a inc refusal old h.last new left (reached-keeps (ack.AckNext t m member a inc refusal) (AckStands t m member a inc refusal old) (ack-step t m member a inc refusal old) ack.Heard old h.last new h.reached refl) h.ends
+
+-- a turn without a change leaves what was kept
+looked : (old : Kept) (s : AtOnce) (k : Kept) (o : Option Change) (u : AtOnce) (l : Kept) → NoChange s k o u → Steps o k l → k ≡ old → l ≡ old
+looked old s k o u l (Looks j) steps h = steps ∙ h
+
+pub looks-same : (left_by : Kept → TargetMemory × Did) (old new : Kept) (left : TargetMemory × Did) → Whole NoChange (EndsAs left_by) Looking old new left → new ≡ old
+looks-same left_by old new left h = reached-keeps NoChange (λ s k. k ≡ old) (looked old) Looking old h.last new h.reached refl
