@@ -1,11 +1,12 @@
 -- Where a run in which targets may stop has ended, and what its report and its stores are to be.
-use Rattle.std.specs.Prelude.{ℕ, ◌≡◌, ◌⊎◌, Bool, true, false, List, [], Contains, slice_get, Some, None}
+use Rattle.std.specs.Prelude.{ℕ, ◌≡◌, ◌⊎◌, ◌<◌, Bool, true, false, List, [], Contains, length, slice_get, Some, None}
 use Rattle.base_types.specs.declared.epoch.Epoch.{Epoch}
 use Rattle.base_types.specs.declared.id.AttemptId.{AttemptId}
 use Rattle.base_types.specs.declared.outcome.Outcome.TheVariants.{Committed}
 use Rattle.base_types.specs.declared.report.Attempt.{Attempt}
 use Rattle.base_types.specs.declared.report.Line.TheVariants as line
 use Rattle.base_types.specs.declared.report.Report.{Report}
+use Rattle.base_messages.specs.declared.actor.ActorId.{ActorId}
 use Rattle.model_laws.specs.Members.{Has}
 use Rattle.daos_model.specs.declared.durable.Version.{Version}
 use Rattle.daos_model.specs.Attempts.{is_unknown, tries}
@@ -16,11 +17,13 @@ use Rattle.daos_model.specs.Stops.{AreCounted, down_targets, least, restart_numb
 use Rattle.dtx_base.specs.declared.leading.Undecided.{Undecided}
 use Rattle.world_attempts.specs.Attempts.{IsOther}
 use Rattle.world_attempts.specs.History.{Decided, History}
+use Rattle.world_base.specs.declared.letter.Letter.{Letter}
 use Rattle.world_base.specs.declared.target.Life.TheVariants.{Down, Running}
 use Rattle.world_base.specs.declared.target.TargetState.{TargetState}
 use Rattle.world_base.specs.declared.world.World.{World}
 use Rattle.world_base.specs.Ended.{HasEnded}
 use Rattle.world_base.specs.Events.{Rules}
+use Rattle.world_base.specs.Letters as letter
 use Rattle.world_base.specs.Stops.{WorldRun}
 use Rattle.world_causes.specs.Shown.{Causes}
 use Rattle.world_ends.specs.Ends.{durables_of, rules_of}
@@ -42,9 +45,15 @@ pub record WaitsForNone (r : Rules) (v : World) (s : TargetState) : Type 0 where
   pub unwaited : (u : Undecided) → Has u s.memory.leader.undecided → u.client ≡ None
   pub lacks : (u : Undecided) → Has u s.memory.leader.undecided → (m : ℕ) × IsOther r u.attempt m × Has (line.Down m) v.lines
 
--- Each target runs or is given up, and what runs waits for nobody who could answer; there is a client for each list of the script; and all
--- clients are done.
+-- neither a client nor a target that is there
+pub record IsNowhere (r : Rules) (a : ActorId) : Type 0 where
+  pub client : (n : ℕ) → n < length r.script.clients → a ≡ letter.client n → ⊥
+  pub target : (t : ℕ) → t < r.script.targets → a ≡ letter.target t → ⊥
+
+-- Nothing in flight goes to anyone who is there. Each target runs or is given up, and what runs waits for nobody who could answer; there is a
+-- client for each list of the script; and all clients are done.
 pub record IsOver (r : Rules) (v : World) : Type 0 where
+  pub silent : (l : Letter) → Has l v.messages → IsNowhere r l.to
   pub targets : NoneIsStopped v
   pub rest : (t : ℕ) (s : TargetState) → slice_get v.targets t ≡ Some s → s.life ≡ Running → WaitsForNone r v s
   pub clients : HasClients r v

@@ -41,7 +41,7 @@ use Rattle.world_closing.specs.Closing.{IsResolved}
 
 -- ---- who is there
 
-writes-led : (ws : List MinorWrite) (n : ℕ) → 0 < n → writes_leader ws n < n
+pub writes-led : (ws : List MinorWrite) (n : ℕ) → 0 < n → writes_leader ws n < n
 unfolding writes_leader
 writes-led [] n some = some
 writes-led (w ∷ ws) n some = leader-within (write_path w.write) n some

@@ -14,3 +14,4 @@ pub mod Gone
 pub mod Rowed
 pub mod Waited
 pub mod Asking
+pub mod Done
