@@ -15,3 +15,4 @@ pub mod Rowed
 pub mod Waited
 pub mod Asking
 pub mod Done
+pub mod Runs

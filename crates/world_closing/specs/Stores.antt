@@ -62,7 +62,7 @@ use Rattle.world_closing.specs.Took.{AreLines, took-same_map}
 -- ---- nothing is aggregated
 
 -- a line that tells of an aggregation comes of one
-none-pruned : (r : Rules) (o : Opening) (v : World) → Unsnapped r → Makings r v → FloorsShown o v → AreUnpruned o v
+pub none-pruned : (r : Rules) (o : Opening) (v : World) → Unsnapped r → Makings r v → FloorsShown o v → AreUnpruned o v
 none-pruned r o v plain makings floors t s cont here = by (floors.aggregated t s cont here)
   where
     by : IsTold o v.lines t cont (row_of s.durable cont).aggregated (why.Aggregate (row_of s.durable cont).number) → (row_of s.durable cont).aggregated.0 ≤ top o
