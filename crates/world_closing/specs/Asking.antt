@@ -1,9 +1,8 @@
 -- Whatever happens keeps that each other member of an attempt for which a client waits is asked, or about to answer, unless it is counted.
-use Rattle.std.specs.Prelude.{ℕ, ◌≡◌, ◌⊎◌, ◌≤◌, ◌<◌, ◌+◌, ◌==◌, ◌&&◌, ◌++◌, not, Bool, true, false, List, [], ◌∷◌, filter, length, map, slice_get, Option, Some, None, refl}
+use Rattle.std.specs.Prelude.{ℕ, ◌≡◌, ◌⊎◌, ◌≤◌, ◌<◌, ◌+◌, ◌==◌, ◌&&◌, ◌++◌, not, Bool, true, false, List, filter, length, slice_get, Option, Some, None, refl}
 use Rattle.std.proofs.Common.{sym, ◌∙◌, ap, subst, arith, inl, inr}
 use Rattle.std.proofs.Math.ListN.{set}
 use Rattle.base_types.specs.declared.entry.Entry.{Entry}
-use Rattle.base_types.specs.declared.entry.EntryState.{EntryState}
 use Rattle.base_types.specs.declared.epoch.Epoch.{Epoch}
 use Rattle.base_types.specs.declared.id.AttemptId.{AttemptId}
 use Rattle.base_types.specs.declared.operation.MinorWrite.{MinorWrite}
@@ -13,7 +12,6 @@ use Rattle.base_types.specs.Placement.{writes_members}
 use Rattle.base_messages.specs.declared.actor.ActorId.{ActorId}
 use Rattle.base_messages.specs.declared.message.Message.{Message, more_of-Message}
 use Rattle.base_messages.specs.declared.message.Message.TheVariants as message
-use Rattle.base_messages.specs.declared.message.Post.{Post}
 use Rattle.daos_model.specs.BoolLaws.{and_left, and_right, clash, false_of}
 use Rattle.daos_model.specs.Durables.{entry_of, same_attempt}
 use Rattle.dtx_base.specs.declared.leading.Undecided.{Undecided}
@@ -33,30 +31,23 @@ use Rattle.world_attempts.specs.Counting.{count-some, has-taken}
 use Rattle.world_attempts.specs.History.{History}
 use Rattle.world_attempts.specs.MarkTurns.{found-led, led-found}
 use Rattle.world_attempts.specs.MemberBits.{has-none, is-other_same, other-no_leader}
-use Rattle.world_attempts.specs.Stored.{row-found}
 use Rattle.world_attempts.specs.Turning.{one-or_another}
-use Rattle.world_base.specs.declared.did.Did.{Did}
 use Rattle.world_base.specs.declared.letter.Letter.{Letter}
 use Rattle.world_base.specs.declared.target.Life.TheVariants.{Down, Running, Stopped}
-use Rattle.world_base.specs.declared.target.TargetMemory.{TargetMemory}
 use Rattle.world_base.specs.declared.target.TargetPlan.{TargetPlan}
 use Rattle.world_base.specs.declared.target.TargetState.{TargetState}
 use Rattle.world_base.specs.declared.world.World.{World}
-use Rattle.world_base.specs.Acks as ack
 use Rattle.world_base.specs.ChangeLaws.{incarnation-made}
-use Rattle.world_base.specs.Changes.{Change, Kept, Steps}
 use Rattle.world_base.specs.Commits.{bits_of}
 use Rattle.world_base.specs.Events.{ByClient, ByTarget, Event, Rules, TargetHearsBy, TargetHearsRightly, TargetIdles, ToClient, ToTarget, kept, target_after, target_plan}
 use Rattle.world_base.specs.Further.{HearsFurther, KnowsNoneDown, reset_by}
 use Rattle.world_base.specs.Letters.{letter_of, target}
 use Rattle.world_base.specs.MemoryLaws.{idle-leaves}
-use Rattle.world_base.specs.PathLaws.{reached-keeps}
 use Rattle.world_base.specs.RightTurns.{HearsRightly}
 use Rattle.world_base.specs.Roles.{leader_at}
 use Rattle.world_base.specs.Statuses.{ask_left, reset_joins, reset_leads, reset_left, status_left, status_refusal}
-use Rattle.world_base.specs.Stops.{Draws, Fails, Further, GivenUp, Happening, HearsMore, IsCut, NoneDown, Opens, Plainly, WorldEvent, is_not_to, opened_at, resets, stopped_at}
+use Rattle.world_base.specs.Stops.{Draws, Fails, Further, GivenUp, Happening, HearsMore, IsCut, NoneDown, Opens, Plainly, WorldEvent, is_not_to, opened_at, stopped_at}
 use Rattle.world_base.specs.TargetTurns.{Hearing}
-use Rattle.world_base.specs.Turns.{Whole}
 use Rattle.world_fates.specs.Asked.{AskedRight}
 use Rattle.world_fates.specs.Facts.{Attempts, IsOneUnless, answers_for, asks_for, down_in, is_talk, knows_down, talking}
 use Rattle.world_fates.specs.Rightly.{letters-tell}

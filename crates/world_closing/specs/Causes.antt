@@ -1,11 +1,10 @@
 -- When all attempts have their lines, every line shows its cause in the whole list of lines, where targets may stop too.
-use Rattle.std.specs.Prelude.{ℕ, ◌≡◌, ◌≢◌, ◌⊎◌, ◌≤◌, ◌<◌, ◌+◌, ◌*◌, ◌^◌, ◌++◌, ◌==◌, Bool, true, false, not, max, nat_lt, nat_eq, Any, List, [], ◌∷◌, length, map, Contains, is_some, Option, Some, None, refl}
+use Rattle.std.specs.Prelude.{ℕ, ◌≡◌, ◌≢◌, ◌⊎◌, ◌≤◌, ◌<◌, ◌+◌, ◌*◌, ◌^◌, ◌++◌, ◌==◌, Bool, true, false, not, max, nat_lt, Any, List, [], ◌∷◌, length, Contains, is_some, Option, Some, None, refl}
 use Rattle.std.proofs.Common.{append_assoc, sym, ◌∙◌, ap, subst, inl, inr, arith}
 use Rattle.std.proofs.lemmas.Bool.Decides.{nat_tests}
 use Rattle.std.proofs.lemmas.List.{length-append}
 use Rattle.base_types.specs.declared.epoch.Epoch.{Epoch}
 use Rattle.base_types.specs.declared.id.AttemptId.{AttemptId}
-use Rattle.base_types.specs.declared.outcome.Cause.{Cause}
 use Rattle.base_types.specs.declared.outcome.Cause.TheVariants as cause
 use Rattle.base_types.specs.declared.outcome.FloorWhy.{FloorWhy}
 use Rattle.base_types.specs.declared.outcome.Outcome.{Outcome}
@@ -20,11 +19,11 @@ use Rattle.base_types.specs.Epochs.{last_ticks}
 use Rattle.base_types.specs.Operations.{write_path}
 use Rattle.base_types.specs.Paths.{overlaps}
 use Rattle.model_laws.specs.Lists.{any-of}
-use Rattle.model_laws.specs.Members.{Has, contains-from_has, has-from_contains, has-from_map, has-left, has-right}
+use Rattle.model_laws.specs.Members.{Has, contains-from_has, has-from_contains, has-from_map, has-left}
 use Rattle.model_laws.specs.TargetLaws.{same_number}
 use Rattle.model_reports.specs.Lines.{line-of, one-of-any}
 use Rattle.daos_model.specs.Accesses.{access_paths, minor_writes}
-use Rattle.daos_model.specs.Attempts.{EachTry, has_own_epoch, is_lost, is_restart, is_unknown, tries, up_to_last_of}
+use Rattle.daos_model.specs.Attempts.{has_own_epoch, is_lost, is_restart, is_unknown, tries, up_to_last_of}
 use Rattle.daos_model.specs.BoolLaws.{clash}
 use Rattle.daos_model.specs.Laws.{tries-append}
 use Rattle.daos_model.specs.CausesShown.{AreSpent, AttemptShows, CausesShown, IsFloor, IsGone, IsLaterRead, IsLaterWrite, LacksBlocks, LacksSpace, ShowsFloor, ShowsWhy, StopsAfter, WasAnswered, blocks_at, blocks_of_others, first_epoch, is_snap, lacks_space_at, leader_of_attempt}
@@ -319,15 +318,18 @@ module _ (g : Given) (stored : Stored) (v : World) (T : AllAreTold g stored v) (
 
     other-unresolved : (by : AttemptId) → MeetsOther r v.issued a.id by → IsOpenTo g.script before a.id by → Any (λ b. (b.id ≡ by) × shown.IsUnresolved g.script v.lines before a b) (tries v.lines)
     other-unresolved by k open' =
-        any-of (λ b. (b.id ≡ by) × shown.IsUnresolved g.script v.lines before a b) (tries v.lines) b.0 (has-from_contains (tries v.lines) b.0 b.1) (b.2, record {
-          own = k.own;
-          issued = its-epoch k.own k.its;
-          its = k.other;
-          its_issued = b.3;
-          below = k.below;
-          overlap = subst (λ y. Any (λ w. Any (λ p. overlaps p (write_path w.write) ≡ true) (access_paths (attempt_ops g.script a.id))) (minor_writes 0 (attempt_ops g.script y))) (sym b.2) k.overlap;
-          unresolved = open-is by b.0 (has-from_contains (tries v.lines) b.0 b.1) b.2 open';
-        })
+        any-of (λ b. (b.id ≡ by) × shown.IsUnresolved g.script v.lines before a b) (tries v.lines) b.0 (has-from_contains (tries v.lines) b.0 b.1) (
+          b.2,
+          record {
+            own = k.own;
+            issued = its-epoch k.own k.its;
+            its = k.other;
+            its_issued = b.3;
+            below = k.below;
+            overlap = subst (λ y. Any (λ w. Any (λ p. overlaps p (write_path w.write) ≡ true) (access_paths (attempt_ops g.script a.id))) (minor_writes 0 (attempt_ops g.script y))) (sym b.2) k.overlap;
+            unresolved = open-is by b.0 (has-from_contains (tries v.lines) b.0 b.1) b.2 open';
+          },
+        )
       where
         b : HasLine v by k.other
         b = T.issued by k.other k.others

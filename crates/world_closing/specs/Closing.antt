@@ -1,5 +1,5 @@
 -- Where a run in which targets may stop has ended, and what its report and its stores are to be.
-use Rattle.std.specs.Prelude.{ℕ, ◌≡◌, ◌⊎◌, ◌<◌, Bool, true, false, List, [], Contains, length, slice_get, Some, None}
+use Rattle.std.specs.Prelude.{ℕ, ◌≡◌, ◌⊎◌, ◌<◌, true, false, List, [], Contains, length, slice_get, Some, None}
 use Rattle.base_types.specs.declared.epoch.Epoch.{Epoch}
 use Rattle.base_types.specs.declared.id.AttemptId.{AttemptId}
 use Rattle.base_types.specs.declared.outcome.Outcome.TheVariants.{Committed}
@@ -18,7 +18,7 @@ use Rattle.dtx_base.specs.declared.leading.Undecided.{Undecided}
 use Rattle.world_attempts.specs.Attempts.{IsOther}
 use Rattle.world_attempts.specs.History.{Decided, History}
 use Rattle.world_base.specs.declared.letter.Letter.{Letter}
-use Rattle.world_base.specs.declared.target.Life.TheVariants.{Down, Running}
+use Rattle.world_base.specs.declared.target.Life.TheVariants.{Running}
 use Rattle.world_base.specs.declared.target.TargetState.{TargetState}
 use Rattle.world_base.specs.declared.world.World.{World}
 use Rattle.world_base.specs.Ended.{HasEnded}

@@ -1,5 +1,5 @@
 -- What became of attempts where a run has ended: a history goes on in which just those are decided that the targets hold resolved.
-use Rattle.std.specs.Prelude.{ℕ, ◌≡◌, ◌⊎◌, ◌++◌, Bool, true, false, List, [], ◌∷◌, filter, length, slice_get, Contains, Option, Some, None, refl}
+use Rattle.std.specs.Prelude.{ℕ, ◌≡◌, ◌⊎◌, ◌++◌, Bool, true, List, [], ◌∷◌, filter, length, slice_get, Contains, Option, Some, None, refl}
 use Rattle.std.proofs.Common.{inl, inr, sym, ◌∙◌, ap, subst}
 use Rattle.base_types.specs.declared.entry.Entry.{Entry}
 use Rattle.base_types.specs.declared.epoch.Epoch.{Epoch}
@@ -17,7 +17,7 @@ use Rattle.daos_model.specs.Durables.{entry_of}
 use Rattle.daos_model.specs.Family.{resolved}
 use Rattle.daos_model.specs.Opening.{Opening, top}
 use Rattle.dtx_base.specs.Leading.{entry_attempt}
-use Rattle.world_attempts.specs.Attempts.{IsItsEntry, IsOther, entry_at, entry_in, leader_of}
+use Rattle.world_attempts.specs.Attempts.{IsItsEntry, entry_at, entry_in, leader_of}
 use Rattle.world_attempts.specs.History.{Decided, History}
 use Rattle.world_attempts.specs.MarkTurns.{found-attempt}
 use Rattle.world_attempts.specs.Stored.{row-found}

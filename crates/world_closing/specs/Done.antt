@@ -8,14 +8,12 @@ use Rattle.std.proofs.lemmas.Option.{slice_get_past}
 use Rattle.base_types.specs.declared.epoch.Epoch.{Epoch}
 use Rattle.base_types.specs.declared.id.AttemptId.{AttemptId}
 use Rattle.base_types.specs.declared.id.ObjId.{ObjId}
-use Rattle.base_types.specs.declared.operation.MinorWrite.{MinorWrite}
 use Rattle.base_types.specs.declared.report.Attempt.{Attempt}
 use Rattle.base_types.specs.declared.report.Line.TheVariants as line
 use Rattle.base_types.specs.Placement.{members}
 use Rattle.base_types.specs.PlacementLaws.{members-within}
 use Rattle.base_types.specs.Operations.{read_path}
 use Rattle.base_messages.specs.declared.actor.ActorId.{ActorId}
-use Rattle.base_messages.specs.declared.message.Message.{Message}
 use Rattle.base_messages.specs.declared.message.Message.TheVariants as message
 use Rattle.base_messages.specs.declared.message.Post.{Post}
 use Rattle.daos_model.specs.BoolLaws.{clash}
@@ -49,7 +47,7 @@ use Rattle.world_base.specs.Events.{Rules, client_plan}
 use Rattle.world_base.specs.Letters.{client, is_talk_of, letter_of, target}
 use Rattle.world_clients.specs.Standing.{AreOfPresent, HasTold, has_number, number_of}
 use Rattle.world_fates.specs.Facts.{IsOneUnless, IsSaidSo, down_in, is_talk, knows_down, talking}
-use Rattle.world_lines.specs.LastLines.{AreDone, HasClients}
+use Rattle.world_lines.specs.LastLines.{HasClients}
 use Rattle.world_lives.specs.Legal.{NoneIsStopped}
 use Rattle.world_questions.specs.Facts.{IsAsked, IsOnQuery, IsReset}
 use Rattle.world_reasons.specs.Accounted.{Accounted}

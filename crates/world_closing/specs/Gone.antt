@@ -1,5 +1,5 @@
 -- Nothing goes to a target that was given up: what did is lost in the same event.
-use Rattle.std.specs.Prelude.{ℕ, zero, suc, ◌≡◌, ◌&&◌, ◌++◌, Bool, true, false, not, List, [], ◌∷◌, filter, map, slice_get, Some}
+use Rattle.std.specs.Prelude.{ℕ, zero, suc, ◌≡◌, ◌&&◌, ◌++◌, true, not, List, [], ◌∷◌, filter, map, slice_get, Some}
 use Rattle.std.proofs.Common.{sym, ◌∙◌, ap, subst}
 use Rattle.model_laws.specs.Members.{Has, has-from_filter}
 use Rattle.daos_model.specs.BoolLaws.{clash}

@@ -16,7 +16,7 @@ use Rattle.base_types.specs.Placement.{writes_leader, writes_members}
 use Rattle.model_laws.specs.FamilyLaws.{leader-within}
 use Rattle.model_laws.specs.JoinLaws.{has-range}
 use Rattle.model_laws.specs.Lists.{at-within, has-at, place-of}
-use Rattle.model_laws.specs.Members.{Has, any-has, has-any, has-from_contains, has-from_filter}
+use Rattle.model_laws.specs.Members.{Has, any-has, has-any, has-from_filter}
 use Rattle.daos_model.specs.declared.durable.Durable.{Durable}
 use Rattle.daos_model.specs.BoolLaws.{and_left, and_right, both, clash, or_from_right}
 use Rattle.daos_model.specs.Durables.{entry_of}
@@ -33,7 +33,6 @@ use Rattle.world_base.specs.declared.world.World.{World}
 use Rattle.world_base.specs.Events.{Rules}
 use Rattle.world_ends.specs.Ends.{durable_of, durables_of}
 use Rattle.world_ends.specs.LastStand.{from-durables}
-use Rattle.world_reads.specs.ChangeLaws.{entry-among}
 use Rattle.world_whole.specs.BeginLaws.{get-map}
 use Rattle.world_whole.specs.ScriptForm.{of-end}
 use Rattle.world_whole.specs.Sharing.{members-below}

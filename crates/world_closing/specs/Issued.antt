@@ -19,7 +19,7 @@ use Rattle.world_base.specs.declared.world.World.{World}
 use Rattle.world_base.specs.Acks as ack
 use Rattle.world_base.specs.Changes.{Kept}
 use Rattle.world_base.specs.Commits as commit
-use Rattle.world_base.specs.CutTurns.{CutTurn, Cutting, HearingIsCut, issued_by_commit, issued_by_fetch, listed_issue}
+use Rattle.world_base.specs.CutTurns.{Cutting, HearingIsCut, issued_by_commit, issued_by_fetch, listed_issue}
 use Rattle.world_base.specs.Events.{Rules, kept, listed, target_plan}
 use Rattle.world_base.specs.Further.{CommitDown, HearsFurther, IsSpent, IsUnknown}
 use Rattle.world_base.specs.Reads as read

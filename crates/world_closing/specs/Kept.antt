@@ -1,5 +1,5 @@
 -- What every event leaves: how many targets and clients there are; and that no snapshot is held, where nothing is heard of snapshots.
-use Rattle.std.specs.Prelude.{ℕ, ◌≡◌, ◌⊎◌, Bool, true, List, [], length, map, slice_get, Option, Some, None, refl}
+use Rattle.std.specs.Prelude.{ℕ, ◌≡◌, true, List, [], length, slice_get, Option, Some, None, refl}
 use Rattle.std.proofs.Common.{inl, inr, sym, ◌∙◌, ap, subst}
 use Rattle.std.proofs.Math.ListN.{set}
 use Rattle.std.proofs.lemmas.List.{length-set}
@@ -21,7 +21,7 @@ use Rattle.world_base.specs.declared.target.TargetState.{TargetState}
 use Rattle.world_base.specs.declared.world.World.{World}
 use Rattle.world_base.specs.ChangeLaws.{snaps-made}
 use Rattle.world_base.specs.Changes.{Change, Creates, Extends, Freezes, IsPlainly, Kept, Prepares, Prunes, Settles, is_plain, made}
-use Rattle.world_base.specs.CutTurns.{CutTurn, Cutting, HearingIsCut, IdleWorkIsCut}
+use Rattle.world_base.specs.CutTurns.{CutTurn, Cutting, HearingIsCut}
 use Rattle.world_base.specs.Events.{ByClient, ByTarget, Rules, ToClient, ToTarget, kept, target_plan}
 use Rattle.world_base.specs.Further.{HearsFurther}
 use Rattle.world_base.specs.PathLaws.{step-leaves, whole-leaves}
@@ -34,8 +34,7 @@ use Rattle.world_base.specs.TargetTurns.{commit_request, fetch_request, prepare_
 use Rattle.world_base.specs.Turns.{Whole}
 use Rattle.world_epochs.specs.Sayings.{Known, StepFits}
 use Rattle.world_hearing.specs.Storing.{AllFit, ack-fits, commit-fits, fetch-fits, idle-fits, look-fits, mark-fits, marked-fits, prepare-fits, query-fits, verdict-fits}
-use Rattle.world_lives.specs.Adding.{Adds}
-use Rattle.world_lives.specs.Events.{happening-adds, stops_in}
+use Rattle.world_lives.specs.Events.{happening-adds}
 use Rattle.world_reads.specs.EventLaws.{at-or-there}
 use Rattle.world_restarts.specs.CutLaws.{commit-is-cut}
 use Rattle.world_restarts.specs.Cuts.{cut-keeps}

@@ -1,7 +1,6 @@
 -- When a run is over, the outcomes that its lines tell are legal, and so is what lines tell of stops.
-use Rattle.std.specs.Prelude.{ℕ, suc, ◌≡◌, ◌≢◌, ◌<◌, ◌+◌, ◌++◌, ◌⊎◌, Bool, true, false, is_some, All, List, [], ◌∷◌, length, map, slice_get, Contains, Option, Some, None, refl}
+use Rattle.std.specs.Prelude.{ℕ, suc, ◌≡◌, ◌≢◌, ◌+◌, ◌++◌, ◌⊎◌, true, false, is_some, List, [], ◌∷◌, length, map, slice_get, Option, Some, None, refl}
 use Rattle.std.proofs.Common.{sym, ◌∙◌, ap, subst, inl, inr, arith}
-use Rattle.std.proofs.lemmas.List.Elements.{All-nil}
 use Rattle.base_types.specs.declared.epoch.Epoch.{Epoch}
 use Rattle.base_types.specs.declared.operation.MinorWrite.{MinorWrite}
 use Rattle.base_types.specs.declared.operation.Op.{Op}
@@ -15,7 +14,7 @@ use Rattle.base_types.specs.declared.script.Command.TheVariants.{Aggregate, Snap
 use Rattle.base_types.specs.declared.script.Script.{Script}
 use Rattle.base_types.specs.Scripts.{IsInForm}
 use Rattle.model_laws.specs.DecidedLaws.{all-from_has, has-all}
-use Rattle.model_laws.specs.Members.{Has, contains-from_has, has-cases, has-filter, has-from_contains, has-right}
+use Rattle.model_laws.specs.Members.{Has, contains-from_has, has-cases, has-filter}
 use Rattle.model_laws.specs.TargetLaws.{same_number}
 use Rattle.daos_model.specs.declared.stand.Stand.{Stand}
 use Rattle.daos_model.specs.Accesses.{minor_writes}
@@ -27,7 +26,7 @@ use Rattle.daos_model.specs.OutcomesLegal.{OutcomesLegal}
 use Rattle.daos_model.specs.Snapshots.{ComesFrom, NoneLegal, SnapshotsLegal}
 use Rattle.daos_model.specs.Stops.{AreCounted, StopsLegal, aggregate_numbers, restart_numbers}
 use Rattle.daos_model.specs.Transactions.{attempt_ops, command_of, numbered_at}
-use Rattle.world_attempts.specs.History.{Decided, History}
+use Rattle.world_attempts.specs.History.{History}
 use Rattle.world_base.specs.declared.client.ClientState.{ClientState}
 use Rattle.world_base.specs.declared.world.World.{World}
 use Rattle.world_base.specs.Events.{Rules, client_plan}
@@ -36,14 +35,13 @@ use Rattle.world_causes.specs.Shown.{Causes, OutcomeStands}
 use Rattle.world_clients.specs.Answered.{EndsAsAnswered, EndsWell, IsAnsweredWhole}
 use Rattle.world_ends.specs.Ends.{rules_of}
 use Rattle.world_ends.specs.FormLaws.{no-ops, no-snaps, some-op}
-use Rattle.world_epochs.specs.Epochs.{Epochs, Unsnapped, is_unsnapped}
+use Rattle.world_epochs.specs.Epochs.{Epochs, Unsnapped}
 use Rattle.world_epochs.specs.PlainScripts.{command-plain, no-snapshots}
 use Rattle.world_gots.specs.Gots.{AreServed, Gots, IsLineServed}
 use Rattle.world_gots.specs.StepGots.{ops-of-attempt}
 use Rattle.world_gots.specs.ToldLaws.{nothing-told}
 use Rattle.world_lines.specs.LastLines.{AreDone, HasClients, lines-answered, lines-in-turn}
 use Rattle.world_lines.specs.Lines.{Lines}
-use Rattle.world_lives.specs.Counting.{AreCountedSo}
 use Rattle.world_lives.specs.Legal.{AreCaused, NoneIsStopped, stops-legal}
 use Rattle.world_lives.specs.Lives.{Lives}
 use Rattle.world_outcomes.specs.Outcomes.{Outcomes}

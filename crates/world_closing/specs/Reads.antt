@@ -1,9 +1,8 @@
 -- When a run is over, what its lines tell of reads is what the transactions that took effect give.
-use Rattle.std.specs.Prelude.{ℕ, ◌≡◌, Bool, List, All, Contains, Option, Some, None}
-use Rattle.std.proofs.Common.{inl, sym, ◌∙◌, ap, subst}
+use Rattle.std.specs.Prelude.{ℕ, ◌≡◌, Bool, List, Option, Some, None}
+use Rattle.std.proofs.Common.{sym, ◌∙◌, ap, subst}
 use Rattle.base_types.specs.declared.answer.Answer.{Answer}
 use Rattle.base_types.specs.declared.epoch.Epoch.{Epoch}
-use Rattle.base_types.specs.declared.id.AttemptId.{AttemptId}
 use Rattle.base_types.specs.declared.operation.Op.{Op}
 use Rattle.base_types.specs.declared.operation.Read.TheVariants as read
 use Rattle.base_types.specs.declared.report.Attempt.{Attempt}
@@ -29,7 +28,7 @@ use Rattle.daos_model.specs.Opening.{Opening}
 use Rattle.daos_model.specs.ReadsLegal.{AttemptReadsLegal, IsRightAnswer, IsRightCondition, IsToldRight, ReadsLegal, map_at, map_read}
 use Rattle.daos_model.specs.TookEffect.{took}
 use Rattle.daos_model.specs.Transactions.{attempt_ops}
-use Rattle.world_attempts.specs.History.{History, Served}
+use Rattle.world_attempts.specs.History.{History}
 use Rattle.world_base.specs.declared.world.World.{World}
 use Rattle.world_base.specs.ClientTurns.{is_yes}
 use Rattle.world_base.specs.Events.{Rules}

@@ -1,26 +1,25 @@
 -- What a leader's steps leave of the rows for which clients wait.
-use Rattle.std.specs.Prelude.{ℕ, ◌≡◌, ◌⊎◌, ◌==◌, ◌&&◌, ◌||◌, not, Bool, true, false, List, [], ◌∷◌, map, find, Option, Some, None, refl, is_none, if◌then◌else◌}
+use Rattle.std.specs.Prelude.{ℕ, ◌≡◌, ◌==◌, ◌&&◌, ◌||◌, Bool, true, false, List, [], ◌∷◌, map, find, Option, Some, None, refl, if◌then◌else◌}
 use Rattle.std.specs.Option.{option_map}
 use Rattle.std.proofs.Common.{sym, ◌∙◌, ap, subst, inl, inr}
 use Rattle.base_types.specs.declared.entry.Entry.{Entry}
 use Rattle.base_types.specs.declared.id.AttemptId.{AttemptId}
 use Rattle.base_types.specs.declared.outcome.Outcome.{Outcome}
-use Rattle.base_types.specs.declared.outcome.Outcome.TheVariants.{Committed, Unknown}
+use Rattle.base_types.specs.declared.outcome.Outcome.TheVariants.{Committed}
 use Rattle.base_messages.specs.declared.actor.ActorId.{ActorId}
 use Rattle.base_messages.specs.declared.message.Message.{Message}
 use Rattle.base_messages.specs.declared.message.Message.TheVariants as message
 use Rattle.base_messages.specs.declared.message.Post.{Post}
-use Rattle.model_laws.specs.JoinLaws.{has-range}
 use Rattle.model_laws.specs.Members.{Has}
 use Rattle.model_laws.specs.TargetLaws.{number_same}
-use Rattle.daos_model.specs.BoolLaws.{and_left, and_right, both, clash, false_of}
+use Rattle.daos_model.specs.BoolLaws.{and_right, both, clash, false_of}
 use Rattle.daos_model.specs.Durables.{same_attempt}
 use Rattle.daos_model.specs.EntryLaws.{same_attempt-itself}
 use Rattle.dtx_base.specs.declared.leading.Undecided.{Undecided}
-use Rattle.dtx_base.specs.Asking.{ask_heard, asked_of, asked_open, tells_end, waits_at, waited_by}
+use Rattle.dtx_base.specs.Asking.{ask_heard, asked_of, asked_open, tells_end, waits_at}
 use Rattle.dtx_base.specs.LeaderLaws.{same-is}
-use Rattle.dtx_base.specs.Leading.{LeaderOf, LeaderStep, ack_heard, answer_heard, answer_if_awaited, counted_at, decided, down_told, ended, entry_led, first_down, is_down_among, knowing, mark_reset, ok_heard, prepare_reset, quietly, reset_heard, reset_of, status_asked, to_target, undecided_attempt, undecided_of, unwaited_at, with_undecided}
-use Rattle.dtx_base.specs.Members.{all_targets, are_all_counted, has_target, is_other_member, other_members, with_target}
+use Rattle.dtx_base.specs.Leading.{LeaderOf, ack_heard, answer_heard, answer_if_awaited, counted_at, decided, down_told, ended, entry_led, first_down, is_down_among, knowing, mark_reset, ok_heard, prepare_reset, quietly, reset_heard, status_asked, to_target, undecided_attempt, undecided_of, unwaited_at, with_undecided}
+use Rattle.dtx_base.specs.Members.{all_targets, are_all_counted, has_target, is_other_member, with_target}
 use Rattle.dtx_base.specs.RowLaws.{row-is, row-map, row-without}
 use Rattle.dtx_base.specs.Rows.{is_among, row_of, without_row}
 use Rattle.world_attempts.specs.AckTurns.{counted-same}

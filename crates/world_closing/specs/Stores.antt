@@ -1,26 +1,23 @@
 -- When a run is over, the targets stand for exactly what took effect, those that were given up too, and replicas agree.
-use Rattle.std.specs.Prelude.{ℕ, ◌≡◌, ◌≤◌, ◌<◌, ◌^◌, ◌&&◌, ◌||◌, ◌==◌, ◌⊎◌, Bool, true, false, nat_lt, List, [], ◌∷◌, filter, length, map, slice_get, All, Contains, Option, Some, None, refl}
+use Rattle.std.specs.Prelude.{ℕ, ◌≡◌, ◌≤◌, ◌<◌, ◌^◌, ◌&&◌, ◌||◌, ◌==◌, ◌⊎◌, Bool, true, false, nat_lt, List, [], filter, length, map, slice_get, All, Contains, Some, refl}
 use Rattle.std.specs.List.{list_all}
 use Rattle.std.proofs.Common.{inl, inr, sym, ◌∙◌, ap, subst}
 use Rattle.std.proofs.lemmas.List.Elements.{All-nil}
 use Rattle.base_types.specs.declared.outcome.FloorWhy.TheVariants as why
-use Rattle.base_types.specs.declared.entry.Entry.{Entry}
 use Rattle.base_types.specs.declared.id.AttemptId.{AttemptId}
-use Rattle.base_types.specs.declared.id.ContId.{ContId}
 use Rattle.base_types.specs.declared.report.Attempt.{Attempt}
-use Rattle.base_types.specs.declared.script.Command.TheVariants.{Aggregate, Snap}
+use Rattle.base_types.specs.declared.script.Command.TheVariants.{Snap}
 use Rattle.model_laws.specs.Decided as decided
 use Rattle.model_laws.specs.DecidedLaws.{all-from_has}
 use Rattle.model_laws.specs.FamilyLaws.{EachGivesOwn, HasNoneUnowned, IsFamilyInForm, as_of-objects, families-agree, families-stand_for}
 use Rattle.model_laws.specs.Lists.{place-of}
 use Rattle.model_laws.specs.MatchLaws.{filter_on, matches-give}
 use Rattle.model_laws.specs.Matches.{GivesAsOf, counts_under}
-use Rattle.model_laws.specs.Members.{Has, contains-from_has, has-from_contains, has-from_map}
+use Rattle.model_laws.specs.Members.{contains-from_has, has-from_contains, has-from_map}
 use Rattle.model_laws.specs.TargetLaws.{as_of-dkeys, same_number}
 use Rattle.model_laws.specs.Targets.{is_own}
 use Rattle.model_reports.specs.Lines.{one-of-any}
 use Rattle.daos_model.specs.declared.cell.CellValue.{CellValue}
-use Rattle.daos_model.specs.declared.durable.Durable.{Durable}
 use Rattle.daos_model.specs.declared.durable.Version.{Version}
 use Rattle.daos_model.specs.declared.stand.SnapMap.{SnapMap}
 use Rattle.daos_model.specs.declared.stand.Stand.{Stand}
@@ -29,7 +26,7 @@ use Rattle.daos_model.specs.AsOf.{as_of}
 use Rattle.daos_model.specs.Attempts.{tries}
 use Rattle.daos_model.specs.BoolLaws.{both, false_of}
 use Rattle.daos_model.specs.Cells.{value_at}
-use Rattle.daos_model.specs.Durables.{entry_of, is_version_in_form, row_of}
+use Rattle.daos_model.specs.Durables.{is_version_in_form, row_of}
 use Rattle.daos_model.specs.Effect.{effects}
 use Rattle.daos_model.specs.Family.{Agree, AgreeOn, counts, counts_at, created_snaps, resolved, snap_map, stand}
 use Rattle.daos_model.specs.Finals.{IsKept, IsKeptIn, IsNewSnapshot, SameMap, SnapsInTheEnd, StandInTheEnd}
@@ -37,7 +34,7 @@ use Rattle.daos_model.specs.Forms.{is_write_in_form}
 use Rattle.daos_model.specs.Opening.{Given as Run, Opening, top}
 use Rattle.daos_model.specs.TookEffect.{took}
 use Rattle.daos_model.specs.Versions.{writes_in}
-use Rattle.world_attempts.specs.History.{Decided, History, is_decided}
+use Rattle.world_attempts.specs.History.{History, is_decided}
 use Rattle.world_base.specs.declared.target.TargetState.{TargetState}
 use Rattle.world_base.specs.declared.world.World.{World}
 use Rattle.world_base.specs.Events.{Rules}
@@ -50,7 +47,7 @@ use Rattle.world_epochs.specs.Epochs.{Unsnapped}
 use Rattle.world_reads.specs.ChangeLaws.{decided-has, has-decided}
 use Rattle.world_reads.specs.Given.{Given}
 use Rattle.world_reads.specs.Transactions.{counts_by, decided_of, transactions}
-use Rattle.world_reads.specs.Versions.{IsPreparedAt, VersionsStand, is_own_in, mark_of}
+use Rattle.world_reads.specs.Versions.{VersionsStand, is_own_in, mark_of}
 use Rattle.world_snapshots.specs.Makings.{ComesOf, Makings}
 use Rattle.world_whole.specs.Begins.{IsOpeningPlain}
 use Rattle.world_whole.specs.Everything.{AreUnpruned}

@@ -1,5 +1,5 @@
 -- What took effect by the lines, where it is known which attempts are resolved, is what a history decided that goes on in the end.
-use Rattle.std.specs.Prelude.{ℕ, ◌≡◌, ◌≢◌, ◌++◌, ◌⊎◌, Bool, true, false, not, nat_eq, is_some, List, [], ◌∷◌, map, AllPairs, Contains, Option, Some, None, refl, if◌then◌else◌}
+use Rattle.std.specs.Prelude.{ℕ, ◌≡◌, ◌≢◌, ◌++◌, ◌⊎◌, Bool, true, false, not, nat_eq, is_some, List, [], ◌∷◌, map, AllPairs, Option, Some, None, refl, if◌then◌else◌}
 use Rattle.std.specs.List.{IsDistinct}
 use Rattle.std.proofs.Common.{sym, ◌∙◌, ap, subst, inl, inr, arith}
 use Rattle.std.proofs.lemmas.Bool.Decides.{nat_tests}

@@ -1,27 +1,22 @@
 -- Of an attempt for whose end a client waits each other member that isn't counted is asked, or is about to answer: so a leader that knows a
 -- member to be down lets no client wait for it.
-use Rattle.std.specs.Prelude.{ℕ, ◌≡◌, ◌⊎◌, ◌≤◌, ◌+◌, ◌==◌, ◌&&◌, ◌||◌, ◌++◌, not, Bool, true, false, List, [], ◌∷◌, filter, map, slice_get, Option, Some, None, refl}
+use Rattle.std.specs.Prelude.{ℕ, ◌≡◌, ◌≤◌, ◌+◌, ◌==◌, ◌&&◌, ◌||◌, ◌++◌, not, Bool, true, false, List, [], ◌∷◌, filter, map, slice_get, Option, Some, None, refl}
 use Rattle.std.proofs.Common.{sym, ◌∙◌, ap, subst, arith, inl, inr}
-use Rattle.std.proofs.Math.ListN.{set}
-use Rattle.base_types.specs.declared.entry.Entry.{Entry}
-use Rattle.base_types.specs.declared.epoch.Epoch.{Epoch}
 use Rattle.base_types.specs.declared.id.AttemptId.{AttemptId}
-use Rattle.base_types.specs.declared.outcome.Outcome.{Outcome}
 use Rattle.base_types.specs.declared.report.Line.{Line}
 use Rattle.base_types.specs.declared.report.Line.TheVariants as line
 use Rattle.base_messages.specs.declared.actor.ActorId.{ActorId}
-use Rattle.base_messages.specs.declared.message.Message.{Message, more_of-Message}
+use Rattle.base_messages.specs.declared.message.Message.{Message}
 use Rattle.base_messages.specs.declared.message.Message.TheVariants as message
 use Rattle.daos_model.specs.BoolLaws.{and_left, and_right, both, clash, false_of, or_from_right}
-use Rattle.daos_model.specs.Durables.{same_attempt}
 use Rattle.daos_model.specs.Stops as told
 use Rattle.daos_model.specs.Stops.{Standing, after, after_all, is_at, lines_at}
 use Rattle.dtx_base.specs.declared.leading.Undecided.{Undecided}
 use Rattle.dtx_base.specs.Members.{has_target}
-use Rattle.model_laws.specs.Members.{Has, has-filter, has-from_filter, has-left, has-map, has-right}
+use Rattle.model_laws.specs.Members.{Has, has-filter, has-left, has-map, has-right}
 use Rattle.model_laws.specs.TargetLaws.{number_same, same_number}
-use Rattle.world_attempts.specs.Attempts.{IsOther, count, inc_at, inc_in, is_target, leader_of, one_if, row_at, row_in}
-use Rattle.world_attempts.specs.Counting.{count-some, none-counted}
+use Rattle.world_attempts.specs.Attempts.{IsOther, count, inc_at, is_target, leader_of, one_if, row_at, row_in}
+use Rattle.world_attempts.specs.Counting.{count-some}
 use Rattle.world_attempts.specs.History.{History}
 use Rattle.world_base.specs.declared.letter.Letter.{Letter}
 use Rattle.world_base.specs.declared.target.Life.{Life}
@@ -29,9 +24,9 @@ use Rattle.world_base.specs.declared.target.Life.TheVariants as life
 use Rattle.world_base.specs.declared.target.TargetState.{TargetState}
 use Rattle.world_base.specs.declared.world.World.{World}
 use Rattle.world_base.specs.Events.{Rules}
-use Rattle.world_base.specs.Letters.{reset_message, target}
+use Rattle.world_base.specs.Letters.{target}
 use Rattle.world_base.specs.Stops.{is_down_at, is_given_up, is_not_to_down, is_to_down, no_memory, reset_letter, swept}
-use Rattle.world_fates.specs.Facts.{Attempts, IsOneUnless, answers_for, asks_for, is_between, is_prompt, is_prompt_kind, is_talk, knows_down, talking}
+use Rattle.world_fates.specs.Facts.{Attempts, answers_for, asks_for, is_between, is_prompt, is_prompt_kind, is_talk, talking}
 use Rattle.world_lives.specs.Lives.{Lives, standing_of}
 use Rattle.world_stops.specs.Losses.{asked-by}
 use Rattle.world_closing.specs.Gone.{down-there}
@@ -176,10 +171,13 @@ module _ (r : Rules) (h : History) (w : World) (A : Attempts r h w) where
 
         by : (b : Bool) → is_not_to_down w.targets l ≡ b → (n : Letter) × Has n (swept w).messages × (is_talk r inc x m n ≡ true)
         by true kept = (l, has-filter (is_not_to_down w.targets) (w.messages ++ map (reset_letter true) (filter (is_to_down w.targets) w.asked)) l (has-left w.messages _ l i) kept, from-way r inc x m l (Asks to asks))
-        by false gone = (reset_letter true q.0, has-filter (is_not_to_down w.targets) (w.messages ++ map (reset_letter true) (filter (is_to_down w.targets) w.asked)) (reset_letter true q.0)
-            (has-right w.messages _ (reset_letter true q.0) (has-map (reset_letter true) (filter (is_to_down w.targets) w.asked) q.0 (has-filter (is_to_down w.targets) w.asked q.0 q.1 down)))
-            (ap (λ a. not (not a.client && is_down_at w.targets a.number)) (target-is (leader_of r x) q.0.from from) ∙ ap not up),
-            from-way r inc x m (reset_letter true q.0) (Answers from its (and_right (is_target m q.0.to) (asks_for inc x q.0.message) rest)))
+        by false gone = (
+          reset_letter true q.0,
+          has-filter (is_not_to_down w.targets) (w.messages ++ map (reset_letter true) (filter (is_to_down w.targets) w.asked)) (reset_letter true q.0)
+              (has-right w.messages _ (reset_letter true q.0) (has-map (reset_letter true) (filter (is_to_down w.targets) w.asked) q.0 (has-filter (is_to_down w.targets) w.asked q.0 q.1 down)))
+              (ap (λ a. not (not a.client && is_down_at w.targets a.number)) (target-is (leader_of r x) q.0.from from) ∙ ap not up),
+          from-way r inc x m (reset_letter true q.0) (Answers from its (and_right (is_target m q.0.to) (asks_for inc x q.0.message) rest)),
+        )
           where
             down : is_to_down w.targets q.0 ≡ true
             down = ap (λ a. not a.client && is_down_at w.targets a.number) (target-is m q.0.to its ∙ sym (target-is m l.to to)) ∙ not-not (is_to_down w.targets l) gone
