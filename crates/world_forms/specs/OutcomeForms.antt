@@ -1,6 +1,6 @@
 -- An outcome that shows its cause is such as a report's text determines.
 use Rattle.std.specs.Prelude.{ℕ, ◌≡◌, ◌<◌, ◌^◌, ◌++◌, Bool, true, false, List, [], ◌∷◌, All, Any, Option, Some, None, refl}
-use Rattle.std.proofs.Common.{inl, sym, ap, subst, arith}
+use Rattle.std.proofs.Common.{inl, sym, subst, arith}
 use Rattle.base_types.specs.declared.epoch.Epoch.{Epoch}
 use Rattle.base_types.specs.declared.id.AttemptId.{AttemptId}
 use Rattle.base_types.specs.declared.id.ContId.{ContId}
@@ -27,7 +27,7 @@ use Rattle.daos_model.specs.Conditions.{EndsRight}
 use Rattle.daos_model.specs.Durables.{same_attempt}
 use Rattle.daos_model.specs.Opening.{Given}
 use Rattle.daos_model.specs.Transactions.{attempt_ops, command_of}
-use Rattle.report_writer.specs.Forms.{IsAccessOf, IsAttemptId, IsCauseOf, IsCond, IsEpochOrNone, IsOutcomeOf, IsPathOf}
+use Rattle.report_writer.specs.Forms.{IsAccessOf, IsAttemptId, IsCauseOf, IsCond, IsEpoch, IsEpochOrNone, IsFloorOf, IsLineOf, IsOutcomeOf, IsPathOf}
 use Rattle.world_causes.specs.Causes.{is_try}
 use Rattle.world_ends.specs.Ends.{rules_of}
 use Rattle.world_epochs.specs.Epochs.{Unsnapped, is_unsnapped}
@@ -38,18 +38,7 @@ use Rattle.world_forms.specs.PathForms.{attempt-paths, attempt-writes}
 use Rattle.world_forms.specs.SpaceForms.{space-form}
 use Rattle.world_epochs.specs.PlainScripts.{command-plain}
 
--- ---- what stands among lines of attempts
-
--- no line that isn't of an attempt
-tries-alone : (P : Line → Type 0) (lines : List Line) → All (λ l. is_try l ≡ true) lines → ((l : Line) → is_try l ≡ true → P l → ⊥) → Any P lines → ⊥
-tries-alone P lines tries none i = none i.1 (any-all (λ l. is_try l ≡ true) P lines tries i) i.4
-
--- a line of an attempt shows no floor
-no-floor : (t : ℕ) (floor : Epoch) (cont : ContId) (reason : FloorWhy) (l : Line) → is_try l ≡ true → ShowsFloor t floor cont reason l → ⊥
-no-floor t floor cont why.Opening l is k = k
-no-floor t floor cont (why.Restart n) l is k = let other : is_try l ≡ false = ap is_try k.1 in let no : ⊥ = cc in no
-no-floor t floor cont (why.Snapshot e) l is k = let other : is_try l ≡ false = ap is_try k.0 in let no : ⊥ = cc in no
-no-floor t floor cont (why.Aggregate n) l is k = let other : is_try l ≡ false = ap is_try k in let no : ⊥ = cc in no
+-- ---- no snapshots
 
 -- no attempt makes a snapshot
 unmade : (o : Option Command) → ((d : Command) → o ≡ Some d → is_unsnapped d ≡ true) → is_snap o ≡ false
@@ -62,19 +51,19 @@ unmade (Some (Skip turns)) plain = refl
 
 -- ---- the statement
 
--- What is asked of a script and of lines: the script is in form for some targets, has keys, and is run without snapshots; the
--- lines are of attempts alone, with small numbers and epochs.
-pub record ArePlainLines (g : Given) (lines : List Line) : Type 0 where
+-- What is asked of a script and of lines: the script is in form for some targets, has keys, and is run without snapshots; attempts have
+-- small numbers and epochs, and what else lines tell is in form.
+pub record AreFitLines (g : Given) (lines : List Line) : Type 0 where
   pub form : IsInForm g.script.targets g.script
   pub some : 0 < g.script.targets
   pub few : g.script.targets < 2 ^ 8
   pub keys : ScriptHasKeys g.script
   pub unsnapped : Unsnapped (rules_of g)
-  pub attempts : All (λ l. is_try l ≡ true) lines
   pub ids : (a : Attempt) → Has a (tries lines) → IsAttemptId a.id
   pub epochs : (a : Attempt) → Has a (tries lines) → IsEpochOrNone a.epoch
+  pub others : (l : Line) → Has l lines → is_try l ≡ false → IsLineOf g.script l
 
-module _ (g : Given) (lines : List Line) (k : ArePlainLines g lines) where
+module _ (g : Given) (lines : List Line) (k : AreFitLines g lines) where
   -- ---- causes
 
   -- another attempt at its epoch, and a path that its script names
@@ -85,6 +74,19 @@ module _ (g : Given) (lines : List Line) (k : ArePlainLines g lines) where
   unresolved-form before a by i true same shown = subst IsAttemptId (sym (same-attempt by a.id same)) (k.ids a i)
   unresolved-form before a by i false other shown = subst IsAttemptId shown.4.0 (k.ids shown.1 (has-from_contains (tries lines) shown.1 (shown.0, shown.2, shown.3)))
 
+  -- a floor has the line that tells of it
+  floor-form : (t : ℕ) (floor : Epoch) (cont : ContId) (reason : FloorWhy) → Any (ShowsFloor t floor cont reason) lines → IsFloorOf t floor reason
+  floor-form t floor cont reason shown = by reason shown.4
+    where
+      told : (l : Line) → shown.1 ≡ l → is_try l ≡ false → IsLineOf g.script l
+      told l same other = k.others l (subst (λ m. Has m lines) same (has-from_contains lines shown.1 (shown.0, shown.2, shown.3))) other
+
+      by : (reason : FloorWhy) → ShowsFloor t floor cont reason shown.1 → IsFloorOf t floor reason
+      by why.Opening is = absurd is
+      by (why.Restart n) is = let f = told (line.Restart n t is.0 floor) is.1 refl in record { number = f.of_target; issued = f.issued; cause = f.which }
+      by (why.Snapshot e) is = let f = told (line.Freeze t cont e) is.0 refl in record { number = f.of_target; issued = subst IsEpoch is.1 f.issued; cause = f.issued }
+      by (why.Aggregate n) is = let f = told (line.Aggregate n t cont floor) is refl in record { number = f.of_target; issued = f.issued; cause = f.which }
+
   cause-form : (before : List Line) (a : Attempt) (reason : Cause) → Has a (tries lines) → ShowsCause g lines before a reason → IsCauseOf g.script reason
   cause-form before a (cause.ReadLater by epoch path) i shown =
       access-form by epoch path shown.reader.1 (has-from_contains (tries lines) shown.reader.1 (shown.reader.0, shown.reader.2, shown.reader.3)) shown.reader.4.0 shown.reader.4.1
@@ -94,8 +96,7 @@ module _ (g : Given) (lines : List Line) (k : ArePlainLines g lines) where
       (subst (IsPathOf g.script) shown.writes.4
       (any-all (λ w. IsPathOf g.script (write_path w.write)) (λ w. write_path w.write ≡ path) (minor_writes 0 (attempt_ops g.script by)) (attempt-writes g.script by k.form k.keys) shown.writes))
   cause-form before a (cause.Unresolved by) i shown = unresolved-form before a by i (same_attempt by a.id) refl shown
-  cause-form before a (cause.Floor target epoch reason) i shown =
-      absurd (tries-alone (ShowsFloor target epoch shown.cont reason) lines k.attempts (no-floor target epoch shown.cont reason) shown.shown)
+  cause-form before a (cause.Floor target epoch reason) i shown = floor-form target epoch shown.cont reason shown.shown
 
   -- ---- outcomes
 
@@ -107,10 +108,6 @@ module _ (g : Given) (lines : List Line) (k : ArePlainLines g lines) where
       lacks : LacksBlocks g lines a target need free
       lacks = subst (λ b. LacksSpace b g lines a target need free) (unmade (command_of g.script a.id) (λ d at. (command-plain (rules_of g) a.id d k.unsnapped at).0)) shown
 
-  -- no target was given up
-  never-down : (before : List Line) (t : ℕ) → ((l : Line) → Has l before → is_try l ≡ true) → Has (line.Down t) before → ⊥
-  never-down before t all i = let is = all (line.Down t) i in let no : ⊥ = cc in no
-
   pub outcome-form : (before after : List Line) (a : Attempt) (how : Outcome) → lines ≡ before ++ line.Try a ∷ after → Has a (tries lines) → All IsCond a.conds → EndsRight (attempt_ops g.script a.id) a how → ShowsWhy g lines before a how → IsOutcomeOf g.script how
   outcome-form before after a outcome.Committed cut i conds ends shown = tt
   outcome-form before after a (outcome.CondFailed op) cut i conds ends shown =
@@ -120,4 +117,4 @@ module _ (g : Given) (lines : List Line) (k : ArePlainLines g lines) where
   outcome-form before after a outcome.EpochsSpent cut i conds ends shown = tt
   outcome-form before after a outcome.NoSnapshot cut i conds ends shown = tt
   outcome-form before after a (outcome.Unknown target) cut i conds ends shown =
-      absurd (never-down before target (λ l j. has-all (λ m. is_try m ≡ true) lines l k.attempts (subst (Has l) (sym cut) (has-left before (line.Try a ∷ after) l j))) (has-from_contains before (line.Down target) shown.down))
+      k.others (line.Down target) (subst (Has (line.Down target)) (sym cut) (has-left before (line.Try a ∷ after) (line.Down target) (has-from_contains before (line.Down target) shown.down))) refl

@@ -1,18 +1,21 @@
--- A legal report of attempts alone is in the form in which its text determines it.
-use Rattle.std.specs.Prelude.{ℕ, ◌≡◌, ◌≤◌, ◌<◌, ◌^◌, Bool, true, List, [], ◌∷◌, All, Option, Some, None, refl}
-use Rattle.std.proofs.Common.{inl, inr, sym, ◌∙◌, ap, subst}
-use Rattle.std.proofs.lemmas.List.Elements.{All-head, All-tail}
+-- A legal report of a run without snapshots is in the form in which its text determines it.
+use Rattle.std.specs.Prelude.{ℕ, ◌≡◌, ◌≤◌, ◌<◌, ◌^◌, Bool, true, false, min, nat_lt, List, [], ◌∷◌, All, Option, Some, None, refl, if◌then◌else◌}
+use Rattle.std.proofs.Common.{inl, inr, sym, ◌∙◌, ap, subst, arith}
+use Rattle.std.proofs.lemmas.Bool.Decides.{nat_tests}
 use Rattle.base_types.specs.declared.epoch.Epoch.{Epoch}
 use Rattle.base_types.specs.declared.id.AttemptId.{AttemptId}
 use Rattle.base_types.specs.declared.report.Attempt.{Attempt}
 use Rattle.base_types.specs.declared.report.Line.{Line}
 use Rattle.base_types.specs.declared.report.Line.TheVariants as line
 use Rattle.base_types.specs.declared.report.Report.{Report}
+use Rattle.base_types.specs.declared.script.Command.{Command}
+use Rattle.base_types.specs.declared.script.Command.TheVariants.{Aggregate, Snap}
 use Rattle.base_types.specs.declared.script.Script.{Script}
 use Rattle.base_types.specs.Scripts.{IsInForm}
 use Rattle.model_laws.specs.DecidedLaws.{all-from_has, has-all}
 use Rattle.model_laws.specs.Lists.{has-cut}
-use Rattle.model_laws.specs.Members.{Has}
+use Rattle.model_laws.specs.Members.{Has, has-right}
+use Rattle.model_reports.specs.Lines.{line-of}
 use Rattle.daos_model.specs.declared.cell.CellValue.{CellValue}
 use Rattle.daos_model.specs.declared.stand.Stand.{Stand}
 use Rattle.daos_model.specs.declared.stand.Taken.{Taken}
@@ -22,26 +25,35 @@ use Rattle.daos_model.specs.Conditions.{ConditionsLegal}
 use Rattle.daos_model.specs.Headline.{Headline}
 use Rattle.daos_model.specs.Opening.{Given, Outside}
 use Rattle.daos_model.specs.ReadsLegal.{AttemptReadsLegal, map_at, map_read}
+use Rattle.daos_model.specs.Snapshots.{ComesFrom}
+use Rattle.daos_model.specs.Stops.{HasTarget, IsBelowSome, down_targets, least, least_with, target_of}
 use Rattle.daos_model.specs.TookEffect.{took}
-use Rattle.daos_model.specs.Transactions.{attempt_ops}
-use Rattle.report_writer.specs.Forms.{IsAttemptOf, IsCond, IsEpochOrNone, IsGot, IsLineOf, IsReportOf, least_down}
+use Rattle.daos_model.specs.Transactions.{attempt_ops, command_of}
+use Rattle.report_writer.specs.Forms.{IsAttemptOf, IsCond, IsEpoch, IsEpochOrNone, IsGot, IsLineOf, IsReportOf, least_down, lesser}
 use Rattle.world_whole.specs.ScriptForm.{ops-few}
 use Rattle.world_causes.specs.Causes.{is_try}
 use Rattle.world_ends.specs.Ends.{rules_of}
-use Rattle.world_epochs.specs.Epochs.{Unsnapped}
+use Rattle.world_epochs.specs.Epochs.{Unsnapped, is_unsnapped}
 use Rattle.world_gots.specs.FormLaws.{ops-form}
 use Rattle.world_forms.specs.AnswerForms.{told-form}
 use Rattle.script_runnable.specs.Keyed.{MapHasKeys, ScriptHasKeys}
 use Rattle.world_forms.specs.KeyLaws.{as_of-keys, took-keys}
 use Rattle.world_forms.specs.NumberForms.{id-form}
-use Rattle.world_forms.specs.OutcomeForms.{ArePlainLines, outcome-form}
-use Rattle.world_epochs.specs.PlainScripts.{no-snapshots}
+use Rattle.world_forms.specs.OutcomeForms.{AreFitLines, outcome-form}
+use Rattle.world_epochs.specs.PlainScripts.{command-plain, no-snapshots}
 
--- ---- the statement
+-- ---- the statements
 
--- A report of attempts alone, of a script that is in form for some targets, has keys, and makes and reads no snapshot; the opening
--- has keys too, no epoch is as large as 2^64, a command has at most 256 attempts, and no target was given up.
-pub record IsPlainReport (g : Given) (q : Report) : Type 0 where
+-- numbers as small as their types hold, of those that a legal report may have as large as it likes
+abbrev pub HasSmallNumbers : Line → Type 0
+HasSmallNumbers (line.Try a) = IsEpochOrNone a.epoch
+HasSmallNumbers (line.Stop number target) = number < 2 ^ 32
+HasSmallNumbers (line.Restart number target incarnation floor) = (number < 2 ^ 32) × (incarnation < 2 ^ 64) × IsEpoch floor
+HasSmallNumbers l = Unit {0}
+
+-- A report of a script that is in form for some targets, has keys, and makes and reads no snapshot; the opening has keys too, a command
+-- has at most 256 attempts, and epochs, and numbers and incarnations of stops and restarts, are as small as their types hold.
+pub record IsReportWithout (g : Given) (q : Report) : Type 0 where
   pub form : IsInForm g.script.targets g.script
   pub some : 0 < g.script.targets
   pub few : g.script.targets < 2 ^ 8
@@ -50,18 +62,16 @@ pub record IsPlainReport (g : Given) (q : Report) : Type 0 where
   pub unsnapped : Unsnapped (rules_of g)
   pub allowed : 0 < g.job.attempts
   pub byte : g.job.attempts ≤ 256
-  pub attempts : All (λ l. is_try l ≡ true) q.lines
-  pub epochs : All (λ a. IsEpochOrNone a.epoch) (tries q.lines)
-  pub up : q.down ≡ None
+  pub small : (l : Line) → Has l q.lines → HasSmallNumbers l
 
 -- where it is legal, its text determines it
 abbrev pub LegalReportsAreInForm : Type 0
-LegalReportsAreInForm = (g : Given) (o : Outside) (resolved : AttemptId → Bool) (q : Report) → IsPlainReport g q → Headline g o resolved q → IsReportOf g.script q
+LegalReportsAreInForm = (g : Given) (o : Outside) (resolved : AttemptId → Bool) (q : Report) → IsReportWithout g q → Headline g o resolved q → IsReportOf g.script q
 
 -- ---- lines of attempts
 
 -- an attempt and its line
-try-among : (lines : List Line) (a : Attempt) → Has (line.Try a) lines → Has a (tries lines)
+pub try-among : (lines : List Line) (a : Attempt) → Has (line.Try a) lines → Has a (tries lines)
 unfolding tries
 try-among [] a i = absurd i
 try-among (line.Try b ∷ lines) a (inl same) = let e : a ≡ b = cc in inl e
@@ -79,18 +89,56 @@ try-among (line.Aggregate n t cont upto ∷ lines) a (inr i) = try-among lines a
 try-among (line.Down t ∷ lines) a (inl same) = let no : ⊥ = cc in absurd no
 try-among (line.Down t ∷ lines) a (inr i) = try-among lines a i
 
-none-down : (lines : List Line) → All (λ l. is_try l ≡ true) lines → least_down lines ≡ None
-none-down [] k = refl
-none-down (l ∷ lines) k = by l (All-head (λ m. is_try m ≡ true) l lines k) (none-down lines (All-tail (λ m. is_try m ≡ true) l lines k))
+-- and the other way round
+among-lines : (lines : List Line) (a : Attempt) → Has a (tries lines) → Has (line.Try a) lines
+among-lines lines a i = let k = line-of lines a i in subst (Has (line.Try a)) (sym k.among) (has-right k.before (line.Try a ∷ k.after) (line.Try a) (inl refl))
+
+-- ---- targets that were given up
+
+lower : (m n : ℕ) → nat_lt m n ≡ true → m < n
+lower m n is = grind (arith, nat_tests)
+
+higher : (m n : ℕ) → nat_lt m n ≡ false → n ≤ m
+higher m n is = grind (arith, nat_tests)
+
+-- the least of two
+lesser-is : (t : ℕ) (o : Option ℕ) → lesser t o ≡ least_with t o
+lesser-is t None = refl
+lesser-is t (Some other) = by (nat_lt other t) refl
   where
-    by : (m : Line) → is_try m ≡ true → least_down lines ≡ None → least_down (m ∷ lines) ≡ None
-    by (line.Try a) e rest = rest
-    by (line.Stop n t) e rest = let no : ⊥ = cc in absurd no
-    by (line.Restart n t incarnation floor) e rest = let no : ⊥ = cc in absurd no
-    by (line.Freeze t cont epoch) e rest = let no : ⊥ = cc in absurd no
-    by (line.Snapshot name cont epoch) e rest = let no : ⊥ = cc in absurd no
-    by (line.Aggregate n t cont upto) e rest = let no : ⊥ = cc in absurd no
-    by (line.Down t) e rest = let no : ⊥ = cc in absurd no
+    by : (b : Bool) → nat_lt other t ≡ b → (if b then Some other else Some t) ≡ Some (min t other)
+    by true is = let below : other < t = lower other t is in let e : other ≡ min t other = omega (arith, below) in ap (λ n. Some n) e
+    by false is = let above : t ≤ other = higher other t is in let e : t ≡ min t other = omega (arith, above) in ap (λ n. Some n) e
+
+-- the least target that a line says is down is the least of those that were given up
+down-is : (lines : List Line) → least_down lines ≡ least (down_targets lines)
+down-is [] = refl
+down-is (line.Try a ∷ lines) = down-is lines
+down-is (line.Stop n t ∷ lines) = down-is lines
+down-is (line.Restart n t incarnation floor ∷ lines) = down-is lines
+down-is (line.Freeze t cont epoch ∷ lines) = down-is lines
+down-is (line.Snapshot name cont epoch ∷ lines) = down-is lines
+down-is (line.Aggregate n t cont upto ∷ lines) = down-is lines
+down-is (line.Down t ∷ lines) = ap (lesser t) (down-is lines) ∙ lesser-is t (least (down_targets lines))
+
+-- ---- lines that come of snapshots and aggregations
+
+-- a line tells of a snapshot or an aggregation
+abbrev is_of_collections : Line → Bool
+is_of_collections (line.Freeze target cont epoch) = true
+is_of_collections (line.Snapshot name cont epoch) = true
+is_of_collections (line.Aggregate number target cont upto) = true
+is_of_collections l = false
+
+-- where none is made, no attempt makes one
+none-made : (g : Given) (x : AttemptId) (d : Command) → Unsnapped (rules_of g) → command_of g.script x ≡ Some d → is_unsnapped d ≡ false → ⊥
+none-made g x d plain is makes = let bad : is_unsnapped d ≡ true = (command-plain (rules_of g) x d plain is).0 in let no : ⊥ = cc in no
+
+comes-not : (g : Given) (lines : List Line) (l : Line) → Unsnapped (rules_of g) → ComesFrom g.script (tries lines) l → is_of_collections l ≡ true → ⊥
+comes-not g lines (line.Freeze t cont epoch) plain from is = none-made g from.1.id (Snap from.4.0 cont) plain from.4.1.command refl
+comes-not g lines (line.Snapshot name cont epoch) plain from is = none-made g from.1.id (Snap name cont) plain from.4.command refl
+comes-not g lines (line.Aggregate n t cont upto) plain from is = none-made g from.1.id (Aggregate cont) plain from.4.command refl
+comes-not g lines l plain from is = let no : ⊥ = cc in no
 
 -- ---- the report
 
@@ -102,17 +150,39 @@ map-keys s opening T a (Some e) m none keys is =
     let same : as_of opening T e.0 ≡ m = cc in
     subst MapHasKeys same (keys e.0)
 
-module _ (g : Given) (o : Outside) (resolved : AttemptId → Bool) (q : Report) (k : IsPlainReport g q) (legal : Headline g o resolved q) where
-  plain : ArePlainLines g q.lines
-  plain = record {
+module _ (g : Given) (o : Outside) (resolved : AttemptId → Bool) (q : Report) (k : IsReportWithout g q) (legal : Headline g o resolved q) where
+  -- a line that tells of a target tells of one that is there
+  there : (l : Line) (t : ℕ) → Has l q.lines → target_of l ≡ Some t → t < 2 ^ 8
+  there l t i is =
+      let low : t < g.script.targets = subst (IsBelowSome g.script.targets) is (has-all (HasTarget g.script.targets) q.lines l legal.outcomes.stops.bounded i) in
+      let few = k.few in
+      omega (arith, low, few)
+
+  -- no snapshot is told of, and no aggregation
+  never : (l : Line) → Has l q.lines → is_of_collections l ≡ true → ⊥
+  never l i is = comes-not g q.lines l k.unsnapped (has-all (ComesFrom g.script (tries q.lines)) q.lines l legal.outcomes.snapshots.lines_from i) is
+
+  other-form : (l : Line) → Has l q.lines → is_try l ≡ false → IsLineOf g.script l
+  other-form (line.Try a) i apart = let no : ⊥ = cc in absurd no
+  other-form (line.Stop n t) i apart = (k.small (line.Stop n t) i, there (line.Stop n t) t i refl)
+  other-form (line.Restart n t incarnation floor) i apart =
+      let small = k.small (line.Restart n t incarnation floor) i in
+      record { which = small.0; of_target = there (line.Restart n t incarnation floor) t i refl; opening = small.1; issued = small.2 }
+  other-form (line.Freeze t cont epoch) i apart = absurd (never (line.Freeze t cont epoch) i refl)
+  other-form (line.Snapshot name cont epoch) i apart = absurd (never (line.Snapshot name cont epoch) i refl)
+  other-form (line.Aggregate n t cont upto) i apart = absurd (never (line.Aggregate n t cont upto) i refl)
+  other-form (line.Down t) i apart = there (line.Down t) t i refl
+
+  fit : AreFitLines g q.lines
+  fit = record {
     form = k.form;
     some = k.some;
     few = k.few;
     keys = k.keys;
     unsnapped = k.unsnapped;
-    attempts = k.attempts;
     ids = λ a i. id-form g.job.attempts g.script q.lines a k.form k.allowed k.byte legal.outcomes.in_turn i;
-    epochs = λ a i. has-all (λ b. IsEpochOrNone b.epoch) (tries q.lines) a k.epochs i;
+    epochs = λ a i. k.small (line.Try a) (among-lines q.lines a i);
+    others = other-form;
   }
 
   told : (a : Attempt) → Has a (tries q.lines) → All IsGot a.gots × All IsCond a.conds
@@ -127,30 +197,27 @@ module _ (g : Given) (o : Outside) (resolved : AttemptId → Bool) (q : Report) 
       let cut = has-cut q.lines (line.Try a) i in
       let t = told a among in
       record {
-        id = plain.ids a among;
-        epoch = plain.epochs a among;
+        id = fit.ids a among;
+        epoch = fit.epochs a among;
         conds = t.1;
         gots = t.0;
-        outcome = outcome-form g q.lines plain cut.0 cut.1 a a.outcome cut.2 among t.1 (has-all (ConditionsLegal g.script) (tries q.lines) a legal.outcomes.conditions among) (legal.causes cut.0 a cut.1 cut.2);
+        outcome = outcome-form g q.lines fit cut.0 cut.1 a a.outcome cut.2 among t.1 (has-all (ConditionsLegal g.script) (tries q.lines) a legal.outcomes.conditions among) (legal.causes cut.0 a cut.1 cut.2);
       }
 
   line-form : (l : Line) → Has l q.lines → IsLineOf g.script l
-  line-form l i = by l (has-all (λ m. is_try m ≡ true) q.lines l k.attempts i) i
-    where
-      by : (m : Line) → is_try m ≡ true → Has m q.lines → IsLineOf g.script m
-      by (line.Try a) e j = attempt-form a j
-      by (line.Stop n t) e j = let no : ⊥ = cc in absurd no
-      by (line.Restart n t incarnation floor) e j = let no : ⊥ = cc in absurd no
-      by (line.Freeze t cont epoch) e j = let no : ⊥ = cc in absurd no
-      by (line.Snapshot name cont epoch) e j = let no : ⊥ = cc in absurd no
-      by (line.Aggregate n t cont upto) e j = let no : ⊥ = cc in absurd no
-      by (line.Down t) e j = let no : ⊥ = cc in absurd no
+  line-form (line.Try a) i = attempt-form a i
+  line-form (line.Stop n t) i = other-form (line.Stop n t) i refl
+  line-form (line.Restart n t incarnation floor) i = other-form (line.Restart n t incarnation floor) i refl
+  line-form (line.Freeze t cont epoch) i = other-form (line.Freeze t cont epoch) i refl
+  line-form (line.Snapshot name cont epoch) i = other-form (line.Snapshot name cont epoch) i refl
+  line-form (line.Aggregate n t cont upto) i = other-form (line.Aggregate n t cont upto) i refl
+  line-form (line.Down t) i = other-form (line.Down t) i refl
 
   pub report-form : IsReportOf g.script q
   report-form = record {
     targets = subst (λ n. n < 2 ^ 8) (sym legal.outcomes.targets) k.few;
     lines = all-from_has (IsLineOf g.script) q.lines line-form;
-    down = k.up ∙ sym (none-down q.lines k.attempts);
+    down = legal.outcomes.stops.down ∙ sym (down-is q.lines);
   }
 
 pub legal-reports-are-in-form : LegalReportsAreInForm

@@ -1,12 +1,14 @@
 -- The report of a run that has ended is in the form in which its text determines it.
-use Rattle.std.specs.Prelude.{ℕ, ◌≡◌, ◌≤◌, ◌<◌, ◌/◌, ◌%◌, ◌^◌, false, List, All, Option, Some, None, refl}
+use Rattle.std.specs.Prelude.{ℕ, ◌≡◌, ◌≤◌, ◌<◌, ◌/◌, ◌%◌, ◌^◌, true, false, List, All, Option, Some, None, refl}
 use Rattle.std.proofs.Common.{arith}
 use Rattle.std.proofs.lemmas.List.Elements.{All-nil}
 use Rattle.base_types.specs.declared.epoch.Epoch.{Epoch}
 use Rattle.base_types.specs.declared.job.Job.{Job}
 use Rattle.base_types.specs.declared.report.Attempt.{Attempt}
+use Rattle.base_types.specs.declared.report.Line.{Line}
+use Rattle.base_types.specs.declared.report.Line.TheVariants as line
 use Rattle.base_types.specs.declared.script.Script.{Script}
-use Rattle.model_laws.specs.DecidedLaws.{all-from_has}
+use Rattle.model_laws.specs.DecidedLaws.{all-from_has, has-all}
 use Rattle.model_laws.specs.Members.{Has, contains-from_has}
 use Rattle.daos_model.specs.declared.durable.Version.{Version}
 use Rattle.daos_model.specs.Attempts.{tries}
@@ -20,11 +22,12 @@ use Rattle.world_ends.specs.Ends.{report_of, rules_of}
 use Rattle.world_ends.specs.FromBeginning.{runs-give-the-headline}
 use Rattle.world_ends.specs.SureTells.{tells-plain}
 use Rattle.world_epochs.specs.Epochs.{PlainEpochs, IsIssued}
+use Rattle.world_causes.specs.Causes.{is_try}
 use Rattle.world_base.specs.Ended.{HasEnded}
 use Rattle.world_base.specs.Events.{Rules, Run}
 use Rattle.world_reads.specs.Versions.{Versions}
 use Rattle.script_runnable.specs.Keyed.{CellHasKeys, MapHasKeys, ScriptHasKeys}
-use Rattle.world_forms.specs.ReportForms.{IsPlainReport, report-form}
+use Rattle.world_forms.specs.ReportForms.{HasSmallNumbers, IsReportWithout, report-form, try-among}
 use Rattle.world_whole.specs.Asking.{plainly}
 
 -- ---- the statements
@@ -66,7 +69,7 @@ epochs-are-short r o held h w epochs versions = all-from_has (λ a. IsEpochOrNon
 -- ---- runs
 
 pub runs-report-in-form : RunsReportInForm
-runs-report-in-form g w v A b run ended byte keys opening = report-form g undisturbed (λ x. false) (report_of (rules_of g) v) plain (runs-give-the-headline g (λ x. false) w v A b run ended)
+runs-report-in-form g w v A b run ended byte keys opening = report-form g undisturbed (λ x. false) (report_of (rules_of g) v) fit (runs-give-the-headline g (λ x. false) w v A b run ended)
   where
     c : CarriedBy (rules_of g) g.opening (held_at w) v
     c = runs-carry (rules_of g) g.opening w v A b run
@@ -74,8 +77,24 @@ runs-report-in-form g w v A b run ended byte keys opening = report-form g undist
     few : g.script.targets ≤ 64
     few = A.few_targets
 
-    plain : IsPlainReport g (report_of (rules_of g) v)
-    plain = record {
+    -- all lines are of attempts, with short epochs
+    small : (l : Line) → Has l v.lines → HasSmallNumbers l
+    small l i = by l (has-all (λ m. is_try m ≡ true) v.lines l (tells-plain (rules_of g) g.opening c.stored v c.carried.causes).attempts i) i
+      where
+        short-epochs : All (λ a. IsEpochOrNone a.epoch) (tries v.lines)
+        short-epochs = epochs-are-short (rules_of g) g.opening (held_at w) c.h v (plainly (rules_of g) g.opening c.h v c.carried.whole.all.facts) c.carried.whole.all.versions
+
+        by : (l : Line) → is_try l ≡ true → Has l v.lines → HasSmallNumbers l
+        by (line.Try a) is j = has-all (λ b. IsEpochOrNone b.epoch) (tries v.lines) a short-epochs (try-among v.lines a j)
+        by (line.Stop n t) is j = let no : ⊥ = cc in absurd no
+        by (line.Restart n t incarnation floor) is j = let no : ⊥ = cc in absurd no
+        by (line.Freeze t cont e) is j = tt
+        by (line.Snapshot name cont e) is j = tt
+        by (line.Aggregate n t cont upto) is j = tt
+        by (line.Down t) is j = tt
+
+    fit : IsReportWithout g (report_of (rules_of g) v)
+    fit = record {
       form = A.form;
       some = A.some_target;
       few = omega (arith, few);
@@ -84,9 +103,7 @@ runs-report-in-form g w v A b run ended byte keys opening = report-form g undist
       unsnapped = A.unsnapped;
       allowed = A.some_attempt;
       byte = byte;
-      attempts = (tells-plain (rules_of g) g.opening c.stored v c.carried.causes).attempts;
-      epochs = epochs-are-short (rules_of g) g.opening (held_at w) c.h v (plainly (rules_of g) g.opening c.h v c.carried.whole.all.facts) c.carried.whole.all.versions;
-      up = refl;
+      small = small;
     }
 
 pub fresh-runs-report-in-form : FreshRunsReportInForm
