@@ -18,7 +18,7 @@ use Rattle.base_types.specs.Scripts.{IsActInForm, IsOpInForm, IsReadInForm}
 use Rattle.model_laws.specs.Lists.{all-at}
 use Rattle.daos_model.specs.declared.cell.CellValue.{CellValue}
 use Rattle.daos_model.specs.Answers.{answer, has_cell_below, hole_before, index_before, pieces, record_at, value_answer, yes_or_no}
-use Rattle.daos_model.specs.Cells.{index_cell, single_cell, value_at}
+use Rattle.daos_model.specs.Cells.{single_cell, value_at}
 use Rattle.daos_model.specs.ReadsLegal.{IsRightAnswer, IsRightCondition, IsToldRight}
 use Rattle.daos_model.specs.Transactions.{read_of, read_of_op}
 use Rattle.report_writer.specs.Forms.{IsAnswer, IsCond, IsGot, IsPiece}

@@ -3,6 +3,7 @@ use Rattle.std.specs.Prelude.{ℕ, zero, suc, ◌≡◌, ◌≤◌, ◌<◌, ◌
 use Rattle.std.proofs.Common.{inl, inr, ◌∙◌, ap, subst, arith}
 use Rattle.std.proofs.lemmas.List.Sums.{length-filter}
 use Rattle.std.proofs.lemmas.Option.{slice_get_within}
+use Rattle.base_types.specs.declared.id.AttemptId.{AttemptId}
 use Rattle.base_types.specs.declared.report.Attempt.{Attempt}
 use Rattle.base_types.specs.declared.report.Line.{Line}
 use Rattle.base_types.specs.declared.script.Command.{Command}
@@ -27,7 +28,7 @@ attempts-within limit client command n (x ∷ y ∷ more) a lt k (inl same) = nu
 attempts-within limit client command n (x ∷ y ∷ more) a lt k (inr i) = attempts-within limit client command (n + 1) (y ∷ more) a k.2 k.3 i
 
 -- the commands of a client are numbered below their count
-in_turn-within : (limit client n : ℕ) (cs : List Command) (xs : List Attempt) (a : Attempt) → 0 < limit → AreInTurn limit client n cs xs → Has a xs → (a.id.command < n + length cs) × (a.id.attempt < limit)
+pub in_turn-within : (limit client n : ℕ) (cs : List Command) (xs : List Attempt) (a : Attempt) → 0 < limit → AreInTurn limit client n cs xs → Has a xs → (a.id.command < n + length cs) × (a.id.attempt < limit)
 in_turn-within limit client n [] xs a some k i = absurd (subst (Has a) k i)
 in_turn-within limit client n (c ∷ cs) xs a some k i = by (has-cases k.0 k.1 a (subst (Has a) k.2 i)) (in_turn-within limit client (n + 1) cs k.1 a some k.4)
   where
@@ -47,25 +48,25 @@ list-few [] k list at = let no : ⊥ = cc in absurd no
 list-few (own ∷ lists) zero list at = let same : own ≡ list = cc in let count = length-filter is_numbered own in subst (λ l. length (numbered l) ≤ count_numbered (own ∷ lists)) same (omega (arith, count))
 list-few (own ∷ lists) (suc k) list at = let rest = list-few lists k list at in omega (arith, rest)
 
--- an attempt that a line tells of has small numbers, where a command is allowed at most 256 attempts
+-- an attempt of a client that is there, of one of its commands with attempts, has small numbers, where a command is allowed at most 256
+-- attempts
+pub number-form : (limit : ℕ) (s : Script) (x : AttemptId) → IsInForm s.targets s → limit ≤ 256 → x.command < length (client_commands s x.client) → x.attempt < limit → IsAttemptId x
+number-form limit s x form few low its = by (slice_get s.clients x.client) refl
+  where
+    by : (o : Option (List Command)) → slice_get s.clients x.client ≡ o → IsAttemptId x
+    by None e = let none : length (client_commands s x.client) ≡ 0 = ap (λ o. length (commands_or_none o)) e in absurd (omega (arith, low, none))
+    by (Some list) e =
+        let count : length (client_commands s x.client) ≡ length (numbered list) = ap (λ o. length (commands_or_none o)) e in
+        let less = list-few s.clients x.client list e in
+        let all = form.few in
+        let here : x.client < length s.clients = slice_get_within s.clients x.client list e in
+        let clients = form.clients in
+        record { client = omega (arith, here, clients); command = omega (arith, low, count, less, all); attempt = omega (arith, its, few) }
+
+-- so has one that a line tells of
 pub id-form : (limit : ℕ) (s : Script) (lines : List Line) (a : Attempt) → IsInForm s.targets s → 0 < limit → limit ≤ 256 → AllInTurn limit s lines → Has a (tries lines) → IsAttemptId a.id
-id-form limit s lines a form some few turn i = by (slice_get s.clients a.id.client) refl
+id-form limit s lines a form some few turn i = number-form limit s a.id form few (let low : a.id.command < 0 + length (client_commands s a.id.client) = within.0 in omega (arith, low)) within.1
   where
     within : (a.id.command < 0 + length (client_commands s a.id.client)) × (a.id.attempt < limit)
     within = in_turn-within limit a.id.client 0 (client_commands s a.id.client) (tries_of a.id.client lines) a some (turn a.id.client)
         (has-filter (is_of_client a.id.client) (tries lines) a i (same_number a.id.client))
-
-    by : (o : Option (List Command)) → slice_get s.clients a.id.client ≡ o → IsAttemptId a.id
-    by None e =
-        let low : a.id.command < 0 + length (client_commands s a.id.client) = within.0 in
-        let none : length (client_commands s a.id.client) ≡ 0 = ap (λ o. length (commands_or_none o)) e in
-        absurd (omega (arith, low, none))
-    by (Some list) e =
-        let low : a.id.command < 0 + length (client_commands s a.id.client) = within.0 in
-        let count : length (client_commands s a.id.client) ≡ length (numbered list) = ap (λ o. length (commands_or_none o)) e in
-        let less = list-few s.clients a.id.client list e in
-        let all = form.few in
-        let its : a.id.attempt < limit = within.1 in
-        let here : a.id.client < length s.clients = slice_get_within s.clients a.id.client list e in
-        let clients = form.clients in
-        record { client = omega (arith, here, clients); command = omega (arith, low, count, less, all); attempt = omega (arith, its, few) }

@@ -41,7 +41,7 @@ use Rattle.world_epochs.specs.PlainScripts.{command-plain}
 -- ---- no snapshots
 
 -- no attempt makes a snapshot
-unmade : (o : Option Command) → ((d : Command) → o ≡ Some d → is_unsnapped d ≡ true) → is_snap o ≡ false
+pub unmade : (o : Option Command) → ((d : Command) → o ≡ Some d → is_unsnapped d ≡ true) → is_snap o ≡ false
 unmade None plain = refl
 unmade (Some (Run ops skips snapshot)) plain = refl
 unmade (Some (Snap name cont)) plain = let is = plain (Snap name cont) refl in let no : ⊥ = cc in absurd no
@@ -75,7 +75,7 @@ module _ (g : Given) (lines : List Line) (k : AreFitLines g lines) where
   unresolved-form before a by i false other shown = subst IsAttemptId shown.4.0 (k.ids shown.1 (has-from_contains (tries lines) shown.1 (shown.0, shown.2, shown.3)))
 
   -- a floor has the line that tells of it
-  floor-form : (t : ℕ) (floor : Epoch) (cont : ContId) (reason : FloorWhy) → Any (ShowsFloor t floor cont reason) lines → IsFloorOf t floor reason
+  pub floor-form : (t : ℕ) (floor : Epoch) (cont : ContId) (reason : FloorWhy) → Any (ShowsFloor t floor cont reason) lines → IsFloorOf t floor reason
   floor-form t floor cont reason shown = by reason shown.4
     where
       told : (l : Line) → shown.1 ≡ l → is_try l ≡ false → IsLineOf g.script l

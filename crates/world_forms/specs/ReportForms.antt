@@ -111,7 +111,7 @@ lesser-is t (Some other) = by (nat_lt other t) refl
     by false is = let above : t ≤ other = higher other t is in let e : t ≡ min t other = omega (arith, above) in ap (λ n. Some n) e
 
 -- the least target that a line says is down is the least of those that were given up
-down-is : (lines : List Line) → least_down lines ≡ least (down_targets lines)
+pub down-is : (lines : List Line) → least_down lines ≡ least (down_targets lines)
 down-is [] = refl
 down-is (line.Try a ∷ lines) = down-is lines
 down-is (line.Stop n t ∷ lines) = down-is lines
@@ -131,7 +131,7 @@ is_of_collections (line.Aggregate number target cont upto) = true
 is_of_collections l = false
 
 -- where none is made, no attempt makes one
-none-made : (g : Given) (x : AttemptId) (d : Command) → Unsnapped (rules_of g) → command_of g.script x ≡ Some d → is_unsnapped d ≡ false → ⊥
+pub none-made : (g : Given) (x : AttemptId) (d : Command) → Unsnapped (rules_of g) → command_of g.script x ≡ Some d → is_unsnapped d ≡ false → ⊥
 none-made g x d plain is makes = let bad : is_unsnapped d ≡ true = (command-plain (rules_of g) x d plain is).0 in let no : ⊥ = cc in no
 
 comes-not : (g : Given) (lines : List Line) (l : Line) → Unsnapped (rules_of g) → ComesFrom g.script (tries lines) l → is_of_collections l ≡ true → ⊥

@@ -1,5 +1,5 @@
 -- What a lack of space tells has small numbers: of one of the targets, and of few blocks.
-use Rattle.std.specs.Prelude.{ℕ, ◌≡◌, ◌≤◌, ◌<◌, ◌+◌, ◌*◌, ◌^◌, ◌&&◌, true, nat_le, nat_lt, List, [], ◌∷◌, length, All}
+use Rattle.std.specs.Prelude.{ℕ, ◌≡◌, ◌≤◌, ◌<◌, ◌+◌, ◌*◌, ◌^◌, true, nat_le, List, [], ◌∷◌, length, All}
 use Rattle.std.specs.Int.{div_ceil}
 use Rattle.std.proofs.Common.{arith}
 use Rattle.std.proofs.lemmas.Bool.Decides.{nat_tests}
@@ -14,7 +14,7 @@ use Rattle.base_types.specs.Scripts.{IsInForm}
 use Rattle.model_laws.specs.HoldingLaws.{holder-within, some-blocks}
 use Rattle.daos_model.specs.Accesses.{minor_writes}
 use Rattle.daos_model.specs.Blocks.{blocks, sum_of_blocks, write_blocks}
-use Rattle.daos_model.specs.BoolLaws.{and_left, and_right}
+use Rattle.daos_model.specs.BoolLaws.{and_right}
 use Rattle.daos_model.specs.CausesShown.{blocks_at, blocks_of_some, writes_at}
 use Rattle.daos_model.specs.ExtentForms.{written-length}
 use Rattle.daos_model.specs.Forms.{AreWritesInForm, ends_at_akey, is_length, is_write_in_form}
