@@ -1,10 +1,1 @@
-mod Accounting
-mod Clients
-mod Fitting
-mod Givings
-mod Going
-mod Leading
-mod Lettered
-mod Opening
-mod Parts
-mod Stopping
+

@@ -3,8 +3,8 @@ ghost use Rattle.std.specs.Prelude.{◌≡◌, ◌<◌, ◌≤◌, ℕ, length, 
 ghost use Rattle.client_core.specs.Clients.{ClientNow};
 ghost use Rattle.daos_model.specs.declared.durable.Durable.{Durable};
 ghost use Rattle.run_base.specs.Picks.{count_to, heard_awake, is_due};
-ghost use Rattle.run_stage.specs.Due.{AllAreDue, is_due_client};
-ghost use Rattle.run_stage.specs.Shows.{Shows};
+ghost use Rattle.run_shows.specs.Due.{AllAreDue, is_due_client};
+ghost use Rattle.run_shows.specs.Shows.{Shows};
 ghost use Rattle.run_turns.specs.Turns.{heard_where};
 ghost use Rattle.world_base.specs.declared.target.Life.{Life};
 ghost use Rattle.world_base.specs.declared.world.World.{World};

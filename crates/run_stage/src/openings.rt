@@ -1,16 +1,16 @@
 // A target opens again.
 ghost use Rattle.std.specs.Prelude.{◌≡◌, ◌≤◌, ◌<◌, ℕ, Bool, List, length, OnOk, Some, slice_get};
 ghost use Rattle.base_types.specs.declared.script.StopDecl.{StopDecl};
-ghost use Rattle.run_stage.specs.Accounts.{AreAccounted, AreServed};
-ghost use Rattle.run_stage.specs.CanGo.{CanGo};
-ghost use Rattle.run_stage.specs.Shows.{Leads};
+ghost use Rattle.run_shows.specs.Accounts.{AreAccounted, AreServed};
+ghost use Rattle.run_shows.specs.CanGo.{CanGo};
+ghost use Rattle.run_shows.specs.Shows.{Leads};
 ghost use Rattle.run_turns.specs.Turns.{TurnOf};
 ghost use Rattle.vos_store.specs.Calls.{State};
 ghost use Rattle.world_base.specs.declared.target.Life.{Life};
 ghost use Rattle.world_base.specs.Events.{Rules};
 ghost use Rattle.world_base.specs.Letters.{target};
-ghost use Rattle.run_stage.specs.Openings.{AfterOpening, IsArmed};
-ghost use Rattle.run_stage.specs.Turned.{AfterFailure};
+ghost use Rattle.run_shows.specs.Openings.{AfterOpening, IsArmed};
+ghost use Rattle.run_shows.specs.Turned.{AfterFailure};
 ghost use Rattle.target_core.specs.Targets.{TargetOf};
 
 use crate::stage::Stage;

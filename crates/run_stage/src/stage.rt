@@ -24,7 +24,7 @@ pub struct Stage<S: Store, C: Clock> {
 
 impl<S: Store, C: Clock> Model for Stage<S, C> {
     ghost use Rattle.base_messages.specs.contracts.message.Message as message;
-    ghost use Rattle.run_stage.specs.Stages.{StageNow};
+    ghost use Rattle.run_shows.specs.Stages.{StageNow};
     ghost use Rattle.std.specs.Coded.{codes};
 
     ghost Value = { StageNow S C };

@@ -3,10 +3,10 @@ ghost use Rattle.std.specs.Prelude.{◌≡◌, ◌<◌, ◌≤◌, ℕ, Bool, Li
 ghost use Rattle.base_types.specs.declared.script.StopDecl.{StopDecl};
 ghost use Rattle.run_base.specs.Letters.{IsPicked};
 ghost use Rattle.run_base.specs.Picks.{count_to};
-ghost use Rattle.run_stage.specs.Accounts.{AreAccounted, AreServed};
-ghost use Rattle.run_stage.specs.CanGo.{CanGo, IsHearable};
-ghost use Rattle.run_stage.specs.Shows.{Leads};
-ghost use Rattle.run_stage.specs.Turned.{IsTurned, followed, swept_stage, with_between};
+ghost use Rattle.run_shows.specs.Accounts.{AreAccounted, AreServed};
+ghost use Rattle.run_shows.specs.CanGo.{CanGo, IsHearable};
+ghost use Rattle.run_shows.specs.Shows.{Leads};
+ghost use Rattle.run_shows.specs.Turned.{IsTurned, followed, swept_stage, with_between};
 ghost use Rattle.run_turns.specs.Turns.{TurnOf};
 ghost use Rattle.vos_store.specs.Calls.{State};
 ghost use Rattle.vos_store.specs.Refusals.{says};

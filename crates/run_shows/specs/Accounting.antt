@@ -11,11 +11,11 @@ use Rattle.base_types.specs.declared.script.StopDecl.{StopDecl}
 use Rattle.daos_model.specs.Stops.{down_targets, is_stop_at}
 use Rattle.daos_model.specs.declared.durable.Durable.{Durable}
 use Rattle.model_laws.specs.Members.{Has, contains-from_has, has-cases, has-from_contains}
-use Rattle.run_stage.proofs.Going.{AreFindable, found-some, some-found, was}
-use Rattle.run_stage.proofs.Parts.{IsTurnSo}
-use Rattle.run_stage.specs.Accounts.{AtMostRises, IsAccounted, one_if, stop_lines_of, stops_told_in}
-use Rattle.run_stage.specs.Shows.{IsGoing, Leads}
-use Rattle.run_stage.specs.Stages.{StageNow}
+use Rattle.run_shows.specs.Going.{AreFindable, found-some, some-found, was}
+use Rattle.run_shows.specs.Parts.{IsTurnSo}
+use Rattle.run_shows.specs.Accounts.{AtMostRises, IsAccounted, one_if, stop_lines_of, stops_told_in}
+use Rattle.run_shows.specs.Shows.{IsGoing, Leads}
+use Rattle.run_shows.specs.Stages.{StageNow}
 use Rattle.run_turns.specs.StopLines.{one_or_none, turns-tell_stops}
 use Rattle.run_watch.specs.Watches.{next_fuse, write_of}
 use Rattle.target_core.specs.Targets.{TargetOf}

@@ -3,8 +3,8 @@ use Rattle.std.specs.Prelude.{ℕ, ◌≡◌, ◌<◌, ◌^◌, false, true, len
 use Rattle.std.specs.Option.{ForSome}
 use Rattle.client_core.specs.Clients.{ClientNow}
 use Rattle.daos_model.specs.declared.durable.Durable.{Durable}
-use Rattle.run_stage.specs.Shows.{IsGoing}
-use Rattle.run_stage.specs.Stages.{IsPlace, StageNow}
+use Rattle.run_shows.specs.Shows.{IsGoing}
+use Rattle.run_shows.specs.Stages.{IsPlace, StageNow}
 use Rattle.target_core.specs.Targets.{CanHear, TargetOf}
 use Rattle.vos_store.specs.Calls.{State}
 use Rattle.world_base.specs.declared.letter.Letter.{Letter}

@@ -7,10 +7,10 @@ use Rattle.client_core.specs.Clients.{ClientNow}
 use Rattle.daos_model.specs.declared.durable.Durable.{Durable}
 use Rattle.run_base.specs.Letters.{BetweenNow, IsPicked}
 use Rattle.run_base.specs.Sweeps.{SweepsAreOfLives, is_left_by, is_lost_by, lives_of, sweeps-are-of_lives}
-use Rattle.run_stage.specs.ListLaws.{get-set, length-set, map-get, map-set}
-use Rattle.run_stage.specs.Shows.{IsTargetOf, Leads, Shows, state_of}
-use Rattle.run_stage.specs.Stages.{IsPlace, StageNow}
-use Rattle.run_stage.specs.Turned.{followed, swept_between, swept_stage, with_between}
+use Rattle.run_shows.specs.ListLaws.{get-set, length-set, map-get, map-set}
+use Rattle.run_shows.specs.Shows.{IsTargetOf, Leads, Shows, state_of}
+use Rattle.run_shows.specs.Stages.{IsPlace, StageNow}
+use Rattle.run_shows.specs.Turned.{followed, swept_between, swept_stage, with_between}
 use Rattle.run_turns.specs.Raising.{raised_in}
 use Rattle.run_turns.specs.StopLines.{given_up_by, stops_by}
 use Rattle.run_turns.specs.Turns.{TurnOf}

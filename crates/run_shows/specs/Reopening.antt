@@ -11,12 +11,12 @@ use Rattle.model_laws.specs.Members.{Has}
 use Rattle.model_laws.specs.TargetLaws.{same_number}
 use Rattle.daos_model.specs.declared.durable.Durable.{Durable}
 use Rattle.run_base.specs.Letters.{BetweenNow}
-use Rattle.run_stage.proofs.Parts.{IsThere, IsTurnSo, is-set, set-same, swept-shown, target-shown, target-there}
-use Rattle.run_stage.proofs.Givings.{FaultBy}
-use Rattle.run_stage.specs.Openings.{HasFuse}
-use Rattle.run_stage.specs.Shows.{IsFoundFrom, IsLed, IsTargetOf, Leads, Shows, WasReached}
-use Rattle.run_stage.specs.Stages.{AreFound, IsPlace, StageNow}
-use Rattle.run_stage.specs.Turned.{followed, swept_stage, with_between}
+use Rattle.run_shows.specs.Parts.{IsThere, IsTurnSo, is-set, set-same, swept-shown, target-shown, target-there}
+use Rattle.run_shows.specs.Givings.{FaultBy}
+use Rattle.run_shows.specs.Openings.{HasFuse}
+use Rattle.run_shows.specs.Shows.{IsFoundFrom, IsLed, IsTargetOf, Leads, Shows, WasReached}
+use Rattle.run_shows.specs.Stages.{AreFound, IsPlace, StageNow}
+use Rattle.run_shows.specs.Turned.{followed, swept_stage, with_between}
 use Rattle.run_turns.specs.Turns.{Acts, Opening}
 use Rattle.run_watch.specs.Watches.{WatchNow}
 use Rattle.target_core.specs.Targets.{OpensAs, TargetOf}

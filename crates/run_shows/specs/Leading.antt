@@ -6,10 +6,10 @@ use Rattle.base_messages.specs.declared.message.Message.{Message}
 use Rattle.daos_model.specs.declared.durable.Durable.{Durable}
 use Rattle.run_base.specs.Letters.{BetweenNow, IsPicked}
 use Rattle.run_base.specs.Picks.{count_to}
-use Rattle.run_stage.proofs.Parts.{IsTurnSo, follow-shown, picked-takes, set-same, swept-shown, target-shown, target-there, IsThere}
-use Rattle.run_stage.specs.Shows.{IsLed, IsTargetOf, Leads, Shows}
-use Rattle.run_stage.specs.Stages.{AreFound, IsPlace, StageNow}
-use Rattle.run_stage.specs.Turned.{ByHearing, ByIdling, IsTurned, followed, swept_stage, with_between, with_target_at}
+use Rattle.run_shows.specs.Parts.{IsTurnSo, follow-shown, picked-takes, set-same, swept-shown, target-shown, target-there, IsThere}
+use Rattle.run_shows.specs.Shows.{IsLed, IsTargetOf, Leads, Shows}
+use Rattle.run_shows.specs.Stages.{AreFound, IsPlace, StageNow}
+use Rattle.run_shows.specs.Turned.{ByHearing, ByIdling, IsTurned, followed, swept_stage, with_between, with_target_at}
 use Rattle.run_turns.specs.Turns.{Doing}
 use Rattle.target_core.specs.Targets as heard
 use Rattle.target_core.specs.Targets.{Heard, TargetOf}

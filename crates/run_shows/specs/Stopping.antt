@@ -9,12 +9,12 @@ use Rattle.daos_model.specs.declared.durable.Durable.{Durable}
 use Rattle.model_laws.specs.TargetLaws.{same_number}
 use Rattle.run_base.specs.Letters.{BetweenNow, IsPicked}
 use Rattle.run_base.specs.Picks.{count_to}
-use Rattle.run_stage.proofs.Givings.{FaultBy}
-use Rattle.run_stage.proofs.Leading.{NonePrunes}
-use Rattle.run_stage.proofs.Parts.{IsThere, is-set, picked-takes, swept-shown, target-shown, target-there}
-use Rattle.run_stage.specs.Shows.{IsLed, IsTargetOf, Leads, Shows}
-use Rattle.run_stage.specs.Stages.{AreFound, IsPlace, StageNow}
-use Rattle.run_stage.specs.Turned.{ByHearing, ByIdling, IsTurned, cut_between, given_up_between, given_up_stage, stopped_stage, swept_stage, with_between}
+use Rattle.run_shows.specs.Givings.{FaultBy}
+use Rattle.run_shows.specs.Leading.{NonePrunes}
+use Rattle.run_shows.specs.Parts.{IsThere, is-set, picked-takes, swept-shown, target-shown, target-there}
+use Rattle.run_shows.specs.Shows.{IsLed, IsTargetOf, Leads, Shows}
+use Rattle.run_shows.specs.Stages.{AreFound, IsPlace, StageNow}
+use Rattle.run_shows.specs.Turned.{ByHearing, ByIdling, IsTurned, cut_between, given_up_between, given_up_stage, stopped_stage, swept_stage, with_between}
 use Rattle.run_turns.specs.Turns.{Acts, IsAtWork}
 use Rattle.run_watch.specs.Watches.{with_life}
 use Rattle.target_core.specs.Targets.{TargetOf, cutting}

@@ -4,10 +4,10 @@ use Rattle.std.proofs.Common.{inl, inr, sym, ◌∙◌, ap, subst}
 use Rattle.std.proofs.lemmas.Bool.{cases_eq}
 use Rattle.base_types.specs.declared.report.Line.TheVariants as line
 use Rattle.daos_model.specs.declared.durable.Durable.{Durable}
-use Rattle.run_stage.proofs.Parts.{IsThere, IsTurnSo, is-set, set-same, swept-shown, target-shown, target-there}
-use Rattle.run_stage.specs.Shows.{IsLed, IsTargetOf, Leads, Shows, WasReached}
-use Rattle.run_stage.specs.Stages.{AreFound, IsPlace, StageNow}
-use Rattle.run_stage.specs.Turned.{AfterStop, Failed, LastTime, NotFailed, failed_stage, given_up_between, given_up_stage, swept_stage}
+use Rattle.run_shows.specs.Parts.{IsThere, IsTurnSo, is-set, set-same, swept-shown, target-shown, target-there}
+use Rattle.run_shows.specs.Shows.{IsLed, IsTargetOf, Leads, Shows, WasReached}
+use Rattle.run_shows.specs.Stages.{AreFound, IsPlace, StageNow}
+use Rattle.run_shows.specs.Turned.{AfterStop, Failed, LastTime, NotFailed, failed_stage, given_up_between, given_up_stage, swept_stage}
 use Rattle.run_turns.specs.Raising.{raised_by}
 use Rattle.run_turns.specs.Turns.{Acts, Doing, GivesUp, GivingUp, IsFault, IsNoOpening}
 use Rattle.world_lives.specs.Events.{stops_in}

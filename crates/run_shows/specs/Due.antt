@@ -4,8 +4,8 @@ use Rattle.client_core.specs.Clients.{ClientNow}
 use Rattle.base_messages.specs.declared.actor.ActorId.{ActorId}
 use Rattle.daos_model.specs.declared.durable.Durable.{Durable}
 use Rattle.run_base.specs.Picks.{count_to, is_client_due, is_due, numbered}
-use Rattle.run_stage.specs.Shows.{Shows}
-use Rattle.run_stage.specs.Stages.{StageNow}
+use Rattle.run_shows.specs.Shows.{Shows}
+use Rattle.run_shows.specs.Stages.{StageNow}
 use Rattle.vos_store.specs.Calls.{State}
 use Rattle.world_base.specs.declared.letter.Letter.{Letter}
 use Rattle.world_base.specs.declared.world.World.{World}

@@ -6,11 +6,11 @@ use Rattle.client_core.specs.Clients.{ClientNow}
 use Rattle.daos_model.specs.declared.durable.Durable.{Durable}
 use Rattle.run_base.specs.Letters.{BetweenNow, IsPicked}
 use Rattle.run_base.specs.Picks.{count_to, heard_awake, heard_by_client}
-use Rattle.run_stage.proofs.Parts.{IsTurnSo, follow-shown, picked-takes, swept-shown}
-use Rattle.run_stage.specs.ListLaws.{get-set, map-get, map-set}
-use Rattle.run_stage.specs.Shows.{Leads, Shows, state_of}
-use Rattle.run_stage.specs.Stages.{AreFound, StageNow}
-use Rattle.run_stage.specs.Turned.{followed, swept_stage, with_between}
+use Rattle.run_shows.specs.Parts.{IsTurnSo, follow-shown, picked-takes, swept-shown}
+use Rattle.run_shows.specs.ListLaws.{get-set, map-get, map-set}
+use Rattle.run_shows.specs.Shows.{Leads, Shows, state_of}
+use Rattle.run_shows.specs.Stages.{AreFound, StageNow}
+use Rattle.run_shows.specs.Turned.{followed, swept_stage, with_between}
 use Rattle.run_turns.specs.Turns.{Doing}
 use Rattle.vos_store.specs.Calls.{State}
 use Rattle.world_base.specs.declared.did.Did.{Did}

@@ -9,7 +9,7 @@ use Rattle.daos_model.specs.BoolLaws.{and_left, and_right}
 use Rattle.model_laws.specs.Members.{Has, contains-from_has, has-cases, has-from_contains, has-from_filter, has-from_map, has-left, has-right}
 use Rattle.run_base.specs.Letters.{BetweenNow}
 use Rattle.run_base.specs.Sweeps.{is_down_in, is_given_up_there, is_left_by, is_lost_by}
-use Rattle.run_stage.specs.Turned.{cut_between, followed, given_up_between, swept_between}
+use Rattle.run_shows.specs.Turned.{cut_between, followed, given_up_between, swept_between}
 use Rattle.world_base.specs.declared.did.Did.{Did}
 use Rattle.world_base.specs.declared.letter.Letter.{Letter}
 use Rattle.world_base.specs.declared.target.Life.{Life}

@@ -7,7 +7,7 @@ use Rattle.client_core.specs.Clients.{ClientNow}
 use Rattle.daos_model.specs.declared.durable.Durable.{Durable}
 use Rattle.daos_model.specs.Opening.{Opening}
 use Rattle.run_base.specs.Sweeps.{lives_of}
-use Rattle.run_stage.specs.Stages.{AreFound, IsPlace, StageNow}
+use Rattle.run_shows.specs.Stages.{AreFound, IsPlace, StageNow}
 use Rattle.target_core.specs.Targets.{TargetOf}
 use Rattle.vos_store.specs.Calls.{State}
 use Rattle.world_base.specs.declared.client.ClientState.{ClientState}
@@ -22,6 +22,14 @@ use Rattle.world_whole.specs.Begins.{IsBegun, IsSimple}
 
 abbrev pub state_of : ClientNow → ClientState
 state_of c = c.state
+
+-- a run from its beginning has reached this world: of a script in form, for some targets, without snapshots and aggregation
+pub record WasReached (r : Rules) (w : World) : Type 0 where
+  pub opening : Opening
+  pub first : World
+  pub simple : IsSimple r
+  pub begun : IsBegun r opening first
+  pub run : WorldRun r first w
 
 module _ {S C : Type 0} (durable : S → Option Durable) (state : S → State) where
   -- A target that runs is so in the world: it has opened, its store runs and tells what it keeps.
@@ -62,14 +70,6 @@ module _ {S C : Type 0} (durable : S → Option Durable) (state : S → State) w
     pub issued : a.between.issued ≡ w.issued
     pub lines : a.between.lines ≡ w.lines
     pub restarts : w.numbers.restarts ≡ a.watch.restarts
-
-  -- a run from its beginning has reached this world: of a script in form, for some targets, without snapshots and aggregation
-  pub record WasReached (r : Rules) (w : World) : Type 0 where
-    pub opening : Opening
-    pub first : World
-    pub simple : IsSimple r
-    pub begun : IsBegun r opening first
-    pub run : WorldRun r first w
 
   -- a world was led to this one, which the actors show
   pub record IsLed (T : World → World → Type 0) (r : Rules) (found : ℕ → Durable) (w : World) (b : StageNow S C) : Type 0 where

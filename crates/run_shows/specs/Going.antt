@@ -5,10 +5,10 @@ use Rattle.std.proofs.lemmas.Bool.{cases_eq}
 use Rattle.base_messages.specs.declared.actor.ActorId.{ActorId}
 use Rattle.daos_model.specs.Durables.{empty_durable}
 use Rattle.daos_model.specs.declared.durable.Durable.{Durable}
-use Rattle.run_stage.proofs.Opening.{choosing, chosen, others}
-use Rattle.run_stage.proofs.Parts.{IsTurnSo, at-both, place-of, target-there}
-use Rattle.run_stage.specs.Shows.{IsCounted, IsGoing, IsReached, IsTargetOf, Leads, Shows, WasReached}
-use Rattle.run_stage.specs.Stages.{AreFound, IsPlace, StageNow}
+use Rattle.run_shows.specs.Reopening.{choosing, chosen, others}
+use Rattle.run_shows.specs.Parts.{IsTurnSo, at-both, place-of, target-there}
+use Rattle.run_shows.specs.Shows.{IsCounted, IsGoing, IsReached, IsTargetOf, Leads, Shows, WasReached}
+use Rattle.run_shows.specs.Stages.{AreFound, IsPlace, StageNow}
 use Rattle.run_turns.specs.OrderLaws.{run-then, turn-run}
 use Rattle.run_turns.specs.Raising.{turns-raise}
 use Rattle.target_core.specs.Targets.{TargetOf}
@@ -52,7 +52,7 @@ module _ {S C : Type 0} (durable : S → Option Durable) (state : S → State) (
   -- ---- a run goes on
 
   module _ (a b : StageNow S C) (settling : Bool) (actor : ActorId) (k raised : ℕ) (stops downs : Option ℕ) (g : IsGoing durable state may a) (leads : Leads durable state may (IsTurnSo settling g.rules actor k raised stops downs) g.rules a b) where
-    was : (found : ℕ → Durable) → AreFound may a found → (y : IsReached durable state may g.rules g.first found a) → WasReached durable state g.rules y.now
+    was : (found : ℕ → Durable) → AreFound may a found → (y : IsReached durable state may g.rules g.first found a) → WasReached g.rules y.now
     was found are y = record { opening = g.opening; first = g.first; simple = g.simple; begun = g.begun; run = y.run }
 
     pub reached-on : (found : ℕ → Durable) → AreFound may b found → IsReached durable state may g.rules g.first found b

@@ -4,7 +4,7 @@ use Rattle.base_types.specs.declared.report.Line.{Line}
 use Rattle.base_types.specs.declared.script.StopDecl.{StopDecl}
 use Rattle.daos_model.specs.declared.durable.Durable.{Durable}
 use Rattle.daos_model.specs.Stops.{down_targets, is_stop_at, lines_at, stop_numbers}
-use Rattle.run_stage.specs.Stages.{StageNow}
+use Rattle.run_shows.specs.Stages.{StageNow}
 use Rattle.target_core.specs.Targets.{TargetOf}
 use Rattle.target_parts.specs.Readings.{IsReadOn}
 use Rattle.vos_store.specs.Calls.{State}

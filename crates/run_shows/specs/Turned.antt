@@ -9,7 +9,7 @@ use Rattle.daos_model.specs.declared.durable.Durable.{Durable}
 use Rattle.run_base.specs.Letters.{BetweenNow, IsPicked}
 use Rattle.run_base.specs.Picks.{count_to}
 use Rattle.run_base.specs.Sweeps.{is_left_by, is_lost_by}
-use Rattle.run_stage.specs.Stages.{StageNow}
+use Rattle.run_shows.specs.Stages.{StageNow}
 use Rattle.target_core.specs.Targets.{HearsOrStops, IdlesOrStops, TargetOf}
 use Rattle.run_watch.specs.Watches.{after_fault, with_life}
 use Rattle.target_parts.specs.declared.stop.TargetStop.{TargetStop}

@@ -1,8 +1,8 @@
 -- What an opening leaves of the actors.
 use Rattle.std.specs.Prelude.{ℕ, ◌≡◌, slice_set, Option}
 use Rattle.daos_model.specs.declared.durable.Durable.{Durable}
-use Rattle.run_stage.specs.Stages.{StageNow}
-use Rattle.run_stage.specs.Turned.{followed, swept_stage}
+use Rattle.run_shows.specs.Stages.{StageNow}
+use Rattle.run_shows.specs.Turned.{followed, swept_stage}
 use Rattle.run_watch.specs.Watches.{fuse_set, next_fuse, opened_again}
 use Rattle.target_core.specs.Targets.{TargetOf}
 use Rattle.vos_store.specs.Calls.{SetsFuse, State}

@@ -10,14 +10,14 @@ use Rattle.base_types.specs.declared.report.Line.{Line}
 use Rattle.daos_model.specs.declared.durable.Durable.{Durable}
 use Rattle.model_laws.specs.Members.{Has, contains-from_has, has-from_contains}
 use Rattle.run_base.specs.Letters.{BetweenNow}
-use Rattle.run_stage.proofs.Givings.{lives-same}
-use Rattle.run_stage.proofs.Lettered.{AllInForm, asked-lost, lost-form, swept-form}
-use Rattle.run_stage.proofs.Parts.{is-set}
-use Rattle.run_stage.specs.CanGo.{CanGo, CanWork}
-use Rattle.run_stage.specs.ListLaws.{get-set, length-set}
-use Rattle.run_stage.specs.Shows.{IsGoing}
-use Rattle.run_stage.specs.Stages.{IsPlace, StageNow}
-use Rattle.run_stage.specs.Turned.{AfterStop, Failed, LastTime, NotFailed, cut_between, failed_stage, given_up_between, given_up_stage, stopped_stage, swept_between, swept_stage}
+use Rattle.run_shows.specs.Givings.{lives-same}
+use Rattle.run_shows.specs.Lettered.{AllInForm, asked-lost, lost-form, swept-form}
+use Rattle.run_shows.specs.Parts.{is-set}
+use Rattle.run_shows.specs.CanGo.{CanGo, CanWork}
+use Rattle.run_shows.specs.ListLaws.{get-set, length-set}
+use Rattle.run_shows.specs.Shows.{IsGoing}
+use Rattle.run_shows.specs.Stages.{IsPlace, StageNow}
+use Rattle.run_shows.specs.Turned.{AfterStop, Failed, LastTime, NotFailed, cut_between, failed_stage, given_up_between, given_up_stage, stopped_stage, swept_between, swept_stage}
 use Rattle.run_watch.specs.Watches.{WatchNow, after_fault, with_life}
 use Rattle.target_core.specs.Targets.{TargetOf}
 use Rattle.vos_store.specs.Calls.{State}
