@@ -2,4 +2,4 @@ use Rattle.run_shows.specs.Reopening.{reached-swept}
 use Rattle.run_shows.proofs.laws_of_reached_worlds.Goals as goal
 
 pub returns : goal.returns
-returns c = reached-swept
+returns c = record { swept = reached-swept }
