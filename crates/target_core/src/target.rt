@@ -12,7 +12,7 @@ ghost use Rattle.target_parts.specs.Knowing.{IsHeard};
 ghost use Rattle.target_parts.specs.Parts.{Runs};
 ghost use Rattle.target_parts.specs.Readings.{IsReadUpTo, most_readings};
 ghost use Rattle.target_parts.specs.Stops.{stop_foreign, stop_store};
-ghost use Rattle.target_resync.specs.Openings.{IsBare, Left, Reopens};
+ghost use Rattle.target_resync.specs.Openings.{IsBare, Left, Reopens, TellsRestart};
 ghost use Rattle.target_core.specs.Targets.{CanHear, HearsOrStops, IdlesOrStops, IsInForm, OpensAs, has_epoch, is_of_client};
 
 use crate::hearing::hear_message;
@@ -217,6 +217,7 @@ impl<S: Store, C: Clock> Target<S, C> {
         ensures bare { IfErr result IsBare }
         ensures native { IsSome (S.durable self.old.store) → says stop_foreign result ≡ false }
         ensures posts { IfOk result (λ did. Follows self.old.plan.targets self.new.memory.leader did.posts) }
+        ensures line { IfOk result (TellsRestart number self.old.plan.me) }
         ensures opened { self.new.opened ≡ is_ok result }
     {
         match restart(self.alloc, self.plan, &mut self.store, number) {

@@ -5,6 +5,7 @@ use Rattle.base_types.specs.declared.entry.Entry.{Entry}
 use Rattle.base_types.specs.declared.epoch.Epoch.{Epoch}
 use Rattle.base_types.specs.declared.outcome.FloorWhy.{FloorWhy}
 use Rattle.base_types.specs.declared.outcome.FloorWhy.TheVariants.{Restart}
+use Rattle.base_types.specs.declared.report.Line.TheVariants as line
 use Rattle.daos_model.specs.Changes.{reopened}
 use Rattle.daos_model.specs.declared.durable.Durable.{Durable}
 use Rattle.vos_store.specs.Calls.{Ailed, Fires, State}
@@ -82,6 +83,10 @@ opening_floor n x = (record { 0 = restart_floor x.lease }, Restart n)
 -- its restart line is added, and the other members of what it leads are asked
 abbrev pub opening_did : TargetPlan → ℕ → Durable → Did
 opening_did t n x = record { posts = opening_posts t (reopened x); lines = restart_line n t.me x ∷ []; issued = None }
+
+-- one line is added, which tells of the restart of this number, and no epoch is issued, whatever is told of what is kept
+abbrev pub TellsRestart : ℕ → ℕ → Did → Type 0
+TellsRestart n me did = (inc : ℕ) × (floor : Epoch) × (did.lines ≡ line.Restart n me inc floor ∷ []) × (did.issued ≡ None)
 
 -- It opened, by the restart of a number, with this of what its store may have kept.
 pub record OpensWith (t : TargetPlan) (n : ℕ) (may : Durable → Type 0) (new : Option Durable) (k : State) (o : Opened) : Type 0 where

@@ -10,7 +10,7 @@ ghost use Rattle.world_posts.specs.Forms.{Follows};
 ghost use Rattle.target_parts.specs.Knowing.{IsHeard};
 ghost use Rattle.target_parts.specs.Standing.{IsPlaced, IsTarget};
 ghost use Rattle.target_parts.specs.Stops.{stop_foreign};
-ghost use Rattle.target_resync.specs.Openings.{HasEntries, IsBare, Left, OpensWith, Reopens, of_later, of_reopen};
+ghost use Rattle.target_resync.specs.Openings.{HasEntries, IsBare, Left, OpensWith, Reopens, TellsRestart, of_later, of_reopen};
 
 use crate::opening::{first_knows, opening_did};
 use base_types::entry::Entries;
@@ -96,6 +96,7 @@ pub fn restart<S: Store>(
     ensures bare { IfErr result IsBare }
     ensures native { IsSome (S.durable store.old) → says stop_foreign result ≡ false }
     ensures posts { IfOk result (λ o. Follows plan.targets o.knows.leader o.did.posts) }
+    ensures line { IfOk result (λ o. TellsRestart number plan.me o.did) }
     ensures target { IfOk result (λ o. IsTarget plan (S.state store.new) (S.durable store.new) o.knows) }
 {
     let entries = reopen(alloc, store, number)?;

@@ -1,4 +1,5 @@
-use Rattle.std.proofs.Common.{◌≡◌, ◌<◌, ◌^◌, ◌∙◌, ap, filter, subst, sym, Some}
+use Rattle.std.proofs.Common.{◌≡◌, ◌<◌, ◌^◌, ◌-◌, ◌∙◌, ap, filter, min, subst, sym, Some}
+use Rattle.base_types.specs.Epochs.{restart_floor}
 use Rattle.daos_model.specs.declared.durable.Durable.{Durable}
 use Rattle.dtx_base.specs.Leading.{first_memory, is_led, is_open}
 use Rattle.world_base.specs.Statuses.{opening_memory}
@@ -47,3 +48,6 @@ returns-clause-posts g c =
     let asked = filter is_open (filter (is_led c.args.plan.me) c.as_slice.result.now) in
     subst (λ m. Follows c.args.plan.targets m c.in_ok-did.did.posts) (sym c.in_ok-knows.ensures.leader)
     (subst (Follows c.args.plan.targets (first_memory led)) (sym c.in_ok-did.ensures.posts) (openings-post-in-form c.args.plan.targets c.incarnation-incarnation.result led asked))
+
+pub returns-clause-line : goal.returns-clause-line
+returns-clause-line g c = (c.incarnation-incarnation.result, record { 0 = min (2 ^ 64 - 1) (restart_floor c.lease-lease.result) }, c.in_ok-did.ensures.lines, c.in_ok-did.ensures.issued)
