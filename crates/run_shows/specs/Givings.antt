@@ -5,6 +5,7 @@ use Rattle.std.proofs.lemmas.Bool.{cases_eq}
 use Rattle.base_types.specs.declared.report.Line.TheVariants as line
 use Rattle.daos_model.specs.declared.durable.Durable.{Durable}
 use Rattle.run_shows.specs.Parts.{IsThere, IsTurnSo, is-set, set-same, swept-shown, target-shown, target-there}
+use Rattle.run_shows.specs.ListLaws.{length-set}
 use Rattle.run_shows.specs.Shows.{IsLed, IsTargetOf, Leads, Shows, WasReached}
 use Rattle.run_shows.specs.Stages.{AreFound, IsPlace, StageNow}
 use Rattle.run_shows.specs.Turned.{AfterStop, Failed, LastTime, NotFailed, failed_stage, given_up_between, given_up_stage, swept_stage}
@@ -50,31 +51,32 @@ restarts-same t n w = by (n == 8)
     by true = refl
     by false = refl
 
+-- a fault is no opening
+fault-opens-none : (r : Rules) {w u : World} (e : Happening r w u) → IsFault r e → IsNoOpening r e
+fault-opens-none r (Plainly e up) f = absurd f
+fault-opens-none r (Further g) f = absurd f
+fault-opens-none r (IsCut g) f = tt
+fault-opens-none r (Opens g) f = absurd f
+fault-opens-none r (Fails g) f = tt
+fault-opens-none r (GivenUp g) f = absurd f
+fault-opens-none r (Draws g) f = absurd f
+
+-- the world once a target was given up
+abbrev world-after : ℕ → World → TargetState → World
+world-after t w s = with_lost t true (with_target t (record s { life = Down }) (record w { lines = w.lines ++ line.Down t ∷ [] }))
+
 module _ {S C : Type 0} (durable : S → Option Durable) (state : S → State) (r : Rules) (t : ℕ) where
-  -- a fault is no opening
-  fault-opens-none : {w u : World} (e : Happening r w u) → IsFault r e → IsNoOpening r e
-  fault-opens-none (Plainly e up) f = absurd f
-  fault-opens-none (Further g) f = absurd f
-  fault-opens-none (IsCut g) f = tt
-  fault-opens-none (Opens g) f = absurd f
-  fault-opens-none (Fails g) f = tt
-  fault-opens-none (GivenUp g) f = absurd f
-  fault-opens-none (Draws g) f = absurd f
-
   -- ---- given up
-
-  abbrev world-after : World → TargetState → World
-  world-after w s = with_lost t true (with_target t (record s { life = Down }) (record w { lines = w.lines ++ line.Down t ∷ [] }))
 
   module _ (a : StageNow S C) (x : TargetOf S C) (place : IsPlace a t x Stopped) (found : ℕ → Durable) (w : World) (k : Shows durable state r found a w) (s : IsThere durable state r found w t x Stopped) where
     gone : IsTargetOf durable state (target_plan r t) Down (found t) x (record s.s { life = Down })
     gone = record { made = s.is.made; lives = refl; so = record { keeps = s.is.so.keeps; free = s.is.so.free; forgot = s.is.so.forgot } }
 
-    pub given_up-shown : Shows durable state r found (swept_stage (given_up_stage t a)) (swept (world-after w s.s))
+    pub given_up-shown : Shows durable state r found (swept_stage (given_up_stage t a)) (swept (world-after t w s.s))
     given_up-shown = swept-shown durable state r found _ _ (record {
       clients = put.clients;
       plans = put.plans;
-      many = put.many;
+      many = put.many ∙ length-set a.targets t x;
       lives = put.lives;
       targets = λ u z life v p at. put.targets u z life v (record { there = ap (λ xs. slice_get xs u) (sym (set-same a.targets t x place.there)) ∙ p.there; stands = p.stands }) at;
       messages = ap (λ ms. (given_up-of ms a.between.asked)) k.messages ∙ ap (λ q. given_up-of w.messages q) k.asked;
@@ -90,8 +92,8 @@ module _ {S C : Type 0} (durable : S → Option Durable) (state : S → State) (
         put : Shows durable state r found (record a { targets = slice_set a.targets t x; watch = with_life t Down a.watch }) (with_target t (record s.s { life = Down }) w)
         put = target-shown durable state r found found a (with_life t Down a.watch) t x Down w (record s.s { life = Down }) k refl refl gone (λ u apart. refl)
 
-    pub gives-up : WorldEvent r w (swept (world-after w s.s))
-    gives-up = record { u = world-after w s.s; happens = GivenUp (record { t = t; s = s.s; here = s.here; stopped = s.is.lives; after = refl }); after = refl }
+    abbrev pub gives-up : WorldEvent r w (swept (world-after t w s.s))
+    gives-up = record { u = world-after t w s.s; happens = GivenUp (record { t = t; s = s.s; here = s.here; stopped = s.is.lives; after = refl }); after = refl }
 
   -- what would be found of a target that is given up, would be found of it before
   pub found-before : (may : S → Durable → Type 0) (found : ℕ → Durable) (a : StageNow S C) (x : TargetOf S C) → IsPlace a t x Stopped → AreFound may (swept_stage (given_up_stage t a)) found → AreFound may a found
@@ -135,7 +137,7 @@ module _ {S C : Type 0} (durable : S → Option Durable) (state : S → State) (
       record {
         before = z.before;
         were = z.were;
-        led = λ w reached k. let l = z.led w reached k in record { next = l.next; turn = record { turn = Doing l.turn.0 (fault-opens-none l.turn.0.event.happens l.turn.1); raised_is = l.turn.2; stops_is = l.turn.3; downs_is = refl }; shows = subst (λ q. Shows durable state r found q l.next) (sym same) l.shows };
+        led = λ w reached k. let l = z.led w reached k in record { next = l.next; turn = record { turn = Doing l.turn.0 (fault-opens-none r l.turn.0.event.happens l.turn.1); raised_is = l.turn.2; stops_is = l.turn.3; downs_is = refl }; shows = subst (λ q. Shows durable state r found q l.next) (sym same) l.shows };
       }
   fault-leads may settling number raised before now stops a b c y place leads (Failed more n at few same) found are =
       let z = leads found (found-counted may n found b (subst (λ q. AreFound may q found) same are)) in
@@ -143,7 +145,7 @@ module _ {S C : Type 0} (durable : S → Option Durable) (state : S → State) (
         before = z.before;
         were = z.were;
         led = λ w reached k. let l = z.led w reached k in
-            record { next = l.next; turn = record { turn = Doing l.turn.0 (fault-opens-none l.turn.0.event.happens l.turn.1); raised_is = l.turn.2; stops_is = l.turn.3; downs_is = refl }; shows = subst (λ q. Shows durable state r found q l.next) (sym same) (faults-shown n found b l.next l.shows) };
+            record { next = l.next; turn = record { turn = Doing l.turn.0 (fault-opens-none r l.turn.0.event.happens l.turn.1); raised_is = l.turn.2; stops_is = l.turn.3; downs_is = refl }; shows = subst (λ q. Shows durable state r found q l.next) (sym same) (faults-shown n found b l.next l.shows) };
       }
   fault-leads may settling number raised before now stops a b c y place leads (LastTime more at same) found are =
       let z = leads found (found-before may found b y place (subst (λ q. AreFound may q found) same are)) in
@@ -153,8 +155,8 @@ module _ {S C : Type 0} (durable : S → Option Durable) (state : S → State) (
         led = λ w reached k. let l = z.led w reached k in
             let s = target-there durable state r found b l.next t y Stopped l.shows place in
             record {
-              next = swept (world-after l.next s.s);
+              next = swept (world-after t l.next s.s);
               turn = record { turn = GivingUp l.next l.turn.0 l.turn.1 (gives-up b y place found l.next l.shows s) refl; raised_is = l.turn.2; stops_is = l.turn.3; downs_is = refl };
-              shows = subst (λ q. Shows durable state r found q (swept (world-after l.next s.s))) (sym same) (given_up-shown b y place found l.next l.shows s);
+              shows = subst (λ q. Shows durable state r found q (swept (world-after t l.next s.s))) (sym same) (given_up-shown b y place found l.next l.shows s);
             };
       }

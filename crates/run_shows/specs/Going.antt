@@ -9,7 +9,7 @@ use Rattle.run_shows.specs.Reopening.{choosing, chosen, others}
 use Rattle.run_shows.specs.Parts.{IsTurnSo, at-both, place-of, target-there}
 use Rattle.run_shows.specs.Shows.{IsCounted, IsGoing, IsReached, IsTargetOf, Leads, Shows, WasReached}
 use Rattle.run_shows.specs.Stages.{AreFound, IsPlace, StageNow}
-use Rattle.run_turns.specs.OrderLaws.{run-then, turn-run}
+use Rattle.run_turns.specs.OrderLaws.{turn-goes}
 use Rattle.run_turns.specs.Raising.{turns-raise}
 use Rattle.target_core.specs.Targets.{TargetOf}
 use Rattle.vos_store.specs.Calls.{State}
@@ -31,11 +31,11 @@ module _ {S C : Type 0} (durable : S → Option Durable) (state : S → State) (
   -- ---- a choice
 
   module _ (findable : AreFindable durable may) (a : StageNow S C) (all : (x : TargetOf S C) → is_some (durable x.store) ≡ true) where
-    one-found : Option (TargetOf S C) → Durable
+    abbrev one-found : Option (TargetOf S C) → Durable
     one-found None = empty_durable 0
     one-found (Some x) = (findable x.store (all x)).0
 
-    pub some-found : ℕ → Durable
+    abbrev pub some-found : ℕ → Durable
     some-found t = one-found (slice_get a.targets t)
 
     pub found-some : AreFound may a some-found
@@ -52,7 +52,7 @@ module _ {S C : Type 0} (durable : S → Option Durable) (state : S → State) (
   -- ---- a run goes on
 
   module _ (a b : StageNow S C) (settling : Bool) (actor : ActorId) (k raised : ℕ) (stops downs : Option ℕ) (g : IsGoing durable state may a) (leads : Leads durable state may (IsTurnSo settling g.rules actor k raised stops downs) g.rules a b) where
-    was : (found : ℕ → Durable) → AreFound may a found → (y : IsReached durable state may g.rules g.first found a) → WasReached g.rules y.now
+    pub was : (found : ℕ → Durable) → AreFound may a found → (y : IsReached durable state may g.rules g.first found a) → WasReached g.rules y.now
     was found are y = record { opening = g.opening; first = g.first; simple = g.simple; begun = g.begun; run = y.run }
 
     pub reached-on : (found : ℕ → Durable) → AreFound may b found → IsReached durable state may g.rules g.first found b
@@ -60,7 +60,7 @@ module _ {S C : Type 0} (durable : S → Option Durable) (state : S → State) (
         let z = leads found are in
         let y = g.reached z.before z.were in
         let l = z.led y.now (was z.before z.were y) y.shows in
-        record { now = l.next; run = run-then g.rules g.first y.now l.next y.run (turn-run settling g.rules actor k y.now l.next l.turn.turn); shows = l.shows }
+        record { now = l.next; run = turn-goes settling g.rules actor k g.first y.now l.next l.turn.turn y.run; shows = l.shows }
 
     -- ---- how often stores were opened
 
@@ -94,11 +94,11 @@ module _ {S C : Type 0} (durable : S → Option Durable) (state : S → State) (
         omega (arith, up, before, rises, by, same)
 
     pub counted-on : AreFindable durable may → ((x : TargetOf S C) → is_some (durable x.store) ≡ true) → a.watch.openings + raised ≤ b.watch.openings → (t : ℕ) (x : TargetOf S C) (life : Life) → IsPlace b t x life → IsCounted durable state may (most b) x life
-    counted-on findable all up t x Running p d told =
+    counted-on findable all up t x Running p = λ d told.
         few-after up (some-found findable b all) (found-some findable b all) t x Running p d (λ s is. let e : Some d ≡ Some s.durable = sym told ∙ is.so.told in cc)
-    counted-on findable all up t x Stopped p d m =
+    counted-on findable all up t x Stopped p = λ d m.
         few-after up (choosing t d (some-found findable b all)) (found-with findable b all t x d p.there m) t x Stopped p d (λ s is. sym (is.so.keeps ∙ chosen t d (some-found findable b all)))
-    counted-on findable all up t x Down p d m =
+    counted-on findable all up t x Down p = λ d m.
         few-after up (choosing t d (some-found findable b all)) (found-with findable b all t x d p.there m) t x Down p d (λ s is. sym (is.so.keeps ∙ chosen t d (some-found findable b all)))
 
     pub going-on : AreFindable durable may → ((x : TargetOf S C) → is_some (durable x.store) ≡ true) → a.watch.openings + raised ≤ b.watch.openings → IsGoing durable state may b

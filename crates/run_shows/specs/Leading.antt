@@ -20,12 +20,12 @@ use Rattle.world_base.specs.declared.target.Life.TheVariants.{Running}
 use Rattle.world_base.specs.declared.target.TargetState.{TargetState}
 use Rattle.world_base.specs.declared.world.World.{World}
 use Rattle.world_base.specs.Changes.{Kept}
-use Rattle.world_base.specs.Events.{ByTarget, Hearing, Rules, ToTarget, after_turn, kept, target_after, target_plan, with_target}
+use Rattle.world_base.specs.Events.{ByTarget, Rules, ToTarget, after_turn, kept, target_after, target_plan, with_target}
 use Rattle.world_base.specs.Further.{HearsFurther, KnowsNoneDown}
 use Rattle.world_base.specs.Letters.{Takes, target}
 use Rattle.world_base.specs.StepLaws.{set-there}
 use Rattle.world_base.specs.Stops.{Further, Plainly, is_prune_message, swept}
-use Rattle.world_base.specs.TargetTurns.{Hears, IdlesWhole}
+use Rattle.world_base.specs.TargetTurns.{Hearing, Hears, IdlesWhole}
 
 -- no letter that a target hears by its number asks for an aggregation
 abbrev pub NonePrunes : BetweenNow → ℕ → ℕ → Type 0
@@ -72,35 +72,11 @@ module _ {S C : Type 0} (durable : S → Option Durable) (state : S → State) (
     hearing : (settling : Bool) (number reading : ℕ) (l : Letter) (rest : List Letter) (d : Durable) → durable x.store ≡ Some d → IsPicked a.between.messages (target t) number l rest → is_prune_message l.message ≡ false
         → Heard 0 x.plan (state x.store).opening x.memory reading l.from l.message (record { durable = d; free = (state x.store).free }) kept' (y.memory, did)
         → IsTurnSo settling r (target t) number 0 None None w (swept (with_target t s' (after_turn w (target t) did rest)))
-    hearing settling number reading l rest d is' picked no_prune (heard.Plainly none turn) = record { turn = Doing (record {
-      event = record {
-        u = with_target t s' (after_turn w (target t) did rest);
-        happens = Plainly (ToTarget (record {
-          t = t;
-          s = s;
-          new = kept';
-          memory = y.memory;
-          did = did;
-          reading = reading;
-          l = l;
-          rest = rest;
-          here = here;
-          runs = is.lives;
-          takes = subst (λ ls. Takes ls l rest) k.messages (picked-takes a.between.messages number l rest (target t) picked);
-          to_it = picked.to_it;
-          turn = in-world Hears reading l d is' turn;
-          after = refl;
-        })) (subst (λ p. KnowsNoneDown p s.memory l.message) is.made (subst (λ m. KnowsNoneDown x.plan m l.message) is.so.knows none));
-        after = refl;
-      };
-      by = (refl, subst (λ ls. IsPicked ls (target t) number l rest) k.messages picked);
-    }) tt; raised_is = refl; stops_is = refl; downs_is = refl }
-    hearing settling number reading l rest d is' picked no_prune (heard.Further turn) = record { turn = Doing (record {
-      event = record {
-        u = with_target t s' (after_turn w (target t) did rest);
-        happens = Further (record {
-          number = 0;
-          hears = record {
+    hearing settling number reading l rest d is' picked no_prune (heard.Plainly none turn) = record {
+      turn = Doing (record {
+        event = record {
+          u = with_target t s' (after_turn w (target t) did rest);
+          happens = Plainly (ToTarget (record {
             t = t;
             s = s;
             new = kept';
@@ -113,39 +89,78 @@ module _ {S C : Type 0} (durable : S → Option Durable) (state : S → State) (
             runs = is.lives;
             takes = subst (λ ls. Takes ls l rest) k.messages (picked-takes a.between.messages number l rest (target t) picked);
             to_it = picked.to_it;
-            turn = in-world (HearsFurther 0) reading l d is' turn;
+            turn = in-world Hears reading l d is' turn;
             after = refl;
-          };
-          fresh = λ asks. let no : ⊥ = cc (asks, no_prune) in absurd no;
-        });
-        after = refl;
-      };
-      by = (refl, subst (λ ls. IsPicked ls (target t) number l rest) k.messages picked);
-    }) tt; raised_is = refl; stops_is = refl; downs_is = refl }
+          })) (subst (λ p. KnowsNoneDown p s.memory l.message) is.made (subst (λ m. KnowsNoneDown x.plan m l.message) is.so.knows none));
+          after = refl;
+        };
+        by = (refl, subst (λ ls. IsPicked ls (target t) number l rest) k.messages picked);
+      }) tt;
+      raised_is = refl;
+      stops_is = refl;
+      downs_is = refl;
+    }
+    hearing settling number reading l rest d is' picked no_prune (heard.Further turn) = record {
+      turn = Doing (record {
+        event = record {
+          u = with_target t s' (after_turn w (target t) did rest);
+          happens = Further (record {
+            number = 0;
+            hears = record {
+              t = t;
+              s = s;
+              new = kept';
+              memory = y.memory;
+              did = did;
+              reading = reading;
+              l = l;
+              rest = rest;
+              here = here;
+              runs = is.lives;
+              takes = subst (λ ls. Takes ls l rest) k.messages (picked-takes a.between.messages number l rest (target t) picked);
+              to_it = picked.to_it;
+              turn = in-world (HearsFurther 0) reading l d is' turn;
+              after = refl;
+            };
+            fresh = λ asks. let no : ⊥ = cc (asks, no_prune) in absurd no;
+          });
+          after = refl;
+        };
+        by = (refl, subst (λ ls. IsPicked ls (target t) number l rest) k.messages picked);
+      }) tt;
+      raised_is = refl;
+      stops_is = refl;
+      downs_is = refl;
+    }
 
     -- it did its idle work
     idling : (settling : Bool) (number : ℕ) (d : Durable) → durable x.store ≡ Some d → count_to (target t) a.between.messages ≡ 0 → IdlesWhole settling x.plan x.memory (record { durable = d; free = (state x.store).free }) kept' (y.memory, did)
         → IsTurnSo settling r (target t) number 0 None None w (swept (with_target t s' (after_turn w (target t) did w.messages)))
-    idling settling number d is' none turn = record { turn = Doing (record {
-      event = record {
-        u = with_target t s' (after_turn w (target t) did w.messages);
-        happens = Plainly (ByTarget (record {
-          settling = settling;
-          t = t;
-          s = s;
-          new = kept';
-          memory = y.memory;
-          did = did;
-          here = here;
-          runs = is.lives;
-          turn = subst (λ m. IdlesWhole settling (target_plan r t) m (kept s) kept' (y.memory, did)) is.so.knows
-              (subst (λ p. IdlesWhole settling p x.memory (kept s) kept' (y.memory, did)) is.made (subst (λ q. IdlesWhole settling x.plan x.memory q kept' (y.memory, did)) (had d is') turn));
+    idling settling number d is' none turn = record {
+      turn = Doing (record {
+        event = record {
+          u = with_target t s' (after_turn w (target t) did w.messages);
+          happens = Plainly (ByTarget (record {
+            settling = settling;
+            t = t;
+            s = s;
+            new = kept';
+            memory = y.memory;
+            did = did;
+            here = here;
+            runs = is.lives;
+            turn = subst (λ m. IdlesWhole settling (target_plan r t) m (kept s) kept' (y.memory, did)) is.so.knows
+                (subst (λ p. IdlesWhole settling p x.memory (kept s) kept' (y.memory, did)) is.made (subst (λ q. IdlesWhole settling x.plan x.memory q kept' (y.memory, did)) (had d is') turn));
+            after = refl;
+          })) tt;
           after = refl;
-        })) tt;
-        after = refl;
-      };
-      by = (refl, ap (count_to (target t)) (sym k.messages) ∙ none, refl);
-    }) tt; raised_is = refl; stops_is = refl; downs_is = refl }
+        };
+        by = (refl, ap (count_to (target t)) (sym k.messages) ∙ none, refl);
+      }) tt;
+      raised_is = refl;
+      stops_is = refl;
+      downs_is = refl;
+    }
 
   -- a whole turn leads so, whatever is found of other stores
   pub turn-leads : (may : S → Durable → Type 0) (settling : Bool) (number : ℕ) (left : BetweenNow) → NonePrunes a.between t number → IsTurned durable state may settling t number x y a.between left (Ok did) → Leads durable state may (IsTurnSo settling r (target t) number 0 None None) r a (after left)

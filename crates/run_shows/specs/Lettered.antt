@@ -1,6 +1,6 @@
 -- Letters stay in form, whatever becomes of them.
-use Rattle.std.specs.Prelude.{ℕ, ◌≡◌, ◌≤◌, ◌<◌, ◌++◌, ◌==◌, ◌&&◌, not, true, false, Bool, List, [], ◌∷◌, filter, length, map, slice_get, Contains, Option, Some, None, refl, if◌then◌else◌}
-use Rattle.std.proofs.Common.{inl, inr, sym, ◌∙◌, ap, subst, arith}
+use Rattle.std.specs.Prelude.{ℕ, ◌≡◌, ◌≤◌, ◌<◌, ◌+◌, ◌++◌, ◌==◌, ◌&&◌, not, true, false, Bool, List, [], ◌∷◌, filter, length, map, slice_get, Contains, Option, Some, None, refl, if◌then◌else◌}
+use Rattle.std.proofs.Common.{drop, inl, inr, suc, take, zero, sym, ◌∙◌, ap, subst, arith}
 use Rattle.std.proofs.lemmas.Bool.Decides.{nat_tests}
 use Rattle.std.proofs.lemmas.Option.{slice_get_within}
 use Rattle.base_messages.specs.declared.actor.ActorId.{ActorId}
@@ -14,10 +14,22 @@ use Rattle.world_base.specs.declared.did.Did.{Did}
 use Rattle.world_base.specs.declared.letter.Letter.{Letter}
 use Rattle.world_base.specs.declared.target.Life.{Life}
 use Rattle.world_base.specs.declared.target.TargetPlan.{TargetPlan}
-use Rattle.world_base.specs.Letters.{after_first, asked_after, asked_with, before_first, is_answer_to, is_answerable, letter_of, letters_of}
+use Rattle.std.specs.List.{after_first, before_first, position_or_len}
+use Rattle.world_base.specs.Letters.{asked_after, asked_with, is_answer_to, is_answerable, letter_of, letters_of}
 use Rattle.world_base.specs.Stops.{is_not_to, is_to, reset_letter, resets}
 use Rattle.world_posts.specs.FormLaws.{resets-are-letters}
 use Rattle.world_posts.specs.Forms.{IsLetter}
+
+has-take : (n : ℕ) (xs : List Letter) (l : Letter) → Has l (take n xs) → Has l xs
+has-take zero xs l i = absurd i
+has-take (suc n) [] l i = i
+has-take (suc n) (x ∷ xs) l (inl same) = inl same
+has-take (suc n) (x ∷ xs) l (inr i) = inr (has-take n xs l i)
+
+has-drop : (n : ℕ) (xs : List Letter) (l : Letter) → Has l (drop n xs) → Has l xs
+has-drop zero xs l i = i
+has-drop (suc n) [] l i = i
+has-drop (suc n) (x ∷ xs) l i = inr (has-drop n xs l i)
 
 module _ (plans : ℕ → TargetPlan) where
   -- all of some letters have form
@@ -36,20 +48,14 @@ module _ (plans : ℕ → TargetPlan) where
   -- ---- without an answer
 
   first-left : (p : Letter → Bool) (xs : List Letter) (l : Letter) → Has l (before_first p xs ++ after_first p xs) → Has l xs
-  first-left p [] l i = i
-  first-left p (x ∷ xs) l i = by (p x) i (first-left p xs l)
-    where
-      by : (b : Bool) → Has l ((if b then [] else x ∷ before_first p xs) ++ (if b then xs else after_first p xs)) → (Has l (before_first p xs ++ after_first p xs) → Has l xs) → Has l (x ∷ xs)
-      by true i rest = inr i
-      by false (inl same) rest = inl same
-      by false (inr i) rest = inr (rest i)
+  first-left p xs l i = elim (has-cases (before_first p xs) (after_first p xs) l i) [ inl j ↦ has-take (position_or_len p xs) xs l j | inr j ↦ has-drop (position_or_len p xs + 1) xs l j ]
 
   with-one : (asked : List Letter) (l : Letter) → InForm asked → IsLetter plans l → InForm (asked_with asked l)
   unfolding asked_with
   with-one asked l k one = by (is_answerable l.message)
     where
       by : (b : Bool) → InForm (if b then asked ++ l ∷ [] else before_first (is_answer_to l) asked ++ after_first (is_answer_to l) asked)
-      by true = both asked (l ∷ []) k (λ m i. elim i [ inl same ↦ subst (IsLetter plans) same one | inr none ↦ absurd none ])
+      by true = both asked (l ∷ []) k (λ m i. elim i [ inl same ↦ subst (IsLetter plans) (sym same) one | inr none ↦ absurd none ])
       by false = λ m i. k m (first-left (is_answer_to l) asked m i)
 
   pub asked-on : (asked ls : List Letter) → InForm asked → InForm ls → InForm (asked_after asked ls)

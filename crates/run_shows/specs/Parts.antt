@@ -1,12 +1,12 @@
 -- What the actors show of a world once a part of it changed.
-use Rattle.std.specs.Prelude.{ℕ, ◌≡◌, ◌++◌, List, [], ◌∷◌, length, map, slice_get, slice_set, Bool, true, false, Option, Some, None, refl}
+use Rattle.std.specs.Prelude.{ℕ, ◌≡◌, ◌++◌, List, [], ◌∷◌, filter, length, map, slice_get, slice_set, Bool, true, false, Option, Some, None, refl, if◌then◌else◌}
 use Rattle.std.proofs.Common.{zero, suc, inl, inr, sym, ◌∙◌, ap, subst, arith}
 use Rattle.std.proofs.Math.ListN.{set}
 use Rattle.std.proofs.lemmas.Bool.{cases_eq}
 use Rattle.client_core.specs.Clients.{ClientNow}
 use Rattle.daos_model.specs.declared.durable.Durable.{Durable}
 use Rattle.run_base.specs.Letters.{BetweenNow, IsPicked}
-use Rattle.run_base.specs.Sweeps.{SweepsAreOfLives, is_left_by, is_lost_by, lives_of, sweeps-are-of_lives}
+use Rattle.run_base.specs.Sweeps.{SweepsAreOfLives, is_left_by, is_lost_by, lives_of, sweeps-are_of_lives}
 use Rattle.run_shows.specs.ListLaws.{get-set, length-set, map-get, map-set}
 use Rattle.run_shows.specs.Shows.{IsTargetOf, Leads, Shows, state_of}
 use Rattle.run_shows.specs.Stages.{IsPlace, StageNow}
@@ -37,6 +37,10 @@ at-both [] ys n x many at = let no : ⊥ = cc in absurd no
 at-both (z ∷ xs) [] n x many at = let no : ⊥ = omega (arith, many) in absurd no
 at-both (z ∷ xs) (y ∷ ys) zero x many at = (y, refl)
 at-both (z ∷ xs) (y ∷ ys) (suc n) x many at = at-both xs ys n x (omega (arith, many)) at
+
+-- the world with this between its actors
+abbrev between-put : BetweenNow → World → World
+between-put b w = record w { messages = b.messages; asked = b.asked; issued = b.issued; lines = b.lines }
 
 module _ {S C : Type 0} (durable : S → Option Durable) (state : S → State) (r : Rules) where
   -- ---- a target of the world
@@ -99,10 +103,6 @@ module _ {S C : Type 0} (durable : S → Option Durable) (state : S → State) (
 
   -- ---- what lies between changes
 
-  -- the world with this between its actors
-  abbrev between-put : BetweenNow → World → World
-  between-put b w = record w { messages = b.messages; asked = b.asked; issued = b.issued; lines = b.lines }
-
   pub between-shown : (found : ℕ → Durable) (a : StageNow S C) (b : BetweenNow) (w : World) → Shows durable state r found a w → Shows durable state r found (with_between b a) (between-put b w)
   between-shown found a b w k = record {
     clients = k.clients;
@@ -129,8 +129,8 @@ module _ {S C : Type 0} (durable : S → Option Durable) (state : S → State) (
         ap (λ ls. (swept_between ls a.between).messages) (sym k.lives)
         ∙ ap (λ ms. (swept_between (lives_of w) (record a.between { messages = ms })).messages) k.messages
         ∙ ap (λ qs. (swept_between (lives_of w) (record a.between { messages = w.messages; asked = qs })).messages) k.asked
-        ∙ sym (sweeps-are-of_lives w).0;
-    asked = ap (λ ls. (swept_between ls a.between).asked) (sym k.lives) ∙ ap (λ qs. (swept_between (lives_of w) (record a.between { asked = qs })).asked) k.asked ∙ sym (sweeps-are-of_lives w).1;
+        ∙ sym (sweeps-are_of_lives w).0;
+    asked = ap (λ ls. (swept_between ls a.between).asked) (sym k.lives) ∙ ap (λ qs. (swept_between (lives_of w) (record a.between { asked = qs })).asked) k.asked ∙ sym (sweeps-are_of_lives w).1;
     issued = k.issued;
     lines = k.lines;
     restarts = k.restarts;
@@ -157,6 +157,15 @@ pub set-same : {A : Type 0} (xs : List A) (n : ℕ) (x : A) → slice_get xs n �
 set-same [] n x at = refl
 set-same (y ∷ ys) zero x at = let same : y ≡ x = cc in ap (λ z. z ∷ ys) same
 set-same (y ∷ ys) (suc n) x at = ap (λ zs. y ∷ zs) (set-same ys n x at)
+
+-- those of two lists that pass a test
+pub filter-both : {T : Type 0} (p : T → Bool) (xs ys : List T) → filter p (xs ++ ys) ≡ filter p xs ++ filter p ys
+filter-both p [] ys = refl
+filter-both p (x ∷ xs) ys = by (p x) (filter-both p xs ys)
+  where
+    by : (b : Bool) → filter p (xs ++ ys) ≡ filter p xs ++ filter p ys → (if b then x ∷ filter p (xs ++ ys) else filter p (xs ++ ys)) ≡ (if b then x ∷ filter p xs else filter p xs) ++ filter p ys
+    by true h = ap (λ zs. x ∷ zs) h
+    by false h = h
 
 -- what was set stands there
 pub is-set : {A : Type 0} (xs : List A) (n : ℕ) (x y : A) → slice_get xs n ≡ Some x → slice_get (slice_set xs n y) n ≡ Some y

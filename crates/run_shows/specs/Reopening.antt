@@ -32,7 +32,7 @@ use Rattle.world_base.specs.Letters.{asked_after, letters_of, target}
 use Rattle.world_base.specs.Statuses.{opening_memory}
 use Rattle.world_base.specs.StepLaws.{set-there}
 use Rattle.world_base.specs.Stops.{Draws, Fails, IsBelowNumbers, IsFreeRestart, Opens, WorldEvent, WorldRun, after_opening, is_restart_of, opened_at, restart_line, swept}
-use Rattle.run_base.specs.Sweeps.{is_left_by, is_lost_by, lives_of, sweeping-is-done, sweeps-are-of_lives}
+use Rattle.run_base.specs.Sweeps.{is_left_by, is_lost_by, lives_of, sweeping-is_done, sweeps-are_of_lives}
 use Rattle.world_base.specs.Stops.{Begins, Goes, reset_letter}
 use Rattle.world_standing.specs.Runs.{runs-stand}
 
@@ -47,7 +47,7 @@ reached-swept r w k = by w k.run
 
     by : (v : World) → WorldRun r k.first v → swept v ≡ v
     by v Begins = empty k.first k.begun.messages k.begun.asked
-    by v (Goes u x run e) = subst (λ z. swept z ≡ z) (sym e.after) (sweeping-is-done e.u)
+    by v (Goes u x run e) = subst (λ z. swept z ≡ z) (sym e.after) (sweeping-is_done e.u)
 
 -- the number of the next restart stands in no line
 next-free : (w : World) (v : World) → All (IsBelowNumbers w.numbers) w.lines → v.lines ≡ w.lines → v.numbers.restarts ≡ w.numbers.restarts + 1 → IsFreeRestart v w.numbers.restarts
@@ -56,20 +56,20 @@ next-free w v below lines next = record {
   unused = ap (filter (is_restart_of w.numbers.restarts)) lines ∙ none w.lines (all-below w.lines below);
 }
   where
+    apart : (m : Line) → IsBelowNumbers w.numbers m → is_restart_of w.numbers.restarts m ≡ false
+    apart (line.Restart n t inc floor) k = grind (arith, nat_tests)
+    apart m k = refl
+
     none : (ls : List Line) → ((l : Line) → Has l ls → IsBelowNumbers w.numbers l) → filter (is_restart_of w.numbers.restarts) ls ≡ []
     none [] h = refl
-    none (l ∷ ls) h = by (is_restart_of w.numbers.restarts l) (apart l (h l (inl refl)))
+    none (l ∷ ls) h = by (is_restart_of w.numbers.restarts l) (apart l (h l (inl refl))) (none ls (λ m i. h m (inr i)))
       where
-        by : (b : Bool) → b ≡ false → (if b then l ∷ filter (is_restart_of w.numbers.restarts) ls else filter (is_restart_of w.numbers.restarts) ls) ≡ []
-        by true off = let no : ⊥ = cc in absurd no
-        by false off = none ls (λ m i. h m (inr i))
-
-        apart : (m : Line) → IsBelowNumbers w.numbers m → is_restart_of w.numbers.restarts m ≡ false
-        apart (line.Restart n t inc floor) k = grind (arith, nat_tests)
-        apart m k = refl
+        by : (b : Bool) → b ≡ false → filter (is_restart_of w.numbers.restarts) ls ≡ [] → (if b then l ∷ filter (is_restart_of w.numbers.restarts) ls else filter (is_restart_of w.numbers.restarts) ls) ≡ []
+        by true off rest = let no : ⊥ = cc in absurd no
+        by false off rest = rest
 
     all-below : (ls : List Line) → All (IsBelowNumbers w.numbers) ls → (l : Line) → Has l ls → IsBelowNumbers w.numbers l
-    all-below (x ∷ ls) all l (inl same) = subst (IsBelowNumbers w.numbers) same (All-head (IsBelowNumbers w.numbers) x ls all)
+    all-below (x ∷ ls) all l (inl same) = subst (IsBelowNumbers w.numbers) (sym same) (All-head (IsBelowNumbers w.numbers) x ls all)
     all-below (x ∷ ls) all l (inr i) = all-below ls (All-tail (IsBelowNumbers w.numbers) x ls all) l i
     all-below [] all l i = absurd i
 
@@ -79,10 +79,10 @@ next-free w v below lines next = record {
 abbrev pub choosing : ℕ → Durable → (ℕ → Durable) → ℕ → Durable
 choosing t d found u = if u == t then d else found u
 
-chosen : (t : ℕ) (d : Durable) (found : ℕ → Durable) → choosing t d found t ≡ d
+pub chosen : (t : ℕ) (d : Durable) (found : ℕ → Durable) → choosing t d found t ≡ d
 chosen t d found = ap (λ b. if b then d else found t) (same_number t)
 
-others : (t : ℕ) (d : Durable) (found : ℕ → Durable) (u : ℕ) → (u ≡ t → ⊥) → choosing t d found u ≡ found u
+pub others : (t : ℕ) (d : Durable) (found : ℕ → Durable) (u : ℕ) → (u ≡ t → ⊥) → choosing t d found u ≡ found u
 others t d found u apart = let off : (u == t) ≡ false = grind (arith, nat_tests) in ap (λ b. if b then d else found u) off
 
 set-twice : {A : Type 0} (xs : List A) (n : ℕ) (x y : A) → slice_set (slice_set xs n x) n y ≡ slice_set xs n y
@@ -102,7 +102,7 @@ module _ {S C : Type 0} (durable : S → Option Durable) (state : S → State) (
     there = is-set a.targets t x y place.there
 
     module _ (found : ℕ → Durable) (d : Durable) (kept : (found t ≡ d) ⊎ (found t ≡ reopened d)) where
-      world-failed : World → TargetState → World
+      abbrev world-failed : World → TargetState → World
       world-failed w s = with_target t (record s { durable = found t; free = (state y.store).free }) w
 
       shown : (w : World) → WasReached r w → Shows durable state r (choosing t d found) a w → (s : IsThere durable state r (choosing t d found) w t x Stopped) → Shows durable state r found failed (swept (world-failed w s.s))
@@ -112,8 +112,8 @@ module _ {S C : Type 0} (durable : S → Option Durable) (state : S → State) (
         many = put.many;
         lives = put.lives;
         targets = put.targets;
-        messages = k.messages ∙ sym (ap (λ v. v.messages) (reached-swept r w reached)) ∙ (sweeps-are-of_lives w).0 ∙ ap (λ ls. filter (is_left_by ls) (w.messages ++ map (reset_letter true) (filter (is_lost_by ls) w.asked))) same-lives ∙ sym (sweeps-are-of_lives (world-failed w s.s)).0;
-        asked = k.asked ∙ sym (ap (λ v. v.asked) (reached-swept r w reached)) ∙ (sweeps-are-of_lives w).1 ∙ ap (λ ls. filter (is_left_by ls) w.asked) same-lives ∙ sym (sweeps-are-of_lives (world-failed w s.s)).1;
+        messages = k.messages ∙ sym (ap (λ v. v.messages) (reached-swept r w reached)) ∙ (sweeps-are_of_lives w).0 ∙ ap (λ ls. filter (is_left_by ls) (w.messages ++ map (reset_letter true) (filter (is_lost_by ls) w.asked))) same-lives ∙ sym (sweeps-are_of_lives (world-failed w s.s)).0;
+        asked = k.asked ∙ sym (ap (λ v. v.asked) (reached-swept r w reached)) ∙ (sweeps-are_of_lives w).1 ∙ ap (λ ls. filter (is_left_by ls) w.asked) same-lives ∙ sym (sweeps-are_of_lives (world-failed w s.s)).1;
         issued = k.issued;
         lines = k.lines;
         restarts = put.restarts;
@@ -129,14 +129,19 @@ module _ {S C : Type 0} (durable : S → Option Durable) (state : S → State) (
           same-lives = k.lives ∙ sym lives ∙ sym put.lives
 
       fails : (settling : Bool) (number : ℕ) (w : World) (k : Shows durable state r (choosing t d found) a w) (s : IsThere durable state r (choosing t d found) w t x Stopped) → FaultBy r t settling number 1 None w (swept (world-failed w s.s))
-      fails settling number w k s = (record {
-        event = record {
-          u = world-failed w s.s;
-          happens = Fails (record { t = t; s = s.s; k = record { durable = found t; free = (state y.store).free }; here = s.here; stopped = s.is.lives; left = was kept; no_less = no-less; after = refl });
-          after = refl;
-        };
-        by = refl;
-      }, tt, refl, refl)
+      fails settling number w k s = (
+        record {
+          event = record {
+            u = world-failed w s.s;
+            happens = Fails (record { t = t; s = s.s; k = record { durable = found t; free = (state y.store).free }; here = s.here; stopped = s.is.lives; left = was kept; no_less = no-less; after = refl });
+            after = refl;
+          };
+          by = refl;
+        },
+        tt,
+        refl,
+        refl,
+      )
         where
           own : s.s.durable ≡ d
           own = s.is.so.keeps ∙ chosen t d found
@@ -184,7 +189,7 @@ module _ {S C : Type 0} (durable : S → Option Durable) (state : S → State) (
     own = s.is.so.keeps ∙ chosen t opens.found found
 
     -- a number was drawn
-    drawn : World
+    abbrev drawn : World
     drawn = record w { numbers = record w.numbers { restarts = w.numbers.restarts + 1 } }
 
     below : All (IsBelowNumbers w.numbers) w.lines
@@ -199,16 +204,16 @@ module _ {S C : Type 0} (durable : S → Option Durable) (state : S → State) (
         higher (line.Aggregate n u c upto) h = h
         higher m h = tt
 
-    draws : WorldEvent r w (swept drawn)
+    abbrev draws : WorldEvent r w (swept drawn)
     draws = record { u = drawn; happens = Draws (record { numbers = drawn.numbers; above = rises w.lines below; after = refl }); after = refl }
 
-    world-opened : World
+    abbrev world-opened : World
     world-opened = after_opening r (swept drawn) t w.numbers.restarts s.s (state z.store).free
 
     same-state : (state z.store).free ≡ (state y.store).free
     same-state = ap (λ h. h.free) fuse.state_is.rest
 
-    acts : (settling : Bool) (number : ℕ) → Acts settling r (target t) number (swept drawn) (swept world-opened)
+    abbrev acts : (settling : Bool) (number : ℕ) → Acts settling r (target t) number (swept drawn) (swept world-opened)
     acts settling number = record {
       event = record {
         u = world-opened;
@@ -259,8 +264,8 @@ module _ {S C : Type 0} (durable : S → Option Durable) (state : S → State) (
     still : swept w ≡ w
     still = reached-swept r w reached
 
-    shown : Shows durable state r found opened (swept world-opened)
-    shown = swept-shown durable state r found _ _ (record {
+    opened-shown : Shows durable state r found opened (swept world-opened)
+    opened-shown = swept-shown durable state r found _ _ (record {
       clients = put.clients;
       plans = put.plans;
       many = put.many;
@@ -278,7 +283,7 @@ module _ {S C : Type 0} (durable : S → Option Durable) (state : S → State) (
     before = choosing t opens.found found;
     were = were;
     led = λ w reached shows. let s = target-there durable state r (choosing t opens.found found) a w t x Stopped shows place in
-        record { next = swept (world-opened found w reached shows s); turn = turn found w reached shows s settling number; shows = shown found w reached shows s };
+        record { next = swept (world-opened found w reached shows s); turn = turn found w reached shows s settling number; shows = opened-shown found w reached shows s };
   }
     where
       were : AreFound may a (choosing t opens.found found)

@@ -11,11 +11,11 @@ use Rattle.run_base.specs.Letters.{BetweenNow, IsPicked}
 use Rattle.run_base.specs.Picks.{count_to}
 use Rattle.run_shows.specs.Givings.{FaultBy}
 use Rattle.run_shows.specs.Leading.{NonePrunes}
-use Rattle.run_shows.specs.Parts.{IsThere, is-set, picked-takes, swept-shown, target-shown, target-there}
+use Rattle.run_shows.specs.Parts.{IsThere, filter-both, is-set, picked-takes, swept-shown, target-shown, target-there}
 use Rattle.run_shows.specs.Shows.{IsLed, IsTargetOf, Leads, Shows}
 use Rattle.run_shows.specs.Stages.{AreFound, IsPlace, StageNow}
 use Rattle.run_shows.specs.Turned.{ByHearing, ByIdling, IsTurned, cut_between, given_up_between, given_up_stage, stopped_stage, swept_stage, with_between}
-use Rattle.run_turns.specs.Turns.{Acts, IsAtWork}
+use Rattle.run_turns.specs.Turns.{IsAtWork}
 use Rattle.run_watch.specs.Watches.{with_life}
 use Rattle.target_core.specs.Targets.{TargetOf, cutting}
 use Rattle.target_parts.specs.declared.stop.TargetStop.TheVariants as stop
@@ -34,14 +34,6 @@ use Rattle.world_base.specs.StepLaws.{set-is, set-there}
 use Rattle.world_base.specs.Stops.{AtWork, CutOf, GivenUp, Hearing, IdleWork, IsCut, IsInHand, TargetCut, WorldEvent, after_cut, is_not_to, is_to, no_memory, resets, stopped_at, swept, with_lost}
 
 -- ---- letters
-
-filter-both : {T : Type 0} (p : T → Bool) (xs ys : List T) → filter p (xs ++ ys) ≡ filter p xs ++ filter p ys
-filter-both p [] ys = refl
-filter-both p (x ∷ xs) ys = by (p x) (filter-both p xs ys)
-  where
-    by : (b : Bool) → filter p (xs ++ ys) ≡ filter p xs ++ filter p ys → (if b then x ∷ filter p (xs ++ ys) else filter p (xs ++ ys)) ≡ (if b then x ∷ filter p xs else filter p xs) ++ filter p ys
-    by true h = ap (λ zs. x ∷ zs) h
-    by false h = h
 
 filter-first : {T : Type 0} (p : T → Bool) (x : T) (xs : List T) → p x ≡ false → filter p (x ∷ xs) ≡ filter p xs
 filter-first p x xs off = ap (λ b. if b then x ∷ filter p xs else filter p xs) off
@@ -98,15 +90,20 @@ module _ {S C : Type 0} (durable : S → Option Durable) (state : S → State) (
         ap (λ z. record { durable = z; free = (state x.store).free }) same ∙ ap (λ z. record { durable = s.durable; free = z }) is.so.free
 
     -- its turn was cut so in the world
-    acts : (settling : Bool) (number : ℕ) (work : AtWork) → IsInHand w t work → CutOf (target_plan r t) s work cut → IsAtWork w (target t) number work → Acts settling r (target t) number w (swept (after_cut w t s cut))
-    acts settling number work in_hand turn b = record {
-      event = record {
-        u = after_cut w t s cut;
-        happens = IsCut (record { t = t; s = s; work = work; cut = cut; here = here; runs = is.lives; in_hand = in_hand; turn = turn; after = refl });
-        after = refl;
-      };
-      by = (refl, b);
-    }
+    acts : (settling : Bool) (number : ℕ) (work : AtWork) → IsInHand w t work → CutOf (target_plan r t) s work cut → IsAtWork w (target t) number work → FaultBy r t settling number 0 (Some t) w (swept (after_cut w t s cut))
+    acts settling number work in_hand turn b = (
+      record {
+        event = record {
+          u = after_cut w t s cut;
+          happens = IsCut (record { t = t; s = s; work = work; cut = cut; here = here; runs = is.lives; in_hand = in_hand; turn = turn; after = refl });
+          after = refl;
+        };
+        by = (refl, b);
+      },
+      tt,
+      refl,
+      refl,
+    )
 
   pub cut-leads : (may : S → Durable → Type 0) (settling : Bool) (number : ℕ) (left : BetweenNow) → NonePrunes a.between t number → IsTurned durable state may settling t number x y a.between left (Err (stop.Store issued lines)) → Leads durable state may (FaultBy r t settling number 0 (Some t)) r a (stopped left)
   cut-leads may settling number left no_prunes turned found are = record {
@@ -137,8 +134,8 @@ module _ {S C : Type 0} (durable : S → Option Durable) (state : S → State) (
           let it = turn s.s.durable s.is.so.told 0 (would found w k s.s s.here s.is) (may-be, refl) in
           record {
             next = swept (after_cut w t s.s (cut found w k s.s s.here s.is));
-            turn = (acts found w k s.s s.here s.is settling number (Hearing l reading 0) ((rest, subst (λ ls. Takes ls l rest) k.messages takes), picked.to_it, λ asks. let off = no_prunes l rest picked in let no : ⊥ = cc (asks, off) in absurd no) (in-world l reading it)
-                (rest, subst (λ ls. IsPicked ls (target t) number l rest) k.messages picked), tt);
+            turn = acts found w k s.s s.here s.is settling number (Hearing l reading 0) ((rest, subst (λ ls. Takes ls l rest) k.messages takes), picked.to_it, λ asks. let off = no_prunes l rest picked in let no : ⊥ = cc (asks, off) in absurd no) (in-world l reading it)
+                (rest, subst (λ ls. IsPicked ls (target t) number l rest) k.messages picked);
             shows = shown found w k s.s s.here s.is left (ap (λ b. filter (is_not_to t) b.messages) left_is ∙ lost-too t a.between.messages rest l takes picked.to_it) (ap (λ b. b.asked) left_is) (ap (λ b. b.issued) left_is) (ap (λ b. b.lines) left_is);
           }
         where
@@ -153,7 +150,7 @@ module _ {S C : Type 0} (durable : S → Option Durable) (state : S → State) (
           let it = turn s.s.durable s.is.so.told (would found w k s.s s.here s.is) (may-be, refl) in
           record {
             next = swept (after_cut w t s.s (cut found w k s.s s.here s.is));
-            turn = (acts found w k s.s s.here s.is settling number IdleWork tt (in-world it) (ap (count_to (target t)) (sym k.messages) ∙ none), tt, refl, refl);
+            turn = acts found w k s.s s.here s.is settling number IdleWork tt (in-world it) (ap (count_to (target t)) (sym k.messages) ∙ none);
             shows = shown found w k s.s s.here s.is left (ap (λ b. filter (is_not_to t) b.messages) left_is) (ap (λ b. b.asked) left_is) (ap (λ b. b.issued) left_is) (ap (λ b. b.lines) left_is);
           }
         where
