@@ -1,0 +1,20 @@
+-- What the actors of a run show of a world, in which targets may stop; what turns lead to; and what goes on then.
+pub mod ListLaws
+pub mod Stages
+pub mod Shows
+pub mod CanGo
+pub mod Accounts
+pub mod Due
+pub mod Turned
+pub mod Openings
+pub mod Parts
+pub mod Leading
+pub mod Givings
+pub mod Stopping
+pub mod Reopening
+pub mod Clients
+pub mod Lettered
+pub mod Fitting
+pub mod Going
+pub mod Accounting
+pub mod Laws
