@@ -2,4 +2,4 @@ use Rattle.run_turns.specs.Raising.{turns-raise}
 use Rattle.run_turns.proofs.laws_of_openings.Goals as goal
 
 pub returns : goal.returns
-returns c = turns-raise
+returns c = record { raise = turns-raise }
