@@ -3,6 +3,9 @@ pub mod Reports
 pub mod Legal
 pub mod Issued
 pub mod Forms
+pub mod Inquiries
+pub mod Middle
+pub mod Settling
 pub mod Unknown
 pub mod Unstopped
 pub mod Kept

@@ -20,7 +20,7 @@ use Rattle.report_writer.specs.Forms.{IsReportOf}
 use Rattle.run_turns.specs.Orders.{InOrder}
 use Rattle.script_runnable.specs.Keyed.{MapHasKeys, ScriptHasKeys}
 use Rattle.world_asks.specs.Ends.{IsSettledAt}
-use Rattle.world_attempts.specs.Attempts.{IsHeld, IsSettled, entry_at, leader_of}
+use Rattle.world_attempts.specs.Attempts.{IsHeld, IsSettled}
 use Rattle.world_base.specs.declared.target.Life.TheVariants.{Running}
 use Rattle.world_base.specs.declared.target.TargetState.{TargetState}
 use Rattle.world_base.specs.declared.world.World.{World}
@@ -30,7 +30,6 @@ use Rattle.world_ends.specs.Ends.{TellsPlain, durables_of, rules_of}
 use Rattle.world_facts.specs.Facts.{IsMember}
 use Rattle.world_lives.specs.Legal.{AreCaused, NoneIsStopped}
 use Rattle.world_lone.specs.LoneRuns.{AreIssuedThere}
-use Rattle.world_questions.specs.Facts.{HasStopped}
 use Rattle.world_whole.specs.Begins.{IsBegun, IsSimple}
 
 -- ---- the run
@@ -77,17 +76,12 @@ pub record LacksMember (r : Rules) (v : World) (x : AttemptId) : Type 0 where
   pub its : IsMember r x member
   pub down : Has (line.Down member) v.lines
 
--- an attempt's leader stopped in the run, and keeps nothing of it: it may have aborted the attempt, and stopped before it told so
-pub record WasForgotten (r : Rules) (v : World) (x : AttemptId) : Type 0 where
-  pub stopped : HasStopped v (leader_of r x)
-  pub nothing : entry_at v (leader_of r x) x ≡ None
-
--- an entry is committed, or nobody is left who knows what became of its attempt
+-- an entry is committed, or a member of its attempt was given up
 abbrev pub IsSettledOrLeft : Rules → World → Entry → Type 0
-IsSettledOrLeft r v e = (e.committed ≡ true) ⊎ (LacksMember r v e.attempt ⊎ WasForgotten r v e.attempt)
+IsSettledOrLeft r v e = (e.committed ≡ true) ⊎ LacksMember r v e.attempt
 
--- Each target runs or is given up. Each entry that a running one keeps is committed, or a member of its attempt was given up, or its leader
--- stopped and keeps nothing of it. Where one is committed at some target, running or not, all members of its attempt hold that.
+-- Each target runs or is given up. Each entry that a running one keeps is committed, or a member of its attempt was given up. Where one is committed
+-- at some target, running or not, all members of its attempt hold that.
 pub record LeavesInTheEnd (r : Rules) (v : World) : Type 0 where
   pub targets : NoneIsStopped v
   pub entries : (t : ℕ) (s : TargetState) (e : Entry) → slice_get v.targets t ≡ Some s → s.life ≡ Running → Contains s.durable.entries e → IsSettledOrLeft r v e

@@ -9,8 +9,8 @@ ghost use Rattle.run_reports.specs.Reports.{NoneUnknownWithoutGivenUp, OrdersAre
 /// script doesn't ask, and what was given up; the targets stand for what it tells, and replicas agree. The
 /// text of the report determines it, where names and keys are keys, and the numbers of stops and openings are
 /// as small as their types hold. One of the targets issued each epoch of which it tells. In the end each
-/// target runs or is given up; and each entry that a running one keeps is committed, or lacks a member that
-/// was given up, or its leader stopped and keeps nothing of it. What is committed at one all members hold.
+/// target runs or is given up; and each entry that a running one keeps is committed, or a member of its attempt
+/// was given up. What is committed at one all members hold.
 pub fn laws_of_ordered_reports()
     ensures legal { OrdersAreLegal }
     ensures form { OrdersReportInForm }
