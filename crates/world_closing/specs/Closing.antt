@@ -17,12 +17,14 @@ use Rattle.daos_model.specs.Stops.{AreCounted, down_targets, least, restart_numb
 use Rattle.dtx_base.specs.declared.leading.Undecided.{Undecided}
 use Rattle.world_attempts.specs.Attempts.{IsOther}
 use Rattle.world_attempts.specs.History.{Decided, History}
+use Rattle.world_base.specs.declared.client.ClientState.{ClientState}
 use Rattle.world_base.specs.declared.letter.Letter.{Letter}
-use Rattle.world_base.specs.declared.target.Life.TheVariants.{Running}
+use Rattle.world_base.specs.declared.target.Life.TheVariants.{Running, Stopped}
 use Rattle.world_base.specs.declared.target.TargetState.{TargetState}
 use Rattle.world_base.specs.declared.world.World.{World}
+use Rattle.world_base.specs.ClientTurns.{is_done, waits}
 use Rattle.world_base.specs.Ended.{HasEnded}
-use Rattle.world_base.specs.Events.{Rules}
+use Rattle.world_base.specs.Events.{Rules, client_plan}
 use Rattle.world_base.specs.Letters as letter
 use Rattle.world_base.specs.Stops.{WorldRun}
 use Rattle.world_causes.specs.Shown.{Causes}
@@ -37,6 +39,14 @@ use Rattle.world_verdicts.specs.Verdicts.{HasWrites}
 use Rattle.world_whole.specs.Begins.{IsBegun, IsSimple, held_at}
 
 -- ---- a run is over
+
+-- Nobody has a message to hear, or a command to go on with: none is in flight to a client or to a target that runs; each client waits for one, or
+-- its commands are over; and no target is stopped.
+pub record IsStill (r : Rules) (v : World) : Type 0 where
+  pub to_clients : (n : ℕ) (l : Letter) → n < length r.script.clients → Contains v.messages l → l.to ≡ letter.client n → ⊥
+  pub to_targets : (t : ℕ) (s : TargetState) (l : Letter) → slice_get v.targets t ≡ Some s → s.life ≡ Running → Contains v.messages l → l.to ≡ letter.target t → ⊥
+  pub clients : (n : ℕ) (c : ClientState) → slice_get v.clients n ≡ Some c → (waits c ≡ true) ⊎ (is_done (client_plan r n) c ≡ true)
+  pub none_stopped : (t : ℕ) (s : TargetState) → slice_get v.targets t ≡ Some s → s.life ≡ Stopped → ⊥
 
 -- No Fetch waits at a target; no client waits for an attempt that it leads; and each attempt that is undecided there lacks a member that
 -- was given up.
@@ -96,7 +106,11 @@ report_over r v = record { targets = r.script.targets; lines = v.lines; down = l
 
 -- ---- the statements
 
--- where a run has ended it is over
+-- where nobody has a message to hear or a command to go on with, a run is over
+abbrev pub StillRunsAreOver : Type 0
+StillRunsAreOver = (r : Rules) (o : Opening) (w v : World) → IsSimple r → IsBegun r o w → WorldRun r w v → IsStill r v → IsOver r v
+
+-- so it is where it has ended
 abbrev pub EndedRunsAreOver : Type 0
 EndedRunsAreOver = (r : Rules) (o : Opening) (w v : World) → IsSimple r → IsBegun r o w → WorldRun r w v → HasEnded r v → IsOver r v
 

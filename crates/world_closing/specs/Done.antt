@@ -42,7 +42,6 @@ use Rattle.world_base.specs.declared.target.TargetMemory.{TargetMemory}
 use Rattle.world_base.specs.declared.target.TargetState.{TargetState}
 use Rattle.world_base.specs.declared.world.World.{World}
 use Rattle.world_base.specs.ClientTurns.{is_done, member_asked, waits}
-use Rattle.world_base.specs.Ended.{HasEnded}
 use Rattle.world_base.specs.Events.{Rules, client_plan}
 use Rattle.world_base.specs.Letters.{client, is_talk_of, letter_of, target}
 use Rattle.world_clients.specs.Standing.{AreOfPresent, HasTold, has_number, number_of}
@@ -59,7 +58,7 @@ use Rattle.world_waits.specs.ClientLaws.{present-of}
 use Rattle.world_waits.specs.Waits as wait
 use Rattle.world_waits.specs.Waits.{CollectedAt, Held, HoldsIt, IsQuestion, ItsAsk, ItsRequest, OpenAt, ParkedAt, TalksSo, Waits, asked_of, collected_at, held_by, held_from, held_of, is_asked_by, is_collected_of, is_open_of, is_parked_of, is_waited_by, open_at, parked_at}
 use Rattle.world_whole.specs.Begins.{IsSimple}
-use Rattle.world_closing.specs.Closing.{IsNowhere, IsOver, WaitsForNone}
+use Rattle.world_closing.specs.Closing.{IsNowhere, IsOver, IsStill, WaitsForNone}
 use Rattle.world_closing.specs.Gone.{NoneGoesToGivenUp}
 use Rattle.world_closing.specs.Holding.{leader-there, other-there, writes-led}
 use Rattle.world_closing.specs.Kept.{AreAll}
@@ -157,7 +156,7 @@ kind-of n t m x i = elim (has-cases (map (parked_at t) (filter (is_parked_of n) 
 
 -- ---- the end
 
-module _ (r : Rules) (o : Opening) (held : ℕ → List Version) (h : History) (stored : Stored) (v : World) (A : IsSimple r) (k : Accounted r o held h stored v) (ended : HasEnded r v) (all : AreAll r v) (gone : NoneGoesToGivenUp v) (asked : WaitersAreAsked r v) where
+module _ (r : Rules) (o : Opening) (held : ℕ → List Version) (h : History) (stored : Stored) (v : World) (A : IsSimple r) (k : Accounted r o held h stored v) (ended : IsStill r v) (all : AreAll r v) (gone : NoneGoesToGivenUp v) (asked : WaitersAreAsked r v) where
   none-stopped : NoneIsStopped v
   none-stopped t s here = by s.life refl
     where

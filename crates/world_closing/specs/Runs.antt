@@ -44,7 +44,7 @@ use Rattle.world_whole.specs.Everything.{AreBefore}
 use Rattle.world_whole.specs.Whole.{held-before}
 use Rattle.world_closing.specs.Asking.{AreAsking, events-ask}
 use Rattle.world_closing.specs.Causes.{AllAreTold, causes-shown}
-use Rattle.world_closing.specs.Closing.{Concluded, EndedRunsAreLegal, EndedRunsAreOver, EndedRunsConclude, IsOver, report_over}
+use Rattle.world_closing.specs.Closing.{Concluded, EndedRunsAreLegal, EndedRunsAreOver, EndedRunsConclude, IsOver, IsStill, StillRunsAreOver, report_over}
 use Rattle.world_closing.specs.Concluding.{concluded, given, has-entries, issued-line}
 use Rattle.world_closing.specs.Done.{is-over}
 use Rattle.world_closing.specs.Gone.{NoneGoesToGivenUp, none-goes}
@@ -136,7 +136,13 @@ runs-go_on r o w v A B (Goes u x run e) =
 
 -- ---- in the end
 
+pub still-over : StillRunsAreOver
+still-over r o w v A B run still = let k = runs-go_on r o w v A B run in is-over r o (held_at w) k.h (stored_over r run) v A k.accounted still (all-there r o w v B run) (none-goes r o w v B run) k.asked
+
 module _ (r : Rules) (o : Opening) (w v : World) (A : IsSimple r) (B : IsBegun r o w) (run : WorldRun r w v) (ended : HasEnded r v) where
+  nobody-goes_on : IsStill r v
+  nobody-goes_on = record { to_clients = ended.to_clients; to_targets = ended.to_targets; clients = ended.clients; none_stopped = ended.none_stopped }
+
   k : GoesOn r o (held_at w) (stored_over r run) v
   k = runs-go_on r o w v A B run
 
@@ -144,7 +150,7 @@ module _ (r : Rules) (o : Opening) (w v : World) (A : IsSimple r) (B : IsBegun r
   all = all-there r o w v B run
 
   over : IsOver r v
-  over = is-over r o (held_at w) k.h (stored_over r run) v A k.accounted ended all (none-goes r o w v B run) k.asked
+  over = is-over r o (held_at w) k.h (stored_over r run) v A k.accounted nobody-goes_on all (none-goes r o w v B run) k.asked
 
   known : Concluded r o (held_at w) k.h v
   known = concluded r o (held_at w) k.h (stored_over r run) v A (held-before r o w B) k.accounted all.targets over.done

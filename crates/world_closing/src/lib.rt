@@ -1,12 +1,13 @@
 // Where a run in which targets may stop has ended, the report of its lines is legal, and the stores stand for what it tells.
 #![tactic(auto)]
 
-ghost use Rattle.world_closing.specs.Closing.{EndedRunsAreLegal, EndedRunsAreOver, EndedRunsConclude};
+ghost use Rattle.world_closing.specs.Closing.{EndedRunsAreLegal, EndedRunsAreOver, EndedRunsConclude, StillRunsAreOver};
 
 /// Says where a run has ended in which targets may stop, open again, or be given up, of a script in form
 /// without snapshots and aggregation, from its beginning. It is over: nothing in flight goes to anyone who is
 /// there, each target runs or is given up, no Fetch waits, no client waits, each attempt that is undecided
-/// lacks a member that was given up, and all clients are done. It is known what became of attempts: a history
+/// lacks a member that was given up, and all clients are done; and so it is wherever nobody has a message to
+/// hear or a command to go on with, though a target may still ask another what became of an attempt. It is known what became of attempts: a history
 /// goes on from the run's in which those attempts are decided that the targets' last durables resolve, those
 /// of targets that were given up among them; each has its line, which says that it is committed or that it is
 /// unknown what became of it; what is told as committed was decided at that epoch, and no attempt that failed
@@ -15,6 +16,7 @@ ghost use Rattle.world_closing.specs.Closing.{EndedRunsAreLegal, EndedRunsAreOve
 /// stated order, the report of the lines is legal in each part, with the least target that was given up named;
 /// and the targets stand for what it tells, and replicas agree.
 pub fn laws_of_closing()
+    ensures still { StillRunsAreOver }
     ensures over { EndedRunsAreOver }
     ensures concluded { EndedRunsConclude }
     ensures legal { EndedRunsAreLegal }

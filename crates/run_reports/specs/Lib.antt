@@ -1,0 +1,11 @@
+-- What a run in an order reports, where targets may stop and open again.
+pub mod Reports
+pub mod Legal
+pub mod Issued
+pub mod Forms
+pub mod Inquiries
+pub mod Middle
+pub mod Settling
+pub mod Unknown
+pub mod Unstopped
+pub mod Kept
