@@ -4,3 +4,6 @@ pub mod Laws
 pub mod StandLaws
 pub mod SoundLaws
 pub mod BeginLaws
+pub mod Alike
+pub mod EnlistLaws
+pub mod UnusedLaws

@@ -45,7 +45,7 @@ filter-map f p (x ∷ xs) = by (p (f x)) (filter-map f p xs)
     by true rest = ap (λ ys. f x ∷ ys) rest
     by false rest = rest
 
-map-same : {T U : Type 0} (f g : T → U) → ((x : T) → f x ≡ g x) → (xs : List T) → map f xs ≡ map g xs
+pub map-same : {T U : Type 0} (f g : T → U) → ((x : T) → f x ≡ g x) → (xs : List T) → map f xs ≡ map g xs
 map-same f g same [] = refl
 map-same f g same (x ∷ xs) = ap (λ y. y ∷ map f xs) (same x) ∙ ap (λ ys. g x ∷ ys) (map-same f g same xs)
 
