@@ -1,6 +1,8 @@
 // The opening of a run over stores that are sound together.
 #![tactic(auto)]
 
+mod resolving;
+
 ghost use Rattle.run_opening.specs.Laws.{EnlistingKeepsForm, EnlistingKeepsOpenings, EnlistingKeepsSound, OpenedKnowContainers, OpeningsKeepForm, OpeningsKeepLeases, OpeningsKeepSound, OpeningsKeepWhatStands, OpeningsSettleAll, RunsBeginOpened, UnusedAreSound, UnusedOpenAsTheyAre, UnusedStandForNothing};
 
 /// Says what the opening of a run makes of what all targets keep. Nothing is left to settle: all versions

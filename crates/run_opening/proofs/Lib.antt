@@ -1,0 +1,2 @@
+-- Proofs of the opening's code.
+pub mod Bits
