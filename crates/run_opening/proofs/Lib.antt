@@ -1,2 +1,4 @@
 -- Proofs of the opening's code.
 pub mod Bits
+pub mod Going
+pub mod Ending

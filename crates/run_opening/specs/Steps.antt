@@ -10,6 +10,7 @@ use Rattle.base_types.specs.declared.snapshot.Snap.{Snap}
 use Rattle.daos_model.specs.declared.durable.Durable.{Durable}
 use Rattle.daos_model.specs.Changes.{settled, thawed}
 use Rattle.daos_model.specs.Family.{is_created, resolved}
+use Rattle.model_laws.specs.Members.{Has}
 use Rattle.vos_store.specs.Calls.{State}
 use Rattle.target_parts.specs.Parts.{Runs}
 use Rattle.run_opening.specs.Opened.{is_at_one_of, keeps}
@@ -41,6 +42,10 @@ all_ended is_resolved (e ∷ es) d = all_ended is_resolved es (ended_at is_resol
 -- each entry's attempt is settled where it is kept
 abbrev pub ended : (AttemptId → Bool) → Durable → Durable
 ended is_resolved d = all_ended is_resolved d.entries d
+
+-- all its entries are committed
+abbrev pub AllCommitted : Durable → Type 0
+AllCommitted d = (e : Entry) → Has e d.entries → e.committed ≡ true
 
 -- entries are forgotten, one after another
 abbrev pub all_forgotten : List Entry → Durable → Durable
