@@ -104,7 +104,7 @@ next-kept d i e rises at = still-kept (take i d.entries) d e.attempt (apart-at d
 
 -- ---- walks along entries
 
-at-read : {T : Type 0} (xs : List T) (i : ℕ) (z : T) → i < length xs → slice_get xs i ≡ Some (slice_index_or xs i z)
+pub at-read : {T : Type 0} (xs : List T) (i : ℕ) (z : T) → i < length xs → slice_get xs i ≡ Some (slice_index_or xs i z)
 at-read [] i z lt = absurd (omega (arith, lt))
 at-read (x ∷ xs) zero z lt = refl
 at-read (x ∷ xs) (suc i) z lt = at-read xs i z (omega (arith, lt))

@@ -2,3 +2,4 @@
 pub mod Bits
 pub mod Going
 pub mod Ending
+pub mod Thawing

@@ -9,7 +9,9 @@ use Rattle.base_types.specs.declared.script.Script.{Script}
 use Rattle.base_types.specs.declared.snapshot.Snap.{Snap}
 use Rattle.daos_model.specs.declared.durable.Durable.{Durable}
 use Rattle.daos_model.specs.Changes.{settled, thawed}
+use Rattle.daos_model.specs.Durables.{is_frozen, snap_key}
 use Rattle.daos_model.specs.Family.{is_created, resolved}
+use Rattle.daos_model.specs.Ordered.{is_rising}
 use Rattle.model_laws.specs.Members.{Has}
 use Rattle.vos_store.specs.Calls.{State}
 use Rattle.target_parts.specs.Parts.{Runs}
@@ -61,6 +63,11 @@ forgotten d = all_forgotten d.entries d
 abbrev pub all_thawed : List Snap → Durable → Durable
 all_thawed [] d = d
 all_thawed (x ∷ xs) d = all_thawed xs (thawed x.cont x.epoch d)
+
+-- each of some snapshots is frozen at a target, and they are in their order
+pub record AreFrozen (xs : List Snap) (d : Durable) : Type 0 where
+  pub each : (x : Snap) → Has x xs → is_frozen d x.cont x.epoch ≡ true
+  pub rising : is_rising snap_key xs ≡ true
 
 -- a snapshot that is created, and that a script drops
 abbrev pub is_dropped : Script → Snap → Bool

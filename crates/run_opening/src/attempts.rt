@@ -1,12 +1,12 @@
 // The attempts of one target are settled, and its entries forgotten.
-ghost use Rattle.std.specs.Prelude.{◌≡◌, ◌≤◌, length, true, false, Some};
+ghost use Rattle.std.specs.Prelude.{◌≡◌, ◌≤◌, length, true, false, Some, IfOk};
 ghost use Rattle.std.specs.Option.{ForSome};
 ghost use Rattle.base_types.specs.declared.entry.Settle.TheVariants as settle;
 ghost use Rattle.daos_model.specs.Changes.{settled};
 ghost use Rattle.daos_model.specs.Durables.{entry_of};
 ghost use Rattle.vos_store.specs.Refusals.{always_stop};
 ghost use Rattle.target_parts.specs.Halts.{halt_stop};
-ghost use Rattle.run_opening.specs.Steps.{AllCommitted, Goes, ended, ended_at, forgotten, resolved_by};
+ghost use Rattle.run_opening.specs.Steps.{AllCommitted, Goes, ended, ended_at, forgotten, resolved_by, same};
 
 use crate::resolving::{ending, is_resolved};
 use base_types::entry::{Entries, Entry, Settle};
@@ -77,6 +77,22 @@ fn forget<S: Store>(store: &mut S, entries: &[Entry]) -> Result<(), Stopped>
     Ok(())
 }
 
+/// The entries of a target.
+///
+/// # Errors
+///
+/// Where the store stopped, and for want of memory.
+pub fn entries_at<S: Store>(store: &mut S) -> Result<Entries, Halt>
+    requires running { (S.state store.old).stopped ≡ false }
+    ensures goes { Goes halt_stop same result (S.state store.old) (S.state store.new) (S.durable store.old) (S.durable store.new) }
+    ensures own { IfOk result (λ entries. ForSome (S.durable store.old) (λ d. entries ≡ d.entries)) }
+{
+    match store.entries() {
+        Ok(entries) => Ok(entries),
+        Err(no) => Err(Halt::from(no)),
+    }
+}
+
 /// The entries of a target, all of which are committed, are forgotten.
 ///
 /// # Errors
@@ -87,7 +103,9 @@ pub fn forget_all<S: Store>(store: &mut S) -> Result<(), Halt>
     requires committed { ForSome (S.durable store.old) AllCommitted }
     ensures { Goes halt_stop forgotten result (S.state store.old) (S.state store.new) (S.durable store.old) (S.durable store.new) }
 {
-    let entries = store.entries()?;
-    forget(store, entries.as_slice())?;
-    Ok(())
+    let entries = entries_at(store)?;
+    match forget(store, entries.as_slice()) {
+        Ok(()) => Ok(()),
+        Err(_stopped) => Err(Halt::Stopped),
+    }
 }

@@ -3,6 +3,7 @@
 
 mod attempts;
 mod resolving;
+mod snaps;
 
 ghost use Rattle.run_opening.specs.Laws.{EnlistingKeepsForm, EnlistingKeepsOpenings, EnlistingKeepsSound, OpenedKnowContainers, OpeningsKeepForm, OpeningsKeepLeases, OpeningsKeepSound, OpeningsKeepWhatStands, OpeningsSettleAll, RunsBeginOpened, UnusedAreSound, UnusedOpenAsTheyAre, UnusedStandForNothing};
 
