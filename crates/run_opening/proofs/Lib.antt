@@ -1,0 +1,5 @@
+-- Proofs of the opening's code.
+pub mod Bits
+pub mod Going
+pub mod Ending
+pub mod Thawing

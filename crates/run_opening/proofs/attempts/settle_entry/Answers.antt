@@ -1,0 +1,26 @@
+use Rattle.std.specs.Prelude.{Ok}
+use Rattle.std.proofs.Common.{◌≡◌, ◌∙◌, ap, subst, sym}
+use Rattle.vos_store.specs.Conditions.{CanSettle, IsStep}
+use Rattle.vos_store.specs.Refusals.{always_stop}
+use Rattle.daos_model.specs.Changes.{settled}
+use Rattle.run_opening.specs.Steps.{ended_at, ending, resolved_by, same}
+use Rattle.run_opening.proofs.Ending.{at-committed, at-prepared, can-end, is-step}
+use Rattle.run_opening.proofs.Going.{goes-as, goes-call, goes-first}
+use Rattle.run_opening.proofs.attempts.settle_entry.Goals as goal
+
+pub settle-requires-clause-here : goal.settle-requires-clause-here
+settle-requires-clause-here g c running x at = subst (λ s. CanSettle c.args.entry.now.attempt s x) (sym c.ending-step.ensures) (can-end c.is_resolved.result c.args.entry.now x (c.requires.here x at) c.if-entry.false)
+
+pub settle-requires-clause-form : goal.settle-requires-clause-form
+settle-requires-clause-form g c = subst IsStep (sym c.ending-step.ensures) (is-step c.is_resolved.result)
+
+pub returns-then-entry : goal.returns-then-entry
+returns-then-entry g c =
+    goes-as always_stop (Ok (tt {0})) same (ended_at (resolved_by c.args.all.now) c.args.entry.now) (g.S.Store.state c.args.store.now) (g.S.Store.state c.args.store.now) (g.S.Store.durable c.args.store.now) (g.S.Store.durable c.args.store.now)
+    (λ d at. at-committed (resolved_by c.args.all.now) c.args.entry.now d c.if-entry.true) (goes-first always_stop (tt {0}) (g.S.Store.state c.args.store.now) (g.S.Store.durable c.args.store.now) c.requires.running)
+
+pub returns : goal.returns
+returns g c =
+    goes-as always_stop c.settle.result (settled c.args.entry.now.attempt c.ending-step.result) (ended_at (resolved_by c.args.all.now) c.args.entry.now) (g.S.Store.state c.args.store.now) (g.S.Store.state c.settle.new.self) (g.S.Store.durable c.args.store.now) (g.S.Store.durable c.settle.new.self)
+    (λ d at. ap (λ s. settled c.args.entry.now.attempt s d) c.ending-step.ensures ∙ at-prepared (resolved_by c.args.all.now) c.args.entry.now d c.is_resolved.result c.if-entry.false c.is_resolved.ensures)
+    (goes-call always_stop c.settle.result (settled c.args.entry.now.attempt c.ending-step.result) (g.S.Store.state c.args.store.now) (g.S.Store.state c.settle.new.self) (g.S.Store.durable c.args.store.now) (g.S.Store.durable c.settle.new.self) _ _ c.requires.running c.settle.ensures.call c.settle.ensures.kept)

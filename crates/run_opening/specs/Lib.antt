@@ -1,0 +1,10 @@
+-- The opening of a run over stores that are sound together.
+pub mod Opened
+pub mod Steps
+pub mod Laws
+pub mod StandLaws
+pub mod SoundLaws
+pub mod BeginLaws
+pub mod Alike
+pub mod EnlistLaws
+pub mod UnusedLaws
