@@ -1,5 +1,5 @@
 -- The text of the report of a run in an order determines it.
-use Rattle.std.specs.Prelude.{ℕ, ◌<◌, ◌≤◌, ◌^◌, true, Some, None}
+use Rattle.std.specs.Prelude.{◌≤◌, true, None}
 use Rattle.std.proofs.Common.{arith}
 use Rattle.daos_model.specs.Family.{resolved}
 use Rattle.daos_model.specs.Opening.{Given, Outside}

@@ -1,7 +1,7 @@
 -- Where what idle work asks comes from, in each event: a target inquires what became of an attempt in the settling phase alone, and is told that it
 -- isn't decided by the attempt's leader, which keeps an entry of it.
-use Rattle.std.specs.Prelude.{ℕ, ◌≡◌, ◌⊎◌, ◌++◌, Bool, true, false, List, [], ◌∷◌, filter, map, slice_get, Option, Some, None, refl, if◌then◌else◌}
-use Rattle.std.proofs.Common.{append-nil, inl, inr, sym, ◌∙◌, ap, subst}
+use Rattle.std.specs.Prelude.{ℕ, ◌≡◌, ◌⊎◌, Bool, true, false, List, [], ◌∷◌, filter, map, slice_get, Some, None, refl, if◌then◌else◌}
+use Rattle.std.proofs.Common.{inl, inr, sym, ◌∙◌, ap, subst}
 use Rattle.base_types.specs.declared.entry.Entry.{Entry}
 use Rattle.base_types.specs.declared.entry.Verdict.{Verdict}
 use Rattle.base_types.specs.declared.entry.Verdict.TheVariants as verdict
@@ -10,7 +10,7 @@ use Rattle.base_messages.specs.declared.message.Message.{Message}
 use Rattle.base_messages.specs.declared.message.Message.TheVariants as message
 use Rattle.base_messages.specs.declared.message.Post.{Post}
 use Rattle.model_laws.specs.Members.{Has, has-cases, has-from_filter, has-from_map}
-use Rattle.daos_model.specs.declared.durable.Durable.{Durable}
+use Rattle.daos_model.specs.Durables.{entry_of}
 use Rattle.dtx_base.specs.declared.leading.Naming.{Naming}
 use Rattle.dtx_base.specs.declared.member.Inquiry.{Inquiry}
 use Rattle.dtx_base.specs.declared.member.QueryState.TheVariants as state
@@ -148,6 +148,9 @@ module _ (r : Rules) (w u : World) where
     sent-verdict : (m : ℕ) (x : AttemptId) (inc : ℕ) (v : Verdict) (p : Post) → Has p g.did.posts → p.message ≡ message.Verdict x None inc v → p.to ≡ target m → (g.l.message ≡ message.Query x None) × (g.l.from ≡ target m)
     sent-verdict m x inc v p i is to = let s = subst (MaySend g.l.from g.l.message p.to) is (may p i) in (s.0, sym s.1 ∙ to)
 
+    kept-held : (x : AttemptId) (e : Entry) → entry_of g.s.durable x ≡ Some e → IsHeld w g.t x
+    kept-held x e found = record { entry = e; found = ap (λ o. entry_in o x) g.here ∙ found }
+
     -- which says that the attempt isn't decided where an entry is kept here
     held : (m : ℕ) (x : AttemptId) (l : Letter) (p : Post) → Has p g.did.posts → l ≡ letter_of (target g.t) p → IsUndecidedTold m x l → IsHeld w (leader_of r x) x
     held m x l p i same told =
@@ -159,7 +162,7 @@ module _ (r : Rules) (w u : World) where
         let told-so : p.message ≡ message.Verdict x None told.inc verdict.Undecided = sym (ap (λ n. n.message) same) ∙ told.says in
         let undecided : query_answer x (leader_at (target_plan r g.t) g.s.memory g.s.durable) ≡ verdict.Undecided = cc (says, told-so) in
         let e = undecided-kept (target_plan r g.t) g.s.memory g.s.durable x undecided in
-        subst (λ n. IsHeld w n x) leads (record { entry = e.0; found = ap (λ o. entry_in o x) g.here ∙ e.1 })
+        subst (λ n. IsHeld w n x) leads (kept-held x e.0 e.1)
 
     sent : (m : ℕ) (x : AttemptId) (l : Letter) (p : Post) → Has p g.did.posts → l ≡ letter_of (target g.t) p → IsQueryOf m x None l → LetterComes ⊥ r w m x l
     sent m x l p i same (IsQuery leader is from to) = absurd (subst (MaySend g.l.from g.l.message p.to) (sym (ap (λ z. z.message) same) ∙ is) (may p i))

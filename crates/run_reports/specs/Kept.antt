@@ -1,5 +1,5 @@
 -- What is left where a run has ended in which targets may stop.
-use Rattle.std.specs.Prelude.{ℕ, ◌≡◌, ◌⊎◌, ◌<◌, ◌==◌, ◌&&◌, Bool, true, false, not, filter, is_none, List, [], ◌∷◌, Contains, length, slice_get, Option, Some, None, refl}
+use Rattle.std.specs.Prelude.{ℕ, ◌≡◌, ◌<◌, ◌==◌, ◌&&◌, Bool, true, false, not, filter, is_none, List, [], ◌∷◌, Contains, length, slice_get, Option, Some, None, refl}
 use Rattle.std.specs.List.{list_any}
 use Rattle.std.proofs.Common.{inl, inr, sym, ◌∙◌, ap, subst, arith}
 use Rattle.std.proofs.lemmas.Bool.Decides.{nat_tests}
@@ -30,7 +30,7 @@ use Rattle.dtx_base.specs.LeaderLaws.{same-is}
 use Rattle.dtx_base.specs.Leading.{attempts_of, entry_attempt, is_batch_due, is_due_to, is_led, is_named, is_owed, marked_attempt, undecided_attempt}
 use Rattle.dtx_base.specs.Members.{all_targets, has_target, is_other_member, other_members}
 use Rattle.dtx_base.specs.Rows.{is_among, is_row_of, row_of}
-use Rattle.world_asks.specs.Asks.{ByLeader, ByMark, Flies, IsMark, IsMarkOf, IsMarked, IsQuery, IsQueryOf, IsToBeTold, IsUnconfirmed, IsVerdict, NoneHere}
+use Rattle.world_asks.specs.Asks.{ByLeader, ByMark, IsMark, IsMarked, IsQuery, IsQueryOf, IsVerdict, NoneHere}
 use Rattle.world_attempts.specs.Attempts.{Entries, IsHeld, IsItsEntry, IsOther, entry_at, entry_in, first_entry, is_known_at, is_known_in, leader_of, row_at, row_in}
 use Rattle.world_attempts.specs.History.{Aborted, Decided, History}
 use Rattle.world_attempts.specs.MemberBits.{is-other_same, other-no_leader}
@@ -50,7 +50,7 @@ use Rattle.world_closing.specs.Waited.{told-down}
 use Rattle.world_facts.specs.Facts.{IsMember}
 use Rattle.world_fates.specs.Facts.{IsSaidSo, down_in}
 use Rattle.world_lives.specs.Lives.{standing_of}
-use Rattle.world_questions.specs.Facts.{IsAsked, IsMarkFor, IsNamed, IsOnNaming, IsOnQuery, IsQueryReset, IsTold, IsToldOrStopped, LeaderStopped}
+use Rattle.world_questions.specs.Facts.{IsAsked, IsNamed, IsOnNaming, IsOnQuery, IsTold, IsToldOrStopped, LeaderStopped}
 use Rattle.world_questions.specs.Facts as fact
 use Rattle.world_reasons.specs.Accounted.{Accounted, stored_over}
 use Rattle.world_whole.specs.Begins.{IsSimple, held_at}

@@ -1,5 +1,5 @@
 -- Where a run in an order begins to settle: nobody has a message to hear or a command to go on with, and idle work has asked nothing yet.
-use Rattle.std.specs.Prelude.{ℕ, zero, suc, ◌≡◌, ◌⊎◌, ◌<◌, ◌++◌, ◌||◌, ◌&&◌, ◌==◌, Bool, true, false, not, nat_lt, List, [], ◌∷◌, filter, length, slice_get, Some, None, refl}
+use Rattle.std.specs.Prelude.{ℕ, zero, suc, ◌≡◌, ◌⊎◌, ◌<◌, ◌||◌, ◌&&◌, ◌==◌, Bool, true, false, not, nat_lt, List, [], ◌∷◌, filter, length, slice_get, Some, None, refl}
 use Rattle.std.proofs.Common.{inl, inr, sym, ◌∙◌, ap, subst, arith}
 use Rattle.std.proofs.lemmas.Bool.{cases_eq}
 use Rattle.std.proofs.lemmas.Bool.Decides.{nat_tests}
@@ -20,11 +20,9 @@ use Rattle.run_turns.specs.Keeping.{draws-keep, rounds-keep}
 use Rattle.run_turns.specs.Orders.{AndThen, ByDraws, ByRounds, Draws, HasIt, HasNone, InOrder, InTurn, NoDraw, NoRound, Nobody, OneDraw, OneRound, OneTurn, Rounds}
 use Rattle.run_turns.specs.Turns.{Doing, GivesUp, GivingUp, IsDoneBy, IsDraw, Opening as OpeningTurn, TurnOf}
 use Rattle.world_asks.specs.Asks.{IsQueryOf}
-use Rattle.world_base.specs.declared.client.ClientPlan.{ClientPlan}
 use Rattle.world_base.specs.declared.client.ClientState.{ClientState}
 use Rattle.world_base.specs.declared.letter.Letter.{Letter}
-use Rattle.world_base.specs.declared.target.Life.TheVariants.{Running, Stopped}
-use Rattle.world_base.specs.declared.target.TargetPlan.{TargetPlan}
+use Rattle.world_base.specs.declared.target.Life.TheVariants.{Running}
 use Rattle.world_base.specs.declared.target.TargetState.{TargetState}
 use Rattle.world_base.specs.declared.world.World.{World}
 use Rattle.world_base.specs.ClientTurns.{is_done, waits}

@@ -1,5 +1,5 @@
 -- What a run in an order reports, where targets may stop and open again.
-use Rattle.std.specs.Prelude.{ℕ, ◌≡◌, ◌⊎◌, ◌≤◌, ◌<◌, ◌^◌, Bool, true, false, List, [], All, Contains, slice_get, Option, Some, None}
+use Rattle.std.specs.Prelude.{ℕ, ◌≡◌, ◌⊎◌, ◌≤◌, ◌<◌, ◌^◌, Bool, true, false, List, [], All, Contains, slice_get, Some, None}
 use Rattle.base_types.specs.declared.entry.Entry.{Entry}
 use Rattle.base_types.specs.declared.id.AttemptId.{AttemptId}
 use Rattle.base_types.specs.declared.outcome.Outcome.TheVariants.{Unknown}
@@ -20,7 +20,7 @@ use Rattle.report_writer.specs.Forms.{IsReportOf}
 use Rattle.run_turns.specs.Orders.{InOrder}
 use Rattle.script_runnable.specs.Keyed.{MapHasKeys, ScriptHasKeys}
 use Rattle.world_asks.specs.Ends.{IsSettledAt}
-use Rattle.world_attempts.specs.Attempts.{IsHeld, IsSettled}
+use Rattle.world_attempts.specs.Attempts.{IsHeld}
 use Rattle.world_base.specs.declared.target.Life.TheVariants.{Running}
 use Rattle.world_base.specs.declared.target.TargetState.{TargetState}
 use Rattle.world_base.specs.declared.world.World.{World}
@@ -28,6 +28,7 @@ use Rattle.world_base.specs.Events.{Rules}
 use Rattle.world_closing.specs.Closing.{report_over}
 use Rattle.world_ends.specs.Ends.{TellsPlain, durables_of, rules_of}
 use Rattle.world_facts.specs.Facts.{IsMember}
+use Rattle.world_facts.specs.Settled.{IsCommittedAtAll}
 use Rattle.world_lives.specs.Legal.{AreCaused, NoneIsStopped}
 use Rattle.world_lone.specs.LoneRuns.{AreIssuedThere}
 use Rattle.world_whole.specs.Begins.{IsBegun, IsSimple}
@@ -91,14 +92,14 @@ pub record LeavesInTheEnd (r : Rules) (v : World) : Type 0 where
 
 -- The report is legal whichever attempts are taken as resolved, though the outside failed no region; no target was given up; lines tell of
 -- attempts alone, and of each what became of it. The targets stand for what it tells; nothing is left to settle at any: each entry is
--- committed, and so at all members of its attempt; and where its leader keeps it, each other member has confirmed that.
+-- committed, and so at all members, those that it names and those by the script; and where its leader keeps it, each other member has confirmed that.
 pub record EndsPlainlyIn (g : Given) (v : World) : Type 0 where
   pub legal : (resolved : AttemptId → Bool) → Headline g undisturbed resolved (report_over (rules_of g) v)
   pub stands : HeadlineOver g undisturbed (durables_of v) (report_over (rules_of g) v)
   pub none_down : (report_over (rules_of g) v).down ≡ None
   pub tells : TellsPlain v
   pub settled : (t : ℕ) (s : TargetState) → slice_get v.targets t ≡ Some s → IsSettledAt (rules_of g) t s
-  pub everywhere : (t : ℕ) (s : TargetState) (e : Entry) → slice_get v.targets t ≡ Some s → Contains s.durable.entries e → (m : ℕ) → IsMember (rules_of g) e.attempt m → IsSettled v m e.attempt
+  pub everywhere : (t : ℕ) (s : TargetState) (e : Entry) → slice_get v.targets t ≡ Some s → Contains s.durable.entries e → IsCommittedAtAll (rules_of g) v e
 
 -- A client that is alone is never told to restart: each of its commands has one attempt, in the order of the script, epochs rise in the
 -- order of the lines, and it is known what became of each; each is committed where there are no conditions, and room and ticks.

@@ -1,10 +1,9 @@
 -- While a run in an order settles, it is known of what a member was told isn't decided: a member of it was given up, or it is decided.
-use Rattle.std.specs.Prelude.{ℕ, ◌≡◌, ◌⊎◌, ◌≤◌, ◌++◌, Bool, true, false, nat_le, List, [], ◌∷◌, Contains, length, slice_get, Option, Some, None, refl, if◌then◌else◌}
+use Rattle.std.specs.Prelude.{ℕ, ◌≡◌, ◌⊎◌, ◌≤◌, ◌++◌, true, nat_le, List, length, slice_get, Some, None, refl, if◌then◌else◌}
 use Rattle.std.proofs.Common.{inl, inr, sym, ◌∙◌, ap, subst, arith}
 use Rattle.std.proofs.Math.ListN.{set}
 use Rattle.std.proofs.lemmas.Bool.Decides.{nat_tests}
 use Rattle.std.proofs.lemmas.Option.{slice_get_past}
-use Rattle.base_types.specs.declared.entry.Entry.{Entry}
 use Rattle.base_types.specs.declared.epoch.Epoch.{Epoch}
 use Rattle.base_types.specs.declared.id.AttemptId.{AttemptId}
 use Rattle.base_types.specs.declared.report.Line.TheVariants as line
@@ -30,7 +29,7 @@ use Rattle.world_base.specs.Events.{ByClient, ByTarget, ClientGoes, ClientHears,
 use Rattle.world_base.specs.Further.{HearsFurther}
 use Rattle.world_base.specs.StepLaws.{by-hearing, by-next, set-here, set-there}
 use Rattle.world_base.specs.Steps.{KeptByCounting, KeptByHearing, KeptByMoves}
-use Rattle.world_base.specs.Stops.{Begins, Draws, Fails, Further, GivenUp, Goes, Happening, HearsMore, IsCut, Opens, Plainly, WorldEvent, WorldRun, swept}
+use Rattle.world_base.specs.Stops.{Begins, Draws, Fails, Further, GivenUp, Goes, Happening, HearsMore, IsCut, Opens, Plainly, WorldEvent, WorldRun}
 use Rattle.world_causes.specs.Causes.{Stored}
 use Rattle.world_fates.specs.Facts.{Attempts}
 use Rattle.world_fates.specs.Rightly.{letters-tell}

@@ -1,9 +1,7 @@
 -- Where no line of a run in an order tells of a stop, it ends as one in which nothing can stop.
-use Rattle.std.specs.Prelude.{ℕ, ◌≡◌, [], Contains, List, map, slice_get, Option, Some, None}
-use Rattle.std.proofs.Common.{sym, ◌∙◌, ap, subst}
+use Rattle.std.specs.Prelude.{ℕ, ◌≡◌, [], Contains, slice_get, Some, None}
+use Rattle.std.proofs.Common.{sym, ap, subst}
 use Rattle.base_types.specs.declared.entry.Entry.{Entry}
-use Rattle.base_types.specs.declared.id.AttemptId.{AttemptId}
-use Rattle.base_types.specs.declared.report.Report.{Report}
 use Rattle.model_reports.specs.Ends.{commit, end-plainly}
 use Rattle.model_reports.specs.Lone.{IsLone}
 use Rattle.model_reports.specs.Once.{rise, try-once}
@@ -12,7 +10,6 @@ use Rattle.daos_model.specs.Finals.{HeadlineOver}
 use Rattle.daos_model.specs.Headline.{Headline}
 use Rattle.daos_model.specs.Opening.{Given, undisturbed}
 use Rattle.daos_model.specs.Stops.{down_targets, least, stop_numbers}
-use Rattle.world_asks.specs.Ends.{IsSettledAt}
 use Rattle.world_attempts.specs.Attempts.{IsSettled}
 use Rattle.world_base.specs.declared.target.TargetState.{TargetState}
 use Rattle.world_base.specs.declared.world.World.{World}
@@ -23,7 +20,7 @@ use Rattle.world_ends.specs.Ends.{TellsPlain, durables_of, report_of, rules_of}
 use Rattle.world_ends.specs.FromBeginning.{ended-runs-are-settled, runs-from-the-beginning, runs-give-the-headline}
 use Rattle.world_ends.specs.StopLaws.{tries-undisturbed}
 use Rattle.world_facts.specs.FactLaws.{known-at-each-moment}
-use Rattle.world_facts.specs.Facts.{IsMember}
+use Rattle.world_facts.specs.Settled.{IsCommittedAtAll}
 use Rattle.world_facts.specs.SettledLaws.{ended-runs-commit-at-all}
 use Rattle.world_unstopped.specs.Renumbering.{with_numbers}
 use Rattle.world_unstopped.specs.Unstopped.{unstopped-is-plain}
@@ -58,10 +55,14 @@ module _ (g : Given) (w v : World) (k : GoesInOrder g w v) (none : stop_numbers 
   same : report_of r last ≡ report_over r v
   same = ap (λ d. record { targets = g.script.targets; lines = v.lines; down = d }) (sym none-down)
 
-  everywhere : (t : ℕ) (s : TargetState) (e : Entry) → slice_get v.targets t ≡ Some s → Contains s.durable.entries e → (m : ℕ) → IsMember r e.attempt m → IsSettled v m e.attempt
-  everywhere t s e here i m member =
-      let z = (ended-runs-commit-at-all r g.opening w last e k.simple k.begun plain over (record { t = t; s = s; here = here; among = i })).members m member in
-      record { entry = z.entry; found = z.found; committed = z.committed }
+  everywhere : (t : ℕ) (s : TargetState) (e : Entry) → slice_get v.targets t ≡ Some s → Contains s.durable.entries e → IsCommittedAtAll r v e
+  everywhere t s e here i = record { named = λ m names. now m (all.named m names); members = λ m member. now m (all.members m member) }
+    where
+      all : IsCommittedAtAll r last e
+      all = ended-runs-commit-at-all r g.opening w last e k.simple k.begun plain over (record { t = t; s = s; here = here; among = i })
+
+      now : (m : ℕ) → IsSettled last m e.attempt → IsSettled v m e.attempt
+      now m z = record { entry = z.entry; found = z.found; committed = z.committed }
 
   pub plainly : EndsPlainlyIn g v
   plainly = record {
