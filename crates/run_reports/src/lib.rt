@@ -8,9 +8,9 @@ ghost use Rattle.run_reports.specs.Reports.{NoneUnknownWithoutGivenUp, OrdersAre
 /// legal in each part, whatever the outside is taken to have done, if only it caused the stops for which the
 /// script doesn't ask, and what was given up; the targets stand for what it tells, and replicas agree. The
 /// text of the report determines it, where names and keys are keys, and the numbers of stops and openings are
-/// as small as their types hold. One of the targets issued each epoch of which it tells. In the end each
+/// as small as their types hold. Each epoch of which it tells bears the number of one of the targets. In the end each
 /// target runs or is given up; and each entry that a running one keeps is committed, or a member of its attempt
-/// was given up. What is committed at one all members hold.
+/// was given up. Of what is committed at one all members hold an entry.
 pub fn laws_of_ordered_reports()
     ensures legal { OrdersAreLegal }
     ensures form { OrdersReportInForm }

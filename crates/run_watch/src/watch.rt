@@ -17,7 +17,7 @@ use world_base::target::Life;
 pub const MOST_FAULTS: u8 = 8;
 
 /// How the targets of a run stand: who runs, is stopped, or was given up; in how many of its turns the
-/// outside failed each, up to 9; the stop lines whose fuses are still to be set; how many restarts there
+/// outside failed each, up to 8; the stop lines whose fuses are still to be set; how many restarts there
 /// were, and how many openings were tried.
 #[derive(Drop)]
 pub struct Watch {
