@@ -1,0 +1,1 @@
+-- The actors of a run in which targets may stop.
