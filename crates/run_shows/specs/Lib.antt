@@ -17,6 +17,4 @@ pub mod Lettered
 pub mod Fitting
 pub mod Going
 pub mod Accounting
-pub mod Sweeping
 pub mod Laws
-pub mod Shown

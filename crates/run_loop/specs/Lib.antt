@@ -1,4 +1,0 @@
--- The actors of a run, turn by turn, and where the run ends.
-pub mod Going
-pub mod Loops
-pub mod Ended

@@ -1,1 +1,0 @@
--- The actors of a run in which targets may stop.

@@ -1,6 +1,0 @@
-// The actors of a run in which targets may stop and open again, and one turn of each.
-#![tactic(auto)]
-
-pub mod dues;
-pub mod stage;
-pub mod turns;
