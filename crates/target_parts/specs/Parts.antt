@@ -11,14 +11,15 @@ use Rattle.target_parts.specs.declared.halt.Halt.{Halt}
 use Rattle.target_parts.specs.declared.halt.Halt.TheVariants as halt
 
 -- The store is stopped exactly where that is answered, and that only where a count rose in these calls. One that nothing
--- can stop isn't stopped, and its counts stay. Counts never fall; how the store was made and opened stays, whether the
--- outside may fail it, and whether it tells what it keeps.
+-- can stop isn't stopped, and its counts stay; and where the outside can't fail it, its count stays. Counts never fall; how
+-- the store was made and opened stays, whether the outside may fail it, and whether it tells what it keeps.
 pub record Runs {T E : Type 0} (stop : E → Bool) (result : Result T E) (h k : State) (old new : Option Durable) : Type 0 where
   pub faults : h.faults ≤ k.faults
   pub burns : h.burns ≤ k.burns
   pub fuse : Fires h k
   pub tells_fuse : k.tells_fuse ≡ h.tells_fuse
   pub may_fail : k.may_fail ≡ h.may_fail
+  pub sure : h.may_fail ≡ false → k.faults ≡ h.faults
   pub unfailing : IsUnfailing h → RunsOn h k
   pub stops : k.stopped ≡ says stop result
   pub cause : says stop result ≡ true → Ailed h k
