@@ -1,16 +1,19 @@
 -- Actors that can have their turns, whatever their stores tell.
-use Rattle.std.specs.Prelude.{ℕ, ◌≡◌, ◌<◌, ◌^◌, false, true, length, slice_get, Contains, Option, Some}
+use Rattle.std.specs.Prelude.{ℕ, ◌≡◌, ◌+◌, ◌<◌, ◌^◌, List, false, true, length, slice_get, Contains, Option, Some}
 use Rattle.std.specs.Option.{ForSome}
 use Rattle.client_core.specs.Clients.{ClientNow}
 use Rattle.daos_model.specs.declared.durable.Durable.{Durable}
+use Rattle.run_base.specs.Letters.{IsPicked}
 use Rattle.run_shows.specs.Shows.{IsGoing}
 use Rattle.run_shows.specs.Stages.{IsPlace, StageNow}
 use Rattle.target_core.specs.Targets.{CanHear, TargetOf}
+use Rattle.target_parts.specs.Knowing.{IsHeard}
 use Rattle.vos_store.specs.Calls.{State}
 use Rattle.world_base.specs.declared.letter.Letter.{Letter}
 use Rattle.world_base.specs.declared.target.Life.{Life}
-use Rattle.world_base.specs.declared.target.Life.TheVariants.{Running}
+use Rattle.world_base.specs.declared.target.Life.TheVariants.{Running, Stopped}
 use Rattle.world_base.specs.Events.{Rules, client_plan, target_plan}
+use Rattle.world_base.specs.Letters.{target}
 use Rattle.world_posts.specs.Forms.{ClientsWait, IsInForm, IsLetter, is_of_client}
 use Rattle.world_whole.specs.Begins.{IsSimple}
 
@@ -41,3 +44,12 @@ pub record IsHearable {S C : Type 0} (durable : S → Option Durable) (x : Targe
   pub form : IsInForm x.plan l.message
   pub kind : is_of_client l.message ≡ l.from.client
   pub here : ForSome (durable x.store) (CanHear x.plan l.message)
+
+-- A target can have its turn. One that runs has opened, its store isn't stopped, and it can hear whichever letter has this number among those
+-- in flight to it; one that is stopped can open again with whatever may be found.
+pub record CanTurn {S C : Type 0} (durable : S → Option Durable) (state : S → State) (may : S → Durable → Type 0) (a : StageNow S C) (t number : ℕ) (x : TargetOf S C) : Type 0 where
+  pub opened : slice_get a.watch.lives t ≡ Some Running → x.opened ≡ true
+  pub running : slice_get a.watch.lives t ≡ Some Running → (state x.store).stopped ≡ false
+  pub hears : slice_get a.watch.lives t ≡ Some Running → (l : Letter) (rest : List Letter) → IsPicked a.between.messages (target t) number l rest → IsHearable durable x l
+  pub counted : slice_get a.watch.lives t ≡ Some Stopped → ForSome (durable x.store) (λ d. (e : Durable) → may x.store e → e.incarnation + 1 < 2 ^ 64)
+  pub covered : slice_get a.watch.lives t ≡ Some Stopped → ForSome (durable x.store) (λ d. (e : Durable) → may x.store e → IsHeard e.lease e)

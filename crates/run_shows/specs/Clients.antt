@@ -10,7 +10,7 @@ use Rattle.run_shows.specs.Parts.{IsTurnSo, follow-shown, picked-takes, swept-sh
 use Rattle.run_shows.specs.ListLaws.{get-set, map-get, map-set}
 use Rattle.run_shows.specs.Shows.{Leads, Shows, state_of}
 use Rattle.run_shows.specs.Stages.{AreFound, StageNow}
-use Rattle.run_shows.specs.Turned.{followed, swept_stage, with_between}
+use Rattle.run_shows.specs.Turned.{followed, swept_stage, with_between, with_client_at}
 use Rattle.run_turns.specs.Turns.{Doing}
 use Rattle.vos_store.specs.Calls.{State}
 use Rattle.world_base.specs.declared.did.Did.{Did}
@@ -20,10 +20,6 @@ use Rattle.world_base.specs.ClientTurns.{HearTurn, NextTurn}
 use Rattle.world_base.specs.Events.{ByClient, Rules, ToClient, after_turn, client_plan, with_client}
 use Rattle.world_base.specs.Letters.{Takes, client}
 use Rattle.world_base.specs.Stops.{Plainly, swept}
-
--- this client is so from now on
-abbrev pub with_client_at : {S C : Type 0} → ℕ → ClientNow → StageNow S C → StageNow S C
-with_client_at n d a = record a { clients = slice_set a.clients n d }
 
 module _ {S C : Type 0} (durable : S → Option Durable) (state : S → State) (may : S → Durable → Type 0) (r : Rules) (n : ℕ) (c d : ClientNow) (a : StageNow S C) (did : Did) (left : BetweenNow) (at : slice_get a.clients n ≡ Some c) (plan : d.plan ≡ c.plan) where
   -- the actors after this

@@ -1,5 +1,5 @@
 -- Which actors have something to do.
-use Rattle.std.specs.Prelude.{ℕ, ◌≡◌, ◌<◌, ◌++◌, Bool, true, false, All, List, filter, length, Option, Some, None}
+use Rattle.std.specs.Prelude.{ℕ, ◌≡◌, ◌<◌, ◌++◌, Bool, true, false, All, List, filter, length, slice_get, Option, Some, None}
 use Rattle.client_core.specs.Clients.{ClientNow}
 use Rattle.base_messages.specs.declared.actor.ActorId.{ActorId}
 use Rattle.daos_model.specs.declared.durable.Durable.{Durable}
@@ -8,6 +8,8 @@ use Rattle.run_shows.specs.Shows.{Shows}
 use Rattle.run_shows.specs.Stages.{StageNow}
 use Rattle.vos_store.specs.Calls.{State}
 use Rattle.world_base.specs.declared.letter.Letter.{Letter}
+use Rattle.world_base.specs.declared.target.Life.{Life}
+use Rattle.world_base.specs.declared.target.Life.TheVariants.{Down}
 use Rattle.world_base.specs.declared.world.World.{World}
 use Rattle.world_base.specs.Events.{Rules}
 use Rattle.world_base.specs.Letters.{client, target}
@@ -22,10 +24,15 @@ pub record IsActor (clients targets : ℕ) (a : ActorId) : Type 0 where
   pub client : a.client ≡ true → a.number < clients
   pub target : a.client ≡ false → a.number < targets
 
--- These are those of some actors that have something to do, in any world that is shown; each of them is there.
+-- an actor isn't a target that was given up
+abbrev pub IsUp : List Life → ActorId → Type 0
+IsUp lives a = a.client ≡ false → slice_get lives a.number ≡ Some Down → ⊥
+
+-- These are those of some actors that have something to do, in any world that is shown; each of them is there, and none was given up.
 pub record AreDue {S C : Type 0} (durable : S → Option Durable) (state : S → State) (settling : Bool) (a : StageNow S C) (some due : List ActorId) : Type 0 where
   pub shown : (r : Rules) (found : ℕ → Durable) (w : World) → Shows durable state r found a w → due ≡ filter (is_due settling r w) some
   pub there : All (IsActor (length a.clients) (length a.targets)) due
+  pub up : All (IsUp a.watch.lives) due
 
 -- some clients, and then some targets, each in order of number
 abbrev pub first_targets : ℕ → ℕ → List ActorId

@@ -7,6 +7,8 @@ pub mod Accounts
 pub mod Due
 pub mod Turned
 pub mod Openings
+pub mod Steps
+pub mod Serving
 pub mod Parts
 pub mod Leading
 pub mod Givings
@@ -17,4 +19,6 @@ pub mod Lettered
 pub mod Fitting
 pub mod Going
 pub mod Accounting
+pub mod Sweeping
+pub mod Shown
 pub mod Laws

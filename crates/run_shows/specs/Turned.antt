@@ -5,6 +5,7 @@ use Rattle.base_types.specs.declared.epoch.Epoch.{Epoch}
 use Rattle.base_types.specs.declared.id.AttemptId.{AttemptId}
 use Rattle.base_types.specs.declared.report.Line.{Line}
 use Rattle.base_types.specs.declared.report.Line.TheVariants as line
+use Rattle.client_core.specs.Clients.{ClientNow}
 use Rattle.daos_model.specs.declared.durable.Durable.{Durable}
 use Rattle.run_base.specs.Letters.{BetweenNow, IsPicked}
 use Rattle.run_base.specs.Picks.{count_to}
@@ -102,7 +103,11 @@ pub data AfterFailure {S C : Type 0} (t before now : ℕ) (stop : TargetStop) (a
 
 -- ---- a target's turn
 
--- these are the targets from now on
+-- this client is so from now on
+abbrev pub with_client_at : {S C : Type 0} → ℕ → ClientNow → StageNow S C → StageNow S C
+with_client_at n d a = record a { clients = slice_set a.clients n d }
+
+-- this target is so from now on
 abbrev pub with_target_at : {S C : Type 0} → ℕ → TargetOf S C → StageNow S C → StageNow S C
 with_target_at t x a = record a { targets = slice_set a.targets t x }
 

@@ -1,5 +1,5 @@
 -- How the targets of a run stand, and how that changes.
-use Rattle.std.specs.Prelude.{ℕ, ◌+◌, ◌==◌, List, replicate, slice_get, slice_set, Option, Some, None, if◌then◌else◌}
+use Rattle.std.specs.Prelude.{ℕ, ◌≡◌, ◌+◌, ◌==◌, Bool, List, replicate, slice_get, slice_set, Option, Some, None, if◌then◌else◌}
 use Rattle.std.specs.List.{position_or_len}
 use Rattle.base_types.specs.declared.script.StopDecl.{StopDecl}
 use Rattle.daos_model.specs.Stops.{is_stop_at}
@@ -39,6 +39,13 @@ with_life t life w = record w { lives = slice_set w.lives t life }
 -- the outside failed a target in a turn, which it had done n times before; the ninth time isn't counted, since the target is given up
 abbrev pub after_fault : ℕ → ℕ → WatchNow → WatchNow
 after_fault t n w = if n == 8 then w else record w { faults = slice_set w.faults t (n + 1) }
+
+-- The outside failed a target in a turn once more: how often it had done so before, and whether this was the ninth time.
+pub record FailsAgain (t : ℕ) (old new : WatchNow) (last : Bool) : Type 0 where
+  pub times : ℕ
+  pub before : slice_get old.faults t ≡ Some times
+  pub ninth : last ≡ (times == 8)
+  pub after : new ≡ after_fault t times old
 
 -- one opening more was tried
 abbrev pub opening_tried : WatchNow → WatchNow

@@ -115,8 +115,7 @@ impl Watch {
     /// The outside failed a target in a turn: whether this was the ninth time, by which it is given up.
     pub fn fail(&mut self, t: usize) -> bool
         requires within { t < length self.old.lives }
-        ensures last { (n : ℕ) → slice_get self.old.faults t ≡ Some n → result ≡ (n == 8) }
-        ensures counted { (n : ℕ) → slice_get self.old.faults t ≡ Some n → self.new ≡ after_fault t n self.old }
+        ensures { FailsAgain t self.old self.new result }
     {
         let faults = self.faults[t];
         if faults == MOST_FAULTS {

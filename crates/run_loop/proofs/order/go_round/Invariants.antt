@@ -1,0 +1,7 @@
+use Rattle.run_loop.specs.Going.{GoesOn}
+use Rattle.run_turns.specs.Orders.{Rounds}
+use Rattle.run_loop.proofs.order.go_round.Given as goal
+
+-- there were some rounds
+abbrev pub invariant-loop : goal.invariant-loop
+invariant-loop g l = GoesOn g.S.Store.durable g.S.Store.state g.S.Store.may g.C.Clock.is_read (Rounds l.settling) l.fn.stage l.stage

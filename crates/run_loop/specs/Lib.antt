@@ -1,0 +1,3 @@
+-- The actors of a run, turn by turn, and where the run ends.
+pub mod Loops
+pub mod Ended

@@ -1,0 +1,148 @@
+-- Rounds and draws, one turn after another.
+use Rattle.std.specs.Prelude.{ℕ, zero, suc, ◌≡◌, ◌≤◌, ◌<◌, ◌++◌, ◌==◌, ◌%◌, Bool, true, false, List, [], ◌∷◌, length, max, slice_get, Option, Some, Result, Ok, Err, OnOk, if◌then◌else◌, refl}
+use Rattle.std.proofs.Common.{sym, ◌∙◌, ap, subst, arith}
+use Rattle.std.proofs.lemmas.Bool.Decides.{nat_tests}
+use Rattle.std.proofs.lemmas.List.{append_assoc}
+use Rattle.base_messages.specs.declared.actor.ActorId.{ActorId}
+use Rattle.base_random.specs.Draws.{drawn}
+use Rattle.daos_model.specs.declared.durable.Durable.{Durable}
+use Rattle.run_base.specs.Orders.{after_pick, pick}
+use Rattle.run_base.specs.Picks.{actors, is_due, numbered}
+use Rattle.run_steps.specs.Going.{GoesOn, draws-are-run, goes-as, goes-then, rounds-are-run, turns-are-run}
+use Rattle.run_shows.specs.Due.{AllAreDue, first_targets, is_due_client}
+use Rattle.run_shows.specs.Shown.{client-due-shown, due-shown, many-clients}
+use Rattle.run_shows.specs.Shows.{Shows}
+use Rattle.run_shows.specs.Stages.{StageNow}
+use Rattle.run_turns.specs.Orders.{AndThen, Draws, HasIt, HasNone, InDraws, InOrder, InRounds, InTurn, OneDraw, OneRound, RoundOf, Rounds}
+use Rattle.run_turns.specs.Turns.{TurnOf, heard_in}
+use Rattle.vos_store.specs.Calls.{State}
+use Rattle.world_base.specs.declared.world.World.{World}
+use Rattle.world_base.specs.Events.{Rules}
+use Rattle.world_base.specs.Letters.{client, target}
+
+-- these actors have had their turns in a round
+abbrev pub turned : Bool → List ActorId → Rules → World → World → Type 0
+turned settling before r w = InTurn settling r w before
+
+-- a turn of an actor
+abbrev pub turn_of : Bool → ActorId → ℕ → Rules → World → World → Type 0
+turn_of settling a k r = TurnOf settling r a k
+
+-- it was drawn from x0 to x
+abbrev pub from_draw : Bool → ℕ → ℕ → Rules → World → World → Type 0
+from_draw settling x0 x r w = Draws settling r x0 w x
+
+-- so it was, until no actor had anything to do
+abbrev pub all_from_draw : Bool → ℕ → ℕ → Rules → World → World → Type 0
+all_from_draw settling x0 x r w = InDraws settling r x0 w x
+
+-- ---- numbers
+
+pub some-pick : (x many p y : ℕ) → (many ≡ 0 → ⊥) → p ≡ pick x many → y ≡ after_pick x many → (p ≡ drawn x % many) × (y ≡ drawn x)
+some-pick x many p y some is last = by (many == 0) (tested many some)
+  where
+    tested : (n : ℕ) → (n ≡ 0 → ⊥) → (n == 0) ≡ false
+    tested zero h = absurd (h refl)
+    tested (suc n) h = grind (arith, nat_tests)
+
+    by : (b : Bool) → (many == 0) ≡ false → (p ≡ drawn x % many) × (y ≡ drawn x)
+    by b h = (is ∙ ap (λ z. if z then 0 else drawn x % many) h, last ∙ ap (λ z. if z then x else drawn x) h)
+
+-- a number drawn below how many there are is that of one of them
+pub one-of : (p many len count : ℕ) → p < max 1 many → many ≡ len → len ≡ count → false ≡ (len == 0) → p < count
+one-of p many len count low same fits some = let has : (len == 0) ≡ false = sym some in grind (arith, nat_tests)
+
+pub within-now : (n end : ℕ) {T : Type 0} (olds nows : List T) → n < end → end ≡ length olds → length nows ≡ length olds → n < length nows
+within-now n end olds nows low is same = omega (arith, low, is, same)
+
+pub at-end : (t end : ℕ) {T : Type 0} (olds mids : List T) → end ≤ t → t ≤ end → end ≡ length mids → length mids ≡ length olds → t ≡ length olds
+at-end t end olds mids past low is same = omega (arith, past, low, is, same)
+
+pub none-in : {T : Type 0} (xs : List T) (len : ℕ) → true ≡ (len == 0) → len ≡ length xs → xs ≡ []
+none-in [] len empty is = refl
+none-in (x ∷ xs) len empty is = let no : ⊥ = grind (arith, nat_tests) in absurd no
+
+pub some-in : {T : Type 0} (xs : List T) (len : ℕ) → false ≡ (len == 0) → len ≡ length xs → xs ≡ [] → ⊥
+some-in [] len some is none = grind (arith, nat_tests)
+some-in (x ∷ xs) len some is none = cc
+
+pub not-none : (many len : ℕ) → false ≡ (len == 0) → many ≡ len → many ≡ 0 → ⊥
+not-none many len some is none = grind (arith, nat_tests)
+
+module _ {S C : Type 0} (durable : S → Option Durable) (state : S → State) (may : S → Durable → Type 0) (is_read : C → C → Type 0) (settling : Bool) (a0 a : StageNow S C) where
+  -- an actor has something to do in each world that is shown, or in none
+  abbrev DueIs : Bool → ActorId → Type 0
+  DueIs is actor = (r : Rules) (found : ℕ → Durable) (w : World) → Shows durable state r found a w → is_due settling r w actor ≡ is
+
+  -- ---- a round
+
+  module _ (before : List ActorId) (actor : ActorId) (k : GoesOn durable state may is_read (turned settling before) a0 a) where
+    -- one has its turn
+    one-more : (b : StageNow S C) → DueIs true actor → GoesOn durable state may is_read (turn_of settling actor 0) a b → GoesOn durable state may is_read (turned settling (before ++ actor ∷ [])) a0 b
+    one-more b is turn =
+        goes-then durable state may is_read (turned settling before) (turn_of settling actor 0) (turned settling (before ++ actor ∷ [])) a0 a b (turns-are-run settling before)
+        (λ r found w u v s so one. AndThen before actor u v so (HasIt (is r found u s) one)) k turn
+
+    -- one has none
+    none-more : DueIs false actor → GoesOn durable state may is_read (turned settling (before ++ actor ∷ [])) a0 a
+    none-more not_due =
+        goes-as durable state may is_read (turned settling before) (turned settling (before ++ actor ∷ [])) a0 a (λ r found was w u old s so. AndThen before actor u u so (HasNone (not_due r found u s) refl)) k
+
+  module _ (n : ℕ) (k : GoesOn durable state may is_read (turned settling (numbered client n)) a0 a) (within : n < length a.clients) where
+    pub client-had-turn : (b : StageNow S C) → is_due_client a.between.messages n (slice_get a.clients n) ≡ true → GoesOn durable state may is_read (turn_of settling (client n) 0) a b → GoesOn durable state may is_read (turned settling (numbered client (suc n))) a0 b
+    client-had-turn b is = one-more (numbered client n) (client n) k b (λ r found w s. sym (client-due-shown durable state r found a w s settling n within) ∙ is)
+
+    pub client-had-none : is_due_client a.between.messages n (slice_get a.clients n) ≡ false → GoesOn durable state may is_read (turned settling (numbered client (suc n))) a0 a
+    client-had-none is = none-more (numbered client n) (client n) k (λ r found w s. sym (client-due-shown durable state r found a w s settling n within) ∙ is)
+
+  module _ (m t : ℕ) (k : GoesOn durable state may is_read (turned settling (first_targets m t)) a0 a) where
+    next : first_targets m t ++ target t ∷ [] ≡ first_targets m (suc t)
+    next = append_assoc (numbered client m) (numbered target t) (target t ∷ [])
+
+    pub target-had-turn : (b : StageNow S C) → DueIs true (target t) → GoesOn durable state may is_read (turn_of settling (target t) 0) a b → GoesOn durable state may is_read (turned settling (first_targets m (suc t))) a0 b
+    target-had-turn b is turn = subst (λ as'. GoesOn durable state may is_read (turned settling as') a0 b) next (one-more (first_targets m t) (target t) k b is turn)
+
+    pub target-had-none : DueIs false (target t) → GoesOn durable state may is_read (turned settling (first_targets m (suc t))) a0 a
+    target-had-none is = subst (λ as'. GoesOn durable state may is_read (turned settling as') a0 a) next (none-more (first_targets m t) (target t) k is)
+
+  -- all had their turns
+  pub round-whole : GoesOn durable state may is_read (turned settling (first_targets (length a0.clients) (length a0.targets))) a0 a → GoesOn durable state may is_read (RoundOf settling) a0 a
+  round-whole k =
+      goes-as durable state may is_read (turned settling (first_targets (length a0.clients) (length a0.targets))) (RoundOf settling) a0 a
+      (λ r found was w u old s so. subst (λ as'. InTurn settling r w as' u) (ap (λ n. first_targets n (length a0.targets)) (sym (many-clients durable state r was a0 w old)) ∙ ap (first_targets (length w.clients)) (sym old.many)) so) k
+
+  -- ---- rounds
+
+  module _ (due : List ActorId) (all : AllAreDue durable state settling a due) where
+    pub round-more : (b : StageNow S C) → (due ≡ [] → ⊥) → GoesOn durable state may is_read (Rounds settling) a0 a → GoesOn durable state may is_read (RoundOf settling) a b → GoesOn durable state may is_read (Rounds settling) a0 b
+    round-more b some k round =
+        goes-then durable state may is_read (Rounds settling) (RoundOf settling) (Rounds settling) a0 a b (rounds-are-run settling)
+        (λ r found w u v s so one. OneRound u v so (λ none. some (due-shown durable state r found a u s settling due all ∙ none)) one) k round
+
+    pub rounds-over : due ≡ [] → GoesOn durable state may is_read (Rounds settling) a0 a → GoesOn durable state may is_read (InRounds settling) a0 a
+    rounds-over quiet k =
+        goes-as durable state may is_read (Rounds settling) (InRounds settling) a0 a (λ r found was w u old s so. record { rounds = so; over = sym (due-shown durable state r found a u s settling due all) ∙ quiet }) k
+
+    -- ---- draws
+
+    pub draws-over : (x0 x : ℕ) → due ≡ [] → GoesOn durable state may is_read (from_draw settling x0 x) a0 a → GoesOn durable state may is_read (all_from_draw settling x0 x) a0 a
+    draws-over x0 x quiet k =
+        goes-as durable state may is_read (from_draw settling x0 x) (all_from_draw settling x0 x) a0 a (λ r found was w u old s so. record { draws = so; over = sym (due-shown durable state r found a u s settling due all) ∙ quiet }) k
+
+    -- an actor is drawn, and then the letter that it hears, if it hears one
+    pub draw-more : (x0 x y : ℕ) (actor : ActorId) (many message : ℕ) (b : StageNow S C) → slice_get due (drawn x % length due) ≡ Some actor → ((r : Rules) (found : ℕ → Durable) (w : World) → Shows durable state r found a w → many ≡ heard_in w actor) → message ≡ pick (drawn x) many
+        → y ≡ after_pick (drawn x) many → GoesOn durable state may is_read (from_draw settling x0 x) a0 a → GoesOn durable state may is_read (turn_of settling actor message) a b → GoesOn durable state may is_read (from_draw settling x0 y) a0 b
+    draw-more x0 x y actor many message b its hears is last k turn =
+        goes-then durable state may is_read (from_draw settling x0 x) (turn_of settling actor message) (from_draw settling x0 y) a0 a b (draws-are-run settling x0 x)
+        (λ r found w u v s so one.
+        OneDraw x y u v so (record {
+          actor = actor;
+          its = subst (λ as'. slice_get as' (drawn x % length as') ≡ Some actor) (due-shown durable state r found a u s settling due all) its;
+          turn = subst (λ j. TurnOf settling r actor j u v) (is ∙ ap (pick (drawn x)) (hears r found u s)) one;
+          last = last ∙ ap (after_pick (drawn x)) (hears r found u s);
+        }))
+        k turn
+
+-- a run in an order
+abbrev pub in_order : ℕ → Rules → World → World → Type 0
+in_order order r = InOrder r order

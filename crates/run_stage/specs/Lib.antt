@@ -1,0 +1,2 @@
+-- The actors of a run as their contracts see them.
+pub mod Now

@@ -1,0 +1,53 @@
+// The actors of a run, and what lies between them.
+ghost use Rattle.std.specs.Prelude.{◌≡◌, ◌≤◌, length, OnOk};
+ghost use Rattle.run_shows.specs.Turned.{followed, swept_stage, with_between};
+ghost use Rattle.run_stage.specs.Now.{stage_now};
+
+use base_messages::actor::ActorId;
+use base_outside::clock::Clock;
+use base_types::items::Memory;
+use client_core::client::Client;
+use run_base::between::Between;
+use run_watch::watch::Watch;
+use std::alloc::Global;
+use target_core::target::Target;
+use vos_store::store::Store;
+use world_base::did::Did;
+
+/// The clients and the targets of a run, in the order of their numbers.
+pub struct Stage<S: Store, C: Clock> {
+    /// Where their letters get memory.
+    pub alloc: Global,
+    /// The clients.
+    pub clients: Vec<Client>,
+    /// The targets.
+    pub targets: Vec<Target<S, C>>,
+    /// How the targets stand.
+    pub watch: Watch,
+    /// What lies between them.
+    pub between: Between,
+}
+
+impl<S: Store, C: Clock> Stage<S, C> {
+    // What goes to targets that are given up is lost.
+    pub(crate) fn sweep(&mut self) -> Result<(), Memory>
+        requires few { length self.old.watch.lives ≤ 256 }
+        ensures swept { OnOk result (stage_now self.new ≡ swept_stage (stage_now self.old)) }
+        ensures targets { self.new.targets ≡ self.old.targets }
+    {
+        if self.watch.some_down() {
+            return self.between.sweep(self.alloc, self.watch.lives());
+        }
+        Ok(())
+    }
+
+    // What follows from an actor's turn comes about, and what goes to targets that are given up is lost.
+    pub(crate) fn follow(&mut self, from: ActorId, did: Did) -> Result<(), Memory>
+        requires few { length self.old.watch.lives ≤ 256 }
+        ensures followed { OnOk result (stage_now self.new ≡ swept_stage (with_between (followed from did self.old.between) (stage_now self.old))) }
+        ensures targets { self.new.targets ≡ self.old.targets }
+    {
+        self.between.follow(from, did)?;
+        self.sweep()
+    }
+}

@@ -1,0 +1,77 @@
+// The turns of targets that run.
+ghost use Rattle.std.specs.Prelude.{◌≡◌, ◌<◌, ◌≤◌, Bool, List, max, true, false, length, slice_get, IfOk, OnOk, Some};
+ghost use Rattle.run_base.specs.Letters.{IsPicked};
+ghost use Rattle.run_base.specs.Picks.{count_to};
+ghost use Rattle.run_shows.specs.Accounts.{AreServed};
+ghost use Rattle.run_shows.specs.CanGo.{CanTurn, IsHearable};
+ghost use Rattle.run_shows.specs.Steps.{TargetWorked};
+ghost use Rattle.run_shows.specs.Turned.{IsTurned};
+ghost use Rattle.run_stage.specs.Now.{stage_now};
+ghost use Rattle.target_core.specs.Targets.{TargetOf};
+ghost use Rattle.target_parts.specs.Parts.{Runs};
+ghost use Rattle.target_parts.specs.Readings.{IsReadOn};
+ghost use Rattle.target_parts.specs.Stops.{stop_foreign, stop_store};
+ghost use Rattle.vos_store.specs.Refusals.{says};
+ghost use Rattle.world_base.specs.declared.letter.Letter.{Letter};
+ghost use Rattle.world_base.specs.declared.target.Life.{Life};
+ghost use Rattle.world_base.specs.Letters.{target};
+ghost use Rattle.world_posts.specs.Forms.{PostsInForm};
+
+use crate::stage::Stage;
+use crate::turns::target_id;
+use base_outside::clock::Clock;
+use base_types::items::Memory;
+use run_base::between::Between;
+use target_core::target::Target;
+use target_parts::stop::TargetStop;
+use vos_store::store::{Fuse, Store};
+use world_base::did::Did;
+
+// A turn of a target that runs: where messages are in flight to it, it hears the one of this number; else it does its idle work.
+fn hear_or_idle<S: Store, C: Clock>(
+    host: &mut Target<S, C>,
+    between: &mut Between,
+    t: usize,
+    number: usize,
+    settling: bool,
+) -> Result<Did, TargetStop>
+    requires few { t < 65536 }
+    requires number { number < max 1 (count_to (target t) between.old.messages) }
+    requires opened { host.old.opened ≡ true }
+    requires running { (S.state host.old.store).stopped ≡ false }
+    requires letters { (l : Letter) (rest : List Letter) → IsPicked between.old.messages (target t) number l rest → IsHearable S.durable host.old l }
+    ensures turned { IsTurned S.durable S.state S.may settling t number host.old host.new between.old between.new result }
+    ensures plan { host.new.plan ≡ host.old.plan }
+    ensures opened { host.new.opened ≡ true }
+    ensures runs { Runs stop_store result (S.state host.old.store) (S.state host.new.store) (S.durable host.old.store) (S.durable host.new.store) }
+    ensures clock { IsReadOn C.is_read host.old.clock host.new.clock }
+    ensures native { says stop_foreign result ≡ false }
+    ensures posts { IfOk result (λ did. PostsInForm host.old.plan.targets host.old.memory.leader host.new.memory.leader did.posts) }
+{
+    if between.count_to(target_id(t)) > 0 {
+        let letter = between.take(target_id(t), number);
+        host.hear(letter.from, letter.message, None)
+    } else {
+        host.idle(settling)
+    }
+}
+
+impl<S: Fuse, C: Clock> Stage<S, C> {
+    // A turn of a target that runs.
+    pub(crate) fn work(&mut self, t: usize, number: usize, settling: bool) -> Result<(), Memory>
+        requires within { t < length self.old.targets.items }
+        requires standing { length self.old.watch.lives ≡ length self.old.targets.items }
+        requires few { length self.old.targets.items ≤ 256 }
+        requires number { number < max 1 (count_to (target t) self.old.between.messages) }
+        requires runs { slice_get self.old.watch.lives t ≡ Some Life.Running }
+        requires able { (x : TargetOf S C) → slice_get self.old.targets.items t ≡ Some x → CanTurn S.durable S.state S.may (stage_now self.old) t number x }
+        ensures worked { OnOk result (TargetWorked S.durable S.state S.may C.is_read settling t number (stage_now self.old) (stage_now self.new)) }
+        ensures served { AreServed S.durable S.state C.is_read self.old.targets.items self.new.targets.items }
+    {
+        let before = self.targets[t].faults();
+        match hear_or_idle(&mut self.targets[t], &mut self.between, t, number, settling) {
+            Ok(did) => self.follow(target_id(t), did),
+            Err(stop) => self.cut(t, before, stop),
+        }
+    }
+}
