@@ -1,5 +1,5 @@
 -- What a run of targets comes to.
-use Rattle.std.specs.Prelude.{ℕ, ◌≡◌, ◌≤◌, ◌-◌, ◌^◌, ◌⊎◌, ◌&&◌, nat_lt, Bool, true, false, List, [], Contains, length, slice_get, is_some, Option, Some, None, if◌then◌else◌}
+use Rattle.std.specs.Prelude.{ℕ, ◌≡◌, ◌≤◌, ◌<◌, ◌+◌, ◌-◌, ◌^◌, ◌⊎◌, Bool, true, false, List, [], Contains, length, slice_get, is_some, Option, Some, None}
 use Rattle.base_types.specs.declared.entry.Entry.{Entry}
 use Rattle.base_types.specs.declared.id.AttemptId.{AttemptId}
 use Rattle.base_types.specs.declared.report.Line.{Line}
@@ -37,18 +37,10 @@ IsLegal g q = (resolved : AttemptId → Bool) → Headline g undisturbed resolve
 
 -- ---- the outside
 
--- How often the outside failed a store between two moments; it isn't known where its count stands at its end, nor where a store doesn't tell its
--- fuse, whose stops may be those of a fuse that another set.
-abbrev pub rises_between : State → State → Option ℕ
-rises_between h k = if h.tells_fuse && nat_lt k.faults (2 ^ 64 - 1) then Some (k.faults - h.faults) else None
-
-abbrev pub rises_of : {S C : Type 0} → (S → State) → Option (TargetOf S C) → Option (TargetOf S C) → Option ℕ
-rises_of state (Some x) (Some y) = rises_between (state x.store) (state y.store)
-rises_of state x y = None
-
--- what the outside did to the stores of these targets, by their counts before and after
-abbrev pub outside_of : {S C : Type 0} → (S → State) → List (TargetOf S C) → List (TargetOf S C) → Outside
-outside_of state xs ys = record { rises = λ t. rises_of state (slice_get xs t) (slice_get ys t); foreign = λ t. false; keeps = λ t. true }
+-- An outside that may have failed each target's store as often as its count rose. Of a store it may say nothing; where it says how often it failed
+-- it at most, the store tells its fuse, so that no other stops it, and its count doesn't stand at its end.
+pub record IsOutside {S C : Type 0} (state : S → State) (o : Outside) (xs ys : List (TargetOf S C)) : Type 0 where
+  pub counts : (t : ℕ) (x y : TargetOf S C) (k : ℕ) → slice_get xs t ≡ Some x → slice_get ys t ≡ Some y → o.rises t ≡ Some k → ((state x.store).tells_fuse ≡ true) × ((state y.store).faults < 2 ^ 64 - 1) × ((state y.store).faults ≤ (state x.store).faults + k)
 
 -- ---- the stores in the end
 
@@ -119,10 +111,10 @@ pub record IsOrdered {S C : Type 0} (may : S → Durable → Type 0) (g : Given)
 -- ---- all of it
 
 -- What a run of these targets, which begins so, comes to. Whatever the next openings of their stores find, these stand for what the report
--- tells, which is legal, by the headline. The report is in form where names and keys are keys; one of the targets issued each epoch of which it
+-- tells, which is legal, by the headline, for each outside that may have failed them so. The report is in form where names and keys are keys; one of the targets issued each epoch of which it
 -- tells; and it tells of the turns in the order asked, where just so many blocks were free at the beginning.
 pub record ComesTo {S C : Type 0} (durable : S → Option Durable) (state : S → State) (may : S → Durable → Type 0) (g : Given) (xs ys : List (TargetOf S C)) (q : Report) : Type 0 where
-  pub stand : (lasts : List Durable) → MayBeFound may ys lasts → HeadlineOver g (outside_of state xs ys) lasts q
+  pub stand : (lasts : List Durable) (o : Outside) → MayBeFound may ys lasts → IsOutside state o xs ys → HeadlineOver g o lasts q
   pub form : ScriptHasKeys g.script → MapHasKeys g.opening.stand.now → IsReportOf g.script q
   pub issued : AreIssuedThere q
   pub settled : LeavesSettled durable may g q ys
