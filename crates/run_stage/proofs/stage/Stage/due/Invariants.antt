@@ -3,7 +3,7 @@ use Rattle.run_base.specs.Picks.{numbered}
 use Rattle.run_shows.specs.Due.{AreDue, first_targets}
 use Rattle.run_stage.specs.Now.{stage_now}
 use Rattle.world_base.specs.Letters.{client}
-use Rattle.run_stage.proofs.dues.Stage.due.Given as goal
+use Rattle.run_stage.proofs.stage.Stage.due.Given as goal
 
 -- the clients so far that have something to do
 abbrev pub invariant-loop-n : goal.invariant-loop-n
