@@ -1,4 +1,4 @@
-use Rattle.std.specs.Prelude.{◌<◌, ◌≡◌}
+use Rattle.std.specs.Prelude.{◌<◌}
 use Rattle.std.proofs.Common.{subst}
 use Rattle.model_laws.specs.Lists.{at-index}
 use Rattle.run_stage.specs.Now.{stage_now}
