@@ -13,6 +13,7 @@ use Rattle.run_shows.specs.Shown.{named-client, named-target}
 use Rattle.run_shows.specs.Stages.{StageNow}
 use Rattle.run_shows.specs.Steps.{ClientTurned, TargetTurned}
 use Rattle.run_steps.specs.Going.{GoesOn}
+use Rattle.run_turns.specs.Turns.{TurnOf}
 use Rattle.target_core.specs.Targets.{TargetOf}
 use Rattle.vos_store.specs.Calls.{State}
 use Rattle.world_base.specs.declared.letter.Letter.{Letter}
@@ -38,24 +39,27 @@ module _ {S C : Type 0} (durable : S → Option Durable) (state : S → State) (
   pub few-lives : (a : StageNow S C) → CanGo durable state may a → length a.watch.lives ≤ 64
   few-lives a can = let same = can.standing in let few = few-targets a can in omega (arith, same, few)
 
+module _ {S C : Type 0} (durable : S → Option Durable) (state : S → State) (may : S → Durable → Type 0) where
+  module _ (is_read : C → C → Type 0) (findable : AreFindable durable may) (alike : AreAlike durable) (a b : StageNow S C) (can : CanGo durable state may a) where
+    pub client-turn-goes : (n number : ℕ) → ClientTurned n number a b → (settling : Bool) → GoesOn durable state may is_read (λ r. TurnOf settling r (client n) number) a b
+    client-turn-goes n number k settling = ?
+
+    pub target-turn-goes : (settling : Bool) (t number : ℕ) → TargetTurned durable state may is_read settling t number a b → GoesOn durable state may is_read (λ r. TurnOf settling r (target t) number) a b
+    target-turn-goes settling t number k = ?
+
+  module _ (findable : AreFindable durable may) (alike : AreAlike durable) (a : StageNow S C) (can : CanGo durable state may a) (t : ℕ) (x : TargetOf S C) (at : slice_get a.targets t ≡ Some x) where
+    pub can-turn : (number : ℕ) → CanTurn durable state may a t number x
+    can-turn number = ?
+
 module _ {S C : Type 0} (durable : S → Option Durable) (state : S → State) (may : S → Durable → Type 0) (is_read : C → C → Type 0) (findable : AreFindable durable may) (alike : AreAlike durable) (a b : StageNow S C) (can : CanGo durable state may a) where
-  client-turn-goes : (n number : ℕ) → ClientTurned n number a b → (settling : Bool) → GoesOn durable state may is_read (turn_of settling (client n) number) a b
-  client-turn-goes n number k settling = ?
-
-  target-turn-goes : (settling : Bool) (t number : ℕ) → TargetTurned durable state may is_read settling t number a b → GoesOn durable state may is_read (turn_of settling (target t) number) a b
-  target-turn-goes settling t number k = ?
-
-  pub can-turn : (t number : ℕ) (x : TargetOf S C) → slice_get a.targets t ≡ Some x → CanTurn durable state may a t number x
-  can-turn t number x at = ?
-
   -- an actor's turn leads on, if it comes to its end
   pub client-goes-on : {T E : Type 0} (settling : Bool) (actor : ActorId) (n number : ℕ) (result : Result T E) → actor.client ≡ true → n ≡ actor.number → OnOk result (ClientTurned n number a b) → OnOk result (GoesOn durable state may is_read (turn_of settling actor number) a b)
-  client-goes-on settling actor n number (Ok x) kind named k = subst (λ z. GoesOn durable state may is_read (turn_of settling z number) a b) (named-client actor n kind named) (client-turn-goes n number k settling)
+  client-goes-on settling actor n number (Ok x) kind named k = subst (λ z. GoesOn durable state may is_read (turn_of settling z number) a b) (named-client actor n kind named) (client-turn-goes durable state may is_read findable alike a b can n number k settling)
   client-goes-on settling actor n number (Err e) kind named k = tt
 
   pub target-goes-on : {T E : Type 0} (settling : Bool) (actor : ActorId) (t number : ℕ) (result : Result T E) → actor.client ≡ false → t ≡ actor.number → OnOk result (TargetTurned durable state may is_read settling t number a b)
       → OnOk result (GoesOn durable state may is_read (turn_of settling actor number) a b)
-  target-goes-on settling actor t number (Ok x) kind named k = subst (λ z. GoesOn durable state may is_read (turn_of settling z number) a b) (named-target actor t kind named) (target-turn-goes settling t number k)
+  target-goes-on settling actor t number (Ok x) kind named k = subst (λ z. GoesOn durable state may is_read (turn_of settling z number) a b) (named-target actor t kind named) (target-turn-goes durable state may is_read findable alike a b can settling t number k)
   target-goes-on settling actor t number (Err e) kind named k = tt
 
 -- ---- stores

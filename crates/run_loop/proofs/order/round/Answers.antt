@@ -33,7 +33,7 @@ loop-n-preserved g c =
     ])
 
 pub target_turn-requires-clause-able : goal.target_turn-requires-clause-able
-target_turn-requires-clause-able g c x at = can-turn g.S.Store.durable g.S.Store.state g.S.Store.may g.C.Clock.is_read g.S.Store.findable g.S.Store.alike (stage_now c.loop-t.stage) (stage_now c.loop-t.stage) c.loop-t.invariant.going c.loop-t.t 0 x at
+target_turn-requires-clause-able g c x at = can-turn g.S.Store.durable g.S.Store.state g.S.Store.may g.S.Store.findable g.S.Store.alike (stage_now c.loop-t.stage) c.loop-t.invariant.going c.loop-t.t x at 0
 
 pub loop-t-preserved : goal.loop-t-preserved
 loop-t-preserved g c =

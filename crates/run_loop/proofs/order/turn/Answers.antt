@@ -16,7 +16,7 @@ pub target_turn-requires-clause-up : goal.target_turn-requires-clause-up
 target_turn-requires-clause-up g c = subst (λ n. slice_get c.args.stage.now.watch.lives n ≡ Some Down → ⊥) (sym c.from-number.ensures) (c.requires.up c.if-actor.false)
 
 pub target_turn-requires-clause-able : goal.target_turn-requires-clause-able
-target_turn-requires-clause-able g c x at = can-turn g.S.Store.durable g.S.Store.state g.S.Store.may g.C.Clock.is_read g.S.Store.findable g.S.Store.alike (stage_now c.args.stage.now) (stage_now c.args.stage.now) c.requires.going c.from-number.result c.args.message x at
+target_turn-requires-clause-able g c x at = can-turn g.S.Store.durable g.S.Store.state g.S.Store.may g.S.Store.findable g.S.Store.alike (stage_now c.args.stage.now) c.requires.going c.from-number.result x at c.args.message
 
 pub returns-then-actor-clause-goes : goal.returns-then-actor-clause-goes
 returns-then-actor-clause-goes g c =
