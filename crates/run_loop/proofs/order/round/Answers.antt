@@ -26,14 +26,14 @@ loop-n-preserved g c =
           let new = w.client_turn.new.self in
           subst (λ a. GoesOn g.S.Store.durable g.S.Store.state g.S.Store.may g.C.Clock.is_read (turned c.args.settling (numbered client (suc n))) (stage_now a0) (stage_now a)) (sym w.stage-is)
           (client-had-turn g.S.Store.durable g.S.Store.state g.S.Store.may g.C.Clock.is_read c.args.settling (stage_now a0) (stage_now now) n c.loop-n.invariant within (stage_now new) (sym c.is_client_due.ensures ∙ w.if-is_client_due.true)
-          (client-turn-goes g.S.Store.durable g.S.Store.state g.S.Store.may g.C.Clock.is_read g.S.Store.findable g.S.Store.alike (stage_now now) (stage_now new) c.loop-n.invariant.going n 0 w.in_ok-client_turn.ensures.turned c.args.settling))
+          (client-turn-goes g.S.Store.durable g.S.Store.state g.S.Store.may g.C.Clock.is_read g.met.S.Store.findable g.met.S.Store.alike (stage_now now) (stage_now new) c.loop-n.invariant.going n 0 w.in_ok-client_turn.ensures.turned c.args.settling))
       | else-is_client_due w ↦
           subst (λ a. GoesOn g.S.Store.durable g.S.Store.state g.S.Store.may g.C.Clock.is_read (turned c.args.settling (numbered client (suc n))) (stage_now a0) (stage_now a)) (sym w.stage-is)
           (client-had-none g.S.Store.durable g.S.Store.state g.S.Store.may g.C.Clock.is_read c.args.settling (stage_now a0) (stage_now now) n c.loop-n.invariant within (sym c.is_client_due.ensures ∙ w.if-is_client_due.false))
     ])
 
 pub target_turn-requires-clause-able : goal.target_turn-requires-clause-able
-target_turn-requires-clause-able g c x at = can-turn g.S.Store.durable g.S.Store.state g.S.Store.may g.S.Store.findable g.S.Store.alike (stage_now c.loop-t.stage) c.loop-t.invariant.going c.loop-t.t x at 0
+target_turn-requires-clause-able g c x at = can-turn g.S.Store.durable g.S.Store.state g.S.Store.may g.met.S.Store.findable g.met.S.Store.alike (stage_now c.loop-t.stage) c.loop-t.invariant.going c.loop-t.t x at 0
 
 pub loop-t-preserved : goal.loop-t-preserved
 loop-t-preserved g c =
@@ -46,7 +46,7 @@ loop-t-preserved g c =
           let new = w.target_turn.new.self in
           subst (λ a. GoesOn g.S.Store.durable g.S.Store.state g.S.Store.may g.C.Clock.is_read (turned c.args.settling (first_targets m (suc t))) (stage_now a0) (stage_now a)) (sym w.stage-is)
           (target-had-turn g.S.Store.durable g.S.Store.state g.S.Store.may g.C.Clock.is_read c.args.settling (stage_now a0) (stage_now now) m t c.loop-t.invariant (stage_now new) (λ r found v s. sym (c.is_target_due.ensures.due r found v s) ∙ w.if-is_target_due.true)
-          (target-turn-goes g.S.Store.durable g.S.Store.state g.S.Store.may g.C.Clock.is_read g.S.Store.findable g.S.Store.alike (stage_now now) (stage_now new) c.loop-t.invariant.going c.args.settling t 0 w.in_ok-target_turn.ensures.turned))
+          (target-turn-goes g.S.Store.durable g.S.Store.state g.S.Store.may g.C.Clock.is_read g.met.S.Store.findable g.met.S.Store.alike (stage_now now) (stage_now new) c.loop-t.invariant.going c.args.settling t 0 w.in_ok-target_turn.ensures.turned))
       | else-is_target_due w ↦
           subst (λ a. GoesOn g.S.Store.durable g.S.Store.state g.S.Store.may g.C.Clock.is_read (turned c.args.settling (first_targets m (suc t))) (stage_now a0) (stage_now a)) (sym w.stage-is)
           (target-had-none g.S.Store.durable g.S.Store.state g.S.Store.may g.C.Clock.is_read c.args.settling (stage_now a0) (stage_now now) m t c.loop-t.invariant (λ r found v s. sym (c.is_target_due.ensures.due r found v s) ∙ w.if-is_target_due.false))

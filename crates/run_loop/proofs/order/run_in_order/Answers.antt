@@ -12,7 +12,7 @@ pub returns-in-Ok-clause-run : goal.returns-in-Ok-clause-run
 returns-in-Ok-clause-run g c r w o simple begun shows =
     let last = c.go-went.new.stage in
     subst (λ lines. HasRunWith g.S.Store.durable g.S.Store.state g.S.Store.may r c.args.order w (left_of last.targets.items last.watch lines)) (sym c.into_lines-lines.ensures)
-    (has-run g.S.Store.durable g.S.Store.state g.S.Store.alike g.S.Store.may r c.args.order w o (stage_now c.args.stage) (stage_now last) simple begun shows (λ tell. c.in-Ok.ensures.goes.led tell r))
+    (has-run g.S.Store.durable g.S.Store.state g.met.S.Store.alike g.S.Store.may r c.args.order w o (stage_now c.args.stage) (stage_now last) simple begun shows (λ tell. c.in-Ok.ensures.goes.led tell r))
 
 pub returns-in-Ok-clause-accounts : goal.returns-in-Ok-clause-accounts
 returns-in-Ok-clause-accounts g c h stops k =

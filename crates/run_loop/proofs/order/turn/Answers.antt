@@ -16,11 +16,11 @@ pub target_turn-requires-clause-up : goal.target_turn-requires-clause-up
 target_turn-requires-clause-up g c = subst (λ n. slice_get c.args.stage.now.watch.lives n ≡ Some Down → ⊥) (sym c.from-number.ensures) (c.requires.up c.if-actor.false)
 
 pub target_turn-requires-clause-able : goal.target_turn-requires-clause-able
-target_turn-requires-clause-able g c x at = can-turn g.S.Store.durable g.S.Store.state g.S.Store.may g.S.Store.findable g.S.Store.alike (stage_now c.args.stage.now) c.requires.going c.from-number.result x at c.args.message
+target_turn-requires-clause-able g c x at = can-turn g.S.Store.durable g.S.Store.state g.S.Store.may g.met.S.Store.findable g.met.S.Store.alike (stage_now c.args.stage.now) c.requires.going c.from-number.result x at c.args.message
 
 pub returns-then-actor-clause-goes : goal.returns-then-actor-clause-goes
 returns-then-actor-clause-goes g c =
-    client-goes-on g.S.Store.durable g.S.Store.state g.S.Store.may g.C.Clock.is_read g.S.Store.findable g.S.Store.alike (stage_now c.args.stage.now) (stage_now c.client_turn.new.self) c.requires.going c.args.settling c.args.actor c.from-number.result c.args.message
+    client-goes-on g.S.Store.durable g.S.Store.state g.S.Store.may g.C.Clock.is_read g.met.S.Store.findable g.met.S.Store.alike (stage_now c.args.stage.now) (stage_now c.client_turn.new.self) c.requires.going c.args.settling c.args.actor c.from-number.result c.args.message
     c.client_turn.result c.if-actor.true c.from-number.ensures c.client_turn.ensures.turned
 
 pub returns-then-actor-clause-served : goal.returns-then-actor-clause-served
@@ -30,5 +30,5 @@ returns-then-actor-clause-served g c =
 
 pub returns-else-actor-clause-goes : goal.returns-else-actor-clause-goes
 returns-else-actor-clause-goes g c =
-    target-goes-on g.S.Store.durable g.S.Store.state g.S.Store.may g.C.Clock.is_read g.S.Store.findable g.S.Store.alike (stage_now c.args.stage.now) (stage_now c.target_turn.new.self) c.requires.going c.args.settling c.args.actor c.from-number.result c.args.message
+    target-goes-on g.S.Store.durable g.S.Store.state g.S.Store.may g.C.Clock.is_read g.met.S.Store.findable g.met.S.Store.alike (stage_now c.args.stage.now) (stage_now c.target_turn.new.self) c.requires.going c.args.settling c.args.actor c.from-number.result c.args.message
     c.target_turn.result c.if-actor.false c.from-number.ensures c.target_turn.ensures.turned
