@@ -17,6 +17,7 @@ use Rattle.run_shows.specs.Going.{AreAlike, AreFindable, going-on}
 use Rattle.run_shows.specs.Parts.{IsTurnSo, at-both, leads-turn}
 use Rattle.run_shows.specs.Shows.{IsGoing, Leads}
 use Rattle.run_shows.specs.Stages.{StageNow}
+use Rattle.run_steps.specs.Going.{AllTell, GoesOn}
 use Rattle.run_turns.specs.StopLines.{one_or_none}
 use Rattle.run_turns.specs.Turns.{TurnOf}
 use Rattle.target_core.specs.Targets.{TargetOf}
@@ -63,15 +64,7 @@ its-down t (Some u) (inr none) = absurd none
 -- ---- a turn
 
 module _ {S C : Type 0} (durable : S → Option Durable) (state : S → State) (may : S → Durable → Type 0) (is_read : C → C → Type 0) where
-  -- what a turn of an actor leads to, and that the actors can go on and are accounted for then
-  pub record IsTurnDone (settling : Bool) (actor : ActorId) (number : ℕ) (a b : StageNow S C) : Type 0 where
-    pub steps : (r : Rules) → Leads durable state may (TurnOf settling r actor number) r a b
-    pub going : CanGo durable state may b
-    pub clients : length b.clients ≡ length a.clients
-    pub served : AreServed durable state is_read a.targets b.targets
-    pub accounts : (h : ℕ → State) (stops : List StopDecl) → AreAccounted durable state h stops a → AreAccounted durable state h stops b
-
-  module _ (a b : StageNow S C) (settling : Bool) (actor : ActorId) (number raised : ℕ) (stops downs : Option ℕ) (can : CanGo durable state may a) (leads : (r : Rules) → Leads durable state may (IsTurnSo settling r actor number raised stops downs) r a b) (findable : AreFindable durable may)
+  module _ (a b : StageNow S C) (settling : Bool) (actor : ActorId) (number raised : ℕ) (stops downs : Option ℕ) (can : CanGo durable state may a) (leads : AllTell durable → (r : Rules) → Leads durable state may (IsTurnSo settling r actor number raised stops downs) r a b) (findable : AreFindable durable may)
       (alike : AreAlike durable) (served : AreServed durable state is_read a.targets b.targets) where
     going-by : (t : ℕ) (x : TargetOf S C) → slice_get a.targets t ≡ Some x → (o : Option Durable) → durable x.store ≡ o → is_some o ≡ true → IsGoing durable state may a
     going-by t x at None is some = let no : ⊥ = cc in absurd no
@@ -109,29 +102,31 @@ module _ {S C : Type 0} (durable : S → Option Durable) (state : S → State) (
         g : IsGoing durable state may a
         g = was-going t y at is
 
-        all-tell : (z : TargetOf S C) → is_some (durable z.store) ≡ true
-        all-tell z = alike y.store z.store is
+        tell : AllTell durable
+        tell s = alike y.store s is
 
         told : stops_told_in b.between.lines t ≡ stops_told_in a.between.lines t + stops_of stops t
-        told = stops-told durable state may a b settling actor number raised stops downs g (leads g.rules) findable all-tell t
+        told = stops-told durable state may a b settling actor number raised stops downs g (leads tell g.rules) findable (λ z. tell z.store) t
 
         downs-are : down_targets b.between.lines ≡ down_targets a.between.lines ++ one_or_none downs
-        downs-are = downs-told durable state may a b settling actor number raised stops downs g (leads g.rules) findable all-tell
+        downs-are = downs-told durable state may a b settling actor number raised stops downs g (leads tell g.rules) findable (λ z. tell z.store)
 
         more : AtMostOne (stops_of stops t + stop_lines_of t b.watch.stops + one_if (state y.store).fused) (stop_lines_of t a.watch.stops + one_if (state x.0.store).fused) (state x.0.store).faults (state y.store).faults
             → AtMostOne (stops_told_in b.between.lines t + stop_lines_of t b.watch.stops + one_if (state y.store).fused) (stops_told_in a.between.lines t + stop_lines_of t a.watch.stops + one_if (state x.0.store).fused) (state x.0.store).faults (state y.store).faults
         more (inl fewer) = inl (omega (arith, fewer, told))
         more (inr z) = let few = z.0 in inr (omega (arith, few, told), z.1)
 
+    -- what a turn of an actor leads to, and that the actors can go on and are accounted for then
     pub turn-done : Fits state can.rules b → a.watch.openings + raised ≤ b.watch.openings → length b.clients ≡ length a.clients
-        → ((t : ℕ) (x y : TargetOf S C) → slice_get a.targets t ≡ Some x → slice_get b.targets t ≡ Some y → is_some (durable x.store) ≡ true → Counts state a b stops downs t x y) → IsTurnDone settling actor number a b
+        → ((t : ℕ) (x y : TargetOf S C) → slice_get a.targets t ≡ Some x → slice_get b.targets t ≡ Some y → is_some (durable x.store) ≡ true → Counts state a b stops downs t x y)
+        → GoesOn durable state may is_read (λ r. TurnOf settling r actor number) a b
     turn-done fits up clients counts = record {
-      steps = λ r. leads-turn durable state may settling r actor number raised stops downs a b (leads r);
+      led = λ tell r. leads-turn durable state may settling r actor number raised stops downs a b (leads tell r);
       going = can-go durable state may can.rules b can.simple fits
           (λ t y d at is.
           let some : is_some (durable y.store) ≡ true = ap is_some is in
           let g = was-going t y at some in
-          going-on durable state may a b settling actor number raised stops downs g (leads g.rules) findable (λ z. alike y.store z.store some) up);
+          going-on durable state may a b settling actor number raised stops downs g (leads (λ s. alike y.store s some) g.rules) findable (λ z. alike y.store z.store some) up);
       clients = clients;
       served = served;
       accounts = accounted counts;
