@@ -5,7 +5,7 @@ ghost use Rattle.daos_model.specs.declared.durable.Durable.{Durable};
 ghost use Rattle.daos_model.specs.Opening.{Opening};
 ghost use Rattle.run_base.specs.Orders.{after_pick, pick};
 ghost use Rattle.run_base.specs.Picks.{count_to};
-ghost use Rattle.run_loop.specs.Ended.{HasRunWith, left_of};
+ghost use Rattle.run_steps.specs.Ended.{HasRunWith, left_of};
 ghost use Rattle.run_loop.specs.Loops.{all_from_draw, in_order, turn_of};
 ghost use Rattle.run_shows.specs.Accounts.{AreAccounted, AreServed};
 ghost use Rattle.run_shows.specs.CanGo.{CanGo};

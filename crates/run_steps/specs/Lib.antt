@@ -1,4 +1,6 @@
--- What the turns of actors lead to, and that the actors can go on then.
+-- What the turns of actors lead to, that the actors can go on then, and where a run of them ends.
+pub mod Going
 pub mod Turning
 pub mod Turnings
 pub mod Steps
+pub mod Ended

@@ -17,9 +17,9 @@ is_run (Skip turns) = true
 abbrev pub are_run : List Command → Bool
 are_run list = list_all is_run list
 
--- a script that is run so far: it names no snapshot of before, and so drops none, asks for no stops, and each of its commands is run
+-- a script that is run so far: it names no snapshot of before, and so drops none, and each of its commands is run
 unfoldable pub runs : Script → Bool
-runs s = length s.olds == 0 && length s.stops == 0 && list_all are_run s.clients
+runs s = length s.olds == 0 && list_all are_run s.clients
 
 -- a script in form for so many targets that is run so far
 pub record IsRunnable (targets : ℕ) (s : Script) : Type 0 where

@@ -28,11 +28,11 @@ fn lists_are_run(lists: &[Commands]) -> bool
     lists.iter().all(|list| are_run(list.as_slice()))
 }
 
-/// Whether a script is run so far: it names no snapshot of before, and so drops none, and asks for no
-/// stops, and its clients run transactions that read at no snapshot, tell their trackers, and skip turns.
+/// Whether a script is run so far: it names no snapshot of before, and so drops none, and its clients run
+/// transactions that read at no snapshot, tell their trackers, and skip turns.
 #[tactic(auto, unfolding(crate::specs::Runnable::runs))]
 pub fn runs(script: &Script) -> bool
     ensures { result ≡ runs script.now }
 {
-    script.olds.is_empty() && script.stops.is_empty() && lists_are_run(script.clients.as_slice())
+    script.olds.is_empty() && lists_are_run(script.clients.as_slice())
 }

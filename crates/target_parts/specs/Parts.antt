@@ -1,5 +1,5 @@
 -- What a turn, or a part of one, says of the store: several calls, one after another, of a store that ran.
-use Rattle.std.specs.Prelude.{◌≡◌, ◌≤◌, ◌+◌, Bool, true, Option, Some, is_some, Result, Ok, Err}
+use Rattle.std.specs.Prelude.{◌≡◌, ◌≤◌, ◌+◌, Bool, true, false, Option, Some, is_some, Result, Ok, Err}
 use Rattle.daos_model.specs.declared.durable.Durable.{Durable}
 use Rattle.vos_store.specs.Calls.{Ailed, Fires, IsUnfailing, State}
 use Rattle.vos_store.specs.Refusals.{always_stop, says}

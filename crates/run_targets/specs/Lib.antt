@@ -1,0 +1,1 @@
+-- Nothing of its own: what a run begins with and comes to is said below.

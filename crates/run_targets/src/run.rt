@@ -1,0 +1,70 @@
+// Clients and targets run a script.
+ghost use Rattle.std.specs.Prelude.{◌≡◌, ◌×◌, ◌≤◌, ◌<◌, ℕ, IfOk, length, slice_get, Some, true, false};
+ghost use Rattle.daos_model.specs.Opening.{Opening};
+ghost use Rattle.run_ends.specs.Comes.{ComesTo};
+ghost use Rattle.run_ends.specs.Starts.{AllTell, HaveStarted, given_by};
+ghost use Rattle.run_shows.specs.Accounts.{AreServed};
+ghost use Rattle.target_core.specs.Targets.{TargetOf};
+
+use crate::fuses::{arm, disarm};
+use crate::report::report_of;
+use base_outside::clock::Clock;
+use base_outside::gate::Gate;
+use base_types::items::Memory;
+use base_types::job::Job;
+use base_types::report::Report;
+use base_types::script::Script;
+use client_core::client::Client;
+use run_base::between::Between;
+use run_loop::order::run_in_order;
+use run_stage::stage::Stage;
+use run_watch::watch::Watch;
+use std::alloc::Global;
+use std::sync::Wait;
+use target_core::target::Target;
+use vos_store::store::Fuse;
+
+/// Clients and targets that have just started run a script in the job's order, until none has anything to
+/// do: the targets, and the report. A target stops where its store does, by the fuse of a stop line or
+/// because the outside failed it, and opens again in its next turn; it is given up where the outside
+/// fails it in a ninth turn.
+///
+/// # Errors
+///
+/// For want of memory.
+pub fn run_targets<R: Wait, S: Fuse, C: Clock, G: Gate>(
+    rt: &R,
+    alloc: Global,
+    job: &Job,
+    script: &Script,
+    clients: Vec<Client>,
+    targets: Vec<Target<S, C>>,
+    gate: &G,
+) -> (Vec<Target<S, C>>, Result<Report, Memory>)
+    requires started { (o : Opening) × HaveStarted S.durable S.state (given_by script.now job.now o) clients.items targets.items }
+    requires most { job.now.attempts ≤ 256 }
+    ensures comes { (o : Opening) → HaveStarted S.durable S.state (given_by script.now job.now o) clients.items targets.items → AllTell S.durable targets.items
+        → IfOk result.1 (ComesTo S.durable S.state S.may (given_by script.now job.now o) targets.items result.0.items) }
+    ensures served { AreServed S.durable S.state C.is_read targets.items result.0.items }
+    ensures unfused { (t : ℕ) (y : TargetOf S C) → slice_get result.0.items t ≡ Some y → (S.state y.store).tells_fuse ≡ true → (S.state y.store).fused ≡ false }
+{
+    let mut targets = targets;
+    let mut watch = match Watch::new(alloc, script.targets, script.stops.as_slice()) {
+        Ok(watch) => watch,
+        Err(error) => {
+            disarm(&mut targets);
+            return (targets, Err(error));
+        }
+    };
+    arm(&mut targets, &mut watch);
+    let stage = Stage {
+        alloc,
+        clients,
+        targets,
+        watch,
+        between: Between::new(alloc),
+    };
+    let (mut targets, _watch, ran) = run_in_order(rt, alloc, job.order, stage, gate);
+    disarm(&mut targets);
+    (targets, ran.map(|lines| report_of(script, lines)))
+}
