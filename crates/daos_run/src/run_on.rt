@@ -1,20 +1,20 @@
 // Runs a script on stores.
-ghost use Rattle.std.specs.Prelude.{◌≡◌, ◌≤◌, ℕ, Bool, IfErr, IfOk, None, is_some};
-ghost use Rattle.report_writer.specs.Forms.{IsReportOf};
+ghost use Rattle.std.specs.Prelude.{◌≡◌, ◌≤◌, ℕ, Bool, IfErr, IfOk, is_some, true, false};
+ghost use Rattle.daos_model.specs.Opening.{Outside};
+ghost use Rattle.daos_run.specs.Alone.{IsOfLoneClient};
+ghost use Rattle.daos_run.specs.Opens.{EndsUnstopped, IsEmpty, IsOrdered, LeavesSettled, StandsBy, given};
+ghost use Rattle.daos_run.specs.Slots.{AllTell, AreFree, AreFreeExactly, AreSet, AreServed, ClocksAreRead, EachStore, FromTo, HaveStores};
+ghost use Rattle.daos_run.specs.Stops.{MayStop, is_fault_of};
 ghost use Rattle.model_reports.specs.Lone.{HasOneClient};
 ghost use Rattle.model_reports.specs.Rooms.{FindsRoom, HasRoom};
-ghost use Rattle.daos_run.specs.Alone.{IsOfLoneClient};
-ghost use Rattle.daos_run.specs.Opens.{IsEmpty, IsLegal, IsOrdered, Stand, given};
-ghost use Rattle.script_runnable.specs.Runnable.{IsRunnable};
-ghost use Rattle.daos_run.specs.Slots.{AllTell, AreFree, AreFreeExactly, AreSet, ClocksAreRead, EachStore, FromTo, HaveStores};
-ghost use Rattle.daos_run.specs.Stops.{MayStop, is_fault_of};
-ghost use Rattle.target_parts.specs.Parts.{Runs};
+ghost use Rattle.report_writer.specs.Forms.{IsReportOf};
 ghost use Rattle.script_runnable.specs.Keyed.{ScriptHasKeys};
+ghost use Rattle.script_runnable.specs.Runnable.{IsRunnable};
 ghost use Rattle.world_lone.specs.LoneRuns.{AreIssuedThere};
 
 use crate::opening::clients_of;
 use crate::parts::Parts;
-use crate::starting::{hand_back, start_all};
+use crate::starting::{disarm_all, hand_back, start_all};
 use crate::stop::RunStop;
 use base_outside::clock::Clock;
 use base_outside::gate::Gate;
@@ -22,11 +22,11 @@ use base_types::epoch::Epoch;
 use base_types::job::Job;
 use base_types::report::Report;
 use base_types::script::Script;
-use run_order::order::run_in_order;
+use run_targets::run::run_targets;
 use std::alloc::Global;
 use std::sync::Wait;
 use std::thread::Threads;
-use vos_store::store::Store;
+use vos_store::store::Fuse;
 
 /// The tracker with which clients begin over stores that were never used: the greatest epoch of a lease
 /// of 0.

@@ -1,5 +1,5 @@
 -- What a run of targets comes to.
-use Rattle.std.specs.Prelude.{ℕ, ◌≡◌, ◌≤◌, ◌-◌, ◌^◌, ◌⊎◌, ◌&&◌, nat_lt, Bool, true, false, List, [], Contains, length, slice_get, is_some, Option, Some, None, if◌then◌else◌}
+use Rattle.std.specs.Prelude.{ℕ, ◌≡◌, ◌≤◌, ◌<◌, ◌+◌, ◌-◌, ◌^◌, ◌⊎◌, Bool, true, false, List, [], Contains, length, slice_get, is_some, Option, Some, None}
 use Rattle.base_types.specs.declared.entry.Entry.{Entry}
 use Rattle.base_types.specs.declared.id.AttemptId.{AttemptId}
 use Rattle.base_types.specs.declared.report.Line.{Line}
@@ -15,7 +15,6 @@ use Rattle.dtx_base.specs.Members.{has_target}
 use Rattle.report_writer.specs.Forms.{IsReportOf}
 use Rattle.run_turns.specs.Orders.{InOrder}
 use Rattle.script_runnable.specs.Keyed.{MapHasKeys, ScriptHasKeys}
-use Rattle.target_core.specs.Targets.{TargetOf}
 use Rattle.vos_store.specs.Calls.{State}
 use Rattle.world_attempts.specs.Attempts.{IsOther}
 use Rattle.world_base.specs.declared.target.TargetState.{TargetState}
@@ -37,30 +36,22 @@ IsLegal g q = (resolved : AttemptId → Bool) → Headline g undisturbed resolve
 
 -- ---- the outside
 
--- How often the outside failed a store between two moments; it isn't known where its count stands at its end, nor where a store doesn't tell its
--- fuse, whose stops may be those of a fuse that another set.
-abbrev pub rises_between : State → State → Option ℕ
-rises_between h k = if h.tells_fuse && nat_lt k.faults (2 ^ 64 - 1) then Some (k.faults - h.faults) else None
-
-abbrev pub rises_of : {S C : Type 0} → (S → State) → Option (TargetOf S C) → Option (TargetOf S C) → Option ℕ
-rises_of state (Some x) (Some y) = rises_between (state x.store) (state y.store)
-rises_of state x y = None
-
--- what the outside did to the stores of these targets, by their counts before and after
-abbrev pub outside_of : {S C : Type 0} → (S → State) → List (TargetOf S C) → List (TargetOf S C) → Outside
-outside_of state xs ys = record { rises = λ t. rises_of state (slice_get xs t) (slice_get ys t); foreign = λ t. false; keeps = λ t. true }
+-- An outside that may have failed each target's store, xs at first and ys in the end, as often as its count rose. Of a store it may say nothing; where it says how often it failed
+-- it at most, the store tells its fuse, so that no other stops it, and its count doesn't stand at its end.
+pub record IsOutside {S : Type 0} (state : S → State) (o : Outside) (xs ys : List S) : Type 0 where
+  pub counts : (t : ℕ) (x y : S) (k : ℕ) → slice_get xs t ≡ Some x → slice_get ys t ≡ Some y → o.rises t ≡ Some k → ((state x).tells_fuse ≡ true) × ((state y).faults < 2 ^ 64 - 1) × ((state y).faults ≤ (state x).faults + k)
 
 -- ---- the stores in the end
 
--- the next openings of the targets' stores may find this
-pub record MayBeFound {S C : Type 0} (may : S → Durable → Type 0) (ys : List (TargetOf S C)) (lasts : List Durable) : Type 0 where
+-- the next openings of the targets' stores, in the order of their numbers, may find this
+pub record MayBeFound {S : Type 0} (may : S → Durable → Type 0) (ys : List S) (lasts : List Durable) : Type 0 where
   pub many : length lasts ≡ length ys
-  pub each : (t : ℕ) (y : TargetOf S C) (d : Durable) → slice_get ys t ≡ Some y → slice_get lasts t ≡ Some d → may y.store d
+  pub each : (t : ℕ) (y : S) (d : Durable) → slice_get ys t ≡ Some y → slice_get lasts t ≡ Some d → may y d
 
 -- the stores of the targets keep this
-pub record AreKept {S C : Type 0} (durable : S → Option Durable) (ys : List (TargetOf S C)) (lasts : List Durable) : Type 0 where
+pub record AreKept {S : Type 0} (durable : S → Option Durable) (ys : List S) (lasts : List Durable) : Type 0 where
   pub many : length lasts ≡ length ys
-  pub each : (t : ℕ) (y : TargetOf S C) (d : Durable) → slice_get ys t ≡ Some y → slice_get lasts t ≡ Some d → durable y.store ≡ Some d
+  pub each : (t : ℕ) (y : S) (d : Durable) → slice_get ys t ≡ Some y → slice_get lasts t ≡ Some d → durable y ≡ Some d
 
 -- a target keeps an entry of an attempt, and has committed it
 pub record IsCommittedIn (d : Durable) (x : AttemptId) : Type 0 where
@@ -76,15 +67,15 @@ pub record LacksMember (g : Given) (q : Report) (x : AttemptId) : Type 0 where
 
 -- Each entry that is kept by a target that wasn't given up is committed, or a member of its attempt was given up. Of what is committed at a target,
 -- whatever the next openings find, each member keeps an entry.
-pub record LeavesSettled {S C : Type 0} (durable : S → Option Durable) (may : S → Durable → Type 0) (g : Given) (q : Report) (ys : List (TargetOf S C)) : Type 0 where
-  pub entries : (t : ℕ) (y : TargetOf S C) (d : Durable) (e : Entry) → slice_get ys t ≡ Some y → (Contains (down_targets q.lines) t → ⊥) → durable y.store ≡ Some d → Contains d.entries e → (e.committed ≡ true) ⊎ LacksMember g q e.attempt
+pub record LeavesSettled {S : Type 0} (durable : S → Option Durable) (may : S → Durable → Type 0) (g : Given) (q : Report) (ys : List S) : Type 0 where
+  pub entries : (t : ℕ) (y : S) (d : Durable) (e : Entry) → slice_get ys t ≡ Some y → (Contains (down_targets q.lines) t → ⊥) → durable y ≡ Some d → Contains d.entries e → (e.committed ≡ true) ⊎ LacksMember g q e.attempt
   pub held : (lasts : List Durable) → MayBeFound may ys lasts → (t : ℕ) (d : Durable) (e : Entry) → slice_get lasts t ≡ Some d → Contains d.entries e → e.committed ≡ true → (m : ℕ) (f : Durable) → IsMember (rules_of g) e.attempt m → slice_get lasts m ≡ Some f → is_some (entry_of f e.attempt) ≡ true
 
 -- ---- where nothing stopped
 
 -- In the end the stores stand for what the report tells, by the headline, where replicas agree; and nothing is left to settle: each entry is
 -- committed, and so at each member that it names; and where its leader keeps it, each other member has confirmed that.
-pub record StandPlainly {S C : Type 0} (durable : S → Option Durable) (g : Given) (q : Report) (ys : List (TargetOf S C)) : Type 0 where
+pub record StandPlainly {S : Type 0} (durable : S → Option Durable) (g : Given) (q : Report) (ys : List S) : Type 0 where
   pub lasts : List Durable
   pub kept : AreKept durable ys lasts
   pub headline : HeadlineOver g undisturbed lasts q
@@ -93,7 +84,7 @@ pub record StandPlainly {S C : Type 0} (durable : S → Option Durable) (g : Giv
   pub confirmed : (t : ℕ) (d : Durable) (e : Entry) → slice_get lasts t ≡ Some d → Contains d.entries e → e.leader ≡ t → (m : ℕ) → IsOther (rules_of g) e.attempt m → has_target e.confirmed m ≡ true
 
 -- Where no line tells of a stop, the run ended as one in which nothing can stop.
-pub record EndsUnstopped {S C : Type 0} (durable : S → Option Durable) (g : Given) (q : Report) (ys : List (TargetOf S C)) : Type 0 where
+pub record EndsUnstopped {S : Type 0} (durable : S → Option Durable) (g : Given) (q : Report) (ys : List S) : Type 0 where
   pub stand : StandPlainly durable g q ys
   pub legal : IsLegal g q
   pub none_down : q.down ≡ None
@@ -112,19 +103,19 @@ pub record FollowsOrder (g : Given) (q : Report) : Type 0 where
   pub lines : q.lines ≡ last.lines
 
 -- and the next openings of the stores may find what the targets of that run keep in the end
-pub record IsOrdered {S C : Type 0} (may : S → Durable → Type 0) (g : Given) (q : Report) (ys : List (TargetOf S C)) : Type 0 where
+pub record IsOrdered {S : Type 0} (may : S → Durable → Type 0) (g : Given) (q : Report) (ys : List S) : Type 0 where
   pub follows : FollowsOrder g q
   pub kept : MayBeFound may ys (durables_of follows.last)
 
 -- ---- all of it
 
 -- What a run of these targets, which begins so, comes to. Whatever the next openings of their stores find, these stand for what the report
--- tells, which is legal, by the headline. The report is in form where names and keys are keys; one of the targets issued each epoch of which it
+-- tells, which is legal, by the headline, for each outside that may have failed them so. The report is in form where names and keys are keys; one of the targets issued each epoch of which it
 -- tells; and it tells of the turns in the order asked, where just so many blocks were free at the beginning.
-pub record ComesTo {S C : Type 0} (durable : S → Option Durable) (state : S → State) (may : S → Durable → Type 0) (g : Given) (xs ys : List (TargetOf S C)) (q : Report) : Type 0 where
-  pub stand : (lasts : List Durable) → MayBeFound may ys lasts → HeadlineOver g (outside_of state xs ys) lasts q
+pub record ComesTo {S : Type 0} (durable : S → Option Durable) (state : S → State) (may : S → Durable → Type 0) (g : Given) (xs ys : List S) (q : Report) : Type 0 where
+  pub stand : (lasts : List Durable) (o : Outside) → MayBeFound may ys lasts → IsOutside state o xs ys → HeadlineOver g o lasts q
   pub form : ScriptHasKeys g.script → MapHasKeys g.opening.stand.now → IsReportOf g.script q
   pub issued : AreIssuedThere q
   pub settled : LeavesSettled durable may g q ys
   pub unstopped : stop_numbers q.lines ≡ [] → EndsUnstopped durable g q ys
-  pub ordered : ((t : ℕ) (x : TargetOf S C) → slice_get xs t ≡ Some x → (state x.store).free ≡ g.opening.free t) → IsOrdered may g q ys
+  pub ordered : ((t : ℕ) (x : S) → slice_get xs t ≡ Some x → (state x).free ≡ g.opening.free t) → IsOrdered may g q ys

@@ -51,6 +51,10 @@ module _ {S C : Type 0} (durable : S → Option Durable) (state : S → State) w
     pub many : length targets ≡ g.script.targets
     pub each : (t : ℕ) (x : TargetOf S C) → slice_get targets t ≡ Some x → HasStarted g t x
 
--- each target's store tells what it keeps
-abbrev pub AllTell : {S C : Type 0} → (S → Option Durable) → List (TargetOf S C) → Type 0
-AllTell {S} {C} durable targets = (t : ℕ) (x : TargetOf S C) → slice_get targets t ≡ Some x → is_some (durable x.store) ≡ true
+-- the stores of targets, in the order of their numbers
+abbrev pub stores_of : {S C : Type 0} → List (TargetOf S C) → List S
+stores_of targets = map (λ x. x.store) targets
+
+-- each store tells what it keeps
+abbrev pub AllTell : {S : Type 0} → (S → Option Durable) → List S → Type 0
+AllTell {S} durable stores = (t : ℕ) (s : S) → slice_get stores t ≡ Some s → is_some (durable s) ≡ true
