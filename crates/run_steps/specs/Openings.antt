@@ -1,5 +1,5 @@
 -- What it leads to that a stopped target is opened: it runs again, or it doesn't open.
-use Rattle.std.specs.Prelude.{ℕ, suc, zero, ◌≡◌, ◌≤◌, ◌<◌, ◌+◌, ◌++◌, ◌^◌, Bool, true, false, IsSome, List, [], ◌∷◌, filter, length, slice_get, slice_set, Option, Some, None, is_some, Ok, Err, refl, if◌then◌else◌}
+use Rattle.std.specs.Prelude.{ℕ, suc, zero, ◌≡◌, ◌≤◌, ◌<◌, ◌+◌, ◌++◌, ◌^◌, Bool, true, false, IfOk, IsSome, is_ok, List, [], ◌∷◌, filter, length, slice_get, slice_set, Option, Some, None, is_some, Ok, Err, refl, if◌then◌else◌}
 use Rattle.std.proofs.Common.{drop, take, inl, sym, ◌∙◌, ap, subst, arith}
 use Rattle.std.proofs.lemmas.List.{length-append}
 use Rattle.std.specs.List.{after_first, before_first, position_or_len}
@@ -190,4 +190,23 @@ module _ {S C : Type 0} (durable : S → Option Durable) (state : S → State) (
 module _ {S C : Type 0} (durable : S → Option Durable) (state : S → State) (may : S → Durable → Type 0) (is_read : C → C → Type 0) (findable : AreFindable durable may) (alike : AreAlike durable) (a b : StageNow S C) (can : CanGo durable state may a) (settling : Bool) (t number : ℕ) where
   -- whatever comes of it
   pub reopening-goes : TargetReopened durable state may t a b → GoesOn durable state may is_read (λ r. TurnOf settling r (target t) number) a b
-  reopening-goes k = ?
+  reopening-goes k = by k.ends
+    where
+      by : OpeningEnds durable state may t k.before k.now (record a { targets = slice_set a.targets t k.now; watch = opening_tried a.watch }) b k.result → GoesOn durable state may is_read (λ r. TurnOf settling r (target t) number) a b
+      by (Opened did is after) =
+          subst (λ s. GoesOn durable state may is_read (λ r. TurnOf settling r (target t) number) a s)
+          (ap (λ xs. swept_stage (record a { targets = xs; watch = opened_again t (fuse_set t (opening_tried a.watch)); between = followed (target t) did a.between })) (sym (set-twice a.targets t k.now after.armed)) ∙ sym after.after)
+          (opened-goes durable state may is_read findable alike a can t k.before k.now k.place k.few k.plan k.clock did after.armed
+          (subst (λ q. Reopens q (state k.before.store) (state k.now.store) (durable k.before.store) (durable k.now.store)) is k.opens)
+          (λ d told. subst (λ q. IfOk q (OpensAs k.before.plan a.watch.restarts (may k.before.store) (durable k.now.store) (state k.now.store) k.now.memory)) is (k.turn d told))
+          (subst (λ q. IfOk q (λ e. posted.Follows k.before.plan.targets k.now.memory.leader e.posts)) is k.posts) (k.opened ∙ ap is_ok is) after.fuse settling number)
+      by (NotOpened why is after) = ends after
+        where
+          opens : Reopens {T = Did} (Err why) (state k.before.store) (state k.now.store) (durable k.before.store) (durable k.now.store)
+          opens = subst (λ q. Reopens q (state k.before.store) (state k.now.store) (durable k.before.store) (durable k.now.store)) is k.opens
+
+          ends : AfterFailure t (state k.before.store).faults (state k.now.store).faults why (record a { targets = slice_set a.targets t k.now; watch = opening_tried a.watch }) b → GoesOn durable state may is_read (λ r. TurnOf settling r (target t) number) a b
+          ends (ByStop issued lines same stopped) = failed-goes durable state may is_read findable alike a can t k.before k.now k.place k.few k.plan k.clock why opens settling number b k.left stopped
+          ends (ByForeign at byte same given_up) =
+              subst (λ s. GoesOn durable state may is_read (λ r. TurnOf settling r (target t) number) a s) (sym given_up)
+              (foreign-goes durable state may is_read findable alike a can t k.before k.now k.place k.few k.plan k.clock why opens settling number (λ some. ap (says stop_foreign) (sym is) ∙ k.native some) (ap stop_foreign same))

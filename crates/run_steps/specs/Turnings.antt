@@ -40,7 +40,7 @@ use Rattle.target_parts.specs.Parts.{Runs}
 use Rattle.target_parts.specs.Readings.{IsReadOn, not-read_on}
 use Rattle.target_parts.specs.Stops.{stop_store}
 use Rattle.target_parts.specs.declared.stop.TargetStop.TheVariants as stop
-use Rattle.vos_store.specs.Calls.{Ailed, IsFuseGone, State}
+use Rattle.vos_store.specs.Calls.{Ailed, Fires, State}
 use Rattle.world_base.specs.declared.did.Did.{Did}
 use Rattle.world_base.specs.declared.letter.Letter.{Letter}
 use Rattle.world_base.specs.declared.target.Life.TheVariants.{Running, Stopped}
@@ -216,7 +216,7 @@ module _ {S C : Type 0} (durable : S → Option Durable) (state : S → State) (
 
   -- ---- a cut turn
 
-  module _ (left : BetweenNow) (issued : Option (AttemptId × Epoch)) (lines : List Line) (fuse : one_if (state y.store).fused ≤ one_if (state x.store).fused) (ailed : Ailed (state x.store) (state y.store)) (c : StageNow S C) where
+  module _ (left : BetweenNow) (issued : Option (AttemptId × Epoch)) (lines : List Line) (fires : Fires (state x.store) (state y.store)) (ailed : Ailed (state x.store) (state y.store)) (c : StageNow S C) where
     -- the actors after the cut
     abbrev pub cut-left : StageNow S C
     cut-left = swept_stage (stopped_stage t issued lines (record a { targets = slice_set a.targets t y; between = left }))
@@ -233,7 +233,7 @@ module _ {S C : Type 0} (durable : S → Option Durable) (state : S → State) (
 
     -- it stopped by a fuse, or as often as the outside failed it
     cut-stopped : (state x.store).tells_fuse ≡ true → Ailed (state x.store) (state y.store) → (n : ℕ) → n ≡ 1 → (l : ℕ) → AtMostOne (n + l + one_if (state y.store).fused) (l + one_if (state x.store).fused) (state x.store).faults (state y.store).faults
-    cut-stopped tells (inl rose) n one l = inr (omega (arith, one, fuse), rose)
+    cut-stopped tells (inl rose) n one l = let less = fuse-less (state x.store) (state y.store) fires tells in inr (omega (arith, one, less), rose)
     cut-stopped tells (inr z) n one l =
         let off : (state y.store).fused ≡ false = ap (λ b. b && (state y.store).fused) (sym tells) ∙ z.2 in
         let none : one_if (state y.store).fused ≡ 0 = ap one_if off in
