@@ -43,7 +43,7 @@ module _ {S C : Type 0} (durable : S → Option Durable) (state : S → State) (
       worked-goes : TargetWorked durable state may is_read settling t number a b → GoesOn durable state may is_read (λ r. TurnOf settling r (target t) number) a b
       worked-goes k = by k.ends
         where
-          by : WorkEnds durable state may is_read t k.before k.now k.left a b k.result → GoesOn durable state may is_read (λ r. TurnOf settling r (target t) number) a b
+          by : WorkEnds durable state may t k.before k.now k.left a b k.result → GoesOn durable state may is_read (λ r. TurnOf settling r (target t) number) a b
           by (Whole did is after) =
               subst (λ s. GoesOn durable state may is_read (λ r. TurnOf settling r (target t) number) a s) (sym after)
               (whole-done durable state may is_read findable alike a can t k.before k.now k.place k.plan (served-by-runs stop_store k.result (state k.before.store) (state k.now.store) (durable k.before.store) (durable k.now.store) k.runs) k.clock did k.left k.opened

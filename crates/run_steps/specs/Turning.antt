@@ -80,8 +80,8 @@ module _ {S C : Type 0} (durable : S → Option Durable) (state : S → State) (
       stopped = λ tells. more-or-one (stops_told_in a.between.lines t + stop_lines_of t a.watch.stops + one_if (state x.0.store).fused) _ (stop_lines_of t lines) (h t).faults (state x.0.store).faults (state y.store).faults
           (more (c.stopped (before.told ∙ tells))) c.up (before.stopped tells);
       failed = λ n here. let m = c.failed n here in more-or-one m.0 n 0 (h t).faults (state x.0.store).faults (state y.store).faults m.2 c.up (before.failed m.0 m.1);
-      down = λ i. elim (has-cases (down_targets a.between.lines) (one_or_none downs) t (subst (Has t) downs-are (contains-from_has (down_targets b.between.lines) t i))) [
-        | inl j ↦ no-more 9 9 0 (h t).faults (state x.0.store).faults (state y.store).faults (omega arith) c.up (before.down (has-from_contains (down_targets a.between.lines) t j))
+      down = λ i. elim (has-cases (down_targets a.between.lines) (one_or_none downs) t (subst (Has t) downs-are (has-from_contains (down_targets b.between.lines) t i))) [
+        | inl j ↦ no-more 9 9 0 (h t).faults (state x.0.store).faults (state y.store).faults (omega arith) c.up (before.down (contains-from_has (down_targets a.between.lines) t j))
         | inr j ↦ (let d = c.down (its-down t downs j) in one-rise 8 9 0 (h t).faults (state x.0.store).faults (state y.store).faults (omega arith) d.1 (before.failed 8 d.0))
       ];
       told = c.tells ∙ before.told;
