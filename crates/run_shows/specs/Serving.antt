@@ -96,4 +96,3 @@ module _ {S C : Type 0} (durable : S → Option Durable) (state : S → State) (
     stores = each-pair (λ v z w. IsServed (state z.store) (state w.store) (durable z.store) (durable w.store)) served (λ v z apart. served-same (state z.store) (durable z.store));
     clocks = each-pair (λ v z w. IsReadOn is_read z.clock w.clock) read (λ v z apart. not-read_on is_read z.clock);
   }
-

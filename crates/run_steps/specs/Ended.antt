@@ -1,5 +1,5 @@
 -- Where a run of the actors ends.
-use Rattle.std.specs.Prelude.{ℕ, ◌≡◌, ◌<◌, true, List, [], length, slice_get, Option, Some, is_some}
+use Rattle.std.specs.Prelude.{ℕ, ◌≡◌, true, List, [], length, slice_get, Option, Some, is_some}
 use Rattle.std.proofs.Common.{sym, ◌∙◌, ap, arith}
 use Rattle.base_types.specs.declared.report.Line.{Line}
 use Rattle.base_types.specs.declared.script.StopDecl.{StopDecl}

@@ -1,5 +1,5 @@
 -- What goes to a target that runs it can hear.
-use Rattle.std.specs.Prelude.{ℕ, ◌≡◌, ◌∷◌, All, false, List, slice_get, Option, Some, None, refl}
+use Rattle.std.specs.Prelude.{ℕ, ◌≡◌, ◌∷◌, All, false, List, Option, Some, None, refl}
 use Rattle.std.proofs.Common.{inl, inr, sym, ◌∙◌, ap, subst}
 use Rattle.base_messages.specs.declared.message.Message.{Message}
 use Rattle.base_messages.specs.declared.message.Message.TheVariants as message
@@ -12,7 +12,6 @@ use Rattle.run_shows.specs.CanGo.{CanGo, IsHearable}
 use Rattle.run_shows.specs.Going.{AreFindable, found-some, some-found}
 use Rattle.run_shows.specs.Leading.{NonePrunes}
 use Rattle.run_shows.specs.Parts.{target-there}
-use Rattle.run_shows.specs.Shows.{IsGoing}
 use Rattle.run_shows.specs.Stages.{IsPlace, StageNow}
 use Rattle.run_steps.specs.Going.{AllTell}
 use Rattle.target_core.specs.Targets as target_core

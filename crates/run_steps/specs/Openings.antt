@@ -1,8 +1,7 @@
 -- What it leads to that a stopped target is opened: it runs again, or it doesn't open.
 use Rattle.std.specs.Prelude.{ℕ, suc, zero, ◌≡◌, ◌≤◌, ◌<◌, ◌+◌, ◌++◌, ◌^◌, Bool, true, false, IfOk, IsSome, is_ok, List, [], ◌∷◌, filter, length, slice_get, slice_set, Option, Some, None, is_some, Ok, Err, refl, if◌then◌else◌}
 use Rattle.std.proofs.Common.{drop, take, inl, sym, ◌∙◌, ap, subst, arith}
-use Rattle.std.proofs.lemmas.List.{length-append}
-use Rattle.std.specs.List.{after_first, before_first, position_or_len}
+use Rattle.std.specs.List.{before_first, position_or_len}
 use Rattle.base_types.specs.declared.script.StopDecl.{StopDecl}
 use Rattle.daos_model.specs.Stops.{is_stop_at}
 use Rattle.daos_model.specs.declared.durable.Durable.{Durable}
@@ -10,11 +9,11 @@ use Rattle.run_shows.specs.Accounting.{fuse-less, fuse-taken}
 use Rattle.run_shows.specs.Accounts.{AreServed, one_if, stop_lines_of}
 use Rattle.run_shows.specs.CanGo.{CanGo}
 use Rattle.run_shows.specs.Fitting.{Fits, few-numbers, fit-after_stop, fit-given_up, fit-swept, fit-target, fits-of}
-use Rattle.run_shows.specs.Givings.{FaultBy, downs_after, fault-leads}
+use Rattle.run_shows.specs.Givings.{downs_after, fault-leads}
 use Rattle.run_shows.specs.Going.{AreAlike, AreFindable}
 use Rattle.run_shows.specs.Lettered.{followed-form}
-use Rattle.run_shows.specs.Openings.{AfterOpening, HasFuse}
-use Rattle.run_shows.specs.Parts.{IsTurnSo, filter-both, is-set, set-same}
+use Rattle.run_shows.specs.Openings.{HasFuse}
+use Rattle.run_shows.specs.Parts.{IsTurnSo, is-set, set-same}
 use Rattle.run_shows.specs.Reopening.{failure-leads, opening-leads, set-twice}
 use Rattle.run_shows.specs.Serving.{each-pair, served-by-fuse, served-by-opening, served-on, served-one}
 use Rattle.run_shows.specs.Shows.{Leads}
@@ -30,7 +29,6 @@ use Rattle.target_core.specs.Targets.{OpensAs, TargetOf}
 use Rattle.target_parts.specs.Readings.{IsReadOn, not-read_on}
 use Rattle.target_parts.specs.Stops.{stop_foreign}
 use Rattle.target_parts.specs.declared.stop.TargetStop.{TargetStop}
-use Rattle.target_parts.specs.declared.stop.TargetStop.TheVariants as stop
 use Rattle.target_resync.specs.Openings.{Left, Reopens}
 use Rattle.vos_store.specs.Calls.{State}
 use Rattle.vos_store.specs.Refusals.{says}

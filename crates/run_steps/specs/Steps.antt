@@ -1,5 +1,5 @@
 -- What a turn of any actor leads to, and that a target can have its turn.
-use Rattle.std.specs.Prelude.{ℕ, ◌≡◌, ◌≤◌, ◌<◌, ◌+◌, ◌^◌, Bool, true, IfOk, List, slice_get, Option, Some, is_some, Ok, Err, refl}
+use Rattle.std.specs.Prelude.{ℕ, ◌≡◌, ◌<◌, ◌+◌, ◌^◌, Bool, IfOk, slice_get, Option, Some, is_some, Err}
 use Rattle.std.proofs.Common.{sym, ◌∙◌, ap, subst, arith}
 use Rattle.daos_model.specs.declared.durable.Durable.{Durable}
 use Rattle.run_shows.specs.CanGo.{CanGo, CanTurn}
@@ -7,7 +7,7 @@ use Rattle.run_shows.specs.Going.{AreAlike, AreFindable, found-with, some-found}
 use Rattle.run_shows.specs.Parts.{target-there}
 use Rattle.run_shows.specs.Reopening.{choosing, chosen}
 use Rattle.run_shows.specs.Serving.{served-by-runs}
-use Rattle.run_shows.specs.Stages.{IsPlace, StageNow}
+use Rattle.run_shows.specs.Stages.{StageNow}
 use Rattle.run_shows.specs.Steps.{ClientTurned, ClientWorks, Cut, HeardOne, Reopened, TargetTurned, TargetWorked, WentOn, Whole, WorkEnds, Worked}
 use Rattle.run_shows.specs.Turned.{IsTurned, followed, swept_stage, with_between, with_client_at}
 use Rattle.run_steps.specs.Going.{AllTell, GoesOn}
@@ -21,7 +21,7 @@ use Rattle.target_parts.specs.Parts.{Runs}
 use Rattle.target_parts.specs.Stops.{stop_store}
 use Rattle.vos_store.specs.Calls.{State}
 use Rattle.vos_store.specs.Refusals.{says}
-use Rattle.world_base.specs.declared.target.Life.TheVariants.{Running, Stopped}
+use Rattle.world_base.specs.declared.target.Life.TheVariants.{Stopped}
 use Rattle.world_base.specs.Letters.{client, target}
 use Rattle.world_hearable.specs.Covered.{IsCovered}
 use Rattle.world_hearable.specs.Runs.{runs-are-covered}

@@ -1,16 +1,14 @@
 -- A turn, with all that it leaves.
-use Rattle.std.specs.Prelude.{ℕ, ◌≡◌, ◌≤◌, ◌<◌, ◌+◌, ◌++◌, ◌⊎◌, Bool, true, false, List, [], ◌∷◌, length, slice_get, Contains, Option, Some, None, is_some, refl}
+use Rattle.std.specs.Prelude.{ℕ, ◌≡◌, ◌≤◌, ◌+◌, ◌++◌, ◌⊎◌, Bool, true, List, length, slice_get, Option, Some, None, is_some, refl}
 use Rattle.std.proofs.Common.{inl, inr, sym, ◌∙◌, ap, subst, arith}
-use Rattle.std.proofs.lemmas.Option.{slice_get_within}
 use Rattle.base_messages.specs.declared.actor.ActorId.{ActorId}
 use Rattle.base_outside.specs.Causes.{Rose}
 use Rattle.base_types.specs.declared.script.StopDecl.{StopDecl}
 use Rattle.daos_model.specs.Stops.{down_targets}
 use Rattle.daos_model.specs.declared.durable.Durable.{Durable}
-use Rattle.model_laws.specs.Lists.{at-within}
 use Rattle.model_laws.specs.Members.{Has, contains-from_has, has-cases, has-from_contains}
 use Rattle.run_shows.specs.Accounting.{downs-told, no-more, one-rise, stops-told}
-use Rattle.run_shows.specs.Accounts.{AreAccounted, AreServed, AtMostRises, IsAccounted, IsServed, one_if, stop_lines_of, stops_told_in}
+use Rattle.run_shows.specs.Accounts.{AreAccounted, AreServed, AtMostRises, IsAccounted, one_if, stop_lines_of, stops_told_in}
 use Rattle.run_shows.specs.CanGo.{CanGo}
 use Rattle.run_shows.specs.Fitting.{Fits, can-go}
 use Rattle.run_shows.specs.Going.{AreAlike, AreFindable, going-on}
@@ -21,7 +19,6 @@ use Rattle.run_steps.specs.Going.{AllTell, GoesOn}
 use Rattle.run_turns.specs.StopLines.{one_or_none}
 use Rattle.run_turns.specs.Turns.{TurnOf}
 use Rattle.target_core.specs.Targets.{TargetOf}
-use Rattle.target_parts.specs.Readings.{IsReadOn, not-read_on, read-further}
 use Rattle.vos_store.specs.Calls.{State}
 use Rattle.world_base.specs.Events.{Rules}
 use Rattle.world_lives.specs.Adding.{stops_of}

@@ -1,10 +1,8 @@
 -- A client's turn, and a target's turn, whole or cut, with all that they leave.
-use Rattle.std.specs.Prelude.{ℕ, ◌≡◌, ◌≤◌, ◌<◌, ◌+◌, ◌==◌, ◌^◌, ◌&&◌, ◌⊎◌, Bool, true, false, List, length, slice_get, slice_set, Option, Some, None, Ok, Err, refl, if◌then◌else◌}
+use Rattle.std.specs.Prelude.{ℕ, ◌≡◌, ◌<◌, ◌+◌, ◌==◌, ◌&&◌, Bool, true, false, List, length, slice_get, slice_set, Option, Some, None, Ok, Err, refl, if◌then◌else◌}
 use Rattle.std.proofs.Common.{inl, inr, sym, ◌∙◌, ap, subst, arith}
 use Rattle.std.proofs.Math.ListN.{set}
-use Rattle.std.proofs.lemmas.Bool.{cases_eq}
 use Rattle.std.proofs.lemmas.Bool.Decides.{nat_tests}
-use Rattle.base_messages.specs.declared.message.Post.{Post}
 use Rattle.base_outside.specs.Causes.{Rose}
 use Rattle.base_types.specs.declared.epoch.Epoch.{Epoch}
 use Rattle.base_types.specs.declared.id.AttemptId.{AttemptId}
@@ -17,10 +15,10 @@ use Rattle.run_base.specs.Letters.{BetweenNow, IsPicked}
 use Rattle.run_base.specs.Picks.{count_to, heard_awake}
 use Rattle.run_shows.specs.Accounting.{fuse-less}
 use Rattle.run_shows.specs.Accounts.{AreServed, IsServed, one_if, stop_lines_of}
-use Rattle.run_shows.specs.CanGo.{CanGo, CanWork}
+use Rattle.run_shows.specs.CanGo.{CanGo}
 use Rattle.run_shows.specs.Clients.{client-goes, client-hears}
 use Rattle.run_shows.specs.Fitting.{Fits, few-numbers, fit-after_stop, fit-swept, fit-target, fits-of}
-use Rattle.run_shows.specs.Givings.{FaultBy, downs_after, fault-leads}
+use Rattle.run_shows.specs.Givings.{downs_after, fault-leads}
 use Rattle.run_shows.specs.Going.{AreAlike, AreFindable}
 use Rattle.run_shows.specs.Leading.{NonePrunes, turn-leads}
 use Rattle.run_shows.specs.Lettered.{AllInForm, InForm, asked-lost, followed-form, lost-form}
@@ -37,7 +35,7 @@ use Rattle.run_turns.specs.Turns.{TurnOf}
 use Rattle.run_watch.specs.Watches.{WatchNow, after_fault, with_life}
 use Rattle.target_core.specs.Targets.{TargetOf}
 use Rattle.target_parts.specs.Parts.{Runs}
-use Rattle.target_parts.specs.Readings.{IsReadOn, not-read_on}
+use Rattle.target_parts.specs.Readings.{IsReadOn}
 use Rattle.target_parts.specs.Stops.{stop_store}
 use Rattle.target_parts.specs.declared.stop.TargetStop.TheVariants as stop
 use Rattle.vos_store.specs.Calls.{Ailed, Fires, State}
