@@ -1,28 +1,24 @@
 -- One turn of an actor, by what the actors' contracts say of it.
-use Rattle.std.specs.Prelude.{ℕ, ◌≡◌, ◌≤◌, ◌<◌, true, false, List, length, max, slice_get, Bool, Option, Some, Result, Ok, Err, OnOk}
+use Rattle.std.specs.Prelude.{ℕ, ◌≡◌, ◌≤◌, ◌<◌, Bool, true, false, List, length, max, Option, Some, Result, Ok, Err, OnOk}
 use Rattle.std.proofs.Common.{sym, subst, arith}
 use Rattle.base_messages.specs.declared.actor.ActorId.{ActorId}
 use Rattle.daos_model.specs.declared.durable.Durable.{Durable}
 use Rattle.run_base.specs.Picks.{count_to}
 use Rattle.run_loop.specs.Loops.{turn_of}
-use Rattle.run_shows.specs.Accounts.{AreServed}
-use Rattle.run_shows.specs.CanGo.{CanGo, CanTurn}
+use Rattle.run_shows.specs.CanGo.{CanGo}
 use Rattle.run_shows.specs.Going.{AreAlike, AreFindable}
-use Rattle.run_shows.specs.Serving.{served-first, served-then}
 use Rattle.run_shows.specs.Shown.{named-client, named-target}
 use Rattle.run_shows.specs.Stages.{StageNow}
 use Rattle.run_shows.specs.Steps.{ClientTurned, TargetTurned}
 use Rattle.run_steps.specs.Going.{GoesOn}
-use Rattle.run_turns.specs.Turns.{TurnOf}
-use Rattle.target_core.specs.Targets.{TargetOf}
+use Rattle.run_steps.specs.Steps.{client-turn-goes, target-turn-goes}
 use Rattle.vos_store.specs.Calls.{State}
 use Rattle.world_base.specs.declared.letter.Letter.{Letter}
-use Rattle.world_base.specs.declared.target.Life.{Life}
-use Rattle.world_base.specs.declared.target.Life.TheVariants.{Down}
 use Rattle.world_base.specs.Letters.{client, target}
 
 -- ---- an actor by its kind and number
 
+-- of the letters to it one has this number
 pub client-number : (actor : ActorId) (n message : ℕ) (letters : List Letter) → actor.client ≡ true → n ≡ actor.number → message < max 1 (count_to actor letters) → message < max 1 (count_to (client n) letters)
 client-number actor n message letters kind named few = subst (λ x. message < max 1 (count_to x letters)) (sym (named-client actor n kind named)) few
 
@@ -31,25 +27,9 @@ target-number actor t message letters kind named few = subst (λ x. message < ma
 
 -- ---- turns
 
-module _ {S C : Type 0} (durable : S → Option Durable) (state : S → State) (may : S → Durable → Type 0) where
-  -- there are few targets
-  pub few-targets : (a : StageNow S C) → CanGo durable state may a → length a.targets ≤ 64
-  few-targets a can = let many = can.many in let most = can.simple.few_targets in omega (arith, many, most)
-
-  pub few-lives : (a : StageNow S C) → CanGo durable state may a → length a.watch.lives ≤ 64
-  few-lives a can = let same = can.standing in let few = few-targets a can in omega (arith, same, few)
-
-module _ {S C : Type 0} (durable : S → Option Durable) (state : S → State) (may : S → Durable → Type 0) where
-  module _ (is_read : C → C → Type 0) (findable : AreFindable durable may) (alike : AreAlike durable) (a b : StageNow S C) (can : CanGo durable state may a) where
-    pub client-turn-goes : (n number : ℕ) → ClientTurned n number a b → (settling : Bool) → GoesOn durable state may is_read (λ r. TurnOf settling r (client n) number) a b
-    client-turn-goes n number k settling = ?
-
-    pub target-turn-goes : (settling : Bool) (t number : ℕ) → TargetTurned durable state may is_read settling t number a b → GoesOn durable state may is_read (λ r. TurnOf settling r (target t) number) a b
-    target-turn-goes settling t number k = ?
-
-  module _ (findable : AreFindable durable may) (alike : AreAlike durable) (a : StageNow S C) (can : CanGo durable state may a) (t : ℕ) (x : TargetOf S C) (at : slice_get a.targets t ≡ Some x) where
-    pub can-turn : (number : ℕ) → CanTurn durable state may a t number x
-    can-turn number = ?
+-- there are few targets
+pub few-targets : {S C : Type 0} (durable : S → Option Durable) (state : S → State) (may : S → Durable → Type 0) (a : StageNow S C) → CanGo durable state may a → length a.targets ≤ 64
+few-targets durable state may a can = let many = can.many in let most = can.simple.few_targets in omega (arith, many, most)
 
 module _ {S C : Type 0} (durable : S → Option Durable) (state : S → State) (may : S → Durable → Type 0) (is_read : C → C → Type 0) (findable : AreFindable durable may) (alike : AreAlike durable) (a b : StageNow S C) (can : CanGo durable state may a) where
   -- an actor's turn leads on, if it comes to its end
@@ -61,10 +41,3 @@ module _ {S C : Type 0} (durable : S → Option Durable) (state : S → State) (
       → OnOk result (GoesOn durable state may is_read (turn_of settling actor number) a b)
   target-goes-on settling actor t number (Ok x) kind named k = subst (λ z. GoesOn durable state may is_read (turn_of settling z number) a b) (named-target actor t kind named) (target-turn-goes durable state may is_read findable alike a b can settling t number k)
   target-goes-on settling actor t number (Err e) kind named k = tt
-
--- ---- stores
-
-module _ {S C : Type 0} (durable : S → Option Durable) (state : S → State) (is_read : C → C → Type 0) where
-  -- a client's turn leaves the targets
-  pub served-same-targets : (xs ys zs : List (TargetOf S C)) → AreServed durable state is_read xs ys → zs ≡ ys → AreServed durable state is_read xs zs
-  served-same-targets xs ys zs k same = subst (AreServed durable state is_read xs) (sym same) k

@@ -69,7 +69,7 @@ some-in (x ∷ xs) len some is none = cc
 pub not-none : (many len : ℕ) → false ≡ (len == 0) → many ≡ len → many ≡ 0 → ⊥
 not-none many len some is none = grind (arith, nat_tests)
 
--- ---- turns and rounds
+-- ---- turns
 
 -- some turns and then others, if those come to their end
 pub goes-then-ok : {S C : Type 0} (durable : S → Option Durable) (state : S → State) (may : S → Durable → Type 0) (is_read : C → C → Type 0) {T E : Type 0} (one other both : Rules → World → World → Type 0) (a b c : StageNow S C) (result : Result T E) → IsRun one

@@ -1,12 +1,13 @@
 use Rattle.std.specs.Prelude.{[], length}
 use Rattle.std.proofs.Common.{◌∙◌, add-one, ap, subst, suc, sym}
 use Rattle.run_base.specs.Picks.{numbered}
-use Rattle.run_loop.proofs.Turns.{can-turn, client-turn-goes, served-same-targets, target-turn-goes}
 use Rattle.run_loop.specs.Loops.{at-end, client-had-none, client-had-turn, round-whole, target-had-none, target-had-turn, turned, within-now}
+use Rattle.run_shows.specs.Accounts.{AreServed}
 use Rattle.run_shows.specs.Due.{first_targets}
 use Rattle.run_shows.specs.Serving.{served-then}
 use Rattle.run_stage.specs.Now.{stage_now}
 use Rattle.run_steps.specs.Going.{GoesOn, goes-none}
+use Rattle.run_steps.specs.Steps.{can-turn, client-turn-goes, target-turn-goes}
 use Rattle.run_turns.specs.Orders.{Nobody}
 use Rattle.world_base.specs.Letters.{client}
 use Rattle.run_loop.proofs.order.round.Goals as goal
@@ -62,7 +63,7 @@ returns-clause-goes g c =
 
 pub returns-in_err-client_turn-clause-served : goal.returns-in_err-client_turn-clause-served
 returns-in_err-client_turn-clause-served g c =
-    served-same-targets g.S.Store.durable g.S.Store.state g.C.Clock.is_read c.args.stage.now.targets.items c.loop-n.stage.targets.items c.client_turn.new.self.targets.items c.loop-n.invariant.served (ap (λ v. v.items) c.in_err-client_turn.ensures.targets)
+    subst (AreServed g.S.Store.durable g.S.Store.state g.C.Clock.is_read c.args.stage.now.targets.items) (sym (ap (λ v. v.items) c.in_err-client_turn.ensures.targets)) c.loop-n.invariant.served
 
 pub returns-in_err-target_turn-clause-served : goal.returns-in_err-target_turn-clause-served
 returns-in_err-target_turn-clause-served g c =

@@ -1,8 +1,10 @@
-use Rattle.std.specs.Prelude.{◌≡◌, ◌<◌, Some, length, slice_get}
+use Rattle.std.specs.Prelude.{◌≡◌, Some, slice_get}
 use Rattle.std.proofs.Common.{ap, subst, sym}
-use Rattle.run_loop.proofs.Turns.{can-turn, client-goes-on, client-number, few-lives, few-targets, served-same-targets, target-goes-on, target-number}
+use Rattle.run_loop.proofs.Turns.{client-goes-on, client-number, target-goes-on, target-number}
+use Rattle.run_shows.specs.Accounts.{AreServed}
 use Rattle.run_shows.specs.Serving.{served-first}
 use Rattle.run_stage.specs.Now.{stage_now}
+use Rattle.run_steps.specs.Steps.{can-turn}
 use Rattle.world_base.specs.declared.target.Life.TheVariants.{Down}
 use Rattle.run_loop.proofs.order.turn.Goals as goal
 
@@ -26,7 +28,7 @@ returns-then-actor-clause-goes g c =
 pub returns-then-actor-clause-served : goal.returns-then-actor-clause-served
 returns-then-actor-clause-served g c =
     let xs = c.args.stage.now.targets.items in
-    served-same-targets g.S.Store.durable g.S.Store.state g.C.Clock.is_read xs xs c.client_turn.new.self.targets.items (served-first g.S.Store.durable g.S.Store.state g.C.Clock.is_read xs) (ap (λ v. v.items) c.client_turn.ensures.targets)
+    subst (AreServed g.S.Store.durable g.S.Store.state g.C.Clock.is_read xs) (sym (ap (λ v. v.items) c.client_turn.ensures.targets)) (served-first g.S.Store.durable g.S.Store.state g.C.Clock.is_read xs)
 
 pub returns-else-actor-clause-goes : goal.returns-else-actor-clause-goes
 returns-else-actor-clause-goes g c =
