@@ -1,5 +1,5 @@
 -- One turn of an actor, by what the actors' contracts say of it.
-use Rattle.std.specs.Prelude.{ℕ, ◌≡◌, ◌≤◌, ◌<◌, Bool, true, false, List, length, max, Option, Some, Result, Ok, Err, OnOk}
+use Rattle.std.specs.Prelude.{ℕ, ◌≡◌, ◌≤◌, ◌<◌, Bool, true, false, List, length, max, Option, Result, Ok, Err, OnOk}
 use Rattle.std.proofs.Common.{sym, subst, arith}
 use Rattle.base_messages.specs.declared.actor.ActorId.{ActorId}
 use Rattle.daos_model.specs.declared.durable.Durable.{Durable}

@@ -26,11 +26,11 @@ loop-n-preserved g c =
       | then-is_client_due+in_ok-client_turn w ↦
           let new = w.client_turn.new.self in
           subst (λ a. GoesOn g.S.Store.durable g.S.Store.state g.S.Store.may g.C.Clock.is_read (turned c.args.settling (numbered client (suc n))) (stage_now a0) (stage_now a)) (sym w.stage-is)
-          (client-had-turn g.S.Store.durable g.S.Store.state g.S.Store.may g.C.Clock.is_read c.args.settling (stage_now a0) (stage_now now) n c.loop-n.invariant within (stage_now new) (sym c.is_client_due.ensures ∙ w.if-is_client_due.true)
+          (client-had-turn g.S.Store.durable g.S.Store.state g.S.Store.may g.C.Clock.is_read c.args.settling (stage_now a0) (stage_now now) n c.loop-n.invariant within c.is_client_due.result c.is_client_due.ensures (stage_now new) w.if-is_client_due.true
           (client-turn-goes g.S.Store.durable g.S.Store.state g.S.Store.may g.C.Clock.is_read g.met.S.Store.findable g.met.S.Store.alike (stage_now now) (stage_now new) c.loop-n.invariant.going n 0 w.in_ok-client_turn.ensures.turned c.args.settling))
       | else-is_client_due w ↦
           subst (λ a. GoesOn g.S.Store.durable g.S.Store.state g.S.Store.may g.C.Clock.is_read (turned c.args.settling (numbered client (suc n))) (stage_now a0) (stage_now a)) (sym w.stage-is)
-          (client-had-none g.S.Store.durable g.S.Store.state g.S.Store.may g.C.Clock.is_read c.args.settling (stage_now a0) (stage_now now) n c.loop-n.invariant within (sym c.is_client_due.ensures ∙ w.if-is_client_due.false))
+          (client-had-none g.S.Store.durable g.S.Store.state g.S.Store.may g.C.Clock.is_read c.args.settling (stage_now a0) (stage_now now) n c.loop-n.invariant within c.is_client_due.result c.is_client_due.ensures w.if-is_client_due.false)
     ])
 
 pub target_turn-requires-clause-able : goal.target_turn-requires-clause-able
@@ -46,11 +46,11 @@ loop-t-preserved g c =
       | then-is_target_due+in_ok-target_turn w ↦
           let new = w.target_turn.new.self in
           subst (λ a. GoesOn g.S.Store.durable g.S.Store.state g.S.Store.may g.C.Clock.is_read (turned c.args.settling (first_targets m (suc t))) (stage_now a0) (stage_now a)) (sym w.stage-is)
-          (target-had-turn g.S.Store.durable g.S.Store.state g.S.Store.may g.C.Clock.is_read c.args.settling (stage_now a0) (stage_now now) m t c.loop-t.invariant (stage_now new) (λ r found v s. sym (c.is_target_due.ensures.due r found v s) ∙ w.if-is_target_due.true)
+          (target-had-turn g.S.Store.durable g.S.Store.state g.S.Store.may g.C.Clock.is_read c.args.settling (stage_now a0) (stage_now now) m t c.loop-t.invariant c.is_target_due.result c.is_target_due.ensures.due (stage_now new) w.if-is_target_due.true
           (target-turn-goes g.S.Store.durable g.S.Store.state g.S.Store.may g.C.Clock.is_read g.met.S.Store.findable g.met.S.Store.alike (stage_now now) (stage_now new) c.loop-t.invariant.going c.args.settling t 0 w.in_ok-target_turn.ensures.turned))
       | else-is_target_due w ↦
           subst (λ a. GoesOn g.S.Store.durable g.S.Store.state g.S.Store.may g.C.Clock.is_read (turned c.args.settling (first_targets m (suc t))) (stage_now a0) (stage_now a)) (sym w.stage-is)
-          (target-had-none g.S.Store.durable g.S.Store.state g.S.Store.may g.C.Clock.is_read c.args.settling (stage_now a0) (stage_now now) m t c.loop-t.invariant (λ r found v s. sym (c.is_target_due.ensures.due r found v s) ∙ w.if-is_target_due.false))
+          (target-had-none g.S.Store.durable g.S.Store.state g.S.Store.may g.C.Clock.is_read c.args.settling (stage_now a0) (stage_now now) m t c.loop-t.invariant c.is_target_due.result c.is_target_due.ensures.due w.if-is_target_due.false)
     ])
 
 pub returns-clause-goes : goal.returns-clause-goes
