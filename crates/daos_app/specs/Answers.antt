@@ -1,5 +1,5 @@
 -- What the program writes, and what its answers stand for.
-use Rattle.std.specs.Prelude.{ℕ, ◌≡◌, List, Option, Ok}
+use Rattle.std.specs.Prelude.{ℕ, ◌≡◌, List, [], Option, Ok}
 use Rattle.base_types.specs.declared.fault.ScriptFault.{ScriptFault}
 use Rattle.base_types.specs.declared.job.Job.{Job}
 use Rattle.base_types.specs.declared.job.Task.{Task}
@@ -15,7 +15,7 @@ use Rattle.report_writer.specs.Forms.{IsReportOf}
 use Rattle.report_writer.specs.Reports.{report_text}
 use Rattle.model_reports.specs.Rooms.{FindsRoom, HasRoom}
 use Rattle.daos_run.specs.Alone.{IsOfLoneClient}
-use Rattle.daos_run.specs.Opens.{FollowsOrder, IsLegal}
+use Rattle.run_ends.specs.Comes.{FollowsOrder, IsLegal, IsLegalBySome}
 use Rattle.daos_status.specs.declared.status.Status.{Status}
 use Rattle.daos_status.specs.declared.status.Status.TheVariants as status
 use Rattle.daos_summary.specs.Summaries.{summary_text}
@@ -23,16 +23,18 @@ use Rattle.world_lone.specs.LoneRuns.{AreIssuedThere}
 
 -- ---- what is written
 
--- What the report of a run is: legal for the script by the headline, over regions of zeros that nothing disturbs, and in the form in
--- which a text determines its report. It tells of turns in the order asked; the targets of the run issued all epochs; where there is room for
--- all that the script writes, no attempt is refused for want of it; and a client that is alone is never told to restart.
+-- What the report of a run is: legal for the script by the headline, over regions of zeros that nothing disturbs, for some choice of the
+-- attempts that their stores have resolved, and for each where the script asks for no stop; and in the form in which a text determines its report.
+-- It tells of turns in the order asked; the targets of the run issued all epochs; where there is room for all that the script writes, no attempt is
+-- refused for want of it; and a client that is alone is never told to restart where the script asks for no stop.
 pub record IsRunReport (g : Given) (q : Report) : Type 0 where
   pub form : IsReportOf g.script q
-  pub legal : IsLegal g q
+  pub legal : IsLegalBySome g q
+  pub unstopped : g.script.stops ≡ [] → IsLegal g q
   pub ordered : FollowsOrder g q
   pub issued : AreIssuedThere q
   pub room : HasRoom g.script g.job.attempts g.opening.free → FindsRoom q
-  pub lone : HasOneClient g.script → IsOfLoneClient g q
+  pub lone : HasOneClient g.script → g.script.stops ≡ [] → IsOfLoneClient g q
 
 -- the text of such a report
 pub record IsReported (job : Job) (script : Script) (text : List ℕ) : Type 0 where

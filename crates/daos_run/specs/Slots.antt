@@ -1,9 +1,10 @@
 -- The stores and the clocks that a run is given and hands back.
-use Rattle.std.specs.Prelude.{ℕ, ◌≡◌, ◌≤◌, ◌<◌, true, is_some, List, length, slice_get, Option, Some, None}
+use Rattle.std.specs.Prelude.{ℕ, ◌≡◌, ◌≤◌, ◌<◌, true, false, List, [], ◌∷◌, length, slice_get, slice_set, Option, Some, None}
 use Rattle.daos_model.specs.declared.durable.Durable.{Durable}
 use Rattle.target_core.specs.Targets.{TargetOf}
 use Rattle.target_parts.specs.Readings.{IsReadOn}
-use Rattle.vos_store.specs.Calls.{State}
+use Rattle.run_shows.specs.Accounts.{IsServed}
+use Rattle.vos_store.specs.Calls.{SetsFuse, State}
 
 -- the target of a number has a store and a clock
 abbrev pub IsAt : {S C : Type 0} → List (Option (S × C)) → ℕ → S × C → Type 0
@@ -23,13 +24,11 @@ pub record HaveStores {S C : Type 0} (P : ℕ → S → Type 0) (targets : ℕ) 
   pub set : AreSet targets slots
   pub each : EachStore P slots
 
--- every store tells what it keeps
-abbrev pub AllTell : {S C : Type 0} → (S → Option Durable) → List (Option (S × C)) → Type 0
-AllTell durable slots = EachStore (λ t store. is_some (durable store) ≡ true) slots
-
--- where one store tells what it keeps, all do
-abbrev pub TellAlike : {S C : Type 0} → (S → Option Durable) → List (Option (S × C)) → Type 0
-TellAlike {S} {C} durable slots = (t : ℕ) (x : S × C) → IsAt slots t x → is_some (durable x.0) ≡ true → AllTell durable slots
+-- the stores of the targets, in the order of their numbers
+abbrev pub stores_in : {S C : Type 0} → List (Option (S × C)) → List S
+stores_in [] = []
+stores_in (None ∷ slots) = stores_in slots
+stores_in (Some x ∷ slots) = x.0 ∷ stores_in slots
 
 -- what holds between each target's store before and after
 abbrev pub FromTo : {S C : Type 0} → List (Option (S × C)) → List (Option (S × C)) → (ℕ → S → S → Type 0) → Type 0
@@ -50,6 +49,28 @@ AreFree state slots free = EachStore (λ t store. free t ≤ (state store).free)
 -- so many blocks are free on each target, and no more
 abbrev pub AreFreeExactly : {S C : Type 0} → (S → State) → List (Option (S × C)) → (ℕ → ℕ) → Type 0
 AreFreeExactly state slots free = EachStore (λ t store. (state store).free ≡ free t) slots
+
+-- between these two moments each store had calls
+abbrev pub StoresAreServed : {S C : Type 0} → (S → Option Durable) → (S → State) → List (Option (S × C)) → List (Option (S × C)) → Type 0
+StoresAreServed durable state old new = FromTo old new (λ t a b. IsServed (state a) (state b) (durable a) (durable b))
+
+-- no fuse is set any more, where that is told
+abbrev pub FusesAreGone : {S C : Type 0} → (S → State) → List (Option (S × C)) → Type 0
+FusesAreGone state slots = EachStore (λ t store. (state store).tells_fuse ≡ true → (state store).fused ≡ false) slots
+
+-- ---- fuses
+
+-- a store's fuse was taken away; nothing else of it changed
+pub record HasNoFuse {S : Type 0} (durable : S → Option Durable) (state : S → State) (may : S → Durable → Type 0) (old new : S) : Type 0 where
+  pub state_is : SetsFuse 0 (state old) (state new)
+  pub kept : durable new ≡ durable old
+  pub left : (d : Durable) → may new d → may old d
+
+-- so it was of the store in one place
+pub record IsDisarmed {S C : Type 0} (durable : S → Option Durable) (state : S → State) (may : S → Durable → Type 0) (t : ℕ) (x : S × C) (old new : List (Option (S × C))) : Type 0 where
+  pub store : S
+  pub fuse : HasNoFuse durable state may x.0 store
+  pub after : new ≡ slice_set old t (Some (store, x.1))
 
 -- ---- places while targets run
 

@@ -1,16 +1,13 @@
 -- Why a run gives no report.
-use Rattle.std.specs.Prelude.{ℕ, ◌≡◌, ◌<◌, ◌==◌, Bool, false, Result, Err}
+use Rattle.std.specs.Prelude.{ℕ, ◌≡◌, ◌<◌, ◌==◌, ◌⊎◌, Bool, false, List, Option, Result, Err}
 use Rattle.daos_status.specs.declared.part.Part.TheVariants.{Containers}
 use Rattle.daos_run.specs.declared.stop.RunStop.{RunStop}
 use Rattle.daos_run.specs.declared.stop.RunStop.TheVariants as stop
-use Rattle.run_order.specs.declared.halted.Halted.{Halted}
-use Rattle.run_order.specs.declared.halted.Halted.TheVariants as halted
+use Rattle.base_outside.specs.Causes.{Rose}
+use Rattle.daos_run.specs.Slots.{IsAt}
+use Rattle.vos_store.specs.Calls.{State}
 use Rattle.vos_store.specs.declared.refusal.EnlistNo.{EnlistNo}
 use Rattle.vos_store.specs.declared.refusal.EnlistNo.TheVariants as enlist
-
-abbrev pub stop_of : Halted → RunStop
-stop_of (halted.Stopped target) = stop.RackFault target
-stop_of halted.Memory = stop.Memory
 
 -- containers aren't added to the store of a target
 abbrev pub enlist_stopped : ℕ → EnlistNo → RunStop
@@ -37,3 +34,12 @@ is_fault_of t stop.Memory = false
 -- nothing was run, for this reason
 abbrev pub not_started : RunStop → Result (Unit {0}) RunStop
 not_started stop = Err stop
+
+-- the outside failed a store; or a fuse did, where it doesn't tell its fuse
+abbrev pub HasRisen : State → State → Type 0
+HasRisen h k = Rose h.faults k.faults ⊎ (Rose h.burns k.burns × (h.tells_fuse ≡ false))
+
+-- a fault of a store's opening is one by which a count of it rose
+abbrev pub IsOpeningFault : {S C : Type 0} → (S → State) → List (Option (S × C)) → List (Option (S × C)) → RunStop → Type 0
+IsOpeningFault {S} {C} state old new (stop.RackFault target) = (x y : S × C) → IsAt old target x → IsAt new target y → HasRisen (state x.0) (state y.0)
+IsOpeningFault {S} {C} state old new other = Unit {0}

@@ -1,11 +1,11 @@
 // Runs a script on targets.
-ghost use Rattle.std.specs.Prelude.{◌≡◌, ◌≤◌, replicate, IfOk, IsOkUnless, None, OnOk};
+ghost use Rattle.std.specs.Prelude.{◌≡◌, ◌≤◌, [], replicate, IfOk, IsOkUnless, None, OnOk};
 ghost use Rattle.daos_model.specs.Opening.{fresh};
+ghost use Rattle.run_ends.specs.Comes.{FollowsOrder, IsLegal, IsLegalBySome};
 ghost use Rattle.report_writer.specs.Forms.{IsReportOf};
 ghost use Rattle.model_reports.specs.Lone.{HasOneClient};
 ghost use Rattle.model_reports.specs.Rooms.{FindsRoom, HasRoom};
 ghost use Rattle.daos_run.specs.Alone.{IsOfLoneClient};
-ghost use Rattle.daos_run.specs.Opens.{FollowsOrder, IsLegal};
 ghost use Rattle.script_runnable.specs.Runnable.{IsRunnable};
 ghost use Rattle.daos_run.specs.Slots.{HaveStores};
 ghost use Rattle.daos_run.specs.Starts.{IsNewStore};
@@ -47,11 +47,12 @@ fn set_all<B: Rack>(
 }
 
 /// Runs a script and reports what became of its commands. So far the store of each target is a list in
-/// memory: the rack gives its clock alone.
+/// memory: the rack gives its clock alone. The outside can't fail such a store, so only stop lines stop a
+/// target, and none is given up.
 ///
 /// # Errors
 ///
-/// `Memory` alone: nothing can stop a store in memory whose plan is empty and that has no fuse.
+/// `Memory` alone: nothing can stop a store in memory while it is opened.
 pub fn run_script<R: Threads + Wait + Sync, B: Rack, G: Gate + Sync>(
     rt: &R,
     alloc: Global,
@@ -67,13 +68,14 @@ pub fn run_script<R: Threads + Wait + Sync, B: Rack, G: Gate + Sync>(
     requires least { 1 ≤ job.now.attempts }
     requires most { job.now.attempts ≤ 100 }
     requires script { IsRunnable job.now.targets script.now }
-    ensures legal { IfOk result (λ report. IsLegal (fresh script.now job.now) report) }
-    ensures form { ScriptHasKeys script.now → IfOk result (λ report. IsReportOf script.now report) }
+    ensures legal { IfOk result (IsLegalBySome (fresh script.now job.now)) }
+    ensures unstopped { script.now.stops ≡ [] → IfOk result (IsLegal (fresh script.now job.now)) }
+    ensures form { ScriptHasKeys script.now → IfOk result (IsReportOf script.now) }
     ensures ordered { IfOk result (FollowsOrder (fresh script.now job.now)) }
     ensures issued { IfOk result AreIssuedThere }
     ensures none_down { IfOk result (λ report. report.down ≡ None) }
     ensures room { HasRoom script.now job.now.attempts (fresh script.now job.now).opening.free → IfOk result FindsRoom }
-    ensures lone { HasOneClient script.now → IfOk result (IsOfLoneClient (fresh script.now job.now)) }
+    ensures lone { HasOneClient script.now → script.now.stops ≡ [] → IfOk result (IsOfLoneClient (fresh script.now job.now)) }
     ensures refusals { IsOkUnless result RunStop.Memory }
     ensures rack { B.count rack.new ≡ B.count rack.old }
 {

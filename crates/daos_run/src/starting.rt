@@ -1,7 +1,7 @@
 // The targets of a run start over their stores, and hand these back.
 ghost use Rattle.std.specs.Prelude.{◌≡◌, ◌≤◌, ◌<◌, ℕ, Bool, length, slice_get, is_some, true, IfErr, IfOk, None, Some};
 ghost use Rattle.daos_run.specs.Opens.{IsEmpty};
-ghost use Rattle.daos_run.specs.Slots.{AreBack, AreSet, AreTaken, ClocksStay, EachStore, FromTo, HaveStores, TellAlike};
+ghost use Rattle.daos_run.specs.Slots.{AreBack, AreSet, AreTaken, ClocksStay, EachStore, FromTo, HasNoFuse, HaveStores, IsAt, IsDisarmed};
 ghost use Rattle.daos_run.specs.Starts.{AreStarted, StartsOver};
 ghost use Rattle.daos_run.specs.Stops.{MayStop, is_fault_of, not_started};
 ghost use Rattle.target_parts.specs.Parts.{Runs};
@@ -15,13 +15,37 @@ use base_types::job::Job;
 use base_types::script::Script;
 use std::alloc::Global;
 use target_core::target::{Target, TargetNew};
-use vos_store::store::Store;
+use vos_store::store::{Fuse, Store};
 
 /// A target didn't start, for this reason; its store and its clock.
 pub struct NotStarted<S, C> {
     pub store: S,
     pub clock: C,
     pub stop: RunStop,
+}
+
+// A store's fuse is taken away; the store and the clock are in their place again.
+fn disarm_one<S: Fuse, C: Clock>(parts: &mut Parts<S, C>, t: TargetId)
+    requires there { (x : S × C) × IsAt parts.old t x }
+    ensures disarmed { (x : S × C) → IsAt parts.old t x → IsDisarmed S.durable S.state S.may t x parts.old parts.new }
+{
+    let Some((mut store, clock)) = parts.take(t) else {
+        unreachable!()
+    };
+    store.fuse(0);
+    parts.set(t, store, clock);
+}
+
+/// The fuses of all stores are taken away.
+pub fn disarm<S: Fuse, C: Clock>(parts: &mut Parts<S, C>, targets: u8)
+    requires set { AreSet targets parts.old }
+    ensures fuses { FromTo parts.old parts.new (λ t old new. HasNoFuse S.durable S.state S.may old new) }
+    ensures clocks { ClocksStay parts.old parts.new }
+    ensures set { AreSet targets parts.new }
+{
+    for t in 0..targets {
+        disarm_one(parts, t);
+    }
 }
 
 // A target starts over an empty store, which it opens for a script.
@@ -93,7 +117,6 @@ pub fn start_all<S: Store, C: Clock>(
     requires same { script.now.targets ≡ job.now.targets }
     requires stores { HaveStores (λ t store. IsEmpty S.durable S.state job.now.targets store) job.now.targets parts.old }
     ensures started { IfOk result (λ targets. AreStarted S.durable S.state script.now job.now job.now.targets parts.old targets.items) }
-    ensures alike { IfOk result (λ targets. TellAlike S.durable parts.old) }
     ensures taken { IfOk result (λ targets. AreTaken job.now.targets parts.old parts.new) }
     ensures set { IfErr result (λ stop. AreSet job.now.targets parts.new) }
     ensures runs { IfErr result (λ stop. FromTo parts.old parts.new (λ t old new. Runs (is_fault_of t) (not_started stop) (S.state old) (S.state new) (S.durable old) (S.durable new))) }

@@ -1,11 +1,9 @@
 // Why a run gives no report.
 ghost use Rattle.std.specs.Prelude.{◌≡◌};
 ghost use Rattle.daos_run.specs.declared.stop.RunStop.TheVariants.{Memory as NoMemory};
-ghost use Rattle.daos_run.specs.Stops.{stop_of};
 
 use base_types::epoch::TargetId;
 pub use daos_status::part::Part;
-use run_order::halted::Halted;
 use std::alloc::{AllocError, AllocFailed};
 use thiserror::Error;
 
@@ -50,16 +48,5 @@ impl<T: Drop> From<AllocFailed<T>> for RunStop {
 
     fn from(_error: AllocFailed<T>) -> RunStop {
         RunStop::Memory
-    }
-}
-
-impl From<Halted> for RunStop {
-    ghost from_gives = { λ halted e. e ≡ stop_of halted };
-
-    fn from(halted: Halted) -> RunStop {
-        match halted {
-            Halted::Stopped(target) => RunStop::RackFault { target },
-            Halted::Memory => RunStop::Memory,
-        }
     }
 }

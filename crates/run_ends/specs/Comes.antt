@@ -34,6 +34,10 @@ report_with s lines = record { targets = s.targets; lines = lines; down = least 
 abbrev pub IsLegal : Given → Report → Type 0
 IsLegal g q = (resolved : AttemptId → Bool) → Headline g undisturbed resolved q
 
+-- or it is so for those attempts that some stores, found in the end, have resolved
+abbrev pub IsLegalBySome : Given → Report → Type 0
+IsLegalBySome g q = (lasts : List Durable) × HeadlineOver g undisturbed lasts q
+
 -- ---- the outside
 
 -- An outside that may have failed each target's store, xs at first and ys in the end, as often as its count rose. Of a store it may say nothing; where it says how often it failed
