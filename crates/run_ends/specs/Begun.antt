@@ -11,10 +11,11 @@ use Rattle.model_laws.specs.Lists.{length-replicate}
 use Rattle.model_laws.specs.Members.{has-from_contains}
 use Rattle.run_base.specs.Letters.{BetweenNow}
 use Rattle.run_base.specs.Sweeps.{lives_of}
-use Rattle.run_shows.specs.CanGo.{CanGo, CanWork}
+use Rattle.run_shows.specs.CanGo.{CanGo}
 use Rattle.run_shows.specs.Going.{AreAlike}
+use Rattle.run_shows.specs.ListLaws.{map-get}
 use Rattle.run_shows.specs.Shows.{IsCounted, IsGoing, IsTargetOf, Shows, state_of}
-use Rattle.run_shows.specs.Stages.{IsPlace, StageNow}
+use Rattle.run_shows.specs.Stages.{StageNow}
 use Rattle.run_watch.specs.Watches.{WatchNow, first_watch}
 use Rattle.target_core.specs.Targets.{TargetOf}
 use Rattle.vos_store.specs.Calls.{State}
@@ -28,7 +29,7 @@ use Rattle.world_ends.specs.Ends.{rules_of}
 use Rattle.world_posts.specs.Forms.{ClientsWait}
 use Rattle.world_whole.specs.Begins.{AreEnlisted, IsBegun, StartsWith, no_leading}
 use Rattle.run_ends.specs.Places.{from-map, maps-replicate, one-there, replicate-at}
-use Rattle.run_ends.specs.Starts.{AllTell, HasStarted, HaveStarted, KeepsAtFirst, target_state}
+use Rattle.run_ends.specs.Starts.{AllTell, HaveStarted, KeepsAtFirst, stores_of, target_state}
 
 -- ---- what stores tell
 
@@ -40,6 +41,9 @@ or_empty (Some d) = d
 pub told-is : (o : Option Durable) → is_some o ≡ true → o ≡ Some (or_empty o)
 told-is None h = absurd (true≢false (sym h))
 told-is (Some d) h = refl
+
+pub told-there : {S C : Type 0} (durable : S → Option Durable) (xs : List (TargetOf S C)) → AllTell durable (stores_of xs) → (t : ℕ) (x : TargetOf S C) → slice_get xs t ≡ Some x → is_some (durable x.store) ≡ true
+told-there durable xs told t x at = told t x.store (map-get (λ y. y.store) xs t x at)
 
 -- ---- before any turn
 
@@ -73,9 +77,9 @@ module _ {S C : Type 0} (durable : S → Option Durable) (state : S → State) w
 
     -- ---- where stores tell what they keep
 
-    module _ (told : AllTell durable xs) where
+    module _ (told : AllTell durable (stores_of xs)) where
       its : (t : ℕ) (x : TargetOf S C) → slice_get xs t ≡ Some x → durable x.store ≡ Some (or_empty (durable x.store))
-      its t x at = told-is (durable x.store) (told t x at)
+      its t x at = told-is (durable x.store) (told-there durable xs told t x at)
 
       keeps : (t : ℕ) (x : TargetOf S C) → slice_get xs t ≡ Some x → KeepsAtFirst durable state g t x (or_empty (durable x.store))
       keeps t x at = (k.each t x at).kept (or_empty (durable x.store)) (its t x at)
@@ -122,7 +126,7 @@ module _ {S C : Type 0} (durable : S → Option Durable) (state : S → State) w
     -- ---- whether or not they do
 
     module _ (may : S → Durable → Type 0) (watch : WatchNow) (first : IsFirstWatch g.script.targets watch) where
-      going : AllTell durable xs → IsGoing durable state may (first_stage cs xs watch)
+      going : AllTell durable (stores_of xs) → IsGoing durable state may (first_stage cs xs watch)
       going told = record {
         rules = rules_of g;
         opening = g.opening;
@@ -152,5 +156,5 @@ module _ {S C : Type 0} (durable : S → Option Durable) (state : S → State) w
         work = λ t x place. record { opened = (k.each t x place.there).opened; running = (k.each t x place.there).running; waiting = subst ClientsWait (sym (k.each t x place.there).leader) none-waits };
         messages = λ l i. absurd (has-from_contains [] l i);
         asked = λ l i. absurd (has-from_contains [] l i);
-        told = λ t x d at is. going (λ u y to. alike x.store y.store (ap is_some is));
+        told = λ t x d at is. going (λ u s to. alike x.store s (ap is_some is));
       }
