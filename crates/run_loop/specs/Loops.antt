@@ -8,7 +8,7 @@ use Rattle.base_random.specs.Draws.{drawn}
 use Rattle.daos_model.specs.declared.durable.Durable.{Durable}
 use Rattle.run_base.specs.Orders.{after_pick, pick}
 use Rattle.run_base.specs.Picks.{actors, is_due, numbered}
-use Rattle.run_steps.specs.Going.{GoesOn, draws-are-run, goes-as, goes-then, rounds-are-run, turns-are-run}
+use Rattle.run_steps.specs.Going.{GoesOn, IsRun, draws-are-run, goes-as, goes-then, rounds-are-run, turns-are-run}
 use Rattle.run_shows.specs.Due.{AllAreDue, first_targets, is_due_client}
 use Rattle.run_shows.specs.Shown.{client-due-shown, due-shown, many-clients}
 use Rattle.run_shows.specs.Shows.{Shows}
@@ -68,6 +68,14 @@ some-in (x ∷ xs) len some is none = cc
 
 pub not-none : (many len : ℕ) → false ≡ (len == 0) → many ≡ len → many ≡ 0 → ⊥
 not-none many len some is none = grind (arith, nat_tests)
+
+-- ---- turns
+
+-- some turns and then others, if those come to their end
+pub goes-then-ok : {S C : Type 0} (durable : S → Option Durable) (state : S → State) (may : S → Durable → Type 0) (is_read : C → C → Type 0) {T E : Type 0} (one other both : Rules → World → World → Type 0) (a b c : StageNow S C) (result : Result T E) → IsRun one
+    → ((r : Rules) (found : ℕ → Durable) (w u v : World) → Shows durable state r found b u → one r w u → other r u v → both r w v) → GoesOn durable state may is_read one a b → OnOk result (GoesOn durable state may is_read other b c) → OnOk result (GoesOn durable state may is_read both a c)
+goes-then-ok durable state may is_read one other both a b c (Ok x) runs join k l = goes-then durable state may is_read one other both a b c runs join k l
+goes-then-ok durable state may is_read one other both a b c (Err e) runs join k l = tt
 
 module _ {S C : Type 0} (durable : S → Option Durable) (state : S → State) (may : S → Durable → Type 0) (is_read : C → C → Type 0) (settling : Bool) (a0 a : StageNow S C) where
   -- an actor has something to do in each world that is shown, or in none
