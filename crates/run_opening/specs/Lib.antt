@@ -1,7 +1,6 @@
 -- The opening of a run over stores that are sound together.
 pub mod Opened
 pub mod Steps
-pub mod All
 pub mod Laws
 pub mod StandLaws
 pub mod SoundLaws
