@@ -48,11 +48,11 @@ module _ {S C : Type 0} (durable : S → Option Durable) (state : S → State) (
   }
   opened-so (Err e) did a m b w armed runs came = tt
 
-module _ {S C : Type 0} (durable : S → Option Durable) (state : S → State) (may : S → Durable → Type 0) (is_read : C → C → Type 0) (t number : ℕ) (x y : TargetOf S C) (said : Result Did TargetStop) (w : WatchNow) (a b : StageNow S C)
+module _ {S C : Type 0} (durable : S → Option Durable) (state : S → State) (may : S → Durable → Type 0) (t number : ℕ) (x y : TargetOf S C) (said : Result Did TargetStop) (w : WatchNow) (a b : StageNow S C)
     (place : IsPlace a t x Stopped) (tried : w ≡ opening_tried a.watch) (few : w.openings < 2 ^ 32) (numbered : number ≡ w.restarts) (plan : y.plan ≡ x.plan) (clock : y.clock ≡ x.clock) (opens : Reopens said (state x.store) (state y.store) (durable x.store) (durable y.store))
     (turn : ForSome (durable x.store) (λ d. IfOk said (OpensAs x.plan number (may x.store) (durable y.store) (state y.store) y.memory))) (left : Left (may x.store) (may y.store)) (bare : IfErr said IsBare) (native : IsSome (durable x.store) → says stop_foreign said ≡ false)
     (posts : IfOk said (λ did. Follows x.plan.targets y.memory.leader did.posts)) (line : IfOk said (TellsRestart number x.plan.me)) (opened : y.opened ≡ is_ok said) where
-  reopened : OpeningEnds durable state may is_read t x y (record a { targets = slice_set a.targets t y; watch = opening_tried a.watch }) b said → TargetReopened durable state may is_read t a b
+  reopened : OpeningEnds durable state may t x y (record a { targets = slice_set a.targets t y; watch = opening_tried a.watch }) b said → TargetReopened durable state may t a b
   reopened ends =
       let next = numbered ∙ ap (λ v. v.restarts) tried in
       record {
@@ -75,13 +75,13 @@ module _ {S C : Type 0} (durable : S → Option Durable) (state : S → State) (
       }
 
   -- a target that was stopped opened again
-  pub reopened-whole : {E : Type 0} (result : Result (Unit {0}) E) (did : Did) → said ≡ Ok did → OnOk result (AfterOpening durable state may t y did (record a { targets = slice_set a.targets t y; watch = w }) b) → OnOk result (TargetReopened durable state may is_read t a b)
+  pub reopened-whole : {E : Type 0} (result : Result (Unit {0}) E) (did : Did) → said ≡ Ok did → OnOk result (AfterOpening durable state may t y did (record a { targets = slice_set a.targets t y; watch = w }) b) → OnOk result (TargetReopened durable state may t a b)
   reopened-whole (Ok u) did is came = reopened (Opened did is (subst (λ v. AfterOpening durable state may t y did (record a { targets = slice_set a.targets t y; watch = v }) b) tried came))
   reopened-whole (Err e) did is came = tt
 
   -- or it didn't open
   pub reopened-not : {E : Type 0} (result : Result (Unit {0}) E) (stop : TargetStop) (before : ℕ) → said ≡ Err stop → before ≡ (state x.store).faults
-      → OnOk result (AfterFailure t before (state y.store).faults stop (record a { targets = slice_set a.targets t y; watch = w }) b) → OnOk result (TargetReopened durable state may is_read t a b)
+      → OnOk result (AfterFailure t before (state y.store).faults stop (record a { targets = slice_set a.targets t y; watch = w }) b) → OnOk result (TargetReopened durable state may t a b)
   reopened-not (Ok u) stop before is counted came =
       reopened (NotOpened stop is (subst (λ v. AfterFailure t (state x.store).faults (state y.store).faults stop (record a { targets = slice_set a.targets t y; watch = v }) b) tried
       (subst (λ n. AfterFailure t n (state y.store).faults stop (record a { targets = slice_set a.targets t y; watch = w }) b) counted came)))

@@ -66,7 +66,7 @@ impl<S: Fuse, C: Clock> Stage<S, C> {
         requires few { length self.old.targets.items ≤ 256 }
         requires stopped { slice_get self.old.watch.lives t ≡ Some Life.Stopped }
         requires able { (x : TargetOf S C) → slice_get self.old.targets.items t ≡ Some x → CanTurn S.durable S.state S.may (stage_now self.old) t 0 x }
-        ensures reopened { OnOk result (TargetReopened S.durable S.state S.may C.is_read t (stage_now self.old) (stage_now self.new)) }
+        ensures reopened { OnOk result (TargetReopened S.durable S.state S.may t (stage_now self.old) (stage_now self.new)) }
         ensures served { AreServed S.durable S.state C.is_read self.old.targets.items self.new.targets.items }
     {
         self.watch.try_opening()?;
