@@ -93,10 +93,10 @@ at-opened F O s v = by (counts F v) (nat_lt v.epoch.0 s.epoch.0) ((version_path 
 
 -- ---- snapshots
 
-keeps-same : (s : Script) (x y : Snap) → x.cont.0 ≡ y.cont.0 → x.epoch.0 ≡ y.epoch.0 → keeps s x ≡ keeps s y
+pub keeps-same : (s : Script) (x y : Snap) → x.cont.0 ≡ y.cont.0 → x.epoch.0 ≡ y.epoch.0 → keeps s x ≡ keeps s y
 keeps-same s x y cont epoch = ap (λ n. is_kept s (record { cont = record { 0 = n }; epoch = x.epoch; map = [] })) cont ∙ ap (λ n. is_kept s (record { cont = y.cont; epoch = record { 0 = n }; map = [] })) epoch
 
-is-itself : (x : Snap) → is_snap_at x.cont x.epoch x ≡ true
+pub is-itself : (x : Snap) → is_snap_at x.cont x.epoch x ≡ true
 is-itself x = both (x.cont.0 == x.cont.0) (x.epoch.0 == x.epoch.0) (same_number x.cont.0) (same_number x.epoch.0)
 
 -- a created snapshot of target 0 lasts exactly where the script keeps it

@@ -4,6 +4,7 @@
 mod attempts;
 mod resolving;
 mod snaps;
+pub mod stop;
 
 ghost use Rattle.run_opening.specs.Laws.{EnlistingKeepsForm, EnlistingKeepsOpenings, EnlistingKeepsSound, OpenedKnowContainers, OpeningsKeepForm, OpeningsKeepLeases, OpeningsKeepSound, OpeningsKeepWhatStands, OpeningsSettleAll, RunsBeginOpened, UnusedAreSound, UnusedOpenAsTheyAre, UnusedStandForNothing};
 
