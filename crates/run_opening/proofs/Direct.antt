@@ -78,11 +78,11 @@ versions-cons r (e ∷ es) us vs = ap (versions_ended r es) (by e.committed (r e
 
     filtered : (t : Version → Bool) (us : List Version) → filter t (us ++ vs) ≡ filter t us ++ filter t vs
     filtered t [] = refl
-    filtered t (u ∷ us) = one (t u)
+    filtered t (u ∷ us) = one (t u) (filtered t us)
       where
-        one : (b : Bool) → (if b then u ∷ filter t (us ++ vs) else filter t (us ++ vs)) ≡ (if b then u ∷ filter t us else filter t us) ++ filter t vs
-        one true = ap (λ ys. u ∷ ys) (filtered t us)
-        one false = filtered t us
+        one : (b : Bool) → filter t (us ++ vs) ≡ filter t us ++ filter t vs → (if b then u ∷ filter t (us ++ vs) else filter t (us ++ vs)) ≡ (if b then u ∷ filter t us else filter t us) ++ filter t vs
+        one true rest = ap (λ ys. u ∷ ys) rest
+        one false rest = rest
 
     by : (b c : Bool) → (if b then us ++ vs else if c then map (done_by e.attempt) (us ++ vs) else filter (is_not_pending e.attempt) (us ++ vs))
         ≡ (if b then us else if c then map (done_by e.attempt) us else filter (is_not_pending e.attempt) us) ++ (if b then vs else if c then map (done_by e.attempt) vs else filter (is_not_pending e.attempt) vs)
@@ -241,7 +241,7 @@ all-settled r [] zs all z i = by (all z i)
   where
     by : ToSettle [] z → z.committed ≡ true
     by (inl c) = c
-    by (inr (x, j, rest)) = absurd j
+    by (inr x) = absurd x.1
 all-settled r (e ∷ es) zs all z i = all-settled r es (entries_at r e zs) (step-left r e es zs all) z i
 
 -- once all its attempts are settled, all entries of a target are committed

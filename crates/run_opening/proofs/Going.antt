@@ -13,6 +13,10 @@ on-ok : {T E : Type 0} {P Q : Type 0} (result : Result T E) → (P → Q) → On
 on-ok (Ok x) f p = f p
 on-ok (Err e) f p = tt
 
+pub on-any : {T E : Type 0} {P : Type 0} (result : Result T E) → P → OnOk result P
+on-any (Ok x) p = p
+on-any (Err e) p = tt
+
 map-twice : (f g : Durable → Durable) (o : Option Durable) → option_map f (option_map g o) ≡ option_map (λ d. f (g d)) o
 map-twice f g None = refl
 map-twice f g (Some d) = refl

@@ -80,9 +80,9 @@ module _ (s : Script) (F : List Durable) (some : 0 < length F) (forms : AreInFor
         covered = λ v i. within-lease v.epoch.0 d.lease (has-all (λ u. u.epoch.0 ≤ restart_floor d.lease) d.versions v sound.covered.versions (has-from_contains d.versions v i));
         floors = λ cont. (
           floors-rise (row_of d cont).floor.0 d.lease (greatest_lease (opened_family s F))
-          (row-holds (λ r. r.floor.0 ≤ restart_floor d.lease) d cont (λ r i. has-all (λ z. z.floor.0 ≤ restart_floor d.lease) d.conts r sound.covered.floors i) (omega arith)) low,
+              (row-holds (λ r. r.floor.0 ≤ restart_floor d.lease) d cont (λ r i. has-all (λ z. z.floor.0 ≤ restart_floor d.lease) d.conts r sound.covered.floors i) (omega arith)) low,
           floors-rise (row_of d cont).aggregated.0 d.lease (greatest_lease (opened_family s F))
-          (row-holds (λ r. r.aggregated.0 ≤ restart_floor d.lease) d cont (λ r i. has-all (λ z. z.aggregated.0 ≤ restart_floor d.lease) d.conts r sound.covered.aggregated i) (omega arith)) low,
+              (row-holds (λ r. r.aggregated.0 ≤ restart_floor d.lease) d cont (λ r i. has-all (λ z. z.aggregated.0 ≤ restart_floor d.lease) d.conts r sound.covered.aggregated i) (omega arith)) low,
         );
       }
 

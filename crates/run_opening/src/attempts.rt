@@ -15,11 +15,7 @@ use vos_store::refusal::Stopped;
 use vos_store::store::Store;
 
 // The attempt of an entry is settled, if it is prepared.
-fn settle_entry<S: Store>(
-    store: &mut S,
-    all: &[Entries],
-    entry: &Entry,
-) -> Result<(), Stopped>
+fn settle_entry<S: Store>(store: &mut S, all: &[Entries], entry: &Entry) -> Result<(), Stopped>
     requires few { length all.now ≤ 64 }
     requires running { (S.state store.old).stopped ≡ false }
     requires here { ForSome (S.durable store.old) (λ d. entry_of d entry.now.attempt ≡ Some entry.now) }

@@ -1,7 +1,8 @@
 // The parts of the opening of one target, by its number.
-ghost use Rattle.std.specs.Prelude.{◌≡◌, ◌≤◌, ◌<◌, length, slice_get, Some, IfOk};
+ghost use Rattle.std.specs.Prelude.{◌≡◌, ◌≤◌, ◌<◌, List, length, slice_get, Some, IfOk};
+ghost use Rattle.base_types.specs.declared.entry.Entry.{Entry};
 ghost use Rattle.daos_model.specs.declared.durable.Durable.{Durable};
-ghost use Rattle.run_opening.specs.All.{AllRun, AreEntries, EachCommitted, GoesAt, IsOwn};
+ghost use Rattle.run_opening.specs.All.{AllRun, GoesAt, IsCommitted, IsOwn};
 ghost use Rattle.run_opening.specs.Steps.{dropped, ended, forgotten, left_with, resolved_by, same};
 
 use crate::attempts::{entries_at, forget_all, settle_all};
@@ -36,15 +37,12 @@ pub fn read_at<S: Store>(stores: &mut [S], t: usize) -> Result<Entries, OpeningS
 /// # Errors
 ///
 /// Where its store stopped.
-pub fn settle_at<S: Store>(
-    stores: &mut [S],
-    all: &[Entries],
-    t: usize,
-) -> Result<(), OpeningStop>
+pub fn settle_at<S: Store>(stores: &mut [S], all: &[Entries], t: usize) -> Result<(), OpeningStop>
     requires few { length stores.old ≤ 64 }
     requires within { t < length stores.old }
     requires running { AllRun S.state stores.old }
-    requires entries { AreEntries S.durable stores.old all.now }
+    requires many { length all.now ≡ length stores.old }
+    requires entries { (es : List Entry) → slice_get all.now t ≡ Some es → IsOwn S.durable stores.old t es }
     ensures { GoesAt S.durable S.state t (ended (resolved_by all.now)) result stores.old stores.new }
 {
     match settle_all(&mut stores[t], all, all[t].as_slice()) {
@@ -62,7 +60,7 @@ pub fn forget_at<S: Store>(stores: &mut [S], t: usize) -> Result<(), OpeningStop
     requires few { length stores.old ≤ 64 }
     requires within { t < length stores.old }
     requires running { AllRun S.state stores.old }
-    requires committed { EachCommitted S.durable stores.old }
+    requires committed { IsCommitted S.durable stores.old t }
     ensures { GoesAt S.durable S.state t forgotten result stores.old stores.new }
 {
     match forget_all(&mut stores[t]) {

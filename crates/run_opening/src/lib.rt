@@ -2,6 +2,8 @@
 #![tactic(auto)]
 
 mod attempts;
+mod each;
+pub mod opening;
 mod resolving;
 mod snaps;
 pub mod stop;

@@ -66,8 +66,7 @@ fn dropped_of(alloc: Global, script: &Script, snaps: &[Snap]) -> Result<Vec<Snap
 fn is_one_of(some: &[Snap], snap: &Snap) -> bool
     ensures { result ≡ is_at_one_of some.now snap.now }
 {
-    some.iter()
-        .any(|other| other.cont.0 == snap.cont.0 && other.epoch.0 == snap.epoch.0)
+    some.iter().any(|other| other.cont.0 == snap.cont.0 && other.epoch.0 == snap.epoch.0)
 }
 
 // Whether a snapshot is none of some.
