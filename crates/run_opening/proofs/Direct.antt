@@ -1,26 +1,20 @@
 -- What the steps of an opening make of what one target keeps, all together.
-use Rattle.std.specs.Prelude.{ℕ, ◌≡◌, ◌⊎◌, ◌==◌, ◌&&◌, ◌||◌, not, Bool, true, false, List, [], ◌∷◌, ◌++◌, filter, map, Option, Some, None, if◌then◌else◌}
-use Rattle.std.specs.List.{list_any}
+use Rattle.std.specs.Prelude.{◌≡◌, ◌⊎◌, ◌&&◌, ◌||◌, not, Bool, true, false, List, [], ◌∷◌, ◌++◌, filter, map, if◌then◌else◌}
 use Rattle.std.proofs.Common.{refl, sym, ◌∙◌, ap, subst, inl, inr}
 use Rattle.base_types.specs.declared.entry.Entry.{Entry}
-use Rattle.base_types.specs.declared.entry.Settle.TheVariants.{Abort, Commit, Forget}
+use Rattle.base_types.specs.declared.entry.Settle.TheVariants.{Forget}
 use Rattle.base_types.specs.declared.id.AttemptId.{AttemptId}
-use Rattle.base_types.specs.declared.snapshot.Snap.{Snap}
-use Rattle.model_laws.specs.EntryLaws.{found-has, found-passes}
-use Rattle.model_laws.specs.MatchLaws.{filter_on}
-use Rattle.model_laws.specs.Members.{Has, any-has, has-any, has-filter, has-from_filter, has-from_map}
+use Rattle.model_laws.specs.Members.{Has, has-from_filter, has-from_map}
 use Rattle.daos_model.specs.declared.durable.Durable.{Durable}
 use Rattle.daos_model.specs.declared.durable.Version.{Version}
-use Rattle.daos_model.specs.BoolLaws.{clash, false_of, not_true}
-use Rattle.daos_model.specs.Changes.{committed_at, is_other, is_other_snap, settled, thawed}
-use Rattle.daos_model.specs.Durables.{entry_of, is_entry_of, is_snap_at, same_attempt, snap_key}
+use Rattle.daos_model.specs.BoolLaws.{clash, not_true}
+use Rattle.daos_model.specs.Changes.{committed_at, is_other, settled}
+use Rattle.daos_model.specs.Durables.{same_attempt}
 use Rattle.daos_model.specs.EntryLaws.{same_attempt-itself}
-use Rattle.daos_model.specs.Ordered.{all_after, is_rising}
 use Rattle.daos_model.specs.Versions.{done_by, is_not_pending, is_pending}
 use Rattle.dtx_base.specs.LeaderLaws.{same-is}
 use Rattle.run_opening.specs.Opened.{as_done}
-use Rattle.run_opening.specs.Steps.{AllCommitted, all_ended, all_forgotten, all_thawed, ended, ended_at, ending, forgotten}
-use Rattle.run_opening.specs.StandLaws.{is-itself}
+use Rattle.run_opening.specs.Steps.{AllCommitted, all_ended, all_forgotten, ended, ended_at, ending, forgotten}
 
 -- ---- which parts change
 

@@ -1,11 +1,10 @@
 -- Calls of one store, one after another.
-use Rattle.std.specs.Prelude.{ℕ, ◌≡◌, ◌≤◌, ◌+◌, Bool, true, false, Option, Some, None, Result, Ok, Err, OnOk}
-use Rattle.std.specs.Option.{ForSome, option_map}
-use Rattle.std.proofs.Common.{refl, sym, ◌∙◌, ap, arith}
+use Rattle.std.specs.Prelude.{◌≡◌, Bool, false, Option, Some, None, Result, Ok, Err, OnOk}
+use Rattle.std.specs.Option.{option_map}
+use Rattle.std.proofs.Common.{refl, ◌∙◌, ap, arith}
 use Rattle.daos_model.specs.declared.durable.Durable.{Durable}
 use Rattle.vos_store.specs.Calls.{Looks, Makes, State, Turns}
 use Rattle.vos_store.specs.Refusals.{says}
-use Rattle.target_parts.specs.Parts.{Runs}
 use Rattle.target_parts.specs.Running.{runs_as, runs_call, runs_first, runs_on, still_runs}
 use Rattle.run_opening.specs.Steps.{Goes, same}
 

@@ -1,9 +1,8 @@
 -- The steps of an opening make of sound targets what it says.
-use Rattle.std.specs.Prelude.{ℕ, zero, suc, ◌≡◌, ◌⊎◌, ◌<◌, ◌==◌, ◌&&◌, ◌||◌, not, Bool, true, false, All, List, [], ◌∷◌, filter, length, map, slice_get, Option, Some, None, if◌then◌else◌}
+use Rattle.std.specs.Prelude.{ℕ, ◌≡◌, ◌⊎◌, ◌&&◌, ◌||◌, not, Bool, true, false, All, List, [], ◌∷◌, filter}
 use Rattle.std.specs.List.{list_any}
-use Rattle.std.proofs.Common.{refl, sym, ◌∙◌, ap, subst, inl, inr}
+use Rattle.std.proofs.Common.{refl, sym, ◌∙◌, ap, inl, inr}
 use Rattle.base_types.specs.declared.entry.Entry.{Entry}
-use Rattle.base_types.specs.declared.id.AttemptId.{AttemptId}
 use Rattle.base_types.specs.declared.script.Script.{Script}
 use Rattle.base_types.specs.declared.snapshot.Snap.{Snap}
 use Rattle.model_laws.specs.DecidedLaws.{has-all}
@@ -12,21 +11,19 @@ use Rattle.model_laws.specs.MatchLaws.{filter_on}
 use Rattle.model_laws.specs.Members.{Has, any-has, has-any, has-filter, has-from_filter}
 use Rattle.model_laws.specs.RisingLaws.{after-has}
 use Rattle.daos_model.specs.declared.durable.Durable.{Durable}
-use Rattle.daos_model.specs.declared.durable.Version.{Version}
 use Rattle.daos_model.specs.Answers.{is_before}
-use Rattle.daos_model.specs.BoolLaws.{and_left, and_right, clash, false_of, not_false}
+use Rattle.daos_model.specs.BoolLaws.{and_left, and_right, false_of}
 use Rattle.daos_model.specs.Changes.{is_other_snap, thawed}
 use Rattle.daos_model.specs.Durables.{entry_of, is_entry_of, is_snap_at, snap_key}
-use Rattle.daos_model.specs.Family.{counts, created_snaps, is_created, resolved}
+use Rattle.daos_model.specs.Family.{created_snaps, is_created, resolved}
 use Rattle.daos_model.specs.OrderLaws.{before-itself, rising-filter}
 use Rattle.daos_model.specs.Ordered.{all_after, is_rising}
 use Rattle.daos_model.specs.Sound.{IsOfEntry}
 use Rattle.dtx_base.specs.LeaderLaws.{same-is}
-use Rattle.run_opening.specs.Alike.{resolved-alike}
-use Rattle.run_opening.specs.Opened.{as_done, is_at_one_of, keeps, lasting_snaps, opened, settled_versions}
+use Rattle.run_opening.specs.Opened.{is_at_one_of, keeps, lasting_snaps, settled_versions}
 use Rattle.run_opening.specs.StandLaws.{filter-twice, is-itself, keeps-same}
-use Rattle.run_opening.specs.Steps.{all_ended, all_forgotten, all_thawed, bare, dropped, ended, forgotten, is_dropped, is_other_than, left_with, resolved_by}
-use Rattle.run_opening.proofs.Direct.{HaveEntries, forgotten-all, parts-ended, versions-left}
+use Rattle.run_opening.specs.Steps.{all_thawed, dropped, ended, is_dropped, is_other_than, left_with}
+use Rattle.run_opening.proofs.Direct.{HaveEntries, parts-ended, versions-left}
 use Rattle.run_opening.proofs.Thawing.{same-key}
 
 -- ---- snapshots

@@ -1,15 +1,13 @@
 -- Snapshots of one target are thawed, one after another.
-use Rattle.std.specs.Prelude.{ℕ, ◌≡◌, ◌≤◌, ◌<◌, ◌+◌, ◌==◌, ◌&&◌, ◌||◌, not, Bool, true, false, List, [], ◌∷◌, ◌++◌, filter, length, take, slice_get, slice_index_or, Some, if◌then◌else◌}
-use Rattle.std.specs.List.{list_any}
-use Rattle.std.proofs.Common.{refl, sym, ◌∙◌, ap, subst, inl, inr, arith}
+use Rattle.std.specs.Prelude.{ℕ, ◌≡◌, ◌≤◌, ◌<◌, ◌+◌, ◌==◌, not, Bool, true, false, List, [], ◌∷◌, ◌++◌, filter, length, take, slice_index_or}
+use Rattle.std.proofs.Common.{refl, sym, ◌∙◌, ap, subst, inl, inr}
 use Rattle.std.proofs.lemmas.List.{take_all, take_more}
 use Rattle.base_types.specs.declared.snapshot.Snap.{Snap}
 use Rattle.model_laws.specs.Lists.{has-at}
-use Rattle.model_laws.specs.MatchLaws.{filter_on}
 use Rattle.model_laws.specs.Members.{Has, any-has, has-any, has-filter, has-from_filter}
 use Rattle.model_laws.specs.TargetLaws.{number_same}
 use Rattle.daos_model.specs.declared.durable.Durable.{Durable}
-use Rattle.daos_model.specs.BoolLaws.{and_left, and_right, clash, false_of}
+use Rattle.daos_model.specs.BoolLaws.{and_left, and_right, false_of}
 use Rattle.daos_model.specs.Changes.{is_other_snap, thawed}
 use Rattle.daos_model.specs.Durables.{is_frozen, is_snap_at, snap_key}
 use Rattle.daos_model.specs.OrderLaws.{rising-filter}

@@ -1,5 +1,5 @@
 -- Calls of all stores, one after another.
-use Rattle.std.specs.Prelude.{ℕ, zero, suc, ◌≡◌, ◌≤◌, ◌<◌, ◌+◌, ◌==◌, Bool, true, false, nat_lt, List, [], ◌∷◌, ◌++◌, length, slice_get, slice_index_or, slice_set, Option, Some, None, Result, Ok, Err, IfErr, OnOk, if◌then◌else◌}
+use Rattle.std.specs.Prelude.{ℕ, zero, suc, ◌≡◌, ◌≤◌, ◌<◌, ◌+◌, ◌==◌, Bool, true, false, nat_lt, List, [], ◌∷◌, ◌++◌, length, slice_get, slice_index_or, slice_set, Option, Some, Result, Ok, Err, IfErr, if◌then◌else◌}
 use Rattle.std.specs.Option.{option_map}
 use Rattle.std.proofs.Common.{refl, sym, ◌∙◌, ap, subst, inl, inr, arith}
 use Rattle.std.proofs.lemmas.Bool.{cases_eq}
@@ -9,7 +9,7 @@ use Rattle.std.proofs.lemmas.Option.{slice_get_within}
 use Rattle.base_types.specs.declared.entry.Entry.{Entry}
 use Rattle.base_types.specs.declared.id.AttemptId.{AttemptId}
 use Rattle.daos_model.specs.declared.durable.Durable.{Durable}
-use Rattle.daos_model.specs.BoolLaws.{clash, false_of}
+use Rattle.daos_model.specs.BoolLaws.{false_of}
 use Rattle.model_laws.specs.TargetLaws.{number_same, same_number}
 use Rattle.target_parts.specs.declared.halt.Halt.{Halt}
 use Rattle.target_parts.specs.declared.halt.Halt.TheVariants as halt
@@ -20,7 +20,7 @@ use Rattle.vos_store.specs.declared.refusal.Stopped.{Stopped}
 use Rattle.world_base.specs.StepLaws.{set-here, set-there}
 use Rattle.run_opening.specs.declared.stop.OpeningStop.{OpeningStop}
 use Rattle.run_opening.specs.declared.stop.OpeningStop.TheVariants as stop
-use Rattle.run_opening.specs.All.{AllRun, AreCreated, AreEntries, AreKept, EachCommitted, FromTo, GoesAll, GoesAt, IsCommitted, IsOwn, RunAll, alike, is_fault_of, only, stop_at, wanting}
+use Rattle.run_opening.specs.All.{AllRun, AreEntries, EachCommitted, GoesAll, GoesAt, IsCommitted, IsOwn, RunAll, alike, is_fault_of, only, stop_at, wanting}
 use Rattle.run_opening.specs.Steps.{AllCommitted, Goes, ended, same}
 use Rattle.run_opening.proofs.Direct.{ended-committed}
 use Rattle.run_opening.proofs.Ending.{at-read}

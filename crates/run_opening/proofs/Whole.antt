@@ -1,10 +1,9 @@
 -- What all steps of an opening make of targets that are sound together.
-use Rattle.std.specs.Prelude.{ℕ, zero, suc, ◌≡◌, ◌<◌, Bool, true, false, All, List, [], ◌∷◌, filter, length, map, slice_get, slice_index_or, Option, Some, Result, Ok, Err, OnOk}
+use Rattle.std.specs.Prelude.{ℕ, zero, suc, ◌≡◌, ◌<◌, true, false, All, List, [], ◌∷◌, filter, length, map, slice_get, slice_index_or, Option, Some, Result, Ok, Err, OnOk}
 use Rattle.std.specs.Option.{option_map}
 use Rattle.std.proofs.Common.{refl, sym, ◌∙◌, ap, subst, arith}
 use Rattle.std.proofs.lemmas.Option.{slice_get_within}
 use Rattle.base_types.specs.declared.entry.Entry.{Entry}
-use Rattle.base_types.specs.declared.id.AttemptId.{AttemptId}
 use Rattle.base_types.specs.declared.script.Script.{Script}
 use Rattle.base_types.specs.declared.snapshot.Snap.{Snap}
 use Rattle.model_laws.specs.Lists.{at-within}
@@ -18,7 +17,7 @@ use Rattle.vos_store.specs.Calls.{State}
 use Rattle.run_opening.specs.declared.stop.OpeningStop.{OpeningStop}
 use Rattle.run_opening.specs.Alike.{resolved-alike}
 use Rattle.run_opening.specs.All.{AllRun, AreCreated, AreEntries, AreKept, DropsAll, EndsAll, GoesAll, GoesAt, RunAll, alike, only, wanting}
-use Rattle.run_opening.specs.Opened.{AreInForm, is_at_one_of, lasting_snaps, opened, opened_family, settled_versions}
+use Rattle.run_opening.specs.Opened.{lasting_snaps, opened, opened_family, settled_versions}
 use Rattle.run_opening.specs.SoundLaws.{at-mapped}
 use Rattle.run_opening.specs.Steps.{bare, dropped, ended, forgotten, left_with, resolved_by, same}
 use Rattle.run_opening.proofs.Direct.{forgotten-all, parts-ended}

@@ -1,5 +1,5 @@
 -- The steps of an opening at one target, and what its calls say of its store.
-use Rattle.std.specs.Prelude.{ℕ, ◌≡◌, ◌≤◌, ◌&&◌, Bool, true, false, not, List, [], ◌∷◌, filter, map, Option, Result, OnOk, if◌then◌else◌}
+use Rattle.std.specs.Prelude.{◌≡◌, ◌≤◌, ◌&&◌, Bool, true, false, not, List, [], ◌∷◌, filter, map, Option, Result, OnOk, if◌then◌else◌}
 use Rattle.std.specs.Option.{option_map}
 use Rattle.base_types.specs.declared.entry.Entry.{Entry}
 use Rattle.base_types.specs.declared.entry.Settle.{Settle}
@@ -10,7 +10,7 @@ use Rattle.base_types.specs.declared.snapshot.Snap.{Snap}
 use Rattle.daos_model.specs.declared.durable.Durable.{Durable}
 use Rattle.daos_model.specs.Changes.{settled, thawed}
 use Rattle.daos_model.specs.Durables.{is_frozen, snap_key}
-use Rattle.daos_model.specs.Family.{is_created, resolved}
+use Rattle.daos_model.specs.Family.{resolved}
 use Rattle.daos_model.specs.Ordered.{is_rising}
 use Rattle.model_laws.specs.Members.{Has}
 use Rattle.vos_store.specs.Calls.{State}

@@ -1,4 +1,4 @@
-use Rattle.std.proofs.Common.{◌≡◌, Some, slice_get, subst}
+use Rattle.std.proofs.Common.{◌≡◌, Some, subst}
 use Rattle.target_parts.specs.Halts.{halt_stop}
 use Rattle.run_opening.specs.Steps.{same}
 use Rattle.run_opening.proofs.Ending.{at-read}

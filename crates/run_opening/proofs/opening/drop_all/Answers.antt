@@ -1,4 +1,4 @@
-use Rattle.std.specs.Prelude.{Err, Ok}
+use Rattle.std.specs.Prelude.{Err}
 use Rattle.std.proofs.Common.{rules, ◌≡◌, ◌∙◌, refl, subst, sym}
 use Rattle.run_opening.specs.All.{DropsAll, only, wanting}
 use Rattle.run_opening.specs.Steps.{dropped}

@@ -1,4 +1,4 @@
-use Rattle.std.specs.Prelude.{Err, Ok}
+use Rattle.std.specs.Prelude.{Err}
 use Rattle.std.proofs.Common.{rules, ◌≡◌, subst, sym}
 use Rattle.run_opening.specs.All.{AreEntries, EndsAll, alike}
 use Rattle.run_opening.specs.Steps.{ended, resolved_by, same}

@@ -1,5 +1,5 @@
 use Rattle.std.specs.Prelude.{Err, Ok, length}
-use Rattle.std.proofs.Common.{rules, ◌≡◌, ◌<◌, ◌≤◌, ◌∙◌, arith, subst, sym}
+use Rattle.std.proofs.Common.{rules, ◌≡◌, ◌<◌, ◌≤◌, arith, subst, sym}
 use Rattle.run_opening.specs.All.{GoesAll, alike}
 use Rattle.run_opening.specs.Steps.{forgotten}
 use Rattle.run_opening.proofs.Walks.{committed-next, still-run, upto, walk-err, walk-first, walk-last, walk-on}

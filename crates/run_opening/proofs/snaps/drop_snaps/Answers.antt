@@ -1,6 +1,6 @@
 use Rattle.std.specs.Prelude.{◌≡◌, filter}
 use Rattle.std.proofs.Common.{◌∙◌, ap, subst, sym}
-use Rattle.run_opening.specs.Steps.{AreFrozen, is_dropped, is_other_than}
+use Rattle.run_opening.specs.Steps.{AreFrozen, is_dropped}
 use Rattle.run_opening.proofs.Thawing.{some-frozen}
 use Rattle.run_opening.proofs.snaps.drop_snaps.Goals as goal
 
