@@ -1,9 +1,8 @@
 -- Fuses of targets, set one after another.
-use Rattle.std.specs.Prelude.{ℕ, zero, suc, ◌≡◌, ◌≤◌, ◌<◌, ◌+◌, true, false, nat_lt, List, length, slice_get, slice_set, Option, Some, refl}
-use Rattle.std.proofs.Common.{inl, inr, sym, ◌∙◌, ap, subst, arith}
+use Rattle.std.specs.Prelude.{ℕ, suc, ◌≡◌, ◌≤◌, ◌<◌, ◌+◌, true, nat_lt, List, length, slice_get, slice_set, Option, Some, refl}
+use Rattle.std.proofs.Common.{add-one, inl, inr, sym, ◌∙◌, ap, subst, arith}
 use Rattle.std.proofs.lemmas.Bool.{cases_eq}
 use Rattle.std.proofs.lemmas.Option.{slice_get_within}
-use Rattle.daos_model.specs.Stops.{is_stop_at}
 use Rattle.daos_model.specs.declared.durable.Durable.{Durable}
 use Rattle.run_ends.specs.Arming.{AreArmed, AreUnfused}
 use Rattle.run_shows.specs.Accounting.{fuse-taken}
@@ -82,6 +81,11 @@ module _ {S C : Type 0} (durable : S → Option Durable) (state : S → State) (
           (λ tells. let set = ap one_if (told-fuse (next_fuse t v.stops) y z f tells) in let one = fuse-taken t v.stops in let two = k.fewer t in omega (arith, set, one, two))
           (λ u q there low tells. let one = fewer-lines t u v.stops in let two = k.taken u q there low tells in omega (arith, one, two));
     }
+
+    -- as the code sets it: of the target that stands there, at the write of its next stop line, which is no more to come
+    pub armed-there : (k : ℕ) (w v now : WatchNow) → k ≡ next_fuse t v.stops → now ≡ fuse_set t v → HasFuse durable state may k y z → AreArmedTo t xs ys w v → AreArmedTo (t + 1) xs (slice_set ys t z) w now
+    armed-there k w v now write left f a =
+        rw (add-one t) (subst (AreArmedTo (suc t) xs (slice_set ys t z) w) (sym left) (armed-more w v (subst (λ n. HasFuse durable state may n y z) write f) a))
 
     pub unfused-more : HasFuse durable state may 0 y z → AreUnfusedTo t xs ys → AreUnfusedTo (suc t) xs (slice_set ys t z)
     unfused-more f k = record {
