@@ -2,7 +2,7 @@
 ghost use Rattle.std.specs.Prelude.{◌≡◌, ◌<◌, ◌==◌, ◌^◌, ℕ, length, position, replicate, slice_get, IfOk, IfSome, OnOk, Some};
 ghost use Rattle.std.specs.List.{list_any};
 ghost use Rattle.daos_model.specs.Stops.{is_stop_at};
-ghost use Rattle.run_watch.specs.Watches.{after_fault, first_watch, fuse_set, next_fuse, opened_again, opening_tried, with_life};
+ghost use Rattle.run_watch.specs.Watches.{FailsAgain, first_watch, fuse_set, next_fuse, opened_again, opening_tried, with_life};
 ghost use Rattle.world_base.specs.Stops.{is_given_up};
 ghost use Rattle.world_base.specs.declared.target.Life.{Life};
 
