@@ -67,7 +67,7 @@ is-simple s j free F some few least = record {
 
 -- ---- lists
 
-same-lists : {T : Type 0} (xs ys : List T) → length xs ≡ length ys → ((n : ℕ) (x y : T) → slice_get xs n ≡ Some x → slice_get ys n ≡ Some y → x ≡ y) → xs ≡ ys
+pub same-lists : {T : Type 0} (xs ys : List T) → length xs ≡ length ys → ((n : ℕ) (x y : T) → slice_get xs n ≡ Some x → slice_get ys n ≡ Some y → x ≡ y) → xs ≡ ys
 same-lists [] [] h each = refl
 same-lists [] (y ∷ ys) h each = absurd (omega (arith, h))
 same-lists (x ∷ xs) [] h each = absurd (omega (arith, h))
@@ -178,7 +178,7 @@ module _ {S C : Type 0} (durable : S → Option Durable) (state : S → State) (
   have-started free some few least room = record {
     simple = is-simple s j free F some few least;
     plain = record { unowned = λ c none. refl; no_snaps = refl; lease = omega arith };
-    clients = record { plans = plans free; states = first-states free };
+    those = record { plans = plans free; states = first-states free };
     many = many ∙ sym F.form.read_for;
     each = λ t x at. has-started free t x at (room t x at);
   }

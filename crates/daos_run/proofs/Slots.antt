@@ -5,7 +5,7 @@ use Rattle.std.proofs.lemmas.Bool.{cases_eq}
 use Rattle.std.proofs.lemmas.Option.{slice_get_within}
 use Rattle.model_laws.specs.Lists.{length-replicate}
 use Rattle.daos_run.specs.Slots.{AreBack, HaveStores, IsAt}
-use Rattle.run_actors.specs.ListLaws.{length-set}
+use Rattle.run_shows.specs.ListLaws.{length-set}
 use Rattle.target_core.specs.Targets.{TargetOf}
 use Rattle.world_base.specs.StepLaws.{set-here, set-there}
 
@@ -81,6 +81,9 @@ at-end P (z ∷ zs) x old new (suc k) y at = at-end (λ n. P (suc n)) zs x (λ n
 
 pub same-at : {T : Type 0} (xs : List T) (t : ℕ) (x y : T) → slice_get xs t ≡ Some x → slice_get xs t ≡ Some y → x ≡ y
 same-at xs t x y at to = let e : Some x ≡ Some y = sym at ∙ to in cc
+
+pub same-pair : {T : Type 0} (slots : List (Option T)) (t : ℕ) (x y : T) → slice_get slots t ≡ Some (Some x) → slice_get slots t ≡ Some (Some y) → x ≡ y
+same-pair slots t x y at to = let e : Some (Some x) ≡ Some (Some y) = sym at ∙ to in cc
 
 -- a place isn't both set and without anything
 pub set-not-none : {T : Type 0} (slots : List (Option T)) (t : ℕ) (x : T) → slice_get slots t ≡ Some (Some x) → slice_get slots t ≡ Some None → ⊥
