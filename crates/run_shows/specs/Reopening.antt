@@ -85,7 +85,8 @@ chosen t d found = ap (λ b. if b then d else found t) (same_number t)
 pub others : (t : ℕ) (d : Durable) (found : ℕ → Durable) (u : ℕ) → (u ≡ t → ⊥) → choosing t d found u ≡ found u
 others t d found u apart = let off : (u == t) ≡ false = grind (arith, nat_tests) in ap (λ b. if b then d else found u) off
 
-set-twice : {A : Type 0} (xs : List A) (n : ℕ) (x y : A) → slice_set (slice_set xs n x) n y ≡ slice_set xs n y
+-- of two that are set at one place the second stands
+pub set-twice : {A : Type 0} (xs : List A) (n : ℕ) (x y : A) → slice_set (slice_set xs n x) n y ≡ slice_set xs n y
 set-twice [] n x y = refl
 set-twice (z ∷ xs) zero x y = refl
 set-twice (z ∷ xs) (suc n) x y = ap (λ zs. z ∷ zs) (set-twice xs n x y)

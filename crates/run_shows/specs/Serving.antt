@@ -18,10 +18,12 @@ use Rattle.world_base.specs.StepLaws.{set-is, set-there}
 
 -- ---- stores and clocks
 
+-- by none
 pub served-same : (h : State) (o : Option Durable) → IsServed h h o o
 served-same h o = record { faults = omega arith; burns = omega arith; tells_fuse = refl; may_fail = refl; sure = λ off. refl; targets = refl; told = refl }
 
-served-on : (h k l : State) (o p q : Option Durable) → IsServed h k o p → IsServed k l p q → IsServed h l o q
+-- by calls after others
+pub served-on : (h k l : State) (o p q : Option Durable) → IsServed h k o p → IsServed k l p q → IsServed h l o q
 served-on h k l o p q one two = record {
   faults = let a = one.faults in let b = two.faults in omega (arith, a, b);
   burns = let a = one.burns in let b = two.burns in omega (arith, a, b);
@@ -94,4 +96,3 @@ module _ {S C : Type 0} (durable : S → Option Durable) (state : S → State) (
     stores = each-pair (λ v z w. IsServed (state z.store) (state w.store) (durable z.store) (durable w.store)) served (λ v z apart. served-same (state z.store) (durable z.store));
     clocks = each-pair (λ v z w. IsReadOn is_read z.clock w.clock) read (λ v z apart. not-read_on is_read z.clock);
   }
-

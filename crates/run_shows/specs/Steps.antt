@@ -44,26 +44,11 @@ pub record ClientTurned {S C : Type 0} (n number : ℕ) (a b : StageNow S C) : T
 
 -- ---- a target's turn
 
-module _ {S C : Type 0} (durable : S → Option Durable) (state : S → State) (may : S → Durable → Type 0) (is_read : C → C → Type 0) where
+module _ {S C : Type 0} (durable : S → Option Durable) (state : S → State) (may : S → Durable → Type 0) where
   -- The turn of a target that ran was whole, and what followed came about; or it was cut, and then the target is stopped, or given up.
   pub data WorkEnds (t : ℕ) (x y : TargetOf S C) (left : BetweenNow) (a b : StageNow S C) (result : Result Did TargetStop) : Type 0 where
     Whole : (did : Did) → result ≡ Ok did → b ≡ swept_stage (with_between (followed (target t) did left) (with_target_at t y a)) → WorkEnds t x y left a b result
     Cut : (stop : TargetStop) → result ≡ Err stop → AfterCut t (state x.store).faults (state y.store).faults stop (with_between left (with_target_at t y a)) b → WorkEnds t x y left a b result
-
-  -- A target that runs had its turn.
-  pub record TargetWorked (settling : Bool) (t number : ℕ) (a b : StageNow S C) : Type 0 where
-    pub before : TargetOf S C
-    pub now : TargetOf S C
-    pub left : BetweenNow
-    pub result : Result Did TargetStop
-    pub place : IsPlace a t before Running
-    pub plan : now.plan ≡ before.plan
-    pub opened : now.opened ≡ true
-    pub runs : Runs stop_store result (state before.store) (state now.store) (durable before.store) (durable now.store)
-    pub clock : IsReadOn is_read before.clock now.clock
-    pub posts : IfOk result (λ did. PostsInForm before.plan.targets before.memory.leader now.memory.leader did.posts)
-    pub turned : IsTurned durable state may settling t number before now a.between left result
-    pub ends : WorkEnds t before now left a b result
 
   -- A target that was stopped opened again, its next fuse was set, and what followed came about; or it didn't open.
   pub data OpeningEnds (t : ℕ) (x y : TargetOf S C) (a b : StageNow S C) (result : Result Did TargetStop) : Type 0 where
@@ -89,7 +74,23 @@ module _ {S C : Type 0} (durable : S → Option Durable) (state : S → State) (
     pub opened : now.opened ≡ is_ok result
     pub ends : OpeningEnds t before now (record a { targets = slice_set a.targets t now; watch = opening_tried a.watch }) b result
 
-  -- A target had its turn: one that runs worked, and one that is stopped was opened.
-  pub data TargetTurned (settling : Bool) (t number : ℕ) (a b : StageNow S C) : Type 0 where
-    Worked : TargetWorked settling t number a b → TargetTurned settling t number a b
-    Reopened : TargetReopened t a b → TargetTurned settling t number a b
+  module _ (is_read : C → C → Type 0) where
+    -- A target that runs had its turn.
+    pub record TargetWorked (settling : Bool) (t number : ℕ) (a b : StageNow S C) : Type 0 where
+      pub before : TargetOf S C
+      pub now : TargetOf S C
+      pub left : BetweenNow
+      pub result : Result Did TargetStop
+      pub place : IsPlace a t before Running
+      pub plan : now.plan ≡ before.plan
+      pub opened : now.opened ≡ true
+      pub runs : Runs stop_store result (state before.store) (state now.store) (durable before.store) (durable now.store)
+      pub clock : IsReadOn is_read before.clock now.clock
+      pub posts : IfOk result (λ did. PostsInForm before.plan.targets before.memory.leader now.memory.leader did.posts)
+      pub turned : IsTurned durable state may settling t number before now a.between left result
+      pub ends : WorkEnds t before now left a b result
+
+    -- A target had its turn: one that runs worked, and one that is stopped was opened.
+    pub data TargetTurned (settling : Bool) (t number : ℕ) (a b : StageNow S C) : Type 0 where
+      Worked : TargetWorked settling t number a b → TargetTurned settling t number a b
+      Reopened : TargetReopened t a b → TargetTurned settling t number a b

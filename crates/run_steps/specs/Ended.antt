@@ -1,6 +1,6 @@
 -- Where a run of the actors ends.
-use Rattle.std.specs.Prelude.{ℕ, ◌≡◌, true, List, [], length, slice_get, Option, Some}
-use Rattle.std.proofs.Common.{sym, ◌∙◌, ap, subst}
+use Rattle.std.specs.Prelude.{ℕ, ◌≡◌, true, List, [], length, slice_get, Option, Some, is_some}
+use Rattle.std.proofs.Common.{sym, ◌∙◌, ap, arith}
 use Rattle.base_types.specs.declared.report.Line.{Line}
 use Rattle.base_types.specs.declared.script.StopDecl.{StopDecl}
 use Rattle.daos_model.specs.FormLaws.{length-map}
@@ -8,22 +8,41 @@ use Rattle.daos_model.specs.declared.durable.Durable.{Durable}
 use Rattle.daos_model.specs.Opening.{Opening}
 use Rattle.run_base.specs.Picks.{due}
 use Rattle.run_base.specs.Sweeps.{lives_of}
-use Rattle.run_steps.specs.Going.{leads-then}
+use Rattle.model_laws.specs.Lists.{at-within}
 use Rattle.run_shows.specs.Accounts.{AreAccounted}
+use Rattle.run_shows.specs.Going.{AreAlike}
+use Rattle.run_shows.specs.ListLaws.{map-get}
+use Rattle.run_shows.specs.Parts.{at-both}
 use Rattle.run_shows.specs.Shows.{IsTargetOf, Leads, Shows}
 use Rattle.run_shows.specs.Stages.{AreFound, IsPlace, StageNow}
+use Rattle.run_steps.specs.Going.{AllTell}
 use Rattle.run_turns.specs.OrderLaws.{orders-end-quiet, orders-have-ended}
 use Rattle.run_turns.specs.Orders.{InOrder}
 use Rattle.run_watch.specs.Watches.{WatchNow}
 use Rattle.target_core.specs.Targets.{TargetOf}
 use Rattle.vos_store.specs.Calls.{State}
 use Rattle.world_base.specs.declared.target.Life.{Life}
+use Rattle.world_base.specs.declared.target.Life.TheVariants.{Running}
 use Rattle.world_base.specs.declared.target.TargetState.{TargetState}
 use Rattle.world_base.specs.declared.world.World.{World}
 use Rattle.world_base.specs.Ended.{HasEnded}
 use Rattle.world_base.specs.Events.{Rules, target_plan}
 use Rattle.world_base.specs.Stops.{Begins}
 use Rattle.world_whole.specs.Begins.{IsBegun, IsSimple, first_client}
+
+-- ---- a run that was begun
+
+-- where a world that is shown is one with which a run begins, all stores tell what they keep
+pub begun-tell : {S C : Type 0} (durable : S → Option Durable) (state : S → State) → AreAlike durable → (r : Rules) (o : Opening) (w : World) (found : ℕ → Durable) (a : StageNow S C) → IsSimple r → IsBegun r o w → Shows durable state r found a w → AllTell durable
+begun-tell durable state alike r o w found a simple begun shows s =
+    let first = at-within w.targets 0 (let some = simple.some_target in let many = begun.targets in omega (arith, some, many)) in
+    let x = at-both w.targets a.targets 0 first.0 (sym shows.many) first.1 in
+    let runs = (begun.starts 0 first.0 first.1).runs in
+    let place : IsPlace a 0 x.0 Running = record { there = x.1; stands = ap (λ ls. slice_get ls 0) (sym shows.lives) ∙ map-get (λ z. z.life) w.targets 0 first.0 first.1 ∙ ap (λ l. Some l) runs } in
+    let is = shows.targets 0 x.0 Running first.0 place first.1 in
+    alike x.0.store s (ap is_some is.so.told)
+
+-- ---- a run that has ended
 
 -- What a run leaves: its targets, how they stand, and its lines. The clients are gone, and nothing else lies between actors.
 abbrev pub left_of : {S C : Type 0} → List (TargetOf S C) → WatchNow → List Line → StageNow S C
@@ -48,10 +67,10 @@ module _ {S C : Type 0} (durable : S → Option Durable) (state : S → State) w
   HasRunWith may r order first left = (found : ℕ → Durable) → AreFound may left found → HasRun r order first found left
 
   -- where the actors of a begun run came in order to where none has anything to do, it has run
-  pub has-run : (may : S → Durable → Type 0) (r : Rules) (order : ℕ) (w : World) (o : Opening) (a b : StageNow S C) → IsSimple r → IsBegun r o w → ((found : ℕ → Durable) → Shows durable state r found a w) → Leads durable state may (InOrder r order) r a b
+  pub has-run : AreAlike durable → (may : S → Durable → Type 0) (r : Rules) (order : ℕ) (w : World) (o : Opening) (a b : StageNow S C) → IsSimple r → IsBegun r o w → ((found : ℕ → Durable) → Shows durable state r found a w) → (AllTell durable → Leads durable state may (InOrder r order) r a b)
       → HasRunWith may r order w (left_of b.targets b.watch b.between.lines)
-  has-run may r order w o a b simple begun shows leads found are =
-      let m = leads found (λ t x life place rests. are t x life (record { there = place.there; stands = place.stands }) rests) in
+  has-run alike may r order w o a b simple begun shows leads found are =
+      let m = leads (begun-tell durable state alike r o w found a simple begun (shows found)) found (λ t x life place rests. are t x life (record { there = place.there; stands = place.stands }) rests) in
       let x = m.led w (record { opening = o; first = w; simple = simple; begun = begun; run = Begins }) (shows m.before) in
       record {
         last = x.next;

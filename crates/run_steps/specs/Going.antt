@@ -1,11 +1,9 @@
 -- Turns of actors one after another.
-use Rattle.std.specs.Prelude.{ℕ, ◌≡◌, ◌<◌, false, List, length, slice_get, Bool, Option, Some, Result, Ok, Err, OnOk, refl}
-use Rattle.std.proofs.Common.{sym, ◌∙◌, ap, subst, arith}
-use Rattle.std.proofs.lemmas.Option.{slice_get_within}
+use Rattle.std.specs.Prelude.{ℕ, ◌≡◌, true, List, length, Bool, Option, is_some, Result, Ok, Err, OnOk, refl}
+use Rattle.std.proofs.Common.{◌∙◌}
 use Rattle.base_messages.specs.declared.actor.ActorId.{ActorId}
 use Rattle.base_types.specs.declared.script.StopDecl.{StopDecl}
 use Rattle.daos_model.specs.declared.durable.Durable.{Durable}
-use Rattle.model_laws.specs.Lists.{at-within}
 use Rattle.run_shows.specs.Accounts.{AreAccounted, AreServed}
 use Rattle.run_shows.specs.Serving.{served-first, served-then}
 use Rattle.run_shows.specs.CanGo.{CanGo}
@@ -15,11 +13,14 @@ use Rattle.run_turns.specs.Keeping.{TurnsKeep, draws-keep, in_turn-keeps, rounds
 use Rattle.run_turns.specs.OrderLaws.{turn-goes}
 use Rattle.run_turns.specs.Orders.{Draws, InDraws, InRounds, InTurn, Rounds}
 use Rattle.run_turns.specs.Turns.{TurnOf}
-use Rattle.target_core.specs.Targets.{TargetOf}
 use Rattle.vos_store.specs.Calls.{State}
 use Rattle.world_base.specs.declared.world.World.{World}
 use Rattle.world_base.specs.Events.{Rules}
 use Rattle.world_base.specs.Stops.{WorldRun}
+
+-- each store tells what it keeps
+abbrev pub AllTell : {S : Type 0} → (S → Option Durable) → Type 0
+AllTell {S} durable = (s : S) → is_some (durable s) ≡ true
 
 -- ---- runs of events
 
@@ -87,21 +88,21 @@ module _ {S C : Type 0} (durable : S → Option Durable) (state : S → State) (
       record { before = m.before; were = m.were; led = λ w was s. let x = m.led w was s in record { next = x.next; turn = said found m.before w x.next s x.shows x.turn; shows = x.shows } }
 
   module _ (is_read : C → C → Type 0) where
-    -- Turns led in this way from one stage to another: those of a begun run, as many clients, and the same stores after some calls; and how
-    -- often targets stopped is still accounted for.
+    -- Turns led in this way from one stage to another, where stores tell what they keep: those of a begun run, as many clients, and the same
+    -- stores after some calls; and how often targets stopped is still accounted for.
     pub record GoesOn (way : Rules → World → World → Type 0) (a b : StageNow S C) : Type 0 where
-      pub led : (r : Rules) → Leads durable state may (way r) r a b
+      pub led : AllTell durable → (r : Rules) → Leads durable state may (way r) r a b
       pub going : CanGo durable state may b
       pub clients : length b.clients ≡ length a.clients
       pub served : AreServed durable state is_read a.targets b.targets
       pub accounts : (h : ℕ → State) (stops : List StopDecl) → AreAccounted durable state h stops a → AreAccounted durable state h stops b
 
     pub goes-none : (way : Rules → World → World → Type 0) (a : StageNow S C) → ((r : Rules) (w : World) → way r w w) → CanGo durable state may a → GoesOn way a a
-    goes-none way a none going = record { led = λ r. leads-none r way a (none r); going = going; clients = refl; served = served-first durable state is_read a.targets; accounts = λ h stops k. k }
+    goes-none way a none going = record { led = λ tell r. leads-none r way a (none r); going = going; clients = refl; served = served-first durable state is_read a.targets; accounts = λ h stops k. k }
 
     pub goes-then : (one other both : Rules → World → World → Type 0) (a b c : StageNow S C) → IsRun one → ((r : Rules) (found : ℕ → Durable) (w u v : World) → Shows durable state r found b u → one r w u → other r u v → both r w v) → GoesOn one a b → GoesOn other b c → GoesOn both a c
     goes-then one other both a b c runs join k l = record {
-      led = λ r. leads-then r one other both a b c runs (join r) (k.led r) (l.led r);
+      led = λ tell r. leads-then r one other both a b c runs (join r) (k.led tell r) (l.led tell r);
       going = l.going;
       clients = l.clients ∙ k.clients;
       served = served-then durable state is_read a.targets b.targets c.targets k.served l.served;
@@ -110,7 +111,7 @@ module _ {S C : Type 0} (durable : S → Option Durable) (state : S → State) (
 
     pub goes-as : (one other : Rules → World → World → Type 0) (a b : StageNow S C) → ((r : Rules) (found before : ℕ → Durable) (w v : World) → Shows durable state r before a w → Shows durable state r found b v → one r w v → other r w v) → GoesOn one a b → GoesOn other a b
     goes-as one other a b said k = record {
-      led = λ r. leads-as r one other a b (said r) (k.led r);
+      led = λ tell r. leads-as r one other a b (said r) (k.led tell r);
       going = k.going;
       clients = k.clients;
       served = k.served;
@@ -118,6 +119,6 @@ module _ {S C : Type 0} (durable : S → Option Durable) (state : S → State) (
     }
 
     -- some turns, by what each clause of theirs says
-    pub goes-by : (way : Rules → World → World → Type 0) (a b : StageNow S C) → ((r : Rules) → Leads durable state may (way r) r a b) → CanGo durable state may b → length b.clients ≡ length a.clients → AreServed durable state is_read a.targets b.targets
+    pub goes-by : (way : Rules → World → World → Type 0) (a b : StageNow S C) → (AllTell durable → (r : Rules) → Leads durable state may (way r) r a b) → CanGo durable state may b → length b.clients ≡ length a.clients → AreServed durable state is_read a.targets b.targets
         → ((h : ℕ → State) (stops : List StopDecl) → AreAccounted durable state h stops a → AreAccounted durable state h stops b) → GoesOn way a b
     goes-by way a b led going clients served accounts = record { led = led; going = going; clients = clients; served = served; accounts = accounts }

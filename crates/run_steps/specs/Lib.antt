@@ -2,5 +2,7 @@
 pub mod Going
 pub mod Turning
 pub mod Turnings
+pub mod Openings
+pub mod Hearing
 pub mod Steps
 pub mod Ended

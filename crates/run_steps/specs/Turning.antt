@@ -1,26 +1,24 @@
 -- A turn, with all that it leaves.
-use Rattle.std.specs.Prelude.{ℕ, ◌≡◌, ◌≤◌, ◌<◌, ◌+◌, ◌++◌, ◌⊎◌, Bool, true, false, List, [], ◌∷◌, length, slice_get, Contains, Option, Some, None, is_some, refl}
+use Rattle.std.specs.Prelude.{ℕ, ◌≡◌, ◌≤◌, ◌+◌, ◌++◌, ◌⊎◌, Bool, true, List, length, slice_get, Option, Some, None, is_some, refl}
 use Rattle.std.proofs.Common.{inl, inr, sym, ◌∙◌, ap, subst, arith}
-use Rattle.std.proofs.lemmas.Option.{slice_get_within}
 use Rattle.base_messages.specs.declared.actor.ActorId.{ActorId}
 use Rattle.base_outside.specs.Causes.{Rose}
 use Rattle.base_types.specs.declared.script.StopDecl.{StopDecl}
 use Rattle.daos_model.specs.Stops.{down_targets}
 use Rattle.daos_model.specs.declared.durable.Durable.{Durable}
-use Rattle.model_laws.specs.Lists.{at-within}
 use Rattle.model_laws.specs.Members.{Has, contains-from_has, has-cases, has-from_contains}
 use Rattle.run_shows.specs.Accounting.{downs-told, no-more, one-rise, stops-told}
-use Rattle.run_shows.specs.Accounts.{AreAccounted, AreServed, AtMostRises, IsAccounted, IsServed, one_if, stop_lines_of, stops_told_in}
+use Rattle.run_shows.specs.Accounts.{AreAccounted, AreServed, AtMostRises, IsAccounted, one_if, stop_lines_of, stops_told_in}
 use Rattle.run_shows.specs.CanGo.{CanGo}
 use Rattle.run_shows.specs.Fitting.{Fits, can-go}
 use Rattle.run_shows.specs.Going.{AreAlike, AreFindable, going-on}
 use Rattle.run_shows.specs.Parts.{IsTurnSo, at-both, leads-turn}
 use Rattle.run_shows.specs.Shows.{IsGoing, Leads}
 use Rattle.run_shows.specs.Stages.{StageNow}
+use Rattle.run_steps.specs.Going.{AllTell, GoesOn}
 use Rattle.run_turns.specs.StopLines.{one_or_none}
 use Rattle.run_turns.specs.Turns.{TurnOf}
 use Rattle.target_core.specs.Targets.{TargetOf}
-use Rattle.target_parts.specs.Readings.{IsReadOn, not-read_on, read-further}
 use Rattle.vos_store.specs.Calls.{State}
 use Rattle.world_base.specs.Events.{Rules}
 use Rattle.world_lives.specs.Adding.{stops_of}
@@ -63,15 +61,7 @@ its-down t (Some u) (inr none) = absurd none
 -- ---- a turn
 
 module _ {S C : Type 0} (durable : S → Option Durable) (state : S → State) (may : S → Durable → Type 0) (is_read : C → C → Type 0) where
-  -- what a turn of an actor leads to, and that the actors can go on and are accounted for then
-  pub record IsTurnDone (settling : Bool) (actor : ActorId) (number : ℕ) (a b : StageNow S C) : Type 0 where
-    pub steps : (r : Rules) → Leads durable state may (TurnOf settling r actor number) r a b
-    pub going : CanGo durable state may b
-    pub clients : length b.clients ≡ length a.clients
-    pub served : AreServed durable state is_read a.targets b.targets
-    pub accounts : (h : ℕ → State) (stops : List StopDecl) → AreAccounted durable state h stops a → AreAccounted durable state h stops b
-
-  module _ (a b : StageNow S C) (settling : Bool) (actor : ActorId) (number raised : ℕ) (stops downs : Option ℕ) (can : CanGo durable state may a) (leads : (r : Rules) → Leads durable state may (IsTurnSo settling r actor number raised stops downs) r a b) (findable : AreFindable durable may)
+  module _ (a b : StageNow S C) (settling : Bool) (actor : ActorId) (number raised : ℕ) (stops downs : Option ℕ) (can : CanGo durable state may a) (leads : AllTell durable → (r : Rules) → Leads durable state may (IsTurnSo settling r actor number raised stops downs) r a b) (findable : AreFindable durable may)
       (alike : AreAlike durable) (served : AreServed durable state is_read a.targets b.targets) where
     going-by : (t : ℕ) (x : TargetOf S C) → slice_get a.targets t ≡ Some x → (o : Option Durable) → durable x.store ≡ o → is_some o ≡ true → IsGoing durable state may a
     going-by t x at None is some = let no : ⊥ = cc in absurd no
@@ -87,8 +77,8 @@ module _ {S C : Type 0} (durable : S → Option Durable) (state : S → State) (
       stopped = λ tells. more-or-one (stops_told_in a.between.lines t + stop_lines_of t a.watch.stops + one_if (state x.0.store).fused) _ (stop_lines_of t lines) (h t).faults (state x.0.store).faults (state y.store).faults
           (more (c.stopped (before.told ∙ tells))) c.up (before.stopped tells);
       failed = λ n here. let m = c.failed n here in more-or-one m.0 n 0 (h t).faults (state x.0.store).faults (state y.store).faults m.2 c.up (before.failed m.0 m.1);
-      down = λ i. elim (has-cases (down_targets a.between.lines) (one_or_none downs) t (subst (Has t) downs-are (contains-from_has (down_targets b.between.lines) t i))) [
-        | inl j ↦ no-more 9 9 0 (h t).faults (state x.0.store).faults (state y.store).faults (omega arith) c.up (before.down (has-from_contains (down_targets a.between.lines) t j))
+      down = λ i. elim (has-cases (down_targets a.between.lines) (one_or_none downs) t (subst (Has t) downs-are (has-from_contains (down_targets b.between.lines) t i))) [
+        | inl j ↦ no-more 9 9 0 (h t).faults (state x.0.store).faults (state y.store).faults (omega arith) c.up (before.down (contains-from_has (down_targets a.between.lines) t j))
         | inr j ↦ (let d = c.down (its-down t downs j) in one-rise 8 9 0 (h t).faults (state x.0.store).faults (state y.store).faults (omega arith) d.1 (before.failed 8 d.0))
       ];
       told = c.tells ∙ before.told;
@@ -109,29 +99,31 @@ module _ {S C : Type 0} (durable : S → Option Durable) (state : S → State) (
         g : IsGoing durable state may a
         g = was-going t y at is
 
-        all-tell : (z : TargetOf S C) → is_some (durable z.store) ≡ true
-        all-tell z = alike y.store z.store is
+        tell : AllTell durable
+        tell s = alike y.store s is
 
         told : stops_told_in b.between.lines t ≡ stops_told_in a.between.lines t + stops_of stops t
-        told = stops-told durable state may a b settling actor number raised stops downs g (leads g.rules) findable all-tell t
+        told = stops-told durable state may a b settling actor number raised stops downs g (leads tell g.rules) findable (λ z. tell z.store) t
 
         downs-are : down_targets b.between.lines ≡ down_targets a.between.lines ++ one_or_none downs
-        downs-are = downs-told durable state may a b settling actor number raised stops downs g (leads g.rules) findable all-tell
+        downs-are = downs-told durable state may a b settling actor number raised stops downs g (leads tell g.rules) findable (λ z. tell z.store)
 
         more : AtMostOne (stops_of stops t + stop_lines_of t b.watch.stops + one_if (state y.store).fused) (stop_lines_of t a.watch.stops + one_if (state x.0.store).fused) (state x.0.store).faults (state y.store).faults
             → AtMostOne (stops_told_in b.between.lines t + stop_lines_of t b.watch.stops + one_if (state y.store).fused) (stops_told_in a.between.lines t + stop_lines_of t a.watch.stops + one_if (state x.0.store).fused) (state x.0.store).faults (state y.store).faults
         more (inl fewer) = inl (omega (arith, fewer, told))
         more (inr z) = let few = z.0 in inr (omega (arith, few, told), z.1)
 
+    -- what a turn of an actor leads to, and that the actors can go on and are accounted for then
     pub turn-done : Fits state can.rules b → a.watch.openings + raised ≤ b.watch.openings → length b.clients ≡ length a.clients
-        → ((t : ℕ) (x y : TargetOf S C) → slice_get a.targets t ≡ Some x → slice_get b.targets t ≡ Some y → is_some (durable x.store) ≡ true → Counts state a b stops downs t x y) → IsTurnDone settling actor number a b
+        → ((t : ℕ) (x y : TargetOf S C) → slice_get a.targets t ≡ Some x → slice_get b.targets t ≡ Some y → is_some (durable x.store) ≡ true → Counts state a b stops downs t x y)
+        → GoesOn durable state may is_read (λ r. TurnOf settling r actor number) a b
     turn-done fits up clients counts = record {
-      steps = λ r. leads-turn durable state may settling r actor number raised stops downs a b (leads r);
+      led = λ tell r. leads-turn durable state may settling r actor number raised stops downs a b (leads tell r);
       going = can-go durable state may can.rules b can.simple fits
           (λ t y d at is.
           let some : is_some (durable y.store) ≡ true = ap is_some is in
           let g = was-going t y at some in
-          going-on durable state may a b settling actor number raised stops downs g (leads g.rules) findable (λ z. alike y.store z.store some) up);
+          going-on durable state may a b settling actor number raised stops downs g (leads (λ s. alike y.store s some) g.rules) findable (λ z. alike y.store z.store some) up);
       clients = clients;
       served = served;
       accounts = accounted counts;

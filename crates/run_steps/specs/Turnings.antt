@@ -1,10 +1,8 @@
 -- A client's turn, and a target's turn, whole or cut, with all that they leave.
-use Rattle.std.specs.Prelude.{ℕ, ◌≡◌, ◌≤◌, ◌<◌, ◌+◌, ◌==◌, ◌^◌, ◌&&◌, ◌⊎◌, Bool, true, false, List, length, slice_get, slice_set, Option, Some, None, Ok, Err, refl, if◌then◌else◌}
+use Rattle.std.specs.Prelude.{ℕ, ◌≡◌, ◌<◌, ◌+◌, ◌==◌, ◌&&◌, Bool, true, false, List, length, slice_get, slice_set, Option, Some, None, Ok, Err, refl, if◌then◌else◌}
 use Rattle.std.proofs.Common.{inl, inr, sym, ◌∙◌, ap, subst, arith}
 use Rattle.std.proofs.Math.ListN.{set}
-use Rattle.std.proofs.lemmas.Bool.{cases_eq}
 use Rattle.std.proofs.lemmas.Bool.Decides.{nat_tests}
-use Rattle.base_messages.specs.declared.message.Post.{Post}
 use Rattle.base_outside.specs.Causes.{Rose}
 use Rattle.base_types.specs.declared.epoch.Epoch.{Epoch}
 use Rattle.base_types.specs.declared.id.AttemptId.{AttemptId}
@@ -17,27 +15,30 @@ use Rattle.run_base.specs.Letters.{BetweenNow, IsPicked}
 use Rattle.run_base.specs.Picks.{count_to, heard_awake}
 use Rattle.run_shows.specs.Accounting.{fuse-less}
 use Rattle.run_shows.specs.Accounts.{AreServed, IsServed, one_if, stop_lines_of}
-use Rattle.run_shows.specs.CanGo.{CanGo, CanWork}
-use Rattle.run_shows.specs.Clients.{client-goes, client-hears, with_client_at}
+use Rattle.run_shows.specs.CanGo.{CanGo}
+use Rattle.run_shows.specs.Clients.{client-goes, client-hears}
 use Rattle.run_shows.specs.Fitting.{Fits, few-numbers, fit-after_stop, fit-swept, fit-target, fits-of}
-use Rattle.run_shows.specs.Givings.{FaultBy, downs_after, fault-leads}
+use Rattle.run_shows.specs.Givings.{downs_after, fault-leads}
 use Rattle.run_shows.specs.Going.{AreAlike, AreFindable}
 use Rattle.run_shows.specs.Leading.{NonePrunes, turn-leads}
 use Rattle.run_shows.specs.Lettered.{AllInForm, InForm, asked-lost, followed-form, lost-form}
 use Rattle.run_shows.specs.ListLaws.{get-set, length-set}
 use Rattle.run_shows.specs.Parts.{IsTurnSo, is-set, set-same}
+use Rattle.run_shows.specs.Serving.{each-pair, served-first, served-one}
 use Rattle.run_shows.specs.Shows.{Leads}
 use Rattle.run_shows.specs.Stages.{IsPlace, StageNow}
 use Rattle.run_shows.specs.Stopping.{cut-leads}
-use Rattle.run_shows.specs.Turned.{AfterStop, ByHearing, ByIdling, Failed, IsTurned, LastTime, NotFailed, cut_between, followed, stopped_stage, swept_stage, with_between, with_target_at}
-use Rattle.run_steps.specs.Turning.{AtMostOne, Counts, IsTurnDone, counts-none, served-first, served-same, turn-done}
+use Rattle.run_shows.specs.Turned.{AfterStop, ByHearing, ByIdling, Failed, IsTurned, LastTime, NotFailed, cut_between, followed, stopped_stage, swept_stage, with_between, with_client_at, with_target_at}
+use Rattle.run_steps.specs.Going.{GoesOn}
+use Rattle.run_steps.specs.Turning.{AtMostOne, Counts, counts-none, turn-done}
+use Rattle.run_turns.specs.Turns.{TurnOf}
 use Rattle.run_watch.specs.Watches.{WatchNow, after_fault, with_life}
 use Rattle.target_core.specs.Targets.{TargetOf}
 use Rattle.target_parts.specs.Parts.{Runs}
-use Rattle.target_parts.specs.Readings.{IsReadOn, not-read_on}
+use Rattle.target_parts.specs.Readings.{IsReadOn}
 use Rattle.target_parts.specs.Stops.{stop_store}
 use Rattle.target_parts.specs.declared.stop.TargetStop.TheVariants as stop
-use Rattle.vos_store.specs.Calls.{Ailed, IsFuseGone, State}
+use Rattle.vos_store.specs.Calls.{Ailed, Fires, State}
 use Rattle.world_base.specs.declared.did.Did.{Did}
 use Rattle.world_base.specs.declared.letter.Letter.{Letter}
 use Rattle.world_base.specs.declared.target.Life.TheVariants.{Running, Stopped}
@@ -81,22 +82,22 @@ module _ {S C : Type 0} (durable : S → Option Durable) (state : S → State) (
         })
 
     client-done : (settling : Bool) (number : ℕ) → ((r : Rules) → Leads durable state may (IsTurnSo settling r (client n) number 0 None None) r a client-left) → InForm (target_plan can.rules) left.messages → ClientPosts (target_plan can.rules) did.posts
-        → IsTurnDone durable state may is_read settling (client n) number a client-left
+        → GoesOn durable state may is_read (λ r. TurnOf settling r (client n) number) a client-left
     client-done settling number leads letters posts =
-        turn-done durable state may is_read a client-left settling (client n) number 0 None None can leads findable alike (served-first durable state is_read a.targets) (client-fits letters posts) (omega arith) (length-set a.clients n d)
+        turn-done durable state may is_read a client-left settling (client n) number 0 None None can (λ tell. leads) findable alike (served-first durable state is_read a.targets) (client-fits letters posts) (omega arith) (length-set a.clients n d)
         (λ t x y here there tells.
         let same : x ≡ y = let e : Some x ≡ Some y = sym here ∙ there in cc in
         subst (Counts state a client-left None None t x) same (counts-none state a client-left None None t x refl (λ e. let no : ⊥ = cc in no) (omega arith) (λ m h. h)))
 
     -- it heard a message
-    pub client-heard-done : (settling : Bool) (number : ℕ) (l : Letter) (rest : List Letter) → c.state.skip ≡ 0 → IsPicked a.between.messages (client n) number l rest → left.messages ≡ rest → HearTurn c.plan c.state l.message did d.state → IsTurnDone durable state may is_read settling (client n) number a client-left
+    pub client-heard-done : (settling : Bool) (number : ℕ) (l : Letter) (rest : List Letter) → c.state.skip ≡ 0 → IsPicked a.between.messages (client n) number l rest → left.messages ≡ rest → HearTurn c.plan c.state l.message did d.state → GoesOn durable state may is_read (λ r. TurnOf settling r (client n) number) a client-left
     client-heard-done settling number l rest awake picked messages turn =
         client-done settling number (λ r. client-hears durable state may r n c d a did left at plan asked issued lines settling number l rest awake picked messages turn)
         (λ m i. (fits-of durable state may a can).between.messages m (rest-among a.between.messages rest (client n) number l picked m (subst (Has m) messages i)))
         (hearers-post-in-form can.rules n c.state d.state l.message did (plain can.rules can.simple) (subst (λ p. HearTurn p c.state l.message did d.state) (can.plans n c at) turn))
 
     -- it went on without one
-    pub client-went-done : (settling : Bool) (number : ℕ) → heard_awake c.state (count_to (client n) a.between.messages) ≡ 0 → left.messages ≡ a.between.messages → NextTurn c.plan c.state did d.state → IsTurnDone durable state may is_read settling (client n) number a client-left
+    pub client-went-done : (settling : Bool) (number : ℕ) → heard_awake c.state (count_to (client n) a.between.messages) ≡ 0 → left.messages ≡ a.between.messages → NextTurn c.plan c.state did d.state → GoesOn durable state may is_read (λ r. TurnOf settling r (client n) number) a client-left
     client-went-done settling number none messages turn =
         client-done settling number (λ r. client-goes durable state may r n c d a did left at plan asked issued lines settling number none messages turn) (λ m i. (fits-of durable state may a can).between.messages m (subst (Has m) messages i))
         (clients-post-in-form can.rules n c.state d.state did (plain can.rules can.simple) (subst (λ p. NextTurn p c.state did d.state) (can.plans n c at) turn))
@@ -195,10 +196,10 @@ module _ {S C : Type 0} (durable : S → Option Durable) (state : S → State) (
         (followed-form (target_plan can.rules) (target t) did left letters
         (λ q i. targets-send-letters (target_plan can.rules) can.rules.script.targets t q (λ u. refl) (subst (λ n. TargetPosts n did.posts) (ap (λ p. p.targets) (can.made t x place.there)) sent.form q i))))
 
-    pub whole-done : (settling : Bool) (number : ℕ) → NonePrunes a.between t number → IsTurned durable state may settling t number x y a.between left (Ok did) → IsTurnDone durable state may is_read settling (target t) number a target-left
+    pub whole-done : (settling : Bool) (number : ℕ) → NonePrunes a.between t number → IsTurned durable state may settling t number x y a.between left (Ok did) → GoesOn durable state may is_read (λ r. TurnOf settling r (target t) number) a target-left
     whole-done settling number no_prunes turned =
         turn-done durable state may is_read a target-left settling (target t) number 0 None None can
-        (λ r. turn-leads durable state r t x y a did place plan opened runs.opening runs.stops may settling number left no_prunes turned) findable alike (served-one durable state is_read a.targets t x y place.there served read) (target-fits (left-form left (turned-left settling number left (Ok did) turned))) (omega arith) refl
+        (λ tell r. turn-leads durable state r t x y a did place plan opened runs.opening runs.stops may settling number left no_prunes turned) findable alike (served-one durable state is_read a.targets t x y place.there served read) (target-fits (left-form left (turned-left settling number left (Ok did) turned))) (omega arith) refl
         (λ u p q here there tells. each-pair durable state is_read a.targets t x y place.there (λ v z w. Counts state a target-left None None v z w) its
         (λ v z apart. counts-none state a target-left None None v z refl (λ e. let no : ⊥ = cc in no) (omega arith) (λ m h. h)) u p q here there)
       where
@@ -213,7 +214,7 @@ module _ {S C : Type 0} (durable : S → Option Durable) (state : S → State) (
 
   -- ---- a cut turn
 
-  module _ (left : BetweenNow) (issued : Option (AttemptId × Epoch)) (lines : List Line) (fuse : one_if (state y.store).fused ≤ one_if (state x.store).fused) (ailed : Ailed (state x.store) (state y.store)) (c : StageNow S C) where
+  module _ (left : BetweenNow) (issued : Option (AttemptId × Epoch)) (lines : List Line) (fires : Fires (state x.store) (state y.store)) (ailed : Ailed (state x.store) (state y.store)) (c : StageNow S C) where
     -- the actors after the cut
     abbrev pub cut-left : StageNow S C
     cut-left = swept_stage (stopped_stage t issued lines (record a { targets = slice_set a.targets t y; between = left }))
@@ -230,7 +231,7 @@ module _ {S C : Type 0} (durable : S → Option Durable) (state : S → State) (
 
     -- it stopped by a fuse, or as often as the outside failed it
     cut-stopped : (state x.store).tells_fuse ≡ true → Ailed (state x.store) (state y.store) → (n : ℕ) → n ≡ 1 → (l : ℕ) → AtMostOne (n + l + one_if (state y.store).fused) (l + one_if (state x.store).fused) (state x.store).faults (state y.store).faults
-    cut-stopped tells (inl rose) n one l = inr (omega (arith, one, fuse), rose)
+    cut-stopped tells (inl rose) n one l = let less = fuse-less (state x.store) (state y.store) fires tells in inr (omega (arith, one, less), rose)
     cut-stopped tells (inr z) n one l =
         let off : (state y.store).fused ≡ false = ap (λ b. b && (state y.store).fused) (sym tells) ∙ z.2 in
         let none : one_if (state y.store).fused ≡ 0 = ap one_if off in
@@ -238,10 +239,10 @@ module _ {S C : Type 0} (durable : S → Option Durable) (state : S → State) (
         inl (omega (arith, one, none, set'))
 
     pub cut-done : (settling : Bool) (number : ℕ) → NonePrunes a.between t number → IsTurned durable state may settling t number x y a.between left (Err (stop.Store issued lines)) → AfterStop t (state x.store).faults (state y.store).faults cut-left c
-        → IsTurnDone durable state may is_read settling (target t) number a c
+        → GoesOn durable state may is_read (λ r. TurnOf settling r (target t) number) a c
     cut-done settling number no_prunes turned after =
         turn-done durable state may is_read a c settling (target t) number 0 (Some t) downs can
-        (λ r. fault-leads durable state r t may settling number 0 (state x.store).faults (state y.store).faults (Some t) a cut-left c y cut-place
+        (λ tell r. fault-leads durable state r t may settling number 0 (state x.store).faults (state y.store).faults (Some t) a cut-left c y cut-place
         (cut-leads durable state r t x y a place plan issued lines may settling number left no_prunes turned) after)
         findable alike (subst (AreServed durable state is_read a.targets) (sym (after-targets t _ _ cut-left c after)) (served-one durable state is_read a.targets t x y place.there served read))
         (fit-after_stop state can.rules t (state x.store).faults (state y.store).faults cut-left c can.simple small (cut-fits (left-form left (turned-left settling number left (Err (stop.Store issued lines)) turned))) after)

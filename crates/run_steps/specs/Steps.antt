@@ -1,0 +1,94 @@
+-- What a turn of any actor leads to, and that a target can have its turn.
+use Rattle.std.specs.Prelude.{ℕ, ◌≡◌, ◌<◌, ◌+◌, ◌^◌, Bool, IfOk, slice_get, Option, Some, is_some, Err}
+use Rattle.std.proofs.Common.{sym, ◌∙◌, ap, subst, arith}
+use Rattle.daos_model.specs.declared.durable.Durable.{Durable}
+use Rattle.run_shows.specs.CanGo.{CanGo, CanTurn}
+use Rattle.run_shows.specs.Going.{AreAlike, AreFindable, found-with, some-found}
+use Rattle.run_shows.specs.Parts.{target-there}
+use Rattle.run_shows.specs.Reopening.{choosing, chosen}
+use Rattle.run_shows.specs.Serving.{served-by-runs}
+use Rattle.run_shows.specs.Stages.{StageNow}
+use Rattle.run_shows.specs.Steps.{ClientTurned, ClientWorks, Cut, HeardOne, Reopened, TargetTurned, TargetWorked, WentOn, Whole, WorkEnds, Worked}
+use Rattle.run_shows.specs.Turned.{IsTurned, followed, swept_stage, with_between, with_client_at}
+use Rattle.run_steps.specs.Going.{AllTell, GoesOn}
+use Rattle.run_steps.specs.Hearing.{hearable, none-prunes}
+use Rattle.run_steps.specs.Openings.{reopening-goes}
+use Rattle.run_steps.specs.Turnings.{client-heard-done, client-went-done, cut-done, whole-done}
+use Rattle.run_turns.specs.Turns.{TurnOf}
+use Rattle.target_core.specs.Targets.{TargetOf}
+use Rattle.target_parts.specs.Knowing.{IsHeard}
+use Rattle.target_parts.specs.Parts.{Runs}
+use Rattle.target_parts.specs.Stops.{stop_store}
+use Rattle.vos_store.specs.Calls.{State}
+use Rattle.vos_store.specs.Refusals.{says}
+use Rattle.world_base.specs.declared.target.Life.TheVariants.{Stopped}
+use Rattle.world_base.specs.Letters.{client, target}
+use Rattle.world_hearable.specs.Covered.{IsCovered}
+use Rattle.world_hearable.specs.Runs.{runs-are-covered}
+use Rattle.world_posts.specs.Forms.{PostsInForm}
+
+module _ {S C : Type 0} (durable : S → Option Durable) (state : S → State) (may : S → Durable → Type 0) where
+  module _ (is_read : C → C → Type 0) (findable : AreFindable durable may) (alike : AreAlike durable) (a b : StageNow S C) (can : CanGo durable state may a) where
+    -- a client's turn
+    pub client-turn-goes : (n number : ℕ) → ClientTurned n number a b → (settling : Bool) → GoesOn durable state may is_read (λ r. TurnOf settling r (client n) number) a b
+    client-turn-goes n number k settling = subst (λ s. GoesOn durable state may is_read (λ r. TurnOf settling r (client n) number) a s) (sym k.after) (by k.works)
+      where
+        by : ClientWorks n number k.before k.now a.between k.left k.did → GoesOn durable state may is_read (λ r. TurnOf settling r (client n) number) a (swept_stage (with_between (followed (client n) k.did k.left) (with_client_at n k.now a)))
+        by (HeardOne l rest awake picked left turn) =
+            client-heard-done durable state may is_read findable alike a can n k.before k.now k.did k.left k.here k.plan (ap (λ q. q.asked) left) (ap (λ q. q.issued) left) (ap (λ q. q.lines) left) settling number l rest awake picked (ap (λ q. q.messages) left) turn
+        by (WentOn none left turn) =
+            client-went-done durable state may is_read findable alike a can n k.before k.now k.did k.left k.here k.plan (ap (λ q. q.asked) left) (ap (λ q. q.issued) left) (ap (λ q. q.lines) left) settling number none (ap (λ q. q.messages) left) turn
+
+    module _ (settling : Bool) (t number : ℕ) where
+      worked-goes : TargetWorked durable state may is_read settling t number a b → GoesOn durable state may is_read (λ r. TurnOf settling r (target t) number) a b
+      worked-goes k = by k.ends
+        where
+          by : WorkEnds durable state may t k.before k.now k.left a b k.result → GoesOn durable state may is_read (λ r. TurnOf settling r (target t) number) a b
+          by (Whole did is after) =
+              subst (λ s. GoesOn durable state may is_read (λ r. TurnOf settling r (target t) number) a s) (sym after)
+              (whole-done durable state may is_read findable alike a can t k.before k.now k.place k.plan (served-by-runs stop_store k.result (state k.before.store) (state k.now.store) (durable k.before.store) (durable k.now.store) k.runs) k.clock did k.left k.opened
+              (subst (λ q. Runs stop_store q (state k.before.store) (state k.now.store) (durable k.before.store) (durable k.now.store)) is k.runs)
+              (subst (λ q. IfOk q (λ d. PostsInForm k.before.plan.targets k.before.memory.leader k.now.memory.leader d.posts)) is k.posts) settling number (none-prunes durable state may a can t number)
+              (subst (IsTurned durable state may settling t number k.before k.now a.between k.left) is k.turned))
+          by (Cut why is after) =
+              let cut = is ∙ ap Err after.cut in
+              cut-done durable state may is_read findable alike a can t k.before k.now k.place k.plan (served-by-runs stop_store k.result (state k.before.store) (state k.now.store) (durable k.before.store) (durable k.now.store) k.runs) k.clock k.left after.issued after.lines k.runs.fuse
+              (k.runs.cause (ap (says stop_store) cut)) b settling number (none-prunes durable state may a can t number) (subst (IsTurned durable state may settling t number k.before k.now a.between k.left) cut k.turned) after.after
+
+      -- a target's turn
+      pub target-turn-goes : TargetTurned durable state may is_read settling t number a b → GoesOn durable state may is_read (λ r. TurnOf settling r (target t) number) a b
+      target-turn-goes (Worked k) = worked-goes k
+      target-turn-goes (Reopened k) = reopening-goes durable state may is_read findable alike a b can settling t number k
+
+  -- ---- a target can have its turn
+
+  module _ (findable : AreFindable durable may) (alike : AreAlike durable) (a : StageNow S C) (can : CanGo durable state may a) (t : ℕ) (x : TargetOf S C) (at : slice_get a.targets t ≡ Some x) where
+    tells : (d : Durable) (z : TargetOf S C) → durable z.store ≡ Some d → AllTell durable
+    tells d z told s = alike z.store s (ap is_some told)
+
+    counted : (stopped : slice_get a.watch.lives t ≡ Some Stopped) (d : Durable) → durable x.store ≡ Some d → (e : Durable) → may x.store e → e.incarnation + 1 < 2 ^ 64
+    counted stopped d told e m =
+        let g = can.told t x d at told in
+        let most = g.counted t x Stopped (record { there = at; stands = stopped }) e m in
+        let few = can.openings in
+        omega (arith, most, few)
+
+    covered : (stopped : slice_get a.watch.lives t ≡ Some Stopped) (d : Durable) → durable x.store ≡ Some d → (e : Durable) → may x.store e → IsHeard e.lease e
+    covered stopped d told e m =
+        let g = can.told t x d at told in
+        let all = tells d x told in
+        let found = choosing t e (some-found durable state may findable a (λ z. all z.store)) in
+        let y = g.reached found (found-with durable state may findable a (λ z. all z.store) t x e at m) in
+        let s = target-there durable state g.rules found a y.now t x Stopped y.shows (record { there = at; stands = stopped }) in
+        let same : s.s.durable ≡ e = s.is.so.keeps ∙ chosen t e (some-found durable state may findable a (λ z. all z.store)) in
+        record { versions = subst (λ k. IsCovered k) same (runs-are-covered g.rules g.opening g.first y.now g.simple g.begun y.run t s.s s.here); leased = omega arith }
+
+    -- it can: it hears what it is to hear, and what may be found of it where it is stopped is counted and covered
+    pub can-turn : (number : ℕ) → CanTurn durable state may a t number x
+    can-turn number = record {
+      opened = λ runs. (can.work t x (record { there = at; stands = runs })).opened;
+      running = λ runs. (can.work t x (record { there = at; stands = runs })).running;
+      hears = λ runs l rest picked. hearable durable state may a can t number l rest picked findable tells x (record { there = at; stands = runs });
+      counted = λ stopped d told e m. counted stopped d told e m;
+      covered = λ stopped d told e m. covered stopped d told e m;
+    }
