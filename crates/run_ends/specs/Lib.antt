@@ -2,3 +2,9 @@
 pub mod Starts
 pub mod Arming
 pub mod Comes
+pub mod Places
+pub mod Begun
+pub mod Armed
+pub mod Lasts
+pub mod Caused
+pub mod Ending

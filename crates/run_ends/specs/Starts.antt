@@ -47,7 +47,7 @@ module _ {S C : Type 0} (durable : S → Option Durable) (state : S → State) w
   pub record HaveStarted (g : Given) (clients : List ClientNow) (targets : List (TargetOf S C)) : Type 0 where
     pub simple : IsSimple (rules_of g)
     pub plain : IsOpeningPlain g.opening
-    pub clients : AreFirst g clients
+    pub those : AreFirst g clients
     pub many : length targets ≡ g.script.targets
     pub each : (t : ℕ) (x : TargetOf S C) → slice_get targets t ≡ Some x → HasStarted g t x
 

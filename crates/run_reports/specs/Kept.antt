@@ -399,5 +399,12 @@ module _ (g : Given) (w v : World) (k : GoesInOrder g w v) where
       let end = legal.ended g w v k in
       leaves r g.opening (held_at w) z.h z.stored v k.simple z.so.accounted end.settled (ended-over r g.opening w v k.simple k.begun run end) (all-there r g.opening w v k.begun run).targets end z.so.rows
 
+  -- each target that was given up has its line
+  pub downs-have_lines : (t : ℕ) (s : TargetState) → slice_get v.targets t ≡ Some s → s.life ≡ Down → Has (line.Down t) v.lines
+  downs-have_lines t s here down =
+      let a = runs-accounted r g.opening w v k.simple k.begun run in
+      let end = legal.ended g w v k in
+      gone r g.opening (held_at w) a.0 (stored_over r run) v k.simple a.1 end.settled (ended-over r g.opening w v k.simple k.begun run end) (all-there r g.opening w v k.begun run).targets t s here down
+
 pub orders-leave : OrdersLeaveInTheEnd
 orders-leave g w v k = left-so g w v k

@@ -15,7 +15,7 @@ use Rattle.daos_model.specs.Stops.{down_targets, given_up, least, least_with}
 use Rattle.run_reports.specs.Reports.{NoneUnknownWithoutGivenUp, UnknownIsOfGivenUp}
 
 -- a target that a line tells was given up is among those
-down-among : (ls : List Line) (t : ℕ) → Has (line.Down t) ls → Has t (down_targets ls)
+pub down-among : (ls : List Line) (t : ℕ) → Has (line.Down t) ls → Has t (down_targets ls)
 down-among [] t i = absurd i
 down-among (l ∷ ls) t (inl same) = has-left (given_up l) (down_targets ls) t (subst (λ m. Has t (given_up m)) same (inl refl))
 down-among (l ∷ ls) t (inr i) = has-right (given_up l) (down_targets ls) t (down-among ls t i)

@@ -2,17 +2,40 @@
 ghost use Rattle.std.specs.Prelude.{◌≡◌};
 ghost use Rattle.daos_model.specs.Stops.{down_targets, least};
 ghost use Rattle.run_ends.specs.Comes.{report_with};
+ghost use Rattle.run_reports.specs.Reports.{AreTyped, HasTypedNumbers};
 
 use base_types::epoch::TargetId;
 use base_types::report::{Line, Lines, Report};
 use base_types::script::Script;
 
+// The numbers of a line are as small as their types hold: each is read, and does nothing.
+fn read_numbers(line: &Line)
+    ensures { HasTypedNumbers line.now }
+{
+    match line {
+        Line::Stop { number, .. } => {
+            let _number = *number;
+        }
+        Line::Restart {
+            number,
+            incarnation,
+            ..
+        } => {
+            let _number = *number;
+            let _incarnation = *incarnation;
+        }
+        _ => {}
+    }
+}
+
 // The least of the targets of which a line tells that they were given up.
 fn first_down(lines: &[Line]) -> Option<TargetId>
-    ensures { result ≡ least (down_targets lines.now) }
+    ensures least { result ≡ least (down_targets lines.now) }
+    ensures typed { AreTyped lines.now }
 {
     let mut first: Option<TargetId> = None;
     for line in lines {
+        read_numbers(line);
         if let Line::Down { target } = line {
             first = Some(first.map_or(*target, |t| t.min(*target)));
         }
@@ -22,7 +45,8 @@ fn first_down(lines: &[Line]) -> Option<TargetId>
 
 // The report of these lines of a run of a script.
 pub fn report_of(script: &Script, lines: Lines) -> Report
-    ensures { result ≡ report_with script.now lines }
+    ensures report { result ≡ report_with script.now lines }
+    ensures typed { AreTyped lines }
 {
     let down = first_down(lines.as_slice());
     Report {
