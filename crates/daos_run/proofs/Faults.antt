@@ -1,5 +1,5 @@
 -- What calls leave of stores whose fuses were taken away, where one of them isn't opened.
-use Rattle.std.specs.Prelude.{ℕ, ◌≡◌, ◌&&◌, Bool, true, false, List, Option, Some, Result, Ok, Err, refl}
+use Rattle.std.specs.Prelude.{ℕ, ◌≡◌, ◌&&◌, Bool, true, false, List, Option, refl}
 use Rattle.std.proofs.Common.{inl, inr, sym, ◌∙◌, ap, subst}
 use Rattle.std.proofs.lemmas.Bool.{true≢false}
 use Rattle.base_outside.specs.Causes.{Rose}
@@ -28,8 +28,8 @@ risen-on h m k set (inr burnt) = by h.tells_fuse refl
 
 -- calls set no fuse
 pub gone-on : (m k : State) → Fires m k → k.tells_fuse ≡ m.tells_fuse → (m.tells_fuse ≡ true → m.fused ≡ false) → k.tells_fuse ≡ true → k.fused ≡ false
-gone-on m k (inl same) as gone tells = same.1 ∙ gone (sym as ∙ tells)
-gone-on m k (inr fired) as gone tells = sym (ap (λ b. b && k.fused) (sym as ∙ tells)) ∙ fired.1
+gone-on m k (inl same) alike gone tells = same.1 ∙ gone (sym alike ∙ tells)
+gone-on m k (inr fired) alike gone tells = sym (ap (λ b. b && k.fused) (sym alike ∙ tells)) ∙ fired.1
 
 -- ---- all stores
 
@@ -51,7 +51,7 @@ module _ {S C : Type 0} (durable : S → Option Durable) (state : S → State) (
   -- a store that isn't opened was failed by the outside, or doesn't tell its fuse
   pub opening-fault : (may : S → Durable → Type 0) (stop : RunStop) → FromTo old mid (λ t a b. HasNoFuse durable state may a b)
       → FromTo mid new (λ t a b. Runs (is_fault_of t) (not_started stop) (state a) (state b) (durable a) (durable b)) → IsOpeningFault state old new stop
-  opening-fault may (stop.RackFault target) F R x y at to =
+  opening-fault may (stop.RackFault target) F R = λ x y at to.
       let m = meanwhile target x at in
       let r = R target m.0 y m.1 to in
       risen-on (state x.0) (state m.0.0) (state y.0) (F target x m.0 at m.1).state_is (r.cause (same-number target))

@@ -1,7 +1,7 @@
 -- A script that is run so far runs transactions alone; so what follows from a legal report of room follows of its run, and where no target
 -- is stopped what follows of a lone client.
-use Rattle.std.specs.Prelude.{ℕ, ◌≡◌, ◌≤◌, ◌<◌, Bool, true, false, List, [], ◌∷◌, slice_get, Option, Some, None, refl}
-use Rattle.std.proofs.Common.{zero, suc, ap, subst, arith}
+use Rattle.std.specs.Prelude.{ℕ, ◌≡◌, ◌≤◌, ◌<◌, Bool, true, false, List, [], is_some, Option, None, refl}
+use Rattle.std.proofs.Common.{arith}
 use Rattle.base_types.specs.declared.id.AttemptId.{AttemptId}
 use Rattle.base_types.specs.declared.job.Job.{Job}
 use Rattle.base_types.specs.declared.report.Report.{Report}
@@ -25,6 +25,8 @@ use Rattle.daos_run.proofs.Begun.{lists-run}
 use Rattle.daos_run.specs.Alone.{IsOfLoneClient}
 use Rattle.daos_run.specs.Opens.{given}
 use Rattle.run_ends.specs.Comes.{ComesTo, IsLegal, IsOutside, MayBeFound}
+use Rattle.run_ends.specs.Lasts.{some-may_be, some_lasts}
+use Rattle.run_shows.specs.Going.{AreAlike, AreFindable}
 use Rattle.script_runnable.specs.Runnable.{IsRunnable, is_run}
 use Rattle.vos_store.specs.Calls.{State}
 
@@ -73,23 +75,15 @@ silent = record { rises = λ t. None; foreign = λ t. false; keeps = λ t. true 
 silent-fits : {S : Type 0} (state : S → State) (xs ys : List S) → IsOutside state silent xs ys
 silent-fits state xs ys = record { counts = λ t x y k at to says. let no : ⊥ = cc in absurd no }
 
--- each store may be found with something, so all may be together
-lasts-found : {S : Type 0} (may : S → Durable → Type 0) (ys : List S) → ((t : ℕ) (y : S) → slice_get ys t ≡ Some y → (d : Durable) × may y d) → (lasts : List Durable) × MayBeFound may ys lasts
-lasts-found may [] some = ([], record { many = refl; each = λ t y d at. absurd (let no : ⊥ = cc in no) })
-lasts-found {S} may (y ∷ ys) some =
-    let first = some 0 y refl in
-    let k = lasts-found may ys (λ t z at. some (suc t) z at) in
-    (first.0 ∷ k.0, record { many = ap suc k.1.many; each = each first.0 first.1 k.0 k.1 })
-  where
-    each : (d : Durable) → may y d → (lasts : List Durable) → MayBeFound may ys lasts → (t : ℕ) (z : S) (e : Durable) → slice_get (y ∷ ys) t ≡ Some z → slice_get (d ∷ lasts) t ≡ Some e → may z e
-    each d m lasts k zero z e at to = let same : y ≡ z = cc in let one : d ≡ e = cc in subst (λ w. may w e) same (subst (may y) one m)
-    each d m lasts k (suc t) z e at to = k.each t z e at to
+-- where one store tells what it keeps so do all of its type, and something may be found of each
+all-found : {S : Type 0} (durable : S → Option Durable) (may : S → Durable → Type 0) → AreFindable durable may → AreAlike durable → (x : S) → is_some (durable x) ≡ true → (ys : List S) → (lasts : List Durable) × MayBeFound may ys lasts
+all-found durable may findable alike x told ys = (some_lasts durable may findable (λ y. alike x y told) ys, some-may_be durable may findable (λ y. alike x y told) ys)
 
 module _ {S : Type 0} (durable : S → Option Durable) (state : S → State) (may : S → Durable → Type 0) (s : Script) (j : Job) (free : ℕ → ℕ) (xs ys : List S) (q : Report) (F : IsRunnable j.targets s) (some : 1 ≤ j.targets) (least : 1 ≤ j.attempts)
     (K : ComesTo durable state may (given s j free) xs ys q) where
-  pub finds-room : ((t : ℕ) (y : S) → slice_get ys t ≡ Some y → (d : Durable) × may y d) → HasRoom s j.attempts free → FindsRoom q
-  finds-room found room =
-      let k = lasts-found may ys found in
+  pub finds-room : AreFindable durable may → AreAlike durable → (x : S) → is_some (durable x) ≡ true → HasRoom s j.attempts free → FindsRoom q
+  finds-room findable alike x told room =
+      let k = all-found durable may findable alike x told ys in
       room-found s j free silent (resolved k.0) q F some least room (K.stand k.0 silent k.1 (silent-fits state xs ys)).told
 
   pub is-of-lone-client : HasOneClient s → s.stops ≡ [] → stop_numbers q.lines ≡ [] → IsOfLoneClient (given s j free) q

@@ -1,13 +1,11 @@
 -- The stores in the places of targets, as a list.
-use Rattle.std.specs.Prelude.{ℕ, ◌≡◌, ◌<◌, List, [], ◌∷◌, length, map, slice_get, Option, Some, None, refl}
+use Rattle.std.specs.Prelude.{ℕ, ◌≡◌, ◌<◌, List, [], ◌∷◌, length, slice_get, Option, Some, None, refl}
 use Rattle.std.proofs.Common.{zero, suc, sym, ◌∙◌, ap, subst, arith}
 use Rattle.std.proofs.lemmas.Option.{slice_get_within}
 use Rattle.daos_model.specs.FormLaws.{length-map}
-use Rattle.model_laws.specs.Lists.{at-within}
 use Rattle.daos_run.specs.Slots.{AreBack, AreSet, IsAt, stores_in}
-use Rattle.daos_run.proofs.Begun.{from-map, same-lists}
+use Rattle.run_ends.specs.Places.{from-map, same-lists}
 use Rattle.run_ends.specs.Starts.{stores_of}
-use Rattle.run_shows.specs.ListLaws.{map-get}
 use Rattle.target_core.specs.Targets.{TargetOf}
 
 -- each place has a store and a clock

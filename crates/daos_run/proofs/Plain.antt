@@ -1,5 +1,5 @@
 -- Runs over empty stores in memory.
-use Rattle.std.specs.Prelude.{ℕ, ◌≡◌, ◌≤◌, ◌<◌, ◌+◌, ◌*◌, ◌-◌, ◌^◌, true, false, IfErr, IsOkUnless, List, [], slice_get, is_some, Option, Some, None, Result, Ok, Err, refl}
+use Rattle.std.specs.Prelude.{ℕ, ◌≡◌, ◌≤◌, ◌*◌, ◌-◌, true, IfErr, IfOk, IsOkUnless, List, [], slice_get, is_some, Option, Some, None, Result, Ok, Err, refl}
 use Rattle.std.proofs.Common.{inl, inr, ◌∙◌, ap, arith, subst, sym}
 use Rattle.std.proofs.lemmas.Bool.{true≢false}
 use Rattle.base_types.specs.declared.job.Job.{Job}
@@ -17,14 +17,18 @@ use Rattle.daos_run.specs.Opens.{IsEmpty, IsFreshState}
 use Rattle.daos_run.specs.Slots.{AreFree, AreSet, EachStore, HaveStores, IsAt, StoresAreServed, stores_in}
 use Rattle.daos_run.specs.Starts.{IsNewStore}
 use Rattle.daos_run.specs.Stops.{HasRisen, IsOpeningFault, MayStop}
-use Rattle.daos_run.proofs.Places.{at-low, in-place}
+use Rattle.daos_run.proofs.Places.{in-place}
 use Rattle.daos_run.proofs.Unstopped.{no-down-told, no-stops-told}
 use Rattle.run_ends.specs.Comes.{ComesTo, FollowsOrder, IsLegal, IsLegalBySome, IsOrdered, IsOutside}
 use Rattle.run_ends.specs.Starts.{AllTell}
+use Rattle.script_runnable.specs.Keyed.{CellHasKeys, ScriptHasKeys}
+use Rattle.report_writer.specs.Forms.{IsReportOf}
+use Rattle.std.proofs.lemmas.List.Elements.{All-nil}
 use Rattle.vos_store.specs.Calls.{State}
 use Rattle.vos_plain.specs.Plain.{plain_durable, plain_state}
 use Rattle.vos_plain.specs.declared.store.PlainStore.{PlainStore}
 use Rattle.world_ends.specs.Ends.{durables_of}
+use Rattle.world_lone.specs.LoneRuns.{AreIssuedThere}
 
 -- it tells what it keeps
 abbrev pub told_by : PlainStore → Option Durable
@@ -40,6 +44,19 @@ is-empty targets size_mib store few new = record {
   seldom = omega arith;
   kept = λ d told. same-kept (plain_durable store) d _ new.kept told;
 }
+
+-- what its next opening may find
+abbrev pub found_in : PlainStore → Durable → Type 0
+found_in store d = d ≡ plain_durable store
+
+-- what follows of a result that is there
+on-ok : {T E : Type 0} {P Q : T → Type 0} (result : Result T E) → ((x : T) → P x → Q x) → IfOk result P → IfOk result Q
+on-ok (Ok x) f p = f x p
+on-ok (Err e) f p = tt
+
+on-both : {T E : Type 0} {P Q R : T → Type 0} (result : Result T E) → ((x : T) → P x → Q x → R x) → IfOk result P → IfOk result Q → IfOk result R
+on-both (Ok x) f p q = f x p q
+on-both (Err e) f p q = tt
 
 module _ {C : Type 0} (targets size_mib : ℕ) (slots : List (Option (PlainStore × C))) (H : HaveStores (λ t store. IsNewStore size_mib store) targets slots) where
   pub all-empty : targets ≤ 64 → HaveStores (λ t store. IsEmpty told_by plain_state targets store) targets slots
@@ -70,11 +87,13 @@ module _ {C : Type 0} (targets size_mib : ℕ) (slots : List (Option (PlainStore
         (V t x y at to).sure (ap (λ h. h.may_fail) is) ∙ ap (λ h. h.faults) is
 
     stays-undisturbed : IsOutside plain_state undisturbed (stores_in slots) (stores_in new)
-    stays-undisturbed = record { counts = λ t x y k at to says.
-        let p = in-place targets slots H.set t x at in
-        let r = in-place targets new set t y to in
-        let none : (plain_state y).faults ≡ 0 = ap (λ z. (plain_state z).faults) r.is ∙ never-failed t p.pair r.pair p.at r.at in
-        (refl, omega (arith, none), omega (arith, none)) }
+    stays-undisturbed = record {
+      counts = λ t x y k at to says.
+          let p = in-place targets slots H.set t x at in
+          let r = in-place targets new set t y to in
+          let none : (plain_state y).faults ≡ 0 = ap (λ z. (plain_state z).faults) r.is ∙ never-failed t p.pair r.pair p.at r.at in
+          (refl, omega (arith, none), omega (arith, none));
+    }
 
     -- so a run on them is stopped by want of memory alone
     pub only-memory : {T : Type 0} (result : Result T RunStop) → IfErr result (IsOpeningFault plain_state slots new) → IfErr result (MayStop true targets) → IsOkUnless result NoMemory
@@ -93,24 +112,39 @@ module _ {C : Type 0} (targets size_mib : ℕ) (slots : List (Option (PlainStore
 
     -- ---- what a run comes to
 
-    module _ (may : PlainStore → Durable → Type 0) (s : Script) (j : Job) (q : Report) (size : j.size_mib ≡ size_mib) (K : ComesTo told_by plain_state may (fresh s j) (stores_in slots) (stores_in new) q) where
-      ordered : IsOrdered may (fresh s j) q (stores_in new)
-      ordered = K.ordered (λ t x at. free-exactly t x at ∙ ap (λ n. n * 4096 - 1264) (sym size))
+    module _ (s : Script) (j : Job) (size : j.size_mib ≡ size_mib) where
+      -- it comes to this report
+      abbrev pub Comes : Report → Type 0
+      Comes q = ComesTo told_by plain_state found_in (fresh s j) (stores_in slots) (stores_in new) q
 
-      headline : HeadlineOver (fresh s j) undisturbed (durables_of ordered.follows.last) q
-      headline = K.stand (durables_of ordered.follows.last) undisturbed ordered.kept stays-undisturbed
+      module _ (q : Report) (K : Comes q) where
+        ordered : IsOrdered found_in (fresh s j) q (stores_in new)
+        ordered = K.ordered (λ t x at. free-exactly t x at ∙ ap (λ n. n * 4096 - 1264) (sym size))
 
-      pub follows-order : FollowsOrder (fresh s j) q
-      follows-order = ordered.follows
+        headline : HeadlineOver (fresh s j) undisturbed (durables_of ordered.follows.last) q
+        headline = K.stand (durables_of ordered.follows.last) undisturbed ordered.kept stays-undisturbed
 
-      pub legal-by-some : IsLegalBySome (fresh s j) q
-      legal-by-some = (durables_of ordered.follows.last, headline)
+        unstopped : s.stops ≡ [] → stop_numbers q.lines ≡ []
+        unstopped none = no-stops-told (fresh s j) (resolved (durables_of ordered.follows.last)) q headline.told none
 
-      pub unstopped : s.stops ≡ [] → stop_numbers q.lines ≡ []
-      unstopped none = no-stops-told (fresh s j) (resolved (durables_of ordered.follows.last)) q headline.told none
+      module _ (result : Result Report RunStop) (R : IfOk result Comes) where
+        pub legal-by-some : IfOk result (IsLegalBySome (fresh s j))
+        legal-by-some = on-ok result (λ q K. (durables_of (ordered q K).follows.last, headline q K)) R
 
-      pub legal : s.stops ≡ [] → IsLegal (fresh s j) q
-      legal none = (K.unstopped (unstopped none)).legal
+        pub legal : s.stops ≡ [] → IfOk result (IsLegal (fresh s j))
+        legal none = on-ok result (λ q K. (K.unstopped (unstopped q K none)).legal) R
 
-      pub none-down : q.down ≡ None
-      none-down = no-down-told (fresh s j) (resolved (durables_of ordered.follows.last)) q headline.told
+        pub in-form : ScriptHasKeys s → IfOk result (IsReportOf s)
+        in-form keys = on-ok result (λ q K. K.form keys (All-nil CellHasKeys)) R
+
+        pub follows-order : IfOk result (FollowsOrder (fresh s j))
+        follows-order = on-ok result (λ q K. (ordered q K).follows) R
+
+        pub issued-there : IfOk result AreIssuedThere
+        issued-there = on-ok result (λ q K. K.issued) R
+
+        pub none-down : IfOk result (λ q. q.down ≡ None)
+        none-down = on-ok result (λ q K. no-down-told (fresh s j) (resolved (durables_of (ordered q K).follows.last)) q (headline q K).told) R
+
+        pub of-lone : s.stops ≡ [] → (P : Report → Type 0) → IfOk result (λ q. stop_numbers q.lines ≡ [] → P q) → IfOk result P
+        of-lone none P lone = on-both result (λ q K told. told (unstopped q K none)) R lone

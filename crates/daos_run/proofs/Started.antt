@@ -1,5 +1,5 @@
 -- Targets that start over their stores, one after another; and their stores in the end.
-use Rattle.std.specs.Prelude.{ℕ, ◌≡◌, ◌≤◌, ◌<◌, ◌+◌, Bool, true, false, List, [], ◌∷◌, ◌++◌, length, set, slice_get, Option, Some, None, Result, Ok, Err, refl}
+use Rattle.std.specs.Prelude.{ℕ, ◌≡◌, ◌≤◌, ◌<◌, ◌+◌, Bool, true, false, List, [], ◌∷◌, ◌++◌, length, set, slice_get, Option, Some, None, Ok, refl}
 use Rattle.std.proofs.Common.{inl, inr, sym, ◌∙◌, ap, subst, arith}
 use Rattle.std.proofs.lemmas.Bool.{cases_eq, cases_lt}
 use Rattle.std.proofs.lemmas.Option.{slice_get_within}
@@ -14,14 +14,14 @@ use Rattle.daos_run.specs.Slots.{AreBack, AreSet, AreTaken, ClocksAreRead, Clock
 use Rattle.daos_run.specs.Starts.{AreStarted, StartsOver}
 use Rattle.daos_run.specs.Stops.{is_fault_of, not_started}
 use Rattle.daos_run.proofs.Places.{at-low}
-use Rattle.daos_run.proofs.Slots.{at-end, length-end, same-pair}
+use Rattle.daos_run.proofs.Slots.{at-end, length-end}
 use Rattle.run_shows.specs.Accounts.{AreServed, IsServed}
 use Rattle.run_shows.specs.ListLaws.{length-set}
 use Rattle.run_shows.specs.Serving.{served-by-runs, served-on}
 use Rattle.target_core.specs.Targets.{TargetOf}
 use Rattle.target_parts.specs.Parts.{Runs, StillRuns}
-use Rattle.target_parts.specs.Readings.{IsReadOn, not-read_on}
-use Rattle.target_parts.specs.Running.{runs_as, runs_first, runs_on}
+use Rattle.target_parts.specs.Readings.{IsReadOn}
+use Rattle.target_parts.specs.Running.{runs_as, runs_first}
 use Rattle.vos_store.specs.Calls.{State}
 use Rattle.vos_store.specs.Refusals.{always_stop}
 use Rattle.world_base.specs.StepLaws.{set-here, set-there}

@@ -1,13 +1,12 @@
 -- Reports by which no target was stopped, and none given up.
-use Rattle.std.specs.Prelude.{ℕ, ◌≡◌, ◌≤◌, ◌+◌, ◌++◌, Bool, true, false, List, [], ◌∷◌, length, Contains, None, Option, Some, filter, ◌⊎◌, if◌then◌else◌, refl}
-use Rattle.std.proofs.Common.{inl, inr, sym, ◌∙◌, ap, subst, arith}
+use Rattle.std.specs.Prelude.{ℕ, ◌≡◌, ◌≤◌, ◌+◌, ◌++◌, Bool, true, false, List, [], ◌∷◌, length, Contains, None, filter, ◌⊎◌, if◌then◌else◌, refl}
+use Rattle.std.proofs.Common.{inl, inr, sym, ◌∙◌, subst, arith}
 use Rattle.std.proofs.lemmas.Bool.{true≢false}
 use Rattle.std.proofs.lemmas.List.{length-append}
 use Rattle.base_types.specs.declared.id.AttemptId.{AttemptId}
 use Rattle.base_types.specs.declared.report.Line.{Line}
 use Rattle.base_types.specs.declared.report.Line.TheVariants as line
 use Rattle.base_types.specs.declared.report.Report.{Report}
-use Rattle.base_types.specs.declared.script.StopDecl.{StopDecl}
 use Rattle.daos_model.specs.Headline.{Headline}
 use Rattle.daos_model.specs.Opening.{Given, undisturbed}
 use Rattle.daos_model.specs.Stops.{down_targets, is_at, is_stop_at, least, lines_at, stop_numbers, stopped_number}
@@ -52,7 +51,7 @@ none-stopped (line.Down target ∷ ls) none = none-stopped ls (behind (line.Down
 -- nothing is in a list: it is empty, and has no least
 no-least : (ns : List ℕ) → ((n : ℕ) → Contains ns n → ⊥) → least ns ≡ None
 no-least [] none = refl
-no-least (n ∷ ns) none = absurd (none n (inl refl))
+no-least (n ∷ ns) none = absurd (none n (0, omega arith, refl))
 
 -- ---- legal reports of a run in which the outside failed no region
 

@@ -8,13 +8,14 @@ use Rattle.base_types.specs.declared.report.Report.{Report}
 use Rattle.base_types.specs.declared.script.Script.{Script}
 use Rattle.daos_model.specs.declared.durable.Durable.{Durable}
 use Rattle.daos_model.specs.Opening.{Outside}
-use Rattle.daos_run.specs.Opens.{AreFirst, IsEmpty, IsStarted, given}
-use Rattle.daos_run.specs.Slots.{AreBack, AreFree, AreSet, AreTaken, FromTo, HasNoFuse, IsAt, stores_in}
-use Rattle.daos_run.specs.Starts.{AreStarted, StartsOver}
-use Rattle.daos_run.proofs.Begun.{from-map, have-started}
+use Rattle.daos_run.specs.Opens.{AreFirst, IsStarted, given}
+use Rattle.daos_run.specs.Slots.{AreBack, AreFree, AreSet, FromTo, HasNoFuse, IsAt, stores_in}
+use Rattle.daos_run.specs.Starts.{AreStarted}
+use Rattle.daos_run.proofs.Begun.{have-started}
 use Rattle.daos_run.proofs.Disarmed.{unfused-free, unfused-served}
-use Rattle.daos_run.proofs.Places.{in-place, store-at, stores-back}
+use Rattle.daos_run.proofs.Places.{store-at, stores-back}
 use Rattle.run_ends.specs.Comes.{ComesTo, IsOutside}
+use Rattle.run_ends.specs.Places.{from-map}
 use Rattle.run_ends.specs.Starts.{AllTell, HaveStarted, stores_of}
 use Rattle.run_shows.specs.Accounts.{IsServed}
 use Rattle.run_shows.specs.Serving.{served-by-runs, served-on}
@@ -72,9 +73,9 @@ module _ {S C : Type 0} (durable : S → Option Durable) (state : S → State) (
         pair = p.0;
         at = p.1;
         called = record {
-          served = served-on (state p.0.0) (state m.0.0) (state x.store) (durable p.0.0) (durable m.0.0) (durable x.store) (unfused-served durable state may j.targets p.0.0 m.0.0 fuse)
+          served = served-on (state p.0.0) (state m.0.0) (state x.store) (durable p.0.0) (durable m.0.0) (durable x.store) (unfused-served durable state may p.0.0 m.0.0 fuse)
               (served-by-runs always_stop (Ok (tt {0})) (state m.0.0) (state x.store) (durable m.0.0) (durable x.store) k.runs);
-          free = k.free ∙ unfused-free durable state may j.targets p.0.0 m.0.0 fuse;
+          free = k.free ∙ unfused-free durable state may p.0.0 m.0.0 fuse;
         };
         started = k.started;
       }
