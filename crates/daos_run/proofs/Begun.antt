@@ -1,8 +1,8 @@
 -- Clients and targets that have started are those of the world that a run begins with.
-use Rattle.std.specs.Prelude.{ℕ, ◌≡◌, ◌≤◌, ◌/◌, All, true, false, List, [], ◌∷◌, length, map, slice_get, Option, Some, None, is_some, refl}
+use Rattle.std.specs.Prelude.{ℕ, ◌≡◌, ◌≤◌, ◌+◌, ◌^◌, ◌/◌, All, true, List, [], length, map, slice_get, Option, Some, None, refl}
 use Rattle.std.specs.List.{list_all}
-use Rattle.std.proofs.Common.{zero, suc, sym, ◌∙◌, ap, subst, arith}
-use Rattle.std.proofs.lemmas.Bool.{and_parts, true≢false}
+use Rattle.std.proofs.Common.{sym, ◌∙◌, ap, subst, arith}
+use Rattle.std.proofs.lemmas.Bool.{and_parts}
 use Rattle.std.proofs.lemmas.List.Elements.{All-nil}
 use Rattle.client_core.specs.Clients.{ClientNow}
 use Rattle.base_types.specs.Scripts.{IsInForm}
@@ -11,7 +11,6 @@ use Rattle.base_types.specs.declared.script.Command.{Command}
 use Rattle.base_types.specs.declared.script.Command.TheVariants.{Aggregate, Run, Skip, Snap, Tell}
 use Rattle.base_types.specs.declared.script.Script.{Script}
 use Rattle.model_laws.specs.Lists.{passes-at}
-use Rattle.model_laws.specs.Members.{has-from_contains}
 use Rattle.daos_model.specs.declared.durable.Durable.{Durable}
 use Rattle.daos_model.specs.Changes.{enlisted}
 use Rattle.daos_model.specs.Durables.{empty_durable}
@@ -19,6 +18,7 @@ use Rattle.daos_model.specs.Opening.{fresh_opening}
 use Rattle.daos_run.specs.Opens.{AreFirst, IsOpened, IsStarted, given}
 use Rattle.script_runnable.specs.Runnable.{IsRunnable, are_run, is_run, runs}
 use Rattle.daos_model.specs.FormLaws.{length-map}
+use Rattle.run_ends.specs.Places.{from-map, same-lists}
 use Rattle.run_ends.specs.Starts.{HasStarted, HaveStarted, target_state}
 use Rattle.run_shows.specs.Shows.{state_of}
 use Rattle.target_core.specs.Targets.{TargetOf}
@@ -29,7 +29,7 @@ use Rattle.world_whole.specs.Begins.{AreEnlisted, IsSimple, OpensWith, StartsWit
 use Rattle.world_whole.specs.Fresh.{fresh-opens}
 use Rattle.world_ends.specs.Ends.{rules_of}
 use Rattle.world_epochs.specs.Epochs.{is_unsnapped}
-use Rattle.world_base.specs.Events.{client_plan, commands_or_none, target_plan}
+use Rattle.world_base.specs.Events.{client_plan, commands_or_none}
 
 -- ---- scripts
 
@@ -64,25 +64,6 @@ is-simple s j free F some few least = record {
   unsnapped = λ n k d at. unsnapped s s.clients n k d (lists-run s F.run) at;
   some_attempt = omega (arith, least);
 }
-
--- ---- lists
-
-same-lists : {T : Type 0} (xs ys : List T) → length xs ≡ length ys → ((n : ℕ) (x y : T) → slice_get xs n ≡ Some x → slice_get ys n ≡ Some y → x ≡ y) → xs ≡ ys
-same-lists [] [] h each = refl
-same-lists [] (y ∷ ys) h each = absurd (omega (arith, h))
-same-lists (x ∷ xs) [] h each = absurd (omega (arith, h))
-same-lists (x ∷ xs) (y ∷ ys) h each = ap (λ z. z ∷ xs) (each 0 x y refl refl) ∙ ap (λ zs. y ∷ zs) (same-lists xs ys (omega (arith, h)) (λ n u v a b. each (suc n) u v a b))
-
--- an element of a mapped list is that of another
-pub record IsMapped {A B : Type 0} (f : A → B) (xs : List A) (n : ℕ) (y : B) : Type 0 where
-  pub of_it : A
-  pub at : slice_get xs n ≡ Some of_it
-  pub is : y ≡ f of_it
-
-pub from-map : {A B : Type 0} (f : A → B) (xs : List A) (n : ℕ) (y : B) → slice_get (map f xs) n ≡ Some y → IsMapped f xs n y
-from-map f [] n y h = let no : ⊥ = cc in absurd no
-from-map f (x ∷ xs) zero y h = record { of_it = x; at = refl; is = let same : f x ≡ y = cc in sym same }
-from-map f (x ∷ xs) (suc n) y h = let k = from-map f xs n y h in record { of_it = k.of_it; at = k.at; is = k.is }
 
 -- ---- what targets keep
 
@@ -178,7 +159,7 @@ module _ {S C : Type 0} (durable : S → Option Durable) (state : S → State) (
   have-started free some few least room = record {
     simple = is-simple s j free F some few least;
     plain = record { unowned = λ c none. refl; no_snaps = refl; lease = omega arith };
-    clients = record { plans = plans free; states = first-states free };
+    those = record { plans = plans free; states = first-states free };
     many = many ∙ sym F.form.read_for;
     each = λ t x at. has-started free t x at (room t x at);
   }

@@ -1,8 +1,11 @@
 pub mod Begun
 pub mod Stores
+pub mod Places
+pub mod Disarmed
 pub mod Started
-pub mod Reported
+pub mod Faults
 pub mod Whole
+pub mod Unstopped
 pub mod Plain
 pub mod Slots
 pub mod Firsts

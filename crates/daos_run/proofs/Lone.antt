@@ -1,7 +1,6 @@
--- A script that is run so far runs transactions alone, and nothing stops; so what follows from a legal report of room and of a lone
--- client follows of its run.
-use Rattle.std.specs.Prelude.{ℕ, ◌≡◌, ◌≤◌, ◌<◌, ◌==◌, ◌&&◌, Bool, true, false, List, [], ◌∷◌, length, refl}
-use Rattle.std.specs.List.{list_all}
+-- A script that is run so far runs transactions alone; so what follows from a legal report of room follows of its run, and where no target
+-- is stopped what follows of a lone client.
+use Rattle.std.specs.Prelude.{ℕ, ◌≡◌, ◌≤◌, ◌<◌, Bool, true, false, List, [], is_some, Option, None, refl}
 use Rattle.std.proofs.Common.{arith}
 use Rattle.base_types.specs.declared.id.AttemptId.{AttemptId}
 use Rattle.base_types.specs.declared.job.Job.{Job}
@@ -10,20 +9,26 @@ use Rattle.base_types.specs.declared.script.Command.{Command}
 use Rattle.base_types.specs.declared.script.Command.TheVariants.{Run, Snap, Aggregate, Tell, Skip}
 use Rattle.base_types.specs.declared.script.Script.{Script}
 use Rattle.base_types.specs.Scripts.{is_numbered}
-use Rattle.model_laws.specs.TargetLaws.{number_same}
 use Rattle.model_reports.specs.Ends.{commit, end-plainly, fresh-ticks}
 use Rattle.model_reports.specs.Lone.{HasOneClient, IsLone}
 use Rattle.model_reports.specs.Once.{rise, try-once}
 use Rattle.model_reports.specs.Restarts.{never-restart}
-use Rattle.daos_model.specs.BoolLaws.{and_left, and_right}
-use Rattle.daos_model.specs.Opening.{undisturbed}
+use Rattle.daos_model.specs.declared.durable.Durable.{Durable}
+use Rattle.daos_model.specs.Family.{resolved}
+use Rattle.daos_model.specs.Headline.{Headline}
+use Rattle.daos_model.specs.Opening.{Outside, undisturbed}
+use Rattle.daos_model.specs.Stops.{stop_numbers}
 use Rattle.model_reports.specs.Lines.{lists-of-transactions}
 use Rattle.model_reports.specs.RoomLaws.{transactions-find-room}
 use Rattle.model_reports.specs.Rooms.{FindsRoom, HasRoom, OnlyTransactions, is_transaction}
 use Rattle.daos_run.proofs.Begun.{lists-run}
 use Rattle.daos_run.specs.Alone.{IsOfLoneClient}
-use Rattle.daos_run.specs.Opens.{IsLegal, given}
-use Rattle.script_runnable.specs.Runnable.{IsRunnable, are_run, is_run, runs}
+use Rattle.daos_run.specs.Opens.{given}
+use Rattle.run_ends.specs.Comes.{ComesTo, IsLegal, IsOutside, MayBeFound}
+use Rattle.run_ends.specs.Lasts.{some-may_be, some_lasts}
+use Rattle.run_shows.specs.Going.{AreAlike, AreFindable}
+use Rattle.script_runnable.specs.Runnable.{IsRunnable, is_run}
+use Rattle.vos_store.specs.Calls.{State}
 
 transaction-if-run : (c : Command) → is_run c ≡ true → is_numbered c ≡ true → is_transaction c ≡ true
 transaction-if-run (Run ops skips snapshot) run number = run
@@ -32,19 +37,11 @@ transaction-if-run (Aggregate cont) run number = run
 transaction-if-run (Tell client) run number = number
 transaction-if-run (Skip turns) run number = number
 
-none-there : {T : Type 0} (xs : List T) → (length xs == 0) ≡ true → xs ≡ []
-none-there [] h = refl
-none-there (x ∷ xs) h = let none : length (x ∷ xs) ≡ 0 = number_same (length (x ∷ xs)) 0 h in absurd (omega (arith, none))
-
-no-stops : (s : Script) → runs s ≡ true → s.stops ≡ []
-unfolding runs
-no-stops s h = none-there s.stops (and_right (length s.olds == 0) (length s.stops == 0) (and_left ((length s.olds == 0) && (length s.stops == 0)) (list_all are_run s.clients) h))
-
 pub only-transactions : (n : ℕ) (s : Script) → IsRunnable n s → OnlyTransactions s
 only-transactions n s F = lists-of-transactions s is_run transaction-if-run (lists-run s F.run)
 
-pub is-lone : (n : ℕ) (s : Script) → IsRunnable n s → HasOneClient s → IsLone s undisturbed
-is-lone n s F one = record { one = one; plain = only-transactions n s F; no_stops = no-stops s F.run; undisturbed = λ t. refl }
+pub is-lone : (n : ℕ) (s : Script) → IsRunnable n s → HasOneClient s → s.stops ≡ [] → IsLone s undisturbed
+is-lone n s F one none = record { one = one; plain = only-transactions n s F; no_stops = none; undisturbed = λ t. refl }
 
 -- whichever attempts are taken as resolved
 nobody : AttemptId → Bool
@@ -53,14 +50,14 @@ nobody x = false
 some-targets : (m n : ℕ) → m ≡ n → 1 ≤ n → 0 < m
 some-targets m n same some = omega (arith, same, some)
 
-pub room-found : (s : Script) (j : Job) (free : ℕ → ℕ) (q : Report) → IsRunnable j.targets s → 1 ≤ j.targets → 1 ≤ j.attempts → IsLegal (given s j free) q → HasRoom s j.attempts (given s j free).opening.free → FindsRoom q
-room-found s j free q F some least legal room =
-    transactions-find-room (given s j free) undisturbed nobody q (some-targets s.targets j.targets F.form.read_for some) least room (only-transactions j.targets s F) (legal nobody)
+-- whatever the outside did
+pub room-found : (s : Script) (j : Job) (free : ℕ → ℕ) (o : Outside) (done : AttemptId → Bool) (q : Report) → IsRunnable j.targets s → 1 ≤ j.targets → 1 ≤ j.attempts → HasRoom s j.attempts free → Headline (given s j free) o done q → FindsRoom q
+room-found s j free o done q F some least room legal = transactions-find-room (given s j free) o done q (some-targets s.targets j.targets F.form.read_for some) least room (only-transactions j.targets s F) legal
 
-pub of-lone-client : (s : Script) (j : Job) (free : ℕ → ℕ) (q : Report) → IsRunnable j.targets s → 1 ≤ j.targets → 1 ≤ j.attempts → IsLegal (given s j free) q → HasOneClient s → IsOfLoneClient (given s j free) q
-of-lone-client s j free q F some least legal one =
+pub of-lone-client : (s : Script) (j : Job) (free : ℕ → ℕ) (q : Report) → IsRunnable j.targets s → 1 ≤ j.targets → 1 ≤ j.attempts → HasOneClient s → s.stops ≡ [] → IsLegal (given s j free) q → IsOfLoneClient (given s j free) q
+of-lone-client s j free q F some least one none legal =
     let g = given s j free in
-    let lone = is-lone j.targets s F one in
+    let lone = is-lone j.targets s F one none in
     record {
       never_restarted = never-restart g undisturbed nobody q lone (legal nobody);
       one_attempt = try-once g undisturbed nobody q lone (legal nobody);
@@ -68,3 +65,26 @@ of-lone-client s j free q F some least legal one =
       plainly = end-plainly g undisturbed nobody q lone (legal nobody);
       committed = λ free' room. commit g undisturbed nobody q lone (legal nobody) (some-targets s.targets j.targets F.form.read_for some) least room free' (fresh-ticks j.targets s j F.form one);
     }
+
+-- ---- whatever is found in the end
+
+-- an outside of which nothing is told
+abbrev silent : Outside
+silent = record { rises = λ t. None; foreign = λ t. false; keeps = λ t. true }
+
+silent-fits : {S : Type 0} (state : S → State) (xs ys : List S) → IsOutside state silent xs ys
+silent-fits state xs ys = record { counts = λ t x y k at to says. let no : ⊥ = cc in absurd no }
+
+-- where one store tells what it keeps so do all of its type, and something may be found of each
+all-found : {S : Type 0} (durable : S → Option Durable) (may : S → Durable → Type 0) → AreFindable durable may → AreAlike durable → (x : S) → is_some (durable x) ≡ true → (ys : List S) → (lasts : List Durable) × MayBeFound may ys lasts
+all-found durable may findable alike x told ys = (some_lasts durable may findable (λ y. alike x y told) ys, some-may_be durable may findable (λ y. alike x y told) ys)
+
+module _ {S : Type 0} (durable : S → Option Durable) (state : S → State) (may : S → Durable → Type 0) (s : Script) (j : Job) (free : ℕ → ℕ) (xs ys : List S) (q : Report) (F : IsRunnable j.targets s) (some : 1 ≤ j.targets) (least : 1 ≤ j.attempts)
+    (K : ComesTo durable state may (given s j free) xs ys q) where
+  pub finds-room : AreFindable durable may → AreAlike durable → (x : S) → is_some (durable x) ≡ true → HasRoom s j.attempts free → FindsRoom q
+  finds-room findable alike x told room =
+      let k = all-found durable may findable alike x told ys in
+      room-found s j free silent (resolved k.0) q F some least room (K.stand k.0 silent k.1 (silent-fits state xs ys)).told
+
+  pub is-of-lone-client : HasOneClient s → s.stops ≡ [] → stop_numbers q.lines ≡ [] → IsOfLoneClient (given s j free) q
+  is-of-lone-client one none unstopped = of-lone-client s j free q F some least one none (K.unstopped unstopped).legal

@@ -5,7 +5,8 @@ use Rattle.std.proofs.lemmas.Bool.{cases_eq}
 use Rattle.std.proofs.lemmas.Option.{slice_get_within}
 use Rattle.model_laws.specs.Lists.{length-replicate}
 use Rattle.daos_run.specs.Slots.{AreBack, HaveStores, IsAt}
-use Rattle.run_actors.specs.ListLaws.{length-set}
+use Rattle.run_ends.specs.Places.{one-there}
+use Rattle.run_shows.specs.ListLaws.{length-set}
 use Rattle.target_core.specs.Targets.{TargetOf}
 use Rattle.world_base.specs.StepLaws.{set-here, set-there}
 
@@ -79,8 +80,8 @@ at-end P [] x old new (suc k) y at = let no : ⊥ = cc in absurd no
 at-end P (z ∷ zs) x old new zero y at = old 0 y at
 at-end P (z ∷ zs) x old new (suc k) y at = at-end (λ n. P (suc n)) zs x (λ n w h. old (suc n) w h) new k y at
 
-pub same-at : {T : Type 0} (xs : List T) (t : ℕ) (x y : T) → slice_get xs t ≡ Some x → slice_get xs t ≡ Some y → x ≡ y
-same-at xs t x y at to = let e : Some x ≡ Some y = sym at ∙ to in cc
+pub same-pair : {T : Type 0} (slots : List (Option T)) (t : ℕ) (x y : T) → slice_get slots t ≡ Some (Some x) → slice_get slots t ≡ Some (Some y) → x ≡ y
+same-pair slots t x y at to = let e : Some (Some x) ≡ Some (Some y) = sym at ∙ to in cc
 
 -- a place isn't both set and without anything
 pub set-not-none : {T : Type 0} (slots : List (Option T)) (t : ℕ) (x : T) → slice_get slots t ≡ Some (Some x) → slice_get slots t ≡ Some None → ⊥
@@ -126,7 +127,7 @@ module _ {S C : Type 0} where
         back = λ t y past at. elim (cases_eq t (length left')) [
           | inl same ↦
               let here : slice_get now' t ≡ Some (Some (x.store, x.clock)) = ap (λ m. slice_get now' m) same ∙ ap (λ l. slice_get l (length left')) is ∙ set-here now (length left') None (Some (x.store, x.clock)) (k.waits (length left') (omega (arith, longer))) in
-              let x-is-y : x ≡ y = same-at all (length left') x y its (ap (λ m. slice_get all m) (sym same) ∙ at) in
+              let x-is-y : x ≡ y = one-there all (length left') x y its (ap (λ m. slice_get all m) (sym same) ∙ at) in
               subst (λ z. IsAt now' t (z.store, z.clock)) x-is-y here
           | inr apart ↦
               let old-one = k.back t y (omega (arith, longer, past, apart)) at in

@@ -1,5 +1,5 @@
 -- Targets that start over their stores, one after another; and their stores in the end.
-use Rattle.std.specs.Prelude.{ℕ, ◌≡◌, ◌≤◌, ◌<◌, ◌+◌, Bool, true, false, List, [], ◌∷◌, ◌++◌, length, set, slice_get, Option, Some, None, Result, Ok, Err, refl}
+use Rattle.std.specs.Prelude.{ℕ, ◌≡◌, ◌≤◌, ◌<◌, ◌+◌, Bool, true, false, List, [], ◌∷◌, ◌++◌, length, set, slice_get, Option, Some, None, Ok, refl}
 use Rattle.std.proofs.Common.{inl, inr, sym, ◌∙◌, ap, subst, arith}
 use Rattle.std.proofs.lemmas.Bool.{cases_eq, cases_lt}
 use Rattle.std.proofs.lemmas.Option.{slice_get_within}
@@ -10,20 +10,20 @@ use Rattle.daos_model.specs.declared.durable.Durable.{Durable}
 use Rattle.daos_run.specs.declared.stop.RunStop.{RunStop}
 use Rattle.daos_run.specs.declared.stop.RunStop.TheVariants.{Memory as NoMemory}
 use Rattle.daos_run.specs.Opens.{IsEmpty}
-use Rattle.daos_run.specs.Slots.{AreBack, AreSet, AreTaken, ClocksAreRead, ClocksStay, FromTo, HaveStores, IsAt}
+use Rattle.daos_run.specs.Slots.{AreBack, AreSet, AreTaken, ClocksAreRead, ClocksStay, FromTo, FusesAreGone, HaveStores, IsAt, StoresAreServed}
 use Rattle.daos_run.specs.Starts.{AreStarted, StartsOver}
-use Rattle.daos_run.specs.Stops.{is_fault_of, not_started, stop_of}
+use Rattle.daos_run.specs.Stops.{is_fault_of, not_started}
+use Rattle.daos_run.proofs.Places.{at-low}
 use Rattle.daos_run.proofs.Slots.{at-end, length-end}
-use Rattle.daos_run.proofs.Stores.{fault-at}
-use Rattle.run_actors.specs.ListLaws.{length-set}
-use Rattle.run_order.specs.declared.halted.Halted.{Halted}
-use Rattle.run_order.specs.Halts.{Leaves, stopped_at}
+use Rattle.run_shows.specs.Accounts.{AreServed, IsServed}
+use Rattle.run_shows.specs.ListLaws.{length-set}
+use Rattle.run_shows.specs.Serving.{served-by-runs, served-on}
 use Rattle.target_core.specs.Targets.{TargetOf}
 use Rattle.target_parts.specs.Parts.{Runs, StillRuns}
-use Rattle.target_parts.specs.Readings.{IsReadOn, not-read_on}
-use Rattle.target_parts.specs.Running.{runs_as, runs_first, runs_on}
+use Rattle.target_parts.specs.Readings.{IsReadOn}
+use Rattle.target_parts.specs.Running.{runs_as, runs_first}
 use Rattle.vos_store.specs.Calls.{State}
-use Rattle.vos_store.specs.Refusals.{always_stop, says}
+use Rattle.vos_store.specs.Refusals.{always_stop}
 use Rattle.world_base.specs.StepLaws.{set-here, set-there}
 
 module _ {S C : Type 0} (durable : S → Option Durable) (state : S → State) (s : Script) (j : Job) where
@@ -163,10 +163,6 @@ module _ {S C : Type 0} (durable : S → Option Durable) (state : S → State) (
   pub same-clocks : (old : List (Option (S × C))) → ClocksStay old old
   same-clocks old u x z here there = let same : z ≡ x = (let e : Some (Some z) ≡ Some (Some x) = sym there ∙ here in cc) in ap (λ q. q.1) same
 
-  -- clocks that stay aren't read
-  pub stay-read : (is_read : C → C → Type 0) (old new : List (Option (S × C))) → ClocksStay old new → ClocksAreRead is_read old new
-  stay-read is_read old new k t x y at to = subst (IsReadOn is_read x.1) (sym (k t x y at to)) (not-read_on is_read x.1)
-
   -- ---- all started, and ran
   module _ (old slots new : List (Option (S × C))) (xs ys : List (TargetOf S C)) (E : HaveStores (λ u x. IsEmpty durable state j.targets x) j.targets old) (A : AreStarted durable state s j j.targets old xs) (T : AreTaken j.targets old slots)
       (many : length ys ≡ length xs) (B : AreBack ys slots new) where
@@ -178,41 +174,29 @@ module _ {S C : Type 0} (durable : S → Option Durable) (state : S → State) (
           ((y.0.store, y.0.clock), B.back t y.0 y.1);
     }
 
-    pub as-many : length new ≡ length ys
-    as-many = B.many ∙ T.many ∙ E.set.many ∙ sym (many ∙ A.many)
-
     its-parts : (t : ℕ) (x : S × C) (y : TargetOf S C) → IsAt new t x → slice_get ys t ≡ Some y → x ≡ (y.store, y.clock)
     its-parts t x y at here = let e : Some (Some x) ≡ Some (Some (y.store, y.clock)) = sym at ∙ B.back t y here in cc
 
-    pub its : (t : ℕ) (x : S × C) (y : TargetOf S C) → IsAt new t x → slice_get ys t ≡ Some y → x.0 ≡ y.store
-    its t x y at here = ap (λ p. p.0) (its-parts t x y at here)
+    module _ (is_read : C → C → Type 0) (V : AreServed durable state is_read xs ys) where
+      -- between these two moments each store had calls, to start and in the run
+      pub run-served : StoresAreServed durable state old new
+      run-served t x z at to =
+          let within = at-low j.targets old E.set t x at in
+          let a = at-within xs t (subst (λ n. t < n) (sym A.many) within) in
+          let b = at-within ys t (subst (λ n. t < n) (sym (many ∙ A.many)) within) in
+          subst (λ q. IsServed (state x.0) (state q) (durable x.0) (durable q)) (sym (ap (λ p. p.0) (its-parts t z b.0 to b.1)))
+          (served-on (state x.0) (state a.0.store) (state b.0.store) (durable x.0) (durable a.0.store) (durable b.0.store)
+          (served-by-runs always_stop (Ok (tt {0})) (state x.0) (state a.0.store) (durable x.0) (durable a.0.store) (A.each t a.0 x a.1 at).runs) (V.stores t a.0 b.0 a.1 b.1))
 
-    pub all-run : {U V : Type 0} (is_read : C → C → Type 0) (result : Result U Halted) (said : Result V RunStop) → ((t : ℕ) → says (is_fault_of t) said ≡ says (stopped_at t) result) → Leaves durable state is_read result xs ys
-        → FromTo old new (λ u a b. Runs (is_fault_of u) said (state a) (state b) (durable a) (durable b))
-    all-run is_read result said same k t x z at to =
-        let within : t < j.targets = subst (λ n. t < n) E.set.many (slice_get_within old t (Some x) at) in
-        let a = at-within xs t (subst (λ n. t < n) (sym A.many) within) in
-        let b = at-within ys t (subst (λ n. t < n) (sym (many ∙ A.many)) within) in
-        runs_as (stopped_at t) result (is_fault_of t) said (state x.0) (state z.0) (durable x.0) (durable z.0) (same t)
-        (subst (λ q. Runs (stopped_at t) result (state x.0) (state q) (durable x.0) (durable q)) (sym (its t z b.0 to b.1))
-        (runs_on (stopped_at t) result (state x.0) (state a.0.store) (state b.0.store) (durable x.0) (durable a.0.store) (durable b.0.store) (A.each t a.0 x a.1 at).runs (k.stores.each t a.0 b.0 a.1 b.1)))
+      pub run-read : ClocksAreRead is_read old new
+      run-read t x z at to =
+          let within = at-low j.targets old E.set t x at in
+          let a = at-within xs t (subst (λ n. t < n) (sym A.many) within) in
+          let b = at-within ys t (subst (λ n. t < n) (sym (many ∙ A.many)) within) in
+          subst (IsReadOn is_read x.1) (sym (ap (λ p. p.1) (its-parts t z b.0 to b.1))) (subst (λ d. IsReadOn is_read d b.0.clock) (A.each t a.0 x a.1 at).clock (V.clocks t a.0 b.0 a.1 b.1))
 
-    pub all-read : {U : Type 0} (is_read : C → C → Type 0) (result : Result U Halted) → Leaves durable state is_read result xs ys → ClocksAreRead is_read old new
-    all-read is_read result k t x z at to =
-        let within : t < j.targets = subst (λ n. t < n) E.set.many (slice_get_within old t (Some x) at) in
-        let a = at-within xs t (subst (λ n. t < n) (sym A.many) within) in
-        let b = at-within ys t (subst (λ n. t < n) (sym (many ∙ A.many)) within) in
-        subst (IsReadOn is_read x.1) (sym (ap (λ p. p.1) (its-parts t z b.0 to b.1))) (subst (λ d. IsReadOn is_read d b.0.clock) (A.each t a.0 x a.1 at).clock (k.stores.clocks t a.0 b.0 a.1 b.1))
-
--- ---- what is said
-
-pub said-so : {U V : Type 0} (h : Halted) (result : Result U Halted) (said : Result V RunStop) → result ≡ Err h → said ≡ Err (stop_of h) → (t : ℕ) → says (is_fault_of t) said ≡ says (stopped_at t) result
-said-so h result said is so t = ap (says (is_fault_of t)) so ∙ fault-at t h ∙ sym (ap (says (stopped_at t)) is)
-
-pub said-ok : {U V : Type 0} (u : U) (v : V) (result : Result U Halted) (said : Result V RunStop) → result ≡ Ok u → said ≡ Ok v → (t : ℕ) → says (is_fault_of t) said ≡ says (stopped_at t) result
-said-ok u v result said is so t = ap (says (is_fault_of t)) so ∙ sym (ap (says (stopped_at t)) is)
-
-pub as-said : {S C V : Type 0} (durable : S → Option Durable) (state : S → State) (old new : List (Option (S × C))) (stop : RunStop) (said : Result V RunStop) → said ≡ Err stop
-    → FromTo old new (λ u a b. Runs (is_fault_of u) (not_started stop) (state a) (state b) (durable a) (durable b)) → FromTo old new (λ u a b. Runs (is_fault_of u) said (state a) (state b) (durable a) (durable b))
-as-said durable state old new stop said is k t x y at to =
-    runs_as (is_fault_of t) (not_started stop) (is_fault_of t) said (state x.0) (state y.0) (durable x.0) (durable y.0) (ap (says (is_fault_of t)) is) (k t x y at to)
+    pub run-gone : ((t : ℕ) (y : TargetOf S C) → slice_get ys t ≡ Some y → (state y.store).tells_fuse ≡ true → (state y.store).fused ≡ false) → FusesAreGone state new
+    run-gone gone t z to =
+        let within : t < length ys = subst (λ n. t < n) (B.many ∙ T.many ∙ E.set.many ∙ sym (many ∙ A.many)) (slice_get_within new t (Some z) to) in
+        let b = at-within ys t within in
+        subst (λ q. (state q).tells_fuse ≡ true → (state q).fused ≡ false) (sym (ap (λ p. p.0) (its-parts t z b.0 to b.1))) (gone t b.0 b.1)

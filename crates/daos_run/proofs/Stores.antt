@@ -1,4 +1,4 @@
--- The store of a target that is opened, or stops.
+-- The store of a target that is opened for a script.
 use Rattle.std.specs.Prelude.{ℕ, ◌≡◌, ◌≤◌, ◌<◌, ◌==◌, nat_lt, if◌then◌else◌, Bool, true, false, length, Option, Some, None, is_some, Ok, Err, refl}
 use Rattle.std.specs.Option.{ForSome}
 use Rattle.std.proofs.Common.{sym, ◌∙◌, ap, arith}
@@ -9,10 +9,7 @@ use Rattle.model_laws.specs.TargetLaws.{number_same}
 use Rattle.daos_model.specs.declared.durable.Durable.{Durable}
 use Rattle.daos_model.specs.Changes.{enlisted}
 use Rattle.daos_model.specs.Durables.{empty_durable}
-use Rattle.daos_run.specs.Stops.{MayStop, enlist_stopped, is_fault_of, stop_of}
-use Rattle.run_order.specs.declared.halted.Halted.{Halted}
-use Rattle.run_order.specs.declared.halted.Halted.TheVariants as halted
-use Rattle.run_order.specs.Halts.{IsOneOf, stopped_at}
+use Rattle.daos_run.specs.Stops.{MayStop, enlist_stopped, is_fault_of}
 use Rattle.vos_store.specs.Answers.{IsManyShown, enlists}
 use Rattle.vos_store.specs.Calls.{Answers}
 use Rattle.vos_store.specs.Refusals.{enlist_open, enlist_stop}
@@ -20,17 +17,6 @@ use Rattle.vos_store.specs.declared.refusal.EnlistNo.{EnlistNo}
 use Rattle.vos_store.specs.declared.refusal.EnlistNo.TheVariants as enlist
 use Rattle.world_whole.specs.Begins.{declared_conts}
 use Rattle.world_whole.specs.Fresh.{fresh-opens}
-
--- ---- stops
-
--- the run is stopped by a target's store just where that is stopped
-pub fault-at : (t : ℕ) (h : Halted) → is_fault_of t (stop_of h) ≡ stopped_at t h
-fault-at t (halted.Stopped target) = refl
-fault-at t halted.Memory = refl
-
-pub may-stop : (tells : Bool) (targets : ℕ) (h : Halted) → IsOneOf targets h → MayStop tells targets (stop_of h)
-may-stop tells targets (halted.Stopped target) few = few
-may-stop tells targets halted.Memory few = tt
 
 pub same-number : (n : ℕ) → (n == n) ≡ true
 same-number n = grind (arith, nat_tests)

@@ -1,5 +1,5 @@
 -- The targets of a run before their first turns.
-use Rattle.std.specs.Prelude.{ℕ, ◌≡◌, ◌≤◌, ◌*◌, ◌-◌, List, length, slice_get, Option, Some}
+use Rattle.std.specs.Prelude.{ℕ, ◌≡◌, ◌*◌, ◌-◌, List, length, slice_get, Option, Some}
 use Rattle.base_types.specs.declared.job.Job.{Job}
 use Rattle.base_types.specs.declared.script.Script.{Script}
 use Rattle.daos_model.specs.declared.durable.Durable.{Durable}

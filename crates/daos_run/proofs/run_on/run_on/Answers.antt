@@ -1,93 +1,85 @@
-use Rattle.std.specs.Prelude.{◌≡◌, Err, IfErr, None, Ok, Result, refl}
-use Rattle.std.proofs.Common.{ap, arith, rules, subst, sym}
-use Rattle.daos_run.proofs.Lone.{of-lone-client, room-found}
-use Rattle.daos_run.proofs.Started.{all-read, all-run, all-set, as-said, said-ok, said-so, same-clocks, stay-read, unchanged}
-use Rattle.daos_run.proofs.Whole.{can-run, come-to, goes-in-order}
-use Rattle.base_types.specs.declared.report.Report.{Report}
-use Rattle.daos_run.specs.Stops.{MayStop, stop_of}
-use Rattle.daos_run.specs.declared.stop.RunStop.{RunStop}
-use Rattle.daos_run.specs.declared.stop.RunStop.TheVariants.{Memory as NoMemory}
+use Rattle.std.specs.Prelude.{◌≡◌, Err, IfErr, IfOk}
+use Rattle.std.proofs.Common.{arith, rules, subst, sym}
+use Rattle.daos_run.specs.Opens.{given}
+use Rattle.daos_run.specs.Slots.{stores_in}
+use Rattle.daos_run.specs.Stops.{IsOpeningFault, MayStop}
+use Rattle.daos_run.proofs.Disarmed.{all-empty-on, all-gone, all-served, all-told-on}
+use Rattle.daos_run.proofs.Faults.{calls-gone, calls-served, opening-fault, read-through, served-through, stay-read}
+use Rattle.daos_run.proofs.Lone.{finds-room, is-of-lone-client}
+use Rattle.daos_run.proofs.Places.{store-at}
+use Rattle.daos_run.proofs.Started.{all-set, run-gone, run-read, run-served}
+use Rattle.daos_run.proofs.Whole.{all-started, all-tell, come-to}
+use Rattle.run_ends.specs.Comes.{ComesTo}
+use Rattle.run_ends.specs.Starts.{stores_of}
 use Rattle.daos_run.proofs.run_on.run_on.Goals as goal
 
-pub returns-in_err-clients-clause-store : goal.returns-in_err-clients-clause-store
-returns-in_err-clients-clause-store g c =
-    let is : c.from_residual.result ≡ Err NoMemory = search rules in
-    as-said g.S.Store.durable g.S.Store.state c.args.parts.now c.args.parts.now NoMemory c.from_residual.result is (unchanged g.S.Store.durable g.S.Store.state c.args.script.now c.args.job.now c.args.parts.now c.requires.stores)
+pub returns-in_err-clients-clause-unfused : goal.returns-in_err-clients-clause-unfused
+returns-in_err-clients-clause-unfused g c = all-gone g.S.Store.durable g.S.Store.state g.S.Store.may c.args.job.now.targets c.args.parts.now c.disarm.new.parts c.requires.stores.set c.disarm.ensures.set c.disarm.ensures.fuses
 
-pub returns-in_err-targets-clause-store : goal.returns-in_err-targets-clause-store
-returns-in_err-targets-clause-store g c =
+pub returns-in_err-clients-clause-clocks : goal.returns-in_err-clients-clause-clocks
+returns-in_err-clients-clause-clocks g c = stay-read g.C.Clock.is_read c.args.parts.now c.disarm.new.parts c.disarm.ensures.clocks
+
+pub start_all-requires-clause-stores : goal.start_all-requires-clause-stores
+start_all-requires-clause-stores g c = all-empty-on g.S.Store.durable g.S.Store.state g.S.Store.may c.args.job.now.targets c.args.parts.now c.disarm.new.parts c.requires.stores.set c.disarm.ensures.set c.disarm.ensures.fuses c.requires.stores.each
+
+pub returns-in_err-targets-clause-served : goal.returns-in_err-targets-clause-served
+returns-in_err-targets-clause-served g c = served-through g.S.Store.durable g.S.Store.state c.args.job.now.targets c.args.parts.now c.disarm.new.parts c.start_all.new.parts c.requires.stores.set c.disarm.ensures.set (all-served g.S.Store.durable g.S.Store.state g.S.Store.may c.args.job.now.targets c.args.parts.now c.disarm.new.parts c.requires.stores.set c.disarm.ensures.set c.disarm.ensures.fuses) (calls-served g.S.Store.durable g.S.Store.state c.args.job.now.targets c.disarm.new.parts c.start_all.new.parts c.in_err-targets.field-0.0 c.disarm.ensures.set c.in_err-targets.ensures.set c.in_err-targets.ensures.runs)
+
+pub returns-in_err-targets-clause-unfused : goal.returns-in_err-targets-clause-unfused
+returns-in_err-targets-clause-unfused g c = calls-gone g.S.Store.durable g.S.Store.state c.args.job.now.targets c.disarm.new.parts c.start_all.new.parts c.in_err-targets.field-0.0 c.disarm.ensures.set c.in_err-targets.ensures.set c.in_err-targets.ensures.runs (all-gone g.S.Store.durable g.S.Store.state g.S.Store.may c.args.job.now.targets c.args.parts.now c.disarm.new.parts c.requires.stores.set c.disarm.ensures.set c.disarm.ensures.fuses)
+
+pub returns-in_err-targets-clause-clocks : goal.returns-in_err-targets-clause-clocks
+returns-in_err-targets-clause-clocks g c = read-through g.S.Store.durable g.S.Store.state c.args.job.now.targets c.args.parts.now c.disarm.new.parts c.start_all.new.parts c.requires.stores.set c.disarm.ensures.set g.C.Clock.is_read c.disarm.ensures.clocks (stay-read g.C.Clock.is_read c.disarm.new.parts c.start_all.new.parts c.in_err-targets.ensures.clocks)
+
+pub returns-in_err-targets-clause-fault : goal.returns-in_err-targets-clause-fault
+returns-in_err-targets-clause-fault g c =
     let is : c.from_residual-in_err-targets.result ≡ Err c.in_err-targets.field-0.0 = search rules in
-    as-said g.S.Store.durable g.S.Store.state c.args.parts.now c.start_all.new.parts c.in_err-targets.field-0.0 c.from_residual-in_err-targets.result is c.in_err-targets.ensures.runs
+    subst (λ r. IfErr r (IsOpeningFault g.S.Store.state c.args.parts.now c.start_all.new.parts)) (sym is) (opening-fault g.S.Store.durable g.S.Store.state c.args.job.now.targets c.args.parts.now c.disarm.new.parts c.start_all.new.parts c.requires.stores.set c.disarm.ensures.set g.S.Store.may c.in_err-targets.field-0.0 c.disarm.ensures.fuses c.in_err-targets.ensures.runs)
 
 pub returns-in_err-targets-clause-refusals : goal.returns-in_err-targets-clause-refusals
 returns-in_err-targets-clause-refusals g c tells each =
     let is : c.from_residual-in_err-targets.result ≡ Err c.in_err-targets.field-0.0 = search rules in
-    subst (λ r. IfErr r (MayStop tells c.args.job.now.targets)) (sym is) (c.in_err-targets.ensures.refusals tells each)
+    subst (λ r. IfErr r (MayStop tells c.args.job.now.targets)) (sym is) (c.in_err-targets.ensures.refusals tells (all-told-on g.S.Store.durable g.S.Store.state g.S.Store.may c.args.job.now.targets c.args.parts.now c.disarm.new.parts c.requires.stores.set c.disarm.ensures.set c.disarm.ensures.fuses tells each))
 
-pub run_in_order-targets-requires-clause-going : goal.run_in_order-targets-requires-clause-going
-run_in_order-targets-requires-clause-going g c =
-    can-run g.S.Store.durable g.S.Store.state c.args.script.now c.args.job.now c.args.parts.now c.in_ok-clients.clients.items c.in_ok-targets.targets.items c.requires.script c.requires.least_targets c.requires.most_targets c.requires.least c.in_ok-clients.ensures c.requires.stores c.in_ok-targets.ensures.started c.in_ok-targets.ensures.alike
+pub run_targets-targets-requires-clause-started : goal.run_targets-targets-requires-clause-started
+run_targets-targets-requires-clause-started g c = ((given c.args.script.now c.args.job.now (λ t. 0)).opening, all-started g.S.Store.durable g.S.Store.state g.S.Store.may c.args.script.now c.args.job.now c.args.parts.now c.disarm.new.parts c.in_ok-clients.clients.items c.in_ok-targets.targets.items c.requires.script c.requires.least_targets c.requires.most_targets c.requires.least c.in_ok-clients.ensures c.requires.stores.set c.disarm.ensures.set c.disarm.ensures.fuses c.in_ok-targets.ensures.started (λ t. 0) (λ t x at. omega arith))
 
-pub returns-in-Ok-clause-legal : goal.returns-in-Ok-clause-legal
-returns-in-Ok-clause-legal g c all free room =
-    (come-to g.S.Store.durable g.S.Store.state c.args.script.now c.args.job.now c.args.parts.now c.in_ok-clients.clients.items c.in_ok-targets.targets.items c.requires.script c.requires.least_targets c.requires.most_targets c.requires.least c.in_ok-clients.ensures c.requires.stores c.in_ok-targets.ensures.started c.start_all.new.parts c.hand_back.new.parts c.run_in_order-targets.result.0.items c.run_in_order-targets.result.1 c.in-Ok.lines c.requires.most c.in_ok-targets.ensures.taken
-    c.run_in_order-targets.ensures.stores.stores.many c.hand_back.ensures c.in-Ok.is c.run_in_order-targets.ensures.run all free room).legal
+pub returns-in_err-ran-clause-set : goal.returns-in_err-ran-clause-set
+returns-in_err-ran-clause-set g c = all-set g.S.Store.durable g.S.Store.state c.args.script.now c.args.job.now c.disarm.new.parts c.start_all.new.parts c.hand_back.new.parts c.in_ok-targets.targets.items c.run_targets-targets.result.0.items (all-empty-on g.S.Store.durable g.S.Store.state g.S.Store.may c.args.job.now.targets c.args.parts.now c.disarm.new.parts c.requires.stores.set c.disarm.ensures.set c.disarm.ensures.fuses c.requires.stores.each) c.in_ok-targets.ensures.started c.in_ok-targets.ensures.taken c.run_targets-targets.ensures.served.many c.hand_back.ensures
 
-pub returns-in-Ok-clause-form : goal.returns-in-Ok-clause-form
-returns-in-Ok-clause-form g c all keys =
-    (come-to g.S.Store.durable g.S.Store.state c.args.script.now c.args.job.now c.args.parts.now c.in_ok-clients.clients.items c.in_ok-targets.targets.items c.requires.script c.requires.least_targets c.requires.most_targets c.requires.least c.in_ok-clients.ensures c.requires.stores c.in_ok-targets.ensures.started c.start_all.new.parts c.hand_back.new.parts c.run_in_order-targets.result.0.items c.run_in_order-targets.result.1 c.in-Ok.lines c.requires.most c.in_ok-targets.ensures.taken
-    c.run_in_order-targets.ensures.stores.stores.many c.hand_back.ensures c.in-Ok.is c.run_in_order-targets.ensures.run all (λ t. 0) (λ t x at. omega arith)).form keys
+pub returns-in_err-ran-clause-served : goal.returns-in_err-ran-clause-served
+returns-in_err-ran-clause-served g c = served-through g.S.Store.durable g.S.Store.state c.args.job.now.targets c.args.parts.now c.disarm.new.parts c.hand_back.new.parts c.requires.stores.set c.disarm.ensures.set (all-served g.S.Store.durable g.S.Store.state g.S.Store.may c.args.job.now.targets c.args.parts.now c.disarm.new.parts c.requires.stores.set c.disarm.ensures.set c.disarm.ensures.fuses) (run-served g.S.Store.durable g.S.Store.state c.args.script.now c.args.job.now c.disarm.new.parts c.start_all.new.parts c.hand_back.new.parts c.in_ok-targets.targets.items c.run_targets-targets.result.0.items (all-empty-on g.S.Store.durable g.S.Store.state g.S.Store.may c.args.job.now.targets c.args.parts.now c.disarm.new.parts c.requires.stores.set c.disarm.ensures.set c.disarm.ensures.fuses c.requires.stores.each) c.in_ok-targets.ensures.started c.in_ok-targets.ensures.taken c.run_targets-targets.ensures.served.many c.hand_back.ensures g.C.Clock.is_read c.run_targets-targets.ensures.served)
 
-pub returns-in-Ok-clause-stands : goal.returns-in-Ok-clause-stands
-returns-in-Ok-clause-stands g c all free room =
-    (come-to g.S.Store.durable g.S.Store.state c.args.script.now c.args.job.now c.args.parts.now c.in_ok-clients.clients.items c.in_ok-targets.targets.items c.requires.script c.requires.least_targets c.requires.most_targets c.requires.least c.in_ok-clients.ensures c.requires.stores c.in_ok-targets.ensures.started c.start_all.new.parts c.hand_back.new.parts c.run_in_order-targets.result.0.items c.run_in_order-targets.result.1 c.in-Ok.lines c.requires.most c.in_ok-targets.ensures.taken
-    c.run_in_order-targets.ensures.stores.stores.many c.hand_back.ensures c.in-Ok.is c.run_in_order-targets.ensures.run all free room).stand
+pub returns-in_err-ran-clause-unfused : goal.returns-in_err-ran-clause-unfused
+returns-in_err-ran-clause-unfused g c = run-gone g.S.Store.durable g.S.Store.state c.args.script.now c.args.job.now c.disarm.new.parts c.start_all.new.parts c.hand_back.new.parts c.in_ok-targets.targets.items c.run_targets-targets.result.0.items (all-empty-on g.S.Store.durable g.S.Store.state g.S.Store.may c.args.job.now.targets c.args.parts.now c.disarm.new.parts c.requires.stores.set c.disarm.ensures.set c.disarm.ensures.fuses c.requires.stores.each) c.in_ok-targets.ensures.started c.in_ok-targets.ensures.taken c.run_targets-targets.ensures.served.many c.hand_back.ensures c.run_targets-targets.ensures.unfused
 
-pub returns-in-Ok-clause-ordered : goal.returns-in-Ok-clause-ordered
-returns-in-Ok-clause-ordered g c all free exact =
-    goes-in-order g.S.Store.durable g.S.Store.state c.args.script.now c.args.job.now c.args.parts.now c.in_ok-clients.clients.items c.in_ok-targets.targets.items c.requires.script c.requires.least_targets c.requires.most_targets c.requires.least c.in_ok-clients.ensures c.requires.stores c.in_ok-targets.ensures.started c.start_all.new.parts c.hand_back.new.parts c.run_in_order-targets.result.0.items c.run_in_order-targets.result.1 c.in-Ok.lines c.requires.most c.in_ok-targets.ensures.taken
-    c.run_in_order-targets.ensures.stores.stores.many c.hand_back.ensures c.in-Ok.is c.run_in_order-targets.ensures.run all free (λ t x at. let same = exact t x at in omega (arith, same)) exact
+pub returns-in_err-ran-clause-clocks : goal.returns-in_err-ran-clause-clocks
+returns-in_err-ran-clause-clocks g c = read-through g.S.Store.durable g.S.Store.state c.args.job.now.targets c.args.parts.now c.disarm.new.parts c.hand_back.new.parts c.requires.stores.set c.disarm.ensures.set g.C.Clock.is_read c.disarm.ensures.clocks (run-read g.S.Store.durable g.S.Store.state c.args.script.now c.args.job.now c.disarm.new.parts c.start_all.new.parts c.hand_back.new.parts c.in_ok-targets.targets.items c.run_targets-targets.result.0.items (all-empty-on g.S.Store.durable g.S.Store.state g.S.Store.may c.args.job.now.targets c.args.parts.now c.disarm.new.parts c.requires.stores.set c.disarm.ensures.set c.disarm.ensures.fuses c.requires.stores.each) c.in_ok-targets.ensures.started c.in_ok-targets.ensures.taken c.run_targets-targets.ensures.served.many c.hand_back.ensures g.C.Clock.is_read c.run_targets-targets.ensures.served)
 
-pub returns-in-Ok-clause-issued : goal.returns-in-Ok-clause-issued
-returns-in-Ok-clause-issued g c all =
-    (come-to g.S.Store.durable g.S.Store.state c.args.script.now c.args.job.now c.args.parts.now c.in_ok-clients.clients.items c.in_ok-targets.targets.items c.requires.script c.requires.least_targets c.requires.most_targets c.requires.least c.in_ok-clients.ensures c.requires.stores c.in_ok-targets.ensures.started c.start_all.new.parts c.hand_back.new.parts c.run_in_order-targets.result.0.items c.run_in_order-targets.result.1 c.in-Ok.lines c.requires.most c.in_ok-targets.ensures.taken
-    c.run_in_order-targets.ensures.stores.stores.many c.hand_back.ensures c.in-Ok.is c.run_in_order-targets.ensures.run all (λ t. 0) (λ t x at. omega arith)).issued
+pub returns-clause-set : goal.returns-clause-set
+returns-clause-set g c = all-set g.S.Store.durable g.S.Store.state c.args.script.now c.args.job.now c.disarm.new.parts c.start_all.new.parts c.hand_back.new.parts c.in_ok-targets.targets.items c.run_targets-targets.result.0.items (all-empty-on g.S.Store.durable g.S.Store.state g.S.Store.may c.args.job.now.targets c.args.parts.now c.disarm.new.parts c.requires.stores.set c.disarm.ensures.set c.disarm.ensures.fuses c.requires.stores.each) c.in_ok-targets.ensures.started c.in_ok-targets.ensures.taken c.run_targets-targets.ensures.served.many c.hand_back.ensures
 
-pub returns-in-Ok-clause-room : goal.returns-in-Ok-clause-room
-returns-in-Ok-clause-room g c all free room has =
-    room-found c.args.script.now c.args.job.now free (record { targets = c.args.job.now.targets; lines = c.in-Ok.lines; down = None }) c.requires.script c.requires.least_targets c.requires.least (returns-in-Ok-clause-legal g c all free room) has
+pub returns-clause-served : goal.returns-clause-served
+returns-clause-served g c = served-through g.S.Store.durable g.S.Store.state c.args.job.now.targets c.args.parts.now c.disarm.new.parts c.hand_back.new.parts c.requires.stores.set c.disarm.ensures.set (all-served g.S.Store.durable g.S.Store.state g.S.Store.may c.args.job.now.targets c.args.parts.now c.disarm.new.parts c.requires.stores.set c.disarm.ensures.set c.disarm.ensures.fuses) (run-served g.S.Store.durable g.S.Store.state c.args.script.now c.args.job.now c.disarm.new.parts c.start_all.new.parts c.hand_back.new.parts c.in_ok-targets.targets.items c.run_targets-targets.result.0.items (all-empty-on g.S.Store.durable g.S.Store.state g.S.Store.may c.args.job.now.targets c.args.parts.now c.disarm.new.parts c.requires.stores.set c.disarm.ensures.set c.disarm.ensures.fuses c.requires.stores.each) c.in_ok-targets.ensures.started c.in_ok-targets.ensures.taken c.run_targets-targets.ensures.served.many c.hand_back.ensures g.C.Clock.is_read c.run_targets-targets.ensures.served)
 
-pub returns-in-Ok-clause-lone : goal.returns-in-Ok-clause-lone
-returns-in-Ok-clause-lone g c all free room one =
-    of-lone-client c.args.script.now c.args.job.now free (record { targets = c.args.job.now.targets; lines = c.in-Ok.lines; down = None }) c.requires.script c.requires.least_targets c.requires.least (returns-in-Ok-clause-legal g c all free room) one
+pub returns-clause-unfused : goal.returns-clause-unfused
+returns-clause-unfused g c = run-gone g.S.Store.durable g.S.Store.state c.args.script.now c.args.job.now c.disarm.new.parts c.start_all.new.parts c.hand_back.new.parts c.in_ok-targets.targets.items c.run_targets-targets.result.0.items (all-empty-on g.S.Store.durable g.S.Store.state g.S.Store.may c.args.job.now.targets c.args.parts.now c.disarm.new.parts c.requires.stores.set c.disarm.ensures.set c.disarm.ensures.fuses c.requires.stores.each) c.in_ok-targets.ensures.started c.in_ok-targets.ensures.taken c.run_targets-targets.ensures.served.many c.hand_back.ensures c.run_targets-targets.ensures.unfused
 
-pub returns-in-Ok-clause-store : goal.returns-in-Ok-clause-store
-returns-in-Ok-clause-store g c =
-    all-run g.S.Store.durable g.S.Store.state c.args.script.now c.args.job.now c.args.parts.now c.start_all.new.parts c.hand_back.new.parts c.in_ok-targets.targets.items c.run_in_order-targets.result.0.items c.requires.stores c.in_ok-targets.ensures.started c.in_ok-targets.ensures.taken c.run_in_order-targets.ensures.stores.stores.many c.hand_back.ensures g.C.Clock.is_read c.run_in_order-targets.result.1
-    (Ok (record { targets = c.args.job.now.targets; lines = c.in-Ok.lines; down = None }))
-    (said-ok {V = Report} c.in-Ok.lines (record { targets = c.args.job.now.targets; lines = c.in-Ok.lines; down = None }) c.run_in_order-targets.result.1 (Ok (record { targets = c.args.job.now.targets; lines = c.in-Ok.lines; down = None })) c.in-Ok.is refl) c.run_in_order-targets.ensures.stores
+pub returns-clause-clocks : goal.returns-clause-clocks
+returns-clause-clocks g c = read-through g.S.Store.durable g.S.Store.state c.args.job.now.targets c.args.parts.now c.disarm.new.parts c.hand_back.new.parts c.requires.stores.set c.disarm.ensures.set g.C.Clock.is_read c.disarm.ensures.clocks (run-read g.S.Store.durable g.S.Store.state c.args.script.now c.args.job.now c.disarm.new.parts c.start_all.new.parts c.hand_back.new.parts c.in_ok-targets.targets.items c.run_targets-targets.result.0.items (all-empty-on g.S.Store.durable g.S.Store.state g.S.Store.may c.args.job.now.targets c.args.parts.now c.disarm.new.parts c.requires.stores.set c.disarm.ensures.set c.disarm.ensures.fuses c.requires.stores.each) c.in_ok-targets.ensures.started c.in_ok-targets.ensures.taken c.run_targets-targets.ensures.served.many c.hand_back.ensures g.C.Clock.is_read c.run_targets-targets.ensures.served)
 
-pub returns-in-Ok-clause-set : goal.returns-in-Ok-clause-set
-returns-in-Ok-clause-set g c = all-set g.S.Store.durable g.S.Store.state c.args.script.now c.args.job.now c.args.parts.now c.start_all.new.parts c.hand_back.new.parts c.in_ok-targets.targets.items c.run_in_order-targets.result.0.items c.requires.stores c.in_ok-targets.ensures.started c.in_ok-targets.ensures.taken c.run_in_order-targets.ensures.stores.stores.many c.hand_back.ensures
+pub returns-clause-comes : goal.returns-clause-comes
+returns-clause-comes g c all free room =
+    come-to g.S.Store.durable g.S.Store.state g.S.Store.may c.args.script.now c.args.job.now c.args.parts.now c.disarm.new.parts c.in_ok-clients.clients.items c.in_ok-targets.targets.items c.requires.script c.requires.least_targets c.requires.most_targets c.requires.least c.in_ok-clients.ensures c.requires.stores.set c.disarm.ensures.set c.disarm.ensures.fuses c.in_ok-targets.ensures.started c.start_all.new.parts c.hand_back.new.parts c.run_targets-targets.result.0.items (returns-clause-set g c) c.run_targets-targets.ensures.served.many c.hand_back.ensures free c.in_ok-ran.field-0
+    (subst (λ r. IfOk r (ComesTo g.S.Store.durable g.S.Store.state g.S.Store.may (given c.args.script.now c.args.job.now free) (stores_of c.in_ok-targets.targets.items) (stores_of c.run_targets-targets.result.0.items))) c.in_ok-ran.was
+    (c.run_targets-targets.ensures.comes (given c.args.script.now c.args.job.now free).opening (all-started g.S.Store.durable g.S.Store.state g.S.Store.may c.args.script.now c.args.job.now c.args.parts.now c.disarm.new.parts c.in_ok-clients.clients.items c.in_ok-targets.targets.items c.requires.script c.requires.least_targets c.requires.most_targets c.requires.least c.in_ok-clients.ensures c.requires.stores.set c.disarm.ensures.set c.disarm.ensures.fuses c.in_ok-targets.ensures.started free room) (all-tell g.S.Store.durable g.S.Store.state g.S.Store.may c.args.script.now c.args.job.now c.args.parts.now c.disarm.new.parts c.in_ok-clients.clients.items c.in_ok-targets.targets.items c.requires.script c.requires.least_targets c.requires.most_targets c.requires.least c.in_ok-clients.ensures c.requires.stores.set c.disarm.ensures.set c.disarm.ensures.fuses c.in_ok-targets.ensures.started all)))
 
-pub returns-in-Err-clause-store : goal.returns-in-Err-clause-store
-returns-in-Err-clause-store g c =
-    let is : ◌≡◌ {A = Result Report RunStop} (Err c.from.result) (Err (stop_of c.in-Err.halted)) = ap (λ e. Err e) c.from.ensures in
-    all-run g.S.Store.durable g.S.Store.state c.args.script.now c.args.job.now c.args.parts.now c.start_all.new.parts c.hand_back.new.parts c.in_ok-targets.targets.items c.run_in_order-targets.result.0.items c.requires.stores c.in_ok-targets.ensures.started c.in_ok-targets.ensures.taken c.run_in_order-targets.ensures.stores.stores.many c.hand_back.ensures g.C.Clock.is_read c.run_in_order-targets.result.1
-    (Err c.from.result) (said-so {V = Report} c.in-Err.halted c.run_in_order-targets.result.1 (Err c.from.result) c.in-Err.is is) c.run_in_order-targets.ensures.stores
+pub returns-clause-room : goal.returns-clause-room
+returns-clause-room g c all free room has =
+    let laws = g.met.S.Store g.world.𝓛 g.world.𝓜 g.world.𝓡 ((λ s x. x), (λ x. x), (λ x. x), λ x. x) in
+    let first = c.requires.stores.set.each 0 (let some = c.requires.least_targets in omega (arith, some)) in
+    finds-room g.S.Store.durable g.S.Store.state g.S.Store.may c.args.script.now c.args.job.now free (stores_in c.args.parts.now) (stores_in c.hand_back.new.parts) c.in_ok-ran.field-0 c.requires.script c.requires.least_targets c.requires.least (returns-clause-comes g c all free room)
+    laws.findable laws.alike first.0.0 (all 0 first.0.0 (store-at c.args.job.now.targets c.args.parts.now c.requires.stores.set 0 first.0 first.1)) has
 
-pub returns-in-Err-clause-set : goal.returns-in-Err-clause-set
-returns-in-Err-clause-set g c = all-set g.S.Store.durable g.S.Store.state c.args.script.now c.args.job.now c.args.parts.now c.start_all.new.parts c.hand_back.new.parts c.in_ok-targets.targets.items c.run_in_order-targets.result.0.items c.requires.stores c.in_ok-targets.ensures.started c.in_ok-targets.ensures.taken c.run_in_order-targets.ensures.stores.stores.many c.hand_back.ensures
-
-pub returns-in_err-clients-clause-clocks : goal.returns-in_err-clients-clause-clocks
-returns-in_err-clients-clause-clocks g c =
-    stay-read g.S.Store.durable g.S.Store.state c.args.script.now c.args.job.now g.C.Clock.is_read c.args.parts.now c.args.parts.now (same-clocks g.S.Store.durable g.S.Store.state c.args.script.now c.args.job.now c.args.parts.now)
-
-pub returns-in_err-targets-clause-clocks : goal.returns-in_err-targets-clause-clocks
-returns-in_err-targets-clause-clocks g c = stay-read g.S.Store.durable g.S.Store.state c.args.script.now c.args.job.now g.C.Clock.is_read c.args.parts.now c.start_all.new.parts c.in_err-targets.ensures.clocks
-
-pub returns-in-Ok-clause-clocks : goal.returns-in-Ok-clause-clocks
-returns-in-Ok-clause-clocks g c = all-read g.S.Store.durable g.S.Store.state c.args.script.now c.args.job.now c.args.parts.now c.start_all.new.parts c.hand_back.new.parts c.in_ok-targets.targets.items c.run_in_order-targets.result.0.items c.requires.stores c.in_ok-targets.ensures.started c.in_ok-targets.ensures.taken c.run_in_order-targets.ensures.stores.stores.many c.hand_back.ensures g.C.Clock.is_read c.run_in_order-targets.result.1 c.run_in_order-targets.ensures.stores
-
-pub returns-in-Err-clause-clocks : goal.returns-in-Err-clause-clocks
-returns-in-Err-clause-clocks g c = all-read g.S.Store.durable g.S.Store.state c.args.script.now c.args.job.now c.args.parts.now c.start_all.new.parts c.hand_back.new.parts c.in_ok-targets.targets.items c.run_in_order-targets.result.0.items c.requires.stores c.in_ok-targets.ensures.started c.in_ok-targets.ensures.taken c.run_in_order-targets.ensures.stores.stores.many c.hand_back.ensures g.C.Clock.is_read c.run_in_order-targets.result.1 c.run_in_order-targets.ensures.stores
+pub returns-clause-lone : goal.returns-clause-lone
+returns-clause-lone g c all free room one none unstopped = is-of-lone-client g.S.Store.durable g.S.Store.state g.S.Store.may c.args.script.now c.args.job.now free (stores_in c.args.parts.now) (stores_in c.hand_back.new.parts) c.in_ok-ran.field-0 c.requires.script c.requires.least_targets c.requires.least (returns-clause-comes g c all free room) one none unstopped

@@ -55,9 +55,6 @@ pub returns-in-Err-clause-refusals : goal.returns-in-Err-clause-refusals
 returns-in-Err-clause-refusals g c tells each =
     subst (λ b. MayStop b c.args.job.now.targets c.in-Err.field-0.stop) (each c.loop-t.t (c.in-Some.store, c.in-Some.clock) (sym (c.loop-t.invariant.taken.left c.loop-t.t (omega arith)) ∙ c.in-Some.ensures.taken)) c.in-Err.ensures.refusals
 
-pub returns-clause-alike : goal.returns-clause-alike
-returns-clause-alike g c t x at tells u y there = g.met.S.Store.alike x.0 y.0 tells
-
 pub returns-clause-taken : goal.returns-clause-taken
 returns-clause-taken g c =
     let low = c.loop-t.auto.t-end in
