@@ -42,7 +42,7 @@ pub record IsReported (job : Job) (script : Script) (text : List ℕ) : Type 0 w
   pub of_run : IsRunReport (fresh script job) report
   pub told : text ≡ report_text script report
 
--- the summary of such a report, of the generated script of so many commands
+-- the summary of such a report, of the generated script of so many commands; that asks for no stop, so what is said of a report without stops is said of this one
 pub record IsSummed (job : Job) (count : ℕ) (text : List ℕ) : Type 0 where
   pub report : Report
   pub of_run : IsRunReport (fresh (script_of job.targets count) job) report

@@ -1,4 +1,4 @@
--- A generated script is one that is run.
+-- A generated script is one that is run, and asks for no stop.
 use Rattle.std.proofs.Common.{◌≡◌, ℕ, ◌+◌, ◌%◌, Bool, true, false, ◌&&◌, cond, eqb, List, [], ◌∷◌, map, filter, refl, ap, ◌∙◌}
 use Rattle.std.specs.List.{range_with_len}
 use Rattle.base_random.specs.Draws.{drawn_after}
@@ -24,3 +24,7 @@ module _ (targets : ℕ) where
   script-is-run count =
       let numbers = λ (client : ℕ). filter (goes_to client) (range_with_len 0 count) in
       rw (made-are-run (numbers 0), made-are-run (numbers 1), made-are-run (numbers 2), made-are-run (numbers 3)) refl
+
+pub no-stop-asked : (targets count : ℕ) → (script_of targets count).stops ≡ []
+unfolding script_of
+no-stop-asked targets count = refl
