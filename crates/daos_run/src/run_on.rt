@@ -7,7 +7,7 @@ ghost use Rattle.daos_run.specs.Stops.{IsOpeningFault, MayStop};
 ghost use Rattle.daos_run.specs.Alone.{IsOfLoneClient};
 ghost use Rattle.model_reports.specs.Lone.{HasOneClient};
 ghost use Rattle.model_reports.specs.Rooms.{FindsRoom, HasRoom};
-ghost use Rattle.run_ends.specs.Comes.{ComesTo};
+ghost use Rattle.run_ends.specs.Comes.{ComesTo, IsReportOfLines};
 ghost use Rattle.run_ends.specs.Starts.{AllTell};
 ghost use Rattle.script_runnable.specs.Runnable.{IsRunnable};
 
@@ -67,6 +67,7 @@ pub fn run_on<R: Threads + Wait + Sync, S: Fuse + Send, C: Clock + Send, G: Gate
         → HasRoom script.now job.now.attempts free → IfOk result FindsRoom }
     ensures lone { AllTell S.durable (stores_in parts.old) → (free : ℕ → ℕ) → AreFree S.state parts.old free
         → HasOneClient script.now → script.now.stops ≡ [] → IfOk result (λ report. stop_numbers report.lines ≡ [] → IsOfLoneClient (given script.now job.now free) report) }
+    ensures told { IfOk result (IsReportOfLines script.now) }
     ensures served { StoresAreServed S.durable S.state parts.old parts.new }
     ensures unfused { FusesAreGone S.state parts.new }
     ensures clocks { ClocksAreRead C.is_read parts.old parts.new }

@@ -1,5 +1,5 @@
 -- What a run of targets comes to.
-use Rattle.std.specs.Prelude.{ℕ, ◌≡◌, ◌≤◌, ◌<◌, ◌+◌, ◌-◌, ◌^◌, ◌⊎◌, Bool, true, List, [], Contains, length, slice_get, is_some, Option, Some, None}
+use Rattle.std.specs.Prelude.{ℕ, ◌≡◌, ◌≤◌, ◌<◌, ◌+◌, ◌-◌, ◌^◌, ◌⊎◌, Bool, true, false, List, [], Contains, length, slice_get, is_some, Option, Some, None}
 use Rattle.base_types.specs.declared.entry.Entry.{Entry}
 use Rattle.base_types.specs.declared.id.AttemptId.{AttemptId}
 use Rattle.base_types.specs.declared.report.Line.{Line}
@@ -29,6 +29,10 @@ use Rattle.world_whole.specs.Begins.{IsBegun}
 -- the report of these lines; it names the least of the targets that were given up, if one was
 abbrev pub report_with : Script → List Line → Report
 report_with s lines = record { targets = s.targets; lines = lines; down = least (down_targets lines) }
+
+-- it is the one of its lines for a script: it names its targets, and the least of those that were given up
+abbrev pub IsReportOfLines : Script → Report → Type 0
+IsReportOfLines s q = q ≡ report_with s q.lines
 
 -- the report is legal though the outside failed no region, whichever attempts are taken as resolved
 abbrev pub IsLegal : Given → Report → Type 0
@@ -76,6 +80,10 @@ pub record LeavesSettled {S : Type 0} (durable : S → Option Durable) (may : S 
   pub entries : (t : ℕ) (y : S) (d : Durable) (e : Entry) → slice_get ys t ≡ Some y → (Contains (down_targets q.lines) t → ⊥) → durable y ≡ Some d → Contains d.entries e → (e.committed ≡ true) ⊎ LacksMember g q e.attempt
   pub held : (lasts : List Durable) → MayBeFound may ys lasts → (t : ℕ) (d : Durable) (e : Entry) → slice_get lasts t ≡ Some d → Contains d.entries e → e.committed ≡ true → (m : ℕ) (f : Durable) → IsMember (rules_of g) e.attempt m → slice_get lasts m ≡ Some f → is_some (entry_of f e.attempt) ≡ true
 
+-- Each target of which no line tells that it was given up has a store that runs.
+abbrev pub LeavesRunning : {S : Type 0} → (S → State) → Report → List S → Type 0
+LeavesRunning {S} state q ys = (t : ℕ) (y : S) → slice_get ys t ≡ Some y → (Contains (down_targets q.lines) t → ⊥) → (state y).stopped ≡ false
+
 -- ---- where nothing stopped
 
 -- In the end the stores stand for what the report tells, by the headline, where replicas agree; and nothing is left to settle: each entry is
@@ -116,12 +124,13 @@ pub record IsOrdered {S : Type 0} (may : S → Durable → Type 0) (g : Given) (
 
 -- What a run of these targets, which begins so, comes to. Whatever the next openings of their stores find, these stand for what the report
 -- tells, which is legal, by the headline, for each outside that may have failed them so. The report is in form where names and keys are keys;
--- one of the targets issued each epoch of which it tells; and it tells of the turns in the order asked, where just so many blocks were free at
--- the beginning.
+-- one of the targets issued each epoch of which it tells; stores of targets that weren't given up run, and nothing is left to settle there; and
+-- the report tells of the turns in the order asked, where just so many blocks were free at the beginning.
 pub record ComesTo {S : Type 0} (durable : S → Option Durable) (state : S → State) (may : S → Durable → Type 0) (g : Given) (xs ys : List S) (q : Report) : Type 0 where
   pub stand : (lasts : List Durable) (o : Outside) → MayBeFound may ys lasts → IsOutside state o xs ys → HeadlineOver g o lasts q
   pub form : ScriptHasKeys g.script → MapHasKeys g.opening.stand.now → IsReportOf g.script q
   pub issued : AreIssuedThere q
+  pub running : LeavesRunning state q ys
   pub settled : LeavesSettled durable may g q ys
   pub unstopped : stop_numbers q.lines ≡ [] → EndsUnstopped durable g q ys
   pub ordered : ((t : ℕ) (x : S) → slice_get xs t ≡ Some x → (state x).free ≡ g.opening.free t) → IsOrdered may g q ys

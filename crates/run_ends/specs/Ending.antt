@@ -1,5 +1,5 @@
 -- What a run of clients and targets has come to where it has ended.
-use Rattle.std.specs.Prelude.{ℕ, ◌≡◌, ◌≤◌, ◌<◌, ◌⊎◌, true, filter, List, [], All, Contains, length, slice_get, Option, Some, None, is_some, refl}
+use Rattle.std.specs.Prelude.{ℕ, ◌≡◌, ◌≤◌, ◌<◌, ◌⊎◌, true, false, filter, List, [], All, Contains, length, slice_get, Option, Some, None, is_some, refl}
 use Rattle.std.proofs.Common.{inl, inr, sym, ◌∙◌, ap, subst, arith}
 use Rattle.std.proofs.lemmas.Bool.{true≢false}
 use Rattle.base_types.specs.declared.entry.Entry.{Entry}
@@ -219,11 +219,23 @@ module _ {S C : Type 0} (durable : S → Option Durable) (state : S → State) (
       issued : AreIssuedThere report
       issued = subst AreIssuedThere same-report (orders-issue g first last goes)
 
+      -- a target that wasn't given up runs there
+      runs-there : (t : ℕ) (z : S) (s : TargetState) → slice_get (stores_of ys) t ≡ Some z → slice_get last.targets t ≡ Some s → (Contains (down_targets lines) t → ⊥) → s.life ≡ Running
+      runs-there t z s at here up = elim (leaves.targets t s here) as (λ x. s.life ≡ Running) [ inl runs ↦ runs | inr down ↦ absurd (up (down-told t s here down)) ]
+
+      -- and so does its store
+      store-runs : (t : ℕ) (z : S) → slice_get (stores_of ys) t ≡ Some z → (Contains (down_targets lines) t → ⊥) → (state z).stopped ≡ false
+      store-runs t z at up =
+          let s = there t z at in
+          let x = its-target durable state may steady e.rest ys e.in_the_end lines e.unfused lasts m r g.job.order first run t s.0 s.1 in
+          let y = from-map (λ p. p.store) ys t z at in
+          ap (λ q. (state q).stopped) y.is ∙ ap (λ h. h.stopped) (e.unfused.each t x.0 y.of_it x.1 y.at).1.state_is.rest ∙ (subst (λ l. IsTargetOf durable state (target_plan r t) l (found_at lasts t) x.0 s.0) (runs-there t z s.0 at s.1 up) x.2).so.running
+
       -- what a target keeps that wasn't given up
       entries : (t : ℕ) (y : S) (d : Durable) (x : Entry) → slice_get (stores_of ys) t ≡ Some y → (Contains (down_targets lines) t → ⊥) → durable y ≡ Some d → Contains d.entries x → (x.committed ≡ true) ⊎ LacksMember g report x.attempt
       entries t y d x at up is i =
           let s = there t y at in
-          let running = elim (leaves.targets t s.0 s.1) as (λ z. s.0.life ≡ Running) [ inl runs ↦ runs | inr down ↦ absurd (up (down-told t s.0 s.1 down)) ] in
+          let running = runs-there t y s.0 at s.1 up in
           let same : d ≡ s.0.durable = let two : Some d ≡ Some s.0.durable = sym is ∙ kept-running t y s.0 at s.1 running in cc in
           by (leaves.entries t s.0 x s.1 running (subst (λ z. Contains z.entries x) same i))
         where
@@ -262,6 +274,7 @@ module _ {S C : Type 0} (durable : S → Option Durable) (state : S → State) (
       stand = λ lasts o m outside. stand lasts m o outside;
       form = in-form some so typed byte;
       issued = issued some so;
+      running = store-runs some so;
       settled = record { entries = entries some so; held = held };
       unstopped = ends-unstopped some so;
       ordered = is-ordered some so;
