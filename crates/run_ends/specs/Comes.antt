@@ -40,8 +40,9 @@ IsLegalBySome g q = (lasts : List Durable) × HeadlineOver g undisturbed lasts q
 
 -- ---- the outside
 
--- An outside that may have failed each target's store, xs at first and ys in the end, as often as its count rose. Of a store it may say nothing; where it says how often it failed
--- it at most, the store tells its fuse, so that no other stops it, and its count doesn't stand at its end.
+-- An outside that may have failed each target's store, xs at first and ys in the end, as often as its count rose. Of a store it may say
+-- nothing; where it says how often it failed it at most, the store tells its fuse, so that no other stops it, and its count doesn't stand at
+-- its end.
 pub record IsOutside {S : Type 0} (state : S → State) (o : Outside) (xs ys : List S) : Type 0 where
   pub counts : (t : ℕ) (x y : S) (k : ℕ) → slice_get xs t ≡ Some x → slice_get ys t ≡ Some y → o.rises t ≡ Some k → ((state x).tells_fuse ≡ true) × ((state y).faults < 2 ^ 64 - 1) × ((state y).faults ≤ (state x).faults + k)
 
@@ -114,8 +115,9 @@ pub record IsOrdered {S : Type 0} (may : S → Durable → Type 0) (g : Given) (
 -- ---- all of it
 
 -- What a run of these targets, which begins so, comes to. Whatever the next openings of their stores find, these stand for what the report
--- tells, which is legal, by the headline, for each outside that may have failed them so. The report is in form where names and keys are keys; one of the targets issued each epoch of which it
--- tells; and it tells of the turns in the order asked, where just so many blocks were free at the beginning.
+-- tells, which is legal, by the headline, for each outside that may have failed them so. The report is in form where names and keys are keys;
+-- one of the targets issued each epoch of which it tells; and it tells of the turns in the order asked, where just so many blocks were free at
+-- the beginning.
 pub record ComesTo {S : Type 0} (durable : S → Option Durable) (state : S → State) (may : S → Durable → Type 0) (g : Given) (xs ys : List S) (q : Report) : Type 0 where
   pub stand : (lasts : List Durable) (o : Outside) → MayBeFound may ys lasts → IsOutside state o xs ys → HeadlineOver g o lasts q
   pub form : ScriptHasKeys g.script → MapHasKeys g.opening.stand.now → IsReportOf g.script q

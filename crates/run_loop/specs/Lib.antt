@@ -1,2 +1,2 @@
--- The actors of a run, turn by turn, and where the run ends.
+-- The actors of a run, turn by turn.
 pub mod Loops

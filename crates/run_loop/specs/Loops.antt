@@ -1,14 +1,15 @@
 -- Rounds and draws, one turn after another.
-use Rattle.std.specs.Prelude.{ℕ, zero, suc, ◌≡◌, ◌≤◌, ◌<◌, ◌++◌, ◌==◌, ◌%◌, Bool, true, false, List, [], ◌∷◌, length, max, slice_get, Option, Some, Result, Ok, Err, OnOk, if◌then◌else◌, refl}
+use Rattle.std.specs.Prelude.{ℕ, suc, ◌≡◌, ◌≤◌, ◌<◌, ◌++◌, ◌==◌, ◌%◌, All, Bool, true, false, List, [], ◌∷◌, get_or, length, max, slice_get, Option, Some, Result, Ok, Err, OnOk, if◌then◌else◌, refl}
 use Rattle.std.proofs.Common.{sym, ◌∙◌, ap, subst, arith}
 use Rattle.std.proofs.lemmas.Bool.Decides.{nat_tests}
 use Rattle.std.proofs.lemmas.List.{append_assoc}
+use Rattle.std.proofs.lemmas.List.Elements.{All-get_or}
 use Rattle.base_messages.specs.declared.actor.ActorId.{ActorId}
 use Rattle.base_random.specs.Draws.{drawn}
 use Rattle.daos_model.specs.declared.durable.Durable.{Durable}
 use Rattle.run_base.specs.Orders.{after_pick, pick}
-use Rattle.run_base.specs.Picks.{actors, is_due, numbered}
-use Rattle.run_steps.specs.Going.{GoesOn, draws-are-run, goes-as, goes-then, rounds-are-run, turns-are-run}
+use Rattle.run_base.specs.Picks.{is_due, numbered}
+use Rattle.run_steps.specs.Going.{GoesOn, IsRun, draws-are-run, goes-as, goes-then, rounds-are-run, turns-are-run}
 use Rattle.run_shows.specs.Due.{AllAreDue, first_targets, is_due_client}
 use Rattle.run_shows.specs.Shown.{client-due-shown, due-shown, many-clients}
 use Rattle.run_shows.specs.Shows.{Shows}
@@ -38,19 +39,19 @@ all_from_draw settling x0 x r w = InDraws settling r x0 w x
 
 -- ---- numbers
 
-pub some-pick : (x many p y : ℕ) → (many ≡ 0 → ⊥) → p ≡ pick x many → y ≡ after_pick x many → (p ≡ drawn x % many) × (y ≡ drawn x)
-some-pick x many p y some is last = by (many == 0) (tested many some)
-  where
-    tested : (n : ℕ) → (n ≡ 0 → ⊥) → (n == 0) ≡ false
-    tested zero h = absurd (h refl)
-    tested (suc n) h = grind (arith, nat_tests)
-
-    by : (b : Bool) → (many == 0) ≡ false → (p ≡ drawn x % many) × (y ≡ drawn x)
-    by b h = (is ∙ ap (λ z. if z then 0 else drawn x % many) h, last ∙ ap (λ z. if z then x else drawn x) h)
+-- where there are some, one of them is drawn by the next number
+pub some-pick : (x many len count p y : ℕ) → false ≡ (len == 0) → many ≡ len → len ≡ count → p ≡ pick x many → y ≡ after_pick x many → (p ≡ drawn x % count) × (y ≡ drawn x)
+some-pick x many len count p y some same fits is last =
+    let has : (many == 0) ≡ false = ap (λ n. n == 0) same ∙ sym some in
+    (is ∙ ap (λ z. if z then 0 else drawn x % many) has ∙ ap (λ n. drawn x % n) (same ∙ fits), last ∙ ap (λ z. if z then x else drawn x) has)
 
 -- a number drawn below how many there are is that of one of them
 pub one-of : (p many len count : ℕ) → p < max 1 many → many ≡ len → len ≡ count → false ≡ (len == 0) → p < count
 one-of p many len count low same fits some = let has : (len == 0) ≡ false = sym some in grind (arith, nat_tests)
+
+-- what holds of all holds of the one of a number
+pub holds-of-one : (P : ActorId → Type 0) (all : List ActorId) (p : ℕ) (a d : ActorId) → a ≡ get_or all p d → p < length all → All P all → P a
+holds-of-one P all p a d is within k = subst P (sym is) (All-get_or P all p d within k)
 
 pub within-now : (n end : ℕ) {T : Type 0} (olds nows : List T) → n < end → end ≡ length olds → length nows ≡ length olds → n < length nows
 within-now n end olds nows low is same = omega (arith, low, is, same)
@@ -66,8 +67,13 @@ pub some-in : {T : Type 0} (xs : List T) (len : ℕ) → false ≡ (len == 0) �
 some-in [] len some is none = grind (arith, nat_tests)
 some-in (x ∷ xs) len some is none = cc
 
-pub not-none : (many len : ℕ) → false ≡ (len == 0) → many ≡ len → many ≡ 0 → ⊥
-not-none many len some is none = grind (arith, nat_tests)
+-- ---- turns
+
+-- some turns and then others, if those come to their end
+pub goes-then-ok : {S C : Type 0} (durable : S → Option Durable) (state : S → State) (may : S → Durable → Type 0) (is_read : C → C → Type 0) {T E : Type 0} (one other both : Rules → World → World → Type 0) (a b c : StageNow S C) (result : Result T E) → IsRun one
+    → ((r : Rules) (found : ℕ → Durable) (w u v : World) → Shows durable state r found b u → one r w u → other r u v → both r w v) → GoesOn durable state may is_read one a b → OnOk result (GoesOn durable state may is_read other b c) → OnOk result (GoesOn durable state may is_read both a c)
+goes-then-ok durable state may is_read one other both a b c (Ok x) runs join k l = goes-then durable state may is_read one other both a b c runs join k l
+goes-then-ok durable state may is_read one other both a b c (Err e) runs join k l = tt
 
 module _ {S C : Type 0} (durable : S → Option Durable) (state : S → State) (may : S → Durable → Type 0) (is_read : C → C → Type 0) (settling : Bool) (a0 a : StageNow S C) where
   -- an actor has something to do in each world that is shown, or in none
@@ -89,21 +95,24 @@ module _ {S C : Type 0} (durable : S → Option Durable) (state : S → State) (
         goes-as durable state may is_read (turned settling before) (turned settling (before ++ actor ∷ [])) a0 a (λ r found was w u old s so. AndThen before actor u u so (HasNone (not_due r found u s) refl)) k
 
   module _ (n : ℕ) (k : GoesOn durable state may is_read (turned settling (numbered client n)) a0 a) (within : n < length a.clients) where
-    pub client-had-turn : (b : StageNow S C) → is_due_client a.between.messages n (slice_get a.clients n) ≡ true → GoesOn durable state may is_read (turn_of settling (client n) 0) a b → GoesOn durable state may is_read (turned settling (numbered client (suc n))) a0 b
-    client-had-turn b is = one-more (numbered client n) (client n) k b (λ r found w s. sym (client-due-shown durable state r found a w s settling n within) ∙ is)
+    module _ (due : Bool) (shown : due ≡ is_due_client a.between.messages n (slice_get a.clients n)) where
+      pub client-had-turn : (b : StageNow S C) → due ≡ true → GoesOn durable state may is_read (turn_of settling (client n) 0) a b → GoesOn durable state may is_read (turned settling (numbered client (suc n))) a0 b
+      client-had-turn b is = one-more (numbered client n) (client n) k b (λ r found w s. sym (client-due-shown durable state r found a w s settling n within) ∙ sym shown ∙ is)
 
-    pub client-had-none : is_due_client a.between.messages n (slice_get a.clients n) ≡ false → GoesOn durable state may is_read (turned settling (numbered client (suc n))) a0 a
-    client-had-none is = none-more (numbered client n) (client n) k (λ r found w s. sym (client-due-shown durable state r found a w s settling n within) ∙ is)
+      pub client-had-none : due ≡ false → GoesOn durable state may is_read (turned settling (numbered client (suc n))) a0 a
+      client-had-none is = none-more (numbered client n) (client n) k (λ r found w s. sym (client-due-shown durable state r found a w s settling n within) ∙ sym shown ∙ is)
 
   module _ (m t : ℕ) (k : GoesOn durable state may is_read (turned settling (first_targets m t)) a0 a) where
     next : first_targets m t ++ target t ∷ [] ≡ first_targets m (suc t)
     next = append_assoc (numbered client m) (numbered target t) (target t ∷ [])
 
-    pub target-had-turn : (b : StageNow S C) → DueIs true (target t) → GoesOn durable state may is_read (turn_of settling (target t) 0) a b → GoesOn durable state may is_read (turned settling (first_targets m (suc t))) a0 b
-    target-had-turn b is turn = subst (λ as'. GoesOn durable state may is_read (turned settling as') a0 b) next (one-more (first_targets m t) (target t) k b is turn)
+    module _ (due : Bool) (shown : (r : Rules) (found : ℕ → Durable) (w : World) → Shows durable state r found a w → due ≡ is_due settling r w (target t)) where
+      pub target-had-turn : (b : StageNow S C) → due ≡ true → GoesOn durable state may is_read (turn_of settling (target t) 0) a b → GoesOn durable state may is_read (turned settling (first_targets m (suc t))) a0 b
+      target-had-turn b is turn =
+          subst (λ as'. GoesOn durable state may is_read (turned settling as') a0 b) next (one-more (first_targets m t) (target t) k b (λ r found w s. sym (shown r found w s) ∙ is) turn)
 
-    pub target-had-none : DueIs false (target t) → GoesOn durable state may is_read (turned settling (first_targets m (suc t))) a0 a
-    target-had-none is = subst (λ as'. GoesOn durable state may is_read (turned settling as') a0 a) next (none-more (first_targets m t) (target t) k is)
+      pub target-had-none : due ≡ false → GoesOn durable state may is_read (turned settling (first_targets m (suc t))) a0 a
+      target-had-none is = subst (λ as'. GoesOn durable state may is_read (turned settling as') a0 a) next (none-more (first_targets m t) (target t) k (λ r found w s. sym (shown r found w s) ∙ is))
 
   -- all had their turns
   pub round-whole : GoesOn durable state may is_read (turned settling (first_targets (length a0.clients) (length a0.targets))) a0 a → GoesOn durable state may is_read (RoundOf settling) a0 a
@@ -130,16 +139,16 @@ module _ {S C : Type 0} (durable : S → Option Durable) (state : S → State) (
         goes-as durable state may is_read (from_draw settling x0 x) (all_from_draw settling x0 x) a0 a (λ r found was w u old s so. record { draws = so; over = sym (due-shown durable state r found a u s settling due all) ∙ quiet }) k
 
     -- an actor is drawn, and then the letter that it hears, if it hears one
-    pub draw-more : (x0 x y : ℕ) (actor : ActorId) (many message : ℕ) (b : StageNow S C) → slice_get due (drawn x % length due) ≡ Some actor → ((r : Rules) (found : ℕ → Durable) (w : World) → Shows durable state r found a w → many ≡ heard_in w actor) → message ≡ pick (drawn x) many
-        → y ≡ after_pick (drawn x) many → GoesOn durable state may is_read (from_draw settling x0 x) a0 a → GoesOn durable state may is_read (turn_of settling actor message) a b → GoesOn durable state may is_read (from_draw settling x0 y) a0 b
-    draw-more x0 x y actor many message b its hears is last k turn =
+    pub draw-more : (x0 x z y p : ℕ) (actor : ActorId) (many message : ℕ) (b : StageNow S C) → slice_get due p ≡ Some actor → p ≡ drawn x % length due → z ≡ drawn x → ((r : Rules) (found : ℕ → Durable) (w : World) → Shows durable state r found a w → many ≡ heard_in w actor) → message ≡ pick z many
+        → y ≡ after_pick z many → GoesOn durable state may is_read (from_draw settling x0 x) a0 a → GoesOn durable state may is_read (turn_of settling actor message) a b → GoesOn durable state may is_read (from_draw settling x0 y) a0 b
+    draw-more x0 x z y p actor many message b its at next_is hears is last k turn =
         goes-then durable state may is_read (from_draw settling x0 x) (turn_of settling actor message) (from_draw settling x0 y) a0 a b (draws-are-run settling x0 x)
         (λ r found w u v s so one.
         OneDraw x y u v so (record {
           actor = actor;
-          its = subst (λ as'. slice_get as' (drawn x % length as') ≡ Some actor) (due-shown durable state r found a u s settling due all) its;
-          turn = subst (λ j. TurnOf settling r actor j u v) (is ∙ ap (pick (drawn x)) (hears r found u s)) one;
-          last = last ∙ ap (after_pick (drawn x)) (hears r found u s);
+          its = subst (λ as'. slice_get as' (drawn x % length as') ≡ Some actor) (due-shown durable state r found a u s settling due all) (subst (λ q. slice_get due q ≡ Some actor) at its);
+          turn = subst (λ j. TurnOf settling r actor j u v) (is ∙ ap (λ q. pick q many) next_is ∙ ap (pick (drawn x)) (hears r found u s)) one;
+          last = last ∙ ap (λ q. after_pick q many) next_is ∙ ap (after_pick (drawn x)) (hears r found u s);
         }))
         k turn
 

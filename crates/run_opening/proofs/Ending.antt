@@ -3,7 +3,7 @@ use Rattle.std.specs.Prelude.{ℕ, zero, suc, ◌≡◌, ◌≤◌, ◌<◌, ◌
 use Rattle.std.proofs.Common.{refl, sym, ◌∙◌, ap, subst, inl, inr, arith}
 use Rattle.std.proofs.lemmas.List.{take_all, take_more}
 use Rattle.base_types.specs.declared.entry.Entry.{Entry}
-use Rattle.base_types.specs.declared.entry.Settle.TheVariants.{Abort, Commit, Forget}
+use Rattle.base_types.specs.declared.entry.Settle.TheVariants.{Forget}
 use Rattle.base_types.specs.declared.id.AttemptId.{AttemptId}
 use Rattle.model_laws.specs.Lists.{cut-at, has-at}
 use Rattle.model_laws.specs.Members.{Has, has-right}

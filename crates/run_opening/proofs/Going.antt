@@ -1,17 +1,20 @@
 -- Calls of one store, one after another.
-use Rattle.std.specs.Prelude.{ℕ, ◌≡◌, ◌≤◌, ◌+◌, Bool, true, false, Option, Some, None, Result, Ok, Err, OnOk}
-use Rattle.std.specs.Option.{ForSome, option_map}
-use Rattle.std.proofs.Common.{refl, sym, ◌∙◌, ap, arith}
+use Rattle.std.specs.Prelude.{◌≡◌, Bool, false, Option, Some, None, Result, Ok, Err, OnOk}
+use Rattle.std.specs.Option.{option_map}
+use Rattle.std.proofs.Common.{refl, ◌∙◌, ap, arith}
 use Rattle.daos_model.specs.declared.durable.Durable.{Durable}
 use Rattle.vos_store.specs.Calls.{Looks, Makes, State, Turns}
 use Rattle.vos_store.specs.Refusals.{says}
-use Rattle.target_parts.specs.Parts.{Runs}
 use Rattle.target_parts.specs.Running.{runs_as, runs_call, runs_first, runs_on, still_runs}
 use Rattle.run_opening.specs.Steps.{Goes, same}
 
 on-ok : {T E : Type 0} {P Q : Type 0} (result : Result T E) → (P → Q) → OnOk result P → OnOk result Q
 on-ok (Ok x) f p = f p
 on-ok (Err e) f p = tt
+
+pub on-any : {T E : Type 0} {P : Type 0} (result : Result T E) → P → OnOk result P
+on-any (Ok x) p = p
+on-any (Err e) p = tt
 
 map-twice : (f g : Durable → Durable) (o : Option Durable) → option_map f (option_map g o) ≡ option_map (λ d. f (g d)) o
 map-twice f g None = refl

@@ -3,3 +3,7 @@ pub mod Bits
 pub mod Going
 pub mod Ending
 pub mod Thawing
+pub mod Direct
+pub mod Made
+pub mod Walks
+pub mod Whole

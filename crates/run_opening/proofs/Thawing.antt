@@ -1,18 +1,18 @@
 -- Snapshots of one target are thawed, one after another.
-use Rattle.std.specs.Prelude.{ℕ, ◌≡◌, ◌≤◌, ◌<◌, ◌+◌, ◌==◌, ◌&&◌, ◌||◌, not, Bool, true, false, List, [], ◌∷◌, ◌++◌, filter, length, take, slice_get, slice_index_or, Some, if◌then◌else◌}
-use Rattle.std.specs.List.{list_any}
-use Rattle.std.proofs.Common.{refl, sym, ◌∙◌, ap, subst, inl, inr, arith}
+use Rattle.std.specs.Prelude.{ℕ, ◌≡◌, ◌≤◌, ◌<◌, ◌+◌, ◌==◌, not, Bool, true, false, List, [], ◌∷◌, ◌++◌, filter, length, take, slice_index_or}
+use Rattle.std.proofs.Common.{refl, sym, ◌∙◌, ap, subst, inl, inr}
 use Rattle.std.proofs.lemmas.List.{take_all, take_more}
 use Rattle.base_types.specs.declared.snapshot.Snap.{Snap}
 use Rattle.model_laws.specs.Lists.{has-at}
-use Rattle.model_laws.specs.MatchLaws.{filter_on}
 use Rattle.model_laws.specs.Members.{Has, any-has, has-any, has-filter, has-from_filter}
 use Rattle.model_laws.specs.TargetLaws.{number_same}
 use Rattle.daos_model.specs.declared.durable.Durable.{Durable}
-use Rattle.daos_model.specs.BoolLaws.{and_left, and_right, clash, false_of}
+use Rattle.daos_model.specs.BoolLaws.{and_left, and_right, false_of}
 use Rattle.daos_model.specs.Changes.{is_other_snap, thawed}
 use Rattle.daos_model.specs.Durables.{is_frozen, is_snap_at, snap_key}
+use Rattle.daos_model.specs.OrderLaws.{rising-filter}
 use Rattle.daos_model.specs.Ordered.{is_rising}
+use Rattle.run_opening.specs.StandLaws.{is-itself}
 use Rattle.run_opening.specs.Steps.{AreFrozen, all_thawed}
 use Rattle.run_opening.proofs.Ending.{at-read, keys-apart_at}
 
@@ -22,7 +22,7 @@ pub thawed-next : (xs : List Snap) (x : Snap) (d : Durable) → all_thawed (xs +
 thawed-next [] x d = refl
 thawed-next (z ∷ xs) x d = thawed-next xs x (thawed z.cont z.epoch d)
 
-same-key : (x z : Snap) → is_snap_at z.cont z.epoch x ≡ true → snap_key x ≡ snap_key z
+pub same-key : (x z : Snap) → is_snap_at z.cont z.epoch x ≡ true → snap_key x ≡ snap_key z
 same-key x z at =
     let cont : x.cont.0 ≡ z.cont.0 = number_same x.cont.0 z.cont.0 (and_left (x.cont.0 == z.cont.0) (x.epoch.0 == z.epoch.0) at) in
     let epoch : x.epoch.0 ≡ z.epoch.0 = number_same x.epoch.0 z.epoch.0 (and_right (x.cont.0 == z.cont.0) (x.epoch.0 == z.epoch.0) at) in
@@ -55,3 +55,13 @@ module _ (xs : List Snap) (i : ℕ) (z : Snap) (lt : i < length xs) where
 
 pub last-thawed : (xs : List Snap) (i : ℕ) (d : Durable) → length xs ≤ i → all_thawed (take i xs) d ≡ all_thawed xs d
 last-thawed xs i d le = ap (λ ys. all_thawed ys d) (take_all i xs le)
+
+-- ---- some of a target's snapshots
+
+-- its snapshots that pass a test are frozen, in their order
+pub some-frozen : (t : Snap → Bool) (d : Durable) → is_rising snap_key d.snaps ≡ true → AreFrozen (filter t d.snaps) d
+unfolding is_frozen
+some-frozen t d rises = record {
+  each = λ x i. any-has (is_snap_at x.cont x.epoch) d.snaps x (has-from_filter t d.snaps x i).0 (is-itself x);
+  rising = rising-filter snap_key t d.snaps rises;
+}

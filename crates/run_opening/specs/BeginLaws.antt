@@ -1,5 +1,5 @@
 -- A run may begin with what sound targets keep once they were opened.
-use Rattle.std.specs.Prelude.{ℕ, zero, suc, ◌≡◌, ◌≤◌, ◌<◌, ◌/◌, ◌-◌, ◌^◌, ◌&&◌, Bool, true, false, List, [], ◌∷◌, filter, find, length, map, slice_get, Contains, Option, Some, None, refl}
+use Rattle.std.specs.Prelude.{ℕ, ◌≡◌, ◌≤◌, ◌<◌, ◌/◌, ◌&&◌, Bool, true, false, List, [], ◌∷◌, filter, find, length, slice_get, Option, Some, None, refl}
 use Rattle.std.proofs.Common.{sym, ◌∙◌, ap, subst, arith}
 use Rattle.base_types.specs.declared.id.ContId.{ContId}
 use Rattle.base_types.specs.declared.script.Script.{Script}
@@ -9,11 +9,10 @@ use Rattle.model_laws.specs.EntryLaws.{found-has}
 use Rattle.model_laws.specs.Members.{Has, has-from_contains}
 use Rattle.daos_model.specs.declared.durable.ContRow.{ContRow}
 use Rattle.daos_model.specs.declared.durable.Durable.{Durable}
-use Rattle.daos_model.specs.declared.durable.Version.{Version}
 use Rattle.daos_model.specs.declared.stand.SnapMap.{SnapMap}
 use Rattle.daos_model.specs.declared.stand.Stand.{Stand}
 use Rattle.daos_model.specs.Durables.{is_row_of, row_of, row_or_new}
-use Rattle.daos_model.specs.Family.{greatest_lease, stand, top_of}
+use Rattle.daos_model.specs.Family.{greatest_lease, stand}
 use Rattle.daos_model.specs.Finals.{opening_of}
 use Rattle.daos_model.specs.FormLaws.{length-map}
 use Rattle.daos_model.specs.Opening.{is_kept, kept}

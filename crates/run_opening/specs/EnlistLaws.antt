@@ -1,5 +1,5 @@
 -- Containers that are enlisted leave sound targets sound, and what they stand for.
-use Rattle.std.specs.Prelude.{ℕ, ◌≡◌, ◌≤◌, ◌⊎◌, ◌==◌, ◌||◌, Bool, true, false, max, List, [], ◌∷◌, All, Contains, length, map, slice_get, Some, if◌then◌else◌, refl}
+use Rattle.std.specs.Prelude.{ℕ, ◌≡◌, ◌≤◌, ◌⊎◌, Bool, true, false, max, List, [], ◌∷◌, All, Contains, length, map, slice_get, Some, if◌then◌else◌, refl}
 use Rattle.std.specs.List.{list_any}
 use Rattle.std.proofs.Common.{inl, inr, sym, ◌∙◌, ap, subst, arith}
 use Rattle.base_types.specs.declared.id.ContId.{ContId}
@@ -17,10 +17,9 @@ use Rattle.daos_model.specs.Cells.{value_at}
 use Rattle.daos_model.specs.Changes.{enlisted, with_cont, with_conts}
 use Rattle.daos_model.specs.Durables.{IsInForm, cont_key, entry_of, is_enlisted, is_frozen, is_row_of, new_row}
 use Rattle.daos_model.specs.Family.{Agree, AgreeOn, counts, counts_at, created_snaps, greatest_lease, map_where}
-use Rattle.daos_model.specs.Finals.{opening_of}
 use Rattle.daos_model.specs.FormLaws.{enlisted-in_form, length-map}
 use Rattle.daos_model.specs.Opening.{kept}
-use Rattle.daos_model.specs.Sound.{IsCovered, IsOfEntry, IsPlaced, IsSoundAt, SayTheSame, Sound}
+use Rattle.daos_model.specs.Sound.{IsCovered, IsPlaced, IsSoundAt, SayTheSame, Sound}
 use Rattle.daos_model.specs.Ordered.{put}
 use Rattle.run_opening.specs.Alike.{KeepsData, at-alike, counts-alike, created-alike, map-alike, stand-alike}
 use Rattle.run_opening.specs.Laws.{EnlistingKeepsForm, EnlistingKeepsOpenings, EnlistingKeepsSound, OpenedKnowContainers}

@@ -1,6 +1,7 @@
 -- The opening of a run over stores that are sound together.
 pub mod Opened
 pub mod Steps
+pub mod All
 pub mod Laws
 pub mod StandLaws
 pub mod SoundLaws

@@ -1,5 +1,5 @@
 -- What the opening of a run makes of what all targets keep.
-use Rattle.std.specs.Prelude.{ℕ, ◌≡◌, Bool, true, ◌&&◌, List, [], filter, map, slice_get, Some}
+use Rattle.std.specs.Prelude.{ℕ, ◌≡◌, Bool, true, List, [], filter, map, slice_get, Some}
 use Rattle.std.specs.List.{list_any}
 use Rattle.base_types.specs.declared.id.ContId.{ContId}
 use Rattle.base_types.specs.declared.script.Script.{Script}

@@ -1,6 +1,5 @@
 -- An opening leaves sound targets sound.
-use Rattle.std.specs.Prelude.{ℕ, zero, suc, ◌≡◌, ◌≢◌, ◌≤◌, ◌&&◌, ◌==◌, is_some, Bool, true, false, List, [], ◌∷◌, All, Contains, filter, length, map, slice_get, Some, refl}
-use Rattle.std.specs.List.{list_all}
+use Rattle.std.specs.Prelude.{ℕ, zero, suc, ◌≡◌, ◌≢◌, ◌≤◌, ◌&&◌, ◌==◌, Bool, true, List, [], ◌∷◌, All, Contains, filter, length, map, slice_get, Some, refl}
 use Rattle.std.proofs.Common.{sym, ◌∙◌, ap, subst, arith}
 use Rattle.std.proofs.lemmas.List.Elements.{All-nil}
 use Rattle.std.proofs.lemmas.List.Kept.{AllPairs-filter}
@@ -11,7 +10,7 @@ use Rattle.base_types.specs.Placement.{path_members}
 use Rattle.model_laws.specs.DecidedLaws.{all-from_has, has-all}
 use Rattle.model_laws.specs.EntryLaws.{pairs-map}
 use Rattle.model_laws.specs.Lists.{all-pass}
-use Rattle.model_laws.specs.Members.{Has, any-has, contains-from_has, has-any, has-filter, has-from_contains, has-from_filter, has-from_map}
+use Rattle.model_laws.specs.Members.{Has, any-has, has-any, has-filter, has-from_contains, has-from_filter, has-from_map}
 use Rattle.model_laws.specs.ServeLaws.{all-has}
 use Rattle.model_laws.specs.TargetLaws.{number_same, same_number}
 use Rattle.daos_model.specs.declared.durable.Durable.{Durable}

@@ -1,18 +1,16 @@
 -- An opening leaves what all targets stand for.
-use Rattle.std.specs.Prelude.{ℕ, ◌≡◌, ◌+◌, ◌&&◌, ◌||◌, ◌==◌, max, nat_lt, not, Bool, true, false, List, [], ◌∷◌, ◌++◌, filter, map, length, if◌then◌else◌, refl}
-use Rattle.std.specs.List.{list_any}
-use Rattle.std.proofs.Common.{sym, ◌∙◌, ap, arith}
+use Rattle.std.specs.Prelude.{ℕ, ◌≡◌, ◌+◌, ◌&&◌, ◌==◌, max, nat_lt, Bool, true, false, List, [], ◌∷◌, ◌++◌, filter, map, length, if◌then◌else◌, refl}
+use Rattle.std.proofs.Common.{sym, ◌∙◌, ap}
 use Rattle.base_types.specs.declared.script.Script.{Script}
 use Rattle.base_types.specs.declared.snapshot.Snap.{Snap}
 use Rattle.daos_model.specs.declared.durable.Durable.{Durable}
 use Rattle.daos_model.specs.declared.durable.Version.{Version}
-use Rattle.daos_model.specs.declared.stand.SnapMap.{SnapMap}
 use Rattle.daos_model.specs.BoolLaws.{and_left, and_right, both, false_of}
 use Rattle.daos_model.specs.Durables.{is_snap_at}
 use Rattle.daos_model.specs.Effect.{effects}
-use Rattle.daos_model.specs.Family.{counts, counts_at, counts_below, created_snaps, family_map, greatest_lease, is_created, is_led_by, joined, map_where, part_of, resolved, snap_map, stand}
+use Rattle.daos_model.specs.Family.{counts, counts_at, counts_below, created_snaps, family_map, greatest_lease, is_created, is_led_by, joined, map_where, part_of, snap_map, stand}
 use Rattle.daos_model.specs.FormLaws.{length-map}
-use Rattle.daos_model.specs.Opening.{is_kept, kept}
+use Rattle.daos_model.specs.Opening.{is_kept}
 use Rattle.daos_model.specs.Versions.{version_path, writes_in}
 use Rattle.model_laws.specs.MatchLaws.{filter_on}
 use Rattle.model_laws.specs.Members.{Has, any-has, has-any, has-filter, has-from_filter}
@@ -93,10 +91,10 @@ at-opened F O s v = by (counts F v) (nat_lt v.epoch.0 s.epoch.0) ((version_path 
 
 -- ---- snapshots
 
-keeps-same : (s : Script) (x y : Snap) → x.cont.0 ≡ y.cont.0 → x.epoch.0 ≡ y.epoch.0 → keeps s x ≡ keeps s y
+pub keeps-same : (s : Script) (x y : Snap) → x.cont.0 ≡ y.cont.0 → x.epoch.0 ≡ y.epoch.0 → keeps s x ≡ keeps s y
 keeps-same s x y cont epoch = ap (λ n. is_kept s (record { cont = record { 0 = n }; epoch = x.epoch; map = [] })) cont ∙ ap (λ n. is_kept s (record { cont = y.cont; epoch = record { 0 = n }; map = [] })) epoch
 
-is-itself : (x : Snap) → is_snap_at x.cont x.epoch x ≡ true
+pub is-itself : (x : Snap) → is_snap_at x.cont x.epoch x ≡ true
 is-itself x = both (x.cont.0 == x.cont.0) (x.epoch.0 == x.epoch.0) (same_number x.cont.0) (same_number x.epoch.0)
 
 -- a created snapshot of target 0 lasts exactly where the script keeps it

@@ -1,5 +1,5 @@
 -- The steps of an opening at one target, and what its calls say of its store.
-use Rattle.std.specs.Prelude.{ℕ, ◌≡◌, ◌≤◌, ◌&&◌, Bool, true, false, not, List, [], ◌∷◌, filter, map, slice_get, Option, Some, Result, Ok, Err, OnOk, if◌then◌else◌}
+use Rattle.std.specs.Prelude.{◌≡◌, ◌≤◌, ◌&&◌, Bool, true, false, not, List, [], ◌∷◌, filter, map, Option, Result, OnOk, if◌then◌else◌}
 use Rattle.std.specs.Option.{option_map}
 use Rattle.base_types.specs.declared.entry.Entry.{Entry}
 use Rattle.base_types.specs.declared.entry.Settle.{Settle}
@@ -10,7 +10,7 @@ use Rattle.base_types.specs.declared.snapshot.Snap.{Snap}
 use Rattle.daos_model.specs.declared.durable.Durable.{Durable}
 use Rattle.daos_model.specs.Changes.{settled, thawed}
 use Rattle.daos_model.specs.Durables.{is_frozen, snap_key}
-use Rattle.daos_model.specs.Family.{is_created, resolved}
+use Rattle.daos_model.specs.Family.{resolved}
 use Rattle.daos_model.specs.Ordered.{is_rising}
 use Rattle.model_laws.specs.Members.{Has}
 use Rattle.vos_store.specs.Calls.{State}
@@ -96,17 +96,3 @@ pub record Goes {T E : Type 0} (stop : E → Bool) (change : Durable → Durable
 -- nothing is changed
 abbrev pub same : Durable → Durable
 same d = d
-
--- ---- all stores
-
--- what holds between each store before and after
-abbrev pub FromTo : {S : Type 0} → List S → List S → (ℕ → S → S → Type 0) → Type 0
-FromTo {S} old new P = (t : ℕ) (x y : S) → slice_get old t ≡ Some x → slice_get new t ≡ Some y → P t x y
-
--- all stores run
-abbrev pub AllRun : {S : Type 0} → (S → State) → List S → Type 0
-AllRun {S} state stores = (t : ℕ) (x : S) → slice_get stores t ≡ Some x → (state x).stopped ≡ false
-
--- what stores keep, in their order, where they tell it
-abbrev pub AreKept : {S : Type 0} → (S → Option Durable) → List S → List Durable → Type 0
-AreKept durable stores F = map durable stores ≡ map Some F

@@ -1,5 +1,5 @@
 -- Targets that were never used are sound, and stand for nothing.
-use Rattle.std.specs.Prelude.{ℕ, zero, suc, ◌≡◌, ◌≢◌, ◌≤◌, ◌+◌, ◌++◌, max, Bool, true, List, [], ◌∷◌, All, AllPairs, filter, length, map, slice_get, Some, None, is_some, refl}
+use Rattle.std.specs.Prelude.{ℕ, suc, ◌≡◌, ◌+◌, ◌++◌, max, Bool, true, List, [], ◌∷◌, All, filter, length, map, refl}
 use Rattle.std.proofs.Common.{sym, ◌∙◌, ap, subst, arith}
 use Rattle.std.proofs.lemmas.List.Elements.{All-nil}
 use Rattle.base_types.specs.declared.id.ContId.{ContId}
@@ -9,13 +9,12 @@ use Rattle.daos_model.specs.declared.durable.Version.{Version}
 use Rattle.daos_model.specs.AsOf.{empty_stand}
 use Rattle.daos_model.specs.Cells.{value_at}
 use Rattle.daos_model.specs.Changes.{enlisted}
-use Rattle.daos_model.specs.Durables.{empty_durable, is_frozen, version_key}
-use Rattle.daos_model.specs.Family.{AgreeOn, counts, counts_at, created_snaps, family_map, greatest_lease, is_created, is_led_by, joined, map_where, snap_map, stand}
-use Rattle.daos_model.specs.Finals.{opening_of}
+use Rattle.daos_model.specs.Durables.{empty_durable, is_frozen}
+use Rattle.daos_model.specs.Family.{AgreeOn, counts, counts_at, created_snaps, greatest_lease, is_created, is_led_by, joined, map_where, snap_map, stand}
 use Rattle.daos_model.specs.Opening.{kept}
-use Rattle.daos_model.specs.Sound.{IsSoundAt, SayTheSame, Sound}
+use Rattle.daos_model.specs.Sound.{IsSoundAt, SayTheSame}
 use Rattle.run_opening.specs.Laws.{AreUnused, UnusedAreSound, UnusedOpenAsTheyAre, UnusedStandForNothing}
-use Rattle.run_opening.specs.Opened.{enlisted_family, opened, opened_family}
+use Rattle.run_opening.specs.Opened.{enlisted_family, opened}
 
 -- those behind the first are unused too
 rest : (d : Durable) (F : List Durable) → AreUnused (d ∷ F) → AreUnused F

@@ -2,8 +2,11 @@
 #![tactic(auto)]
 
 mod attempts;
+mod each;
+pub mod opening;
 mod resolving;
 mod snaps;
+pub mod stop;
 
 ghost use Rattle.run_opening.specs.Laws.{EnlistingKeepsForm, EnlistingKeepsOpenings, EnlistingKeepsSound, OpenedKnowContainers, OpeningsKeepForm, OpeningsKeepLeases, OpeningsKeepSound, OpeningsKeepWhatStands, OpeningsSettleAll, RunsBeginOpened, UnusedAreSound, UnusedOpenAsTheyAre, UnusedStandForNothing};
 

@@ -122,3 +122,56 @@ fn thaw_all<S: Store>(store: &mut S, gone: &[Snap]) -> Result<(), Stopped>
     }
     Ok(())
 }
+
+// Frozen snapshots are thawed, unless the store stops.
+fn thaw<S: Store>(store: &mut S, gone: &[Snap]) -> Result<(), Halt>
+    requires running { (S.state store.old).stopped ≡ false }
+    requires frozen { ForSome (S.durable store.old) (AreFrozen gone.now) }
+    ensures { Goes halt_stop (all_thawed gone.now) result (S.state store.old) (S.state store.new) (S.durable store.old) (S.durable store.new) }
+{
+    match thaw_all(store, gone) {
+        Ok(()) => Ok(()),
+        Err(_stopped) => Err(Halt::Stopped),
+    }
+}
+
+/// Target 0 thaws its created snapshots that a script drops.
+///
+/// # Errors
+///
+/// Where the store stopped, and for want of memory.
+pub fn drop_snaps<S: Store>(alloc: Global, script: &Script, store: &mut S) -> Result<(), Halt>
+    requires running { (S.state store.old).stopped ≡ false }
+    ensures { Goes halt_stop (dropped script.now) result (S.state store.old) (S.state store.new) (S.durable store.old) (S.durable store.new) }
+{
+    let snaps = store.snaps()?;
+    let gone = dropped_of(alloc, script, snaps.as_slice())?;
+    thaw(store, &gone)
+}
+
+/// The snapshots that a target holds as created.
+///
+/// # Errors
+///
+/// For want of memory.
+pub fn created_at<S: Store>(alloc: Global, store: &S) -> Result<Vec<Snap>, Memory>
+    requires running { (S.state store.now).stopped ≡ false }
+    ensures { IfOk result (λ created. ForSome (S.durable store.now) (λ d. created.items ≡ filter is_created d.snaps)) }
+{
+    let snaps = store.snaps()?;
+    created_of(alloc, snaps.as_slice())
+}
+
+/// A target thaws its snapshots that are none of some.
+///
+/// # Errors
+///
+/// Where the store stopped, and for want of memory.
+pub fn thaw_others<S: Store>(alloc: Global, some: &[Snap], store: &mut S) -> Result<(), Halt>
+    requires running { (S.state store.old).stopped ≡ false }
+    ensures { Goes halt_stop (left_with some.now) result (S.state store.old) (S.state store.new) (S.durable store.old) (S.durable store.new) }
+{
+    let snaps = store.snaps()?;
+    let gone = others_of(alloc, some, snaps.as_slice())?;
+    thaw(store, &gone)
+}

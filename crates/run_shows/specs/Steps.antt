@@ -55,7 +55,7 @@ module _ {S C : Type 0} (durable : S → Option Durable) (state : S → State) (
     Opened : (did : Did) → result ≡ Ok did → AfterOpening durable state may t y did a b → OpeningEnds t x y a b result
     NotOpened : (stop : TargetStop) → result ≡ Err stop → AfterFailure t (state x.store).faults (state y.store).faults stop a b → OpeningEnds t x y a b result
 
-  -- One that is stopped was opened, by the restart of the next number.
+  -- One that is stopped was to be opened, by the restart of the next number.
   pub record TargetReopened (t : ℕ) (a b : StageNow S C) : Type 0 where
     pub before : TargetOf S C
     pub now : TargetOf S C

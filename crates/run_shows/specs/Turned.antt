@@ -83,7 +83,7 @@ abbrev pub failed_stage : {S C : Type 0} → ℕ → ℕ → StageNow S C → St
 failed_stage t n a = record a { watch = after_fault t n a.watch }
 
 -- What a turn leaves of a target whose store stopped in it, and of which the outside's count stood at these before and after it: where the
--- outside failed it, that is counted, and after the ninth time the target is given up.
+-- outside's count rose, that is counted, and at the ninth time the target is given up. A count at the end of its range rises no more.
 pub data AfterStop {S C : Type 0} (t before now : ℕ) (a b : StageNow S C) : Type 0 where
   NotFailed : now ≤ before → b ≡ a → AfterStop t before now a b
   Failed : before < now → (n : ℕ) → slice_get a.watch.faults t ≡ Some n → (n ≡ 8 → ⊥) → b ≡ failed_stage t n a → AfterStop t before now a b

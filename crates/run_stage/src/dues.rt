@@ -1,5 +1,5 @@
 // Which actors have something to do, and of how many messages they hear one.
-ghost use Rattle.std.specs.Prelude.{◌≡◌, ◌<◌, ◌≤◌, ℕ, length, slice_get, true, IfOk, Some};
+ghost use Rattle.std.specs.Prelude.{◌≡◌, ◌<◌, ◌≤◌, ◌||◌, ℕ, false, length, nat_lt, slice_get, true, IfOk, Some};
 ghost use Rattle.client_core.specs.Clients.{ClientNow};
 ghost use Rattle.daos_model.specs.declared.durable.Durable.{Durable};
 ghost use Rattle.run_base.specs.Picks.{count_to, heard_awake, is_due};
@@ -7,13 +7,15 @@ ghost use Rattle.run_shows.specs.Due.{AllAreDue, is_due_client};
 ghost use Rattle.run_shows.specs.Shows.{Shows};
 ghost use Rattle.run_stage.specs.Now.{stage_now};
 ghost use Rattle.run_turns.specs.Turns.{heard_where};
+ghost use Rattle.target_core.specs.Targets.{TargetOf};
 ghost use Rattle.world_base.specs.declared.target.Life.{Life};
 ghost use Rattle.world_base.specs.declared.world.World.{World};
 ghost use Rattle.world_base.specs.Events.{Rules};
+ghost use Rattle.world_base.specs.Idle.{has_idle};
 ghost use Rattle.world_base.specs.Letters.{client, target};
 
 use crate::stage::Stage;
-use crate::turns::{client_id, target_id};
+use crate::turns::{client_id, heard_by, target_id};
 use base_messages::actor::ActorId;
 use base_outside::clock::Clock;
 use base_types::items::Memory;
@@ -28,11 +30,7 @@ impl<S: Store, C: Clock> Stage<S, C> {
         requires few { n < 65536 }
         ensures { (c : ClientNow) → slice_get self.now.clients.items n ≡ Some c → result ≡ heard_awake c.state (count_to (client n) self.now.between.messages) }
     {
-        if self.clients[n].skips() {
-            0
-        } else {
-            self.between.count_to(client_id(n))
-        }
+        heard_by(&self.clients[n], &self.between, n)
     }
 
     /// Of how many messages a target hears one in its next turn; of none where it doesn't run.
@@ -59,6 +57,16 @@ impl<S: Store, C: Clock> Stage<S, C> {
             || !(client.waits() || client.done())
     }
 
+    // Whether a target that runs has something to do: it hears a message, or has idle work.
+    fn is_busy(&self, t: usize, settling: bool) -> bool
+        requires within { t < length self.now.targets.items }
+        requires few { t < 65536 }
+        ensures { (x : TargetOf S C) → slice_get self.now.targets.items t ≡ Some x → x.opened ≡ true → (S.state x.store).stopped ≡ false → (d : Durable) → S.durable x.store ≡ Some d
+            → result ≡ (nat_lt 0 (count_to (target t) self.now.between.messages) || has_idle settling x.plan x.memory d) }
+    {
+        self.between.count_to(target_id(t)) > 0 || self.targets[t].has_idle(settling)
+    }
+
     /// Whether a target has something to do, in the settling phase or before it: one that is stopped opens
     /// again; one that runs hears a message, or has idle work; one that was given up has nothing to do.
     pub fn is_target_due(&self, t: usize, settling: bool) -> bool
@@ -69,7 +77,7 @@ impl<S: Store, C: Clock> Stage<S, C> {
         ensures up { result ≡ true → slice_get self.now.watch.lives t ≡ Some Life.Down → ⊥ }
     {
         match self.watch.life(t) {
-            Life::Running => self.between.count_to(target_id(t)) > 0 || self.targets[t].has_idle(settling),
+            Life::Running => self.is_busy(t, settling),
             Life::Stopped => true,
             Life::Down => false,
         }

@@ -37,7 +37,10 @@ impl<S: Store, C: Clock> Stage<S, C> {
         ensures after { (x : TargetOf S C) → slice_get self.old.targets.items t ≡ Some x → OnOk result (AfterStop t before (S.state x.store).faults (stage_now self.old) (stage_now self.new)) }
         ensures targets { self.new.targets ≡ self.old.targets }
     {
-        if self.targets[t].faults() > before && self.watch.fail(t) {
+        if self.targets[t].faults() <= before {
+            return Ok(());
+        }
+        if self.watch.fail(t) {
             return self.give_up(t);
         }
         Ok(())

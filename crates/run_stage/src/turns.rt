@@ -1,6 +1,6 @@
 // The turns of clients and of targets.
 ghost use Rattle.std.specs.Prelude.{◌≡◌, ◌<◌, ◌≤◌, Bool, max, length, slice_get, IfOk, OnOk, Some};
-ghost use Rattle.run_base.specs.Picks.{count_to};
+ghost use Rattle.run_base.specs.Picks.{count_to, heard_awake};
 ghost use Rattle.run_shows.specs.Accounts.{AreServed};
 ghost use Rattle.run_shows.specs.CanGo.{CanTurn};
 ghost use Rattle.run_shows.specs.Steps.{ClientTurned, ClientWorks, TargetTurned};
@@ -41,6 +41,18 @@ pub fn target_id(t: usize) -> ActorId
     }
 }
 
+// Of how many messages a client hears one in its next turn; of none where it skips that turn.
+pub(crate) fn heard_by(one: &Client, between: &Between, n: usize) -> usize
+    requires few { n < 65536 }
+    ensures { result ≡ heard_awake one.now.state (count_to (client n) between.now.messages) }
+{
+    if one.skips() {
+        0
+    } else {
+        between.count_to(client_id(n))
+    }
+}
+
 // A turn of a client: it counts a skip, hears the message of this number among those to it, or goes on.
 fn hear_or_go(
     one: &mut Client,
@@ -53,7 +65,7 @@ fn hear_or_go(
     ensures plan { one.new.plan ≡ one.old.plan }
     ensures works { IfOk result (ClientWorks n number one.old one.new between.old between.new) }
 {
-    if one.skips() || between.count_to(client_id(n)) == 0 {
+    if heard_by(one, between, n) == 0 {
         return one.next();
     }
     one.hear(between.take(client_id(n), number).message)

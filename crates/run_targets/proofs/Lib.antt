@@ -1,2 +1,4 @@
 -- The proofs of this crate's functions.
-mod Fuses
+mod Setting
+mod Reading
+mod Runs

@@ -1,6 +1,6 @@
 // The report of a run's lines.
-ghost use Rattle.std.specs.Prelude.{◌≡◌};
-ghost use Rattle.daos_model.specs.Stops.{down_targets, least};
+ghost use Rattle.std.specs.Prelude.{◌≡◌, Some};
+ghost use Rattle.daos_model.specs.Stops.{down_targets, least, least_with};
 ghost use Rattle.run_ends.specs.Comes.{report_with};
 ghost use Rattle.run_reports.specs.Reports.{AreTyped, HasTypedNumbers};
 
@@ -28,6 +28,16 @@ fn read_numbers(line: &Line)
     }
 }
 
+// The lower one of two targets, where there is a first one.
+fn lower(first: Option<TargetId>, target: TargetId) -> TargetId
+    ensures { Some result ≡ least_with target first }
+{
+    match first {
+        Some(before) => target.min(before),
+        None => target,
+    }
+}
+
 // The least of the targets of which a line tells that they were given up.
 fn first_down(lines: &[Line]) -> Option<TargetId>
     ensures least { result ≡ least (down_targets lines.now) }
@@ -37,7 +47,7 @@ fn first_down(lines: &[Line]) -> Option<TargetId>
     for line in lines {
         read_numbers(line);
         if let Line::Down { target } = line {
-            first = Some(first.map_or(*target, |t| t.min(*target)));
+            first = Some(lower(first, *target));
         }
     }
     first

@@ -1,5 +1,5 @@
 // Clients and targets run a script.
-ghost use Rattle.std.specs.Prelude.{◌≡◌, ◌×◌, ◌≤◌, ◌<◌, ℕ, IfOk, length, slice_get, Some, true, false};
+ghost use Rattle.std.specs.Prelude.{◌≡◌, ◌≤◌, ◌<◌, ℕ, IfOk, length, slice_get, Some, true, false};
 ghost use Rattle.daos_model.specs.Opening.{Opening};
 ghost use Rattle.run_ends.specs.Comes.{ComesTo};
 ghost use Rattle.run_ends.specs.Starts.{AllTell, HaveStarted, given_by, stores_of};
@@ -66,5 +66,8 @@ pub fn run_targets<R: Wait, S: Fuse, C: Clock, G: Gate>(
     };
     let (mut targets, _watch, ran) = run_in_order(rt, alloc, job.order, stage, gate);
     disarm(&mut targets);
-    (targets, ran.map(|lines| report_of(script, lines)))
+    match ran {
+        Ok(lines) => (targets, Ok(report_of(script, lines))),
+        Err(error) => (targets, Err(error)),
+    }
 }

@@ -1,18 +1,28 @@
-use Rattle.run_loop.specs.Going.{goes-by, goes-none}
 use Rattle.run_loop.specs.Loops.{none-in, round-more, rounds-over, some-in}
-use Rattle.run_turns.specs.Orders.{RoundOf, NoRound, Rounds}
+use Rattle.run_shows.specs.Serving.{served-then}
+use Rattle.run_stage.specs.Now.{stage_now}
+use Rattle.run_steps.specs.Going.{goes-none}
+use Rattle.run_turns.specs.Orders.{NoRound, Rounds}
 use Rattle.run_loop.proofs.order.go_round.Goals as goal
 
 pub loop-init : goal.loop-init
-loop-init g c = goes-none g.S.Store.durable g.S.Store.state g.S.Store.may g.C.Clock.is_read (Rounds c.args.settling) c.args.stage.now (λ r w. NoRound) c.requires.going
+loop-init g c = goes-none g.S.Store.durable g.S.Store.state g.S.Store.may g.C.Clock.is_read (Rounds c.args.settling) (stage_now c.args.stage.now) (λ r w. NoRound) c.requires.going
 
-pub returns-then-is_empty-clause-rounds : goal.returns-then-is_empty-clause-rounds
-returns-then-is_empty-clause-rounds g c =
-    (rounds-over g.S.Store.durable g.S.Store.state g.S.Store.may g.C.Clock.is_read c.args.settling c.args.stage.now c.loop.stage c.in_ok-due.field-0.items c.in_ok-due.ensures
-    (none-in c.in_ok-due.field-0.items c.in_ok-due.field-0.len c.if-is_empty.ensures c.in_ok-due.field-0.ok.0) c.loop.invariant).led
+pub returns-then-is_empty-clause-goes : goal.returns-then-is_empty-clause-goes
+returns-then-is_empty-clause-goes g c =
+    rounds-over g.S.Store.durable g.S.Store.state g.S.Store.may g.C.Clock.is_read c.args.settling (stage_now c.args.stage.now) (stage_now c.loop.stage) c.in_ok-due.field-0.items c.in_ok-due.ensures
+    (none-in c.in_ok-due.field-0.items c.in_ok-due.field-0.len c.if-is_empty.ensures c.in_ok-due.field-0.ok.0) c.loop.invariant
+
+pub returns-then-is_empty-clause-served : goal.returns-then-is_empty-clause-served
+returns-then-is_empty-clause-served g c = c.loop.invariant.served
+
+pub returns-in_err-due-clause-served : goal.returns-in_err-due-clause-served
+returns-in_err-due-clause-served g c = c.loop.invariant.served
+
+pub returns-in_err-round-clause-served : goal.returns-in_err-round-clause-served
+returns-in_err-round-clause-served g c = served-then g.S.Store.durable g.S.Store.state g.C.Clock.is_read c.args.stage.now.targets.items c.loop.stage.targets.items c.round.new.stage.targets.items c.loop.invariant.served c.in_err-round.ensures.served
 
 pub loop-preserved : goal.loop-preserved
 loop-preserved g c =
-    round-more g.S.Store.durable g.S.Store.state g.S.Store.may g.C.Clock.is_read c.args.settling c.args.stage.now c.loop.stage c.in_ok-due.field-0.items c.in_ok-due.ensures c.round.new.stage
-    (some-in c.in_ok-due.field-0.items c.in_ok-due.field-0.len c.if-is_empty.ensures c.in_ok-due.field-0.ok.0) c.loop.invariant
-    (goes-by g.S.Store.durable g.S.Store.state g.S.Store.may g.C.Clock.is_read (RoundOf c.args.settling) c.loop.stage c.round.new.stage c.in_ok-round.ensures.round c.in_ok-round.ensures.going c.in_ok-round.ensures.many_clients c.in_ok-round.ensures.served c.in_ok-round.ensures.accounts)
+    round-more g.S.Store.durable g.S.Store.state g.S.Store.may g.C.Clock.is_read c.args.settling (stage_now c.args.stage.now) (stage_now c.loop.stage) c.in_ok-due.field-0.items c.in_ok-due.ensures (stage_now c.round.new.stage)
+    (some-in c.in_ok-due.field-0.items c.in_ok-due.field-0.len c.if-is_empty.ensures c.in_ok-due.field-0.ok.0) c.loop.invariant c.in_ok-round.ensures.goes

@@ -1,7 +1,8 @@
-use Rattle.run_loop.specs.Going.{GoesOn}
+use Rattle.run_stage.specs.Now.{stage_now}
+use Rattle.run_steps.specs.Going.{GoesOn}
 use Rattle.run_turns.specs.Orders.{Rounds}
 use Rattle.run_loop.proofs.order.go_round.Given as goal
 
 -- there were some rounds
 abbrev pub invariant-loop : goal.invariant-loop
-invariant-loop g l = GoesOn g.S.Store.durable g.S.Store.state g.S.Store.may g.C.Clock.is_read (Rounds l.settling) l.fn.stage l.stage
+invariant-loop g l = GoesOn g.S.Store.durable g.S.Store.state g.S.Store.may g.C.Clock.is_read (Rounds l.settling) (stage_now l.fn.stage) (stage_now l.stage)

@@ -1,57 +1,73 @@
 use Rattle.std.specs.Prelude.{[], length}
-use Rattle.std.proofs.Common.{◌∙◌, add-one, subst, suc, sym}
+use Rattle.std.proofs.Common.{◌∙◌, add-one, ap, subst, suc, sym}
 use Rattle.run_base.specs.Picks.{numbered}
-use Rattle.run_loop.specs.Going.{GoesOn, goes-by, goes-none}
-use Rattle.run_loop.specs.Loops.{at-end, client-had-none, client-had-turn, round-whole, target-had-none, target-had-turn, turn_of, turned, within-now}
+use Rattle.run_loop.specs.Loops.{at-end, client-had-none, client-had-turn, round-whole, target-had-none, target-had-turn, turned, within-now}
+use Rattle.run_shows.specs.Accounts.{AreServed}
 use Rattle.run_shows.specs.Due.{first_targets}
+use Rattle.run_shows.specs.Serving.{served-then}
+use Rattle.run_stage.specs.Now.{stage_now}
+use Rattle.run_steps.specs.Going.{GoesOn, goes-none}
+use Rattle.run_steps.specs.Steps.{can-turn, client-turn-goes, target-turn-goes}
 use Rattle.run_turns.specs.Orders.{Nobody}
-use Rattle.world_base.specs.Letters.{client, target}
+use Rattle.world_base.specs.Letters.{client}
 use Rattle.run_loop.proofs.order.round.Goals as goal
 use Rattle.run_loop.proofs.order.round.Goals.{then-is_client_due+in_ok-client_turn, else-is_client_due, then-is_target_due+in_ok-target_turn, else-is_target_due}
 
 pub loop-n-init : goal.loop-n-init
-loop-n-init g c = goes-none g.S.Store.durable g.S.Store.state g.S.Store.may g.C.Clock.is_read (turned c.args.settling []) c.args.stage.now (λ r w. Nobody) c.requires.going
+loop-n-init g c = goes-none g.S.Store.durable g.S.Store.state g.S.Store.may g.C.Clock.is_read (turned c.args.settling []) (stage_now c.args.stage.now) (λ r w. Nobody) c.requires.going
 
 pub loop-n-preserved : goal.loop-n-preserved
 loop-n-preserved g c =
     let a0 = c.args.stage.now in
     let n = c.loop-n.n in
     let now = c.loop-n.stage in
-    let within = within-now n c.many_clients-n-end.result a0.clients now.clients c.loop-n-test.true c.many_clients-n-end.ensures c.loop-n.invariant.clients in
+    let within = within-now n c.len-n-end.result a0.clients.items now.clients.items c.loop-n-test.true (c.len-n-end.ensures ∙ a0.clients.ok.0) c.loop-n.invariant.clients in
     rw (add-one n) (elim c.if-is_client_due.branch [
       | then-is_client_due+in_ok-client_turn w ↦
           let new = w.client_turn.new.self in
-          subst (λ a. GoesOn g.S.Store.durable g.S.Store.state g.S.Store.may g.C.Clock.is_read (turned c.args.settling (numbered client (suc n))) a0 a) (sym w.stage-is)
-          (client-had-turn g.S.Store.durable g.S.Store.state g.S.Store.may g.C.Clock.is_read c.args.settling a0 now n c.loop-n.invariant within new (sym c.is_client_due.ensures ∙ w.if-is_client_due.true)
-          (goes-by g.S.Store.durable g.S.Store.state g.S.Store.may g.C.Clock.is_read (turn_of c.args.settling (client n) 0) now new (w.in_ok-client_turn.ensures.steps c.args.settling) w.in_ok-client_turn.ensures.going w.in_ok-client_turn.ensures.many_clients
-          w.in_ok-client_turn.ensures.served w.in_ok-client_turn.ensures.accounts))
+          subst (λ a. GoesOn g.S.Store.durable g.S.Store.state g.S.Store.may g.C.Clock.is_read (turned c.args.settling (numbered client (suc n))) (stage_now a0) (stage_now a)) (sym w.stage-is)
+          (client-had-turn g.S.Store.durable g.S.Store.state g.S.Store.may g.C.Clock.is_read c.args.settling (stage_now a0) (stage_now now) n c.loop-n.invariant within c.is_client_due.result c.is_client_due.ensures (stage_now new) w.if-is_client_due.true
+          (client-turn-goes g.S.Store.durable g.S.Store.state g.S.Store.may g.C.Clock.is_read g.met.S.Store.findable g.met.S.Store.alike (stage_now now) (stage_now new) c.loop-n.invariant.going n 0 w.in_ok-client_turn.ensures.turned c.args.settling))
       | else-is_client_due w ↦
-          subst (λ a. GoesOn g.S.Store.durable g.S.Store.state g.S.Store.may g.C.Clock.is_read (turned c.args.settling (numbered client (suc n))) a0 a) (sym w.stage-is)
-          (client-had-none g.S.Store.durable g.S.Store.state g.S.Store.may g.C.Clock.is_read c.args.settling a0 now n c.loop-n.invariant within (sym c.is_client_due.ensures ∙ w.if-is_client_due.false))
+          subst (λ a. GoesOn g.S.Store.durable g.S.Store.state g.S.Store.may g.C.Clock.is_read (turned c.args.settling (numbered client (suc n))) (stage_now a0) (stage_now a)) (sym w.stage-is)
+          (client-had-none g.S.Store.durable g.S.Store.state g.S.Store.may g.C.Clock.is_read c.args.settling (stage_now a0) (stage_now now) n c.loop-n.invariant within c.is_client_due.result c.is_client_due.ensures w.if-is_client_due.false)
     ])
+
+pub target_turn-requires-clause-able : goal.target_turn-requires-clause-able
+target_turn-requires-clause-able g c x at = can-turn g.S.Store.durable g.S.Store.state g.S.Store.may g.met.S.Store.findable g.met.S.Store.alike (stage_now c.loop-t.stage) c.loop-t.invariant.going c.loop-t.t x at 0
 
 pub loop-t-preserved : goal.loop-t-preserved
 loop-t-preserved g c =
     let a0 = c.args.stage.now in
     let t = c.loop-t.t in
     let now = c.loop-t.stage in
-    let m = length a0.clients in
+    let m = length a0.clients.items in
     rw (add-one t) (elim c.if-is_target_due.branch [
       | then-is_target_due+in_ok-target_turn w ↦
           let new = w.target_turn.new.self in
-          subst (λ a. GoesOn g.S.Store.durable g.S.Store.state g.S.Store.may g.C.Clock.is_read (turned c.args.settling (first_targets m (suc t))) a0 a) (sym w.stage-is)
-          (target-had-turn g.S.Store.durable g.S.Store.state g.S.Store.may g.C.Clock.is_read c.args.settling a0 now m t c.loop-t.invariant new (λ r found v s. sym (c.is_target_due.ensures.due r found v s) ∙ w.if-is_target_due.true)
-          (goes-by g.S.Store.durable g.S.Store.state g.S.Store.may g.C.Clock.is_read (turn_of c.args.settling (target t) 0) now new w.in_ok-target_turn.ensures.steps w.in_ok-target_turn.ensures.going w.in_ok-target_turn.ensures.many_clients
-          w.in_ok-target_turn.ensures.served w.in_ok-target_turn.ensures.accounts))
+          subst (λ a. GoesOn g.S.Store.durable g.S.Store.state g.S.Store.may g.C.Clock.is_read (turned c.args.settling (first_targets m (suc t))) (stage_now a0) (stage_now a)) (sym w.stage-is)
+          (target-had-turn g.S.Store.durable g.S.Store.state g.S.Store.may g.C.Clock.is_read c.args.settling (stage_now a0) (stage_now now) m t c.loop-t.invariant c.is_target_due.result c.is_target_due.ensures.due (stage_now new) w.if-is_target_due.true
+          (target-turn-goes g.S.Store.durable g.S.Store.state g.S.Store.may g.C.Clock.is_read g.met.S.Store.findable g.met.S.Store.alike (stage_now now) (stage_now new) c.loop-t.invariant.going c.args.settling t 0 w.in_ok-target_turn.ensures.turned))
       | else-is_target_due w ↦
-          subst (λ a. GoesOn g.S.Store.durable g.S.Store.state g.S.Store.may g.C.Clock.is_read (turned c.args.settling (first_targets m (suc t))) a0 a) (sym w.stage-is)
-          (target-had-none g.S.Store.durable g.S.Store.state g.S.Store.may g.C.Clock.is_read c.args.settling a0 now m t c.loop-t.invariant (λ r found v s. sym (c.is_target_due.ensures.due r found v s) ∙ w.if-is_target_due.false))
+          subst (λ a. GoesOn g.S.Store.durable g.S.Store.state g.S.Store.may g.C.Clock.is_read (turned c.args.settling (first_targets m (suc t))) (stage_now a0) (stage_now a)) (sym w.stage-is)
+          (target-had-none g.S.Store.durable g.S.Store.state g.S.Store.may g.C.Clock.is_read c.args.settling (stage_now a0) (stage_now now) m t c.loop-t.invariant c.is_target_due.result c.is_target_due.ensures.due w.if-is_target_due.false)
     ])
 
-pub returns-clause-round : goal.returns-clause-round
-returns-clause-round g c =
+pub returns-clause-goes : goal.returns-clause-goes
+returns-clause-goes g c =
     let a0 = c.args.stage.now in
     let now = c.loop-t.stage in
-    let all = at-end c.loop-t.t c.many_targets-t-end.result a0.targets c.loop-n.stage.targets c.loop-t-test.false c.loop-t.auto.t-end c.many_targets-t-end.ensures c.loop-n.invariant.served.many in
-    (round-whole g.S.Store.durable g.S.Store.state g.S.Store.may g.C.Clock.is_read c.args.settling a0 now
-    (subst (λ t. GoesOn g.S.Store.durable g.S.Store.state g.S.Store.may g.C.Clock.is_read (turned c.args.settling (first_targets (length a0.clients) t)) a0 now) all c.loop-t.invariant)).led
+    let all = at-end c.loop-t.t c.len-t-end.result a0.targets.items c.loop-n.stage.targets.items c.loop-t-test.false c.loop-t.auto.t-end (c.len-t-end.ensures ∙ c.loop-n.stage.targets.ok.0) c.loop-n.invariant.served.many in
+    round-whole g.S.Store.durable g.S.Store.state g.S.Store.may g.C.Clock.is_read c.args.settling (stage_now a0) (stage_now now)
+    (subst (λ t. GoesOn g.S.Store.durable g.S.Store.state g.S.Store.may g.C.Clock.is_read (turned c.args.settling (first_targets (length a0.clients.items) t)) (stage_now a0) (stage_now now)) all c.loop-t.invariant)
+
+pub returns-in_err-client_turn-clause-served : goal.returns-in_err-client_turn-clause-served
+returns-in_err-client_turn-clause-served g c =
+    subst (AreServed g.S.Store.durable g.S.Store.state g.C.Clock.is_read c.args.stage.now.targets.items) (sym (ap (λ v. v.items) c.in_err-client_turn.ensures.targets)) c.loop-n.invariant.served
+
+pub returns-in_err-target_turn-clause-served : goal.returns-in_err-target_turn-clause-served
+returns-in_err-target_turn-clause-served g c =
+    served-then g.S.Store.durable g.S.Store.state g.C.Clock.is_read c.args.stage.now.targets.items c.loop-t.stage.targets.items c.target_turn.new.self.targets.items c.loop-t.invariant.served c.in_err-target_turn.ensures.served
+
+pub returns-clause-served : goal.returns-clause-served
+returns-clause-served g c = c.loop-t.invariant.served

@@ -1,16 +1,36 @@
-use Rattle.std.specs.Prelude.{OnOk}
-use Rattle.std.proofs.Common.{subst}
-use Rattle.run_shows.specs.Shown.{named-client, named-target}
-use Rattle.run_shows.specs.Shows.{Leads}
-use Rattle.run_turns.specs.Turns.{TurnOf}
+use Rattle.std.specs.Prelude.{◌≡◌, Some, slice_get}
+use Rattle.std.proofs.Common.{ap, subst, sym}
+use Rattle.run_loop.proofs.Turns.{client-goes-on, client-number, target-goes-on, target-number}
+use Rattle.run_shows.specs.Accounts.{AreServed}
+use Rattle.run_shows.specs.Serving.{served-first}
+use Rattle.run_stage.specs.Now.{stage_now}
+use Rattle.run_steps.specs.Steps.{can-turn}
+use Rattle.world_base.specs.declared.target.Life.TheVariants.{Down}
 use Rattle.run_loop.proofs.order.turn.Goals as goal
 
-pub returns-then-actor-clause-steps : goal.returns-then-actor-clause-steps
-returns-then-actor-clause-steps g c r =
-    subst (λ a. OnOk c.client_turn.result (Leads g.S.Store.durable g.S.Store.state g.S.Store.may (TurnOf c.args.settling r a c.args.message) r c.args.stage.now c.client_turn.new.self))
-    (named-client c.args.actor c.from-number.result c.if-actor.true c.from-number.ensures) (c.client_turn.ensures.steps c.args.settling r)
+pub client_turn-requires-clause-number : goal.client_turn-requires-clause-number
+client_turn-requires-clause-number g c = client-number c.args.actor c.from-number.result c.args.message c.args.stage.now.between.messages c.if-actor.true c.from-number.ensures c.requires.message
 
-pub returns-else-actor-clause-steps : goal.returns-else-actor-clause-steps
-returns-else-actor-clause-steps g c r =
-    subst (λ a. OnOk c.target_turn.result (Leads g.S.Store.durable g.S.Store.state g.S.Store.may (TurnOf c.args.settling r a c.args.message) r c.args.stage.now c.target_turn.new.self))
-    (named-target c.args.actor c.from-number.result c.if-actor.false c.from-number.ensures) (c.target_turn.ensures.steps r)
+pub target_turn-requires-clause-number : goal.target_turn-requires-clause-number
+target_turn-requires-clause-number g c = target-number c.args.actor c.from-number.result c.args.message c.args.stage.now.between.messages c.if-actor.false c.from-number.ensures c.requires.message
+
+pub target_turn-requires-clause-up : goal.target_turn-requires-clause-up
+target_turn-requires-clause-up g c = subst (λ n. slice_get c.args.stage.now.watch.lives n ≡ Some Down → ⊥) (sym c.from-number.ensures) (c.requires.up c.if-actor.false)
+
+pub target_turn-requires-clause-able : goal.target_turn-requires-clause-able
+target_turn-requires-clause-able g c x at = can-turn g.S.Store.durable g.S.Store.state g.S.Store.may g.met.S.Store.findable g.met.S.Store.alike (stage_now c.args.stage.now) c.requires.going c.from-number.result x at c.args.message
+
+pub returns-then-actor-clause-goes : goal.returns-then-actor-clause-goes
+returns-then-actor-clause-goes g c =
+    client-goes-on g.S.Store.durable g.S.Store.state g.S.Store.may g.C.Clock.is_read g.met.S.Store.findable g.met.S.Store.alike (stage_now c.args.stage.now) (stage_now c.client_turn.new.self) c.requires.going c.args.settling c.args.actor c.from-number.result c.args.message
+    c.client_turn.result c.if-actor.true c.from-number.ensures c.client_turn.ensures.turned
+
+pub returns-then-actor-clause-served : goal.returns-then-actor-clause-served
+returns-then-actor-clause-served g c =
+    let xs = c.args.stage.now.targets.items in
+    subst (AreServed g.S.Store.durable g.S.Store.state g.C.Clock.is_read xs) (sym (ap (λ v. v.items) c.client_turn.ensures.targets)) (served-first g.S.Store.durable g.S.Store.state g.C.Clock.is_read xs)
+
+pub returns-else-actor-clause-goes : goal.returns-else-actor-clause-goes
+returns-else-actor-clause-goes g c =
+    target-goes-on g.S.Store.durable g.S.Store.state g.S.Store.may g.C.Clock.is_read g.met.S.Store.findable g.met.S.Store.alike (stage_now c.args.stage.now) (stage_now c.target_turn.new.self) c.requires.going c.args.settling c.args.actor c.from-number.result c.args.message
+    c.target_turn.result c.if-actor.false c.from-number.ensures c.target_turn.ensures.turned

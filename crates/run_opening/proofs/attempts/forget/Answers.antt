@@ -1,5 +1,5 @@
-use Rattle.std.specs.Prelude.{Ok, take, slice_index_or}
-use Rattle.std.proofs.Common.{◌≡◌, arith, subst, sym}
+use Rattle.std.specs.Prelude.{Ok, take}
+use Rattle.std.proofs.Common.{arith}
 use Rattle.vos_store.specs.Refusals.{always_stop}
 use Rattle.run_opening.specs.Steps.{all_forgotten, forgotten}
 use Rattle.run_opening.proofs.Ending.{last-forgotten, more-forgotten, read-among, read-kept}

@@ -1,7 +1,7 @@
-use Rattle.std.specs.Prelude.{Ok, take, slice_index_or}
-use Rattle.std.proofs.Common.{◌≡◌, arith, sym}
+use Rattle.std.specs.Prelude.{Ok, take}
+use Rattle.std.proofs.Common.{arith}
 use Rattle.vos_store.specs.Refusals.{always_stop}
-use Rattle.run_opening.specs.Steps.{all_ended, ended, ended_at, resolved_by}
+use Rattle.run_opening.specs.Steps.{all_ended, ended, resolved_by}
 use Rattle.run_opening.proofs.Ending.{last-ended, more-ended, read-ended}
 use Rattle.run_opening.proofs.Going.{goes-as, goes-first, goes-on, was}
 use Rattle.run_opening.proofs.attempts.settle_all.Goals as goal

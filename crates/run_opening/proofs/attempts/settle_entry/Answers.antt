@@ -1,9 +1,9 @@
 use Rattle.std.specs.Prelude.{Ok}
-use Rattle.std.proofs.Common.{◌≡◌, ◌∙◌, ap, subst, sym}
+use Rattle.std.proofs.Common.{◌∙◌, ap, subst, sym}
 use Rattle.vos_store.specs.Conditions.{CanSettle, IsStep}
 use Rattle.vos_store.specs.Refusals.{always_stop}
 use Rattle.daos_model.specs.Changes.{settled}
-use Rattle.run_opening.specs.Steps.{ended_at, ending, resolved_by, same}
+use Rattle.run_opening.specs.Steps.{ended_at, resolved_by, same}
 use Rattle.run_opening.proofs.Ending.{at-committed, at-prepared, can-end, is-step}
 use Rattle.run_opening.proofs.Going.{goes-as, goes-call, goes-first}
 use Rattle.run_opening.proofs.attempts.settle_entry.Goals as goal

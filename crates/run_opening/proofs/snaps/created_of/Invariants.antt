@@ -1,6 +1,5 @@
 use Rattle.std.specs.Prelude.{◌≡◌, ◌++◌, drop, filter}
 use Rattle.daos_model.specs.Family.{is_created}
-use Rattle.run_opening.specs.Steps.{is_dropped, is_other_than}
 use Rattle.run_opening.proofs.snaps.created_of.Given as goal
 
 -- those so far, with those of the rest, are all

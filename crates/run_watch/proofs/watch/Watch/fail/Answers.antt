@@ -1,5 +1,5 @@
 use Rattle.std.specs.Prelude.{◌==◌, ◌≡◌, ◌+◌, ◌<◌, ℕ, false, if◌then◌else◌, length, refl, slice_get, slice_set, Some}
-use Rattle.std.proofs.Common.{ap, arith, subst, sym}
+use Rattle.std.proofs.Common.{ap, arith, subst}
 use Rattle.std.proofs.lemmas.Bool.Decides.{nat_tests}
 use Rattle.std.proofs.lemmas.Option.{slice_get_read}
 use Rattle.run_watch.specs.Watches.{FailsAgain, WatchNow}

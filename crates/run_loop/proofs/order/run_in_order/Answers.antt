@@ -1,0 +1,27 @@
+use Rattle.std.proofs.Common.{arith, subst, sym}
+use Rattle.run_loop.proofs.Turns.{few-targets}
+use Rattle.run_shows.specs.Accounts.{AreAccounted}
+use Rattle.run_stage.specs.Now.{stage_now}
+use Rattle.run_steps.specs.Ended.{HasRunWith, has-run, left-accounted, left_of}
+use Rattle.run_loop.proofs.order.run_in_order.Goals as goal
+
+pub go-went-requires-clause-few_targets : goal.go-went-requires-clause-few_targets
+go-went-requires-clause-few_targets g c = let few = few-targets g.S.Store.durable g.S.Store.state g.S.Store.may (stage_now c.args.stage) c.requires.going in omega (arith, few)
+
+pub returns-in-Ok-clause-run : goal.returns-in-Ok-clause-run
+returns-in-Ok-clause-run g c r w o simple begun shows =
+    let last = c.go-went.new.stage in
+    subst (λ lines. HasRunWith g.S.Store.durable g.S.Store.state g.S.Store.may r c.args.order w (left_of last.targets.items last.watch lines)) (sym c.into_lines-lines.ensures)
+    (has-run g.S.Store.durable g.S.Store.state g.met.S.Store.alike g.S.Store.may r c.args.order w o (stage_now c.args.stage) (stage_now last) simple begun shows (λ tell. c.in-Ok.ensures.goes.led tell r))
+
+pub returns-in-Ok-clause-accounts : goal.returns-in-Ok-clause-accounts
+returns-in-Ok-clause-accounts g c h stops k =
+    let last = c.go-went.new.stage in
+    subst (λ lines. AreAccounted g.S.Store.durable g.S.Store.state h stops (left_of last.targets.items last.watch lines)) (sym c.into_lines-lines.ensures)
+    (left-accounted g.S.Store.durable g.S.Store.state h stops (stage_now last) (c.in-Ok.ensures.goes.accounts h stops k))
+
+pub returns-in-Ok-clause-served : goal.returns-in-Ok-clause-served
+returns-in-Ok-clause-served g c = c.in-Ok.ensures.served
+
+pub returns-clause-served : goal.returns-clause-served
+returns-clause-served g c = c.in-Err.ensures.served

@@ -1,0 +1,10 @@
+use Rattle.std.specs.Prelude.{◌≡◌, filter}
+use Rattle.std.proofs.Common.{◌∙◌, ap, subst, sym}
+use Rattle.run_opening.specs.Steps.{AreFrozen, is_other_than}
+use Rattle.run_opening.proofs.Thawing.{some-frozen}
+use Rattle.run_opening.proofs.snaps.thaw_others.Goals as goal
+
+pub thaw-requires-clause-frozen : goal.thaw-requires-clause-frozen
+thaw-requires-clause-frozen g c x at =
+    let own : c.deref.result.now ≡ filter (is_other_than c.args.some.now) x.snaps = c.deref.ensures.value ∙ c.in_ok-gone.ensures ∙ ap (filter (is_other_than c.args.some.now)) (c.as_slice.ensures ∙ c.in_ok-snaps.ensures c.requires.running x at) in
+    subst (λ ys. AreFrozen ys x) (sym own) (some-frozen (is_other_than c.args.some.now) x (g.met.S.Store.formed c.args.store.now c.requires.running x at).snaps)

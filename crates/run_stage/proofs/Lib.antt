@@ -1,0 +1,4 @@
+-- Lemmas on what a turn leaves of the actors.
+pub mod Stopping
+pub mod Opening
+pub mod Working

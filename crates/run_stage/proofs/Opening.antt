@@ -1,0 +1,88 @@
+-- What is left of the actors where a target opened again.
+use Rattle.std.specs.Prelude.{ℕ, ◌≡◌, ◌<◌, ◌^◌, false, List, length, slice_get, slice_set, Option, Some, IsSome, Result, Ok, Err, IfOk, IfErr, OnOk, is_ok}
+use Rattle.std.specs.Option.{ForSome}
+use Rattle.std.proofs.Common.{◌∙◌, ap, subst, sym}
+use Rattle.daos_model.specs.declared.durable.Durable.{Durable}
+use Rattle.model_laws.specs.Lists.{at-within}
+use Rattle.run_shows.specs.Openings.{AfterOpening, HasFuse, IsArmed}
+use Rattle.run_shows.specs.Stages.{IsPlace, StageNow}
+use Rattle.run_shows.specs.Steps.{NotOpened, Opened, OpeningEnds, TargetReopened}
+use Rattle.run_shows.specs.Turned.{AfterFailure, followed, swept_stage, with_between}
+use Rattle.run_watch.specs.Watches.{WatchNow, fuse_set, next_fuse, opened_again, opening_tried}
+use Rattle.run_stage.proofs.Stopping.{watched}
+use Rattle.target_core.specs.Targets.{OpensAs, TargetOf}
+use Rattle.target_parts.specs.Stops.{stop_foreign}
+use Rattle.target_parts.specs.declared.stop.TargetStop.{TargetStop}
+use Rattle.target_resync.specs.Openings.{IsBare, Left, Reopens, TellsRestart}
+use Rattle.vos_store.specs.Calls.{State}
+use Rattle.vos_store.specs.Refusals.{says}
+use Rattle.world_base.specs.declared.did.Did.{Did}
+use Rattle.world_base.specs.declared.target.Life.TheVariants.{Stopped}
+use Rattle.world_base.specs.Letters.{target}
+use Rattle.world_posts.specs.Forms.{Follows}
+
+-- one thing stands at a place
+pub same-there : {A : Type 0} (xs : List A) (n : ℕ) (x y : A) → slice_get xs n ≡ Some x → slice_get xs n ≡ Some y → x ≡ y
+same-there xs n x y one other = let same : Some x ≡ Some y = sym one ∙ other in cc
+
+-- once the next fuse of a target was set that is there, targets stand as before
+pub armed-watch : {S C : Type 0} (durable : S → Option Durable) (state : S → State) (may : S → Durable → Type 0) (t : ℕ) (a m : StageNow S C) → t < length a.targets
+    → ((x : TargetOf S C) → slice_get a.targets t ≡ Some x → IsArmed durable state may t x a m) → m.watch ≡ fuse_set t a.watch
+armed-watch durable state may t a m within armed = let x = at-within a.targets t within in ap (λ z. z.watch) (armed x.0 x.1).after
+
+module _ {S C : Type 0} (durable : S → Option Durable) (state : S → State) (may : S → Durable → Type 0) (t : ℕ) (x : TargetOf S C) where
+  -- the next fuse of a target was set
+  pub armed-so : (a b : StageNow S C) (y z : TargetOf S C) → y ≡ x → HasFuse durable state may (next_fuse t a.watch.stops) y z → b ≡ record a { targets = slice_set a.targets t z; watch = fuse_set t a.watch } → IsArmed durable state may t x a b
+  armed-so a b y z same fuse after = record { armed = z; fuse = subst (λ q. HasFuse durable state may (next_fuse t a.watch.stops) q z) same fuse; after = after }
+
+  -- a target opened again: its next fuse was set, it runs, and what followed came about
+  pub opened-so : {T E : Type 0} (result : Result T E) (did : Did) (a m b : StageNow S C) (w : WatchNow) → IsArmed durable state may t x a m → w ≡ opened_again t m.watch
+      → OnOk result (b ≡ swept_stage (with_between (followed (target t) did m.between) (watched m w))) → OnOk result (AfterOpening durable state may t x did a b)
+  opened-so (Ok u) did a m b w armed runs came = record {
+    armed = armed.armed;
+    fuse = armed.fuse;
+    after =
+        came
+        ∙ ap (λ v. swept_stage (with_between (followed (target t) did m.between) (watched m v))) runs
+        ∙ ap (λ z. swept_stage (record z { watch = opened_again t z.watch; between = followed (target t) did z.between })) armed.after;
+  }
+  opened-so (Err e) did a m b w armed runs came = tt
+
+module _ {S C : Type 0} (durable : S → Option Durable) (state : S → State) (may : S → Durable → Type 0) (t number : ℕ) (x y : TargetOf S C) (said : Result Did TargetStop) (w : WatchNow) (a b : StageNow S C)
+    (place : IsPlace a t x Stopped) (tried : w ≡ opening_tried a.watch) (few : w.openings < 2 ^ 32) (numbered : number ≡ w.restarts) (plan : y.plan ≡ x.plan) (clock : y.clock ≡ x.clock) (opens : Reopens said (state x.store) (state y.store) (durable x.store) (durable y.store))
+    (turn : ForSome (durable x.store) (λ d. IfOk said (OpensAs x.plan number (may x.store) (durable y.store) (state y.store) y.memory))) (left : Left (may x.store) (may y.store)) (bare : IfErr said IsBare) (native : IsSome (durable x.store) → says stop_foreign said ≡ false)
+    (posts : IfOk said (λ did. Follows x.plan.targets y.memory.leader did.posts)) (line : IfOk said (TellsRestart number x.plan.me)) (opened : y.opened ≡ is_ok said) where
+  reopened : OpeningEnds durable state may t x y (record a { targets = slice_set a.targets t y; watch = opening_tried a.watch }) b said → TargetReopened durable state may t a b
+  reopened ends =
+      let next = numbered ∙ ap (λ v. v.restarts) tried in
+      record {
+        before = x;
+        now = y;
+        result = said;
+        place = place;
+        few = subst (λ v. v.openings < 2 ^ 32) tried few;
+        plan = plan;
+        clock = clock;
+        opens = opens;
+        turn = subst (λ n. ForSome (durable x.store) (λ d. IfOk said (OpensAs x.plan n (may x.store) (durable y.store) (state y.store) y.memory))) next turn;
+        left = left;
+        bare = bare;
+        native = native;
+        posts = posts;
+        line = subst (λ n. IfOk said (TellsRestart n x.plan.me)) next line;
+        opened = opened;
+        ends = ends;
+      }
+
+  -- a target that was stopped opened again
+  pub reopened-whole : {E : Type 0} (result : Result (Unit {0}) E) (did : Did) → said ≡ Ok did → OnOk result (AfterOpening durable state may t y did (record a { targets = slice_set a.targets t y; watch = w }) b) → OnOk result (TargetReopened durable state may t a b)
+  reopened-whole (Ok u) did is came = reopened (Opened did is (subst (λ v. AfterOpening durable state may t y did (record a { targets = slice_set a.targets t y; watch = v }) b) tried came))
+  reopened-whole (Err e) did is came = tt
+
+  -- or it didn't open
+  pub reopened-not : {E : Type 0} (result : Result (Unit {0}) E) (stop : TargetStop) (before : ℕ) → said ≡ Err stop → before ≡ (state x.store).faults
+      → OnOk result (AfterFailure t before (state y.store).faults stop (record a { targets = slice_set a.targets t y; watch = w }) b) → OnOk result (TargetReopened durable state may t a b)
+  reopened-not (Ok u) stop before is counted came =
+      reopened (NotOpened stop is (subst (λ v. AfterFailure t (state x.store).faults (state y.store).faults stop (record a { targets = slice_set a.targets t y; watch = v }) b) tried
+      (subst (λ n. AfterFailure t n (state y.store).faults stop (record a { targets = slice_set a.targets t y; watch = w }) b) counted came)))
+  reopened-not (Err e) stop before is counted came = tt

@@ -1,0 +1,150 @@
+-- A run of clients and targets, from its first stage to its report.
+use Rattle.std.specs.Prelude.{ℕ, ◌≡◌, ◌≤◌, true, false, List, [], slice_get, Bool, Option, Some, IfOk, Ok, Result, refl}
+use Rattle.std.specs.Vec.{with_items}
+use Rattle.std.specs.declared.vec.Vec.{Vec}
+use Rattle.std.proofs.Common.{sym, ◌∙◌, ap, subst, arith}
+use Rattle.std.proofs.lemmas.List.{with_items_is}
+use Rattle.base_types.specs.declared.job.Job.{Job}
+use Rattle.base_types.specs.declared.report.Line.{Line}
+use Rattle.base_types.specs.declared.report.Report.{Report}
+use Rattle.base_types.specs.declared.script.Script.{Script}
+use Rattle.base_types.specs.declared.script.StopDecl.{StopDecl}
+use Rattle.client_core.specs.Clients.{ClientNow}
+use Rattle.daos_model.specs.Opening.{Given, Opening}
+use Rattle.daos_model.specs.declared.durable.Durable.{Durable}
+use Rattle.run_base.specs.Letters.{BetweenNow}
+use Rattle.run_ends.specs.Armed.{armed-accounted, fuses-serve, fuses-started, fuses-tell, states_of}
+use Rattle.run_ends.specs.Arming.{AreArmed, AreUnfused, HaveFuses}
+use Rattle.run_ends.specs.Begun.{can-go, first_stage, first_world, is-begun, nothing, shows-first}
+use Rattle.run_ends.specs.Comes.{ComesTo, report_with}
+use Rattle.run_ends.specs.Ending.{comes-to}
+use Rattle.run_ends.specs.Lasts.{AreSteady}
+use Rattle.run_ends.specs.Starts.{AllTell, HaveStarted, given_by, stores_of}
+use Rattle.run_reports.specs.Reports.{AreTyped}
+use Rattle.run_shows.specs.Accounts.{AreAccounted, AreServed, one_if}
+use Rattle.run_shows.specs.CanGo.{CanGo}
+use Rattle.run_shows.specs.Going.{AreAlike, AreFindable}
+use Rattle.run_shows.specs.Serving.{served-then}
+use Rattle.run_shows.specs.Shows.{Shows}
+use Rattle.run_shows.specs.Stages.{StageNow}
+use Rattle.run_steps.specs.Ended.{HasRunWith, left_of}
+use Rattle.run_watch.specs.Watches.{WatchNow, first_watch}
+use Rattle.target_core.specs.Targets.{TargetOf}
+use Rattle.vos_store.specs.Calls.{State}
+use Rattle.world_base.specs.declared.world.World.{World}
+use Rattle.world_base.specs.Events.{Rules}
+use Rattle.world_ends.specs.Ends.{rules_of}
+use Rattle.world_whole.specs.Begins.{IsBegun, IsSimple}
+
+nothing-is : (b : BetweenNow) → b.messages ≡ [] → b.asked ≡ [] → b.issued ≡ [] → b.lines ≡ [] → b ≡ nothing
+nothing-is b messages asked issued lines =
+    ap (λ z. record { messages = z; asked = b.asked; issued = b.issued; lines = b.lines }) messages
+    ∙ ap (λ z. record { messages = []; asked = z; issued = b.issued; lines = b.lines }) asked
+    ∙ ap (λ z. record { messages = []; asked = []; issued = z; lines = b.lines }) issued
+    ∙ ap (λ z. record { messages = []; asked = []; issued = []; lines = z }) lines
+
+-- the actors of a run before it
+pub first-is : {S C : Type 0} (cs : List ClientNow) (ts armed : List (TargetOf S C)) (v : WatchNow) (b : BetweenNow) → ts ≡ armed → b.messages ≡ [] → b.asked ≡ [] → b.issued ≡ [] → b.lines ≡ []
+    → record { clients = cs; targets = ts; watch = v; between = b } ≡ first_stage cs armed v
+first-is cs ts armed v b same messages asked issued lines =
+    ap (λ z. record { clients = cs; targets = z; watch = v; between = b }) same ∙ ap (λ z. record { clients = cs; targets = armed; watch = v; between = z }) (nothing-is b messages asked issued lines)
+
+-- ---- no fuse is set any more
+
+unset : (b : Bool) → one_if b ≡ 0 → b ≡ false
+unset false none = refl
+unset true none = absurd (omega (arith, none))
+
+module _ {S C Z : Type 0} (durable : S → Option Durable) (state : S → State) (may : S → Durable → Type 0) (v : Vec (TargetOf S C) Z) (xs ys : List (TargetOf S C)) (its : xs ≡ v.items) (k : AreUnfused durable state may xs ys) where
+  unfused : AreUnfused durable state may v.items ys
+  unfused = subst (λ zs. AreUnfused durable state may zs ys) its k
+
+  pub put-is : (with_items v ys).items ≡ ys
+  put-is = with_items_is v ys (unfused.fuses.many ∙ sym v.ok.0)
+
+  pub put-served : (is_read : C → C → Type 0) → AreServed durable state is_read v.items (with_items v ys).items
+  put-served is_read = subst (AreServed durable state is_read v.items) (sym put-is) (fuses-serve durable state may v.items ys unfused.fuses is_read)
+
+  pub put-unfused : (t : ℕ) (y : TargetOf S C) → slice_get (with_items v ys).items t ≡ Some y → (state y.store).tells_fuse ≡ true → (state y.store).fused ≡ false
+  put-unfused t y there tells = unset (state y.store).fused (unfused.gone t y (ap (λ zs. slice_get zs t) (sym put-is) ∙ there) tells)
+
+-- ---- before the run
+
+module _ {S C Z : Type 0} (durable : S → Option Durable) (state : S → State) (may : S → Durable → Type 0) (s : Script) (j : Job) (cs : List ClientNow) (v : Vec (TargetOf S C) Z) (xs armed : List (TargetOf S C)) (its : xs ≡ v.items) (w now : WatchNow) (b : BetweenNow) (stops : List StopDecl)
+    (k : AreArmed durable state may xs armed w now) (lines : stops ≡ s.stops) (new : w ≡ first_watch s.targets stops) (messages : b.messages ≡ []) (asked : b.asked ≡ []) (issued : b.issued ≡ []) (none : b.lines ≡ []) where
+  -- the clients and the targets, whose fuses were set
+  abbrev pub stage : StageNow S C
+  stage = record { clients = cs; targets = (with_items v armed).items; watch = now; between = b }
+
+  fuses : AreArmed durable state may v.items armed (first_watch s.targets s.stops) now
+  fuses =
+      subst (λ u. AreArmed durable state may v.items armed u now) (new ∙ ap (first_watch s.targets) lines)
+      (subst (λ zs. AreArmed durable state may zs armed w now) its k)
+
+  put : (with_items v armed).items ≡ armed
+  put = with_items_is v armed (fuses.fuses.many ∙ sym v.ok.0)
+
+  stage-is : stage ≡ first_stage cs armed now
+  stage-is = first-is cs (with_items v armed).items armed now b put messages asked issued none
+
+  module _ (o : Opening) (started : HaveStarted durable state (given_by s j o) cs v.items) where
+    abbrev g : Given
+    g = given_by s j o
+
+    begins : HaveStarted durable state g cs armed
+    begins = fuses-started durable state may v.items armed fuses.fuses g cs started
+
+    pub goes : AreAlike durable → CanGo durable state may stage
+    goes alike = subst (CanGo durable state may) (sym stage-is) (can-go durable state g cs armed begins may now fuses.watch alike)
+
+  -- ---- and after it
+
+  module _ (is_read : C → C → Type 0) (rest : Vec (TargetOf S C) Z) (in_the_end : WatchNow) (left ys : List (TargetOf S C)) (those : left ≡ rest.items) (gone : AreUnfused durable state may left ys)
+      (served : AreServed durable state is_read stage.targets rest.items) where
+    serves : AreServed durable state is_read armed rest.items
+    serves = subst (λ zs. AreServed durable state is_read zs rest.items) put served
+
+    -- the stores and the clocks had calls
+    pub all-served : AreServed durable state is_read v.items (with_items rest ys).items
+    all-served =
+        served-then durable state is_read v.items armed (with_items rest ys).items (fuses-serve durable state may v.items armed fuses.fuses is_read)
+        (served-then durable state is_read armed rest.items (with_items rest ys).items serves (put-served durable state may rest left ys those gone is_read))
+
+    module _ (o : Opening) (started : HaveStarted durable state (given_by s j o) cs v.items) (told : AllTell durable (stores_of v.items)) where
+      armed-told : AllTell durable (stores_of armed)
+      armed-told = fuses-tell durable state may v.items armed fuses.fuses told
+
+      module _ {E : Type 0} (ran : Result (List Line) E) (found-lines : List Line) (is : ran ≡ Ok found-lines) where
+        has-run : ((r : Rules) (first : World) (p : Opening) → IsSimple r → IsBegun r p first → ((found : ℕ → Durable) → Shows durable state r found stage first) → IfOk ran (λ ls. HasRunWith durable state may r j.order first (left_of rest.items in_the_end ls)))
+            → HasRunWith durable state may (rules_of (given_by s j o)) j.order (first_world durable state cs armed) (left_of rest.items in_the_end found-lines)
+        has-run run =
+            subst (λ z. IfOk z (λ ls. HasRunWith durable state may (rules_of (given_by s j o)) j.order (first_world durable state cs armed) (left_of rest.items in_the_end ls))) is
+            (run (rules_of (given_by s j o)) (first_world durable state cs armed) o started.simple (is-begun durable state (given_by s j o) cs armed (begins o started) armed-told)
+            (λ found. subst (λ a. Shows durable state (rules_of (given_by s j o)) found a (first_world durable state cs armed)) (sym stage-is) (shows-first durable state (given_by s j o) cs armed (begins o started) armed-told now fuses.watch found)))
+
+        accounted : ((h : ℕ → State) (some : List StopDecl) → AreAccounted durable state h some stage → IfOk ran (λ ls. AreAccounted durable state h some (left_of rest.items in_the_end ls))) → AreAccounted durable state (states_of state v.items) s.stops (left_of rest.items in_the_end found-lines)
+        accounted accounts =
+            subst (λ z. IfOk z (λ ls. AreAccounted durable state (states_of state v.items) s.stops (left_of rest.items in_the_end ls))) is
+            (accounts (states_of state v.items) s.stops (subst (AreAccounted durable state (states_of state v.items) s.stops) (sym stage-is) (armed-accounted durable state may s.stops s.targets cs v.items armed now fuses)))
+
+        -- the run came to that
+        pub comes : AreSteady durable state may → AreFindable durable may → AreAlike durable
+            → ((r : Rules) (first : World) (p : Opening) → IsSimple r → IsBegun r p first → ((found : ℕ → Durable) → Shows durable state r found stage first) → IfOk ran (λ ls. HasRunWith durable state may r j.order first (left_of rest.items in_the_end ls)))
+            → ((h : ℕ → State) (some : List StopDecl) → AreAccounted durable state h some stage → IfOk ran (λ ls. AreAccounted durable state h some (left_of rest.items in_the_end ls)))
+            → (q : Report) → q ≡ report_with s found-lines → AreTyped found-lines → j.attempts ≤ 256 → ComesTo durable state may (given_by s j o) (stores_of v.items) (stores_of (with_items rest ys).items) q
+        comes steady findable alike run accounts q report typed byte =
+            subst (ComesTo durable state may (given_by s j o) (stores_of v.items) (stores_of (with_items rest ys).items)) (sym report)
+            (subst (λ zs. ComesTo durable state may (given_by s j o) (stores_of v.items) (stores_of zs) (report_with s found-lines)) (sym (put-is durable state may rest left ys those gone))
+            (comes-to durable state may steady findable alike (given_by s j o) cs v.items ys found-lines started told
+            (record {
+              armed = armed;
+              at_first = now;
+              fuses = fuses;
+              rest = rest.items;
+              in_the_end = in_the_end;
+              run = has-run run;
+              accounted = accounted accounts;
+              many = serves.many;
+              unfused = subst (λ zs. HaveFuses durable state may zs ys) those gone.fuses;
+            })
+            typed byte))
