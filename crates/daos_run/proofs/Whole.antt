@@ -38,6 +38,7 @@ come-from-before {S} durable state may s j free old mid new q was K = record {
   stand = λ lasts o found fits. K.stand lasts o found (record { counts = λ t y z k at to says. since o fits t y z k at to says });
   form = K.form;
   issued = K.issued;
+  running = K.running;
   settled = K.settled;
   unstopped = K.unstopped;
   ordered = λ exact. K.ordered (λ t y at. let w = was t y at in w.2.free ∙ exact t w.0 w.1);
