@@ -15,7 +15,7 @@ use Rattle.report_writer.specs.Forms.{IsReportOf}
 use Rattle.report_writer.specs.Reports.{report_text}
 use Rattle.model_reports.specs.Rooms.{FindsRoom, HasRoom}
 use Rattle.daos_run.specs.Alone.{IsOfLoneClient}
-use Rattle.run_ends.specs.Comes.{FollowsOrder, IsLegal, IsLegalBySome}
+use Rattle.run_ends.specs.Comes.{FollowsOrder, IsLegal}
 use Rattle.daos_status.specs.declared.status.Status.{Status}
 use Rattle.daos_status.specs.declared.status.Status.TheVariants as status
 use Rattle.daos_summary.specs.Summaries.{summary_text}
@@ -23,14 +23,13 @@ use Rattle.world_lone.specs.LoneRuns.{AreIssuedThere}
 
 -- ---- what is written
 
--- What the report of a run is: legal for the script by the headline, over regions of zeros that nothing disturbs, for some choice of the
--- attempts that their stores have resolved, and for each where the script asks for no stop; and in the form in which a text determines its report.
+-- What the report of a run is: legal for the script by the headline, over regions of zeros that nothing disturbs, whichever attempts are taken
+-- as resolved; and in the form in which a text determines its report.
 -- It tells of turns in the order asked; the targets of the run issued all epochs; where there is room for all that the script writes, no attempt is
 -- refused for want of it; and a client that is alone is never told to restart where the script asks for no stop.
 pub record IsRunReport (g : Given) (q : Report) : Type 0 where
   pub form : IsReportOf g.script q
-  pub legal : IsLegalBySome g q
-  pub unstopped : g.script.stops ≡ [] → IsLegal g q
+  pub legal : IsLegal g q
   pub ordered : FollowsOrder g q
   pub issued : AreIssuedThere q
   pub room : HasRoom g.script g.job.attempts g.opening.free → FindsRoom q

@@ -19,7 +19,8 @@ use Rattle.daos_run.specs.Starts.{IsNewStore}
 use Rattle.daos_run.specs.Stops.{HasRisen, IsOpeningFault, MayStop}
 use Rattle.daos_run.proofs.Places.{in-place}
 use Rattle.daos_run.proofs.Unstopped.{no-down-told, no-stops-told}
-use Rattle.run_ends.specs.Comes.{ComesTo, FollowsOrder, IsLegal, IsLegalBySome, IsOrdered, IsOutside}
+use Rattle.run_ends.specs.Comes.{ComesTo, FollowsOrder, IsLegal, IsOrdered, IsOutside}
+use Rattle.run_ends.specs.Known.{legal-by-any}
 use Rattle.run_ends.specs.Starts.{AllTell}
 use Rattle.script_runnable.specs.Keyed.{CellHasKeys, ScriptHasKeys}
 use Rattle.report_writer.specs.Forms.{IsReportOf}
@@ -128,11 +129,8 @@ module _ {C : Type 0} (targets size_mib : ℕ) (slots : List (Option (PlainStore
         unstopped none = no-stops-told (fresh s j) (resolved (durables_of ordered.follows.last)) q headline.told none
 
       module _ (result : Result Report RunStop) (R : IfOk result Comes) where
-        pub legal-by-some : IfOk result (IsLegalBySome (fresh s j))
-        legal-by-some = on-ok result (λ q K. (durables_of (ordered q K).follows.last, headline q K)) R
-
-        pub legal : s.stops ≡ [] → IfOk result (IsLegal (fresh s j))
-        legal none = on-ok result (λ q K. (K.unstopped (unstopped q K none)).legal) R
+        pub legal : IfOk result (IsLegal (fresh s j))
+        legal = on-ok result (λ q K by. legal-by-any (fresh s j) undisturbed (resolved (durables_of (ordered q K).follows.last)) by q (no-down-told (fresh s j) (resolved (durables_of (ordered q K).follows.last)) q (headline q K).told) (headline q K).told) R
 
         pub in-form : ScriptHasKeys s → IfOk result (IsReportOf s)
         in-form keys = on-ok result (λ q K. K.form keys (All-nil CellHasKeys)) R

@@ -1,7 +1,7 @@
 // Runs a script on targets.
 ghost use Rattle.std.specs.Prelude.{◌≡◌, ◌≤◌, [], replicate, IfOk, IsOkUnless, None, OnOk};
 ghost use Rattle.daos_model.specs.Opening.{fresh};
-ghost use Rattle.run_ends.specs.Comes.{FollowsOrder, IsLegal, IsLegalBySome};
+ghost use Rattle.run_ends.specs.Comes.{FollowsOrder, IsLegal};
 ghost use Rattle.report_writer.specs.Forms.{IsReportOf};
 ghost use Rattle.model_reports.specs.Lone.{HasOneClient};
 ghost use Rattle.model_reports.specs.Rooms.{FindsRoom, HasRoom};
@@ -68,8 +68,7 @@ pub fn run_script<R: Threads + Wait + Sync, B: Rack, G: Gate + Sync>(
     requires least { 1 ≤ job.now.attempts }
     requires most { job.now.attempts ≤ 100 }
     requires script { IsRunnable job.now.targets script.now }
-    ensures legal { IfOk result (IsLegalBySome (fresh script.now job.now)) }
-    ensures unstopped { script.now.stops ≡ [] → IfOk result (IsLegal (fresh script.now job.now)) }
+    ensures legal { IfOk result (IsLegal (fresh script.now job.now)) }
     ensures form { ScriptHasKeys script.now → IfOk result (IsReportOf script.now) }
     ensures ordered { IfOk result (FollowsOrder (fresh script.now job.now)) }
     ensures issued { IfOk result AreIssuedThere }

@@ -38,10 +38,6 @@ IsReportOfLines s q = q ≡ report_with s q.lines
 abbrev pub IsLegal : Given → Report → Type 0
 IsLegal g q = (resolved : AttemptId → Bool) → Headline g undisturbed resolved q
 
--- or it is so for those attempts that some stores, found in the end, have resolved
-abbrev pub IsLegalBySome : Given → Report → Type 0
-IsLegalBySome g q = (lasts : List Durable) × HeadlineOver g undisturbed lasts q
-
 -- ---- the outside
 
 -- An outside that may have failed each target's store, xs at first and ys in the end, as often as its count rose. Of a store it may say

@@ -2,6 +2,7 @@
 pub mod Starts
 pub mod Arming
 pub mod Comes
+pub mod Known
 pub mod Places
 pub mod Begun
 pub mod Armed

@@ -1,5 +1,5 @@
 use Rattle.std.specs.Prelude.{◌*◌, ◌-◌, true, refl}
-use Rattle.daos_run.proofs.Plain.{all-empty, all-free, all-tell, each-tells, follows-order, in-form, issued-there, legal, legal-by-some, none-down, of-lone, only-memory}
+use Rattle.daos_run.proofs.Plain.{all-empty, all-free, all-tell, each-tells, follows-order, in-form, issued-there, legal, none-down, of-lone, only-memory}
 use Rattle.daos_model.specs.Opening.{fresh}
 use Rattle.daos_run.specs.Alone.{IsOfLoneClient}
 use Rattle.daos_run.proofs.run.run_script.Goals as goal
@@ -9,12 +9,6 @@ run_on-requires-clause-stores g c κs within = all-empty c.args.job.now.targets 
 
 pub returns-clause-legal : goal.returns-clause-legal
 returns-clause-legal g c =
-    let new = c.in_ok-set_all.ensures.set in
-    legal-by-some c.args.job.now.targets c.args.job.now.size_mib c.set_all.new.parts new c.run_on.new.parts c.run_on.ensures.set c.run_on.ensures.served c.args.script.now c.args.job.now refl c.run_on.result
-    (c.run_on.ensures.comes (all-tell c.args.job.now.targets c.args.job.now.size_mib c.set_all.new.parts new) (λ t. c.args.job.now.size_mib * 4096 - 1264) (all-free c.args.job.now.targets c.args.job.now.size_mib c.set_all.new.parts new))
-
-pub returns-clause-unstopped : goal.returns-clause-unstopped
-returns-clause-unstopped g c =
     let new = c.in_ok-set_all.ensures.set in
     legal c.args.job.now.targets c.args.job.now.size_mib c.set_all.new.parts new c.run_on.new.parts c.run_on.ensures.set c.run_on.ensures.served c.args.script.now c.args.job.now refl c.run_on.result
     (c.run_on.ensures.comes (all-tell c.args.job.now.targets c.args.job.now.size_mib c.set_all.new.parts new) (λ t. c.args.job.now.size_mib * 4096 - 1264) (all-free c.args.job.now.targets c.args.job.now.size_mib c.set_all.new.parts new))
