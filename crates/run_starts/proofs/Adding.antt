@@ -205,6 +205,7 @@ module _ {S : Type 0} (durable : S → Option Durable) (state : S → State) (cs
         each = each-of (λ t x y. Runs {T = Unit {0}} (is_fault_of t) (Err why) (state x) (state y) (durable x) (durable y)) (λ t x y apart a. goes-on t x y apart a.runs) e.runs
             (λ t x apart at. goes-on t x x apart (runs_first (state x) (durable x) (run t x at)));
         free = each-of (λ t x y. (state x).free ≤ (state y).free) (λ t x y apart a. let same = a.free in omega (arith, same)) (λ x at. let same = e.free x at in omega (arith, same)) (λ t x apart at. omega arith);
+        still = λ t x y at to. tt;
         own = λ t is. let same = e.own t is in let many = k.many in omega (arith, same, many, low);
       }
 
@@ -221,6 +222,7 @@ module _ {S : Type 0} (durable : S → Option Durable) (state : S → State) (cs
       many = k.many;
       each = λ t x y at to. runs_as {T = Unit {0}} {U = Unit {0}} always_stop (Ok (tt {0})) (is_fault_of t) (Ok (tt {0})) (state x) (state y) (durable x) (durable y) refl (each-added t x y at to).runs;
       free = λ t x y at to. let same = (each-added t x y at to).free in omega (arith, same);
+      still = λ t x y at to d told none. (each-added t x y at to).free;
       own = λ t. tt;
     }
 

@@ -37,6 +37,11 @@ use Rattle.run_starts.proofs.Adding.{same-at, there}
 
 -- ---- calls
 
+-- containers that are added leave versions, entries and snapshots
+keeps-data : (cs : List ContId) → KeepsData (enlisted cs)
+unfolding enlisted
+keeps-data cs = record { versions = λ d. refl; entries = λ d. refl; snaps = λ d. refl }
+
 fault-same : (t : ℕ) (why : OpeningStop) → is_fault_of t (not_opened why) ≡ is_opening_fault t why
 fault-same t (opening.Stopped target) = refl
 fault-same t opening.Memory = refl
@@ -52,6 +57,7 @@ module _ {S : Type 0} (durable : S → Option Durable) (state : S → State) whe
     many = k.many;
     each = λ t a b at to. runs_as (is_fault_of t) (Ok x) (is_fault_of t) (Ok y) (state a) (state b) (durable a) (durable b) refl (k.each t a b at to);
     free = k.free;
+    still = k.still;
     own = λ t. tt;
   }
 
@@ -60,6 +66,7 @@ module _ {S : Type 0} (durable : S → Option Durable) (state : S → State) whe
     many = k.many;
     each = λ t a b at to. runs_as {T = T} {U = U} (is_fault_of t) (Err why) (is_fault_of t) (Err why) (state a) (state b) (durable a) (durable b) refl (k.each t a b at to);
     free = k.free;
+    still = λ t a b at to. tt;
     own = k.own;
   }
 
@@ -70,6 +77,7 @@ module _ {S : Type 0} (durable : S → Option Durable) (state : S → State) whe
     each = λ t x y at to. subst (λ z. Runs {T = T} (is_fault_of t) (Err wanting) (state x) (state z) (durable x) (durable z)) (same-at stores t x y at to)
         (runs_as {T = Unit {0}} {U = T} always_stop (Ok (tt {0})) (is_fault_of t) (Err wanting) (state x) (state x) (durable x) (durable x) refl (runs_first (state x) (durable x) (run t x at)));
     free = λ t x y at to. subst (λ z. (state x).free ≤ (state z).free) (same-at stores t x y at to) (omega arith);
+    still = λ t x y at to. tt;
     own = λ t is. let no : ⊥ = cc in absurd no;
   })
 
@@ -90,14 +98,23 @@ module _ {S : Type 0} (durable : S → Option Durable) (state : S → State) whe
         let two = b.free t m.0 y m.1 to in
         omega (arith, one, two)
 
-    pub opened-ok : OpeningRuns {T = Unit {0}} durable state (Ok (tt {0})) mid new → RunAll {T = Unit {0}} durable state (Ok (tt {0})) old new
-    opened-ok b = record { many = b.many ∙ a.many; each = runs-through (Ok (tt {0})) (Ok (tt {0})) (λ t. refl) b; free = free-through (Ok (tt {0})) b; own = λ t. tt }
+    pub opened-ok : (cs : List ContId) → FromTo old mid (λ t x y. WithContainers durable cs x y) → OpeningRuns {T = Unit {0}} durable state (Ok (tt {0})) mid new → RunAll {T = Unit {0}} durable state (Ok (tt {0})) old new
+    opened-ok cs with b = record {
+      many = b.many ∙ a.many;
+      each = runs-through (Ok (tt {0})) (Ok (tt {0})) (λ t. refl) b;
+      free = free-through (Ok (tt {0})) b;
+      still = λ t x y at to d told none.
+          let m = there old mid t x a.many at in
+          b.still t m.0 y m.1 to (enlisted cs d) ((with t x m.0 at m.1).made ∙ ap (option_map (enlisted cs)) told) ((keeps-data cs).entries d ∙ none) ∙ a.still t x m.0 at m.1 d told none;
+      own = λ t. tt;
+    }
 
     pub opened-err : (refusal : OpeningStop) (why : StartStop) → why ≡ not_opened refusal → OpeningRuns {T = Unit {0}} durable state (Err refusal) mid new → RunAll {T = Unit {0}} durable state (Err why) old new
     opened-err refusal why is b = subst (λ w. RunAll {T = Unit {0}} durable state (Err w) old new) (sym is) (record {
       many = b.many ∙ a.many;
       each = runs-through (Err refusal) (Err (not_opened refusal)) (λ t. fault-same t refusal) b;
       free = free-through (Err refusal) b;
+      still = λ t x y at to. tt;
       own = λ t says. subst (λ n. t < n) a.many (b.own t (sym (fault-same t refusal) ∙ says));
     })
 
@@ -129,11 +146,6 @@ module _ {S : Type 0} (durable : S → Option Durable) (state : S → State) whe
         subst (λ e. length e.conts ≤ 256) b.2 ((k t x.0 y.0 x.1 y.1).few b.0 (kept.each t x.0 b.0 x.1 b.1))
 
 -- ---- what a run begins with
-
--- containers that are added leave versions, entries and snapshots
-keeps-data : (cs : List ContId) → KeepsData (enlisted cs)
-unfolding enlisted
-keeps-data cs = record { versions = λ d. refl; entries = λ d. refl; snaps = λ d. refl }
 
 -- how often a target was opened stays
 counted : (s : Script) (cs : List ContId) (F : List Durable) (b : Durable) → (opened s F (enlisted cs b)).incarnation ≡ b.incarnation

@@ -1,5 +1,5 @@
 -- What calls for an opening say of the stores of all targets.
-use Rattle.std.specs.Prelude.{ℕ, ◌≡◌, ◌≤◌, ◌<◌, true, List, length, slice_get, slice_set, Option, Some, Result, IfErr, OnOk}
+use Rattle.std.specs.Prelude.{ℕ, ◌≡◌, ◌≤◌, ◌<◌, true, List, [], length, slice_get, slice_set, Option, Some, Result, IfErr, OnOk}
 use Rattle.std.specs.Option.{ForSome, option_map}
 use Rattle.base_types.specs.declared.id.ContId.{ContId}
 use Rattle.base_types.specs.Epochs.{restart_floor}
@@ -12,12 +12,13 @@ use Rattle.run_starts.specs.declared.stop.StartStop.{StartStop}
 use Rattle.run_starts.specs.declared.stop.StartStop.TheVariants as stop
 use Rattle.run_starts.specs.Stops.{is_fault_of}
 
--- What every call says of all stores: each runs on but where they aren't opened by its fault, and it has no fewer free blocks; a store that
--- stopped is named by its target.
+-- What every call says of all stores: each runs on but where they aren't opened by its fault, and it has no fewer free blocks, and as many
+-- where it keeps no entries; a store that stopped is named by its target.
 pub record RunAll {S T : Type 0} (durable : S → Option Durable) (state : S → State) (result : Result T StartStop) (old new : List S) : Type 0 where
   pub many : length new ≡ length old
   pub each : FromTo old new (λ t x y. Runs (is_fault_of t) result (state x) (state y) (durable x) (durable y))
   pub free : FromTo old new (λ t x y. (state x).free ≤ (state y).free)
+  pub still : FromTo old new (λ t x y. OnOk result ((d : Durable) → durable x ≡ Some d → d.entries ≡ [] → (state y).free ≡ (state x).free))
   pub own : (t : ℕ) → IfErr result (λ stop. is_fault_of t stop ≡ true → t < length old)
 
 -- ---- containers

@@ -10,7 +10,7 @@ pub open_all-requires-clause-running : goal.open_all-requires-clause-running
 open_all-requires-clause-running g c = all-run g.S.Store.durable g.S.Store.state (tt {0}) c.args.stores.now c.enlist_all.new.stores c.in_ok-enlist_all.ensures.calls
 
 pub returns-in-Ok-clause-calls : goal.returns-in-Ok-clause-calls
-returns-in-Ok-clause-calls g c = opened-ok g.S.Store.durable g.S.Store.state c.args.stores.now c.enlist_all.new.stores c.open_all.new.stores c.in_ok-enlist_all.ensures.calls c.in-Ok.ensures.calls
+returns-in-Ok-clause-calls g c = opened-ok g.S.Store.durable g.S.Store.state c.args.stores.now c.enlist_all.new.stores c.open_all.new.stores c.in_ok-enlist_all.ensures.calls c.deref.result.now c.in_ok-enlist_all.ensures.enlisted c.in-Ok.ensures.calls
 
 pub returns-in-Ok-clause-opened : goal.returns-in-Ok-clause-opened
 returns-in-Ok-clause-opened g c B kept sound =
