@@ -1,5 +1,5 @@
 -- Stores whose fuses are taken away, one after another.
-use Rattle.std.specs.Prelude.{ℕ, ◌≡◌, ◌≤◌, ◌<◌, ◌+◌, Bool, true, false, List, length, set, slice_get, Option, Some, None, is_some, refl}
+use Rattle.std.specs.Prelude.{ℕ, ◌≡◌, ◌≤◌, ◌<◌, ◌+◌, true, false, List, length, set, slice_get, Option, Some, None, is_some, refl}
 use Rattle.std.proofs.Common.{inl, inr, sym, ◌∙◌, ap, subst, arith}
 use Rattle.std.proofs.lemmas.Bool.{cases_eq}
 use Rattle.daos_model.specs.declared.durable.Durable.{Durable}
@@ -10,7 +10,7 @@ use Rattle.daos_run.specs.declared.stop.RunStop.TheVariants as stop
 use Rattle.daos_run.specs.Stops.{MayStop}
 use Rattle.run_shows.specs.Serving.{served-same}
 use Rattle.run_starts.specs.Calls.{AreTooMany}
-use Rattle.daos_run.specs.Slots.{AreAsBefore, AreFree, AreSet, ClocksStay, EachStore, FromTo, FusesAreGone, HasNoFuse, HaveStores, IsAt, IsDisarmed, StoresAreServed, stores_in}
+use Rattle.daos_run.specs.Slots.{AreAsBefore, AreFree, AreSet, ClocksStay, EachStore, FromTo, FusesAreGone, HasNoFuse, IsAt, IsDisarmed, StoresAreServed, stores_in}
 use Rattle.daos_run.proofs.Places.{at-low, in-place, store-at, stores-many}
 use Rattle.run_opening.specs.All.{AreKept}
 use Rattle.daos_run.proofs.Slots.{same-pair}

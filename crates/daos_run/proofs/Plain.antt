@@ -1,5 +1,5 @@
 -- Runs over empty stores in memory.
-use Rattle.std.specs.Prelude.{ℕ, ◌≡◌, ◌≤◌, ◌<◌, ◌+◌, ◌*◌, ◌-◌, ◌^◌, true, IfErr, IfOk, IsOkUnless, List, [], ◌∷◌, filter, length, map, slice_get, is_some, Option, Some, None, Result, Ok, Err, refl}
+use Rattle.std.specs.Prelude.{ℕ, ◌≡◌, ◌≤◌, ◌<◌, ◌+◌, ◌*◌, ◌-◌, ◌^◌, true, IfErr, IfOk, IsOkUnless, List, [], ◌∷◌, filter, length, map, slice_get, Option, Some, None, Result, Ok, Err, refl}
 use Rattle.std.proofs.Common.{inl, inr, ◌∙◌, ap, arith, subst, sym}
 use Rattle.std.proofs.lemmas.Bool.{true≢false}
 use Rattle.base_types.specs.declared.job.Job.{Job}

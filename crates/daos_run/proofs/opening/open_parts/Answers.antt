@@ -1,10 +1,7 @@
 use Rattle.std.specs.Prelude.{◌≡◌, length}
 use Rattle.std.proofs.Common.{◌∙◌, ap, arith, subst, sym}
-use Rattle.base_types.specs.declared.epoch.Epoch.{Epoch}
-use Rattle.daos_run.specs.Slots.{AreApart, AreSetBack, stores_in}
-use Rattle.daos_run.specs.Stops.{ArePartsCalled}
-use Rattle.daos_run.specs.declared.stop.RunStop.TheVariants.{Memory as NoMemory}
-use Rattle.daos_run.proofs.Opened.{are-new, are-stores, called-err, called-none, called-ok, each-runs, may-stop, take-first}
+use Rattle.daos_run.specs.Slots.{AreApart, AreSetBack}
+use Rattle.daos_run.proofs.Opened.{are-new, are-stores, called-err, called-ok, each-runs, may-stop, take-first}
 use Rattle.run_opening.specs.All.{AreKept}
 use Rattle.run_starts.specs.Starts.{AreOpened}
 use Rattle.world_whole.specs.Begins.{declared_conts}

@@ -2,8 +2,6 @@ use Rattle.std.specs.Prelude.{◌*◌, ◌-◌, IfOk, refl}
 use Rattle.std.proofs.Common.{subst}
 use Rattle.daos_run.proofs.Lone.{is-of-lone-client}
 use Rattle.daos_run.proofs.Plain.{all-come, all-free, all-kept, all-open, all-run, follows-order, in-form, is-fresh, issued-there, legal, legal-by-some, none-down, of-lone, on-ok, only-memory}
-use Rattle.daos_model.specs.Opening.{fresh}
-use Rattle.daos_run.specs.Alone.{IsOfLoneClient}
 use Rattle.run_reports.specs.Reports.{TellsOfLoneClient}
 use Rattle.daos_run.proofs.run.run_script.Goals as goal
 

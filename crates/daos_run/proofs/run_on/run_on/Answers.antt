@@ -1,5 +1,5 @@
 use Rattle.std.specs.Prelude.{◌≡◌, ◌<◌, Err, IfErr, IfOk, Ok, length}
-use Rattle.std.proofs.Common.{◌∙◌, arith, rules, subst, sym}
+use Rattle.std.proofs.Common.{arith, rules, subst, sym}
 use Rattle.base_types.specs.declared.epoch.Epoch.{Epoch}
 use Rattle.daos_model.specs.Finals.{opening_of}
 use Rattle.daos_run.specs.Opens.{given}
@@ -8,7 +8,6 @@ use Rattle.daos_run.specs.Stops.{IsOpeningFault, MayStop}
 use Rattle.daos_run.proofs.Disarmed.{again-clocks, again-gone, again-served, all-gone, all-run-on, all-served, kept-on, may-stop-before}
 use Rattle.daos_run.proofs.Faults.{calls-gone, calls-served, opening-fault, read-through, served-through, stay-read}
 use Rattle.daos_run.proofs.Lone.{finds-room, tells-of-lone-client}
-use Rattle.daos_run.proofs.Places.{store-at}
 use Rattle.daos_run.proofs.Started.{all-set, run-gone, run-read, run-served}
 use Rattle.daos_run.proofs.Whole.{all-tell, can-start, come-from, may-start, started, told-first}
 use Rattle.run_ends.specs.Comes.{ComesTo}
