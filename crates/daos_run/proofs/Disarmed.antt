@@ -1,11 +1,18 @@
 -- Stores whose fuses are taken away, one after another.
-use Rattle.std.specs.Prelude.{ℕ, ◌≡◌, ◌≤◌, ◌<◌, ◌+◌, Bool, true, false, List, length, set, slice_get, Option, Some, None, is_some, refl}
+use Rattle.std.specs.Prelude.{ℕ, ◌≡◌, ◌≤◌, ◌<◌, ◌+◌, true, false, List, length, set, slice_get, Option, Some, None, is_some, refl}
 use Rattle.std.proofs.Common.{inl, inr, sym, ◌∙◌, ap, subst, arith}
 use Rattle.std.proofs.lemmas.Bool.{cases_eq}
 use Rattle.daos_model.specs.declared.durable.Durable.{Durable}
-use Rattle.daos_run.specs.Opens.{IsEmpty}
-use Rattle.daos_run.specs.Slots.{AreFree, AreSet, ClocksStay, EachStore, FromTo, FusesAreGone, HasNoFuse, HaveStores, IsAt, IsDisarmed, StoresAreServed}
-use Rattle.daos_run.proofs.Places.{at-low}
+use Rattle.daos_run.specs.Opens.{MayRun}
+use Rattle.base_types.specs.declared.id.ContId.{ContId}
+use Rattle.daos_run.specs.declared.stop.RunStop.{RunStop}
+use Rattle.daos_run.specs.declared.stop.RunStop.TheVariants as stop
+use Rattle.daos_run.specs.Stops.{MayStop}
+use Rattle.run_shows.specs.Serving.{served-same}
+use Rattle.run_starts.specs.Calls.{AreTooMany}
+use Rattle.daos_run.specs.Slots.{AreAsBefore, AreFree, AreSet, ClocksStay, EachStore, FromTo, FusesAreGone, HasNoFuse, IsAt, IsDisarmed, StoresAreServed, stores_in}
+use Rattle.daos_run.proofs.Places.{at-low, in-place, store-at, stores-many}
+use Rattle.run_opening.specs.All.{AreKept}
 use Rattle.daos_run.proofs.Slots.{same-pair}
 use Rattle.run_shows.specs.Accounts.{IsServed}
 use Rattle.run_shows.specs.ListLaws.{length-set}
@@ -15,16 +22,11 @@ use Rattle.world_base.specs.StepLaws.{set-here, set-there, set-twice}
 -- ---- one store
 
 module _ {S : Type 0} (durable : S → Option Durable) (state : S → State) (may : S → Durable → Type 0) (a b : S) (f : HasNoFuse durable state may a b) where
-  pub unfused-empty : (targets : ℕ) → IsEmpty durable state targets a → IsEmpty durable state targets b
-  unfused-empty targets k = record {
-    fresh = record {
-      running = ap (λ h. h.stopped) f.state_is.rest ∙ k.fresh.running;
-      made = subst (λ n. targets ≤ n) (sym (ap (λ h. h.targets) f.state_is.rest)) k.fresh.made;
-      floor = subst (λ o. o.0.0 ≤ 255) (sym (ap (λ h. h.opening) f.state_is.rest)) k.fresh.floor;
-    };
-    incarnation = k.incarnation;
-    seldom = k.seldom;
-    kept = λ d told. k.kept d (sym f.kept ∙ told);
+  pub unfused-may_run : (targets : ℕ) → MayRun durable state targets a → MayRun durable state targets b
+  unfused-may_run targets k = record {
+    running = ap (λ h. h.stopped) f.state_is.rest ∙ k.running;
+    made = subst (λ n. targets ≤ n) (sym (ap (λ h. h.targets) f.state_is.rest)) k.made;
+    seldom = λ d told. k.seldom d (sym f.kept ∙ told);
   }
 
   pub unfused-served : IsServed (state a) (state b) (durable a) (durable b)
@@ -114,8 +116,27 @@ module _ {S C : Type 0} (durable : S → Option Durable) (state : S → State) (
         let x = before.each t (at-low targets now after t y to) in
         (x.0, x.1, F t x.0 y x.1 to)
 
-    pub all-empty-on : EachStore (λ t store. IsEmpty durable state targets store) old → HaveStores (λ t store. IsEmpty durable state targets store) targets now
-    all-empty-on k = record { set = after; each = λ t y to. let w = was-there t y to in unfused-empty durable state may w.0.0 y.0 w.2 targets (k t w.0 w.1) }
+    pub all-run-on : EachStore (λ t store. MayRun durable state targets store) old → EachStore (λ t store. MayRun durable state targets store) now
+    all-run-on k t y to = let w = was-there t y to in unfused-may_run durable state may w.0.0 y.0 w.2 targets (k t w.0 w.1)
+
+    -- what they tell is the same
+    pub kept-on : (B : List Durable) → AreKept durable (stores_in now) B → AreKept durable (stores_in old) B
+    kept-on B k = record {
+      many = k.many ∙ stores-many targets now after ∙ sym (stores-many targets old before);
+      each = λ t x d at bt.
+          let p = in-place targets old before t x at in
+          let y = after.each t (at-low targets old before t p.pair p.at) in
+          ap durable p.is ∙ sym (F t p.pair y.0 p.at y.1).kept ∙ k.each t y.0.0 d (store-at targets now after t y.0 y.1) bt;
+    }
+
+    pub kept-from : (B : List Durable) → AreKept durable (stores_in old) B → AreKept durable (stores_in now) B
+    kept-from B k = record {
+      many = k.many ∙ stores-many targets old before ∙ sym (stores-many targets now after);
+      each = λ t y d to bt.
+          let p = in-place targets now after t y to in
+          let w = was-there t p.pair p.at in
+          ap durable p.is ∙ w.2.kept ∙ k.each t w.0.0 d (store-at targets old before t w.0 w.1) bt;
+    }
 
     pub all-served : StoresAreServed durable state old now
     all-served t x y at to = unfused-served durable state may x.0 y.0 (F t x y at to)
@@ -126,5 +147,35 @@ module _ {S C : Type 0} (durable : S → Option Durable) (state : S → State) (
     pub all-free-on : (free : ℕ → ℕ) → AreFree state old free → AreFree state now free
     all-free-on free k t y to = let w = was-there t y to in subst (λ n. free t ≤ n) (sym (unfused-free durable state may w.0.0 y.0 w.2)) (k t w.0 w.1)
 
-    pub all-told-on : (tells : Bool) → EachStore (λ t store. is_some (durable store) ≡ tells) old → EachStore (λ t store. is_some (durable store) ≡ tells) now
-    all-told-on tells k t y to = let w = was-there t y to in ap is_some w.2.kept ∙ k t w.0 w.1
+    -- so what may stop a run on them is the same
+    too-many-before : (cs : List ContId) (target together : ℕ) → AreTooMany durable cs (stores_in now) target together → AreTooMany durable cs (stores_in old) target together
+    too-many-before cs target together k = record {
+      many = k.many;
+      told = λ x d at told.
+          let p = in-place targets old before target x at in
+          let y = after.each target (at-low targets old before target p.pair p.at) in
+          k.told y.0.0 d (store-at targets now after target y.0 y.1) ((F target p.pair y.0 p.at y.1).kept ∙ ap durable (sym p.is) ∙ told);
+    }
+
+    pub may-stop-before : (cs : List ContId) (why : RunStop) → MayStop durable cs targets (stores_in now) why → MayStop durable cs targets (stores_in old) why
+    may-stop-before cs (stop.RackFault target) k = k
+    may-stop-before cs (stop.Foreign target at byte) k = k
+    may-stop-before cs (stop.Shape target what found asked) k = (k.0, k.1, too-many-before cs target found k.2, k.3)
+    may-stop-before cs stop.Memory k = k
+
+-- ---- stores that are in their places again, as they were
+
+module _ {S C : Type 0} (durable : S → Option Durable) (state : S → State) (targets : ℕ) (old new : List (Option (S × C))) (before : AreSet targets old) (k : AreAsBefore targets old new) where
+  again : (t : ℕ) (x y : S × C) → IsAt old t x → IsAt new t y → y ≡ x
+  again t x y at to = same-pair new t y x to (k.same t x at)
+
+  pub again-served : StoresAreServed durable state old new
+  again-served t x y at to = subst (λ z. IsServed (state x.0) (state z.0) (durable x.0) (durable z.0)) (sym (again t x y at to)) (served-same (state x.0) (durable x.0))
+
+  pub again-clocks : ClocksStay old new
+  again-clocks t x y at to = ap (λ z. z.1) (again t x y at to)
+
+  pub again-gone : FusesAreGone state old → FusesAreGone state new
+  again-gone gone t y to =
+      let x = before.each t (at-low targets new k.set t y to) in
+      subst (λ z. (state z.0).tells_fuse ≡ true → (state z.0).fused ≡ false) (sym (again t x.0 y x.1 to)) (gone t x.0 x.1)

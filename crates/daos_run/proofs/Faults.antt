@@ -1,5 +1,5 @@
 -- What calls leave of stores whose fuses were taken away, where one of them isn't opened.
-use Rattle.std.specs.Prelude.{ℕ, ◌≡◌, ◌&&◌, Bool, true, false, List, Option, refl}
+use Rattle.std.specs.Prelude.{ℕ, ◌≡◌, ◌&&◌, Bool, true, false, List, Option, Result, Err, refl}
 use Rattle.std.proofs.Common.{inl, inr, sym, ◌∙◌, ap, subst}
 use Rattle.std.proofs.lemmas.Bool.{true≢false}
 use Rattle.base_outside.specs.Causes.{Rose}
@@ -7,9 +7,9 @@ use Rattle.daos_model.specs.declared.durable.Durable.{Durable}
 use Rattle.daos_run.specs.declared.stop.RunStop.{RunStop}
 use Rattle.daos_run.specs.declared.stop.RunStop.TheVariants as stop
 use Rattle.daos_run.specs.Slots.{AreSet, ClocksAreRead, ClocksStay, FromTo, FusesAreGone, HasNoFuse, IsAt, StoresAreServed}
-use Rattle.daos_run.specs.Stops.{HasRisen, IsOpeningFault, is_fault_of, not_started}
+use Rattle.daos_run.specs.Stops.{HasRisen, IsOpeningFault, is_fault_of}
 use Rattle.daos_run.proofs.Places.{at-low}
-use Rattle.daos_run.proofs.Stores.{same-number}
+use Rattle.model_laws.specs.TargetLaws.{same_number}
 use Rattle.run_shows.specs.Serving.{served-by-runs, served-on}
 use Rattle.target_parts.specs.Parts.{Runs}
 use Rattle.target_parts.specs.Readings.{IsReadOn, not-read_on}
@@ -49,20 +49,20 @@ module _ {S C : Type 0} (durable : S → Option Durable) (state : S → State) (
       subst (λ c. IsReadOn is_read c y.1) (k t x m.0 at m.1) (l t m.0 y m.1 to)
 
   -- a store that isn't opened was failed by the outside, or doesn't tell its fuse
-  pub opening-fault : (may : S → Durable → Type 0) (stop : RunStop) → FromTo old mid (λ t a b. HasNoFuse durable state may a b)
-      → FromTo mid new (λ t a b. Runs (is_fault_of t) (not_started stop) (state a) (state b) (durable a) (durable b)) → IsOpeningFault state old new stop
+  pub opening-fault : {T : Type 0} (may : S → Durable → Type 0) (stop : RunStop) → FromTo old mid (λ t a b. HasNoFuse durable state may a b)
+      → FromTo mid new (λ t a b. Runs {T = T} (is_fault_of t) (Err stop) (state a) (state b) (durable a) (durable b)) → IsOpeningFault state old new stop
   opening-fault may (stop.RackFault target) F R = λ x y at to.
       let m = meanwhile target x at in
       let r = R target m.0 y m.1 to in
-      risen-on (state x.0) (state m.0.0) (state y.0) (F target x m.0 at m.1).state_is (r.cause (same-number target))
+      risen-on (state x.0) (state m.0.0) (state y.0) (F target x m.0 at m.1).state_is (r.cause (same_number target))
   opening-fault may (stop.Foreign target at byte) F R = tt
   opening-fault may (stop.Shape target what found asked) F R = tt
   opening-fault may stop.Memory F R = tt
 
-module _ {S C : Type 0} (durable : S → Option Durable) (state : S → State) (targets : ℕ) (old new : List (Option (S × C))) (stop : RunStop) (before : AreSet targets old) (after : AreSet targets new)
-    (R : FromTo old new (λ t a b. Runs (is_fault_of t) (not_started stop) (state a) (state b) (durable a) (durable b))) where
+module _ {S C T : Type 0} (durable : S → Option Durable) (state : S → State) (targets : ℕ) (old new : List (Option (S × C))) (result : Result T RunStop) (before : AreSet targets old) (after : AreSet targets new)
+    (R : FromTo old new (λ t a b. Runs (is_fault_of t) result (state a) (state b) (durable a) (durable b))) where
   pub calls-served : StoresAreServed durable state old new
-  calls-served t x y at to = served-by-runs (is_fault_of t) (not_started stop) (state x.0) (state y.0) (durable x.0) (durable y.0) (R t x y at to)
+  calls-served t x y at to = served-by-runs (is_fault_of t) result (state x.0) (state y.0) (durable x.0) (durable y.0) (R t x y at to)
 
   pub calls-gone : FusesAreGone state old → FusesAreGone state new
   calls-gone gone t y to =

@@ -16,17 +16,19 @@ use Rattle.model_reports.specs.Restarts.{never-restart}
 use Rattle.daos_model.specs.declared.durable.Durable.{Durable}
 use Rattle.daos_model.specs.Family.{resolved}
 use Rattle.daos_model.specs.Headline.{Headline}
-use Rattle.daos_model.specs.Opening.{Outside, undisturbed}
+use Rattle.daos_model.specs.Opening.{Opening, Outside, fresh, undisturbed}
 use Rattle.daos_model.specs.Stops.{stop_numbers}
 use Rattle.model_reports.specs.Lines.{lists-of-transactions}
 use Rattle.model_reports.specs.RoomLaws.{transactions-find-room}
 use Rattle.model_reports.specs.Rooms.{FindsRoom, HasRoom, OnlyTransactions, is_transaction}
 use Rattle.daos_run.proofs.Begun.{lists-run}
 use Rattle.daos_run.specs.Alone.{IsOfLoneClient}
-use Rattle.daos_run.specs.Opens.{given}
-use Rattle.run_ends.specs.Comes.{ComesTo, IsLegal, IsOutside, MayBeFound}
+use Rattle.daos_run.specs.Comes.{ComesFrom}
+use Rattle.run_ends.specs.Comes.{IsLegal, IsOutside, MayBeFound}
+use Rattle.run_ends.specs.Starts.{given_by}
 use Rattle.run_ends.specs.Lasts.{some-may_be, some_lasts}
 use Rattle.run_shows.specs.Going.{AreAlike, AreFindable}
+use Rattle.run_reports.specs.Reports.{TellsOfLoneClient}
 use Rattle.script_runnable.specs.Runnable.{IsRunnable, is_run}
 use Rattle.vos_store.specs.Calls.{State}
 
@@ -51,20 +53,30 @@ some-targets : (m n : ℕ) → m ≡ n → 1 ≤ n → 0 < m
 some-targets m n same some = omega (arith, same, some)
 
 -- whatever the outside did
-pub room-found : (s : Script) (j : Job) (free : ℕ → ℕ) (o : Outside) (done : AttemptId → Bool) (q : Report) → IsRunnable j.targets s → 1 ≤ j.targets → 1 ≤ j.attempts → HasRoom s j.attempts free → Headline (given s j free) o done q → FindsRoom q
-room-found s j free o done q F some least room legal = transactions-find-room (given s j free) o done q (some-targets s.targets j.targets F.form.read_for some) least room (only-transactions j.targets s F) legal
+pub room-found : (s : Script) (j : Job) (opening : Opening) (o : Outside) (done : AttemptId → Bool) (q : Report) → IsRunnable j.targets s → 1 ≤ j.targets → 1 ≤ j.attempts → HasRoom s j.attempts opening.free → Headline (given_by s j opening) o done q → FindsRoom q
+room-found s j opening o done q F some least room legal = transactions-find-room (given_by s j opening) o done q (some-targets s.targets j.targets F.form.read_for some) least room (only-transactions j.targets s F) legal
 
-pub of-lone-client : (s : Script) (j : Job) (free : ℕ → ℕ) (q : Report) → IsRunnable j.targets s → 1 ≤ j.targets → 1 ≤ j.attempts → HasOneClient s → s.stops ≡ [] → IsLegal (given s j free) q → IsOfLoneClient (given s j free) q
-of-lone-client s j free q F some least one none legal =
-    let g = given s j free in
+pub of-lone-client : (s : Script) (j : Job) (opening : Opening) (q : Report) → IsRunnable j.targets s → 1 ≤ j.targets → 1 ≤ j.attempts → HasOneClient s → s.stops ≡ [] → IsLegal (given_by s j opening) q → TellsOfLoneClient (given_by s j opening) q
+of-lone-client s j opening q F some least one none legal =
+    let g = given_by s j opening in
     let lone = is-lone j.targets s F one none in
     record {
       never_restarted = never-restart g undisturbed nobody q lone (legal nobody);
       one_attempt = try-once g undisturbed nobody q lone (legal nobody);
       rising = (rise g undisturbed nobody q lone (legal nobody)).0;
       plainly = end-plainly g undisturbed nobody q lone (legal nobody);
-      committed = λ free' room. commit g undisturbed nobody q lone (legal nobody) (some-targets s.targets j.targets F.form.read_for some) least room free' (fresh-ticks j.targets s j F.form one);
+      committed = λ free room ticks. commit g undisturbed nobody q lone (legal nobody) (some-targets s.targets j.targets F.form.read_for some) least room free ticks;
     }
+
+-- over stores that were never used there are ticks
+pub is-of-lone-client : (s : Script) (j : Job) (q : Report) → IsRunnable j.targets s → HasOneClient s → TellsOfLoneClient (fresh s j) q → IsOfLoneClient (fresh s j) q
+is-of-lone-client s j q F one k = record {
+  never_restarted = k.never_restarted;
+  one_attempt = k.one_attempt;
+  rising = k.rising;
+  plainly = k.plainly;
+  committed = λ free room. k.committed free room (fresh-ticks j.targets s j F.form one);
+}
 
 -- ---- whatever is found in the end
 
@@ -79,12 +91,12 @@ silent-fits state xs ys = record { counts = λ t x y k at to says. let no : ⊥ 
 all-found : {S : Type 0} (durable : S → Option Durable) (may : S → Durable → Type 0) → AreFindable durable may → AreAlike durable → (x : S) → is_some (durable x) ≡ true → (ys : List S) → (lasts : List Durable) × MayBeFound may ys lasts
 all-found durable may findable alike x told ys = (some_lasts durable may findable (λ y. alike x y told) ys, some-may_be durable may findable (λ y. alike x y told) ys)
 
-module _ {S : Type 0} (durable : S → Option Durable) (state : S → State) (may : S → Durable → Type 0) (s : Script) (j : Job) (free : ℕ → ℕ) (xs ys : List S) (q : Report) (F : IsRunnable j.targets s) (some : 1 ≤ j.targets) (least : 1 ≤ j.attempts)
-    (K : ComesTo durable state may (given s j free) xs ys q) where
-  pub finds-room : AreFindable durable may → AreAlike durable → (x : S) → is_some (durable x) ≡ true → HasRoom s j.attempts free → FindsRoom q
+module _ {S : Type 0} (durable : S → Option Durable) (state : S → State) (may : S → Durable → Type 0) (s : Script) (j : Job) (opening : Opening) (old ys : List S) (q : Report) (F : IsRunnable j.targets s) (some : 1 ≤ j.targets) (least : 1 ≤ j.attempts)
+    (K : ComesFrom durable state may (given_by s j opening) old ys q) where
+  pub finds-room : AreFindable durable may → AreAlike durable → (x : S) → is_some (durable x) ≡ true → HasRoom s j.attempts opening.free → FindsRoom q
   finds-room findable alike x told room =
       let k = all-found durable may findable alike x told ys in
-      room-found s j free silent (resolved k.0) q F some least room (K.stand k.0 silent k.1 (silent-fits state xs ys)).told
+      room-found s j opening silent (resolved k.0) q F some least room (K.comes.stand k.0 silent k.1 (silent-fits state K.opened ys)).told
 
-  pub is-of-lone-client : HasOneClient s → s.stops ≡ [] → stop_numbers q.lines ≡ [] → IsOfLoneClient (given s j free) q
-  is-of-lone-client one none unstopped = of-lone-client s j free q F some least one none (K.unstopped unstopped).legal
+  pub tells-of-lone-client : HasOneClient s → s.stops ≡ [] → stop_numbers q.lines ≡ [] → TellsOfLoneClient (given_by s j opening) q
+  tells-of-lone-client one none unstopped = of-lone-client s j opening q F some least one none (K.comes.unstopped unstopped).legal

@@ -1,27 +1,39 @@
 -- Runs over empty stores in memory.
-use Rattle.std.specs.Prelude.{ℕ, ◌≡◌, ◌≤◌, ◌*◌, ◌-◌, true, IfErr, IfOk, IsOkUnless, List, [], slice_get, is_some, Option, Some, None, Result, Ok, Err, refl}
+use Rattle.std.specs.Prelude.{ℕ, ◌≡◌, ◌≤◌, ◌<◌, ◌+◌, ◌*◌, ◌-◌, ◌^◌, true, IfErr, IfOk, IsOkUnless, List, [], ◌∷◌, filter, length, map, slice_get, Option, Some, None, Result, Ok, Err, refl}
 use Rattle.std.proofs.Common.{inl, inr, ◌∙◌, ap, arith, subst, sym}
 use Rattle.std.proofs.lemmas.Bool.{true≢false}
 use Rattle.base_types.specs.declared.job.Job.{Job}
 use Rattle.base_types.specs.declared.report.Report.{Report}
 use Rattle.base_types.specs.declared.script.Script.{Script}
 use Rattle.daos_model.specs.declared.durable.Durable.{Durable}
-use Rattle.daos_model.specs.Family.{resolved}
 use Rattle.daos_model.specs.Finals.{HeadlineOver}
-use Rattle.daos_model.specs.Opening.{fresh, undisturbed}
+use Rattle.daos_model.specs.Changes.{enlisted}
+use Rattle.daos_model.specs.Durables.{empty_durable}
+use Rattle.daos_model.specs.Family.{is_created, resolved}
+use Rattle.daos_model.specs.FormLaws.{length-map}
+use Rattle.daos_model.specs.Opening.{Given, fresh, fresh_opening, undisturbed}
 use Rattle.daos_model.specs.Stops.{stop_numbers}
 use Rattle.daos_run.specs.declared.stop.RunStop.{RunStop}
 use Rattle.daos_run.specs.declared.stop.RunStop.TheVariants as stop
 use Rattle.daos_run.specs.declared.stop.RunStop.TheVariants.{Memory as NoMemory}
-use Rattle.daos_run.specs.Opens.{IsEmpty, IsFreshState}
-use Rattle.daos_run.specs.Slots.{AreFree, AreSet, EachStore, HaveStores, IsAt, StoresAreServed, stores_in}
+use Rattle.daos_run.specs.Comes.{ComesFrom}
+use Rattle.daos_run.specs.Opens.{MayRun, given}
+use Rattle.daos_run.specs.Slots.{AreFree, AreSet, HaveStores, IsAt, StoresAreServed, stores_in}
 use Rattle.daos_run.specs.Starts.{IsNewStore}
 use Rattle.daos_run.specs.Stops.{HasRisen, IsOpeningFault, MayStop}
-use Rattle.daos_run.proofs.Places.{in-place}
+use Rattle.daos_run.proofs.Places.{in-place, store-at, stores-many}
 use Rattle.daos_run.proofs.Unstopped.{no-down-told, no-stops-told}
 use Rattle.run_ends.specs.Comes.{ComesTo, FollowsOrder, IsLegal, IsOrdered, IsOutside}
 use Rattle.run_ends.specs.Known.{legal-by-any}
-use Rattle.run_ends.specs.Starts.{AllTell}
+use Rattle.run_ends.specs.Places.{from-map, one-there}
+use Rattle.run_ends.specs.Starts.{given_by}
+use Rattle.run_opening.specs.All.{AreKept}
+use Rattle.run_opening.specs.Laws.{AreUnused}
+use Rattle.run_opening.specs.Opened.{keeps, lasting_snaps}
+use Rattle.run_opening.specs.UnusedLaws.{unused-sound, unused-stand}
+use Rattle.run_starts.specs.Starts.{CanOpen}
+use Rattle.model_laws.specs.Lists.{at-within}
+use Rattle.std.proofs.lemmas.Option.{slice_get_within}
 use Rattle.script_runnable.specs.Keyed.{CellHasKeys, ScriptHasKeys}
 use Rattle.report_writer.specs.Forms.{IsReportOf}
 use Rattle.std.proofs.lemmas.List.Elements.{All-nil}
@@ -29,6 +41,8 @@ use Rattle.vos_store.specs.Calls.{State}
 use Rattle.vos_plain.specs.Plain.{plain_durable, plain_state}
 use Rattle.vos_plain.specs.declared.store.PlainStore.{PlainStore}
 use Rattle.world_ends.specs.Ends.{durables_of}
+use Rattle.world_whole.specs.Begins.{declared_conts}
+use Rattle.world_whole.specs.Fresh.{fresh-opens}
 use Rattle.world_lone.specs.LoneRuns.{AreIssuedThere}
 
 -- it tells what it keeps
@@ -38,20 +52,33 @@ told_by store = Some (plain_durable store)
 same-kept : (d e f : Durable) → d ≡ f → Some d ≡ Some e → e ≡ f
 same-kept d e f is told = let same : d ≡ e = cc in subst (λ z. z ≡ f) same is
 
-is-empty : (targets size_mib : ℕ) (store : PlainStore) → targets ≤ 64 → IsNewStore size_mib store → IsEmpty told_by plain_state targets store
-is-empty targets size_mib store few new = record {
-  fresh = subst (IsFreshState targets) (sym new.state) (record { running = refl; made = few; floor = omega arith });
-  incarnation = 1;
-  seldom = omega arith;
-  kept = λ d told. same-kept (plain_durable store) d _ new.kept told;
+may-run : (targets size_mib : ℕ) (store : PlainStore) → targets ≤ 64 → IsNewStore size_mib store → MayRun told_by plain_state targets store
+may-run targets size_mib store few new = record {
+  running = ap (λ h. h.stopped) new.state;
+  made = subst (λ h. targets ≤ h.targets) (sym new.state) few;
+  seldom = λ d told. subst (λ e. e.incarnation ≤ 2 ^ 63 + 1) (sym (same-kept (plain_durable store) d _ new.kept told)) (omega arith);
 }
+
+-- ---- stores that were never used
+
+-- a script finds no snapshot to last
+none-lasts : (s : Script) (B : List Durable) → AreUnused B → lasting_snaps s B ≡ []
+none-lasts s [] unused = refl
+none-lasts s (d ∷ B) unused = ap (λ y. filter (keeps s) (filter is_created y.snaps)) (unused 0 d refl).1
+
+can-open : (s : Script) (B : List Durable) → AreUnused B → CanOpen s B
+can-open s B unused = record { sound = unused-sound B unused; unsnapped = none-lasts s B unused }
+
+-- with a script's containers they have no more than 256
+few-together : (s : Script) (incarnation : ℕ) → length s.conts ≤ 256 → length (enlisted (declared_conts s) (empty_durable incarnation)).conts ≤ 256
+few-together s incarnation few = (fresh-opens s 1 0 0 incarnation few).0.form.few_conts
 
 -- what its next opening may find
 abbrev pub found_in : PlainStore → Durable → Type 0
 found_in store d = d ≡ plain_durable store
 
 -- what follows of a result that is there
-on-ok : {T E : Type 0} {P Q : T → Type 0} (result : Result T E) → ((x : T) → P x → Q x) → IfOk result P → IfOk result Q
+pub on-ok : {T E : Type 0} {P Q : T → Type 0} (result : Result T E) → ((x : T) → P x → Q x) → IfOk result P → IfOk result Q
 on-ok (Ok x) f p = f x p
 on-ok (Err e) f p = tt
 
@@ -60,14 +87,26 @@ on-both (Ok x) f p q = f x p q
 on-both (Err e) f p q = tt
 
 module _ {C : Type 0} (targets size_mib : ℕ) (slots : List (Option (PlainStore × C))) (H : HaveStores (λ t store. IsNewStore size_mib store) targets slots) where
-  pub all-empty : targets ≤ 64 → HaveStores (λ t store. IsEmpty told_by plain_state targets store) targets slots
-  all-empty few = record { set = H.set; each = λ t x at. is-empty targets size_mib x.0 few (H.each t x at) }
+  pub all-run : targets ≤ 64 → HaveStores (λ t store. MayRun told_by plain_state targets store) targets slots
+  all-run few = record { set = H.set; each = λ t x at. may-run targets size_mib x.0 few (H.each t x at) }
 
-  pub all-tell : AllTell told_by (stores_in slots)
-  all-tell t x at = refl
+  -- what they keep
+  pub all-kept : AreKept told_by (stores_in slots) (map plain_durable (stores_in slots))
+  all-kept = record {
+    many = length-map plain_durable (stores_in slots);
+    each = λ t x d at bt.
+        let y = from-map plain_durable (stores_in slots) t d bt in
+        let same : y.of_it ≡ x = one-there (stores_in slots) t y.of_it x y.at at in
+        ap (λ z. Some (plain_durable z)) (sym same) ∙ ap (λ z. Some z) (sym y.is);
+  }
 
-  pub each-tells : EachStore (λ t store. is_some (told_by store) ≡ true) slots
-  each-tells t x at = refl
+  pub are-unused : (B : List Durable) → AreKept told_by (stores_in slots) B → AreUnused B
+  are-unused B k t d bt =
+      let p = H.set.each t (subst (λ n. t < n) (k.many ∙ stores-many targets slots H.set) (slice_get_within B t d bt)) in
+      (1, same-kept (plain_durable p.0.0) d (empty_durable 1) (H.each t p.0 p.1).kept (k.each t p.0.0 d (store-at targets slots H.set t p.0 p.1) bt))
+
+  pub all-open : (s : Script) (B : List Durable) → AreKept told_by (stores_in slots) B → CanOpen s B
+  all-open s B k = can-open s B (are-unused B k)
 
   -- all their blocks are free
   pub all-free : AreFree plain_state slots (λ t. size_mib * 4096 - 1264)
@@ -97,9 +136,9 @@ module _ {C : Type 0} (targets size_mib : ℕ) (slots : List (Option (PlainStore
     }
 
     -- so a run on them is stopped by want of memory alone
-    pub only-memory : {T : Type 0} (result : Result T RunStop) → IfErr result (IsOpeningFault plain_state slots new) → IfErr result (MayStop true targets) → IsOkUnless result NoMemory
-    only-memory (Ok v) fault may = tt
-    only-memory (Err (stop.RackFault target)) fault may =
+    pub only-memory : {T : Type 0} (s : Script) (result : Result T RunStop) → length s.conts ≤ 256 → IfErr result (IsOpeningFault plain_state slots new) → IfErr result (MayStop told_by (declared_conts s) targets (stores_in slots)) → IsOkUnless result NoMemory
+    only-memory s (Ok v) few fault may = tt
+    only-memory s (Err (stop.RackFault target)) few fault may =
         let x = H.set.each target may in
         let y = set.each target may in
         absurd (never (plain_state x.0.0) (plain_state y.0.0) (ap (λ h. h.faults) (H.each target x.0 x.1).state) (never-failed target x.0 y.0 x.1 y.1) refl (fault x.0 y.0 x.1 y.1))
@@ -107,9 +146,14 @@ module _ {C : Type 0} (targets size_mib : ℕ) (slots : List (Option (PlainStore
         never : (h k : State) → h.faults ≡ 0 → k.faults ≡ 0 → h.tells_fuse ≡ true → HasRisen h k → ⊥
         never h k old now tells (inl rose) = omega (arith, old, now, rose)
         never h k old now tells (inr burnt) = true≢false (sym tells ∙ burnt.1)
-    only-memory (Err (stop.Foreign target at byte)) fault may = absurd may
-    only-memory (Err (stop.Shape target what found asked)) fault may = absurd (true≢false may.0)
-    only-memory (Err stop.Memory) fault may = refl
+    only-memory s (Err (stop.Foreign target at byte)) few fault may = absurd may
+    only-memory s (Err (stop.Shape target what found asked)) few fault may =
+        let x = H.set.each target may.0 in
+        let shown : found ≡ length (enlisted (declared_conts s) (plain_durable x.0.0)).conts = may.2.told x.0.0 (plain_durable x.0.0) (store-at targets slots H.set target x.0 x.1) refl in
+        let low = subst (λ d. length (enlisted (declared_conts s) d).conts ≤ 256) (sym (H.each target x.0 x.1).kept) (few-together s 1 few) in
+        let many = may.2.many in
+        absurd (omega (arith, shown, low, many))
+    only-memory s (Err stop.Memory) few fault may = refl
 
     -- ---- what a run comes to
 
@@ -117,6 +161,33 @@ module _ {C : Type 0} (targets size_mib : ℕ) (slots : List (Option (PlainStore
       -- it comes to this report
       abbrev pub Comes : Report → Type 0
       Comes q = ComesTo told_by plain_state found_in (fresh s j) (stores_in slots) (stores_in new) q
+
+      abbrev pub their-given : Given
+      their-given = given s j (map plain_durable (stores_in slots)) (λ t. size_mib * 4096 - 1264)
+
+      -- they stand for nothing
+      pub is-fresh : their-given ≡ fresh s j
+      is-fresh =
+          ap (given_by s j) (unused-stand s (map plain_durable (stores_in slots)) (λ t. size_mib * 4096 - 1264) (are-unused (map plain_durable (stores_in slots)) all-kept))
+          ∙ ap (λ n. given_by s j (fresh_opening n)) (sym size)
+
+      -- as many blocks are free once they are opened as before, so it comes to the same from them before
+      come-plainly : (q : Report) → ComesFrom told_by plain_state found_in their-given (stores_in slots) (stores_in new) q → Comes q
+      come-plainly q k = subst (λ g. ComesTo told_by plain_state found_in g (stores_in slots) (stores_in new) q) is-fresh (record {
+        stand = λ lasts o found fits. k.comes.stand lasts o found (k.since o fits);
+        form = k.comes.form;
+        issued = k.comes.issued;
+        running = k.comes.running;
+        settled = k.comes.settled;
+        unstopped = k.comes.unstopped;
+        ordered = λ exact. k.comes.ordered (λ t y at.
+            let x = at-within (stores_in slots) t (subst (λ n. t < n) k.many (slice_get_within k.opened t y at)) in
+            let p = in-place targets slots H.set t x.0 x.1 in
+            (k.each t x.0 y x.1 at).still (plain_durable x.0) refl (ap (λ z. (plain_durable z).entries) p.is ∙ ap (λ d. d.entries) (H.each t p.pair p.at).kept) ∙ exact t x.0 x.1);
+      })
+
+      pub all-come : {E : Type 0} (result : Result Report E) → IfOk result (ComesFrom told_by plain_state found_in their-given (stores_in slots) (stores_in new)) → IfOk result Comes
+      all-come result k = on-ok result come-plainly k
 
       module _ (q : Report) (K : Comes q) where
         ordered : IsOrdered found_in (fresh s j) q (stores_in new)

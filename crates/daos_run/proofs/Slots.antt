@@ -98,7 +98,7 @@ pub record AreBackSoFar {S C : Type 0} (all left : List (TargetOf S C)) (old now
   pub waits : (t : ℕ) → t < length left → slice_get now t ≡ Some None
   pub others : (t : ℕ) → length all ≤ t → slice_get now t ≡ slice_get old t
 
-beyond : {T : Type 0} (xs : List T) (n : ℕ) (x : T) → length xs ≤ n → slice_get xs n ≡ Some x → ⊥
+pub beyond : {T : Type 0} (xs : List T) (n : ℕ) (x : T) → length xs ≤ n → slice_get xs n ≡ Some x → ⊥
 beyond [] n x le at = let no : ⊥ = cc in no
 beyond (y ∷ ys) zero x le at = omega (arith, le)
 beyond (y ∷ ys) (suc n) x le at = beyond ys n x (omega (arith, le)) at

@@ -1,106 +1,256 @@
--- A run of targets that started over empty stores, from the clients' first turns to the report.
-use Rattle.std.specs.Prelude.{ℕ, ◌≡◌, ◌≤◌, ◌<◌, ◌+◌, ◌-◌, ◌^◌, true, List, length, slice_get, Option, Some, is_some, Ok}
+-- A run of targets that started over stores which were opened for it, from the clients' first turns to the report.
+use Rattle.std.specs.Prelude.{ℕ, ◌≡◌, ◌≤◌, ◌<◌, ◌+◌, ◌^◌, Bool, true, false, List, length, map, slice_get, Option, Some, None, is_some, Ok, refl}
 use Rattle.std.proofs.Common.{sym, ◌∙◌, ap, subst, arith}
+use Rattle.std.proofs.lemmas.Bool.{true≢false}
 use Rattle.std.proofs.lemmas.Option.{slice_get_within}
 use Rattle.client_core.specs.Clients.{ClientNow}
+use Rattle.base_types.specs.declared.epoch.Epoch.{Epoch}
 use Rattle.base_types.specs.declared.job.Job.{Job}
 use Rattle.base_types.specs.declared.report.Report.{Report}
 use Rattle.base_types.specs.declared.script.Script.{Script}
+use Rattle.base_types.specs.Epochs.{restart_floor}
 use Rattle.daos_model.specs.declared.durable.Durable.{Durable}
-use Rattle.daos_model.specs.Opening.{Outside}
-use Rattle.daos_run.specs.Opens.{AreFirst, IsStarted, given}
-use Rattle.daos_run.specs.Slots.{AreBack, AreFree, AreSet, FromTo, HasNoFuse, IsAt, stores_in}
-use Rattle.daos_run.specs.Starts.{AreStarted}
-use Rattle.daos_run.proofs.Begun.{have-started}
-use Rattle.daos_run.proofs.Disarmed.{unfused-free, unfused-served}
-use Rattle.daos_run.proofs.Places.{store-at, stores-back}
+use Rattle.daos_model.specs.AsOf.{empty_stand}
+use Rattle.daos_model.specs.Family.{greatest_lease}
+use Rattle.daos_model.specs.Finals.{opening_of}
+use Rattle.daos_model.specs.FormLaws.{length-map}
+use Rattle.daos_model.specs.Opening.{Opening, Outside}
+use Rattle.daos_run.specs.Comes.{ComesFrom, IsOpenedFrom}
+use Rattle.daos_run.specs.Opens.{AreFirst, CanStart, MayRun, given}
+use Rattle.daos_run.specs.Slots.{AreBack, AreFree, AreSet, EachStore, FromTo, HasNoFuse, HaveStores, IsAt, stores_in}
+use Rattle.daos_run.specs.Starts.{AreStarted, StartsOver}
+use Rattle.daos_run.specs.Stops.{ArePartsCalled, is_fault_of}
+use Rattle.daos_run.proofs.Begun.{IsReady, have-started, is-heard}
+use Rattle.daos_run.proofs.Disarmed.{kept-from, unfused-free, unfused-may_run, unfused-served}
+use Rattle.daos_run.proofs.Places.{at-low, in-place, store-at, stores-back, stores-many}
+use Rattle.daos_run.proofs.Slots.{same-pair}
+use Rattle.model_laws.specs.Lists.{at-within}
 use Rattle.run_ends.specs.Comes.{ComesTo, IsOutside}
-use Rattle.run_ends.specs.Places.{from-map}
-use Rattle.run_ends.specs.Starts.{AllTell, HaveStarted, stores_of}
-use Rattle.run_shows.specs.Accounts.{IsServed}
+use Rattle.run_ends.specs.Places.{from-map, one-there, same-lists}
+use Rattle.run_ends.specs.Starts.{AllTell, HaveStarted, given_by, stores_of}
+use Rattle.run_opening.specs.All.{AreKept, FromTo as ListsFromTo}
+use Rattle.run_shows.specs.Going.{AreAlike}
 use Rattle.run_shows.specs.Serving.{served-by-runs, served-on}
+use Rattle.run_starts.specs.Starts.{AreOpened, BeginsAs, begun_family}
 use Rattle.script_runnable.specs.Runnable.{IsRunnable}
 use Rattle.target_core.specs.Targets.{TargetOf}
 use Rattle.vos_store.specs.Calls.{State}
-use Rattle.vos_store.specs.Refusals.{always_stop}
+use Rattle.world_whole.specs.Begins.{OpensWith}
 
--- a store after some calls, of which none took a block
-pub record IsCalled {S : Type 0} (durable : S → Option Durable) (state : S → State) (old new : S) : Type 0 where
-  pub served : IsServed (state old) (state new) (durable old) (durable new)
-  pub free : (state new).free ≡ (state old).free
+-- ---- what stores keep that tell it
 
--- What a run comes to from stores after some calls is what it comes to from these stores before: an outside that may have failed them since before may have
--- failed them since.
-pub come-from-before : {S : Type 0} (durable : S → Option Durable) (state : S → State) (may : S → Durable → Type 0) (s : Script) (j : Job) (free : ℕ → ℕ) (old mid new : List S) (q : Report)
-    → ((t : ℕ) (y : S) → slice_get mid t ≡ Some y → (x : S) × (slice_get old t ≡ Some x) × IsCalled durable state x y)
-    → ComesTo durable state may (given s j free) mid new q → ComesTo durable state may (given s j free) old new q
-come-from-before {S} durable state may s j free old mid new q was K = record {
-  stand = λ lasts o found fits. K.stand lasts o found (record { counts = λ t y z k at to says. since o fits t y z k at to says });
-  form = K.form;
-  issued = K.issued;
-  running = K.running;
-  settled = K.settled;
-  unstopped = K.unstopped;
-  ordered = λ exact. K.ordered (λ t y at. let w = was t y at in w.2.free ∙ exact t w.0 w.1);
-}
-  where
-    since : (o : Outside) → IsOutside state o old new → (t : ℕ) (y z : S) (k : ℕ) → slice_get mid t ≡ Some y → slice_get new t ≡ Some z → o.rises t ≡ Some k
-        → ((state y).tells_fuse ≡ true) × ((state z).faults < 2 ^ 64 - 1) × ((state z).faults ≤ (state y).faults + k)
-    since o fits t y z k at to says =
-        let w = was t y at in
-        let c = fits.counts t w.0 z k w.1 to says in
-        let more = w.2.served.faults in
-        let least = c.2 in
-        (w.2.served.tells_fuse ∙ c.0, c.1, omega (arith, more, least))
+module _ {S : Type 0} (durable : S → Option Durable) (all : (y : S) → is_some (durable y) ≡ true) where
+  told-by : (o : Option Durable) → is_some o ≡ true → (d : Durable) × (o ≡ Some d)
+  told-by None is = let no : ⊥ = cc in absurd no
+  told-by (Some d) is = (d, refl)
 
-module _ {S C : Type 0} (durable : S → Option Durable) (state : S → State) (may : S → Durable → Type 0) (s : Script) (j : Job) (old mid : List (Option (S × C))) (cs : List ClientNow) (xs : List (TargetOf S C))
-    (F : IsRunnable j.targets s) (some : 1 ≤ j.targets) (few : j.targets ≤ 64) (least : 1 ≤ j.attempts) (K : AreFirst s j.attempts (record { 0 = 255 }) cs)
-    (before : AreSet j.targets old) (between : AreSet j.targets mid) (D : FromTo old mid (λ t a b. HasNoFuse durable state may a b)) (A : AreStarted durable state s j j.targets mid xs) where
-  -- a target that started over what was in its place
-  record IsOver (t : ℕ) (x : TargetOf S C) : Type 0 where
+  one-kept : S → Durable
+  one-kept y = (told-by (durable y) (all y)).0
+
+  pub all-kept : (ys : List S) → (B : List Durable) × AreKept durable ys B
+  unfolding told-by one-kept
+  all-kept ys = (
+    map one-kept ys,
+    record {
+      many = length-map one-kept ys;
+      each = λ t y d at bt.
+          let k = from-map one-kept ys t d bt in
+          let same : k.of_it ≡ y = one-there ys t k.of_it y k.at at in
+          ap durable (sym same) ∙ (told-by (durable k.of_it) (all k.of_it)).1 ∙ ap (λ z. Some z) (sym k.is);
+    },
+  )
+
+-- where stores keep this, the first tells it
+pub told-first : {S C : Type 0} (durable : S → Option Durable) (targets : ℕ) (slots : List (Option (S × C))) → AreSet targets slots → 1 ≤ targets → (B : List Durable) → AreKept durable (stores_in slots) B → (x : S) × (is_some (durable x) ≡ true)
+told-first durable targets slots set some B k =
+    let x = set.each 0 (omega (arith, some)) in
+    let b = at-within B 0 (subst (λ n. 0 < n) (sym (k.many ∙ stores-many targets slots set)) (omega (arith, some))) in
+    (x.0.0, ap is_some (k.each 0 x.0.0 b.0 (store-at targets slots set 0 x.0 x.1) b.1))
+
+-- an opening of stores of which nothing is told
+abbrev untold : ℕ → Opening
+untold lease = record { stand = empty_stand; lease = lease; free = λ t. 0 }
+
+module _ {S C : Type 0} (durable : S → Option Durable) (state : S → State) (may : S → Durable → Type 0) (s : Script) (j : Job) (old mid opened : List (Option (S × C))) (F : IsRunnable j.targets s)
+    (some : 1 ≤ j.targets) (few : j.targets ≤ 64) (least : 1 ≤ j.attempts) (before : AreSet j.targets old) (between : AreSet j.targets mid) (D : FromTo old mid (λ t a b. HasNoFuse durable state may a b))
+    (R : EachStore (λ t store. MayRun durable state j.targets store) old) (tracker : Epoch) (P : ArePartsCalled durable state j.targets (Ok tracker) mid opened)
+    (O : (B : List Durable) → AreKept durable (stores_in mid) B → AreOpened durable state s B (stores_in opened) tracker) where
+  -- the store that was in a place before it was opened
+  record WasThere (t : ℕ) (z : S × C) : Type 0 where
     pub pair : S × C
     pub at : IsAt old t pair
-    pub called : IsCalled durable state pair.0 x.store
-    pub started : IsStarted durable state s j.targets j.epsilon t x
+    pub opened_from : IsOpenedFrom durable state pair.0 z.0
+    pub running : (state z.0).stopped ≡ false
+    pub made : j.targets ≤ (state z.0).targets
 
-  over : (t : ℕ) (x : TargetOf S C) → slice_get xs t ≡ Some x → IsOver t x
-  over t x at =
-      let low : t < j.targets = subst (λ n. t < n) A.many (slice_get_within xs t x at) in
-      let p = before.each t low in
-      let m = between.each t low in
-      let fuse = D t p.0 m.0 p.1 m.1 in
-      let k = A.each t x m.0 at m.1 in
+  was-there : (t : ℕ) (z : S × C) → IsAt opened t z → WasThere t z
+  was-there t z at =
+      let low = at-low j.targets opened P.set t z at in
+      let x = before.each t low in
+      let y = between.each t low in
+      let f = D t x.0 y.0 x.1 y.1 in
+      let r = P.runs t y.0 z y.1 at in
+      let same = unfused-free durable state may x.0.0 y.0.0 f in
+      let more = P.free t y.0 z y.1 at in
       record {
-        pair = p.0;
-        at = p.1;
-        called = record {
-          served = served-on (state p.0.0) (state m.0.0) (state x.store) (durable p.0.0) (durable m.0.0) (durable x.store) (unfused-served durable state may p.0.0 m.0.0 fuse)
-              (served-by-runs always_stop (Ok (tt {0})) (state m.0.0) (state x.store) (durable m.0.0) (durable x.store) k.runs);
-          free = k.free ∙ unfused-free durable state may p.0.0 m.0.0 fuse;
+        pair = x.0;
+        at = x.1;
+        opened_from = record {
+          served = served-on (state x.0.0) (state y.0.0) (state z.0) (durable x.0.0) (durable y.0.0) (durable z.0) (unfused-served durable state may x.0.0 y.0.0 f)
+              (served-by-runs (is_fault_of t) (Ok tracker) (state y.0.0) (state z.0) (durable y.0.0) (durable z.0) r);
+          free = omega (arith, same, more);
+          still = λ d told none. P.still t y.0 z y.1 at d (f.kept ∙ told) none ∙ same;
         };
-        started = k.started;
+        running = r.stops;
+        made = subst (λ n. j.targets ≤ n) (sym r.targets) (unfused-may_run durable state may x.0.0 y.0.0 f j.targets (R t x.0 x.1)).made;
       }
 
-  -- they have started as those of a run of the script, with so many blocks free on each
-  pub all-started : (free : ℕ → ℕ) → AreFree state old free → HaveStarted durable state (given s j free) cs xs
-  all-started free room = have-started durable state s j cs xs F K A.many (λ t x at. (over t x at).started) free some few least (λ t x at.
-      let k = over t x at in
-      let low : free t ≤ (state k.pair.0).free = room t k.pair k.at in
-      subst (λ n. free t ≤ n) (sym k.called.free) low)
+  -- ---- what they keep
 
-  pub all-tell : AllTell durable (stores_in old) → AllTell durable (stores_of xs)
-  all-tell all t y at =
-      let x = from-map (λ z. z.store) xs t y at in
-      let k = over t x.of_it x.at in
-      ap (λ z. is_some (durable z)) x.is ∙ k.called.served.told ∙ all t k.pair.0 (store-at j.targets old before t k.pair k.at)
+  module _ (B : List Durable) (k : AreKept durable (stores_in mid) B) where
+    many-kept : length B ≡ j.targets
+    many-kept = k.many ∙ stores-many j.targets mid between
 
-  module _ (slots new : List (Option (S × C))) (ys : List (TargetOf S C)) (after : AreSet j.targets new) (many : length ys ≡ length xs) (B : AreBack ys slots new) where
-    -- what the targets come to is what the stores in their places come to
-    pub come-to : (free : ℕ → ℕ) (q : Report) → ComesTo durable state may (given s j free) (stores_of xs) (stores_of ys) q → ComesTo durable state may (given s j free) (stores_in old) (stores_in new) q
-    come-to free q k =
-        come-from-before durable state may s j free (stores_in old) (stores_of xs) (stores_in new) q
-        (λ t y at.
-        let x = from-map (λ z. z.store) xs t y at in
-        let o = over t x.of_it x.at in
-        (o.pair.0, store-at j.targets old before t o.pair o.at, subst (IsCalled durable state o.pair.0) (sym x.is) o.called))
-        (subst (λ l. ComesTo durable state may (given s j free) (stores_of xs) l q) (stores-back j.targets ys slots new after (many ∙ A.many) B) k)
+    -- what a store keeps that was opened
+    begun-at : (t : ℕ) (z : S × C) → IsAt opened t z → (d : Durable) × (slice_get (begun_family s B) t ≡ Some d) × (durable z.0 ≡ Some d)
+    begun-at t z at =
+        let a = O B k in
+        let f = at-within (begun_family s B) t (subst (λ n. t < n) (sym (a.kept.many ∙ stores-many j.targets opened P.set)) (at-low j.targets opened P.set t z at)) in
+        (f.0, f.1, a.kept.each t z.0 f.0 (store-at j.targets opened P.set t z at) f.1)
+
+    begins-at : (t : ℕ) (z : S × C) (d : Durable) → IsAt opened t z → durable z.0 ≡ Some d → BeginsAs s B t d
+    begins-at t z d at told =
+        let f = begun-at t z at in
+        let same : f.0 ≡ d = let e : Some f.0 ≡ Some d = sym f.2 ∙ told in cc in
+        subst (BeginsAs s B t) same ((O B k).each t f.0 f.1)
+
+  pub can-start : AreAlike durable → HaveStores (λ t store. CanStart durable state j.targets store) j.targets opened
+  can-start alike = record {
+    set = P.set;
+    each = λ t z at.
+        let w = was-there t z at in
+        record {
+          running = w.running;
+          made = w.made;
+          heard = λ d told.
+              let B = all-kept durable (λ y. alike z.0 y (ap is_some told)) (stores_in mid) in
+              is-heard (length B.0) t (opening_of s B.0 (λ u. 0)) d ((begins-at B.0 B.1 t z d at told).opens (λ u. 0));
+          bare = λ d told.
+              let B = all-kept durable (λ y. alike z.0 y (ap is_some told)) (stores_in mid) in
+              ((begins-at B.0 B.1 t z d at told).opens (λ u. 0)).entries;
+        };
+  }
+
+  -- ---- clients and targets
+
+  module _ (cs : List ClientNow) (xs : List (TargetOf S C)) (K : AreFirst s j.attempts tracker cs) (A : AreStarted durable j j.targets opened xs) where
+    -- the store over which a target started
+    over : (t : ℕ) (x : TargetOf S C) → slice_get xs t ≡ Some x → (z : S × C) × IsAt opened t z × StartsOver durable j t z x
+    over t x at =
+        let z = P.set.each t (subst (λ n. t < n) A.many (slice_get_within xs t x at)) in
+        (z.0, z.1, A.each t x z.0 at z.1)
+
+    their-stores : stores_of xs ≡ stores_in opened
+    their-stores = same-lists (stores_of xs) (stores_in opened) (length-map (λ x. x.store) xs ∙ A.many ∙ sym (stores-many j.targets opened P.set))
+        (λ t a b at to.
+        let x = from-map (λ y. y.store) xs t a at in
+        let z = over t x.of_it x.at in
+        x.is ∙ z.2.store ∙ one-there (stores_in opened) t z.0.0 b (store-at j.targets opened P.set t z.0 z.1) to)
+
+    module _ (B : List Durable) (k : AreKept durable (stores_in old) B) where
+      now-kept : AreKept durable (stores_in mid) B
+      now-kept = kept-from durable state may j.targets old mid before between D B k
+
+      seldom-kept : (t : ℕ) (b : Durable) → slice_get B t ≡ Some b → b.incarnation ≤ 2 ^ 63 + 1
+      seldom-kept t b bt =
+          let x = before.each t (subst (λ n. t < n) (many-kept B now-kept) (slice_get_within B t b bt)) in
+          (R t x.0 x.1).seldom b (k.each t x.0.0 b (store-at j.targets old before t x.0 x.1) bt)
+
+      ready : (free : ℕ → ℕ) → AreFree state old free → (t : ℕ) (x : TargetOf S C) → slice_get xs t ≡ Some x → IsReady durable state s j (opening_of s B free) tracker cs xs F K (O B now-kept).tracker_is A.many t x
+      ready free room t x at =
+          let z = over t x at in
+          let w = was-there t z.0 z.1 in
+          record {
+            new = z.2.new;
+            running = subst (λ y. (state y).stopped ≡ false) (sym z.2.store) w.running;
+            kept = λ d told.
+                let begins = begins-at B now-kept t z.0 d z.1 (ap durable (sym z.2.store) ∙ told) in
+                let b = at-within B t (subst (λ n. t < n) (sym (many-kept B now-kept)) (at-low j.targets opened P.set t z.0 z.1)) in
+                let low = room t w.pair w.at in
+                let more = w.opened_from.free in
+                record {
+                  opens = subst (λ n. OpensWith n t (opening_of s B free) d) (many-kept B now-kept) (begins.opens free);
+                  enlisted = begins.enlisted;
+                  seldom = subst (λ n. n ≤ 2 ^ 63 + 1) (sym (begins.incarnation b.0 b.1)) (seldom-kept t b.0 b.1);
+                  room = subst (λ y. free t ≤ (state y).free) (sym z.2.store) (let le : free t ≤ (state z.0.0).free = omega (arith, low, more) in le);
+                  floor = subst (λ y. (state y).opening.0.0 ≤ restart_floor (greatest_lease B)) (sym z.2.store) ((O B now-kept).covered t z.0.0 (store-at j.targets opened P.set t z.0 z.1));
+                };
+          }
+
+      -- they have started as those of a run of the script over what was kept, with so many blocks free on each
+      pub started : (free : ℕ → ℕ) → AreFree state old free → HaveStarted durable state (given s j B free) cs xs
+      started free room = have-started durable state s j (opening_of s B free) tracker cs xs F K (O B now-kept).tracker_is A.many ((O B now-kept).plain free) some few least (ready free room)
+
+      pub all-tell : AllTell durable (stores_of xs)
+      all-tell t y at =
+          let x = from-map (λ z. z.store) xs t y at in
+          let z = over t x.of_it x.at in
+          ap (λ w. is_some (durable w)) (x.is ∙ z.2.store) ∙ ap is_some (begun-at B now-kept t z.0 z.1).2
+
+    -- whether or not they tell what they keep
+    module _ (alike : AreAlike durable) (lease : ℕ) (low : lease < 2 ^ 56) (is : tracker ≡ record { 0 = restart_floor lease }) where
+      started-untold : ((y : S) → is_some (durable y) ≡ true → ⊥) → HaveStarted durable state (given_by s j (untold lease)) cs xs
+      started-untold none =
+          have-started durable state s j (untold lease) tracker cs xs F K is A.many (record { unowned = λ c no. refl; no_snaps = refl; lease = low }) some few least
+          (λ t x at.
+          let z = over t x at in
+          let w = was-there t z.0 z.1 in
+          record {
+            new = z.2.new;
+            running = subst (λ y. (state y).stopped ≡ false) (sym z.2.store) w.running;
+            kept = λ d told. absurd (none x.store (ap is_some told));
+          })
+
+      pub may-start : (o : Opening) × HaveStarted durable state (given_by s j o) cs xs
+      may-start =
+          let first = before.each 0 (omega (arith, some)) in
+          by first.0.0 (is_some (durable first.0.0)) refl
+        where
+          by : (y : S) (b : Bool) → is_some (durable y) ≡ b → (o : Opening) × HaveStarted durable state (given_by s j o) cs xs
+          by y true told =
+              let B = all-kept durable (λ z. alike y z told) (stores_in old) in
+              (opening_of s B.0 (λ t. 0), started B.0 B.1 (λ t. 0) (λ t x at. omega arith))
+          by y false not = (untold lease, started-untold (λ z told. true≢false (sym (alike z y told) ∙ not)))
+
+    -- ---- what it comes to
+
+    module _ (slots new : List (Option (S × C))) (ys : List (TargetOf S C)) (after : AreSet j.targets new) (many : length ys ≡ length xs) (B : AreBack ys slots new) where
+      opened-from : ListsFromTo (stores_in old) (stores_in opened) (λ t x z. IsOpenedFrom durable state x z)
+      opened-from t x z at to =
+          let p = in-place j.targets old before t x at in
+          let r = in-place j.targets opened P.set t z to in
+          let w = was-there t r.pair r.at in
+          let same : w.pair ≡ p.pair = same-pair old t w.pair p.pair w.at p.at in
+          subst (λ y. IsOpenedFrom durable state y z) (sym p.is) (subst (λ y. IsOpenedFrom durable state p.pair.0 y) (sym r.is) (subst (λ q. IsOpenedFrom durable state q.0 r.pair.0) same w.opened_from))
+
+      since : (o : Outside) → IsOutside state o (stores_in old) (stores_in new) → IsOutside state o (stores_in opened) (stores_in new)
+      since o fits = record {
+        counts = λ t z v k at to says.
+            let r = in-place j.targets opened P.set t z at in
+            let x = before.each t (at-low j.targets opened P.set t r.pair r.at) in
+            let there = store-at j.targets old before t x.0 x.1 in
+            let from = opened-from t x.0.0 z there at in
+            let c = fits.counts t x.0.0 v k there to says in
+            let more = from.served.faults in
+            let most = c.2 in
+            (from.served.tells_fuse ∙ c.0, c.1, omega (arith, more, most));
+      }
+
+      pub come-from : (L : List Durable) (free : ℕ → ℕ) (q : Report) → ComesTo durable state may (given s j L free) (stores_of xs) (stores_of ys) q → ComesFrom durable state may (given s j L free) (stores_in old) (stores_in new) q
+      come-from L free q c = record {
+        opened = stores_in opened;
+        many = stores-many j.targets opened P.set ∙ sym (stores-many j.targets old before);
+        each = opened-from;
+        since = since;
+        comes = subst (λ l. ComesTo durable state may (given s j L free) (stores_in opened) l q) (stores-back j.targets ys slots new after (many ∙ A.many) B) (subst (λ l. ComesTo durable state may (given s j L free) l (stores_of ys) q) their-stores c);
+      }

@@ -3,4 +3,5 @@ pub mod Slots
 pub mod Opens
 pub mod Starts
 pub mod Stops
+pub mod Comes
 pub mod Alone

@@ -85,3 +85,19 @@ pub record AreBack {S C : Type 0} (xs : List (TargetOf S C)) (old slots : List (
   pub many : length slots ≡ length old
   pub back : (t : ℕ) (x : TargetOf S C) → slice_get xs t ≡ Some x → IsAt slots t (x.store, x.clock)
   pub left : (t : ℕ) → length xs ≤ t → slice_get slots t ≡ slice_get old t
+
+-- the stores and the clocks of so many targets, in the order of their numbers
+pub record AreApart {S C : Type 0} (targets : ℕ) (slots : List (Option (S × C))) (stores : List S) (clocks : List C) : Type 0 where
+  pub many_stores : length stores ≡ targets
+  pub many_clocks : length clocks ≡ targets
+  pub each : (t : ℕ) (x : S × C) → IsAt slots t x → (slice_get stores t ≡ Some x.0) × (slice_get clocks t ≡ Some x.1)
+
+-- stores and clocks are in their places again
+pub record AreSetBack {S C : Type 0} (stores : List S) (clocks : List C) (old slots : List (Option (S × C))) : Type 0 where
+  pub many : length slots ≡ length old
+  pub back : (t : ℕ) (store : S) (clock : C) → slice_get stores t ≡ Some store → slice_get clocks t ≡ Some clock → IsAt slots t (store, clock)
+
+-- all stores and clocks are in their places, as they were
+pub record AreAsBefore {S C : Type 0} (targets : ℕ) (old new : List (Option (S × C))) : Type 0 where
+  pub set : AreSet targets new
+  pub same : (t : ℕ) (x : S × C) → IsAt old t x → IsAt new t x

@@ -1,28 +1,24 @@
 -- The targets of a run before their first turns.
 use Rattle.std.specs.Prelude.{ℕ, ◌≡◌, ◌*◌, ◌-◌, List, length, slice_get, Option, Some}
 use Rattle.base_types.specs.declared.job.Job.{Job}
-use Rattle.base_types.specs.declared.script.Script.{Script}
 use Rattle.daos_model.specs.declared.durable.Durable.{Durable}
 use Rattle.daos_model.specs.Durables.{empty_durable}
-use Rattle.daos_run.specs.Opens.{IsStarted}
+use Rattle.daos_run.specs.Opens.{IsNew}
 use Rattle.daos_run.specs.Slots.{IsAt}
 use Rattle.target_core.specs.Targets.{TargetOf}
-use Rattle.target_parts.specs.Parts.{StillRuns}
 use Rattle.vos_plain.specs.Plain.{new_state, plain_durable, plain_state}
 use Rattle.vos_plain.specs.declared.store.PlainStore.{PlainStore}
-use Rattle.vos_store.specs.Calls.{State}
 
--- a target started over this store, of which it took no block and which still runs, with this clock
-pub record StartsOver {S C : Type 0} (durable : S → Option Durable) (state : S → State) (s : Script) (j : Job) (t : ℕ) (pair : S × C) (x : TargetOf S C) : Type 0 where
-  pub started : IsStarted durable state s j.targets j.epsilon t x
-  pub runs : StillRuns (state pair.0) (state x.store) (durable pair.0) (durable x.store)
-  pub free : (state x.store).free ≡ (state pair.0).free
+-- a target started over this store, with this clock
+pub record StartsOver {S C : Type 0} (durable : S → Option Durable) (j : Job) (t : ℕ) (pair : S × C) (x : TargetOf S C) : Type 0 where
+  pub new : IsNew durable j.targets j.epsilon t x
+  pub store : x.store ≡ pair.0
   pub clock : x.clock ≡ pair.1
 
 -- so many targets started over the stores in their places, with the clocks there
-pub record AreStarted {S C : Type 0} (durable : S → Option Durable) (state : S → State) (s : Script) (j : Job) (n : ℕ) (slots : List (Option (S × C))) (xs : List (TargetOf S C)) : Type 0 where
+pub record AreStarted {S C : Type 0} (durable : S → Option Durable) (j : Job) (n : ℕ) (slots : List (Option (S × C))) (xs : List (TargetOf S C)) : Type 0 where
   pub many : length xs ≡ n
-  pub each : (t : ℕ) (x : TargetOf S C) (pair : S × C) → slice_get xs t ≡ Some x → IsAt slots t pair → StartsOver durable state s j t pair x
+  pub each : (t : ℕ) (x : TargetOf S C) (pair : S × C) → slice_get xs t ≡ Some x → IsAt slots t pair → StartsOver durable j t pair x
 
 -- an empty store in memory, of so many MiB
 pub record IsNewStore (size_mib : ℕ) (store : PlainStore) : Type 0 where

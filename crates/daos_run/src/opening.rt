@@ -1,72 +1,72 @@
-// A run begins: each store gets the script's containers, and the clients are made.
-ghost use Rattle.std.specs.Prelude.{◌≡◌, ◌≤◌, ◌<◌, ℕ, length, is_some, true, IfErr, IfOk, OnOk};
+// A run begins: the stores of all targets are opened for its script, and the clients are made.
+ghost use Rattle.std.specs.Prelude.{◌≡◌, ◌≤◌, ◌<◌, ◌^◌, ℕ, List, false, IfErr, IfOk};
+ghost use Rattle.base_types.specs.Epochs.{restart_floor};
 ghost use Rattle.base_types.specs.Scripts.{IsInForm};
-ghost use Rattle.daos_run.specs.Opens.{AreFirst, IsEmpty, IsOpened};
-ghost use Rattle.daos_run.specs.Stops.{MayStop, enlist_stopped, is_fault_of};
-ghost use Rattle.target_parts.specs.Parts.{Runs};
+ghost use Rattle.daos_model.specs.declared.durable.Durable.{Durable};
+ghost use Rattle.daos_run.specs.Opens.{AreFirst};
+ghost use Rattle.daos_run.specs.Slots.{AreSet, EachStore, stores_in};
+ghost use Rattle.daos_run.specs.Stops.{ArePartsCalled, MayStop, stopped_by};
+ghost use Rattle.run_opening.specs.All.{AreKept};
+ghost use Rattle.run_starts.specs.Starts.{AreOpened, CanOpen};
 ghost use Rattle.world_whole.specs.Begins.{declared_conts};
 
+use crate::apart::{set_back, take_all};
+use crate::parts::Parts;
 use crate::stop::{Part, RunStop};
-use base_types::epoch::{Epoch, TargetId};
-use base_types::id::ContId;
+use base_outside::clock::Clock;
+use base_types::epoch::Epoch;
 use base_types::items::{Items, Memory};
 use base_types::script::Script;
 use client_core::client::Client;
+use run_starts::opening::open_stores;
+use run_starts::stop::StartStop;
 use std::alloc::Global;
-use vos_store::refusal::EnlistNo;
 use vos_store::store::Store;
 
-// The containers that a script declares.
-fn conts_of(alloc: Global, script: &Script) -> Result<Vec<ContId>, Memory>
-    ensures { IfOk result (λ conts. conts.items ≡ declared_conts script.now) }
+// Why a run gives no report whose stores aren't opened.
+fn stop_of(stop: StartStop) -> RunStop
+    ensures { result ≡ stopped_by stop }
 {
-    let mut conts = Vec::with_capacity(alloc, script.conts.len())?;
-    for cont in script.conts.as_slice() {
-        conts.push(cont.id)?;
-    }
-    Ok(conts)
-}
-
-// Why containers aren't added to the store of a target.
-fn enlist_stop(target: TargetId, no: EnlistNo) -> RunStop
-    ensures { result ≡ enlist_stopped target no }
-{
-    match no {
-        EnlistNo::TooMany { together } => RunStop::Shape {
+    match stop {
+        StartStop::TooMany { target, together } => RunStop::Shape {
             target,
             what: Part::Containers,
             found: u64::from(together),
             asked: 256,
         },
-        EnlistNo::Stopped => RunStop::RackFault { target },
-        EnlistNo::Memory => RunStop::Memory,
+        StartStop::Stopped(target) => RunStop::RackFault { target },
+        StartStop::Memory => RunStop::Memory,
     }
 }
 
-/// Opens the empty store of a target for a run of a script: its containers are added.
+/// The stores of all targets are opened for a run of a script; each is in its place again, with its clock,
+/// at every ending. The epoch is the greatest that a lease of theirs covers.
 ///
 /// # Errors
 ///
-/// `RackFault` where the store stopped; `Shape` where it has no place for the containers; and `Memory`.
-pub fn open<S: Store>(
+/// `RackFault` where a store stopped; `Shape` where it has no place for the containers; and `Memory`.
+pub fn open_parts<S: Store, C: Clock>(
     alloc: Global,
     script: &Script,
-    target: TargetId,
-    store: &mut S,
-) -> Result<(), RunStop>
-    requires few { length script.now.conts ≤ 256 }
-    requires one { target < script.now.targets }
-    requires empty { IsEmpty S.durable S.state script.now.targets store.old }
-    ensures opened { OnOk result (IsOpened S.durable S.state script.now.targets script.now store.new) }
-    ensures free { (S.state store.new).free ≡ (S.state store.old).free }
-    ensures runs { Runs (is_fault_of target) result (S.state store.old) (S.state store.new) (S.durable store.old) (S.durable store.new) }
-    ensures refusals { IfErr result (MayStop (is_some (S.durable store.old)) script.now.targets) }
-    ensures own { (t : ℕ) → IfErr result (λ stop. is_fault_of t stop ≡ true → t ≡ target) }
+    parts: &mut Parts<S, C>,
+    targets: u8,
+) -> Result<Epoch, RunStop>
+    requires some { 1 ≤ targets }
+    requires few { targets ≤ 64 }
+    requires set { AreSet targets parts.old }
+    requires running { EachStore (λ t store. (S.state store).stopped ≡ false) parts.old }
+    requires sound { (B : List Durable) → AreKept S.durable (stores_in parts.old) B → CanOpen script.now B }
+    ensures calls { ArePartsCalled S.durable S.state targets result parts.old parts.new }
+    ensures refusals { IfErr result (MayStop S.durable (declared_conts script.now) targets (stores_in parts.old)) }
+    ensures bounded { IfOk result (λ tracker. (lease : ℕ) × (lease < 2 ^ 56) × (tracker ≡ record { 0 = restart_floor lease })) }
+    ensures opened { (B : List Durable) → AreKept S.durable (stores_in parts.old) B → IfOk result (AreOpened S.durable S.state script.now B (stores_in parts.new)) }
 {
-    let conts = conts_of(alloc, script)?;
-    match store.enlist(&conts) {
-        Ok(()) => Ok(()),
-        Err(no) => Err(enlist_stop(target, no)),
+    let (mut stores, clocks) = take_all(alloc, parts, targets)?;
+    let opened = open_stores(alloc, script, &mut stores);
+    set_back(parts, stores, clocks);
+    match opened {
+        Ok(tracker) => Ok(tracker),
+        Err(stop) => Err(stop_of(stop)),
     }
 }
 

@@ -1,5 +1,5 @@
 -- The attempts of one target are settled, one after another.
-use Rattle.std.specs.Prelude.{ℕ, zero, suc, ◌≡◌, ◌≤◌, ◌<◌, ◌+◌, Bool, true, false, List, [], ◌∷◌, ◌++◌, length, take, drop, slice_get, slice_index_or, Some, if◌then◌else◌}
+use Rattle.std.specs.Prelude.{find, ℕ, zero, suc, ◌≡◌, ◌≤◌, ◌<◌, ◌+◌, Bool, true, false, List, [], ◌∷◌, ◌++◌, length, take, drop, slice_get, slice_index_or, Some, if◌then◌else◌}
 use Rattle.std.proofs.Common.{refl, sym, ◌∙◌, ap, subst, inl, inr, arith}
 use Rattle.std.proofs.lemmas.List.{take_all, take_more}
 use Rattle.base_types.specs.declared.entry.Entry.{Entry}
@@ -12,7 +12,7 @@ use Rattle.daos_model.specs.declared.durable.Durable.{Durable}
 use Rattle.daos_model.specs.Answers.{is_before}
 use Rattle.daos_model.specs.BoolLaws.{and_left, and_right}
 use Rattle.daos_model.specs.Changes.{settled}
-use Rattle.daos_model.specs.Durables.{attempt_key, entry_key, entry_of}
+use Rattle.daos_model.specs.Durables.{is_entry_of, attempt_key, entry_key, entry_of}
 use Rattle.daos_model.specs.OrderLaws.{before-itself}
 use Rattle.daos_model.specs.Ordered.{all_after, is_rising}
 use Rattle.dtx_base.specs.Leading.{entry_attempt}
@@ -49,6 +49,11 @@ ended-next r (z ∷ es) e d = ended-next r es e (ended_at r z d)
 pub can-end : (b : Bool) (e : Entry) (d : Durable) → entry_of d e.attempt ≡ Some e → e.committed ≡ false → CanSettle e.attempt (ending b) d
 can-end true e d here open' = record { entry = e; here = here; fits = open' }
 can-end false e d here open' = record { entry = e; here = here; fits = open' }
+
+-- where no entries are kept none is here
+pub none-here : (d : Durable) (x : AttemptId) (e : Entry) → d.entries ≡ [] → entry_of d x ≡ Some e → ⊥
+unfolding entry_of
+none-here d x e none is = let bad : find (is_entry_of x) [] ≡ Some e = ap (find (is_entry_of x)) (sym none) ∙ is in let no : ⊥ = cc in no
 
 pub is-step : (b : Bool) → IsStep (ending b)
 is-step true = tt

@@ -1,14 +1,14 @@
 -- Calls of one store, one after another.
-use Rattle.std.specs.Prelude.{◌≡◌, Bool, false, Option, Some, None, Result, Ok, Err, OnOk}
+use Rattle.std.specs.Prelude.{◌≡◌, Bool, false, [], Option, Some, None, Result, Ok, Err, OnOk}
 use Rattle.std.specs.Option.{option_map}
-use Rattle.std.proofs.Common.{refl, ◌∙◌, ap, arith}
+use Rattle.std.proofs.Common.{refl, ◌∙◌, ap, subst, arith}
 use Rattle.daos_model.specs.declared.durable.Durable.{Durable}
 use Rattle.vos_store.specs.Calls.{Looks, Makes, State, Turns}
 use Rattle.vos_store.specs.Refusals.{says}
 use Rattle.target_parts.specs.Running.{runs_as, runs_call, runs_first, runs_on, still_runs}
 use Rattle.run_opening.specs.Steps.{Goes, same}
 
-on-ok : {T E : Type 0} {P Q : Type 0} (result : Result T E) → (P → Q) → OnOk result P → OnOk result Q
+pub on-ok : {T E : Type 0} {P Q : Type 0} (result : Result T E) → (P → Q) → OnOk result P → OnOk result Q
 on-ok (Ok x) f p = f p
 on-ok (Err e) f p = tt
 
@@ -30,6 +30,7 @@ goes-first stop x h old running = record {
   runs = runs_as _ _ stop (Ok x) h h old old refl (runs_first h old running);
   free = omega arith;
   made = map-itself old;
+  still = λ d is none. (refl, none);
 }
 
 -- a further call
@@ -39,12 +40,18 @@ goes-on stop x c other result f h m k old mid new a b = record {
   runs = runs_on other result h m k old mid new (still_runs stop (Ok x) h m old mid refl a.runs) b.runs;
   free = (let p = a.free in let q = b.free in omega arith);
   made = on-ok result (λ is. is ∙ ap (option_map f) a.made ∙ map-twice f c old) b.made;
+  still = on-ok result (λ more d is none. (let p = a.still d is none in let q = more (c d) (a.made ∙ ap (option_map c) is) p.1 in (q.0 ∙ p.0, q.1))) b.still;
 }
 
 -- the same change, said in another way of what is kept
 pub goes-as : {T E : Type 0} (stop : E → Bool) (result : Result T E) (c f : Durable → Durable) (h k : State) (old new : Option Durable) → ((d : Durable) → old ≡ Some d → c d ≡ f d)
     → Goes stop c result h k old new → Goes stop f result h k old new
-goes-as stop result c f h k old new is a = record { runs = a.runs; free = a.free; made = on-ok result (λ e. e ∙ by old is) a.made }
+goes-as stop result c f h k old new is a = record {
+  runs = a.runs;
+  free = a.free;
+  made = on-ok result (λ e. e ∙ by old is) a.made;
+  still = on-ok result (λ s d at none. (let p = s d at none in (p.0, subst (λ z. z.entries ≡ []) (is d at) p.1))) a.still;
+}
   where
     by : (o : Option Durable) → ((d : Durable) → o ≡ Some d → c d ≡ f d) → option_map c o ≡ option_map f o
     by None is = refl
@@ -52,25 +59,27 @@ goes-as stop result c f h k old new is a = record { runs = a.runs; free = a.free
 
 -- a result that says the same
 pub goes-so : {T E U F : Type 0} (stop : E → Bool) (result : Result T E) (other : F → Bool) (said : Result U F) (c : Durable → Durable) (h k : State) (old new : Option Durable)
-    → says other said ≡ says stop result → (OnOk result (new ≡ option_map c old) → OnOk said (new ≡ option_map c old)) → Goes stop c result h k old new → Goes other c said h k old new
-goes-so stop result other said c h k old new same ok a = record { runs = runs_as stop result other said h k old new same a.runs; free = a.free; made = ok a.made }
+    → says other said ≡ says stop result → ((P : Type 0) → OnOk result P → OnOk said P) → Goes stop c result h k old new → Goes other c said h k old new
+goes-so stop result other said c h k old new same ok a = record { runs = runs_as stop result other said h k old new same a.runs; free = a.free; made = ok _ a.made; still = ok _ a.still }
 
 -- one call that makes a change at no cost
 pub goes-call : {T E : Type 0} (stop : E → Bool) (result : Result T E) (c : Durable → Durable) (h k : State) (old new : Option Durable) (may may' : Durable → Type 0) → h.stopped ≡ false
-    → Turns 0 stop result h k → Makes h.stopped stop c result old new may may' → Goes stop c result h k old new
-goes-call stop result c h k old new may may' running t m = record {
+    → Turns 0 stop result h k → Makes h.stopped stop c result old new may may' → ((d : Durable) → old ≡ Some d → d.entries ≡ [] → (k.free ≡ h.free) × ((c d).entries ≡ [])) → Goes stop c result h k old new
+goes-call stop result c h k old new may may' running t m still = record {
   runs = runs_call 0 stop result h k old new running t m.told;
   free = (let p = t.free in omega arith);
   made = m.done;
+  still = on-any result still;
 }
 
 -- and one that changes nothing
 pub goes-look : {T E : Type 0} (stop : E → Bool) (result : Result T E) (h k : State) (old new : Option Durable) (may may' : Durable → Type 0) → h.stopped ≡ false
-    → Turns 0 stop result h k → Looks (says stop result) old new may may' → Goes stop same result h k old new
-goes-look {T = T} {E = E} stop result h k old new may may' running t m = record {
+    → Turns 0 stop result h k → k.free ≡ h.free → Looks (says stop result) old new may may' → Goes stop same result h k old new
+goes-look {T = T} {E = E} stop result h k old new may may' running t free m = record {
   runs = runs_call 0 stop result h k old new running t m.told;
   free = (let p = t.free in omega arith);
   made = by result m.same;
+  still = on-any result (λ d is none. (free, none));
 }
   where
     by : (result : Result T E) → (says stop result ≡ false → new ≡ old) → OnOk result (new ≡ option_map same old)

@@ -2,6 +2,8 @@
 use Rattle.std.specs.Prelude.{ℕ, ◌≡◌, ◌≤◌, ◌<◌, ◌+◌, ◌==◌, not, Bool, true, false, List, [], ◌∷◌, ◌++◌, filter, length, take, slice_index_or}
 use Rattle.std.proofs.Common.{refl, sym, ◌∙◌, ap, subst, inl, inr}
 use Rattle.std.proofs.lemmas.List.{take_all, take_more}
+use Rattle.base_types.specs.declared.epoch.Epoch.{Epoch}
+use Rattle.base_types.specs.declared.id.ContId.{ContId}
 use Rattle.base_types.specs.declared.snapshot.Snap.{Snap}
 use Rattle.model_laws.specs.Lists.{has-at}
 use Rattle.model_laws.specs.Members.{Has, any-has, has-any, has-filter, has-from_filter}
@@ -27,6 +29,11 @@ same-key x z at =
     let cont : x.cont.0 ≡ z.cont.0 = number_same x.cont.0 z.cont.0 (and_left (x.cont.0 == z.cont.0) (x.epoch.0 == z.epoch.0) at) in
     let epoch : x.epoch.0 ≡ z.epoch.0 = number_same x.epoch.0 z.epoch.0 (and_right (x.cont.0 == z.cont.0) (x.epoch.0 == z.epoch.0) at) in
     ap (λ n. n ∷ x.epoch.0 ∷ []) cont ∙ ap (λ n. z.cont.0 ∷ n ∷ []) epoch
+
+-- entries stay
+pub thawed-entries : (cont : ContId) (epoch : Epoch) (d : Durable) → (thawed cont epoch d).entries ≡ d.entries
+unfolding thawed
+thawed-entries cont epoch d = refl
 
 -- another snapshot stays frozen where one is thawed
 other-frozen : (z x : Snap) (d : Durable) → (snap_key x ≡ snap_key z → ⊥) → is_frozen d x.cont x.epoch ≡ true → is_frozen (thawed z.cont z.epoch d) x.cont x.epoch ≡ true

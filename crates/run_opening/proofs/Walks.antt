@@ -24,7 +24,7 @@ use Rattle.run_opening.specs.All.{AllRun, AreEntries, EachCommitted, GoesAll, Go
 use Rattle.run_opening.specs.Steps.{AllCommitted, Goes, ended, same}
 use Rattle.run_opening.proofs.Direct.{ended-committed}
 use Rattle.run_opening.proofs.Ending.{at-read}
-use Rattle.run_opening.proofs.Going.{goes-as, goes-first, goes-on, goes-so, on-any, was}
+use Rattle.run_opening.proofs.Going.{goes-as, goes-first, goes-on, goes-so, on-any, on-ok, was}
 
 -- ---- lists
 
@@ -64,7 +64,7 @@ module _ {S : Type 0} (durable : S → Option Durable) (state : S → State) (st
     store = store;
     set = refl;
     goes = its-own (λ s. Goes (is_fault_of t) change (Ok y) (state s) (state store) (durable s) (durable store))
-        (goes-so halts (Ok x) (is_fault_of t) (Ok y) change (state (slice_index_or stores t z)) (state store) (durable (slice_index_or stores t z)) (durable store) refl (λ made. made) k);
+        (goes-so halts (Ok x) (is_fault_of t) (Ok y) change (state (slice_index_or stores t z)) (state store) (durable (slice_index_or stores t z)) (durable store) refl (λ P made. made) k);
     own = λ u. tt;
   }
 
@@ -75,7 +75,7 @@ module _ {S : Type 0} (durable : S → Option Durable) (state : S → State) (st
     store = store;
     set = refl;
     goes = its-own (λ s. Goes {T = U} (is_fault_of t) change (Err (stop_at t cause)) (state s) (state store) (durable s) (durable store))
-        (goes-so {T = T} {U = U} halt_stop (Err cause) (is_fault_of t) (Err (stop_at t cause)) change (state (slice_index_or stores t z)) (state store) (durable (slice_index_or stores t z)) (durable store) (stop-fault t cause) (λ made. tt) k);
+        (goes-so {T = T} {U = U} halt_stop (Err cause) (is_fault_of t) (Err (stop_at t cause)) change (state (slice_index_or stores t z)) (state store) (durable (slice_index_or stores t z)) (durable store) (stop-fault t cause) (λ P made. tt) k);
     own = λ u. stop-own t cause u;
   })
 
@@ -86,7 +86,7 @@ module _ {S : Type 0} (durable : S → Option Durable) (state : S → State) (st
     store = store;
     set = refl;
     goes = its-own (λ s. Goes {T = U} (is_fault_of t) change (Err (stop.Stopped t)) (state s) (state store) (durable s) (durable store))
-        (goes-so {T = T} {U = U} always_stop (Err cause) (is_fault_of t) (Err (stop.Stopped t)) change (state (slice_index_or stores t z)) (state store) (durable (slice_index_or stores t z)) (durable store) (same_number t) (λ made. tt) k);
+        (goes-so {T = T} {U = U} always_stop (Err cause) (is_fault_of t) (Err (stop.Stopped t)) change (state (slice_index_or stores t z)) (state store) (durable (slice_index_or stores t z)) (durable store) (same_number t) (λ P made. tt) k);
     own = λ u is. number_same u t is;
   }
 
@@ -133,7 +133,7 @@ unsaid t u (Err e) own apart = false_of (is_fault_of u e) (λ is. apart (own is)
 stays : {T : Type 0} (u : ℕ) (change : Durable → Durable) (result : Result T OpeningStop) (h : State) (old : Option Durable) → ((d : Durable) → d ≡ change d) → h.stopped ≡ false → says (is_fault_of u) result ≡ false → Goes (is_fault_of u) change result h h old old
 stays {T} u change result h old is running quiet =
     goes-as (is_fault_of u) result same change h h old old (λ d at. is d)
-    (goes-so always_stop (Ok (tt {0})) (is_fault_of u) result same h h old old quiet (on-any result) (goes-first always_stop (tt {0}) h old running))
+    (goes-so always_stop (Ok (tt {0})) (is_fault_of u) result same h h old old quiet (λ P. on-any result) (goes-first always_stop (tt {0}) h old running))
 
 module _ {S : Type 0} (durable : S → Option Durable) (state : S → State) where
   -- before any call
@@ -201,8 +201,8 @@ module _ {S : Type 0} (durable : S → Option Durable) (state : S → State) whe
   all-err {T} {U} c f why old new k = record {
     many = k.many;
     each = λ t x y at bt.
-        let g = goes-so {T = T} {U = U} (is_fault_of t) (Err why) (is_fault_of t) (Err why) (c t) (state x) (state y) (durable x) (durable y) refl (λ made. tt) (k.each t x y at bt) in
-        record { runs = g.runs; free = g.free; made = tt };
+        let g = goes-so {T = T} {U = U} (is_fault_of t) (Err why) (is_fault_of t) (Err why) (c t) (state x) (state y) (durable x) (durable y) refl (λ P made. tt) (k.each t x y at bt) in
+        record { runs = g.runs; free = g.free; made = tt; still = tt };
     own = k.own;
   }
 
@@ -211,8 +211,8 @@ module _ {S : Type 0} (durable : S → Option Durable) (state : S → State) whe
   all-wanting {T} {U} c f x why old new is k = subst (λ e. GoesAll {T = U} durable state f (Err e) old new) (sym is) (record {
     many = k.many;
     each = λ t a b at bt.
-        let g = goes-so {U = U} (is_fault_of t) (Ok x) (is_fault_of t) (Err wanting) (c t) (state a) (state b) (durable a) (durable b) refl (λ made. tt) (k.each t a b at bt) in
-        record { runs = g.runs; free = g.free; made = tt };
+        let g = goes-so {U = U} (is_fault_of t) (Ok x) (is_fault_of t) (Err wanting) (c t) (state a) (state b) (durable a) (durable b) refl (λ P made. tt) (k.each t a b at bt) in
+        record { runs = g.runs; free = g.free; made = tt; still = tt };
     own = λ t is'. let n : ⊥ = cc in absurd n;
   })
 
@@ -220,7 +220,7 @@ module _ {S : Type 0} (durable : S → Option Durable) (state : S → State) whe
   pub all-so : {T U : Type 0} (c : ℕ → Durable → Durable) (x : T) (y : U) (old new : List S) → GoesAll durable state c (Ok x) old new → GoesAll durable state c (Ok y) old new
   all-so c x y old new k = record {
     many = k.many;
-    each = λ t a b at bt. goes-so (is_fault_of t) (Ok x) (is_fault_of t) (Ok y) (c t) (state a) (state b) (durable a) (durable b) refl (λ made. made) (k.each t a b at bt);
+    each = λ t a b at bt. goes-so (is_fault_of t) (Ok x) (is_fault_of t) (Ok y) (c t) (state a) (state b) (durable a) (durable b) refl (λ P made. made) (k.each t a b at bt);
     own = λ t. tt;
   }
 
@@ -230,6 +230,7 @@ module _ {S : Type 0} (durable : S → Option Durable) (state : S → State) whe
     many = k.many;
     each = λ t x y at bt. (k.each t x y at bt).runs;
     free = λ t x y at bt. (k.each t x y at bt).free;
+    still = λ t x y at bt. on-ok result (λ s d is none. (s d is none).0) (k.each t x y at bt).still;
     own = k.own;
   }
 

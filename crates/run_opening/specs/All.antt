@@ -1,5 +1,5 @@
 -- Calls of the stores of all targets.
-use Rattle.std.specs.Prelude.{ℕ, ◌≡◌, ◌≤◌, ◌<◌, ◌==◌, Bool, true, false, List, filter, length, slice_get, slice_set, Option, Some, Result, OnOk, IfErr, if◌then◌else◌}
+use Rattle.std.specs.Prelude.{ℕ, ◌≡◌, ◌≤◌, ◌<◌, ◌==◌, Bool, true, false, List, [], filter, length, slice_get, slice_set, Option, Some, Result, OnOk, IfErr, if◌then◌else◌}
 use Rattle.base_types.specs.declared.entry.Entry.{Entry}
 use Rattle.base_types.specs.declared.script.Script.{Script}
 use Rattle.base_types.specs.declared.snapshot.Snap.{Snap}
@@ -82,12 +82,13 @@ pub record GoesAll {S T : Type 0} (durable : S → Option Durable) (state : S �
   pub each : FromTo old new (λ t x y. Goes (is_fault_of t) (changes t) result (state x) (state y) (durable x) (durable y))
   pub own : (t : ℕ) → IfErr result (λ stop. is_fault_of t stop ≡ true → t < length old)
 
--- What every call says of all stores: each runs on but where the opening isn't whole by its fault, and it has no fewer free blocks; a
--- store that stopped is named by its target.
+-- What every call says of all stores: each runs on but where the opening isn't whole by its fault, and it has no fewer free blocks, and as
+-- many where it keeps no entries; a store that stopped is named by its target.
 pub record RunAll {S T : Type 0} (durable : S → Option Durable) (state : S → State) (result : Result T OpeningStop) (old new : List S) : Type 0 where
   pub many : length new ≡ length old
   pub each : FromTo old new (λ t x y. Runs (is_fault_of t) result (state x) (state y) (durable x) (durable y))
   pub free : FromTo old new (λ t x y. (state x).free ≤ (state y).free)
+  pub still : FromTo old new (λ t x y. OnOk result ((d : Durable) → durable x ≡ Some d → d.entries ≡ [] → (state y).free ≡ (state x).free))
   pub own : (t : ℕ) → IfErr result (λ stop. is_fault_of t stop ≡ true → t < length old)
 
 -- ---- the parts of an opening

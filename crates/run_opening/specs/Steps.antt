@@ -1,5 +1,5 @@
 -- The steps of an opening at one target, and what its calls say of its store.
-use Rattle.std.specs.Prelude.{◌≡◌, ◌≤◌, ◌&&◌, Bool, true, false, not, List, [], ◌∷◌, filter, map, Option, Result, OnOk, if◌then◌else◌}
+use Rattle.std.specs.Prelude.{◌≡◌, ◌≤◌, ◌&&◌, Bool, true, false, not, List, [], ◌∷◌, filter, map, Option, Some, Result, OnOk, if◌then◌else◌}
 use Rattle.std.specs.Option.{option_map}
 use Rattle.base_types.specs.declared.entry.Entry.{Entry}
 use Rattle.base_types.specs.declared.entry.Settle.{Settle}
@@ -87,11 +87,12 @@ left_with xs d = all_thawed (filter (is_other_than xs) d.snaps) d
 -- ---- a store
 
 -- Calls of a store that make a change of what it keeps: it runs on but where Stopped is answered, it has no fewer free blocks, and where
--- they came to their end the change is made.
+-- they came to their end the change is made. If it keeps no entries it keeps none then, and as many blocks stay free.
 pub record Goes {T E : Type 0} (stop : E → Bool) (change : Durable → Durable) (result : Result T E) (h k : State) (old new : Option Durable) : Type 0 where
   pub runs : Runs stop result h k old new
   pub free : h.free ≤ k.free
   pub made : OnOk result (new ≡ option_map change old)
+  pub still : OnOk result ((d : Durable) → old ≡ Some d → d.entries ≡ [] → (k.free ≡ h.free) × ((change d).entries ≡ []))
 
 -- nothing is changed
 abbrev pub same : Durable → Durable

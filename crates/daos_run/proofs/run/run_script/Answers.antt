@@ -1,56 +1,54 @@
-use Rattle.std.specs.Prelude.{◌*◌, ◌-◌, true, refl}
-use Rattle.daos_run.proofs.Plain.{all-empty, all-free, all-tell, each-tells, follows-order, in-form, issued-there, legal, none-down, of-lone, only-memory}
-use Rattle.daos_model.specs.Opening.{fresh}
-use Rattle.daos_run.specs.Alone.{IsOfLoneClient}
+use Rattle.std.specs.Prelude.{◌*◌, ◌-◌, IfOk, refl}
+use Rattle.std.proofs.Common.{subst}
+use Rattle.daos_run.proofs.Lone.{is-of-lone-client}
+use Rattle.daos_run.proofs.Plain.{all-come, all-free, all-kept, all-open, all-run, follows-order, in-form, is-fresh, issued-there, legal, none-down, of-lone, on-ok, only-memory}
+use Rattle.run_reports.specs.Reports.{TellsOfLoneClient}
 use Rattle.daos_run.proofs.run.run_script.Goals as goal
 
 pub run_on-requires-clause-stores : goal.run_on-requires-clause-stores
-run_on-requires-clause-stores g c κs within = all-empty c.args.job.now.targets c.args.job.now.size_mib c.set_all.new.parts c.in_ok-set_all.ensures.set c.requires.most_targets
+run_on-requires-clause-stores g c κs within = all-run c.args.job.now.targets c.args.job.now.size_mib c.set_all.new.parts c.in_ok-set_all.ensures.set c.requires.most_targets
+
+pub run_on-requires-clause-sound : goal.run_on-requires-clause-sound
+run_on-requires-clause-sound g c κs within = all-open c.args.job.now.targets c.args.job.now.size_mib c.set_all.new.parts c.in_ok-set_all.ensures.set c.args.script.now
 
 pub returns-clause-legal : goal.returns-clause-legal
 returns-clause-legal g c =
     let new = c.in_ok-set_all.ensures.set in
-    legal c.args.job.now.targets c.args.job.now.size_mib c.set_all.new.parts new c.run_on.new.parts c.run_on.ensures.set c.run_on.ensures.served c.args.script.now c.args.job.now refl c.run_on.result
-    (c.run_on.ensures.comes (all-tell c.args.job.now.targets c.args.job.now.size_mib c.set_all.new.parts new) (λ t. c.args.job.now.size_mib * 4096 - 1264) (all-free c.args.job.now.targets c.args.job.now.size_mib c.set_all.new.parts new))
+    legal c.args.job.now.targets c.args.job.now.size_mib c.set_all.new.parts new c.run_on.new.parts c.run_on.ensures.set c.run_on.ensures.served c.args.script.now c.args.job.now refl c.run_on.result (all-come c.args.job.now.targets c.args.job.now.size_mib c.set_all.new.parts new c.run_on.new.parts c.run_on.ensures.set c.run_on.ensures.served c.args.script.now c.args.job.now refl c.run_on.result (c.run_on.ensures.comes _ (all-kept c.args.job.now.targets c.args.job.now.size_mib c.set_all.new.parts new) (λ t. c.args.job.now.size_mib * 4096 - 1264) (all-free c.args.job.now.targets c.args.job.now.size_mib c.set_all.new.parts new)))
 
 pub returns-clause-form : goal.returns-clause-form
 returns-clause-form g c =
     let new = c.in_ok-set_all.ensures.set in
-    in-form c.args.job.now.targets c.args.job.now.size_mib c.set_all.new.parts new c.run_on.new.parts c.run_on.ensures.set c.run_on.ensures.served c.args.script.now c.args.job.now refl c.run_on.result
-    (c.run_on.ensures.comes (all-tell c.args.job.now.targets c.args.job.now.size_mib c.set_all.new.parts new) (λ t. c.args.job.now.size_mib * 4096 - 1264) (all-free c.args.job.now.targets c.args.job.now.size_mib c.set_all.new.parts new))
+    in-form c.args.job.now.targets c.args.job.now.size_mib c.set_all.new.parts new c.run_on.new.parts c.run_on.ensures.set c.run_on.ensures.served c.args.script.now c.args.job.now refl c.run_on.result (all-come c.args.job.now.targets c.args.job.now.size_mib c.set_all.new.parts new c.run_on.new.parts c.run_on.ensures.set c.run_on.ensures.served c.args.script.now c.args.job.now refl c.run_on.result (c.run_on.ensures.comes _ (all-kept c.args.job.now.targets c.args.job.now.size_mib c.set_all.new.parts new) (λ t. c.args.job.now.size_mib * 4096 - 1264) (all-free c.args.job.now.targets c.args.job.now.size_mib c.set_all.new.parts new)))
 
 pub returns-clause-ordered : goal.returns-clause-ordered
 returns-clause-ordered g c =
     let new = c.in_ok-set_all.ensures.set in
-    follows-order c.args.job.now.targets c.args.job.now.size_mib c.set_all.new.parts new c.run_on.new.parts c.run_on.ensures.set c.run_on.ensures.served c.args.script.now c.args.job.now refl c.run_on.result
-    (c.run_on.ensures.comes (all-tell c.args.job.now.targets c.args.job.now.size_mib c.set_all.new.parts new) (λ t. c.args.job.now.size_mib * 4096 - 1264) (all-free c.args.job.now.targets c.args.job.now.size_mib c.set_all.new.parts new))
+    follows-order c.args.job.now.targets c.args.job.now.size_mib c.set_all.new.parts new c.run_on.new.parts c.run_on.ensures.set c.run_on.ensures.served c.args.script.now c.args.job.now refl c.run_on.result (all-come c.args.job.now.targets c.args.job.now.size_mib c.set_all.new.parts new c.run_on.new.parts c.run_on.ensures.set c.run_on.ensures.served c.args.script.now c.args.job.now refl c.run_on.result (c.run_on.ensures.comes _ (all-kept c.args.job.now.targets c.args.job.now.size_mib c.set_all.new.parts new) (λ t. c.args.job.now.size_mib * 4096 - 1264) (all-free c.args.job.now.targets c.args.job.now.size_mib c.set_all.new.parts new)))
 
 pub returns-clause-issued : goal.returns-clause-issued
 returns-clause-issued g c =
     let new = c.in_ok-set_all.ensures.set in
-    issued-there c.args.job.now.targets c.args.job.now.size_mib c.set_all.new.parts new c.run_on.new.parts c.run_on.ensures.set c.run_on.ensures.served c.args.script.now c.args.job.now refl c.run_on.result
-    (c.run_on.ensures.comes (all-tell c.args.job.now.targets c.args.job.now.size_mib c.set_all.new.parts new) (λ t. c.args.job.now.size_mib * 4096 - 1264) (all-free c.args.job.now.targets c.args.job.now.size_mib c.set_all.new.parts new))
+    issued-there c.args.job.now.targets c.args.job.now.size_mib c.set_all.new.parts new c.run_on.new.parts c.run_on.ensures.set c.run_on.ensures.served c.args.script.now c.args.job.now refl c.run_on.result (all-come c.args.job.now.targets c.args.job.now.size_mib c.set_all.new.parts new c.run_on.new.parts c.run_on.ensures.set c.run_on.ensures.served c.args.script.now c.args.job.now refl c.run_on.result (c.run_on.ensures.comes _ (all-kept c.args.job.now.targets c.args.job.now.size_mib c.set_all.new.parts new) (λ t. c.args.job.now.size_mib * 4096 - 1264) (all-free c.args.job.now.targets c.args.job.now.size_mib c.set_all.new.parts new)))
 
 pub returns-clause-none_down : goal.returns-clause-none_down
 returns-clause-none_down g c =
     let new = c.in_ok-set_all.ensures.set in
-    none-down c.args.job.now.targets c.args.job.now.size_mib c.set_all.new.parts new c.run_on.new.parts c.run_on.ensures.set c.run_on.ensures.served c.args.script.now c.args.job.now refl c.run_on.result
-    (c.run_on.ensures.comes (all-tell c.args.job.now.targets c.args.job.now.size_mib c.set_all.new.parts new) (λ t. c.args.job.now.size_mib * 4096 - 1264) (all-free c.args.job.now.targets c.args.job.now.size_mib c.set_all.new.parts new))
+    none-down c.args.job.now.targets c.args.job.now.size_mib c.set_all.new.parts new c.run_on.new.parts c.run_on.ensures.set c.run_on.ensures.served c.args.script.now c.args.job.now refl c.run_on.result (all-come c.args.job.now.targets c.args.job.now.size_mib c.set_all.new.parts new c.run_on.new.parts c.run_on.ensures.set c.run_on.ensures.served c.args.script.now c.args.job.now refl c.run_on.result (c.run_on.ensures.comes _ (all-kept c.args.job.now.targets c.args.job.now.size_mib c.set_all.new.parts new) (λ t. c.args.job.now.size_mib * 4096 - 1264) (all-free c.args.job.now.targets c.args.job.now.size_mib c.set_all.new.parts new)))
 
 pub returns-clause-room : goal.returns-clause-room
 returns-clause-room g c has =
     let new = c.in_ok-set_all.ensures.set in
-    c.run_on.ensures.room (all-tell c.args.job.now.targets c.args.job.now.size_mib c.set_all.new.parts new) (λ t. c.args.job.now.size_mib * 4096 - 1264) (all-free c.args.job.now.targets c.args.job.now.size_mib c.set_all.new.parts new) has
+    c.run_on.ensures.room _ (all-kept c.args.job.now.targets c.args.job.now.size_mib c.set_all.new.parts new) (λ t. c.args.job.now.size_mib * 4096 - 1264) (all-free c.args.job.now.targets c.args.job.now.size_mib c.set_all.new.parts new) has
 
 pub returns-clause-lone : goal.returns-clause-lone
 returns-clause-lone g c one none =
     let new = c.in_ok-set_all.ensures.set in
-    of-lone c.args.job.now.targets c.args.job.now.size_mib c.set_all.new.parts new c.run_on.new.parts c.run_on.ensures.set c.run_on.ensures.served c.args.script.now c.args.job.now refl c.run_on.result
-    (c.run_on.ensures.comes (all-tell c.args.job.now.targets c.args.job.now.size_mib c.set_all.new.parts new) (λ t. c.args.job.now.size_mib * 4096 - 1264) (all-free c.args.job.now.targets c.args.job.now.size_mib c.set_all.new.parts new)) none (IsOfLoneClient (fresh c.args.script.now c.args.job.now))
-    (c.run_on.ensures.lone (all-tell c.args.job.now.targets c.args.job.now.size_mib c.set_all.new.parts new) (λ t. c.args.job.now.size_mib * 4096 - 1264) (all-free c.args.job.now.targets c.args.job.now.size_mib c.set_all.new.parts new) one none)
+    on-ok c.run_on.result (λ q k. is-of-lone-client c.args.script.now c.args.job.now q c.requires.script one k)
+    (subst (λ o. IfOk c.run_on.result (TellsOfLoneClient o)) (is-fresh c.args.job.now.targets c.args.job.now.size_mib c.set_all.new.parts new c.run_on.new.parts c.run_on.ensures.set c.run_on.ensures.served c.args.script.now c.args.job.now refl)
+    (of-lone c.args.job.now.targets c.args.job.now.size_mib c.set_all.new.parts new c.run_on.new.parts c.run_on.ensures.set c.run_on.ensures.served c.args.script.now c.args.job.now refl c.run_on.result (all-come c.args.job.now.targets c.args.job.now.size_mib c.set_all.new.parts new c.run_on.new.parts c.run_on.ensures.set c.run_on.ensures.served c.args.script.now c.args.job.now refl c.run_on.result (c.run_on.ensures.comes _ (all-kept c.args.job.now.targets c.args.job.now.size_mib c.set_all.new.parts new) (λ t. c.args.job.now.size_mib * 4096 - 1264) (all-free c.args.job.now.targets c.args.job.now.size_mib c.set_all.new.parts new))) none _ (c.run_on.ensures.lone _ (all-kept c.args.job.now.targets c.args.job.now.size_mib c.set_all.new.parts new) (λ t. c.args.job.now.size_mib * 4096 - 1264) (all-free c.args.job.now.targets c.args.job.now.size_mib c.set_all.new.parts new) one none)))
 
 pub returns-clause-refusals : goal.returns-clause-refusals
 returns-clause-refusals g c =
     let new = c.in_ok-set_all.ensures.set in
-    only-memory c.args.job.now.targets c.args.job.now.size_mib c.set_all.new.parts new c.run_on.new.parts c.run_on.ensures.set c.run_on.ensures.served c.run_on.result c.run_on.ensures.fault
-    (c.run_on.ensures.refusals true (each-tells c.args.job.now.targets c.args.job.now.size_mib c.set_all.new.parts new))
+    only-memory c.args.job.now.targets c.args.job.now.size_mib c.set_all.new.parts new c.run_on.new.parts c.run_on.ensures.set c.run_on.ensures.served c.args.script.now c.run_on.result c.requires.script.form.declared.conts c.run_on.ensures.fault c.run_on.ensures.refusals

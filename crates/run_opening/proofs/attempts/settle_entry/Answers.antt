@@ -4,7 +4,7 @@ use Rattle.vos_store.specs.Conditions.{CanSettle, IsStep}
 use Rattle.vos_store.specs.Refusals.{always_stop}
 use Rattle.daos_model.specs.Changes.{settled}
 use Rattle.run_opening.specs.Steps.{ended_at, resolved_by, same}
-use Rattle.run_opening.proofs.Ending.{at-committed, at-prepared, can-end, is-step}
+use Rattle.run_opening.proofs.Ending.{at-committed, at-prepared, can-end, is-step, none-here}
 use Rattle.run_opening.proofs.Going.{goes-as, goes-call, goes-first}
 use Rattle.run_opening.proofs.attempts.settle_entry.Goals as goal
 
@@ -23,4 +23,5 @@ pub returns : goal.returns
 returns g c =
     goes-as always_stop c.settle.result (settled c.args.entry.now.attempt c.ending-step.result) (ended_at (resolved_by c.args.all.now) c.args.entry.now) (g.S.Store.state c.args.store.now) (g.S.Store.state c.settle.new.self) (g.S.Store.durable c.args.store.now) (g.S.Store.durable c.settle.new.self)
     (λ d at. ap (λ s. settled c.args.entry.now.attempt s d) c.ending-step.ensures ∙ at-prepared (resolved_by c.args.all.now) c.args.entry.now d c.is_resolved.result c.if-entry.false c.is_resolved.ensures)
-    (goes-call always_stop c.settle.result (settled c.args.entry.now.attempt c.ending-step.result) (g.S.Store.state c.args.store.now) (g.S.Store.state c.settle.new.self) (g.S.Store.durable c.args.store.now) (g.S.Store.durable c.settle.new.self) _ _ c.requires.running c.settle.ensures.call c.settle.ensures.kept)
+    (goes-call always_stop c.settle.result (settled c.args.entry.now.attempt c.ending-step.result) (g.S.Store.state c.args.store.now) (g.S.Store.state c.settle.new.self) (g.S.Store.durable c.args.store.now) (g.S.Store.durable c.settle.new.self) _ _ c.requires.running c.settle.ensures.call c.settle.ensures.kept
+    (λ d is none. absurd (none-here d c.args.entry.now.attempt c.args.entry.now none (c.requires.here d is))))

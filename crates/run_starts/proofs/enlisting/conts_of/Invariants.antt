@@ -1,6 +1,6 @@
 use Rattle.std.proofs.Common.{◌≡◌, map, take}
 use Rattle.base_types.specs.declared.script.ContDecl.{ContDecl}
-use Rattle.daos_run.proofs.opening.conts_of.Given as goal
+use Rattle.run_starts.proofs.enlisting.conts_of.Given as goal
 
 -- those of the containers so far
 abbrev pub invariant-loop-cont : goal.invariant-loop-cont

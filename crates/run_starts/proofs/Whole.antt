@@ -1,0 +1,209 @@
+-- Stores that are opened together for a run of a script.
+use Rattle.std.specs.Prelude.{ℕ, ◌≡◌, ◌≤◌, ◌<◌, ◌^◌, List, [], filter, length, slice_get, Option, Some, Result, Ok, Err, refl}
+use Rattle.std.specs.Option.{option_map}
+use Rattle.std.proofs.Common.{sym, ◌∙◌, ap, subst, arith}
+use Rattle.base_types.specs.declared.epoch.Epoch.{Epoch}
+use Rattle.base_types.specs.declared.id.ContId.{ContId}
+use Rattle.base_types.specs.declared.script.Script.{Script}
+use Rattle.base_types.specs.Epochs.{restart_floor}
+use Rattle.daos_model.specs.declared.durable.Durable.{Durable}
+use Rattle.daos_model.specs.Changes.{enlisted}
+use Rattle.daos_model.specs.Durables.{IsInForm}
+use Rattle.daos_model.specs.Family.{greatest_lease}
+use Rattle.daos_model.specs.Finals.{opening_of}
+use Rattle.daos_model.specs.FormLaws.{length-map}
+use Rattle.model_laws.specs.TargetLaws.{same_number}
+use Rattle.run_opening.specs.declared.stop.OpeningStop.{OpeningStop}
+use Rattle.run_opening.specs.declared.stop.OpeningStop.TheVariants as opening
+use Rattle.run_opening.specs.All.{AllRun, AreKept, FromTo, RunAll as OpeningRuns, is_fault_of as is_opening_fault}
+use Rattle.run_opening.specs.Alike.{KeepsData, created-alike}
+use Rattle.run_opening.specs.BeginLaws.{runs-begin}
+use Rattle.run_opening.specs.EnlistLaws.{enlisting-form, enlisting-openings, enlisting-sound, opened-knows}
+use Rattle.run_opening.specs.Laws.{AreFew}
+use Rattle.run_opening.specs.Opened.{AreInForm, enlisted_family, keeps, lasting_snaps, opened, opened_family}
+use Rattle.run_opening.specs.SoundLaws.{at-mapped}
+use Rattle.run_opening.specs.StandLaws.{opened-leases}
+use Rattle.target_parts.specs.Parts.{Runs}
+use Rattle.target_parts.specs.Running.{runs_as, runs_first, runs_on}
+use Rattle.vos_store.specs.Calls.{State}
+use Rattle.vos_store.specs.Refusals.{always_stop, says}
+use Rattle.world_ends.specs.Settled.{OpenTogether}
+use Rattle.world_whole.specs.Begins.{IsOpeningPlain, OpensWith, declared_conts}
+use Rattle.run_starts.specs.declared.stop.StartStop.{StartStop}
+use Rattle.run_starts.specs.Calls.{AreCovered, RunAll, WhyNotOpened, WithContainers}
+use Rattle.run_starts.specs.Starts.{AreOpened, BeginsAs, CanOpen, IsWhole, begun_family}
+use Rattle.run_starts.specs.Stops.{is_fault_of, not_opened, wanting}
+use Rattle.run_starts.proofs.Adding.{same-at, there}
+
+-- ---- calls
+
+-- containers that are added leave versions, entries and snapshots
+keeps-data : (cs : List ContId) → KeepsData (enlisted cs)
+unfolding enlisted
+keeps-data cs = record { versions = λ d. refl; entries = λ d. refl; snaps = λ d. refl }
+
+fault-same : (t : ℕ) (why : OpeningStop) → is_fault_of t (not_opened why) ≡ is_opening_fault t why
+fault-same t (opening.Stopped target) = refl
+fault-same t opening.Memory = refl
+
+module _ {S : Type 0} (durable : S → Option Durable) (state : S → State) where
+  -- after calls that came to their end all run still
+  pub all-run : {T : Type 0} (x : T) (old new : List S) → RunAll durable state (Ok x) old new → AllRun state new
+  all-run x old new k t y to = let a = there new old t y (sym k.many) to in (k.each t a.0 y a.1 to).stops
+
+  -- another value, and an error that is handed on
+  pub run-so : {T U : Type 0} (x : T) (y : U) (old new : List S) → RunAll durable state (Ok x) old new → RunAll durable state (Ok y) old new
+  run-so x y old new k = record {
+    many = k.many;
+    each = λ t a b at to. runs_as (is_fault_of t) (Ok x) (is_fault_of t) (Ok y) (state a) (state b) (durable a) (durable b) refl (k.each t a b at to);
+    free = k.free;
+    still = k.still;
+    own = λ t. tt;
+  }
+
+  pub run-err : {T U : Type 0} (why : StartStop) (old new : List S) → RunAll {T = T} durable state (Err why) old new → RunAll {T = U} durable state (Err why) old new
+  run-err {T} {U} why old new k = record {
+    many = k.many;
+    each = λ t a b at to. runs_as {T = T} {U = U} (is_fault_of t) (Err why) (is_fault_of t) (Err why) (state a) (state b) (durable a) (durable b) refl (k.each t a b at to);
+    free = k.free;
+    still = λ t a b at to. tt;
+    own = k.own;
+  }
+
+  -- no call was made for want of memory
+  pub run-none : {T : Type 0} (why : StartStop) (stores : List S) → why ≡ wanting → AllRun state stores → RunAll {T = T} durable state (Err why) stores stores
+  run-none {T} why stores is run = subst (λ w. RunAll {T = T} durable state (Err w) stores stores) (sym is) (record {
+    many = refl;
+    each = λ t x y at to. subst (λ z. Runs {T = T} (is_fault_of t) (Err wanting) (state x) (state z) (durable x) (durable z)) (same-at stores t x y at to)
+        (runs_as {T = Unit {0}} {U = T} always_stop (Ok (tt {0})) (is_fault_of t) (Err wanting) (state x) (state x) (durable x) (durable x) refl (runs_first (state x) (durable x) (run t x at)));
+    free = λ t x y at to. subst (λ z. (state x).free ≤ (state z).free) (same-at stores t x y at to) (omega arith);
+    still = λ t x y at to. tt;
+    own = λ t is. let no : ⊥ = cc in absurd no;
+  })
+
+  module _ (old mid new : List S) (a : RunAll {T = Unit {0}} durable state (Ok (tt {0})) old mid) where
+    -- the opening, after containers were added
+    runs-through : (result : Result (Unit {0}) OpeningStop) (said : Result (Unit {0}) StartStop) → ((t : ℕ) → says (is_fault_of t) said ≡ says (is_opening_fault t) result) → OpeningRuns durable state result mid new
+        → FromTo old new (λ t x y. Runs (is_fault_of t) said (state x) (state y) (durable x) (durable y))
+    runs-through result said same b t x y at to =
+        let m = there old mid t x a.many at in
+        runs_as (is_opening_fault t) result (is_fault_of t) said (state x) (state y) (durable x) (durable y) (same t)
+        (runs_on (is_opening_fault t) result (state x) (state m.0) (state y) (durable x) (durable m.0) (durable y)
+        (runs_as {T = Unit {0}} {U = Unit {0}} (is_fault_of t) (Ok (tt {0})) always_stop (Ok (tt {0})) (state x) (state m.0) (durable x) (durable m.0) refl (a.each t x m.0 at m.1)) (b.each t m.0 y m.1 to))
+
+    free-through : (result : Result (Unit {0}) OpeningStop) → OpeningRuns durable state result mid new → FromTo old new (λ t x y. (state x).free ≤ (state y).free)
+    free-through result b t x y at to =
+        let m = there old mid t x a.many at in
+        let one = a.free t x m.0 at m.1 in
+        let two = b.free t m.0 y m.1 to in
+        omega (arith, one, two)
+
+    pub opened-ok : (cs : List ContId) → FromTo old mid (λ t x y. WithContainers durable cs x y) → OpeningRuns {T = Unit {0}} durable state (Ok (tt {0})) mid new → RunAll {T = Unit {0}} durable state (Ok (tt {0})) old new
+    opened-ok cs with b = record {
+      many = b.many ∙ a.many;
+      each = runs-through (Ok (tt {0})) (Ok (tt {0})) (λ t. refl) b;
+      free = free-through (Ok (tt {0})) b;
+      still = λ t x y at to d told none.
+          let m = there old mid t x a.many at in
+          b.still t m.0 y m.1 to (enlisted cs d) ((with t x m.0 at m.1).made ∙ ap (option_map (enlisted cs)) told) ((keeps-data cs).entries d ∙ none) ∙ a.still t x m.0 at m.1 d told none;
+      own = λ t. tt;
+    }
+
+    pub opened-err : (refusal : OpeningStop) (why : StartStop) → why ≡ not_opened refusal → OpeningRuns {T = Unit {0}} durable state (Err refusal) mid new → RunAll {T = Unit {0}} durable state (Err why) old new
+    opened-err refusal why is b = subst (λ w. RunAll {T = Unit {0}} durable state (Err w) old new) (sym is) (record {
+      many = b.many ∙ a.many;
+      each = runs-through (Err refusal) (Err (not_opened refusal)) (λ t. fault-same t refusal) b;
+      free = free-through (Err refusal) b;
+      still = λ t x y at to. tt;
+      own = λ t says. subst (λ n. t < n) a.many (b.own t (sym (fault-same t refusal) ∙ says));
+    })
+
+    pub why-opening : (cs : List ContId) (refusal : OpeningStop) (why : StartStop) → why ≡ not_opened refusal → OpeningRuns {T = Unit {0}} durable state (Err refusal) mid new → WhyNotOpened durable cs old why
+    why-opening cs refusal why is b = subst (WhyNotOpened durable cs old) (sym is) (by refusal b)
+      where
+        by : (refusal : OpeningStop) → OpeningRuns {T = Unit {0}} durable state (Err refusal) mid new → WhyNotOpened durable cs old (not_opened refusal)
+        by (opening.Stopped target) b = subst (λ n. target < n) a.many (b.own target (same_number target))
+        by opening.Memory b = tt
+
+  -- ---- what they keep
+
+  module _ (cs : List ContId) (B : List Durable) (old mid : List S) (kept : AreKept durable old B) (many : length mid ≡ length old) (k : FromTo old mid (λ t x y. WithContainers durable cs x y)) where
+    -- a store that kept one of them keeps it with the containers
+    pub kept-added : AreKept durable mid (enlisted_family cs B)
+    kept-added = record {
+      many = length-map (enlisted cs) B ∙ kept.many ∙ sym many;
+      each = λ t y d to bt.
+          let b = at-mapped (enlisted cs) B t d bt in
+          let x = there mid old t y (sym many) to in
+          (k t x.0 y x.1 to).made ∙ ap (option_map (enlisted cs)) (kept.each t x.0 b.0 x.1 b.1) ∙ ap (λ e. Some e) b.2;
+    }
+
+    pub few-added : AreFew (enlisted_family cs B)
+    few-added t d bt =
+        let b = at-mapped (enlisted cs) B t d bt in
+        let x = there B old t b.0 (sym kept.many) b.1 in
+        let y = there old mid t x.0 many x.1 in
+        subst (λ e. length e.conts ≤ 256) b.2 ((k t x.0 y.0 x.1 y.1).few b.0 (kept.each t x.0 b.0 x.1 b.1))
+
+-- ---- what a run begins with
+
+-- how often a target was opened stays
+counted : (s : Script) (cs : List ContId) (F : List Durable) (b : Durable) → (opened s F (enlisted cs b)).incarnation ≡ b.incarnation
+unfolding opened enlisted
+counted s cs F b = refl
+
+module _ (s : Script) (B : List Durable) (some : 0 < length B) (forms : AreInForm B) (can : CanOpen s B) (few : AreFew (enlisted_family (declared_conts s) B)) where
+  abbrev conts : List ContId
+  conts = declared_conts s
+
+  abbrev E : List Durable
+  E = enlisted_family conts B
+
+  none-lasts : lasting_snaps s E ≡ []
+  none-lasts = ap (filter (keeps s)) (created-alike (enlisted conts) (keeps-data conts) B) ∙ can.unsnapped
+
+  together : (free : ℕ → ℕ) → OpenTogether (length E) (opened_family s E) (opening_of s E free)
+  together free = runs-begin s E free (subst (λ n. 0 < n) (sym (length-map (enlisted conts) B)) some) (enlisting-form conts B few forms) (enlisting-sound conts B can.sound) none-lasts
+
+  same-opening : (free : ℕ → ℕ) → opening_of s E free ≡ opening_of s B free
+  same-opening free = enlisting-openings s conts B free
+
+  pub is-plain : (free : ℕ → ℕ) → IsOpeningPlain (opening_of s B free)
+  is-plain free = subst IsOpeningPlain (same-opening free) (together free).plain
+
+  pub begins-as : (t : ℕ) (d : Durable) → slice_get (begun_family s B) t ≡ Some d → BeginsAs s B t d
+  begins-as t d at = record {
+    opens = λ free. subst (λ o. OpensWith (length B) t o d) (same-opening free) (subst (λ n. OpensWith n t (opening_of s E free) d) (length-map (enlisted conts) B) ((together free).each t d at));
+    enlisted = λ c i. opened-knows s conts B t d c at i;
+    incarnation = λ b bt.
+        let e = at-mapped (opened s E) E t d at in
+        let f = at-mapped (enlisted conts) B t e.0 e.1 in
+        ap (λ y. y.incarnation) (sym e.2) ∙ ap (λ y. (opened s E y).incarnation) (sym f.2) ∙ counted s conts E f.0 ∙ ap (λ y. y.incarnation) (same-at B t f.0 b f.1 bt);
+  }
+
+  -- leases stay
+  pub same-leases : greatest_lease (begun_family s B) ≡ greatest_lease B
+  same-leases = opened-leases s E ∙ ap (λ o. o.lease) (same-opening (λ t. 0))
+
+  pub low-leases : greatest_lease (begun_family s B) < 2 ^ 56
+  low-leases = subst (λ n. n < 2 ^ 56) (sym same-leases) (is-plain (λ t. 0)).lease
+
+module _ {S : Type 0} (durable : S → Option Durable) (state : S → State) (s : Script) (B : List Durable) (old new : List S) (some : 0 < length old) (kept : AreKept durable old B)
+    (formed : (t : ℕ) (x : S) (d : Durable) → slice_get old t ≡ Some x → durable x ≡ Some d → IsInForm d) (can : CanOpen s B) (w : IsWhole durable s B new) where
+  some-kept : 0 < length B
+  some-kept = subst (λ n. 0 < n) (sym kept.many) some
+
+  in-form : AreInForm B
+  in-form t d at = let x = there B old t d (sym kept.many) at in formed t x.0 d x.1 (kept.each t x.0 d x.1 at)
+
+  pub low : greatest_lease (begun_family s B) < 2 ^ 56
+  low = low-leases s B some-kept in-form can w.few
+
+  pub are-opened : (tracker : Epoch) → tracker ≡ record { 0 = restart_floor (greatest_lease (begun_family s B)) } → AreCovered state new (greatest_lease (begun_family s B)) → AreOpened durable state s B new tracker
+  are-opened tracker is covered = record {
+    tracker_is = is ∙ ap (λ n. record { 0 = restart_floor n }) (same-leases s B some-kept in-form can w.few);
+    plain = is-plain s B some-kept in-form can w.few;
+    kept = w.kept;
+    each = begins-as s B some-kept in-form can w.few;
+    covered = subst (AreCovered state new) (same-leases s B some-kept in-form can w.few) covered;
+  }

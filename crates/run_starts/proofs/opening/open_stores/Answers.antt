@@ -1,0 +1,26 @@
+use Rattle.std.specs.Prelude.{ℕ, ◌≡◌, Err, Some, slice_get}
+use Rattle.std.proofs.Common.{rules, subst, sym}
+use Rattle.base_types.specs.declared.epoch.Epoch.{Epoch}
+use Rattle.daos_model.specs.declared.durable.Durable.{Durable}
+use Rattle.daos_model.specs.Durables.{IsInForm}
+use Rattle.run_starts.specs.Calls.{RunAll}
+use Rattle.run_starts.proofs.Whole.{all-run, are-opened, low, run-err}
+use Rattle.run_starts.proofs.opening.open_stores.Goals as goal
+
+pub returns-in_err-open_together-clause-calls : goal.returns-in_err-open_together-clause-calls
+returns-in_err-open_together-clause-calls g c =
+    let is : c.from_residual.result ≡ Err c.in_err-open_together.field-0.0 = search rules in
+    subst (λ r. RunAll {T = Epoch} g.S.Store.durable g.S.Store.state r c.args.stores.now c.open_together.new.stores) (sym is)
+    (run-err g.S.Store.durable g.S.Store.state c.in_err-open_together.field-0.0 c.args.stores.now c.open_together.new.stores c.in_err-open_together.ensures.calls)
+
+pub tracker_of-requires : goal.tracker_of-requires
+tracker_of-requires g c = record { running = all-run g.S.Store.durable g.S.Store.state (tt {0}) c.args.stores.now c.open_together.new.stores c.in_ok-open_together.ensures.calls }
+
+pub returns-clause-opened : goal.returns-clause-opened
+returns-clause-opened g c B kept =
+    let can = c.requires.sound B kept in
+    let whole = c.in_ok-open_together.ensures.opened B kept can.sound in
+    let formed : (t : ℕ) (x : g.row.S.Denot) (d : Durable) → slice_get c.args.stores.now t ≡ Some x → g.S.Store.durable x ≡ Some d → IsInForm d = λ t x d at told. g.met.S.Store.formed x (c.requires.running t x at) d told in
+    let few = low g.S.Store.durable g.S.Store.state c.args.script.now B c.args.stores.now c.open_together.new.stores c.requires.some kept formed can whole in
+    are-opened g.S.Store.durable g.S.Store.state c.args.script.now B c.args.stores.now c.open_together.new.stores c.requires.some kept formed can whole c.tracker_of.result
+    (c.tracker_of.ensures.lease _ whole.kept few) (c.tracker_of.ensures.covers _ whole.kept few)

@@ -1,0 +1,4 @@
+-- What is said of stores that are opened for a run.
+pub mod Stops
+pub mod Calls
+pub mod Starts
