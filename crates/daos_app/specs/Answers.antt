@@ -15,7 +15,8 @@ use Rattle.report_writer.specs.Forms.{IsReportOf}
 use Rattle.report_writer.specs.Reports.{report_text}
 use Rattle.model_reports.specs.Rooms.{FindsRoom, HasRoom}
 use Rattle.daos_run.specs.Alone.{IsOfLoneClient}
-use Rattle.run_ends.specs.Comes.{FollowsOrder, IsLegal}
+use Rattle.daos_run.specs.Comes.{FollowsFromZeros}
+use Rattle.run_ends.specs.Comes.{IsLegal}
 use Rattle.daos_status.specs.declared.status.Status.{Status}
 use Rattle.daos_status.specs.declared.status.Status.TheVariants as status
 use Rattle.daos_summary.specs.Summaries.{summary_text}
@@ -30,7 +31,7 @@ use Rattle.world_lone.specs.LoneRuns.{AreIssuedThere}
 pub record IsRunReport (g : Given) (q : Report) : Type 0 where
   pub form : IsReportOf g.script q
   pub legal : IsLegal g q
-  pub ordered : FollowsOrder g q
+  pub ordered : FollowsFromZeros g q
   pub issued : AreIssuedThere q
   pub room : HasRoom g.script g.job.attempts g.opening.free → FindsRoom q
   pub lone : HasOneClient g.script → g.script.stops ≡ [] → IsOfLoneClient g q

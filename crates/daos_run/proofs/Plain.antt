@@ -16,21 +16,21 @@ use Rattle.daos_model.specs.Stops.{stop_numbers}
 use Rattle.daos_run.specs.declared.stop.RunStop.{RunStop}
 use Rattle.daos_run.specs.declared.stop.RunStop.TheVariants as stop
 use Rattle.daos_run.specs.declared.stop.RunStop.TheVariants.{Memory as NoMemory}
-use Rattle.daos_run.specs.Comes.{ComesFrom}
+use Rattle.daos_run.specs.Comes.{ComesFrom, FollowsFromZeros}
 use Rattle.daos_run.specs.Opens.{MayRun, given}
 use Rattle.daos_run.specs.Slots.{AreFree, AreSet, HaveStores, IsAt, StoresAreServed, stores_in}
 use Rattle.daos_run.specs.Starts.{IsNewStore}
 use Rattle.daos_run.specs.Stops.{HasRisen, IsOpeningFault, MayStop}
 use Rattle.daos_run.proofs.Places.{in-place, store-at, stores-many}
 use Rattle.daos_run.proofs.Unstopped.{no-down-told, no-stops-told}
-use Rattle.run_ends.specs.Comes.{ComesTo, FollowsOrder, IsLegal, IsOrdered, IsOutside}
+use Rattle.run_ends.specs.Comes.{IsLegal, IsOrdered, IsOutside}
 use Rattle.run_ends.specs.Known.{legal-by-any}
 use Rattle.run_ends.specs.Places.{from-map, one-there}
 use Rattle.run_ends.specs.Starts.{given_by}
 use Rattle.run_opening.specs.All.{AreKept}
 use Rattle.run_opening.specs.Laws.{AreUnused}
-use Rattle.run_opening.specs.Opened.{keeps, lasting_snaps}
-use Rattle.run_opening.specs.UnusedLaws.{unused-sound, unused-stand}
+use Rattle.run_opening.specs.Opened.{enlisted_family, keeps, lasting_snaps}
+use Rattle.run_opening.specs.UnusedLaws.{unused-open, unused-sound, unused-stand}
 use Rattle.run_starts.specs.Starts.{CanOpen}
 use Rattle.model_laws.specs.Lists.{at-within}
 use Rattle.std.proofs.lemmas.Option.{slice_get_within}
@@ -160,7 +160,7 @@ module _ {C : Type 0} (targets size_mib : ℕ) (slots : List (Option (PlainStore
     module _ (s : Script) (j : Job) (size : j.size_mib ≡ size_mib) where
       -- it comes to this report
       abbrev pub Comes : Report → Type 0
-      Comes q = ComesTo told_by plain_state found_in (fresh s j) (stores_in slots) (stores_in new) q
+      Comes q = ComesFrom told_by plain_state found_in (fresh s j) (stores_in slots) (stores_in new) q
 
       abbrev pub their-given : Given
       their-given = given s j (map plain_durable (stores_in slots)) (λ t. size_mib * 4096 - 1264)
@@ -171,30 +171,48 @@ module _ {C : Type 0} (targets size_mib : ℕ) (slots : List (Option (PlainStore
           ap (given_by s j) (unused-stand s (map plain_durable (stores_in slots)) (λ t. size_mib * 4096 - 1264) (are-unused (map plain_durable (stores_in slots)) all-kept))
           ∙ ap (λ n. given_by s j (fresh_opening n)) (sym size)
 
-      -- as many blocks are free once they are opened as before, so it comes to the same from them before
       come-plainly : (q : Report) → ComesFrom told_by plain_state found_in their-given (stores_in slots) (stores_in new) q → Comes q
-      come-plainly q k = subst (λ g. ComesTo told_by plain_state found_in g (stores_in slots) (stores_in new) q) is-fresh (record {
-        stand = λ lasts o found fits. k.comes.stand lasts o found (k.since o fits);
-        form = k.comes.form;
-        issued = k.comes.issued;
-        running = k.comes.running;
-        settled = k.comes.settled;
-        unstopped = k.comes.unstopped;
-        ordered = λ exact. k.comes.ordered (λ t y at.
-            let x = at-within (stores_in slots) t (subst (λ n. t < n) k.many (slice_get_within k.opened t y at)) in
-            let p = in-place targets slots H.set t x.0 x.1 in
-            (k.each t x.0 y x.1 at).still (plain_durable x.0) refl (ap (λ z. (plain_durable z).entries) p.is ∙ ap (λ d. d.entries) (H.each t p.pair p.at).kept) ∙ exact t x.0 x.1);
-      })
+      come-plainly q k = subst (λ g. ComesFrom told_by plain_state found_in g (stores_in slots) (stores_in new) q) is-fresh k
 
       pub all-come : {E : Type 0} (result : Result Report E) → IfOk result (ComesFrom told_by plain_state found_in their-given (stores_in slots) (stores_in new)) → IfOk result Comes
       all-come result k = on-ok result come-plainly k
 
       module _ (q : Report) (K : Comes q) where
-        ordered : IsOrdered found_in (fresh s j) q (stores_in new)
-        ordered = K.ordered (λ t x at. free-exactly t x at ∙ ap (λ n. n * 4096 - 1264) (sym size))
+        -- as many blocks are free once they are opened as before
+        free-opened : (t : ℕ) (y : PlainStore) → slice_get K.opened t ≡ Some y → (plain_state y).free ≡ (fresh s j).opening.free t
+        free-opened t y at =
+            let x = at-within (stores_in slots) t (subst (λ n. t < n) K.many (slice_get_within K.opened t y at)) in
+            let p = in-place targets slots H.set t x.0 x.1 in
+            (K.each t x.0 y x.1 at).still (plain_durable x.0) refl (ap (λ z. (plain_durable z).entries) p.is ∙ ap (λ d. d.entries) (H.each t p.pair p.at).kept) ∙ free-exactly t x.0 x.1 ∙ ap (λ n. n * 4096 - 1264) (sym size)
+
+        ordered : IsOrdered told_by plain_state found_in (fresh s j) q K.opened (stores_in new)
+        ordered = K.comes.ordered free-opened
 
         headline : HeadlineOver (fresh s j) undisturbed (durables_of ordered.follows.last) q
-        headline = K.stand (durables_of ordered.follows.last) undisturbed ordered.kept stays-undisturbed
+        headline = K.comes.stand (durables_of ordered.follows.last) undisturbed ordered.kept (K.since undisturbed stays-undisturbed)
+
+        -- once opened they keep the script's containers alone
+        opened-keep : AreKept told_by K.opened (enlisted_family (declared_conts s) (map plain_durable (stores_in slots)))
+        opened-keep = subst (AreKept told_by K.opened) (unused-open s (declared_conts s) (map plain_durable (stores_in slots)) (are-unused (map plain_durable (stores_in slots)) all-kept)) (K.kept (map plain_durable (stores_in slots)) all-kept)
+
+        opened-so : (t : ℕ) (y : PlainStore) → slice_get K.opened t ≡ Some y → plain_durable y ≡ enlisted (declared_conts s) (empty_durable 1)
+        opened-so t y at =
+            let d = at-within (enlisted_family (declared_conts s) (map plain_durable (stores_in slots))) t (subst (λ n. t < n) (sym opened-keep.many) (slice_get_within K.opened t y at)) in
+            let e = from-map (enlisted (declared_conts s)) (map plain_durable (stores_in slots)) t d.0 d.1 in
+            let x = from-map plain_durable (stores_in slots) t e.of_it e.at in
+            let p = in-place targets slots H.set t x.of_it x.at in
+            let kept : plain_durable y ≡ d.0 = let two : Some (plain_durable y) ≡ Some d.0 = opened-keep.each t y d.0 at d.1 in cc in
+            kept ∙ e.is ∙ ap (enlisted (declared_conts s)) (x.is ∙ ap plain_durable p.is ∙ (H.each t p.pair p.at).kept)
+
+        from-zeros : s.targets ≡ targets → FollowsFromZeros (fresh s j) q
+        from-zeros same = record {
+          follows = ordered.follows;
+          opened = λ t z here.
+              let low : t < length K.opened = subst (λ n. t < n) (ordered.follows.begun.targets ∙ same ∙ sym (K.many ∙ stores-many targets slots H.set)) (slice_get_within ordered.follows.first.targets t z here) in
+              let y = at-within K.opened t low in
+              let kept : plain_durable y.0 ≡ z.durable = let two : Some (plain_durable y.0) ≡ Some z.durable = (ordered.begins t y.0 z y.1 here).kept in cc in
+              sym kept ∙ opened-so t y.0 y.1;
+        }
 
         unstopped : s.stops ≡ [] → stop_numbers q.lines ≡ []
         unstopped none = no-stops-told (fresh s j) (resolved (durables_of ordered.follows.last)) q headline.told none
@@ -204,13 +222,13 @@ module _ {C : Type 0} (targets size_mib : ℕ) (slots : List (Option (PlainStore
         legal = on-ok result (λ q K by. legal-by-any (fresh s j) undisturbed (resolved (durables_of (ordered q K).follows.last)) by q (no-down-told (fresh s j) (resolved (durables_of (ordered q K).follows.last)) q (headline q K).told) (headline q K).told) R
 
         pub in-form : ScriptHasKeys s → IfOk result (IsReportOf s)
-        in-form keys = on-ok result (λ q K. K.form keys (All-nil CellHasKeys)) R
+        in-form keys = on-ok result (λ q K. K.comes.form keys (All-nil CellHasKeys)) R
 
-        pub follows-order : IfOk result (FollowsOrder (fresh s j))
-        follows-order = on-ok result (λ q K. (ordered q K).follows) R
+        pub follows-order : s.targets ≡ targets → IfOk result (FollowsFromZeros (fresh s j))
+        follows-order same = on-ok result (λ q K. from-zeros q K same) R
 
         pub issued-there : IfOk result AreIssuedThere
-        issued-there = on-ok result (λ q K. K.issued) R
+        issued-there = on-ok result (λ q K. K.comes.issued) R
 
         pub none-down : IfOk result (λ q. q.down ≡ None)
         none-down = on-ok result (λ q K. no-down-told (fresh s j) (resolved (durables_of (ordered q K).follows.last)) q (headline q K).told) R

@@ -251,6 +251,7 @@ module _ {S C : Type 0} (durable : S → Option Durable) (state : S → State) (
         opened = stores_in opened;
         many = stores-many j.targets opened P.set ∙ sym (stores-many j.targets old before);
         each = opened-from;
+        kept = λ B k. (O B (now-kept B k)).kept;
         since = since;
         comes = subst (λ l. ComesTo durable state may (given s j L free) (stores_in opened) l q) (stores-back j.targets ys slots new after (many ∙ A.many) B) (subst (λ l. ComesTo durable state may (given s j L free) l (stores_of ys) q) their-stores c);
       }

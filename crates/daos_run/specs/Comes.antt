@@ -1,12 +1,17 @@
 -- What a run comes to from stores that are opened for it.
-use Rattle.std.specs.Prelude.{◌≡◌, ◌≤◌, List, [], length, Option, Some}
+use Rattle.std.specs.Prelude.{ℕ, ◌≡◌, ◌≤◌, slice_get, List, [], length, Option, Some}
 use Rattle.base_types.specs.declared.report.Report.{Report}
 use Rattle.daos_model.specs.declared.durable.Durable.{Durable}
+use Rattle.daos_model.specs.Changes.{enlisted}
+use Rattle.daos_model.specs.Durables.{empty_durable}
 use Rattle.daos_model.specs.Opening.{Given, Outside}
-use Rattle.run_ends.specs.Comes.{ComesTo, IsOutside}
-use Rattle.run_opening.specs.All.{FromTo}
+use Rattle.run_ends.specs.Comes.{ComesTo, FollowsOrder, IsOutside}
+use Rattle.run_opening.specs.All.{AreKept, FromTo}
 use Rattle.run_shows.specs.Accounts.{IsServed}
+use Rattle.run_starts.specs.Starts.{begun_family}
 use Rattle.vos_store.specs.Calls.{State}
+use Rattle.world_base.specs.declared.target.TargetState.{TargetState}
+use Rattle.world_whole.specs.Begins.{declared_conts}
 
 -- a store once it was opened for a run: it had calls, by which it has no fewer free blocks, and as many where it kept no entries
 pub record IsOpenedFrom {S : Type 0} (durable : S → Option Durable) (state : S → State) (old new : S) : Type 0 where
@@ -14,11 +19,17 @@ pub record IsOpenedFrom {S : Type 0} (durable : S → Option Durable) (state : S
   pub free : (state old).free ≤ (state new).free
   pub still : (d : Durable) → durable old ≡ Some d → d.entries ≡ [] → (state new).free ≡ (state old).free
 
--- What a run comes to from these stores: what it comes to from them once they were opened. An outside that may have failed them since before
--- may have failed them since.
+-- What a run comes to from these stores: what it comes to from them once they got the script's containers and were opened together. An outside
+-- that may have failed them since before may have failed them since.
 pub record ComesFrom {S : Type 0} (durable : S → Option Durable) (state : S → State) (may : S → Durable → Type 0) (g : Given) (old new : List S) (q : Report) : Type 0 where
   pub opened : List S
   pub many : length opened ≡ length old
   pub each : FromTo old opened (λ t x y. IsOpenedFrom durable state x y)
+  pub kept : (B : List Durable) → AreKept durable old B → AreKept durable opened (begun_family g.script B)
   pub since : (o : Outside) → IsOutside state o old new → IsOutside state o opened new
   pub comes : ComesTo durable state may g opened new q
+
+-- A report over regions of zeros tells of the turns in the order asked, from where each target keeps the script's containers alone and was opened once.
+pub record FollowsFromZeros (g : Given) (q : Report) : Type 0 where
+  pub follows : FollowsOrder g q
+  pub opened : (t : ℕ) (s : TargetState) → slice_get follows.first.targets t ≡ Some s → s.durable ≡ enlisted (declared_conts g.script) (empty_durable 1)

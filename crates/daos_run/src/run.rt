@@ -1,7 +1,8 @@
 // Runs a script on targets.
 ghost use Rattle.std.specs.Prelude.{◌≡◌, ◌≤◌, [], replicate, IfOk, IsOkUnless, None, OnOk};
 ghost use Rattle.daos_model.specs.Opening.{fresh};
-ghost use Rattle.run_ends.specs.Comes.{FollowsOrder, IsLegal};
+ghost use Rattle.daos_run.specs.Comes.{FollowsFromZeros};
+ghost use Rattle.run_ends.specs.Comes.{IsLegal};
 ghost use Rattle.report_writer.specs.Forms.{IsReportOf};
 ghost use Rattle.model_reports.specs.Lone.{HasOneClient};
 ghost use Rattle.model_reports.specs.Rooms.{FindsRoom, HasRoom};
@@ -70,7 +71,7 @@ pub fn run_script<R: Threads + Wait + Sync, B: Rack, G: Gate + Sync>(
     requires script { IsRunnable job.now.targets script.now }
     ensures legal { IfOk result (IsLegal (fresh script.now job.now)) }
     ensures form { ScriptHasKeys script.now → IfOk result (IsReportOf script.now) }
-    ensures ordered { IfOk result (FollowsOrder (fresh script.now job.now)) }
+    ensures ordered { IfOk result (FollowsFromZeros (fresh script.now job.now)) }
     ensures issued { IfOk result AreIssuedThere }
     ensures none_down { IfOk result (λ report. report.down ≡ None) }
     ensures room { HasRoom script.now job.now.attempts (fresh script.now job.now).opening.free → IfOk result FindsRoom }

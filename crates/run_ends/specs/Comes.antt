@@ -111,9 +111,15 @@ pub record FollowsOrder (g : Given) (q : Report) : Type 0 where
   pub run : InOrder (rules_of g) g.job.order first last
   pub lines : q.lines ≡ last.lines
 
--- and the next openings of the stores may find what the targets of that run keep in the end
-pub record IsOrdered {S : Type 0} (may : S → Durable → Type 0) (g : Given) (q : Report) (ys : List S) : Type 0 where
+-- a target of a world is as its store says: it keeps what that tells, and was opened with the floor of its last opening
+pub record IsAsStored {S : Type 0} (durable : S → Option Durable) (state : S → State) (x : S) (s : TargetState) : Type 0 where
+  pub kept : durable x ≡ Some s.durable
+  pub opening : s.opening ≡ (state x).opening
+
+-- That run begins with the targets over these stores, as they are, and the next openings of their stores may find what the targets keep in the end.
+pub record IsOrdered {S : Type 0} (durable : S → Option Durable) (state : S → State) (may : S → Durable → Type 0) (g : Given) (q : Report) (xs ys : List S) : Type 0 where
   pub follows : FollowsOrder g q
+  pub begins : (t : ℕ) (x : S) (s : TargetState) → slice_get xs t ≡ Some x → slice_get follows.first.targets t ≡ Some s → IsAsStored durable state x s
   pub kept : MayBeFound may ys (durables_of follows.last)
 
 -- ---- all of it
@@ -129,4 +135,4 @@ pub record ComesTo {S : Type 0} (durable : S → Option Durable) (state : S → 
   pub running : LeavesRunning state q ys
   pub settled : LeavesSettled durable may g q ys
   pub unstopped : stop_numbers q.lines ≡ [] → EndsUnstopped durable g q ys
-  pub ordered : ((t : ℕ) (x : S) → slice_get xs t ≡ Some x → (state x).free ≡ g.opening.free t) → IsOrdered may g q ys
+  pub ordered : ((t : ℕ) (x : S) → slice_get xs t ≡ Some x → (state x).free ≡ g.opening.free t) → IsOrdered durable state may g q xs ys

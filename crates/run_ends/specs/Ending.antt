@@ -51,9 +51,9 @@ use Rattle.world_lone.specs.LoneRuns.{AreIssuedThere}
 use Rattle.world_whole.specs.Begins.{IsBegun}
 use Rattle.run_ends.specs.Armed.{before-fuse, fuses-started, fuses-tell, states_of}
 use Rattle.run_ends.specs.Arming.{AreArmed, HaveFuses}
-use Rattle.run_ends.specs.Begun.{first_world, is-begun, state_now, told-there}
+use Rattle.run_ends.specs.Begun.{first_world, is-begun, state_now, told-is, told-there}
 use Rattle.run_ends.specs.Caused.{end-caused, stops-caused}
-use Rattle.run_ends.specs.Comes.{ComesTo, EndsUnstopped, IsCommittedIn, IsOrdered, IsOutside, LacksMember, MayBeFound, StandPlainly, report_with}
+use Rattle.run_ends.specs.Comes.{ComesTo, EndsUnstopped, IsAsStored, IsCommittedIn, IsOrdered, IsOutside, LacksMember, MayBeFound, StandPlainly, report_with}
 use Rattle.run_ends.specs.Lasts.{AreSteady, are-found, found_at, its-target, keeps-lasts, some-may_be, some_lasts}
 use Rattle.run_ends.specs.Places.{IsMapped, from-map}
 use Rattle.run_ends.specs.Starts.{AllTell, HaveStarted, stores_of}
@@ -255,9 +255,22 @@ module _ {S C : Type 0} (durable : S → Option Durable) (state : S → State) (
           let x = before-fuse durable state may xs e.armed e.fuses.fuses t z.of_it z.at in
           ap (λ y. y.free) z.is ∙ ap (λ h. h.free) (e.fuses.fuses.each t x.0 z.of_it x.1 z.at).1.state_is.rest ∙ free t x.0.store (map-get (λ p. p.store) xs t x.0 x.1)
 
-      is-ordered : ((t : ℕ) (x : S) → slice_get (stores_of xs) t ≡ Some x → (state x).free ≡ g.opening.free t) → IsOrdered may g report (stores_of ys)
+      -- a target of that world is as its store says, since a fuse changes nothing of this
+      as-stored : (t : ℕ) (x : S) (s : TargetState) → slice_get (stores_of xs) t ≡ Some x → slice_get first.targets t ≡ Some s → IsAsStored durable state x s
+      as-stored t x s at here =
+          let z = from-map (state_now durable state) e.armed t s here in
+          let y = before-fuse durable state may xs e.armed e.fuses.fuses t z.of_it z.at in
+          let f = e.fuses.fuses.each t y.0 z.of_it y.1 z.at in
+          let same : y.0.store ≡ x = let two : Some y.0.store ≡ Some x = sym (map-get (λ p. p.store) xs t y.0 y.1) ∙ at in cc in
+          record {
+            kept = ap durable (sym same) ∙ sym f.1.kept ∙ told-is (durable z.of_it.store) (all z.of_it.store) ∙ ap (λ q. Some q.durable) (sym z.is);
+            opening = ap (λ q. q.opening) z.is ∙ ap (λ h. h.opening) f.1.state_is.rest ∙ ap (λ q. (state q).opening) same;
+          }
+
+      is-ordered : ((t : ℕ) (x : S) → slice_get (stores_of xs) t ≡ Some x → (state x).free ≡ g.opening.free t) → IsOrdered durable state may g report (stores_of xs) (stores_of ys)
       is-ordered free = record {
         follows = record { first = first; begun = begun; free = free-first free; restarts = refl; last = last; run = run.run; lines = run.told };
+        begins = as-stored;
         kept = subst (MayBeFound may (stores_of ys)) (sym keeps) m;
       }
 
