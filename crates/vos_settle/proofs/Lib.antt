@@ -1,0 +1,6 @@
+pub mod Lists
+pub mod Sums
+pub mod LogTurns
+pub mod ValuesTurns
+pub mod LevelTurns
+pub mod NodeTurns

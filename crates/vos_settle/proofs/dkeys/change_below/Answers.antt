@@ -1,0 +1,65 @@
+use Rattle.std.proofs.Common.{rules, ◌≡◌, ◌+◌, Err, IsErrOf, ap, arith, subst}
+use Rattle.pmem_tree_base.specs.declared.refusal.TreeNo.TheVariants.{TooMuch}
+use Rattle.vos_levels.specs.Levels.{hung}
+use Rattle.vos_versions.proofs.Marks.{err_other}
+use Rattle.vos_ilog.specs.Logs.{log_owner}
+use Rattle.vos_path.specs.Objects.{akey_level}
+use Rattle.vos_path.proofs.BranchWrites.{log_after}
+use Rattle.vos_path.proofs.Written.{holds_second}
+use Rattle.vos_settle.specs.Costs.{akeys_cost, for_one, noted_cost}
+use Rattle.vos_settle.specs.Nodes.{AkeysTurn}
+use Rattle.vos_settle.specs.Tasks.{noted_after}
+use Rattle.vos_settle.proofs.NodeTurns.{both_turned}
+use Rattle.vos_settle.proofs.Sums.{lacks_more, lacks_then, spends_then}
+use Rattle.vos_settle.proofs.dkeys.change_below.Goals as goal
+
+pub change_akeys-requires-clause-here : goal.change_akeys-requires-clause-here
+change_akeys-requires-clause-here g c told =
+    let s = c.requires.here told in
+    (s.0.1, (holds_second log_owner (hung akey_level) (g.P.Pages.blocks c.args.pages.now) s.0 s.1.0, (ap (λ r. r.below) s.1.1.0, tt)))
+
+pub returns-in_err-change_akeys-clause-too_much : goal.returns-in_err-change_akeys-clause-too_much
+returns-in_err-change_akeys-clause-too_much g c refused told x held at d small =
+    let is : c.from_residual.result ≡ Err c.in_err-change_akeys.field-0.0 = search rules in
+    let lacks = c.in_err-change_akeys.ensures.too_much (err_other c.in_err-change_akeys.field-0.0 TooMuch (subst (λ z. IsErrOf z TooMuch) is refused)) told x.1 (holds_second log_owner (hung akey_level) (g.P.Pages.blocks c.args.pages.now) x held) (ap (λ r. r.below) at) d small.1 in
+    lacks_more (akeys_cost c.args.task.kind (for_one d)) (akeys_cost c.args.task.kind (for_one d) + noted_cost c.args.task.kind (for_one d)) d (g.P.Pages.budget c.args.pages.now) (omega arith) lacks
+
+pub change_noted-requires-clause-log : goal.change_noted-requires-clause-log
+change_noted-requires-clause-log g c told =
+    let s = c.requires.here told in
+    let m = g.P.Pages.blocks c.args.pages.now in
+    let b = c.in_ok-change_akeys.ensures.changed told s.0.1 (holds_second log_owner (hung akey_level) m s.0 s.1.0) (ap (λ r. r.below) s.1.1.0) in
+    (s.0.0, (log_after akey_level m (g.P.Pages.blocks c.change_akeys.new.pages) s.0 b.now s.1.0 b.changed, (ap (λ r. r.log) s.1.1.0, tt)))
+
+pub returns-in_err-log-clause-too_much : goal.returns-in_err-log-clause-too_much
+returns-in_err-log-clause-too_much g c refused told x held at d small =
+    let is : c.from_residual-in_err-log.result ≡ Err c.in_err-log.field-0.0 = search rules in
+    let m = g.P.Pages.blocks c.args.pages.now in
+    let b = c.in_ok-change_akeys.ensures.changed told x.1 (holds_second log_owner (hung akey_level) m x held) (ap (λ r. r.below) at) in
+    let spent = c.in_ok-change_akeys.ensures.staged told x.1 (holds_second log_owner (hung akey_level) m x held) (ap (λ r. r.below) at) d small.1 in
+    lacks_then x.0 (akeys_cost c.args.task.kind (for_one d)) (akeys_cost c.args.task.kind (for_one d) + noted_cost c.args.task.kind (for_one d)) d (g.P.Pages.budget c.args.pages.now) (g.P.Pages.budget c.change_akeys.new.pages) (omega arith) small.0 spent
+    (c.in_err-log.ensures.too_much (err_other c.in_err-log.field-0.0 TooMuch (subst (λ z. IsErrOf z TooMuch) is refused)) told x.0 (log_after akey_level m (g.P.Pages.blocks c.change_akeys.new.pages) x b.now held b.changed) (ap (λ r. r.log) at))
+
+pub returns-clause-changed : goal.returns-clause-changed
+returns-clause-changed g c told x held at =
+    let m = g.P.Pages.blocks c.args.pages.now in
+    let n = g.P.Pages.blocks c.change_akeys.new.pages in
+    let b = c.in_ok-change_akeys.ensures.changed told x.1 (holds_second log_owner (hung akey_level) m x held) (ap (λ r. r.below) at) in
+    let l = c.in_ok-log.ensures.changed told x.0 (log_after akey_level m n x b.now held b.changed) (ap (λ r. r.log) at) in
+    both_turned akey_level m n x c.args.roots held at (AkeysTurn c.args.task c.args.akey.now) (noted_after c.args.task) (g.P.Pages.blocks c.change_noted.new.pages) c.change_akeys.new.akeys.root c.in_ok-log.log b l
+
+pub returns-clause-staged : goal.returns-clause-staged
+returns-clause-staged g c told x held at d small =
+    let m = g.P.Pages.blocks c.args.pages.now in
+    let b = c.in_ok-change_akeys.ensures.changed told x.1 (holds_second log_owner (hung akey_level) m x held) (ap (λ r. r.below) at) in
+    let spent = c.in_ok-change_akeys.ensures.staged told x.1 (holds_second log_owner (hung akey_level) m x held) (ap (λ r. r.below) at) d small.1 in
+    let more = c.in_ok-log.ensures.staged told x.0 (log_after akey_level m (g.P.Pages.blocks c.change_akeys.new.pages) x b.now held b.changed) (ap (λ r. r.log) at) d small.0 in
+    spends_then (akeys_cost c.args.task.kind (for_one d)) (noted_cost c.args.task.kind (for_one d)) (g.P.Pages.budget c.args.pages.now) (g.P.Pages.budget c.change_akeys.new.pages) (g.P.Pages.budget c.change_noted.new.pages) spent more
+
+pub returns-clause-free : goal.returns-clause-free
+returns-clause-free g c told x held at =
+    let m = g.P.Pages.blocks c.args.pages.now in
+    let b = c.in_ok-change_akeys.ensures.changed told x.1 (holds_second log_owner (hung akey_level) m x held) (ap (λ r. r.below) at) in
+    let one = c.in_ok-change_akeys.ensures.free told x.1 (holds_second log_owner (hung akey_level) m x held) (ap (λ r. r.below) at) in
+    let two = c.in_ok-log.ensures.free told x.0 (log_after akey_level m (g.P.Pages.blocks c.change_akeys.new.pages) x b.now held b.changed) (ap (λ r. r.log) at) in
+    omega (arith, one, two)

@@ -1,0 +1,137 @@
+use Rattle.std.proofs.Common.{rules, ◌≡◌, Err, IsErrOf, ap, arith, subst, sym}
+use Rattle.pmem_pages.specs.Owners.{Holds}
+use Rattle.pmem_pages.specs.Shape.{IsTree}
+use Rattle.pmem_tree.specs.Changes.{Puts}
+use Rattle.pmem_tree_base.specs.declared.refusal.TreeNo.TheVariants.{TooMuch}
+use Rattle.vos_values.specs.Keys.{IsName, name_key}
+use Rattle.vos_values.specs.Values.{roots_value}
+use Rattle.vos_levels.specs.Levels.{things}
+use Rattle.vos_levels.proofs.Calls.{on_ok_then}
+use Rattle.vos_versions.proofs.Marks.{err_other}
+use Rattle.vos_path.specs.Objects.{akey_level, below_owner, below_roots, dkey_level, or_none}
+use Rattle.vos_path.specs.Writes.{DkeyIsSmall}
+use Rattle.vos_path.proofs.Putting.{tree_of}
+use Rattle.vos_settle.specs.Costs.{Lacks, Spends, below_dkey_cost, dkeys_cost, for_one}
+use Rattle.vos_settle.specs.Nodes.{DkeyTurn, dkey_freed, is_dkey, Turned}
+use Rattle.vos_settle.proofs.Lists.{all_one}
+use Rattle.vos_settle.proofs.NodeTurns.{branch_entry, branch_holds, branch_is, branch_is_none, branches_stay, branches_still, branches_turned}
+use Rattle.vos_settle.proofs.Sums.{lacks_more, lacks_put, spends_then}
+use Rattle.vos_settle.proofs.dkeys.change_dkeys.Goals as goal
+
+pub find_roots-requires-clause-tree : goal.find_roots-requires-clause-tree
+find_roots-requires-clause-tree g c told =
+    let s = c.requires.here told in
+    (s.0.0, (tree_of dkey_level (g.P.Pages.blocks c.args.pages.now) c.args.dkeys.now.kind c.args.dkeys.now.root s.0 c.requires.kind s.1.0 s.1.1.0, tt))
+
+pub returns-in_default-clause-changed : goal.returns-in_default-clause-changed
+returns-in_default-clause-changed g c told x held at =
+    let m = g.P.Pages.blocks c.args.pages.now in
+    let tree = tree_of dkey_level m c.args.dkeys.now.kind c.args.dkeys.now.root x c.requires.kind held at in
+    let none = branch_is_none 2 name_key IsName akey_level (name_key c.args.name.now) m x held c.key_of-key.result c.key_of-key.ensures.key c.in_ok-was.field-0 (c.in_ok-was.ensures.found told x.0 tree) c.in_default.is in
+    branches_stay 2 name_key IsName akey_level (name_key c.args.name.now) m x held (DkeyTurn c.args.task c.args.akey.now) (g.P.Pages.blocks c.find_roots.new.pages) c.args.dkeys.now.root (c.find_roots.ensures.kept told) at none
+
+pub returns-in_default-clause-free : goal.returns-in_default-clause-free
+returns-in_default-clause-free g c told x held at =
+    let m = g.P.Pages.blocks c.args.pages.now in
+    let tree = tree_of dkey_level m c.args.dkeys.now.kind c.args.dkeys.now.root x c.requires.kind held at in
+    let none = branch_is_none 2 name_key IsName akey_level (name_key c.args.name.now) m x held c.key_of-key.result c.key_of-key.ensures.key c.in_ok-was.field-0 (c.in_ok-was.ensures.found told x.0 tree) c.in_default.is in
+    let zero = ap (or_none (dkey_freed c.args.task c.args.akey.now) 0) none in
+    let same = ap (λ b. b.free) c.find_roots.ensures.budget in
+    omega (arith, zero, same)
+
+pub change_dkey-requires-clause-here : goal.change_dkey-requires-clause-here
+change_dkey-requires-clause-here g c told =
+    let s = c.requires.here told in
+    let m = g.P.Pages.blocks c.args.pages.now in
+    let e = c.find_roots.ensures.kept told in
+    let tree = tree_of dkey_level m c.args.dkeys.now.kind c.args.dkeys.now.root s.0 c.requires.kind s.1.0 s.1.1.0 in
+    let k = branch_is 2 name_key IsName akey_level (name_key c.args.name.now) m s.0 s.1.0 c.key_of-key.result c.key_of-key.ensures.key c.in_ok-was.field-0 (c.in_ok-was.ensures.found told s.0.0 tree) c.in-Some.was c.in-Some.is in
+    let stands = subst (λ b. Holds (below_owner akey_level) b k.thing.holds) (sym e) (branch_holds 2 name_key IsName akey_level (name_key c.args.name.now) m s.0 s.1.0 k.thing k.found) in
+    (k.thing.holds, (stands, (k.is, tt)))
+
+pub returns-in_err-now-clause-too_much : goal.returns-in_err-now-clause-too_much
+returns-in_err-now-clause-too_much g c refused told x held at d small =
+    let is : c.from_residual-in_err-now.result ≡ Err c.in_err-now.field-0.0 = search rules in
+    let m = g.P.Pages.blocks c.args.pages.now in
+    let e = c.find_roots.ensures.kept told in
+    let tree = tree_of dkey_level m c.args.dkeys.now.kind c.args.dkeys.now.root x c.requires.kind held at in
+    let k = branch_is 2 name_key IsName akey_level (name_key c.args.name.now) m x held c.key_of-key.result c.key_of-key.ensures.key c.in_ok-was.field-0 (c.in_ok-was.ensures.found told x.0 tree) c.in-Some.was c.in-Some.is in
+    let stands = subst (λ b. Holds (below_owner akey_level) b k.thing.holds) (sym e) (branch_holds 2 name_key IsName akey_level (name_key c.args.name.now) m x held k.thing k.found) in
+    let lacks = c.in_err-now.ensures.too_much (err_other c.in_err-now.field-0.0 TooMuch (subst (λ z. IsErrOf z TooMuch) is refused)) told k.thing.holds stands k.is d (all_one (DkeyIsSmall d) (is_dkey c.args.name.now) (things x) k.thing small.1 k.found) in
+    lacks_more (below_dkey_cost c.args.task.kind c.args.akey.now (for_one d)) (dkeys_cost c.args.task.kind c.args.akey.now (for_one d)) d (g.P.Pages.budget c.args.pages.now) (omega arith) (subst (Lacks (below_dkey_cost c.args.task.kind c.args.akey.now (for_one d)) d) c.find_roots.ensures.budget lacks)
+
+pub put_value-requires-clause-tree : goal.put_value-requires-clause-tree
+put_value-requires-clause-tree g c told =
+    let s = c.requires.here told in
+    let m = g.P.Pages.blocks c.args.pages.now in
+    let e = c.find_roots.ensures.kept told in
+    let tree = tree_of dkey_level m c.args.dkeys.now.kind c.args.dkeys.now.root s.0 c.requires.kind s.1.0 s.1.1.0 in
+    let k = branch_is 2 name_key IsName akey_level (name_key c.args.name.now) m s.0 s.1.0 c.key_of-key.result c.key_of-key.ensures.key c.in_ok-was.field-0 (c.in_ok-was.ensures.found told s.0.0 tree) c.in-Some.was c.in-Some.is in
+    let stands = subst (λ b. Holds (below_owner akey_level) b k.thing.holds) (sym e) (branch_holds 2 name_key IsName akey_level (name_key c.args.name.now) m s.0 s.1.0 k.thing k.found) in
+    let n = g.P.Pages.blocks c.change_dkey.new.pages in
+    let v = subst (λ b. Turned (below_owner akey_level) below_roots b k.thing.holds n c.in_ok-now.now (DkeyTurn c.args.task c.args.akey.now)) e (c.in_ok-now.ensures.changed told k.thing.holds stands k.is) in
+    let still = branches_still 2 name_key IsName akey_level (name_key c.args.name.now) m s.0 s.1.0 k.thing k.found (DkeyTurn c.args.task c.args.akey.now) n c.in_ok-now.now v c.args.dkeys.now.root s.1.1.0 in
+    let tree2 = subst (λ z. IsTree n z c.args.dkeys.now.root s.0.0) (sym c.requires.kind) still in
+    let entry = branch_entry 2 name_key IsName akey_level (name_key c.args.name.now) m s.0 s.1.0 k.thing k.found c.key_of-key.result c.key_of-key.ensures.key in
+    (s.0.0, (tree2, entry))
+
+pub returns-clause-changed : goal.returns-clause-changed
+returns-clause-changed g c = on_ok_then c.put_value.result (λ h told x held at.
+    let m = g.P.Pages.blocks c.args.pages.now in
+    let e = c.find_roots.ensures.kept told in
+    let tree = tree_of dkey_level m c.args.dkeys.now.kind c.args.dkeys.now.root x c.requires.kind held at in
+    let k = branch_is 2 name_key IsName akey_level (name_key c.args.name.now) m x held c.key_of-key.result c.key_of-key.ensures.key c.in_ok-was.field-0 (c.in_ok-was.ensures.found told x.0 tree) c.in-Some.was c.in-Some.is in
+    let stands = subst (λ b. Holds (below_owner akey_level) b k.thing.holds) (sym e) (branch_holds 2 name_key IsName akey_level (name_key c.args.name.now) m x held k.thing k.found) in
+    let n = g.P.Pages.blocks c.change_dkey.new.pages in
+    let v = subst (λ b. Turned (below_owner akey_level) below_roots b k.thing.holds n c.in_ok-now.now (DkeyTurn c.args.task c.args.akey.now)) e (c.in_ok-now.ensures.changed told k.thing.holds stands k.is) in
+    let still = branches_still 2 name_key IsName akey_level (name_key c.args.name.now) m x held k.thing k.found (DkeyTurn c.args.task c.args.akey.now) n c.in_ok-now.now v c.args.dkeys.now.root at in
+    let tree2 = subst (λ z. IsTree n z c.args.dkeys.now.root x.0) (sym c.requires.kind) still in
+    let entry = branch_entry 2 name_key IsName akey_level (name_key c.args.name.now) m x held k.thing k.found c.key_of-key.result c.key_of-key.ensures.key in
+    let o = g.P.Pages.blocks c.put_value.new.pages in
+    let root = c.put_value.new.self.root in
+    let put = h told x.0 tree2 entry.0 entry.1 in
+    let put2 : Puts n 2 x.0 (name_key c.args.name.now) (roots_value c.in_ok-now.now) o root = subst (λ z. Puts n 2 x.0 (name_key c.args.name.now) z o root) c.roots_value.ensures.value (subst (λ z. Puts n 2 x.0 z c.roots_value.result o root) c.key_of-key.ensures.key (subst (λ z. Puts n z x.0 c.key_of-key.result c.roots_value.result o root) c.requires.kind put)) in
+    branches_turned 2 name_key IsName akey_level (name_key c.args.name.now) m x held k.thing k.found (DkeyTurn c.args.task c.args.akey.now) n c.in_ok-now.now v o root put2) c.put_value.ensures.put
+
+pub returns-clause-too_much : goal.returns-clause-too_much
+returns-clause-too_much g c refused told x held at d small =
+    let m = g.P.Pages.blocks c.args.pages.now in
+    let e = c.find_roots.ensures.kept told in
+    let tree = tree_of dkey_level m c.args.dkeys.now.kind c.args.dkeys.now.root x c.requires.kind held at in
+    let k = branch_is 2 name_key IsName akey_level (name_key c.args.name.now) m x held c.key_of-key.result c.key_of-key.ensures.key c.in_ok-was.field-0 (c.in_ok-was.ensures.found told x.0 tree) c.in-Some.was c.in-Some.is in
+    let stands = subst (λ b. Holds (below_owner akey_level) b k.thing.holds) (sym e) (branch_holds 2 name_key IsName akey_level (name_key c.args.name.now) m x held k.thing k.found) in
+    let n = g.P.Pages.blocks c.change_dkey.new.pages in
+    let v = subst (λ b. Turned (below_owner akey_level) below_roots b k.thing.holds n c.in_ok-now.now (DkeyTurn c.args.task c.args.akey.now)) e (c.in_ok-now.ensures.changed told k.thing.holds stands k.is) in
+    let still = branches_still 2 name_key IsName akey_level (name_key c.args.name.now) m x held k.thing k.found (DkeyTurn c.args.task c.args.akey.now) n c.in_ok-now.now v c.args.dkeys.now.root at in
+    let tree2 = subst (λ z. IsTree n z c.args.dkeys.now.root x.0) (sym c.requires.kind) still in
+    let entry = branch_entry 2 name_key IsName akey_level (name_key c.args.name.now) m x held k.thing k.found c.key_of-key.result c.key_of-key.ensures.key in
+    let spent = subst (λ b. Spends (below_dkey_cost c.args.task.kind c.args.akey.now (for_one d)) b (g.P.Pages.budget c.change_dkey.new.pages)) c.find_roots.ensures.budget (c.in_ok-now.ensures.staged told k.thing.holds stands k.is d (all_one (DkeyIsSmall d) (is_dkey c.args.name.now) (things x) k.thing small.1 k.found)) in
+    lacks_put (below_dkey_cost c.args.task.kind c.args.akey.now (for_one d)) d (g.P.Pages.budget c.args.pages.now) (g.P.Pages.budget c.change_dkey.new.pages) spent (c.put_value.ensures.too_much refused)
+
+pub returns-clause-staged : goal.returns-clause-staged
+returns-clause-staged g c = on_ok_then c.put_value.result (λ h told x held at d small.
+    let m = g.P.Pages.blocks c.args.pages.now in
+    let e = c.find_roots.ensures.kept told in
+    let tree = tree_of dkey_level m c.args.dkeys.now.kind c.args.dkeys.now.root x c.requires.kind held at in
+    let k = branch_is 2 name_key IsName akey_level (name_key c.args.name.now) m x held c.key_of-key.result c.key_of-key.ensures.key c.in_ok-was.field-0 (c.in_ok-was.ensures.found told x.0 tree) c.in-Some.was c.in-Some.is in
+    let stands = subst (λ b. Holds (below_owner akey_level) b k.thing.holds) (sym e) (branch_holds 2 name_key IsName akey_level (name_key c.args.name.now) m x held k.thing k.found) in
+    let n = g.P.Pages.blocks c.change_dkey.new.pages in
+    let v = subst (λ b. Turned (below_owner akey_level) below_roots b k.thing.holds n c.in_ok-now.now (DkeyTurn c.args.task c.args.akey.now)) e (c.in_ok-now.ensures.changed told k.thing.holds stands k.is) in
+    let still = branches_still 2 name_key IsName akey_level (name_key c.args.name.now) m x held k.thing k.found (DkeyTurn c.args.task c.args.akey.now) n c.in_ok-now.now v c.args.dkeys.now.root at in
+    let tree2 = subst (λ z. IsTree n z c.args.dkeys.now.root x.0) (sym c.requires.kind) still in
+    let entry = branch_entry 2 name_key IsName akey_level (name_key c.args.name.now) m x held k.thing k.found c.key_of-key.result c.key_of-key.ensures.key in
+    let spent = subst (λ b. Spends (below_dkey_cost c.args.task.kind c.args.akey.now (for_one d)) b (g.P.Pages.budget c.change_dkey.new.pages)) c.find_roots.ensures.budget (c.in_ok-now.ensures.staged told k.thing.holds stands k.is d (all_one (DkeyIsSmall d) (is_dkey c.args.name.now) (things x) k.thing small.1 k.found)) in
+    spends_then (below_dkey_cost c.args.task.kind c.args.akey.now (for_one d)) 1 (g.P.Pages.budget c.args.pages.now) (g.P.Pages.budget c.change_dkey.new.pages) (g.P.Pages.budget c.put_value.new.pages) spent c.put_value.ensures.staged) c.put_value.ensures.went_on
+
+pub returns-clause-free : goal.returns-clause-free
+returns-clause-free g c = on_ok_then c.put_value.result (λ h told x held at.
+    let m = g.P.Pages.blocks c.args.pages.now in
+    let e = c.find_roots.ensures.kept told in
+    let tree = tree_of dkey_level m c.args.dkeys.now.kind c.args.dkeys.now.root x c.requires.kind held at in
+    let k = branch_is 2 name_key IsName akey_level (name_key c.args.name.now) m x held c.key_of-key.result c.key_of-key.ensures.key c.in_ok-was.field-0 (c.in_ok-was.ensures.found told x.0 tree) c.in-Some.was c.in-Some.is in
+    let stands = subst (λ b. Holds (below_owner akey_level) b k.thing.holds) (sym e) (branch_holds 2 name_key IsName akey_level (name_key c.args.name.now) m x held k.thing k.found) in
+    let one = c.in_ok-now.ensures.free told k.thing.holds stands k.is in
+    let two = ap (λ b. b.free) c.find_roots.ensures.budget in
+    let three = ap (or_none (dkey_freed c.args.task c.args.akey.now) 0) k.found in
+    let put = c.put_value.ensures.free in
+    omega (arith, one, two, three, put)) c.put_value.ensures.went_on
