@@ -4,3 +4,5 @@ pub mod LogTurns
 pub mod ValuesTurns
 pub mod LevelTurns
 pub mod NodeTurns
+pub mod Flat
+pub mod VersionTurns

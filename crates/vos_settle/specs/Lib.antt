@@ -1,3 +1,4 @@
 pub mod Tasks
 pub mod Nodes
 pub mod Costs
+pub mod Versions

@@ -7,3 +7,4 @@ pub mod log;
 pub mod objects;
 pub mod task;
 pub mod values;
+pub mod write;

@@ -4,7 +4,7 @@ ghost use Rattle.std.specs.Prelude.{Some as some_name, None as no_name};
 ghost use Rattle.pmem_tree_base.specs.Calls.{Goes};
 ghost use Rattle.pmem_tree_base.specs.declared.refusal.TreeNo.{TreeNo};
 ghost use Rattle.vos_values.specs.declared.keys.Layout.TheVariants.{Two};
-ghost use Rattle.vos_values.specs.Keys.{IsName, is_size};
+ghost use Rattle.vos_values.specs.Keys.{IsName, IsObjectKey, is_size};
 ghost use Rattle.vos_levels.specs.Calls.{HasThing, OfThing};
 ghost use Rattle.vos_levels.specs.Changes.{keeps};
 ghost use Rattle.vos_levels.specs.Levels.{hung_root};
@@ -137,6 +137,7 @@ pub fn change_objects<P: Pages, L: Ledger>(
     requires names { NamesAreKeys path.now }
     requires here { HasThing P.tells objects_owner hung_root (P.blocks pages.old) objects.old.root (λ g. ⊤) }
     ensures changed { OnOk result (OfThing P.tells objects_owner hung_root (P.blocks pages.old) objects.old.root (λ g. Turned objects_owner hung_root (P.blocks pages.old) g (P.blocks pages.new) objects.new.root (OneObjectTurn task object path.now))) }
+    ensures object { IsObjectKey Two object }
     ensures kind { objects.new.kind ≡ 1 }
     ensures no_block { IsErrOf result TreeNo.NoBlock → ⊥ }
     ensures too_much { IsErrOf result TreeNo.TooMuch → OfThing P.tells objects_owner hung_root (P.blocks pages.old) objects.old.root (λ g. (d : ℕ) → ObjectsAreSmall d g → Lacks (objects_cost task.kind path.now.dkey path.now.akey (for_one d)) d (P.budget pages.old)) }

@@ -1,0 +1,7 @@
+use Rattle.vos_levels.proofs.Calls.{on_ok_then}
+use Rattle.vos_settle.proofs.VersionTurns.{write_turned}
+use Rattle.vos_settle.proofs.write.change_write.Goals as goal
+
+pub returns-clause-changed : goal.returns-clause-changed
+returns-clause-changed g c = on_ok_then c.change_objects.result (λ h told x held at.
+    write_turned c.args.task c.args.path.now (g.P.Pages.blocks c.args.pages.now) (g.P.Pages.blocks c.change_objects.new.pages) x c.in-Some.obj c.change_objects.new.objects.root held c.in-Some.is c.requires.fits c.requires.names c.change_objects.ensures.object (h told x held at)) c.change_objects.ensures.changed
