@@ -327,6 +327,7 @@ impl Ilog {
         ensures too_much { IsErrOf result TreeNo.TooMuch → OfThing P.tells log_owner hung_root (P.blocks pages.old) self.old.tree.root (λ g. TooFew g.0 (P.budget pages.old)) }
         ensures steps { OfThing P.tells log_owner hung_root (P.blocks pages.old) self.old.tree.root (λ g. StepsAtMost 18 16 g.0 steps.old steps.new) }
         ensures staged { OnOk result (OfThing P.tells log_owner hung_root (P.blocks pages.old) self.old.tree.root (λ g. StagesAtMost 8 16 g.0 (P.budget pages.old) (P.budget pages.new))) }
+        ensures root { keeps change ≡ true → self.new.tree.root ≡ self.old.tree.root }
         ensures committed { keeps change ≡ true → IsSpent 1 256 (P.budget pages.old) (P.budget pages.new) }
         ensures free { OnOk result (OfThing P.tells log_owner hung_root (P.blocks pages.old) self.old.tree.root (λ g. (P.budget pages.new).free ≡ (P.budget pages.old).free + freed_at change at (things g))) }
         ensures goes { Goes P.stopped P.count P.burns pages.old pages.new }

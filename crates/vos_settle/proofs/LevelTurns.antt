@@ -39,8 +39,8 @@ module _ {A P : Type 0} (kind : ℕ) (f : A → P) (O : Owner P) (key : A → Tr
     spot : (e : Entry) × Spot (part_level kind f O key value Good) k (is_level (part_level kind f O key value Good) k) (entries g.0) g.1 e a
     spot = let L = part_level kind f O key value Good in spot_at L k (is_level L k) (tells_level L k) m g a h found
 
-    pub level_entry : (e : Entry) × (entry_at k (entries g.0) ≡ Some e)
-    level_entry = (spot.0, spot.1.at)
+    pub level_entry : (e : Entry) × ((entry_at k (entries g.0) ≡ Some e) × (e.value ≡ value a))
+    level_entry = (spot.0, (spot.1.at, spot.1.leads.value))
 
     pub level_good : Good a
     level_good = let L = part_level kind f O key value Good in found_good L (is_level L k) (things g) a (all_good L (entries g.0) g.1 h.here.1.leads) found

@@ -6,3 +6,4 @@ pub mod LevelTurns
 pub mod NodeTurns
 pub mod Flat
 pub mod VersionTurns
+pub mod Puts

@@ -43,8 +43,8 @@ module _ (m : Blocks) (g : Hung Akey) (held : Holds (hung akey_level) m g) (name
     pub akey_holds : Holds values_owner m a.holds
     akey_holds = one_holds 3 held_values values_owner akey_level.key akey_level.value akey_level.Good (name_key name) m g held a found
 
-    pub akey_entry : (key : TreeKey) → key ≡ name_key name → (e : Entry) × (entry_at key (entries g.0) ≡ Some e)
-    akey_entry key is = let s = level_entry 3 held_values values_owner akey_level.key akey_level.value akey_level.Good (name_key name) m g held a found in (s.0, ap (λ k. entry_at k (entries g.0)) is ∙ s.1)
+    pub akey_entry : (key : TreeKey) → key ≡ name_key name → (e : Entry) × ((entry_at key (entries g.0) ≡ Some e) × (e.value ≡ akey_value (values_roots a.holds)))
+    akey_entry key is = let s = level_entry 3 held_values values_owner akey_level.key akey_level.value akey_level.Good (name_key name) m g held a found in (s.0, (ap (λ k. entry_at k (entries g.0)) is ∙ s.1.0, s.1.1))
 
     module _ (t : Task) (n : Blocks) (now : AkeyRoots) (v : Turned values_owner values_roots m a.holds n now (ValuesTurn t)) where
       abbrev made : Akey
@@ -80,8 +80,8 @@ module _ {N A : Type 0} (kind : ℕ) (key : N → TreeKey) (Good : N → Type 0)
     pub branch_holds : Holds (below_owner L) m b.holds
     branch_holds = let M = branch_level kind key Good L in one_holds kind held_below (below_owner L) M.key M.value M.Good k m g held b found
 
-    pub branch_entry : (at_key : TreeKey) → at_key ≡ k → (e : Entry) × (entry_at at_key (entries g.0) ≡ Some e)
-    branch_entry at_key is = let M = branch_level kind key Good L in let s = level_entry kind held_below (below_owner L) M.key M.value M.Good k m g held b found in (s.0, ap (λ z. entry_at z (entries g.0)) is ∙ s.1)
+    pub branch_entry : (at_key : TreeKey) → at_key ≡ k → (e : Entry) × ((entry_at at_key (entries g.0) ≡ Some e) × (e.value ≡ roots_value (below_roots b.holds)))
+    branch_entry at_key is = let M = branch_level kind key Good L in let s = level_entry kind held_below (below_owner L) M.key M.value M.Good k m g held b found in (s.0, (ap (λ z. entry_at z (entries g.0)) is ∙ s.1.0, s.1.1))
 
     module _ (Q : Below A → Below A → Type 0) (n : Blocks) (now : Roots) (v : Turned (below_owner L) below_roots m b.holds n now Q) where
       abbrev made_branch : Branch N A

@@ -29,21 +29,21 @@ values_cost (kind.Extent low) e = 2 * e
 abbrev pub noted_cost : WriteKind → ℕ → ℕ
 noted_cost k e = if is_update k then e else 0
 
--- and one range for the value of the akey
-abbrev pub akeys_cost : WriteKind → ℕ → ℕ
-akeys_cost k e = values_cost k e + 1
+-- and so much for the value of the akey
+abbrev pub akeys_cost : WriteKind → ℕ → ℕ → ℕ
+akeys_cost k e v = values_cost k e + v
 
-abbrev pub below_dkey_cost : WriteKind → Option (List ℕ) → ℕ → ℕ
-below_dkey_cost k None e = e
-below_dkey_cost k (Some akey) e = akeys_cost k e + noted_cost k e
+abbrev pub below_dkey_cost : WriteKind → Option (List ℕ) → ℕ → ℕ → ℕ
+below_dkey_cost k None e v = e
+below_dkey_cost k (Some akey) e v = akeys_cost k e v + noted_cost k e
 
-abbrev pub dkeys_cost : WriteKind → Option (List ℕ) → ℕ → ℕ
-dkeys_cost k akey e = below_dkey_cost k akey e + 1
+abbrev pub dkeys_cost : WriteKind → Option (List ℕ) → ℕ → ℕ → ℕ
+dkeys_cost k akey e v = below_dkey_cost k akey e v + v
 
-abbrev pub below_object_cost : WriteKind → Option (List ℕ) → Option (List ℕ) → ℕ → ℕ
-below_object_cost k None akey e = e
-below_object_cost k (Some dkey) akey e = dkeys_cost k akey e + noted_cost k e
+abbrev pub below_object_cost : WriteKind → Option (List ℕ) → Option (List ℕ) → ℕ → ℕ → ℕ
+below_object_cost k None akey e v = e
+below_object_cost k (Some dkey) akey e v = dkeys_cost k akey e v + noted_cost k e
 
--- in all at most four for an update and three ranges besides, or one for a punch and up to three besides
-abbrev pub objects_cost : WriteKind → Option (List ℕ) → Option (List ℕ) → ℕ → ℕ
-objects_cost k dkey akey e = below_object_cost k dkey akey e + 1
+-- in all as much for four entries and three values for an update, and for one entry and one to three values for a punch
+abbrev pub objects_cost : WriteKind → Option (List ℕ) → Option (List ℕ) → ℕ → ℕ → ℕ
+objects_cost k dkey akey e v = below_object_cost k dkey akey e v + v

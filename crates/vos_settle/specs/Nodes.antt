@@ -1,10 +1,12 @@
 -- What becomes of the nodes on the way to a write: of its akey, its dkey and its object. All others stay as they are.
-use Rattle.std.specs.Prelude.{◌≡◌, ◌⊎◌, ◌+◌, ℕ, Bool, true, false, List, ◌∷◌, ◌++◌, Option, Some, None}
+use Rattle.std.specs.Prelude.{◌≡◌, ◌⊎◌, ◌+◌, ℕ, Bool, true, false, List, ◌∷◌, ◌++◌, Option, Some, None, ◌==◌, ◌&&◌}
 use Rattle.std.specs.List.{find, list_any}
 use Rattle.base_types.specs.declared.path.Path.{Path}
 use Rattle.pmem_pages.specs.Blocks.{Blocks}
 use Rattle.pmem_pages.specs.Owners.{Changed, Owner}
 use Rattle.vos_values.specs.declared.keys.ObjectKey.{ObjectKey}
+use Rattle.vos_values.specs.declared.values.AkeyRoots.{AkeyRoots}
+use Rattle.vos_values.specs.declared.values.Roots.{Roots}
 use Rattle.vos_values.specs.Keys.{name_key, object_key}
 use Rattle.vos_levels.specs.Levels.{Hung, is_level, things}
 use Rattle.vos_ilog.specs.declared.ilog.LogEntry.{LogEntry}
@@ -43,6 +45,14 @@ pub record NoneOther {A : Type 0} (test : A → Bool) (xs ys : List A) : Type 0 
 
 abbrev pub ChangesOne : {A : Type 0} → (A → Bool) → (A → A → Type 0) → List A → List A → Type 0
 ChangesOne test Q xs ys = OneOther test Q xs ys ⊎ NoneOther test xs ys
+
+-- ---- roots
+
+abbrev pub are_akey_roots : AkeyRoots → AkeyRoots → Bool
+are_akey_roots a b = (a.log == b.log) && (a.singles == b.singles) && (a.extents == b.extents)
+
+abbrev pub are_roots : Roots → Roots → Bool
+are_roots a b = (a.log == b.log) && (a.below == b.below)
 
 -- ---- an akey
 

@@ -11,6 +11,7 @@ ghost use Rattle.vos_path.specs.Writes.{AkeysAreSmall};
 ghost use Rattle.vos_settle.specs.Nodes.{AkeysTurn, Turned, akeys_freed};
 ghost use Rattle.vos_settle.specs.Costs.{Lacks, Spends, akeys_cost, for_one};
 
+use crate::put::{are_akey_roots, put_unless};
 use crate::task::Task;
 use crate::values::change_values;
 use base_types::key::Key;
@@ -43,9 +44,10 @@ pub fn change_akeys<P: Pages, L: Ledger>(
     ensures changed { OnOk result (OfThing P.tells (hung akey_level) hung_root (P.blocks pages.old) akeys.old.root (λ g. Turned (hung akey_level) hung_root (P.blocks pages.old) g (P.blocks pages.new) akeys.new.root (AkeysTurn task name.now))) }
     ensures kind { akeys.new.kind ≡ 3 }
     ensures no_block { IsErrOf result TreeNo.NoBlock → ⊥ }
-    ensures too_much { IsErrOf result TreeNo.TooMuch → OfThing P.tells (hung akey_level) hung_root (P.blocks pages.old) akeys.old.root (λ g. (d : ℕ) → AkeysAreSmall d g → Lacks (akeys_cost task.kind (for_one d)) d (P.budget pages.old)) }
-    ensures staged { OnOk result (OfThing P.tells (hung akey_level) hung_root (P.blocks pages.old) akeys.old.root (λ g. (d : ℕ) → AkeysAreSmall d g → Spends (akeys_cost task.kind (for_one d)) (P.budget pages.old) (P.budget pages.new))) }
-    ensures committed { keeps task.change ≡ true → OnOk result (Spends (akeys_cost task.kind 1) (P.budget pages.old) (P.budget pages.new)) }
+    ensures too_much { IsErrOf result TreeNo.TooMuch → OfThing P.tells (hung akey_level) hung_root (P.blocks pages.old) akeys.old.root (λ g. (d : ℕ) → AkeysAreSmall d g → Lacks (akeys_cost task.kind (for_one d) 1) d (P.budget pages.old)) }
+    ensures staged { OnOk result (OfThing P.tells (hung akey_level) hung_root (P.blocks pages.old) akeys.old.root (λ g. (d : ℕ) → AkeysAreSmall d g → Spends (akeys_cost task.kind (for_one d) 1) (P.budget pages.old) (P.budget pages.new))) }
+    ensures root { akeys.new.root ≡ akeys.old.root }
+    ensures committed { keeps task.change ≡ true → OnOk result (Spends (akeys_cost task.kind 1 0) (P.budget pages.old) (P.budget pages.new)) }
     ensures free { OnOk result (OfThing P.tells (hung akey_level) hung_root (P.blocks pages.old) akeys.old.root (λ g. (P.budget pages.new).free ≡ (P.budget pages.old).free + akeys_freed task name.now g)) }
     ensures goes { Goes P.stopped P.count P.burns pages.old pages.new }
     ensures stopped { IsErrOf result TreeNo.Stopped → P.stopped pages.new ≡ true }
@@ -56,5 +58,6 @@ pub fn change_akeys<P: Pages, L: Ledger>(
         return Ok(());
     };
     let now = change_values(was, pages, task, steps)?;
-    akeys.put_value(pages, &key, &akey_value(now), steps)
+    let had = are_akey_roots(was, now);
+    put_unless(akeys, pages, &key, &akey_value(now), had, steps)
 }

@@ -15,6 +15,7 @@ ghost use Rattle.std.specs.Prelude.{Some as some_name, None as no_name};
 
 use crate::akeys::change_akeys;
 use crate::log::{change_entry, change_noted};
+use crate::put::{are_roots, put_unless};
 use crate::task::{Task, Which};
 use base_types::key::Key;
 use pmem_pages::pages::Pages;
@@ -37,9 +38,10 @@ fn change_punch<P: Pages, L: Ledger>(
     requires here { HasAt P.tells (below_owner akey_level) below_roots (P.blocks pages.old) roots (λ g. ⊤) }
     ensures changed { IfOk result (λ now. OfAt P.tells (below_owner akey_level) below_roots (P.blocks pages.old) roots (λ g. Turned (below_owner akey_level) below_roots (P.blocks pages.old) g (P.blocks pages.new) now (DkeyTurn task no_name))) }
     ensures no_block { IsErrOf result TreeNo.NoBlock → ⊥ }
-    ensures too_much { IsErrOf result TreeNo.TooMuch → OfAt P.tells (below_owner akey_level) below_roots (P.blocks pages.old) roots (λ g. (d : ℕ) → BelowDkeyIsSmall d g → Lacks (below_dkey_cost task.kind no_name (for_one d)) d (P.budget pages.old)) }
-    ensures staged { OnOk result (OfAt P.tells (below_owner akey_level) below_roots (P.blocks pages.old) roots (λ g. (d : ℕ) → BelowDkeyIsSmall d g → Spends (below_dkey_cost task.kind no_name (for_one d)) (P.budget pages.old) (P.budget pages.new))) }
-    ensures committed { keeps task.change ≡ true → OnOk result (Spends (below_dkey_cost task.kind no_name 1) (P.budget pages.old) (P.budget pages.new)) }
+    ensures too_much { IsErrOf result TreeNo.TooMuch → OfAt P.tells (below_owner akey_level) below_roots (P.blocks pages.old) roots (λ g. (d : ℕ) → BelowDkeyIsSmall d g → Lacks (below_dkey_cost task.kind no_name (for_one d) 1) d (P.budget pages.old)) }
+    ensures staged { OnOk result (OfAt P.tells (below_owner akey_level) below_roots (P.blocks pages.old) roots (λ g. (d : ℕ) → BelowDkeyIsSmall d g → Spends (below_dkey_cost task.kind no_name (for_one d) 1) (P.budget pages.old) (P.budget pages.new))) }
+    ensures root { keeps task.change ≡ true → IfOk result (λ now. now ≡ roots) }
+    ensures committed { keeps task.change ≡ true → OnOk result (Spends (below_dkey_cost task.kind no_name 1 0) (P.budget pages.old) (P.budget pages.new)) }
     ensures free { OnOk result (OfAt P.tells (below_owner akey_level) below_roots (P.blocks pages.old) roots (λ g. (P.budget pages.new).free ≡ (P.budget pages.old).free + below_dkey_freed task no_name g)) }
     ensures goes { Goes P.stopped P.count P.burns pages.old pages.new }
     ensures stopped { IsErrOf result TreeNo.Stopped → P.stopped pages.new ≡ true }
@@ -65,9 +67,10 @@ fn change_below<P: Pages, L: Ledger>(
     requires here { HasAt P.tells (below_owner akey_level) below_roots (P.blocks pages.old) roots (λ g. ⊤) }
     ensures changed { IfOk result (λ now. OfAt P.tells (below_owner akey_level) below_roots (P.blocks pages.old) roots (λ g. Turned (below_owner akey_level) below_roots (P.blocks pages.old) g (P.blocks pages.new) now (DkeyTurn task (some_name akey.now)))) }
     ensures no_block { IsErrOf result TreeNo.NoBlock → ⊥ }
-    ensures too_much { IsErrOf result TreeNo.TooMuch → OfAt P.tells (below_owner akey_level) below_roots (P.blocks pages.old) roots (λ g. (d : ℕ) → BelowDkeyIsSmall d g → Lacks (below_dkey_cost task.kind (some_name akey.now) (for_one d)) d (P.budget pages.old)) }
-    ensures staged { OnOk result (OfAt P.tells (below_owner akey_level) below_roots (P.blocks pages.old) roots (λ g. (d : ℕ) → BelowDkeyIsSmall d g → Spends (below_dkey_cost task.kind (some_name akey.now) (for_one d)) (P.budget pages.old) (P.budget pages.new))) }
-    ensures committed { keeps task.change ≡ true → OnOk result (Spends (below_dkey_cost task.kind (some_name akey.now) 1) (P.budget pages.old) (P.budget pages.new)) }
+    ensures too_much { IsErrOf result TreeNo.TooMuch → OfAt P.tells (below_owner akey_level) below_roots (P.blocks pages.old) roots (λ g. (d : ℕ) → BelowDkeyIsSmall d g → Lacks (below_dkey_cost task.kind (some_name akey.now) (for_one d) 1) d (P.budget pages.old)) }
+    ensures staged { OnOk result (OfAt P.tells (below_owner akey_level) below_roots (P.blocks pages.old) roots (λ g. (d : ℕ) → BelowDkeyIsSmall d g → Spends (below_dkey_cost task.kind (some_name akey.now) (for_one d) 1) (P.budget pages.old) (P.budget pages.new))) }
+    ensures root { keeps task.change ≡ true → IfOk result (λ now. now ≡ roots) }
+    ensures committed { keeps task.change ≡ true → OnOk result (Spends (below_dkey_cost task.kind (some_name akey.now) 1 0) (P.budget pages.old) (P.budget pages.new)) }
     ensures free { OnOk result (OfAt P.tells (below_owner akey_level) below_roots (P.blocks pages.old) roots (λ g. (P.budget pages.new).free ≡ (P.budget pages.old).free + below_dkey_freed task (some_name akey.now) g)) }
     ensures goes { Goes P.stopped P.count P.burns pages.old pages.new }
     ensures stopped { IsErrOf result TreeNo.Stopped → P.stopped pages.new ≡ true }
@@ -98,9 +101,10 @@ fn change_dkey<P: Pages, L: Ledger>(
     requires here { HasAt P.tells (below_owner akey_level) below_roots (P.blocks pages.old) roots (λ g. ⊤) }
     ensures changed { IfOk result (λ now. OfAt P.tells (below_owner akey_level) below_roots (P.blocks pages.old) roots (λ g. Turned (below_owner akey_level) below_roots (P.blocks pages.old) g (P.blocks pages.new) now (DkeyTurn task akey.now))) }
     ensures no_block { IsErrOf result TreeNo.NoBlock → ⊥ }
-    ensures too_much { IsErrOf result TreeNo.TooMuch → OfAt P.tells (below_owner akey_level) below_roots (P.blocks pages.old) roots (λ g. (d : ℕ) → BelowDkeyIsSmall d g → Lacks (below_dkey_cost task.kind akey.now (for_one d)) d (P.budget pages.old)) }
-    ensures staged { OnOk result (OfAt P.tells (below_owner akey_level) below_roots (P.blocks pages.old) roots (λ g. (d : ℕ) → BelowDkeyIsSmall d g → Spends (below_dkey_cost task.kind akey.now (for_one d)) (P.budget pages.old) (P.budget pages.new))) }
-    ensures committed { keeps task.change ≡ true → OnOk result (Spends (below_dkey_cost task.kind akey.now 1) (P.budget pages.old) (P.budget pages.new)) }
+    ensures too_much { IsErrOf result TreeNo.TooMuch → OfAt P.tells (below_owner akey_level) below_roots (P.blocks pages.old) roots (λ g. (d : ℕ) → BelowDkeyIsSmall d g → Lacks (below_dkey_cost task.kind akey.now (for_one d) 1) d (P.budget pages.old)) }
+    ensures staged { OnOk result (OfAt P.tells (below_owner akey_level) below_roots (P.blocks pages.old) roots (λ g. (d : ℕ) → BelowDkeyIsSmall d g → Spends (below_dkey_cost task.kind akey.now (for_one d) 1) (P.budget pages.old) (P.budget pages.new))) }
+    ensures root { keeps task.change ≡ true → IfOk result (λ now. now ≡ roots) }
+    ensures committed { keeps task.change ≡ true → OnOk result (Spends (below_dkey_cost task.kind akey.now 1 0) (P.budget pages.old) (P.budget pages.new)) }
     ensures free { OnOk result (OfAt P.tells (below_owner akey_level) below_roots (P.blocks pages.old) roots (λ g. (P.budget pages.new).free ≡ (P.budget pages.old).free + below_dkey_freed task akey.now g)) }
     ensures goes { Goes P.stopped P.count P.burns pages.old pages.new }
     ensures stopped { IsErrOf result TreeNo.Stopped → P.stopped pages.new ≡ true }
@@ -134,9 +138,10 @@ pub fn change_dkeys<P: Pages, L: Ledger>(
     ensures changed { OnOk result (OfThing P.tells (hung dkey_level) hung_root (P.blocks pages.old) dkeys.old.root (λ g. Turned (hung dkey_level) hung_root (P.blocks pages.old) g (P.blocks pages.new) dkeys.new.root (DkeysTurn task name.now akey.now))) }
     ensures kind { dkeys.new.kind ≡ 2 }
     ensures no_block { IsErrOf result TreeNo.NoBlock → ⊥ }
-    ensures too_much { IsErrOf result TreeNo.TooMuch → OfThing P.tells (hung dkey_level) hung_root (P.blocks pages.old) dkeys.old.root (λ g. (d : ℕ) → DkeysAreSmall d g → Lacks (dkeys_cost task.kind akey.now (for_one d)) d (P.budget pages.old)) }
-    ensures staged { OnOk result (OfThing P.tells (hung dkey_level) hung_root (P.blocks pages.old) dkeys.old.root (λ g. (d : ℕ) → DkeysAreSmall d g → Spends (dkeys_cost task.kind akey.now (for_one d)) (P.budget pages.old) (P.budget pages.new))) }
-    ensures committed { keeps task.change ≡ true → OnOk result (Spends (dkeys_cost task.kind akey.now 1) (P.budget pages.old) (P.budget pages.new)) }
+    ensures too_much { IsErrOf result TreeNo.TooMuch → OfThing P.tells (hung dkey_level) hung_root (P.blocks pages.old) dkeys.old.root (λ g. (d : ℕ) → DkeysAreSmall d g → Lacks (dkeys_cost task.kind akey.now (for_one d) 1) d (P.budget pages.old)) }
+    ensures staged { OnOk result (OfThing P.tells (hung dkey_level) hung_root (P.blocks pages.old) dkeys.old.root (λ g. (d : ℕ) → DkeysAreSmall d g → Spends (dkeys_cost task.kind akey.now (for_one d) 1) (P.budget pages.old) (P.budget pages.new))) }
+    ensures root { dkeys.new.root ≡ dkeys.old.root }
+    ensures committed { keeps task.change ≡ true → OnOk result (Spends (dkeys_cost task.kind akey.now 1 0) (P.budget pages.old) (P.budget pages.new)) }
     ensures free { OnOk result (OfThing P.tells (hung dkey_level) hung_root (P.blocks pages.old) dkeys.old.root (λ g. (P.budget pages.new).free ≡ (P.budget pages.old).free + dkeys_freed task name.now akey.now g)) }
     ensures goes { Goes P.stopped P.count P.burns pages.old pages.new }
     ensures stopped { IsErrOf result TreeNo.Stopped → P.stopped pages.new ≡ true }
@@ -147,5 +152,6 @@ pub fn change_dkeys<P: Pages, L: Ledger>(
         return Ok(());
     };
     let now = change_dkey(was, pages, task, akey, steps)?;
-    dkeys.put_value(pages, &key, &roots_value(now), steps)
+    let had = are_roots(was, now);
+    put_unless(dkeys, pages, &key, &roots_value(now), had, steps)
 }

@@ -5,6 +5,7 @@ pub mod akeys;
 pub mod dkeys;
 pub mod log;
 pub mod objects;
+pub mod put;
 pub mod task;
 pub mod values;
 pub mod write;

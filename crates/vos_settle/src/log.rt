@@ -93,6 +93,7 @@ pub fn change_entry<P: Pages, L: Ledger>(
     ensures no_block { IsErrOf result TreeNo.NoBlock → ⊥ }
     ensures too_much { IsErrOf result TreeNo.TooMuch → OfThing P.tells log_owner hung_root (P.blocks pages.old) root (λ g. TooFew g.0 (P.budget pages.old)) }
     ensures staged { OnOk result (OfThing P.tells log_owner hung_root (P.blocks pages.old) root (λ g. StagesAtMost 8 16 g.0 (P.budget pages.old) (P.budget pages.new))) }
+    ensures root { keeps change ≡ true → IfOk result (λ now. now ≡ root) }
     ensures committed { keeps change ≡ true → IsSpent 1 256 (P.budget pages.old) (P.budget pages.new) }
     ensures free { OnOk result (OfThing P.tells log_owner hung_root (P.blocks pages.old) root (λ g. (P.budget pages.new).free ≡ (P.budget pages.old).free + log_freed which change at (things g))) }
     ensures goes { Goes P.stopped P.count P.burns pages.old pages.new }
@@ -130,6 +131,7 @@ pub fn change_noted<P: Pages, L: Ledger>(
     ensures no_block { IsErrOf result TreeNo.NoBlock → ⊥ }
     ensures too_much { IsErrOf result TreeNo.TooMuch → OfThing P.tells log_owner hung_root (P.blocks pages.old) root (λ g. TooFew g.0 (P.budget pages.old)) }
     ensures staged { OnOk result (OfThing P.tells log_owner hung_root (P.blocks pages.old) root (λ g. (d : ℕ) → IsSmall d g → Spends (noted_cost task.kind (for_one d)) (P.budget pages.old) (P.budget pages.new))) }
+    ensures root { keeps task.change ≡ true → IfOk result (λ now. now ≡ root) }
     ensures committed { keeps task.change ≡ true → Spends (noted_cost task.kind 1) (P.budget pages.old) (P.budget pages.new) }
     ensures free { OnOk result (OfThing P.tells log_owner hung_root (P.blocks pages.old) root (λ g. (P.budget pages.new).free ≡ (P.budget pages.old).free + noted_freed task (things g))) }
     ensures goes { Goes P.stopped P.count P.burns pages.old pages.new }

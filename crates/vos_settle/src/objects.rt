@@ -16,6 +16,7 @@ ghost use Rattle.vos_settle.specs.Costs.{Lacks, Spends, below_object_cost, for_o
 
 use crate::dkeys::change_dkeys;
 use crate::log::{change_entry, change_noted};
+use crate::put::{are_roots, put_unless};
 use crate::task::{Task, Which};
 use base_types::key::Key;
 use base_types::path::Path;
@@ -42,6 +43,7 @@ fn change_punch<P: Pages, L: Ledger>(
     ensures no_block { IsErrOf result TreeNo.NoBlock → ⊥ }
     ensures too_much { IsErrOf result TreeNo.TooMuch → OfAt P.tells (below_owner dkey_level) below_roots (P.blocks pages.old) roots (λ g. (d : ℕ) → BelowObjectIsSmall d g → Lacks (for_one d) d (P.budget pages.old)) }
     ensures staged { OnOk result (OfAt P.tells (below_owner dkey_level) below_roots (P.blocks pages.old) roots (λ g. (d : ℕ) → BelowObjectIsSmall d g → Spends (for_one d) (P.budget pages.old) (P.budget pages.new))) }
+    ensures root { keeps task.change ≡ true → IfOk result (λ now. now ≡ roots) }
     ensures committed { keeps task.change ≡ true → OnOk result (Spends 1 (P.budget pages.old) (P.budget pages.new)) }
     ensures free { OnOk result (OfAt P.tells (below_owner dkey_level) below_roots (P.blocks pages.old) roots (λ g. (P.budget pages.new).free ≡ (P.budget pages.old).free + below_object_freed task no_name no_name g)) }
     ensures goes { Goes P.stopped P.count P.burns pages.old pages.new }
@@ -70,9 +72,10 @@ fn change_below<P: Pages, L: Ledger>(
     requires here { HasAt P.tells (below_owner dkey_level) below_roots (P.blocks pages.old) roots (λ g. ⊤) }
     ensures changed { IfOk result (λ now. OfAt P.tells (below_owner dkey_level) below_roots (P.blocks pages.old) roots (λ g. Turned (below_owner dkey_level) below_roots (P.blocks pages.old) g (P.blocks pages.new) now (ObjectTurn task (some_name dkey.now) akey.now))) }
     ensures no_block { IsErrOf result TreeNo.NoBlock → ⊥ }
-    ensures too_much { IsErrOf result TreeNo.TooMuch → OfAt P.tells (below_owner dkey_level) below_roots (P.blocks pages.old) roots (λ g. (d : ℕ) → BelowObjectIsSmall d g → Lacks (below_object_cost task.kind (some_name dkey.now) akey.now (for_one d)) d (P.budget pages.old)) }
-    ensures staged { OnOk result (OfAt P.tells (below_owner dkey_level) below_roots (P.blocks pages.old) roots (λ g. (d : ℕ) → BelowObjectIsSmall d g → Spends (below_object_cost task.kind (some_name dkey.now) akey.now (for_one d)) (P.budget pages.old) (P.budget pages.new))) }
-    ensures committed { keeps task.change ≡ true → OnOk result (Spends (below_object_cost task.kind (some_name dkey.now) akey.now 1) (P.budget pages.old) (P.budget pages.new)) }
+    ensures too_much { IsErrOf result TreeNo.TooMuch → OfAt P.tells (below_owner dkey_level) below_roots (P.blocks pages.old) roots (λ g. (d : ℕ) → BelowObjectIsSmall d g → Lacks (below_object_cost task.kind (some_name dkey.now) akey.now (for_one d) 1) d (P.budget pages.old)) }
+    ensures staged { OnOk result (OfAt P.tells (below_owner dkey_level) below_roots (P.blocks pages.old) roots (λ g. (d : ℕ) → BelowObjectIsSmall d g → Spends (below_object_cost task.kind (some_name dkey.now) akey.now (for_one d) 1) (P.budget pages.old) (P.budget pages.new))) }
+    ensures root { keeps task.change ≡ true → IfOk result (λ now. now ≡ roots) }
+    ensures committed { keeps task.change ≡ true → OnOk result (Spends (below_object_cost task.kind (some_name dkey.now) akey.now 1 0) (P.budget pages.old) (P.budget pages.new)) }
     ensures free { OnOk result (OfAt P.tells (below_owner dkey_level) below_roots (P.blocks pages.old) roots (λ g. (P.budget pages.new).free ≡ (P.budget pages.old).free + below_object_freed task (some_name dkey.now) akey.now g)) }
     ensures goes { Goes P.stopped P.count P.burns pages.old pages.new }
     ensures stopped { IsErrOf result TreeNo.Stopped → P.stopped pages.new ≡ true }
@@ -103,9 +106,10 @@ fn change_object<P: Pages, L: Ledger>(
     requires here { HasAt P.tells (below_owner dkey_level) below_roots (P.blocks pages.old) roots (λ g. ⊤) }
     ensures changed { IfOk result (λ now. OfAt P.tells (below_owner dkey_level) below_roots (P.blocks pages.old) roots (λ g. Turned (below_owner dkey_level) below_roots (P.blocks pages.old) g (P.blocks pages.new) now (ObjectTurn task path.now.dkey path.now.akey))) }
     ensures no_block { IsErrOf result TreeNo.NoBlock → ⊥ }
-    ensures too_much { IsErrOf result TreeNo.TooMuch → OfAt P.tells (below_owner dkey_level) below_roots (P.blocks pages.old) roots (λ g. (d : ℕ) → BelowObjectIsSmall d g → Lacks (below_object_cost task.kind path.now.dkey path.now.akey (for_one d)) d (P.budget pages.old)) }
-    ensures staged { OnOk result (OfAt P.tells (below_owner dkey_level) below_roots (P.blocks pages.old) roots (λ g. (d : ℕ) → BelowObjectIsSmall d g → Spends (below_object_cost task.kind path.now.dkey path.now.akey (for_one d)) (P.budget pages.old) (P.budget pages.new))) }
-    ensures committed { keeps task.change ≡ true → OnOk result (Spends (below_object_cost task.kind path.now.dkey path.now.akey 1) (P.budget pages.old) (P.budget pages.new)) }
+    ensures too_much { IsErrOf result TreeNo.TooMuch → OfAt P.tells (below_owner dkey_level) below_roots (P.blocks pages.old) roots (λ g. (d : ℕ) → BelowObjectIsSmall d g → Lacks (below_object_cost task.kind path.now.dkey path.now.akey (for_one d) 1) d (P.budget pages.old)) }
+    ensures staged { OnOk result (OfAt P.tells (below_owner dkey_level) below_roots (P.blocks pages.old) roots (λ g. (d : ℕ) → BelowObjectIsSmall d g → Spends (below_object_cost task.kind path.now.dkey path.now.akey (for_one d) 1) (P.budget pages.old) (P.budget pages.new))) }
+    ensures root { keeps task.change ≡ true → IfOk result (λ now. now ≡ roots) }
+    ensures committed { keeps task.change ≡ true → OnOk result (Spends (below_object_cost task.kind path.now.dkey path.now.akey 1 0) (P.budget pages.old) (P.budget pages.new)) }
     ensures free { OnOk result (OfAt P.tells (below_owner dkey_level) below_roots (P.blocks pages.old) roots (λ g. (P.budget pages.new).free ≡ (P.budget pages.old).free + below_object_freed task path.now.dkey path.now.akey g)) }
     ensures goes { Goes P.stopped P.count P.burns pages.old pages.new }
     ensures stopped { IsErrOf result TreeNo.Stopped → P.stopped pages.new ≡ true }
@@ -140,9 +144,10 @@ pub fn change_objects<P: Pages, L: Ledger>(
     ensures object { IsObjectKey Two object }
     ensures kind { objects.new.kind ≡ 1 }
     ensures no_block { IsErrOf result TreeNo.NoBlock → ⊥ }
-    ensures too_much { IsErrOf result TreeNo.TooMuch → OfThing P.tells objects_owner hung_root (P.blocks pages.old) objects.old.root (λ g. (d : ℕ) → ObjectsAreSmall d g → Lacks (objects_cost task.kind path.now.dkey path.now.akey (for_one d)) d (P.budget pages.old)) }
-    ensures staged { OnOk result (OfThing P.tells objects_owner hung_root (P.blocks pages.old) objects.old.root (λ g. (d : ℕ) → ObjectsAreSmall d g → Spends (objects_cost task.kind path.now.dkey path.now.akey (for_one d)) (P.budget pages.old) (P.budget pages.new))) }
-    ensures committed { keeps task.change ≡ true → OnOk result (Spends (objects_cost task.kind path.now.dkey path.now.akey 1) (P.budget pages.old) (P.budget pages.new)) }
+    ensures too_much { IsErrOf result TreeNo.TooMuch → OfThing P.tells objects_owner hung_root (P.blocks pages.old) objects.old.root (λ g. (d : ℕ) → ObjectsAreSmall d g → Lacks (objects_cost task.kind path.now.dkey path.now.akey (for_one d) 1) d (P.budget pages.old)) }
+    ensures staged { OnOk result (OfThing P.tells objects_owner hung_root (P.blocks pages.old) objects.old.root (λ g. (d : ℕ) → ObjectsAreSmall d g → Spends (objects_cost task.kind path.now.dkey path.now.akey (for_one d) 1) (P.budget pages.old) (P.budget pages.new))) }
+    ensures root { objects.new.root ≡ objects.old.root }
+    ensures committed { keeps task.change ≡ true → OnOk result (Spends (objects_cost task.kind path.now.dkey path.now.akey 1 0) (P.budget pages.old) (P.budget pages.new)) }
     ensures free { OnOk result (OfThing P.tells objects_owner hung_root (P.blocks pages.old) objects.old.root (λ g. (P.budget pages.new).free ≡ (P.budget pages.old).free + one_object_freed task object path.now g)) }
     ensures goes { Goes P.stopped P.count P.burns pages.old pages.new }
     ensures stopped { IsErrOf result TreeNo.Stopped → P.stopped pages.new ≡ true }
@@ -153,5 +158,6 @@ pub fn change_objects<P: Pages, L: Ledger>(
         return Ok(());
     };
     let now = change_object(was, pages, task, path, steps)?;
-    objects.put_value(pages, &key, &roots_value(now), steps)
+    let had = are_roots(was, now);
+    put_unless(objects, pages, &key, &roots_value(now), had, steps)
 }

@@ -37,6 +37,7 @@ fn change_single<P: Pages, L: Ledger>(
     ensures no_block { IsErrOf result TreeNo.NoBlock → ⊥ }
     ensures too_much { IsErrOf result TreeNo.TooMuch → OfAt P.tells values_owner values_roots (P.blocks pages.old) roots (λ g. (d : ℕ) → ValuesAreSmall d g → Lacks (values_cost task.kind (for_one d)) d (P.budget pages.old)) }
     ensures staged { OnOk result (OfAt P.tells values_owner values_roots (P.blocks pages.old) roots (λ g. (d : ℕ) → ValuesAreSmall d g → Spends (values_cost task.kind (for_one d)) (P.budget pages.old) (P.budget pages.new))) }
+    ensures root { keeps task.change ≡ true → IfOk result (λ now. now ≡ roots) }
     ensures committed { keeps task.change ≡ true → OnOk result (Spends (values_cost task.kind 1) (P.budget pages.old) (P.budget pages.new)) }
     ensures free { OnOk result (OfAt P.tells values_owner values_roots (P.blocks pages.old) roots (λ g. (P.budget pages.new).free ≡ (P.budget pages.old).free + values_freed task g)) }
     ensures goes { Goes P.stopped P.count P.burns pages.old pages.new }
@@ -74,6 +75,7 @@ fn change_extent<P: Pages, L: Ledger>(
     ensures no_block { IsErrOf result TreeNo.NoBlock → ⊥ }
     ensures too_much { IsErrOf result TreeNo.TooMuch → OfAt P.tells values_owner values_roots (P.blocks pages.old) roots (λ g. (d : ℕ) → ValuesAreSmall d g → Lacks (values_cost task.kind (for_one d)) d (P.budget pages.old)) }
     ensures staged { OnOk result (OfAt P.tells values_owner values_roots (P.blocks pages.old) roots (λ g. (d : ℕ) → ValuesAreSmall d g → Spends (values_cost task.kind (for_one d)) (P.budget pages.old) (P.budget pages.new))) }
+    ensures root { keeps task.change ≡ true → IfOk result (λ now. now ≡ roots) }
     ensures committed { keeps task.change ≡ true → OnOk result (Spends (values_cost task.kind 1) (P.budget pages.old) (P.budget pages.new)) }
     ensures free { OnOk result (OfAt P.tells values_owner values_roots (P.blocks pages.old) roots (λ g. (P.budget pages.new).free ≡ (P.budget pages.old).free + values_freed task g)) }
     ensures goes { Goes P.stopped P.count P.burns pages.old pages.new }
@@ -115,6 +117,7 @@ fn change_punch<P: Pages, L: Ledger>(
     ensures no_block { IsErrOf result TreeNo.NoBlock → ⊥ }
     ensures too_much { IsErrOf result TreeNo.TooMuch → OfAt P.tells values_owner values_roots (P.blocks pages.old) roots (λ g. (d : ℕ) → ValuesAreSmall d g → Lacks (values_cost task.kind (for_one d)) d (P.budget pages.old)) }
     ensures staged { OnOk result (OfAt P.tells values_owner values_roots (P.blocks pages.old) roots (λ g. (d : ℕ) → ValuesAreSmall d g → Spends (values_cost task.kind (for_one d)) (P.budget pages.old) (P.budget pages.new))) }
+    ensures root { keeps task.change ≡ true → IfOk result (λ now. now ≡ roots) }
     ensures committed { keeps task.change ≡ true → OnOk result (Spends (values_cost task.kind 1) (P.budget pages.old) (P.budget pages.new)) }
     ensures free { OnOk result (OfAt P.tells values_owner values_roots (P.blocks pages.old) roots (λ g. (P.budget pages.new).free ≡ (P.budget pages.old).free + values_freed task g)) }
     ensures goes { Goes P.stopped P.count P.burns pages.old pages.new }
@@ -149,6 +152,7 @@ pub fn change_values<P: Pages, L: Ledger>(
     ensures no_block { IsErrOf result TreeNo.NoBlock → ⊥ }
     ensures too_much { IsErrOf result TreeNo.TooMuch → OfAt P.tells values_owner values_roots (P.blocks pages.old) roots (λ g. (d : ℕ) → ValuesAreSmall d g → Lacks (values_cost task.kind (for_one d)) d (P.budget pages.old)) }
     ensures staged { OnOk result (OfAt P.tells values_owner values_roots (P.blocks pages.old) roots (λ g. (d : ℕ) → ValuesAreSmall d g → Spends (values_cost task.kind (for_one d)) (P.budget pages.old) (P.budget pages.new))) }
+    ensures root { keeps task.change ≡ true → IfOk result (λ now. now ≡ roots) }
     ensures committed { keeps task.change ≡ true → OnOk result (Spends (values_cost task.kind 1) (P.budget pages.old) (P.budget pages.new)) }
     ensures free { OnOk result (OfAt P.tells values_owner values_roots (P.blocks pages.old) roots (λ g. (P.budget pages.new).free ≡ (P.budget pages.old).free + values_freed task g)) }
     ensures goes { Goes P.stopped P.count P.burns pages.old pages.new }

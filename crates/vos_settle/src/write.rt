@@ -47,10 +47,11 @@ pub fn change_write<P: Pages, L: Ledger>(
     requires here { HasThing P.tells objects_owner hung_root (P.blocks pages.old) objects.old.root (λ g. ⊤) }
     ensures changed { OnOk result (OfThing P.tells objects_owner hung_root (P.blocks pages.old) objects.old.root (λ g. WriteTurn task path.now (P.blocks pages.old) g (P.blocks pages.new) objects.new.root)) }
     ensures kind { objects.new.kind ≡ 1 }
+    ensures root { objects.new.root ≡ objects.old.root }
     ensures no_block { IsErrOf result TreeNo.NoBlock → ⊥ }
-    ensures too_much { IsErrOf result TreeNo.TooMuch → OfThing P.tells objects_owner hung_root (P.blocks pages.old) objects.old.root (λ g. (d : ℕ) → ObjectsAreSmall d g → Lacks (objects_cost task.kind path.now.dkey path.now.akey (for_one d)) d (P.budget pages.old)) }
-    ensures staged { OnOk result (OfThing P.tells objects_owner hung_root (P.blocks pages.old) objects.old.root (λ g. (d : ℕ) → ObjectsAreSmall d g → Spends (objects_cost task.kind path.now.dkey path.now.akey (for_one d)) (P.budget pages.old) (P.budget pages.new))) }
-    ensures committed { keeps task.change ≡ true → OnOk result (Spends (objects_cost task.kind path.now.dkey path.now.akey 1) (P.budget pages.old) (P.budget pages.new)) }
+    ensures too_much { IsErrOf result TreeNo.TooMuch → OfThing P.tells objects_owner hung_root (P.blocks pages.old) objects.old.root (λ g. (d : ℕ) → ObjectsAreSmall d g → Lacks (objects_cost task.kind path.now.dkey path.now.akey (for_one d) 1) d (P.budget pages.old)) }
+    ensures staged { OnOk result (OfThing P.tells objects_owner hung_root (P.blocks pages.old) objects.old.root (λ g. (d : ℕ) → ObjectsAreSmall d g → Spends (objects_cost task.kind path.now.dkey path.now.akey (for_one d) 1) (P.budget pages.old) (P.budget pages.new))) }
+    ensures committed { keeps task.change ≡ true → OnOk result (Spends (objects_cost task.kind path.now.dkey path.now.akey 1 0) (P.budget pages.old) (P.budget pages.new)) }
     ensures free { OnOk result (OfThing P.tells objects_owner hung_root (P.blocks pages.old) objects.old.root (λ g. (o : ObjIdOf) → path.now.obj ≡ Some o → (P.budget pages.new).free ≡ (P.budget pages.old).free + one_object_freed task (object_in path.now o) path.now g)) }
     ensures goes { Goes P.stopped P.count P.burns pages.old pages.new }
     ensures stopped { IsErrOf result TreeNo.Stopped → P.stopped pages.new ≡ true }

@@ -189,6 +189,7 @@ pub fn change_at<P: Pages, L: Ledger>(
     ensures too_much { IsErrOf result TreeNo.TooMuch → OfTree P.tells (P.blocks pages.old) tree.old.kind tree.old.root (λ t. TooFew t (P.budget pages.old)) }
     ensures steps { OfTree P.tells (P.blocks pages.old) tree.old.kind tree.old.root (λ t. StepsAtMost 18 21 t steps.old steps.new) }
     ensures staged { OnOk result (OfTree P.tells (P.blocks pages.old) tree.old.kind tree.old.root (λ t. StagesLess t (P.budget pages.old) (P.budget pages.new))) }
+    ensures root { keeps change ≡ true → tree.new.root ≡ tree.old.root }
     ensures committed { keeps change ≡ true → IsSpent 1 256 (P.budget pages.old) (P.budget pages.new) }
     ensures free { OnOk result (OfTree P.tells (P.blocks pages.old) tree.old.kind tree.old.root (λ t. (P.budget pages.new).free ≡ (P.budget pages.old).free + freed_of change (mark_at key.now (entries t)))) }
     ensures goes { Goes P.stopped P.count P.burns pages.old pages.new }

@@ -22,7 +22,7 @@ pub returns-in_err-change_akeys-clause-too_much : goal.returns-in_err-change_ake
 returns-in_err-change_akeys-clause-too_much g c refused told x held at d small =
     let is : c.from_residual.result ≡ Err c.in_err-change_akeys.field-0.0 = search rules in
     let lacks = c.in_err-change_akeys.ensures.too_much (err_other c.in_err-change_akeys.field-0.0 TooMuch (subst (λ z. IsErrOf z TooMuch) is refused)) told x.1 (holds_second log_owner (hung akey_level) (g.P.Pages.blocks c.args.pages.now) x held) (ap (λ r. r.below) at) d small.1 in
-    lacks_more (akeys_cost c.args.task.kind (for_one d)) (akeys_cost c.args.task.kind (for_one d) + noted_cost c.args.task.kind (for_one d)) d (g.P.Pages.budget c.args.pages.now) (omega arith) lacks
+    lacks_more (akeys_cost c.args.task.kind (for_one d) 1) (akeys_cost c.args.task.kind (for_one d) 1 + noted_cost c.args.task.kind (for_one d)) d (g.P.Pages.budget c.args.pages.now) (omega arith) lacks
 
 pub change_noted-requires-clause-log : goal.change_noted-requires-clause-log
 change_noted-requires-clause-log g c told =
@@ -37,7 +37,7 @@ returns-in_err-log-clause-too_much g c refused told x held at d small =
     let m = g.P.Pages.blocks c.args.pages.now in
     let b = c.in_ok-change_akeys.ensures.changed told x.1 (holds_second log_owner (hung akey_level) m x held) (ap (λ r. r.below) at) in
     let spent = c.in_ok-change_akeys.ensures.staged told x.1 (holds_second log_owner (hung akey_level) m x held) (ap (λ r. r.below) at) d small.1 in
-    lacks_then x.0 (akeys_cost c.args.task.kind (for_one d)) (akeys_cost c.args.task.kind (for_one d) + noted_cost c.args.task.kind (for_one d)) d (g.P.Pages.budget c.args.pages.now) (g.P.Pages.budget c.change_akeys.new.pages) (omega arith) small.0 spent
+    lacks_then x.0 (akeys_cost c.args.task.kind (for_one d) 1) (akeys_cost c.args.task.kind (for_one d) 1 + noted_cost c.args.task.kind (for_one d)) d (g.P.Pages.budget c.args.pages.now) (g.P.Pages.budget c.change_akeys.new.pages) (omega arith) small.0 spent
     (c.in_err-log.ensures.too_much (err_other c.in_err-log.field-0.0 TooMuch (subst (λ z. IsErrOf z TooMuch) is refused)) told x.0 (log_after akey_level m (g.P.Pages.blocks c.change_akeys.new.pages) x b.now held b.changed) (ap (λ r. r.log) at))
 
 pub returns-clause-changed : goal.returns-clause-changed
@@ -54,7 +54,7 @@ returns-clause-staged g c told x held at d small =
     let b = c.in_ok-change_akeys.ensures.changed told x.1 (holds_second log_owner (hung akey_level) m x held) (ap (λ r. r.below) at) in
     let spent = c.in_ok-change_akeys.ensures.staged told x.1 (holds_second log_owner (hung akey_level) m x held) (ap (λ r. r.below) at) d small.1 in
     let more = c.in_ok-log.ensures.staged told x.0 (log_after akey_level m (g.P.Pages.blocks c.change_akeys.new.pages) x b.now held b.changed) (ap (λ r. r.log) at) d small.0 in
-    spends_then (akeys_cost c.args.task.kind (for_one d)) (noted_cost c.args.task.kind (for_one d)) (g.P.Pages.budget c.args.pages.now) (g.P.Pages.budget c.change_akeys.new.pages) (g.P.Pages.budget c.change_noted.new.pages) spent more
+    spends_then (akeys_cost c.args.task.kind (for_one d) 1) (noted_cost c.args.task.kind (for_one d)) (g.P.Pages.budget c.args.pages.now) (g.P.Pages.budget c.change_akeys.new.pages) (g.P.Pages.budget c.change_noted.new.pages) spent more
 
 pub returns-clause-free : goal.returns-clause-free
 returns-clause-free g c told x held at =

@@ -11,7 +11,7 @@ returns-in-Some-clause-changed g c = if_ok_then c.change_below.result (λ now h 
 
 pub returns-in-Some-clause-staged : goal.returns-in-Some-clause-staged
 returns-in-Some-clause-staged g c = on_ok_then c.change_below.result (λ h told x held at d small.
-    subst (λ z. Spends (below_dkey_cost c.args.task.kind z (for_one d)) (g.P.Pages.budget c.args.pages.now) (g.P.Pages.budget c.change_below.new.pages)) (sym c.in-Some.is) (h told x held at d small)) c.change_below.ensures.staged
+    subst (λ z. Spends (below_dkey_cost c.args.task.kind z (for_one d) 1) (g.P.Pages.budget c.args.pages.now) (g.P.Pages.budget c.change_below.new.pages)) (sym c.in-Some.is) (h told x held at d small)) c.change_below.ensures.staged
 
 pub returns-in-None-clause-changed : goal.returns-in-None-clause-changed
 returns-in-None-clause-changed g c = if_ok_then c.change_punch.result (λ now h told x held at.

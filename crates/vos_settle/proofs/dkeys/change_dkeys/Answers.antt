@@ -1,4 +1,4 @@
-use Rattle.std.proofs.Common.{rules, ◌≡◌, Err, IsErrOf, ap, arith, subst, sym}
+use Rattle.std.proofs.Common.{rules, ◌≡◌, ◌∙◌, Err, IsErrOf, ap, arith, subst, sym}
 use Rattle.pmem_pages.specs.Owners.{Holds}
 use Rattle.pmem_pages.specs.Shape.{IsTree}
 use Rattle.pmem_tree.specs.Changes.{Puts}
@@ -15,7 +15,8 @@ use Rattle.vos_settle.specs.Costs.{Lacks, Spends, below_dkey_cost, dkeys_cost, f
 use Rattle.vos_settle.specs.Nodes.{DkeyTurn, dkey_freed, is_dkey, Turned}
 use Rattle.vos_settle.proofs.Lists.{all_one}
 use Rattle.vos_settle.proofs.NodeTurns.{branch_entry, branch_holds, branch_is, branch_is_none, branches_stay, branches_still, branches_turned}
-use Rattle.vos_settle.proofs.Sums.{lacks_more, lacks_put, spends_then}
+use Rattle.vos_settle.proofs.Puts.{roots_are_so, roots_same}
+use Rattle.vos_settle.proofs.Sums.{lacks_more, lacks_put, spends_most, spends_then}
 use Rattle.vos_settle.proofs.dkeys.change_dkeys.Goals as goal
 
 pub find_roots-requires-clause-tree : goal.find_roots-requires-clause-tree
@@ -58,10 +59,10 @@ returns-in_err-now-clause-too_much g c refused told x held at d small =
     let k = branch_is 2 name_key IsName akey_level (name_key c.args.name.now) m x held c.key_of-key.result c.key_of-key.ensures.key c.in_ok-was.field-0 (c.in_ok-was.ensures.found told x.0 tree) c.in-Some.was c.in-Some.is in
     let stands = subst (λ b. Holds (below_owner akey_level) b k.thing.holds) (sym e) (branch_holds 2 name_key IsName akey_level (name_key c.args.name.now) m x held k.thing k.found) in
     let lacks = c.in_err-now.ensures.too_much (err_other c.in_err-now.field-0.0 TooMuch (subst (λ z. IsErrOf z TooMuch) is refused)) told k.thing.holds stands k.is d (all_one (DkeyIsSmall d) (is_dkey c.args.name.now) (things x) k.thing small.1 k.found) in
-    lacks_more (below_dkey_cost c.args.task.kind c.args.akey.now (for_one d)) (dkeys_cost c.args.task.kind c.args.akey.now (for_one d)) d (g.P.Pages.budget c.args.pages.now) (omega arith) (subst (Lacks (below_dkey_cost c.args.task.kind c.args.akey.now (for_one d)) d) c.find_roots.ensures.budget lacks)
+    lacks_more (below_dkey_cost c.args.task.kind c.args.akey.now (for_one d) 1) (dkeys_cost c.args.task.kind c.args.akey.now (for_one d) 1) d (g.P.Pages.budget c.args.pages.now) (omega arith) (subst (Lacks (below_dkey_cost c.args.task.kind c.args.akey.now (for_one d) 1) d) c.find_roots.ensures.budget lacks)
 
-pub put_value-requires-clause-tree : goal.put_value-requires-clause-tree
-put_value-requires-clause-tree g c told =
+pub put_unless-requires-clause-tree : goal.put_unless-requires-clause-tree
+put_unless-requires-clause-tree g c told =
     let s = c.requires.here told in
     let m = g.P.Pages.blocks c.args.pages.now in
     let e = c.find_roots.ensures.kept told in
@@ -73,10 +74,10 @@ put_value-requires-clause-tree g c told =
     let still = branches_still 2 name_key IsName akey_level (name_key c.args.name.now) m s.0 s.1.0 k.thing k.found (DkeyTurn c.args.task c.args.akey.now) n c.in_ok-now.now v c.args.dkeys.now.root s.1.1.0 in
     let tree2 = subst (λ z. IsTree n z c.args.dkeys.now.root s.0.0) (sym c.requires.kind) still in
     let entry = branch_entry 2 name_key IsName akey_level (name_key c.args.name.now) m s.0 s.1.0 k.thing k.found c.key_of-key.result c.key_of-key.ensures.key in
-    (s.0.0, (tree2, entry))
+    (s.0.0, (tree2, (entry.0, entry.1.0)))
 
 pub returns-clause-changed : goal.returns-clause-changed
-returns-clause-changed g c = on_ok_then c.put_value.result (λ h told x held at.
+returns-clause-changed g c = on_ok_then c.put_unless.result (λ h told x held at.
     let m = g.P.Pages.blocks c.args.pages.now in
     let e = c.find_roots.ensures.kept told in
     let tree = tree_of dkey_level m c.args.dkeys.now.kind c.args.dkeys.now.root x c.requires.kind held at in
@@ -87,11 +88,11 @@ returns-clause-changed g c = on_ok_then c.put_value.result (λ h told x held at.
     let still = branches_still 2 name_key IsName akey_level (name_key c.args.name.now) m x held k.thing k.found (DkeyTurn c.args.task c.args.akey.now) n c.in_ok-now.now v c.args.dkeys.now.root at in
     let tree2 = subst (λ z. IsTree n z c.args.dkeys.now.root x.0) (sym c.requires.kind) still in
     let entry = branch_entry 2 name_key IsName akey_level (name_key c.args.name.now) m x held k.thing k.found c.key_of-key.result c.key_of-key.ensures.key in
-    let o = g.P.Pages.blocks c.put_value.new.pages in
-    let root = c.put_value.new.self.root in
-    let put = h told x.0 tree2 entry.0 entry.1 in
+    let o = g.P.Pages.blocks c.put_unless.new.pages in
+    let root = c.put_unless.new.tree.root in
+    let put = h told x.0 tree2 entry.0 entry.1.0 (λ had. entry.1.1 ∙ (ap roots_value (sym k.is) ∙ (ap roots_value (roots_same c.in-Some.was c.in_ok-now.now (sym c.are_roots-had.ensures ∙ had)) ∙ sym c.roots_value.ensures.value))) in
     let put2 : Puts n 2 x.0 (name_key c.args.name.now) (roots_value c.in_ok-now.now) o root = subst (λ z. Puts n 2 x.0 (name_key c.args.name.now) z o root) c.roots_value.ensures.value (subst (λ z. Puts n 2 x.0 z c.roots_value.result o root) c.key_of-key.ensures.key (subst (λ z. Puts n z x.0 c.key_of-key.result c.roots_value.result o root) c.requires.kind put)) in
-    branches_turned 2 name_key IsName akey_level (name_key c.args.name.now) m x held k.thing k.found (DkeyTurn c.args.task c.args.akey.now) n c.in_ok-now.now v o root put2) c.put_value.ensures.put
+    branches_turned 2 name_key IsName akey_level (name_key c.args.name.now) m x held k.thing k.found (DkeyTurn c.args.task c.args.akey.now) n c.in_ok-now.now v o root put2) c.put_unless.ensures.put
 
 pub returns-clause-too_much : goal.returns-clause-too_much
 returns-clause-too_much g c refused told x held at d small =
@@ -105,11 +106,11 @@ returns-clause-too_much g c refused told x held at d small =
     let still = branches_still 2 name_key IsName akey_level (name_key c.args.name.now) m x held k.thing k.found (DkeyTurn c.args.task c.args.akey.now) n c.in_ok-now.now v c.args.dkeys.now.root at in
     let tree2 = subst (λ z. IsTree n z c.args.dkeys.now.root x.0) (sym c.requires.kind) still in
     let entry = branch_entry 2 name_key IsName akey_level (name_key c.args.name.now) m x held k.thing k.found c.key_of-key.result c.key_of-key.ensures.key in
-    let spent = subst (λ b. Spends (below_dkey_cost c.args.task.kind c.args.akey.now (for_one d)) b (g.P.Pages.budget c.change_dkey.new.pages)) c.find_roots.ensures.budget (c.in_ok-now.ensures.staged told k.thing.holds stands k.is d (all_one (DkeyIsSmall d) (is_dkey c.args.name.now) (things x) k.thing small.1 k.found)) in
-    lacks_put (below_dkey_cost c.args.task.kind c.args.akey.now (for_one d)) d (g.P.Pages.budget c.args.pages.now) (g.P.Pages.budget c.change_dkey.new.pages) spent (c.put_value.ensures.too_much refused)
+    let spent = subst (λ b. Spends (below_dkey_cost c.args.task.kind c.args.akey.now (for_one d) 1) b (g.P.Pages.budget c.change_dkey.new.pages)) c.find_roots.ensures.budget (c.in_ok-now.ensures.staged told k.thing.holds stands k.is d (all_one (DkeyIsSmall d) (is_dkey c.args.name.now) (things x) k.thing small.1 k.found)) in
+    lacks_put (below_dkey_cost c.args.task.kind c.args.akey.now (for_one d) 1) d (g.P.Pages.budget c.args.pages.now) (g.P.Pages.budget c.change_dkey.new.pages) spent (c.put_unless.ensures.too_much refused)
 
 pub returns-clause-staged : goal.returns-clause-staged
-returns-clause-staged g c = on_ok_then c.put_value.result (λ h told x held at d small.
+returns-clause-staged g c = on_ok_then c.put_unless.result (λ h told x held at d small.
     let m = g.P.Pages.blocks c.args.pages.now in
     let e = c.find_roots.ensures.kept told in
     let tree = tree_of dkey_level m c.args.dkeys.now.kind c.args.dkeys.now.root x c.requires.kind held at in
@@ -120,11 +121,19 @@ returns-clause-staged g c = on_ok_then c.put_value.result (λ h told x held at d
     let still = branches_still 2 name_key IsName akey_level (name_key c.args.name.now) m x held k.thing k.found (DkeyTurn c.args.task c.args.akey.now) n c.in_ok-now.now v c.args.dkeys.now.root at in
     let tree2 = subst (λ z. IsTree n z c.args.dkeys.now.root x.0) (sym c.requires.kind) still in
     let entry = branch_entry 2 name_key IsName akey_level (name_key c.args.name.now) m x held k.thing k.found c.key_of-key.result c.key_of-key.ensures.key in
-    let spent = subst (λ b. Spends (below_dkey_cost c.args.task.kind c.args.akey.now (for_one d)) b (g.P.Pages.budget c.change_dkey.new.pages)) c.find_roots.ensures.budget (c.in_ok-now.ensures.staged told k.thing.holds stands k.is d (all_one (DkeyIsSmall d) (is_dkey c.args.name.now) (things x) k.thing small.1 k.found)) in
-    spends_then (below_dkey_cost c.args.task.kind c.args.akey.now (for_one d)) 1 (g.P.Pages.budget c.args.pages.now) (g.P.Pages.budget c.change_dkey.new.pages) (g.P.Pages.budget c.put_value.new.pages) spent c.put_value.ensures.staged) c.put_value.ensures.went_on
+    let spent = subst (λ b. Spends (below_dkey_cost c.args.task.kind c.args.akey.now (for_one d) 1) b (g.P.Pages.budget c.change_dkey.new.pages)) c.find_roots.ensures.budget (c.in_ok-now.ensures.staged told k.thing.holds stands k.is d (all_one (DkeyIsSmall d) (is_dkey c.args.name.now) (things x) k.thing small.1 k.found)) in
+    spends_then (below_dkey_cost c.args.task.kind c.args.akey.now (for_one d) 1) 1 (g.P.Pages.budget c.args.pages.now) (g.P.Pages.budget c.change_dkey.new.pages) (g.P.Pages.budget c.put_unless.new.pages) spent c.put_unless.ensures.staged) c.put_unless.ensures.went_on
+
+pub returns-clause-committed : goal.returns-clause-committed
+returns-clause-committed g c kept = on_ok_then c.put_unless.result (λ h.
+    let had = c.are_roots-had.ensures ∙ roots_are_so c.in-Some.was c.in_ok-now.now (c.in_ok-now.ensures.root kept) in
+    let b0 = g.P.Pages.budget c.args.pages.now in
+    let spent = subst (λ b. Spends (below_dkey_cost c.args.task.kind c.args.akey.now 1 0) b (g.P.Pages.budget c.change_dkey.new.pages)) c.find_roots.ensures.budget (c.in_ok-now.ensures.committed kept) in
+    let still = subst (λ b. Spends (below_dkey_cost c.args.task.kind c.args.akey.now 1 0) b0 b) (sym (c.put_unless.ensures.had had)) spent in
+    spends_most (below_dkey_cost c.args.task.kind c.args.akey.now 1 0) (dkeys_cost c.args.task.kind c.args.akey.now 1 0) b0 (g.P.Pages.budget c.put_unless.new.pages) (omega arith) still) c.put_unless.ensures.went_on
 
 pub returns-clause-free : goal.returns-clause-free
-returns-clause-free g c = on_ok_then c.put_value.result (λ h told x held at.
+returns-clause-free g c = on_ok_then c.put_unless.result (λ h told x held at.
     let m = g.P.Pages.blocks c.args.pages.now in
     let e = c.find_roots.ensures.kept told in
     let tree = tree_of dkey_level m c.args.dkeys.now.kind c.args.dkeys.now.root x c.requires.kind held at in
@@ -133,5 +142,5 @@ returns-clause-free g c = on_ok_then c.put_value.result (λ h told x held at.
     let one = c.in_ok-now.ensures.free told k.thing.holds stands k.is in
     let two = ap (λ b. b.free) c.find_roots.ensures.budget in
     let three = ap (or_none (dkey_freed c.args.task c.args.akey.now) 0) k.found in
-    let put = c.put_value.ensures.free in
-    omega (arith, one, two, three, put)) c.put_value.ensures.went_on
+    let put = c.put_unless.ensures.free in
+    omega (arith, one, two, three, put)) c.put_unless.ensures.went_on
