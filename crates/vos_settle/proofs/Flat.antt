@@ -23,7 +23,7 @@ pub any_together : {A V : Type 0} (test : V → Bool) (f : A → List V) (xs : L
 any_together test f [] h = refl
 any_together test f (x ∷ xs) h = any_append test (f x) (together f xs) (h x) (any_together test f xs h)
 
-any_among : {A V : Type 0} (test : V → Bool) (is : A → Bool) (f : A → List V) (xs : List A) → list_any is xs ≡ false → ((a : A) → is a ≡ false → list_any test (f a) ≡ false) → list_any test (together f xs) ≡ false
+pub any_among : {A V : Type 0} (test : V → Bool) (is : A → Bool) (f : A → List V) (xs : List A) → list_any is xs ≡ false → ((a : A) → is a ≡ false → list_any test (f a) ≡ false) → list_any test (together f xs) ≡ false
 any_among test is f [] n h = refl
 any_among test is f (x ∷ xs) n h = any_append test (f x) (together f xs) (h x (first_false (is x) (list_any is xs) n)) (any_among test is f xs (then_false (is x) (list_any is xs) n) h)
 

@@ -56,11 +56,11 @@ itself Equal h = refl
 itself Greater h = absurd (let n : ⊥ = cc in n)
 
 -- the key of a name is that of a thing of the name
-named_level : {N : Type 0} (key : N → TreeKey) (name other : N) → name ≡ other → chosen (key_cmp (key name) (key other)) false true false ≡ true
+pub named_level : {N : Type 0} (key : N → TreeKey) (name other : N) → name ≡ other → chosen (key_cmp (key name) (key other)) false true false ≡ true
 named_level key name other e =
     ap (λ z. chosen (key_cmp (key name) (key z)) false true false) (sym e) ∙ ap (λ o. chosen o false true false) (itself (key_cmp (key name) (key name)) (key_total.antisymm (key name) (key name)))
 
-other_name : {N : Type 0} (key : N → TreeKey) (name other : N) → chosen (key_cmp (key name) (key other)) false true false ≡ false → name ≡ other → ⊥
+pub other_name : {N : Type 0} (key : N → TreeKey) (name other : N) → chosen (key_cmp (key name) (key other)) false true false ≡ false → name ≡ other → ⊥
 other_name key name other below e = let level = named_level key name other e in let n : ⊥ = cc in n
 
 -- ---- tests
@@ -73,7 +73,7 @@ not_true : (a : Bool) → not a ≡ true → a ≡ false
 not_true true h = absurd (let n : ⊥ = cc in n)
 not_true false h = refl
 
-some_inside : {A : Type 0} (a b : A) → Some a ≡ Some b → a ≡ b
+pub some_inside : {A : Type 0} (a b : A) → Some a ≡ Some b → a ≡ b
 some_inside a b h = cc
 
 module _ (t : Task) (p : Path) where
@@ -83,14 +83,14 @@ module _ (t : Task) (p : Path) where
   abbrev after : List Version → List Version
   after vs = versions_after t p vs
 
-  not_same : (q : Path) → (p ≡ q → ⊥) → same_path p q ≡ false
+  pub not_same : (q : Path) → (p ≡ q → ⊥) → same_path p q ≡ false
   not_same q differs = by (same_path p q) refl
     where
       by : (b : Bool) → same_path p q ≡ b → same_path p q ≡ false
       by true e = absurd (differs ((same_path-Decides p q).0 e))
       by false e = e
 
-  other_write : (k : WriteKind) (w : Write) → same_path p (write_path w) ≡ false → is_write p k w ≡ false
+  pub other_write : (k : WriteKind) (w : Write) → same_path p (write_path w) ≡ false → is_write p k w ≡ false
   other_write kind.Punch (Single q bytes) h = refl
   other_write kind.Punch (Extent q low bytes) h = refl
   other_write kind.Punch (PunchObject q) h = h
@@ -111,27 +111,27 @@ module _ (t : Task) (p : Path) where
   not_taken k v h = ap (λ (b : Bool). (b && same_moment (record { epoch = v.epoch; minor = v.minor }) t.at) && takes t.change v.by v.done) h
 
   -- versions of other writes
-  none_written : {A : Type 0} (k : WriteKind) (f : A → Version) (es : List A) → ((a : A) → is_write p k (f a).write ≡ false) → list_any (taken k) (map f es) ≡ false
+  pub none_written : {A : Type 0} (k : WriteKind) (f : A → Version) (es : List A) → ((a : A) → is_write p k (f a).write ≡ false) → list_any (taken k) (map f es) ≡ false
   none_written k f [] h = refl
   none_written k f (e ∷ es) h = rw (not_taken k (f e) (h e), none_written k f es h) refl
 
   -- and of other paths
-  none_values : (k : WriteKind) (q : Path) (a : Values) → same_path p q ≡ false → list_any (taken k) (values_versions q a) ≡ false
+  pub none_values : (k : WriteKind) (q : Path) (a : Values) → same_path p q ≡ false → list_any (taken k) (values_versions q a) ≡ false
   none_values k q a h =
       any_append (taken k) (punches (PunchAkey q) a.0) (map (single_version q) (single.versions a.1.0) ++ map (extent_version q) (extent.extents a.1.1)) (none_written k (punch_version (PunchAkey q)) (filter is_punch (things a.0)) (λ e. other_write k (PunchAkey q) h))
       (any_append (taken k) (map (single_version q) (single.versions a.1.0)) (map (extent_version q) (extent.extents a.1.1)) (none_written k (single_version q) (single.versions a.1.0) (λ v. other_write k (Single q v.bytes) h)) (none_written k (extent_version q) (extent.extents a.1.1) (λ v. other_write k (Extent q v.low v.bytes) h)))
 
-  none_akeys : (k : WriteKind) (o : ObjectKey) (d : List ℕ) (g : Hung Akey) → ((a : List ℕ) → same_path p (akey_path o d a) ≡ false) → list_any (taken k) (akeys_versions o d g) ≡ false
+  pub none_akeys : (k : WriteKind) (o : ObjectKey) (d : List ℕ) (g : Hung Akey) → ((a : List ℕ) → same_path p (akey_path o d a) ≡ false) → list_any (taken k) (akeys_versions o d g) ≡ false
   none_akeys k o d g h = any_together (taken k) (akey_versions o d) (things g) (λ a. none_values k (akey_path o d a.name) a.holds (h a.name))
 
-  none_below_dkey : (k : WriteKind) (o : ObjectKey) (d : List ℕ) (b : Below Akey) → same_path p (dkey_path o d) ≡ false → ((a : List ℕ) → same_path p (akey_path o d a) ≡ false) → list_any (taken k) (below_dkey_versions o d b) ≡ false
+  pub none_below_dkey : (k : WriteKind) (o : ObjectKey) (d : List ℕ) (b : Below Akey) → same_path p (dkey_path o d) ≡ false → ((a : List ℕ) → same_path p (akey_path o d a) ≡ false) → list_any (taken k) (below_dkey_versions o d b) ≡ false
   none_below_dkey k o d b h i =
       any_append (taken k) (punches (PunchDkey (dkey_path o d)) b.0) (akeys_versions o d b.1) (none_written k (punch_version (PunchDkey (dkey_path o d))) (filter is_punch (things b.0)) (λ e. other_write k (PunchDkey (dkey_path o d)) h)) (none_akeys k o d b.1 i)
 
-  none_dkeys : (k : WriteKind) (o : ObjectKey) (g : Hung Dkey) → ((d : List ℕ) → same_path p (dkey_path o d) ≡ false) → ((d a : List ℕ) → same_path p (akey_path o d a) ≡ false) → list_any (taken k) (dkeys_versions o g) ≡ false
+  pub none_dkeys : (k : WriteKind) (o : ObjectKey) (g : Hung Dkey) → ((d : List ℕ) → same_path p (dkey_path o d) ≡ false) → ((d a : List ℕ) → same_path p (akey_path o d a) ≡ false) → list_any (taken k) (dkeys_versions o g) ≡ false
   none_dkeys k o g h i = any_together (taken k) (dkey_versions o) (things g) (λ d. none_below_dkey k o d.name d.holds (h d.name) (i d.name))
 
-  none_below_object : (k : WriteKind) (o : ObjectKey) (b : Below Dkey) → same_path p (object_path o) ≡ false → ((d : List ℕ) → same_path p (dkey_path o d) ≡ false) → ((d a : List ℕ) → same_path p (akey_path o d a) ≡ false) → list_any (taken k) (below_object_versions o b) ≡ false
+  pub none_below_object : (k : WriteKind) (o : ObjectKey) (b : Below Dkey) → same_path p (object_path o) ≡ false → ((d : List ℕ) → same_path p (dkey_path o d) ≡ false) → ((d a : List ℕ) → same_path p (akey_path o d a) ≡ false) → list_any (taken k) (below_object_versions o b) ≡ false
   none_below_object k o b h i j =
       any_append (taken k) (punches (PunchObject (object_path o)) b.0) (dkeys_versions o b.1) (none_written k (punch_version (PunchObject (object_path o))) (filter is_punch (things b.0)) (λ e. other_write k (PunchObject (object_path o)) h)) (none_dkeys k o b.1 i j)
 
@@ -199,7 +199,7 @@ module _ (t : Task) (p : Path) where
       (ap (map (single_version q)) v.singles ∙ values_singles t.kind q (single.versions a.1.0) so)
       (ap (map (extent_version q)) v.extents ∙ values_extents t.kind q (extent.extents a.1.1) so))
 
-  same_is : (q : Path) → p ≡ q → same_path p q ≡ true
+  pub same_is : (q : Path) → p ≡ q → same_path p q ≡ true
   same_is q e = (same_path-Decides p q).1 e
 
   -- ---- the akeys of a dkey
@@ -215,30 +215,30 @@ module _ (t : Task) (p : Path) where
 
   -- ---- paths
 
-  path_of_akey : (o : ObjectKey) (d a : List ℕ) → IsAtObject o p → p.dkey ≡ Some d → p.akey ≡ Some a → p ≡ akey_path o d a
+  pub path_of_akey : (o : ObjectKey) (d a : List ℕ) → IsAtObject o p → p.dkey ≡ Some d → p.akey ≡ Some a → p ≡ akey_path o d a
   path_of_akey o d a h x y = λ i. record { cont = h.cont i; obj = h.obj i; dkey = x i; akey = y i }
 
-  path_of_dkey : (o : ObjectKey) (d : List ℕ) → IsAtObject o p → p.dkey ≡ Some d → p.akey ≡ None → p ≡ dkey_path o d
+  pub path_of_dkey : (o : ObjectKey) (d : List ℕ) → IsAtObject o p → p.dkey ≡ Some d → p.akey ≡ None → p ≡ dkey_path o d
   path_of_dkey o d h x y = λ i. record { cont = h.cont i; obj = h.obj i; dkey = x i; akey = y i }
 
-  path_of_object : (o : ObjectKey) → IsAtObject o p → p.dkey ≡ None → p.akey ≡ None → p ≡ object_path o
+  pub path_of_object : (o : ObjectKey) → IsAtObject o p → p.dkey ≡ None → p.akey ≡ None → p ≡ object_path o
   path_of_object o h x y = λ i. record { cont = h.cont i; obj = h.obj i; dkey = x i; akey = y i }
 
   -- a path of another dkey, and of another level
-  other_dkey : (name : List ℕ) (q : Path) → p.dkey ≡ Some name → (q.dkey ≡ Some name → ⊥) → same_path p q ≡ false
+  pub other_dkey : (name : List ℕ) (q : Path) → p.dkey ≡ Some name → (q.dkey ≡ Some name → ⊥) → same_path p q ≡ false
   other_dkey name q x differs = not_same q (λ e. differs (sym (ap (λ r. r.dkey) e) ∙ x))
 
-  other_akey : (q : Path) (x : Option (List ℕ)) → p.akey ≡ x → (q.akey ≡ x → ⊥) → same_path p q ≡ false
+  pub other_akey : (q : Path) (x : Option (List ℕ)) → p.akey ≡ x → (q.akey ≡ x → ⊥) → same_path p q ≡ false
   other_akey q x y differs = not_same q (λ e. differs (sym (ap (λ r. r.akey) e) ∙ y))
 
   -- a path that ends above an akey is that of a punch
-  punch_alone : (k : WriteKind) → fits_kind k p ≡ true → p.akey ≡ None → k ≡ kind.Punch
+  pub punch_alone : (k : WriteKind) → fits_kind k p ≡ true → p.akey ≡ None → k ≡ kind.Punch
   punch_alone kind.Punch h e = refl
   punch_alone kind.Single h e = let some : is_some p.akey ≡ true = and_right (is_some p.obj && is_some p.dkey) (is_some p.akey) h in let none : is_some p.akey ≡ false = ap is_some e in let n : ⊥ = cc in absurd n
   punch_alone (kind.Extent low) h e = let some : is_some p.akey ≡ true = and_right (is_some p.obj && is_some p.dkey) (is_some p.akey) h in let none : is_some p.akey ≡ false = ap is_some e in let n : ⊥ = cc in absurd n
 
   -- a path with no dkey has no akey
-  no_akey : (k : WriteKind) → fits_kind k p ≡ true → p.dkey ≡ None → p.akey ≡ None
+  pub no_akey : (k : WriteKind) → fits_kind k p ≡ true → p.dkey ≡ None → p.akey ≡ None
   no_akey kind.Punch h e = by p.akey refl
     where
       form : (is_none p.akey || is_some p.dkey) ≡ true

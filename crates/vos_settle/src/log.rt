@@ -50,8 +50,12 @@ fn mark_in(value: Option<Value>) -> Option<LogMark>
     }
 }
 
-// What the entry of a moment says, if there is one.
-fn find_mark<P: Pages, L: Ledger>(
+/// What the entry of a moment says in the log of a root, if there is one.
+///
+/// # Errors
+///
+/// `Stopped` comes only where the pages answered it.
+pub fn find_mark<P: Pages, L: Ledger>(
     root: u32,
     pages: &mut P,
     at: Moment,
