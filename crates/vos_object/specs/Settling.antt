@@ -1,0 +1,30 @@
+-- What is asked of a step that settles a write, and what it makes of it.
+use Rattle.std.specs.Prelude.{Bool, true, false}
+use Rattle.base_types.specs.declared.entry.Settle.{Settle}
+use Rattle.base_types.specs.declared.entry.Settle.TheVariants as step
+use Rattle.base_types.specs.declared.id.AttemptId.{AttemptId}
+use Rattle.vos_values.specs.declared.keys.Moment.{Moment}
+use Rattle.vos_levels.specs.declared.change.Change.{Change}
+use Rattle.vos_levels.specs.declared.change.Change.TheVariants.{Commit, Abort}
+use Rattle.vos_settle.specs.declared.task.Task.{Task}
+use Rattle.vos_object.specs.declared.settle.WriteName.{WriteName}
+
+-- a step decides an attempt: its versions become done, or go
+abbrev pub decides : Settle → Bool
+decides step.Commit = true
+decides step.Abort = true
+decides (step.Confirm target) = false
+decides step.Forget = false
+
+abbrev pub change_of : AttemptId → Settle → Change
+change_of a step.Commit = Commit a
+change_of a step.Abort = Abort a
+change_of a (step.Confirm target) = Abort a
+change_of a step.Forget = Abort a
+
+abbrev pub moment_of : WriteName → Moment
+moment_of n = record { epoch = n.epoch; minor = n.minor }
+
+-- a write of an attempt is settled, with the attempt's creations of it
+abbrev pub settling : AttemptId → WriteName → Settle → Task
+settling a n s = record { kind = n.kind; at = moment_of n; by = a; change = change_of a s }

@@ -1,0 +1,138 @@
+// Settling and pruning of objects, one write at a time.
+ghost use Rattle.std.specs.Prelude.{◌≡◌, ◌<◌, true, ℕ, OnOk, IsErrOf, IsTrue, ⊤};
+ghost use Rattle.base_types.specs.Paths.{record_size};
+ghost use Rattle.base_types.specs.declared.entry.Settle.TheVariants.{Commit as commit_step};
+ghost use Rattle.daos_model.specs.Forms.{is_unit};
+ghost use Rattle.pmem_tree_base.specs.Calls.{Goes};
+ghost use Rattle.pmem_tree_base.specs.declared.refusal.TreeNo.{TreeNo};
+ghost use Rattle.vos_levels.specs.Calls.{HasThing, OfThing};
+ghost use Rattle.vos_levels.specs.Levels.{hung_root};
+ghost use Rattle.vos_path.specs.Objects.{objects_owner, objects_versions};
+ghost use Rattle.vos_path.specs.Writes.{NamesAreKeys, ObjectsAreSmall};
+ghost use Rattle.vos_settle.specs.Costs.{Lacks, Spends, for_one, objects_cost};
+ghost use Rattle.vos_settle.specs.Versions.{WriteTurn, fits_kind};
+ghost use Rattle.vos_prune.specs.Removals.{Removed};
+ghost use Rattle.vos_prune.specs.Writers.{writer_of};
+ghost use Rattle.vos_object.specs.Settling.{change_of, decides, moment_of, settling};
+
+use crate::object::Objects;
+use base_types::entry::Settle;
+use base_types::epoch::Epoch;
+use base_types::id::AttemptId;
+use base_types::path::Path;
+use pmem_pages::pages::Pages;
+use pmem_pages::steps::Steps;
+use pmem_tree::TreeNo;
+use std::sync::ledger::Ledger;
+use vos_levels::change::Change;
+use vos_prune::remove::remove_write;
+use vos_settle::task::{Task, WriteKind};
+use vos_settle::write::change_write;
+use vos_values::keys::Moment;
+
+/// The name of one write: where it wrote, of which kind it is, and when it was made.
+#[derive(Drop)]
+pub struct WriteName {
+    pub path: Path,
+    pub kind: WriteKind,
+    pub epoch: Epoch,
+    pub minor: u8,
+}
+
+// What a step makes of the versions of an attempt.
+fn change_of(attempt: AttemptId, step: Settle) -> Change
+    ensures { result ≡ change_of attempt step }
+{
+    match step {
+        Settle::Commit => Change::Commit(attempt),
+        Settle::Abort | Settle::Confirm(_) | Settle::Forget => Change::Abort(attempt),
+    }
+}
+
+impl WriteName {
+    // When it was made.
+    fn moment(&self) -> Moment
+        ensures { result ≡ moment_of self.now }
+    {
+        Moment {
+            epoch: self.epoch,
+            minor: self.minor,
+        }
+    }
+}
+
+impl Objects {
+    /// Settles the version of one write of an attempt, where it is there and unsettled, and the unsettled
+    /// creations that the attempt has of it: `Commit` makes them done, `Abort` takes them out, with the
+    /// version's bytes. All other versions and entries stay, and so do objects, dkeys and akeys.
+    ///
+    /// # Errors
+    ///
+    /// `TooMuch` comes only where fewer ranges or bytes are left to stage than its entries and one change of
+    /// the largest tree may want, `Stopped` only where the pages answered it, and `NoBlock` never. After one
+    /// the stage has to be dropped.
+    pub fn settle_write<P: Pages, L: Ledger>(
+        &mut self,
+        pages: &mut P,
+        attempt: AttemptId,
+        name: &WriteName,
+        step: Settle,
+        steps: &mut Steps<L>,
+    ) -> Result<(), TreeNo>
+        requires step { decides step ≡ true }
+        requires kind { self.old.tree.kind ≡ 1 }
+        requires minor { name.now.minor < 64 }
+        requires fits { fits_kind name.now.kind name.now.path ≡ true }
+        requires size { is_unit (record_size name.now.path) ≡ true }
+        requires names { NamesAreKeys name.now.path }
+        requires here { HasThing P.tells objects_owner hung_root (P.blocks pages.old) self.old.tree.root (λ g. ⊤) }
+        ensures settled { OnOk result (OfThing P.tells objects_owner hung_root (P.blocks pages.old) self.old.tree.root (λ g. WriteTurn (settling attempt name.now step) name.now.path (P.blocks pages.old) g (P.blocks pages.new) self.new.tree.root)) }
+        ensures kept { self.new ≡ self.old }
+        ensures no_block { IsErrOf result TreeNo.NoBlock → ⊥ }
+        ensures too_much { IsErrOf result TreeNo.TooMuch → OfThing P.tells objects_owner hung_root (P.blocks pages.old) self.old.tree.root (λ g. (d : ℕ) → ObjectsAreSmall d g → Lacks (objects_cost name.now.kind name.now.path.dkey name.now.path.akey (for_one d) 1) d (P.budget pages.old)) }
+        ensures staged { OnOk result (OfThing P.tells objects_owner hung_root (P.blocks pages.old) self.old.tree.root (λ g. (d : ℕ) → ObjectsAreSmall d g → Spends (objects_cost name.now.kind name.now.path.dkey name.now.path.akey (for_one d) 1) (P.budget pages.old) (P.budget pages.new))) }
+        ensures committed { step ≡ commit_step → OnOk result (Spends (objects_cost name.now.kind name.now.path.dkey name.now.path.akey 1 0) (P.budget pages.old) (P.budget pages.new)) }
+        ensures goes { Goes P.stopped P.count P.burns pages.old pages.new }
+        ensures stopped { IsErrOf result TreeNo.Stopped → P.stopped pages.new ≡ true }
+        ensures went_on { OnOk result (P.stopped pages.new ≡ P.stopped pages.old) }
+    {
+        let task = Task {
+            kind: name.kind,
+            at: name.moment(),
+            by: attempt,
+            change: change_of(attempt, step),
+        };
+        change_write(&mut self.tree, pages, task, &name.path, steps)
+    }
+
+    /// Takes the done version of one write out, where it is there, with its bytes, and the done creations
+    /// that its attempt has of it. All other versions and entries stay, and so do objects, dkeys and akeys.
+    ///
+    /// # Errors
+    ///
+    /// As `settle_write`.
+    pub fn remove_write<P: Pages, L: Ledger>(
+        &mut self,
+        pages: &mut P,
+        name: &WriteName,
+        steps: &mut Steps<L>,
+    ) -> Result<(), TreeNo>
+        requires kind { self.old.tree.kind ≡ 1 }
+        requires minor { name.now.minor < 64 }
+        requires fits { fits_kind name.now.kind name.now.path ≡ true }
+        requires size { is_unit (record_size name.now.path) ≡ true }
+        requires names { NamesAreKeys name.now.path }
+        requires here { HasThing P.tells objects_owner hung_root (P.blocks pages.old) self.old.tree.root (λ g. ⊤) }
+        ensures removed { OnOk result (OfThing P.tells objects_owner hung_root (P.blocks pages.old) self.old.tree.root (λ g. Removed (writer_of name.now.path name.now.kind (moment_of name.now) (objects_versions g)) name.now.kind (moment_of name.now) name.now.path (P.blocks pages.old) g (P.blocks pages.new) self.new.tree.root)) }
+        ensures kept { self.new ≡ self.old }
+        ensures no_block { IsErrOf result TreeNo.NoBlock → ⊥ }
+        ensures too_much { IsErrOf result TreeNo.TooMuch → OfThing P.tells objects_owner hung_root (P.blocks pages.old) self.old.tree.root (λ g. (d : ℕ) → ObjectsAreSmall d g → Lacks (objects_cost name.now.kind name.now.path.dkey name.now.path.akey (for_one d) 1) d (P.budget pages.old)) }
+        ensures staged { OnOk result (OfThing P.tells objects_owner hung_root (P.blocks pages.old) self.old.tree.root (λ g. (d : ℕ) → ObjectsAreSmall d g → Spends (objects_cost name.now.kind name.now.path.dkey name.now.path.akey (for_one d) 1) (P.budget pages.old) (P.budget pages.new))) }
+        ensures goes { Goes P.stopped P.count P.burns pages.old pages.new }
+        ensures stopped { IsErrOf result TreeNo.Stopped → P.stopped pages.new ≡ true }
+        ensures went_on { OnOk result (P.stopped pages.new ≡ P.stopped pages.old) }
+    {
+        let at = name.moment();
+        remove_write(&mut self.tree, pages, &name.path, name.kind, at, steps)
+    }
+}
