@@ -1,12 +1,16 @@
 -- What is asked of a step that settles a write, and what it makes of it.
-use Rattle.std.specs.Prelude.{Bool, true, false}
+use Rattle.std.specs.Prelude.{◌≡◌, ◌<◌, Bool, true, false}
 use Rattle.base_types.specs.declared.entry.Settle.{Settle}
 use Rattle.base_types.specs.declared.entry.Settle.TheVariants as step
 use Rattle.base_types.specs.declared.id.AttemptId.{AttemptId}
+use Rattle.base_types.specs.Paths.{record_size}
+use Rattle.daos_model.specs.Forms.{is_unit}
 use Rattle.vos_values.specs.declared.keys.Moment.{Moment}
 use Rattle.vos_levels.specs.declared.change.Change.{Change}
 use Rattle.vos_levels.specs.declared.change.Change.TheVariants.{Commit, Abort}
+use Rattle.vos_path.specs.Writes.{NamesAreKeys}
 use Rattle.vos_settle.specs.declared.task.Task.{Task}
+use Rattle.vos_settle.specs.Versions.{fits_kind}
 use Rattle.vos_object.specs.declared.settle.WriteName.{WriteName}
 
 -- a step decides an attempt: its versions become done, or go
@@ -28,3 +32,11 @@ moment_of n = record { epoch = n.epoch; minor = n.minor }
 -- a write of an attempt is settled, with the attempt's creations of it
 abbrev pub settling : AttemptId → WriteName → Settle → Task
 settling a n s = record { kind = n.kind; at = moment_of n; by = a; change = change_of a s }
+
+-- A name of a write that objects can have: its number is below 64, its kind fits its path, the record size of its object is from
+-- 1 to 64, and its names are keys.
+pub record IsNamed (n : WriteName) : Type 0 where
+  pub minor : n.minor < 64
+  pub fits : fits_kind n.kind n.path ≡ true
+  pub size : is_unit (record_size n.path) ≡ true
+  pub names : NamesAreKeys n.path

@@ -1,19 +1,17 @@
 // Settling and pruning of objects, one write at a time.
-ghost use Rattle.std.specs.Prelude.{◌≡◌, ◌<◌, true, ℕ, OnOk, IsErrOf, IsTrue, ⊤};
-ghost use Rattle.base_types.specs.Paths.{record_size};
+ghost use Rattle.std.specs.Prelude.{◌≡◌, true, ℕ, OnOk, IsErrOf, IsTrue, ⊤};
 ghost use Rattle.base_types.specs.declared.entry.Settle.TheVariants.{Commit as commit_step};
-ghost use Rattle.daos_model.specs.Forms.{is_unit};
 ghost use Rattle.pmem_tree_base.specs.Calls.{Goes};
 ghost use Rattle.pmem_tree_base.specs.declared.refusal.TreeNo.{TreeNo};
 ghost use Rattle.vos_levels.specs.Calls.{HasThing, OfThing};
 ghost use Rattle.vos_levels.specs.Levels.{hung_root};
 ghost use Rattle.vos_path.specs.Objects.{objects_owner, objects_versions};
-ghost use Rattle.vos_path.specs.Writes.{NamesAreKeys, ObjectsAreSmall};
+ghost use Rattle.vos_path.specs.Writes.{ObjectsAreSmall};
 ghost use Rattle.vos_settle.specs.Costs.{Lacks, Spends, for_one, objects_cost};
-ghost use Rattle.vos_settle.specs.Versions.{WriteTurn, fits_kind};
+ghost use Rattle.vos_settle.specs.Versions.{WriteTurn};
 ghost use Rattle.vos_prune.specs.Removals.{Removed};
 ghost use Rattle.vos_prune.specs.Writers.{writer_of};
-ghost use Rattle.vos_object.specs.Settling.{change_of, decides, moment_of, settling};
+ghost use Rattle.vos_object.specs.Settling.{IsNamed, change_of, decides, moment_of, settling};
 
 use crate::object::Objects;
 use base_types::entry::Settle;
@@ -81,10 +79,7 @@ impl Objects {
     ) -> Result<(), TreeNo>
         requires step { decides step ≡ true }
         requires kind { self.old.tree.kind ≡ 1 }
-        requires minor { name.now.minor < 64 }
-        requires fits { fits_kind name.now.kind name.now.path ≡ true }
-        requires size { is_unit (record_size name.now.path) ≡ true }
-        requires names { NamesAreKeys name.now.path }
+        requires name { IsNamed name.now }
         requires here { HasThing P.tells objects_owner hung_root (P.blocks pages.old) self.old.tree.root (λ g. ⊤) }
         ensures settled { OnOk result (OfThing P.tells objects_owner hung_root (P.blocks pages.old) self.old.tree.root (λ g. WriteTurn (settling attempt name.now step) name.now.path (P.blocks pages.old) g (P.blocks pages.new) self.new.tree.root)) }
         ensures kept { self.new ≡ self.old }
@@ -118,10 +113,7 @@ impl Objects {
         steps: &mut Steps<L>,
     ) -> Result<(), TreeNo>
         requires kind { self.old.tree.kind ≡ 1 }
-        requires minor { name.now.minor < 64 }
-        requires fits { fits_kind name.now.kind name.now.path ≡ true }
-        requires size { is_unit (record_size name.now.path) ≡ true }
-        requires names { NamesAreKeys name.now.path }
+        requires name { IsNamed name.now }
         requires here { HasThing P.tells objects_owner hung_root (P.blocks pages.old) self.old.tree.root (λ g. ⊤) }
         ensures removed { OnOk result (OfThing P.tells objects_owner hung_root (P.blocks pages.old) self.old.tree.root (λ g. Removed (writer_of name.now.path name.now.kind (moment_of name.now) (objects_versions g)) name.now.kind (moment_of name.now) name.now.path (P.blocks pages.old) g (P.blocks pages.new) self.new.tree.root)) }
         ensures kept { self.new ≡ self.old }
