@@ -1,5 +1,5 @@
 // Settling and pruning of objects, one write at a time.
-ghost use Rattle.std.specs.Prelude.{◌≡◌, true, ℕ, OnOk, IsErrOf, IsTrue, ⊤};
+ghost use Rattle.std.specs.Prelude.{◌≡◌, ◌≤◌, ◌+◌, true, ℕ, OnOk, IsErrOf, IsTrue, ⊤};
 ghost use Rattle.base_types.specs.declared.entry.Settle.TheVariants.{Commit as commit_step};
 ghost use Rattle.pmem_tree_base.specs.Calls.{Goes};
 ghost use Rattle.pmem_tree_base.specs.declared.refusal.TreeNo.{TreeNo};
@@ -8,8 +8,8 @@ ghost use Rattle.vos_levels.specs.Levels.{hung_root};
 ghost use Rattle.vos_path.specs.Objects.{objects_owner, objects_versions};
 ghost use Rattle.vos_path.specs.Writes.{ObjectsAreSmall};
 ghost use Rattle.vos_settle.specs.Costs.{Lacks, Spends, for_one, objects_cost};
-ghost use Rattle.vos_settle.specs.Versions.{WriteTurn};
-ghost use Rattle.vos_prune.specs.Removals.{Removed};
+ghost use Rattle.vos_settle.specs.Versions.{WriteTurn, versions_freed, write_freed};
+ghost use Rattle.vos_prune.specs.Removals.{Removed, done_blocks, removed_freed};
 ghost use Rattle.vos_prune.specs.Writers.{writer_of};
 ghost use Rattle.vos_object.specs.Settling.{IsNamed, change_of, decides, moment_of, settling};
 
@@ -87,6 +87,8 @@ impl Objects {
         ensures too_much { IsErrOf result TreeNo.TooMuch → OfThing P.tells objects_owner hung_root (P.blocks pages.old) self.old.tree.root (λ g. (d : ℕ) → ObjectsAreSmall d g → Lacks (objects_cost name.now.kind name.now.path.dkey name.now.path.akey (for_one d) 1) d (P.budget pages.old)) }
         ensures staged { OnOk result (OfThing P.tells objects_owner hung_root (P.blocks pages.old) self.old.tree.root (λ g. (d : ℕ) → ObjectsAreSmall d g → Spends (objects_cost name.now.kind name.now.path.dkey name.now.path.akey (for_one d) 1) (P.budget pages.old) (P.budget pages.new))) }
         ensures committed { step ≡ commit_step → OnOk result (Spends (objects_cost name.now.kind name.now.path.dkey name.now.path.akey 1 0) (P.budget pages.old) (P.budget pages.new)) }
+        ensures free { OnOk result (OfThing P.tells objects_owner hung_root (P.blocks pages.old) self.old.tree.root (λ g. (P.budget pages.new).free ≡ (P.budget pages.old).free + write_freed (settling attempt name.now step) name.now.path g)) }
+        ensures gives { OnOk result (OfThing P.tells objects_owner hung_root (P.blocks pages.old) self.old.tree.root (λ g. (P.budget pages.old).free + versions_freed (settling attempt name.now step) name.now.path (objects_versions g) ≤ (P.budget pages.new).free)) }
         ensures goes { Goes P.stopped P.count P.burns pages.old pages.new }
         ensures stopped { IsErrOf result TreeNo.Stopped → P.stopped pages.new ≡ true }
         ensures went_on { OnOk result (P.stopped pages.new ≡ P.stopped pages.old) }
@@ -120,6 +122,8 @@ impl Objects {
         ensures no_block { IsErrOf result TreeNo.NoBlock → ⊥ }
         ensures too_much { IsErrOf result TreeNo.TooMuch → OfThing P.tells objects_owner hung_root (P.blocks pages.old) self.old.tree.root (λ g. (d : ℕ) → ObjectsAreSmall d g → Lacks (objects_cost name.now.kind name.now.path.dkey name.now.path.akey (for_one d) 1) d (P.budget pages.old)) }
         ensures staged { OnOk result (OfThing P.tells objects_owner hung_root (P.blocks pages.old) self.old.tree.root (λ g. (d : ℕ) → ObjectsAreSmall d g → Spends (objects_cost name.now.kind name.now.path.dkey name.now.path.akey (for_one d) 1) (P.budget pages.old) (P.budget pages.new))) }
+        ensures free { OnOk result (OfThing P.tells objects_owner hung_root (P.blocks pages.old) self.old.tree.root (λ g. (P.budget pages.new).free ≡ (P.budget pages.old).free + removed_freed (writer_of name.now.path name.now.kind (moment_of name.now) (objects_versions g)) name.now.kind (moment_of name.now) name.now.path g)) }
+        ensures gives { OnOk result (OfThing P.tells objects_owner hung_root (P.blocks pages.old) self.old.tree.root (λ g. (P.budget pages.old).free + done_blocks name.now.path name.now.kind (moment_of name.now) (objects_versions g) ≤ (P.budget pages.new).free)) }
         ensures goes { Goes P.stopped P.count P.burns pages.old pages.new }
         ensures stopped { IsErrOf result TreeNo.Stopped → P.stopped pages.new ≡ true }
         ensures went_on { OnOk result (P.stopped pages.new ≡ P.stopped pages.old) }

@@ -18,7 +18,9 @@ use Rattle.vos_values.specs.declared.keys.ObjectKey.{ObjectKey}
 use Rattle.vos_values.specs.Keys.{IsMoment, IsName, IsObjectKey, extent_key, moment_key, name_key, object_key}
 use Rattle.vos_levels.specs.Levels.{Hung, hung, things}
 use Rattle.vos_levels.specs.Moments.{same_moment}
+use Rattle.vos_levels.proofs.Settling.{sum_none}
 use Rattle.vos_levels.proofs.Spots.{find_none}
+use Rattle.vos_levels.proofs.Testing.{found_missing}
 use Rattle.vos_ilog.specs.declared.ilog.LogEntry.{LogEntry}
 use Rattle.vos_ilog.specs.Logs.{Log, is_at, log_level, log_owner, mark_of}
 use Rattle.vos_ilog.proofs.Adding as log_adding
@@ -35,10 +37,10 @@ use Rattle.vos_settle.specs.declared.task.Task.{Task}
 use Rattle.vos_settle.specs.declared.task.WriteKind.{WriteKind}
 use Rattle.vos_settle.specs.declared.task.WriteKind.TheVariants as kind
 use Rattle.vos_settle.specs.Tasks.{place_at}
-use Rattle.vos_settle.specs.Versions.{fits_kind, is_write, object_in}
+use Rattle.vos_settle.specs.Versions.{fits_kind, is_write, object_in, version_blocks, write_freed}
 use Rattle.vos_settle.proofs.Flat.{any_append}
 use Rattle.vos_settle.proofs.VersionTurns.{no_akey, none_akeys, none_below_dkey, none_below_object, none_dkeys, none_values, none_written, not_same, other_akey, other_dkey, other_name, other_write, path_of_akey, path_of_dkey, path_of_object, punch_alone, same_is, some_inside}
-use Rattle.vos_prune.specs.Removals.{pruning}
+use Rattle.vos_prune.specs.Removals.{done_blocks, pruning, removed_freed}
 use Rattle.vos_prune.specs.Writers.{HasPlace, akey_writer, akeys_writer, dkey_writer, dkeys_writer, done_punch, done_version, extent_writer, is_done_of, log_writer, object_writer, objects_writer, one_dkey_writer, one_object_writer, single_writer, values_writer, version_by, writer_of}
 use Rattle.vos_prune.proofs.Finding.{all_seen, find_left, find_right, find_seen, find_together, map_map, when}
 
@@ -181,3 +183,17 @@ module _ (p : Path) (k : WriteKind) (m_at : Moment) (moment : IsMoment m_at) (pl
 pub writer_is : (p : Path) (k : WriteKind) (at : Moment) (o : ObjId) (m : Blocks) (g : Objects) → Holds objects_owner m g → p.obj ≡ Some o → fits_kind k p ≡ true → NamesAreKeys p → IsObjectKey Two (object_in p o) → IsMoment at → HasPlace k
     → objects_writer k at (object_in p o) p g ≡ writer_of p k at (objects_versions g)
 writer_is p k at o m g held obj fits names good moment place = objects_first p k at moment place fits (object_in p o) m g held (record { cont = refl; obj = obj }) names good
+
+-- where it is nobody's, no block goes with it
+pub nobody_freed : (p : Path) (k : WriteKind) (at : Moment) (vs : List Version) → None ≡ writer_of p k at vs → done_blocks p k at vs ≡ 0
+nobody_freed p k at vs h = sum_none (is_done_of p k at) version_blocks vs (found_missing (is_done_of p k at) vs (unmapped (find (is_done_of p k at) vs) h))
+  where
+    unmapped : (x : Option Version) → None ≡ option_map version_by x → x ≡ None
+    unmapped None h = refl
+    unmapped (Some v) h = absurd (let n : ⊥ = cc in n)
+
+pub nobody_removed : (x : Option AttemptId) (k : WriteKind) (at : Moment) (p : Path) (g : Objects) → x ≡ None → removed_freed x k at p g ≡ 0
+nobody_removed x k at p g e = ap (λ z. removed_freed z k at p g) e
+
+pub somebody_removed : (x : Option AttemptId) (by : AttemptId) (k : WriteKind) (at : Moment) (p : Path) (g : Objects) → x ≡ Some by → removed_freed x k at p g ≡ write_freed (pruning k at by) p g
+somebody_removed x by k at p g e = ap (λ z. removed_freed z k at p g) e

@@ -1,5 +1,5 @@
 // One write that is done is taken out.
-ghost use Rattle.std.specs.Prelude.{◌≡◌, ◌<◌, true, ℕ, IfOk, OnOk, OnErr, IsErrOf, IsTrue, ⊤};
+ghost use Rattle.std.specs.Prelude.{◌≡◌, ◌<◌, ◌≤◌, ◌+◌, true, ℕ, IfOk, OnOk, OnErr, IsErrOf, IsTrue, ⊤};
 ghost use Rattle.base_types.specs.Paths.{record_size};
 ghost use Rattle.daos_model.specs.Forms.{is_unit};
 ghost use Rattle.pmem_tree_base.specs.Calls.{Goes};
@@ -10,7 +10,7 @@ ghost use Rattle.vos_path.specs.Objects.{objects_owner, objects_versions};
 ghost use Rattle.vos_path.specs.Writes.{NamesAreKeys, ObjectsAreSmall};
 ghost use Rattle.vos_settle.specs.Costs.{Lacks, Spends, for_one, objects_cost};
 ghost use Rattle.vos_settle.specs.Versions.{fits_kind};
-ghost use Rattle.vos_prune.specs.Removals.{Removed};
+ghost use Rattle.vos_prune.specs.Removals.{Removed, done_blocks, removed_freed};
 ghost use Rattle.vos_prune.specs.Writers.{writer_of};
 
 use crate::find::objects_writer;
@@ -92,6 +92,8 @@ pub fn remove_write<P: Pages, L: Ledger>(
     ensures no_block { IsErrOf result TreeNo.NoBlock → ⊥ }
     ensures too_much { IsErrOf result TreeNo.TooMuch → OfThing P.tells objects_owner hung_root (P.blocks pages.old) objects.old.root (λ g. (d : ℕ) → ObjectsAreSmall d g → Lacks (objects_cost kind path.now.dkey path.now.akey (for_one d) 1) d (P.budget pages.old)) }
     ensures staged { OnOk result (OfThing P.tells objects_owner hung_root (P.blocks pages.old) objects.old.root (λ g. (d : ℕ) → ObjectsAreSmall d g → Spends (objects_cost kind path.now.dkey path.now.akey (for_one d) 1) (P.budget pages.old) (P.budget pages.new))) }
+    ensures free { OnOk result (OfThing P.tells objects_owner hung_root (P.blocks pages.old) objects.old.root (λ g. (P.budget pages.new).free ≡ (P.budget pages.old).free + removed_freed (writer_of path.now kind at (objects_versions g)) kind at path.now g)) }
+    ensures gives { OnOk result (OfThing P.tells objects_owner hung_root (P.blocks pages.old) objects.old.root (λ g. (P.budget pages.old).free + done_blocks path.now kind at (objects_versions g) ≤ (P.budget pages.new).free)) }
     ensures goes { Goes P.stopped P.count P.burns pages.old pages.new }
     ensures stopped { IsErrOf result TreeNo.Stopped → P.stopped pages.new ≡ true }
     ensures went_on { OnOk result (P.stopped pages.new ≡ P.stopped pages.old) }

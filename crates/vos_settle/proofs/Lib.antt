@@ -7,3 +7,4 @@ pub mod NodeTurns
 pub mod Flat
 pub mod VersionTurns
 pub mod Puts
+pub mod FreedVersions

@@ -1,5 +1,5 @@
 -- What becomes of the versions of all objects.
-use Rattle.std.specs.Prelude.{◌≡◌, ◌==◌, ◌&&◌, ℕ, Bool, true, false, is_some, List, Some}
+use Rattle.std.specs.Prelude.{◌≡◌, ◌==◌, ◌&&◌, ◌+◌, ℕ, Bool, true, false, is_some, List, Option, Some, None}
 use Rattle.base_types.specs.declared.id.ObjId.{ObjId}
 use Rattle.base_types.specs.declared.operation.Write.{Write}
 use Rattle.base_types.specs.declared.operation.Write.TheVariants.{Single, Extent, PunchObject, PunchDkey, PunchAkey}
@@ -11,14 +11,15 @@ use Rattle.pmem_pages.specs.Blocks.{Blocks}
 use Rattle.pmem_pages.specs.Owners.{Changed}
 use Rattle.vos_values.specs.declared.keys.Moment.{Moment}
 use Rattle.vos_values.specs.declared.keys.ObjectKey.{ObjectKey}
-use Rattle.vos_levels.specs.Changes.{changed_by, keeps, takes}
+use Rattle.vos_levels.specs.Changes.{changed_by, freed_by, keeps, takes}
 use Rattle.vos_levels.specs.Levels.{hung_root}
 use Rattle.vos_levels.specs.Moments.{same_moment}
 use Rattle.vos_path.specs.Objects.{Objects, objects_owner, objects_versions}
+use Rattle.vos_path.specs.Writes.{data_blocks}
 use Rattle.vos_settle.specs.declared.task.Task.{Task}
 use Rattle.vos_settle.specs.declared.task.WriteKind.{WriteKind}
 use Rattle.vos_settle.specs.declared.task.WriteKind.TheVariants as kind
-use Rattle.vos_settle.specs.Nodes.{OneObjectTurn}
+use Rattle.vos_settle.specs.Nodes.{OneObjectTurn, one_object_freed}
 
 -- a write is a punch of a path, the single value there, or the extent there that begins at an index
 abbrev pub is_punch_at : Path → Write → Bool
@@ -69,6 +70,22 @@ fits_kind (kind.Extent low) p = ends_at_akey p
 
 abbrev pub object_in : Path → ObjId → ObjectKey
 object_in p o = record { cont = p.cont; obj = o }
+
+-- the blocks that the change gives back
+abbrev pub freed_in : Option ObjId → Task → Path → Objects → ℕ
+freed_in None t p g = 0
+freed_in (Some o) t p g = one_object_freed t (object_in p o) p g
+
+abbrev pub write_freed : Task → Path → Objects → ℕ
+write_freed t p g = freed_in p.obj t p g
+
+-- the blocks of a version: those of its bytes, and its pair's
+abbrev pub version_blocks : Version → ℕ
+version_blocks v = data_blocks v.write + 1
+
+-- among them those of the version
+abbrev pub versions_freed : Task → Path → List Version → ℕ
+versions_freed t p vs = freed_by (keeps t.change) (is_version_taken t.kind t p) version_blocks vs
 
 -- The version of one write became done, or went, and its creations on the way did. All else stayed: other versions, other
 -- entries, and all nodes.

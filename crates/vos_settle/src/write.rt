@@ -1,18 +1,16 @@
 // One write of a path is settled or pruned.
-ghost use Rattle.std.specs.Prelude.{◌≡◌, ◌<◌, ◌+◌, true, ℕ, Some, OnOk, IsErrOf, IsTrue, ⊤};
+ghost use Rattle.std.specs.Prelude.{◌≡◌, ◌<◌, ◌≤◌, ◌+◌, true, ℕ, OnOk, IsErrOf, IsTrue, ⊤};
 ghost use Rattle.base_types.specs.Paths.{record_size};
-ghost use Rattle.base_types.specs.declared.id.ObjId.{ObjId as ObjIdOf};
 ghost use Rattle.daos_model.specs.Forms.{is_unit};
 ghost use Rattle.pmem_tree_base.specs.Calls.{Goes};
 ghost use Rattle.pmem_tree_base.specs.declared.refusal.TreeNo.{TreeNo};
 ghost use Rattle.vos_levels.specs.Calls.{HasThing, OfThing};
 ghost use Rattle.vos_levels.specs.Changes.{keeps};
 ghost use Rattle.vos_levels.specs.Levels.{hung_root};
-ghost use Rattle.vos_path.specs.Objects.{objects_owner};
+ghost use Rattle.vos_path.specs.Objects.{objects_owner, objects_versions};
 ghost use Rattle.vos_path.specs.Writes.{NamesAreKeys, ObjectsAreSmall};
 ghost use Rattle.vos_settle.specs.Costs.{Lacks, Spends, for_one, objects_cost};
-ghost use Rattle.vos_settle.specs.Nodes.{one_object_freed};
-ghost use Rattle.vos_settle.specs.Versions.{WriteTurn, fits_kind, object_in};
+ghost use Rattle.vos_settle.specs.Versions.{WriteTurn, fits_kind, versions_freed, write_freed};
 
 use crate::objects::change_objects;
 use crate::task::Task;
@@ -52,7 +50,8 @@ pub fn change_write<P: Pages, L: Ledger>(
     ensures too_much { IsErrOf result TreeNo.TooMuch → OfThing P.tells objects_owner hung_root (P.blocks pages.old) objects.old.root (λ g. (d : ℕ) → ObjectsAreSmall d g → Lacks (objects_cost task.kind path.now.dkey path.now.akey (for_one d) 1) d (P.budget pages.old)) }
     ensures staged { OnOk result (OfThing P.tells objects_owner hung_root (P.blocks pages.old) objects.old.root (λ g. (d : ℕ) → ObjectsAreSmall d g → Spends (objects_cost task.kind path.now.dkey path.now.akey (for_one d) 1) (P.budget pages.old) (P.budget pages.new))) }
     ensures committed { keeps task.change ≡ true → OnOk result (Spends (objects_cost task.kind path.now.dkey path.now.akey 1 0) (P.budget pages.old) (P.budget pages.new)) }
-    ensures free { OnOk result (OfThing P.tells objects_owner hung_root (P.blocks pages.old) objects.old.root (λ g. (o : ObjIdOf) → path.now.obj ≡ Some o → (P.budget pages.new).free ≡ (P.budget pages.old).free + one_object_freed task (object_in path.now o) path.now g)) }
+    ensures free { OnOk result (OfThing P.tells objects_owner hung_root (P.blocks pages.old) objects.old.root (λ g. (P.budget pages.new).free ≡ (P.budget pages.old).free + write_freed task path.now g)) }
+    ensures gives { OnOk result (OfThing P.tells objects_owner hung_root (P.blocks pages.old) objects.old.root (λ g. (P.budget pages.old).free + versions_freed task path.now (objects_versions g) ≤ (P.budget pages.new).free)) }
     ensures goes { Goes P.stopped P.count P.burns pages.old pages.new }
     ensures stopped { IsErrOf result TreeNo.Stopped → P.stopped pages.new ≡ true }
     ensures went_on { OnOk result (P.stopped pages.new ≡ P.stopped pages.old) }
