@@ -1,1 +1,2 @@
 mod ReadForms
+mod Settled

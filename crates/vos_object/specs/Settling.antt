@@ -1,16 +1,18 @@
 -- What is asked of a step that settles a write, and what it makes of it.
-use Rattle.std.specs.Prelude.{◌≡◌, ◌<◌, Bool, true, false}
+use Rattle.std.specs.Prelude.{◌≡◌, ◌<◌, ◌||◌, Bool, true, false, List, [], ◌∷◌}
 use Rattle.base_types.specs.declared.entry.Settle.{Settle}
 use Rattle.base_types.specs.declared.entry.Settle.TheVariants as step
 use Rattle.base_types.specs.declared.id.AttemptId.{AttemptId}
 use Rattle.base_types.specs.Paths.{record_size}
+use Rattle.daos_model.specs.declared.durable.Version.{Version}
 use Rattle.daos_model.specs.Forms.{is_unit}
+use Rattle.daos_model.specs.Versions.{is_pending}
 use Rattle.vos_values.specs.declared.keys.Moment.{Moment}
 use Rattle.vos_levels.specs.declared.change.Change.{Change}
 use Rattle.vos_levels.specs.declared.change.Change.TheVariants.{Commit, Abort}
 use Rattle.vos_path.specs.Writes.{NamesAreKeys}
 use Rattle.vos_settle.specs.declared.task.Task.{Task}
-use Rattle.vos_settle.specs.Versions.{fits_kind}
+use Rattle.vos_settle.specs.Versions.{fits_kind, is_version_of, versions_after}
 use Rattle.vos_object.specs.declared.settle.WriteName.{WriteName}
 
 -- a step decides an attempt: its versions become done, or go
@@ -40,3 +42,21 @@ pub record IsNamed (n : WriteName) : Type 0 where
   pub fits : fits_kind n.kind n.path ≡ true
   pub size : is_unit (record_size n.path) ≡ true
   pub names : NamesAreKeys n.path
+
+-- the versions after each of some writes of an attempt was settled, one after another
+abbrev pub settled_each : AttemptId → Settle → List WriteName → List Version → List Version
+settled_each a s [] vs = vs
+settled_each a s (n ∷ ns) vs = settled_each a s ns (versions_after (settling a n s) n.path vs)
+
+-- a version is that of one of some writes
+abbrev pub is_named : WriteName → Version → Bool
+is_named n v = is_version_of n.path n.kind (moment_of n) v
+
+abbrev pub is_among : List WriteName → Version → Bool
+is_among [] v = false
+is_among (n ∷ ns) v = is_named n v || is_among ns v
+
+-- they name each version of an attempt that isn't settled
+abbrev pub NamesAll : AttemptId → List WriteName → List Version → Type 0
+NamesAll a ns [] = Unit {0}
+NamesAll a ns (v ∷ vs) = (is_pending a v ≡ true → is_among ns v ≡ true) × NamesAll a ns vs

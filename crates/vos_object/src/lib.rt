@@ -1,5 +1,6 @@
 // Objects of a target on trees.
 #![tactic(auto)]
 
+pub mod laws;
 pub mod object;
 pub mod settle;
