@@ -1,7 +1,7 @@
 // Writes of objects in memory are settled and pruned, beside a plain list of them.
 ghost use Rattle.std.specs.Prelude.{◌≡◌, ◌<◌, true, IfSome};
 ghost use Rattle.base_types.specs.Paths.{record_size};
-ghost use Rattle.daos_model.specs.Forms.{ends_at_akey, is_path_in_form};
+ghost use Rattle.daos_model.specs.Forms.{ends_at_akey};
 ghost use Rattle.vos_path.specs.Writes.{NamesAreKeys, is_update};
 ghost use Rattle.vos_object.specs.Settling.{IsNamed};
 ghost use Rattle.vos_object.specs.Updates.{IsWritable};

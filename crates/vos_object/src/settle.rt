@@ -1,5 +1,5 @@
 // Settling and pruning of objects, one write at a time.
-ghost use Rattle.std.specs.Prelude.{◌≡◌, ◌≤◌, ◌+◌, true, ℕ, OnOk, IsErrOf, IsTrue, ⊤};
+ghost use Rattle.std.specs.Prelude.{◌≡◌, ◌≤◌, ◌+◌, true, ℕ, OnOk, IsErrOf, ⊤};
 ghost use Rattle.base_types.specs.declared.entry.Settle.TheVariants.{Commit as commit_step};
 ghost use Rattle.pmem_tree_base.specs.Calls.{Goes};
 ghost use Rattle.pmem_tree_base.specs.declared.refusal.TreeNo.{TreeNo};

@@ -1,5 +1,5 @@
 // What becomes of the akeys below a dkey, of which a write names one.
-ghost use Rattle.std.specs.Prelude.{◌≡◌, ◌<◌, ◌+◌, true, ℕ, OnOk, IsErrOf, IsTrue, ⊤};
+ghost use Rattle.std.specs.Prelude.{◌≡◌, ◌<◌, ◌+◌, true, ℕ, OnOk, IsErrOf, ⊤};
 ghost use Rattle.pmem_tree_base.specs.Calls.{Goes};
 ghost use Rattle.pmem_tree_base.specs.declared.refusal.TreeNo.{TreeNo};
 ghost use Rattle.vos_values.specs.Keys.{IsName};

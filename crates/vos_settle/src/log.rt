@@ -1,5 +1,5 @@
 // A log on the way: the punch or the creation of a write is settled or pruned.
-ghost use Rattle.std.specs.Prelude.{◌≡◌, ◌<◌, ◌+◌, ◌*◌, true, ℕ, IfOk, OnOk, OnErr, IsErrOf, IsTrue, ⊤};
+ghost use Rattle.std.specs.Prelude.{◌≡◌, ◌<◌, ◌+◌, true, ℕ, IfOk, OnOk, OnErr, IsErrOf, IsTrue, ⊤};
 ghost use Rattle.std.specs.List.{find};
 ghost use Rattle.std.specs.Option.{option_and_then, option_map};
 ghost use Rattle.pmem_pages.specs.Blocks.{IsSpent};
@@ -16,7 +16,7 @@ ghost use Rattle.vos_ilog.specs.Logs.{is_at, log_owner, mark_of};
 ghost use Rattle.vos_path.specs.Writes.{IsSmall};
 ghost use Rattle.vos_settle.specs.Tasks.{log_after, log_freed, noted_after, noted_freed};
 ghost use Rattle.vos_settle.specs.Nodes.{Turned};
-ghost use Rattle.vos_settle.specs.Costs.{Lacks, Spends, for_one, noted_cost};
+ghost use Rattle.vos_settle.specs.Costs.{Spends, for_one, noted_cost};
 
 use crate::task::{Task, Which};
 use pmem_pages::pages::Pages;

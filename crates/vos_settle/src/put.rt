@@ -1,5 +1,5 @@
 // Roots that a value says, where they became others.
-ghost use Rattle.std.specs.Prelude.{◌≡◌, ◌⊎◌, ◌<◌, true, Some, OnOk, IsErrOf, IsTrue};
+ghost use Rattle.std.specs.Prelude.{◌≡◌, ◌⊎◌, ◌<◌, true, Some, OnOk, IsErrOf};
 ghost use Rattle.pmem_pages.specs.Blocks.{IsSpent};
 ghost use Rattle.pmem_pages.specs.Node.{IsKey, IsKind, IsValue};
 ghost use Rattle.pmem_pages.specs.Shape.{Entry, entries, entry_at};

@@ -1,9 +1,8 @@
 // What becomes of an akey: its log, the versions of its single value, and its extents.
-ghost use Rattle.std.specs.Prelude.{◌≡◌, ◌<◌, ◌+◌, ◌*◌, true, ℕ, IfOk, OnOk, IsErrOf, IsTrue, ⊤};
+ghost use Rattle.std.specs.Prelude.{◌≡◌, ◌<◌, ◌+◌, true, ℕ, IfOk, OnOk, IsErrOf, ⊤};
 ghost use Rattle.pmem_tree_base.specs.Calls.{Goes};
 ghost use Rattle.pmem_tree_base.specs.declared.refusal.TreeNo.{TreeNo};
 ghost use Rattle.vos_levels.specs.Changes.{keeps};
-ghost use Rattle.vos_levels.specs.Levels.{things};
 ghost use Rattle.vos_path.specs.Calls.{HasAt, OfAt};
 ghost use Rattle.vos_path.specs.Objects.{values_owner, values_roots};
 ghost use Rattle.vos_path.specs.Writes.{ValuesAreSmall};
